@@ -3,17 +3,15 @@ use Rattle.std.proofs.Common.{◌≡◌, ℕ, suc, ◌+◌, ◌^◌, ◌<◌, �
 use Rattle.std.proofs.Math.Path.{fun_ext}
 use Rattle.std.proofs.lemmas.Bool.{both_ways, cases_lt}
 use Rattle.av_base.specs.Words.{with_at}
-use Rattle.av_arena.specs.Arena.{entry_put, on_other, on_side, side_put, with_side}
-use Rattle.av_arena.specs.Below.{AreOn, IsBeside, IsBetween, HasKeyBelow, IsAbove, IsAskedBelow, IsAt, IsChanged, IsDoneBelow, IsHung, IsPlaceBelow, IsPlacedBelow, IsRemovedBelow, IsReplacedBelow, IsSettled, IsSideFor, IsSideSettled, IsSideTaken, IsSplitBelow, IsSplitBelowFor, IsSplitFor, IsTaken, IsTold, IsUnsettled, child_number, entry_below, height_below, in_order, number_of}
+use Rattle.av_arena.specs.Arena.{left_put, right_put, entry_put}
+use Rattle.av_arena.specs.Below.{HasKeyBelow, IsAbove, IsAt, IsChanged, IsHungLeft, IsHungRight, IsLeftSettled, IsLeftTaken, IsPlaceBelow, IsPlacedBelow, IsRemovedBelow, IsReplacedBelow, IsRightSettled, IsRightTaken, IsSettled, IsSplitBelow, IsSplitBelowFor, IsSplitFor, IsTaken, IsTold, IsUnsettled, height_below, left_number, number_of, right_number}
 use Rattle.av_arena.specs.Monoid.{MonoidLaws}
-use Rattle.av_arena.specs.Order.{AllOf, IsRising, NoneBetween, entry_at, with_entry, with_two, without_key}
-use Rattle.av_arena.specs.Tree.{DifferByAtMost, count_at, entries_at, HasKey, IsHeightAfter, IsHeld, IsJoined, IsOpened, IsPlaceFor, IsPopped, IsRoot, IsSpot, IsTree, IsWithout, Store, count, entries, height_of, is, none, sum_of, tree_at}
+use Rattle.av_arena.specs.Order.{AllOf, IsRising, NoneBetween, with_entry, with_two, without_key}
+use Rattle.av_arena.specs.Tree.{DifferByAtMost, HasKey, IsHeightAfter, IsHeld, IsJoined, IsOpened, IsPlaceFor, IsPopped, IsRoot, IsSpot, IsTree, IsWithout, Store, count, entries, height_of, is, none, sum_of, tree_at}
 use Rattle.av_arena.specs.declared.link.Link.{Link}
-use Rattle.av_arena.specs.declared.link.Side.{Side}
-use Rattle.av_arena.specs.declared.link.Side.TheVariants.{Left, Right}
 use Rattle.av_arena.specs.declared.link.Stored.{Stored}
 use Rattle.av_arena.proofs.Order.{AllOf-back, AllOf-front, AllOf-map, all_middle, all_with, all_without, at_no_key, rising_with, rising_without, with_between, with_left, with_right, without_left, without_middle, without_right}
-use Rattle.av_arena.proofs.TreeLemmas.{fresh_once, is_cases, is_same, joined_same, kept, key_left, key_right, later, opened, none_tree, place_left, place_right, placed_first, removed_last, removed_middle, ready_left, ready_right, used, used_cases, with_at_other, with_at_same}
+use Rattle.av_arena.proofs.TreeLemmas.{fresh_once, is_cases, is_same, joined_same, kept, key_left, key_right, later, opened, place_left, place_right, placed_first, removed_last, removed_middle, ready_left, ready_right, used, used_cases, with_at_other, with_at_same}
 
 -- a height is settled at once, or one side is two levels higher
 height_cases : (a b h : ℕ) → IsHeightAfter a b h → (h ≡ max a b + 1) ⊎ ((a + 2 ≤ b) ⊎ (b + 2 ≤ a))
@@ -92,33 +90,39 @@ module _ {T S : Type 0} (key : T → ℕ) (unit : S) (op : S → S → S) (of : 
         (omega arith, omega arith, λ _. h),
       )
 
-  pub side_told : (side : Side) (s t u : Store T S) (n child : ℕ) (k : Link S) → IsSettled key unit op of s t child k →
-      u ≡ with_at n (side_put side (Some k) (t n)) t → IsSideSettled key unit op of side s u n child true
-  side_told side s t u n child k set e = record { link = k; between = t; settled = set; told = e; stays = λ d. absurd (both_ways true d refl) }
+  pub left_told : (s t u : Store T S) (n side : ℕ) (k : Link S) → IsSettled key unit op of s t side k → u ≡ with_at n (left_put (Some k) (t n)) t →
+      IsLeftSettled key unit op of s u n side true
+  left_told s t u n side k set e = record { link = k; between = t; settled = set; told = e; stays = λ d. absurd (both_ways true d refl) }
 
-  with_same : (side : Side) (k : Option (Link S)) (v : Stored T S) → on_side side v ≡ k → with_side side k v ≡ v
-  with_same Left k v d = ap (λ l. record v { left = l }) (sym d)
-  with_same Right k v d = ap (λ l. record v { right = l }) (sym d)
+  pub right_told : (s t u : Store T S) (n side : ℕ) (k : Link S) → IsSettled key unit op of s t side k → u ≡ with_at n (right_put (Some k) (t n)) t →
+      IsRightSettled key unit op of s u n side true
+  right_told s t u n side k set e = record { link = k; between = t; settled = set; told = e; stays = λ d. absurd (both_ways true d refl) }
 
-  side_again : (side : Side) (n : ℕ) (k : Option (Link S)) (v : Stored T S) (s : Store T S) → s n ≡ Some v → on_side side v ≡ k →
-      s ≡ with_at n (side_put side k (s n)) s
-  side_again side n k v s e d =
-      sym (with_at_self n (side_put side k (s n)) s (e ∙ (ap Some (sym (with_same side k v d)) ∙ ap (side_put side k) (sym e))))
+  left_again : (n : ℕ) (k : Option (Link S)) (v : Stored T S) (s : Store T S) → s n ≡ Some v → v.left ≡ k → s ≡ with_at n (left_put k (s n)) s
+  left_again n k v s e d = sym (with_at_self n (left_put k (s n)) s (e ∙ (ap (λ l. Some (record v { left = l })) d ∙ ap (left_put k) (sym e))))
 
-  stays_at : (side : Side) (s : Store T S) (n child : ℕ) (k : Link S) (b : Bool) (o : Option (Stored T S)) → IsSettled key unit op of s s child k → s n ≡ o → IsSome o →
-      ((v : Stored T S) → o ≡ Some v → on_side side v ≡ Some k) → IsSideSettled key unit op of side s s n child b
-  stays_at side s n child k b None set e u tells = absurd (both_ways false refl u)
-  stays_at side s n child k b (Some v) set e u tells = record {
+  right_again : (n : ℕ) (k : Option (Link S)) (v : Stored T S) (s : Store T S) → s n ≡ Some v → v.right ≡ k → s ≡ with_at n (right_put k (s n)) s
+  right_again n k v s e d = sym (with_at_self n (right_put k (s n)) s (e ∙ (ap (λ l. Some (record v { right = l })) d ∙ ap (right_put k) (sym e))))
+
+  pub left_stays : (s : Store T S) (n side : ℕ) (k : Link S) (v : Stored T S) (b : Bool) → IsSettled key unit op of s s side k → s n ≡ Some v →
+      v.left ≡ Some k → IsLeftSettled key unit op of s s n side b
+  left_stays s n side k v b set e d = record {
     link = k;
     between = s;
     settled = set;
-    told = side_again side n (Some k) v s e (tells v refl);
-    stays = λ _ w f. ap (on_side side) (same_node s n w v f e) ∙ tells v refl;
+    told = left_again n (Some k) v s e d;
+    stays = λ _ w f. ap (λ (x : Stored T S). x.left) (same_node s n w v f e) ∙ d;
   }
 
-  pub side_stays : (side : Side) (s : Store T S) (n child : ℕ) (k : Link S) (b : Bool) → IsSome (s n) → IsSettled key unit op of s s child k →
-      ((v : Stored T S) → s n ≡ Some v → on_side side v ≡ Some k) → IsSideSettled key unit op of side s s n child b
-  side_stays side s n child k b u set tells = stays_at side s n child k b (s n) set refl u tells
+  pub right_stays : (s : Store T S) (n side : ℕ) (k : Link S) (v : Stored T S) (b : Bool) → IsSettled key unit op of s s side k → s n ≡ Some v →
+      v.right ≡ Some k → IsRightSettled key unit op of s s n side b
+  right_stays s n side k v b set e d = record {
+    link = k;
+    between = s;
+    settled = set;
+    told = right_again n (Some k) v s e d;
+    stays = λ _ w f. ap (λ (x : Stored T S). x.right) (same_node s n w v f e) ∙ d;
+  }
 
   -- a node is put above sides that stand
   pub above_put : (s t u : Store T S) (n : ℕ) (w : Stored T S) (xs : List T) (f g : ℕ → ℕ) → IsSpot key unit op of t n w.left w.right →
@@ -140,16 +144,16 @@ module _ {T S : Type 0} (key : T → ℕ) (unit : S) (op : S → S → S) (of : 
       }
 
   -- a side of a node is another tree
-  changed_left : (s t u : Store T S) (k : Link S) (v : Stored T S) (new : Option (Link S)) (b : Bool) (xs : List T) (f g : ℕ → ℕ) (lower higher : ℕ) →
+  pub changed_left : (s t u : Store T S) (k : Link S) (v : Stored T S) (new : Option (Link S)) (b : Bool) (xs : List T) (f g : ℕ → ℕ) (lower higher : ℕ) →
       IsOpened key unit op of s k v → IsTree key unit op of s t new xs f g → ((j : ℕ) → is k.number j + (f j + count j (tree_at s v.right)) ≤ 1) →
-      u ≡ with_at k.number (side_put Left new (t k.number)) t → height_of v.left ≤ height_of new + lower → height_of new ≤ height_of v.left + higher →
+      u ≡ with_at k.number (left_put new (t k.number)) t → height_of v.left ≤ height_of new + lower → height_of new ≤ height_of v.left + higher →
       lower + higher ≤ 1 → (b ≡ false → t k.number ≡ Some v → v.left ≡ new) → IsChanged key unit op of s u k b (xs ++ v.entry ∷ entries (tree_at s v.right))
       (λ j. is k.number j + (f j + count j (tree_at s v.right))) g lower higher
   changed_left s t u k v new b xs f g lower higher o tr once at low high few stays =
       let n = k.number in
       let w : Stored T S = record { left = new; entry = v.entry; right = v.right } in
       let here : t n ≡ Some v = tr.kept n (let c = once n in let d = is_same key unit op of laws n in omega arith) ∙ o.root.stored in
-      let put : u ≡ with_at n (Some w) t = at ∙ ap (λ m. with_at n (side_put Left new m) t) here in
+      let put : u ≡ with_at n (Some w) t = at ∙ ap (λ m. with_at n (left_put new m) t) here in
       let spot : IsSpot key unit op of t n new v.right = ready_left key unit op of laws s t n new v.right xs f g tr o.right o.used once in
       let kb = kept key unit op of laws s t v.right o.right (λ j c. tr.kept j (let d = once j in omega arith)) in
       let e : entries (tree_at t v.right) ≡ entries (tree_at s v.right) = ap entries kb.tree in
@@ -172,23 +176,23 @@ module _ {T S : Type 0} (key : T → ℕ) (unit : S) (op : S → S → S) (of : 
             });
       }
 
-  changed_right : (s t u : Store T S) (k : Link S) (v : Stored T S) (new : Option (Link S)) (b : Bool) (xs : List T) (f g : ℕ → ℕ) (lower higher : ℕ) →
-      IsOpened key unit op of s k v → IsTree key unit op of s t new xs f g → ((j : ℕ) → is k.number j + (f j + count j (tree_at s v.left)) ≤ 1) →
-      u ≡ with_at k.number (side_put Right new (t k.number)) t → height_of v.right ≤ height_of new + lower → height_of new ≤ height_of v.right + higher →
+  pub changed_right : (s t u : Store T S) (k : Link S) (v : Stored T S) (new : Option (Link S)) (b : Bool) (xs : List T) (f g : ℕ → ℕ) (lower higher : ℕ) →
+      IsOpened key unit op of s k v → IsTree key unit op of s t new xs f g → ((j : ℕ) → is k.number j + (count j (tree_at s v.left) + f j) ≤ 1) →
+      u ≡ with_at k.number (right_put new (t k.number)) t → height_of v.right ≤ height_of new + lower → height_of new ≤ height_of v.right + higher →
       lower + higher ≤ 1 → (b ≡ false → t k.number ≡ Some v → v.right ≡ new) → IsChanged key unit op of s u k b (entries (tree_at s v.left) ++ v.entry ∷ xs)
-      (λ j. is k.number j + (f j + count j (tree_at s v.left))) g lower higher
+      (λ j. is k.number j + (count j (tree_at s v.left) + f j)) g lower higher
   changed_right s t u k v new b xs f g lower higher o tr once at low high few stays =
       let n = k.number in
       let w : Stored T S = record { left = v.left; entry = v.entry; right = new } in
       let here : t n ≡ Some v = tr.kept n (let c = once n in let d = is_same key unit op of laws n in omega arith) ∙ o.root.stored in
-      let put : u ≡ with_at n (Some w) t = at ∙ ap (λ m. with_at n (side_put Right new m) t) here in
-      let spot : IsSpot key unit op of t n v.left new = ready_right key unit op of laws s t n v.left new xs f g tr o.left o.used (λ j. let i = once j in omega arith) in
+      let put : u ≡ with_at n (Some w) t = at ∙ ap (λ m. with_at n (right_put new m) t) here in
+      let spot : IsSpot key unit op of t n v.left new = ready_right key unit op of laws s t n v.left new xs f g tr o.left o.used once in
       let ka = kept key unit op of laws s t v.left o.left (λ j c. tr.kept j (let d = once j in omega arith)) in
       let e : entries (tree_at t v.left) ≡ entries (tree_at s v.left) = ap entries ka.tree in
       let l0 = o.level.0 in let l1 = o.level.1 in let oh = o.height in
       let level : DifferByAtMost 2 (height_of w.left) (height_of w.right) = (omega arith, omega arith) in
       let most : max (height_of w.left) (height_of w.right) ≤ k.height = omega arith in
-      let above = above_put s t u n w _ (λ j. is n j + (f j + count j (tree_at s v.left))) g spot put (rw (tr.entries, e) refl)
+      let above = above_put s t u n w _ (λ j. is n j + (count j (tree_at s v.left) + f j)) g spot put (rw (tr.entries, e) refl)
       (λ j. rw ka.tree (let c = tr.count j in omega arith)) (λ j z. tr.kept j (omega arith)) tr.used in
       record {
         node = w;
@@ -203,15 +207,6 @@ module _ {T S : Type 0} (key : T → ℕ) (unit : S) (op : S → S → S) (of : 
               level = o.root.level;
             });
       }
-
-  changed : (side : Side) (s t u : Store T S) (k : Link S) (v : Stored T S) (new : Option (Link S)) (b : Bool) (xs : List T) (f g : ℕ → ℕ) (lower higher : ℕ) →
-      IsOpened key unit op of s k v → IsTree key unit op of s t new xs f g → ((j : ℕ) → is k.number j + (f j + count_at s (on_other side v) j) ≤ 1) →
-      u ≡ with_at k.number (side_put side new (t k.number)) t → height_of (on_side side v) ≤ height_of new + lower →
-      height_of new ≤ height_of (on_side side v) + higher → lower + higher ≤ 1 → (b ≡ false → t k.number ≡ Some v → on_side side v ≡ new) →
-      IsChanged key unit op of s u k b (in_order side xs v.entry (entries_at s (on_other side v)))
-      (λ j. is k.number j + (f j + count_at s (on_other side v) j)) g lower higher
-  changed Left = changed_left
-  changed Right = changed_right
 
   -- the tree whose root is settled
   pub record IsDone (s t : Store T S) (m m' : Link S) (xs : List T) (f g : ℕ → ℕ) (lower higher : ℕ) : Type 0 where
@@ -244,6 +239,51 @@ module _ {T S : Type 0} (key : T → ℕ) (unit : S) (op : S → S → S) (of : 
     not_lower = omega arith;
     not_higher = omega arith;
   }
+
+  pub step_left : (s t u : Store T S) (k m : Link S) (v : Stored T S) (c b : Bool) (xs : List T) (f g : ℕ → ℕ) (lower higher : ℕ) →
+      IsOpened key unit op of s k v → v.left ≡ Some m → IsChanged key unit op of s t m c xs f g lower higher →
+      IsLeftSettled key unit op of t u k.number m.number b → ((j : ℕ) → is k.number j + (f j + count j (tree_at s v.right)) ≤ 1) → lower + higher ≤ 1 →
+      IsChanged key unit op of s u k b (xs ++ v.entry ∷ entries (tree_at s v.right)) (λ j. is k.number j + (f j + count j (tree_at s v.right))) g lower higher
+  step_left s t u k m v c b xs f g lower higher o e ch st once few =
+      let d = done_settled s t st.between m st.link c xs f g lower higher ch st.settled in
+      let h : height_of v.left ≡ m.height = ap height_of e in
+      let p = d.not_lower in let q = d.not_higher in
+      changed_left s st.between u k v (Some st.link) b xs f g lower higher o d.tree once st.told (omega arith) (omega arith) few (λ z i. st.stays z v i)
+
+  pub step_right : (s t u : Store T S) (k m : Link S) (v : Stored T S) (c b : Bool) (xs : List T) (f g : ℕ → ℕ) (lower higher : ℕ) →
+      IsOpened key unit op of s k v → v.right ≡ Some m → IsChanged key unit op of s t m c xs f g lower higher →
+      IsRightSettled key unit op of t u k.number m.number b → ((j : ℕ) → is k.number j + (count j (tree_at s v.left) + f j) ≤ 1) → lower + higher ≤ 1 →
+      IsChanged key unit op of s u k b (entries (tree_at s v.left) ++ v.entry ∷ xs) (λ j. is k.number j + (count j (tree_at s v.left) + f j)) g lower higher
+  step_right s t u k m v c b xs f g lower higher o e ch st once few =
+      let d = done_settled s t st.between m st.link c xs f g lower higher ch st.settled in
+      let h : height_of v.right ≡ m.height = ap height_of e in
+      let p = d.not_lower in let q = d.not_higher in
+      changed_right s st.between u k v (Some st.link) b xs f g lower higher o d.tree once st.told (omega arith) (omega arith) few (λ z i. st.stays z v i)
+
+  -- a side stays, as its link tells
+  pub same_left : (s t : Store T S) (k m : Link S) (v : Stored T S) (c : Bool) (xs : List T) (f g : ℕ → ℕ) (lower higher : ℕ) → IsOpened key unit op of s k v →
+      v.left ≡ Some m → IsChanged key unit op of s t m c xs f g lower higher → c ≡ false → ((j : ℕ) → is k.number j + (f j + count j (tree_at s v.right)) ≤ 1) →
+      lower + higher ≤ 1 → IsChanged key unit op of s t k false (xs ++ v.entry ∷ entries (tree_at s v.right))
+      (λ j. is k.number j + (f j + count j (tree_at s v.right))) g lower higher
+  same_left s t k m v c xs f g lower higher o e ch stays once few =
+      let d = done_same s t m c xs f g lower higher ch stays in
+      let h : height_of v.left ≡ m.height = ap height_of e in
+      let here : t k.number ≡ Some v = d.tree.kept k.number (let i = once k.number in let j = is_same key unit op of laws k.number in
+      omega arith) ∙ o.root.stored in
+      changed_left s t t k v (Some m) false xs f g lower higher o d.tree once (left_again k.number (Some m) v t here e)
+      (omega arith) (omega arith) few (λ _ _. e)
+
+  pub same_right : (s t : Store T S) (k m : Link S) (v : Stored T S) (c : Bool) (xs : List T) (f g : ℕ → ℕ) (lower higher : ℕ) → IsOpened key unit op of s k v →
+      v.right ≡ Some m → IsChanged key unit op of s t m c xs f g lower higher → c ≡ false → ((j : ℕ) → is k.number j + (count j (tree_at s v.left) + f j) ≤ 1) →
+      lower + higher ≤ 1 → IsChanged key unit op of s t k false (entries (tree_at s v.left) ++ v.entry ∷ xs)
+      (λ j. is k.number j + (count j (tree_at s v.left) + f j)) g lower higher
+  same_right s t k m v c xs f g lower higher o e ch stays once few =
+      let d = done_same s t m c xs f g lower higher ch stays in
+      let h : height_of v.right ≡ m.height = ap height_of e in
+      let here : t k.number ≡ Some v = d.tree.kept k.number (let i = once k.number in let j = is_same key unit op of laws k.number in
+      omega arith) ∙ o.root.stored in
+      changed_right s t t k v (Some m) false xs f g lower higher o d.tree once (right_again k.number (Some m) v t here e)
+      (omega arith) (omega arith) few (λ _ _. e)
 
   -- what a change makes is said otherwise
   pub rechanged : (s t : Store T S) (k : Link S) (b : Bool) (xs ys : List T) (f f' g : ℕ → ℕ) (lower higher : ℕ) →
@@ -288,225 +328,156 @@ module _ {T S : Type 0} (key : T → ℕ) (unit : S) (op : S → S → S) (of : 
       s n ≡ Some v → IsOpened key unit op of s k v
   opened_at s n k v p h e = opened key unit op of laws s k v h (rw p e)
 
-  pub record IsNode (s : Store T S) (n : ℕ) : Type 0 where
-    pub node : Stored T S
-    pub stored : s n ≡ Some node
+  no_child : (l : Option (Link S)) → number_of l ≡ None → l ≡ None
+  no_child None d = refl
+  no_child (Some m) d = cc
 
-  node_cases : (s : Store T S) (n : ℕ) (o : Option (Stored T S)) → s n ≡ o → IsSome o → IsNode s n
-  node_cases s n None e u = absurd (both_ways false refl u)
-  node_cases s n (Some v) e u = record { node = v; stored = e }
+  -- the left side of the root
+  pub record IsLeftChild (s : Store T S) (k : Link S) (v : Stored T S) (side : ℕ) : Type 0 where
+    pub child : Link S
+    pub number : child.number ≡ side
+    pub is : v.left ≡ Some child
 
-  pub node_at : (s : Store T S) (n : ℕ) (k : Link S) → k.number ≡ n → IsHeld key unit op of s (Some k) → IsNode s n
-  node_at s n k p h = node_cases s n (s n) refl (subst (λ i. IsSome (s i)) p (used key unit op of laws s k h))
+  left_child_cases : (s : Store T S) (k : Link S) (v : Stored T S) (side : ℕ) (l : Option (Link S)) → v.left ≡ l →
+      number_of l ≡ Some side → IsLeftChild s k v side
+  left_child_cases s k v side None e d = cc
+  left_child_cases s k v side (Some m) e d = record { child = m; number = cc; is = e }
 
-  pub no_key : (s : Store T S) (x : T) → HasKey key unit op of s None x → ⊥
-  no_key s x h = both_ways false refl (subst (λ r. IsSome (entry_at key (key x) (entries r))) (none_tree key unit op of laws s) h.there)
+  pub left_child : (s : Store T S) (n : ℕ) (k : Link S) (v : Stored T S) (side : ℕ) → s n ≡ Some v → left_number (s n) ≡ Some side → IsLeftChild s k v side
+  left_child s n k v side e d = left_child_cases s k v side v.left refl (rw e at d)
 
-  nothing_told : (l : Option (Link S)) → number_of l ≡ None → l ≡ None
-  nothing_told None d = refl
-  nothing_told (Some m) d = cc
+  pub no_left_child : (s : Store T S) (n : ℕ) (v : Stored T S) → s n ≡ Some v → left_number (s n) ≡ None → v.left ≡ None
+  no_left_child s n v e d = no_child v.left (rw e at d)
 
-  -- the root of a side
-  pub record IsChild (side : Side) (v : Stored T S) (n : ℕ) : Type 0 where
-    pub link : Link S
-    pub number : link.number ≡ n
-    pub is : on_side side v ≡ Some link
-
-  child_cases : (side : Side) (v : Stored T S) (n : ℕ) (l : Option (Link S)) → on_side side v ≡ l → number_of l ≡ Some n → IsChild side v n
-  child_cases side v n None e d = cc
-  child_cases side v n (Some m) e d = record { link = m; number = cc; is = e }
-
-  pub child : (side : Side) (s : Store T S) (n : ℕ) (v : Stored T S) (below : ℕ) → s n ≡ Some v → child_number side (s n) ≡ Some below → IsChild side v below
-  child side s n v below e d = child_cases side v below (on_side side v) refl (rw e at d)
-
-  pub no_child : (side : Side) (s : Store T S) (n : ℕ) (v : Stored T S) → s n ≡ Some v → child_number side (s n) ≡ None → on_side side v ≡ None
-  no_child side s n v e d = nothing_told (on_side side v) (rw e at d)
-
-  held_side : (side : Side) (s : Store T S) (k : Link S) (v : Stored T S) → IsOpened key unit op of s k v → IsHeld key unit op of s (on_side side v)
-  held_side Left s k v o = o.left
-  held_side Right s k v o = o.right
-
-  lower_side : (side : Side) (s : Store T S) (k : Link S) (v : Stored T S) → IsOpened key unit op of s k v → height_of (on_side side v) < k.height
-  lower_side Left s k v o = let h = o.height in omega arith
-  lower_side Right s k v o = let h = o.height in omega arith
-
-  with_side_entry : (side : Side) (l : Option (Link S)) (o : Option (Stored T S)) → entry_below (side_put side l o) ≡ entry_below o
-  with_side_entry side l None = refl
-  with_side_entry Left l (Some v) = refl
-  with_side_entry Right l (Some v) = refl
-
-  -- the root keeps its entry where only a side is put
-  pub entry_put_side : (side : Side) (s t : Store T S) (n : ℕ) (l : Option (Link S)) → t ≡ with_at n (side_put side l (s n)) s →
-      entry_below (t n) ≡ entry_below (s n)
-  entry_put_side side s t n l e =
-      ap (λ (q : Store T S). entry_below (q n)) e ∙ (ap entry_below (with_at_same key unit op of laws n (side_put side l (s n)) s) ∙ with_side_entry side l (s n))
-
-  -- one level further down
-  pub record IsFurther (Asked : Option (Link S) → Type 0) (s : Store T S) (n below : ℕ) : Type 0 where
-    pub asked : IsAskedBelow Asked below
-    pub falls : height_below (s below) < height_below (s n)
-
-  -- what a change asks of a side, and makes of it, is what it asks and makes of the whole
-  pub record GoesDown (Asked : Option (Link S) → Type 0) (list : List T → List T) (numbers : (ℕ → ℕ) → ℕ → ℕ) (side : Side) (s : Store T S) (k : Link S)
-      (v : Stored T S) : Type 0 where
+  -- a change below the left side
+  pub record IsLeftStep (s t : Store T S) (k : Link S) (v : Stored T S) (side : ℕ) (c : Bool) (xs : List T) (f g : ℕ → ℕ) (lower higher : ℕ) : Type 0 where
+    pub child : IsLeftChild s k v side
     pub opened : IsOpened key unit op of s k v
-    pub asked : Asked (on_side side v)
-    pub entries : in_order side (list (entries_at s (on_side side v))) v.entry (entries_at s (on_other side v)) ≡ list (entries_at s (Some k))
-    pub count : (j : ℕ) → is k.number j + (numbers (count_at s (on_side side v)) j + count_at s (on_other side v) j) ≡ numbers (count_at s (Some k)) j
-    pub once : (j : ℕ) → numbers (count_at s (Some k)) j ≤ 1
+    pub changed : IsChanged key unit op of s t child.child c xs f g lower higher
+    pub once : (j : ℕ) → is k.number j + (f j + count j (tree_at s v.right)) ≤ 1
+    pub few : lower + higher ≤ 1
 
-module _ {T S : Type 0} (key : T → ℕ) (unit : S) (op : S → S → S) (of : T → S) (laws : MonoidLaws unit op) (Asked : Option (Link S) → Type 0)
-    (list : List T → List T) (numbers : (ℕ → ℕ) → ℕ → ℕ) (gone : ℕ → ℕ) (lower higher : ℕ) where
-  -- a side has become another tree
-  pub put_below : (side : Side) (s t u : Store T S) (k : Link S) (v : Stored T S) (new : Option (Link S)) (b : Bool) → lower + higher ≤ 1 →
-      GoesDown key unit op of laws Asked list numbers side s k v →
-      IsTree key unit op of s t new (list (entries_at s (on_side side v))) (numbers (count_at s (on_side side v))) gone →
-      u ≡ with_at k.number (side_put side new (t k.number)) t → height_of (on_side side v) ≤ height_of new + lower →
-      height_of new ≤ height_of (on_side side v) + higher → (b ≡ false → t k.number ≡ Some v → on_side side v ≡ new) →
-      IsChanged key unit op of s u k b (list (entries_at s (Some k))) (numbers (count_at s (Some k))) gone lower higher
-  put_below side s t u k v new b few p tree told low high stays =
-      rechanged key unit op of laws s u k b _ _ _ _ gone lower higher
-      (changed key unit op of laws side s t u k v new b _ _ gone lower higher p.opened tree (λ j. let c = p.count j in let i = p.once j in omega arith) told
-      low high few stays) p.entries p.count
+  pub left_ready : (s t : Store T S) (n : ℕ) (k : Link S) (v : Stored T S) (side : ℕ) (c : Bool) (xs : List T) (f g : ℕ → ℕ) (lower higher : ℕ) →
+      IsLeftStep s t k v side c xs f g lower higher → k.height < 2 ^ 61 → IsUnsettled key unit op of 2 t side
+  left_ready s t n k v side c xs f g lower higher p low =
+      let h : height_of v.left ≡ p.child.child.height = ap height_of p.child.is in
+      let o = p.opened.height in
+      subst (IsUnsettled key unit op of 2 t) p.child.number (unsettled s t p.child.child c xs f g lower higher p.changed (omega arith))
 
-  -- where the node that is above stands, while its side changes
-  pub above_stays : (side : Side) (s t : Store T S) (k : Link S) (v : Stored T S) (new : Option (Link S)) → GoesDown key unit op of laws Asked list numbers side s k v →
-      IsTree key unit op of s t new (list (entries_at s (on_side side v))) (numbers (count_at s (on_side side v))) gone → t k.number ≡ s k.number
-  above_stays side s t k v new p tree =
-      tree.kept k.number (let c = p.count k.number in let i = p.once k.number in let j = is_same key unit op of laws k.number in omega arith)
+  pub left_used : (s t : Store T S) (n : ℕ) (k : Link S) (v : Stored T S) (side : ℕ) (c : Bool) (xs : List T) (f g : ℕ → ℕ) (lower higher : ℕ) →
+      IsLeftStep s t k v side c xs f g lower higher → k.number ≡ n → IsSome (t n)
+  left_used s t n k v side c xs f g lower higher p e = subst (λ i. IsSome (t i)) e (p.changed.above.used k.number p.opened.used)
 
-  pub further : (side : Side) (s : Store T S) (n : ℕ) (v : Stored T S) (below : ℕ) → s n ≡ Some v → child_number side (s n) ≡ Some below →
-      ((k : Link S) → k.number ≡ n → Asked (Some k) → GoesDown key unit op of laws Asked list numbers side s k v) → IsAskedBelow Asked n →
-      IsFurther key unit op of laws Asked s n below
-  further side s n v below e d down b =
-      let p = down b.link b.number b.asked in
-      let m = child key unit op of laws side s n v below e d in
-      let h : height_of (on_side side v) ≡ m.link.height = ap height_of m.is in
-      let l = lower_side key unit op of laws side s b.link v p.opened in
-      let held = rw m.is at (held_side key unit op of laws side s b.link v p.opened) in
-      let a : height_below (s below) ≡ m.link.height =
-      subst (λ i. height_below (s i) ≡ m.link.height) m.number (below_height key unit op of laws s m.link held) in
-      let c : height_below (s n) ≡ b.link.height = rw e (sym p.opened.height) in
-      let low = b.low in
-      record {
-        asked = record { link = m.link; number = m.number; asked = subst Asked m.is p.asked; low = omega arith };
-        falls = omega arith;
-      }
+  pub left_unchanged : (s t : Store T S) (k : Link S) (v : Stored T S) (side : ℕ) (c : Bool) (xs : List T) (f g : ℕ → ℕ) (lower higher : ℕ) →
+      IsLeftStep s t k v side c xs f g lower higher → c ≡ false → IsChanged key unit op of s t k false (xs ++ v.entry ∷ entries (tree_at s v.right))
+      (λ j. is k.number j + (f j + count j (tree_at s v.right))) g lower higher
+  left_unchanged s t k v side c xs f g lower higher p e = same_left s t k p.child.child v c xs f g lower higher p.opened p.child.is p.changed e p.once p.few
 
-  -- a tree that is not there does not meet what is asked
-  pub never : (side : Side) (s : Store T S) (n : ℕ) (v : Stored T S) → s n ≡ Some v → child_number side (s n) ≡ None →
-      ((k : Link S) → k.number ≡ n → Asked (Some k) → GoesDown key unit op of laws Asked list numbers side s k v) → IsAskedBelow Asked n →
-      (Asked None → ⊥) → ⊥
-  never side s n v e d down b missing = missing (subst Asked (no_child key unit op of laws side s n v e d) (down b.link b.number b.asked).asked)
+  pub left_changed : (s t u : Store T S) (n : ℕ) (k : Link S) (v : Stored T S) (side : ℕ) (c b : Bool) (xs : List T) (f g : ℕ → ℕ) (lower higher : ℕ) →
+      IsLeftStep s t k v side c xs f g lower higher → k.number ≡ n → IsLeftSettled key unit op of t u n side b →
+      IsChanged key unit op of s u k b (xs ++ v.entry ∷ entries (tree_at s v.right)) (λ j. is k.number j + (f j + count j (tree_at s v.right))) g lower higher
+  left_changed s t u n k v side c b xs f g lower higher p e set =
+      let set' : IsLeftSettled key unit op of t u k.number p.child.child.number b = subst (λ i. IsLeftSettled key unit op of t u k.number i b)
+      (sym p.child.number) (subst (λ i. IsLeftSettled key unit op of t u i side b) (sym e) set) in
+      step_left s t u k p.child.child v c b xs f g lower higher p.opened p.child.is p.changed set' p.once p.few
 
-  -- what follows where the tree below a side has changed
-  pub record IsStepped (side : Side) (s t : Store T S) (n below : ℕ) (c : Bool) : Type 0 where
-    pub ready : IsUnsettled key unit op of 2 t below
-    pub used : IsSome (t n)
-    pub entry : entry_below (t n) ≡ entry_below (s n)
-    pub same : c ≡ false → IsDoneBelow key unit op of Asked list numbers gone lower higher s t n false
-    pub settled : (u : Store T S) (b : Bool) → IsSideSettled key unit op of side t u n below b →
-        IsDoneBelow key unit op of Asked list numbers gone lower higher s u n b
-    pub settled_entry : (u : Store T S) (b : Bool) → IsSideSettled key unit op of side t u n below b → entry_below (u n) ≡ entry_below (s n)
+  -- the right side of the root
+  pub record IsRightChild (s : Store T S) (k : Link S) (v : Stored T S) (side : ℕ) : Type 0 where
+    pub child : Link S
+    pub number : child.number ≡ side
+    pub is : v.right ≡ Some child
 
-  done_child : (side : Side) (s t : Store T S) (k : Link S) (v : Stored T S) (below : ℕ) (c : Bool) → (m : IsChild key unit op of laws side v below) →
-      GoesDown key unit op of laws Asked list numbers side s k v → IsDoneBelow key unit op of Asked list numbers gone lower higher s t below c →
-      IsChanged key unit op of s t m.link c (list (entries_at s (on_side side v))) (numbers (count_at s (on_side side v))) gone lower higher
-  done_child side s t k v below c m p done =
-      subst (λ l. IsChanged key unit op of s t m.link c (list (entries_at s l)) (numbers (count_at s l)) gone lower higher) (sym m.is)
-      (done m.link m.number (subst Asked m.is p.asked))
+  right_child_cases : (s : Store T S) (k : Link S) (v : Stored T S) (side : ℕ) (l : Option (Link S)) → v.right ≡ l →
+      number_of l ≡ Some side → IsRightChild s k v side
+  right_child_cases s k v side None e d = cc
+  right_child_cases s k v side (Some m) e d = record { child = m; number = cc; is = e }
 
-  done_settle : (side : Side) (s t u : Store T S) (k : Link S) (v : Stored T S) (below : ℕ) (c b : Bool) (m : IsChild key unit op of laws side v below) →
-      GoesDown key unit op of laws Asked list numbers side s k v → IsDoneBelow key unit op of Asked list numbers gone lower higher s t below c →
-      (st : IsSideSettled key unit op of side t u k.number below b) →
-      IsDone key unit op of laws s st.between m.link st.link (list (entries_at s (on_side side v))) (numbers (count_at s (on_side side v))) gone lower higher
-  done_settle side s t u k v below c b m p done st =
-      done_settled key unit op of laws s t st.between m.link st.link c _ _ gone lower higher (done_child side s t k v below c m p done)
-      (subst (λ i. IsSettled key unit op of t st.between i st.link) (sym m.number) st.settled)
+  pub right_child : (s : Store T S) (n : ℕ) (k : Link S) (v : Stored T S) (side : ℕ) → s n ≡ Some v → right_number (s n) ≡ Some side → IsRightChild s k v side
+  right_child s n k v side e d = right_child_cases s k v side v.right refl (rw e at d)
 
-  step_same : (side : Side) (s t : Store T S) (k : Link S) (v : Stored T S) (below : ℕ) (c : Bool) → lower + higher ≤ 1 →
-      (m : IsChild key unit op of laws side v below) →
-      GoesDown key unit op of laws Asked list numbers side s k v → IsDoneBelow key unit op of Asked list numbers gone lower higher s t below c → c ≡ false →
-      IsChanged key unit op of s t k false (list (entries_at s (Some k))) (numbers (count_at s (Some k))) gone lower higher
-  step_same side s t k v below c few m p done z =
-      let d = done_same key unit op of laws s t m.link c _ _ gone lower higher (done_child side s t k v below c m p done) z in
-      let h : height_of (on_side side v) ≡ m.link.height = ap height_of m.is in
-      let here : t k.number ≡ Some v = above_stays side s t k v (Some m.link) p d.tree ∙ p.opened.root.stored in
-      put_below side s t t k v (Some m.link) false few p d.tree (side_again key unit op of laws side k.number (Some m.link) v t here m.is)
-      (omega arith) (omega arith) (λ _ _. m.is)
+  pub no_right_child : (s : Store T S) (n : ℕ) (v : Stored T S) → s n ≡ Some v → right_number (s n) ≡ None → v.right ≡ None
+  no_right_child s n v e d = no_child v.right (rw e at d)
 
-  step_settled : (side : Side) (s t u : Store T S) (k : Link S) (v : Stored T S) (below : ℕ) (c b : Bool) → lower + higher ≤ 1 →
-      (m : IsChild key unit op of laws side v below) →
-      GoesDown key unit op of laws Asked list numbers side s k v → IsDoneBelow key unit op of Asked list numbers gone lower higher s t below c →
-      IsSideSettled key unit op of side t u k.number below b →
-      IsChanged key unit op of s u k b (list (entries_at s (Some k))) (numbers (count_at s (Some k))) gone lower higher
-  step_settled side s t u k v below c b few m p done st =
-      let d = done_settle side s t u k v below c b m p done st in
-      let h : height_of (on_side side v) ≡ m.link.height = ap height_of m.is in
-      let low = d.not_lower in let high = d.not_higher in
-      put_below side s st.between u k v (Some st.link) b few p d.tree st.told (omega arith) (omega arith) (λ z i. st.stays z v i)
+  -- a change below the right side
+  pub record IsRightStep (s t : Store T S) (k : Link S) (v : Stored T S) (side : ℕ) (c : Bool) (xs : List T) (f g : ℕ → ℕ) (lower higher : ℕ) : Type 0 where
+    pub child : IsRightChild s k v side
+    pub opened : IsOpened key unit op of s k v
+    pub changed : IsChanged key unit op of s t child.child c xs f g lower higher
+    pub once : (j : ℕ) → is k.number j + (count j (tree_at s v.left) + f j) ≤ 1
+    pub few : lower + higher ≤ 1
 
-  step_entry : (side : Side) (s t u : Store T S) (k : Link S) (v : Stored T S) (below : ℕ) (c b : Bool) (m : IsChild key unit op of laws side v below) →
-      GoesDown key unit op of laws Asked list numbers side s k v → IsDoneBelow key unit op of Asked list numbers gone lower higher s t below c →
-      IsSideSettled key unit op of side t u k.number below b → entry_below (u k.number) ≡ entry_below (s k.number)
-  step_entry side s t u k v below c b m p done st =
-      entry_put_side key unit op of laws side st.between u k.number (Some st.link) st.told
-      ∙ ap entry_below (above_stays side s st.between k v (Some st.link) p (done_settle side s t u k v below c b m p done st).tree)
+  pub right_ready : (s t : Store T S) (n : ℕ) (k : Link S) (v : Stored T S) (side : ℕ) (c : Bool) (xs : List T) (f g : ℕ → ℕ) (lower higher : ℕ) →
+      IsRightStep s t k v side c xs f g lower higher → k.height < 2 ^ 61 → IsUnsettled key unit op of 2 t side
+  right_ready s t n k v side c xs f g lower higher p low =
+      let h : height_of v.right ≡ p.child.child.height = ap height_of p.child.is in
+      let o = p.opened.height in
+      subst (IsUnsettled key unit op of 2 t) p.child.number (unsettled s t p.child.child c xs f g lower higher p.changed (omega arith))
 
-  pub step : (side : Side) (s t : Store T S) (n : ℕ) (v : Stored T S) (below : ℕ) (c : Bool) → lower + higher ≤ 1 → s n ≡ Some v → child_number side (s n) ≡ Some below →
-      ((k : Link S) → k.number ≡ n → Asked (Some k) → GoesDown key unit op of laws Asked list numbers side s k v) → IsAskedBelow Asked n →
-      IsDoneBelow key unit op of Asked list numbers gone lower higher s t below c → IsStepped side s t n below c
-  step side s t n v below c few e d down b done =
-      let p = down b.link b.number b.asked in
-      let m = child key unit op of laws side s n v below e d in
-      let ch = done_child side s t b.link v below c m p done in
-      let h : height_of (on_side side v) ≡ m.link.height = ap height_of m.is in
-      let l = lower_side key unit op of laws side s b.link v p.opened in
-      let low = b.low in
-      let at : (u : Store T S) (b' : Bool) (k : Link S) → k.number ≡ n → IsSideSettled key unit op of side t u n below b' →
-      IsSideSettled key unit op of side t u k.number below b' = λ u b' k q st. subst (λ i. IsSideSettled key unit op of side t u i below b') (sym q) st in
-      record {
-        ready = subst (IsUnsettled key unit op of 2 t) m.number (unsettled key unit op of laws s t m.link c _ _ gone lower higher ch (omega arith));
-        used = subst (λ i. IsSome (t i)) b.number (ch.above.used b.link.number p.opened.used);
-        entry = subst (λ i. entry_below (t i) ≡ entry_below (s i)) b.number
-            (ap entry_below (ch.above.kept b.link.number (let i = p.once b.link.number in let j = p.count b.link.number in
-            let q = is_same key unit op of laws b.link.number in omega arith)));
-        same = λ z k q a. step_same side s t k v below c few m (down k q a) done z;
-        settled = λ u b' st k q a. step_settled side s t u k v below c b' few m (down k q a) done (at u b' k q st);
-        settled_entry = λ u b' st. subst (λ i. entry_below (u i) ≡ entry_below (s i)) b.number
-            (step_entry side s t u b.link v below c b' m p done (at u b' b.link b.number st));
-      }
+  pub right_used : (s t : Store T S) (n : ℕ) (k : Link S) (v : Stored T S) (side : ℕ) (c : Bool) (xs : List T) (f g : ℕ → ℕ) (lower higher : ℕ) →
+      IsRightStep s t k v side c xs f g lower higher → k.number ≡ n → IsSome (t n)
+  right_used s t n k v side c xs f g lower higher p e = subst (λ i. IsSome (t i)) e (p.changed.above.used k.number p.opened.used)
 
-module _ {T S : Type 0} (key : T → ℕ) (unit : S) (op : S → S → S) (of : T → S) (laws : MonoidLaws unit op) where
-  key_side : (side : Side) (s : Store T S) (k : Link S) (v : Stored T S) (x : T) → HasKey key unit op of s (Some k) x → IsOpened key unit op of s k v →
-      AreOn key side x x v.entry → HasKey key unit op of s (on_side side v) x
-  key_side Left s k v x h o on = key_left key unit op of laws s k v x h o on
-  key_side Right s k v x h o on = key_right key unit op of laws s k v x h o on
+  pub right_unchanged : (s t : Store T S) (k : Link S) (v : Stored T S) (side : ℕ) (c : Bool) (xs : List T) (f g : ℕ → ℕ) (lower higher : ℕ) →
+      IsRightStep s t k v side c xs f g lower higher → c ≡ false → IsChanged key unit op of s t k false (entries (tree_at s v.left) ++ v.entry ∷ xs)
+      (λ j. is k.number j + (count j (tree_at s v.left) + f j)) g lower higher
+  right_unchanged s t k v side c xs f g lower higher p e = same_right s t k p.child.child v c xs f g lower higher p.opened p.child.is p.changed e p.once p.few
 
-  pub same_count : (side : Side) (s : Store T S) (k : Link S) (v : Stored T S) → IsOpened key unit op of s k v → (j : ℕ) →
-      is k.number j + (count_at s (on_side side v) j + count_at s (on_other side v) j) ≡ count_at s (Some k) j
-  same_count Left s k v o j = rw o.tree refl
-  same_count Right s k v o j = rw o.tree (omega arith)
-
-  pub once_at : (s : Store T S) (k : Link S) (v : Stored T S) → IsOpened key unit op of s k v → (j : ℕ) → count_at s (Some k) j ≤ 1
-  once_at s k v o j = rw o.tree (o.once j)
-
-  fresh_at : (s : Store T S) (k : Link S) (v : Stored T S) (m : ℕ) → IsOpened key unit op of s k v → count_at s (Some k) m ≡ 0 → (j : ℕ) →
-      is m j + count_at s (Some k) j ≤ 1
-  fresh_at s k v m o z j = rw o.tree (fresh_once key unit op of laws s k v m o z j)
+  pub right_changed : (s t u : Store T S) (n : ℕ) (k : Link S) (v : Stored T S) (side : ℕ) (c b : Bool) (xs : List T) (f g : ℕ → ℕ) (lower higher : ℕ) →
+      IsRightStep s t k v side c xs f g lower higher → k.number ≡ n → IsRightSettled key unit op of t u n side b →
+      IsChanged key unit op of s u k b (entries (tree_at s v.left) ++ v.entry ∷ xs) (λ j. is k.number j + (count j (tree_at s v.left) + f j)) g lower higher
+  right_changed s t u n k v side c b xs f g lower higher p e set =
+      let set' : IsRightSettled key unit op of t u k.number p.child.child.number b = subst (λ i. IsRightSettled key unit op of t u k.number i b)
+      (sym p.child.number) (subst (λ i. IsRightSettled key unit op of t u i side b) (sym e) set) in
+      step_right s t u k p.child.child v c b xs f g lower higher p.opened p.child.is p.changed set' p.once p.few
 
   -- replacing
-  replaced_is : (side : Side) (s : Store T S) (k : Link S) (v : Stored T S) (x : T) → HasKey key unit op of s (Some k) x → IsOpened key unit op of s k v →
-      AreOn key side x x v.entry → in_order side (with_entry key x (without_key key (key x) (entries_at s (on_side side v)))) v.entry
-      (entries_at s (on_other side v)) ≡ with_entry key x (without_key key (key x) (entries_at s (Some k)))
-  replaced_is Left s k v x h o lt =
+  pub replaced_left_step : (s t : Store T S) (n : ℕ) (k : Link S) (v : Stored T S) (side : ℕ) (x : T) (c : Bool) → k.number ≡ n →
+      HasKey key unit op of s (Some k) x → s n ≡ Some v → left_number (s n) ≡ Some side → key x < key v.entry → IsReplacedBelow key unit op of s t side x c →
+      IsLeftStep s t k v side c (with_entry key x (without_key key (key x) (entries (tree_at s v.left)))) (λ j. count j (tree_at s v.left)) none 0 0
+  replaced_left_step s t n k v side x c p h e d lt below =
+      let o = opened_at s n k v p h.held e in
+      let m = left_child s n k v side e d in
+      let has = key_left key unit op of laws s k v x h o lt in
+      record {
+        child = m;
+        opened = o;
+        changed = subst (λ l. IsChanged key unit op of s t m.child c (with_entry key x (without_key key (key x) (entries (tree_at s l))))
+            (λ j. count j (tree_at s l)) none 0 0) (sym m.is) (below m.child m.number (subst (λ l. HasKey key unit op of s l x) m.is has));
+        once = o.once;
+        few = omega arith;
+      }
+
+  pub replaced_right_step : (s t : Store T S) (n : ℕ) (k : Link S) (v : Stored T S) (side : ℕ) (x : T) (c : Bool) → k.number ≡ n →
+      HasKey key unit op of s (Some k) x → s n ≡ Some v → right_number (s n) ≡ Some side → key v.entry < key x → IsReplacedBelow key unit op of s t side x c →
+      IsRightStep s t k v side c (with_entry key x (without_key key (key x) (entries (tree_at s v.right)))) (λ j. count j (tree_at s v.right)) none 0 0
+  replaced_right_step s t n k v side x c p h e d lt below =
+      let o = opened_at s n k v p h.held e in
+      let m = right_child s n k v side e d in
+      let has = key_right key unit op of laws s k v x h o lt in
+      record {
+        child = m;
+        opened = o;
+        changed = subst (λ l. IsChanged key unit op of s t m.child c (with_entry key x (without_key key (key x) (entries (tree_at s l))))
+            (λ j. count j (tree_at s l)) none 0 0) (sym m.is) (below m.child m.number (subst (λ l. HasKey key unit op of s l x) m.is has));
+        once = o.once;
+        few = omega arith;
+      }
+
+  replaced_left_is : (s : Store T S) (k : Link S) (v : Stored T S) (x : T) → HasKey key unit op of s (Some k) x → IsOpened key unit op of s k v →
+      key x < key v.entry → with_entry key x (without_key key (key x) (entries (tree_at s v.left))) ++ v.entry ∷ entries (tree_at s v.right) ≡ with_entry key x
+      (without_key key (key x) (entries (tree_at s (Some k))))
+  replaced_left_is s k v x h o lt =
       let a = entries (tree_at s v.left) in
       let b = entries (tree_at s v.right) in
       let up : IsRising key (a ++ v.entry ∷ b) = rw o.tree at h.rising in
       let is : with_entry key x (without_key key (key x) (a ++ v.entry ∷ b)) ≡ with_entry key x (without_key key (key x) a) ++ v.entry ∷ b =
       rw (without_left key (key x) v.entry a b lt up) (with_left key x v.entry (without_key key (key x) a) b lt) in
       sym is ∙ rw o.tree refl
-  replaced_is Right s k v x h o lt =
+
+  replaced_right_is : (s : Store T S) (k : Link S) (v : Stored T S) (x : T) → HasKey key unit op of s (Some k) x → IsOpened key unit op of s k v →
+      key v.entry < key x → entries (tree_at s v.left) ++ v.entry ∷ with_entry key x (without_key key (key x) (entries (tree_at s v.right))) ≡ with_entry key x
+      (without_key key (key x) (entries (tree_at s (Some k))))
+  replaced_right_is s k v x h o lt =
       let a = entries (tree_at s v.left) in
       let b = entries (tree_at s v.right) in
       let up : IsRising key (a ++ v.entry ∷ b) = rw o.tree at h.rising in
@@ -515,51 +486,51 @@ module _ {T S : Type 0} (key : T → ℕ) (unit : S) (op : S → S → S) (of : 
       rw e (with_right key x v.entry a (without_key key (key x) b) lt (subst (IsRising key) e (rising_without key (key x) _ up))) in
       sym is ∙ rw o.tree refl
 
-  pub replaced_down : (side : Side) (s : Store T S) (n : ℕ) (v : Stored T S) (x : T) → s n ≡ Some v → AreOn key side x x v.entry → (k : Link S) →
-      k.number ≡ n → HasKey key unit op of s (Some k) x →
-      GoesDown key unit op of laws (λ l. HasKey key unit op of s l x) (λ xs. with_entry key x (without_key key (key x) xs)) (λ f. f) side s k v
-  replaced_down side s n v x e on k p h = let o = opened_at key unit op of laws s n k v p h.held e in record {
-    opened = o;
-    asked = key_side side s k v x h o on;
-    entries = replaced_is side s k v x h o on;
-    count = same_count side s k v o;
-    once = once_at s k v o;
-  }
+  pub replaced_left_same : (s t : Store T S) (n : ℕ) (v : Stored T S) (side : ℕ) (x : T) (c : Bool) → s n ≡ Some v → left_number (s n) ≡ Some side →
+      key x < key v.entry → IsReplacedBelow key unit op of s t side x c → c ≡ false → IsReplacedBelow key unit op of s t n x false
+  replaced_left_same s t n v side x c e d lt below z k p h =
+      let st = replaced_left_step s t n k v side x c p h e d lt below in
+      rechanged s t k false _ _ _ _ none 0 0 (left_unchanged s t k v side c _ _ none 0 0 st z) (replaced_left_is s k v x h st.opened lt)
+      (λ j. rw st.opened.tree refl)
 
-  pub replaced_further : (side : Side) (s : Store T S) (n below : ℕ) (x : T) → HasKeyBelow key unit op of s n x → child_number side (s n) ≡ Some below →
-      IsBeside key unit op of s n x x (Some side) → IsFurther key unit op of laws (λ l. HasKey key unit op of s l x) s n below
-  replaced_further side s n below x b d on = let w = node_at key unit op of laws s n b.link b.number b.asked.held in
-      further key unit op of laws (λ l. HasKey key unit op of s l x) (λ xs. with_entry key x (without_key key (key x) xs)) (λ f. f) none 0 0 side s n w.node below w.stored d
-      (replaced_down side s n w.node x w.stored (on w.node w.stored)) b
+  pub replaced_left_settled : (s t u : Store T S) (n : ℕ) (v : Stored T S) (side : ℕ) (x : T) (c b : Bool) → s n ≡ Some v → left_number (s n) ≡ Some side →
+      key x < key v.entry → IsReplacedBelow key unit op of s t side x c → IsLeftSettled key unit op of t u n side b → IsReplacedBelow key unit op of s u n x b
+  replaced_left_settled s t u n v side x c b e d lt below set k p h =
+      let st = replaced_left_step s t n k v side x c p h e d lt below in
+      rechanged s u k b _ _ _ _ none 0 0 (left_changed s t u n k v side c b _ _ none 0 0 st p set) (replaced_left_is s k v x h st.opened lt)
+      (λ j. rw st.opened.tree refl)
 
-  pub replaced_step : (side : Side) (s t : Store T S) (n below : ℕ) (x : T) (c : Bool) → HasKeyBelow key unit op of s n x → child_number side (s n) ≡ Some below →
-      IsBeside key unit op of s n x x (Some side) → IsReplacedBelow key unit op of s t below x c →
-      IsStepped key unit op of laws (λ l. HasKey key unit op of s l x) (λ xs. with_entry key x (without_key key (key x) xs)) (λ f. f) none 0 0 side s t n below c
-  replaced_step side s t n below x c b d on done = let w = node_at key unit op of laws s n b.link b.number b.asked.held in
-      step key unit op of laws (λ l. HasKey key unit op of s l x) (λ xs. with_entry key x (without_key key (key x) xs)) (λ f. f) none 0 0 side s t n w.node below c (omega arith) w.stored d
-      (replaced_down side s n w.node x w.stored (on w.node w.stored)) b done
+  pub replaced_right_same : (s t : Store T S) (n : ℕ) (v : Stored T S) (side : ℕ) (x : T) (c : Bool) → s n ≡ Some v → right_number (s n) ≡ Some side →
+      key v.entry < key x → IsReplacedBelow key unit op of s t side x c → c ≡ false → IsReplacedBelow key unit op of s t n x false
+  replaced_right_same s t n v side x c e d lt below z k p h =
+      let st = replaced_right_step s t n k v side x c p h e d lt below in
+      rechanged s t k false _ _ _ _ none 0 0 (right_unchanged s t k v side c _ _ none 0 0 st z) (replaced_right_is s k v x h st.opened lt)
+      (λ j. rw st.opened.tree refl)
 
-  pub replaced_never : (side : Side) (s : Store T S) (n : ℕ) (x : T) → HasKeyBelow key unit op of s n x → child_number side (s n) ≡ None → IsBeside key unit op of s n x x (Some side) → ⊥
-  replaced_never side s n x b d on = let w = node_at key unit op of laws s n b.link b.number b.asked.held in
-      never key unit op of laws (λ l. HasKey key unit op of s l x) (λ xs. with_entry key x (without_key key (key x) xs)) (λ f. f) none 0 0 side s n w.node w.stored d
-      (replaced_down side s n w.node x w.stored (on w.node w.stored)) b (λ h. no_key key unit op of laws s x h)
+  pub replaced_right_settled : (s t u : Store T S) (n : ℕ) (v : Stored T S) (side : ℕ) (x : T) (c b : Bool) → s n ≡ Some v → right_number (s n) ≡ Some side →
+      key v.entry < key x → IsReplacedBelow key unit op of s t side x c → IsRightSettled key unit op of t u n side b → IsReplacedBelow key unit op of s u n x b
+  replaced_right_settled s t u n v side x c b e d lt below set k p h =
+      let st = replaced_right_step s t n k v side x c p h e d lt below in
+      rechanged s u k b _ _ _ _ none 0 0 (right_changed s t u n k v side c b _ _ none 0 0 st p set) (replaced_right_is s k v x h st.opened lt)
+      (λ j. rw st.opened.tree refl)
 
   -- the node itself has the key
-  replaced_node : (s u : Store T S) (n : ℕ) (v : Stored T S) (x : T) → s n ≡ Some v → key x ≡ key v.entry → u ≡ with_at n (entry_put x (s n)) s →
-      IsReplacedBelow key unit op of s u n x true
-  replaced_node s u n v x e same at k p h =
-      let o = opened_at key unit op of laws s n k v p h.held e in
+  pub replaced_at : (s u : Store T S) (n : ℕ) (v : Stored T S) (x : T) → s n ≡ Some v → key x ≤ key v.entry → key v.entry ≤ key x →
+      u ≡ with_at n (entry_put x (s n)) s → IsReplacedBelow key unit op of s u n x true
+  replaced_at s u n v x e le ge at k p h =
+      let o = opened_at s n k v p h.held e in
       let w : Stored T S = record { left = v.left; entry = x; right = v.right } in
       let a = entries (tree_at s v.left) in
       let b = entries (tree_at s v.right) in
       let up : IsRising key (a ++ v.entry ∷ b) = rw o.tree at h.rising in
+      let same : key x ≡ key v.entry = omega arith in
       let is : with_entry key x (without_key key (key x) (a ++ v.entry ∷ b)) ≡ a ++ x ∷ b = rw (without_middle key (key x) v.entry a b (sym same) up)
       (with_between key x v.entry a b same up) in
       let put : u ≡ with_at k.number (Some w) s = rw p (at ∙ ap (λ m. with_at n (entry_put x m) s) e) in
       let spot : IsSpot key unit op of s k.number v.left v.right = record { used = o.used; left = o.left; right = o.right; once = o.once } in
       record {
         node = w;
-        above = above_put key unit op of laws s s u k.number w _ (λ j. count j (tree_at s (Some k))) none spot put (sym is ∙ rw o.tree refl)
+        above = above_put s s u k.number w _ (λ j. count j (tree_at s (Some k))) none spot put (sym is ∙ rw o.tree refl)
             (λ j. rw o.tree (omega arith)) (λ j z. refl) (λ j i. i);
         level = (let l = o.level.0 in omega arith, let l = o.level.1 in omega arith);
         low = let h = o.height in omega arith;
@@ -567,169 +538,320 @@ module _ {T S : Type 0} (key : T → ℕ) (unit : S) (op : S → S → S) (of : 
         stays = λ d. absurd (both_ways true d refl);
       }
 
-  pub replaced_at : (s u : Store T S) (n : ℕ) (x : T) → IsBetween key unit op of s n x x → u ≡ with_at n (entry_put x (s n)) s → IsReplacedBelow key unit op of s u n x true
-  replaced_at s u n x same at k p h =
-      let w = node_at key unit op of laws s n k p h.held in
-      replaced_node s u n w.node x w.stored (let m = same w.node w.stored in let a = m.0 in let b = m.1 in omega arith) at k p h
-
-  -- putting in
-  placed_is : (side : Side) (s : Store T S) (k : Link S) (v : Stored T S) (m : ℕ) (x : T) → IsPlaceFor key unit op of s (Some k) m x →
-      IsOpened key unit op of s k v → AreOn key side x x v.entry →
-      in_order side (with_entry key x (entries_at s (on_side side v))) v.entry (entries_at s (on_other side v)) ≡ with_entry key x (entries_at s (Some k))
-  placed_is Left s k v m x h o lt = sym (with_left key x v.entry (entries (tree_at s v.left)) (entries (tree_at s v.right)) lt) ∙ rw o.tree refl
-  placed_is Right s k v m x h o lt =
-      let a = entries (tree_at s v.left) in
-      let b = entries (tree_at s v.right) in
-      let up : IsRising key (a ++ v.entry ∷ b) = rw o.tree at h.rising in
-      sym (with_right key x v.entry a b lt up) ∙ rw o.tree refl
-
-  place_side : (side : Side) (s : Store T S) (k : Link S) (v : Stored T S) (m : ℕ) (x : T) → IsPlaceFor key unit op of s (Some k) m x →
-      IsOpened key unit op of s k v → AreOn key side x x v.entry → IsPlaceFor key unit op of s (on_side side v) m x
-  place_side Left s k v m x h o lt = place_left key unit op of laws s k v m x h o lt
-  place_side Right s k v m x h o lt = place_right key unit op of laws s k v m x h o (omega arith)
-
-  on_placed : (side : Side) (s : Store T S) (n : ℕ) (k : Link S) (v : Stored T S) (m : ℕ) (x : T) → s n ≡ Some v → IsSideFor key unit op of s n x side →
-      IsPlaceFor key unit op of s (Some k) m x → IsOpened key unit op of s k v → AreOn key side x x v.entry
-  on_placed Left s n k v m x e for h o = for v e
-  on_placed Right s n k v m x e for h o = later key unit op of laws s k v m x h o (for v e)
-
-  pub placed_down : (side : Side) (s : Store T S) (n m : ℕ) (v : Stored T S) (x : T) → s n ≡ Some v → IsSideFor key unit op of s n x side → (k : Link S) →
-      k.number ≡ n → IsPlaceFor key unit op of s (Some k) m x →
-      GoesDown key unit op of laws (λ l. IsPlaceFor key unit op of s l m x) (with_entry key x) (λ f j. is m j + f j) side s k v
-  placed_down side s n m v x e for k p h =
-      let o = opened_at key unit op of laws s n k v p h.held e in
-      let on = on_placed side s n k v m x e for h o in
+  -- one level further down
+  pub key_left_below : (s : Store T S) (n : ℕ) (v : Stored T S) (side : ℕ) (x : T) → HasKeyBelow key unit op of s n x → s n ≡ Some v →
+      left_number (s n) ≡ Some side → key x < key v.entry → HasKeyBelow key unit op of s side x
+  key_left_below s n v side x b e d lt =
+      let o = opened_at s n b.link v b.number b.there.held e in
+      let m = left_child s n b.link v side e d in
+      let h : height_of v.left ≡ m.child.height = ap height_of m.is in
+      let low = b.low in let g = o.height in
       record {
-        opened = o;
-        asked = place_side side s k v m x h o on;
-        entries = placed_is side s k v m x h o on;
-        count = λ j. let c = same_count side s k v o j in omega arith;
-        once = fresh_at s k v m o h.fresh;
+        link = m.child;
+        number = m.number;
+        there = subst (λ l. HasKey key unit op of s l x) m.is
+            (key_left key unit op of laws s b.link v x b.there o lt);
+        low = omega arith;
       }
 
-  pub placed_further : (side : Side) (s : Store T S) (n below : ℕ) (m : ℕ) (x : T) → IsPlaceBelow key unit op of s n m x → child_number side (s n) ≡ Some below →
-      IsSideFor key unit op of s n x side → IsFurther key unit op of laws (λ l. IsPlaceFor key unit op of s l m x) s n below
-  placed_further side s n below m x b d for = let w = node_at key unit op of laws s n b.link b.number b.asked.held in
-      further key unit op of laws (λ l. IsPlaceFor key unit op of s l m x) (with_entry key x) (λ f j. is m j + f j) none 0 1 side s n w.node below w.stored d
-      (placed_down side s n m w.node x w.stored for) b
+  pub left_lower : (s : Store T S) (n : ℕ) (k : Link S) (v : Stored T S) (side : ℕ) → k.number ≡ n → IsHeld key unit op of s (Some k) → s n ≡ Some v →
+      left_number (s n) ≡ Some side → height_below (s side) < height_below (s n)
+  left_lower s n k v side p held e d =
+      let o = opened_at s n k v p held e in
+      let m = left_child s n k v side e d in
+      let h : height_of v.left ≡ m.child.height = ap height_of m.is in
+      let g = o.height in
+      let a : height_below (s side) ≡ m.child.height = subst (λ i. height_below (s i) ≡ m.child.height) m.number (below_height s m.child (rw m.is at o.left)) in
+      let b : height_below (s n) ≡ k.height = subst (λ i. height_below (s i) ≡ k.height) p (below_height s k held) in
+      omega arith
 
-  pub placed_step : (side : Side) (s t : Store T S) (n below : ℕ) (m : ℕ) (x : T) (c : Bool) → IsPlaceBelow key unit op of s n m x → child_number side (s n) ≡ Some below →
-      IsSideFor key unit op of s n x side → IsPlacedBelow key unit op of s t below m x c →
-      IsStepped key unit op of laws (λ l. IsPlaceFor key unit op of s l m x) (with_entry key x) (λ f j. is m j + f j) none 0 1 side s t n below c
-  placed_step side s t n below m x c b d for done = let w = node_at key unit op of laws s n b.link b.number b.asked.held in
-      step key unit op of laws (λ l. IsPlaceFor key unit op of s l m x) (with_entry key x) (λ f j. is m j + f j) none 0 1 side s t n w.node below c (omega arith) w.stored d
-      (placed_down side s n m w.node x w.stored for) b done
+  pub key_right_below : (s : Store T S) (n : ℕ) (v : Stored T S) (side : ℕ) (x : T) → HasKeyBelow key unit op of s n x → s n ≡ Some v →
+      right_number (s n) ≡ Some side → key v.entry < key x → HasKeyBelow key unit op of s side x
+  key_right_below s n v side x b e d lt =
+      let o = opened_at s n b.link v b.number b.there.held e in
+      let m = right_child s n b.link v side e d in
+      let h : height_of v.right ≡ m.child.height = ap height_of m.is in
+      let low = b.low in let g = o.height in
+      record {
+        link = m.child;
+        number = m.number;
+        there = subst (λ l. HasKey key unit op of s l x) m.is
+            (key_right key unit op of laws s b.link v x b.there o lt);
+        low = omega arith;
+      }
 
-  pub placed_hung : (side : Side) (s u : Store T S) (n m : ℕ) (x : T) → child_number side (s n) ≡ None →
-      IsSideFor key unit op of s n x side → IsHung key unit op of side s u n m x → IsPlacedBelow key unit op of s u n m x true
-  placed_hung side s u n m x d for hung k p h =
-      let n' = node_at key unit op of laws s n k p h.held in
-      let v = n'.node in
-      let g = placed_down side s n m v x n'.stored for k p h in
-      let no = no_child key unit op of laws side s n v n'.stored d in
-      let place = subst (λ l. IsPlaceFor key unit op of s l m x) no g.asked in
+  pub right_lower : (s : Store T S) (n : ℕ) (k : Link S) (v : Stored T S) (side : ℕ) → k.number ≡ n → IsHeld key unit op of s (Some k) → s n ≡ Some v →
+      right_number (s n) ≡ Some side → height_below (s side) < height_below (s n)
+  right_lower s n k v side p held e d =
+      let o = opened_at s n k v p held e in
+      let m = right_child s n k v side e d in
+      let h : height_of v.right ≡ m.child.height = ap height_of m.is in
+      let g = o.height in
+      let a : height_below (s side) ≡ m.child.height = subst (λ i. height_below (s i) ≡ m.child.height) m.number
+      (below_height s m.child (rw m.is at o.right)) in
+      let b : height_below (s n) ≡ k.height = subst (λ i. height_below (s i) ≡ k.height) p (below_height s k held) in
+      omega arith
+
+  -- putting in
+  pub placed_left_step : (s t : Store T S) (n m : ℕ) (k : Link S) (v : Stored T S) (side : ℕ) (x : T) (c : Bool) → k.number ≡ n →
+      IsPlaceFor key unit op of s (Some k) m x → s n ≡ Some v → left_number (s n) ≡ Some side → key x < key v.entry →
+      IsPlacedBelow key unit op of s t side m x c → IsLeftStep s t k v side c (with_entry key x (entries (tree_at s v.left)))
+      (λ j. is m j + count j (tree_at s v.left)) none 0 1
+  placed_left_step s t n m k v side x c p h e d lt below =
+      let o = opened_at s n k v p h.held e in
+      let a = left_child s n k v side e d in
+      let place = place_left key unit op of laws s k v m x h o lt in
+      record {
+        child = a;
+        opened = o;
+        changed = subst (λ l. IsChanged key unit op of s t a.child c (with_entry key x (entries (tree_at s l))) (λ j. is m j + count j (tree_at s l)) none 0 1)
+            (sym a.is) (below a.child a.number (subst (λ l. IsPlaceFor key unit op of s l m x) a.is place));
+        once = λ j. let i = fresh_once key unit op of laws s k v m o h.fresh j in omega arith;
+        few = omega arith;
+      }
+
+  placed_left_is : (s : Store T S) (k : Link S) (v : Stored T S) (m : ℕ) (x : T) → IsPlaceFor key unit op of s (Some k) m x → IsOpened key unit op of s k v →
+      key x < key v.entry → with_entry key x (entries (tree_at s v.left)) ++ v.entry ∷ entries (tree_at s v.right) ≡ with_entry key x
+      (entries (tree_at s (Some k)))
+  placed_left_is s k v m x h o lt = sym (with_left key x v.entry (entries (tree_at s v.left)) (entries (tree_at s v.right)) lt) ∙ rw o.tree refl
+
+  pub placed_left_same : (s t : Store T S) (n m : ℕ) (v : Stored T S) (side : ℕ) (x : T) (c : Bool) → s n ≡ Some v → left_number (s n) ≡ Some side →
+      key x < key v.entry → IsPlacedBelow key unit op of s t side m x c → c ≡ false → IsPlacedBelow key unit op of s t n m x false
+  placed_left_same s t n m v side x c e d lt below z k p h =
+      let st = placed_left_step s t n m k v side x c p h e d lt below in
+      rechanged s t k false _ _ _ _ none 0 1 (left_unchanged s t k v side c _ _ none 0 1 st z) (placed_left_is s k v m x h st.opened lt)
+      (λ j. rw st.opened.tree (omega arith))
+
+  pub placed_left_settled : (s t u : Store T S) (n m : ℕ) (v : Stored T S) (side : ℕ) (x : T) (c b : Bool) → s n ≡ Some v → left_number (s n) ≡ Some side →
+      key x < key v.entry → IsPlacedBelow key unit op of s t side m x c → IsLeftSettled key unit op of t u n side b → IsPlacedBelow key unit op of s u n m x b
+  placed_left_settled s t u n m v side x c b e d lt below set k p h =
+      let st = placed_left_step s t n m k v side x c p h e d lt below in
+      rechanged s u k b _ _ _ _ none 0 1 (left_changed s t u n k v side c b _ _ none 0 1 st p set) (placed_left_is s k v m x h st.opened lt)
+      (λ j. rw st.opened.tree (omega arith))
+
+  pub placed_left_hung : (s u : Store T S) (n m : ℕ) (v : Stored T S) (x : T) → s n ≡ Some v → left_number (s n) ≡ None → key x < key v.entry →
+      IsHungLeft key unit op of s u n m x → IsPlacedBelow key unit op of s u n m x true
+  placed_left_hung s u n m v x e d lt hung k p h =
+      let o = opened_at s n k v p h.held e in
+      let no = no_left_child s n v e d in
+      let place = subst (λ l. IsPlaceFor key unit op of s l m x) no (place_left key unit op of laws s k v m x h o lt) in
       let first = placed_first key unit op of laws s hung.between m x hung.link place hung.set in
       let tree = subst (λ l. IsTree key unit op of s hung.between (Some hung.link) (with_entry key x (entries (tree_at s l)))
       (λ j. is m j + count j (tree_at s l)) none) (sym no) first in
-      let told = subst (λ i. u ≡ with_at i (side_put side (Some hung.link) (hung.between i)) hung.between) (sym p) hung.told in
-      let zero : height_of (on_side side v) ≡ 0 = ap height_of no in
+      let told = subst (λ i. u ≡ with_at i (left_put (Some hung.link) (hung.between i)) hung.between) (sym p) hung.told in
+      let zero : height_of v.left ≡ 0 = ap height_of no in
       let one : hung.link.height ≡ 1 = ap (λ (l : Link S). l.height) hung.set.link in
-      put_below key unit op of laws (λ l. IsPlaceFor key unit op of s l m x) (with_entry key x) (λ f j. is m j + f j) none 0 1
-      side s hung.between u k v (Some hung.link) true (omega arith) g tree told (omega arith) (omega arith) (λ z. absurd (both_ways true z refl))
+      let c = changed_left s hung.between u k v (Some hung.link) true _ _ none 0 1 o tree (λ j. let i = fresh_once key unit op of laws s k v m o h.fresh j in
+      omega arith) told (omega arith) (omega arith) (omega arith) (λ z. absurd (both_ways true z refl)) in
+      rechanged s u k true _ _ _ _ none 0 1 c (placed_left_is s k v m x h o lt) (λ j. rw o.tree (omega arith))
+
+  pub place_left_below : (s : Store T S) (n m : ℕ) (v : Stored T S) (side : ℕ) (x : T) → IsPlaceBelow key unit op of s n m x → s n ≡ Some v →
+      left_number (s n) ≡ Some side → key x < key v.entry → IsPlaceBelow key unit op of s side m x
+  place_left_below s n m v side x b e d lt =
+      let o = opened_at s n b.link v b.number b.place.held e in
+      let a = left_child s n b.link v side e d in
+      let h : height_of v.left ≡ a.child.height = ap height_of a.is in
+      let low = b.low in let g = o.height in
+      record {
+        link = a.child;
+        number = a.number;
+        place = subst (λ l. IsPlaceFor key unit op of s l m x) a.is
+            (place_left key unit op of laws s b.link v m x b.place o lt);
+        low = omega arith;
+      }
+
+  pub placed_right_step : (s t : Store T S) (n m : ℕ) (k : Link S) (v : Stored T S) (side : ℕ) (x : T) (c : Bool) → k.number ≡ n →
+      IsPlaceFor key unit op of s (Some k) m x → s n ≡ Some v → right_number (s n) ≡ Some side → key v.entry ≤ key x →
+      IsPlacedBelow key unit op of s t side m x c → IsRightStep s t k v side c (with_entry key x (entries (tree_at s v.right)))
+      (λ j. is m j + count j (tree_at s v.right)) none 0 1
+  placed_right_step s t n m k v side x c p h e d lt below =
+      let o = opened_at s n k v p h.held e in
+      let a = right_child s n k v side e d in
+      let place = place_right key unit op of laws s k v m x h o lt in
+      record {
+        child = a;
+        opened = o;
+        changed = subst (λ l. IsChanged key unit op of s t a.child c (with_entry key x (entries (tree_at s l))) (λ j. is m j + count j (tree_at s l)) none 0 1)
+            (sym a.is) (below a.child a.number (subst (λ l. IsPlaceFor key unit op of s l m x) a.is place));
+        once = λ j. let i = fresh_once key unit op of laws s k v m o h.fresh j in omega arith;
+        few = omega arith;
+      }
+
+  placed_right_is : (s : Store T S) (k : Link S) (v : Stored T S) (m : ℕ) (x : T) → IsPlaceFor key unit op of s (Some k) m x → IsOpened key unit op of s k v →
+      key v.entry ≤ key x → entries (tree_at s v.left) ++ v.entry ∷ with_entry key x (entries (tree_at s v.right)) ≡ with_entry key x
+      (entries (tree_at s (Some k)))
+  placed_right_is s k v m x h o le =
+      let a = entries (tree_at s v.left) in
+      let b = entries (tree_at s v.right) in
+      let up : IsRising key (a ++ v.entry ∷ b) = rw o.tree at h.rising in
+      sym (with_right key x v.entry a b (later key unit op of laws s k v m x h o le) up) ∙ rw o.tree refl
+
+  pub placed_right_same : (s t : Store T S) (n m : ℕ) (v : Stored T S) (side : ℕ) (x : T) (c : Bool) → s n ≡ Some v → right_number (s n) ≡ Some side →
+      key v.entry ≤ key x → IsPlacedBelow key unit op of s t side m x c → c ≡ false → IsPlacedBelow key unit op of s t n m x false
+  placed_right_same s t n m v side x c e d lt below z k p h =
+      let st = placed_right_step s t n m k v side x c p h e d lt below in
+      rechanged s t k false _ _ _ _ none 0 1 (right_unchanged s t k v side c _ _ none 0 1 st z) (placed_right_is s k v m x h st.opened lt)
+      (λ j. rw st.opened.tree (omega arith))
+
+  pub placed_right_settled : (s t u : Store T S) (n m : ℕ) (v : Stored T S) (side : ℕ) (x : T) (c b : Bool) → s n ≡ Some v → right_number (s n) ≡ Some side →
+      key v.entry ≤ key x → IsPlacedBelow key unit op of s t side m x c → IsRightSettled key unit op of t u n side b → IsPlacedBelow key unit op of s u n m x b
+  placed_right_settled s t u n m v side x c b e d lt below set k p h =
+      let st = placed_right_step s t n m k v side x c p h e d lt below in
+      rechanged s u k b _ _ _ _ none 0 1 (right_changed s t u n k v side c b _ _ none 0 1 st p set) (placed_right_is s k v m x h st.opened lt)
+      (λ j. rw st.opened.tree (omega arith))
+
+  pub placed_right_hung : (s u : Store T S) (n m : ℕ) (v : Stored T S) (x : T) → s n ≡ Some v → right_number (s n) ≡ None → key v.entry ≤ key x →
+      IsHungRight key unit op of s u n m x → IsPlacedBelow key unit op of s u n m x true
+  placed_right_hung s u n m v x e d lt hung k p h =
+      let o = opened_at s n k v p h.held e in
+      let no = no_right_child s n v e d in
+      let place = subst (λ l. IsPlaceFor key unit op of s l m x) no (place_right key unit op of laws s k v m x h o lt) in
+      let first = placed_first key unit op of laws s hung.between m x hung.link place hung.set in
+      let tree = subst (λ l. IsTree key unit op of s hung.between (Some hung.link) (with_entry key x (entries (tree_at s l)))
+      (λ j. is m j + count j (tree_at s l)) none) (sym no) first in
+      let told = subst (λ i. u ≡ with_at i (right_put (Some hung.link) (hung.between i)) hung.between) (sym p) hung.told in
+      let zero : height_of v.right ≡ 0 = ap height_of no in
+      let one : hung.link.height ≡ 1 = ap (λ (l : Link S). l.height) hung.set.link in
+      let c = changed_right s hung.between u k v (Some hung.link) true _ _ none 0 1 o tree (λ j. let i = fresh_once key unit op of laws s k v m o h.fresh j in
+      omega arith) told (omega arith) (omega arith) (omega arith) (λ z. absurd (both_ways true z refl)) in
+      rechanged s u k true _ _ _ _ none 0 1 c (placed_right_is s k v m x h o lt) (λ j. rw o.tree (omega arith))
+
+  pub place_right_below : (s : Store T S) (n m : ℕ) (v : Stored T S) (side : ℕ) (x : T) → IsPlaceBelow key unit op of s n m x → s n ≡ Some v →
+      right_number (s n) ≡ Some side → key v.entry ≤ key x → IsPlaceBelow key unit op of s side m x
+  place_right_below s n m v side x b e d lt =
+      let o = opened_at s n b.link v b.number b.place.held e in
+      let a = right_child s n b.link v side e d in
+      let h : height_of v.right ≡ a.child.height = ap height_of a.is in
+      let low = b.low in let g = o.height in
+      record {
+        link = a.child;
+        number = a.number;
+        place = subst (λ l. IsPlaceFor key unit op of s l m x) a.is
+            (place_right key unit op of laws s b.link v m x b.place o lt);
+        low = omega arith;
+      }
 
   -- taking out
-  removed_is : (side : Side) (s : Store T S) (k : Link S) (v : Stored T S) (x : T) → HasKey key unit op of s (Some k) x → IsOpened key unit op of s k v →
-      AreOn key side x x v.entry →
-      in_order side (without_key key (key x) (entries_at s (on_side side v))) v.entry (entries_at s (on_other side v)) ≡ without_key key (key x)
-      (entries_at s (Some k))
-  removed_is Left s k v x h o lt =
+  removed_left_is : (s : Store T S) (k : Link S) (v : Stored T S) (x : T) → HasKey key unit op of s (Some k) x → IsOpened key unit op of s k v →
+      key x < key v.entry → without_key key (key x) (entries (tree_at s v.left)) ++ v.entry ∷ entries (tree_at s v.right) ≡ without_key key
+      (key x) (entries (tree_at s (Some k)))
+  removed_left_is s k v x h o lt =
       let a = entries (tree_at s v.left) in
       let b = entries (tree_at s v.right) in
       let up : IsRising key (a ++ v.entry ∷ b) = rw o.tree at h.rising in
       sym (without_left key (key x) v.entry a b lt up) ∙ rw o.tree refl
-  removed_is Right s k v x h o lt =
+
+  removed_right_is : (s : Store T S) (k : Link S) (v : Stored T S) (x : T) → HasKey key unit op of s (Some k) x → IsOpened key unit op of s k v →
+      key v.entry < key x → entries (tree_at s v.left) ++ v.entry ∷ without_key key (key x) (entries (tree_at s v.right)) ≡ without_key key
+      (key x) (entries (tree_at s (Some k)))
+  removed_right_is s k v x h o lt =
       let a = entries (tree_at s v.left) in
       let b = entries (tree_at s v.right) in
       let up : IsRising key (a ++ v.entry ∷ b) = rw o.tree at h.rising in
       sym (without_right key (key x) v.entry a b lt up) ∙ rw o.tree refl
 
-  on_other_key : (side : Side) (s : Store T S) (n : ℕ) (v : Stored T S) (x : T) → s n ≡ Some v → IsAt key unit op of s n x false →
-      IsSideFor key unit op of s n x side → AreOn key side x x v.entry
-  on_other_key Left s n v x e o for = for v e
-  on_other_key Right s n v x e o for = let not = (o v e).1 refl in let le = for v e in omega arith
-
-  pub removed_down : (side : Side) (s : Store T S) (n : ℕ) (v : Stored T S) (x : T) → s n ≡ Some v → IsAt key unit op of s n x false →
-      IsSideFor key unit op of s n x side → (k : Link S) → k.number ≡ n → HasKey key unit op of s (Some k) x →
-      GoesDown key unit op of laws (λ l. HasKey key unit op of s l x) (without_key key (key x)) (λ f. f) side s k v
-  removed_down side s n v x e other for k p h =
-      let o = opened_at key unit op of laws s n k v p h.held e in
-      let on = on_other_key side s n v x e other for in
+  pub removed_left_step : (s t : Store T S) (n out : ℕ) (k : Link S) (v : Stored T S) (side : ℕ) (x : T) (c : Bool) → k.number ≡ n →
+      HasKey key unit op of s (Some k) x → s n ≡ Some v → left_number (s n) ≡ Some side → key x < key v.entry → IsRemovedBelow key unit op of s t side x out c →
+      IsLeftStep s t k v side c (without_key key (key x) (entries (tree_at s v.left))) (λ j. count j (tree_at s v.left)) (is out) 1 0
+  removed_left_step s t n out k v side x c p h e d lt below =
+      let o = opened_at s n k v p h.held e in
+      let m = left_child s n k v side e d in
+      let has = key_left key unit op of laws s k v x h o lt in
       record {
+        child = m;
         opened = o;
-        asked = key_side side s k v x h o on;
-        entries = removed_is side s k v x h o on;
-        count = same_count side s k v o;
-        once = once_at s k v o;
+        changed = subst (λ l. IsChanged key unit op of s t m.child c (without_key key (key x) (entries (tree_at s l))) (λ j. count j (tree_at s l))
+            (is out) 1 0) (sym m.is) (below m.child m.number (subst (λ l. HasKey key unit op of s l x) m.is has));
+        once = o.once;
+        few = omega arith;
       }
 
-  pub removed_further : (side : Side) (s : Store T S) (n below : ℕ) (x : T) → HasKeyBelow key unit op of s n x → child_number side (s n) ≡ Some below →
-      IsAt key unit op of s n x false → IsSideFor key unit op of s n x side → IsFurther key unit op of laws (λ l. HasKey key unit op of s l x) s n below
-  removed_further side s n below x b d other for = let w = node_at key unit op of laws s n b.link b.number b.asked.held in
-      further key unit op of laws (λ l. HasKey key unit op of s l x) (without_key key (key x)) (λ f. f) none 1 0 side s n w.node below w.stored d
-      (removed_down side s n w.node x w.stored other for) b
+  pub removed_left_same : (s t : Store T S) (n out : ℕ) (v : Stored T S) (side : ℕ) (x : T) (c : Bool) → s n ≡ Some v → left_number (s n) ≡ Some side →
+      key x < key v.entry → IsRemovedBelow key unit op of s t side x out c → c ≡ false → IsRemovedBelow key unit op of s t n x out false
+  removed_left_same s t n out v side x c e d lt below z k p h =
+      let st = removed_left_step s t n out k v side x c p h e d lt below in
+      rechanged s t k false _ _ _ _ (is out) 1 0 (left_unchanged s t k v side c _ _ (is out) 1 0 st z) (removed_left_is s k v x h st.opened lt)
+      (λ j. rw st.opened.tree refl)
 
-  pub removed_step : (side : Side) (s t : Store T S) (n below : ℕ) (x : T) (out : ℕ) (c : Bool) → HasKeyBelow key unit op of s n x → child_number side (s n) ≡ Some below →
-      IsAt key unit op of s n x false → IsSideFor key unit op of s n x side → IsRemovedBelow key unit op of s t below x out c →
-      IsStepped key unit op of laws (λ l. HasKey key unit op of s l x) (without_key key (key x)) (λ f. f) (is out) 1 0 side s t n below c
-  removed_step side s t n below x out c b d other for done = let w = node_at key unit op of laws s n b.link b.number b.asked.held in
-      step key unit op of laws (λ l. HasKey key unit op of s l x) (without_key key (key x)) (λ f. f) (is out) 1 0 side s t n w.node below c (omega arith) w.stored d
-      (removed_down side s n w.node x w.stored other for) b done
+  pub removed_left_settled : (s t u : Store T S) (n out : ℕ) (v : Stored T S) (side : ℕ) (x : T) (c b : Bool) → s n ≡ Some v → left_number (s n) ≡ Some side →
+      key x < key v.entry → IsRemovedBelow key unit op of s t side x out c → IsLeftSettled key unit op of t u n side b →
+      IsRemovedBelow key unit op of s u n x out b
+  removed_left_settled s t u n out v side x c b e d lt below set k p h =
+      let st = removed_left_step s t n out k v side x c p h e d lt below in
+      rechanged s u k b _ _ _ _ (is out) 1 0 (left_changed s t u n k v side c b _ _ (is out) 1 0 st p set) (removed_left_is s k v x h st.opened lt)
+      (λ j. rw st.opened.tree refl)
 
-  pub removed_never : (side : Side) (s : Store T S) (n : ℕ) (x : T) → HasKeyBelow key unit op of s n x → child_number side (s n) ≡ None → IsAt key unit op of s n x false → IsSideFor key unit op of s n x side → ⊥
-  removed_never side s n x b d other for = let w = node_at key unit op of laws s n b.link b.number b.asked.held in
-      never key unit op of laws (λ l. HasKey key unit op of s l x) (without_key key (key x)) (λ f. f) none 1 0 side s n w.node w.stored d
-      (removed_down side s n w.node x w.stored other for) b (λ h. no_key key unit op of laws s x h)
+  pub removed_left_taken : (s u : Store T S) (n : ℕ) (v : Stored T S) (side : ℕ) (x : T) → s n ≡ Some v → left_number (s n) ≡ Some side → key x < key v.entry →
+      IsLeftTaken key unit op of s u n side x → IsRemovedBelow key unit op of s u n x side true
+  removed_left_taken s u n v side x e d lt w k p h =
+      let o = opened_at s n k v p h.held e in
+      let m = left_child s n k v side e d in
+      let has = key_left key unit op of laws s k v x h o lt in
+      let got = w.taken m.child m.number (subst (λ l. HasKey key unit op of s l x) m.is has) in
+      let tree = subst (λ l. IsWithout key unit op of s w.between l (without_key key (key x) (entries (tree_at s l))) side w.rest) (sym m.is) got.0 in
+      let told = subst (λ i. u ≡ with_at i (left_put w.rest (w.between i)) w.between) (sym p) w.told in
+      let high : height_of v.left ≡ m.child.height = ap height_of m.is in
+      let a = got.1.0 in let b = got.1.1 in
+      let c = changed_left s w.between u k v w.rest true _ (λ j. count j (tree_at s v.left)) (is side) 1 0 o tree o.once told (omega arith) (omega arith)
+      (omega arith) (λ z. absurd (both_ways true z refl)) in
+      rechanged s u k true _ _ _ _ (is side) 1 0 c (removed_left_is s k v x h o lt) (λ j. rw o.tree refl)
 
-  -- the root of a side is taken out
-  pub record IsCut (s u : Store T S) (n child : ℕ) (x : T) : Type 0 where
-    pub removed : IsRemovedBelow key unit op of s u n x child true
-    pub entry : entry_below (u n) ≡ entry_below (s n)
-
-  cut_tree : (side : Side) (s u : Store T S) (n : ℕ) (k : Link S) (v : Stored T S) (child : ℕ) (x : T) (m : IsChild key unit op of laws side v child)
-      (w : IsSideTaken key unit op of side s u n child x) →
-      GoesDown key unit op of laws (λ l. HasKey key unit op of s l x) (without_key key (key x)) (λ f. f) side s k v →
-      IsWithout key unit op of s w.between (on_side side v) (without_key key (key x) (entries_at s (on_side side v))) child w.rest ×
-      ((height_of w.rest ≤ m.link.height) × (m.link.height ≤ height_of w.rest + 1))
-  cut_tree side s u n k v child x m w g =
-      let got = w.taken m.link m.number (subst (λ l. HasKey key unit op of s l x) m.is g.asked) in
-      (subst (λ l. IsWithout key unit op of s w.between l (without_key key (key x) (entries_at s l)) child w.rest) (sym m.is) got.0, got.1)
-
-  pub cut : (side : Side) (s u : Store T S) (n below : ℕ) (x : T) → child_number side (s n) ≡ Some below →
-      IsAt key unit op of s n x false → IsSideFor key unit op of s n x side → HasKeyBelow key unit op of s n x →
-      IsSideTaken key unit op of side s u n below x → IsCut s u n below x
-  cut side s u n below x d other for b w =
-      let n' = node_at key unit op of laws s n b.link b.number b.asked.held in
-      let v = n'.node in
-      let m = child key unit op of laws side s n v below n'.stored d in
-      let down = removed_down side s n v x n'.stored other for in
-      let high : height_of (on_side side v) ≡ m.link.height = ap height_of m.is in
-      let g = down b.link b.number b.asked in
-      let stay = above_stays key unit op of laws (λ l. HasKey key unit op of s l x) (without_key key (key x)) (λ f. f) (is below) 1 0
-      side s w.between b.link v w.rest g (cut_tree side s u n b.link v below x m w g).0 in
+  pub removed_right_step : (s t : Store T S) (n out : ℕ) (k : Link S) (v : Stored T S) (side : ℕ) (x : T) (c : Bool) → k.number ≡ n →
+      HasKey key unit op of s (Some k) x → s n ≡ Some v → right_number (s n) ≡ Some side → key v.entry < key x →
+      IsRemovedBelow key unit op of s t side x out c →
+      IsRightStep s t k v side c (without_key key (key x) (entries (tree_at s v.right))) (λ j. count j (tree_at s v.right)) (is out) 1 0
+  removed_right_step s t n out k v side x c p h e d lt below =
+      let o = opened_at s n k v p h.held e in
+      let m = right_child s n k v side e d in
+      let has = key_right key unit op of laws s k v x h o lt in
       record {
-        removed = λ k p h. let g' = down k p h in let got = cut_tree side s u n k v below x m w g' in let a = got.1.0 in let c = got.1.1 in
-            let told = subst (λ i. u ≡ with_at i (side_put side w.rest (w.between i)) w.between) (sym p) w.told in
-            put_below key unit op of laws (λ l. HasKey key unit op of s l x) (without_key key (key x)) (λ f. f) (is below) 1 0
-            side s w.between u k v w.rest true (omega arith) g' got.0 told (omega arith) (omega arith) (λ z. absurd (both_ways true z refl));
-        entry = entry_put_side key unit op of laws side w.between u n w.rest w.told
-            ∙ ap entry_below (subst (λ i. w.between i ≡ s i) b.number stay);
+        child = m;
+        opened = o;
+        changed = subst (λ l. IsChanged key unit op of s t m.child c (without_key key (key x) (entries (tree_at s l))) (λ j. count j (tree_at s l))
+            (is out) 1 0) (sym m.is) (below m.child m.number (subst (λ l. HasKey key unit op of s l x) m.is has));
+        once = o.once;
+        few = omega arith;
       }
+
+  pub removed_right_same : (s t : Store T S) (n out : ℕ) (v : Stored T S) (side : ℕ) (x : T) (c : Bool) → s n ≡ Some v → right_number (s n) ≡ Some side →
+      key v.entry < key x → IsRemovedBelow key unit op of s t side x out c → c ≡ false → IsRemovedBelow key unit op of s t n x out false
+  removed_right_same s t n out v side x c e d lt below z k p h =
+      let st = removed_right_step s t n out k v side x c p h e d lt below in
+      rechanged s t k false _ _ _ _ (is out) 1 0 (right_unchanged s t k v side c _ _ (is out) 1 0 st z) (removed_right_is s k v x h st.opened lt)
+      (λ j. rw st.opened.tree refl)
+
+  pub removed_right_settled : (s t u : Store T S) (n out : ℕ) (v : Stored T S) (side : ℕ) (x : T) (c b : Bool) → s n ≡ Some v → right_number (s n) ≡ Some side →
+      key v.entry < key x → IsRemovedBelow key unit op of s t side x out c → IsRightSettled key unit op of t u n side b →
+      IsRemovedBelow key unit op of s u n x out b
+  removed_right_settled s t u n out v side x c b e d lt below set k p h =
+      let st = removed_right_step s t n out k v side x c p h e d lt below in
+      rechanged s u k b _ _ _ _ (is out) 1 0 (right_changed s t u n k v side c b _ _ (is out) 1 0 st p set) (removed_right_is s k v x h st.opened lt)
+      (λ j. rw st.opened.tree refl)
+
+  pub removed_right_taken : (s u : Store T S) (n : ℕ) (v : Stored T S) (side : ℕ) (x : T) → s n ≡ Some v → right_number (s n) ≡ Some side →
+      key v.entry < key x → IsRightTaken key unit op of s u n side x → IsRemovedBelow key unit op of s u n x side true
+  removed_right_taken s u n v side x e d lt w k p h =
+      let o = opened_at s n k v p h.held e in
+      let m = right_child s n k v side e d in
+      let has = key_right key unit op of laws s k v x h o lt in
+      let got = w.taken m.child m.number (subst (λ l. HasKey key unit op of s l x) m.is has) in
+      let tree = subst (λ l. IsWithout key unit op of s w.between l (without_key key (key x) (entries (tree_at s l))) side w.rest) (sym m.is) got.0 in
+      let told = subst (λ i. u ≡ with_at i (right_put w.rest (w.between i)) w.between) (sym p) w.told in
+      let high : height_of v.right ≡ m.child.height = ap height_of m.is in
+      let a = got.1.0 in let b = got.1.1 in
+      let c = changed_right s w.between u k v w.rest true _ (λ j. count j (tree_at s v.right)) (is side) 1 0 o tree o.once told (omega arith) (omega arith)
+      (omega arith) (λ z. absurd (both_ways true z refl)) in
+      rechanged s u k true _ _ _ _ (is side) 1 0 c (removed_right_is s k v x h o lt) (λ j. rw o.tree refl)
+
+  pub later_other : (s : Store T S) (n : ℕ) (v : Stored T S) (x : T) → s n ≡ Some v → IsAt key unit op of s n x false →
+      key v.entry ≤ key x → key v.entry < key x
+  later_other s n v x e o le = let not = (o v e).1 refl in omega arith
 
   -- what is left of a tree without its root
   pub taken_last : (s : Store T S) (n : ℕ) (v : Stored T S) (x : T) → s n ≡ Some v → IsAt key unit op of s n x true → v.right ≡ None →
       IsTaken key unit op of s s n x v.left
   taken_last s n v x e at last k p h =
-      let o = opened_at key unit op of laws s n k v p h.held e in
+      let o = opened_at s n k v p h.held e in
       let same = (at v e).0 refl in
       let w = removed_last key unit op of laws s k v x h o (omega arith) (omega arith) last in
       let zero : height_of v.right ≡ 0 = ap height_of last in
@@ -741,7 +863,7 @@ module _ {T S : Type 0} (key : T → ℕ) (unit : S) (op : S → S → S) (of : 
       m.height ≤ height_of rest + 1 → IsJoined key unit op of t u first v.left y rest k' → IsHeightAfter (height_of v.left) (height_of rest) k'.height →
       IsTaken key unit op of s u n x (Some k')
   taken_middle s t u n v x m first y rest k' e at is_m popped low high joined after k p h =
-      let o = opened_at key unit op of laws s n k v p h.held e in
+      let o = opened_at s n k v p h.held e in
       let same = (at v e).0 refl in
       let w = removed_middle key unit op of laws s t u k m v x first y rest k' h o (omega arith) (omega arith) is_m popped joined in
       let right : height_of v.right ≡ m.height = ap height_of is_m in
@@ -754,86 +876,156 @@ module _ {T S : Type 0} (key : T → ℕ) (unit : S) (op : S → S → S) (of : 
   next_at : (x y : T) (a : List T) (w : T) (b : List T) → NoneBetween key (key x) (key y) (a ++ w ∷ b) → (key w ≤ key x) ⊎ (key y < key w)
   next_at x y a w b n = all_middle (λ z. (key z ≤ key x) ⊎ (key y < key z)) a w b n
 
-  split_is : (side : Side) (s : Store T S) (k : Link S) (v : Stored T S) (m : ℕ) (x y : T) → IsSplitFor key unit op of s (Some k) m x y →
-      IsOpened key unit op of s k v → AreOn key side x x v.entry →
-      in_order side (with_two key x y (entries_at s (on_side side v))) v.entry (entries_at s (on_other side v)) ≡ with_two key x y (entries_at s (Some k))
-  split_is Left s k v m x y h o lt =
+  split_left_is : (s : Store T S) (k : Link S) (v : Stored T S) (m : ℕ) (x y : T) → IsSplitFor key unit op of s (Some k) m x y → IsOpened key unit op of s k v →
+      key x < key v.entry → with_two key x y (entries (tree_at s v.left)) ++ v.entry ∷ entries (tree_at s v.right) ≡ with_two key x y
+      (entries (tree_at s (Some k)))
+  split_left_is s k v m x y h o lt =
       let a = entries (tree_at s v.left) in
       let b = entries (tree_at s v.right) in
       let next : NoneBetween key (key x) (key y) (a ++ v.entry ∷ b) = rw o.tree at h.next in
       let lt' : key y < key v.entry = elim (next_at x y a v.entry b next) [ inl i ↦ absurd (omega arith) | inr i ↦ i ] in
-      sym (with_left key y v.entry (with_entry key x (without_key key (key x) a)) b lt') ∙ ap (with_entry key y) (replaced_is Left s k v x h.has o lt)
-  split_is Right s k v m x y h o lt =
+      sym (with_left key y v.entry (with_entry key x (without_key key (key x) a)) b lt') ∙ ap (with_entry key y) (replaced_left_is s k v x h.has o lt)
+
+  split_right_is : (s : Store T S) (k : Link S) (v : Stored T S) (m : ℕ) (x y : T) → IsSplitFor key unit op of s (Some k) m x y →
+      IsOpened key unit op of s k v → key v.entry < key x → entries (tree_at s v.left) ++ v.entry ∷ with_two key x y
+      (entries (tree_at s v.right)) ≡ with_two key
+      x y (entries (tree_at s (Some k)))
+  split_right_is s k v m x y h o lt =
       let a = entries (tree_at s v.left) in
       let b = entries (tree_at s v.right) in
-      let e = replaced_is Right s k v x h.has o lt in
+      let e = replaced_right_is s k v x h.has o lt in
       let after = h.after in
       let lt' : key v.entry < key y = omega arith in
       let up : IsRising key (a ++ v.entry ∷ with_entry key x (without_key key (key x) b)) =
       subst (IsRising key) (sym e) (rising_with key x _ (rising_without key (key x) _ h.has.rising)) in
       sym (with_right key y v.entry a (with_entry key x (without_key key (key x) b)) lt' up) ∙ ap (with_entry key y) e
 
-  split_side : (side : Side) (s : Store T S) (k : Link S) (v : Stored T S) (m : ℕ) (x y : T) → IsSplitFor key unit op of s (Some k) m x y →
-      IsOpened key unit op of s k v → AreOn key side x x v.entry → IsSplitFor key unit op of s (on_side side v) m x y
-  split_side Left s k v m x y h o lt =
+  split_left_for : (s : Store T S) (m : ℕ) (k : Link S) (v : Stored T S) (x y : T) → IsSplitFor key unit op of s (Some k) m x y →
+      IsOpened key unit op of s k v → key x < key v.entry → IsSplitFor key unit op of s v.left m x y
+  split_left_for s m k v x y h o lt =
       let a = entries (tree_at s v.left) in
       let b = entries (tree_at s v.right) in
       let next : NoneBetween key (key x) (key y) (a ++ v.entry ∷ b) = rw o.tree at h.next in
       let f : is k.number m + (count m (tree_at s v.left) + count m (tree_at s v.right)) ≡ 0 = rw o.tree at h.fresh in
       record {
-        has = key_side Left s k v x h.has o lt;
+        has = key_left key unit op of laws s k v x h.has o lt;
         used = h.used;
         fresh = omega arith;
         after = h.after;
         next = AllOf-front (λ z. (key z ≤ key x) ⊎ (key y < key z)) a (v.entry ∷ b) next;
       }
-  split_side Right s k v m x y h o lt =
+
+  pub split_left_step : (s t : Store T S) (n m : ℕ) (k : Link S) (v : Stored T S) (side : ℕ) (x y : T) (c : Bool) → k.number ≡ n →
+      IsSplitFor key unit op of s (Some k) m x y → s n ≡ Some v → left_number (s n) ≡ Some side → key x < key v.entry →
+      IsSplitBelow key unit op of s t side m x y c → IsLeftStep s t k v side c (with_two key x y (entries (tree_at s v.left)))
+      (λ j. is m j + count j (tree_at s v.left)) none 0 1
+  split_left_step s t n m k v side x y c p h e d lt below =
+      let o = opened_at s n k v p h.has.held e in
+      let a = left_child s n k v side e d in
+      let for = split_left_for s m k v x y h o lt in
+      record {
+        child = a;
+        opened = o;
+        changed = subst (λ l. IsChanged key unit op of s t a.child c (with_two key x y (entries (tree_at s l))) (λ j. is m j + count j (tree_at s l)) none 0 1)
+            (sym a.is) (below a.child a.number (subst (λ l. IsSplitFor key unit op of s l m x y) a.is for));
+        once = λ j. let i = fresh_once key unit op of laws s k v m o h.fresh j in omega arith;
+        few = omega arith;
+      }
+
+  pub split_left_same : (s t : Store T S) (n m : ℕ) (v : Stored T S) (side : ℕ) (x y : T) (c : Bool) → s n ≡ Some v → left_number (s n) ≡ Some side →
+      key x < key v.entry → IsSplitBelow key unit op of s t side m x y c → c ≡ false → IsSplitBelow key unit op of s t n m x y false
+  split_left_same s t n m v side x y c e d lt below z k p h =
+      let st = split_left_step s t n m k v side x y c p h e d lt below in
+      rechanged s t k false _ _ _ _ none 0 1 (left_unchanged s t k v side c _ _ none 0 1 st z) (split_left_is s k v m x y h st.opened lt)
+      (λ j. rw st.opened.tree (omega arith))
+
+  pub split_left_settled : (s t u : Store T S) (n m : ℕ) (v : Stored T S) (side : ℕ) (x y : T) (c b : Bool) → s n ≡ Some v → left_number (s n) ≡ Some side →
+      key x < key v.entry → IsSplitBelow key unit op of s t side m x y c → IsLeftSettled key unit op of t u n side b → IsSplitBelow key unit op of s u n m x y b
+  split_left_settled s t u n m v side x y c b e d lt below set k p h =
+      let st = split_left_step s t n m k v side x y c p h e d lt below in
+      rechanged s u k b _ _ _ _ none 0 1 (left_changed s t u n k v side c b _ _ none 0 1 st p set) (split_left_is s k v m x y h st.opened lt)
+      (λ j. rw st.opened.tree (omega arith))
+
+  pub split_left_below : (s : Store T S) (n m : ℕ) (v : Stored T S) (side : ℕ) (x y : T) → IsSplitBelowFor key unit op of s n m x y → s n ≡ Some v →
+      left_number (s n) ≡ Some side → key x < key v.entry → IsSplitBelowFor key unit op of s side m x y
+  split_left_below s n m v side x y b e d lt =
+      let o = opened_at s n b.link v b.number b.split.has.held e in
+      let a = left_child s n b.link v side e d in
+      let h : height_of v.left ≡ a.child.height = ap height_of a.is in
+      let low = b.low in let g = o.height in
+      record {
+        link = a.child;
+        number = a.number;
+        split = subst (λ l. IsSplitFor key unit op of s l m x y) a.is (split_left_for s m b.link v x y b.split o lt);
+        low = omega arith;
+      }
+
+  split_right_for : (s : Store T S) (m : ℕ) (k : Link S) (v : Stored T S) (x y : T) → IsSplitFor key unit op of s (Some k) m x y →
+      IsOpened key unit op of s k v → key v.entry < key x → IsSplitFor key unit op of s v.right m x y
+  split_right_for s m k v x y h o lt =
       let a = entries (tree_at s v.left) in
       let b = entries (tree_at s v.right) in
       let next : NoneBetween key (key x) (key y) (a ++ v.entry ∷ b) = rw o.tree at h.next in
       let f : is k.number m + (count m (tree_at s v.left) + count m (tree_at s v.right)) ≡ 0 = rw o.tree at h.fresh in
       record {
-        has = key_side Right s k v x h.has o lt;
+        has = key_right key unit op of laws s k v x h.has o lt;
         used = h.used;
         fresh = omega arith;
         after = h.after;
         next = (AllOf-back (λ z. (key z ≤ key x) ⊎ (key y < key z)) a (v.entry ∷ b) next).1;
       }
 
-  pub split_down : (side : Side) (s : Store T S) (n m : ℕ) (v : Stored T S) (x y : T) → s n ≡ Some v → AreOn key side x x v.entry → (k : Link S) →
-      k.number ≡ n → IsSplitFor key unit op of s (Some k) m x y →
-      GoesDown key unit op of laws (λ l. IsSplitFor key unit op of s l m x y) (with_two key x y) (λ f j. is m j + f j) side s k v
-  split_down side s n m v x y e on k p h = let o = opened_at key unit op of laws s n k v p h.has.held e in record {
-    opened = o;
-    asked = split_side side s k v m x y h o on;
-    entries = split_is side s k v m x y h o on;
-    count = λ j. let c = same_count side s k v o j in omega arith;
-    once = fresh_at s k v m o h.fresh;
-  }
+  pub split_right_step : (s t : Store T S) (n m : ℕ) (k : Link S) (v : Stored T S) (side : ℕ) (x y : T) (c : Bool) → k.number ≡ n →
+      IsSplitFor key unit op of s (Some k) m x y → s n ≡ Some v → right_number (s n) ≡ Some side → key v.entry < key x →
+      IsSplitBelow key unit op of s t side m x y c → IsRightStep s t k v side c (with_two key x y (entries (tree_at s v.right)))
+      (λ j. is m j + count j (tree_at s v.right)) none 0 1
+  split_right_step s t n m k v side x y c p h e d lt below =
+      let o = opened_at s n k v p h.has.held e in
+      let a = right_child s n k v side e d in
+      let for = split_right_for s m k v x y h o lt in
+      record {
+        child = a;
+        opened = o;
+        changed = subst (λ l. IsChanged key unit op of s t a.child c (with_two key x y (entries (tree_at s l))) (λ j. is m j + count j (tree_at s l)) none 0 1)
+            (sym a.is) (below a.child a.number (subst (λ l. IsSplitFor key unit op of s l m x y) a.is for));
+        once = λ j. let i = fresh_once key unit op of laws s k v m o h.fresh j in omega arith;
+        few = omega arith;
+      }
 
-  pub split_further : (side : Side) (s : Store T S) (n below : ℕ) (m : ℕ) (x y : T) → IsSplitBelowFor key unit op of s n m x y → child_number side (s n) ≡ Some below →
-      IsBeside key unit op of s n x x (Some side) → IsFurther key unit op of laws (λ l. IsSplitFor key unit op of s l m x y) s n below
-  split_further side s n below m x y b d on = let w = node_at key unit op of laws s n b.link b.number b.asked.has.held in
-      further key unit op of laws (λ l. IsSplitFor key unit op of s l m x y) (with_two key x y) (λ f j. is m j + f j) none 0 1 side s n w.node below w.stored d
-      (split_down side s n m w.node x y w.stored (on w.node w.stored)) b
+  pub split_right_same : (s t : Store T S) (n m : ℕ) (v : Stored T S) (side : ℕ) (x y : T) (c : Bool) → s n ≡ Some v → right_number (s n) ≡ Some side →
+      key v.entry < key x → IsSplitBelow key unit op of s t side m x y c → c ≡ false → IsSplitBelow key unit op of s t n m x y false
+  split_right_same s t n m v side x y c e d lt below z k p h =
+      let st = split_right_step s t n m k v side x y c p h e d lt below in
+      rechanged s t k false _ _ _ _ none 0 1 (right_unchanged s t k v side c _ _ none 0 1 st z) (split_right_is s k v m x y h st.opened lt)
+      (λ j. rw st.opened.tree (omega arith))
 
-  pub split_step : (side : Side) (s t : Store T S) (n below : ℕ) (m : ℕ) (x y : T) (c : Bool) → IsSplitBelowFor key unit op of s n m x y → child_number side (s n) ≡ Some below →
-      IsBeside key unit op of s n x x (Some side) → IsSplitBelow key unit op of s t below m x y c →
-      IsStepped key unit op of laws (λ l. IsSplitFor key unit op of s l m x y) (with_two key x y) (λ f j. is m j + f j) none 0 1 side s t n below c
-  split_step side s t n below m x y c b d on done = let w = node_at key unit op of laws s n b.link b.number b.asked.has.held in
-      step key unit op of laws (λ l. IsSplitFor key unit op of s l m x y) (with_two key x y) (λ f j. is m j + f j) none 0 1 side s t n w.node below c (omega arith) w.stored d
-      (split_down side s n m w.node x y w.stored (on w.node w.stored)) b done
+  pub split_right_settled : (s t u : Store T S) (n m : ℕ) (v : Stored T S) (side : ℕ) (x y : T) (c b : Bool) → s n ≡ Some v → right_number (s n) ≡ Some side →
+      key v.entry < key x → IsSplitBelow key unit op of s t side m x y c → IsRightSettled key unit op of t u n side b →
+      IsSplitBelow key unit op of s u n m x y b
+  split_right_settled s t u n m v side x y c b e d lt below set k p h =
+      let st = split_right_step s t n m k v side x y c p h e d lt below in
+      rechanged s u k b _ _ _ _ none 0 1 (right_changed s t u n k v side c b _ _ none 0 1 st p set) (split_right_is s k v m x y h st.opened lt)
+      (λ j. rw st.opened.tree (omega arith))
 
-  pub split_never : (side : Side) (s : Store T S) (n : ℕ) (m : ℕ) (x y : T) → IsSplitBelowFor key unit op of s n m x y → child_number side (s n) ≡ None → IsBeside key unit op of s n x x (Some side) → ⊥
-  split_never side s n m x y b d on = let w = node_at key unit op of laws s n b.link b.number b.asked.has.held in
-      never key unit op of laws (λ l. IsSplitFor key unit op of s l m x y) (with_two key x y) (λ f j. is m j + f j) none 0 1 side s n w.node w.stored d
-      (split_down side s n m w.node x y w.stored (on w.node w.stored)) b (λ h. no_key key unit op of laws s x h.has)
+  pub split_right_below : (s : Store T S) (n m : ℕ) (v : Stored T S) (side : ℕ) (x y : T) → IsSplitBelowFor key unit op of s n m x y → s n ≡ Some v →
+      right_number (s n) ≡ Some side → key v.entry < key x → IsSplitBelowFor key unit op of s side m x y
+  split_right_below s n m v side x y b e d lt =
+      let o = opened_at s n b.link v b.number b.split.has.held e in
+      let a = right_child s n b.link v side e d in
+      let h : height_of v.right ≡ a.child.height = ap height_of a.is in
+      let low = b.low in let g = o.height in
+      record {
+        link = a.child;
+        number = a.number;
+        split = subst (λ l. IsSplitFor key unit op of s l m x y) a.is (split_right_for s m b.link v x y b.split o lt);
+        low = omega arith;
+      }
 
   -- the link of a node whose entry is another one
   record IsRetold (s t : Store T S) (k : Link S) (xs : List T) (f : ℕ → ℕ) : Type 0 where
     link : Link S
     number : link.number ≡ k.number
-    done : IsDone key unit op of laws s t k link xs f none 0 0
+    done : IsDone s t k link xs f none 0 0
 
   retold : (s t : Store T S) (k : Link S) (xs : List T) (f : ℕ → ℕ) → IsChanged key unit op of s t k true xs f none 0 0 → IsRetold s t k xs f
   retold s t k xs f c =
@@ -851,7 +1043,7 @@ module _ {T S : Type 0} (key : T → ℕ) (unit : S) (op : S → S → S) (of : 
         link = m';
         number = refl;
         done = record {
-          tree = whole_above key unit op of laws s t t k.number v m' xs f none c.above (joined_same key unit op of laws t m' v.left v.entry v.right
+          tree = whole_above s t t k.number v m' xs f none c.above (joined_same key unit op of laws t m' v.left v.entry v.right
               (record { stored = c.above.stored; told = refl; level = level }) c.above.spot);
           not_lower = w.0;
           not_higher = w.1;
@@ -859,7 +1051,7 @@ module _ {T S : Type 0} (key : T → ℕ) (unit : S) (op : S → S → S) (of : 
       }
 
   split_place : (s t : Store T S) (n m : ℕ) (x y : T) (k m' : Link S) → IsSplitFor key unit op of s (Some k) m x y →
-      IsDone key unit op of laws s t k m' (with_entry key x (without_key key (key x) (entries (tree_at s (Some k))))) (λ j. count j (tree_at s (Some k))) none 0 0 →
+      IsDone s t k m' (with_entry key x (without_key key (key x) (entries (tree_at s (Some k))))) (λ j. count j (tree_at s (Some k))) none 0 0 →
       IsPlaceFor key unit op of t (Some m') m y
   split_place s t n m x y k m' h d =
       let xs = entries (tree_at s (Some k)) in
@@ -881,10 +1073,10 @@ module _ {T S : Type 0} (key : T → ℕ) (unit : S) (op : S → S → S) (of : 
       IsPlaceBelow key unit op of t n m y
   split_ready s t n m x y b r =
       let k = b.link in
-      let d = retold s t k _ _ (r k b.number b.asked.has) in
+      let d = retold s t k _ _ (r k b.number b.split.has) in
       let low = b.low in
       let high = d.done.not_higher in
-      record { link = d.link; number = d.number ∙ b.number; asked = split_place s t n m x y k d.link b.asked d.done; low = omega arith }
+      record { link = d.link; number = d.number ∙ b.number; place = split_place s t n m x y k d.link b.split d.done; low = omega arith }
 
   pub split_at : (s t u : Store T S) (n m : ℕ) (x y : T) (c : Bool) → IsReplacedBelow key unit op of s t n x true → IsPlacedBelow key unit op of t u n m y c →
       IsSplitBelow key unit op of s u n m x y true

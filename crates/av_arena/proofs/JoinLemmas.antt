@@ -1,19 +1,17 @@
 -- Two neighbours that become one entry.
-use Rattle.std.proofs.Common.{◌≡◌, ℕ, ◌<◌, ◌≤◌, ◌⊎◌, inl, inr, Bool, true, false, cond, eqb, Some, None, List, [], ◌∷◌, ◌++◌, refl, sym, ap, ◌∙◌, subst, arith}
-use Rattle.std.proofs.lemmas.Bool.{both_ways, eqb-true, eq-eqb}
+use Rattle.std.proofs.Common.{◌≡◌, ℕ, ◌+◌, ◌^◌, ◌<◌, ◌≤◌, ◌⊎◌, inl, inr, Bool, true, false, cond, eqb, IsSome, Option, Some, None, List, [], ◌∷◌, ◌++◌, refl, sym, ap, ◌∙◌, subst, arith}
+use Rattle.std.proofs.lemmas.Bool.{both_ways, eqb-true, eq-eqb, ne_eqb}
 use Rattle.av_base.specs.Words.{with_at}
-use Rattle.av_arena.specs.Arena.{entry_put, on_other, on_side}
-use Rattle.av_arena.specs.Below.{AreOn, HasKeyBelow, IsAt, IsBeside, IsBetween, IsChanged, IsJoinBelowFor, IsJoinFor, IsJoinedBelow, IsRemovedBelow, child_number, entry_below, in_order}
+use Rattle.av_arena.specs.Arena.{left_put, right_put, entry_put}
+use Rattle.av_arena.specs.Below.{HasKeyBelow, IsAt, IsBetween, IsChanged, IsJoinBelowFor, IsJoinFor, IsJoinedBelow, IsLeftSettled, IsLeftTaken, IsRemovedBelow, IsRightSettled, IsRightTaken, entry_below, left_number, right_number}
 use Rattle.av_arena.specs.Monoid.{MonoidLaws}
 use Rattle.av_arena.specs.Order.{AllOf, IsRising, NoneWithin, with_entry, with_joined, without_key}
-use Rattle.av_arena.specs.Tree.{IsOpened, Store, count, entries, entries_at, is, none, tree_at}
+use Rattle.av_arena.specs.Tree.{HasKey, IsHeld, IsOpened, IsTree, IsWithout, Store, count, entries, height_of, is, tree_at}
 use Rattle.av_arena.specs.declared.link.Link.{Link}
-use Rattle.av_arena.specs.declared.link.Side.{Side}
-use Rattle.av_arena.specs.declared.link.Side.TheVariants.{Left, Right}
 use Rattle.av_arena.specs.declared.link.Stored.{Stored}
 use Rattle.av_arena.proofs.Order.{AllOf-back, AllOf-front, AllOf-map, all_middle, all_without, rising_without, with_between, with_left, with_right, without_left, without_middle, without_right}
-use Rattle.av_arena.proofs.BelowLemmas.{GoesDown, IsFurther, IsStepped, above_put, further, never, no_key, node_at, once_at, opened_at, same_count, step}
-use Rattle.av_arena.proofs.TreeLemmas.{key_left, key_right}
+use Rattle.av_arena.proofs.BelowLemmas.{IsLeftStep, IsRightStep, above_put, done_settled, left_changed, left_child, left_unchanged, opened_at, rechanged, right_changed, right_child, right_unchanged}
+use Rattle.av_arena.proofs.TreeLemmas.{is_same, key_left, key_right, with_at_same}
 
 -- lists
 module _ {A : Type 0} (key : A → ℕ) where
@@ -102,10 +100,89 @@ module _ {A : Type 0} (key : A → ℕ) where
       ap (λ t. with_entry key z (without_key key (key x) t)) a ∙ (ap (with_entry key z) b ∙ with_right key z v l _ (omega arith) up'')
 
 module _ {T S : Type 0} (key : T → ℕ) (unit : S) (op : S → S → S) (of : T → S) (laws : MonoidLaws unit op) where
-  -- the neighbours are on one side
-  join_side : (side : Side) (s : Store T S) (k : Link S) (v : Stored T S) (x y z : T) → IsJoinFor key unit op of s (Some k) x y z →
-      IsOpened key unit op of s k v → AreOn key side x y v.entry → IsJoinFor key unit op of s (on_side side v) x y z
-  join_side Left s k v x y z h o lt =
+  -- the root's entry stays where a node below goes
+  left_entry_put : (l : Option (Link S)) (o : Option (Stored T S)) → entry_below (left_put l o) ≡ entry_below o
+  left_entry_put l None = refl
+  left_entry_put l (Some v) = refl
+
+  right_entry_put : (l : Option (Link S)) (o : Option (Stored T S)) → entry_below (right_put l o) ≡ entry_below o
+  right_entry_put l None = refl
+  right_entry_put l (Some v) = refl
+
+  pub left_entry_same : (s t : Store T S) (n : ℕ) (k : Link S) (v : Stored T S) (side : ℕ) (c : Bool) (xs : List T) (f g : ℕ → ℕ) (lower higher : ℕ) →
+      IsLeftStep key unit op of laws s t k v side c xs f g lower higher → k.number ≡ n → entry_below (t n) ≡ entry_below (s n)
+  left_entry_same s t n k v side c xs f g lower higher p e =
+      let stay : t k.number ≡ s k.number = p.changed.above.kept k.number (let i = p.once k.number in
+      let j = is_same key unit op of laws k.number in omega arith) in
+      subst (λ i. entry_below (t i) ≡ entry_below (s i)) e (ap entry_below stay)
+
+  pub right_entry_same : (s t : Store T S) (n : ℕ) (k : Link S) (v : Stored T S) (side : ℕ) (c : Bool) (xs : List T) (f g : ℕ → ℕ) (lower higher : ℕ) →
+      IsRightStep key unit op of laws s t k v side c xs f g lower higher → k.number ≡ n → entry_below (t n) ≡ entry_below (s n)
+  right_entry_same s t n k v side c xs f g lower higher p e =
+      let stay : t k.number ≡ s k.number = p.changed.above.kept k.number (let i = p.once k.number in
+      let j = is_same key unit op of laws k.number in omega arith) in
+      subst (λ i. entry_below (t i) ≡ entry_below (s i)) e (ap entry_below stay)
+
+  pub left_entry : (s t u : Store T S) (n : ℕ) (k : Link S) (v : Stored T S) (side : ℕ) (c b : Bool) (xs : List T) (f g : ℕ → ℕ) (lower higher : ℕ) →
+      IsLeftStep key unit op of laws s t k v side c xs f g lower higher → k.number ≡ n → IsLeftSettled key unit op of t u n side b →
+      entry_below (u n) ≡ entry_below (s n)
+  left_entry s t u n k v side c b xs f g lower higher p e set =
+      let set' : IsLeftSettled key unit op of t u k.number p.child.child.number b = subst (λ i. IsLeftSettled key unit op of t u k.number i b)
+      (sym p.child.number) (subst (λ i. IsLeftSettled key unit op of t u i side b) (sym e) set) in
+      let d = done_settled key unit op of laws s t set'.between p.child.child set'.link c xs f g lower higher p.changed set'.settled in
+      let stay : set'.between k.number ≡ s k.number = d.tree.kept k.number (let i = p.once k.number in
+      let j = is_same key unit op of laws k.number in omega arith) in
+      let put : u k.number ≡ left_put (Some set'.link) (set'.between k.number) = ap (λ (q : Store T S). q k.number) set'.told
+      ∙ with_at_same key unit op of laws k.number _ set'.between in
+      subst (λ i. entry_below (u i) ≡ entry_below (s i)) e (ap entry_below put
+      ∙ (left_entry_put (Some set'.link) (set'.between k.number) ∙ ap entry_below stay))
+
+  pub right_entry : (s t u : Store T S) (n : ℕ) (k : Link S) (v : Stored T S) (side : ℕ) (c b : Bool) (xs : List T) (f g : ℕ → ℕ) (lower higher : ℕ) →
+      IsRightStep key unit op of laws s t k v side c xs f g lower higher → k.number ≡ n → IsRightSettled key unit op of t u n side b →
+      entry_below (u n) ≡ entry_below (s n)
+  right_entry s t u n k v side c b xs f g lower higher p e set =
+      let set' : IsRightSettled key unit op of t u k.number p.child.child.number b = subst (λ i. IsRightSettled key unit op of t u k.number i b)
+      (sym p.child.number) (subst (λ i. IsRightSettled key unit op of t u i side b) (sym e) set) in
+      let d = done_settled key unit op of laws s t set'.between p.child.child set'.link c xs f g lower higher p.changed set'.settled in
+      let stay : set'.between k.number ≡ s k.number = d.tree.kept k.number (let i = p.once k.number in
+      let j = is_same key unit op of laws k.number in omega arith) in
+      let put : u k.number ≡ right_put (Some set'.link) (set'.between k.number) = ap (λ (q : Store T S). q k.number) set'.told
+      ∙ with_at_same key unit op of laws k.number _ set'.between in
+      subst (λ i. entry_below (u i) ≡ entry_below (s i)) e (ap entry_below put
+      ∙ (right_entry_put (Some set'.link) (set'.between k.number) ∙ ap entry_below stay))
+
+  pub left_entry_taken : (s u : Store T S) (n : ℕ) (v : Stored T S) (side : ℕ) (x : T) → HasKeyBelow key unit op of s n x → s n ≡ Some v →
+      left_number (s n) ≡ Some side → key x < key v.entry → IsLeftTaken key unit op of s u n side x → entry_below (u n) ≡ entry_below (s n)
+  left_entry_taken s u n v side x h e d lt w =
+      let k = h.link in
+      let o = opened_at key unit op of laws s n k v h.number h.there.held e in
+      let m = left_child key unit op of laws s n k v side e d in
+      let has = key_left key unit op of laws s k v x h.there o lt in
+      let got = w.taken m.child m.number (subst (λ l. HasKey key unit op of s l x) m.is has) in
+      let tree = subst (λ l. IsWithout key unit op of s w.between l (without_key key (key x) (entries (tree_at s l))) side w.rest) (sym m.is) got.0 in
+      let stay : w.between k.number ≡ s k.number = tree.kept k.number (let i = o.once k.number in
+      let j = is_same key unit op of laws k.number in omega arith) in
+      let put : u n ≡ left_put w.rest (w.between n) = ap (λ (q : Store T S). q n) w.told ∙ with_at_same key unit op of laws n _ w.between in
+      ap entry_below put ∙ (left_entry_put w.rest (w.between n) ∙ ap entry_below (subst (λ i. w.between i ≡ s i) h.number stay))
+
+  pub right_entry_taken : (s u : Store T S) (n : ℕ) (v : Stored T S) (side : ℕ) (x : T) → HasKeyBelow key unit op of s n x → s n ≡ Some v →
+      right_number (s n) ≡ Some side → key v.entry < key x → IsRightTaken key unit op of s u n side x → entry_below (u n) ≡ entry_below (s n)
+  right_entry_taken s u n v side x h e d lt w =
+      let k = h.link in
+      let o = opened_at key unit op of laws s n k v h.number h.there.held e in
+      let m = right_child key unit op of laws s n k v side e d in
+      let has = key_right key unit op of laws s k v x h.there o lt in
+      let got = w.taken m.child m.number (subst (λ l. HasKey key unit op of s l x) m.is has) in
+      let tree = subst (λ l. IsWithout key unit op of s w.between l (without_key key (key x) (entries (tree_at s l))) side w.rest) (sym m.is) got.0 in
+      let stay : w.between k.number ≡ s k.number = tree.kept k.number (let i = o.once k.number in
+      let j = is_same key unit op of laws k.number in omega arith) in
+      let put : u n ≡ right_put w.rest (w.between n) = ap (λ (q : Store T S). q n) w.told ∙ with_at_same key unit op of laws n _ w.between in
+      ap entry_below put ∙ (right_entry_put w.rest (w.between n) ∙ ap entry_below (subst (λ i. w.between i ≡ s i) h.number stay))
+
+  -- the neighbours on the left
+  join_left_for : (s : Store T S) (k : Link S) (v : Stored T S) (x y z : T) → IsJoinFor key unit op of s (Some k) x y z → IsOpened key unit op of s k v →
+      key y < key v.entry → IsJoinFor key unit op of s v.left x y z
+  join_left_for s k v x y z h o lt =
       let a = entries (tree_at s v.left) in
       let b = entries (tree_at s v.right) in
       let next : NoneWithin key (key x) (key y) (a ++ v.entry ∷ b) = rw o.tree at h.next in
@@ -117,7 +194,66 @@ module _ {T S : Type 0} (key : T → ℕ) (unit : S) (op : S → S → S) (of : 
         next = AllOf-front (λ w. (key w ≤ key x) ⊎ (key y ≤ key w)) a (v.entry ∷ b) next;
         same = h.same;
       }
-  join_side Right s k v x y z h o lt =
+
+  join_left_is : (s : Store T S) (k : Link S) (v : Stored T S) (x y z : T) → IsJoinFor key unit op of s (Some k) x y z → IsOpened key unit op of s k v →
+      key y < key v.entry → with_joined key x y z (entries (tree_at s v.left)) ++ v.entry ∷ entries (tree_at s v.right) ≡ with_joined key x y z
+      (entries (tree_at s (Some k)))
+  join_left_is s k v x y z h o lt =
+      let a = entries (tree_at s v.left) in
+      let b = entries (tree_at s v.right) in
+      let up : IsRising key (a ++ v.entry ∷ b) = rw o.tree at h.has.rising in
+      sym (joined_left key x y z v.entry a b up h.after h.same lt) ∙ rw o.tree refl
+
+  pub join_left_step : (s t : Store T S) (n out : ℕ) (k : Link S) (v : Stored T S) (side : ℕ) (x y z : T) (c : Bool) → k.number ≡ n →
+      IsJoinFor key unit op of s (Some k) x y z → s n ≡ Some v → left_number (s n) ≡ Some side → key y < key v.entry →
+      IsJoinedBelow key unit op of s t side x y z out c → IsLeftStep key unit op of laws s t k v side c (with_joined key x y z (entries (tree_at s v.left)))
+      (λ j. count j (tree_at s v.left)) (is out) 1 0
+  join_left_step s t n out k v side x y z c p h e d lt below =
+      let o = opened_at key unit op of laws s n k v p h.has.held e in
+      let m = left_child key unit op of laws s n k v side e d in
+      let for = join_left_for s k v x y z h o lt in
+      record {
+        child = m;
+        opened = o;
+        changed = subst (λ l. IsChanged key unit op of s t m.child c (with_joined key x y z (entries (tree_at s l))) (λ j. count j (tree_at s l)) (is out) 1 0)
+            (sym m.is) (below m.child m.number (subst (λ l. IsJoinFor key unit op of s l x y z) m.is for));
+        once = o.once;
+        few = omega arith;
+      }
+
+  pub join_left_same : (s t : Store T S) (n out : ℕ) (v : Stored T S) (side : ℕ) (x y z : T) (c : Bool) → s n ≡ Some v → left_number (s n) ≡ Some side →
+      key y < key v.entry → IsJoinedBelow key unit op of s t side x y z out c → c ≡ false → IsJoinedBelow key unit op of s t n x y z out false
+  join_left_same s t n out v side x y z c e d lt below same k p h =
+      let st = join_left_step s t n out k v side x y z c p h e d lt below in
+      rechanged key unit op of laws s t k false _ _ _ _ (is out) 1 0 (left_unchanged key unit op of laws s t k v side c _ _ (is out) 1 0 st same)
+      (join_left_is s k v x y z h st.opened lt) (λ j. rw st.opened.tree refl)
+
+  pub join_left_settled : (s t u : Store T S) (n out : ℕ) (v : Stored T S) (side : ℕ) (x y z : T) (c b : Bool) → s n ≡ Some v → left_number (s n) ≡ Some side →
+      key y < key v.entry → IsJoinedBelow key unit op of s t side x y z out c → IsLeftSettled key unit op of t u n side b →
+      IsJoinedBelow key unit op of s u n x y z out b
+  join_left_settled s t u n out v side x y z c b e d lt below set k p h =
+      let st = join_left_step s t n out k v side x y z c p h e d lt below in
+      rechanged key unit op of laws s u k b _ _ _ _ (is out) 1 0 (left_changed key unit op of laws s t u n k v side c b _ _ (is out) 1 0 st p set)
+      (join_left_is s k v x y z h st.opened lt) (λ j. rw st.opened.tree refl)
+
+  pub join_left_below : (s : Store T S) (n : ℕ) (v : Stored T S) (side : ℕ) (x y z : T) → IsJoinBelowFor key unit op of s n x y z → s n ≡ Some v →
+      left_number (s n) ≡ Some side → key y < key v.entry → IsJoinBelowFor key unit op of s side x y z
+  join_left_below s n v side x y z b e d lt =
+      let o = opened_at key unit op of laws s n b.link v b.number b.join.has.held e in
+      let m = left_child key unit op of laws s n b.link v side e d in
+      let h : height_of v.left ≡ m.child.height = ap height_of m.is in
+      let low = b.low in let g = o.height in
+      record {
+        link = m.child;
+        number = m.number;
+        join = subst (λ l. IsJoinFor key unit op of s l x y z) m.is (join_left_for s b.link v x y z b.join o lt);
+        low = omega arith;
+      }
+
+  -- the neighbours on the right
+  join_right_for : (s : Store T S) (k : Link S) (v : Stored T S) (x y z : T) → IsJoinFor key unit op of s (Some k) x y z → IsOpened key unit op of s k v →
+      key v.entry < key x → IsJoinFor key unit op of s v.right x y z
+  join_right_for s k v x y z h o lt =
       let a = entries (tree_at s v.left) in
       let b = entries (tree_at s v.right) in
       let next : NoneWithin key (key x) (key y) (a ++ v.entry ∷ b) = rw o.tree at h.next in
@@ -130,49 +266,60 @@ module _ {T S : Type 0} (key : T → ℕ) (unit : S) (op : S → S → S) (of : 
         same = h.same;
       }
 
-  join_is : (side : Side) (s : Store T S) (k : Link S) (v : Stored T S) (x y z : T) → IsJoinFor key unit op of s (Some k) x y z →
-      IsOpened key unit op of s k v → AreOn key side x y v.entry →
-      in_order side (with_joined key x y z (entries_at s (on_side side v))) v.entry (entries_at s (on_other side v)) ≡ with_joined key x y z
-      (entries_at s (Some k))
-  join_is Left s k v x y z h o lt =
-      let a = entries (tree_at s v.left) in
-      let b = entries (tree_at s v.right) in
-      let up : IsRising key (a ++ v.entry ∷ b) = rw o.tree at h.has.rising in
-      sym (joined_left key x y z v.entry a b up h.after h.same lt) ∙ rw o.tree refl
-  join_is Right s k v x y z h o lt =
+  join_right_is : (s : Store T S) (k : Link S) (v : Stored T S) (x y z : T) → IsJoinFor key unit op of s (Some k) x y z → IsOpened key unit op of s k v →
+      key v.entry < key x → entries (tree_at s v.left) ++ v.entry ∷ with_joined key x y z (entries (tree_at s v.right)) ≡ with_joined key x y z
+      (entries (tree_at s (Some k)))
+  join_right_is s k v x y z h o lt =
       let a = entries (tree_at s v.left) in
       let b = entries (tree_at s v.right) in
       let up : IsRising key (a ++ v.entry ∷ b) = rw o.tree at h.has.rising in
       sym (joined_right key x y z v.entry a b up h.after h.same lt) ∙ rw o.tree refl
 
-  pub join_down : (side : Side) (s : Store T S) (n : ℕ) (v : Stored T S) (x y z : T) → s n ≡ Some v → AreOn key side x y v.entry → (k : Link S) →
-      k.number ≡ n → IsJoinFor key unit op of s (Some k) x y z →
-      GoesDown key unit op of laws (λ l. IsJoinFor key unit op of s l x y z) (with_joined key x y z) (λ f. f) side s k v
-  join_down side s n v x y z e on k p h = let o = opened_at key unit op of laws s n k v p h.has.held e in record {
-    opened = o;
-    asked = join_side side s k v x y z h o on;
-    entries = join_is side s k v x y z h o on;
-    count = same_count key unit op of laws side s k v o;
-    once = once_at key unit op of laws s k v o;
-  }
+  pub join_right_step : (s t : Store T S) (n out : ℕ) (k : Link S) (v : Stored T S) (side : ℕ) (x y z : T) (c : Bool) → k.number ≡ n →
+      IsJoinFor key unit op of s (Some k) x y z → s n ≡ Some v → right_number (s n) ≡ Some side → key v.entry < key x →
+      IsJoinedBelow key unit op of s t side x y z out c → IsRightStep key unit op of laws s t k v side c (with_joined key x y z (entries (tree_at s v.right)))
+      (λ j. count j (tree_at s v.right)) (is out) 1 0
+  join_right_step s t n out k v side x y z c p h e d lt below =
+      let o = opened_at key unit op of laws s n k v p h.has.held e in
+      let m = right_child key unit op of laws s n k v side e d in
+      let for = join_right_for s k v x y z h o lt in
+      record {
+        child = m;
+        opened = o;
+        changed = subst (λ l. IsChanged key unit op of s t m.child c (with_joined key x y z (entries (tree_at s l))) (λ j. count j (tree_at s l)) (is out) 1 0)
+            (sym m.is) (below m.child m.number (subst (λ l. IsJoinFor key unit op of s l x y z) m.is for));
+        once = o.once;
+        few = omega arith;
+      }
 
-  pub join_further : (side : Side) (s : Store T S) (n below : ℕ) (x y z : T) → IsJoinBelowFor key unit op of s n x y z → child_number side (s n) ≡ Some below →
-      IsBeside key unit op of s n x y (Some side) → IsFurther key unit op of laws (λ l. IsJoinFor key unit op of s l x y z) s n below
-  join_further side s n below x y z b d on = let w = node_at key unit op of laws s n b.link b.number b.asked.has.held in
-      further key unit op of laws (λ l. IsJoinFor key unit op of s l x y z) (with_joined key x y z) (λ f. f) none 1 0 side s n w.node below w.stored d
-      (join_down side s n w.node x y z w.stored (on w.node w.stored)) b
+  pub join_right_same : (s t : Store T S) (n out : ℕ) (v : Stored T S) (side : ℕ) (x y z : T) (c : Bool) → s n ≡ Some v → right_number (s n) ≡ Some side →
+      key v.entry < key x → IsJoinedBelow key unit op of s t side x y z out c → c ≡ false → IsJoinedBelow key unit op of s t n x y z out false
+  join_right_same s t n out v side x y z c e d lt below same k p h =
+      let st = join_right_step s t n out k v side x y z c p h e d lt below in
+      rechanged key unit op of laws s t k false _ _ _ _ (is out) 1 0 (right_unchanged key unit op of laws s t k v side c _ _ (is out) 1 0 st same)
+      (join_right_is s k v x y z h st.opened lt) (λ j. rw st.opened.tree refl)
 
-  pub join_step : (side : Side) (s t : Store T S) (n below : ℕ) (x y z : T) (out : ℕ) (c : Bool) → IsJoinBelowFor key unit op of s n x y z → child_number side (s n) ≡ Some below →
-      IsBeside key unit op of s n x y (Some side) → IsJoinedBelow key unit op of s t below x y z out c →
-      IsStepped key unit op of laws (λ l. IsJoinFor key unit op of s l x y z) (with_joined key x y z) (λ f. f) (is out) 1 0 side s t n below c
-  join_step side s t n below x y z out c b d on done = let w = node_at key unit op of laws s n b.link b.number b.asked.has.held in
-      step key unit op of laws (λ l. IsJoinFor key unit op of s l x y z) (with_joined key x y z) (λ f. f) (is out) 1 0 side s t n w.node below c (omega arith) w.stored d
-      (join_down side s n w.node x y z w.stored (on w.node w.stored)) b done
+  pub join_right_settled : (s t u : Store T S) (n out : ℕ) (v : Stored T S) (side : ℕ) (x y z : T) (c b : Bool) → s n ≡ Some v →
+      right_number (s n) ≡ Some side → key v.entry < key x → IsJoinedBelow key unit op of s t side x y z out c → IsRightSettled key unit op of t u n side b →
+      IsJoinedBelow key unit op of s u n x y z out b
+  join_right_settled s t u n out v side x y z c b e d lt below set k p h =
+      let st = join_right_step s t n out k v side x y z c p h e d lt below in
+      rechanged key unit op of laws s u k b _ _ _ _ (is out) 1 0 (right_changed key unit op of laws s t u n k v side c b _ _ (is out) 1 0 st p set)
+      (join_right_is s k v x y z h st.opened lt) (λ j. rw st.opened.tree refl)
 
-  pub join_never : (side : Side) (s : Store T S) (n : ℕ) (x y z : T) → IsJoinBelowFor key unit op of s n x y z → child_number side (s n) ≡ None → IsBeside key unit op of s n x y (Some side) → ⊥
-  join_never side s n x y z b d on = let w = node_at key unit op of laws s n b.link b.number b.asked.has.held in
-      never key unit op of laws (λ l. IsJoinFor key unit op of s l x y z) (with_joined key x y z) (λ f. f) none 1 0 side s n w.node w.stored d
-      (join_down side s n w.node x y z w.stored (on w.node w.stored)) b (λ h. no_key key unit op of laws s x h.has)
+  pub join_right_below : (s : Store T S) (n : ℕ) (v : Stored T S) (side : ℕ) (x y z : T) → IsJoinBelowFor key unit op of s n x y z → s n ≡ Some v →
+      right_number (s n) ≡ Some side → key v.entry < key x → IsJoinBelowFor key unit op of s side x y z
+  join_right_below s n v side x y z b e d lt =
+      let o = opened_at key unit op of laws s n b.link v b.number b.join.has.held e in
+      let m = right_child key unit op of laws s n b.link v side e d in
+      let h : height_of v.right ≡ m.child.height = ap height_of m.is in
+      let low = b.low in let g = o.height in
+      record {
+        link = m.child;
+        number = m.number;
+        join = subst (λ l. IsJoinFor key unit op of s l x y z) m.is (join_right_for s b.link v x y z b.join o lt);
+        low = omega arith;
+      }
 
   -- the root is one of the two, and the other goes
   put_at_root : (s t u : Store T S) (n out : ℕ) (k : Link S) (v : Stored T S) (x y z : T) (c : Bool) (xs : List T) → k.number ≡ n → s n ≡ Some v →
@@ -218,10 +365,10 @@ module _ {T S : Type 0} (key : T → ℕ) (unit : S) (op : S → S → S) (of : 
 
   -- what is asked where the root is one of the two
   pub join_lower_has : (s : Store T S) (n : ℕ) (x y z : T) → IsJoinBelowFor key unit op of s n x y z → HasKeyBelow key unit op of s n x
-  join_lower_has s n x y z b = record { link = b.link; number = b.number; asked = b.asked.has; low = b.low }
+  join_lower_has s n x y z b = record { link = b.link; number = b.number; there = b.join.has; low = b.low }
 
   pub join_upper_has : (s : Store T S) (n : ℕ) (x y z : T) → IsJoinBelowFor key unit op of s n x y z → HasKeyBelow key unit op of s n y
-  join_upper_has s n x y z b = record { link = b.link; number = b.number; asked = b.asked.too; low = b.low }
+  join_upper_has s n x y z b = record { link = b.link; number = b.number; there = b.join.too; low = b.low }
 
   pub not_at_lower : (s : Store T S) (n : ℕ) (v : Stored T S) (x : T) → s n ≡ Some v → key x < key v.entry → IsAt key unit op of s n x false
   not_at_lower s n v x e lt w f = let d : Some v ≡ Some w = sym e ∙ f in let same : v ≡ w = cc in (
@@ -236,3 +383,8 @@ module _ {T S : Type 0} (key : T → ℕ) (unit : S) (op : S → S → S) (of : 
     λ _ q. let lt' : key w.entry < key y = subst (λ (i : Stored T S). key i.entry < key y) same lt in
         absurd (omega arith),
   )
+
+  pub between_here : (s : Store T S) (n : ℕ) (v : Stored T S) (x y : T) → s n ≡ Some v → key x ≤ key v.entry → key v.entry ≤ key y →
+      IsBetween key unit op of s n x y
+  between_here s n v x y e a b w f = let d : Some v ≡ Some w = sym e ∙ f in let same : v ≡ w = cc in
+      (subst (λ (i : Stored T S). key x ≤ key i.entry) same a, subst (λ (i : Stored T S). key i.entry ≤ key y) same b)

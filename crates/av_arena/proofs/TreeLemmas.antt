@@ -3,7 +3,7 @@
 use Rattle.std.proofs.Common.{append_assoc, append-nil, ◌≡◌, ℕ, zero, suc, ◌+◌, ◌<◌, ◌≤◌, max, ◌⊎◌, inl, inr, Bool, true, false, cond, eqb, IsSome, Option, Some, None, List, [], ◌∷◌, ◌++◌, refl, sym, ap, ◌∙◌, subst, arith}
 use Rattle.std.proofs.Math.Path.{fun_ext}
 use Rattle.std.proofs.lemmas.Bool.{cases_lt, eqb-true, eq-eqb, ne_eqb}
-use Rattle.av_arena.specs.Arena.{side_put}
+use Rattle.av_arena.specs.Arena.{left_put}
 use Rattle.av_arena.specs.Tree.{DifferByAtMost, Tree, Leaf, Fork, entries, height, is, count, IsLevel, link_of, Store, height_of, sum_of, tree_or_leaf, levels, tree_at, IsStored, IsHeld, IsOpened, IsSet, IsSpot, IsTree, IsJoined, IsPlaceFor, IsPlaced, HasKey, IsRoot, IsWithout, IsPopped}
 use Rattle.av_base.specs.Words.{with_at}
 use Rattle.av_arena.specs.Monoid.{MonoidLaws, total}
@@ -11,7 +11,6 @@ use Rattle.av_arena.specs.Order.{IsRising, without_key, entry_at}
 use Rattle.av_arena.proofs.Order.{rising_front, rising_back, at_left, at_right, without_middle}
 use Rattle.av_arena.proofs.Monoid.{total-append}
 use Rattle.av_arena.specs.declared.link.Link.{Link}
-use Rattle.av_arena.specs.declared.link.Side.TheVariants.{Left}
 use Rattle.av_arena.specs.declared.link.Stored.{Stored}
 
 module _ {T S : Type 0} (key : T → ℕ) (unit : S) (op : S → S → S) (of : T → S) (laws : MonoidLaws unit op) where
@@ -231,13 +230,13 @@ module _ {T S : Type 0} (key : T → ℕ) (unit : S) (op : S → S → S) (of : 
 
   -- a side as high as the one before is put in its place
   pub left_set : (s s' : Store T S) (k : Link S) (own left : Option (Link S)) (x : T) (right : Option (Link S)) (sum : S) →
-      IsRoot key unit op of s k own x right → IsSpot key unit op of s k.number left right → s' ≡ with_at k.number (side_put Left left (s k.number)) s →
+      IsRoot key unit op of s k own x right → IsSpot key unit op of s k.number left right → s' ≡ with_at k.number (left_put left (s k.number)) s →
       height_of own ≡ height_of left → sum ≡ op (sum_of unit left) (op (of x) (sum_of unit right)) →
       IsJoined key unit op of s s' k.number left x right (record { number = k.number; height = k.height; sum = sum })
   left_set s s' k own left x right sum root spot e h p =
       let high : k.height ≡ max (height_of left) (height_of right) + 1 = rw h at (root_height s k own x right root) in
       joined_once s s' k.number left x right _ spot (record {
-        store = e ∙ ap (λ o. with_at k.number (side_put Left left o) s) root.stored;
+        store = e ∙ ap (λ o. with_at k.number (left_put left o) s) root.stored;
         link = rw (high, p) refl;
       }) (rw h at root.level)
 

@@ -4,32 +4,21 @@ use Rattle.av_arena.specs.Tree.{Store}
 use Rattle.std.specs.Prelude.{Option, Some, None}
 use Rattle.av_arena.specs.declared.arena.Arena.{Arena}
 use Rattle.av_arena.specs.declared.link.Link.{Link}
-use Rattle.av_arena.specs.declared.link.Side.{Side}
-use Rattle.av_arena.specs.declared.link.Side.TheVariants.{Left, Right}
 use Rattle.av_arena.specs.declared.link.Stored.{Stored}
 
 -- the node under each number
 abbrev pub store_of : {T S : Type 0} → Arena T S → Store T S
 store_of a = get a.slab
 
--- the tree on a side of a node, and the one on its other side
-abbrev pub on_side : {T S : Type 0} → Side → Stored T S → Option (Link S)
-on_side Left v = v.left
-on_side Right v = v.right
+-- a node with another left side
+abbrev pub left_put : {T S : Type 0} → Option (Link S) → Option (Stored T S) → Option (Stored T S)
+left_put left None = None
+left_put left (Some v) = Some (record v { left = left })
 
-abbrev pub on_other : {T S : Type 0} → Side → Stored T S → Option (Link S)
-on_other Left v = v.right
-on_other Right v = v.left
-
--- a node with another tree on a side
-abbrev pub with_side : {T S : Type 0} → Side → Option (Link S) → Stored T S → Stored T S
-with_side Left link v = record v { left = link }
-with_side Right link v = record v { right = link }
-
-abbrev pub side_put : {T S : Type 0} → Side → Option (Link S) → Option (Stored T S) →
-    Option (Stored T S)
-side_put side link None = None
-side_put side link (Some v) = Some (with_side side link v)
+-- a node with another right side
+abbrev pub right_put : {T S : Type 0} → Option (Link S) → Option (Stored T S) → Option (Stored T S)
+right_put right None = None
+right_put right (Some v) = Some (record v { right = right })
 
 -- a node with another entry
 abbrev pub entry_put : {T S : Type 0} → T → Option (Stored T S) → Option (Stored T S)

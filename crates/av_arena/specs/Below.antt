@@ -1,30 +1,11 @@
 -- What a change of the tree below a node leaves there, before the node's own link is told anew.
 use Rattle.std.specs.Prelude.{◌≡◌, ℕ, ◌+◌, ◌^◌, ◌<◌, ◌≤◌, max, None, Bool, true, false, IsSome, Option, Some, List, ◌∷◌, ◌++◌}
 use Rattle.av_base.specs.Words.{with_at}
-use Rattle.av_arena.specs.Arena.{on_side, side_put}
+use Rattle.av_arena.specs.Arena.{left_put, right_put}
 use Rattle.av_arena.specs.Order.{NoneBetween, NoneWithin, with_entry, with_joined, with_two, without_key}
 use Rattle.av_arena.specs.declared.link.Link.{Link}
-use Rattle.av_arena.specs.declared.link.Side.{Side}
-use Rattle.av_arena.specs.declared.link.Side.TheVariants.{Left, Right}
 use Rattle.av_arena.specs.declared.link.Stored.{Stored}
 use Rattle.av_arena.specs.Tree.{DifferByAtMost, IsHeightAfter, HasKey, IsJoined, IsPlaceFor, IsRoot, IsSet, IsSpot, IsTree, IsWithout, Store, count_at, entries_at, height_of, is, none, sum_of}
-
--- the entries of a side, the node's own and those of the other side
-abbrev pub in_order : {T : Type 0} → Side → List T → T → List T → List T
-in_order Left xs x ys = xs ++ x ∷ ys
-in_order Right xs x ys = ys ++ x ∷ xs
-
--- the keys from that of x to that of y belong on this side of the entry w
-abbrev pub AreOn : {T : Type 0} → (T → ℕ) → Side → T → T → T → Type 0
-AreOn key Left x y w = key y < key w
-AreOn key Right x y w = key w < key x
-
--- a tree with the root n that meets what is asked
-pub record IsAskedBelow {S : Type 0} (Asked : Option (Link S) → Type 0) (n : ℕ) : Type 0 where
-  pub link : Link S
-  pub number : link.number ≡ n
-  pub asked : Asked (Some link)
-  pub low : link.height < 2 ^ 61
 
 module _ {T S : Type 0} (key : T → ℕ) (unit : S) (op : S → S → S) (of : T → S) where
   -- the node n above its sides, which differ by so many levels at most
@@ -58,21 +39,35 @@ module _ {T S : Type 0} (key : T → ℕ) (unit : S) (op : S → S → S) (of : 
       IsJoined key unit op of old new n v.left v.entry v.right k ×
       IsHeightAfter (height_of v.left) (height_of v.right) k.height
 
-  -- a side, whose root is `child`, is settled, and told to the node n
-  pub record IsSideSettled (side : Side) (old new : Store T S) (n child : ℕ) (changed : Bool)
-      : Type 0 where
+  -- a side is settled, and told to the node n
+  pub record IsSideSettled (put : Option (Link S) → Option (Stored T S) → Option (Stored T S))
+      (of_side : Stored T S → Option (Link S)) (old new : Store T S) (n side : ℕ)
+      (changed : Bool) : Type 0 where
     pub link : Link S
     pub between : Store T S
-    pub settled : IsSettled old between child link
-    pub told : new ≡ with_at n (side_put side (Some link) (between n)) between
-    pub stays : changed ≡ false → (v : Stored T S) → between n ≡ Some v → on_side side v ≡ Some link
+    pub settled : IsSettled old between side link
+    pub told : new ≡ with_at n (put (Some link) (between n)) between
+    pub stays : changed ≡ false → (v : Stored T S) → between n ≡ Some v → of_side v ≡ Some link
+
+  abbrev pub IsLeftSettled : Store T S → Store T S → ℕ → ℕ → Bool → Type 0
+  IsLeftSettled = IsSideSettled left_put (λ v. v.left)
+
+  abbrev pub IsRightSettled : Store T S → Store T S → ℕ → ℕ → Bool → Type 0
+  IsRightSettled = IsSideSettled right_put (λ v. v.right)
 
   -- the node m for the entry x is told to the node n, as a side that it has not had
-  pub record IsHung (side : Side) (old new : Store T S) (n m : ℕ) (x : T) : Type 0 where
+  pub record IsHung (put : Option (Link S) → Option (Stored T S) → Option (Stored T S))
+      (old new : Store T S) (n m : ℕ) (x : T) : Type 0 where
     pub link : Link S
     pub between : Store T S
     pub set : IsSet key unit op of old between m None x None link
-    pub told : new ≡ with_at n (side_put side (Some link) (between n)) between
+    pub told : new ≡ with_at n (put (Some link) (between n)) between
+
+  abbrev pub IsHungLeft : Store T S → Store T S → ℕ → ℕ → T → Type 0
+  IsHungLeft = IsHung left_put
+
+  abbrev pub IsHungRight : Store T S → Store T S → ℕ → ℕ → T → Type 0
+  IsHungRight = IsHung right_put
 
   -- the node n above its sides, as it is stored, with these entries and numbers in all
   pub record IsAbove (old new : Store T S) (n : ℕ) (v : Stored T S) (xs : List T)
@@ -97,33 +92,34 @@ module _ {T S : Type 0} (key : T → ℕ) (unit : S) (op : S → S → S) (of : 
         (k.height ≤ h + lower) × (h ≤ k.height + higher)
     pub stays : changed ≡ false → IsRoot key unit op of new k node.left node.entry node.right
 
-  -- a tree that meets what is asked, with the root n, becomes one of these entries and numbers
-  abbrev pub IsDoneBelow : (Option (Link S) → Type 0) → (List T → List T) → ((ℕ → ℕ) → ℕ → ℕ) →
-      (ℕ → ℕ) → ℕ → ℕ → Store T S → Store T S → ℕ → Bool → Type 0
-  IsDoneBelow Asked list numbers gone lower higher old new n changed =
-      (k : Link S) → k.number ≡ n → Asked (Some k) →
-      IsChanged old new k changed (list (entries_at old (Some k)))
-      (numbers (count_at old (Some k))) gone lower higher
-
   -- a tree with the root n, and a number and an entry that are new to it
-  abbrev pub IsPlaceBelow : Store T S → ℕ → ℕ → T → Type 0
-  IsPlaceBelow s n m x = IsAskedBelow (λ k. IsPlaceFor key unit op of s k m x) n
+  pub record IsPlaceBelow (s : Store T S) (n new : ℕ) (x : T) : Type 0 where
+    pub link : Link S
+    pub number : link.number ≡ n
+    pub place : IsPlaceFor key unit op of s (Some link) new x
+    pub low : link.height < 2 ^ 61
 
   -- the entry is put into the tree with the root n, under the number m
   abbrev pub IsPlacedBelow : Store T S → Store T S → ℕ → ℕ → T → Bool → Type 0
-  IsPlacedBelow old new n m x =
-      IsDoneBelow (λ k. IsPlaceFor key unit op of old k m x) (with_entry key x)
-      (λ f j. is m j + f j) none 0 1 old new n
+  IsPlacedBelow old new n m x changed =
+      (k : Link S) → k.number ≡ n → IsPlaceFor key unit op of old (Some k) m x →
+      IsChanged old new k changed (with_entry key x (entries_at old (Some k)))
+      (λ j. is m j + count_at old (Some k) j) none 0 1
 
   -- a tree with the root n that has the key
-  abbrev pub HasKeyBelow : Store T S → ℕ → T → Type 0
-  HasKeyBelow s n x = IsAskedBelow (λ k. HasKey key unit op of s k x) n
+  pub record HasKeyBelow (s : Store T S) (n : ℕ) (x : T) : Type 0 where
+    pub link : Link S
+    pub number : link.number ≡ n
+    pub there : HasKey key unit op of s (Some link) x
+    pub low : link.height < 2 ^ 61
 
   -- the entry takes the place of the one with its key in the tree with the root n
   abbrev pub IsReplacedBelow : Store T S → Store T S → ℕ → T → Bool → Type 0
-  IsReplacedBelow old new n x =
-      IsDoneBelow (λ k. HasKey key unit op of old k x)
-      (λ xs. with_entry key x (without_key key (key x) xs)) (λ f. f) none 0 0 old new n
+  IsReplacedBelow old new n x changed =
+      (k : Link S) → k.number ≡ n → HasKey key unit op of old (Some k) x →
+      IsChanged old new k changed
+      (with_entry key x (without_key key (key x) (entries_at old (Some k))))
+      (count_at old (Some k)) none 0 0
 
   -- whether the node n has the key
   abbrev pub IsAt : Store T S → ℕ → T → Bool → Type 0
@@ -139,18 +135,26 @@ module _ {T S : Type 0} (key : T → ℕ) (unit : S) (op : S → S → S) (of : 
       (without_key key (key x) (entries_at old (Some k))) n rest ×
       ((height_of rest ≤ k.height) × (k.height ≤ height_of rest + 1))
 
-  -- the root of a side, `child`, is taken out of its tree, and the node n told what is left
-  pub record IsSideTaken (side : Side) (old new : Store T S) (n child : ℕ) (x : T) : Type 0 where
+  -- the side is taken out of its tree, and the node n told what is left
+  pub record IsSideTaken (put : Option (Link S) → Option (Stored T S) → Option (Stored T S))
+      (old new : Store T S) (n side : ℕ) (x : T) : Type 0 where
     pub rest : Option (Link S)
     pub between : Store T S
-    pub taken : IsTaken old between child x rest
-    pub told : new ≡ with_at n (side_put side rest (between n)) between
+    pub taken : IsTaken old between side x rest
+    pub told : new ≡ with_at n (put rest (between n)) between
+
+  abbrev pub IsLeftTaken : Store T S → Store T S → ℕ → ℕ → T → Type 0
+  IsLeftTaken = IsSideTaken left_put
+
+  abbrev pub IsRightTaken : Store T S → Store T S → ℕ → ℕ → T → Type 0
+  IsRightTaken = IsSideTaken right_put
 
   -- the node `out`, which has the key, is taken out of the tree with the root n
   abbrev pub IsRemovedBelow : Store T S → Store T S → ℕ → T → ℕ → Bool → Type 0
-  IsRemovedBelow old new n x out =
-      IsDoneBelow (λ k. HasKey key unit op of old k x) (without_key key (key x)) (λ f. f) (is out)
-      1 0 old new n
+  IsRemovedBelow old new n x out changed =
+      (k : Link S) → k.number ≡ n → HasKey key unit op of old (Some k) x →
+      IsChanged old new k changed (without_key key (key x) (entries_at old (Some k)))
+      (count_at old (Some k)) (is out) 1 0
 
   -- a tree that has the key of x, and a number and an entry y that are new to it, where y comes
   -- right after x
@@ -162,8 +166,11 @@ module _ {T S : Type 0} (key : T → ℕ) (unit : S) (op : S → S → S) (of : 
     pub next : NoneBetween key (key x) (key y) (entries_at s k)
 
   -- the same of the tree with the root n
-  abbrev pub IsSplitBelowFor : Store T S → ℕ → ℕ → T → T → Type 0
-  IsSplitBelowFor s n m x y = IsAskedBelow (λ k. IsSplitFor s k m x y) n
+  pub record IsSplitBelowFor (s : Store T S) (n m : ℕ) (x y : T) : Type 0 where
+    pub link : Link S
+    pub number : link.number ≡ n
+    pub split : IsSplitFor s (Some link) m x y
+    pub low : link.height < 2 ^ 61
 
   -- the tree with x in the node of the entry with its key, and the node m for y
   abbrev pub IsSplit : Store T S → Store T S → Option (Link S) → ℕ → T → T → Link S → Type 0
@@ -173,9 +180,10 @@ module _ {T S : Type 0} (key : T → ℕ) (unit : S) (op : S → S → S) (of : 
 
   -- the same below the root n
   abbrev pub IsSplitBelow : Store T S → Store T S → ℕ → ℕ → T → T → Bool → Type 0
-  IsSplitBelow old new n m x y =
-      IsDoneBelow (λ k. IsSplitFor old k m x y) (with_two key x y) (λ f j. is m j + f j) none 0 1
-      old new n
+  IsSplitBelow old new n m x y changed =
+      (k : Link S) → k.number ≡ n → IsSplitFor old (Some k) m x y →
+      IsChanged old new k changed (with_two key x y (entries_at old (Some k)))
+      (λ j. is m j + count_at old (Some k) j) none 0 1
 
   -- a tree that has the keys of two neighbours, x and y, and an entry z with the key of the first
   pub record IsJoinFor (s : Store T S) (k : Option (Link S)) (x y z : T) : Type 0 where
@@ -186,23 +194,16 @@ module _ {T S : Type 0} (key : T → ℕ) (unit : S) (op : S → S → S) (of : 
     pub same : key z ≡ key x
 
   -- the same of the tree with the root n
-  abbrev pub IsJoinBelowFor : Store T S → ℕ → T → T → T → Type 0
-  IsJoinBelowFor s n x y z = IsAskedBelow (λ k. IsJoinFor s k x y z) n
+  pub record IsJoinBelowFor (s : Store T S) (n : ℕ) (x y z : T) : Type 0 where
+    pub link : Link S
+    pub number : link.number ≡ n
+    pub join : IsJoinFor s (Some link) x y z
+    pub low : link.height < 2 ^ 61
 
   -- the node n lies neither before x nor after y
   abbrev pub IsBetween : Store T S → ℕ → T → T → Type 0
   IsBetween s n x y =
       (v : Stored T S) → s n ≡ Some v → (key x ≤ key v.entry) × (key v.entry ≤ key y)
-
-  -- the keys from that of x to that of y belong on this side of the node n, or the node is between
-  abbrev pub IsBeside : Store T S → ℕ → T → T → Option Side → Type 0
-  IsBeside s n x y None = IsBetween s n x y
-  IsBeside s n x y (Some side) = (v : Stored T S) → s n ≡ Some v → AreOn key side x y v.entry
-
-  -- the key of x belongs on this side of the node n, unless the node has it
-  abbrev pub IsSideFor : Store T S → ℕ → T → Side → Type 0
-  IsSideFor s n x Left = (v : Stored T S) → s n ≡ Some v → key x < key v.entry
-  IsSideFor s n x Right = (v : Stored T S) → s n ≡ Some v → key v.entry ≤ key x
 
   -- the tree with z in the place of the entries with the keys of x and y, without the node `out`
   abbrev pub IsJoinedAt : Store T S → Store T S → Option (Link S) → T → T → T → ℕ → Link S → Type 0
@@ -212,9 +213,10 @@ module _ {T S : Type 0} (key : T → ℕ) (unit : S) (op : S → S → S) (of : 
 
   -- the same below the root n
   abbrev pub IsJoinedBelow : Store T S → Store T S → ℕ → T → T → T → ℕ → Bool → Type 0
-  IsJoinedBelow old new n x y z out =
-      IsDoneBelow (λ k. IsJoinFor old k x y z) (with_joined key x y z) (λ f. f) (is out) 1 0
-      old new n
+  IsJoinedBelow old new n x y z out changed =
+      (k : Link S) → k.number ≡ n → IsJoinFor old (Some k) x y z →
+      IsChanged old new k changed (with_joined key x y z (entries_at old (Some k)))
+      (count_at old (Some k)) (is out) 1 0
 
 -- the height of the tree with the root n
 abbrev pub height_below : {T S : Type 0} → Option (Stored T S) → ℕ
@@ -226,16 +228,14 @@ abbrev pub number_of : {S : Type 0} → Option (Link S) → Option ℕ
 number_of None = None
 number_of (Some k) = Some k.number
 
--- the number of the node at the root of a side
-abbrev pub child_number : {T S : Type 0} → Side → Option (Stored T S) → Option ℕ
-child_number side None = None
-child_number side (Some v) = number_of (on_side side v)
+-- the numbers of the sides of a node
+abbrev pub left_number : {T S : Type 0} → Option (Stored T S) → Option ℕ
+left_number None = None
+left_number (Some v) = number_of v.left
 
--- whether the node n tells this link on a side
-abbrev pub TellsSide : {T S : Type 0} → Store T S → ℕ → Side → Link S → Bool → Type 0
-TellsSide {T = T} {S = S} s n side k b =
-    (v : Stored T S) → s n ≡ Some v →
-    (b ≡ true → on_side side v ≡ Some k) × (on_side side v ≡ Some k → b ≡ true)
+abbrev pub right_number : {T S : Type 0} → Option (Stored T S) → Option ℕ
+right_number None = None
+right_number (Some v) = number_of v.right
 
 -- the entry of a node
 abbrev pub entry_below : {T S : Type 0} → Option (Stored T S) → Option T

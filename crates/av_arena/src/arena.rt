@@ -1,8 +1,8 @@
 ghost use Rattle.std.specs.Prelude.{◌≡◌, ℕ, Some, None, IfOk, OnErr, IsSome};
-ghost use Rattle.av_arena.specs.Arena.{entry_put, side_put, store_of};
+ghost use Rattle.av_arena.specs.Arena.{entry_put, left_put, right_put, store_of};
 ghost use Rattle.av_base.specs.Words.{with_at};
 
-use crate::link::{Link, Side, Stored};
+use crate::link::{Link, Stored};
 use slab::Slab;
 use std::alloc::{AllocError, Global};
 
@@ -72,18 +72,26 @@ impl<T: Copy + Drop, S: Copy + Drop> Arena<T, S> {
         node.entry = entry;
     }
 
-    /// Puts another tree on a side of the node with this number, which is in use.
+    /// Puts another left side into the node with this number, which is in use.
     #[inline(always)]
-    pub fn set_side(&mut self, number: u64, side: Side, link: Option<Link<S>>)
+    pub fn set_left(&mut self, number: u64, left: Option<Link<S>>)
         requires { IsSome (store_of self.old number) }
-        ensures { store_of self.new ≡ with_at number (side_put side link (store_of self.old number))
+        ensures { store_of self.new ≡ with_at number (left_put left (store_of self.old number))
             (store_of self.old) }
     {
         let node = &mut self.slab[number as usize];
-        match side {
-            Side::Left => node.left = link,
-            Side::Right => node.right = link,
-        }
+        node.left = left;
+    }
+
+    /// Puts another right side into the node with this number, which is in use.
+    #[inline(always)]
+    pub fn set_right(&mut self, number: u64, right: Option<Link<S>>)
+        requires { IsSome (store_of self.old number) }
+        ensures { store_of self.new ≡ with_at number (right_put right (store_of self.old number))
+            (store_of self.old) }
+    {
+        let node = &mut self.slab[number as usize];
+        node.right = right;
     }
 
     /// Takes out the node with this number, which is in use until now.

@@ -2,13 +2,18 @@
 //
 // They go by the numbers of nodes, which are read where they lie, and answer whether the node is
 // another one afterwards: where it is not, nothing above is looked at.
+//
+// A step to the left and one to the right are two functions each, for speed. With a side that is
+// known only as it runs there is one of each, and the crate is 870 lines shorter, most of them
+// proofs; but the side is kept over each call below, and where areas are mapped, cut and joined a
+// whole run then takes 2 to 4 instructions more in a hundred, and up to 5 in a hundred more time.
 ghost use Rattle.std.specs.Prelude.{◌≡◌, true, false, IsSome};
 ghost use Rattle.av_arena.specs.Arena.{store_of};
-ghost use Rattle.av_arena.specs.Below.{HasKeyBelow, IsAt, IsBeside, IsBetween, IsHung, IsJoinBelowFor, IsJoinedBelow, IsLevelAt, IsPlaceBelow, IsPlacedBelow, IsRemovedBelow, IsReplacedBelow, IsSettled, IsSideFor, IsSideSettled, IsSideTaken, IsSplitBelow, IsSplitBelowFor, IsTaken, IsTold, IsUnsettled, TellsSide, child_number, entry_below, number_of};
+ghost use Rattle.av_arena.specs.Below.{HasKeyBelow, IsAt, IsBetween, IsHungLeft, IsHungRight, IsJoinBelowFor, IsJoinedBelow, IsLeftSettled, IsLeftTaken, IsLevelAt, IsPlaceBelow, IsPlacedBelow, IsRemovedBelow, IsReplacedBelow, IsRightSettled, IsRightTaken, IsSettled, IsSplitBelow, IsSplitBelowFor, IsTaken, IsTold, IsUnsettled, left_number, entry_below, right_number};
 
 use crate::arena::Arena;
 use crate::entry::Entry;
-use crate::link::{Link, Side, Stored};
+use crate::link::{Link, Stored};
 use crate::tree::{balance, close, height, is_same, pop_first, sum};
 
 /// Whether the sides of a node differ by one level at most.
@@ -61,117 +66,118 @@ fn rotate<T: Entry>(arena: &mut Arena<T, T::Sum>, number: u64) -> Link<T::Sum>
     balance(arena, number, left, entry, right)
 }
 
-/// Settles a side of a node, whose root is `child`, by a rotation.
+/// Settles the left side of a node by a rotation.
 #[cold]
 #[inline(never)]
-fn turn_side<T: Entry>(arena: &mut Arena<T, T::Sum>, number: u64, side: Side, child: u64) -> bool
-    requires child { IsUnsettled T.key T.unit T.op T.of 2 (store_of arena.old) child }
+fn left_turned<T: Entry>(arena: &mut Arena<T, T::Sum>, number: u64, side: u64) -> bool
+    requires side { IsUnsettled T.key T.unit T.op T.of 2 (store_of arena.old) side }
     requires used { IsSome (store_of arena.old number) }
-    ensures { IsSideSettled T.key T.unit T.op T.of side (store_of arena.old) (store_of arena.new)
-        number child result }
+    ensures { IsLeftSettled T.key T.unit T.op T.of (store_of arena.old) (store_of arena.new) number
+        side result }
 {
-    let link = rotate(arena, child);
-    arena.set_side(number, side, Some(link));
+    let link = rotate(arena, side);
+    arena.set_left(number, Some(link));
     true
 }
 
-/// Whether a node is told this of its side.
-#[inline(always)]
-fn tells<T: Entry>(arena: &Arena<T, T::Sum>, number: u64, side: Side, link: Link<T::Sum>) -> bool
-    requires { IsSome (store_of arena.now number) }
-    ensures { TellsSide (store_of arena.now) number side link result }
+/// Settles the right side of a node by a rotation.
+#[cold]
+#[inline(never)]
+fn right_turned<T: Entry>(arena: &mut Arena<T, T::Sum>, number: u64, side: u64) -> bool
+    requires side { IsUnsettled T.key T.unit T.op T.of 2 (store_of arena.old) side }
+    requires used { IsSome (store_of arena.old number) }
+    ensures { IsRightSettled T.key T.unit T.op T.of (store_of arena.old) (store_of arena.new) number
+        side result }
 {
-    let node = arena.look(number);
-    match side {
-        Side::Left => is_same::<T>(node.left, Some(link)),
-        Side::Right => is_same::<T>(node.right, Some(link)),
-    }
+    let link = rotate(arena, side);
+    arena.set_right(number, Some(link));
+    true
 }
 
-/// Settles a side of a node, whose root is `child`, and tells it to the node, where it is told
-/// otherwise.
+/// Settles the left side of a node and tells it to the node, where it is told otherwise.
 #[inline(always)]
-fn settle_side<T: Entry>(arena: &mut Arena<T, T::Sum>, number: u64, side: Side, child: u64) -> bool
-    requires child { IsUnsettled T.key T.unit T.op T.of 2 (store_of arena.old) child }
+fn left_settled<T: Entry>(arena: &mut Arena<T, T::Sum>, number: u64, side: u64) -> bool
+    requires side { IsUnsettled T.key T.unit T.op T.of 2 (store_of arena.old) side }
     requires used { IsSome (store_of arena.old number) }
-    ensures { IsSideSettled T.key T.unit T.op T.of side (store_of arena.old) (store_of arena.new)
-        number child result }
+    ensures { IsLeftSettled T.key T.unit T.op T.of (store_of arena.old) (store_of arena.new) number
+        side result }
 {
-    if !is_level(arena, child) {
-        return turn_side(arena, number, side, child);
+    if !is_level(arena, side) {
+        return left_turned(arena, number, side);
     }
-    let link = told(arena, child);
-    if tells(arena, number, side, link) {
+    let link = told(arena, side);
+    if is_same::<T>(arena.look(number).left, Some(link)) {
         return false;
     }
-    arena.set_side(number, side, Some(link));
+    arena.set_left(number, Some(link));
     true
 }
 
-/// Puts a node without sides on a side of another.
+/// Settles the right side of a node and tells it to the node, where it is told otherwise.
+#[inline(always)]
+fn right_settled<T: Entry>(arena: &mut Arena<T, T::Sum>, number: u64, side: u64) -> bool
+    requires side { IsUnsettled T.key T.unit T.op T.of 2 (store_of arena.old) side }
+    requires used { IsSome (store_of arena.old number) }
+    ensures { IsRightSettled T.key T.unit T.op T.of (store_of arena.old) (store_of arena.new) number
+        side result }
+{
+    if !is_level(arena, side) {
+        return right_turned(arena, number, side);
+    }
+    let link = told(arena, side);
+    if is_same::<T>(arena.look(number).right, Some(link)) {
+        return false;
+    }
+    arena.set_right(number, Some(link));
+    true
+}
+
+/// Puts a node without sides on the left of another.
 #[inline(never)]
-fn hang<T: Entry>(arena: &mut Arena<T, T::Sum>, number: u64, side: Side, new: u64, entry: &T)
+fn hang_left<T: Entry>(arena: &mut Arena<T, T::Sum>, number: u64, new: u64, entry: &T)
     requires used { IsSome (store_of arena.old number) }
     requires new { IsSome (store_of arena.old new) }
-    ensures { IsHung T.key T.unit T.op T.of side (store_of arena.old) (store_of arena.new) number
+    ensures { IsHungLeft T.key T.unit T.op T.of (store_of arena.old) (store_of arena.new) number new
+        entry.now }
+{
+    let link = close(arena, new, None, *entry, None);
+    arena.set_left(number, Some(link));
+}
+
+/// Puts a node without sides on the right of another.
+#[inline(never)]
+fn hang_right<T: Entry>(arena: &mut Arena<T, T::Sum>, number: u64, new: u64, entry: &T)
+    requires used { IsSome (store_of arena.old number) }
+    requires new { IsSome (store_of arena.old new) }
+    ensures { IsHungRight T.key T.unit T.op T.of (store_of arena.old) (store_of arena.new) number
         new entry.now }
 {
     let link = close(arena, new, None, *entry, None);
-    arena.set_side(number, side, Some(link));
+    arena.set_right(number, Some(link));
 }
 
-/// The number that a link tells.
+/// The number of the node on the left.
 #[inline(always)]
-fn number_of<S>(link: &Option<Link<S>>) -> Option<u64>
-    ensures { result ≡ number_of link.now }
+fn left_of<T: Entry>(arena: &Arena<T, T::Sum>, number: u64) -> Option<u64>
+    requires { IsSome (store_of arena.now number) }
+    ensures { result ≡ left_number (store_of arena.now number) }
 {
-    match link {
+    match &arena.look(number).left {
         None => None,
         Some(link) => Some(link.number),
     }
 }
 
-/// The number of the node at the root of a side.
+/// The number of the node on the right.
 #[inline(always)]
-fn child_of<T: Entry>(arena: &Arena<T, T::Sum>, number: u64, side: Side) -> Option<u64>
+fn right_of<T: Entry>(arena: &Arena<T, T::Sum>, number: u64) -> Option<u64>
     requires { IsSome (store_of arena.now number) }
-    ensures { result ≡ child_number side (store_of arena.now number) }
+    ensures { result ≡ right_number (store_of arena.now number) }
 {
-    let node = arena.look(number);
-    match side {
-        Side::Left => number_of(&node.left),
-        Side::Right => number_of(&node.right),
+    match &arena.look(number).right {
+        None => None,
+        Some(link) => Some(link.number),
     }
-}
-
-/// The side of a node where the key of `like` belongs: the left one where it is below the node's.
-#[inline(always)]
-fn side_for<T: Entry>(arena: &Arena<T, T::Sum>, number: u64, like: &T) -> Side
-    requires { IsSome (store_of arena.now number) }
-    ensures { IsSideFor T.key T.unit T.op T.of (store_of arena.now) number like.now result }
-{
-    if like.is_before(&arena.look(number).entry) {
-        return Side::Left;
-    }
-    Side::Right
-}
-
-/// The side of a node where the keys from that of `first` to that of `last` belong, if the node's
-/// own is none of them.
-#[inline(always)]
-fn side_beside<T: Entry>(arena: &Arena<T, T::Sum>, number: u64, first: &T, last: &T) -> Option<Side>
-    requires { IsSome (store_of arena.now number) }
-    ensures { IsBeside T.key T.unit T.op T.of (store_of arena.now) number first.now last.now
-        result }
-{
-    let node = arena.look(number);
-    if last.is_before(&node.entry) {
-        return Some(Side::Left);
-    }
-    if node.entry.is_before(first) {
-        return Some(Side::Right);
-    }
-    None
 }
 
 /// Puts the node `new`, which is in use and not in the tree, into the tree with the root `number`.
@@ -185,15 +191,24 @@ pub fn placed_below<T: Entry>(
     ensures { IsPlacedBelow T.key T.unit T.op T.of (store_of arena.old) (store_of arena.new) number
         new entry.now result }
 {
-    let side = side_for(arena, number, entry);
-    let Some(child) = child_of(arena, number, side) else {
-        hang(arena, number, side, new, entry);
+    if entry.is_before(&arena.look(number).entry) {
+        let Some(side) = left_of(arena, number) else {
+            hang_left(arena, number, new, entry);
+            return true;
+        };
+        if !placed_below(arena, side, new, entry) {
+            return false;
+        }
+        return left_settled(arena, number, side);
+    }
+    let Some(side) = right_of(arena, number) else {
+        hang_right(arena, number, new, entry);
         return true;
     };
-    if !placed_below(arena, child, new, entry) {
+    if !placed_below(arena, side, new, entry) {
         return false;
     }
-    settle_side(arena, number, side, child)
+    right_settled(arena, number, side)
 }
 
 /// Puts `entry` in the place of the one with its key in the tree with the root `number`.
@@ -202,17 +217,27 @@ pub fn replaced_below<T: Entry>(arena: &mut Arena<T, T::Sum>, number: u64, entry
     ensures { IsReplacedBelow T.key T.unit T.op T.of (store_of arena.old) (store_of arena.new)
         number entry.now result }
 {
-    let Some(side) = side_beside(arena, number, entry, entry) else {
-        arena.set_entry(number, *entry);
-        return true;
-    };
-    let Some(child) = child_of(arena, number, side) else {
-        unreachable!()
-    };
-    if !replaced_below(arena, child, entry) {
-        return false;
+    let node = arena.look(number);
+    if entry.is_before(&node.entry) {
+        let Some(side) = left_of(arena, number) else {
+            unreachable!()
+        };
+        if !replaced_below(arena, side, entry) {
+            return false;
+        }
+        return left_settled(arena, number, side);
     }
-    settle_side(arena, number, side, child)
+    if node.entry.is_before(entry) {
+        let Some(side) = right_of(arena, number) else {
+            unreachable!()
+        };
+        if !replaced_below(arena, side, entry) {
+            return false;
+        }
+        return right_settled(arena, number, side);
+    }
+    arena.set_entry(number, *entry);
+    true
 }
 
 /// Whether a node has the key of `like`.
@@ -247,17 +272,30 @@ pub fn take<T: Entry>(arena: &mut Arena<T, T::Sum>, number: u64, like: &T) -> Op
     Some(whole)
 }
 
-/// Takes out the root of a side, `child`, which has the key of `like`.
+/// Takes out the left side's root, which has the key of `like`.
 #[inline(never)]
-fn take_child<T: Entry>(arena: &mut Arena<T, T::Sum>, number: u64, side: Side, child: u64, like: &T)
+fn take_left<T: Entry>(arena: &mut Arena<T, T::Sum>, number: u64, side: u64, like: &T)
     requires used { IsSome (store_of arena.old number) }
-    requires there { HasKeyBelow T.key T.unit T.op T.of (store_of arena.old) child like.now }
-    requires same { IsAt T.key T.unit T.op T.of (store_of arena.old) child like.now true }
-    ensures { IsSideTaken T.key T.unit T.op T.of side (store_of arena.old) (store_of arena.new)
-        number child like.now }
+    requires there { HasKeyBelow T.key T.unit T.op T.of (store_of arena.old) side like.now }
+    requires same { IsAt T.key T.unit T.op T.of (store_of arena.old) side like.now true }
+    ensures { IsLeftTaken T.key T.unit T.op T.of (store_of arena.old) (store_of arena.new) number
+        side like.now }
 {
-    let rest = take(arena, child, like);
-    arena.set_side(number, side, rest);
+    let rest = take(arena, side, like);
+    arena.set_left(number, rest);
+}
+
+/// Takes out the right side's root, which has the key of `like`.
+#[inline(never)]
+fn take_right<T: Entry>(arena: &mut Arena<T, T::Sum>, number: u64, side: u64, like: &T)
+    requires used { IsSome (store_of arena.old number) }
+    requires there { HasKeyBelow T.key T.unit T.op T.of (store_of arena.old) side like.now }
+    requires same { IsAt T.key T.unit T.op T.of (store_of arena.old) side like.now true }
+    ensures { IsRightTaken T.key T.unit T.op T.of (store_of arena.old) (store_of arena.new) number
+        side like.now }
+{
+    let rest = take(arena, side, like);
+    arena.set_right(number, rest);
 }
 
 /// Takes the node with the key of `like` out of the tree with the root `number`, which is another
@@ -270,19 +308,32 @@ pub fn removed_below<T: Entry>(arena: &mut Arena<T, T::Sum>, number: u64, like: 
     ensures entry { entry_below (store_of arena.new number)
         ≡ entry_below (store_of arena.old number) }
 {
-    let side = side_for(arena, number, like);
-    let Some(child) = child_of(arena, number, side) else {
+    if like.is_before(&arena.look(number).entry) {
+        let Some(side) = left_of(arena, number) else {
+            unreachable!()
+        };
+        if is_at(arena, side, like) {
+            take_left(arena, number, side, like);
+            return (side, true);
+        }
+        let (out, changed) = removed_below(arena, side, like);
+        if !changed {
+            return (out, false);
+        }
+        return (out, left_settled(arena, number, side));
+    }
+    let Some(side) = right_of(arena, number) else {
         unreachable!()
     };
-    if is_at(arena, child, like) {
-        take_child(arena, number, side, child, like);
-        return (child, true);
+    if is_at(arena, side, like) {
+        take_right(arena, number, side, like);
+        return (side, true);
     }
-    let (out, changed) = removed_below(arena, child, like);
+    let (out, changed) = removed_below(arena, side, like);
     if !changed {
         return (out, false);
     }
-    (out, settle_side(arena, number, side, child))
+    (out, right_settled(arena, number, side))
 }
 
 /// Puts `lower` in the place of the entry with its key, and the node `new` for `upper` right after
@@ -299,18 +350,28 @@ pub fn split_below<T: Entry>(
     ensures { IsSplitBelow T.key T.unit T.op T.of (store_of arena.old) (store_of arena.new) number
         new lower.now upper.now result }
 {
-    let Some(side) = side_beside(arena, number, lower, lower) else {
-        arena.set_entry(number, *lower);
-        let _ = placed_below(arena, number, new, upper);
-        return true;
-    };
-    let Some(child) = child_of(arena, number, side) else {
-        unreachable!()
-    };
-    if !split_below(arena, child, new, lower, upper) {
-        return false;
+    let node = arena.look(number);
+    if lower.is_before(&node.entry) {
+        let Some(side) = left_of(arena, number) else {
+            unreachable!()
+        };
+        if !split_below(arena, side, new, lower, upper) {
+            return false;
+        }
+        return left_settled(arena, number, side);
     }
-    settle_side(arena, number, side, child)
+    if node.entry.is_before(lower) {
+        let Some(side) = right_of(arena, number) else {
+            unreachable!()
+        };
+        if !split_below(arena, side, new, lower, upper) {
+            return false;
+        }
+        return right_settled(arena, number, side);
+    }
+    arena.set_entry(number, *lower);
+    let _ = placed_below(arena, number, new, upper);
+    true
 }
 
 /// Takes the node of one of two neighbours, `lower` and `upper`, out of the tree with the root
@@ -356,15 +417,26 @@ pub fn joined_below<T: Entry>(
     ensures { IsJoinedBelow T.key T.unit T.op T.of (store_of arena.old) (store_of arena.new) number
         lower.now upper.now joined.now result.0 result.1 }
 {
-    let Some(side) = side_beside(arena, number, lower, upper) else {
-        return (joined_at(arena, number, lower, upper, joined), true);
-    };
-    let Some(child) = child_of(arena, number, side) else {
-        unreachable!()
-    };
-    let (out, changed) = joined_below(arena, child, lower, upper, joined);
-    if !changed {
-        return (out, false);
+    let node = arena.look(number);
+    if upper.is_before(&node.entry) {
+        let Some(side) = left_of(arena, number) else {
+            unreachable!()
+        };
+        let (out, changed) = joined_below(arena, side, lower, upper, joined);
+        if !changed {
+            return (out, false);
+        }
+        return (out, left_settled(arena, number, side));
     }
-    (out, settle_side(arena, number, side, child))
+    if node.entry.is_before(lower) {
+        let Some(side) = right_of(arena, number) else {
+            unreachable!()
+        };
+        let (out, changed) = joined_below(arena, side, lower, upper, joined);
+        if !changed {
+            return (out, false);
+        }
+        return (out, right_settled(arena, number, side));
+    }
+    (joined_at(arena, number, lower, upper, joined), true)
 }

@@ -22,5 +22,5 @@ mod tree;
 pub use arena::Arena;
 pub use avl::{Avl, Part};
 pub use entry::Entry;
-pub use link::{Link, Side, Stored};
+pub use link::{Link, Stored};
 pub use tree::{place, remove};

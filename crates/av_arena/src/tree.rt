@@ -9,7 +9,7 @@ use crate::below::{
     is_at, joined_below, placed_below, removed_below, replaced_below, settle, split_below, take,
 };
 use crate::entry::Entry;
-use crate::link::{Link, Side, Stored};
+use crate::link::{Link, Stored};
 
 #[inline]
 pub fn height<S: Copy + Drop>(tree: Option<Link<S>>) -> u64
@@ -234,7 +234,7 @@ fn with_left<T: Entry>(
         return balance(arena, tree.number, left, middle, after);
     }
     let total = T::join_sums(sum::<T>(left), &middle, sum::<T>(after));
-    arena.set_side(tree.number, Side::Left, left);
+    arena.set_left(tree.number, left);
     Link {
         number: tree.number,
         height: tree.height,

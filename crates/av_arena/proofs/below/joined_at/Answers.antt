@@ -1,4 +1,4 @@
-use Rattle.std.proofs.Common.{rules, ◌≤◌, arith}
+use Rattle.std.proofs.Common.{rules, ◌<◌, ◌≤◌, arith}
 use Rattle.std.proofs.lemmas.Bool.{ltb-true, ltb-false}
 use Rattle.av_arena.specs.Arena.{store_of}
 use Rattle.av_arena.proofs.JoinLemmas.{join_lower_goes, join_lower_has, join_upper_goes, join_upper_has, not_at_lower, not_at_upper}
@@ -42,6 +42,6 @@ pub removed_below-out-requires-2-clause-other : goal.removed_below-out-requires-
 removed_below-out-requires-2-clause-other g c =
     let m = g.T.Entry in
     let low : m.key c.look.result.now.entry ≤ m.key c.args.lower.now = ltb-false _ _ (search rules) in
-    let after = c.requires.join.asked.after in
+    let after = c.requires.join.join.after in
     not_at_upper m.key m.unit m.op m.of g.met.T.Entry.laws (store_of c.args.arena.now) c.args.number c.look.result.now
     c.args.upper.now c.look.ensures (omega arith)

@@ -17,7 +17,7 @@ pop_first-first-requires-clause-held g c =
     let m = g.T.Entry in
     let s = store_of c.args.arena.now in
     let r = c.requires.there in
-    let o = opened_at m.key m.unit m.op m.of g.met.T.Entry.laws s c.args.number r.link c.get-node.result r.number r.asked.held c.get-node.ensures in
+    let o = opened_at m.key m.unit m.op m.of g.met.T.Entry.laws s c.args.number r.link c.get-node.result r.number r.there.held c.get-node.ensures in
     subst (IsHeld m.key m.unit m.op m.of s) c.in-Some.is o.right
 
 pub pop_first-first-requires-clause-low : goal.pop_first-first-requires-clause-low
@@ -25,7 +25,7 @@ pop_first-first-requires-clause-low g c =
     let m = g.T.Entry in
     let s = store_of c.args.arena.now in
     let r = c.requires.there in
-    let o = opened_at m.key m.unit m.op m.of g.met.T.Entry.laws s c.args.number r.link c.get-node.result r.number r.asked.held c.get-node.ensures in
+    let o = opened_at m.key m.unit m.op m.of g.met.T.Entry.laws s c.args.number r.link c.get-node.result r.number r.there.held c.get-node.ensures in
     let e = ap height_of c.in-Some.is in
     let h = o.height in
     let l = r.low in
@@ -36,7 +36,7 @@ balance-whole-requires-clause-spot g c =
     let m = g.T.Entry in
     let s = store_of c.args.arena.now in
     let r = c.requires.there in
-    let o = opened_at m.key m.unit m.op m.of g.met.T.Entry.laws s c.args.number r.link c.get-node.result r.number r.asked.held c.get-node.ensures in
+    let o = opened_at m.key m.unit m.op m.of g.met.T.Entry.laws s c.args.number r.link c.get-node.result r.number r.there.held c.get-node.ensures in
     removed_middle_ready m.key m.unit m.op m.of g.met.T.Entry.laws s (store_of c.pop_first-first.new.arena) r.link c.in-Some.right c.get-node.result
     c.pop_first-first.result.0 c.pop_first-first.result.1 c.pop_first-first.result.2 o c.in-Some.is c.pop_first-first.ensures.popped
 
@@ -45,7 +45,7 @@ balance-whole-requires-clause-level g c =
     let m = g.T.Entry in
     let s = store_of c.args.arena.now in
     let r = c.requires.there in
-    let o = opened_at m.key m.unit m.op m.of g.met.T.Entry.laws s c.args.number r.link c.get-node.result r.number r.asked.held c.get-node.ensures in
+    let o = opened_at m.key m.unit m.op m.of g.met.T.Entry.laws s c.args.number r.link c.get-node.result r.number r.there.held c.get-node.ensures in
     let e = ap height_of c.in-Some.is in
     let l = o.level.0 in
     let h = o.level.1 in
@@ -58,7 +58,7 @@ balance-whole-requires-clause-low g c =
     let m = g.T.Entry in
     let s = store_of c.args.arena.now in
     let r = c.requires.there in
-    let o = opened_at m.key m.unit m.op m.of g.met.T.Entry.laws s c.args.number r.link c.get-node.result r.number r.asked.held c.get-node.ensures in
+    let o = opened_at m.key m.unit m.op m.of g.met.T.Entry.laws s c.args.number r.link c.get-node.result r.number r.there.held c.get-node.ensures in
     let e = ap height_of c.in-Some.is in
     let h = o.height in
     let l = r.low in

@@ -11,7 +11,7 @@ joined_below-number-requires g c =
     record {
       link = c.in-Some.tree;
       number = refl;
-      asked = subst (λ k. IsJoinFor m.key m.unit m.op m.of (store_of c.args.arena.now) k c.args.lower c.args.upper c.args.joined) c.in-Some.is c.requires.join;
+      join = subst (λ k. IsJoinFor m.key m.unit m.op m.of (store_of c.args.arena.now) k c.args.lower c.args.upper c.args.joined) c.in-Some.is c.requires.join;
       low = let h = ap height_of c.in-Some.is in let l = c.requires.low in omega arith;
     }
 

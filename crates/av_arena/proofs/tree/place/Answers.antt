@@ -20,7 +20,7 @@ placed_below-requires g c =
     record {
       link = c.in-Some.tree;
       number = refl;
-      asked = subst (λ k. IsPlaceFor m.key m.unit m.op m.of (store_of c.args.arena.now) k c.args.number c.args.entry) c.in-Some.is c.requires.place;
+      place = subst (λ k. IsPlaceFor m.key m.unit m.op m.of (store_of c.args.arena.now) k c.args.number c.args.entry) c.in-Some.is c.requires.place;
       low = let h = ap height_of c.in-Some.is in let l = c.requires.low in omega arith;
     }
 

@@ -11,7 +11,7 @@ take-rest-requires-clause-there g c =
     record {
       link = c.in-Some.tree;
       number = refl;
-      asked = subst (λ k. HasKey m.key m.unit m.op m.of (store_of c.args.arena.now) k c.args.like) c.in-Some.is c.requires.there;
+      there = subst (λ k. HasKey m.key m.unit m.op m.of (store_of c.args.arena.now) k c.args.like) c.in-Some.is c.requires.there;
       low = let h = ap height_of c.in-Some.is in let l = c.requires.low in omega arith;
     }
 
@@ -49,7 +49,7 @@ removed_below-number-requires-clause-there g c =
     record {
       link = c.in-Some.tree;
       number = refl;
-      asked = subst (λ k. HasKey m.key m.unit m.op m.of (store_of c.args.arena.now) k c.args.like) c.in-Some.is c.requires.there;
+      there = subst (λ k. HasKey m.key m.unit m.op m.of (store_of c.args.arena.now) k c.args.like) c.in-Some.is c.requires.there;
       low = let h = ap height_of c.in-Some.is in let l = c.requires.low in omega arith;
     }
 

@@ -10,7 +10,7 @@ replaced_below-requires g c =
     record {
       link = c.in-Some.tree;
       number = refl;
-      asked = subst (λ k. HasKey m.key m.unit m.op m.of (store_of c.args.arena.now) k c.args.entry) c.in-Some.is c.requires.there;
+      there = subst (λ k. HasKey m.key m.unit m.op m.of (store_of c.args.arena.now) k c.args.entry) c.in-Some.is c.requires.there;
       low = let h = ap height_of c.in-Some.is in let l = c.requires.low in omega arith;
     }
 

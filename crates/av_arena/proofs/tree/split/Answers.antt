@@ -11,7 +11,7 @@ split_below-requires g c =
     record {
       link = c.in-Some.tree;
       number = refl;
-      asked = subst (λ k. IsSplitFor m.key m.unit m.op m.of (store_of c.args.arena.now) k c.args.new c.args.lower c.args.upper) c.in-Some.is c.requires.split;
+      split = subst (λ k. IsSplitFor m.key m.unit m.op m.of (store_of c.args.arena.now) k c.args.new c.args.lower c.args.upper) c.in-Some.is c.requires.split;
       low = let h = ap height_of c.in-Some.is in let l = c.requires.low in omega arith;
     }
 

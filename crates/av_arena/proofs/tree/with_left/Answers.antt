@@ -28,5 +28,5 @@ returns-clause-joined g c =
     let sum : c.join_sums-total.result ≡ m.op (sum_of m.unit c.args.left) (m.op (m.of v.entry) (sum_of m.unit v.right)) = search rules in
     let total = subst (λ (w : Stored g.row.T.Denot g.row.T-Sum.Denot). c.join_sums-total.result ≡ m.op (sum_of m.unit c.args.left)
     (m.op (m.of w.entry) (sum_of m.unit w.right))) e sum in
-    left_set m.key m.unit m.op m.of g.met.T.Entry.laws s (store_of c.set_side.new.self) c.args.tree c.args.own c.args.left c.args.entry c.args.right
-    c.join_sums-total.result c.requires.root c.requires.spot c.set_side.ensures own total
+    left_set m.key m.unit m.op m.of g.met.T.Entry.laws s (store_of c.set_left.new.self) c.args.tree c.args.own c.args.left c.args.entry c.args.right
+    c.join_sums-total.result c.requires.root c.requires.spot c.set_left.ensures own total
