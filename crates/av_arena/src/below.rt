@@ -4,7 +4,7 @@
 // another one afterwards: where it is not, nothing above is looked at.
 //
 // A step to the left and one to the right are two functions each, for speed. With a side that is
-// known only as it runs there is one of each, and the crate is 870 lines shorter, most of them
+// known only as it runs there is one of each, and the crate is 880 lines shorter, most of them
 // proofs; but the side is kept over each call below, and where areas are mapped, cut and joined a
 // whole run then takes 2 to 4 instructions more in a hundred, and up to 5 in a hundred more time.
 ghost use Rattle.std.specs.Prelude.{◌≡◌, true, false, IsSome};
