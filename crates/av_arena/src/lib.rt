@@ -5,9 +5,9 @@
 //! its entries. `Avl` is one tree with an arena of its own; who keeps many trees over one arena
 //! calls `place` and `remove`.
 //!
-//! Proved: `insert`, `remove`, `replace` and `split` make exactly the list that the keys call for,
-//! all stays where memory is wanting, the sides of each node differ by one level at most, each
-//! summary is that of the entries below, and no node is lost: what is in use is the tree's. A
+//! Proved: `insert`, `remove`, `replace`, `split` and `join` make exactly the list that the keys
+//! call for, all stays where memory is wanting, the sides of each node differ by one level at most,
+//! each summary is that of the entries below, and no node is lost: what is in use is the tree's. A
 //! change goes down once, by the numbers of nodes, and comes up to where a link stays; what lies
 //! above is not written. That is not proved: no clause counts writes.
 #![tactic(auto)]

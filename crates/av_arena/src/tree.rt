@@ -185,7 +185,8 @@ pub fn balance<T: Entry>(
 /// Whether two links are the same.
 #[inline]
 pub fn is_same<T: Entry>(left: Option<Link<T::Sum>>, right: Option<Link<T::Sum>>) -> bool
-    ensures { result ≡ true → left ≡ right }
+    ensures same { result ≡ true → left ≡ right }
+    ensures told { left ≡ right → result ≡ true }
 {
     match (left, right) {
         (None, None) => true,

@@ -36,13 +36,17 @@ impl Roots {
         self.map.get(&anon).copied()
     }
 
-    /// Gives an anon_vma its first tree. Without memory all stays.
-    pub fn add(&mut self, anon: u64, root: Root) -> Result<(), AllocError>
-        requires { root_of self.old anon ≡ None }
+    /// Gives an anon_vma its first tree, or another one in place of the one that it has. Memory is
+    /// wanting for a first one alone, and all stays then.
+    pub fn put(&mut self, anon: u64, root: Root) -> Result<(), AllocError>
         ensures { MatchResult result
             (λ _. root_of self.new ≡ with_at anon (Some root) (root_of self.old))
-            (λ _. root_of self.new ≡ root_of self.old) }
+            (λ _. (root_of self.new ≡ root_of self.old) × (root_of self.old anon ≡ None)) }
     {
+        if let Some(old) = self.map.get_mut(&anon) {
+            *old = root;
+            return Ok(());
+        }
         self.map.insert(anon, root)?;
         Ok(())
     }

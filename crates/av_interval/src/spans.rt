@@ -76,12 +76,7 @@ impl Spans {
             Err(error) => return Err(error),
         };
         let tree = place(&mut self.arena, top(root), number, span);
-        let new = Root { tree, len };
-        if root.is_some() {
-            self.roots.change(anon, new);
-            return Ok(());
-        }
-        match self.roots.add(anon, new) {
+        match self.roots.put(anon, Root { tree, len }) {
             Ok(()) => Ok(()),
             Err(error) => {
                 self.arena.free(number);

@@ -10,7 +10,7 @@ returns-then-is_same g c =
     right_stays m.key m.unit m.op m.of g.met.T.Entry.laws s c.args.number c.args.side c.told-link.result c.look.result.now _
     (told_settled m.key m.unit m.op m.of g.met.T.Entry.laws s c.args.side c.told-link.result c.requires.side c.told-link.ensures
     (λ v e. c.is_level.ensures v e (search rules)))
-    c.look.ensures (c.is_same.ensures c.if-is_same.true)
+    c.look.ensures (c.is_same.ensures.same c.if-is_same.true)
 
 pub returns : goal.returns
 returns g c =

@@ -11,7 +11,7 @@ returns-then-is_same-clause-joined g c =
     let s = store_of c.args.arena.now in
     let e = node_is m.key m.unit m.op m.of g.met.T.Entry.laws s c.args.tree c.args.own c.args.entry c.args.right c.get-node.result
     c.requires.root c.get-node.ensures in
-    let same : c.get-node.result.left ≡ c.args.left = c.is_same.ensures (search rules) in
+    let same : c.get-node.result.left ≡ c.args.left = c.is_same.ensures.same (search rules) in
     let is : c.args.own ≡ c.args.left = sym (ap (λ (w : Stored g.row.T.Denot g.row.T-Sum.Denot). w.left) e) ∙ same in
     let root : IsRoot m.key m.unit m.op m.of s c.args.tree c.args.left c.args.entry c.args.right =
     subst (λ k. IsRoot m.key m.unit m.op m.of s c.args.tree k c.args.entry c.args.right) is c.requires.root in

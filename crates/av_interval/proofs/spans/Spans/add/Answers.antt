@@ -1,7 +1,5 @@
-use Rattle.std.proofs.Common.{rules, ◌≡◌, ℕ, ◌+◌, ◌<◌, ◌^◌, None, sym, ap, ◌∙◌, subst, arith}
+use Rattle.std.proofs.Common.{rules, ◌≡◌, ℕ, ◌+◌, ◌<◌, ◌^◌, sym, ap, ◌∙◌, subst, arith}
 use Rattle.av_arena.specs.Order.{with_entry}
-use Rattle.av_interval.specs.declared.span.Span.{Span}
-use Rattle.av_arena.specs.declared.link.Stored.{Stored}
 use Rattle.av_arena.specs.Arena.{store_of}
 use Rattle.av_interval.specs.Spans.{Forest, IsNew, triples, tree_of}
 use Rattle.av_interval.specs.Span.{triple}
@@ -22,128 +20,58 @@ returns-in-Err-clause-kept c = λ a. subst (λ (w : Forest). tree_at (store_of c
 
 pub place-tree-requires-clause-place : goal.place-tree-requires-clause-place
 place-tree-requires-clause-place c =
-    let s = store_of c.self.inside.arena in
-    let r = root_of c.self.inside.roots in
-    let x : Span = triple c.args.first c.args.last c.args.area in
-    let v : Stored Span ℕ = record { left = None; entry = x; right = None } in
     let fits : c.args.area < 2 ^ 64 = omega arith in
     let new = subst (λ (w : Forest). IsNew c.args.area (triples w c.args.anon)) (sym c.self.view_is) c.requires.other in
-    let top : c.top.result ≡ top_of (r c.args.anon) = c.top.ensures ∙ ap top_of c.get-root.ensures in
-    placing s (store_of c.add.new.self) r c.self.invariant c.in-Ok.number v c.in-Ok.ensures.unused c.in-Ok.ensures.added c.args.anon x fits new c.top.result top
+    placing _ _ _ c.self.invariant _ _ c.in-Ok.ensures.unused c.in-Ok.ensures.added _ _ fits new _ (c.top.ensures ∙ ap top_of c.get-root.ensures)
 
 pub place-tree-requires-clause-low : goal.place-tree-requires-clause-low
 place-tree-requires-clause-low c =
-    let s = store_of c.self.inside.arena in
     let r = root_of c.self.inside.roots in
     let top : c.top.result ≡ top_of (r c.args.anon) = c.top.ensures ∙ ap top_of c.get-root.ensures in
     let len : c.in-Some.len ≡ len_of (r c.args.anon) + 1 = rw (← c.get-root.ensures, ← c.len.ensures) (search rules) in
     let fits : c.in-Some.len < 2 ^ 64 = omega arith in
-    rw top (low s r c.self.invariant c.args.anon (omega arith))
+    rw top (low (store_of c.self.inside.arena) r c.self.invariant c.args.anon (omega arith))
 
-pub invariant_of-self-then-is_some : goal.invariant_of-self-then-is_some
-invariant_of-self-then-is_some c =
-    let s = store_of c.self.inside.arena in
-    let r = root_of c.self.inside.roots in
-    let x : Span = triple c.args.first c.args.last c.args.area in
-    let v : Stored Span ℕ = record { left = None; entry = x; right = None } in
+pub invariant_of-self-in-Ok-put : goal.invariant_of-self-in-Ok-put
+invariant_of-self-in-Ok-put c =
     let fits : c.args.area < 2 ^ 64 = omega arith in
     let new = subst (λ (w : Forest). IsNew c.args.area (triples w c.args.anon)) (sym c.self.view_is) c.requires.other in
-    let top : c.top.result ≡ top_of (r c.args.anon) = c.top.ensures ∙ ap top_of c.get-root.ensures in
-    let len : c.in-Some.len ≡ len_of (r c.args.anon) + 1 = rw (← c.get-root.ensures, ← c.len.ensures) (search rules) in
-    let d = added_done s (store_of c.add.new.self) (store_of c.place-tree.new.arena) r (root_of c.change.new.self) c.self.invariant c.in-Ok.number v
-    c.in-Ok.ensures.unused c.in-Ok.ensures.added c.args.anon x fits new c.top.result top c.place-tree.result c.in-Some.len len
-    c.place-tree.ensures.placed c.change.ensures in
+    let len : c.in-Some.len ≡ len_of (root_of c.self.inside.roots c.args.anon) + 1 = rw (← c.get-root.ensures, ← c.len.ensures) (search rules) in
+    let d = added_done _ _ _ _ _ c.self.invariant _ _ c.in-Ok.ensures.unused c.in-Ok.ensures.added c.args.anon _ fits new _
+    (c.top.ensures ∙ ap top_of c.get-root.ensures) _ _ len c.place-tree.ensures.placed c.in-Ok-put.ensures in
     d.forest
 
-pub returns-then-is_some-clause-spans : goal.returns-then-is_some-clause-spans
-returns-then-is_some-clause-spans c =
-    let s = store_of c.self.inside.arena in
-    let r = root_of c.self.inside.roots in
-    let x : Span = triple c.args.first c.args.last c.args.area in
-    let v : Stored Span ℕ = record { left = None; entry = x; right = None } in
+pub returns-in-Ok-put-clause-spans : goal.returns-in-Ok-put-clause-spans
+returns-in-Ok-put-clause-spans c =
     let fits : c.args.area < 2 ^ 64 = omega arith in
     let new = subst (λ (w : Forest). IsNew c.args.area (triples w c.args.anon)) (sym c.self.view_is) c.requires.other in
-    let top : c.top.result ≡ top_of (r c.args.anon) = c.top.ensures ∙ ap top_of c.get-root.ensures in
-    let len : c.in-Some.len ≡ len_of (r c.args.anon) + 1 = rw (← c.get-root.ensures, ← c.len.ensures) (search rules) in
-    let d = added_done s (store_of c.add.new.self) (store_of c.place-tree.new.arena) r (root_of c.change.new.self) c.self.invariant c.in-Ok.number v
-    c.in-Ok.ensures.unused c.in-Ok.ensures.added c.args.anon x fits new c.top.result top c.place-tree.result c.in-Some.len len
-    c.place-tree.ensures.placed c.change.ensures in
-    subst (λ (w : Forest). (a : ℕ) → entries (tree_at (store_of c.place-tree.new.arena) (top_of (root_of c.change.new.self a))) ≡ with_at c.args.anon
-    (with_entry key x (triples w c.args.anon)) (triples w) a) c.self.view_is d.triples
+    let len : c.in-Some.len ≡ len_of (root_of c.self.inside.roots c.args.anon) + 1 = rw (← c.get-root.ensures, ← c.len.ensures) (search rules) in
+    let d = added_done _ _ _ _ _ c.self.invariant _ _ c.in-Ok.ensures.unused c.in-Ok.ensures.added c.args.anon _ fits new _
+    (c.top.ensures ∙ ap top_of c.get-root.ensures) _ _ len c.place-tree.ensures.placed c.in-Ok-put.ensures in
+    subst (λ (w : Forest). (a : ℕ) → entries (tree_at (store_of c.place-tree.new.arena) (top_of (root_of c.put.new.self a))) ≡ with_at c.args.anon
+    (with_entry key (triple c.args.first c.args.last c.args.area) (triples w c.args.anon)) (triples w) a) c.self.view_is d.triples
 
-pub invariant_of-self-in-Ok-add : goal.invariant_of-self-in-Ok-add
-invariant_of-self-in-Ok-add c =
-    let s = store_of c.self.inside.arena in
-    let r = root_of c.self.inside.roots in
-    let x : Span = triple c.args.first c.args.last c.args.area in
-    let v : Stored Span ℕ = record { left = None; entry = x; right = None } in
+pub invariant_of-self-in-Err-put : goal.invariant_of-self-in-Err-put
+invariant_of-self-in-Err-put c =
     let fits : c.args.area < 2 ^ 64 = omega arith in
     let new = subst (λ (w : Forest). IsNew c.args.area (triples w c.args.anon)) (sym c.self.view_is) c.requires.other in
-    let top : c.top.result ≡ top_of (r c.args.anon) = c.top.ensures ∙ ap top_of c.get-root.ensures in
-    let len : c.in-Some.len ≡ len_of (r c.args.anon) + 1 = rw (← c.get-root.ensures, ← c.len.ensures) (search rules) in
-    let d = added_done s (store_of c.add.new.self) (store_of c.place-tree.new.arena) r (root_of c.add-2.new.self) c.self.invariant c.in-Ok.number v
-    c.in-Ok.ensures.unused c.in-Ok.ensures.added c.args.anon x fits new c.top.result top c.place-tree.result c.in-Some.len len
-    c.place-tree.ensures.placed c.in-Ok-add.ensures in
-    d.forest
-
-pub returns-in-Ok-add-clause-spans : goal.returns-in-Ok-add-clause-spans
-returns-in-Ok-add-clause-spans c =
-    let s = store_of c.self.inside.arena in
-    let r = root_of c.self.inside.roots in
-    let x : Span = triple c.args.first c.args.last c.args.area in
-    let v : Stored Span ℕ = record { left = None; entry = x; right = None } in
-    let fits : c.args.area < 2 ^ 64 = omega arith in
-    let new = subst (λ (w : Forest). IsNew c.args.area (triples w c.args.anon)) (sym c.self.view_is) c.requires.other in
-    let top : c.top.result ≡ top_of (r c.args.anon) = c.top.ensures ∙ ap top_of c.get-root.ensures in
-    let len : c.in-Some.len ≡ len_of (r c.args.anon) + 1 = rw (← c.get-root.ensures, ← c.len.ensures) (search rules) in
-    let d = added_done s (store_of c.add.new.self) (store_of c.place-tree.new.arena) r (root_of c.add-2.new.self) c.self.invariant c.in-Ok.number v
-    c.in-Ok.ensures.unused c.in-Ok.ensures.added c.args.anon x fits new c.top.result top c.place-tree.result c.in-Some.len len
-    c.place-tree.ensures.placed c.in-Ok-add.ensures in
-    subst (λ (w : Forest). (a : ℕ) → entries (tree_at (store_of c.place-tree.new.arena) (top_of (root_of c.add-2.new.self a))) ≡ with_at c.args.anon
-    (with_entry key x (triples w c.args.anon)) (triples w) a) c.self.view_is d.triples
-
-pub invariant_of-self-in-Err-add : goal.invariant_of-self-in-Err-add
-invariant_of-self-in-Err-add c =
-    let s = store_of c.self.inside.arena in
-    let r = root_of c.self.inside.roots in
-    let x : Span = triple c.args.first c.args.last c.args.area in
-    let v : Stored Span ℕ = record { left = None; entry = x; right = None } in
-    let fits : c.args.area < 2 ^ 64 = omega arith in
-    let new = subst (λ (w : Forest). IsNew c.args.area (triples w c.args.anon)) (sym c.self.view_is) c.requires.other in
-    let top : c.top.result ≡ top_of (r c.args.anon) = c.top.ensures ∙ ap top_of c.get-root.ensures in
-    let gone : r c.args.anon ≡ None = sym c.get-root.ensures ∙ search rules in
-    let b = added_back s (store_of c.add.new.self) (store_of c.place-tree.new.arena) (store_of c.free.new.self) r (root_of c.add-2.new.self) c.self.invariant
-    c.in-Ok.number v c.in-Ok.ensures.unused c.in-Ok.ensures.added c.args.anon x fits new c.top.result top c.place-tree.result c.place-tree.ensures.placed gone
-    c.free.ensures c.in-Err-add.ensures in
+    let b = added_back _ _ _ _ _ _ c.self.invariant _ _ c.in-Ok.ensures.unused c.in-Ok.ensures.added c.args.anon _ fits new _
+    (c.top.ensures ∙ ap top_of c.get-root.ensures) _ c.place-tree.ensures.placed c.in-Err-put.ensures.1 c.free.ensures c.in-Err-put.ensures.0 in
     b.0
 
-pub returns-in-Err-add-clause-spans : goal.returns-in-Err-add-clause-spans
-returns-in-Err-add-clause-spans c =
-    let s = store_of c.self.inside.arena in
-    let r = root_of c.self.inside.roots in
-    let x : Span = triple c.args.first c.args.last c.args.area in
-    let v : Stored Span ℕ = record { left = None; entry = x; right = None } in
+pub returns-in-Err-put-clause-spans : goal.returns-in-Err-put-clause-spans
+returns-in-Err-put-clause-spans c =
     let fits : c.args.area < 2 ^ 64 = omega arith in
     let new = subst (λ (w : Forest). IsNew c.args.area (triples w c.args.anon)) (sym c.self.view_is) c.requires.other in
-    let top : c.top.result ≡ top_of (r c.args.anon) = c.top.ensures ∙ ap top_of c.get-root.ensures in
-    let gone : r c.args.anon ≡ None = sym c.get-root.ensures ∙ search rules in
-    let b = added_back s (store_of c.add.new.self) (store_of c.place-tree.new.arena) (store_of c.free.new.self) r (root_of c.add-2.new.self) c.self.invariant
-    c.in-Ok.number v c.in-Ok.ensures.unused c.in-Ok.ensures.added c.args.anon x fits new c.top.result top c.place-tree.result c.place-tree.ensures.placed gone
-    c.free.ensures c.in-Err-add.ensures in
-    λ a. subst (λ (w : Forest). entries (tree_at (store_of c.free.new.self) (top_of (root_of c.add-2.new.self a))) ≡ triples w a)
+    let b = added_back _ _ _ _ _ _ c.self.invariant _ _ c.in-Ok.ensures.unused c.in-Ok.ensures.added c.args.anon _ fits new _
+    (c.top.ensures ∙ ap top_of c.get-root.ensures) _ c.place-tree.ensures.placed c.in-Err-put.ensures.1 c.free.ensures c.in-Err-put.ensures.0 in
+    λ a. subst (λ (w : Forest). entries (tree_at (store_of c.free.new.self) (top_of (root_of c.put.new.self a))) ≡ triples w a)
     c.self.view_is (ap entries (b.1 a))
 
-pub returns-in-Err-add-clause-kept : goal.returns-in-Err-add-clause-kept
-returns-in-Err-add-clause-kept c =
-    let s = store_of c.self.inside.arena in
-    let r = root_of c.self.inside.roots in
-    let x : Span = triple c.args.first c.args.last c.args.area in
-    let v : Stored Span ℕ = record { left = None; entry = x; right = None } in
+pub returns-in-Err-put-clause-kept : goal.returns-in-Err-put-clause-kept
+returns-in-Err-put-clause-kept c =
     let fits : c.args.area < 2 ^ 64 = omega arith in
     let new = subst (λ (w : Forest). IsNew c.args.area (triples w c.args.anon)) (sym c.self.view_is) c.requires.other in
-    let top : c.top.result ≡ top_of (r c.args.anon) = c.top.ensures ∙ ap top_of c.get-root.ensures in
-    let gone : r c.args.anon ≡ None = sym c.get-root.ensures ∙ search rules in
-    let b = added_back s (store_of c.add.new.self) (store_of c.place-tree.new.arena) (store_of c.free.new.self) r (root_of c.add-2.new.self) c.self.invariant
-    c.in-Ok.number v c.in-Ok.ensures.unused c.in-Ok.ensures.added c.args.anon x fits new c.top.result top c.place-tree.result c.place-tree.ensures.placed gone
-    c.free.ensures c.in-Err-add.ensures in
-    λ a. subst (λ (w : Forest). tree_at (store_of c.free.new.self) (top_of (root_of c.add-2.new.self a)) ≡ tree_of w a) c.self.view_is (b.1 a)
+    let b = added_back _ _ _ _ _ _ c.self.invariant _ _ c.in-Ok.ensures.unused c.in-Ok.ensures.added c.args.anon _ fits new _
+    (c.top.ensures ∙ ap top_of c.get-root.ensures) _ c.place-tree.ensures.placed c.in-Err-put.ensures.1 c.free.ensures c.in-Err-put.ensures.0 in
+    λ a. subst (λ (w : Forest). tree_at (store_of c.free.new.self) (top_of (root_of c.put.new.self a)) ≡ tree_of w a) c.self.view_is (b.1 a)
