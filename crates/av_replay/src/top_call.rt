@@ -20,6 +20,16 @@ pub struct Outcome {
     pub kernel: Option<Kernel>,
 }
 
+impl Outcome {
+    /// The status alone. The kernel goes, here rather than in a program, which would have to prove
+    /// that of each of its parts once more.
+    pub fn into_status(self) -> Status
+        ensures { result ≡ self.status }
+    {
+        self.status
+    }
+}
+
 /// An outcome without a kernel to go on with.
 fn without_kernel(status: Status) -> Outcome
     ensures status { result.status ≡ status }
