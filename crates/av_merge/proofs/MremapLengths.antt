@@ -1,11 +1,9 @@
 -- Where areas move or grow it does not matter which of two lengths of chains is asked, where they say the same of the areas that there are.
-use Rattle.std.proofs.Common.{◌≡◌, ℕ, suc, ◌+◌, ◌-◌, min, Bool, true, false, cond, Option, Some, None, option_map, refl, sym, ap, subst, ◌∙◌}
-use Rattle.av_base.specs.Page.{address_of}
-use Rattle.av_base.specs.Words.{within}
+use Rattle.std.proofs.Common.{◌≡◌, ℕ, suc, ◌+◌, Option, Some, None, refl, sym, ap, subst, ◌∙◌}
 use Rattle.av_vma.specs.declared.area.Area.{Area}
 use Rattle.av_vma.specs.Join.{first_of}
-use Rattle.av_vma.specs.Mremap.{after_grow, after_move, grown_to, moved_area, moved_range}
-use Rattle.av_vma.specs.Pages.{Lengths, Pages, after_unmap, cut_at, has_page}
+use Rattle.av_vma.specs.Mremap.{after_grow, after_move, grown_to}
+use Rattle.av_vma.specs.Pages.{Lengths, Pages}
 use Rattle.av_vma.proofs.Owns.{AddsNoOwn, HasOwn, full, owns_full, owns_grown}
 use Rattle.av_merge.proofs.Lengths.{AreAlike, around_alike, over_alike}
 
