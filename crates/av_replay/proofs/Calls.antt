@@ -73,5 +73,6 @@ module _ (old now new : Streams) (source : new.source ≡ now.source) where
     flushed_at statuses.WriteFault no_usage no_read no_write in_step = absurd (no_write refl)
 
   -- it failed, where memory was wanting
-  pub memory_unflushed : KeepsBack now.sink new.sink → FailsOnlyAt statuses.Memory old now → FailsOnlyAt statuses.Memory old new × IsFlushed statuses.Memory old new
+  pub memory_unflushed : KeepsBack now.sink new.sink → FailsOnlyAt statuses.Memory old now →
+      FailsOnlyAt statuses.Memory old new × IsFlushed statuses.Memory old new
   memory_unflushed keeps fails = ((same_faults ∙ fails.0, inr (keeps.held ∙ keeps.untold)), inr (inr (keeps.held ∙ keeps.untold, keeps.told)))

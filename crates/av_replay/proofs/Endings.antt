@@ -236,8 +236,12 @@ read_fault : (n : ℕ) (past : Past) (ahead rest : List ℕ) (old now new : Stre
     length past.lines ≤ most_lines → MayGoOn (whole past) rest → Waits ahead rest now new k k' → IsLine rest → Rose now.source.faults new.source.faults →
     StaysOpen now.source new.source → Headline n statuses.ReadFault old new (Some k')
 read_fault n past ahead rest old now new k k' so_far few may waits part rose stays_open =
-    headline n statuses.ReadFault rest old new k' _ _ (stops n past ahead rest old now new k k' so_far few waits)
-    ((refl, may, part), refl, Rose-earlier old.source.faults now.source.faults new.source.faults so_far.later.source rose, λ untold. stays_open (so_far.stays_open untold))
+    headline n statuses.ReadFault rest old new k' _ _ (stops n past ahead rest old now new k k' so_far few waits) (
+      (refl, may, part),
+      refl,
+      Rose-earlier old.source.faults now.source.faults new.source.faults so_far.later.source rose,
+      λ untold. stays_open (so_far.stays_open untold),
+    )
 
 memory : (n : ℕ) (past : Past) (ahead rest : List ℕ) (old now new : Streams) (k k' : Machine) → SoFar n past ahead old now k → length past.lines < most_lines →
     ReadsOn ahead rest now new ⊎ CutsShort ahead now new k k' → Headline n statuses.Memory old new (Some k')

@@ -135,8 +135,8 @@ pub record IsKeptBack (new : Streams) (run : Run) (rest written : List ℕ) : Ty
   pub stops : StopsAt status new run rest
 
 -- how each status ends: what was read beyond the lines done, what was written, and which fault was
--- counted. A read that fails isn't one after the end was told, and no call of the sink is served after
--- one that failed; which call fails no one knows before, so none is made then.
+-- counted. A read that fails isn't one after the end was told, and no call of the sink is served
+-- after one that failed; which call fails no one knows before, so none is made then.
 abbrev pub Ends : Status → Streams → Streams → Run → List ℕ → List ℕ → Type 0
 Ends statuses.Done old new run rest written =
     StopsAt statuses.Done new run rest × (written ≡ texts run.transcript)

@@ -55,7 +55,8 @@ pub fn read_on<S: Source, K: Sink>(
     ensures more { IfOk result (λ n. length pending.new ≡ length pending.old + n) }
     ensures ended { IfOk result
         (λ n. n ≡ 0 → (pending.new ≡ pending.old) × IsAtEnd (S.view source.new)) }
-    ensures stays_open { IfOk result (λ n. 0 < n → StaysOpen (S.view source.old) (S.view source.new)) }
+    ensures stays_open { IfOk result
+        (λ n. 0 < n → StaysOpen (S.view source.old) (S.view source.new)) }
     ensures unfailed { FailsOnly result (streams (S.view source.old) (K.view sink.old))
         (streams (S.view source.new) (K.view sink.new)) }
     ensures in_step { AreInStep (streams (S.view source.old) (K.view sink.old))
