@@ -42,33 +42,21 @@ impl Nodes {
         ensures heads { HaveHead key (Some (head_with place (get nat_eq heads.old key)))
             (get nat_eq heads.old) (get nat_eq heads.new) }
     {
-        let head = match heads.get(&key) {
-            Some(head) => Some(*head),
-            None => None,
-        };
-        match head {
-            None => set_head(
-                heads,
-                key,
-                Head {
-                    first: place,
-                    last: place,
-                    count: 1,
-                },
-            ),
-            Some(head) => {
-                self.lead_on(way, Some(head.last), Some(place));
-                set_head(
-                    heads,
-                    key,
-                    Head {
-                        first: head.first,
-                        last: place,
-                        count: head.count + 1,
-                    },
-                );
-            }
+        if let Some(head) = heads.get_mut(&key) {
+            self.lead_on(way, Some(head.last), Some(place));
+            head.last = place;
+            head.count += 1;
+            return;
         }
+        set_head(
+            heads,
+            key,
+            Head {
+                first: place,
+                last: place,
+                count: 1,
+            },
+        );
     }
 
     /// Takes a node with these neighbours out of its list.
@@ -83,15 +71,14 @@ impl Nodes {
     {
         self.lead_on(way, sides.before, sides.after);
         self.lead_back(way, sides.after, sides.before);
-        let head = match heads.get(&key) {
-            Some(head) => *head,
-            None => return,
+        let Some(head) = heads.get_mut(&key) else {
+            return;
         };
-        match left(sides, head) {
+        match left(sides, *head) {
             None => {
                 heads.remove(&key);
             }
-            Some(left) => set_head(heads, key, left),
+            Some(left) => *head = left,
         }
     }
 }

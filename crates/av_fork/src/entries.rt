@@ -33,7 +33,9 @@ pub fn fork_entries(mem: &mut Mem, alloc: Global, parent: u16, child: u16) -> Re
     mem.tables.protect(parent);
     let mut number = 0;
     while let Some(page) = mem.tables.next_from(child, number * GROUP as u64) {
-        let group = mem.tables.group(child, page / GROUP as u64);
+        let mut group = [Pte::Empty; GROUP];
+        mem.tables
+            .read_group(child, page / GROUP as u64, &mut group);
         map_up_each(&mut mem.frames, &group);
         number = page / GROUP as u64 + 1;
     }

@@ -219,7 +219,7 @@ impl Frames {
         requires { (from < (seen self.old).count) × (to < (seen self.old).count) }
         ensures { seen self.new ≡ with_bytes to ((seen self.old).bytes from) (seen self.old) }
     {
-        self.bytes.put(to as usize, *self.bytes.get(from as usize));
+        self.bytes.copy(from as usize, to as usize);
     }
 
     /// Makes each byte of a frame zero.

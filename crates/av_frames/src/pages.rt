@@ -70,6 +70,16 @@ impl Pages {
         self.filled[frame] = page;
     }
 
+    /// Puts the bytes of one page in the place of another's.
+    pub fn copy(&mut self, from: usize, to: usize)
+        requires { (from < length self.old) × (to < length self.old) }
+        ensures { self.new ≡ slice_set self.old to (slice_index_or self.old from []) }
+    {
+        // Room first: so the bytes are copied once, from page to page.
+        fill(&mut self.filled, to + 1);
+        self.filled[to] = *self.get(from);
+    }
+
     /// Writes a piece over a page's bytes from `at` on.
     pub fn write_at(&mut self, frame: usize, at: usize, piece: &[u8])
         requires in_range { frame < length self.old }

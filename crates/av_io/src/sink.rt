@@ -1,6 +1,6 @@
 //! Sinks for bytes.
 
-ghost use Rattle.std.specs.Prelude.{◌≡◌, [], Some, None, length, IfOk, IfErr, OnOk, OnErr};
+ghost use Rattle.std.specs.Prelude.{◌≡◌, [], Some, None, false, length, IfOk, IfErr, OnOk, OnErr};
 ghost use Rattle.std.specs.Io.Buffered.{writer_buffer, writer_contents, writer_inner};
 ghost use Rattle.std.specs.Io.KnownBytes.{Keeps, WriteAppends};
 ghost use Rattle.std.specs.IoError.{error_kind};
@@ -43,6 +43,7 @@ pub struct MemSink {
     bytes: Vec<u8>,
     flushes: u64,
     faults: Faults,
+    has_failed: bool,
 }
 
 impl MemSink {
@@ -53,6 +54,7 @@ impl MemSink {
           kept_back = [];
           flushes = 0;
           faults = 0;
+          has_failed = false;
         } }
         ensures calls { IsFresh result.faults failing }
     {
@@ -60,6 +62,7 @@ impl MemSink {
             bytes: Vec::new(alloc),
             flushes: 0,
             faults: Faults::new(failing),
+            has_failed: false,
         }
     }
 
@@ -77,6 +80,7 @@ impl Sink for MemSink {
       kept_back = [];
       flushes = s.flushes;
       faults = s.faults.count;
+      has_failed = s.has_failed;
     } };
 
     /// Beside what the trait says: exactly the calls that are listed fail, and any other takes the
@@ -89,7 +93,8 @@ impl Sink for MemSink {
         ensures calls { IsNextCall self.old.faults self.new.faults (is_fault result) }
         ensures whole { IfOk result (λ n. n ≡ length piece.now) }
     {
-        if self.faults.next_fails() {
+        self.has_failed = self.faults.next_fails();
+        if self.has_failed {
             return Err(SinkErr::Failed);
         }
         if self.bytes.extend_from_slice(piece).is_err() {
@@ -107,6 +112,7 @@ impl Sink for MemSink {
         ensures calls { self.new.faults ≡ self.old.faults }
     {
         self.flushes = self.flushes.saturating_add(1);
+        self.has_failed = false;
         Ok(())
     }
 }
@@ -118,6 +124,7 @@ pub struct WriteSink<W: Write + Drop> {
     writer: BufWriter<W>,
     flushes: u64,
     faults: u64,
+    has_failed: bool,
 }
 
 impl<W: Write + Drop> WriteSink<W> {
@@ -128,6 +135,7 @@ impl<W: Write + Drop> WriteSink<W> {
           kept_back = [];
           flushes = 0;
           faults = 0;
+          has_failed = false;
         }) }
         ensures writer { IfOk result (λ s. writer_inner s.writer ≡ writer) }
         ensures err { IfErr result (λ e. error_kind e ≡ ErrorKind.OutOfMemory) }
@@ -136,6 +144,7 @@ impl<W: Write + Drop> WriteSink<W> {
             writer: BufWriter::with_capacity(alloc, ROOM, writer)?,
             flushes: 0,
             faults: 0,
+            has_failed: false,
         })
     }
 }
@@ -146,6 +155,7 @@ impl<W: Write + Drop> Sink for WriteSink<W> {
       kept_back = writer_buffer s.writer;
       flushes = s.flushes;
       faults = s.faults;
+      has_failed = s.has_failed;
     } };
 
     /// Beside what the trait says: what the writer holds and what is kept back for it gain what is
@@ -159,8 +169,12 @@ impl<W: Write + Drop> Sink for WriteSink<W> {
             (writer_contents W.contents self.new.writer) result piece.now }
     {
         match self.writer.write(piece) {
-            Ok(count) if count > 0 || piece.is_empty() => Ok(count),
+            Ok(count) if count > 0 || piece.is_empty() => {
+                self.has_failed = false;
+                Ok(count)
+            }
             _ => {
+                self.has_failed = true;
                 self.faults = self.faults.saturating_add(1);
                 Err(SinkErr::Failed)
             }
@@ -176,7 +190,8 @@ impl<W: Write + Drop> Sink for WriteSink<W> {
         ensures bytes { Keeps (writer_contents W.contents self.old.writer)
             (writer_contents W.contents self.new.writer) }
     {
-        if self.writer.flush().is_err() {
+        self.has_failed = self.writer.flush().is_err();
+        if self.has_failed {
             self.faults = self.faults.saturating_add(1);
             return Err(Failed);
         }

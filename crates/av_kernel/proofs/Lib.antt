@@ -6,7 +6,6 @@ pub mod MapLaws
 pub mod MapProts
 pub mod MremapTests
 pub mod MremapRefusals
-pub mod MremapKept
 pub mod MremapLaws
 pub mod MremapGoes
 pub mod PageWritten

@@ -55,7 +55,7 @@ use Rattle.av_mremap.specs.Areas.{HasRemap}
 use Rattle.av_mremap.specs.Entries.{HasRemapped}
 use Rattle.av_kernel.specs.Mremap.{StaySmall}
 use Rattle.av_kernel.specs.Step.{MemSteps}
-use Rattle.av_kernel.proofs.MremapKept.{came, grew, here_goes, here_stays, left as has_left, of_others, stays}
+use Rattle.av_plain.proofs.Mremap.Entries.{came, grew, here_goes, here_stays, left as has_left, of_others, stays}
 use Rattle.av_kernel.proofs.PlaceLaws.{page_back}
 use Rattle.av_kernel.proofs.ProcessLaws.{at_number}
 use Rattle.av_kernel.proofs.StepLaws.{is_number, kept-on, moved_on, stays_orderly, stepped}

@@ -1,18 +1,18 @@
 -- What an mremap goes by: the protections of pages, and where they go.
-use Rattle.std.specs.Prelude.{◌≡◌, ℕ, ◌+◌, ◌-◌, ◌^◌, ◌<◌, ◌≤◌, Some, None, option_map, IsSomeAnd, Result, Ok, Err}
+use Rattle.std.specs.Prelude.{◌≡◌, ℕ, ◌+◌, ◌-◌, ◌^◌, ◌<◌, ◌≤◌, Some, None, IsSomeAnd, Result, Ok, Err}
 use Rattle.av_trace.specs.declared.mode.Mode.{Mode}
 use Rattle.av_trace.specs.declared.reply.Errno.{Errno}
 use Rattle.av_trace.specs.declared.reply.Errno.TheVariants.{Enomem}
 use Rattle.av_vma.specs.Join.{index_of}
 use Rattle.av_vma.specs.declared.area.Area.{Area}
 use Rattle.av_spaces.specs.Spaces.{Spaces, pages_of}
-use Rattle.av_plain.specs.Mremap.{MovesTo, prot_at}
+use Rattle.av_plain.specs.Areas.{HaveProtsOf}
+use Rattle.av_plain.specs.Mremap.{MovesTo}
 use Rattle.av_plain.specs.World.{Process}
 
--- the pages of p have the protections of those of q, and no other page of it is mapped
+-- the areas of p are on the pages of q, with their protections
 abbrev pub HasProtsOf : Spaces → ℕ → Process → Type 0
-HasProtsOf s p q = (page : ℕ)
-    → option_map (λ (area : Area). area.prot) (pages_of s p page) ≡ prot_at q page
+HasProtsOf s p q = HaveProtsOf (pages_of s p) q
 
 -- n pages become m from this page on, or there is no room
 abbrev pub IsTarget : Process → ℕ → ℕ → ℕ → Mode → Result ℕ Errno → Type 0

@@ -29,7 +29,7 @@ use Rattle.av_plain.proofs.AreasLeft.{AreBelow, left-all, left-none}
 use Rattle.av_laws.proofs.Choice.{gives_all}
 use Rattle.av_laws.specs.Areas.{area, area_of, family, one_root, two_roots}
 use Rattle.av_laws.specs.Examples.{Forbids, Runs, machine, read_only, read_write, reply_with, says}
-use Rattle.av_laws.specs.Mremap.{LeavesFrames, LeavesPage, NeverLeavesEntries, NeverLeavesPage, NeverMoves, RemapsTo, all_move, all_sevens, at_top, behind_itself, entries_at_top, entries_here, entries_of_first, entries_of_part, entries_of_second, entries_of_two, entries_there, entries_without_tail, first_doubles, for_reading, grows, grows_by_one, grows_by_two, grows_or_moves, moved_of, of_none, of_root, of_two_processes, of_two_roots, one_at_target, one_left_behind, one_lost, one_twice, one_unseen, out_of_place, pair_moves, part_moves, prepared, second_grows, second_moves, second_shrinks, second_stays, sevens, shrinks, three_kinds, top_grows, top_moves, two_move, with_frames, with_hole, with_long_chain, with_neighbour, with_next, with_target, zeros_stay}
+use Rattle.av_laws.specs.Mremap.{LeavesFrames, LeavesPage, NeverLeavesEntries, NeverLeavesPage, NeverMoves, RemapsTo, all_move, all_sevens, at_top, behind_itself, entries_at_top, entries_here, entries_of_first, entries_of_part, entries_of_second, entries_of_two, entries_there, entries_without_tail, first_doubles, for_reading, grows, grows_by_one, grows_by_two, grows_or_moves, moved_of, of_none, of_root, of_two_processes, of_two_roots, one_at_target, one_left_behind, one_lost, one_twice, one_unseen, out_of_place, pair_moves, part_moves, second_grows, second_moves, second_shrinks, second_stays, sevens, shrinks, side_by_side, three_kinds, top_grows, top_moves, two_move, with_frames, with_hole, with_long_chain, with_neighbour, with_next, with_target, zeros_stay}
 use Rattle.av_laws.proofs.AnonExamples.{now-is}
 use Rattle.av_plain.proofs.Choice.{ChoosesFrames}
 use Rattle.av_laws.proofs.Determined.{loads-told}
@@ -167,20 +167,20 @@ joins_behind = remaps with_next 0x10000 16384 16384 (FixedAt 0x18000) 0x18000 (M
     (still, (still, refl, refl), refl) refl (left-none _) 0xf (area 0x18 0x1d read_write ∷ []) entries_there
     refl refl
 
-pub joins_before : RemapsTo prepared second_grows 0x11000 0xf (area_of 0 0x10 0x14 ∷ []) entries_here
-joins_before = remaps prepared 0x11000 8192 12288 Plain 0x11000 []
+pub joins_before : RemapsTo side_by_side second_grows 0x11000 0xf (area_of 0 0x10 0x14 ∷ []) entries_here
+joins_before = remaps side_by_side 0x11000 8192 12288 Plain 0x11000 []
     (record { answer = (Some 0x11, refl, refl, refl, refl); notes = refl })
     refl refl (stays one_root _ one-below refl) 0xf (area_of 0 0x10 0x14 ∷ []) entries_here
     refl refl
 
-pub shrinks_apart : RemapsTo prepared second_shrinks 0x11000 0xf (area_of 0 0x10 0x11 ∷ area_of 0 0x11 0x12 ∷ []) entries_here
-shrinks_apart = remaps prepared 0x11000 8192 4096 Plain 0x11000 []
+pub shrinks_apart : RemapsTo side_by_side second_shrinks 0x11000 0xf (area_of 0 0x10 0x11 ∷ area_of 0 0x11 0x12 ∷ []) entries_here
+shrinks_apart = remaps side_by_side 0x11000 8192 4096 Plain 0x11000 []
     (record { answer = (Some 0x11, refl, refl, refl, refl); notes = refl })
     refl refl (stays one_root _ one-below refl) 0xf (area_of 0 0x10 0x11 ∷ area_of 0 0x11 0x12 ∷ []) entries_here
     refl refl
 
-pub stays_apart : RemapsTo prepared second_stays 0x11000 0xf (area_of 0 0x10 0x11 ∷ area_of 0 0x11 0x13 ∷ []) entries_here
-stays_apart = remaps prepared 0x11000 8192 8192 Plain 0x11000 []
+pub stays_apart : RemapsTo side_by_side second_stays 0x11000 0xf (area_of 0 0x10 0x11 ∷ area_of 0 0x11 0x13 ∷ []) entries_here
+stays_apart = remaps side_by_side 0x11000 8192 8192 Plain 0x11000 []
     (record { answer = (Some 0x11, refl, refl, refl, refl); notes = refl })
     refl refl (stays one_root _ one-below refl) 0xf (area_of 0 0x10 0x11 ∷ area_of 0 0x11 0x13 ∷ []) entries_here
     refl refl
@@ -471,12 +471,12 @@ pub apart_behind : NeverMoves with_next all_move 0x18000 0x18 (area 0x18 0x1c re
 apart_behind = never-moves with_next 0x10000 16384 16384 (FixedAt 0x18000) 0x18000 refl 0x18 (area 0x18 0x1c read_write)
     (λ e. let d : ◌≡◌ {A = ℕ} 0x1d000 0x1c000 = ap end_in e in omega (arith, d))
 
-pub apart_before : NeverMoves prepared second_grows 0x11000 0x10 (area_of 0 0x10 0x11)
-apart_before = never-moves prepared 0x11000 8192 12288 Plain 0x11000 refl 0x10 (area_of 0 0x10 0x11)
+pub apart_before : NeverMoves side_by_side second_grows 0x11000 0x10 (area_of 0 0x10 0x11)
+apart_before = never-moves side_by_side 0x11000 8192 12288 Plain 0x11000 refl 0x10 (area_of 0 0x10 0x11)
     (λ e. let d : ◌≡◌ {A = ℕ} 0x14000 0x11000 = ap end_in e in omega (arith, d))
 
-pub joined_when_shrunk : NeverMoves prepared second_shrinks 0x11000 0x10 (area_of 0 0x10 0x12)
-joined_when_shrunk = never-moves prepared 0x11000 8192 4096 Plain 0x11000 refl 0x10 (area_of 0 0x10 0x12)
+pub joined_when_shrunk : NeverMoves side_by_side second_shrinks 0x11000 0x10 (area_of 0 0x10 0x12)
+joined_when_shrunk = never-moves side_by_side 0x11000 8192 4096 Plain 0x11000 refl 0x10 (area_of 0 0x10 0x12)
     (λ e. let d : ◌≡◌ {A = ℕ} 0x11000 0x12000 = ap end_in e in omega (arith, d))
 
 pub joined_by_long_chain : NeverMoves with_long_chain grows_by_two 0x10000 0x10 (area_of 1 0x10 0x16)

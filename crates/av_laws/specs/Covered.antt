@@ -1,18 +1,15 @@
 -- The areas of each process, and its pages.
-use Rattle.std.specs.Prelude.{◌≡◌, ℕ, option_map}
+use Rattle.std.specs.Prelude.{ℕ}
 use Rattle.av_vma.specs.Indices.{AreIndicesBelow}
 use Rattle.av_vma.specs.Pages.{AreLaid}
-use Rattle.av_vma.specs.declared.area.Area.{Area}
-use Rattle.av_plain.specs.Areas.{Areas}
-use Rattle.av_plain.specs.World.{Page, World, pages}
+use Rattle.av_plain.specs.Areas.{Areas, HaveProtsOf}
+use Rattle.av_plain.specs.World.{World, pages}
 
 -- each area is whole, and on all of its pages and on no other; a page has an area exactly where it
 -- is mapped, with its protection
 pub record CoverPages (w : World) (on : Areas) : Type 0 where
   pub laid : (p : ℕ) → AreLaid (on p)
-  pub prots : (p page : ℕ)
-      → option_map (λ (area : Area). area.prot) (on p page)
-      ≡ option_map (λ (q : Page). q.prot) (pages w p page)
+  pub prots : (p : ℕ) → HaveProtsOf (on p) (pages w p)
 
 -- and all linear indices are below this number
 pub record CoverBelow (most : ℕ) (w : World) (on : Areas) : Type 0 where

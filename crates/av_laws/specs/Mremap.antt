@@ -166,8 +166,8 @@ abbrev pub with_next : State
 with_next = with_content (bare_four ++ area 0x1c 0x1d read_write ∷ []) no_anons
 
 -- two areas of root 0 side by side that are not joined yet
-abbrev pub prepared : State
-prepared = with_content (area_of 0 0x10 0x11 ∷ area_of 0 0x11 0x13 ∷ []) one_root
+abbrev pub side_by_side : State
+side_by_side = with_content (area_of 0 0x10 0x11 ∷ area_of 0 0x11 0x13 ∷ []) one_root
 
 -- two pages whose chain has two nodes, and two bare ones behind a hole of two
 abbrev pub with_long_chain : State

@@ -60,7 +60,6 @@ ghost use Rattle.av_laws.specs.Mremap.{
   pair_moves,
   part_moves,
   past_the_top,
-  prepared,
   remap_refusals,
   second_grows,
   second_moves,
@@ -68,6 +67,7 @@ ghost use Rattle.av_laws.specs.Mremap.{
   second_stays,
   sevens,
   shrinks,
+  side_by_side,
   three_kinds,
   three_pages,
   top_grows,
@@ -139,11 +139,11 @@ pub fn pages_stay_or_find_a_place()
         entries_here }
     ensures grows_and_joins { RemapsTo with_hole grows_by_two 0x10000 0xf
         (area_of 0 0x10 0x16 ∷ []) entries_here }
-    ensures joins_before { RemapsTo prepared second_grows 0x11000 0xf
+    ensures joins_before { RemapsTo side_by_side second_grows 0x11000 0xf
         (area_of 0 0x10 0x14 ∷ []) entries_here }
-    ensures shrinks_apart { RemapsTo prepared second_shrinks 0x11000 0xf
+    ensures shrinks_apart { RemapsTo side_by_side second_shrinks 0x11000 0xf
         (area_of 0 0x10 0x11 ∷ area_of 0 0x11 0x12 ∷ []) entries_here }
-    ensures stays_apart { RemapsTo prepared second_stays 0x11000 0xf
+    ensures stays_apart { RemapsTo side_by_side second_stays 0x11000 0xf
         (area_of 0 0x10 0x11 ∷ area_of 0 0x11 0x13 ∷ []) entries_here }
     ensures long_chain { RemapsTo with_long_chain grows_by_two 0x10000 0xf
         (area_of 1 0x10 0x14 ∷ area 0x14 0x16 read_write ∷ []) entries_here }
@@ -191,8 +191,8 @@ pub fn changed_mremaps_are_refused()
     ensures wrong_way { NeverMoves out_of_place pair_moves 0x18000 0x19 (area_of 1 0x19 0x1b) }
     ensures apart_behind { NeverMoves with_next all_move 0x18000 0x18
         (area 0x18 0x1c read_write) }
-    ensures apart_before { NeverMoves prepared second_grows 0x11000 0x10 (area_of 0 0x10 0x11) }
-    ensures joined_when_shrunk { NeverMoves prepared second_shrinks 0x11000 0x10
+    ensures apart_before { NeverMoves side_by_side second_grows 0x11000 0x10 (area_of 0 0x10 0x11) }
+    ensures joined_when_shrunk { NeverMoves side_by_side second_shrinks 0x11000 0x10
         (area_of 0 0x10 0x12) }
     ensures joined_by_long_chain { NeverMoves with_long_chain grows_by_two 0x10000 0x10
         (area_of 1 0x10 0x16) }

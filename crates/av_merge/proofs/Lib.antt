@@ -10,5 +10,6 @@ pub mod Lengths
 pub mod Linked
 pub mod Mappings
 pub mod MremapLaws
+pub mod MremapLengths
 pub mod Places
 pub mod Prepares

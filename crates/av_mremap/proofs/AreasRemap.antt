@@ -9,6 +9,7 @@ use Rattle.av_vma.specs.Pages.{Lengths, Pages, after_map, after_unmap, pages_in}
 use Rattle.av_anon.specs.declared.anons.Anons.{Anons as AnonSet}
 use Rattle.av_merge.specs.Kin.{lengths}
 use Rattle.av_merge.proofs.Lengths.{AreAlike, map_alike}
+use Rattle.av_merge.proofs.MremapLengths.{grow_alike, move_alike}
 use Rattle.av_spaces.specs.Kin.{AnonsStay}
 use Rattle.av_spaces.specs.Spaces.{AllSpaces, AreThese, IsChanged, Spaces, areas_of, is_taken, pages_of}
 use Rattle.av_spaces.proofs.Kin.{stay_both, stay_same}
@@ -22,7 +23,6 @@ use Rattle.av_reclaim.specs.Mem.{Keeps}
 use Rattle.av_reclaim.proofs.AnonLaws.{lengths_alike}
 use Rattle.av_reclaim.proofs.MemLaws.{all_apart}
 use Rattle.av_mremap.specs.Areas.{HasRemap}
-use Rattle.av_mremap.proofs.AreasAlike.{grow_alike, move_alike}
 
 equal : (a b : ℕ) → (a == b) ≡ true → a ≡ b
 equal a b h = grind (arith, nat_tests, h)

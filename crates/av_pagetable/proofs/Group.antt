@@ -1,5 +1,5 @@
 -- A walk over the parts of a last table, from the first of a group on, gathers the group's entries.
-use Rattle.std.proofs.Common.{◌≡◌, ℕ, ◌+◌, ◌-◌, ◌*◌, ◌/◌, ◌<◌, ◌≤◌, List, ◌∷◌, length, drop, slice_set, get_or, sym, ap, ◌∙◌, arith, inl, inr, get_or-set_same, get_or-set_other}
+use Rattle.std.proofs.Common.{◌≡◌, ℕ, zero, suc, ◌+◌, ◌-◌, ◌*◌, ◌/◌, ◌<◌, ◌≤◌, List, ◌∷◌, length, drop, slice_set, get_or, sym, ap, ◌∙◌, arith, inl, inr, get_or-set_same, get_or-set_other}
 use Rattle.std.proofs.lemmas.Bool.{cases_eq, cases_lt}
 use Rattle.std.proofs.lemmas.List.{get_or_default, length-drop}
 use Rattle.std.proofs.lemmas.Nat.{div-add-mod', mod_below}
@@ -9,6 +9,12 @@ use Rattle.av_pagetable.specs.declared.pte.Pte.TheVariants.{Empty}
 use Rattle.av_pagetable.specs.Dir.{alone, entries, AreParts}
 use Rattle.av_pagetable.proofs.DirEntries.{absent, entries_there}
 use Rattle.av_pagetable.proofs.Walk.{next_item}
+
+-- the place from which on the parts have this number or a greater one
+pub record IsPlaceFrom {C : Type 0} (number : ℕ) (parts : List (ℕ × C)) (k : ℕ) : Type 0 where
+  pub within : k ≤ length parts
+  pub lower : AllWithin (λ part. part.0 < number) parts 0 k
+  pub higher : AllWithin (λ part. number ≤ part.0) parts k (length parts)
 
 -- the walk stands at a place: the group has the entries of the pages below a bound, and no other
 pub record IsGathered (parts : List (ℕ × Pte)) (first : ℕ) (group : List Pte) (rest : List (ℕ × Pte)) : Type 0 where
@@ -23,35 +29,61 @@ pub record IsGathered (parts : List (ℕ × Pte)) (first : ℕ) (group : List Pt
   pub none : (i : ℕ) → i < 64 → bound ≤ first + i → get_or group i Empty ≡ Empty
 
 module _ (parts : List (ℕ × Pte)) (good : AreParts alone 1 parts) (first : ℕ) where
-  -- at the start no part of a lower number is left, and the group has no entry
-  pub from_gap : (k : ℕ) (group : List Pte) (rest : List (ℕ × Pte)) → k ≤ length parts → AllWithin (λ part. part.0 < first) parts 0 k
-      → AllWithin (λ part. first < part.0) parts k (length parts)
-      → ((i : ℕ) → get_or group i Empty ≡ Empty) → rest ≡ drop k parts → IsGathered parts first group rest
-  from_gap k group rest within lower higher none is = record {
-    place = k;
-    bound = first;
-    from = omega arith;
+  pub from_gap : (k : ℕ) → k ≤ length parts → AllWithin (λ part. part.0 < first) parts 0 k
+      → AllWithin (λ part. first < part.0) parts k (length parts) → IsPlaceFrom first parts k
+  from_gap k within lower higher = record {
     within = within;
-    is = is;
     lower = lower;
     higher = λ i d low high. let h = higher i d low high in omega (arith, h);
-    done = λ i under low. absurd (omega (arith, low));
-    none = λ i under low. none i;
   }
 
-  pub from_part : (k : ℕ) (group : List Pte) (rest : List (ℕ × Pte)) → k < length parts → HoldsAt (λ part. part.0 ≡ first) parts k
-      → ((i : ℕ) → get_or group i Empty ≡ Empty) → rest ≡ drop k parts → IsGathered parts first group rest
-  from_part k group rest within number none is = record {
-    place = k;
-    bound = first;
-    from = omega arith;
+  pub from_part : (k : ℕ) → k < length parts → HoldsAt (λ part. part.0 ≡ first) parts k → IsPlaceFrom first parts k
+  from_part k within number = record {
     within = omega (arith, within);
-    is = is;
     lower = λ i d low high. let lt = good.rising i k d high within in let n = number d in omega (arith, lt, n);
     higher = λ i d low high. elim (cases_eq i k) [
       | inl e ↦ let same = ap (λ i. (get_or parts i d).0) e in let n = number d in omega (arith, same, n)
       | inr ne ↦ let lt = good.rising k i d (omega (arith, low, ne)) high in let n = number d in omega (arith, lt, n)
     ];
+  }
+
+  -- numbers rise by one a place at least
+  steps : (k n : ℕ) (d : ℕ × Pte) → k + n < length parts → (get_or parts k d).0 + n ≤ (get_or parts (k + n) d).0
+  steps k zero d within = let same : (get_or parts (k + 0) d).0 ≡ (get_or parts k d).0 = ap (λ i. (get_or parts i d).0) (omega arith) in omega (arith, same)
+  steps k (suc n) d within =
+      let before = steps k n d (omega (arith, within)) in
+      let lt = good.rising (k + n) (k + suc n) d (omega arith) within in
+      omega (arith, before, lt)
+
+  -- where as many parts stand from a place on as a group has pages, and the last is of its last page, each page has its part
+  module _ (k : ℕ) (from : IsPlaceFrom first parts k) (many : k + 63 < length parts) (last : HoldsAt (λ part. part.0 ≡ first + 63) parts (k + 63)) where
+    number_there : (i : ℕ) → i < 64 → (d : ℕ × Pte) → (get_or parts (k + i) d).0 ≡ first + i
+    number_there i under d =
+        let least = from.higher k d (omega arith) (omega (arith, many)) in
+        let up = steps k i d (omega (arith, many, under)) in
+        let over = steps (k + i) (63 - i) d (omega (arith, many, under)) in
+        let end : (get_or parts (k + i + (63 - i)) d).0 ≡ (get_or parts (k + 63) d).0 = ap (λ j. (get_or parts j d).0) (omega (arith, under)) in
+        let is = last d in
+        omega (arith, least, up, over, end, is, under)
+
+    pub whole_there : (i : ℕ) → i < 64 → entries alone 1 parts (first + i) ≡ (get_or parts (k + i) (0, Empty)).1
+    whole_there i under =
+        let p = get_or parts (k + i) (0, Empty) in
+        let within : k + i < length parts = omega (arith, many, under) in
+        let page : first + i ≡ p.0 * 1 + 0 = omega (arith, number_there i under (0, Empty)) in
+        ap (entries alone 1 parts) page ∙ entries_there alone 1 parts good (k + i) p within (get_or_default parts (k + i) (0, Empty) p within) 0 (omega arith)
+
+  -- at the start no part of a lower number is left, and the group has no entry
+  pub at_start : (k : ℕ) (group : List Pte) (rest : List (ℕ × Pte)) → IsPlaceFrom first parts k
+      → ((i : ℕ) → get_or group i Empty ≡ Empty) → rest ≡ drop k parts → IsGathered parts first group rest
+  at_start k group rest start none is = record {
+    place = k;
+    bound = first;
+    from = omega arith;
+    within = start.within;
+    is = is;
+    lower = start.lower;
+    higher = start.higher;
     done = λ i under low. absurd (omega (arith, low));
     none = λ i under low. none i;
   }

@@ -1,3 +1,8 @@
+ghost use Rattle.std.specs.Prelude.{◌≡◌, ℕ, ◌+◌, ◌<◌, ◌≤◌, length, slice_index_or, HoldsAt, MatchBool};
+ghost use Rattle.av_pagetable.specs.Table.{group_size};
+ghost use Rattle.av_pagetable.specs.Dir.{IsWhole};
+ghost use Rattle.av_pagetable.specs.declared.pte.Pte.{Pte};
+
 use crate::level::Level;
 use crate::pte::Pte;
 use crate::table::{GROUP, no_entries};
@@ -295,23 +300,55 @@ impl Dir<Pte> {
     ghost use Rattle.av_pagetable.specs.Dir.{alone, entries};
     ghost use Rattle.av_pagetable.specs.declared.pte.Pte.{Pte};
 
-    /// The entries of a group of pages side by side, from page `first` on.
-    pub fn group(&self, first: u64) -> [Pte; GROUP]
+    /// Reads the entries of a group of pages side by side, from page `first` on, over what is
+    /// there.
+    pub fn read_group(&self, first: u64, group: &mut [Pte; GROUP])
         ensures { (i : ℕ) → i < group_size
-            → slice_index_or result i Pte.Empty ≡ entries alone 1 self.now (first + i) }
+            → slice_index_or group.new i Pte.Empty ≡ entries alone 1 self.now (first + i) }
     {
-        let mut group = no_entries();
         let start = match self.place(first) {
             Ok(place) => place,
             Err(place) => place,
         };
+        let (parts, _) = self.parts.as_slices();
+        if is_whole(parts, start, first) {
+            copy_entries(parts, start, group);
+            return;
+        }
+        *group = no_entries();
         for part in self.parts.range(start..) {
             let i = u64::from(part.0) - first;
             if i >= GROUP as u64 {
-                return group;
+                return;
             }
             group[i as usize] = part.1;
         }
-        group
+    }
+}
+
+// Whether a group has as many parts from a place on as pages. Their numbers rise, so where the last
+// of so many is that of the group's last page, none is missing.
+#[inline]
+fn is_whole(parts: &[(u16, Pte)], start: usize, first: u64) -> bool
+    ensures { MatchBool result
+        (IsWhole first parts.now start)
+        (IsWhole first parts.now start → ⊥) }
+{
+    if parts.len() < GROUP || start > parts.len() - GROUP {
+        return false;
+    }
+    let last = u64::from(parts[start + (GROUP - 1)].0);
+    first <= last && last - first == GROUP as u64 - 1
+}
+
+// Copies the entries of the parts of a whole group, from a place on.
+#[inline]
+fn copy_entries(parts: &[(u16, Pte)], start: usize, group: &mut [Pte; GROUP])
+    requires { start + group_size ≤ length parts.now }
+    ensures { (i : ℕ) → i < group_size
+        → HoldsAt (λ part. slice_index_or group.new i Pte.Empty ≡ part.1) parts.now (start + i) }
+{
+    for i in 0..GROUP {
+        group[i] = parts[start + i].1;
     }
 }

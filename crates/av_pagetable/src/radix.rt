@@ -121,10 +121,10 @@ impl Table for RadixTable {
         self.top.next_from(page)
     }
 
-    fn group(&self, number: u64) -> [Pte; GROUP] {
+    fn read_group(&self, number: u64, group: &mut [Pte; GROUP]) {
         match self.leaf(number / GROUPS) {
-            Some(leaf) => leaf.group(number % GROUPS * GROUP as u64),
-            None => no_entries(),
+            Some(leaf) => leaf.read_group(number % GROUPS * GROUP as u64, group),
+            None => *group = no_entries(),
         }
     }
 

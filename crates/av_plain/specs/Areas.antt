@@ -1,7 +1,7 @@
 -- What reverse mapping goes by, beside the memories: the areas of each process, the anon_vmas, and
 -- the home of each frame. And what a command makes of them: by what was there and the memories
 -- before it, its events, the command and its answer. They are not part of what makes a reply legal.
-use Rattle.std.specs.Prelude.{◌≡◌, ℕ, suc, ◌+◌, if◌then◌else◌, Bool, true, List, [], ◌∷◌, length, Option, Some, None, IsSome, IsSomeAnd}
+use Rattle.std.specs.Prelude.{◌≡◌, ℕ, suc, ◌+◌, if◌then◌else◌, Bool, true, List, [], ◌∷◌, length, Option, Some, None, IsSome, IsSomeAnd, option_map}
 use Rattle.std.specs.Option.{option_map_or}
 use Rattle.av_base.specs.Page.{page_of, pages_of}
 use Rattle.av_base.specs.Words.{is_in, with_at}
@@ -16,11 +16,12 @@ use Rattle.av_trace.specs.declared.reply.Errno.TheVariants.{Enomem}
 use Rattle.av_trace.specs.declared.note.Note.{Note}
 use Rattle.av_trace.specs.declared.note.Note.TheVariants.{New, Copied}
 use Rattle.av_vma.specs.Pages.{Lengths, Pages, after_map, after_prepare, after_unmap, home_of, makes_anon, pages_changed, to_prot}
+use Rattle.av_vma.specs.declared.area.Area.{Area}
 use Rattle.av_plain.specs.Event.{Event, Noted, Used, after}
 use Rattle.av_plain.specs.Ledger.{Entry, InFrame, Key, Ledger, entry}
-use Rattle.av_plain.specs.Mremap.{after_mremap, prot_left}
+use Rattle.av_plain.specs.Mremap.{after_mremap, prot_at, prot_left}
 use Rattle.av_plain.specs.Refusal.{wraps}
-use Rattle.av_plain.specs.World.{World, pages, pages_to_hole}
+use Rattle.av_plain.specs.World.{Process, World, pages, pages_to_hole}
 
 -- ---- areas
 
@@ -31,6 +32,10 @@ Areas = ℕ → Pages
 -- a process without any area
 abbrev pub none_on : Pages
 none_on page = None
+
+-- these are on the pages that are mapped, with their protections, and on no other page
+abbrev pub HaveProtsOf : Pages → Process → Type 0
+HaveProtsOf on q = (page : ℕ) → option_map (λ (area : Area). area.prot) (on page) ≡ prot_at q page
 
 -- no process has any
 abbrev pub no_areas : Areas

@@ -21,7 +21,9 @@ pub fn zap_all(mem: &mut Mem, process: u16)
 {
     let mut number = 0;
     while let Some(page) = mem.tables.next_from(process, number * GROUP as u64) {
-        let group = mem.tables.group(process, page / GROUP as u64);
+        let mut group = [Pte::Empty; GROUP];
+        mem.tables
+            .read_group(process, page / GROUP as u64, &mut group);
         unmap_each(&mut mem.frames, &group);
         number = page / GROUP as u64 + 1;
     }

@@ -1,5 +1,5 @@
 -- How a turn ends a run.
-use Rattle.std.proofs.Common.{◌≡◌, ◌≢◌, ℕ, ◌+◌, ◌<◌, ◌≤◌, List, [], ◌∷◌, ◌++◌, ◌⊎◌, length, take, drop, Option, Some, None, Err, refl, sym, ap, subst, ◌∙◌, append_assoc, append-nil, length-append, arith, inl, inr}
+use Rattle.std.proofs.Common.{◌≡◌, ◌≢◌, ℕ, ◌+◌, ◌<◌, ◌≤◌, List, [], ◌∷◌, ◌++◌, ◌⊎◌, length, take, Option, Some, None, true, Err, refl, sym, ap, subst, ◌∙◌, append_assoc, append-nil, length-append, arith, inl, inr}
 use Rattle.std.specs.Prelude.{IfSome, unwrap_or}
 use Rattle.std.specs.Option.{option_to_list}
 use Rattle.std.proofs.lemmas.List.{take_all, take_at, drop_at}
@@ -16,7 +16,7 @@ use Rattle.av_replay.specs.declared.status.Status.{Status}
 use Rattle.av_replay.specs.declared.status.Status.TheVariants as statuses
 use Rattle.av_replay.specs.declared.status.RunErr.{RunErr}
 use Rattle.av_replay.specs.declared.status.RunErr.TheVariants as errors
-use Rattle.av_replay.specs.Streams.{Streams, undone, IsLater, ReadsOn, IsAtEnd}
+use Rattle.av_replay.specs.Streams.{Streams, undone, IsLater, ReadsOn, IsAtEnd, StaysOpen}
 use Rattle.av_replay.specs.Line.{IsLine}
 use Rattle.av_replay.specs.Turn.{texts, Commands, IsBad, IsEnding, TakesLine, Waits, CutsShort, IsUnflushed, Halts, DoesNext, FindsEnd, Finished}
 use Rattle.av_replay.specs.Replay.{most_lines, all_lines, Transcribes, Run, done_lines, Replays, IsLeft, StopsAt, MayGoOn, IsCutOff, Ends, status_at, Headline}
@@ -224,31 +224,24 @@ may_go_on past rest few some = few
 -- the sink could not hand on what it kept back, before a read
 kept_back : (n : ℕ) (past : Past) (ahead rest : List ℕ) (old now new : Streams) (k k' : Machine) → SoFar n past ahead old now k →
     length past.lines ≤ most_lines → MayGoOn (whole past) rest → IsUnflushed ahead rest now new k k' → Rose now.sink.faults new.sink.faults →
-    Headline n statuses.WriteFault old new (Some k')
-kept_back n past ahead rest old now new k k' so_far few may unflushed rose =
+    new.sink.has_failed ≡ true → Headline n statuses.WriteFault old new (Some k')
+kept_back n past ahead rest old now new k k' so_far few may unflushed rose failed =
     headline n statuses.WriteFault rest old new k' _ _ (stops n past ahead rest old now new k k' so_far few unflushed.waits) (
       inr (record { untold = unflushed.untold; whole = refl; status = statuses.ReadFault; stops = (refl, may, unflushed.part) }),
       Rose-earlier old.sink.faults now.sink.faults new.sink.faults so_far.later.sink rose,
+      failed,
     )
 
 read_fault : (n : ℕ) (past : Past) (ahead rest : List ℕ) (old now new : Streams) (k k' : Machine) → SoFar n past ahead old now k →
     length past.lines ≤ most_lines → MayGoOn (whole past) rest → Waits ahead rest now new k k' → IsLine rest → Rose now.source.faults new.source.faults →
-    Headline n statuses.ReadFault old new (Some k')
-read_fault n past ahead rest old now new k k' so_far few may waits part rose =
-    headline n statuses.ReadFault rest old new k' _ _ (stops n past ahead rest old now new k k' so_far few waits)
-    ((refl, may, part), refl, Rose-earlier old.source.faults now.source.faults new.source.faults so_far.later.source rose)
-
-cut_is_front : (run : Run) (written : List ℕ) → IsCutOff run written → (n : ℕ) × (written ≡ take n (texts run.transcript))
-cut_is_front run written c =
-    let last = text_of c.last.reply in
-    let all : texts run.transcript ≡ texts c.others ++ last = ap texts c.transcript ∙ flat_map-append (λ (e : Exchange). text_of e.reply) c.others (c.last ∷ [])
-    ∙ ap (λ (t : List ℕ). texts c.others ++ t) (append-nil last) in
-    let n = length (texts c.others) in
-    let front : take (n + c.size) (texts c.others ++ last) ≡ texts c.others ++ take c.size last =
-    take-add n c.size (texts c.others ++ last)
-    ∙ ap (λ (t : List ℕ). t ++ take c.size (drop n (texts c.others ++ last))) (take_at (texts c.others) last n refl)
-    ∙ ap (λ (t : List ℕ). texts c.others ++ take c.size t) (drop_at (texts c.others) last n refl) in
-    (n + c.size, c.is ∙ sym front ∙ ap (λ (t : List ℕ). take (n + c.size) t) (sym all))
+    StaysOpen now.source new.source → Headline n statuses.ReadFault old new (Some k')
+read_fault n past ahead rest old now new k k' so_far few may waits part rose stays_open =
+    headline n statuses.ReadFault rest old new k' _ _ (stops n past ahead rest old now new k k' so_far few waits) (
+      (refl, may, part),
+      refl,
+      Rose-earlier old.source.faults now.source.faults new.source.faults so_far.later.source rose,
+      λ untold. stays_open (so_far.stays_open untold),
+    )
 
 memory : (n : ℕ) (past : Past) (ahead rest : List ℕ) (old now new : Streams) (k k' : Machine) → SoFar n past ahead old now k → length past.lines < most_lines →
     ReadsOn ahead rest now new ⊎ CutsShort ahead now new k k' → Headline n statuses.Memory old new (Some k')
@@ -257,30 +250,31 @@ memory n past ahead rest old now new k k' so_far few (inl reads) = record {
   rest = rest;
   written = texts past.transcript;
   replays = waited n past ahead rest old now new k so_far (omega arith) reads;
-  ends = (length (texts past.transcript), sym (take_all _ _ (omega arith)));
+  ends = inl refl;
   handed_back = λ ne. absurd (ne refl);
 }
 memory n past ahead rest old now new k k' so_far few (inr cut) =
     let c = cuts n past ahead old now new k k' so_far few cut in
-    headline n statuses.Memory c.rest old new k' c.run c.written c.leaves (cut_is_front c.run c.written c.cut)
+    headline n statuses.Memory c.rest old new k' c.run c.written c.leaves (inr c.cut)
 
 write_fault : (n : ℕ) (past : Past) (ahead rest : List ℕ) (old now new : Streams) (k k' : Machine) → SoFar n past ahead old now k →
     length past.lines < most_lines → CutsShort ahead now new k k' ⊎ IsUnflushed ahead rest now new k k' → Rose now.sink.faults new.sink.faults →
-    Headline n statuses.WriteFault old new (Some k')
-write_fault n past ahead rest old now new k k' so_far few (inl cut) rose =
+    new.sink.has_failed ≡ true → Headline n statuses.WriteFault old new (Some k')
+write_fault n past ahead rest old now new k k' so_far few (inl cut) rose failed =
     let c = cuts n past ahead old now new k k' so_far few cut in
     headline n statuses.WriteFault c.rest old new k' c.run c.written c.leaves
-    (inl c.cut, Rose-earlier old.sink.faults now.sink.faults new.sink.faults so_far.later.sink rose)
-write_fault n past ahead rest old now new k k' so_far few (inr unflushed) rose =
-    kept_back n past ahead rest old now new k k' so_far (omega arith) (may_go_on past rest few) unflushed rose
+    (inl c.cut, Rose-earlier old.sink.faults now.sink.faults new.sink.faults so_far.later.sink rose, failed)
+write_fault n past ahead rest old now new k k' so_far few (inr unflushed) rose failed =
+    kept_back n past ahead rest old now new k k' so_far (omega arith) (may_go_on past rest few) unflushed rose failed
 
 pub halts : (n : ℕ) (past : Past) (ahead rest : List ℕ) (old now new : Streams) (k k' : Machine) (error : RunErr) (number : ℕ) → SoFar n past ahead old now k →
     number ≡ length past.lines + 1 → number ≤ most_lines → Halts error ahead rest now new k k' → Headline n (status_at error number) old new (Some k')
 halts n past ahead rest old now new k k' errors.BadLine number so_far count few h =
     headline n (statuses.BadLine number) rest old new k' _ _ (stops n past ahead rest old now new k k' so_far (omega arith) h.0) ((refl, count, few, h.1), refl)
 halts n past ahead rest old now new k k' errors.Read number so_far count few h =
-    read_fault n past ahead rest old now new k k' so_far (omega arith) (may_go_on past rest (omega arith)) h.0 h.1 h.2
-halts n past ahead rest old now new k k' errors.Write number so_far count few h = write_fault n past ahead rest old now new k k' so_far (omega arith) h.0 h.1
+    read_fault n past ahead rest old now new k k' so_far (omega arith) (may_go_on past rest (omega arith)) h.0 h.1 h.2 h.3
+halts n past ahead rest old now new k k' errors.Write number so_far count few h =
+    write_fault n past ahead rest old now new k k' so_far (omega arith) h.0 h.1 h.2
 halts n past ahead rest old now new k k' errors.Memory number so_far count few h = memory n past ahead rest old now new k k' so_far (omega arith) h
 
 -- ---- after the last line that may be done
@@ -304,25 +298,26 @@ ends_there n past ahead rest old now new k so_far count reads none end =
 
 pub unread_there : (n : ℕ) (past : Past) (ahead rest : List ℕ) (old now new : Streams) (k : Machine) → SoFar n past ahead old now k →
     length past.lines ≡ most_lines → ReadsOn ahead rest now new → rest ≡ [] → Rose now.source.faults new.source.faults →
-    Headline n statuses.ReadFault old new (Some k)
-unread_there n past ahead rest old now new k so_far count reads none rose =
+    StaysOpen now.source new.source → Headline n statuses.ReadFault old new (Some k)
+unread_there n past ahead rest old now new k so_far count reads none rose stays_open =
     read_fault n past ahead rest old now new k k so_far (omega arith) (none_may past rest none) (record { reads = reads; kernel = refl })
-    (nil_is_line rest none) rose
+    (nil_is_line rest none) rose stays_open
 
 pub unflushed_there : (n : ℕ) (past : Past) (ahead rest : List ℕ) (old now new : Streams) (k : Machine) → SoFar n past ahead old now k →
     length past.lines ≡ most_lines → ReadsOn ahead rest now new → rest ≡ [] → new.sink.held ≡ None → Rose now.sink.faults new.sink.faults →
-    Headline n statuses.WriteFault old new (Some k)
-unflushed_there n past ahead rest old now new k so_far count reads none untold rose =
+    new.sink.has_failed ≡ true → Headline n statuses.WriteFault old new (Some k)
+unflushed_there n past ahead rest old now new k so_far count reads none untold rose failed =
     kept_back n past ahead rest old now new k k so_far (omega arith) (none_may past rest none)
-    (record { waits = record { reads = reads; kernel = refl }; part = nil_is_line rest none; untold = untold }) rose
+    (record { waits = record { reads = reads; kernel = refl }; part = nil_is_line rest none; untold = untold }) rose failed
 
 -- it could not be found out whether more lines come
 pub unfinished : (n : ℕ) (past : Past) (ahead rest : List ℕ) (old now new : Streams) (k : Machine) (error : RunErr) (number : ℕ) →
     SoFar n past ahead old now k → length past.lines ≡ most_lines → ReadsOn ahead rest now new → Finished (Err error) rest now new →
     Headline n (status_at error number) old new (Some k)
-unfinished n past ahead rest old now new k errors.Read number so_far count reads f = unread_there n past ahead rest old now new k so_far count reads f.0 f.1
+unfinished n past ahead rest old now new k errors.Read number so_far count reads f =
+    unread_there n past ahead rest old now new k so_far count reads f.0 f.1 f.2
 unfinished n past ahead rest old now new k errors.Write number so_far count reads f =
-    unflushed_there n past ahead rest old now new k so_far count reads f.0 f.1 f.2
+    unflushed_there n past ahead rest old now new k so_far count reads f.0 f.1 f.2 f.3
 unfinished n past ahead rest old now new k errors.BadLine number so_far count reads f = absurd f
 unfinished n past ahead rest old now new k errors.Memory number so_far count reads f = absurd f
 
@@ -346,7 +341,7 @@ nothing_done n io kernel = record {
     wrote = Gained-none io.sink.held;
     later = later_same io;
   };
-  ends = (0, refl);
+  ends = inl refl;
   handed_back = λ ne. absurd (ne refl);
 }
 
@@ -416,6 +411,7 @@ module _ (n : ℕ) (old now new : Streams) (kernel : Machine) (source : new.sour
     e.1,
     Rose-later old.source.faults now.source.faults new.source.faults e.2
         (omega (arith, ap (λ (s : SourceView). s.faults) source)),
+    λ untold. ap (λ (s : SourceView). s.has_told_end) source ∙ e.3 untold,
   )
   ends_flush statuses.TooMany run rest written ne e = e
   ends_flush statuses.Memory run rest written ne e = e
@@ -445,8 +441,8 @@ module _ (n : ℕ) (old now new : Streams) (kernel : Machine) (source : new.sour
 
   -- it failed
   pub unflushed : (status : Status) → status ≢ statuses.Memory → status ≢ statuses.WriteFault → now.sink.held ≡ None → Rose now.sink.faults new.sink.faults →
-      Headline n status old now (Some kernel) → Headline n statuses.WriteFault old new (Some kernel)
-  unflushed status no_memory no_fault untold rose h =
+      new.sink.has_failed ≡ true → Headline n status old now (Some kernel) → Headline n statuses.WriteFault old new (Some kernel)
+  unflushed status no_memory no_fault untold rose failed h =
       let w = whole_at status h.run h.rest h.written no_memory no_fault h.ends in
       record {
         run = h.run;
@@ -456,6 +452,7 @@ module _ (n : ℕ) (old now new : Streams) (kernel : Machine) (source : new.sour
         ends = (
           inr (record { untold = held ∙ untold; whole = w.1; status = status; stops = stops_flush status h.run h.rest w.0 }),
           Rose-earlier old.sink.faults now.sink.faults new.sink.faults h.replays.later.sink rose,
+          failed,
         );
         handed_back = λ _. left_flush h.run (h.handed_back no_memory);
       }

@@ -15,7 +15,7 @@ use Rattle.av_io.specs.Count.{RoseBy}
 use Rattle.std.proofs.lemmas.List.Sums.{sum_by-append}
 use Rattle.av_io.specs.Source.{in_front, Took}
 use Rattle.av_io.specs.Sink.{Gained}
-use Rattle.av_replay.specs.Streams.{Streams, undone, room, IsLater}
+use Rattle.av_replay.specs.Streams.{Streams, undone, room, IsLater, StaysOpen}
 use Rattle.av_replay.specs.Line.{IsLine}
 use Rattle.av_replay.specs.Turn.{texts, tally_of, Commands, Answers, TakesLine}
 use Rattle.av_replay.specs.Replay.{all_lines, Transcribes, Run, IsLeft, IsAtStart}
@@ -75,6 +75,7 @@ pub record SoFar (n : ℕ) (past : Past) (ahead : List ℕ) (old now : Streams) 
   pub wrote : Gained old.sink.held now.sink.held (texts past.transcript)
   pub kernel_left : IsLeft kernel now.device n (whole past)
   pub later : IsLater old now
+  pub stays_open : StaysOpen old.source now.source
 
 abbrev pub no_past : Setting → Past
 no_past m = record { lines = []; transcript = []; state = at_first m }
@@ -91,6 +92,7 @@ starts ahead now kernel none start = record {
   wrote = Gained-none now.sink.held;
   kernel_left = record { stands = start.stands; frames = refl; steps = start.steps; tally = start.tally; unspent = start.unspent };
   later = later_same now;
+  stays_open = λ untold. untold;
 }
 
 -- ---- one line more
@@ -147,10 +149,10 @@ module _ (n : ℕ) (past : Past) (ahead : List ℕ) (old now new : Streams) (k k
       ∙ sym (flat_map-append (λ (e : Exchange). text_of e.reply) past.transcript (option_to_list next_answers.did))
 
 pub goes_on : (n : ℕ) (past : Past) (ahead rest : List ℕ) (old now new : Streams) (k k' : Machine) (line text : List ℕ) (so_far : SoFar n past ahead old now k)
-    (takes : TakesLine ahead now new k k' line (10 ∷ []) rest text text) →
+    (takes : TakesLine ahead now new k k' line (10 ∷ []) rest text text) (stays_open : StaysOpen now.source new.source) →
     SoFar n (longer past line (next_answers n past ahead old now new k k' line (10 ∷ []) rest text text so_far takes).did
     (next_answers n past ahead old now new k k' line (10 ∷ []) rest text text so_far takes).next) rest old new k'
-goes_on n past ahead rest old now new k k' line text so_far takes =
+goes_on n past ahead rest old now new k k' line text so_far takes stays_open =
     let a = next_answers n past ahead old now new k k' line (10 ∷ []) rest text text so_far takes in
     record {
       read = subst (Took old.source.left (undone rest new)) (sym (joined-push past.lines line))
@@ -164,4 +166,5 @@ goes_on n past ahead rest old now new k k' line text so_far takes =
           (wrote_more n past ahead old now new k k' line (10 ∷ []) rest text text so_far takes);
       kernel_left = kernel_more n past ahead old now new k k' line (10 ∷ []) rest text text so_far takes (past.lines ++ line ∷ []) None;
       later = later_more n past ahead old now new k k' line (10 ∷ []) rest text text so_far takes;
+      stays_open = λ untold. stays_open (so_far.stays_open untold);
     }

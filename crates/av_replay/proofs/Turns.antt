@@ -81,11 +81,15 @@ module _ (ahead mid : List ℕ) (old now : Streams) (k k' : Machine) (line : Lin
   halts_by ending errors.BadLine by not = (record { reads = same_sink not.2; kernel = not.1 }, inr (take line.size mid, by.is_line, not.0, by.next))
   halts_by ending errors.Memory by (inl same) = inl (same_sink same)
   halts_by ending errors.Memory by (inr cut) = inr (cuts ending by cut)
-  halts_by ending errors.Write by not = (inl (cuts ending by not.0), Rose-earlier old.sink.faults now.sink.faults sink.faults reads.later.sink not.1)
+  halts_by ending errors.Write by not = (
+    inl (cuts ending by not.0),
+    Rose-earlier old.sink.faults now.sink.faults sink.faults reads.later.sink not.1,
+    not.2,
+  )
   halts_by ending errors.Read by not = absurd not
 
   -- a line stood in front, and was not done, or its text not written
-  pub halts : (error : RunErr) → IsNext line mid now.source → IsNotAnswered error (take line.size mid) now.device now.device k k' now.sink sink →
+  pub halts : (error : RunErr) → IsNext line mid old.source now.source → IsNotAnswered error (take line.size mid) now.device now.device k k' now.sink sink →
       Halts error ahead mid old (record now { sink = sink }) k k'
   halts error (inl next) not = halts_by (10 ∷ []) error (ends_line line mid now next.0 next.1) not
   halts error (inr next) not = halts_by [] error (ends_last line mid now next.0 next.1 next.2 next.3 next.4) not
@@ -113,9 +117,10 @@ module _ (ahead mid : List ℕ) (old now : Streams) (k k' : Machine) (line : Lin
 pub unread : (error : RunErr) (ahead mid : List ℕ) (old now : Streams) (k : Machine) → ReadsOn ahead mid old now → StopsReading error mid old now →
     Halts error ahead mid old now k k
 unread errors.BadLine ahead mid old now k reads stops = (record { reads = reads; kernel = refl }, inl stops)
-unread errors.Read ahead mid old now k reads stops = (record { reads = reads; kernel = refl }, stops.0, stops.1)
+unread errors.Read ahead mid old now k reads stops = (record { reads = reads; kernel = refl }, stops.0, stops.1.0, stops.1.1)
 unread errors.Write ahead mid old now k reads stops = (
   inr (record { waits = record { reads = reads; kernel = refl }; part = stops.0; untold = stops.1.0 }),
   stops.1.1,
+  stops.1.2,
 )
 unread errors.Memory ahead mid old now k reads stops = absurd stops.1

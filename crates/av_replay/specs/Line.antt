@@ -1,5 +1,5 @@
 -- A line of input: how it is found in what was read, and what reading on for one leaves.
-use Rattle.std.specs.Prelude.{◌≡◌, ◌≢◌, ℕ, ◌+◌, ◌<◌, ◌≤◌, List, [], ◌∷◌, ◌++◌, ◌⊎◌, length, take, drop, Option, Some, None, Result, Ok, Err, All}
+use Rattle.std.specs.Prelude.{◌≡◌, ◌≢◌, ℕ, ◌+◌, ◌<◌, ◌≤◌, List, [], ◌∷◌, ◌++◌, ◌⊎◌, length, take, drop, Option, Some, None, true, Result, Ok, Err, All}
 use Rattle.av_io.specs.Count.{Rose}
 use Rattle.av_io.specs.Source.{SourceView}
 use Rattle.av_replay.specs.declared.line.Found.{Found}
@@ -7,7 +7,7 @@ use Rattle.av_replay.specs.declared.line.Found.TheVariants as founds
 use Rattle.av_replay.specs.declared.line.Line.{Line}
 use Rattle.av_replay.specs.declared.status.RunErr.{RunErr}
 use Rattle.av_replay.specs.declared.status.RunErr.TheVariants as errors
-use Rattle.av_replay.specs.Streams.{Streams, IsAtEnd}
+use Rattle.av_replay.specs.Streams.{Streams, AreUnfailed, IsAtEnd, StaysOpen}
 
 -- a line has at most so many bytes
 abbrev pub longest : ℕ
@@ -45,16 +45,18 @@ Finds founds.Part bytes = IsLine bytes
 
 -- the next line stands in front of what was read, to its newline; the last line may end with the
 -- input
-abbrev pub IsNext : Line → List ℕ → SourceView → Type 0
-IsNext line ahead source =
-    (HasLine line.size ahead × (line.whole ≡ line.size + 1))
+abbrev pub IsNext : Line → List ℕ → SourceView → SourceView → Type 0
+IsNext line ahead old new =
+    (HasLine line.size ahead × (line.whole ≡ line.size + 1) × StaysOpen old new)
     ⊎ (IsLine ahead × (line.size ≡ length ahead) × (0 < line.size) × (line.whole ≡ line.size)
-    × IsAtEnd source)
+    × IsAtEnd new)
 
 -- why no more could be read: the source failed, or the sink could not hand on what it kept back
 abbrev pub IsUnread : RunErr → Streams → Streams → Type 0
-IsUnread errors.Read old new = Rose old.source.faults new.source.faults
-IsUnread errors.Write old new = (new.sink.held ≡ None) × Rose old.sink.faults new.sink.faults
+IsUnread errors.Read old new =
+    Rose old.source.faults new.source.faults × StaysOpen old.source new.source
+IsUnread errors.Write old new =
+    (new.sink.held ≡ None) × Rose old.sink.faults new.sink.faults × (new.sink.has_failed ≡ true)
 IsUnread errors.BadLine old new = ⊥
 IsUnread errors.Memory old new = ⊥
 
@@ -63,16 +65,20 @@ abbrev pub StopsReading : RunErr → List ℕ → Streams → Streams → Type 0
 StopsReading errors.BadLine ahead old new = IsTooLong ahead
 StopsReading error ahead old new = IsLine ahead × IsUnread error old new
 
--- this holds where no fault and no want of memory was the end
-abbrev pub UnlessFailed : {A : Type 0} → Result A RunErr → Type 0 → Type 0
-UnlessFailed (Ok x) IsSo = IsSo
-UnlessFailed (Err errors.BadLine) IsSo = IsSo
-UnlessFailed (Err errors.Read) IsSo = Unit {0}
-UnlessFailed (Err errors.Write) IsSo = Unit {0}
-UnlessFailed (Err errors.Memory) IsSo = Unit {0}
+-- nothing failed but what the error tells of
+abbrev pub FailsBy : RunErr → Streams → Streams → Type 0
+FailsBy errors.BadLine old new = AreUnfailed old new
+FailsBy errors.Read old new = new.sink.faults ≡ old.sink.faults
+FailsBy errors.Write old new = new.source.faults ≡ old.source.faults
+FailsBy errors.Memory old new = AreUnfailed old new
+
+-- nothing failed but what the result tells of
+abbrev pub FailsOnly : {A : Type 0} → Result A RunErr → Streams → Streams → Type 0
+FailsOnly (Ok x) old new = AreUnfailed old new
+FailsOnly (Err error) old new = FailsBy error old new
 
 -- how the reading of a line ended, or of none at the end of the input
 abbrev pub LineRead : Result (Option Line) RunErr → List ℕ → Streams → Streams → Type 0
-LineRead (Ok (Some line)) ahead old new = IsNext line ahead new.source
+LineRead (Ok (Some line)) ahead old new = IsNext line ahead old.source new.source
 LineRead (Ok None) ahead old new = (ahead ≡ []) × IsAtEnd new.source
 LineRead (Err error) ahead old new = StopsReading error ahead old new

@@ -1,5 +1,5 @@
 -- What a replay leaves, by its status.
-use Rattle.std.specs.Prelude.{◌≡◌, ◌≢◌, ℕ, ◌+◌, ◌^◌, ◌<◌, ◌≤◌, List, [], ◌∷◌, ◌++◌, ◌⊎◌, false, length, take, Option, Some, None, IfSome, IsSomeAnd, unwrap_or}
+use Rattle.std.specs.Prelude.{◌≡◌, ◌≢◌, ℕ, ◌+◌, ◌^◌, ◌<◌, ◌≤◌, List, [], ◌∷◌, ◌++◌, ◌⊎◌, false, true, length, take, Option, Some, None, IfSome, IsSomeAnd, unwrap_or}
 use Rattle.std.specs.List.{flat_map, AllByRecursion}
 use Rattle.std.specs.Option.{option_to_list}
 use Rattle.av_trace.specs.Print.{text_of}
@@ -15,7 +15,7 @@ use Rattle.av_replay.specs.declared.status.Status.{Status}
 use Rattle.av_replay.specs.declared.status.Status.TheVariants as statuses
 use Rattle.av_replay.specs.declared.status.RunErr.{RunErr}
 use Rattle.av_replay.specs.declared.status.RunErr.TheVariants as errors
-use Rattle.av_replay.specs.Streams.{Streams, room, IsLater, IsAtEnd}
+use Rattle.av_replay.specs.Streams.{Streams, room, AreFlushedAfter, AreInStep, AreUnfailed, IsAtEnd, IsLater, StaysOpen}
 use Rattle.av_replay.specs.Line.{IsLine}
 use Rattle.av_replay.specs.Turn.{texts, tally_of, Commands, IsBad}
 
@@ -88,16 +88,6 @@ pub record IsAtStart (kernel : Machine) (device : Device) : Type 0 where
 
 -- ---- where a run ends
 
--- this holds of a run that no fault and no want of memory ended
-abbrev pub UnlessFault : Status → Type 0 → Type 0
-UnlessFault statuses.Done IsSo = IsSo
-UnlessFault statuses.Usage IsSo = IsSo
-UnlessFault (statuses.BadLine n) IsSo = IsSo
-UnlessFault statuses.TooMany IsSo = IsSo
-UnlessFault statuses.ReadFault IsSo = Unit {0}
-UnlessFault statuses.WriteFault IsSo = Unit {0}
-UnlessFault statuses.Memory IsSo = Unit {0}
-
 -- the status where a line of this number could not be done
 abbrev pub status_at : RunErr → ℕ → Status
 status_at errors.BadLine number = statuses.BadLine number
@@ -145,7 +135,8 @@ pub record IsKeptBack (new : Streams) (run : Run) (rest written : List ℕ) : Ty
   pub stops : StopsAt status new run rest
 
 -- how each status ends: what was read beyond the lines done, what was written, and which fault was
--- counted
+-- counted. A read that fails isn't one after the end was told, and no call of the sink is served
+-- after one that failed; which call fails no one knows before, so none is made then.
 abbrev pub Ends : Status → Streams → Streams → Run → List ℕ → List ℕ → Type 0
 Ends statuses.Done old new run rest written =
     StopsAt statuses.Done new run rest × (written ≡ texts run.transcript)
@@ -153,14 +144,14 @@ Ends (statuses.BadLine n) old new run rest written =
     StopsAt (statuses.BadLine n) new run rest × (written ≡ texts run.transcript)
 Ends statuses.ReadFault old new run rest written =
     StopsAt statuses.ReadFault new run rest × (written ≡ texts run.transcript)
-    × Rose old.source.faults new.source.faults
+    × Rose old.source.faults new.source.faults × StaysOpen old.source new.source
 Ends statuses.TooMany old new run rest written =
     StopsAt statuses.TooMany new run rest × (written ≡ texts run.transcript)
 Ends statuses.WriteFault old new run rest written =
     (IsCutOff run written ⊎ IsKeptBack new run rest written)
-    × Rose old.sink.faults new.sink.faults
+    × Rose old.sink.faults new.sink.faults × (new.sink.has_failed ≡ true)
 Ends statuses.Memory old new run rest written =
-    (n : ℕ) × (written ≡ take n (texts run.transcript))
+    (written ≡ texts run.transcript) ⊎ IsCutOff run written
 Ends statuses.Usage old new run rest written = ⊥
 
 -- The headline, for a status at which the trace was begun.
@@ -173,3 +164,41 @@ pub record Headline (frames : ℕ) (status : Status) (old new : Streams) (kernel
   pub ends : Ends status old new run rest written
   pub handed_back : status ≢ statuses.Memory
       → IsSomeAnd kernel (λ k. IsLeft k new.device frames run)
+
+-- ---- calls of the source and the sink
+
+-- Nothing failed but what the status tells of. Where memory is wanting, the last flush may have
+-- failed, too, if the sink doesn't tell what it holds.
+abbrev pub FailsOnlyAt : Status → Streams → Streams → Type 0
+FailsOnlyAt statuses.Done old new = AreUnfailed old new
+FailsOnlyAt statuses.Usage old new = AreUnfailed old new
+FailsOnlyAt (statuses.BadLine n) old new = AreUnfailed old new
+FailsOnlyAt statuses.TooMany old new = AreUnfailed old new
+FailsOnlyAt statuses.ReadFault old new = new.sink.faults ≡ old.sink.faults
+FailsOnlyAt statuses.WriteFault old new = new.source.faults ≡ old.source.faults
+FailsOnlyAt statuses.Memory old new =
+    (new.source.faults ≡ old.source.faults)
+    × ((new.sink.faults ≡ old.sink.faults) ⊎ (new.sink.held ≡ None))
+
+-- all text was handed on, after one flush for each read and one more
+pub record IsHandedOn (old new : Streams) : Type 0 where
+  pub none_kept : new.sink.kept_back ≡ []
+  pub flushes : AreFlushedAfter old new
+
+-- A read failed: nothing is kept back, and no flush came since. So nothing was kept back when that
+-- read was waited for. Which read fails no one knows before, so it was so at each.
+pub record IsFlushedBefore (old new : Streams) : Type 0 where
+  pub none_kept : new.sink.kept_back ≡ []
+  pub in_step : AreInStep old new
+
+-- How the sink was flushed. Where memory is wanting, what it took is handed on, unless that fails.
+abbrev pub IsFlushed : Status → Streams → Streams → Type 0
+IsFlushed statuses.Done old new = IsHandedOn old new
+IsFlushed (statuses.BadLine n) old new = IsHandedOn old new
+IsFlushed statuses.TooMany old new = IsHandedOn old new
+IsFlushed statuses.ReadFault old new = IsFlushedBefore old new
+IsFlushed statuses.WriteFault old new = AreInStep old new
+IsFlushed statuses.Memory old new =
+    (new.sink ≡ old.sink) ⊎ (new.sink.kept_back ≡ [])
+    ⊎ ((new.sink.held ≡ None) × (new.sink.has_failed ≡ true))
+IsFlushed statuses.Usage old new = AreInStep old new

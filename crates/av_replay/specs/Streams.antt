@@ -1,5 +1,6 @@
 -- A source, a sink and a device, side by side.
-use Rattle.std.specs.Prelude.{◌≡◌, ℕ, ◌≤◌, List, [], length, Option, true}
+use Rattle.std.specs.Prelude.{◌≡◌, ℕ, ◌≤◌, List, length, Option, false, true}
+use Rattle.av_io.specs.Count.{one_more}
 use Rattle.av_io.specs.Source.{SourceView, in_front, HasEnded}
 use Rattle.av_io.specs.Sink.{SinkView, Gained}
 use Rattle.av_plain.specs.Device.{Device, IsSameDevice, no_device}
@@ -34,11 +35,14 @@ pub record IsLater (old new : Streams) : Type 0 where
 abbrev pub AreInStep : Streams → Streams → Type 0
 AreInStep old new = old.source.reads ≡ old.sink.flushes → new.source.reads ≡ new.sink.flushes
 
--- A read failed: nothing is kept back, and no flush came since. So nothing was kept back when that
--- read was waited for. Which read fails no one knows before, so it was so at each.
-pub record FlushedBefore (old new : Streams) : Type 0 where
-  pub none_kept : new.sink.kept_back ≡ []
-  pub in_step : AreInStep old new
+-- and then one flush more
+abbrev pub AreFlushedAfter : Streams → Streams → Type 0
+AreFlushedAfter old new =
+    old.source.reads ≡ old.sink.flushes → new.sink.flushes ≡ one_more new.source.reads
+
+-- the source has not told its end, unless it had before
+abbrev pub StaysOpen : SourceView → SourceView → Type 0
+StaysOpen old new = old.has_told_end ≡ false → new.has_told_end ≡ false
 
 -- nothing was done of what was read, though more may have been read
 pub record ReadsOn (ahead ahead' : List ℕ) (old new : Streams) : Type 0 where

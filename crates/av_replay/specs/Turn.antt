@@ -16,7 +16,7 @@ use Rattle.av_io.specs.Source.{SourceView, Took, HasEnded}
 use Rattle.av_io.specs.Sink.{SinkView, Gained}
 use Rattle.av_replay.specs.declared.status.RunErr.{RunErr}
 use Rattle.av_replay.specs.declared.status.RunErr.TheVariants as errors
-use Rattle.av_replay.specs.Streams.{Streams, undone, room, IsLater, ReadsOn, IsAtEnd, Writes}
+use Rattle.av_replay.specs.Streams.{Streams, undone, room, IsLater, ReadsOn, IsAtEnd, StaysOpen, Writes}
 use Rattle.av_replay.specs.Line.{IsLine, IsTooLong}
 
 -- ---- what a line does
@@ -88,6 +88,7 @@ IsNotAnswered errors.Memory line device device' old new sink sink' =
     (sink' ≡ sink) ⊎ IsCut line device device' old new sink sink'
 IsNotAnswered errors.Write line device device' old new sink sink' =
     IsCut line device device' old new sink sink' × Rose sink.faults sink'.faults
+    × (sink'.has_failed ≡ true)
 IsNotAnswered errors.Read line device device' old new sink sink' = ⊥
 
 -- ---- a turn
@@ -151,9 +152,10 @@ Halts errors.BadLine ahead ahead' old new k k' =
     Waits ahead ahead' old new k k' × IsBad ahead' new.source.left
 Halts errors.Read ahead ahead' old new k k' =
     Waits ahead ahead' old new k k' × IsLine ahead' × Rose old.source.faults new.source.faults
+    × StaysOpen old.source new.source
 Halts errors.Write ahead ahead' old new k k' =
     (CutsShort ahead old new k k' ⊎ IsUnflushed ahead ahead' old new k k')
-    × Rose old.sink.faults new.sink.faults
+    × Rose old.sink.faults new.sink.faults × (new.sink.has_failed ≡ true)
 Halts errors.Memory ahead ahead' old new k k' =
     ReadsOn ahead ahead' old new ⊎ CutsShort ahead old new k k'
 
@@ -173,7 +175,8 @@ pub record FindsEnd (ahead ahead' : List ℕ) (old new : Streams) (k k' : Machin
 -- what a turn did, and whether the input goes on
 abbrev pub Turned :
     Result Bool RunErr → List ℕ → List ℕ → Streams → Streams → Machine → Machine → Type 0
-Turned (Ok true) ahead ahead' old new k k' = DoesNext ahead ahead' old new k k' (10 ∷ [])
+Turned (Ok true) ahead ahead' old new k k' =
+    DoesNext ahead ahead' old new k k' (10 ∷ []) × StaysOpen old.source new.source
 Turned (Ok false) ahead ahead' old new k k' =
     FindsEnd ahead ahead' old new k k' ⊎ DoesNext ahead ahead' old new k k' []
 Turned (Err error) ahead ahead' old new k k' = Halts error ahead ahead' old new k k'
@@ -183,8 +186,9 @@ abbrev pub Finished : Result Bool RunErr → List ℕ → Streams → Streams �
 Finished (Ok true) ahead' old new = 0 < length ahead'
 Finished (Ok false) ahead' old new = (ahead' ≡ []) × IsAtEnd new.source
 Finished (Err errors.Read) ahead' old new =
-    (ahead' ≡ []) × Rose old.source.faults new.source.faults
+    (ahead' ≡ []) × Rose old.source.faults new.source.faults × StaysOpen old.source new.source
 Finished (Err errors.Write) ahead' old new =
     (ahead' ≡ []) × (new.sink.held ≡ None) × Rose old.sink.faults new.sink.faults
+    × (new.sink.has_failed ≡ true)
 Finished (Err errors.BadLine) ahead' old new = ⊥
 Finished (Err errors.Memory) ahead' old new = ⊥

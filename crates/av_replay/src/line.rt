@@ -1,8 +1,8 @@
 //! Reading a line.
 
 ghost use Rattle.std.specs.Prelude.{◌≡◌, ◌+◌, ◌<◌, ◌≤◌, [], length, IfOk, IfErr, IfSome, IfNone};
-ghost use Rattle.av_replay.specs.Streams.{streams, ReadsOn, IsAtEnd, AreUnfailed, AreInStep};
-ghost use Rattle.av_replay.specs.Line.{longest, Finds, LineRead, IsUnread, UnlessFailed};
+ghost use Rattle.av_replay.specs.Streams.{streams, ReadsOn, IsAtEnd, AreInStep, StaysOpen};
+ghost use Rattle.av_replay.specs.Line.{longest, FailsOnly, Finds, LineRead, IsUnread};
 
 use crate::pending::Pending;
 use crate::status::RunErr;
@@ -55,9 +55,10 @@ pub fn read_on<S: Source, K: Sink>(
     ensures more { IfOk result (λ n. length pending.new ≡ length pending.old + n) }
     ensures ended { IfOk result
         (λ n. n ≡ 0 → (pending.new ≡ pending.old) × IsAtEnd (S.view source.new)) }
-    ensures unfailed { UnlessFailed result (AreUnfailed
-        (streams (S.view source.old) (K.view sink.old))
-        (streams (S.view source.new) (K.view sink.new))) }
+    ensures stays_open { IfOk result
+        (λ n. 0 < n → StaysOpen (S.view source.old) (S.view source.new)) }
+    ensures unfailed { FailsOnly result (streams (S.view source.old) (K.view sink.old))
+        (streams (S.view source.new) (K.view sink.new)) }
     ensures in_step { AreInStep (streams (S.view source.old) (K.view sink.old))
         (streams (S.view source.new) (K.view sink.new)) }
     ensures none_kept { IfErr result
@@ -86,9 +87,8 @@ pub fn read_line<S: Source, K: Sink>(
         (streams (S.view source.new) (K.view sink.new)) }
     ensures line { LineRead result pending.new (streams (S.view source.old) (K.view sink.old))
         (streams (S.view source.new) (K.view sink.new)) }
-    ensures unfailed { UnlessFailed result (AreUnfailed
-        (streams (S.view source.old) (K.view sink.old))
-        (streams (S.view source.new) (K.view sink.new))) }
+    ensures unfailed { FailsOnly result (streams (S.view source.old) (K.view sink.old))
+        (streams (S.view source.new) (K.view sink.new)) }
     ensures in_step { AreInStep (streams (S.view source.old) (K.view sink.old))
         (streams (S.view source.new) (K.view sink.new)) }
     ensures none_kept { IfErr result

@@ -1,11 +1,11 @@
 //! The loop over the lines.
 
-ghost use Rattle.std.specs.Prelude.{◌≡◌, ◌≢◌, [], Some, IfErr};
+ghost use Rattle.std.specs.Prelude.{◌≡◌, [], Some, IfErr};
 ghost use Rattle.av_plain.specs.Device.{no_device};
-ghost use Rattle.av_replay.specs.Streams.{streams, ReadsOn, AreUnfailed, AreInStep, FlushedBefore};
-ghost use Rattle.av_replay.specs.Line.{UnlessFailed};
+ghost use Rattle.av_replay.specs.Streams.{streams, ReadsOn, AreInStep};
+ghost use Rattle.av_replay.specs.Line.{FailsOnly};
 ghost use Rattle.av_replay.specs.Turn.{Finished};
-ghost use Rattle.av_replay.specs.Replay.{Headline, IsAtStart, status_at, UnlessFault};
+ghost use Rattle.av_replay.specs.Replay.{FailsOnlyAt, Headline, IsAtStart, IsFlushed, status_at};
 
 use crate::line::read_on;
 use crate::pending::Pending;
@@ -28,9 +28,8 @@ fn has_more<S: Source, K: Sink>(
         (streams (S.view source.new) (K.view sink.new)) }
     ensures finished { Finished result pending.new (streams (S.view source.old) (K.view sink.old))
         (streams (S.view source.new) (K.view sink.new)) }
-    ensures unfailed { UnlessFailed result (AreUnfailed
-        (streams (S.view source.old) (K.view sink.old))
-        (streams (S.view source.new) (K.view sink.new))) }
+    ensures unfailed { FailsOnly result (streams (S.view source.old) (K.view sink.old))
+        (streams (S.view source.new) (K.view sink.new)) }
     ensures in_step { AreInStep (streams (S.view source.old) (K.view sink.old))
         (streams (S.view source.new) (K.view sink.new)) }
     ensures none_kept { IfErr result
@@ -68,9 +67,8 @@ fn do_lines<S: Source, K: Sink>(
     ensures headline { Headline kernel.old.frames result
         (streams (S.view source.old) (K.view sink.old))
         (streams (S.view source.new) (K.view sink.new)) (Some kernel.new) }
-    ensures unfailed { UnlessFault result (AreUnfailed
-        (streams (S.view source.old) (K.view sink.old))
-        (streams (S.view source.new) (K.view sink.new))) }
+    ensures unfailed { FailsOnlyAt result (streams (S.view source.old) (K.view sink.old))
+        (streams (S.view source.new) (K.view sink.new)) }
     ensures in_step { AreInStep (streams (S.view source.old) (K.view sink.old))
         (streams (S.view source.new) (K.view sink.new)) }
     ensures none_kept { result ≡ Status.ReadFault → (K.view sink.new).kept_back ≡ [] }
@@ -104,14 +102,10 @@ pub fn replay<S: Source, K: Sink>(
     ensures headline { Headline kernel.old.frames result
         (streams (S.view source.old) (K.view sink.old))
         (streams (S.view source.new) (K.view sink.new)) (Some kernel.new) }
-    ensures unfailed { UnlessFault result (AreUnfailed
-        (streams (S.view source.old) (K.view sink.old))
-        (streams (S.view source.new) (K.view sink.new))) }
-    ensures flushed_before { result ≡ Status.ReadFault → FlushedBefore
-        (streams (S.view source.old) (K.view sink.old))
+    ensures unfailed { FailsOnlyAt result (streams (S.view source.old) (K.view sink.old))
         (streams (S.view source.new) (K.view sink.new)) }
-    ensures handed_on { result ≢ Status.Memory → result ≢ Status.WriteFault
-        → (K.view sink.new).kept_back ≡ [] }
+    ensures flushed { IsFlushed result (streams (S.view source.old) (K.view sink.old))
+        (streams (S.view source.new) (K.view sink.new)) }
 {
     let Ok(mut pending) = Pending::new(alloc) else {
         return Status::Memory;

@@ -1,8 +1,8 @@
 //! The top call.
 
-ghost use Rattle.std.specs.Prelude.{◌≡◌, ◌≢◌, ℕ, [], None, map, string_bytes};
-ghost use Rattle.av_replay.specs.Streams.{streams, AreUnfailed, FlushedBefore};
-ghost use Rattle.av_replay.specs.Replay.{Headline, UnlessFault};
+ghost use Rattle.std.specs.Prelude.{◌≡◌, ◌≢◌, ℕ, None, map, string_bytes};
+ghost use Rattle.av_replay.specs.Streams.{streams};
+ghost use Rattle.av_replay.specs.Replay.{FailsOnlyAt, Headline, IsFlushed};
 ghost use Rattle.av_replay.specs.Trace.{IsComplete};
 ghost use Rattle.av_replay.specs.Words.{IsForm, RefusesWords};
 
@@ -18,6 +18,16 @@ use std::alloc::Global;
 pub struct Outcome {
     pub status: Status,
     pub kernel: Option<Kernel>,
+}
+
+impl Outcome {
+    /// The status alone. The kernel goes, here rather than in a program, which would have to prove
+    /// that of each of its parts once more.
+    pub fn into_status(self) -> Status
+        ensures { result ≡ self.status }
+    {
+        self.status
+    }
 }
 
 /// An outcome without a kernel to go on with.
@@ -59,17 +69,12 @@ pub fn run<S: Source, K: Sink>(
     ensures complete { (n : ℕ) → IsForm (map string_bytes words.now) n
         → IsComplete result.status (streams (S.view source.old) (K.view sink.old))
         (streams (S.view source.new) (K.view sink.new)) }
-    // A read or a write that fails ends the run, and is not tried again.
-    ensures unfailed { UnlessFault result.status (AreUnfailed
-        (streams (S.view source.old) (K.view sink.old))
-        (streams (S.view source.new) (K.view sink.new))) }
-    // No text was kept back while a read was waited for.
-    ensures flushed_before { result.status ≡ Status.ReadFault → FlushedBefore
-        (streams (S.view source.old) (K.view sink.old))
+    // What failed is what the status tells of, and it was not tried again.
+    ensures unfailed { FailsOnlyAt result.status (streams (S.view source.old) (K.view sink.old))
         (streams (S.view source.new) (K.view sink.new)) }
-    // No text is kept back in the end.
-    ensures handed_on { result.status ≢ Status.Usage → result.status ≢ Status.Memory
-        → result.status ≢ Status.WriteFault → (K.view sink.new).kept_back ≡ [] }
+    // No text was kept back while a read was waited for, nor is in the end.
+    ensures flushed { IsFlushed result.status (streams (S.view source.old) (K.view sink.old))
+        (streams (S.view source.new) (K.view sink.new)) }
 {
     let Some(frames) = frames_of(words) else {
         return without_kernel(Status::Usage);

@@ -2,8 +2,8 @@
 
 ghost use Rattle.std.specs.Prelude.{◌≡◌, ◌<◌, ◌^◌, [], OnOk, IfErr};
 ghost use Rattle.av_plain.specs.Device.{no_device};
-ghost use Rattle.av_replay.specs.Streams.{streams, Writes, AreUnfailed, AreInStep};
-ghost use Rattle.av_replay.specs.Line.{UnlessFailed};
+ghost use Rattle.av_replay.specs.Streams.{streams, Writes, AreInStep};
+ghost use Rattle.av_replay.specs.Line.{FailsOnly};
 ghost use Rattle.av_replay.specs.Turn.{DoesLine, IsNotDone, IsNotAnswered, Turned};
 
 use crate::line::read_line;
@@ -77,7 +77,9 @@ pub fn answer_line<K: Sink>(
     ensures does { OnOk result (DoesLine line.now no_device no_device kernel.old kernel.new
         scratch.new.text) }
     ensures writes { OnOk result (Writes (K.view sink.old) (K.view sink.new) scratch.new.text) }
-    ensures unfailed { UnlessFailed result ((K.view sink.new).faults ≡ (K.view sink.old).faults) }
+    ensures unfailed { OnOk result ((K.view sink.new).faults ≡ (K.view sink.old).faults) }
+    ensures memory { IfErr result (λ e. e ≡ RunErr.Memory
+        → (K.view sink.new).faults ≡ (K.view sink.old).faults) }
     ensures flushes { (K.view sink.new).flushes ≡ (K.view sink.old).flushes }
     ensures err { IfErr result (λ e. IsNotAnswered e line.now no_device no_device
         kernel.old kernel.new (K.view sink.old) (K.view sink.new)) }
@@ -104,9 +106,8 @@ pub fn next_line<S: Source, K: Sink>(
         (streams (S.view source.old) (K.view sink.old))
         (streams (S.view source.new) (K.view sink.new))
         kernel.old kernel.new }
-    ensures unfailed { UnlessFailed result (AreUnfailed
-        (streams (S.view source.old) (K.view sink.old))
-        (streams (S.view source.new) (K.view sink.new))) }
+    ensures unfailed { FailsOnly result (streams (S.view source.old) (K.view sink.old))
+        (streams (S.view source.new) (K.view sink.new)) }
     ensures in_step { AreInStep (streams (S.view source.old) (K.view sink.old))
         (streams (S.view source.new) (K.view sink.new)) }
     ensures none_kept { IfErr result

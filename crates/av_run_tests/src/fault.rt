@@ -1,16 +1,16 @@
-use av_base::Prot;
 use av_fault::*;
 use av_reclaim::Mem;
 use av_trace::Notes;
 use std::test::Fail;
 
+/// In a new memory system all frames are free, and a page that isn't mapped takes none.
 #[test]
 fn a_page_that_is_not_mapped_is_not_ready(rt: HostRuntime) -> Result<(), Fail> {
     let alloc = rt.alloc();
-    let mut mem = Mem::new(alloc, 1)?;
+    let mut mem = Mem::new(alloc, 2)?;
+    assert!(rt; mem.frames.free() == 2 && mem.spaces.count() == 0);
     let mut notes = Notes::new(alloc);
     let touched = touch(&mut mem, 1, 16, true, &mut notes)?;
-    assert_eq!(rt; touched, Touched::Stopped(Stop::Segv));
-    assert_eq!(rt; mem.frames.free(), 1);
+    assert!(rt; touched == Touched::Stopped(Stop::Segv) && mem.frames.free() == 2);
     Ok(())
 }

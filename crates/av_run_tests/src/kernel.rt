@@ -1,46 +1,42 @@
 use av_base::Prot;
 use av_kernel::*;
-use av_trace::{Answer, Bytes, Command, Place};
+use av_trace::{Bytes, Command, Place, reply_text};
 use std::test::Fail;
 
+/// A first run, a refusal, and what the kernel tells of itself then.
 #[test]
-fn a_first_run(rt: HostRuntime) -> Result<(), Fail> {
+fn commands_and_their_tally(rt: HostRuntime) -> Result<(), Fail> {
     let alloc = rt.alloc();
-    let mut kernel = Kernel::new(alloc, 4)?;
-    let spawned = kernel.step(alloc, &Command::Spawn { process: 1 })?;
-    assert!(rt; matches!(spawned.answer, Answer::Done));
-    let command = Command::Mmap {
-        process: 1,
-        len: 1,
-        prot: Prot {
-            read: true,
-            write: true,
-            execute: false,
-        },
-        place: Place::Auto,
-    };
-    let mapped = kernel.step(alloc, &command)?;
-    assert!(rt; matches!(mapped.answer, Answer::MapAt(0x7fff_ffff_e000)));
-    Ok(())
-}
-
-#[test]
-fn a_write_and_its_tally(rt: HostRuntime) -> Result<(), Fail> {
-    let alloc = rt.alloc();
-    let mut kernel = Kernel::new(alloc, 4)?;
     let mut bytes = Bytes::new(alloc);
     bytes.append(b"A")?;
-    let command = Command::Write {
-        process: 1,
-        address: 0x1000,
-        bytes,
+    let prot = Prot {
+        read: true,
+        write: true,
+        execute: false,
     };
-    let reply = kernel.step(alloc, &command)?;
-    assert!(rt; matches!(reply.answer, Answer::Refused(_)));
-    assert_eq!(rt; kernel.steps_done(), 1);
-    assert_eq!(rt; kernel.tally().refused, 1);
-    assert!(rt; !kernel.is_spent());
-    assert_eq!(rt; kernel.frames().free(), 4);
-    assert_eq!(rt; kernel.areas().count(), 0);
+    let commands = [
+        Command::Spawn { process: 1 },
+        Command::Mmap {
+            process: 1,
+            len: 1,
+            prot,
+            place: Place::Auto,
+        },
+        Command::Write {
+            process: 2,
+            address: 0x1000,
+            bytes,
+        },
+    ];
+    let mut kernel = Kernel::new(alloc, 4)?;
+    let mut text = Bytes::new(alloc);
+    for command in &commands {
+        assert!(rt; kernel.steps_done() < 3);
+        let reply = kernel.step(alloc, command)?;
+        reply_text(&reply, &mut text)?;
+    }
+    assert!(rt; text.as_slice() == b"ok\nmap 7fffffffe000\nerr ESRCH\n".as_slice());
+    assert!(rt; kernel.steps_done() == 3 && kernel.tally().refused == 1 && !kernel.is_spent());
+    assert!(rt; kernel.frames().free() == 4 && kernel.areas().count() == 1);
     Ok(())
 }

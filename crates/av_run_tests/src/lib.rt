@@ -9,6 +9,4 @@ mod fault;
 #[cfg(test)]
 mod kernel;
 #[cfg(test)]
-mod reclaim;
-#[cfg(test)]
 mod replay;

@@ -1,6 +1,6 @@
 //! One line for a kernel.
 
-ghost use Rattle.std.specs.Prelude.{◌≡◌, ◌≤◌, ◌^◌, Option, None, IfOk, IsErrOf};
+ghost use Rattle.std.specs.Prelude.{◌≡◌, ◌≤◌, ◌^◌, Option, Some, None, IfOk, IsErrOf};
 ghost use Rattle.av_trace.specs.declared.command.Command.{Command as AnyCommand};
 ghost use Rattle.av_trace.specs.Line.{Says};
 ghost use Rattle.av_plain.specs.Device.{no_device};
@@ -9,7 +9,7 @@ ghost use Rattle.av_kernel.specs.Kernel.{Stands};
 ghost use Rattle.av_sample.specs.Answers.{Answers};
 
 use av_kernel::Kernel;
-use av_trace::{Bytes, LineFault, parse_line, reply_text};
+use av_trace::{Bytes, Command, LineFault, parse_line, reply_text};
 use std::alloc::Global;
 
 /// A kernel does so many commands at most.
@@ -28,6 +28,22 @@ pub enum Unanswered {
     Memory,
 }
 
+/// The command that a line says.
+fn command_of(alloc: Global, line: &[u8]) -> Result<Command, Unanswered>
+    ensures says { IfOk result (λ command. Says line.now (Some command)) }
+    ensures blank { IsErrOf result Unanswered.Blank → Says line.now None }
+    ensures bad { IsErrOf result Unanswered.NoCommand
+        → (said : Option AnyCommand) → Says line.now said → ⊥ }
+    ensures enough { IsErrOf result Unanswered.TooMany → ⊥ }
+{
+    match parse_line(alloc, line) {
+        Ok(Some(command)) => Ok(command),
+        Ok(None) => Err(Unanswered::Blank),
+        Err(LineFault::Bad) => Err(Unanswered::NoCommand),
+        Err(LineFault::Memory) => Err(Unanswered::Memory),
+    }
+}
+
 /// Does what a line commands, and gives the reply's text, newlines included.
 ///
 /// Where it refuses a line, or the kernel has done enough, the kernel is as before.
@@ -44,12 +60,7 @@ pub fn ask(alloc: Global, kernel: &mut Kernel, line: &[u8]) -> Result<Bytes, Una
     if MOST_COMMANDS <= kernel.steps_done() {
         return Err(Unanswered::TooMany);
     }
-    let command = match parse_line(alloc, line) {
-        Ok(Some(command)) => command,
-        Ok(None) => return Err(Unanswered::Blank),
-        Err(LineFault::Bad) => return Err(Unanswered::NoCommand),
-        Err(LineFault::Memory) => return Err(Unanswered::Memory),
-    };
+    let command = command_of(alloc, line)?;
     let Ok(reply) = kernel.step(alloc, &command) else {
         return Err(Unanswered::Memory);
     };

@@ -21,20 +21,26 @@ const LINES: [&str; 5] = [
     "exit 1",
 ];
 
-/// Gives the lines to a machine of four frames. None where something fails.
-fn show(rt: &HostRuntime) -> Option<()> {
+/// Gives a line to a kernel, and prints what it answers and how many frames are free then. None
+/// where something fails.
+fn show(rt: &HostRuntime, kernel: &mut Kernel, line: &str) -> Option<()> {
+    let text = ask(rt.alloc(), kernel, line.as_bytes()).ok()?;
+    let reply = str::from_utf8(text.as_slice()).ok()?;
+    let free = kernel.frames().free();
+    print!(rt; "{line}: {free} frames free\n{reply}").ok()
+}
+
+/// Gives the lines to a machine of four frames, up to the first that fails.
+fn show_all(rt: &HostRuntime) -> Option<()> {
     let mut kernel = Kernel::new(rt.alloc(), 4).ok()?;
-    for line in LINES {
-        let text = ask(rt.alloc(), &mut kernel, line.as_bytes()).ok()?;
-        let reply = str::from_utf8(text.as_slice()).ok()?;
-        let free = kernel.frames().free();
-        print!(rt; "{line}: {free} frames free\n{reply}").ok()?;
+    for line in &LINES {
+        show(rt, &mut kernel, line)?;
     }
     Some(())
 }
 
 fn main(rt: HostRuntime) -> ExitCode {
-    match show(&rt) {
+    match show_all(&rt) {
         Some(()) => ExitCode::from(0),
         None => ExitCode::from(1),
     }

@@ -2,50 +2,94 @@ use av_base::Slot;
 use av_frames::Frames;
 use std::alloc::AllocError;
 
+/// Whether these are the frames that are taken next.
+fn are_taken(frames: &mut Frames, wanted: &[Option<u32>]) -> bool {
+    for frame in wanted {
+        if frames.take() != *frame {
+            return false;
+        }
+    }
+    true
+}
+
+/// Gives a frame back, and says whether it was taken, and is free then.
+fn is_given_back(frames: &mut Frames, frame: u32) -> bool {
+    if frame >= frames.count() || frames.is_free(frame) {
+        return false;
+    }
+    frames.give(frame);
+    frames.is_free(frame)
+}
+
 #[test]
 fn free_frames_are_a_stack(rt: HostRuntime) -> Result<(), AllocError> {
     let mut frames = Frames::new(rt.alloc(), 3)?;
-    assert_eq!(rt; frames.free(), 3);
-    assert_eq!(rt; frames.take(), Some(0));
-    assert_eq!(rt; frames.take(), Some(1));
-    assert!(rt; !frames.is_free(1));
-    if !frames.is_free(0) {
-        frames.give(0);
-    }
-    assert!(rt; frames.is_free(0));
-    assert_eq!(rt; frames.take(), Some(0));
-    assert_eq!(rt; frames.take(), Some(2));
-    assert_eq!(rt; frames.take(), None);
+    assert!(rt; frames.free() == 3);
+    assert!(rt; are_taken(&mut frames, &[Some(0), Some(1)]));
+    assert!(rt; is_given_back(&mut frames, 0));
+    assert!(rt; are_taken(&mut frames, &[Some(0), Some(2), None]));
     Ok(())
+}
+
+/// Writes to a frame, and copies it to the next one before it is made zero.
+fn copy_and_zero(frames: &mut Frames, frame: u32) {
+    if frame < 9 && frame + 1 < frames.count() {
+        frames.write_at(frame, 4094, &[7, 8]);
+        frames.copy(frame, frame + 1);
+        frames.zero(frame);
+    }
+}
+
+/// The last three bytes of a frame.
+fn last_bytes(frames: &Frames, frame: u32) -> Option<[u8; 3]> {
+    if frame >= frames.count() {
+        return None;
+    }
+    let bytes = frames.bytes(frame);
+    Some([bytes[4093], bytes[4094], bytes[4095]])
 }
 
 #[test]
 fn bytes_are_written_copied_and_zeroed(rt: HostRuntime) -> Result<(), AllocError> {
-    let mut frames = Frames::new(rt.alloc(), 2)?;
-    frames.write_at(0, 4094, &[7, 8]);
-    frames.copy(0, 1);
-    frames.zero(0);
-    assert_eq!(rt; frames.bytes(0)[4095], 0);
-    assert_eq!(rt; frames.bytes(1)[4094], 7);
-    assert_eq!(rt; frames.bytes(1)[4093], 0);
-    frames.load(1, &[9; 4096]);
-    assert_eq!(rt; frames.bytes(1)[0], 9);
+    let mut frames = Frames::new(rt.alloc(), 3)?;
+    frames.load(2, &[9; 4096]);
+    copy_and_zero(&mut frames, 0);
+    assert!(rt; last_bytes(&frames, 0) == Some([0, 0, 0]));
+    assert!(rt; last_bytes(&frames, 1) == Some([0, 7, 8]));
+    assert!(rt; last_bytes(&frames, 2) == Some([9, 9, 9]));
     Ok(())
+}
+
+/// How many entries name a frame that none names, after one more does, and after that one is gone.
+fn count_up_and_down(frames: &mut Frames, frame: u32) -> Option<(u64, u64)> {
+    if frame >= frames.count() || frames.maps(frame) != 0 {
+        return None;
+    }
+    frames.map_up(frame);
+    let up = frames.maps(frame);
+    if up == 0 {
+        return None;
+    }
+    frames.map_down(frame);
+    Some((up, frames.maps(frame)))
+}
+
+/// Sets what is kept of a frame, and says whether it is read back.
+fn is_kept(frames: &mut Frames, frame: u32, home: (u64, u64), slot: Slot) -> bool {
+    if frame >= frames.count() || frames.dirty(frame) {
+        return false;
+    }
+    frames.set_home(frame, Some(home));
+    frames.set_dirty(frame, true);
+    frames.set_slot(frame, Some(slot));
+    frames.home(frame) == Some(home) && frames.dirty(frame) && frames.slot(frame) == Some(slot)
 }
 
 #[test]
 fn what_is_kept_of_a_frame(rt: HostRuntime) -> Result<(), AllocError> {
     let mut frames = Frames::new(rt.alloc(), 2)?;
-    assert!(rt; frames.maps(1) == 0);
-    frames.map_up(1);
-    assert!(rt; frames.maps(1) == 1);
-    frames.map_down(1);
-    assert!(rt; frames.maps(1) == 0);
-    frames.set_home(1, Some((3, 5)));
-    frames.set_dirty(1, true);
-    frames.set_slot(1, Some(Slot { area: 2, page: 9 }));
-    assert_eq!(rt; frames.home(1), Some((3, 5)));
-    assert!(rt; frames.dirty(1) && !frames.dirty(0));
-    assert_eq!(rt; frames.slot(1), Some(Slot { area: 2, page: 9 }));
+    assert!(rt; count_up_and_down(&mut frames, 1) == Some((1, 0)));
+    assert!(rt; is_kept(&mut frames, 1, (3, 5), Slot { area: 2, page: 9 }));
+    assert!(rt; is_kept(&mut frames, 0, (3, 6), Slot { area: 0, page: 1 }));
     Ok(())
 }

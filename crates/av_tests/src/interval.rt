@@ -56,11 +56,14 @@ fn found<L: Ledger>(
 #[test]
 fn one_in_a_thousand(rt: HostRuntime) -> Result<(), Fail> {
     let (many, found) = found::<Brand>(rt.alloc(), Blank::new(1))?;
-    assert_eq!(rt; many, [1000, 1, 0, 500]);
-    assert_eq!(rt; found[0], (Some((5000, 500)), None));
-    assert_eq!(rt; found[1], (None, None));
-    assert_eq!(rt; found[2], (None, None));
-    assert_eq!(rt; found[3], (None, None));
-    assert_eq!(rt; found[4], (Some((5010, 501)), None));
+    let wanted = [
+        (Some((5000, 500)), None),
+        (None, None),
+        (None, None),
+        (None, None),
+        (Some((5010, 501)), None),
+    ];
+    assert!(rt; many == [1000, 1, 0, 500]);
+    assert!(rt; found == wanted);
     Ok(())
 }

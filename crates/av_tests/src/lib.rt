@@ -19,13 +19,9 @@ mod io;
 #[cfg(test)]
 mod lru;
 #[cfg(test)]
-mod merge;
-#[cfg(test)]
 mod pagetable;
 #[cfg(test)]
 mod rmap;
-#[cfg(test)]
-mod spaces;
 #[cfg(test)]
 mod swapdev;
 #[cfg(test)]

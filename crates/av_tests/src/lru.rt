@@ -4,18 +4,18 @@ use std::alloc::AllocError;
 #[test]
 fn frames_join_and_move(rt: HostRuntime) -> Result<(), AllocError> {
     let mut lru = Lru::new(rt.alloc(), 4)?;
-    assert_eq!(rt; lru.tail(Which::Inactive), None);
+    assert!(rt; lru.tail(Which::Inactive) == None);
     lru.add(3);
     lru.to_inactive_head(1);
     lru.to_inactive_tail(2);
-    assert_eq!(rt; lru.tail(Which::Inactive), Some(2));
-    assert_eq!(rt; lru.before(2), Some(3));
+    assert!(rt; lru.tail(Which::Inactive) == Some(2));
+    assert!(rt; lru.before(2) == Some(3));
     lru.to_active(3);
-    assert_eq!(rt; lru.place(3), Some(Which::Active));
-    assert_eq!(rt; lru.before(2), Some(1));
+    assert!(rt; lru.place(3) == Some(Which::Active));
+    assert!(rt; lru.before(2) == Some(1));
     lru.remove(2);
-    assert_eq!(rt; lru.place(2), None);
-    assert_eq!(rt; lru.len(Which::Inactive), 1);
+    assert!(rt; lru.place(2) == None);
+    assert!(rt; lru.len(Which::Inactive) == 1);
     Ok(())
 }
 

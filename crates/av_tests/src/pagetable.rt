@@ -6,6 +6,56 @@ const AWAY: Pte = Pte::Away {
     slot: Slot { area: 0, page: 7 },
 };
 
+/// The pages that four levels of tables have.
+const PAGES: u64 = 0x10_0000_0000;
+
+/// Gives a page an entry and then another one, and says whether it has that.
+fn is_changed(table: &mut RadixTable, page: u64) -> Result<bool, AllocError> {
+    if page >= PAGES {
+        return Ok(false);
+    }
+    table.set(page, Pte::Zero)?;
+    if table.get(page) == Pte::Empty {
+        return Ok(false);
+    }
+    table.change(page, AWAY);
+    Ok(table.get(page) == AWAY)
+}
+
+/// Whether the first entry of a range is this one; it is taken out.
+fn is_first(table: &mut RadixTable, from: u64, to: u64, wanted: Option<u64>) -> bool {
+    match table.take_first(from, to) {
+        Some((page, entry)) => wanted == Some(page) && entry == AWAY,
+        None => wanted.is_none(),
+    }
+}
+
+#[test]
+fn tables_are_given_back(rt: HostRuntime) -> Result<(), AllocError> {
+    let mut table = RadixTable::new(rt.alloc())?;
+    assert!(rt; table.held() == 1);
+    assert!(rt; is_changed(&mut table, 0x10000)?);
+    assert!(rt; is_changed(&mut table, 0x7fffffffe)?);
+    assert!(rt; table.held() == 7);
+    assert!(rt; is_first(&mut table, 0x10001, 0x7ffffffff, Some(0x7fffffffe)));
+    assert!(rt; is_first(&mut table, 0x10001, PAGES, None));
+    assert!(rt; table.held() == 4);
+    assert!(rt; is_first(&mut table, 0, PAGES, Some(0x10000)));
+    assert!(rt; table.held() == 1 && table.next_from(0) == None);
+    Ok(())
+}
+
+/// What is found among the entries of two processes.
+fn found(tables: &mut Tables<PageTable>) -> [(u64, Pte); 5] {
+    [
+        (0, tables.get(4, 20)),
+        (0, tables.get(5, 20)),
+        (tables.next_from(4, 17).unwrap_or(0), Pte::Empty),
+        tables.take_first(4, 0, 20).unwrap_or((0, Pte::Empty)),
+        tables.take_first(4, 0, 20).unwrap_or((0, Pte::Empty)),
+    ]
+}
+
 #[test]
 fn entries_of_a_process(rt: HostRuntime) -> Result<(), AllocError> {
     let mut tables: Tables<PageTable> = Tables::new(rt.alloc());
@@ -13,11 +63,14 @@ fn entries_of_a_process(rt: HostRuntime) -> Result<(), AllocError> {
     tables.set(4, 16, Pte::Zero)?;
     tables.set(4, 20, Pte::Zero)?;
     tables.change(4, 20, AWAY);
-    assert_eq!(rt; tables.get(4, 20), AWAY);
-    assert_eq!(rt; tables.get(5, 20), Pte::Empty);
-    assert_eq!(rt; tables.next_from(4, 17), Some(20));
-    assert_eq!(rt; tables.take_first(4, 0, 20), Some((16, Pte::Zero)));
-    assert_eq!(rt; tables.take_first(4, 0, 20), None);
+    let wanted = [
+        (0, AWAY),
+        (0, Pte::Empty),
+        (20, Pte::Empty),
+        (16, Pte::Zero),
+        (0, Pte::Empty),
+    ];
+    assert!(rt; found(&mut tables) == wanted);
     Ok(())
 }
 
@@ -26,36 +79,14 @@ fn processes_come_and_go(rt: HostRuntime) -> Result<(), AllocError> {
     let mut tables: Tables<MapTable> = Tables::new(rt.alloc());
     tables.spawn(rt.alloc(), 9)?;
     tables.spawn(rt.alloc(), 4)?;
-    assert_eq!(rt; tables.process_from(0), Some(4));
-    assert_eq!(rt; tables.process_from(5), Some(9));
-    assert_eq!(rt; tables.process_from(10), None);
+    assert!(rt; tables.process_from(0) == Some(4));
+    assert!(rt; tables.process_from(5) == Some(9));
+    assert!(rt; tables.process_from(10) == None);
     tables.end(9);
-    assert_eq!(rt; tables.process_from(5), None);
-    assert!(rt; tables.of(9).is_none());
+    assert!(rt; tables.process_from(5) == None && tables.of(9).is_none());
     if let Some(table) = tables.of_mut(4) {
         table.set(1, Pte::Zero)?;
     }
-    assert!(rt; tables.of(4).is_some_and(|table| table.get(1) == Pte::Zero));
-    Ok(())
-}
-
-#[test]
-fn tables_are_given_back(rt: HostRuntime) -> Result<(), AllocError> {
-    let mut table = RadixTable::new(rt.alloc())?;
-    assert_eq!(rt; table.held(), 1);
-    table.set(0x10000, Pte::Zero)?;
-    table.change(0x10000, AWAY);
-    table.set(0x7fffffffe, AWAY)?;
-    assert_eq!(rt; table.held(), 7);
-    assert_eq!(rt; table.next_from(0x10001), Some(0x7fffffffe));
-    assert_eq!(rt;
-        table.take_first(0x10001, 0x7ffffffff),
-        Some((0x7fffffffe, AWAY))
-    );
-    assert_eq!(rt; table.held(), 4);
-    assert_eq!(rt; table.get(0x10000), AWAY);
-    assert_eq!(rt; table.take_first(0, 0x1000000000), Some((0x10000, AWAY)));
-    assert_eq!(rt; table.held(), 1);
-    assert_eq!(rt; table.next_from(0), None);
+    assert!(rt; tables.get(4, 1) == Pte::Zero);
     Ok(())
 }

@@ -219,7 +219,7 @@ fn walk_shared_alone<L: Ledger>(alloc: Global, blank: Blank) -> Result<Found, Al
 #[test]
 fn a_walk_finds_the_entries_of_both_processes(rt: HostRuntime) -> Result<(), Fail> {
     let (keys, seen) = walk_shared_alone::<Brand>(rt.alloc(), Blank::new(1))?;
-    assert_eq!(rt; keys.as_slice(), [(1, 11), (2, 11)].as_slice());
-    assert_eq!(rt; seen, (true, false));
+    assert!(rt; keys.as_slice() == [(1, 11), (2, 11)].as_slice());
+    assert!(rt; seen.0 && !seen.1);
     Ok(())
 }

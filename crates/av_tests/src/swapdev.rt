@@ -11,80 +11,78 @@ use std::path::PathBuf;
 use std::test::*;
 use std::time::{Duration, SystemTime, UNIX_EPOCH};
 
-/// A header in this order, of a device of 8 pages.
-fn header<T: ByteOrder>(last: u32, bad: &[u32]) -> [u8; PAGE_LEN]
-    requires { length bad.now ≤ 637 }
-{
+/// As many bad pages as a header has room for.
+const MOST_BAD: usize = 637;
+
+/// A header in this order of bytes. Where `bad` is too long, it says so, and has the first of them.
+fn header<T: ByteOrder>(version: u32, last: u32, bad: &[u32]) -> [u8; PAGE_LEN] {
     let mut page = [0; PAGE_LEN];
     page[PAGE_LEN - 10..].copy_from_slice(b"SWAPSPACE2");
-    T::write_u32(&mut page[1024..], 1);
+    T::write_u32(&mut page[1024..], version);
     T::write_u32(&mut page[1028..], last);
-    T::write_u32(&mut page[1032..], bad.len() as u32);
-    for (i, b) in bad.iter().enumerate() {
-        T::write_u32(&mut page[1536 + 4 * i..], *b);
+    T::write_u32(&mut page[1032..], bad.len().min(MOST_BAD + 1) as u32);
+    for i in 0..bad.len().min(MOST_BAD) {
+        T::write_u32(&mut page[1536 + 4 * i..], bad[i]);
     }
     page
 }
 
-/// The header of a device with 8 pages.
-fn little(last: u32, bad: &[u32]) -> Result<Header, HeaderFault>
-    requires { length bad.now ≤ 637 }
-{
-    read_header(&header::<LittleEndian>(last, bad), 8)
+/// What is read of such a header on a device with so many pages, where both orders say the same.
+fn read(pages: u32, version: u32, last: u32, bad: &[u32]) -> Option<Result<Header, HeaderFault>> {
+    let found = read_header(&header::<LittleEndian>(version, last, bad), pages);
+    if read_header(&header::<BigEndian>(version, last, bad), pages) != found {
+        return None;
+    }
+    Some(found)
 }
 
-/// A header with one number changed.
-fn with_number(at: usize, number: u32) -> Result<Header, HeaderFault>
-    requires { at + 4 ≤ PAGE_LEN }
-{
-    let mut page = header::<LittleEndian>(7, &[]);
-    LittleEndian::write_u32(&mut page[at..], number);
-    read_header(&page, 8)
-}
-
+/// An area of so many pages, with so many slots and bad pages.
 fn area(pages: u32, slots: u32, bad: u32) -> Result<Header, HeaderFault> {
     Ok(Header { pages, slots, bad })
 }
 
 #[test]
 fn headers(rt: HostRuntime) {
-    assert!(rt; little(7, &[]) == area(8, 7, 0));
-    assert!(rt; read_header(&header::<BigEndian>(7, &[]), 8) == area(8, 7, 0));
-    assert!(rt; little(7, &[3, 3, 5]) == area(8, 5, 2));
-    assert!(rt; little(1, &[]) == area(2, 1, 0));
-    let many = header::<BigEndian>(9999, &[9; 637]);
-    assert!(rt; read_header(&many, 10000) == area(10000, 9998, 1));
-    let longest = header::<LittleEndian>(u32::MAX, &[5, 1 << 20, u32::MAX]);
-    assert!(rt; read_header(&longest, 1 << 20) == area(1 << 20, (1 << 20) - 2, 1));
-}
-
-#[test]
-fn faults(rt: HostRuntime) {
-    let mut page = header::<LittleEndian>(7, &[]);
-    page[PAGE_LEN - 1] = b'1';
-    assert!(rt; read_header(&page, 8) == Err(HeaderFault::Signature));
-    assert!(rt; with_number(1024, 2) == Err(HeaderFault::Version));
-    assert!(rt; with_number(1024, 1 << 16) == Err(HeaderFault::Version));
-    assert!(rt; little(0, &[]) == Err(HeaderFault::LastPage));
-    assert!(rt; little(8, &[]) == Err(HeaderFault::Short));
-    assert!(rt; little(u32::MAX, &[]) == Err(HeaderFault::Short));
-    assert!(rt; with_number(1032, 638) == Err(HeaderFault::TooManyBad));
-    assert!(rt; little(7, &[0]) == Err(HeaderFault::BadPage));
-    assert!(rt; little(7, &[3, 8]) == Err(HeaderFault::BadPage));
-    assert!(rt; little(1, &[1]) == Err(HeaderFault::NoSlot));
+    let most = 1 << 20;
+    let rows: [(u32, u32, u32, &[u32], Result<Header, HeaderFault>); 14] = [
+        (8, 1, 7, &[], area(8, 7, 0)),
+        (8, 1, 7, &[3, 3, 5], area(8, 5, 2)),
+        (8, 1, 1, &[], area(2, 1, 0)),
+        (10000, 1, 9999, &[9; MOST_BAD], area(10000, 9998, 1)),
+        (
+            most,
+            1,
+            u32::MAX,
+            &[5, most, u32::MAX],
+            area(most, most - 2, 1),
+        ),
+        (8, 2, 7, &[], Err(HeaderFault::Version)),
+        (8, 1 << 16, 7, &[], Err(HeaderFault::Version)),
+        (8, 1, 0, &[], Err(HeaderFault::LastPage)),
+        (8, 1, 8, &[], Err(HeaderFault::Short)),
+        (8, 1, u32::MAX, &[], Err(HeaderFault::Short)),
+        (8, 1, 7, &[9; MOST_BAD + 1], Err(HeaderFault::TooManyBad)),
+        (8, 1, 7, &[0], Err(HeaderFault::BadPage)),
+        (8, 1, 7, &[3, 8], Err(HeaderFault::BadPage)),
+        (8, 1, 1, &[1], Err(HeaderFault::NoSlot)),
+    ];
+    for (pages, version, last, bad, wanted) in rows {
+        assert!(rt; read(pages, version, last, bad) == Some(wanted));
+    }
 }
 
 #[test]
 fn bad_pages_of_a_header(rt: HostRuntime) -> Result<(), Fail> {
-    let page = header::<LittleEndian>(7, &[5, 3, 3]);
+    let mut page = header::<LittleEndian>(1, 7, &[5, 3, 3]);
     let Ok(found) = read_header(&page, 8) else {
         return Err(Fail::new("the header is not read"));
     };
-    assert!(rt; is_bad(&page, &found, 3) && is_bad(&page, &found, 5));
-    assert!(rt;
-        !is_bad(&page, &found, 0) && !is_bad(&page, &found, 4) && !is_bad(&page, &found, 8)
-    );
+    for number in 0..9 {
+        assert!(rt; is_bad(&page, &found, number) == (number == 3 || number == 5));
+    }
     assert!(rt; bad_pages(rt.alloc(), &page, &found)?.as_slice() == [3, 5].as_slice());
+    page[PAGE_LEN - 1] = b'1';
+    assert!(rt; read_header(&page, 8) == Err(HeaderFault::Signature));
     Ok(())
 }
 

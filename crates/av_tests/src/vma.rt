@@ -25,6 +25,6 @@ fn areas_are_kept_by_number(rt: HostRuntime) -> Result<(), Fail> {
     let two = areas.add(area(2))?;
     areas.change(one, area(3));
     areas.remove(two);
-    assert_eq!(rt; areas.get(one).pid, 3);
+    assert!(rt; areas.get(one).pid == 3);
     Ok(())
 }

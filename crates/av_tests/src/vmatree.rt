@@ -5,13 +5,13 @@ use std::test::Fail;
 fn one_area_takes_all_pages(rt: HostRuntime) -> Result<(), Fail> {
     let mut tree = Tree::new(rt.alloc());
     tree.insert(7, 16, 0x7ffffffff)?;
-    assert_eq!(rt; tree.gap(1), None);
-    assert_eq!(rt; tree.find(16), Some(7));
-    assert_eq!(rt; tree.before(0x7ffffffff), Some(7));
-    assert_eq!(rt; tree.after(15), Some(7));
+    assert!(rt; tree.gap(1) == None);
+    assert!(rt; tree.find(16) == Some(7));
+    assert!(rt; tree.before(0x7ffffffff) == Some(7));
+    assert!(rt; tree.after(15) == Some(7));
     assert!(rt; !tree.is_free(16, 17));
     tree.remove(7, 16);
-    assert_eq!(rt; tree.find(16), None);
+    assert!(rt; tree.find(16) == None);
     Ok(())
 }
 
@@ -21,13 +21,13 @@ fn an_area_grows_and_shrinks_at_its_end(rt: HostRuntime) -> Result<(), Fail> {
     tree.insert(7, 20, 24)?;
     tree.insert(8, 30, 34)?;
     tree.set_end(7, 20, 30);
-    assert_eq!(rt; tree.find(29), Some(7));
-    assert_eq!(rt; tree.find(30), Some(8));
-    assert_eq!(rt; tree.gap(0x7ffffffff - 33), None);
+    assert!(rt; tree.find(29) == Some(7));
+    assert!(rt; tree.find(30) == Some(8));
+    assert!(rt; tree.gap(0x7ffffffff - 33) == None);
     tree.set_end(8, 30, 0x7ffffffff);
-    assert_eq!(rt; tree.gap(4), Some(16));
+    assert!(rt; tree.gap(4) == Some(16));
     tree.set_end(7, 20, 21);
-    assert_eq!(rt; tree.find(21), None);
-    assert_eq!(rt; tree.gap(9), Some(21));
+    assert!(rt; tree.find(21) == None);
+    assert!(rt; tree.gap(9) == Some(21));
     Ok(())
 }

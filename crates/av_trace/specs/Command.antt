@@ -1,5 +1,5 @@
 -- The lines that are commands. Each command has one line.
-use Rattle.std.specs.Prelude.{ℕ, List, [], ◌∷◌, codes, Option, Some, None}
+use Rattle.std.specs.Prelude.{ℕ, List, [], ◌∷◌, ◌++◌, codes, Option, Some, None}
 use Rattle.std.specs.Fmt.{decimal}
 use Rattle.av_base.specs.Page.{page_size}
 use Rattle.av_base.specs.declared.prot.Prot.{Prot}
@@ -131,25 +131,44 @@ rmap_at = whole entry_at (λ x. commands.Rmap x.0 x.1)
 abbrev pub entry_of : CommandReader
 entry_of = whole entry_at (λ x. commands.Entry x.0 x.1)
 
--- the commands, by name
-abbrev pub readers : List (List ℕ × CommandReader)
-readers =
-    (codes "write", write_at)
-    ∷ (codes "read", read_at)
-    ∷ (codes "spawn", whole process_at commands.Spawn)
+-- the commands, by name: those that access pages,
+abbrev pub access_readers : List (List ℕ × CommandReader)
+access_readers = (codes "write", write_at) ∷ (codes "read", read_at) ∷ []
+
+-- that begin and end processes,
+abbrev pub process_readers : List (List ℕ × CommandReader)
+process_readers =
+    (codes "spawn", whole process_at commands.Spawn)
     ∷ (codes "fork", fork_at)
     ∷ (codes "exit", whole process_at commands.Exit)
-    ∷ (codes "mmap", mmap_at)
+    ∷ []
+
+-- that change ranges,
+abbrev pub range_readers : List (List ℕ × CommandReader)
+range_readers =
+    (codes "mmap", mmap_at)
     ∷ (codes "munmap", munmap_at)
     ∷ (codes "mprotect", mprotect_at)
     ∷ (codes "mremap", mremap_at)
-    ∷ (codes "maps", whole process_at commands.Maps)
+    ∷ []
+
+-- and reports
+abbrev pub report_readers : List (List ℕ × CommandReader)
+report_readers =
+    (codes "maps", whole process_at commands.Maps)
     ∷ (codes "areas", whole process_at commands.Areas)
     ∷ (codes "rmap", rmap_at)
     ∷ (codes "entry", entry_of)
     ∷ (codes "stat", whole no_words (λ x. commands.Stat))
     ∷ []
 
+abbrev pub readers : List (List ℕ × CommandReader)
+readers = access_readers ++ process_readers ++ range_readers ++ report_readers
+
+-- the command of a line that has one of these names
+abbrev pub command_in : List (List ℕ × CommandReader) → CommandReader
+command_in names line = by_name names line >>= λ found. found.0 found.1
+
 -- the command of a whole line
-unfoldable pub command_of : List ℕ → Option Command
-command_of line = by_name readers line >>= λ found. found.0 found.1
+unfoldable pub command_of : CommandReader
+command_of line = command_in readers line

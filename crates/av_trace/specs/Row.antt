@@ -24,14 +24,17 @@ abbrev pub chain_text : List ℕ → List ℕ
 chain_text [] = codes "-"
 chain_text (v ∷ vs) = decimal v ++ flat_map (λ w. 44 ∷ decimal w) vs
 
--- what the row of an area says after its addresses
-abbrev pub area_words : Prot → ℕ → Option ℕ → List ℕ → List (List ℕ)
-area_words prot offset own chain =
-    prot_text prot
-    ∷ (codes "off=" ++ hex offset)
+-- an area's offset, its own anon_vma and its chain
+abbrev pub link_words : ℕ → Option ℕ → List ℕ → List (List ℕ)
+link_words offset own chain =
+    (codes "off=" ++ hex offset)
     ∷ (codes "own=" ++ own_text own)
     ∷ (codes "chain=" ++ chain_text chain)
     ∷ []
+
+-- what the row of an area says after its addresses
+abbrev pub area_words : Prot → ℕ → Option ℕ → List ℕ → List (List ℕ)
+area_words prot offset own chain = prot_text prot ∷ link_words offset own chain
 
 -- the line of a row
 abbrev pub row_line : Row → List ℕ

@@ -1,7 +1,7 @@
 //! What a line asks for.
 
-ghost use Rattle.std.specs.Prelude.{◌≡◌, codes, option_map, IfOk, OnErr};
-ghost use Rattle.av_trace.specs.Command.{at_end, whole, no_words, fork_at, mmap_at, munmap_at, mprotect_at, mremap_at, read_at, write_at, rmap_at, entry_of, command_of, range_words};
+ghost use Rattle.std.specs.Prelude.{◌≡◌, ◌++◌, codes, option_map, IfOk, OnErr};
+ghost use Rattle.av_trace.specs.Command.{at_end, whole, no_words, fork_at, mmap_at, munmap_at, mprotect_at, mremap_at, read_at, write_at, rmap_at, entry_of, command_in, command_of, process_readers, range_readers, report_readers, range_words};
 ghost use Rattle.av_trace.specs.Number.{process_at};
 ghost use Rattle.av_trace.specs.Word.{BeginsWith};
 
@@ -203,21 +203,22 @@ fn read(bytes: &[u8]) -> Option<Command>
     end(command, rest)
 }
 
-#[tactic(auto, unfolding(crate::specs::Command::whole, crate::specs::Command::at_end, crate::specs::Word::both))]
+#[tactic(auto, unfolding(crate::specs::Command::whole, crate::specs::Word::both))]
 fn write(alloc: Global, bytes: &[u8], spare: &mut Bytes) -> Result<Option<Command>, AllocError>
     ensures { IfOk result (λ found. found ≡ write_at bytes.now) }
 {
     let Some(((process, address), rest)) = entry(bytes) else {
         return Ok(None);
     };
-    match data_field(alloc, rest, spare)? {
-        Some(bytes) => Ok(Some(Command::Write {
-            process,
-            address,
-            bytes,
-        })),
-        None => Ok(None),
-    }
+    let Some(bytes) = data_field(alloc, rest, spare)? else {
+        return Ok(None);
+    };
+    let command = Command::Write {
+        process,
+        address,
+        bytes,
+    };
+    Ok(end(command, b""))
 }
 
 #[tactic(auto, unfolding(crate::specs::Command::whole))]
@@ -259,6 +260,61 @@ fn stat(bytes: &[u8]) -> Option<Command>
     end(Command::Stat, bytes)
 }
 
+/// The report that a line asks for.
+#[inline]
+fn report(line: &[u8]) -> Option<Command>
+    ensures { result ≡ command_in report_readers line.now }
+{
+    if let Some(rest) = after(line, b"maps") {
+        maps(rest)
+    } else if let Some(rest) = after(line, b"areas") {
+        areas(rest)
+    } else if let Some(rest) = after(line, b"rmap") {
+        rmap(rest)
+    } else if let Some(rest) = after(line, b"entry") {
+        one_entry(rest)
+    } else if let Some(rest) = after(line, b"stat") {
+        stat(rest)
+    } else {
+        None
+    }
+}
+
+/// The change of a range, or the report, that a line asks for.
+#[inline]
+fn of_ranges(line: &[u8]) -> Option<Command>
+    ensures { result ≡ command_in (range_readers ++ report_readers) line.now }
+{
+    if let Some(rest) = after(line, b"mmap") {
+        mmap(rest)
+    } else if let Some(rest) = after(line, b"munmap") {
+        munmap(rest)
+    } else if let Some(rest) = after(line, b"mprotect") {
+        mprotect(rest)
+    } else if let Some(rest) = after(line, b"mremap") {
+        mremap(rest)
+    } else {
+        report(line)
+    }
+}
+
+/// The command on a process or a range, or the report, that a line asks for.
+#[inline]
+fn of_processes(line: &[u8]) -> Option<Command>
+    ensures { result ≡ command_in (process_readers ++ range_readers ++ report_readers)
+        line.now }
+{
+    if let Some(rest) = after(line, b"spawn") {
+        spawn(rest)
+    } else if let Some(rest) = after(line, b"fork") {
+        fork(rest)
+    } else if let Some(rest) = after(line, b"exit") {
+        exit(rest)
+    } else {
+        of_ranges(line)
+    }
+}
+
 /// The command of a whole line. Only a write takes memory, and first that of `spare`.
 #[tactic(auto, unfolding(crate::specs::Command::command_of))]
 pub fn whole_command(
@@ -273,31 +329,7 @@ pub fn whole_command(
         write(alloc, rest, spare)
     } else if let Some(rest) = after(line, b"read") {
         Ok(read(rest))
-    } else if let Some(rest) = after(line, b"spawn") {
-        Ok(spawn(rest))
-    } else if let Some(rest) = after(line, b"fork") {
-        Ok(fork(rest))
-    } else if let Some(rest) = after(line, b"exit") {
-        Ok(exit(rest))
-    } else if let Some(rest) = after(line, b"mmap") {
-        Ok(mmap(rest))
-    } else if let Some(rest) = after(line, b"munmap") {
-        Ok(munmap(rest))
-    } else if let Some(rest) = after(line, b"mprotect") {
-        Ok(mprotect(rest))
-    } else if let Some(rest) = after(line, b"mremap") {
-        Ok(mremap(rest))
-    } else if let Some(rest) = after(line, b"maps") {
-        Ok(maps(rest))
-    } else if let Some(rest) = after(line, b"areas") {
-        Ok(areas(rest))
-    } else if let Some(rest) = after(line, b"rmap") {
-        Ok(rmap(rest))
-    } else if let Some(rest) = after(line, b"entry") {
-        Ok(one_entry(rest))
-    } else if let Some(rest) = after(line, b"stat") {
-        Ok(stat(rest))
     } else {
-        Ok(None)
+        Ok(of_processes(line))
     }
 }

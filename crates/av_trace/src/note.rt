@@ -176,6 +176,27 @@ fn frame_line(
     add_number(text, u64::from(frame))
 }
 
+fn load_line(text: &mut Bytes, slot: Slot, frame: u32) -> Result<(), AllocError>
+    ensures { Adds result text.old text.new (line_of_note (Note.Loaded slot frame)) }
+{
+    slot_line(text, b"load", slot)?;
+    add_number(text, u64::from(frame))
+}
+
+fn put_line(text: &mut Bytes, frame: u32, slot: Slot) -> Result<(), AllocError>
+    ensures { Adds result text.old text.new (line_of_note (Note.Put frame slot)) }
+{
+    number_line(text, b"put", u64::from(frame))?;
+    add_slot(text, slot)
+}
+
+fn keep_line(text: &mut Bytes, frame: u32, cause: Cause) -> Result<(), AllocError>
+    ensures { Adds result text.old text.new (line_of_note (Note.Kept frame cause)) }
+{
+    number_line(text, b"keep", u64::from(frame))?;
+    add_cause(text, cause)
+}
+
 /// Adds the line of a note, without its newline.
 pub fn note_line(text: &mut Bytes, note: Note) -> Result<(), AllocError>
     ensures { Adds result text.old text.new (line_of_note note) }
@@ -192,28 +213,19 @@ pub fn note_line(text: &mut Bytes, note: Note) -> Result<(), AllocError>
             address,
             frame,
         } => frame_line(text, b"copy", process, address, frame),
-        Note::Loaded { slot, frame } => {
-            slot_line(text, b"load", slot)?;
-            add_number(text, u64::from(frame))
-        }
+        Note::Loaded { slot, frame } => load_line(text, slot, frame),
         Note::Mapped {
             process,
             address,
             frame,
         } => frame_line(text, b"map", process, address, frame),
-        Note::Put { frame, slot } => {
-            number_line(text, b"put", u64::from(frame))?;
-            add_slot(text, slot)
-        }
+        Note::Put { frame, slot } => put_line(text, frame, slot),
         Note::Unmapped(frame) => number_line(text, b"unmap", u64::from(frame)),
         Note::Started(slot) => slot_line(text, b"start", slot),
         Note::Written(slot) => slot_line(text, b"done", slot),
         Note::Failed(slot) => slot_line(text, b"fail", slot),
         Note::Dropped(slot) => slot_line(text, b"drop", slot),
-        Note::Kept { frame, cause } => {
-            number_line(text, b"keep", u64::from(frame))?;
-            add_cause(text, cause)
-        }
+        Note::Kept { frame, cause } => keep_line(text, frame, cause),
         Note::Aged(frame) => number_line(text, b"age", u64::from(frame)),
     }
 }

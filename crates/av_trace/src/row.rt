@@ -1,8 +1,9 @@
 //! Rows of a report.
 
 ghost use Rattle.std.specs.Prelude.{◌≡◌, List, [], ◌∷◌, ◌++◌, OnOk, OnErr};
-ghost use Rattle.av_trace.specs.Row.{chain_text, own_text, row_line as line_of_row};
-ghost use Rattle.av_trace.specs.Word.{Adds};
+ghost use Rattle.std.specs.List.{flat_map};
+ghost use Rattle.av_trace.specs.Row.{chain_text, link_words, own_text, row_line as line_of_row};
+ghost use Rattle.av_trace.specs.Word.{Adds, field};
 
 use crate::bytes::Bytes;
 use crate::hex::{add_address, add_hex};
@@ -153,6 +154,23 @@ fn add_chain(text: &mut Bytes, chain: &[u64]) -> Result<(), AllocError>
     Ok(())
 }
 
+/// Adds the offset of an area, its own anon_vma and its chain.
+fn add_links(
+    text: &mut Bytes,
+    offset: u64,
+    own: Option<u64>,
+    chain: &[u64],
+) -> Result<(), AllocError>
+    ensures { Adds result text.old text.new (flat_map field (link_words offset own chain.now)) }
+{
+    add_word(text, b"off=")?;
+    add_hex(text, offset)?;
+    add_word(text, b"own=")?;
+    add_own(text, own)?;
+    add_word(text, b"chain=")?;
+    add_chain(text, chain)
+}
+
 /// Adds the line of a row, without its newline.
 pub fn row_line(text: &mut Bytes, row: &Row) -> Result<(), AllocError>
     ensures { Adds result text.old text.new (line_of_row row.now) }
@@ -168,12 +186,7 @@ pub fn row_line(text: &mut Bytes, row: &Row) -> Result<(), AllocError>
             chain,
         } => {
             add_run(text, *start, *end, *prot)?;
-            add_word(text, b"off=")?;
-            add_hex(text, *offset)?;
-            add_word(text, b"own=")?;
-            add_own(text, *own)?;
-            add_word(text, b"chain=")?;
-            add_chain(text, chain.as_slice())
+            add_links(text, *offset, *own, chain.as_slice())
         }
         Row::Entry { process, address } => {
             add_decimal(text, u64::from(*process))?;

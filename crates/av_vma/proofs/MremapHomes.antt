@@ -1,6 +1,4 @@
--- What a move and a growth of areas keep of the homes that frames have from pages; that they give no area an own anon_vma that none had; and that nothing
--- is where
--- nothing was, nor where a range stood.
+-- What a move and a growth of areas keep of the homes that frames have from pages; and that nothing is where nothing was, nor where a range stood.
 use Rattle.std.proofs.Common.{◌≡◌, ℕ, zero, suc, ◌+◌, ◌-◌, ◌*◌, ◌/◌, ◌^◌, ◌<◌, ◌≤◌, inl, inr, min, nat_lt, Bool, true, false, cond, Option, Some, None, is_some, option_map, refl, sym, ap, subst, ◌∙◌, arith}
 use Rattle.std.proofs.lemmas.Bool.{cases_lt, false≢true, ltb-true}
 use Rattle.std.proofs.lemmas.Option.{none-some}
@@ -14,8 +12,7 @@ use Rattle.av_vma.proofs.Cut.{laid_cut, laid_unmapped}
 use Rattle.av_vma.proofs.Homes.{KeepsHomes, homes_around, homes_cut, homes_joined, homes_unmapped, keeps_both}
 use Rattle.av_vma.proofs.Join.{laid_joined, merged_pages, tried_is}
 use Rattle.av_vma.proofs.Laid.{has_parts}
-use Rattle.av_vma.proofs.Mremap.{IsLast, IsReady, at_target, carried, elsewhere, ends_there, free_above, grown_pages, growing, inside, is_in_range, laid_carried, laid_filled, laid_growth, last_there, out_of_range, parts, ready, which, with_end}
-use Rattle.av_vma.proofs.Owns.{AddsNoOwn, HasOwn, adds_neither, owns_around, owns_cut, owns_joined, owns_unmapped}
+use Rattle.av_vma.proofs.Mremap.{IsLast, IsReady, at_target, carried, elsewhere, ends_there, free_above, grown_pages, growing, inside, is_in_range, laid_carried, laid_filled, laid_growth, last_there, out_of_range, parts, ready, with_end}
 
 -- ---- boundaries in turn
 
@@ -24,11 +21,6 @@ module _ (len : Lengths) where
   homes_over at zero on laid page home is = is
   homes_over at (suc n) on laid page home is = homes_over (suc at) n (joined_at len at on) (laid_joined len at on laid) page home
       (homes_joined len at on laid page home is)
-
-  pub owns_over : (at n : ℕ) (on : Pages) → AddsNoOwn on (joined_over len at n on)
-  owns_over at zero on page own has = (page, has)
-  owns_over at (suc n) on page own has = adds_neither on (joined_at len at on) (joined_over len (suc at) n (joined_at len at on))
-      (owns_joined len at on) (owns_over (suc at) n (joined_at len at on)) page own has
 
   -- a free page stays so
   pub none_joined : (at : ℕ) (on : Pages) → AreLaid on → (page : ℕ) → on page ≡ None → joined_at len at on page ≡ None
@@ -81,16 +73,6 @@ module _ (from n k to : ℕ) (on : Pages) (r : IsReady from n k to on) where
   pub home_beside : (page : ℕ) → within to k page ≡ false → within from (from + n - from) page ≡ false → HomeGoes on page (moved_range from n k to on) page
   home_beside page out gone home is = ap (home_of page) (elsewhere from n k to on r page out gone) ∙ is
 
-  pub owns_moved : AddsNoOwn on (moved_range from n k to on)
-  owns_moved page own has = by (moved_range from n k to on page) refl has
-    where
-      by : (o : Option Area) → moved_range from n k to on page ≡ o → HasOwn own o → (other : ℕ) × HasOwn own (on other)
-      by None e has = absurd has
-      by (Some area) e has = elim (which from n k to on r page area e) [
-        | inl m ↦ (from + (page - to), subst (HasOwn own) (sym m.there) (subst (λ (a : Area). a.anon ≡ Some own) (sym m.is) has))
-        | inr s ↦ (page, subst (HasOwn own) (sym s.there) has)
-      ]
-
   -- nothing is left where the range stood
   pub none_left : (page : ℕ) → from ≤ page → page < from + n → moved_range from n k to on page ≡ None
   none_left page least most =
@@ -112,13 +94,6 @@ module _ (page past : ℕ) (area : Area) (on : Pages) (laid : AreLaid on) (is : 
         | inl has ↦ sym (ap (home_of other) (laid.all page other area is has)) ∙ has_home
         | inr none ↦ absurd (none-some home (sym (ap (home_of other) none) ∙ has_home))
       ]
-
-  pub owns_grown : AddsNoOwn on (with_area (with_end past area) on)
-  owns_grown other own has = by (has_page (with_end past area) other) has
-    where
-      by : (b : Bool) → HasOwn own (cond b (Some (with_end past area)) (on other)) → (x : ℕ) × HasOwn own (on x)
-      by true has = (page, subst (HasOwn own) (sym is) has)
-      by false has = (other, has)
 
   -- a free page stays so, but for those by which it grows
   pub none_grown : (other : ℕ) → (past_of area ≤ other → other < past → ⊥) → on other ≡ None → with_area (with_end past area) on other ≡ None
@@ -177,11 +152,6 @@ module _ (len : Lengths) (last past : ℕ) (on : Pages) (laid : AreLaid on) (g :
       (homes_grown last past grows on laid grows_is is_more g.high is_free stays_small)
       (homes_around len (first_of grows) past longer (laid_growth last past on laid g grows grows_is)))
 
-  pub owns_after_grow : AddsNoOwn on (after_grow len past (on last) on)
-  owns_after_grow = subst (λ o. AddsNoOwn on (after_grow len past o on)) (sym grows_is)
-      (adds_neither on longer (joined_around len (first_of grows) past longer)
-      (owns_grown last past grows on laid grows_is is_more g.high is_free stays_small) (owns_around len (first_of grows) past longer))
-
 -- n pages become m where they are: all but those past the m keep their homes
 module _ (len : Lengths) (from n m : ℕ) (on : Pages) (laid : AreLaid on) (growth : n < m → IsGrowth (from + n - 1) (from + m) on) where
   pub homes_after_resize : (page : ℕ) → within (from + m) (n - m) page ≡ false → HomeGoes on page (after_resize len from n m on) page
@@ -195,15 +165,6 @@ module _ (len : Lengths) (from n m : ℕ) (on : Pages) (laid : AreLaid on) (grow
       by true c e f = homes_unmapped (from + m) (from + n) on laid page (ap (λ k. within (from + m) k page) width ∙ stays) ∙ is
       by false true e f = homes_after_grow len (from + n - 1) (from + m) on laid (growth (ltb-true n m f)) page home is
       by false false e f = is
-
-  pub owns_after_resize : AddsNoOwn on (after_resize len from n m on)
-  owns_after_resize = by (nat_lt m n) (nat_lt n m) refl
-    where
-      by : (b c : Bool) → nat_lt n m ≡ c → AddsNoOwn on (cond b (after_unmap (from + m) (from + n) on)
-          (cond c (after_grow len (from + m) (on (from + n - 1)) on) on))
-      by true c f = owns_unmapped (from + m) (from + n) on
-      by false true f = owns_after_grow len (from + n - 1) (from + m) on laid (growth (ltb-true n m f))
-      by false false f = λ page own has. (page, has)
 
 -- ---- a range moves
 
@@ -235,14 +196,6 @@ module _ (len : Lengths) (from n to m : ℕ) (on : Pages) (laid : AreLaid on) (m
     where
       width : to + m - to ≡ m
       width = omega arith
-
-  owns_pieces : AddsNoOwn on pieces
-  owns_pieces =
-      let clear = after_unmap to (to + m) on in
-      let once = cut_at from clear in
-      let twice = cut_at (from + stay) once in
-      adds_neither on clear pieces (owns_unmapped to (to + m) on)
-      (adds_neither clear once pieces (owns_cut from clear) (adds_neither once twice pieces (owns_cut (from + stay) once) (owns_cut (from + n) twice)))
 
   -- the last of them fills the new range
   abbrev last : Area
@@ -294,14 +247,6 @@ module _ (len : Lengths) (from n to m : ℕ) (on : Pages) (laid : AreLaid on) (m
 
       less : (page : ℕ) → within to m page ≡ false → within to stay page ≡ false
       less page out = out_of_range to stay page (λ low high. absurd (false≢true (sym out ∙ is_in_range to m page low (omega arith))))
-
-  pub owns_after_move : AddsNoOwn on (after_move len from n to m on)
-  owns_after_move = subst (λ x. AddsNoOwn on (joined_over len to (suc m) x)) (sym filled_is)
-      (adds_neither on pieces (joined_over len to (suc m) filled) owns_pieces
-      (adds_neither pieces gone_over (joined_over len to (suc m) filled) (owns_moved from n stay to pieces pieces_ready)
-      (adds_neither gone_over filled (joined_over len to (suc m) filled)
-      (owns_grown (to + stay - 1) (to + m) last gone_over laid_gone last_is last_more move.high so.free so.small)
-      (owns_over len to (suc m) filled))))
 
   -- nothing is left where the range stood
   pub none_after_move : (page : ℕ) → from ≤ page → page < from + n → after_move len from n to m on page ≡ None

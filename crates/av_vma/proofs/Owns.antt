@@ -1,10 +1,13 @@
--- Cutting, joining, mapping, unmapping and changing give no area an own anon_vma that none had.
-use Rattle.std.proofs.Common.{◌≡◌, ℕ, zero, suc, ◌+◌, ◌-◌, Bool, true, false, cond, Option, Some, None, IsSomeAnd, option_map, refl, sym, subst, ◌∙◌, inl, inr}
+-- Cutting, joining, mapping, unmapping, changing, moving and growing give no area an own anon_vma that none had.
+use Rattle.std.proofs.Common.{◌≡◌, ℕ, zero, suc, ◌+◌, ◌-◌, min, nat_lt, Bool, true, false, cond, Option, Some, None, IsSomeAnd, option_map, refl, sym, subst, ◌∙◌, inl, inr}
 use Rattle.std.specs.Option.{option_or}
 use Rattle.std.proofs.lemmas.Option.{none-some}
+use Rattle.av_base.specs.Page.{address_of}
 use Rattle.av_base.specs.Words.{within}
 use Rattle.av_base.specs.declared.prot.Prot.{Prot}
 use Rattle.av_vma.specs.declared.area.Area.{Area}
+use Rattle.av_vma.specs.Join.{first_of}
+use Rattle.av_vma.specs.Mremap.{after_grow, after_move, after_resize, grown_to, joined_over, moved_area, moved_range}
 use Rattle.av_vma.specs.Pages.{Effect, Lengths, Pages, after_map, after_unmap, alters_at, cut_at, fresh_area, has_page, joined_around, joined_at, page_changed, pages_changed, part_changed, part_of, with_area, with_effect, with_effect_on, without_range}
 use Rattle.av_vma.proofs.Cut.{part_own}
 use Rattle.av_vma.proofs.Join.{tried_is}
@@ -117,3 +120,83 @@ module _ (len : Lengths) where
         let new = page_changed len effect from on in
         let there = owns_changed (from + 1) n new page own has in
         page_owns from on there.0 own there.1
+
+-- ---- move and grow
+
+owns_moved : (from n k to : ℕ) (on : Pages) → AddsNoOwn on (moved_range from n k to on)
+owns_moved from n k to on page own has = by (within to k page) has
+  where
+    there : (o : Option Area) → HasOwn own (option_map (moved_area from to) o) → HasOwn own o
+    there None h = h
+    there (Some area) h = h
+
+    by : (b : Bool) → HasOwn own (cond b (option_map (moved_area from to) (on (from + (page - to)))) (without_range from (from + n) on page))
+        → (other : ℕ) × HasOwn own (on other)
+    by true h = (from + (page - to), there (on (from + (page - to))) h)
+    by false h = owns_emptied from (from + n) on page own h
+
+pub owns_grown : (past last : ℕ) (on : Pages) → AddsNoOwn on (grown_to past (on last) on)
+owns_grown past last on page own has = by (on last) refl has
+  where
+    by : (o : Option Area) → on last ≡ o → HasOwn own (grown_to past o on page) → (other : ℕ) × HasOwn own (on other)
+    by None is h = (page, h)
+    by (Some area) is h = at (has_page (record area { end = address_of past }) page) h
+      where
+        at : (b : Bool) → HasOwn own (cond b (Some (record area { end = address_of past })) (on page)) → (other : ℕ) × HasOwn own (on other)
+        at true h = (last, subst (HasOwn own) (sym is) h)
+        at false h = (page, h)
+
+-- the new range before its boundaries are tried
+module _ (from n to m : ℕ) (on : Pages) where
+  abbrev cleared : Pages
+  cleared = after_unmap to (to + m) on
+
+  abbrev once : Pages
+  once = cut_at from cleared
+
+  abbrev twice : Pages
+  twice = cut_at (from + min n m) once
+
+  abbrev parts : Pages
+  parts = cut_at (from + n) twice
+
+  abbrev carried : Pages
+  carried = moved_range from n (min n m) to parts
+
+  abbrev pub full : Pages
+  full = grown_to (to + m) (carried (to + min n m - 1)) carried
+
+  owns_parts : AddsNoOwn on parts
+  owns_parts = adds_neither on cleared parts (owns_unmapped to (to + m) on)
+      (adds_neither cleared once parts (owns_cut from cleared) (adds_neither once twice parts (owns_cut (from + min n m) once) (owns_cut (from + n) twice)))
+
+  pub owns_full : AddsNoOwn on full
+  owns_full = adds_neither on carried full (adds_neither on parts carried owns_parts (owns_moved from n (min n m) to parts))
+      (owns_grown (to + m) (to + min n m - 1) carried)
+
+module _ (len : Lengths) where
+  owns_over : (at n : ℕ) (on : Pages) → AddsNoOwn on (joined_over len at n on)
+  owns_over at zero on = λ page own has. (page, has)
+  owns_over at (suc n) on = let once = joined_at len at on in
+      adds_neither on once (joined_over len (suc at) n once) (owns_joined len at on) (owns_over (suc at) n once)
+
+  owns_after_grow : (past last : ℕ) (on : Pages) → AddsNoOwn on (after_grow len past (on last) on)
+  owns_after_grow past last on = by (on last) refl
+    where
+      by : (o : Option Area) → on last ≡ o → AddsNoOwn on (after_grow len past o on)
+      by None is = λ page own has. (page, has)
+      by (Some area) is = let grown = grown_to past (Some area) on in
+          adds_neither on grown (after_grow len past (Some area) on) (subst (λ o. AddsNoOwn on (grown_to past o on)) is (owns_grown past last on))
+          (owns_around len (first_of area) past grown)
+
+  pub owns_after_resize : (from n m : ℕ) (on : Pages) → AddsNoOwn on (after_resize len from n m on)
+  owns_after_resize from n m on = by (nat_lt m n) (nat_lt n m)
+    where
+      by : (b c : Bool) → AddsNoOwn on (cond b (after_unmap (from + m) (from + n) on) (cond c (after_grow len (from + m) (on (from + n - 1)) on) on))
+      by true c = owns_unmapped (from + m) (from + n) on
+      by false true = owns_after_grow (from + m) (from + n - 1) on
+      by false false = λ page own has. (page, has)
+
+  pub owns_after_move : (from n to m : ℕ) (on : Pages) → AddsNoOwn on (after_move len from n to m on)
+  owns_after_move from n to m on = adds_neither on (full from n to m on) (after_move len from n to m on) (owns_full from n to m on)
+      (owns_over to (suc m) (full from n to m on))

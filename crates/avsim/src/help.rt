@@ -21,7 +21,8 @@ A trace has one command a line. An empty line, or one that begins with #, says n
   fork P Q                  process Q begins with the memory of P; both have the same frames,
                             and a write to one of these gets a copy
   exit P                    process P ends; what no other process has of its frames is free
-  mmap P LEN PROT           map LEN bytes, rounded up to pages, at the greatest address where they fit;
+  mmap P LEN PROT           map LEN bytes, rounded up to pages, at the greatest address \
+where they fit;
                             PROT is like rw-, r-- or ---; the line may end with one of
          .. at A            at the page of A if they may go there, else as without it
          .. fixed A         at A, in place of what is mapped there
@@ -42,7 +43,8 @@ A trace has one command a line. An empty line, or one that begins with #, says n
   entry P A                 the page-table entry of the page at A: none, the page of zeros, a frame
   stat                      how many frames there are, are free, are in use; how many processes live
 
-for example: printf 'spawn 1\\nmmap 1 4096 rw-\\nwrite 1 7fffffffe005 41\\nread 1 7fffffffe004 3\\n' | avsim run 4
+for example: printf 'spawn 1\\nmmap 1 4096 rw-\\nwrite 1 7fffffffe005 41\\n\
+read 1 7fffffffe004 3\\n' | avsim run 4
 
 prints:      ok
              map 7fffffffe000

@@ -54,7 +54,7 @@ fn run_program(rt: &HostRuntime) -> Status {
     let Ok(mut sink) = WriteSink::new(rt.alloc(), io::writer(rt)) else {
         return Status::Memory;
     };
-    run(rt.alloc(), &words, &mut source, &mut sink).status
+    run(rt.alloc(), &words, &mut source, &mut sink).into_status()
 }
 
 fn main(rt: HostRuntime) -> ExitCode {
@@ -65,6 +65,3 @@ fn main(rt: HostRuntime) -> ExitCode {
     }
     ExitCode::from(exit_number(status))
 }
-
-#[cfg(test)]
-mod tests;

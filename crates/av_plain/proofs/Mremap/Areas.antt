@@ -14,8 +14,8 @@ use Rattle.av_vma.proofs.Indices.{indices_after_move, indices_after_resize, indi
 use Rattle.av_vma.proofs.Join.{laid_mapped}
 use Rattle.av_vma.proofs.Laid.{has_area, has_parts}
 use Rattle.av_vma.proofs.Mremap.{laid_after_move, laid_after_resize}
-use Rattle.av_vma.proofs.MremapHomes.{HomeGoes, home_after_move, home_not_moved, homes_after_resize, none_after_move, owns_after_move, owns_after_resize}
-use Rattle.av_vma.proofs.Owns.{AddsNoOwn, adds_neither, owns_mapped}
+use Rattle.av_vma.proofs.MremapHomes.{HomeGoes, home_after_move, home_not_moved, homes_after_resize, none_after_move}
+use Rattle.av_vma.proofs.Owns.{AddsNoOwn, adds_neither, owns_after_move, owns_after_resize, owns_mapped}
 use Rattle.av_plain.specs.Mremap.{after_mremap, with_old_range}
 
 -- n pages may become k: in place they grow over free pages, and elsewhere there is place for them
@@ -68,9 +68,9 @@ module _ (long : Lengths) (p from n to k : ℕ) (on : Pages) (laid : AreLaid on)
   laid_again (Some prot) = laid_mapped long p from (from + n) prot then laid_then nonempty room
 
   owns_again : (left : Option Prot) → AddsNoOwn on (with_old_range long p from (from + n) left then)
-  owns_again None = owns_after_move long from n to k on laid move
+  owns_again None = owns_after_move long from n to k on
   owns_again (Some prot) = adds_neither on then (after_map long p from (from + n) prot then)
-      (owns_after_move long from n to k on laid move) (owns_mapped long p from (from + n) prot then)
+      (owns_after_move long from n to k on) (owns_mapped long p from (from + n) prot then)
 
   -- only what is mapped anew at the target raises linear indices
   indices_again : (most : ℕ) → top_page ≤ most → AreIndicesBelow most on → (left : Option Prot)
@@ -106,7 +106,7 @@ module _ (long : Lengths) (p from n to k : ℕ) (left : Option Prot) (on : Pages
   owns_remapped = by (to == from) refl
     where
       by : (b : Bool) → (to == from) ≡ b → AddsNoOwn on next
-      by true here = subst (AddsNoOwn on) (sym (in_place here)) (owns_after_resize long from n k on laid (may.grows here))
+      by true here = subst (AddsNoOwn on) (sym (in_place here)) (owns_after_resize long from n k on)
       by false there = subst (AddsNoOwn on) (sym (elsewhere there)) (owns_again long p from n to k on laid (may.moves there) left)
 
   -- linear indices rise by less than the pages that a process may have

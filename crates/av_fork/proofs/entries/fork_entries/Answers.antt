@@ -54,7 +54,7 @@ map_up_each-requires-clause-in_range c = λ i f write was low is.
     in_range c.args.parent c.args.child (entry_at old.tables) c.requires.empty now.spaces now.anons o.0 (seen now.frames)
     (c.loop-page.number * 64) (v.forking o.0 o.1)
     (page / 64 * 64 + i) (omega (arith, from)) f write was
-    (sym (group_is old c.args.parent c.args.child c.requires.empty now v.tables c.group-group.result (page / 64 * 64) c.group-group.ensures i low) ∙ is)
+    (sym (group_is old c.args.parent c.args.child c.requires.empty now v.tables c.read_group.new.group (page / 64 * 64) c.read_group.ensures i low) ∙ is)
 
 pub loop-page-preserved : goal.loop-page-preserved
 loop-page-preserved c =
@@ -63,14 +63,14 @@ loop-page-preserved c =
     let v = c.loop-page.invariant in
     let page = c.in-Some.page in
     let is = c.in-Some.ensures in
-    let group = c.group-group.result in
+    let group = c.read_group.new.group in
     let start = page / 64 * 64 in
     let past = (page / 64 + 1) * 64 in
     let from : c.loop-page.number ≤ page / 64 = le-div c.loop-page.number page 64 (omega arith) is.from_there in
     let low : c.loop-page.number * 64 ≤ start = omega (arith, from) in
     let here : start ≤ page = omega (arith, div-add-mod' page 64) in
     let below = is.below in
-    let long : length group ≡ 64 = omega (arith, c.group-group.type_inv) in
+    let long : length group ≡ 64 = c.read_group.array_long in
     let ups = c.map_up_each.ensures in
     record {
       within = omega (arith, here, below);
@@ -83,7 +83,7 @@ loop-page-preserved c =
           (subst (λ (s : Seen). IsForkingTo now.spaces now.anons c.args.parent c.args.child (entry_at old.tables) s (start + length group) first) (sym ups)
           (whole_group c.args.parent c.args.child (entry_at old.tables) c.requires.empty now.spaces now.anons first group (seen now.frames) start
           (omega (arith, long, here, below))
-          (λ i under. group_is old c.args.parent c.args.child c.requires.empty now v.tables group start c.group-group.ensures i (omega (arith, under, long)))
+          (λ i under. group_is old c.args.parent c.args.child c.requires.empty now v.tables group start c.read_group.ensures i (omega (arith, under, long)))
           (skip_to c.args.parent c.args.child (entry_at old.tables) c.requires.empty now.spaces now.anons first (seen now.frames)
           (c.loop-page.number * 64) start low
           (λ o above under. parent_none old c.args.parent c.args.child c.requires.empty now v.tables o (is.least o above (omega (arith, under, here))))

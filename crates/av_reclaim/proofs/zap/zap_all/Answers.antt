@@ -28,16 +28,16 @@ unmap_each-requires c =
     let o = c.requires.orderly in
     let page = c.in-Some.page in
     let is = c.in-Some.ensures in
-    let group = c.group-group.result in
+    let group = c.read_group.new.group in
     let start = page / 64 * 64 in
     let from : c.loop-page.number ≤ page / 64 = le-div c.loop-page.number page 64 (omega arith) is.from_there in
     let low : c.loop-page.number * 64 ≤ start = omega (arith, from) in
     let here : start ≤ page = omega (arith, div-add-mod' page 64) in
     let below = is.below in
-    let long : length group ≡ 64 = omega (arith, c.group-group.type_inv) in
+    let long : length group ≡ 64 = c.read_group.array_long in
     (whole_group c.args.process (entry_at old.tables) (parts_of old) now.spaces now.anons page_bound o.0 group (seen now.frames) start
     (omega (arith, long, here, below))
-    (λ i under. c.group-group.ensures i (omega (arith, under, long)) ∙ ap (λ t. entry_at t c.args.process (start + i)) v.tables)
+    (λ i under. c.read_group.ensures i (omega (arith, under, long)) ∙ ap (λ t. entry_at t c.args.process (start + i)) v.tables)
     (skip_to c.args.process (entry_at old.tables) (parts_of old) now.spaces now.anons page_bound o.0 (seen now.frames) (c.loop-page.number * 64) start low
     (λ q above under. ap (λ t. entry_at t c.args.process q) (sym v.tables) ∙ is.least q above (omega (arith, under, here))) (v.zapping o.0 o.1))).0
 
@@ -48,14 +48,14 @@ loop-page-preserved c =
     let v = c.loop-page.invariant in
     let page = c.in-Some.page in
     let is = c.in-Some.ensures in
-    let group = c.group-group.result in
+    let group = c.read_group.new.group in
     let start = page / 64 * 64 in
     let past = (page / 64 + 1) * 64 in
     let from : c.loop-page.number ≤ page / 64 = le-div c.loop-page.number page 64 (omega arith) is.from_there in
     let low : c.loop-page.number * 64 ≤ start = omega (arith, from) in
     let here : start ≤ page = omega (arith, div-add-mod' page 64) in
     let below = is.below in
-    let long : length group ≡ 64 = omega (arith, c.group-group.type_inv) in
+    let long : length group ≡ 64 = c.read_group.array_long in
     let gone = c.unmap_each.ensures in
     let same = all_same group (seen now.frames) in
     record {
@@ -68,7 +68,7 @@ loop-page-preserved c =
           (sym gone)
           (whole_group c.args.process (entry_at old.tables) (parts_of old) now.spaces now.anons page_bound first group (seen now.frames) start
           (omega (arith, long, here, below))
-          (λ i under. c.group-group.ensures i (omega (arith, under, long)) ∙ ap (λ t. entry_at t c.args.process (start + i)) v.tables)
+          (λ i under. c.read_group.ensures i (omega (arith, under, long)) ∙ ap (λ t. entry_at t c.args.process (start + i)) v.tables)
           (skip_to c.args.process (entry_at old.tables) (parts_of old) now.spaces now.anons page_bound first (seen now.frames)
           (c.loop-page.number * 64) start low
           (λ q above under. ap (λ t. entry_at t c.args.process q) (sym v.tables) ∙ is.least q above (omega (arith, under, here))) (v.zapping first stands))).1);

@@ -21,12 +21,17 @@ loop-number-init g c = record {
 pub loop-number-preserved : goal.loop-number-preserved
 loop-number-preserved g c =
     let s = c.loop-number.invariant.so_far in
-    let t = rw c.in-Ok-true.field-0-test at c.in-Ok-true.ensures.turned in
+    let turned = rw c.in-Ok-true.field-0-test at c.in-Ok-true.ensures.turned in
+    let t = turned.0 in
     let a = next_answers _ _ _ _ _ _ _ _ _ _ _ _ _ s.1 t.takes in
     let now = c.in-Ok-true.ensures.unfailed in
     let was = c.loop-number.invariant.unfailed in
     record {
-      so_far = (longer s.0 t.line a.did a.next, goes_on _ _ _ _ _ _ _ _ _ _ _ s.1 t.takes, length-append s.0.lines (t.line ∷ []) ∙ ap (λ n. n + 1) s.2);
+      so_far = (
+        longer s.0 t.line a.did a.next,
+        goes_on _ _ _ _ _ _ _ _ _ _ _ s.1 t.takes turned.1,
+        length-append s.0.lines (t.line ∷ []) ∙ ap (λ n. n + 1) s.2,
+      );
       unfailed = record { source = now.source ∙ was.source; sink = now.sink ∙ was.sink };
       in_step = λ same. c.in-Ok-true.ensures.in_step (c.loop-number.invariant.in_step same);
       steps = omega (arith, c.loop-number.invariant.steps, t.takes.does.steps);

@@ -2,7 +2,7 @@ use Rattle.std.proofs.Common.{sym, subst}
 use Rattle.av_replay.specs.declared.status.Status.{Status}
 use Rattle.av_replay.specs.Streams.{streams}
 use Rattle.av_replay.specs.Replay.{Headline}
-use Rattle.av_replay.proofs.Endings.{nothing_done, no_usage, same_frames}
+use Rattle.av_replay.proofs.Endings.{nothing_done, no_usage, same_frames, without_kernel}
 use Rattle.av_replay.proofs.Traces.{complete}
 use Rattle.av_replay.proofs.top_call.run.Goals as goal
 
@@ -29,6 +29,11 @@ returns-in_default-replay g c =
       spent = λ e. absurd (c.in_default-replay.not-Memory e);
       complete = λ n form. complete _ _ _ _ _ h;
       unfailed = c.replay.ensures.unfailed;
-      flushed_before = c.replay.ensures.flushed_before;
-      handed_on = λ no_usage no_memory no_write. c.replay.ensures.handed_on no_memory no_write;
+      flushed = c.replay.ensures.flushed;
     }
+
+pub returns-in-Memory-clause-headline : goal.returns-in-Memory-clause-headline
+returns-in-Memory-clause-headline g c =
+    let made = c.without_kernel-in-Memory in
+    let h = same_frames _ _ _ _ _ _ c.in-Ok.ensures.new.frames (rw c.in-Memory.is at c.replay.ensures.headline) in
+    λ _. (c.in-Some.frames, c.in-Some.ensures.found, rw (made.ensures.status, made.ensures.kernel) (without_kernel _ _ _ _ h))
