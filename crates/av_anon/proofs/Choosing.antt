@@ -8,7 +8,8 @@ use Rattle.av_vma.specs.Join.{is_reusable}
 use Rattle.av_anon.specs.declared.infos.Info.{Info}
 use Rattle.av_anon.specs.Anons.{Family, IsRising, own_of}
 use Rattle.av_anon.specs.Fork.{child_chain, child_family, is_idle, member_to_reuse}
-use Rattle.av_anon.specs.Prepare.{loan, loan_by, loan_near, or_else, kin_after_prepare}
+use Rattle.av_anon.specs.Prepare.{loan, loan_by, loan_near, family_after_prepare}
+use Rattle.std.specs.Option.{option_or}
 use Rattle.av_anon.proofs.Words.{rising_more}
 
 none_some : {v : ℕ} → ◌≡◌ {A = Option ℕ} None (Some v) → ⊥
@@ -41,12 +42,12 @@ pub one_node_near : (areas : ℕ → Option Area) (chain : ℕ → List ℕ) (ar
     → loan_near areas chain area before after ≡ Some v → (n : ℕ) × (own_of (areas n) ≡ Some v) × (length (chain n) ≡ 1)
 one_node_near areas chain area before after v h = by (loan areas chain area after) refl h
   where
-    by : (o : Option ℕ) → loan areas chain area after ≡ o → or_else o (loan areas chain area before) ≡ Some v
+    by : (o : Option ℕ) → loan areas chain area after ≡ o → option_or o (loan areas chain area before) ≡ Some v
         → (n : ℕ) × (own_of (areas n) ≡ Some v) × (length (chain n) ≡ 1)
     by None e h = one_node areas chain area before v h
     by (Some u) e h = one_node areas chain area after v (e ∙ h)
 
-pub kin_chain : (o : Option ℕ) (f : Family) → (kin_after_prepare o f).chain ≡ f.chain
+pub kin_chain : (o : Option ℕ) (f : Family) → (family_after_prepare o f).chain ≡ f.chain
 kin_chain None f = refl
 kin_chain (Some v) f = refl
 

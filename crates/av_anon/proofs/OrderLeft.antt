@@ -2,7 +2,8 @@
 use Rattle.std.proofs.Common.{◌≡◌, ℕ, zero, suc, ◌+◌, ◌-◌, ◌<◌, Bool, true, false, cond, ◌&&◌, ◌||◌, ◌==◌, IsSome, Option, Some, None, List, [], ◌∷◌, refl, sym, ap, ◌∙◌, subst, arith, inl, inr, eq-eqb, ne_eqb}
 use Rattle.std.specs.Prelude.{option_map}
 use Rattle.std.proofs.lemmas.Bool.{cases_eq, eqb-true}
-use Rattle.av_base.specs.Words.{is_in, how_many, numbers, with_at}
+use Rattle.av_base.specs.Words.{is_in, how_many, with_at}
+use Rattle.std.specs.List.{range_with_len}
 use Rattle.av_chain.specs.Links.{left_by_all, one_if, without}
 use Rattle.av_interval.specs.declared.span.Span.{Span}
 use Rattle.av_vma.specs.declared.area.Area.{Area}
@@ -64,16 +65,16 @@ how_many-split : (t t1 t2 : ℕ → Bool) (xs : List ℕ) → ((w : ℕ) → fla
 how_many-split t t1 t2 [] h = refl
 how_many-split t t1 t2 (x ∷ xs) h = let here = h x in let rest = how_many-split t t1 t2 xs h in omega (arith, here, rest)
 
-how_many-point : (t : ℕ → Bool) (x n : ℕ) → x < n → how_many (λ w. (w == x) && t w) (numbers 0 n) ≡ flag (t x)
+how_many-point : (t : ℕ → Bool) (x n : ℕ) → x < n → how_many (λ w. (w == x) && t w) (range_with_len 0 n) ≡ flag (t x)
 how_many-point t x zero lt = absurd (omega arith)
 how_many-point t x (suc n) lt =
     let test : ℕ → Bool = λ w. (w == x) && t w in
     let e : 0 + n ≡ n = omega arith in
-    ap (how_many test) (numbers_more 0 n) ∙ how_many-more test (numbers 0 n) (0 + n) ∙ ap (λ m. how_many test (numbers 0 n) + flag (test m)) e
+    ap (how_many test) (numbers_more 0 n) ∙ how_many-more test (range_with_len 0 n) (0 + n) ∙ ap (λ m. how_many test (range_with_len 0 n) + flag (test m)) e
     ∙ elim (cases_eq n x) [
       | inl i ↦
-          let none : how_many test (numbers 0 n) ≡ 0 = how_many-below test (λ _. false) 0 n (λ w lt'. ap (λ b. b && t w) (ne_eqb w x (λ h. absurd
-          (omega arith)))) ∙ nothing (numbers 0 n) in
+          let none : how_many test (range_with_len 0 n) ≡ 0 = how_many-below test (λ _. false) 0 n (λ w lt'. ap (λ b. b && t w) (ne_eqb w x (λ h. absurd
+          (omega arith)))) ∙ nothing (range_with_len 0 n) in
           let here : flag (test n) ≡ flag (t x) = ap (λ b. flag (b && t n)) (eq-eqb n x i) ∙ ap (λ m. flag (t m)) i in
           omega (arith, none, here)
       | inr ne ↦
@@ -88,8 +89,8 @@ how_many-point t x (suc n) lt =
 
 -- the members of a rising list, counted one by one
 members-counted : (t : ℕ → Bool) (xs : List ℕ) (n : ℕ) → IsRising xs → ((u : ℕ) → is_in u xs ≡ true → u < n)
-    → how_many t xs ≡ how_many (λ u. is_in u xs && t u) (numbers 0 n)
-members-counted t [] n rising below = sym (nothing (numbers 0 n))
+    → how_many t xs ≡ how_many (λ u. is_in u xs && t u) (range_with_len 0 n)
+members-counted t [] n rising below = sym (nothing (range_with_len 0 n))
   where
     nothing : (xs : List ℕ) → how_many (λ _. false) xs ≡ 0
     nothing [] = refl
@@ -97,7 +98,7 @@ members-counted t [] n rising below = sym (nothing (numbers 0 n))
 members-counted t (x ∷ xs) n rising below =
     let rest = members-counted t xs n rising.1 (λ u h. below u (later (u == x) h)) in
     let point = how_many-point t x n (below x (ap (λ b. b || is_in x xs) (eq-eqb x x refl))) in
-    let sum = how_many-split (λ u. is_in u (x ∷ xs) && t u) (λ u. (u == x) && t u) (λ u. is_in u xs && t u) (numbers 0 n) (λ u. parts u) in
+    let sum = how_many-split (λ u. is_in u (x ∷ xs) && t u) (λ u. (u == x) && t u) (λ u. is_in u xs && t u) (range_with_len 0 n) (λ u. parts u) in
     omega (arith, rest, point, sum)
   where
     later : (a : Bool) {b : Bool} → b ≡ true → (a || b) ≡ true
@@ -258,11 +259,11 @@ module _ (areas : ℕ → Option Area) (f : Family) (spans : ℕ
   own_in : is_in own (f.chain a) ≡ true
   own_in = (o.chains a).own_in own (ap own_of isA ∙ is_own)
 
-  children_left : (u : ℕ) → how_many (λ w. is_child u (f.info w)) (numbers 0 f.next) ≡ how_many (λ w. is_child u (info' w)) (numbers 0 f.next) + n_of u
+  children_left : (u : ℕ) → how_many (λ w. is_child u (f.info w)) (range_with_len 0 f.next) ≡ how_many (λ w. is_child u (info' w)) (range_with_len 0 f.next) + n_of u
   children_left u =
-      how_many-split (λ w. is_child u (f.info w)) (λ w. is_child u (info' w)) (λ w. is_in w (f.chain a) && falls u w) (numbers 0 f.next) (λ w.
+      how_many-split (λ w. is_child u (f.info w)) (λ w. is_child u (info' w)) (λ w. is_in w (f.chain a) && falls u w) (range_with_len 0 f.next) (λ w.
       ap flag (sym (child_same own f.info u w)) ∙ parts (is_in w (f.chain a)) (has_no_other a f.users w) (n_of w) (info0 w))
-      ∙ ap (λ k. how_many (λ w. is_child u (info' w)) (numbers 0 f.next) + k) (sym (members-counted (falls u) (f.chain a) f.next (o.chains a).rising
+      ∙ ap (λ k. how_many (λ w. is_child u (info' w)) (range_with_len 0 f.next) + k) (sym (members-counted (falls u) (f.chain a) f.next (o.chains a).rising
       (o.chains a).made))
     where
       parts : (x y : Bool) (n : ℕ) (m : Option Info)

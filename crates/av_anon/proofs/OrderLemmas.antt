@@ -2,9 +2,9 @@
 use Rattle.std.proofs.Common.{◌≡◌, ℕ, zero, suc, ◌+◌, ◌<◌, ◌≤◌, Bool, true, false, cond, ◌||◌, ◌==◌, IsSome, Option, Some, None, List, [], ◌∷◌, ◌++◌, refl, sym, ap, ◌∙◌, subst, arith, inl, inr, eq-eqb, ne_eqb}
 use Rattle.std.specs.Prelude.{option_map}
 use Rattle.std.proofs.lemmas.Bool.{cases_eq}
-use Rattle.av_base.specs.Words.{is_in, how_many, numbers, with_at}
+use Rattle.av_base.specs.Words.{is_in, how_many, with_at}
+use Rattle.std.specs.List.{range_with_len, AllByRecursion}
 use Rattle.av_chain.specs.Links.{one_if, AreMutual}
-use Rattle.av_arena.specs.Order.{AllOf}
 use Rattle.av_interval.specs.declared.span.Span.{Span}
 use Rattle.av_vma.specs.declared.area.Area.{Area}
 use Rattle.av_anon.specs.declared.infos.Info.{Info}
@@ -91,14 +91,14 @@ chain_kept info info' next next' own chain x le k = chain_kept_on info info' nex
 
 -- ---- counting
 
-pub numbers_more : (a n : ℕ) → numbers a (suc n) ≡ numbers a n ++ (a + n) ∷ []
+pub numbers_more : (a n : ℕ) → range_with_len a (suc n) ≡ range_with_len a n ++ (a + n) ∷ []
 numbers_more a zero = let e : a ≡ a + 0 = omega arith in ap (λ k. k ∷ []) e
-numbers_more a (suc n) = let e : (a + 1) + n ≡ a + suc n = omega arith in ap (λ xs. a ∷ xs) (numbers_more (a + 1) n ∙ ap (λ k. numbers (a + 1) n ++ k ∷ []) e)
+numbers_more a (suc n) = let e : (a + 1) + n ≡ a + suc n = omega arith in ap (λ xs. a ∷ xs) (numbers_more (a + 1) n ∙ ap (λ k. range_with_len (a + 1) n ++ k ∷ []) e)
 
-pub how_many-below : (t t' : ℕ → Bool) (a n : ℕ) → ((w : ℕ) → w < a + n → t w ≡ t' w) → how_many t (numbers a n) ≡ how_many t' (numbers a n)
+pub how_many-below : (t t' : ℕ → Bool) (a n : ℕ) → ((w : ℕ) → w < a + n → t w ≡ t' w) → how_many t (range_with_len a n) ≡ how_many t' (range_with_len a n)
 how_many-below t t' a zero h = refl
 how_many-below t t' a (suc n) h =
-    ap (λ b. cond b 1 0 + how_many t (numbers (a + 1) n)) (h a (omega arith))
+    ap (λ b. cond b 1 0 + how_many t (range_with_len (a + 1) n)) (h a (omega arith))
     ∙ ap (λ k. cond (t' a) 1 0 + k) (how_many-below t t' (a + 1) n (λ w lt. h w (omega arith)))
 
 or_parts : (a b : Bool) → (a || b) ≡ false → (a ≡ false) × (b ≡ false)
@@ -129,7 +129,7 @@ none_in a (x ∷ xs) h = by (a == x) (none_in a xs) h
 pub not_a_user : (chain users : ℕ → List ℕ) → AreMutual chain users → (a u : ℕ) → chain a ≡ [] → is_in a (users u) ≡ false
 not_a_user chain users m a u empty = none_in a (users u) (m.inverse a u ∙ ap (λ vs. one_if (is_in u vs)) empty)
 
-above_absent : (x : ℕ) (xs : List ℕ) → AllOf (λ y. x < y) xs → is_in x xs ≡ false
+above_absent : (x : ℕ) (xs : List ℕ) → AllByRecursion (λ y. x < y) xs → is_in x xs ≡ false
 above_absent x [] all = refl
 above_absent x (y ∷ ys) all = let lt = all.0 in ap (λ b. b || is_in x ys) (ne_eqb x y (λ e. absurd (omega arith))) ∙ above_absent x ys all.1
 

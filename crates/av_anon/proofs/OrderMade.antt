@@ -3,7 +3,8 @@ use Rattle.std.proofs.Common.{◌≡◌, ℕ, suc, ◌+◌, ◌<◌, Bool, true,
 use Rattle.std.specs.Prelude.{option_map}
 use Rattle.std.proofs.lemmas.Bool.{cases_eq}
 use Rattle.std.proofs.lemmas.List.Folds.{list_any-append}
-use Rattle.av_base.specs.Words.{is_in, how_many, numbers, with_at}
+use Rattle.av_base.specs.Words.{is_in, how_many, with_at}
+use Rattle.std.specs.List.{range_with_len}
 use Rattle.av_interval.specs.declared.span.Span.{Span}
 use Rattle.av_vma.specs.declared.area.Area.{Area}
 use Rattle.av_anon.specs.declared.infos.Info.{Info}
@@ -70,8 +71,8 @@ module _ (areas : ℕ → Option Area) (f : Family) (spans : ℕ → List Span) 
       let b = member_of w (subst IsSome (sym e) refl) in
       (o.chains b.0).made j.parent ((o.chains b.0).parents w j b.1 e)
 
-  childless : how_many (λ w. is_child f.next (f.info w)) (numbers 0 f.next) ≡ 0
-  childless = how_many-below (λ w. is_child f.next (f.info w)) (λ _. false) 0 f.next (λ w lt. by w (f.info w) refl) ∙ none_counted (numbers 0 f.next)
+  childless : how_many (λ w. is_child f.next (f.info w)) (range_with_len 0 f.next) ≡ 0
+  childless = how_many-below (λ w. is_child f.next (f.info w)) (λ _. false) 0 f.next (λ w lt. by w (f.info w) refl) ∙ none_counted (range_with_len 0 f.next)
     where
       by : (w : ℕ) (m : Option Info) → f.info w ≡ m → is_child f.next m ≡ false
       by w None e = refl
@@ -85,16 +86,16 @@ module _ (areas : ℕ → Option Area) (f : Family) (spans : ℕ → List Span) 
       by (b ∷ bs) e = let lt = (o.chains b).made f.next (linked_to f.next b bs e) in absurd (omega arith)
 
   module _ (info1 : ℕ → Option Info) (R : Info) (alike1 : (u w : ℕ) → is_child u (info1 w) ≡ is_child u (f.info w)) where
-    children_made : (u : ℕ) → how_many (λ w. is_child u (with_at f.next (Some R) info1 w)) (numbers 0 (suc f.next)) ≡ how_many (λ w. is_child u
-        (f.info w)) (numbers 0 f.next) + cond (R.parent == u) 1 0
+    children_made : (u : ℕ) → how_many (λ w. is_child u (with_at f.next (Some R) info1 w)) (range_with_len 0 (suc f.next)) ≡ how_many (λ w. is_child u
+        (f.info w)) (range_with_len 0 f.next) + cond (R.parent == u) 1 0
     children_made u =
         let t : ℕ → Bool = λ w. is_child u (with_at f.next (Some R) info1 w) in
         let e : 0 + f.next ≡ f.next = omega arith in
-        ap (how_many t) (numbers_more 0 f.next) ∙ how_many-more t (numbers 0 f.next) (0 + f.next)
+        ap (how_many t) (numbers_more 0 f.next) ∙ how_many-more t (range_with_len 0 f.next) (0 + f.next)
         ∙ ap (λ k. k + cond (t (0 + f.next)) 1 0) (how_many-below t (λ w. is_child u (f.info w)) 0 f.next (λ w lt. ap (is_child u)
         (with_at-other f.next (Some R) info1 w (λ h. absurd (omega arith))) ∙ alike1 u w))
-        ∙ ap (λ n. how_many (λ w. is_child u (f.info w)) (numbers 0 f.next) + cond (t n) 1 0) e
-        ∙ ap (λ m. how_many (λ w. is_child u (f.info w)) (numbers 0 f.next) + cond (is_child u m) 1 0) (with_at-here f.next (Some R) info1)
+        ∙ ap (λ n. how_many (λ w. is_child u (f.info w)) (range_with_len 0 f.next) + cond (t n) 1 0) e
+        ∙ ap (λ m. how_many (λ w. is_child u (f.info w)) (range_with_len 0 f.next) + cond (is_child u m) 1 0) (with_at-here f.next (Some R) info1)
 
   module _ (a : ℕ) (A : Area) (isA : areas a ≡ Some A) (none : A.anon ≡ None) where
     -- what is the same for a root and for a child
@@ -144,8 +145,8 @@ module _ (areas : ℕ → Option Area) (f : Family) (spans : ℕ → List Span) 
           | inl h ↦
               let is : i ≡ R = same_some (sym e ∙ ap (λ b. cond b (Some R) (info1 u)) (eq-eqb u f.next h)) in
               let made = children_made info1 R alike1 u in
-              let zero : how_many (λ w. is_child u (f.info w)) (numbers 0 f.next) ≡ 0 = ap (λ n. how_many (λ w. is_child n (f.info w))
-              (numbers 0 f.next)) h ∙ childless in
+              let zero : how_many (λ w. is_child u (f.info w)) (range_with_len 0 f.next) ≡ 0 = ap (λ n. how_many (λ w. is_child n (f.info w))
+              (range_with_len 0 f.next)) h ∙ childless in
               let kin : cond (R.parent == u) 1 0 ≡ cond (R.parent == f.next) 1 0 = ap (λ n. flag (R.parent == n)) h in
               let kids : i.children ≡ R.children = ap (λ (j : Info). j.children) is in
               let acts : i.active ≡ R.active = ap (λ (j : Info). j.active) is in

@@ -2,7 +2,8 @@
 use Rattle.std.proofs.Common.{◌≡◌, ℕ, ◌+◌, Bool, true, false, cond, ◌||◌, ◌==◌, IsSome, Option, Some, None, List, [], ◌∷◌, refl, sym, ap, ◌∙◌, subst, arith, inl, inr, eq-eqb, ne_eqb}
 use Rattle.std.specs.Prelude.{option_map}
 use Rattle.std.proofs.lemmas.Bool.{cases_eq}
-use Rattle.av_base.specs.Words.{is_in, how_many, numbers, with_at}
+use Rattle.av_base.specs.Words.{is_in, how_many, with_at}
+use Rattle.std.specs.List.{range_with_len}
 use Rattle.av_interval.specs.declared.span.Span.{Span}
 use Rattle.av_vma.specs.declared.area.Area.{Area}
 use Rattle.av_anon.specs.declared.infos.Info.{Info}
@@ -56,8 +57,8 @@ module _ (areas : ℕ → Option Area) (f : Family) (spans : ℕ
       v_in : is_in v vs ≡ true
       v_in = mine.own_in v refl
 
-      children : (u : ℕ) → how_many (λ w. is_child u (with_info v more_active f.info w)) (numbers 0 f.next) ≡ how_many (λ w. is_child u (f.info w))
-          (numbers 0 f.next)
+      children : (u : ℕ) → how_many (λ w. is_child u (with_info v more_active f.info w)) (range_with_len 0 f.next) ≡ how_many (λ w. is_child u (f.info w))
+          (range_with_len 0 f.next)
       children u = how_many-below (λ w. is_child u (with_info v more_active f.info w)) (λ w. is_child u (f.info w)) 0 f.next (λ w lt. child_same v f.info u w)
 
       counted : (u : ℕ) (i : Info) → with_info v more_active f.info u ≡ Some i

@@ -1,14 +1,15 @@
 -- Spans that are put in and taken out, by area.
 use Rattle.std.proofs.Common.{◌≡◌, ℕ, ◌*◌, ◌^◌, ◌<◌, Bool, true, false, cond, ◌==◌, ltb, IsSome, Some, List, [], ◌∷◌, refl, sym, ap, ◌∙◌, subst, arith, inl, inr, eq-eqb, ne_eqb, filter}
 use Rattle.std.proofs.lemmas.Bool.{cases_eq, cases_order, lt-ltb, ltb-false, eqb-true}
-use Rattle.av_arena.specs.Order.{AllOf, with_entry, without_key, entry_at}
+use Rattle.av_arena.specs.Order.{with_entry, without_key, entry_at}
+use Rattle.std.specs.List.{AllByRecursion}
 use Rattle.av_interval.specs.declared.span.Span.{Span}
 use Rattle.av_interval.specs.Span.{key, key_of}
 use Rattle.av_interval.specs.Spans.{IsNew}
 use Rattle.av_anon.specs.Spans.{is_of}
 
 abbrev pub Fits : List Span → Type 0
-Fits xs = AllOf (λ x. x.area < 2 ^ 64) xs
+Fits xs = AllByRecursion (λ x. x.area < 2 ^ 64) xs
 
 -- equal keys are of one area
 one_area : (f x g y : ℕ) → key_of f x ≡ key_of g y → x < 2 ^ 64 → y < 2 ^ 64 → x ≡ y

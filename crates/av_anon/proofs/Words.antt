@@ -3,7 +3,7 @@ use Rattle.std.proofs.Common.{◌≡◌, ℕ, zero, suc, ◌+◌, ◌<◌, ◌�
 use Rattle.std.proofs.lemmas.Bool.{cases_eq}
 use Rattle.std.proofs.lemmas.List.Folds.{list_any-append}
 use Rattle.av_base.specs.Words.{is_in, how_many, with_at}
-use Rattle.av_arena.specs.Order.{AllOf}
+use Rattle.std.specs.List.{AllByRecursion}
 use Rattle.av_anon.specs.Anons.{IsRising}
 
 pub with_at-here : {X : Type 0} (k : ℕ) (x : X) (f : ℕ → X) → with_at k x f k ≡ x
@@ -58,7 +58,7 @@ each_more change old now new ps x absent now_is new_is v = elim (cases_eq v x) [
 
 -- ---- rising lists
 
-all_at : (x : ℕ) (xs : List ℕ) (k : ℕ) → AllOf (λ y. x < y) xs → k < length xs → x < get_or xs k 0
+all_at : (x : ℕ) (xs : List ℕ) (k : ℕ) → AllByRecursion (λ y. x < y) xs → k < length xs → x < get_or xs k 0
 all_at x [] k all lt = absurd (omega arith)
 all_at x (y ∷ ys) zero all lt = all.0
 all_at x (y ∷ ys) (suc k) all lt = all_at x ys k all.1 (omega arith)
@@ -79,7 +79,7 @@ in_list (x ∷ xs) (suc k) lt = or_right (get_or xs k 0 == x) (in_list xs k (ome
     or_right true h = refl
     or_right false h = h
 
-all_mid : (x : ℕ) (ps : List ℕ) (y : ℕ) (ys : List ℕ) → AllOf (λ z. x < z) (ps ++ y ∷ ys) → x < y
+all_mid : (x : ℕ) (ps : List ℕ) (y : ℕ) (ys : List ℕ) → AllByRecursion (λ z. x < z) (ps ++ y ∷ ys) → x < y
 all_mid x [] y ys all = all.0
 all_mid x (p ∷ ps) y ys all = all_mid x ps y ys all.1
 
@@ -107,7 +107,7 @@ rising_more (x ∷ xs) n rising below =
     or_right true h = refl
     or_right false h = h
 
-    all_more : (x : ℕ) (xs : List ℕ) (n : ℕ) → AllOf (λ y. x < y) xs → x < n → AllOf (λ y. x < y) (xs ++ n ∷ [])
+    all_more : (x : ℕ) (xs : List ℕ) (n : ℕ) → AllByRecursion (λ y. x < y) xs → x < n → AllByRecursion (λ y. x < y) (xs ++ n ∷ [])
     all_more x [] n all lt = (lt, tt)
     all_more x (y ∷ ys) n all lt = (all.0, all_more x ys n all.1 lt)
 

@@ -1,6 +1,7 @@
 -- Chain order: how the areas' chains of anon_vmas hang together.
 use Rattle.std.specs.Prelude.{◌≡◌, ℕ, ◌<◌, ◌^◌, Bool, true, false, ◌==◌, List, [], Option, Some, None, IsSome}
-use Rattle.av_base.specs.Words.{how_many, is_in, numbers}
+use Rattle.av_base.specs.Words.{how_many, is_in}
+use Rattle.std.specs.List.{range_with_len}
 use Rattle.av_chain.specs.Links.{AreMutual}
 use Rattle.av_vma.specs.declared.area.Area.{Area}
 use Rattle.av_vma.specs.Join.{first_of, past_of, index_of}
@@ -39,7 +40,7 @@ pub record IsChain (info : ℕ → Option Info) (next : ℕ) (own : Option ℕ) 
 
 -- children: how many have it as their parent. active: how many of its users have it as their own
 pub record IsCounted (areas : ℕ → Option Area) (f : Family) (v : ℕ) (i : Info) : Type 0 where
-  pub children : i.children ≡ how_many (λ u. is_child v (f.info u)) (numbers 0 f.next)
+  pub children : i.children ≡ how_many (λ u. is_child v (f.info u)) (range_with_len 0 f.next)
   pub active : i.active ≡ how_many (λ a. owns v (own_of (areas a))) (f.users v)
 
 -- an area has a page, and its indices are numbers of the machine

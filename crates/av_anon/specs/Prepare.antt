@@ -1,5 +1,6 @@
 -- Which anon_vma an area gets at its first fault.
 use Rattle.std.specs.Prelude.{ℕ, List, [], ◌∷◌, length, if◌then◌else◌, Option, Some, None, IsSome, option_and_then}
+use Rattle.std.specs.Option.{option_or}
 use Rattle.av_vma.specs.declared.area.Area.{Area}
 use Rattle.av_vma.specs.Join.{is_reusable}
 use Rattle.av_anon.specs.Anons.{Family, with_links, new_root, with_active_area}
@@ -13,15 +14,10 @@ abbrev pub loan : (ℕ → Option Area) → (ℕ → List ℕ) → Area → Opti
 loan areas chain area None = None
 loan areas chain area (Some number) = loan_by (length (chain number)) area (areas number)
 
--- the first, else the second
-abbrev pub or_else : Option ℕ → Option ℕ → Option ℕ
-or_else None other = other
-or_else (Some v) other = Some v
-
 -- that of the area after it, else of the one before
 abbrev pub loan_near : (ℕ → Option Area) → (ℕ → List ℕ) → Area → Option ℕ → Option ℕ → Option ℕ
 loan_near areas chain area before after =
-    or_else (loan areas chain area after) (loan areas chain area before)
+    option_or (loan areas chain area after) (loan areas chain area before)
 
 -- the same for the area at a number
 abbrev pub loan_to : (ℕ → Option Area) → (ℕ → List ℕ) → ℕ → Option ℕ → Option ℕ → Option ℕ
@@ -39,10 +35,10 @@ own_after_prepare None f = f.next
 own_after_prepare (Some v) f = v
 
 -- a new root is made, or the anon_vma has an active area more
-abbrev pub kin_after_prepare : Option ℕ → Family → Family
-kin_after_prepare None f = new_root f
-kin_after_prepare (Some v) f = with_active_area v f
+abbrev pub family_after_prepare : Option ℕ → Family → Family
+family_after_prepare None f = new_root f
+family_after_prepare (Some v) f = with_active_area v f
 
 abbrev pub after_prepare : ℕ → Option ℕ → Family → Family
 after_prepare area loan f =
-    with_links area (own_after_prepare loan f ∷ []) (kin_after_prepare loan f)
+    with_links area (own_after_prepare loan f ∷ []) (family_after_prepare loan f)

@@ -1,7 +1,8 @@
 -- The spans go with the links.
 use Rattle.std.specs.Prelude.{◌≡◌, ℕ, ◌-◌, ◌^◌, ◌<◌, Bool, ◌==◌, if◌then◌else◌, List, [], ◌∷◌, filter, Option, Some, None}
 use Rattle.av_base.specs.Words.{is_in}
-use Rattle.av_arena.specs.Order.{AllOf, with_entry, without_key}
+use Rattle.av_arena.specs.Order.{with_entry, without_key}
+use Rattle.std.specs.List.{AllByRecursion}
 use Rattle.av_vma.specs.declared.area.Area.{Area}
 use Rattle.av_vma.specs.Join.{past_of, index_of}
 use Rattle.av_interval.specs.declared.span.Span.{Span}
@@ -34,7 +35,7 @@ pub record GoWithLinks (areas : ℕ → Option Area) (chain : ℕ → List ℕ) 
     : Type 0 where
   pub each : (v number : ℕ) → filter (is_of number) (spans v)
       ≡ (if is_in v (chain number) then present number (areas number) else [])
-  pub numbers : (v : ℕ) → AllOf (λ x. x.area < 2 ^ 64) (spans v)
+  pub numbers : (v : ℕ) → AllByRecursion (λ x. x.area < 2 ^ 64) (spans v)
 
 -- the spans, once this one is put in for each of these anon_vmas
 abbrev pub spans_with : List ℕ → Span → (ℕ → List Span) → ℕ → List Span

@@ -67,7 +67,7 @@ impl Anons {
             (spans_of self.old) v) }
     {
         let chain = self.links.chain(self.alloc, src)?;
-        self.join(dst, this, &chain)
+        self.link_area(dst, this, &chain)
     }
 
     /// Gives the child's area `dst`, without anon_vma, its chain and own anon_vma at a fork of
@@ -95,7 +95,7 @@ impl Anons {
         let this = areas.get(dst);
         let mut chain = self.links.chain(self.alloc, src)?;
         let anon = self.own_for_child(own, &mut chain)?;
-        self.join(dst, &this, &chain)?;
+        self.link_area(dst, &this, &chain)?;
         areas.change(
             dst,
             Area {

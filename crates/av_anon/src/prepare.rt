@@ -8,7 +8,7 @@ ghost use Rattle.av_vma.specs.declared.area.Area.{Area};
 ghost use Rattle.av_anon.specs.Anons.{family, give_own, with_links, new_root, own_of, IsRising};
 ghost use Rattle.av_anon.specs.Infos.{info_in};
 ghost use Rattle.av_anon.specs.Order.{IsArea, IsInOrder};
-ghost use Rattle.av_anon.specs.Prepare.{loan, loan_near, loan_to, after_prepare, kin_after_prepare, own_after_prepare, MayStand};
+ghost use Rattle.av_anon.specs.Prepare.{loan, loan_near, loan_to, after_prepare, family_after_prepare, own_after_prepare, MayStand};
 ghost use Rattle.av_anon.specs.Spans.{span_at, spans_of, spans_with, GoWithLinks};
 
 use crate::anons::Anons;
@@ -50,7 +50,7 @@ impl Anons {
         let this = areas.get(area);
         let loan = lent_anon(&self.links, areas, &this, before, after);
         let anon = self.own_from(loan)?;
-        self.join(area, &this, &[anon])?;
+        self.link_area(area, &this, &[anon])?;
         areas.change(
             area,
             Area {
@@ -65,7 +65,7 @@ impl Anons {
     fn own_from(&mut self, loan: Option<u64>) -> Result<u64, AllocError>
         requires { (v : ℕ) → loan ≡ Some v → IsSome (info_in self.old.infos v) }
         ensures anon { IfOk result (λ v. v ≡ own_after_prepare loan (family self.old)) }
-        ensures family { OnOk result (family self.new ≡ kin_after_prepare loan (family self.old)) }
+        ensures family { OnOk result (family self.new ≡ family_after_prepare loan (family self.old)) }
         ensures spans { self.new.spans ≡ self.old.spans }
     {
         match loan {
@@ -97,7 +97,7 @@ impl Anons {
     }
 
     /// Links an area that has no link to these anon_vmas, and puts its span into their trees.
-    pub(crate) fn join(
+    pub(crate) fn link_area(
         &mut self,
         area: AreaId,
         this: &Area,

@@ -6,13 +6,14 @@ use Rattle.av_base.specs.Words.{with_at}
 use Rattle.av_arena.specs.Arena.{entry_put, on_other, on_side, side_put, with_side}
 use Rattle.av_arena.specs.Below.{AreOn, IsBeside, IsBetween, HasKeyBelow, IsAbove, IsAskedBelow, IsAt, IsChanged, IsDoneBelow, IsHung, IsPlaceBelow, IsPlacedBelow, IsRemovedBelow, IsReplacedBelow, IsSettled, IsSideFor, IsSideSettled, IsSideTaken, IsSplitBelow, IsSplitBelowFor, IsSplitFor, IsTaken, IsTold, IsUnsettled, child_number, entry_below, height_below, in_order, number_of}
 use Rattle.av_arena.specs.Monoid.{MonoidLaws}
-use Rattle.av_arena.specs.Order.{AllOf, IsRising, NoneBetween, entry_at, with_entry, with_two, without_key}
+use Rattle.av_arena.specs.Order.{IsRising, NoneBetween, entry_at, with_entry, with_two, without_key}
+use Rattle.std.specs.List.{AllByRecursion}
 use Rattle.av_arena.specs.Tree.{DifferByAtMost, count_at, entries_at, HasKey, IsHeightAfter, IsHeld, IsJoined, IsOpened, IsPlaceFor, IsPopped, IsRoot, IsSpot, IsTree, IsWithout, Store, count, entries, height_of, is, none, sum_of, tree_at}
 use Rattle.av_arena.specs.declared.link.Link.{Link}
 use Rattle.av_arena.specs.declared.link.Side.{Side}
 use Rattle.av_arena.specs.declared.link.Side.TheVariants.{Left, Right}
 use Rattle.av_arena.specs.declared.link.Stored.{Stored}
-use Rattle.av_arena.proofs.Order.{AllOf-back, AllOf-front, AllOf-map, all_middle, all_with, all_without, at_no_key, rising_with, rising_without, with_between, with_left, with_right, without_left, without_middle, without_right}
+use Rattle.av_arena.proofs.Order.{AllByRecursion-back, AllByRecursion-front, AllByRecursion-map, all_middle, all_with, all_without, at_no_key, rising_with, rising_without, with_between, with_left, with_right, without_left, without_middle, without_right}
 use Rattle.av_arena.proofs.TreeLemmas.{fresh_once, is_cases, is_same, joined_same, kept, key_left, key_right, later, opened, none_tree, place_left, place_right, placed_first, removed_last, removed_middle, ready_left, ready_right, used, used_cases, with_at_other, with_at_same}
 
 -- a height is settled at once, or one side is two levels higher
@@ -803,7 +804,7 @@ module _ {T S : Type 0} (key : T → ℕ) (unit : S) (op : S → S → S) (of : 
         used = h.used;
         fresh = omega arith;
         after = h.after;
-        next = AllOf-front (λ z. (key z ≤ key x) ⊎ (key y < key z)) a (v.entry ∷ b) next;
+        next = AllByRecursion-front (λ z. (key z ≤ key x) ⊎ (key y < key z)) a (v.entry ∷ b) next;
       }
   split_side Right s k v m x y h o lt =
       let a = entries (tree_at s v.left) in
@@ -815,7 +816,7 @@ module _ {T S : Type 0} (key : T → ℕ) (unit : S) (op : S → S → S) (of : 
         used = h.used;
         fresh = omega arith;
         after = h.after;
-        next = (AllOf-back (λ z. (key z ≤ key x) ⊎ (key y < key z)) a (v.entry ∷ b) next).1;
+        next = (AllByRecursion-back (λ z. (key z ≤ key x) ⊎ (key y < key z)) a (v.entry ∷ b) next).1;
       }
 
   pub split_down : (side : Side) (s : Store T S) (n m : ℕ) (v : Stored T S) (x y : T) → s n ≡ Some v → AreOn key side x x v.entry → (k : Link S) →
@@ -887,9 +888,9 @@ module _ {T S : Type 0} (key : T → ℕ) (unit : S) (op : S → S → S) (of : 
   split_place s t n m x y k m' h d =
       let xs = entries (tree_at s (Some k)) in
       let after = h.after in
-      let other : AllOf (λ z. key z ≡ key y → ⊥) xs = AllOf-map (λ z. (key z ≤ key x) ⊎ (key y < key z)) (λ z. key z ≡ key y → ⊥)
+      let other : AllByRecursion (λ z. key z ≡ key y → ⊥) xs = AllByRecursion-map (λ z. (key z ≤ key x) ⊎ (key y < key z)) (λ z. key z ≡ key y → ⊥)
       (λ z i e. elim i [ inl j ↦ absurd (omega arith) | inr j ↦ absurd (omega arith) ]) xs h.next in
-      let none_at : AllOf (λ z. key z ≡ key y → ⊥) (with_entry key x (without_key key (key x) xs)) =
+      let none_at : AllByRecursion (λ z. key z ≡ key y → ⊥) (with_entry key x (without_key key (key x) xs)) =
       all_with key (λ z. key z ≡ key y → ⊥) x _ (λ e. absurd (omega arith)) (all_without key (λ z. key z ≡ key y → ⊥) (key x) xs other) in
       record {
         held = d.tree.held;

@@ -5,13 +5,14 @@ use Rattle.av_base.specs.Words.{with_at}
 use Rattle.av_arena.specs.Arena.{entry_put, on_other, on_side}
 use Rattle.av_arena.specs.Below.{AreOn, HasKeyBelow, IsAt, IsBeside, IsBetween, IsChanged, IsJoinBelowFor, IsJoinFor, IsJoinedBelow, IsRemovedBelow, child_number, entry_below, in_order}
 use Rattle.av_arena.specs.Monoid.{MonoidLaws}
-use Rattle.av_arena.specs.Order.{AllOf, IsRising, NoneWithin, with_entry, with_joined, without_key}
+use Rattle.av_arena.specs.Order.{IsRising, NoneWithin, with_entry, with_joined, without_key}
+use Rattle.std.specs.List.{AllByRecursion}
 use Rattle.av_arena.specs.Tree.{IsOpened, Store, count, entries, entries_at, is, none, tree_at}
 use Rattle.av_arena.specs.declared.link.Link.{Link}
 use Rattle.av_arena.specs.declared.link.Side.{Side}
 use Rattle.av_arena.specs.declared.link.Side.TheVariants.{Left, Right}
 use Rattle.av_arena.specs.declared.link.Stored.{Stored}
-use Rattle.av_arena.proofs.Order.{AllOf-back, AllOf-front, AllOf-map, all_middle, all_without, rising_without, with_between, with_left, with_right, without_left, without_middle, without_right}
+use Rattle.av_arena.proofs.Order.{AllByRecursion-back, AllByRecursion-front, AllByRecursion-map, all_middle, all_without, rising_without, with_between, with_left, with_right, without_left, without_middle, without_right}
 use Rattle.av_arena.proofs.BelowLemmas.{GoesDown, IsFurther, IsStepped, above_put, further, never, no_key, node_at, once_at, opened_at, same_count, step}
 use Rattle.av_arena.proofs.TreeLemmas.{key_left, key_right}
 
@@ -30,31 +31,31 @@ module _ {A : Type 0} (key : A → ℕ) where
   without_swap a b apart (y ∷ t) = swap_cases a b y t (without_key key b t) (without_key key a t) t apart (eqb (key y) a) (eqb (key y) b) refl refl
       refl refl (without_swap a b apart t)
 
-  gone_cases : (k : ℕ) (y : A) (t u : List A) (b : Bool) → eqb (key y) k ≡ b → AllOf (λ z. key y < key z) t → AllOf (λ z. key z ≡ k → ⊥) u →
-      AllOf (λ z. key z ≡ k → ⊥) (cond b t (y ∷ u))
-  gone_cases k y t u true e up a = let same = eqb-true (key y) k e in AllOf-map (λ z. key y < key z) (λ z. key z ≡ k → ⊥) (λ z p q. absurd (omega arith)) t up
+  gone_cases : (k : ℕ) (y : A) (t u : List A) (b : Bool) → eqb (key y) k ≡ b → AllByRecursion (λ z. key y < key z) t → AllByRecursion (λ z. key z ≡ k → ⊥) u →
+      AllByRecursion (λ z. key z ≡ k → ⊥) (cond b t (y ∷ u))
+  gone_cases k y t u true e up a = let same = eqb-true (key y) k e in AllByRecursion-map (λ z. key y < key z) (λ z. key z ≡ k → ⊥) (λ z p q. absurd (omega arith)) t up
   gone_cases k y t u false e up a = (λ q. both_ways (eqb (key y) k) e (eq-eqb (key y) k q), a)
 
   -- what is taken out is gone
-  pub gone : (k : ℕ) (t : List A) → IsRising key t → AllOf (λ z. key z ≡ k → ⊥) (without_key key k t)
+  pub gone : (k : ℕ) (t : List A) → IsRising key t → AllByRecursion (λ z. key z ≡ k → ⊥) (without_key key k t)
   gone k [] s = tt
   gone k (y ∷ t) s = gone_cases k y t (without_key key k t) (eqb (key y) k) refl s.0 (gone k t s.1)
 
   -- what stands in front is lower
-  pub all_lower : (l : List A) (w : A) (r : List A) → IsRising key (l ++ w ∷ r) → AllOf (λ e. key e < key w) l
+  pub all_lower : (l : List A) (w : A) (r : List A) → IsRising key (l ++ w ∷ r) → AllByRecursion (λ e. key e < key w) l
   all_lower [] w r s = tt
   all_lower (y ∷ l) w r s = (all_middle (λ z. key y < key z) l w r s.0, all_lower l w r s.1)
 
-  all_put : (P : A → Type 0) (l : List A) (w z : A) (r : List A) → AllOf P (l ++ w ∷ r) → P z → AllOf P (l ++ z ∷ r)
+  all_put : (P : A → Type 0) (l : List A) (w z : A) (r : List A) → AllByRecursion P (l ++ w ∷ r) → P z → AllByRecursion P (l ++ z ∷ r)
   all_put P [] w z r a p = (p, a.1)
   all_put P (y ∷ l) w z r a p = (a.0, all_put P l w z r a.1 p)
 
   -- a lower one in the middle, that is above all in front
-  rising_put : (l : List A) (w z : A) (r : List A) → IsRising key (l ++ w ∷ r) → key z ≤ key w → AllOf (λ e. key e < key z) l → IsRising key (l ++ z ∷ r)
-  rising_put [] w z r s le a = (AllOf-map (λ e. key w < key e) (λ e. key z < key e) (λ e p. omega arith) r s.0, s.1)
+  rising_put : (l : List A) (w z : A) (r : List A) → IsRising key (l ++ w ∷ r) → key z ≤ key w → AllByRecursion (λ e. key e < key z) l → IsRising key (l ++ z ∷ r)
+  rising_put [] w z r s le a = (AllByRecursion-map (λ e. key w < key e) (λ e. key z < key e) (λ e p. omega arith) r s.0, s.1)
   rising_put (y ∷ l) w z r s le a = (all_put (λ e. key y < key e) l w z r s.0 a.0, rising_put l w z r s.1 le a.1)
 
-  all_both : (P Q R : A → Type 0) → ((e : A) → P e → Q e → R e) → (l : List A) → AllOf P l → AllOf Q l → AllOf R l
+  all_both : (P Q R : A → Type 0) → ((e : A) → P e → Q e → R e) → (l : List A) → AllByRecursion P l → AllByRecursion Q l → AllByRecursion R l
   all_both P Q R f [] a b = tt
   all_both P Q R f (y ∷ l) a b = (f y a.0 b.0, all_both P Q R f l a.1 b.1)
 
@@ -72,13 +73,13 @@ module _ {A : Type 0} (key : A → ℕ) where
       l ++ w ∷ r ≡ without_key key (key x) xs → l ++ z ∷ r ≡ with_joined key x y z xs
   joined_upper x y z w xs l r up after next same at e =
       let up' : IsRising key (l ++ w ∷ r) = rw e (rising_without key (key x) xs up) in
-      let others : AllOf (λ o. key o ≡ key x → ⊥) (l ++ w ∷ r) = rw e (gone (key x) xs up) in
-      let near : AllOf (λ o. (key o ≤ key x) ⊎ (key y ≤ key o)) (l ++ w ∷ r) =
+      let others : AllByRecursion (λ o. key o ≡ key x → ⊥) (l ++ w ∷ r) = rw e (gone (key x) xs up) in
+      let near : AllByRecursion (λ o. (key o ≤ key x) ⊎ (key y ≤ key o)) (l ++ w ∷ r) =
       rw e (all_without key (λ o. (key o ≤ key x) ⊎ (key y ≤ key o)) (key x) xs next) in
-      let below : AllOf (λ o. key o ≤ key x) l = all_both (λ o. (key o ≤ key x) ⊎ (key y ≤ key o)) (λ o. key o < key w) (λ o. key o ≤ key x)
-      (λ o p q. elim p [ inl i ↦ i | inr i ↦ absurd (omega arith) ]) l (AllOf-front _ l (w ∷ r) near) (all_lower l w r up') in
-      let lower : AllOf (λ o. key o < key z) l = all_both (λ o. key o ≤ key x) (λ o. key o ≡ key x → ⊥) (λ o. key o < key z) (λ o p q. omega arith) l below
-      (AllOf-front _ l (w ∷ r) others) in
+      let below : AllByRecursion (λ o. key o ≤ key x) l = all_both (λ o. (key o ≤ key x) ⊎ (key y ≤ key o)) (λ o. key o < key w) (λ o. key o ≤ key x)
+      (λ o p q. elim p [ inl i ↦ i | inr i ↦ absurd (omega arith) ]) l (AllByRecursion-front _ l (w ∷ r) near) (all_lower l w r up') in
+      let lower : AllByRecursion (λ o. key o < key z) l = all_both (λ o. key o ≤ key x) (λ o. key o ≡ key x → ⊥) (λ o. key o < key z) (λ o p q. omega arith) l below
+      (AllByRecursion-front _ l (w ∷ r) others) in
       let up'' : IsRising key (l ++ z ∷ r) = rising_put l w z r up' (omega arith) lower in
       let is : without_key key (key x) (without_key key (key y) xs) ≡ l ++ r = without_swap (key x) (key y) (λ d. absurd (omega arith)) xs
       ∙ (ap (without_key key (key y)) (sym e) ∙ without_middle key (key y) w l r at up') in
@@ -114,7 +115,7 @@ module _ {T S : Type 0} (key : T → ℕ) (unit : S) (op : S → S → S) (of : 
         has = key_left key unit op of laws s k v x h.has o (omega arith);
         too = key_left key unit op of laws s k v y h.too o lt;
         after = h.after;
-        next = AllOf-front (λ w. (key w ≤ key x) ⊎ (key y ≤ key w)) a (v.entry ∷ b) next;
+        next = AllByRecursion-front (λ w. (key w ≤ key x) ⊎ (key y ≤ key w)) a (v.entry ∷ b) next;
         same = h.same;
       }
   join_side Right s k v x y z h o lt =
@@ -126,7 +127,7 @@ module _ {T S : Type 0} (key : T → ℕ) (unit : S) (op : S → S → S) (of : 
         has = key_right key unit op of laws s k v x h.has o lt;
         too = key_right key unit op of laws s k v y h.too o (omega arith);
         after = h.after;
-        next = (AllOf-back (λ w. (key w ≤ key x) ⊎ (key y ≤ key w)) a (v.entry ∷ b) next).1;
+        next = (AllByRecursion-back (λ w. (key w ≤ key x) ⊎ (key y ≤ key w)) a (v.entry ∷ b) next).1;
         same = h.same;
       }
 

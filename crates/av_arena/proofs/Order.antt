@@ -1,26 +1,27 @@
 -- Facts on lists that rise, around an entry k.
 use Rattle.std.proofs.Common.{◌≡◌, ℕ, ◌<◌, ◌≤◌, ◌+◌, Bool, true, false, cond, eqb, ltb, Some, None, List, [], ◌∷◌, ◌++◌, length, refl, ap, ◌∙◌, subst, append_assoc, arith}
 use Rattle.std.proofs.lemmas.Bool.{lt-ltb, le-ltb, eq-eqb, ne_eqb, ltb-true, eqb-true}
-use Rattle.av_arena.specs.Order.{AllOf, IsRising, with_entry, without_key, entry_at}
+use Rattle.av_arena.specs.Order.{IsRising, with_entry, without_key, entry_at}
+use Rattle.std.specs.List.{AllByRecursion}
 
 module _ {A : Type 0} where
-  pub AllOf-map : (P Q : A → Type 0) → ((y : A) → P y → Q y) → (t : List A) → AllOf P t → AllOf Q t
-  AllOf-map P Q f [] a = tt
-  AllOf-map P Q f (y ∷ t) a = (f y a.0, AllOf-map P Q f t a.1)
+  pub AllByRecursion-map : (P Q : A → Type 0) → ((y : A) → P y → Q y) → (t : List A) → AllByRecursion P t → AllByRecursion Q t
+  AllByRecursion-map P Q f [] a = tt
+  AllByRecursion-map P Q f (y ∷ t) a = (f y a.0, AllByRecursion-map P Q f t a.1)
 
-  pub AllOf-front : (P : A → Type 0) (l m : List A) → AllOf P (l ++ m) → AllOf P l
-  AllOf-front P [] m a = tt
-  AllOf-front P (x ∷ l) m a = (a.0, AllOf-front P l m a.1)
+  pub AllByRecursion-front : (P : A → Type 0) (l m : List A) → AllByRecursion P (l ++ m) → AllByRecursion P l
+  AllByRecursion-front P [] m a = tt
+  AllByRecursion-front P (x ∷ l) m a = (a.0, AllByRecursion-front P l m a.1)
 
-  pub AllOf-back : (P : A → Type 0) (l m : List A) → AllOf P (l ++ m) → AllOf P m
-  AllOf-back P [] m a = a
-  AllOf-back P (x ∷ l) m a = AllOf-back P l m a.1
+  pub AllByRecursion-back : (P : A → Type 0) (l m : List A) → AllByRecursion P (l ++ m) → AllByRecursion P m
+  AllByRecursion-back P [] m a = a
+  AllByRecursion-back P (x ∷ l) m a = AllByRecursion-back P l m a.1
 
-  pub AllOf-append : (P : A → Type 0) (l m : List A) → AllOf P l → AllOf P m → AllOf P (l ++ m)
-  AllOf-append P [] m a b = b
-  AllOf-append P (x ∷ l) m a b = (a.0, AllOf-append P l m a.1 b)
+  pub AllByRecursion-append : (P : A → Type 0) (l m : List A) → AllByRecursion P l → AllByRecursion P m → AllByRecursion P (l ++ m)
+  AllByRecursion-append P [] m a b = b
+  AllByRecursion-append P (x ∷ l) m a b = (a.0, AllByRecursion-append P l m a.1 b)
 
-  pub all_middle : (P : A → Type 0) (l : List A) (k : A) (r : List A) → AllOf P (l ++ k ∷ r) → P k
+  pub all_middle : (P : A → Type 0) (l : List A) (k : A) (r : List A) → AllByRecursion P (l ++ k ∷ r) → P k
   all_middle P [] k r a = a.0
   all_middle P (y ∷ t) k r a = all_middle P t k r a.1
 
@@ -31,7 +32,7 @@ module _ {A : Type 0} where
 module _ {A : Type 0} (key : A → ℕ) where
   pub rising_front : (l m : List A) → IsRising key (l ++ m) → IsRising key l
   rising_front [] m s = tt
-  rising_front (x ∷ l) m s = (AllOf-front (λ z. key x < key z) l m s.0, rising_front l m s.1)
+  rising_front (x ∷ l) m s = (AllByRecursion-front (λ z. key x < key z) l m s.0, rising_front l m s.1)
 
   pub rising_back : (l : List A) (k : A) (r : List A) → IsRising key (l ++ k ∷ r) → IsRising key r
   rising_back [] k r s = s.1
@@ -48,19 +49,19 @@ module _ {A : Type 0} (key : A → ℕ) where
   rising_inner_left x j y k z s = rising_front (x ++ j ∷ y) (k ∷ z) (rw (append-cons_assoc x j y k z) s)
 
   -- putting in
-  pub all_with : (P : A → Type 0) (x : A) (t : List A) → P x → AllOf P t → AllOf P (with_entry key x t)
+  pub all_with : (P : A → Type 0) (x : A) (t : List A) → P x → AllByRecursion P t → AllByRecursion P (with_entry key x t)
   all_with P x [] p a = (p, tt)
   all_with P x (y ∷ t) p a =
-      elim (ltb (key x) (key y)) as (λ b. AllOf P (cond b (x ∷ y ∷ t) (y ∷ cond (ltb (key y) (key x)) (with_entry key x t) t))) [
+      elim (ltb (key x) (key y)) as (λ b. AllByRecursion P (cond b (x ∷ y ∷ t) (y ∷ cond (ltb (key y) (key x)) (with_entry key x t) t))) [
         | true ↦ (p, a)
-        | false ↦ (a.0, elim (ltb (key y) (key x)) as (λ b. AllOf P (cond b (with_entry key x t) t)) [ true ↦ all_with P x t p a.1 | false ↦ a.1 ])
+        | false ↦ (a.0, elim (ltb (key y) (key x)) as (λ b. AllByRecursion P (cond b (with_entry key x t) t)) [ true ↦ all_with P x t p a.1 | false ↦ a.1 ])
       ]
 
   rising_with_cases : (x y : A) (t : List A) (a b : Bool) → ltb (key x) (key y) ≡ a → ltb (key y) (key x) ≡ b → IsRising key (y ∷ t) →
       IsRising key (with_entry key x t) → IsRising key (cond a (x ∷ y ∷ t) (y ∷ cond b (with_entry key x t) t))
   rising_with_cases x y t true b p q s u =
       let h : key x < key y = ltb-true (key x) (key y) p in
-      ((h, AllOf-map (λ z. key y < key z) (λ z. key x < key z) (λ z r. omega arith) t s.0), s)
+      ((h, AllByRecursion-map (λ z. key y < key z) (λ z. key x < key z) (λ z r. omega arith) t s.0), s)
   rising_with_cases x y t false true p q s u = (all_with (λ z. key y < key z) x t (ltb-true (key y) (key x) q) s.0, u)
   rising_with_cases x y t false false p q s u = s
 
@@ -108,9 +109,9 @@ module _ {A : Type 0} (key : A → ℕ) where
   without_other k y t true e P same other = same (eqb-true (key y) k e)
   without_other k y t false e P same other = other
 
-  pub all_without : (P : A → Type 0) (k : ℕ) (t : List A) → AllOf P t → AllOf P (without_key key k t)
+  pub all_without : (P : A → Type 0) (k : ℕ) (t : List A) → AllByRecursion P t → AllByRecursion P (without_key key k t)
   all_without P k [] a = tt
-  all_without P k (y ∷ t) a = without_other k y t (eqb (key y) k) refl (AllOf P) (λ _. a.1) (a.0, all_without P k t a.1)
+  all_without P k (y ∷ t) a = without_other k y t (eqb (key y) k) refl (AllByRecursion P) (λ _. a.1) (a.0, all_without P k t a.1)
 
   pub rising_without : (k : ℕ) (t : List A) → IsRising key t → IsRising key (without_key key k t)
   rising_without k [] s = tt
@@ -122,7 +123,7 @@ module _ {A : Type 0} (key : A → ℕ) where
   length_without k (y ∷ t) = without_other k y t (eqb (key y) k) refl (λ z. length z ≤ length (y ∷ t)) (λ _. omega arith)
       (let h = length_without k t in omega arith)
 
-  without_none : (k : ℕ) (t : List A) → AllOf (λ z. k < key z) t → without_key key k t ≡ t
+  without_none : (k : ℕ) (t : List A) → AllByRecursion (λ z. k < key z) t → without_key key k t ≡ t
   without_none k [] a = refl
   without_none k (y ∷ t) a = let h : k < key y = a.0 in rw (ne_eqb (key y) k (omega arith)) (ap (λ z. y ∷ z) (without_none k t a.1))
 
@@ -131,7 +132,7 @@ module _ {A : Type 0} (key : A → ℕ) where
   without_cases_append false y t u m v e = ap (λ z. y ∷ z) e
 
   pub without_left : (k : ℕ) (m : A) (l r : List A) → k < key m → IsRising key (l ++ m ∷ r) → without_key key k (l ++ m ∷ r) ≡ without_key key k l ++ m ∷ r
-  without_left k m [] r p s = without_none k (m ∷ r) (p, AllOf-map (λ z. key m < key z) (λ z. k < key z) (λ z q. omega arith) r s.0)
+  without_left k m [] r p s = without_none k (m ∷ r) (p, AllByRecursion-map (λ z. key m < key z) (λ z. k < key z) (λ z q. omega arith) r s.0)
   without_left k m (y ∷ t) r p s = without_cases_append (eqb (key y) k) y t (without_key key k t) (m ∷ r) _ (without_left k m t r p s.1)
 
   pub without_right : (k : ℕ) (m : A) (l r : List A) → key m < k → IsRising key (l ++ m ∷ r) → without_key key k (l ++ m ∷ r) ≡ l ++ m ∷ without_key key k r
@@ -146,23 +147,23 @@ module _ {A : Type 0} (key : A → ℕ) where
       let q : key y < key m = all_middle (λ z. key y < key z) t m r s.0 in
       rw (ne_eqb (key y) k (omega arith)) (ap (λ z. y ∷ z) (without_middle k m t r p s.1))
 
-  with_first : (x : A) (t : List A) → AllOf (λ z. key x < key z) t → with_entry key x t ≡ x ∷ t
+  with_first : (x : A) (t : List A) → AllByRecursion (λ z. key x < key z) t → with_entry key x t ≡ x ∷ t
   with_first x [] a = refl
   with_first x (y ∷ t) a = rw (lt-ltb (key x) (key y) a.0)
 
   pub with_between : (x k : A) (l r : List A) → key x ≡ key k → IsRising key (l ++ k ∷ r) → with_entry key x (l ++ r) ≡ l ++ x ∷ r
-  with_between x k [] r p s = with_first x r (AllOf-map (λ z. key k < key z) (λ z. key x < key z) (λ z q. omega arith) r s.0)
+  with_between x k [] r p s = with_first x r (AllByRecursion-map (λ z. key k < key z) (λ z. key x < key z) (λ z q. omega arith) r s.0)
   with_between x k (y ∷ t) r p s =
       let q : key y < key k = all_middle (λ z. key y < key z) t k r s.0 in
       with_later x y (t ++ r) (omega arith) ∙ ap (λ z. y ∷ z) (with_between x k t r p s.1)
 
   -- seeking
-  at_none : (k : ℕ) (t : List A) → AllOf (λ z. k < key z) t → entry_at key k t ≡ None
+  at_none : (k : ℕ) (t : List A) → AllByRecursion (λ z. k < key z) t → entry_at key k t ≡ None
   at_none k [] a = refl
   at_none k (y ∷ t) a = let h : k < key y = a.0 in rw (ne_eqb (key y) k (omega arith)) (at_none k t a.1)
 
   pub at_left : (k : ℕ) (m : A) (l r : List A) → k < key m → IsRising key (l ++ m ∷ r) → entry_at key k (l ++ m ∷ r) ≡ entry_at key k l
-  at_left k m [] r p s = at_none k (m ∷ r) (p, AllOf-map (λ z. key m < key z) (λ z. k < key z) (λ z q. omega arith) r s.0)
+  at_left k m [] r p s = at_none k (m ∷ r) (p, AllByRecursion-map (λ z. key m < key z) (λ z. k < key z) (λ z q. omega arith) r s.0)
   at_left k m (y ∷ t) r p s = ap (cond (eqb (key y) k) (Some y)) (at_left k m t r p s.1)
 
   pub at_right : (k : ℕ) (m : A) (l r : List A) → key m < k → IsRising key (l ++ m ∷ r) → entry_at key k (l ++ m ∷ r) ≡ entry_at key k r
@@ -180,6 +181,6 @@ module _ {A : Type 0} (key : A → ℕ) where
       c ≡ y → IsRising key (a ++ e ∷ c)
   left_part x j y k r z a e c s is p q t = rw (p, q, t) (rising_inner_left x j y k z (rw is at s))
 
-  pub at_no_key : (k : ℕ) (t : List A) → AllOf (λ z. key z ≡ k → ⊥) t → entry_at key k t ≡ None
+  pub at_no_key : (k : ℕ) (t : List A) → AllByRecursion (λ z. key z ≡ k → ⊥) t → entry_at key k t ≡ None
   at_no_key k [] a = refl
   at_no_key k (y ∷ t) a = rw (ne_eqb (key y) k a.0) (at_no_key k t a.1)

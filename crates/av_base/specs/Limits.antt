@@ -1,5 +1,5 @@
 -- Limits of the machine, in pages and processes.
-use Rattle.std.specs.Prelude.{ℕ}
+use Rattle.std.specs.Prelude.{ℕ, ◌^◌}
 
 -- the lowest page that can be mapped
 abbrev pub low_page : ℕ
@@ -12,3 +12,11 @@ top_page = 0x7ffffffff
 -- at most so many processes live at a time
 abbrev pub most_processes : ℕ
 most_processes = 4096
+
+-- the linear indices of an area end at most here
+abbrev pub most_indices : ℕ
+most_indices = 2 ^ 60
+
+-- a kernel does at most so many commands
+abbrev pub most_commands : ℕ
+most_commands = 2 ^ 24

@@ -6,11 +6,6 @@ use Rattle.std.specs.List.{list_any}
 abbrev pub within : ℕ → ℕ → ℕ → Bool
 within a n x = nat_le a x && nat_lt x (a + n)
 
--- the n numbers from a on
-abbrev pub numbers : ℕ → ℕ → List ℕ
-numbers a zero = []
-numbers a (suc n) = a ∷ numbers (a + 1) n
-
 -- whether a number is in a list
 abbrev pub is_in : ℕ → List ℕ → Bool
 is_in x xs = list_any (λ y. x == y) xs

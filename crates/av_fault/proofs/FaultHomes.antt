@@ -6,7 +6,7 @@ use Rattle.std.specs.Prelude.{IsSome, IsSomeAnd}
 use Rattle.av_base.specs.Page.{page_of}
 use Rattle.av_base.specs.Words.{with_at}
 use Rattle.av_base.specs.declared.slot.Slot.{Slot}
-use Rattle.av_frames.specs.Store.{Seen, Store, seen, with_home}
+use Rattle.av_frames.specs.Store.{Shown, Store, shown, with_home}
 use Rattle.av_vma.specs.declared.area.Area.{Area}
 use Rattle.av_vma.specs.Pages.{AreLaid, home_of, pages_in}
 use Rattle.av_trace.specs.declared.note.Note.{Note}
@@ -80,7 +80,7 @@ parts_at_home m v homes d w l h = let ledger = h.ledger in record {
 
 -- ---- a frame of the kernel gets a home
 
-module _ (mid : Mem) (frames : Store) (p page f : ℕ) (home : Option (ℕ × ℕ)) (is : seen frames ≡ with_home f home (seen mid.frames)) where
+module _ (mid : Mem) (frames : Store) (p page f : ℕ) (home : Option (ℕ × ℕ)) (is : shown frames ≡ with_home f home (shown mid.frames)) where
   abbrev mem_at_home : Mem
   mem_at_home = record mid { frames = frames }
 
@@ -88,7 +88,7 @@ module _ (mid : Mem) (frames : Store) (p page f : ℕ) (home : Option (ℕ × �
   within_at_home w l h = record {
     in_order = h.in_order;
     at_pages = h.at_pages;
-    parts = subst (λ (x : Seen). PartsStand (setting x.count) (view_of_parts x (view mid).table mid.spaces mid.anons) no_device w l) (sym is)
+    parts = subst (λ (x : Shown). PartsStand (setting x.count) (view_of_parts x (view mid).table mid.spaces mid.anons) no_device w l) (sym is)
         (parts_at_home (setting (count mid)) (view mid) (with_at f home (view mid).homes) no_device w l h.parts);
     tables = h.tables;
     anons = h.anons;
@@ -98,7 +98,7 @@ module _ (mid : Mem) (frames : Store) (p page f : ℕ) (home : Option (ℕ × �
   rmap_at_home r h at = record {
     areas = h.areas;
     anons = record { next = h.anons.next; kin = h.anons.kin; chains = h.anons.chains };
-    homes = λ g. ap (λ (x : Seen). x.home g) is ∙ by g (g == f);
+    homes = λ g. ap (λ (x : Shown). x.home g) is ∙ by g (g == f);
   }
     where
       by : (g : ℕ) (b : Bool) → cond b home ((view mid).homes g) ≡ cond b (home_of page (r.areas p page)) (r.homes g)
@@ -117,12 +117,12 @@ at_home_twice k p page f r h = record { areas = h.areas; anons = h.anons; homes 
 -- ---- the page is ready
 
 module _ (s : State) (old : Mem) (keeps : Keeps old s) (mid : Mem) (frames : Store) (p page f : ℕ) (home : Option (ℕ × ℕ))
-    (is : seen frames ≡ with_home f home (seen mid.frames)) (notes now : List Note) where
+    (is : shown frames ≡ with_home f home (shown mid.frames)) (notes now : List Note) where
   same_count : count mid ≡ count (record mid { frames = frames })
-  same_count = sym (ap (λ (x : Seen). x.count) is)
+  same_count = sym (ap (λ (x : Shown). x.count) is)
 
   same_free : free_of (view mid) ≡ free_of (view (record mid { frames = frames }))
-  same_free = sym (ap (λ (x : Seen). frames_free x.free) is)
+  same_free = sym (ap (λ (x : Shown). frames_free x.free) is)
 
   -- a page that is written where it is
   pub written_home : IsServed s mid true (p, page) notes now [] (ReadyAt f) → HasRmap mid (rmap_of s) → (was : Bool) →

@@ -5,7 +5,7 @@ use Rattle.std.proofs.lemmas.Bool.Decides.{nat_tests}
 use Rattle.av_base.specs.declared.slot.Slot.{Slot}
 use Rattle.av_trace.specs.declared.note.Note.{Note}
 use Rattle.av_base.specs.Words.{is_in}
-use Rattle.av_frames.specs.Store.{seen}
+use Rattle.av_frames.specs.Store.{shown}
 use Rattle.av_pagetable.specs.declared.pte.Pte.TheVariants.{Here, Away}
 use Rattle.av_pagetable.specs.Entries.{entry_at, has, with_entry}
 use Rattle.av_plain.specs.Ledger.{InFrame, entry, map_count, names_frame, is_free}
@@ -31,7 +31,7 @@ use Rattle.av_fault.proofs.FaultTouched.{IsServed, again, marked, read_marked}
 use Rattle.av_fault.proofs.FaultServes.{named_entry, not_away}
 
 -- a frame that is free is named by no entry
-pub free_unmapped : (k : Mem) (f : ℕ) (rest : List ℕ) → IsSteady k → (seen k.frames).free ≡ f ∷ rest → f < count k → (seen k.frames).maps f ≡ 0
+pub free_unmapped : (k : Mem) (f : ℕ) (rest : List ℕ) → IsSteady k → (shown k.frames).free ≡ f ∷ rest → f < count k → (shown k.frames).maps f ≡ 0
 free_unmapped k f rest steady first below =
     let parts = of_keeps k steady.0 steady.1 in
     let free : is_free steady.0.ledger f ≡ true = sym (parts.frames.free f below) ∙ ap (is_in f) first ∙ ap (λ b. b || is_in f rest) (itself f) in
@@ -44,7 +44,7 @@ named_frame k s p page g was keeps is =
     let some : 0 < map_count s.ledger g = how_many-found (names_frame g) (p, page) s.ledger.entries (InFrame g was) is (itself g) in
     (keeps.stands.sound.ledger.in_range g (omega (arith, some)), some)
 
-pub entry_frame : (k : Mem) (p page g : ℕ) → IsSteady k → frame_named (entry_at k.tables p page) ≡ Some g → (g < count k) × (0 < (seen k.frames).maps g)
+pub entry_frame : (k : Mem) (p page g : ℕ) → IsSteady k → frame_named (entry_at k.tables p page) ≡ Some g → (g < count k) × (0 < (shown k.frames).maps g)
 entry_frame k p page g steady named =
     let both = named_entry g (entry_at k.tables p page) (entry steady.0.ledger (p, page)) named (steady.1.stands.parts.ledger.tables.entries p page) in
     let frame = named_frame k steady.0 p page g both.0 steady.1 both.1 in
@@ -107,13 +107,13 @@ module _ (k new : Mem) (s : State) (p page f : ℕ) (bit bit' was : Bool) (notes
     (few : bit' ≡ true → map_count s.ledger f ≤ 1) where
   pub seen_now : is_permitted false (prot_of (ranges_of k.spaces.processes p) page) ≡ true → IsTouched s new false (p, page) notes notes (Ready f)
   seen_now allowed =
-      read_marked s k new p page notes keeps processes (ap (λ f. (seen f).count) frames) (order_still k new spaces anons keeps.anons) bit' was f
+      read_marked s k new p page notes keeps processes (ap (λ f. (shown f).count) frames) (order_still k new spaces anons keeps.anons) bit' was f
       (entry_put_in k new p page (Here f bit' true) entries frames spaces anons) allowed (frame_entry k s p page f bit was keeps is) few
 
   pub written_now : is_permitted true (prot_of (ranges_of k.spaces.processes p) page) ≡ true → map_count s.ledger f ≤ 1 →
       IsServed s new true (p, page) notes notes [] (Ready f)
   written_now allowed own =
-      marked s k new p page notes keeps processes (ap (λ f. (seen f).count) frames) (order_still k new spaces anons keeps.anons) true bit' was f
+      marked s k new p page notes keeps processes (ap (λ f. (shown f).count) frames) (order_still k new spaces anons keeps.anons) true bit' was f
       (entry_put_in k new p page (Here f bit' true) entries frames spaces anons) allowed (frame_entry k s p page f bit was keeps is) few (λ writes. own)
 
 -- whether an access is permitted, by the area on the page

@@ -2,9 +2,9 @@
 use Rattle.std.proofs.Common.{◌≡◌, ◌≢◌, ℕ, zero, suc, ◌+◌, ◌-◌, ◌<◌, ◌≤◌, Bool, true, false, cond, not, ◌&&◌, ◌||◌, List, [], ◌∷◌, ◌++◌, Option, Some, None, is_some, is_none, option_map, refl, sym, ap, subst, ◌∙◌, arith, ◌==◌, nat_lt, append-nil, inl}
 use Rattle.std.proofs.lemmas.Bool.Decides.{nat_tests}
 use Rattle.std.proofs.lemmas.Bool.{false≢true}
-use Rattle.std.specs.List.{list_any}
+use Rattle.std.specs.List.{list_any, range_with_len}
 use Rattle.av_base.specs.declared.slot.Slot.{Slot}
-use Rattle.av_base.specs.Words.{how_many, numbers}
+use Rattle.av_base.specs.Words.{how_many}
 use Rattle.av_trace.specs.declared.reply.OutOf.{OutOf}
 use Rattle.av_trace.specs.declared.note.Note.{Note}
 use Rattle.av_pagetable.specs.declared.pte.Pte.{Pte}
@@ -134,9 +134,9 @@ serves m spares l write k notes n is comes_in made none = record {
 
 -- ---- no frame is free
 
-none_free : (test : ℕ → Bool) (a n : ℕ) → ((f : ℕ) → f < a + n → test f ≡ false) → list_any test (numbers a n) ≡ false
+none_free : (test : ℕ → Bool) (a n : ℕ) → ((f : ℕ) → f < a + n → test f ≡ false) → list_any test (range_with_len a n) ≡ false
 none_free test a zero h = refl
-none_free test a (suc n) h = ap (λ b. b || list_any test (numbers (a + 1) n)) (h a (omega arith)) ∙ none_free test (a + 1) n
+none_free test a (suc n) h = ap (λ b. b || list_any test (range_with_len (a + 1) n)) (h a (omega arith)) ∙ none_free test (a + 1) n
     (λ f under. h f (omega (arith, under)))
 
 pub nothing_free : (m : Setting) (v : View) (w : World) (l : Ledger) → Parts m v w l → v.free ≡ [] → has_free m l ≡ false
@@ -148,21 +148,21 @@ abbrev pub how_pinned : Option ℕ → ℕ
 how_pinned None = 0
 how_pinned (Some g) = 1
 
-all_count : (a n : ℕ) → how_many (λ (f : ℕ). true) (numbers a n) ≡ n
+all_count : (a n : ℕ) → how_many (λ (f : ℕ). true) (range_with_len a n) ≡ n
 all_count a zero = refl
 all_count a (suc n) = let rest = all_count (a + 1) n in omega (arith, rest)
 
 -- a number outside the range takes nothing away, one inside takes one
-count_above : (g a n : ℕ) → g < a → how_many (λ f. not (g == f)) (numbers a n) ≡ n
+count_above : (g a n : ℕ) → g < a → how_many (λ f. not (g == f)) (range_with_len a n) ≡ n
 count_above g a zero low = refl
 count_above g a (suc n) low =
     let other : (g == a) ≡ false = grind (arith, nat_tests) in
-    ap (λ b. cond (not b) 1 0 + how_many (λ f. not (g == f)) (numbers (a + 1) n)) other ∙ more _ _ (count_above g (a + 1) n (omega (arith, low)))
+    ap (λ b. cond (not b) 1 0 + how_many (λ f. not (g == f)) (range_with_len (a + 1) n)) other ∙ more _ _ (count_above g (a + 1) n (omega (arith, low)))
   where
     more : (x y : ℕ) → x ≡ y → 1 + x ≡ suc y
     more x y e = omega arith
 
-count_but : (g a n : ℕ) → a ≤ g → g < a + n → how_many (λ f. not (g == f)) (numbers a n) + 1 ≡ n
+count_but : (g a n : ℕ) → a ≤ g → g < a + n → how_many (λ f. not (g == f)) (range_with_len a n) + 1 ≡ n
 count_but g a zero low high = absurd (omega (arith, low, high))
 count_but g a (suc n) low high = by (g == a) refl (λ other. count_but g (a + 1) n (omega (arith, low, other)) (omega (arith, high)))
   where
@@ -172,14 +172,14 @@ count_but g a (suc n) low high = by (g == a) refl (λ other. count_but g (a + 1)
     one : (x y : ℕ) → x ≡ y → (0 + x) + 1 ≡ suc y
     one x y e = omega arith
 
-    by : (b : Bool) → (g == a) ≡ b → (g ≢ a → how_many (λ f. not (g == f)) (numbers (a + 1) n) + 1 ≡ n)
-        → (cond (not (g == a)) 1 0 + how_many (λ f. not (g == f)) (numbers (a + 1) n)) + 1 ≡ suc n
+    by : (b : Bool) → (g == a) ≡ b → (g ≢ a → how_many (λ f. not (g == f)) (range_with_len (a + 1) n) + 1 ≡ n)
+        → (cond (not (g == a)) 1 0 + how_many (λ f. not (g == f)) (range_with_len (a + 1) n)) + 1 ≡ suc n
     by true e rest =
         let same : g ≡ a = grind (arith, nat_tests) in
-        ap (λ b. (cond (not b) 1 0 + how_many (λ f. not (g == f)) (numbers (a + 1) n)) + 1) e ∙ one _ _ (count_above g (a + 1) n (omega (arith, same)))
+        ap (λ b. (cond (not b) 1 0 + how_many (λ f. not (g == f)) (range_with_len (a + 1) n)) + 1) e ∙ one _ _ (count_above g (a + 1) n (omega (arith, same)))
     by false e rest =
         let other : g ≢ a = grind (arith, nat_tests) in
-        ap (λ b. (cond (not b) 1 0 + how_many (λ f. not (g == f)) (numbers (a + 1) n)) + 1) e ∙ more _ _ (rest other)
+        ap (λ b. (cond (not b) 1 0 + how_many (λ f. not (g == f)) (range_with_len (a + 1) n)) + 1) e ∙ more _ _ (rest other)
 
 never : (a b : Bool) → b ≡ false → (a && b) ≡ false
 never true b e = e
@@ -198,19 +198,19 @@ pub out_is : (m : Setting) (l : Ledger) (pinned : Option ℕ) → l.cache ≡ []
     → ◌≡◌ {A = OutOf} (record { pinned = how_pinned pinned; noslot = m.frames - how_pinned pinned; fault = 0 }) (out_of m pinned (sparing_of pinned) l)
 out_is m l None none below = λ i. record {
   pinned = 0;
-  noslot = sym (how_many-same (λ f. is_none (slot_of l f)) (λ f. true) (numbers 0 m.frames) (λ f. ap is_none (no_slot l f none))
+  noslot = sym (how_many-same (λ f. is_none (slot_of l f)) (λ f. true) (range_with_len 0 m.frames) (λ f. ap is_none (no_slot l f none))
       ∙ all_count 0 m.frames ∙ none_less m.frames) i;
-  fault = sym (how_many-none (λ f. is_some (slot_of l f)) (numbers 0 m.frames) (λ f. ap is_some (no_slot l f none))) i;
+  fault = sym (how_many-none (λ f. is_some (slot_of l f)) (range_with_len 0 m.frames) (λ f. ap is_some (no_slot l f none))) i;
 }
   where
     none_less : (n : ℕ) → n ≡ n - 0
     none_less n = omega arith
 out_is m l (Some g) none below = λ i. record {
   pinned = 1;
-  noslot = sym (how_many-same (λ f. not (g == f) && is_none (slot_of l f)) (λ f. not (g == f)) (numbers 0 m.frames)
+  noslot = sym (how_many-same (λ f. not (g == f) && is_none (slot_of l f)) (λ f. not (g == f)) (range_with_len 0 m.frames)
       (λ f. kept (not (g == f)) (is_none (slot_of l f)) (ap is_none (no_slot l f none)))
       ∙ less _ _ (count_but g 0 m.frames (omega arith) (from_zero _ (below g refl)))) i;
-  fault = sym (how_many-none (λ f. not (g == f) && is_some (slot_of l f)) (numbers 0 m.frames)
+  fault = sym (how_many-none (λ f. not (g == f) && is_some (slot_of l f)) (range_with_len 0 m.frames)
       (λ f. never (not (g == f)) (is_some (slot_of l f)) (ap is_some (no_slot l f none)))) i;
 }
   where
@@ -229,5 +229,5 @@ runs_out m w l k n out swap is wants none same = record {
   whole = refl;
   before = inl refl;
   finds = subst (λ n. FindsNone m (sparing w) l n [] out) (sym is)
-      (record { wants = wants; seeks = none-seeks m (sparing w l (pinned_by n)) l swap; none = none; numbers = same });
+      (record { wants = wants; seeks = none-seeks m (sparing w l (pinned_by n)) l swap; none = none; range_with_len = same });
 }

@@ -5,7 +5,8 @@ use Rattle.std.specs.Prelude.{IfSome, IsSomeAnd}
 use Rattle.std.specs.FinMap.Entries.{is_sorted}
 use Rattle.av_base.specs.declared.slot.Slot.{Slot}
 use Rattle.std.proofs.lemmas.Bool.Decides.{nat_tests}
-use Rattle.av_base.specs.Words.{with_at, numbers}
+use Rattle.av_base.specs.Words.{with_at}
+use Rattle.std.specs.List.{range_with_len}
 use Rattle.av_trace.specs.declared.reply.OutOf.{OutOf}
 use Rattle.av_trace.specs.declared.note.Note.{Note}
 use Rattle.av_trace.specs.declared.note.Note.TheVariants.{Aged, Copied, Dropped, Failed, Kept, Loaded, Mapped, New, Put, Started, Unmapped, Written, Zeroed}
@@ -84,9 +85,9 @@ mapped_still l k f g was sorted is = same_sum _ _ _ _ (map_count-set k (InFrame 
 
 -- ---- no frame becomes free
 
-none_pass : (test : ℕ → Bool) (a n : ℕ) → ((f : ℕ) → f < a + n → test f ≡ false) → filter test (numbers a n) ≡ []
+none_pass : (test : ℕ → Bool) (a n : ℕ) → ((f : ℕ) → f < a + n → test f ≡ false) → filter test (range_with_len a n) ≡ []
 none_pass test a zero h = refl
-none_pass test a (suc n) h = ap (λ b. cond b (a ∷ filter test (numbers (a + 1) n)) (filter test (numbers (a + 1) n))) (h a (omega arith))
+none_pass test a (suc n) h = ap (λ b. cond b (a ∷ filter test (range_with_len (a + 1) n)) (filter test (range_with_len (a + 1) n))) (h a (omega arith))
     ∙ none_pass test (a + 1) n (λ f less. h f (omega (arith, less)))
 
 -- where the ledger stays
@@ -257,14 +258,14 @@ module _ (s : State) (old new : Mem) (p page : ℕ) (notes : List Note) (keeps :
         need true s.ledger (entry s.ledger (p, page)) ≡ n → wants_frame n ≡ true → (view old).free ≡ []
         → out ≡ out_of (setting (count old)) (pinned_by n) (sparing s.world s.ledger (pinned_by n)) s.ledger →
         IsTouched s new true (p, page) notes notes (Stopped (Oom out))
-    starved n out is allowed needs wants empty numbers = record {
+    starved n out is allowed needs wants empty range_with_len = record {
       added = [];
       notes = sym (append-nil notes);
       touches = subst (λ c. Touches (setting c) s.world s.ledger true (p, page) [] (Some (Starved out))) (sym same) (
         allowed_is (view old) s.world true p page keeps.stands.parts.areas ∙ allowed,
         runs_out (setting (count old)) s.world s.ledger (p, page) n out
             (no_swap (setting (count old)) (view old) s.world s.ledger (of_keeps old s keeps)) needs wants
-            (nothing_free (setting (count old)) (view old) s.world s.ledger (of_keeps old s keeps) empty) numbers,
+            (nothing_free (setting (count old)) (view old) s.world s.ledger (of_keeps old s keeps) empty) range_with_len,
       );
       ready = tt;
       parts = stand_now old new s.world s.ledger (view old) is same (of_keeps old s keeps)

@@ -1,7 +1,7 @@
 -- What the view is after a change of the parts.
 use Rattle.std.proofs.Common.{◌≡◌, ℕ, ◌<◌, Bool, true, false, cond, ◌&&◌, List, ◌∷◌, Option, refl, sym, ap, subst, ◌∙◌, ◌==◌}
 use Rattle.av_base.specs.Words.{with_at, is_in}
-use Rattle.av_frames.specs.Store.{Seen, seen}
+use Rattle.av_frames.specs.Store.{Shown, shown}
 use Rattle.av_pagetable.specs.declared.pte.Pte.{Pte}
 use Rattle.av_pagetable.specs.declared.pte.Pte.TheVariants.{Here}
 use Rattle.av_pagetable.specs.Entries.{entry_at, with_entry}
@@ -13,12 +13,12 @@ use Rattle.av_fault.specs.Fault.{IsTaken, taken_for}
 
 -- the first free frame has been taken for a page
 pub frame_taken : (old new : Mem) (p page f : ℕ) (bytes maps : ℕ → ℕ) (rest : List ℕ)
-    → seen new.frames ≡ record (seen old.frames) { free = rest; bytes = with_at f bytes (seen old.frames).bytes; maps = maps }
-    → (seen old.frames).free ≡ f ∷ rest → is_in f rest ≡ false → f < count old
+    → shown new.frames ≡ record (shown old.frames) { free = rest; bytes = with_at f bytes (shown old.frames).bytes; maps = maps }
+    → (shown old.frames).free ≡ f ∷ rest → is_in f rest ≡ false → f < count old
     → entry_at new.tables ≡ with_entry p page (Here f true true) (entry_at old.tables) → new.spaces ≡ old.spaces → new.anons ≡ old.anons
     → IsTaken old new p page f bytes maps
 frame_taken old new p page f bytes maps rest frames first gone below entries spaces anons =
-    let same : rest ≡ (seen new.frames).free = sym (ap (λ (s : Seen). s.free) frames) in
+    let same : rest ≡ (shown new.frames).free = sym (ap (λ (s : Shown). s.free) frames) in
     record {
       first = first ∙ ap (λ r. f ∷ r) same;
       gone = subst (λ r. is_in f r ≡ false) same gone;

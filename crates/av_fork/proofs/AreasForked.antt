@@ -9,7 +9,7 @@ use Rattle.av_vma.specs.Pages.{has_page, pages_in, with_area}
 use Rattle.av_vma.proofs.Laid.{has_from}
 use Rattle.av_anon.specs.declared.anons.Anons.{Anons as AnonSet}
 use Rattle.av_anon.specs.declared.infos.Info.{Info}
-use Rattle.av_merge.specs.Fork.{Kin, area_in_child, kin_with, own_in_child}
+use Rattle.av_merge.specs.Forking.{Lineage, area_in_child, kin_with, own_in_child}
 use Rattle.av_merge.specs.Kin.{kin_in}
 use Rattle.av_spaces.specs.Fork.{GoInTurn, IsForked, areas_in_child, kin_after, kin_of as kin_now}
 use Rattle.av_spaces.specs.Kin as in_spaces
@@ -30,7 +30,7 @@ use Rattle.av_reclaim.specs.declared.mem.Mem.{Mem}
 use Rattle.av_reclaim.specs.Mem.{HasLedger, Keeps, anon_vma, view}
 use Rattle.av_reclaim.proofs.AnonLaws.{area_chain, shown_chain}
 use Rattle.av_reclaim.proofs.MemLaws.{all_apart}
-use Rattle.av_frames.specs.Store.{seen}
+use Rattle.av_frames.specs.Store.{shown}
 use Rattle.av_fork.specs.Areas.{HasFork}
 use Rattle.av_fork.proofs.AreasReused.{Shows, chain_in}
 use Rattle.av_fork.proofs.AreasStep.{GoesOn, goes_on}
@@ -84,7 +84,7 @@ record Reaches (old : AllSpaces) (anons : AnonSet) (child : ℕ) (first : Rmap) 
 
 module _ (old : Mem) (s : State) (keeps : Keeps old s) (parent child : ℕ) (areas : List Area) (there : areas_of old.spaces.processes parent ≡ Some areas)
     (dead : areas_of old.spaces.processes child ≡ None) (turn : GoInTurn old.spaces old.anons child areas) where
-  abbrev k : Kin
+  abbrev k : Lineage
   k = kin_now old.spaces old.anons
 
   abbrev first : Rmap
@@ -260,7 +260,7 @@ module _ (old : Mem) (s : State) (keeps : Keeps old s) (parent child : ℕ) (are
       forked = forked;
       areas = shown.areas;
       anons = anons_stand;
-      homes = λ g. ap (λ frames. (seen frames).home g) same_frames ∙ keeps.stands.homes g
+      homes = λ g. ap (λ frames. (shown frames).home g) same_frames ∙ keeps.stands.homes g
           ∙ sym (ap (λ homes. homes g) (child-has parent child (rmap_of s) next forked).homes);
       fit = f.fit;
       these = areas_in_child child areas k;

@@ -4,8 +4,8 @@ use Rattle.std.proofs.lemmas.Bool.{eqb-true, false≢true}
 use Rattle.std.proofs.lemmas.Bool.Decides.{nat_tests}
 use Rattle.std.specs.Option.{option_map_or}
 use Rattle.std.specs.Prelude.{nat_lt}
-use Rattle.av_base.specs.Words.{how_many, is_in, numbers}
-use Rattle.av_arena.specs.Order.{AllOf}
+use Rattle.av_base.specs.Words.{how_many, is_in}
+use Rattle.std.specs.List.{range_with_len, AllByRecursion}
 use Rattle.av_vma.specs.declared.area.Area.{Area}
 use Rattle.av_vma.specs.Areas.{area_of}
 use Rattle.av_anon.specs.declared.anons.Anons.{Anons as AnonSet}
@@ -15,7 +15,7 @@ use Rattle.av_anon.specs.Fork.{is_idle, member_to_reuse}
 use Rattle.av_anon.specs.Order.{is_child as is_child_in, owns}
 use Rattle.av_anon.proofs.Choosing.{found_in}
 use Rattle.av_anon.proofs.OrderLemmas.{how_many-below}
-use Rattle.av_merge.specs.Fork.{Kin}
+use Rattle.av_merge.specs.Forking.{Lineage}
 use Rattle.av_merge.specs.Kin.{kin_in}
 use Rattle.av_spaces.specs.Fork.{kin_of as kin_now}
 use Rattle.av_spaces.specs.Kin.{AnonsFit, IsOwnedIn, info_of}
@@ -25,12 +25,12 @@ use Rattle.av_plain.specs.Fork.{IsIdle, IsReused, children, is_child}
 use Rattle.av_plain.specs.Stands.{kin_of}
 
 -- the chain of an area, by its own anon_vma
-abbrev pub chain_in : Kin → Option ℕ → List ℕ
+abbrev pub chain_in : Lineage → Option ℕ → List ℕ
 chain_in k None = []
 chain_in k (Some own) = k.chain own
 
 -- the areas and anon_vmas that a fork goes by are those of the definitions
-pub record Shows (spaces : Spaces) (k : Kin) (r : Rmap) : Type 0 where
+pub record Shows (spaces : Spaces) (k : Lineage) (r : Rmap) : Type 0 where
   pub areas : (p page : ℕ) → areas_on spaces p page ≡ r.areas p page
   pub next : k.next ≡ r.anons.next
   pub kin : (v : ℕ) → option_map kin_in (k.info v) ≡ option_map kin_of (r.anons.anon v)
@@ -62,7 +62,7 @@ none_passes test (x ∷ xs) h w there passes = by (test x) refl (λ none later. 
         at true e there = false≢true (sym is ∙ ap test (sym (eqb-true w x e)) ∙ passes)
         at false e there = rest (head_fails test x xs None is h) there
 
-above : (x : ℕ) (xs : List ℕ) → AllOf (λ y. x < y) xs → (w : ℕ) → is_in w xs ≡ true → x < w
+above : (x : ℕ) (xs : List ℕ) → AllByRecursion (λ y. x < y) xs → (w : ℕ) → is_in w xs ≡ true → x < w
 above x [] all w there = absurd (false≢true there)
 above x (y ∷ ys) all w there = by (w == y) refl there (above x ys all.1 w)
   where
@@ -117,10 +117,10 @@ module _ (mid : AllSpaces) (a : AnonSet) (fit : AnonsFit mid a) (r : Rmap) (show
       of None = refl
       of (Some anon) = refl
 
-  children_same : (v : ℕ) → how_many (λ u. is_child_in v (info_of a u)) (numbers 0 a.next) ≡ children r.anons v
+  children_same : (v : ℕ) → how_many (λ u. is_child_in v (info_of a u)) (range_with_len 0 a.next) ≡ children r.anons v
   children_same v =
       how_many-below (λ u. is_child_in v (info_of a u)) (λ u. is_child v (r.anons.anon u)) 0 a.next (λ u _. child_same v u)
-      ∙ ap (λ n. how_many (λ u. is_child v (r.anons.anon u)) (numbers 0 n)) shows.next
+      ∙ ap (λ n. how_many (λ u. is_child v (r.anons.anon u)) (range_with_len 0 n)) shows.next
 
   -- an area has it as its own
   owned_at : (v p page : ℕ) (area : Area) → r.areas p page ≡ Some area → area.anon ≡ Some v → IsOwnedIn mid v

@@ -10,7 +10,7 @@ use Rattle.av_anon.specs.declared.infos.Info.{Info}
 use Rattle.av_anon.specs.Fork.{child_chain, child_own, member_to_reuse, root_of}
 use Rattle.av_anon.specs.Infos.{more_active, more_children, with_info}
 use Rattle.av_anon.proofs.Choosing.{reused_there}
-use Rattle.av_merge.specs.Fork.{Kin, info_with, kin_with, next_with, own_in_child}
+use Rattle.av_merge.specs.Forking.{Lineage, info_with, kin_with, next_with, own_in_child}
 use Rattle.av_merge.specs.Kin.{kin_in}
 use Rattle.av_spaces.specs.Fork.{kin_of as kin_now}
 use Rattle.av_spaces.specs.Kin.{AnonsFit, IsOwnedIn}
@@ -47,7 +47,7 @@ kin_same info at change same v = by (v == at) refl
     by false e = refl
 
 -- the area went over
-pub record GoesOn (k : Kin) (child : ℕ) (area : Area) (r : Rmap) (own : Option ℕ) : Type 0 where
+pub record GoesOn (k : Lineage) (child : ℕ) (area : Area) (r : Rmap) (own : Option ℕ) : Type 0 where
   pub next : Rmap
   pub goes : GoesBy own child area r next
   pub shows : (spaces : Spaces) → ((p page : ℕ) → areas_on spaces p page ≡ (with_child_area child (record area { anon = own_in_child own k }) r).areas p page)
@@ -55,7 +55,7 @@ pub record GoesOn (k : Kin) (child : ℕ) (area : Area) (r : Rmap) (own : Option
 
 module _ (mid : AllSpaces) (a : AnonSet) (fit : AnonsFit mid a) (r : Rmap) (shows : Shows mid.processes (kin_now mid a) r) (child : ℕ) (area : Area)
     (owned : (v : ℕ) → area.anon ≡ Some v → IsOwnedIn mid v) where
-  abbrev k : Kin
+  abbrev k : Lineage
   k = kin_now mid a
 
   chain_same : (v : ℕ) → IsOwnedIn mid v → k.chain v ≡ chain_by r.anons (Some v)
@@ -87,7 +87,7 @@ module _ (mid : AllSpaces) (a : AnonSet) (fit : AnonsFit mid a) (r : Rmap) (show
     abbrev made : Anons
     made = with_child own reuse r.anons
 
-    abbrev after : Kin
+    abbrev after : Lineage
     after = record {
       next = next_with reuse k.next;
       info = info_with reuse own k;

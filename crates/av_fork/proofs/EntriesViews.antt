@@ -7,7 +7,7 @@ use Rattle.std.specs.Prelude.{IsErr, MatchResult}
 use Rattle.av_anon.specs.declared.anons.Anons.{Anons as AnonSet}
 use Rattle.av_base.specs.Limits.{most_processes}
 use Rattle.av_base.specs.Words.{how_many, with_at}
-use Rattle.av_frames.specs.Store.{Seen, seen, with_maps}
+use Rattle.av_frames.specs.Store.{Shown, shown, with_maps}
 use Rattle.av_pagetable.specs.Entries.{with_entry}
 use Rattle.av_pagetable.specs.Table.{IsFirst, child_entry as child_raw, page_bound, read_only}
 use Rattle.av_pagetable.specs.declared.pte.Pte.{Pte}
@@ -93,11 +93,11 @@ forked p q old = with_at p (λ o. read_only (copied p q old p o)) (copied p q ol
 abbrev pub stage : ℕ → ℕ → (ℕ → ℕ → Pte) → ℕ → ℕ → ℕ → Pte
 stage p q old next x o = cond (nat_lt o next) (forked p q old x o) (old x o)
 
-abbrev pub stage_parts : AllSpaces → AnonSet → ℕ → ℕ → (ℕ → ℕ → Pte) → Seen → ℕ → Parts
+abbrev pub stage_parts : AllSpaces → AnonSet → ℕ → ℕ → (ℕ → ℕ → Pte) → Shown → ℕ → Parts
 stage_parts spaces anons p q old frames next = record { frames = frames; table = stage p q old next; spaces = spaces; anons = anons }
 
 -- below a page all has gone over; pages where nothing is left may be counted in
-pub record IsForkingTo (spaces : AllSpaces) (anons : AnonSet) (p q : ℕ) (old : ℕ → ℕ → Pte) (frames : Seen) (next : ℕ) (first : Ledger) : Type 0 where
+pub record IsForkingTo (spaces : AllSpaces) (anons : AnonSet) (p q : ℕ) (old : ℕ → ℕ → Pte) (frames : Shown) (next : ℕ) (first : Ledger) : Type 0 where
   pub at : ℕ
   pub low : at ≤ next
   pub forking : IsForking (stage_parts spaces anons p q old frames next) p q at first
@@ -186,7 +186,7 @@ module _ (p q : ℕ) (old : ℕ → ℕ → Pte) (empty : (o : ℕ) → old q o 
       by x o false false false i j k = other x o k
 
   module _ (spaces : AllSpaces) (anons : AnonSet) (first : Ledger) where
-    pub skip_to : (frames : Seen) (next next' : ℕ) → next ≤ next' → ((o : ℕ) → next ≤ o → o < next' → old p o ≡ Empty)
+    pub skip_to : (frames : Shown) (next next' : ℕ) → next ≤ next' → ((o : ℕ) → next ≤ o → o < next' → old p o ≡ Empty)
         → IsForkingTo spaces anons p q old frames next first → IsForkingTo spaces anons p q old frames next' first
     skip_to frames next next' le none t = record {
       at = t.at;
@@ -200,7 +200,7 @@ module _ (p q : ℕ) (old : ℕ → ℕ → Pte) (empty : (o : ℕ) → old q o 
     }
 
     -- a frame of an entry that has not gone over is in range
-    pub in_range : (frames : Seen) (next : ℕ) → IsForkingTo spaces anons p q old frames next first → (o : ℕ) → next ≤ o
+    pub in_range : (frames : Shown) (next : ℕ) → IsForkingTo spaces anons p q old frames next first → (o : ℕ) → next ≤ o
         → (f : ℕ) (write was : Bool) → child_raw (old p o) ≡ Here f write was → f < frames.count
     in_range frames next t o low f write was is =
         let e = given_frame (old p o) f write was is in
@@ -209,7 +209,7 @@ module _ (p q : ℕ) (old : ℕ → ℕ → Pte) (empty : (o : ℕ) → old q o 
         let some : 0 < map_count t.forking.ledger f = how_many-found (names_frame f) (p, o) t.forking.ledger.entries (InFrame f e.1) named (itself f) in
         t.forking.stands.sound.in_range f (omega (arith, some))
 
-    one_page : (frames : Seen) (page : ℕ) → page < page_bound → IsForkingTo spaces anons p q old frames page first
+    one_page : (frames : Shown) (page : ℕ) → page < page_bound → IsForkingTo spaces anons p q old frames page first
         → IsForkingTo spaces anons p q old (record frames { maps = λ f. frames.maps f + cond (names f (plain (child_raw (old p page)))) 1 0 }) (page + 1) first
     one_page frames page below t = none_or (old p page) _ empty_page (λ some. record {
       at = page + 1;
@@ -219,7 +219,7 @@ module _ (p q : ℕ) (old : ℕ → ℕ → Pte) (empty : (o : ℕ) → old q o 
       skipped = λ o low high. absurd (omega (arith, low, high));
     })
       where
-        counted : Seen
+        counted : Shown
         counted = record frames { maps = λ f. frames.maps f + cond (names f (plain (child_raw (old p page)))) 1 0 }
 
         old_here : stage p q old page p page ≡ old p page
@@ -252,7 +252,7 @@ module _ (p q : ℕ) (old : ℕ → ℕ → Pte) (empty : (o : ℕ) → old q o 
             (λ i f. (nothing (frames.maps f) ∙ ap (λ e. frames.maps f + cond (names f (plain (child_raw e))) 1 0) (sym none)) i)
             (skip_to frames page (page + 1) (omega arith) (λ o low high. ap (old p) (let same : o ≡ page = omega (arith, low, high) in same) ∙ none) t)
 
-    pub whole_group : (group : List Pte) (frames : Seen) (page : ℕ) → page + length group ≤ page_bound →
+    pub whole_group : (group : List Pte) (frames : Shown) (page : ℕ) → page + length group ≤ page_bound →
         ((i : ℕ) → i < length group → get_or group i Empty ≡ child_raw (old p (page + i)))
         → IsForkingTo spaces anons p q old frames page first → IsForkingTo spaces anons p q old (after_map_ups group frames) (page + length group) first
     whole_group [] frames page below are t =
@@ -284,11 +284,11 @@ module _ (p q : ℕ) (old : ℕ → ℕ → Pte) (empty : (o : ℕ) → old q o 
 
 module _ (old : Mem) (p q : ℕ) (empty : (o : ℕ) → entry_at old.tables q o ≡ Empty) where
   -- nothing has gone over yet
-  pub none_over : (l : Ledger) → HasLedger old l → IsForkingTo old.spaces old.anons p q (entry_at old.tables) (seen old.frames) 0 l
+  pub none_over : (l : Ledger) → HasLedger old l → IsForkingTo old.spaces old.anons p q (entry_at old.tables) (shown old.frames) 0 l
   none_over l stands = record {
     at = 0;
     low = omega arith;
-    forking = subst (λ (table : ℕ → ℕ → Pte). IsForking (record { frames = seen old.frames; table = table; spaces = old.spaces; anons = old.anons }) p q 0 l)
+    forking = subst (λ (table : ℕ → ℕ → Pte). IsForking (record { frames = shown old.frames; table = table; spaces = old.spaces; anons = old.anons }) p q 0 l)
         (λ i x o. sym (still p q (entry_at old.tables) empty 0 x o (omega arith)) i)
         (none_yet (parts_of old) p q l stands empty);
     skipped = λ o low high. absurd (omega (arith, low, high));
@@ -309,10 +309,10 @@ module _ (old : Mem) (p q : ℕ) (empty : (o : ℕ) → entry_at old.tables q o 
 
     -- where the child has none from a page on, all has gone over
     pub all_over : (next : ℕ) (first : Ledger) → ((o : ℕ) → next ≤ o → entry_at new.tables q o ≡ Empty) → free_of (view new) ≡ free_of (view old)
-        → IsForkingTo new.spaces new.anons p q (entry_at old.tables) (seen new.frames) next first → HasForked old new first p q
+        → IsForkingTo new.spaces new.anons p q (entry_at old.tables) (shown new.frames) next first → HasForked old new first p q
     all_over next first over free t =
         all_given old new p q t.at first
-        (subst (λ (table : ℕ → ℕ → Pte). IsForking (record { frames = seen new.frames; table = table; spaces = new.spaces; anons = new.anons }) p q t.at first)
+        (subst (λ (table : ℕ → ℕ → Pte). IsForking (record { frames = shown new.frames; table = table; spaces = new.spaces; anons = new.anons }) p q t.at first)
         (λ i x o. point x o i) t.forking)
         (λ o low. ap (λ t. t p o) tables ∙ forked_parent p q (entry_at old.tables) empty o ∙ ap read_only (none o low)) free
       where
@@ -358,12 +358,12 @@ first_more test (suc n) (x ∷ xs) d h = add (cond (test x) 1 0) _ _ _ (first_mo
     add : (n a b c : ℕ) → a ≡ b + c → n + a ≡ n + b + c
     add n a b c h = omega (arith, h)
 
-module _ (group : List Pte) (n : ℕ) (within : n < length group) (old now : Seen) (is : now ≡ after_map_ups (take n group) old) where
+module _ (group : List Pte) (n : ℕ) (within : n < length group) (old now : Shown) (is : now ≡ after_map_ups (take n group) old) where
   -- an entry that names a frame is counted
-  pub one_named : (f : ℕ) (write was : Bool) → get_or group n Empty ≡ Here f write was → (new : Seen) → new ≡ with_maps f (now.maps f + 1) now →
+  pub one_named : (f : ℕ) (write was : Bool) → get_or group n Empty ≡ Here f write was → (new : Shown) → new ≡ with_maps f (now.maps f + 1) now →
       new ≡ after_map_ups (take (n + 1) group) old
   one_named f write was here new up =
-      up ∙ ap (λ (s : Seen). with_maps f (s.maps f + 1) s) is
+      up ∙ ap (λ (s : Shown). with_maps f (s.maps f + 1) s) is
       ∙ (λ i. record old { maps = λ g. (point g (g == f) refl ∙ sym (ap (λ m. old.maps g + m) (more g))) i })
     where
       more : (g : ℕ) → how_many (λ e. names g (plain e)) (take (n + 1) group) ≡ how_many (λ e. names g (plain e)) (take n group) + cond (g == f) 1 0

@@ -1,7 +1,7 @@
 -- How the entries of a process go over to a child.
 use Rattle.std.specs.Prelude.{ℕ, ◌+◌, Bool, false, if◌then◌else◌, List, Option, Some, None}
 use Rattle.av_base.specs.Words.{how_many}
-use Rattle.av_frames.specs.Store.{Seen}
+use Rattle.av_frames.specs.Store.{Shown}
 use Rattle.av_pagetable.specs.declared.pte.Pte.{Pte as Raw}
 use Rattle.av_pagetable.specs.Entries.{with_entry}
 use Rattle.av_plain.specs.Choice.{Chooses}
@@ -28,7 +28,7 @@ names f None = false
 names f (Some t) = names_frame f t.entry
 
 -- for each of these entries that names a frame, one more does
-abbrev pub after_map_ups : List Raw → Seen → Seen
+abbrev pub after_map_ups : List Raw → Shown → Shown
 after_map_ups group s =
     record s { maps = λ f. s.maps f + how_many (λ e. names f (plain e)) group }
 

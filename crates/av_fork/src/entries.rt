@@ -3,7 +3,7 @@
 ghost use Rattle.std.specs.Prelude.{◌≡◌, ℕ, ◌+◌, ◌<◌, ◌≤◌, ◌^◌, Bool, slice_index_or, true, OnErr, OnOk};
 ghost use Rattle.av_base.specs.Limits.{most_processes};
 ghost use Rattle.av_fork.specs.Entries.{after_map_ups, HasForked};
-ghost use Rattle.av_frames.specs.Store.{seen};
+ghost use Rattle.av_frames.specs.Store.{shown};
 ghost use Rattle.av_pagetable.specs.Entries.{entry_at, has};
 ghost use Rattle.av_pagetable.specs.Table.{group_size};
 ghost use Rattle.av_plain.specs.Ledger.{Ledger};
@@ -30,7 +30,7 @@ pub fn fork_entries(mem: &mut Mem, alloc: Global, parent: u16, child: u16) -> Re
     ensures orderly { OnErr result (IsOrderly mem.new) }
 {
     mem.tables.copy(alloc, parent, child)?;
-    mem.tables.protect(parent);
+    mem.tables.write_protect(parent);
     let mut number = 0;
     while let Some(page) = mem.tables.next_from(child, number * GROUP as u64) {
         let mut group = [Pte::Empty; GROUP];
@@ -46,9 +46,9 @@ pub fn fork_entries(mem: &mut Mem, alloc: Global, parent: u16, child: u16) -> Re
 fn map_up_each(frames: &mut Frames, group: &[Pte; GROUP])
     requires in_range { (i f : ℕ) (write was : Bool) → i < group_size
         → slice_index_or group.now i Pte.Empty ≡ Pte.Here f write was
-        → f < (seen frames.old).count }
-    requires room { (f : ℕ) → (seen frames.old).maps f + group_size < 2 ^ 64 }
-    ensures { seen frames.new ≡ after_map_ups group.now (seen frames.old) }
+        → f < (shown frames.old).count }
+    requires room { (f : ℕ) → (shown frames.old).maps f + group_size < 2 ^ 64 }
+    ensures { shown frames.new ≡ after_map_ups group.now (shown frames.old) }
 {
     for entry in group {
         if let Pte::Here { frame, .. } = *entry {

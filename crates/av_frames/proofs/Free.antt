@@ -5,7 +5,7 @@ use Rattle.std.proofs.lemmas.Bool.Decides.{nat_tests}
 use Rattle.std.proofs.lemmas.Bool.{false≢true}
 use Rattle.av_base.specs.declared.slot.Slot.{Slot}
 use Rattle.av_base.specs.Words.{how_many, with_at, is_in}
-use Rattle.av_frames.specs.Store.{IsWhole, itself, Store, seen}
+use Rattle.av_frames.specs.Store.{IsWhole, itself, Store, shown}
 
 same_is : (f : ℕ) → (f == f) ≡ true
 same_is f = grind (arith, nat_tests)
@@ -69,8 +69,8 @@ laid pages f page new below same = λ k g i. point g i (g == f) refl k
         ap (λ x. get_or x i 0) (get_or-set_other pages f g page [] ne) ∙ sym (ap (λ b. cond b new (λ j. get_or (get_or pages g []) j 0) i) e)
 
 pub seen_laid : (s : Store) (f : ℕ) (page : List ℕ) (new : ℕ → ℕ) → f < length s.bytes → ((i : ℕ) → get_or page i 0 ≡ new i)
-    → seen (record s { bytes = slice_set s.bytes f page }) ≡ record (seen s) { bytes = with_at f new (seen s).bytes }
-seen_laid s f page new below same = λ k. record (seen s) { count = length-set s.bytes f page k; bytes = laid s.bytes f page new below same k }
+    → shown (record s { bytes = slice_set s.bytes f page }) ≡ record (shown s) { bytes = with_at f new (shown s).bytes }
+seen_laid s f page new below same = λ k. record (shown s) { count = length-set s.bytes f page k; bytes = laid s.bytes f page new below same k }
 
 pub zeros : (n i : ℕ) → ◌≡◌ {A = ℕ} (get_or (replicate n 0) i 0) 0
 zeros zero i = refl

@@ -2,7 +2,8 @@
 -- its home, the slot at which it is cached, and whether it is dirty.
 use Rattle.std.specs.Prelude.{◌≡◌, ℕ, ◌+◌, ◌-◌, ◌^◌, ◌<◌, ◌≤◌, Bool, true, false, ◌==◌, if◌then◌else◌, List, [], length, slice_index, slice_index_or, Option, None}
 use Rattle.av_base.specs.declared.slot.Slot.{Slot}
-use Rattle.av_base.specs.Words.{how_many, within, numbers, with_at}
+use Rattle.av_base.specs.Words.{how_many, within, with_at}
+use Rattle.std.specs.List.{range_with_len}
 
 -- the value of `Frames`: a value has to be data, so each is a list by frame
 pub record Store : Type 0 where
@@ -14,7 +15,7 @@ pub record Store : Type 0 where
   pub slots : List (Option Slot)
 
 -- the same as functions of the frame's number; of bytes, also of the place in the page
-pub record Seen : Type 0 where
+pub record Shown : Type 0 where
   pub count : ℕ
   pub free : List ℕ
   pub bytes : ℕ → ℕ → ℕ
@@ -24,8 +25,8 @@ pub record Seen : Type 0 where
   pub slot : ℕ → Option Slot
 
 -- what the lists of a store say of each frame
-abbrev pub seen : Store → Seen
-seen s = record {
+abbrev pub seen : Store → Shown
+shown s = record {
   count = length s.bytes;
   free = s.free;
   bytes = λ f i. slice_index (slice_index_or s.bytes f []) i;
@@ -36,10 +37,10 @@ seen s = record {
 }
 
 -- n frames that are all free, full of zeros, and named by nothing
-abbrev pub fresh : ℕ → Seen
+abbrev pub fresh : ℕ → Shown
 fresh n = record {
   count = n;
-  free = numbers 0 n;
+  free = range_with_len 0 n;
   bytes = λ f i. 0;
   maps = λ f. 0;
   home = λ f. None;
@@ -53,19 +54,19 @@ overlaid at piece bytes i =
     if within at (length piece) i then slice_index piece (i - at) else bytes i
 
 -- what is seen, with one field of one frame changed
-abbrev pub with_bytes : ℕ → (ℕ → ℕ) → Seen → Seen
+abbrev pub with_bytes : ℕ → (ℕ → ℕ) → Shown → Shown
 with_bytes f bytes s = record s { bytes = with_at f bytes s.bytes }
 
-abbrev pub with_maps : ℕ → ℕ → Seen → Seen
+abbrev pub with_maps : ℕ → ℕ → Shown → Shown
 with_maps f maps s = record s { maps = with_at f maps s.maps }
 
-abbrev pub with_home : ℕ → Option (ℕ × ℕ) → Seen → Seen
+abbrev pub with_home : ℕ → Option (ℕ × ℕ) → Shown → Shown
 with_home f home s = record s { home = with_at f home s.home }
 
-abbrev pub with_dirty : ℕ → Bool → Seen → Seen
+abbrev pub with_dirty : ℕ → Bool → Shown → Shown
 with_dirty f dirty s = record s { dirty = with_at f dirty s.dirty }
 
-abbrev pub with_slot : ℕ → Option Slot → Seen → Seen
+abbrev pub with_slot : ℕ → Option Slot → Shown → Shown
 with_slot f slot s = record s { slot = with_at f slot s.slot }
 
 -- the test that a flag stands

@@ -9,9 +9,10 @@
 mod pages;
 
 ghost use Rattle.std.specs.Prelude.{◌≡◌, ℕ, ◌+◌, ◌<◌, ◌≤◌, ◌^◌, ◌-◌, ◌∷◌, ◌==◌, [], length, slice_index, MatchOption, IfOk, true, false, replicate, not};
-ghost use Rattle.av_frames.specs.Store.{seen, fresh, overlaid, with_bytes, with_maps, with_home, with_dirty, with_slot};
+ghost use Rattle.av_frames.specs.Store.{shown, fresh, overlaid, with_bytes, with_maps, with_home, with_dirty, with_slot};
 ghost use Rattle.av_base.specs.Page.{page_size};
-ghost use Rattle.av_base.specs.Words.{is_in, how_many, numbers, with_at};
+ghost use Rattle.av_base.specs.Words.{is_in, how_many, with_at};
+ghost use Rattle.std.specs.List.{range_with_len};
 ghost use Rattle.std.specs.VecDeque.{deque_len, deque_capacity};
 
 use crate::pages::{Pages, SIZE};
@@ -57,7 +58,7 @@ impl Model for Frames {
 impl Frames {
     /// This many frames, all free in order of their numbers, full of zeros, and named by no entry.
     pub fn new(alloc: Global, count: u32) -> Result<Frames, AllocError>
-        ensures { IfOk result (λ frames. seen frames ≡ fresh count) }
+        ensures { IfOk result (λ frames. shown frames ≡ fresh count) }
     {
         let len = count as usize;
         Ok(Frames {
@@ -74,10 +75,10 @@ impl Frames {
     /// Takes the first free frame. None exactly where no frame is free.
     pub fn take(&mut self) -> Option<u32>
         ensures { MatchOption result
-            ((self.old.free ≡ []) × (seen self.new ≡ seen self.old))
+            ((self.old.free ≡ []) × (shown self.new ≡ shown self.old))
             (λ f. (self.old.free ≡ f ∷ self.new.free)
-            × (f < (seen self.old).count) × (is_in f self.new.free ≡ false)
-            × (seen self.new ≡ record (seen self.old) { free = self.new.free })) }
+            × (f < (shown self.old).count) × (is_in f self.new.free ≡ false)
+            × (shown self.new ≡ record (shown self.old) { free = self.new.free })) }
     {
         let frame = self.free.pop_front()?;
         self.used[frame as usize] = true;
@@ -86,9 +87,9 @@ impl Frames {
 
     /// Puts a frame in front of the free ones.
     pub fn give(&mut self, frame: u32)
-        requires in_range { frame < (seen self.old).count }
+        requires in_range { frame < (shown self.old).count }
         requires not_free { is_in frame self.old.free ≡ false }
-        ensures { seen self.new ≡ record (seen self.old) { free = frame ∷ self.old.free } }
+        ensures { shown self.new ≡ record (shown self.old) { free = frame ∷ self.old.free } }
     {
         self.used[frame as usize] = false;
         self.free.push_front_reserved(frame);
@@ -103,74 +104,74 @@ impl Frames {
 
     /// How many entries name the frame.
     pub fn maps(&self, frame: u32) -> u64
-        requires { frame < (seen self.now).count }
-        ensures { result ≡ (seen self.now).maps frame }
+        requires { frame < (shown self.now).count }
+        ensures { result ≡ (shown self.now).maps frame }
     {
         self.maps[frame as usize]
     }
 
     /// One more entry names the frame.
     pub fn map_up(&mut self, frame: u32)
-        requires in_range { frame < (seen self.old).count }
-        requires room { (seen self.old).maps frame < 2 ^ 64 - 1 }
-        ensures { seen self.new ≡ with_maps frame ((seen self.old).maps frame + 1) (seen self.old) }
+        requires in_range { frame < (shown self.old).count }
+        requires room { (shown self.old).maps frame < 2 ^ 64 - 1 }
+        ensures { shown self.new ≡ with_maps frame ((shown self.old).maps frame + 1) (shown self.old) }
     {
         self.maps[frame as usize] += 1;
     }
 
     /// One entry fewer names the frame.
     pub fn map_down(&mut self, frame: u32)
-        requires in_range { frame < (seen self.old).count }
-        requires some { 0 < (seen self.old).maps frame }
-        ensures { seen self.new ≡ with_maps frame ((seen self.old).maps frame - 1) (seen self.old) }
+        requires in_range { frame < (shown self.old).count }
+        requires some { 0 < (shown self.old).maps frame }
+        ensures { shown self.new ≡ with_maps frame ((shown self.old).maps frame - 1) (shown self.old) }
     {
         self.maps[frame as usize] -= 1;
     }
 
     /// Where the entries of the frame are found: an anon_vma's number, and the linear index there.
     pub fn home(&self, frame: u32) -> Option<(u64, u64)>
-        requires { frame < (seen self.now).count }
-        ensures { result ≡ (seen self.now).home frame }
+        requires { frame < (shown self.now).count }
+        ensures { result ≡ (shown self.now).home frame }
     {
         self.homes[frame as usize]
     }
 
     /// Sets the frame's home.
     pub fn set_home(&mut self, frame: u32, home: Option<(u64, u64)>)
-        requires { frame < (seen self.old).count }
-        ensures { seen self.new ≡ with_home frame home (seen self.old) }
+        requires { frame < (shown self.old).count }
+        ensures { shown self.new ≡ with_home frame home (shown self.old) }
     {
         self.homes[frame as usize] = home;
     }
 
     /// Whether the frame's bytes may differ from those in its slot.
     pub fn dirty(&self, frame: u32) -> bool
-        requires { frame < (seen self.now).count }
-        ensures { result ≡ (seen self.now).dirty frame }
+        requires { frame < (shown self.now).count }
+        ensures { result ≡ (shown self.now).dirty frame }
     {
         self.dirty[frame as usize]
     }
 
     /// Sets whether they may differ.
     pub fn set_dirty(&mut self, frame: u32, dirty: bool)
-        requires { frame < (seen self.old).count }
-        ensures { seen self.new ≡ with_dirty frame dirty (seen self.old) }
+        requires { frame < (shown self.old).count }
+        ensures { shown self.new ≡ with_dirty frame dirty (shown self.old) }
     {
         self.dirty[frame as usize] = dirty;
     }
 
     /// The slot at which the frame is in the swap cache, if it is there.
     pub fn slot(&self, frame: u32) -> Option<Slot>
-        requires { frame < (seen self.now).count }
-        ensures { result ≡ (seen self.now).slot frame }
+        requires { frame < (shown self.now).count }
+        ensures { result ≡ (shown self.now).slot frame }
     {
         self.slots[frame as usize]
     }
 
     /// Sets that slot.
     pub fn set_slot(&mut self, frame: u32, slot: Option<Slot>)
-        requires { frame < (seen self.old).count }
-        ensures { seen self.new ≡ with_slot frame slot (seen self.old) }
+        requires { frame < (shown self.old).count }
+        ensures { shown self.new ≡ with_slot frame slot (shown self.old) }
     {
         self.slots[frame as usize] = slot;
     }
@@ -180,15 +181,15 @@ impl Frames {
         ensures count { result ≡ length self.now.free }
         // The free list has each free frame once.
         ensures once { (f : ℕ) → how_many (λ g. f == g) self.now.free ≤ 1 }
-        ensures in_range { (f : ℕ) → is_in f self.now.free ≡ true → f < (seen self.now).count }
-        ensures within { result ≤ (seen self.now).count }
+        ensures in_range { (f : ℕ) → is_in f self.now.free ≡ true → f < (shown self.now).count }
+        ensures within { result ≤ (shown self.now).count }
     {
         self.free.len() as u32
     }
 
     /// Whether a frame is free.
     pub fn is_free(&self, frame: u32) -> bool
-        requires { frame < (seen self.now).count }
+        requires { frame < (shown self.now).count }
         ensures { result ≡ is_in frame self.now.free }
     {
         !self.used[frame as usize]
@@ -196,45 +197,45 @@ impl Frames {
 
     /// The bytes of a frame.
     pub fn bytes(&self, frame: u32) -> &[u8]
-        requires { frame < (seen self.now).count }
+        requires { frame < (shown self.now).count }
         ensures long { length result.now ≡ page_size }
-        ensures bytes { (i : ℕ) → slice_index result.now i ≡ (seen self.now).bytes frame i }
+        ensures bytes { (i : ℕ) → slice_index result.now i ≡ (shown self.now).bytes frame i }
     {
         self.bytes.get(frame as usize)
     }
 
     /// Writes a piece over a frame's bytes from `at` on.
     pub fn write_at(&mut self, frame: u32, at: usize, piece: &[u8])
-        requires in_range { frame < (seen self.old).count }
+        requires in_range { frame < (shown self.old).count }
         requires fits { at + length piece.now ≤ page_size }
-        ensures { seen self.new
+        ensures { shown self.new
             ≡ with_bytes frame
-            (overlaid at piece.now ((seen self.old).bytes frame)) (seen self.old) }
+            (overlaid at piece.now ((shown self.old).bytes frame)) (shown self.old) }
     {
         self.bytes.write_at(frame as usize, at, piece);
     }
 
     /// Copies the bytes of one frame to another.
     pub fn copy(&mut self, from: u32, to: u32)
-        requires { (from < (seen self.old).count) × (to < (seen self.old).count) }
-        ensures { seen self.new ≡ with_bytes to ((seen self.old).bytes from) (seen self.old) }
+        requires { (from < (shown self.old).count) × (to < (shown self.old).count) }
+        ensures { shown self.new ≡ with_bytes to ((shown self.old).bytes from) (shown self.old) }
     {
         self.bytes.copy(from as usize, to as usize);
     }
 
     /// Makes each byte of a frame zero.
     pub fn zero(&mut self, frame: u32)
-        requires { frame < (seen self.old).count }
-        ensures { seen self.new ≡ with_bytes frame (λ i. 0) (seen self.old) }
+        requires { frame < (shown self.old).count }
+        ensures { shown self.new ≡ with_bytes frame (λ i. 0) (shown self.old) }
     {
         self.bytes.put(frame as usize, [0; SIZE]);
     }
 
     /// Makes a frame's bytes those of a page, as it was read from a device.
     pub fn load(&mut self, frame: u32, page: &[u8])
-        requires in_range { frame < (seen self.old).count }
+        requires in_range { frame < (shown self.old).count }
         requires long { length page.now ≡ page_size }
-        ensures { seen self.new ≡ with_bytes frame (slice_index page.now) (seen self.old) }
+        ensures { shown self.new ≡ with_bytes frame (slice_index page.now) (shown self.old) }
     {
         self.bytes.put(frame as usize, page_of(page));
     }
@@ -263,11 +264,11 @@ fn fill<T: Copy>(alloc: Global, value: T, count: usize) -> Result<Vec<T>, AllocE
 #[tactic(auto, using(crate::proofs::Fresh::numbers_next))]
 fn all_numbers(alloc: Global, count: u32) -> Result<VecDeque<u32>, AllocError>
     ensures { IfOk result (λ q.
-        (q.items ≡ numbers 0 count) × (deque_len q ≡ count) × (count ≤ deque_capacity q)) }
+        (q.items ≡ range_with_len 0 count) × (deque_len q ≡ count) × (count ≤ deque_capacity q)) }
 {
-    let mut numbers = VecDeque::with_capacity(alloc, count as usize)?;
+    let mut range_with_len = VecDeque::with_capacity(alloc, count as usize)?;
     for i in 0..count {
-        numbers.push_back(i)?;
+        range_with_len.push_back(i)?;
     }
-    Ok(numbers)
+    Ok(range_with_len)
 }

@@ -3,7 +3,8 @@ use Rattle.std.proofs.Common.{◌≡◌, ℕ, ◌+◌, ◌*◌, ◌^◌, ◌<◌
 use Rattle.std.proofs.lemmas.Bool.{eqb-true, eqb-false, eq-eqb, ne_eqb, cases_lt, cases_order}
 use Rattle.std.proofs.Math.Pow.{pow_mono}
 use Rattle.std.proofs.Math.Nat.{mul-le-mul}
-use Rattle.av_arena.specs.Order.{AllOf, IsRising, with_entry, without_key, entry_at}
+use Rattle.av_arena.specs.Order.{IsRising, with_entry, without_key, entry_at}
+use Rattle.std.specs.List.{AllByRecursion}
 use Rattle.av_arena.proofs.Order.{rising_with, rising_without}
 use Rattle.av_arena.proofs.Shallow.{shallow_entries}
 use Rattle.av_interval.specs.declared.span.Span.{Span}
@@ -52,11 +53,11 @@ before_of x y p q h = elim (cases_order x.first y.first) [
   | inr (inr k) ↦ absurd (omega arith)
 ]
 
-all_after : (x : Span) (xs : List Span) → x.area < 2 ^ 64 → AllOf (λ y. y.area < 2 ^ 64) xs → AllOf (λ y. key x < key y) xs → AllAfter x xs
+all_after : (x : Span) (xs : List Span) → x.area < 2 ^ 64 → AllByRecursion (λ y. y.area < 2 ^ 64) xs → AllByRecursion (λ y. key x < key y) xs → AllAfter x xs
 all_after x [] p q h = tt
 all_after x (y ∷ xs) p q h = (before_of x y p q.0 h.0, all_after x xs p q.1 h.1)
 
-pub ordered : (xs : List Span) → AllOf (λ y. y.area < 2 ^ 64) xs → IsRising key xs → IsOrdered xs
+pub ordered : (xs : List Span) → AllByRecursion (λ y. y.area < 2 ^ 64) xs → IsRising key xs → IsOrdered xs
 ordered [] p h = tt
 ordered (x ∷ xs) p h = (all_after x xs p.0 p.1 h.0, ordered xs p.1 h.1)
 
@@ -68,22 +69,22 @@ same_area x y p q e = elim (cases_order x.first y.first) [
   | inr (inr d) ↦ absurd (omega arith)
 ]
 
-new_key : (x : Span) (xs : List Span) → x.area < 2 ^ 64 → AllOf (λ y. y.area < 2 ^ 64) xs → IsNew x.area xs → entry_at key (key x) xs ≡ None
+new_key : (x : Span) (xs : List Span) → x.area < 2 ^ 64 → AllByRecursion (λ y. y.area < 2 ^ 64) xs → IsNew x.area xs → entry_at key (key x) xs ≡ None
 new_key x [] p q n = refl
 new_key x (y ∷ xs) p q n = rw (ne_eqb (key y) (key x) (λ e. n.0 (same_area y x q.0 p e))) (new_key x xs p q.1 n.1)
 
 module _ (P : Span → Type 0) where
-  pub all_with : (x : Span) (t : List Span) → P x → AllOf P t → AllOf P (with_entry key x t)
+  pub all_with : (x : Span) (t : List Span) → P x → AllByRecursion P t → AllByRecursion P (with_entry key x t)
   all_with x [] p a = (p, tt)
   all_with x (y ∷ t) p a =
-      elim (ltb (key x) (key y)) as (λ b. AllOf P (cond b (x ∷ y ∷ t) (y ∷ cond (ltb (key y) (key x)) (with_entry key x t) t))) [
+      elim (ltb (key x) (key y)) as (λ b. AllByRecursion P (cond b (x ∷ y ∷ t) (y ∷ cond (ltb (key y) (key x)) (with_entry key x t) t))) [
         | true ↦ (p, a)
-        | false ↦ (a.0, elim (ltb (key y) (key x)) as (λ b. AllOf P (cond b (with_entry key x t) t)) [ true ↦ all_with x t p a.1 | false ↦ a.1 ])
+        | false ↦ (a.0, elim (ltb (key y) (key x)) as (λ b. AllByRecursion P (cond b (with_entry key x t) t)) [ true ↦ all_with x t p a.1 | false ↦ a.1 ])
       ]
 
-  pub all_without : (k : ℕ) (t : List Span) → AllOf P t → AllOf P (without_key key k t)
+  pub all_without : (k : ℕ) (t : List Span) → AllByRecursion P t → AllByRecursion P (without_key key k t)
   all_without k [] a = tt
-  all_without k (y ∷ t) a = elim (eqb (key y) k) as (λ b. AllOf P (cond b t (y ∷ without_key key k t))) [ true ↦ a.1 | false ↦ (a.0, all_without k t a.1) ]
+  all_without k (y ∷ t) a = elim (eqb (key y) k) as (λ b. AllByRecursion P (cond b t (y ∷ without_key key k t))) [ true ↦ a.1 | false ↦ (a.0, all_without k t a.1) ]
 
 -- lengths
 pub length_with : (x : Span) (t : List Span) → entry_at key (key x) t ≡ None → length (with_entry key x t) ≡ length t + 1
@@ -111,7 +112,7 @@ length_without k (y ∷ t) h = elim (eqb (key y) k) as (λ b. IsSome (cond b (So
 pub record IsChange (s : Store) (r : ℕ → Option Root) (s' : Store) (a : ℕ) (o : Option Root) : Type 0 where
   pub held : IsHeld key 0 max last_of s' (top_of o)
   pub rising : IsRising key (entries (tree_at s' (top_of o)))
-  pub fits : AllOf (λ x. x.area < 2 ^ 64) (entries (tree_at s' (top_of o)))
+  pub fits : AllByRecursion (λ x. x.area < 2 ^ 64) (entries (tree_at s' (top_of o)))
   pub len : len_of o ≡ length (entries (tree_at s' (top_of o)))
   pub kept : (b j : ℕ) → (a ≡ b → ⊥) → 1 ≤ count j (tree_at s (top_of (r b))) → s' j ≡ s j
   pub apart : (b j : ℕ) → (a ≡ b → ⊥) → 1 ≤ count j (tree_at s (top_of (r b))) → count j (tree_at s' (top_of o)) ≡ 0
@@ -157,7 +158,7 @@ module _ (s : Store) (r : ℕ → Option Root) (f : IsForest s r) (s' : Store) (
     ];
     held = by_cases (λ b p. IsHeld key 0 max last_of s' (top_of p)) (λ b e. c.held) (λ b n. (other b n).held);
     rising = by_cases (λ b p. IsRising key (entries (tree_at s' (top_of p)))) (λ b e. c.rising) (λ b n. rw (other b n).tree (f.rising b));
-    fits = by_cases (λ b p. AllOf (λ x. x.area < 2 ^ 64) (entries (tree_at s' (top_of p)))) (λ b e. c.fits) (λ b n. rw (other b n).tree (f.fits b));
+    fits = by_cases (λ b p. AllByRecursion (λ x. x.area < 2 ^ 64) (entries (tree_at s' (top_of p)))) (λ b e. c.fits) (λ b n. rw (other b n).tree (f.fits b));
     len = by_cases (λ b p. len_of p ≡ length (entries (tree_at s' (top_of p)))) (λ b e. c.len) (λ b n. rw (other b n).tree (f.len b));
     apart = λ b d j. by_cases (λ b p. (b ≡ d → ⊥) → count j (tree_at s' (top_of p)) + count j (tree_at s' (top_of (with_at a o r d))) ≤ 1)
         (λ b e. by_cases (λ d q. (b ≡ d → ⊥) → count j (tree_at s' (top_of o)) + count j (tree_at s' (top_of q)) ≤ 1)

@@ -3,7 +3,8 @@ use Rattle.std.specs.Prelude.{◌≡◌, ℕ, ◌+◌, ◌<◌, ◌≤◌, ◌^�
 use Rattle.std.specs.Map.{lookup}
 use Rattle.std.specs.Ordering.{nat_cmp}
 use Rattle.std.specs.BTreeMap.{is_at}
-use Rattle.av_arena.specs.Order.{AllOf, IsRising}
+use Rattle.av_arena.specs.Order.{IsRising}
+use Rattle.std.specs.List.{AllByRecursion}
 use Rattle.av_arena.specs.Tree as arena_tree
 use Rattle.av_arena.specs.Tree.{Fork, count_at, entries, entries_at, height, tree_at, tree_or_leaf, IsHeld}
 use Rattle.av_arena.specs.declared.link.Link.{Link}
@@ -51,7 +52,7 @@ height_at v anon = height (tree_of v anon)
 
 -- no triple is of this area
 abbrev pub IsNew : ℕ → List Span → Type 0
-IsNew area xs = AllOf (λ x. x.area ≡ area → ⊥) xs
+IsNew area xs = AllByRecursion (λ x. x.area ≡ area → ⊥) xs
 
 -- an anon_vma has the node j in its tree
 pub record IsOfTree (s : Store) (r : ℕ → Option Root) (j : ℕ) : Type 0 where
@@ -62,7 +63,7 @@ pub record IsOfTree (s : Store) (r : ℕ → Option Root) (j : ℕ) : Type 0 whe
 pub record IsForest (s : Store) (r : ℕ → Option Root) : Type 0 where
   pub held : (a : ℕ) → IsHeld key 0 max last_of s (top_of (r a))
   pub rising : (a : ℕ) → IsRising key (entries_at s (top_of (r a)))
-  pub fits : (a : ℕ) → AllOf (λ x. x.area < 2 ^ 64) (entries_at s (top_of (r a)))
+  pub fits : (a : ℕ) → AllByRecursion (λ x. x.area < 2 ^ 64) (entries_at s (top_of (r a)))
   pub len : (a : ℕ) → len_of (r a) ≡ length (entries_at s (top_of (r a)))
   pub apart : (a b j : ℕ) → (a ≡ b → ⊥) →
       count_at s (top_of (r a)) j + count_at s (top_of (r b)) j ≤ 1

@@ -2,17 +2,17 @@
 use Rattle.std.proofs.Common.{◌≡◌, ℕ, ◌+◌, ◌-◌, ◌*◌, ◌/◌, ◌%◌, ◌<◌, ◌≤◌, ◌==◌, suc, zero, Bool, false, cond, [], ◌∷◌, ◌++◌, map, sym, ap, subst, ◌∙◌, arith}
 use Rattle.std.proofs.lemmas.Bool.Decides.{nat_tests}
 use Rattle.std.proofs.lemmas.List.{map-append}
-use Rattle.av_base.specs.Words.{numbers}
+use Rattle.std.specs.List.{range_with_len}
 use Rattle.av_plain.specs.Access.{pages_of_access}
 
-pub numbers-append : (a c d : ℕ) → numbers a (c + d) ≡ numbers a c ++ numbers (a + c) d
-numbers-append a zero d = (λ i. numbers a (none d i)) ∙ ap (λ b. numbers b d) (let same : a ≡ a + 0 = omega arith in same)
+pub numbers-append : (a c d : ℕ) → range_with_len a (c + d) ≡ range_with_len a c ++ range_with_len (a + c) d
+numbers-append a zero d = (λ i. range_with_len a (none d i)) ∙ ap (λ b. range_with_len b d) (let same : a ≡ a + 0 = omega arith in same)
   where
     none : (d : ℕ) → 0 + d ≡ d
     none d = omega arith
 numbers-append a (suc c) d =
-    ap (numbers a) (let next : suc c + d ≡ suc (c + d) = omega arith in next)
-    ∙ ap (λ ns. a ∷ ns) (numbers-append (a + 1) c d ∙ ap (λ b. numbers (a + 1) c ++ numbers b d) (let same : (a + 1) + c ≡ a + suc c = omega arith in same))
+    ap (range_with_len a) (let next : suc c + d ≡ suc (c + d) = omega arith in next)
+    ∙ ap (λ ns. a ∷ ns) (numbers-append (a + 1) c d ∙ ap (λ b. range_with_len (a + 1) c ++ range_with_len b d) (let same : (a + 1) + c ≡ a + suc c = omega arith in same))
 
 -- how many pages n bytes from a on touch
 abbrev pub touches : ℕ → ℕ → ℕ
@@ -50,18 +50,18 @@ pub touched-one : (write : Bool) (a k m page at : ℕ) → 4096 * page + at ≡ 
     → pages_of_access write a (k + m) ≡ pages_of_access write a k ++ (write, page) ∷ []
 touched-one write a k m page at is small some begins =
     ap (map (λ page. (write, page)))
-    (ap (numbers (a / 4096)) (one_more a k m page at is small some begins) ∙ numbers-append (a / 4096) (touches a k) 1
-    ∙ ap (λ b. numbers (a / 4096) (touches a k) ++ b ∷ []) (sym (pages_before a k page at is (omega (arith, small, some)) begins)))
-    ∙ map-append (λ page. (write, page)) (numbers (a / 4096) (touches a k)) (page ∷ [])
+    (ap (range_with_len (a / 4096)) (one_more a k m page at is small some begins) ∙ numbers-append (a / 4096) (touches a k) 1
+    ∙ ap (λ b. range_with_len (a / 4096) (touches a k) ++ b ∷ []) (sym (pages_before a k page at is (omega (arith, small, some)) begins)))
+    ∙ map-append (λ page. (write, page)) (range_with_len (a / 4096) (touches a k)) (page ∷ [])
 
 pub touched-more : (write : Bool) (a k n page at : ℕ) → 4096 * page + at ≡ a + k → at < 4096 → k < n → (1 ≤ k → at ≡ 0)
     → pages_of_access write a n ≡ pages_of_access write a k ++ (write, page) ∷ map (λ page. (write, page))
-    (numbers (page + 1) (touches a n - (touches a k + 1)))
+    (range_with_len (page + 1) (touches a n - (touches a k + 1)))
 touched-more write a k n page at is small less begins =
     let at_least : touches a k + 1 ≤ touches a n = subst (λ x. touches a k + 1 ≤ touches a x) (let same : k + (n - k) ≡ n = omega (arith, less) in
     same) (some_more a k (n - k) page at is small (omega (arith, less)) begins) in
     let split : touches a n ≡ touches a k + suc (touches a n - (touches a k + 1)) = omega (arith, at_least) in
     ap (map (λ page. (write, page)))
-    (ap (numbers (a / 4096)) split ∙ numbers-append (a / 4096) (touches a k) (suc (touches a n - (touches a k + 1)))
-    ∙ ap (λ b. numbers (a / 4096) (touches a k) ++ b ∷ numbers (b + 1) (touches a n - (touches a k + 1))) (sym (pages_before a k page at is small begins)))
-    ∙ map-append (λ page. (write, page)) (numbers (a / 4096) (touches a k)) (page ∷ numbers (page + 1) (touches a n - (touches a k + 1)))
+    (ap (range_with_len (a / 4096)) split ∙ numbers-append (a / 4096) (touches a k) (suc (touches a n - (touches a k + 1)))
+    ∙ ap (λ b. range_with_len (a / 4096) (touches a k) ++ b ∷ range_with_len (b + 1) (touches a n - (touches a k + 1))) (sym (pages_before a k page at is small begins)))
+    ∙ map-append (λ page. (write, page)) (range_with_len (a / 4096) (touches a k)) (page ∷ range_with_len (page + 1) (touches a n - (touches a k + 1)))

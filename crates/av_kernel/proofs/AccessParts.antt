@@ -2,7 +2,7 @@
 use Rattle.std.proofs.Common.{◌≡◌, ℕ, ◌+◌, ◌-◌, ◌*◌, ◌%◌, ◌<◌, ◌≤◌, Bool, true, false, List, [], ◌∷◌, ◌++◌, map, length, Option, Some, None, inl, inr, zero, suc, refl, sym, ap, subst, ◌∙◌, arith}
 use Rattle.std.proofs.lemmas.List.{append-nil, append_assoc}
 use Rattle.av_trace.specs.declared.note.Note.{Note}
-use Rattle.av_base.specs.Words.{numbers}
+use Rattle.std.specs.List.{range_with_len}
 use Rattle.av_plain.specs.World.{World, lives, pages}
 use Rattle.av_plain.specs.Ledger.{Ledger, Setting}
 use Rattle.av_plain.specs.Event.{Event, Used, after_all, notes_of, note_events}
@@ -134,7 +134,7 @@ module _ (s : State) (mid new : Mem) (write : Bool) (p a k page at : ℕ) (xs ys
     end = Stopped page (stop_of stop);
     accesses = subst (λ pages. Accesses (setting (count new)) s.world s.ledger p pages (h.events ++ page_events write (p, page) g.added (Some (stop_of stop)))
         (Stopped page (stop_of stop))) (sym (touched-more write a k n page at behind.is behind.small less behind.begins))
-        (accesses-both ((write, page) ∷ map (λ page. (write, page)) (numbers (page + 1) (touches a n - (touches a k + 1)))) _ _
+        (accesses-both ((write, page) ∷ map (λ page. (write, page)) (range_with_len (page + 1) (touches a n - (touches a k + 1)))) _ _
         (one_stopped _ h.next.world h.next.ledger write p page _ g.added (stop_of stop) g.touches));
     is_end = (page, refl, served k behind.is behind.begins, less);
     next = g.next;

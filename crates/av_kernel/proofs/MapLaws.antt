@@ -6,7 +6,7 @@ use Rattle.std.specs.Prelude.{MatchOption, OnOk}
 use Rattle.av_base.specs.declared.prot.Prot.{Prot}
 use Rattle.av_base.specs.Words.{with_at, within}
 use Rattle.av_vmatree.specs.Spans.{IsFree}
-use Rattle.av_merge.specs.Pages.{IsReached}
+use Rattle.av_merge.specs.Pages.{GoesTo}
 use Rattle.av_trace.specs.declared.command.Command.{Command}
 use Rattle.av_trace.specs.declared.command.Command.TheVariants.{Mmap, Munmap, Mprotect}
 use Rattle.av_trace.specs.declared.place.Place.{Place}
@@ -462,7 +462,7 @@ module _ (old : Mem) (s : State) (p len : ℕ) (prot : Prot) (place : Place) (ke
 
 module _ (old : Mem) (spaces : AllSpaces) (anons : AnonSet) (s : State) (p a len reached : ℕ) (prot : Prot) (keeps : Keeps old s)
     (alive : is_some (ranges_of old.spaces.processes p) ≡ true) (passed : refusal ((not (is_on_page a), Einval) ∷ (wraps a len, Enomem) ∷ []) ≡ None)
-    (reaches : IsReached (is_taken old.spaces.processes p) (page_of a) (page_of a + pages_of len) reached)
+    (reaches : GoesTo (is_taken old.spaces.processes p) (page_of a) (page_of a + pages_of len) reached)
     (given : HasProts old.spaces.processes spaces.processes p (set_on (page_of a) (reached - page_of a) (Some prot)
     (prot_of (ranges_of old.spaces.processes p))))
     (areas : HasAreas old.spaces.processes spaces.processes p (pages_changed (lengths old.spaces.areas old.anons) (to_prot prot) (page_of a)

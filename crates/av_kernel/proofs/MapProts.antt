@@ -9,11 +9,11 @@ use Rattle.av_base.specs.Words.{within}
 use Rattle.av_vma.specs.declared.area.Area.{Area}
 use Rattle.av_vmatree.specs.Spans.{IsFree}
 use Rattle.av_vma.specs.Gap.{IsRoom}
-use Rattle.av_vma.specs.Pages.{home_of, Lengths, AreLaid, Pages, cut_at, without_range, with_area, joined_around, fresh_area, after_map, pages_in, after_unmap, pages_changed, to_prot}
+use Rattle.av_vma.specs.Pages.{home_of, Lengths, AreLaid, Pages, split_at, without_range, with_area, joined_around, fresh_area, after_map, pages_in, after_unmap, pages_changed, to_prot}
 use Rattle.av_merge.specs.Mapping.{Mapping, mapping, mapping_in, mapping_with, IsRemapped}
-use Rattle.av_merge.specs.Pages.{IsReached}
+use Rattle.av_merge.specs.Pages.{GoesTo}
 use Rattle.av_vma.proofs.Laid.{fresh_has, has_area, laid_fresh}
-use Rattle.av_merge.proofs.Mappings.{around_maps, cut_out_maps, placed_maps}
+use Rattle.av_merge.proofs.PlacingMaps.{around_maps, split_out_maps, placed_maps}
 use Rattle.av_spaces.specs.Spaces.{Spaces, pages_of, is_taken, AreThese, IsChanged}
 use Rattle.av_spaces.proofs.Rising.{laid}
 use Rattle.av_plain.specs.Stands.{prot_of}
@@ -47,12 +47,12 @@ many from n = omega arith
 
 -- ---- unmap
 
-prots_cut : (on : Pages) (from n : ℕ) (new : Pages) → AreLaid on
-    → ((page : ℕ) → new page ≡ without_range from (from + n) (cut_at (from + n) (cut_at from on)) page)
+prots_split : (on : Pages) (from n : ℕ) (new : Pages) → AreLaid on
+    → ((page : ℕ) → new page ≡ without_range from (from + n) (split_at (from + n) (split_at from on)) page)
     → (page : ℕ) → prots_on new page ≡ set_on from n None (prots_on on) page
-prots_cut on from n new laid is page =
+prots_split on from n new laid is page =
     prots_mapped new page
-    ∙ ap (option_map prot_mapped) (ap (option_map (mapping_in page)) (is page) ∙ cut_out_maps from (from + n) on laid page
+    ∙ ap (option_map prot_mapped) (ap (option_map (mapping_in page)) (is page) ∙ split_out_maps from (from + n) on laid page
     ∙ ap (λ k. cond (within from k page) None (mapping on page)) (many from n))
     ∙ elim (within from n page) as (λ b. option_map prot_mapped (cond b None (mapping on page)) ≡ cond b None (prots_on on page)) [
       | true ↦ refl
@@ -61,7 +61,7 @@ prots_cut on from n new laid is page =
 
 -- ---- protect
 
-prots_protected : (on : Pages) (from to past : ℕ) (prot : Prot) (new : Pages) → IsReached (has_area on) from to past
+prots_protected : (on : Pages) (from to past : ℕ) (prot : Prot) (new : Pages) → GoesTo (has_area on) from to past
     → IsRemapped from past (to_prot prot) on new
     → (page : ℕ) → prots_on new page ≡ set_on from (past - from) (Some prot) (prots_on on) page
 prots_protected on from to past prot new reached is page =
@@ -136,7 +136,7 @@ as_ranges s p from n page prot = ap (cond (within from n page) prot) (sym (prots
 pub unmapped-prots : (s t : Spaces) (p from n : ℕ) → IsChanged s t p (AreThese (after_unmap from (from + n) (pages_of s p))) →
     HasProts s t p (set_on from n None (prot_of (ranges_of s p)))
 unmapped-prots s t p from n h = has_prots s t p (AreThese (after_unmap from (from + n) (pages_of s p))) (set_on from n None (prot_of (ranges_of s p))) h
-    (λ page. prots_cut (pages_of s p) from n (pages_of t p) (laid s p h.were_rising) h.pages page ∙ as_ranges s p from n page None)
+    (λ page. prots_split (pages_of s p) from n (pages_of t p) (laid s p h.were_rising) h.pages page ∙ as_ranges s p from n page None)
 
 pub mapped-prots : (len : Lengths) (s t : Spaces) (p from n : ℕ) (prot : Prot) → 1 ≤ n → low_page ≤ from → from + n ≤ top_page →
     IsFree (is_taken s p) from (from + n)
@@ -146,7 +146,7 @@ mapped-prots len s t p from n prot some low high free h = has_prots s t p (AreTh
     (λ page. prots_placed len p (pages_of s p) from n prot (pages_of t p) (laid s p h.were_rising) some low high free h.pages page
     ∙ as_ranges s p from n page (Some prot))
 
-pub protected-prots : (len : Lengths) (s t : Spaces) (p from to past : ℕ) (prot : Prot) → IsReached (is_taken s p) from to past →
+pub protected-prots : (len : Lengths) (s t : Spaces) (p from to past : ℕ) (prot : Prot) → GoesTo (is_taken s p) from to past →
     IsChanged s t p (AreThese (pages_changed len (to_prot prot) from (past - from) (pages_of s p))) →
     IsRemapped from past (to_prot prot) (pages_of s p) (pages_of t p)
     → HasProts s t p (set_on from (past - from) (Some prot) (prot_of (ranges_of s p)))

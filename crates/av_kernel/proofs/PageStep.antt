@@ -1,8 +1,9 @@
 -- A page that has been touched, and then read or written, or not served: what the kernel stands for after it.
 use Rattle.std.proofs.Common.{◌≡◌, ℕ, ◌+◌, ◌*◌, ◌/◌, ◌%◌, ◌<◌, ◌≤◌, Bool, true, false, cond, not, List, [], ◌∷◌, map, length, Option, Some, None, inl, inr, refl, sym, ap, subst, ◌∙◌, arith, ◌==◌, is_some, append-nil, if◌then◌else◌}
 use Rattle.std.proofs.lemmas.Bool.Decides.{nat_tests}
-use Rattle.av_base.specs.Words.{numbers, with_at}
-use Rattle.av_frames.specs.Store.{Seen, seen, overlaid}
+use Rattle.av_base.specs.Words.{with_at}
+use Rattle.std.specs.List.{range_with_len}
+use Rattle.av_frames.specs.Store.{Shown, shown, overlaid}
 use Rattle.av_trace.specs.declared.note.Note.{Note}
 use Rattle.av_trace.specs.declared.reply.Errno.TheVariants.{Esrch}
 use Rattle.av_trace.specs.declared.reply.Answer.TheVariants.{Done}
@@ -47,7 +48,7 @@ use Rattle.av_kernel.proofs.PageWritten.{over, written_now, stored_is}
 -- the page of a piece that ends within it
 one_page : (write : Bool) (page at n : ℕ) → 1 ≤ n → at + n ≤ 4096 → pages_of_access write (4096 * page + at) n ≡ (write, page) ∷ []
 one_page write page at n some fits =
-    ap (λ k. map (λ page. (write, page)) (numbers (page_of (4096 * page + at)) k)) (not_none ∙ one) ∙ ap (λ q. (write, q) ∷ [])
+    ap (λ k. map (λ page. (write, page)) (range_with_len (page_of (4096 * page + at)) k)) (not_none ∙ one) ∙ ap (λ q. (write, q) ∷ [])
     (let q : (4096 * page + at) / 4096 ≡ page = omega (arith, some, fits) in q)
   where
     not_none : (if n == 0 then 0 else pages_of ((4096 * page + at) % 4096 + n)) ≡ pages_of ((4096 * page + at) % 4096 + n)
@@ -208,7 +209,7 @@ module _ (s : State) (old : Mem) (p page at : ℕ) (piece : List ℕ) (before no
   -- it was served to a write, and then the piece was laid over the frame's bytes
   pub written_served : (mid new : Mem) (f : ℕ) → count mid ≡ count old → lives s.world p ≡ true → 1 ≤ length piece → at + length piece ≤ 4096 →
       IsTouched s mid true (p, page) before now (Ready f)
-      → seen new.frames ≡ record (seen mid.frames) { bytes = with_at f (overlaid at piece ((seen mid.frames).bytes f)) (seen mid.frames).bytes } →
+      → shown new.frames ≡ record (shown mid.frames) { bytes = with_at f (overlaid at piece ((shown mid.frames).bytes f)) (shown mid.frames).bytes } →
       new.tables ≡ mid.tables → new.spaces ≡ mid.spaces → new.anons ≡ mid.anons
       → IsPageStep s new true p page at piece before now None
   written_served mid new f same alive some fits t frames tables spaces anons =
@@ -223,11 +224,11 @@ module _ (s : State) (old : Mem) (p page at : ℕ) (piece : List ℕ) (before no
       let parts' : Parts m (view new) (after_write s.world p (4096 * page + at) piece) l =
       subst (λ w. Parts m (view new) w l) (sym (stored_is s.world p (4096 * page + at) piece some))
       (subst (λ v. Parts m v (set_process s.world p (with_bytes (pages s.world p) (4096 * page + at) piece)) l) (sym view_is) parts) in
-      let count_is : count mid ≡ count new = sym (ap (λ (s : Seen). s.count) frames) in
+      let count_is : count mid ≡ count new = sym (ap (λ (s : Shown). s.count) frames) in
       let touches = subst (λ n. Touches (setting n) s.world s.ledger true (p, page) t.added None) count_is t.touches in
       let chosen = subst (λ n. ChoosesAll (setting n) None s.ledger (page_events true (p, page) t.added None) s.free (free_of (view new))) count_is
       (subst (ChoosesAll (setting (count mid)) None s.ledger (page_events true (p, page) t.added None) s.free)
-      (sym (ap (λ (s : Seen). frames_free s.free) frames)) t.free) in
+      (sym (ap (λ (s : Shown). frames_free s.free) frames)) t.free) in
       record {
         added = t.added;
         notes = t.notes;
@@ -254,6 +255,6 @@ module _ (s : State) (old : Mem) (p page at : ℕ) (piece : List ℕ) (before no
             (record {
               areas = λ q o. ap (λ (x : AllSpaces). areas_on x.processes q o) spaces ∙ t.rmap.areas q o;
               anons = anons_still (view mid) (view new) rs.areas rs.anons (λ i. anons_of (spaces i) (anons i)) t.rmap.anons;
-              homes = λ g. ap (λ (x : Seen). x.home g) frames ∙ t.rmap.homes g;
+              homes = λ g. ap (λ (x : Shown). x.home g) frames ∙ t.rmap.homes g;
             }) t.reach;
       }

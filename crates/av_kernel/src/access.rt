@@ -17,7 +17,8 @@ use crate::refusal::Refusal;
 use av_base::PAGE_SIZE;
 use av_fault::Stop;
 use av_reclaim::Mem;
-use av_trace::{Answer, Bytes, Notes, Reply};
+use av_text::Bytes;
+use av_trace::{Answer, Notes, Reply};
 use std::alloc::{AllocError, Global};
 use std::mem::replace;
 

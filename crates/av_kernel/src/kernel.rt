@@ -1,6 +1,7 @@
 //! The kernel, one command at a time.
 
 ghost use Rattle.std.specs.Prelude.{◌≡◌, ◌<◌, ◌^◌, IfOk, OnOk, OnErr, true, false};
+ghost use Rattle.av_base.specs.Limits.{most_commands};
 ghost use Rattle.av_plain.specs.Device.{no_device};
 ghost use Rattle.av_plain.specs.Transcript.{State, at_first};
 ghost use Rattle.av_reclaim.specs.Mem.{setting};
@@ -13,7 +14,8 @@ use av_frames::Frames;
 use av_pagetable::{PageTable, Tables};
 use av_reclaim::Mem;
 use av_spaces::Spaces;
-use av_trace::{Bytes, Command, Reply};
+use av_text::Bytes;
+use av_trace::{Command, Reply};
 use std::alloc::{AllocError, Global};
 use std::marker::Model;
 
@@ -66,7 +68,7 @@ impl Kernel {
 
     /// Does one command. After want of memory the kernel is spent: then it does nothing more.
     pub fn step(&mut self, alloc: Global, command: &Command) -> Result<Reply, AllocError>
-        requires { self.old.steps < 2 ^ 24 }
+        requires { self.old.steps < most_commands }
         ensures stands { (s : State) → Stands self.old no_device s →
             IfOk result (Steps self.old self.new no_device no_device s command.now) }
         ensures counts { IfOk result (Counts self.old self.new) }
@@ -87,7 +89,7 @@ impl Kernel {
         command: &Command,
         reply: &mut Reply,
     ) -> Result<(), AllocError>
-        requires { self.old.steps < 2 ^ 24 }
+        requires { self.old.steps < most_commands }
         ensures stands { (s : State) → Stands self.old no_device s → OnOk result
             (Steps self.old self.new no_device no_device s command.now reply.new) }
         ensures counts { OnOk result (Counts self.old self.new reply.new) }

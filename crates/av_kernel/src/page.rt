@@ -11,7 +11,8 @@ ghost use Rattle.av_kernel.specs.Page.{IsPageStep, ShowsPiece};
 use av_base::PAGE_SIZE;
 use av_fault::{Stop, Touched, touch};
 use av_reclaim::Mem;
-use av_trace::{Bytes, Notes};
+use av_text::Bytes;
+use av_trace::Notes;
 use std::alloc::AllocError;
 
 /// Writes a piece of a page, and adds the notes of what it took. None where it is served.

@@ -13,7 +13,8 @@ use crate::process::{exit, fork, spawn};
 use crate::refusal::Refusal;
 use crate::report::{areas, entry, maps, rmap, stat};
 use av_reclaim::Mem;
-use av_trace::{Answer, Bytes, Command, Reply};
+use av_text::Bytes;
+use av_trace::{Answer, Command, Reply};
 use std::alloc::{AllocError, Global};
 use std::mem::swap;
 

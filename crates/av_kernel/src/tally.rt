@@ -1,6 +1,7 @@
 //! How often each kind of reply came.
 
 ghost use Rattle.std.specs.Prelude.{◌≡◌, ◌^◌, ◌<◌};
+ghost use Rattle.av_base.specs.Limits.{most_commands};
 ghost use Rattle.av_kernel.specs.Tally.{tally_with, none_counted, IsAtMost};
 
 use av_trace::Answer;
@@ -38,7 +39,7 @@ impl Tally {
 
     /// One more reply with this answer. A report is not counted.
     pub fn count(&mut self, answer: &Answer)
-        requires { IsAtMost (2 ^ 24) self.old }
+        requires { IsAtMost most_commands self.old }
         ensures { self.new ≡ tally_with answer.now self.old }
     {
         match answer {

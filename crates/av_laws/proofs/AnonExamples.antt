@@ -11,7 +11,7 @@ use Rattle.av_vma.specs.Pages.{after_unmap, pages_in, part_of}
 use Rattle.av_vma.specs.declared.area.Area.{Area}
 use Rattle.av_plain.specs.Areas.{AnonVma, Anons, AreLeft, AreNext, Areas, IsLinked, Rmap, chain_length, chain_by, next_areas, none_on, rmap_after_all}
 use Rattle.av_laws.specs.Areas.{Leaves, NeverLeaves, NeverPuts, anons_of, area, area_of, behind_first, behind_second, child, first_goes, root, second_goes, with_anons}
-use Rattle.av_vma.proofs.Cut.{part_own}
+use Rattle.av_vma.proofs.Split.{part_own}
 use Rattle.av_laws.specs.Examples.{machine, read_write, reply_with}
 use Rattle.av_plain.specs.Ledger.{Setting}
 use Rattle.av_plain.specs.Transcript.{IsStep, State, rmap_of}

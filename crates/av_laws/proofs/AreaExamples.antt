@@ -1,8 +1,7 @@
 -- The areas after some commands.
 use Rattle.std.proofs.Common.{◌≡◌, ℕ, Bool, true, false, List, [], ◌∷◌, Option, Some, None, refl, sym, ap, subst, ◌∙◌, arith}
 use Rattle.std.specs.Prelude.{MatchBool, if◌then◌else◌}
-use Rattle.std.specs.List.{AllByRecursion}
-use Rattle.av_base.specs.Words.{numbers}
+use Rattle.std.specs.List.{AllByRecursion, range_with_len}
 use Rattle.av_vma.specs.Pages.{pages_in}
 use Rattle.av_vma.specs.declared.area.Area.{Area}
 use Rattle.av_plain.specs.Areas.{AreLeft, Areas, chain_length, next_areas, no_anons, no_areas}
@@ -60,11 +59,11 @@ run-areas m old (e ∷ es) new told none quiet h =
 makes : (row : List Exchange) (from n : ℕ) (areas : List Area) → AreQuiet row
     → Steps (machine 4) (at_first (machine 4)) row
     → AllByRecursion (λ page. areas_after [] no_areas row 1 page ≡ pages_in (Some areas) page)
-    (numbers from n) → Makes row from n areas
+    (range_with_len from n) → Makes row from n areas
 makes row from n areas quiet steps h = (
   by_steps (machine 4) (at_first (machine 4)) row refl steps,
   λ new run. subst (λ (on : Areas). AllByRecursion (λ page. on 1 page ≡ pages_in (Some areas) page)
-      (numbers from n)) (sym (run-areas (machine 4) (at_first (machine 4)) row new refl refl quiet run)) h,
+      (range_with_len from n)) (sym (run-areas (machine 4) (at_first (machine 4)) row new refl refl quiet run)) h,
 )
 
 never-has : (row : List Exchange) (page : ℕ) (area : Area) → AreQuiet row

@@ -7,7 +7,7 @@ use Rattle.av_base.specs.declared.slot.Slot.{Slot}
 use Rattle.av_clusters.specs.Clusters.{Slots, fresh, is_free as is_free_page, take_slot}
 use Rattle.av_swapdev.specs.Device.{most_pages}
 use Rattle.av_swapdev.specs.Header.{Layout}
-use Rattle.av_plain.specs.Choice.{AreaSlots, ChoosesAll, ChoosesSlot, IsGiven, SwitchesArea, giving_area, no_slots, slot_in, with_given_back}
+use Rattle.av_plain.specs.Choice.{AreaSlots, ChoosesAll, ChoosesSlot, IsGiven, SwitchesArea, giving_swap_area, no_slots, slot_in, with_given_back}
 use Rattle.av_plain.specs.Event.{Event, Forked, Moved, Noted, TurnedOff, TurnedOn, Used, Zapped, after}
 use Rattle.av_plain.specs.Ledger.{HasNumbers, Ledger, Setting, size_of}
 use Rattle.av_plain.proofs.Choice.{ChoosesFrames}
@@ -88,7 +88,7 @@ is_page page (Some t) = t.0 == page
 abbrev gives_slot : Setting → Option ℕ → Ledger → Option Slot → AreaSlots → Bool
 gives_slot m closing l None slots = true
 gives_slot m closing l (Some s) slots =
-    is_number s.area (giving_area m closing l) && is_page s.page (take_slot (slots s.area))
+    is_number s.area (giving_swap_area m closing l) && is_page s.page (take_slot (slots s.area))
 
 abbrev pub gives : Setting → Option ℕ → Ledger → Event → AreaSlots → Bool
 gives m closing l e slots = may_switch m e
@@ -186,9 +186,9 @@ slot-chosen m closing l e slots h =
         → MatchOption o (left_by o on ≡ on) (λ s. IsGiven m closing l s on (left_by o on))
     given on None h = refl
     given on (Some s) h =
-        let parts = both (is_number s.area (giving_area m closing l))
+        let parts = both (is_number s.area (giving_swap_area m closing l))
         (is_page s.page (take_slot (on s.area))) h in (
-          number s.area (giving_area m closing l) parts.0,
+          number s.area (giving_swap_area m closing l) parts.0,
           page on s.area s.page (take_slot (on s.area)) parts.1,
         )
 

@@ -3,7 +3,7 @@ use Rattle.std.proofs.Common.{◌≡◌, ◌≢◌, ℕ, zero, suc, ◌+◌, ◌
 use Rattle.std.proofs.lemmas.Bool.Decides.{nat_tests}
 use Rattle.std.specs.Prelude.{IfSome, fold, if◌then◌else◌, option_map, ◌||◌, ◌/◌}
 use Rattle.av_plain.proofs.NoDevice.{never}
-use Rattle.av_base.specs.Words.{numbers}
+use Rattle.std.specs.List.{range_with_len}
 use Rattle.av_clusters.specs.declared.Page.{Page}
 use Rattle.av_clusters.specs.declared.Page.TheVariants.{Unusable, Free, Taken}
 use Rattle.av_clusters.specs.Clusters.{Slots, after_fill, after_take, anywhere, cluster_size, end_of, first_some, give_slot, has_taken, in_current, in_next, is_free, is_taken, lowest, page_at, start_of, take_slot, with_free_cluster}
@@ -94,7 +94,7 @@ module _ (test : ℕ → Bool) (a n : ℕ) (t : Slots) (all : AreTaken test a (s
   still-taken q low high passes = all q (omega (arith, low)) (omega (arith, high)) passes
 
 pub back-at : (test : ℕ → Bool) (a n : ℕ) (t : Slots) → AreTaken test a n t.pages → (p : ℕ)
-    → page_at (fold give_slot t (filter test (numbers a n))).pages p
+    → page_at (fold give_slot t (filter test (range_with_len a n))).pages p
     ≡ cond ((nat_le a p && nat_lt p (a + n)) && test p) Free (page_at t.pages p)
 back-at test a zero t all p = out (nat_le a p && nat_lt p (a + 0)) (grind (arith, nat_tests))
   where
@@ -134,9 +134,9 @@ back-at test a (suc n) t all p = by (test a) refl (λ t' all'. back-at test (a +
 
     by : (c : Bool) → test a ≡ c
         → ((t' : Slots) → AreTaken test (a + 1) n t'.pages
-        → page_at (fold give_slot t' (filter test (numbers (a + 1) n))).pages p
+        → page_at (fold give_slot t' (filter test (range_with_len (a + 1) n))).pages p
         ≡ cond ((nat_le (a + 1) p && nat_lt p ((a + 1) + n)) && test p) Free (page_at t'.pages p))
-        → page_at (fold give_slot t (cond c (a ∷ filter test (numbers (a + 1) n)) (filter test (numbers (a + 1) n)))).pages p
+        → page_at (fold give_slot t (cond c (a ∷ filter test (range_with_len (a + 1) n)) (filter test (range_with_len (a + 1) n)))).pages p
         ≡ cond ((nat_le a p && nat_lt p (a + suc n)) && test p) Free (page_at t.pages p)
     by true is rest = rest (give_slot t a) (later-taken test a n t all is)
         ∙ ap (cond ((nat_le (a + 1) p && nat_lt p ((a + 1) + n)) && test p) Free) (first-back test a n t all is p)
@@ -145,17 +145,17 @@ back-at test a (suc n) t all p = by (test a) refl (λ t' all'. back-at test (a +
         ∙ other (p == a) _ _ (test p) (page_at t.pages p) (at_first false is) in_range
 
 pub back-count : (test : ℕ → Bool) (a n : ℕ) (t : Slots) → AreTaken test a n t.pages
-    → count_by is_free (fold give_slot t (filter test (numbers a n))).pages
-    ≡ count_by is_free t.pages + length (filter test (numbers a n))
+    → count_by is_free (fold give_slot t (filter test (range_with_len a n))).pages
+    ≡ count_by is_free t.pages + length (filter test (range_with_len a n))
 back-count test a zero t all = omega arith
 back-count test a (suc n) t all = by (test a) refl (λ t' all'. back-count test (a + 1) n t' all')
   where
     by : (c : Bool) → test a ≡ c
         → ((t' : Slots) → AreTaken test (a + 1) n t'.pages
-        → count_by is_free (fold give_slot t' (filter test (numbers (a + 1) n))).pages
-        ≡ count_by is_free t'.pages + length (filter test (numbers (a + 1) n)))
-        → count_by is_free (fold give_slot t (cond c (a ∷ filter test (numbers (a + 1) n)) (filter test (numbers (a + 1) n)))).pages
-        ≡ count_by is_free t.pages + length (cond c (a ∷ filter test (numbers (a + 1) n)) (filter test (numbers (a + 1) n)))
+        → count_by is_free (fold give_slot t' (filter test (range_with_len (a + 1) n))).pages
+        ≡ count_by is_free t'.pages + length (filter test (range_with_len (a + 1) n)))
+        → count_by is_free (fold give_slot t (cond c (a ∷ filter test (range_with_len (a + 1) n)) (filter test (range_with_len (a + 1) n)))).pages
+        ≡ count_by is_free t.pages + length (cond c (a ∷ filter test (range_with_len (a + 1) n)) (filter test (range_with_len (a + 1) n)))
     by true is rest =
         let more = rest (give_slot t a) (later-taken test a n t all is) in
         let one = ap (count_by is_free) (back-pages t a) ∙ one_more t.pages a (all a (omega arith) (omega arith) is) in

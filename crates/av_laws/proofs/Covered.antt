@@ -25,7 +25,7 @@ use Rattle.av_trace.specs.declared.row.Row.{Row}
 use Rattle.av_vma.specs.Gap.{IsGap, IsRoom}
 use Rattle.av_vma.specs.Indices.{AreIndicesBelow}
 use Rattle.av_vma.specs.Join.{index_of, past_of, same_prot}
-use Rattle.av_vma.specs.Pages.{AreLaid, Lengths, Pages, after_map, after_prepare, after_unmap, alters_at, cut_at, fresh_area, has_page, IsWhole, joined_at, loan_beside, page_changed, pages_changed, part_changed, to_prot, with_anon, with_area, with_effect, with_effect_on, without_range}
+use Rattle.av_vma.specs.Pages.{AreLaid, Lengths, Pages, after_map, after_prepare, after_unmap, alters_at, split_at, fresh_area, has_page, IsWhole, joined_at, loan_beside, page_changed, pages_changed, part_changed, to_prot, with_anon, with_area, with_effect, with_effect_on, without_range}
 use Rattle.av_vma.specs.declared.area.Area.{Area}
 use Rattle.av_plain.specs.Access.{after_write, first_bytes}
 use Rattle.av_plain.specs.Areas.{Areas, Rmap, areas_to_hole, chain_length, next_areas, none_on, rmap_after_all, prepare_page, with_room}
@@ -54,10 +54,10 @@ use Rattle.av_vma.proofs.Indices.{indices_changed, indices_mapped, indices_more,
 use Rattle.av_plain.proofs.World.{pages-set}
 use Rattle.av_plain.proofs.World.Ranges.{meets-none}
 use Rattle.av_laws.proofs.ReadBack.InRuns.{first-test}
-use Rattle.av_vma.proofs.Cut.{laid_part, laid_unmapped}
+use Rattle.av_vma.proofs.Split.{laid_part, laid_unmapped}
 use Rattle.av_vma.proofs.Join.{laid_joined, laid_mapped, laid_page_changed, laid_pages_changed, prot_is}
 use Rattle.av_vma.proofs.Laid.{fresh_has, has_area, laid_fresh, laid_prepared}
-use Rattle.av_vma.proofs.Prots.{area_prot, prots, prots_cut, prots_joined, prots_with_own}
+use Rattle.av_vma.proofs.Prots.{area_prot, prots, prots_split, prots_joined, prots_with_own}
 
 -- ---- the protections of a process's pages
 
@@ -259,8 +259,8 @@ module _ (most : ℕ) (enough : top_page ≤ most) where
   covers_unmapped : (q : Process) (on : Pages) (from n : ℕ) → Covers q on → Covers (with_pages q from n no_pages) (after_unmap from (from + n) on)
   covers_unmapped q on from n c = record {
     laid = laid_unmapped from (from + n) on c.laid;
-    same = λ page. emptied-prots from (from + n) (cut_at (from + n) (cut_at from on)) page
-        ∙ ap (cond (within from ((from + n) - from) page) None) (prots_cut (from + n) (cut_at from on) page ∙ prots_cut from on page)
+    same = λ page. emptied-prots from (from + n) (split_at (from + n) (split_at from on)) page
+        ∙ ap (cond (within from ((from + n) - from) page) None) (prots_split (from + n) (split_at from on) page ∙ prots_split from on page)
         ∙ ap (λ k. cond (within from k page) None (prots on page)) (same_width from n) ∙ by page (within from n page);
     low = indices_unmapped most from (from + n) on c.laid c.low;
   }
@@ -354,7 +354,7 @@ module _ (most : ℕ) (enough : top_page ≤ most) where
         free = record {
           lowest = bounds.low;
           highest = bounds.high;
-          free = λ page low high. ap (λ b. is_some (cond b None (cut_at (page_of a + n) (cut_at (page_of a) on) page)))
+          free = λ page low high. ap (λ b. is_some (cond b None (split_at (page_of a + n) (split_at (page_of a) on) page)))
               (ap (λ k. within (page_of a) k page) (same_width (page_of a) n) ∙ inside (page_of a) page low high);
         };
         others = λ page is. gone.same page ∙ ap (λ b. prot_of (if b then None else q page)) is;
@@ -448,14 +448,14 @@ module _ (most : ℕ) (enough : top_page ≤ most) where
             ≡ cond (page == x) (option_map (λ _. prot) (prots on page)) (prots on page)
         by true is = prots_joined long (x + 1) _ (laid_joined long x _ one) page
             ∙ prots_joined long x _ one page
-            ∙ changed-prots x (x + 1) (cut_at (x + 1) (cut_at x on)) page
+            ∙ changed-prots x (x + 1) (split_at (x + 1) (split_at x on)) page
             ∙ (λ i. cond (alone x page i) (option_map (λ _. prot) (kept i)) (kept i))
           where
-            one : AreLaid (with_effect_on x (x + 1) (to_prot prot) (cut_at (x + 1) (cut_at x on)))
+            one : AreLaid (with_effect_on x (x + 1) (to_prot prot) (split_at (x + 1) (split_at x on)))
             one = laid_part x (x + 1) on laid (to_prot prot)
 
-            kept : prots (cut_at (x + 1) (cut_at x on)) page ≡ prots on page
-            kept = prots_cut (x + 1) (cut_at x on) page ∙ prots_cut x on page
+            kept : prots (split_at (x + 1) (split_at x on)) page ≡ prots on page
+            kept = prots_split (x + 1) (split_at x on) page ∙ prots_split x on page
         by false is = still (page == x) refl is
 
     prots_pages : (from n : ℕ) (on : Pages) → AreLaid on → (page : ℕ)

@@ -17,7 +17,8 @@ use Rattle.av_trace.specs.declared.reply.Reply.{Reply}
 use Rattle.av_trace.specs.declared.reply.Answer.{Answer}
 use Rattle.av_trace.specs.declared.reply.Answer.TheVariants.{AreaList, Done, Refused, Runs}
 use Rattle.av_base.specs.Page.{address_of, page_of, page_size, pages_of}
-use Rattle.av_base.specs.Words.{numbers, within}
+use Rattle.av_base.specs.Words.{within}
+use Rattle.std.specs.List.{range_with_len}
 use Rattle.av_base.specs.declared.prot.Prot.{Prot}
 use Rattle.av_trace.specs.declared.note.Note.{Note}
 use Rattle.av_laws.specs.Determined.{AreFaultless, IsClaimed, IsFaultless, SameCommands, Tells}
@@ -34,7 +35,7 @@ use Rattle.av_plain.specs.Place.{Goes, IsMapAt, is_room}
 use Rattle.av_plain.specs.Refusal.{Refuses, low, refusal, tests, wraps}
 use Rattle.av_plain.specs.Areas.{rmap_after_all, Anons, Areas}
 use Rattle.av_plain.specs.Report.{ShowsAreas}
-use Rattle.av_plain.specs.Step.{Follows, IsLegal, closing_area, fault_answers, next, next_world}
+use Rattle.av_plain.specs.Step.{Follows, IsLegal, closing_swap_area, fault_answers, next, next_world}
 use Rattle.av_plain.specs.Transcript.{Exchange, IsRun, IsStep, State, at_first, rmap_of}
 use Rattle.av_plain.specs.World.{Page, Process, Shows, World, byte_at, end_process, is_mapped, no_pages, pages, pages_to_hole, set_process, with_bytes, with_pages, with_prot, with_prot_on, zeros}
 use Rattle.av_laws.proofs.OneFork.{next-one}
@@ -168,7 +169,7 @@ end_page (Stopped page stop) whole = page
 
 -- each page before the end may be touched
 served-allowed : (m : Setting) (w : World) (l : Ledger) (write : Bool) (p from n : ℕ) (es : List Event) (end : End) →
-    Accesses m w l p (map (λ page. (write, page)) (numbers from n)) es end
+    Accesses m w l p (map (λ page. (write, page)) (range_with_len from n)) es end
     → (page : ℕ) → from ≤ page → page < end_page end (from + n) → is_allowed w write (p, page) ≡ true
 served-allowed m w l write p from zero es end h page low high = absurd (let e = subst (λ e. page < end_page e (from + 0)) h.1 high in omega (arith, e, low))
 served-allowed m w l write p from (suc n) es end (inl h) page low high =
@@ -405,7 +406,7 @@ pub step-one : (m : Setting) (old new new' : State) (command : Command) (reply r
     → Tells m → IsClaimed old.world → IsFaultless reply → IsFaultless reply'
     → IsStep m old command reply new → IsStep m old command reply' new' → (reply ≡ reply') × (new ≡ new')
 step-one m old new new' command reply reply' told claimed kept kept' h g =
-    let closing = closing_area command in
+    let closing = closing_swap_area command in
     let x = done-is reply.notes kept.writes in
     let y = done-is reply'.notes kept'.writes in
     let same = legal-one m old.world old.ledger old.areas old.anons command reply reply' h.events g.events closing

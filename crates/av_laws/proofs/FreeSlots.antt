@@ -13,7 +13,8 @@ use Rattle.av_clusters.proofs.Pages.{free_below}
 use Rattle.av_clusters.proofs.Whole.{one_fewer}
 use Rattle.av_laws.proofs.Clusters.{AreTaken, Gives, back-at, back-count, gives-one, set-at}
 use Rattle.av_base.specs.Page.{page_of, pages_of}
-use Rattle.av_base.specs.Words.{how_many, numbers, with_at, within}
+use Rattle.av_base.specs.Words.{how_many, with_at, within}
+use Rattle.std.specs.List.{range_with_len}
 use Rattle.av_trace.specs.declared.command.Command.{Command}
 use Rattle.av_trace.specs.declared.command.Command.TheVariants.{Spawn, Fork, Exit, Mmap, Mremap, Munmap, Mprotect, Read, Write, Maps, Areas as AsksAreas, Rmap as AsksRmap, Entry as AsksEntry, Stat}
 use Rattle.av_trace.specs.declared.place.Place.TheVariants.{Auto, At, Fixed, NoReplace}
@@ -114,9 +115,9 @@ off-other m l k t is there = by (k == t.area) refl
 
 -- ---- how many numbers of a range pass
 
-none-passes : (p : ℕ → Bool) (a n : ℕ) → ((x : ℕ) → p x ≡ false) → filter p (numbers a n) ≡ []
+none-passes : (p : ℕ → Bool) (a n : ℕ) → ((x : ℕ) → p x ≡ false) → filter p (range_with_len a n) ≡ []
 none-passes p a zero h = refl
-none-passes p a (suc n) h = ap (λ b. cond b (a ∷ filter p (numbers (a + 1) n)) (filter p (numbers (a + 1) n))) (h a) ∙ none-passes p (a + 1) n h
+none-passes p a (suc n) h = ap (λ b. cond b (a ∷ filter p (range_with_len (a + 1) n)) (filter p (range_with_len (a + 1) n))) (h a) ∙ none-passes p (a + 1) n h
 
 one-longer : (b : Bool) (a : ℕ) (xs : List ℕ) → length (cond b (a ∷ xs) xs) ≡ cond b 1 0 + length xs
 one-longer true a xs = omega arith
@@ -125,29 +126,29 @@ one-longer false a xs = omega arith
 -- tests that add up at each number add up over the range
 sum-passes : (p q r t : ℕ → Bool) (a n : ℕ)
     → ((x : ℕ) → ◌≡◌ {A = ℕ} (cond (p x) 1 0 + cond (q x) 1 0) (cond (r x) 1 0 + cond (t x) 1 0))
-    → length (filter p (numbers a n)) + length (filter q (numbers a n)) ≡ length (filter r (numbers a n)) + length (filter t (numbers a n))
+    → length (filter p (range_with_len a n)) + length (filter q (range_with_len a n)) ≡ length (filter r (range_with_len a n)) + length (filter t (range_with_len a n))
 sum-passes p q r t a zero h = refl
 sum-passes p q r t a (suc n) h =
     let rest = sum-passes p q r t (a + 1) n h in
     let here = h a in
-    let x = one-longer (p a) a (filter p (numbers (a + 1) n)) in
-    let y = one-longer (q a) a (filter q (numbers (a + 1) n)) in
-    let z = one-longer (r a) a (filter r (numbers (a + 1) n)) in
-    let w = one-longer (t a) a (filter t (numbers (a + 1) n)) in
+    let x = one-longer (p a) a (filter p (range_with_len (a + 1) n)) in
+    let y = one-longer (q a) a (filter q (range_with_len (a + 1) n)) in
+    let z = one-longer (r a) a (filter r (range_with_len (a + 1) n)) in
+    let w = one-longer (t a) a (filter t (range_with_len (a + 1) n)) in
     omega (arith, rest, here, x, y, z, w)
 
-none-found : (a n : ℕ) → length (filter (λ x. false) (numbers a n)) ≡ 0
+none-found : (a n : ℕ) → length (filter (λ x. false) (range_with_len a n)) ≡ 0
 none-found a zero = refl
 none-found a (suc n) = none-found (a + 1) n
 
-found-once : (y a n : ℕ) → length (filter (λ x. x == y) (numbers a n)) ≡ cond (nat_le a y && nat_lt y (a + n)) 1 0
+found-once : (y a n : ℕ) → length (filter (λ x. x == y) (range_with_len a n)) ≡ cond (nat_le a y && nat_lt y (a + n)) 1 0
 found-once y a zero = out (nat_le a y && nat_lt y (a + 0)) (grind (arith, nat_tests))
   where
     out : (b : Bool) → b ≡ false → ◌≡◌ {A = ℕ} 0 (cond b 1 0)
     out true e = cc
     out false e = refl
 found-once y a (suc n) =
-    one-longer (a == y) a (filter (λ x. x == y) (numbers (a + 1) n)) ∙ ap (λ k. cond (a == y) 1 0 + k) (found-once y (a + 1) n)
+    one-longer (a == y) a (filter (λ x. x == y) (range_with_len (a + 1) n)) ∙ ap (λ k. cond (a == y) 1 0 + k) (found-once y (a + 1) n)
     ∙ ends (a == y) _ _ (grind (arith, nat_tests)) (λ e. grind (arith, nat_tests, e))
   where
     ends : (e r r' : Bool) → r ≡ (e || r') → (e ≡ true → r' ≡ false) → ◌≡◌ {A = ℕ} (cond e 1 0 + cond r' 1 0) (cond r 1 0)
@@ -351,14 +352,14 @@ module _ (m : Setting) (closing : Option ℕ) (l l' : Ledger) (taken : Option Sl
           by false false false took came unused = refl
 
       those : (o : Option Slot) → ((s : Slot) → is_that o s ≡ true → is_there m l s ≡ true)
-          → length (filter (λ page. is_that o (record { area = k; page = page })) (numbers 1 (size_of m k - 1))) ≡ in_area o k
+          → length (filter (λ page. is_that o (record { area = k; page = page })) (range_with_len 1 (size_of m k - 1))) ≡ in_area o k
       those None h = none-found 1 (size_of m k - 1)
       those (Some t) h = by (k == t.area) refl
         where
           inside : k ≡ t.area → (nat_le 1 t.page && nat_lt t.page (1 + (size_of m k - 1))) ≡ true
           inside same = subst (λ k. (nat_le 1 t.page && nat_lt t.page (1 + (size_of m k - 1))) ≡ true) (sym same) (in_pages t (h t (slot-itself t)))
 
-          by : (b : Bool) → (k == t.area) ≡ b → length (filter (λ page. b && page == t.page) (numbers 1 (size_of m k - 1))) ≡ cond b 1 0
+          by : (b : Bool) → (k == t.area) ≡ b → length (filter (λ page. b && page == t.page) (range_with_len 1 (size_of m k - 1))) ≡ cond b 1 0
           by true is = found-once t.page 1 (size_of m k - 1) ∙ ap (λ b. cond b 1 0) (inside (same-is k t.area is))
           by false is = none-found 1 (size_of m k - 1)
 

@@ -2,10 +2,10 @@
 use Rattle.std.proofs.Common.{◌≡◌, ℕ, zero, suc, ◌+◌, ◌-◌, ◌*◌, ◌<◌, ◌≤◌, Bool, true, false, cond, List, [], ◌∷◌, length, Option, Some, None, is_some, refl, sym, ap, subst, ◌∙◌, arith}
 use Rattle.std.proofs.lemmas.Bool.{false≢true}
 use Rattle.std.proofs.lemmas.Bool.Decides.{nat_tests}
-use Rattle.std.specs.List.{AllByRecursion}
+use Rattle.std.specs.List.{AllByRecursion, range_with_len}
 use Rattle.std.specs.Prelude.{MatchOption, map, option_map, unwrap_or}
 use Rattle.av_base.specs.Page.{address_of, page_of, pages_of}
-use Rattle.av_base.specs.Words.{numbers, within}
+use Rattle.av_base.specs.Words.{within}
 use Rattle.av_trace.specs.declared.command.Command.TheVariants.{Mremap}
 use Rattle.av_trace.specs.declared.mode.Mode.{Mode}
 use Rattle.av_trace.specs.declared.mode.Mode.TheVariants.{DontUnmap, Fixed as FixedAt, MayMove, Plain}
@@ -75,9 +75,9 @@ module _ (old : State) (a o n : ℕ) (mode : Mode) (b : ℕ) (events : List Even
   step = one-step (machine 4) old (says (Mremap 1 a o n mode) (MapAt b) []) refl events old.free.frames old.anons legal frames given left tt
 
   remaps : (first : ℕ) (areas : List Area) (entries : List (Key × Entry))
-      → map (then.areas 1) (numbers first 16) ≡ map (pages_in (Some areas)) (numbers first 16) → then.ledger.entries ≡ entries
+      → map (then.areas 1) (range_with_len first 16) ≡ map (pages_in (Some areas)) (range_with_len first 16) → then.ledger.entries ≡ entries
       → RemapsTo old (Mremap 1 a o n mode) b first areas entries
-  remaps first areas entries on there = (then, step, each-same (then.areas 1) (pages_in (Some areas)) (numbers first 16) on, there)
+  remaps first areas entries on there = (then, step, each-same (then.areas 1) (pages_in (Some areas)) (range_with_len first 16) on, there)
 
   leaves-page : (page : ℕ) (there : Option Page) → pages then.world 1 page ≡ there → LeavesPage old (Mremap 1 a o n mode) b page there
   leaves-page page there is = (then, step, is)

@@ -1,11 +1,11 @@
 -- A read or a write of pages that want no frame is never out of memory.
-use Rattle.std.specs.List.{AllByRecursion}
+use Rattle.std.specs.List.{AllByRecursion, range_with_len}
 use Rattle.std.specs.FinMap.Entries.{is_sorted}
 use Rattle.std.specs.Prelude.{IsTrue, MatchOption, T, length, nat_lt}
 use Rattle.std.proofs.Common.{◌≡◌, ◌⊎◌, inl, inr, ℕ, zero, suc, ◌+◌, ◌<◌, ◌≤◌, Bool, true, false, cond, not, ◌&&◌, ◌||◌, List, [], ◌∷◌, ◌++◌, map, option_map, Option, Some, None, refl, sym, ap, subst, ◌∙◌, arith, ◌==◌}
 use Rattle.std.proofs.lemmas.Bool.Decides.{nat_tests}
 use Rattle.av_base.specs.Page.{address_of, page_of, pages_of, place_in_page}
-use Rattle.av_base.specs.Words.{how_many, numbers}
+use Rattle.av_base.specs.Words.{how_many}
 use Rattle.av_base.specs.declared.slot.Slot.{Slot}
 use Rattle.av_trace.specs.declared.command.Command.TheVariants.{Read, Write}
 use Rattle.av_trace.specs.declared.note.Note.{Note}
@@ -218,7 +218,7 @@ EndsServed Whole = Unit {0}
 EndsServed (Stopped page stop) = IsServed stop
 
 accesses-served : (m : Setting) (w : World) (p n from : ℕ) (l : Ledger) (events : List Event) (end : End) → ((q : ℕ) → from ≤ q → q < from + n → Held l (p, q))
-    → Accesses m w l p (map (λ page. (false, page)) (numbers from n)) events end → EndsServed end
+    → Accesses m w l p (map (λ page. (false, page)) (range_with_len from n)) events end → EndsServed end
 accesses-served m w p zero from l events end held h = subst EndsServed (sym h.1) tt
 accesses-served m w p (suc n) from l events end held (inl h) =
     accesses-served m w p n (from + 1) (after_all l (page_events false (p, from) h.0 None)) h.1 end
@@ -251,7 +251,7 @@ no_frame l s none = by l.cache none
         first false h rest = rest (omega (arith, h))
 
 all-held : (l : Ledger) (p n from : ℕ) → AllByRecursion (λ (x : Bool × ℕ). wants_frame (need false l (entry l (p, x.1))) ≡ false)
-    (map (λ page. (false, page)) (numbers from n))
+    (map (λ page. (false, page)) (range_with_len from n))
     → (q : ℕ) → from ≤ q → q < from + n → Held l (p, q)
 all-held l p zero from all q low high = absurd (omega (arith, low, high))
 all-held l p (suc n) from all q low high = by (from == q) refl (all-held l p n (from + 1) all.1 q)
@@ -397,7 +397,7 @@ own-never-out m sp l k notes out own r = nothing (by r.before)
 
 writes-served : (m : Setting) (w : World) (p n from : ℕ) (l : Ledger) (events : List Event)
     (end : End) → IsQuiet l → ((q : ℕ) → from ≤ q → q < from + n → IsOwn l (p, q))
-    → Accesses m w l p (map (λ page. (true, page)) (numbers from n)) events end → EndsServed end
+    → Accesses m w l p (map (λ page. (true, page)) (range_with_len from n)) events end → EndsServed end
 writes-served m w p zero from l events end quiet own h = subst EndsServed (sym h.1) tt
 writes-served m w p (suc n) from l events end quiet own (inl h) =
     writes-served m w p n (from + 1) now h.1 end
@@ -430,7 +430,7 @@ writes-served m w p (suc n) from l events end quiet own (inr h) = subst EndsServ
 
 all-own : (l : Ledger) (p n from : ℕ) → HasNoSlots l
     → AllByRecursion (λ (x : Bool × ℕ). wants_frame (need true l (entry l (p, x.1))) ≡ false)
-    (map (λ page. (true, page)) (numbers from n))
+    (map (λ page. (true, page)) (range_with_len from n))
     → (q : ℕ) → from ≤ q → q < from + n → IsOwn l (p, q)
 all-own l p zero from none all q low high = absurd (omega (arith, low, high))
 all-own l p (suc n) from none all q low high = by (from == q) refl

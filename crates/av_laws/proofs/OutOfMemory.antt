@@ -11,7 +11,8 @@ use Rattle.av_trace.specs.declared.row.Row.{Row}
 use Rattle.av_trace.specs.declared.reply.Answer.{Answer}
 use Rattle.av_trace.specs.declared.reply.Answer.TheVariants.{Done, Refused, Oom}
 use Rattle.av_base.specs.Page.{page_of, pages_of}
-use Rattle.av_base.specs.Words.{how_many, numbers}
+use Rattle.av_base.specs.Words.{how_many}
+use Rattle.std.specs.List.{range_with_len}
 use Rattle.av_base.specs.declared.slot.Slot.{Slot}
 use Rattle.av_trace.specs.declared.note.Note.{Note}
 use Rattle.av_trace.specs.declared.reply.OutOf.{OutOf}
@@ -47,24 +48,24 @@ parts spared l (f ∷ fs) = each (spared f) (slot_of l f) _ _ _ _ (parts spared 
     each false None a b c n h = omega (arith, h)
     each false (Some t) a b c n h = omega (arith, h)
 
-length-numbers : (a n : ℕ) → length (numbers a n) ≡ n
+length-numbers : (a n : ℕ) → length (range_with_len a n) ≡ n
 length-numbers a zero = refl
 length-numbers a (suc n) = ap suc (length-numbers (a + 1) n)
 
-none-above : (g a n : ℕ) → g < a → how_many (λ f. g == f) (numbers a n) ≡ 0
+none-above : (g a n : ℕ) → g < a → how_many (λ f. g == f) (range_with_len a n) ≡ 0
 none-above g a zero h = refl
 none-above g a (suc n) h = by (g == a) refl (none-above g (a + 1) n (omega (arith, h)))
   where
-    by : (b : Bool) → (g == a) ≡ b → how_many (λ f. g == f) (numbers (a + 1) n) ≡ 0 → cond b 1 0 + how_many (λ f. g == f) (numbers (a + 1) n) ≡ 0
+    by : (b : Bool) → (g == a) ≡ b → how_many (λ f. g == f) (range_with_len (a + 1) n) ≡ 0 → cond b 1 0 + how_many (λ f. g == f) (range_with_len (a + 1) n) ≡ 0
     by true is rest = absurd (grind (arith, nat_tests, is, h))
     by false is rest = omega (arith, rest)
 
 -- a frame in range is one
-once : (g a n : ℕ) → a ≤ g → g < a + n → how_many (λ f. g == f) (numbers a n) ≡ 1
+once : (g a n : ℕ) → a ≤ g → g < a + n → how_many (λ f. g == f) (range_with_len a n) ≡ 1
 once g a zero low high = absurd (omega (arith, low, high))
 once g a (suc n) low high = by (g == a) refl (λ above. once g (a + 1) n above (omega (arith, high)))
   where
-    by : (b : Bool) → (g == a) ≡ b → (a + 1 ≤ g → how_many (λ f. g == f) (numbers (a + 1) n) ≡ 1) → cond b 1 0 + how_many (λ f. g == f) (numbers (a + 1) n) ≡ 1
+    by : (b : Bool) → (g == a) ≡ b → (a + 1 ≤ g → how_many (λ f. g == f) (range_with_len (a + 1) n) ≡ 1) → cond b 1 0 + how_many (λ f. g == f) (range_with_len (a + 1) n) ≡ 1
     by true is rest = let z = none-above g (a + 1) n (grind (arith, nat_tests, is)) in omega (arith, z)
     by false is rest = let e = rest (grind (arith, nat_tests, is, low)) in omega (arith, e)
 
@@ -74,9 +75,9 @@ none-pinned (f ∷ fs) = let e = none-pinned fs in omega (arith, e)
 
 pub numbers-add : (m : Setting) (w : World) (pinned : Option ℕ) (l now : Ledger) → IfSome pinned (λ g. g < m.frames) →
     AddUp m (out_of m pinned (sparing w l pinned) now)
-numbers-add m w None l now below = let a = parts (is_pinned None) now (numbers 0 m.frames) in let b = length-numbers 0 m.frames in
-    let c = none-pinned (numbers 0 m.frames) in omega (arith, a, b, c)
-numbers-add m w (Some g) l now below = let a = parts (is_pinned (Some g)) now (numbers 0 m.frames) in let b = length-numbers 0 m.frames in
+numbers-add m w None l now below = let a = parts (is_pinned None) now (range_with_len 0 m.frames) in let b = length-numbers 0 m.frames in
+    let c = none-pinned (range_with_len 0 m.frames) in omega (arith, a, b, c)
+numbers-add m w (Some g) l now below = let a = parts (is_pinned (Some g)) now (range_with_len 0 m.frames) in let b = length-numbers 0 m.frames in
     let c = once g 0 m.frames (omega arith) (omega (arith, below)) in omega (arith, a, b, c)
 
 -- ---- the pinned frame is one of the machine's

@@ -1,9 +1,8 @@
 -- Areas that get an anon_vma where one of their pages gets its first frame.
 use Rattle.std.proofs.Common.{◌≡◌, ℕ, ◌<◌, ◌≤◌, Bool, true, false, ◌==◌, List, [], ◌∷◌, Option, Some, None, refl, sym, ap, subst, ◌∙◌, arith, inl}
 use Rattle.std.proofs.lemmas.Bool.Decides.{nat_tests}
-use Rattle.std.specs.List.{AllByRecursion}
+use Rattle.std.specs.List.{AllByRecursion, range_with_len}
 use Rattle.std.specs.Prelude.{if◌then◌else◌}
-use Rattle.av_base.specs.Words.{numbers}
 use Rattle.av_vma.specs.Pages.{pages_in}
 use Rattle.av_vma.specs.declared.area.Area.{Area}
 use Rattle.av_trace.specs.declared.note.Note.TheVariants.{New, Zeroed}
@@ -68,7 +67,7 @@ on_then e areas anons =
 -- a write may make what the rules make of the areas, where it is allowed
 writes : (areas new_areas : List Area) (anons left : Anons) → is_allowed (state_of areas anons).world true (1, 0x12) ≡ true
     → AreLeft (anons_then first_write areas anons) (on_then first_write areas anons) left
-    → AllByRecursion (λ page. on_then first_write areas anons 1 page ≡ pages_in (Some new_areas) page) (numbers 0xf 8)
+    → AllByRecursion (λ page. on_then first_write areas anons 1 page ≡ pages_in (Some new_areas) page) (range_with_len 0xf 8)
     → Prepares first_write areas anons new_areas left
 writes areas new_areas anons left allowed is pages = (
   state_after (machine 4) (state_of areas anons) first_write (Noted (New 1 0x12000 0) ∷ Used true (1, 0x12) ∷ []) (1 ∷ 2 ∷ 3 ∷ []) left,
@@ -275,7 +274,7 @@ in_one_process-leaves = (
 -- two areas that are alike join where they have one anon_vma
 joins : (areas new_areas : List Area) (anons : Anons) → AreLeft anons (on_then made_alike areas anons) anons
     → IsLegal (machine 4) (state_of areas anons).world first_ledger made_alike.command made_alike.reply []
-    → AllByRecursion (λ page. on_then made_alike areas anons 1 page ≡ pages_in (Some new_areas) page) (numbers 0xf 8)
+    → AllByRecursion (λ page. on_then made_alike areas anons 1 page ≡ pages_in (Some new_areas) page) (range_with_len 0xf 8)
     → Prepares made_alike areas anons new_areas anons
 joins areas new_areas anons is legal pages = (
   state_after (machine 4) (state_of areas anons) made_alike [] (0 ∷ 1 ∷ 2 ∷ 3 ∷ []) anons,

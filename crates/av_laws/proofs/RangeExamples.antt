@@ -9,7 +9,7 @@ use Rattle.av_vma.specs.Pages.{fresh_area, part_of}
 use Rattle.av_vma.specs.declared.area.Area.{Area}
 use Rattle.av_plain.specs.Areas.{Anons}
 use Rattle.av_plain.proofs.AreasLeft.{left-root, of_processes}
-use Rattle.av_vma.proofs.Cut.{part_own}
+use Rattle.av_vma.proofs.Split.{part_own}
 use Rattle.av_trace.specs.declared.reply.Answer.TheVariants.{Done}
 use Rattle.av_trace.specs.declared.note.Note.TheVariants.{Zeroed, New}
 use Rattle.av_plain.specs.World.{Process, Page, no_pages, zeros, with_prot, with_pages, with_prot_on, with_bytes}

@@ -3,13 +3,12 @@ pub mod Anons
 pub mod InRuns
 pub mod Few
 pub mod OfRuns
-use Rattle.std.specs.List.{AllByRecursion}
+use Rattle.std.specs.List.{AllByRecursion, range_with_len}
 use Rattle.std.specs.Prelude.{MatchBool, MatchOption, sum_by}
 use Rattle.std.proofs.Common.{◌≡◌, inl, inr, ℕ, zero, suc, ◌+◌, ◌-◌, ◌^◌, ◌<◌, ◌≤◌, Bool, true, false, cond, ◌&&◌, List, [], ◌∷◌, map, length, Option, Some, None, is_some, option_map, refl, sym, ap, subst, ◌∙◌, arith, ◌==◌, nat_lt, nat_le, if◌then◌else◌}
 use Rattle.std.proofs.lemmas.Bool.Decides.{nat_tests}
 use Rattle.av_base.specs.Limits.{top_page}
 use Rattle.av_base.specs.Page.{address_of, page_of, pages_of, page_size, place_in_page}
-use Rattle.av_base.specs.Words.{numbers}
 use Rattle.av_vma.specs.Gap.{IsGap}
 use Rattle.av_trace.specs.declared.command.Command.{Command}
 use Rattle.av_trace.specs.declared.command.Command.TheVariants.{Spawn, Fork, Exit, Mmap, Mremap, Munmap, Mprotect, Read, Write, Maps, Areas as AsksAreas, Rmap as AsksRmap, Entry as AsksEntry, Stat}
@@ -30,7 +29,7 @@ use Rattle.av_trace.specs.declared.reply.Answer.TheVariants.{AreaList, Done, Map
 use Rattle.av_trace.specs.Command.{IsCommand}
 use Rattle.av_trace.specs.Note.{IsNote, IsSlot}
 use Rattle.av_trace.specs.Mode.{IsMode}
-use Rattle.av_trace.specs.Number.{IsWide}
+use Rattle.av_text.specs.Number.{IsWide}
 use Rattle.av_trace.specs.Place.{IsPlace}
 use Rattle.av_trace.specs.Reply.{AreCauses, Follow, IfThere, IsAnswer, IsReply}
 use Rattle.av_trace.specs.Row.{IsAreaRow, IsEntry, IsRun}
@@ -128,7 +127,7 @@ stops-in P m w l p (page ∷ rest) events end all (inl h) = stops-in P m w (afte
 stops-in P m w l p (page ∷ rest) events end all (inr h) = subst (StopsIn P) (sym h.4) all.0
 
 all-pages : (P : ℕ → Type 0) (write : Bool) (from n : ℕ) → ((page : ℕ) → page < from + n → P page) →
-    AllByRecursion (λ (x : Bool × ℕ). P x.1) (map (λ page. (write, page)) (numbers from n))
+    AllByRecursion (λ (x : Bool × ℕ). P x.1) (map (λ page. (write, page)) (range_with_len from n))
 all-pages P write from zero each = tt
 all-pages P write from (suc n) each = (each from (omega arith), all-pages P write (from + 1) n (λ page below. each page (omega (arith, below))))
 
@@ -438,7 +437,7 @@ legal-reads_back m w l command reply events none s small fit wide legal =
     record { answer = f.0; rest = subst (λ ns. Follow reply.answer ns reply.rows) (sym legal.notes) f.1 }
   where
     out : CausesFit reply.answer
-    out k numbers shown is = let sum = legal-adds m w l command reply events k numbers shown s legal is in let frames : m.frames < 2 ^ 64 = small.frames in
+    out k range_with_len shown is = let sum = legal-adds m w l command reply events k range_with_len shown s legal is in let frames : m.frames < 2 ^ 64 = small.frames in
         (omega (arith, sum, frames), omega (arith, sum, frames), omega (arith, sum, frames))
 
     by : (o : Option Errno) → MatchOption o (Follows m w l command events reply.answer reply.rows) (λ error. Refuses error events reply.answer reply.rows) →

@@ -1,7 +1,7 @@
 -- Worked examples for areas: what a process has on its pages after some commands, and what it
 -- hasn't.
 -- Which example would fail if a definition were wrong:
---   a cut (`cut_at`, `part_of`): protected_inside, hole, offset_anew, left_whole
+--   a cut (`split_at`, `part_of`): protected_inside, hole, offset_anew, left_whole
 --   a join (`joined_at`, `are_mergeable`): joined_again, joined_above, joined_below, between,
 --     kept_apart, left_split, left_apart, joined_unlike
 --   what goes (`without_range`, `with_room`): hole, fixed_over, left_under
@@ -28,8 +28,8 @@
 --     own_alone_linked, chain_turned, lower_chain_lost, hole_shown, middle_offset_kept,
 --     middle_own_lost, middle_own_alone, upper_offset_short
 use Rattle.std.specs.Prelude.{◌≡◌, ℕ, List, [], ◌∷◌, ◌++◌, length, Option, Some, None, option_map}
-use Rattle.std.specs.List.{AllByRecursion}
-use Rattle.av_base.specs.Words.{numbers, with_at}
+use Rattle.std.specs.List.{AllByRecursion, range_with_len}
+use Rattle.av_base.specs.Words.{with_at}
 use Rattle.av_base.specs.declared.prot.Prot.{Prot}
 use Rattle.av_trace.specs.declared.command.Command.{Command}
 use Rattle.av_trace.specs.declared.command.Command.TheVariants.{Areas as AsksAreas, Exit, Mmap, Mprotect, Munmap, Read, Spawn, Write}
@@ -57,7 +57,7 @@ abbrev pub Makes : List Exchange → ℕ → ℕ → List Area → Type 0
 Makes row from n areas =
     Runs 4 row
     × ((new : State) → IsRun (machine 4) (at_first (machine 4)) row new
-    → AllByRecursion (λ page. new.areas 1 page ≡ pages_in (Some areas) page) (numbers from n))
+    → AllByRecursion (λ page. new.areas 1 page ≡ pages_in (Some areas) page) (range_with_len from n))
 
 -- they never leave it this area on the page
 abbrev pub NeverHas : List Exchange → ℕ → Area → Type 0
@@ -162,7 +162,7 @@ state_of areas anons = record {
 abbrev pub LeavesFrom : State → Command → Reply → List Area → Anons → Type 0
 LeavesFrom old command reply areas anons =
     (new : State) × IsStep (machine 4) old command reply new
-    × AllByRecursion (λ page. new.areas 1 page ≡ pages_in (Some areas) page) (numbers 0xf 8)
+    × AllByRecursion (λ page. new.areas 1 page ≡ pages_in (Some areas) page) (range_with_len 0xf 8)
     × (new.anons ≡ anons)
 
 -- it never leaves it this area on the page, or these anon_vmas

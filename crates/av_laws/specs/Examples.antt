@@ -38,7 +38,8 @@
 use Rattle.std.specs.Prelude.{◌≡◌, ℕ, zero, suc, ◌+◌, ◌-◌, Bool, true, false, ◌==◌, ◌||◌, if◌then◌else◌, List, [], ◌∷◌, map, length, Some, None, option_map, unwrap_or}
 use Rattle.av_base.specs.declared.prot.Prot.{Prot}
 use Rattle.av_base.specs.declared.slot.Slot.{Slot}
-use Rattle.av_base.specs.Words.{numbers, with_at}
+use Rattle.av_base.specs.Words.{with_at}
+use Rattle.std.specs.List.{range_with_len}
 use Rattle.av_clusters.specs.Clusters.{Slots, fresh, take_slot}
 use Rattle.av_trace.specs.declared.place.Place.TheVariants.{Auto, At, Fixed, NoReplace}
 use Rattle.av_trace.specs.declared.command.Command.{Command}
@@ -392,7 +393,7 @@ with_byte b page = if page == 0x7fffffffe then Some (page_with b) else None
 -- the processes 1 to n, without a page
 abbrev pub crowd : ℕ → State
 crowd n = record {
-  world = map (λ p. (p, no_pages)) (numbers 1 n);
+  world = map (λ p. (p, no_pages)) (range_with_len 1 n);
   ledger = first_ledger;
   free = only_frames (0 ∷ 1 ∷ 2 ∷ 3 ∷ []);
   areas = no_areas;

@@ -16,8 +16,7 @@
 --   refusals and their order (`tests`): fork_refusals, room_for_none, child_before_parent,
 --     room_before_child
 use Rattle.std.specs.Prelude.{◌≡◌, ℕ, true, false, List, [], ◌∷◌, map, Option, Some}
-use Rattle.std.specs.List.{AllByRecursion}
-use Rattle.av_base.specs.Words.{numbers}
+use Rattle.std.specs.List.{AllByRecursion, range_with_len}
 use Rattle.av_trace.specs.declared.command.Command.{Command}
 use Rattle.av_trace.specs.declared.command.Command.TheVariants.{Fork, Spawn}
 use Rattle.av_trace.specs.declared.reply.Answer.TheVariants.{Done, Refused}
@@ -43,14 +42,14 @@ ok_reply = reply_with Done []
 
 -- the anon_vmas of all numbers that were given
 abbrev pub by_number : Anons → List (Option AnonVma)
-by_number anons = map anons.anon (numbers 0 anons.next)
+by_number anons = map anons.anon (range_with_len 0 anons.next)
 
 -- the fork may be done there, and leaves process 2 the pages of process 1, these areas on each of 8
 -- pages, and these anon_vmas
 abbrev pub ForksTo : State → List Area → List (Option AnonVma) → Type 0
 ForksTo old areas anons = (new : State) × IsStep (machine 4) old to_two ok_reply new
-    × AllByRecursion (λ page. pages new.world 2 page ≡ pages old.world 1 page) (numbers 0xf 8)
-    × AllByRecursion (λ page. new.areas 2 page ≡ pages_in (Some areas) page) (numbers 0xf 8)
+    × AllByRecursion (λ page. pages new.world 2 page ≡ pages old.world 1 page) (range_with_len 0xf 8)
+    × AllByRecursion (λ page. new.areas 2 page ≡ pages_in (Some areas) page) (range_with_len 0xf 8)
     × (by_number new.anons ≡ anons)
 
 -- it never leaves process 2 this on the page

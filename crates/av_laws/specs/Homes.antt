@@ -17,7 +17,8 @@
 -- In a command a new frame or a copy gets its home by the note and again by the write that follows,
 -- so only by_events and prepared_first see a note that leaves it.
 use Rattle.std.specs.Prelude.{◌≡◌, ℕ, true, false, List, [], ◌∷◌, map, Option, Some, None}
-use Rattle.av_base.specs.Words.{numbers, with_at}
+use Rattle.av_base.specs.Words.{with_at}
+use Rattle.std.specs.List.{range_with_len}
 use Rattle.av_trace.specs.declared.command.Command.TheVariants.{Exit, Read, Write}
 use Rattle.av_trace.specs.declared.note.Note.TheVariants.{Aged, Copied, Loaded, Mapped, New}
 use Rattle.av_trace.specs.declared.reply.Answer.TheVariants.{Data, Done}
@@ -38,7 +39,7 @@ abbrev pub FourHomes : Type 0
 FourHomes = List (Option (ℕ × ℕ))
 
 abbrev pub homes_in : Homes → FourHomes
-homes_in homes = map homes (numbers 0 4)
+homes_in homes = map homes (range_with_len 0 4)
 
 -- the exchange may come there, and leaves these homes
 abbrev pub LeavesHomes : State → Exchange → FourHomes → Type 0

@@ -23,8 +23,7 @@
 --   refusals and their order (`mremap_tests`): remap_refusals, just_in_place,
 --     just_elsewhere
 use Rattle.std.specs.Prelude.{◌≡◌, ℕ, true, false, List, [], ◌∷◌, ◌++◌, Option, Some, None}
-use Rattle.std.specs.List.{AllByRecursion}
-use Rattle.av_base.specs.Words.{numbers}
+use Rattle.std.specs.List.{AllByRecursion, range_with_len}
 use Rattle.av_trace.specs.declared.command.Command.{Command}
 use Rattle.av_trace.specs.declared.command.Command.TheVariants.{Mremap}
 use Rattle.av_trace.specs.declared.mode.Mode.{Mode}
@@ -48,7 +47,7 @@ use Rattle.av_laws.specs.Examples.{machine, only_frames, read_only, read_write, 
 abbrev pub RemapsTo : State → Command → ℕ → ℕ → List Area → List (Key × Entry) → Type 0
 RemapsTo old command b first areas entries =
     (new : State) × IsStep (machine 4) old command (reply_with (MapAt b) []) new
-    × AllByRecursion (λ page. new.areas 1 page ≡ pages_in (Some areas) page) (numbers first 16)
+    × AllByRecursion (λ page. new.areas 1 page ≡ pages_in (Some areas) page) (range_with_len first 16)
     × (new.ledger.entries ≡ entries)
 
 -- or it leaves this on the page

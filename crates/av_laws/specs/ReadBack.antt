@@ -2,7 +2,7 @@
 use Rattle.std.specs.Prelude.{◌≡◌, ℕ, ◌<◌, is_some, true, [], IfSome}
 use Rattle.std.specs.List.{AllByRecursion}
 use Rattle.av_base.specs.Limits.{top_page}
-use Rattle.av_trace.specs.Number.{IsWide}
+use Rattle.av_text.specs.Number.{IsWide}
 use Rattle.av_trace.specs.declared.row.Row.{Row}
 use Rattle.av_trace.specs.declared.row.Row.TheVariants.{Area as AreaRow}
 use Rattle.av_plain.specs.World.{World, pages}

@@ -1,6 +1,6 @@
 -- Worked examples for slots: which one is given next, and which may not be.
 -- Which example would fail if a definition were wrong:
---   which area gives (`giving_area`): lower_gives, upper_gives, upper_too_early, past_a_closing,
+--   which area gives (`giving_swap_area`): lower_gives, upper_gives, upper_too_early, past_a_closing,
 --     from_a_closing, from_none
 --   what comes back (`new_free_slots`): put_in_turn, put_again, zapped_last, zapped_first,
 --     still_named, not_written, and the refused ones beside them
@@ -8,7 +8,8 @@
 --   an area that is turned on (`AreFresh`, `SwitchesArea`): on_again, as_before, fewer_slots,
 --     more_bad, no_header, adds_up, too_short, too_long, miscounted
 use Rattle.std.specs.Prelude.{ℕ, ◌+◌, true, false, ◌==◌, if◌then◌else◌, List, [], ◌∷◌, map, Option, Some, None}
-use Rattle.av_base.specs.Words.{numbers, with_at}
+use Rattle.av_base.specs.Words.{with_at}
+use Rattle.std.specs.List.{range_with_len}
 use Rattle.av_base.specs.declared.slot.Slot.{Slot}
 use Rattle.av_clusters.specs.Clusters.{fresh}
 use Rattle.av_trace.specs.declared.note.Note.TheVariants.{Put, Unmapped, Started, Failed, Dropped}
@@ -81,7 +82,7 @@ puts_after_drop s = Noted (Dropped (slot 1)) ∷ Noted (Put 1 s) ∷ []
 abbrev pub some_out : ℕ → Ledger
 some_out n = record first_ledger {
   entries = ((1, 0x10), InFrame 0 true)
-      ∷ map (λ page. ((1, 0x10 + page), InSlot (slot page))) (numbers 1 n);
+      ∷ map (λ page. ((1, 0x10 + page), InSlot (slot page))) (range_with_len 1 n);
   inactive = 0 ∷ [];
   on = (0, record { slots = 7; bad = 0 }) ∷ [];
 }

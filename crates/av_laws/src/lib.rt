@@ -18,7 +18,7 @@ mod unsound;
 mod views;
 
 ghost use Rattle.std.specs.Prelude.{◌≡◌, ◌⊎◌, ℕ, ◌+◌, ◌^◌, ◌<◌, ◌≤◌, false, true, length, List, [], Some};
-ghost use Rattle.av_base.specs.Limits.{top_page};
+ghost use Rattle.av_base.specs.Limits.{top_page, most_commands, most_indices};
 ghost use Rattle.std.specs.List.{AllByRecursion};
 ghost use Rattle.av_base.specs.declared.prot.Prot.{Prot};
 ghost use Rattle.av_trace.specs.declared.command.Command.{Command};
@@ -43,7 +43,7 @@ ghost use Rattle.av_plain.specs.Transcript.{Exchange, State, IsStep, IsRun, at_f
 ghost use Rattle.av_plain.specs.Sound.{AllSound};
 ghost use Rattle.av_plain.specs.Choice.{ListsFree, ListsSlots};
 ghost use Rattle.av_trace.specs.Command.{IsCommand};
-ghost use Rattle.av_trace.specs.Number.{IsWide};
+ghost use Rattle.av_text.specs.Number.{IsWide};
 ghost use Rattle.av_trace.specs.Reply.{IsReply};
 ghost use Rattle.av_io.specs.Count.{Rose, RoseBy};
 ghost use Rattle.av_laws.specs.Covered.{CoverBelow, CoverPages};
@@ -161,16 +161,16 @@ pub fn runs_list_free_slots()
 /// area may grow by as many pages, and its indices are still below 2^60.
 pub fn runs_lay_areas()
     ensures from_nothing { (m : Setting) (exchanges : List Exchange) (new : State)
-        → length exchanges ≤ 2 ^ 24 → IsRun m (at_first m) exchanges new
+        → length exchanges ≤ most_commands → IsRun m (at_first m) exchanges new
         → CoverPages new.world new.areas }
     ensures each_step { (m : Setting) (most : ℕ) (old new : State) (command : Command)
-        (reply : Reply) → top_page ≤ most → most + top_page ≤ 2 ^ 60
+        (reply : Reply) → top_page ≤ most → most + top_page ≤ most_indices
         → CoverBelow most old.world old.areas → IsStep m old command reply new
         → CoverBelow (most + top_page) new.world new.areas }
     ensures growth_fits { (m : Setting) (exchanges : List Exchange) (new : State) (p page n : ℕ)
-        (area : Area) → length exchanges ≤ 2 ^ 24 → IsRun m (at_first m) exchanges new
+        (area : Area) → length exchanges ≤ most_commands → IsRun m (at_first m) exchanges new
         → new.areas p page ≡ Some area → n ≤ top_page
-        → index_of area (past_of area) + n < 2 ^ 60 }
+        → index_of area (past_of area) + n < most_indices }
 {}
 
 /// Each frame is free, active or inactive, and so the numbers of `stat` add up.
@@ -210,7 +210,7 @@ pub fn replies_are_read_back()
 /// fewer than 2^36 anon_vmas, so those of a run have numbers of 64 bits.
 pub fn replies_of_runs_are_read_back()
     ensures { (m : Setting) (exchanges : List Exchange) (new : State) → HasNoDevice m
-        → IsWide m.frames → length exchanges ≤ 2 ^ 24
+        → IsWide m.frames → length exchanges ≤ most_commands
         → AllByRecursion (λ (e : Exchange). IsCommand e.command) exchanges
         → IsRun m (at_first m) exchanges new
         → AllByRecursion (λ (e : Exchange). IsReply e.reply) exchanges }

@@ -9,8 +9,8 @@ use Rattle.av_interval.specs.declared.span.Span as interval
 use Rattle.av_vma.specs.declared.area.Area.{Area}
 use Rattle.av_vma.specs.Join.{are_mergeable}
 use Rattle.av_vma.specs.Mremap.{joined_over}
-use Rattle.av_vma.specs.Pages.{Effect, Lengths, Pages, after_join, after_map, alters_at, cut_at, fresh_area, has_page, join_of, joined_around, joined_at, page_changed, pages_changed, part_changed, part_of, with_area, with_effect, with_effect_on}
-use Rattle.av_vma.proofs.Cut.{part_own}
+use Rattle.av_vma.specs.Pages.{Effect, Lengths, Pages, after_join, after_map, alters_at, split_at, fresh_area, has_page, join_of, joined_around, joined_at, page_changed, pages_changed, part_changed, part_of, with_area, with_effect, with_effect_on}
+use Rattle.av_vma.proofs.Split.{part_own}
 use Rattle.av_vma.proofs.Join.{tried_is}
 use Rattle.av_vmatree.specs.declared.span.Span.{Span}
 use Rattle.av_vmatree.specs.Spans.{area_at}
@@ -91,8 +91,8 @@ over_alike len len' at (suc n) on h page =
     over_alike len len' (suc at) n (joined_at len at on) (alike_joined len len' len at on h) page
     ∙ (λ i. joined_over len' (suc at) n (λ q. joined_alike len len' at on h q i) page)
 
-alike_cut : (len len' : Lengths) (at : ℕ) (on : Pages) → AreAlike len len' on → AreAlike len len' (cut_at at on)
-alike_cut len len' at on h = record { same = λ page area e. go page area (on page) refl e }
+alike_split : (len len' : Lengths) (at : ℕ) (on : Pages) → AreAlike len len' on → AreAlike len len' (split_at at on)
+alike_split len len' at on h = record { same = λ page area e. go page area (on page) refl e }
   where
     go : (page : ℕ) (area : Area) (o : Option Area) → on page ≡ o → option_map (part_of at page) o ≡ Some area → len area.anon ≡ len' area.anon
     go page area None e e' = absurd (none-some area e')
@@ -116,18 +116,18 @@ alike_effect len len' from past effect on h = record { same = λ page area e. go
 pub part_alike : (len len' : Lengths) (from past : ℕ) (effect : Effect) (on : Pages) → AreAlike len len' on → (page : ℕ) →
     part_changed len from past effect on page ≡ part_changed len' from past effect on page
 part_alike len len' from past effect on h page =
-    around_alike len len' from past (with_effect_on from past effect (cut_at past (cut_at from on)))
-    (alike_effect len len' from past effect (cut_at past (cut_at from on)) (alike_cut len len' past (cut_at from on) (alike_cut len len' from on h))) page
+    around_alike len len' from past (with_effect_on from past effect (split_at past (split_at from on)))
+    (alike_effect len len' from past effect (split_at past (split_at from on)) (alike_split len len' past (split_at from on) (alike_split len len' from on h))) page
 
 -- ---- the words of whole calls
 
 alike_part : (len len' other : Lengths) (from past : ℕ) (effect : Effect) (on : Pages) → AreAlike len len' on →
     AreAlike len len' (part_changed other from past effect on)
 alike_part len len' other from past effect on h =
-    let cut = cut_at past (cut_at from on) in
+    let cut = split_at past (split_at from on) in
     let now = with_effect_on from past effect cut in
     alike_joined len len' other past (joined_at other from now) (alike_joined len len' other from now
-    (alike_effect len len' from past effect cut (alike_cut len len' past (cut_at from on) (alike_cut len len' from on h))))
+    (alike_effect len len' from past effect cut (alike_split len len' past (split_at from on) (alike_split len len' from on h))))
 
 alike_page : (len len' other : Lengths) (effect : Effect) (page : ℕ) (on : Pages) → AreAlike len len' on → AreAlike len len' (page_changed other effect page on)
 alike_page len len' other effect page on h = go (alters_at effect (on page))

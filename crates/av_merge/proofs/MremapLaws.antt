@@ -21,11 +21,11 @@ use Rattle.av_vmatree.specs.Spans.{AreSpans, IsFree, area_at, is_page_taken, spa
 use Rattle.av_merge.specs.Kin.{KeepsKin}
 use Rattle.av_merge.specs.Pages.{pages_by}
 use Rattle.av_merge.specs.Process.{AreAreasOf, IsAreaOf, NoneCrosses, Stays}
-use Rattle.av_merge.proofs.Cuts.{IsFound, found, none_from, none_starts}
+use Rattle.av_merge.proofs.SplittingLaws.{IsFound, found, none_from, none_starts}
 use Rattle.av_merge.proofs.Kin.{keeps_bare, keeps_fields}
 use Rattle.av_merge.proofs.Lengths.{AreAlike, around_later, over_alike}
-use Rattle.av_merge.proofs.Mappings.{laid_of}
-use Rattle.av_merge.proofs.Places.{at_rest, at_span, holds_is, one_area, others_refl, pages_without, put_others, put_pages, put_stands, stays_trans, take_others, take_pages, take_stands, taken_is}
+use Rattle.av_merge.proofs.PlacingMaps.{laid_of}
+use Rattle.av_merge.proofs.PlacingLaws.{at_rest, at_span, holds_is, one_area, others_refl, pages_without, put_others, put_pages, put_stands, stays_trans, take_others, take_pages, take_stands, taken_is}
 
 -- ---- an area stands elsewhere
 

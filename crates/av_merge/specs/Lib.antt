@@ -1,5 +1,5 @@
-pub mod Change
-pub mod Fork
+pub mod Changing
+pub mod Forking
 pub mod Kin
 pub mod Mapping
 pub mod Pages

@@ -10,7 +10,7 @@ abbrev pub pages_by : (ℕ → Option Area) → List Span → Pages
 pages_by areas spans page = option_and_then areas (area_at spans page)
 
 -- how far a change goes that ends at the first page that isn't taken: all before it are
-pub record IsReached (is_taken : ℕ → Bool) (from to past : ℕ) : Type 0 where
+pub record GoesTo (is_taken : ℕ → Bool) (from to past : ℕ) : Type 0 where
   pub lowest : from ≤ past
   pub highest : past ≤ to
   pub all : (page : ℕ) → from ≤ page → page < past → is_taken page ≡ true

@@ -7,14 +7,14 @@ ghost use Rattle.av_base.specs.Limits.{low_page, top_page};
 ghost use Rattle.av_vma.specs.Join.{past_of};
 ghost use Rattle.av_base.specs.Words.{within};
 ghost use Rattle.av_vmatree.specs.Spans.{IsFree, area_at, is_page_taken};
-ghost use Rattle.av_merge.specs.Change.{effect_of};
+ghost use Rattle.av_merge.specs.Changing.{effect_of};
 ghost use Rattle.av_merge.specs.Mapping.{IsRemapped};
-ghost use Rattle.av_merge.specs.Pages.{IsReached, pages_by};
+ghost use Rattle.av_merge.specs.Pages.{GoesTo, pages_by};
 ghost use Rattle.av_vma.specs.Pages.{alters, fresh_area, joined_around, pages_changed, part_changed, with_area, with_effect, after_map};
 ghost use Rattle.av_merge.specs.Kin.{AreInOrder, StayKin, lengths};
 ghost use Rattle.av_merge.specs.Process.{AreAreasOf, Stays, AreOfOne, StayOfOne, Becomes};
 
-use crate::cutting::cut_out;
+use crate::splitting::split_out;
 use crate::joining::{join_at, join_part};
 use crate::placing::add;
 use av_anon::Anons;
@@ -104,7 +104,7 @@ pub fn modify(
     requires forward { from ≤ to }
     ensures stands { StayOfOne areas.old tree.old areas.new tree.new }
     ensures kin { OnOk result (StayKin areas.old anons.old areas.new anons.new) }
-    ensures reached { IfOk result (λ past. IsReached (is_page_taken tree.old) from to past) }
+    ensures reached { IfOk result (λ past. GoesTo (is_page_taken tree.old) from to past) }
     ensures pages { IfOk result (λ past. Becomes areas.old tree.old areas.new tree.new
         (pages_changed (lengths areas.old anons.old) (effect_of change) from (past - from))) }
     ensures mapping { IfOk result (λ past. IsRemapped from past (effect_of change)
@@ -155,7 +155,7 @@ fn modify_part(
         (pages_by (area_of areas.old) tree.old) (pages_by (area_of areas.new) tree.new)) }
 {
     let whole = areas.get(area);
-    let number = cut_out(areas, tree, anons, area, from, past)?;
+    let number = split_out(areas, tree, anons, area, from, past)?;
     let part = areas.get(number);
     areas.change(number, change.apply(part));
     let is_cut_below = whole.start / PAGE_SIZE < from;

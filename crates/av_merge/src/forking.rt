@@ -5,7 +5,7 @@ ghost use Rattle.av_vma.specs.Areas.{area_of};
 ghost use Rattle.av_vma.specs.Join.{first_of, past_of};
 ghost use Rattle.av_vma.specs.Pages.{IsWhole};
 ghost use Rattle.av_vmatree.specs.Spans.{IsFree, is_page_taken};
-ghost use Rattle.av_merge.specs.Fork.{IsForkedTo};
+ghost use Rattle.av_merge.specs.Forking.{IsForkedTo};
 ghost use Rattle.av_merge.specs.Kin.{AreInOrder};
 ghost use Rattle.av_merge.specs.Process.{AreAreasOf, Stays};
 

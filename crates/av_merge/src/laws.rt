@@ -6,7 +6,7 @@ ghost use Rattle.av_vma.specs.Join.{past_of};
 ghost use Rattle.av_vma.specs.declared.area.Area.{Area};
 ghost use Rattle.av_base.specs.Words.{within};
 ghost use Rattle.av_vmatree.specs.declared.span.Span.{Span};
-ghost use Rattle.av_vma.specs.Pages.{AreLaid, Lengths, Pages, Effect, alters, cut_at, without_range, joined_around, part_changed, pages_changed, after_unmap};
+ghost use Rattle.av_vma.specs.Pages.{AreLaid, Lengths, Pages, Effect, alters, split_at, without_range, joined_around, part_changed, pages_changed, after_unmap};
 ghost use Rattle.av_merge.specs.Mapping.{mapping};
 ghost use Rattle.av_merge.specs.Pages.{pages_by};
 ghost use Rattle.av_merge.specs.Process.{AreAreasOf};

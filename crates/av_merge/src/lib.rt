@@ -27,7 +27,7 @@
 #![tactic(auto)]
 
 mod changing;
-mod cutting;
+mod splitting;
 mod forking;
 mod joining;
 mod laws;
@@ -37,7 +37,7 @@ mod placing;
 mod preparing;
 
 pub use changing::{Change, map, modify};
-pub use cutting::{cut, cut_all, split};
+pub use splitting::{split, unmap, unmap_all};
 pub use forking::fork;
 pub use laws::{
     areas_are_laid, cuts_keep_mappings, joins_keep_mappings, parts_are_changed_page_by_page,

@@ -2,17 +2,17 @@
 //! (Linux's `move_vma` and `vma_expand`).
 
 ghost use Rattle.std.specs.Prelude.{◌≡◌, ℕ, suc, ◌+◌, ◌-◌, ◌^◌, ◌<◌, ◌≤◌, ◌⊎◌, min, true, Some, IsSomeAnd, OnOk, IfOk};
-ghost use Rattle.av_base.specs.Limits.{low_page, top_page};
+ghost use Rattle.av_base.specs.Limits.{low_page, top_page, most_indices};
 ghost use Rattle.av_vma.specs.Areas.{area_of};
 ghost use Rattle.av_vma.specs.Join.{first_of, past_of};
 ghost use Rattle.av_vma.specs.Mremap.{IsGrowth, IsMove, after_grow, after_move, grown_to, joined_over, moved_area, moved_range};
-ghost use Rattle.av_vma.specs.Pages.{after_unmap, cut_at, with_area, without_range};
+ghost use Rattle.av_vma.specs.Pages.{after_unmap, split_at, with_area, without_range};
 ghost use Rattle.av_vmatree.specs.Spans.{IsFree, area_at, is_page_taken};
 ghost use Rattle.av_merge.specs.Kin.{AreInOrder, StayKin, lengths};
 ghost use Rattle.av_merge.specs.Pages.{pages_by};
 ghost use Rattle.av_merge.specs.Process.{AreAreasOf, NoneCrosses, Stays, AreOfOne, StayOfOne, Becomes};
 
-use crate::cutting::{cut, split_before};
+use crate::splitting::{split_before, unmap};
 use crate::joining::{join_at, join_ends};
 use crate::linking::take;
 use crate::placing::replace;
@@ -47,7 +47,7 @@ pub fn move_range(
         (after_move (lengths areas.old anons.old) from pages to new_pages)) }
 {
     let common = pages.min(new_pages);
-    cut_ranges(areas, tree, anons, from, pages, to, new_pages)?;
+    clear_ranges(areas, tree, anons, from, pages, to, new_pages)?;
     relocate_all(areas, tree, anons, from, from + common, to)?;
     extend(areas, tree, anons, to + common - 1, to + new_pages)?;
     join_over(areas, tree, anons, to, to + new_pages)
@@ -55,7 +55,7 @@ pub fn move_range(
 
 /// Takes away what stands in the new range and, where that is shorter, the end of the old one; and
 /// cuts before the old one. What is left of it are whole areas.
-fn cut_ranges(
+fn clear_ranges(
     areas: &mut Areas,
     tree: &mut Tree,
     anons: &mut Anons,
@@ -71,11 +71,11 @@ fn cut_ranges(
     ensures kin { OnOk result (StayKin areas.old anons.old areas.new anons.new) }
     ensures pages { OnOk result (Becomes areas.old tree.old areas.new tree.new
         (λ on. after_unmap (from + min pages new_pages) (from + pages)
-        (cut_at from (after_unmap to (to + new_pages) on)))) }
+        (split_at from (after_unmap to (to + new_pages) on)))) }
 {
-    cut(areas, tree, anons, to, to + new_pages)?;
+    unmap(areas, tree, anons, to, to + new_pages)?;
     split_before(areas, tree, anons, from)?;
-    cut(
+    unmap(
         areas,
         tree,
         anons,
@@ -220,7 +220,7 @@ fn extend(
     requires free { IsSomeAnd (pages_by (area_of areas.old) tree.old last)
         (λ area. IsFree (is_page_taken tree.old) (past_of area) past) }
     requires small { IsSomeAnd (pages_by (area_of areas.old) tree.old last)
-        (λ area. area.pgoff + (past - first_of area) ≤ 2 ^ 60) }
+        (λ area. area.pgoff + (past - first_of area) ≤ most_indices) }
     ensures stands { StayOfOne areas.old tree.old areas.new tree.new }
     ensures kin { OnOk result (StayKin areas.old anons.old areas.new anons.new) }
     ensures first { IfOk result (λ first. IsSomeAnd (pages_by (area_of areas.old) tree.old last)

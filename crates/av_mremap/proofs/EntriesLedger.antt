@@ -3,7 +3,7 @@ use Rattle.std.proofs.Common.{◌≡◌, ℕ, ◌+◌, ◌-◌, ◌≤◌, Bool,
 use Rattle.std.specs.Option.{option_or}
 use Rattle.std.proofs.lemmas.Bool.Decides.{nat_tests}
 use Rattle.av_base.specs.Words.{within}
-use Rattle.av_frames.specs.Store.{seen}
+use Rattle.av_frames.specs.Store.{shown}
 use Rattle.av_pagetable.specs.Entries.{entry_at}
 use Rattle.av_pagetable.specs.declared.pte.Pte.{Pte}
 use Rattle.av_pagetable.specs.declared.pte.Pte.TheVariants.{Empty}
@@ -122,7 +122,7 @@ module _ (old new : Mem) (p n from to : ℕ) (bare : (o : ℕ) → within to n o
   event = Moved p n from to
 
   seen_so : view new ≡ record (view old) { table = moved_entries None p n from to (view old).table }
-  seen_so = λ i. view_of_parts (seen (frames i)) (λ q o. table q o i) (spaces i) (anons i)
+  seen_so = λ i. view_of_parts (shown (frames i)) (λ q o. table q o i) (spaces i) (anons i)
     where
       pushed : (a b : Bool) (x y : Pte) → plain (cond a x (cond b Empty y)) ≡ cond a (plain x) (cond b None (plain y))
       pushed true b x y = refl
@@ -134,7 +134,7 @@ module _ (old new : Mem) (p n from to : ℕ) (bare : (o : ℕ) → within to n o
           ∙ pushed (q == p && within to n o) (q == p && within from n o) (entry_at old.tables p (from + (o - to))) (entry_at old.tables q o)
 
   same_count : count new ≡ count old
-  same_count = ap (λ f. (seen f).count) frames
+  same_count = ap (λ f. (shown f).count) frames
 
   none_at : (o : ℕ) → within to n o ≡ true → entry l (p, o) ≡ None
   none_at o inside = sym (stands.parts.tables.entries p o) ∙ ap (λ t. entry_of (plain t)) (bare o inside)

@@ -148,11 +148,11 @@ impl<C: Level> Level for Dir<C> {
         })
     }
 
-    fn protect(&mut self) {
+    fn write_protect(&mut self) {
         let parts = self.parts.make_contiguous();
         for place in 0..parts.len() {
             let part = &mut parts[place];
-            part.1.protect();
+            part.1.write_protect();
         }
     }
 

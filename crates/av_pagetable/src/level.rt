@@ -80,7 +80,7 @@ pub trait Level: Drop {
         ensures { IfOk result (λ t. (page : ℕ) → at t page ≡ child_entry (at self.now page)) };
 
     /// Lets no entry be written in place.
-    fn protect(&mut self)
+    fn write_protect(&mut self)
         ensures { (page : ℕ) → at self.new page ≡ read_only (at self.old page) };
 
     /// How many tables the part is made of.

@@ -68,7 +68,7 @@ impl Level for Pte {
         Ok(Pte::for_child(*self))
     }
 
-    fn protect(&mut self) {
+    fn write_protect(&mut self) {
         *self = self.read_only();
     }
 
@@ -133,8 +133,8 @@ impl Table for RadixTable {
         Ok(RadixTable { top })
     }
 
-    fn protect(&mut self) {
-        self.top.protect();
+    fn write_protect(&mut self) {
+        self.top.write_protect();
     }
 
     fn clear(&mut self) {

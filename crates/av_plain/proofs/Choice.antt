@@ -3,7 +3,8 @@ use Rattle.std.proofs.Common.{◌≡◌, ℕ, zero, suc, ◌+◌, ◌-◌, ◌<�
 use Rattle.std.proofs.lemmas.Bool.Decides.{nat_tests}
 use Rattle.std.specs.Prelude.{MatchOption, fold, unwrap_or}
 use Rattle.std.specs.FinMap.Entries.{is_sorted}
-use Rattle.av_base.specs.Words.{how_many, numbers}
+use Rattle.av_base.specs.Words.{how_many}
+use Rattle.std.specs.List.{range_with_len}
 use Rattle.av_plain.specs.Ledger.{Ledger, Setting, Cached, Key, key_cmp, Entry, InFrame, entry, names_frame, is_free, slot_count}
 use Rattle.av_plain.specs.Event.{Event, set_entry, after, after_all, after_zap}
 use Rattle.av_clusters.specs.Clusters.{Slots, give_slot}
@@ -19,38 +20,38 @@ use Rattle.av_plain.proofs.Sound.Changes.{free-is}
 
 -- ---- filters of a range
 
-none-passes : (test : ℕ → Bool) (a n : ℕ) → ((f : ℕ) → f < a + n → test f ≡ false) → filter test (numbers a n) ≡ []
+none-passes : (test : ℕ → Bool) (a n : ℕ) → ((f : ℕ) → f < a + n → test f ≡ false) → filter test (range_with_len a n) ≡ []
 none-passes test a zero h = refl
 none-passes test a (suc n) h = by (test a) (h a (omega arith)) (none-passes test (a + 1) n (λ f less. h f (omega (arith, less))))
   where
-    by : (b : Bool) → b ≡ false → filter test (numbers (a + 1) n) ≡ [] → cond b (a ∷ filter test (numbers (a + 1) n)) (filter test (numbers (a + 1) n)) ≡ []
+    by : (b : Bool) → b ≡ false → filter test (range_with_len (a + 1) n) ≡ [] → cond b (a ∷ filter test (range_with_len (a + 1) n)) (filter test (range_with_len (a + 1) n)) ≡ []
     by true is rest = cc
     by false is rest = rest
 
-passes-above : (test : ℕ → Bool) (f a n : ℕ) → f < a → ((g : ℕ) → (g == f) ≡ false → test g ≡ false) → filter test (numbers a n) ≡ []
+passes-above : (test : ℕ → Bool) (f a n : ℕ) → f < a → ((g : ℕ) → (g == f) ≡ false → test g ≡ false) → filter test (range_with_len a n) ≡ []
 passes-above test f a zero less h = refl
 passes-above test f a (suc n) less h = by (test a) (h a (grind (arith, nat_tests, less))) (passes-above test f (a + 1) n (omega (arith, less)) h)
   where
-    by : (b : Bool) → b ≡ false → filter test (numbers (a + 1) n) ≡ [] → cond b (a ∷ filter test (numbers (a + 1) n)) (filter test (numbers (a + 1) n)) ≡ []
+    by : (b : Bool) → b ≡ false → filter test (range_with_len (a + 1) n) ≡ [] → cond b (a ∷ filter test (range_with_len (a + 1) n)) (filter test (range_with_len (a + 1) n)) ≡ []
     by true is rest = cc
     by false is rest = rest
 
 one-passes : (test : ℕ → Bool) (f a n : ℕ) → a ≤ f → f < a + n → test f ≡ true → ((g : ℕ) → (g == f) ≡ false → test g ≡ false) →
-    filter test (numbers a n) ≡ f ∷ []
+    filter test (range_with_len a n) ≡ f ∷ []
 one-passes test f a zero low high is others = absurd (omega (arith, low, high))
 one-passes test f a (suc n) low high is others = by (a == f) refl (λ low'. one-passes test f (a + 1) n low' (omega (arith, high)) is others)
   where
-    here : (b : Bool) → b ≡ true → a ≡ f → filter test (numbers (a + 1) n) ≡ [] →
-        cond b (a ∷ filter test (numbers (a + 1) n)) (filter test (numbers (a + 1) n)) ≡ f ∷ []
+    here : (b : Bool) → b ≡ true → a ≡ f → filter test (range_with_len (a + 1) n) ≡ [] →
+        cond b (a ∷ filter test (range_with_len (a + 1) n)) (filter test (range_with_len (a + 1) n)) ≡ f ∷ []
     here true is same rest = λ i. same i ∷ rest i
     here false is same rest = cc
 
-    later : (b : Bool) → b ≡ false → filter test (numbers (a + 1) n) ≡ f ∷ [] →
-        cond b (a ∷ filter test (numbers (a + 1) n)) (filter test (numbers (a + 1) n)) ≡ f ∷ []
+    later : (b : Bool) → b ≡ false → filter test (range_with_len (a + 1) n) ≡ f ∷ [] →
+        cond b (a ∷ filter test (range_with_len (a + 1) n)) (filter test (range_with_len (a + 1) n)) ≡ f ∷ []
     later true is rest = cc
     later false is rest = rest
 
-    by : (b : Bool) → (a == f) ≡ b → (a + 1 ≤ f → filter test (numbers (a + 1) n) ≡ f ∷ []) → filter test (numbers a (suc n)) ≡ f ∷ []
+    by : (b : Bool) → (a == f) ≡ b → (a + 1 ≤ f → filter test (range_with_len (a + 1) n) ≡ f ∷ []) → filter test (range_with_len a (suc n)) ≡ f ∷ []
     by true e rest = here (test a) (ap test (same-is a f e) ∙ is) (same-is a f e)
         (passes-above test f (a + 1) n (let s = same-is a f e in omega (arith, s)) others)
     by false e rest = later (test a) (others a e) (rest (grind (arith, nat_tests, e, low)))
@@ -100,7 +101,7 @@ no-slot-chosen m closing l e slots none turns takes = (
     given : ℕ → Option ℕ → Slots
     given k size = fold give_slot (slots k)
         (filter (λ page. let s : Slot = record { area = k; page = page } in slot_count (after l e) s == 0 && nat_lt 0 (slot_count l s))
-        (numbers 1 (unwrap_or size 0 - 1)))
+        (range_with_len 1 (unwrap_or size 0 - 1)))
 
 -- nothing is taken and nothing becomes free
 pub chooses-kept : (m : Setting) (closing : Option ℕ) (l : Ledger) (e : Event) (free : Free) → ChoosesSlot m closing l e free.slots free.slots →

@@ -9,7 +9,8 @@ use Rattle.av_trace.specs.declared.place.Place.TheVariants.{Auto, At, Fixed, NoR
 use Rattle.av_trace.specs.declared.reply.Errno.{Errno}
 use Rattle.av_trace.specs.declared.reply.Reply.{Reply}
 use Rattle.av_base.specs.Page.{address_of, page_of, pages_of}
-use Rattle.av_base.specs.Words.{how_many, is_in, numbers, within}
+use Rattle.av_base.specs.Words.{how_many, is_in, within}
+use Rattle.std.specs.List.{range_with_len}
 use Rattle.av_base.specs.declared.slot.Slot.{Slot}
 use Rattle.av_trace.specs.declared.note.Cause.TheVariants.{NoSlot, Referenced, WriteStarted, Writeback}
 use Rattle.av_trace.specs.declared.note.Note.{Note}
@@ -23,7 +24,7 @@ use Rattle.av_plain.specs.Ledger.{Cached, Entry, InFrame, InSlot, Key, Ledger, S
 use Rattle.av_plain.specs.Pass.{Completes, IsPass, IsSlotFor, Seeks, Spared, TakesFor, Turns, end_note, end_notes, frames_in_turn, is_dirty, is_stuck, stays_cached, turn_notes, unmap_notes}
 use Rattle.av_plain.specs.Refusal.{Refuses, refusal, tests}
 use Rattle.av_plain.specs.Sound.{AllSound, IsSound, count, flights, holders, uses}
-use Rattle.av_plain.specs.Step.{Follows, IsLegal, closing_area}
+use Rattle.av_plain.specs.Step.{Follows, IsLegal, closing_swap_area}
 use Rattle.av_plain.specs.Transcript.{Exchange, IsRun, IsStep, State, at_first}
 use Rattle.av_plain.specs.World.{World, lives}
 use Rattle.av_plain.specs.Mremap.{events_to, range_zaps, remap_events}
@@ -51,7 +52,7 @@ use Rattle.av_plain.proofs.Zap.{in_order-after_zap, map_count-after_zap, same_sw
 
 -- ---- the numbers of a range, each once
 
-once : (g a n : ℕ) → how_many (λ x. g == x) (numbers a n) ≡ cond (nat_le a g && nat_lt g (a + n)) 1 0
+once : (g a n : ℕ) → how_many (λ x. g == x) (range_with_len a n) ≡ cond (nat_le a g && nat_lt g (a + n)) 1 0
 once g a zero = out (nat_le a g && nat_lt g (a + 0)) (grind (arith, nat_tests))
   where
     out : (b : Bool) → b ≡ false → ◌≡◌ {A = ℕ} 0 (cond b 1 0)
@@ -108,7 +109,7 @@ lists-event : (m : Setting) (l l' : Ledger) (taken : Option ℕ) (free rest : Li
     Steady l l' taken → Lists m l free → Lists m l' (new_free m l l' ++ rest)
 lists-event m l l' taken free rest first steady h g =
     let a = how_many-append (λ x. g == x) (new_free m l l') rest in
-    let b = count-filter (λ f. is_free l' f && not (is_free l f)) g (numbers 0 m.frames) in
+    let b = count-filter (λ f. is_free l' f && not (is_free l f)) g (range_with_len 0 m.frames) in
     let c = once g 0 m.frames in
     let d = h g in
     by (is_free l' g) (is_free l g) (nat_lt g m.frames) (is_that taken g) _ _ _ _ _ (uses l g) (uses l' g) (free-is l' g) (free-is l g) a b
@@ -624,14 +625,14 @@ run-lists : (m : Setting) (old : State) (es : List Exchange) (new : State)
 run-lists m old [] new s h q = subst (λ (x : State). Lists m x.ledger x.free.frames) (sym q) h
 run-lists m old (e ∷ es) new s h q =
     let step = q.1 in
-    let chosen = frames-chosen m (closing_area e.command) old.ledger step.events old.free q.0.free
+    let chosen = frames-chosen m (closing_swap_area e.command) old.ledger step.events old.free q.0.free
     step.free in
     let next = subst (λ x. Lists m x q.0.free.frames) (sym step.ledger)
     (legal-lists m old.world old.ledger e.command e.reply step.events old.free.frames
     q.0.free.frames s step.legal chosen h) in
     run-lists m q.0 es new (step-sound m old e.command e.reply q.0 s step) next q.2
 
-first-lists : (m : Setting) → Lists m first_ledger (numbers 0 m.frames)
+first-lists : (m : Setting) → Lists m first_ledger (range_with_len 0 m.frames)
 first-lists m g = once g 0 m.frames ∙ ap (λ b. cond b 1 0) (plain g m.frames)
   where
     plain : (g n : ℕ) → (nat_le 0 g && nat_lt g (0 + n)) ≡ nat_lt g n
@@ -643,15 +644,15 @@ to_lists m l free h f = h f ∙ ap (λ b. cond (b && nat_lt f m.frames) 1 0) (fr
 from_lists : (m : Setting) (l : Ledger) (free : List ℕ) → Lists m l free → ListsFree m l free
 from_lists m l free h f = h f ∙ ap (λ b. cond (b && nat_lt f m.frames) 1 0) (sym (free-is l f))
 
-pub first-lists_free : (m : Setting) → ListsFree m first_ledger (numbers 0 m.frames)
-first-lists_free m = from_lists m first_ledger (numbers 0 m.frames) (first-lists m)
+pub first-lists_free : (m : Setting) → ListsFree m first_ledger (range_with_len 0 m.frames)
+first-lists_free m = from_lists m first_ledger (range_with_len 0 m.frames) (first-lists m)
 
 pub step-lists_free : (m : Setting) (old : State) (command : Command) (reply : Reply) (new : State)
     → AllSound m old.world old.ledger → ListsFree m old.ledger old.free.frames
     → IsStep m old command reply new
     → ListsFree m new.ledger new.free.frames
 step-lists_free m old command reply new s h step =
-    let chosen = frames-chosen m (closing_area command) old.ledger step.events old.free new.free
+    let chosen = frames-chosen m (closing_swap_area command) old.ledger step.events old.free new.free
     step.free in
     subst (λ l. ListsFree m l new.free.frames) (sym step.ledger)
     (from_lists m (after_all old.ledger step.events) new.free.frames

@@ -1,10 +1,10 @@
 -- Without a device no slot is in use: a page has at most one note, and is never lost.
-use Rattle.std.specs.List.{AllByRecursion}
+use Rattle.std.specs.List.{AllByRecursion, range_with_len}
 use Rattle.std.specs.Prelude.{MatchBool, MatchOption, IsTrue, unwrap_or}
 use Rattle.std.proofs.Common.{◌≡◌, ◌⊎◌, inl, inr, ℕ, zero, suc, ◌+◌, ◌-◌, ◌<◌, min, Bool, true, false, cond, not, ◌&&◌, List, [], ◌∷◌, ◌++◌, Option, Some, None, is_some, refl, sym, ap, subst, ◌∙◌, arith, ◌==◌, nat_lt, append-nil}
 use Rattle.std.proofs.lemmas.Bool.Decides.{nat_tests}
 use Rattle.av_base.specs.Page.{address_of}
-use Rattle.av_base.specs.Words.{how_many, numbers}
+use Rattle.av_base.specs.Words.{how_many}
 use Rattle.av_base.specs.declared.slot.Slot.{Slot}
 use Rattle.av_trace.specs.declared.note.Note.{Note}
 use Rattle.av_trace.specs.declared.reply.OutOf.{OutOf}
@@ -273,7 +273,7 @@ none-counted test (x ∷ xs) h = let a : ◌≡◌ {A = ℕ} (cond (test x) 1 0)
 
 -- where nothing is cached, no frame is counted as cached
 none-cached : (m : Setting) (sp : Spared) (l : Ledger) → l.cache ≡ [] → how_many_others m sp (λ f. is_some (slot_of l f)) ≡ 0
-none-cached m sp l cache = none-counted (λ f. not (sp.frame f) && is_some (slot_of l f)) (numbers 0 m.frames)
+none-cached m sp l cache = none-counted (λ f. not (sp.frame f) && is_some (slot_of l f)) (range_with_len 0 m.frames)
     (λ f. ap (λ o. not (sp.frame f) && is_some o) (no_slot l f cache) ∙ and_false (not (sp.frame f)))
   where
     and_false : (b : Bool) → (b && false) ≡ false

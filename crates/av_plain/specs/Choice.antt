@@ -2,11 +2,11 @@
 -- each in an order that follows the events. This is not part of what makes a reply legal. No
 -- command turns a swap area on yet.
 use Rattle.std.specs.FinMap.Entries.{find as find_area}
-use Rattle.std.specs.List.{find}
+use Rattle.std.specs.List.{find, range_with_len}
 use Rattle.std.specs.Option.{option_map_or}
 use Rattle.std.specs.Ordering.{nat_cmp}
 use Rattle.std.specs.Prelude.{◌≡◌, ◌≤◌, ℕ, min, ◌+◌, ◌-◌, not, ◌&&◌, ◌==◌, nat_lt, if◌then◌else◌, true, false, List, [], ◌∷◌, ◌++◌, filter, fold, count_by, option_map, Option, Some, None, IsSomeAnd, MatchOption}
-use Rattle.av_base.specs.Words.{how_many, numbers, with_at}
+use Rattle.av_base.specs.Words.{how_many, with_at}
 use Rattle.av_base.specs.declared.slot.Slot.{Slot}
 use Rattle.av_clusters.specs.Clusters.{Slots, fresh, take_slot, give_slot, is_free as is_free_page, is_taken, page_at}
 use Rattle.av_swapdev.specs.Device.{most_pages}
@@ -45,7 +45,7 @@ frame_in event = None
 
 -- the frames of the machine that are free now and weren't, rising
 abbrev pub new_free : Setting → Ledger → Ledger → List ℕ
-new_free m old new = filter (λ f. is_free new f && not (is_free old f)) (numbers 0 m.frames)
+new_free m old new = filter (λ f. is_free new f && not (is_free old f)) (range_with_len 0 m.frames)
 
 -- a frame that an event takes is the first of the free ones, and what has become free goes in front
 abbrev pub ChoosesFrame : Setting → Ledger → Event → List ℕ → List ℕ → Type 0
@@ -66,15 +66,15 @@ slot_in (Noted note) = slot_in_note note
 slot_in event = None
 
 -- the swap area that gives a slot: the first that is on, is not closing and has a free one
-abbrev pub giving_area : Setting → Option ℕ → Ledger → Option ℕ
-giving_area m closing l =
+abbrev pub giving_swap_area : Setting → Option ℕ → Ledger → Option ℕ
+giving_swap_area m closing l =
     option_map (λ a. a.0)
     (find (λ (a : ℕ × SwapArea). is_open closing a.0 && nat_lt 0 (free_slots m l a)) l.on)
 
 -- the slot is the one that the clusters of that area give
 abbrev pub IsGiven : Setting → Option ℕ → Ledger → Slot → AreaSlots → AreaSlots → Type 0
 IsGiven m closing l s slots slots' =
-    (giving_area m closing l ≡ Some s.area)
+    (giving_swap_area m closing l ≡ Some s.area)
     × IsSomeAnd (take_slot (slots s.area))
     (λ t. (t.0 ≡ s.page) × (slots' ≡ with_at s.area t.1 slots))
 
@@ -102,7 +102,7 @@ abbrev pub new_free_slots : Setting → Ledger → Ledger → ℕ → List ℕ
 new_free_slots m old new k =
     filter (λ page. let s : Slot = record { area = k; page = page } in
     slot_count new s == 0 && nat_lt 0 (slot_count old s))
-    (numbers 1 (size_of m k - 1))
+    (range_with_len 1 (size_of m k - 1))
 
 -- they are given back to their clusters
 abbrev pub with_given_back : Setting → Ledger → Ledger → AreaSlots → AreaSlots

@@ -1,6 +1,6 @@
 -- Devices with swap areas, as a run sees them.
 use Rattle.std.specs.Prelude.{◌≡◌, ◌≤◌, ℕ, List, [], Option, Some, None, option_map, option_and_then, Result, Ok, Err}
-use Rattle.av_swapdev.specs.declared.header.HeaderFault.{HeaderFault}
+use Rattle.av_swapdev.specs.declared.header.HeaderErr.{HeaderErr}
 use Rattle.av_swapdev.specs.Header.{Layout, header_of}
 use Rattle.av_plain.specs.Ledger.{Setting}
 
@@ -16,7 +16,7 @@ abbrev pub no_device : Device
 no_device = record { sizes = λ k. None; pages = Some (λ k page. []); faults = 0 }
 
 -- what a header says, if it has no fault
-abbrev pub without_fault : Result Layout HeaderFault → Option Layout
+abbrev pub without_fault : Result Layout HeaderErr → Option Layout
 without_fault (Ok layout) = Some layout
 without_fault (Err fault) = None
 

@@ -2,7 +2,8 @@
 -- after the other, each with a chain.
 use Rattle.std.specs.Option.{option_map_or}
 use Rattle.std.specs.Prelude.{◌≡◌, ◌<◌, ◌≤◌, ◌==◌, ℕ, suc, Bool, true, false, List, [], ◌∷◌, ◌++◌, map, Option, Some, None, IfSome, IsSomeAnd}
-use Rattle.av_base.specs.Words.{how_many, is_in, numbers, with_at}
+use Rattle.av_base.specs.Words.{how_many, is_in, with_at}
+use Rattle.std.specs.List.{range_with_len}
 use Rattle.av_trace.specs.declared.command.Command.{Command}
 use Rattle.av_trace.specs.declared.command.Command.TheVariants.{Fork}
 use Rattle.av_trace.specs.declared.reply.Answer.{Answer}
@@ -37,7 +38,7 @@ is_child v (Some anon) = anon.parent == v
 
 -- how many have it as their parent; a root is one of its own
 abbrev pub children : Anons → ℕ → ℕ
-children anons v = how_many (λ u. is_child v (anons.anon u)) (numbers 0 anons.next)
+children anons v = how_many (λ u. is_child v (anons.anon u)) (range_with_len 0 anons.next)
 
 -- an anon_vma that an area of a child may have as its own again: it has fewer than two children, no
 -- area has it as its own, and it is there and no root

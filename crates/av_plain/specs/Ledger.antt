@@ -1,13 +1,13 @@
 -- What the system keeps of frames and slots, keyed by process and page. Walks and counts are
 -- filters of the entries.
 use Rattle.std.specs.FinMap.Entries.{find}
-use Rattle.std.specs.List.{list_any, list_all}
+use Rattle.std.specs.List.{list_any, list_all, range_with_len}
 use Rattle.std.specs.Option.{option_map_or}
 use Rattle.std.specs.Ordering.{nat_cmp, ordering_then}
 use Rattle.std.specs.Prelude.{◌≡◌, ℕ, ◌+◌, ◌-◌, Bool, true, false, not, ◌&&◌, ◌==◌, if◌then◌else◌, List, [], ◌∷◌, map, filter, Option, Some, None, is_some, ◌||◌, length, nat_lt, sum_by, option_map, ◌*◌, is_none, unwrap_or}
 use Rattle.std.specs.declared.cmp.Ordering.{Ordering}
 use Rattle.av_swapdev.specs.Header.{Layout}
-use Rattle.av_base.specs.Words.{how_many, is_in, numbers}
+use Rattle.av_base.specs.Words.{how_many, is_in}
 use Rattle.av_base.specs.declared.slot.Slot.{Slot}
 
 -- ---- what does not change in a run
@@ -133,11 +133,11 @@ is_free l f = map_count l f == 0 && is_none (slot_of l f)
 
 -- the free frames, rising
 abbrev pub free_frames : Setting → Ledger → List ℕ
-free_frames m l = filter (is_free l) (numbers 0 m.frames)
+free_frames m l = filter (is_free l) (range_with_len 0 m.frames)
 
 -- whether a frame is free
 abbrev pub has_free : Setting → Ledger → Bool
-has_free m l = list_any (is_free l) (numbers 0 m.frames)
+has_free m l = list_any (is_free l) (range_with_len 0 m.frames)
 
 -- there is a frame, and no entry names it
 abbrev pub is_unmapped : Ledger → Option ℕ → Bool
@@ -182,7 +182,7 @@ is_free_slot m l s =
 abbrev pub slots_in_use : Setting → Ledger → ℕ → List ℕ
 slots_in_use m l k =
     filter (λ page. nat_lt 0 (slot_count l (record { area = k; page = page })))
-    (numbers 1 (size_of m k - 1))
+    (range_with_len 1 (size_of m k - 1))
 
 -- how many slots of the area are free
 abbrev pub free_slots : Setting → Ledger → ℕ × SwapArea → ℕ

@@ -1,7 +1,8 @@
 -- Eviction: writes to slots that end, and the direct pass over all frames where none is free. And
 -- what an out-of-memory says.
 use Rattle.std.specs.Prelude.{◌≡◌, ℕ, ◌<◌, Bool, true, false, not, ◌&&◌, ◌||◌, ◌==◌, if◌then◌else◌, IsTrue, MatchBool, List, [], ◌∷◌, ◌++◌, filter, reverse, Option, is_some, is_none, MatchOption}
-use Rattle.av_base.specs.Words.{how_many, numbers}
+use Rattle.av_base.specs.Words.{how_many}
+use Rattle.std.specs.List.{range_with_len}
 use Rattle.av_base.specs.declared.slot.Slot.{Slot}
 use Rattle.av_trace.specs.declared.reply.OutOf.{OutOf}
 use Rattle.av_trace.specs.declared.note.Note.{Note}
@@ -114,7 +115,7 @@ pub record TakesFor (m : Setting) (spared : Spared) (l : Ledger) (notes : List N
 
 -- how many frames of the machine a pass doesn't leave alone, of those that pass the test
 abbrev pub how_many_others : Setting → Spared → (ℕ → Bool) → ℕ
-how_many_others m spared test = how_many (λ f. not (spared.frame f) && test f) (numbers 0 m.frames)
+how_many_others m spared test = how_many (λ f. not (spared.frame f) && test f) (range_with_len 0 m.frames)
 
 -- the numbers of an out-of-memory: frames that are pinned, not cached, and cached
 abbrev pub out_of : Setting → Option ℕ → Spared → Ledger → OutOf

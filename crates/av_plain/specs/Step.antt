@@ -50,8 +50,8 @@ next_world m w l events command answer = next (with_loads m w l events) command 
 -- ---- what each command does
 
 -- the swap area that a command closes while it runs: none does so yet
-abbrev pub closing_area : Command → Option ℕ
-closing_area command = None
+abbrev pub closing_swap_area : Command → Option ℕ
+closing_swap_area command = None
 
 -- what each command does where it isn't refused: its events, its answer and its rows
 abbrev pub Follows : Setting → World → Ledger → Command → List Event → Answer → List Row → Type 0

@@ -1,6 +1,6 @@
 -- Transcripts: commands with their replies, in order.
 use Rattle.std.specs.Prelude.{ℕ, List, [], ◌∷◌, ◌≡◌, sum_by}
-use Rattle.av_base.specs.Words.{numbers}
+use Rattle.std.specs.List.{range_with_len}
 use Rattle.av_trace.specs.declared.command.Command.{Command}
 use Rattle.av_trace.specs.declared.reply.Reply.{Reply}
 use Rattle.av_plain.specs.Areas.{Anons, Areas, Homes, Rmap, no_anons, no_areas, no_homes, rmap_after_all}
@@ -9,7 +9,7 @@ use Rattle.av_plain.specs.Event.{Event, after_all}
 use Rattle.av_plain.specs.Fork.{IsRmapNext}
 use Rattle.av_plain.specs.Ledger.{Setting, first_ledger, Ledger}
 use Rattle.av_plain.specs.Report.{ShowsAreas}
-use Rattle.av_plain.specs.Step.{IsLegal, causes, closing_area, next_world}
+use Rattle.av_plain.specs.Step.{IsLegal, causes, closing_swap_area, next_world}
 use Rattle.av_plain.specs.World.{World}
 
 -- a command and its reply
@@ -48,7 +48,7 @@ abbrev pub at_first : Setting → State
 at_first m = record {
   world = [];
   ledger = first_ledger;
-  free = record { frames = numbers 0 m.frames; slots = no_slots };
+  free = record { frames = range_with_len 0 m.frames; slots = no_slots };
   areas = no_areas;
   anons = no_anons;
   homes = no_homes;
@@ -61,7 +61,7 @@ pub record IsStep (m : Setting) (old : State) (command : Command) (reply : Reply
   pub legal : IsLegal m old.world old.ledger command reply events
   pub world : new.world ≡ next_world m old.world old.ledger events command reply.answer
   pub ledger : new.ledger ≡ after_all old.ledger events
-  pub free : ChoosesAll m (closing_area command) old.ledger events old.free new.free
+  pub free : ChoosesAll m (closing_swap_area command) old.ledger events old.free new.free
   pub rmap : IsRmapNext (rmap_after_all old.ledger events (rmap_of old)) old.world command
       reply.answer (rmap_of new)
   pub shows : ShowsAreas old.areas old.anons command reply.answer reply.rows

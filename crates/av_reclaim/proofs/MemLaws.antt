@@ -4,16 +4,16 @@ use Rattle.std.proofs.lemmas.Bool.Decides.{nat_tests}
 use Rattle.std.proofs.lemmas.Bool.{false≢true}
 use Rattle.std.specs.Prelude.{IfSome, IsSomeAnd, option_map, length, map}
 use Rattle.std.specs.FinMap.Entries.{find as find_key}
-use Rattle.std.specs.List.{find, list_any}
+use Rattle.std.specs.List.{find, list_any, range_with_len}
 use Rattle.std.specs.Option.{option_map_or}
 use Rattle.std.specs.Ordering.{nat_cmp}
 use Rattle.av_base.specs.declared.slot.Slot.{Slot}
 use Rattle.av_base.specs.declared.prot.Prot.{Prot}
-use Rattle.av_base.specs.Words.{is_in, numbers, within}
+use Rattle.av_base.specs.Words.{is_in, within}
 use Rattle.av_vma.specs.declared.area.Area.{Area}
 use Rattle.av_vma.specs.Join.{first_of, past_of}
 use Rattle.av_vma.specs.Pages.{has_page, pages_in}
-use Rattle.av_frames.specs.Store.{Store, Seen, seen, fresh as fresh_frames}
+use Rattle.av_frames.specs.Store.{Store, Shown, shown, fresh as fresh_frames}
 use Rattle.av_pagetable.specs.declared.pte.Pte.{Pte}
 use Rattle.av_pagetable.specs.Entries.{ProcessTables, entry_at, has, with_entry}
 use Rattle.av_pagetable.proofs.Entries.{none_there}
@@ -109,7 +109,7 @@ all_apart s rising p = by (areas_of s p) (rising p)
 -- tables with the same entries are seen alike
 pub view_same : (old new : Mem) → entry_at new.tables ≡ entry_at old.tables → new.frames ≡ old.frames → new.spaces ≡ old.spaces →
     new.anons ≡ old.anons → view new ≡ view old
-view_same old new tables frames spaces anons = λ i. view_of_parts (seen (frames i)) (λ p page. plain (tables i p page)) (spaces i) (anons i)
+view_same old new tables frames spaces anons = λ i. view_of_parts (shown (frames i)) (λ p page. plain (tables i p page)) (spaces i) (anons i)
 
 pub plain_set : (old new : ℕ → ℕ → Pte) (p page : ℕ) (e : Pte) → new ≡ with_entry p page e old
     → ◌≡◌ {A = ℕ → ℕ → Option Plain} (λ q o. plain (new q o)) (with_entry p page (plain e) (λ q o. plain (old q o)))
@@ -123,7 +123,7 @@ plain_set old new p page e is = λ k q o. (ap (λ f. plain (f q o)) is ∙ pushe
 pub entry_put_in : (old new : Mem) (p page : ℕ) (e : Pte) → entry_at new.tables ≡ with_entry p page e (entry_at old.tables) → new.frames ≡ old.frames →
     new.spaces ≡ old.spaces → new.anons ≡ old.anons
     → view new ≡ record (view old) { table = with_entry p page (plain e) (view old).table }
-entry_put_in old new p page e is frames spaces anons = λ i. view_of_parts (seen (frames i))
+entry_put_in old new p page e is frames spaces anons = λ i. view_of_parts (shown (frames i))
     (plain_set (entry_at old.tables) (entry_at new.tables) p page e is i) (spaces i) (anons i)
 
 -- ---- no slot is cached
@@ -197,22 +197,22 @@ kept-nothing v l (Some (InSlot s)) = at (frame_at l s)
 nothing : {A : Type 0} {x : A} → None ≡ Some x → ⊥
 nothing e = cc
 
-pub fresh-keeps : (frames : Store) (tables : ProcessTables) (spaces : AllSpaces) (anons : AnonSet) (n : ℕ) → seen frames ≡ fresh_frames n →
+pub fresh-keeps : (frames : Store) (tables : ProcessTables) (spaces : AllSpaces) (anons : AnonSet) (n : ℕ) → shown frames ≡ fresh_frames n →
     ((p : ℕ) → has tables p ≡ false) → spaces.processes ≡ []
     → ((number : ℕ) → area_of spaces.areas number ≡ None) → family anons ≡ nobody → ((v : ℕ) → spans_of anons v ≡ [])
     → Keeps (record { frames = frames; tables = tables; spaces = spaces; anons = anons }) (at_first (setting n))
 fresh-keeps frames tables spaces anons n is none empty unused nobodies unspanned = record {
   stands = record {
     over = record { sizes = refl; headers = refl };
-    sound = first-sound (setting (seen frames).count);
+    sound = first-sound (setting (shown frames).count);
     parts = record {
       ledger = record {
         frames = record {
           frames = refl;
-          maps = λ f. ap (λ (s : Seen). s.maps f) is;
-          slots = λ f. ap (λ (s : Seen). s.slot f) is;
+          maps = λ f. ap (λ (s : Shown). s.maps f) is;
+          slots = λ f. ap (λ (s : Shown). s.slot f) is;
           dirty = λ f. tt;
-          free = λ f below. ap (λ (s : Seen). is_in f s.free) is ∙ is_in-numbers 0 n f (omega arith) (let same = ap (λ (s : Seen). s.count) is in
+          free = λ f below. ap (λ (s : Shown). is_in f s.free) is ∙ is_in-numbers 0 n f (omega arith) (let same = ap (λ (s : Shown). s.count) is in
               omega (arith, below, same));
         };
         lists = record { active = refl };
@@ -231,7 +231,7 @@ fresh-keeps frames tables spaces anons n is none empty unused nobodies unspanned
       bytes = record { kept = λ p page. tt; clean = λ s a b. tt };
       headers = λ k. tt;
     };
-    free = ap (λ (s : Seen). frames_free s.free) is;
+    free = ap (λ (s : Shown). frames_free s.free) is;
     lists = none_listed;
     areas = λ p page. ap (λ (s : Spaces). pages_of s p page) empty;
     anons = record {
@@ -239,7 +239,7 @@ fresh-keeps frames tables spaces anons n is none empty unused nobodies unspanned
       kin = λ v. ap (λ (f : Family). option_map kin_of (option_map (anon_vma (chain_by spaces anons (Some v))) (f.info v))) nobodies;
       chains = λ p page. tt;
     };
-    homes = λ f. ap (λ (s : Seen). s.home f) is;
+    homes = λ f. ap (λ (s : Shown). s.home f) is;
     reach = sound-first m;
   };
   tables = λ p. none p ∙ sym (ap (λ (s : Spaces). is_some (ranges_of s p)) empty);
@@ -256,7 +256,7 @@ fresh-keeps frames tables spaces anons n is none empty unused nobodies unspanned
     k = record { frames = frames; tables = tables; spaces = spaces; anons = anons }
 
     m : Setting
-    m = setting (seen frames).count
+    m = setting (shown frames).count
 
     in_order : InOrder spaces anons
     in_order = subst (λ (areas : ℕ → Option Area). IsInOrder areas (family anons) (spans_of anons)) (λ i number. sym (unused number) i)
@@ -269,6 +269,6 @@ fresh-keeps frames tables spaces anons n is none empty unused nobodies unspanned
     none_on_page : (p page : ℕ) → pages_of spaces.processes p page ≡ None
     none_on_page p page = ap (λ (s : Spaces). pages_of s p page) empty
 
-    none_listed : ListsAll m first_ledger (frames_free (numbers 0 n))
-    none_listed = listed k m first_ledger (numbers 0 n) (record { finds = λ s. refl; counts = λ s. refl; flight = refl; on = refl })
-        (subst (λ j. ListsFree m first_ledger (numbers 0 j)) (ap (λ (s : Seen). s.count) is) (first-lists_free m))
+    none_listed : ListsAll m first_ledger (frames_free (range_with_len 0 n))
+    none_listed = listed k m first_ledger (range_with_len 0 n) (record { finds = λ s. refl; counts = λ s. refl; flight = refl; on = refl })
+        (subst (λ j. ListsFree m first_ledger (range_with_len 0 j)) (ap (λ (s : Shown). s.count) is) (first-lists_free m))

@@ -1,7 +1,7 @@
 -- What the view of the memory system is put together from. Where tables are changed as a whole and frames one by one, it also says what holds in between.
 use Rattle.std.proofs.Common.{◌≡◌, ℕ}
 use Rattle.av_anon.specs.declared.anons.Anons.{Anons as AnonSet}
-use Rattle.av_frames.specs.Store.{Seen, seen}
+use Rattle.av_frames.specs.Store.{Shown, shown}
 use Rattle.av_pagetable.specs.declared.pte.Pte.{Pte}
 use Rattle.av_pagetable.specs.Entries.{entry_at, with_entry}
 use Rattle.av_plain.specs.Ledger.{Ledger}
@@ -12,7 +12,7 @@ use Rattle.av_reclaim.specs.Mem.{SoundLedger, plain, setting, view_of_parts}
 use Rattle.av_reclaim.proofs.MemLaws.{plain_set}
 
 pub record Parts : Type 0 where
-  pub frames : Seen
+  pub frames : Shown
   pub table : ℕ → ℕ → Pte
   pub spaces : AllSpaces
   pub anons : AnonSet
@@ -21,7 +21,7 @@ abbrev pub seen_as : Parts → View
 seen_as k = view_of_parts k.frames (λ p page. plain (k.table p page)) k.spaces k.anons
 
 abbrev pub parts_of : Mem → Parts
-parts_of k = record { frames = seen k.frames; table = entry_at k.tables; spaces = k.spaces; anons = k.anons }
+parts_of k = record { frames = shown k.frames; table = entry_at k.tables; spaces = k.spaces; anons = k.anons }
 
 -- they stand for a ledger
 abbrev pub Stand : Parts → Ledger → Type 0

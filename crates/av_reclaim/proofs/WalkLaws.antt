@@ -7,7 +7,6 @@ use Rattle.std.specs.List.{AllByRecursion, list_any}
 use Rattle.std.specs.FinMap.Entries.{below_all, is_sorted}
 use Rattle.std.specs.Ordering.{is_lt}
 use Rattle.std.specs.Option.{option_map_or}
-use Rattle.av_arena.specs.Order.{AllOf}
 use Rattle.av_base.specs.Limits.{top_page}
 use Rattle.av_base.specs.Words.{how_many, is_in}
 use Rattle.av_chain.specs.Links.{one_if}
@@ -58,11 +57,11 @@ is_true false h = absurd h
 abbrev keys_of : (Entry → Bool) → List (Key × Entry) → List Key
 keys_of p es = map (λ e. e.0) (filter (λ e. p e.1) es)
 
-below-all : (p : Entry → Bool) (k : Key) (es : List (Key × Entry)) → T (below_all key_cmp k es) → AllOf (IsBefore k) (keys_of p es)
+below-all : (p : Entry → Bool) (k : Key) (es : List (Key × Entry)) → T (below_all key_cmp k es) → AllByRecursion (IsBefore k) (keys_of p es)
 below-all p k [] h = tt
 below-all p k (e ∷ es) h = by (p e.1) (below-all p k es (both_second _ _ h))
   where
-    by : (b : Bool) → AllOf (IsBefore k) (keys_of p es) → AllOf (IsBefore k) (map (λ e. e.0) (cond b (e ∷ filter (λ e. p e.1) es) (filter (λ e. p e.1) es)))
+    by : (b : Bool) → AllByRecursion (IsBefore k) (keys_of p es) → AllByRecursion (IsBefore k) (map (λ e. e.0) (cond b (e ∷ filter (λ e. p e.1) es) (filter (λ e. p e.1) es)))
     by true rest = (below-before k e.0 (is_true (is_lt (key_cmp k e.0)) (both_first _ _ h)), rest)
     by false rest = rest
 

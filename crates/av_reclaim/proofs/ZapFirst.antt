@@ -2,7 +2,7 @@
 use Rattle.std.proofs.Common.{◌≡◌, ℕ, ◌<◌, ◌≤◌, Bool, true, false, ◌&&◌, [], Option, Some, None, refl, sym, ap, subst, ◌∙◌, arith, ◌==◌, is_some}
 use Rattle.std.proofs.lemmas.Bool.Decides.{nat_tests}
 use Rattle.av_base.specs.Words.{is_in}
-use Rattle.av_frames.specs.Store.{Seen}
+use Rattle.av_frames.specs.Store.{Shown}
 use Rattle.av_pagetable.specs.declared.pte.Pte.{Pte}
 use Rattle.av_pagetable.specs.declared.pte.Pte.TheVariants.{Empty, Zero as ZeroPte, Here, Away}
 use Rattle.av_pagetable.specs.Table.{IsFirst}
@@ -68,8 +68,8 @@ module _ (old : Parts) (l : Ledger) (stands : Stand old l) where
         new.anons ≡ old.anons → Takes old new l p from past None
     none_taken none tables frames spaces anons = (
       λ q low high. nothing_at p q (none q low high),
-      ap (λ (f : Seen). frames_free f.free) frames,
-      subst (λ n. SoundLedger (setting n) (seen_as new) l) (sym (ap (λ (f : Seen). f.count) frames))
+      ap (λ (f : Shown). frames_free f.free) frames,
+      subst (λ n. SoundLedger (setting n) (seen_as new) l) (sym (ap (λ (f : Shown). f.count) frames))
           (subst (λ v. SoundLedger (setting old.frames.count) v l) (sym (parts_same old new tables frames spaces anons)) stands),
     )
 
@@ -84,9 +84,9 @@ module _ (old : Parts) (l : Ledger) (stands : Stand old l) where
             first.from_there,
             ap is_some there,
             least,
-            subst (Chooses (setting old.frames.count) None l (Zapped (p, page)) (free_of (seen_as old))) (sym (ap (λ (f : Seen). frames_free f.free) frames))
+            subst (Chooses (setting old.frames.count) None l (Zapped (p, page)) (free_of (seen_as old))) (sym (ap (λ (f : Shown). frames_free f.free) frames))
                 (zero_freed (setting old.frames.count) (seen_as old) l p page cache stands refl (λ s. refl) (λ k. refl) there),
-            subst (λ n. SoundLedger (setting n) (seen_as new) (after_zap (p, page) l)) (sym (ap (λ (f : Seen). f.count) frames))
+            subst (λ n. SoundLedger (setting n) (seen_as new) (after_zap (p, page) l)) (sym (ap (λ (f : Shown). f.count) frames))
                 (subst (λ v. SoundLedger (setting old.frames.count) v (after_zap (p, page) l)) (sym (parts_put old new p page Empty tables frames spaces anons))
                 (zero_left (setting old.frames.count) (seen_as old) l p page cache stands refl (λ s. refl) there)),
           )

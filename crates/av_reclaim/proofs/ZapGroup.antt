@@ -5,7 +5,7 @@ use Rattle.std.proofs.lemmas.Bool.Decides.{nat_tests}
 use Rattle.std.proofs.lemmas.Bool.{cases_lt}
 use Rattle.av_anon.specs.declared.anons.Anons.{Anons as AnonSet}
 use Rattle.av_base.specs.Words.{with_at}
-use Rattle.av_frames.specs.Store.{Seen, seen}
+use Rattle.av_frames.specs.Store.{Shown, shown}
 use Rattle.av_pagetable.specs.Entries.{entry_at, with_entry}
 use Rattle.av_pagetable.specs.Table.{IsFirst}
 use Rattle.av_pagetable.specs.declared.pte.Pte.{Pte}
@@ -70,14 +70,14 @@ module _ (p : ℕ) (old : ℕ → ℕ → Pte) where
       ]
 
   module _ (first_parts : Parts) (spaces : AllSpaces) (anons : AnonSet) (past : ℕ) (first : Ledger) where
-    abbrev parts : Seen → ℕ → Parts
+    abbrev parts : Shown → ℕ → Parts
     parts frames next = record { frames = frames; table = stage p old next; spaces = spaces; anons = anons }
 
     -- those below a page are gone
-    abbrev pub IsZapping : Seen → ℕ → Type 0
+    abbrev pub IsZapping : Shown → ℕ → Type 0
     IsZapping frames next = IsTaking first_parts (parts frames next) p 0 past next first
 
-    pub skip_to : (frames : Seen) (next next' : ℕ) → next ≤ next' → ((o : ℕ) → next ≤ o → o < next' → old p o ≡ Empty) →
+    pub skip_to : (frames : Shown) (next next' : ℕ) → next ≤ next' → ((o : ℕ) → next ≤ o → o < next' → old p o ≡ Empty) →
         IsZapping frames next → IsZapping frames next'
     skip_to frames next next' le none t = record {
       ledger = t.ledger;
@@ -96,7 +96,7 @@ module _ (p : ℕ) (old : ℕ → ℕ → Pte) where
       ];
     }
 
-    one_page : (frames : Seen) (page : ℕ) → page < past → IsZapping frames page →
+    one_page : (frames : Shown) (page : ℕ) → page < past → IsZapping frames page →
         IsInUse (old p page) frames × IsZapping (after_unmap (old p page) frames) (page + 1)
     one_page frames page below t = by (old p page) refl
       where
@@ -141,7 +141,7 @@ module _ (p : ℕ) (old : ℕ → ℕ → Pte) where
             let zero = t.stands.parts.swap.counts s in
             absurd (omega (arith, found, zero))
 
-    pub whole_group : (group : List Pte) (frames : Seen) (page : ℕ) → page + length group ≤ past →
+    pub whole_group : (group : List Pte) (frames : Shown) (page : ℕ) → page + length group ≤ past →
         ((i : ℕ) → i < length group → get_or group i Empty ≡ old p (page + i)) → IsZapping frames page
         → AreInUse group frames × IsZapping (after_unmaps group frames) (page + length group)
     whole_group [] frames page below are t = (tt, subst (IsZapping frames) (let same : page ≡ page + 0 = omega arith in same) t)
@@ -156,9 +156,9 @@ module _ (p : ℕ) (old : ℕ → ℕ → Pte) where
         )
 
 -- nothing has gone yet
-pub none_gone : (k : Mem) (p past : ℕ) (l : Ledger) → HasLedger k l → IsZapping p (entry_at k.tables) (parts_of k) k.spaces k.anons past l (seen k.frames) 0
+pub none_gone : (k : Mem) (p past : ℕ) (l : Ledger) → HasLedger k l → IsZapping p (entry_at k.tables) (parts_of k) k.spaces k.anons past l (shown k.frames) 0
 none_gone k p past l stands =
-    subst (λ (table : ℕ → ℕ → Pte). IsTaking (parts_of k) (record { frames = seen k.frames; table = table; spaces = k.spaces; anons = k.anons }) p 0 past 0 l)
+    subst (λ (table : ℕ → ℕ → Pte). IsTaking (parts_of k) (record { frames = shown k.frames; table = table; spaces = k.spaces; anons = k.anons }) p 0 past 0 l)
     (λ i x o. by x o (x == p) i) (none_yet (parts_of k) p 0 past l stands)
   where
     by : (x o : ℕ) (b : Bool) → entry_at k.tables x o ≡ cond (b && nat_lt o 0) Empty (entry_at k.tables x o)
@@ -167,13 +167,13 @@ none_gone k p past l stands =
 
 -- where no entry is left from a page on, all have gone
 pub all_gone_at : (old mid new : Mem) (p next past : ℕ) (first : Ledger) →
-    IsZapping p (entry_at old.tables) (parts_of old) mid.spaces mid.anons past first (seen mid.frames) next
+    IsZapping p (entry_at old.tables) (parts_of old) mid.spaces mid.anons past first (shown mid.frames) next
     → ((o : ℕ) → next ≤ o → entry_at old.tables p o ≡ Empty) → entry_at new.tables ≡ with_at p (λ o. Empty) (entry_at old.tables)
     → new.frames ≡ mid.frames → new.spaces ≡ mid.spaces → new.anons ≡ mid.anons → HasZapped old new first (zaps_of first (keys_in first p 0 (past - 0)))
 all_gone_at old mid new p next past first t over tables frames spaces anons =
-    all_taken old (record { frames = seen mid.frames; table = stage p (entry_at old.tables) next; spaces = mid.spaces; anons = mid.anons })
+    all_taken old (record { frames = shown mid.frames; table = stage p (entry_at old.tables) next; spaces = mid.spaces; anons = mid.anons })
     new p 0 past next first t (
-      λ q low high. nothing_at (record { frames = seen mid.frames; table = stage p (entry_at old.tables) next; spaces = mid.spaces; anons = mid.anons })
+      λ q low high. nothing_at (record { frames = shown mid.frames; table = stage p (entry_at old.tables) next; spaces = mid.spaces; anons = mid.anons })
           t.ledger t.stands p q (still p (entry_at old.tables) next q low ∙ over q low),
       ap (λ k. free_of (seen_as k)) (sym same),
       subst (λ k. Stand k t.ledger) same t.stands,
@@ -190,6 +190,6 @@ all_gone_at old mid new p next past first t over tables frames spaces anons =
     whole : stage p (entry_at old.tables) next ≡ entry_at new.tables
     whole = (λ i x o. point x o (x == p) refl i) ∙ sym tables
 
-    same : ◌≡◌ {A = Parts} (record { frames = seen mid.frames; table = stage p (entry_at old.tables) next; spaces = mid.spaces; anons = mid.anons })
+    same : ◌≡◌ {A = Parts} (record { frames = shown mid.frames; table = stage p (entry_at old.tables) next; spaces = mid.spaces; anons = mid.anons })
         (parts_of new)
-    same = λ i. record { frames = seen (sym frames i); table = whole i; spaces = sym spaces i; anons = sym anons i }
+    same = λ i. record { frames = shown (sym frames i); table = whole i; spaces = sym spaces i; anons = sym anons i }

@@ -13,7 +13,7 @@ use Rattle.av_plain.specs.Areas.{AnonVma, Anons}
 use Rattle.av_plain.specs.Choice.{no_slots}
 use Rattle.av_plain.specs.Report.{Range, range_of}
 use Rattle.av_plain.specs.Stands.{View, Pte as Plain, Stands, LedgerStands, PartsStand}
-use Rattle.av_frames.specs.Store.{Seen, seen}
+use Rattle.av_frames.specs.Store.{Shown, shown}
 use Rattle.av_pagetable.specs.declared.pte.Pte.{Pte}
 use Rattle.av_pagetable.specs.declared.pte.Pte.TheVariants.{Empty, Zero, Here, Away}
 use Rattle.av_pagetable.specs.Entries.{entry_at, has}
@@ -48,7 +48,7 @@ anons_of s anons = record {
 }
 
 -- the view of frames, entries, areas and anon_vmas, without swap. No frame is active
-abbrev pub view_of_parts : Seen → (ℕ → ℕ → Option Plain) → AllSpaces → AnonSet → View
+abbrev pub view_of_parts : Shown → (ℕ → ℕ → Option Plain) → AllSpaces → AnonSet → View
 view_of_parts frames table spaces anons = record {
   frames = frames.count;
   bytes = frames.bytes;
@@ -70,11 +70,11 @@ view_of_parts frames table spaces anons = record {
 }
 
 abbrev pub view : Mem → View
-view k = view_of_parts (seen k.frames) (λ p page. plain (entry_at k.tables p page)) k.spaces k.anons
+view k = view_of_parts (shown k.frames) (λ p page. plain (entry_at k.tables p page)) k.spaces k.anons
 
 -- how many frames there are
 abbrev pub count : Mem → ℕ
-count k = (seen k.frames).count
+count k = (shown k.frames).count
 
 -- a process has a table exactly where it has areas
 abbrev pub HasTables : Mem → Type 0

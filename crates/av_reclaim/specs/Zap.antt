@@ -1,7 +1,7 @@
 -- How the entries of a process's pages go, one by one.
 use Rattle.std.specs.Prelude.{◌≡◌, ℕ, ◌-◌, ◌<◌, ◌≤◌, ◌==◌, true, false, is_some, if◌then◌else◌, List, [], ◌∷◌, Option, Some, None}
 use Rattle.av_base.specs.Words.{is_in, with_at}
-use Rattle.av_frames.specs.Store.{Seen}
+use Rattle.av_frames.specs.Store.{Shown}
 use Rattle.av_pagetable.specs.declared.pte.Pte.{Pte}
 use Rattle.av_pagetable.specs.declared.pte.Pte.TheVariants.{Empty, Zero, Here, Away}
 use Rattle.av_pagetable.specs.Entries.{has}
@@ -28,31 +28,31 @@ after_unmap_frame f v =
     else record v { maps = with_at f (v.maps f - 1) v.maps }
 
 -- the same of the frames alone, and of an entry's frame, where it names one
-abbrev pub after_release : ℕ → Seen → Seen
+abbrev pub after_release : ℕ → Shown → Shown
 after_release f s =
     if s.maps f == 1 then record s { maps = with_at f (s.maps f - 1) s.maps; free = f ∷ s.free }
     else record s { maps = with_at f (s.maps f - 1) s.maps }
 
-abbrev pub after_unmap : Pte → Seen → Seen
+abbrev pub after_unmap : Pte → Shown → Shown
 after_unmap Empty s = s
 after_unmap Zero s = s
 after_unmap (Here f write seen) s = after_release f s
 after_unmap (Away slot) s = s
 
 -- the entries go in turn
-abbrev pub after_unmaps : List Pte → Seen → Seen
+abbrev pub after_unmaps : List Pte → Shown → Shown
 after_unmaps [] s = s
 after_unmaps (e ∷ es) s = after_unmaps es (after_unmap e s)
 
 -- the frame that an entry names, if it names one, is in use
-abbrev pub IsInUse : Pte → Seen → Type 0
+abbrev pub IsInUse : Pte → Shown → Type 0
 IsInUse Empty s = Unit {0}
 IsInUse Zero s = Unit {0}
 IsInUse (Here f write seen) s = (f < s.count) × (0 < s.maps f) × (is_in f s.free ≡ false)
 IsInUse (Away slot) s = Unit {0}
 
 -- so is that of each of these entries, also when those before it have gone
-abbrev pub AreInUse : List Pte → Seen → Type 0
+abbrev pub AreInUse : List Pte → Shown → Type 0
 AreInUse [] s = Unit {0}
 AreInUse (e ∷ es) s = IsInUse e s × AreInUse es (after_unmap e s)
 

@@ -5,7 +5,7 @@ ghost use Rattle.av_base.specs.Words.{is_in};
 ghost use Rattle.av_plain.specs.Ledger.{Ledger};
 ghost use Rattle.av_plain.specs.Zap.{keys_in, keys_of_process, zaps_of};
 ghost use Rattle.av_reclaim.specs.Mem.{count, view, HasLedger, IsOrderly};
-ghost use Rattle.av_frames.specs.Store.{seen};
+ghost use Rattle.av_frames.specs.Store.{shown};
 ghost use Rattle.av_reclaim.specs.Zap.{after_release, after_unmap_frame, after_unmaps, AreInUse, ZapsFirst, HasZapped, KeepsRest};
 
 use crate::mem::Mem;
@@ -74,8 +74,8 @@ fn unmap_frame(mem: &mut Mem, frame: u32)
 
 /// One entry fewer names each frame that an entry of the group names, in their order.
 fn unmap_each(frames: &mut Frames, group: &[Pte; GROUP])
-    requires { AreInUse group.now (seen frames.old) }
-    ensures { seen frames.new ≡ after_unmaps group.now (seen frames.old) }
+    requires { AreInUse group.now (shown frames.old) }
+    ensures { shown frames.new ≡ after_unmaps group.now (shown frames.old) }
 {
     for entry in group {
         if let Pte::Here { frame, .. } = *entry {
@@ -86,10 +86,10 @@ fn unmap_each(frames: &mut Frames, group: &[Pte; GROUP])
 
 /// The same of one frame.
 fn release(frames: &mut Frames, frame: u32)
-    requires in_range { frame < (seen frames.old).count }
-    requires named { 0 < (seen frames.old).maps frame }
+    requires in_range { frame < (shown frames.old).count }
+    requires named { 0 < (shown frames.old).maps frame }
     requires not_free { is_in frame frames.old.free ≡ false }
-    ensures { seen frames.new ≡ after_release frame (seen frames.old) }
+    ensures { shown frames.new ≡ after_release frame (shown frames.old) }
 {
     frames.map_down(frame);
     if frames.maps(frame) == 0 {

@@ -1,7 +1,7 @@
 -- The command line's words.
 use Rattle.std.specs.Prelude.{◌≡◌, ℕ, List, [], ◌∷◌, codes}
 use Rattle.std.specs.Fmt.{decimal}
-use Rattle.av_trace.specs.Number.{IsNumberIn}
+use Rattle.av_text.specs.Number.{IsNumberIn}
 use Rattle.av_replay.specs.declared.status.Status.{Status}
 use Rattle.av_replay.specs.declared.status.Status.TheVariants.{Usage}
 

@@ -1,6 +1,7 @@
 //! One turn of the loop over the lines: a line is read and done, and its text written.
 
 ghost use Rattle.std.specs.Prelude.{◌≡◌, ◌<◌, ◌^◌, [], OnOk, IfErr};
+ghost use Rattle.av_base.specs.Limits.{most_commands};
 ghost use Rattle.av_plain.specs.Device.{no_device};
 ghost use Rattle.av_replay.specs.Streams.{streams, Writes, AreInStep};
 ghost use Rattle.av_replay.specs.Line.{FailsOnly};
@@ -12,7 +13,8 @@ use crate::status::RunErr;
 use crate::write::write_all;
 use av_io::{Sink, SinkErr, Source};
 use av_kernel::Kernel;
-use av_trace::{Bytes, Command, LineFault, Reply, parse_line_with, reply_text};
+use av_text::Bytes;
+use av_trace::{Command, LineErr, Reply, parse_line_with, reply_text};
 use std::alloc::Global;
 
 /// What the loop over the lines uses again for each line, for the sake of its memory.
@@ -42,7 +44,7 @@ pub fn do_line(
     line: &[u8],
     scratch: &mut Scratch,
 ) -> Result<(), RunErr>
-    requires { kernel.old.steps < 2 ^ 24 }
+    requires { kernel.old.steps < most_commands }
     ensures ok { OnOk result (DoesLine line.now no_device no_device kernel.old kernel.new
         scratch.new.text) }
     ensures err { IfErr result (λ e. IsNotDone e line.now kernel.old kernel.new) }
@@ -51,8 +53,8 @@ pub fn do_line(
     text.clear();
     let said = match parse_line_with(alloc, line, spare) {
         Ok(said) => said,
-        Err(LineFault::Bad) => return Err(RunErr::BadLine),
-        Err(LineFault::Memory) => return Err(RunErr::Memory),
+        Err(LineErr::Bad) => return Err(RunErr::BadLine),
+        Err(LineErr::Memory) => return Err(RunErr::Memory),
     };
     let Some(command) = said else {
         return Ok(());
@@ -73,7 +75,7 @@ pub fn answer_line<K: Sink>(
     line: &[u8],
     scratch: &mut Scratch,
 ) -> Result<(), RunErr>
-    requires { kernel.old.steps < 2 ^ 24 }
+    requires { kernel.old.steps < most_commands }
     ensures does { OnOk result (DoesLine line.now no_device no_device kernel.old kernel.new
         scratch.new.text) }
     ensures writes { OnOk result (Writes (K.view sink.old) (K.view sink.new) scratch.new.text) }
@@ -101,7 +103,7 @@ pub fn next_line<S: Source, K: Sink>(
     pending: &mut Pending,
     scratch: &mut Scratch,
 ) -> Result<bool, RunErr>
-    requires { kernel.old.steps < 2 ^ 24 }
+    requires { kernel.old.steps < most_commands }
     ensures turned { Turned result pending.old pending.new
         (streams (S.view source.old) (K.view sink.old))
         (streams (S.view source.new) (K.view sink.new))

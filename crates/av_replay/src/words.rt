@@ -3,7 +3,7 @@
 ghost use Rattle.std.specs.Prelude.{◌≡◌, ℕ, map, string_bytes, IfSome, IfNone};
 ghost use Rattle.av_replay.specs.Words.{IsForm};
 
-use av_trace::number_in;
+use av_text::number::number_in;
 
 /// The frames that the words ask for: `run`, and a number from 1 to 16384.
 pub fn frames_of(words: &[String]) -> Option<u32>

@@ -4,11 +4,10 @@ use Rattle.std.proofs.lemmas.Bool.{cases_order}
 use Rattle.std.proofs.lemmas.Bool.Decides.{nat_tests}
 use Rattle.std.proofs.lemmas.List.Sums.{sum_by-cons}
 use Rattle.std.proofs.lemmas.List.Sorted.{sum_by-IsPermutation}
-use Rattle.std.specs.List.{list_any, sum_by}
+use Rattle.std.specs.List.{list_any, sum_by, AllByRecursion}
 use Rattle.std.specs.List.Sorted.{IsPermutation, IsSortedBy}
 use Rattle.std.specs.Ordering.{is_lt, nat_cmp, ordering_then}
-use Rattle.av_arena.specs.Order.{AllOf}
-use Rattle.av_arena.proofs.Order.{AllOf-map}
+use Rattle.av_arena.proofs.Order.{AllByRecursion-map}
 use Rattle.av_base.specs.Words.{how_many}
 use Rattle.av_rmap.specs.Sorted.{IsBefore, AreRising}
 use Rattle.av_chain.specs.Links.{one_if}
@@ -64,7 +63,7 @@ sorted-rise (k ∷ []) sorted once = (tt, tt)
 sorted-rise (k ∷ j ∷ ks) sorted once =
     let rest = sorted-rise (j ∷ ks) (tail k j ks sorted) (λ i. later i (once i)) in
     let first = before-by k j (sorted 0 k (omega arith) (omega arith)) (apart (same_key k j) (same k) (once k)) in
-    ((first, AllOf-map (IsBefore j) (IsBefore k) (λ i h. before-on k j i first h) ks rest.0), rest)
+    ((first, AllByRecursion-map (IsBefore j) (IsBefore k) (λ i h. before-on k j i first h) ks rest.0), rest)
   where
     same : (i : Key) → same_key i i ≡ true
     same i = grind (arith, nat_tests)
@@ -127,7 +126,7 @@ one-before k j ne = by (is_below j k) refl
     by false h = inl (before-by k j h ne)
 
 -- none that comes after a key is that key
-none-after : (k : Key) (ks : List Key) → AllOf (IsBefore k) ks → how_many (same_key k) ks ≡ 0
+none-after : (k : Key) (ks : List Key) → AllByRecursion (IsBefore k) ks → how_many (same_key k) ks ≡ 0
 none-after k [] all = refl
 none-after k (j ∷ js) all =
     let rest = none-after k js all.1 in
@@ -165,7 +164,7 @@ rising-same (k ∷ ks) (j ∷ js) rising also same =
     -- the first of one isn't before all of the other
     before-none : (i h : Key) (is hs : List Key) → AreRising (h ∷ hs) → IsBefore i h → how_many (same_key i) (i ∷ is) ≡ how_many (same_key i) (h ∷ hs) → ⊥
     before-none i h is hs rises before e =
-        let none = none-after i (h ∷ hs) (before, AllOf-map (IsBefore h) (IsBefore i) (λ g b. before-on i h g before b) hs rises.0) in
+        let none = none-after i (h ∷ hs) (before, AllByRecursion-map (IsBefore h) (IsBefore i) (λ g b. before-on i h g before b) hs rises.0) in
         let one = ap (λ b. cond {A = ℕ} b 1 0) (same-itself i) in
         absurd (omega (arith, none, one, e))
 

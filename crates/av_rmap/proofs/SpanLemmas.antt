@@ -1,7 +1,7 @@
 -- The spans of an anon_vma are those of areas, each area's once.
 use Rattle.std.proofs.Common.{◌≡◌, ℕ, ◌+◌, Bool, true, false, cond, List, [], ◌∷◌, filter, length, Option, Some, None, refl, sym, ap, subst, ◌∙◌, arith, eq-eqb}
 use Rattle.std.proofs.lemmas.Bool.Decides.{nat_tests}
-use Rattle.av_arena.specs.Order.{AllOf}
+use Rattle.std.specs.List.{AllByRecursion}
 use Rattle.av_base.specs.Words.{how_many, is_in}
 use Rattle.av_vma.specs.declared.area.Area.{Area}
 use Rattle.av_interval.specs.declared.span.Span.{Span}
@@ -19,7 +19,7 @@ pub record IsSpanOf (view : View) (x : Span) : Type 0 where
   pub span : x ≡ span_at x.area area
 
 abbrev pub AreSpans : View → List Span → Type 0
-AreSpans view xs = AllOf (IsSpanOf view) xs
+AreSpans view xs = AllByRecursion (IsSpanOf view) xs
 
 -- an area holds the indices that its span overlaps
 overlaps-at : (n i : ℕ) (area : Area) → IsArea area → overlaps i (span_at n area) ≡ holds i area
@@ -29,14 +29,14 @@ pub overlaps-holds : (view : View) (x : Span) (i : ℕ) → (s : IsSpanOf view x
 overlaps-holds view x i s = ap (overlaps i) s.span ∙ overlaps-at x.area i s.area s.whole
 
 -- what holds of each area's spans holds of all
-all-by : (P : Span → Type 0) (xs : List Span) → ((n : ℕ) → AllOf P (filter (is_of n) xs)) → AllOf P xs
+all-by : (P : Span → Type 0) (xs : List Span) → ((n : ℕ) → AllByRecursion P (filter (is_of n) xs)) → AllByRecursion P xs
 all-by P [] each = tt
 all-by P (x ∷ xs) each = (here, all-by P xs (λ n. tail (is_of n x) n (each n)))
   where
     here : P x
-    here = (subst (λ b. AllOf P (cond b (x ∷ filter (is_of x.area) xs) (filter (is_of x.area) xs))) (eq-eqb x.area x.area refl) (each x.area)).0
+    here = (subst (λ b. AllByRecursion P (cond b (x ∷ filter (is_of x.area) xs) (filter (is_of x.area) xs))) (eq-eqb x.area x.area refl) (each x.area)).0
 
-    tail : (b : Bool) (n : ℕ) → AllOf P (cond b (x ∷ filter (is_of n) xs) (filter (is_of n) xs)) → AllOf P (filter (is_of n) xs)
+    tail : (b : Bool) (n : ℕ) → AllByRecursion P (cond b (x ∷ filter (is_of n) xs) (filter (is_of n) xs)) → AllByRecursion P (filter (is_of n) xs)
     tail true n all = all.1
     tail false n all = all
 

@@ -1,6 +1,6 @@
 -- Entries in order.
 use Rattle.std.specs.Prelude.{◌≡◌, ◌<◌, ◌⊎◌, List, [], ◌∷◌}
-use Rattle.av_arena.specs.Order.{AllOf}
+use Rattle.std.specs.List.{AllByRecursion}
 use Rattle.av_rmap.specs.Walk.{Key}
 
 -- by process, then by page
@@ -10,4 +10,4 @@ IsBefore k j = (k.0 < j.0) ⊎ ((k.0 ≡ j.0) × (k.1 < j.1))
 -- each comes before all later ones
 abbrev pub AreRising : List Key → Type 0
 AreRising [] = Unit {0}
-AreRising (k ∷ ks) = AllOf (IsBefore k) ks × AreRising ks
+AreRising (k ∷ ks) = AllByRecursion (IsBefore k) ks × AreRising ks

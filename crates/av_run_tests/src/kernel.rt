@@ -1,6 +1,7 @@
 use av_base::Prot;
 use av_kernel::*;
-use av_trace::{Bytes, Command, Place, reply_text};
+use av_text::Bytes;
+use av_trace::{Command, Place, reply_text};
 use std::test::Fail;
 
 /// A first run, a refusal, and what the kernel tells of itself then.

@@ -9,7 +9,8 @@ ghost use Rattle.av_kernel.specs.Kernel.{Stands};
 ghost use Rattle.av_sample.specs.Answers.{Answers};
 
 use av_kernel::Kernel;
-use av_trace::{Bytes, Command, LineFault, parse_line, reply_text};
+use av_text::Bytes;
+use av_trace::{Command, LineErr, parse_line, reply_text};
 use std::alloc::Global;
 
 /// A kernel does so many commands at most.
@@ -39,8 +40,8 @@ fn command_of(alloc: Global, line: &[u8]) -> Result<Command, Unanswered>
     match parse_line(alloc, line) {
         Ok(Some(command)) => Ok(command),
         Ok(None) => Err(Unanswered::Blank),
-        Err(LineFault::Bad) => Err(Unanswered::NoCommand),
-        Err(LineFault::Memory) => Err(Unanswered::Memory),
+        Err(LineErr::Bad) => Err(Unanswered::NoCommand),
+        Err(LineErr::Memory) => Err(Unanswered::Memory),
     }
 }
 

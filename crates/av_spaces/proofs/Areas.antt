@@ -13,7 +13,7 @@ use Rattle.av_vmatree.proofs.Spans.{held}
 use Rattle.av_vma.specs.Pages.{pages_in}
 use Rattle.av_merge.specs.Pages.{pages_by}
 use Rattle.av_merge.specs.Process.{AreAreasOf, IsAreaOf}
-use Rattle.av_merge.proofs.Places.{holds_is, holds_parts}
+use Rattle.av_merge.proofs.PlacingLaws.{holds_is, holds_parts}
 use Rattle.av_spaces.specs.Spaces.{IsOwn, AreRising}
 use Rattle.av_spaces.specs.Trees.{areas_by}
 

@@ -12,7 +12,7 @@ use Rattle.av_anon.specs.Infos.{more_active, more_children, with_info}
 use Rattle.av_anon.specs.Kin.{IsSameKin}
 use Rattle.av_anon.proofs.Choosing.{found_idle}
 use Rattle.av_anon.proofs.Words.{with_at-here, with_at-other}
-use Rattle.av_merge.specs.Fork.{Kin, info_with, kin_with}
+use Rattle.av_merge.specs.Forking.{Lineage, info_with, kin_with}
 use Rattle.av_spaces.specs.Fork.{AreKept, GoInTurn, IsForked, kin_after, kin_of}
 use Rattle.av_spaces.specs.Kin.{AnonsFit, IsOwnedIn, chain_by, info_of}
 use Rattle.av_spaces.specs.Spaces.{AllSpaces, IsSpawned, areas_of, pages_of}
@@ -81,7 +81,7 @@ module _ (s : AllSpaces) (a : Anons) (fit : AnonsFit s a) where
   kept_chain (Some own) v owned = with_at-other _ _ (kin_of s a).chain v (not_own own v owned)
 
 -- what there was is so after the first areas
-record IsKept (s : AllSpaces) (old : Anons) (k : Kin) : Type 0 where
+record IsKept (s : AllSpaces) (old : Anons) (k : Lineage) : Type 0 where
   kin : (v : ℕ) → IfSome (info_of old v) (IsKin (k.info v))
   chains : (v : ℕ) → IsOwnedIn s v → k.chain v ≡ chain_by s old (Some v)
 

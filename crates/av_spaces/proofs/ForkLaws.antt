@@ -5,9 +5,8 @@ use Rattle.std.proofs.lemmas.Bool.Decides.{nat_tests}
 use Rattle.std.proofs.lemmas.List.{drop_more, take_all, take_more}
 use Rattle.std.proofs.lemmas.List.Elements.{filter_map-append}
 use Rattle.std.specs.Prelude.{nat_lt}
-use Rattle.std.specs.List.{cons_option}
+use Rattle.std.specs.List.{cons_option, AllByRecursion}
 use Rattle.av_base.specs.Words.{with_at}
-use Rattle.av_arena.specs.Order.{AllOf}
 use Rattle.av_vma.specs.declared.area.Area.{Area}
 use Rattle.av_vma.specs.Areas.{area_of}
 use Rattle.av_vma.specs.Join.{first_of, past_of}
@@ -17,10 +16,10 @@ use Rattle.av_vmatree.specs.Spans.{AreApart, IsFree, is_page_taken, span, with_s
 use Rattle.av_vmatree.proofs.Spans.{holds_above}
 use Rattle.av_anon.specs.declared.anons.Anons.{Anons}
 use Rattle.av_anon.proofs.Words.{with_at-here, with_at-other}
-use Rattle.av_merge.specs.Fork.{IsForkedTo, Kin, area_in_child, kin_by, kin_with}
+use Rattle.av_merge.specs.Forking.{IsForkedTo, Lineage, area_in_child, kin_by, kin_with}
 use Rattle.av_merge.specs.Kin.{AreInOrder}
 use Rattle.av_merge.specs.Process.{AreAreasOf, IsAreaOf, Stays}
-use Rattle.av_merge.proofs.Places.{stays_trans}
+use Rattle.av_merge.proofs.PlacingLaws.{stays_trans}
 use Rattle.av_spaces.specs.Fork.{ForksInTurn, GoInTurn, HasForked, IsForked, areas_in_child, kin_after}
 use Rattle.av_spaces.specs.Spaces.{AllSpaces, IsSpawned, areas_of}
 use Rattle.av_spaces.specs.Trees.{AreTrees, HasNone, IsGrown, Trees, all_spaces, areas_by, spaces_by, tree_at}
@@ -30,7 +29,7 @@ use Rattle.av_spaces.proofs.Trees.{areas_are, spawns, stays_empty, tree_of, tree
 
 -- each of these spans ends before each of those
 abbrev AreBelow : List Span → List Span → Type 0
-AreBelow spans later = AllOf (λ s. AllOf (λ t. s.to ≤ t.from) later) spans
+AreBelow spans later = AllByRecursion (λ s. AllByRecursion (λ t. s.to ≤ t.from) later) spans
 
 -- the areas of the first i spans went to the child
 pub record IsForking (child : ℕ) (old areas : List (Option Area)) (tree : List Span) (before anons : Anons) (spans : List Span) (i : ℕ) : Type 0 where
@@ -55,12 +54,12 @@ forks_none child old before tree spans order none empty = record {
 -- ---- lists of areas
 
 -- one area more
-pub areas_in_child-more : (child : ℕ) (areas : List Area) (area : Area) (k : Kin)
+pub areas_in_child-more : (child : ℕ) (areas : List Area) (area : Area) (k : Lineage)
     → areas_in_child child (areas ++ area ∷ []) k ≡ areas_in_child child areas k ++ area_in_child child (kin_after areas k) area ∷ []
 areas_in_child-more child [] area k = refl
 areas_in_child-more child (a ∷ areas) area k = ap (λ l. area_in_child child k a ∷ l) (areas_in_child-more child areas area (kin_with a.anon k))
 
-pub kin_after-more : (areas : List Area) (area : Area) (k : Kin) → kin_after (areas ++ area ∷ []) k ≡ kin_with area.anon (kin_after areas k)
+pub kin_after-more : (areas : List Area) (area : Area) (k : Lineage) → kin_after (areas ++ area ∷ []) k ≡ kin_with area.anon (kin_after areas k)
 kin_after-more [] area k = refl
 kin_after-more (a ∷ areas) area k = kin_after-more areas area (kin_with a.anon k)
 
@@ -78,14 +77,14 @@ areas_by-take f p (suc n) (s ∷ spans) h = by (f s.area) h.0 (areas_by-take f p
 -- ---- lists of spans
 
 -- no page is taken from where all spans end
-free_above : (spans : List Span) (from past : ℕ) → AllOf (λ s. s.to ≤ from) spans → IsFree (is_page_taken spans) from past
+free_above : (spans : List Span) (from past : ℕ) → AllByRecursion (λ s. s.to ≤ from) spans → IsFree (is_page_taken spans) from past
 free_above [] from past below = λ page low high. refl
 free_above (s ∷ spans) from past below = λ page low high.
     let out = holds_above s page (let end = below.0 in omega (arith, end, low)) in
     rw out (free_above spans from past below.1 page low high)
 
 -- a span that begins after all others is the last
-with_last : (x : Span) (spans : List Span) → AllOf (λ s. s.from < x.from) spans → with_span x spans ≡ spans ++ x ∷ []
+with_last : (x : Span) (spans : List Span) → AllByRecursion (λ s. s.from < x.from) spans → with_span x spans ≡ spans ++ x ∷ []
 with_last x [] below = refl
 with_last x (s ∷ spans) below =
     ap (λ b. cond b (x ∷ s ∷ spans) (s ∷ cond (nat_lt s.from x.from) (with_span x spans) spans)) (not_below x.from s.from below.0)
@@ -95,16 +94,16 @@ with_last x (s ∷ spans) below =
     not_below : (a b : ℕ) → b < a → nat_lt a b ≡ false
     not_below a b h = grind (arith, nat_tests)
 
-all_more : (P : Span → Type 0) (spans : List Span) (x : Span) → AllOf P spans → P x → AllOf P (spans ++ x ∷ [])
+all_more : (P : Span → Type 0) (spans : List Span) (x : Span) → AllByRecursion P spans → P x → AllByRecursion P (spans ++ x ∷ [])
 all_more P [] x all here = (here, tt)
 all_more P (s ∷ spans) x all here = (all.0, all_more P spans x all.1 here)
 
-all_as : (P Q : Span → Type 0) (spans : List Span) → ((s : Span) → P s → Q s) → AllOf P spans → AllOf Q spans
+all_as : (P Q : Span → Type 0) (spans : List Span) → ((s : Span) → P s → Q s) → AllByRecursion P spans → AllByRecursion Q spans
 all_as P Q [] as_q all = tt
 all_as P Q (s ∷ spans) as_q all = (as_q s all.0, all_as P Q spans as_q all.1)
 
 -- spans that end before another's first page begin before it
-begin_below : (spans : List Span) (from : ℕ) → AreApart spans → AllOf (λ s. s.to ≤ from) spans → AllOf (λ s. s.from < from) spans
+begin_below : (spans : List Span) (from : ℕ) → AreApart spans → AllByRecursion (λ s. s.to ≤ from) spans → AllByRecursion (λ s. s.from < from) spans
 begin_below [] from apart below = tt
 begin_below (s ∷ spans) from apart below = ((let some = apart.0 in let end = below.0 in omega (arith, some, end)), begin_below spans from apart.2 below.1)
 
@@ -166,8 +165,8 @@ module _ (child p : ℕ) (old areas : List (Option Area)) (tree : List Span) (be
   pub next_whole : IsSomeAnd (area_of areas s.area) IsWhole
   next_whole = let n = next in subst (λ o. IsSomeAnd o IsWhole) (sym n.now) n.is.whole
 
-  ends_below : AllOf (λ t. t.to ≤ s.from) tree
-  ends_below = all_as (λ t. AllOf (λ u. t.to ≤ u.from) (s ∷ left)) (λ t. t.to ≤ s.from) tree (λ t both. both.0) below
+  ends_below : AllByRecursion (λ t. t.to ≤ s.from) tree
+  ends_below = all_as (λ t. AllByRecursion (λ u. t.to ≤ u.from) (s ∷ left)) (λ t. t.to ≤ s.from) tree (λ t both. both.0) below
 
   pub next_free : IfSome (area_of areas s.area) (λ area. IsFree (is_page_taken tree) (first_of area) (past_of area))
   next_free =
@@ -183,8 +182,8 @@ module _ (child p : ℕ) (old areas : List (Option Area)) (tree : List Span) (be
         let x = span number (first_of area) (past_of area) in
         let earlier = areas_by (area_of old) (take i spans) in
         let made = area_in_child child (kin_by areas anons) area in
-        let begins : AllOf (λ t. t.from < first_of area) tree =
-        subst (λ from. AllOf (λ t. t.from < from) tree) is.from (begin_below tree s.from h.done.stands.areas.spans_are.apart ends_below) in
+        let begins : AllByRecursion (λ t. t.from < first_of area) tree =
+        subst (λ from. AllByRecursion (λ t. t.from < from) tree) is.from (begin_below tree s.from h.done.stands.areas.spans_are.apart ends_below) in
         let last : after ≡ tree ++ x ∷ [] = g.tree ∙ with_last x tree begins in
         let here : area_of new number ≡ Some made = g.areas number ∙ with_at-here number (Some made) (area_of areas) in
         let kept = areas_kept (area_of areas) (area_of new) child number (Some made) tree
@@ -205,9 +204,9 @@ module _ (child p : ℕ) (old areas : List (Option Area)) (tree : List Span) (be
         record {
           done = now;
           below = subst (λ l. AreBelow l left) (sym last)
-              (all_more (λ t. AllOf (λ u. t.to ≤ u.from) left) tree x
-              (all_as (λ t. AllOf (λ u. t.to ≤ u.from) (s ∷ left)) (λ t. AllOf (λ u. t.to ≤ u.from) left) tree (λ t both. both.1) below)
-              (subst (λ to. AllOf (λ u. to ≤ u.from) left) is.to apart.1));
+              (all_more (λ t. AllByRecursion (λ u. t.to ≤ u.from) left) tree x
+              (all_as (λ t. AllByRecursion (λ u. t.to ≤ u.from) (s ∷ left)) (λ t. AllByRecursion (λ u. t.to ≤ u.from) left) tree (λ t both. both.1) below)
+              (subst (λ to. AllByRecursion (λ u. to ≤ u.from) left) is.to apart.1));
           between = λ n less. elim (cases_lt i n) [
             | inl late ↦ let e : i + 1 ≡ n = omega (arith, late, less) in
                 (new, after, anons', subst (λ n. HasForked child old before (take n spans) new after anons') e now)

@@ -20,7 +20,7 @@ use Rattle.av_anon.proofs.KinLaws.{chain_by-is, chains_stay, owns-is, someone_li
 use Rattle.av_merge.specs.Kin.{AreInOrder, KeepsKin, PrepareKin, PreparesKin, lengths}
 use Rattle.av_merge.specs.Pages.{pages_by}
 use Rattle.av_merge.specs.Process.{AreAreasOf}
-use Rattle.av_merge.proofs.Places.{area_in, is_on, on_span}
+use Rattle.av_merge.proofs.PlacingLaws.{area_in, is_on, on_span}
 use Rattle.av_spaces.specs.Spaces.{AllSpaces, pages_of}
 use Rattle.av_spaces.specs.Trees.{Trees, AreTrees, HasNone, all_spaces, spaces_by, tree_at}
 use Rattle.av_spaces.specs.Kin.{AnonsFit, AnonsPrepare, AnonsStay, InOrder, IsLinkedIn, IsOwnedIn, chain_at, chain_by, info_of, made_for}

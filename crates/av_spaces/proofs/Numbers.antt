@@ -8,7 +8,7 @@ use Rattle.av_vma.specs.Pages.{has_page}
 use Rattle.av_vmatree.specs.declared.span.Span.{Span}
 use Rattle.av_vmatree.specs.Spans.{area_at, span_of}
 use Rattle.av_merge.specs.Process.{AreAreasOf}
-use Rattle.av_merge.proofs.Places.{area_in, at_span, holds_is, holds_parts, is_on}
+use Rattle.av_merge.proofs.PlacingLaws.{area_in, at_span, holds_is, holds_parts, is_on}
 use Rattle.av_spaces.specs.Spaces.{AreNumbered, IsNumber, pages_of}
 use Rattle.av_spaces.specs.Trees.{AreTrees, HasNone, Trees, all_spaces, spaces_by, tree_at}
 use Rattle.av_spaces.proofs.Trees.{none_dead, pages_there}

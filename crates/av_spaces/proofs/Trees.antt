@@ -14,7 +14,7 @@ use Rattle.av_vmatree.specs.Spans.{area_at, span_of, is_page_taken}
 use Rattle.av_vma.specs.Pages.{Pages, pages_in}
 use Rattle.av_merge.specs.Pages.{pages_by}
 use Rattle.av_merge.specs.Process.{AreAreasOf, IsAreaOf, KeepsOthers, Stays}
-use Rattle.av_merge.proofs.Places.{others_refl}
+use Rattle.av_merge.proofs.PlacingLaws.{others_refl}
 use Rattle.av_spaces.specs.Spaces.{AllSpaces, Spaces, areas_of, pages_of, is_taken, AreRising, AllRising, IsSpawned, IsChanged, IsEnded}
 use Rattle.av_spaces.specs.Trees.{Trees, tree_at, areas_by, space_by, spaces_by, HasNone, AreTrees, IsGrown}
 use Rattle.av_spaces.proofs.Areas.{AreNumbered, numbered, pages_are, held_by, rising_of}

@@ -5,7 +5,7 @@ use Rattle.av_vma.specs.Areas.{area_of}
 use Rattle.av_vmatree.specs.declared.span.Span.{Span}
 use Rattle.av_anon.specs.declared.anons.Anons.{Anons}
 use Rattle.av_anon.specs.Kin.{IsSameKin}
-use Rattle.av_merge.specs.Fork.{Kin, area_in_child, kin_by, kin_with}
+use Rattle.av_merge.specs.Forking.{Lineage, area_in_child, kin_by, kin_with}
 use Rattle.av_merge.specs.Kin.{AreInOrder}
 use Rattle.av_merge.specs.Process.{Stays}
 use Rattle.av_spaces.specs.Kin.{AnonsFit, IsOwnedIn, chain_by, info_of}
@@ -13,17 +13,17 @@ use Rattle.av_spaces.specs.Spaces.{AllSpaces, IsSpawned}
 use Rattle.av_spaces.specs.Trees.{areas_by}
 
 -- what a fork goes by
-abbrev pub kin_of : AllSpaces → Anons → Kin
+abbrev pub kin_of : AllSpaces → Anons → Lineage
 kin_of s anons = kin_by s.areas anons
 
 -- the child's areas, each by what those before it left
-abbrev pub areas_in_child : ℕ → List Area → Kin → List Area
+abbrev pub areas_in_child : ℕ → List Area → Lineage → List Area
 areas_in_child child [] k = []
 areas_in_child child (area ∷ areas) k =
     area_in_child child k area ∷ areas_in_child child areas (kin_with area.anon k)
 
 -- and the anon_vmas after them all
-abbrev pub kin_after : List Area → Kin → Kin
+abbrev pub kin_after : List Area → Lineage → Lineage
 kin_after [] k = k
 kin_after (area ∷ areas) k = kin_after areas (kin_with area.anon k)
 

@@ -6,7 +6,7 @@ ghost use Rattle.av_base.specs.Limits.{low_page, top_page};
 ghost use Rattle.av_vma.specs.Gap.{IsGap};
 ghost use Rattle.av_vmatree.specs.Spans.{IsFree, IsMet};
 ghost use Rattle.av_merge.specs.Mapping.{IsRemapped};
-ghost use Rattle.av_merge.specs.Pages.{IsReached};
+ghost use Rattle.av_merge.specs.Pages.{GoesTo};
 ghost use Rattle.av_merge.specs.Process.{AreAreasOf};
 ghost use Rattle.av_anon.specs.declared.anons.Anons.{Anons};
 ghost use Rattle.av_merge.specs.Kin.{lengths};
@@ -216,7 +216,7 @@ impl Spaces {
         ensures anons { OnOk result (AnonsStay self.old anons.old self.new anons.new) }
     {
         let mut tree = take_tree(&mut self.trees, process);
-        let result = av_merge::cut(&mut self.areas, &mut tree, anons, from, from + pages);
+        let result = av_merge::unmap(&mut self.areas, &mut tree, anons, from, from + pages);
         put_tree(&mut self.trees, process, tree);
         result
     }
@@ -235,7 +235,7 @@ impl Spaces {
         requires lives { is_some (areas_of self.old.processes process) ≡ true }
         requires past { from + pages < 2 ^ 64 }
         ensures reached { IfOk result (λ reached.
-            IsReached (is_taken self.old.processes process) from (from + pages) reached) }
+            GoesTo (is_taken self.old.processes process) from (from + pages) reached) }
         ensures ok { IfOk result (λ reached. IsChanged self.old.processes self.new.processes process
             (AreThese (pages_changed (lengths self.old.areas anons.old) (to_prot prot) from
             (reached - from) (pages_of self.old.processes process)))) }
@@ -340,7 +340,7 @@ impl Spaces {
         ensures anons { AnonsStay self.old anons.old self.new anons.new }
     {
         let mut tree = take_tree(&mut self.trees, process);
-        av_merge::cut_all(&mut self.areas, &mut tree, anons);
+        av_merge::unmap_all(&mut self.areas, &mut tree, anons);
         self.alive -= 1;
     }
 

@@ -4,13 +4,13 @@ use Rattle.std.proofs.lemmas.Bool.Decides.{nat_tests}
 use Rattle.std.specs.List.{list_any, ends_with}
 use Rattle.av_swapdev.specs.declared.header.Order.{Order}
 use Rattle.av_swapdev.specs.declared.header.Header.{Header}
-use Rattle.av_swapdev.specs.declared.header.HeaderFault.{HeaderFault}
-use Rattle.av_swapdev.specs.declared.header.HeaderFault.TheVariants.{Signature, LastPage, Short, TooManyBad, BadPage, NoSlot}
+use Rattle.av_swapdev.specs.declared.header.HeaderErr.{HeaderErr}
+use Rattle.av_swapdev.specs.declared.header.HeaderErr.TheVariants.{Signature, LastPage, Short, TooManyBad, BadPage, NoSlot}
 use Rattle.av_base.specs.Words.{is_in, within}
 use Rattle.av_swapdev.specs.Header.{Layout, number_at, order_of, last_page, bad_count, numbers_at, all_named, area_pages, bad_of, slots_of, layout_of, is_out, with_slots, read_in, read_by, header_of, in_numbers, answer_of, IsHeaderOf, AddsUp}
 use Rattle.av_swapdev.proofs.HeaderSlots.{in_bad, slots_and_bad}
 
-passed : (b : Bool) (fault : HeaderFault) (rest : Result Layout HeaderFault) (header : Header) → answer_of (cond b (Err fault) rest) ≡ Ok header →
+passed : (b : Bool) (fault : HeaderErr) (rest : Result Layout HeaderErr) (header : Header) → answer_of (cond b (Err fault) rest) ≡ Ok header →
     (b ≡ false) × (answer_of rest ≡ Ok header)
 passed true fault rest header e = absurd (cc)
 passed false fault rest header e = (refl, e)
@@ -89,11 +89,11 @@ header_is order page header found of_page =
     inside a b e = cc
 
 -- what a page says on a device is the area of its numbers
-kept : (b : Bool) (fault : HeaderFault) (rest : Result Layout HeaderFault) (layout : Layout) → cond b (Err fault) rest ≡ Ok layout → rest ≡ Ok layout
+kept : (b : Bool) (fault : HeaderErr) (rest : Result Layout HeaderErr) (layout : Layout) → cond b (Err fault) rest ≡ Ok layout → rest ≡ Ok layout
 kept true fault rest layout e = absurd (cc)
 kept false fault rest layout e = e
 
-same_layout : (a b : Layout) (x y : Result Layout HeaderFault) → x ≡ Ok a → y ≡ Ok b → x ≡ y → b ≡ a
+same_layout : (a b : Layout) (x y : Result Layout HeaderErr) → x ≡ Ok a → y ≡ Ok b → x ≡ y → b ≡ a
 same_layout a b x y is_a is_b same = cc
 
 pub layout_is : (order : Order) (page : List ℕ) (device : ℕ) (layout : Layout) → order_of page ≡ Some order → header_of page device ≡ Ok layout →
@@ -130,7 +130,7 @@ pub is_in_bad : (m : ℕ) (order : Order) (page : List ℕ) (header : Header) (d
 is_in_bad m order page header device layout found of_page ok =
     ap (is_in m) (bad_is order page header device layout found of_page ok) ∙ in_bad header.pages (all_named order page) m
 
-skipped : (b : Bool) (x y : Result Layout HeaderFault) → b ≡ false → cond b x y ≡ y
+skipped : (b : Bool) (x y : Result Layout HeaderErr) → b ≡ false → cond b x y ≡ y
 skipped true x y e = absurd (cc)
 skipped false x y e = refl
 
@@ -152,12 +152,12 @@ no_slot layout none = ap (λ (k : ℕ). answer_of (cond (eqb k 0) (Err NoSlot) (
 some_slots : (layout : Layout) → (layout.slots ≡ 0 → ⊥) → answer_of (with_slots layout) ≡ Ok (in_numbers layout)
 some_slots layout some = ap answer_of (skipped (eqb layout.slots 0) (Err NoSlot) (Ok layout) (grind (arith, nat_tests)))
 
-pub of_page : (page : List ℕ) (device : ℕ) (result : Result Header HeaderFault) → result ≡ answer_of (header_of page device) →
+pub of_page : (page : List ℕ) (device : ℕ) (result : Result Header HeaderErr) → result ≡ answer_of (header_of page device) →
     IfOk result (λ header. IsHeaderOf page header)
 of_page page device (Ok header) e = (device, sym e)
 of_page page device (Err fault) e = tt
 
-pub adds_up : (page : List ℕ) (device : ℕ) (result : Result Header HeaderFault) → result ≡ answer_of (header_of page device) →
+pub adds_up : (page : List ℕ) (device : ℕ) (result : Result Header HeaderErr) → result ≡ answer_of (header_of page device) →
     IfOk result (λ header. AddsUp header device)
 adds_up page device (Ok header) e = (read_ok page device header (sym e)).2.adds_up
 adds_up page device (Err fault) e = tt

@@ -7,8 +7,8 @@ use Rattle.byteorder.specs.Endian.{little_number, big_number}
 use Rattle.av_swapdev.specs.declared.header.Order.{Order}
 use Rattle.av_swapdev.specs.declared.header.Order.TheVariants.{Little, Big}
 use Rattle.av_swapdev.specs.declared.header.Header.{Header}
-use Rattle.av_swapdev.specs.declared.header.HeaderFault.{HeaderFault}
-use Rattle.av_swapdev.specs.declared.header.HeaderFault.TheVariants.{Signature, Version, LastPage, Short, TooManyBad, BadPage, NoSlot}
+use Rattle.av_swapdev.specs.declared.header.HeaderErr.{HeaderErr}
+use Rattle.av_swapdev.specs.declared.header.HeaderErr.TheVariants.{Signature, Version, LastPage, Short, TooManyBad, BadPage, NoSlot}
 
 -- what a header says of its area: how many pages it has, the header's among them; how many of them
 -- are slots; which are bad
@@ -72,11 +72,11 @@ abbrev pub is_out : ℕ → ℕ → Bool
 is_out last b = b == 0 || nat_lt last b
 
 -- an area, unless it has no slot
-abbrev pub with_slots : Layout → Result Layout HeaderFault
+abbrev pub with_slots : Layout → Result Layout HeaderErr
 with_slots layout = if layout.slots == 0 then Err NoSlot else Ok layout
 
 -- what the numbers of a header in this order say, on a device with so many pages
-abbrev pub read_in : Order → List ℕ → ℕ → Result Layout HeaderFault
+abbrev pub read_in : Order → List ℕ → ℕ → Result Layout HeaderErr
 read_in order page device =
     if last_page order page == 0 then Err LastPage
     else if nat_lt device (area_pages order page) then Err Short
@@ -84,12 +84,12 @@ read_in order page device =
     else if list_any (is_out (last_page order page)) (all_named order page) then Err BadPage
     else with_slots (layout_of (area_pages order page) (all_named order page))
 
-abbrev pub read_by : Option Order → List ℕ → ℕ → Result Layout HeaderFault
+abbrev pub read_by : Option Order → List ℕ → ℕ → Result Layout HeaderErr
 read_by None page device = Err Version
 read_by (Some order) page device = read_in order page device
 
 -- what page 0 of an area says, on a device with so many pages: the area, or the first fault
-abbrev pub header_of : List ℕ → ℕ → Result Layout HeaderFault
+abbrev pub header_of : List ℕ → ℕ → Result Layout HeaderErr
 header_of page device =
     if ends_with nat_eq page (codes "SWAPSPACE2") then read_by (order_of page) page device
     else Err Signature
@@ -98,7 +98,7 @@ header_of page device =
 abbrev pub in_numbers : Layout → Header
 in_numbers layout = record { pages = layout.pages; slots = layout.slots; bad = length layout.bad }
 
-abbrev pub answer_of : Result Layout HeaderFault → Result Header HeaderFault
+abbrev pub answer_of : Result Layout HeaderErr → Result Header HeaderErr
 answer_of (Ok layout) = Ok (in_numbers layout)
 answer_of (Err fault) = Err fault
 

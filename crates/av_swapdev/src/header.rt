@@ -44,7 +44,7 @@ pub struct Header {
 
 /// Why a page is no header, in the order in which it is looked at.
 #[derive(Clone, Copy, Drop, Debug, PartialEq, Eq)]
-pub enum HeaderFault {
+pub enum HeaderErr {
     /// It doesn't end with `SWAPSPACE2`.
     Signature,
     /// The version is 1 in neither order of bytes.
@@ -149,45 +149,45 @@ fn count_bad(page: &[u8], order: Order, count: u32, pages: u32) -> u32
 }
 
 /// The header that a page 0 has, on a device with so many pages.
-pub fn read_header(page: &[u8], device_pages: u32) -> Result<Header, HeaderFault>
+pub fn read_header(page: &[u8], device_pages: u32) -> Result<Header, HeaderErr>
     requires { length page.now ≡ page_size }
     ensures exact { result ≡ answer_of (header_of page.now device_pages) }
     ensures of_page { IfOk result (λ header. IsHeaderOf page.now header) }
     ensures adds_up { IfOk result (λ header. AddsUp header device_pages) }
 {
     if !page.ends_with(SIGNATURE) {
-        return Err(HeaderFault::Signature);
+        return Err(HeaderErr::Signature);
     }
     match byte_order(page) {
         Some(order) => read_numbers(page, order, device_pages),
-        None => Err(HeaderFault::Version),
+        None => Err(HeaderErr::Version),
     }
 }
 
 /// What the numbers in this order say, on a device with so many pages.
-fn read_numbers(page: &[u8], order: Order, device_pages: u32) -> Result<Header, HeaderFault>
+fn read_numbers(page: &[u8], order: Order, device_pages: u32) -> Result<Header, HeaderErr>
     requires { length page.now ≡ page_size }
     ensures { result ≡ answer_of (read_in order page.now device_pages) }
 {
     let last = number(page, order, LAST_PAGE);
     if last == 0 {
-        return Err(HeaderFault::LastPage);
+        return Err(HeaderErr::LastPage);
     }
     let pages = last.min(MOST_PAGES - 1) + 1;
     if device_pages < pages {
-        return Err(HeaderFault::Short);
+        return Err(HeaderErr::Short);
     }
     let count = number(page, order, BAD_COUNT);
     if count > MOST_BAD {
-        return Err(HeaderFault::TooManyBad);
+        return Err(HeaderErr::TooManyBad);
     }
     if has_wrong(page, order, count, last) {
-        return Err(HeaderFault::BadPage);
+        return Err(HeaderErr::BadPage);
     }
     let bad = count_bad(page, order, count, pages);
     let slots = pages - 1 - bad;
     if slots == 0 {
-        return Err(HeaderFault::NoSlot);
+        return Err(HeaderErr::NoSlot);
     }
     Ok(Header { pages, slots, bad })
 }

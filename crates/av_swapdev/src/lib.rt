@@ -18,6 +18,6 @@ mod mem_dev;
 pub use device::{AttachErr, PAGE_LEN, SwapDev};
 pub use file::{SwapFile, SwapFiles};
 pub use file_dev::FileDev;
-pub use header::{Header, HeaderFault, bad_pages, is_bad, read_header};
+pub use header::{Header, HeaderErr, bad_pages, is_bad, read_header};
 pub use host_file::{HostFile, HostFiles};
 pub use mem_dev::MemDev;

@@ -1,11 +1,11 @@
 -- Slots that no entry names yet.
 use Rattle.std.proofs.Common.{◌≡◌, ℕ, ◌==◌, ltb, ◌&&◌, Bool, true, false, cond, List, [], length, get_or, None, refl, ap, ◌∙◌}
 use Rattle.av_swapmap.specs.Digits.{cached_of, count_of}
-use Rattle.av_swapmap.specs.Seen.{seen, fresh}
+use Rattle.av_swapmap.specs.Counts.{shown, fresh}
 use Rattle.av_base.specs.Words.{is_in}
 
 pub seen_fresh : (n : ℕ) (bytes bad : List ℕ) → length bytes ≡ n → ((p : ℕ) → get_or bytes p 0 ≡ cond (ltb p n && is_in p bad) 63 0) →
-    seen (record { bytes = bytes; more = [] }) ≡ fresh n bad
+    shown (record { bytes = bytes; more = [] }) ≡ fresh n bad
 seen_fresh n bytes bad long at = λ k. record {
   pages = long k;
   bad = λ p. (ap (λ x. x == 63) (at p) ∙ bad_is (ltb p n && is_in p bad)) k;

@@ -2,7 +2,7 @@
 use Rattle.std.proofs.Common.{◌≡◌, ℕ, zero, suc, ◌-◌, ◌/◌, ◌^◌, ◌<◌, ◌≤◌, ltb, Bool, true, false, cond, List, [], ◌∷◌, get_or, Option, Some, None, refl, sym, ap, subst, ◌∙◌, arith}
 use Rattle.std.proofs.Math.Nat.{div-eq_of_lt, pow-le-pow_right}
 use Rattle.av_swapmap.specs.Digits.{with_more, digit_of, further_of, count_of}
-use Rattle.av_swapmap.specs.Seen.{IsSlot}
+use Rattle.av_swapmap.specs.Counts.{IsSlot}
 
 -- past the fourth there is none
 pub past_is : (n i : ℕ) → n < 2 ^ 32 → 4 < i → 0 ≡ digit_of n i

@@ -4,7 +4,7 @@ use Rattle.std.specs.Result.{IsErr}
 use Rattle.std.proofs.lemmas.Bool.Decides.{nat_tests}
 use Rattle.std.proofs.lemmas.Bool.{false≢true}
 use Rattle.av_swapmap.specs.Digits.{byte_of, further_of, cached_of, count_of}
-use Rattle.av_swapmap.specs.Seen.{Store, seen, more_at, IsSlot, IsWhole}
+use Rattle.av_swapmap.specs.Counts.{Store, shown, more_at, IsSlot, IsWhole}
 use Rattle.av_base.specs.Words.{with_at}
 use Rattle.av_swapmap.proofs.Numbers.{good_byte, byte_cached, count_is, needs_none}
 
@@ -57,11 +57,11 @@ module _ (all : List ℕ) (old new : List (ℕ × List ℕ)) (page n : ℕ) (c :
 
   -- what is seen then, of a slot that isn't bad
   pub seen_written : n < 2 ^ 32 → (get_or all page 0 == 63) ≡ false
-      → seen (record { bytes = slice_set all page (byte_of n c); more = new })
-      ≡ record (seen (record { bytes = all; more = old })) {
-        cached = with_at page c (seen (record { bytes = all; more = old })).cached;
+      → shown (record { bytes = slice_set all page (byte_of n c); more = new })
+      ≡ record (shown (record { bytes = all; more = old })) {
+        cached = with_at page c (shown (record { bytes = all; more = old })).cached;
         count = with_at page n
-            (seen (record { bytes = all; more = old })).count;
+            (shown (record { bytes = all; more = old })).count;
       }
   seen_written h good = λ k. record {
     pages = length-set all page (byte_of n c) k;
@@ -87,7 +87,7 @@ same_again f page = λ k q. point q (q == page) refl k
     point q false e = refl
 
 -- the further digits stay where the count does
-pub digits_stay : (s : Store) (page n : ℕ) → IsWhole s.bytes s.more → n ≡ (seen s).count page → (q : ℕ) →
+pub digits_stay : (s : Store) (page n : ℕ) → IsWhole s.bytes s.more → n ≡ (shown s).count page → (q : ℕ) →
     more_at s.more q ≡ with_at page (further_of n) (more_at s.more) q
 digits_stay s page n w is q = point (q == page) refl
   where
@@ -96,7 +96,7 @@ digits_stay s page n w is q = point (q == page) refl
     point false e = refl
 
 -- a bad slot isn't named and isn't cached
-pub bad_unnamed : (s : Store) (page : ℕ) → IsWhole s.bytes s.more → (seen s).bad page ≡ true → ((seen s).count page ≡ 0) × ((seen s).cached page ≡ false)
+pub bad_unnamed : (s : Store) (page : ℕ) → IsWhole s.bytes s.more → (shown s).bad page ≡ true → ((shown s).count page ≡ 0) × ((shown s).cached page ≡ false)
 bad_unnamed s page w e =
     let is : get_or s.bytes page 0 ≡ 63 = grind (arith, nat_tests) in (
       ap (count_of (get_or s.bytes page 0)) ((w.slots page).bad_has_none e) ∙ ap (λ b. cond b 0 (get_or s.bytes page 0 % 64)) e,
@@ -104,7 +104,7 @@ bad_unnamed s page w e =
     )
 
 -- so a slot that entries name isn't bad
-pub named_good : (s : Store) (page n : ℕ) → IsWhole s.bytes s.more → n ≤ (seen s).count page → (n ≡ 0 → ⊥) → (seen s).bad page ≡ false
+pub named_good : (s : Store) (page n : ℕ) → IsWhole s.bytes s.more → n ≤ (shown s).count page → (n ≡ 0 → ⊥) → (shown s).bad page ≡ false
 named_good s page n w some positive = split (get_or s.bytes page 0 == 63) refl
   where
     split : (b : Bool) → (get_or s.bytes page 0 == 63) ≡ b → (get_or s.bytes page 0 == 63) ≡ false
@@ -112,7 +112,7 @@ named_good s page n w some positive = split (get_or s.bytes page 0 == 63) refl
     split false e = e
 
 -- what a call that writes one slot leaves, where its value before is t
-module _ (s t : Store) (view_is : s ≡ t) (w : IsWhole s.bytes s.more) (page n b : ℕ) (c : Bool) (new : List (ℕ × List ℕ)) (below : page < (seen t).pages)
+module _ (s t : Store) (view_is : s ≡ t) (w : IsWhole s.bytes s.more) (page n b : ℕ) (c : Bool) (new : List (ℕ × List ℕ)) (below : page < (shown t).pages)
     (fits : n < 2 ^ 32) (b_is : b ≡ byte_of n c) (now : (q : ℕ) → more_at new q ≡ with_at page (further_of n) (more_at s.more) q) where
   below_s : page < length s.bytes
   below_s = subst (λ (v : Store). page < length v.bytes) (sym view_is) below
@@ -120,33 +120,33 @@ module _ (s t : Store) (view_is : s ≡ t) (w : IsWhole s.bytes s.more) (page n 
   pub whole_after : IsWhole (slice_set s.bytes page b) new
   whole_after = subst (λ x. IsWhole (slice_set s.bytes page x) new) (sym b_is) (whole_written s.bytes s.more new page n c below_s now w fits)
 
-  pub seen_after : (seen t).bad page ≡ false
-      → seen (record { bytes = slice_set s.bytes page b; more = new }) ≡ record (seen t) {
-        cached = with_at page c (seen t).cached;
-        count = with_at page n (seen t).count;
+  pub seen_after : (shown t).bad page ≡ false
+      → shown (record { bytes = slice_set s.bytes page b; more = new }) ≡ record (shown t) {
+        cached = with_at page c (shown t).cached;
+        count = with_at page n (shown t).count;
       }
-  seen_after good = ap (λ x. seen (record { bytes = slice_set s.bytes page x; more = new })) b_is
-      ∙ seen_written s.bytes s.more new page n c below_s now fits (subst (λ (v : Store). (seen v).bad page ≡ false) (sym view_is) good)
-      ∙ ap (λ (v : Store). record (seen v) { cached = with_at page c (seen v).cached; count = with_at page n (seen v).count }) view_is
+  seen_after good = ap (λ x. shown (record { bytes = slice_set s.bytes page x; more = new })) b_is
+      ∙ seen_written s.bytes s.more new page n c below_s now fits (subst (λ (v : Store). (shown v).bad page ≡ false) (sym view_is) good)
+      ∙ ap (λ (v : Store). record (shown v) { cached = with_at page c (shown v).cached; count = with_at page n (shown v).count }) view_is
 
   -- the flag stays
-  pub count_after : (seen t).bad page ≡ false → c ≡ (seen t).cached page → (m : ℕ) → n ≡ m
-      → seen (record { bytes = slice_set s.bytes page b; more = new }) ≡ record (seen t) { count = with_at page m (seen t).count }
+  pub count_after : (shown t).bad page ≡ false → c ≡ (shown t).cached page → (m : ℕ) → n ≡ m
+      → shown (record { bytes = slice_set s.bytes page b; more = new }) ≡ record (shown t) { count = with_at page m (shown t).count }
   count_after good same m is = seen_after good
-      ∙ ap (λ f. record (seen t) { cached = f; count = with_at page n (seen t).count })
-      (ap (λ x. with_at page x (seen t).cached) same ∙ same_again (seen t).cached page)
-      ∙ ap (λ x. record (seen t) { count = with_at page x (seen t).count }) is
+      ∙ ap (λ f. record (shown t) { cached = f; count = with_at page n (shown t).count })
+      (ap (λ x. with_at page x (shown t).cached) same ∙ same_again (shown t).cached page)
+      ∙ ap (λ x. record (shown t) { count = with_at page x (shown t).count }) is
 
   -- the count stays
-  pub cached_after : (seen t).bad page ≡ false → n ≡ (seen t).count page
-      → seen (record { bytes = slice_set s.bytes page b; more = new }) ≡ record (seen t) { cached = with_at page c (seen t).cached }
-  cached_after good same = seen_after good ∙ ap (λ f. record (seen t) { cached = with_at page c (seen t).cached; count = f })
-      (ap (λ x. with_at page x (seen t).count) same ∙ same_again (seen t).count page)
+  pub cached_after : (shown t).bad page ≡ false → n ≡ (shown t).count page
+      → shown (record { bytes = slice_set s.bytes page b; more = new }) ≡ record (shown t) { cached = with_at page c (shown t).cached }
+  cached_after good same = seen_after good ∙ ap (λ f. record (shown t) { cached = with_at page c (shown t).cached; count = f })
+      (ap (λ x. with_at page x (shown t).count) same ∙ same_again (shown t).count page)
 
 -- where neither bytes nor digits change
 pub seen_kept : (s t : Store) → s ≡ t → (new : List (ℕ × List ℕ)) → ((q : ℕ) → more_at new q ≡ more_at s.more q) →
-    seen (record { bytes = s.bytes; more = new }) ≡ seen t
-seen_kept s t is new now = (λ k. record (seen s) { count = λ q. count_of (get_or s.bytes q 0) (now q k) }) ∙ ap seen is
+    shown (record { bytes = s.bytes; more = new }) ≡ shown t
+seen_kept s t is new now = (λ k. record (shown s) { count = λ q. count_of (get_or s.bytes q 0) (now q k) }) ∙ ap shown is
 
 -- a result that is an error
 pub on_err : {A E : Type 0} (r : Result A E) (P Q : Type 0) → IsErr r → Q → MatchResult r (λ _. P) (λ _. Q)
@@ -154,5 +154,5 @@ on_err (Ok x) P Q h q = cc
 on_err (Err e) P Q h q = q
 
 -- a slot without continuation digits has a count that needs none
-pub none_small : (s : Store) (page : ℕ) → IsWhole s.bytes s.more → more_at s.more page ≡ None → (seen s).count page < 63
+pub none_small : (s : Store) (page : ℕ) → IsWhole s.bytes s.more → more_at s.more page ≡ None → (shown s).count page < 63
 none_small s page w none = needs_none (count_of (get_or s.bytes page 0) (more_at s.more page)) (sym none ∙ (w.slots page).more_is)

@@ -1,2 +1,2 @@
 pub mod Digits
-pub mod Seen
+pub mod Counts

@@ -1,5 +1,5 @@
 ghost use Rattle.std.specs.Prelude.{◌≡◌, ℕ, ◌+◌, ◌-◌, ◌<◌, ◌≤◌, ◌^◌, MatchResult, IfOk, None, true, false, length, slice_index, ◌&&◌, nat_lt, if◌then◌else◌};
-ghost use Rattle.av_swapmap.specs.Seen.{seen, fresh, with_count, with_cached, byte_at};
+ghost use Rattle.av_swapmap.specs.Counts.{shown, fresh, with_count, with_cached, byte_at};
 ghost use Rattle.av_base.specs.Words.{with_at, is_in};
 ghost use Rattle.av_swapmap.specs.Digits.{digit_of, further_of};
 ghost use Rattle.std.specs.Ordering.{nat_cmp};
@@ -23,7 +23,7 @@ pub struct Counts {
 }
 
 impl Model for Counts {
-    ghost use Rattle.av_swapmap.specs.Seen.{Store, IsWhole};
+    ghost use Rattle.av_swapmap.specs.Counts.{Store, IsWhole};
 
     ghost Value = { Store };
 
@@ -36,7 +36,7 @@ impl Counts {
     /// This many slots that no entry names. Those listed are bad; a listed number past the last
     /// slot says nothing.
     pub fn new(alloc: Global, pages: u32, bad: &[u32]) -> Result<Counts, AllocError>
-        ensures { IfOk result (λ counts. seen counts ≡ fresh pages bad.now) }
+        ensures { IfOk result (λ counts. shown counts ≡ fresh pages bad.now) }
     {
         Ok(Counts {
             bytes: no_names(alloc, pages, bad)?,
@@ -46,8 +46,8 @@ impl Counts {
 
     /// How many entries name the slot.
     pub fn get(&self, page: u32) -> u32
-        requires { page < (seen self.now).pages }
-        ensures { result ≡ (seen self.now).count page }
+        requires { page < (shown self.now).pages }
+        ensures { result ≡ (shown self.now).count page }
     {
         let first = first_of(self.bytes[page as usize]);
         match self.more.get(&page) {
@@ -59,14 +59,14 @@ impl Counts {
     /// So many more entries name the slot. Without memory all stays; only a count that grows to
     /// 63 or more from below takes memory.
     pub fn add(&mut self, page: u32, n: u32) -> Result<(), AllocError>
-        requires in_range { page < (seen self.old).pages }
-        requires not_bad { (seen self.old).bad page ≡ false }
-        requires room { (seen self.old).count page + n < 2 ^ 32 }
+        requires in_range { page < (shown self.old).pages }
+        requires not_bad { (shown self.old).bad page ≡ false }
+        requires room { (shown self.old).count page + n < 2 ^ 32 }
         ensures { MatchResult result
-            (λ _. seen self.new ≡
-            with_count page ((seen self.old).count page + n) (seen self.old))
-            (λ _. ((seen self.old).count page < 63) × (63 ≤ (seen self.old).count page + n)
-            × (seen self.new ≡ seen self.old)) }
+            (λ _. shown self.new ≡
+            with_count page ((shown self.old).count page + n) (shown self.old))
+            (λ _. ((shown self.old).count page < 63) × (63 ≤ (shown self.old).count page + n)
+            × (shown self.new ≡ shown self.old)) }
     {
         let count = self.get(page) + n;
         let byte = byte_of(count, self.cached(page));
@@ -77,10 +77,10 @@ impl Counts {
 
     /// So many fewer entries name the slot. Takes no memory.
     pub fn sub(&mut self, page: u32, n: u32)
-        requires in_range { page < (seen self.old).pages }
-        requires some { n ≤ (seen self.old).count page }
-        ensures { seen self.new ≡
-            with_count page ((seen self.old).count page - n) (seen self.old) }
+        requires in_range { page < (shown self.old).pages }
+        requires some { n ≤ (shown self.old).count page }
+        ensures { shown self.new ≡
+            with_count page ((shown self.old).count page - n) (shown self.old) }
     {
         if n == 0 {
             // A bad slot stays bad.
@@ -94,45 +94,45 @@ impl Counts {
 
     /// Whether the swap cache holds the slot.
     pub fn cached(&self, page: u32) -> bool
-        requires { page < (seen self.now).pages }
-        ensures { result ≡ (seen self.now).cached page }
+        requires { page < (shown self.now).pages }
+        ensures { result ≡ (shown self.now).cached page }
     {
         cached_of(self.bytes[page as usize])
     }
 
     /// Sets whether the swap cache holds the slot.
     pub fn set_cached(&mut self, page: u32, cached: bool)
-        requires in_range { page < (seen self.old).pages }
-        requires not_bad { (seen self.old).bad page ≡ false }
-        ensures { seen self.new ≡
-            with_cached page cached (seen self.old) }
+        requires in_range { page < (shown self.old).pages }
+        requires not_bad { (shown self.old).bad page ≡ false }
+        ensures { shown self.new ≡
+            with_cached page cached (shown self.old) }
     {
         self.bytes[page as usize] = byte_of(self.get(page), cached);
     }
 
     /// Whether the slot is bad.
     pub fn bad(&self, page: u32) -> bool
-        requires { page < (seen self.now).pages }
-        ensures is { result ≡ (seen self.now).bad page }
-        ensures unnamed { result ≡ true → ((seen self.now).count page ≡ 0)
-            × ((seen self.now).cached page ≡ false) }
+        requires { page < (shown self.now).pages }
+        ensures is { result ≡ (shown self.now).bad page }
+        ensures unnamed { result ≡ true → ((shown self.now).count page ≡ 0)
+            × ((shown self.now).cached page ≡ false) }
     {
         self.bytes[page as usize] == BAD
     }
 
     /// The byte that Linux's `swap_map` has for the slot.
     pub fn byte(&self, page: u32) -> u8
-        requires { page < (seen self.now).pages }
-        ensures { result ≡ byte_at (seen self.now) page }
+        requires { page < (shown self.now).pages }
+        ensures { result ≡ byte_at (shown self.now) page }
     {
         self.bytes[page as usize]
     }
 
     /// The slot's byte in continuation page `i`, from 1 on.
     pub fn digit(&self, page: u32, i: u32) -> u8
-        requires in_range { page < (seen self.now).pages }
+        requires in_range { page < (shown self.now).pages }
         requires from_one { 1 ≤ i }
-        ensures { result ≡ digit_of ((seen self.now).count page) i }
+        ensures { result ≡ digit_of ((shown self.now).count page) i }
     {
         match self.more.get(&page) {
             Some(digits) if i <= 4 => digits[i as usize - 1],

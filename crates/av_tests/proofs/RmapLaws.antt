@@ -8,7 +8,7 @@ use Rattle.av_chain.specs.Links.{one_if}
 use Rattle.av_interval.specs.Search.{overlaps}
 use Rattle.av_pagetable.specs.declared.pte.Pte.{Pte}
 use Rattle.av_pagetable.specs.declared.pte.Pte.TheVariants.{Empty, Here}
-use Rattle.av_merge.proofs.Places.{within_parts}
+use Rattle.av_merge.proofs.PlacingLaws.{within_parts}
 use Rattle.av_rmap.specs.Covered.{IsCovered, IsReached}
 use Rattle.av_rmap.specs.View.{AreApart, view_with}
 use Rattle.av_rmap.specs.Walk.{AreItsEntries, Key, is_held, names_frame}

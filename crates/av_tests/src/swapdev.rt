@@ -28,7 +28,7 @@ fn header<T: ByteOrder>(version: u32, last: u32, bad: &[u32]) -> [u8; PAGE_LEN] 
 }
 
 /// What is read of such a header on a device with so many pages, where both orders say the same.
-fn read(pages: u32, version: u32, last: u32, bad: &[u32]) -> Option<Result<Header, HeaderFault>> {
+fn read(pages: u32, version: u32, last: u32, bad: &[u32]) -> Option<Result<Header, HeaderErr>> {
     let found = read_header(&header::<LittleEndian>(version, last, bad), pages);
     if read_header(&header::<BigEndian>(version, last, bad), pages) != found {
         return None;
@@ -37,14 +37,14 @@ fn read(pages: u32, version: u32, last: u32, bad: &[u32]) -> Option<Result<Heade
 }
 
 /// An area of so many pages, with so many slots and bad pages.
-fn area(pages: u32, slots: u32, bad: u32) -> Result<Header, HeaderFault> {
+fn area(pages: u32, slots: u32, bad: u32) -> Result<Header, HeaderErr> {
     Ok(Header { pages, slots, bad })
 }
 
 #[test]
 fn headers(rt: HostRuntime) {
     let most = 1 << 20;
-    let rows: [(u32, u32, u32, &[u32], Result<Header, HeaderFault>); 14] = [
+    let rows: [(u32, u32, u32, &[u32], Result<Header, HeaderErr>); 14] = [
         (8, 1, 7, &[], area(8, 7, 0)),
         (8, 1, 7, &[3, 3, 5], area(8, 5, 2)),
         (8, 1, 1, &[], area(2, 1, 0)),
@@ -56,15 +56,15 @@ fn headers(rt: HostRuntime) {
             &[5, most, u32::MAX],
             area(most, most - 2, 1),
         ),
-        (8, 2, 7, &[], Err(HeaderFault::Version)),
-        (8, 1 << 16, 7, &[], Err(HeaderFault::Version)),
-        (8, 1, 0, &[], Err(HeaderFault::LastPage)),
-        (8, 1, 8, &[], Err(HeaderFault::Short)),
-        (8, 1, u32::MAX, &[], Err(HeaderFault::Short)),
-        (8, 1, 7, &[9; MOST_BAD + 1], Err(HeaderFault::TooManyBad)),
-        (8, 1, 7, &[0], Err(HeaderFault::BadPage)),
-        (8, 1, 7, &[3, 8], Err(HeaderFault::BadPage)),
-        (8, 1, 1, &[1], Err(HeaderFault::NoSlot)),
+        (8, 2, 7, &[], Err(HeaderErr::Version)),
+        (8, 1 << 16, 7, &[], Err(HeaderErr::Version)),
+        (8, 1, 0, &[], Err(HeaderErr::LastPage)),
+        (8, 1, 8, &[], Err(HeaderErr::Short)),
+        (8, 1, u32::MAX, &[], Err(HeaderErr::Short)),
+        (8, 1, 7, &[9; MOST_BAD + 1], Err(HeaderErr::TooManyBad)),
+        (8, 1, 7, &[0], Err(HeaderErr::BadPage)),
+        (8, 1, 7, &[3, 8], Err(HeaderErr::BadPage)),
+        (8, 1, 1, &[1], Err(HeaderErr::NoSlot)),
     ];
     for (pages, version, last, bad, wanted) in rows {
         assert!(rt; read(pages, version, last, bad) == Some(wanted));
@@ -82,7 +82,7 @@ fn bad_pages_of_a_header(rt: HostRuntime) -> Result<(), Fail> {
     }
     assert!(rt; bad_pages(rt.alloc(), &page, &found)?.as_slice() == [3, 5].as_slice());
     page[PAGE_LEN - 1] = b'1';
-    assert!(rt; read_header(&page, 8) == Err(HeaderFault::Signature));
+    assert!(rt; read_header(&page, 8) == Err(HeaderErr::Signature));
     Ok(())
 }
 

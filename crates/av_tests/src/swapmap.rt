@@ -1,12 +1,12 @@
 ghost use Rattle.std.specs.Prelude.{◌≡◌, ◌<◌, IfOk};
-ghost use Rattle.av_swapmap.specs.Seen.{seen};
+ghost use Rattle.av_swapmap.specs.Counts.{shown};
 
 use av_swapmap::Counts;
 use std::alloc::{AllocError, Global};
 
 /// One slot that so many entries name, and that the swap cache holds or not.
 fn slot(alloc: Global, entries: u32, cached: bool) -> Result<Counts, AllocError>
-    ensures { IfOk result (λ counts. 0 < (seen counts).pages) }
+    ensures { IfOk result (λ counts. 0 < (shown counts).pages) }
 {
     let mut counts = Counts::new(alloc, 1, &[])?;
     counts.add(0, entries)?;
@@ -16,7 +16,7 @@ fn slot(alloc: Global, entries: u32, cached: bool) -> Result<Counts, AllocError>
 
 /// The slot's byte, and its digits in the first five continuation pages.
 fn digits(counts: &Counts) -> [u8; 6]
-    requires { 0 < (seen counts.now).pages }
+    requires { 0 < (shown counts.now).pages }
 {
     [
         counts.byte(0),
@@ -49,7 +49,7 @@ fn counts_are_kept_as_linux_keeps_them(rt: HostRuntime) -> Result<(), AllocError
 /// Has entries come to a slot that none names, and go: how many are left of those that came, and
 /// the slot's byte when the rest is gone.
 fn come_and_go(counts: &mut Counts, page: u32, come: u32, go: u32) -> Result<(u32, u8), AllocError>
-    requires { page < (seen counts.old).pages }
+    requires { page < (shown counts.old).pages }
 {
     if counts.bad(page) || counts.get(page) != 0 {
         return Ok((0, 0));

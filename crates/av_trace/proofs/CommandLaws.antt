@@ -11,18 +11,18 @@ use Rattle.av_trace.specs.declared.command.Command.TheVariants as commands
 use Rattle.av_trace.specs.declared.place.Place.{Place}
 use Rattle.av_trace.specs.declared.mode.Mode.{Mode}
 use Rattle.av_trace.specs.Command.{IsCommand, line_of, at_end, whole, no_words, fork_words, range_words, mmap_words, mprotect_words, mremap_words, read_words, write_words, CommandReader, fork_at, mmap_at, munmap_at, mprotect_at, mremap_at, read_at, write_at, rmap_at, entry_of, readers, command_of}
-use Rattle.av_trace.specs.Hex.{hex, hex_text, IsData}
-use Rattle.av_trace.specs.Number.{IsNumberIn, IsProcess, IsWide, process_at}
+use Rattle.av_text.specs.Hex.{hex, hex_text, IsData}
+use Rattle.av_text.specs.Number.{IsNumberIn, IsProcess, IsWide, process_at}
 use Rattle.av_trace.specs.Place.{IsPlace, place_words}
 use Rattle.av_trace.specs.Mode.{IsMode, mode_words}
-use Rattle.av_trace.specs.Prot.{prot_text}
-use Rattle.av_trace.specs.Word.{field, line, ◌>>=◌, BeginsWith, Reader, after}
-use Rattle.av_trace.proofs.HexLaws.{stored}
-use Rattle.av_trace.proofs.NumberLaws.{processes, lengths, entries, reads_decimal}
+use Rattle.av_text.specs.Prot.{prot_text}
+use Rattle.av_text.specs.Word.{field, line, ◌>>=◌, BeginsWith, Reader, after}
+use Rattle.av_text.proofs.HexLaws.{stored}
+use Rattle.av_text.proofs.NumberLaws.{processes, lengths, entries, reads_decimal}
 use Rattle.av_trace.proofs.ModeLaws.{last_mode}
 use Rattle.av_trace.proofs.PlaceLaws.{last_place}
-use Rattle.av_trace.proofs.ProtLaws.{prots}
-use Rattle.av_trace.proofs.WordLaws.{bind_some, after-found, named-found, IsEnd, IsRest, words_onto, Reads, reads_both}
+use Rattle.av_text.proofs.ProtLaws.{prots}
+use Rattle.av_text.proofs.WordLaws.{bind_some, after-found, named-found, IsEnd, IsRest, words_onto, Reads, reads_both}
 
 -- ---- the words of each command
 

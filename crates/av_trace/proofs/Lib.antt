@@ -1,7 +1,3 @@
-pub mod WordLaws
-pub mod NumberLaws
-pub mod HexLaws
-pub mod ProtLaws
 pub mod PlaceLaws
 pub mod ModeLaws
 pub mod CommandLaws

@@ -4,7 +4,7 @@ use Rattle.std.proofs.lemmas.Bool.{eqb-true}
 use Rattle.av_trace.specs.declared.command.Command.{Command}
 use Rattle.av_trace.specs.Command.{command_of}
 use Rattle.av_trace.specs.Line.{is_blank, Says}
-use Rattle.av_trace.specs.Word.{after}
+use Rattle.av_text.specs.Word.{after}
 use Rattle.av_trace.proofs.CommandLaws.{command_of-again}
 
 -- a line that says something is read

@@ -6,10 +6,10 @@ use Rattle.std.proofs.lemmas.Option.{same_Some}
 use Rattle.av_trace.specs.declared.mode.Mode.{Mode}
 use Rattle.av_trace.specs.declared.mode.Mode.TheVariants as modes
 use Rattle.av_trace.specs.Mode.{IsMode, mode_words, maymove_at, fixed_at, dontunmap_at, names, mode_at}
-use Rattle.av_trace.specs.Word.{field, Reader, after}
-use Rattle.av_trace.proofs.NumberLaws.{addresses}
+use Rattle.av_text.specs.Word.{field, Reader, after}
+use Rattle.av_text.proofs.NumberLaws.{addresses}
 use Rattle.av_trace.proofs.PlaceLaws.{read_address}
-use Rattle.av_trace.proofs.WordLaws.{bind_some, named-found, IsEnd, IsRest, words_onto, Reads}
+use Rattle.av_text.proofs.WordLaws.{bind_some, named-found, IsEnd, IsRest, words_onto, Reads}
 
 -- ---- what is read
 

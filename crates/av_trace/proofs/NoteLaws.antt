@@ -6,9 +6,9 @@ use Rattle.av_trace.specs.declared.note.Cause.{Cause}
 use Rattle.av_trace.specs.declared.note.Cause.TheVariants as causes
 use Rattle.av_trace.specs.declared.note.Note.{Note}
 use Rattle.av_trace.specs.declared.note.Note.TheVariants as notes
-use Rattle.av_trace.specs.Hex.{hex}
+use Rattle.av_text.specs.Hex.{hex}
 use Rattle.av_trace.specs.Note.{cause_name, note_line, IsNote}
-use Rattle.av_trace.specs.Number.{IsWide}
+use Rattle.av_text.specs.Number.{IsWide}
 use Rattle.av_trace.proofs.PlainWords.{number_of, hex_of, slot_of, plain_name, Names, number-named, hex-named, slot-named, beside, next, last, LineReader, by_name, IsLineOf, AreRead, no_word, word, line_is}
 
 unfoldable pub cause_of : List ℕ → Option Cause

@@ -5,12 +5,12 @@ use Rattle.std.specs.List.{flat_map, AllByRecursion}
 use Rattle.std.proofs.lemmas.Option.{same_Some}
 use Rattle.av_trace.specs.declared.place.Place.{Place}
 use Rattle.av_trace.specs.declared.place.Place.TheVariants as places
-use Rattle.av_trace.specs.Hex.{hex}
-use Rattle.av_trace.specs.Number.{IsWide, address_at}
+use Rattle.av_text.specs.Hex.{hex}
+use Rattle.av_text.specs.Number.{IsWide, address_at}
 use Rattle.av_trace.specs.Place.{IsPlace, place_words, kinds, place_at}
-use Rattle.av_trace.specs.Word.{field, after}
-use Rattle.av_trace.proofs.NumberLaws.{addresses}
-use Rattle.av_trace.proofs.WordLaws.{bind_some, named-found, IsEnd, IsRest, words_onto, Reads}
+use Rattle.av_text.specs.Word.{field, after}
+use Rattle.av_text.proofs.NumberLaws.{addresses}
+use Rattle.av_text.proofs.WordLaws.{bind_some, named-found, IsEnd, IsRest, words_onto, Reads}
 
 -- a place of this kind is spelled by the name and the address
 abbrev IsKind : List ℕ × (ℕ → Place) → Type 0

@@ -8,17 +8,17 @@ use Rattle.std.proofs.lemmas.List.{drop_at}
 use Rattle.std.proofs.lemmas.Option.{same_Some}
 use Rattle.av_base.specs.declared.prot.Prot.{Prot}
 use Rattle.av_base.specs.declared.slot.Slot.{Slot}
-use Rattle.av_trace.specs.Hex.{hex, hex_text, AreBytes, pairs_of}
+use Rattle.av_text.specs.Hex.{hex, hex_text, AreBytes, pairs_of}
 use Rattle.av_trace.specs.Note.{slot_text, IsSlot}
-use Rattle.av_trace.specs.Number.{IsWide, number_from}
-use Rattle.av_trace.specs.Prot.{letter, prot_text, prot_at}
+use Rattle.av_text.specs.Number.{IsWide, number_from}
+use Rattle.av_text.specs.Prot.{letter, prot_text, prot_at}
 use Rattle.av_trace.specs.Reply.{labelled}
 use Rattle.av_trace.specs.Row.{range_text}
-use Rattle.av_trace.specs.Word.{line, ◌>>=◌}
+use Rattle.av_text.specs.Word.{line, ◌>>=◌}
 use Rattle.std.specs.Prelude.{if◌then◌else◌}
-use Rattle.av_trace.proofs.HexLaws.{pairs_of-again}
-use Rattle.av_trace.proofs.NumberLaws.{IsBase, ten, sixteen, spell, spell-digit, spell-more, halved, glyph_printed, glyph_low, number_from-again}
-use Rattle.av_trace.proofs.ProtLaws.{prot_at-again}
+use Rattle.av_text.proofs.HexLaws.{pairs_of-again}
+use Rattle.av_text.proofs.NumberLaws.{IsBase, ten, sixteen, spell, spell-digit, spell-more, halved, glyph_printed, glyph_low, number_from-again}
+use Rattle.av_text.proofs.ProtLaws.{prot_at-again}
 use Rattle.av_trace.proofs.Split.{lacks, lacks-cons, lacks-append, split, split-two, IsPlain, split-line, lacks-line}
 
 -- ---- numbers

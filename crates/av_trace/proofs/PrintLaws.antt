@@ -7,10 +7,10 @@ use Rattle.av_trace.specs.declared.reply.Answer.TheVariants as answers
 use Rattle.av_trace.specs.declared.reply.Reply.{Reply}
 use Rattle.av_trace.specs.declared.row.Row.{Row}
 use Rattle.av_trace.specs.Note.{note_line, IsNote}
-use Rattle.av_trace.specs.Print.{line_of, notes_text, rows_text, text_of}
+use Rattle.av_trace.specs.Print.{whole_line, notes_text, rows_text, text_of}
 use Rattle.av_trace.specs.Reply.{answer_line, Follow, IsReply}
 use Rattle.av_trace.specs.Row.{row_line, IsRun, IsAreaRow, IsEntry}
-use Rattle.av_trace.specs.Word.{field}
+use Rattle.av_text.specs.Word.{field}
 use Rattle.av_trace.proofs.NoteLaws.{note_of, note_line-is}
 use Rattle.av_trace.proofs.PlainWords.{LineReader, IsLineOf, one_line, no_newline}
 use Rattle.av_trace.proofs.ReplyLaws.{answer_line-is}
@@ -20,7 +20,7 @@ use Rattle.av_trace.proofs.Split.{lacks, lacks-cons, first_line}
 -- ---- the lines after the first
 
 abbrev after_space : {A : Type 0} → (A → List ℕ) → List A → List ℕ
-after_space text xs = flat_map (λ x. line_of (field (text x))) xs
+after_space text xs = flat_map (λ x. whole_line (field (text x))) xs
 
 same_lines : {A : Type 0} (read : LineReader A) (text : A → List ℕ) (Fits : A → Type 0) → ((x : A) → Fits x → IsLineOf read (text x) x) →
     (xs ys : List A) → AllByRecursion Fits xs → AllByRecursion Fits ys → after_space text xs ≡ after_space text ys → xs ≡ ys
@@ -68,8 +68,8 @@ pub same_reply : (a b : Reply) → IsReply a → IsReply b → text_of a ≡ tex
 same_reply a b h k e =
     let left = answer_line-is a.answer h.answer in
     let right = answer_line-is b.answer k.answer in
-    let whole = sym (append_assoc (line_of (answer_line a.answer)) (notes_text a.notes) (rows_text a.rows)) ∙ e
-    ∙ append_assoc (line_of (answer_line b.answer)) (notes_text b.notes) (rows_text b.rows) in
+    let whole = sym (append_assoc (whole_line (answer_line a.answer)) (notes_text a.notes) (rows_text a.rows)) ∙ e
+    ∙ append_assoc (whole_line (answer_line b.answer)) (notes_text b.notes) (rows_text b.rows) in
     let parts = first_line (answer_line a.answer) (answer_line b.answer) (notes_text a.notes ++ rows_text a.rows) (notes_text b.notes ++ rows_text b.rows)
     (no_newline left) (no_newline right) whole in
     let answer = one_line left right parts.0 in

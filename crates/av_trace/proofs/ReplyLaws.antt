@@ -9,10 +9,10 @@ use Rattle.av_trace.specs.declared.reply.OutOf.{OutOf}
 use Rattle.av_trace.specs.declared.reply.Totals.{Totals}
 use Rattle.av_trace.specs.declared.reply.Answer.{Answer}
 use Rattle.av_trace.specs.declared.reply.Answer.TheVariants as answers
-use Rattle.av_trace.specs.Hex.{AreBytes, pairs_of}
-use Rattle.av_trace.specs.Number.{IsWide}
+use Rattle.av_text.specs.Hex.{AreBytes, pairs_of}
+use Rattle.av_text.specs.Number.{IsWide}
 use Rattle.av_trace.specs.Reply.{errno_name, shown_words, out_words, cached_words, answer_line, AreCauses, AreTotals, IfThere, IsAnswer}
-use Rattle.av_trace.specs.Word.{◌>>=◌}
+use Rattle.av_text.specs.Word.{◌>>=◌}
 use Rattle.av_trace.proofs.Split.{lacks}
 use Rattle.av_trace.proofs.PlainWords.{number_of, hex_of, slot_of, labelled_of, plain_name, Names, number-named, hex-named, bytes-named, slot-named, labelled-named, beside, next, last, LineReader, by_name, IsLineOf, AreRead, no_word, word, line_is}
 

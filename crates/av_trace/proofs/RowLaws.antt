@@ -6,10 +6,10 @@ use Rattle.std.specs.Fmt.{decimal}
 use Rattle.std.proofs.lemmas.List.{drop_at}
 use Rattle.av_trace.specs.declared.row.Row.{Row}
 use Rattle.av_trace.specs.declared.row.Row.TheVariants as rows
-use Rattle.av_trace.specs.Number.{IsWide}
+use Rattle.av_text.specs.Number.{IsWide}
 use Rattle.av_trace.specs.Row.{chain_text, own_text, row_line, IsRun, IsAreaRow, IsEntry}
-use Rattle.av_trace.specs.Word.{◌>>=◌}
-use Rattle.av_trace.proofs.NumberLaws.{ten}
+use Rattle.av_text.specs.Word.{◌>>=◌}
+use Rattle.av_text.proofs.NumberLaws.{ten}
 use Rattle.av_trace.proofs.PlainWords.{number_of, hex_of, range_of, prot_of_word, lacks-low, word_of-again, Names, number-named, hex-named, prot-named, range-named, plain_name, next, last, LineReader, IsLineOf, no_word, word, line_from}
 use Rattle.av_trace.proofs.Split.{lacks, lacks-append, lacks-cons, split, split-last, split-more}
 

@@ -4,8 +4,8 @@ use Rattle.std.specs.Prelude.{◌==◌, ◌&&◌, if◌then◌else◌}
 use Rattle.std.specs.List.{flat_map, AllByRecursion}
 use Rattle.std.proofs.lemmas.Bool.{eq-eqb, ne_eqb, cond-true, cond-false, and_parts, and_from}
 use Rattle.std.proofs.lemmas.List.{append_cancel_left}
-use Rattle.av_trace.specs.Print.{line_of}
-use Rattle.av_trace.specs.Word.{field, line}
+use Rattle.av_trace.specs.Print.{whole_line}
+use Rattle.av_text.specs.Word.{field, line}
 
 -- no byte of the text is c
 abbrev pub lacks : ℕ → List ℕ → Bool
@@ -75,7 +75,7 @@ lacks-line name (w ∷ words) plain all =
     lacks-append 10 name (field (w ++ flat_map field words)) plain.newline (lacks-cons 10 32 (line w words) (omega arith) (lacks-line w words all.0 all.1))
 
 -- a first line, and the rest
-pub first_line : (s s' t t' : List ℕ) → lacks 10 s ≡ true → lacks 10 s' ≡ true → line_of s ++ t ≡ line_of s' ++ t' → (s ≡ s') × (t ≡ t')
+pub first_line : (s s' t t' : List ℕ) → lacks 10 s ≡ true → lacks 10 s' ≡ true → whole_line s ++ t ≡ whole_line s' ++ t' → (s ≡ s') × (t ≡ t')
 first_line s s' t t' h h' e =
     let left = append_assoc s (10 ∷ []) t in
     let right = append_assoc s' (10 ∷ []) t' in

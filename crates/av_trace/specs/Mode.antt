@@ -2,9 +2,9 @@
 use Rattle.std.specs.Prelude.{ℕ, List, [], ◌∷◌, codes, Some, None}
 use Rattle.av_trace.specs.declared.mode.Mode.{Mode}
 use Rattle.av_trace.specs.declared.mode.Mode.TheVariants as modes
-use Rattle.av_trace.specs.Word.{◌>>=◌, Reader, by_name}
-use Rattle.av_trace.specs.Number.{IsWide, address_at}
-use Rattle.av_trace.specs.Hex.{hex}
+use Rattle.av_text.specs.Word.{◌>>=◌, Reader, by_name}
+use Rattle.av_text.specs.Number.{IsWide, address_at}
+use Rattle.av_text.specs.Hex.{hex}
 
 -- an address, where a mode has one
 abbrev pub IsMode : Mode → Type 0

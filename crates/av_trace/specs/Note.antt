@@ -6,9 +6,9 @@ use Rattle.av_trace.specs.declared.note.Cause.{Cause}
 use Rattle.av_trace.specs.declared.note.Cause.TheVariants as causes
 use Rattle.av_trace.specs.declared.note.Note.{Note}
 use Rattle.av_trace.specs.declared.note.Note.TheVariants as notes
-use Rattle.av_trace.specs.Word.{line}
-use Rattle.av_trace.specs.Number.{IsWide}
-use Rattle.av_trace.specs.Hex.{hex}
+use Rattle.av_text.specs.Word.{line}
+use Rattle.av_text.specs.Number.{IsWide}
+use Rattle.av_text.specs.Hex.{hex}
 
 -- a slot: the area's number and the page
 abbrev pub slot_text : Slot → List ℕ

@@ -2,9 +2,9 @@
 use Rattle.std.specs.Prelude.{ℕ, List, [], ◌∷◌, codes, Some}
 use Rattle.av_trace.specs.declared.place.Place.{Place}
 use Rattle.av_trace.specs.declared.place.Place.TheVariants as places
-use Rattle.av_trace.specs.Word.{◌>>=◌, Reader, by_name}
-use Rattle.av_trace.specs.Number.{IsWide, address_at}
-use Rattle.av_trace.specs.Hex.{hex}
+use Rattle.av_text.specs.Word.{◌>>=◌, Reader, by_name}
+use Rattle.av_text.specs.Number.{IsWide, address_at}
+use Rattle.av_text.specs.Hex.{hex}
 
 -- an address, where a place has one
 abbrev pub IsPlace : Place → Type 0

@@ -11,9 +11,9 @@ use Rattle.av_trace.specs.declared.reply.Answer.TheVariants as answers
 use Rattle.av_trace.specs.declared.reply.Reply.{Reply}
 use Rattle.av_trace.specs.declared.note.Note.{Note}
 use Rattle.av_trace.specs.declared.row.Row.{Row}
-use Rattle.av_trace.specs.Word.{line}
-use Rattle.av_trace.specs.Number.{IsWide}
-use Rattle.av_trace.specs.Hex.{hex, hex_text, AreBytes}
+use Rattle.av_text.specs.Word.{line}
+use Rattle.av_text.specs.Number.{IsWide}
+use Rattle.av_text.specs.Hex.{hex, hex_text, AreBytes}
 use Rattle.av_trace.specs.Note.{slot_text, IsSlot, IsNote}
 use Rattle.av_trace.specs.Row.{IsRun, IsAreaRow, IsEntry}
 

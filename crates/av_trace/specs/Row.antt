@@ -5,10 +5,10 @@ use Rattle.std.specs.Fmt.{decimal}
 use Rattle.av_base.specs.declared.prot.Prot.{Prot}
 use Rattle.av_trace.specs.declared.row.Row.{Row}
 use Rattle.av_trace.specs.declared.row.Row.TheVariants as rows
-use Rattle.av_trace.specs.Word.{line}
-use Rattle.av_trace.specs.Number.{IsWide}
-use Rattle.av_trace.specs.Hex.{hex}
-use Rattle.av_trace.specs.Prot.{prot_text}
+use Rattle.av_text.specs.Word.{line}
+use Rattle.av_text.specs.Number.{IsWide}
+use Rattle.av_text.specs.Hex.{hex}
+use Rattle.av_text.specs.Prot.{prot_text}
 
 -- the addresses from start to end
 abbrev pub range_text : ℕ → ℕ → List ℕ

@@ -2,16 +2,16 @@
 
 ghost use Rattle.std.specs.Prelude.{◌≡◌, ◌++◌, codes, option_map, IfOk, OnErr};
 ghost use Rattle.av_trace.specs.Command.{at_end, whole, no_words, fork_at, mmap_at, munmap_at, mprotect_at, mremap_at, read_at, write_at, rmap_at, entry_of, command_in, command_of, process_readers, range_readers, report_readers, range_words};
-ghost use Rattle.av_trace.specs.Number.{process_at};
-ghost use Rattle.av_trace.specs.Word.{BeginsWith};
+ghost use Rattle.av_text.specs.Number.{process_at};
+ghost use Rattle.av_text.specs.Word.{BeginsWith};
 
-use crate::bytes::Bytes;
-use crate::hex::data_field;
+use av_text::Bytes;
+use av_text::hex::data_field;
 use crate::mode::{Mode, mode_field};
-use crate::number::{address, decimal, entry, len, process};
+use av_text::number::{address, decimal, entry, len, process};
 use crate::place::{Place, place_field};
-use crate::prot::prot;
-use crate::word::after;
+use av_text::prot::prot;
+use av_text::word::after;
 use av_base::{PAGE_SIZE, Prot};
 use std::alloc::{AllocError, Global};
 

@@ -11,26 +11,19 @@
 //! already; where that is so, they say it.
 #![tactic(auto)]
 
-mod bytes;
 mod command;
-mod hex;
 mod line;
 mod mode;
 mod note;
-mod number;
 mod place;
 mod print;
-mod prot;
 mod reply;
 mod row;
-mod word;
 
-pub use bytes::Bytes;
 pub use command::Command;
-pub use line::{LineFault, one_meaning, parse_line, parse_line_with};
+pub use line::{LineErr, one_meaning, parse_line, parse_line_with};
 pub use mode::Mode;
 pub use note::{Cause, Note, Notes};
-pub use number::number_in;
 pub use place::Place;
 pub use print::{one_reply, reply_text};
 pub use reply::{Answer, Errno, OutOf, Reply, Totals};

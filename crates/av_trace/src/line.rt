@@ -3,15 +3,15 @@
 ghost use Rattle.std.specs.Prelude.{◌≡◌, List, ℕ, Option, codes, IfOk, IsErrOf};
 ghost use Rattle.av_trace.specs.declared.command.Command.{Command as AnyCommand};
 ghost use Rattle.av_trace.specs.Line.{is_blank, Says};
-ghost use Rattle.av_trace.specs.Word.{BeginsWith};
+ghost use Rattle.av_text.specs.Word.{BeginsWith};
 
-use crate::bytes::Bytes;
+use av_text::Bytes;
 use crate::command::{Command, whole_command};
 use std::alloc::Global;
 
 /// Why a line was not read.
 #[derive(Clone, Copy, Drop, Debug, PartialEq, Eq)]
-pub enum LineFault {
+pub enum LineErr {
     /// It is no command, no comment, and not empty.
     Bad,
     /// There was no memory for the bytes of a write.
@@ -30,14 +30,14 @@ fn says_nothing(line: &[u8]) -> bool
 
 /// What a line says, its newline left out: a command, or nothing where it is empty or begins
 /// with `#`.
-pub fn parse_line(alloc: Global, line: &[u8]) -> Result<Option<Command>, LineFault>
+pub fn parse_line(alloc: Global, line: &[u8]) -> Result<Option<Command>, LineErr>
     // What is read is what the line says.
     ensures found { IfOk result (λ said. Says line.now said) }
     // A line is bad only if it says neither a command nor nothing.
-    ensures bad { IsErrOf result LineFault.Bad →
+    ensures bad { IsErrOf result LineErr.Bad →
         (said : Option AnyCommand) → Says line.now said → ⊥ }
     // Only what begins as a write takes memory.
-    ensures memory { IsErrOf result LineFault.Memory → BeginsWith (codes "write") line.now }
+    ensures memory { IsErrOf result LineErr.Memory → BeginsWith (codes "write") line.now }
 {
     parse_line_with(alloc, line, &mut Bytes::new(alloc))
 }
@@ -48,19 +48,19 @@ pub fn parse_line_with(
     alloc: Global,
     line: &[u8],
     spare: &mut Bytes,
-) -> Result<Option<Command>, LineFault>
+) -> Result<Option<Command>, LineErr>
     ensures found { IfOk result (λ said. Says line.now said) }
-    ensures bad { IsErrOf result LineFault.Bad →
+    ensures bad { IsErrOf result LineErr.Bad →
         (said : Option AnyCommand) → Says line.now said → ⊥ }
-    ensures memory { IsErrOf result LineFault.Memory → BeginsWith (codes "write") line.now }
+    ensures memory { IsErrOf result LineErr.Memory → BeginsWith (codes "write") line.now }
 {
     if says_nothing(line) {
         return Ok(None);
     }
     match whole_command(alloc, line, spare) {
         Ok(Some(command)) => Ok(Some(command)),
-        Ok(None) => Err(LineFault::Bad),
-        Err(_) => Err(LineFault::Memory),
+        Ok(None) => Err(LineErr::Bad),
+        Err(_) => Err(LineErr::Memory),
     }
 }
 

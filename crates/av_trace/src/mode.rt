@@ -3,8 +3,8 @@
 ghost use Rattle.std.specs.Prelude.{◌≡◌, option_map};
 ghost use Rattle.av_trace.specs.Mode.{mode_at, dontunmap_at};
 
-use crate::number::address;
-use crate::word::after;
+use av_text::number::address;
+use av_text::word::after;
 
 /// What `mremap` may do with the pages.
 #[derive(Clone, Copy, Drop, Debug, PartialEq, Eq)]

@@ -4,9 +4,9 @@ ghost use Rattle.std.specs.Prelude.{◌≡◌, [], ◌∷◌};
 ghost use Rattle.av_trace.specs.declared.reply.Reply.{Reply as AnyReply};
 ghost use Rattle.av_trace.specs.Print.{notes_text, rows_text, text_of};
 ghost use Rattle.av_trace.specs.Reply.{IsReply};
-ghost use Rattle.av_trace.specs.Word.{Adds};
+ghost use Rattle.av_text.specs.Word.{Adds};
 
-use crate::bytes::Bytes;
+use av_text::Bytes;
 use crate::note::{Note, note_line};
 use crate::reply::{Reply, answer_line};
 use crate::row::{Row, row_line};

@@ -5,14 +5,14 @@ ghost use Rattle.std.specs.List.{flat_map};
 ghost use Rattle.std.specs.Fmt.{decimal as digits_of};
 ghost use Rattle.av_trace.specs.Note.{slot_text};
 ghost use Rattle.av_trace.specs.Reply.{answer_only, errno_name, labelled as labelled_text, shown_words, out_words, cached_words, total_words, answer_line as line_of_answer};
-ghost use Rattle.av_trace.specs.Word.{Adds, field, line};
+ghost use Rattle.av_text.specs.Word.{Adds, field, line};
 
-use crate::bytes::Bytes;
-use crate::hex::{add_address, add_bytes};
+use av_text::Bytes;
+use av_text::hex::{add_address, add_bytes};
 use crate::note::{Notes, add_slot, number_line, slot_line};
-use crate::number::{add_decimal, add_number};
+use av_text::number::{add_decimal, add_number};
 use crate::row::Rows;
-use crate::word::add_word;
+use av_text::word::add_word;
 use av_base::Slot;
 use std::alloc::{AllocError, Global};
 

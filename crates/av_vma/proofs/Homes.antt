@@ -9,8 +9,8 @@ use Rattle.av_base.specs.declared.prot.Prot.{Prot}
 use Rattle.av_vma.specs.declared.area.Area.{Area}
 use Rattle.av_vma.specs.Gap.{IsRoom}
 use Rattle.av_vma.specs.Join.{index_of}
-use Rattle.av_vma.specs.Pages.{AreLaid, Effect, Lengths, Pages, after_map, after_prepare, after_unmap, alters_at, cut_at, fresh_area, has_page, home_of, join_of, joined_around, joined_at, loan_beside, page_changed, pages_changed, part_changed, part_of, with_anon, with_area, with_effect, with_effect_on}
-use Rattle.av_vma.proofs.Cut.{laid_cut, laid_part, part_index, part_own}
+use Rattle.av_vma.specs.Pages.{AreLaid, Effect, Lengths, Pages, after_map, after_prepare, after_unmap, alters_at, split_at, fresh_area, has_page, home_of, join_of, joined_around, joined_at, loan_beside, page_changed, pages_changed, part_changed, part_of, with_anon, with_area, with_effect, with_effect_on}
+use Rattle.av_vma.proofs.Split.{laid_split, laid_part, part_index, part_own}
 use Rattle.av_vma.proofs.Join.{join_index, join_own, laid_joined, laid_page_changed, merged_pages, tried_is}
 use Rattle.av_vma.proofs.Laid.{fresh_free, has_area, has_parts, laid_fresh}
 
@@ -49,8 +49,8 @@ home_from page area home is = λ i. option_map (λ own. (own, is.index i)) (is.o
 -- ---- cut and unmap
 
 -- a cut gives each page the home that it had
-pub homes_cut : (at : ℕ) (on : Pages) → AreLaid on → (page : ℕ) → home_of page (cut_at at on page) ≡ home_of page (on page)
-homes_cut at on laid page = by (on page) refl
+pub homes_split : (at : ℕ) (on : Pages) → AreLaid on → (page : ℕ) → home_of page (split_at at on page) ≡ home_of page (on page)
+homes_split at on laid page = by (on page) refl
   where
     by : (o : Option Area) → on page ≡ o → home_of page (option_map (part_of at page) o) ≡ home_of page o
     by None is = refl
@@ -58,14 +58,14 @@ homes_cut at on laid page = by (on page) refl
         let low = (has_parts area page (laid.here page area is)).0 in
         same_home page area (part_of at page area) (part_own at page area) (part_index at page area (laid.whole page area is) low)
 
-homes_cuts : (from past : ℕ) (on : Pages) → AreLaid on → (page : ℕ) → home_of page (cut_at past (cut_at from on) page) ≡ home_of page (on page)
-homes_cuts from past on laid page = homes_cut past (cut_at from on) (laid_cut from on laid) page ∙ homes_cut from on laid page
+homes_splits : (from past : ℕ) (on : Pages) → AreLaid on → (page : ℕ) → home_of page (split_at past (split_at from on) page) ≡ home_of page (on page)
+homes_splits from past on laid page = homes_split past (split_at from on) (laid_split from on laid) page ∙ homes_split from on laid page
 
 -- so does unmapping, but for the pages that go
 pub homes_unmapped : (from past : ℕ) (on : Pages) → AreLaid on → (page : ℕ) → within from (past - from) page ≡ false
     → home_of page (after_unmap from past on page) ≡ home_of page (on page)
 homes_unmapped from past on laid page stays =
-    ap (λ b. home_of page (cond b None (cut_at past (cut_at from on) page))) stays ∙ homes_cuts from past on laid page
+    ap (λ b. home_of page (cond b None (split_at past (split_at from on) page))) stays ∙ homes_splits from past on laid page
 
 -- ---- join
 
@@ -133,9 +133,9 @@ homes_effect from past effect on page = by (within from (past - from) page)
 module _ (len : Lengths) (effect : Effect) where
   part_homes : (from past : ℕ) (on : Pages) → AreLaid on → KeepsHomes on (part_changed len from past effect on)
   part_homes from past on laid page home is =
-      let cut = cut_at past (cut_at from on) in
+      let cut = split_at past (split_at from on) in
       homes_around len from past (with_effect_on from past effect cut) (laid_part from past on laid effect) page home
-      (homes_effect from past effect cut page ∙ homes_cuts from past on laid page ∙ is)
+      (homes_effect from past effect cut page ∙ homes_splits from past on laid page ∙ is)
 
   page_homes : (at : ℕ) (on : Pages) → AreLaid on → KeepsHomes on (page_changed len effect at on)
   page_homes at on laid page home is = by (alters_at effect (on at))

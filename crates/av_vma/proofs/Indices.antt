@@ -11,8 +11,8 @@ use Rattle.av_vma.specs.Gap.{IsRoom}
 use Rattle.av_vma.specs.Indices.{AreIndicesBelow}
 use Rattle.av_vma.specs.Join.{first_of, index_of, past_of}
 use Rattle.av_vma.specs.Mremap.{IsGrowth, IsMove, after_grow, after_move, after_resize, grown_to, joined_over, moved_range}
-use Rattle.av_vma.specs.Pages.{AreLaid, Effect, IsWhole, Lengths, Pages, after_map, after_prepare, after_unmap, alters_at, cut_at, fresh_area, has_page, join_of, joined_around, joined_at, loan_beside, page_changed, pages_changed, part_changed, part_of, with_anon, with_area, with_effect, with_effect_on, without_range}
-use Rattle.av_vma.proofs.Cut.{laid_cut, laid_part, laid_unmapped}
+use Rattle.av_vma.specs.Pages.{AreLaid, Effect, IsWhole, Lengths, Pages, after_map, after_prepare, after_unmap, alters_at, split_at, fresh_area, has_page, join_of, joined_around, joined_at, loan_beside, page_changed, pages_changed, part_changed, part_of, with_anon, with_area, with_effect, with_effect_on, without_range}
+use Rattle.av_vma.proofs.Split.{laid_split, laid_part, laid_unmapped}
 use Rattle.av_vma.proofs.Join.{join_is, laid_joined, laid_page_changed, tried_is}
 use Rattle.av_vma.proofs.Laid.{has_area, has_parts, laid_fresh}
 use Rattle.av_vma.proofs.Mremap.{IsLast, IsReady, IsThere, carried, ends_there, growing, inside, laid_carried, laid_filled, laid_growth, last_there, parts, ready, which, with_end}
@@ -41,8 +41,8 @@ part_below at page area whole on_page = by (nat_lt page at) refl
         let some = whole.some in
         omega arith
 
-pub indices_cut : (most at : ℕ) (on : Pages) → AreLaid on → AreIndicesBelow most on → AreIndicesBelow most (cut_at at on)
-indices_cut most at on laid h page part is = by (on page) refl is
+pub indices_split : (most at : ℕ) (on : Pages) → AreLaid on → AreIndicesBelow most on → AreIndicesBelow most (split_at at on)
+indices_split most at on laid h page part is = by (on page) refl is
   where
     by : (o : Option Area) → on page ≡ o → option_map (part_of at page) o ≡ Some part → index_of part (past_of part) ≤ most
     by None there e = absurd (none-some part e)
@@ -59,11 +59,11 @@ indices_emptied most from past on h page area is = by (within from (past - from)
     by true e = absurd (none-some area e)
     by false e = h page area e
 
-indices_cuts : (most from past : ℕ) (on : Pages) → AreLaid on → AreIndicesBelow most on → AreIndicesBelow most (cut_at past (cut_at from on))
-indices_cuts most from past on laid h = indices_cut most past (cut_at from on) (laid_cut from on laid) (indices_cut most from on laid h)
+indices_splits : (most from past : ℕ) (on : Pages) → AreLaid on → AreIndicesBelow most on → AreIndicesBelow most (split_at past (split_at from on))
+indices_splits most from past on laid h = indices_split most past (split_at from on) (laid_split from on laid) (indices_split most from on laid h)
 
 pub indices_unmapped : (most from past : ℕ) (on : Pages) → AreLaid on → AreIndicesBelow most on → AreIndicesBelow most (after_unmap from past on)
-indices_unmapped most from past on laid h = indices_emptied most from past (cut_at past (cut_at from on)) (indices_cuts most from past on laid h)
+indices_unmapped most from past on laid h = indices_emptied most from past (split_at past (split_at from on)) (indices_splits most from past on laid h)
 
 -- ---- an area on pages
 
@@ -131,9 +131,9 @@ module _ (len : Lengths) where
     indices_page_changed most at on laid h = by (alters_at effect (on at))
       where
         by : (b : Bool) → AreIndicesBelow most (cond b (part_changed len at (at + 1) effect on) on)
-        by true = indices_around len most at (at + 1) (with_effect_on at (at + 1) effect (cut_at (at + 1) (cut_at at on)))
+        by true = indices_around len most at (at + 1) (with_effect_on at (at + 1) effect (split_at (at + 1) (split_at at on)))
             (laid_part at (at + 1) on laid effect)
-            (indices_effect most at (at + 1) effect (cut_at (at + 1) (cut_at at on)) (indices_cuts most at (at + 1) on laid h))
+            (indices_effect most at (at + 1) effect (split_at (at + 1) (split_at at on)) (indices_splits most at (at + 1) on laid h))
         by false = h
 
     pub indices_changed : (most from n : ℕ) (on : Pages) → AreLaid on → AreIndicesBelow most on → AreIndicesBelow most (pages_changed len effect from n on)
@@ -196,16 +196,16 @@ module _ (len : Lengths) (most : ℕ) (high : top_page ≤ most) where
       laid_clear : AreLaid clear
       laid_clear = laid_unmapped to (to + m) on laid
 
-      laid_once : AreLaid (cut_at from clear)
-      laid_once = laid_cut from clear laid_clear
+      laid_once : AreLaid (split_at from clear)
+      laid_once = laid_split from clear laid_clear
 
       gone_over : Pages
       gone_over = carried from n to m on laid move
 
       pieces_low : AreIndicesBelow most (parts from n to m on laid move)
-      pieces_low = indices_cut most (from + n) (cut_at (from + min n m) (cut_at from clear)) (laid_cut (from + min n m) (cut_at from clear) laid_once)
-          (indices_cut most (from + min n m) (cut_at from clear) laid_once
-          (indices_cut most from clear laid_clear (indices_unmapped most to (to + m) on laid h)))
+      pieces_low = indices_split most (from + n) (split_at (from + min n m) (split_at from clear)) (laid_split (from + min n m) (split_at from clear) laid_once)
+          (indices_split most (from + min n m) (split_at from clear) laid_once
+          (indices_split most from clear laid_clear (indices_unmapped most to (to + m) on laid h)))
 
       low : AreIndicesBelow most gone_over
       low = indices_carried most from n (min n m) to (parts from n to m on laid move) (ready from n to m on laid move) high pieces_low

@@ -9,7 +9,7 @@ use Rattle.av_vma.specs.declared.area.Area.{Area}
 use Rattle.av_vma.specs.Gap.{IsRoom}
 use Rattle.av_vma.specs.Join.{first_of, past_of, index_of, same_prot, share_anon}
 use Rattle.av_vma.specs.Pages.{AreLaid, Effect, IsWhole, Lengths, Pages, after_join, after_map, alters_at, do_join, fresh_area, has_page, join_of, joined_around, joined_at, page_changed, pages_changed, part_changed, with_area}
-use Rattle.av_vma.proofs.Cut.{laid_part}
+use Rattle.av_vma.proofs.Split.{laid_part}
 use Rattle.av_vma.proofs.Laid.{has_area, has_from, has_parts, laid_fresh}
 
 -- ---- protections that are one

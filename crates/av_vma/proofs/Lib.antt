@@ -1,5 +1,5 @@
 pub mod Laid
-pub mod Cut
+pub mod Split
 pub mod Join
 pub mod Homes
 pub mod Owns

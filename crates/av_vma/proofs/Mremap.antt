@@ -8,8 +8,8 @@ use Rattle.av_base.specs.Words.{within}
 use Rattle.av_vma.specs.declared.area.Area.{Area}
 use Rattle.av_vma.specs.Join.{first_of, index_of, past_of}
 use Rattle.av_vma.specs.Mremap.{IsGrowth, IsMove, after_grow, after_move, after_resize, grown_to, joined_over, moved_area, moved_range}
-use Rattle.av_vma.specs.Pages.{AreLaid, IsWhole, Lengths, Pages, after_unmap, cut_at, do_join, has_page, joined_at, part_of, with_area, without_range}
-use Rattle.av_vma.proofs.Cut.{Splits, cut_splits, laid_cut, laid_unmapped, part_index, still_splits}
+use Rattle.av_vma.specs.Pages.{AreLaid, IsWhole, Lengths, Pages, after_unmap, split_at, do_join, has_page, joined_at, part_of, with_area, without_range}
+use Rattle.av_vma.proofs.Split.{Splits, split_at_splits, laid_split, laid_unmapped, part_index, still_splits}
 use Rattle.av_vma.proofs.Join.{join_is, laid_around, laid_joined, merged_pages, tried_is}
 use Rattle.av_vma.proofs.Laid.{has_from, has_parts}
 
@@ -489,8 +489,8 @@ abbrev pub index_at : ℕ → Option Area → Option ℕ
 index_at page = option_map (λ area. index_of area page)
 
 -- a cut keeps it
-pub index_cut : (at : ℕ) (on : Pages) → AreLaid on → (page : ℕ) → index_at page (cut_at at on page) ≡ index_at page (on page)
-index_cut at on laid page = by (on page) refl
+pub index_split : (at : ℕ) (on : Pages) → AreLaid on → (page : ℕ) → index_at page (split_at at on page) ≡ index_at page (on page)
+index_split at on laid page = by (on page) refl
   where
     by : (o : Option Area) → on page ≡ o → index_at page (option_map (part_of at page) o) ≡ index_at page o
     by None is = refl
@@ -505,35 +505,35 @@ module _ (from n to m : ℕ) (on : Pages) (laid : AreLaid on) (move : IsMove fro
   cleared = after_unmap to (to + m) on
 
   abbrev pub parts : Pages
-  parts = cut_at (from + n) (cut_at (from + stay) (cut_at from cleared))
+  parts = split_at (from + n) (split_at (from + stay) (split_at from cleared))
 
   laid_cleared : AreLaid cleared
   laid_cleared = laid_unmapped to (to + m) on laid
 
-  laid_once : AreLaid (cut_at from cleared)
-  laid_once = laid_cut from cleared laid_cleared
+  laid_once : AreLaid (split_at from cleared)
+  laid_once = laid_split from cleared laid_cleared
 
-  laid_twice : AreLaid (cut_at (from + stay) (cut_at from cleared))
-  laid_twice = laid_cut (from + stay) (cut_at from cleared) laid_once
+  laid_twice : AreLaid (split_at (from + stay) (split_at from cleared))
+  laid_twice = laid_split (from + stay) (split_at from cleared) laid_once
 
   pub laid_parts : AreLaid parts
-  laid_parts = laid_cut (from + n) (cut_at (from + stay) (cut_at from cleared)) laid_twice
+  laid_parts = laid_split (from + n) (split_at (from + stay) (split_at from cleared)) laid_twice
 
   lower : Splits from parts
   lower =
-      still_splits from (from + n) (cut_at (from + stay) (cut_at from cleared)) laid_twice
-      (still_splits from (from + stay) (cut_at from cleared) laid_once (cut_splits from cleared))
+      still_splits from (from + n) (split_at (from + stay) (split_at from cleared)) laid_twice
+      (still_splits from (from + stay) (split_at from cleared) laid_once (split_at_splits from cleared))
 
   middle : Splits (from + stay) parts
-  middle = still_splits (from + stay) (from + n) (cut_at (from + stay) (cut_at from cleared)) laid_twice
-      (cut_splits (from + stay) (cut_at from cleared))
+  middle = still_splits (from + stay) (from + n) (split_at (from + stay) (split_at from cleared)) laid_twice
+      (split_at_splits (from + stay) (split_at from cleared))
 
   upper : Splits (from + n) parts
-  upper = cut_splits (from + n) (cut_at (from + stay) (cut_at from cleared))
+  upper = split_at_splits (from + n) (split_at (from + stay) (split_at from cleared))
 
   -- nothing is left at the target
   free_cleared : (page : ℕ) → to ≤ page → page < to + m → cleared page ≡ None
-  free_cleared page low high = ap (λ b. cond b None (cut_at (to + m) (cut_at to on) page)) (is_in_range to (to + m - to) page low (omega arith))
+  free_cleared page low high = ap (λ b. cond b None (split_at (to + m) (split_at to on) page)) (is_in_range to (to + m - to) page low (omega arith))
 
   pub free_parts : (page : ℕ) → to ≤ page → page < to + m → parts page ≡ None
   free_parts page low high = λ i. option_map (part_of (from + n) page)
@@ -546,12 +546,12 @@ module _ (from n to m : ℕ) (on : Pages) (laid : AreLaid on) (move : IsMove fro
   -- each page of the old range has the linear index that it had
   pub index_parts : (page : ℕ) → from ≤ page → page < from + n → index_at page (parts page) ≡ index_at page (on page)
   index_parts page least most =
-      index_cut (from + n) (cut_at (from + stay) (cut_at from cleared)) laid_twice page
-      ∙ index_cut (from + stay) (cut_at from cleared) laid_once page
-      ∙ index_cut from cleared laid_cleared page
-      ∙ ap (λ b. index_at page (cond b None (cut_at (to + m) (cut_at to on) page))) (not_target page least most)
-      ∙ index_cut (to + m) (cut_at to on) (laid_cut to on laid) page
-      ∙ index_cut to on laid page
+      index_split (from + n) (split_at (from + stay) (split_at from cleared)) laid_twice page
+      ∙ index_split (from + stay) (split_at from cleared) laid_once page
+      ∙ index_split from cleared laid_cleared page
+      ∙ ap (λ b. index_at page (cond b None (split_at (to + m) (split_at to on) page))) (not_target page least most)
+      ∙ index_split (to + m) (split_at to on) (laid_split to on laid) page
+      ∙ index_split to on laid page
 
   -- and so it is still mapped
   pub mapped_parts : (page : ℕ) → from ≤ page → page < from + n → is_some (parts page) ≡ true

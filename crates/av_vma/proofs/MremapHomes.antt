@@ -7,9 +7,9 @@ use Rattle.av_base.specs.Words.{within}
 use Rattle.av_vma.specs.declared.area.Area.{Area}
 use Rattle.av_vma.specs.Join.{first_of, index_of, past_of}
 use Rattle.av_vma.specs.Mremap.{IsGrowth, IsMove, after_grow, after_move, after_resize, grown_to, joined_over, moved_area, moved_range}
-use Rattle.av_vma.specs.Pages.{AreLaid, Lengths, Pages, after_unmap, cut_at, has_page, home_of, joined_around, joined_at, with_area, without_range}
-use Rattle.av_vma.proofs.Cut.{laid_cut, laid_unmapped}
-use Rattle.av_vma.proofs.Homes.{KeepsHomes, homes_around, homes_cut, homes_joined, homes_unmapped, keeps_both}
+use Rattle.av_vma.specs.Pages.{AreLaid, Lengths, Pages, after_unmap, split_at, has_page, home_of, joined_around, joined_at, with_area, without_range}
+use Rattle.av_vma.proofs.Split.{laid_split, laid_unmapped}
+use Rattle.av_vma.proofs.Homes.{KeepsHomes, homes_around, homes_split, homes_joined, homes_unmapped, keeps_both}
 use Rattle.av_vma.proofs.Join.{laid_joined, merged_pages, tried_is}
 use Rattle.av_vma.proofs.Laid.{has_parts}
 use Rattle.av_vma.proofs.Mremap.{IsLast, IsReady, at_target, carried, elsewhere, ends_there, free_above, grown_pages, growing, inside, is_in_range, laid_carried, laid_filled, laid_growth, last_there, out_of_range, parts, ready, with_end}
@@ -187,11 +187,11 @@ module _ (len : Lengths) (from n to m : ℕ) (on : Pages) (laid : AreLaid on) (m
 
   home_pieces : (page : ℕ) → within to m page ≡ false → home_of page (pieces page) ≡ home_of page (on page)
   home_pieces page out =
-      let once = cut_at from (after_unmap to (to + m) on) in
-      let twice = cut_at (from + stay) once in
-      homes_cut (from + n) twice (laid_cut (from + stay) once (laid_cut from (after_unmap to (to + m) on) laid_clear)) page
-      ∙ homes_cut (from + stay) once (laid_cut from (after_unmap to (to + m) on) laid_clear) page
-      ∙ homes_cut from (after_unmap to (to + m) on) laid_clear page
+      let once = split_at from (after_unmap to (to + m) on) in
+      let twice = split_at (from + stay) once in
+      homes_split (from + n) twice (laid_split (from + stay) once (laid_split from (after_unmap to (to + m) on) laid_clear)) page
+      ∙ homes_split (from + stay) once (laid_split from (after_unmap to (to + m) on) laid_clear) page
+      ∙ homes_split from (after_unmap to (to + m) on) laid_clear page
       ∙ homes_unmapped to (to + m) on laid page (ap (λ k. within to k page) width ∙ out)
     where
       width : to + m - to ≡ m

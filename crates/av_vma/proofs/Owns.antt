@@ -8,8 +8,8 @@ use Rattle.av_base.specs.declared.prot.Prot.{Prot}
 use Rattle.av_vma.specs.declared.area.Area.{Area}
 use Rattle.av_vma.specs.Join.{first_of}
 use Rattle.av_vma.specs.Mremap.{after_grow, after_move, after_resize, grown_to, joined_over, moved_area, moved_range}
-use Rattle.av_vma.specs.Pages.{Effect, Lengths, Pages, after_map, after_unmap, alters_at, cut_at, fresh_area, has_page, joined_around, joined_at, page_changed, pages_changed, part_changed, part_of, with_area, with_effect, with_effect_on, without_range}
-use Rattle.av_vma.proofs.Cut.{part_own}
+use Rattle.av_vma.specs.Pages.{Effect, Lengths, Pages, after_map, after_unmap, alters_at, split_at, fresh_area, has_page, joined_around, joined_at, page_changed, pages_changed, part_changed, part_of, with_area, with_effect, with_effect_on, without_range}
+use Rattle.av_vma.proofs.Split.{part_own}
 use Rattle.av_vma.proofs.Join.{tried_is}
 
 -- there is an area, with this own anon_vma
@@ -29,15 +29,15 @@ is_own o area own is has = subst (HasOwn own) (sym is) has
 
 -- ---- cut and unmap
 
-pub owns_cut : (at : ℕ) (on : Pages) → AddsNoOwn on (cut_at at on)
-owns_cut at on page own has = (page, by (on page) has)
+pub owns_split : (at : ℕ) (on : Pages) → AddsNoOwn on (split_at at on)
+owns_split at on page own has = (page, by (on page) has)
   where
     by : (o : Option Area) → HasOwn own (option_map (part_of at page) o) → HasOwn own o
     by None has = has
     by (Some area) has = sym (part_own at page area) ∙ has
 
-owns_cuts : (from past : ℕ) (on : Pages) → AddsNoOwn on (cut_at past (cut_at from on))
-owns_cuts from past on = adds_neither on (cut_at from on) (cut_at past (cut_at from on)) (owns_cut from on) (owns_cut past (cut_at from on))
+owns_splits : (from past : ℕ) (on : Pages) → AddsNoOwn on (split_at past (split_at from on))
+owns_splits from past on = adds_neither on (split_at from on) (split_at past (split_at from on)) (owns_split from on) (owns_split past (split_at from on))
 
 owns_emptied : (from past : ℕ) (on : Pages) → AddsNoOwn on (without_range from past on)
 owns_emptied from past on page own has = (page, by (within from (past - from) page) has)
@@ -48,8 +48,8 @@ owns_emptied from past on page own has = (page, by (within from (past - from) pa
 
 pub owns_unmapped : (from past : ℕ) (on : Pages) → AddsNoOwn on (after_unmap from past on)
 owns_unmapped from past on =
-    let cut = cut_at past (cut_at from on) in
-    adds_neither on cut (after_unmap from past on) (owns_cuts from past on) (owns_emptied from past cut)
+    let cut = split_at past (split_at from on) in
+    adds_neither on cut (after_unmap from past on) (owns_splits from past on) (owns_emptied from past cut)
 
 -- ---- join
 
@@ -102,9 +102,9 @@ module _ (len : Lengths) where
 
     part_owns : (from past : ℕ) (on : Pages) → AddsNoOwn on (part_changed len from past effect on)
     part_owns from past on =
-        let cut = cut_at past (cut_at from on) in
+        let cut = split_at past (split_at from on) in
         let new = with_effect_on from past effect cut in
-        adds_neither on new (part_changed len from past effect on) (adds_neither on cut new (owns_cuts from past on) (owns_effect from past cut))
+        adds_neither on new (part_changed len from past effect on) (adds_neither on cut new (owns_splits from past on) (owns_effect from past cut))
         (owns_around from past new)
 
     page_owns : (at : ℕ) (on : Pages) → AddsNoOwn on (page_changed len effect at on)
@@ -152,13 +152,13 @@ module _ (from n to m : ℕ) (on : Pages) where
   cleared = after_unmap to (to + m) on
 
   abbrev once : Pages
-  once = cut_at from cleared
+  once = split_at from cleared
 
   abbrev twice : Pages
-  twice = cut_at (from + min n m) once
+  twice = split_at (from + min n m) once
 
   abbrev parts : Pages
-  parts = cut_at (from + n) twice
+  parts = split_at (from + n) twice
 
   abbrev carried : Pages
   carried = moved_range from n (min n m) to parts
@@ -168,7 +168,7 @@ module _ (from n to m : ℕ) (on : Pages) where
 
   owns_parts : AddsNoOwn on parts
   owns_parts = adds_neither on cleared parts (owns_unmapped to (to + m) on)
-      (adds_neither cleared once parts (owns_cut from cleared) (adds_neither once twice parts (owns_cut (from + min n m) once) (owns_cut (from + n) twice)))
+      (adds_neither cleared once parts (owns_split from cleared) (adds_neither once twice parts (owns_split (from + min n m) once) (owns_split (from + n) twice)))
 
   pub owns_full : AddsNoOwn on full
   owns_full = adds_neither on carried full (adds_neither on parts carried owns_parts (owns_moved from n (min n m) to parts))

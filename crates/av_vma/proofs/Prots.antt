@@ -7,8 +7,8 @@ use Rattle.av_vma.specs.declared.area.Area.{Area}
 use Rattle.av_vma.specs.Gap.{IsRoom}
 use Rattle.av_vma.specs.Join.{first_of, index_of, past_of}
 use Rattle.av_vma.specs.Mremap.{IsGrowth, IsMove, after_grow, after_move, grown_to, joined_over, moved_area}
-use Rattle.av_vma.specs.Pages.{AreLaid, Lengths, Pages, after_map, after_unmap, cut_at, fresh_area, has_page, joined_around, joined_at, part_of, with_area}
-use Rattle.av_vma.proofs.Cut.{of_part}
+use Rattle.av_vma.specs.Pages.{AreLaid, Lengths, Pages, after_map, after_unmap, split_at, fresh_area, has_page, joined_around, joined_at, part_of, with_area}
+use Rattle.av_vma.proofs.Split.{of_part}
 use Rattle.av_vma.proofs.Join.{join_is, laid_joined, merged_pages, tried_is}
 use Rattle.av_vma.proofs.Laid.{fresh_has, has_area, has_from, has_parts, laid_fresh}
 use Rattle.av_vma.proofs.Mremap.{IsLast, IsThere, at_target, carried, elsewhere, ends_there, growing, is_in_range, laid_carried, laid_filled, laid_growth, last_there, out_of_range, parts, ready, with_end}
@@ -23,16 +23,16 @@ prots on page = option_map area_prot (on page)
 -- ---- cut and join
 
 -- a part has the protection of its area
-pub prots_cut : (at : ℕ) (on : Pages) (page : ℕ) → prots (cut_at at on) page ≡ prots on page
-prots_cut at on page = by (on page)
+pub prots_split : (at : ℕ) (on : Pages) (page : ℕ) → prots (split_at at on) page ≡ prots on page
+prots_split at on page = by (on page)
   where
     by : (o : Option Area) → option_map area_prot (option_map (part_of at page) o) ≡ option_map area_prot o
     by None = refl
     by (Some area) = ap Some (of_part at page area area_prot refl refl)
 
 pub prots_unmapped : (from past : ℕ) (on : Pages) (page : ℕ) → within from (past - from) page ≡ false → prots (after_unmap from past on) page ≡ prots on page
-prots_unmapped from past on page stays = ap (λ b. option_map area_prot (cond b None (cut_at past (cut_at from on) page))) stays
-    ∙ prots_cut past (cut_at from on) page ∙ prots_cut from on page
+prots_unmapped from past on page stays = ap (λ b. option_map area_prot (cond b None (split_at past (split_at from on) page))) stays
+    ∙ prots_split past (split_at from on) page ∙ prots_split from on page
 
 module _ (len : Lengths) where
   -- a join keeps each page's protection
@@ -140,7 +140,7 @@ module _ (len : Lengths) (from n to m : ℕ) (on : Pages) (laid : AreLaid on) (m
   prots_pieces : (page : ℕ) → within to m page ≡ false → prots pieces page ≡ prots on page
   prots_pieces page out =
       let clear = after_unmap to (to + m) on in
-      prots_cut (from + n) (cut_at (from + stay) (cut_at from clear)) page ∙ prots_cut (from + stay) (cut_at from clear) page ∙ prots_cut from clear page
+      prots_split (from + n) (split_at (from + stay) (split_at from clear)) page ∙ prots_split (from + stay) (split_at from clear) page ∙ prots_split from clear page
       ∙ prots_unmapped to (to + m) on page (ap (λ k. within to k page) width ∙ out)
     where
       width : to + m - to ≡ m

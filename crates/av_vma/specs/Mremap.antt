@@ -1,11 +1,11 @@
 -- What moving and growing a range makes of the areas on a process's pages.
 use Rattle.std.specs.Prelude.{◌≡◌, ℕ, zero, suc, ◌+◌, ◌-◌, ◌^◌, ◌<◌, ◌≤◌, ◌⊎◌, min, nat_lt, true, false, is_some, if◌then◌else◌, Option, Some, None, option_map, IsSomeAnd}
-use Rattle.av_base.specs.Limits.{low_page, top_page}
+use Rattle.av_base.specs.Limits.{low_page, top_page, most_indices}
 use Rattle.av_base.specs.Page.{address_of}
 use Rattle.av_base.specs.Words.{within}
 use Rattle.av_vma.specs.declared.area.Area.{Area}
 use Rattle.av_vma.specs.Join.{first_of, index_of, past_of}
-use Rattle.av_vma.specs.Pages.{Lengths, Pages, after_unmap, cut_at, joined_around, joined_at, with_area, without_range}
+use Rattle.av_vma.specs.Pages.{Lengths, Pages, after_unmap, split_at, joined_around, joined_at, with_area, without_range}
 
 -- ---- parts
 
@@ -56,7 +56,7 @@ abbrev pub after_move : Lengths → ℕ → ℕ → ℕ → ℕ → Pages → Pa
 after_move len from n to m on =
     let k = min n m in
     let cleared = after_unmap to (to + m) on in
-    let parts = cut_at (from + n) (cut_at (from + k) (cut_at from cleared)) in
+    let parts = split_at (from + n) (split_at (from + k) (split_at from cleared)) in
     let moved = moved_range from n k to parts in
     joined_over len to (suc m) (grown_to (to + m) (moved (to + k - 1)) moved)
 
@@ -68,7 +68,7 @@ pub record IsGrowth (last past : ℕ) (on : Pages) : Type 0 where
   pub more : last + 1 < past
   pub high : past ≤ top_page
   pub free : (page : ℕ) → last < page → page < past → is_some (on page) ≡ false
-  pub small : IsSomeAnd (on last) (λ area. index_of area last + (past - last) ≤ 2 ^ 60)
+  pub small : IsSomeAnd (on last) (λ area. index_of area last + (past - last) ≤ most_indices)
 
 -- n pages may become m at another place: the new range is of pages that a process may have, and
 -- apart from the old one, which is mapped; and linear indices stay small
@@ -80,4 +80,4 @@ pub record IsMove (from n to m : ℕ) (on : Pages) : Type 0 where
   pub apart : (to + m ≤ from) ⊎ (from + n ≤ to)
   pub mapped : (page : ℕ) → from ≤ page → page < from + n → is_some (on page) ≡ true
   pub small : let last = from + min n m - 1 in
-      IsSomeAnd (on last) (λ area. index_of area last + (m - min n m) < 2 ^ 60)
+      IsSomeAnd (on last) (λ area. index_of area last + (m - min n m) < most_indices)

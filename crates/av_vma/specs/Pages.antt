@@ -3,7 +3,7 @@
 use Rattle.std.specs.Prelude.{◌≡◌, ℕ, zero, suc, ◌+◌, ◌-◌, ◌^◌, ◌<◌, ◌≤◌, true, false, not, ◌==◌, min, max, unwrap_or, is_some, Bool, ◌&&◌, nat_lt, if◌then◌else◌, List, Option, Some, None, option_map}
 use Rattle.std.specs.List.{find}
 use Rattle.std.specs.Option.{option_or}
-use Rattle.av_base.specs.Limits.{low_page, top_page}
+use Rattle.av_base.specs.Limits.{low_page, top_page, most_indices}
 use Rattle.av_base.specs.Page.{address_of}
 use Rattle.av_base.specs.Words.{within}
 use Rattle.av_base.specs.declared.prot.Prot.{Prot}
@@ -30,7 +30,7 @@ pub record IsWhole (area : Area) : Type 0 where
   pub some : first_of area < past_of area
   pub low : low_page ≤ first_of area
   pub high : past_of area ≤ top_page
-  pub small : area.pgoff + (past_of area - first_of area) ≤ 2 ^ 60
+  pub small : area.pgoff + (past_of area - first_of area) ≤ most_indices
 
 -- each area is whole, and is on all of its pages and on no other
 pub record AreLaid (on : Pages) : Type 0 where
@@ -52,8 +52,8 @@ part_of at page area =
     }
 
 -- a cut before page `at`
-abbrev pub cut_at : ℕ → Pages → Pages
-cut_at at on page = option_map (part_of at page) (on page)
+abbrev pub split_at : ℕ → Pages → Pages
+split_at at on page = option_map (part_of at page) (on page)
 
 -- nothing is left from one page to below another
 abbrev pub without_range : ℕ → ℕ → Pages → Pages
@@ -120,7 +120,7 @@ after_map len p from past prot on =
 
 -- the pages from one to below another go: what is left of areas at the two ends isn't joined
 abbrev pub after_unmap : ℕ → ℕ → Pages → Pages
-after_unmap from past on = without_range from past (cut_at past (cut_at from on))
+after_unmap from past on = without_range from past (split_at past (split_at from on))
 
 -- ---- change
 
@@ -156,7 +156,7 @@ with_effect_on from past effect on page =
 -- a part of an area is cut out, has the effect, and is joined with its neighbours
 abbrev pub part_changed : Lengths → ℕ → ℕ → Effect → Pages → Pages
 part_changed len from past effect on =
-    joined_around len from past (with_effect_on from past effect (cut_at past (cut_at from on)))
+    joined_around len from past (with_effect_on from past effect (split_at past (split_at from on)))
 
 -- so is one page, where its area isn't so already
 abbrev pub page_changed : Lengths → Effect → ℕ → Pages → Pages

@@ -3,8 +3,9 @@ use Rattle.std.proofs.Common.{◌≡◌, ℕ, ◌<◌, ◌≤◌, ◌⊎◌, inl
 use Rattle.std.proofs.lemmas.Bool.{eq-eqb, eqb-true, ne_eqb}
 use Rattle.av_base.specs.Limits.{low_page, top_page}
 use Rattle.av_base.specs.Words.{with_at}
-use Rattle.av_arena.specs.Order.{AllOf, NoneBetween, with_two, without_key}
-use Rattle.av_arena.proofs.Order.{AllOf-map}
+use Rattle.av_arena.specs.Order.{NoneBetween, with_two, without_key}
+use Rattle.std.specs.List.{AllByRecursion}
+use Rattle.av_arena.proofs.Order.{AllByRecursion-map}
 use Rattle.av_vmatree.specs.declared.span.Span.{Span}
 use Rattle.av_vmatree.specs.Spans.{start_of, holds, area_at, is_page_taken, span_of, with_span, unless_area, without_area, IsFree, AreApart, AreSpans}
 use Rattle.av_vmatree.proofs.Spans.{all_found, ended_here, holds_above, holds_here, inserted, removed_here}
@@ -28,12 +29,12 @@ own_at n (b ∷ xs) s p apart found low high =
     ] refl found
 
 -- no other span begins within a span
-none_within : (n : ℕ) (xs : List Span) (s : Span) → AreApart xs → span_of xs n ≡ Some s → AllOf (λ y. (y.from ≤ s.from) ⊎ (s.to ≤ y.from)) xs
+none_within : (n : ℕ) (xs : List Span) (s : Span) → AreApart xs → span_of xs n ≡ Some s → AllByRecursion (λ y. (y.from ≤ s.from) ⊎ (s.to ≤ y.from)) xs
 none_within n [] s apart found = tt
 none_within n (b ∷ xs) s apart found =
-    elim (eqb n b.area) as (λ v. cond v (Some b) (span_of xs n) ≡ Some s → AllOf (λ y. (y.from ≤ s.from) ⊎ (s.to ≤ y.from)) (b ∷ xs)) [
-      | true ↦ λ f. let same : b ≡ s = cc in subst (λ (t : Span). AllOf (λ y. (y.from ≤ t.from) ⊎ (t.to ≤ y.from)) (b ∷ xs)) same
-          (inl (omega arith), AllOf-map (λ y. b.to ≤ y.from) (λ y. (y.from ≤ b.from) ⊎ (b.to ≤ y.from)) (λ y h. inr h) xs apart.1)
+    elim (eqb n b.area) as (λ v. cond v (Some b) (span_of xs n) ≡ Some s → AllByRecursion (λ y. (y.from ≤ s.from) ⊎ (s.to ≤ y.from)) (b ∷ xs)) [
+      | true ↦ λ f. let same : b ≡ s = cc in subst (λ (t : Span). AllByRecursion (λ y. (y.from ≤ t.from) ⊎ (t.to ≤ y.from)) (b ∷ xs)) same
+          (inl (omega arith), AllByRecursion-map (λ y. b.to ≤ y.from) (λ y. (y.from ≤ b.from) ⊎ (b.to ≤ y.from)) (λ y h. inr h) xs apart.1)
       | false ↦ λ f.
           let later : b.to ≤ s.from = all_found (λ t. b.to ≤ t.from) n xs s apart.1 f in
           let wide : b.from < b.to = apart.0 in
@@ -102,7 +103,7 @@ next_cases : (n from at to : ℕ) (o : Option Span) (xs : List Span) → AreApar
 next_cases n from at to None xs apart found h less = absurd h
 next_cases n from at to (Some s) xs apart found h less =
     let a = h.0 in let b = h.1 in
-    AllOf-map (λ y. (y.from ≤ s.from) ⊎ (s.to ≤ y.from)) (λ y. (y.from ≤ from) ⊎ (at < y.from))
+    AllByRecursion-map (λ y. (y.from ≤ s.from) ⊎ (s.to ≤ y.from)) (λ y. (y.from ≤ from) ⊎ (at < y.from))
     (λ y i. elim i [ inl j ↦ inl (omega arith) | inr j ↦ inr (omega arith) ]) xs (none_within n xs s apart found)
 
 pub next : (n from at to : ℕ) (xs : List Span) → AreApart xs → HasSpan xs n from to → at < to → NoneBetween start_of from at xs

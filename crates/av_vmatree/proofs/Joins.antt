@@ -3,8 +3,9 @@ use Rattle.std.proofs.Common.{◌≡◌, ℕ, ◌+◌, ◌-◌, ◌<◌, ◌≤�
 use Rattle.std.proofs.lemmas.Bool.{eqb-true}
 use Rattle.av_base.specs.Limits.{low_page, top_page}
 use Rattle.av_base.specs.Words.{with_at}
-use Rattle.av_arena.specs.Order.{AllOf, NoneWithin, with_joined, without_key}
-use Rattle.av_arena.proofs.Order.{AllOf-map}
+use Rattle.av_arena.specs.Order.{NoneWithin, with_joined, without_key}
+use Rattle.std.specs.List.{AllByRecursion}
+use Rattle.av_arena.proofs.Order.{AllByRecursion-map}
 use Rattle.av_vmatree.specs.declared.span.Span.{Span}
 use Rattle.av_vmatree.specs.Spans.{start_of, holds, area_at, is_page_taken, span, span_of, with_span, unless_area, without_area, AreApart, AreSpans, IsFree}
 use Rattle.av_vmatree.proofs.Spans.{AreClear, IsEnded, IsRemoved, clear_from_free, ended_here, entry_there, removed_here}
@@ -42,15 +43,15 @@ before_there n o at from xs good there before =
     before_cases n o from (eqb n o) (span_of xs n) (subst (λ a. IsSomeAnd a (λ t. t.from ≡ from)) (r.areas n) here)
 
 -- what holds of a key and of all others holds of all
-all_back : (P : Span → Type 0) (k : ℕ) (t : List Span) → ((y : Span) → y.from ≡ k → P y) → AllOf P (without_key start_of k t) → AllOf P t
+all_back : (P : Span → Type 0) (k : ℕ) (t : List Span) → ((y : Span) → y.from ≡ k → P y) → AllByRecursion P (without_key start_of k t) → AllByRecursion P t
 all_back P k [] f a = tt
 all_back P k (y ∷ t) f a =
-    elim (eqb y.from k) as (λ v. eqb y.from k ≡ v → AllOf P (cond v t (y ∷ without_key start_of k t)) → AllOf P (y ∷ t)) [
+    elim (eqb y.from k) as (λ v. eqb y.from k ≡ v → AllByRecursion P (cond v t (y ∷ without_key start_of k t)) → AllByRecursion P (y ∷ t)) [
       | true ↦ λ e b. (f y (eqb-true y.from k e), b)
       | false ↦ λ e b. (b.0, all_back P k t f b.1)
     ] refl a
 
-spread : (from at to : ℕ) (zs : List Span) → from < at → at < to → AreApart zs → AreClear zs from (to - from) → AllOf (λ y. (y.from ≤ from) ⊎ (at ≤ y.from)) zs
+spread : (from at to : ℕ) (zs : List Span) → from < at → at < to → AreApart zs → AreClear zs from (to - from) → AllByRecursion (λ y. (y.from ≤ from) ⊎ (at ≤ y.from)) zs
 spread from at to [] low high apart clear = tt
 spread from at to (y ∷ zs) low high apart clear = let wide = apart.0 in
     (elim clear.0 [ inl i ↦ inl (omega arith) | inr i ↦ inr (omega arith) ], spread from at to zs low high apart.2 clear.1)

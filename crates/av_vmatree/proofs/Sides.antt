@@ -3,7 +3,7 @@ use Rattle.std.proofs.Common.{◌≡◌, ℕ, ◌<◌, ◌≤◌, true, false, c
 use Rattle.std.specs.Option.{option_or}
 use Rattle.std.proofs.lemmas.Bool.{leb-true, ltb-true, le-leb, lt-leb, lt-ltb, le-ltb, eq-eqb, eqb-true, false_from_ne_true}
 use Rattle.std.proofs.lemmas.Option.{none-some, same_Some}
-use Rattle.av_arena.specs.Order.{AllOf}
+use Rattle.std.specs.List.{AllByRecursion}
 use Rattle.av_vmatree.specs.declared.span.Span.{Span}
 use Rattle.av_vmatree.specs.Spans.{AreApart, AreDistinct, first_from, last_below, span_of}
 use Rattle.av_vmatree.proofs.Spans.{all_found}
@@ -55,15 +55,15 @@ in_row P s spans k t e first later = elim (eqb k s.area) as (λ b. cond b (Some 
 ] e
 
 -- no span is empty
-pub all_wide : (xs : List Span) → AreApart xs → AllOf (λ t. t.from < t.to) xs
+pub all_wide : (xs : List Span) → AreApart xs → AllByRecursion (λ t. t.from < t.to) xs
 all_wide [] apart = tt
 all_wide (b ∷ xs) apart = (apart.0, all_wide xs apart.2)
 
-none_below : (xs : List Span) (page : ℕ) → AllOf (λ t. page ≤ t.from) xs → last_below xs page ≡ None
+none_below : (xs : List Span) (page : ℕ) → AllByRecursion (λ t. page ≤ t.from) xs → last_below xs page ≡ None
 none_below [] page all = refl
 none_below (b ∷ xs) page all = rw (none_below xs page all.1, le-ltb b.from page all.0) refl
 
-all_from : (xs : List Span) (page to : ℕ) → page ≤ to → AllOf (λ t. to ≤ t.from) xs → AllOf (λ t. page ≤ t.from) xs
+all_from : (xs : List Span) (page to : ℕ) → page ≤ to → AllByRecursion (λ t. to ≤ t.from) xs → AllByRecursion (λ t. page ≤ t.from) xs
 all_from [] page to h all = tt
 all_from (b ∷ xs) page to h all = let k = all.0 in (omega arith, all_from xs page to h all.1)
 

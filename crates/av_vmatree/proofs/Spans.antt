@@ -4,17 +4,18 @@ use Rattle.std.specs.Option.{option_or}
 use Rattle.std.proofs.lemmas.Bool.{leb-true, ltb-true, ltb-false, le-leb, lt-leb, lt-ltb, le-ltb, eq-eqb, ne_eqb, eqb-true, eqb-false, both_ways, cases_lt, and_parts, cond-false}
 use Rattle.av_base.specs.Limits.{low_page, top_page}
 use Rattle.av_base.specs.Words.{with_at}
-use Rattle.av_arena.specs.Order.{AllOf, entry_at, with_entry, without_key}
+use Rattle.av_arena.specs.Order.{entry_at, with_entry, without_key}
+use Rattle.std.specs.List.{AllByRecursion}
 use Rattle.av_vmatree.specs.declared.span.Span.{Span}
-use Rattle.av_vmatree.specs.Spans.{start_of, holds, area_after, area_at, area_before, first_from, last_below, or_else, is_page_taken, span_of, with_span, unless_area, without_area, IsFree, AreApart, AreDistinct, AreSpans}
+use Rattle.av_vmatree.specs.Spans.{start_of, holds, area_after, area_at, area_before, first_from, last_below, is_page_taken, span_of, with_span, unless_area, without_area, IsFree, AreApart, AreDistinct, AreSpans}
 
 -- no span meets the n pages from p on
 abbrev pub AreClear : List Span → ℕ → ℕ → Type 0
-AreClear xs p n = AllOf (λ a. (a.to ≤ p) ⊎ (p + n ≤ a.from)) xs
+AreClear xs p n = AllByRecursion (λ a. (a.to ≤ p) ⊎ (p + n ≤ a.from)) xs
 
 -- the spans lie in [lo, hi)
 abbrev pub IsWithin : ℕ → ℕ → List Span → Type 0
-IsWithin lo hi = AllOf (λ a. (lo ≤ a.from) × (a.to ≤ hi))
+IsWithin lo hi = AllByRecursion (λ a. (lo ≤ a.from) × (a.to ≤ hi))
 
 pub holds_below : (s : Span) (p : ℕ) → p < s.from → holds s p ≡ false
 holds_below s p h = rw (lt-leb s.from p h) refl
@@ -65,7 +66,7 @@ pub wide_at : (l : List Span) (a : Span) (r : List Span) → AreApart (l ++ a �
 wide_at [] a r s = s.0
 wide_at (c ∷ l) a r s = wide_at l a r s.2
 
-later_low : (hi : ℕ) (a : Span) (xs : List Span) (lo : ℕ) → AllOf (λ b. a.to ≤ b.from) xs → IsWithin lo hi xs → IsWithin a.to hi xs
+later_low : (hi : ℕ) (a : Span) (xs : List Span) (lo : ℕ) → AllByRecursion (λ b. a.to ≤ b.from) xs → IsWithin lo hi xs → IsWithin a.to hi xs
 later_low hi a [] lo s w = tt
 later_low hi a (b ∷ xs) lo s w = ((s.0, w.0.1), later_low hi a xs lo s.1 w.1)
 
@@ -78,19 +79,19 @@ count-le lo hi (a ∷ xs) o s w =
     let rest = count-le a.to hi xs here.1 s.2 (later_low hi a xs lo s.1 w.1) in
     omega (arith, some, here.0, rest)
 
-all_with : (P : Span → Type 0) (a : Span) (xs : List Span) → P a → AllOf P xs → AllOf P (with_entry start_of a xs)
+all_with : (P : Span → Type 0) (a : Span) (xs : List Span) → P a → AllByRecursion P xs → AllByRecursion P (with_entry start_of a xs)
 all_with P a [] p s = (p, tt)
 all_with P a (b ∷ xs) p s =
-    elim (ltb a.from b.from) as (λ v. AllOf P (cond v (a ∷ b ∷ xs) (b ∷ cond (ltb b.from a.from) (with_entry start_of a xs) xs))) [
+    elim (ltb a.from b.from) as (λ v. AllByRecursion P (cond v (a ∷ b ∷ xs) (b ∷ cond (ltb b.from a.from) (with_entry start_of a xs) xs))) [
       | true ↦ (p, s)
-      | false ↦ (s.0, elim (ltb b.from a.from) as (λ v. AllOf P (cond v (with_entry start_of a xs) xs)) [ true ↦ all_with P a xs p s.1 | false ↦ s.1 ])
+      | false ↦ (s.0, elim (ltb b.from a.from) as (λ v. AllByRecursion P (cond v (with_entry start_of a xs) xs)) [ true ↦ all_with P a xs p s.1 | false ↦ s.1 ])
     ]
 
 pub within_with : (lo hi : ℕ) (a : Span) (xs : List Span) → lo ≤ a.from → a.to ≤ hi → IsWithin lo hi xs → IsWithin lo hi (with_entry start_of a xs)
 within_with lo hi a xs p q w = all_with (λ b. (lo ≤ b.from) × (b.to ≤ hi)) a xs (p, q) w
 
 -- an area on free pages before one is before all later ones
-later_all : (a b : Span) (xs : List Span) → a.to ≤ b.from → b.from < b.to → AllOf (λ c. b.to ≤ c.from) xs → AllOf (λ c. a.to ≤ c.from) xs
+later_all : (a b : Span) (xs : List Span) → a.to ≤ b.from → b.from < b.to → AllByRecursion (λ c. b.to ≤ c.from) xs → AllByRecursion (λ c. a.to ≤ c.from) xs
 later_all a b [] p some s = tt
 later_all a b (c ∷ xs) p some s = let h = s.0 in (omega (arith, p, some, h), later_all a b xs p some s.1)
 
@@ -107,9 +108,9 @@ apart_with a (b ∷ xs) some s f =
           rw (lt-ltb b.from a.from less) (s.0, all_with (λ c. b.to ≤ c.from) a xs past s.1, apart_with a xs some s.2 f.1)
     ] refl
 
-all_without : (P : Span → Type 0) (k : ℕ) (xs : List Span) → AllOf P xs → AllOf P (without_key start_of k xs)
+all_without : (P : Span → Type 0) (k : ℕ) (xs : List Span) → AllByRecursion P xs → AllByRecursion P (without_key start_of k xs)
 all_without P k [] s = tt
-all_without P k (b ∷ xs) s = elim (eqb b.from k) as (λ v. AllOf P (cond v xs (b ∷ without_key start_of k xs))) [
+all_without P k (b ∷ xs) s = elim (eqb b.from k) as (λ v. AllByRecursion P (cond v xs (b ∷ without_key start_of k xs))) [
   | true ↦ s.1
   | false ↦ (s.0, all_without P k xs s.1)
 ]
@@ -125,7 +126,7 @@ apart_without k (b ∷ xs) s = elim (eqb b.from k) as (λ v. AreApart (cond v xs
 ]
 
 -- a page below the end of a span is in none after it
-none_later : (p : ℕ) (a : Span) (xs : List Span) → p < a.to → AllOf (λ b. a.to ≤ b.from) xs → area_at xs p ≡ None
+none_later : (p : ℕ) (a : Span) (xs : List Span) → p < a.to → AllByRecursion (λ b. a.to ≤ b.from) xs → area_at xs p ≡ None
 none_later p a [] h s = refl
 none_later p a (b ∷ xs) h s = let k = s.0 in rw (holds_below b p (omega (arith, k, h))) (none_later p a xs h s.1)
 
@@ -136,7 +137,7 @@ at_left p d l a r is s h = rw is (go l (rw is at s))
     go [] s = let wide = s.0 in rw (holds_below a p h) (sym (none_later p a r (omega (arith, wide, h)) s.1))
     go (b ∷ l) s = ap (cond (holds b p) (Some b.area)) (go l s.2)
 
-middle_after : (b : Span) (l : List Span) (a : Span) (r : List Span) → AllOf (λ c. b.to ≤ c.from) (l ++ a ∷ r) → b.to ≤ a.from
+middle_after : (b : Span) (l : List Span) (a : Span) (r : List Span) → AllByRecursion (λ c. b.to ≤ c.from) (l ++ a ∷ r) → b.to ≤ a.from
 middle_after b [] a r s = s.0
 middle_after b (c ∷ l) a r s = middle_after b l a r s.1
 
@@ -270,7 +271,7 @@ pub apart_left : (l : List Span) (a : Span) (r : List Span) → AreApart (l ++ a
 apart_left [] a r s = tt
 apart_left (b ∷ l) a r s = (s.0, all_front b l (a ∷ r) s.1, apart_left l a r s.2)
   where
-    all_front : (b : Span) (l m : List Span) → AllOf (λ c. b.to ≤ c.from) (l ++ m) → AllOf (λ c. b.to ≤ c.from) l
+    all_front : (b : Span) (l m : List Span) → AllByRecursion (λ c. b.to ≤ c.from) (l ++ m) → AllByRecursion (λ c. b.to ≤ c.from) l
     all_front b [] m s = tt
     all_front b (c ∷ l) m s = (s.0, all_front b l m s.1)
 
@@ -349,7 +350,7 @@ at_without n (b ∷ xs) p s d =
       ]
     ] refl
 
-pub all_found : (P : Span → Type 0) (n : ℕ) (xs : List Span) (a : Span) → AllOf P xs → span_of xs n ≡ Some a → P a
+pub all_found : (P : Span → Type 0) (n : ℕ) (xs : List Span) (a : Span) → AllByRecursion P xs → span_of xs n ≡ Some a → P a
 all_found P n [] a all found = cc
 all_found P n (b ∷ xs) a all found =
     elim (eqb n b.area) as (λ v. cond v (Some b) (span_of xs n) ≡ Some a → P a) [
@@ -458,19 +459,19 @@ entry_there n first (b ∷ xs) there =
     ] refl
 
 -- the nearest areas, down the tree
-pub or_else_assoc : (x y z : Option ℕ) → or_else (or_else x y) z ≡ or_else x (or_else y z)
+pub or_else_assoc : (x y z : Option ℕ) → option_or (option_or x y) z ≡ option_or x (option_or y z)
 or_else_assoc (Some a) y z = refl
 or_else_assoc None y z = refl
 
-or_else_some : (x y : Option ℕ) (n : ℕ) → or_else (or_else x (Some n)) y ≡ or_else x (Some n)
+or_else_some : (x y : Option ℕ) (n : ℕ) → option_or (option_or x (Some n)) y ≡ option_or x (Some n)
 or_else_some (Some a) y n = refl
 or_else_some None y n = refl
 
-before_cut : (p : ℕ) (l m : List Span) → area_before (l ++ m) p ≡ or_else (area_before m p) (area_before l p)
-before_cut p [] m = elim (area_before m p) as (λ o. o ≡ or_else o None) [ Some x ↦ refl | None ↦ refl ]
-before_cut p (b ∷ l) m = ap (λ o. or_else o (cond (leb b.to p) (Some b.area) None)) (before_cut p l m) ∙ or_else_assoc (area_before m p) (area_before l p) _
+before_cut : (p : ℕ) (l m : List Span) → area_before (l ++ m) p ≡ option_or (area_before m p) (area_before l p)
+before_cut p [] m = elim (area_before m p) as (λ o. o ≡ option_or o None) [ Some x ↦ refl | None ↦ refl ]
+before_cut p (b ∷ l) m = ap (λ o. option_or o (cond (leb b.to p) (Some b.area) None)) (before_cut p l m) ∙ or_else_assoc (area_before m p) (area_before l p) _
 
-before_none : (p : ℕ) (a : Span) (xs : List Span) → p < a.to → AllOf (λ b. a.to ≤ b.from) xs → AreApart xs → area_before xs p ≡ None
+before_none : (p : ℕ) (a : Span) (xs : List Span) → p < a.to → AllByRecursion (λ b. a.to ≤ b.from) xs → AreApart xs → area_before xs p ≡ None
 before_none p a [] h later s = refl
 before_none p a (b ∷ xs) h later s =
     let wide : b.from < b.to = s.0 in
@@ -478,19 +479,19 @@ before_none p a (b ∷ xs) h later s =
     rw (before_none p a xs h later.1 s.2, lt-leb b.to p (omega arith)) refl
 
 pub before_right : (p : ℕ) (d l : List Span) (a : Span) (r : List Span) (near : Option ℕ) → d ≡ l ++ a ∷ r → a.to ≤ p →
-    or_else (area_before r p) (Some a.area) ≡ or_else (area_before d p) near
+    option_or (area_before r p) (Some a.area) ≡ option_or (area_before d p) near
 before_right p d l a r near is h =
     rw (is, before_cut p l (a ∷ r), le-leb a.to p h, or_else_some (area_before r p) (area_before l p) a.area, or_else_some (area_before r p) near a.area) refl
 
 pub before_left : (p : ℕ) (d l : List Span) (a : Span) (r : List Span) (near : Option ℕ) → d ≡ l ++ a ∷ r → AreApart d → p < a.to →
-    or_else (area_before l p) near ≡ or_else (area_before d p) near
+    option_or (area_before l p) near ≡ option_or (area_before d p) near
 before_left p d l a r near is s h =
     let apart = apart_tail l (a ∷ r) (subst AreApart is s) in
     rw (is, before_cut p l (a ∷ r), before_none p a r h apart.1 apart.2, lt-leb a.to p h) refl
 
-after_cut : (p : ℕ) (l m : List Span) → area_after (l ++ m) p ≡ or_else (area_after l p) (area_after m p)
+after_cut : (p : ℕ) (l m : List Span) → area_after (l ++ m) p ≡ option_or (area_after l p) (area_after m p)
 after_cut p [] m = refl
-after_cut p (b ∷ l) m = elim (ltb p b.from) as (λ v. cond v (Some b.area) (area_after (l ++ m) p) ≡ or_else (cond v (Some b.area) (area_after l p))
+after_cut p (b ∷ l) m = elim (ltb p b.from) as (λ v. cond v (Some b.area) (area_after (l ++ m) p) ≡ option_or (cond v (Some b.area) (area_after l p))
     (area_after m p)) [ true ↦ refl | false ↦ after_cut p l m ]
 
 after_none : (p : ℕ) (l : List Span) (a : Span) (r : List Span) → a.from ≤ p → AreApart (l ++ a ∷ r) → area_after l p ≡ None
@@ -501,12 +502,12 @@ after_none p (b ∷ l) a r h s =
     rw (le-ltb p b.from (omega arith)) (after_none p l a r h s.2)
 
 pub after_left : (p : ℕ) (d l : List Span) (a : Span) (r : List Span) (near : Option ℕ) → d ≡ l ++ a ∷ r → p < a.from →
-    or_else (area_after l p) (Some a.area) ≡ or_else (area_after d p) near
+    option_or (area_after l p) (Some a.area) ≡ option_or (area_after d p) near
 after_left p d l a r near is h =
     rw (is, after_cut p l (a ∷ r), lt-ltb p a.from h, or_else_some (area_after l p) near a.area) refl
 
 pub after_right : (p : ℕ) (d l : List Span) (a : Span) (r : List Span) (near : Option ℕ) → d ≡ l ++ a ∷ r → AreApart d → a.from ≤ p →
-    or_else (area_after r p) near ≡ or_else (area_after d p) near
+    option_or (area_after r p) near ≡ option_or (area_after d p) near
 after_right p d l a r near is s h =
     rw (is, after_cut p l (a ∷ r), after_none p l a r h (subst AreApart is s), le-ltb p a.from h) refl
 
@@ -523,7 +524,7 @@ below_cut : (p : ℕ) (l m : List Span) → last_below (l ++ m) p ≡ option_or 
 below_cut p [] m = elim (last_below m p) as (λ o. o ≡ option_or o None) [ Some x ↦ refl | None ↦ refl ]
 below_cut p (b ∷ l) m = ap (λ o. option_or o (cond (ltb b.from p) (Some b) None)) (below_cut p l m) ∙ or_assoc (last_below m p) (last_below l p) _
 
-below_none : (p : ℕ) (a : Span) (xs : List Span) → p ≤ a.to → AllOf (λ b. a.to ≤ b.from) xs → last_below xs p ≡ None
+below_none : (p : ℕ) (a : Span) (xs : List Span) → p ≤ a.to → AllByRecursion (λ b. a.to ≤ b.from) xs → last_below xs p ≡ None
 below_none p a [] h later = refl
 below_none p a (b ∷ xs) h later =
     let k : a.to ≤ b.from = later.0 in

@@ -10,8 +10,8 @@ use Rattle.av_base.specs.Words.{is_in, with_at, within}
 use Rattle.av_base.specs.declared.prot.Prot.{Prot}
 use Rattle.av_vma.specs.declared.area.Area.{Area}
 use Rattle.av_vma.specs.Join.{first_of, is_reusable, past_of}
-use Rattle.av_vma.specs.Pages.{AreLaid, Effect, Lengths, Pages, after_join, after_map, after_unmap, alters_at, cut_at, do_join, fresh_area, has_page, join_of, joined_around, joined_at, loan_beside, loan_of, makes_anon, page_changed, pages_changed, pages_in, part_changed, part_of, to_prot, with_anon, with_area, with_effect, with_effect_on, without_range}
-use Rattle.av_trace.specs.Number.{IsWide}
+use Rattle.av_vma.specs.Pages.{AreLaid, Effect, Lengths, Pages, after_join, after_map, after_unmap, alters_at, split_at, do_join, fresh_area, has_page, join_of, joined_around, joined_at, loan_beside, loan_of, makes_anon, page_changed, pages_changed, pages_in, part_changed, part_of, to_prot, with_anon, with_area, with_effect, with_effect_on, without_range}
+use Rattle.av_text.specs.Number.{IsWide}
 use Rattle.av_trace.specs.declared.command.Command.{Command}
 use Rattle.av_trace.specs.declared.command.Command.TheVariants.{Spawn, Exit, Mmap, Mremap, Munmap, Mprotect}
 use Rattle.av_trace.specs.declared.note.Note.{Note}
@@ -79,8 +79,8 @@ part-own at page a = elim (nat_lt page at) as (λ b. (if b then record a { end =
   | false ↦ refl
 ]
 
-cut-below : (n at : ℕ) (on : Pages) → OwnBelow n on → OwnBelow n (cut_at at on)
-cut-below n at on h page = same_own n (part_of at page) (part-own at page) (on page) (h page)
+split-below : (n at : ℕ) (on : Pages) → OwnBelow n on → OwnBelow n (split_at at on)
+split-below n at on h page = same_own n (part_of at page) (part-own at page) (on page) (h page)
 
 without-below : (n from past : ℕ) (on : Pages) → OwnBelow n on → OwnBelow n (without_range from past on)
 without-below n from past on h page = by (within from (past - from) page)
@@ -90,7 +90,7 @@ without-below n from past on h page = by (within from (past - from) page)
     by false = h page
 
 unmap-below : (n from past : ℕ) (on : Pages) → OwnBelow n on → OwnBelow n (after_unmap from past on)
-unmap-below n from past on h = without-below n from past (cut_at past (cut_at from on)) (cut-below n past (cut_at from on) (cut-below n from on h))
+unmap-below n from past on h = without-below n from past (split_at past (split_at from on)) (split-below n past (split_at from on) (split-below n from on h))
 
 join-below : (n : ℕ) (len : Lengths) (left right : Option Area) (page : ℕ) (now : Option Area) → AreaBelow n left → AreaBelow n right → AreaBelow n now
     → AreaBelow n (after_join len left right page now)
@@ -133,8 +133,8 @@ page-below n len effect page on h = by (alters_at effect (on page))
     changed = part_changed len page (page + 1) effect on
 
     by : (b : Bool) → OwnBelow n (if b then part_changed len page (page + 1) effect on else on)
-    by true = around-below n len page (page + 1) (with_effect_on page (page + 1) effect (cut_at (page + 1) (cut_at page on)))
-        (effect-below n page (page + 1) effect (cut_at (page + 1) (cut_at page on)) (cut-below n (page + 1) (cut_at page on) (cut-below n page on h)))
+    by true = around-below n len page (page + 1) (with_effect_on page (page + 1) effect (split_at (page + 1) (split_at page on)))
+        (effect-below n page (page + 1) effect (split_at (page + 1) (split_at page on)) (split-below n (page + 1) (split_at page on) (split-below n page on h)))
     by false = h
 
 pages-below : (n : ℕ) (len : Lengths) (effect : Effect) (from k : ℕ) (on : Pages) → OwnBelow n on → OwnBelow n (pages_changed len effect from k on)
@@ -174,10 +174,10 @@ grown-below n past (Some a) on is h = with-below n (record a { end = address_of 
 move-below : (n : ℕ) (len : Lengths) (from k to m : ℕ) (on : Pages) → OwnBelow n on → OwnBelow n (after_move len from k to m on)
 move-below n len from k to m on h =
     let cleared = after_unmap to (to + m) on in
-    let parts = cut_at (from + k) (cut_at (from + min k m) (cut_at from cleared)) in
+    let parts = split_at (from + k) (split_at (from + min k m) (split_at from cleared)) in
     let moved = moved_range from k (min k m) to parts in
-    let here = moved-below n from k (min k m) to parts (cut-below n (from + k) (cut_at (from + min k m) (cut_at from cleared))
-    (cut-below n (from + min k m) (cut_at from cleared) (cut-below n from cleared (unmap-below n to (to + m) on h)))) in
+    let here = moved-below n from k (min k m) to parts (split-below n (from + k) (split_at (from + min k m) (split_at from cleared))
+    (split-below n (from + min k m) (split_at from cleared) (split-below n from cleared (unmap-below n to (to + m) on h)))) in
     over-below n len to (suc m) (grown_to (to + m) (moved (to + min k m - 1)) moved)
     (grown-below n (to + m) (moved (to + min k m - 1)) moved (here (to + min k m - 1)) here)
 

@@ -1,10 +1,10 @@
 -- A step makes few anon_vmas: one for each page that gets a frame, and one for each area of a parent.
-use Rattle.std.specs.List.{AllByRecursion}
+use Rattle.std.specs.List.{AllByRecursion, range_with_len}
 use Rattle.std.proofs.Common.{◌≡◌, ◌⊎◌, inl, inr, ℕ, zero, suc, ◌+◌, ◌-◌, ◌*◌, ◌<◌, ◌≤◌, min, Bool, true, false, cond, List, [], ◌∷◌, ◌++◌, length, map, Option, Some, None, append-nil, refl, sym, ap, subst, ◌∙◌, arith, ◌==◌, if◌then◌else◌}
 use Rattle.std.specs.Prelude.{MatchOption}
 use Rattle.av_base.specs.Limits.{top_page}
 use Rattle.av_base.specs.Page.{address_of, page_of, pages_of, place_in_page}
-use Rattle.av_base.specs.Words.{how_many, numbers, with_at}
+use Rattle.av_base.specs.Words.{how_many, with_at}
 use Rattle.av_base.specs.declared.slot.Slot.{Slot}
 use Rattle.av_trace.specs.Command.{IsCommand}
 use Rattle.av_trace.specs.declared.command.Command.{Command}
@@ -175,7 +175,7 @@ accesses-new m w l p (page ∷ ps) es end (inr h) =
     let all = same-new (notes_of es) h.0 1 (ap notes_of h.3 ∙ notes_of-note_events h.0) one in
     omega (arith, all)
 
-length-numbers : (a n : ℕ) → length (numbers a n) ≡ n
+length-numbers : (a n : ℕ) → length (range_with_len a n) ≡ n
 length-numbers a zero = refl
 length-numbers a (suc n) = let rest = length-numbers (a + 1) n in omega (arith, rest)
 
@@ -186,7 +186,7 @@ length-pages write (page ∷ pages) = let rest = length-pages write pages in ome
 few-pages : (write : Bool) (a n : ℕ) → n ≤ 4096 → length (pages_of_access write a n) ≤ 8192
 few-pages write a n h =
     let count : ℕ = cond (n == 0) 0 (pages_of (place_in_page a + n)) in
-    let same = length-pages write (numbers (page_of a) count) in
+    let same = length-pages write (range_with_len (page_of a) count) in
     let all = length-numbers (page_of a) count in
     let some = by (n == 0) in
     omega (arith, same, all, some)

@@ -4,7 +4,7 @@ use Rattle.std.specs.Prelude.{MatchOption}
 use Rattle.std.proofs.Common.{◌≡◌, ℕ, ◌+◌, ◌*◌, ◌^◌, ◌≤◌, length, true, false, List, [], ◌∷◌, Option, Some, None, refl, sym, subst, arith}
 use Rattle.av_base.specs.Limits.{top_page}
 use Rattle.av_trace.specs.Command.{IsCommand}
-use Rattle.av_trace.specs.Number.{IsWide}
+use Rattle.av_text.specs.Number.{IsWide}
 use Rattle.av_trace.specs.Reply.{IsReply}
 use Rattle.av_trace.specs.declared.command.Command.{Command}
 use Rattle.av_trace.specs.declared.command.Command.TheVariants.{Areas as AsksAreas}

@@ -2,8 +2,8 @@
 use Rattle.std.proofs.Common.{◌≡◌, ◌≢◌, ℕ, zero, suc, ◌+◌, ◌*◌, ◌/◌, ◌<◌, ◌≤◌, Bool, true, false, ◌&&◌, ◌||◌, List, [], None, is_none, option_map, refl, sym, ap, ◌∙◌, arith, ◌==◌, nat_lt}
 use Rattle.std.proofs.lemmas.Bool.Decides.{nat_tests}
 use Rattle.std.proofs.lemmas.Bool.{false≢true}
-use Rattle.std.specs.List.{list_any}
-use Rattle.av_base.specs.Words.{numbers, is_in}
+use Rattle.std.specs.List.{list_any, range_with_len}
+use Rattle.av_base.specs.Words.{is_in}
 use Rattle.av_base.specs.Page.{address_of}
 use Rattle.av_plain.specs.Ledger.{Ledger, Setting, Key, Cached, map_count, is_free, has_free, slot_of, cached_by}
 use Rattle.av_plain.specs.Event.{key_at}
@@ -31,20 +31,20 @@ zero_is n e = grind (arith, nat_tests)
 
 -- ---- some of the numbers of a range
 
-pub some_of : (test : ℕ → Bool) (a n f : ℕ) → a ≤ f → f < a + n → test f ≡ true → list_any test (numbers a n) ≡ true
+pub some_of : (test : ℕ → Bool) (a n f : ℕ) → a ≤ f → f < a + n → test f ≡ true → list_any test (range_with_len a n) ≡ true
 some_of test a zero f low high is = absurd (omega (arith, low, high))
-some_of test a (suc n) f low high is = elim (test a) as (λ b. test a ≡ b → (b || list_any test (numbers (a + 1) n)) ≡ true) [
+some_of test a (suc n) f low high is = elim (test a) as (λ b. test a ≡ b → (b || list_any test (range_with_len (a + 1) n)) ≡ true) [
   | true ↦ λ _. refl
   | false ↦ λ e. some_of test (a + 1) n f (let ne : a ≢ f = λ same. false≢true (sym e ∙ ap test same ∙ is) in omega (arith, low, ne)) (omega (arith, high)) is
 ] refl
 
-pub none_of : (test : ℕ → Bool) (a n f : ℕ) → a ≤ f → f < a + n → list_any test (numbers a n) ≡ false → test f ≡ false
+pub none_of : (test : ℕ → Bool) (a n f : ℕ) → a ≤ f → f < a + n → list_any test (range_with_len a n) ≡ false → test f ≡ false
 none_of test a n f low high none = elim (test f) as (λ b. test f ≡ b → b ≡ false) [
   | true ↦ λ e. absurd (false≢true (sym none ∙ some_of test a n f low high e))
   | false ↦ λ _. refl
 ] refl
 
-pub is_in-numbers : (a n f : ℕ) → a ≤ f → f < a + n → is_in f (numbers a n) ≡ true
+pub is_in-numbers : (a n f : ℕ) → a ≤ f → f < a + n → is_in f (range_with_len a n) ≡ true
 is_in-numbers a n f low high = some_of (λ g. f == g) a n f low high (itself f)
 
 -- a free frame in range is one

@@ -11,7 +11,7 @@ use Rattle.av_vma.specs.declared.area.Area.{Area}
 use Rattle.av_vma.specs.Indices.{AreIndicesBelow}
 use Rattle.av_vma.specs.Join.{index_of}
 use Rattle.av_vma.specs.Mremap.{IsMove, after_grow, after_move, after_resize}
-use Rattle.av_vma.specs.Pages.{AreLaid, Lengths, Pages, after_map, after_unmap, cut_at}
+use Rattle.av_vma.specs.Pages.{AreLaid, Lengths, Pages, after_map, after_unmap, split_at}
 use Rattle.av_vma.proofs.Laid.{has_parts}
 use Rattle.av_vma.proofs.Mremap.{in_range as range_bounds, is_in_range, out_of_range}
 use Rattle.av_vma.proofs.MremapHomes.{none_after_move}
@@ -167,7 +167,7 @@ module _ (w : World) (p a old new : ℕ) (mode : Mode) (to : ℕ) (may : MayRema
       where
         by : (b : Bool) → nat_lt m n ≡ b
             → prots (cond b (after_unmap (from + m) (from + n) on) (cond (nat_lt n m) (after_grow long (from + m) (on (from + n - 1)) on) on)) page ≡ None
-        by true e = ap (λ c. option_map area_prot (cond c None (cut_at (from + n) (cut_at (from + m) on) page)))
+        by true e = ap (λ c. option_map area_prot (cond c None (split_at (from + n) (split_at (from + m) on) page)))
             (is_in_range (from + m) (from + n - (from + m)) page low (omega (arith, low, high)))
         by false e = absurd (let more = ltb-false m n e in omega (arith, more, low, high))
 

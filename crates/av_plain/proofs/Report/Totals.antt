@@ -1,7 +1,8 @@
 -- Each frame is free or stands once in one of the lists, so the numbers of `stat` add up.
 use Rattle.std.proofs.Common.{◌≡◌, ℕ, zero, suc, ◌+◌, ◌-◌, ◌<◌, ◌≤◌, min, Bool, true, false, cond, ◌&&◌, List, [], ◌∷◌, length, filter, refl, sym, ap, ◌∙◌, arith, ◌==◌, nat_lt}
 use Rattle.std.proofs.lemmas.Bool.Decides.{nat_tests}
-use Rattle.av_base.specs.Words.{how_many, numbers, is_in}
+use Rattle.av_base.specs.Words.{how_many, is_in}
+use Rattle.std.specs.List.{range_with_len}
 use Rattle.av_plain.specs.World.{World}
 use Rattle.av_plain.specs.Ledger.{Ledger, Setting, is_free, free_frames}
 use Rattle.av_plain.specs.Report.{totals}
@@ -16,7 +17,7 @@ abbrev pub sum_of : (ℕ → ℕ) → List ℕ → ℕ
 sum_of g [] = 0
 sum_of g (f ∷ fs) = g f + sum_of g fs
 
-sum-same : (g h : ℕ → ℕ) (a n : ℕ) → ((f : ℕ) → f < a + n → g f ≡ h f) → sum_of g (numbers a n) ≡ sum_of h (numbers a n)
+sum-same : (g h : ℕ → ℕ) (a n : ℕ) → ((f : ℕ) → f < a + n → g f ≡ h f) → sum_of g (range_with_len a n) ≡ sum_of h (range_with_len a n)
 sum-same g h a zero e = refl
 sum-same g h a (suc n) e = λ i. e a (omega arith) i + sum-same g h (a + 1) n (λ f less. e f (omega (arith, less))) i
 
@@ -29,29 +30,29 @@ sum-none [] = refl
 sum-none (f ∷ fs) = let rest = sum-none fs in omega (arith, rest)
 
 -- a number among those from one on is counted once, one below them is not
-sum-below : (x a n : ℕ) → x < a → sum_of (λ f. cond (f == x) 1 0) (numbers a n) ≡ 0
+sum-below : (x a n : ℕ) → x < a → sum_of (λ f. cond (f == x) 1 0) (range_with_len a n) ≡ 0
 sum-below x a zero h = refl
 sum-below x a (suc n) h = let rest = sum-below x (a + 1) n (omega (arith, h)) in by (a == x) refl rest
   where
-    by : (b : Bool) → (a == x) ≡ b → sum_of (λ f. cond (f == x) 1 0) (numbers (a + 1) n) ≡ 0 →
-        cond b 1 0 + sum_of (λ f. cond (f == x) 1 0) (numbers (a + 1) n) ≡ 0
+    by : (b : Bool) → (a == x) ≡ b → sum_of (λ f. cond (f == x) 1 0) (range_with_len (a + 1) n) ≡ 0 →
+        cond b 1 0 + sum_of (λ f. cond (f == x) 1 0) (range_with_len (a + 1) n) ≡ 0
     by true is rest = absurd (grind (arith, nat_tests, is, h))
     by false is rest = omega (arith, rest)
 
-sum-once : (x a n : ℕ) → a ≤ x → x < a + n → sum_of (λ f. cond (f == x) 1 0) (numbers a n) ≡ 1
+sum-once : (x a n : ℕ) → a ≤ x → x < a + n → sum_of (λ f. cond (f == x) 1 0) (range_with_len a n) ≡ 1
 sum-once x a zero low high = absurd (omega (arith, low, high))
 sum-once x a (suc n) low high = by (a == x) refl (λ more. sum-once x (a + 1) n more (omega (arith, high)))
   where
-    by : (b : Bool) → (a == x) ≡ b → (a + 1 ≤ x → sum_of (λ f. cond (f == x) 1 0) (numbers (a + 1) n) ≡ 1) →
-        cond b 1 0 + sum_of (λ f. cond (f == x) 1 0) (numbers (a + 1) n) ≡ 1
+    by : (b : Bool) → (a == x) ≡ b → (a + 1 ≤ x → sum_of (λ f. cond (f == x) 1 0) (range_with_len (a + 1) n) ≡ 1) →
+        cond b 1 0 + sum_of (λ f. cond (f == x) 1 0) (range_with_len (a + 1) n) ≡ 1
     by true is later = let less : x < a + 1 = grind (arith, nat_tests, is) in let rest = sum-below x (a + 1) n less in omega (arith, rest)
     by false is later = let more : a + 1 ≤ x = grind (arith, nat_tests, is, low) in let rest = later more in omega (arith, rest)
 
 -- how often each number stands in a list, summed up, is the list's length, where all are below n
-pub sum-length : (n : ℕ) (fs : List ℕ) → ((f : ℕ) → 0 < how_many (λ g. f == g) fs → f < n) → sum_of (λ f. how_many (λ g. f == g) fs) (numbers 0 n) ≡ length fs
-sum-length n [] below = sum-none (numbers 0 n)
+pub sum-length : (n : ℕ) (fs : List ℕ) → ((f : ℕ) → 0 < how_many (λ g. f == g) fs → f < n) → sum_of (λ f. how_many (λ g. f == g) fs) (range_with_len 0 n) ≡ length fs
+sum-length n [] below = sum-none (range_with_len 0 n)
 sum-length n (x ∷ fs) below =
-    sum-plus (λ f. cond (f == x) 1 0) (λ f. how_many (λ g. f == g) fs) (numbers 0 n)
+    sum-plus (λ f. cond (f == x) 1 0) (λ f. how_many (λ g. f == g) fs) (range_with_len 0 n)
     ∙ both _ _ _ (sum-once x 0 n (omega arith) (let less = below x (first (x == x) _ (same-itself x)) in omega (arith, less)))
     (sum-length n fs (λ f h. below f (more (f == x) _ h)))
   where
@@ -78,7 +79,7 @@ sum-counts test (f ∷ fs) = elim (test f) as (λ b. cond b 1 0 + sum_of (λ f. 
     zero_plus : (a b : ℕ) → a ≡ b → 0 + a ≡ b
     zero_plus a b h = omega (arith, h)
 
-sum-ones : (a n : ℕ) → sum_of (λ f. 1) (numbers a n) ≡ n
+sum-ones : (a n : ℕ) → sum_of (λ f. 1) (range_with_len a n) ≡ n
 sum-ones a zero = refl
 sum-ones a (suc n) = let rest = sum-ones (a + 1) n in omega (arith, rest)
 
@@ -90,7 +91,7 @@ pub free-length : (m : Setting) (l : Ledger) (fs : List ℕ) → ((f : ℕ) → 
 free-length m l fs once =
     sym (sum-length m.frames fs (λ f h. below f (nat_lt f m.frames) refl (once f) h))
     ∙ sum-same _ (λ f. cond (is_free l f) 1 0) 0 m.frames (λ f less. once f ∙ ap (λ b. cond (b && is_free l f) 1 0) (is_less f less))
-    ∙ sum-counts (is_free l) (numbers 0 m.frames)
+    ∙ sum-counts (is_free l) (range_with_len 0 m.frames)
   where
     is_less : (f : ℕ) → f < 0 + m.frames → nat_lt f m.frames ≡ true
     is_less f h = grind (arith, nat_tests, h)
@@ -120,10 +121,10 @@ pub frames-add : (m : Setting) (l : Ledger) → IsSound m l → length (free_fra
 frames-add m l s =
     let active = sum-length m.frames l.active (λ f h. s.in_range f (used f (let a = s.listed f in omega (arith, a, h)))) in
     let inactive = sum-length m.frames l.inactive (λ f h. s.in_range f (used f (let a = s.listed f in omega (arith, a, h)))) in
-    let listed = sum-plus (λ f. how_many (λ g. f == g) l.active) (λ f. how_many (λ g. f == g) l.inactive) (numbers 0 m.frames) in
-    let free = sum-counts (is_free l) (numbers 0 m.frames) in
+    let listed = sum-plus (λ f. how_many (λ g. f == g) l.active) (λ f. how_many (λ g. f == g) l.inactive) (range_with_len 0 m.frames) in
+    let free = sum-counts (is_free l) (range_with_len 0 m.frames) in
     let each = sum-same (λ f. cond (is_free l f) 1 0 + listings l f) (λ f. 1) 0 m.frames (λ f less. one f) in
-    let whole = sum-plus (λ f. cond (is_free l f) 1 0) (listings l) (numbers 0 m.frames) in
+    let whole = sum-plus (λ f. cond (is_free l f) 1 0) (listings l) (range_with_len 0 m.frames) in
     let ones = sum-ones 0 m.frames in
     omega (arith, active, inactive, listed, free, each, whole, ones)
   where

@@ -8,7 +8,7 @@ use Rattle.av_trace.specs.declared.note.Note.{Note}
 use Rattle.av_trace.specs.declared.note.Note.TheVariants.{Aged, Copied, Dropped, Failed, Kept, Loaded, Mapped, New, Put, Started, Unmapped, Written, Zeroed}
 use Rattle.std.specs.Prelude.{MatchOption, MatchBool, IsTrue}
 use Rattle.av_base.specs.Page.{address_of}
-use Rattle.av_base.specs.Words.{numbers}
+use Rattle.std.specs.List.{range_with_len}
 use Rattle.av_base.specs.declared.slot.Slot.{Slot}
 use Rattle.av_trace.specs.declared.reply.OutOf.{OutOf}
 use Rattle.av_plain.specs.Access.{Accesses, End, page_events}
@@ -49,13 +49,13 @@ counted-slot l s = by (is_cached l s) (slots l s) (slot_entries l s) (any-counts
     by true n e h = grind (arith, nat_tests, h)
     by false n e h = grind (arith, nat_tests, h)
 
-fewer-pass : (p q : ℕ → Bool) (a n : ℕ) → ((x : ℕ) → p x ≡ true → q x ≡ true) → length (filter p (numbers a n)) ≤ length (filter q (numbers a n))
+fewer-pass : (p q : ℕ → Bool) (a n : ℕ) → ((x : ℕ) → p x ≡ true → q x ≡ true) → length (filter p (range_with_len a n)) ≤ length (filter q (range_with_len a n))
 fewer-pass p q a zero h = omega arith
 fewer-pass p q a (suc n) h = by (p a) (q a) refl refl (fewer-pass p q (a + 1) n h)
   where
-    by : (b c : Bool) → p a ≡ b → q a ≡ c → length (filter p (numbers (a + 1) n)) ≤ length (filter q (numbers (a + 1) n))
-        → length (cond b (a ∷ filter p (numbers (a + 1) n)) (filter p (numbers (a + 1) n))) ≤ length
-        (cond c (a ∷ filter q (numbers (a + 1) n)) (filter q (numbers (a + 1) n)))
+    by : (b c : Bool) → p a ≡ b → q a ≡ c → length (filter p (range_with_len (a + 1) n)) ≤ length (filter q (range_with_len (a + 1) n))
+        → length (cond b (a ∷ filter p (range_with_len (a + 1) n)) (filter p (range_with_len (a + 1) n))) ≤ length
+        (cond c (a ∷ filter q (range_with_len (a + 1) n)) (filter q (range_with_len (a + 1) n)))
     by true true is is' k = omega (arith, k)
     by true false is is' k = let e = sym is' ∙ h a is in cc
     by false true is is' k = omega (arith, k)
@@ -63,20 +63,20 @@ fewer-pass p q a (suc n) h = by (p a) (q a) refl refl (fewer-pass p q (a + 1) n 
 
 -- one number more passes, at most once
 above-pass : (p q : ℕ → Bool) (t a n : ℕ) → t < a → ((x : ℕ) → p x ≡ true → (x == t) ≡ false → q x ≡ true) →
-    length (filter p (numbers a n)) ≤ length (filter q (numbers a n))
+    length (filter p (range_with_len a n)) ≤ length (filter q (range_with_len a n))
 above-pass p q t a zero less h = omega arith
 above-pass p q t a (suc n) less h = by (p a) (q a) refl refl (above-pass p q t (a + 1) n (omega (arith, less)) h)
   where
-    by : (b c : Bool) → p a ≡ b → q a ≡ c → length (filter p (numbers (a + 1) n)) ≤ length (filter q (numbers (a + 1) n))
-        → length (cond b (a ∷ filter p (numbers (a + 1) n)) (filter p (numbers (a + 1) n))) ≤ length
-        (cond c (a ∷ filter q (numbers (a + 1) n)) (filter q (numbers (a + 1) n)))
+    by : (b c : Bool) → p a ≡ b → q a ≡ c → length (filter p (range_with_len (a + 1) n)) ≤ length (filter q (range_with_len (a + 1) n))
+        → length (cond b (a ∷ filter p (range_with_len (a + 1) n)) (filter p (range_with_len (a + 1) n))) ≤ length
+        (cond c (a ∷ filter q (range_with_len (a + 1) n)) (filter q (range_with_len (a + 1) n)))
     by true true is is' k = omega (arith, k)
     by true false is is' k = let e = sym is' ∙ h a is (grind (arith, nat_tests, less)) in cc
     by false true is is' k = omega (arith, k)
     by false false is is' k = k
 
 one-more-passes : (p q : ℕ → Bool) (t a n : ℕ) → ((x : ℕ) → p x ≡ true → (x == t) ≡ false → q x ≡ true) →
-    length (filter p (numbers a n)) ≤ 1 + length (filter q (numbers a n))
+    length (filter p (range_with_len a n)) ≤ 1 + length (filter q (range_with_len a n))
 one-more-passes p q t a zero h = omega arith
 one-more-passes p q t a (suc n) h = at (a == t) refl (one-more-passes p q t (a + 1) n h)
   where
@@ -86,17 +86,17 @@ one-more-passes p q t a (suc n) h = at (a == t) refl (one-more-passes p q t (a +
     more false true k k' xs ys e f less = omega (arith, e, f, less)
     more false false k k' xs ys e f less = omega (arith, e, f, less)
 
-    by : (b c : Bool) → p a ≡ b → q a ≡ c → (a == t) ≡ false → length (filter p (numbers (a + 1) n)) ≤ 1 + length (filter q (numbers (a + 1) n))
-        → length (cond b (a ∷ filter p (numbers (a + 1) n)) (filter p (numbers (a + 1) n))) ≤ 1 + length
-        (cond c (a ∷ filter q (numbers (a + 1) n)) (filter q (numbers (a + 1) n)))
+    by : (b c : Bool) → p a ≡ b → q a ≡ c → (a == t) ≡ false → length (filter p (range_with_len (a + 1) n)) ≤ 1 + length (filter q (range_with_len (a + 1) n))
+        → length (cond b (a ∷ filter p (range_with_len (a + 1) n)) (filter p (range_with_len (a + 1) n))) ≤ 1 + length
+        (cond c (a ∷ filter q (range_with_len (a + 1) n)) (filter q (range_with_len (a + 1) n)))
     by true true is is' other k = omega (arith, k)
     by true false is is' other k = let e = sym is' ∙ h a is other in cc
     by false true is is' other k = omega (arith, k)
     by false false is is' other k = k
 
-    at : (b : Bool) → (a == t) ≡ b → length (filter p (numbers (a + 1) n)) ≤ 1 + length (filter q (numbers (a + 1) n)) →
-        length (filter p (numbers a (suc n))) ≤ 1 + length (filter q (numbers a (suc n)))
-    at true is k = more (p a) (q a) _ _ (filter p (numbers (a + 1) n)) (filter q (numbers (a + 1) n)) refl refl
+    at : (b : Bool) → (a == t) ≡ b → length (filter p (range_with_len (a + 1) n)) ≤ 1 + length (filter q (range_with_len (a + 1) n)) →
+        length (filter p (range_with_len a (suc n))) ≤ 1 + length (filter q (range_with_len a (suc n)))
+    at true is k = more (p a) (q a) _ _ (filter p (range_with_len (a + 1) n)) (filter q (range_with_len (a + 1) n)) refl refl
         (above-pass p q t (a + 1) n (grind (arith, nat_tests, is)) h)
     at false is k = by (p a) (q a) refl refl is k
 

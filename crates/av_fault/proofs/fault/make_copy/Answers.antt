@@ -1,7 +1,7 @@
 use Rattle.std.proofs.Common.{◌*◌, ◌∙◌, ap, sym, refl, subst}
 use Rattle.av_plain.specs.Ledger.{entry}
 use Rattle.av_pagetable.specs.Entries.{entry_at}
-use Rattle.av_frames.specs.Store.{Seen}
+use Rattle.av_frames.specs.Store.{Shown}
 use Rattle.av_vma.specs.Pages.{home_of}
 use Rattle.av_plain.specs.Transcript.{rmap_of}
 use Rattle.av_trace.specs.declared.note.Note.TheVariants.{Copied}
@@ -27,7 +27,7 @@ returns-in_default c = record {
 
 pub returns : goal.returns
 returns c = record {
-  count = ap (λ (x : Seen). x.count) c.set_home.ensures ∙ c.take_copy.ensures.count;
+  count = ap (λ (x : Shown). x.count) c.set_home.ensures ∙ c.take_copy.ensures.count;
   step = λ s keeps.
       let old = c.args.mem.now in
       let mid = c.take_copy.new.mem in

@@ -2,7 +2,7 @@ use Rattle.std.proofs.Common.{◌*◌, ◌∙◌, ap, sym, refl, subst}
 use Rattle.av_plain.specs.Areas.{prepare_page}
 use Rattle.av_plain.specs.Transcript.{rmap_of}
 use Rattle.av_trace.specs.declared.note.Note.TheVariants.{New}
-use Rattle.av_frames.specs.Store.{Seen}
+use Rattle.av_frames.specs.Store.{Shown}
 use Rattle.av_vma.specs.Pages.{home_of}
 use Rattle.av_fault.proofs.FaultMade.{new_is, new_made, new_starved, unnamed}
 use Rattle.av_fault.proofs.FaultHomes.{given_home, mapped_there, new_rmap}
@@ -23,7 +23,7 @@ returns-in_default c = record {
 
 pub returns : goal.returns
 returns c = record {
-  count = ap (λ (x : Seen). x.count) c.set_home.ensures ∙ c.take_zeros.ensures.count;
+  count = ap (λ (x : Shown). x.count) c.set_home.ensures ∙ c.take_zeros.ensures.count;
   step = λ s keeps.
       let old = c.args.mem.now in
       let first = c.take_zeros.new.mem in

@@ -1,6 +1,6 @@
 use Rattle.std.proofs.Common.{◌≡◌, ◌∙◌, ap, refl, subst, ◌+◌, arith}
 use Rattle.av_base.specs.Words.{with_at}
-use Rattle.av_frames.specs.Store.{Seen, seen}
+use Rattle.av_frames.specs.Store.{Shown, shown}
 use Rattle.av_pagetable.specs.Entries.{entry_at, with_entry}
 use Rattle.av_fault.proofs.FaultViews.{frame_taken}
 use Rattle.av_fault.proofs.FaultSafe.{free_unmapped}
@@ -11,8 +11,8 @@ map_up-requires-clause-room c =
     let f = c.in-Some.frame in
     let t = c.in-Some.ensures in
     let none = free_unmapped c.args.mem.now f c.take.new.self.free c.requires.steady t.0 t.1 in
-    let same : (seen c.zero.new.self).maps f ≡ 0 = ap (λ (s : Seen). s.maps f)
-    (c.zero.ensures ∙ ap (λ (s : Seen). record s { bytes = with_at f (λ i. 0) s.bytes }) t.3) ∙ none in
+    let same : (shown c.zero.new.self).maps f ≡ 0 = ap (λ (s : Shown). s.maps f)
+    (c.zero.ensures ∙ ap (λ (s : Shown). record s { bytes = with_at f (λ i. 0) s.bytes }) t.3) ∙ none in
     omega (arith, same)
 
 pub returns-clause-taken : goal.returns-clause-taken
@@ -20,7 +20,7 @@ returns-clause-taken c =
     let f = c.in-Some.frame in
     let t = c.in-Some.ensures in
     frame_taken c.args.mem.now _ c.args.process c.args.page f _ _ c.take.new.self.free
-    (c.map_up.ensures ∙ ap (λ (s : Seen). record s { maps = with_at f (s.maps f + 1) s.maps })
-    (c.zero.ensures ∙ ap (λ (s : Seen). record s { bytes = with_at f (λ i. 0) s.bytes }) t.3))
+    (c.map_up.ensures ∙ ap (λ (s : Shown). record s { maps = with_at f (s.maps f + 1) s.maps })
+    (c.zero.ensures ∙ ap (λ (s : Shown). record s { bytes = with_at f (λ i. 0) s.bytes }) t.3))
     t.0 t.2 t.1 (subst (λ e. entry_at c.set.new.self ≡ with_entry c.args.process c.args.page e (entry_at c.args.mem.now.tables)) c.accessed_entry.ensures
     c.in_ok-set.ensures.sets) refl refl

@@ -1,5 +1,5 @@
 use Rattle.std.proofs.Common.{◌≡◌, ◌∙◌, sym, ap, refl, true, subst, ◌≤◌}
-use Rattle.av_frames.specs.Store.{Seen}
+use Rattle.av_frames.specs.Store.{Shown}
 use Rattle.av_pagetable.specs.Entries.{entry_at, with_entry}
 use Rattle.av_pagetable.specs.declared.pte.Pte.TheVariants.{Here}
 use Rattle.av_plain.specs.Ledger.{map_count}
@@ -27,7 +27,7 @@ unreachable-requires c = none_away c.args.mem.now c.args.process c.args.page c.i
 
 pub returns-else-is_shared : goal.returns-else-is_shared
 returns-else-is_shared c = record {
-  count = ap (λ (x : Seen). x.count) c.set_home-in-Here.ensures;
+  count = ap (λ (x : Shown). x.count) c.set_home-in-Here.ensures;
   step = λ s keeps.
       let h = c.in-Here in
       let old = c.args.mem.now in
@@ -46,7 +46,7 @@ returns-else-is_shared c = record {
 
 pub returns-then-seen : goal.returns-then-seen
 returns-then-seen c = record {
-  count = ap (λ (x : Seen). x.count) c.set_home.ensures;
+  count = ap (λ (x : Shown). x.count) c.set_home.ensures;
   step = λ s keeps.
       let h = c.in-Here in
       let old = c.args.mem.now in

@@ -1,5 +1,5 @@
 use Rattle.std.proofs.Common.{refl}
-use Rattle.av_merge.proofs.Linked.{ok_both}
+use Rattle.av_merge.proofs.LinkingLaws.{ok_both}
 use Rattle.av_spaces.specs.Spaces.{areas_of}
 use Rattle.av_fork.proofs.AreasForked.{has_fork_by}
 use Rattle.av_fork.proofs.areas.fork_areas.Goals as goal

@@ -1,7 +1,7 @@
 use Rattle.std.proofs.Common.{◌≡◌, ℕ, ◌+◌, ◌*◌, ◌/◌, ◌≤◌, ◌∙◌, ap, arith, length, refl, subst, sym}
 use Rattle.std.proofs.lemmas.Nat.{div-add-mod', le-div}
 use Rattle.av_base.specs.Words.{with_at}
-use Rattle.av_frames.specs.Store.{Seen, seen}
+use Rattle.av_frames.specs.Store.{Shown, shown}
 use Rattle.av_pagetable.specs.Entries.{entry_at}
 use Rattle.av_pagetable.specs.Table.{read_only}
 use Rattle.av_pagetable.specs.declared.pte.Pte.{Pte}
@@ -28,12 +28,12 @@ pub loop-page-init : goal.loop-page-init
 loop-page-init c = record {
   within = omega arith;
   few = λ f. let few_f = c.requires.few f in omega (arith, few_f);
-  tables = c.protect.ensures.protects ∙ ap (λ (t : ℕ → ℕ → Pte). with_at {X = ℕ → Pte} c.args.parent (λ o. read_only (t c.args.parent o)) t)
+  tables = c.write_protect.ensures.protects ∙ ap (λ (t : ℕ → ℕ → Pte). with_at {X = ℕ → Pte} c.args.parent (λ o. read_only (t c.args.parent o)) t)
       c.in_ok-copy.ensures.copies;
   forking = λ first stands. none_over c.args.mem.now c.args.parent c.args.child c.requires.empty first stands;
   free = refl;
   rest = record {
-    processes = c.protect.ensures.processes ∙ c.in_ok-copy.ensures.processes;
+    processes = c.write_protect.ensures.processes ∙ c.in_ok-copy.ensures.processes;
     bytes = refl;
     homes = refl;
     spaces = refl;
@@ -51,7 +51,7 @@ map_up_each-requires-clause-in_range c = λ i f write was low is.
     let page = c.in-Some.page in
     let first = c.in-Some.ensures in
     let from : c.loop-page.number ≤ page / 64 = le-div c.loop-page.number page 64 (omega arith) first.from_there in
-    in_range c.args.parent c.args.child (entry_at old.tables) c.requires.empty now.spaces now.anons o.0 (seen now.frames)
+    in_range c.args.parent c.args.child (entry_at old.tables) c.requires.empty now.spaces now.anons o.0 (shown now.frames)
     (c.loop-page.number * 64) (v.forking o.0 o.1)
     (page / 64 * 64 + i) (omega (arith, from)) f write was
     (sym (group_is old c.args.parent c.args.child c.requires.empty now v.tables c.read_group.new.group (page / 64 * 64) c.read_group.ensures i low) ∙ is)
@@ -74,28 +74,28 @@ loop-page-preserved c =
     let ups = c.map_up_each.ensures in
     record {
       within = omega (arith, here, below);
-      few = λ f. let few = v.few f in let named = few_named (λ e. names f (plain e)) group in let up = ap (λ (s : Seen). s.maps f) ups in
+      few = λ f. let few = v.few f in let named = few_named (λ e. names f (plain e)) group in let up = ap (λ (s : Shown). s.maps f) ups in
           omega (arith, few, named, up, long, low);
       tables = v.tables;
       forking = λ first stands.
-          subst (λ n. IsForkingTo now.spaces now.anons c.args.parent c.args.child (entry_at old.tables) (seen c.map_up_each.new.frames) n first)
+          subst (λ n. IsForkingTo now.spaces now.anons c.args.parent c.args.child (entry_at old.tables) (shown c.map_up_each.new.frames) n first)
           (let same : start + length group ≡ past = omega (arith, long) in same)
-          (subst (λ (s : Seen). IsForkingTo now.spaces now.anons c.args.parent c.args.child (entry_at old.tables) s (start + length group) first) (sym ups)
-          (whole_group c.args.parent c.args.child (entry_at old.tables) c.requires.empty now.spaces now.anons first group (seen now.frames) start
+          (subst (λ (s : Shown). IsForkingTo now.spaces now.anons c.args.parent c.args.child (entry_at old.tables) s (start + length group) first) (sym ups)
+          (whole_group c.args.parent c.args.child (entry_at old.tables) c.requires.empty now.spaces now.anons first group (shown now.frames) start
           (omega (arith, long, here, below))
           (λ i under. group_is old c.args.parent c.args.child c.requires.empty now v.tables group start c.read_group.ensures i (omega (arith, under, long)))
-          (skip_to c.args.parent c.args.child (entry_at old.tables) c.requires.empty now.spaces now.anons first (seen now.frames)
+          (skip_to c.args.parent c.args.child (entry_at old.tables) c.requires.empty now.spaces now.anons first (shown now.frames)
           (c.loop-page.number * 64) start low
           (λ o above under. parent_none old c.args.parent c.args.child c.requires.empty now v.tables o (is.least o above (omega (arith, under, here))))
           (v.forking first stands))));
-      free = ap (λ (s : Seen). free_of (view_of_parts s (λ p o. plain (entry_at now.tables p o)) now.spaces now.anons)) ups ∙ v.free;
+      free = ap (λ (s : Shown). free_of (view_of_parts s (λ p o. plain (entry_at now.tables p o)) now.spaces now.anons)) ups ∙ v.free;
       rest = rest_rest v.rest (record {
         processes = refl;
-        bytes = ap (λ (s : Seen). s.bytes) ups;
-        homes = ap (λ (s : Seen). s.home) ups;
+        bytes = ap (λ (s : Shown). s.bytes) ups;
+        homes = ap (λ (s : Shown). s.home) ups;
         spaces = refl;
         anons = refl;
-        count = ap (λ (s : Seen). s.count) ups;
+        count = ap (λ (s : Shown). s.count) ups;
       });
     }
 

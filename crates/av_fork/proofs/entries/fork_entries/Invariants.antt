@@ -1,6 +1,6 @@
 use Rattle.std.proofs.Common.{◌≡◌, ℕ, ◌+◌, ◌-◌, ◌*◌, ◌≤◌}
 use Rattle.av_base.specs.Limits.{most_processes}
-use Rattle.av_frames.specs.Store.{seen}
+use Rattle.av_frames.specs.Store.{shown}
 use Rattle.av_pagetable.specs.Entries.{entry_at}
 use Rattle.av_pagetable.specs.Table.{page_bound}
 use Rattle.av_plain.specs.Ledger.{Ledger}
@@ -16,7 +16,7 @@ invariant-loop-page l = record {
   few : (f : ℕ) → (view l.mem).maps f ≤ most_processes + l.number * 64;
   tables : entry_at l.mem.tables ≡ forked l.parent l.child (entry_at l.fn.mem.tables);
   forking : (first : Ledger) → HasLedger l.fn.mem first
-      → IsForkingTo l.mem.spaces l.mem.anons l.parent l.child (entry_at l.fn.mem.tables) (seen l.mem.frames) (l.number * 64) first;
+      → IsForkingTo l.mem.spaces l.mem.anons l.parent l.child (entry_at l.fn.mem.tables) (shown l.mem.frames) (l.number * 64) first;
   free : free_of (view l.mem) ≡ free_of (view l.fn.mem);
   rest : KeepsRest l.fn.mem l.mem;
 }

@@ -1,5 +1,5 @@
 use Rattle.std.proofs.Common.{◌+◌, ◌-◌, ◌/◌, ◌<◌, ◌≤◌, refl, subst, ◌∙◌}
-use Rattle.av_merge.specs.Pages.{IsReached}
+use Rattle.av_merge.specs.Pages.{GoesTo}
 use Rattle.av_trace.specs.declared.command.Command.TheVariants.{Mprotect}
 use Rattle.av_spaces.specs.Spaces.{is_taken}
 use Rattle.av_merge.specs.Kin.{lengths}
@@ -40,7 +40,7 @@ returns c = record {
       answers c.args.reply.now c.requires.cleared
       (mprotect-steps k c.protect.new.self c.protect.new.anons s c.args.process c.args.address c.args.len reached c.args.prot keeps
       (ranges_there k c.args.process c.in_ok-check_lives.ensures) c.in_ok-check_protect.ensures
-      (subst (λ n. IsReached (is_taken k.spaces.processes c.args.process) page (page + n) reached) size c.in_ok-reached.ensures.reached)
+      (subst (λ n. GoesTo (is_taken k.spaces.processes c.args.process) page (page + n) reached) size c.in_ok-reached.ensures.reached)
       (protected-prots (lengths k.spaces.areas k.anons) k.spaces.processes c.protect.new.self.processes c.args.process page (page + c.div_ceil-pages.result)
       reached c.args.prot c.in_ok-reached.ensures.reached c.in_ok-reached.ensures.ok c.in_ok-reached.ensures.mapping)
       (has_areas k.spaces.processes c.protect.new.self.processes c.args.process _ c.in_ok-reached.ensures.ok) c.in_ok-reached.ensures.anons
@@ -58,7 +58,7 @@ returns-then-reached-past c = record {
       let size = c.div_ceil-pages.ensures ∙ rounded_up c.args.len in
       mprotect-stops k c.protect.new.self c.protect.new.anons s c.args.process c.args.address c.args.len reached c.args.prot keeps
       (ranges_there k c.args.process c.in_ok-check_lives.ensures) c.in_ok-check_protect.ensures
-      (subst (λ n. IsReached (is_taken k.spaces.processes c.args.process) page (page + n) reached) size c.in_ok-reached.ensures.reached)
+      (subst (λ n. GoesTo (is_taken k.spaces.processes c.args.process) page (page + n) reached) size c.in_ok-reached.ensures.reached)
       (protected-prots (lengths k.spaces.areas k.anons) k.spaces.processes c.protect.new.self.processes c.args.process page (page + c.div_ceil-pages.result)
       reached c.args.prot c.in_ok-reached.ensures.reached c.in_ok-reached.ensures.ok c.in_ok-reached.ensures.mapping)
       (has_areas k.spaces.processes c.protect.new.self.processes c.args.process _ c.in_ok-reached.ensures.ok) c.in_ok-reached.ensures.anons

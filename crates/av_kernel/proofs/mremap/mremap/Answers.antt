@@ -1,5 +1,5 @@
 use Rattle.std.proofs.Common.{◌/◌, ◌≤◌, Err, refl, ap, arith, subst, sym, ◌∙◌}
-use Rattle.av_frames.specs.Store.{seen}
+use Rattle.av_frames.specs.Store.{shown}
 use Rattle.av_pagetable.specs.Entries.{has}
 use Rattle.av_trace.specs.declared.command.Command.TheVariants.{Mremap}
 use Rattle.av_trace.specs.declared.reply.Errno.TheVariants.{Esrch}
@@ -106,7 +106,7 @@ pub returns-in_err-remap_areas : goal.returns-in_err-remap_areas
 returns-in_err-remap_areas c =
     let a = c.args in
     wants-by a.mem.now c.remap_areas.new.mem (Mremap a.process a.address a.old_len a.new_len a.mode) a.reply.now
-    c.from_residual-in_err-remap_areas.result c.from_residual-in_err-remap_areas.ensures (ap (λ f. (seen f).count) c.remap_areas.ensures.frames)
+    c.from_residual-in_err-remap_areas.result c.from_residual-in_err-remap_areas.ensures (ap (λ f. (shown f).count) c.remap_areas.ensures.frames)
 
 -- ---- entries
 
@@ -146,7 +146,7 @@ returns-in_err-remap_entries c =
     let a = c.args in
     wants-by a.mem.now c.remap_entries.new.mem (Mremap a.process a.address a.old_len a.new_len a.mode) a.reply.now
     c.from_residual-in_err-remap_entries.result c.from_residual-in_err-remap_entries.ensures
-    (c.remap_entries.ensures.rest.count ∙ ap (λ f. (seen f).count) c.remap_areas.ensures.frames)
+    (c.remap_entries.ensures.rest.count ∙ ap (λ f. (shown f).count) c.remap_areas.ensures.frames)
 
 -- ---- the answer
 
@@ -158,7 +158,7 @@ overflow_mul-to c =
 
 pub returns : goal.returns
 returns c = record {
-  count = c.remap_entries.ensures.rest.count ∙ ap (λ f. (seen f).count) c.remap_areas.ensures.frames;
+  count = c.remap_entries.ensures.rest.count ∙ ap (λ f. (shown f).count) c.remap_areas.ensures.frames;
   step = λ s keeps.
       let a = c.args in
       let gone = c.remap_areas.new.mem in

@@ -1,6 +1,6 @@
 use Rattle.std.proofs.Common.{◌≤◌, sym, ◌∙◌, ap, subst}
 use Rattle.av_base.specs.Limits.{most_processes}
-use Rattle.av_frames.specs.Store.{seen}
+use Rattle.av_frames.specs.Store.{shown}
 use Rattle.av_trace.specs.declared.command.Command.TheVariants.{Fork}
 use Rattle.av_trace.specs.declared.reply.Errno.TheVariants.{Esrch}
 use Rattle.av_pagetable.specs.Entries.{has}
@@ -29,7 +29,7 @@ fork_areas-requires-clause-dead c = absent c.args.mem.now.spaces.processes c.arg
 
 pub returns-in_err-fork_areas : goal.returns-in_err-fork_areas
 returns-in_err-fork_areas c = wants-by c.args.mem.now c.fork_areas.new.mem (Fork c.args.parent c.args.child) c.args.reply.now
-    c.from_residual-in_err-fork_areas.result c.from_residual-in_err-fork_areas.ensures (ap (λ f. (seen f).count) c.fork_areas.ensures.frames)
+    c.from_residual-in_err-fork_areas.result c.from_residual-in_err-fork_areas.ensures (ap (λ f. (shown f).count) c.fork_areas.ensures.frames)
 
 pub spawn-requires : goal.spawn-requires
 spawn-requires c = ap (λ t. has t c.args.child) c.fork_areas.ensures.tables ∙ no_table c.args.mem.now c.requires.steady.0 c.args.child c.requires.steady.1
@@ -38,7 +38,7 @@ spawn-requires c = ap (λ t. has t c.args.child) c.fork_areas.ensures.tables ∙
 pub returns-in_err-spawn : goal.returns-in_err-spawn
 returns-in_err-spawn c =
     wants-by c.args.mem.now (record c.fork_areas.new.mem { tables = c.spawn.new.self }) (Fork c.args.parent c.args.child) c.args.reply.now
-    c.from_residual-in_err-spawn.result c.from_residual-in_err-spawn.ensures (ap (λ f. (seen f).count) c.fork_areas.ensures.frames)
+    c.from_residual-in_err-spawn.result c.from_residual-in_err-spawn.ensures (ap (λ f. (shown f).count) c.fork_areas.ensures.frames)
 
 pub fork_entries-requires-clause-orderly : goal.fork_entries-requires-clause-orderly
 fork_entries-requires-clause-orderly c =
@@ -49,7 +49,7 @@ fork_entries-requires-clause-orderly c =
     )
 
 pub fork_entries-requires-clause-few : goal.fork_entries-requires-clause-few
-fork_entries-requires-clause-few c f = subst (λ frames. (seen frames).maps f ≤ most_processes) (sym c.fork_areas.ensures.frames)
+fork_entries-requires-clause-few c f = subst (λ frames. (shown frames).maps f ≤ most_processes) (sym c.fork_areas.ensures.frames)
     (entries_few c.args.mem.now c.requires.steady.0 c.requires.steady.1 f)
 
 pub fork_entries-requires-clause-there : goal.fork_entries-requires-clause-there
@@ -65,11 +65,11 @@ fork_entries-requires-clause-empty c page =
 pub returns-in_err-fork_entries : goal.returns-in_err-fork_entries
 returns-in_err-fork_entries c =
     wants-by c.args.mem.now c.fork_entries.new.mem (Fork c.args.parent c.args.child) c.args.reply.now c.from_residual-in_err-fork_entries.result
-    c.from_residual-in_err-fork_entries.ensures (c.fork_entries.ensures.rest.count ∙ ap (λ f. (seen f).count) c.fork_areas.ensures.frames)
+    c.from_residual-in_err-fork_entries.ensures (c.fork_entries.ensures.rest.count ∙ ap (λ f. (shown f).count) c.fork_areas.ensures.frames)
 
 pub returns : goal.returns
 returns c = record {
-  count = c.fork_entries.ensures.rest.count ∙ ap (λ f. (seen f).count) c.fork_areas.ensures.frames;
+  count = c.fork_entries.ensures.rest.count ∙ ap (λ f. (shown f).count) c.fork_areas.ensures.frames;
   step = λ s keeps.
       let k = c.args.mem.now in
       let gone = c.fork_areas.new.mem in

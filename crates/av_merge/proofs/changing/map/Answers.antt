@@ -7,8 +7,8 @@ use Rattle.av_merge.specs.Kin.{lengths}
 use Rattle.av_merge.specs.Pages.{pages_by}
 use Rattle.av_merge.proofs.Kin.{kin_then}
 use Rattle.av_merge.proofs.Lengths.{alike_after, joined_later}
-use Rattle.av_merge.proofs.Linked.{added, whole_fresh}
-use Rattle.av_merge.proofs.Places.{stays_trans}
+use Rattle.av_merge.proofs.LinkingLaws.{added, whole_fresh}
+use Rattle.av_merge.proofs.PlacingLaws.{stays_trans}
 use Rattle.av_merge.proofs.changing.map.Goals as goal
 
 pub join_at-requires-2-clause-stands : goal.join_at-requires-2-clause-stands

@@ -3,14 +3,14 @@ use Rattle.std.specs.Prelude.{option_and_then}
 use Rattle.av_vma.specs.Areas.{area_of}
 use Rattle.av_vma.specs.Join.{past_of}
 use Rattle.av_merge.specs.Pages.{pages_by}
-use Rattle.av_merge.specs.Change.{effect_of}
-use Rattle.av_merge.proofs.Places.{others_refl, stays_trans}
+use Rattle.av_merge.specs.Changing.{effect_of}
+use Rattle.av_merge.proofs.PlacingLaws.{others_refl, stays_trans}
 use Rattle.av_anon.specs.Anons.{family}
 use Rattle.av_anon.specs.Spans.{spans_of}
 use Rattle.av_merge.specs.Kin.{lengths}
 use Rattle.av_merge.proofs.Kin.{kin_stays, kin_then}
 use Rattle.av_merge.proofs.Lengths.{alike_after, part_alike}
-use Rattle.av_merge.proofs.ChangesReach.{done_first, done_step, part_exact, goes_on, reached_hole, same_already, same_exact, there, used_here}
+use Rattle.av_merge.proofs.ChangingReach.{done_first, done_step, part_exact, goes_on, reached_hole, same_already, same_exact, there, used_here}
 use Rattle.av_merge.proofs.changing.modify.Goals as goal
 
 pub returns-in_default-clause-reached : goal.returns-in_default-clause-reached

@@ -1,8 +1,8 @@
 use Rattle.std.proofs.Common.{◌-◌}
 use Rattle.av_vma.specs.Areas.{area_of}
-use Rattle.av_merge.specs.Change.{effect_of}
+use Rattle.av_merge.specs.Changing.{effect_of}
 use Rattle.av_merge.specs.Kin.{StayKin, lengths}
-use Rattle.av_merge.proofs.ChangesReach.{IsDone}
+use Rattle.av_merge.proofs.ChangingReach.{IsDone}
 use Rattle.av_merge.proofs.changing.modify.Given as goal
 
 abbrev pub invariant-loop-page : goal.invariant-loop-page

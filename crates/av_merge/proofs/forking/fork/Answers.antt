@@ -3,9 +3,9 @@ use Rattle.av_vma.specs.Areas.{area_of}
 use Rattle.av_vma.specs.Pages.{IsWhole}
 use Rattle.av_anon.specs.Anons.{family}
 use Rattle.av_anon.specs.Spans.{spans_of}
-use Rattle.av_merge.specs.Fork.{IsForkedTo}
-use Rattle.av_merge.proofs.Forks.{areas_forked, kin_forked, order_added, order_forked}
-use Rattle.av_merge.proofs.Linked.{ok_three}
+use Rattle.av_merge.specs.Forking.{IsForkedTo}
+use Rattle.av_merge.proofs.ForkingLaws.{areas_forked, kin_forked, order_added, order_forked}
+use Rattle.av_merge.proofs.LinkingLaws.{ok_three}
 use Rattle.av_merge.proofs.forking.fork.Goals as goal
 
 pub fork-requires-clause-order : goal.fork-requires-clause-order

@@ -13,8 +13,8 @@ use Rattle.av_merge.specs.Process.{AreAreasOf, Stays}
 use Rattle.av_merge.specs.Kin.{lengths}
 use Rattle.av_merge.proofs.Kin.{kin_then}
 use Rattle.av_vmatree.proofs.Joins.{without_here}
-use Rattle.av_merge.proofs.Joins.{apart_stay, join_above, join_below, joined_now, others_stay, upper_goes, left_was, test_is, join_whole, join_free, join_pages, join_stays, left_from, right_from, right_taken}
-use Rattle.av_merge.proofs.Places.{used_at, whole_at}
+use Rattle.av_merge.proofs.JoiningLaws.{apart_stay, join_above, join_below, joined_now, others_stay, upper_goes, left_was, test_is, join_whole, join_free, join_pages, join_stays, left_from, right_from, right_taken}
+use Rattle.av_merge.proofs.PlacingLaws.{used_at, whole_at}
 use Rattle.av_merge.proofs.joining.join.Goals as goal
 
 pub replace_both-requires-clause-other : goal.replace_both-requires-clause-other

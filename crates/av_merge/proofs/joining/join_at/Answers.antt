@@ -4,7 +4,7 @@ use Rattle.std.proofs.lemmas.Option.{none-some, same_Some}
 use Rattle.av_vma.specs.Areas.{area_of}
 use Rattle.av_merge.specs.Kin.{lengths}
 use Rattle.av_merge.specs.Pages.{pages_by}
-use Rattle.av_merge.proofs.Joins.{left_side, not_joined, right_side, sides_of}
+use Rattle.av_merge.proofs.JoiningLaws.{left_side, not_joined, right_side, sides_of}
 use Rattle.av_merge.proofs.joining.join_at.Goals as goal
 
 pub returns-in_default-clause-pages : goal.returns-in_default-clause-pages

@@ -3,7 +3,7 @@ use Rattle.std.proofs.lemmas.Option.{same_Some}
 use Rattle.av_vmatree.specs.declared.span.Span.{Span}
 use Rattle.av_vmatree.specs.Spans.{span_of}
 use Rattle.av_vmatree.proofs.Sides.{from_is}
-use Rattle.av_merge.proofs.Joins.{last_side, left_side, right_side}
+use Rattle.av_merge.proofs.JoiningLaws.{last_side, left_side, right_side}
 use Rattle.av_merge.proofs.joining.join_ends.Goals as goal
 
 pub join_three-requires : goal.join_three-requires

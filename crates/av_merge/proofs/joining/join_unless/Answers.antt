@@ -1,7 +1,7 @@
 use Rattle.av_vma.specs.Areas.{area_of}
 use Rattle.av_merge.specs.Kin.{lengths}
 use Rattle.av_merge.specs.Pages.{pages_by}
-use Rattle.av_merge.proofs.Joins.{differ_apart, not_joined}
+use Rattle.av_merge.proofs.JoiningLaws.{differ_apart, not_joined}
 use Rattle.av_merge.proofs.joining.join_unless.Goals as goal
 
 pub returns-then-differs-clause-pages : goal.returns-then-differs-clause-pages

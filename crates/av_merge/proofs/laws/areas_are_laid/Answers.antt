@@ -1,4 +1,4 @@
-use Rattle.av_merge.proofs.Mappings.{laid_of}
+use Rattle.av_merge.proofs.PlacingMaps.{laid_of}
 use Rattle.av_merge.proofs.laws.areas_are_laid.Goals as goal
 
 pub returns : goal.returns

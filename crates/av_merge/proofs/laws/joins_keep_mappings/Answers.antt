@@ -1,4 +1,4 @@
-use Rattle.av_merge.proofs.Mappings.{around_maps}
+use Rattle.av_merge.proofs.PlacingMaps.{around_maps}
 use Rattle.av_merge.proofs.laws.joins_keep_mappings.Goals as goal
 
 pub returns : goal.returns

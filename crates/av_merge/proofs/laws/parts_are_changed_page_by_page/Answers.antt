@@ -1,4 +1,4 @@
-use Rattle.av_merge.proofs.ChangesByPage.{page_by_page}
+use Rattle.av_merge.proofs.ChangingByPage.{page_by_page}
 use Rattle.av_merge.proofs.laws.parts_are_changed_page_by_page.Goals as goal
 
 pub returns : goal.returns

@@ -1,7 +1,7 @@
 use Rattle.av_vma.specs.Areas.{area_of}
 use Rattle.av_anon.specs.Anons.{family}
 use Rattle.av_anon.specs.Spans.{spans_of}
-use Rattle.av_merge.proofs.Linked.{linked_keeps, ok_three}
+use Rattle.av_merge.proofs.LinkingLaws.{linked_keeps, ok_three}
 use Rattle.av_merge.proofs.linking.link.Goals as goal
 
 pub returns-clause-kin : goal.returns-clause-kin

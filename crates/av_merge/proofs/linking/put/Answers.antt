@@ -1,7 +1,7 @@
 use Rattle.av_vma.specs.Areas.{area_of}
 use Rattle.av_anon.specs.Anons.{family}
 use Rattle.av_anon.specs.Spans.{spans_of}
-use Rattle.av_merge.proofs.Linked.{ok_both, resized_keeps}
+use Rattle.av_merge.proofs.LinkingLaws.{ok_both, resized_keeps}
 use Rattle.av_merge.proofs.linking.put.Goals as goal
 
 pub returns-clause-kin : goal.returns-clause-kin

@@ -3,7 +3,7 @@ use Rattle.av_vma.specs.Areas.{area_of}
 use Rattle.av_anon.specs.Anons.{family}
 use Rattle.av_anon.specs.Spans.{spans_of}
 use Rattle.av_merge.proofs.Kin.{keeps_clone}
-use Rattle.av_merge.proofs.Linked.{none_of, ok_three}
+use Rattle.av_merge.proofs.LinkingLaws.{none_of, ok_three}
 use Rattle.av_merge.proofs.linking.share.Goals as goal
 
 pub returns-clause-kin : goal.returns-clause-kin

@@ -4,7 +4,7 @@ use Rattle.av_vma.specs.Areas.{area_of}
 use Rattle.av_anon.specs.Anons.{family, own_of}
 use Rattle.av_anon.specs.Spans.{spans_of}
 use Rattle.av_merge.proofs.Kin.{keeps_bare, keeps_trans}
-use Rattle.av_merge.proofs.Linked.{bare_now}
+use Rattle.av_merge.proofs.LinkingLaws.{bare_now}
 use Rattle.av_merge.proofs.linking.take.Goals as goal
 
 pub returns-clause-kin : goal.returns-clause-kin

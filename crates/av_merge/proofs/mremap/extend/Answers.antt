@@ -4,7 +4,7 @@ use Rattle.av_vma.specs.Areas.{area_of}
 use Rattle.av_vma.specs.Join.{past_of}
 use Rattle.av_vmatree.specs.Spans.{IsFree, is_page_taken}
 use Rattle.av_merge.proofs.MremapLaws.{grown_free, grown_on}
-use Rattle.av_merge.proofs.Places.{of_some_and}
+use Rattle.av_merge.proofs.PlacingLaws.{of_some_and}
 use Rattle.av_merge.proofs.mremap.extend.Goals as goal
 
 pub replace-requires-clause-free : goal.replace-requires-clause-free

@@ -7,7 +7,7 @@ use Rattle.av_merge.specs.Pages.{pages_by}
 use Rattle.av_merge.proofs.Kin.{kin_then}
 use Rattle.av_merge.proofs.Lengths.{alike_after}
 use Rattle.av_merge.proofs.MremapLaws.{grow_first, grow_free, grow_longer, grow_pages}
-use Rattle.av_merge.proofs.Places.{stays_trans}
+use Rattle.av_merge.proofs.PlacingLaws.{stays_trans}
 use Rattle.av_merge.proofs.mremap.grow.Goals as goal
 
 pub extend-requires-clause-longer : goal.extend-requires-clause-longer

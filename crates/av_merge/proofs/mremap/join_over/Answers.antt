@@ -8,7 +8,7 @@ use Rattle.av_merge.specs.Pages.{pages_by}
 use Rattle.av_merge.proofs.Kin.{kin_then}
 use Rattle.av_merge.proofs.Lengths.{alike_after, joined_alike}
 use Rattle.av_merge.proofs.MremapLaws.{goes_on, tried_first, tried_next}
-use Rattle.av_merge.proofs.Places.{stays_trans, used_at}
+use Rattle.av_merge.proofs.PlacingLaws.{stays_trans, used_at}
 use Rattle.av_merge.proofs.mremap.join_over.Goals as goal
 
 pub loop-at-init : goal.loop-at-init

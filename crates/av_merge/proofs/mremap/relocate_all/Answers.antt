@@ -3,7 +3,7 @@ use Rattle.std.proofs.lemmas.Bool.{false≢true}
 use Rattle.av_vma.specs.Areas.{area_of}
 use Rattle.av_merge.proofs.Kin.{kin_stays, kin_then}
 use Rattle.av_merge.proofs.MremapLaws.{next_free, next_high, next_there, relocated_more, relocated_next, relocated_none}
-use Rattle.av_merge.proofs.Places.{stays_trans, used_at}
+use Rattle.av_merge.proofs.PlacingLaws.{stays_trans, used_at}
 use Rattle.av_merge.proofs.mremap.relocate_all.Goals as goal
 
 pub loop-page-init : goal.loop-page-init

@@ -5,8 +5,8 @@ use Rattle.av_vmatree.specs.declared.span.Span.{Span}
 use Rattle.av_anon.specs.Anons.{family}
 use Rattle.av_anon.specs.Spans.{spans_of}
 use Rattle.av_merge.proofs.Kin.{keeps_trans}
-use Rattle.av_merge.proofs.Linked.{bare_part, both_parts}
-use Rattle.av_merge.proofs.Places.{apart_pages}
+use Rattle.av_merge.proofs.LinkingLaws.{bare_part, both_parts}
+use Rattle.av_merge.proofs.PlacingLaws.{apart_pages}
 use Rattle.av_merge.proofs.placing.put_apart.Goals as goal
 
 pub returns-in_ok-put_parts-in-Ok-clause-pages : goal.returns-in_ok-put_parts-in-Ok-clause-pages

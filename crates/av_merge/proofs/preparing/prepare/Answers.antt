@@ -6,9 +6,9 @@ use Rattle.av_anon.specs.Anons.{family}
 use Rattle.av_anon.specs.Spans.{spans_of}
 use Rattle.av_merge.specs.Kin.{lengths}
 use Rattle.av_merge.specs.Pages.{pages_by}
-use Rattle.av_merge.proofs.Linked.{none_of, ok_three}
+use Rattle.av_merge.proofs.LinkingLaws.{none_of, ok_three}
 use Rattle.std.proofs.lemmas.Result.{on_ok_weaker}
-use Rattle.av_merge.proofs.Prepares.{makes_none, prepare_kin, prepare_pages, prepares_none}
+use Rattle.av_merge.proofs.PreparingLaws.{makes_none, prepare_kin, prepare_pages, prepares_none}
 use Rattle.av_merge.proofs.preparing.prepare.Goals as goal
 
 pub returns-in_default-clause-kin : goal.returns-in_default-clause-kin

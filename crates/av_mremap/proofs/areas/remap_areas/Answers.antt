@@ -1,6 +1,6 @@
 use Rattle.std.proofs.Common.{Option, subst, sym}
 use Rattle.av_base.specs.declared.prot.Prot.{Prot}
-use Rattle.av_merge.proofs.Linked.{ok_both}
+use Rattle.av_merge.proofs.LinkingLaws.{ok_both}
 use Rattle.av_spaces.proofs.Trees.{on_ok}
 use Rattle.av_plain.specs.Areas.{chain_length}
 use Rattle.av_plain.specs.Mremap.{after_mremap}

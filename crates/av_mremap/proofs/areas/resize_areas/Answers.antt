@@ -1,5 +1,5 @@
 use Rattle.std.proofs.Common.{arith}
-use Rattle.av_merge.proofs.Linked.{ok_both}
+use Rattle.av_merge.proofs.LinkingLaws.{ok_both}
 use Rattle.av_mremap.proofs.AreasRemap.{has_grown, has_shrunk, unchanged_size}
 use Rattle.av_mremap.proofs.areas.resize_areas.Goals as goal
 

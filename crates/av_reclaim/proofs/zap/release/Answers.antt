@@ -1,12 +1,12 @@
 use Rattle.std.proofs.Common.{sym, ◌∙◌}
-use Rattle.av_frames.specs.Store.{seen}
+use Rattle.av_frames.specs.Store.{shown}
 use Rattle.av_reclaim.proofs.ZapFrame.{released_last, released_more}
 use Rattle.av_reclaim.proofs.zap.release.Goals as goal
 
 pub returns-then-maps-eq0 : goal.returns-then-maps-eq0
-returns-then-maps-eq0 c = released_last (seen c.args.frames.now) (seen c.map_down.new.self) c.args.frame c.map_down.ensures c.requires.named
-    (seen c.give.new.self) c.give.ensures (sym c.maps.ensures ∙ c.if-maps-eq0.true)
+returns-then-maps-eq0 c = released_last (shown c.args.frames.now) (shown c.map_down.new.self) c.args.frame c.map_down.ensures c.requires.named
+    (shown c.give.new.self) c.give.ensures (sym c.maps.ensures ∙ c.if-maps-eq0.true)
 
 pub returns-else-maps-eq0 : goal.returns-else-maps-eq0
-returns-else-maps-eq0 c = released_more (seen c.args.frames.now) (seen c.map_down.new.self) c.args.frame c.map_down.ensures c.requires.named
+returns-else-maps-eq0 c = released_more (shown c.args.frames.now) (shown c.map_down.new.self) c.args.frame c.map_down.ensures c.requires.named
     (λ zero. c.if-maps-eq0.false (c.maps.ensures ∙ zero))

@@ -1,7 +1,7 @@
 use Rattle.std.proofs.Common.{◌≡◌, ℕ, ◌+◌, ◌*◌, ◌/◌, ◌≤◌, ◌∙◌, ap, arith, length, refl, subst, sym}
 use Rattle.std.proofs.lemmas.Nat.{div-add-mod', le-div}
 use Rattle.av_base.specs.Words.{with_at}
-use Rattle.av_frames.specs.Store.{Seen, seen}
+use Rattle.av_frames.specs.Store.{Shown, shown}
 use Rattle.av_pagetable.specs.Entries.{entry_at}
 use Rattle.av_pagetable.specs.Table.{page_bound}
 use Rattle.av_pagetable.specs.declared.pte.Pte.{Pte}
@@ -35,10 +35,10 @@ unmap_each-requires c =
     let here : start ≤ page = omega (arith, div-add-mod' page 64) in
     let below = is.below in
     let long : length group ≡ 64 = c.read_group.array_long in
-    (whole_group c.args.process (entry_at old.tables) (parts_of old) now.spaces now.anons page_bound o.0 group (seen now.frames) start
+    (whole_group c.args.process (entry_at old.tables) (parts_of old) now.spaces now.anons page_bound o.0 group (shown now.frames) start
     (omega (arith, long, here, below))
     (λ i under. c.read_group.ensures i (omega (arith, under, long)) ∙ ap (λ t. entry_at t c.args.process (start + i)) v.tables)
-    (skip_to c.args.process (entry_at old.tables) (parts_of old) now.spaces now.anons page_bound o.0 (seen now.frames) (c.loop-page.number * 64) start low
+    (skip_to c.args.process (entry_at old.tables) (parts_of old) now.spaces now.anons page_bound o.0 (shown now.frames) (c.loop-page.number * 64) start low
     (λ q above under. ap (λ t. entry_at t c.args.process q) (sym v.tables) ∙ is.least q above (omega (arith, under, here))) (v.zapping o.0 o.1))).0
 
 pub loop-page-preserved : goal.loop-page-preserved
@@ -57,28 +57,28 @@ loop-page-preserved c =
     let below = is.below in
     let long : length group ≡ 64 = c.read_group.array_long in
     let gone = c.unmap_each.ensures in
-    let same = all_same group (seen now.frames) in
+    let same = all_same group (shown now.frames) in
     record {
       within = omega (arith, here, below);
       tables = v.tables;
       zapping = λ first stands.
-          subst (λ n. IsZapping c.args.process (entry_at old.tables) (parts_of old) now.spaces now.anons page_bound first (seen c.unmap_each.new.frames) n)
+          subst (λ n. IsZapping c.args.process (entry_at old.tables) (parts_of old) now.spaces now.anons page_bound first (shown c.unmap_each.new.frames) n)
           (let same : start + length group ≡ past = omega (arith, long) in same)
-          (subst (λ (s : Seen). IsZapping c.args.process (entry_at old.tables) (parts_of old) now.spaces now.anons page_bound first s (start + length group))
+          (subst (λ (s : Shown). IsZapping c.args.process (entry_at old.tables) (parts_of old) now.spaces now.anons page_bound first s (start + length group))
           (sym gone)
-          (whole_group c.args.process (entry_at old.tables) (parts_of old) now.spaces now.anons page_bound first group (seen now.frames) start
+          (whole_group c.args.process (entry_at old.tables) (parts_of old) now.spaces now.anons page_bound first group (shown now.frames) start
           (omega (arith, long, here, below))
           (λ i under. c.read_group.ensures i (omega (arith, under, long)) ∙ ap (λ t. entry_at t c.args.process (start + i)) v.tables)
-          (skip_to c.args.process (entry_at old.tables) (parts_of old) now.spaces now.anons page_bound first (seen now.frames)
+          (skip_to c.args.process (entry_at old.tables) (parts_of old) now.spaces now.anons page_bound first (shown now.frames)
           (c.loop-page.number * 64) start low
           (λ q above under. ap (λ t. entry_at t c.args.process q) (sym v.tables) ∙ is.least q above (omega (arith, under, here))) (v.zapping first stands))).1);
       rest = rest_rest v.rest (record {
         processes = refl;
-        bytes = ap (λ (s : Seen). s.bytes) gone ∙ same.bytes;
-        homes = ap (λ (s : Seen). s.home) gone ∙ same.home;
+        bytes = ap (λ (s : Shown). s.bytes) gone ∙ same.bytes;
+        homes = ap (λ (s : Shown). s.home) gone ∙ same.home;
         spaces = refl;
         anons = refl;
-        count = ap (λ (s : Seen). s.count) gone ∙ same.count;
+        count = ap (λ (s : Shown). s.count) gone ∙ same.count;
       });
     }
 

@@ -1,5 +1,5 @@
 use Rattle.std.proofs.Common.{◌≡◌, ◌-◌, ◌*◌, ◌≤◌}
-use Rattle.av_frames.specs.Store.{seen}
+use Rattle.av_frames.specs.Store.{shown}
 use Rattle.av_pagetable.specs.Entries.{entry_at}
 use Rattle.av_pagetable.specs.Table.{page_bound}
 use Rattle.av_plain.specs.Ledger.{Ledger}
@@ -14,7 +14,7 @@ invariant-loop-page l = record {
   within : l.number * 64 ≤ page_bound;
   tables : l.mem.tables ≡ l.fn.mem.tables;
   zapping : (first : Ledger) → HasLedger l.fn.mem first
-      → IsZapping l.process (entry_at l.fn.mem.tables) (parts_of l.fn.mem) l.mem.spaces l.mem.anons page_bound first (seen l.mem.frames) (l.number * 64);
+      → IsZapping l.process (entry_at l.fn.mem.tables) (parts_of l.fn.mem) l.mem.spaces l.mem.anons page_bound first (shown l.mem.frames) (l.number * 64);
   rest : KeepsRest l.fn.mem l.mem;
 }
 

@@ -1,7 +1,8 @@
 use Rattle.std.proofs.Common.{◌≡◌, ◌+◌, ◌*◌, ◌<◌, ◌≤◌, ℕ, IsSome, List, sym, subst, arith, inl, inr}
 use Rattle.std.proofs.lemmas.Bool.{cases_lt}
-use Rattle.av_arena.specs.Order.{AllOf, entry_at, with_entry}
-use Rattle.av_arena.proofs.Order.{AllOf-map}
+use Rattle.av_arena.specs.Order.{entry_at, with_entry}
+use Rattle.std.specs.List.{AllByRecursion}
+use Rattle.av_arena.proofs.Order.{AllByRecursion-map}
 use Rattle.av_interval.specs.declared.span.Span.{Span}
 use Rattle.av_interval.specs.Spans.{triples}
 use Rattle.av_interval.specs.Span.{triple}
@@ -29,8 +30,8 @@ loop-i-preserved g c =
     let x : Span = triple (10 * i) (10 * i + 4) i in
     let e : triples c.add.new.self 7 ≡ with_entry key x old = c.in_ok-add.ensures.spans 7 in
     record {
-      below = subst (AllOf (λ y. y.area < i + 1)) (sym e) (all_with (λ y. y.area < i + 1) x old (omega arith)
-          (AllOf-map (λ (y : Span). y.area < i) (λ y. y.area < i + 1) (λ y h. omega arith) old c.loop-i.invariant.below));
+      below = subst (AllByRecursion (λ y. y.area < i + 1)) (sym e) (all_with (λ y. y.area < i + 1) x old (omega arith)
+          (AllByRecursion-map (λ (y : Span). y.area < i) (λ y. y.area < i + 1) (λ y h. omega arith) old c.loop-i.invariant.below));
       there = λ j h. subst (λ xs. IsSome (entry_at key (key_of (10 * j) j) xs)) (sym e) (there_next i j old c.loop-i.invariant.there h);
     }
 

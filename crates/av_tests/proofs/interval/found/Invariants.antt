@@ -1,5 +1,6 @@
 use Rattle.std.proofs.Common.{ℕ, ◌<◌, ◌≤◌, ◌*◌, IsSome}
-use Rattle.av_arena.specs.Order.{AllOf, entry_at}
+use Rattle.av_arena.specs.Order.{entry_at}
+use Rattle.std.specs.List.{AllByRecursion}
 use Rattle.av_interval.specs.Spans.{triples}
 use Rattle.av_interval.specs.Span.{key, key_of}
 use Rattle.av_tests.proofs.interval.found.Given as goal
@@ -7,7 +8,7 @@ use Rattle.av_tests.proofs.interval.found.Given as goal
 abbrev pub invariant-loop-i : goal.invariant-loop-i
 invariant-loop-i g l =
     record {
-      below : AllOf (λ x. x.area < l.i) (triples l.spans 7);
+      below : AllByRecursion (λ x. x.area < l.i) (triples l.spans 7);
       there : (j : ℕ) → j < l.i → IsSome (entry_at key (key_of (10 * j) j) (triples l.spans 7));
     }
 

@@ -17,14 +17,14 @@ own_from-requires c = λ v h.
     let chain = c.requires.order.chains lender.0 in
     chain.there v (chain.own_in v lender.1)
 
-pub join-requires-clause-empty : goal.join-requires-clause-empty
-join-requires-clause-empty c =
+pub link_area-requires-clause-empty : goal.link_area-requires-clause-empty
+link_area-requires-clause-empty c =
     let f = family c.args.self.now in
     ap (λ g. g.chain c.args.area) c.in_ok-anon.ensures.family ∙ ap (λ g. g c.args.area) (kin_chain c.lent_anon-loan.result f)
     ∙ (c.requires.order.chains c.args.area).none c.requires.none
 
-pub join-requires-clause-new : goal.join-requires-clause-new
-join-requires-clause-new c = λ v h.
+pub link_area-requires-clause-new : goal.link_area-requires-clause-new
+link_area-requires-clause-new c = λ v h.
     let empty = (c.requires.order.chains c.args.area).none c.requires.none in
     subst (IsNew c.args.area) (ap (λ s. triples s v) (sym c.own_from.ensures.spans))
     (new_to_all (area_of c.args.areas.now) (chain_of c.args.self.now.links) (spans_of c.args.self.now) c.requires.order.spanned c.args.area empty v)
@@ -40,8 +40,8 @@ returns-clause-spans c =
     let fit : a < 2 ^ 64 = omega arith in
     let empty = (c.requires.order.chains a).none c.requires.none in
     let same : chain_of c.own_from.new.self.links ≡ f.chain = ap (λ g. g.chain) c.in_ok-anon.ensures.family ∙ kin_chain c.lent_anon-loan.result f in
-    given-spans areas areas' f.chain (chain_of c.join.new.self.links) (spans_of c.args.self.now) c.requires.order.spanned a this c.get-this.ensures fit
-    (Some v) (v ∷ []) (spans_of c.join.new.self) empty
-    (λ w. c.in_ok-join.ensures.spans w ∙ ap (λ s. spans_with (v ∷ []) (span_at a this) (triples s) w) c.own_from.ensures.spans)
-    (ap (λ g. g.chain) c.in_ok-join.ensures.family ∙ ap (with_at a (v ∷ [])) same)
+    given-spans areas areas' f.chain (chain_of c.link_area.new.self.links) (spans_of c.args.self.now) c.requires.order.spanned a this c.get-this.ensures fit
+    (Some v) (v ∷ []) (spans_of c.link_area.new.self) empty
+    (λ w. c.in_ok-link_area.ensures.spans w ∙ ap (λ s. spans_with (v ∷ []) (span_at a this) (triples s) w) c.own_from.ensures.spans)
+    (ap (λ g. g.chain) c.in_ok-link_area.ensures.family ∙ ap (with_at a (v ∷ [])) same)
     (own-given areas areas' a this (Some v) c.get-this.ensures c.change.ensures)

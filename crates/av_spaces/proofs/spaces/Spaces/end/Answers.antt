@@ -11,8 +11,8 @@ pub take_tree-tree-requires : goal.take_tree-tree-requires
 take_tree-tree-requires c = (lives_is (area_of c.self.inside.areas) c.self.inside.trees.items c.args.process ∙ ap (λ s. is_some (areas_of s c.args.process))
     (processes_are c.self.view_is) ∙ c.requires.lives)
 
-pub cut_all-requires : goal.cut_all-requires
-cut_all-requires c = record {
+pub unmap_all-requires : goal.unmap_all-requires
+unmap_all-requires c = record {
   order = order_in c.self.inside.areas c.self.inside.trees.items c.args.self.now c.args.anons.now c.self.view_is c.requires.order;
   stands = (
     c.args.process,
@@ -28,32 +28,32 @@ overflow_sub-self c = let some = some_alive c.self.inside.trees.items c.args.pro
 
 pub invariant_of-self : goal.invariant_of-self
 invariant_of-self c =
-    let f' = area_of c.cut_all.new.areas in
+    let f' = area_of c.unmap_all.new.areas in
     let alive = c.self.invariant.alive in
-    let left = count_left (area_of c.self.inside.areas) f' c.self.inside.trees.items c.args.process c.take_tree-tree.result c.cut_all.new.tree
+    let left = count_left (area_of c.self.inside.areas) f' c.self.inside.trees.items c.args.process c.take_tree-tree.result c.unmap_all.new.tree
     c.args.self.now.processes c.self.invariant.trees (processes_are c.self.view_is) c.take_tree-tree.ensures.tree
-    (c.cut_all.ensures.stands c.args.process) c.cut_all.ensures.empty in
+    (c.unmap_all.ensures.stands c.args.process) c.unmap_all.ensures.empty in
     subst (λ (ts : Trees). HasTrees f' ts (c.self.inside.alive - 1)) (sym c.take_tree-tree.ensures.trees) (record {
-      trees = trees_left (area_of c.self.inside.areas) f' c.self.inside.trees.items c.args.process c.take_tree-tree.result c.cut_all.new.tree
+      trees = trees_left (area_of c.self.inside.areas) f' c.self.inside.trees.items c.args.process c.take_tree-tree.result c.unmap_all.new.tree
           c.args.self.now.processes c.self.invariant.trees (processes_are c.self.view_is) c.take_tree-tree.ensures.tree
-          (c.cut_all.ensures.stands c.args.process) c.cut_all.ensures.empty;
+          (c.unmap_all.ensures.stands c.args.process) c.unmap_all.ensures.empty;
       alive = omega (arith, left, alive);
       few = simp length-set c.self.invariant.few;
     })
 
 pub returns-clause-areas : goal.returns-clause-areas
 returns-clause-areas c =
-    subst (λ (ts : Trees). IsEnded c.args.self.now.processes (spaces_by (area_of c.cut_all.new.areas) ts) c.args.process) (sym c.take_tree-tree.ensures.trees)
-    (ends (area_of c.self.inside.areas) (area_of c.cut_all.new.areas) c.self.inside.trees.items c.args.process c.take_tree-tree.result c.cut_all.new.tree
+    subst (λ (ts : Trees). IsEnded c.args.self.now.processes (spaces_by (area_of c.unmap_all.new.areas) ts) c.args.process) (sym c.take_tree-tree.ensures.trees)
+    (ends (area_of c.self.inside.areas) (area_of c.unmap_all.new.areas) c.self.inside.trees.items c.args.process c.take_tree-tree.result c.unmap_all.new.tree
     c.args.self.now.processes c.self.invariant.trees (processes_are c.self.view_is) c.take_tree-tree.ensures.tree
-    (c.cut_all.ensures.stands c.args.process) c.cut_all.ensures.empty)
+    (c.unmap_all.ensures.stands c.args.process) c.unmap_all.ensures.empty)
 
 pub returns-clause-anons : goal.returns-clause-anons
 returns-clause-anons c =
-    let f' = area_of c.cut_all.new.areas in
-    let left = trees_left (area_of c.self.inside.areas) f' c.self.inside.trees.items c.args.process c.take_tree-tree.result c.cut_all.new.tree
+    let f' = area_of c.unmap_all.new.areas in
+    let left = trees_left (area_of c.self.inside.areas) f' c.self.inside.trees.items c.args.process c.take_tree-tree.result c.unmap_all.new.tree
     c.args.self.now.processes c.self.invariant.trees (processes_are c.self.view_is) c.take_tree-tree.ensures.tree
-    (c.cut_all.ensures.stands c.args.process) c.cut_all.ensures.empty in
-    anons_stay_by c.self.inside.areas c.cut_all.new.areas c.self.inside.trees.items c.take_tree-tree.new.trees.items c.args.anons.now c.cut_all.new.anons
+    (c.unmap_all.ensures.stands c.args.process) c.unmap_all.ensures.empty in
+    anons_stay_by c.self.inside.areas c.unmap_all.new.areas c.self.inside.trees.items c.take_tree-tree.new.trees.items c.args.anons.now c.unmap_all.new.anons
     c.args.self.now c.self.view_is
-    c.self.invariant.trees (subst (AreTrees f') (sym c.take_tree-tree.ensures.trees) left) c.requires.order c.cut_all.ensures.kin
+    c.self.invariant.trees (subst (AreTrees f') (sym c.take_tree-tree.ensures.trees) left) c.requires.order c.unmap_all.ensures.kin

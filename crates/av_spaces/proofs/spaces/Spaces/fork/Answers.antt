@@ -3,7 +3,7 @@ use Rattle.std.proofs.Math.ListN.{length-set}
 use Rattle.std.specs.Prelude.{IsSomeAnd}
 use Rattle.av_vma.specs.Areas.{area_of}
 use Rattle.av_vmatree.specs.declared.span.Span.{Span}
-use Rattle.av_merge.proofs.Linked.{ok_both}
+use Rattle.av_merge.proofs.LinkingLaws.{ok_both}
 use Rattle.av_spaces.specs.Fork.{IsForked}
 use Rattle.av_spaces.specs.Spaces.{areas_of}
 use Rattle.av_spaces.specs.Trees.{HasTrees, Trees, all_spaces, tree_at}

@@ -3,7 +3,7 @@ use Rattle.std.proofs.Math.ListN.{length-set}
 use Rattle.std.specs.Prelude.{IfOk}
 use Rattle.av_vma.specs.Areas.{area_of}
 use Rattle.av_vma.specs.Pages.{pages_changed, to_prot}
-use Rattle.av_merge.specs.Pages.{pages_by, IsReached}
+use Rattle.av_merge.specs.Pages.{pages_by, GoesTo}
 use Rattle.av_merge.specs.Mapping.{IsRemapped}
 use Rattle.av_spaces.specs.Spaces.{areas_of, pages_of, AreThese, IsChanged}
 use Rattle.av_vma.specs.declared.area.Area.{Area}
@@ -43,7 +43,7 @@ modify-result-requires-clause-stands c = (
 )
 
 pub returns-clause-reached : goal.returns-clause-reached
-returns-clause-reached c = subst (λ test. IfOk c.modify-result.result (IsReached test c.args.from (c.args.from + c.args.pages)))
+returns-clause-reached c = subst (λ test. IfOk c.modify-result.result (GoesTo test c.args.from (c.args.from + c.args.pages)))
     (taken_as (area_of c.self.inside.areas) c.self.inside.trees.items c.args.process c.take_tree-tree.result c.args.self.now.processes c.self.invariant.trees
     (sym c.take_tree-tree.ensures.tree) (processes_are c.self.view_is)) c.modify-result.ensures.reached
 

@@ -1,12 +1,12 @@
 use Rattle.std.proofs.Common.{◌+◌, ◌<◌, ◌≤◌, ◌^◌, subst, sym, ap}
-use Rattle.av_swapmap.specs.Seen.{Store, seen}
+use Rattle.av_swapmap.specs.Counts.{Store, shown}
 use Rattle.av_swapmap.specs.contracts.counts.Counts.{the_view}
 use Rattle.av_swapmap.proofs.Written.{whole_after, count_after, seen_kept, on_err, none_small}
 use Rattle.av_swapmap.proofs.counts.Counts.add.Goals as goal
 
 pub returns-in_err-grow : goal.returns-in_err-grow
 returns-in_err-grow c = on_err c.from_residual.result _ _ c.from_residual.ensures.0 (
-  subst (λ (v : Store). (seen v).count c.args.page < 63) c.self.view_is
+  subst (λ (v : Store). (shown v).count c.args.page < 63) c.self.view_is
       (none_small (the_view c.self.inside) c.args.page c.self.invariant c.in_err-grow.ensures.0),
   subst (λ x. 63 ≤ x + c.args.n) c.get.ensures c.in_err-grow.ensures.1,
   seen_kept (the_view c.self.inside) c.args.self.now c.self.view_is _ c.in_err-grow.ensures.2,

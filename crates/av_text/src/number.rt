@@ -1,0 +1,187 @@
+//! Numbers in digits of base 10 or 16, without a leading zero.
+
+ghost use Rattle.std.specs.Prelude.{◌≡◌, ℕ, ◌<◌, ◌≤◌, option_map, IfSome, IfNone};
+ghost use Rattle.std.specs.Fmt.{decimal as digits_of};
+ghost use Rattle.av_text.specs.Number.{IsNumberIn, worth, starts_number, digits_from, number_from, number_at, decimal_at, process_at, len_at, address_at, entry_at};
+ghost use Rattle.av_text.specs.Word.{Adds, field};
+
+use crate::bytes::Bytes;
+use crate::word::after;
+use itoa::Buffer;
+use std::alloc::AllocError;
+
+/// What a digit is worth, 0 to 9 or a to f; 255 where the byte is none.
+#[inline]
+#[tactic(auto, unfolding(crate::specs::Number::worth))]
+fn digit_worth(byte: u8) -> u8
+    ensures { result ≡ worth byte }
+{
+    let digit = byte.wrapping_sub(b'0');
+    let letter = byte.wrapping_sub(b'a');
+    let above = if letter < 6 { letter + 10 } else { 255 };
+    if digit < 10 { digit } else { above }
+}
+
+/// What each byte is worth.
+static WORTHS: [u8; 256] = [
+    255, 255, 255, 255, 255, 255, 255, 255, 255, 255, 255, 255, 255, 255, 255, 255, 255, 255, 255,
+    255, 255, 255, 255, 255, 255, 255, 255, 255, 255, 255, 255, 255, 255, 255, 255, 255, 255, 255,
+    255, 255, 255, 255, 255, 255, 255, 255, 255, 255, 0, 1, 2, 3, 4, 5, 6, 7, 8, 9, 255, 255, 255,
+    255, 255, 255, 255, 255, 255, 255, 255, 255, 255, 255, 255, 255, 255, 255, 255, 255, 255, 255,
+    255, 255, 255, 255, 255, 255, 255, 255, 255, 255, 255, 255, 255, 255, 255, 255, 255, 10, 11,
+    12, 13, 14, 15, 255, 255, 255, 255, 255, 255, 255, 255, 255, 255, 255, 255, 255, 255, 255, 255,
+    255, 255, 255, 255, 255, 255, 255, 255, 255, 255, 255, 255, 255, 255, 255, 255, 255, 255, 255,
+    255, 255, 255, 255, 255, 255, 255, 255, 255, 255, 255, 255, 255, 255, 255, 255, 255, 255, 255,
+    255, 255, 255, 255, 255, 255, 255, 255, 255, 255, 255, 255, 255, 255, 255, 255, 255, 255, 255,
+    255, 255, 255, 255, 255, 255, 255, 255, 255, 255, 255, 255, 255, 255, 255, 255, 255, 255, 255,
+    255, 255, 255, 255, 255, 255, 255, 255, 255, 255, 255, 255, 255, 255, 255, 255, 255, 255, 255,
+    255, 255, 255, 255, 255, 255, 255, 255, 255, 255, 255, 255, 255, 255, 255, 255, 255, 255, 255,
+    255, 255, 255, 255, 255, 255, 255, 255, 255, 255, 255, 255, 255, 255, 255, 255, 255, 255, 255,
+    255, 255, 255, 255,
+];
+
+/// The same, by the table: a third of the steps where bytes come one by one.
+#[inline(always)]
+fn table_worth(byte: u8) -> u8
+    ensures { result ≡ worth byte }
+{
+    WORTHS[byte as usize]
+}
+
+/// The same, by the table or by arithmetic.
+#[inline(always)]
+pub fn worth_by(by_table: bool, byte: u8) -> u8
+    ensures { result ≡ worth byte }
+{
+    if by_table {
+        table_worth(byte)
+    } else {
+        digit_worth(byte)
+    }
+}
+
+/// Whether a number of this base begins here: with a digit, and with no zero before another one.
+#[inline(always)]
+#[tactic(auto, unfolding(crate::specs::Number::starts_number))]
+fn starts(bytes: &[u8], base: u8) -> bool
+    ensures { result ≡ starts_number base bytes.now }
+{
+    match bytes {
+        [] => false,
+        [only] => table_worth(*only) < base,
+        [first, second, ..] => {
+            table_worth(*first) < base && (*first != b'0' || base <= table_worth(*second))
+        }
+    }
+}
+
+/// The number that the first digits are, below 2^64, and the rest.
+#[inline(always)]
+fn digits(bytes: &[u8], base: u8) -> Option<(u64, &[u8])>
+    ensures { option_map (λ x. (x.0, x.1.now)) result ≡ digits_from base 0 bytes.now }
+{
+    let mut value = 0u64;
+    let mut rest = bytes;
+    while let [first, tail @ ..] = rest {
+        let digit = table_worth(*first);
+        if base <= digit {
+            return Some((value, rest));
+        }
+        value = value
+            .checked_mul(u64::from(base))?
+            .checked_add(u64::from(digit))?;
+        rest = tail;
+    }
+    Some((value, rest))
+}
+
+/// The number in front of the bytes, and the rest.
+#[inline(always)]
+#[tactic(auto, unfolding(crate::specs::Number::number_from))]
+fn number(bytes: &[u8], base: u8) -> Option<(u64, &[u8])>
+    ensures { option_map (λ x. (x.0, x.1.now)) result ≡ number_from base bytes.now }
+{
+    if starts(bytes, base) {
+        digits(bytes, base)
+    } else {
+        None
+    }
+}
+
+/// The number that a word is: decimal digits without a leading zero, from `low` to `high`.
+pub fn number_in(word: &[u8], low: u64, high: u64) -> Option<u64>
+    // What is read is in range, and the word is its digits.
+    ensures found { IfSome result (λ n. (word.now ≡ digits_of n) × IsNumberIn low high n) }
+    // Nothing is read only if the word is no number in range.
+    ensures none { IfNone result ((n : ℕ) → IsNumberIn low high n → word.now ≡ digits_of n → ⊥) }
+{
+    let (n, rest) = number(word, 10)?;
+    if rest.is_empty() && low <= n && n <= high {
+        Some(n)
+    } else {
+        None
+    }
+}
+
+/// A decimal number from `low` to `high` after a space, and the rest.
+#[tactic(auto, unfolding(crate::specs::Number::number_at, crate::specs::Number::decimal_at))]
+pub fn decimal(bytes: &[u8], low: u64, high: u64) -> Option<(u64, &[u8])>
+    ensures value { option_map (λ x. (x.0, x.1.now)) result ≡ decimal_at low high bytes.now }
+    ensures bound { IfSome result (λ x. (low ≤ x.0) × (x.0 ≤ high)) }
+{
+    let (n, rest) = number(after(bytes, b" ")?, 10)?;
+    if low <= n && n <= high {
+        Some((n, rest))
+    } else {
+        None
+    }
+}
+
+/// A process number, and the rest.
+#[inline]
+pub fn process(bytes: &[u8]) -> Option<(u16, &[u8])>
+    ensures { option_map (λ x. (x.0, x.1.now)) result ≡ process_at bytes.now }
+{
+    let (n, rest) = decimal(bytes, 1, 32767)?;
+    Some((n as u16, rest))
+}
+
+/// A length, and the rest.
+pub fn len(bytes: &[u8]) -> Option<(u64, &[u8])>
+    ensures { option_map (λ x. (x.0, x.1.now)) result ≡ len_at bytes.now }
+{
+    decimal(bytes, 0, u64::MAX)
+}
+
+/// An address, and the rest.
+#[tactic(auto, unfolding(crate::specs::Number::number_at))]
+pub fn address(bytes: &[u8]) -> Option<(u64, &[u8])>
+    ensures { option_map (λ x. (x.0, x.1.now)) result ≡ address_at bytes.now }
+{
+    number(after(bytes, b" ")?, 16)
+}
+
+/// A process number and an address, and the rest.
+#[tactic(auto, unfolding(crate::specs::Word::both))]
+pub fn entry(bytes: &[u8]) -> Option<((u16, u64), &[u8])>
+    ensures { option_map (λ x. (x.0, x.1.now)) result ≡ entry_at bytes.now }
+{
+    let (process, rest) = process(bytes)?;
+    let (address, rest) = address(rest)?;
+    Some(((process, address), rest))
+}
+
+/// Adds a number in decimal digits.
+pub fn add_decimal(text: &mut Bytes, n: u64) -> Result<(), AllocError>
+    ensures { Adds result text.old text.new (digits_of n) }
+{
+    text.append(Buffer::new().format(n).as_bytes())
+}
+
+/// Adds a space and a number.
+pub fn add_number(text: &mut Bytes, n: u64) -> Result<(), AllocError>
+    ensures { Adds result text.old text.new (field (digits_of n)) }
+{
+    text.append(b" ")?;
+    add_decimal(text, n)
+}

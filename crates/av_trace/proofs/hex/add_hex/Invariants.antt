@@ -1,8 +1,0 @@
-use Rattle.av_trace.proofs.HexLaws.{IsWritten}
-use Rattle.av_trace.proofs.hex.add_hex.Given as goal
-
-abbrev pub invariant-loop-rest : goal.invariant-loop-rest
-invariant-loop-rest l = IsWritten l.n l.rest l.at l.digits
-
-abbrev pub decreases-loop-rest : goal.decreases-loop-rest
-decreases-loop-rest l = l.rest
