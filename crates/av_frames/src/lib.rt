@@ -143,7 +143,7 @@ impl Frames {
         self.homes[frame as usize] = home;
     }
 
-    /// Whether the frame's bytes may differ from those in its slot.
+    /// Whether the frame's bytes may differ from those in its slot. (For swap: not asked yet.)
     pub fn dirty(&self, frame: u32) -> bool
         requires { frame < (seen self.now).count }
         ensures { result ≡ (seen self.now).dirty frame }
@@ -151,7 +151,7 @@ impl Frames {
         self.dirty[frame as usize]
     }
 
-    /// Sets whether they may differ.
+    /// Sets whether they may differ. (For swap, as all that follows on slots.)
     pub fn set_dirty(&mut self, frame: u32, dirty: bool)
         requires { frame < (seen self.old).count }
         ensures { seen self.new ≡ with_dirty frame dirty (seen self.old) }
@@ -230,7 +230,7 @@ impl Frames {
         self.bytes.put(frame as usize, [0; SIZE]);
     }
 
-    /// Makes a frame's bytes those of a page, as it was read from a device.
+    /// Makes a frame's bytes those of a page, as it was read from a device. (For swap.)
     pub fn load(&mut self, frame: u32, page: &[u8])
         requires in_range { frame < (seen self.old).count }
         requires long { length page.now ≡ page_size }
