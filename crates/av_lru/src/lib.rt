@@ -1,5 +1,8 @@
 //! The LRU lists: the frames in use that reclaim takes last (active) and those that it looks at
-//! first (inactive).
+//! first (inactive). A layer for swap: no command calls it yet.
+//!
+//! Proved: each list with its order after each call; no frame is in a list twice or in both; what
+//! is read from a tail on is the end of the list. Tests stand in `av_tests`.
 #![tactic(auto)]
 
 ghost use Rattle.std.specs.Prelude.{◌≡◌, ◌≢◌, ◌⊎◌, ℕ, ◌+◌, ◌-◌, ◌<◌, ◌≤◌, ◌^◌, [], ◌∷◌, ◌++◌, length, slice_index, IfOk, true, false, Some, None, nat_lt, replicate, take, reverse, vec_capacity, if◌then◌else◌};

@@ -117,7 +117,7 @@ ChoosesSlot m closing l e slots slots' =
 
 -- ---- both
 
--- what is free before and after one event, while that area, if any, is closing
+-- what is free before and after one event, while that swap area, if any, is closing
 pub record Chooses (m : Setting) (closing : Option ℕ) (l : Ledger) (e : Event) (free free' : Free)
     : Type 0 where
   pub frames : ChoosesFrame m l e free.frames free'.frames

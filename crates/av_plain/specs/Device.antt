@@ -4,14 +4,14 @@ use Rattle.av_swapdev.specs.declared.header.HeaderErr.{HeaderErr}
 use Rattle.av_swapdev.specs.Header.{Layout, header_of}
 use Rattle.av_plain.specs.Ledger.{Setting}
 
--- the number of pages of each area that is attached; what the pages hold, where that is told; and
+-- the number of pages of each swap area that is attached; what the pages hold, where that is told; and
 -- how often it failed
 pub record Device : Type 0 where
   pub sizes : ℕ → Option ℕ
   pub pages : Option (ℕ → ℕ → List ℕ)
   pub faults : ℕ
 
--- the device that has no area, and so never fails
+-- the device that has no swap area, and so never fails
 abbrev pub no_device : Device
 no_device = record { sizes = λ k. None; pages = Some (λ k page. []); faults = 0 }
 
@@ -20,7 +20,7 @@ abbrev pub without_fault : Result Layout HeaderErr → Option Layout
 without_fault (Ok layout) = Some layout
 without_fault (Err fault) = None
 
--- page 0 of each area, where the pages are told
+-- page 0 of each swap area, where the pages are told
 abbrev pub first_pages : Device → Option (ℕ → List ℕ)
 first_pages d = option_map (λ told k. told k 0) d.pages
 
@@ -34,13 +34,13 @@ headers_of d =
 abbrev pub setting_of : ℕ → Device → Setting
 setting_of frames d = record { frames = frames; sizes = d.sizes; headers = headers_of d }
 
--- one device at two times: its areas have the sizes that they had, and page 0 of each, where pages
--- are told, is as it was; its count of faults never falls
+-- one device at two times: its swap areas have the sizes that they had, and page 0 of each, where
+-- pages are told, is as it was; its count of faults never falls
 pub record IsSameDevice (old new : Device) : Type 0 where
   pub sizes : new.sizes ≡ old.sizes
   pub first : first_pages new ≡ first_pages old
   pub faults : old.faults ≤ new.faults
 
--- no area is attached
+-- no swap area is attached
 abbrev pub HasNoDevice : Setting → Type 0
 HasNoDevice m = (k : ℕ) → m.sizes k ≡ None

@@ -59,8 +59,8 @@ abbrev pub is_pinned : Option ℕ → ℕ → Bool
 is_pinned None f = false
 is_pinned (Some pinned) f = pinned == f
 
--- In an access that frame is left alone, and no area is closing. The memories are at hand here, for
--- the frames that a locked or a merged page will keep.
+-- In an access that frame is left alone, and no swap area is closing. The memories are at hand
+-- here, for the frames that a locked or a merged page will keep.
 abbrev pub sparing : World → Sparing
 sparing w l pinned = record { frame = is_pinned pinned; closing = None }
 

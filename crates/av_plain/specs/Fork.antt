@@ -61,8 +61,7 @@ abbrev pub own_of_child : Anons → Option ℕ → ℕ
 own_of_child anons None = anons.next
 own_of_child anons (Some v) = v
 
--- the member has the parent's chain then; a new one is below the parent's own, which is its chain's
--- last but one
+-- the member has the parent's chain then; a new one is below the parent's own
 abbrev pub with_child : ℕ → Option ℕ → Anons → Anons
 with_child own None anons = record {
   next = suc anons.next;

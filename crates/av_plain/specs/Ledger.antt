@@ -41,7 +41,7 @@ pub record Cached : Type 0 where
   pub frame : ℕ
   pub stale : Bool
 
--- an area that is on: its usable slots and bad pages
+-- a swap area that is on: its usable slots and bad pages
 pub record SwapArea : Type 0 where
   pub slots : ℕ
   pub bad : ℕ
@@ -148,7 +148,7 @@ is_unmapped l (Some f) = map_count l f == 0
 abbrev pub is_orphan : Ledger → Slot → Bool
 is_orphan l s = is_unmapped l (frame_at l s) && not (in_flight l s) && slot_entries l s == 0
 
--- ---- slots of areas that are on
+-- ---- slots of swap areas that are on
 
 -- the number of an area's pages, 0 where none is attached
 abbrev pub size_of : Setting → ℕ → ℕ
@@ -172,7 +172,7 @@ may_be_slot s (Some headers) = is_header_slot s (headers s.area)
 abbrev pub is_usable : Setting → Slot → Bool
 is_usable m s = may_be_slot s m.headers
 
--- a slot of an area that is on, which nothing names
+-- a slot of a swap area that is on, which nothing names
 abbrev pub is_free_slot : Setting → Ledger → Slot → Bool
 is_free_slot m l s =
     is_on l s.area && nat_lt 0 s.page && nat_lt s.page (size_of m s.area)
@@ -188,12 +188,12 @@ slots_in_use m l k =
 abbrev pub free_slots : Setting → Ledger → ℕ × SwapArea → ℕ
 free_slots m l a = a.1.slots - length (slots_in_use m l a.0)
 
--- whether an area is another than the one that a swapoff is closing
+-- whether a swap area is another than the one that a swapoff is closing
 abbrev pub is_open : Option ℕ → ℕ → Bool
 is_open None k = true
 is_open (Some closing) k = not (k == closing)
 
--- no slot is free of an area that is on and isn't closing
+-- no slot is free of a swap area that is on and isn't closing
 abbrev pub no_slot : Setting → Option ℕ → Ledger → Bool
 no_slot m closing l = list_all (λ a. not (is_open closing a.0) || free_slots m l a == 0) l.on
 

@@ -40,7 +40,7 @@ fails notes = how_many is_fail notes
 
 -- ---- a frame goes to its slot
 
--- what a pass leaves alone: some frames, and the area that a swapoff is closing
+-- what a pass leaves alone: some frames, and the swap area that a swapoff is closing
 pub record Spared : Type 0 where
   pub frame : ℕ → Bool
   pub closing : Option ℕ

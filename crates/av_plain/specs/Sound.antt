@@ -82,7 +82,7 @@ AtPages w l = (p page : ℕ) → is_some (entry l (p, page)) ≡ true → is_som
 abbrev pub count : Ledger → Slot → ℕ
 count l s = slots l s + slot_entries l s
 
--- a slot of an area that is on, whether in use or not
+-- a slot of a swap area that is on, whether in use or not
 abbrev pub is_there : Setting → Ledger → Slot → Bool
 is_there m l s =
     is_on l s.area && nat_lt 0 s.page && nat_lt s.page (size_of m s.area) && is_usable m s
@@ -91,7 +91,7 @@ is_there m l s =
 abbrev pub AreThere : Setting → Ledger → Type 0
 AreThere m l = (s : Slot) → 0 < count l s → is_there m l s ≡ true
 
--- the areas that are on rise, and none has more slots in use than it has slots
+-- the swap areas that are on rise, and none has more slots in use than it has slots
 pub record AreasFit (m : Setting) (l : Ledger) : Type 0 where
   pub rising : T (is_sorted nat_cmp l.on)
   pub fit : (k : ℕ) → IfSome (find nat_cmp k l.on)

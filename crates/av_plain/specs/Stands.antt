@@ -165,7 +165,7 @@ pub record BytesStand (v : View) (device : Device) (w : World) (l : Ledger) : Ty
 
 -- ---- the headers
 
--- each area that is on has the numbers of its header, where page 0 of the areas is told
+-- each swap area that is on has the numbers of its header, where page 0 of these is told
 abbrev pub HeadersStand : Setting → Ledger → Type 0
 HeadersStand m l = (k : ℕ) → IfSome (find nat_cmp k l.on)
     (λ area. IfSome m.headers (λ headers. IsSomeAnd (headers k) (HasNumbers area)))

@@ -8,7 +8,7 @@
 //! not meet. Of the anon_vmas: a call makes none but `prepare` and `fork`, and no call changes root
 //! or parent of one; those that are left are those that an area is linked to, and there is chain
 //! order. A fork goes area by area, by rising address, and each sees what the earlier ones left.
-//! Not proved: how much time a call takes. Tests stand in `av_tests`.
+//! Not proved: how much time a call takes. Each trace that maps, forks or moves runs it.
 #![tactic(auto)]
 
 mod fork;

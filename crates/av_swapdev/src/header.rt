@@ -34,7 +34,8 @@ pub enum Order {
     Big,
 }
 
-/// An area: how many pages it has, with the header's; how many of them are slots; how many are bad.
+/// A swap area: how many pages it has, with the header's; how many of them are slots; how many are
+/// bad.
 #[derive(Clone, Copy, Drop, Debug, PartialEq, Eq)]
 pub struct Header {
     pub pages: u32,

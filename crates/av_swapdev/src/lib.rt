@@ -1,4 +1,5 @@
-//! Devices with swap areas, and the header of an area.
+//! Devices with swap areas, and the header of a swap area. A layer for swap: no command calls it
+//! yet.
 //!
 //! Proved: what a call of a device reads and writes, which pages change and which stay, and that
 //! each failure is counted; of the device in memory also which calls fail, exactly; of the device

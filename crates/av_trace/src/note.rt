@@ -25,8 +25,8 @@ pub enum Cause {
 
 /// What happened to an entry, a frame or a slot. Each is printed as a line of its own.
 ///
-/// Today's commands give `Zeroed` and `New` alone. The others are declared ahead of the commands
-/// that give them: fork, swap and reclaim.
+/// Today's commands give `Zeroed`, `New` and `Copied`. The others are declared ahead of the
+/// commands that give them: swap and reclaim.
 #[derive(Clone, Copy, Drop, Debug, PartialEq, Eq)]
 pub enum Note {
     Zeroed {
