@@ -1,6 +1,6 @@
 ghost use Rattle.std.specs.Prelude.{◌≡◌, ℕ, ◌+◌, ◌<◌, ◌≤◌, length, slice_index_or, HoldsAt, MatchBool};
 ghost use Rattle.av_pagetable.specs.Table.{group_size};
-ghost use Rattle.av_pagetable.specs.Dir.{IsWhole};
+ghost use Rattle.av_pagetable.specs.Dir.{IsFullGroup};
 ghost use Rattle.av_pagetable.specs.declared.pte.Pte.{Pte};
 
 use crate::level::Level;
@@ -17,7 +17,7 @@ use std::marker::Model;
 #[derive(Drop)]
 pub struct Dir<C: Level> {
     alloc: Global,
-    // Parts go from the front where a process ends, and come at the end where it starts.
+    // A queue: a range is taken out from its lowest page on, so parts go from the front.
     parts: VecDeque<(u16, C)>,
 }
 
@@ -331,8 +331,8 @@ impl Dir<Pte> {
 #[inline]
 fn is_whole(parts: &[(u16, Pte)], start: usize, first: u64) -> bool
     ensures { MatchBool result
-        (IsWhole first parts.now start)
-        (IsWhole first parts.now start → ⊥) }
+        (IsFullGroup first parts.now start)
+        (IsFullGroup first parts.now start → ⊥) }
 {
     if parts.len() < GROUP || start > parts.len() - GROUP {
         return false;
