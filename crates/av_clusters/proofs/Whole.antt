@@ -6,7 +6,7 @@ use Rattle.std.proofs.lemmas.List.{get_or_past}
 use Rattle.std.proofs.lemmas.List.Sums.{sum_by-set, sum_by-cons, sum_by_push, count_by-le-length}
 use Rattle.av_clusters.specs.declared.Page.{Page}
 use Rattle.av_clusters.specs.declared.Page.TheVariants.{Unusable, Free, Taken}
-use Rattle.av_clusters.specs.Clusters.{IsWhole, Fills, itself, is_free, is_taken, page_at, lowest, has_taken, start_of, end_of, unless, AreFull, Takes, Returns}
+use Rattle.av_clusters.specs.Clusters.{IsWhole, Fills, itself, is_free, is_taken, page_at, lowest, has_taken, start_of, end_of, unless, AreFull, Takes, Returns, Slots, give_slot, with_free_cluster}
 use Rattle.av_clusters.proofs.Pages.{found, none_free, none_taken, free_below, taken_below, taken_not_free, was_free}
 
 -- ---- the number of free pages
@@ -29,6 +29,18 @@ takes pages p free = let was = was_free pages p free in (was.0, was.1, refl, one
 
 pub returns_one : (pages : List Page) (p : ℕ) → is_taken (page_at pages p) ≡ true → Returns pages p (set pages p Free)
 returns_one pages p taken = (refl, one_more pages p taken)
+
+-- a slot comes back to a cluster that has another taken one, or none
+pub still_used : (t : Slots) (p : ℕ) → has_taken (set t.pages p Free) (p / 256) ≡ true → record t { pages = set t.pages p Free } ≡ give_slot t p
+still_used t p some =
+    let t' : Slots = record t { pages = set t.pages p Free } in
+    ap (λ b. cond b t' (with_free_cluster t' (p / 256))) (sym some)
+
+pub emptied : (t : Slots) (p : ℕ) → has_taken (set t.pages p Free) (p / 256) ≡ false
+    → with_free_cluster (record t { pages = set t.pages p Free }) (p / 256) ≡ give_slot t p
+emptied t p none =
+    let t' : Slots = record t { pages = set t.pages p Free } in
+    ap (λ b. cond b t' (with_free_cluster t' (p / 256))) (sym none)
 
 -- ---- the flags
 
