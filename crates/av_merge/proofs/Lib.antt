@@ -1,3 +1,4 @@
+pub mod Beside
 pub mod ChangesByPage
 pub mod ChangesOfParts
 pub mod ChangesReach

@@ -1,5 +1,5 @@
 -- Where areas move or grow it does not matter which of two lengths of chains is asked, where they say the same of the areas that there are.
-use Rattle.std.proofs.Common.{◌≡◌, ℕ, suc, ◌+◌, Option, Some, None, refl, sym, ap, subst, ◌∙◌}
+use Rattle.std.proofs.Common.{◌≡◌, ℕ, suc, Option, Some, None, refl, sym, ap, subst, ◌∙◌}
 use Rattle.av_vma.specs.declared.area.Area.{Area}
 use Rattle.av_vma.specs.Join.{first_of}
 use Rattle.av_vma.specs.Mremap.{after_grow, after_move, grown_to}
