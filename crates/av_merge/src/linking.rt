@@ -145,6 +145,9 @@ fn link(
         ≡ with_at number (Some area) (area_of areas.old) k }
     ensures kin { OnOk result (StayKin areas.old anons.old areas.new anons.new) }
 {
+    if area.anon.is_none() {
+        return Ok(());
+    }
     let result = anons.clone_chain(areas, other, number);
     areas.change(number, area);
     result
