@@ -12,7 +12,7 @@ use Rattle.av_chain.specs.declared.node.Place.{Place}
 use Rattle.av_chain.specs.Nodes.{Block, same_ptr, IsApart, has_place, found, without_node}
 use Rattle.av_chain.specs.Rows.{key_of, sides_of, with_before, with_after, node_changed, place_changed, leads_on, leads_back, Reaches, row, at_block, head_of, last_of, head_with, head_without, IsThreaded}
 use Rattle.av_chain.specs.Links.{Link, chain_of, AreOnce}
-use Rattle.av_chain.specs.Lists.{links_of, IsWhole}
+use Rattle.av_chain.specs.Lists.{links_of, AreThreaded}
 use Rattle.av_chain.proofs.Altered.{either, cond_lift, changed_append, changed_avoids, reaches_avoids, removed_changed, apart_changed, has_changed, reaches_changed, place_cond}
 use Rattle.av_chain.proofs.Runs.{last_head, end_reaches, reaches_front, has_past}
 use Rattle.av_chain.proofs.Threads.{Keeps, KeepsSides, keeps_after, keeps_before, number_eq, same_number, reaches_row, thread_other, thread_grow, thread_shrink, before_reaches, after_reaches, found_row, split_at}
@@ -23,7 +23,7 @@ thread_heads : (w : Way) (heads heads' : ℕ → Option Head) (bs : List Block) 
 thread_heads w heads heads' bs e t = record { run = t.run; head = λ k. e k ∙ t.head k }
 
 pub whole_heads : (areas areas' anons anons' : ℕ → Option Head) (bs : List Block) → ((k : ℕ) → areas' k ≡ areas k) → ((k : ℕ) → anons' k ≡ anons k) →
-    IsWhole areas anons bs → IsWhole areas' anons' bs
+    AreThreaded areas anons bs → AreThreaded areas' anons' bs
 whole_heads areas areas' anons anons' bs ea ev t =
     record { areas_lead = thread_heads Area areas areas' bs ea t.areas_lead; anons_lead = thread_heads Anon anons anons' bs ev t.anons_lead; once = t.once }
 
@@ -131,7 +131,7 @@ once_removed p (b ∷ bs) o = elim (same_ptr p b.0) as (λ y. AreOnce (links_of 
 
 -- ---- a link is made
 
-module _ (areas anons : ℕ → Option Head) (bs : List Block) (p : Ptr) (area anon : ℕ) (t : IsWhole areas anons bs) where
+module _ (areas anons : ℕ → Option Head) (bs : List Block) (p : Ptr) (area anon : ℕ) (t : AreThreaded areas anons bs) where
   abbrev pub new_node : Node
   new_node = record {
     area = area;
@@ -177,7 +177,7 @@ module _ (areas anons : ℕ → Option Head) (bs : List Block) (p : Ptr) (area a
     links_made = links_on Anon (last_of (anons anon)) at bs1 ∙ links_on Area (last_of (areas area)) at (bs ++ b ∷ []) ∙ links_append bs (b ∷ [])
 
     pub whole_made : is_in anon (chain_of (links_of bs) area) ≡ false
-        → IsWhole (with_at area (Some (head_with (at_block b) (areas area))) areas) (with_at anon (Some (head_with (at_block b) (anons anon))) anons) bs2
+        → AreThreaded (with_at area (Some (head_with (at_block b) (areas area))) areas) (with_at anon (Some (head_with (at_block b) (anons anon))) anons) bs2
     whole_made n = record {
       areas_lead = thread_other Area (with_at area (Some (head_with (at_block b) (areas area))) areas) bs1 (last_of (anons anon)) (with_after Anon at)
           (keeps_after Area Anon at) (λ m. refl) (thread_grow Area areas bs b d t.areas_lead refl);
@@ -232,7 +232,7 @@ head_there : (h : Option Head) (bs : List Block) (q : Ptr) → h ≡ head_of bs 
 head_there h [] q e f = cc
 head_there h (c ∷ bs) q e f = subst IsSome (sym e) refl
 
-module _ (areas anons : ℕ → Option Head) (bs : List Block) (p : Ptr) (n : Node) (d : IsApart bs) (t : IsWhole areas anons bs) (e : found p bs ≡ Some n) where
+module _ (areas anons : ℕ → Option Head) (bs : List Block) (p : Ptr) (n : Node) (d : IsApart bs) (t : AreThreaded areas anons bs) (e : found p bs ≡ Some n) where
   abbrev sa : Sides
   sa = n.in_area
 
@@ -318,5 +318,5 @@ module _ (areas anons : ℕ → Option Head) (bs : List Block) (p : Ptr) (n : No
       (without_node p (leads_back Anon q.0.after q.0.before (leads_on Anon q.0.before q.0.after cs1))))
       (λ i. (same i, key i)) (thread_shrink Anon anons cs1 p f1.0 d1 two f1.1)
 
-  pub whole_gone : IsWhole (with_at n.area (head_without sa (areas n.area)) areas) (with_at n.anon (head_without sv (anons n.anon)) anons) (without_node p cs2)
+  pub whole_gone : AreThreaded (with_at n.area (head_without sa (areas n.area)) areas) (with_at n.anon (head_without sv (anons n.anon)) anons) (without_node p cs2)
   whole_gone = record { areas_lead = areas_gone; anons_lead = anons_gone; once = subst AreOnce (sym links_gone) (once_removed p bs t.once) }
