@@ -159,7 +159,8 @@ module _ {T S : Type 0} (key : T → ℕ) (unit : S) (op : S → S → S) (of : 
       }
 
   -- a side of a node is another tree
-  changed_left : {Put : Type 0} (s t u : Store T S) (k : Link S) (v : Stored T S) (new : Option (Link S)) (b : Bool) (xs : List T) (f g : ℕ → ℕ) (lower higher : ℕ) →
+  changed_left : {Put : Type 0} (s t u : Store T S) (k : Link S) (v : Stored T S) (new : Option (Link S)) (b : Bool) (xs : List T) (f g : ℕ → ℕ)
+      (lower higher : ℕ) →
       IsOpened key unit op of s k v → IsTree key unit op of s t new xs f g → ((j : ℕ) → is k.number j + (f j + count j (tree_at s v.right)) ≤ 1) →
       u ≡ with_at k.number (side_put Left new (t k.number)) t → height_of v.left ≤ height_of new + lower → height_of new ≤ height_of v.left + higher →
       lower + higher ≤ 1 → (b ≡ false → t k.number ≡ Some v → v.left ≡ new) →
@@ -188,7 +189,8 @@ module _ {T S : Type 0} (key : T → ℕ) (unit : S) (op : S → S → S) (of : 
         other = λ d e. absurd (differs d here (ap (λ (i : Stored T S). i.left) (same_node u n v w (e ∙ o.root.stored) above.stored)));
       }
 
-  changed_right : {Put : Type 0} (s t u : Store T S) (k : Link S) (v : Stored T S) (new : Option (Link S)) (b : Bool) (xs : List T) (f g : ℕ → ℕ) (lower higher : ℕ) →
+  changed_right : {Put : Type 0} (s t u : Store T S) (k : Link S) (v : Stored T S) (new : Option (Link S)) (b : Bool) (xs : List T) (f g : ℕ → ℕ)
+      (lower higher : ℕ) →
       IsOpened key unit op of s k v → IsTree key unit op of s t new xs f g → ((j : ℕ) → is k.number j + (f j + count j (tree_at s v.left)) ≤ 1) →
       u ≡ with_at k.number (side_put Right new (t k.number)) t → height_of v.right ≤ height_of new + lower → height_of new ≤ height_of v.right + higher →
       lower + higher ≤ 1 → (b ≡ false → t k.number ≡ Some v → v.right ≡ new) →
@@ -218,7 +220,8 @@ module _ {T S : Type 0} (key : T → ℕ) (unit : S) (op : S → S → S) (of : 
         other = λ d e. absurd (differs d here (ap (λ (i : Stored T S). i.right) (same_node u n v w (e ∙ o.root.stored) above.stored)));
       }
 
-  changed : {Put : Type 0} (side : Side) (s t u : Store T S) (k : Link S) (v : Stored T S) (new : Option (Link S)) (b : Bool) (xs : List T) (f g : ℕ → ℕ) (lower higher : ℕ) →
+  changed : {Put : Type 0} (side : Side) (s t u : Store T S) (k : Link S) (v : Stored T S) (new : Option (Link S)) (b : Bool) (xs : List T) (f g : ℕ → ℕ)
+      (lower higher : ℕ) →
       IsOpened key unit op of s k v → IsTree key unit op of s t new xs f g → ((j : ℕ) → is k.number j + (f j + count_at s (on_other side v) j) ≤ 1) →
       u ≡ with_at k.number (side_put side new (t k.number)) t → height_of (on_side side v) ≤ height_of new + lower →
       height_of new ≤ height_of (on_side side v) + higher → lower + higher ≤ 1 → (b ≡ false → t k.number ≡ Some v → on_side side v ≡ new) →
@@ -444,14 +447,16 @@ module _ {T S : Type 0} (key : T → ℕ) (unit : S) (op : S → S → S) (of : 
         IsDoneBelow key unit op of Asked list numbers gone lower higher Put s u n b
     pub settled_entry : (u : Store T S) (b : Bool) → IsSideSettled key unit op of side t u n below b → entry_below (u n) ≡ entry_below (s n)
 
-  done_child : {Own : Type 0} (side : Side) (s t : Store T S) (k : Link S) (v : Stored T S) (below : ℕ) (c : Bool) → (m : IsChild key unit op of laws side v below) →
+  done_child : {Own : Type 0} (side : Side) (s t : Store T S) (k : Link S) (v : Stored T S) (below : ℕ) (c : Bool) →
+      (m : IsChild key unit op of laws side v below) →
       GoesDown key unit op of laws Asked list numbers side s k v → IsDoneBelow key unit op of Asked list numbers gone lower higher Own s t below c →
       IsChanged key unit op of s t m.link c (list (entries_at s (on_side side v))) (numbers (count_at s (on_side side v))) gone lower higher Own
   done_child {Own = Own} side s t k v below c m p done =
       subst (λ l. IsChanged key unit op of s t m.link c (list (entries_at s l)) (numbers (count_at s l)) gone lower higher Own) (sym m.is)
       (done m.link m.number (subst Asked m.is p.asked))
 
-  done_settle : {Own : Type 0} (side : Side) (s t u : Store T S) (k : Link S) (v : Stored T S) (below : ℕ) (c b : Bool) (m : IsChild key unit op of laws side v below) →
+  done_settle : {Own : Type 0} (side : Side) (s t u : Store T S) (k : Link S) (v : Stored T S) (below : ℕ) (c b : Bool)
+      (m : IsChild key unit op of laws side v below) →
       GoesDown key unit op of laws Asked list numbers side s k v → IsDoneBelow key unit op of Asked list numbers gone lower higher Own s t below c →
       (st : IsSideSettled key unit op of side t u k.number below b) →
       IsDone key unit op of laws s st.between m.link st.link (list (entries_at s (on_side side v))) (numbers (count_at s (on_side side v))) gone lower higher
@@ -483,7 +488,8 @@ module _ {T S : Type 0} (key : T → ℕ) (unit : S) (op : S → S → S) (of : 
       put_below side s st.between u k v (Some st.link) b few p d.tree st.put (omega arith) (omega arith) (λ z i. st.stays z v i)
       (λ z i. st.differs z v i (ap number_of m.is ∙ ap Some m.number))
 
-  step_entry : {Own : Type 0} (side : Side) (s t u : Store T S) (k : Link S) (v : Stored T S) (below : ℕ) (c b : Bool) (m : IsChild key unit op of laws side v below) →
+  step_entry : {Own : Type 0} (side : Side) (s t u : Store T S) (k : Link S) (v : Stored T S) (below : ℕ) (c b : Bool)
+      (m : IsChild key unit op of laws side v below) →
       GoesDown key unit op of laws Asked list numbers side s k v → IsDoneBelow key unit op of Asked list numbers gone lower higher Own s t below c →
       IsSideSettled key unit op of side t u k.number below b → entry_below (u k.number) ≡ entry_below (s k.number)
   step_entry side s t u k v below c b m p done st =
@@ -615,7 +621,8 @@ module _ {T S : Type 0} (key : T → ℕ) (unit : S) (op : S → S → S) (of : 
       (replaced_down side s n w.node x w.stored (on w.node w.stored)) b (λ h. no_key key unit op of laws s x h)
 
   -- the node itself has the key
-  replaced_node : (s u : Store T S) (n : ℕ) (v : Stored T S) (x : T) → IsBetween key unit op of s n x x → s n ≡ Some v → key x ≡ key v.entry → u ≡ with_at n (entry_put x (s n)) s →
+  replaced_node : (s u : Store T S) (n : ℕ) (v : Stored T S) (x : T) → IsBetween key unit op of s n x x → s n ≡ Some v → key x ≡ key v.entry → u ≡ with_at n
+      (entry_put x (s n)) s →
       IsReplacedBelow key unit op of s u n x true
   replaced_node s u n v x between e same at k p h =
       let o = opened_at key unit op of laws s n k v p h.held e in
@@ -986,7 +993,8 @@ module _ {T S : Type 0} (key : T → ℕ) (unit : S) (op : S → S → S) (of : 
       let high = d.done.not_higher in
       record { link = d.link; number = d.number ∙ b.number; asked = split_place s t n m x y k d.link b.asked d.done; low = omega arith }
 
-  pub split_at : (s t u : Store T S) (n m : ℕ) (x y : T) (c : Bool) → IsBetween key unit op of s n x x → IsReplacedBelow key unit op of s t n x true → IsPlacedBelow key unit op of t u n m y c →
+  pub split_at : (s t u : Store T S) (n m : ℕ) (x y : T) (c : Bool) → IsBetween key unit op of s n x x → IsReplacedBelow key unit op of s t n x true →
+      IsPlacedBelow key unit op of t u n m y c →
       IsSplitBelow key unit op of s u n m x y true
   split_at s t u n m x y c between r q k p h =
       let d = retold s t k _ _ (r k p h.has) in

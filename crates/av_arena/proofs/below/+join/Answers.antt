@@ -40,11 +40,13 @@ joined_on-joined_below-out-requires g t c κs within =
 
 -- what follows of the call below
 stepped : (g : Over) (t : ℕ) (c : joined_on-After-joined_below-out g t) → let m = g.T.Entry in
-    IsJoinStep m.key m.unit m.op m.of g.met.T.Entry.laws c.args.side (store_of c.args.arena.now) (store_of c.joined_below-out.new.arena) c.args.number c.in-Some.child
+    IsJoinStep m.key m.unit m.op m.of g.met.T.Entry.laws c.args.side (store_of c.args.arena.now) (store_of c.joined_below-out.new.arena) c.args.number
+    c.in-Some.child
     c.args.lower.now c.args.upper.now c.args.joined.now c.joined_below-out.result.0 c.joined_below-out.result.1
 stepped g t c =
     let m = g.T.Entry in
-    join_step m.key m.unit m.op m.of g.met.T.Entry.laws c.args.side _ _ c.args.number c.in-Some.child c.args.lower.now c.args.upper.now c.args.joined.now c.joined_below-out.result.0 c.joined_below-out.result.1 c.requires.join
+    join_step m.key m.unit m.op m.of g.met.T.Entry.laws c.args.side _ _ c.args.number c.in-Some.child c.args.lower.now c.args.upper.now c.args.joined.now
+    c.joined_below-out.result.0 c.joined_below-out.result.1 c.requires.join
     (sym c.child_of.ensures ∙ c.in-Some.is) c.requires.side c.joined_below-out.ensures
 
 pub joined_on-returns-then-not-changed : goal.joined_on-returns-then-not-changed

@@ -25,11 +25,13 @@ placed_on-placed_below-requires g t c κs within =
 
 -- what follows of the call below
 stepped : (g : Over) (t : ℕ) (c : placed_on-After-placed_below g t) → let m = g.T.Entry in
-    IsPlaceStep m.key m.unit m.op m.of g.met.T.Entry.laws c.args.side (store_of c.args.arena.now) (store_of c.placed_below.new.arena) c.args.number c.in-Some.child
+    IsPlaceStep m.key m.unit m.op m.of g.met.T.Entry.laws c.args.side (store_of c.args.arena.now) (store_of c.placed_below.new.arena) c.args.number
+    c.in-Some.child
     c.args.new c.args.entry.now c.placed_below.result
 stepped g t c =
     let m = g.T.Entry in
-    placed_step m.key m.unit m.op m.of g.met.T.Entry.laws c.args.side _ _ c.args.number c.in-Some.child c.args.new c.args.entry.now c.placed_below.result c.requires.place
+    placed_step m.key m.unit m.op m.of g.met.T.Entry.laws c.args.side _ _ c.args.number c.in-Some.child c.args.new c.args.entry.now c.placed_below.result
+    c.requires.place
     (sym c.child_of.ensures ∙ c.in-Some.is) c.requires.side c.placed_below.ensures
 
 pub placed_on-returns-then-not-placed_below : goal.placed_on-returns-then-not-placed_below

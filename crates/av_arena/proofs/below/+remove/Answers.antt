@@ -50,18 +50,22 @@ removed_on-removed_below-out-requires g t c κs within =
 
 -- what follows of the call below
 stepped : (g : Over) (t : ℕ) (c : removed_on-After-removed_below-out g t) → let m = g.T.Entry in
-    IsRemoveStep m.key m.unit m.op m.of g.met.T.Entry.laws c.args.side (store_of c.args.arena.now) (store_of c.removed_below-out.new.arena) c.args.number c.in-Some.child
+    IsRemoveStep m.key m.unit m.op m.of g.met.T.Entry.laws c.args.side (store_of c.args.arena.now) (store_of c.removed_below-out.new.arena) c.args.number
+    c.in-Some.child
     c.args.like.now c.removed_below-out.result.0 c.removed_below-out.result.1
 stepped g t c =
     let m = g.T.Entry in
-    removed_step m.key m.unit m.op m.of g.met.T.Entry.laws c.args.side _ _ c.args.number c.in-Some.child c.args.like.now c.removed_below-out.result.0 c.removed_below-out.result.1 c.requires.there
+    removed_step m.key m.unit m.op m.of g.met.T.Entry.laws c.args.side _ _ c.args.number c.in-Some.child c.args.like.now c.removed_below-out.result.0
+    c.removed_below-out.result.1 c.requires.there
     (sym c.child_of.ensures ∙ c.in-Some.is) c.requires.other c.requires.side c.removed_below-out.ensures.removed
 
 pub removed_on-returns-then-not-changed-clause-removed : goal.removed_on-returns-then-not-changed-clause-removed
-removed_on-returns-then-not-changed-clause-removed g t c = (stepped g t (goal.at.removed_on-returns-then-not-changed-clause-removed g t c).After-removed_below-out).same (search rules)
+removed_on-returns-then-not-changed-clause-removed g t c =
+    (stepped g t (goal.at.removed_on-returns-then-not-changed-clause-removed g t c).After-removed_below-out).same (search rules)
 
 pub removed_on-returns-then-not-changed-clause-entry : goal.removed_on-returns-then-not-changed-clause-entry
-removed_on-returns-then-not-changed-clause-entry g t c = (stepped g t (goal.at.removed_on-returns-then-not-changed-clause-entry g t c).After-removed_below-out).entry
+removed_on-returns-then-not-changed-clause-entry g t c =
+    (stepped g t (goal.at.removed_on-returns-then-not-changed-clause-entry g t c).After-removed_below-out).entry
 
 pub removed_on-settle_side-requires-clause-child : goal.removed_on-settle_side-requires-clause-child
 removed_on-settle_side-requires-clause-child g t c = (stepped g t (goal.at.removed_on-settle_side-requires-clause-child g t c).After-removed_below-out).ready
@@ -70,7 +74,9 @@ pub removed_on-settle_side-requires-clause-used : goal.removed_on-settle_side-re
 removed_on-settle_side-requires-clause-used g t c = (stepped g t (goal.at.removed_on-settle_side-requires-clause-used g t c).After-removed_below-out).used
 
 pub removed_on-returns-clause-removed : goal.removed_on-returns-clause-removed
-removed_on-returns-clause-removed g t c = (stepped g t (goal.at.removed_on-returns-clause-removed g t c).After-removed_below-out).settled _ _ c.settle_side.ensures
+removed_on-returns-clause-removed g t c =
+    (stepped g t (goal.at.removed_on-returns-clause-removed g t c).After-removed_below-out).settled _ _ c.settle_side.ensures
 
 pub removed_on-returns-clause-entry : goal.removed_on-returns-clause-entry
-removed_on-returns-clause-entry g t c = (stepped g t (goal.at.removed_on-returns-clause-entry g t c).After-removed_below-out).settled_entry _ _ c.settle_side.ensures
+removed_on-returns-clause-entry g t c =
+    (stepped g t (goal.at.removed_on-returns-clause-entry g t c).After-removed_below-out).settled_entry _ _ c.settle_side.ensures

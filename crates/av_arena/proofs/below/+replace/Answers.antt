@@ -48,15 +48,18 @@ replaced_on-replaced_below-requires g t c κs within =
 
 -- what follows of the call below
 stepped : (g : Over) (t : ℕ) (c : replaced_on-After-replaced_below g t) → let m = g.T.Entry in
-    IsReplaceStep m.key m.unit m.op m.of g.met.T.Entry.laws c.args.side (store_of c.args.arena.now) (store_of c.replaced_below.new.arena) c.args.number c.in-Some.child
+    IsReplaceStep m.key m.unit m.op m.of g.met.T.Entry.laws c.args.side (store_of c.args.arena.now) (store_of c.replaced_below.new.arena) c.args.number
+    c.in-Some.child
     c.args.entry.now c.replaced_below.result
 stepped g t c =
     let m = g.T.Entry in
-    replaced_step m.key m.unit m.op m.of g.met.T.Entry.laws c.args.side _ _ c.args.number c.in-Some.child c.args.entry.now c.replaced_below.result c.requires.key
+    replaced_step m.key m.unit m.op m.of g.met.T.Entry.laws c.args.side _ _ c.args.number c.in-Some.child c.args.entry.now c.replaced_below.result
+    c.requires.key
     (sym c.child_of.ensures ∙ c.in-Some.is) c.requires.side c.replaced_below.ensures
 
 pub replaced_on-returns-then-not-replaced_below : goal.replaced_on-returns-then-not-replaced_below
-replaced_on-returns-then-not-replaced_below g t c = (stepped g t (goal.at.replaced_on-returns-then-not-replaced_below g t c).After-replaced_below).same (search rules)
+replaced_on-returns-then-not-replaced_below g t c =
+    (stepped g t (goal.at.replaced_on-returns-then-not-replaced_below g t c).After-replaced_below).same (search rules)
 
 pub replaced_on-settle_side-requires-clause-child : goal.replaced_on-settle_side-requires-clause-child
 replaced_on-settle_side-requires-clause-child g t c = (stepped g t (goal.at.replaced_on-settle_side-requires-clause-child g t c).After-replaced_below).ready

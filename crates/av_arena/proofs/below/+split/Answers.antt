@@ -65,11 +65,13 @@ split_on-split_below-requires g t c κs within =
 
 -- what follows of the call below
 stepped : (g : Over) (t : ℕ) (c : split_on-After-split_below g t) → let m = g.T.Entry in
-    IsSplitStep m.key m.unit m.op m.of g.met.T.Entry.laws c.args.side (store_of c.args.arena.now) (store_of c.split_below.new.arena) c.args.number c.in-Some.child
+    IsSplitStep m.key m.unit m.op m.of g.met.T.Entry.laws c.args.side (store_of c.args.arena.now) (store_of c.split_below.new.arena) c.args.number
+    c.in-Some.child
     c.args.new c.args.lower.now c.args.upper.now c.split_below.result
 stepped g t c =
     let m = g.T.Entry in
-    split_step m.key m.unit m.op m.of g.met.T.Entry.laws c.args.side _ _ c.args.number c.in-Some.child c.args.new c.args.lower.now c.args.upper.now c.split_below.result c.requires.split
+    split_step m.key m.unit m.op m.of g.met.T.Entry.laws c.args.side _ _ c.args.number c.in-Some.child c.args.new c.args.lower.now c.args.upper.now
+    c.split_below.result c.requires.split
     (sym c.child_of.ensures ∙ c.in-Some.is) c.requires.side c.split_below.ensures
 
 pub split_on-returns-then-not-split_below : goal.split_on-returns-then-not-split_below

@@ -6,6 +6,7 @@ pub returns : goal.returns
 returns g c =
     let m = g.T.Entry in
     let r = c.rotate-link in
-    other_side m.key m.unit m.op m.of g.met.T.Entry.laws c.args.side (store_of c.args.arena.now) (store_of r.new.arena) (store_of c.set_side.new.self) c.args.number c.args.child
+    other_side m.key m.unit m.op m.of g.met.T.Entry.laws c.args.side (store_of c.args.arena.now) (store_of r.new.arena) (store_of c.set_side.new.self)
+    c.args.number c.args.child
     r.result r.ensures.settled c.set_side.ensures
     (λ v _ p d. other_root m.key m.unit m.op m.of g.met.T.Entry.laws c.args.side v r.result c.args.child r.ensures.other p d)

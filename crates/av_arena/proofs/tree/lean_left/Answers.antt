@@ -41,4 +41,5 @@ pub returns-clause-other : goal.returns-clause-other
 returns-clause-other g c = λ e.
     let m = g.T.Entry in
     let root = set_root m.key m.unit m.op m.of g.met.T.Entry.laws _ _ _ _ _ _ _ c.close-2.ensures.set in
-    other_left_right m.key m.unit m.op m.of g.met.T.Entry.laws _ _ _ _ _ _ _ c.requires.spot c.open-side.ensures c.in-Some.is c.open-inner.ensures (sym root ∙ e)
+    other_left_right m.key m.unit m.op m.of g.met.T.Entry.laws _ _ _ _ _ _ _ c.requires.spot c.open-side.ensures c.in-Some.is c.open-inner.ensures
+    (sym root ∙ e)

@@ -20,20 +20,24 @@ returns-in_default-clause-placed g c =
 pub placed_below-requires : goal.placed_below-requires
 placed_below-requires g c =
     let m = g.T.Entry in
-    asked_below (λ k. IsPlaceFor m.key m.unit m.op m.of (store_of c.args.arena.now) k c.args.number c.args.entry) _ _ c.in-Some.is c.requires.place c.requires.low
+    asked_below (λ k. IsPlaceFor m.key m.unit m.op m.of (store_of c.args.arena.now) k c.args.number c.args.entry) _ _ c.in-Some.is c.requires.place
+    c.requires.low
 
 -- what follows of the call below the root
 after_call : (g : Over) (c : After-placed_below g) → let m = g.T.Entry in let s = store_of c.args.arena.now in
-    IsCalled m.key m.unit m.op m.of g.met.T.Entry.laws (λ k. IsPlaceFor m.key m.unit m.op m.of s k c.args.number c.args.entry) (with_entry m.key c.args.entry) (λ f j. is c.args.number j + f j) none 0 1 s (store_of c.placed_below.new.arena)
+    IsCalled m.key m.unit m.op m.of g.met.T.Entry.laws (λ k. IsPlaceFor m.key m.unit m.op m.of s k c.args.number c.args.entry) (with_entry m.key c.args.entry)
+    (λ f j. is c.args.number j + f j) none 0 1 s (store_of c.placed_below.new.arena)
     c.args.tree c.in-Some.tree c.placed_below.result
 after_call g c =
     let m = g.T.Entry in
     let s = store_of c.args.arena.now in
-    called m.key m.unit m.op m.of g.met.T.Entry.laws (λ k. IsPlaceFor m.key m.unit m.op m.of s k c.args.number c.args.entry) (with_entry m.key c.args.entry) (λ f j. is c.args.number j + f j) none 0 1 s _ _ _ _
+    called m.key m.unit m.op m.of g.met.T.Entry.laws (λ k. IsPlaceFor m.key m.unit m.op m.of s k c.args.number c.args.entry) (with_entry m.key c.args.entry)
+    (λ f j. is c.args.number j + f j) none 0 1 s _ _ _ _
     c.in-Some.is c.requires.place c.requires.place.held c.requires.low c.placed_below.ensures
 
 pub returns-then-not-placed_below-clause-placed : goal.returns-then-not-placed_below-clause-placed
-returns-then-not-placed_below-clause-placed g c = (after_call g (goal.at.returns-then-not-placed_below-clause-placed g c).After-placed_below).same (search rules)
+returns-then-not-placed_below-clause-placed g c =
+    (after_call g (goal.at.returns-then-not-placed_below-clause-placed g c).After-placed_below).same (search rules)
 
 pub settle-requires : goal.settle-requires
 settle-requires g c = (after_call g (goal.at.settle-requires g c).After-placed_below).ready

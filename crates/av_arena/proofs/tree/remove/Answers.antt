@@ -47,16 +47,19 @@ removed_below-number-requires-clause-there g c =
 
 -- what follows of the call below the root
 after_call : (g : Over) (c : After-removed_below-number g) → let m = g.T.Entry in let s = store_of c.args.arena.now in
-    IsCalled m.key m.unit m.op m.of g.met.T.Entry.laws (λ k. HasKey m.key m.unit m.op m.of s k c.args.like) (without_key m.key (m.key c.args.like)) (λ f. f) (is c.removed_below-number.result.0) 1 0 s (store_of c.removed_below-number.new.arena)
+    IsCalled m.key m.unit m.op m.of g.met.T.Entry.laws (λ k. HasKey m.key m.unit m.op m.of s k c.args.like) (without_key m.key (m.key c.args.like)) (λ f. f)
+    (is c.removed_below-number.result.0) 1 0 s (store_of c.removed_below-number.new.arena)
     c.args.tree c.in-Some.tree c.removed_below-number.result.1
 after_call g c =
     let m = g.T.Entry in
     let s = store_of c.args.arena.now in
-    called m.key m.unit m.op m.of g.met.T.Entry.laws (λ k. HasKey m.key m.unit m.op m.of s k c.args.like) (without_key m.key (m.key c.args.like)) (λ f. f) (is c.removed_below-number.result.0) 1 0 s _ _ _ _
+    called m.key m.unit m.op m.of g.met.T.Entry.laws (λ k. HasKey m.key m.unit m.op m.of s k c.args.like) (without_key m.key (m.key c.args.like)) (λ f. f)
+    (is c.removed_below-number.result.0) 1 0 s _ _ _ _
     c.in-Some.is c.requires.there c.requires.there.held c.requires.low c.removed_below-number.ensures.removed
 
 pub returns-then-not-changed-clause-removed : goal.returns-then-not-changed-clause-removed
-returns-then-not-changed-clause-removed g c = (after_call g (goal.at.returns-then-not-changed-clause-removed g c).After-removed_below-number).same (search rules)
+returns-then-not-changed-clause-removed g c =
+    (after_call g (goal.at.returns-then-not-changed-clause-removed g c).After-removed_below-number).same (search rules)
 
 pub settle-whole-requires : goal.settle-whole-requires
 settle-whole-requires g c = (after_call g (goal.at.settle-whole-requires g c).After-removed_below-number).ready

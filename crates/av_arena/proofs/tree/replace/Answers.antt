@@ -14,16 +14,19 @@ replaced_below-requires g c =
 
 -- what follows of the call below the root
 after_call : (g : Over) (c : After-replaced_below g) → let m = g.T.Entry in let s = store_of c.args.arena.now in
-    IsCalled m.key m.unit m.op m.of g.met.T.Entry.laws (λ k. HasKey m.key m.unit m.op m.of s k c.args.entry) (λ xs. with_entry m.key c.args.entry (without_key m.key (m.key c.args.entry) xs)) (λ f. f) none 0 0 s (store_of c.replaced_below.new.arena)
+    IsCalled m.key m.unit m.op m.of g.met.T.Entry.laws (λ k. HasKey m.key m.unit m.op m.of s k c.args.entry)
+    (λ xs. with_entry m.key c.args.entry (without_key m.key (m.key c.args.entry) xs)) (λ f. f) none 0 0 s (store_of c.replaced_below.new.arena)
     c.args.tree c.in-Some.tree c.replaced_below.result
 after_call g c =
     let m = g.T.Entry in
     let s = store_of c.args.arena.now in
-    called m.key m.unit m.op m.of g.met.T.Entry.laws (λ k. HasKey m.key m.unit m.op m.of s k c.args.entry) (λ xs. with_entry m.key c.args.entry (without_key m.key (m.key c.args.entry) xs)) (λ f. f) none 0 0 s _ _ _ _
+    called m.key m.unit m.op m.of g.met.T.Entry.laws (λ k. HasKey m.key m.unit m.op m.of s k c.args.entry)
+    (λ xs. with_entry m.key c.args.entry (without_key m.key (m.key c.args.entry) xs)) (λ f. f) none 0 0 s _ _ _ _
     c.in-Some.is c.requires.there c.requires.there.held c.requires.low c.replaced_below.ensures
 
 pub returns-then-not-replaced_below-clause-replaced : goal.returns-then-not-replaced_below-clause-replaced
-returns-then-not-replaced_below-clause-replaced g c = (after_call g (goal.at.returns-then-not-replaced_below-clause-replaced g c).After-replaced_below).same (search rules)
+returns-then-not-replaced_below-clause-replaced g c =
+    (after_call g (goal.at.returns-then-not-replaced_below-clause-replaced g c).After-replaced_below).same (search rules)
 
 pub settle-requires : goal.settle-requires
 settle-requires g c = (after_call g (goal.at.settle-requires g c).After-replaced_below).ready
