@@ -1,5 +1,6 @@
-use Rattle.std.proofs.Common.{rules, sym, ◌∙◌, arith}
+use Rattle.std.proofs.Common.{rules, sym, ap, ◌∙◌, arith}
 use Rattle.av_arena.specs.Arena.{store_of}
+use Rattle.av_arena.specs.Tree.{height_of}
 use Rattle.av_arena.proofs.TreeLemmas.{other_left, other_left_right, set_root, still_used, turned_right, turned_left_right}
 use Rattle.av_arena.proofs.tree.lean_left.Goals as goal
 
@@ -43,3 +44,30 @@ returns-clause-other g c = λ e.
     let root = set_root m.key m.unit m.op m.of g.met.T.Entry.laws _ _ _ _ _ _ _ c.close-2.ensures.set in
     other_left_right m.key m.unit m.op m.of g.met.T.Entry.laws _ _ _ _ _ _ _ c.requires.spot c.open-side.ensures c.in-Some.is c.open-inner.ensures
     (sym root ∙ e)
+
+pub close-low-requires-clause-low : goal.close-low-requires-clause-low
+close-low-requires-clause-low g c = omega arith
+
+pub close-requires-clause-low : goal.close-requires-clause-low
+close-requires-clause-low g c = omega arith
+
+pub returns-then-height-clause-not_lower : goal.returns-then-height-clause-not_lower
+returns-then-height-clause-not_lower g c = omega arith
+
+pub returns-then-height-clause-at_most_one_higher : goal.returns-then-height-clause-at_most_one_higher
+returns-then-height-clause-at_most_one_higher g c = omega arith
+
+pub close-before-requires-clause-low : goal.close-before-requires-clause-low
+close-before-requires-clause-low g c = let e = ap height_of c.in-Some.is in omega arith
+
+pub close-after-requires-clause-low : goal.close-after-requires-clause-low
+close-after-requires-clause-low g c = let e = ap height_of c.in-Some.is in omega arith
+
+pub close-requires-2-clause-low : goal.close-requires-2-clause-low
+close-requires-2-clause-low g c = let e = ap height_of c.in-Some.is in omega arith
+
+pub returns-clause-not_lower : goal.returns-clause-not_lower
+returns-clause-not_lower g c = let e = ap height_of c.in-Some.is in omega arith
+
+pub returns-clause-at_most_one_higher : goal.returns-clause-at_most_one_higher
+returns-clause-at_most_one_higher g c = let e = ap height_of c.in-Some.is in omega arith
