@@ -10,7 +10,8 @@ use Rattle.av_arena.specs.Tree.{tree_at, entries, IsWithout}
 use Rattle.av_base.specs.Words.{with_at}
 use Rattle.av_interval.specs.Span.{key, key_of}
 use Rattle.av_arena.proofs.TreeLemmas.{without_used}
-use Rattle.av_interval.proofs.SpansLemmas.{low, root_held, removed_done, some_left, one_left}
+use Rattle.av_interval.proofs.SpansLemmas.{IsDone, low, root_held, removed_done, some_left, one_left}
+use Rattle.av_interval.proofs.spans.Spans.remove.Goals.{After-change, After-remove}
 use Rattle.av_interval.proofs.spans.Spans.remove.Goals as goal
 use Rattle.av_interval.specs.Span.{last_of, max_laws}
 
@@ -32,8 +33,11 @@ free-requires c =
     without_used key 0 max last_of max_laws s (store_of c.remove-number.new.arena) (Some root.tree) _ c.remove-number.result.0 c.remove-number.result.1
     (root_held s r c.self.invariant c.args.anon root at) c.remove-number.ensures.removed
 
-pub invariant_of-self : goal.invariant_of-self
-invariant_of-self c =
+-- it was the last one
+last : (c : After-remove) → let s = store_of c.self.inside.arena in let r = root_of c.self.inside.roots in
+    IsDone s r (store_of c.free.new.self) (root_of c.remove.new.self) c.args.anon
+    (without_key key (key_of c.args.first c.args.area) (entries (tree_at s (top_of (r c.args.anon)))))
+last c =
     let s = store_of c.self.inside.arena in
     let r = root_of c.self.inside.roots in
     let x : Span = triple c.args.first c.args.first c.args.area in
@@ -42,15 +46,26 @@ invariant_of-self c =
     let there = subst (λ (w : Forest). IsSome (entry_at key (key_of c.args.first c.args.area) (triples w c.args.anon))) (sym c.self.view_is) c.requires.there in
     let out = c.remove-number in
     let w = out.ensures.removed in
-    let d = removed_done s (store_of out.new.arena) (store_of c.free.new.self) r (root_of c.remove.new.self) c.self.invariant c.args.anon x root at there
+    removed_done s (store_of out.new.arena) (store_of c.free.new.self) r (root_of c.remove.new.self) c.self.invariant c.args.anon x root at there
     out.result.0 out.result.1 w c.free.ensures None (sym c.in-None.is)
     (one_left s (store_of out.new.arena) r c.self.invariant c.args.anon (key x) root at there out.result.0
     (subst (λ (g : Option (Link ℕ)). IsWithout key 0 max last_of s (store_of out.new.arena) (Some root.tree)
-    (without_key key (key x) (entries (tree_at s (Some root.tree)))) out.result.0 g) c.in-None.is w)) c.remove.ensures in
-    d.forest
+    (without_key key (key x) (entries (tree_at s (Some root.tree)))) out.result.0 g) c.in-None.is w)) c.remove.ensures
+
+pub invariant_of-self : goal.invariant_of-self
+invariant_of-self c = (last (goal.at.invariant_of-self c).After-remove).forest
 
 pub returns-in-None : goal.returns-in-None
 returns-in-None c =
+    subst (λ (w : Forest). (a : ℕ) → entries (tree_at (store_of c.free.new.self) (top_of (root_of c.remove.new.self a))) ≡ with_at c.args.anon
+    (without_key key (key_of c.args.first c.args.area) (triples w c.args.anon)) (triples w) a) c.self.view_is
+    (last (goal.at.returns-in-None c).After-remove).triples
+
+-- others are left
+others : (c : After-change) → let s = store_of c.self.inside.arena in let r = root_of c.self.inside.roots in
+    IsDone s r (store_of c.free.new.self) (root_of c.change.new.self) c.args.anon
+    (without_key key (key_of c.args.first c.args.area) (entries (tree_at s (top_of (r c.args.anon)))))
+others c =
     let s = store_of c.self.inside.arena in
     let r = root_of c.self.inside.roots in
     let x : Span = triple c.args.first c.args.first c.args.area in
@@ -59,41 +74,15 @@ returns-in-None c =
     let there = subst (λ (w : Forest). IsSome (entry_at key (key_of c.args.first c.args.area) (triples w c.args.anon))) (sym c.self.view_is) c.requires.there in
     let out = c.remove-number in
     let w = out.ensures.removed in
-    let d = removed_done s (store_of out.new.arena) (store_of c.free.new.self) r (root_of c.remove.new.self) c.self.invariant c.args.anon x root at there
-    out.result.0 out.result.1 w c.free.ensures None (sym c.in-None.is)
-    (one_left s (store_of out.new.arena) r c.self.invariant c.args.anon (key x) root at there out.result.0
-    (subst (λ (g : Option (Link ℕ)). IsWithout key 0 max last_of s (store_of out.new.arena) (Some root.tree)
-    (without_key key (key x) (entries (tree_at s (Some root.tree)))) out.result.0 g) c.in-None.is w)) c.remove.ensures in
-    subst (λ (w : Forest). (a : ℕ) → entries (tree_at (store_of c.free.new.self) (top_of (root_of c.remove.new.self a))) ≡ with_at c.args.anon
-    (without_key key (key_of c.args.first c.args.area) (triples w c.args.anon)) (triples w) a) c.self.view_is d.triples
+    removed_done s (store_of out.new.arena) (store_of c.free.new.self) r (root_of c.change.new.self) c.self.invariant c.args.anon x root at there
+    out.result.0 out.result.1 w c.free.ensures (Some (record { tree = c.in-Some-rest.tree; len = root.len - 1 })) (sym c.in-Some-rest.is)
+    (let h = some_left s r c.self.invariant c.args.anon (key x) root at there in omega arith) c.change.ensures
 
 pub invariant_of-self-in-Some-rest : goal.invariant_of-self-in-Some-rest
-invariant_of-self-in-Some-rest c =
-    let s = store_of c.self.inside.arena in
-    let r = root_of c.self.inside.roots in
-    let x : Span = triple c.args.first c.args.first c.args.area in
-    let root = c.in-Some.root in
-    let at : r c.args.anon ≡ Some root = sym c.get.ensures ∙ c.in-Some.is in
-    let there = subst (λ (w : Forest). IsSome (entry_at key (key_of c.args.first c.args.area) (triples w c.args.anon))) (sym c.self.view_is) c.requires.there in
-    let out = c.remove-number in
-    let w = out.ensures.removed in
-    let d = removed_done s (store_of out.new.arena) (store_of c.free.new.self) r (root_of c.change.new.self) c.self.invariant c.args.anon x root at there
-    out.result.0 out.result.1 w c.free.ensures (Some (record { tree = c.in-Some-rest.tree; len = root.len - 1 })) (sym c.in-Some-rest.is)
-    (let h = some_left s r c.self.invariant c.args.anon (key x) root at there in omega arith) c.change.ensures in
-    d.forest
+invariant_of-self-in-Some-rest c = (others (goal.at.invariant_of-self-in-Some-rest c).After-change).forest
 
 pub returns-in-Some-rest : goal.returns-in-Some-rest
 returns-in-Some-rest c =
-    let s = store_of c.self.inside.arena in
-    let r = root_of c.self.inside.roots in
-    let x : Span = triple c.args.first c.args.first c.args.area in
-    let root = c.in-Some.root in
-    let at : r c.args.anon ≡ Some root = sym c.get.ensures ∙ c.in-Some.is in
-    let there = subst (λ (w : Forest). IsSome (entry_at key (key_of c.args.first c.args.area) (triples w c.args.anon))) (sym c.self.view_is) c.requires.there in
-    let out = c.remove-number in
-    let w = out.ensures.removed in
-    let d = removed_done s (store_of out.new.arena) (store_of c.free.new.self) r (root_of c.change.new.self) c.self.invariant c.args.anon x root at there
-    out.result.0 out.result.1 w c.free.ensures (Some (record { tree = c.in-Some-rest.tree; len = root.len - 1 })) (sym c.in-Some-rest.is)
-    (let h = some_left s r c.self.invariant c.args.anon (key x) root at there in omega arith) c.change.ensures in
     subst (λ (w : Forest). (a : ℕ) → entries (tree_at (store_of c.free.new.self) (top_of (root_of c.change.new.self a))) ≡ with_at c.args.anon
-    (without_key key (key_of c.args.first c.args.area) (triples w c.args.anon)) (triples w) a) c.self.view_is d.triples
+    (without_key key (key_of c.args.first c.args.area) (triples w c.args.anon)) (triples w) a) c.self.view_is
+    (others (goal.at.returns-in-Some-rest c).After-change).triples
