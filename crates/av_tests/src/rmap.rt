@@ -1,6 +1,7 @@
 ghost use Rattle.std.specs.Prelude.{◌≡◌, ℕ, ◌+◌, ◌<◌, ◌≤◌, ◌++◌, List, [], ◌∷◌, length, None, Some, IfOk, OnOk};
-ghost use Rattle.av_anon.specs.Anons.{family, own_of};
+ghost use Rattle.av_anon.specs.Anons.{family, nobody, own_of};
 ghost use Rattle.av_anon.specs.Order.{IsArea};
+ghost use Rattle.av_anon.specs.Spans.{spans_of};
 ghost use Rattle.av_base.specs.Words.{how_many, with_at};
 ghost use Rattle.av_interval.specs.Search.{overlaps};
 ghost use Rattle.av_merge.specs.Kin.{AreInOrder};
@@ -146,36 +147,22 @@ fn ask<K: LookMut, L: Ledger>(
     Ok((keys, seen))
 }
 
-/// Three areas that are linked to one anon_vma, the first.
-#[derive(Drop)]
-struct Linked {
-    areas: Areas,
-    anons: Anons,
-    parent: AreaId,
-    child: AreaId,
-    other: AreaId,
-}
-
-/// Links the areas of page 11 in two processes, and one that doesn't hold its index.
-fn link_three(alloc: Global) -> Result<Linked, AllocError>
-    ensures order { IfOk result (λ l. AreInOrder l.areas l.anons) }
-    ensures areas { IfOk result (λ l. AreThree (area_of l.areas) l.parent l.child l.other) }
-    ensures users { IfOk result (λ l.
-        (family l.anons).users 0 ≡ l.parent ∷ l.child ∷ l.other ∷ []) }
+/// Links the areas of page 11 in two processes, and one that doesn't hold its index, to the first
+/// anon_vma.
+fn link_three(areas: &mut Areas, anons: &mut Anons) -> Result<(AreaId, AreaId, AreaId), AllocError>
+    requires areas { (number : ℕ) → area_of areas.old number ≡ None }
+    requires family { family anons.old ≡ nobody }
+    requires spans { (anon : ℕ) → spans_of anons.old anon ≡ [] }
+    ensures order { OnOk result (AreInOrder areas.new anons.new) }
+    ensures areas { IfOk result (λ ids. AreThree (area_of areas.new) ids.0 ids.1 ids.2) }
+    ensures users { IfOk result (λ ids.
+        (family anons.new).users 0 ≡ ids.0 ∷ ids.1 ∷ ids.2 ∷ []) }
 {
     nobody_is_in_order();
-    let mut areas = Areas::new(alloc);
-    let mut anons = Anons::new(alloc);
-    let parent = add(&mut areas, &mut anons, PARENT)?;
-    let child = add_like(&mut areas, &mut anons, CHILD, parent)?;
-    let other = add_like(&mut areas, &mut anons, OTHER, child)?;
-    Ok(Linked {
-        areas,
-        anons,
-        parent,
-        child,
-        other,
-    })
+    let parent = add(areas, anons, PARENT)?;
+    let child = add_like(areas, anons, CHILD, parent)?;
+    let other = add_like(areas, anons, OTHER, child)?;
+    Ok((parent, child, other))
 }
 
 /// Tables of two processes that have one frame on their page 11.
@@ -196,11 +183,13 @@ fn share_frame(alloc: Global) -> Result<Tables<PageTable>, AllocError>
 fn walk_shared<L: Ledger>(alloc: Global, steps: &mut Steps<L>) -> Result<Found, AllocError>
     ensures { OnOk result (steps.new ≡ steps.old + 2) }
 {
-    let linked = link_three(alloc)?;
+    let mut areas = Areas::new(alloc);
+    let mut anons = Anons::new(alloc);
+    let _ids = link_three(&mut areas, &mut anons)?;
     let mut tables = share_frame(alloc)?;
     let mut stores = StoresMut {
-        areas: &linked.areas,
-        anons: &linked.anons,
+        areas: &areas,
+        anons: &anons,
         tables: &mut tables,
     };
     ask(alloc, &mut stores, 7, (0, 11), 2, steps)

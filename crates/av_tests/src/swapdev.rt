@@ -3,34 +3,46 @@ ghost use Rattle.av_io.specs.Count.{one_more};
 
 use av_io::Failed;
 use av_swapdev::*;
-use byteorder::{BigEndian, ByteOrder, LittleEndian};
 use std::alloc::{AllocError, Global};
 use std::env;
 use std::fs::{self, OpenOptions};
-use std::path::PathBuf;
+use std::path::{Path, PathBuf};
 use std::test::*;
 use std::time::{Duration, SystemTime, UNIX_EPOCH};
 
 /// As many bad pages as a header has room for.
 const MOST_BAD: usize = 637;
 
+/// Puts a number at this place, in this order of bytes.
+fn put(page: &mut [u8; PAGE_LEN], little: bool, at: usize, number: u32)
+    requires { at + 4 ≤ 4096 }
+{
+    let bytes = if little {
+        number.to_le_bytes()
+    } else {
+        number.to_be_bytes()
+    };
+    page[at..at + 4].copy_from_slice(&bytes);
+}
+
 /// A header in this order of bytes. Where `bad` is too long, it says so, and has the first of them.
-fn header<T: ByteOrder>(version: u32, last: u32, bad: &[u32]) -> [u8; PAGE_LEN] {
+fn header(little: bool, version: u32, last: u32, bad: &[u32]) -> [u8; PAGE_LEN] {
     let mut page = [0; PAGE_LEN];
     page[PAGE_LEN - 10..].copy_from_slice(b"SWAPSPACE2");
-    T::write_u32(&mut page[1024..], version);
-    T::write_u32(&mut page[1028..], last);
-    T::write_u32(&mut page[1032..], bad.len().min(MOST_BAD + 1) as u32);
-    for i in 0..bad.len().min(MOST_BAD) {
-        T::write_u32(&mut page[1536 + 4 * i..], bad[i]);
+    let named = bad.len().min(MOST_BAD + 1);
+    put(&mut page, little, 1024, version);
+    put(&mut page, little, 1028, last);
+    put(&mut page, little, 1032, named as u32);
+    for i in 0..named.min(MOST_BAD) {
+        put(&mut page, little, 1536 + 4 * i, bad[i]);
     }
     page
 }
 
 /// What is read of such a header on a device with so many pages, where both orders say the same.
 fn read(pages: u32, version: u32, last: u32, bad: &[u32]) -> Option<Result<Header, HeaderFault>> {
-    let found = read_header(&header::<LittleEndian>(version, last, bad), pages);
-    if read_header(&header::<BigEndian>(version, last, bad), pages) != found {
+    let found = read_header(&header(true, version, last, bad), pages);
+    if read_header(&header(false, version, last, bad), pages) != found {
         return None;
     }
     Some(found)
@@ -73,7 +85,7 @@ fn headers(rt: HostRuntime) {
 
 #[test]
 fn bad_pages_of_a_header(rt: HostRuntime) -> Result<(), Fail> {
-    let mut page = header::<LittleEndian>(1, 7, &[5, 3, 3]);
+    let mut page = header(true, 1, 7, &[5, 3, 3]);
     let Ok(found) = read_header(&page, 8) else {
         return Err(Fail::new("the header is not read"));
     };
@@ -109,11 +121,16 @@ fn copy_page<D: SwapDev>(
     device.write(0, to, buffer)
 }
 
+/// One area of three pages, whose calls 4 and 7 fail.
+fn three_pages(alloc: Global) -> Result<MemDev, AllocError> {
+    let pages = vec![in alloc; [7; PAGE_LEN], [8; PAGE_LEN], [9; PAGE_LEN]]?;
+    let areas = vec![in alloc; pages]?;
+    Ok(MemDev::new(areas, vec![in alloc; 4, 7]?))
+}
+
 #[test]
-fn memory(rt: HostRuntime) -> Result<(), Fail> {
-    let a = rt.alloc();
-    let pages = vec![in a; [7; PAGE_LEN], [8; PAGE_LEN], [9; PAGE_LEN]]?;
-    let mut device = MemDev::new(vec![in a; pages]?, vec![in a; 4, 7]?);
+fn memory(rt: HostRuntime) -> Result<(), AllocError> {
+    let mut device = three_pages(rt.alloc())?;
     let mut buffer = [0; PAGE_LEN];
     assert!(rt; device.attach(3, "none") == Ok(0));
     assert!(rt; is_attached(&mut device, "some", 3));
@@ -122,9 +139,8 @@ fn memory(rt: HostRuntime) -> Result<(), Fail> {
     assert!(rt; device.page(0, 1) == Some(&[!8; PAGE_LEN]));
     assert!(rt; copy_page(&mut device, 3, 2, 0, &mut buffer) == Ok(()));
     assert!(rt; copy_page(&mut device, 3, 1, 2, &mut buffer) == Err(Failed));
-    assert!(rt;
-        device.page(0, 0) == Some(&[9; PAGE_LEN]) && device.page(0, 2) == Some(&[9; PAGE_LEN])
-    );
+    assert!(rt; device.page(0, 0) == Some(&[9; PAGE_LEN]));
+    assert!(rt; device.page(0, 2) == Some(&[9; PAGE_LEN]));
     assert!(rt; device.page(0, 3).is_none() && device.page(1, 0).is_none());
     Ok(())
 }
@@ -269,29 +285,41 @@ fn files_in_memory(rt: HostRuntime) -> Result<(), Fail> {
     Ok(())
 }
 
+/// A device over files of the host.
+fn of_host(rt: &HostRuntime) -> Result<FileDev<HostFiles<HostRuntime>>, Fail> {
+    Ok(FileDev::new(rt.alloc(), HostFiles::new(rt.clone()?))?)
+}
+
+/// Whether the file has its second page in place of the first, and the rest as it was.
+fn is_copied(rt: &HostRuntime, path: Path<'_>) -> Result<bool, Fail> {
+    let now = fs::read(rt, path)?;
+    Ok(
+        now.len() == 3 * PAGE_LEN - 1
+            && now.starts_with(&[2; 2 * PAGE_LEN])
+            && now.ends_with(&[3; PAGE_LEN - 1]),
+    )
+}
+
+/// Cuts the file behind its first page.
+fn cut(rt: &HostRuntime, path: Path<'_>) -> Result<(), Fail> {
+    let mut file = OpenOptions::new().write(true).open(rt, path)?;
+    file.set_len(PAGE_LEN as u64)?;
+    Ok(())
+}
+
 #[test]
 fn files(rt: HostRuntime) -> Result<(), Fail> {
-    let a = rt.alloc();
     let path = path_of_test(&rt)?;
-    fs::write(&rt, path.as_path(), bytes_of_test(a)?.as_slice())?;
+    fs::write(&rt, path.as_path(), bytes_of_test(rt.alloc())?.as_slice())?;
 
-    let mut device = FileDev::new(a, HostFiles::new(rt.clone()?))?;
+    let mut device = of_host(&rt)?;
     let mut buffer = [0; PAGE_LEN];
     assert!(rt; is_attached(&mut device, path.as_str(), 2));
     assert!(rt; copy_page(&mut device, 2, 1, 0, &mut buffer) == Ok(()));
     assert!(rt; buffer == [2; PAGE_LEN]);
-    let now = fs::read(&rt, path.as_path())?;
-    assert!(rt;
-        now.len() == 3 * PAGE_LEN - 1
-            && now.starts_with(&[2; 2 * PAGE_LEN])
-            && now.ends_with(&[3; PAGE_LEN - 1])
-    );
+    assert!(rt; is_copied(&rt, path.as_path())?);
 
-    // A file that was cut short.
-    OpenOptions::new()
-        .write(true)
-        .open(&rt, path.as_path())?
-        .set_len(PAGE_LEN as u64)?;
+    cut(&rt, path.as_path())?;
     assert!(rt; copy_page(&mut device, 2, 1, 0, &mut buffer) == Err(Failed));
     fs::remove_file(&rt, path.as_path())?;
     assert!(rt; !is_attached(&mut device, path.as_str(), 1));
