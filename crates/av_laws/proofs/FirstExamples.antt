@@ -1,5 +1,5 @@
 -- The worked rows from nothing on.
-use Rattle.std.specs.Prelude.{◌≡◌, ℕ, zero, suc, ◌+◌, ◌-◌, ◌<◌, ◌≤◌, Bool, nat_le, true, false, not, ◌==◌, ◌&&◌, ◌||◌, List, [], ◌∷◌, drop, Option, Some, None, is_some, IsSome, IsSomeAnd, refl, MatchBool}
+use Rattle.std.specs.Prelude.{◌≡◌, ℕ, zero, suc, ◌+◌, ◌-◌, ◌<◌, ◌≤◌, Bool, nat_le, true, false, not, ◌==◌, ◌&&◌, ◌||◌, List, [], ◌∷◌, ◌++◌, drop, Option, Some, None, is_some, IsSome, IsSomeAnd, refl, MatchBool}
 use Rattle.std.proofs.Common.{arith, inl, subst, sym, ◌∙◌, inr}
 use Rattle.std.proofs.lemmas.Bool.Decides.{nat_tests}
 use Rattle.std.proofs.lemmas.Bool.{and_parts, false≢true}
@@ -174,6 +174,38 @@ Later m old e row events free b =
     let now = rmap_after_all old.ledger events (rmap_of old) in
     MatchBool b (Steps m (state_after m old e events free now.anons) row)
     ((left : Anons) × AreLeft now.anons (state_after m old e events free left).areas left × Steps m (state_after m old e events free left) row)
+
+-- the state after an exchange without events
+abbrev state_still : Setting → State → Exchange → State
+state_still m old e = state_after m old e [] old.free.frames (rmap_of old).anons
+
+-- exchanges without events, each answered so
+abbrev pub Stills : Setting → State → List Exchange → Type 0
+Stills m old [] = Unit {0}
+Stills m old (e ∷ row) = Answers m old e [] × Stills m (state_still m old e) row
+
+-- all anon_vmas are left after each
+abbrev pub keep_all : Setting → State → List Exchange → Bool
+keep_all m old [] = true
+keep_all m old (e ∷ row) = all_left m old e [] && keep_all m (state_still m old e) row
+
+-- the state after them
+abbrev pub after_stills : Setting → State → List Exchange → State
+after_stills m old [] = old
+after_stills m old (e ∷ row) = after_stills m (state_still m old e) row
+
+-- they come first, and then the others
+pub stills : (m : Setting) (old : State) (row others : List Exchange) → keep_all m old row ≡ true → Stills m old row
+    → Steps m (after_stills m old row) others → Steps m old (row ++ others)
+stills m old [] others left h rest = rest
+stills m old (e ∷ row) others left h rest =
+    let both = and_parts (all_left m old e []) (keep_all m (state_still m old e) row) left in (
+      [],
+      old.free.frames,
+      h.0,
+      refl,
+      subst (Later m old e (row ++ others) [] old.free.frames) (sym both.0) (stills m (state_still m old e) row others both.1 h.1 rest),
+    )
 
 from_steps : (m : Setting) (old : State) (row : List Exchange) → AreBelow old.anons
     → Steps m old row → Allows m old row
@@ -993,64 +1025,31 @@ readable-runs = by_steps (machine 4) (at_first (machine 4)) readable refl (topmo
 ))
 
 pub refusals-runs : Runs 4 refusals
-refusals-runs = by_steps (machine 4) (at_first (machine 4)) refusals refl ((
-  [],
-  0 ∷ 1 ∷ 2 ∷ 3 ∷ [],
+refusals-runs = by_steps (machine 4) (at_first (machine 4)) refusals refl (stills (machine 4) (at_first (machine 4)) refusals [] refl (
   record { answer = (refl, refl, refl); notes = refl },
-  refl,
   (
-    [],
-    0 ∷ 1 ∷ 2 ∷ 3 ∷ [],
     record { answer = (refl, refl, refl); notes = refl },
-    refl,
     (
-      [],
-      0 ∷ 1 ∷ 2 ∷ 3 ∷ [],
       record { answer = (refl, refl, refl); notes = refl },
-      refl,
       (
-        [],
-        0 ∷ 1 ∷ 2 ∷ 3 ∷ [],
         record { answer = (refl, refl, refl); notes = refl },
-        refl,
         (
-          [],
-          0 ∷ 1 ∷ 2 ∷ 3 ∷ [],
           record { answer = (refl, refl, refl); notes = refl },
-          refl,
           (
-            [],
-            0 ∷ 1 ∷ 2 ∷ 3 ∷ [],
             record {
               answer = (None, (λ page room. let low = room.lowest in let high = room.highest in absurd (omega (arith, low, high))), refl, refl, refl);
               notes = refl;
             },
-            refl,
             (
-              [],
-              0 ∷ 1 ∷ 2 ∷ 3 ∷ [],
               record { answer = (refl, refl, refl); notes = refl },
-              refl,
               (
-                [],
-                0 ∷ 1 ∷ 2 ∷ 3 ∷ [],
                 record { answer = (refl, refl, refl); notes = refl },
-                refl,
                 (
-                  [],
-                  0 ∷ 1 ∷ 2 ∷ 3 ∷ [],
                   record { answer = (refl, refl, refl); notes = refl },
-                  refl,
                   (
-                    [],
-                    0 ∷ 1 ∷ 2 ∷ 3 ∷ [],
                     record { answer = (refl, refl, refl); notes = refl },
-                    refl,
                     (
-                      [],
-                      0 ∷ 1 ∷ 2 ∷ 3 ∷ [],
                       record { answer = (Stopped 0x10 Denied, [], inr ([], Denied, (refl, refl), refl, refl), (refl, tt, tt), refl, refl); notes = refl },
-                      refl,
                       tt,
                     ),
                   ),
@@ -1062,7 +1061,7 @@ refusals-runs = by_steps (machine 4) (at_first (machine 4)) refusals refl ((
       ),
     ),
   ),
-))
+) tt)
 
 pub all_mapped-runs : Runs 4 all_mapped
 all_mapped-runs = by_steps (machine 4) (at_first (machine 4)) all_mapped refl ((

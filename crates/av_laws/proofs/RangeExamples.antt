@@ -8,7 +8,7 @@ use Rattle.av_base.specs.Words.{with_at, within}
 use Rattle.av_vma.specs.Pages.{fresh_area, part_of}
 use Rattle.av_vma.specs.declared.area.Area.{Area}
 use Rattle.av_plain.specs.Areas.{Anons}
-use Rattle.av_plain.proofs.AreasLeft.{left-root, of_processes}
+use Rattle.av_plain.proofs.AreasLeft.{left-root, holds-with_at}
 use Rattle.av_vma.proofs.Cut.{part_own}
 use Rattle.av_trace.specs.declared.reply.Answer.TheVariants.{Done}
 use Rattle.av_trace.specs.declared.note.Note.TheVariants.{Zeroed, New}
@@ -19,7 +19,7 @@ use Rattle.av_plain.specs.Fault.{Denied}
 use Rattle.av_plain.specs.Access.{Whole, Stopped}
 use Rattle.av_plain.specs.Transcript.{at_first}
 use Rattle.av_laws.specs.Examples.{Runs, machine, read_write, read_only, protected_part, past_a_hole, places, range_refusals, fixed_over}
-use Rattle.av_laws.proofs.FirstExamples.{by_steps, topmost, gap_under}
+use Rattle.av_laws.proofs.FirstExamples.{by_steps, topmost, gap_under, stills}
 use Rattle.av_laws.proofs.ExitExamples.{in_run}
 
 differ : read_write ≡ read_only → ⊥
@@ -435,61 +435,28 @@ places-runs = by_steps (machine 4) (at_first (machine 4)) places refl ((
 ))
 
 pub range_refusals-runs : Runs 4 range_refusals
-range_refusals-runs = by_steps (machine 4) (at_first (machine 4)) range_refusals refl ((
-  [],
-  0 ∷ 1 ∷ 2 ∷ 3 ∷ [],
+range_refusals-runs = by_steps (machine 4) (at_first (machine 4)) range_refusals refl (stills (machine 4) (at_first (machine 4)) range_refusals [] refl (
   record { answer = (refl, refl, refl); notes = refl },
-  refl,
   (
-    [],
-    0 ∷ 1 ∷ 2 ∷ 3 ∷ [],
     record { answer = (refl, refl, refl); notes = refl },
-    refl,
     (
-      [],
-      0 ∷ 1 ∷ 2 ∷ 3 ∷ [],
       record { answer = (refl, refl, refl); notes = refl },
-      refl,
       (
-        [],
-        0 ∷ 1 ∷ 2 ∷ 3 ∷ [],
         record { answer = (refl, refl, refl); notes = refl },
-        refl,
         (
-          [],
-          0 ∷ 1 ∷ 2 ∷ 3 ∷ [],
           record { answer = (refl, refl, refl); notes = refl },
-          refl,
           (
-            [],
-            0 ∷ 1 ∷ 2 ∷ 3 ∷ [],
             record { answer = (refl, refl, refl); notes = refl },
-            refl,
             (
-              [],
-              0 ∷ 1 ∷ 2 ∷ 3 ∷ [],
               record { answer = (refl, refl, refl); notes = refl },
-              refl,
               (
-                [],
-                0 ∷ 1 ∷ 2 ∷ 3 ∷ [],
                 record { answer = (refl, refl, refl); notes = refl },
-                refl,
                 (
-                  [],
-                  0 ∷ 1 ∷ 2 ∷ 3 ∷ [],
                   record { answer = (refl, refl, refl); notes = refl },
-                  refl,
                   (
-                    [],
-                    0 ∷ 1 ∷ 2 ∷ 3 ∷ [],
                     record { answer = (refl, refl, refl); notes = refl },
-                    refl,
                     (
-                      [],
-                      0 ∷ 1 ∷ 2 ∷ 3 ∷ [],
                       record { answer = (refl, refl, refl); notes = refl },
-                      refl,
                       tt,
                     ),
                   ),
@@ -501,7 +468,7 @@ range_refusals-runs = by_steps (machine 4) (at_first (machine 4)) range_refusals
       ),
     ),
   ),
-))
+) tt)
 
 -- two pages were mapped over the second of two areas that have anon_vmas
 abbrev over_second : ℕ → Bool → Bool → Bool → Option Area
@@ -615,7 +582,7 @@ fixed_over-runs = by_steps (machine 4) (at_first (machine 4)) (fixed_over 3 0 (Z
               (1 ∷ 2 ∷ 3 ∷ [], (2 ∷ 3 ∷ [], refl, refl), refl),
               (
                 first_left,
-                left-root _ _ 0 refl (1, 0x7fffffffe, refl) (of_processes OfFirst 1 _ _ under_fixed (λ q page is. rw is tt)),
+                left-root _ _ 0 refl (1, 0x7fffffffe, refl) (holds-with_at OfFirst 1 _ _ under_fixed (λ q page is. rw is tt)),
                 (
                   [],
                   1 ∷ 2 ∷ 3 ∷ [],
