@@ -1,4 +1,4 @@
-ghost use Rattle.std.specs.Prelude.{◌≡◌, false, ◌||◌, IfOk};
+ghost use Rattle.std.specs.Prelude.{◌≡◌, [], false, ◌||◌, OnOk};
 ghost use Rattle.av_arena.specs.Any.{any_laws};
 ghost use Rattle.av_tests.specs.Arena.{note, notes};
 
@@ -48,27 +48,33 @@ fn entry(key: u64, marked: bool) -> Note
     Note { key, marked }
 }
 
-/// Three entries, put in against their order.
-fn three(alloc: Global) -> Result<Avl<Note>, AllocError>
-    ensures { IfOk result (λ tree. tree ≡ notes) }
+/// Puts three entries in, against their order.
+fn put_three(tree: &mut Avl<Note>) -> Result<(), AllocError>
+    requires { tree.old ≡ [] }
+    ensures { OnOk result (tree.new ≡ notes) }
 {
-    let mut tree = Avl::new(alloc);
     tree.insert(entry(3, false))?;
     tree.insert(entry(2, true))?;
-    tree.insert(entry(1, false))?;
-    Ok(tree)
+    tree.insert(entry(1, false))
+}
+
+/// Takes the mark off and the last entry out, and says whether it shows so.
+fn is_unmarked(alloc: Global, tree: &mut Avl<Note>) -> Result<bool, AllocError>
+    requires { tree.old ≡ notes }
+{
+    let was_marked = tree.part().sum();
+    tree.replace(entry(2, false));
+    tree.remove(entry(3, false));
+    let mut left = Vec::new(alloc);
+    tree.part().append_to(&mut left)?;
+    let wanted = [entry(1, false), entry(2, false)];
+    Ok(was_marked && !tree.part().sum() && left.as_slice() == wanted.as_slice())
 }
 
 #[test]
 fn entries_come_in_order_with_their_summary(rt: HostRuntime) -> Result<(), AllocError> {
-    let alloc = rt.alloc();
-    let mut tree = three(alloc)?;
-    assert!(rt; tree.part().sum());
-    tree.replace(entry(2, false));
-    assert!(rt; !tree.part().sum());
-    tree.remove(entry(3, false));
-    let mut left = Vec::new(alloc);
-    tree.part().append_to(&mut left)?;
-    assert!(rt; left.as_slice() == [entry(1, false), entry(2, false)].as_slice());
+    let mut tree = Avl::new(rt.alloc());
+    put_three(&mut tree)?;
+    assert!(rt; is_unmarked(rt.alloc(), &mut tree)?);
     Ok(())
 }

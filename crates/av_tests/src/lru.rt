@@ -1,4 +1,4 @@
-ghost use Rattle.std.specs.Prelude.{◌≡◌, ◌≤◌, vec_capacity};
+ghost use Rattle.std.specs.Prelude.{◌≡◌, ◌≤◌, [], vec_capacity};
 
 use av_lru::{Lru, Which};
 use std::alloc::AllocError;
@@ -13,19 +13,30 @@ fn are_tails(lru: &Lru, which: Which, count: u32, found: &mut Vec<u32>, wanted: 
     found.as_slice() == wanted
 }
 
+/// Whether four frames that are in no list join and move as they are told to.
+fn go_as_told(lru: &mut Lru, found: &mut Vec<u32>) -> bool
+    requires fresh { lru.old ≡ record { frames = 4; active = []; inactive = [] } }
+    requires room { 4 ≤ vec_capacity found.old }
+{
+    lru.add(3);
+    lru.to_inactive_head(1);
+    lru.to_inactive_tail(2);
+    if !are_tails(lru, Which::Inactive, 2, found, &[2, 3]) || lru.before(2) != Some(3) {
+        return false;
+    }
+    lru.to_active(3);
+    lru.remove(2);
+    are_tails(lru, Which::Inactive, 4, found, &[1])
+        && are_tails(lru, Which::Active, 4, found, &[3])
+        && lru.tail(Which::Active) == Some(3)
+        && lru.place(2) == None
+        && lru.len(Which::Inactive) == 1
+}
+
 #[test]
 fn frames_join_and_move(rt: HostRuntime) -> Result<(), AllocError> {
     let mut lru = Lru::new(rt.alloc(), 4)?;
     let mut found = Vec::with_capacity(rt.alloc(), 4)?;
-    lru.add(3);
-    lru.to_inactive_head(1);
-    lru.to_inactive_tail(2);
-    assert!(rt; are_tails(&lru, Which::Inactive, 2, &mut found, &[2, 3]));
-    assert!(rt; lru.tail(Which::Inactive) == Some(2) && lru.before(2) == Some(3));
-    lru.to_active(3);
-    lru.remove(2);
-    assert!(rt; are_tails(&lru, Which::Inactive, 4, &mut found, &[1]));
-    assert!(rt; are_tails(&lru, Which::Active, 4, &mut found, &[3]));
-    assert!(rt; lru.place(2) == None && lru.len(Which::Inactive) == 1);
+    assert!(rt; go_as_told(&mut lru, &mut found));
     Ok(())
 }

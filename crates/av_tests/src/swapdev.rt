@@ -128,20 +128,25 @@ fn three_pages(alloc: Global) -> Result<MemDev, AllocError> {
     Ok(MemDev::new(areas, vec![in alloc; 4, 7]?))
 }
 
+/// Whether the calls of such a device come to what they have to.
+fn goes_as_told(device: &mut MemDev, buffer: &mut [u8; PAGE_LEN]) -> bool {
+    if device.attach(3, "none") != Ok(0) || !is_attached(device, "some", 3) {
+        return false;
+    }
+    // The third call reads, and the fourth fails to write.
+    let spoilt = copy_page(device, 3, 2, 1, buffer) == Err(Failed)
+        && device.page(0, 1) == Some(&[!8; PAGE_LEN]);
+    let copied = copy_page(device, 3, 2, 0, buffer) == Ok(())
+        && device.page(0, 0) == Some(&[9; PAGE_LEN]);
+    let kept = copy_page(device, 3, 1, 2, buffer) == Err(Failed)
+        && device.page(0, 2) == Some(&[9; PAGE_LEN]);
+    spoilt && copied && kept && device.page(0, 3).is_none() && device.page(1, 0).is_none()
+}
+
 #[test]
 fn memory(rt: HostRuntime) -> Result<(), AllocError> {
     let mut device = three_pages(rt.alloc())?;
-    let mut buffer = [0; PAGE_LEN];
-    assert!(rt; device.attach(3, "none") == Ok(0));
-    assert!(rt; is_attached(&mut device, "some", 3));
-    // The third call reads, and the fourth fails to write.
-    assert!(rt; copy_page(&mut device, 3, 2, 1, &mut buffer) == Err(Failed));
-    assert!(rt; device.page(0, 1) == Some(&[!8; PAGE_LEN]));
-    assert!(rt; copy_page(&mut device, 3, 2, 0, &mut buffer) == Ok(()));
-    assert!(rt; copy_page(&mut device, 3, 1, 2, &mut buffer) == Err(Failed));
-    assert!(rt; device.page(0, 0) == Some(&[9; PAGE_LEN]));
-    assert!(rt; device.page(0, 2) == Some(&[9; PAGE_LEN]));
-    assert!(rt; device.page(0, 3).is_none() && device.page(1, 0).is_none());
+    assert!(rt; goes_as_told(&mut device, &mut [0; PAGE_LEN]));
     Ok(())
 }
 
@@ -263,25 +268,36 @@ impl SwapFiles for MemFiles {
     }
 }
 
+/// Whether two pages of this name are attached, and the second is copied over the first.
+fn is_served<D: SwapDev>(device: &mut D, name: &str, buffer: &mut [u8; PAGE_LEN]) -> bool
+    ensures { result ≡ true → D.sizes device.new 0 ≡ Some 2 }
+{
+    is_attached(device, name, 2)
+        && copy_page(device, 2, 1, 0, buffer) == Ok(())
+        && *buffer == [2; PAGE_LEN]
+}
+
+/// Whether files go as such a device's have to.
+fn go_as_told<D: SwapDev>(device: &mut D, buffer: &mut [u8; PAGE_LEN]) -> bool {
+    if device.attach(0, "") != Err(AttachErr::Failed) || !is_served(device, "some", buffer) {
+        return false;
+    }
+    // The third call reads what the second wrote, and the fourth fails to write.
+    *buffer = [0; PAGE_LEN];
+    copy_page(device, 2, 0, 1, buffer) == Err(Failed) && *buffer == [2; PAGE_LEN]
+}
+
 #[test]
 fn files_in_memory(rt: HostRuntime) -> Result<(), Fail> {
-    let a = rt.alloc();
     let files = MemFiles {
-        bytes: bytes_of_test(a)?,
+        bytes: bytes_of_test(rt.alloc())?,
         failing: 4,
         calls: 0,
         faults: 0,
         shortages: 0,
     };
-    let mut device = FileDev::new(a, files)?;
-    let mut buffer = [0; PAGE_LEN];
-    assert!(rt; device.attach(0, "") == Err(AttachErr::Failed));
-    assert!(rt; is_attached(&mut device, "some", 2));
-    assert!(rt; copy_page(&mut device, 2, 1, 0, &mut buffer) == Ok(()));
-    // The third call reads what the second wrote, and the fourth fails to write.
-    buffer = [0; PAGE_LEN];
-    assert!(rt; copy_page(&mut device, 2, 0, 1, &mut buffer) == Err(Failed));
-    assert!(rt; buffer == [2; PAGE_LEN]);
+    let mut device = FileDev::new(rt.alloc(), files)?;
+    assert!(rt; go_as_told(&mut device, &mut [0; PAGE_LEN]));
     Ok(())
 }
 
@@ -307,21 +323,23 @@ fn cut(rt: &HostRuntime, path: Path<'_>) -> Result<(), Fail> {
     Ok(())
 }
 
+/// Whether a file of the host is served, also when it is cut, and no more when it is gone.
+fn serves<D: SwapDev>(rt: &HostRuntime, device: &mut D, path: &PathBuf) -> Result<bool, Fail> {
+    let mut buffer = [0; PAGE_LEN];
+    if !is_served(device, path.as_str(), &mut buffer) || !is_copied(rt, path.as_path())? {
+        return Ok(false);
+    }
+    cut(rt, path.as_path())?;
+    let cut_short = copy_page(device, 2, 1, 0, &mut buffer) == Err(Failed);
+    fs::remove_file(rt, path.as_path())?;
+    Ok(cut_short && !is_attached(device, path.as_str(), 1))
+}
+
 #[test]
 fn files(rt: HostRuntime) -> Result<(), Fail> {
     let path = path_of_test(&rt)?;
     fs::write(&rt, path.as_path(), bytes_of_test(rt.alloc())?.as_slice())?;
-
     let mut device = of_host(&rt)?;
-    let mut buffer = [0; PAGE_LEN];
-    assert!(rt; is_attached(&mut device, path.as_str(), 2));
-    assert!(rt; copy_page(&mut device, 2, 1, 0, &mut buffer) == Ok(()));
-    assert!(rt; buffer == [2; PAGE_LEN]);
-    assert!(rt; is_copied(&rt, path.as_path())?);
-
-    cut(&rt, path.as_path())?;
-    assert!(rt; copy_page(&mut device, 2, 1, 0, &mut buffer) == Err(Failed));
-    fs::remove_file(&rt, path.as_path())?;
-    assert!(rt; !is_attached(&mut device, path.as_str(), 1));
+    assert!(rt; serves(&rt, &mut device, &path)?);
     Ok(())
 }
