@@ -28,6 +28,7 @@ use Rattle.av_plain.proofs.Choice.{ChoosesFrames}
 use Rattle.av_laws.proofs.Choice.{all-chosen, gives_all, none-given, slots_after_all, take_none}
 use Rattle.av_plain.specs.Transcript.{Exchange, IsStep, State, at_first, rmap_of}
 use Rattle.av_laws.specs.Examples.{Allows, Runs, machine, says, read_write, write_only, first_run, zero_first, one_frame, part_denied, two_processes, refusals, all_mapped, readable, denied_write}
+use Rattle.av_laws.proofs.Accesses.{gets_frame, ready}
 
 -- ---- what is left of anon_vmas
 
@@ -328,22 +329,7 @@ first_run-runs = by_steps (machine 4) (at_first (machine 4)) first_run refl (top
   record {
     answer = (
       Whole,
-      inl (
-        New 1 0x7fffffffe000 0 ∷ [],
-        [],
-        (
-          refl,
-          record {
-            coming = [];
-            making = New 1 0x7fffffffe000 0 ∷ [];
-            whole = refl;
-            comes_in = refl;
-            made = record { sought = []; frame = 0; seeks = refl; in_range = omega arith; free = refl; whole = refl };
-          },
-        ),
-        refl,
-        (refl, refl),
-      ),
+      inl (New 1 0x7fffffffe000 0 ∷ [], [], (refl, gets_frame 0 refl refl (omega arith) refl refl), refl, (refl, refl)),
       refl,
       refl,
     );
@@ -358,13 +344,7 @@ first_run-runs = by_steps (machine 4) (at_first (machine 4)) first_run refl (top
       answer = (
         Whole,
         0 ∷ 65 ∷ 0 ∷ [],
-        inl (
-          [],
-          [],
-          (refl, record { coming = []; making = []; whole = refl; comes_in = refl; made = refl }),
-          refl,
-          (refl, refl),
-        ),
+        inl ([], [], (refl, ready refl refl), refl, (refl, refl)),
         (refl, (refl, (refl, (refl, tt))), (omega arith, (omega arith, (omega arith, tt)))),
         refl,
         refl,
@@ -405,7 +385,7 @@ zero_first-runs = by_steps (machine 4) (at_first (machine 4)) zero_first refl (t
       answer = (
         Whole,
         0 ∷ [],
-        inl ([], [], (refl, record { coming = []; making = []; whole = refl; comes_in = refl; made = refl }), refl, (refl, refl)),
+        inl ([], [], (refl, ready refl refl), refl, (refl, refl)),
         (refl, (refl, tt), (omega arith, tt)),
         refl,
         refl,
@@ -419,22 +399,7 @@ zero_first-runs = by_steps (machine 4) (at_first (machine 4)) zero_first refl (t
       record {
         answer = (
           Whole,
-          inl (
-            New 1 0x7fffffffe000 0 ∷ [],
-            [],
-            (
-              refl,
-              record {
-                coming = [];
-                making = New 1 0x7fffffffe000 0 ∷ [];
-                whole = refl;
-                comes_in = refl;
-                made = record { sought = []; frame = 0; seeks = refl; in_range = omega arith; free = refl; whole = refl };
-              },
-            ),
-            refl,
-            (refl, refl),
-          ),
+          inl (New 1 0x7fffffffe000 0 ∷ [], [], (refl, gets_frame 0 refl refl (omega arith) refl refl), refl, (refl, refl)),
           refl,
           refl,
         );
@@ -448,7 +413,7 @@ zero_first-runs = by_steps (machine 4) (at_first (machine 4)) zero_first refl (t
         record {
           answer = (
             Whole,
-            inl ([], [], (refl, record { coming = []; making = []; whole = refl; comes_in = refl; made = refl }), refl, (refl, refl)),
+            inl ([], [], (refl, ready refl refl), refl, (refl, refl)),
             refl,
             refl,
           );
@@ -462,13 +427,7 @@ zero_first-runs = by_steps (machine 4) (at_first (machine 4)) zero_first refl (t
             answer = (
               Whole,
               1 ∷ 2 ∷ [],
-              inl (
-                [],
-                [],
-                (refl, record { coming = []; making = []; whole = refl; comes_in = refl; made = refl }),
-                refl,
-                (refl, refl),
-              ),
+              inl ([], [], (refl, ready refl refl), refl, (refl, refl)),
               (refl, (refl, (refl, tt)), (omega arith, (omega arith, tt))),
               refl,
               refl,
@@ -512,16 +471,7 @@ one_frame-runs = by_steps (machine 1) (at_first (machine 1)) one_frame refl ((
           inl (
             New 1 0x7fffffffd000 0 ∷ [],
             [],
-            (
-              refl,
-              record {
-                coming = [];
-                making = New 1 0x7fffffffd000 0 ∷ [];
-                whole = refl;
-                comes_in = refl;
-                made = record { sought = []; frame = 0; seeks = refl; in_range = omega arith; free = refl; whole = refl };
-              },
-            ),
+            (refl, gets_frame 0 refl refl (omega arith) refl refl),
             refl,
             inr (
               [],
@@ -556,7 +506,7 @@ one_frame-runs = by_steps (machine 1) (at_first (machine 1)) one_frame refl ((
             inl (
               [],
               Noted (Zeroed 1 0x7fffffffe000) ∷ Used false (1, 0x7fffffffe) ∷ [],
-              (refl, record { coming = []; making = []; whole = refl; comes_in = refl; made = refl }),
+              (refl, ready refl refl),
               refl,
               inl (
                 Zeroed 1 0x7fffffffe000 ∷ [],
@@ -661,16 +611,7 @@ part_denied-runs = by_steps (machine 4) (at_first (machine 4)) part_denied refl 
             inl (
               New 1 0x7fffffffd000 0 ∷ [],
               [],
-              (
-                refl,
-                record {
-                  coming = [];
-                  making = New 1 0x7fffffffd000 0 ∷ [];
-                  whole = refl;
-                  comes_in = refl;
-                  made = record { sought = []; frame = 0; seeks = refl; in_range = omega arith; free = refl; whole = refl };
-                },
-              ),
+              (refl, gets_frame 0 refl refl (omega arith) refl refl),
               refl,
               inr ([], Denied, (refl, refl), refl, refl),
             ),
@@ -690,7 +631,7 @@ part_denied-runs = by_steps (machine 4) (at_first (machine 4)) part_denied refl 
               inl (
                 [],
                 Noted (Zeroed 1 0x7fffffffe000) ∷ Used false (1, 0x7fffffffe) ∷ [],
-                (refl, record { coming = []; making = []; whole = refl; comes_in = refl; made = refl }),
+                (refl, ready refl refl),
                 refl,
                 inl (
                   Zeroed 1 0x7fffffffe000 ∷ [],
@@ -726,7 +667,7 @@ part_denied-runs = by_steps (machine 4) (at_first (machine 4)) part_denied refl 
                 inl (
                   [],
                   [],
-                  (refl, record { coming = []; making = []; whole = refl; comes_in = refl; made = refl }),
+                  (refl, ready refl refl),
                   refl,
                   inr ([], Denied, (refl, refl), refl, refl),
                 ),
@@ -822,22 +763,7 @@ two_processes-runs = by_steps (machine 4) (at_first (machine 4)) two_processes r
               record {
                 answer = (
                   Whole,
-                  inl (
-                    New 7 0x7fffffffc000 0 ∷ [],
-                    [],
-                    (
-                      refl,
-                      record {
-                        coming = [];
-                        making = New 7 0x7fffffffc000 0 ∷ [];
-                        whole = refl;
-                        comes_in = refl;
-                        made = record { sought = []; frame = 0; seeks = refl; in_range = omega arith; free = refl; whole = refl };
-                      },
-                    ),
-                    refl,
-                    (refl, refl),
-                  ),
+                  inl (New 7 0x7fffffffc000 0 ∷ [], [], (refl, gets_frame 0 refl refl (omega arith) refl refl), refl, (refl, refl)),
                   refl,
                   refl,
                 );
@@ -850,22 +776,7 @@ two_processes-runs = by_steps (machine 4) (at_first (machine 4)) two_processes r
                 record {
                   answer = (
                     Whole,
-                    inl (
-                      New 3 0x7fffffffe000 1 ∷ [],
-                      [],
-                      (
-                        refl,
-                        record {
-                          coming = [];
-                          making = New 3 0x7fffffffe000 1 ∷ [];
-                          whole = refl;
-                          comes_in = refl;
-                          made = record { sought = []; frame = 1; seeks = refl; in_range = omega arith; free = refl; whole = refl };
-                        },
-                      ),
-                      refl,
-                      (refl, refl),
-                    ),
+                    inl (New 3 0x7fffffffe000 1 ∷ [], [], (refl, gets_frame 1 refl refl (omega arith) refl refl), refl, (refl, refl)),
                     refl,
                     refl,
                   );
@@ -879,13 +790,7 @@ two_processes-runs = by_steps (machine 4) (at_first (machine 4)) two_processes r
                     answer = (
                       Whole,
                       5 ∷ [],
-                      inl (
-                        [],
-                        [],
-                        (refl, record { coming = []; making = []; whole = refl; comes_in = refl; made = refl }),
-                        refl,
-                        (refl, refl),
-                      ),
+                      inl ([], [], (refl, ready refl refl), refl, (refl, refl)),
                       (refl, (refl, tt), (omega arith, tt)),
                       refl,
                       refl,
@@ -900,13 +805,7 @@ two_processes-runs = by_steps (machine 4) (at_first (machine 4)) two_processes r
                       answer = (
                         Whole,
                         6 ∷ [],
-                        inl (
-                          [],
-                          [],
-                          (refl, record { coming = []; making = []; whole = refl; comes_in = refl; made = refl }),
-                          refl,
-                          (refl, refl),
-                        ),
+                        inl ([], [], (refl, ready refl refl), refl, (refl, refl)),
                         (refl, (refl, tt), (omega arith, tt)),
                         refl,
                         refl,
@@ -995,22 +894,7 @@ readable-runs = by_steps (machine 4) (at_first (machine 4)) readable refl (topmo
           record {
             answer = (
               Whole,
-              inl (
-                New 1 0x7fffffffe000 0 ∷ [],
-                [],
-                (
-                  refl,
-                  record {
-                    coming = [];
-                    making = New 1 0x7fffffffe000 0 ∷ [];
-                    whole = refl;
-                    comes_in = refl;
-                    made = record { sought = []; frame = 0; seeks = refl; in_range = omega arith; free = refl; whole = refl };
-                  },
-                ),
-                refl,
-                (refl, refl),
-              ),
+              inl (New 1 0x7fffffffe000 0 ∷ [], [], (refl, gets_frame 0 refl refl (omega arith) refl refl), refl, (refl, refl)),
               refl,
               refl,
             );
@@ -1104,22 +988,7 @@ all_mapped-runs = by_steps (machine 4) (at_first (machine 4)) all_mapped refl ((
         record {
           answer = (
             Whole,
-            inl (
-              New 1 0x10000 0 ∷ [],
-              [],
-              (
-                refl,
-                record {
-                  coming = [];
-                  making = New 1 0x10000 0 ∷ [];
-                  whole = refl;
-                  comes_in = refl;
-                  made = record { sought = []; frame = 0; seeks = refl; in_range = omega arith; free = refl; whole = refl };
-                },
-              ),
-              refl,
-              (refl, refl),
-            ),
+            inl (New 1 0x10000 0 ∷ [], [], (refl, gets_frame 0 refl refl (omega arith) refl refl), refl, (refl, refl)),
             refl,
             refl,
           );
@@ -1142,16 +1011,7 @@ denied_write-runs = by_steps (machine 4) (at_first (machine 4)) (denied_write 1)
       inl (
         New 1 0x7fffffffe000 0 ∷ [],
         [],
-        (
-          refl,
-          record {
-            coming = [];
-            making = New 1 0x7fffffffe000 0 ∷ [];
-            whole = refl;
-            comes_in = refl;
-            made = record { sought = []; frame = 0; seeks = refl; in_range = omega arith; free = refl; whole = refl };
-          },
-        ),
+        (refl, gets_frame 0 refl refl (omega arith) refl refl),
         refl,
         inr ([], Denied, (refl, refl), refl, refl),
       ),
@@ -1168,7 +1028,7 @@ denied_write-runs = by_steps (machine 4) (at_first (machine 4)) (denied_write 1)
       answer = (
         Whole,
         1 ∷ [],
-        inl ([], [], (refl, record { coming = []; making = []; whole = refl; comes_in = refl; made = refl }), refl, (refl, refl)),
+        inl ([], [], (refl, ready refl refl), refl, (refl, refl)),
         (refl, (refl, tt), (omega arith, tt)),
         refl,
         refl,
