@@ -7,7 +7,7 @@ use av_text::number::address;
 use av_text::word::after;
 
 /// Where `mmap` puts the pages.
-#[derive(Clone, Copy, Drop, Debug, PartialEq, Eq)]
+#[derive(Clone, Copy, Drop)]
 pub enum Place {
     /// At the greatest address from which on they fit.
     Auto,
