@@ -37,7 +37,7 @@ mod placing;
 mod preparing;
 
 pub use changing::{Change, map, modify};
-pub use splitting::{split, unmap, unmap_all};
+pub use splitting::{unmap, unmap_all};
 pub use forking::fork;
 pub use laws::{
     areas_are_laid, cuts_keep_mappings, joins_keep_mappings, parts_are_changed_page_by_page,
