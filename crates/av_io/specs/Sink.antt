@@ -2,7 +2,7 @@
 use Rattle.std.specs.Prelude.{◌≡◌, ℕ, ◌<◌, ◌≤◌, List, [], ◌++◌, length, take, Option, None, option_map, Bool, true, false, Result, Ok, Err}
 use Rattle.av_io.specs.declared.sink.SinkErr.{SinkErr}
 use Rattle.av_io.specs.declared.sink.SinkErr.TheVariants.{Failed, Memory}
-use Rattle.av_io.specs.Count.{one_more, Rose}
+use Rattle.av_io.specs.Count.{one_more}
 
 -- what the sink holds, where it is told; what it keeps back; how often a flush handed that on; how
 -- often a call failed, and whether the last one did. A sink that tells what it holds keeps nothing
@@ -12,7 +12,7 @@ pub record SinkView : Type 0 where
   pub kept_back : List ℕ
   pub flushes : ℕ
   pub faults : ℕ
-  pub has_failed : Bool
+  pub last_failed : Bool
 
 -- these bytes were added at the end of what was held
 abbrev pub Gained : Option (List ℕ) → Option (List ℕ) → List ℕ → Type 0
@@ -25,34 +25,34 @@ pub record Takes (old new : SinkView) (n : ℕ) (piece : List ℕ) : Type 0 wher
   pub bytes : Gained old.held new.held (take n piece)
   pub flushes : new.flushes ≡ old.flushes
   pub unfailed : new.faults ≡ old.faults
-  pub served : new.has_failed ≡ false
+  pub served : new.last_failed ≡ false
 
--- a write added nothing: the sink failed, and that was counted, or memory ran out
+-- the call failed, and that was counted
+pub record HasFailed (old new : SinkView) : Type 0 where
+  pub faults : new.faults ≡ one_more old.faults
+  pub told : new.last_failed ≡ true
+
+-- a write added nothing: the sink failed, or memory ran out
 pub record TakesNothing (old new : SinkView) (error : SinkErr) : Type 0 where
   pub held : new.held ≡ old.held
   pub flushes : new.flushes ≡ old.flushes
-  pub never_falls : old.faults ≤ new.faults
-  pub cause : error ≡ Failed → Rose old.faults new.faults
-  pub told : error ≡ Failed → new.has_failed ≡ true
-  pub unfailed : error ≡ Memory → new.faults ≡ old.faults
+  pub failed : error ≡ Failed → HasFailed old new
+  pub memory : error ≡ Memory → (new.faults ≡ old.faults) × (new.last_failed ≡ false)
 
 -- a flush handed on all that was kept back
 pub record HandsOn (old new : SinkView) : Type 0 where
   pub held : new.held ≡ old.held
   pub all : new.kept_back ≡ []
   pub flushes : new.flushes ≡ one_more old.flushes
-  pub rises : old.flushes ≤ new.flushes
   pub unfailed : new.faults ≡ old.faults
-  pub served : new.has_failed ≡ false
+  pub served : new.last_failed ≡ false
 
--- a flush failed, and that was counted. A sink that tells what it holds doesn't fail so.
+-- a flush failed. A sink that tells what it holds doesn't fail so.
 pub record KeepsBack (old new : SinkView) : Type 0 where
   pub held : new.held ≡ old.held
   pub untold : old.held ≡ None
   pub flushes : new.flushes ≡ old.flushes
-  pub never_falls : old.faults ≤ new.faults
-  pub cause : Rose old.faults new.faults
-  pub told : new.has_failed ≡ true
+  pub failed : HasFailed old new
 
 -- whether a write failed: want of memory is no fault of the sink
 abbrev pub is_fault : Result ℕ SinkErr → Bool

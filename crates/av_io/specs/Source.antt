@@ -1,6 +1,6 @@
 -- What is told of a source, and what a read changes.
 use Rattle.std.specs.Prelude.{◌≡◌, ℕ, ◌<◌, ◌≤◌, ◌==◌, Bool, List, [], ◌++◌, length, take, Option, option_map, IfSome}
-use Rattle.av_io.specs.Count.{one_more, Rose}
+use Rattle.av_io.specs.Count.{one_more}
 
 -- what is left, where it is told; whether the source has told its end: of its reads that had room
 -- and did not fail, the last gave nothing; how often it was read, and how often that failed
@@ -38,5 +38,4 @@ pub record GivesNothing (old new : SourceView) : Type 0 where
   pub left : new.left ≡ old.left
   pub untold : new.has_told_end ≡ old.has_told_end
   pub reads : new.reads ≡ one_more old.reads
-  pub never_falls : old.faults ≤ new.faults
-  pub cause : Rose old.faults new.faults
+  pub faults : new.faults ≡ one_more old.faults

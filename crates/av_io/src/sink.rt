@@ -1,6 +1,7 @@
 //! Sinks for bytes.
 
-ghost use Rattle.std.specs.Prelude.{◌≡◌, [], Some, None, false, length, IfOk, IfErr, OnOk, OnErr};
+ghost use Rattle.std.specs.Prelude.{◌≡◌, ◌+◌, ◌<◌, [], Some, None, false, length, vec_len};
+ghost use Rattle.std.specs.Prelude.{vec_capacity, IfOk, IfErr, OnOk, OnErr};
 ghost use Rattle.std.specs.Io.Buffered.{writer_buffer, writer_contents, writer_inner};
 ghost use Rattle.std.specs.Io.KnownBytes.{Keeps, WriteAppends};
 ghost use Rattle.std.specs.IoError.{error_kind};
@@ -43,7 +44,7 @@ pub struct MemSink {
     bytes: Vec<u8>,
     flushes: u64,
     faults: Faults,
-    has_failed: bool,
+    last_failed: bool,
 }
 
 impl MemSink {
@@ -54,7 +55,7 @@ impl MemSink {
           kept_back = [];
           flushes = 0;
           faults = 0;
-          has_failed = false;
+          last_failed = false;
         } }
         ensures calls { IsFresh result.faults failing }
     {
@@ -62,7 +63,7 @@ impl MemSink {
             bytes: Vec::new(alloc),
             flushes: 0,
             faults: Faults::new(failing),
-            has_failed: false,
+            last_failed: false,
         }
     }
 
@@ -80,11 +81,11 @@ impl Sink for MemSink {
       kept_back = [];
       flushes = s.flushes;
       faults = s.faults.count;
-      has_failed = s.has_failed;
+      last_failed = s.last_failed;
     } };
 
     /// Beside what the trait says: exactly the calls that are listed fail, and any other takes the
-    /// whole piece, or is want of memory.
+    /// whole piece, or is want of memory, where there is no room for it.
     fn write(&mut self, piece: &[u8]) -> Result<usize, SinkErr>
         ensures ok { IfOk result (λ n. Takes (⟦<MemSink as Sink>⟧.view self.old)
             (⟦<MemSink as Sink>⟧.view self.new) n piece.now) }
@@ -92,9 +93,11 @@ impl Sink for MemSink {
             (⟦<MemSink as Sink>⟧.view self.new) e) }
         ensures calls { IsNextCall self.old.faults self.new.faults (is_fault result) }
         ensures whole { IfOk result (λ n. n ≡ length piece.now) }
+        ensures memory { IfErr result (λ e. e ≡ SinkErr.Memory
+            → vec_capacity self.old.bytes < vec_len self.old.bytes + length piece.now) }
     {
-        self.has_failed = self.faults.next_fails();
-        if self.has_failed {
+        self.last_failed = self.faults.next_fails();
+        if self.last_failed {
             return Err(SinkErr::Failed);
         }
         if self.bytes.extend_from_slice(piece).is_err() {
@@ -112,7 +115,7 @@ impl Sink for MemSink {
         ensures calls { self.new.faults ≡ self.old.faults }
     {
         self.flushes = self.flushes.saturating_add(1);
-        self.has_failed = false;
+        self.last_failed = false;
         Ok(())
     }
 }
@@ -124,7 +127,7 @@ pub struct WriteSink<W: Write + Drop> {
     writer: BufWriter<W>,
     flushes: u64,
     faults: u64,
-    has_failed: bool,
+    last_failed: bool,
 }
 
 impl<W: Write + Drop> WriteSink<W> {
@@ -135,7 +138,7 @@ impl<W: Write + Drop> WriteSink<W> {
           kept_back = [];
           flushes = 0;
           faults = 0;
-          has_failed = false;
+          last_failed = false;
         }) }
         ensures writer { IfOk result (λ s. writer_inner s.writer ≡ writer) }
         ensures err { IfErr result (λ e. error_kind e ≡ ErrorKind.OutOfMemory) }
@@ -144,7 +147,7 @@ impl<W: Write + Drop> WriteSink<W> {
             writer: BufWriter::with_capacity(alloc, ROOM, writer)?,
             flushes: 0,
             faults: 0,
-            has_failed: false,
+            last_failed: false,
         })
     }
 }
@@ -155,11 +158,11 @@ impl<W: Write + Drop> Sink for WriteSink<W> {
       kept_back = writer_buffer s.writer;
       flushes = s.flushes;
       faults = s.faults;
-      has_failed = s.has_failed;
+      last_failed = s.last_failed;
     } };
 
     /// Beside what the trait says: what the writer holds and what is kept back for it gain what is
-    /// taken, where they are known, and nothing else.
+    /// taken, where they are known, and nothing else; and memory is never wanting.
     fn write(&mut self, piece: &[u8]) -> Result<usize, SinkErr>
         ensures ok { IfOk result (λ n. Takes (⟦<WriteSink<W> as Sink>⟧.view self.old)
             (⟦<WriteSink<W> as Sink>⟧.view self.new) n piece.now) }
@@ -167,14 +170,15 @@ impl<W: Write + Drop> Sink for WriteSink<W> {
             (⟦<WriteSink<W> as Sink>⟧.view self.new) e) }
         ensures bytes { WriteAppends (writer_contents W.contents self.old.writer)
             (writer_contents W.contents self.new.writer) result piece.now }
+        ensures cause { IfErr result (λ e. e ≡ SinkErr.Failed) }
     {
         match self.writer.write(piece) {
             Ok(count) if count > 0 || piece.is_empty() => {
-                self.has_failed = false;
+                self.last_failed = false;
                 Ok(count)
             }
             _ => {
-                self.has_failed = true;
+                self.last_failed = true;
                 self.faults = self.faults.saturating_add(1);
                 Err(SinkErr::Failed)
             }
@@ -190,8 +194,8 @@ impl<W: Write + Drop> Sink for WriteSink<W> {
         ensures bytes { Keeps (writer_contents W.contents self.old.writer)
             (writer_contents W.contents self.new.writer) }
     {
-        self.has_failed = self.writer.flush().is_err();
-        if self.has_failed {
+        self.last_failed = self.writer.flush().is_err();
+        if self.last_failed {
             self.faults = self.faults.saturating_add(1);
             return Err(Failed);
         }

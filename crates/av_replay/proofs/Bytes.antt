@@ -1,8 +1,8 @@
 -- Bytes taken and gained, one piece after another.
-use Rattle.std.proofs.Common.{◌≡◌, ℕ, ◌+◌, ◌≤◌, List, [], ◌++◌, Option, Some, None, refl, sym, ap, ◌∙◌, append_assoc, append-nil, arith, take, drop}
+use Rattle.std.proofs.Common.{◌≡◌, ℕ, ◌+◌, List, [], ◌++◌, Option, Some, None, refl, sym, ap, ◌∙◌, append_assoc, append-nil, arith, take, drop}
 use Rattle.std.proofs.lemmas.List.{take-append-drop, take-take, drop-take}
 use Rattle.std.specs.Prelude.{option_map}
-use Rattle.av_io.specs.Count.{Rose, RoseBy}
+use Rattle.av_io.specs.Count.{RoseBy}
 use Rattle.av_io.specs.Source.{in_front, Took}
 use Rattle.av_io.specs.Sink.{Gained}
 
@@ -36,12 +36,6 @@ Gained-none (Some text) = ap Some (sym (append-nil text))
 
 pub Gained-same : (a b : Option (List ℕ)) → b ≡ a → Gained a b []
 Gained-same a b e = e ∙ Gained-none a
-
-pub Rose-later : (a b c : ℕ) → Rose a b → b ≤ c → Rose a c
-Rose-later a b c rose later = omega arith
-
-pub Rose-earlier : (a b c : ℕ) → a ≤ b → Rose b c → Rose a c
-Rose-earlier a b c later rose = omega arith
 
 -- nothing is less than a count rose by
 pub rose_none : (a : ℕ) → RoseBy 0 a a

@@ -1,78 +1,72 @@
--- Calls of the source and the sink: which failed, and when the sink was flushed.
-use Rattle.std.proofs.Common.{◌≡◌, ◌≢◌, ℕ, ◌⊎◌, None, refl, sym, ap, ◌∙◌, inl, inr}
-use Rattle.av_io.specs.Count.{one_more}
-use Rattle.av_io.specs.Source.{SourceView}
-use Rattle.av_io.specs.Sink.{HandsOn, KeepsBack}
+-- Calls of the source and the sink, by the status.
+use Rattle.std.proofs.Common.{◌≡◌, ℕ, List, [], Some, None, true, false, refl, ◌∙◌, subst, inl, inr}
+use Rattle.std.specs.Prelude.{is_some, if◌then◌else◌}
+use Rattle.av_kernel.specs.Machine.{Machine}
 use Rattle.av_replay.specs.declared.status.Status.{Status}
 use Rattle.av_replay.specs.declared.status.Status.TheVariants as statuses
 use Rattle.av_replay.specs.declared.status.RunErr.{RunErr}
 use Rattle.av_replay.specs.declared.status.RunErr.TheVariants as errors
-use Rattle.av_replay.specs.Streams.{Streams, AreFlushedAfter, AreInStep, AreUnfailed}
-use Rattle.av_replay.specs.Line.{FailsBy}
-use Rattle.av_replay.specs.Replay.{FailsOnlyAt, IsFlushed, status_at}
+use Rattle.av_replay.specs.Streams.{Streams, AreUnfailed}
+use Rattle.av_replay.specs.Line.{FailsBy, IsUnread}
+use Rattle.av_replay.specs.Turn.{Finished}
+use Rattle.av_replay.specs.Replay.{FailsOnlyAt, status_at, can_go_on, kernel_at}
+use Rattle.av_replay.proofs.Times.{unfailed_then, failed_since}
 
--- ---- what failed
+-- ---- by an error, which gives the status
 
-pub unfailed_then : (a b c : Streams) → AreUnfailed a b → AreUnfailed b c → AreUnfailed a c
-unfailed_then a b c p q = record { source = q.source ∙ p.source; sink = q.sink ∙ p.sink }
+module _ (old new : Streams) where
+  pub fails_at : (error : RunErr) (number : ℕ) → FailsBy error old new → FailsOnlyAt (status_at error number) old new
+  fails_at errors.BadLine number fails = fails
+  fails_at errors.Read number fails = fails
+  fails_at errors.Write number fails = fails
+  fails_at errors.Memory number fails = (fails.source, inl fails.sink)
 
--- nothing had failed before
-pub fails_then : (error : RunErr) (old now new : Streams) → AreUnfailed old now → FailsBy error now new → FailsBy error old new
-fails_then errors.BadLine old now new was fails = unfailed_then old now new was fails
-fails_then errors.Read old now new was fails = fails ∙ was.sink
-fails_then errors.Write old now new was fails = fails ∙ was.source
-fails_then errors.Memory old now new was fails = unfailed_then old now new was fails
+  -- where memory was wanting nothing failed
+  pub memory_at : (error : RunErr) (number : ℕ) → FailsBy error old new → status_at error number ≡ statuses.Memory → AreUnfailed old new
+  memory_at errors.BadLine number fails e = fails
+  memory_at errors.Read number fails e = absurd cc
+  memory_at errors.Write number fails e = absurd cc
+  memory_at errors.Memory number fails e = fails
 
-pub fails_at : (error : RunErr) (number : ℕ) (old new : Streams) → FailsBy error old new → FailsOnlyAt (status_at error number) old new
-fails_at errors.BadLine number old new fails = fails
-fails_at errors.Read number old new fails = fails
-fails_at errors.Write number old new fails = fails
-fails_at errors.Memory number old new fails = (fails.source, inl fails.sink)
+  -- it could not be found out whether more lines come
+  pub unread_at : (error : RunErr) (number : ℕ) (ahead : List ℕ) → ahead ≡ [] → IsUnread error old new → Finished (status_at error number) ahead old new
+  unread_at errors.Read number ahead none unread = (none, unread)
+  unread_at errors.Write number ahead none unread = (none, unread.0, unread.1)
+  unread_at errors.BadLine number ahead none unread = absurd unread
+  unread_at errors.Memory number ahead none unread = absurd unread
 
--- ---- the last flush
+  pub finished_memory : (status : Status) (ahead : List ℕ) → Finished status ahead old new → status ≡ statuses.Memory → AreUnfailed old new
+  finished_memory status ahead finished e = absurd (subst (λ (s : Status). Finished s ahead old new) e finished)
 
-module _ (old now new : Streams) (source : new.source ≡ now.source) where
-  same_faults : new.source.faults ≡ now.source.faults
-  same_faults = ap (λ (s : SourceView). s.faults) source
+pub read_at : (error : RunErr) (number : ℕ) → status_at error number ≡ statuses.ReadFault → error ≡ errors.Read
+read_at errors.BadLine number e = absurd cc
+read_at errors.Read number e = refl
+read_at errors.Write number e = absurd cc
+read_at errors.Memory number e = absurd cc
 
-  -- it failed, and nothing had before
-  pub fails_unflushed : (status : Status) → status ≢ statuses.ReadFault → FailsOnlyAt status old now → new.source.faults ≡ old.source.faults
-  fails_unflushed statuses.Done no_read fails = same_faults ∙ fails.source
-  fails_unflushed statuses.Usage no_read fails = same_faults ∙ fails.source
-  fails_unflushed (statuses.BadLine n) no_read fails = same_faults ∙ fails.source
-  fails_unflushed statuses.TooMany no_read fails = same_faults ∙ fails.source
-  fails_unflushed statuses.ReadFault no_read fails = absurd (no_read refl)
-  fails_unflushed statuses.WriteFault no_read fails = same_faults ∙ fails
-  fails_unflushed statuses.Memory no_read fails = same_faults ∙ fails.0
+pub goes_on_at : (status : Status) (kernel : Machine) → is_some (kernel_at status kernel) ≡ can_go_on status
+goes_on_at status kernel = elim (can_go_on status) as (λ b. is_some (if b then Some kernel else None) ≡ b) [ true ↦ refl | false ↦ refl ]
 
-  module _ (hands_on : HandsOn now.sink new.sink) where
-    same_sink : (now.sink.faults ≡ old.sink.faults) ⊎ (now.sink.held ≡ None) → (new.sink.faults ≡ old.sink.faults) ⊎ (new.sink.held ≡ None)
-    same_sink (inl same) = inl (hands_on.unfailed ∙ same)
-    same_sink (inr untold) = inr (hands_on.held ∙ untold)
+-- ---- where nothing had failed before
 
-    pub fails_flushed : (status : Status) → FailsOnlyAt status old now → FailsOnlyAt status old new
-    fails_flushed statuses.Done fails = record { source = same_faults ∙ fails.source; sink = hands_on.unfailed ∙ fails.sink }
-    fails_flushed statuses.Usage fails = record { source = same_faults ∙ fails.source; sink = hands_on.unfailed ∙ fails.sink }
-    fails_flushed (statuses.BadLine n) fails = record { source = same_faults ∙ fails.source; sink = hands_on.unfailed ∙ fails.sink }
-    fails_flushed statuses.TooMany fails = record { source = same_faults ∙ fails.source; sink = hands_on.unfailed ∙ fails.sink }
-    fails_flushed statuses.ReadFault fails = hands_on.unfailed ∙ fails
-    fails_flushed statuses.WriteFault fails = same_faults ∙ fails
-    fails_flushed statuses.Memory fails = (same_faults ∙ fails.0, same_sink fails.1)
+module _ (old now new : Streams) (was : AreUnfailed old now) where
+  pub fails_then : (error : RunErr) → FailsBy error now new → FailsBy error old new
+  fails_then errors.BadLine fails = unfailed_then old now new was fails
+  fails_then errors.Read fails = fails ∙ was.sink
+  fails_then errors.Write fails = fails ∙ was.source
+  fails_then errors.Memory fails = unfailed_then old now new was fails
 
-    once_more : AreInStep old now → AreFlushedAfter old new
-    once_more in_step same = hands_on.flushes ∙ ap one_more (sym (in_step same)) ∙ ap (λ (s : SourceView). one_more s.reads) (sym source)
-
-    pub flushed_at : (status : Status) → status ≢ statuses.Usage → status ≢ statuses.ReadFault → status ≢ statuses.WriteFault → AreInStep old now →
-        IsFlushed status old new
-    flushed_at statuses.Done no_usage no_read no_write in_step = record { none_kept = hands_on.all; flushes = once_more in_step }
-    flushed_at (statuses.BadLine n) no_usage no_read no_write in_step = record { none_kept = hands_on.all; flushes = once_more in_step }
-    flushed_at statuses.TooMany no_usage no_read no_write in_step = record { none_kept = hands_on.all; flushes = once_more in_step }
-    flushed_at statuses.Memory no_usage no_read no_write in_step = inr (inl hands_on.all)
-    flushed_at statuses.Usage no_usage no_read no_write in_step = absurd (no_usage refl)
-    flushed_at statuses.ReadFault no_usage no_read no_write in_step = absurd (no_read refl)
-    flushed_at statuses.WriteFault no_usage no_read no_write in_step = absurd (no_write refl)
-
-  -- it failed, where memory was wanting
-  pub memory_unflushed : KeepsBack now.sink new.sink → FailsOnlyAt statuses.Memory old now →
-      FailsOnlyAt statuses.Memory old new × IsFlushed statuses.Memory old new
-  memory_unflushed keeps fails = ((same_faults ∙ fails.0, inr (keeps.held ∙ keeps.untold)), inr (inr (keeps.held ∙ keeps.untold, keeps.told)))
+  pub fails_since : (status : Status) → FailsOnlyAt status now new → FailsOnlyAt status old new
+  fails_since statuses.Done fails = unfailed_then old now new was fails
+  fails_since statuses.Usage fails = unfailed_then old now new was fails
+  fails_since (statuses.BadLine n) fails = unfailed_then old now new was fails
+  fails_since statuses.TooMany fails = unfailed_then old now new was fails
+  fails_since statuses.ReadFault fails = fails ∙ was.sink
+  fails_since statuses.WriteFault fails = fails ∙ was.source
+  fails_since statuses.Memory fails = (
+    fails.0 ∙ was.source,
+    elim fails.1 [
+      | inl same ↦ inl (same ∙ was.sink)
+      | inr failed ↦ inr (failed.0, failed_since old.sink now.sink new.sink was.sink failed.1)
+    ],
+  )

@@ -1,45 +1,47 @@
 -- How a turn ends a run.
-use Rattle.std.proofs.Common.{◌≡◌, ◌≢◌, ℕ, ◌+◌, ◌<◌, ◌≤◌, List, [], ◌∷◌, ◌++◌, ◌⊎◌, length, take, Option, Some, None, true, Err, refl, sym, ap, subst, ◌∙◌, append_assoc, append-nil, length-append, arith, inl, inr}
-use Rattle.std.specs.Prelude.{IfSome, unwrap_or}
+use Rattle.std.proofs.Common.{◌≡◌, ◌≢◌, ℕ, ◌+◌, ◌<◌, ◌≤◌, List, [], ◌∷◌, ◌++◌, ◌⊎◌, length, take, Option, Some, None, Bool, true, false, refl, sym, ap, subst, ◌∙◌, append_assoc, append-nil, length-append, arith, inl, inr}
+use Rattle.std.specs.Prelude.{IfSome, if◌then◌else◌}
 use Rattle.std.specs.Option.{option_to_list}
-use Rattle.std.proofs.lemmas.List.{take_all, take_at, drop_at}
 use Rattle.std.proofs.lemmas.List.Elements.{All-nil}
-use Rattle.std.proofs.lemmas.List.Concat.{flat_map-append}
 use Rattle.av_trace.specs.Print.{text_of}
 use Rattle.av_plain.specs.Transcript.{Exchange, State, at_first, causes_of}
 use Rattle.av_kernel.specs.Machine.{Machine}
 use Rattle.av_plain.specs.Device.{Device, IsSameDevice, setting_of}
-use Rattle.av_io.specs.Count.{Rose, RoseBy}
-use Rattle.av_io.specs.Source.{SourceView, Took}
-use Rattle.av_io.specs.Sink.{Gained}
+use Rattle.av_io.specs.Count.{RoseBy}
+use Rattle.av_io.specs.Source.{Took}
+use Rattle.av_io.specs.Sink.{SinkView, Gained, HandsOn, HasFailed, KeepsBack}
 use Rattle.av_replay.specs.declared.status.Status.{Status}
 use Rattle.av_replay.specs.declared.status.Status.TheVariants as statuses
 use Rattle.av_replay.specs.declared.status.RunErr.{RunErr}
 use Rattle.av_replay.specs.declared.status.RunErr.TheVariants as errors
-use Rattle.av_replay.specs.Streams.{Streams, undone, IsLater, ReadsOn, IsAtEnd, StaysOpen}
+use Rattle.av_replay.specs.Streams.{Streams, undone, AreFlushed, AreUnfailed, ReadsOn, IsAtEnd, IsReadFault}
 use Rattle.av_replay.specs.Line.{IsLine}
-use Rattle.av_replay.specs.Turn.{texts, Commands, IsBad, IsEnding, TakesLine, Waits, CutsShort, IsUnflushed, Halts, DoesNext, FindsEnd, Finished}
-use Rattle.av_replay.specs.Replay.{most_lines, all_lines, Transcribes, Run, done_lines, Replays, IsLeft, StopsAt, MayGoOn, IsCutOff, Ends, status_at, Headline}
-use Rattle.av_replay.proofs.Bytes.{Took-none, Took-ahead, Gained-none, take-add, Rose-earlier, Rose-later, rose_none}
-use Rattle.av_replay.proofs.Times.{later_same, later_then}
-use Rattle.av_replay.proofs.Runs.{Past, whole, SoFar, longer, next_answers, read_more, wrote_more, later_more, faults_more, legal_more, kernel_more, texts_more, all_push, Transcribes-push, joined-push}
+use Rattle.av_replay.specs.Turn.{texts, Commands, IsEnding, TakesLine, Waits, CutsShort, IsUnflushed, Halts, DoesNext, FindsEnd, Finished}
+use Rattle.av_replay.specs.Replay.{most_lines, all_lines, Transcribes, Run, done_lines, Replays, IsHandedBack, StopsAt, MayGoOn, IsCutOff, Ends, status_at, Headline, can_go_on, kernel_at, FailsOnlyAt, FailsUntold, IsFlushed, FlushesLast}
+use Rattle.av_replay.proofs.Bytes.{Took-none, Took-ahead, Gained-none, rose_none}
+use Rattle.av_replay.proofs.Times.{device_same, failed_since, read_fault_since, handed_on}
+use Rattle.av_replay.proofs.Runs.{Past, whole, SoFar, longer, next_answers, read_more, wrote_more, device_more, faults_more, legal_more, kernel_more, texts_more, all_push, Transcribes-push, joined-push}
 
 -- ---- what the end of a turn leaves
 
 -- a run, the bytes that were written, and the kernel
 pub record Leaves (n : ℕ) (rest : List ℕ) (old new : Streams) (kernel : Machine) (run : Run) (written : List ℕ) : Type 0 where
   pub replays : Replays n old new run rest written
-  pub left : IsLeft kernel new.device n run
+  pub left : IsHandedBack kernel new.device n run
+
+hands_if : (b : Bool) (P : Machine → Type 0) (kernel : Machine) → P kernel → IfSome (if b then Some kernel else None) P
+hands_if true P kernel left = left
+hands_if false P kernel left = tt
 
 pub headline : (n : ℕ) (status : Status) (rest : List ℕ) (old new : Streams) (kernel : Machine) (run : Run) (written : List ℕ) →
-    Leaves n rest old new kernel run written → Ends status old new run rest written → Headline n status old new (Some kernel)
+    Leaves n rest old new kernel run written → Ends status old new run rest written → Headline n status old new (kernel_at status kernel)
 headline n status rest old new kernel run written leaves ends = record {
   run = run;
   rest = rest;
   written = written;
   replays = leaves.replays;
   ends = ends;
-  handed_back = λ _. leaves.left;
+  handed_back = hands_if (can_go_on status) (λ k. IsHandedBack k new.device n run) kernel leaves.left;
 }
 
 few_whole : (lines : List (List ℕ)) → length lines ≤ most_lines → length (lines ++ []) ≤ most_lines
@@ -59,15 +61,15 @@ waited n past ahead rest old now new k so_far few reads = record {
   legal = so_far.legal;
   faults = subst (RoseBy (causes_of past.transcript) old.device.faults) (sym (ap (λ (d : Device). d.faults) reads.device)) so_far.faults;
   wrote = subst (λ (h : Option (List ℕ)). Gained old.sink.held h (texts past.transcript)) (sym reads.held) so_far.wrote;
-  later = later_then old now new so_far.later reads.later;
+  device = subst (IsSameDevice old.device) (sym reads.device) so_far.device;
 }
 
 pub stops : (n : ℕ) (past : Past) (ahead rest : List ℕ) (old now new : Streams) (k k' : Machine) → SoFar n past ahead old now k →
     length past.lines ≤ most_lines → Waits ahead rest now new k k' → Leaves n rest old new k' (whole past) (texts past.transcript)
 stops n past ahead rest old now new k k' so_far few waits = record {
   replays = waited n past ahead rest old now new k so_far few waits.reads;
-  left = subst (λ (d : Device). IsLeft k' d n (whole past)) (sym waits.reads.device)
-      (subst (λ (m : Machine). IsLeft m now.device n (whole past)) (sym waits.kernel) so_far.kernel_left);
+  left = subst (λ (d : Device). IsHandedBack k' d n (whole past)) (sym waits.reads.device)
+      (subst (λ (m : Machine). IsHandedBack m now.device n (whole past)) (sym waits.kernel) so_far.kernel_left);
 }
 
 -- ---- a line was done in the turn
@@ -98,7 +100,7 @@ module _ (n : ℕ) (past : Past) (ahead : List ℕ) (old now new : Streams) (k k
           legal = legal_more n past ahead old now new k k' line (10 ∷ []) rest text written so_far takes;
           faults = faults_more n past ahead old now new k k' line (10 ∷ []) rest text written so_far takes;
           wrote = wrote_more n past ahead old now new k k' line (10 ∷ []) rest text written so_far takes;
-          later = later_more n past ahead old now new k k' line (10 ∷ []) rest text written so_far takes;
+          device = device_more n past ahead old now new k k' line (10 ∷ []) rest text written so_far takes;
         };
         left = kernel_more n past ahead old now new k k' line (10 ∷ []) rest text written so_far takes lines None;
       }
@@ -122,7 +124,7 @@ module _ (n : ℕ) (past : Past) (ahead : List ℕ) (old now new : Streams) (k k
           legal = legal_more n past ahead old now new k k' line [] rest text written so_far takes;
           faults = faults_more n past ahead old now new k k' line [] rest text written so_far takes;
           wrote = wrote_more n past ahead old now new k k' line [] rest text written so_far takes;
-          later = later_more n past ahead old now new k k' line [] rest text written so_far takes;
+          device = device_more n past ahead old now new k k' line [] rest text written so_far takes;
         };
         left = kernel_more n past ahead old now new k k' line [] rest text written so_far takes past.lines (Some line);
       }
@@ -223,58 +225,57 @@ may_go_on past rest few some = few
 
 -- the sink could not hand on what it kept back, before a read
 kept_back : (n : ℕ) (past : Past) (ahead rest : List ℕ) (old now new : Streams) (k k' : Machine) → SoFar n past ahead old now k →
-    length past.lines ≤ most_lines → MayGoOn (whole past) rest → IsUnflushed ahead rest now new k k' → Rose now.sink.faults new.sink.faults →
-    new.sink.has_failed ≡ true → Headline n statuses.WriteFault old new (Some k')
-kept_back n past ahead rest old now new k k' so_far few may unflushed rose failed =
+    length past.lines ≤ most_lines → MayGoOn (whole past) rest → IsUnflushed ahead rest now new k k' →
+    HasFailed now.sink new.sink → Headline n statuses.WriteFault old new (Some k')
+kept_back n past ahead rest old now new k k' so_far few may unflushed failed =
     headline n statuses.WriteFault rest old new k' _ _ (stops n past ahead rest old now new k k' so_far few unflushed.waits) (
       inr (record { untold = unflushed.untold; whole = refl; status = statuses.ReadFault; stops = (refl, may, unflushed.part) }),
-      Rose-earlier old.sink.faults now.sink.faults new.sink.faults so_far.later.sink rose,
-      failed,
+      failed_since old.sink now.sink new.sink so_far.unfailed.sink failed,
     )
 
 read_fault : (n : ℕ) (past : Past) (ahead rest : List ℕ) (old now new : Streams) (k k' : Machine) → SoFar n past ahead old now k →
-    length past.lines ≤ most_lines → MayGoOn (whole past) rest → Waits ahead rest now new k k' → IsLine rest → Rose now.source.faults new.source.faults →
-    StaysOpen now.source new.source → Headline n statuses.ReadFault old new (Some k')
-read_fault n past ahead rest old now new k k' so_far few may waits part rose stays_open =
+    length past.lines ≤ most_lines → MayGoOn (whole past) rest → Waits ahead rest now new k k' → IsLine rest →
+    IsReadFault now.source new.source → Headline n statuses.ReadFault old new (Some k')
+read_fault n past ahead rest old now new k k' so_far few may waits part failed =
     headline n statuses.ReadFault rest old new k' _ _ (stops n past ahead rest old now new k k' so_far few waits) (
       (refl, may, part),
       refl,
-      Rose-earlier old.source.faults now.source.faults new.source.faults so_far.later.source rose,
-      λ untold. stays_open (so_far.stays_open untold),
+      read_fault_since old.source now.source new.source so_far.unfailed.source so_far.stays_open failed,
     )
 
 memory : (n : ℕ) (past : Past) (ahead rest : List ℕ) (old now new : Streams) (k k' : Machine) → SoFar n past ahead old now k → length past.lines < most_lines →
-    ReadsOn ahead rest now new ⊎ CutsShort ahead now new k k' → Headline n statuses.Memory old new (Some k')
+    ReadsOn ahead rest now new ⊎ CutsShort ahead now new k k' → Headline n statuses.Memory old new None
 memory n past ahead rest old now new k k' so_far few (inl reads) = record {
   run = whole past;
   rest = rest;
   written = texts past.transcript;
   replays = waited n past ahead rest old now new k so_far (omega arith) reads;
   ends = inl refl;
-  handed_back = λ ne. absurd (ne refl);
+  handed_back = tt;
 }
 memory n past ahead rest old now new k k' so_far few (inr cut) =
     let c = cuts n past ahead old now new k k' so_far few cut in
     headline n statuses.Memory c.rest old new k' c.run c.written c.leaves (inr c.cut)
 
 write_fault : (n : ℕ) (past : Past) (ahead rest : List ℕ) (old now new : Streams) (k k' : Machine) → SoFar n past ahead old now k →
-    length past.lines < most_lines → CutsShort ahead now new k k' ⊎ IsUnflushed ahead rest now new k k' → Rose now.sink.faults new.sink.faults →
-    new.sink.has_failed ≡ true → Headline n statuses.WriteFault old new (Some k')
-write_fault n past ahead rest old now new k k' so_far few (inl cut) rose failed =
+    length past.lines < most_lines → CutsShort ahead now new k k' ⊎ IsUnflushed ahead rest now new k k' →
+    HasFailed now.sink new.sink → Headline n statuses.WriteFault old new (Some k')
+write_fault n past ahead rest old now new k k' so_far few (inl cut) failed =
     let c = cuts n past ahead old now new k k' so_far few cut in
     headline n statuses.WriteFault c.rest old new k' c.run c.written c.leaves
-    (inl c.cut, Rose-earlier old.sink.faults now.sink.faults new.sink.faults so_far.later.sink rose, failed)
-write_fault n past ahead rest old now new k k' so_far few (inr unflushed) rose failed =
-    kept_back n past ahead rest old now new k k' so_far (omega arith) (may_go_on past rest few) unflushed rose failed
+    (inl c.cut, failed_since old.sink now.sink new.sink so_far.unfailed.sink failed)
+write_fault n past ahead rest old now new k k' so_far few (inr unflushed) failed =
+    kept_back n past ahead rest old now new k k' so_far (omega arith) (may_go_on past rest few) unflushed failed
 
 pub halts : (n : ℕ) (past : Past) (ahead rest : List ℕ) (old now new : Streams) (k k' : Machine) (error : RunErr) (number : ℕ) → SoFar n past ahead old now k →
-    number ≡ length past.lines + 1 → number ≤ most_lines → Halts error ahead rest now new k k' → Headline n (status_at error number) old new (Some k')
+    number ≡ length past.lines + 1 → number ≤ most_lines → Halts error ahead rest now new k k' →
+    Headline n (status_at error number) old new (kernel_at (status_at error number) k')
 halts n past ahead rest old now new k k' errors.BadLine number so_far count few h =
     headline n (statuses.BadLine number) rest old new k' _ _ (stops n past ahead rest old now new k k' so_far (omega arith) h.0) ((refl, count, few, h.1), refl)
 halts n past ahead rest old now new k k' errors.Read number so_far count few h =
-    read_fault n past ahead rest old now new k k' so_far (omega arith) (may_go_on past rest (omega arith)) h.0 h.1 h.2 h.3
+    read_fault n past ahead rest old now new k k' so_far (omega arith) (may_go_on past rest (omega arith)) h.0 h.1 h.2
 halts n past ahead rest old now new k k' errors.Write number so_far count few h =
-    write_fault n past ahead rest old now new k k' so_far (omega arith) h.0 h.1 h.2
+    write_fault n past ahead rest old now new k k' so_far (omega arith) h.0 h.1
 halts n past ahead rest old now new k k' errors.Memory number so_far count few h = memory n past ahead rest old now new k k' so_far (omega arith) h
 
 -- ---- after the last line that may be done
@@ -285,47 +286,30 @@ nil_is_line rest none = subst IsLine (sym none) (record { one = All-nil _; short
 none_may : (past : Past) (rest : List ℕ) → rest ≡ [] → MayGoOn (whole past) rest
 none_may past rest none some = absurd (omega (arith, ap length none))
 
-pub too_many : (n : ℕ) (past : Past) (ahead rest : List ℕ) (old now new : Streams) (k : Machine) → SoFar n past ahead old now k →
-    length past.lines ≡ most_lines → ReadsOn ahead rest now new → 0 < length rest → Headline n statuses.TooMany old new (Some k)
-too_many n past ahead rest old now new k so_far count reads some =
-    headline n statuses.TooMany rest old new k _ _ (stops n past ahead rest old now new k k so_far (omega arith) (record { reads = reads; kernel = refl }))
-    ((refl, count, some), refl)
+module _ (n : ℕ) (past : Past) (ahead rest : List ℕ) (old now new : Streams) (k : Machine) (so_far : SoFar n past ahead old now k)
+    (count : length past.lines ≡ most_lines) (reads : ReadsOn ahead rest now new) where
+  waits : Waits ahead rest now new k k
+  waits = record { reads = reads; kernel = refl }
 
-pub ends_there : (n : ℕ) (past : Past) (ahead rest : List ℕ) (old now new : Streams) (k : Machine) → SoFar n past ahead old now k →
-    length past.lines ≡ most_lines → ReadsOn ahead rest now new → rest ≡ [] → IsAtEnd new.source → Headline n statuses.Done old new (Some k)
-ends_there n past ahead rest old now new k so_far count reads none end =
-    all_done n past ahead rest old now new k k so_far (omega arith) (record { waits = record { reads = reads; kernel = refl }; none = none; end = end })
-
-pub unread_there : (n : ℕ) (past : Past) (ahead rest : List ℕ) (old now new : Streams) (k : Machine) → SoFar n past ahead old now k →
-    length past.lines ≡ most_lines → ReadsOn ahead rest now new → rest ≡ [] → Rose now.source.faults new.source.faults →
-    StaysOpen now.source new.source → Headline n statuses.ReadFault old new (Some k)
-unread_there n past ahead rest old now new k so_far count reads none rose stays_open =
-    read_fault n past ahead rest old now new k k so_far (omega arith) (none_may past rest none) (record { reads = reads; kernel = refl })
-    (nil_is_line rest none) rose stays_open
-
-pub unflushed_there : (n : ℕ) (past : Past) (ahead rest : List ℕ) (old now new : Streams) (k : Machine) → SoFar n past ahead old now k →
-    length past.lines ≡ most_lines → ReadsOn ahead rest now new → rest ≡ [] → new.sink.held ≡ None → Rose now.sink.faults new.sink.faults →
-    new.sink.has_failed ≡ true → Headline n statuses.WriteFault old new (Some k)
-unflushed_there n past ahead rest old now new k so_far count reads none untold rose failed =
-    kept_back n past ahead rest old now new k k so_far (omega arith) (none_may past rest none)
-    (record { waits = record { reads = reads; kernel = refl }; part = nil_is_line rest none; untold = untold }) rose failed
-
--- it could not be found out whether more lines come
-pub unfinished : (n : ℕ) (past : Past) (ahead rest : List ℕ) (old now new : Streams) (k : Machine) (error : RunErr) (number : ℕ) →
-    SoFar n past ahead old now k → length past.lines ≡ most_lines → ReadsOn ahead rest now new → Finished (Err error) rest now new →
-    Headline n (status_at error number) old new (Some k)
-unfinished n past ahead rest old now new k errors.Read number so_far count reads f =
-    unread_there n past ahead rest old now new k so_far count reads f.0 f.1 f.2
-unfinished n past ahead rest old now new k errors.Write number so_far count reads f =
-    unflushed_there n past ahead rest old now new k so_far count reads f.0 f.1 f.2 f.3
-unfinished n past ahead rest old now new k errors.BadLine number so_far count reads f = absurd f
-unfinished n past ahead rest old now new k errors.Memory number so_far count reads f = absurd f
+  pub finishes : (status : Status) → Finished status rest now new → Headline n status old new (kernel_at status k)
+  finishes statuses.TooMany some =
+      headline n statuses.TooMany rest old new k _ _ (stops n past ahead rest old now new k k so_far (omega arith) waits) ((refl, count, some), refl)
+  finishes statuses.Done f =
+      all_done n past ahead rest old now new k k so_far (omega arith) (record { waits = waits; none = f.0; end = f.1 })
+  finishes statuses.ReadFault f =
+      read_fault n past ahead rest old now new k k so_far (omega arith) (none_may past rest f.0) waits (nil_is_line rest f.0) f.1
+  finishes statuses.WriteFault f =
+      kept_back n past ahead rest old now new k k so_far (omega arith) (none_may past rest f.0)
+      (record { waits = waits; part = nil_is_line rest f.0; untold = f.1 }) f.2
+  finishes statuses.Usage f = absurd f
+  finishes (statuses.BadLine number) f = absurd f
+  finishes statuses.Memory f = absurd f
 
 -- ---- the whole run
 
 -- memory ran out before anything was read
-pub nothing_done : (n : ℕ) (io : Streams) (kernel : Option Machine) → Headline n statuses.Memory io io kernel
-nothing_done n io kernel = record {
+pub nothing_done : (n : ℕ) (io : Streams) → Headline n statuses.Memory io io None
+nothing_done n io = record {
   run = record { lines = []; last = None; transcript = []; state = at_first (setting_of n io.device) };
   rest = [];
   written = [];
@@ -339,21 +323,10 @@ nothing_done n io kernel = record {
     legal = refl;
     faults = rose_none io.device.faults;
     wrote = Gained-none io.sink.held;
-    later = later_same io;
+    device = device_same io.device;
   };
   ends = inl refl;
-  handed_back = λ ne. absurd (ne refl);
-}
-
--- the kernel is spent then
-pub without_kernel : (n : ℕ) (old new : Streams) (kernel : Option Machine) → Headline n statuses.Memory old new kernel → Headline n statuses.Memory old new None
-without_kernel n old new kernel h = record {
-  run = h.run;
-  rest = h.rest;
-  written = h.written;
-  replays = h.replays;
-  ends = h.ends;
-  handed_back = λ ne. absurd (ne refl);
+  handed_back = tt;
 }
 
 pub same_frames : (m n : ℕ) (status : Status) (old new : Streams) (kernel : Option Machine) → m ≡ n → Headline m status old new kernel →
@@ -362,97 +335,133 @@ same_frames m n status old new kernel e h = subst (λ (k : ℕ). Headline k stat
 
 -- a trace that was begun is no usage error
 pub no_usage : (n : ℕ) (status : Status) (old new : Streams) (kernel : Option Machine) → Headline n status old new kernel → status ≢ statuses.Usage
-no_usage n status old new kernel h e = subst (λ (s : Status). Ends s old new h.run h.rest h.written) e h.ends
+no_usage n status old new kernel h e =
+    let ends = subst (λ (s : Status). Ends s old new h.run h.rest h.written) e h.ends in ends.0
 
 -- ---- the last flush
 
-module _ (n : ℕ) (old now new : Streams) (kernel : Machine) (source : new.source ≡ now.source) (held : new.sink.held ≡ now.sink.held)
-    (device : new.device ≡ now.device) (never_falls : now.sink.faults ≤ new.sink.faults) (flushes : now.sink.flushes ≤ new.sink.flushes) where
-  later_flush : IsLater old now → IsLater old new
-  later_flush later = record {
-    source = omega (arith, later.source, ap (λ (s : SourceView). s.faults) source);
-    sink = omega (arith, later.sink);
-    device = subst (IsSameDevice old.device) (sym device) later.device;
-    flushed = λ h. let before = later.flushed h in omega (arith, before, ap (λ (s : SourceView). s.reads) source);
-  }
+-- what a replay says
+pub record Replayed (n : ℕ) (status : Status) (old new : Streams) (kernel : Machine) : Type 0 where
+  pub headline : Headline n status old new (kernel_at status kernel)
+  pub unfailed : FailsOnlyAt status old new
+  pub flushed : IsFlushed status old new
 
-  replays_flush : (run : Run) (rest written : List ℕ) → Replays n old now run rest written → Replays n old new run rest written
-  replays_flush run rest written r = record {
-    read = subst (λ (s : SourceView). Took old.source.left s.left (all_lines run.lines ++ (unwrap_or run.last [] ++ rest))) (sym source) r.read;
+module _ (n : ℕ) (old now : Streams) (kernel : Machine) (sink : SinkView) where
+  abbrev new : Streams
+  new = record now { sink = sink }
+
+  replays_flush : (run : Run) (rest written : List ℕ) → sink.held ≡ now.sink.held → Replays n old now run rest written → Replays n old new run rest written
+  replays_flush run rest written held r = record {
+    read = r.read;
     near = r.near;
     lines = r.lines;
     few = r.few;
-    last = subst (λ (s : SourceView). IfSome run.last (λ line. IsLine line × (0 < length line) × (rest ≡ []) × IsAtEnd s)) (sym source) r.last;
+    last = r.last;
     commands = r.commands;
     legal = r.legal;
-    faults = subst (RoseBy (causes_of run.transcript) old.device.faults) (sym (ap (λ (d : Device). d.faults) device)) r.faults;
+    faults = r.faults;
     wrote = subst (λ (h : Option (List ℕ)). Gained old.sink.held h written) (sym held) r.wrote;
-    later = later_flush r.later;
+    device = r.device;
   }
 
-  left_flush : (run : Run) → IsLeft kernel now.device n run → IsLeft kernel new.device n run
-  left_flush run left = subst (λ (d : Device). IsLeft kernel d n run) (sym device) left
-
-  stops_flush : (status : Status) (run : Run) (rest : List ℕ) → StopsAt status now run rest → StopsAt status new run rest
-  stops_flush statuses.Done run rest s = (s.0, subst IsAtEnd (sym source) s.1)
-  stops_flush (statuses.BadLine number) run rest s = (s.0, s.1, s.2, subst (λ (v : SourceView). IsBad rest v.left) (sym source) s.3)
-  stops_flush statuses.ReadFault run rest s = s
-  stops_flush statuses.TooMany run rest s = s
-  stops_flush statuses.Usage run rest s = absurd s
-  stops_flush statuses.WriteFault run rest s = absurd s
-  stops_flush statuses.Memory run rest s = absurd s
-
-  ends_flush : (status : Status) (run : Run) (rest written : List ℕ) → status ≢ statuses.WriteFault → Ends status old now run rest written →
-      Ends status old new run rest written
-  ends_flush statuses.Done run rest written ne e = (stops_flush statuses.Done run rest e.0, e.1)
-  ends_flush (statuses.BadLine number) run rest written ne e = (stops_flush (statuses.BadLine number) run rest e.0, e.1)
-  ends_flush statuses.ReadFault run rest written ne e = (
-    e.0,
-    e.1,
-    Rose-later old.source.faults now.source.faults new.source.faults e.2
-        (omega (arith, ap (λ (s : SourceView). s.faults) source)),
-    λ untold. ap (λ (s : SourceView). s.has_told_end) source ∙ e.3 untold,
-  )
-  ends_flush statuses.TooMany run rest written ne e = e
-  ends_flush statuses.Memory run rest written ne e = e
-  ends_flush statuses.Usage run rest written ne e = absurd e
-  ends_flush statuses.WriteFault run rest written ne e = absurd (ne refl)
-
-  -- it handed on what was kept back, or the status says already that memory ran out
-  pub flushed : (status : Status) → status ≢ statuses.WriteFault → Headline n status old now (Some kernel) → Headline n status old new (Some kernel)
-  flushed status ne h = record {
+  -- the same ending
+  ends_so : (status : Status) (h : Headline n status old now (kernel_at status kernel)) → sink.held ≡ now.sink.held →
+      Ends status old new h.run h.rest h.written → Headline n status old new (kernel_at status kernel)
+  ends_so status h held ends = record {
     run = h.run;
     rest = h.rest;
     written = h.written;
-    replays = replays_flush h.run h.rest h.written h.replays;
-    ends = ends_flush status h.run h.rest h.written ne h.ends;
-    handed_back = λ ne. left_flush h.run (h.handed_back ne);
+    replays = replays_flush h.run h.rest h.written held h.replays;
+    ends = ends;
+    handed_back = h.handed_back;
   }
 
-  whole_at : (status : Status) (run : Run) (rest written : List ℕ) → status ≢ statuses.Memory → status ≢ statuses.WriteFault →
-      Ends status old now run rest written → StopsAt status now run rest × (written ≡ texts run.transcript)
-  whole_at statuses.Done run rest written no_memory no_fault ends = ends
-  whole_at (statuses.BadLine number) run rest written no_memory no_fault ends = ends
-  whole_at statuses.ReadFault run rest written no_memory no_fault ends = (ends.0, ends.1)
-  whole_at statuses.TooMany run rest written no_memory no_fault ends = ends
-  whole_at statuses.Usage run rest written no_memory no_fault ends = absurd ends
-  whole_at statuses.WriteFault run rest written no_memory no_fault ends = absurd (no_fault refl)
-  whole_at statuses.Memory run rest written no_memory no_fault ends = absurd (no_memory refl)
+  module _ (was : AreUnfailed old now) (flushed : AreFlushed 0 old now) where
+    unfailed : HandsOn now.sink sink → AreUnfailed old new
+    unfailed hands_on = record { source = was.source; sink = hands_on.unfailed ∙ was.sink }
 
-  -- it failed
-  pub unflushed : (status : Status) → status ≢ statuses.Memory → status ≢ statuses.WriteFault → now.sink.held ≡ None → Rose now.sink.faults new.sink.faults →
-      new.sink.has_failed ≡ true → Headline n status old now (Some kernel) → Headline n statuses.WriteFault old new (Some kernel)
-  unflushed status no_memory no_fault untold rose failed h =
-      let w = whole_at status h.run h.rest h.written no_memory no_fault h.ends in
-      record {
-        run = h.run;
-        rest = h.rest;
-        written = h.written;
-        replays = replays_flush h.run h.rest h.written h.replays;
-        ends = (
-          inr (record { untold = held ∙ untold; whole = w.1; status = status; stops = stops_flush status h.run h.rest w.0 }),
-          Rose-earlier old.sink.faults now.sink.faults new.sink.faults h.replays.later.sink rose,
-          failed,
-        );
-        handed_back = λ _. left_flush h.run (h.handed_back no_memory);
-      }
+    fails_untold : KeepsBack now.sink sink → FailsUntold old.sink sink
+    fails_untold keeps = (keeps.held ∙ keeps.untold, failed_since old.sink now.sink sink was.sink keeps.failed)
+
+    kept : AreFlushed 0 old now → sink.flushes ≡ now.sink.flushes → AreFlushed 0 old new
+    kept so same = record { n = so.n; reads = so.reads; flushes = same ∙ so.flushes }
+
+    -- it failed
+    unflushed : (status : Status) (run : Run) (rest written : List ℕ) → Replays n old now run rest written → IsHandedBack kernel now.device n run →
+        StopsAt status new run rest → written ≡ texts run.transcript → KeepsBack now.sink sink → Replayed n statuses.WriteFault old new kernel
+    unflushed status run rest written replays left stops whole keeps =
+        let untold = fails_untold keeps in
+        record {
+          headline = record {
+            run = run;
+            rest = rest;
+            written = written;
+            replays = replays_flush run rest written keeps.held replays;
+            ends = (inr (record { untold = untold.0; whole = whole; status = status; stops = stops }), untold.1);
+            handed_back = left;
+          };
+          unfailed = was.source;
+          flushed = kept flushed keeps.flushes;
+        }
+
+    at_memory : (h : Headline n statuses.Memory old now None) → HandsOn now.sink sink ⊎ KeepsBack now.sink sink →
+        Replayed n statuses.Memory old new kernel
+    at_memory h (inl hands_on) = record {
+      headline = ends_so statuses.Memory h hands_on.held h.ends;
+      unfailed = (was.source, inl (hands_on.unfailed ∙ was.sink));
+      flushed = inr (inl (handed_on old now sink flushed hands_on));
+    }
+    at_memory h (inr keeps) = record {
+      headline = ends_so statuses.Memory h keeps.held h.ends;
+      unfailed = (was.source, inr (fails_untold keeps));
+      flushed = inr (inr (fails_untold keeps, kept flushed keeps.flushes));
+    }
+
+    at_done : Headline n statuses.Done old now (Some kernel) → HandsOn now.sink sink → Replayed n statuses.Done old new kernel
+    at_done h hands_on = record {
+      headline = ends_so statuses.Done h hands_on.held h.ends;
+      unfailed = unfailed hands_on;
+      flushed = handed_on old now sink flushed hands_on;
+    }
+
+    at_bad_line : (number : ℕ) → Headline n (statuses.BadLine number) old now (Some kernel) → HandsOn now.sink sink →
+        Replayed n (statuses.BadLine number) old new kernel
+    at_bad_line number h hands_on = record {
+      headline = ends_so (statuses.BadLine number) h hands_on.held h.ends;
+      unfailed = unfailed hands_on;
+      flushed = handed_on old now sink flushed hands_on;
+    }
+
+    at_too_many : Headline n statuses.TooMany old now (Some kernel) → HandsOn now.sink sink → Replayed n statuses.TooMany old new kernel
+    at_too_many h hands_on = record {
+      headline = ends_so statuses.TooMany h hands_on.held h.ends;
+      unfailed = unfailed hands_on;
+      flushed = handed_on old now sink flushed hands_on;
+    }
+
+  -- no flush came
+  same_sink : (status : Status) → sink ≡ now.sink → Replayed n status old now kernel → Replayed n status old new kernel
+  same_sink status e r = subst (λ (s : SinkView). Replayed n status old (record now { sink = s }) kernel) (sym e) r
+
+  named : (status last : Status) → last ≡ status → Replayed n status old new kernel → Replayed n last old new kernel
+  named status last e r = subst (λ (s : Status). Replayed n s old new kernel) (sym e) r
+
+  pub replayed : (status last : Status) → FlushesLast status last now.sink sink → Headline n status old now (kernel_at status kernel) →
+      FailsOnlyAt status old now → (status ≡ statuses.Memory → AreUnfailed old now) → AreFlushed 0 old now →
+      (status ≡ statuses.ReadFault → now.sink.kept_back ≡ []) → Replayed n last old new kernel
+  replayed statuses.Done last (inl f) h was memory so none = named statuses.Done last f.0 (at_done was so h f.1)
+  replayed statuses.Done last (inr f) h was memory so none =
+      named statuses.WriteFault last f.0 (unflushed was so statuses.Done h.run h.rest h.written h.replays h.handed_back h.ends.0 h.ends.1 f.1)
+  replayed (statuses.BadLine number) last (inl f) h was memory so none = named (statuses.BadLine number) last f.0 (at_bad_line was so number h f.1)
+  replayed (statuses.BadLine number) last (inr f) h was memory so none =
+      named statuses.WriteFault last f.0 (unflushed was so (statuses.BadLine number) h.run h.rest h.written h.replays h.handed_back h.ends.0 h.ends.1 f.1)
+  replayed statuses.TooMany last (inl f) h was memory so none = named statuses.TooMany last f.0 (at_too_many was so h f.1)
+  replayed statuses.TooMany last (inr f) h was memory so none =
+      named statuses.WriteFault last f.0 (unflushed was so statuses.TooMany h.run h.rest h.written h.replays h.handed_back h.ends.0 h.ends.1 f.1)
+  replayed statuses.Usage last f h was memory so none = absurd h.ends.0
+  replayed statuses.ReadFault last f h was memory so none =
+      named statuses.ReadFault last f.0 (same_sink statuses.ReadFault f.1
+      (record { headline = h; unfailed = was; flushed = record { none_kept = none refl; flushed = so } }))
+  replayed statuses.WriteFault last f h was memory so none =
+      named statuses.WriteFault last f.0 (same_sink statuses.WriteFault f.1 (record { headline = h; unfailed = was; flushed = so }))
+  replayed statuses.Memory last f h was memory so none = named statuses.Memory last f.0 (at_memory (memory refl) so h f.1)

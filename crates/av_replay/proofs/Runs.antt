@@ -9,19 +9,19 @@ use Rattle.av_trace.specs.Print.{text_of}
 use Rattle.av_plain.specs.Ledger.{Setting}
 use Rattle.av_plain.specs.Transcript.{Exchange, State, IsRun, at_first, causes_of}
 use Rattle.av_kernel.specs.Machine.{Machine}
-use Rattle.av_plain.specs.Device.{setting_of}
+use Rattle.av_plain.specs.Device.{IsSameDevice, setting_of}
 use Rattle.av_plain.specs.Step.{causes}
 use Rattle.av_io.specs.Count.{RoseBy}
 use Rattle.std.proofs.lemmas.List.Sums.{sum_by-append}
 use Rattle.av_io.specs.Source.{in_front, Took}
 use Rattle.av_io.specs.Sink.{Gained}
-use Rattle.av_replay.specs.Streams.{Streams, undone, room, IsLater, StaysOpen}
+use Rattle.av_replay.specs.Streams.{Streams, undone, room, AreUnfailed, StaysOpen}
 use Rattle.av_replay.specs.Line.{IsLine}
 use Rattle.av_replay.specs.Turn.{texts, tally_of, Commands, Answers, TakesLine}
-use Rattle.av_replay.specs.Replay.{all_lines, Transcribes, Run, IsLeft, IsAtStart}
+use Rattle.av_replay.specs.Replay.{all_lines, Transcribes, Run, IsHandedBack, IsAtStart}
 use Rattle.av_replay.proofs.Bytes.{Took-then, Took-none, Gained-then, Gained-none, rose_none, rose_then}
 use Rattle.av_plain.proofs.Device.{setting_same}
-use Rattle.av_replay.proofs.Times.{later_same, later_then}
+use Rattle.av_replay.proofs.Times.{device_same, device_then, unfailed_then}
 
 -- ---- lists that grow at the end
 
@@ -73,8 +73,9 @@ pub record SoFar (n : ℕ) (past : Past) (ahead : List ℕ) (old now : Streams) 
   pub legal : IsRun (setting_of n old.device) (at_first (setting_of n old.device)) past.transcript past.state
   pub faults : RoseBy (causes_of past.transcript) old.device.faults now.device.faults
   pub wrote : Gained old.sink.held now.sink.held (texts past.transcript)
-  pub kernel_left : IsLeft kernel now.device n (whole past)
-  pub later : IsLater old now
+  pub kernel_left : IsHandedBack kernel now.device n (whole past)
+  pub device : IsSameDevice old.device now.device
+  pub unfailed : AreUnfailed old now
   pub stays_open : StaysOpen old.source now.source
 
 abbrev pub no_past : Setting → Past
@@ -91,7 +92,8 @@ starts ahead now kernel none start = record {
   faults = rose_none now.device.faults;
   wrote = Gained-none now.sink.held;
   kernel_left = record { stands = start.stands; frames = refl; steps = start.steps; tally = start.tally; unspent = start.unspent };
-  later = later_same now;
+  device = device_same now.device;
+  unfailed = record { source = refl; sink = refl };
   stays_open = λ untold. untold;
 }
 
@@ -113,14 +115,14 @@ module _ (n : ℕ) (past : Past) (ahead : List ℕ) (old now new : Streams) (k k
   pub wrote_more : Gained old.sink.held new.sink.held (texts past.transcript ++ written)
   wrote_more = Gained-then _ _ _ _ _ so_far.wrote takes.gained
 
-  pub later_more : IsLater old new
-  later_more = later_then old now new so_far.later takes.later
+  pub device_more : IsSameDevice old.device new.device
+  device_more = device_then old.device now.device new.device so_far.device takes.device
 
   pub legal_more : IsRun (setting_of n old.device) (at_first (setting_of n old.device)) (past.transcript ++ option_to_list next_answers.did) next_answers.next
   legal_more = IsRun-append (setting_of n old.device) (at_first (setting_of n old.device)) past.state next_answers.next past.transcript
       (option_to_list next_answers.did) so_far.legal
       (subst (λ (m : Setting). IsRun m past.state (option_to_list next_answers.did) next_answers.next)
-      (ap (λ k. setting_of k now.device) so_far.kernel_left.frames ∙ setting_same n old.device now.device so_far.later.device) next_answers.run)
+      (ap (λ k. setting_of k now.device) so_far.kernel_left.frames ∙ setting_same n old.device now.device so_far.device) next_answers.run)
 
   -- what only faults explain, with those of the line
   pub faults_more : RoseBy (causes_of (past.transcript ++ option_to_list next_answers.did)) old.device.faults new.device.faults
@@ -131,7 +133,8 @@ module _ (n : ℕ) (past : Past) (ahead : List ℕ) (old now new : Streams) (k k
 
   -- the kernel after the line
   pub kernel_more : (lines : List (List ℕ)) (last : Option (List ℕ)) →
-      IsLeft k' new.device n (record { lines = lines; last = last; transcript = past.transcript ++ option_to_list next_answers.did; state = next_answers.next })
+      IsHandedBack k' new.device n
+      (record { lines = lines; last = last; transcript = past.transcript ++ option_to_list next_answers.did; state = next_answers.next })
   kernel_more lines last =
       let a = next_answers in
       let kept = so_far.kernel_left in
@@ -149,10 +152,11 @@ module _ (n : ℕ) (past : Past) (ahead : List ℕ) (old now new : Streams) (k k
       ∙ sym (flat_map-append (λ (e : Exchange). text_of e.reply) past.transcript (option_to_list next_answers.did))
 
 pub goes_on : (n : ℕ) (past : Past) (ahead rest : List ℕ) (old now new : Streams) (k k' : Machine) (line text : List ℕ) (so_far : SoFar n past ahead old now k)
-    (takes : TakesLine ahead now new k k' line (10 ∷ []) rest text text) (stays_open : StaysOpen now.source new.source) →
+    (takes : TakesLine ahead now new k k' line (10 ∷ []) rest text text) (unfailed : AreUnfailed now new)
+    (stays_open : StaysOpen now.source new.source) →
     SoFar n (longer past line (next_answers n past ahead old now new k k' line (10 ∷ []) rest text text so_far takes).did
     (next_answers n past ahead old now new k k' line (10 ∷ []) rest text text so_far takes).next) rest old new k'
-goes_on n past ahead rest old now new k k' line text so_far takes stays_open =
+goes_on n past ahead rest old now new k k' line text so_far takes unfailed stays_open =
     let a = next_answers n past ahead old now new k k' line (10 ∷ []) rest text text so_far takes in
     record {
       read = subst (Took old.source.left (undone rest new)) (sym (joined-push past.lines line))
@@ -165,6 +169,7 @@ goes_on n past ahead rest old now new k k' line text so_far takes stays_open =
       wrote = subst (Gained old.sink.held new.sink.held) (texts_more n past ahead old now new k k' line (10 ∷ []) rest text text so_far takes)
           (wrote_more n past ahead old now new k k' line (10 ∷ []) rest text text so_far takes);
       kernel_left = kernel_more n past ahead old now new k k' line (10 ∷ []) rest text text so_far takes (past.lines ++ line ∷ []) None;
-      later = later_more n past ahead old now new k k' line (10 ∷ []) rest text text so_far takes;
+      device = device_more n past ahead old now new k k' line (10 ∷ []) rest text text so_far takes;
+      unfailed = unfailed_then old now new so_far.unfailed unfailed;
       stays_open = λ untold. stays_open (so_far.stays_open untold);
     }

@@ -1,8 +1,11 @@
 -- Sources and sinks from one time to the next.
-use Rattle.std.proofs.Common.{◌≡◌, ℕ, ◌≤◌, List, length, refl, ◌∙◌, arith}
-use Rattle.av_io.specs.Sink.{SinkView}
+use Rattle.std.proofs.Common.{zero, suc, ◌≡◌, ℕ, ◌+◌, ◌≤◌, List, length, refl, ap, ◌∙◌, arith}
+use Rattle.av_io.specs.Count.{one_more}
+use Rattle.av_io.specs.Source.{SourceView}
+use Rattle.av_io.specs.Sink.{SinkView, HandsOn, HasFailed}
 use Rattle.av_plain.specs.Device.{Device, IsSameDevice}
-use Rattle.av_replay.specs.Streams.{Streams, room, IsLater, ReadsOn, Writes}
+use Rattle.av_replay.specs.Streams.{Streams, room, after_calls, AreFlushed, AreUnfailed, IsReadFault, ReadsOn, StaysOpen}
+use Rattle.av_replay.specs.Replay.{IsHandedOn}
 
 -- ---- a device
 
@@ -12,37 +15,63 @@ device_same a = record { sizes = refl; first = refl; faults = omega arith }
 pub device_then : (a b c : Device) → IsSameDevice a b → IsSameDevice b c → IsSameDevice a c
 device_then a b c p q = record { sizes = q.sizes ∙ p.sizes; first = q.first ∙ p.first; faults = omega (arith, p.faults, q.faults) }
 
--- ---- all of them
-
-pub later_same : (a : Streams) → IsLater a a
-later_same a = record { source = omega arith; sink = omega arith; device = device_same a.device; flushed = λ h. h }
-
-pub later_then : (a b c : Streams) → IsLater a b → IsLater b c → IsLater a c
-later_then a b c p q = record {
-  source = omega (arith, p.source, q.source);
-  sink = omega (arith, p.sink, q.sink);
-  device = device_then a.device b.device c.device p.device q.device;
-  flushed = λ h. q.flushed (p.flushed h);
-}
-
--- a text is written
-pub later_writes : (old now : Streams) (sink : SinkView) (text : List ℕ) → IsLater old now → Writes now.sink sink text →
-    IsLater old (record now { sink = sink })
-later_writes old now sink text later writes = record {
-  source = later.source;
-  sink = omega (arith, later.sink, writes.never_falls);
-  device = later.device;
-  flushed = λ h. let before = later.flushed h in omega (arith, before, writes.flushes);
-}
+-- ---- what was read ahead
 
 pub reads_then : (x y z : List ℕ) (a b c : Streams) → ReadsOn x y a b → ReadsOn y z b c → ReadsOn x z a c
-reads_then x y z a b c p q = record {
-  same = q.same ∙ p.same;
-  held = q.held ∙ p.held;
-  device = q.device ∙ p.device;
-  near = q.near;
-  later = later_then a b c p.later q.later;
-}
+reads_then x y z a b c p q = record { same = q.same ∙ p.same; held = q.held ∙ p.held; device = q.device ∙ p.device; near = q.near }
 
 pub reads_same : (x : List ℕ) (a : Streams) → length x ≤ room → ReadsOn x x a a
-reads_same x a near = record { same = refl; held = refl; device = refl; near = near; later = later_same a }
+reads_same x a near = record { same = refl; held = refl; device = refl; near = near }
+
+-- ---- what failed, where nothing had before
+
+pub unfailed_then : (a b c : Streams) → AreUnfailed a b → AreUnfailed b c → AreUnfailed a c
+unfailed_then a b c p q = record { source = q.source ∙ p.source; sink = q.sink ∙ p.sink }
+
+pub failed_since : (a b c : SinkView) → b.faults ≡ a.faults → HasFailed b c → HasFailed a c
+failed_since a b c same failed = record { faults = failed.faults ∙ ap one_more same; told = failed.told }
+
+pub read_fault_since : (a b c : SourceView) → b.faults ≡ a.faults → StaysOpen a b → IsReadFault b c → IsReadFault a c
+read_fault_since a b c same open_then failed = record {
+  faults = failed.faults ∙ ap one_more same;
+  stays_open = λ untold. failed.stays_open (open_then untold);
+}
+
+-- ---- reads, and flushes
+
+pub after_calls-then : (m n count : ℕ) → after_calls m (after_calls n count) ≡ after_calls (n + m) count
+after_calls-then zero n count = let e : n ≡ n + 0 = omega arith in ap (λ (k : ℕ). after_calls k count) e
+after_calls-then (suc m) n count =
+    let e : suc (n + m) ≡ n + suc m = omega arith in
+    ap one_more (after_calls-then m n count) ∙ ap (λ (k : ℕ). after_calls k count) e
+
+pub flushed_then : (more : ℕ) (a b c : Streams) → AreFlushed 0 a b → AreFlushed more b c → AreFlushed more a c
+flushed_then more a b c p q =
+    let e : (p.n + 0) + (q.n + more) ≡ (p.n + q.n) + more = omega arith in
+    record {
+      n = p.n + q.n;
+      reads = q.reads ∙ ap (after_calls q.n) p.reads ∙ after_calls-then q.n p.n a.source.reads;
+      flushes = q.flushes ∙ ap (after_calls (q.n + more)) p.flushes ∙ after_calls-then (q.n + more) (p.n + 0) a.sink.flushes
+          ∙ ap (λ (k : ℕ). after_calls k a.sink.flushes) e;
+    }
+
+-- no read, and no flush
+pub flushed_none : (a b : Streams) → b.source.reads ≡ a.source.reads → b.sink.flushes ≡ a.sink.flushes → AreFlushed 0 a b
+flushed_none a b reads flushes = record { n = 0; reads = reads; flushes = flushes }
+
+-- a flush, and a read
+pub flushed_once : (a b : Streams) → b.source.reads ≡ one_more a.source.reads → b.sink.flushes ≡ one_more a.sink.flushes → AreFlushed 0 a b
+flushed_once a b reads flushes = record { n = 1; reads = reads; flushes = flushes }
+
+-- the last flush
+pub handed_on : (old now : Streams) (sink : SinkView) → AreFlushed 0 old now → HandsOn now.sink sink → IsHandedOn 1 old (record now { sink = sink })
+handed_on old now sink was hands_on =
+    let e : suc (was.n + 0) ≡ was.n + 1 = omega arith in
+    record {
+      none_kept = hands_on.all;
+      flushed = record {
+        n = was.n;
+        reads = was.reads;
+        flushes = hands_on.flushes ∙ ap one_more was.flushes ∙ ap (λ (k : ℕ). after_calls k old.sink.flushes) e;
+      };
+    }

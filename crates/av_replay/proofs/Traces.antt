@@ -9,7 +9,7 @@ use Rattle.std.proofs.lemmas.List.Elements.{All-head, All-tail}
 use Rattle.av_kernel.specs.Machine.{Machine}
 use Rattle.av_replay.specs.declared.status.Status.{Status}
 use Rattle.av_replay.specs.declared.status.Status.TheVariants as statuses
-use Rattle.av_io.specs.Source.{Took, HasEnded}
+use Rattle.av_io.specs.Source.{SourceView, Took, HasEnded}
 use Rattle.av_replay.specs.Line.{IsLine, IsNoNewline, HasNoNewline}
 use Rattle.av_replay.specs.Turn.{IsBad}
 use Rattle.av_replay.specs.Streams.{Streams}
@@ -96,10 +96,10 @@ ended_is_nil : (left' : Option (List ℕ)) (more : List ℕ) → left' ≡ Some 
 ended_is_nil None more e ended = absurd cc
 ended_is_nil (Some rest) more e ended = sym (same_Some _ _ e) ∙ ended
 
-pub not_bad : (lines : List (List ℕ)) (rest content : List ℕ) (left' : Option (List ℕ)) → AllByRecursion IsLine lines →
-    Took (Some content) left' (all_lines lines ++ rest) → All IsGood (lines_of content) → IsBad rest left' → ⊥
-not_bad lines rest content left' all took good (inl long) =
-    let t = told content (all_lines lines ++ rest) left' took in
+pub not_bad : (lines : List (List ℕ)) (rest content : List ℕ) (source : SourceView) → AllByRecursion IsLine lines →
+    Took (Some content) source.left (all_lines lines ++ rest) → All IsGood (lines_of content) → IsBad rest source → ⊥
+not_bad lines rest content source all took good (inl long) =
+    let t = told content (all_lines lines ++ rest) source.left took in
     let front = take 8449 rest in
     let len : length front ≡ 8449 = length-take-le 8449 rest (omega (arith, long.long)) in
     let parts : rest ++ t.more ≡ front ++ (drop 8449 rest ++ t.more) = ap (λ (r : List ℕ). r ++ t.more) (sym (take-append-drop 8449 rest))
@@ -107,8 +107,8 @@ not_bad lines rest content left' all took good (inl long) =
     let f = starts_long front (drop 8449 rest ++ t.more) long.one (omega (arith, len)) in
     let g = first_good lines rest content t.more f.line f.others all t.parts good (ap lines_of parts ∙ f.are) in
     omega (arith, g.is_line.short, f.long, len)
-not_bad lines rest content left' all took good (inr bad) =
-    let t = told content (all_lines lines ++ rest) left' took in
+not_bad lines rest content source all took good (inr bad) =
+    let t = told content (all_lines lines ++ rest) source.left took in
     let line = bad.0 in
     let is_good : IsGood line = elim bad.3 [
       | inl newline ↦
@@ -117,7 +117,7 @@ not_bad lines rest content left' all took good (inr bad) =
           ∙ lines_of-line line (newline.0 ++ t.more) bad.1.one in
           first_good lines rest content t.more line (lines_of (newline.0 ++ t.more)) all t.parts good are
       | inr last ↦
-          let none = ended_is_nil left' t.more t.left_is last.2 in
+          let none = ended_is_nil source.left t.more t.left_is last.2.ended in
           let same : rest ++ t.more ≡ line = ap (λ (m : List ℕ). rest ++ m) none ∙ append-nil rest ∙ last.0 in
           first_good lines rest content t.more line [] all t.parts good (ap lines_of same ∙ lines_of-last line bad.1.one last.1)
     ] in
@@ -138,16 +138,16 @@ read_is left left' content taken rest last e none took =
     (subst (λ (o : Option (List ℕ)). Took left left' (taken ++ (unwrap_or o [] ++ rest))) none took)
 
 pub complete : (n : ℕ) (status : Status) (old new : Streams) (kernel : Option Machine) → Headline n status old new kernel → IsComplete status old new
-complete n statuses.Done old new kernel h content e trace no_read no_write = tt
-complete n statuses.Memory old new kernel h content e trace no_read no_write = tt
-complete n statuses.Usage old new kernel h content e trace no_read no_write = h.ends
-complete n statuses.ReadFault old new kernel h content e trace no_read no_write = no_read h.ends.2
-complete n statuses.WriteFault old new kernel h content e trace no_read no_write = no_write h.ends.1
+complete n statuses.Done old new kernel h content e trace no_read no_write = inl refl
+complete n statuses.Memory old new kernel h content e trace no_read no_write = inr refl
+complete n statuses.Usage old new kernel h content e trace no_read no_write = absurd h.ends.0
+complete n statuses.ReadFault old new kernel h content e trace no_read no_write = absurd (no_read h.ends.2.faults)
+complete n statuses.WriteFault old new kernel h content e trace no_read no_write = absurd (no_write h.ends.1)
 complete n (statuses.BadLine number) old new kernel h content e trace no_read no_write =
     let stops = h.ends.0 in
-    not_bad h.run.lines h.rest content new.source.left h.replays.lines
-    (read_is old.source.left new.source.left content (all_lines h.run.lines) h.rest h.run.last e stops.0 h.replays.read) trace.good stops.3
+    absurd (not_bad h.run.lines h.rest content new.source h.replays.lines
+    (read_is old.source.left new.source.left content (all_lines h.run.lines) h.rest h.run.last e stops.0 h.replays.read) trace.good stops.3)
 complete n statuses.TooMany old new kernel h content e trace no_read no_write =
     let stops = h.ends.0 in
-    not_many h.run.lines h.rest content new.source.left h.replays.lines
-    (read_is old.source.left new.source.left content (all_lines h.run.lines) h.rest h.run.last e stops.0 h.replays.read) trace.few stops.1 stops.2
+    absurd (not_many h.run.lines h.rest content new.source.left h.replays.lines
+    (read_is old.source.left new.source.left content (all_lines h.run.lines) h.rest h.run.last e stops.0 h.replays.read) trace.few stops.1 stops.2)

@@ -3,23 +3,24 @@ use Rattle.std.proofs.Common.{◌≡◌, ℕ, ◌+◌, ◌<◌, List, [], ◌∷
 use Rattle.std.specs.Prelude.{option_map}
 use Rattle.std.proofs.lemmas.List.{take_all, drop_all}
 use Rattle.av_kernel.specs.Machine.{Machine}
+use Rattle.av_plain.specs.Device.{Device, IsSameDevice}
 use Rattle.av_io.specs.Source.{in_front}
 use Rattle.av_io.specs.Sink.{SinkView}
 use Rattle.av_replay.specs.declared.line.Line.{Line}
 use Rattle.av_replay.specs.declared.status.RunErr.{RunErr}
 use Rattle.av_replay.specs.declared.status.RunErr.TheVariants as errors
-use Rattle.av_replay.specs.Streams.{Streams, ReadsOn, IsAtEnd, Writes}
+use Rattle.av_replay.specs.Streams.{Streams, AreUnfailed, ReadsOn, IsAtEnd, Writes}
 use Rattle.av_replay.specs.Line.{IsLine, HasLine, IsNext, StopsReading}
 use Rattle.av_replay.specs.Turn.{DoesLine, IsCut, IsNotAnswered, StandsNext, IsEnding, TakesLine, CutsShort, Halts, DoesNext}
-use Rattle.av_replay.proofs.Bytes.{in_front-then, Rose-earlier}
-use Rattle.av_replay.proofs.Times.{later_writes}
+use Rattle.av_replay.proofs.Bytes.{in_front-then}
+use Rattle.av_replay.proofs.Times.{device_same, failed_since}
 
 -- how the line in front ends
 pub record EndsBy (line : Line) (ahead ending : List ℕ) (now : Streams) : Type 0 where
   pub is_line : IsLine (take line.size ahead)
   pub parts : ahead ≡ (take line.size ahead ++ ending) ++ drop line.whole ahead
   pub ends : IsEnding (take line.size ahead) ending (drop line.whole ahead) now.source
-  pub next : StandsNext (take line.size ahead) ahead now.source.left
+  pub next : StandsNext (take line.size ahead) ahead now.source
 
 ends_line : (line : Line) (ahead : List ℕ) (now : Streams) → HasLine line.size ahead → line.whole ≡ line.size + 1 → EndsBy line ahead (10 ∷ []) now
 ends_line line ahead now has whole =
@@ -42,7 +43,7 @@ ends_last line ahead now is_line size some whole end =
       is_line = subst IsLine (sym all) is_line;
       parts = sym (ap (λ (l : List ℕ). (front ++ []) ++ l) none ∙ append-nil (front ++ []) ∙ append-nil front ∙ all);
       ends = inr (refl, none, long, end);
-      next = inr (sym all, long, end.ended);
+      next = inr (sym all, long, end);
     }
 
 module _ (ahead mid : List ℕ) (old now : Streams) (k k' : Machine) (line : Line) (sink : SinkView) (reads : ReadsOn ahead mid old now) where
@@ -58,7 +59,7 @@ module _ (ahead mid : List ℕ) (old now : Streams) (k k' : Machine) (line : Lin
     near = omega (arith, length-drop line.whole mid, reads.near);
     does = subst (λ d. DoesLine (take line.size mid) d now.device k k' text) reads.device does;
     gained = writes.gained ∙ ap (λ (h : Option (List ℕ)). option_map (λ (t : List ℕ). t ++ written) h) reads.held;
-    later = later_writes old now sink written reads.later writes;
+    device = subst (λ (d : Device). IsSameDevice old.device d) (sym reads.device) (device_same old.device);
   }
 
   cuts : (ending : List ℕ) → EndsBy line mid ending now → IsCut (take line.size mid) now.device now.device k k' now.sink sink →
@@ -76,23 +77,20 @@ module _ (ahead mid : List ℕ) (old now : Streams) (k k' : Machine) (line : Lin
   same_sink : sink ≡ now.sink → ReadsOn ahead mid old (record now { sink = sink })
   same_sink e = subst (λ (s : SinkView). ReadsOn ahead mid old (record now { sink = s })) (sym e) reads
 
-  halts_by : (ending : List ℕ) (error : RunErr) → EndsBy line mid ending now →
+  halts_by : (ending : List ℕ) (error : RunErr) → AreUnfailed old now → EndsBy line mid ending now →
       IsNotAnswered error (take line.size mid) now.device now.device k k' now.sink sink → Halts error ahead mid old (record now { sink = sink }) k k'
-  halts_by ending errors.BadLine by not = (record { reads = same_sink not.2; kernel = not.1 }, inr (take line.size mid, by.is_line, not.0, by.next))
-  halts_by ending errors.Memory by (inl same) = inl (same_sink same)
-  halts_by ending errors.Memory by (inr cut) = inr (cuts ending by cut)
-  halts_by ending errors.Write by not = (
-    inl (cuts ending by not.0),
-    Rose-earlier old.sink.faults now.sink.faults sink.faults reads.later.sink not.1,
-    not.2,
-  )
-  halts_by ending errors.Read by not = absurd not
+  halts_by ending errors.BadLine was by not = (record { reads = same_sink not.2; kernel = not.1 }, inr (take line.size mid, by.is_line, not.0, by.next))
+  halts_by ending errors.Memory was by (inl same) = inl (same_sink same)
+  halts_by ending errors.Memory was by (inr cut) = inr (cuts ending by cut)
+  halts_by ending errors.Write was by not = (inl (cuts ending by not.0), failed_since old.sink now.sink sink was.sink not.1)
+  halts_by ending errors.Read was by not = absurd not
 
   -- a line stood in front, and was not done, or its text not written
-  pub halts : (error : RunErr) → IsNext line mid old.source now.source → IsNotAnswered error (take line.size mid) now.device now.device k k' now.sink sink →
+  pub halts : (error : RunErr) → AreUnfailed old now → IsNext line mid old.source now.source →
+      IsNotAnswered error (take line.size mid) now.device now.device k k' now.sink sink →
       Halts error ahead mid old (record now { sink = sink }) k k'
-  halts error (inl next) not = halts_by (10 ∷ []) error (ends_line line mid now next.0 next.1) not
-  halts error (inr next) not = halts_by [] error (ends_last line mid now next.0 next.1 next.2 next.3 next.4) not
+  halts error was (inl next) not = halts_by (10 ∷ []) error was (ends_line line mid now next.0 next.1) not
+  halts error was (inr next) not = halts_by [] error was (ends_last line mid now next.0 next.1 next.2 next.3 next.4) not
 
   -- it was done, and its text written
   pub does_line : (text : List ℕ) → HasLine line.size mid → line.whole ≡ line.size + 1 → DoesLine (take line.size mid) now.device now.device k k' text →
@@ -117,10 +115,9 @@ module _ (ahead mid : List ℕ) (old now : Streams) (k k' : Machine) (line : Lin
 pub unread : (error : RunErr) (ahead mid : List ℕ) (old now : Streams) (k : Machine) → ReadsOn ahead mid old now → StopsReading error mid old now →
     Halts error ahead mid old now k k
 unread errors.BadLine ahead mid old now k reads stops = (record { reads = reads; kernel = refl }, inl stops)
-unread errors.Read ahead mid old now k reads stops = (record { reads = reads; kernel = refl }, stops.0, stops.1.0, stops.1.1)
+unread errors.Read ahead mid old now k reads stops = (record { reads = reads; kernel = refl }, stops.0, stops.1)
 unread errors.Write ahead mid old now k reads stops = (
   inr (record { waits = record { reads = reads; kernel = refl }; part = stops.0; untold = stops.1.0 }),
   stops.1.1,
-  stops.1.2,
 )
 unread errors.Memory ahead mid old now k reads stops = absurd stops.1

@@ -1,13 +1,13 @@
 -- A line of input: how it is found in what was read, and what reading on for one leaves.
-use Rattle.std.specs.Prelude.{◌≡◌, ◌≢◌, ℕ, ◌+◌, ◌<◌, ◌≤◌, List, [], ◌∷◌, ◌++◌, ◌⊎◌, length, take, drop, Option, Some, None, true, Result, Ok, Err, All}
-use Rattle.av_io.specs.Count.{Rose}
+use Rattle.std.specs.Prelude.{◌≡◌, ◌≢◌, ℕ, ◌+◌, ◌<◌, ◌≤◌, List, [], ◌∷◌, ◌++◌, ◌⊎◌, length, take, drop, Option, Some, None, Result, Ok, Err, All}
 use Rattle.av_io.specs.Source.{SourceView}
+use Rattle.av_io.specs.Sink.{HasFailed}
 use Rattle.av_replay.specs.declared.line.Found.{Found}
 use Rattle.av_replay.specs.declared.line.Found.TheVariants as founds
 use Rattle.av_replay.specs.declared.line.Line.{Line}
 use Rattle.av_replay.specs.declared.status.RunErr.{RunErr}
 use Rattle.av_replay.specs.declared.status.RunErr.TheVariants as errors
-use Rattle.av_replay.specs.Streams.{Streams, AreUnfailed, IsAtEnd, StaysOpen}
+use Rattle.av_replay.specs.Streams.{Streams, AreUnfailed, IsAtEnd, IsReadFault, StaysOpen}
 
 -- a line has at most so many bytes
 abbrev pub longest : ℕ
@@ -53,10 +53,8 @@ IsNext line ahead old new =
 
 -- why no more could be read: the source failed, or the sink could not hand on what it kept back
 abbrev pub IsUnread : RunErr → Streams → Streams → Type 0
-IsUnread errors.Read old new =
-    Rose old.source.faults new.source.faults × StaysOpen old.source new.source
-IsUnread errors.Write old new =
-    (new.sink.held ≡ None) × Rose old.sink.faults new.sink.faults × (new.sink.has_failed ≡ true)
+IsUnread errors.Read old new = IsReadFault old.source new.source
+IsUnread errors.Write old new = (new.sink.held ≡ None) × HasFailed old.sink new.sink
 IsUnread errors.BadLine old new = ⊥
 IsUnread errors.Memory old new = ⊥
 
@@ -67,10 +65,9 @@ StopsReading error ahead old new = IsLine ahead × IsUnread error old new
 
 -- nothing failed but what the error tells of
 abbrev pub FailsBy : RunErr → Streams → Streams → Type 0
-FailsBy errors.BadLine old new = AreUnfailed old new
 FailsBy errors.Read old new = new.sink.faults ≡ old.sink.faults
 FailsBy errors.Write old new = new.source.faults ≡ old.source.faults
-FailsBy errors.Memory old new = AreUnfailed old new
+FailsBy error old new = AreUnfailed old new
 
 -- nothing failed but what the result tells of
 abbrev pub FailsOnly : {A : Type 0} → Result A RunErr → Streams → Streams → Type 0

@@ -1,5 +1,5 @@
 -- What a replay leaves, by its status.
-use Rattle.std.specs.Prelude.{◌≡◌, ◌≢◌, ℕ, ◌+◌, ◌^◌, ◌<◌, ◌≤◌, List, [], ◌∷◌, ◌++◌, ◌⊎◌, false, true, length, take, Option, Some, None, IfSome, IsSomeAnd, unwrap_or}
+use Rattle.std.specs.Prelude.{◌≡◌, ℕ, ◌+◌, ◌^◌, ◌<◌, ◌≤◌, List, [], ◌∷◌, ◌++◌, ◌⊎◌, Bool, false, true, if◌then◌else◌, length, take, Option, Some, None, IfSome, unwrap_or}
 use Rattle.std.specs.List.{flat_map, AllByRecursion}
 use Rattle.std.specs.Option.{option_to_list}
 use Rattle.av_trace.specs.Print.{text_of}
@@ -7,15 +7,15 @@ use Rattle.av_plain.specs.Transcript.{Exchange, State, IsRun, at_first, causes_o
 use Rattle.av_kernel.specs.Machine.{Machine}
 use Rattle.av_kernel.specs.Kernel.{Stands}
 use Rattle.av_kernel.specs.Tally.{none_counted}
-use Rattle.av_plain.specs.Device.{Device, setting_of}
-use Rattle.av_io.specs.Count.{Rose, RoseBy}
+use Rattle.av_plain.specs.Device.{Device, IsSameDevice, setting_of}
+use Rattle.av_io.specs.Count.{RoseBy}
 use Rattle.av_io.specs.Source.{Took}
-use Rattle.av_io.specs.Sink.{Gained}
+use Rattle.av_io.specs.Sink.{SinkView, Gained, HasFailed, HandsOn, KeepsBack}
 use Rattle.av_replay.specs.declared.status.Status.{Status}
 use Rattle.av_replay.specs.declared.status.Status.TheVariants as statuses
 use Rattle.av_replay.specs.declared.status.RunErr.{RunErr}
 use Rattle.av_replay.specs.declared.status.RunErr.TheVariants as errors
-use Rattle.av_replay.specs.Streams.{Streams, room, AreFlushedAfter, AreInStep, AreUnfailed, IsAtEnd, IsLater, StaysOpen}
+use Rattle.av_replay.specs.Streams.{Streams, room, AreFlushed, AreUnfailed, IsAtEnd, IsReadFault}
 use Rattle.av_replay.specs.Line.{IsLine}
 use Rattle.av_replay.specs.Turn.{texts, tally_of, Commands, IsBad}
 
@@ -66,18 +66,28 @@ pub record Replays (frames : ℕ) (old new : Streams) (run : Run) (rest written 
       IsRun m (at_first m) run.transcript run.state
   pub faults : RoseBy (causes_of run.transcript) old.device.faults new.device.faults
   pub wrote : Gained old.sink.held new.sink.held written
-  pub later : IsLater old new
+  pub device : IsSameDevice old.device new.device
 
 -- ---- the kernel that is handed back
 
 -- it and the device stand for the state that the transcript leaves; it counted the replies, and can
 -- go on
-pub record IsLeft (kernel : Machine) (device : Device) (n : ℕ) (run : Run) : Type 0 where
+pub record IsHandedBack (kernel : Machine) (device : Device) (n : ℕ) (run : Run) : Type 0 where
   pub stands : Stands kernel device run.state
   pub frames : kernel.frames ≡ n
   pub steps : kernel.steps ≡ length run.transcript
   pub tally : kernel.tally ≡ tally_of run.transcript none_counted
   pub unspent : kernel.spent ≡ false
+
+-- whether there is a kernel to go on with, by the status
+abbrev pub can_go_on : Status → Bool
+can_go_on statuses.Usage = false
+can_go_on statuses.Memory = false
+can_go_on status = true
+
+-- the kernel, where it can go on
+abbrev pub kernel_at : Status → Machine → Option Machine
+kernel_at status kernel = if can_go_on status then Some kernel else None
 
 -- no command was done yet over this device, and no process lives
 pub record IsAtStart (kernel : Machine) (device : Device) : Type 0 where
@@ -104,7 +114,7 @@ MayGoOn run rest = 0 < length rest → length run.lines < most_lines
 abbrev pub StopsAt : Status → Streams → Run → List ℕ → Type 0
 StopsAt statuses.Done new run rest = (rest ≡ []) × IsAtEnd new.source
 StopsAt (statuses.BadLine n) new run rest =
-    (run.last ≡ None) × (n ≡ length run.lines + 1) × (n ≤ most_lines) × IsBad rest new.source.left
+    (run.last ≡ None) × (n ≡ length run.lines + 1) × (n ≤ most_lines) × IsBad rest new.source
 StopsAt statuses.ReadFault new run rest = (run.last ≡ None) × MayGoOn run rest × IsLine rest
 StopsAt statuses.TooMany new run rest =
     (run.last ≡ None) × (length run.lines ≡ most_lines) × (0 < length rest)
@@ -138,21 +148,15 @@ pub record IsKeptBack (new : Streams) (run : Run) (rest written : List ℕ) : Ty
 -- counted. A read that fails isn't one after the end was told, and no call of the sink is served
 -- after one that failed; which call fails no one knows before, so none is made then.
 abbrev pub Ends : Status → Streams → Streams → Run → List ℕ → List ℕ → Type 0
-Ends statuses.Done old new run rest written =
-    StopsAt statuses.Done new run rest × (written ≡ texts run.transcript)
-Ends (statuses.BadLine n) old new run rest written =
-    StopsAt (statuses.BadLine n) new run rest × (written ≡ texts run.transcript)
 Ends statuses.ReadFault old new run rest written =
     StopsAt statuses.ReadFault new run rest × (written ≡ texts run.transcript)
-    × Rose old.source.faults new.source.faults × StaysOpen old.source new.source
-Ends statuses.TooMany old new run rest written =
-    StopsAt statuses.TooMany new run rest × (written ≡ texts run.transcript)
+    × IsReadFault old.source new.source
 Ends statuses.WriteFault old new run rest written =
-    (IsCutOff run written ⊎ IsKeptBack new run rest written)
-    × Rose old.sink.faults new.sink.faults × (new.sink.has_failed ≡ true)
+    (IsCutOff run written ⊎ IsKeptBack new run rest written) × HasFailed old.sink new.sink
 Ends statuses.Memory old new run rest written =
     (written ≡ texts run.transcript) ⊎ IsCutOff run written
-Ends statuses.Usage old new run rest written = ⊥
+Ends status old new run rest written =
+    StopsAt status new run rest × (written ≡ texts run.transcript)
 
 -- The headline, for a status at which the trace was begun.
 pub record Headline (frames : ℕ) (status : Status) (old new : Streams) (kernel : Option Machine)
@@ -162,43 +166,46 @@ pub record Headline (frames : ℕ) (status : Status) (old new : Streams) (kernel
   pub written : List ℕ
   pub replays : Replays frames old new run rest written
   pub ends : Ends status old new run rest written
-  pub handed_back : status ≢ statuses.Memory
-      → IsSomeAnd kernel (λ k. IsLeft k new.device frames run)
+  pub handed_back : IfSome kernel (λ k. IsHandedBack k new.device frames run)
 
 -- ---- calls of the source and the sink
+
+-- a sink that doesn't tell what it holds failed, once
+abbrev pub FailsUntold : SinkView → SinkView → Type 0
+FailsUntold old new = (new.held ≡ None) × HasFailed old new
 
 -- Nothing failed but what the status tells of. Where memory is wanting, the last flush may have
 -- failed, too, if the sink doesn't tell what it holds.
 abbrev pub FailsOnlyAt : Status → Streams → Streams → Type 0
-FailsOnlyAt statuses.Done old new = AreUnfailed old new
-FailsOnlyAt statuses.Usage old new = AreUnfailed old new
-FailsOnlyAt (statuses.BadLine n) old new = AreUnfailed old new
-FailsOnlyAt statuses.TooMany old new = AreUnfailed old new
 FailsOnlyAt statuses.ReadFault old new = new.sink.faults ≡ old.sink.faults
 FailsOnlyAt statuses.WriteFault old new = new.source.faults ≡ old.source.faults
 FailsOnlyAt statuses.Memory old new =
     (new.source.faults ≡ old.source.faults)
-    × ((new.sink.faults ≡ old.sink.faults) ⊎ (new.sink.held ≡ None))
+    × ((new.sink.faults ≡ old.sink.faults) ⊎ FailsUntold old.sink new.sink)
+FailsOnlyAt status old new = AreUnfailed old new
 
--- all text was handed on, after one flush for each read and one more
-pub record IsHandedOn (old new : Streams) : Type 0 where
+-- nothing is kept back, after a flush for each read, and so many more
+pub record IsHandedOn (more : ℕ) (old new : Streams) : Type 0 where
   pub none_kept : new.sink.kept_back ≡ []
-  pub flushes : AreFlushedAfter old new
+  pub flushed : AreFlushed more old new
 
--- A read failed: nothing is kept back, and no flush came since. So nothing was kept back when that
--- read was waited for. Which read fails no one knows before, so it was so at each.
-pub record IsFlushedBefore (old new : Streams) : Type 0 where
-  pub none_kept : new.sink.kept_back ≡ []
-  pub in_step : AreInStep old new
-
--- How the sink was flushed. Where memory is wanting, what it took is handed on, unless that fails.
+-- How the sink was flushed. Where a read failed nothing is kept back, and no flush came since: so
+-- nothing was kept back when that read was waited for. Which read fails no one knows before, so it
+-- was so at each. Where memory is wanting, what the sink took is handed on, unless that fails.
 abbrev pub IsFlushed : Status → Streams → Streams → Type 0
-IsFlushed statuses.Done old new = IsHandedOn old new
-IsFlushed (statuses.BadLine n) old new = IsHandedOn old new
-IsFlushed statuses.TooMany old new = IsHandedOn old new
-IsFlushed statuses.ReadFault old new = IsFlushedBefore old new
-IsFlushed statuses.WriteFault old new = AreInStep old new
+IsFlushed statuses.ReadFault old new = IsHandedOn 0 old new
+IsFlushed statuses.WriteFault old new = AreFlushed 0 old new
+IsFlushed statuses.Usage old new = AreFlushed 0 old new
 IsFlushed statuses.Memory old new =
-    (new.sink ≡ old.sink) ⊎ (new.sink.kept_back ≡ [])
-    ⊎ ((new.sink.held ≡ None) × (new.sink.has_failed ≡ true))
-IsFlushed statuses.Usage old new = AreInStep old new
+    ((new.sink ≡ old.sink) × AreFlushed 0 old new) ⊎ IsHandedOn 1 old new
+    ⊎ (FailsUntold old.sink new.sink × AreFlushed 0 old new)
+IsFlushed status old new = IsHandedOn 1 old new
+
+-- the last flush, and the status that it makes of another. There is none after a call that failed.
+abbrev pub FlushesLast : Status → Status → SinkView → SinkView → Type 0
+FlushesLast statuses.ReadFault last old new = (last ≡ statuses.ReadFault) × (new ≡ old)
+FlushesLast statuses.WriteFault last old new = (last ≡ statuses.WriteFault) × (new ≡ old)
+FlushesLast statuses.Memory last old new =
+    (last ≡ statuses.Memory) × (HandsOn old new ⊎ KeepsBack old new)
+FlushesLast status last old new =
+    ((last ≡ status) × HandsOn old new) ⊎ ((last ≡ statuses.WriteFault) × KeepsBack old new)

@@ -1,9 +1,9 @@
 -- A source, a sink and a device, side by side.
-use Rattle.std.specs.Prelude.{◌≡◌, ℕ, ◌≤◌, List, length, Option, false, true}
+use Rattle.std.specs.Prelude.{◌≡◌, ℕ, zero, suc, ◌+◌, ◌≤◌, List, length, Option, false, true}
 use Rattle.av_io.specs.Count.{one_more}
 use Rattle.av_io.specs.Source.{SourceView, in_front, HasEnded}
 use Rattle.av_io.specs.Sink.{SinkView, Gained}
-use Rattle.av_plain.specs.Device.{Device, IsSameDevice, no_device}
+use Rattle.av_plain.specs.Device.{Device, no_device}
 
 -- what is told of a source, a sink and a device at one time
 pub record Streams : Type 0 where
@@ -23,26 +23,25 @@ room = 65536
 abbrev pub undone : List ℕ → Streams → Option (List ℕ)
 undone ahead io = in_front ahead io.source.left
 
--- from one time to a later one: counts of faults never fall, the device is the same, and where
--- there was a flush for each read there still is
-pub record IsLater (old new : Streams) : Type 0 where
-  pub source : old.source.faults ≤ new.source.faults
-  pub sink : old.sink.faults ≤ new.sink.faults
-  pub device : IsSameDevice old.device new.device
-  pub flushed : old.source.reads ≤ old.sink.flushes → new.source.reads ≤ new.sink.flushes
+-- a count after so many calls more
+abbrev pub after_calls : ℕ → ℕ → ℕ
+after_calls zero count = count
+after_calls (suc n) count = one_more (after_calls n count)
 
--- where there was one flush for each read, there still is
-abbrev pub AreInStep : Streams → Streams → Type 0
-AreInStep old new = old.source.reads ≡ old.sink.flushes → new.source.reads ≡ new.sink.flushes
-
--- and then one flush more
-abbrev pub AreFlushedAfter : Streams → Streams → Type 0
-AreFlushedAfter old new =
-    old.source.reads ≡ old.sink.flushes → new.sink.flushes ≡ one_more new.source.reads
+-- the source was read n times, and the sink flushed as often, and so many times more
+pub record AreFlushed (more : ℕ) (old new : Streams) : Type 0 where
+  pub n : ℕ
+  pub reads : new.source.reads ≡ after_calls n old.source.reads
+  pub flushes : new.sink.flushes ≡ after_calls (n + more) old.sink.flushes
 
 -- the source has not told its end, unless it had before
 abbrev pub StaysOpen : SourceView → SourceView → Type 0
 StaysOpen old new = old.has_told_end ≡ false → new.has_told_end ≡ false
+
+-- the source failed, and had not told its end, unless it had before
+pub record IsReadFault (old new : SourceView) : Type 0 where
+  pub faults : new.faults ≡ one_more old.faults
+  pub stays_open : StaysOpen old new
 
 -- nothing was done of what was read, though more may have been read
 pub record ReadsOn (ahead ahead' : List ℕ) (old new : Streams) : Type 0 where
@@ -50,7 +49,6 @@ pub record ReadsOn (ahead ahead' : List ℕ) (old new : Streams) : Type 0 where
   pub held : new.sink.held ≡ old.sink.held
   pub device : new.device ≡ old.device
   pub near : length ahead' ≤ room
-  pub later : IsLater old new
 
 -- from one time to a later one neither the source nor the sink failed
 pub record AreUnfailed (old new : Streams) : Type 0 where
@@ -66,4 +64,3 @@ pub record IsAtEnd (source : SourceView) : Type 0 where
 pub record Writes (old new : SinkView) (text : List ℕ) : Type 0 where
   pub gained : Gained old.held new.held text
   pub flushes : new.flushes ≡ old.flushes
-  pub never_falls : old.faults ≤ new.faults

@@ -1,10 +1,11 @@
 -- A whole trace, line by line.
-use Rattle.std.specs.Prelude.{◌≡◌, ℕ, ◌≤◌, List, [], ◌∷◌, length, Option, Some, All, ◌==◌, if◌then◌else◌}
+use Rattle.std.specs.Prelude.{◌≡◌, ℕ, ◌≤◌, List, [], ◌∷◌, ◌⊎◌, length, Option, Some, All, ◌==◌, if◌then◌else◌}
 use Rattle.av_trace.specs.declared.command.Command.{Command}
 use Rattle.av_trace.specs.Line.{Says}
 use Rattle.av_replay.specs.declared.status.Status.{Status}
 use Rattle.av_replay.specs.declared.status.Status.TheVariants as statuses
-use Rattle.av_io.specs.Count.{Rose}
+use Rattle.av_io.specs.Count.{one_more}
+use Rattle.av_io.specs.Sink.{HasFailed}
 use Rattle.av_replay.specs.Streams.{Streams}
 use Rattle.av_replay.specs.Line.{IsLine}
 use Rattle.av_replay.specs.Replay.{most_lines}
@@ -33,16 +34,10 @@ pub record IsTrace (content : List ℕ) : Type 0 where
 
 -- the status is Done, or memory ran out
 abbrev pub IsDoneOrMemory : Status → Type 0
-IsDoneOrMemory statuses.Done = Unit {0}
-IsDoneOrMemory statuses.Memory = Unit {0}
-IsDoneOrMemory statuses.Usage = ⊥
-IsDoneOrMemory (statuses.BadLine n) = ⊥
-IsDoneOrMemory statuses.ReadFault = ⊥
-IsDoneOrMemory statuses.WriteFault = ⊥
-IsDoneOrMemory statuses.TooMany = ⊥
+IsDoneOrMemory status = (status ≡ statuses.Done) ⊎ (status ≡ statuses.Memory)
 
 -- a trace of good lines is done, or memory ran out, where neither source nor sink failed
 abbrev pub IsComplete : Status → Streams → Streams → Type 0
 IsComplete status old new = (content : List ℕ) → old.source.left ≡ Some content → IsTrace content
-    → (Rose old.source.faults new.source.faults → ⊥) → (Rose old.sink.faults new.sink.faults → ⊥)
+    → (new.source.faults ≡ one_more old.source.faults → ⊥) → (HasFailed old.sink new.sink → ⊥)
     → IsDoneOrMemory status

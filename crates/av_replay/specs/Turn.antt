@@ -10,13 +10,15 @@ use Rattle.av_kernel.specs.Machine.{Machine}
 use Rattle.av_kernel.specs.Kernel.{Stands}
 use Rattle.av_kernel.specs.Tally.{tally_with}
 use Rattle.av_kernel.specs.declared.tally.Tally.{Tally}
-use Rattle.av_plain.specs.Device.{Device, setting_of}
-use Rattle.av_io.specs.Count.{Rose, RoseBy}
-use Rattle.av_io.specs.Source.{SourceView, Took, HasEnded}
-use Rattle.av_io.specs.Sink.{SinkView, Gained}
+use Rattle.av_plain.specs.Device.{Device, IsSameDevice, setting_of}
+use Rattle.av_io.specs.Count.{RoseBy}
+use Rattle.av_io.specs.Source.{SourceView, Took}
+use Rattle.av_io.specs.Sink.{SinkView, Gained, HasFailed}
+use Rattle.av_replay.specs.declared.status.Status.{Status}
+use Rattle.av_replay.specs.declared.status.Status.TheVariants as statuses
 use Rattle.av_replay.specs.declared.status.RunErr.{RunErr}
 use Rattle.av_replay.specs.declared.status.RunErr.TheVariants as errors
-use Rattle.av_replay.specs.Streams.{Streams, undone, room, IsLater, ReadsOn, IsAtEnd, StaysOpen, Writes}
+use Rattle.av_replay.specs.Streams.{Streams, undone, room, ReadsOn, IsAtEnd, IsReadFault, StaysOpen, Writes}
 use Rattle.av_replay.specs.Line.{IsLine, IsTooLong}
 
 -- ---- what a line does
@@ -87,23 +89,22 @@ IsNotAnswered errors.BadLine line device device' old new sink sink' =
 IsNotAnswered errors.Memory line device device' old new sink sink' =
     (sink' ≡ sink) ⊎ IsCut line device device' old new sink sink'
 IsNotAnswered errors.Write line device device' old new sink sink' =
-    IsCut line device device' old new sink sink' × Rose sink.faults sink'.faults
-    × (sink'.has_failed ≡ true)
+    IsCut line device device' old new sink sink' × HasFailed sink sink'
 IsNotAnswered errors.Read line device device' old new sink sink' = ⊥
 
 -- ---- a turn
 
 -- the line in front of what was read, which ends at its newline or with the input
-abbrev pub StandsNext : List ℕ → List ℕ → Option (List ℕ) → Type 0
-StandsNext line bytes left =
+abbrev pub StandsNext : List ℕ → List ℕ → SourceView → Type 0
+StandsNext line bytes source =
     ((more : List ℕ) × (bytes ≡ line ++ 10 ∷ more))
-    ⊎ ((bytes ≡ line) × (0 < length line) × HasEnded left)
+    ⊎ ((bytes ≡ line) × (0 < length line) × IsAtEnd source)
 
 -- the next line is not to be done: it is outside the grammar, or too long
-abbrev pub IsBad : List ℕ → Option (List ℕ) → Type 0
-IsBad bytes left =
+abbrev pub IsBad : List ℕ → SourceView → Type 0
+IsBad bytes source =
     IsTooLong bytes
-    ⊎ ((line : List ℕ) × IsLine line × SaysNothing line × StandsNext line bytes left)
+    ⊎ ((line : List ℕ) × IsLine line × SaysNothing line × StandsNext line bytes source)
 
 -- how a line that was taken ended: at its newline, or with the input
 abbrev pub IsEnding : List ℕ → List ℕ → List ℕ → SourceView → Type 0
@@ -121,7 +122,7 @@ pub record TakesLine
   pub near : length rest ≤ room
   pub does : DoesLine line old.device new.device k k' text
   pub gained : Gained old.sink.held new.sink.held written
-  pub later : IsLater old new
+  pub device : IsSameDevice old.device new.device
 
 -- nothing was done
 pub record Waits (ahead ahead' : List ℕ) (old new : Streams) (k k' : Machine) : Type 0 where
@@ -149,13 +150,12 @@ pub record IsUnflushed (ahead ahead' : List ℕ) (old new : Streams) (k k' : Mac
 abbrev pub Halts :
     RunErr → List ℕ → List ℕ → Streams → Streams → Machine → Machine → Type 0
 Halts errors.BadLine ahead ahead' old new k k' =
-    Waits ahead ahead' old new k k' × IsBad ahead' new.source.left
+    Waits ahead ahead' old new k k' × IsBad ahead' new.source
 Halts errors.Read ahead ahead' old new k k' =
-    Waits ahead ahead' old new k k' × IsLine ahead' × Rose old.source.faults new.source.faults
-    × StaysOpen old.source new.source
+    Waits ahead ahead' old new k k' × IsLine ahead' × IsReadFault old.source new.source
 Halts errors.Write ahead ahead' old new k k' =
     (CutsShort ahead old new k k' ⊎ IsUnflushed ahead ahead' old new k k')
-    × Rose old.sink.faults new.sink.faults × (new.sink.has_failed ≡ true)
+    × HasFailed old.sink new.sink
 Halts errors.Memory ahead ahead' old new k k' =
     ReadsOn ahead ahead' old new ⊎ CutsShort ahead old new k k'
 
@@ -182,13 +182,10 @@ Turned (Ok false) ahead ahead' old new k k' =
 Turned (Err error) ahead ahead' old new k k' = Halts error ahead ahead' old new k k'
 
 -- after the last line that may be done: whether a byte of one more came
-abbrev pub Finished : Result Bool RunErr → List ℕ → Streams → Streams → Type 0
-Finished (Ok true) ahead' old new = 0 < length ahead'
-Finished (Ok false) ahead' old new = (ahead' ≡ []) × IsAtEnd new.source
-Finished (Err errors.Read) ahead' old new =
-    (ahead' ≡ []) × Rose old.source.faults new.source.faults × StaysOpen old.source new.source
-Finished (Err errors.Write) ahead' old new =
-    (ahead' ≡ []) × (new.sink.held ≡ None) × Rose old.sink.faults new.sink.faults
-    × (new.sink.has_failed ≡ true)
-Finished (Err errors.BadLine) ahead' old new = ⊥
-Finished (Err errors.Memory) ahead' old new = ⊥
+abbrev pub Finished : Status → List ℕ → Streams → Streams → Type 0
+Finished statuses.TooMany ahead' old new = 0 < length ahead'
+Finished statuses.Done ahead' old new = (ahead' ≡ []) × IsAtEnd new.source
+Finished statuses.ReadFault ahead' old new = (ahead' ≡ []) × IsReadFault old.source new.source
+Finished statuses.WriteFault ahead' old new =
+    (ahead' ≡ []) × (new.sink.held ≡ None) × HasFailed old.sink new.sink
+Finished status ahead' old new = ⊥

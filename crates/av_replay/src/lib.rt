@@ -1,12 +1,13 @@
 //! Replays a trace from a source and writes its transcript to a sink.
 //!
 //! Proved: `run` says for each status what was read, done and written, why and exactly where a run
-//! ends early, that the sink was flushed at least as often as the source was read, that only as
-//! many faults show as the device had, and that the kernel handed back stands for what the
-//! transcript leaves. That each flush comes before its read, and that memory suffices, is only
-//! tested.
+//! ends early, that there was one flush of the sink for each read of the source and how many more,
+//! that nothing is kept back where a read failed, what failed and how often, that only as many
+//! faults show as the device had, and that the kernel handed back stands for what the transcript
+//! leaves. That memory suffices is only tested.
 #![tactic(auto)]
 
+mod laws;
 mod line;
 mod pending;
 mod replay;
@@ -16,5 +17,6 @@ mod turn;
 mod words;
 mod write;
 
+pub use laws::good_traces_are_done;
 pub use status::Status;
 pub use top_call::{Outcome, run};

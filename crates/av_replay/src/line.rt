@@ -1,7 +1,7 @@
 //! Reading a line.
 
 ghost use Rattle.std.specs.Prelude.{◌≡◌, ◌+◌, ◌<◌, ◌≤◌, [], length, IfOk, IfErr, IfSome, IfNone};
-ghost use Rattle.av_replay.specs.Streams.{streams, ReadsOn, IsAtEnd, AreInStep, StaysOpen};
+ghost use Rattle.av_replay.specs.Streams.{streams, ReadsOn, IsAtEnd, AreFlushed, StaysOpen};
 ghost use Rattle.av_replay.specs.Line.{longest, FailsOnly, Finds, LineRead, IsUnread};
 
 use crate::pending::Pending;
@@ -59,7 +59,7 @@ pub fn read_on<S: Source, K: Sink>(
         (λ n. 0 < n → StaysOpen (S.view source.old) (S.view source.new)) }
     ensures unfailed { FailsOnly result (streams (S.view source.old) (K.view sink.old))
         (streams (S.view source.new) (K.view sink.new)) }
-    ensures in_step { AreInStep (streams (S.view source.old) (K.view sink.old))
+    ensures flushed { AreFlushed 0 (streams (S.view source.old) (K.view sink.old))
         (streams (S.view source.new) (K.view sink.new)) }
     ensures none_kept { IfErr result
         (λ e. e ≡ RunErr.Read → (K.view sink.new).kept_back ≡ []) }
@@ -89,7 +89,7 @@ pub fn read_line<S: Source, K: Sink>(
         (streams (S.view source.new) (K.view sink.new)) }
     ensures unfailed { FailsOnly result (streams (S.view source.old) (K.view sink.old))
         (streams (S.view source.new) (K.view sink.new)) }
-    ensures in_step { AreInStep (streams (S.view source.old) (K.view sink.old))
+    ensures flushed { AreFlushed 0 (streams (S.view source.old) (K.view sink.old))
         (streams (S.view source.new) (K.view sink.new)) }
     ensures none_kept { IfErr result
         (λ e. e ≡ RunErr.Read → (K.view sink.new).kept_back ≡ []) }

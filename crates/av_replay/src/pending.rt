@@ -1,7 +1,7 @@
 //! What was read of the source and is not yet done.
 
 ghost use Rattle.std.specs.Prelude.{◌≡◌, ◌+◌, ◌-◌, ◌<◌, ◌≤◌, [], false, length, take, drop, IfOk, OnOk, OnErr};
-ghost use Rattle.av_io.specs.Count.{one_more, Rose};
+ghost use Rattle.av_io.specs.Count.{one_more};
 ghost use Rattle.av_io.specs.Source.{in_front, Took, GivesNothing};
 ghost use Rattle.av_replay.specs.Streams.{room, IsAtEnd};
 ghost use Rattle.av_replay.specs.Line.{longest};
@@ -55,7 +55,6 @@ fn read_behind<S: Source>(source: &mut S, bytes: &mut [u8], kept: usize) -> Resu
         (take n (drop kept bytes.new))) }
     ensures ended { IfOk result (λ n. n ≡ 0 → IsAtEnd (S.view source.new)) }
     ensures reads { (S.view source.new).reads ≡ one_more (S.view source.old).reads }
-    ensures never_falls { (S.view source.old).faults ≤ (S.view source.new).faults }
     ensures stays_open { IfOk result (λ n. 0 < n → (S.view source.new).has_told_end ≡ false) }
     ensures unfailed { OnOk result ((S.view source.new).faults ≡ (S.view source.old).faults) }
     ensures err { OnErr result (GivesNothing (S.view source.old) (S.view source.new)) }
@@ -104,13 +103,13 @@ impl Pending {
         ensures ended { IfOk result
             (λ n. n ≡ 0 → (self.new ≡ self.old) × IsAtEnd (S.view source.new)) }
         ensures reads { (S.view source.new).reads ≡ one_more (S.view source.old).reads }
-        ensures never_falls { (S.view source.old).faults ≤ (S.view source.new).faults }
         ensures stays_open { IfOk result (λ n. 0 < n → (S.view source.new).has_told_end ≡ false) }
         ensures unfailed { OnOk result ((S.view source.new).faults ≡ (S.view source.old).faults) }
         ensures untold { OnErr result
             ((S.view source.new).has_told_end ≡ (S.view source.old).has_told_end) }
         ensures failed { OnErr result (self.new ≡ self.old) }
-        ensures cause { OnErr result (Rose (S.view source.old).faults (S.view source.new).faults) }
+        ensures cause { OnErr result
+            ((S.view source.new).faults ≡ one_more (S.view source.old).faults) }
     {
         move_to_front(&mut self.bytes, self.start, self.end);
         self.end -= self.start;

@@ -1,11 +1,18 @@
 //! The loop over the lines.
 
-ghost use Rattle.std.specs.Prelude.{◌≡◌, [], Some, IfErr};
+ghost use Rattle.std.specs.Prelude.{◌≡◌, []};
 ghost use Rattle.av_plain.specs.Device.{no_device};
-ghost use Rattle.av_replay.specs.Streams.{streams, ReadsOn, AreInStep};
-ghost use Rattle.av_replay.specs.Line.{FailsOnly};
+ghost use Rattle.av_replay.specs.Streams.{streams, AreFlushed, AreUnfailed, ReadsOn};
 ghost use Rattle.av_replay.specs.Turn.{Finished};
-ghost use Rattle.av_replay.specs.Replay.{FailsOnlyAt, Headline, IsAtStart, IsFlushed, status_at};
+ghost use Rattle.av_replay.specs.Replay.{
+  FailsOnlyAt,
+  FlushesLast,
+  Headline,
+  IsAtStart,
+  IsFlushed,
+  kernel_at,
+  status_at,
+};
 
 use crate::line::read_on;
 use crate::pending::Pending;
@@ -17,30 +24,6 @@ use std::alloc::Global;
 
 /// The lines of a trace, at most.
 const MOST_LINES: u32 = 1 << 24;
-
-/// After as many lines as may be: whether a byte of one more comes.
-fn has_more<S: Source, K: Sink>(
-    source: &mut S,
-    sink: &mut K,
-    pending: &mut Pending,
-) -> Result<bool, RunErr>
-    ensures reads { ReadsOn pending.old pending.new (streams (S.view source.old) (K.view sink.old))
-        (streams (S.view source.new) (K.view sink.new)) }
-    ensures finished { Finished result pending.new (streams (S.view source.old) (K.view sink.old))
-        (streams (S.view source.new) (K.view sink.new)) }
-    ensures unfailed { FailsOnly result (streams (S.view source.old) (K.view sink.old))
-        (streams (S.view source.new) (K.view sink.new)) }
-    ensures in_step { AreInStep (streams (S.view source.old) (K.view sink.old))
-        (streams (S.view source.new) (K.view sink.new)) }
-    ensures none_kept { IfErr result
-        (λ e. e ≡ RunErr.Read → (K.view sink.new).kept_back ≡ []) }
-{
-    if !pending.as_slice().is_empty() {
-        return Ok(true);
-    }
-    let count = read_on(source, sink, pending)?;
-    Ok(count > 0)
-}
 
 /// The status where the line of this number was not done.
 fn status_of(error: RunErr, number: u32) -> Status
@@ -54,6 +37,28 @@ fn status_of(error: RunErr, number: u32) -> Status
     }
 }
 
+/// After as many lines as may be: whether a byte of one more comes.
+fn finish<S: Source, K: Sink>(source: &mut S, sink: &mut K, pending: &mut Pending) -> Status
+    ensures reads { ReadsOn pending.old pending.new (streams (S.view source.old) (K.view sink.old))
+        (streams (S.view source.new) (K.view sink.new)) }
+    ensures finished { Finished result pending.new (streams (S.view source.old) (K.view sink.old))
+        (streams (S.view source.new) (K.view sink.new)) }
+    ensures unfailed { FailsOnlyAt result (streams (S.view source.old) (K.view sink.old))
+        (streams (S.view source.new) (K.view sink.new)) }
+    ensures flushed { AreFlushed 0 (streams (S.view source.old) (K.view sink.old))
+        (streams (S.view source.new) (K.view sink.new)) }
+    ensures none_kept { result ≡ Status.ReadFault → (K.view sink.new).kept_back ≡ [] }
+{
+    if !pending.as_slice().is_empty() {
+        return Status::TooMany;
+    }
+    match read_on(source, sink, pending) {
+        Ok(0) => Status::Done,
+        Ok(_) => Status::TooMany,
+        Err(error) => status_of(error, MOST_LINES),
+    }
+}
+
 /// Does all lines of the source.
 fn do_lines<S: Source, K: Sink>(
     alloc: Global,
@@ -61,37 +66,53 @@ fn do_lines<S: Source, K: Sink>(
     source: &mut S,
     sink: &mut K,
     pending: &mut Pending,
+    scratch: &mut Scratch,
 ) -> Status
     requires start { IsAtStart kernel.old no_device }
     requires pending { pending.old ≡ [] }
     ensures headline { Headline kernel.old.frames result
         (streams (S.view source.old) (K.view sink.old))
-        (streams (S.view source.new) (K.view sink.new)) (Some kernel.new) }
+        (streams (S.view source.new) (K.view sink.new)) (kernel_at result kernel.new) }
     ensures unfailed { FailsOnlyAt result (streams (S.view source.old) (K.view sink.old))
         (streams (S.view source.new) (K.view sink.new)) }
-    ensures in_step { AreInStep (streams (S.view source.old) (K.view sink.old))
+    ensures memory { result ≡ Status.Memory
+        → AreUnfailed (streams (S.view source.old) (K.view sink.old))
+        (streams (S.view source.new) (K.view sink.new)) }
+    ensures flushed { AreFlushed 0 (streams (S.view source.old) (K.view sink.old))
         (streams (S.view source.new) (K.view sink.new)) }
     ensures none_kept { result ≡ Status.ReadFault → (K.view sink.new).kept_back ≡ [] }
 {
-    let mut scratch = Scratch::new(alloc);
     for number in 0..MOST_LINES {
-        match next_line(alloc, kernel, source, sink, pending, &mut scratch) {
+        match next_line(alloc, kernel, source, sink, pending, scratch) {
             Ok(true) => {}
             Ok(false) => return Status::Done,
             Err(error) => return status_of(error, number + 1),
         }
     }
-    match has_more(source, sink, pending) {
-        Ok(true) => Status::TooMany,
-        Ok(false) => Status::Done,
-        Err(error) => status_of(error, MOST_LINES),
+    finish(source, sink, pending)
+}
+
+/// Flushes the sink in the end, and says how the run ended then.
+///
+/// Where that flush alone fails, the status is `WriteFault`. There is none after a failed write,
+/// nor after a failed read: nothing was kept back when that was waited for.
+fn flush_last<K: Sink>(status: Status, sink: &mut K) -> Status
+    ensures { FlushesLast status result (K.view sink.old) (K.view sink.new) }
+{
+    match status {
+        Status::ReadFault | Status::WriteFault => status,
+        Status::Memory => {
+            let _ = sink.flush();
+            status
+        }
+        _ => match sink.flush() {
+            Ok(()) => status,
+            Err(_) => Status::WriteFault,
+        },
     }
 }
 
 /// Does all lines of the source, and flushes the sink in the end.
-///
-/// Where that last flush alone fails, the status is `WriteFault`. After a failed read there is
-/// none: nothing was kept back when that was waited for.
 pub fn replay<S: Source, K: Sink>(
     alloc: Global,
     kernel: &mut Kernel,
@@ -101,7 +122,7 @@ pub fn replay<S: Source, K: Sink>(
     requires { IsAtStart kernel.old no_device }
     ensures headline { Headline kernel.old.frames result
         (streams (S.view source.old) (K.view sink.old))
-        (streams (S.view source.new) (K.view sink.new)) (Some kernel.new) }
+        (streams (S.view source.new) (K.view sink.new)) (kernel_at result kernel.new) }
     ensures unfailed { FailsOnlyAt result (streams (S.view source.old) (K.view sink.old))
         (streams (S.view source.new) (K.view sink.new)) }
     ensures flushed { IsFlushed result (streams (S.view source.old) (K.view sink.old))
@@ -110,16 +131,7 @@ pub fn replay<S: Source, K: Sink>(
     let Ok(mut pending) = Pending::new(alloc) else {
         return Status::Memory;
     };
-    let status = do_lines(alloc, kernel, source, sink, &mut pending);
-    match status {
-        Status::WriteFault | Status::ReadFault => return status,
-        _ => {}
-    }
-    match sink.flush() {
-        Ok(()) => status,
-        Err(_) => match status {
-            Status::Memory => status,
-            _ => Status::WriteFault,
-        },
-    }
+    let mut scratch = Scratch::new(alloc);
+    let status = do_lines(alloc, kernel, source, sink, &mut pending, &mut scratch);
+    flush_last(status, sink)
 }

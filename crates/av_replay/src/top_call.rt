@@ -1,9 +1,8 @@
 //! The top call.
 
-ghost use Rattle.std.specs.Prelude.{◌≡◌, ◌≢◌, ℕ, None, map, string_bytes};
+ghost use Rattle.std.specs.Prelude.{◌≡◌, ◌≢◌, ℕ, is_some, map, string_bytes};
 ghost use Rattle.av_replay.specs.Streams.{streams};
-ghost use Rattle.av_replay.specs.Replay.{FailsOnlyAt, Headline, IsFlushed};
-ghost use Rattle.av_replay.specs.Trace.{IsComplete};
+ghost use Rattle.av_replay.specs.Replay.{FailsOnlyAt, Headline, IsFlushed, can_go_on, kernel_at};
 ghost use Rattle.av_replay.specs.Words.{IsForm, RefusesWords};
 
 use crate::replay::replay;
@@ -30,14 +29,20 @@ impl Outcome {
     }
 }
 
-/// An outcome without a kernel to go on with.
-fn without_kernel(status: Status) -> Outcome
+/// The kernel goes on where it can, by the status.
+fn hand_back(status: Status, kernel: Kernel) -> Outcome
     ensures status { result.status ≡ status }
-    ensures kernel { result.kernel ≡ None }
+    ensures kernel { result.kernel ≡ kernel_at status kernel }
 {
-    Outcome {
-        status,
-        kernel: None,
+    match status {
+        Status::Usage | Status::Memory => Outcome {
+            status,
+            kernel: None,
+        },
+        _ => Outcome {
+            status,
+            kernel: Some(kernel),
+        },
     }
 }
 
@@ -45,15 +50,16 @@ fn without_kernel(status: Status) -> Outcome
 ///
 /// Each line of the source is read whole and done, and its text written, before the next line is
 /// taken. The source is read in pieces, each time only when no whole line is left of the last
-/// piece, and the sink is flushed before each read and at the end. A flush that fails ends the run
-/// as a failed write does.
+/// piece. There is one flush of the sink for each read, and nothing is kept back when a read is
+/// waited for; and one more in the end, but after a call that failed. A flush that fails ends the
+/// run as a failed write does; where memory is wanting, the last one may fail beside that.
 pub fn run<S: Source, K: Sink>(
     alloc: Global,
     words: &[String],
     source: &mut S,
     sink: &mut K,
 ) -> Outcome
-    // What was read, done and written, by the status.
+    // What was read, done and written, by the status, and what the kernel handed back stands for.
     ensures headline { result.status ≢ Status.Usage → (n : ℕ)
         × IsForm (map string_bytes words.now) n
         × Headline n result.status (streams (S.view source.old) (K.view sink.old))
@@ -62,14 +68,9 @@ pub fn run<S: Source, K: Sink>(
     ensures usage { RefusesWords result.status (map string_bytes words.now) }
     ensures nothing { result.status ≡ Status.Usage
         → (source.new ≡ source.old) × (sink.new ≡ sink.old) }
-    // No kernel is handed back where there is none to go on with.
-    ensures no_kernel { result.status ≡ Status.Usage → result.kernel ≡ None }
-    ensures spent { result.status ≡ Status.Memory → result.kernel ≡ None }
-    // A trace of good lines is done where nothing fails, or memory runs out.
-    ensures complete { (n : ℕ) → IsForm (map string_bytes words.now) n
-        → IsComplete result.status (streams (S.view source.old) (K.view sink.old))
-        (streams (S.view source.new) (K.view sink.new)) }
-    // What failed is what the status tells of, and it was not tried again.
+    // A kernel is handed back exactly where there is one to go on with.
+    ensures kernel { is_some result.kernel ≡ can_go_on result.status }
+    // What failed is what the status tells of, and no call of the sink came after one that failed.
     ensures unfailed { FailsOnlyAt result.status (streams (S.view source.old) (K.view sink.old))
         (streams (S.view source.new) (K.view sink.new)) }
     // No text was kept back while a read was waited for, nor is in the end.
@@ -77,16 +78,17 @@ pub fn run<S: Source, K: Sink>(
         (streams (S.view source.new) (K.view sink.new)) }
 {
     let Some(frames) = frames_of(words) else {
-        return without_kernel(Status::Usage);
+        return Outcome {
+            status: Status::Usage,
+            kernel: None,
+        };
     };
     let Ok(mut kernel) = Kernel::new(alloc, frames) else {
-        return without_kernel(Status::Memory);
+        return Outcome {
+            status: Status::Memory,
+            kernel: None,
+        };
     };
-    match replay(alloc, &mut kernel, source, sink) {
-        Status::Memory => without_kernel(Status::Memory),
-        status => Outcome {
-            status,
-            kernel: Some(kernel),
-        },
-    }
+    let status = replay(alloc, &mut kernel, source, sink);
+    hand_back(status, kernel)
 }

@@ -3,7 +3,7 @@
 ghost use Rattle.std.specs.Prelude.{◌≡◌, ◌<◌, ◌^◌, [], OnOk, IfErr};
 ghost use Rattle.av_base.specs.Limits.{most_commands};
 ghost use Rattle.av_plain.specs.Device.{no_device};
-ghost use Rattle.av_replay.specs.Streams.{streams, Writes, AreInStep};
+ghost use Rattle.av_replay.specs.Streams.{streams, Writes, AreFlushed};
 ghost use Rattle.av_replay.specs.Line.{FailsOnly};
 ghost use Rattle.av_replay.specs.Turn.{DoesLine, IsNotDone, IsNotAnswered, Turned};
 
@@ -110,7 +110,7 @@ pub fn next_line<S: Source, K: Sink>(
         kernel.old kernel.new }
     ensures unfailed { FailsOnly result (streams (S.view source.old) (K.view sink.old))
         (streams (S.view source.new) (K.view sink.new)) }
-    ensures in_step { AreInStep (streams (S.view source.old) (K.view sink.old))
+    ensures flushed { AreFlushed 0 (streams (S.view source.old) (K.view sink.old))
         (streams (S.view source.new) (K.view sink.new)) }
     ensures none_kept { IfErr result
         (λ e. e ≡ RunErr.Read → (K.view sink.new).kept_back ≡ []) }

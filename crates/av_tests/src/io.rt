@@ -1,6 +1,8 @@
 ghost use Rattle.std.specs.Prelude.{◌≤◌, IfOk};
 
+use crate::paths::path_of_test;
 use av_io::*;
+use std::fs::{self, File};
 use std::io::{self, ErrorKind, Read, Write};
 use std::test::Fail;
 
@@ -85,5 +87,16 @@ fn faults_of_a_reader_and_a_writer(rt: HostRuntime) -> Result<(), Fail> {
     assert!(rt; takes(&mut sink, b"ab") && sink.flush().is_err());
     assert!(rt; sink.flush().is_err());
     assert!(rt; sink.flush().is_ok());
+    Ok(())
+}
+
+#[test]
+fn a_file_gets_bytes_at_a_flush(rt: HostRuntime) -> Result<(), Fail> {
+    let path = path_of_test(&rt, "av_io")?;
+    let mut sink = WriteSink::new(rt.alloc(), File::create(&rt, path.as_path())?)?;
+    assert!(rt; takes(&mut sink, b"ab") && fs::read(&rt, path.as_path())?.is_empty());
+    assert!(rt; sink.flush().is_ok() && takes(&mut sink, b"cd"));
+    assert!(rt; fs::read(&rt, path.as_path())?.as_slice() == b"ab".as_slice());
+    fs::remove_file(&rt, path.as_path())?;
     Ok(())
 }

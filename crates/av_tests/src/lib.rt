@@ -21,6 +21,8 @@ mod lru;
 #[cfg(test)]
 mod pagetable;
 #[cfg(test)]
+mod paths;
+#[cfg(test)]
 mod rmap;
 #[cfg(test)]
 mod swapdev;

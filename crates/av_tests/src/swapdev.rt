@@ -1,15 +1,13 @@
 ghost use Rattle.std.specs.Prelude.{◌≡◌, ◌+◌, ◌<◌, ◌≤◌, if◌then◌else◌, Some, true, false, length};
 ghost use Rattle.av_io.specs.Count.{one_more};
 
+use crate::paths::path_of_test;
 use av_io::Failed;
 use av_swapdev::*;
 use byteorder::{BigEndian, ByteOrder, LittleEndian};
 use std::alloc::{AllocError, Global};
-use std::env;
 use std::fs::{self, OpenOptions};
-use std::path::PathBuf;
 use std::test::*;
-use std::time::{Duration, SystemTime, UNIX_EPOCH};
 
 /// As many bad pages as a header has room for.
 const MOST_BAD: usize = 637;
@@ -127,16 +125,6 @@ fn memory(rt: HostRuntime) -> Result<(), Fail> {
     );
     assert!(rt; device.page(0, 3).is_none() && device.page(1, 0).is_none());
     Ok(())
-}
-
-/// A file on the host that no other test has.
-fn path_of_test(rt: &HostRuntime) -> Result<PathBuf, Fail> {
-    let a = rt.alloc();
-    let now = SystemTime::now(rt)?
-        .duration_since(UNIX_EPOCH)
-        .unwrap_or(Duration::ZERO);
-    let name = format!(in a; "av_swapdev.{}", now.as_nanos())?;
-    Ok(env::temp_dir(rt)?.join(a, name.as_str())?)
 }
 
 /// Two pages and a part of a third.
@@ -272,7 +260,7 @@ fn files_in_memory(rt: HostRuntime) -> Result<(), Fail> {
 #[test]
 fn files(rt: HostRuntime) -> Result<(), Fail> {
     let a = rt.alloc();
-    let path = path_of_test(&rt)?;
+    let path = path_of_test(&rt, "av_swapdev")?;
     fs::write(&rt, path.as_path(), bytes_of_test(a)?.as_slice())?;
 
     let mut device = FileDev::new(a, HostFiles::new(rt.clone()?))?;

@@ -1,5 +1,5 @@
 use Rattle.std.proofs.Common.{◌≡◌, ◌-◌, length}
-use Rattle.av_replay.specs.Streams.{streams, undone, IsLater, AreUnfailed, AreInStep, StaysOpen}
+use Rattle.av_replay.specs.Streams.{streams, undone, AreFlushed, AreUnfailed, StaysOpen}
 use Rattle.av_replay.proofs.line.read_line.Given as goal
 
 abbrev pub invariant-loop-size : goal.invariant-loop-size
@@ -8,9 +8,8 @@ invariant-loop-size g l = record {
       (streams (g.S.Source.view l.fn.source) (g.K.Sink.view l.fn.sink));
   held : (g.K.Sink.view l.sink).held ≡ (g.K.Sink.view l.fn.sink).held;
   unfailed : AreUnfailed (streams (g.S.Source.view l.fn.source) (g.K.Sink.view l.fn.sink)) (streams (g.S.Source.view l.source) (g.K.Sink.view l.sink));
-  in_step : AreInStep (streams (g.S.Source.view l.fn.source) (g.K.Sink.view l.fn.sink)) (streams (g.S.Source.view l.source) (g.K.Sink.view l.sink));
+  flushed : AreFlushed 0 (streams (g.S.Source.view l.fn.source) (g.K.Sink.view l.fn.sink)) (streams (g.S.Source.view l.source) (g.K.Sink.view l.sink));
   stays_open : StaysOpen (g.S.Source.view l.fn.source) (g.S.Source.view l.source);
-  later : IsLater (streams (g.S.Source.view l.fn.source) (g.K.Sink.view l.fn.sink)) (streams (g.S.Source.view l.source) (g.K.Sink.view l.sink));
 }
 
 abbrev pub decreases-loop-size : goal.decreases-loop-size

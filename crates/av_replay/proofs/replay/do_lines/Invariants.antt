@@ -1,5 +1,5 @@
 use Rattle.std.proofs.Common.{◌≡◌, ◌≤◌, length}
-use Rattle.av_replay.specs.Streams.{streams, AreUnfailed, AreInStep}
+use Rattle.av_replay.specs.Streams.{streams, AreFlushed}
 use Rattle.av_replay.proofs.Runs.{Past, SoFar}
 use Rattle.av_replay.proofs.replay.do_lines.Given as goal
 
@@ -7,7 +7,6 @@ abbrev pub invariant-loop-number : goal.invariant-loop-number
 invariant-loop-number g l = record {
   so_far : (past : Past) × SoFar l.fn.kernel.frames past l.pending (streams (g.S.Source.view l.fn.source) (g.K.Sink.view l.fn.sink))
       (streams (g.S.Source.view l.source) (g.K.Sink.view l.sink)) l.kernel × (length past.lines ≡ l.number);
-  unfailed : AreUnfailed (streams (g.S.Source.view l.fn.source) (g.K.Sink.view l.fn.sink)) (streams (g.S.Source.view l.source) (g.K.Sink.view l.sink));
-  in_step : AreInStep (streams (g.S.Source.view l.fn.source) (g.K.Sink.view l.fn.sink)) (streams (g.S.Source.view l.source) (g.K.Sink.view l.sink));
+  flushed : AreFlushed 0 (streams (g.S.Source.view l.fn.source) (g.K.Sink.view l.fn.sink)) (streams (g.S.Source.view l.source) (g.K.Sink.view l.sink));
   steps : l.kernel.steps ≤ l.number;
 }

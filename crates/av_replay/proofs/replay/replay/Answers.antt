@@ -1,22 +1,21 @@
-use Rattle.std.proofs.Common.{refl, arith}
+use Rattle.std.proofs.Common.{inl, refl}
 use Rattle.av_replay.specs.Streams.{streams}
-use Rattle.av_replay.proofs.Calls.{memory_unflushed}
-use Rattle.av_replay.proofs.Endings.{nothing_done, flushed}
+use Rattle.av_replay.proofs.Times.{flushed_none}
+use Rattle.av_replay.proofs.Endings.{nothing_done, replayed}
 use Rattle.av_replay.proofs.replay.replay.Goals as goal
 
-pub returns-in_default-clause-headline : goal.returns-in_default-clause-headline
-returns-in_default-clause-headline g c = nothing_done _ _ _
+pub returns-in_default : goal.returns-in_default
+returns-in_default g c = record {
+  headline = nothing_done _ _;
+  unfailed = (refl, inl refl);
+  flushed = inl (refl, flushed_none _ _ refl refl);
+}
 
-pub returns-in-Memory : goal.returns-in-Memory
-returns-in-Memory g c =
+pub returns : goal.returns
+returns g c =
     let old = streams (g.S.Source.view c.args.source.now) (g.K.Sink.view c.args.sink.now) in
     let now = streams (g.S.Source.view c.do_lines-status.new.source) (g.K.Sink.view c.do_lines-status.new.sink) in
-    let new = streams (g.S.Source.view c.do_lines-status.new.source) (g.K.Sink.view c.flush.new.self) in
-    let keeps = c.in-Err.ensures.err in
-    let both = memory_unflushed old now new refl keeps (rw c.in-Memory.is at c.do_lines-status.ensures.unfailed) in
-    record {
-      headline = flushed c.args.kernel.now.frames old now new c.do_lines-status.new.kernel refl keeps.held refl keeps.never_falls
-          (omega (arith, keeps.flushes)) c.do_lines-status.result c.in_default-status.not-WriteFault c.do_lines-status.ensures.headline;
-      unfailed = rw c.in-Memory.is both.0;
-      flushed = rw c.in-Memory.is both.1;
-    }
+    let d = c.do_lines-status.ensures in
+    let r = replayed c.args.kernel.now.frames old now c.do_lines-status.new.kernel (g.K.Sink.view c.flush_last.new.sink) c.do_lines-status.result
+    c.flush_last.result c.flush_last.ensures d.headline d.unfailed d.memory d.flushed d.none_kept in
+    record { headline = r.headline; unfailed = r.unfailed; flushed = r.flushed }

@@ -11,4 +11,5 @@ returns-in_err-answer_line-clause-turned g c =
     let next = rw c.in-Some.is at c.in_ok-line.ensures.line in
     let not = rw c.as_slice.ensures.is at c.in_err-answer_line.ensures.err in
     rw (p.1, p.2) (halts c.args.pending.now c.read_line.new.pending old now c.args.kernel.now c.answer_line.new.kernel c.in-Some.line
-    (g.K.Sink.view c.answer_line.new.sink) c.in_ok-line.ensures.reads c.in_err-answer_line.field-0.0 next not)
+    (g.K.Sink.view c.answer_line.new.sink) c.in_ok-line.ensures.reads c.in_err-answer_line.field-0.0
+    c.in_ok-line.ensures.unfailed next not)
