@@ -268,7 +268,8 @@ write_fault n past ahead rest old now new k k' so_far few (inr unflushed) failed
     kept_back n past ahead rest old now new k k' so_far (omega arith) (may_go_on past rest few) unflushed failed
 
 pub halts : (n : ℕ) (past : Past) (ahead rest : List ℕ) (old now new : Streams) (k k' : Machine) (error : RunErr) (number : ℕ) → SoFar n past ahead old now k →
-    number ≡ length past.lines + 1 → number ≤ most_lines → Halts error ahead rest now new k k' → Headline n (status_at error number) old new (kernel_at (status_at error number) k')
+    number ≡ length past.lines + 1 → number ≤ most_lines → Halts error ahead rest now new k k' →
+    Headline n (status_at error number) old new (kernel_at (status_at error number) k')
 halts n past ahead rest old now new k k' errors.BadLine number so_far count few h =
     headline n (statuses.BadLine number) rest old new k' _ _ (stops n past ahead rest old now new k k' so_far (omega arith) h.0) ((refl, count, few, h.1), refl)
 halts n past ahead rest old now new k k' errors.Read number so_far count few h =

@@ -133,7 +133,8 @@ module _ (n : ℕ) (past : Past) (ahead : List ℕ) (old now new : Streams) (k k
 
   -- the kernel after the line
   pub kernel_more : (lines : List (List ℕ)) (last : Option (List ℕ)) →
-      IsHandedBack k' new.device n (record { lines = lines; last = last; transcript = past.transcript ++ option_to_list next_answers.did; state = next_answers.next })
+      IsHandedBack k' new.device n
+      (record { lines = lines; last = last; transcript = past.transcript ++ option_to_list next_answers.did; state = next_answers.next })
   kernel_more lines last =
       let a = next_answers in
       let kept = so_far.kernel_left in
@@ -151,7 +152,8 @@ module _ (n : ℕ) (past : Past) (ahead : List ℕ) (old now new : Streams) (k k
       ∙ sym (flat_map-append (λ (e : Exchange). text_of e.reply) past.transcript (option_to_list next_answers.did))
 
 pub goes_on : (n : ℕ) (past : Past) (ahead rest : List ℕ) (old now new : Streams) (k k' : Machine) (line text : List ℕ) (so_far : SoFar n past ahead old now k)
-    (takes : TakesLine ahead now new k k' line (10 ∷ []) rest text text) (unfailed : AreUnfailed now new) (stays_open : StaysOpen now.source new.source) →
+    (takes : TakesLine ahead now new k k' line (10 ∷ []) rest text text) (unfailed : AreUnfailed now new)
+    (stays_open : StaysOpen now.source new.source) →
     SoFar n (longer past line (next_answers n past ahead old now new k k' line (10 ∷ []) rest text text so_far takes).did
     (next_answers n past ahead old now new k k' line (10 ∷ []) rest text text so_far takes).next) rest old new k'
 goes_on n past ahead rest old now new k k' line text so_far takes unfailed stays_open =

@@ -86,7 +86,8 @@ module _ (ahead mid : List ℕ) (old now : Streams) (k k' : Machine) (line : Lin
   halts_by ending errors.Read was by not = absurd not
 
   -- a line stood in front, and was not done, or its text not written
-  pub halts : (error : RunErr) → AreUnfailed old now → IsNext line mid old.source now.source → IsNotAnswered error (take line.size mid) now.device now.device k k' now.sink sink →
+  pub halts : (error : RunErr) → AreUnfailed old now → IsNext line mid old.source now.source →
+      IsNotAnswered error (take line.size mid) now.device now.device k k' now.sink sink →
       Halts error ahead mid old (record now { sink = sink }) k k'
   halts error was (inl next) not = halts_by (10 ∷ []) error was (ends_line line mid now next.0 next.1) not
   halts error was (inr next) not = halts_by [] error was (ends_last line mid now next.0 next.1 next.2 next.3 next.4) not

@@ -2,12 +2,11 @@ use av_base::Prot;
 use av_kernel::*;
 use av_text::Bytes;
 use av_trace::{Command, Place, reply_text};
+use std::alloc::{AllocError, Global};
 use std::test::Fail;
 
-/// A first run, a refusal, and what the kernel tells of itself then.
-#[test]
-fn commands_and_their_tally(rt: HostRuntime) -> Result<(), Fail> {
-    let alloc = rt.alloc();
+/// A process, a mapping, and a write of a process that does not live.
+fn commands_of_test(alloc: Global) -> Result<[Command; 3], AllocError> {
     let mut bytes = Bytes::new(alloc);
     bytes.append(b"A")?;
     let prot = Prot {
@@ -15,7 +14,7 @@ fn commands_and_their_tally(rt: HostRuntime) -> Result<(), Fail> {
         write: true,
         execute: false,
     };
-    let commands = [
+    Ok([
         Command::Spawn { process: 1 },
         Command::Mmap {
             process: 1,
@@ -28,16 +27,60 @@ fn commands_and_their_tally(rt: HostRuntime) -> Result<(), Fail> {
             address: 0x1000,
             bytes,
         },
-    ];
-    let mut kernel = Kernel::new(alloc, 4)?;
-    let mut text = Bytes::new(alloc);
-    for command in &commands {
-        assert!(rt; kernel.steps_done() < 3);
-        let reply = kernel.step(alloc, command)?;
-        reply_text(&reply, &mut text)?;
+    ])
+}
+
+/// Does a command, one of the first three, and puts the text of its reply into `text`.
+fn step(
+    alloc: Global,
+    kernel: &mut Kernel,
+    command: &Command,
+    text: &mut Bytes,
+) -> Result<bool, AllocError> {
+    if kernel.steps_done() > 2 {
+        return Ok(false);
     }
-    assert!(rt; text.as_slice() == b"ok\nmap 7fffffffe000\nerr ESRCH\n".as_slice());
-    assert!(rt; kernel.steps_done() == 3 && kernel.tally().refused == 1 && !kernel.is_spent());
-    assert!(rt; kernel.frames().free() == 4 && kernel.areas().count() == 1);
+    let reply = kernel.step(alloc, command)?;
+    reply_text(&reply, text)?;
+    Ok(true)
+}
+
+/// Does the commands, and puts the texts of their replies into `text`.
+fn step_all(
+    alloc: Global,
+    kernel: &mut Kernel,
+    commands: &[Command],
+    text: &mut Bytes,
+) -> Result<bool, AllocError> {
+    for command in commands {
+        if !step(alloc, kernel, command, text)? {
+            return Ok(false);
+        }
+    }
+    Ok(true)
+}
+
+/// Whether the kernel tells of itself what it is to tell after these commands.
+fn tells(kernel: &Kernel) -> bool {
+    kernel.steps_done() == 3
+        && kernel.tally().refused == 1
+        && !kernel.is_spent()
+        && kernel.frames().free() == 4
+        && kernel.areas().count() == 1
+}
+
+/// Whether the commands give this text and leave such a kernel.
+fn gives(alloc: Global, commands: &[Command], wanted: &[u8]) -> Result<bool, AllocError> {
+    let mut text = Bytes::new(alloc);
+    let mut kernel = Kernel::new(alloc, 4)?;
+    let done = step_all(alloc, &mut kernel, commands, &mut text)?;
+    Ok(done && text.as_slice() == wanted && tells(&kernel))
+}
+
+/// A first run, a refusal, and what the kernel tells of itself then.
+#[test]
+fn commands_and_their_tally(rt: HostRuntime) -> Result<(), Fail> {
+    let commands = commands_of_test(rt.alloc())?;
+    assert!(rt; gives(rt.alloc(), &commands, b"ok\nmap 7fffffffe000\nerr ESRCH\n")?);
     Ok(())
 }
