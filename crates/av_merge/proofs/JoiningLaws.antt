@@ -2,7 +2,7 @@
 use Rattle.std.proofs.Common.{◌≡◌, ◌≢◌, ℕ, ◌-◌, ◌<◌, ◌≤◌, IsSomeAnd, true, false, cond, ◌&&◌, inl, inr, List, Option, Some, None, IfSome, option_map, is_some, Bool, length, refl, sym, ap, subst, ◌∙◌, arith}
 use Rattle.std.specs.Prelude.{option_and_then}
 use Rattle.std.proofs.lemmas.Bool.{eq-eqb, ne_eqb, both_ways}
-use Rattle.std.proofs.lemmas.Option.{same_Some}
+use Rattle.std.proofs.lemmas.Option.{none-some, same_Some}
 use Rattle.av_vma.specs.declared.area.Area.{Area}
 use Rattle.av_vma.specs.Join.{first_of, past_of}
 use Rattle.std.specs.Option.{option_or}
@@ -101,9 +101,10 @@ module _ (len : Lengths) (p l r at : ℕ) (lower upper : Area) (areas : ℕ → 
   upper_goes page e = right_pages len lower upper on_left.is.whole on_right.is.whole joins page
       ((laid_of p areas spans stands).here page upper (ap (option_and_then areas) e ∙ upper_is))
 
-  pub others_stay : (page k : ℕ) → k ≢ r → area_at spans page ≡ Some k →
+  -- of the others each stays, and a page without an area has none
+  other_stays : (page k : ℕ) → k ≢ r → area_at spans page ≡ Some k →
       cond (has_page (join_of lower upper) page) (Some l) (unless_area l (unless_area r (area_at spans page))) ≡ Some k
-  others_stay page k apart e =
+  other_stays page k apart e =
       elim (has_page (join_of lower upper) page) as (λ b. has_page (join_of lower upper) page ≡ b →
       cond b (Some l) (unless_area l (unless_area r (area_at spans page))) ≡ Some k) [
         | true ↦ λ h. elim (merged_pages len lower upper on_left.is.whole on_right.is.whole joins page h) [
@@ -116,6 +117,27 @@ module _ (len : Lengths) (p l r at : ℕ) (lower upper : Area) (areas : ℕ → 
             ((laid_of p areas spans stands).here page lower (ap (option_and_then areas) e ∙ ap areas same ∙ lower_is))) in
             rw (e, ne_eqb k r apart, ne_eqb k l not_left) refl
       ] refl
+
+  none_stays : (page : ℕ) → area_at spans page ≡ None →
+      cond (has_page (join_of lower upper) page) (Some l) (unless_area l (unless_area r (area_at spans page))) ≡ None
+  none_stays page e =
+      elim (has_page (join_of lower upper) page) as (λ b. has_page (join_of lower upper) page ≡ b →
+      cond b (Some l) (unless_area l (unless_area r (area_at spans page))) ≡ None) [
+        | true ↦ λ h. elim (merged_pages len lower upper on_left.is.whole on_right.is.whole joins page h) [
+          | inl g ↦ absurd (none-some l (sym e ∙ at_left page g))
+          | inr g ↦ absurd (none-some r (sym e ∙ at_right page g))
+        ]
+        | false ↦ λ h. rw e refl
+      ] refl
+
+  pub others_stay : (page : ℕ) → area_at spans page ≢ Some r →
+      cond (has_page (join_of lower upper) page) (Some l) (unless_area l (unless_area r (area_at spans page))) ≡ area_at spans page
+  others_stay page apart = go (area_at spans page) refl
+    where
+      go : (o : Option ℕ) → area_at spans page ≡ o →
+          cond (has_page (join_of lower upper) page) (Some l) (unless_area l (unless_area r (area_at spans page))) ≡ area_at spans page
+      go None e = none_stays page e ∙ sym e
+      go (Some k) e = other_stays page k (λ same. apart (e ∙ ap Some same)) e ∙ sym e
 
   -- the lower area has the anon_vma that either had, and the upper area has been taken out
   module _ (areas' : ℕ → Option Area) (spans' : List Span)

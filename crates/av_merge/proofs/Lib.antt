@@ -1,3 +1,4 @@
+pub mod Beside
 pub mod ChangingByPage
 pub mod ChangingParts
 pub mod ChangingReach

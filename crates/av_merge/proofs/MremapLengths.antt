@@ -1,5 +1,5 @@
 -- Where areas move or grow it does not matter which of two lengths of chains is asked, where they say the same of the areas that there are.
-use Rattle.std.proofs.Common.{◌≡◌, ℕ, suc, ◌+◌, Option, Some, None, refl, sym, ap, subst, ◌∙◌}
+use Rattle.std.proofs.Common.{◌≡◌, ℕ, suc, Option, Some, None, refl, sym, ap, subst, ◌∙◌}
 use Rattle.av_vma.specs.declared.area.Area.{Area}
 use Rattle.av_vma.specs.Join.{first_of}
 use Rattle.av_vma.specs.Mremap.{after_grow, after_move, grown_to}
@@ -31,4 +31,6 @@ module _ (len len' : Lengths) (on : Pages) (none : len None ≡ len' None) (alik
           (alike_owns len len' on (grown_to past (Some area) on) none alike (subst (λ o. AddsNoOwn on (grown_to past o on)) is (owns_grown past last on))) page
 
   pub move_alike : (from n to m page : ℕ) → after_move len from n to m on page ≡ after_move len' from n to m on page
-  move_alike from n to m = over_alike len len' to (suc m) (full from n to m on) (alike_owns len len' on (full from n to m on) none alike (owns_full from n to m on))
+  move_alike from n to m =
+      let on' = full from n to m on in
+      over_alike len len' to (suc m) on' (alike_owns len len' on on' none alike (owns_full from n to m on))

@@ -1,10 +1,10 @@
 -- How a page is mapped: what its area says of it, whatever the area's bounds are.
-use Rattle.std.specs.Prelude.{◌≡◌, ℕ, ◌-◌, true, if◌then◌else◌, Option, None, option_map, IfSome}
+use Rattle.std.specs.Prelude.{◌≡◌, ℕ, ◌-◌, if◌then◌else◌, Option, option_map, IfSome}
 use Rattle.av_base.specs.declared.prot.Prot.{Prot}
 use Rattle.av_vma.specs.declared.area.Area.{Area}
 use Rattle.av_base.specs.Words.{within}
 use Rattle.av_vma.specs.Join.{index_of}
-use Rattle.av_vma.specs.Pages.{Pages, Effect, do_join, no_chains}
+use Rattle.av_vma.specs.Pages.{Pages, Effect}
 
 -- the protection and flags of a page's area, and the page's linear index; not its own anon_vma,
 -- which a page may get by a join

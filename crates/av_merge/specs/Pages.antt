@@ -1,5 +1,5 @@
 -- What is on the pages of a process, as areas by number and a tree of spans say it.
-use Rattle.std.specs.Prelude.{◌≡◌, ℕ, ◌<◌, ◌≤◌, true, false, Bool, List, Option, option_and_then}
+use Rattle.std.specs.Prelude.{◌≡◌, ℕ, ◌<◌, ◌≤◌, true, false, ◌==◌, if◌then◌else◌, Bool, List, Option, Some, None, option_and_then}
 use Rattle.av_vma.specs.declared.area.Area.{Area}
 use Rattle.av_vma.specs.Pages.{Pages}
 use Rattle.av_vmatree.specs.declared.span.Span.{Span}
@@ -15,3 +15,13 @@ pub record GoesTo (is_taken : ℕ → Bool) (from to past : ℕ) : Type 0 where
   pub highest : past ≤ to
   pub all : (page : ℕ) → from ≤ page → page < past → is_taken page ≡ true
   pub end : past < to → is_taken past ≡ false
+
+-- the area of a span that ends before the page
+abbrev pub ending_at : ℕ → Option Span → Option ℕ
+ending_at page None = None
+ending_at page (Some s) = if s.to == page then Some s.area else None
+
+-- the area of a span that begins with the page
+abbrev pub beginning_at : ℕ → Option Span → Option ℕ
+beginning_at page None = None
+beginning_at page (Some s) = if s.from == page then Some s.area else None

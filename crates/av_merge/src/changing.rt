@@ -15,8 +15,8 @@ ghost use Rattle.av_merge.specs.Kin.{AreInOrder, StayKin, lengths};
 ghost use Rattle.av_merge.specs.Process.{AreAreasOf, Stays, AreOfOne, StayOfOne, Becomes};
 
 use crate::splitting::split_out;
-use crate::joining::{join_at, join_part};
-use crate::placing::add;
+use crate::joining::{join_beside, join_part};
+use crate::placing::{add, beside};
 use av_anon::Anons;
 use av_base::{PAGE_SIZE, Prot};
 use av_vma::{Area, AreaId, Areas};
@@ -55,9 +55,9 @@ pub fn map(
         pgoff: from,
         anon: None,
     };
-    add(areas, tree, area)?;
-    join_at(areas, tree, anons, from)?;
-    join_at(areas, tree, anons, to)
+    let (below, above) = beside(tree, from, to);
+    let number = add(areas, tree, area)?;
+    join_beside(areas, tree, anons, below, number, above, from, to)
 }
 
 /// What is said of an area's pages that can be changed.

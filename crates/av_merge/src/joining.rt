@@ -40,13 +40,13 @@ pub fn join_ends(
         (Some(left), Some(middle), Some(right))
             if left.to == from && middle.from == from && middle.to == past && right.from == past =>
             {
-                join_three(
+                join_beside(
                     areas,
                     tree,
                     anons,
-                    left.area,
+                    Some(left.area),
                     middle.area,
-                    right.area,
+                    Some(right.area),
                     from,
                     past,
                 )
@@ -110,35 +110,86 @@ fn join_both(
     join_at(areas, tree, anons, past)
 }
 
-/// Tries both boundaries of the area between the pages `from` and `past`, which has another on each
-/// side: none has to be sought again.
-fn join_three(
+/// Tries both boundaries of the area on the pages from `from` to below `past`, where these areas
+/// are beside it, if any: none has to be sought.
+pub fn join_beside(
     areas: &mut Areas,
     tree: &mut Tree,
     anons: &mut Anons,
-    left: AreaId,
-    middle: AreaId,
-    right: AreaId,
+    below: Option<AreaId>,
+    area: AreaId,
+    above: Option<AreaId>,
     from: u64,
     past: u64,
 ) -> Result<(), AllocError>
     requires order { AreInOrder areas.old anons.old }
     requires stands { AreOfOne areas.old tree.old }
-    requires some { 0 < from }
-    requires forward { from < past }
-    requires apart { right ≢ middle }
-    requires below { area_at tree.old (from - 1) ≡ Some left }
-    requires first { area_at tree.old from ≡ Some middle }
-    requires last { area_at tree.old (past - 1) ≡ Some middle }
-    requires above { area_at tree.old past ≡ Some right }
+    requires below { area_at tree.old (from - 1) ≡ below }
+    requires first { area_at tree.old from ≡ Some area }
+    requires last { area_at tree.old (past - 1) ≡ Some area }
+    requires above { area_at tree.old past ≡ above }
+    requires apart { above ≢ Some area }
     ensures stands { StayOfOne areas.old tree.old areas.new tree.new }
     ensures kin { OnOk result (StayKin areas.old anons.old areas.new anons.new) }
     ensures pages { OnOk result
         (Becomes areas.old tree.old areas.new tree.new
         (joined_around (lengths areas.old anons.old) from past)) }
 {
-    let below = join(areas, tree, anons, left, middle, from)?;
-    join(areas, tree, anons, below, right, past)?;
+    let joined = join_below(areas, tree, anons, below, area, from)?;
+    join_above(areas, tree, anons, joined, above, past)
+}
+
+/// Tries the lower boundary of an area, the one before the page `at`, and answers the number of the
+/// area that has its pages then.
+fn join_below(
+    areas: &mut Areas,
+    tree: &mut Tree,
+    anons: &mut Anons,
+    below: Option<AreaId>,
+    area: AreaId,
+    at: u64,
+) -> Result<AreaId, AllocError>
+    requires order { AreInOrder areas.old anons.old }
+    requires stands { AreOfOne areas.old tree.old }
+    requires below { area_at tree.old (at - 1) ≡ below }
+    requires above { area_at tree.old at ≡ Some area }
+    ensures stands { StayOfOne areas.old tree.old areas.new tree.new }
+    ensures kin { OnOk result (StayKin areas.old anons.old areas.new anons.new) }
+    ensures pages { OnOk result (Becomes areas.old tree.old areas.new tree.new
+        (joined_at (lengths areas.old anons.old) at)) }
+    ensures number { IfOk result (λ number. (page : ℕ) → area_at tree.old page ≡ Some area
+        → area_at tree.new page ≡ Some number) }
+    ensures others { OnOk result ((page : ℕ) → area_at tree.old page ≢ Some area
+        → area_at tree.new page ≡ area_at tree.old page) }
+{
+    match below {
+        Some(left) => join(areas, tree, anons, left, area, at),
+        None => Ok(area),
+    }
+}
+
+/// Tries the upper boundary of an area, the one before the page `at`.
+fn join_above(
+    areas: &mut Areas,
+    tree: &mut Tree,
+    anons: &mut Anons,
+    area: AreaId,
+    above: Option<AreaId>,
+    at: u64,
+) -> Result<(), AllocError>
+    requires order { AreInOrder areas.old anons.old }
+    requires stands { AreOfOne areas.old tree.old }
+    requires below { area_at tree.old (at - 1) ≡ Some area }
+    requires above { area_at tree.old at ≡ above }
+    ensures stands { StayOfOne areas.old tree.old areas.new tree.new }
+    ensures kin { OnOk result (StayKin areas.old anons.old areas.new anons.new) }
+    ensures pages { OnOk result (Becomes areas.old tree.old areas.new tree.new
+        (joined_at (lengths areas.old anons.old) at)) }
+{
+    let Some(right) = above else {
+        return Ok(());
+    };
+    join(areas, tree, anons, area, right, at)?;
     Ok(())
 }
 
@@ -193,8 +244,8 @@ fn join(
         (joined_at (lengths areas.old anons.old) at)) }
     ensures number { IfOk result (λ number. (page : ℕ) → area_at tree.old page ≡ Some right
         → area_at tree.new page ≡ Some number) }
-    ensures others { OnOk result ((page : ℕ) → (other : ℕ) → other ≢ right
-        → area_at tree.old page ≡ Some other → area_at tree.new page ≡ Some other) }
+    ensures others { OnOk result ((page : ℕ) → area_at tree.old page ≢ Some right
+        → area_at tree.new page ≡ area_at tree.old page) }
 {
     let lower = areas.get(left);
     let upper = areas.get(right);

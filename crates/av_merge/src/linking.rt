@@ -129,7 +129,8 @@ pub fn put_parts(
     }
 }
 
-/// Links an area, which stands without its anon_vma, to the chain of another with the same own.
+/// Links an area, which stands without its anon_vma, to the chain of another with the same own; to
+/// none where that has none.
 fn link(
     areas: &mut Areas,
     anons: &mut Anons,
@@ -145,6 +146,9 @@ fn link(
         ≡ with_at number (Some area) (area_of areas.old) k }
     ensures kin { OnOk result (StayKin areas.old anons.old areas.new anons.new) }
 {
+    if area.anon.is_none() {
+        return Ok(());
+    }
     let result = anons.clone_chain(areas, other, number);
     areas.change(number, area);
     result

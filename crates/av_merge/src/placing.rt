@@ -1,11 +1,11 @@
 //! One area is put, or another is put in its place.
 
-ghost use Rattle.std.specs.Prelude.{◌≡◌, ℕ, ◌<◌, ◌≤◌, Some, None, IsSomeAnd, OnOk, IfOk, if◌then◌else◌};
+ghost use Rattle.std.specs.Prelude.{◌≡◌, ℕ, ◌-◌, ◌<◌, ◌≤◌, Some, None, IsSomeAnd, OnOk, IfOk, if◌then◌else◌};
 ghost use Rattle.av_vma.specs.Areas.{area_of};
 ghost use Rattle.av_vma.specs.Join.{first_of, past_of};
 ghost use Rattle.av_base.specs.Words.{with_at};
-ghost use Rattle.av_vmatree.specs.Spans.{IsFree, area_at, span, span_of, is_page_taken, unless_area, with_span, without_area};
-ghost use Rattle.av_merge.specs.Pages.{pages_by};
+ghost use Rattle.av_vmatree.specs.Spans.{AreSpans, IsFree, area_at, span, span_of, is_page_taken, unless_area, with_span, without_area};
+ghost use Rattle.av_merge.specs.Pages.{beginning_at, ending_at, pages_by};
 ghost use Rattle.av_vma.specs.Pages.{has_page, with_area, IsWhole};
 ghost use Rattle.av_anon.specs.Resize.{with_bounds};
 ghost use Rattle.av_merge.specs.Kin.{AreInOrder, StayKin};
@@ -41,6 +41,40 @@ pub fn add(areas: &mut Areas, tree: &mut Tree, area: Area) -> Result<AreaId, All
             areas.remove(number);
             Err(error)
         }
+    }
+}
+
+/// The areas beside the pages from `from` to below `to`, which are free: the one that ends with
+/// the page before them, and the one that begins with the page after them.
+pub fn beside(tree: &Tree, from: u64, to: u64) -> (Option<AreaId>, Option<AreaId>)
+    requires spans { AreSpans tree.now }
+    requires some { from < to }
+    requires low { 0 < from }
+    requires free { IsFree (is_page_taken tree.now) from to }
+    ensures below { result.0 ≡ area_at tree.now (from - 1) }
+    ensures above { result.1 ≡ area_at tree.now to }
+{
+    let (below, above) = tree.around(from);
+    (ending(below, from), beginning(above, to))
+}
+
+/// The area of a span, where that ends before the page `at`.
+fn ending(span: Option<Span>, at: u64) -> Option<AreaId>
+    ensures { result ≡ ending_at at span }
+{
+    match span {
+        Some(span) if span.to == at => Some(span.area),
+        _ => None,
+    }
+}
+
+/// The area of a span, where that begins with the page `at`.
+fn beginning(span: Option<Span>, at: u64) -> Option<AreaId>
+    ensures { result ≡ beginning_at at span }
+{
+    match span {
+        Some(span) if span.from == at => Some(span.area),
+        _ => None,
     }
 }
 

@@ -1,14 +1,12 @@
 -- Two spans that become one.
-use Rattle.std.proofs.Common.{◌≡◌, ℕ, ◌+◌, ◌-◌, ◌<◌, ◌≤◌, ◌⊎◌, inl, inr, Bool, true, false, cond, eqb, Option, Some, None, IsSomeAnd, List, [], ◌∷◌, refl, sym, ap, subst, ◌∙◌, arith}
+use Rattle.std.proofs.Common.{◌≡◌, ℕ, ◌+◌, ◌-◌, ◌<◌, ◌≤◌, ◌⊎◌, inl, inr, Bool, true, false, cond, eqb, Option, None, IsSomeAnd, List, [], ◌∷◌, refl, sym, ap, subst, ◌∙◌, arith}
 use Rattle.std.proofs.lemmas.Bool.{eqb-true}
-use Rattle.av_base.specs.Limits.{low_page, top_page}
-use Rattle.av_base.specs.Words.{with_at}
+use Rattle.av_base.specs.Limits.{top_page}
 use Rattle.av_arena.specs.Order.{NoneWithin, with_joined, without_key}
 use Rattle.std.specs.List.{AllByRecursion}
-use Rattle.av_arena.proofs.Order.{AllByRecursion-map}
 use Rattle.av_vmatree.specs.declared.span.Span.{Span}
-use Rattle.av_vmatree.specs.Spans.{start_of, holds, area_at, is_page_taken, span, span_of, with_span, unless_area, without_area, AreApart, AreSpans, IsFree}
-use Rattle.av_vmatree.proofs.Spans.{AreClear, IsEnded, IsRemoved, clear_from_free, ended_here, entry_there, removed_here}
+use Rattle.av_vmatree.specs.Spans.{start_of, is_page_taken, span_of, with_span, without_area, AreApart, AreSpans, IsFree}
+use Rattle.av_vmatree.proofs.Spans.{AreClear, IsEnded, IsRemoved, clear_from_free, ended_here, removed_here}
 
 -- a span that is there goes
 pub without_here : (n first : ℕ) (xs : List Span) → AreSpans xs → IsSomeAnd (span_of xs n) (λ a. a.from ≡ first) → IsRemoved n xs (without_area n xs)

@@ -1,6 +1,7 @@
 -- Lists of spans of which no two meet.
 use Rattle.std.proofs.Common.{◌≡◌, ℕ, ◌+◌, ◌-◌, ◌^◌, ◌<◌, ◌≤◌, max, ◌⊎◌, inl, inr, Bool, true, false, cond, ◌&&◌, eqb, ltb, leb, Option, Some, None, is_some, IfSome, IsSome, IsSomeAnd, Result, Ok, Err, is_ok, OnOk, List, [], ◌∷◌, ◌++◌, length, refl, sym, ap, subst, ◌∙◌, arith}
 use Rattle.std.specs.Option.{option_or}
+use Rattle.std.proofs.lemmas.List.{length-append}
 use Rattle.std.proofs.lemmas.Bool.{leb-true, ltb-true, ltb-false, le-leb, lt-leb, lt-ltb, le-ltb, eq-eqb, ne_eqb, eqb-true, eqb-false, both_ways, cases_lt, and_parts, cond-false}
 use Rattle.av_base.specs.Limits.{low_page, top_page}
 use Rattle.av_base.specs.Words.{with_at}
@@ -266,6 +267,22 @@ inserted a xs good some low high free new =
 
 pub room_more : (xs : List Span) → AreSpans xs → length xs + 1 < 2 ^ 63
 room_more xs g = let h = count-le 16 34359738367 xs (omega arith) g.apart g.within in omega (arith, h)
+
+-- each side of a span in a row is shorter than the row
+pub left_shorter : (d l : List Span) (a : Span) (r : List Span) → d ≡ l ++ a ∷ r → length l < length d
+left_shorter d l a r is = let n : length d ≡ length l + length (a ∷ r) = ap length is ∙ length-append l (a ∷ r) in omega arith
+
+pub right_shorter : (d l : List Span) (a : Span) (r : List Span) → d ≡ l ++ a ∷ r → length r < length d
+right_shorter d l a r is = let n : length d ≡ length l + length (a ∷ r) = ap length is ∙ length-append l (a ∷ r) in omega arith
+
+-- nothing in place of what is not there changes nothing
+pub or_nothing : (o : Option Span) → option_or o None ≡ o
+or_nothing None = refl
+or_nothing (Some s) = refl
+
+pub or_none : (o : Option ℕ) → option_or o None ≡ o
+or_none None = refl
+or_none (Some n) = refl
 
 pub apart_left : (l : List Span) (a : Span) (r : List Span) → AreApart (l ++ a ∷ r) → AreApart l
 apart_left [] a r s = tt

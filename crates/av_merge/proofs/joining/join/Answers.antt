@@ -290,9 +290,9 @@ returns-clause-others c =
     let gone = without_here c.args.right c.args.at c.args.tree.now c.requires.stands.1.spans_are
     (right_from len c.requires.stands.0 c.args.left c.args.right c.args.at lower upper areas c.args.tree.now c.requires.stands.1 c.requires.below
     c.requires.above c.get-lower.ensures c.get-upper.ensures joins) in
-    λ page other apart e. c.replace_both.ensures.number page
+    λ page apart. c.replace_both.ensures.number page
     ∙ ap (λ (a : Area). cond (has_page a page) (Some c.args.left) (unless_area c.args.left (area_at (without_area c.args.right c.args.tree.now) page)))
     c.merge.ensures
     ∙ ap (λ a. cond (has_page (join_of lower upper) page) (Some c.args.left) (unless_area c.args.left a)) (gone.pages page)
     ∙ others_stay len c.requires.stands.0 c.args.left c.args.right c.args.at lower upper areas c.args.tree.now c.requires.stands.1 c.requires.below
-    c.requires.above c.get-lower.ensures c.get-upper.ensures joins page other apart e
+    c.requires.above c.get-lower.ensures c.get-upper.ensures joins page apart

@@ -6,8 +6,8 @@ use Rattle.av_vmatree.proofs.Sides.{from_is}
 use Rattle.av_merge.proofs.JoiningLaws.{last_side, left_side, right_side}
 use Rattle.av_merge.proofs.joining.join_ends.Goals as goal
 
-pub join_three-requires : goal.join_three-requires
-join_three-requires c =
+pub join_beside-requires : goal.join_beside-requires
+join_beside-requires c =
     let spans = c.args.tree.now in
     let good = c.requires.stands.1.spans_are in
     let i = c.in-Some-Some-Some in
@@ -15,9 +15,8 @@ join_three-requires c =
     record {
       order = c.requires.order;
       stands = c.requires.stands;
-      some = c.requires.some;
-      forward = c.requires.forward;
-      apart = λ same.
+      apart = λ above_is.
+          let same = same_Some i.right.area i.middle.area above_is in
           let a = (from_is spans c.args.from i.middle good.distinct here).there in
           let b = (from_is spans c.args.past i.right good.distinct (sym c.around-above.ensures.above ∙ i.is-2)).there in
           let one : i.right ≡ i.middle = same_Some i.right i.middle (sym b ∙ (ap (span_of spans) same ∙ a)) in

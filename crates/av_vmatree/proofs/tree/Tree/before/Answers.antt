@@ -1,6 +1,7 @@
-use Rattle.std.proofs.Common.{◌∙◌, subst}
-use Rattle.av_vmatree.specs.Spans.{AreApart}
-use Rattle.av_vmatree.proofs.Spans.{apart_left, apart_right, before_left, before_right}
+use Rattle.std.proofs.Common.{◌∙◌, sym, ap, subst}
+use Rattle.av_vmatree.specs.Spans.{AreApart, area_before}
+use Rattle.std.specs.Option.{option_or}
+use Rattle.av_vmatree.proofs.Spans.{apart_left, apart_right, before_left, before_right, left_shorter, or_none, right_shorter}
 use Rattle.av_vmatree.proofs.tree.Tree.before.Goals as goal
 
 pub down-preserved-then-span-page : goal.down-preserved-then-span-page
@@ -19,3 +20,23 @@ down-preserved c =
           ∙ c.down.invariant.0,
       apart_left s.left s.span s.right apart,
     )
+
+pub down-init : goal.down-init
+down-init c =
+    let all = c.part-part.ensures ∙ c.self.view_is in (
+      or_none (area_before c.part-part.result c.args.page) ∙ ap (λ d. area_before d c.args.page) all,
+      subst AreApart (sym c.part-part.ensures) c.self.invariant.apart,
+    )
+
+pub down-smaller-then-span-page : goal.down-smaller-then-span-page
+down-smaller-then-span-page c =
+    let s = c.in-Some in
+    right_shorter c.down.part s.left s.span s.right s.ensures.parts.entries
+
+pub down-smaller : goal.down-smaller
+down-smaller c =
+    let s = c.in-Some in
+    left_shorter c.down.part s.left s.span s.right s.ensures.parts.entries
+
+pub returns : goal.returns
+returns c = sym (ap (λ d. option_or (area_before d c.args.page) c.down.nearest) c.in_default.ensures.parts) ∙ c.down.invariant.0
