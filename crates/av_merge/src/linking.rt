@@ -129,7 +129,8 @@ pub fn put_parts(
     }
 }
 
-/// Links an area, which stands without its anon_vma, to the chain of another with the same own.
+/// Links an area, which stands without its anon_vma, to the chain of another with the same own; to
+/// none where that has none.
 fn link(
     areas: &mut Areas,
     anons: &mut Anons,
