@@ -13,16 +13,16 @@ use Rattle.av_chain.proofs.lists.Lists.add.Goals as goal
 -- the lists, and the node that was put behind all that were there
 module _ (c : After-put-place) where
   abbrev A : ℕ → Option Head
-  A = get nat_eq c.reserve.new.heads
+  A = get nat_eq c.room_for.new.heads
 
   abbrev V : ℕ → Option Head
-  V = get nat_eq c.reserve-2.new.heads
+  V = get nat_eq c.room_for-2.new.heads
 
   abbrev bs : List Block
   bs = c.args.self.now.nodes.blocks
 
   threaded : AreThreaded A V bs
-  threaded = whole_heads _ A _ V bs c.reserve.ensures.same c.reserve-2.ensures.same c.requires.kept
+  threaded = whole_heads _ A _ V bs c.room_for.ensures.same c.room_for-2.ensures.same c.requires.kept
 
   abbrev node : Node
   node = new_node A V bs c.put-place.result.ptr c.args.area c.args.anon threaded
@@ -33,8 +33,8 @@ module _ (c : After-put-place) where
       ∙ (λ i. record {
         area = c.args.area;
         anon = c.args.anon;
-        in_area = record { before = c.in_ok-end.ensures.last i; after = None };
-        in_anon = record { before = c.in_ok-end-2.ensures.last i; after = None };
+        in_area = record { before = c.in_ok-in_area.ensures.sides.0 i; after = c.in_ok-in_area.ensures.sides.1 i };
+        in_anon = record { before = c.in_ok-in_anon.ensures.sides.0 i; after = c.in_ok-in_anon.ensures.sides.1 i };
       }) in
       c.put-place.ensures ∙ ap (λ (m : Node). bs ++ (c.put-place.result.ptr, m) ∷ []) value
 
