@@ -40,6 +40,7 @@ use Rattle.av_laws.specs.Pairs.{bad_first, evicts, full, two_bytes, wrong_slot}
 use Rattle.av_laws.proofs.PairExamples.{evicts-runs}
 use Rattle.av_laws.proofs.SwapExamples.{copies-runs, load_when_half_full-runs}
 use Rattle.av_plain.proofs.Access.{notes_of-append, notes_of-note_events}
+use Rattle.av_laws.proofs.Accesses.{gets_frame, ready}
 
 -- ---- runs that differ from one that may be
 
@@ -319,16 +320,7 @@ top_number = 0x7fffffffe
 
 -- what may come in these states: a new page, the zero page, a copy, none, a drop, and a page that comes in
 new_page : Touches (machine 4) state_at_rest.world state_at_rest.ledger true (1, top_number) (New 1 top 0 ∷ []) None
-new_page = (
-  refl,
-  record {
-    coming = [];
-    making = New 1 top 0 ∷ [];
-    whole = refl;
-    comes_in = refl;
-    made = record { sought = []; frame = 0; seeks = refl; in_range = omega arith; free = refl; whole = refl };
-  },
-)
+new_page = (refl, gets_frame 0 refl refl (omega arith) refl refl)
 
 zero_page : Touches (machine 4) state_at_rest.world state_at_rest.ledger false (1, top_number) (Zeroed 1 top ∷ []) None
 zero_page = (refl, record { coming = []; making = Zeroed 1 top ∷ []; whole = refl; comes_in = refl; made = refl })
@@ -346,7 +338,7 @@ copied_page = (
 )
 
 read_page : Touches (machine 4) (after_fork (1 ∷ 2 ∷ 3 ∷ [])).world (after_fork (1 ∷ 2 ∷ 3 ∷ [])).ledger false (2, top_number) [] None
-read_page = (refl, record { coming = []; making = []; whole = refl; comes_in = refl; made = refl })
+read_page = (refl, ready refl refl)
 
 no_frame : Touches (machine 1) (after_fork []).world (after_fork []).ledger true (2, top_number) []
     (Some (Starved (record { pinned = 1; noslot = 0; fault = 0 })))
@@ -362,10 +354,10 @@ no_frame = (
 )
 
 cached_write : Touches (with_swap 4 8 7) in_swap_cache.world in_swap_cache.ledger true (1, top_number) (Dropped (slot 1) ∷ []) None
-cached_write = (refl, record { coming = []; making = []; whole = refl; comes_in = refl; made = refl })
+cached_write = (refl, ready refl refl)
 
 cached_read : Touches (with_swap 4 8 7) in_swap_cache.world in_swap_cache.ledger false (1, top_number) [] None
-cached_read = (refl, record { coming = []; making = []; whole = refl; comes_in = refl; made = refl })
+cached_read = (refl, ready refl refl)
 
 written_back : Touches (with_swap 4 8 7) in_writeback.world in_writeback.ledger true (1, top_number) (Mapped 1 top 0 ∷ []) None
 written_back = (refl, record { coming = Mapped 1 top 0 ∷ []; making = []; whole = refl; comes_in = refl; made = refl })

@@ -1,5 +1,5 @@
 -- The rows of `areas` before an area with an anon_vma is cut, and behind the cut.
-use Rattle.std.proofs.Common.{◌≡◌, ℕ, Bool, true, false, cond, ◌==◌, List, [], ◌∷◌, map, Option, Some, None, option_map, refl, sym, ap, subst, ◌∙◌, arith}
+use Rattle.std.proofs.Common.{◌≡◌, ℕ, Bool, true, false, cond, ◌==◌, List, [], ◌∷◌, map, Option, Some, None, option_map, refl, sym, subst, ◌∙◌, arith}
 use Rattle.std.proofs.lemmas.Bool.Decides.{nat_tests}
 use Rattle.av_base.specs.Words.{within}
 use Rattle.av_base.specs.declared.prot.Prot.{Prot}
@@ -11,10 +11,10 @@ use Rattle.av_trace.specs.declared.row.Row.TheVariants.{Area as AreaRow}
 use Rattle.av_vma.specs.Pages.{pages_in}
 use Rattle.av_vma.specs.declared.area.Area.{Area}
 use Rattle.av_plain.specs.Areas.{AreLeft, Areas, Anons, IsLinked, chain_length, next_areas}
-use Rattle.av_plain.specs.Report.{AreApart, AreRowsOf, Cover, ShowsAreas, range_of}
-use Rattle.av_plain.specs.Step.{next, next_world}
+use Rattle.av_plain.specs.Report.{AreApart, AreRowsOf, Cover, range_of}
+use Rattle.av_plain.specs.Step.{next_world}
 use Rattle.av_plain.specs.Transcript.{IsStep, State, rmap_of}
-use Rattle.av_plain.specs.World.{Page, World, pages, with_prot, zeros}
+use Rattle.av_plain.specs.World.{Page, pages, with_prot, zeros}
 use Rattle.av_plain.proofs.AreasLeft.{left-one}
 use Rattle.av_plain.proofs.Transcript.{is_fork}
 use Rattle.av_laws.specs.Areas.{NeverShowsAround, ShowsAround, area, area_of, child_four, family, of_child, right_middle, right_upper, second_protected, second_unmapped, with_hole, with_middle, with_own, with_rows}

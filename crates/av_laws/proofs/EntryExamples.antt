@@ -8,6 +8,7 @@ use Rattle.av_plain.specs.Access.{Whole}
 use Rattle.av_plain.specs.Event.{Noted, Used}
 use Rattle.av_laws.specs.Examples.{Allows, after_fork, entries_shown, has_entry, in_swap_cache, in_writeback, machine, paged_out, slot, state_at_rest, with_swap}
 use Rattle.av_laws.proofs.FirstExamples.{by_steps}
+use Rattle.av_laws.proofs.Accesses.{gets_frame}
 
 -- the page of the slot that is shown with a frame
 abbrev pub shown_page : Answer → ℕ
@@ -62,22 +63,7 @@ entries_shown-runs = by_steps (machine 4) state_at_rest entries_shown refl ((
             record {
               answer = (
                 Whole,
-                inl (
-                  New 1 0x7fffffffe000 0 ∷ [],
-                  [],
-                  (
-                    refl,
-                    record {
-                      coming = [];
-                      making = New 1 0x7fffffffe000 0 ∷ [];
-                      whole = refl;
-                      comes_in = refl;
-                      made = record { sought = []; frame = 0; seeks = refl; in_range = omega arith; free = refl; whole = refl };
-                    },
-                  ),
-                  refl,
-                  (refl, refl),
-                ),
+                inl (New 1 0x7fffffffe000 0 ∷ [], [], (refl, gets_frame 0 refl refl (omega arith) refl refl), refl, (refl, refl)),
                 refl,
                 refl,
               );

@@ -22,6 +22,7 @@ use Rattle.av_plain.specs.Transcript.{at_first}
 use Rattle.av_plain.specs.World.{Page, Process, zeros}
 use Rattle.av_laws.proofs.FirstExamples.{by_steps, gap_below, topmost}
 use Rattle.av_laws.proofs.Maps.{one-answer}
+use Rattle.av_laws.proofs.Accesses.{gets_frame, ready}
 
 -- no anon_vma is left, and the next one gets this number
 abbrev none_left : ℕ → Anons
@@ -43,22 +44,7 @@ exit_frees-runs = by_steps (machine 4) (at_first (machine 4)) exit_frees refl (t
   record {
     answer = (
       Whole,
-      inl (
-        New 1 0x7fffffffe000 0 ∷ [],
-        [],
-        (
-          refl,
-          record {
-            coming = [];
-            making = New 1 0x7fffffffe000 0 ∷ [];
-            whole = refl;
-            comes_in = refl;
-            made = record { sought = []; frame = 0; seeks = refl; in_range = omega arith; free = refl; whole = refl };
-          },
-        ),
-        refl,
-        (refl, refl),
-      ),
+      inl (New 1 0x7fffffffe000 0 ∷ [], [], (refl, gets_frame 0 refl refl (omega arith) refl refl), refl, (refl, refl)),
       refl,
       refl,
     );
@@ -73,13 +59,7 @@ exit_frees-runs = by_steps (machine 4) (at_first (machine 4)) exit_frees refl (t
       answer = (
         Whole,
         0 ∷ 65 ∷ 0 ∷ [],
-        inl (
-          [],
-          [],
-          (refl, record { coming = []; making = []; whole = refl; comes_in = refl; made = refl }),
-          refl,
-          (refl, refl),
-        ),
+        inl ([], [], (refl, ready refl refl), refl, (refl, refl)),
         (refl, (refl, (refl, (refl, tt))), (omega arith, (omega arith, (omega arith, tt)))),
         refl,
         refl,
@@ -205,33 +185,9 @@ exit_and_again-runs = by_steps (machine 4) (at_first (machine 4)) exit_and_again
               inl (
                 New 1 0x7fffffffd000 0 ∷ [],
                 Noted (New 1 0x7fffffffe000 1) ∷ Used true (1, 0x7fffffffe) ∷ [],
-                (
-                  refl,
-                  record {
-                    coming = [];
-                    making = New 1 0x7fffffffd000 0 ∷ [];
-                    whole = refl;
-                    comes_in = refl;
-                    made = record { sought = []; frame = 0; seeks = refl; in_range = omega arith; free = refl; whole = refl };
-                  },
-                ),
+                (refl, gets_frame 0 refl refl (omega arith) refl refl),
                 refl,
-                inl (
-                  New 1 0x7fffffffe000 1 ∷ [],
-                  [],
-                  (
-                    refl,
-                    record {
-                      coming = [];
-                      making = New 1 0x7fffffffe000 1 ∷ [];
-                      whole = refl;
-                      comes_in = refl;
-                      made = record { sought = []; frame = 1; seeks = refl; in_range = omega arith; free = refl; whole = refl };
-                    },
-                  ),
-                  refl,
-                  (refl, refl),
-                ),
+                inl (New 1 0x7fffffffe000 1 ∷ [], [], (refl, gets_frame 1 refl refl (omega arith) refl refl), refl, (refl, refl)),
               ),
               refl,
               refl,
@@ -264,33 +220,9 @@ exit_and_again-runs = by_steps (machine 4) (at_first (machine 4)) exit_and_again
                     inl (
                       New 2 0x7fffffffd000 1 ∷ [],
                       Noted (New 2 0x7fffffffe000 0) ∷ Used true (2, 0x7fffffffe) ∷ [],
-                      (
-                        refl,
-                        record {
-                          coming = [];
-                          making = New 2 0x7fffffffd000 1 ∷ [];
-                          whole = refl;
-                          comes_in = refl;
-                          made = record { sought = []; frame = 1; seeks = refl; in_range = omega arith; free = refl; whole = refl };
-                        },
-                      ),
+                      (refl, gets_frame 1 refl refl (omega arith) refl refl),
                       refl,
-                      inl (
-                        New 2 0x7fffffffe000 0 ∷ [],
-                        [],
-                        (
-                          refl,
-                          record {
-                            coming = [];
-                            making = New 2 0x7fffffffe000 0 ∷ [];
-                            whole = refl;
-                            comes_in = refl;
-                            made = record { sought = []; frame = 0; seeks = refl; in_range = omega arith; free = refl; whole = refl };
-                          },
-                        ),
-                        refl,
-                        (refl, refl),
-                      ),
+                      inl (New 2 0x7fffffffe000 0 ∷ [], [], (refl, gets_frame 0 refl refl (omega arith) refl refl), refl, (refl, refl)),
                     ),
                     refl,
                     refl,
@@ -340,13 +272,7 @@ exit_shared-runs = by_steps (machine 4) (after_fork (1 ∷ 2 ∷ 3 ∷ [])) exit
         answer = (
           Whole,
           7 ∷ [],
-          inl (
-            [],
-            [],
-            (refl, record { coming = []; making = []; whole = refl; comes_in = refl; made = refl }),
-            refl,
-            (refl, refl),
-          ),
+          inl ([], [], (refl, ready refl refl), refl, (refl, refl)),
           (refl, (refl, tt), (omega arith, tt)),
           refl,
           refl,

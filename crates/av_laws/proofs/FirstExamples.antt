@@ -1,5 +1,5 @@
 -- The worked rows from nothing on.
-use Rattle.std.specs.Prelude.{◌≡◌, ℕ, zero, suc, ◌+◌, ◌-◌, ◌<◌, ◌≤◌, Bool, nat_le, true, false, not, ◌==◌, ◌&&◌, ◌||◌, List, [], ◌∷◌, drop, Option, Some, None, is_some, IsSome, IsSomeAnd, refl, MatchBool}
+use Rattle.std.specs.Prelude.{◌≡◌, ℕ, zero, suc, ◌+◌, ◌-◌, ◌<◌, ◌≤◌, Bool, nat_le, true, false, not, ◌==◌, ◌&&◌, ◌||◌, List, [], ◌∷◌, ◌++◌, drop, Option, Some, None, is_some, IsSome, IsSomeAnd, refl, MatchBool}
 use Rattle.std.proofs.Common.{arith, inl, subst, sym, ◌∙◌, inr}
 use Rattle.std.proofs.lemmas.Bool.Decides.{nat_tests}
 use Rattle.std.proofs.lemmas.Bool.{and_parts, false≢true}
@@ -28,6 +28,7 @@ use Rattle.av_plain.proofs.Choice.{ChoosesFrames}
 use Rattle.av_laws.proofs.Choice.{all-chosen, gives_all, none-given, slots_after_all, take_none}
 use Rattle.av_plain.specs.Transcript.{Exchange, IsStep, State, at_first, rmap_of}
 use Rattle.av_laws.specs.Examples.{Allows, Runs, machine, says, read_write, write_only, first_run, zero_first, one_frame, part_denied, two_processes, refusals, all_mapped, readable, denied_write}
+use Rattle.av_laws.proofs.Accesses.{gets_frame, ready}
 
 -- ---- what is left of anon_vmas
 
@@ -175,6 +176,38 @@ Later m old e row events free b =
     MatchBool b (Steps m (state_after m old e events free now.anons) row)
     ((left : Anons) × AreLeft now.anons (state_after m old e events free left).areas left × Steps m (state_after m old e events free left) row)
 
+-- the state after an exchange without events
+abbrev state_still : Setting → State → Exchange → State
+state_still m old e = state_after m old e [] old.free.frames (rmap_of old).anons
+
+-- exchanges without events, each answered so
+abbrev pub Stills : Setting → State → List Exchange → Type 0
+Stills m old [] = Unit {0}
+Stills m old (e ∷ row) = Answers m old e [] × Stills m (state_still m old e) row
+
+-- all anon_vmas are left after each
+abbrev pub keep_all : Setting → State → List Exchange → Bool
+keep_all m old [] = true
+keep_all m old (e ∷ row) = all_left m old e [] && keep_all m (state_still m old e) row
+
+-- the state after them
+abbrev pub after_stills : Setting → State → List Exchange → State
+after_stills m old [] = old
+after_stills m old (e ∷ row) = after_stills m (state_still m old e) row
+
+-- they come first, and then the others
+pub stills : (m : Setting) (old : State) (row others : List Exchange) → keep_all m old row ≡ true → Stills m old row
+    → Steps m (after_stills m old row) others → Steps m old (row ++ others)
+stills m old [] others left h rest = rest
+stills m old (e ∷ row) others left h rest =
+    let both = and_parts (all_left m old e []) (keep_all m (state_still m old e) row) left in (
+      [],
+      old.free.frames,
+      h.0,
+      refl,
+      subst (Later m old e (row ++ others) [] old.free.frames) (sym both.0) (stills m (state_still m old e) row others both.1 h.1 rest),
+    )
+
 from_steps : (m : Setting) (old : State) (row : List Exchange) → AreBelow old.anons
     → Steps m old row → Allows m old row
 from_steps m old [] below h = (old, refl)
@@ -296,22 +329,7 @@ first_run-runs = by_steps (machine 4) (at_first (machine 4)) first_run refl (top
   record {
     answer = (
       Whole,
-      inl (
-        New 1 0x7fffffffe000 0 ∷ [],
-        [],
-        (
-          refl,
-          record {
-            coming = [];
-            making = New 1 0x7fffffffe000 0 ∷ [];
-            whole = refl;
-            comes_in = refl;
-            made = record { sought = []; frame = 0; seeks = refl; in_range = omega arith; free = refl; whole = refl };
-          },
-        ),
-        refl,
-        (refl, refl),
-      ),
+      inl (New 1 0x7fffffffe000 0 ∷ [], [], (refl, gets_frame 0 refl refl (omega arith) refl refl), refl, (refl, refl)),
       refl,
       refl,
     );
@@ -326,13 +344,7 @@ first_run-runs = by_steps (machine 4) (at_first (machine 4)) first_run refl (top
       answer = (
         Whole,
         0 ∷ 65 ∷ 0 ∷ [],
-        inl (
-          [],
-          [],
-          (refl, record { coming = []; making = []; whole = refl; comes_in = refl; made = refl }),
-          refl,
-          (refl, refl),
-        ),
+        inl ([], [], (refl, ready refl refl), refl, (refl, refl)),
         (refl, (refl, (refl, (refl, tt))), (omega arith, (omega arith, (omega arith, tt)))),
         refl,
         refl,
@@ -373,7 +385,7 @@ zero_first-runs = by_steps (machine 4) (at_first (machine 4)) zero_first refl (t
       answer = (
         Whole,
         0 ∷ [],
-        inl ([], [], (refl, record { coming = []; making = []; whole = refl; comes_in = refl; made = refl }), refl, (refl, refl)),
+        inl ([], [], (refl, ready refl refl), refl, (refl, refl)),
         (refl, (refl, tt), (omega arith, tt)),
         refl,
         refl,
@@ -387,22 +399,7 @@ zero_first-runs = by_steps (machine 4) (at_first (machine 4)) zero_first refl (t
       record {
         answer = (
           Whole,
-          inl (
-            New 1 0x7fffffffe000 0 ∷ [],
-            [],
-            (
-              refl,
-              record {
-                coming = [];
-                making = New 1 0x7fffffffe000 0 ∷ [];
-                whole = refl;
-                comes_in = refl;
-                made = record { sought = []; frame = 0; seeks = refl; in_range = omega arith; free = refl; whole = refl };
-              },
-            ),
-            refl,
-            (refl, refl),
-          ),
+          inl (New 1 0x7fffffffe000 0 ∷ [], [], (refl, gets_frame 0 refl refl (omega arith) refl refl), refl, (refl, refl)),
           refl,
           refl,
         );
@@ -416,7 +413,7 @@ zero_first-runs = by_steps (machine 4) (at_first (machine 4)) zero_first refl (t
         record {
           answer = (
             Whole,
-            inl ([], [], (refl, record { coming = []; making = []; whole = refl; comes_in = refl; made = refl }), refl, (refl, refl)),
+            inl ([], [], (refl, ready refl refl), refl, (refl, refl)),
             refl,
             refl,
           );
@@ -430,13 +427,7 @@ zero_first-runs = by_steps (machine 4) (at_first (machine 4)) zero_first refl (t
             answer = (
               Whole,
               1 ∷ 2 ∷ [],
-              inl (
-                [],
-                [],
-                (refl, record { coming = []; making = []; whole = refl; comes_in = refl; made = refl }),
-                refl,
-                (refl, refl),
-              ),
+              inl ([], [], (refl, ready refl refl), refl, (refl, refl)),
               (refl, (refl, (refl, tt)), (omega arith, (omega arith, tt))),
               refl,
               refl,
@@ -480,16 +471,7 @@ one_frame-runs = by_steps (machine 1) (at_first (machine 1)) one_frame refl ((
           inl (
             New 1 0x7fffffffd000 0 ∷ [],
             [],
-            (
-              refl,
-              record {
-                coming = [];
-                making = New 1 0x7fffffffd000 0 ∷ [];
-                whole = refl;
-                comes_in = refl;
-                made = record { sought = []; frame = 0; seeks = refl; in_range = omega arith; free = refl; whole = refl };
-              },
-            ),
+            (refl, gets_frame 0 refl refl (omega arith) refl refl),
             refl,
             inr (
               [],
@@ -524,7 +506,7 @@ one_frame-runs = by_steps (machine 1) (at_first (machine 1)) one_frame refl ((
             inl (
               [],
               Noted (Zeroed 1 0x7fffffffe000) ∷ Used false (1, 0x7fffffffe) ∷ [],
-              (refl, record { coming = []; making = []; whole = refl; comes_in = refl; made = refl }),
+              (refl, ready refl refl),
               refl,
               inl (
                 Zeroed 1 0x7fffffffe000 ∷ [],
@@ -629,16 +611,7 @@ part_denied-runs = by_steps (machine 4) (at_first (machine 4)) part_denied refl 
             inl (
               New 1 0x7fffffffd000 0 ∷ [],
               [],
-              (
-                refl,
-                record {
-                  coming = [];
-                  making = New 1 0x7fffffffd000 0 ∷ [];
-                  whole = refl;
-                  comes_in = refl;
-                  made = record { sought = []; frame = 0; seeks = refl; in_range = omega arith; free = refl; whole = refl };
-                },
-              ),
+              (refl, gets_frame 0 refl refl (omega arith) refl refl),
               refl,
               inr ([], Denied, (refl, refl), refl, refl),
             ),
@@ -658,7 +631,7 @@ part_denied-runs = by_steps (machine 4) (at_first (machine 4)) part_denied refl 
               inl (
                 [],
                 Noted (Zeroed 1 0x7fffffffe000) ∷ Used false (1, 0x7fffffffe) ∷ [],
-                (refl, record { coming = []; making = []; whole = refl; comes_in = refl; made = refl }),
+                (refl, ready refl refl),
                 refl,
                 inl (
                   Zeroed 1 0x7fffffffe000 ∷ [],
@@ -694,7 +667,7 @@ part_denied-runs = by_steps (machine 4) (at_first (machine 4)) part_denied refl 
                 inl (
                   [],
                   [],
-                  (refl, record { coming = []; making = []; whole = refl; comes_in = refl; made = refl }),
+                  (refl, ready refl refl),
                   refl,
                   inr ([], Denied, (refl, refl), refl, refl),
                 ),
@@ -790,22 +763,7 @@ two_processes-runs = by_steps (machine 4) (at_first (machine 4)) two_processes r
               record {
                 answer = (
                   Whole,
-                  inl (
-                    New 7 0x7fffffffc000 0 ∷ [],
-                    [],
-                    (
-                      refl,
-                      record {
-                        coming = [];
-                        making = New 7 0x7fffffffc000 0 ∷ [];
-                        whole = refl;
-                        comes_in = refl;
-                        made = record { sought = []; frame = 0; seeks = refl; in_range = omega arith; free = refl; whole = refl };
-                      },
-                    ),
-                    refl,
-                    (refl, refl),
-                  ),
+                  inl (New 7 0x7fffffffc000 0 ∷ [], [], (refl, gets_frame 0 refl refl (omega arith) refl refl), refl, (refl, refl)),
                   refl,
                   refl,
                 );
@@ -818,22 +776,7 @@ two_processes-runs = by_steps (machine 4) (at_first (machine 4)) two_processes r
                 record {
                   answer = (
                     Whole,
-                    inl (
-                      New 3 0x7fffffffe000 1 ∷ [],
-                      [],
-                      (
-                        refl,
-                        record {
-                          coming = [];
-                          making = New 3 0x7fffffffe000 1 ∷ [];
-                          whole = refl;
-                          comes_in = refl;
-                          made = record { sought = []; frame = 1; seeks = refl; in_range = omega arith; free = refl; whole = refl };
-                        },
-                      ),
-                      refl,
-                      (refl, refl),
-                    ),
+                    inl (New 3 0x7fffffffe000 1 ∷ [], [], (refl, gets_frame 1 refl refl (omega arith) refl refl), refl, (refl, refl)),
                     refl,
                     refl,
                   );
@@ -847,13 +790,7 @@ two_processes-runs = by_steps (machine 4) (at_first (machine 4)) two_processes r
                     answer = (
                       Whole,
                       5 ∷ [],
-                      inl (
-                        [],
-                        [],
-                        (refl, record { coming = []; making = []; whole = refl; comes_in = refl; made = refl }),
-                        refl,
-                        (refl, refl),
-                      ),
+                      inl ([], [], (refl, ready refl refl), refl, (refl, refl)),
                       (refl, (refl, tt), (omega arith, tt)),
                       refl,
                       refl,
@@ -868,13 +805,7 @@ two_processes-runs = by_steps (machine 4) (at_first (machine 4)) two_processes r
                       answer = (
                         Whole,
                         6 ∷ [],
-                        inl (
-                          [],
-                          [],
-                          (refl, record { coming = []; making = []; whole = refl; comes_in = refl; made = refl }),
-                          refl,
-                          (refl, refl),
-                        ),
+                        inl ([], [], (refl, ready refl refl), refl, (refl, refl)),
                         (refl, (refl, tt), (omega arith, tt)),
                         refl,
                         refl,
@@ -963,22 +894,7 @@ readable-runs = by_steps (machine 4) (at_first (machine 4)) readable refl (topmo
           record {
             answer = (
               Whole,
-              inl (
-                New 1 0x7fffffffe000 0 ∷ [],
-                [],
-                (
-                  refl,
-                  record {
-                    coming = [];
-                    making = New 1 0x7fffffffe000 0 ∷ [];
-                    whole = refl;
-                    comes_in = refl;
-                    made = record { sought = []; frame = 0; seeks = refl; in_range = omega arith; free = refl; whole = refl };
-                  },
-                ),
-                refl,
-                (refl, refl),
-              ),
+              inl (New 1 0x7fffffffe000 0 ∷ [], [], (refl, gets_frame 0 refl refl (omega arith) refl refl), refl, (refl, refl)),
               refl,
               refl,
             );
@@ -993,64 +909,31 @@ readable-runs = by_steps (machine 4) (at_first (machine 4)) readable refl (topmo
 ))
 
 pub refusals-runs : Runs 4 refusals
-refusals-runs = by_steps (machine 4) (at_first (machine 4)) refusals refl ((
-  [],
-  0 ∷ 1 ∷ 2 ∷ 3 ∷ [],
+refusals-runs = by_steps (machine 4) (at_first (machine 4)) refusals refl (stills (machine 4) (at_first (machine 4)) refusals [] refl (
   record { answer = (refl, refl, refl); notes = refl },
-  refl,
   (
-    [],
-    0 ∷ 1 ∷ 2 ∷ 3 ∷ [],
     record { answer = (refl, refl, refl); notes = refl },
-    refl,
     (
-      [],
-      0 ∷ 1 ∷ 2 ∷ 3 ∷ [],
       record { answer = (refl, refl, refl); notes = refl },
-      refl,
       (
-        [],
-        0 ∷ 1 ∷ 2 ∷ 3 ∷ [],
         record { answer = (refl, refl, refl); notes = refl },
-        refl,
         (
-          [],
-          0 ∷ 1 ∷ 2 ∷ 3 ∷ [],
           record { answer = (refl, refl, refl); notes = refl },
-          refl,
           (
-            [],
-            0 ∷ 1 ∷ 2 ∷ 3 ∷ [],
             record {
               answer = (None, (λ page room. let low = room.lowest in let high = room.highest in absurd (omega (arith, low, high))), refl, refl, refl);
               notes = refl;
             },
-            refl,
             (
-              [],
-              0 ∷ 1 ∷ 2 ∷ 3 ∷ [],
               record { answer = (refl, refl, refl); notes = refl },
-              refl,
               (
-                [],
-                0 ∷ 1 ∷ 2 ∷ 3 ∷ [],
                 record { answer = (refl, refl, refl); notes = refl },
-                refl,
                 (
-                  [],
-                  0 ∷ 1 ∷ 2 ∷ 3 ∷ [],
                   record { answer = (refl, refl, refl); notes = refl },
-                  refl,
                   (
-                    [],
-                    0 ∷ 1 ∷ 2 ∷ 3 ∷ [],
                     record { answer = (refl, refl, refl); notes = refl },
-                    refl,
                     (
-                      [],
-                      0 ∷ 1 ∷ 2 ∷ 3 ∷ [],
                       record { answer = (Stopped 0x10 Denied, [], inr ([], Denied, (refl, refl), refl, refl), (refl, tt, tt), refl, refl); notes = refl },
-                      refl,
                       tt,
                     ),
                   ),
@@ -1062,7 +945,7 @@ refusals-runs = by_steps (machine 4) (at_first (machine 4)) refusals refl ((
       ),
     ),
   ),
-))
+) tt)
 
 pub all_mapped-runs : Runs 4 all_mapped
 all_mapped-runs = by_steps (machine 4) (at_first (machine 4)) all_mapped refl ((
@@ -1105,22 +988,7 @@ all_mapped-runs = by_steps (machine 4) (at_first (machine 4)) all_mapped refl ((
         record {
           answer = (
             Whole,
-            inl (
-              New 1 0x10000 0 ∷ [],
-              [],
-              (
-                refl,
-                record {
-                  coming = [];
-                  making = New 1 0x10000 0 ∷ [];
-                  whole = refl;
-                  comes_in = refl;
-                  made = record { sought = []; frame = 0; seeks = refl; in_range = omega arith; free = refl; whole = refl };
-                },
-              ),
-              refl,
-              (refl, refl),
-            ),
+            inl (New 1 0x10000 0 ∷ [], [], (refl, gets_frame 0 refl refl (omega arith) refl refl), refl, (refl, refl)),
             refl,
             refl,
           );
@@ -1143,16 +1011,7 @@ denied_write-runs = by_steps (machine 4) (at_first (machine 4)) (denied_write 1)
       inl (
         New 1 0x7fffffffe000 0 ∷ [],
         [],
-        (
-          refl,
-          record {
-            coming = [];
-            making = New 1 0x7fffffffe000 0 ∷ [];
-            whole = refl;
-            comes_in = refl;
-            made = record { sought = []; frame = 0; seeks = refl; in_range = omega arith; free = refl; whole = refl };
-          },
-        ),
+        (refl, gets_frame 0 refl refl (omega arith) refl refl),
         refl,
         inr ([], Denied, (refl, refl), refl, refl),
       ),
@@ -1169,7 +1028,7 @@ denied_write-runs = by_steps (machine 4) (at_first (machine 4)) (denied_write 1)
       answer = (
         Whole,
         1 ∷ [],
-        inl ([], [], (refl, record { coming = []; making = []; whole = refl; comes_in = refl; made = refl }), refl, (refl, refl)),
+        inl ([], [], (refl, ready refl refl), refl, (refl, refl)),
         (refl, (refl, tt), (omega arith, tt)),
         refl,
         refl,

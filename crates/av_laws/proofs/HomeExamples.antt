@@ -28,6 +28,7 @@ use Rattle.av_plain.proofs.Choice.{ChoosesFrames}
 use Rattle.av_laws.proofs.Choice.{gives_all}
 use Rattle.av_laws.proofs.FirstExamples.{one-step, state_after}
 use Rattle.av_laws.proofs.PrepareExamples.{family-below, one-below, stays}
+use Rattle.av_laws.proofs.Accesses.{gets_frame, ready}
 
 -- ---- what comes
 
@@ -58,22 +59,7 @@ new-leaves = leaves bare_process new_page (Noted (New 1 0x12000 0) ∷ Used true
     (record {
       answer = (
         Whole,
-        inl (
-          New 1 0x12000 0 ∷ [],
-          [],
-          (
-            refl,
-            record {
-              coming = [];
-              making = New 1 0x12000 0 ∷ [];
-              whole = refl;
-              comes_in = refl;
-              made = record { sought = []; frame = 0; seeks = refl; in_range = omega arith; free = refl; whole = refl };
-            },
-          ),
-          refl,
-          (refl, refl),
-        ),
+        inl (New 1 0x12000 0 ∷ [], [], (refl, gets_frame 0 refl refl (omega arith) refl refl), refl, (refl, refl)),
         refl,
         refl,
       );
@@ -88,22 +74,7 @@ new_in_child-leaves = leaves with_child child_new (Noted (New 2 0x13000 1) ∷ U
     (record {
       answer = (
         Whole,
-        inl (
-          New 2 0x13000 1 ∷ [],
-          [],
-          (
-            refl,
-            record {
-              coming = [];
-              making = New 2 0x13000 1 ∷ [];
-              whole = refl;
-              comes_in = refl;
-              made = record { sought = []; frame = 1; seeks = refl; in_range = omega arith; free = refl; whole = refl };
-            },
-          ),
-          refl,
-          (refl, refl),
-        ),
+        inl (New 2 0x13000 1 ∷ [], [], (refl, gets_frame 1 refl refl (omega arith) refl refl), refl, (refl, refl)),
         refl,
         refl,
       );
@@ -148,13 +119,7 @@ in_place-leaves = leaves child_alone child_write (Used true (2, 0x12) ∷ []) (1
     (record {
       answer = (
         Whole,
-        inl (
-          [],
-          [],
-          (refl, record { coming = []; making = []; whole = refl; comes_in = refl; made = refl }),
-          refl,
-          (refl, refl),
-        ),
+        inl ([], [], (refl, ready refl refl), refl, (refl, refl)),
         refl,
         refl,
       );
@@ -177,7 +142,7 @@ read-leaves = reads with_child
       answer = (
         Whole,
         0 ∷ [],
-        inl ([], [], (refl, record { coming = []; making = []; whole = refl; comes_in = refl; made = refl }), refl, (refl, refl)),
+        inl ([], [], (refl, ready refl refl), refl, (refl, refl)),
         (refl, (refl, tt), (omega arith, tt)),
         refl,
         refl,
@@ -193,7 +158,7 @@ read_alone-leaves = reads child_alone
       answer = (
         Whole,
         0 ∷ [],
-        inl ([], [], (refl, record { coming = []; making = []; whole = refl; comes_in = refl; made = refl }), refl, (refl, refl)),
+        inl ([], [], (refl, ready refl refl), refl, (refl, refl)),
         (refl, (refl, tt), (omega arith, tt)),
         refl,
         refl,

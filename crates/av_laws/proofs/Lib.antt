@@ -6,6 +6,7 @@ pub mod OnePass
 pub mod OnePage
 pub mod OneFork
 pub mod Determined
+pub mod Accesses
 pub mod FirstExamples
 pub mod SwapExamples
 pub mod LedgerExamples
@@ -35,3 +36,4 @@ pub mod CutExamples
 pub mod Clusters
 pub mod FreeSlots
 pub mod Covered
+pub mod Texts

@@ -12,7 +12,7 @@ use Rattle.av_trace.specs.declared.mode.Mode.TheVariants.{DontUnmap, Fixed as Fi
 use Rattle.av_trace.specs.declared.reply.Answer.{Answer}
 use Rattle.av_trace.specs.declared.reply.Answer.TheVariants.{MapAt, Refused}
 use Rattle.av_trace.specs.declared.reply.Errno.{Errno}
-use Rattle.av_trace.specs.declared.reply.Errno.TheVariants.{Einval, Enomem, Eperm}
+use Rattle.av_trace.specs.declared.reply.Errno.TheVariants.{Enomem}
 use Rattle.av_vma.specs.Gap.{IsGap}
 use Rattle.av_vma.specs.Pages.{pages_in}
 use Rattle.av_vma.specs.declared.area.Area.{Area}
@@ -23,12 +23,12 @@ use Rattle.av_plain.specs.Mremap.{events_to, remap_events}
 use Rattle.av_plain.specs.Place.{IsMapAt}
 use Rattle.av_plain.specs.Refusal.{Refuses, refusal, tests}
 use Rattle.av_plain.specs.Step.{Follows, IsLegal, next}
-use Rattle.av_plain.specs.Transcript.{IsStep, State, at_first, rmap_of}
+use Rattle.av_plain.specs.Transcript.{IsStep, State, rmap_of}
 use Rattle.av_plain.specs.World.{Page, World, is_mapped, pages, zeros}
 use Rattle.av_plain.proofs.AreasLeft.{AreBelow, left-all, left-none}
 use Rattle.av_laws.proofs.Choice.{gives_all}
 use Rattle.av_laws.specs.Areas.{area, area_of, family, one_root, two_roots}
-use Rattle.av_laws.specs.Examples.{Forbids, Runs, machine, read_only, read_write, reply_with, says}
+use Rattle.av_laws.specs.Examples.{Forbids, machine, read_only, read_write, reply_with, says}
 use Rattle.av_laws.specs.Mremap.{LeavesFrames, LeavesPage, NeverLeavesEntries, NeverLeavesPage, NeverMoves, RemapsTo, all_move, all_sevens, at_top, behind_itself, entries_at_top, entries_here, entries_of_first, entries_of_part, entries_of_second, entries_of_two, entries_there, entries_without_tail, first_doubles, for_reading, grows, grows_by_one, grows_by_two, grows_or_moves, moved_of, of_none, of_root, of_two_processes, of_two_roots, one_at_target, one_left_behind, one_lost, one_twice, one_unseen, out_of_place, pair_moves, part_moves, second_grows, second_moves, second_shrinks, second_stays, sevens, shrinks, side_by_side, three_kinds, top_grows, top_moves, two_move, with_frames, with_hole, with_long_chain, with_neighbour, with_next, with_target, zeros_stay}
 use Rattle.av_laws.proofs.AnonExamples.{now-is}
 use Rattle.av_plain.proofs.Choice.{ChoosesFrames}

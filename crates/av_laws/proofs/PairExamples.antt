@@ -21,6 +21,7 @@ use Rattle.av_plain.specs.Access.{Whole, Stopped}
 use Rattle.av_laws.specs.Examples.{Allows, Forbids, Leads, reply_with, machine, read_write, slot, state_at_rest, with_swap}
 use Rattle.av_laws.specs.Pairs.{forks_and_moves, two_of_each, two_areas, one_of_each, with_entries, with_areas, three_with, cached_at, two_written, second_out, bad_first, full, two_in_flight, cached_for_two, hint_over, second_lost, second_starved, evicts, no_slot_written, to_bad_page, completes, second_fails, named_by_other, orphan_of_two, fixed_over_two, unmapped_two, protected_two}
 use Rattle.av_laws.proofs.FirstExamples.{by_steps, gap_under}
+use Rattle.av_laws.proofs.Accesses.{gets_frame, ready}
 
 -- ---- the ledger
 
@@ -76,16 +77,7 @@ second_lost-runs = by_steps (with_swap 4 8 7) (second_out (0 ∷ 1 ∷ 2 ∷ 3 �
         inl (
           New 1 0x7fffffffd000 0 ∷ [],
           [],
-          (
-            refl,
-            record {
-              coming = [];
-              making = New 1 0x7fffffffd000 0 ∷ [];
-              whole = refl;
-              comes_in = refl;
-              made = record { sought = []; frame = 0; seeks = refl; in_range = omega arith; free = refl; whole = refl };
-            },
-          ),
+          (refl, gets_frame 0 refl refl (omega arith) refl refl),
           refl,
           inr ([], Lost, (refl, record { slot = slot 1; absent = refl; seeks = refl; frame = refl }), refl, refl),
         ),
@@ -102,13 +94,7 @@ second_lost-runs = by_steps (with_swap 4 8 7) (second_out (0 ∷ 1 ∷ 2 ∷ 3 �
         answer = (
           Whole,
           5 ∷ [],
-          inl (
-            [],
-            [],
-            (refl, record { coming = []; making = []; whole = refl; comes_in = refl; made = refl }),
-            refl,
-            (refl, refl),
-          ),
+          inl ([], [], (refl, ready refl refl), refl, (refl, refl)),
           (refl, (refl, tt), (omega arith, tt)),
           refl,
           refl,
@@ -550,7 +536,7 @@ protected_two-runs = by_steps (machine 4) two_written protected_two refl ((
           record {
             answer = (
               Whole,
-              inl ([], [], (refl, record { coming = []; making = []; whole = refl; comes_in = refl; made = refl }), refl, (refl, refl)),
+              inl ([], [], (refl, ready refl refl), refl, (refl, refl)),
               refl,
               refl,
             );

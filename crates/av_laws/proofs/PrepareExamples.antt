@@ -19,6 +19,7 @@ use Rattle.av_laws.specs.Areas.{LeavesTwo, NeverHasThere, NeverMakes, NeverNumbe
 use Rattle.av_laws.specs.Examples.{machine, read_write}
 use Rattle.av_laws.proofs.AnonExamples.{first_page, length_of, now-is, parent_of, root_of}
 use Rattle.av_laws.proofs.FirstExamples.{all_linked, linked-all, one-step, state_after}
+use Rattle.av_laws.proofs.Accesses.{gets_frame}
 
 -- ---- what is left
 
@@ -80,13 +81,7 @@ writes areas new_areas anons left allowed is pages = (
             [],
             (
               allowed,
-              record {
-                coming = [];
-                making = New 1 0x12000 0 ∷ [];
-                whole = refl;
-                comes_in = refl;
-                made = record { sought = []; frame = 0; seeks = refl; in_range = omega arith; free = refl; whole = refl };
-              },
+              gets_frame 0 refl refl (omega arith) refl refl,
             ),
             refl,
             (refl, refl),
@@ -243,22 +238,7 @@ in_one_process-leaves = (
       (record {
         answer = (
           Whole,
-          inl (
-            New 2 0x12000 0 ∷ [],
-            [],
-            (
-              refl,
-              record {
-                coming = [];
-                making = New 2 0x12000 0 ∷ [];
-                whole = refl;
-                comes_in = refl;
-                made = record { sought = []; frame = 0; seeks = refl; in_range = omega arith; free = refl; whole = refl };
-              },
-            ),
-            refl,
-            (refl, refl),
-          ),
+          inl (New 2 0x12000 0 ∷ [], [], (refl, gets_frame 0 refl refl (omega arith) refl refl), refl, (refl, refl)),
           refl,
           refl,
         );

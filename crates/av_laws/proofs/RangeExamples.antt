@@ -8,7 +8,7 @@ use Rattle.av_base.specs.Words.{with_at, within}
 use Rattle.av_vma.specs.Pages.{fresh_area, part_of}
 use Rattle.av_vma.specs.declared.area.Area.{Area}
 use Rattle.av_plain.specs.Areas.{Anons}
-use Rattle.av_plain.proofs.AreasLeft.{left-root, of_processes}
+use Rattle.av_plain.proofs.AreasLeft.{left-root, holds-with_at}
 use Rattle.av_vma.proofs.Split.{part_own}
 use Rattle.av_trace.specs.declared.reply.Answer.TheVariants.{Done}
 use Rattle.av_trace.specs.declared.note.Note.TheVariants.{Zeroed, New}
@@ -19,8 +19,9 @@ use Rattle.av_plain.specs.Fault.{Denied}
 use Rattle.av_plain.specs.Access.{Whole, Stopped}
 use Rattle.av_plain.specs.Transcript.{at_first}
 use Rattle.av_laws.specs.Examples.{Runs, machine, read_write, read_only, protected_part, past_a_hole, places, range_refusals, fixed_over}
-use Rattle.av_laws.proofs.FirstExamples.{by_steps, topmost, gap_under}
+use Rattle.av_laws.proofs.FirstExamples.{by_steps, topmost, gap_under, stills}
 use Rattle.av_laws.proofs.ExitExamples.{in_run}
+use Rattle.av_laws.proofs.Accesses.{gets_frame, ready}
 
 differ : read_write ≡ read_only → ⊥
 differ e = false≢true (sym (ap (λ (p : Prot). p.write) e))
@@ -72,16 +73,7 @@ protected_part-runs = by_steps (machine 4) (at_first (machine 4)) protected_part
             inl (
               New 1 0x7fffffffd000 0 ∷ [],
               [],
-              (
-                refl,
-                record {
-                  coming = [];
-                  making = New 1 0x7fffffffd000 0 ∷ [];
-                  whole = refl;
-                  comes_in = refl;
-                  made = record { sought = []; frame = 0; seeks = refl; in_range = omega arith; free = refl; whole = refl };
-                },
-              ),
+              (refl, gets_frame 0 refl refl (omega arith) refl refl),
               refl,
               inr ([], Denied, (refl, refl), refl, refl),
             ),
@@ -101,7 +93,7 @@ protected_part-runs = by_steps (machine 4) (at_first (machine 4)) protected_part
               inl (
                 [],
                 Noted (Zeroed 1 0x7fffffffe000) ∷ Used false (1, 0x7fffffffe) ∷ [],
-                (refl, record { coming = []; making = []; whole = refl; comes_in = refl; made = refl }),
+                (refl, ready refl refl),
                 refl,
                 inl (
                   Zeroed 1 0x7fffffffe000 ∷ [],
@@ -235,22 +227,7 @@ past_a_hole-runs = by_steps (machine 4) (at_first (machine 4)) (past_a_hole Done
             record {
               answer = (
                 Whole,
-                inl (
-                  New 1 0x7fffffffe000 0 ∷ [],
-                  [],
-                  (
-                    refl,
-                    record {
-                      coming = [];
-                      making = New 1 0x7fffffffe000 0 ∷ [];
-                      whole = refl;
-                      comes_in = refl;
-                      made = record { sought = []; frame = 0; seeks = refl; in_range = omega arith; free = refl; whole = refl };
-                    },
-                  ),
-                  refl,
-                  (refl, refl),
-                ),
+                inl (New 1 0x7fffffffe000 0 ∷ [], [], (refl, gets_frame 0 refl refl (omega arith) refl refl), refl, (refl, refl)),
                 refl,
                 refl,
               );
@@ -435,61 +412,28 @@ places-runs = by_steps (machine 4) (at_first (machine 4)) places refl ((
 ))
 
 pub range_refusals-runs : Runs 4 range_refusals
-range_refusals-runs = by_steps (machine 4) (at_first (machine 4)) range_refusals refl ((
-  [],
-  0 ∷ 1 ∷ 2 ∷ 3 ∷ [],
+range_refusals-runs = by_steps (machine 4) (at_first (machine 4)) range_refusals refl (stills (machine 4) (at_first (machine 4)) range_refusals [] refl (
   record { answer = (refl, refl, refl); notes = refl },
-  refl,
   (
-    [],
-    0 ∷ 1 ∷ 2 ∷ 3 ∷ [],
     record { answer = (refl, refl, refl); notes = refl },
-    refl,
     (
-      [],
-      0 ∷ 1 ∷ 2 ∷ 3 ∷ [],
       record { answer = (refl, refl, refl); notes = refl },
-      refl,
       (
-        [],
-        0 ∷ 1 ∷ 2 ∷ 3 ∷ [],
         record { answer = (refl, refl, refl); notes = refl },
-        refl,
         (
-          [],
-          0 ∷ 1 ∷ 2 ∷ 3 ∷ [],
           record { answer = (refl, refl, refl); notes = refl },
-          refl,
           (
-            [],
-            0 ∷ 1 ∷ 2 ∷ 3 ∷ [],
             record { answer = (refl, refl, refl); notes = refl },
-            refl,
             (
-              [],
-              0 ∷ 1 ∷ 2 ∷ 3 ∷ [],
               record { answer = (refl, refl, refl); notes = refl },
-              refl,
               (
-                [],
-                0 ∷ 1 ∷ 2 ∷ 3 ∷ [],
                 record { answer = (refl, refl, refl); notes = refl },
-                refl,
                 (
-                  [],
-                  0 ∷ 1 ∷ 2 ∷ 3 ∷ [],
                   record { answer = (refl, refl, refl); notes = refl },
-                  refl,
                   (
-                    [],
-                    0 ∷ 1 ∷ 2 ∷ 3 ∷ [],
                     record { answer = (refl, refl, refl); notes = refl },
-                    refl,
                     (
-                      [],
-                      0 ∷ 1 ∷ 2 ∷ 3 ∷ [],
                       record { answer = (refl, refl, refl); notes = refl },
-                      refl,
                       tt,
                     ),
                   ),
@@ -501,7 +445,7 @@ range_refusals-runs = by_steps (machine 4) (at_first (machine 4)) range_refusals
       ),
     ),
   ),
-))
+) tt)
 
 -- two pages were mapped over the second of two areas that have anon_vmas
 abbrev over_second : ℕ → Bool → Bool → Bool → Option Area
@@ -546,22 +490,7 @@ fixed_over-runs = by_steps (machine 4) (at_first (machine 4)) (fixed_over 3 0 (Z
       record {
         answer = (
           Whole,
-          inl (
-            New 1 0x7fffffffe000 0 ∷ [],
-            [],
-            (
-              refl,
-              record {
-                coming = [];
-                making = New 1 0x7fffffffe000 0 ∷ [];
-                whole = refl;
-                comes_in = refl;
-                made = record { sought = []; frame = 0; seeks = refl; in_range = omega arith; free = refl; whole = refl };
-              },
-            ),
-            refl,
-            (refl, refl),
-          ),
+          inl (New 1 0x7fffffffe000 0 ∷ [], [], (refl, gets_frame 0 refl refl (omega arith) refl refl), refl, (refl, refl)),
           refl,
           refl,
         );
@@ -580,22 +509,7 @@ fixed_over-runs = by_steps (machine 4) (at_first (machine 4)) (fixed_over 3 0 (Z
           record {
             answer = (
               Whole,
-              inl (
-                New 1 0x20000 1 ∷ [],
-                [],
-                (
-                  refl,
-                  record {
-                    coming = [];
-                    making = New 1 0x20000 1 ∷ [];
-                    whole = refl;
-                    comes_in = refl;
-                    made = record { sought = []; frame = 1; seeks = refl; in_range = omega arith; free = refl; whole = refl };
-                  },
-                ),
-                refl,
-                (refl, refl),
-              ),
+              inl (New 1 0x20000 1 ∷ [], [], (refl, gets_frame 1 refl refl (omega arith) refl refl), refl, (refl, refl)),
               refl,
               refl,
             );
@@ -615,7 +529,7 @@ fixed_over-runs = by_steps (machine 4) (at_first (machine 4)) (fixed_over 3 0 (Z
               (1 ∷ 2 ∷ 3 ∷ [], (2 ∷ 3 ∷ [], refl, refl), refl),
               (
                 first_left,
-                left-root _ _ 0 refl (1, 0x7fffffffe, refl) (of_processes OfFirst 1 _ _ under_fixed (λ q page is. rw is tt)),
+                left-root _ _ 0 refl (1, 0x7fffffffe, refl) (holds-with_at OfFirst 1 _ _ under_fixed (λ q page is. rw is tt)),
                 (
                   [],
                   1 ∷ 2 ∷ 3 ∷ [],
@@ -648,22 +562,7 @@ fixed_over-runs = by_steps (machine 4) (at_first (machine 4)) (fixed_over 3 0 (Z
                       record {
                         answer = (
                           Whole,
-                          inl (
-                            New 1 0x21000 1 ∷ [],
-                            [],
-                            (
-                              refl,
-                              record {
-                                coming = [];
-                                making = New 1 0x21000 1 ∷ [];
-                                whole = refl;
-                                comes_in = refl;
-                                made = record { sought = []; frame = 1; seeks = refl; in_range = omega arith; free = refl; whole = refl };
-                              },
-                            ),
-                            refl,
-                            (refl, refl),
-                          ),
+                          inl (New 1 0x21000 1 ∷ [], [], (refl, gets_frame 1 refl refl (omega arith) refl refl), refl, (refl, refl)),
                           refl,
                           refl,
                         );
@@ -682,13 +581,7 @@ fixed_over-runs = by_steps (machine 4) (at_first (machine 4)) (fixed_over 3 0 (Z
                             answer = (
                               Whole,
                               8 ∷ [],
-                              inl (
-                                [],
-                                [],
-                                (refl, record { coming = []; making = []; whole = refl; comes_in = refl; made = refl }),
-                                refl,
-                                (refl, refl),
-                              ),
+                              inl ([], [], (refl, ready refl refl), refl, (refl, refl)),
                               (refl, (refl, tt), (omega arith, tt)),
                               refl,
                               refl,
@@ -703,13 +596,7 @@ fixed_over-runs = by_steps (machine 4) (at_first (machine 4)) (fixed_over 3 0 (Z
                               answer = (
                                 Whole,
                                 9 ∷ [],
-                                inl (
-                                  [],
-                                  [],
-                                  (refl, record { coming = []; making = []; whole = refl; comes_in = refl; made = refl }),
-                                  refl,
-                                  (refl, refl),
-                                ),
+                                inl ([], [], (refl, ready refl refl), refl, (refl, refl)),
                                 (refl, (refl, tt), (omega arith, tt)),
                                 refl,
                                 refl,

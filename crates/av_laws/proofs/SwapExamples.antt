@@ -7,6 +7,7 @@ use Rattle.av_plain.specs.Fault.{Starved, Lost}
 use Rattle.av_plain.specs.Access.{Whole, Stopped}
 use Rattle.av_laws.specs.Examples.{Allows, machine, crowd, full_machine, after_fork, copies, no_copy, with_swap, slot, paged_out, loads, load_to_write, load_when_full, load_when_half_full, no_load, in_writeback, maps_again, slot_shared, load_and_copy, load_without_copy, untold, load_unclaimed}
 use Rattle.av_laws.proofs.FirstExamples.{by_steps}
+use Rattle.av_laws.proofs.Accesses.{ready}
 
 pub crowded-runs : Allows (machine 4) (crowd 4095) full_machine
 crowded-runs = by_steps (machine 4) (crowd 4095) full_machine refl ((
@@ -52,7 +53,7 @@ copies-runs = by_steps (machine 4) (after_fork (1 ∷ 2 ∷ 3 ∷ [])) copies re
     answer = (
       Whole,
       7 ∷ [],
-      inl ([], [], (refl, record { coming = []; making = []; whole = refl; comes_in = refl; made = refl }), refl, (refl, refl)),
+      inl ([], [], (refl, ready refl refl), refl, (refl, refl)),
       (refl, (refl, tt), (omega arith, tt)),
       refl,
       refl,
@@ -96,13 +97,7 @@ copies-runs = by_steps (machine 4) (after_fork (1 ∷ 2 ∷ 3 ∷ [])) copies re
         answer = (
           Whole,
           7 ∷ [],
-          inl (
-            [],
-            [],
-            (refl, record { coming = []; making = []; whole = refl; comes_in = refl; made = refl }),
-            refl,
-            (refl, refl),
-          ),
+          inl ([], [], (refl, ready refl refl), refl, (refl, refl)),
           (refl, (refl, tt), (omega arith, tt)),
           refl,
           refl,
@@ -116,7 +111,7 @@ copies-runs = by_steps (machine 4) (after_fork (1 ∷ 2 ∷ 3 ∷ [])) copies re
         record {
           answer = (
             Whole,
-            inl ([], [], (refl, record { coming = []; making = []; whole = refl; comes_in = refl; made = refl }), refl, (refl, refl)),
+            inl ([], [], (refl, ready refl refl), refl, (refl, refl)),
             refl,
             refl,
           );
@@ -130,13 +125,7 @@ copies-runs = by_steps (machine 4) (after_fork (1 ∷ 2 ∷ 3 ∷ [])) copies re
             answer = (
               Whole,
               8 ∷ [],
-              inl (
-                [],
-                [],
-                (refl, record { coming = []; making = []; whole = refl; comes_in = refl; made = refl }),
-                refl,
-                (refl, refl),
-              ),
+              inl ([], [], (refl, ready refl refl), refl, (refl, refl)),
               (refl, (refl, tt), (omega arith, tt)),
               refl,
               refl,
@@ -151,13 +140,7 @@ copies-runs = by_steps (machine 4) (after_fork (1 ∷ 2 ∷ 3 ∷ [])) copies re
               answer = (
                 Whole,
                 9 ∷ [],
-                inl (
-                  [],
-                  [],
-                  (refl, record { coming = []; making = []; whole = refl; comes_in = refl; made = refl }),
-                  refl,
-                  (refl, refl),
-                ),
+                inl ([], [], (refl, ready refl refl), refl, (refl, refl)),
                 (refl, (refl, tt), (omega arith, tt)),
                 refl,
                 refl,
@@ -214,7 +197,7 @@ no_copy-runs = by_steps (machine 1) (after_fork []) no_copy refl ((
       answer = (
         Whole,
         7 ∷ [],
-        inl ([], [], (refl, record { coming = []; making = []; whole = refl; comes_in = refl; made = refl }), refl, (refl, refl)),
+        inl ([], [], (refl, ready refl refl), refl, (refl, refl)),
         (refl, (refl, tt), (omega arith, tt)),
         refl,
         refl,
@@ -229,13 +212,7 @@ no_copy-runs = by_steps (machine 1) (after_fork []) no_copy refl ((
         answer = (
           Whole,
           7 ∷ [],
-          inl (
-            [],
-            [],
-            (refl, record { coming = []; making = []; whole = refl; comes_in = refl; made = refl }),
-            refl,
-            (refl, refl),
-          ),
+          inl ([], [], (refl, ready refl refl), refl, (refl, refl)),
           (refl, (refl, tt), (omega arith, tt)),
           refl,
           refl,
@@ -307,13 +284,7 @@ loads-runs = by_steps (with_swap 4 8 7) (paged_out 7 (0 ∷ 1 ∷ 2 ∷ 3 ∷ []
         answer = (
           Whole,
           7 ∷ [],
-          inl (
-            [],
-            [],
-            (refl, record { coming = []; making = []; whole = refl; comes_in = refl; made = refl }),
-            refl,
-            (refl, refl),
-          ),
+          inl ([], [], (refl, ready refl refl), refl, (refl, refl)),
           (refl, (refl, tt), (omega arith, tt)),
           refl,
           refl,
@@ -327,13 +298,7 @@ loads-runs = by_steps (with_swap 4 8 7) (paged_out 7 (0 ∷ 1 ∷ 2 ∷ 3 ∷ []
         record {
           answer = (
             Whole,
-            inl (
-              Dropped (slot 1) ∷ [],
-              [],
-              (refl, record { coming = []; making = []; whole = refl; comes_in = refl; made = refl }),
-              refl,
-              (refl, refl),
-            ),
+            inl (Dropped (slot 1) ∷ [], [], (refl, ready refl refl), refl, (refl, refl)),
             refl,
             refl,
           );
@@ -347,13 +312,7 @@ loads-runs = by_steps (with_swap 4 8 7) (paged_out 7 (0 ∷ 1 ∷ 2 ∷ 3 ∷ []
             answer = (
               Whole,
               8 ∷ [],
-              inl (
-                [],
-                [],
-                (refl, record { coming = []; making = []; whole = refl; comes_in = refl; made = refl }),
-                refl,
-                (refl, refl),
-              ),
+              inl ([], [], (refl, ready refl refl), refl, (refl, refl)),
               (refl, (refl, tt), (omega arith, tt)),
               refl,
               refl,
@@ -417,7 +376,7 @@ load_to_write-runs = by_steps (with_swap 4 8 7) (paged_out 7 (0 ∷ 1 ∷ 2 ∷ 
     record {
       answer = (
         Whole,
-        inl ([], [], (refl, record { coming = []; making = []; whole = refl; comes_in = refl; made = refl }), refl, (refl, refl)),
+        inl ([], [], (refl, ready refl refl), refl, (refl, refl)),
         refl,
         refl,
       );
@@ -431,13 +390,7 @@ load_to_write-runs = by_steps (with_swap 4 8 7) (paged_out 7 (0 ∷ 1 ∷ 2 ∷ 
         answer = (
           Whole,
           8 ∷ 9 ∷ [],
-          inl (
-            [],
-            [],
-            (refl, record { coming = []; making = []; whole = refl; comes_in = refl; made = refl }),
-            refl,
-            (refl, refl),
-          ),
+          inl ([], [], (refl, ready refl refl), refl, (refl, refl)),
           (refl, (refl, (refl, tt)), (omega arith, (omega arith, tt))),
           refl,
           refl,
@@ -603,7 +556,7 @@ maps_again-runs = by_steps (with_swap 4 8 7) in_writeback maps_again refl ((
     record {
       answer = (
         Whole,
-        inl ([], [], (refl, record { coming = []; making = []; whole = refl; comes_in = refl; made = refl }), refl, (refl, refl)),
+        inl ([], [], (refl, ready refl refl), refl, (refl, refl)),
         refl,
         refl,
       );
@@ -617,13 +570,7 @@ maps_again-runs = by_steps (with_swap 4 8 7) in_writeback maps_again refl ((
         answer = (
           Whole,
           9 ∷ [],
-          inl (
-            [],
-            [],
-            (refl, record { coming = []; making = []; whole = refl; comes_in = refl; made = refl }),
-            refl,
-            (refl, refl),
-          ),
+          inl ([], [], (refl, ready refl refl), refl, (refl, refl)),
           (refl, (refl, tt), (omega arith, tt)),
           refl,
           refl,
@@ -747,7 +694,7 @@ load_without_copy-runs = by_steps (with_swap 1 8 7) (slot_shared (0 ∷ [])) loa
       answer = (
         Whole,
         7 ∷ [],
-        inl ([], [], (refl, record { coming = []; making = []; whole = refl; comes_in = refl; made = refl }), refl, (refl, refl)),
+        inl ([], [], (refl, ready refl refl), refl, (refl, refl)),
         (refl, (refl, tt), (omega arith, tt)),
         refl,
         refl,
@@ -803,13 +750,7 @@ load_unclaimed-runs = by_steps untold (paged_out 7 (0 ∷ 1 ∷ 2 ∷ 3 ∷ []))
       answer = (
         Whole,
         42 ∷ [],
-        inl (
-          [],
-          [],
-          (refl, record { coming = []; making = []; whole = refl; comes_in = refl; made = refl }),
-          refl,
-          (refl, refl),
-        ),
+        inl ([], [], (refl, ready refl refl), refl, (refl, refl)),
         (refl, (tt, tt), (omega arith, tt)),
         refl,
         refl,
@@ -823,13 +764,7 @@ load_unclaimed-runs = by_steps untold (paged_out 7 (0 ∷ 1 ∷ 2 ∷ 3 ∷ []))
       record {
         answer = (
           Whole,
-          inl (
-            Dropped (slot 1) ∷ [],
-            [],
-            (refl, record { coming = []; making = []; whole = refl; comes_in = refl; made = refl }),
-            refl,
-            (refl, refl),
-          ),
+          inl (Dropped (slot 1) ∷ [], [], (refl, ready refl refl), refl, (refl, refl)),
           refl,
           refl,
         );
@@ -843,13 +778,7 @@ load_unclaimed-runs = by_steps untold (paged_out 7 (0 ∷ 1 ∷ 2 ∷ 3 ∷ []))
           answer = (
             Whole,
             8 ∷ 17 ∷ [],
-            inl (
-              [],
-              [],
-              (refl, record { coming = []; making = []; whole = refl; comes_in = refl; made = refl }),
-              refl,
-              (refl, refl),
-            ),
+            inl ([], [], (refl, ready refl refl), refl, (refl, refl)),
             (refl, (refl, (tt, tt)), (omega arith, (omega arith, tt))),
             refl,
             refl,

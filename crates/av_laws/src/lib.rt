@@ -1,8 +1,9 @@
 //! What follows from the definitions of `av_plain`, beside what the kernel needs of them: replies
 //! are determined, numbers add up, a refusal changes nothing, a reply is read back from its text,
 //! what is free is listed, areas cover what is mapped; and worked examples: legal ones and such as
-//! may not be, slots that are given, areas, anon_vmas and homes that come of commands, forks, pages
-//! that move, sound states and unsound ones, views that stand for a state and such as don't.
+//! may not be, what lines, answers and rows say, slots that are given, areas, anon_vmas and homes
+//! that come of commands, forks, pages that move, sound states and unsound ones, views that stand
+//! for a state and such as don't.
 //!
 //! No function does anything. Each one's contract is a law, proved of the definitions alone.
 #![tactic(auto)]
@@ -11,6 +12,7 @@ mod areas;
 mod examples;
 mod forks;
 mod homes;
+mod lines;
 mod mremap;
 mod pairs;
 mod slots;
@@ -71,6 +73,7 @@ pub use examples::{
 };
 pub use forks::{changed_forks_are_refused, forks_are_refused, forks_follow};
 pub use homes::{changed_homes_are_refused, homes_are_of_pages, homes_cover_entries, homes_follow};
+pub use lines::{answers_say, changed_lines_are_refused, lines_say, rows_say};
 pub use mremap::{
     changed_mremaps_are_refused, mremaps_are_refused, pages_move, pages_stay_or_find_a_place,
 };

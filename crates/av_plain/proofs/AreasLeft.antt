@@ -239,9 +239,9 @@ left-root anons on v chain there owns = record {
     same w e false is = absurd (grind (arith, nat_tests, is, e))
 
 -- what holds of one process's pages, and of those of each other one
-pub of_processes : (P : Option Area → Type 0) (p : ℕ) (x : Pages) (on : Areas) → ((page : ℕ) → P (x page))
+pub holds-with_at : (P : Option Area → Type 0) (p : ℕ) (x : Pages) (on : Areas) → ((page : ℕ) → P (x page))
     → ((q page : ℕ) → (q == p) ≡ false → P (on q page)) → (q page : ℕ) → P (with_at p x on q page)
-of_processes P p x on here others q page = by (q == p) refl
+holds-with_at P p x on here others q page = by (q == p) refl
   where
     by : (b : Bool) → (q == p) ≡ b → P ((if b then x else on q) page)
     by true is = here page

@@ -30,7 +30,7 @@ pub enum Unanswered {
 }
 
 /// The command that a line says.
-fn command_of(alloc: Global, line: &[u8]) -> Result<Command, Unanswered>
+fn said_command(alloc: Global, line: &[u8]) -> Result<Command, Unanswered>
     ensures says { IfOk result (λ command. Says line.now (Some command)) }
     ensures blank { IsErrOf result Unanswered.Blank → Says line.now None }
     ensures bad { IsErrOf result Unanswered.NoCommand
@@ -61,7 +61,7 @@ pub fn ask(alloc: Global, kernel: &mut Kernel, line: &[u8]) -> Result<Bytes, Una
     if MOST_COMMANDS <= kernel.steps_done() {
         return Err(Unanswered::TooMany);
     }
-    let command = command_of(alloc, line)?;
+    let command = said_command(alloc, line)?;
     let Ok(reply) = kernel.step(alloc, &command) else {
         return Err(Unanswered::Memory);
     };

@@ -1,8 +1,9 @@
-ghost use Rattle.std.specs.Prelude.{◌≡◌, false, ◌||◌};
+ghost use Rattle.std.specs.Prelude.{◌≡◌, [], false, ◌||◌, OnOk};
 ghost use Rattle.av_arena.specs.Any.{any_laws};
+ghost use Rattle.av_tests.specs.Arena.{note, notes};
 
 use av_arena::*;
-use std::test::Fail;
+use std::alloc::{AllocError, Global};
 
 /// An entry whose summary is whether any of a row is marked.
 #[derive(Clone, Copy, Drop, Debug, PartialEq, Eq)]
@@ -42,24 +43,38 @@ impl Entry for Note {
 }
 
 fn entry(key: u64, marked: bool) -> Note
-    ensures key { result.key ≡ key }
+    ensures { result ≡ note key marked }
 {
     Note { key, marked }
 }
 
-#[test]
-fn entries_come_in_order_with_their_summary(rt: HostRuntime) -> Result<(), Fail> {
-    let alloc = rt.alloc();
-    let mut tree = Avl::new(alloc);
+/// Puts three entries in, against their order.
+fn put_three(tree: &mut Avl<Note>) -> Result<(), AllocError>
+    requires { tree.old ≡ [] }
+    ensures { OnOk result (tree.new ≡ notes) }
+{
     tree.insert(entry(3, false))?;
     tree.insert(entry(2, true))?;
-    tree.insert(entry(1, false))?;
-    assert!(rt; tree.part().sum());
+    tree.insert(entry(1, false))
+}
+
+/// Takes the mark off and the last entry out, and says whether it shows so.
+fn is_unmarked(alloc: Global, tree: &mut Avl<Note>) -> Result<bool, AllocError>
+    requires { tree.old ≡ notes }
+{
+    let was_marked = tree.part().sum();
     tree.replace(entry(2, false));
-    assert!(rt; !tree.part().sum());
     tree.remove(entry(3, false));
-    let mut notes = Vec::new(alloc);
-    tree.part().append_to(&mut notes)?;
-    assert!(rt; notes.as_slice() == [entry(1, false), entry(2, false)].as_slice());
+    let mut left = Vec::new(alloc);
+    tree.part().append_to(&mut left)?;
+    let wanted = [entry(1, false), entry(2, false)];
+    Ok(was_marked && !tree.part().sum() && left.as_slice() == wanted.as_slice())
+}
+
+#[test]
+fn entries_come_in_order_with_their_summary(rt: HostRuntime) -> Result<(), AllocError> {
+    let mut tree = Avl::new(rt.alloc());
+    put_three(&mut tree)?;
+    assert!(rt; is_unmarked(rt.alloc(), &mut tree)?);
     Ok(())
 }

@@ -29,32 +29,45 @@ fn link(links: &mut Links, area: u64, anon: u64) -> Result<(), AllocError> {
     links.link(area, anon)
 }
 
-fn users(alloc: Global, links: &Links, anon: u64) -> Result<Vec<u64>, AllocError> {
-    let mut found = Vec::new(alloc);
-    for area in links.users(anon) {
-        found.push(area)?;
+/// Links as these pairs of an area and an anon_vma say.
+fn linked(alloc: Global, pairs: &[(u64, u64)]) -> Result<Links, AllocError> {
+    let mut links = Links::new(alloc);
+    for (area, anon) in pairs {
+        link(&mut links, *area, *anon)?;
     }
-    Ok(found)
+    Ok(links)
+}
+
+/// How many anon_vmas the areas 0 and 1 have, and which comes first.
+fn chains(links: &Links) -> [(u64, Option<u64>); 2] {
+    [
+        (links.len(0), links.first(0)),
+        (links.len(1), links.first(1)),
+    ]
+}
+
+/// Whether an anon_vma has these users, in this order, and no others.
+fn has_users(links: &Links, anon: u64, wanted: &[u64]) -> bool {
+    let mut users = links.users(anon);
+    for area in wanted {
+        if users.next() != Some(*area) {
+            return false;
+        }
+    }
+    users.next().is_none()
 }
 
 #[test]
 fn an_area_leaves_its_lists(rt: HostRuntime) -> Result<(), AllocError> {
-    let mut links = Links::new(rt.alloc());
-    link(&mut links, 0, 0)?;
-    link(&mut links, 0, 1)?;
-    link(&mut links, 1, 0)?;
+    let mut links = linked(rt.alloc(), &[(0, 0), (0, 1), (1, 0)])?;
     assert!(rt; links.has(0, 1));
-    assert!(rt; links.len(0) == 2);
-    assert!(rt; links.first(0) == Some(0));
-    assert!(rt; users(rt.alloc(), &links, 0)?.as_slice() == [0, 1].as_slice());
+    assert!(rt; chains(&links) == [(2, Some(0)), (1, Some(0))]);
+    assert!(rt; has_users(&links, 0, &[0, 1]));
     unlink(&mut links, 0, Blank::new(1));
-    assert!(rt; users(rt.alloc(), &links, 0)?.as_slice() == [1].as_slice());
-    assert!(rt; users(rt.alloc(), &links, 1)?.is_empty());
-    assert!(rt; links.len(1) == 1);
-    assert!(rt; links.len(0) == 0);
-    assert!(rt; links.first(0) == None);
+    assert!(rt; has_users(&links, 0, &[1]) && has_users(&links, 1, &[]));
+    assert!(rt; chains(&links) == [(0, None), (1, Some(0))]);
     unlink(&mut links, 0, Blank::new(1));
-    assert!(rt; links.len(1) == 1);
+    assert!(rt; chains(&links) == [(0, None), (1, Some(0))]);
     Ok(())
 }
 

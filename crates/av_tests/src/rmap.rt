@@ -1,10 +1,11 @@
-ghost use Rattle.std.specs.Prelude.{◌≡◌, ℕ, ◌+◌, ◌<◌, ◌≤◌, ◌++◌, List, [], ◌∷◌, length, None, Some, IfOk, OnOk};
-ghost use Rattle.av_anon.specs.Anons.{family, own_of};
+ghost use Rattle.std.specs.Prelude.{◌≡◌, ℕ, ◌+◌, ◌<◌, ◌≤◌, ◌++◌, List, [], ◌∷◌, false, length, None, Some, IfOk, OnOk};
+ghost use Rattle.av_anon.specs.Anons.{family, nobody, own_of};
 ghost use Rattle.av_anon.specs.Order.{IsArea};
+ghost use Rattle.av_anon.specs.Spans.{spans_of};
 ghost use Rattle.av_base.specs.Words.{how_many, with_at};
 ghost use Rattle.av_interval.specs.Search.{overlaps};
 ghost use Rattle.av_merge.specs.Kin.{AreInOrder};
-ghost use Rattle.av_pagetable.specs.Entries.{entry_at};
+ghost use Rattle.av_pagetable.specs.Entries.{entry_at, has};
 ghost use Rattle.av_rmap.specs.Covered.{IsCovered};
 ghost use Rattle.av_rmap.specs.View.{AreApart, AreSpanned};
 ghost use Rattle.av_rmap.specs.Walk.{AreItsEntries, Key};
@@ -146,74 +147,74 @@ fn ask<K: LookMut, L: Ledger>(
     Ok((keys, seen))
 }
 
-/// Three areas that are linked to one anon_vma, the first.
-#[derive(Drop)]
-struct Linked {
-    areas: Areas,
-    anons: Anons,
-    parent: AreaId,
-    child: AreaId,
-    other: AreaId,
-}
-
-/// Links the areas of page 11 in two processes, and one that doesn't hold its index.
-fn link_three(alloc: Global) -> Result<Linked, AllocError>
-    ensures order { IfOk result (λ l. AreInOrder l.areas l.anons) }
-    ensures areas { IfOk result (λ l. AreThree (area_of l.areas) l.parent l.child l.other) }
-    ensures users { IfOk result (λ l.
-        (family l.anons).users 0 ≡ l.parent ∷ l.child ∷ l.other ∷ []) }
+/// Links the areas of page 11 in two processes, and one that doesn't hold its index, to the first
+/// anon_vma.
+fn link_three(areas: &mut Areas, anons: &mut Anons) -> Result<(AreaId, AreaId, AreaId), AllocError>
+    requires areas { (number : ℕ) → area_of areas.old number ≡ None }
+    requires family { family anons.old ≡ nobody }
+    requires spans { (anon : ℕ) → spans_of anons.old anon ≡ [] }
+    ensures order { OnOk result (AreInOrder areas.new anons.new) }
+    ensures areas { IfOk result (λ ids. AreThree (area_of areas.new) ids.0 ids.1 ids.2) }
+    ensures users { IfOk result (λ ids.
+        (family anons.new).users 0 ≡ ids.0 ∷ ids.1 ∷ ids.2 ∷ []) }
 {
     nobody_is_in_order();
-    let mut areas = Areas::new(alloc);
-    let mut anons = Anons::new(alloc);
-    let parent = add(&mut areas, &mut anons, PARENT)?;
-    let child = add_like(&mut areas, &mut anons, CHILD, parent)?;
-    let other = add_like(&mut areas, &mut anons, OTHER, child)?;
-    Ok(Linked {
-        areas,
-        anons,
-        parent,
-        child,
-        other,
-    })
+    let parent = add(areas, anons, PARENT)?;
+    let child = add_like(areas, anons, CHILD, parent)?;
+    let other = add_like(areas, anons, OTHER, child)?;
+    Ok((parent, child, other))
 }
 
-/// Tables of two processes that have one frame on their page 11.
-fn share_frame(alloc: Global) -> Result<Tables<PageTable>, AllocError>
-    ensures { IfOk result (λ tables. (p page : ℕ) → entry_at tables p page
-        ≡ shared_entries p page) }
+/// Two processes come to have one frame on their page 11.
+fn share_frame(alloc: Global, tables: &mut Tables<PageTable>) -> Result<(), AllocError>
+    requires processes { (process : ℕ) → has tables.old process ≡ false }
+    requires entries { (process page : ℕ) → entry_at tables.old process page ≡ Pte.Empty }
+    ensures { OnOk result ((p page : ℕ) → entry_at tables.new p page ≡ shared_entries p page) }
 {
-    let mut tables = Tables::<PageTable>::new(alloc);
     tables.spawn(alloc, 1)?;
     tables.spawn(alloc, 2)?;
     tables.set(1, 11, FRAME_7)?;
     tables.set(2, 11, FRAME_7)?;
-    Ok(tables)
+    Ok(())
 }
 
 /// What is found of a frame that two processes have on their page 11. Three areas are linked to
 /// the anon_vma of its home, and two of them hold its index.
-fn walk_shared<L: Ledger>(alloc: Global, steps: &mut Steps<L>) -> Result<Found, AllocError>
+fn walk_shared<L: Ledger>(
+    alloc: Global,
+    areas: &mut Areas,
+    anons: &mut Anons,
+    tables: &mut Tables<PageTable>,
+    steps: &mut Steps<L>,
+) -> Result<Found, AllocError>
+    requires areas { (number : ℕ) → area_of areas.old number ≡ None }
+    requires family { family anons.old ≡ nobody }
+    requires spans { (anon : ℕ) → spans_of anons.old anon ≡ [] }
+    requires processes { (process : ℕ) → has tables.old process ≡ false }
+    requires entries { (process page : ℕ) → entry_at tables.old process page ≡ Pte.Empty }
     ensures { OnOk result (steps.new ≡ steps.old + 2) }
 {
-    let linked = link_three(alloc)?;
-    let mut tables = share_frame(alloc)?;
+    let _ids = link_three(areas, anons)?;
+    share_frame(alloc, tables)?;
     let mut stores = StoresMut {
-        areas: &linked.areas,
-        anons: &linked.anons,
-        tables: &mut tables,
+        areas,
+        anons,
+        tables,
     };
     ask(alloc, &mut stores, 7, (0, 11), 2, steps)
 }
 
-/// The same, by a counter of its own.
+/// The same, by stores and a counter of its own.
 fn walk_shared_alone<L: Ledger>(alloc: Global, blank: Blank) -> Result<Found, AllocError>
     requires name { blank.name ≡ L.name }
     requires parts { blank.parts ≡ L.parts }
     requires some { 0 < blank.parts }
 {
     let mut steps = Steps::<L>::open(blank);
-    walk_shared(alloc, &mut steps)
+    let mut areas = Areas::new(alloc);
+    let mut anons = Anons::new(alloc);
+    let mut tables = Tables::new(alloc);
+    walk_shared(alloc, &mut areas, &mut anons, &mut tables, &mut steps)
 }
 
 #[test]

@@ -3,34 +3,46 @@ ghost use Rattle.av_io.specs.Count.{one_more};
 
 use av_io::Failed;
 use av_swapdev::*;
-use byteorder::{BigEndian, ByteOrder, LittleEndian};
 use std::alloc::{AllocError, Global};
 use std::env;
 use std::fs::{self, OpenOptions};
-use std::path::PathBuf;
+use std::path::{Path, PathBuf};
 use std::test::*;
 use std::time::{Duration, SystemTime, UNIX_EPOCH};
 
 /// As many bad pages as a header has room for.
 const MOST_BAD: usize = 637;
 
+/// Puts a number at this place, in this order of bytes.
+fn put(page: &mut [u8; PAGE_LEN], little: bool, at: usize, number: u32)
+    requires { at + 4 ≤ 4096 }
+{
+    let bytes = if little {
+        number.to_le_bytes()
+    } else {
+        number.to_be_bytes()
+    };
+    page[at..at + 4].copy_from_slice(&bytes);
+}
+
 /// A header in this order of bytes. Where `bad` is too long, it says so, and has the first of them.
-fn header<T: ByteOrder>(version: u32, last: u32, bad: &[u32]) -> [u8; PAGE_LEN] {
+fn header(little: bool, version: u32, last: u32, bad: &[u32]) -> [u8; PAGE_LEN] {
     let mut page = [0; PAGE_LEN];
     page[PAGE_LEN - 10..].copy_from_slice(b"SWAPSPACE2");
-    T::write_u32(&mut page[1024..], version);
-    T::write_u32(&mut page[1028..], last);
-    T::write_u32(&mut page[1032..], bad.len().min(MOST_BAD + 1) as u32);
-    for i in 0..bad.len().min(MOST_BAD) {
-        T::write_u32(&mut page[1536 + 4 * i..], bad[i]);
+    let named = bad.len().min(MOST_BAD + 1);
+    put(&mut page, little, 1024, version);
+    put(&mut page, little, 1028, last);
+    put(&mut page, little, 1032, named as u32);
+    for i in 0..named.min(MOST_BAD) {
+        put(&mut page, little, 1536 + 4 * i, bad[i]);
     }
     page
 }
 
 /// What is read of such a header on a device with so many pages, where both orders say the same.
 fn read(pages: u32, version: u32, last: u32, bad: &[u32]) -> Option<Result<Header, HeaderErr>> {
-    let found = read_header(&header::<LittleEndian>(version, last, bad), pages);
-    if read_header(&header::<BigEndian>(version, last, bad), pages) != found {
+    let found = read_header(&header(true, version, last, bad), pages);
+    if read_header(&header(false, version, last, bad), pages) != found {
         return None;
     }
     Some(found)
@@ -73,7 +85,7 @@ fn headers(rt: HostRuntime) {
 
 #[test]
 fn bad_pages_of_a_header(rt: HostRuntime) -> Result<(), Fail> {
-    let mut page = header::<LittleEndian>(1, 7, &[5, 3, 3]);
+    let mut page = header(true, 1, 7, &[5, 3, 3]);
     let Ok(found) = read_header(&page, 8) else {
         return Err(Fail::new("the header is not read"));
     };
@@ -109,23 +121,32 @@ fn copy_page<D: SwapDev>(
     device.write(0, to, buffer)
 }
 
-#[test]
-fn memory(rt: HostRuntime) -> Result<(), Fail> {
-    let a = rt.alloc();
-    let pages = vec![in a; [7; PAGE_LEN], [8; PAGE_LEN], [9; PAGE_LEN]]?;
-    let mut device = MemDev::new(vec![in a; pages]?, vec![in a; 4, 7]?);
-    let mut buffer = [0; PAGE_LEN];
-    assert!(rt; device.attach(3, "none") == Ok(0));
-    assert!(rt; is_attached(&mut device, "some", 3));
+/// One area of three pages, whose calls 4 and 7 fail.
+fn three_pages(alloc: Global) -> Result<MemDev, AllocError> {
+    let pages = vec![in alloc; [7; PAGE_LEN], [8; PAGE_LEN], [9; PAGE_LEN]]?;
+    let areas = vec![in alloc; pages]?;
+    Ok(MemDev::new(areas, vec![in alloc; 4, 7]?))
+}
+
+/// Whether the calls of such a device come to what they have to.
+fn goes_as_told(device: &mut MemDev, buffer: &mut [u8; PAGE_LEN]) -> bool {
+    if device.attach(3, "none") != Ok(0) || !is_attached(device, "some", 3) {
+        return false;
+    }
     // The third call reads, and the fourth fails to write.
-    assert!(rt; copy_page(&mut device, 3, 2, 1, &mut buffer) == Err(Failed));
-    assert!(rt; device.page(0, 1) == Some(&[!8; PAGE_LEN]));
-    assert!(rt; copy_page(&mut device, 3, 2, 0, &mut buffer) == Ok(()));
-    assert!(rt; copy_page(&mut device, 3, 1, 2, &mut buffer) == Err(Failed));
-    assert!(rt;
-        device.page(0, 0) == Some(&[9; PAGE_LEN]) && device.page(0, 2) == Some(&[9; PAGE_LEN])
-    );
-    assert!(rt; device.page(0, 3).is_none() && device.page(1, 0).is_none());
+    let spoilt = copy_page(device, 3, 2, 1, buffer) == Err(Failed)
+        && device.page(0, 1) == Some(&[!8; PAGE_LEN]);
+    let copied = copy_page(device, 3, 2, 0, buffer) == Ok(())
+        && device.page(0, 0) == Some(&[9; PAGE_LEN]);
+    let kept = copy_page(device, 3, 1, 2, buffer) == Err(Failed)
+        && device.page(0, 2) == Some(&[9; PAGE_LEN]);
+    spoilt && copied && kept && device.page(0, 3).is_none() && device.page(1, 0).is_none()
+}
+
+#[test]
+fn memory(rt: HostRuntime) -> Result<(), AllocError> {
+    let mut device = three_pages(rt.alloc())?;
+    assert!(rt; goes_as_told(&mut device, &mut [0; PAGE_LEN]));
     Ok(())
 }
 
@@ -247,53 +268,78 @@ impl SwapFiles for MemFiles {
     }
 }
 
+/// Whether two pages of this name are attached, and the second is copied over the first.
+fn is_served<D: SwapDev>(device: &mut D, name: &str, buffer: &mut [u8; PAGE_LEN]) -> bool
+    ensures { result ≡ true → D.sizes device.new 0 ≡ Some 2 }
+{
+    is_attached(device, name, 2)
+        && copy_page(device, 2, 1, 0, buffer) == Ok(())
+        && *buffer == [2; PAGE_LEN]
+}
+
+/// Whether files go as such a device's have to.
+fn go_as_told<D: SwapDev>(device: &mut D, buffer: &mut [u8; PAGE_LEN]) -> bool {
+    if device.attach(0, "") != Err(AttachErr::Failed) || !is_served(device, "some", buffer) {
+        return false;
+    }
+    // The third call reads what the second wrote, and the fourth fails to write.
+    *buffer = [0; PAGE_LEN];
+    copy_page(device, 2, 0, 1, buffer) == Err(Failed) && *buffer == [2; PAGE_LEN]
+}
+
 #[test]
 fn files_in_memory(rt: HostRuntime) -> Result<(), Fail> {
-    let a = rt.alloc();
     let files = MemFiles {
-        bytes: bytes_of_test(a)?,
+        bytes: bytes_of_test(rt.alloc())?,
         failing: 4,
         calls: 0,
         faults: 0,
         shortages: 0,
     };
-    let mut device = FileDev::new(a, files)?;
-    let mut buffer = [0; PAGE_LEN];
-    assert!(rt; device.attach(0, "") == Err(AttachErr::Failed));
-    assert!(rt; is_attached(&mut device, "some", 2));
-    assert!(rt; copy_page(&mut device, 2, 1, 0, &mut buffer) == Ok(()));
-    // The third call reads what the second wrote, and the fourth fails to write.
-    buffer = [0; PAGE_LEN];
-    assert!(rt; copy_page(&mut device, 2, 0, 1, &mut buffer) == Err(Failed));
-    assert!(rt; buffer == [2; PAGE_LEN]);
+    let mut device = FileDev::new(rt.alloc(), files)?;
+    assert!(rt; go_as_told(&mut device, &mut [0; PAGE_LEN]));
     Ok(())
+}
+
+/// A device over files of the host.
+fn of_host(rt: &HostRuntime) -> Result<FileDev<HostFiles<HostRuntime>>, Fail> {
+    Ok(FileDev::new(rt.alloc(), HostFiles::new(rt.clone()?))?)
+}
+
+/// Whether the file has its second page in place of the first, and the rest as it was.
+fn is_copied(rt: &HostRuntime, path: Path<'_>) -> Result<bool, Fail> {
+    let now = fs::read(rt, path)?;
+    Ok(
+        now.len() == 3 * PAGE_LEN - 1
+            && now.starts_with(&[2; 2 * PAGE_LEN])
+            && now.ends_with(&[3; PAGE_LEN - 1]),
+    )
+}
+
+/// Cuts the file behind its first page.
+fn cut(rt: &HostRuntime, path: Path<'_>) -> Result<(), Fail> {
+    let mut file = OpenOptions::new().write(true).open(rt, path)?;
+    file.set_len(PAGE_LEN as u64)?;
+    Ok(())
+}
+
+/// Whether a file of the host is served, also when it is cut, and no more when it is gone.
+fn serves<D: SwapDev>(rt: &HostRuntime, device: &mut D, path: &PathBuf) -> Result<bool, Fail> {
+    let mut buffer = [0; PAGE_LEN];
+    if !is_served(device, path.as_str(), &mut buffer) || !is_copied(rt, path.as_path())? {
+        return Ok(false);
+    }
+    cut(rt, path.as_path())?;
+    let cut_short = copy_page(device, 2, 1, 0, &mut buffer) == Err(Failed);
+    fs::remove_file(rt, path.as_path())?;
+    Ok(cut_short && !is_attached(device, path.as_str(), 1))
 }
 
 #[test]
 fn files(rt: HostRuntime) -> Result<(), Fail> {
-    let a = rt.alloc();
     let path = path_of_test(&rt)?;
-    fs::write(&rt, path.as_path(), bytes_of_test(a)?.as_slice())?;
-
-    let mut device = FileDev::new(a, HostFiles::new(rt.clone()?))?;
-    let mut buffer = [0; PAGE_LEN];
-    assert!(rt; is_attached(&mut device, path.as_str(), 2));
-    assert!(rt; copy_page(&mut device, 2, 1, 0, &mut buffer) == Ok(()));
-    assert!(rt; buffer == [2; PAGE_LEN]);
-    let now = fs::read(&rt, path.as_path())?;
-    assert!(rt;
-        now.len() == 3 * PAGE_LEN - 1
-            && now.starts_with(&[2; 2 * PAGE_LEN])
-            && now.ends_with(&[3; PAGE_LEN - 1])
-    );
-
-    // A file that was cut short.
-    OpenOptions::new()
-        .write(true)
-        .open(&rt, path.as_path())?
-        .set_len(PAGE_LEN as u64)?;
-    assert!(rt; copy_page(&mut device, 2, 1, 0, &mut buffer) == Err(Failed));
-    fs::remove_file(&rt, path.as_path())?;
-    assert!(rt; !is_attached(&mut device, path.as_str(), 1));
+    fs::write(&rt, path.as_path(), bytes_of_test(rt.alloc())?.as_slice())?;
+    let mut device = of_host(&rt)?;
+    assert!(rt; serves(&rt, &mut device, &path)?);
     Ok(())
 }

@@ -88,11 +88,8 @@ impl Bytes {
         ensures err { OnErr result (self.new ≡ self.old) }
     {
         let start = self.items.len();
-        let Some(end) = bytes
-            .len()
-            .checked_mul(2)
-            .and_then(|n| n.checked_add(start))
-        else {
+        // A slice of bytes has fewer than 2^63.
+        let Some(end) = start.checked_add(2 * bytes.len()) else {
             return Err(AllocError);
         };
         self.items.resize(end, 0)?;

@@ -123,13 +123,22 @@ pub fn number_in(word: &[u8], low: u64, high: u64) -> Option<u64>
     }
 }
 
+/// The number after a space, and the rest.
+#[inline(always)]
+#[tactic(auto, unfolding(crate::specs::Number::number_at))]
+fn number_field(bytes: &[u8], base: u8) -> Option<(u64, &[u8])>
+    ensures { option_map (λ x. (x.0, x.1.now)) result ≡ number_at base bytes.now }
+{
+    number(after(bytes, b" ")?, base)
+}
+
 /// A decimal number from `low` to `high` after a space, and the rest.
-#[tactic(auto, unfolding(crate::specs::Number::number_at, crate::specs::Number::decimal_at))]
+#[tactic(auto, unfolding(crate::specs::Number::decimal_at))]
 pub fn decimal(bytes: &[u8], low: u64, high: u64) -> Option<(u64, &[u8])>
     ensures value { option_map (λ x. (x.0, x.1.now)) result ≡ decimal_at low high bytes.now }
     ensures bound { IfSome result (λ x. (low ≤ x.0) × (x.0 ≤ high)) }
 {
-    let (n, rest) = number(after(bytes, b" ")?, 10)?;
+    let (n, rest) = number_field(bytes, 10)?;
     if low <= n && n <= high {
         Some((n, rest))
     } else {
@@ -154,11 +163,10 @@ pub fn len(bytes: &[u8]) -> Option<(u64, &[u8])>
 }
 
 /// An address, and the rest.
-#[tactic(auto, unfolding(crate::specs::Number::number_at))]
 pub fn address(bytes: &[u8]) -> Option<(u64, &[u8])>
     ensures { option_map (λ x. (x.0, x.1.now)) result ≡ address_at bytes.now }
 {
-    number(after(bytes, b" ")?, 16)
+    number_field(bytes, 16)
 }
 
 /// A process number and an address, and the rest.

@@ -131,11 +131,11 @@ rmap_at = whole entry_at (λ x. commands.Rmap x.0 x.1)
 abbrev pub entry_of : CommandReader
 entry_of = whole entry_at (λ x. commands.Entry x.0 x.1)
 
--- the commands, by name: those that access pages,
+-- what reads the commands that access pages, by name
 abbrev pub access_readers : List (List ℕ × CommandReader)
 access_readers = (codes "write", write_at) ∷ (codes "read", read_at) ∷ []
 
--- that begin and end processes,
+-- those that begin and end processes
 abbrev pub process_readers : List (List ℕ × CommandReader)
 process_readers =
     (codes "spawn", whole process_at commands.Spawn)
@@ -143,7 +143,7 @@ process_readers =
     ∷ (codes "exit", whole process_at commands.Exit)
     ∷ []
 
--- that change ranges,
+-- those that change ranges
 abbrev pub range_readers : List (List ℕ × CommandReader)
 range_readers =
     (codes "mmap", mmap_at)
@@ -152,7 +152,7 @@ range_readers =
     ∷ (codes "mremap", mremap_at)
     ∷ []
 
--- and reports
+-- the reports
 abbrev pub report_readers : List (List ℕ × CommandReader)
 report_readers =
     (codes "maps", whole process_at commands.Maps)
@@ -162,6 +162,7 @@ report_readers =
     ∷ (codes "stat", whole no_words (λ x. commands.Stat))
     ∷ []
 
+-- all commands
 abbrev pub readers : List (List ℕ × CommandReader)
 readers = access_readers ++ process_readers ++ range_readers ++ report_readers
 

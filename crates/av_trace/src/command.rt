@@ -282,7 +282,7 @@ fn report(line: &[u8]) -> Option<Command>
 
 /// The change of a range, or the report, that a line asks for.
 #[inline]
-fn of_ranges(line: &[u8]) -> Option<Command>
+fn range_change_or_report(line: &[u8]) -> Option<Command>
     ensures { result ≡ command_in (range_readers ++ report_readers) line.now }
 {
     if let Some(rest) = after(line, b"mmap") {
@@ -300,7 +300,7 @@ fn of_ranges(line: &[u8]) -> Option<Command>
 
 /// The command on a process or a range, or the report, that a line asks for.
 #[inline]
-fn of_processes(line: &[u8]) -> Option<Command>
+fn change_or_report(line: &[u8]) -> Option<Command>
     ensures { result ≡ command_in (process_readers ++ range_readers ++ report_readers)
         line.now }
 {
@@ -311,7 +311,7 @@ fn of_processes(line: &[u8]) -> Option<Command>
     } else if let Some(rest) = after(line, b"exit") {
         exit(rest)
     } else {
-        of_ranges(line)
+        range_change_or_report(line)
     }
 }
 
@@ -330,6 +330,6 @@ pub fn whole_command(
     } else if let Some(rest) = after(line, b"read") {
         Ok(read(rest))
     } else {
-        Ok(of_processes(line))
+        Ok(change_or_report(line))
     }
 }

@@ -7,7 +7,7 @@ use av_text::number::address;
 use av_text::word::after;
 
 /// What `mremap` may do with the pages.
-#[derive(Clone, Copy, Drop, Debug, PartialEq, Eq)]
+#[derive(Clone, Copy, Drop)]
 pub enum Mode {
     /// They stay where they are.
     Plain,

@@ -15,7 +15,7 @@ use std::alloc::{AllocError, Global};
 use std::marker::Model;
 
 /// Why `reclaim` kept a frame. (No command gives it yet.)
-#[derive(Clone, Copy, Drop, Debug, PartialEq, Eq)]
+#[derive(Clone, Copy, Drop)]
 pub enum Cause {
     Referenced,
     Writeback,
@@ -27,7 +27,7 @@ pub enum Cause {
 ///
 /// Today's commands give `Zeroed` and `New` alone. The others are declared ahead of the commands
 /// that give them: fork, swap and reclaim.
-#[derive(Clone, Copy, Drop, Debug, PartialEq, Eq)]
+#[derive(Clone, Copy, Drop)]
 pub enum Note {
     Zeroed {
         process: u16,

@@ -1,6 +1,6 @@
 //! What a command is answered: one answer, and then notes of what happened or the rows of a report.
 
-ghost use Rattle.std.specs.Prelude.{◌≡◌, ◌∷◌, take};
+ghost use Rattle.std.specs.Prelude.{◌≡◌, ◌∷◌};
 ghost use Rattle.std.specs.List.{flat_map};
 ghost use Rattle.std.specs.Fmt.{decimal as digits_of};
 ghost use Rattle.av_trace.specs.Note.{slot_text};
@@ -42,7 +42,7 @@ pub struct OutOf {
 }
 
 /// The numbers of `stat`.
-#[derive(Clone, Copy, Drop, Debug, PartialEq, Eq)]
+#[derive(Clone, Copy, Drop)]
 pub struct Totals {
     pub frames: u64,
     pub free: u64,
@@ -177,12 +177,26 @@ fn add_shown(text: &mut Bytes, shown: &[u8]) -> Result<(), AllocError>
     }
 }
 
+/// Adds labels with their numbers.
+fn add_labels(text: &mut Bytes, labels: &[(&[u8], u64)]) -> Result<(), AllocError>
+    ensures { Adds result text.old text.new
+        (flat_map (λ x. field (labelled_text x.0.now x.1)) labels.now) }
+{
+    for &(label, n) in labels {
+        add_labelled(text, label, n)?;
+    }
+    Ok(())
+}
+
 fn add_out(text: &mut Bytes, out: OutOf) -> Result<(), AllocError>
     ensures { Adds result text.old text.new (flat_map field (out_words out)) }
 {
-    add_labelled(text, b"pinned=", u64::from(out.pinned))?;
-    add_labelled(text, b"noslot=", u64::from(out.noslot))?;
-    add_labelled(text, b"fault=", u64::from(out.fault))
+    let labels: [(&[u8], u64); 3] = [
+        (b"pinned=", u64::from(out.pinned)),
+        (b"noslot=", u64::from(out.noslot)),
+        (b"fault=", u64::from(out.fault)),
+    ];
+    add_labels(text, &labels)
 }
 
 fn add_cached_slot(text: &mut Bytes, cached: Option<Slot>) -> Result<(), AllocError>
@@ -234,25 +248,21 @@ fn no_frame_line(text: &mut Bytes, out: OutOf) -> Result<(), AllocError>
     add_out(text, out)
 }
 
-/// The numbers of frames, which come first.
-fn add_frame_totals(text: &mut Bytes, totals: &Totals) -> Result<(), AllocError>
-    ensures { Adds result text.old text.new (flat_map field (take 5 (total_words totals.now))) }
-{
-    add_labelled(text, b"frames=", totals.frames)?;
-    add_labelled(text, b"free=", totals.free)?;
-    add_labelled(text, b"active=", totals.active)?;
-    add_labelled(text, b"inactive=", totals.inactive)?;
-    add_labelled(text, b"flight=", totals.flight)
-}
-
 fn total_line(text: &mut Bytes, totals: &Totals) -> Result<(), AllocError>
     ensures { Adds result text.old text.new (line_of_answer (Answer.Counted totals.now)) }
 {
     text.append(b"stat")?;
-    add_frame_totals(text, totals)?;
-    add_labelled(text, b"slots=", totals.slots)?;
-    add_labelled(text, b"freeslots=", totals.free_slots)?;
-    add_labelled(text, b"procs=", totals.processes)
+    let labels: [(&[u8], u64); 8] = [
+        (b"frames=", totals.frames),
+        (b"free=", totals.free),
+        (b"active=", totals.active),
+        (b"inactive=", totals.inactive),
+        (b"flight=", totals.flight),
+        (b"slots=", totals.slots),
+        (b"freeslots=", totals.free_slots),
+        (b"procs=", totals.processes),
+    ];
+    add_labels(text, &labels)
 }
 
 fn walk_line(text: &mut Bytes, frame: u32, maps: u64) -> Result<(), AllocError>

@@ -7,22 +7,26 @@ use Rattle.av_tests.proofs.RmapLaws.{on_ok, three_apart, three_covered, two_at_m
 use Rattle.av_tests.proofs.rmap.walk_shared.Goals as goal
 
 pub ask-requires-clause-apart : goal.ask-requires-clause-apart
-ask-requires-clause-apart g c = let l = c.in_ok-linked.linked in
-    three_apart (area_of l.areas) (family l.anons) (spans_of l.anons) (entry_at c.in_ok-tables.tables) l.parent l.child l.other
-    c.in_ok-linked.ensures.areas c.in_ok-linked.ensures.order c.in_ok-tables.ensures
+ask-requires-clause-apart g c = let ids = c.in_ok-_ids._ids in
+    three_apart (area_of c.link_three.new.areas) (family c.link_three.new.anons) (spans_of c.link_three.new.anons)
+    (entry_at c.share_frame.new.tables) ids.0 ids.1 ids.2
+    c.in_ok-_ids.ensures.areas c.in_ok-_ids.ensures.order c.in_ok-share_frame.ensures
 
 pub ask-requires-clause-covered : goal.ask-requires-clause-covered
-ask-requires-clause-covered g c = let l = c.in_ok-linked.linked in
-    three_covered (area_of l.areas) (family l.anons) (spans_of l.anons) (entry_at c.in_ok-tables.tables) l.parent l.child l.other
-    c.in_ok-linked.ensures.areas c.in_ok-linked.ensures.order c.in_ok-tables.ensures
+ask-requires-clause-covered g c = let ids = c.in_ok-_ids._ids in
+    three_covered (area_of c.link_three.new.areas) (family c.link_three.new.anons) (spans_of c.link_three.new.anons)
+    (entry_at c.share_frame.new.tables) ids.0 ids.1 ids.2
+    c.in_ok-_ids.ensures.areas c.in_ok-_ids.ensures.order c.in_ok-share_frame.ensures
 
 pub ask-requires-clause-count : goal.ask-requires-clause-count
-ask-requires-clause-count g c = let l = c.in_ok-linked.linked in
-    two_at_most (area_of l.areas) (family l.anons) (spans_of l.anons) (entry_at c.in_ok-tables.tables) l.parent l.child l.other
-    c.in_ok-linked.ensures.areas c.in_ok-linked.ensures.order c.in_ok-tables.ensures
+ask-requires-clause-count g c = let ids = c.in_ok-_ids._ids in
+    two_at_most (area_of c.link_three.new.areas) (family c.link_three.new.anons) (spans_of c.link_three.new.anons)
+    (entry_at c.share_frame.new.tables) ids.0 ids.1 ids.2
+    c.in_ok-_ids.ensures.areas c.in_ok-_ids.ensures.order c.in_ok-share_frame.ensures
 
 pub returns : goal.returns
-returns g c = let l = c.in_ok-linked.linked in
-    let looks = two_looks (area_of l.areas) (family l.anons) (spans_of l.anons) (entry_at c.in_ok-tables.tables) l.parent l.child l.other
-    c.in_ok-linked.ensures.areas c.in_ok-linked.ensures.order c.in_ok-tables.ensures c.in_ok-linked.ensures.users in
+returns g c = let ids = c.in_ok-_ids._ids in
+    let looks = two_looks (area_of c.link_three.new.areas) (family c.link_three.new.anons) (spans_of c.link_three.new.anons)
+    (entry_at c.share_frame.new.tables) ids.0 ids.1 ids.2
+    c.in_ok-_ids.ensures.areas c.in_ok-_ids.ensures.order c.in_ok-share_frame.ensures c.in_ok-_ids.ensures.users in
     on_ok c.ask.result (λ counted. counted ∙ ap (λ n. c.args.steps.now + n) looks) c.ask.ensures.counted
