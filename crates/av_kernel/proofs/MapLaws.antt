@@ -50,7 +50,7 @@ use Rattle.av_plain.proofs.Zap.{entry-range}
 use Rattle.av_reclaim.specs.declared.mem.Mem.{Mem}
 use Rattle.av_spaces.specs.Spaces.{AllSpaces, Spaces, areas_of, is_taken, pages_of as areas_on}
 use Rattle.av_plain.proofs.Transcript.{is_fork, next-plain}
-use Rattle.av_kernel.specs.Map.{set_on, HasAreas, HasProts, HomesStay, AreUnmapped}
+use Rattle.av_kernel.specs.Map.{set_on, GetsAreas, GetsProts, HomesStay, AreUnmapped}
 use Rattle.av_reclaim.specs.Mem.{ranges_of, setting, view, count, Keeps, IsSteady, HasLedger}
 use Rattle.av_reclaim.specs.Zap.{HasZapped}
 use Rattle.av_kernel.specs.Place.{protect_tests, IsProcess, IsPlaced, AreToUnmap}
@@ -73,9 +73,9 @@ suits k steady p n page place placed =
     suited k.spaces.processes p (pages steady.0.world p) same n page place (placed (pages steady.0.world p) same)
 
 -- the same pages change twice
-pub twice_changed : (s t u : Spaces) (p page n : ℕ) (x y : Option Prot) → HasProts s t p (set_on page n x (prot_of (ranges_of s p))) →
-    HasProts t u p (set_on page n y (prot_of (ranges_of t p)))
-    → HasProts s u p (set_on page n y (prot_of (ranges_of s p)))
+pub twice_changed : (s t u : Spaces) (p page n : ℕ) (x y : Option Prot) → GetsProts s t p (set_on page n x (prot_of (ranges_of s p))) →
+    GetsProts t u p (set_on page n y (prot_of (ranges_of t p)))
+    → GetsProts s u p (set_on page n y (prot_of (ranges_of s p)))
 twice_changed s t u p page n x y first second = record {
   others = λ q other. second.others q other ∙ first.others q other;
   alive = second.alive;
@@ -89,8 +89,8 @@ twice_changed s t u p page n x y first second = record {
     by o false e = first.pages o ∙ ap (λ b. cond b x (prot_of (ranges_of s p) o)) e
 
 -- the areas of the same process change twice
-twice_placed : (s t u : Spaces) (p : ℕ) (change : Pages → Pages) (on : Pages) → HasAreas s t p on → HasAreas t u p (change (areas_on t p)) →
-    HasAreas s u p (change on)
+twice_placed : (s t u : Spaces) (p : ℕ) (change : Pages → Pages) (on : Pages) → GetsAreas s t p on → GetsAreas t u p (change (areas_on t p)) →
+    GetsAreas s u p (change on)
 twice_placed s t u p change on first second q page = second q page ∙ by (q == p) refl
   where
     itself : (p : ℕ) → (p == p) ≡ true
@@ -104,7 +104,7 @@ twice_placed s t u p change on first second q page = second q page ∙ by (q == 
     by false e = first q page ∙ ap (λ b. (cond b on (areas_on s q)) page) e
 
 -- areas that are these are those, too
-re_areas : (s t : Spaces) (p : ℕ) (on on' : Pages) → ((page : ℕ) → on page ≡ on' page) → HasAreas s t p on → HasAreas s t p on'
+re_areas : (s t : Spaces) (p : ℕ) (on on' : Pages) → ((page : ℕ) → on page ≡ on' page) → GetsAreas s t p on → GetsAreas s t p on'
 re_areas s t p on on' same h q page = h q page ∙ by (q == p)
   where
     by : (b : Bool) → (cond b on (areas_on s q)) page ≡ (cond b on' (areas_on s q)) page
@@ -112,7 +112,7 @@ re_areas s t p on on' same h q page = h q page ∙ by (q == p)
     by false = refl
 
 -- the areas of a process that stay are its own
-unplaced : (s : Spaces) (p : ℕ) → HasAreas s s p (areas_on s p)
+unplaced : (s : Spaces) (p : ℕ) → GetsAreas s s p (areas_on s p)
 unplaced s p q page = by (q == p) refl
   where
     by : (b : Bool) → (q == p) ≡ b → areas_on s q page ≡ (cond b (areas_on s p) (areas_on s q)) page
@@ -121,7 +121,7 @@ unplaced s p q page = by (q == p) refl
 
 -- what the kernel's areas become, those of the state do
 areas_so : (old new : Mem) (s : State) (p : ℕ) (change : Pages → Pages) → Keeps old s →
-    HasAreas old.spaces.processes new.spaces.processes p (change (areas_on old.spaces.processes p)) →
+    GetsAreas old.spaces.processes new.spaces.processes p (change (areas_on old.spaces.processes p)) →
     AreasAre (view new) (with_at p (change (s.areas p)) s.areas)
 areas_so old new s p change keeps h q page = h q page ∙ (λ i. with_at p (change (λ o. keeps.stands.areas p o i)) (λ r o. keeps.stands.areas r o i) q page)
 
@@ -139,16 +139,16 @@ both_ok (Err e) f h g = tt
 pub are_unmapped : (old mid : Mem) (spaces : AllSpaces) (anons : AnonSet) (p page n : ℕ) (l : Ledger) →
     HasZapped old mid l (zaps_of l (keys_in l p page (page + n - page))) → mid.spaces ≡ old.spaces → mid.anons ≡ old.anons → has mid.tables ≡ has old.tables →
     (view mid).bytes ≡ (view old).bytes → (view mid).homes ≡ (view old).homes
-    → HasProts mid.spaces.processes spaces.processes p (set_on page n None (prot_of (ranges_of mid.spaces.processes p))) →
-    HasAreas mid.spaces.processes spaces.processes p (after_unmap page (page + n) (areas_on mid.spaces.processes p))
+    → GetsProts mid.spaces.processes spaces.processes p (set_on page n None (prot_of (ranges_of mid.spaces.processes p))) →
+    GetsAreas mid.spaces.processes spaces.processes p (after_unmap page (page + n) (areas_on mid.spaces.processes p))
     → AnonsStay mid.spaces mid.anons spaces anons → HomesStay mid.spaces.processes spaces.processes p page n
     → AreUnmapped old (moved_on mid mid.tables spaces anons) p page n (after_unmap page (page + n) (areas_on old.spaces.processes p)) l
     (zaps_of l (keys_in l p page n))
 are_unmapped old mid spaces anons p page n l t same same_anons processes bytes homes gone areas anons_stay stay = record {
   taken = subst (λ x. HasZapped old (moved_on mid mid.tables spaces anons) l (zaps_of l (keys_in l p page x))) (let size : page + n - page ≡ n = omega arith in
       size) (record { stands = stays_orderly mid mid.tables spaces anons _ refl t.stands; notes = t.notes; free = t.free });
-  spaces = subst (λ (x : AllSpaces). HasProts x.processes spaces.processes p (set_on page n None (prot_of (ranges_of x.processes p)))) same gone;
-  areas = subst (λ (x : AllSpaces). HasAreas x.processes spaces.processes p (after_unmap page (page + n) (areas_on x.processes p))) same areas;
+  spaces = subst (λ (x : AllSpaces). GetsProts x.processes spaces.processes p (set_on page n None (prot_of (ranges_of x.processes p)))) same gone;
+  areas = subst (λ (x : AllSpaces). GetsAreas x.processes spaces.processes p (after_unmap page (page + n) (areas_on x.processes p))) same areas;
   anons = subst (λ (x : AllSpaces). AnonsStay x old.anons spaces anons) same (subst (λ a. AnonsStay mid.spaces a spaces anons) same_anons anons_stay);
   processes = processes;
   bytes = bytes;
@@ -219,7 +219,7 @@ module _ (old new : Mem) (s : State) (command : Command) (reply : Reply) (p page
     (keeps : Keeps old s) (alive : is_some (ranges_of old.spaces.processes p) ≡ true) (same_count : count new ≡ count old)
     (taken : HasZapped old new s.ledger events) (entries : (q at : ℕ) →
     entry (after_all s.ledger events) (q, at) ≡ cond (q == p && within page n at) None (entry s.ledger (q, at)))
-    (blank : Holds o (λ _. 0)) (spaces : HasProts old.spaces.processes new.spaces.processes p
+    (blank : Holds o (λ _. 0)) (spaces : GetsProts old.spaces.processes new.spaces.processes p
     (set_on page n (option_map (λ (x : Page). x.prot) o) (prot_of (ranges_of old.spaces.processes p))))
     (areas : AreasAre (view new) (with_at p on s.areas)) (stay : AnonsStay old.spaces old.anons new.spaces new.anons)
     (processes : has new.tables ≡ has old.tables) (bytes : (view new).bytes ≡ (view old).bytes)
@@ -420,8 +420,8 @@ module _ (old : Mem) (s : State) (p len : ℕ) (prot : Prot) (place : Place) (ke
       (clear : AreToUnmap (is_taken old.spaces.processes p) page (pages_of len) place)
       (same_count : count mid ≡ count old) (unmapped : AreUnmapped old mid p page (pages_of len)
       (with_room (pages_of len) place (areas_on old.spaces.processes p)) s.ledger (zaps_for_place s.ledger p (pages_of len) place))
-      (given : HasProts mid.spaces.processes spaces.processes p (set_on page (pages_of len) (Some prot) (prot_of (ranges_of mid.spaces.processes p))))
-      (areas : HasAreas mid.spaces.processes spaces.processes p (after_map (lengths mid.spaces.areas mid.anons) p page (page + pages_of len) prot
+      (given : GetsProts mid.spaces.processes spaces.processes p (set_on page (pages_of len) (Some prot) (prot_of (ranges_of mid.spaces.processes p))))
+      (areas : GetsAreas mid.spaces.processes spaces.processes p (after_map (lengths mid.spaces.areas mid.anons) p page (page + pages_of len) prot
       (areas_on mid.spaces.processes p)))
       (stay : AnonsStay mid.spaces mid.anons spaces anons) (given_homes : HomesStay mid.spaces.processes spaces.processes p page (pages_of len)) where
     alike : (q : ℕ) → after_map (lengths mid.spaces.areas mid.anons) p page (page + pages_of len) prot (areas_on mid.spaces.processes p) q ≡ after_map
@@ -463,9 +463,9 @@ module _ (old : Mem) (s : State) (p len : ℕ) (prot : Prot) (place : Place) (ke
 module _ (old : Mem) (spaces : AllSpaces) (anons : AnonSet) (s : State) (p a len reached : ℕ) (prot : Prot) (keeps : Keeps old s)
     (alive : is_some (ranges_of old.spaces.processes p) ≡ true) (passed : refusal ((not (is_on_page a), Einval) ∷ (wraps a len, Enomem) ∷ []) ≡ None)
     (reaches : GoesTo (is_taken old.spaces.processes p) (page_of a) (page_of a + pages_of len) reached)
-    (given : HasProts old.spaces.processes spaces.processes p (set_on (page_of a) (reached - page_of a) (Some prot)
+    (given : GetsProts old.spaces.processes spaces.processes p (set_on (page_of a) (reached - page_of a) (Some prot)
     (prot_of (ranges_of old.spaces.processes p))))
-    (areas : HasAreas old.spaces.processes spaces.processes p (pages_changed (lengths old.spaces.areas old.anons) (to_prot prot) (page_of a)
+    (areas : GetsAreas old.spaces.processes spaces.processes p (pages_changed (lengths old.spaces.areas old.anons) (to_prot prot) (page_of a)
     (reached - page_of a) (areas_on old.spaces.processes p)))
     (stay : AnonsStay old.spaces old.anons spaces anons) (homes : KeepsHomes (areas_on old.spaces.processes p) (areas_on spaces.processes p)) where
   mprotect-allowed : refusal (tests (setting (count old)) s.world s.ledger (Mprotect p a len prot)) ≡ None

@@ -21,7 +21,7 @@ use Rattle.av_plain.specs.Report.{range_of}
 use Rattle.av_reclaim.specs.Mem.{ranges_of}
 use Rattle.av_reclaim.proofs.MemLaws.{prot_on, alive_is, prots_are, all_apart}
 use Rattle.av_vma.proofs.Homes.{KeepsHomes, homes_changed, homes_mapped, homes_unmapped}
-use Rattle.av_kernel.specs.Map.{set_on, HasAreas, HasProts, HomesStay}
+use Rattle.av_kernel.specs.Map.{set_on, GetsAreas, GetsProts, HomesStay}
 use Rattle.av_kernel.proofs.StepLaws.{is_number, other_number}
 
 -- the protections of pages
@@ -112,7 +112,7 @@ prots_placed len p on from n prot new laid some low high free is page =
 -- ---- what the spaces promise, as protections
 
 has_prots : (s t : Spaces) (p : ℕ) (IsSo : Pages → Type 0) (prots : ℕ → Option Prot) → IsChanged s t p IsSo →
-    ((page : ℕ) → prots_on (pages_of t p) page ≡ prots page) → HasProts s t p prots
+    ((page : ℕ) → prots_on (pages_of t p) page ≡ prots page) → GetsProts s t p prots
 has_prots s t p IsSo prots h is = record {
   others = λ q other. ap (option_map (map range_of)) (h.others q other);
   alive = alive_is t p ∙ h.alive;
@@ -122,8 +122,8 @@ has_prots s t p IsSo prots h is = record {
 }
 
 -- and as areas
-pub has_areas : (s t : Spaces) (p : ℕ) (on : Pages) → IsChanged s t p (AreThese on) → HasAreas s t p on
-has_areas s t p on h q page = by (q == p) refl
+pub gets_areas : (s t : Spaces) (p : ℕ) (on : Pages) → IsChanged s t p (AreThese on) → GetsAreas s t p on
+gets_areas s t p on h q page = by (q == p) refl
   where
     by : (b : Bool) → (q == p) ≡ b → pages_of t q page ≡ (cond b on (pages_of s q)) page
     by true e = ap (λ n. pages_of t n page) (is_number q p e) ∙ h.pages page
@@ -134,13 +134,13 @@ as_ranges : (s : Spaces) (p from n page : ℕ) (prot : Option Prot) →
 as_ranges s p from n page prot = ap (cond (within from n page) prot) (sym (prots_are s p page))
 
 pub unmapped-prots : (s t : Spaces) (p from n : ℕ) → IsChanged s t p (AreThese (after_unmap from (from + n) (pages_of s p))) →
-    HasProts s t p (set_on from n None (prot_of (ranges_of s p)))
+    GetsProts s t p (set_on from n None (prot_of (ranges_of s p)))
 unmapped-prots s t p from n h = has_prots s t p (AreThese (after_unmap from (from + n) (pages_of s p))) (set_on from n None (prot_of (ranges_of s p))) h
     (λ page. prots_split (pages_of s p) from n (pages_of t p) (laid s p h.were_rising) h.pages page ∙ as_ranges s p from n page None)
 
 pub mapped-prots : (len : Lengths) (s t : Spaces) (p from n : ℕ) (prot : Prot) → 1 ≤ n → low_page ≤ from → from + n ≤ top_page →
     IsFree (is_taken s p) from (from + n)
-    → IsChanged s t p (AreThese (after_map len p from (from + n) prot (pages_of s p))) → HasProts s t p (set_on from n (Some prot) (prot_of (ranges_of s p)))
+    → IsChanged s t p (AreThese (after_map len p from (from + n) prot (pages_of s p))) → GetsProts s t p (set_on from n (Some prot) (prot_of (ranges_of s p)))
 mapped-prots len s t p from n prot some low high free h = has_prots s t p (AreThese (after_map len p from (from + n) prot (pages_of s p)))
     (set_on from n (Some prot) (prot_of (ranges_of s p))) h
     (λ page. prots_placed len p (pages_of s p) from n prot (pages_of t p) (laid s p h.were_rising) some low high free h.pages page
@@ -149,7 +149,7 @@ mapped-prots len s t p from n prot some low high free h = has_prots s t p (AreTh
 pub protected-prots : (len : Lengths) (s t : Spaces) (p from to past : ℕ) (prot : Prot) → GoesTo (is_taken s p) from to past →
     IsChanged s t p (AreThese (pages_changed len (to_prot prot) from (past - from) (pages_of s p))) →
     IsRemapped from past (to_prot prot) (pages_of s p) (pages_of t p)
-    → HasProts s t p (set_on from (past - from) (Some prot) (prot_of (ranges_of s p)))
+    → GetsProts s t p (set_on from (past - from) (Some prot) (prot_of (ranges_of s p)))
 protected-prots len s t p from to past prot reached h remap = has_prots s t p (AreThese (pages_changed len (to_prot prot) from (past - from) (pages_of s p)))
     (set_on from (past - from) (Some prot) (prot_of (ranges_of s p))) h
     (λ page. prots_protected (pages_of s p) from to past prot (pages_of t p) reached remap page ∙ as_ranges s p from (past - from) page (Some prot))

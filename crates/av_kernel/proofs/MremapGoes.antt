@@ -10,7 +10,7 @@ use Rattle.av_trace.specs.declared.reply.Answer.TheVariants.{MapAt}
 use Rattle.av_vma.specs.Mremap.{IsGrowth, IsMove}
 use Rattle.av_vma.specs.Pages.{AreLaid}
 use Rattle.av_spaces.specs.Spaces.{areas_of, is_taken, pages_of as areas_on}
-use Rattle.av_plain.specs.Areas.{chain_length}
+use Rattle.av_plain.specs.Areas.{HaveProtsOf, chain_length}
 use Rattle.av_plain.specs.Mremap.{MovesTo, after_mremap, leaves_old, prot_left, remap_events}
 use Rattle.av_plain.specs.Refusal.{mremap_tests, overflows, refusal}
 use Rattle.av_plain.specs.Transcript.{State}
@@ -21,10 +21,10 @@ use Rattle.av_reclaim.specs.Mem.{IsSteady, Keeps, count, setting}
 use Rattle.av_reclaim.specs.Zap.{KeepsRest}
 use Rattle.av_mremap.specs.Areas.{HasRemap}
 use Rattle.av_mremap.specs.Entries.{HasRemapped}
-use Rattle.av_kernel.specs.Mremap.{HasProtsOf, StaySmall}
+use Rattle.av_kernel.specs.Mremap.{StaySmall}
 use Rattle.av_kernel.specs.Step.{MemSteps}
 use Rattle.av_kernel.proofs.MremapLaws.{last_taken, may_grow, may_move, may_shrink, old_high, remaps, some_pages}
-use Rattle.av_kernel.proofs.MremapRefusals.{has_prots_of, tests_are}
+use Rattle.av_kernel.proofs.MremapRefusals.{have_prots_of, tests_are}
 use Rattle.av_kernel.proofs.StepLaws.{moved_on}
 
 -- what holds of two numbers holds of two that are equal
@@ -35,19 +35,19 @@ both_are P {n} {n'} {m} {m'} e f h = subst (λ x. P x m') e (subst (P n) f h)
 pub record Passes (old : Mem) (p a olen nlen : ℕ) (mode : Mode) : Type 0 where
   pub alive : is_some (areas_of old.spaces.processes p) ≡ true
   pub laid : AreLaid (areas_on old.spaces.processes p)
-  pub tests : (q : Process) → HasProtsOf old.spaces.processes p q → refusal (mremap_tests q a olen nlen mode) ≡ None
+  pub tests : (q : Process) → HaveProtsOf (areas_on old.spaces.processes p) q → refusal (mremap_tests q a olen nlen mode) ≡ None
 
 -- and has found room: n pages, by the one length, become m, by the other, from this page on
 pub record Goes (old : Mem) (p a olen nlen n m : ℕ) (mode : Mode) (to : ℕ) : Type 0 where
   pub passes : Passes old p a olen nlen mode
   pub as_old : n ≡ pages_of olen
   pub as_new : m ≡ pages_of nlen
-  pub goes : (q : Process) → HasProtsOf old.spaces.processes p q → MovesTo q (page_of a) n m mode (Some to)
+  pub goes : (q : Process) → HaveProtsOf (areas_on old.spaces.processes p) q → MovesTo q (page_of a) n m mode (Some to)
 
 module _ {old : Mem} {p a olen nlen : ℕ} {mode : Mode} (passes : Passes old p a olen nlen mode) where
   may_by : (s : State) → Keeps old s → MayRemap s.world p a olen nlen mode
   may_by s keeps = may-remap (setting (count old)) s.world s.ledger p a olen nlen mode
-      (tests_are old p a olen nlen mode passes.alive s keeps ∙ passes.tests (pages s.world p) (has_prots_of old s keeps p))
+      (tests_are old p a olen nlen mode passes.alive s keeps ∙ passes.tests (pages s.world p) (have_prots_of old s keeps p))
 
   -- before a place is sought, the new length has a page
   pub some_new : IsSteady old → 1 ≤ pages_of nlen
@@ -69,7 +69,7 @@ module _ {old : Mem} {p a olen nlen n m : ℕ} {mode : Mode} {to : ℕ} (go : Go
 
   goes_by : (s : State) → Keeps old s → MovesTo (pages s.world p) from (pages_of olen) (pages_of nlen) mode (Some to)
   goes_by s keeps = both_are (λ n m. MovesTo (pages s.world p) from n m mode (Some to)) go.as_old go.as_new
-      (go.goes (pages s.world p) (has_prots_of old s keeps p))
+      (go.goes (pages s.world p) (have_prots_of old s keeps p))
 
   module _ (steady : IsSteady old) where
     may_now : MayRemap steady.0.world p a olen nlen mode
@@ -134,4 +134,4 @@ module _ {old : Mem} {p a olen nlen n m : ℕ} {mode : Mode} {to : ℕ} (go : Go
       new (subst (λ g. HasRemapped g new s.ledger (remap_events s.ledger p from (pages_of olen) to (pages_of nlen))) same
       (both_are (λ n m. HasRemapped gone new s.ledger (remap_events s.ledger p from n to m)) go.as_old go.as_new done))
       (subst (λ g. KeepsRest g new) same rest)
-      (tests_are old p a olen nlen mode go.passes.alive s keeps ∙ go.passes.tests (pages s.world p) (has_prots_of old s keeps p))
+      (tests_are old p a olen nlen mode go.passes.alive s keeps ∙ go.passes.tests (pages s.world p) (have_prots_of old s keeps p))

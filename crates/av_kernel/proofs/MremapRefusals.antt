@@ -9,7 +9,8 @@ use Rattle.av_trace.specs.declared.mode.Mode.{Mode}
 use Rattle.av_trace.specs.declared.reply.Answer.TheVariants.{Refused}
 use Rattle.av_trace.specs.declared.reply.Errno.{Errno}
 use Rattle.av_trace.specs.declared.reply.Errno.TheVariants.{Enomem, Esrch}
-use Rattle.av_spaces.specs.Spaces.{areas_of}
+use Rattle.av_spaces.specs.Spaces.{areas_of, pages_of as areas_on}
+use Rattle.av_plain.specs.Areas.{HaveProtsOf}
 use Rattle.av_plain.specs.Mremap.{MovesTo}
 use Rattle.av_plain.specs.Refusal.{Refuses, mremap_tests, refusal, tests}
 use Rattle.av_plain.specs.Step.{Follows}
@@ -19,13 +20,13 @@ use Rattle.av_reclaim.specs.declared.mem.Mem.{Mem}
 use Rattle.av_reclaim.specs.Mem.{Keeps, count, setting}
 use Rattle.av_reclaim.proofs.MemLaws.{lives_is, prots_are}
 use Rattle.av_kernel.specs.declared.refusal.Refusal.TheVariants as refusals
-use Rattle.av_kernel.specs.Mremap.{HasProtsOf, IsTarget}
+use Rattle.av_kernel.specs.Mremap.{IsTarget}
 use Rattle.av_kernel.specs.Step.{Does, MemSteps}
 use Rattle.av_kernel.proofs.StepLaws.{areas_kept, dead_first, refuses}
 
 -- the pages of a process have the protections of its areas
-pub has_prots_of : (old : Mem) (s : State) → Keeps old s → (p : ℕ) → HasProtsOf old.spaces.processes p (pages s.world p)
-has_prots_of old s keeps p page = sym (prots_are old.spaces.processes p page) ∙ keeps.stands.parts.areas.covers p page
+pub have_prots_of : (old : Mem) (s : State) → Keeps old s → (p : ℕ) → HaveProtsOf (areas_on old.spaces.processes p) (pages s.world p)
+have_prots_of old s keeps p page = sym (prots_are old.spaces.processes p page) ∙ keeps.stands.parts.areas.covers p page
 
 module _ (old : Mem) (p a olen nlen : ℕ) (mode : Mode) where
   abbrev command : Command
@@ -44,9 +45,9 @@ module _ (old : Mem) (p a olen nlen : ℕ) (mode : Mode) where
 
     -- one of them refuses it
     pub refused_does : (error : Errno)
-        → ((q : Process) → HasProtsOf old.spaces.processes p q → refusal (mremap_tests q a olen nlen mode) ≡ Some error)
+        → ((q : Process) → HaveProtsOf (areas_on old.spaces.processes p) q → refusal (mremap_tests q a olen nlen mode) ≡ Some error)
         → Does old old command (Err (refusals.Refused error))
-    refused_does error is = refuses old command error (λ s keeps. tests_are s keeps ∙ is (pages s.world p) (has_prots_of old s keeps p))
+    refused_does error is = refuses old command error (λ s keeps. tests_are s keeps ∙ is (pages s.world p) (have_prots_of old s keeps p))
 
     -- none does, but there is no room
     no_room : (s : State) → Keeps old s → refusal (mremap_tests (pages s.world p) a olen nlen mode) ≡ None
@@ -70,12 +71,12 @@ module _ (old : Mem) (p a olen nlen : ℕ) (mode : Mode) where
       keeps = keeps;
     }
 
-    pub no_room_does : (error : Errno) → ((q : Process) → HasProtsOf old.spaces.processes p q → refusal (mremap_tests q a olen nlen mode) ≡ None)
-        → ((q : Process) → HasProtsOf old.spaces.processes p q → IsTarget q (page_of a) (pages_of olen) (pages_of nlen) mode (Err error))
+    pub no_room_does : (error : Errno) → ((q : Process) → HaveProtsOf (areas_on old.spaces.processes p) q → refusal (mremap_tests q a olen nlen mode) ≡ None)
+        → ((q : Process) → HaveProtsOf (areas_on old.spaces.processes p) q → IsTarget q (page_of a) (pages_of olen) (pages_of nlen) mode (Err error))
         → Does old old command (Err (refusals.Refused error))
     no_room_does error passed none = record {
       step = λ s keeps.
-          let same = has_prots_of old s keeps p in
+          let same = have_prots_of old s keeps p in
           let room = none (pages s.world p) same in
           subst (λ e. MemSteps old old s command (answer_only (Refused e))) (sym room.1)
           (no_room s keeps (passed (pages s.world p) same) room.0);

@@ -20,10 +20,11 @@ use Rattle.av_vma.proofs.Laid.{has_from, has_parts}
 use Rattle.av_vma.proofs.Prots.{area_prot, prots}
 use Rattle.av_vmatree.specs.Spans.{IsFree, IsMet}
 use Rattle.av_spaces.specs.Spaces.{Spaces, is_taken, pages_of}
+use Rattle.av_plain.specs.Areas.{HaveProtsOf}
 use Rattle.av_plain.specs.Mremap.{has_prot, have_one_prot, have_prot, may_stay, prot_at}
 use Rattle.av_plain.specs.World.{Page, Process, is_mapped, meets}
 use Rattle.av_plain.proofs.Mremap.Legal.{have_prot-each}
-use Rattle.av_kernel.specs.Mremap.{HasProtsOf, IsTarget}
+use Rattle.av_kernel.specs.Mremap.{IsTarget}
 use Rattle.av_kernel.proofs.PlaceLaws.{free_meets, met_meets}
 
 same_itself : (prot : Prot) → same_prot prot prot ≡ true
@@ -59,7 +60,7 @@ have_prot-no q prot from n o low high lacks = by (have_prot q prot from n) refl
     by false e = refl
 
 -- the pages of a process are mapped exactly where they have a protection
-pub mapped_as : (s : Spaces) (p : ℕ) (q : Process) → HasProtsOf s p q → (page : ℕ) → is_taken s p page ≡ is_mapped q page
+pub mapped_as : (s : Spaces) (p : ℕ) (q : Process) → HaveProtsOf (pages_of s p) q → (page : ℕ) → is_taken s p page ≡ is_mapped q page
 mapped_as s p q same page = by (pages_of s p page) (q page) (same page)
   where
     by : (o : Option Area) (x : Option Page) → option_map (λ (area : Area). area.prot) o ≡ option_map (λ (x : Page). x.prot) x → is_some o ≡ is_some x
@@ -69,7 +70,7 @@ mapped_as s p q same page = by (pages_of s p page) (q page) (same page)
     by (Some area) (Some x) e = refl
 
 -- where the first page is mapped
-module _ (s : Spaces) (p : ℕ) (q : Process) (from n : ℕ) (area : Area) (same : HasProtsOf s p q) (there : pages_of s p from ≡ Some area) where
+module _ (s : Spaces) (p : ℕ) (q : Process) (from n : ℕ) (area : Area) (same : HaveProtsOf (pages_of s p) q) (there : pages_of s p from ≡ Some area) where
   first_is : Some area.prot ≡ prot_at q from
   first_is = ap (option_map (λ (area : Area). area.prot)) (sym there) ∙ same from
 
@@ -86,7 +87,8 @@ module _ (s : Spaces) (p : ℕ) (q : Process) (from n : ℕ) (area : Area) (same
 some_is : {a b : Prot} → Some a ≡ Some b → a ≡ b
 some_is e = cc
 
-pub not_there : (s : Spaces) (p : ℕ) (q : Process) (page : ℕ) (prot : Prot) → HasProtsOf s p q → None ≡ pages_of s p page → prot_at q page ≡ Some prot → ⊥
+pub not_there : (s : Spaces) (p : ℕ) (q : Process) (page : ℕ) (prot : Prot) → HaveProtsOf (pages_of s p) q →
+    None ≡ pages_of s p page → prot_at q page ≡ Some prot → ⊥
 not_there s p q page prot same none is = clash (ap (option_map (λ (area : Area). area.prot)) none ∙ same page ∙ is)
   where
     clash : None ≡ Some prot → ⊥
@@ -103,7 +105,7 @@ equal_same a b = by (beq a.read b.read) (beq a.write b.write) (beq a.execute b.e
     by true y z = refl
     by false y z = refl
 
-pub not_with : (s : Spaces) (p : ℕ) (q : Process) (page : ℕ) (area : Area) (prot : Prot) → HasProtsOf s p q → Some area ≡ pages_of s p page
+pub not_with : (s : Spaces) (p : ℕ) (q : Process) (page : ℕ) (area : Area) (prot : Prot) → HaveProtsOf (pages_of s p) q → Some area ≡ pages_of s p page
     → not (equal_prots area.prot prot) ≡ true → prot_at q page ≡ Some prot → ⊥
 not_with s p q page area prot same there other is =
     let both : area.prot ≡ prot = some_is (ap (option_map (λ (area : Area). area.prot)) there ∙ same page ∙ is) in
@@ -124,7 +126,7 @@ covers on laid area page is o low high =
 
 -- ---- where the pages go
 
-module _ (s : Spaces) (p : ℕ) (q : Process) (same : HasProtsOf s p q) (from n m : ℕ) where
+module _ (s : Spaces) (p : ℕ) (q : Process) (same : HaveProtsOf (pages_of s p) q) (from n m : ℕ) where
   taken_is : (page : ℕ) → is_taken s p page ≡ is_mapped q page
   taken_is = mapped_as s p q same
 

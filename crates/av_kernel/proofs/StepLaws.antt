@@ -42,7 +42,7 @@ use Rattle.av_pagetable.specs.declared.pte.Pte.{Pte}
 use Rattle.av_reclaim.specs.declared.mem.Mem.{Mem}
 use Rattle.av_spaces.specs.Spaces.{AllSpaces, areas_of, pages_of as areas_on}
 use Rattle.av_plain.proofs.Transcript.{is_fork, next-plain}
-use Rattle.av_kernel.specs.Map.{HasProts}
+use Rattle.av_kernel.specs.Map.{GetsProts}
 use Rattle.av_reclaim.specs.Mem.{anon_vma, ranges_of, setting, plain, view, count, HasTables, Keeps, HasLedger}
 use Rattle.av_kernel.specs.declared.refusal.Refusal.{Refusal}
 use Rattle.av_kernel.specs.declared.refusal.Refusal.TheVariants as refusals
@@ -287,7 +287,7 @@ module _ (old new : Mem) (s : State) (command : Command) (reply : Reply) (p : �
 -- the areas of a process that lives have changed
 module _ (old new : Mem) (s : State) (p : ℕ) (now : Process) (prots : ℕ → Option Prot) (keeps : Keeps old s)
     (alive : is_some (ranges_of old.spaces.processes p) ≡ true)
-    (spaces : HasProts old.spaces.processes new.spaces.processes p prots) (is : (page : ℕ) → prots page ≡ option_map (λ (x : Page). x.prot) (now page)) where
+    (spaces : GetsProts old.spaces.processes new.spaces.processes p prots) (is : (page : ℕ) → prots page ≡ option_map (λ (x : Page). x.prot) (now page)) where
   lives_as : (q : ℕ) → is_some (ranges_of new.spaces.processes q) ≡ is_some (ranges_of old.spaces.processes q)
   lives_as q = by (q == p) refl
     where

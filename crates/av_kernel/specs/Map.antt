@@ -18,19 +18,19 @@ use Rattle.av_reclaim.specs.Zap.{HasZapped}
 abbrev pub set_on : ℕ → ℕ → Option Prot → (ℕ → Option Prot) → ℕ → Option Prot
 set_on from n prot prots page = if within from n page then prot else prots page
 
--- the pages of p have these protections now, and those of the others are as they were. (So they are
--- after a change, `IsChanged`, whose areas rise; but also where nothing was done, and then it isn't
--- told that areas rise.)
-pub record HasProts (old new : Spaces) (p : ℕ) (prots : ℕ → Option Prot) : Type 0 where
+-- p gets these protections: its pages have them now, and those of the others are as they were. (So
+-- they are after a change, `IsChanged`, whose areas rise; but also where nothing was done, and then
+-- it isn't told that areas rise.)
+pub record GetsProts (old new : Spaces) (p : ℕ) (prots : ℕ → Option Prot) : Type 0 where
   pub others : (q : ℕ) → q ≢ p → ranges_of new q ≡ ranges_of old q
   pub alive : is_some (ranges_of new p) ≡ true
   pub pages : (page : ℕ) → prot_of (ranges_of new p) page ≡ prots page
   pub number : length new ≡ length old
   pub apart : (q : ℕ) → IfSome (ranges_of new q) AreApart
 
--- the pages of p are of these areas now, and those of the others are as they were
-abbrev pub HasAreas : Spaces → Spaces → ℕ → Pages → Type 0
-HasAreas old new p on = (q page : ℕ) → pages_of new q page ≡ with_at p on (pages_of old) q page
+-- p gets these areas: its pages are of them now, and those of the others are as they were
+abbrev pub GetsAreas : Spaces → Spaces → ℕ → Pages → Type 0
+GetsAreas old new p on = (q page : ℕ) → pages_of new q page ≡ with_at p on (pages_of old) q page
 
 -- a page of p that is not among the n from one on keeps the home that frames have from it
 abbrev pub HomesStay : Spaces → Spaces → ℕ → ℕ → ℕ → Type 0
@@ -42,9 +42,9 @@ HomesStay old new p from n = (page : ℕ) (home : ℕ × ℕ) → within from n 
 pub record AreUnmapped (old new : Mem) (p page n : ℕ) (on : Pages) (l : Ledger)
     (events : List Event) : Type 0 where
   pub taken : HasZapped old new l events
-  pub spaces : HasProts old.spaces.processes new.spaces.processes p
+  pub spaces : GetsProts old.spaces.processes new.spaces.processes p
       (set_on page n None (prot_of (ranges_of old.spaces.processes p)))
-  pub areas : HasAreas old.spaces.processes new.spaces.processes p on
+  pub areas : GetsAreas old.spaces.processes new.spaces.processes p on
   pub anons : AnonsStay old.spaces old.anons new.spaces new.anons
   pub processes : has new.tables ≡ has old.tables
   pub bytes : (view new).bytes ≡ (view old).bytes

@@ -7,13 +7,8 @@ use Rattle.av_trace.specs.declared.reply.Errno.TheVariants.{Enomem}
 use Rattle.av_vma.specs.Join.{index_of}
 use Rattle.av_vma.specs.declared.area.Area.{Area}
 use Rattle.av_spaces.specs.Spaces.{Spaces, pages_of}
-use Rattle.av_plain.specs.Areas.{HaveProtsOf}
 use Rattle.av_plain.specs.Mremap.{MovesTo}
 use Rattle.av_plain.specs.World.{Process}
-
--- the areas of p are on the pages of q, with their protections
-abbrev pub HasProtsOf : Spaces → ℕ → Process → Type 0
-HasProtsOf s p q = HaveProtsOf (pages_of s p) q
 
 -- n pages become m from this page on, or there is no room
 abbrev pub IsTarget : Process → ℕ → ℕ → ℕ → Mode → Result ℕ Errno → Type 0

@@ -3,8 +3,9 @@
 ghost use Rattle.std.specs.Prelude.{◌≡◌, ℕ, ◌+◌, ◌-◌, ◌^◌, ◌<◌, ◌≤◌, ◌==◌, true, false, not, is_some, if◌then◌else◌, None, Some, MatchResult, OnErr, OnOk};
 ghost use Rattle.av_base.specs.Limits.{top_page};
 ghost use Rattle.av_base.specs.Page.{is_on_page};
-ghost use Rattle.av_kernel.specs.Mremap.{GrowTooFar, HasProtsOf, IsTarget, StaySmall};
+ghost use Rattle.av_kernel.specs.Mremap.{GrowTooFar, IsTarget, StaySmall};
 ghost use Rattle.av_kernel.specs.Step.{Does, reply_in};
+ghost use Rattle.av_plain.specs.Areas.{HaveProtsOf};
 ghost use Rattle.av_plain.specs.Mremap as plain;
 ghost use Rattle.av_plain.specs.Refusal as refusals;
 ghost use Rattle.av_plain.specs.Refusal.{mremap_tests, refusal};
@@ -67,7 +68,7 @@ fn check_remap(
     new_len: u64,
     mode: Mode,
 ) -> Result<(), Errno>
-    ensures tests { (q : Process) → HasProtsOf spaces.now.processes process q →
+    ensures tests { (q : Process) → HaveProtsOf (pages_of spaces.now.processes process) q →
         MatchResult result
         (λ _. refusal (mremap_tests q address old_len new_len mode) ≡ None)
         (λ error. refusal (mremap_tests q address old_len new_len mode) ≡ Some error) }
@@ -181,7 +182,7 @@ fn is_below_low(mode: Mode) -> bool
 /// of them, with one protection.
 fn has_pages(spaces: &Spaces, process: u16, from: u64, pages: u64, in_place: bool) -> bool
     requires few { from + pages < 2 ^ 63 }
-    ensures mapped { (q : Process) → HasProtsOf spaces.now.processes process q → result
+    ensures mapped { (q : Process) → HaveProtsOf (pages_of spaces.now.processes process) q → result
         ≡ (if in_place then is_mapped q from else plain.have_one_prot q from pages) }
     ensures laid { AreLaid (pages_of spaces.now.processes process) }
 {
@@ -198,7 +199,7 @@ fn has_pages(spaces: &Spaces, process: u16, from: u64, pages: u64, in_place: boo
 fn have_prot(spaces: &Spaces, process: u16, prot: Prot, from: u64, past: u64) -> bool
     requires forward { from ≤ past }
     requires few { past < 2 ^ 63 }
-    ensures { (q : Process) → HasProtsOf spaces.now.processes process q → result
+    ensures { (q : Process) → HaveProtsOf (pages_of spaces.now.processes process) q → result
         ≡ plain.have_prot q prot from (past - from) }
 {
     let mut page = from;
@@ -227,7 +228,7 @@ fn find_target(
     requires some { 1 ≤ new_pages }
     requires few { from + pages < 2 ^ 63 }
     requires new_few { new_pages < 2 ^ 62 }
-    ensures { (q : Process) → HasProtsOf spaces.now.processes process q →
+    ensures { (q : Process) → HaveProtsOf (pages_of spaces.now.processes process) q →
         IsTarget q from pages new_pages mode result }
 {
     match mode {
@@ -253,7 +254,7 @@ fn may_stay(spaces: &Spaces, process: u16, from: u64, pages: u64, new_pages: u64
     requires lives { is_some (areas_of spaces.now.processes process) ≡ true }
     requires few { from + pages < 2 ^ 63 }
     requires new_few { new_pages < 2 ^ 62 }
-    ensures { (q : Process) → HasProtsOf spaces.now.processes process q → result
+    ensures { (q : Process) → HaveProtsOf (pages_of spaces.now.processes process) q → result
         ≡ plain.may_stay q from pages new_pages }
 {
     new_pages <= pages
@@ -263,7 +264,7 @@ fn may_stay(spaces: &Spaces, process: u16, from: u64, pages: u64, new_pages: u64
 
 /// The protection with which the old range stays, if it stays.
 fn prot_left(spaces: &Spaces, process: u16, from: u64, mode: Mode) -> Option<Prot>
-    ensures { (q : Process) → HasProtsOf spaces.now.processes process q → result
+    ensures { (q : Process) → HaveProtsOf (pages_of spaces.now.processes process) q → result
         ≡ plain.prot_left mode q from }
 {
     if !leaves_old(mode) {

@@ -65,12 +65,10 @@ fn data_word(alloc: Global, word: &[u8], spare: &mut Bytes) -> Result<Option<Byt
     if word.len() % 2 == 1 {
         return Ok(None);
     }
-    let mut found = replace(spare, Bytes::new(alloc));
-    if found.decode(word)? {
-        Ok(Some(found))
-    } else {
-        Ok(None)
+    if !spare.decode(word)? {
+        return Ok(None);
     }
+    Ok(Some(replace(spare, Bytes::new(alloc))))
 }
 
 /// What `write` stores: after a space, the rest of the line.

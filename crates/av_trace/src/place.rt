@@ -27,13 +27,10 @@ pub fn place_field(bytes: &[u8]) -> Option<(Place, &[u8])>
     if bytes.is_empty() {
         Some((Place::Auto, bytes))
     } else if let Some(rest) = after(bytes, b" at") {
-        let (a, rest) = address(rest)?;
-        Some((Place::At(a), rest))
+        address(rest).map(|(a, rest)| (Place::At(a), rest))
     } else if let Some(rest) = after(bytes, b" fixed") {
-        let (a, rest) = address(rest)?;
-        Some((Place::Fixed(a), rest))
+        address(rest).map(|(a, rest)| (Place::Fixed(a), rest))
     } else {
-        let (a, rest) = address(after(bytes, b" noreplace")?)?;
-        Some((Place::NoReplace(a), rest))
+        address(after(bytes, b" noreplace")?).map(|(a, rest)| (Place::NoReplace(a), rest))
     }
 }

@@ -6,7 +6,7 @@ use Rattle.av_plain.specs.World.{pages}
 use Rattle.av_plain.specs.Stands.{prot_of}
 use Rattle.av_plain.specs.Map.{zaps_for_place}
 use Rattle.av_reclaim.specs.Mem.{ranges_of}
-use Rattle.av_kernel.specs.Map.{set_on, HasAreas, HasProts, HomesStay, AreUnmapped}
+use Rattle.av_kernel.specs.Map.{set_on, GetsAreas, GetsProts, HomesStay, AreUnmapped}
 use Rattle.av_plain.specs.Areas.{with_room}
 use Rattle.av_vma.specs.Pages.{after_map}
 use Rattle.av_spaces.specs.Spaces.{pages_of as plain_pages}
@@ -17,7 +17,7 @@ use Rattle.av_trace.specs.declared.reply.Errno.TheVariants.{Esrch, Einval, Enome
 use Rattle.av_kernel.proofs.StepLaws.{answers, orderly, ranges_there, refuses, refuses-as, refuses-by, dead_first, wants-by}
 use Rattle.av_kernel.proofs.PlaceLaws.{rounded_up, suited}
 use Rattle.av_kernel.proofs.MapLaws.{taken_is, suits, unmapped_lives, unmapped_free, mmap-refused, mmap-steps, mmap-tests-first, mmap-tests-second}
-use Rattle.av_kernel.proofs.MapProts.{has_areas, mapped-homes, mapped-prots}
+use Rattle.av_kernel.proofs.MapProts.{gets_areas, mapped-homes, mapped-prots}
 use Rattle.av_kernel.proofs.map.mmap.Goals as goal
 
 not_zero : (n : ℕ) → n ≢ 0 → (n == 0) ≡ false
@@ -122,11 +122,11 @@ returns c = record {
       (taken_is k s c.args.process keeps) (pages_of c.args.len) page c.args.place placed).clear c.make_room.ensures.count
       (subst (λ n. AreUnmapped k mid c.args.process page n (with_room n c.args.place (plain_pages k.spaces.processes c.args.process)) s.ledger
       (zaps_for_place s.ledger c.args.process n c.args.place)) size unmapped)
-      (subst (λ n. HasProts mid.spaces.processes c.map.new.self.processes c.args.process
+      (subst (λ n. GetsProts mid.spaces.processes c.map.new.self.processes c.args.process
       (set_on page n (Some c.args.prot) (prot_of (ranges_of mid.spaces.processes c.args.process)))) size prots)
-      (subst (λ n. HasAreas mid.spaces.processes c.map.new.self.processes c.args.process
+      (subst (λ n. GetsAreas mid.spaces.processes c.map.new.self.processes c.args.process
       (after_map (lengths mid.spaces.areas mid.anons) c.args.process page (page + n) c.args.prot (plain_pages mid.spaces.processes c.args.process))) size
-      (has_areas mid.spaces.processes c.map.new.self.processes c.args.process _ c.in_ok-map.ensures.areas)) c.in_ok-map.ensures.anons
+      (gets_areas mid.spaces.processes c.map.new.self.processes c.args.process _ c.in_ok-map.ensures.areas)) c.in_ok-map.ensures.anons
       (subst (λ n. HomesStay mid.spaces.processes c.map.new.self.processes c.args.process page n) size homes));
 }
 

@@ -7,7 +7,7 @@ use Rattle.av_trace.specs.declared.reply.Errno.TheVariants.{Esrch}
 use Rattle.av_kernel.proofs.StepLaws.{answers, ranges_there, refuses, refuses-as, refuses-by, dead_first, wants-by}
 use Rattle.av_kernel.proofs.PlaceLaws.{rounded_up}
 use Rattle.av_kernel.proofs.MapLaws.{mprotect-steps, mprotect-stops, mprotect-refused}
-use Rattle.av_kernel.proofs.MapProts.{has_areas, protected-homes, protected-prots}
+use Rattle.av_kernel.proofs.MapProts.{gets_areas, protected-homes, protected-prots}
 use Rattle.av_kernel.proofs.map.mprotect.Goals as goal
 
 pub returns-in_err-check_lives : goal.returns-in_err-check_lives
@@ -43,7 +43,7 @@ returns c = record {
       (subst (λ n. GoesTo (is_taken k.spaces.processes c.args.process) page (page + n) reached) size c.in_ok-reached.ensures.reached)
       (protected-prots (lengths k.spaces.areas k.anons) k.spaces.processes c.protect.new.self.processes c.args.process page (page + c.div_ceil-pages.result)
       reached c.args.prot c.in_ok-reached.ensures.reached c.in_ok-reached.ensures.ok c.in_ok-reached.ensures.mapping)
-      (has_areas k.spaces.processes c.protect.new.self.processes c.args.process _ c.in_ok-reached.ensures.ok) c.in_ok-reached.ensures.anons
+      (gets_areas k.spaces.processes c.protect.new.self.processes c.args.process _ c.in_ok-reached.ensures.ok) c.in_ok-reached.ensures.anons
       (protected-homes (lengths k.spaces.areas k.anons) k.spaces.processes c.protect.new.self.processes c.args.process page (reached - page) c.args.prot
       c.in_ok-reached.ensures.ok) (subst (λ n. page + n ≤ reached) size c.if-reached-past.false));
 }
@@ -61,7 +61,7 @@ returns-then-reached-past c = record {
       (subst (λ n. GoesTo (is_taken k.spaces.processes c.args.process) page (page + n) reached) size c.in_ok-reached.ensures.reached)
       (protected-prots (lengths k.spaces.areas k.anons) k.spaces.processes c.protect.new.self.processes c.args.process page (page + c.div_ceil-pages.result)
       reached c.args.prot c.in_ok-reached.ensures.reached c.in_ok-reached.ensures.ok c.in_ok-reached.ensures.mapping)
-      (has_areas k.spaces.processes c.protect.new.self.processes c.args.process _ c.in_ok-reached.ensures.ok) c.in_ok-reached.ensures.anons
+      (gets_areas k.spaces.processes c.protect.new.self.processes c.args.process _ c.in_ok-reached.ensures.ok) c.in_ok-reached.ensures.anons
       (protected-homes (lengths k.spaces.areas k.anons) k.spaces.processes c.protect.new.self.processes c.args.process page (reached - page) c.args.prot
       c.in_ok-reached.ensures.ok) (subst (λ n. reached < page + n) size c.if-reached-past.true);
 }

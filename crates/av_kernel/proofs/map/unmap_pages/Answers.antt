@@ -2,7 +2,7 @@ use Rattle.std.proofs.Common.{subst, sym}
 use Rattle.av_spaces.specs.Spaces.{AllSpaces}
 use Rattle.av_spaces.specs.Kin.{AnonsFit}
 use Rattle.av_kernel.proofs.MapLaws.{both_ok, are_unmapped}
-use Rattle.av_kernel.proofs.MapProts.{has_areas, unmapped-homes, unmapped-prots}
+use Rattle.av_kernel.proofs.MapProts.{gets_areas, unmapped-homes, unmapped-prots}
 use Rattle.av_kernel.proofs.map.unmap_pages.Goals as goal
 
 pub unmap-requires-clause-order : goal.unmap-requires-clause-order
@@ -18,5 +18,5 @@ returns-clause-unmapped c = λ l stands.
     both_ok c.unmap.result (λ gone stay. are_unmapped c.args.mem.now mid c.unmap.new.self c.unmap.new.anons c.args.process c.args.page c.args.pages l
     (t.zapped l stands) t.rest.spaces t.rest.anons t.rest.processes t.rest.bytes t.rest.homes
     (unmapped-prots mid.spaces.processes c.unmap.new.self.processes c.args.process c.args.page c.args.pages gone)
-    (has_areas mid.spaces.processes c.unmap.new.self.processes c.args.process _ gone) stay
+    (gets_areas mid.spaces.processes c.unmap.new.self.processes c.args.process _ gone) stay
     (unmapped-homes mid.spaces.processes c.unmap.new.self.processes c.args.process c.args.page c.args.pages gone)) c.unmap.ensures.areas c.unmap.ensures.anons
