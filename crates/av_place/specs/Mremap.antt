@@ -1,6 +1,5 @@
 -- What an mremap goes by: the protections of pages, and where they go.
 use Rattle.std.specs.Prelude.{◌≡◌, ℕ, ◌+◌, ◌-◌, ◌^◌, ◌<◌, ◌≤◌, Some, None, IsSomeAnd, Result, Ok, Err}
-use Rattle.av_base.specs.Limits.{most_indices}
 use Rattle.av_trace.specs.declared.mode.Mode.{Mode}
 use Rattle.av_trace.specs.declared.reply.Errno.{Errno}
 use Rattle.av_trace.specs.declared.reply.Errno.TheVariants.{Enomem}
@@ -23,9 +22,9 @@ IsTarget q from n m mode (Err error) = MovesTo q from n m mode None × (error �
 -- where n pages of p, from one on, become more, linear indices stay small
 abbrev pub StaySmall : Spaces → ℕ → ℕ → ℕ → ℕ → Type 0
 StaySmall s p from n m = n < m → IsSomeAnd (pages_of s p (from + n - 1))
-    (λ (area : Area). index_of area (from + n - 1) + (m - n) < most_indices)
+    (λ (area : Area). index_of area (from + n - 1) + (m - n) < 2 ^ 60)
 
 -- one would get too great
 abbrev pub GrowTooFar : Spaces → ℕ → ℕ → ℕ → ℕ → Type 0
 GrowTooFar s p from n m = IsSomeAnd (pages_of s p (from + n - 1))
-    (λ (area : Area). most_indices ≤ index_of area (from + n - 1) + (m - n))
+    (λ (area : Area). 2 ^ 60 ≤ index_of area (from + n - 1) + (m - n))
