@@ -13,7 +13,7 @@ use Rattle.av_pagetable.specs.Table.{IsFirst, page_bound}
 use Rattle.av_plain.specs.Choice.{Chooses}
 use Rattle.av_plain.specs.Event.{Event, Forked, Inherited, after, is_inherited, put_all, set_entry, without_seen}
 use Rattle.av_plain.specs.Fork.{inheritance}
-use Rattle.av_plain.specs.Ledger.{Entry, InSlot, Key, Ledger, Setting, entry, key_cmp, names_slot}
+use Rattle.av_plain.specs.Ledger.{Entry, Key, Ledger, Setting, entry, key_cmp, names_slot}
 use Rattle.av_plain.specs.Sound.{uses}
 use Rattle.av_plain.specs.Stands.{entry_of, free_of}
 use Rattle.av_plain.proofs.Choice.{chooses-kept, new_free-none, no-slot-chosen}

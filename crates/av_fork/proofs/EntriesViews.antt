@@ -1,6 +1,6 @@
 -- What the tables and frames are seen as while the entries of a parent go over. The child's table is made first, and then the frames are counted, group by
 -- group. In between, a page stands for the new entries once its frames are counted, and for the old ones before.
-use Rattle.std.proofs.Common.{◌≡◌, ℕ, zero, suc, ◌+◌, ◌<◌, ◌≤◌, Bool, true, false, cond, ◌&&◌, List, [], ◌∷◌, length, take, get_or, Err, Ok, Result, Some, refl, sym, ap, subst, ◌∙◌, arith, inl, inr, ◌==◌, nat_lt}
+use Rattle.std.proofs.Common.{◌≡◌, ℕ, zero, suc, ◌+◌, ◌*◌, ◌/◌, ◌<◌, ◌≤◌, Bool, true, false, cond, ◌&&◌, List, [], ◌∷◌, length, take, get_or, Err, Ok, Result, Some, refl, sym, ap, subst, ◌∙◌, arith, inl, inr, ◌==◌, nat_lt}
 use Rattle.std.proofs.lemmas.Bool.Decides.{nat_tests}
 use Rattle.std.proofs.lemmas.Bool.{cases_lt, false≢true}
 use Rattle.std.specs.Prelude.{IsErr, MatchResult}
@@ -9,7 +9,7 @@ use Rattle.av_base.specs.Limits.{most_processes}
 use Rattle.av_base.specs.Words.{how_many, with_at}
 use Rattle.av_frames.specs.Store.{Shown, shown, with_maps}
 use Rattle.av_pagetable.specs.Entries.{with_entry}
-use Rattle.av_pagetable.specs.Table.{IsFirst, child_entry as child_raw, page_bound, read_only}
+use Rattle.av_pagetable.specs.Table.{IsFirst, IsGroup, child_entry as child_raw, page_bound, read_only}
 use Rattle.av_pagetable.specs.declared.pte.Pte.{Pte}
 use Rattle.av_pagetable.specs.declared.pte.Pte.TheVariants.{Away, Empty, Here, Zero}
 use Rattle.av_plain.specs.Ledger.{InFrame, Ledger, entry, map_count, names_frame}
@@ -25,6 +25,7 @@ use Rattle.av_pagetable.proofs.DirImages.{child_none}
 use Rattle.av_pagetable.specs.Entries.{entry_at}
 use Rattle.av_plain.specs.Stands.{free_of}
 use Rattle.av_fork.specs.Entries.{HasForked}
+use Rattle.av_reclaim.proofs.Groups.{group_from}
 use Rattle.av_reclaim.proofs.Parts.{Parts, parts_of, seen_as}
 use Rattle.av_fork.proofs.EntriesPass.{IsForking, all_given, at_place, more_given, none_yet}
 
@@ -280,6 +281,21 @@ module _ (p q : ℕ) (old : ℕ → ℕ → Pte) (empty : (o : ℕ) → old q o 
         joined f = ap (λ e. frames.maps f + cond (names f (plain e)) 1 0 + how_many (λ e. names f (plain e)) es) here ∙ add (frames.maps f)
             (cond (names f (plain e)) 1 0) (how_many (λ e. names f (plain e)) es)
 
+  -- the group of the first page with an entry goes over, and the pages before it have none
+  pub next_group : (spaces : AllSpaces) (anons : AnonSet) (first : Ledger) (frames : Shown) (table : ℕ → Pte) (number page : ℕ) (group : List Pte)
+      → length group ≡ 64 → ((o : ℕ) → table o ≡ child_raw (old p o)) → IsFirst table (number * 64) page_bound page → IsGroup table (page / 64) group
+      → IsForkingTo spaces anons p q old frames (number * 64) first
+      → IsForkingTo spaces anons p q old (after_map_ups group frames) ((page / 64 + 1) * 64) first
+  next_group spaces anons first frames table number page group long copies is are t =
+      let at = group_from table number page (length group) long is in
+      let low = at.low in
+      let here = at.here in
+      subst (λ n. IsForkingTo spaces anons p q old (after_map_ups group frames) n first) at.past
+      (whole_group spaces anons first group frames (page / 64 * 64) at.fits
+      (λ i under. are i (omega (arith, under, long)) ∙ copies (page / 64 * 64 + i))
+      (skip_to spaces anons first frames (number * 64) (page / 64 * 64) low
+      (λ o above under. child_none (old p o) (sym (copies o) ∙ is.least o above (omega (arith, under, here)))) t))
+
 -- ---- the whole pass
 
 module _ (old : Mem) (p q : ℕ) (empty : (o : ℕ) → entry_at old.tables q o ≡ Empty) where
@@ -295,17 +311,12 @@ module _ (old : Mem) (p q : ℕ) (empty : (o : ℕ) → entry_at old.tables q o 
   }
 
   module _ (new : Mem) (tables : entry_at new.tables ≡ forked p q (entry_at old.tables)) where
-    child_is : (o : ℕ) → entry_at new.tables q o ≡ child_raw (entry_at old.tables p o)
+    pub child_is : (o : ℕ) → entry_at new.tables q o ≡ child_raw (entry_at old.tables p o)
     child_is o = ap (λ t. t q o) tables ∙ forked_child p q (entry_at old.tables) empty o
 
     -- where the child has none the parent had none
-    pub parent_none : (o : ℕ) → entry_at new.tables q o ≡ Empty → entry_at old.tables p o ≡ Empty
+    parent_none : (o : ℕ) → entry_at new.tables q o ≡ Empty → entry_at old.tables p o ≡ Empty
     parent_none o none = child_none (entry_at old.tables p o) (sym (child_is o) ∙ none)
-
-    -- the entries of a group that is left
-    pub group_is : (group : List Pte) (start : ℕ) → ((i : ℕ) → i < 64 → get_or group i Empty ≡ entry_at new.tables q (start + i))
-        → (i : ℕ) → i < 64 → get_or group i Empty ≡ child_raw (entry_at old.tables p (start + i))
-    group_is group start is i low = is i low ∙ child_is (start + i)
 
     -- where the child has none from a page on, all has gone over
     pub all_over : (next : ℕ) (first : Ledger) → ((o : ℕ) → next ≤ o → entry_at new.tables q o ≡ Empty) → free_of (view new) ≡ free_of (view old)

@@ -1,5 +1,5 @@
 -- A whole access is a step, by how it ended.
-use Rattle.std.proofs.Common.{◌≡◌, ℕ, Bool, true, false, not, cond, List, [], length, take, ◌++◌, Some, None, refl, sym, ap, subst, ◌∙◌}
+use Rattle.std.proofs.Common.{◌≡◌, ℕ, Bool, true, false, not, cond, List, [], length, take, ◌++◌, Option, Some, None, refl, sym, ap, subst, ◌∙◌}
 use Rattle.std.specs.Prelude.{MatchOption}
 use Rattle.std.proofs.Math.Seq.{take-length}
 use Rattle.av_trace.specs.declared.note.Note.{Note}
@@ -26,7 +26,7 @@ use Rattle.av_reclaim.specs.Mem.{Keeps, setting, count}
 use Rattle.av_fault.specs.Fault.{stop_of}
 use Rattle.av_plain.proofs.Transcript.{is_fork, next-plain}
 use Rattle.av_kernel.specs.Step.{MemSteps}
-use Rattle.av_kernel.specs.Access.{IsAccess, answer_of}
+use Rattle.av_kernel.specs.Access.{IsAccess, answer_at, answer_of}
 use Rattle.av_kernel.proofs.StepLaws.{left_alone}
 
 -- the process lives, so that the command is not refused
@@ -67,7 +67,7 @@ module _ (s : State) (old new : Mem) (p a : ℕ) (before notes : List Note) (row
   alone : (events : List Event) → notes ≡ before ++ notes_of events → notes ≡ notes_of events
   alone events is = is ∙ ap (λ ns. ns ++ notes_of events) fresh
 
-  pub read-done : (n : ℕ) (shown : List ℕ) (answer : Answer) → IsAccess s new false p a n [] before notes None k → Reads (pages s.world p) a k shown →
+  read-done : (n : ℕ) (shown : List ℕ) (answer : Answer) → IsAccess s new false p a n [] before notes None k → Reads (pages s.world p) a k shown →
       answer ≡ answers.Data shown
       → MemSteps old new s (Read p a n) (record { answer = answer; notes = notes; rows = rows })
   read-done n shown answer h reads is = record {
@@ -95,7 +95,7 @@ module _ (s : State) (old new : Mem) (p a : ℕ) (before notes : List Note) (row
     keeps = h.keeps;
   }
 
-  pub read-stopped : (n : ℕ) (shown : List ℕ) (answer : Answer) (stop : Stop) → IsAccess s new false p a n [] before notes (Some stop) k →
+  read-stopped : (n : ℕ) (shown : List ℕ) (answer : Answer) (stop : Stop) → IsAccess s new false p a n [] before notes (Some stop) k →
       Reads (pages s.world p) a k shown → answer ≡ answer_of stop k shown
       → MemSteps old new s (Read p a n) (record { answer = answer; notes = notes; rows = rows })
   read-stopped n shown answer stop h reads is = record {
@@ -123,7 +123,7 @@ module _ (s : State) (old new : Mem) (p a : ℕ) (before notes : List Note) (row
     keeps = h.keeps;
   }
 
-  pub write-done : (bytes : List ℕ) (answer : Answer) → IsAccess s new true p a (length bytes) (take k bytes) before notes None k → answer ≡ answers.Done
+  write-done : (bytes : List ℕ) (answer : Answer) → IsAccess s new true p a (length bytes) (take k bytes) before notes None k → answer ≡ answers.Done
       → MemSteps old new s (Write p a bytes) (record { answer = answer; notes = notes; rows = rows })
   write-done bytes answer h is = record {
     next = h.next;
@@ -148,7 +148,7 @@ module _ (s : State) (old new : Mem) (p a : ℕ) (before notes : List Note) (row
     keeps = h.keeps;
   }
 
-  pub write-stopped : (bytes : List ℕ) (answer : Answer) (stop : Stop) → IsAccess s new true p a (length bytes) (take k bytes) before notes (Some stop) k →
+  write-stopped : (bytes : List ℕ) (answer : Answer) (stop : Stop) → IsAccess s new true p a (length bytes) (take k bytes) before notes (Some stop) k →
       answer ≡ answer_of stop k []
       → MemSteps old new s (Write p a bytes) (record { answer = answer; notes = notes; rows = rows })
   write-stopped bytes answer stop h is = record {
@@ -173,3 +173,17 @@ module _ (s : State) (old new : Mem) (p a : ℕ) (before notes : List Note) (row
     };
     keeps = h.keeps;
   }
+
+  -- ---- by how it ended
+
+  pub read-ended : (n : ℕ) (shown : List ℕ) (answer : Answer) (stop : Option Stop) → IsAccess s new false p a n [] before notes stop k →
+      Reads (pages s.world p) a k shown → answer ≡ answer_at stop (answers.Data shown) k shown
+      → MemSteps old new s (Read p a n) (record { answer = answer; notes = notes; rows = rows })
+  read-ended n shown answer None h reads is = read-done n shown answer h reads is
+  read-ended n shown answer (Some stop) h reads is = read-stopped n shown answer stop h reads is
+
+  pub write-ended : (bytes : List ℕ) (answer : Answer) (stop : Option Stop) → IsAccess s new true p a (length bytes) (take k bytes) before notes stop k →
+      answer ≡ answer_at stop answers.Done k []
+      → MemSteps old new s (Write p a bytes) (record { answer = answer; notes = notes; rows = rows })
+  write-ended bytes answer None h is = write-done bytes answer h is
+  write-ended bytes answer (Some stop) h is = write-stopped bytes answer stop h is

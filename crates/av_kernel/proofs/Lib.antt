@@ -1,10 +1,8 @@
 pub mod StepLaws
 pub mod ProcessLaws
 pub mod ForkLaws
-pub mod PlaceLaws
 pub mod MapLaws
 pub mod MapProts
-pub mod MremapTests
 pub mod MremapRefusals
 pub mod MremapLaws
 pub mod MremapGoes

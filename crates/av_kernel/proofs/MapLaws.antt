@@ -53,10 +53,10 @@ use Rattle.av_plain.proofs.Transcript.{is_fork, next-plain}
 use Rattle.av_kernel.specs.Map.{set_on, GetsAreas, GetsProts, HomesStay, AreUnmapped}
 use Rattle.av_reclaim.specs.Mem.{ranges_of, setting, view, count, Keeps, IsSteady, HasLedger}
 use Rattle.av_reclaim.specs.Zap.{HasZapped}
-use Rattle.av_kernel.specs.Place.{protect_tests, IsProcess, IsPlaced, AreToUnmap}
+use Rattle.av_place.specs.Place.{protect_tests, IsProcess, IsPlaced, AreToUnmap}
 use Rattle.av_kernel.specs.Step.{MemSteps}
 use Rattle.av_reclaim.proofs.MemLaws.{lives_is, alive_is, taken_has, mapped_is}
-use Rattle.av_kernel.proofs.PlaceLaws.{page_back, IsSuited, suited}
+use Rattle.av_place.proofs.PlaceLaws.{page_back, IsSuited, suited}
 use Rattle.av_kernel.proofs.StepLaws.{areas_kept, is_number, moved_on, orderly, refused, state_after, stays_orderly, changed, areas_changed, tables_kept}
 
 -- ---- pages and their areas

@@ -21,7 +21,7 @@ use Rattle.av_reclaim.specs.Mem.{IsSteady, Keeps, count, setting}
 use Rattle.av_reclaim.specs.Zap.{KeepsRest}
 use Rattle.av_mremap.specs.Areas.{HasRemap}
 use Rattle.av_mremap.specs.Entries.{HasRemapped}
-use Rattle.av_kernel.specs.Mremap.{StaySmall}
+use Rattle.av_place.specs.Mremap.{StaySmall}
 use Rattle.av_kernel.specs.Step.{MemSteps}
 use Rattle.av_kernel.proofs.MremapLaws.{last_taken, may_grow, may_move, may_shrink, old_high, remaps, some_pages}
 use Rattle.av_kernel.proofs.MremapRefusals.{have_prots_of, tests_are}

@@ -53,10 +53,10 @@ use Rattle.av_reclaim.proofs.AnonLaws.{anons_stand, are_left, left_of}
 use Rattle.av_reclaim.proofs.MemLaws.{alive_is, lives_is, no_cache, prots_are}
 use Rattle.av_mremap.specs.Areas.{HasRemap}
 use Rattle.av_mremap.specs.Entries.{HasRemapped}
-use Rattle.av_kernel.specs.Mremap.{StaySmall}
+use Rattle.av_place.specs.Mremap.{StaySmall}
 use Rattle.av_kernel.specs.Step.{MemSteps}
 use Rattle.av_plain.proofs.Mremap.Entries.{came, grew, here_goes, here_stays, left as has_left, of_others, stays}
-use Rattle.av_kernel.proofs.PlaceLaws.{page_back}
+use Rattle.av_place.proofs.PlaceLaws.{page_back}
 use Rattle.av_kernel.proofs.ProcessLaws.{at_number}
 use Rattle.av_kernel.proofs.StepLaws.{is_number, kept-on, moved_on, stays_orderly, stepped}
 

@@ -20,7 +20,7 @@ use Rattle.av_reclaim.specs.declared.mem.Mem.{Mem}
 use Rattle.av_reclaim.specs.Mem.{Keeps, count, setting}
 use Rattle.av_reclaim.proofs.MemLaws.{lives_is, prots_are}
 use Rattle.av_kernel.specs.declared.refusal.Refusal.TheVariants as refusals
-use Rattle.av_kernel.specs.Mremap.{IsTarget}
+use Rattle.av_place.specs.Mremap.{IsTarget}
 use Rattle.av_kernel.specs.Step.{Does, MemSteps}
 use Rattle.av_kernel.proofs.StepLaws.{areas_kept, dead_first, refuses}
 

@@ -142,9 +142,10 @@ refuses-as old new command error reply r x is same does = refuses-by old new com
 pub only_answer : (reply : Reply) (answer : Answer) → IsCleared reply → record reply { answer = answer } ≡ answer_only answer
 only_answer reply answer cleared = λ i. record { answer = answer; notes = cleared.notes i; rows = cleared.rows i }
 
-pub answers : {old new : Mem} {s : State} {command : Command} {answer : Answer} (reply : Reply) → IsCleared reply →
-    MemSteps old new s command (answer_only answer) → MemSteps old new s command (record reply { answer = answer })
-answers {old} {new} {s} {command} {answer} reply cleared steps = subst (MemSteps old new s command) (sym (only_answer reply answer cleared)) steps
+pub answers : {old new : Mem} {s : State} {command : Command} {answer : Answer} (reply reply' : Reply) → IsCleared reply →
+    reply' ≡ record reply { answer = answer } → MemSteps old new s command (answer_only answer) → MemSteps old new s command reply'
+answers {old} {new} {s} {command} {answer} reply reply' cleared is steps =
+    subst (MemSteps old new s command) (sym (is ∙ only_answer reply answer cleared)) steps
 
 -- a process that has no areas is refused first
 pub dead_first : (k : Mem) (s : State) (p : ℕ) (rest : Option Errno) → Keeps k s → is_some (areas_of k.spaces.processes p) ≡ false →

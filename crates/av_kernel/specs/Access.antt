@@ -55,3 +55,8 @@ pub record IsAccess (s : State) (new : Mem) (write : Bool) (p a n : ℕ) (bytes 
 abbrev pub answer_of : Stop → ℕ → List ℕ → Answer
 answer_of Segv k shown = answers.Segv k shown
 answer_of (Oom out) k shown = answers.Oom k out shown
+
+-- the answer of an access by how it ended: this one where it was whole
+abbrev pub answer_at : Option Stop → Answer → ℕ → List ℕ → Answer
+answer_at None whole k shown = whole
+answer_at (Some stop) whole k shown = answer_of stop k shown

@@ -47,8 +47,8 @@ pub record Counts (old new : Machine) (reply : Reply) : Type 0 where
   pub was_spent : old.spent ≡ false
   pub spent : new.spent ≡ false
 
--- memory was wanting: nothing is counted, and a kernel that was spent is as it was
-pub record IsLeft (old new : Machine) : Type 0 where
+-- memory was wanting: the kernel is spent, nothing is counted, and one that was spent is as it was
+pub record IsSpent (old new : Machine) : Type 0 where
   pub frames : new.frames ≡ old.frames
   pub steps : new.steps ≡ old.steps
   pub tally : new.tally ≡ old.tally

@@ -1,8 +1,6 @@
 pub mod Step
 pub mod Process
-pub mod Place
 pub mod Map
-pub mod Mremap
 pub mod Page
 pub mod Access
 pub mod Report

@@ -1,6 +1,7 @@
 -- What one command does to the memory system.
-use Rattle.std.specs.Prelude.{◌≡◌, Option, Some, None, Result, Ok, Err, IfSome}
+use Rattle.std.specs.Prelude.{◌≡◌, Bool, false, true, Option, Some, None, Result, Ok, Err, IfSome}
 use Rattle.av_trace.specs.declared.command.Command.{Command}
+use Rattle.av_trace.specs.declared.command.Command.TheVariants.{Mmap, Mprotect, Mremap, Munmap}
 use Rattle.av_trace.specs.declared.reply.Answer.TheVariants as answers
 use Rattle.av_trace.specs.declared.reply.Reply.{Reply}
 use Rattle.av_trace.specs.Reply.{answer_only}
@@ -9,6 +10,14 @@ use Rattle.av_reclaim.specs.declared.mem.Mem.{Mem}
 use Rattle.av_reclaim.specs.Mem.{setting, count, Keeps}
 use Rattle.av_kernel.specs.declared.refusal.Refusal.{Refusal}
 use Rattle.av_kernel.specs.declared.refusal.Refusal.TheVariants.{Refused, Memory}
+
+-- whether a command maps, unmaps or changes pages
+abbrev pub is_of_pages : Command → Bool
+is_of_pages (Mmap p len prot place) = true
+is_of_pages (Munmap p a len) = true
+is_of_pages (Mprotect p a len prot) = true
+is_of_pages (Mremap p a old_len new_len mode) = true
+is_of_pages command = false
 
 -- what a command answers that filled this reply, or was not done
 abbrev pub reply_in : Reply → Result (Unit {0}) Refusal → Result Reply Refusal

@@ -7,10 +7,12 @@ ghost use Rattle.av_plain.specs.World.{pages};
 ghost use Rattle.av_spaces.specs.Spaces.{areas_of};
 ghost use Rattle.av_reclaim.specs.Mem.{count, Keeps, IsSteady};
 ghost use Rattle.av_kernel.specs.Step.{Does, reply_in};
-ghost use Rattle.av_kernel.specs.Access.{IsPiece, IsAccess, answer_of};
+ghost use Rattle.av_kernel.specs.Access.{IsPiece, IsAccess, answer_at, answer_of};
 ghost use Rattle.av_trace.specs.Reply.{IsCleared};
 ghost use Rattle.av_trace.specs.declared.command.Command.TheVariants as commands;
+ghost use Rattle.av_trace.specs.declared.reply.Answer.TheVariants as answers;
 
+use crate::answer::answer_with;
 use crate::page::{read_page, write_page};
 use crate::process::check_lives;
 use crate::refusal::Refusal;
@@ -60,10 +62,7 @@ pub fn read(
     shown.clear();
     let notes = &mut reply.notes;
     let ended = read_pieces(mem, process, address, len as usize, &mut shown, notes)?;
-    match ended.stop {
-        None => reply.answer = Answer::Data(shown),
-        Some(stop) => reply.answer = stop_answer(stop, ended.served, shown),
-    }
+    answer_with(reply, read_answer(ended, shown));
     Ok(())
 }
 
@@ -83,10 +82,7 @@ pub fn write(
 {
     check_lives(mem, process)?;
     let ended = write_pieces(mem, process, address, bytes, &mut reply.notes)?;
-    match ended.stop {
-        None => reply.answer = Answer::Done,
-        Some(stop) => reply.answer = stop_answer(stop, ended.served, Bytes::new(alloc)),
-    }
+    answer_with(reply, write_answer(alloc, ended));
     Ok(())
 }
 
@@ -173,6 +169,28 @@ fn next_piece(address: u64, len: usize, done: usize) -> Piece
         page: address / PAGE_SIZE + (done / SIZE + from / SIZE) as u64,
         at,
         len: (len - done).min(SIZE - at),
+    }
+}
+
+/// The answer of a read that showed these bytes.
+#[inline(always)]
+fn read_answer(ended: Ended, shown: Bytes) -> Answer
+    ensures { result ≡ answer_at ended.stop (answers.Data shown) ended.served shown }
+{
+    match ended.stop {
+        None => Answer::Data(shown),
+        Some(stop) => stop_answer(stop, ended.served, shown),
+    }
+}
+
+/// The answer of a write.
+#[inline(always)]
+fn write_answer(alloc: Global, ended: Ended) -> Answer
+    ensures { result ≡ answer_at ended.stop answers.Done ended.served [] }
+{
+    match ended.stop {
+        None => Answer::Done,
+        Some(stop) => stop_answer(stop, ended.served, Bytes::new(alloc)),
     }
 }
 

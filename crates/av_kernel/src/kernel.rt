@@ -5,7 +5,7 @@ ghost use Rattle.av_base.specs.Limits.{most_commands};
 ghost use Rattle.av_plain.specs.Device.{no_device};
 ghost use Rattle.av_plain.specs.Transcript.{State, at_first};
 ghost use Rattle.av_reclaim.specs.Mem.{setting};
-ghost use Rattle.av_kernel.specs.Kernel.{Stands, Steps, Counts, IsNew, IsLeft};
+ghost use Rattle.av_kernel.specs.Kernel.{Stands, Steps, Counts, IsNew, IsSpent};
 
 use crate::step::perform;
 use crate::tally::Tally;
@@ -72,7 +72,7 @@ impl Kernel {
         ensures stands { (s : State) → Stands self.old no_device s →
             IfOk result (Steps self.old self.new no_device no_device s command.now) }
         ensures counts { IfOk result (Counts self.old self.new) }
-        ensures left { OnErr result (IsLeft self.old self.new) }
+        ensures spent { OnErr result (IsSpent self.old self.new) }
     {
         let mut reply = Reply::new(alloc);
         self.answer(alloc, command, &mut reply)?;
@@ -93,7 +93,7 @@ impl Kernel {
         ensures stands { (s : State) → Stands self.old no_device s → OnOk result
             (Steps self.old self.new no_device no_device s command.now reply.new) }
         ensures counts { OnOk result (Counts self.old self.new reply.new) }
-        ensures left { OnErr result (IsLeft self.old self.new) }
+        ensures spent { OnErr result (IsSpent self.old self.new) }
     {
         if self.spent {
             return Err(AllocError);

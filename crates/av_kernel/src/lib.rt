@@ -8,11 +8,11 @@
 #![tactic(auto)]
 
 mod access;
+mod answer;
 mod kernel;
 mod map;
 mod mremap;
 mod page;
-mod place;
 mod process;
 mod refusal;
 mod report;

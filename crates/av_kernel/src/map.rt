@@ -9,16 +9,17 @@ ghost use Rattle.av_plain.specs.Areas.{with_room};
 ghost use Rattle.av_vma.specs.Pages.{after_unmap};
 ghost use Rattle.av_spaces.specs.Spaces.{areas_of, is_taken, pages_of};
 ghost use Rattle.av_reclaim.specs.Mem.{count, IsSteady, HasLedger};
-ghost use Rattle.av_kernel.specs.Place.{AreToUnmap};
+ghost use Rattle.av_place.specs.Place.{AreToUnmap};
 ghost use Rattle.av_kernel.specs.Map.{AreUnmapped};
 ghost use Rattle.av_kernel.specs.Step.{Does, reply_in};
 ghost use Rattle.av_trace.specs.Reply.{IsCleared};
 ghost use Rattle.av_trace.specs.declared.command.Command.TheVariants as commands;
 
-use crate::place::{check_protect, find_place, is_no_range, is_too_long};
+use crate::answer::answer_with;
 use crate::process::check_lives;
 use crate::refusal::Refusal;
 use av_base::{PAGE_SIZE, Prot};
+use av_place::{check_protect, find_place, is_no_range, is_too_long};
 use av_reclaim::{Mem, zap_range};
 use av_trace::{Answer, Errno, Place, Reply};
 use std::alloc::AllocError;
@@ -48,7 +49,7 @@ pub fn mmap(
     let page = find_place(&mem.spaces, process, pages, place)?;
     make_room(mem, process, page, pages, place)?;
     mem.spaces.map(&mut mem.anons, process, page, pages, prot)?;
-    reply.answer = Answer::MapAt(PAGE_SIZE * page);
+    answer_with(reply, Answer::MapAt(PAGE_SIZE * page));
     Ok(())
 }
 
@@ -71,7 +72,7 @@ pub fn munmap(
         return Err(Refusal::Refused(Errno::Einval));
     }
     unmap_pages(mem, process, address / PAGE_SIZE, len.div_ceil(PAGE_SIZE))?;
-    reply.answer = Answer::Done;
+    answer_with(reply, Answer::Done);
     Ok(())
 }
 
@@ -99,7 +100,7 @@ pub fn mprotect(
     if reached < past {
         return Err(Refusal::Refused(Errno::Enomem));
     }
-    reply.answer = Answer::Done;
+    answer_with(reply, Answer::Done);
     Ok(())
 }
 

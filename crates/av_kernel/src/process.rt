@@ -11,6 +11,7 @@ ghost use Rattle.av_trace.specs.Reply.{IsCleared};
 ghost use Rattle.av_trace.specs.declared.command.Command.TheVariants as commands;
 ghost use Rattle.av_trace.specs.declared.reply.Errno.TheVariants as errors;
 
+use crate::answer::answer_with;
 use crate::refusal::Refusal;
 use av_base::MOST_PROCESSES;
 use av_fork::{fork_areas, fork_entries};
@@ -56,7 +57,7 @@ pub fn spawn(mem: &mut Mem, alloc: Global, process: u16, reply: &mut Reply) -> R
     check_new(&mem.spaces, process)?;
     mem.tables.spawn(alloc, process)?;
     mem.spaces.spawn(process)?;
-    reply.answer = Answer::Done;
+    answer_with(reply, Answer::Done);
     Ok(())
 }
 
@@ -78,7 +79,7 @@ pub fn fork(
     fork_areas(mem, parent, child)?;
     mem.tables.spawn(alloc, child)?;
     fork_entries(mem, alloc, parent, child)?;
-    reply.answer = Answer::Done;
+    answer_with(reply, Answer::Done);
     Ok(())
 }
 
@@ -93,6 +94,6 @@ pub fn exit(mem: &mut Mem, process: u16, reply: &mut Reply) -> Result<(), Refusa
     zap_all(mem, process);
     mem.tables.end(process);
     mem.spaces.end(&mut mem.anons, process);
-    reply.answer = Answer::Done;
+    answer_with(reply, Answer::Done);
     Ok(())
 }

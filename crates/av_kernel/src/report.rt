@@ -18,6 +18,7 @@ ghost use Rattle.av_trace.specs.declared.command.Command.TheVariants as commands
 ghost use Rattle.av_trace.specs.declared.reply.Errno.TheVariants as errors;
 ghost use Rattle.av_trace.specs.declared.row.Row.TheVariants as row;
 
+use crate::answer::answer_with;
 use crate::process::check_lives;
 use crate::refusal::Refusal;
 use av_base::{PAGE_SIZE, Steps};
@@ -39,7 +40,8 @@ pub fn maps(mem: &Mem, process: u16, reply: &mut Reply) -> Result<(), Refusal>
     check_lives(mem, process)?;
     let areas = mem.spaces.areas(process)?;
     add_runs(&areas, &mut reply.rows)?;
-    reply.answer = Answer::Runs(reply.rows.as_slice().len() as u64);
+    let runs = reply.rows.as_slice().len() as u64;
+    answer_with(reply, Answer::Runs(runs));
     Ok(())
 }
 
@@ -52,7 +54,8 @@ pub fn areas(mem: &Mem, alloc: Global, process: u16, reply: &mut Reply) -> Resul
     check_lives(mem, process)?;
     let areas = mem.spaces.areas(process)?;
     add_areas(mem, alloc, process, &areas, &mut reply.rows)?;
-    reply.answer = Answer::AreaList(reply.rows.as_slice().len() as u64);
+    let count = reply.rows.as_slice().len() as u64;
+    answer_with(reply, Answer::AreaList(count));
     Ok(())
 }
 
@@ -74,7 +77,7 @@ pub fn rmap(
     match mem.tables.get(process, page) {
         Pte::Here { frame, .. } => Ok(show_walk(mem, alloc, frame, reply)?),
         Pte::Empty | Pte::Zero | Pte::Away { .. } => {
-            reply.answer = Answer::NoWalk;
+            answer_with(reply, Answer::NoWalk);
             Ok(())
         }
     }
@@ -89,7 +92,7 @@ pub fn entry(mem: &Mem, process: u16, address: u64, reply: &mut Reply) -> Result
     check_lives(mem, process)?;
     let page = address / PAGE_SIZE;
     check_mapped(mem, process, page)?;
-    reply.answer = entry_answer(mem, process, page);
+    answer_with(reply, entry_answer(mem, process, page));
     Ok(())
 }
 
@@ -111,7 +114,7 @@ pub fn stat(mem: &Mem, reply: &mut Reply)
         free_slots: 0,
         processes: mem.spaces.count() as u64,
     };
-    reply.answer = Answer::Counted(totals);
+    answer_with(reply, Answer::Counted(totals));
 }
 
 /// Fills in the longest runs of pages with one protection of these areas of one process.
@@ -237,10 +240,8 @@ fn show_walk(mem: &Mem, alloc: Global, frame: u32, reply: &mut Reply) -> Result<
 {
     let keys = keys_of(mem, alloc, frame, Blank::new(1))?;
     add_keys(&keys, &mut reply.rows)?;
-    reply.answer = Answer::Walk {
-        frame,
-        maps: reply.rows.as_slice().len() as u64,
-    };
+    let maps = reply.rows.as_slice().len() as u64;
+    answer_with(reply, Answer::Walk { frame, maps });
     Ok(())
 }
 

@@ -1,10 +1,10 @@
 //! Which command goes where, and what a refusal replies.
 
-ghost use Rattle.std.specs.Prelude.{◌≡◌, OnOk};
+ghost use Rattle.std.specs.Prelude.{◌≡◌, OnOk, true};
 ghost use Rattle.av_trace.specs.Reply.{IsCleared};
 ghost use Rattle.av_plain.specs.Transcript.{State};
 ghost use Rattle.av_reclaim.specs.Mem.{count, Keeps, IsSteady};
-ghost use Rattle.av_kernel.specs.Step.{MemSteps, Does, reply_in};
+ghost use Rattle.av_kernel.specs.Step.{MemSteps, Does, is_of_pages, reply_in};
 
 use crate::access::{read, write};
 use crate::map::{mmap, mprotect, munmap};
@@ -65,6 +65,36 @@ fn dispatch(
         Command::Spawn { process } => spawn(mem, alloc, *process, reply),
         Command::Fork { parent, child } => fork(mem, alloc, *parent, *child, reply),
         Command::Exit { process } => exit(mem, *process, reply),
+        Command::Read {
+            process,
+            address,
+            len,
+        } => read(mem, spare, alloc, *process, *address, *len, reply),
+        Command::Write {
+            process,
+            address,
+            bytes,
+        } => write(mem, alloc, *process, *address, bytes.as_slice(), reply),
+        Command::Maps { process } => maps(mem, *process, reply),
+        Command::Areas { process } => areas(mem, alloc, *process, reply),
+        Command::Rmap { process, address } => rmap(mem, alloc, *process, *address, reply),
+        Command::Entry { process, address } => entry(mem, *process, *address, reply),
+        Command::Stat => {
+            stat(mem, reply);
+            Ok(())
+        }
+        _ => map_or_change(mem, command, reply),
+    }
+}
+
+/// Does a command that maps, unmaps or changes pages.
+fn map_or_change(mem: &mut Mem, command: &Command, reply: &mut Reply) -> Result<(), Refusal>
+    requires steady { IsSteady mem.old }
+    requires cleared { IsCleared reply.old }
+    requires pages { is_of_pages command.now ≡ true }
+    ensures { Does mem.old mem.new command.now (reply_in reply.new result) }
+{
+    match command {
         Command::Mmap {
             process,
             len,
@@ -89,23 +119,6 @@ fn dispatch(
             new_len,
             mode,
         } => mremap(mem, *process, *address, *old_len, *new_len, *mode, reply),
-        Command::Read {
-            process,
-            address,
-            len,
-        } => read(mem, spare, alloc, *process, *address, *len, reply),
-        Command::Write {
-            process,
-            address,
-            bytes,
-        } => write(mem, alloc, *process, *address, bytes.as_slice(), reply),
-        Command::Maps { process } => maps(mem, *process, reply),
-        Command::Areas { process } => areas(mem, alloc, *process, reply),
-        Command::Rmap { process, address } => rmap(mem, alloc, *process, *address, reply),
-        Command::Entry { process, address } => entry(mem, *process, *address, reply),
-        Command::Stat => {
-            stat(mem, reply);
-            Ok(())
-        }
+        _ => unreachable!(),
     }
 }

@@ -1,10 +1,9 @@
 -- What a change of areas leaves of the anon_vmas: the kernel's are those of the definitions.
-use Rattle.std.proofs.Common.{◌≡◌, ℕ, Bool, true, false, cond, List, [], length, Option, Some, None, is_some, option_map, IfSome, IsSome, IsSomeAnd, refl, sym, ap, subst, ◌∙◌}
+use Rattle.std.proofs.Common.{◌≡◌, ℕ, Bool, true, false, cond, [], length, Option, Some, None, is_some, option_map, IfSome, IsSome, IsSomeAnd, refl, sym, ap, subst, ◌∙◌}
 use Rattle.std.proofs.lemmas.Bool.{false≢true}
 use Rattle.std.specs.Option.{option_map_or}
 use Rattle.av_base.specs.Words.{is_in}
 use Rattle.av_vma.specs.declared.area.Area.{Area}
-use Rattle.av_vma.specs.Pages.{Pages}
 use Rattle.av_anon.specs.declared.anons.Anons.{Anons as AnonSet}
 use Rattle.av_anon.specs.declared.infos.Info.{Info}
 use Rattle.av_anon.specs.Kin.{IsSameKin}
@@ -14,7 +13,7 @@ use Rattle.av_spaces.specs.Spaces.{AllSpaces, pages_of as areas_on}
 use Rattle.av_spaces.specs.Kin as in_spaces
 use Rattle.av_spaces.specs.Kin.{AnonsStay, IsLinkedIn, IsOwnedIn, info_of}
 use Rattle.av_plain.specs.Areas.{AnonVma, Anons, AreLeft, Areas, IsLinked, chain_length, chain_by}
-use Rattle.av_plain.specs.Stands.{AnonsStand, View, kin_of}
+use Rattle.av_plain.specs.Stands.{AnonsStand, kin_of}
 use Rattle.av_plain.specs.Transcript.{State}
 use Rattle.av_reclaim.specs.declared.mem.Mem.{Mem}
 use Rattle.av_reclaim.specs.Mem.{Keeps, anon_vma, anons_of, view}

@@ -4,6 +4,7 @@ pub mod ZapEntry
 pub mod ZapFrame
 pub mod ZapFirst
 pub mod ZapRange
+pub mod Groups
 pub mod ZapGroup
 pub mod AnonLaws
 pub mod WalkLaws

@@ -1,5 +1,5 @@
 -- The memory system: its view and its areas, with no slot cached; and one with nothing in it stands for no memories.
-use Rattle.std.proofs.Common.{◌≡◌, ◌≢◌, ℕ, ◌+◌, ◌-◌, ◌<◌, ◌≤◌, ◌↔◌, Bool, true, false, cond, ◌&&◌, ◌==◌, nat_lt, nat_le, List, [], ◌∷◌, Option, Some, None, refl, sym, ap, subst, ◌∙◌, arith, is_some}
+use Rattle.std.proofs.Common.{◌≡◌, ℕ, ◌+◌, ◌-◌, ◌≤◌, ◌↔◌, Bool, true, false, cond, ◌&&◌, ◌==◌, nat_lt, nat_le, List, [], ◌∷◌, Option, Some, None, refl, sym, ap, subst, ◌∙◌, arith, is_some}
 use Rattle.std.proofs.lemmas.Bool.Decides.{nat_tests}
 use Rattle.std.proofs.lemmas.Bool.{false≢true}
 use Rattle.std.specs.Prelude.{IfSome, IsSomeAnd, option_map, length, map}
@@ -24,13 +24,13 @@ use Rattle.av_anon.specs.Anons.{Family, family, nobody}
 use Rattle.av_anon.specs.Order.{IsInOrder}
 use Rattle.av_anon.specs.Spans.{spans_of}
 use Rattle.av_anon.proofs.OrderLaws.{order-nobody}
-use Rattle.av_spaces.specs.Kin.{AnonsFit, InOrder, IsOwnedIn, chain_by, info_of}
-use Rattle.av_spaces.specs.Spaces.{AllSpaces, Spaces, areas_of, pages_of, is_taken, AreRising, AllRising, IsOwn}
-use Rattle.av_plain.specs.World.{Page, lives, pages}
+use Rattle.av_spaces.specs.Kin.{InOrder, IsOwnedIn, chain_by, info_of}
+use Rattle.av_spaces.specs.Spaces.{AllSpaces, Spaces, areas_of, pages_of, is_taken, AreRising, AllRising}
+use Rattle.av_plain.specs.World.{Page, lives}
 use Rattle.av_plain.specs.Ledger.{Ledger, Setting, Entry, Zero as ZeroEntry, InFrame, InSlot, first_ledger, frame_at, free_slots, cached_by, Cached, is_cached, same_slot, slot_count, slot_entries}
 use Rattle.av_plain.specs.Device.{no_device}
 use Rattle.av_plain.specs.Choice.{Free, ListsAll, ListsFree, no_slots}
-use Rattle.av_plain.specs.Report.{AreApart, Range, prot_in, range_of}
+use Rattle.av_plain.specs.Report.{AreApart, prot_in, range_of}
 use Rattle.av_plain.specs.Stands.{View, Pte as Plain, SwapStands, entry_of, kin_of, prot_of, IsKept, IsKeptAt, IsClean}
 use Rattle.av_plain.specs.Transcript.{State, at_first}
 use Rattle.av_plain.proofs.Covered.{sound-first}

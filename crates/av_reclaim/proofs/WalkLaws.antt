@@ -1,5 +1,5 @@
 -- What a walk needs holds of whatever the memory system stands for, and what it finds is the ledger's walk.
-use Rattle.std.proofs.Common.{◌≡◌, ℕ, ◌<◌, ◌≤◌, ◌==◌, Bool, true, false, cond, ◌||◌, T, List, [], ◌∷◌, length, map, filter, Option, Some, None, is_some, option_map, Result, Ok, Err, IfSome, IsSomeAnd, refl, sym, ap, subst, ◌∙◌, arith}
+use Rattle.std.proofs.Common.{◌≡◌, ℕ, ◌<◌, ◌≤◌, Bool, true, false, cond, ◌||◌, T, List, [], ◌∷◌, length, map, filter, Option, Some, None, is_some, option_map, Result, Ok, Err, IfSome, IsSomeAnd, refl, sym, ap, subst, ◌∙◌, arith}
 use Rattle.std.specs.Prelude.{IfOk, OnOk}
 use Rattle.std.proofs.lemmas.Bool.{false≢true}
 use Rattle.std.proofs.lemmas.Bool.Decides.{nat_tests}
@@ -34,7 +34,7 @@ use Rattle.av_rmap.proofs.LinkedAreas.{spans-are-areas}
 use Rattle.av_rmap.proofs.SortedLemmas.{below-before, once-there, rising-same}
 use Rattle.av_plain.specs.Areas.{AnonVma, chain_by}
 use Rattle.av_plain.specs.Covered.{IsReached as IsReachedAt}
-use Rattle.av_plain.specs.Ledger.{Entry, Ledger, entry, key_cmp, map_count, names_frame as names, walk}
+use Rattle.av_plain.specs.Ledger.{Entry, entry, key_cmp, names_frame as names, walk}
 use Rattle.av_plain.specs.Stands.{entry_of}
 use Rattle.av_plain.specs.World.{pages}
 use Rattle.av_plain.specs.Transcript.{State, rmap_of}

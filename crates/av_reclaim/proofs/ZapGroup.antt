@@ -1,13 +1,13 @@
 -- The entries of a process go as a whole once their frames are released, group by group. In between, the pages below one stand for no entry, and those from
 -- it on for the ones that there were.
-use Rattle.std.proofs.Common.{◌≡◌, ℕ, suc, ◌+◌, ◌-◌, ◌<◌, ◌≤◌, Bool, true, false, cond, ◌&&◌, List, [], ◌∷◌, length, get_or, Some, refl, sym, ap, subst, ◌∙◌, arith, inl, inr, ◌==◌, nat_lt}
+use Rattle.std.proofs.Common.{◌≡◌, ℕ, suc, ◌+◌, ◌-◌, ◌*◌, ◌/◌, ◌<◌, ◌≤◌, Bool, true, false, cond, ◌&&◌, List, [], ◌∷◌, length, get_or, Some, refl, sym, ap, subst, ◌∙◌, arith, inl, inr, ◌==◌, nat_lt}
 use Rattle.std.proofs.lemmas.Bool.Decides.{nat_tests}
 use Rattle.std.proofs.lemmas.Bool.{cases_lt}
 use Rattle.av_anon.specs.declared.anons.Anons.{Anons as AnonSet}
 use Rattle.av_base.specs.Words.{with_at}
 use Rattle.av_frames.specs.Store.{Shown, shown}
 use Rattle.av_pagetable.specs.Entries.{entry_at, with_entry}
-use Rattle.av_pagetable.specs.Table.{IsFirst}
+use Rattle.av_pagetable.specs.Table.{IsFirst, IsGroup, page_bound}
 use Rattle.av_pagetable.specs.declared.pte.Pte.{Pte}
 use Rattle.av_pagetable.specs.declared.pte.Pte.TheVariants.{Away, Empty, Here, Zero}
 use Rattle.av_plain.specs.Ledger.{InSlot, Ledger, entry, names_slot}
@@ -19,6 +19,7 @@ use Rattle.av_reclaim.specs.declared.mem.Mem.{Mem}
 use Rattle.av_reclaim.specs.Mem.{HasLedger, plain}
 use Rattle.av_reclaim.specs.Zap.{AreInUse, HasZapped, IsInUse, after_release, after_unmap, after_unmaps}
 use Rattle.av_spaces.specs.Spaces.{AllSpaces}
+use Rattle.av_reclaim.proofs.Groups.{group_from}
 use Rattle.av_reclaim.proofs.Parts.{Parts, Stand, parts_of, seen_as}
 use Rattle.av_reclaim.proofs.ZapFirst.{frame_taken, frame_used, nothing_at, zero_taken}
 use Rattle.av_reclaim.proofs.ZapFrame.{released_count, seen_released}
@@ -154,6 +155,21 @@ module _ (p : ℕ) (old : ℕ → ℕ → Pte) where
           (subst (λ e. IsInUse e frames) here one.0, rest.0),
           subst (IsZapping (after_unmaps es (after_unmap e frames))) (let same : page + 1 + length es ≡ page + length (e ∷ es) = omega arith in same) rest.1,
         )
+
+-- the group of the first page with an entry goes, and the pages before it have none
+pub next_group : (p : ℕ) (old : ℕ → ℕ → Pte) (parts : Parts) (spaces : AllSpaces) (anons : AnonSet) (first : Ledger) (frames : Shown) (number page : ℕ)
+    (group : List Pte) → length group ≡ 64 → IsFirst (old p) (number * 64) page_bound page → IsGroup (old p) (page / 64) group
+    → IsZapping p old parts spaces anons page_bound first frames (number * 64)
+    → AreInUse group frames × IsZapping p old parts spaces anons page_bound first (after_unmaps group frames) ((page / 64 + 1) * 64)
+next_group p old parts spaces anons first frames number page group long is are t =
+    let at = group_from (old p) number page (length group) long is in
+    let low = at.low in
+    let here = at.here in
+    let gone = whole_group p old parts spaces anons page_bound first group frames (page / 64 * 64) at.fits
+    (λ i under. are i (omega (arith, under, long)))
+    (skip_to p old parts spaces anons page_bound first frames (number * 64) (page / 64 * 64) low
+    (λ o above under. is.least o above (omega (arith, under, here))) t) in
+    (gone.0, subst (IsZapping p old parts spaces anons page_bound first (after_unmaps group frames)) at.past gone.1)
 
 -- nothing has gone yet
 pub none_gone : (k : Mem) (p past : ℕ) (l : Ledger) → HasLedger k l → IsZapping p (entry_at k.tables) (parts_of k) k.spaces k.anons past l (shown k.frames) 0

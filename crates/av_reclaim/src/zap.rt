@@ -1,6 +1,6 @@
 //! How the entries of a range of pages go: each frame that no other entry names becomes free.
 
-ghost use Rattle.std.specs.Prelude.{◌≡◌, ℕ, ◌-◌, ◌<◌, ◌≤◌, true, false, IfSome};
+ghost use Rattle.std.specs.Prelude.{◌≡◌, ◌-◌, ◌<◌, ◌≤◌, false, IfSome};
 ghost use Rattle.av_base.specs.Words.{is_in};
 ghost use Rattle.av_plain.specs.Ledger.{Ledger};
 ghost use Rattle.av_plain.specs.Zap.{keys_in, keys_of_process, zaps_of};

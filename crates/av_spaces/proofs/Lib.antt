@@ -5,3 +5,4 @@ pub mod Rising
 pub mod Trees
 pub mod Kin
 pub mod Numbers
+pub mod Lent

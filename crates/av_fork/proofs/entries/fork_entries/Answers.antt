@@ -1,5 +1,4 @@
-use Rattle.std.proofs.Common.{◌≡◌, ℕ, ◌+◌, ◌*◌, ◌/◌, ◌≤◌, ◌∙◌, ap, arith, length, refl, subst, sym}
-use Rattle.std.proofs.lemmas.Nat.{div-add-mod', le-div}
+use Rattle.std.proofs.Common.{ℕ, ◌+◌, ◌*◌, ◌/◌, ◌∙◌, ap, arith, length, refl, subst, sym}
 use Rattle.av_base.specs.Words.{with_at}
 use Rattle.av_frames.specs.Store.{Shown, shown}
 use Rattle.av_pagetable.specs.Entries.{entry_at}
@@ -8,9 +7,10 @@ use Rattle.av_pagetable.specs.declared.pte.Pte.{Pte}
 use Rattle.av_plain.specs.Stands.{free_of}
 use Rattle.av_reclaim.specs.Mem.{plain, view_of_parts}
 use Rattle.av_reclaim.proofs.MemLaws.{view_same}
+use Rattle.av_reclaim.proofs.Groups.{group_from}
 use Rattle.av_reclaim.proofs.ZapRange.{rest_rest}
 use Rattle.av_fork.specs.Entries.{names}
-use Rattle.av_fork.proofs.EntriesViews.{IsForkingTo, all_over, few_named, group_is, in_error, in_range, none_over, parent_none, same_ledger, skip_to, whole_group}
+use Rattle.av_fork.proofs.EntriesViews.{IsForkingTo, all_over, child_is, few_named, in_error, in_range, next_group, none_over, same_ledger}
 use Rattle.av_fork.proofs.entries.fork_entries.Goals as goal
 
 pub returns-in_err-copy-clause-orderly : goal.returns-in_err-copy-clause-orderly
@@ -48,13 +48,13 @@ map_up_each-requires-clause-in_range c = λ i f write was low is.
     let now = c.loop-page.mem in
     let v = c.loop-page.invariant in
     let o = c.requires.orderly in
-    let page = c.in-Some.page in
-    let first = c.in-Some.ensures in
-    let from : c.loop-page.number ≤ page / 64 = le-div c.loop-page.number page 64 (omega arith) first.from_there in
+    let at = group_from (entry_at now.tables c.args.child) c.loop-page.number c.in-Some.page (length c.read_group.new.group) c.read_group.array_long
+    c.in-Some.ensures in
+    let from = at.low in
     in_range c.args.parent c.args.child (entry_at old.tables) c.requires.empty now.spaces now.anons o.0 (shown now.frames)
     (c.loop-page.number * 64) (v.forking o.0 o.1)
-    (page / 64 * 64 + i) (omega (arith, from)) f write was
-    (sym (group_is old c.args.parent c.args.child c.requires.empty now v.tables c.read_group.new.group (page / 64 * 64) c.read_group.ensures i low) ∙ is)
+    (c.in-Some.page / 64 * 64 + i) (omega (arith, from)) f write was
+    (sym (c.read_group.ensures i low ∙ child_is old c.args.parent c.args.child c.requires.empty now v.tables (c.in-Some.page / 64 * 64 + i)) ∙ is)
 
 pub loop-page-preserved : goal.loop-page-preserved
 loop-page-preserved c =
@@ -62,32 +62,24 @@ loop-page-preserved c =
     let now = c.loop-page.mem in
     let v = c.loop-page.invariant in
     let page = c.in-Some.page in
-    let is = c.in-Some.ensures in
     let group = c.read_group.new.group in
-    let start = page / 64 * 64 in
-    let past = (page / 64 + 1) * 64 in
-    let from : c.loop-page.number ≤ page / 64 = le-div c.loop-page.number page 64 (omega arith) is.from_there in
-    let low : c.loop-page.number * 64 ≤ start = omega (arith, from) in
-    let here : start ≤ page = omega (arith, div-add-mod' page 64) in
-    let below = is.below in
-    let long : length group ≡ 64 = c.read_group.array_long in
+    let at = group_from (entry_at now.tables c.args.child) c.loop-page.number page (length group) c.read_group.array_long c.in-Some.ensures in
     let ups = c.map_up_each.ensures in
     record {
-      within = omega (arith, here, below);
-      few = λ f. let few = v.few f in let named = few_named (λ e. names f (plain e)) group in let up = ap (λ (s : Shown). s.maps f) ups in
-          omega (arith, few, named, up, long, low);
+      within = at.within;
+      few = λ f.
+          let few = v.few f in
+          let named = few_named (λ e. names f (plain e)) group in
+          let up = ap (λ (s : Shown). s.maps f) ups in
+          let low = at.low in
+          let past = at.past in
+          omega (arith, few, named, up, low, past);
       tables = v.tables;
       forking = λ first stands.
-          subst (λ n. IsForkingTo now.spaces now.anons c.args.parent c.args.child (entry_at old.tables) (shown c.map_up_each.new.frames) n first)
-          (let same : start + length group ≡ past = omega (arith, long) in same)
-          (subst (λ (s : Shown). IsForkingTo now.spaces now.anons c.args.parent c.args.child (entry_at old.tables) s (start + length group) first) (sym ups)
-          (whole_group c.args.parent c.args.child (entry_at old.tables) c.requires.empty now.spaces now.anons first group (shown now.frames) start
-          (omega (arith, long, here, below))
-          (λ i under. group_is old c.args.parent c.args.child c.requires.empty now v.tables group start c.read_group.ensures i (omega (arith, under, long)))
-          (skip_to c.args.parent c.args.child (entry_at old.tables) c.requires.empty now.spaces now.anons first (shown now.frames)
-          (c.loop-page.number * 64) start low
-          (λ o above under. parent_none old c.args.parent c.args.child c.requires.empty now v.tables o (is.least o above (omega (arith, under, here))))
-          (v.forking first stands))));
+          subst (λ (s : Shown). IsForkingTo now.spaces now.anons c.args.parent c.args.child (entry_at old.tables) s ((page / 64 + 1) * 64) first) (sym ups)
+          (next_group c.args.parent c.args.child (entry_at old.tables) c.requires.empty now.spaces now.anons first (shown now.frames)
+          (entry_at now.tables c.args.child) c.loop-page.number page group c.read_group.array_long
+          (child_is old c.args.parent c.args.child c.requires.empty now v.tables) c.in-Some.ensures c.read_group.ensures (v.forking first stands));
       free = ap (λ (s : Shown). free_of (view_of_parts s (λ p o. plain (entry_at now.tables p o)) now.spaces now.anons)) ups ∙ v.free;
       rest = rest_rest v.rest (record {
         processes = refl;

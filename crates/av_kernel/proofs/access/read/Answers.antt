@@ -1,44 +1,25 @@
 -- The reply by how the access ended.
-use Rattle.std.proofs.Common.{[], false, refl, sym, subst, ◌∙◌}
-use Rattle.av_kernel.specs.Access.{IsAccess}
+use Rattle.std.proofs.Common.{sym, subst, ◌∙◌}
+use Rattle.av_kernel.specs.Step.{MemSteps}
 use Rattle.av_reclaim.proofs.MemLaws.{lives_is}
 use Rattle.av_trace.specs.declared.command.Command.TheVariants.{Read}
 use Rattle.av_trace.specs.declared.reply.Errno.TheVariants.{Esrch}
-use Rattle.av_trace.specs.declared.reply.Answer.TheVariants.{Data}
 use Rattle.av_kernel.proofs.StepLaws.{refuses, refuses-as, dead_first, wants-by}
-use Rattle.av_kernel.proofs.AccessSteps.{read-done, read-stopped}
+use Rattle.av_kernel.proofs.AccessSteps.{read-ended}
 use Rattle.av_kernel.proofs.access.read.Goals as goal
 
-pub returns-in-None : goal.returns-in-None
-returns-in-None c = record {
+pub returns : goal.returns
+returns c = record {
   count = c.in_ok-ended.ensures.count;
   step = λ s keeps.
       let reply = c.args.reply.now in
-      let k = c.in_ok-ended.ended.served in
       let new = c.read_pieces.new in
       let lived = sym (lives_is c.args.mem.now s keeps c.args.process) ∙ c.in_ok-check_lives.ensures in
-      read-done s c.args.mem.now new.mem c.args.process c.args.address reply.notes new.notes reply.rows k c.requires.cleared.notes c.requires.cleared.rows
-      c.in_ok-ended.ensures.count lived keeps
-      c.args.len new.shown (Data new.shown)
-      (subst (λ end. IsAccess s new.mem false c.args.process c.args.address c.args.len [] reply.notes new.notes end k) c.in-None.is
-      (c.in_ok-ended.ensures.access s keeps))
-      (c.in_ok-ended.ensures.reads s keeps) refl;
-}
-
-pub returns-in-Some : goal.returns-in-Some
-returns-in-Some c = record {
-  count = c.in_ok-ended.ensures.count;
-  step = λ s keeps.
-      let reply = c.args.reply.now in
-      let k = c.in_ok-ended.ended.served in
-      let new = c.read_pieces.new in
-      let lived = sym (lives_is c.args.mem.now s keeps c.args.process) ∙ c.in_ok-check_lives.ensures in
-      read-stopped s c.args.mem.now new.mem c.args.process c.args.address reply.notes new.notes reply.rows k c.requires.cleared.notes c.requires.cleared.rows
-      c.in_ok-ended.ensures.count lived keeps
-      c.args.len new.shown c.stop_answer.result c.in-Some.stop
-      (subst (λ end. IsAccess s new.mem false c.args.process c.args.address c.args.len [] reply.notes new.notes end k) c.in-Some.is
-      (c.in_ok-ended.ensures.access s keeps))
-      (c.in_ok-ended.ensures.reads s keeps) c.stop_answer.ensures;
+      subst (MemSteps c.args.mem.now new.mem s (Read c.args.process c.args.address c.args.len)) (sym c.answer_with.ensures)
+      (read-ended s c.args.mem.now new.mem c.args.process c.args.address reply.notes new.notes reply.rows c.in_ok-ended.ended.served
+      c.requires.cleared.notes c.requires.cleared.rows c.in_ok-ended.ensures.count lived keeps
+      c.args.len new.shown c.read_answer.result c.in_ok-ended.ended.stop
+      (c.in_ok-ended.ensures.access s keeps) (c.in_ok-ended.ensures.reads s keeps) c.read_answer.ensures);
 }
 
 pub returns-in_err-check_lives : goal.returns-in_err-check_lives

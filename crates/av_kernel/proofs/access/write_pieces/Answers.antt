@@ -13,6 +13,11 @@ part k m bytes = take (k + m - k) (drop k bytes)
 parts : (k m : ℕ) (bytes : List ℕ) → take k bytes ++ part k m bytes ≡ take (k + m) bytes
 parts k m bytes = ap (λ n. take k bytes ++ take n (drop k bytes)) (let same : k + m - k ≡ m = omega arith in same) ∙ sym (take-add k m bytes)
 
+pub write_page-requires-clause-steady : goal.write_page-requires-clause-steady
+write_page-requires-clause-steady c =
+    let h = c.loop-done.invariant.access c.requires.steady.0 c.requires.steady.1 in
+    (h.next, h.keeps)
+
 pub returns-in-Some-clause-access : goal.returns-in-Some-clause-access
 returns-in-Some-clause-access c = λ s keeps.
     let bytes = c.args.bytes.now in

@@ -11,11 +11,11 @@ use Rattle.av_plain.specs.Areas.{with_room}
 use Rattle.av_vma.specs.Pages.{after_map}
 use Rattle.av_spaces.specs.Spaces.{pages_of as plain_pages}
 use Rattle.av_merge.specs.Kin.{lengths}
-use Rattle.av_kernel.specs.Place.{IsPlaced}
+use Rattle.av_place.specs.Place.{IsPlaced}
 use Rattle.std.specs.Int.{div_ceil}
 use Rattle.av_trace.specs.declared.reply.Errno.TheVariants.{Esrch, Einval, Enomem}
 use Rattle.av_kernel.proofs.StepLaws.{answers, orderly, ranges_there, refuses, refuses-as, refuses-by, dead_first, wants-by}
-use Rattle.av_kernel.proofs.PlaceLaws.{rounded_up, suited}
+use Rattle.av_place.proofs.PlaceLaws.{rounded_up, suited}
 use Rattle.av_kernel.proofs.MapLaws.{taken_is, suits, unmapped_lives, unmapped_free, mmap-refused, mmap-steps, mmap-tests-first, mmap-tests-second}
 use Rattle.av_kernel.proofs.MapProts.{gets_areas, mapped-homes, mapped-prots}
 use Rattle.av_kernel.proofs.map.mmap.Goals as goal
@@ -115,7 +115,7 @@ returns c = record {
       let homes = mapped-homes (lengths mid.spaces.areas mid.anons) mid.spaces.processes c.map.new.self.processes c.args.process page c.div_ceil-pages.result
       c.args.prot (some_pages c.args.len c.div_ceil-pages.result c.if-len-eq0.false c.div_ceil-pages.ensures) suit.lowest suit.highest
       free c.in_ok-map.ensures.areas in
-      answers c.args.reply.now c.requires.cleared
+      answers c.args.reply.now c.answer_with.new.reply c.requires.cleared c.answer_with.ensures
       (mmap-steps k s c.args.process c.args.len c.args.prot c.args.place keeps (ranges_there k c.args.process c.in_ok-check_lives.ensures)
       (not_zero c.args.len c.if-len-eq0.false) (sym c.is_too_long.ensures ∙ c.if-is_too_long.false)
       mid c.map.new.self c.map.new.anons page placed (suited k.spaces.processes c.args.process (pages s.world c.args.process)

@@ -5,7 +5,7 @@ use Rattle.av_spaces.specs.Spaces.{is_taken}
 use Rattle.av_merge.specs.Kin.{lengths}
 use Rattle.av_trace.specs.declared.reply.Errno.TheVariants.{Esrch}
 use Rattle.av_kernel.proofs.StepLaws.{answers, ranges_there, refuses, refuses-as, refuses-by, dead_first, wants-by}
-use Rattle.av_kernel.proofs.PlaceLaws.{rounded_up}
+use Rattle.av_place.proofs.PlaceLaws.{rounded_up}
 use Rattle.av_kernel.proofs.MapLaws.{mprotect-steps, mprotect-stops, mprotect-refused}
 use Rattle.av_kernel.proofs.MapProts.{gets_areas, protected-homes, protected-prots}
 use Rattle.av_kernel.proofs.map.mprotect.Goals as goal
@@ -37,7 +37,7 @@ returns c = record {
       let page = c.args.address / 4096 in
       let reached = c.in_ok-reached.reached in
       let size = c.div_ceil-pages.ensures ∙ rounded_up c.args.len in
-      answers c.args.reply.now c.requires.cleared
+      answers c.args.reply.now c.answer_with.new.reply c.requires.cleared c.answer_with.ensures
       (mprotect-steps k c.protect.new.self c.protect.new.anons s c.args.process c.args.address c.args.len reached c.args.prot keeps
       (ranges_there k c.args.process c.in_ok-check_lives.ensures) c.in_ok-check_protect.ensures
       (subst (λ n. GoesTo (is_taken k.spaces.processes c.args.process) page (page + n) reached) size c.in_ok-reached.ensures.reached)

@@ -6,7 +6,7 @@ use Rattle.av_vma.specs.Pages.{after_unmap}
 use Rattle.av_spaces.specs.Spaces.{pages_of}
 use Rattle.av_trace.specs.declared.reply.Errno.TheVariants.{Esrch, Einval}
 use Rattle.av_kernel.proofs.StepLaws.{answers, orderly, ranges_there, refuses, refuses-as, dead_first, wants-by}
-use Rattle.av_kernel.proofs.PlaceLaws.{rounded_up}
+use Rattle.av_place.proofs.PlaceLaws.{rounded_up}
 use Rattle.av_kernel.proofs.MapLaws.{munmap-steps, munmap-refused}
 use Rattle.av_kernel.proofs.map.munmap.Goals as goal
 
@@ -32,7 +32,7 @@ returns c = record {
   step = λ s keeps.
       let k = c.args.mem.now in
       let page = c.args.address / 4096 in
-      answers c.args.reply.now c.requires.cleared
+      answers c.args.reply.now c.answer_with.new.reply c.requires.cleared c.answer_with.ensures
       (munmap-steps k c.unmap_pages.new.mem s c.args.process c.args.address c.args.len keeps (ranges_there k c.args.process c.in_ok-check_lives.ensures)
       (sym c.is_no_range.ensures ∙ c.if-is_no_range.false) c.unmap_pages.ensures.count
       (subst (λ n. AreUnmapped k c.unmap_pages.new.mem c.args.process page n (after_unmap page (page + n) (pages_of k.spaces.processes c.args.process)) s.ledger

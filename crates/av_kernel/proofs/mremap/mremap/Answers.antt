@@ -7,11 +7,10 @@ use Rattle.av_plain.specs.Areas.{chain_length}
 use Rattle.av_plain.specs.Mremap.{after_mremap}
 use Rattle.av_plain.specs.World.{pages}
 use Rattle.av_mremap.specs.Areas.{HasRemap}
-use Rattle.av_kernel.specs.Mremap.{IsTarget}
-use Rattle.av_kernel.specs.declared.refusal.Refusal.TheVariants as refusals
+use Rattle.av_place.specs.Mremap.{IsTarget}
 use Rattle.av_kernel.proofs.MremapGoes.{Goes, Passes, both_are, grow_by, high_by, last_by, move_by, shrink_by, some_by, some_new, steps_by, to_fits}
 use Rattle.av_kernel.proofs.MremapRefusals.{dead_does, have_prots_of, no_room_does, refused_does}
-use Rattle.av_kernel.proofs.PlaceLaws.{rounded_up}
+use Rattle.av_place.proofs.PlaceLaws.{rounded_up}
 use Rattle.av_kernel.proofs.StepLaws.{answers, orderly, refuses-as, refuses-by, ranges_there, wants-by}
 use Rattle.av_kernel.proofs.ForkLaws.{still_orderly}
 use Rattle.av_kernel.proofs.mremap.mremap.Goals.{In_ok-check_remap, In_ok-to}
@@ -163,7 +162,7 @@ returns c = record {
       let a = c.args in
       let gone = c.remap_areas.new.mem in
       let left = c.prot_left-left.ensures (pages s.world a.process) (have_prots_of a.mem.now s keeps a.process) in
-      answers a.reply.now c.requires.cleared
+      answers a.reply.now c.answer_with.new.reply c.requires.cleared c.answer_with.ensures
       (steps_by (goes (goal.at.returns c).In_ok-to) s keeps c.in_ok-check_indices.ensures.small gone c.remap_entries.new.mem
       c.remap_areas.ensures.frames c.remap_areas.ensures.tables
       (subst (λ left. HasRemap a.mem.now gone a.process (after_mremap (chain_length s.anons) a.process (a.address / 4096)

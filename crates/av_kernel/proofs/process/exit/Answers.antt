@@ -24,7 +24,7 @@ returns c = record {
       let old = c.args.mem.now in
       let mid = c.zap_all.new.mem in
       let rest = c.zap_all.ensures.rest in
-      answers c.args.reply.now c.requires.cleared
+      answers c.args.reply.now c.answer_with.new.reply c.requires.cleared c.answer_with.ensures
       (exit-steps old mid c.end.new.self c.end-2.new.self c.end-2.new.anons s c.args.process keeps (ranges_there old c.args.process c.in_ok-check_lives.ensures)
       (c.zap_all.ensures.zapped s.ledger (orderly old s keeps))
       rest.bytes rest.homes rest.spaces rest.processes rest.count c.end.ensures.processes c.end.ensures.entries c.end-2.ensures.areas

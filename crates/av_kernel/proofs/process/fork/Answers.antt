@@ -74,7 +74,7 @@ returns c = record {
       let k = c.args.mem.now in
       let gone = c.fork_areas.new.mem in
       let areas = c.fork_areas.ensures in
-      answers c.args.reply.now c.requires.cleared
+      answers c.args.reply.now c.answer_with.new.reply c.requires.cleared c.answer_with.ensures
       (fork-steps k gone c.fork_entries.new.mem c.spawn.new.self s c.args.parent c.args.child keeps c.in_ok-check_lives.ensures c.in_ok-check_new.ensures
       areas.frames areas.tables (c.in_ok-fork_areas.ensures.forks s keeps)
       c.in_ok-spawn.ensures.processes (c.in_ok-fork_entries.ensures.forks s.ledger

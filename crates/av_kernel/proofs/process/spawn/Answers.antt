@@ -30,7 +30,7 @@ returns c = record {
   count = refl;
   step = λ s keeps.
       let k = c.args.mem.now in
-      answers c.args.reply.now c.requires.cleared
+      answers c.args.reply.now c.answer_with.new.reply c.requires.cleared c.answer_with.ensures
       (spawned-steps k c.spawn.new.self c.spawn-2.new.self s c.args.process keeps c.in_ok-check_new.ensures c.in_ok-spawn.ensures.entries
       c.in_ok-spawn.ensures.processes c.in_ok-spawn-2.ensures.ok (c.in_ok-spawn-2.ensures.anons k.anons keeps.anons.order));
 }

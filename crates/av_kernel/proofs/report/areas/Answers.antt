@@ -34,12 +34,13 @@ returns c = record {
       let areas = c.in_ok-areas.areas.items in
       let rows : c.add_areas.new.rows ≡ map (area_row (view k).anons) areas =
       c.in_ok-add_areas.ensures ∙ ap (map (area_row (view k).anons)) c.deref.ensures.value in
-      subst (MemSteps k k s (AsksAreas c.args.process)) (λ i. record {
+      subst (MemSteps k k s (AsksAreas c.args.process)) (sym c.answer_with.ensures)
+      (subst (MemSteps k k s (AsksAreas c.args.process)) (λ i. record {
         answer = AreaList (length ((sym rows ∙ sym c.as_slice.ensures) i));
         notes = sym c.requires.cleared.notes i;
         rows = sym rows i;
       })
-      (areas-steps k s c.args.process areas keeps c.in_ok-check_lives.ensures are.areas are.rising);
+      (areas-steps k s c.args.process areas keeps c.in_ok-check_lives.ensures are.areas are.rising));
 }
 
 pub add_areas-requires-clause-areas : goal.add_areas-requires-clause-areas

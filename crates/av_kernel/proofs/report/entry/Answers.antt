@@ -22,7 +22,7 @@ returns-in_err-check_mapped c =
 pub returns : goal.returns
 returns c = record {
   count = refl;
-  step = λ s keeps. answers c.args.reply.now c.requires.cleared
+  step = λ s keeps. answers c.args.reply.now c.answer_with.new.reply c.requires.cleared c.answer_with.ensures
       (entry-steps c.args.mem.now s c.args.process c.args.address keeps c.in_ok-check_lives.ensures c.in_ok-check_mapped.ensures c.entry_answer.result
       (c.entry_answer.ensures s keeps));
 }

@@ -33,12 +33,13 @@ returns c = record {
       let k = c.args.mem.now in
       let areas = c.in_ok-areas.ensures.areas in
       let runs = subst (λ (areas : List Area). AreRuns (map range_of areas) c.add_runs.new.rows) c.deref.ensures.value c.in_ok-add_runs.ensures in
-      subst (MemSteps k k s (Maps c.args.process)) (λ i. record {
+      subst (MemSteps k k s (Maps c.args.process)) (sym c.answer_with.ensures)
+      (subst (MemSteps k k s (Maps c.args.process)) (λ i. record {
         answer = Runs (length (sym c.as_slice.ensures i));
         notes = sym c.requires.cleared.notes i;
         rows = c.add_runs.new.rows;
       })
-      (maps-steps k s c.args.process c.in_ok-areas.areas.items c.add_runs.new.rows keeps c.in_ok-check_lives.ensures areas runs);
+      (maps-steps k s c.args.process c.in_ok-areas.areas.items c.add_runs.new.rows keeps c.in_ok-check_lives.ensures areas runs));
 }
 
 pub add_runs-requires-clause-rising : goal.add_runs-requires-clause-rising

@@ -43,6 +43,6 @@ returns-in-Empty c = record {
   count = refl;
   step = λ s keeps.
       walk-steps c.args.mem.now s c.args.process c.args.address keeps c.in_ok-check_lives.ensures c.in_ok-check_mapped.ensures c.get.result
-      (record c.args.reply.now { answer = NoWalk })
-      (sym c.get.ensures) (only_answer c.args.reply.now NoWalk c.requires.cleared ∙ none-shown s.ledger c.get.result c.in-Empty.is);
+      c.answer_with.new.reply
+      (sym c.get.ensures) (c.answer_with.ensures ∙ only_answer c.args.reply.now NoWalk c.requires.cleared ∙ none-shown s.ledger c.get.result c.in-Empty.is);
 }

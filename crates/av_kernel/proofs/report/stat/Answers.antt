@@ -15,7 +15,7 @@ returns c = record {
       let k = c.args.mem.now in
       let frames = c.count-frames.ensures in
       let free = c.free-free.ensures.count in
-      answers c.args.reply.now c.requires.cleared (subst (MemSteps k k s Stat)
+      answers c.args.reply.now c.answer_with.new.reply c.requires.cleared c.answer_with.ensures (subst (MemSteps k k s Stat)
       (sym (same_reply _ _ _ _ _ _ c.count.result (c.from.ensures ∙ frames) (c.from-2.ensures ∙ free) (c.from-3.ensures ∙ (λ j. frames j - free j))))
       (stat-steps k s c.count.result keeps c.free-free.ensures.once c.free-free.ensures.in_range c.count.ensures));
 }

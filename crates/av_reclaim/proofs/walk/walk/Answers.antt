@@ -1,15 +1,12 @@
 use Rattle.std.proofs.Common.{◌≡◌, ℕ, ◌+◌, ◌<◌, ◌≤◌, List, Option, length, sym, ap, subst, ◌∙◌, arith}
 use Rattle.std.specs.List.{AllByRecursion}
 use Rattle.av_base.specs.Limits.{top_page}
-use Rattle.av_base.specs.Words.{how_many}
-use Rattle.av_interval.specs.Search.{overlaps}
 use Rattle.av_vma.specs.declared.area.Area.{Area}
 use Rattle.av_rmap.specs.Covered.{IsCovered}
 use Rattle.av_rmap.specs.Sorted.{AreRising}
 use Rattle.av_rmap.specs.View.{AreApart}
 use Rattle.av_rmap.specs.Walk.{AreItsEntries, Key}
 use Rattle.av_plain.specs.Ledger.{walk as walk_of}
-use Rattle.av_reclaim.specs.Mem.{view}
 use Rattle.av_reclaim.specs.Walk.{areas_at}
 use Rattle.av_reclaim.proofs.WalkLaws.{apart, below, covered, few, found, if_both, looks, none-named, on_ok, reach_by}
 use Rattle.av_reclaim.proofs.walk.walk.Goals as goal

@@ -1,14 +1,14 @@
-use Rattle.std.proofs.Common.{◌≡◌, ℕ, ◌+◌, ◌*◌, ◌/◌, ◌≤◌, ◌∙◌, ap, arith, length, refl, subst, sym}
-use Rattle.std.proofs.lemmas.Nat.{div-add-mod', le-div}
+use Rattle.std.proofs.Common.{ℕ, ◌+◌, ◌*◌, ◌/◌, ◌∙◌, ap, arith, length, refl, subst, sym}
 use Rattle.av_base.specs.Words.{with_at}
 use Rattle.av_frames.specs.Store.{Shown, shown}
 use Rattle.av_pagetable.specs.Entries.{entry_at}
-use Rattle.av_pagetable.specs.Table.{page_bound}
+use Rattle.av_pagetable.specs.Table.{IsFirst, IsGroup, page_bound}
 use Rattle.av_pagetable.specs.declared.pte.Pte.{Pte}
 use Rattle.av_pagetable.specs.declared.pte.Pte.TheVariants.{Empty}
+use Rattle.av_reclaim.proofs.Groups.{group_from}
 use Rattle.av_reclaim.proofs.Parts.{parts_of}
 use Rattle.av_reclaim.proofs.ZapFrame.{all_same}
-use Rattle.av_reclaim.proofs.ZapGroup.{IsZapping, all_gone_at, none_gone, skip_to, whole_group}
+use Rattle.av_reclaim.proofs.ZapGroup.{IsZapping, all_gone_at, next_group, none_gone}
 use Rattle.av_reclaim.proofs.ZapRange.{all_gone, rest_rest}
 use Rattle.av_reclaim.proofs.zap.zap_all.Goals as goal
 
@@ -26,52 +26,31 @@ unmap_each-requires c =
     let now = c.loop-page.mem in
     let v = c.loop-page.invariant in
     let o = c.requires.orderly in
-    let page = c.in-Some.page in
-    let is = c.in-Some.ensures in
-    let group = c.read_group.new.group in
-    let start = page / 64 * 64 in
-    let from : c.loop-page.number ≤ page / 64 = le-div c.loop-page.number page 64 (omega arith) is.from_there in
-    let low : c.loop-page.number * 64 ≤ start = omega (arith, from) in
-    let here : start ≤ page = omega (arith, div-add-mod' page 64) in
-    let below = is.below in
-    let long : length group ≡ 64 = c.read_group.array_long in
-    (whole_group c.args.process (entry_at old.tables) (parts_of old) now.spaces now.anons page_bound o.0 group (shown now.frames) start
-    (omega (arith, long, here, below))
-    (λ i under. c.read_group.ensures i (omega (arith, under, long)) ∙ ap (λ t. entry_at t c.args.process (start + i)) v.tables)
-    (skip_to c.args.process (entry_at old.tables) (parts_of old) now.spaces now.anons page_bound o.0 (shown now.frames) (c.loop-page.number * 64) start low
-    (λ q above under. ap (λ t. entry_at t c.args.process q) (sym v.tables) ∙ is.least q above (omega (arith, under, here))) (v.zapping o.0 o.1))).0
+    let p = c.args.process in
+    (next_group p (entry_at old.tables) (parts_of old) now.spaces now.anons o.0 (shown now.frames) c.loop-page.number c.in-Some.page c.read_group.new.group
+    c.read_group.array_long
+    (subst (λ t. IsFirst (entry_at t p) (c.loop-page.number * 64) page_bound c.in-Some.page) v.tables c.in-Some.ensures)
+    (subst (λ t. IsGroup (entry_at t p) (c.in-Some.page / 64) c.read_group.new.group) v.tables c.read_group.ensures) (v.zapping o.0 o.1)).0
 
 pub loop-page-preserved : goal.loop-page-preserved
 loop-page-preserved c =
     let old = c.args.mem.now in
     let now = c.loop-page.mem in
     let v = c.loop-page.invariant in
+    let p = c.args.process in
     let page = c.in-Some.page in
-    let is = c.in-Some.ensures in
     let group = c.read_group.new.group in
-    let start = page / 64 * 64 in
-    let past = (page / 64 + 1) * 64 in
-    let from : c.loop-page.number ≤ page / 64 = le-div c.loop-page.number page 64 (omega arith) is.from_there in
-    let low : c.loop-page.number * 64 ≤ start = omega (arith, from) in
-    let here : start ≤ page = omega (arith, div-add-mod' page 64) in
-    let below = is.below in
-    let long : length group ≡ 64 = c.read_group.array_long in
     let gone = c.unmap_each.ensures in
     let same = all_same group (shown now.frames) in
     record {
-      within = omega (arith, here, below);
+      within = (group_from (entry_at now.tables p) c.loop-page.number page (length group) c.read_group.array_long c.in-Some.ensures).within;
       tables = v.tables;
       zapping = λ first stands.
-          subst (λ n. IsZapping c.args.process (entry_at old.tables) (parts_of old) now.spaces now.anons page_bound first (shown c.unmap_each.new.frames) n)
-          (let same : start + length group ≡ past = omega (arith, long) in same)
-          (subst (λ (s : Shown). IsZapping c.args.process (entry_at old.tables) (parts_of old) now.spaces now.anons page_bound first s (start + length group))
-          (sym gone)
-          (whole_group c.args.process (entry_at old.tables) (parts_of old) now.spaces now.anons page_bound first group (shown now.frames) start
-          (omega (arith, long, here, below))
-          (λ i under. c.read_group.ensures i (omega (arith, under, long)) ∙ ap (λ t. entry_at t c.args.process (start + i)) v.tables)
-          (skip_to c.args.process (entry_at old.tables) (parts_of old) now.spaces now.anons page_bound first (shown now.frames)
-          (c.loop-page.number * 64) start low
-          (λ q above under. ap (λ t. entry_at t c.args.process q) (sym v.tables) ∙ is.least q above (omega (arith, under, here))) (v.zapping first stands))).1);
+          subst (λ (s : Shown). IsZapping p (entry_at old.tables) (parts_of old) now.spaces now.anons page_bound first s ((page / 64 + 1) * 64)) (sym gone)
+          (next_group p (entry_at old.tables) (parts_of old) now.spaces now.anons first (shown now.frames) c.loop-page.number page group
+          c.read_group.array_long
+          (subst (λ t. IsFirst (entry_at t p) (c.loop-page.number * 64) page_bound page) v.tables c.in-Some.ensures)
+          (subst (λ t. IsGroup (entry_at t p) (page / 64) group) v.tables c.read_group.ensures) (v.zapping first stands)).1;
       rest = rest_rest v.rest (record {
         processes = refl;
         bytes = ap (λ (s : Shown). s.bytes) gone ∙ same.bytes;

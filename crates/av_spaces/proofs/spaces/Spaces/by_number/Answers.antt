@@ -1,6 +1,6 @@
 use Rattle.std.proofs.Common.{subst}
 use Rattle.av_vma.specs.Areas.{area_of}
-use Rattle.av_spaces.specs.Spaces.{AllRising, AllSpaces, AreNumbered}
+use Rattle.av_spaces.specs.Spaces.{AllRising, AreNumbered}
 use Rattle.av_spaces.proofs.Numbers.{numbered_in}
 use Rattle.av_spaces.proofs.Trees.{all_rising, processes_are}
 use Rattle.av_spaces.proofs.spaces.Spaces.by_number.Goals as goal

@@ -1,7 +1,7 @@
 use Rattle.std.proofs.Common.{◌≡◌, ℕ, ◌-◌, ◌<◌, ◌≤◌, Some}
 use Rattle.av_spaces.specs.Spaces.{pages_of}
 use Rattle.av_vma.proofs.Prots.{prots}
-use Rattle.av_kernel.proofs.mremap.have_prot.Given as goal
+use Rattle.av_place.proofs.mremap.have_prot.Given as goal
 
 abbrev pub invariant-loop-page : goal.invariant-loop-page
 invariant-loop-page l = record {

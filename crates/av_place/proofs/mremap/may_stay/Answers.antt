@@ -1,5 +1,5 @@
-use Rattle.av_kernel.proofs.MremapTests.{may_stay-is}
-use Rattle.av_kernel.proofs.mremap.may_stay.Goals as goal
+use Rattle.av_place.proofs.MremapTests.{may_stay-is}
+use Rattle.av_place.proofs.mremap.may_stay.Goals as goal
 
 pub returns-then-from-new_pages-le-TOP_PAGE : goal.returns-then-from-new_pages-le-TOP_PAGE
 returns-then-from-new_pages-le-TOP_PAGE c = λ q same.

@@ -24,8 +24,8 @@ use Rattle.av_plain.specs.Areas.{HaveProtsOf}
 use Rattle.av_plain.specs.Mremap.{has_prot, have_one_prot, have_prot, may_stay, prot_at}
 use Rattle.av_plain.specs.World.{Page, Process, is_mapped, meets}
 use Rattle.av_plain.proofs.Mremap.Legal.{have_prot-each}
-use Rattle.av_kernel.specs.Mremap.{IsTarget}
-use Rattle.av_kernel.proofs.PlaceLaws.{free_meets, met_meets}
+use Rattle.av_place.specs.Mremap.{IsTarget}
+use Rattle.av_place.proofs.PlaceLaws.{free_meets, met_meets}
 
 same_itself : (prot : Prot) → same_prot prot prot ≡ true
 same_itself prot = by prot.read prot.write prot.execute

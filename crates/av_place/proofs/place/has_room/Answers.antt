@@ -1,6 +1,6 @@
 use Rattle.std.proofs.Common.{sym, ◌∙◌}
-use Rattle.av_kernel.proofs.PlaceLaws.{room_by}
-use Rattle.av_kernel.proofs.place.has_room.Goals as goal
+use Rattle.av_place.proofs.PlaceLaws.{room_by}
+use Rattle.av_place.proofs.place.has_room.Goals as goal
 
 pub returns-then-may_have : goal.returns-then-may_have
 returns-then-may_have c = λ q same.

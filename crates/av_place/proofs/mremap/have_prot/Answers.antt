@@ -2,8 +2,8 @@ use Rattle.std.proofs.Common.{◌-◌, inl, inr, arith, sym, ◌∙◌}
 use Rattle.std.proofs.lemmas.Bool.{cases_lt}
 use Rattle.av_spaces.specs.Spaces.{pages_of}
 use Rattle.av_vma.proofs.Laid.{has_parts}
-use Rattle.av_kernel.proofs.MremapTests.{covers, have_prot-all, have_prot-no, not_there, not_with, with_prot}
-use Rattle.av_kernel.proofs.mremap.have_prot.Goals as goal
+use Rattle.av_place.proofs.MremapTests.{covers, have_prot-all, have_prot-no, not_there, not_with, with_prot}
+use Rattle.av_place.proofs.mremap.have_prot.Goals as goal
 
 pub returns-in_default : goal.returns-in_default
 returns-in_default c = λ q same.

@@ -1,6 +1,6 @@
 use Rattle.std.proofs.Common.{◌+◌, ◌-◌, sym}
 use Rattle.av_vma.proofs.Laid.{has_parts}
-use Rattle.av_kernel.proofs.mremap.check_indices.Goals as goal
+use Rattle.av_place.proofs.mremap.check_indices.Goals as goal
 
 pub index-requires-clause-first : goal.index-requires-clause-first
 index-requires-clause-first c =

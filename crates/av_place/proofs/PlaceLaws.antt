@@ -15,7 +15,7 @@ use Rattle.av_plain.specs.Refusal.{Tests, top, low, fixed_tests, refusal}
 use Rattle.av_plain.specs.Place.{is_room}
 use Rattle.av_plain.proofs.World.Ranges.{none-meets, some-meets, meets-none, room-is}
 use Rattle.av_spaces.specs.Spaces.{Spaces, is_taken}
-use Rattle.av_kernel.specs.Place.{IsProcess, IsPlaced, AreToUnmap}
+use Rattle.av_place.specs.Place.{IsProcess, IsPlaced, AreToUnmap}
 use Rattle.std.specs.Int.{div_ceil}
 
 -- ---- pages and addresses

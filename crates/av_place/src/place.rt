@@ -9,7 +9,7 @@ ghost use Rattle.av_plain.specs.Refusal.{top, fixed_tests, refusal};
 ghost use Rattle.av_plain.specs.Refusal as refusals;
 ghost use Rattle.av_plain.specs.Place.{is_room};
 ghost use Rattle.av_spaces.specs.Spaces.{areas_of, is_taken};
-ghost use Rattle.av_kernel.specs.Place.{protect_tests, IsProcess, IsPlaced};
+ghost use Rattle.av_place.specs.Place.{protect_tests, IsProcess, IsPlaced};
 ghost use Rattle.av_trace.specs.declared.reply.Errno.TheVariants as errors;
 
 use av_base::{LOW_PAGE, PAGE_SIZE, TOP_PAGE};

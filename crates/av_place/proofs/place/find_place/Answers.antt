@@ -1,8 +1,8 @@
 use Rattle.std.proofs.Common.{subst, sym, ◌∙◌, Ok, Err}
 use Rattle.av_trace.specs.declared.reply.Errno.TheVariants.{Eexist}
-use Rattle.av_kernel.specs.Place.{IsPlaced}
-use Rattle.av_kernel.proofs.PlaceLaws.{placed_auto, placed_elsewhere, placed_taken, placed_free}
-use Rattle.av_kernel.proofs.place.find_place.Goals as goal
+use Rattle.av_place.specs.Place.{IsPlaced}
+use Rattle.av_place.proofs.PlaceLaws.{placed_auto, placed_elsewhere, placed_taken, placed_free}
+use Rattle.av_place.proofs.place.find_place.Goals as goal
 
 pub returns-in-Auto : goal.returns-in-Auto
 returns-in-Auto c = λ q same.

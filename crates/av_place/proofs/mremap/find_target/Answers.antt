@@ -1,7 +1,7 @@
 use Rattle.std.proofs.Common.{◌≡◌, None, ap, sym, ◌∙◌}
 use Rattle.av_trace.specs.declared.mode.Mode.TheVariants.{DontUnmap}
-use Rattle.av_kernel.proofs.MremapTests.{gap_left, gap_moved}
-use Rattle.av_kernel.proofs.mremap.find_target.Goals as goal
+use Rattle.av_place.proofs.MremapTests.{gap_left, gap_moved}
+use Rattle.av_place.proofs.mremap.find_target.Goals as goal
 
 pub returns-else-may_stay-2 : goal.returns-else-may_stay-2
 returns-else-may_stay-2 c = λ q same.

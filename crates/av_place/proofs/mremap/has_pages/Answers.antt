@@ -1,8 +1,8 @@
 use Rattle.std.proofs.Common.{◌≡◌, ◌+◌, ◌-◌, ap, arith, cond, sym, ◌∙◌}
 use Rattle.av_plain.specs.Mremap.{have_one_prot, have_prot}
 use Rattle.av_plain.specs.World.{is_mapped}
-use Rattle.av_kernel.proofs.MremapTests.{all_there}
-use Rattle.av_kernel.proofs.mremap.has_pages.Goals as goal
+use Rattle.av_place.proofs.MremapTests.{all_there}
+use Rattle.av_place.proofs.mremap.has_pages.Goals as goal
 
 pub returns-clause-mapped : goal.returns-clause-mapped
 returns-clause-mapped c = λ q same.

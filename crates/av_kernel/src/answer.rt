@@ -1,0 +1,14 @@
+//! What a command answers.
+
+ghost use Rattle.std.specs.Prelude.{◌≡◌};
+
+use av_trace::{Answer, Reply};
+
+/// Gives a reply its answer.
+// Apart, since to let go of the answer before it costs a proof wherever it stands.
+#[inline(always)]
+pub fn answer_with(reply: &mut Reply, answer: Answer)
+    ensures { reply.new ≡ record reply.old { answer = answer } }
+{
+    reply.answer = answer;
+}
