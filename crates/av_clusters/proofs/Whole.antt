@@ -1,12 +1,13 @@
 -- The list of free clusters, the flags of the others, and the pages go together.
 use Rattle.std.proofs.Common.{◌≡◌, ◌≢◌, ℕ, suc, ◌+◌, ◌-◌, ◌*◌, ◌/◌, ◌^◌, ◌<◌, ◌≤◌, Bool, true, false, cond, ◌⊎◌, List, [], ◌∷◌, ◌++◌, length, get_or, set, drop, Option, Some, None, count_by, refl, sym, ap, subst, ◌∙◌, arith, inl, inr, ◌==◌, length-append, length-set, get_or-set_same, get_or-set_other}
+use Rattle.std.specs.Prelude.{option_map}
 use Rattle.std.proofs.lemmas.Bool.{cases_lt, cases_eq, cases_Bool, false≢true}
 use Rattle.std.proofs.lemmas.Bool.Decides.{nat_tests}
 use Rattle.std.proofs.lemmas.List.{get_or_past}
 use Rattle.std.proofs.lemmas.List.Sums.{sum_by-set, sum_by-cons, sum_by_push, count_by-le-length}
 use Rattle.av_clusters.specs.declared.Page.{Page}
 use Rattle.av_clusters.specs.declared.Page.TheVariants.{Unusable, Free, Taken}
-use Rattle.av_clusters.specs.Clusters.{IsWhole, Fills, itself, is_free, is_taken, page_at, lowest, has_taken, start_of, end_of, unless, AreFull, Takes, Returns}
+use Rattle.av_clusters.specs.Clusters.{IsWhole, Fills, itself, is_free, is_taken, page_at, lowest, has_taken, start_of, end_of, unless, AreFull, Takes, Returns, Slots, after_fill, give_slot, in_current, in_next, with_free_cluster}
 use Rattle.av_clusters.proofs.Pages.{found, none_free, none_taken, free_below, taken_below, taken_not_free, was_free}
 
 -- ---- the number of free pages
@@ -29,6 +30,32 @@ takes pages p free = let was = was_free pages p free in (was.0, was.1, refl, one
 
 pub returns_one : (pages : List Page) (p : ℕ) → is_taken (page_at pages p) ≡ true → Returns pages p (set pages p Free)
 returns_one pages p taken = (refl, one_more pages p taken)
+
+-- what the current cluster gives
+pub current_gives : (t : Slots) (c : ℕ) (r : Option ℕ) → t.current ≡ Some c → lowest t.pages t.cursor (end_of c) ≡ r
+    → in_current t t.current ≡ option_map (λ p. (p, after_fill t c p)) r
+current_gives t c r filled is = ap (in_current t) filled ∙ ap (option_map (λ p. (p, after_fill t c p))) is
+
+-- which stays the current one
+pub stays_current : (t : Slots) (c p : ℕ) → t.current ≡ Some c → after_fill t c p ≡ record t { pages = set t.pages p Taken; cursor = p + 1 }
+stays_current t c p filled = ap (λ (o : Option ℕ). record t { pages = set t.pages p Taken; current = o; cursor = p + 1 }) (sym filled)
+
+-- and what the first free one
+pub next_gives : (t : Slots) (c : ℕ) (rest : List ℕ) (r : Option ℕ) → t.free ≡ c ∷ rest → lowest t.pages (start_of c) (end_of c) ≡ r
+    → in_next t t.free ≡ option_map (λ p. (p, after_fill (record t { free = rest }) c p)) r
+next_gives t c rest r first is = ap (in_next t) first ∙ ap (option_map (λ p. (p, after_fill (record t { free = rest }) c p))) is
+
+-- a slot comes back to a cluster that has another taken one, or none
+pub still_used : (t : Slots) (p : ℕ) → has_taken (set t.pages p Free) (p / 256) ≡ true → record t { pages = set t.pages p Free } ≡ give_slot t p
+still_used t p some =
+    let t' : Slots = record t { pages = set t.pages p Free } in
+    ap (λ b. cond b t' (with_free_cluster t' (p / 256))) (sym some)
+
+pub emptied : (t : Slots) (p : ℕ) → has_taken (set t.pages p Free) (p / 256) ≡ false
+    → with_free_cluster (record t { pages = set t.pages p Free }) (p / 256) ≡ give_slot t p
+emptied t p none =
+    let t' : Slots = record t { pages = set t.pages p Free } in
+    ap (λ b. cond b t' (with_free_cluster t' (p / 256))) (sym none)
 
 -- ---- the flags
 

@@ -11,7 +11,7 @@ mod pages;
 ghost use Rattle.std.specs.Prelude.{◌≡◌, ℕ, ◌+◌, ◌<◌, ◌≤◌, ◌^◌, ◌-◌, ◌∷◌, ◌==◌, [], length, slice_index, MatchOption, IfOk, true, false, replicate, not};
 ghost use Rattle.av_frames.specs.Store.{shown, fresh, overlaid, with_bytes, with_maps, with_home, with_dirty, with_slot};
 ghost use Rattle.av_base.specs.Page.{page_size};
-ghost use Rattle.av_base.specs.Words.{is_in, how_many, with_at};
+ghost use Rattle.av_base.specs.Words.{is_in, how_many};
 ghost use Rattle.std.specs.List.{range_with_len};
 ghost use Rattle.std.specs.VecDeque.{deque_len, deque_capacity};
 
@@ -266,9 +266,9 @@ fn all_numbers(alloc: Global, count: u32) -> Result<VecDeque<u32>, AllocError>
     ensures { IfOk result (λ q.
         (q.items ≡ range_with_len 0 count) × (deque_len q ≡ count) × (count ≤ deque_capacity q)) }
 {
-    let mut range_with_len = VecDeque::with_capacity(alloc, count as usize)?;
+    let mut numbers = VecDeque::with_capacity(alloc, count as usize)?;
     for i in 0..count {
-        range_with_len.push_back(i)?;
+        numbers.push_back(i)?;
     }
-    Ok(range_with_len)
+    Ok(numbers)
 }

@@ -12,7 +12,7 @@ use Rattle.av_base.specs.Words.{with_at}
 use Rattle.av_pagetable.specs.declared.pte.Pte.{Pte}
 use Rattle.av_pagetable.specs.declared.pte.Pte.TheVariants.{Empty}
 use Rattle.av_pagetable.specs.Table.{IsFirst, HasSome}
-use Rattle.av_pagetable.specs.Dir.{part_of, in_part, entries, entries_at, AreParts, IsFirstIn}
+use Rattle.av_pagetable.specs.Dir.{no_entry, part_of, in_part, entries, entries_at, AreParts, IsFirstIn}
 use Rattle.av_pagetable.proofs.DirParts.{found, set_here, set_others, remove_here, remove_others, insert_here, insert_others, gap}
 
 test_true : (q k : ℕ) → q ≡ k → (q == k) ≡ true
@@ -185,17 +185,17 @@ module _ {C : Type 0} (at : C → ℕ → Pte) (span : ℕ) (parts : List (ℕ �
       ]
 
 -- a part is put in
-pub added : {C : Type 0} (at : C → ℕ → Pte) (span : ℕ) (parts : List (ℕ × C)) (good : AreParts at span parts) (k n page : ℕ) (e : Pte) (c c' : C) →
+pub added : {C : Type 0} (at : C → ℕ → Pte) (span : ℕ) (parts : List (ℕ × C)) (good : AreParts at span parts) (k n page : ℕ) (e : Pte) (c' : C) →
     k ≤ length parts
     → AllWithin (λ part. part.0 < n) parts 0 k → AllWithin (λ part. n < part.0) parts k (length parts) → n < 512 → n ≡ page / span
-    → ((q : ℕ) → at c q ≡ Empty) → at c' ≡ with_at (page % span) e (at c) → entries at span (insert parts k (n, c')) ≡ with_at page e (entries at span parts)
-added at span parts good k n page e c c' within lower higher low here none now =
+    → at c' ≡ with_at (page % span) e no_entry → entries at span (insert parts k (n, c')) ≡ with_at page e (entries at span parts)
+added at span parts good k n page e c' within lower higher low here now =
     join (λ j. in_part at (part_of parts j)) (λ j. in_part at (part_of (insert parts k (n, c')) j)) span page e
     (λ j r other. ap (λ o. in_part at o r) (same_part parts (insert parts k (n, c')) j
     (insert_others at span parts good k (n, c') within lower higher j (λ e. other (e ∙ here)))))
     (λ r. subst (λ n'. in_part at (part_of (insert parts k (n, c')) n') r ≡ with_at (page % span) e (in_part at (part_of parts n')) r) here
     (ap (λ o. in_part at o r) (part_is (insert parts k (n, c')) n (Some c') low (insert_here at span parts good k (n, c') within lower higher))
-    ∙ (λ i. now i r) ∙ ap (λ f. with_at (page % span) e f r) (λ i q. none q i) ∙ ap (λ o. with_at (page % span) e (in_part at o) r)
+    ∙ (λ i. now i r) ∙ ap (λ o. with_at (page % span) e (in_part at o) r)
     (sym (no_part parts n (gap parts k n within lower higher)))))
 
 -- ---- the first entry from a page on
@@ -299,14 +299,14 @@ no_entries at span [] none page = ap (λ o. in_part at o (page % span)) (no_part
 no_entries at span (p ∷ ps) none page = absurd (omega (arith, none))
 
 -- ---- a part keeps an entry
-pub some_written : {C : Type 0} (at : C → ℕ → Pte) (span r : ℕ) (e : Pte) (c c' : C) → r < span → (e ≡ Empty → ⊥) →
-    at c' ≡ with_at r e (at c) → HasSome span (at c')
-some_written at span r e c c' under some now none = some (sym (with_at_same r e (at c)) ∙ ap (λ f. f r) (sym now) ∙ none r under)
+pub some_written : {C : Type 0} (at : C → ℕ → Pte) (span r : ℕ) (e : Pte) (f : ℕ → Pte) (c' : C) → r < span → (e ≡ Empty → ⊥) →
+    at c' ≡ with_at r e f → HasSome span (at c')
+some_written at span r e f c' under some now none = some (sym (with_at_same r e f) ∙ ap (λ f. f r) (sym now) ∙ none r under)
 
 -- after a write that may have found no memory
 pub some_either : {C A E : Type 0} (at : C → ℕ → Pte) (span r : ℕ) (e : Pte) (c c' : C) (result : Result A E) → HasSome span (at c) → r < span → (e ≡ Empty → ⊥)
     → MatchResult result (λ _. at c' ≡ with_at r e (at c)) (λ _. at c' ≡ at c) → HasSome span (at c')
-some_either at span r e c c' (Ok x) had under some now = some_written at span r e c c' under some now
+some_either at span r e c c' (Ok x) had under some now = some_written at span r e (at c) c' under some now
 some_either at span r e c c' (Err x) had under some now = λ none. had (λ q low. ap (λ f. f q) (sym now) ∙ none q low)
 
 -- the part at a place is that of its number

@@ -1,6 +1,7 @@
 -- The last table that holds a page, found through the three above it.
 use Rattle.std.proofs.Common.{◌≡◌, ℕ, ◌+◌, ◌*◌, ◌/◌, ◌%◌, ◌<◌, List, Option, Some, None, MatchOption, option_map, sym, ap, ◌∙◌, arith}
 use Rattle.std.proofs.lemmas.Nat.{div-add-mod', div-mul-add, mod-mul-add, mod_below}
+use Rattle.av_pagetable.specs.declared.middle.Middle.{Middle}
 use Rattle.av_pagetable.specs.declared.pte.Pte.{Pte}
 use Rattle.av_pagetable.specs.declared.pte.Pte.TheVariants.{Empty}
 use Rattle.av_pagetable.specs.Dir.{alone, entries, in_part, part_of}
@@ -8,9 +9,6 @@ use Rattle.av_pagetable.specs.Dir.{alone, entries, in_part, part_of}
 -- the tables of each level, the last one first
 abbrev pub Last : Type 0
 Last = List (ℕ × Pte)
-
-abbrev pub Middle : Type 0
-Middle = List (ℕ × Last)
 
 abbrev pub Upper : Type 0
 Upper = List (ℕ × Middle)
@@ -22,7 +20,7 @@ abbrev pub in_last : Last → ℕ → Pte
 in_last = entries alone 1
 
 abbrev pub in_middle : Middle → ℕ → Pte
-in_middle = entries in_last 512
+in_middle middle = entries in_last 512 middle.tables
 
 abbrev pub in_upper : Upper → ℕ → Pte
 in_upper = entries in_middle 262144
@@ -53,8 +51,8 @@ module _ (n i : ℕ) (under : i < 512) where
       let page : n % 262144 * 512 + i ≡ n % 262144 / 512 * 262144 + (n % 262144 % 512 * 512 + i) = omega (arith, div-add-mod' (n % 262144) 512) in
       ap (in_upper upper) page ∙ there in_middle 262144 upper (n % 262144 / 512) (n % 262144 % 512 * 512 + i) (omega (arith, low, under))
 
-  by_last : (middle : Middle) → in_middle middle (n % 262144 % 512 * 512 + i) ≡ in_part in_last (part_of middle (n % 262144 % 512)) i
-  by_last middle = there in_last 512 middle (n % 262144 % 512) i under
+  by_last : (middle : Middle) → in_middle middle (n % 262144 % 512 * 512 + i) ≡ in_part in_last (part_of middle.tables (n % 262144 % 512)) i
+  by_last middle = there in_last 512 middle.tables (n % 262144 % 512) i under
 
   pub no_upper : (top : Top) → None ≡ part_of top (n / 262144) → in_top top (n * 512 + i) ≡ Empty
   no_upper top none = by_upper top ∙ ap (λ o. in_part in_upper o (n % 262144 * 512 + i)) (sym none)
@@ -66,14 +64,14 @@ module _ (n i : ℕ) (under : i < 512) where
       ∙ by_middle upper ∙ ap (λ o. in_part in_middle o (n % 262144 % 512 * 512 + i)) (sym none)
 
   pub in_table : (top : Top) (upper : Upper) (middle : Middle) → Some upper ≡ part_of top (n / 262144) → Some middle ≡ part_of upper (n % 262144 / 512)
-      → in_top top (n * 512 + i) ≡ in_part in_last (part_of middle (n % 262144 % 512)) i
+      → in_top top (n * 512 + i) ≡ in_part in_last (part_of middle.tables (n % 262144 % 512)) i
   in_table top upper middle u m =
       by_upper top ∙ ap (λ o. in_part in_upper o (n % 262144 * 512 + i)) (sym u)
       ∙ by_middle upper ∙ ap (λ o. in_part in_middle o (n % 262144 % 512 * 512 + i)) (sym m)
       ∙ by_last middle
 
 pub leaf_cases : {X : Type 0} (now : X → Last) (r : Option X) (n : ℕ) (top : Top) (upper : Upper) (middle : Middle)
-    → Some upper ≡ part_of top (n / 262144) → Some middle ≡ part_of upper (n % 262144 / 512) → option_map now r ≡ part_of middle (n % 262144 % 512)
+    → Some upper ≡ part_of top (n / 262144) → Some middle ≡ part_of upper (n % 262144 / 512) → option_map now r ≡ part_of middle.tables (n % 262144 % 512)
     → MatchOption r ((i : ℕ) → i < 512 → in_top top (n * 512 + i) ≡ Empty) (λ leaf. (i : ℕ) → i < 512 → in_top top (n * 512 + i) ≡ in_last (now leaf) i)
 leaf_cases now None n top upper middle u m is = λ i under. in_table n i under top upper middle u m ∙ ap (λ o. in_part in_last o i) (sym is)
 leaf_cases now (Some x) n top upper middle u m is = λ i under. in_table n i under top upper middle u m ∙ ap (λ o. in_part in_last o i) (sym is)

@@ -45,8 +45,8 @@ IsPlace number parts result = MatchResult result
     × AllWithin (λ part. number < part.0) parts k (length parts))
 
 -- so many parts stand from a place on as a group has pages, and the last is of its last page
-abbrev pub IsWhole : {C : Type 0} → ℕ → List (ℕ × C) → ℕ → Type 0
-IsWhole first parts k =
+abbrev pub IsFullGroup : {C : Type 0} → ℕ → List (ℕ × C) → ℕ → Type 0
+IsFullGroup first parts k =
     (k + group_size ≤ length parts)
     × HoldsAt (λ part. part.0 + 1 ≡ first + group_size) parts (k + (group_size - 1))
 

@@ -1,6 +1,7 @@
-ghost use Rattle.std.specs.Prelude.{◌≡◌, ℕ, ◌+◌, ◌<◌, ◌≤◌, length, slice_index_or, HoldsAt, MatchBool};
-ghost use Rattle.av_pagetable.specs.Table.{group_size};
-ghost use Rattle.av_pagetable.specs.Dir.{IsWhole};
+ghost use Rattle.std.specs.Prelude.{◌≡◌, ℕ, ◌+◌, ◌<◌, ◌≤◌, length, slice_index_or, HoldsAt, IfOk, MatchBool};
+ghost use Rattle.av_base.specs.Words.{with_at};
+ghost use Rattle.av_pagetable.specs.Table.{group_size, page_bound};
+ghost use Rattle.av_pagetable.specs.Dir.{IsFullGroup, no_entry};
 ghost use Rattle.av_pagetable.specs.declared.pte.Pte.{Pte};
 
 use crate::level::Level;
@@ -17,7 +18,7 @@ use std::marker::Model;
 #[derive(Drop)]
 pub struct Dir<C: Level> {
     alloc: Global,
-    // Parts go from the front where a process ends, and come at the end where it starts.
+    // A queue: a range is taken out from its lowest page on, so parts go from the front.
     parts: VecDeque<(u16, C)>,
 }
 
@@ -71,15 +72,16 @@ impl<C: Level> Level for Dir<C> {
     #[inline]
     fn set(&mut self, page: u64, entry: Pte) -> Result<(), AllocError> {
         let span = C::span();
-        match self.place(page / span) {
+        let number = page / span;
+        let there = page % span;
+        match self.place(number) {
             Ok(place) => {
                 let part = &mut self.parts[place];
-                part.1.set(page % span, entry)
+                part.1.set(there, entry)
             }
             Err(place) => {
-                let mut part = C::new(self.alloc)?;
-                part.set(page % span, entry)?;
-                self.parts.insert(place, ((page / span) as u16, part))?;
+                let part = with_one(self.alloc, there, entry)?;
+                self.parts.insert(place, (number as u16, part))?;
                 Ok(())
             }
         }
@@ -326,13 +328,26 @@ impl Dir<Pte> {
     }
 }
 
+// A part with one entry.
+#[inline]
+fn with_one<C: Level>(alloc: Global, page: u64, entry: Pte) -> Result<C, AllocError>
+    requires fits { C.span ≤ page_bound }
+    requires some { entry ≡ Pte.Empty → ⊥ }
+    requires below { page < C.span }
+    ensures { IfOk result (λ part. C.at part ≡ with_at page entry no_entry) }
+{
+    let mut part = C::new(alloc)?;
+    part.set(page, entry)?;
+    Ok(part)
+}
+
 // Whether a group has as many parts from a place on as pages. Their numbers rise, so where the last
 // of so many is that of the group's last page, none is missing.
 #[inline]
 fn is_whole(parts: &[(u16, Pte)], start: usize, first: u64) -> bool
     ensures { MatchBool result
-        (IsWhole first parts.now start)
-        (IsWhole first parts.now start → ⊥) }
+        (IsFullGroup first parts.now start)
+        (IsFullGroup first parts.now start → ⊥) }
 {
     if parts.len() < GROUP || start > parts.len() - GROUP {
         return false;

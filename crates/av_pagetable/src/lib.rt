@@ -9,6 +9,7 @@
 
 mod dir;
 mod level;
+mod middle;
 mod pte;
 mod radix;
 mod table;

@@ -1,5 +1,6 @@
 use crate::dir::Dir;
 use crate::level::Level;
+use crate::middle::Middle;
 use crate::pte::Pte;
 use crate::table::{GROUP, Table, no_entries};
 use std::alloc::{AllocError, Global};
@@ -80,11 +81,11 @@ impl Level for Pte {
 /// A page table of four levels of 512 (Linux's PGD, PUD, PMD and PTE tables).
 #[derive(Drop)]
 pub struct RadixTable {
-    top: Dir<Dir<Dir<Dir<Pte>>>>,
+    top: Dir<Dir<Middle>>,
 }
 
 impl Table for RadixTable {
-    ghost at = { λ table. ⟦<Dir<Dir<Dir<Dir<Pte>>>> as Level>⟧.at table.top };
+    ghost at = { λ table. ⟦<Dir<Dir<Middle>> as Level>⟧.at table.top };
 
     ghost use Rattle.std.proofs.Common.{arith};
     ghost use Rattle.av_pagetable.specs.Dir.{none_past};
@@ -159,7 +160,7 @@ impl RadixTable {
         let rest = number % 0x40000;
         let upper = self.top.part(number / 0x40000)?;
         let middle = upper.part(rest / 512)?;
-        middle.part(rest % 512)
+        middle.leaf(rest % 512)
     }
 
     /// How many tables there are: 1, and one more for each part of a level that has an entry.

@@ -2,3 +2,4 @@ pub mod HeaderNamed
 pub mod HeaderSlots
 pub mod HeaderLemmas
 pub mod DevicePages
+pub mod FileAreas

@@ -18,7 +18,7 @@ invariant_of-self g c =
     let here : p.0 ≡ c.args.page / C.span = ap (λ part. part.0) is ∙ rw (c.self.view_is, ← c.span-span.ensures.is) (c.in-Ok.ensures.1 p) in
     let under : c.args.page % c.span-span.result < C.span = rw c.span-span.ensures.is (mod_below c.args.page C.span c.span-span.ensures.some) in
     set_good C.at C.span d.parts.items c.self.invariant k p within is (p.0, c.change.new.self) refl
-    (some_written C.at C.span (c.args.page % c.span-span.result) c.args.entry p.1 c.change.new.self under c.requires.some c.change.ensures)
+    (some_written C.at C.span (c.args.page % c.span-span.result) c.args.entry (C.at p.1) c.change.new.self under c.requires.some c.change.ensures)
 
 pub returns-in-Ok : goal.returns-in-Ok
 returns-in-Ok g c =

@@ -3,7 +3,7 @@ use Rattle.std.proofs.Common.{arith, ◌≡◌, ◌<◌, ◌≤◌, ◌/◌, ◌
 use Rattle.std.specs.List.{AllWithin}
 use Rattle.std.proofs.lemmas.Nat.{mod_below, div_below}
 use Rattle.av_base.specs.Words.{with_at}
-use Rattle.av_pagetable.specs.Dir.{entries}
+use Rattle.av_pagetable.specs.Dir.{entries, no_entry}
 use Rattle.av_pagetable.proofs.Entries.{both_ways}
 use Rattle.av_pagetable.proofs.DirParts.{set_good, insert_good}
 use Rattle.av_pagetable.proofs.DirEntries.{written, stays, added, some_written, some_either}
@@ -48,11 +48,11 @@ invariant_of-self-in-Err g c =
     let within : k ≤ length d.parts.items = rw c.self.view_is c.in-Err.ensures.0 in
     let lower : AllWithin (λ part. part.0 < n) d.parts.items 0 k = rw c.self.view_is c.in-Err.ensures.1 in
     let higher : AllWithin (λ part. n < part.0) d.parts.items k (length d.parts.items) = rw c.self.view_is c.in-Err.ensures.2 in
-    let part = c.set-in-Err.new.self in
+    let part = c.in_ok-part-in-Err.part in
     let low : n < 512 = rw c.span-span.ensures.is (div_below c.args.page C.span 512 c.span-span.ensures.some (omega (arith, c.requires.below))) in
     let under : c.args.page % c.span-span.result < C.span = rw c.span-span.ensures.is (mod_below c.args.page C.span c.span-span.ensures.some) in
     rw c.in_ok-insert-in-Err.ensures.items (insert_good C.at C.span d.parts.items c.self.invariant k (n, part) within lower higher low
-    (some_written C.at C.span (c.args.page % c.span-span.result) c.args.entry c.in_ok-part-in-Err.part part under c.requires.some c.in_ok-set-in-Err.ensures))
+    (some_written C.at C.span (c.args.page % c.span-span.result) c.args.entry no_entry part under c.requires.some c.in_ok-part-in-Err.ensures))
 
 pub returns-in_ok-insert-in-Err : goal.returns-in_ok-insert-in-Err
 returns-in_ok-insert-in-Err g c =
@@ -64,9 +64,9 @@ returns-in_ok-insert-in-Err g c =
     let within : k ≤ length d.parts.items = rw c.self.view_is c.in-Err.ensures.0 in
     let lower : AllWithin (λ part. part.0 < n) d.parts.items 0 k = rw c.self.view_is c.in-Err.ensures.1 in
     let higher : AllWithin (λ part. n < part.0) d.parts.items k (length d.parts.items) = rw c.self.view_is c.in-Err.ensures.2 in
-    let part = c.set-in-Err.new.self in
+    let part = c.in_ok-part-in-Err.part in
     let low : n < 512 = rw c.span-span.ensures.is (div_below c.args.page C.span 512 c.span-span.ensures.some (omega (arith, c.requires.below))) in
     ap (entries C.at C.span) c.in_ok-insert-in-Err.ensures.items
-    ∙ added C.at C.span d.parts.items c.self.invariant k n c.args.page c.args.entry c.in_ok-part-in-Err.part part within lower higher low here
-    c.in_ok-part-in-Err.ensures (rw (← c.span-span.ensures.is) c.in_ok-set-in-Err.ensures)
+    ∙ added C.at C.span d.parts.items c.self.invariant k n c.args.page c.args.entry part within lower higher low here
+    (rw (← c.span-span.ensures.is) c.in_ok-part-in-Err.ensures)
     ∙ ap (λ v. with_at c.args.page c.args.entry (entries C.at C.span v)) c.self.view_is
