@@ -11,7 +11,7 @@ mod pages;
 ghost use Rattle.std.specs.Prelude.{◌≡◌, ℕ, ◌+◌, ◌<◌, ◌≤◌, ◌^◌, ◌-◌, ◌∷◌, ◌==◌, [], length, slice_index, MatchOption, IfOk, true, false, replicate, not};
 ghost use Rattle.av_frames.specs.Store.{shown, fresh, overlaid, with_bytes, with_maps, with_home, with_dirty, with_slot};
 ghost use Rattle.av_base.specs.Page.{page_size};
-ghost use Rattle.av_base.specs.Words.{is_in, how_many, with_at};
+ghost use Rattle.av_base.specs.Words.{is_in, how_many};
 ghost use Rattle.std.specs.List.{range_with_len};
 ghost use Rattle.std.specs.VecDeque.{deque_len, deque_capacity};
 

@@ -72,14 +72,16 @@ impl<C: Level> Level for Dir<C> {
     #[inline]
     fn set(&mut self, page: u64, entry: Pte) -> Result<(), AllocError> {
         let span = C::span();
-        match self.place(page / span) {
+        let number = page / span;
+        let there = page % span;
+        match self.place(number) {
             Ok(place) => {
                 let part = &mut self.parts[place];
-                part.1.set(page % span, entry)
+                part.1.set(there, entry)
             }
             Err(place) => {
-                let part = with_one(self.alloc, page % span, entry)?;
-                self.parts.insert(place, ((page / span) as u16, part))?;
+                let part = with_one(self.alloc, there, entry)?;
+                self.parts.insert(place, (number as u16, part))?;
                 Ok(())
             }
         }

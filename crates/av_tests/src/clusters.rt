@@ -11,11 +11,13 @@ fn are_taken(clusters: &mut Clusters, from: u32, to: u32) -> bool {
     true
 }
 
-/// Gives a page back that is taken.
-fn give_back(clusters: &mut Clusters, page: u32) {
-    if clusters.is_taken(page) {
-        clusters.give(page);
+/// Gives a page back, and says whether it was taken, and is not any more.
+fn is_given_back(clusters: &mut Clusters, page: u32) -> bool {
+    if !clusters.is_taken(page) {
+        return false;
     }
+    clusters.give(page);
+    !clusters.is_taken(page)
 }
 
 /// Whether pages are taken in this order: from one on, below another; then one is given back.
@@ -24,8 +26,10 @@ fn go_so(clusters: &mut Clusters, rows: &[(u32, u32, Option<u32>)]) -> bool {
         if !are_taken(clusters, *from, *to) {
             return false;
         }
-        if let Some(page) = back {
-            give_back(clusters, *page);
+        if let Some(page) = back
+            && !is_given_back(clusters, *page)
+        {
+            return false;
         }
     }
     clusters.take() == None && clusters.free() == 0

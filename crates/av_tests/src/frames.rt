@@ -31,13 +31,16 @@ fn free_frames_are_a_stack(rt: HostRuntime) -> Result<(), AllocError> {
     Ok(())
 }
 
-/// Writes to a frame, and copies it to the next one before it is made zero.
-fn copy_and_zero(frames: &mut Frames, frame: u32) {
-    if frame < 9 && frame + 1 < frames.count() {
-        frames.write_at(frame, 4094, &[7, 8]);
-        frames.copy(frame, frame + 1);
-        frames.zero(frame);
+/// Writes to a frame, and copies it over the next one, which there has to be, before it is made
+/// zero.
+fn copy_and_zero(frames: &mut Frames, frame: u32) -> bool {
+    if frame >= 9 || frame + 1 >= frames.count() {
+        return false;
     }
+    frames.write_at(frame, 4094, &[7, 8]);
+    frames.copy(frame, frame + 1);
+    frames.zero(frame);
+    true
 }
 
 /// The last three bytes of a frame.
@@ -51,12 +54,12 @@ fn last_bytes(frames: &Frames, frame: u32) -> Option<[u8; 3]> {
 
 #[test]
 fn bytes_are_written_copied_and_zeroed(rt: HostRuntime) -> Result<(), AllocError> {
-    let mut frames = Frames::new(rt.alloc(), 3)?;
-    frames.load(2, &[9; 4096]);
-    copy_and_zero(&mut frames, 0);
+    let mut frames = Frames::new(rt.alloc(), 2)?;
+    frames.load(1, &[9; 4096]);
+    assert!(rt; last_bytes(&frames, 1) == Some([9, 9, 9]));
+    assert!(rt; copy_and_zero(&mut frames, 0));
     assert!(rt; last_bytes(&frames, 0) == Some([0, 0, 0]));
     assert!(rt; last_bytes(&frames, 1) == Some([0, 7, 8]));
-    assert!(rt; last_bytes(&frames, 2) == Some([9, 9, 9]));
     Ok(())
 }
 

@@ -46,11 +46,15 @@ fn counts_are_kept_as_linux_keeps_them(rt: HostRuntime) -> Result<(), AllocError
     Ok(())
 }
 
-/// Has entries come to a slot that none names, and go: how many are left of those that came, and
-/// the slot's byte when the rest is gone.
+/// Has entries come to a slot that none names and the swap cache holds, and go: how many are left
+/// of those that came, and the slot's byte when the rest is gone.
 fn come_and_go(counts: &mut Counts, page: u32, come: u32, go: u32) -> Result<(u32, u8), AllocError>
     requires { page < (shown counts.old).pages }
 {
+    if counts.bad(page) {
+        return Ok((0, 0));
+    }
+    counts.set_cached(page, true);
     if counts.bad(page) || counts.get(page) != 0 {
         return Ok((0, 0));
     }
@@ -69,6 +73,6 @@ fn entries_come_and_go(rt: HostRuntime) -> Result<(), AllocError> {
     let mut counts = Counts::new(rt.alloc(), 3, &[2, 9])?;
     assert!(rt; counts.bad(2) && counts.byte(2) == 0x3f);
     assert!(rt; !counts.bad(1) && !counts.cached(1));
-    assert!(rt; come_and_go(&mut counts, 1, 9000, 8900)? == (100, 0));
+    assert!(rt; come_and_go(&mut counts, 1, 9000, 8900)? == (100, 0x40));
     Ok(())
 }
