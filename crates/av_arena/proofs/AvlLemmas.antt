@@ -13,7 +13,7 @@ use Rattle.av_arena.specs.declared.link.Stored.{Stored}
 use Rattle.av_arena.specs.Tree.{Tree, Leaf, Fork, entries, height, is, none, count, IsLevel, Store, height_of, tree_at, IsHeld, IsOpened, IsPlaceFor, IsPlaced, IsReplaced, IsWithout}
 use Rattle.av_base.specs.Words.{with_at}
 use Rattle.av_arena.specs.Avl.{IsAvl, IsPart}
-use Rattle.av_arena.proofs.TreeLemmas.{is_same, is_cases, with_at_same, with_at_other, kept, held_height, in_use, stored_used, none_tree}
+use Rattle.av_arena.proofs.TreeLemmas.{is_self, is_cases, with_at_same, with_at_other, kept, held_height, in_use, stored_used, none_tree}
 
 pub shallow : {T : Type 0} (t : Tree T) → IsLevel t → 2 ^ height t ≤ (length (entries t) + 1) * (length (entries t) + 1)
 shallow Leaf lv = omega arith
@@ -99,7 +99,7 @@ module _ {T S : Type 0} (key : T → ℕ) (unit : S) (op : S → S → S) (of : 
       let all : (j : ℕ) → IsSome (t j) → 1 ≤ is n j + count j (tree_at t k) =
       subst (λ (q : Store T S). (j : ℕ) → IsSome (q j) → 1 ≤ is n j + count j (tree_at q k)) (sym at) (λ j i. elim (is_cases key unit op of laws n j) [
         | inl o ↦ let h = p.1 j (subst IsSome (with_at_other key unit op of laws n (Some v) s j o) i) in rw g.tree (omega arith)
-        | inr o ↦ let h : is n j ≡ 1 = subst (λ m. is n m ≡ 1) o (is_same key unit op of laws n) in omega arith
+        | inr o ↦ let h : is n j ≡ 1 = subst (λ m. is n m ≡ 1) o (is_self key unit op of laws n) in omega arith
       ]) in (
         (
           record { held = w.held; rising = rw d (rising_with key x (entries (tree_at s k)) p.0.rising) },
@@ -136,7 +136,7 @@ module _ {T S : Type 0} (key : T → ℕ) (unit : S) (op : S → S → S) (of : 
       let all : (j : ℕ) → IsSome (t j) → 1 ≤ is n j + count j (tree_at t k) =
       subst (λ (q : Store T S). (j : ℕ) → IsSome (q j) → 1 ≤ is n j + count j (tree_at q k)) (sym at) (λ j i. elim (is_cases key unit op of laws n j) [
         | inl o ↦ let h = p.1 j (subst IsSome (with_at_other key unit op of laws n (Some v) s j o) i) in rw g.tree (omega arith)
-        | inr o ↦ let h : is n j ≡ 1 = subst (λ m. is n m ≡ 1) o (is_same key unit op of laws n) in omega arith
+        | inr o ↦ let h : is n j ≡ 1 = subst (λ m. is n m ≡ 1) o (is_self key unit op of laws n) in omega arith
       ]) in
       let up = rising_with key y _ (rising_with key x _ (rising_without key (key x) (entries (tree_at s k)) p.0.rising)) in
       ((record { held = w.held; rising = rw d up }, λ j i. let h = in_use key unit op of laws t u (Some k') _ _ none w all j i in omega arith), d)
@@ -145,7 +145,7 @@ module _ {T S : Type 0} (key : T → ℕ) (unit : S) (op : S → S → S) (of : 
   freed_as : (s t u : Store T S) (k : Option (Link S)) → IsAvl key unit op of s k → (xs : List T) → IsRising key xs → (n : ℕ) (k' : Option (Link S)) →
       IsWithout key unit op of s t k xs n k' → u ≡ with_at n None t → IsAvl key unit op of u k' × (entries (tree_at u k') ≡ xs)
   freed_as s t u k p xs up n k' w at =
-      let gone : count n (tree_at t k') ≡ 0 = (let d = w.count n in let e = is_same key unit op of laws n in let o = p.0.held.once n in omega arith) in
+      let gone : count n (tree_at t k') ≡ 0 = (let d = w.count n in let e = is_self key unit op of laws n in let o = p.0.held.once n in omega arith) in
       let g = kept key unit op of laws t (with_at n None t) k' w.held
       (λ j h. with_at_other key unit op of laws n None t j (is_not n j (tree_at t k') gone h)) in
       let P : Store T S → Type 0 = λ q. IsAvl key unit op of q k' × (entries (tree_at q k') ≡ xs) in

@@ -1,5 +1,5 @@
 -- A change of one side of a node: what it leaves below, and what the node's link tells of it.
-use Rattle.std.proofs.Common.{◌≡◌, ℕ, suc, ◌+◌, ◌^◌, ◌<◌, ◌≤◌, max, ◌⊎◌, inl, inr, Bool, true, false, IsSome, Option, Some, None, List, [], ◌∷◌, ◌++◌, refl, sym, ap, ◌∙◌, subst, arith}
+use Rattle.std.proofs.Common.{◌≡◌, ℕ, ◌+◌, ◌^◌, ◌<◌, ◌≤◌, max, ◌⊎◌, inl, inr, Bool, true, false, IsSome, Option, Some, None, List, ◌∷◌, ◌++◌, refl, sym, ap, ◌∙◌, subst, arith}
 use Rattle.std.proofs.Math.Path.{fun_ext}
 use Rattle.std.proofs.lemmas.Bool.{both_ways, cases_lt}
 use Rattle.av_base.specs.Words.{with_at}
@@ -14,7 +14,7 @@ use Rattle.av_arena.specs.declared.link.Side.{Side}
 use Rattle.av_arena.specs.declared.link.Side.TheVariants.{Left, Right}
 use Rattle.av_arena.specs.declared.link.Stored.{Stored}
 use Rattle.av_arena.proofs.Order.{AllByRecursion-back, AllByRecursion-front, AllByRecursion-map, all_middle, all_with, all_without, at_no_key, rising_with, rising_without, with_between, with_left, with_right, without_left, without_middle, without_right}
-use Rattle.av_arena.proofs.TreeLemmas.{fresh_once, is_cases, is_same, joined_same, kept, key_left, key_right, later, opened, none_tree, place_left, place_right, placed_first, removed_last, removed_middle, ready_left, ready_right, used, used_cases, with_at_other, with_at_same}
+use Rattle.av_arena.proofs.TreeLemmas.{fresh_once, is_cases, is_self, joined_same, kept, key_left, key_right, later, opened, none_tree, place_left, place_right, placed_first, removed_last, removed_middle, ready_left, ready_right, root_counted, used, used_cases, with_at_other, with_at_same}
 
 -- a height is settled at once, or one side is two levels higher
 height_cases : (a b h : ℕ) → IsHeightAfter a b h → (h ≡ max a b + 1) ⊎ ((a + 2 ≤ b) ⊎ (b + 2 ≤ a))
@@ -65,7 +65,7 @@ module _ {T S : Type 0} (key : T → ℕ) (unit : S) (op : S → S → S) (of : 
     | inr d ↦ subst (λ i. with_at n o s i ≡ s i) d (with_at_same key unit op of laws n o s ∙ sym e)
   ])
 
-  -- the node that stands there is the one that is told
+  -- one node stands under a number
   same_node : (s : Store T S) (n : ℕ) (v w : Stored T S) → s n ≡ Some v → s n ≡ Some w → v ≡ w
   same_node s n v w p q = let d : Some v ≡ Some w = sym p ∙ q in cc
 
@@ -93,9 +93,26 @@ module _ {T S : Type 0} (key : T → ℕ) (unit : S) (op : S → S → S) (of : 
         (omega arith, omega arith, λ _. h),
       )
 
-  pub side_told : (side : Side) (s t u : Store T S) (n child : ℕ) (k : Link S) → IsSettled key unit op of s t child k →
-      u ≡ with_at n (side_put side (Some k) (t n)) t → IsSideSettled key unit op of side s u n child true
-  side_told side s t u n child k set e = record { link = k; between = t; settled = set; told = e; stays = λ d. absurd (both_ways true d refl) }
+  -- a side gets another link than it has had
+  pub other_side : (side : Side) (s t u : Store T S) (n child : ℕ) (k : Link S) → IsSettled key unit op of s t child k →
+      u ≡ with_at n (side_put side (Some k) (t n)) t →
+      ((v : Stored T S) → t n ≡ Some v → number_of (on_side side v) ≡ Some child → on_side side v ≡ Some k → ⊥) →
+      IsSideSettled key unit op of side s u n child true
+  other_side side s t u n child k set e new = record {
+    link = k;
+    between = t;
+    settled = set;
+    put = e;
+    stays = λ d. absurd (both_ways true d refl);
+    differs = λ _. new;
+  }
+
+  pub other_root : (side : Side) (v : Stored T S) (k : Link S) (child : ℕ) → (k.number ≡ child → ⊥) → number_of (on_side side v) ≡ Some child →
+      on_side side v ≡ Some k → ⊥
+  other_root side v k child other p d =
+      let q : Some k.number ≡ Some child = sym (ap number_of d) ∙ p in
+      let same : k.number ≡ child = cc in
+      other same
 
   with_same : (side : Side) (k : Option (Link S)) (v : Stored T S) → on_side side v ≡ k → with_side side k v ≡ v
   with_same Left k v d = ap (λ l. record v { left = l }) (sym d)
@@ -106,21 +123,22 @@ module _ {T S : Type 0} (key : T → ℕ) (unit : S) (op : S → S → S) (of : 
   side_again side n k v s e d =
       sym (with_at_self n (side_put side k (s n)) s (e ∙ (ap Some (sym (with_same side k v d)) ∙ ap (side_put side k) (sym e))))
 
-  stays_at : (side : Side) (s : Store T S) (n child : ℕ) (k : Link S) (b : Bool) (o : Option (Stored T S)) → IsSettled key unit op of s s child k → s n ≡ o →
+  stays_at : (side : Side) (s : Store T S) (n child : ℕ) (k : Link S) (o : Option (Stored T S)) → IsSettled key unit op of s s child k → s n ≡ o →
       IsSome o →
-      ((v : Stored T S) → o ≡ Some v → on_side side v ≡ Some k) → IsSideSettled key unit op of side s s n child b
-  stays_at side s n child k b None set e u tells = absurd (both_ways false refl u)
-  stays_at side s n child k b (Some v) set e u tells = record {
+      ((v : Stored T S) → o ≡ Some v → on_side side v ≡ Some k) → IsSideSettled key unit op of side s s n child false
+  stays_at side s n child k None set e u has = absurd (both_ways false refl u)
+  stays_at side s n child k (Some v) set e u has = record {
     link = k;
     between = s;
     settled = set;
-    told = side_again side n (Some k) v s e (tells v refl);
-    stays = λ _ w f. ap (on_side side) (same_node s n w v f e) ∙ tells v refl;
+    put = side_again side n (Some k) v s e (has v refl);
+    stays = λ _ w f. ap (on_side side) (same_node s n w v f e) ∙ has v refl;
+    differs = λ d. absurd (both_ways false refl d);
   }
 
-  pub side_stays : (side : Side) (s : Store T S) (n child : ℕ) (k : Link S) (b : Bool) → IsSome (s n) → IsSettled key unit op of s s child k →
-      ((v : Stored T S) → s n ≡ Some v → on_side side v ≡ Some k) → IsSideSettled key unit op of side s s n child b
-  side_stays side s n child k b u set tells = stays_at side s n child k b (s n) set refl u tells
+  pub side_stays : (side : Side) (s : Store T S) (n child : ℕ) (k : Link S) → IsSome (s n) → IsSettled key unit op of s s child k →
+      ((v : Stored T S) → s n ≡ Some v → on_side side v ≡ Some k) → IsSideSettled key unit op of side s s n child false
+  side_stays side s n child k u set has = stays_at side s n child k (s n) set refl u has
 
   -- a node is put above sides that stand
   pub above_put : (s t u : Store T S) (n : ℕ) (w : Stored T S) (xs : List T) (f g : ℕ → ℕ) → IsSpot key unit op of t n w.left w.right →
@@ -142,15 +160,17 @@ module _ {T S : Type 0} (key : T → ℕ) (unit : S) (op : S → S → S) (of : 
       }
 
   -- a side of a node is another tree
-  changed_left : (s t u : Store T S) (k : Link S) (v : Stored T S) (new : Option (Link S)) (b : Bool) (xs : List T) (f g : ℕ → ℕ) (lower higher : ℕ) →
+  changed_left : {Put : Type 0} (s t u : Store T S) (k : Link S) (v : Stored T S) (new : Option (Link S)) (b : Bool) (xs : List T) (f g : ℕ → ℕ)
+      (lower higher : ℕ) →
       IsOpened key unit op of s k v → IsTree key unit op of s t new xs f g → ((j : ℕ) → is k.number j + (f j + count j (tree_at s v.right)) ≤ 1) →
       u ≡ with_at k.number (side_put Left new (t k.number)) t → height_of v.left ≤ height_of new + lower → height_of new ≤ height_of v.left + higher →
-      lower + higher ≤ 1 → (b ≡ false → t k.number ≡ Some v → v.left ≡ new) → IsChanged key unit op of s u k b (xs ++ v.entry ∷ entries (tree_at s v.right))
-      (λ j. is k.number j + (f j + count j (tree_at s v.right))) g lower higher
-  changed_left s t u k v new b xs f g lower higher o tr once at low high few stays =
+      lower + higher ≤ 1 → (b ≡ false → t k.number ≡ Some v → v.left ≡ new) →
+      (b ≡ true → t k.number ≡ Some v → v.left ≡ new → ⊥) → IsChanged key unit op of s u k b (xs ++ v.entry ∷ entries (tree_at s v.right))
+      (λ j. is k.number j + (f j + count j (tree_at s v.right))) g lower higher Put
+  changed_left s t u k v new b xs f g lower higher o tr once at low high few stays differs =
       let n = k.number in
       let w : Stored T S = record { left = new; entry = v.entry; right = v.right } in
-      let here : t n ≡ Some v = tr.kept n (let c = once n in let d = is_same key unit op of laws n in omega arith) ∙ o.root.stored in
+      let here : t n ≡ Some v = tr.kept n (let c = once n in let d = is_self key unit op of laws n in omega arith) ∙ o.root.stored in
       let put : u ≡ with_at n (Some w) t = at ∙ ap (λ m. with_at n (side_put Left new m) t) here in
       let spot : IsSpot key unit op of t n new v.right = ready_left key unit op of laws s t n new v.right xs f g tr o.right o.used once in
       let kb = kept key unit op of laws s t v.right o.right (λ j c. tr.kept j (let d = once j in omega arith)) in
@@ -166,23 +186,21 @@ module _ {T S : Type 0} (key : T → ℕ) (unit : S) (op : S → S → S) (of : 
         level = level;
         low = most;
         settles = λ h q. settles_left (height_of v.left) (height_of new) (height_of v.right) h k.height lower higher o.level o.height low high few q;
-        stays = λ d. subst (λ l. IsRoot key unit op of u k l v.entry v.right) (stays d here)
-            (record {
-              stored = above.stored ∙ ap (λ l. Some (record { left = l; entry = v.entry; right = v.right })) (sym (stays d here));
-              told = o.root.told;
-              level = o.root.level;
-            });
+        same = λ d. above.stored ∙ (ap (λ l. Some (record { left = l; entry = v.entry; right = v.right })) (sym (stays d here)) ∙ sym o.root.stored);
+        other = λ d e. absurd (differs d here (ap (λ (i : Stored T S). i.left) (same_node u n v w (e ∙ o.root.stored) above.stored)));
       }
 
-  changed_right : (s t u : Store T S) (k : Link S) (v : Stored T S) (new : Option (Link S)) (b : Bool) (xs : List T) (f g : ℕ → ℕ) (lower higher : ℕ) →
+  changed_right : {Put : Type 0} (s t u : Store T S) (k : Link S) (v : Stored T S) (new : Option (Link S)) (b : Bool) (xs : List T) (f g : ℕ → ℕ)
+      (lower higher : ℕ) →
       IsOpened key unit op of s k v → IsTree key unit op of s t new xs f g → ((j : ℕ) → is k.number j + (f j + count j (tree_at s v.left)) ≤ 1) →
       u ≡ with_at k.number (side_put Right new (t k.number)) t → height_of v.right ≤ height_of new + lower → height_of new ≤ height_of v.right + higher →
-      lower + higher ≤ 1 → (b ≡ false → t k.number ≡ Some v → v.right ≡ new) → IsChanged key unit op of s u k b (entries (tree_at s v.left) ++ v.entry ∷ xs)
-      (λ j. is k.number j + (f j + count j (tree_at s v.left))) g lower higher
-  changed_right s t u k v new b xs f g lower higher o tr once at low high few stays =
+      lower + higher ≤ 1 → (b ≡ false → t k.number ≡ Some v → v.right ≡ new) →
+      (b ≡ true → t k.number ≡ Some v → v.right ≡ new → ⊥) → IsChanged key unit op of s u k b (entries (tree_at s v.left) ++ v.entry ∷ xs)
+      (λ j. is k.number j + (f j + count j (tree_at s v.left))) g lower higher Put
+  changed_right s t u k v new b xs f g lower higher o tr once at low high few stays differs =
       let n = k.number in
       let w : Stored T S = record { left = v.left; entry = v.entry; right = new } in
-      let here : t n ≡ Some v = tr.kept n (let c = once n in let d = is_same key unit op of laws n in omega arith) ∙ o.root.stored in
+      let here : t n ≡ Some v = tr.kept n (let c = once n in let d = is_self key unit op of laws n in omega arith) ∙ o.root.stored in
       let put : u ≡ with_at n (Some w) t = at ∙ ap (λ m. with_at n (side_put Right new m) t) here in
       let spot : IsSpot key unit op of t n v.left new = ready_right key unit op of laws s t n v.left new xs f g tr o.left o.used
       (λ j. let i = once j in omega arith) in
@@ -199,20 +217,18 @@ module _ {T S : Type 0} (key : T → ℕ) (unit : S) (op : S → S → S) (of : 
         level = level;
         low = most;
         settles = λ h q. settles_right (height_of v.left) (height_of v.right) (height_of new) h k.height lower higher o.level o.height low high few q;
-        stays = λ d. subst (λ r. IsRoot key unit op of u k v.left v.entry r) (stays d here)
-            (record {
-              stored = above.stored ∙ ap (λ r. Some (record { left = v.left; entry = v.entry; right = r })) (sym (stays d here));
-              told = o.root.told;
-              level = o.root.level;
-            });
+        same = λ d. above.stored ∙ (ap (λ r. Some (record { left = v.left; entry = v.entry; right = r })) (sym (stays d here)) ∙ sym o.root.stored);
+        other = λ d e. absurd (differs d here (ap (λ (i : Stored T S). i.right) (same_node u n v w (e ∙ o.root.stored) above.stored)));
       }
 
-  changed : (side : Side) (s t u : Store T S) (k : Link S) (v : Stored T S) (new : Option (Link S)) (b : Bool) (xs : List T) (f g : ℕ → ℕ) (lower higher : ℕ) →
+  changed : {Put : Type 0} (side : Side) (s t u : Store T S) (k : Link S) (v : Stored T S) (new : Option (Link S)) (b : Bool) (xs : List T) (f g : ℕ → ℕ)
+      (lower higher : ℕ) →
       IsOpened key unit op of s k v → IsTree key unit op of s t new xs f g → ((j : ℕ) → is k.number j + (f j + count_at s (on_other side v) j) ≤ 1) →
       u ≡ with_at k.number (side_put side new (t k.number)) t → height_of (on_side side v) ≤ height_of new + lower →
       height_of new ≤ height_of (on_side side v) + higher → lower + higher ≤ 1 → (b ≡ false → t k.number ≡ Some v → on_side side v ≡ new) →
+      (b ≡ true → t k.number ≡ Some v → on_side side v ≡ new → ⊥) →
       IsChanged key unit op of s u k b (in_order side xs v.entry (entries_at s (on_other side v)))
-      (λ j. is k.number j + (f j + count_at s (on_other side v) j)) g lower higher
+      (λ j. is k.number j + (f j + count_at s (on_other side v) j)) g lower higher Put
   changed Left = changed_left
   changed Right = changed_right
 
@@ -232,25 +248,27 @@ module _ {T S : Type 0} (key : T → ℕ) (unit : S) (op : S → S → S) (of : 
     used = λ i h. j.used i (a.used i h);
   }
 
-  pub done_settled : (s t u : Store T S) (m m' : Link S) (b : Bool) (xs : List T) (f g : ℕ → ℕ) (lower higher : ℕ) →
-      IsChanged key unit op of s t m b xs f g lower higher → IsSettled key unit op of t u m.number m' → IsDone s u m m' xs f g lower higher
+  pub done_settled : {Put : Type 0} (s t u : Store T S) (m m' : Link S) (b : Bool) (xs : List T) (f g : ℕ → ℕ) (lower higher : ℕ) →
+      IsChanged key unit op of s t m b xs f g lower higher Put → IsSettled key unit op of t u m.number m' → IsDone s u m m' xs f g lower higher
   done_settled s t u m m' b xs f g lower higher c set =
       let h = set c.node c.above.stored in
       let w = c.settles m'.height h.1 in
       record { tree = whole_above s t u m.number c.node m' xs f g c.above h.0; not_lower = w.0; not_higher = w.1 }
 
-  pub done_same : (s t : Store T S) (m : Link S) (b : Bool) (xs : List T) (f g : ℕ → ℕ) (lower higher : ℕ) →
-      IsChanged key unit op of s t m b xs f g lower higher → b ≡ false → IsDone s t m m xs f g lower higher
-  done_same s t m b xs f g lower higher c e = record {
-    tree = whole_above s t t m.number c.node m xs f g c.above (joined_same key unit op of laws t m c.node.left c.node.entry c.node.right
-        (c.stays e) c.above.spot);
-    not_lower = omega arith;
-    not_higher = omega arith;
-  }
+  pub done_same : {Put : Type 0} (s t : Store T S) (m : Link S) (b : Bool) (xs : List T) (f g : ℕ → ℕ) (lower higher : ℕ) →
+      IsHeld key unit op of s (Some m) → IsChanged key unit op of s t m b xs f g lower higher Put → b ≡ false → IsDone s t m m xs f g lower higher
+  done_same s t m b xs f g lower higher held c e =
+      let o = opened key unit op of laws s m c.node held (sym (c.same e) ∙ c.above.stored) in
+      record {
+        tree = whole_above s t t m.number c.node m xs f g c.above (joined_same key unit op of laws t m c.node.left c.node.entry c.node.right
+            (record { stored = c.above.stored; told = o.root.told; level = o.root.level }) c.above.spot);
+        not_lower = omega arith;
+        not_higher = omega arith;
+      }
 
   -- what a change makes is said otherwise
-  pub rechanged : (s t : Store T S) (k : Link S) (b : Bool) (xs ys : List T) (f f' g : ℕ → ℕ) (lower higher : ℕ) →
-      IsChanged key unit op of s t k b xs f g lower higher → xs ≡ ys → ((j : ℕ) → f j ≡ f' j) → IsChanged key unit op of s t k b ys f' g lower higher
+  pub rechanged : {Put : Type 0} (s t : Store T S) (k : Link S) (b : Bool) (xs ys : List T) (f f' g : ℕ → ℕ) (lower higher : ℕ) →
+      IsChanged key unit op of s t k b xs f g lower higher Put → xs ≡ ys → ((j : ℕ) → f j ≡ f' j) → IsChanged key unit op of s t k b ys f' g lower higher Put
   rechanged s t k b xs ys f f' g lower higher c e p = record {
     node = c.node;
     above = record {
@@ -264,12 +282,13 @@ module _ {T S : Type 0} (key : T → ℕ) (unit : S) (op : S → S → S) (of : 
     level = c.level;
     low = c.low;
     settles = c.settles;
-    stays = c.stays;
+    same = c.same;
+    other = c.other;
   }
 
   -- what is changed can be settled
-  pub unsettled : (s t : Store T S) (k : Link S) (b : Bool) (xs : List T) (f g : ℕ → ℕ) (lower higher : ℕ) →
-      IsChanged key unit op of s t k b xs f g lower higher → k.height < 2 ^ 61 → IsUnsettled key unit op of 2 t k.number
+  pub unsettled : {Put : Type 0} (s t : Store T S) (k : Link S) (b : Bool) (xs : List T) (f g : ℕ → ℕ) (lower higher : ℕ) →
+      IsChanged key unit op of s t k b xs f g lower higher Put → k.height < 2 ^ 61 → IsUnsettled key unit op of 2 t k.number
   unsettled s t k b xs f g lower higher c low = let m = c.low in record {
     node = c.node;
     stored = c.above.stored;
@@ -305,9 +324,9 @@ module _ {T S : Type 0} (key : T → ℕ) (unit : S) (op : S → S → S) (of : 
   pub no_key : (s : Store T S) (x : T) → HasKey key unit op of s None x → ⊥
   no_key s x h = both_ways false refl (subst (λ r. IsSome (entry_at key (key x) (entries r))) (none_tree key unit op of laws s) h.there)
 
-  nothing_told : (l : Option (Link S)) → number_of l ≡ None → l ≡ None
-  nothing_told None d = refl
-  nothing_told (Some m) d = cc
+  no_number : (l : Option (Link S)) → number_of l ≡ None → l ≡ None
+  no_number None d = refl
+  no_number (Some m) d = cc
 
   -- the root of a side
   pub record IsChild (side : Side) (v : Stored T S) (n : ℕ) : Type 0 where
@@ -323,7 +342,7 @@ module _ {T S : Type 0} (key : T → ℕ) (unit : S) (op : S → S → S) (of : 
   child side s n v below e d = child_cases side v below (on_side side v) refl (rw e at d)
 
   pub no_child : (side : Side) (s : Store T S) (n : ℕ) (v : Stored T S) → s n ≡ Some v → child_number side (s n) ≡ None → on_side side v ≡ None
-  no_child side s n v e d = nothing_told (on_side side v) (rw e at d)
+  no_child side s n v e d = no_number (on_side side v) (rw e at d)
 
   held_side : (side : Side) (s : Store T S) (k : Link S) (v : Stored T S) → IsOpened key unit op of s k v → IsHeld key unit op of s (on_side side v)
   held_side Left s k v o = o.left
@@ -332,6 +351,20 @@ module _ {T S : Type 0} (key : T → ℕ) (unit : S) (op : S → S → S) (of : 
   lower_side : (side : Side) (s : Store T S) (k : Link S) (v : Stored T S) → IsOpened key unit op of s k v → height_of (on_side side v) < k.height
   lower_side Left s k v o = let h = o.height in omega arith
   lower_side Right s k v o = let h = o.height in omega arith
+
+  -- a root that is taken out is not the root of what is left
+  pub rest_differs : (s t : Store T S) (l rest : Option (Link S)) (m : Link S) (xs : List T) → IsHeld key unit op of s l →
+      IsWithout key unit op of s t l xs m.number rest → l ≡ Some m → l ≡ rest → ⊥
+  rest_differs s t l rest m xs h w e d =
+      let r : rest ≡ Some m = sym d ∙ e in
+      let c = w.count m.number in
+      let o = h.once m.number in
+      let i = is_self key unit op of laws m.number in
+      let held = subst (IsHeld key unit op of t) r w.held in
+      let n = node_at t m.number m refl held in
+      let a = root_counted key unit op of laws t m n.node (opened key unit op of laws t m n.node held n.stored) in
+      let b : count_at t rest m.number ≡ count_at t (Some m) m.number = ap (λ q. count_at t q m.number) r in
+      omega arith
 
   with_side_entry : (side : Side) (l : Option (Link S)) (o : Option (Stored T S)) → entry_below (side_put side l o) ≡ entry_below o
   with_side_entry side l None = refl
@@ -362,23 +395,24 @@ module _ {T S : Type 0} (key : T → ℕ) (unit : S) (op : S → S → S) (of : 
 module _ {T S : Type 0} (key : T → ℕ) (unit : S) (op : S → S → S) (of : T → S) (laws : MonoidLaws unit op) (Asked : Option (Link S) → Type 0)
     (list : List T → List T) (numbers : (ℕ → ℕ) → ℕ → ℕ) (gone : ℕ → ℕ) (lower higher : ℕ) where
   -- a side has become another tree
-  pub put_below : (side : Side) (s t u : Store T S) (k : Link S) (v : Stored T S) (new : Option (Link S)) (b : Bool) → lower + higher ≤ 1 →
+  pub put_below : {Put : Type 0} (side : Side) (s t u : Store T S) (k : Link S) (v : Stored T S) (new : Option (Link S)) (b : Bool) → lower + higher ≤ 1 →
       GoesDown key unit op of laws Asked list numbers side s k v →
       IsTree key unit op of s t new (list (entries_at s (on_side side v))) (numbers (count_at s (on_side side v))) gone →
       u ≡ with_at k.number (side_put side new (t k.number)) t → height_of (on_side side v) ≤ height_of new + lower →
       height_of new ≤ height_of (on_side side v) + higher → (b ≡ false → t k.number ≡ Some v → on_side side v ≡ new) →
-      IsChanged key unit op of s u k b (list (entries_at s (Some k))) (numbers (count_at s (Some k))) gone lower higher
-  put_below side s t u k v new b few p tree told low high stays =
+      (b ≡ true → t k.number ≡ Some v → on_side side v ≡ new → ⊥) →
+      IsChanged key unit op of s u k b (list (entries_at s (Some k))) (numbers (count_at s (Some k))) gone lower higher Put
+  put_below side s t u k v new b few p tree put low high stays differs =
       rechanged key unit op of laws s u k b _ _ _ _ gone lower higher
-      (changed key unit op of laws side s t u k v new b _ _ gone lower higher p.opened tree (λ j. let c = p.count j in let i = p.once j in omega arith) told
-      low high few stays) p.entries p.count
+      (changed key unit op of laws side s t u k v new b _ _ gone lower higher p.opened tree (λ j. let c = p.count j in let i = p.once j in omega arith) put
+      low high few stays differs) p.entries p.count
 
   -- where the node that is above stands, while its side changes
   pub above_stays : (side : Side) (s t : Store T S) (k : Link S) (v : Stored T S) (new : Option (Link S)) →
       GoesDown key unit op of laws Asked list numbers side s k v →
       IsTree key unit op of s t new (list (entries_at s (on_side side v))) (numbers (count_at s (on_side side v))) gone → t k.number ≡ s k.number
   above_stays side s t k v new p tree =
-      tree.kept k.number (let c = p.count k.number in let i = p.once k.number in let j = is_same key unit op of laws k.number in omega arith)
+      tree.kept k.number (let c = p.count k.number in let i = p.once k.number in let j = is_self key unit op of laws k.number in omega arith)
 
   pub further : (side : Side) (s : Store T S) (n : ℕ) (v : Stored T S) (below : ℕ) → s n ≡ Some v → child_number side (s n) ≡ Some below →
       ((k : Link S) → k.number ≡ n → Asked (Some k) → GoesDown key unit op of laws Asked list numbers side s k v) → IsAskedBelow Asked n →
@@ -405,64 +439,69 @@ module _ {T S : Type 0} (key : T → ℕ) (unit : S) (op : S → S → S) (of : 
   never side s n v e d down b missing = missing (subst Asked (no_child key unit op of laws side s n v e d) (down b.link b.number b.asked).asked)
 
   -- what follows where the tree below a side has changed
-  pub record IsStepped (side : Side) (s t : Store T S) (n below : ℕ) (c : Bool) : Type 0 where
+  pub record IsStepped (Put : Type 0) (side : Side) (s t : Store T S) (n below : ℕ) (c : Bool) : Type 0 where
     pub ready : IsUnsettled key unit op of 2 t below
     pub used : IsSome (t n)
     pub entry : entry_below (t n) ≡ entry_below (s n)
-    pub same : c ≡ false → IsDoneBelow key unit op of Asked list numbers gone lower higher s t n false
+    pub same : c ≡ false → IsDoneBelow key unit op of Asked list numbers gone lower higher Put s t n false
     pub settled : (u : Store T S) (b : Bool) → IsSideSettled key unit op of side t u n below b →
-        IsDoneBelow key unit op of Asked list numbers gone lower higher s u n b
+        IsDoneBelow key unit op of Asked list numbers gone lower higher Put s u n b
     pub settled_entry : (u : Store T S) (b : Bool) → IsSideSettled key unit op of side t u n below b → entry_below (u n) ≡ entry_below (s n)
 
-  done_child : (side : Side) (s t : Store T S) (k : Link S) (v : Stored T S) (below : ℕ) (c : Bool) → (m : IsChild key unit op of laws side v below) →
-      GoesDown key unit op of laws Asked list numbers side s k v → IsDoneBelow key unit op of Asked list numbers gone lower higher s t below c →
-      IsChanged key unit op of s t m.link c (list (entries_at s (on_side side v))) (numbers (count_at s (on_side side v))) gone lower higher
-  done_child side s t k v below c m p done =
-      subst (λ l. IsChanged key unit op of s t m.link c (list (entries_at s l)) (numbers (count_at s l)) gone lower higher) (sym m.is)
+  done_child : {Own : Type 0} (side : Side) (s t : Store T S) (k : Link S) (v : Stored T S) (below : ℕ) (c : Bool) →
+      (m : IsChild key unit op of laws side v below) →
+      GoesDown key unit op of laws Asked list numbers side s k v → IsDoneBelow key unit op of Asked list numbers gone lower higher Own s t below c →
+      IsChanged key unit op of s t m.link c (list (entries_at s (on_side side v))) (numbers (count_at s (on_side side v))) gone lower higher Own
+  done_child {Own = Own} side s t k v below c m p done =
+      subst (λ l. IsChanged key unit op of s t m.link c (list (entries_at s l)) (numbers (count_at s l)) gone lower higher Own) (sym m.is)
       (done m.link m.number (subst Asked m.is p.asked))
 
-  done_settle : (side : Side) (s t u : Store T S) (k : Link S) (v : Stored T S) (below : ℕ) (c b : Bool) (m : IsChild key unit op of laws side v below) →
-      GoesDown key unit op of laws Asked list numbers side s k v → IsDoneBelow key unit op of Asked list numbers gone lower higher s t below c →
+  done_settle : {Own : Type 0} (side : Side) (s t u : Store T S) (k : Link S) (v : Stored T S) (below : ℕ) (c b : Bool)
+      (m : IsChild key unit op of laws side v below) →
+      GoesDown key unit op of laws Asked list numbers side s k v → IsDoneBelow key unit op of Asked list numbers gone lower higher Own s t below c →
       (st : IsSideSettled key unit op of side t u k.number below b) →
       IsDone key unit op of laws s st.between m.link st.link (list (entries_at s (on_side side v))) (numbers (count_at s (on_side side v))) gone lower higher
   done_settle side s t u k v below c b m p done st =
       done_settled key unit op of laws s t st.between m.link st.link c _ _ gone lower higher (done_child side s t k v below c m p done)
       (subst (λ i. IsSettled key unit op of t st.between i st.link) (sym m.number) st.settled)
 
-  step_same : (side : Side) (s t : Store T S) (k : Link S) (v : Stored T S) (below : ℕ) (c : Bool) → lower + higher ≤ 1 →
+  step_same : {Own Put : Type 0} (side : Side) (s t : Store T S) (k : Link S) (v : Stored T S) (below : ℕ) (c : Bool) → lower + higher ≤ 1 →
       (m : IsChild key unit op of laws side v below) →
-      GoesDown key unit op of laws Asked list numbers side s k v → IsDoneBelow key unit op of Asked list numbers gone lower higher s t below c → c ≡ false →
-      IsChanged key unit op of s t k false (list (entries_at s (Some k))) (numbers (count_at s (Some k))) gone lower higher
+      GoesDown key unit op of laws Asked list numbers side s k v → IsDoneBelow key unit op of Asked list numbers gone lower higher Own s t below c → c ≡ false →
+      IsChanged key unit op of s t k false (list (entries_at s (Some k))) (numbers (count_at s (Some k))) gone lower higher Put
   step_same side s t k v below c few m p done z =
-      let d = done_same key unit op of laws s t m.link c _ _ gone lower higher (done_child side s t k v below c m p done) z in
+      let held = rw m.is at (held_side key unit op of laws side s k v p.opened) in
+      let d = done_same key unit op of laws s t m.link c _ _ gone lower higher held (done_child side s t k v below c m p done) z in
       let h : height_of (on_side side v) ≡ m.link.height = ap height_of m.is in
       let here : t k.number ≡ Some v = above_stays side s t k v (Some m.link) p d.tree ∙ p.opened.root.stored in
       put_below side s t t k v (Some m.link) false few p d.tree (side_again key unit op of laws side k.number (Some m.link) v t here m.is)
-      (omega arith) (omega arith) (λ _ _. m.is)
+      (omega arith) (omega arith) (λ _ _. m.is) (λ q. absurd (both_ways false refl q))
 
-  step_settled : (side : Side) (s t u : Store T S) (k : Link S) (v : Stored T S) (below : ℕ) (c b : Bool) → lower + higher ≤ 1 →
+  step_settled : {Own Put : Type 0} (side : Side) (s t u : Store T S) (k : Link S) (v : Stored T S) (below : ℕ) (c b : Bool) → lower + higher ≤ 1 →
       (m : IsChild key unit op of laws side v below) →
-      GoesDown key unit op of laws Asked list numbers side s k v → IsDoneBelow key unit op of Asked list numbers gone lower higher s t below c →
+      GoesDown key unit op of laws Asked list numbers side s k v → IsDoneBelow key unit op of Asked list numbers gone lower higher Own s t below c →
       IsSideSettled key unit op of side t u k.number below b →
-      IsChanged key unit op of s u k b (list (entries_at s (Some k))) (numbers (count_at s (Some k))) gone lower higher
+      IsChanged key unit op of s u k b (list (entries_at s (Some k))) (numbers (count_at s (Some k))) gone lower higher Put
   step_settled side s t u k v below c b few m p done st =
       let d = done_settle side s t u k v below c b m p done st in
       let h : height_of (on_side side v) ≡ m.link.height = ap height_of m.is in
       let low = d.not_lower in let high = d.not_higher in
-      put_below side s st.between u k v (Some st.link) b few p d.tree st.told (omega arith) (omega arith) (λ z i. st.stays z v i)
+      put_below side s st.between u k v (Some st.link) b few p d.tree st.put (omega arith) (omega arith) (λ z i. st.stays z v i)
+      (λ z i. st.differs z v i (ap number_of m.is ∙ ap Some m.number))
 
-  step_entry : (side : Side) (s t u : Store T S) (k : Link S) (v : Stored T S) (below : ℕ) (c b : Bool) (m : IsChild key unit op of laws side v below) →
-      GoesDown key unit op of laws Asked list numbers side s k v → IsDoneBelow key unit op of Asked list numbers gone lower higher s t below c →
+  step_entry : {Own : Type 0} (side : Side) (s t u : Store T S) (k : Link S) (v : Stored T S) (below : ℕ) (c b : Bool)
+      (m : IsChild key unit op of laws side v below) →
+      GoesDown key unit op of laws Asked list numbers side s k v → IsDoneBelow key unit op of Asked list numbers gone lower higher Own s t below c →
       IsSideSettled key unit op of side t u k.number below b → entry_below (u k.number) ≡ entry_below (s k.number)
   step_entry side s t u k v below c b m p done st =
-      entry_put_side key unit op of laws side st.between u k.number (Some st.link) st.told
+      entry_put_side key unit op of laws side st.between u k.number (Some st.link) st.put
       ∙ ap entry_below (above_stays side s st.between k v (Some st.link) p (done_settle side s t u k v below c b m p done st).tree)
 
-  pub step : (side : Side) (s t : Store T S) (n : ℕ) (v : Stored T S) (below : ℕ) (c : Bool) → lower + higher ≤ 1 → s n ≡ Some v →
+  pub step : {Own : Type 0} (Put : Type 0) (side : Side) (s t : Store T S) (n : ℕ) (v : Stored T S) (below : ℕ) (c : Bool) → lower + higher ≤ 1 → s n ≡ Some v →
       child_number side (s n) ≡ Some below →
       ((k : Link S) → k.number ≡ n → Asked (Some k) → GoesDown key unit op of laws Asked list numbers side s k v) → IsAskedBelow Asked n →
-      IsDoneBelow key unit op of Asked list numbers gone lower higher s t below c → IsStepped side s t n below c
-  step side s t n v below c few e d down b done =
+      IsDoneBelow key unit op of Asked list numbers gone lower higher Own s t below c → IsStepped Put side s t n below c
+  step Put side s t n v below c few e d down b done =
       let p = down b.link b.number b.asked in
       let m = child key unit op of laws side s n v below e d in
       let ch = done_child side s t b.link v below c m p done in
@@ -476,12 +515,35 @@ module _ {T S : Type 0} (key : T → ℕ) (unit : S) (op : S → S → S) (of : 
         used = subst (λ i. IsSome (t i)) b.number (ch.above.used b.link.number p.opened.used);
         entry = subst (λ i. entry_below (t i) ≡ entry_below (s i)) b.number
             (ap entry_below (ch.above.kept b.link.number (let i = p.once b.link.number in let j = p.count b.link.number in
-            let q = is_same key unit op of laws b.link.number in omega arith)));
+            let q = is_self key unit op of laws b.link.number in omega arith)));
         same = λ z k q a. step_same side s t k v below c few m (down k q a) done z;
         settled = λ u b' st k q a. step_settled side s t u k v below c b' few m (down k q a) done (at u b' k q st);
         settled_entry = λ u b' st. subst (λ i. entry_below (u i) ≡ entry_below (s i)) b.number
             (step_entry side s t u b.link v below c b' m p done (at u b' b.link b.number st));
       }
+
+  -- what follows where the tree o with the root k has changed below its root
+  pub record IsCalled (s t : Store T S) (o : Option (Link S)) (k : Link S) (c : Bool) : Type 0 where
+    pub ready : IsUnsettled key unit op of 2 t k.number
+    pub same : c ≡ false → IsTree key unit op of s t (Some k) (list (entries_at s o)) (numbers (count_at s o)) gone
+    pub settled : (u : Store T S) (k' : Link S) → IsSettled key unit op of t u k.number k' →
+        IsDone key unit op of laws s u k k' (list (entries_at s o)) (numbers (count_at s o)) gone lower higher
+
+  pub called : {Put : Type 0} (s t : Store T S) (o : Option (Link S)) (k : Link S) (c : Bool) → o ≡ Some k → Asked o → IsHeld key unit op of s o →
+      height_of o < 2 ^ 61 → IsDoneBelow key unit op of Asked list numbers gone lower higher Put s t k.number c → IsCalled s t o k c
+  called s t o k c e a held low done =
+      let ch = done k refl (subst Asked e a) in
+      let h = ap height_of e in
+      subst (λ q. IsCalled s t q k c) (sym e) (record {
+        ready = unsettled key unit op of laws s t k c _ _ gone lower higher ch (omega arith);
+        same = λ z. (done_same key unit op of laws s t k c _ _ gone lower higher (subst (IsHeld key unit op of s) e held) ch z).tree;
+        settled = λ u k' st. done_settled key unit op of laws s t u k k' c _ _ gone lower higher ch st;
+      })
+
+-- the root of a tree is asked for by its number
+pub asked_below : {S : Type 0} (Asked : Option (Link S) → Type 0) (o : Option (Link S)) (k : Link S) → o ≡ Some k → Asked o → height_of o < 2 ^ 61 →
+    IsAskedBelow Asked k.number
+asked_below Asked o k e a low = record { link = k; number = refl; asked = subst Asked e a; low = let h = ap height_of e in omega arith }
 
 module _ {T S : Type 0} (key : T → ℕ) (unit : S) (op : S → S → S) (of : T → S) (laws : MonoidLaws unit op) where
   key_side : (side : Side) (s : Store T S) (k : Link S) (v : Stored T S) (x : T) → HasKey key unit op of s (Some k) x → IsOpened key unit op of s k v →
@@ -539,14 +601,17 @@ module _ {T S : Type 0} (key : T → ℕ) (unit : S) (op : S → S → S) (of : 
       below w.stored d
       (replaced_down side s n w.node x w.stored (on w.node w.stored)) b
 
+  abbrev pub IsReplaceStep : Side → Store T S → Store T S → ℕ → ℕ → T → Bool → Type 0
+  IsReplaceStep side s t n below x c =
+      IsStepped key unit op of laws (λ l. HasKey key unit op of s l x) (λ xs. with_entry key x (without_key key (key x) xs)) (λ f. f) none 0 0
+      (IsBetween key unit op of s n x x) side s t n below c
+
   pub replaced_step : (side : Side) (s t : Store T S) (n below : ℕ) (x : T) (c : Bool) → HasKeyBelow key unit op of s n x →
       child_number side (s n) ≡ Some below →
-      IsBeside key unit op of s n x x (Some side) → IsReplacedBelow key unit op of s t below x c →
-      IsStepped key unit op of laws (λ l. HasKey key unit op of s l x) (λ xs. with_entry key x (without_key key (key x) xs)) (λ f. f) none 0 0 side s t n
-      below c
+      IsBeside key unit op of s n x x (Some side) → IsReplacedBelow key unit op of s t below x c → IsReplaceStep side s t n below x c
   replaced_step side s t n below x c b d on done = let w = node_at key unit op of laws s n b.link b.number b.asked.held in
-      step key unit op of laws (λ l. HasKey key unit op of s l x) (λ xs. with_entry key x (without_key key (key x) xs)) (λ f. f) none 0 0 side s t n w.node
-      below c (omega arith) w.stored d
+      step key unit op of laws (λ l. HasKey key unit op of s l x) (λ xs. with_entry key x (without_key key (key x) xs)) (λ f. f) none 0 0
+      (IsBetween key unit op of s n x x) side s t n w.node below c (omega arith) w.stored d
       (replaced_down side s n w.node x w.stored (on w.node w.stored)) b done
 
   pub replaced_never : (side : Side) (s : Store T S) (n : ℕ) (x : T) → HasKeyBelow key unit op of s n x → child_number side (s n) ≡ None →
@@ -557,9 +622,10 @@ module _ {T S : Type 0} (key : T → ℕ) (unit : S) (op : S → S → S) (of : 
       (replaced_down side s n w.node x w.stored (on w.node w.stored)) b (λ h. no_key key unit op of laws s x h)
 
   -- the node itself has the key
-  replaced_node : (s u : Store T S) (n : ℕ) (v : Stored T S) (x : T) → s n ≡ Some v → key x ≡ key v.entry → u ≡ with_at n (entry_put x (s n)) s →
+  replaced_node : (s u : Store T S) (n : ℕ) (v : Stored T S) (x : T) → IsBetween key unit op of s n x x → s n ≡ Some v → key x ≡ key v.entry → u ≡ with_at n
+      (entry_put x (s n)) s →
       IsReplacedBelow key unit op of s u n x true
-  replaced_node s u n v x e same at k p h =
+  replaced_node s u n v x between e same at k p h =
       let o = opened_at key unit op of laws s n k v p h.held e in
       let w : Stored T S = record { left = v.left; entry = x; right = v.right } in
       let a = entries (tree_at s v.left) in
@@ -576,14 +642,15 @@ module _ {T S : Type 0} (key : T → ℕ) (unit : S) (op : S → S → S) (of : 
         level = (let l = o.level.0 in omega arith, let l = o.level.1 in omega arith);
         low = let h = o.height in omega arith;
         settles = λ i q. let h = q.2 o.level in let g = o.height in (omega arith, omega arith);
-        stays = λ d. absurd (both_ways true d refl);
+        same = λ d. absurd (both_ways true d refl);
+        other = λ _ _. between;
       }
 
   pub replaced_at : (s u : Store T S) (n : ℕ) (x : T) → IsBetween key unit op of s n x x → u ≡ with_at n (entry_put x (s n)) s →
       IsReplacedBelow key unit op of s u n x true
   replaced_at s u n x same at k p h =
       let w = node_at key unit op of laws s n k p h.held in
-      replaced_node s u n w.node x w.stored (let m = same w.node w.stored in let a = m.0 in let b = m.1 in omega arith) at k p h
+      replaced_node s u n w.node x same w.stored (let m = same w.node w.stored in let a = m.0 in let b = m.1 in omega arith) at k p h
 
   -- putting in
   placed_is : (side : Side) (s : Store T S) (k : Link S) (v : Stored T S) (m : ℕ) (x : T) → IsPlaceFor key unit op of s (Some k) m x →
@@ -627,12 +694,15 @@ module _ {T S : Type 0} (key : T → ℕ) (unit : S) (op : S → S → S) (of : 
       further key unit op of laws (λ l. IsPlaceFor key unit op of s l m x) (with_entry key x) (λ f j. is m j + f j) none 0 1 side s n w.node below w.stored d
       (placed_down side s n m w.node x w.stored for) b
 
+  abbrev pub IsPlaceStep : Side → Store T S → Store T S → ℕ → ℕ → ℕ → T → Bool → Type 0
+  IsPlaceStep side s t n below m x c =
+      IsStepped key unit op of laws (λ l. IsPlaceFor key unit op of s l m x) (with_entry key x) (λ f j. is m j + f j) none 0 1 ⊥ side s t n below c
+
   pub placed_step : (side : Side) (s t : Store T S) (n below : ℕ) (m : ℕ) (x : T) (c : Bool) → IsPlaceBelow key unit op of s n m x →
       child_number side (s n) ≡ Some below →
-      IsSideFor key unit op of s n x side → IsPlacedBelow key unit op of s t below m x c →
-      IsStepped key unit op of laws (λ l. IsPlaceFor key unit op of s l m x) (with_entry key x) (λ f j. is m j + f j) none 0 1 side s t n below c
+      IsSideFor key unit op of s n x side → IsPlacedBelow key unit op of s t below m x c → IsPlaceStep side s t n below m x c
   placed_step side s t n below m x c b d for done = let w = node_at key unit op of laws s n b.link b.number b.asked.held in
-      step key unit op of laws (λ l. IsPlaceFor key unit op of s l m x) (with_entry key x) (λ f j. is m j + f j) none 0 1 side s t n w.node below c
+      step key unit op of laws (λ l. IsPlaceFor key unit op of s l m x) (with_entry key x) (λ f j. is m j + f j) none 0 1 ⊥ side s t n w.node below c
       (omega arith) w.stored d
       (placed_down side s n m w.node x w.stored for) b done
 
@@ -647,11 +717,12 @@ module _ {T S : Type 0} (key : T → ℕ) (unit : S) (op : S → S → S) (of : 
       let first = placed_first key unit op of laws s hung.between m x hung.link place hung.set in
       let tree = subst (λ l. IsTree key unit op of s hung.between (Some hung.link) (with_entry key x (entries (tree_at s l)))
       (λ j. is m j + count j (tree_at s l)) none) (sym no) first in
-      let told = subst (λ i. u ≡ with_at i (side_put side (Some hung.link) (hung.between i)) hung.between) (sym p) hung.told in
+      let put = subst (λ i. u ≡ with_at i (side_put side (Some hung.link) (hung.between i)) hung.between) (sym p) hung.put in
       let zero : height_of (on_side side v) ≡ 0 = ap height_of no in
       let one : hung.link.height ≡ 1 = ap (λ (l : Link S). l.height) hung.set.link in
       put_below key unit op of laws (λ l. IsPlaceFor key unit op of s l m x) (with_entry key x) (λ f j. is m j + f j) none 0 1
-      side s hung.between u k v (Some hung.link) true (omega arith) g tree told (omega arith) (omega arith) (λ z. absurd (both_ways true z refl))
+      side s hung.between u k v (Some hung.link) true (omega arith) g tree put (omega arith) (omega arith) (λ z. absurd (both_ways true z refl))
+      (λ _ _ e. let d : None ≡ Some hung.link = sym no ∙ e in cc)
 
   -- taking out
   removed_is : (side : Side) (s : Store T S) (k : Link S) (v : Stored T S) (x : T) → HasKey key unit op of s (Some k) x → IsOpened key unit op of s k v →
@@ -694,12 +765,16 @@ module _ {T S : Type 0} (key : T → ℕ) (unit : S) (op : S → S → S) (of : 
       further key unit op of laws (λ l. HasKey key unit op of s l x) (without_key key (key x)) (λ f. f) none 1 0 side s n w.node below w.stored d
       (removed_down side s n w.node x w.stored other for) b
 
+  abbrev pub IsRemoveStep : Side → Store T S → Store T S → ℕ → ℕ → T → ℕ → Bool → Type 0
+  IsRemoveStep side s t n below x out c =
+      IsStepped key unit op of laws (λ l. HasKey key unit op of s l x) (without_key key (key x)) (λ f. f) (is out) 1 0 ⊥ side s t n below c
+
   pub removed_step : (side : Side) (s t : Store T S) (n below : ℕ) (x : T) (out : ℕ) (c : Bool) → HasKeyBelow key unit op of s n x →
       child_number side (s n) ≡ Some below →
       IsAt key unit op of s n x false → IsSideFor key unit op of s n x side → IsRemovedBelow key unit op of s t below x out c →
-      IsStepped key unit op of laws (λ l. HasKey key unit op of s l x) (without_key key (key x)) (λ f. f) (is out) 1 0 side s t n below c
+      IsRemoveStep side s t n below x out c
   removed_step side s t n below x out c b d other for done = let w = node_at key unit op of laws s n b.link b.number b.asked.held in
-      step key unit op of laws (λ l. HasKey key unit op of s l x) (without_key key (key x)) (λ f. f) (is out) 1 0 side s t n w.node below c (omega arith)
+      step key unit op of laws (λ l. HasKey key unit op of s l x) (without_key key (key x)) (λ f. f) (is out) 1 0 ⊥ side s t n w.node below c (omega arith)
       w.stored d
       (removed_down side s n w.node x w.stored other for) b done
 
@@ -737,10 +812,14 @@ module _ {T S : Type 0} (key : T → ℕ) (unit : S) (op : S → S → S) (of : 
       side s w.between b.link v w.rest g (cut_tree side s u n b.link v below x m w g).0 in
       record {
         removed = λ k p h. let g' = down k p h in let got = cut_tree side s u n k v below x m w g' in let a = got.1.0 in let c = got.1.1 in
-            let told = subst (λ i. u ≡ with_at i (side_put side w.rest (w.between i)) w.between) (sym p) w.told in
+            let put = subst (λ i. u ≡ with_at i (side_put side w.rest (w.between i)) w.between) (sym p) w.put in
+            let gone = subst (λ i. IsWithout key unit op of s w.between (on_side side v) (without_key key (key x) (entries_at s (on_side side v))) i w.rest)
+            (sym m.number) got.0 in
             put_below key unit op of laws (λ l. HasKey key unit op of s l x) (without_key key (key x)) (λ f. f) (is below) 1 0
-            side s w.between u k v w.rest true (omega arith) g' got.0 told (omega arith) (omega arith) (λ z. absurd (both_ways true z refl));
-        entry = entry_put_side key unit op of laws side w.between u n w.rest w.told
+            side s w.between u k v w.rest true (omega arith) g' got.0 put (omega arith) (omega arith) (λ z. absurd (both_ways true z refl))
+            (λ _ _ e. rest_differs key unit op of laws s w.between (on_side side v) w.rest m.link _ (held_side key unit op of laws side s k v g'.opened)
+            gone m.is e);
+        entry = entry_put_side key unit op of laws side w.between u n w.rest w.put
             ∙ ap entry_below (subst (λ i. w.between i ≡ s i) b.number stay);
       }
 
@@ -837,12 +916,17 @@ module _ {T S : Type 0} (key : T → ℕ) (unit : S) (op : S → S → S) (of : 
       further key unit op of laws (λ l. IsSplitFor key unit op of s l m x y) (with_two key x y) (λ f j. is m j + f j) none 0 1 side s n w.node below w.stored d
       (split_down side s n m w.node x y w.stored (on w.node w.stored)) b
 
+  abbrev pub IsSplitStep : Side → Store T S → Store T S → ℕ → ℕ → ℕ → T → T → Bool → Type 0
+  IsSplitStep side s t n below m x y c =
+      IsStepped key unit op of laws (λ l. IsSplitFor key unit op of s l m x y) (with_two key x y) (λ f j. is m j + f j) none 0 1
+      (IsBetween key unit op of s n x x) side s t n below c
+
   pub split_step : (side : Side) (s t : Store T S) (n below : ℕ) (m : ℕ) (x y : T) (c : Bool) → IsSplitBelowFor key unit op of s n m x y →
       child_number side (s n) ≡ Some below →
-      IsBeside key unit op of s n x x (Some side) → IsSplitBelow key unit op of s t below m x y c →
-      IsStepped key unit op of laws (λ l. IsSplitFor key unit op of s l m x y) (with_two key x y) (λ f j. is m j + f j) none 0 1 side s t n below c
+      IsBeside key unit op of s n x x (Some side) → IsSplitBelow key unit op of s t below m x y c → IsSplitStep side s t n below m x y c
   split_step side s t n below m x y c b d on done = let w = node_at key unit op of laws s n b.link b.number b.asked.has.held in
-      step key unit op of laws (λ l. IsSplitFor key unit op of s l m x y) (with_two key x y) (λ f j. is m j + f j) none 0 1 side s t n w.node below c
+      step key unit op of laws (λ l. IsSplitFor key unit op of s l m x y) (with_two key x y) (λ f j. is m j + f j) none 0 1
+      (IsBetween key unit op of s n x x) side s t n w.node below c
       (omega arith) w.stored d
       (split_down side s n m w.node x y w.stored (on w.node w.stored)) b done
 
@@ -858,7 +942,7 @@ module _ {T S : Type 0} (key : T → ℕ) (unit : S) (op : S → S → S) (of : 
     number : link.number ≡ k.number
     done : IsDone key unit op of laws s t k link xs f none 0 0
 
-  retold : (s t : Store T S) (k : Link S) (xs : List T) (f : ℕ → ℕ) → IsChanged key unit op of s t k true xs f none 0 0 → IsRetold s t k xs f
+  retold : {Put : Type 0} (s t : Store T S) (k : Link S) (xs : List T) (f : ℕ → ℕ) → IsChanged key unit op of s t k true xs f none 0 0 Put → IsRetold s t k xs f
   retold s t k xs f c =
       let v = c.node in
       let l0 = c.level.0 in let l1 = c.level.1 in
@@ -910,9 +994,10 @@ module _ {T S : Type 0} (key : T → ℕ) (unit : S) (op : S → S → S) (of : 
       let high = d.done.not_higher in
       record { link = d.link; number = d.number ∙ b.number; asked = split_place s t n m x y k d.link b.asked d.done; low = omega arith }
 
-  pub split_at : (s t u : Store T S) (n m : ℕ) (x y : T) (c : Bool) → IsReplacedBelow key unit op of s t n x true → IsPlacedBelow key unit op of t u n m y c →
+  pub split_at : (s t u : Store T S) (n m : ℕ) (x y : T) (c : Bool) → IsBetween key unit op of s n x x → IsReplacedBelow key unit op of s t n x true →
+      IsPlacedBelow key unit op of t u n m y c →
       IsSplitBelow key unit op of s u n m x y true
-  split_at s t u n m x y c r q k p h =
+  split_at s t u n m x y c between r q k p h =
       let d = retold s t k _ _ (r k p h.has) in
       let m' = d.link in
       let tr = d.done.tree in
@@ -935,5 +1020,6 @@ module _ {T S : Type 0} (key : T → ℕ) (unit : S) (op : S → S → S) (of : 
         level = z.level;
         low = let l = z.low in omega arith;
         settles = λ i j. let q = z.settles i j in let q0 = q.0 in let q1 = q.1 in (omega arith, omega arith);
-        stays = λ i. absurd (both_ways true i refl);
+        same = λ i. absurd (both_ways true i refl);
+        other = λ _ _. between;
       }

@@ -163,12 +163,17 @@ module _ {T S : Type 0} (key : T → ℕ) (unit : S) (op : S → S → S) (of : 
       further key unit op of laws (λ l. IsJoinFor key unit op of s l x y z) (with_joined key x y z) (λ f. f) none 1 0 side s n w.node below w.stored d
       (join_down side s n w.node x y z w.stored (on w.node w.stored)) b
 
+  abbrev pub IsJoinStep : Side → Store T S → Store T S → ℕ → ℕ → T → T → T → ℕ → Bool → Type 0
+  IsJoinStep side s t n below x y z out c =
+      IsStepped key unit op of laws (λ l. IsJoinFor key unit op of s l x y z) (with_joined key x y z) (λ f. f) (is out) 1 0
+      (IsBetween key unit op of s n x y) side s t n below c
+
   pub join_step : (side : Side) (s t : Store T S) (n below : ℕ) (x y z : T) (out : ℕ) (c : Bool) → IsJoinBelowFor key unit op of s n x y z →
       child_number side (s n) ≡ Some below →
-      IsBeside key unit op of s n x y (Some side) → IsJoinedBelow key unit op of s t below x y z out c →
-      IsStepped key unit op of laws (λ l. IsJoinFor key unit op of s l x y z) (with_joined key x y z) (λ f. f) (is out) 1 0 side s t n below c
+      IsBeside key unit op of s n x y (Some side) → IsJoinedBelow key unit op of s t below x y z out c → IsJoinStep side s t n below x y z out c
   join_step side s t n below x y z out c b d on done = let w = node_at key unit op of laws s n b.link b.number b.asked.has.held in
-      step key unit op of laws (λ l. IsJoinFor key unit op of s l x y z) (with_joined key x y z) (λ f. f) (is out) 1 0 side s t n w.node below c
+      step key unit op of laws (λ l. IsJoinFor key unit op of s l x y z) (with_joined key x y z) (λ f. f) (is out) 1 0
+      (IsBetween key unit op of s n x y) side s t n w.node below c
       (omega arith) w.stored d
       (join_down side s n w.node x y z w.stored (on w.node w.stored)) b done
 
@@ -179,11 +184,13 @@ module _ {T S : Type 0} (key : T → ℕ) (unit : S) (op : S → S → S) (of : 
       (join_down side s n w.node x y z w.stored (on w.node w.stored)) b (λ h. no_key key unit op of laws s x h.has)
 
   -- the root is one of the two, and the other goes
-  put_at_root : (s t u : Store T S) (n out : ℕ) (k : Link S) (v : Stored T S) (x y z : T) (c : Bool) (xs : List T) → k.number ≡ n → s n ≡ Some v →
+  put_at_root : {Put : Type 0} (s t u : Store T S) (n out : ℕ) (k : Link S) (v : Stored T S) (x y z : T) (c : Bool) (xs : List T) →
+      IsBetween key unit op of s n x y → k.number ≡ n → s n ≡ Some v →
       entry_below (t n) ≡ entry_below (s n) → u ≡ with_at n (entry_put z (t n)) t → IsChanged key unit op of s t k c xs (λ j. count j (tree_at s (Some k)))
-      (is out) 1 0 → ((l r : List T) → l ++ v.entry ∷ r ≡ xs → l ++ z ∷ r ≡ with_joined key x y z (entries (tree_at s (Some k)))) →
+      (is out) 1 0 Put → ((l r : List T) → l ++ v.entry ∷ r ≡ xs → l ++ z ∷ r ≡ with_joined key x y z (entries (tree_at s (Some k)))) →
       IsChanged key unit op of s u k true (with_joined key x y z (entries (tree_at s (Some k)))) (λ j. count j (tree_at s (Some k))) (is out) 1 0
-  put_at_root s t u n out k v x y z c xs p e stays at ch told =
+      (IsBetween key unit op of s n x y)
+  put_at_root s t u n out k v x y z c xs between p e stays at ch joins =
       let w = ch.node in
       let w' : Stored T S = record { left = w.left; entry = z; right = w.right } in
       let here : t n ≡ Some w = subst (λ i. t i ≡ Some w) p ch.above.stored in
@@ -194,11 +201,12 @@ module _ {T S : Type 0} (key : T → ℕ) (unit : S) (op : S → S → S) (of : 
       record {
         node = w';
         above = above_put key unit op of laws s t u k.number w' _ (λ j. count j (tree_at s (Some k))) (is out) ch.above.spot put
-            (told _ _ was) ch.above.count ch.above.kept ch.above.used;
+            (joins _ _ was) ch.above.count ch.above.kept ch.above.used;
         level = ch.level;
         low = ch.low;
         settles = ch.settles;
-        stays = λ d. absurd (both_ways true d refl);
+        same = λ d. absurd (both_ways true d refl);
+        other = λ _ _. between;
       }
 
   pub join_lower_goes : (s t u : Store T S) (n out : ℕ) (v : Stored T S) (x y z : T) (c : Bool) → s n ≡ Some v → IsBetween key unit op of s n x y →
@@ -209,7 +217,7 @@ module _ {T S : Type 0} (key : T → ℕ) (unit : S) (op : S → S → S) (of : 
       let le = (meets v e).1 in
       let mid = all_middle (λ w. (key w ≤ key x) ⊎ (key y ≤ key w)) (entries (tree_at s v.left)) v.entry (entries (tree_at s v.right)) (rw o.tree at h.next) in
       let is_y : key v.entry ≡ key y = elim mid [ inl i ↦ absurd (omega arith) | inr i ↦ omega arith ] in
-      put_at_root s t u n out k v x y z c _ p e stays at (below k p h.has)
+      put_at_root s t u n out k v x y z c _ meets p e stays at (below k p h.has)
       (λ l r d. joined_upper key x y z v.entry _ l r h.has.rising h.after h.next h.same is_y d)
 
   pub join_upper_goes : (s t u : Store T S) (n out : ℕ) (v : Stored T S) (x y z : T) (c : Bool) → s n ≡ Some v → IsBetween key unit op of s n x y →
@@ -218,7 +226,7 @@ module _ {T S : Type 0} (key : T → ℕ) (unit : S) (op : S → S → S) (of : 
   join_upper_goes s t u n out v x y z c e meets le below stays at k p h =
       let ge = (meets v e).0 in
       let is_x : key v.entry ≡ key x = omega arith in
-      put_at_root s t u n out k v x y z c _ p e stays at (below k p h.too) (λ l r d. joined_lower key x y z v.entry _ l r h.has.rising h.same is_x d)
+      put_at_root s t u n out k v x y z c _ meets p e stays at (below k p h.too) (λ l r d. joined_lower key x y z v.entry _ l r h.has.rising h.same is_x d)
 
   -- what is asked where the root is one of the two
   pub join_lower_has : (s : Store T S) (n : ℕ) (x y z : T) → IsJoinBelowFor key unit op of s n x y z → HasKeyBelow key unit op of s n x

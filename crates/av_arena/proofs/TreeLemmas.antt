@@ -15,11 +15,11 @@ use Rattle.av_arena.specs.declared.link.Side.TheVariants.{Left}
 use Rattle.av_arena.specs.declared.link.Stored.{Stored}
 
 module _ {T S : Type 0} (key : T → ℕ) (unit : S) (op : S → S → S) (of : T → S) (laws : MonoidLaws unit op) where
-  pub is_same : (n : ℕ) → is n n ≡ 1
-  is_same n = rw (eq-eqb n n refl) refl
+  pub is_self : (n : ℕ) → is n n ≡ 1
+  is_self n = rw (eq-eqb n n refl) refl
 
   pub is_other : (n j : ℕ) → is n j ≡ 0 → n ≡ j → ⊥
-  is_other n j e p = let h : is n j ≡ 1 = rw (← p) (is_same n) in omega arith
+  is_other n j e p = let h : is n j ≡ 1 = rw (← p) (is_self n) in omega arith
 
   pub with_at_same : {X : Type 0} (n : ℕ) (x : X) (f : ℕ → X) → with_at n x f n ≡ x
   with_at_same n x f = rw (eq-eqb n n refl) refl
@@ -59,7 +59,7 @@ module _ {T S : Type 0} (key : T → ℕ) (unit : S) (op : S → S → S) (of : 
   pub stored_kept : (s s' : Store T S) (t : Tree T) → ((j : ℕ) → 1 ≤ count j t → s' j ≡ s j) → IsStored key unit op of s t → IsStored key unit op of s' t
   stored_kept s s' Leaf keep st = tt
   stored_kept s s' (Fork n l x r) keep st =
-      let e = is_same n in
+      let e = is_self n in
       (keep n (omega arith) ∙ st.0, stored_kept s s' l (λ j p. keep j (omega arith)) st.1, stored_kept s s' r (λ j p. keep j (omega arith)) st.2)
 
   -- the same tree in another store
@@ -245,6 +245,40 @@ module _ {T S : Type 0} (key : T → ℕ) (unit : S) (op : S → S → S) (of : 
   pub root_kept : (s s' : Store T S) (k : Link S) (l : Option (Link S)) (x : T) (r new : Option (Link S)) (xs : List T) (f g : ℕ → ℕ) →
       IsRoot key unit op of s k l x r → IsTree key unit op of s s' new xs f g → f k.number ≡ 0 → IsRoot key unit op of s' k l x r
   root_kept s s' k l x r new xs f g root t z = record { stored = t.kept k.number z ∙ root.stored; told = root.told; level = root.level }
+
+  -- a link tells the node that is put
+  pub set_root : (s s' : Store T S) (n : ℕ) (a : Option (Link S)) (x : T) (b : Option (Link S)) (k : Link S) → IsSet key unit op of s s' n a x b k →
+      k.number ≡ n
+  set_root s s' n a x b k set = ap (λ (m : Link S). m.number) set.link
+
+  -- a node of a side is another one than the node above
+  pub root_counted : (s : Store T S) (k : Link S) (v : Stored T S) → IsOpened key unit op of s k v → 1 ≤ count k.number (tree_at s (Some k))
+  root_counted s k v o = rw o.tree (let e = is_self k.number in omega arith)
+
+  pub other_node : (s : Store T S) (n : ℕ) (a b : Option (Link S)) → IsSpot key unit op of s n a b → (j : ℕ) →
+      1 ≤ count j (tree_at s a) + count j (tree_at s b) → j ≡ n → ⊥
+  other_node s n a b spot j c e = let o = spot.once j in is_other n j (omega arith) (sym e)
+
+  -- so the root is another one after a rotation
+  pub other_left : (s : Store T S) (n : ℕ) (left : Link S) (right : Option (Link S)) (v : Stored T S) → IsSpot key unit op of s n (Some left) right →
+      IsOpened key unit op of s left v → left.number ≡ n → ⊥
+  other_left s n left right v spot o = other_node s n (Some left) right spot left.number (let c = root_counted s left v o in omega arith)
+
+  pub other_right : (s : Store T S) (n : ℕ) (left : Option (Link S)) (right : Link S) (v : Stored T S) → IsSpot key unit op of s n left (Some right) →
+      IsOpened key unit op of s right v → right.number ≡ n → ⊥
+  other_right s n left right v spot o = other_node s n left (Some right) spot right.number (let c = root_counted s right v o in omega arith)
+
+  pub other_left_right : (s : Store T S) (n : ℕ) (left : Link S) (right : Option (Link S)) (v : Stored T S) (mid : Link S) (i : Stored T S) →
+      IsSpot key unit op of s n (Some left) right → IsOpened key unit op of s left v → v.right ≡ Some mid → IsOpened key unit op of s mid i →
+      mid.number ≡ n → ⊥
+  other_left_right s n left right v mid i spot o e oi = other_node s n (Some left) right spot mid.number
+      (rw o.tree (let c = root_counted s mid i oi in let d = ap (λ l. count mid.number (tree_at s l)) e in omega arith))
+
+  pub other_right_left : (s : Store T S) (n : ℕ) (left : Option (Link S)) (right : Link S) (v : Stored T S) (mid : Link S) (i : Stored T S) →
+      IsSpot key unit op of s n left (Some right) → IsOpened key unit op of s right v → v.left ≡ Some mid → IsOpened key unit op of s mid i →
+      mid.number ≡ n → ⊥
+  other_right_left s n left right v mid i spot o e oi = other_node s n left (Some right) spot mid.number
+      (rw o.tree (let c = root_counted s mid i oi in let d = ap (λ l. count mid.number (tree_at s l)) e in omega arith))
 
   -- one rotation
   pub turned_right : (s s' s'' : Store T S) (n : ℕ) (left : Link S) (x : T) (right : Option (Link S)) (v : Stored T S) (low k : Link S) →
@@ -482,7 +516,7 @@ module _ {T S : Type 0} (key : T → ℕ) (unit : S) (op : S → S → S) (of : 
 
   pub without_used : (s s' : Store T S) (k : Option (Link S)) (xs : List T) (n : ℕ) (k' : Option (Link S)) → IsHeld key unit op of s k →
       IsWithout key unit op of s s' k xs n k' → IsSome (s' n)
-  without_used s s' k xs n k' h t = t.used n (stored_used s (tree_at s k) h.stored n (let c = t.count n in let e = is_same n in omega arith))
+  without_used s s' k xs n k' h t = t.used n (stored_used s (tree_at s k) h.stored n (let c = t.count n in let e = is_self n in omega arith))
 
   pub popped_first : (s : Store T S) (k : Link S) (v : Stored T S) → IsOpened key unit op of s k v → v.left ≡ None →
       IsPopped key unit op of s s k k.number v.entry v.right
@@ -507,7 +541,7 @@ module _ {T S : Type 0} (key : T → ℕ) (unit : S) (op : S → S → S) (of : 
       v.left ≡ Some m → IsPopped key unit op of s s' m n x rest → IsRoot key unit op of s' k (Some m) v.entry v.right
   popped_root s s' k m v n x rest o e p = root_kept s s' k (Some m) v.entry v.right rest _ (λ j. count j (tree_at s (Some m))) (is n)
       (subst (λ l. IsRoot key unit op of s k l v.entry v.right) e o.root) p.rest (let c = popped_once s k m v o e k.number in
-      let d = is_same k.number in omega arith)
+      let d = is_self k.number in omega arith)
 
   pub popped_later : (s s' s'' : Store T S) (k m : Link S) (v : Stored T S) (n : ℕ) (x : T) (rest : Option (Link S)) (k' : Link S) →
       IsOpened key unit op of s k v → v.left ≡ Some m → IsPopped key unit op of s s' m n x rest →

@@ -11,13 +11,13 @@ pub record IsPart {T S : Type 0} (key : T → ℕ) (unit : S) (op : S → S → 
   pub rising : IsRising key (entries_at s k)
 
 -- no node is lost: each that is in use is the tree's
-abbrev pub IsWhole : {T S : Type 0} → Store T S → Option (Link S) → Type 0
-IsWhole s k = (j : ℕ) → IsSome (s j) → 1 ≤ count_at s k j
+abbrev pub NoneLost : {T S : Type 0} → Store T S → Option (Link S) → Type 0
+NoneLost s k = (j : ℕ) → IsSome (s j) → 1 ≤ count_at s k j
 
 -- the one tree of an arena
 abbrev pub IsAvl : {T S : Type 0} → (T → ℕ) → S → (S → S → S) → (T → S) → Store T S →
     Option (Link S) → Type 0
-IsAvl key unit op of s k = IsPart key unit op of s k × IsWhole s k
+IsAvl key unit op of s k = IsPart key unit op of s k × NoneLost s k
 
 -- a list that begins with another
 pub record IsLonger {T : Type 0} (front xs : List T) : Type 0 where

@@ -1,4 +1,4 @@
--- What a change of the tree below a node leaves there, before the node's own link is told anew.
+-- What a change of the tree below a node leaves there, before a link tells the node anew.
 use Rattle.std.specs.Prelude.{◌≡◌, ℕ, ◌+◌, ◌^◌, ◌<◌, ◌≤◌, max, None, Bool, true, false, IsSome, Option, Some, List, ◌∷◌, ◌++◌}
 use Rattle.av_base.specs.Words.{with_at}
 use Rattle.av_arena.specs.Arena.{on_side, side_put}
@@ -7,7 +7,7 @@ use Rattle.av_arena.specs.declared.link.Link.{Link}
 use Rattle.av_arena.specs.declared.link.Side.{Side}
 use Rattle.av_arena.specs.declared.link.Side.TheVariants.{Left, Right}
 use Rattle.av_arena.specs.declared.link.Stored.{Stored}
-use Rattle.av_arena.specs.Tree.{DifferByAtMost, IsHeightAfter, HasKey, IsJoined, IsPlaceFor, IsRoot, IsSet, IsSpot, IsTree, IsWithout, Store, count_at, entries_at, height_of, is, none, sum_of}
+use Rattle.av_arena.specs.Tree.{DifferByAtMost, IsHeightAfter, HasKey, IsJoined, IsPlaceFor, IsSet, IsSpot, IsTree, IsWithout, Store, count_at, entries_at, height_of, is, none, sum_of}
 
 -- the entries of a side, the node's own and those of the other side
 abbrev pub in_order : {T : Type 0} → Side → List T → T → List T → List T
@@ -18,6 +18,11 @@ in_order Right xs x ys = ys ++ x ∷ xs
 abbrev pub AreOn : {T : Type 0} → (T → ℕ) → Side → T → T → T → Type 0
 AreOn key Left x y w = key y < key w
 AreOn key Right x y w = key w < key x
+
+-- the number that a link tells
+abbrev pub number_of : {S : Type 0} → Option (Link S) → Option ℕ
+number_of None = None
+number_of (Some k) = Some k.number
 
 -- a tree with the root n that meets what is asked
 pub record IsAskedBelow {S : Type 0} (Asked : Option (Link S) → Type 0) (n : ℕ) : Type 0 where
@@ -38,8 +43,9 @@ module _ {T S : Type 0} (key : T → ℕ) (unit : S) (op : S → S → S) (of : 
   -- whether the sides of the node n differ by one level at most
   abbrev pub IsLevelAt : Store T S → ℕ → Bool → Type 0
   IsLevelAt s n b =
-      (v : Stored T S) → s n ≡ Some v → b ≡ true →
-      DifferByAtMost 1 (height_of v.left) (height_of v.right)
+      (v : Stored T S) → s n ≡ Some v →
+      (b ≡ true → DifferByAtMost 1 (height_of v.left) (height_of v.right)) ×
+      (DifferByAtMost 1 (height_of v.left) (height_of v.right) → b ≡ true)
 
   -- the link k tells the node n
   abbrev pub IsTold : Store T S → ℕ → Link S → Type 0
@@ -58,21 +64,24 @@ module _ {T S : Type 0} (key : T → ℕ) (unit : S) (op : S → S → S) (of : 
       IsJoined key unit op of old new n v.left v.entry v.right k ×
       IsHeightAfter (height_of v.left) (height_of v.right) k.height
 
-  -- a side, whose root is `child`, is settled, and told to the node n
+  -- a side, whose root is `child`, is settled and put on its side of the node n: whether the link
+  -- is another one than the node has had there
   pub record IsSideSettled (side : Side) (old new : Store T S) (n child : ℕ) (changed : Bool)
       : Type 0 where
     pub link : Link S
     pub between : Store T S
     pub settled : IsSettled old between child link
-    pub told : new ≡ with_at n (side_put side (Some link) (between n)) between
+    pub put : new ≡ with_at n (side_put side (Some link) (between n)) between
     pub stays : changed ≡ false → (v : Stored T S) → between n ≡ Some v → on_side side v ≡ Some link
+    pub differs : changed ≡ true → (v : Stored T S) → between n ≡ Some v →
+        number_of (on_side side v) ≡ Some child → on_side side v ≡ Some link → ⊥
 
-  -- the node m for the entry x is told to the node n, as a side that it has not had
+  -- the node m for the entry x is put on a side of the node n
   pub record IsHung (side : Side) (old new : Store T S) (n m : ℕ) (x : T) : Type 0 where
     pub link : Link S
     pub between : Store T S
     pub set : IsSet key unit op of old between m None x None link
-    pub told : new ≡ with_at n (side_put side (Some link) (between n)) between
+    pub put : new ≡ with_at n (side_put side (Some link) (between n)) between
 
   -- the node n above its sides, as it is stored, with these entries and numbers in all
   pub record IsAbove (old new : Store T S) (n : ℕ) (v : Stored T S) (xs : List T)
@@ -86,24 +95,31 @@ module _ {T S : Type 0} (key : T → ℕ) (unit : S) (op : S → S → S) (of : 
     pub used : (j : ℕ) → IsSome (old j) → IsSome (new j)
 
   -- the tree k has these entries and numbers, once its root is settled, so much lower or higher
-  -- at most; where nothing changed the link tells the node still
+  -- at most; whether the root is stored otherwise than before. Where an entry is put into the root
+  -- itself, `Put`, it may be the one that the root has had
   pub record IsChanged (old new : Store T S) (k : Link S) (changed : Bool) (xs : List T)
-      (numbers gone : ℕ → ℕ) (lower higher : ℕ) : Type 0 where
+      (numbers gone : ℕ → ℕ) (lower higher : ℕ) (Put : Type 0) : Type 0 where
     pub node : Stored T S
     pub above : IsAbove old new k.number node xs numbers gone
     pub level : DifferByAtMost 2 (height_of node.left) (height_of node.right)
     pub low : max (height_of node.left) (height_of node.right) ≤ k.height
     pub settles : (h : ℕ) → IsHeightAfter (height_of node.left) (height_of node.right) h →
         (k.height ≤ h + lower) × (h ≤ k.height + higher)
-    pub stays : changed ≡ false → IsRoot key unit op of new k node.left node.entry node.right
+    pub same : changed ≡ false → new k.number ≡ old k.number
+    pub other : changed ≡ true → new k.number ≡ old k.number → Put
 
   -- a tree that meets what is asked, with the root n, becomes one of these entries and numbers
   abbrev pub IsDoneBelow : (Option (Link S) → Type 0) → (List T → List T) → ((ℕ → ℕ) → ℕ → ℕ) →
-      (ℕ → ℕ) → ℕ → ℕ → Store T S → Store T S → ℕ → Bool → Type 0
-  IsDoneBelow Asked list numbers gone lower higher old new n changed =
+      (ℕ → ℕ) → ℕ → ℕ → Type 0 → Store T S → Store T S → ℕ → Bool → Type 0
+  IsDoneBelow Asked list numbers gone lower higher Put old new n changed =
       (k : Link S) → k.number ≡ n → Asked (Some k) →
       IsChanged old new k changed (list (entries_at old (Some k)))
-      (numbers (count_at old (Some k))) gone lower higher
+      (numbers (count_at old (Some k))) gone lower higher Put
+
+  -- the node n lies neither before x nor after y
+  abbrev pub IsBetween : Store T S → ℕ → T → T → Type 0
+  IsBetween s n x y =
+      (v : Stored T S) → s n ≡ Some v → (key x ≤ key v.entry) × (key v.entry ≤ key y)
 
   -- a tree with the root n, and a number and an entry that are new to it
   abbrev pub IsPlaceBelow : Store T S → ℕ → ℕ → T → Type 0
@@ -113,7 +129,7 @@ module _ {T S : Type 0} (key : T → ℕ) (unit : S) (op : S → S → S) (of : 
   abbrev pub IsPlacedBelow : Store T S → Store T S → ℕ → ℕ → T → Bool → Type 0
   IsPlacedBelow old new n m x =
       IsDoneBelow (λ k. IsPlaceFor key unit op of old k m x) (with_entry key x)
-      (λ f j. is m j + f j) none 0 1 old new n
+      (λ f j. is m j + f j) none 0 1 ⊥ old new n
 
   -- a tree with the root n that has the key
   abbrev pub HasKeyBelow : Store T S → ℕ → T → Type 0
@@ -123,7 +139,8 @@ module _ {T S : Type 0} (key : T → ℕ) (unit : S) (op : S → S → S) (of : 
   abbrev pub IsReplacedBelow : Store T S → Store T S → ℕ → T → Bool → Type 0
   IsReplacedBelow old new n x =
       IsDoneBelow (λ k. HasKey key unit op of old k x)
-      (λ xs. with_entry key x (without_key key (key x) xs)) (λ f. f) none 0 0 old new n
+      (λ xs. with_entry key x (without_key key (key x) xs)) (λ f. f) none 0 0
+      (IsBetween old n x x) old new n
 
   -- whether the node n has the key
   abbrev pub IsAt : Store T S → ℕ → T → Bool → Type 0
@@ -139,18 +156,19 @@ module _ {T S : Type 0} (key : T → ℕ) (unit : S) (op : S → S → S) (of : 
       (without_key key (key x) (entries_at old (Some k))) n rest ×
       ((height_of rest ≤ k.height) × (k.height ≤ height_of rest + 1))
 
-  -- the root of a side, `child`, is taken out of its tree, and the node n told what is left
+  -- the root of a side, `child`, is taken out of its tree, and what is left put on that side of the
+  -- node n
   pub record IsSideTaken (side : Side) (old new : Store T S) (n child : ℕ) (x : T) : Type 0 where
     pub rest : Option (Link S)
     pub between : Store T S
     pub taken : IsTaken old between child x rest
-    pub told : new ≡ with_at n (side_put side rest (between n)) between
+    pub put : new ≡ with_at n (side_put side rest (between n)) between
 
   -- the node `out`, which has the key, is taken out of the tree with the root n
   abbrev pub IsRemovedBelow : Store T S → Store T S → ℕ → T → ℕ → Bool → Type 0
   IsRemovedBelow old new n x out =
       IsDoneBelow (λ k. HasKey key unit op of old k x) (without_key key (key x)) (λ f. f) (is out)
-      1 0 old new n
+      1 0 ⊥ old new n
 
   -- a tree that has the key of x, and a number and an entry y that are new to it, where y comes
   -- right after x
@@ -175,7 +193,7 @@ module _ {T S : Type 0} (key : T → ℕ) (unit : S) (op : S → S → S) (of : 
   abbrev pub IsSplitBelow : Store T S → Store T S → ℕ → ℕ → T → T → Bool → Type 0
   IsSplitBelow old new n m x y =
       IsDoneBelow (λ k. IsSplitFor old k m x y) (with_two key x y) (λ f j. is m j + f j) none 0 1
-      old new n
+      (IsBetween old n x x) old new n
 
   -- a tree that has the keys of two neighbours, x and y, and an entry z with the key of the first
   pub record IsJoinFor (s : Store T S) (k : Option (Link S)) (x y z : T) : Type 0 where
@@ -188,11 +206,6 @@ module _ {T S : Type 0} (key : T → ℕ) (unit : S) (op : S → S → S) (of : 
   -- the same of the tree with the root n
   abbrev pub IsJoinBelowFor : Store T S → ℕ → T → T → T → Type 0
   IsJoinBelowFor s n x y z = IsAskedBelow (λ k. IsJoinFor s k x y z) n
-
-  -- the node n lies neither before x nor after y
-  abbrev pub IsBetween : Store T S → ℕ → T → T → Type 0
-  IsBetween s n x y =
-      (v : Stored T S) → s n ≡ Some v → (key x ≤ key v.entry) × (key v.entry ≤ key y)
 
   -- the keys from that of x to that of y belong on this side of the node n, or the node is between
   abbrev pub IsBeside : Store T S → ℕ → T → T → Option Side → Type 0
@@ -214,26 +227,21 @@ module _ {T S : Type 0} (key : T → ℕ) (unit : S) (op : S → S → S) (of : 
   abbrev pub IsJoinedBelow : Store T S → Store T S → ℕ → T → T → T → ℕ → Bool → Type 0
   IsJoinedBelow old new n x y z out =
       IsDoneBelow (λ k. IsJoinFor old k x y z) (with_joined key x y z) (λ f. f) (is out) 1 0
-      old new n
+      (IsBetween old n x y) old new n
 
 -- the height of the tree with the root n
 abbrev pub height_below : {T S : Type 0} → Option (Stored T S) → ℕ
 height_below None = 0
 height_below (Some v) = max (height_of v.left) (height_of v.right) + 1
 
--- the number that a link tells
-abbrev pub number_of : {S : Type 0} → Option (Link S) → Option ℕ
-number_of None = None
-number_of (Some k) = Some k.number
-
 -- the number of the node at the root of a side
 abbrev pub child_number : {T S : Type 0} → Side → Option (Stored T S) → Option ℕ
 child_number side None = None
 child_number side (Some v) = number_of (on_side side v)
 
--- whether the node n tells this link on a side
-abbrev pub TellsSide : {T S : Type 0} → Store T S → ℕ → Side → Link S → Bool → Type 0
-TellsSide {T = T} {S = S} s n side k b =
+-- whether the node n has this link on a side
+abbrev pub HasSide : {T S : Type 0} → Store T S → ℕ → Side → Link S → Bool → Type 0
+HasSide {T = T} {S = S} s n side k b =
     (v : Stored T S) → s n ≡ Some v →
     (b ≡ true → on_side side v ≡ Some k) × (on_side side v ≡ Some k → b ≡ true)
 

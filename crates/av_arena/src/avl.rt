@@ -187,12 +187,12 @@ impl<'a, T: Entry> Part<'a, T> {
         ensures all { OnOk result (entries.new.items ≡ entries.old.items ++ self.now) }
         ensures longer { IsLonger entries.old.items entries.new.items }
     {
-        if let Some((left, entry, right)) = self.parts() {
-            left.push_each(entries)?;
-            entries.push(entry)?;
-            right.push_each(entries)?;
-        }
-        Ok(())
+        let Some((left, entry, right)) = self.parts() else {
+            return Ok(());
+        };
+        left.push_each(entries)?;
+        entries.push(entry)?;
+        right.push_each(entries)
     }
 
     /// The entry at the root, with what lies before and after it, or none where the tree is empty.

@@ -1,19 +1,18 @@
 // Changes of the tree below a node.
 //
 // They go by the numbers of nodes, which are read where they lie, and answer whether the node is
-// another one afterwards: where it is not, nothing above is looked at.
+// stored otherwise afterwards: where it is not, nothing above is looked at.
 //
 // A step to either side is one function, in line and called with a constant, so that no side is
-// kept over the call below. What is called but once in a change takes the side last, so that what
-// comes before it lies where the caller was given it.
-ghost use Rattle.std.specs.Prelude.{◌≡◌, true, false, IsSome, Some};
+// kept over the call below.
+ghost use Rattle.std.specs.Prelude.{◌≡◌, true, false, IsSome, None, Some};
 ghost use Rattle.av_arena.specs.Arena.{store_of};
-ghost use Rattle.av_arena.specs.Below.{HasKeyBelow, IsAt, IsBeside, IsBetween, IsHung, IsJoinBelowFor, IsJoinedBelow, IsLevelAt, IsPlaceBelow, IsPlacedBelow, IsRemovedBelow, IsReplacedBelow, IsSettled, IsSideFor, IsSideSettled, IsSideTaken, IsSplitBelow, IsSplitBelowFor, IsTaken, IsTold, IsUnsettled, TellsSide, child_number, entry_below, number_of};
+ghost use Rattle.av_arena.specs.Below.{HasKeyBelow, IsAt, IsBeside, IsBetween, IsHung, IsJoinBelowFor, IsJoinedBelow, IsLevelAt, IsPlaceBelow, IsPlacedBelow, IsRemovedBelow, IsReplacedBelow, IsSettled, IsSideFor, IsSideSettled, IsSideTaken, IsSplitBelow, IsSplitBelowFor, IsTaken, IsTold, IsUnsettled, HasSide, child_number, entry_below, number_of};
 
 use crate::arena::Arena;
 use crate::entry::Entry;
 use crate::link::{Link, Side, Stored};
-use crate::tree::{balance, close, height, is_same, pop_first, sum};
+use crate::tree::{balance, close, height, is_same_link, pop_first, sum};
 
 /// Whether the sides of a node differ by one level at most.
 #[inline(always)]
@@ -26,9 +25,9 @@ fn is_level<T: Entry>(arena: &Arena<T, T::Sum>, number: u64) -> bool
     left <= right + 1 && right <= left + 1
 }
 
-/// The link of a node.
+/// The link that tells a node.
 #[inline(always)]
-fn told<T: Entry>(arena: &Arena<T, T::Sum>, number: u64) -> Link<T::Sum>
+fn link_at<T: Entry>(arena: &Arena<T, T::Sum>, number: u64) -> Link<T::Sum>
     requires { IsUnsettled T.key T.unit T.op T.of 2 (store_of arena.now) number }
     ensures { IsTold T.key T.unit T.op T.of (store_of arena.now) number result }
 {
@@ -48,18 +47,20 @@ pub fn settle<T: Entry>(arena: &mut Arena<T, T::Sum>, number: u64) -> Link<T::Su
         result }
 {
     if is_level(arena, number) {
-        return told(arena, number);
+        return link_at(arena, number);
     }
     rotate(arena, number)
 }
 
-/// What becomes of such a node, most likely by a rotation.
+/// What becomes of such a node by a rotation: another node is the root.
 #[cold]
 #[inline(never)]
 fn rotate<T: Entry>(arena: &mut Arena<T, T::Sum>, number: u64) -> Link<T::Sum>
-    requires { IsUnsettled T.key T.unit T.op T.of 2 (store_of arena.old) number }
-    ensures { IsSettled T.key T.unit T.op T.of (store_of arena.old) (store_of arena.new) number
-        result }
+    requires node { IsUnsettled T.key T.unit T.op T.of 2 (store_of arena.old) number }
+    requires uneven { IsLevelAt T.key T.unit T.op T.of (store_of arena.old) number false }
+    ensures settled { IsSettled T.key T.unit T.op T.of (store_of arena.old) (store_of arena.new)
+        number result }
+    ensures other { result.number ≡ number → ⊥ }
 {
     let Stored { left, entry, right } = arena.get(number);
     balance(arena, number, left, entry, right)
@@ -70,6 +71,7 @@ fn rotate<T: Entry>(arena: &mut Arena<T, T::Sum>, number: u64) -> Link<T::Sum>
 #[inline(never)]
 fn turn_side<T: Entry>(arena: &mut Arena<T, T::Sum>, number: u64, child: u64, side: Side) -> bool
     requires child { IsUnsettled T.key T.unit T.op T.of 2 (store_of arena.old) child }
+    requires uneven { IsLevelAt T.key T.unit T.op T.of (store_of arena.old) child false }
     requires used { IsSome (store_of arena.old number) }
     ensures { IsSideSettled T.key T.unit T.op T.of side (store_of arena.old) (store_of arena.new)
         number child result }
@@ -79,21 +81,21 @@ fn turn_side<T: Entry>(arena: &mut Arena<T, T::Sum>, number: u64, child: u64, si
     true
 }
 
-/// Whether a node is told this of its side.
+/// Whether a node has this link on a side.
 #[inline(always)]
-fn tells<T: Entry>(arena: &Arena<T, T::Sum>, number: u64, link: Link<T::Sum>, side: Side) -> bool
+fn has_side<T: Entry>(arena: &Arena<T, T::Sum>, number: u64, link: Link<T::Sum>, side: Side) -> bool
     requires { IsSome (store_of arena.now number) }
-    ensures { TellsSide (store_of arena.now) number side link result }
+    ensures { HasSide (store_of arena.now) number side link result }
 {
     let node = arena.look(number);
     match side {
-        Side::Left => is_same::<T>(node.left, Some(link)),
-        Side::Right => is_same::<T>(node.right, Some(link)),
+        Side::Left => is_same_link::<T>(node.left, Some(link)),
+        Side::Right => is_same_link::<T>(node.right, Some(link)),
     }
 }
 
-/// Settles a side of a node, whose root is `child`, and tells it to the node, where it is told
-/// otherwise.
+/// Settles a side of a node, whose root is `child`, and puts its link there, where the node has
+/// another one.
 #[inline(always)]
 fn settle_side<T: Entry>(arena: &mut Arena<T, T::Sum>, number: u64, child: u64, side: Side) -> bool
     requires child { IsUnsettled T.key T.unit T.op T.of 2 (store_of arena.old) child }
@@ -104,18 +106,19 @@ fn settle_side<T: Entry>(arena: &mut Arena<T, T::Sum>, number: u64, child: u64, 
     if !is_level(arena, child) {
         return turn_side(arena, number, child, side);
     }
-    let link = told(arena, child);
-    if tells(arena, number, link, side) {
+    let link = link_at(arena, child);
+    if has_side(arena, number, link, side) {
         return false;
     }
     arena.set_side(number, side, Some(link));
     true
 }
 
-/// Puts a node without sides on a side of another.
+/// Puts a node without sides on a side of another, where there is none.
 #[inline(never)]
 fn hang<T: Entry>(arena: &mut Arena<T, T::Sum>, number: u64, new: u64, entry: &T, side: Side)
     requires used { IsSome (store_of arena.old number) }
+    requires empty { child_number side (store_of arena.old number) ≡ None }
     requires new { IsSome (store_of arena.old new) }
     ensures { IsHung T.key T.unit T.op T.of side (store_of arena.old) (store_of arena.new) number
         new entry.now }
@@ -178,7 +181,8 @@ fn side_beside<T: Entry>(arena: &Arena<T, T::Sum>, number: u64, first: &T, last:
     None
 }
 
-/// Puts the node `new`, which is in use and not in the tree, into the tree with the root `number`.
+/// Puts the node `new`, which is in use and not in the tree, into the tree with the root `number`:
+/// whether the root is stored otherwise.
 #[cycle(place)]
 pub fn placed_below<T: Entry>(
     arena: &mut Arena<T, T::Sum>,
@@ -221,7 +225,8 @@ fn placed_on<T: Entry>(
     settle_side(arena, number, child, side)
 }
 
-/// Puts `entry` in the place of the one with its key in the tree with the root `number`.
+/// Puts `entry` in the place of the one with its key in the tree with the root `number`: whether
+/// the root is stored otherwise, or got the entry.
 #[cycle(replace)]
 pub fn replaced_below<T: Entry>(arena: &mut Arena<T, T::Sum>, number: u64, entry: &T) -> bool
     requires { HasKeyBelow T.key T.unit T.op T.of (store_of arena.old) number entry.now }
@@ -303,7 +308,7 @@ fn take_child<T: Entry>(arena: &mut Arena<T, T::Sum>, number: u64, child: u64, l
 }
 
 /// Takes the node with the key of `like` out of the tree with the root `number`, which is another
-/// one: the number of that node, and whether the root is another one afterwards.
+/// one: the number of that node, and whether the root is stored otherwise.
 #[cycle(remove)]
 pub fn removed_below<T: Entry>(arena: &mut Arena<T, T::Sum>, number: u64, like: &T) -> (u64, bool)
     requires there { HasKeyBelow T.key T.unit T.op T.of (store_of arena.old) number like.now }
@@ -432,8 +437,8 @@ fn joined_at<T: Entry>(
 
 /// Takes the node of `lower` or of `upper`, which comes right after it, out of the tree with the
 /// root `number`, and puts `joined`, which has the key of `lower`, into the other: the number of
-/// the node that goes, and whether the root is another one afterwards. Where `joined` is in sum
-/// what the two were, nothing above is written.
+/// the node that goes, and whether the root is stored otherwise. Where `joined` is in sum what the
+/// two were, nothing above is written.
 #[cycle(join)]
 pub fn joined_below<T: Entry>(
     arena: &mut Arena<T, T::Sum>,

@@ -29,7 +29,7 @@ pub trait Entry: Copy + Drop {
     /// Whether two summaries are the same. A change stops where a summary stays.
     fn is_same(left: Self::Sum, right: Self::Sum) -> bool
         ensures same { result ≡ true → left ≡ right }
-        ensures told { left ≡ right → result ≡ true };
+        ensures always { left ≡ right → result ≡ true };
 
     /// The summary of a row of entries, by those of what stands before and after the one in the
     /// middle.

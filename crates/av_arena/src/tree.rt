@@ -1,6 +1,6 @@
 ghost use Rattle.std.specs.Prelude.{◌≡◌, ◌+◌, ◌^◌, ◌<◌, ◌≤◌, max, true, Some, IsSome};
 ghost use Rattle.av_arena.specs.Order.{without_key};
-ghost use Rattle.av_arena.specs.Tree.{DifferByAtMost, IsHeightAfter, HasKey, IsHeld, IsJoined, IsOpened, IsPlaceFor, IsPlaced, IsPopped, IsReplaced, IsRoot, IsSet, IsSpot, IsWithout, sum_of, height_of, tree_at, entries};
+ghost use Rattle.av_arena.specs.Tree.{DifferByAtMost, IsHeightAfter, HasKey, IsHeld, IsJoined, IsOpened, IsPlaceFor, IsPlaced, IsPopped, IsReplaced, IsRoot, IsRootAfter, IsSet, IsSpot, IsWithout, sum_of, height_of, tree_at, entries};
 ghost use Rattle.av_arena.specs.Arena.{store_of};
 ghost use Rattle.av_arena.specs.Below.{IsJoinFor, IsJoinedAt, IsSplit, IsSplitFor};
 
@@ -88,6 +88,7 @@ fn lean_left<T: Entry>(
         number (Some left) entry right result }
     ensures not_lower { left.height ≤ result.height }
     ensures at_most_one_higher { result.height ≤ left.height + 1 }
+    ensures other { result.number ≡ number → ⊥ }
 {
     let side = open(arena, left);
     let Stored {
@@ -129,6 +130,7 @@ fn lean_right<T: Entry>(
         number left entry (Some right) result }
     ensures not_lower { right.height ≤ result.height }
     ensures at_most_one_higher { result.height ≤ right.height + 1 }
+    ensures other { result.number ≡ number → ⊥ }
 {
     let side = open(arena, right);
     let Stored {
@@ -169,6 +171,7 @@ pub fn balance<T: Entry>(
     ensures joined { IsJoined T.key T.unit T.op T.of (store_of arena.old) (store_of arena.new)
         number left entry right result }
     ensures height { IsHeightAfter (height_of left) (height_of right) result.height }
+    ensures root { IsRootAfter (height_of left) (height_of right) number result.number }
 {
     let (before, after) = (height(left), height(right));
     if before > after + 1 {
@@ -184,9 +187,9 @@ pub fn balance<T: Entry>(
 
 /// Whether two links are the same.
 #[inline]
-pub fn is_same<T: Entry>(left: Option<Link<T::Sum>>, right: Option<Link<T::Sum>>) -> bool
+pub fn is_same_link<T: Entry>(left: Option<Link<T::Sum>>, right: Option<Link<T::Sum>>) -> bool
     ensures same { result ≡ true → left ≡ right }
-    ensures told { left ≡ right → result ≡ true }
+    ensures always { left ≡ right → result ≡ true }
 {
     match (left, right) {
         (None, None) => true,
@@ -227,7 +230,7 @@ fn with_left<T: Entry>(
         entry: middle,
         right: after,
     } = node;
-    if is_same::<T>(before, left) {
+    if is_same_link::<T>(before, left) {
         return tree;
     }
     if height(before) != height(left) {

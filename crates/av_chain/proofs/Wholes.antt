@@ -12,7 +12,7 @@ use Rattle.av_chain.specs.declared.node.Place.{Place}
 use Rattle.av_chain.specs.Nodes.{Block, same_ptr, IsApart, has_place, found, without_node}
 use Rattle.av_chain.specs.Rows.{key_of, sides_of, with_before, with_after, node_changed, place_changed, leads_on, leads_back, Reaches, row, at_block, head_of, last_of, head_with, head_without, IsThreaded}
 use Rattle.av_chain.specs.Links.{Link, chain_of, AreOnce}
-use Rattle.av_chain.specs.Lists.{links_of, IsWhole}
+use Rattle.av_chain.specs.Lists.{links_of, AreThreaded}
 use Rattle.av_chain.proofs.Altered.{either, cond_lift, changed_append, changed_avoids, reaches_avoids, removed_changed, apart_changed, has_changed, reaches_changed, place_cond}
 use Rattle.av_chain.proofs.Runs.{last_head, end_reaches, reaches_front, has_past}
 use Rattle.av_chain.proofs.Threads.{Keeps, KeepsSides, keeps_after, keeps_before, number_eq, same_number, reaches_row, thread_other, thread_grow, thread_shrink, before_reaches, after_reaches, found_row, split_at}
@@ -23,7 +23,7 @@ thread_heads : (w : Way) (heads heads' : ℕ → Option Head) (bs : List Block) 
 thread_heads w heads heads' bs e t = record { run = t.run; head = λ k. e k ∙ t.head k }
 
 pub whole_heads : (areas areas' anons anons' : ℕ → Option Head) (bs : List Block) → ((k : ℕ) → areas' k ≡ areas k) → ((k : ℕ) → anons' k ≡ anons k) →
-    IsWhole areas anons bs → IsWhole areas' anons' bs
+    AreThreaded areas anons bs → AreThreaded areas' anons' bs
 whole_heads areas areas' anons anons' bs ea ev t =
     record { areas_lead = thread_heads Area areas areas' bs ea t.areas_lead; anons_lead = thread_heads Anon anons anons' bs ev t.anons_lead; once = t.once }
 
@@ -131,7 +131,7 @@ once_removed p (b ∷ bs) o = elim (same_ptr p b.0) as (λ y. AreOnce (links_of 
 
 -- ---- a link is made
 
-module _ (areas anons : ℕ → Option Head) (bs : List Block) (p : Ptr) (area anon : ℕ) (t : IsWhole areas anons bs) where
+module _ (areas anons : ℕ → Option Head) (bs : List Block) (p : Ptr) (area anon : ℕ) (t : AreThreaded areas anons bs) where
   abbrev pub new_node : Node
   new_node = record {
     area = area;
@@ -177,7 +177,7 @@ module _ (areas anons : ℕ → Option Head) (bs : List Block) (p : Ptr) (area a
     links_made = links_on Anon (last_of (anons anon)) at bs1 ∙ links_on Area (last_of (areas area)) at (bs ++ b ∷ []) ∙ links_append bs (b ∷ [])
 
     pub whole_made : is_in anon (chain_of (links_of bs) area) ≡ false
-        → IsWhole (with_at area (Some (head_with (at_block b) (areas area))) areas) (with_at anon (Some (head_with (at_block b) (anons anon))) anons) bs2
+        → AreThreaded (with_at area (Some (head_with (at_block b) (areas area))) areas) (with_at anon (Some (head_with (at_block b) (anons anon))) anons) bs2
     whole_made n = record {
       areas_lead = thread_other Area (with_at area (Some (head_with (at_block b) (areas area))) areas) bs1 (last_of (anons anon)) (with_after Anon at)
           (keeps_after Area Anon at) (λ m. refl) (thread_grow Area areas bs b d t.areas_lead refl);
@@ -232,91 +232,94 @@ head_there : (h : Option Head) (bs : List Block) (q : Ptr) → h ≡ head_of bs 
 head_there h [] q e f = cc
 head_there h (c ∷ bs) q e f = subst IsSome (sym e) refl
 
-module _ (areas anons : ℕ → Option Head) (bs : List Block) (p : Ptr) (n : Node) (d : IsApart bs) (t : IsWhole areas anons bs) (e : found p bs ≡ Some n) where
-  abbrev sa : Sides
-  sa = n.in_area
+module _ (areas anons : ℕ → Option Head) (bs : List Block) (p : Ptr) (n : Node) (d : IsApart bs) (t : AreThreaded areas anons bs) (e : found p bs ≡ Some n)
+  where
+    abbrev sa : Sides
+    sa = n.in_area
 
-  abbrev sv : Sides
-  sv = n.in_anon
+    abbrev sv : Sides
+    sv = n.in_anon
 
-  abbrev cs0 : List Block
-  cs0 = leads_on Area sa.before sa.after bs
+    abbrev cs0 : List Block
+    cs0 = leads_on Area sa.before sa.after bs
 
-  abbrev cs1 : List Block
-  cs1 = leads_back Area sa.after sa.before cs0
+    abbrev cs1 : List Block
+    cs1 = leads_back Area sa.after sa.before cs0
 
-  abbrev cs2 : List Block
-  cs2 = leads_back Anon sv.after sv.before (leads_on Anon sv.before sv.after cs1)
+    abbrev cs2 : List Block
+    cs2 = leads_back Anon sv.after sv.before (leads_on Anon sv.before sv.after cs1)
 
-  pub area_before : Reaches sa.before bs
-  area_before = reaches_row Area n.area sa.before bs (before_reaches Area areas bs p n d t.areas_lead e)
+    pub area_before : Reaches sa.before bs
+    area_before = reaches_row Area n.area sa.before bs (before_reaches Area areas bs p n d t.areas_lead e)
 
-  pub area_after : Reaches sa.after bs
-  area_after = reaches_row Area n.area sa.after bs (after_reaches Area areas bs p n d t.areas_lead e)
+    pub area_after : Reaches sa.after bs
+    area_after = reaches_row Area n.area sa.after bs (after_reaches Area areas bs p n d t.areas_lead e)
 
-  past_area : (o : Option Place) → Reaches o bs → Reaches o cs1
-  past_area o h = reaches_changed (with_before Area sa.before) o sa.after cs0 (reaches_changed (with_after Area sa.after) o sa.before bs h)
+    past_area : (o : Option Place) → Reaches o bs → Reaches o cs1
+    past_area o h = reaches_changed (with_before Area sa.before) o sa.after cs0 (reaches_changed (with_after Area sa.after) o sa.before bs h)
 
-  pub anon_before : Reaches sv.before cs1
-  anon_before = past_area sv.before (reaches_row Anon n.anon sv.before bs (before_reaches Anon anons bs p n d t.anons_lead e))
+    pub anon_before : Reaches sv.before cs1
+    anon_before = past_area sv.before (reaches_row Anon n.anon sv.before bs (before_reaches Anon anons bs p n d t.anons_lead e))
 
-  pub anon_after : Reaches sv.after cs1
-  anon_after = past_area sv.after (reaches_row Anon n.anon sv.after bs (after_reaches Anon anons bs p n d t.anons_lead e))
+    pub anon_after : Reaches sv.after cs1
+    anon_after = past_area sv.after (reaches_row Anon n.anon sv.after bs (after_reaches Anon anons bs p n d t.anons_lead e))
 
-  in_row : (w : Way) → has_place p (row w (key_of w n) bs) ≡ true
-  in_row w =
-      let cut = split_at w p (row w (key_of w n) bs) n (found_row w p bs n e) in
-      subst (λ cs. has_place p cs ≡ true) (sym cut.2) (has_past p cut.0 (p, n) cut.1)
+    in_row : (w : Way) → has_place p (row w (key_of w n) bs) ≡ true
+    in_row w =
+        let cut = split_at w p (row w (key_of w n) bs) n (found_row w p bs n e) in
+        subst (λ cs. has_place p cs ≡ true) (sym cut.2) (has_past p cut.0 (p, n) cut.1)
 
-  pub area_there : IsSome (areas n.area)
-  area_there = head_there (areas n.area) (row Area n.area bs) p (t.areas_lead.head n.area) (in_row Area)
+    pub area_there : IsSome (areas n.area)
+    area_there = head_there (areas n.area) (row Area n.area bs) p (t.areas_lead.head n.area) (in_row Area)
 
-  pub anon_there : IsSome (anons n.anon)
-  anon_there = head_there (anons n.anon) (row Anon n.anon bs) p (t.anons_lead.head n.anon) (in_row Anon)
+    pub anon_there : IsSome (anons n.anon)
+    anon_there = head_there (anons n.anon) (row Anon n.anon bs) p (t.anons_lead.head n.anon) (in_row Anon)
 
-  pub still_there : has_place p bs ≡ true → has_place p cs2 ≡ true
-  still_there h =
-      has_changed (with_before Anon sv.before) p sv.after (leads_on Anon sv.before sv.after cs1) ∙ has_changed (with_after Anon sv.after) p sv.before cs1
-      ∙ has_changed (with_before Area sa.before) p sa.after cs0 ∙ has_changed (with_after Area sa.after) p sa.before bs ∙ h
+    pub still_there : has_place p bs ≡ true → has_place p cs2 ≡ true
+    still_there h =
+        has_changed (with_before Anon sv.before) p sv.after (leads_on Anon sv.before sv.after cs1) ∙ has_changed (with_after Anon sv.after) p sv.before cs1
+        ∙ has_changed (with_before Area sa.before) p sa.after cs0 ∙ has_changed (with_after Area sa.after) p sa.before bs ∙ h
 
-  -- the anon_vma's list may be changed before or after the node is taken out
-  anon_past : (xs : List Block) → without_node p (leads_back Anon sv.after sv.before (leads_on Anon sv.before sv.after xs)) ≡ leads_back Anon sv.after sv.before
-      (leads_on Anon sv.before sv.after (without_node p xs))
-  anon_past xs = removed_changed (with_before Anon sv.before) p sv.after (leads_on Anon sv.before sv.after xs) ∙ ap (leads_back Anon sv.after sv.before)
-      (removed_changed (with_after Anon sv.after) p sv.before xs)
+    -- the anon_vma's list may be changed before or after the node is taken out
+    anon_past : (xs : List Block) → without_node p (leads_back Anon sv.after sv.before (leads_on Anon sv.before sv.after xs)) ≡ leads_back Anon sv.after
+        sv.before
+        (leads_on Anon sv.before sv.after (without_node p xs))
+    anon_past xs = removed_changed (with_before Anon sv.before) p sv.after (leads_on Anon sv.before sv.after xs) ∙ ap (leads_back Anon sv.after sv.before)
+        (removed_changed (with_after Anon sv.after) p sv.before xs)
 
-  area_past : without_node p cs1 ≡ leads_back Area sa.after sa.before (leads_on Area sa.before sa.after (without_node p bs))
-  area_past = removed_changed (with_before Area sa.before) p sa.after cs0 ∙ ap (leads_back Area sa.after sa.before)
-      (removed_changed (with_after Area sa.after) p sa.before bs)
+    area_past : without_node p cs1 ≡ leads_back Area sa.after sa.before (leads_on Area sa.before sa.after (without_node p bs))
+    area_past = removed_changed (with_before Area sa.before) p sa.after cs0 ∙ ap (leads_back Area sa.after sa.before)
+        (removed_changed (with_after Area sa.after) p sa.before bs)
 
-  pub links_gone : links_of (without_node p cs2) ≡ links_of (without_node p bs)
-  links_gone =
-      ap links_of (anon_past cs1) ∙ links_back Anon sv.after sv.before (leads_on Anon sv.before sv.after (without_node p cs1))
-      ∙ links_on Anon sv.before sv.after (without_node p cs1)
-      ∙ ap links_of area_past ∙ links_back Area sa.after sa.before (leads_on Area sa.before sa.after (without_node p bs))
-      ∙ links_on Area sa.before sa.after (without_node p bs)
+    pub links_gone : links_of (without_node p cs2) ≡ links_of (without_node p bs)
+    links_gone =
+        ap links_of (anon_past cs1) ∙ links_back Anon sv.after sv.before (leads_on Anon sv.before sv.after (without_node p cs1))
+        ∙ links_on Anon sv.before sv.after (without_node p cs1)
+        ∙ ap links_of area_past ∙ links_back Area sa.after sa.before (leads_on Area sa.before sa.after (without_node p bs))
+        ∙ links_on Area sa.before sa.after (without_node p bs)
 
-  areas_gone : IsThreaded Area (with_at n.area (head_without sa (areas n.area)) areas) (without_node p cs2)
-  areas_gone =
-      let heads = with_at n.area (head_without sa (areas n.area)) areas in
-      let one = thread_other Area heads (without_node p cs1) sv.before (with_after Anon sv.after) (keeps_after Area Anon sv.after) (λ m. refl)
-      (thread_shrink Area areas bs p n d t.areas_lead e) in
-      let two = thread_other Area heads (leads_on Anon sv.before sv.after (without_node p cs1)) sv.after (with_before Anon sv.before)
-      (keeps_before Area Anon sv.before) (λ m. refl) one in
-      subst (IsThreaded Area heads) (sym (anon_past cs1)) two
+    areas_gone : IsThreaded Area (with_at n.area (head_without sa (areas n.area)) areas) (without_node p cs2)
+    areas_gone =
+        let heads = with_at n.area (head_without sa (areas n.area)) areas in
+        let one = thread_other Area heads (without_node p cs1) sv.before (with_after Anon sv.after) (keeps_after Area Anon sv.after) (λ m. refl)
+        (thread_shrink Area areas bs p n d t.areas_lead e) in
+        let two = thread_other Area heads (leads_on Anon sv.before sv.after (without_node p cs1)) sv.after (with_before Anon sv.before)
+        (keeps_before Area Anon sv.before) (λ m. refl) one in
+        subst (IsThreaded Area heads) (sym (anon_past cs1)) two
 
-  anons_gone : IsThreaded Anon (with_at n.anon (head_without sv (anons n.anon)) anons) (without_node p cs2)
-  anons_gone =
-      let one = thread_other Anon anons bs sa.before (with_after Area sa.after) (keeps_after Anon Area sa.after) (λ m. refl) t.anons_lead in
-      let two = thread_other Anon anons cs0 sa.after (with_before Area sa.before) (keeps_before Anon Area sa.before) (λ m. refl) one in
-      let f0 = found_changed p sa.before (with_after Area sa.after) bs n e (keeps_after Anon Area sa.after) (λ m. refl) in
-      let f1 = found_changed p sa.after (with_before Area sa.before) cs0 f0.0 f0.1 (keeps_before Anon Area sa.before) (λ m. refl) in
-      let same : sides_of Anon f1.0 ≡ sv = f1.2 ∙ f0.2 in
-      let key : key_of Anon f1.0 ≡ n.anon = f1.3 ∙ f0.3 in
-      let d1 = apart_changed (with_before Area sa.before) sa.after cs0 (apart_changed (with_after Area sa.after) sa.before bs d) in
-      subst (λ (q : Sides × ℕ). IsThreaded Anon (with_at q.1 (head_without q.0 (anons q.1)) anons)
-      (without_node p (leads_back Anon q.0.after q.0.before (leads_on Anon q.0.before q.0.after cs1))))
-      (λ i. (same i, key i)) (thread_shrink Anon anons cs1 p f1.0 d1 two f1.1)
+    anons_gone : IsThreaded Anon (with_at n.anon (head_without sv (anons n.anon)) anons) (without_node p cs2)
+    anons_gone =
+        let one = thread_other Anon anons bs sa.before (with_after Area sa.after) (keeps_after Anon Area sa.after) (λ m. refl) t.anons_lead in
+        let two = thread_other Anon anons cs0 sa.after (with_before Area sa.before) (keeps_before Anon Area sa.before) (λ m. refl) one in
+        let f0 = found_changed p sa.before (with_after Area sa.after) bs n e (keeps_after Anon Area sa.after) (λ m. refl) in
+        let f1 = found_changed p sa.after (with_before Area sa.before) cs0 f0.0 f0.1 (keeps_before Anon Area sa.before) (λ m. refl) in
+        let same : sides_of Anon f1.0 ≡ sv = f1.2 ∙ f0.2 in
+        let key : key_of Anon f1.0 ≡ n.anon = f1.3 ∙ f0.3 in
+        let d1 = apart_changed (with_before Area sa.before) sa.after cs0 (apart_changed (with_after Area sa.after) sa.before bs d) in
+        subst (λ (q : Sides × ℕ). IsThreaded Anon (with_at q.1 (head_without q.0 (anons q.1)) anons)
+        (without_node p (leads_back Anon q.0.after q.0.before (leads_on Anon q.0.before q.0.after cs1))))
+        (λ i. (same i, key i)) (thread_shrink Anon anons cs1 p f1.0 d1 two f1.1)
 
-  pub whole_gone : IsWhole (with_at n.area (head_without sa (areas n.area)) areas) (with_at n.anon (head_without sv (anons n.anon)) anons) (without_node p cs2)
-  whole_gone = record { areas_lead = areas_gone; anons_lead = anons_gone; once = subst AreOnce (sym links_gone) (once_removed p bs t.once) }
+    pub whole_gone : AreThreaded (with_at n.area (head_without sa (areas n.area)) areas) (with_at n.anon (head_without sv (anons n.anon)) anons)
+        (without_node p cs2)
+    whole_gone = record { areas_lead = areas_gone; anons_lead = anons_gone; once = subst AreOnce (sym links_gone) (once_removed p bs t.once) }

@@ -17,14 +17,14 @@ abbrev pub links_of : List Block → List Link
 links_of [] = []
 links_of (b ∷ bs) = (b.1.area, b.1.anon) ∷ links_of bs
 
-pub record IsWhole (areas anons : ℕ → Option Head) (bs : List Block) : Type 0 where
+pub record AreThreaded (areas anons : ℕ → Option Head) (bs : List Block) : Type 0 where
   pub areas_lead : IsThreaded Area areas bs
   pub anons_lead : IsThreaded Anon anons bs
   pub once : AreOnce (links_of bs)
 
 -- the lists lead through all nodes, and the heads know them
 abbrev pub AreKept : Lists → Type 0
-AreKept l = IsWhole (get nat_eq l.areas) (get nat_eq l.anons) l.nodes.blocks
+AreKept l = AreThreaded (get nat_eq l.areas) (get nat_eq l.anons) l.nodes.blocks
 
 -- the links that the lists are
 abbrev pub links_in : Lists → List Link

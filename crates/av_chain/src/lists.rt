@@ -41,16 +41,8 @@ impl Lists {
         ensures links { OnOk result (links_in self.new ≡ links_in self.old ++ (area, anon) ∷ []) }
         ensures err { OnErr result (self.new.nodes.blocks ≡ self.old.nodes.blocks) }
     {
-        reserve(&mut self.areas)?;
-        reserve(&mut self.anons)?;
-        let in_area = Sides {
-            before: end(&self.areas, area)?,
-            after: None,
-        };
-        let in_anon = Sides {
-            before: end(&self.anons, anon)?,
-            after: None,
-        };
+        let in_area = room_for(&mut self.areas, area)?;
+        let in_anon = room_for(&mut self.anons, anon)?;
         let node = Box::new(
             alloc,
             Node {
@@ -200,27 +192,28 @@ impl Lists {
     }
 }
 
-// Makes room for one more list.
-fn reserve(heads: &mut HashMap<u64, Head>) -> Result<(), AllocError>
+// Makes room for one more list, and tells the neighbours of a node that comes last in one. A list
+// as long as can be counted takes no more.
+fn room_for(heads: &mut HashMap<u64, Head>, key: u64) -> Result<Sides, AllocError>
     ensures same { (k : ℕ) → get nat_eq heads.new k ≡ get nat_eq heads.old k }
     ensures room { OnOk result (0 < spare heads.new) }
+    ensures sides { IfOk result (λ s. (s.before ≡ last_of (get nat_eq heads.new key)) × (s.after ≡
+        None)) }
+    ensures few { OnOk result (IfSome (get nat_eq heads.new key) (λ h. h.count < 2 ^ 64 - 1)) }
 {
-    heads.reserve(1)
-}
-
-// The last node of a list, if it has one. A list as long as can be counted takes no more.
-fn end(heads: &HashMap<u64, Head>, key: u64) -> Result<Option<Place>, AllocError>
-    ensures last { IfOk result (λ last. last ≡ last_of (get nat_eq heads.now key)) }
-    ensures few { OnOk result (IfSome (get nat_eq heads.now key) (λ h. h.count < 2 ^ 64 - 1)) }
-{
-    match heads.get(&key) {
-        None => Ok(None),
-        Some(head) => {
-            if head.count < u64::MAX {
-                Ok(Some(head.last))
-            } else {
-                Err(AllocError)
-            }
-        }
+    heads.reserve(1)?;
+    let Some(head) = heads.get(&key) else {
+        return Ok(Sides {
+            before: None,
+            after: None,
+        });
+    };
+    if head.count < u64::MAX {
+        Ok(Sides {
+            before: Some(head.last),
+            after: None,
+        })
+    } else {
+        Err(AllocError)
     }
 }

@@ -1,5 +1,5 @@
 //! Lists of nodes. A node lies in two at once, and leaves both in constant time.
-ghost use Rattle.std.specs.Prelude.{◌≡◌, ℕ, ◌-◌, ◌<◌, ◌^◌, ◌⊎◌, Some, IfSome, IsSome, nat_eq};
+ghost use Rattle.std.specs.Prelude.{◌≡◌, ℕ, ◌-◌, ◌<◌, ◌^◌, Some, IfSome, IsSome, nat_eq};
 ghost use Rattle.std.specs.HashMap.{get, spare};
 ghost use Rattle.av_chain.specs.Rows.{leads_on, leads_back, Reaches, last_of, head_with, head_without, after_join, after_part, HaveHead};
 
@@ -109,9 +109,9 @@ fn left(sides: Sides, head: Head) -> Option<Head>
     }
 }
 
-// The head of a list that there is, or for which there is room.
+// The head of a list, for which there is room.
 fn set_head(heads: &mut HashMap<u64, Head>, key: u64, head: Head)
-    requires { (0 < spare heads.old) ⊎ IsSome (get nat_eq heads.old key) }
+    requires { 0 < spare heads.old }
     ensures { HaveHead key (Some head) (get nat_eq heads.old) (get nat_eq heads.new) }
 {
     match heads.insert(key, head) {

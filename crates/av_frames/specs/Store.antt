@@ -25,7 +25,7 @@ pub record Shown : Type 0 where
   pub slot : ℕ → Option Slot
 
 -- what the lists of a store say of each frame
-abbrev pub seen : Store → Shown
+abbrev pub shown : Store → Shown
 shown s = record {
   count = length s.bytes;
   free = s.free;

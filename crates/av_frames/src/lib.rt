@@ -266,9 +266,9 @@ fn all_numbers(alloc: Global, count: u32) -> Result<VecDeque<u32>, AllocError>
     ensures { IfOk result (λ q.
         (q.items ≡ range_with_len 0 count) × (deque_len q ≡ count) × (count ≤ deque_capacity q)) }
 {
-    let mut range_with_len = VecDeque::with_capacity(alloc, count as usize)?;
+    let mut numbers = VecDeque::with_capacity(alloc, count as usize)?;
     for i in 0..count {
-        range_with_len.push_back(i)?;
+        numbers.push_back(i)?;
     }
-    Ok(range_with_len)
+    Ok(numbers)
 }

@@ -19,7 +19,7 @@ use Rattle.av_base.specs.Words.{with_at}
 use Rattle.av_interval.specs.Roots.{top_of, len_of}
 use Rattle.av_interval.specs.Spans.{IsForest, IsOfTree, IsNew}
 use Rattle.av_interval.specs.Search.{IsBefore, AllAfter, IsOrdered}
-use Rattle.av_arena.proofs.TreeLemmas.{is_same, with_at_same, with_at_other, kept, held_height, is_cases, in_use_cases, stored_used, none_tree, IsSame}
+use Rattle.av_arena.proofs.TreeLemmas.{is_self, with_at_same, with_at_other, kept, held_height, is_cases, in_use_cases, stored_used, none_tree, IsSame}
 use Rattle.av_interval.specs.Span.{last_of, max_laws}
 
 -- height
@@ -287,7 +287,7 @@ pub record IsRemoved (s : Store) (r : ℕ → Option Root) (s' : Store) (a m : �
 pub removed : (s : Store) (r : ℕ → Option Root) → IsForest s r → (s' : Store) (a m : ℕ) (xs : List Span) (n : ℕ) (k : Option (Link ℕ)) →
     IsWithout key 0 max last_of s s' (top_of (r a)) xs n k → IsRemoved s r s' a m xs n k
 removed s r f s' a m xs n k t =
-    let gone : count n (tree_at s' k) ≡ 0 = (let d = t.count n in let e = is_same key 0 max last_of max_laws n in let o = (f.held a).once n in omega arith) in
+    let gone : count n (tree_at s' k) ≡ 0 = (let d = t.count n in let e = is_self key 0 max last_of max_laws n in let o = (f.held a).once n in omega arith) in
     let g = kept key 0 max last_of max_laws s' (with_at n None s') k t.held
     (λ j h. with_at_other key 0 max last_of max_laws n None s' j (is_not n j (tree_at s' k) gone h)) in
     record {

@@ -128,6 +128,7 @@ impl Spans {
         ensures shallow { 2 ^ height_at self.now anon ≤ (length (triples self.now anon) + 1) *
             (length (triples self.now anon) + 1) }
     {
+        // What keeps the trees shallow is the value's own, which a look at a part of it opens.
         let _ = &self.arena;
         search(self, anon, index, after, steps)
     }

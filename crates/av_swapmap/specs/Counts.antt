@@ -24,7 +24,7 @@ pub record Shown : Type 0 where
   pub count : ℕ → ℕ
 
 -- what bytes and digits say of each slot
-abbrev pub seen : Store → Shown
+abbrev pub shown : Store → Shown
 shown s = record {
   pages = length s.bytes;
   bad = λ p. slice_index s.bytes p == 63;

@@ -1,7 +1,9 @@
-use Rattle.std.proofs.Common.{rules, ◌≡◌, None, Some, sym, ◌∙◌}
+use Rattle.std.proofs.Common.{rules, ◌≡◌, ℕ, None, Some, sym, ◌∙◌}
 use Rattle.av_arena.specs.Arena.{store_of}
 use Rattle.av_arena.specs.Below.{child_number}
-use Rattle.av_arena.proofs.BelowLemmas.{placed_further, placed_hung, placed_step}
+use Rattle.av_arena.proofs.BelowLemmas.{placed_further, placed_hung, placed_step, IsPlaceStep}
+use Rattle.av_arena.proofs.below.+place.Given.{Over}
+use Rattle.av_arena.proofs.below.+place.Goals.{placed_on-After-placed_below}
 use Rattle.av_arena.proofs.below.+place.Goals as goal
 
 pub placed_on-returns-in_default : goal.placed_on-returns-in_default
@@ -21,34 +23,25 @@ placed_on-placed_below-requires g t c κs within =
     at c.requires.side in
     search (rules, f.asked, f.falls)
 
-pub placed_on-returns-then-not-placed_below : goal.placed_on-returns-then-not-placed_below
-placed_on-returns-then-not-placed_below g t c =
+-- what follows of the call below
+stepped : (g : Over) (t : ℕ) (c : placed_on-After-placed_below g t) → let m = g.T.Entry in
+    IsPlaceStep m.key m.unit m.op m.of g.met.T.Entry.laws c.args.side (store_of c.args.arena.now) (store_of c.placed_below.new.arena) c.args.number
+    c.in-Some.child
+    c.args.new c.args.entry.now c.placed_below.result
+stepped g t c =
     let m = g.T.Entry in
-    let s = store_of c.args.arena.now in
-    let at : child_number c.args.side (s c.args.number) ≡ Some c.in-Some.child = sym c.child_of.ensures ∙ c.in-Some.is in
-    (placed_step m.key m.unit m.op m.of g.met.T.Entry.laws c.args.side s (store_of c.placed_below.new.arena) c.args.number c.in-Some.child c.args.new
-    c.args.entry.now _ c.requires.place at c.requires.side c.placed_below.ensures).same (search rules)
+    placed_step m.key m.unit m.op m.of g.met.T.Entry.laws c.args.side _ _ c.args.number c.in-Some.child c.args.new c.args.entry.now c.placed_below.result
+    c.requires.place
+    (sym c.child_of.ensures ∙ c.in-Some.is) c.requires.side c.placed_below.ensures
+
+pub placed_on-returns-then-not-placed_below : goal.placed_on-returns-then-not-placed_below
+placed_on-returns-then-not-placed_below g t c = (stepped g t (goal.at.placed_on-returns-then-not-placed_below g t c).After-placed_below).same (search rules)
 
 pub placed_on-settle_side-requires-clause-child : goal.placed_on-settle_side-requires-clause-child
-placed_on-settle_side-requires-clause-child g t c =
-    let m = g.T.Entry in
-    let s = store_of c.args.arena.now in
-    let at : child_number c.args.side (s c.args.number) ≡ Some c.in-Some.child = sym c.child_of.ensures ∙ c.in-Some.is in
-    (placed_step m.key m.unit m.op m.of g.met.T.Entry.laws c.args.side s (store_of c.placed_below.new.arena) c.args.number c.in-Some.child c.args.new
-    c.args.entry.now _ c.requires.place at c.requires.side c.placed_below.ensures).ready
+placed_on-settle_side-requires-clause-child g t c = (stepped g t (goal.at.placed_on-settle_side-requires-clause-child g t c).After-placed_below).ready
 
 pub placed_on-settle_side-requires-clause-used : goal.placed_on-settle_side-requires-clause-used
-placed_on-settle_side-requires-clause-used g t c =
-    let m = g.T.Entry in
-    let s = store_of c.args.arena.now in
-    let at : child_number c.args.side (s c.args.number) ≡ Some c.in-Some.child = sym c.child_of.ensures ∙ c.in-Some.is in
-    (placed_step m.key m.unit m.op m.of g.met.T.Entry.laws c.args.side s (store_of c.placed_below.new.arena) c.args.number c.in-Some.child c.args.new
-    c.args.entry.now _ c.requires.place at c.requires.side c.placed_below.ensures).used
+placed_on-settle_side-requires-clause-used g t c = (stepped g t (goal.at.placed_on-settle_side-requires-clause-used g t c).After-placed_below).used
 
 pub placed_on-returns : goal.placed_on-returns
-placed_on-returns g t c =
-    let m = g.T.Entry in
-    let s = store_of c.args.arena.now in
-    let at : child_number c.args.side (s c.args.number) ≡ Some c.in-Some.child = sym c.child_of.ensures ∙ c.in-Some.is in
-    (placed_step m.key m.unit m.op m.of g.met.T.Entry.laws c.args.side s (store_of c.placed_below.new.arena) c.args.number c.in-Some.child c.args.new
-    c.args.entry.now _ c.requires.place at c.requires.side c.placed_below.ensures).settled (store_of c.settle_side.new.arena) _ c.settle_side.ensures
+placed_on-returns g t c = (stepped g t (goal.at.placed_on-returns g t c).After-placed_below).settled _ _ c.settle_side.ensures

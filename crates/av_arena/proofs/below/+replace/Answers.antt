@@ -1,8 +1,10 @@
-use Rattle.std.proofs.Common.{rules, ◌≡◌, None, Some, sym, ◌∙◌, subst}
+use Rattle.std.proofs.Common.{rules, ◌≡◌, ℕ, None, Some, sym, ◌∙◌, subst}
 use Rattle.av_arena.specs.Arena.{store_of}
 use Rattle.av_arena.specs.Below.{IsBeside, IsBetween, child_number}
 use Rattle.av_arena.specs.declared.link.Side.TheVariants.{Left, Right}
-use Rattle.av_arena.proofs.BelowLemmas.{replaced_at, replaced_further, replaced_never, replaced_step}
+use Rattle.av_arena.proofs.BelowLemmas.{replaced_at, replaced_further, replaced_never, replaced_step, IsReplaceStep}
+use Rattle.av_arena.proofs.below.+replace.Given.{Over}
+use Rattle.av_arena.proofs.below.+replace.Goals.{replaced_on-After-replaced_below}
 use Rattle.av_arena.proofs.below.+replace.Goals as goal
 
 pub replaced_below-replaced_on-requires : goal.replaced_below-replaced_on-requires
@@ -44,34 +46,26 @@ replaced_on-replaced_below-requires g t c κs within =
     c.requires.side in
     search (rules, f.asked, f.falls)
 
+-- what follows of the call below
+stepped : (g : Over) (t : ℕ) (c : replaced_on-After-replaced_below g t) → let m = g.T.Entry in
+    IsReplaceStep m.key m.unit m.op m.of g.met.T.Entry.laws c.args.side (store_of c.args.arena.now) (store_of c.replaced_below.new.arena) c.args.number
+    c.in-Some.child
+    c.args.entry.now c.replaced_below.result
+stepped g t c =
+    let m = g.T.Entry in
+    replaced_step m.key m.unit m.op m.of g.met.T.Entry.laws c.args.side _ _ c.args.number c.in-Some.child c.args.entry.now c.replaced_below.result
+    c.requires.key
+    (sym c.child_of.ensures ∙ c.in-Some.is) c.requires.side c.replaced_below.ensures
+
 pub replaced_on-returns-then-not-replaced_below : goal.replaced_on-returns-then-not-replaced_below
 replaced_on-returns-then-not-replaced_below g t c =
-    let m = g.T.Entry in
-    let s = store_of c.args.arena.now in
-    let at : child_number c.args.side (s c.args.number) ≡ Some c.in-Some.child = sym c.child_of.ensures ∙ c.in-Some.is in
-    (replaced_step m.key m.unit m.op m.of g.met.T.Entry.laws c.args.side s (store_of c.replaced_below.new.arena) c.args.number c.in-Some.child
-    c.args.entry.now _ c.requires.key at c.requires.side c.replaced_below.ensures).same (search rules)
+    (stepped g t (goal.at.replaced_on-returns-then-not-replaced_below g t c).After-replaced_below).same (search rules)
 
 pub replaced_on-settle_side-requires-clause-child : goal.replaced_on-settle_side-requires-clause-child
-replaced_on-settle_side-requires-clause-child g t c =
-    let m = g.T.Entry in
-    let s = store_of c.args.arena.now in
-    let at : child_number c.args.side (s c.args.number) ≡ Some c.in-Some.child = sym c.child_of.ensures ∙ c.in-Some.is in
-    (replaced_step m.key m.unit m.op m.of g.met.T.Entry.laws c.args.side s (store_of c.replaced_below.new.arena) c.args.number c.in-Some.child
-    c.args.entry.now _ c.requires.key at c.requires.side c.replaced_below.ensures).ready
+replaced_on-settle_side-requires-clause-child g t c = (stepped g t (goal.at.replaced_on-settle_side-requires-clause-child g t c).After-replaced_below).ready
 
 pub replaced_on-settle_side-requires-clause-used : goal.replaced_on-settle_side-requires-clause-used
-replaced_on-settle_side-requires-clause-used g t c =
-    let m = g.T.Entry in
-    let s = store_of c.args.arena.now in
-    let at : child_number c.args.side (s c.args.number) ≡ Some c.in-Some.child = sym c.child_of.ensures ∙ c.in-Some.is in
-    (replaced_step m.key m.unit m.op m.of g.met.T.Entry.laws c.args.side s (store_of c.replaced_below.new.arena) c.args.number c.in-Some.child
-    c.args.entry.now _ c.requires.key at c.requires.side c.replaced_below.ensures).used
+replaced_on-settle_side-requires-clause-used g t c = (stepped g t (goal.at.replaced_on-settle_side-requires-clause-used g t c).After-replaced_below).used
 
 pub replaced_on-returns : goal.replaced_on-returns
-replaced_on-returns g t c =
-    let m = g.T.Entry in
-    let s = store_of c.args.arena.now in
-    let at : child_number c.args.side (s c.args.number) ≡ Some c.in-Some.child = sym c.child_of.ensures ∙ c.in-Some.is in
-    (replaced_step m.key m.unit m.op m.of g.met.T.Entry.laws c.args.side s (store_of c.replaced_below.new.arena) c.args.number c.in-Some.child
-    c.args.entry.now _ c.requires.key at c.requires.side c.replaced_below.ensures).settled (store_of c.settle_side.new.arena) _ c.settle_side.ensures
+replaced_on-returns g t c = (stepped g t (goal.at.replaced_on-returns g t c).After-replaced_below).settled _ _ c.settle_side.ensures

@@ -1,8 +1,10 @@
-use Rattle.std.proofs.Common.{rules, ◌≡◌, None, Some, sym, ◌∙◌, subst}
+use Rattle.std.proofs.Common.{rules, ◌≡◌, ℕ, None, Some, sym, ◌∙◌, subst}
 use Rattle.av_arena.specs.Arena.{store_of}
 use Rattle.av_arena.specs.Below.{IsBeside, IsBetween, child_number}
 use Rattle.av_arena.specs.declared.link.Side.TheVariants.{Left, Right}
-use Rattle.av_arena.proofs.BelowLemmas.{replaced_at, split_at, split_further, split_never, split_ready, split_step}
+use Rattle.av_arena.proofs.BelowLemmas.{replaced_at, split_at, split_further, split_never, split_ready, split_step, IsSplitStep}
+use Rattle.av_arena.proofs.below.+split.Given.{Over}
+use Rattle.av_arena.proofs.below.+split.Goals.{split_on-After-split_below}
 use Rattle.av_arena.proofs.below.+split.Goals as goal
 
 pub split_below-split_on-requires : goal.split_below-split_on-requires
@@ -41,7 +43,7 @@ split_below-returns-in-None g t c =
     let r = replaced_at m.key m.unit m.op m.of g.met.T.Entry.laws s (store_of c.set_entry.new.self) c.args.number c.args.lower.now between
     c.set_entry.ensures in
     split_at m.key m.unit m.op m.of g.met.T.Entry.laws s (store_of c.set_entry.new.self) (store_of c.placed_below.new.arena) c.args.number c.args.new
-    c.args.lower.now c.args.upper.now _ r
+    c.args.lower.now c.args.upper.now _ between r
     c.placed_below.ensures
 
 pub split_on-unreachable-requires : goal.split_on-unreachable-requires
@@ -61,35 +63,25 @@ split_on-split_below-requires g t c κs within =
     c.requires.split at c.requires.side in
     search (rules, f.asked, f.falls)
 
-pub split_on-returns-then-not-split_below : goal.split_on-returns-then-not-split_below
-split_on-returns-then-not-split_below g t c =
+-- what follows of the call below
+stepped : (g : Over) (t : ℕ) (c : split_on-After-split_below g t) → let m = g.T.Entry in
+    IsSplitStep m.key m.unit m.op m.of g.met.T.Entry.laws c.args.side (store_of c.args.arena.now) (store_of c.split_below.new.arena) c.args.number
+    c.in-Some.child
+    c.args.new c.args.lower.now c.args.upper.now c.split_below.result
+stepped g t c =
     let m = g.T.Entry in
-    let s = store_of c.args.arena.now in
-    let at : child_number c.args.side (s c.args.number) ≡ Some c.in-Some.child = sym c.child_of.ensures ∙ c.in-Some.is in
-    (split_step m.key m.unit m.op m.of g.met.T.Entry.laws c.args.side s (store_of c.split_below.new.arena) c.args.number c.in-Some.child c.args.new
-    c.args.lower.now c.args.upper.now _ c.requires.split at c.requires.side c.split_below.ensures).same (search rules)
+    split_step m.key m.unit m.op m.of g.met.T.Entry.laws c.args.side _ _ c.args.number c.in-Some.child c.args.new c.args.lower.now c.args.upper.now
+    c.split_below.result c.requires.split
+    (sym c.child_of.ensures ∙ c.in-Some.is) c.requires.side c.split_below.ensures
+
+pub split_on-returns-then-not-split_below : goal.split_on-returns-then-not-split_below
+split_on-returns-then-not-split_below g t c = (stepped g t (goal.at.split_on-returns-then-not-split_below g t c).After-split_below).same (search rules)
 
 pub split_on-settle_side-requires-clause-child : goal.split_on-settle_side-requires-clause-child
-split_on-settle_side-requires-clause-child g t c =
-    let m = g.T.Entry in
-    let s = store_of c.args.arena.now in
-    let at : child_number c.args.side (s c.args.number) ≡ Some c.in-Some.child = sym c.child_of.ensures ∙ c.in-Some.is in
-    (split_step m.key m.unit m.op m.of g.met.T.Entry.laws c.args.side s (store_of c.split_below.new.arena) c.args.number c.in-Some.child c.args.new
-    c.args.lower.now c.args.upper.now _ c.requires.split at c.requires.side c.split_below.ensures).ready
+split_on-settle_side-requires-clause-child g t c = (stepped g t (goal.at.split_on-settle_side-requires-clause-child g t c).After-split_below).ready
 
 pub split_on-settle_side-requires-clause-used : goal.split_on-settle_side-requires-clause-used
-split_on-settle_side-requires-clause-used g t c =
-    let m = g.T.Entry in
-    let s = store_of c.args.arena.now in
-    let at : child_number c.args.side (s c.args.number) ≡ Some c.in-Some.child = sym c.child_of.ensures ∙ c.in-Some.is in
-    (split_step m.key m.unit m.op m.of g.met.T.Entry.laws c.args.side s (store_of c.split_below.new.arena) c.args.number c.in-Some.child c.args.new
-    c.args.lower.now c.args.upper.now _ c.requires.split at c.requires.side c.split_below.ensures).used
+split_on-settle_side-requires-clause-used g t c = (stepped g t (goal.at.split_on-settle_side-requires-clause-used g t c).After-split_below).used
 
 pub split_on-returns : goal.split_on-returns
-split_on-returns g t c =
-    let m = g.T.Entry in
-    let s = store_of c.args.arena.now in
-    let at : child_number c.args.side (s c.args.number) ≡ Some c.in-Some.child = sym c.child_of.ensures ∙ c.in-Some.is in
-    (split_step m.key m.unit m.op m.of g.met.T.Entry.laws c.args.side s (store_of c.split_below.new.arena) c.args.number c.in-Some.child c.args.new
-    c.args.lower.now c.args.upper.now _ c.requires.split at c.requires.side c.split_below.ensures).settled (store_of c.settle_side.new.arena) _
-    c.settle_side.ensures
+split_on-returns g t c = (stepped g t (goal.at.split_on-returns g t c).After-split_below).settled _ _ c.settle_side.ensures

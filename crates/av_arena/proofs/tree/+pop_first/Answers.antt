@@ -1,5 +1,6 @@
-use Rattle.std.proofs.Common.{rules}
+use Rattle.std.proofs.Common.{rules, ap, arith}
 use Rattle.av_arena.specs.Arena.{store_of}
+use Rattle.av_arena.specs.Tree.{height_of}
 use Rattle.av_arena.proofs.TreeLemmas.{popped_first, popped_ready, popped_later, popped_root}
 use Rattle.av_arena.proofs.tree.+pop_first.Goals as goal
 
@@ -25,3 +26,16 @@ with_left-whole-requires-clause-root g t c =
     let m = g.T.Entry in
     popped_root m.key m.unit m.op m.of g.met.T.Entry.laws (store_of c.args.arena.now) (store_of c.pop_first-number.new.arena) c.args.tree c.in-Some.left
     c.open-node.result _ _ c.pop_first-number.result.2 c.open-node.ensures c.in-Some.is c.pop_first-number.ensures.popped
+
+pub with_left-whole-requires-clause-level : goal.with_left-whole-requires-clause-level
+with_left-whole-requires-clause-level g t c =
+    let l = c.open-node.ensures.level.0 in
+    let r = c.open-node.ensures.level.1 in
+    let e = ap height_of c.in-Some.is in
+    (omega arith, omega arith)
+
+pub with_left-whole-requires-clause-low : goal.with_left-whole-requires-clause-low
+with_left-whole-requires-clause-low g t c = let e = ap height_of c.in-Some.is in omega arith
+
+pub returns-in_default-clause-not_higher : goal.returns-in_default-clause-not_higher
+returns-in_default-clause-not_higher g t c = omega arith

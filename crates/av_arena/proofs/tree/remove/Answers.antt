@@ -1,19 +1,16 @@
-use Rattle.std.proofs.Common.{rules, refl, Some, sym, subst, ap, arith}
+use Rattle.std.proofs.Common.{rules, refl, sym, subst, ap, arith}
 use Rattle.av_arena.specs.Arena.{store_of}
 use Rattle.av_arena.specs.Order.{without_key}
 use Rattle.av_arena.specs.Tree.{HasKey, IsWithout, entries_at, height_of, is}
-use Rattle.av_arena.proofs.BelowLemmas.{done_same, done_settled, unsettled}
+use Rattle.av_arena.proofs.BelowLemmas.{IsCalled, asked_below, called}
+use Rattle.av_arena.proofs.tree.remove.Given.{Over}
+use Rattle.av_arena.proofs.tree.remove.Goals.{After-removed_below-number}
 use Rattle.av_arena.proofs.tree.remove.Goals as goal
 
 pub take-rest-requires-clause-there : goal.take-rest-requires-clause-there
 take-rest-requires-clause-there g c =
     let m = g.T.Entry in
-    record {
-      link = c.in-Some.tree;
-      number = refl;
-      asked = subst (λ k. HasKey m.key m.unit m.op m.of (store_of c.args.arena.now) k c.args.like) c.in-Some.is c.requires.there;
-      low = let h = ap height_of c.in-Some.is in let l = c.requires.low in omega arith;
-    }
+    asked_below (λ k. HasKey m.key m.unit m.op m.of (store_of c.args.arena.now) k c.args.like) _ _ c.in-Some.is c.requires.there c.requires.low
 
 pub returns-then-is_at-clause-removed : goal.returns-then-is_at-clause-removed
 returns-then-is_at-clause-removed g c =
@@ -46,71 +43,40 @@ returns-then-is_at-clause-at_most_one_lower g c =
 pub removed_below-number-requires-clause-there : goal.removed_below-number-requires-clause-there
 removed_below-number-requires-clause-there g c =
     let m = g.T.Entry in
-    record {
-      link = c.in-Some.tree;
-      number = refl;
-      asked = subst (λ k. HasKey m.key m.unit m.op m.of (store_of c.args.arena.now) k c.args.like) c.in-Some.is c.requires.there;
-      low = let h = ap height_of c.in-Some.is in let l = c.requires.low in omega arith;
-    }
+    asked_below (λ k. HasKey m.key m.unit m.op m.of (store_of c.args.arena.now) k c.args.like) _ _ c.in-Some.is c.requires.there c.requires.low
+
+-- what follows of the call below the root
+after_call : (g : Over) (c : After-removed_below-number g) → let m = g.T.Entry in let s = store_of c.args.arena.now in
+    IsCalled m.key m.unit m.op m.of g.met.T.Entry.laws (λ k. HasKey m.key m.unit m.op m.of s k c.args.like) (without_key m.key (m.key c.args.like)) (λ f. f)
+    (is c.removed_below-number.result.0) 1 0 s (store_of c.removed_below-number.new.arena)
+    c.args.tree c.in-Some.tree c.removed_below-number.result.1
+after_call g c =
+    let m = g.T.Entry in
+    let s = store_of c.args.arena.now in
+    called m.key m.unit m.op m.of g.met.T.Entry.laws (λ k. HasKey m.key m.unit m.op m.of s k c.args.like) (without_key m.key (m.key c.args.like)) (λ f. f)
+    (is c.removed_below-number.result.0) 1 0 s _ _ _ _
+    c.in-Some.is c.requires.there c.requires.there.held c.requires.low c.removed_below-number.ensures.removed
 
 pub returns-then-not-changed-clause-removed : goal.returns-then-not-changed-clause-removed
 returns-then-not-changed-clause-removed g c =
-    let m = g.T.Entry in
-    let s = store_of c.args.arena.now in
-    let t = store_of c.removed_below-number.new.arena in
-    let out = c.removed_below-number.result.0 in
-    let k = c.in-Some.tree in
-    let p = subst (λ o. HasKey m.key m.unit m.op m.of s o c.args.like) c.in-Some.is c.requires.there in
-    let d = done_same m.key m.unit m.op m.of g.met.T.Entry.laws s t k _ _ _ (is out) 1 0 (c.removed_below-number.ensures.removed k refl p) (search rules) in
-    subst (λ o. IsWithout m.key m.unit m.op m.of s t o (without_key m.key (m.key c.args.like) (entries_at s o)) out (Some k)) (sym c.in-Some.is) d.tree
+    (after_call g (goal.at.returns-then-not-changed-clause-removed g c).After-removed_below-number).same (search rules)
 
 pub settle-whole-requires : goal.settle-whole-requires
-settle-whole-requires g c =
-    let m = g.T.Entry in
-    let s = store_of c.args.arena.now in
-    let k = c.in-Some.tree in
-    let p = subst (λ o. HasKey m.key m.unit m.op m.of s o c.args.like) c.in-Some.is c.requires.there in
-    unsettled m.key m.unit m.op m.of g.met.T.Entry.laws s (store_of c.removed_below-number.new.arena) k _ _ _ (is c.removed_below-number.result.0) 1 0
-    (c.removed_below-number.ensures.removed k refl p) (let h = ap height_of c.in-Some.is in let l = c.requires.low in omega arith)
+settle-whole-requires g c = (after_call g (goal.at.settle-whole-requires g c).After-removed_below-number).ready
 
 pub returns-clause-removed : goal.returns-clause-removed
-returns-clause-removed g c =
-    let m = g.T.Entry in
-    let s = store_of c.args.arena.now in
-    let t = store_of c.removed_below-number.new.arena in
-    let u = store_of c.settle-whole.new.arena in
-    let out = c.removed_below-number.result.0 in
-    let k = c.in-Some.tree in
-    let p = subst (λ o. HasKey m.key m.unit m.op m.of s o c.args.like) c.in-Some.is c.requires.there in
-    let d = done_settled m.key m.unit m.op m.of g.met.T.Entry.laws s t u k c.settle-whole.result _ _ _ (is out) 1 0
-    (c.removed_below-number.ensures.removed k refl p) c.settle-whole.ensures in
-    subst (λ o. IsWithout m.key m.unit m.op m.of s u o (without_key m.key (m.key c.args.like) (entries_at s o)) out (Some c.settle-whole.result))
-    (sym c.in-Some.is) d.tree
+returns-clause-removed g c = ((after_call g (goal.at.returns-clause-removed g c).After-removed_below-number).settled _ _ c.settle-whole.ensures).tree
 
 pub returns-clause-not_higher : goal.returns-clause-not_higher
 returns-clause-not_higher g c =
-    let m = g.T.Entry in
-    let s = store_of c.args.arena.now in
-    let t = store_of c.removed_below-number.new.arena in
-    let u = store_of c.settle-whole.new.arena in
-    let k = c.in-Some.tree in
-    let p = subst (λ o. HasKey m.key m.unit m.op m.of s o c.args.like) c.in-Some.is c.requires.there in
-    let d = done_settled m.key m.unit m.op m.of g.met.T.Entry.laws s t u k c.settle-whole.result _ _ _ (is c.removed_below-number.result.0) 1 0
-    (c.removed_below-number.ensures.removed k refl p) c.settle-whole.ensures in
+    let d = (after_call g (goal.at.returns-clause-not_higher g c).After-removed_below-number).settled _ _ c.settle-whole.ensures in
     let h = ap height_of c.in-Some.is in
-    let a = d.not_higher in
+    let n = d.not_higher in
     omega arith
 
 pub returns-clause-at_most_one_lower : goal.returns-clause-at_most_one_lower
 returns-clause-at_most_one_lower g c =
-    let m = g.T.Entry in
-    let s = store_of c.args.arena.now in
-    let t = store_of c.removed_below-number.new.arena in
-    let u = store_of c.settle-whole.new.arena in
-    let k = c.in-Some.tree in
-    let p = subst (λ o. HasKey m.key m.unit m.op m.of s o c.args.like) c.in-Some.is c.requires.there in
-    let d = done_settled m.key m.unit m.op m.of g.met.T.Entry.laws s t u k c.settle-whole.result _ _ _ (is c.removed_below-number.result.0) 1 0
-    (c.removed_below-number.ensures.removed k refl p) c.settle-whole.ensures in
+    let d = (after_call g (goal.at.returns-clause-at_most_one_lower g c).After-removed_below-number).settled _ _ c.settle-whole.ensures in
     let h = ap height_of c.in-Some.is in
-    let a = d.not_lower in
+    let n = d.not_lower in
     omega arith

@@ -1,46 +1,36 @@
-use Rattle.std.proofs.Common.{rules, refl, sym, subst, ap, arith}
+use Rattle.std.proofs.Common.{rules, ◌+◌}
 use Rattle.av_arena.specs.Arena.{store_of}
-use Rattle.av_arena.specs.Below.{IsSplit, IsSplitFor}
-use Rattle.av_arena.specs.Tree.{height_of, none}
-use Rattle.av_arena.proofs.BelowLemmas.{done_same, done_settled, unsettled}
+use Rattle.av_arena.specs.Below.{IsSplitFor}
+use Rattle.av_arena.specs.Order.{with_two}
+use Rattle.av_arena.specs.Tree.{is, none}
+use Rattle.av_arena.proofs.BelowLemmas.{IsCalled, asked_below, called}
+use Rattle.av_arena.proofs.tree.split.Given.{Over}
+use Rattle.av_arena.proofs.tree.split.Goals.{After-split_below}
 use Rattle.av_arena.proofs.tree.split.Goals as goal
 
 pub split_below-requires : goal.split_below-requires
 split_below-requires g c =
     let m = g.T.Entry in
-    record {
-      link = c.in-Some.tree;
-      number = refl;
-      asked = subst (λ k. IsSplitFor m.key m.unit m.op m.of (store_of c.args.arena.now) k c.args.new c.args.lower c.args.upper) c.in-Some.is c.requires.split;
-      low = let h = ap height_of c.in-Some.is in let l = c.requires.low in omega arith;
-    }
+    asked_below (λ k. IsSplitFor m.key m.unit m.op m.of (store_of c.args.arena.now) k c.args.new c.args.lower c.args.upper) _ _ c.in-Some.is c.requires.split
+    c.requires.low
+
+-- what follows of the call below the root
+after_call : (g : Over) (c : After-split_below g) → let m = g.T.Entry in let s = store_of c.args.arena.now in
+    IsCalled m.key m.unit m.op m.of g.met.T.Entry.laws (λ k. IsSplitFor m.key m.unit m.op m.of s k c.args.new c.args.lower c.args.upper)
+    (with_two m.key c.args.lower c.args.upper) (λ f j. is c.args.new j + f j) none 0 1 s (store_of c.split_below.new.arena)
+    c.args.tree c.in-Some.tree c.split_below.result
+after_call g c =
+    let m = g.T.Entry in
+    let s = store_of c.args.arena.now in
+    called m.key m.unit m.op m.of g.met.T.Entry.laws (λ k. IsSplitFor m.key m.unit m.op m.of s k c.args.new c.args.lower c.args.upper)
+    (with_two m.key c.args.lower c.args.upper) (λ f j. is c.args.new j + f j) none 0 1 s _ _ _ _
+    c.in-Some.is c.requires.split c.requires.split.has.held c.requires.low c.split_below.ensures
 
 pub returns-then-not-split_below : goal.returns-then-not-split_below
-returns-then-not-split_below g c =
-    let m = g.T.Entry in
-    let s = store_of c.args.arena.now in
-    let t = store_of c.split_below.new.arena in
-    let k = c.in-Some.tree in
-    let p = subst (λ k. IsSplitFor m.key m.unit m.op m.of s k c.args.new c.args.lower c.args.upper) c.in-Some.is c.requires.split in
-    let d = done_same m.key m.unit m.op m.of g.met.T.Entry.laws s t k _ _ _ none 0 1 (c.split_below.ensures k refl p) (search rules) in
-    subst (λ o. IsSplit m.key m.unit m.op m.of s t o c.args.new c.args.lower c.args.upper k) (sym c.in-Some.is) d.tree
+returns-then-not-split_below g c = (after_call g (goal.at.returns-then-not-split_below g c).After-split_below).same (search rules)
 
 pub settle-requires : goal.settle-requires
-settle-requires g c =
-    let m = g.T.Entry in
-    let s = store_of c.args.arena.now in
-    let k = c.in-Some.tree in
-    let p = subst (λ k. IsSplitFor m.key m.unit m.op m.of s k c.args.new c.args.lower c.args.upper) c.in-Some.is c.requires.split in
-    unsettled m.key m.unit m.op m.of g.met.T.Entry.laws s (store_of c.split_below.new.arena) k _ _ _ none 0 1 (c.split_below.ensures k refl p)
-    (let h = ap height_of c.in-Some.is in let l = c.requires.low in omega arith)
+settle-requires g c = (after_call g (goal.at.settle-requires g c).After-split_below).ready
 
 pub returns : goal.returns
-returns g c =
-    let m = g.T.Entry in
-    let s = store_of c.args.arena.now in
-    let t = store_of c.split_below.new.arena in
-    let u = store_of c.settle.new.arena in
-    let k = c.in-Some.tree in
-    let p = subst (λ k. IsSplitFor m.key m.unit m.op m.of s k c.args.new c.args.lower c.args.upper) c.in-Some.is c.requires.split in
-    let d = done_settled m.key m.unit m.op m.of g.met.T.Entry.laws s t u k c.settle.result _ _ _ none 0 1 (c.split_below.ensures k refl p) c.settle.ensures in
-    subst (λ o. IsSplit m.key m.unit m.op m.of s u o c.args.new c.args.lower c.args.upper c.settle.result) (sym c.in-Some.is) d.tree
+returns g c = ((after_call g (goal.at.returns g c).After-split_below).settled _ _ c.settle.ensures).tree

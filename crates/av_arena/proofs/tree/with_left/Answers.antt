@@ -5,13 +5,13 @@ use Rattle.av_arena.specs.declared.link.Stored.{Stored}
 use Rattle.av_arena.proofs.TreeLemmas.{joined_same, left_set, node_is}
 use Rattle.av_arena.proofs.tree.with_left.Goals as goal
 
-pub returns-then-is_same-clause-joined : goal.returns-then-is_same-clause-joined
-returns-then-is_same-clause-joined g c =
+pub returns-then-is_same_link-clause-joined : goal.returns-then-is_same_link-clause-joined
+returns-then-is_same_link-clause-joined g c =
     let m = g.T.Entry in
     let s = store_of c.args.arena.now in
     let e = node_is m.key m.unit m.op m.of g.met.T.Entry.laws s c.args.tree c.args.own c.args.entry c.args.right c.get-node.result
     c.requires.root c.get-node.ensures in
-    let same : c.get-node.result.left ≡ c.args.left = c.is_same.ensures.same (search rules) in
+    let same : c.get-node.result.left ≡ c.args.left = c.is_same_link.ensures.same (search rules) in
     let is : c.args.own ≡ c.args.left = sym (ap (λ (w : Stored g.row.T.Denot g.row.T-Sum.Denot). w.left) e) ∙ same in
     let root : IsRoot m.key m.unit m.op m.of s c.args.tree c.args.left c.args.entry c.args.right =
     subst (λ k. IsRoot m.key m.unit m.op m.of s c.args.tree k c.args.entry c.args.right) is c.requires.root in

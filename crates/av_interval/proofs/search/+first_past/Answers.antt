@@ -1,4 +1,4 @@
-use Rattle.std.proofs.Common.{rules, ◌≡◌, true, false, Some, None, sym, ap, ◌∙◌, subst}
+use Rattle.std.proofs.Common.{rules, ◌≡◌, true, false, Some, None, sym, ap, ◌∙◌, subst, arith}
 use Rattle.std.specs.Option.{option_map}
 use Rattle.std.specs.Prelude.{is_some}
 use Rattle.av_arena.specs.Tree.{entries, height}
@@ -107,3 +107,83 @@ returns-in-None-clause-first g t c =
     let whole = ap (λ n. span_reaching a i (entries (tree_at (N.below s) n))) c.in-Some.is in
     let d : reaching_child i v.right ≡ None = search rules in
     sym (whole ∙ later ∙ ap (λ n. span_reaching None i (entries (tree_at (N.below s) n))) d)
+
+pub returns-then-not-comes_after-clause-cost : goal.returns-then-not-comes_after-clause-cost
+returns-then-not-comes_after-clause-cost g t c =
+    let N = g.N.Nodes in
+    let s = c.args.nodes.now in
+    let i = c.args.index in
+    let v = c.visit-node.result in
+    let w = ap (λ n. height (tree_at (N.below s) n)) c.in-Some.is in
+    let r = rw (← c.child_that_reaches.ensures) at (right_side (N.is_node s) (N.below s) _ v c.visit-node.ensures.seen i).height in
+    omega arith
+
+pub returns-then-not-comes_after-clause-cost_of_none : goal.returns-then-not-comes_after-clause-cost_of_none
+returns-then-not-comes_after-clause-cost_of_none g t c =
+    let N = g.N.Nodes in
+    let s = c.args.nodes.now in
+    let i = c.args.index in
+    let v = c.visit-node.result in
+    let w = ap (λ n. height (tree_at (N.below s) n)) c.in-Some.is in
+    let r = rw (← c.child_that_reaches.ensures) at (right_side (N.is_node s) (N.below s) _ v c.visit-node.ensures.seen i).height in
+    λ d. let f = c.first_past.ensures.cost_of_none d in omega arith
+
+pub returns-then-is_some-clause-cost : goal.returns-then-is_some-clause-cost
+returns-then-is_some-clause-cost g t c =
+    let N = g.N.Nodes in
+    let s = c.args.nodes.now in
+    let i = c.args.index in
+    let v = c.visit-node.result in
+    let w = ap (λ n. height (tree_at (N.below s) n)) c.in-Some.is in
+    let l = rw (← c.child_that_reaches-2.ensures) at (left_side (N.is_node s) (N.below s) _ v c.visit-node.ensures.seen i).height in
+    omega arith
+
+pub returns-then-index-node-clause-cost : goal.returns-then-index-node-clause-cost
+returns-then-index-node-clause-cost g t c =
+    let N = g.N.Nodes in
+    let s = c.args.nodes.now in
+    let i = c.args.index in
+    let v = c.visit-node.result in
+    let w = ap (λ n. height (tree_at (N.below s) n)) c.in-Some.is in
+    let l = rw (← c.child_that_reaches-2.ensures) at (left_side (N.is_node s) (N.below s) _ v c.visit-node.ensures.seen i).height in
+    let none : c.first_past-found.result ≡ None = search rules in
+    let f = c.first_past-found.ensures.cost_of_none none in
+    omega arith
+
+pub returns-in-Some-child_that_reaches-clause-cost : goal.returns-in-Some-child_that_reaches-clause-cost
+returns-in-Some-child_that_reaches-clause-cost g t c =
+    let N = g.N.Nodes in
+    let s = c.args.nodes.now in
+    let i = c.args.index in
+    let v = c.visit-node.result in
+    let w = ap (λ n. height (tree_at (N.below s) n)) c.in-Some.is in
+    let l = rw (← c.child_that_reaches-2.ensures) at (left_side (N.is_node s) (N.below s) _ v c.visit-node.ensures.seen i).height in
+    let none : c.first_past-found.result ≡ None = search rules in
+    let f = c.first_past-found.ensures.cost_of_none none in
+    let d : reaching_child i v.right ≡ Some c.in-Some-child_that_reaches.right = search rules in
+    let r = rw d at (right_side (N.is_node s) (N.below s) _ v c.visit-node.ensures.seen i).height in
+    omega arith
+
+pub returns-in-None-clause-cost : goal.returns-in-None-clause-cost
+returns-in-None-clause-cost g t c =
+    let N = g.N.Nodes in
+    let s = c.args.nodes.now in
+    let i = c.args.index in
+    let v = c.visit-node.result in
+    let w = ap (λ n. height (tree_at (N.below s) n)) c.in-Some.is in
+    let l = rw (← c.child_that_reaches-2.ensures) at (left_side (N.is_node s) (N.below s) _ v c.visit-node.ensures.seen i).height in
+    let none : c.first_past-found.result ≡ None = search rules in
+    let f = c.first_past-found.ensures.cost_of_none none in
+    omega arith
+
+pub returns-in-None-clause-cost_of_none : goal.returns-in-None-clause-cost_of_none
+returns-in-None-clause-cost_of_none g t c =
+    let N = g.N.Nodes in
+    let s = c.args.nodes.now in
+    let i = c.args.index in
+    let v = c.visit-node.result in
+    let w = ap (λ n. height (tree_at (N.below s) n)) c.in-Some.is in
+    let l = rw (← c.child_that_reaches-2.ensures) at (left_side (N.is_node s) (N.below s) _ v c.visit-node.ensures.seen i).height in
+    let none : c.first_past-found.result ≡ None = search rules in
+    let f = c.first_past-found.ensures.cost_of_none none in
+    λ _. omega arith
