@@ -281,7 +281,8 @@ module _ (areas anons : ℕ → Option Head) (bs : List Block) (p : Ptr) (n : No
         ∙ has_changed (with_before Area sa.before) p sa.after cs0 ∙ has_changed (with_after Area sa.after) p sa.before bs ∙ h
 
     -- the anon_vma's list may be changed before or after the node is taken out
-    anon_past : (xs : List Block) → without_node p (leads_back Anon sv.after sv.before (leads_on Anon sv.before sv.after xs)) ≡ leads_back Anon sv.after sv.before
+    anon_past : (xs : List Block) → without_node p (leads_back Anon sv.after sv.before (leads_on Anon sv.before sv.after xs)) ≡ leads_back Anon sv.after
+        sv.before
         (leads_on Anon sv.before sv.after (without_node p xs))
     anon_past xs = removed_changed (with_before Anon sv.before) p sv.after (leads_on Anon sv.before sv.after xs) ∙ ap (leads_back Anon sv.after sv.before)
         (removed_changed (with_after Anon sv.after) p sv.before xs)

@@ -26,4 +26,5 @@ returns-clause-all g t c = subst (λ xs. OnOk c.push_each-2.result (c.push_each-
     (pushed _ _ _ _ _ _ _ c.in_ok-push_each.ensures.all c.in_ok-push.ensures.items c.in-Some.ensures.parts.entries) c.push_each-2.ensures.all
 
 pub returns-clause-longer : goal.returns-clause-longer
-returns-clause-longer g t c = longer _ _ _ c.push_each.ensures.longer (longer _ _ _ (record { rest = _; is = c.in_ok-push.ensures.items }) c.push_each-2.ensures.longer)
+returns-clause-longer g t c =
+    longer _ _ _ c.push_each.ensures.longer (longer _ _ _ (record { rest = _; is = c.in_ok-push.ensures.items }) c.push_each-2.ensures.longer)

@@ -36,7 +36,8 @@ module _ (c : In-Some) where
 pub remove-number-requires-clause-there : goal.remove-number-requires-clause-there
 remove-number-requires-clause-there c =
     let i = (goal.at.remove-number-requires-clause-there c).In-Some in
-    subst (λ (g : Option (Link ℕ)). HasKey key 0 max last_of (s i) g (x i)) (ap top_of (at i)) (has_key (s i) (r i) c.self.invariant c.args.anon (x i) (there i))
+    subst (λ (g : Option (Link ℕ)). HasKey key 0 max last_of (s i) g (x i)) (ap top_of (at i))
+    (has_key (s i) (r i) c.self.invariant c.args.anon (x i) (there i))
 
 pub remove-number-requires-clause-low : goal.remove-number-requires-clause-low
 remove-number-requires-clause-low c =
