@@ -259,7 +259,8 @@ module _ (areas : ℕ → Option Area) (f : Family) (spans : ℕ
   own_in : is_in own (f.chain a) ≡ true
   own_in = (o.chains a).own_in own (ap own_of isA ∙ is_own)
 
-  children_left : (u : ℕ) → how_many (λ w. is_child u (f.info w)) (range_with_len 0 f.next) ≡ how_many (λ w. is_child u (info' w)) (range_with_len 0 f.next) + n_of u
+  children_left : (u : ℕ) → how_many (λ w. is_child u (f.info w)) (range_with_len 0 f.next) ≡ how_many (λ w. is_child u (info' w)) (range_with_len 0 f.next)
+      + n_of u
   children_left u =
       how_many-split (λ w. is_child u (f.info w)) (λ w. is_child u (info' w)) (λ w. is_in w (f.chain a) && falls u w) (range_with_len 0 f.next) (λ w.
       ap flag (sym (child_same own f.info u w)) ∙ parts (is_in w (f.chain a)) (has_no_other a f.users w) (n_of w) (info0 w))

@@ -93,7 +93,8 @@ chain_kept info info' next next' own chain x le k = chain_kept_on info info' nex
 
 pub numbers_more : (a n : ℕ) → range_with_len a (suc n) ≡ range_with_len a n ++ (a + n) ∷ []
 numbers_more a zero = let e : a ≡ a + 0 = omega arith in ap (λ k. k ∷ []) e
-numbers_more a (suc n) = let e : (a + 1) + n ≡ a + suc n = omega arith in ap (λ xs. a ∷ xs) (numbers_more (a + 1) n ∙ ap (λ k. range_with_len (a + 1) n ++ k ∷ []) e)
+numbers_more a (suc n) = let e : (a + 1) + n ≡ a + suc n = omega arith in ap (λ xs. a ∷ xs)
+    (numbers_more (a + 1) n ∙ ap (λ k. range_with_len (a + 1) n ++ k ∷ []) e)
 
 pub how_many-below : (t t' : ℕ → Bool) (a n : ℕ) → ((w : ℕ) → w < a + n → t w ≡ t' w) → how_many t (range_with_len a n) ≡ how_many t' (range_with_len a n)
 how_many-below t t' a zero h = refl

@@ -65,7 +65,8 @@ impl Anons {
     fn own_from(&mut self, loan: Option<u64>) -> Result<u64, AllocError>
         requires { (v : ℕ) → loan ≡ Some v → IsSome (info_in self.old.infos v) }
         ensures anon { IfOk result (λ v. v ≡ own_after_prepare loan (family self.old)) }
-        ensures family { OnOk result (family self.new ≡ family_after_prepare loan (family self.old)) }
+        ensures family { OnOk result
+            (family self.new ≡ family_after_prepare loan (family self.old)) }
         ensures spans { self.new.spans ≡ self.old.spans }
     {
         match loan {

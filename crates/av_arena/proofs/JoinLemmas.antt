@@ -33,7 +33,8 @@ module _ {A : Type 0} (key : A → ℕ) where
 
   gone_cases : (k : ℕ) (y : A) (t u : List A) (b : Bool) → eqb (key y) k ≡ b → AllByRecursion (λ z. key y < key z) t → AllByRecursion (λ z. key z ≡ k → ⊥) u →
       AllByRecursion (λ z. key z ≡ k → ⊥) (cond b t (y ∷ u))
-  gone_cases k y t u true e up a = let same = eqb-true (key y) k e in AllByRecursion-map (λ z. key y < key z) (λ z. key z ≡ k → ⊥) (λ z p q. absurd (omega arith)) t up
+  gone_cases k y t u true e up a = let same = eqb-true (key y) k e in AllByRecursion-map (λ z. key y < key z) (λ z. key z ≡ k → ⊥)
+      (λ z p q. absurd (omega arith)) t up
   gone_cases k y t u false e up a = (λ q. both_ways (eqb (key y) k) e (eq-eqb (key y) k q), a)
 
   -- what is taken out is gone
@@ -51,7 +52,8 @@ module _ {A : Type 0} (key : A → ℕ) where
   all_put P (y ∷ l) w z r a p = (a.0, all_put P l w z r a.1 p)
 
   -- a lower one in the middle, that is above all in front
-  rising_put : (l : List A) (w z : A) (r : List A) → IsRising key (l ++ w ∷ r) → key z ≤ key w → AllByRecursion (λ e. key e < key z) l → IsRising key (l ++ z ∷ r)
+  rising_put : (l : List A) (w z : A) (r : List A) → IsRising key (l ++ w ∷ r) → key z ≤ key w → AllByRecursion (λ e. key e < key z) l → IsRising key
+      (l ++ z ∷ r)
   rising_put [] w z r s le a = (AllByRecursion-map (λ e. key w < key e) (λ e. key z < key e) (λ e p. omega arith) r s.0, s.1)
   rising_put (y ∷ l) w z r s le a = (all_put (λ e. key y < key e) l w z r s.0 a.0, rising_put l w z r s.1 le a.1)
 
@@ -78,7 +80,8 @@ module _ {A : Type 0} (key : A → ℕ) where
       rw e (all_without key (λ o. (key o ≤ key x) ⊎ (key y ≤ key o)) (key x) xs next) in
       let below : AllByRecursion (λ o. key o ≤ key x) l = all_both (λ o. (key o ≤ key x) ⊎ (key y ≤ key o)) (λ o. key o < key w) (λ o. key o ≤ key x)
       (λ o p q. elim p [ inl i ↦ i | inr i ↦ absurd (omega arith) ]) l (AllByRecursion-front _ l (w ∷ r) near) (all_lower l w r up') in
-      let lower : AllByRecursion (λ o. key o < key z) l = all_both (λ o. key o ≤ key x) (λ o. key o ≡ key x → ⊥) (λ o. key o < key z) (λ o p q. omega arith) l below
+      let lower : AllByRecursion (λ o. key o < key z) l = all_both (λ o. key o ≤ key x) (λ o. key o ≡ key x → ⊥) (λ o. key o < key z) (λ o p q. omega arith)
+          l below
       (AllByRecursion-front _ l (w ∷ r) others) in
       let up'' : IsRising key (l ++ z ∷ r) = rising_put l w z r up' (omega arith) lower in
       let is : without_key key (key x) (without_key key (key y) xs) ≡ l ++ r = without_swap (key x) (key y) (λ d. absurd (omega arith)) xs

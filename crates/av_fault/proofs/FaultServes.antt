@@ -229,5 +229,5 @@ runs_out m w l k n out swap is wants none same = record {
   whole = refl;
   before = inl refl;
   finds = subst (λ n. FindsNone m (sparing w) l n [] out) (sym is)
-      (record { wants = wants; seeks = none-seeks m (sparing w l (pinned_by n)) l swap; none = none; range_with_len = same });
+      (record { wants = wants; seeks = none-seeks m (sparing w l (pinned_by n)) l swap; none = none; numbers = same });
 }

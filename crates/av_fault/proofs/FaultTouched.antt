@@ -258,14 +258,14 @@ module _ (s : State) (old new : Mem) (p page : ℕ) (notes : List Note) (keeps :
         need true s.ledger (entry s.ledger (p, page)) ≡ n → wants_frame n ≡ true → (view old).free ≡ []
         → out ≡ out_of (setting (count old)) (pinned_by n) (sparing s.world s.ledger (pinned_by n)) s.ledger →
         IsTouched s new true (p, page) notes notes (Stopped (Oom out))
-    starved n out is allowed needs wants empty range_with_len = record {
+    starved n out is allowed needs wants empty numbers = record {
       added = [];
       notes = sym (append-nil notes);
       touches = subst (λ c. Touches (setting c) s.world s.ledger true (p, page) [] (Some (Starved out))) (sym same) (
         allowed_is (view old) s.world true p page keeps.stands.parts.areas ∙ allowed,
         runs_out (setting (count old)) s.world s.ledger (p, page) n out
             (no_swap (setting (count old)) (view old) s.world s.ledger (of_keeps old s keeps)) needs wants
-            (nothing_free (setting (count old)) (view old) s.world s.ledger (of_keeps old s keeps) empty) range_with_len,
+            (nothing_free (setting (count old)) (view old) s.world s.ledger (of_keeps old s keeps) empty) numbers,
       );
       ready = tt;
       parts = stand_now old new s.world s.ledger (view old) is same (of_keeps old s keeps)

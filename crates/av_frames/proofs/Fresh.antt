@@ -21,7 +21,8 @@ numbers-suc a zero = ap (λ x. x ∷ []) (plus_zero a)
 numbers-suc a (suc n) = ap (λ xs. a ∷ xs) (ap (λ x. range_with_len (a + 1) n ++ x ∷ []) (sym (one_more a n)) ∙ numbers-suc (a + 1) n)
 
 pub numbers_next : (n m : ℕ) → m ≡ n + 1 → range_with_len 0 n ++ n ∷ [] ≡ range_with_len 0 m
-numbers_next n m e = ap (λ x. range_with_len 0 n ++ x ∷ []) (sym (none_plus n)) ∙ numbers-suc 0 n ∙ ap (range_with_len 0) (let s : suc n ≡ m = omega (arith, e) in s)
+numbers_next n m e = ap (λ x. range_with_len 0 n ++ x ∷ []) (sym (none_plus n)) ∙ numbers-suc 0 n
+    ∙ ap (range_with_len 0) (let s : suc n ≡ m = omega (arith, e) in s)
 
 length-numbers : (a n : ℕ) → length (range_with_len a n) ≡ n
 length-numbers a zero = refl
@@ -58,7 +59,8 @@ once_from a (suc n) (suc i) f e =
 once : (n f : ℕ) → how_many (λ g. f == g) (range_with_len 0 n) ≡ cond (get_or (replicate n false) f true) 0 1
 once n f = once_from 0 n f f (omega arith)
 
-pub whole_fresh : (n len room : ℕ) (page : List ℕ) → n < 2 ^ 32 → len ≡ n → n ≤ room → IsWhole (range_with_len 0 n) len room (replicate n page) (replicate n false)
+pub whole_fresh : (n len room : ℕ) (page : List ℕ) → n < 2 ^ 32 → len ≡ n → n ≤ room → IsWhole (range_with_len 0 n) len room (replicate n page)
+    (replicate n false)
     (replicate n 0) (replicate n None) (replicate n false) (replicate n None)
 whole_fresh n len room page few same wide = record {
   few = subst (λ m. m < 2 ^ 32) (sym (length-replicate n page)) few;

@@ -114,7 +114,8 @@ impl Frames {
     pub fn map_up(&mut self, frame: u32)
         requires in_range { frame < (shown self.old).count }
         requires room { (shown self.old).maps frame < 2 ^ 64 - 1 }
-        ensures { shown self.new ≡ with_maps frame ((shown self.old).maps frame + 1) (shown self.old) }
+        ensures { shown self.new
+            ≡ with_maps frame ((shown self.old).maps frame + 1) (shown self.old) }
     {
         self.maps[frame as usize] += 1;
     }
@@ -123,7 +124,8 @@ impl Frames {
     pub fn map_down(&mut self, frame: u32)
         requires in_range { frame < (shown self.old).count }
         requires some { 0 < (shown self.old).maps frame }
-        ensures { shown self.new ≡ with_maps frame ((shown self.old).maps frame - 1) (shown self.old) }
+        ensures { shown self.new
+            ≡ with_maps frame ((shown self.old).maps frame - 1) (shown self.old) }
     {
         self.maps[frame as usize] -= 1;
     }

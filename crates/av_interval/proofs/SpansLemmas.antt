@@ -84,7 +84,8 @@ module _ (P : Span → Type 0) where
 
   pub all_without : (k : ℕ) (t : List Span) → AllByRecursion P t → AllByRecursion P (without_key key k t)
   all_without k [] a = tt
-  all_without k (y ∷ t) a = elim (eqb (key y) k) as (λ b. AllByRecursion P (cond b t (y ∷ without_key key k t))) [ true ↦ a.1 | false ↦ (a.0, all_without k t a.1) ]
+  all_without k (y ∷ t) a = elim (eqb (key y) k) as (λ b. AllByRecursion P (cond b t (y ∷ without_key key k t)))
+      [ true ↦ a.1 | false ↦ (a.0, all_without k t a.1) ]
 
 -- lengths
 pub length_with : (x : Span) (t : List Span) → entry_at key (key x) t ≡ None → length (with_entry key x t) ≡ length t + 1

@@ -13,7 +13,6 @@ use Rattle.av_trace.specs.declared.reply.Reply.{Reply}
 use Rattle.av_trace.specs.declared.reply.Answer.{Answer}
 use Rattle.av_trace.specs.declared.reply.Answer.TheVariants.{Done, MapAt, Data, Refused, Segv, Bus, Oom, Counted}
 use Rattle.av_base.specs.Page.{page_size}
-use Rattle.std.specs.List.{range_with_len}
 use Rattle.av_trace.specs.declared.note.Note.{Note}
 use Rattle.av_trace.specs.declared.note.Note.TheVariants.{Put, Copied, Dropped, Loaded, Mapped, New, Zeroed}
 use Rattle.av_laws.specs.Determined.{AreFaultless, IsClaimed, SameCommands, Tells}
@@ -53,7 +52,7 @@ abbrev answer_code : Answer → ℕ
 answer_code (MapAt a) = a
 answer_code (Data bytes) = bytes_code bytes
 answer_code (Refused Eexist) = 17
-answer_code (Counted range_with_len) = range_with_len.free
+answer_code (Counted numbers) = numbers.free
 answer_code answer = 0
 
 abbrev notes_code : List Note → ℕ
@@ -349,7 +348,7 @@ no_frame = (
     sought = [];
     whole = refl;
     before = inl refl;
-    finds = record { wants = refl; seeks = ([], [], refl, refl, refl); none = refl; range_with_len = refl };
+    finds = record { wants = refl; seeks = ([], [], refl, refl, refl); none = refl; numbers = refl };
   },
 )
 

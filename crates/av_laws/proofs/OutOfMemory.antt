@@ -65,7 +65,8 @@ once : (g a n : ℕ) → a ≤ g → g < a + n → how_many (λ f. g == f) (rang
 once g a zero low high = absurd (omega (arith, low, high))
 once g a (suc n) low high = by (g == a) refl (λ above. once g (a + 1) n above (omega (arith, high)))
   where
-    by : (b : Bool) → (g == a) ≡ b → (a + 1 ≤ g → how_many (λ f. g == f) (range_with_len (a + 1) n) ≡ 1) → cond b 1 0 + how_many (λ f. g == f) (range_with_len (a + 1) n) ≡ 1
+    by : (b : Bool) → (g == a) ≡ b → (a + 1 ≤ g → how_many (λ f. g == f) (range_with_len (a + 1) n) ≡ 1) → cond b 1 0 + how_many (λ f. g == f)
+        (range_with_len (a + 1) n) ≡ 1
     by true is rest = let z = none-above g (a + 1) n (grind (arith, nat_tests, is)) in omega (arith, z)
     by false is rest = let e = rest (grind (arith, nat_tests, is, low)) in omega (arith, e)
 

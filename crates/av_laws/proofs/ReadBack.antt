@@ -437,7 +437,8 @@ legal-reads_back m w l command reply events none s small fit wide legal =
     record { answer = f.0; rest = subst (λ ns. Follow reply.answer ns reply.rows) (sym legal.notes) f.1 }
   where
     out : CausesFit reply.answer
-    out k range_with_len shown is = let sum = legal-adds m w l command reply events k range_with_len shown s legal is in let frames : m.frames < 2 ^ 64 = small.frames in
+    out k numbers shown is = let sum = legal-adds m w l command reply events k numbers shown s legal is in let frames : m.frames < 2 ^ 64 =
+        small.frames in
         (omega (arith, sum, frames), omega (arith, sum, frames), omega (arith, sum, frames))
 
     by : (o : Option Errno) → MatchOption o (Follows m w l command events reply.answer reply.rows) (λ error. Refuses error events reply.answer reply.rows) →

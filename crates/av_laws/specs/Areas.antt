@@ -57,7 +57,8 @@ abbrev pub Makes : List Exchange → ℕ → ℕ → List Area → Type 0
 Makes row from n areas =
     Runs 4 row
     × ((new : State) → IsRun (machine 4) (at_first (machine 4)) row new
-    → AllByRecursion (λ page. new.areas 1 page ≡ pages_in (Some areas) page) (range_with_len from n))
+    → AllByRecursion (λ page. new.areas 1 page ≡ pages_in (Some areas) page)
+    (range_with_len from n))
 
 -- they never leave it this area on the page
 abbrev pub NeverHas : List Exchange → ℕ → Area → Type 0

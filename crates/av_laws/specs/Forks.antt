@@ -48,7 +48,8 @@ by_number anons = map anons.anon (range_with_len 0 anons.next)
 -- pages, and these anon_vmas
 abbrev pub ForksTo : State → List Area → List (Option AnonVma) → Type 0
 ForksTo old areas anons = (new : State) × IsStep (machine 4) old to_two ok_reply new
-    × AllByRecursion (λ page. pages new.world 2 page ≡ pages old.world 1 page) (range_with_len 0xf 8)
+    × AllByRecursion (λ page. pages new.world 2 page ≡ pages old.world 1 page)
+    (range_with_len 0xf 8)
     × AllByRecursion (λ page. new.areas 2 page ≡ pages_in (Some areas) page) (range_with_len 0xf 8)
     × (by_number new.anons ≡ anons)
 

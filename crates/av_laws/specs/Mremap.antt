@@ -47,7 +47,8 @@ use Rattle.av_laws.specs.Examples.{machine, only_frames, read_only, read_write, 
 abbrev pub RemapsTo : State → Command → ℕ → ℕ → List Area → List (Key × Entry) → Type 0
 RemapsTo old command b first areas entries =
     (new : State) × IsStep (machine 4) old command (reply_with (MapAt b) []) new
-    × AllByRecursion (λ page. new.areas 1 page ≡ pages_in (Some areas) page) (range_with_len first 16)
+    × AllByRecursion (λ page. new.areas 1 page ≡ pages_in (Some areas) page)
+    (range_with_len first 16)
     × (new.ledger.entries ≡ entries)
 
 -- or it leaves this on the page

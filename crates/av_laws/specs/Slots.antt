@@ -1,7 +1,7 @@
 -- Worked examples for slots: which one is given next, and which may not be.
 -- Which example would fail if a definition were wrong:
---   which area gives (`giving_swap_area`): lower_gives, upper_gives, upper_too_early, past_a_closing,
---     from_a_closing, from_none
+--   which area gives (`giving_swap_area`): lower_gives, upper_gives, upper_too_early,
+--     past_a_closing, from_a_closing, from_none
 --   what comes back (`new_free_slots`): put_in_turn, put_again, zapped_last, zapped_first,
 --     still_named, not_written, and the refused ones beside them
 --   the order of clusters (`take_slot`, `give_slot`): put_behind, put_back, second_cluster

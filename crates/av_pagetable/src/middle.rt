@@ -5,8 +5,8 @@ use std::alloc::{AllocError, Global};
 
 /// A table of 512 last tables (Linux's PMD table): the lower two of the four levels.
 ///
-/// A type of its own and not `Dir<Dir<Pte>>`, since a proof about a type goes through all that it is
-/// made of, again wherever it is used.
+/// A type of its own and not `Dir<Dir<Pte>>`, since a proof about a type goes through all that it
+/// is made of, again wherever it is used.
 #[derive(Drop)]
 pub struct Middle {
     tables: Dir<Dir<Pte>>,

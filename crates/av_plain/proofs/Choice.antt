@@ -24,7 +24,8 @@ none-passes : (test : ℕ → Bool) (a n : ℕ) → ((f : ℕ) → f < a + n →
 none-passes test a zero h = refl
 none-passes test a (suc n) h = by (test a) (h a (omega arith)) (none-passes test (a + 1) n (λ f less. h f (omega (arith, less))))
   where
-    by : (b : Bool) → b ≡ false → filter test (range_with_len (a + 1) n) ≡ [] → cond b (a ∷ filter test (range_with_len (a + 1) n)) (filter test (range_with_len (a + 1) n)) ≡ []
+    by : (b : Bool) → b ≡ false → filter test (range_with_len (a + 1) n) ≡ [] → cond b (a ∷ filter test (range_with_len (a + 1) n))
+        (filter test (range_with_len (a + 1) n)) ≡ []
     by true is rest = cc
     by false is rest = rest
 
@@ -32,7 +33,8 @@ passes-above : (test : ℕ → Bool) (f a n : ℕ) → f < a → ((g : ℕ) → 
 passes-above test f a zero less h = refl
 passes-above test f a (suc n) less h = by (test a) (h a (grind (arith, nat_tests, less))) (passes-above test f (a + 1) n (omega (arith, less)) h)
   where
-    by : (b : Bool) → b ≡ false → filter test (range_with_len (a + 1) n) ≡ [] → cond b (a ∷ filter test (range_with_len (a + 1) n)) (filter test (range_with_len (a + 1) n)) ≡ []
+    by : (b : Bool) → b ≡ false → filter test (range_with_len (a + 1) n) ≡ [] → cond b (a ∷ filter test (range_with_len (a + 1) n))
+        (filter test (range_with_len (a + 1) n)) ≡ []
     by true is rest = cc
     by false is rest = rest
 

@@ -4,8 +4,8 @@ use Rattle.av_swapdev.specs.declared.header.HeaderErr.{HeaderErr}
 use Rattle.av_swapdev.specs.Header.{Layout, header_of}
 use Rattle.av_plain.specs.Ledger.{Setting}
 
--- the number of pages of each swap area that is attached; what the pages hold, where that is told; and
--- how often it failed
+-- the number of pages of each swap area that is attached; what the pages hold, where that is told;
+-- and how often it failed
 pub record Device : Type 0 where
   pub sizes : ℕ → Option ℕ
   pub pages : Option (ℕ → ℕ → List ℕ)

@@ -115,7 +115,8 @@ pub record TakesFor (m : Setting) (spared : Spared) (l : Ledger) (notes : List N
 
 -- how many frames of the machine a pass doesn't leave alone, of those that pass the test
 abbrev pub how_many_others : Setting → Spared → (ℕ → Bool) → ℕ
-how_many_others m spared test = how_many (λ f. not (spared.frame f) && test f) (range_with_len 0 m.frames)
+how_many_others m spared test =
+    how_many (λ f. not (spared.frame f) && test f) (range_with_len 0 m.frames)
 
 -- the numbers of an out-of-memory: frames that are pinned, not cached, and cached
 abbrev pub out_of : Setting → Option ℕ → Spared → Ledger → OutOf

@@ -61,7 +61,8 @@ below-all : (p : Entry → Bool) (k : Key) (es : List (Key × Entry)) → T (bel
 below-all p k [] h = tt
 below-all p k (e ∷ es) h = by (p e.1) (below-all p k es (both_second _ _ h))
   where
-    by : (b : Bool) → AllByRecursion (IsBefore k) (keys_of p es) → AllByRecursion (IsBefore k) (map (λ e. e.0) (cond b (e ∷ filter (λ e. p e.1) es) (filter (λ e. p e.1) es)))
+    by : (b : Bool) → AllByRecursion (IsBefore k) (keys_of p es) → AllByRecursion (IsBefore k)
+        (map (λ e. e.0) (cond b (e ∷ filter (λ e. p e.1) es) (filter (λ e. p e.1) es)))
     by true rest = (below-before k e.0 (is_true (is_lt (key_cmp k e.0)) (both_first _ _ h)), rest)
     by false rest = rest
 

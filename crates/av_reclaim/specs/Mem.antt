@@ -70,7 +70,8 @@ view_of_parts frames table spaces anons = record {
 }
 
 abbrev pub view : Mem → View
-view k = view_of_parts (shown k.frames) (λ p page. plain (entry_at k.tables p page)) k.spaces k.anons
+view k =
+    view_of_parts (shown k.frames) (λ p page. plain (entry_at k.tables p page)) k.spaces k.anons
 
 -- how many frames there are
 abbrev pub count : Mem → ℕ

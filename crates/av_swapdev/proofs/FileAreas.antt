@@ -48,5 +48,6 @@ module _ {F : Type 0} (view : F → FileView) (areas : List (Option (Attached F)
   sizes_stay same = λ i a. by a (cases_eq a area) i
     where
       by : (a : ℕ) → (a ≡ area) ⊎ (a ≢ area) → sizes_of (set areas area (Some now)) a ≡ sizes_of areas a
-      by a (inl e) = ap (sizes_of (set areas area (Some now))) e ∙ ap pages_of new_there ∙ ap Some same ∙ sym (ap pages_of old_there) ∙ ap (sizes_of areas) (sym e)
+      by a (inl e) = ap (sizes_of (set areas area (Some now))) e ∙ ap pages_of new_there ∙ ap Some same ∙ sym (ap pages_of old_there)
+          ∙ ap (sizes_of areas) (sym e)
       by a (inr ne) = ap pages_of (get_or-set_other areas area a (Some now) None ne)

@@ -49,7 +49,8 @@ all_back P k (y ∷ t) f a =
       | false ↦ λ e b. (b.0, all_back P k t f b.1)
     ] refl a
 
-spread : (from at to : ℕ) (zs : List Span) → from < at → at < to → AreApart zs → AreClear zs from (to - from) → AllByRecursion (λ y. (y.from ≤ from) ⊎ (at ≤ y.from)) zs
+spread : (from at to : ℕ) (zs : List Span) → from < at → at < to → AreApart zs → AreClear zs from (to - from) → AllByRecursion
+    (λ y. (y.from ≤ from) ⊎ (at ≤ y.from)) zs
 spread from at to [] low high apart clear = tt
 spread from at to (y ∷ zs) low high apart clear = let wide = apart.0 in
     (elim clear.0 [ inl i ↦ inl (omega arith) | inr i ↦ inr (omega arith) ], spread from at to zs low high apart.2 clear.1)

@@ -49,7 +49,8 @@ sum-once x a (suc n) low high = by (a == x) refl (λ more. sum-once x (a + 1) n 
     by false is later = let more : a + 1 ≤ x = grind (arith, nat_tests, is, low) in let rest = later more in omega (arith, rest)
 
 -- how often each number stands in a list, summed up, is the list's length, where all are below n
-pub sum-length : (n : ℕ) (fs : List ℕ) → ((f : ℕ) → 0 < how_many (λ g. f == g) fs → f < n) → sum_of (λ f. how_many (λ g. f == g) fs) (range_with_len 0 n) ≡ length fs
+pub sum-length : (n : ℕ) (fs : List ℕ) → ((f : ℕ) → 0 < how_many (λ g. f == g) fs → f < n) → sum_of (λ f. how_many (λ g. f == g) fs) (range_with_len 0 n) ≡
+    length fs
 sum-length n [] below = sum-none (range_with_len 0 n)
 sum-length n (x ∷ fs) below =
     sum-plus (λ f. cond (f == x) 1 0) (λ f. how_many (λ g. f == g) fs) (range_with_len 0 n)

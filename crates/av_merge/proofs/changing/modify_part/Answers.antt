@@ -22,7 +22,8 @@ pub join_part-requires-clause-stands : goal.join_part-requires-clause-stands
 join_part-requires-clause-stands c =
     let p = c.requires.stands.0 in (
       p,
-      changed_stands (lengths c.change.new.self c.split_out.new.anons) p c.args.from c.args.past c.in_ok-number.number (effect_of c.args.change) c.get-part.result
+      changed_stands (lengths c.change.new.self c.split_out.new.anons) p c.args.from c.args.past c.in_ok-number.number (effect_of c.args.change)
+          c.get-part.result
           (area_of c.args.areas.now) (area_of c.split_out.new.areas) (area_of c.change.new.self) c.args.tree.now c.split_out.new.tree
           c.requires.some c.requires.inside c.requires.stands.1 (c.split_out.ensures.stands p c.requires.stands.1) c.in_ok-number.ensures.pages
           c.in_ok-number.ensures.part c.get-part.ensures (λ k. c.change.ensures k

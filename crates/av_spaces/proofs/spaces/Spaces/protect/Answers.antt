@@ -23,7 +23,8 @@ pub invariant_of-self : goal.invariant_of-self
 invariant_of-self c =
     let out = is_out c.self.inside.areas c.self.inside.trees.items c.take_tree-tree.new.trees.items c.self.inside.alive c.args.self.now c.args.process
     c.take_tree-tree.result c.self.view_is c.self.invariant c.take_tree-tree.ensures.tree c.take_tree-tree.ensures.trees in
-    has_back out c.modify-result.new.areas c.modify-result.new.tree (c.modify-result.ensures.stands c.args.process) c.put_tree.new.trees.items c.put_tree.ensures
+    has_back out c.modify-result.new.areas c.modify-result.new.tree (c.modify-result.ensures.stands c.args.process) c.put_tree.new.trees.items
+        c.put_tree.ensures
 
 pub modify-result-requires-clause-stands : goal.modify-result-requires-clause-stands
 modify-result-requires-clause-stands c =
@@ -41,7 +42,8 @@ pub returns-clause-ok : goal.returns-clause-ok
 returns-clause-ok c =
     let out = is_out c.self.inside.areas c.self.inside.trees.items c.take_tree-tree.new.trees.items c.self.inside.alive c.args.self.now c.args.process
     c.take_tree-tree.result c.self.view_is c.self.invariant c.take_tree-tree.ensures.tree c.take_tree-tree.ensures.trees in
-    if_each c.modify-result.result _ _ (λ past pages. is_changed out c.modify-result.new.areas c.modify-result.new.tree (c.modify-result.ensures.stands c.args.process)
+    if_each c.modify-result.result _ _ (λ past pages. is_changed out c.modify-result.new.areas c.modify-result.new.tree
+        (c.modify-result.ensures.stands c.args.process)
     c.put_tree.new.trees.items c.put_tree.ensures
     (λ all on. AreThese (pages_changed (lengths all c.args.anons.now) (to_prot c.args.prot) c.args.from (past - c.args.from) on)) pages)
     c.modify-result.ensures.pages
@@ -50,7 +52,8 @@ pub returns-clause-mapping : goal.returns-clause-mapping
 returns-clause-mapping c =
     let out = is_out c.self.inside.areas c.self.inside.trees.items c.take_tree-tree.new.trees.items c.self.inside.alive c.args.self.now c.args.process
     c.take_tree-tree.result c.self.view_is c.self.invariant c.take_tree-tree.ensures.tree c.take_tree-tree.ensures.trees in
-    if_each c.modify-result.result _ _ (λ past mapping. (is_changed out c.modify-result.new.areas c.modify-result.new.tree (c.modify-result.ensures.stands c.args.process)
+    if_each c.modify-result.result _ _ (λ past mapping. (is_changed out c.modify-result.new.areas c.modify-result.new.tree
+        (c.modify-result.ensures.stands c.args.process)
     c.put_tree.new.trees.items c.put_tree.ensures
     (λ all on. IsRemapped c.args.from past (to_prot c.args.prot) on) mapping).pages) c.modify-result.ensures.mapping
 

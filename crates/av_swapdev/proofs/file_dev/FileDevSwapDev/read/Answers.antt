@@ -5,7 +5,8 @@ use Rattle.av_swapdev.proofs.FileAreas.{after_err, after_ok, at_file, others_sta
 use Rattle.av_swapdev.proofs.file_dev.FileDevSwapDev.read.Goals as goal
 
 pub returns-clause-same_sizes : goal.returns-clause-same_sizes
-returns-clause-same_sizes g c = sizes_stay g.H.File.SwapFile.view c.args.self.now.areas.items c.args.area c.args.page c.in-Some.attached c.read_page.new.attached
+returns-clause-same_sizes g c = sizes_stay g.H.File.SwapFile.view c.args.self.now.areas.items c.args.area c.args.page c.in-Some.attached
+    c.read_page.new.attached
     c.index_mut.result.now c.requires.there c.index_mut.ensures.value c.in-Some.is c.read_page.ensures.pages
 
 pub returns-clause-others : goal.returns-clause-others
@@ -13,11 +14,13 @@ returns-clause-others g c = others_stay g.H.File.SwapFile.view c.args.self.now.a
     c.index_mut.result.now c.requires.there c.index_mut.ensures.value c.in-Some.is
 
 pub returns-then-is_err-clause-same_sizes : goal.returns-then-is_err-clause-same_sizes
-returns-then-is_err-clause-same_sizes g c = sizes_stay g.H.File.SwapFile.view c.args.self.now.areas.items c.args.area c.args.page c.in-Some.attached c.read_page.new.attached
+returns-then-is_err-clause-same_sizes g c = sizes_stay g.H.File.SwapFile.view c.args.self.now.areas.items c.args.area c.args.page c.in-Some.attached
+    c.read_page.new.attached
     c.index_mut.result.now c.requires.there c.index_mut.ensures.value c.in-Some.is c.read_page.ensures.pages
 
 pub returns-then-is_err-clause-others : goal.returns-then-is_err-clause-others
-returns-then-is_err-clause-others g c = others_stay g.H.File.SwapFile.view c.args.self.now.areas.items c.args.area c.args.page c.in-Some.attached c.read_page.new.attached
+returns-then-is_err-clause-others g c = others_stay g.H.File.SwapFile.view c.args.self.now.areas.items c.args.area c.args.page c.in-Some.attached
+    c.read_page.new.attached
     c.index_mut.result.now c.requires.there c.index_mut.ensures.value c.in-Some.is
 
 pub returns-clause-file : goal.returns-clause-file
@@ -27,7 +30,8 @@ returns-clause-file g c = at_file g.H.File.SwapFile.view c.args.self.now.areas.i
     (after_ok c.read_page.result c.read_page.ensures.ok (sym c.is_err.ensures.value ∙ c.if-is_err.false))
 
 pub returns-then-is_err-clause-fault : goal.returns-then-is_err-clause-fault
-returns-then-is_err-clause-fault g c = at_file g.H.File.SwapFile.view c.args.self.now.areas.items c.args.area c.args.page c.in-Some.attached c.read_page.new.attached
+returns-then-is_err-clause-fault g c = at_file g.H.File.SwapFile.view c.args.self.now.areas.items c.args.area c.args.page c.in-Some.attached
+    c.read_page.new.attached
     c.index_mut.result.now c.requires.there c.index_mut.ensures.value c.in-Some.is
     (λ old new. new ≡ after_fault old)
     (after_err c.read_page.result c.read_page.ensures.err (sym c.is_err.ensures.value ∙ c.if-is_err.true))
