@@ -30,7 +30,7 @@ fn link(links: &mut Links, area: u64, anon: u64) -> Result<(), AllocError> {
 }
 
 /// Links as these pairs of an area and an anon_vma say.
-fn linked(alloc: Global, pairs: &[(u64, u64)]) -> Result<Links, AllocError> {
+fn links_of(alloc: Global, pairs: &[(u64, u64)]) -> Result<Links, AllocError> {
     let mut links = Links::new(alloc);
     for (area, anon) in pairs {
         link(&mut links, *area, *anon)?;
@@ -59,7 +59,7 @@ fn has_users(links: &Links, anon: u64, wanted: &[u64]) -> bool {
 
 #[test]
 fn an_area_leaves_its_lists(rt: HostRuntime) -> Result<(), AllocError> {
-    let mut links = linked(rt.alloc(), &[(0, 0), (0, 1), (1, 0)])?;
+    let mut links = links_of(rt.alloc(), &[(0, 0), (0, 1), (1, 0)])?;
     assert!(rt; links.has(0, 1));
     assert!(rt; chains(&links) == [(2, Some(0)), (1, Some(0))]);
     assert!(rt; has_users(&links, 0, &[0, 1]));
