@@ -24,7 +24,7 @@ use Rattle.av_plain.proofs.Covered.{Names, alone-by, covered-owns, sound-prepare
 use Rattle.av_plain.proofs.Ledger.{entry-set, same_key}
 use Rattle.av_plain.proofs.Ledger.NoSwap.{key_at-page}
 use Rattle.av_reclaim.specs.declared.mem.Mem.{Mem}
-use Rattle.av_reclaim.specs.Mem.{Keeps, KeepsWithin, count, ranges_of, setting, view, view_of_parts}
+use Rattle.av_reclaim.specs.Mem.{Keeps, KeepsWithin, frame_count, ranges_of, setting, view, view_of_parts}
 use Rattle.av_spaces.specs.Spaces.{pages_of}
 use Rattle.av_reclaim.proofs.MemLaws.{prot_on, prots_are}
 use Rattle.av_fault.specs.Fault.{HasRmap, IsTouched, is_permitted}
@@ -89,7 +89,7 @@ module _ (mid : Mem) (frames : Store) (p page f : ℕ) (home : Option (ℕ × �
     in_order = h.in_order;
     at_pages = h.at_pages;
     parts = subst (λ (x : Shown). PartsStand (setting x.count) (view_of_parts x (view mid).table mid.spaces mid.anons) no_device w l) (sym is)
-        (parts_at_home (setting (count mid)) (view mid) (with_at f home (view mid).homes) no_device w l h.parts);
+        (parts_at_home (setting (frame_count mid)) (view mid) (with_at f home (view mid).homes) no_device w l h.parts);
     tables = h.tables;
     anons = h.anons;
   }
@@ -118,7 +118,7 @@ at_home_twice k p page f r h = record { areas = h.areas; anons = h.anons; homes 
 
 module _ (s : State) (old : Mem) (keeps : Keeps old s) (mid : Mem) (frames : Store) (p page f : ℕ) (home : Option (ℕ × ℕ))
     (is : shown frames ≡ with_home f home (shown mid.frames)) (notes now : List Note) where
-  same_count : count mid ≡ count (record mid { frames = frames })
+  same_count : frame_count mid ≡ frame_count (record mid { frames = frames })
   same_count = sym (ap (λ (x : Shown). x.count) is)
 
   same_free : free_of (view mid) ≡ free_of (view (record mid { frames = frames }))
@@ -165,7 +165,7 @@ module _ (s : State) (old : Mem) (keeps : Keeps old s) (mid : Mem) (frames : Sto
     twice = sound-put (given_to p page f s.ledger) (set_entry (p, page) (InFrame f true) (given_to p page f s.ledger)) (at_home f (p, page) r) (p, page) f true
         (entry-set (p, page) (InFrame f true) (given_to p page f s.ledger)) owns others_not once
 
-    pub given_home : {first : Mem} → IsServed s first true (p, page) notes now (note ∷ []) (ReadyAt f) → count first ≡ count mid →
+    pub given_home : {first : Mem} → IsServed s first true (p, page) notes now (note ∷ []) (ReadyAt f) → frame_count first ≡ frame_count mid →
         free_of (view first) ≡ free_of (view mid)
         → KeepsWithin mid s.world (after_all s.ledger (page_events true (p, page) (note ∷ []) None)) → HasRmap mid r → home ≡ home_of page (r.areas p page)
         → IsTouched s (record mid { frames = frames }) true (p, page) notes now (ReadyAt f)

@@ -21,7 +21,7 @@ use Rattle.av_reclaim.specs.declared.mem.Mem.{Mem}
 use Rattle.av_fault.specs.declared.fault.Stop.TheVariants.{Oom}
 use Rattle.av_fault.specs.declared.fault.Touched.TheVariants.{Ready as ReadyAt, Stopped}
 use Rattle.av_spaces.specs.Kin.{AnonsFit}
-use Rattle.av_reclaim.specs.Mem.{setting, count, view, Keeps}
+use Rattle.av_reclaim.specs.Mem.{setting, frame_count, view, Keeps}
 use Rattle.av_fault.specs.Fault.{is_permitted, frame_named, one_more, one_less, IsTouched, IsTaken}
 use Rattle.av_fault.proofs.FaultParts.{of_keeps, no_swap}
 use Rattle.av_fault.proofs.FaultEntries.{given_to}
@@ -42,30 +42,31 @@ abbrev numbers_of : ℕ → ℕ → OutOf
 numbers_of pinned n = record { pinned = pinned; noslot = n - pinned; fault = 0 }
 
 module _ (s : State) (old new : Mem) (p page : ℕ) (notes : List Note) (keeps : Keeps old s) (processes : has new.tables ≡ has old.tables)
-    (same : count new ≡ count old) (order : AnonsFit new.spaces new.anons)
+    (same : frame_count new ≡ frame_count old) (order : AnonsFit new.spaces new.anons)
     (allowed : is_permitted true (prot_of (ranges_in ((view old).areas p)) page) ≡ true) where
-  free_now : (f : ℕ) → f < count old → (view old).free ≡ f ∷ (view new).free → is_free s.ledger f ≡ true
+  free_now : (f : ℕ) → f < frame_count old → (view old).free ≡ f ∷ (view new).free → is_free s.ledger f ≡ true
   free_now f below first = sym (keeps.stands.parts.ledger.frames.free f below) ∙ ap (is_in f) first ∙ ap (λ b. b || is_in f (view new).free) (itself f)
 
-  none_yet : (f : ℕ) → f < count old → (view old).free ≡ f ∷ (view new).free → (view old).maps f ≡ 0
+  none_yet : (f : ℕ) → f < frame_count old → (view old).free ≡ f ∷ (view new).free → (view old).maps f ≡ 0
   none_yet f below first = keeps.stands.parts.ledger.frames.maps f ∙ zero_is _ (sym (free_is s.ledger f (of_keeps old s keeps).cache) ∙ free_now f below first)
 
   -- so the ledger has no entry of it
-  pub unnamed : (f : ℕ) → f < count old → (view old).free ≡ f ∷ (view new).free → map_count s.ledger f ≡ 0
+  pub unnamed : (f : ℕ) → f < frame_count old → (view old).free ≡ f ∷ (view new).free → map_count s.ledger f ≡ 0
   unnamed f below first = sym (keeps.stands.parts.ledger.frames.maps f) ∙ none_yet f below first
 
   -- ---- zeros
 
   module _ (bare : frame_named (entry_at old.tables p page) ≡ None) where
     is_bare_now : is_bare (entry s.ledger (p, page)) ≡ true
-    is_bare_now = bare_entry (setting (count old)) (view old) s.world s.ledger (p, page) (entry_at old.tables p page) (of_keeps old s keeps) (λ t. refl) bare
+    is_bare_now = bare_entry (setting (frame_count old)) (view old) s.world s.ledger (p, page) (entry_at old.tables p page) (of_keeps old s keeps)
+        (λ t. refl) bare
         (keeps.stands.parts.ledger.tables.entries p page)
 
-    pub new_starved : (out : OutOf) → view new ≡ view old → (view old).free ≡ [] → out ≡ numbers_of 0 (count new) →
+    pub new_starved : (out : OutOf) → view new ≡ view old → (view old).free ≡ [] → out ≡ numbers_of 0 (frame_count new) →
         IsTouched s new true (p, page) notes notes (Stopped (Oom out))
     new_starved out is empty numbers = starved s old new p page notes keeps processes same order NewPage out is allowed
         (need_fresh s.ledger (entry s.ledger (p, page)) is_bare_now) refl empty
-        (numbers ∙ ap (numbers_of 0) same ∙ out_is (setting (count old)) s.ledger None (of_keeps old s keeps).cache (λ g e. absurd (clash e)))
+        (numbers ∙ ap (numbers_of 0) same ∙ out_is (setting (frame_count old)) s.ledger None (of_keeps old s keeps).cache (λ g e. absurd (clash e)))
       where
         clash : {g : ℕ} → None ≡ Some g → ⊥
         clash e = cc
@@ -75,10 +76,10 @@ module _ (s : State) (old new : Mem) (p page : ℕ) (notes : List Note) (keeps :
     new_made f now added is = given_now s old new p page notes keeps processes same order now (New p (4096 * page) f) f (λ i. 0) (one_more f (view old).maps)
         added is allowed (new_is p page f s.ledger) refl
         (sym keeps.stands.free ∙ ap frames_free is.first)
-        (serves (setting (count old)) (sparing s.world) s.ledger true (p, page) (New p (4096 * page) f ∷ []) NewPage
+        (serves (setting (frame_count old)) (sparing s.world) s.ledger true (p, page) (New p (4096 * page) f ∷ []) NewPage
         (need_fresh s.ledger (entry s.ledger (p, page)) is_bare_now) refl
-        (takes-alone (setting (count old)) (sparing s.world s.ledger None) s.ledger f (New p (4096 * page))
-        (no_swap (setting (count old)) (view old) s.world s.ledger (of_keeps old s keeps)) is.below (free_now f is.below is.first))
+        (takes-alone (setting (frame_count old)) (sparing s.world s.ledger None) s.ledger f (New p (4096 * page))
+        (no_swap (setting (frame_count old)) (view old) s.world s.ledger (of_keeps old s keeps)) is.below (free_now f is.below is.first))
         (of_keeps old s keeps).cache)
         (blank (entry s.ledger (p, page)) is_bare_now (keeps.stands.parts.bytes.kept p page))
         (λ g. counts g (g == f) refl (bare_frame (entry s.ledger (p, page)) is_bare_now g))
@@ -113,11 +114,11 @@ module _ (s : State) (old new : Mem) (p page : ℕ) (notes : List Note) (keeps :
     splits : need true s.ledger (entry s.ledger (p, page)) ≡ CopyOnWrite from
     splits = need_split s.ledger from was (entry s.ledger (p, page)) (of_keeps old s keeps).cache named many
 
-    pub copy_starved : (out : OutOf) → view new ≡ view old → (view old).free ≡ [] → out ≡ numbers_of 1 (count new) →
+    pub copy_starved : (out : OutOf) → view new ≡ view old → (view old).free ≡ [] → out ≡ numbers_of 1 (frame_count new) →
         IsTouched s new true (p, page) notes notes (Stopped (Oom out))
     copy_starved out is empty numbers = starved s old new p page notes keeps processes same order (CopyOnWrite from) out is allowed splits refl empty
-        (numbers ∙ ap (numbers_of 1) same ∙ out_is (setting (count old)) s.ledger (Some from) (of_keeps old s keeps).cache
-        (λ g e. subst (λ x. x < count old) (inner e) (named_frame old s p page from was keeps named).0))
+        (numbers ∙ ap (numbers_of 1) same ∙ out_is (setting (frame_count old)) s.ledger (Some from) (of_keeps old s keeps).cache
+        (λ g e. subst (λ x. x < frame_count old) (inner e) (named_frame old s p page from was keeps named).0))
       where
         inner : {x y : ℕ} → Some x ≡ Some y → x ≡ y
         inner e = cc
@@ -128,9 +129,9 @@ module _ (s : State) (old new : Mem) (p page : ℕ) (notes : List Note) (keeps :
     copy_served f now added is = given_now s old new p page notes keeps processes same order now (Copied p (4096 * page) f) f ((view old).bytes from)
         (one_less from (one_more f (view old).maps)) added is allowed (copied_is p page f s.ledger) refl
         (sym keeps.stands.free ∙ ap frames_free is.first)
-        (serves (setting (count old)) (sparing s.world) s.ledger true (p, page) (Copied p (4096 * page) f ∷ []) (CopyOnWrite from) splits refl
-        (takes-alone (setting (count old)) (sparing s.world s.ledger (Some from)) s.ledger f (Copied p (4096 * page))
-        (no_swap (setting (count old)) (view old) s.world s.ledger (of_keeps old s keeps)) is.below (free_now f is.below is.first))
+        (serves (setting (frame_count old)) (sparing s.world) s.ledger true (p, page) (Copied p (4096 * page) f ∷ []) (CopyOnWrite from) splits refl
+        (takes-alone (setting (frame_count old)) (sparing s.world s.ledger (Some from)) s.ledger f (Copied p (4096 * page))
+        (no_swap (setting (frame_count old)) (view old) s.world s.ledger (of_keeps old s keeps)) is.below (free_now f is.below is.first))
         (of_keeps old s keeps).cache)
         (subst (λ e. IsKept (view old) no_device s.ledger e (pages s.world p page)) named (keeps.stands.parts.bytes.kept p page))
         (λ g. counts g (g == from) refl (g == f) refl (ap (weight (names_frame g)) named))

@@ -21,7 +21,7 @@ use Rattle.av_plain.proofs.Ledger.NoSwap.{itself, key_is, no_slot, free_is, shar
 use Rattle.av_reclaim.specs.declared.mem.Mem.{Mem}
 use Rattle.av_reclaim.proofs.MemLaws.{no_cache, no_frame_at, slot_kept, nothing_clean}
 use Rattle.av_spaces.specs.Kin.{AnonsFit}
-use Rattle.av_reclaim.specs.Mem.{setting, count, view, Keeps, KeepsWithin, HasTables}
+use Rattle.av_reclaim.specs.Mem.{setting, frame_count, view, Keeps, KeepsWithin, HasTables}
 
 pub record Parts (m : Setting) (v : View) (w : World) (l : Ledger) : Type 0 where
   pub in_order : T (is_sorted key_cmp l.entries)
@@ -43,7 +43,7 @@ pub no_headers : (m : Setting) (l : Ledger) → l.on ≡ [] → HeadersStand m l
 no_headers m l none k = subst (λ (on : List (ℕ × SwapArea)). IfSome (find nat_cmp k on)
     (λ area. IfSome m.headers (λ headers. IsSomeAnd (headers k) (HasNumbers area)))) (sym none) tt
 
-pub of_stand : (k : Mem) (w : World) (l : Ledger) → KeepsWithin k w l → Parts (setting (count k)) (view k) w l
+pub of_stand : (k : Mem) (w : World) (l : Ledger) → KeepsWithin k w l → Parts (setting (frame_count k)) (view k) w l
 of_stand k w l h =
     let ledger = h.parts.ledger in
     record {
@@ -60,7 +60,7 @@ of_stand k w l h =
       bytes = h.parts.bytes;
     }
 
-pub to_stand : (k : Mem) (w : World) (l : Ledger) → Parts (setting (count k)) (view k) w l → HasTables k → AnonsFit k.spaces k.anons → KeepsWithin k w l
+pub to_stand : (k : Mem) (w : World) (l : Ledger) → Parts (setting (frame_count k)) (view k) w l → HasTables k → AnonsFit k.spaces k.anons → KeepsWithin k w l
 to_stand k w l h tables order = record {
   in_order = h.in_order;
   at_pages = h.at_pages;
@@ -68,13 +68,13 @@ to_stand k w l h tables order = record {
     ledger = record { frames = h.frames; lists = record { active = sym h.active }; tables = h.tables; swap = h.swap };
     areas = h.areas;
     bytes = h.bytes;
-    headers = no_headers (setting (count k)) l h.on;
+    headers = no_headers (setting (frame_count k)) l h.on;
   };
   tables = tables;
   anons = order;
 }
 
-pub of_keeps : (k : Mem) (s : State) → Keeps k s → Parts (setting (count k)) (view k) s.world s.ledger
+pub of_keeps : (k : Mem) (s : State) → Keeps k s → Parts (setting (frame_count k)) (view k) s.world s.ledger
 of_keeps k s h = of_stand k s.world s.ledger (record {
   in_order = h.stands.sound.ledger.in_order;
   at_pages = h.stands.sound.at_pages;

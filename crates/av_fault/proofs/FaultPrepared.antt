@@ -34,7 +34,7 @@ use Rattle.av_plain.specs.World.{Page, World, pages}
 use Rattle.av_plain.specs.Ledger.{Ledger, Entry, Zero, InFrame, InSlot, entry, frame_at}
 use Rattle.av_plain.specs.Device.{no_device}
 use Rattle.av_plain.specs.Stands.{IsClean, IsKept, IsKeptAt, LedgerStands, prot_of}
-use Rattle.av_reclaim.specs.Mem.{KeepsWithin, count, ranges_of, setting}
+use Rattle.av_reclaim.specs.Mem.{KeepsWithin, frame_count, ranges_of, setting}
 use Rattle.av_reclaim.proofs.MemLaws.{alive_is, all_apart, prot_on, prots_are}
 use Rattle.av_reclaim.proofs.AnonLaws.{area_chain, lengths_alike, shown_chain}
 
@@ -258,7 +258,7 @@ within_prepared mid w l spaces now p page len next h alive changed fit = record 
   anons = fit;
 }
   where
-    ledger : LedgerStands (setting (count mid)) (view mid) l
+    ledger : LedgerStands (setting (frame_count mid)) (view mid) l
     ledger = h.parts.ledger
 
     lives_same : (q : ℕ) → is_some (areas_of spaces.processes q) ≡ is_some (areas_of mid.spaces.processes q)

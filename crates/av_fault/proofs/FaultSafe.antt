@@ -23,7 +23,7 @@ use Rattle.av_spaces.specs.Spaces.{Spaces, areas_of, pages_of}
 use Rattle.av_reclaim.specs.declared.mem.Mem.{Mem}
 use Rattle.av_fault.specs.declared.fault.Touched.TheVariants.{Ready}
 use Rattle.av_spaces.specs.Kin.{AnonsFit}
-use Rattle.av_reclaim.specs.Mem.{ranges_of, setting, count, plain, view, Keeps, IsSteady}
+use Rattle.av_reclaim.specs.Mem.{ranges_of, setting, frame_count, plain, view, Keeps, IsSteady}
 use Rattle.av_fault.specs.Fault.{is_permitted, frame_named, IsTouched}
 use Rattle.av_fault.proofs.FaultParts.{of_keeps, as_pte}
 use Rattle.av_reclaim.proofs.MemLaws.{prot_on, prots_are, entry_put_in}
@@ -31,7 +31,7 @@ use Rattle.av_fault.proofs.FaultTouched.{IsServed, again, marked, read_marked}
 use Rattle.av_fault.proofs.FaultServes.{named_entry, not_away}
 
 -- a frame that is free is named by no entry
-pub free_unmapped : (k : Mem) (f : ℕ) (rest : List ℕ) → IsSteady k → (shown k.frames).free ≡ f ∷ rest → f < count k → (shown k.frames).maps f ≡ 0
+pub free_unmapped : (k : Mem) (f : ℕ) (rest : List ℕ) → IsSteady k → (shown k.frames).free ≡ f ∷ rest → f < frame_count k → (shown k.frames).maps f ≡ 0
 free_unmapped k f rest steady first below =
     let parts = of_keeps k steady.0 steady.1 in
     let free : is_free steady.0.ledger f ≡ true = sym (parts.frames.free f below) ∙ ap (is_in f) first ∙ ap (λ b. b || is_in f rest) (itself f) in
@@ -39,12 +39,12 @@ free_unmapped k f rest steady first below =
 
 -- a frame that an entry of the ledger names is one of the machine's, and is counted
 pub named_frame : (k : Mem) (s : State) (p page g : ℕ) (was : Bool) → Keeps k s → entry s.ledger (p, page) ≡ Some (InFrame g was) →
-    (g < count k) × (0 < map_count s.ledger g)
+    (g < frame_count k) × (0 < map_count s.ledger g)
 named_frame k s p page g was keeps is =
     let some : 0 < map_count s.ledger g = how_many-found (names_frame g) (p, page) s.ledger.entries (InFrame g was) is (itself g) in
     (keeps.stands.sound.ledger.in_range g (omega (arith, some)), some)
 
-pub entry_frame : (k : Mem) (p page g : ℕ) → IsSteady k → frame_named (entry_at k.tables p page) ≡ Some g → (g < count k) × (0 < (shown k.frames).maps g)
+pub entry_frame : (k : Mem) (p page g : ℕ) → IsSteady k → frame_named (entry_at k.tables p page) ≡ Some g → (g < frame_count k) × (0 < (shown k.frames).maps g)
 entry_frame k p page g steady named =
     let both = named_entry g (entry_at k.tables p page) (entry steady.0.ledger (p, page)) named (steady.1.stands.parts.ledger.tables.entries p page) in
     let frame = named_frame k steady.0 p page g both.0 steady.1 both.1 in
@@ -53,7 +53,7 @@ entry_frame k p page g steady named =
 -- no entry is a slot
 pub none_away : (k : Mem) (p page : ℕ) (t : Slot) → IsSteady k → entry_at k.tables p page ≡ Away t → ⊥
 none_away k p page t steady is =
-    not_away (setting (count k)) (view k) steady.0.world steady.0.ledger (p, page) t (of_keeps k steady.0 steady.1) (λ s. refl)
+    not_away (setting (frame_count k)) (view k) steady.0.world steady.0.ledger (p, page) t (of_keeps k steady.0 steady.1) (λ s. refl)
     (sym (steady.1.stands.parts.ledger.tables.entries p page) ∙ ap (λ e. entry_of (plain e)) is)
 
 -- a process that may access a page has a table

@@ -34,7 +34,7 @@ use Rattle.av_plain.specs.Areas.{Anons, Areas, Homes, chain_by, rmap_after_all}
 use Rattle.av_plain.specs.Covered.{IsRmapSound}
 use Rattle.av_plain.proofs.Covered.{sound-set}
 use Rattle.av_spaces.specs.Kin.{AnonsFit}
-use Rattle.av_reclaim.specs.Mem.{setting, count, view, Keeps, KeepsWithin, HasTables}
+use Rattle.av_reclaim.specs.Mem.{setting, frame_count, view, Keeps, KeepsWithin, HasTables}
 use Rattle.av_fault.specs.Fault.{HasRmap, IsReady, end_of, is_permitted, IsTouched, IsTaken}
 use Rattle.av_fault.proofs.FaultParts.{Parts, changed, as_pte, of_keeps, to_stand, no_swap}
 use Rattle.av_fault.proofs.FaultEntries.{at_most_one, zeroed, seen, given, given_to, entry_given, once_named}
@@ -151,10 +151,11 @@ takes_no_slot (Aged g) f e = refl
 pub tables_still : (old new : Mem) → HasTables old → has new.tables ≡ has old.tables → (view new).areas ≡ (view old).areas → HasTables new
 tables_still old new h tables areas = λ p. ap (λ f. f p) tables ∙ h p ∙ sym (ap (λ f. is_some (ranges_in (f p))) areas)
 
-pub stand_now : (old new : Mem) (w : World) (l : Ledger) (v : View) → view new ≡ v → count new ≡ count old → Parts (setting (count old)) v w l → HasTables new →
+pub stand_now : (old new : Mem) (w : World) (l : Ledger) (v : View) → view new ≡ v → frame_count new ≡ frame_count old → Parts (setting (frame_count old)) v
+    w l → HasTables new →
     AnonsFit new.spaces new.anons → KeepsWithin new w l
 stand_now old new w l v is same parts tables order = to_stand new w l
-    (subst (λ n. Parts (setting n) (view new) w l) (sym same) (subst (λ v. Parts (setting (count old)) v w l) (sym is) parts)) tables order
+    (subst (λ n. Parts (setting n) (view new) w l) (sym same) (subst (λ v. Parts (setting (frame_count old)) v w l) (sym is) parts)) tables order
 
 -- the anon_vmas are as they were
 pub anons_still : (v v' : View) (areas : Areas) (anons : Anons) → v'.anons ≡ v.anons → AnonsStand v areas anons → AnonsStand v' areas anons
@@ -179,14 +180,14 @@ rmap_now s k keeps = rmap_still s k k keeps refl refl refl
 -- a page is made ready, before its area prepares its anon_vma and its frame gets a home
 pub record IsServed (s : State) (mid : Mem) (write : Bool) (k : Key) (before now added : List Note) (touched : Touched) : Type 0 where
   pub notes : now ≡ before ++ added
-  pub touches : Touches (setting (count mid)) s.world s.ledger write k added (end_of touched)
+  pub touches : Touches (setting (frame_count mid)) s.world s.ledger write k added (end_of touched)
   pub ready : IsReady write (after_all s.ledger (page_events write k added (end_of touched))) k touched
   pub parts : KeepsWithin mid s.world (after_all s.ledger (page_events write k added (end_of touched)))
-  pub free : ChoosesAll (setting (count mid)) None s.ledger (page_events write k added (end_of touched)) s.free (free_of (view mid))
+  pub free : ChoosesAll (setting (frame_count mid)) None s.ledger (page_events write k added (end_of touched)) s.free (free_of (view mid))
 
 -- and after it has
 pub to_touched : (s : State) (mid new : Mem) (write : Bool) (k : Key) (before now added : List Note) (touched : Touched) →
-    IsServed s mid write k before now added touched → count mid ≡ count new → free_of (view mid) ≡ free_of (view new)
+    IsServed s mid write k before now added touched → frame_count mid ≡ frame_count new → free_of (view mid) ≡ free_of (view new)
     → KeepsWithin new s.world (after_all s.ledger (page_events write k added (end_of touched))) →
     HasRmap new (rmap_after_all s.ledger (page_events write k added (end_of touched)) (rmap_of s))
     → IsRmapSound (after_all s.ledger (page_events write k added (end_of touched)))
@@ -198,13 +199,13 @@ to_touched s mid new write k before now added touched h same free parts rmap rea
   ready = h.ready;
   parts = parts;
   free = subst (λ n. ChoosesAll (setting n) None s.ledger (page_events write k added (end_of touched)) s.free (free_of (view new))) same
-      (subst (ChoosesAll (setting (count mid)) None s.ledger (page_events write k added (end_of touched)) s.free) free h.free);
+      (subst (ChoosesAll (setting (frame_count mid)) None s.ledger (page_events write k added (end_of touched)) s.free) free h.free);
   rmap = rmap;
   reach = reach;
 }
 
 module _ (s : State) (old new : Mem) (p page : ℕ) (notes : List Note) (keeps : Keeps old s) where
-  parts : Parts (setting (count old)) (view old) s.world s.ledger
+  parts : Parts (setting (frame_count old)) (view old) s.world s.ledger
   parts = of_keeps old s keeps
 
   -- the page is not mapped so
@@ -231,23 +232,23 @@ module _ (s : State) (old new : Mem) (p page : ℕ) (notes : List Note) (keeps :
         notes = sym (append-nil notes);
         touches = (
           allowed_is (view old) s.world false p page keeps.stands.parts.areas ∙ allowed,
-          serves (setting (count old)) (sparing s.world) s.ledger false
+          serves (setting (frame_count old)) (sparing s.world) s.ledger false
               (p, page) [] Ready (ap (need false s.ledger) is) refl refl (of_keeps old s keeps).cache,
         );
         ready = (ap (λ l. entry l (p, page)) still ∙ is, refl);
         parts = subst (KeepsWithin old s.world) (sym still) (to_stand old s.world s.ledger (of_keeps old s keeps) keeps.tables keeps.anons);
         free = (
           s.free,
-          chooses-kept (setting (count old)) None s.ledger (Used false (p, page)) s.free
-              (unslotted (count old) s.ledger (Used false (p, page)) s.free.slots refl refl) refl
-              (none_freed (setting (count old)) s.ledger (after_use false (p, page) s.ledger) still),
+          chooses-kept (setting (frame_count old)) None s.ledger (Used false (p, page)) s.free
+              (unslotted (frame_count old) s.ledger (Used false (p, page)) s.free.slots refl refl) refl
+              (none_freed (setting (frame_count old)) s.ledger (after_use false (p, page) s.ledger) still),
           keeps.stands.free,
         );
         rmap = rmap_now s old keeps;
         reach = subst (λ l. IsRmapSound l (rmap_of s)) (sym still) keeps.stands.reach;
       }
 
-  module _ (processes : has new.tables ≡ has old.tables) (same : count new ≡ count old) (order : AnonsFit new.spaces new.anons) where
+  module _ (processes : has new.tables ≡ has old.tables) (same : frame_count new ≡ frame_count old) (order : AnonsFit new.spaces new.anons) where
     -- where the areas, anon_vmas and homes are as they were they are those of the state
     same_rmap : (v : View) → view new ≡ v → v.areas ≡ (view old).areas → v.anons ≡ (view old).anons → v.homes ≡ (view old).homes → HasRmap new (rmap_of s)
     same_rmap v is areas anons homes = rmap_still s old new keeps (ap (λ (v : View). v.areas) is ∙ areas) (ap (λ (v : View). v.anons) is ∙ anons)
@@ -256,16 +257,16 @@ module _ (s : State) (old new : Mem) (p page : ℕ) (notes : List Note) (keeps :
     -- no frame is free
     pub starved : (n : Need) (out : OutOf) → view new ≡ view old → is_permitted true (prot_of (ranges_in ((view old).areas p)) page) ≡ true →
         need true s.ledger (entry s.ledger (p, page)) ≡ n → wants_frame n ≡ true → (view old).free ≡ []
-        → out ≡ out_of (setting (count old)) (pinned_by n) (sparing s.world s.ledger (pinned_by n)) s.ledger →
+        → out ≡ out_of (setting (frame_count old)) (pinned_by n) (sparing s.world s.ledger (pinned_by n)) s.ledger →
         IsTouched s new true (p, page) notes notes (Stopped (Oom out))
     starved n out is allowed needs wants empty numbers = record {
       added = [];
       notes = sym (append-nil notes);
       touches = subst (λ c. Touches (setting c) s.world s.ledger true (p, page) [] (Some (Starved out))) (sym same) (
         allowed_is (view old) s.world true p page keeps.stands.parts.areas ∙ allowed,
-        runs_out (setting (count old)) s.world s.ledger (p, page) n out
-            (no_swap (setting (count old)) (view old) s.world s.ledger (of_keeps old s keeps)) needs wants
-            (nothing_free (setting (count old)) (view old) s.world s.ledger (of_keeps old s keeps) empty) numbers,
+        runs_out (setting (frame_count old)) s.world s.ledger (p, page) n out
+            (no_swap (setting (frame_count old)) (view old) s.world s.ledger (of_keeps old s keeps)) needs wants
+            (nothing_free (setting (frame_count old)) (view old) s.world s.ledger (of_keeps old s keeps) empty) numbers,
       );
       ready = tt;
       parts = stand_now old new s.world s.ledger (view old) is same (of_keeps old s keeps)
@@ -287,7 +288,7 @@ module _ (s : State) (old new : Mem) (p page : ℕ) (notes : List Note) (keeps :
           notes = sym (append-nil notes);
           touches = subst (λ c. Touches (setting c) s.world s.ledger write (p, page) [] None) (sym same) (
             permit,
-            serves (setting (count old)) (sparing s.world) s.ledger write (p, page) [] Ready (needs write own) refl refl
+            serves (setting (frame_count old)) (sparing s.world) s.ledger write (p, page) [] Ready (needs write own) refl refl
                 (of_keeps old s keeps).cache,
           );
           ready = (
@@ -296,13 +297,14 @@ module _ (s : State) (old new : Mem) (p page : ℕ) (notes : List Note) (keeps :
                 (own writes),
           );
           parts = subst (KeepsWithin new s.world) (sym use_is) (stand_now old new s.world (set_entry (p, page) (InFrame f true) s.ledger) _ is same
-              (seen (setting (count old)) (view old) s.world s.ledger p page f was bit (of_keeps old s keeps) (there_is s.world write p page permit) named few)
+              (seen (setting (frame_count old)) (view old) s.world s.ledger p page f was bit (of_keeps old s keeps) (there_is s.world write p page permit)
+                  named few)
               (tables_still old new keeps.tables processes (ap (λ (v : View). v.areas) is)) order);
           free = subst (λ n. ChoosesAll (setting n) None s.ledger (page_events write (p, page) [] None) s.free (free_of (view new))) (sym same) (
             s.free,
-            chooses-kept (setting (count old)) None s.ledger (Used write (p, page)) s.free
-                (unslotted (count old) s.ledger (Used write (p, page)) s.free.slots refl refl) refl
-                (seen_frees_none (setting (count old)) s.ledger (after_use write (p, page) s.ledger) (p, page) f was use_is
+            chooses-kept (setting (frame_count old)) None s.ledger (Used write (p, page)) s.free
+                (unslotted (frame_count old) s.ledger (Used write (p, page)) s.free.slots refl refl) refl
+                (seen_frees_none (setting (frame_count old)) s.ledger (after_use write (p, page) s.ledger) (p, page) f was use_is
                 (of_keeps old s keeps).in_order named),
             ap free_of is ∙ keeps.stands.free,
           );
@@ -338,26 +340,26 @@ module _ (s : State) (old new : Mem) (p page : ℕ) (notes : List Note) (keeps :
             notes = added;
             touches = subst (λ c. Touches (setting c) s.world s.ledger false (p, page) (Zeroed p (4096 * page) ∷ []) None) (sym same) (
               permit,
-              serves (setting (count old)) (sparing s.world) s.ledger false (p, page) (Zeroed p (4096 * page) ∷ []) ZeroPage
+              serves (setting (frame_count old)) (sparing s.world) s.ledger false (p, page) (Zeroed p (4096 * page) ∷ []) ZeroPage
                   (ap (need false s.ledger) none) refl refl (of_keeps old s keeps).cache,
             );
             ready = (ap (λ l. entry l (p, page)) after ∙ entry_put s.ledger (p, page) Zero, refl);
             parts = subst (KeepsWithin new s.world) (sym after) (stand_now old new s.world (set_entry (p, page) Zero s.ledger) _ is same
-                (zeroed (setting (count old)) (view old) s.world s.ledger p page (of_keeps old s keeps) (there_is s.world false p page permit) none)
+                (zeroed (setting (frame_count old)) (view old) s.world s.ledger p page (of_keeps old s keeps) (there_is s.world false p page permit) none)
                 (tables_still old new keeps.tables processes (ap (λ (v : View). v.areas) is)) order);
             free = subst (λ n. ChoosesAll (setting n) None s.ledger (page_events false (p, page) (Zeroed p (4096 * page) ∷ []) None) s.free
                 (free_of (view new))) (sym same) (
                   s.free,
-                  chooses-kept (setting (count old)) None s.ledger (Noted (Zeroed p (4096 * page))) s.free
-                      (unslotted (count old) s.ledger (Noted (Zeroed p (4096 * page))) s.free.slots refl refl) refl
-                      (subst (λ l. new_free (setting (count old)) s.ledger l ≡ []) (sym put)
-                      (new_free-set (setting (count old)) (p, page) Zero s.ledger (of_keeps old s keeps).in_order
+                  chooses-kept (setting (frame_count old)) None s.ledger (Noted (Zeroed p (4096 * page))) s.free
+                      (unslotted (frame_count old) s.ledger (Noted (Zeroed p (4096 * page))) s.free.slots refl refl) refl
+                      (subst (λ l. new_free (setting (frame_count old)) s.ledger l ≡ []) (sym put)
+                      (new_free-set (setting (frame_count old)) (p, page) Zero s.ledger (of_keeps old s keeps).in_order
                       (λ g. subst (λ o. weight (names_frame g) o ≤ 0) (sym none) (omega arith)))),
                   (
                     s.free,
-                    chooses-kept (setting (count old)) None (after_note (Zeroed p (4096 * page)) s.ledger) (Used false (p, page)) s.free
-                        (unslotted (count old) (after_note (Zeroed p (4096 * page)) s.ledger) (Used false (p, page)) s.free.slots refl refl) refl
-                        (none_freed (setting (count old)) (after_note (Zeroed p (4096 * page)) s.ledger)
+                    chooses-kept (setting (frame_count old)) None (after_note (Zeroed p (4096 * page)) s.ledger) (Used false (p, page)) s.free
+                        (unslotted (frame_count old) (after_note (Zeroed p (4096 * page)) s.ledger) (Used false (p, page)) s.free.slots refl refl) refl
+                        (none_freed (setting (frame_count old)) (after_note (Zeroed p (4096 * page)) s.ledger)
                         (after_use false (p, page) (after_note (Zeroed p (4096 * page)) s.ledger)) (after ∙ sym put)),
                     ap free_of is ∙ keeps.stands.free,
                   ),
@@ -370,14 +372,14 @@ module _ (s : State) (old new : Mem) (p page : ℕ) (notes : List Note) (keeps :
       pub given_now : (note : Note) (f : ℕ) (bytes maps : ℕ → ℕ) → now ≡ notes ++ note ∷ [] → IsTaken old new p page f bytes maps →
           is_permitted true (prot_of (ranges_in ((view old).areas p)) page) ≡ true
           → after_note note s.ledger ≡ given_to p page f s.ledger → frame_in_note note ≡ Some f → s.free ≡ frames_free (f ∷ (view new).free) →
-          Serves (setting (count old)) (sparing s.world) s.ledger true (p, page) (note ∷ [])
+          Serves (setting (frame_count old)) (sparing s.world) s.ledger true (p, page) (note ∷ [])
           → Holds (pages s.world p page) bytes
           → ((g : ℕ) → maps g + weight (names_frame g) (entry s.ledger (p, page)) ≡ (view old).maps g + cond (g == f) 1 0)
           → ((g : ℕ) → 0 < weight (names_frame g) (entry s.ledger (p, page)) → 1 < (view old).maps g)
           → ((t : Slot) → weight (names_slot t) (entry s.ledger (p, page)) ≡ 0)
           → IsServed s new true (p, page) notes now (note ∷ []) (ReadyAt f)
       given_now note f bytes maps added is allowed note_is takes first lawful holds counts many no_slot =
-          let m = setting (count old) in
+          let m = setting (frame_count old) in
           let old_parts = of_keeps old s keeps in
           let mid = given_to p page f s.ledger in
           let permit : permits true (pages s.world p page) ≡ true = allowed_is (view old) s.world true p page keeps.stands.parts.areas ∙ allowed in
@@ -403,13 +405,13 @@ module _ (s : State) (old new : Mem) (p page : ℕ) (notes : List Note) (keeps :
               free_of (view new),
               subst (λ free. Chooses m None s.ledger (Noted note) free (free_of (view new))) (sym first)
                   (chooses-taken m None s.ledger (Noted note) f (view new).free no_slots
-                  (unslotted (count old) s.ledger (Noted note) no_slots refl (takes_no_slot note f takes)) takes
+                  (unslotted (frame_count old) s.ledger (Noted note) no_slots refl (takes_no_slot note f takes)) takes
                   (subst (λ l. new_free m s.ledger l ≡ []) (sym note_is)
                   (given_frees_none m (view old) s.world s.ledger p page f (view new).free bytes maps old_parts mid_parts counts many))),
               (
                 free_of (view new),
                 chooses-kept m None (after_note note s.ledger) (Used true (p, page)) (free_of (view new))
-                    (unslotted (count old) (after_note note s.ledger) (Used true (p, page)) no_slots refl refl) refl
+                    (unslotted (frame_count old) (after_note note s.ledger) (Used true (p, page)) no_slots refl refl) refl
                     (subst (λ l. new_free m l (after_use true (p, page) l) ≡ []) (sym note_is)
                     (seen_frees_none m mid (after_use true (p, page) mid) (p, page) f false (used_is true mid (p, page) f false old_parts.cache named)
                     mid_parts.in_order named)),

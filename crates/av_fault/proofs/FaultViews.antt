@@ -7,14 +7,14 @@ use Rattle.av_pagetable.specs.declared.pte.Pte.TheVariants.{Here}
 use Rattle.av_pagetable.specs.Entries.{entry_at, with_entry}
 use Rattle.av_plain.specs.Stands.{Pte as Plain}
 use Rattle.av_reclaim.specs.declared.mem.Mem.{Mem}
-use Rattle.av_reclaim.specs.Mem.{plain, view_of_parts, view, count}
+use Rattle.av_reclaim.specs.Mem.{plain, view_of_parts, view, frame_count}
 use Rattle.av_reclaim.proofs.MemLaws.{plain_set}
 use Rattle.av_fault.specs.Fault.{IsTaken, taken_for}
 
 -- the first free frame has been taken for a page
 pub frame_taken : (old new : Mem) (p page f : ℕ) (bytes maps : ℕ → ℕ) (rest : List ℕ)
     → shown new.frames ≡ record (shown old.frames) { free = rest; bytes = with_at f bytes (shown old.frames).bytes; maps = maps }
-    → (shown old.frames).free ≡ f ∷ rest → is_in f rest ≡ false → f < count old
+    → (shown old.frames).free ≡ f ∷ rest → is_in f rest ≡ false → f < frame_count old
     → entry_at new.tables ≡ with_entry p page (Here f true true) (entry_at old.tables) → new.spaces ≡ old.spaces → new.anons ≡ old.anons
     → IsTaken old new p page f bytes maps
 frame_taken old new p page f bytes maps rest frames first gone below entries spaces anons =

@@ -19,7 +19,7 @@ use Rattle.av_plain.specs.Covered.{IsRmapSound}
 use Rattle.av_plain.specs.Transcript.{State, rmap_of}
 use Rattle.av_plain.specs.Stands.{View, AnonsStand, AreasAre, HomesAre, free_of}
 use Rattle.av_reclaim.specs.declared.mem.Mem.{Mem}
-use Rattle.av_reclaim.specs.Mem.{setting, count, plain, view, Keeps, KeepsWithin}
+use Rattle.av_reclaim.specs.Mem.{setting, frame_count, plain, view, Keeps, KeepsWithin}
 use Rattle.av_fault.specs.declared.fault.Stop.{Stop}
 use Rattle.av_fault.specs.declared.fault.Stop.TheVariants.{Segv, Oom}
 use Rattle.av_fault.specs.declared.fault.Touched.{Touched}
@@ -56,12 +56,12 @@ pub record IsTouched (s : State) (new : Mem) (write : Bool) (k : Key) (before no
     (touched : Touched) : Type 0 where
   pub added : List Note
   pub notes : now ≡ before ++ added
-  pub touches : Touches (setting (count new)) s.world s.ledger write k added (end_of touched)
+  pub touches : Touches (setting (frame_count new)) s.world s.ledger write k added (end_of touched)
   pub ready : IsReady write (after_all s.ledger (page_events write k added (end_of touched))) k
       touched
   pub parts : KeepsWithin new s.world
       (after_all s.ledger (page_events write k added (end_of touched)))
-  pub free : ChoosesAll (setting (count new)) None s.ledger
+  pub free : ChoosesAll (setting (frame_count new)) None s.ledger
       (page_events write k added (end_of touched)) s.free (free_of (view new))
   pub rmap : HasRmap new
       (rmap_after_all s.ledger (page_events write k added (end_of touched)) (rmap_of s))
@@ -72,7 +72,7 @@ pub record IsTouched (s : State) (new : Mem) (write : Bool) (k : Key) (before no
 pub record MakesReady (old new : Mem) (write : Bool) (k : Key) (before now : List Note)
     (result : Result Touched AllocError) : Type 0 where
   pub step : (s : State) → Keeps old s → IfOk result (IsTouched s new write k before now)
-  pub count : count new ≡ count old
+  pub count : frame_count new ≡ frame_count old
 
 -- ---- the parts of a fault
 
@@ -109,7 +109,7 @@ taken_for p page f bytes maps rest v = record v {
 pub record IsTaken (old new : Mem) (p page f : ℕ) (bytes maps : ℕ → ℕ) : Type 0 where
   pub first : (view old).free ≡ f ∷ (view new).free
   pub gone : is_in f (view new).free ≡ false
-  pub below : f < count old
+  pub below : f < frame_count old
   pub view : view new ≡ taken_for p page f bytes maps (view new).free (view old)
 
 -- a frame has been taken with these bytes and counts, or none is free and all is as it was

@@ -5,7 +5,7 @@ ghost use Rattle.av_base.specs.Limits.{top_page};
 ghost use Rattle.av_pagetable.specs.Entries.{entry_at, has};
 ghost use Rattle.av_pagetable.specs.declared.pte.Pte.TheVariants as Pte;
 ghost use Rattle.av_plain.specs.Stands.{prot_of};
-ghost use Rattle.av_reclaim.specs.Mem.{count, view, ranges_of, IsSteady};
+ghost use Rattle.av_reclaim.specs.Mem.{frame_count, view, ranges_of, IsSteady};
 ghost use Rattle.av_spaces.specs.Spaces.{pages_of};
 ghost use Rattle.av_plain.specs.World.{allows};
 ghost use Rattle.av_vma.specs.Pages.{IsWhole, home_of};
@@ -163,7 +163,7 @@ fn accessed_entry(frame: u32, write: bool) -> Pte
 
 /// Whether more than one entry names the frame.
 fn is_shared(mem: &Mem, frame: u32) -> bool
-    requires { frame < count mem.now }
+    requires { frame < frame_count mem.now }
     ensures { MatchBool result (1 < (view mem.now).maps frame) ((view mem.now).maps frame ≤ 1) }
 {
     mem.frames.maps(frame) > 1
@@ -171,8 +171,8 @@ fn is_shared(mem: &Mem, frame: u32) -> bool
 
 /// The numbers of an out-of-memory: the pinned frames, and all others, none of which has a slot.
 fn out_of(mem: &Mem, pinned: u32) -> OutOf
-    requires { pinned ≤ count mem.now }
-    ensures { result ≡ record { pinned = pinned; noslot = count mem.now - pinned; fault = 0 } }
+    requires { pinned ≤ frame_count mem.now }
+    ensures { result ≡ record { pinned = pinned; noslot = frame_count mem.now - pinned; fault = 0 } }
 {
     OutOf {
         pinned,
@@ -281,7 +281,7 @@ fn take_zeros(mem: &mut Mem, process: u16, page: u64) -> Result<Option<u32>, All
     ensures processes { has mem.new.tables ≡ has mem.old.tables }
     ensures spaces { mem.new.spaces ≡ mem.old.spaces }
     ensures anons { mem.new.anons ≡ mem.old.anons }
-    ensures count { count mem.new ≡ count mem.old }
+    ensures count { frame_count mem.new ≡ frame_count mem.old }
 {
     let Some(frame) = mem.frames.take() else {
         return Ok(None);
@@ -304,7 +304,7 @@ fn take_copy(mem: &mut Mem, process: u16, page: u64, from: u32) -> Result<Option
     ensures processes { has mem.new.tables ≡ has mem.old.tables }
     ensures spaces { mem.new.spaces ≡ mem.old.spaces }
     ensures anons { mem.new.anons ≡ mem.old.anons }
-    ensures count { count mem.new ≡ count mem.old }
+    ensures count { frame_count mem.new ≡ frame_count mem.old }
 {
     let Some(frame) = mem.frames.take() else {
         return Ok(None);

@@ -21,7 +21,7 @@ use Rattle.av_plain.proofs.Ledger.{entry-set, how_many-found, same_key, same_key
 use Rattle.av_plain.proofs.Ledger.NoSwap.{itself}
 use Rattle.av_plain.proofs.Ledger.Order.{both_first, both_second, is_less}
 use Rattle.av_reclaim.specs.declared.mem.Mem.{Mem}
-use Rattle.av_reclaim.specs.Mem.{HasLedger, SoundLedger, count, plain, setting, view}
+use Rattle.av_reclaim.specs.Mem.{HasLedger, SoundLedger, frame_count, plain, setting, view}
 use Rattle.av_reclaim.proofs.MemLaws.{no_cache}
 use Rattle.av_reclaim.proofs.Parts.{Parts, Stand, parts_of, seen_as}
 use Rattle.av_fork.specs.Entries.{HasForked, after_fork_entry}
@@ -330,7 +330,7 @@ all_given old new p q next first t none free = record {
 }
   where
     m : Setting
-    m = setting (count old)
+    m = setting (frame_count old)
 
     event : Event
     event = Forked p q (inheritance first p)

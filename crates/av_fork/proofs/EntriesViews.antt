@@ -18,7 +18,7 @@ use Rattle.av_plain.proofs.Ledger.{how_many-found}
 use Rattle.av_plain.proofs.Ledger.NoSwap.{itself}
 use Rattle.av_plain.proofs.Sound.Bound.{map_count-few}
 use Rattle.av_reclaim.specs.declared.mem.Mem.{Mem}
-use Rattle.av_reclaim.specs.Mem.{HasLedger, Keeps, SoundLedger, count, plain, setting, view, view_of_parts}
+use Rattle.av_reclaim.specs.Mem.{HasLedger, Keeps, SoundLedger, frame_count, plain, setting, view, view_of_parts}
 use Rattle.av_spaces.specs.Spaces.{AllSpaces}
 use Rattle.av_fork.specs.Entries.{after_fork_entry, after_map_ups, names, child_entry, without_write}
 use Rattle.av_pagetable.proofs.DirImages.{child_none}
@@ -34,14 +34,14 @@ in_error (Ok x) A is h = absurd (false≢true is)
 in_error (Err e) A is h = h
 
 -- what is seen alike stands for the same ledger
-pub same_ledger : (old new : Mem) (l : Ledger) → view new ≡ view old → count new ≡ count old → HasLedger old l → HasLedger new l
+pub same_ledger : (old new : Mem) (l : Ledger) → view new ≡ view old → frame_count new ≡ frame_count old → HasLedger old l → HasLedger new l
 same_ledger old new l is counts stands = subst (λ n. SoundLedger (setting n) (view new) l) (sym counts)
-    (subst (λ v. SoundLedger (setting (count old)) v l) (sym is) stands)
+    (subst (λ v. SoundLedger (setting (frame_count old)) v l) (sym is) stands)
 
 -- in what a kernel stands for no more entries name a frame than processes may live
 pub few-entries : (k : Mem) (s : State) → Keeps k s → (f : ℕ) → (view k).maps f ≤ most_processes
 few-entries k s keeps f = subst (λ n. n ≤ most_processes) (sym (keeps.stands.parts.ledger.frames.maps f))
-    (map_count-few (setting (count k)) s.world s.ledger f keeps.stands.sound)
+    (map_count-few (setting (frame_count k)) s.world s.ledger f keeps.stands.sound)
 
 equal : (a b : ℕ) → (a == b) ≡ true → a ≡ b
 equal a b h = grind (arith, nat_tests, h)

@@ -16,7 +16,7 @@ use Rattle.av_plain.proofs.AreasLeft.{rmap_after_all-append}
 use Rattle.av_plain.proofs.Access.{after_all-append, notes_of-append, notes_of-note_events, chooses-append, accesses-append, alike-by-allowed}
 use Rattle.av_reclaim.specs.declared.mem.Mem.{Mem}
 use Rattle.av_fault.specs.declared.fault.Stop.{Stop}
-use Rattle.av_reclaim.specs.Mem.{setting, count}
+use Rattle.av_reclaim.specs.Mem.{setting, frame_count}
 use Rattle.av_kernel.specs.Page.{IsPageStep, ShowsPiece, world_after}
 use Rattle.av_kernel.specs.Access.{IsAccess, IsPiece, world_served}
 use Rattle.av_fault.specs.Fault.{stop_of}
@@ -76,27 +76,28 @@ record Behind (a k page at : ℕ) : Type 0 where
   begins : 1 ≤ k → at ≡ 0
 
 module _ (s : State) (mid new : Mem) (write : Bool) (p a k page at : ℕ) (xs ys : List ℕ) (before now after : List Note)
-    (same : count new ≡ count mid) (behind : Behind a k page at) (h : IsAccess s mid write p a k xs before now None k) where
+    (same : frame_count new ≡ frame_count mid) (behind : Behind a k page at) (h : IsAccess s mid write p a k xs before now None k) where
   notes-both : (end : Option faults.Stop) (added : List Note) → after ≡ now ++ added →
       after ≡ before ++ notes_of (h.events ++ page_events write (p, page) added end)
   notes-both end added is = is ∙ ap (λ ns. ns ++ added) h.notes ∙ append_assoc before (notes_of h.events) added
       ∙ ap (λ ns. before ++ ns) (ap (λ ns. notes_of h.events ++ ns) (sym (notes-happening write (p, page) added end))
       ∙ sym (notes_of-append h.events (page_events write (p, page) added end)))
 
-  accesses-both : (pages : List (Bool × ℕ)) (more : List Event) (end : End) → Accesses (setting (count new)) h.next.world h.next.ledger p pages more end
-      → Accesses (setting (count new)) s.world s.ledger p (pages_of_access write a k ++ pages) (h.events ++ more) end
-  accesses-both pages more end g = accesses-append (setting (count new)) s.world h.next.world s.ledger p (pages_of_access write a k) pages h.events more end
+  accesses-both : (pages : List (Bool × ℕ)) (more : List Event) (end : End) → Accesses (setting (frame_count new)) h.next.world h.next.ledger p pages more end
+      → Accesses (setting (frame_count new)) s.world s.ledger p (pages_of_access write a k ++ pages) (h.events ++ more) end
+  accesses-both pages more end g = accesses-append (setting (frame_count new)) s.world h.next.world s.ledger p (pages_of_access write a k) pages h.events
+      more end
       (alike-by-allowed s.world h.next.world p (λ wants page. allowed-served s.world write wants p a xs page
       ∙ ap (λ w. is_allowed w wants (p, page)) (sym h.world)))
       (subst (λ n. Accesses (setting n) s.world s.ledger p (pages_of_access write a k) h.events Whole) (sym same)
-      (subst (λ end. Accesses (setting (count mid)) s.world s.ledger p (pages_of_access write a k) h.events end) h.is_end.0 h.accesses))
-      (subst (λ l. Accesses (setting (count new)) h.next.world l p pages more end) h.ledger g)
+      (subst (λ end. Accesses (setting (frame_count mid)) s.world s.ledger p (pages_of_access write a k) h.events end) h.is_end.0 h.accesses))
+      (subst (λ l. Accesses (setting (frame_count new)) h.next.world l p pages more end) h.ledger g)
 
-  free-both : (more : List Event) (free : Free) → ChoosesAll (setting (count new)) None h.next.ledger more h.next.free free →
-      ChoosesAll (setting (count new)) None s.ledger (h.events ++ more) s.free free
-  free-both more free g = chooses-append (setting (count new)) None s.ledger h.events more s.free h.next.free free
+  free-both : (more : List Event) (free : Free) → ChoosesAll (setting (frame_count new)) None h.next.ledger more h.next.free free →
+      ChoosesAll (setting (frame_count new)) None s.ledger (h.events ++ more) s.free free
+  free-both more free g = chooses-append (setting (frame_count new)) None s.ledger h.events more s.free h.next.free free
       (subst (λ n. ChoosesAll (setting n) None s.ledger h.events s.free h.next.free) (sym same) h.free)
-      (subst (λ l. ChoosesAll (setting (count new)) None l more h.next.free free) h.ledger g)
+      (subst (λ l. ChoosesAll (setting (frame_count new)) None l more h.next.free free) h.ledger g)
 
   ledger-both : (more : List Event) (l : Ledger) → l ≡ after_all h.next.ledger more → l ≡ after_all s.ledger (h.events ++ more)
   ledger-both more l is = is ∙ ap (λ x. after_all x more) h.ledger ∙ sym (after_all-append s.ledger h.events more)
@@ -112,7 +113,7 @@ module _ (s : State) (mid new : Mem) (write : Bool) (p a k page at : ℕ) (xs ys
     events = h.events ++ page_events write (p, page) g.added None;
     notes = notes-both None g.added g.notes;
     end = Whole;
-    accesses = subst (λ pages. Accesses (setting (count new)) s.world s.ledger p pages (h.events ++ page_events write (p, page) g.added None) Whole)
+    accesses = subst (λ pages. Accesses (setting (frame_count new)) s.world s.ledger p pages (h.events ++ page_events write (p, page) g.added None) Whole)
         (sym (touched-one write a k m page at behind.is small some behind.begins))
         (accesses-both ((write, page) ∷ []) _ Whole (one_served _ h.next.world h.next.ledger write p page g.added g.touches));
     is_end = (refl, refl);
@@ -132,7 +133,8 @@ module _ (s : State) (mid new : Mem) (write : Bool) (p a k page at : ℕ) (xs ys
     events = h.events ++ page_events write (p, page) g.added (Some (stop_of stop));
     notes = notes-both (Some (stop_of stop)) g.added g.notes;
     end = Stopped page (stop_of stop);
-    accesses = subst (λ pages. Accesses (setting (count new)) s.world s.ledger p pages (h.events ++ page_events write (p, page) g.added (Some (stop_of stop)))
+    accesses = subst (λ pages. Accesses (setting (frame_count new)) s.world s.ledger p pages
+        (h.events ++ page_events write (p, page) g.added (Some (stop_of stop)))
         (Stopped page (stop_of stop))) (sym (touched-more write a k n page at behind.is behind.small less behind.begins))
         (accesses-both ((write, page) ∷ map (λ page. (write, page)) (range_with_len (page + 1) (touches a n - (touches a k + 1)))) _ _
         (one_stopped _ h.next.world h.next.ledger write p page _ g.added (stop_of stop) g.touches));
@@ -177,7 +179,7 @@ none_left (Some stop) h = absurd (h stop refl)
 
 -- a page's step is taken from where the access stands
 module _ (s : State) (mid new : Mem) (write : Bool) (p a n k : ℕ) (piece : Piece) (xs ys : List ℕ) (before now after : List Note) (end : Option Stop)
-    (same : count new ≡ count mid) (is : IsPiece a n k piece) (less : k < n) (begins : 1 ≤ k → k < n → (a + k) % 4096 ≡ 0)
+    (same : frame_count new ≡ frame_count mid) (is : IsPiece a n k piece) (less : k < n) (begins : 1 ≤ k → k < n → (a + k) % 4096 ≡ 0)
     (h : IsAccess s mid write p a k xs before now None k) where
   behind : Behind a k piece.page piece.at
   behind = behind-piece a n k piece is less begins

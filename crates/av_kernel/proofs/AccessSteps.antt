@@ -22,7 +22,7 @@ use Rattle.av_fault.specs.declared.fault.Stop.TheVariants.{Segv, Oom}
 use Rattle.av_vma.specs.Pages.{Lengths}
 use Rattle.av_plain.specs.Areas.{Areas, Rmap, chain_length, next_areas, rmap_after_all}
 use Rattle.av_trace.specs.declared.command.Command.{Command}
-use Rattle.av_reclaim.specs.Mem.{Keeps, setting, count}
+use Rattle.av_reclaim.specs.Mem.{Keeps, setting, frame_count}
 use Rattle.av_fault.specs.Fault.{stop_of}
 use Rattle.av_plain.proofs.Transcript.{is_fork, next-plain}
 use Rattle.av_kernel.specs.Step.{MemSteps}
@@ -50,7 +50,7 @@ world-stopped w p a k bytes Segv = refl
 world-stopped w p a k bytes (Oom out) = refl
 
 module _ (s : State) (old new : Mem) (p a : ℕ) (before notes : List Note) (rows : List Row) (k : ℕ) (fresh : before ≡ []) (none : rows ≡ [])
-    (same : count new ≡ count old) (lived : lives s.world p ≡ true) (keeps : Keeps old s) where
+    (same : frame_count new ≡ frame_count old) (lived : lives s.world p ≡ true) (keeps : Keeps old s) where
   -- areas and anon_vmas are those that its events prepared
   rmap_still : (command : Command) (answer : Answer) → is_fork command ≡ false →
       ((long : Lengths) (on : Areas) → next_areas long on s.world command answer ≡ on) → (now : State) (events : List Event) →
@@ -78,7 +78,7 @@ module _ (s : State) (old new : Mem) (p a : ℕ) (before notes : List Note) (row
         answer = not_refused (lives s.world p) _ _ lived (
           Whole,
           shown,
-          subst (λ end. Accesses (setting (count old)) s.world s.ledger p (pages_of_access false a n) h.events end) h.is_end.0
+          subst (λ end. Accesses (setting (frame_count old)) s.world s.ledger p (pages_of_access false a n) h.events end) h.is_end.0
               (subst (λ m. Accesses (setting m) s.world s.ledger p (pages_of_access false a n) h.events h.end) same h.accesses),
           subst (λ k. Reads (pages s.world p) a k shown) h.is_end.1 reads,
           is,
@@ -106,7 +106,7 @@ module _ (s : State) (old new : Mem) (p a : ℕ) (before notes : List Note) (row
         answer = not_refused (lives s.world p) _ _ lived (
           Stopped h.is_end.0 (stop_of stop),
           shown,
-          subst (λ end. Accesses (setting (count old)) s.world s.ledger p (pages_of_access false a n) h.events end) h.is_end.1
+          subst (λ end. Accesses (setting (frame_count old)) s.world s.ledger p (pages_of_access false a n) h.events end) h.is_end.1
               (subst (λ m. Accesses (setting m) s.world s.ledger p (pages_of_access false a n) h.events h.end) same h.accesses),
           subst (λ k. Reads (pages s.world p) a k shown) h.is_end.2 reads,
           is ∙ answers-stopped a k h.is_end.0 stop shown h.is_end.2,
@@ -132,7 +132,7 @@ module _ (s : State) (old new : Mem) (p a : ℕ) (before notes : List Note) (row
       legal = record {
         answer = not_refused (lives s.world p) _ _ lived (
           Whole,
-          subst (λ end. Accesses (setting (count old)) s.world s.ledger p (pages_of_access true a (length bytes)) h.events end) h.is_end.0
+          subst (λ end. Accesses (setting (frame_count old)) s.world s.ledger p (pages_of_access true a (length bytes)) h.events end) h.is_end.0
               (subst (λ m. Accesses (setting m) s.world s.ledger p (pages_of_access true a (length bytes)) h.events h.end) same h.accesses),
           is,
           none,
@@ -158,7 +158,7 @@ module _ (s : State) (old new : Mem) (p a : ℕ) (before notes : List Note) (row
       legal = record {
         answer = not_refused (lives s.world p) _ _ lived (
           Stopped h.is_end.0 (stop_of stop),
-          subst (λ end. Accesses (setting (count old)) s.world s.ledger p (pages_of_access true a (length bytes)) h.events end) h.is_end.1
+          subst (λ end. Accesses (setting (frame_count old)) s.world s.ledger p (pages_of_access true a (length bytes)) h.events end) h.is_end.1
               (subst (λ m. Accesses (setting m) s.world s.ledger p (pages_of_access true a (length bytes)) h.events h.end) same h.accesses),
           is ∙ answers-stopped a k h.is_end.0 stop [] h.is_end.2,
           none,

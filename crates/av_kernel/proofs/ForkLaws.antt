@@ -30,7 +30,7 @@ use Rattle.av_plain.proofs.Sound.{no_entries}
 use Rattle.av_plain.proofs.Sound.Means.{says}
 use Rattle.av_plain.proofs.World.{pages-set, lives-set, length-set_new}
 use Rattle.av_reclaim.specs.declared.mem.Mem.{Mem}
-use Rattle.av_reclaim.specs.Mem.{setting, view, count, HasLedger, HasTables, Keeps}
+use Rattle.av_reclaim.specs.Mem.{setting, view, frame_count, HasLedger, HasTables, Keeps}
 use Rattle.av_reclaim.specs.Zap.{KeepsRest}
 use Rattle.av_reclaim.proofs.MemLaws.{alive_is, lives_is, all_apart, no_cache, prot_on, prots_are}
 use Rattle.av_anon.specs.declared.anons.Anons.{Anons as AnonSet}
@@ -46,7 +46,7 @@ use Rattle.av_kernel.proofs.ProcessLaws.{absent, at_number, new_is, new_refusal}
 
 -- where the parent lives, it is refused as its child
 pub fork_is : (k : Mem) (s : State) (p q : ℕ) → Keeps k s → is_some (areas_of k.spaces.processes p) ≡ true
-    → refusal (tests (setting (count k)) s.world s.ledger (Fork p q)) ≡ refusal (new_tests k.spaces.processes q)
+    → refusal (tests (setting (frame_count k)) s.world s.ledger (Fork p q)) ≡ refusal (new_tests k.spaces.processes q)
 fork_is k s p q keeps alive = ap (λ b. cond (not b) (Some Esrch) (new_refusal s.world q)) (sym (lives_is k s keeps p) ∙ alive) ∙ new_is k s q keeps
 
 -- ---- entries
@@ -55,7 +55,7 @@ fork_is k s p q keeps alive = ap (λ b. cond (not b) (Some Esrch) (new_refusal s
 pub entries_few : (k : Mem) (s : State) → Keeps k s → (f : ℕ) → (view k).maps f ≤ most_processes
 entries_few k s keeps f =
     let same = keeps.stands.parts.ledger.frames.maps f in
-    let named = (says (setting (count k)) s.world s.ledger keeps.stands.sound).mapped_few f in
+    let named = (says (setting (frame_count k)) s.world s.ledger keeps.stands.sound).mapped_few f in
     let few = keeps.stands.sound.world.few in
     omega (arith, same, named, few)
 
@@ -124,16 +124,16 @@ module _ (old mid : Mem) (tables : ProcessTables) (spaces : AllSpaces) (anons : 
     homes = shown.next.homes;
   }
 
-  allowed : refusal (tests (setting (count old)) s.world s.ledger (Fork p q)) ≡ None
+  allowed : refusal (tests (setting (frame_count old)) s.world s.ledger (Fork p q)) ≡ None
   allowed = fork_is old s p q keeps alive ∙ may
 
-  fork-step : IsStep (setting (count old)) s (Fork p q) (answer_only Done) next
+  fork-step : IsStep (setting (frame_count old)) s (Fork p q) (answer_only Done) next
   fork-step =
       let events = Forked p q (inheritance s.ledger p) ∷ [] in
       record {
         events = events;
         legal = record {
-          answer = subst (λ o. MatchOption o (Follows (setting (count old)) s.world s.ledger (Fork p q) events Done []) (λ e. Refuses e events Done []))
+          answer = subst (λ o. MatchOption o (Follows (setting (frame_count old)) s.world s.ledger (Fork p q) events Done []) (λ e. Refuses e events Done []))
               (sym allowed) (refl, refl, refl);
           notes = refl;
         };
@@ -141,7 +141,7 @@ module _ (old mid : Mem) (tables : ProcessTables) (spaces : AllSpaces) (anons : 
         ledger = refl;
         free = (
           free_of (view mid),
-          subst (λ free. Chooses (setting (count old)) None s.ledger (Forked p q (inheritance s.ledger p)) free (free_of (view mid)))
+          subst (λ free. Chooses (setting (frame_count old)) None s.ledger (Forked p q (inheritance s.ledger p)) free (free_of (view mid)))
               keeps.stands.free given.free,
           refl,
         );

@@ -51,7 +51,7 @@ use Rattle.av_reclaim.specs.declared.mem.Mem.{Mem}
 use Rattle.av_spaces.specs.Spaces.{AllSpaces, Spaces, areas_of, is_taken, pages_of as areas_on}
 use Rattle.av_plain.proofs.Transcript.{is_fork, next-plain}
 use Rattle.av_kernel.specs.Map.{set_on, GetsAreas, GetsProts, HomesStay, AreUnmapped}
-use Rattle.av_reclaim.specs.Mem.{ranges_of, setting, view, count, Keeps, IsSteady, HasLedger}
+use Rattle.av_reclaim.specs.Mem.{ranges_of, setting, view, frame_count, Keeps, IsSteady, HasLedger}
 use Rattle.av_reclaim.specs.Zap.{HasZapped}
 use Rattle.av_place.specs.Place.{protect_tests, IsProcess, IsPlaced, AreToUnmap}
 use Rattle.av_kernel.specs.Step.{MemSteps}
@@ -216,7 +216,7 @@ place-silent l p n (NoReplace a) r = refl
 -- ---- the pages of a range are replaced
 
 module _ (old new : Mem) (s : State) (command : Command) (reply : Reply) (p page n : ℕ) (o : Option Page) (on : Pages) (events : List Event)
-    (keeps : Keeps old s) (alive : is_some (ranges_of old.spaces.processes p) ≡ true) (same_count : count new ≡ count old)
+    (keeps : Keeps old s) (alive : is_some (ranges_of old.spaces.processes p) ≡ true) (same_count : frame_count new ≡ frame_count old)
     (taken : HasZapped old new s.ledger events) (entries : (q at : ℕ) →
     entry (after_all s.ledger events) (q, at) ≡ cond (q == p && within page n at) None (entry s.ledger (q, at)))
     (blank : Holds o (λ _. 0)) (spaces : GetsProts old.spaces.processes new.spaces.processes p
@@ -270,8 +270,9 @@ module _ (old new : Mem) (s : State) (command : Command) (reply : Reply) (p page
       own_area : (at : ℕ) → areas_on new.spaces.processes p at ≡ on at
       own_area at = areas p at ∙ ap (λ b. (cond b on (s.areas p)) at) (itself p)
 
-  pub replaced-steps : is_fork command ≡ false → IsLegal (setting (count old)) s.world s.ledger command reply events
-      → set_process s.world p (with_pages (pages s.world p) page n (λ _. o)) ≡ next_world (setting (count old)) s.world s.ledger events command reply.answer
+  pub replaced-steps : is_fork command ≡ false → IsLegal (setting (frame_count old)) s.world s.ledger command reply events
+      → set_process s.world p (with_pages (pages s.world p) page n (λ _. o)) ≡ next_world (setting (frame_count old)) s.world s.ledger events command
+          reply.answer
       → with_at p on s.areas ≡ next_areas (chain_length s.anons) s.areas s.world command reply.answer
       → ShowsAreas s.areas s.anons command reply.answer reply.rows → MemSteps old new s command reply
   replaced-steps plain legal world next shows =
@@ -283,7 +284,7 @@ module _ (old new : Mem) (s : State) (command : Command) (reply : Reply) (p page
         legal = legal;
         world = world;
         ledger = refl;
-        free = subst (λ free. ChoosesAll (setting (count old)) None s.ledger events free (free_of (view new))) keeps.stands.free taken.free;
+        free = subst (λ free. ChoosesAll (setting (frame_count old)) None s.ledger events free (free_of (view new))) keeps.stands.free taken.free;
         rmap =
             subst (λ r. IsRmapNext r s.world command reply.answer (rmap_of (state_after s p now on (after_all s.ledger events) (free_of (view new)) new.anons)))
             (sym silent) (next-plain (rmap_of s) s.world command reply.answer _ plain
@@ -304,21 +305,21 @@ lived : (k : Mem) (s : State) (p : ℕ) → Keeps k s → is_some (areas_of k.sp
 lived k s p keeps alive rest = ap (λ b. cond (not b) (Some Esrch) rest) (sym (lives_is k s keeps p) ∙ alive)
 
 pub munmap-refused : (k : Mem) (s : State) (p a len : ℕ) → Keeps k s → is_some (areas_of k.spaces.processes p) ≡ true →
-    (not (is_on_page a) || len == 0 || nat_lt top (a + len)) ≡ true → refusal (tests (setting (count k)) s.world s.ledger (Munmap p a len)) ≡ Some Einval
+    (not (is_on_page a) || len == 0 || nat_lt top (a + len)) ≡ true → refusal (tests (setting (frame_count k)) s.world s.ledger (Munmap p a len)) ≡ Some Einval
 munmap-refused k s p a len keeps alive none = lived k s p keeps alive (cond (not (is_on_page a) || len == 0 || nat_lt top (a + len)) (Some Einval) None)
     ∙ ap (λ b. cond b (Some Einval) None) none
 
 pub mprotect-refused : (k : Mem) (s : State) (p a len : ℕ) (prot : Prot) (error : Errno) → Keeps k s → is_some (areas_of k.spaces.processes p) ≡ true →
-    refusal (protect_tests a len) ≡ Some error → refusal (tests (setting (count k)) s.world s.ledger (Mprotect p a len prot)) ≡ Some error
+    refusal (protect_tests a len) ≡ Some error → refusal (tests (setting (frame_count k)) s.world s.ledger (Mprotect p a len prot)) ≡ Some error
 mprotect-refused k s p a len prot error keeps alive is = lived k s p keeps alive (refusal (protect_tests a len)) ∙ is
 
 module _ (k : Mem) (s : State) (p len : ℕ) (prot : Prot) (place : Place) (keeps : Keeps k s) (alive : is_some (areas_of k.spaces.processes p) ≡ true) where
-  pub mmap-tests-first : (len == 0) ≡ true → refusal (tests (setting (count k)) s.world s.ledger (Mmap p len prot place)) ≡ Some Einval
+  pub mmap-tests-first : (len == 0) ≡ true → refusal (tests (setting (frame_count k)) s.world s.ledger (Mmap p len prot place)) ≡ Some Einval
   mmap-tests-first none = lived k s p keeps alive _ ∙ ap (λ b. cond b (Some Einval)
       (cond (is_too_long len) (Some Enomem) (refusal (place_tests (pages s.world p) (pages_of len) place)))) none
 
   pub mmap-tests-second : (len == 0) ≡ false → is_too_long len ≡ true →
-      refusal (tests (setting (count k)) s.world s.ledger (Mmap p len prot place)) ≡ Some Enomem
+      refusal (tests (setting (frame_count k)) s.world s.ledger (Mmap p len prot place)) ≡ Some Enomem
   mmap-tests-second some long = lived k s p keeps alive _ ∙ ap (λ b. cond b (Some Einval)
       (cond (is_too_long len) (Some Enomem) (refusal (place_tests (pages s.world p) (pages_of len) place)))) some
       ∙ ap (λ b. cond b (Some Enomem) (refusal (place_tests (pages s.world p) (pages_of len) place))) long
@@ -327,10 +328,10 @@ module _ (k : Mem) (s : State) (p len : ℕ) (prot : Prot) (place : Place) (keep
 
 module _ (old new : Mem) (s : State) (p a len : ℕ) (keeps : Keeps old s) (alive : is_some (ranges_of old.spaces.processes p) ≡ true)
     (valid : (not (is_on_page a) || len == 0 || nat_lt top (a + len)) ≡ false)
-    (same_count : count new ≡ count old) (unmapped : AreUnmapped old new p (page_of a) (pages_of len)
+    (same_count : frame_count new ≡ frame_count old) (unmapped : AreUnmapped old new p (page_of a) (pages_of len)
     (after_unmap (page_of a) (page_of a + pages_of len) (areas_on old.spaces.processes p)) s.ledger
     (zaps_of s.ledger (keys_in s.ledger p (page_of a) (pages_of len)))) where
-  munmap-allowed : refusal (tests (setting (count old)) s.world s.ledger (Munmap p a len)) ≡ None
+  munmap-allowed : refusal (tests (setting (frame_count old)) s.world s.ledger (Munmap p a len)) ≡ None
   munmap-allowed = ap (λ b. cond (not b) (Some Esrch) (cond (not (is_on_page a) || len == 0 || nat_lt top (a + len)) (Some Einval) None))
       (sym (lives_is old s keeps p) ∙ sym (alive_is old.spaces.processes p) ∙ alive) ∙ ap (λ b. cond b (Some Einval) None) valid
 
@@ -345,7 +346,8 @@ module _ (old new : Mem) (s : State) (p a len : ℕ) (keeps : Keeps old s) (aliv
       (rmap_after_all-zaps s.ledger (keys_in s.ledger p (page_of a) (pages_of len)) s.ledger (rmap_of s))
       refl
       (record {
-        answer = subst (λ o. MatchOption o (Follows (setting (count old)) s.world s.ledger (Munmap p a len) events Done []) (λ e. Refuses e events Done []))
+        answer = subst (λ o. MatchOption o (Follows (setting (frame_count old)) s.world s.ledger (Munmap p a len) events Done [])
+            (λ e. Refuses e events Done []))
             (sym munmap-allowed) (refl, refl, refl);
         notes = sym unmapped.taken.notes;
       })
@@ -356,7 +358,8 @@ module _ (old new : Mem) (s : State) (p a len : ℕ) (keeps : Keeps old s) (aliv
 module _ (old : Mem) (s : State) (p len : ℕ) (prot : Prot) (place : Place) (keeps : Keeps old s) (alive : is_some (ranges_of old.spaces.processes p) ≡ true)
     (some : (len == 0) ≡ false) (fits : is_too_long len ≡ false) where
   -- the tests of its place are left
-  mmap-tests : refusal (tests (setting (count old)) s.world s.ledger (Mmap p len prot place)) ≡ refusal (place_tests (pages s.world p) (pages_of len) place)
+  mmap-tests : refusal (tests (setting (frame_count old)) s.world s.ledger (Mmap p len prot place)) ≡ refusal
+      (place_tests (pages s.world p) (pages_of len) place)
   mmap-tests = ap (λ b. cond (not b) (Some Esrch) (cond (len == 0) (Some Einval)
       (cond (is_too_long len) (Some Enomem) (refusal (place_tests (pages s.world p) (pages_of len) place)))))
       (sym (lives_is old s keeps p) ∙ sym (alive_is old.spaces.processes p) ∙ alive)
@@ -372,7 +375,7 @@ module _ (old : Mem) (s : State) (p len : ℕ) (prot : Prot) (place : Place) (ke
     step = record {
       events = [];
       legal = record {
-        answer = subst (λ o. MatchOption o (Follows (setting (count old)) s.world s.ledger (Mmap p len prot place) [] (Refused error) [])
+        answer = subst (λ o. MatchOption o (Follows (setting (frame_count old)) s.world s.ledger (Mmap p len prot place) [] (Refused error) [])
             (λ e. Refuses e [] (Refused error) [])) (sym (mmap-tests ∙ h.0))
             (None, h.1, ap Refused h.2, sym (none_unmapped_for place h.1), refl);
         notes = refl;
@@ -418,7 +421,7 @@ module _ (old : Mem) (s : State) (p len : ℕ) (prot : Prot) (place : Place) (ke
 
   module _ (mid : Mem) (spaces : AllSpaces) (anons : AnonSet) (page : ℕ) (placed : IsPlaced (pages s.world p) (pages_of len) place (Ok page))
       (clear : AreToUnmap (is_taken old.spaces.processes p) page (pages_of len) place)
-      (same_count : count mid ≡ count old) (unmapped : AreUnmapped old mid p page (pages_of len)
+      (same_count : frame_count mid ≡ frame_count old) (unmapped : AreUnmapped old mid p page (pages_of len)
       (with_room (pages_of len) place (areas_on old.spaces.processes p)) s.ledger (zaps_for_place s.ledger p (pages_of len) place))
       (given : GetsProts mid.spaces.processes spaces.processes p (set_on page (pages_of len) (Some prot) (prot_of (ranges_of mid.spaces.processes p))))
       (areas : GetsAreas mid.spaces.processes spaces.processes p (after_map (lengths mid.spaces.areas mid.anons) p page (page + pages_of len) prot
@@ -448,7 +451,7 @@ module _ (old : Mem) (s : State) (p len : ℕ) (prot : Prot) (place : Place) (ke
         (place-silent s.ledger p (pages_of len) place (rmap_of s))
         refl
         (record {
-          answer = subst (λ o. MatchOption o (Follows (setting (count old)) s.world s.ledger (Mmap p len prot place) events (MapAt (address_of page)) [])
+          answer = subst (λ o. MatchOption o (Follows (setting (frame_count old)) s.world s.ledger (Mmap p len prot place) events (MapAt (address_of page)) [])
               (λ e. Refuses e events (MapAt (address_of page)) [])) (sym (mmap-tests ∙ placed.0))
               (Some page, placed.1, refl, refl, refl);
           notes = sym t.notes;
@@ -468,7 +471,7 @@ module _ (old : Mem) (spaces : AllSpaces) (anons : AnonSet) (s : State) (p a len
     (areas : GetsAreas old.spaces.processes spaces.processes p (pages_changed (lengths old.spaces.areas old.anons) (to_prot prot) (page_of a)
     (reached - page_of a) (areas_on old.spaces.processes p)))
     (stay : AnonsStay old.spaces old.anons spaces anons) (homes : KeepsHomes (areas_on old.spaces.processes p) (areas_on spaces.processes p)) where
-  mprotect-allowed : refusal (tests (setting (count old)) s.world s.ledger (Mprotect p a len prot)) ≡ None
+  mprotect-allowed : refusal (tests (setting (frame_count old)) s.world s.ledger (Mprotect p a len prot)) ≡ None
   mprotect-allowed = ap (λ b. cond (not b) (Some Esrch) (refusal ((not (is_on_page a), Einval) ∷ (wraps a len, Enomem) ∷ [])))
       (sym (lives_is old s keeps p) ∙ sym (alive_is old.spaces.processes p) ∙ alive) ∙ passed
 
@@ -554,7 +557,8 @@ module _ (old : Mem) (spaces : AllSpaces) (anons : AnonSet) (s : State) (p a len
           (λ o. keeps.stands.areas p o i) page)
 
   protected-steps : (answer : Answer) → answer ≡ (cond (pages_to_hole (pages s.world p) (page_of a) (pages_of len) == pages_of len) Done (Refused Enomem))
-      → set_process s.world p (with_prot_on (pages s.world p) (page_of a) (reached - page_of a) prot) ≡ next_world (setting (count old)) s.world s.ledger []
+      → set_process s.world p (with_prot_on (pages s.world p) (page_of a) (reached - page_of a) prot) ≡ next_world (setting (frame_count old)) s.world
+          s.ledger []
       (Mprotect p a len prot) answer
       → with_at p (pages_changed (chain_length s.anons) (to_prot prot) (page_of a) (reached - page_of a) (s.areas p)) s.areas ≡ next_areas
       (chain_length s.anons) s.areas s.world (Mprotect p a len prot) answer
@@ -571,7 +575,7 @@ module _ (old : Mem) (spaces : AllSpaces) (anons : AnonSet) (s : State) (p a len
       (record {
         events = [];
         legal = record {
-          answer = subst (λ o. MatchOption o (Follows (setting (count old)) s.world s.ledger (Mprotect p a len prot) [] answer [])
+          answer = subst (λ o. MatchOption o (Follows (setting (frame_count old)) s.world s.ledger (Mprotect p a len prot) [] answer [])
               (λ e. Refuses e [] answer [])) (sym mprotect-allowed) (is, refl, refl);
           notes = refl;
         };

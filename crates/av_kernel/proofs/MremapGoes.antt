@@ -17,7 +17,7 @@ use Rattle.av_plain.specs.Transcript.{State}
 use Rattle.av_plain.specs.World.{Process, pages}
 use Rattle.av_plain.proofs.Refusal.{MayRemap, may-remap}
 use Rattle.av_reclaim.specs.declared.mem.Mem.{Mem}
-use Rattle.av_reclaim.specs.Mem.{IsSteady, Keeps, count, setting}
+use Rattle.av_reclaim.specs.Mem.{IsSteady, Keeps, frame_count, setting}
 use Rattle.av_reclaim.specs.Zap.{KeepsRest}
 use Rattle.av_mremap.specs.Areas.{HasRemap}
 use Rattle.av_mremap.specs.Entries.{HasRemapped}
@@ -46,7 +46,7 @@ pub record Goes (old : Mem) (p a olen nlen n m : ℕ) (mode : Mode) (to : ℕ) :
 
 module _ {old : Mem} {p a olen nlen : ℕ} {mode : Mode} (passes : Passes old p a olen nlen mode) where
   may_by : (s : State) → Keeps old s → MayRemap s.world p a olen nlen mode
-  may_by s keeps = may-remap (setting (count old)) s.world s.ledger p a olen nlen mode
+  may_by s keeps = may-remap (setting (frame_count old)) s.world s.ledger p a olen nlen mode
       (tests_are old p a olen nlen mode passes.alive s keeps ∙ passes.tests (pages s.world p) (have_prots_of old s keeps p))
 
   -- before a place is sought, the new length has a page

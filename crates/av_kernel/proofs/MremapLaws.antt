@@ -47,7 +47,7 @@ use Rattle.av_plain.proofs.Refusal.{MayRemap}
 use Rattle.av_plain.proofs.Transcript.{next-plain}
 use Rattle.av_plain.proofs.World.{pages-set, lives-set, length-set_old}
 use Rattle.av_reclaim.specs.declared.mem.Mem.{Mem}
-use Rattle.av_reclaim.specs.Mem.{HasTables, Keeps, count, setting, view}
+use Rattle.av_reclaim.specs.Mem.{HasTables, Keeps, frame_count, setting, view}
 use Rattle.av_reclaim.specs.Zap.{KeepsRest}
 use Rattle.av_reclaim.proofs.AnonLaws.{anons_stand, are_left, left_of}
 use Rattle.av_reclaim.proofs.MemLaws.{alive_is, lives_is, no_cache, prots_are}
@@ -227,7 +227,7 @@ module _ {old : Mem} {s : State} (keeps : Keeps old s) {p a olen nlen : ℕ} {mo
 
       -- no test refuses it
       abbrev IsAllowed : Type 0
-      IsAllowed = refusal (tests (setting (count old)) s.world s.ledger command) ≡ None
+      IsAllowed = refusal (tests (setting (frame_count old)) s.world s.ledger command) ≡ None
 
       abbrev answer : Answer
       answer = MapAt (address_of to)
@@ -388,19 +388,20 @@ module _ {old : Mem} {s : State} (keeps : Keeps old s) {p a olen nlen : ℕ} {mo
 
       -- ---- the step
 
-      remap-step : IsAllowed → IsStep (setting (count old)) s command (answer_only answer) next
+      remap-step : IsAllowed → IsStep (setting (frame_count old)) s command (answer_only answer) next
       remap-step allowed =
           let events = remap_events s.ledger p from n to m in
           record {
             events = events;
             legal = record {
-              answer = subst (λ o. MatchOption o (Follows (setting (count old)) s.world s.ledger command events answer []) (λ e. Refuses e events answer []))
+              answer = subst (λ o. MatchOption o (Follows (setting (frame_count old)) s.world s.ledger command events answer [])
+                  (λ e. Refuses e events answer []))
                   (sym allowed) (Some to, goes, refl, refl, refl);
               notes = sym done.notes;
             };
             world = ap (λ x. set_process s.world p (process_after_mremap from n x m left q)) (sym (page_back to));
             ledger = refl;
-            free = subst (λ free. ChoosesAll (setting (count old)) None s.ledger events free (free_of (view mid))) keeps.stands.free done.free;
+            free = subst (λ free. ChoosesAll (setting (frame_count old)) None s.ledger events free (free_of (view mid))) keeps.stands.free done.free;
             rmap = subst (λ r. IsRmapNext r s.world command answer (rmap_of next)) (sym silent)
                 (next-plain (rmap_of s) s.world command answer (rmap_of next) refl (record {
                   areas = ap (λ x. with_at p (after_mremap (chain_length s.anons) p from n x m left on) s.areas) (sym (page_back to));

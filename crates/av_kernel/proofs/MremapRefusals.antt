@@ -17,7 +17,7 @@ use Rattle.av_plain.specs.Step.{Follows}
 use Rattle.av_plain.specs.Transcript.{State}
 use Rattle.av_plain.specs.World.{Process, pages}
 use Rattle.av_reclaim.specs.declared.mem.Mem.{Mem}
-use Rattle.av_reclaim.specs.Mem.{Keeps, count, setting}
+use Rattle.av_reclaim.specs.Mem.{Keeps, frame_count, setting}
 use Rattle.av_reclaim.proofs.MemLaws.{lives_is, prots_are}
 use Rattle.av_kernel.specs.declared.refusal.Refusal.TheVariants as refusals
 use Rattle.av_place.specs.Mremap.{IsTarget}
@@ -39,7 +39,7 @@ module _ (old : Mem) (p a olen nlen : ℕ) (mode : Mode) where
   module _ (alive : is_some (areas_of old.spaces.processes p) ≡ true) where
     -- the process lives, so the other tests decide
     pub tests_are : (s : State) → Keeps old s
-        → refusal (tests (setting (count old)) s.world s.ledger command) ≡ refusal (mremap_tests (pages s.world p) a olen nlen mode)
+        → refusal (tests (setting (frame_count old)) s.world s.ledger command) ≡ refusal (mremap_tests (pages s.world p) a olen nlen mode)
     tests_are s keeps = ap (λ b. cond (not b) (Some Esrch) (refusal (mremap_tests (pages s.world p) a olen nlen mode)))
         (sym (lives_is old s keeps p) ∙ alive)
 
@@ -58,7 +58,7 @@ module _ (old : Mem) (p a olen nlen : ℕ) (mode : Mode) where
       step = record {
         events = [];
         legal = record {
-          answer = subst (λ o. MatchOption o (Follows (setting (count old)) s.world s.ledger command [] (Refused Enomem) [])
+          answer = subst (λ o. MatchOption o (Follows (setting (frame_count old)) s.world s.ledger command [] (Refused Enomem) [])
               (λ e. Refuses e [] (Refused Enomem) [])) (sym (tests_are s keeps ∙ passed)) (None, goes, refl, refl, refl);
           notes = refl;
         };

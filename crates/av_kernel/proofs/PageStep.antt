@@ -36,7 +36,7 @@ use Rattle.av_reclaim.specs.declared.mem.Mem.{Mem}
 use Rattle.av_fault.specs.declared.fault.Stop.{Stop}
 use Rattle.av_fault.specs.declared.fault.Touched.{Touched}
 use Rattle.av_fault.specs.declared.fault.Touched.TheVariants.{Ready, Stopped}
-use Rattle.av_reclaim.specs.Mem.{anons_of, ranges_of, setting, count, plain, view, view_of_parts, Keeps, KeepsWithin}
+use Rattle.av_reclaim.specs.Mem.{anons_of, ranges_of, setting, frame_count, plain, view, view_of_parts, Keeps, KeepsWithin}
 use Rattle.av_fault.specs.Fault.{HasRmap, IsTouched, end_of, stop_of}
 use Rattle.av_kernel.specs.Page.{IsPageStep, world_after}
 use Rattle.av_fault.proofs.FaultParts.{Parts, of_stand, to_stand}
@@ -101,8 +101,8 @@ sound_written n w l p page at piece notes s alive some fits h =
 
 -- ---- the kernel
 
-pub keeps_now : (k : Mem) (w : World) (l : Ledger) (r : Rmap) → KeepsWithin k w l → AllSound (setting (count k)) w l →
-    ListsFree (setting (count k)) l (view k).free → HasRmap k r → IsRmapSound l r
+pub keeps_now : (k : Mem) (w : World) (l : Ledger) (r : Rmap) → KeepsWithin k w l → AllSound (setting (frame_count k)) w l →
+    ListsFree (setting (frame_count k)) l (view k).free → HasRmap k r → IsRmapSound l r
     → Keeps k (record { world = w; ledger = l; free = free_of (view k); areas = r.areas; anons = r.anons; homes = r.homes })
 keeps_now k w l r h sound free rmap reach = record {
   stands = record {
@@ -110,7 +110,7 @@ keeps_now k w l r h sound free rmap reach = record {
     sound = sound;
     parts = h.parts;
     free = refl;
-    lists = listed k (setting (count k)) l (view k).free h.parts.ledger.swap free;
+    lists = listed k (setting (frame_count k)) l (view k).free h.parts.ledger.swap free;
     areas = rmap.areas;
     anons = rmap.anons;
     homes = rmap.homes;
@@ -122,16 +122,17 @@ keeps_now k w l r h sound free rmap reach = record {
 
 module _ (s : State) (old : Mem) (p page at : ℕ) (piece : List ℕ) (before now : List Note) (keeps : Keeps old s) where
   -- the frame of a page that is ready is one of the machine's
-  pub frame_below : (new : Mem) (write : Bool) (f : ℕ) → count new ≡ count old → IsTouched s new write (p, page) before now (Ready f) → f < count new
+  pub frame_below : (new : Mem) (write : Bool) (f : ℕ) → frame_count new ≡ frame_count old → IsTouched s new write (p, page) before now (Ready f) → f <
+      frame_count new
   frame_below new write f same t =
       let l = after_all s.ledger (page_events write (p, page) t.added None) in
-      let sound = sound_touched (setting (count new)) s.world s.ledger write p page t.added None
+      let sound = sound_touched (setting (frame_count new)) s.world s.ledger write p page t.added None
       (subst (λ n. AllSound (setting n) s.world s.ledger) (sym same) keeps.stands.sound) t.touches in
       let some : 0 < map_count l f = how_many-found (names_frame f) (p, page) l.entries (InFrame f true) t.ready.0 (itself f) in
       sound.ledger.in_range f (omega (arith, some))
 
   -- what is free then is what the ledger has free
-  free_listed : (n : ℕ) (write : Bool) (added : List Note) (end : Option faults.Stop) (free : Free) → count old ≡ n →
+  free_listed : (n : ℕ) (write : Bool) (added : List Note) (end : Option faults.Stop) (free : Free) → frame_count old ≡ n →
       Touches (setting n) s.world s.ledger write (p, page) added end
       → ChoosesAll (setting n) None s.ledger (page_events write (p, page) added end) s.free free →
       ListsFree (setting n) (after_all s.ledger (page_events write (p, page) added end)) free.frames
@@ -141,7 +142,7 @@ module _ (s : State) (old : Mem) (p page at : ℕ) (piece : List ℕ) (before no
       (subst (λ n. ListsFree (setting n) s.ledger s.free.frames) same keeps.stands.lists.frames)
 
   -- it was not served
-  pub stopped : (new : Mem) (write : Bool) (stop : Stop) → count new ≡ count old → IsTouched s new write (p, page) before now (Stopped stop) →
+  pub stopped : (new : Mem) (write : Bool) (stop : Stop) → frame_count new ≡ frame_count old → IsTouched s new write (p, page) before now (Stopped stop) →
       IsPageStep s new write p page at piece before now (Some stop)
   stopped new write stop same t =
       let rs : Rmap = rmap_after_all s.ledger (page_events write (p, page) t.added (Some (stop_of stop))) (rmap_of s) in record {
@@ -161,9 +162,9 @@ module _ (s : State) (old : Mem) (p page at : ℕ) (piece : List ℕ) (before no
         free = t.free;
         rmap = refl;
         keeps = keeps_now new s.world (after_all s.ledger (page_events write (p, page) t.added (Some (stop_of stop)))) rs t.parts
-            (sound_touched (setting (count new)) s.world s.ledger write p page t.added (Some (stop_of stop))
+            (sound_touched (setting (frame_count new)) s.world s.ledger write p page t.added (Some (stop_of stop))
             (subst (λ n. AllSound (setting n) s.world s.ledger) (sym same) keeps.stands.sound) t.touches)
-            (free_listed (count new) write t.added (Some (stop_of stop)) (free_of (view new)) (sym same) t.touches t.free) t.rmap t.reach;
+            (free_listed (frame_count new) write t.added (Some (stop_of stop)) (free_of (view new)) (sym same) t.touches t.free) t.rmap t.reach;
       }
     where
       world_is : (write : Bool) → s.world ≡ world_after write p page at piece (Some stop) s.world
@@ -171,18 +172,18 @@ module _ (s : State) (old : Mem) (p page at : ℕ) (piece : List ℕ) (before no
       world_is false = refl
 
   -- it was served to a read
-  pub read_served : (new : Mem) (ready : Touched) → count new ≡ count old → end_of ready ≡ None → IsTouched s new false (p, page) before now ready →
+  pub read_served : (new : Mem) (ready : Touched) → frame_count new ≡ frame_count old → end_of ready ≡ None → IsTouched s new false (p, page) before now ready →
       IsPageStep s new false p page at piece before now None
   read_served new ready same served t =
-      let touches : Touches (setting (count new)) s.world s.ledger false (p, page) t.added None =
-      subst (Touches (setting (count new)) s.world s.ledger false (p, page) t.added) served t.touches in
+      let touches : Touches (setting (frame_count new)) s.world s.ledger false (p, page) t.added None =
+      subst (Touches (setting (frame_count new)) s.world s.ledger false (p, page) t.added) served t.touches in
       let after = ap (λ end. after_all s.ledger (page_events false (p, page) t.added end)) served in
       let rs : Rmap = rmap_after_all s.ledger (page_events false (p, page) t.added None) (rmap_of s) in
       let rmap : HasRmap new rs = subst (λ end. HasRmap new (rmap_after_all s.ledger (page_events false (p, page) t.added end) (rmap_of s))) served t.rmap in
       let reach : IsRmapSound (after_all s.ledger (page_events false (p, page) t.added None)) rs =
       subst (λ end. IsRmapSound (after_all s.ledger (page_events false (p, page) t.added end))
       (rmap_after_all s.ledger (page_events false (p, page) t.added end) (rmap_of s))) served t.reach in
-      let chosen = subst (λ end. ChoosesAll (setting (count new)) None s.ledger (page_events false (p, page) t.added end) s.free (free_of (view new)))
+      let chosen = subst (λ end. ChoosesAll (setting (frame_count new)) None s.ledger (page_events false (p, page) t.added end) s.free (free_of (view new)))
       served t.free in
       record {
         added = t.added;
@@ -201,13 +202,13 @@ module _ (s : State) (old : Mem) (p page at : ℕ) (piece : List ℕ) (before no
         free = chosen;
         rmap = refl;
         keeps = keeps_now new s.world (after_all s.ledger (page_events false (p, page) t.added None)) rs (subst (KeepsWithin new s.world) after t.parts)
-            (sound_touched (setting (count new)) s.world s.ledger false p page t.added None
+            (sound_touched (setting (frame_count new)) s.world s.ledger false p page t.added None
             (subst (λ n. AllSound (setting n) s.world s.ledger) (sym same) keeps.stands.sound) touches)
-            (free_listed (count new) false t.added None (free_of (view new)) (sym same) touches chosen) rmap reach;
+            (free_listed (frame_count new) false t.added None (free_of (view new)) (sym same) touches chosen) rmap reach;
       }
 
   -- it was served to a write, and then the piece was laid over the frame's bytes
-  pub written_served : (mid new : Mem) (f : ℕ) → count mid ≡ count old → lives s.world p ≡ true → 1 ≤ length piece → at + length piece ≤ 4096 →
+  pub written_served : (mid new : Mem) (f : ℕ) → frame_count mid ≡ frame_count old → lives s.world p ≡ true → 1 ≤ length piece → at + length piece ≤ 4096 →
       IsTouched s mid true (p, page) before now (Ready f)
       → shown new.frames ≡ record (shown mid.frames) { bytes = with_at f (overlaid at piece ((shown mid.frames).bytes f)) (shown mid.frames).bytes } →
       new.tables ≡ mid.tables → new.spaces ≡ mid.spaces → new.anons ≡ mid.anons
@@ -215,19 +216,19 @@ module _ (s : State) (old : Mem) (p page at : ℕ) (piece : List ℕ) (before no
   written_served mid new f same alive some fits t frames tables spaces anons =
       let l = after_all s.ledger (page_events true (p, page) t.added None) in
       let rs : Rmap = rmap_after_all s.ledger (page_events true (p, page) t.added None) (rmap_of s) in
-      let m = setting (count mid) in
+      let m = setting (frame_count mid) in
       let view_is : view new ≡ over f at piece (view mid) = λ i. view_of_parts (frames i) (λ q o. plain (entry_at (tables i) q o)) (spaces i) (anons i) in
-      let sound = sound_written (count mid) s.world s.ledger p page at piece t.added
+      let sound = sound_written (frame_count mid) s.world s.ledger p page at piece t.added
       (subst (λ n. AllSound (setting n) s.world s.ledger) (sym same) keeps.stands.sound) alive some fits t.touches in
       let parts = written_now m (view mid) s.world l p page f true at piece (of_stand mid s.world l t.parts) keeps.stands.sound.world alive
       t.ready.0 (t.ready.1 refl) fits in
       let parts' : Parts m (view new) (after_write s.world p (4096 * page + at) piece) l =
       subst (λ w. Parts m (view new) w l) (sym (stored_is s.world p (4096 * page + at) piece some))
       (subst (λ v. Parts m v (set_process s.world p (with_bytes (pages s.world p) (4096 * page + at) piece)) l) (sym view_is) parts) in
-      let count_is : count mid ≡ count new = sym (ap (λ (s : Shown). s.count) frames) in
+      let count_is : frame_count mid ≡ frame_count new = sym (ap (λ (s : Shown). s.count) frames) in
       let touches = subst (λ n. Touches (setting n) s.world s.ledger true (p, page) t.added None) count_is t.touches in
       let chosen = subst (λ n. ChoosesAll (setting n) None s.ledger (page_events true (p, page) t.added None) s.free (free_of (view new))) count_is
-      (subst (ChoosesAll (setting (count mid)) None s.ledger (page_events true (p, page) t.added None) s.free)
+      (subst (ChoosesAll (setting (frame_count mid)) None s.ledger (page_events true (p, page) t.added None) s.free)
       (sym (ap (λ (s : Shown). frames_free s.free) frames)) t.free) in
       record {
         added = t.added;
@@ -251,7 +252,7 @@ module _ (s : State) (old : Mem) (p page at : ℕ) (piece : List ℕ) (before no
             (λ q. ap (λ t. has t q) tables ∙ t.parts.tables q ∙ sym (ap (λ (x : AllSpaces). is_some (ranges_of x.processes q)) spaces))
             (subst (λ x. AnonsFit x new.anons) (sym spaces) (subst (AnonsFit mid.spaces) (sym anons) t.parts.anons)))
             (subst (λ n. AllSound (setting n) (after_write s.world p (4096 * page + at) piece) l) count_is sound)
-            (free_listed (count new) true t.added None (free_of (view new)) (sym same ∙ count_is) touches chosen)
+            (free_listed (frame_count new) true t.added None (free_of (view new)) (sym same ∙ count_is) touches chosen)
             (record {
               areas = λ q o. ap (λ (x : AllSpaces). areas_on x.processes q o) spaces ∙ t.rmap.areas q o;
               anons = anons_still (view mid) (view new) rs.areas rs.anons (λ i. anons_of (spaces i) (anons i)) t.rmap.anons;

@@ -38,7 +38,7 @@ use Rattle.av_plain.proofs.Sound.Zap.{process-ended, pages-ended}
 use Rattle.av_reclaim.specs.declared.mem.Mem.{Mem}
 use Rattle.av_spaces.specs.Spaces.{AllSpaces, Spaces, areas_of, pages_of, IsSpawned, IsEnded}
 use Rattle.av_plain.specs.Report.{range_of}
-use Rattle.av_reclaim.specs.Mem.{ranges_of, setting, plain, view, count, HasTables, Keeps, HasLedger}
+use Rattle.av_reclaim.specs.Mem.{ranges_of, setting, plain, view, frame_count, HasTables, Keeps, HasLedger}
 use Rattle.av_kernel.specs.Process.{new_tests}
 use Rattle.av_kernel.specs.Step.{MemSteps}
 use Rattle.av_reclaim.specs.Zap.{HasZapped}
@@ -99,7 +99,7 @@ module _ (old : Mem) (tables : ProcessTables) (spaces : AllSpaces) (s : State) (
   dead_before : lives s.world p ≡ false
   dead_before = sym (lives_is old s keeps p) ∙ ap is_some (absent old.spaces.processes p may)
 
-  spawn-allowed : refusal (tests (setting (count old)) s.world s.ledger (Spawn p)) ≡ None
+  spawn-allowed : refusal (tests (setting (frame_count old)) s.world s.ledger (Spawn p)) ≡ None
   spawn-allowed = new_is old s p keeps ∙ may
 
   spawn-on : AreasAre (view (moved_on old tables spaces old.anons)) (with_at p none_on s.areas)
@@ -109,11 +109,11 @@ module _ (old : Mem) (tables : ProcessTables) (spaces : AllSpaces) (s : State) (
       by true = refl
       by false = keeps.stands.areas q page
 
-  spawn-step : IsStep (setting (count old)) s (Spawn p) (answer_only Done) (state_after s p no_pages none_on s.ledger (free_of (view old)) old.anons)
+  spawn-step : IsStep (setting (frame_count old)) s (Spawn p) (answer_only Done) (state_after s p no_pages none_on s.ledger (free_of (view old)) old.anons)
   spawn-step = record {
     events = [];
     legal = record {
-      answer = subst (λ o. MatchOption o (Follows (setting (count old)) s.world s.ledger (Spawn p) [] Done []) (λ e. Refuses e [] Done []))
+      answer = subst (λ o. MatchOption o (Follows (setting (frame_count old)) s.world s.ledger (Spawn p) [] Done []) (λ e. Refuses e [] Done []))
           (sym spawn-allowed) (refl, refl, refl);
       notes = refl;
     };
@@ -226,14 +226,14 @@ module _ (old mid : Mem) (tables : ProcessTables) (spaces : AllSpaces) (anons : 
     (alive : is_some (ranges_of old.spaces.processes p) ≡ true)
     (taken : HasZapped old mid s.ledger (zaps_of s.ledger (keys_of_process s.ledger p))) (bytes : (view mid).bytes ≡ (view old).bytes)
     (homes : (view mid).homes ≡ (view old).homes) (same_spaces : mid.spaces ≡ old.spaces) (same_tables : has mid.tables ≡ has old.tables)
-    (same_count : count mid ≡ count old)
+    (same_count : frame_count mid ≡ frame_count old)
     (processes : has tables ≡ with_at p false (has mid.tables)) (entries : entry_at tables ≡ with_at p (λ page. Empty) (entry_at mid.tables))
     (ended : IsEnded mid.spaces.processes spaces.processes p)
     (stay : AnonsStay old.spaces old.anons spaces anons) where
   alive_now : lives s.world p ≡ true
   alive_now = sym (lives_is old s keeps p) ∙ sym (alive_is old.spaces.processes p) ∙ alive
 
-  allowed : refusal (tests (setting (count old)) s.world s.ledger (Exit p)) ≡ None
+  allowed : refusal (tests (setting (frame_count old)) s.world s.ledger (Exit p)) ≡ None
   allowed = ap (λ b. cond (not b) (Some Esrch) None) alive_now
 
   exit-on : AreasAre (view (record { frames = mid.frames; tables = tables; spaces = spaces; anons = anons })) (with_at p none_on s.areas)
@@ -243,7 +243,7 @@ module _ (old mid : Mem) (tables : ProcessTables) (spaces : AllSpaces) (anons : 
       by true = refl
       by false = ap (λ (x : AllSpaces). pages_of x.processes q page) same_spaces ∙ keeps.stands.areas q page
 
-  exit-step : IsStep (setting (count old)) s (Exit p) (answer_only Done)
+  exit-step : IsStep (setting (frame_count old)) s (Exit p) (answer_only Done)
       (record {
         world = end_process s.world p;
         ledger = after_all s.ledger (zaps_of s.ledger (keys_of_process s.ledger p));
@@ -255,13 +255,13 @@ module _ (old mid : Mem) (tables : ProcessTables) (spaces : AllSpaces) (anons : 
   exit-step = record {
     events = zaps_of s.ledger (keys_of_process s.ledger p);
     legal = record {
-      answer = subst (λ o. MatchOption o (Follows (setting (count old)) s.world s.ledger (Exit p) (zaps_of s.ledger (keys_of_process s.ledger p)) Done [])
+      answer = subst (λ o. MatchOption o (Follows (setting (frame_count old)) s.world s.ledger (Exit p) (zaps_of s.ledger (keys_of_process s.ledger p)) Done [])
           (λ e. Refuses e (zaps_of s.ledger (keys_of_process s.ledger p)) Done [])) (sym allowed) (refl, refl, refl);
       notes = sym taken.notes;
     };
     world = refl;
     ledger = refl;
-    free = subst (λ free. ChoosesAll (setting (count old)) None s.ledger (zaps_of s.ledger (keys_of_process s.ledger p)) free (free_of (view mid)))
+    free = subst (λ free. ChoosesAll (setting (frame_count old)) None s.ledger (zaps_of s.ledger (keys_of_process s.ledger p)) free (free_of (view mid)))
         keeps.stands.free taken.free;
     rmap = subst (λ r. AreNext r s.world (Exit p) Done (rmap_of (record {
       world = end_process s.world p;

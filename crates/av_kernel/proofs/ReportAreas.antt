@@ -24,7 +24,7 @@ use Rattle.av_plain.specs.Step.{Follows}
 use Rattle.av_plain.specs.Transcript.{State}
 use Rattle.av_plain.proofs.Report.Areas.{all_from, on_first, runs-of_rows}
 use Rattle.av_reclaim.specs.declared.mem.Mem.{Mem}
-use Rattle.av_reclaim.specs.Mem.{anons_of, setting, count, view, Keeps}
+use Rattle.av_reclaim.specs.Mem.{anons_of, setting, frame_count, view, Keeps}
 use Rattle.av_reclaim.proofs.AnonLaws.{shown_chain}
 use Rattle.av_reclaim.proofs.MemLaws.{apart_of, lives_is}
 use Rattle.av_kernel.specs.Step.{MemSteps}
@@ -73,7 +73,7 @@ rows_by a b (area ∷ areas) h = λ i. rows.Area area.start area.end area.prot a
 
 module _ (k : Mem) (s : State) (p : ℕ) (areas : List Area) (keeps : Keeps k s) (alive : is_some (areas_of k.spaces.processes p) ≡ true)
     (are : areas_of k.spaces.processes p ≡ Some areas) (rising : AreRising p areas) where
-  allowed : refusal (tests (setting (count k)) s.world s.ledger (AsksAreas p)) ≡ None
+  allowed : refusal (tests (setting (frame_count k)) s.world s.ledger (AsksAreas p)) ≡ None
   allowed = ap (λ b. cond (not b) (Some Esrch) None) (sym (lives_is k s keeps p) ∙ alive)
 
   abbrev pub shown : List Row
@@ -94,7 +94,7 @@ module _ (k : Mem) (s : State) (p : ℕ) (areas : List Area) (keeps : Keeps k s)
     step = record {
       events = [];
       legal = record {
-        answer = subst (λ o. MatchOption o (Follows (setting (count k)) s.world s.ledger (AsksAreas p) [] (AreaList (length shown)) shown)
+        answer = subst (λ o. MatchOption o (Follows (setting (frame_count k)) s.world s.ledger (AsksAreas p) [] (AreaList (length shown)) shown)
             (λ e. Refuses e [] (AreaList (length shown)) shown)) (sym allowed) (
               refl,
               (

@@ -15,7 +15,7 @@ use Rattle.av_plain.specs.Step.{Follows}
 use Rattle.av_plain.specs.Transcript.{State}
 use Rattle.av_plain.specs.World.{is_mapped, lives, pages}
 use Rattle.av_reclaim.specs.declared.mem.Mem.{Mem}
-use Rattle.av_reclaim.specs.Mem.{Keeps, count, setting}
+use Rattle.av_reclaim.specs.Mem.{Keeps, frame_count, setting}
 use Rattle.av_reclaim.proofs.MemLaws.{lives_is, mapped_is, taken_has}
 use Rattle.av_kernel.specs.Step.{MemSteps}
 use Rattle.av_kernel.proofs.StepLaws.{rmap_kept}
@@ -37,7 +37,7 @@ module _ (k : Mem) (s : State) (p a : ℕ) (keeps : Keeps k s) (alive : is_some 
 
   -- one that isn't is refused
   pub unmapped_next : is_some (pages_of k.spaces.processes p (page_of a)) ≡ false →
-      refusal (tests (setting (count k)) s.world s.ledger (AsksEntry p a)) ≡ Some Efault
+      refusal (tests (setting (frame_count k)) s.world s.ledger (AsksEntry p a)) ≡ Some Efault
   unmapped_next none = tests_are false none
 
   pub entry-steps : is_some (pages_of k.spaces.processes p (page_of a)) ≡ true → (answer : Answer) →
@@ -48,7 +48,7 @@ module _ (k : Mem) (s : State) (p a : ℕ) (keeps : Keeps k s) (alive : is_some 
     step = record {
       events = [];
       legal = record {
-        answer = subst (λ o. MatchOption o (Follows (setting (count k)) s.world s.ledger (AsksEntry p a) [] answer []) (λ e. Refuses e [] answer []))
+        answer = subst (λ o. MatchOption o (Follows (setting (frame_count k)) s.world s.ledger (AsksEntry p a) [] answer []) (λ e. Refuses e [] answer []))
             (sym (tests_are true mapped)) (is, refl, refl);
         notes = refl;
       };

@@ -13,7 +13,7 @@ use Rattle.av_plain.specs.Stands.{prot_of}
 use Rattle.av_plain.specs.Transcript.{State}
 use Rattle.av_reclaim.specs.declared.mem.Mem.{Mem}
 use Rattle.av_plain.specs.Report.{range_of}
-use Rattle.av_reclaim.specs.Mem.{setting, count, Keeps}
+use Rattle.av_reclaim.specs.Mem.{setting, frame_count, Keeps}
 use Rattle.av_reclaim.proofs.MemLaws.{lives_is}
 use Rattle.av_kernel.specs.Report.{AreRuns}
 use Rattle.av_kernel.specs.Step.{MemSteps}
@@ -21,7 +21,7 @@ use Rattle.av_kernel.proofs.StepLaws.{areas_kept}
 
 module _ (k : Mem) (s : State) (p : ℕ) (areas : List Area) (rows : List Row) (keeps : Keeps k s) (alive : is_some (areas_of k.spaces.processes p) ≡ true)
     (are : areas_of k.spaces.processes p ≡ Some areas) (runs : AreRuns (map range_of areas) rows) where
-  allowed : refusal (tests (setting (count k)) s.world s.ledger (Maps p)) ≡ None
+  allowed : refusal (tests (setting (frame_count k)) s.world s.ledger (Maps p)) ≡ None
   allowed = ap (λ b. cond (not b) (Some Esrch) None) (sym (lives_is k s keeps p) ∙ alive)
 
   pub maps-steps : MemSteps k k s (Maps p) (record { answer = Runs (length rows); notes = []; rows = rows })
@@ -30,7 +30,7 @@ module _ (k : Mem) (s : State) (p : ℕ) (areas : List Area) (rows : List Row) (
     step = record {
       events = [];
       legal = record {
-        answer = subst (λ o. MatchOption o (Follows (setting (count k)) s.world s.ledger (Maps p) [] (Runs (length rows)) rows)
+        answer = subst (λ o. MatchOption o (Follows (setting (frame_count k)) s.world s.ledger (Maps p) [] (Runs (length rows)) rows)
             (λ e. Refuses e [] (Runs (length rows)) rows)) (sym allowed) (
               refl,
               (

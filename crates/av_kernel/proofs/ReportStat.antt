@@ -9,35 +9,36 @@ use Rattle.av_plain.specs.Transcript.{State}
 use Rattle.av_plain.specs.Report.{totals}
 use Rattle.av_plain.proofs.Report.Totals.{free-once, totals-plain}
 use Rattle.av_reclaim.specs.declared.mem.Mem.{Mem}
-use Rattle.av_reclaim.specs.Mem.{setting, view, count, Keeps}
+use Rattle.av_reclaim.specs.Mem.{setting, view, frame_count, Keeps}
 use Rattle.av_kernel.specs.Step.{MemSteps}
 use Rattle.av_kernel.proofs.StepLaws.{areas_kept}
 
 -- what the kernel counts is what the ledger has
 pub counted : (k : Mem) (s : State) (processes : ℕ) → Keeps k s → ((f : ℕ) → how_many (λ g. f == g) (view k).free ≤ 1) →
-    ((f : ℕ) → is_in f (view k).free ≡ true → f < count k) → processes ≡ length k.spaces.processes
+    ((f : ℕ) → is_in f (view k).free ≡ true → f < frame_count k) → processes ≡ length k.spaces.processes
     → record {
-      frames = count k;
+      frames = frame_count k;
       free = length (view k).free;
       active = 0;
-      inactive = count k - length (view k).free;
+      inactive = frame_count k - length (view k).free;
       flight = 0;
       slots = 0;
       free_slots = 0;
       processes = processes;
-    } ≡ totals (setting (count k)) s.world s.ledger
+    } ≡ totals (setting (frame_count k)) s.world s.ledger
 counted k s processes keeps once below number =
     let st = keeps.stands in
     ap (λ (n : ℕ). with_number n) (number ∙ st.parts.areas.number)
-    ∙ sym (totals-plain (setting (count k)) s.world s.ledger (view k).free st.sound.ledger (sym st.parts.ledger.lists.active) (sym st.parts.ledger.swap.flight)
-    (sym st.parts.ledger.swap.on) (free-once (setting (count k)) s.ledger (view k).free once below st.parts.ledger.frames.free))
+    ∙ sym (totals-plain (setting (frame_count k)) s.world s.ledger (view k).free st.sound.ledger (sym st.parts.ledger.lists.active)
+        (sym st.parts.ledger.swap.flight)
+    (sym st.parts.ledger.swap.on) (free-once (setting (frame_count k)) s.ledger (view k).free once below st.parts.ledger.frames.free))
   where
     with_number : ℕ → Totals
     with_number n = record {
-      frames = count k;
+      frames = frame_count k;
       free = length (view k).free;
       active = 0;
-      inactive = count k - length (view k).free;
+      inactive = frame_count k - length (view k).free;
       flight = 0;
       slots = 0;
       free_slots = 0;
@@ -45,12 +46,12 @@ counted k s processes keeps once below number =
     }
 
 pub stat-steps : (k : Mem) (s : State) (processes : ℕ) → Keeps k s → ((f : ℕ) → how_many (λ g. f == g) (view k).free ≤ 1) →
-    ((f : ℕ) → is_in f (view k).free ≡ true → f < count k) → processes ≡ length k.spaces.processes
+    ((f : ℕ) → is_in f (view k).free ≡ true → f < frame_count k) → processes ≡ length k.spaces.processes
     → MemSteps k k s Stat (answer_only (Counted (record {
-      frames = count k;
+      frames = frame_count k;
       free = length (view k).free;
       active = 0;
-      inactive = count k - length (view k).free;
+      inactive = frame_count k - length (view k).free;
       flight = 0;
       slots = 0;
       free_slots = 0;

@@ -18,7 +18,7 @@ use Rattle.av_plain.specs.Stands.{entry_of}
 use Rattle.av_plain.specs.Step.{Follows}
 use Rattle.av_plain.specs.Transcript.{State}
 use Rattle.av_reclaim.specs.declared.mem.Mem.{Mem}
-use Rattle.av_reclaim.specs.Mem.{Keeps, count, plain, setting}
+use Rattle.av_reclaim.specs.Mem.{Keeps, frame_count, plain, setting}
 use Rattle.av_kernel.specs.Step.{MemSteps}
 use Rattle.av_kernel.proofs.ReportEntry.{tests_are}
 use Rattle.av_kernel.proofs.StepLaws.{rmap_kept}
@@ -36,7 +36,7 @@ module _ (k : Mem) (s : State) (p a : ℕ) (keeps : Keeps k s) (alive : is_some 
         step = record {
           events = [];
           legal = record {
-            answer = subst (λ o. MatchOption o (Follows (setting (count k)) s.world s.ledger (AsksRmap p a) [] reply.answer reply.rows)
+            answer = subst (λ o. MatchOption o (Follows (setting (frame_count k)) s.world s.ledger (AsksRmap p a) [] reply.answer reply.rows)
                 (λ e. Refuses e [] reply.answer reply.rows)) (sym (tests_are k s p a keeps alive true mapped)) (refl, refl, refl);
             notes = refl;
           };

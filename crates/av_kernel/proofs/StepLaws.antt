@@ -43,7 +43,7 @@ use Rattle.av_reclaim.specs.declared.mem.Mem.{Mem}
 use Rattle.av_spaces.specs.Spaces.{AllSpaces, areas_of, pages_of as areas_on}
 use Rattle.av_plain.proofs.Transcript.{is_fork, next-plain}
 use Rattle.av_kernel.specs.Map.{GetsProts}
-use Rattle.av_reclaim.specs.Mem.{anon_vma, ranges_of, setting, plain, view, count, HasTables, Keeps, HasLedger}
+use Rattle.av_reclaim.specs.Mem.{anon_vma, ranges_of, setting, plain, view, frame_count, HasTables, Keeps, HasLedger}
 use Rattle.av_kernel.specs.declared.refusal.Refusal.{Refusal}
 use Rattle.av_kernel.specs.declared.refusal.Refusal.TheVariants as refusals
 use Rattle.av_kernel.specs.Step.{MemSteps, Does, reply_in}
@@ -93,20 +93,22 @@ rmap_kept k s command answer plain keeps stay = next-plain (rmap_of s) s.world c
 
 -- the first test that holds refuses the command, and nothing changes
 pub refused : (k : Mem) (s : State) (command : Command) (error : Errno) → Keeps k s →
-    refusal (tests (setting (count k)) s.world s.ledger command) ≡ Some error → MemSteps k k s command (answer_only (Refused error))
+    refusal (tests (setting (frame_count k)) s.world s.ledger command) ≡ Some error → MemSteps k k s command (answer_only (Refused error))
 refused k s command error keeps is = record {
   next = s;
   step = record {
     events = [];
     legal = record {
-      answer = subst (λ o. MatchOption o (Follows (setting (count k)) s.world s.ledger command [] (Refused error) []) (λ e. Refuses e [] (Refused error) []))
+      answer = subst (λ o. MatchOption o (Follows (setting (frame_count k)) s.world s.ledger command [] (Refused error) [])
+          (λ e. Refuses e [] (Refused error) []))
           (sym is) (refl, refl, refl);
       notes = refl;
     };
-    world = sym (refused-next (setting (count k)) s.world s.world s.ledger command error is);
+    world = sym (refused-next (setting (frame_count k)) s.world s.world s.ledger command error is);
     ledger = refl;
     free = refl;
-    rmap = areas_kept k s command (Refused error) keeps (refused-areas (setting (count k)) s.world s.ledger (chain_length s.anons) s.areas command error is);
+    rmap = areas_kept k s command (Refused error) keeps (refused-areas (setting (frame_count k)) s.world s.ledger (chain_length s.anons) s.areas command
+        error is);
     shows = shows-refused s.areas s.anons command error [];
   };
   keeps = keeps;
@@ -114,16 +116,16 @@ refused k s command error keeps is = record {
 
 -- so a command is done where it is refused
 pub refuses : (k : Mem) (command : Command) (error : Errno) → ((s : State) → Keeps k s →
-    refusal (tests (setting (count k)) s.world s.ledger command) ≡ Some error) → Does k k command (Err (refusals.Refused error))
+    refusal (tests (setting (frame_count k)) s.world s.ledger command) ≡ Some error) → Does k k command (Err (refusals.Refused error))
 refuses k command error is = record { step = λ s keeps. refused k s command error keeps (is s keeps); count = refl }
 
 -- and where memory is wanting nothing is promised but the number of frames
-pub wants : (old new : Mem) (command : Command) → count new ≡ count old → Does old new command (Err refusals.Memory)
+pub wants : (old new : Mem) (command : Command) → frame_count new ≡ frame_count old → Does old new command (Err refusals.Memory)
 wants old new command same = record { step = λ s keeps. tt; count = same }
 
 -- as `?` hands it out
 pub wants-by : (old new : Mem) (command : Command) (reply : Reply) (r : Result (Unit {0}) Refusal) → IsErr r × IsErrAnd r (λ e. e ≡ refusals.Memory) →
-    count new ≡ count old → Does old new command (reply_in reply r)
+    frame_count new ≡ frame_count old → Does old new command (reply_in reply r)
 wants-by old new command reply (Ok done) is same = absurd is.1
 wants-by old new command reply (Err e) is same = subst (λ e. Does old new command (Err e)) (sym is.1) (wants old new command same)
 
@@ -172,8 +174,8 @@ kept-on v v' l l' (Some (InSlot s)) p same was none h = slot_kept v v' s p (fram
 pub orderly : (k : Mem) (s : State) → Keeps k s → HasLedger k s.ledger
 orderly k s keeps = record { sound = keeps.stands.sound.ledger; parts = keeps.stands.parts.ledger }
 
-pub stepped : (old new : Mem) (s next : State) (command : Command) (reply : Reply) → Keeps old s → IsStep (setting (count old)) s command reply next →
-    count new ≡ count old → HasLedger new next.ledger → free_of (view new) ≡ next.free
+pub stepped : (old new : Mem) (s next : State) (command : Command) (reply : Reply) → Keeps old s → IsStep (setting (frame_count old)) s command reply next →
+    frame_count new ≡ frame_count old → HasLedger new next.ledger → free_of (view new) ≡ next.free
     → AreasAre (view new) next.areas → AnonsStand (view new) next.areas next.anons → HomesAre (view new) next.homes → IsRmapSound next.ledger (rmap_of next) →
     AnonsFit new.spaces new.anons → AreasStand (view new) next.world → HasTables new →
     ((q page : ℕ) → IsKept (view new) no_device next.ledger (entry next.ledger (q, page)) (pages next.world q page)) → MemSteps old new s command reply
@@ -184,7 +186,7 @@ stepped old new s next command reply keeps step same_count stands free areas_now
     stands = record {
       over = record { sizes = refl; headers = refl };
       sound = subst (λ n. AllSound (setting n) next.world next.ledger) (sym same_count)
-          (step-sound (setting (count old)) s command reply next keeps.stands.sound step);
+          (step-sound (setting (frame_count old)) s command reply next keeps.stands.sound step);
       parts = record {
         ledger = stands.parts;
         areas = areas;
@@ -193,10 +195,11 @@ stepped old new s next command reply keeps step same_count stands free areas_now
           clean = λ t stale flying. nothing_clean (view new) t (frame_at next.ledger t)
               (no_frame_at next.ledger t (no_cache next.ledger stands.parts.swap.finds));
         };
-        headers = no_headers (setting (count new)) next.ledger (sym stands.parts.swap.on);
+        headers = no_headers (setting (frame_count new)) next.ledger (sym stands.parts.swap.on);
       };
       free = free;
-      lists = subst (ListsAll (setting (count new)) next.ledger) free (listed new (setting (count new)) next.ledger (view new).free stands.parts.swap lists);
+      lists = subst (ListsAll (setting (frame_count new)) next.ledger) free
+          (listed new (setting (frame_count new)) next.ledger (view new).free stands.parts.swap lists);
       areas = areas_now;
       anons = anons_now;
       homes = homes_now;
@@ -207,10 +210,10 @@ stepped old new s next command reply keeps step same_count stands free areas_now
   };
 }
   where
-    lists : ListsFree (setting (count new)) next.ledger (view new).free
+    lists : ListsFree (setting (frame_count new)) next.ledger (view new).free
     lists = subst (λ n. ListsFree (setting n) next.ledger (view new).free) (sym same_count)
-        (subst (ListsFree (setting (count old)) next.ledger) (sym (ap (λ (f : Free). f.frames) free))
-        (step-lists_free (setting (count old)) s command reply next keeps.stands.sound keeps.stands.lists.frames step))
+        (subst (ListsFree (setting (frame_count old)) next.ledger) (sym (ap (λ (f : Free). f.frames) free))
+        (step-lists_free (setting (frame_count old)) s command reply next keeps.stands.sound keeps.stands.lists.frames step))
 
 -- ---- what reverse mapping goes by, after areas changed
 
@@ -245,7 +248,8 @@ state_after s p now on l free anons = record {
 }
 
 module _ (old new : Mem) (s : State) (command : Command) (reply : Reply) (p : ℕ) (now : Process) (on : Pages) (l : Ledger)
-    (keeps : Keeps old s) (stay : AnonsStay old.spaces old.anons new.spaces new.anons) (same_count : count new ≡ count old) (stands : HasLedger new l)
+    (keeps : Keeps old s) (stay : AnonsStay old.spaces old.anons new.spaces new.anons) (same_count : frame_count new ≡ frame_count old)
+        (stands : HasLedger new l)
     (bytes : (view new).bytes ≡ (view old).bytes) (homes : (view new).homes ≡ (view old).homes)
     (others : (q page : ℕ) → (q == p) ≡ false → entry l (q, page) ≡ entry s.ledger (q, page))
     (kept : (page : ℕ) → IsKept (view old) no_device s.ledger (entry l (p, page)) (now page))
@@ -278,7 +282,7 @@ module _ (old new : Mem) (s : State) (command : Command) (reply : Reply) (p : �
           (subst (λ q. home_of k.1 (s.areas q k.1) ≡ Some h) (is_number k.0 p e) is)
       home_at k f h names is false e = is
 
-  pub changed : IsStep (setting (count old)) s command reply (state_after s p now on l (free_of (view new)) new.anons) →
+  pub changed : IsStep (setting (frame_count old)) s command reply (state_after s p now on l (free_of (view new)) new.anons) →
       AreasAre (view new) (with_at p on s.areas) → AreasStand (view new) (set_process s.world p now) → HasTables new → MemSteps old new s command reply
   changed step areas_now areas tables = stepped old new s (state_after s p now on l (free_of (view new)) new.anons) command reply keeps
       step same_count stands refl areas_now

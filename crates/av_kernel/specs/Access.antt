@@ -14,7 +14,7 @@ use Rattle.av_kernel.specs.declared.access.Piece.{Piece}
 use Rattle.av_reclaim.specs.declared.mem.Mem.{Mem}
 use Rattle.av_fault.specs.declared.fault.Stop.{Stop}
 use Rattle.av_fault.specs.declared.fault.Stop.TheVariants.{Segv, Oom}
-use Rattle.av_reclaim.specs.Mem.{setting, count, Keeps}
+use Rattle.av_reclaim.specs.Mem.{setting, frame_count, Keeps}
 use Rattle.av_fault.specs.Fault.{stop_of}
 
 -- it begins behind the first `done` of n bytes, and goes on to the end of its page or of the bytes
@@ -41,13 +41,13 @@ pub record IsAccess (s : State) (new : Mem) (write : Bool) (p a n : ℕ) (bytes 
   pub events : List Event
   pub notes : now ≡ before ++ notes_of events
   pub end : End
-  pub accesses : Accesses (setting (count new)) s.world s.ledger p (pages_of_access write a n)
+  pub accesses : Accesses (setting (frame_count new)) s.world s.ledger p (pages_of_access write a n)
       events end
   pub is_end : IsEnd a n stop k end
   pub next : State
   pub world : next.world ≡ world_served write p a bytes s.world
   pub ledger : next.ledger ≡ after_all s.ledger events
-  pub free : ChoosesAll (setting (count new)) None s.ledger events s.free next.free
+  pub free : ChoosesAll (setting (frame_count new)) None s.ledger events s.free next.free
   pub rmap : rmap_of next ≡ rmap_after_all s.ledger events (rmap_of s)
   pub keeps : Keeps new next
 

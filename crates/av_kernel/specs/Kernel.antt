@@ -7,7 +7,7 @@ use Rattle.av_plain.specs.Device.{Device, IsSameDevice, setting_of}
 use Rattle.av_plain.specs.Stands.{Stands as ViewStands}
 use Rattle.av_plain.specs.Step.{causes}
 use Rattle.av_plain.specs.Transcript.{State, IsStep}
-use Rattle.av_reclaim.specs.Mem.{HasTables, count, view}
+use Rattle.av_reclaim.specs.Mem.{HasTables, frame_count, view}
 use Rattle.av_spaces.specs.Kin.{AnonsFit}
 use Rattle.av_kernel.specs.Machine.{Machine}
 use Rattle.av_kernel.specs.Tally.{tally_with, none_counted}
@@ -16,7 +16,7 @@ use Rattle.av_kernel.specs.Tally.{tally_with, none_counted}
 -- areas and the anon_vmas, among which there is chain order, and the homes; a process has a table
 -- exactly where it has areas
 pub record Stands (k : Machine) (device : Device) (s : State) : Type 0 where
-  pub stands : ViewStands (setting_of (count k.mem) device) (view k.mem) device s
+  pub stands : ViewStands (setting_of (frame_count k.mem) device) (view k.mem) device s
   pub tables : HasTables k.mem
   pub anons : AnonsFit k.mem.spaces k.mem.anons
 

@@ -11,7 +11,7 @@ use Rattle.av_plain.specs.Choice.{ChoosesAll}
 use Rattle.av_plain.specs.Areas.{rmap_after_all}
 use Rattle.av_plain.specs.Transcript.{State, rmap_of}
 use Rattle.av_reclaim.specs.declared.mem.Mem.{Mem}
-use Rattle.av_reclaim.specs.Mem.{setting, count, Keeps}
+use Rattle.av_reclaim.specs.Mem.{setting, frame_count, Keeps}
 use Rattle.av_fault.specs.declared.fault.Stop.{Stop}
 use Rattle.av_fault.specs.Fault.{stop_of}
 
@@ -25,13 +25,13 @@ pub record IsPageStep (s : State) (new : Mem) (write : Bool) (p page at : ℕ) (
     (before now : List Note) (end : Option Stop) : Type 0 where
   pub added : List Note
   pub notes : now ≡ before ++ added
-  pub touches : Touches (setting (count new)) s.world s.ledger write (p, page) added
+  pub touches : Touches (setting (frame_count new)) s.world s.ledger write (p, page) added
       (option_map stop_of end)
   pub next : State
   pub world : next.world ≡ world_after write p page at piece end s.world
   pub ledger : next.ledger
       ≡ after_all s.ledger (page_events write (p, page) added (option_map stop_of end))
-  pub free : ChoosesAll (setting (count new)) None s.ledger
+  pub free : ChoosesAll (setting (frame_count new)) None s.ledger
       (page_events write (p, page) added (option_map stop_of end)) s.free next.free
   pub rmap : rmap_of next
       ≡ rmap_after_all s.ledger (page_events write (p, page) added (option_map stop_of end))

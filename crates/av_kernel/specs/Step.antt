@@ -7,7 +7,7 @@ use Rattle.av_trace.specs.declared.reply.Reply.{Reply}
 use Rattle.av_trace.specs.Reply.{answer_only}
 use Rattle.av_plain.specs.Transcript.{State, IsStep}
 use Rattle.av_reclaim.specs.declared.mem.Mem.{Mem}
-use Rattle.av_reclaim.specs.Mem.{setting, count, Keeps}
+use Rattle.av_reclaim.specs.Mem.{setting, frame_count, Keeps}
 use Rattle.av_kernel.specs.declared.refusal.Refusal.{Refusal}
 use Rattle.av_kernel.specs.declared.refusal.Refusal.TheVariants.{Refused, Memory}
 
@@ -33,11 +33,11 @@ reply_of (Err Memory) = None
 -- a command's reply is a step, and the memory system stands for what it leaves
 pub record MemSteps (old new : Mem) (s : State) (command : Command) (reply : Reply) : Type 0 where
   pub next : State
-  pub step : IsStep (setting (count old)) s command reply next
+  pub step : IsStep (setting (frame_count old)) s command reply next
   pub keeps : Keeps new next
 
 -- What every command promises: whatever the memory system stood for, the reply is a step, and it
 -- stands for what that leaves. There are as many frames as before
 pub record Does (old new : Mem) (command : Command) (result : Result Reply Refusal) : Type 0 where
   pub step : (s : State) → Keeps old s → IfSome (reply_of result) (MemSteps old new s command)
-  pub count : count new ≡ count old
+  pub count : frame_count new ≡ frame_count old

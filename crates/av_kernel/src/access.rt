@@ -5,7 +5,7 @@ ghost use Rattle.av_plain.specs.Transcript.{State};
 ghost use Rattle.av_plain.specs.Access.{Reads};
 ghost use Rattle.av_plain.specs.World.{pages};
 ghost use Rattle.av_spaces.specs.Spaces.{areas_of};
-ghost use Rattle.av_reclaim.specs.Mem.{count, Keeps, IsSteady};
+ghost use Rattle.av_reclaim.specs.Mem.{frame_count, Keeps, IsSteady};
 ghost use Rattle.av_kernel.specs.Step.{Does, reply_in};
 ghost use Rattle.av_kernel.specs.Access.{IsPiece, IsAccess, answer_at, answer_of};
 ghost use Rattle.av_trace.specs.Reply.{IsCleared};
@@ -103,7 +103,7 @@ fn read_pieces(
         ended.stop ended.served) }
     ensures reads { (s : State) → Keeps mem.old s → IfOk result (λ ended.
         Reads (pages s.world process) address ended.served shown.new) }
-    ensures count { count mem.new ≡ count mem.old }
+    ensures count { frame_count mem.new ≡ frame_count mem.old }
 {
     let mut done = 0;
     while done < len {
@@ -137,7 +137,7 @@ fn write_pieces(
     ensures access { (s : State) → Keeps mem.old s → IfOk result (λ ended.
         IsAccess s mem.new true process address (length bytes.now) (take ended.served bytes.now)
         notes.old notes.new ended.stop ended.served) }
-    ensures count { count mem.new ≡ count mem.old }
+    ensures count { frame_count mem.new ≡ frame_count mem.old }
 {
     let mut done = 0;
     while done < bytes.len() {

@@ -31,7 +31,7 @@ pub struct Kernel {
 }
 
 impl Model for Kernel {
-    ghost use Rattle.av_reclaim.specs.Mem.{count};
+    ghost use Rattle.av_reclaim.specs.Mem.{frame_count};
     ghost use Rattle.av_reclaim.specs.contracts.mem.Mem.{the_row};
     ghost use Rattle.av_kernel.specs.contracts.tally.Tally.{the_row as tally_row};
     ghost use Rattle.av_kernel.specs.Machine.{Machine, machine_code, IsSound};
@@ -41,7 +41,7 @@ impl Model for Kernel {
     ghost coded = { machine_code the_row.coded tally_row.coded };
 
     ghost view = { λ k. record {
-      frames = count k.mem;
+      frames = frame_count k.mem;
       mem = k.mem;
       steps = k.steps;
       tally = k.tally;

@@ -8,7 +8,7 @@ ghost use Rattle.av_plain.specs.Map.{zaps_for_place};
 ghost use Rattle.av_plain.specs.Areas.{with_room};
 ghost use Rattle.av_vma.specs.Pages.{after_unmap};
 ghost use Rattle.av_spaces.specs.Spaces.{areas_of, is_taken, pages_of};
-ghost use Rattle.av_reclaim.specs.Mem.{count, IsSteady, HasLedger};
+ghost use Rattle.av_reclaim.specs.Mem.{frame_count, IsSteady, HasLedger};
 ghost use Rattle.av_place.specs.Place.{AreToUnmap};
 ghost use Rattle.av_kernel.specs.Map.{AreUnmapped};
 ghost use Rattle.av_kernel.specs.Step.{Does, reply_in};
@@ -121,7 +121,7 @@ fn make_room(
         (AreUnmapped mem.old mem.new process page pages
         (with_room pages place (pages_of mem.old.spaces.processes process)) l
         (zaps_for_place l process pages place)) }
-    ensures count { count mem.new ≡ count mem.old }
+    ensures count { frame_count mem.new ≡ frame_count mem.old }
 {
     match place {
         Place::Fixed(_) => unmap_pages(mem, process, page, pages),
@@ -138,7 +138,7 @@ fn unmap_pages(mem: &mut Mem, process: u16, page: u64, pages: u64) -> Result<(),
         (AreUnmapped mem.old mem.new process page pages
         (after_unmap page (page + pages) (pages_of mem.old.spaces.processes process)) l
         (zaps_of l (keys_in l process page pages))) }
-    ensures count { count mem.new ≡ count mem.old }
+    ensures count { frame_count mem.new ≡ frame_count mem.old }
 {
     zap_range(mem, process, page, page + pages);
     mem.spaces.unmap(&mut mem.anons, process, page, pages)

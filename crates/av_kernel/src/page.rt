@@ -5,7 +5,7 @@ ghost use Rattle.std.specs.List.{AllByRecursion};
 ghost use Rattle.av_base.specs.Page.{page_size};
 ghost use Rattle.av_plain.specs.World.{lives};
 ghost use Rattle.av_plain.specs.Transcript.{State};
-ghost use Rattle.av_reclaim.specs.Mem.{count, Keeps, IsSteady};
+ghost use Rattle.av_reclaim.specs.Mem.{frame_count, Keeps, IsSteady};
 ghost use Rattle.av_kernel.specs.Page.{IsPageStep, ShowsPiece};
 
 use av_base::PAGE_SIZE;
@@ -29,7 +29,7 @@ pub fn write_page(
     requires fits { at + length piece.now ≤ page_size }
     ensures step { (s : State) → Keeps mem.old s → lives s.world process ≡ true → IfOk result
         (IsPageStep s mem.new true process page at piece.now notes.old notes.new) }
-    ensures count { count mem.new ≡ count mem.old }
+    ensures count { frame_count mem.new ≡ frame_count mem.old }
 {
     match touch(mem, process, page, true, notes)? {
         Touched::Ready(frame) => {
@@ -58,7 +58,7 @@ pub fn read_page(
         (IsPageStep s mem.new false process page at [] notes.old notes.new) }
     ensures shown { (s : State) → Keeps mem.old s → lives s.world process ≡ true → IfOk result
         (ShowsPiece s.world process page at len shown.old shown.new) }
-    ensures count { count mem.new ≡ count mem.old }
+    ensures count { frame_count mem.new ≡ frame_count mem.old }
 {
     match touch(mem, process, page, false, notes)? {
         Touched::Ready(frame) => {

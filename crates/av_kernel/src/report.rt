@@ -9,7 +9,7 @@ ghost use Rattle.av_vma.specs.Join.{first_of};
 ghost use Rattle.av_plain.specs.Ledger.{entry as entry_of, walk as walk_of};
 ghost use Rattle.av_plain.specs.Report.{area_row as row_of_area, entry_answer as answer_of_entry, key_row, range_of};
 ghost use Rattle.av_plain.specs.Transcript.{State};
-ghost use Rattle.av_reclaim.specs.Mem.{IsSteady, Keeps, count, view};
+ghost use Rattle.av_reclaim.specs.Mem.{IsSteady, Keeps, frame_count, view};
 ghost use Rattle.av_kernel.specs.Step.{Does, reply_in};
 ghost use Rattle.av_kernel.specs.Report.{AreRuns, shown_walk};
 ghost use Rattle.av_kernel.specs.declared.refusal.Refusal.TheVariants as refusals;
@@ -233,7 +233,7 @@ fn entry_answer(mem: &Mem, process: u16, page: u64) -> Answer
 /// Shows the walk of a frame.
 fn show_walk(mem: &Mem, alloc: Global, frame: u32, reply: &mut Reply) -> Result<(), AllocError>
     requires steady { IsSteady mem.now }
-    requires in_range { frame < count mem.now }
+    requires in_range { frame < frame_count mem.now }
     requires cleared { IsCleared reply.old }
     ensures { (s : State) → Keeps mem.now s
         → OnOk result (reply.new ≡ shown_walk frame (walk_of s.ledger frame)) }
@@ -253,7 +253,7 @@ fn keys_of(
     blank: Blank,
 ) -> Result<Vec<(u16, u64)>, AllocError>
     requires steady { IsSteady mem.now }
-    requires in_range { frame < count mem.now }
+    requires in_range { frame < frame_count mem.now }
     requires some { 0 < blank.parts }
     ensures keys { (s : State) → Keeps mem.now s
         → IfOk result (λ keys. keys.items ≡ walk_of s.ledger frame) }
@@ -269,7 +269,7 @@ fn keys_by<L: Ledger>(
     blank: Blank,
 ) -> Result<Vec<(u16, u64)>, AllocError>
     requires steady { IsSteady mem.now }
-    requires in_range { frame < count mem.now }
+    requires in_range { frame < frame_count mem.now }
     requires name { blank.name ≡ L.name }
     requires parts { blank.parts ≡ L.parts }
     requires some { 0 < blank.parts }

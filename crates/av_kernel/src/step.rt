@@ -3,7 +3,7 @@
 ghost use Rattle.std.specs.Prelude.{◌≡◌, OnOk, true};
 ghost use Rattle.av_trace.specs.Reply.{IsCleared};
 ghost use Rattle.av_plain.specs.Transcript.{State};
-ghost use Rattle.av_reclaim.specs.Mem.{count, Keeps, IsSteady};
+ghost use Rattle.av_reclaim.specs.Mem.{frame_count, Keeps, IsSteady};
 ghost use Rattle.av_kernel.specs.Step.{MemSteps, Does, is_of_pages, reply_in};
 
 use crate::access::{read, write};
@@ -32,7 +32,7 @@ pub fn perform(
     requires { IsSteady mem.old }
     ensures step { (s : State) → Keeps mem.old s →
         OnOk result (MemSteps mem.old mem.new s command.now reply.new) }
-    ensures count { count mem.new ≡ count mem.old }
+    ensures count { frame_count mem.new ≡ frame_count mem.old }
 {
     if let Answer::Data(shown) = &mut reply.answer {
         swap(shown, spare);

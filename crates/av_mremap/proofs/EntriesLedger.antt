@@ -19,7 +19,7 @@ use Rattle.av_plain.proofs.Ledger.NoSwap.{shared_is}
 use Rattle.av_plain.proofs.Mremap.{entry-moved, others_of, shifted}
 use Rattle.av_plain.proofs.Sound.Mremap.{frames-stay, moved-kept, slots-stay}
 use Rattle.av_reclaim.specs.declared.mem.Mem.{Mem}
-use Rattle.av_reclaim.specs.Mem.{HasLedger, SoundLedger, count, plain, setting, view, view_of_parts}
+use Rattle.av_reclaim.specs.Mem.{HasLedger, SoundLedger, frame_count, plain, setting, view, view_of_parts}
 use Rattle.av_reclaim.proofs.MemLaws.{no_cache}
 use Rattle.av_mremap.specs.Entries.{HasMoved, moved_entries}
 
@@ -133,7 +133,7 @@ module _ (old new : Mem) (p n from to : ℕ) (bare : (o : ℕ) → within to n o
       table q o = ap (λ f. plain (f q o)) moved
           ∙ pushed (q == p && within to n o) (q == p && within from n o) (entry_at old.tables p (from + (o - to))) (entry_at old.tables q o)
 
-  same_count : count new ≡ count old
+  same_count : frame_count new ≡ frame_count old
   same_count = ap (λ f. (shown f).count) frames
 
   none_at : (o : ℕ) → within to n o ≡ true → entry l (p, o) ≡ None
@@ -143,7 +143,7 @@ module _ (old new : Mem) (p n from to : ℕ) (bare : (o : ℕ) → within to n o
   no_slots = no_cache l stands.parts.swap.finds
 
   abbrev m : Setting
-  m = setting (count old)
+  m = setting (frame_count old)
 
   pub has_moved : HasMoved old new l p n from to
   has_moved = record {

@@ -14,7 +14,7 @@ use Rattle.av_plain.specs.Zap.{keys_in, zaps_of}
 use Rattle.av_plain.proofs.Access.{after_all-append, chooses-append, notes_of-append}
 use Rattle.av_plain.proofs.Mremap.{after-elsewhere, target_free, then_tail, then_target}
 use Rattle.av_reclaim.specs.declared.mem.Mem.{Mem}
-use Rattle.av_reclaim.specs.Mem.{HasLedger, count, plain, setting, view}
+use Rattle.av_reclaim.specs.Mem.{HasLedger, frame_count, plain, setting, view}
 use Rattle.av_reclaim.specs.Zap.{HasZapped}
 use Rattle.av_mremap.specs.Entries.{HasMoved, HasRemapped}
 
@@ -49,7 +49,7 @@ module _ (old mid gone : Mem) (l : Ledger) (p from n to m : ℕ) (first : HasZap
   bare o inside = no_entry gone (then_tail l p from n to m) p o second.stands (target_free l p from n to m o inside)
 
   -- elsewhere the rest has moved, too
-  module _ (new : Mem) (counts : count mid ≡ count old) (counts' : count gone ≡ count old)
+  module _ (new : Mem) (counts : frame_count mid ≡ frame_count old) (counts' : frame_count gone ≡ frame_count old)
       (third : HasMoved gone new (then_tail l p from n to m) p (min n m) from to) where
     abbrev target : List Event
     target = range_zaps l p to m
@@ -66,12 +66,12 @@ module _ (old mid gone : Mem) (l : Ledger) (p from n to m : ℕ) (first : HasZap
     silent : notes_of ((target ++ tail) ++ last) ≡ []
     silent = notes_of-append (target ++ tail) last ∙ ap (λ ns. ns ++ []) (notes_of-append target tail ∙ (λ i. first.notes i ++ second.notes i))
 
-    chosen : ChoosesAll (setting (count old)) None l ((target ++ tail) ++ last) (free_of (view old)) (free_of (view new))
-    chosen = chooses-append (setting (count old)) None l (target ++ tail) last (free_of (view old)) (free_of (view gone)) (free_of (view new))
-        (chooses-append (setting (count old)) None l target tail (free_of (view old)) (free_of (view mid)) (free_of (view gone)) first.free
+    chosen : ChoosesAll (setting (frame_count old)) None l ((target ++ tail) ++ last) (free_of (view old)) (free_of (view new))
+    chosen = chooses-append (setting (frame_count old)) None l (target ++ tail) last (free_of (view old)) (free_of (view gone)) (free_of (view new))
+        (chooses-append (setting (frame_count old)) None l target tail (free_of (view old)) (free_of (view mid)) (free_of (view gone)) first.free
         (subst (λ c. ChoosesAll (setting c) None (then_target l p from n to m) tail (free_of (view mid)) (free_of (view gone))) counts second.free)) (
           free_of (view new),
-          subst (λ x. Chooses (setting (count old)) None x (Moved p (min n m) from to) (free_of (view gone)) (free_of (view new))) (sym both)
+          subst (λ x. Chooses (setting (frame_count old)) None x (Moved p (min n m) from to) (free_of (view gone)) (free_of (view new))) (sym both)
               (subst (λ c. Chooses (setting c) None (then_tail l p from n to m) (Moved p (min n m) from to) (free_of (view gone)) (free_of (view new)))
               counts' third.free),
           refl,
@@ -81,7 +81,7 @@ module _ (old mid gone : Mem) (l : Ledger) (p from n to m : ℕ) (first : HasZap
     elsewhere there = record {
       stands = subst (HasLedger new) (sym (after-elsewhere l p from n to m there)) third.stands;
       notes = subst (λ es. notes_of es ≡ []) (sym is) silent;
-      free = subst (λ es. ChoosesAll (setting (count old)) None l es (free_of (view old)) (free_of (view new))) (sym is) chosen;
+      free = subst (λ es. ChoosesAll (setting (frame_count old)) None l es (free_of (view old)) (free_of (view new))) (sym is) chosen;
     }
       where
         is : remap_events l p from n to m ≡ (target ++ tail) ++ last

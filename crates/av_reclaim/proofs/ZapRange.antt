@@ -15,7 +15,7 @@ use Rattle.av_plain.proofs.Access.{after_all-append, notes_of-append, chooses-ap
 use Rattle.av_plain.proofs.Zap.{entry-after_zap, range-done, range-least, zap_of-alone, exit-is-range}
 use Rattle.av_reclaim.specs.declared.mem.Mem.{Mem}
 use Rattle.av_plain.specs.Stands.{entry_of, free_of}
-use Rattle.av_reclaim.specs.Mem.{HasLedger, count, plain, setting, view}
+use Rattle.av_reclaim.specs.Mem.{HasLedger, frame_count, plain, setting, view}
 use Rattle.av_reclaim.proofs.Parts.{Parts, Stand, parts_of, seen_as}
 use Rattle.av_reclaim.proofs.ZapFirst.{Takes}
 use Rattle.av_reclaim.specs.Zap.{HasZapped, KeepsRest}
@@ -112,8 +112,8 @@ all_taken old mid new p from past next first t step =
     record {
       stands = subst (HasLedger new) (sym (ap (after_all first) whole ∙ t.after)) step.2;
       notes = ap notes_of whole ∙ t.notes;
-      free = subst (λ es. ChoosesAll (setting (count old)) None first es (free_of (view old)) (free_of (view new))) (sym whole)
-          (subst (ChoosesAll (setting (count old)) None first t.done (free_of (view old))) (sym step.1) t.free);
+      free = subst (λ es. ChoosesAll (setting (frame_count old)) None first es (free_of (view old)) (free_of (view new))) (sym whole)
+          (subst (ChoosesAll (setting (frame_count old)) None first t.done (free_of (view old))) (sym step.1) t.free);
     }
   where
     lower : (q : ℕ) → within from (past - from) q ≡ true → from ≤ q

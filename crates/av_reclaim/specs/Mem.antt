@@ -74,8 +74,8 @@ view k =
     view_of_parts (shown k.frames) (λ p page. plain (entry_at k.tables p page)) k.spaces k.anons
 
 -- how many frames there are
-abbrev pub count : Mem → ℕ
-count k = (shown k.frames).count
+abbrev pub frame_count : Mem → ℕ
+frame_count k = (shown k.frames).count
 
 -- a process has a table exactly where it has areas
 abbrev pub HasTables : Mem → Type 0
@@ -84,7 +84,7 @@ HasTables k = (p : ℕ) → has k.tables p ≡ is_some (ranges_of k.spaces.proce
 -- the memory system stands for the memories, the ledger, what is free, the areas, the anon_vmas,
 -- among which there is chain order, and the homes; there is no device
 pub record Keeps (k : Mem) (s : State) : Type 0 where
-  pub stands : Stands (setting (count k)) (view k) no_device s
+  pub stands : Stands (setting (frame_count k)) (view k) no_device s
   pub tables : HasTables k
   pub anons : AnonsFit k.spaces k.anons
 
@@ -101,7 +101,7 @@ pub record SoundLedger (m : Setting) (v : View) (l : Ledger) : Type 0 where
 
 -- the memory system's parts do
 abbrev pub HasLedger : Mem → Ledger → Type 0
-HasLedger k l = SoundLedger (setting (count k)) (view k) l
+HasLedger k l = SoundLedger (setting (frame_count k)) (view k) l
 
 -- they stand for some
 abbrev pub IsOrderly : Mem → Type 0
@@ -111,6 +111,6 @@ IsOrderly k = (l : Ledger) × HasLedger k l
 pub record KeepsWithin (k : Mem) (w : World) (l : Ledger) : Type 0 where
   pub in_order : T (is_sorted key_cmp l.entries)
   pub at_pages : AtPages w l
-  pub parts : PartsStand (setting (count k)) (view k) no_device w l
+  pub parts : PartsStand (setting (frame_count k)) (view k) no_device w l
   pub tables : HasTables k
   pub anons : AnonsFit k.spaces k.anons

@@ -10,7 +10,7 @@ use Rattle.av_plain.specs.Event.{Event, Zapped, after_zap, after_all, notes_of}
 use Rattle.av_plain.specs.Choice.{Chooses, ChoosesAll}
 use Rattle.av_plain.specs.Stands.{View, free_of}
 use Rattle.av_reclaim.specs.declared.mem.Mem.{Mem}
-use Rattle.av_reclaim.specs.Mem.{setting, count, view, HasLedger}
+use Rattle.av_reclaim.specs.Mem.{setting, frame_count, view, HasLedger}
 
 -- the bytes, the homes, the areas, the anon_vmas and which processes have a table are as they were
 pub record KeepsRest (old new : Mem) : Type 0 where
@@ -19,7 +19,7 @@ pub record KeepsRest (old new : Mem) : Type 0 where
   pub homes : (view new).homes ≡ (view old).homes
   pub spaces : new.spaces ≡ old.spaces
   pub anons : new.anons ≡ old.anons
-  pub count : count new ≡ count old
+  pub count : frame_count new ≡ frame_count old
 
 -- one entry fewer names the frame, which is free in front of all others where that was the last
 abbrev pub after_unmap_frame : ℕ → View → View
@@ -65,7 +65,7 @@ ZapsFirst old new l p from past None =
 ZapsFirst old new l p from past (Some page) =
     (from ≤ page) × (is_some (entry l (p, page)) ≡ true)
     × ((q : ℕ) → from ≤ q → q < page → entry l (p, q) ≡ None)
-    × Chooses (setting (count old)) None l (Zapped (p, page))
+    × Chooses (setting (frame_count old)) None l (Zapped (p, page))
     (free_of (view old)) (free_of (view new))
     × HasLedger new (after_zap (p, page) l)
 
@@ -73,5 +73,5 @@ ZapsFirst old new l p from past (Some page) =
 pub record HasZapped (old new : Mem) (l : Ledger) (events : List Event) : Type 0 where
   pub stands : HasLedger new (after_all l events)
   pub notes : notes_of events ≡ []
-  pub free : ChoosesAll (setting (count old)) None l events
+  pub free : ChoosesAll (setting (frame_count old)) None l events
       (free_of (view old)) (free_of (view new))

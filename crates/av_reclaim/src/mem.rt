@@ -2,7 +2,7 @@
 
 ghost use Rattle.std.specs.Prelude.{◌≡◌, IfOk};
 ghost use Rattle.av_plain.specs.Transcript.{at_first};
-ghost use Rattle.av_reclaim.specs.Mem.{setting, count, Keeps};
+ghost use Rattle.av_reclaim.specs.Mem.{setting, frame_count, Keeps};
 
 use av_anon::Anons;
 use av_frames::Frames;
@@ -23,7 +23,7 @@ impl Mem {
     /// This many frames, all free, and no process.
     pub fn new(alloc: Global, frames: u32) -> Result<Mem, AllocError>
         ensures keeps { IfOk result (λ k. Keeps k (at_first (setting frames))) }
-        ensures count { IfOk result (λ k. count k ≡ frames) }
+        ensures count { IfOk result (λ k. frame_count k ≡ frames) }
     {
         Ok(Mem {
             frames: Frames::new(alloc, frames)?,

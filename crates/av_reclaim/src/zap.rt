@@ -4,7 +4,7 @@ ghost use Rattle.std.specs.Prelude.{◌≡◌, ◌-◌, ◌<◌, ◌≤◌, fals
 ghost use Rattle.av_base.specs.Words.{is_in};
 ghost use Rattle.av_plain.specs.Ledger.{Ledger};
 ghost use Rattle.av_plain.specs.Zap.{keys_in, keys_of_process, zaps_of};
-ghost use Rattle.av_reclaim.specs.Mem.{count, view, HasLedger, IsOrderly};
+ghost use Rattle.av_reclaim.specs.Mem.{frame_count, view, HasLedger, IsOrderly};
 ghost use Rattle.av_frames.specs.Store.{shown};
 ghost use Rattle.av_reclaim.specs.Zap.{after_release, after_unmap_frame, after_unmaps, AreInUse, ZapsFirst, HasZapped, KeepsRest};
 
@@ -60,14 +60,14 @@ fn zap_first(mem: &mut Mem, process: u16, from: u64, past: u64) -> Option<u64>
 
 /// One entry fewer names the frame, which becomes free where that was the last.
 fn unmap_frame(mem: &mut Mem, frame: u32)
-    requires in_range { frame < count mem.old }
+    requires in_range { frame < frame_count mem.old }
     requires named { 0 < (view mem.old).maps frame }
     requires not_free { is_in frame (view mem.old).free ≡ false }
     ensures view { view mem.new ≡ after_unmap_frame frame (view mem.old) }
     ensures tables { mem.new.tables ≡ mem.old.tables }
     ensures spaces { mem.new.spaces ≡ mem.old.spaces }
     ensures anons { mem.new.anons ≡ mem.old.anons }
-    ensures count { count mem.new ≡ count mem.old }
+    ensures count { frame_count mem.new ≡ frame_count mem.old }
 {
     release(&mut mem.frames, frame);
 }

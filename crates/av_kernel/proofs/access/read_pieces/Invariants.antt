@@ -3,7 +3,7 @@ use Rattle.std.proofs.Common.{◌≡◌, ◌+◌, ◌-◌, ◌%◌, ◌<◌, ◌
 use Rattle.av_plain.specs.World.{pages}
 use Rattle.av_plain.specs.Access.{Reads}
 use Rattle.av_plain.specs.Transcript.{State}
-use Rattle.av_reclaim.specs.Mem.{count, Keeps}
+use Rattle.av_reclaim.specs.Mem.{frame_count, Keeps}
 use Rattle.av_kernel.specs.Access.{IsAccess}
 use Rattle.av_kernel.proofs.access.read_pieces.Given as goal
 
@@ -16,5 +16,5 @@ invariant-loop-done l = record {
   begins : 1 ≤ l.done → l.done < l.len → (l.address + l.done) % 4096 ≡ 0;
   access : (s : State) → Keeps l.initial.mem s → IsAccess s l.mem false l.process l.address l.done [] l.initial.notes l.notes None l.done;
   reads : (s : State) → Keeps l.initial.mem s → Reads (pages s.world l.process) l.address l.done l.shown;
-  count : count l.mem ≡ count l.initial.mem;
+  count : frame_count l.mem ≡ frame_count l.initial.mem;
 }

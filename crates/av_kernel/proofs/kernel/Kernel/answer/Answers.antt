@@ -5,7 +5,7 @@ use Rattle.av_plain.specs.Device.{no_device}
 use Rattle.av_plain.specs.Step.{causes}
 use Rattle.av_plain.proofs.NoDevice.{no-causes}
 use Rattle.av_plain.specs.Transcript.{IsStep, State}
-use Rattle.av_reclaim.specs.Mem.{count, setting, Keeps}
+use Rattle.av_reclaim.specs.Mem.{frame_count, setting, Keeps}
 use Rattle.av_kernel.specs.Kernel.{Stands}
 use Rattle.av_kernel.specs.Machine.{Machine}
 use Rattle.av_kernel.specs.Tally.{IsAtMost}
@@ -33,7 +33,7 @@ returns-in-Ok-clause-stands c = λ s stands.
       step = subst (λ (k : Machine). IsStep (setting k.frames) s c.args.command.now c.perform.new.reply after.next) c.self.view_is after.step;
       same = record { sizes = refl; first = refl; faults = omega arith };
       stands = record { stands = after.keeps.stands; tables = after.keeps.tables; anons = after.keeps.anons };
-      faults = none_rose c.perform.new.reply (no-causes (setting (count c.self.inside.mem)) s.world s.ledger c.args.command.now
+      faults = none_rose c.perform.new.reply (no-causes (setting (frame_count c.self.inside.mem)) s.world s.ledger c.args.command.now
           c.perform.new.reply after.step.events (λ k. refl)
           keeps.stands.sound after.step.legal);
     }
