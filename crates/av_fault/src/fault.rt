@@ -172,7 +172,8 @@ fn is_shared(mem: &Mem, frame: u32) -> bool
 /// The numbers of an out-of-memory: the pinned frames, and all others, none of which has a slot.
 fn out_of(mem: &Mem, pinned: u32) -> OutOf
     requires { pinned ≤ frame_count mem.now }
-    ensures { result ≡ record { pinned = pinned; noslot = frame_count mem.now - pinned; fault = 0 } }
+    ensures { result
+        ≡ record { pinned = pinned; noslot = frame_count mem.now - pinned; fault = 0 } }
 {
     OutOf {
         pinned,
