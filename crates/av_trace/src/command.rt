@@ -100,7 +100,7 @@ fn spawn(bytes: &[u8]) -> Option<Command>
     end(Command::Spawn { process }, rest)
 }
 
-#[tactic(auto, unfolding(crate::specs::Command::whole, crate::specs::Word::both))]
+#[tactic(auto, unfolding(crate::specs::Command::whole, av_text::specs::Word::both))]
 fn fork(bytes: &[u8]) -> Option<Command>
     ensures { result ≡ fork_at bytes.now }
 {
@@ -117,7 +117,7 @@ fn exit(bytes: &[u8]) -> Option<Command>
     end(Command::Exit { process }, rest)
 }
 
-#[tactic(auto, unfolding(crate::specs::Command::whole, crate::specs::Word::both))]
+#[tactic(auto, unfolding(crate::specs::Command::whole, av_text::specs::Word::both))]
 fn mmap(bytes: &[u8]) -> Option<Command>
     ensures { result ≡ mmap_at bytes.now }
 {
@@ -135,7 +135,7 @@ fn mmap(bytes: &[u8]) -> Option<Command>
 }
 
 /// A process, an address and a length, and the rest.
-#[tactic(auto, unfolding(crate::specs::Word::both))]
+#[tactic(auto, unfolding(av_text::specs::Word::both))]
 fn range(bytes: &[u8]) -> Option<(((u16, u64), u64), &[u8])>
     ensures { option_map (λ x. (x.0, x.1.now)) result ≡ range_words bytes.now }
 {
@@ -157,7 +157,7 @@ fn munmap(bytes: &[u8]) -> Option<Command>
     end(command, rest)
 }
 
-#[tactic(auto, unfolding(crate::specs::Command::whole, crate::specs::Word::both))]
+#[tactic(auto, unfolding(crate::specs::Command::whole, av_text::specs::Word::both))]
 fn mprotect(bytes: &[u8]) -> Option<Command>
     ensures { result ≡ mprotect_at bytes.now }
 {
@@ -172,7 +172,7 @@ fn mprotect(bytes: &[u8]) -> Option<Command>
     end(command, rest)
 }
 
-#[tactic(auto, unfolding(crate::specs::Command::whole, crate::specs::Word::both))]
+#[tactic(auto, unfolding(crate::specs::Command::whole, av_text::specs::Word::both))]
 fn mremap(bytes: &[u8]) -> Option<Command>
     ensures { result ≡ mremap_at bytes.now }
 {
@@ -189,7 +189,7 @@ fn mremap(bytes: &[u8]) -> Option<Command>
     end(command, rest)
 }
 
-#[tactic(auto, unfolding(crate::specs::Command::whole, crate::specs::Word::both))]
+#[tactic(auto, unfolding(crate::specs::Command::whole, av_text::specs::Word::both))]
 fn read(bytes: &[u8]) -> Option<Command>
     ensures { result ≡ read_at bytes.now }
 {
@@ -203,7 +203,7 @@ fn read(bytes: &[u8]) -> Option<Command>
     end(command, rest)
 }
 
-#[tactic(auto, unfolding(crate::specs::Command::whole, crate::specs::Word::both))]
+#[tactic(auto, unfolding(crate::specs::Command::whole, av_text::specs::Word::both))]
 fn write(alloc: Global, bytes: &[u8], spare: &mut Bytes) -> Result<Option<Command>, AllocError>
     ensures { IfOk result (λ found. found ≡ write_at bytes.now) }
 {
