@@ -226,17 +226,17 @@ module _ (old : Mem) (s : State) (keeps : Keeps old s) (parent child : ℕ) (are
     abbrev next : Rmap
     next = all_reach.next
 
-    shown : Shows new.spaces.processes (kin_now new.spaces new.anons) next
-    shown = subst (λ k. Shows new.spaces.processes k next) (sym f.kin) (all_reach.shows new.spaces.processes f.spawned)
+    shows : Shows new.spaces.processes (kin_now new.spaces new.anons) next
+    shows = subst (λ k. Shows new.spaces.processes k next) (sym f.kin) (all_reach.shows new.spaces.processes f.spawned)
 
     forked : AreForked parent child (rmap_of s) next
     forked = (areas, apart, λ page. ap (λ o. pages_in o page) (sym there) ∙ keeps.stands.areas parent page, all_reach.goes)
 
     anons_stand : AnonsStand (view new) next.areas next.anons
     anons_stand = record {
-      next = shown.next;
-      kin = λ n. by n (info_of new.anons n) ∙ shown.kin n;
-      chains = λ p page. chain_at p page (next.areas p page) refl (shown.chains p page);
+      next = shows.next;
+      kin = λ n. by n (info_of new.anons n) ∙ shows.kin n;
+      chains = λ p page. chain_at p page (next.areas p page) refl (shows.chains p page);
     }
       where
         by : (n : ℕ) (o : Option Info) → option_map kin_of (option_map (anon_vma (in_spaces.chain_by new.spaces new.anons (Some n))) o) ≡ option_map kin_in o
@@ -252,13 +252,13 @@ module _ (old : Mem) (s : State) (keeps : Keeps old s) (parent child : ℕ) (are
             own : (own : Option ℕ) → area.anon ≡ own → chain_by (view new).anons own ≡ chain_in (kin_now new.spaces new.anons) own
             own None e = refl
             own (Some v) e = shown_chain new.spaces new.anons v (owned_there new.spaces new.anons f.fit v
-                (p, page, subst (λ o. IsSomeAnd o (λ area. area.anon ≡ Some v)) (sym (shown.areas p page ∙ is)) e))
+                (p, page, subst (λ o. IsSomeAnd o (λ area. area.anon ≡ Some v)) (sym (shows.areas p page ∙ is)) e))
 
     pub has_fork : new.frames ≡ old.frames → HasFork old new parent child s
     has_fork same_frames = record {
       next = next;
       forked = forked;
-      areas = shown.areas;
+      areas = shows.areas;
       anons = anons_stand;
       homes = λ g. ap (λ frames. (shown frames).home g) same_frames ∙ keeps.stands.homes g
           ∙ sym (ap (λ homes. homes g) (child-has parent child (rmap_of s) next forked).homes);
