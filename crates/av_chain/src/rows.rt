@@ -74,7 +74,7 @@ impl Nodes {
         let Some(head) = heads.get_mut(&key) else {
             return;
         };
-        match left(sides, *head) {
+        match head_left(sides, *head) {
             None => {
                 heads.remove(&key);
             }
@@ -84,7 +84,7 @@ impl Nodes {
 }
 
 // What a list's head is without a node that had these neighbours.
-fn left(sides: Sides, head: Head) -> Option<Head>
+fn head_left(sides: Sides, head: Head) -> Option<Head>
     requires { 0 < head.count }
     ensures { result ≡ head_without sides (Some head) }
 {

@@ -35,7 +35,7 @@ pub fn walk<K: Look, L: Ledger>(
     let (anon, index) = home;
     let mut after = None;
     'looks: while let Some((first, area)) = look.next(anon, index, after) {
-        if let Some(key) = found(look, frame, index, area, steps) {
+        if let Some(key) = look_at(look, frame, index, area, steps) {
             into.push_reserved(key);
         }
         after = Some((first, area));
@@ -50,7 +50,7 @@ pub fn walks_are_equally_long()
 {}
 
 /// One look: the page of the area with this index, where its entry names the frame.
-fn found<K: Look, L: Ledger>(
+fn look_at<K: Look, L: Ledger>(
     look: &K,
     frame: u32,
     index: u64,

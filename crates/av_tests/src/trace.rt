@@ -1,8 +1,9 @@
+use av_text::Bytes;
 use av_trace::*;
 use std::alloc::Global;
 
 /// The bytes that a line writes to 7fffffffd000 of process 7.
-fn written(alloc: Global, line: &[u8]) -> Option<Bytes> {
+fn data_of(alloc: Global, line: &[u8]) -> Option<Bytes> {
     match parse_line(alloc, line) {
         Ok(
             Some(
@@ -19,7 +20,7 @@ fn written(alloc: Global, line: &[u8]) -> Option<Bytes> {
 
 #[test]
 fn stored_bytes(rt: HostRuntime) {
-    let found = written(rt.alloc(), b"write 7 7fffffffd000 00417f");
+    let found = data_of(rt.alloc(), b"write 7 7fffffffd000 00417f");
     assert!(rt; found.is_some_and(|bytes| bytes.as_slice() == b"\x00\x41\x7f".as_slice()));
-    assert!(rt; written(rt.alloc(), b"write 7 7fffffffd000 00417").is_none());
+    assert!(rt; data_of(rt.alloc(), b"write 7 7fffffffd000 00417").is_none());
 }

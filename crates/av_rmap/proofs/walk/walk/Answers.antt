@@ -39,8 +39,8 @@ returns-clause-counted g c =
     let kept = c.looks.invariant.counted in
     omega (arith, none, kept)
 
-pub found-requires : goal.found-requires
-found-requires g c =
+pub look_at-requires : goal.look_at-requires
+look_at-requires g c =
     let view = g.K.Look.view c.args.look.now in
     let f = names_frame c.args.frame in
     let t = turn view f c.args.home c.looks.after (c.in-Some.first, c.in-Some.area) c.requires.spanned c.next.ensures.ordered
@@ -52,12 +52,12 @@ push_reserved-requires g c =
     let view = g.K.Look.view c.args.look.now in
     let t = turn view (names_frame c.args.frame) c.args.home c.looks.after (c.in-Some.first, c.in-Some.area) c.requires.spanned c.next.ensures.ordered
     (sym c.next.ensures.first ∙ c.in-Some.is) in
-    let more = room_with _ _ _ c.in-Some-found.key t.walk (ap list_of (sym c.in-Some-found.is) ∙ c.found.ensures.found) in
+    let more = room_with _ _ _ c.in-Some-look_at.key t.walk (ap list_of (sym c.in-Some-look_at.is) ∙ c.look_at.ensures.found) in
     let room = c.looks.invariant.room in
     omega (arith, more, room)
 
-pub looks-smaller-in-Some-found : goal.looks-smaller-in-Some-found
-looks-smaller-in-Some-found g c =
+pub looks-smaller-in-Some-look_at : goal.looks-smaller-in-Some-look_at
+looks-smaller-in-Some-look_at g c =
     let view = g.K.Look.view c.args.look.now in
     let t = turn view (names_frame c.args.frame) c.args.home c.looks.after (c.in-Some.first, c.in-Some.area) c.requires.spanned c.next.ensures.ordered
     (sym c.next.ensures.first ∙ c.in-Some.is) in
@@ -70,17 +70,17 @@ looks-smaller g c =
     (sym c.next.ensures.first ∙ c.in-Some.is) in
     let count = t.count in omega (arith, count)
 
-pub looks-preserved-in-Some-found : goal.looks-preserved-in-Some-found
-looks-preserved-in-Some-found g c =
+pub looks-preserved-in-Some-look_at : goal.looks-preserved-in-Some-look_at
+looks-preserved-in-Some-look_at g c =
     let view = g.K.Look.view c.args.look.now in
     let t = turn view (names_frame c.args.frame) c.args.home c.looks.after (c.in-Some.first, c.in-Some.area) c.requires.spanned c.next.ensures.ordered
     (sym c.next.ensures.first ∙ c.in-Some.is) in
-    let one = ap list_of (sym c.in-Some-found.is) ∙ c.found.ensures.found in
-    let more = room_with _ _ _ c.in-Some-found.key t.walk one in
+    let one = ap list_of (sym c.in-Some-look_at.is) ∙ c.look_at.ensures.found in
+    let more = room_with _ _ _ c.in-Some-look_at.key t.walk one in
     let count = t.count in let room = c.looks.invariant.room in let kept = c.looks.invariant.counted in
-    let step = c.found.ensures.counted in let len = c.push_reserved.ensures.len in let cap = c.push_reserved.ensures.capacity in
+    let step = c.look_at.ensures.counted in let len = c.push_reserved.ensures.len in let cap = c.push_reserved.ensures.capacity in
     record {
-      found = turn_with c.looks.into.items c.push_reserved.new.self.items _ _ _ _ c.in-Some-found.key c.looks.invariant.found t.walk
+      found = turn_with c.looks.into.items c.push_reserved.new.self.items _ _ _ _ c.in-Some-look_at.key c.looks.invariant.found t.walk
           one c.push_reserved.ensures.items;
       room = omega (arith, more, room, len, cap);
       counted = omega (arith, count, kept, step);
@@ -91,9 +91,9 @@ looks-preserved g c =
     let view = g.K.Look.view c.args.look.now in
     let t = turn view (names_frame c.args.frame) c.args.home c.looks.after (c.in-Some.first, c.in-Some.area) c.requires.spanned c.next.ensures.ordered
     (sym c.next.ensures.first ∙ c.in-Some.is) in
-    let none = ap list_of (sym c.in_default-found.is) ∙ c.found.ensures.found in
+    let none = ap list_of (sym c.in_default-look_at.is) ∙ c.look_at.ensures.found in
     let less = room_without _ _ _ t.walk none in
-    let count = t.count in let room = c.looks.invariant.room in let kept = c.looks.invariant.counted in let step = c.found.ensures.counted in
+    let count = t.count in let room = c.looks.invariant.room in let kept = c.looks.invariant.counted in let step = c.look_at.ensures.counted in
     record {
       found = turn_without c.looks.into.items _ _ _ _ c.looks.invariant.found t.walk none;
       room = omega (arith, less, room);
