@@ -81,7 +81,7 @@ module _ {A : Type 0} (key : A → ℕ) where
       let below : AllByRecursion (λ o. key o ≤ key x) l = all_both (λ o. (key o ≤ key x) ⊎ (key y ≤ key o)) (λ o. key o < key w) (λ o. key o ≤ key x)
       (λ o p q. elim p [ inl i ↦ i | inr i ↦ absurd (omega arith) ]) l (AllByRecursion-front _ l (w ∷ r) near) (all_lower l w r up') in
       let lower : AllByRecursion (λ o. key o < key z) l = all_both (λ o. key o ≤ key x) (λ o. key o ≡ key x → ⊥) (λ o. key o < key z) (λ o p q. omega arith)
-          l below
+      l below
       (AllByRecursion-front _ l (w ∷ r) others) in
       let up'' : IsRising key (l ++ z ∷ r) = rising_put l w z r up' (omega arith) lower in
       let is : without_key key (key x) (without_key key (key y) xs) ≡ l ++ r = without_swap (key x) (key y) (λ d. absurd (omega arith)) xs

@@ -298,7 +298,7 @@ module _ (s : State) (old new : Mem) (p page : ℕ) (notes : List Note) (keeps :
           );
           parts = subst (KeepsWithin new s.world) (sym use_is) (stand_now old new s.world (set_entry (p, page) (InFrame f true) s.ledger) _ is same
               (seen (setting (frame_count old)) (view old) s.world s.ledger p page f was bit (of_keeps old s keeps) (there_is s.world write p page permit)
-                  named few)
+              named few)
               (tables_still old new keeps.tables processes (ap (λ (v : View). v.areas) is)) order);
           free = subst (λ n. ChoosesAll (setting n) None s.ledger (page_events write (p, page) [] None) s.free (free_of (view new))) (sym same) (
             s.free,

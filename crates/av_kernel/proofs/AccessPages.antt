@@ -13,7 +13,7 @@ numbers-append a zero d = (λ i. range_with_len a (none d i)) ∙ ap (λ b. rang
 numbers-append a (suc c) d =
     ap (range_with_len a) (let next : suc c + d ≡ suc (c + d) = omega arith in next)
     ∙ ap (λ ns. a ∷ ns) (numbers-append (a + 1) c d ∙ ap (λ b. range_with_len (a + 1) c ++ range_with_len b d)
-        (let same : (a + 1) + c ≡ a + suc c = omega arith in same))
+    (let same : (a + 1) + c ≡ a + suc c = omega arith in same))
 
 -- how many pages n bytes from a on touch
 abbrev pub touches : ℕ → ℕ → ℕ
@@ -65,5 +65,5 @@ touched-more write a k n page at is small less begins =
     ap (map (λ page. (write, page)))
     (ap (range_with_len (a / 4096)) split ∙ numbers-append (a / 4096) (touches a k) (suc (touches a n - (touches a k + 1)))
     ∙ ap (λ b. range_with_len (a / 4096) (touches a k) ++ b ∷ range_with_len (b + 1) (touches a n - (touches a k + 1)))
-        (sym (pages_before a k page at is small begins)))
+    (sym (pages_before a k page at is small begins)))
     ∙ map-append (λ page. (write, page)) (range_with_len (a / 4096) (touches a k)) (page ∷ range_with_len (page + 1) (touches a n - (touches a k + 1)))

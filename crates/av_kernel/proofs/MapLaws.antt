@@ -272,7 +272,7 @@ module _ (old new : Mem) (s : State) (command : Command) (reply : Reply) (p page
 
   pub replaced-steps : is_fork command ≡ false → IsLegal (setting (frame_count old)) s.world s.ledger command reply events
       → set_process s.world p (with_pages (pages s.world p) page n (λ _. o)) ≡ next_world (setting (frame_count old)) s.world s.ledger events command
-          reply.answer
+      reply.answer
       → with_at p on s.areas ≡ next_areas (chain_length s.anons) s.areas s.world command reply.answer
       → ShowsAreas s.areas s.anons command reply.answer reply.rows → MemSteps old new s command reply
   replaced-steps plain legal world next shows =
@@ -558,7 +558,7 @@ module _ (old : Mem) (spaces : AllSpaces) (anons : AnonSet) (s : State) (p a len
 
   protected-steps : (answer : Answer) → answer ≡ (cond (pages_to_hole (pages s.world p) (page_of a) (pages_of len) == pages_of len) Done (Refused Enomem))
       → set_process s.world p (with_prot_on (pages s.world p) (page_of a) (reached - page_of a) prot) ≡ next_world (setting (frame_count old)) s.world
-          s.ledger []
+      s.ledger []
       (Mprotect p a len prot) answer
       → with_at p (pages_changed (chain_length s.anons) (to_prot prot) (page_of a) (reached - page_of a) (s.areas p)) s.areas ≡ next_areas
       (chain_length s.anons) s.areas s.world (Mprotect p a len prot) answer

@@ -30,7 +30,7 @@ counted k s processes keeps once below number =
     let st = keeps.stands in
     ap (λ (n : ℕ). with_number n) (number ∙ st.parts.areas.number)
     ∙ sym (totals-plain (setting (frame_count k)) s.world s.ledger (view k).free st.sound.ledger (sym st.parts.ledger.lists.active)
-        (sym st.parts.ledger.swap.flight)
+    (sym st.parts.ledger.swap.flight)
     (sym st.parts.ledger.swap.on) (free-once (setting (frame_count k)) s.ledger (view k).free once below st.parts.ledger.frames.free))
   where
     with_number : ℕ → Totals

@@ -249,7 +249,7 @@ state_after s p now on l free anons = record {
 
 module _ (old new : Mem) (s : State) (command : Command) (reply : Reply) (p : ℕ) (now : Process) (on : Pages) (l : Ledger)
     (keeps : Keeps old s) (stay : AnonsStay old.spaces old.anons new.spaces new.anons) (same_count : frame_count new ≡ frame_count old)
-        (stands : HasLedger new l)
+    (stands : HasLedger new l)
     (bytes : (view new).bytes ≡ (view old).bytes) (homes : (view new).homes ≡ (view old).homes)
     (others : (q page : ℕ) → (q == p) ≡ false → entry l (q, page) ≡ entry s.ledger (q, page))
     (kept : (page : ℕ) → IsKept (view old) no_device s.ledger (entry l (p, page)) (now page))

@@ -127,7 +127,7 @@ one-longer false a xs = omega arith
 sum-passes : (p q r t : ℕ → Bool) (a n : ℕ)
     → ((x : ℕ) → ◌≡◌ {A = ℕ} (cond (p x) 1 0 + cond (q x) 1 0) (cond (r x) 1 0 + cond (t x) 1 0))
     → length (filter p (range_with_len a n)) + length (filter q (range_with_len a n)) ≡ length (filter r (range_with_len a n)) + length
-        (filter t (range_with_len a n))
+    (filter t (range_with_len a n))
 sum-passes p q r t a zero h = refl
 sum-passes p q r t a (suc n) h =
     let rest = sum-passes p q r t (a + 1) n h in

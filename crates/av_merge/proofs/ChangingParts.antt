@@ -144,7 +144,7 @@ module _ (len : Lengths) (p from past number : ℕ) (effect : Effect) (area : Ar
       ∙ changed_maps from past effect (split_at past (split_at from (pages_by areas spans))) page
       ∙ ap (λ (m : Option Mapping). cond (within from (past - from) page) (option_map (mapping_with effect) m) m)
       (split_maps past (split_at from (pages_by areas spans)) (laid_split from (pages_by areas spans) laid) page
-          ∙ split_maps from (pages_by areas spans) laid page)
+      ∙ split_maps from (pages_by areas spans) laid page)
 
   -- the area that the part is of, where the effect makes it another
   module _ (one : Area) (there : pages_by areas spans from ≡ Some one) (altered : alters effect one ≡ true) where
@@ -195,7 +195,7 @@ module _ (len : Lengths) (p from past number : ℕ) (effect : Effect) (area : Ar
   pub part_pages : {T E : Type 0} (len' : Lengths) → AreAlike len len' (pages_by changed spans'') → (r : Result T E) (new : Pages) →
       OnOk r ((page : ℕ) → new page ≡ joined_around len from past (pages_by changed spans'') page) →
       OnOk r ((page : ℕ) → new page ≡ joined_around len' from past (with_effect_on from past effect (split_at past (split_at from (pages_by areas spans))))
-          page)
+      page)
   part_pages len' alike (Ok x) new h = λ page. h page ∙ around_alike len len' from past (pages_by changed spans'') alike page
       ∙ (λ i. joined_around len' from past (λ q. changed_pages q i) page)
   part_pages len' alike (Err e) new h = tt

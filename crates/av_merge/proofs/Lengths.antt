@@ -118,7 +118,7 @@ pub part_alike : (len len' : Lengths) (from past : ℕ) (effect : Effect) (on : 
 part_alike len len' from past effect on h page =
     around_alike len len' from past (with_effect_on from past effect (split_at past (split_at from on)))
     (alike_effect len len' from past effect (split_at past (split_at from on))
-        (alike_split len len' past (split_at from on) (alike_split len len' from on h))) page
+    (alike_split len len' past (split_at from on) (alike_split len len' from on h))) page
 
 -- ---- the words of whole calls
 

@@ -14,9 +14,9 @@ ghost use Rattle.av_vma.specs.Pages.{alters, fresh_area, joined_around, pages_ch
 ghost use Rattle.av_merge.specs.Kin.{AreInOrder, StayKin, lengths};
 ghost use Rattle.av_merge.specs.Process.{AreAreasOf, Stays, AreOfOne, StayOfOne, Becomes};
 
-use crate::splitting::split_out;
 use crate::joining::{join_beside, join_part};
 use crate::placing::{add, beside};
+use crate::splitting::split_out;
 use av_anon::Anons;
 use av_base::{PAGE_SIZE, Prot};
 use av_vma::{Area, AreaId, Areas};

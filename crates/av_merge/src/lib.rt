@@ -27,7 +27,6 @@
 #![tactic(auto)]
 
 mod changing;
-mod splitting;
 mod forking;
 mod joining;
 mod laws;
@@ -35,12 +34,13 @@ mod linking;
 mod mremap;
 mod placing;
 mod preparing;
+mod splitting;
 
 pub use changing::{Change, map, modify};
-pub use splitting::{unmap, unmap_all};
 pub use forking::fork;
 pub use laws::{
     areas_are_laid, cuts_keep_mappings, joins_keep_mappings, parts_are_changed_page_by_page,
 };
 pub use mremap::{grow, move_range};
 pub use preparing::prepare;
+pub use splitting::{unmap, unmap_all};

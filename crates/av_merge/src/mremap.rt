@@ -12,10 +12,10 @@ ghost use Rattle.av_merge.specs.Kin.{AreInOrder, StayKin, lengths};
 ghost use Rattle.av_merge.specs.Pages.{pages_by};
 ghost use Rattle.av_merge.specs.Process.{AreAreasOf, NoneCrosses, Stays, AreOfOne, StayOfOne, Becomes};
 
-use crate::splitting::{split_before, unmap};
 use crate::joining::{join_at, join_ends};
 use crate::linking::take;
 use crate::placing::replace;
+use crate::splitting::{split_before, unmap};
 use av_anon::Anons;
 use av_base::PAGE_SIZE;
 use av_vma::{Area, AreaId, Areas};

@@ -5,14 +5,14 @@ ghost use Rattle.av_trace.specs.Command.{at_end, whole, no_words, fork_at, mmap_
 ghost use Rattle.av_text.specs.Number.{process_at};
 ghost use Rattle.av_text.specs.Word.{BeginsWith};
 
+use crate::mode::{Mode, mode_field};
+use crate::place::{Place, place_field};
+use av_base::{PAGE_SIZE, Prot};
 use av_text::Bytes;
 use av_text::hex::data_field;
-use crate::mode::{Mode, mode_field};
 use av_text::number::{address, decimal, entry, len, process};
-use crate::place::{Place, place_field};
 use av_text::prot::prot;
 use av_text::word::after;
-use av_base::{PAGE_SIZE, Prot};
 use std::alloc::{AllocError, Global};
 
 /// What a line asks for, with the words of the line in order.

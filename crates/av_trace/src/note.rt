@@ -6,11 +6,11 @@ ghost use Rattle.av_text.specs.Hex.{hex as hex_digits_of};
 ghost use Rattle.av_trace.specs.Note.{slot_text, cause_name, note_line as line_of_note};
 ghost use Rattle.av_text.specs.Word.{Adds, field, line};
 
+use av_base::Slot;
 use av_text::Bytes;
 use av_text::hex::add_address;
 use av_text::number::{add_decimal, add_number};
 use av_text::word::add_word;
-use av_base::Slot;
 use std::alloc::{AllocError, Global};
 use std::marker::Model;
 

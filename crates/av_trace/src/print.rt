@@ -6,10 +6,10 @@ ghost use Rattle.av_trace.specs.Print.{notes_text, rows_text, text_of};
 ghost use Rattle.av_trace.specs.Reply.{IsReply};
 ghost use Rattle.av_text.specs.Word.{Adds};
 
-use av_text::Bytes;
 use crate::note::{Note, note_line};
 use crate::reply::{Reply, answer_line};
 use crate::row::{Row, row_line};
+use av_text::Bytes;
 use std::alloc::AllocError;
 
 /// What begins the line of a note or a row.

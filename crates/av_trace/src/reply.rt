@@ -7,13 +7,13 @@ ghost use Rattle.av_trace.specs.Note.{slot_text};
 ghost use Rattle.av_trace.specs.Reply.{answer_only, errno_name, labelled as labelled_text, shown_words, out_words, cached_words, total_words, answer_line as line_of_answer};
 ghost use Rattle.av_text.specs.Word.{Adds, field, line};
 
+use crate::note::{Notes, add_slot, number_line, slot_line};
+use crate::row::Rows;
+use av_base::Slot;
 use av_text::Bytes;
 use av_text::hex::{add_address, add_bytes};
-use crate::note::{Notes, add_slot, number_line, slot_line};
 use av_text::number::{add_decimal, add_number};
-use crate::row::Rows;
 use av_text::word::add_word;
-use av_base::Slot;
 use std::alloc::{AllocError, Global};
 
 /// Why a command was refused, by the kernel's error numbers.

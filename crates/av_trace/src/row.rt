@@ -5,12 +5,12 @@ ghost use Rattle.std.specs.List.{flat_map};
 ghost use Rattle.av_trace.specs.Row.{chain_text, link_words, own_text, row_line as line_of_row};
 ghost use Rattle.av_text.specs.Word.{Adds, field};
 
+use av_base::Prot;
 use av_text::Bytes;
 use av_text::hex::{add_address, add_hex};
 use av_text::number::add_decimal;
 use av_text::prot::add_prot;
 use av_text::word::add_word;
-use av_base::Prot;
 use std::alloc::{AllocError, Global};
 use std::marker::Model;
 

@@ -169,7 +169,7 @@ module _ (from n to m : ℕ) (on : Pages) where
   owns_parts : AddsNoOwn on parts
   owns_parts = adds_neither on cleared parts (owns_unmapped to (to + m) on)
       (adds_neither cleared once parts (owns_split from cleared)
-          (adds_neither once twice parts (owns_split (from + min n m) once) (owns_split (from + n) twice)))
+      (adds_neither once twice parts (owns_split (from + min n m) once) (owns_split (from + n) twice)))
 
   pub owns_full : AddsNoOwn on full
   owns_full = adds_neither on carried full (adds_neither on parts carried owns_parts (owns_moved from n (min n m) to parts))

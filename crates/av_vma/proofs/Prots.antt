@@ -141,7 +141,7 @@ module _ (len : Lengths) (from n to m : ℕ) (on : Pages) (laid : AreLaid on) (m
   prots_pieces page out =
       let clear = after_unmap to (to + m) on in
       prots_split (from + n) (split_at (from + stay) (split_at from clear)) page ∙ prots_split (from + stay) (split_at from clear) page
-          ∙ prots_split from clear page
+      ∙ prots_split from clear page
       ∙ prots_unmapped to (to + m) on page (ap (λ k. within to k page) width ∙ out)
     where
       width : to + m - to ≡ m

@@ -19,8 +19,13 @@ returns-clause-slot c = rw (← c.self.view_is) (takes c.self.inside.pages.items
 
 pub returns-clause-gave : goal.returns-clause-gave
 returns-clause-gave c =
-    let t : Slots = record { pages = c.self.inside.pages.items; free = c.self.inside.free.items; current = c.self.inside.current; cursor =
-        c.self.inside.cursor } in
+    let t : Slots = record {
+      pages = c.self.inside.pages.items;
+      free = c.self.inside.free.items;
+      current = c.self.inside.current;
+      cursor =
+          c.self.inside.cursor;
+    } in
     sym (ap (λ (v : Slots). in_current v v.current) c.self.view_is) ∙ current_gives t c.in_ok-cluster.cluster _ c.in_ok-cluster.was
     (answered c.self.inside.pages.items _ c.self.inside.cursor _ (end_of c.in_ok-cluster.cluster) _ _ _ c.deref.ensures.value refl c.end_of.ensures
     c.lowest.ensures c.in_ok-page.was)
@@ -28,8 +33,13 @@ returns-clause-gave c =
 
 pub returns-in_err-page-clause-gave : goal.returns-in_err-page-clause-gave
 returns-in_err-page-clause-gave c =
-    let t : Slots = record { pages = c.self.inside.pages.items; free = c.self.inside.free.items; current = c.self.inside.current; cursor =
-        c.self.inside.cursor } in
+    let t : Slots = record {
+      pages = c.self.inside.pages.items;
+      free = c.self.inside.free.items;
+      current = c.self.inside.current;
+      cursor =
+          c.self.inside.cursor;
+    } in
     rw c.from_residual-in_err-page.ensures (
       sym (ap (λ (v : Slots). in_current v v.current) c.self.view_is) ∙ current_gives t c.in_ok-cluster.cluster _ c.in_ok-cluster.was
           (answered c.self.inside.pages.items _ c.self.inside.cursor _ (end_of c.in_ok-cluster.cluster) _ _ _ c.deref.ensures.value refl c.end_of.ensures

@@ -36,8 +36,13 @@ pub returns-clause-gave : goal.returns-clause-gave
 returns-clause-gave c =
     let is = first_is c.self.inside.free.items c.in_ok-cluster.field-0.now c.in_ok-cluster.ensures.item.3.0 c.in_ok-cluster.ensures.lookup in
     let p = c.in_ok-page.page in
-    let t : Slots = record { pages = c.self.inside.pages.items; free = c.self.inside.free.items; current = c.self.inside.current; cursor =
-        c.self.inside.cursor } in
+    let t : Slots = record {
+      pages = c.self.inside.pages.items;
+      free = c.self.inside.free.items;
+      current = c.self.inside.current;
+      cursor =
+          c.self.inside.cursor;
+    } in
     sym (ap (λ (v : Slots). in_next v v.free) c.self.view_is) ∙ next_gives t c.in_ok-cluster.field-0.now _ _ is
     (answered _ _ _ _ _ _ _ _ c.deref.ensures.value c.start_of.ensures c.end_of.ensures c.lowest.ensures c.in_ok-page.was)
     ∙ ap (λ (rest : List ℕ). Some (p, after_fill (record t { free = rest }) c.in_ok-cluster.field-0.now p)) (sym c.pop_front.ensures.rest)
@@ -45,8 +50,13 @@ returns-clause-gave c =
 pub returns-in_err-page-clause-gave : goal.returns-in_err-page-clause-gave
 returns-in_err-page-clause-gave c =
     let is = first_is c.self.inside.free.items c.in_ok-cluster.field-0.now c.in_ok-cluster.ensures.item.3.0 c.in_ok-cluster.ensures.lookup in
-    let t : Slots = record { pages = c.self.inside.pages.items; free = c.self.inside.free.items; current = c.self.inside.current; cursor =
-        c.self.inside.cursor } in
+    let t : Slots = record {
+      pages = c.self.inside.pages.items;
+      free = c.self.inside.free.items;
+      current = c.self.inside.current;
+      cursor =
+          c.self.inside.cursor;
+    } in
     rw c.from_residual-in_err-page.ensures (
       sym (ap (λ (v : Slots). in_next v v.free) c.self.view_is) ∙ next_gives t c.in_ok-cluster.field-0.now _ _ is
           (answered _ _ _ _ _ _ _ _ c.deref.ensures.value c.start_of.ensures c.end_of.ensures c.lowest.ensures c.in_err-page.was),

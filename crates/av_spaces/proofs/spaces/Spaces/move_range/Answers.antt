@@ -20,7 +20,7 @@ invariant_of-self c =
     let out = is_out c.self.inside.areas c.self.inside.trees.items c.take_tree-tree.new.trees.items c.self.inside.alive c.args.self.now c.args.process
     c.take_tree-tree.result c.self.view_is c.self.invariant c.take_tree-tree.ensures.tree c.take_tree-tree.ensures.trees in
     has_back out c.move_range-result.new.areas c.move_range-result.new.tree (c.move_range-result.ensures.stands c.args.process) c.put_tree.new.trees.items
-        c.put_tree.ensures
+    c.put_tree.ensures
 
 pub move_range-result-requires-clause-stands : goal.move_range-result-requires-clause-stands
 move_range-result-requires-clause-stands c =
@@ -39,10 +39,10 @@ returns-clause-areas c =
     let out = is_out c.self.inside.areas c.self.inside.trees.items c.take_tree-tree.new.trees.items c.self.inside.alive c.args.self.now c.args.process
     c.take_tree-tree.result c.self.view_is c.self.invariant c.take_tree-tree.ensures.tree c.take_tree-tree.ensures.trees in
     on_ok c.move_range-result.result (λ pages. is_changed out c.move_range-result.new.areas c.move_range-result.new.tree
-        (c.move_range-result.ensures.stands c.args.process)
+    (c.move_range-result.ensures.stands c.args.process)
     c.put_tree.new.trees.items c.put_tree.ensures
     (λ all on. AreThese (after_move (lengths all c.args.anons.now) c.args.from c.args.pages c.args.to c.args.new_pages on)) pages)
-        c.move_range-result.ensures.pages
+    c.move_range-result.ensures.pages
 
 pub move_range-result-requires-clause-order : goal.move_range-result-requires-clause-order
 move_range-result-requires-clause-order c =
@@ -53,5 +53,5 @@ returns-clause-anons c =
     let out = is_out c.self.inside.areas c.self.inside.trees.items c.take_tree-tree.new.trees.items c.self.inside.alive c.args.self.now c.args.process
     c.take_tree-tree.result c.self.view_is c.self.invariant c.take_tree-tree.ensures.tree c.take_tree-tree.ensures.trees in
     on_ok c.move_range-result.result (λ kin. anons_back out c.move_range-result.new.areas c.move_range-result.new.tree
-        (c.move_range-result.ensures.stands c.args.process)
+    (c.move_range-result.ensures.stands c.args.process)
     c.put_tree.new.trees.items c.put_tree.ensures c.args.anons.now c.move_range-result.new.anons c.requires.order kin) c.move_range-result.ensures.kin

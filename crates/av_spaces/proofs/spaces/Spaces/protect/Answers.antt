@@ -24,7 +24,7 @@ invariant_of-self c =
     let out = is_out c.self.inside.areas c.self.inside.trees.items c.take_tree-tree.new.trees.items c.self.inside.alive c.args.self.now c.args.process
     c.take_tree-tree.result c.self.view_is c.self.invariant c.take_tree-tree.ensures.tree c.take_tree-tree.ensures.trees in
     has_back out c.modify-result.new.areas c.modify-result.new.tree (c.modify-result.ensures.stands c.args.process) c.put_tree.new.trees.items
-        c.put_tree.ensures
+    c.put_tree.ensures
 
 pub modify-result-requires-clause-stands : goal.modify-result-requires-clause-stands
 modify-result-requires-clause-stands c =
@@ -43,7 +43,7 @@ returns-clause-ok c =
     let out = is_out c.self.inside.areas c.self.inside.trees.items c.take_tree-tree.new.trees.items c.self.inside.alive c.args.self.now c.args.process
     c.take_tree-tree.result c.self.view_is c.self.invariant c.take_tree-tree.ensures.tree c.take_tree-tree.ensures.trees in
     if_each c.modify-result.result _ _ (λ past pages. is_changed out c.modify-result.new.areas c.modify-result.new.tree
-        (c.modify-result.ensures.stands c.args.process)
+    (c.modify-result.ensures.stands c.args.process)
     c.put_tree.new.trees.items c.put_tree.ensures
     (λ all on. AreThese (pages_changed (lengths all c.args.anons.now) (to_prot c.args.prot) c.args.from (past - c.args.from) on)) pages)
     c.modify-result.ensures.pages
@@ -53,7 +53,7 @@ returns-clause-mapping c =
     let out = is_out c.self.inside.areas c.self.inside.trees.items c.take_tree-tree.new.trees.items c.self.inside.alive c.args.self.now c.args.process
     c.take_tree-tree.result c.self.view_is c.self.invariant c.take_tree-tree.ensures.tree c.take_tree-tree.ensures.trees in
     if_each c.modify-result.result _ _ (λ past mapping. (is_changed out c.modify-result.new.areas c.modify-result.new.tree
-        (c.modify-result.ensures.stands c.args.process)
+    (c.modify-result.ensures.stands c.args.process)
     c.put_tree.new.trees.items c.put_tree.ensures
     (λ all on. IsRemapped c.args.from past (to_prot c.args.prot) on) mapping).pages) c.modify-result.ensures.mapping
 
