@@ -13,6 +13,10 @@ top_page = 0x7ffffffff
 abbrev pub most_processes : ℕ
 most_processes = 4096
 
+-- a machine has at most so many frames
+abbrev pub most_frames : ℕ
+most_frames = 16384
+
 -- the linear indices of an area end at most here
 abbrev pub most_indices : ℕ
 most_indices = 2 ^ 60

@@ -12,7 +12,7 @@ mod prot;
 mod slot;
 mod steps;
 
-pub use limits::{LOW_PAGE, MOST_PROCESSES, TOP_PAGE};
+pub use limits::{LOW_PAGE, MOST_FRAMES, MOST_PROCESSES, TOP_PAGE};
 pub use page::PAGE_SIZE;
 pub use prot::Prot;
 pub use slot::Slot;

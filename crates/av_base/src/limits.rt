@@ -6,3 +6,6 @@ pub const TOP_PAGE: u64 = 0x7ffffffff;
 
 /// At most so many processes live at a time.
 pub const MOST_PROCESSES: usize = 4096;
+
+/// A machine has at most so many frames.
+pub const MOST_FRAMES: u64 = 16384;

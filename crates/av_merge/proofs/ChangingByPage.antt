@@ -215,8 +215,8 @@ module _ (len : Lengths) (effect : Effect) (on : Pages) (laid : AreLaid on) (a :
         let e5 : share_anon x.anon (len x.anon) area.anon (len area.anon) ≡ true = g.shares in
         λ i. e1 i && e2 i && e3 i && e4 i && e5 i
 
-    merged_more : join_of (ended b x) (more b) ≡ ended (b + 1) x
-    merged_more = λ i. record (ended (b + 1) x) { anon = g.own i }
+    joined_more : join_of (ended b x) (more b) ≡ ended (b + 1) x
+    joined_more = λ i. record (ended (b + 1) x) { anon = g.own i }
 
     -- past the part's new end and before its start, all is as after the cuts at a and b + 1
     wider_out : (q : ℕ) → has_page (ended (b + 1) x) q ≡ false → wider q ≡ rest (b + 1) q
@@ -252,7 +252,7 @@ module _ (len : Lengths) (effect : Effect) (on : Pages) (laid : AreLaid on) (a :
     grows : (q : ℕ) → joined_at len b wider q ≡ grown x (b + 1) q
     grows q =
         (λ i. after_join len (wider_last i) (wider_next i) q (wider q))
-        ∙ (λ i. cond (joins i && has_page (merged_more i) q) (Some (merged_more i)) (wider q))
+        ∙ (λ i. cond (joins i && has_page (joined_more i) q) (Some (joined_more i)) (wider q))
         ∙ elim (has_page (ended (b + 1) x) q) as (λ h. has_page (ended (b + 1) x) q ≡ h →
         cond h (Some (ended (b + 1) x)) (wider q) ≡ cond h (Some (ended (b + 1) x)) (rest (b + 1) q)) [
           | true ↦ λ h. refl

@@ -18,7 +18,7 @@ use Rattle.av_vmatree.specs.Spans.{AreSpans, IsFree, area_at, first_from, last_b
 use Rattle.av_vmatree.proofs.Sides.{all_wide, below_is, below_must, from_is, from_must}
 use Rattle.av_vmatree.proofs.Spans.{all_found}
 use Rattle.av_vma.specs.Pages.{Pages, has_page, do_join, joined_at, join_of, with_area, after_join, IsWhole, Lengths}
-use Rattle.av_vma.proofs.Join.{join_is, left_pages, right_pages, merged_pages, merged_whole, tried_is}
+use Rattle.av_vma.proofs.Join.{join_is, left_pages, right_pages, joined_pages, joined_whole, tried_is}
 use Rattle.av_vma.proofs.Laid.{has_from, has_parts}
 use Rattle.av_merge.specs.Mapping.{DoDiffer, mapping, mapping_in}
 use Rattle.av_merge.specs.Pages.{pages_by}
@@ -59,7 +59,7 @@ module _ (len : Lengths) (p l r at : ℕ) (lower upper : Area) (areas : ℕ → 
       omega arith
 
   pub join_whole : IsWhole (join_of lower upper)
-  join_whole = merged_whole len lower upper on_left.is.whole on_right.is.whole joins
+  join_whole = joined_whole len lower upper on_left.is.whole on_right.is.whole joins
 
   -- where the lower area is, and where the upper one is
   at_left : (page : ℕ) → has_page lower page ≡ true → area_at spans page ≡ Some l
@@ -107,7 +107,7 @@ module _ (len : Lengths) (p l r at : ℕ) (lower upper : Area) (areas : ℕ → 
   other_stays page k apart e =
       elim (has_page (join_of lower upper) page) as (λ b. has_page (join_of lower upper) page ≡ b →
       cond b (Some l) (unless_area l (unless_area r (area_at spans page))) ≡ Some k) [
-        | true ↦ λ h. elim (merged_pages len lower upper on_left.is.whole on_right.is.whole joins page h) [
+        | true ↦ λ h. elim (joined_pages len lower upper on_left.is.whole on_right.is.whole joins page h) [
           | inl g ↦ sym (at_left page g) ∙ e
           | inr g ↦ absurd (apart (same_Some k r (sym e ∙ at_right page g)))
         ]
@@ -123,7 +123,7 @@ module _ (len : Lengths) (p l r at : ℕ) (lower upper : Area) (areas : ℕ → 
   none_stays page e =
       elim (has_page (join_of lower upper) page) as (λ b. has_page (join_of lower upper) page ≡ b →
       cond b (Some l) (unless_area l (unless_area r (area_at spans page))) ≡ None) [
-        | true ↦ λ h. elim (merged_pages len lower upper on_left.is.whole on_right.is.whole joins page h) [
+        | true ↦ λ h. elim (joined_pages len lower upper on_left.is.whole on_right.is.whole joins page h) [
           | inl g ↦ absurd (none-some l (sym e ∙ at_left page g))
           | inr g ↦ absurd (none-some r (sym e ∙ at_right page g))
         ]
@@ -158,7 +158,7 @@ module _ (len : Lengths) (p l r at : ℕ) (lower upper : Area) (areas : ℕ → 
     pub join_free : IsFree (is_page_taken (without_area l spans')) (first_of lower) (past_of upper)
     join_free page low high =
         ap is_some (at_rest spans' l on_left.span page kept left_now ∙ ap (unless_area l) (pages_now page))
-        ∙ elim (merged_pages len lower upper on_left.is.whole on_right.is.whole joins page (has_from (join_of lower upper) page low high)) [
+        ∙ elim (joined_pages len lower upper on_left.is.whole on_right.is.whole joins page (has_from (join_of lower upper) page low high)) [
           | inl h ↦ rw (at_left page h, ne_eqb l r two, eq-eqb l l refl) refl
           | inr h ↦ rw (at_right page h, eq-eqb r r refl) refl
         ]

@@ -9,7 +9,7 @@ use Rattle.av_merge.specs.Mapping.{Mapping, mapping, mapping_in, mapping_with}
 use Rattle.av_merge.specs.Pages.{pages_by}
 use Rattle.av_merge.specs.Process.{AreAreasOf}
 use Rattle.av_vma.proofs.Split.{laid_split, of_part, part_index}
-use Rattle.av_vma.proofs.Join.{join_index, join_is, laid_joined, merged_pages, tried_is}
+use Rattle.av_vma.proofs.Join.{join_index, join_is, laid_joined, joined_pages, tried_is}
 use Rattle.av_vma.proofs.Laid.{has_parts}
 use Rattle.av_merge.proofs.PlacingLaws.{is_on, one_area}
 
@@ -62,7 +62,7 @@ module _ (len : Lengths) where
     | inl t ↦
         let l = laid.whole (at - 1) t.left t.before in
         let r = laid.whole at t.right t.after in
-        elim (merged_pages len t.left t.right l r t.joins page t.here) [
+        elim (joined_pages len t.left t.right l r t.joins page t.here) [
           | inl has ↦ ap (mapping_of page) t.is ∙ ap Some (left_maps t.left t.right t.joins page)
               ∙ sym (ap (mapping_of page) (laid.all (at - 1) page t.left t.before has))
           | inr has ↦ ap (mapping_of page) t.is ∙ ap Some (right_maps t.left t.right l r t.joins page has)

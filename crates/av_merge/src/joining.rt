@@ -256,7 +256,7 @@ fn join(
     }
     share(areas, anons, left, right)?;
     take(areas, anons, right);
-    replace_both(areas, tree, anons, left, merge(lower, upper), right, at)?;
+    replace_both(areas, tree, anons, left, join_of(lower, upper), right, at)?;
     Ok(left)
 }
 
@@ -286,7 +286,7 @@ fn join_unless(
 }
 
 /// Two areas that adjoin as one, with the anon_vma that either has.
-fn merge(lower: Area, upper: Area) -> Area
+fn join_of(lower: Area, upper: Area) -> Area
     ensures { result ≡ join_of lower upper }
 {
     Area {

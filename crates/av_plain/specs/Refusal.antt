@@ -36,7 +36,7 @@ too_many w = (nat_le most_processes (length w), Eagain)
 
 -- rounding the length up passes 2^64 - 1
 abbrev pub overflows : ℕ → Bool
-overflows len = nat_le (2 ^ 64) (4096 * pages_of len)
+overflows len = nat_le (2 ^ 64) (address_of (pages_of len))
 
 -- the pages of the length are more than there are below the top
 abbrev pub is_too_long : ℕ → Bool

@@ -3,7 +3,7 @@
 use Rattle.std.specs.FinMap.Entries.{put, where_key, find}
 use Rattle.std.specs.Ordering.{nat_cmp}
 use Rattle.std.specs.Prelude.{ℕ, ◌+◌, ◌-◌, Bool, true, false, not, ◌==◌, if◌then◌else◌, List, [], ◌∷◌, Option, Some, None, ◌≡◌, IfSome, is_some, ◌||◌, length, option_map, zero, suc, ◌%◌, slice_index, option_and_then}
-use Rattle.av_base.specs.Page.{page_of, address_of}
+use Rattle.av_base.specs.Page.{page_of, place_in_page, address_of}
 use Rattle.av_base.specs.Words.{within}
 use Rattle.av_base.specs.declared.prot.Prot.{Prot}
 
@@ -98,7 +98,7 @@ with_bytes q address bytes page = option_map (λ (p : Page). record p {
 
 -- the byte at an address, where it is mapped and claimed
 abbrev pub byte_at : Process → ℕ → Option ℕ
-byte_at q address = option_and_then (λ (p : Page). p.bytes (address % 4096)) (q (page_of address))
+byte_at q address = option_and_then (λ (p : Page). p.bytes (place_in_page address)) (q (page_of address))
 
 -- these are the bytes from an address on, where they are claimed
 abbrev pub Shows : Process → ℕ → List ℕ → Type 0

@@ -3,6 +3,7 @@
 ghost use Rattle.std.specs.Prelude.{◌≡◌, ℕ, map, string_bytes, IfSome, IfNone};
 ghost use Rattle.av_replay.specs.Words.{IsForm};
 
+use av_base::MOST_FRAMES;
 use av_text::number::number_in;
 
 /// The frames that the words ask for: `run`, and a number from 1 to 16384.
@@ -12,7 +13,7 @@ pub fn frames_of(words: &[String]) -> Option<u32>
 {
     match words {
         [verb, frames] if verb.as_str() == "run" => {
-            let frames = number_in(frames.as_bytes(), 1, 16384)?;
+            let frames = number_in(frames.as_bytes(), 1, MOST_FRAMES)?;
             Some(frames as u32)
         }
         _ => None,

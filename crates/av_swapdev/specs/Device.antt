@@ -6,7 +6,11 @@ use Rattle.av_base.specs.Page.{page_size}
 use Rattle.std.specs.declared.vec.Vec.{Vec}
 use Rattle.std.specs.declared.alloc.Global.{Global}
 
--- of an area so many pages are used at most, so that the number of a slot fits twenty bits
+-- a device has at most so many swap areas
+abbrev pub most_areas : ℕ
+most_areas = 8
+
+-- of each so many pages are used at most, so that the number of a slot fits twenty bits
 abbrev pub most_pages : ℕ
 most_pages = 1048576
 

@@ -33,14 +33,22 @@ order_of page =
 abbrev pub last_page : Order → List ℕ → ℕ
 last_page order page = number_at order page 1028
 
+-- a header has room for so many bad pages
+abbrev pub most_bad : ℕ
+most_bad = 637
+
+-- the place of the first of them
+abbrev pub first_bad : ℕ
+first_bad = 1536
+
 -- how many bad pages the header names
 abbrev pub bad_count : Order → List ℕ → ℕ
 bad_count order page = number_at order page 1032
 
 -- n of them, one behind the other
 abbrev pub numbers_at : Order → List ℕ → ℕ → ℕ → List ℕ
-numbers_at order page from n = map (λ i. number_at order page (1536 + 4 * i)) (range_with_len from
-    n)
+numbers_at order page from n =
+    map (λ i. number_at order page (first_bad + 4 * i)) (range_with_len from n)
 
 -- all of them
 abbrev pub all_named : Order → List ℕ → List ℕ
@@ -80,7 +88,7 @@ abbrev pub read_in : Order → List ℕ → ℕ → Result Layout HeaderErr
 read_in order page device =
     if last_page order page == 0 then Err LastPage
     else if nat_lt device (area_pages order page) then Err Short
-    else if nat_lt 637 (bad_count order page) then Err TooManyBad
+    else if nat_lt most_bad (bad_count order page) then Err TooManyBad
     else if list_any (is_out (last_page order page)) (all_named order page) then Err BadPage
     else with_slots (layout_of (area_pages order page) (all_named order page))
 

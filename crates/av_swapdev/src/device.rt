@@ -4,7 +4,7 @@ ghost use Rattle.std.specs.Prelude.{◌≡◌, ℕ, ◌<◌, ◌≤◌, List, Op
 ghost use Rattle.av_base.specs.Page.{page_size};
 ghost use Rattle.av_base.specs.Words.{with_at};
 ghost use Rattle.av_io.specs.Count.{Rose};
-ghost use Rattle.av_swapdev.specs.Device.{HasPage, Holds, IsWritten, IsSpoiled, IsRenewed, most_pages};
+ghost use Rattle.av_swapdev.specs.Device.{HasPage, Holds, IsWritten, IsSpoiled, IsRenewed, most_areas, most_pages};
 
 use av_base::PAGE_SIZE;
 use av_io::Failed;
@@ -37,7 +37,7 @@ pub trait SwapDev {
     /// Attaches what has this name as an area, and says how many of its pages are used: 1,048,576
     /// at most.
     fn attach(&mut self, area: u8, name: &str) -> Result<u32, AttachErr>
-        requires { area < 8 }
+        requires { area < most_areas }
         ensures size { IfOk result (λ n. sizes self.new ≡ with_at area (Some n) (sizes self.old)) }
         ensures most { IfOk result (λ n. n ≤ most_pages) }
         ensures renewed { OnOk result (IsRenewed area (pages self.old) (pages self.new)) }

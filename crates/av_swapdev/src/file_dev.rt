@@ -4,7 +4,7 @@ ghost use Rattle.std.specs.Prelude.{◌≡◌, ◌*◌, ◌≤◌, ◌<◌, ℕ,
 ghost use Rattle.av_base.specs.Page.{page_size};
 ghost use Rattle.av_base.specs.Words.{with_at};
 ghost use Rattle.av_io.specs.Count.{Rose, one_more};
-ghost use Rattle.av_swapdev.specs.Device.{HasPage, Holds, IsRenewed, IsSpoiled, IsWritten, most_pages};
+ghost use Rattle.av_swapdev.specs.Device.{HasPage, Holds, IsRenewed, IsSpoiled, IsWritten, most_areas, most_pages};
 ghost use Rattle.av_swapdev.specs.File.{Opens, Reads, SameBut, Stores, StoresPart, after_open, after_fault, file_at, pages_of, sizes_of};
 
 use crate::device::{AttachErr, MOST_PAGES, SwapDev};
@@ -112,7 +112,7 @@ impl<H: SwapFiles + Drop> SwapDev for FileDev<H> {
     ghost faults = { λ d. d.faults };
 
     fn attach(&mut self, area: u8, name: &str) -> Result<u32, AttachErr>
-        requires { area < 8 }
+        requires { area < most_areas }
         ensures size { IfOk result (λ n. ⟦<FileDev<H> as SwapDev>⟧.sizes self.new ≡ with_at area
             (Some n) (⟦<FileDev<H> as SwapDev>⟧.sizes self.old)) }
         ensures most { IfOk result (λ n. n ≤ most_pages) }

@@ -5,7 +5,7 @@ ghost use Rattle.std.specs.List.{list_any};
 ghost use Rattle.av_base.specs.Page.{page_size};
 ghost use Rattle.av_base.specs.Words.{is_in, within};
 ghost use Rattle.av_swapdev.specs.Device.{most_pages};
-ghost use Rattle.av_swapdev.specs.Header.{Layout, number_at, order_of, numbers_at, all_named, bad_of, slots_of, is_out, read_in, header_of, answer_of, IsHeaderOf, AddsUp};
+ghost use Rattle.av_swapdev.specs.Header.{Layout, first_bad, most_bad, number_at, order_of, numbers_at, all_named, bad_of, slots_of, is_out, read_in, header_of, answer_of, IsHeaderOf, AddsUp};
 
 use crate::device::MOST_PAGES;
 use byteorder::{BigEndian, ByteOrder, LittleEndian};
@@ -91,8 +91,8 @@ fn byte_order(page: &[u8]) -> Option<Order>
 /// The bad page that the header names at a place, from 0.
 fn bad_at(page: &[u8], order: Order, place: u32) -> u32
     requires long { length page.now ≡ page_size }
-    requires room { place < 637 }
-    ensures { result ≡ number_at order page.now (1536 + 4 * place) }
+    requires room { place < most_bad }
+    ensures { result ≡ number_at order page.now (first_bad + 4 * place) }
 {
     number(page, order, FIRST_BAD + 4 * place as usize)
 }
@@ -100,7 +100,7 @@ fn bad_at(page: &[u8], order: Order, place: u32) -> u32
 /// Whether one that is named is 0, or behind the last page.
 fn has_wrong(page: &[u8], order: Order, count: u32, last: u32) -> bool
     requires long { length page.now ≡ page_size }
-    requires room { count ≤ 637 }
+    requires room { count ≤ most_bad }
     ensures { result ≡ list_any (is_out last) (numbers_at order page.now 0 count) }
 {
     for place in 0..count {
@@ -115,7 +115,7 @@ fn has_wrong(page: &[u8], order: Order, count: u32, last: u32) -> bool
 /// Whether a page is named at this place or behind it.
 fn is_named(page: &[u8], order: Order, from: u32, count: u32, m: u32) -> bool
     requires long { length page.now ≡ page_size }
-    requires room { count ≤ 637 }
+    requires room { count ≤ most_bad }
     ensures { result ≡ is_in m (numbers_at order page.now from (count - from)) }
 {
     for place in from..count {
@@ -136,7 +136,7 @@ fn is_behind_header(m: u32, pages: u32) -> bool
 /// How many bad pages of the area are named. Of a page that is named twice, the last place counts.
 fn count_bad(page: &[u8], order: Order, count: u32, pages: u32) -> u32
     requires long { length page.now ≡ page_size }
-    requires room { count ≤ 637 }
+    requires room { count ≤ most_bad }
     ensures { result ≡ length (bad_of pages (numbers_at order page.now 0 count)) }
 {
     let mut distinct = 0;
@@ -215,7 +215,7 @@ fn marks(
     pages: u32,
 ) -> Result<Vec<bool>, AllocError>
     requires long { length page.now ≡ page_size }
-    requires room { count ≤ 637 }
+    requires room { count ≤ most_bad }
     ensures len { IfOk result (λ marks. length marks.items ≡ pages) }
     ensures named { IfOk result (λ marks. (m : ℕ) → m < pages
         → slice_index_or marks.items m false ≡ is_in m (numbers_at order page.now 0 count)) }

@@ -5,7 +5,7 @@ ghost use Rattle.av_base.specs.Page.{page_size};
 ghost use Rattle.av_base.specs.Words.{with_at};
 ghost use Rattle.av_io.specs.Count.{Rose};
 ghost use Rattle.av_io.specs.Faults.{IsFresh, IsNextCall};
-ghost use Rattle.av_swapdev.specs.Device.{with_page, most_pages, HasPage, Holds, IsInverted, IsRenewed, IsSpoiled, IsWritten, area_in, size_in, sizes_in, pages_in};
+ghost use Rattle.av_swapdev.specs.Device.{with_page, most_areas, most_pages, HasPage, Holds, IsInverted, IsRenewed, IsSpoiled, IsWritten, area_in, size_in, sizes_in, pages_in};
 
 use crate::device::{AttachErr, MOST_PAGES, PAGE_LEN, SwapDev};
 use av_io::{Failed, Faults};
@@ -80,7 +80,7 @@ impl SwapDev for MemDev {
 
     /// The name is not looked at. An area that is not in the list has no page.
     fn attach(&mut self, area: u8, _name: &str) -> Result<u32, AttachErr>
-        requires { area < 8 }
+        requires { area < most_areas }
         ensures size { IfOk result (λ n. ⟦<MemDev as SwapDev>⟧.sizes self.new ≡ with_at area
             (Some n) (⟦<MemDev as SwapDev>⟧.sizes self.old)) }
         ensures most { IfOk result (λ n. n ≤ most_pages) }

@@ -1,4 +1,4 @@
-use av_base::Slot;
+use av_base::{PAGE_SIZE, Slot};
 use av_frames::Frames;
 use std::alloc::AllocError;
 
@@ -55,7 +55,7 @@ fn last_bytes(frames: &Frames, frame: u32) -> Option<[u8; 3]> {
 #[test]
 fn bytes_are_written_copied_and_zeroed(rt: HostRuntime) -> Result<(), AllocError> {
     let mut frames = Frames::new(rt.alloc(), 2)?;
-    frames.load(1, &[9; 4096]);
+    frames.load(1, &[9; PAGE_SIZE as usize]);
     assert!(rt; last_bytes(&frames, 1) == Some([9, 9, 9]));
     assert!(rt; copy_and_zero(&mut frames, 0));
     assert!(rt; last_bytes(&frames, 0) == Some([0, 0, 0]));

@@ -23,7 +23,7 @@ fn two<L: Ledger>(spans: &Spans, anon: u64, index: u64, steps: &mut Steps<L>) ->
 
 /// How many there are, and what is found at two indices, before and after half of the spans are
 /// taken out.
-fn found<L: Ledger>(
+fn find_all<L: Ledger>(
     alloc: Global,
     blank: Blank,
 ) -> Result<([u64; 4], [(Found, Found); 5]), AllocError>
@@ -55,7 +55,7 @@ fn found<L: Ledger>(
 
 #[test]
 fn one_in_a_thousand(rt: HostRuntime) -> Result<(), Fail> {
-    let (many, found) = found::<Brand>(rt.alloc(), Blank::new(1))?;
+    let (many, found) = find_all::<Brand>(rt.alloc(), Blank::new(1))?;
     let wanted = [
         (Some((5000, 500)), None),
         (None, None),

@@ -14,7 +14,7 @@ ghost use Rattle.av_vma.specs.Areas.{area_of};
 
 use av_anon::Anons;
 use av_anon::order::nobody_is_in_order;
-use av_base::{Prot, Steps};
+use av_base::{PAGE_SIZE, Prot, Steps};
 use av_pagetable::{PageTable, Pte, Tables};
 use av_rmap::look::LookMut;
 use av_rmap::seen::{any_seen, clear_seen};
@@ -29,8 +29,8 @@ use std::test::Fail;
 /// Pages 10 to 13 of process 1, with their offset.
 const PARENT: Area = Area {
     pid: 1,
-    start: 10 * 4096,
-    end: 14 * 4096,
+    start: 10 * PAGE_SIZE,
+    end: 14 * PAGE_SIZE,
     prot: Prot {
         read: true,
         write: true,
@@ -47,8 +47,8 @@ const CHILD: Area = Area { pid: 2, ..PARENT };
 /// Pages 20 to 23 of process 2.
 const OTHER: Area = Area {
     pid: 2,
-    start: 20 * 4096,
-    end: 24 * 4096,
+    start: 20 * PAGE_SIZE,
+    end: 24 * PAGE_SIZE,
     pgoff: 20,
     ..PARENT
 };

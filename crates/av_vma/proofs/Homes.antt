@@ -11,7 +11,7 @@ use Rattle.av_vma.specs.Gap.{IsRoom}
 use Rattle.av_vma.specs.Join.{index_of}
 use Rattle.av_vma.specs.Pages.{AreLaid, Effect, Lengths, Pages, after_map, after_prepare, after_unmap, alters_at, split_at, fresh_area, has_page, home_of, join_of, joined_around, joined_at, loan_beside, page_changed, pages_changed, part_changed, part_of, with_anon, with_area, with_effect, with_effect_on}
 use Rattle.av_vma.proofs.Split.{laid_split, laid_part, part_index, part_own}
-use Rattle.av_vma.proofs.Join.{join_index, join_own, laid_joined, laid_page_changed, merged_pages, tried_is}
+use Rattle.av_vma.proofs.Join.{join_index, join_own, laid_joined, laid_page_changed, joined_pages, tried_is}
 use Rattle.av_vma.proofs.Laid.{fresh_free, has_area, has_parts, laid_fresh}
 
 -- each page that has a home keeps it; a page whose area has no anon_vma may get one
@@ -77,7 +77,7 @@ module _ (len : Lengths) where
     | inl t ↦
         let l = laid.whole (at - 1) t.left t.before in
         let r = laid.whole at t.right t.after in
-        elim (merged_pages len t.left t.right l r t.joins page t.here) [
+        elim (joined_pages len t.left t.right l r t.joins page t.here) [
           | inl has ↦
               let h = home_parts page t.left home (sym (ap (home_of page) (laid.all (at - 1) page t.left t.before has)) ∙ is) in
               ap (home_of page) t.is ∙ home_from page (join_of t.left t.right) home (record {

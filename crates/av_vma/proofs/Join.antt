@@ -73,15 +73,15 @@ module _ (len : Lengths) where
       let low : first_of right ≤ page = (has_parts right page has).0 in
       omega arith
 
-  pub merged_whole : (left right : Area) → IsWhole left → IsWhole right → do_join len left right ≡ true → IsWhole (join_of left right)
-  merged_whole left right l r e =
+  pub joined_whole : (left right : Area) → IsWhole left → IsWhole right → do_join len left right ≡ true → IsWhole (join_of left right)
+  joined_whole left right l r e =
       let j = join_is left right e in
       record { start = l.start; end = r.end; some = omega arith; low = l.low; high = r.high; small = omega arith }
 
   -- a page of the two as one is a page of one of them
-  pub merged_pages : (left right : Area) → IsWhole left → IsWhole right → do_join len left right ≡ true → (page : ℕ)
+  pub joined_pages : (left right : Area) → IsWhole left → IsWhole right → do_join len left right ≡ true → (page : ℕ)
       → has_page (join_of left right) page ≡ true → (has_page left page ≡ true) ⊎ (has_page right page ≡ true)
-  merged_pages left right l r e page h =
+  joined_pages left right l r e page h =
       let j = join_is left right e in
       let parts = has_parts (join_of left right) page h in
       let low : first_of left ≤ page = parts.0 in
@@ -167,7 +167,7 @@ module _ (len : Lengths) where
     whole = λ page area e. elim (tried_is at page on) [
       | inr k ↦ laid.whole page area (sym k.is ∙ e)
       | inl t ↦ subst IsWhole (same_Some (join_of t.left t.right) area (sym t.is ∙ e))
-          (merged_whole t.left t.right (laid.whole (at - 1) t.left t.before) (laid.whole at t.right t.after) t.joins)
+          (joined_whole t.left t.right (laid.whole (at - 1) t.left t.before) (laid.whole at t.right t.after) t.joins)
     ];
     here = λ page area e. elim (tried_is at page on) [
       | inr k ↦ laid.here page area (sym k.is ∙ e)
@@ -193,7 +193,7 @@ module _ (len : Lengths) where
                 let l = laid.whole (at - 1) u.left u.before in
                 let r = laid.whole at u.right u.after in
                 absurd (both_ways (has_page (join_of u.left u.right) page) (k.apart u.left u.right u.before u.after u.joins)
-                (elim (merged_pages u.left u.right l r u.joins other u.here) [
+                (elim (joined_pages u.left u.right l r u.joins other u.here) [
                   | inl g ↦ left_pages u.left u.right l r u.joins page
                       (subst (λ (a : Area). has_page a page ≡ true) (same_Some area u.left (sym there ∙ laid.all (at - 1) other u.left u.before g))
                       (laid.here page area now))

@@ -10,7 +10,7 @@ use Rattle.av_vma.specs.Join.{first_of, index_of, past_of}
 use Rattle.av_vma.specs.Mremap.{IsGrowth, IsMove, after_grow, after_move, after_resize, grown_to, joined_over, moved_area, moved_range}
 use Rattle.av_vma.specs.Pages.{AreLaid, IsWhole, Lengths, Pages, after_unmap, split_at, do_join, has_page, joined_at, part_of, with_area, without_range}
 use Rattle.av_vma.proofs.Split.{Splits, split_at_splits, laid_split, laid_unmapped, part_index, still_splits}
-use Rattle.av_vma.proofs.Join.{join_is, laid_around, laid_joined, merged_pages, tried_is}
+use Rattle.av_vma.proofs.Join.{join_is, laid_around, laid_joined, joined_pages, tried_is}
 use Rattle.av_vma.proofs.Laid.{has_from, has_parts}
 
 -- ---- ranges
@@ -96,7 +96,7 @@ module _ (len : Lengths) where
         let right = laid.whole at t.right t.after in
         let on_left : first_of t.left ≤ at - 1 = (has_parts t.left (at - 1) (laid.here (at - 1) t.left t.before)).0 in
         let on_right : first_of t.right ≤ at = (has_parts t.right at (laid.here at t.right t.after)).0 in
-        elim (merged_pages len t.left t.right left right t.joins page t.here) [
+        elim (joined_pages len t.left t.right left right t.joins page t.here) [
           | inl h ↦ (let k = starts t.left (laid.all (at - 1) page t.left t.before h) in absurd (omega arith))
           | inr h ↦ (let k = starts t.right (laid.all at page t.right t.after h) in absurd (omega arith))
         ]

@@ -10,7 +10,7 @@ use Rattle.av_vma.specs.Mremap.{IsGrowth, IsMove, after_grow, after_move, after_
 use Rattle.av_vma.specs.Pages.{AreLaid, Lengths, Pages, after_unmap, split_at, has_page, home_of, joined_around, joined_at, with_area, without_range}
 use Rattle.av_vma.proofs.Split.{laid_split, laid_unmapped}
 use Rattle.av_vma.proofs.Homes.{KeepsHomes, homes_around, homes_split, homes_joined, homes_unmapped, keeps_both}
-use Rattle.av_vma.proofs.Join.{laid_joined, merged_pages, tried_is}
+use Rattle.av_vma.proofs.Join.{laid_joined, joined_pages, tried_is}
 use Rattle.av_vma.proofs.Laid.{has_parts}
 use Rattle.av_vma.proofs.Mremap.{IsLast, IsReady, at_target, carried, elsewhere, ends_there, free_above, grown_pages, growing, inside, is_in_range, laid_carried, laid_filled, laid_growth, last_there, out_of_range, parts, ready, with_end}
 
@@ -26,7 +26,7 @@ module _ (len : Lengths) where
   pub none_joined : (at : ℕ) (on : Pages) → AreLaid on → (page : ℕ) → on page ≡ None → joined_at len at on page ≡ None
   none_joined at on laid page none = elim (tried_is len at page on) [
     | inr k ↦ k.is ∙ none
-    | inl t ↦ elim (merged_pages len t.left t.right (laid.whole (at - 1) t.left t.before) (laid.whole at t.right t.after) t.joins page t.here) [
+    | inl t ↦ elim (joined_pages len t.left t.right (laid.whole (at - 1) t.left t.before) (laid.whole at t.right t.after) t.joins page t.here) [
       | inl has ↦ absurd (none-some t.left (sym none ∙ laid.all (at - 1) page t.left t.before has))
       | inr has ↦ absurd (none-some t.right (sym none ∙ laid.all at page t.right t.after has))
     ]

@@ -9,7 +9,7 @@ use Rattle.av_vma.specs.Join.{first_of, index_of, past_of}
 use Rattle.av_vma.specs.Mremap.{IsGrowth, IsMove, after_grow, after_move, grown_to, joined_over, moved_area}
 use Rattle.av_vma.specs.Pages.{AreLaid, Lengths, Pages, after_map, after_unmap, split_at, fresh_area, has_page, joined_around, joined_at, part_of, with_area}
 use Rattle.av_vma.proofs.Split.{of_part}
-use Rattle.av_vma.proofs.Join.{join_is, laid_joined, merged_pages, tried_is}
+use Rattle.av_vma.proofs.Join.{join_is, laid_joined, joined_pages, tried_is}
 use Rattle.av_vma.proofs.Laid.{fresh_has, has_area, has_from, has_parts, laid_fresh}
 use Rattle.av_vma.proofs.Mremap.{IsLast, IsThere, at_target, carried, elsewhere, ends_there, growing, is_in_range, laid_carried, laid_filled, laid_growth, last_there, out_of_range, parts, ready, with_end}
 
@@ -42,7 +42,7 @@ module _ (len : Lengths) where
     | inl t ↦
         let l = laid.whole (at - 1) t.left t.before in
         let r = laid.whole at t.right t.after in
-        elim (merged_pages len t.left t.right l r t.joins page t.here) [
+        elim (joined_pages len t.left t.right l r t.joins page t.here) [
           | inl h ↦ ap (option_map area_prot) t.is ∙ sym (ap (option_map area_prot) (laid.all (at - 1) page t.left t.before h))
           | inr h ↦ ap (option_map area_prot) t.is ∙ ap Some (join_is len t.left t.right t.joins).prot
               ∙ sym (ap (option_map area_prot) (laid.all at page t.right t.after h))

@@ -40,7 +40,7 @@ replace_both-requires-clause-lower c =
     c.chain_len-left_len.result c.chain_len-right_len.result c.mergeable.result
     c.requires.order c.get-lower.ensures c.get-upper.ensures c.chain_len-left_len.ensures c.chain_len-right_len.ensures c.mergeable.ensures
     ∙ c.if-not-mergeable.false in
-    subst (λ (a : Area). first_of a < c.args.at) (sym c.merge.ensures)
+    subst (λ (a : Area). first_of a < c.args.at) (sym c.join_of.ensures)
     (join_below len c.requires.stands.0 c.args.left c.args.right c.args.at lower upper areas c.args.tree.now c.requires.stands.1 c.requires.below
     c.requires.above c.get-lower.ensures c.get-upper.ensures joins)
 
@@ -54,7 +54,7 @@ replace_both-requires-clause-upper c =
     c.chain_len-left_len.result c.chain_len-right_len.result c.mergeable.result
     c.requires.order c.get-lower.ensures c.get-upper.ensures c.chain_len-left_len.ensures c.chain_len-right_len.ensures c.mergeable.ensures
     ∙ c.if-not-mergeable.false in
-    subst (λ (a : Area). c.args.at < past_of a) (sym c.merge.ensures)
+    subst (λ (a : Area). c.args.at < past_of a) (sym c.join_of.ensures)
     (join_above len c.requires.stands.0 c.args.left c.args.right c.args.at lower upper areas c.args.tree.now c.requires.stands.1 c.requires.below
     c.requires.above c.get-lower.ensures c.get-upper.ensures joins)
 
@@ -73,7 +73,7 @@ replace_both-requires-clause-there c =
     c.requires.above c.get-lower.ensures c.get-upper.ensures joins) in
     let now = joined_now areas (area_of c.share.new.areas) (area_of c.take.new.areas) c.args.left c.args.right lower upper c.get-lower.ensures
     c.get-upper.ensures c.in_ok-share.ensures.areas c.take.ensures.areas in
-    subst (λ (a : Area). IsSomeAnd (span_of (without_area c.args.right c.args.tree.now) c.args.left) (λ s. s.from ≡ first_of a)) (sym c.merge.ensures)
+    subst (λ (a : Area). IsSomeAnd (span_of (without_area c.args.right c.args.tree.now) c.args.left) (λ s. s.from ≡ first_of a)) (sym c.join_of.ensures)
     (left_from len c.requires.stands.0 c.args.left c.args.right c.args.at lower upper areas c.args.tree.now
     c.requires.stands.1 c.requires.below c.requires.above c.get-lower.ensures c.get-upper.ensures joins
     (area_of c.take.new.areas) (without_area c.args.right c.args.tree.now) now gone.good gone.areas gone.pages)
@@ -88,7 +88,7 @@ replace_both-requires-clause-whole c =
     c.chain_len-left_len.result c.chain_len-right_len.result c.mergeable.result
     c.requires.order c.get-lower.ensures c.get-upper.ensures c.chain_len-left_len.ensures c.chain_len-right_len.ensures c.mergeable.ensures
     ∙ c.if-not-mergeable.false in
-    subst IsWhole (sym c.merge.ensures)
+    subst IsWhole (sym c.join_of.ensures)
     (join_whole len c.requires.stands.0 c.args.left c.args.right c.args.at lower upper areas c.args.tree.now
     c.requires.stands.1 c.requires.below c.requires.above c.get-lower.ensures c.get-upper.ensures joins)
 
@@ -108,7 +108,7 @@ replace_both-requires-clause-free c =
     let now = joined_now areas (area_of c.share.new.areas) (area_of c.take.new.areas) c.args.left c.args.right lower upper c.get-lower.ensures
     c.get-upper.ensures c.in_ok-share.ensures.areas c.take.ensures.areas in
     subst (λ (a : Area). IsFree (is_page_taken (without_area c.args.left (without_area c.args.right c.args.tree.now))) (first_of a) (past_of a))
-    (sym c.merge.ensures)
+    (sym c.join_of.ensures)
     (join_free len c.requires.stands.0 c.args.left c.args.right c.args.at lower upper areas c.args.tree.now
     c.requires.stands.1 c.requires.below c.requires.above c.get-lower.ensures c.get-upper.ensures joins
     (area_of c.take.new.areas) (without_area c.args.right c.args.tree.now) now gone.good gone.areas gone.pages)
@@ -134,7 +134,7 @@ returns-clause-stands c =
     (area_of c.take.new.areas) (without_area c.args.right c.args.tree.now) now gone.good gone.areas gone.pages
     (area_of c.replace_both.new.areas) c.replace_both.new.tree
     (subst (λ (a : Area). Stays a.pid (area_of c.take.new.areas) (area_of c.replace_both.new.areas) c.replace_both.new.tree)
-    c.merge.ensures c.replace_both.ensures.stands)
+    c.join_of.ensures c.replace_both.ensures.stands)
 
 pub returns-in_err-replace_both-clause-stands : goal.returns-in_err-replace_both-clause-stands
 returns-in_err-replace_both-clause-stands c =
@@ -157,7 +157,7 @@ returns-in_err-replace_both-clause-stands c =
     (area_of c.take.new.areas) (without_area c.args.right c.args.tree.now) now gone.good gone.areas gone.pages
     (area_of c.replace_both.new.areas) c.replace_both.new.tree
     (subst (λ (a : Area). Stays a.pid (area_of c.take.new.areas) (area_of c.replace_both.new.areas) c.replace_both.new.tree)
-    c.merge.ensures c.replace_both.ensures.stands)
+    c.join_of.ensures c.replace_both.ensures.stands)
 
 pub returns-clause-pages : goal.returns-clause-pages
 returns-clause-pages c =
@@ -177,7 +177,7 @@ returns-clause-pages c =
     λ page.
     c.replace_both.ensures.pages page
     ∙ ap (λ (a : Area). with_area a (pages_by (with_at c.args.left None (area_of c.take.new.areas)) (without_area c.args.right c.args.tree.now)) page)
-    c.merge.ensures
+    c.join_of.ensures
     ∙ join_pages len c.requires.stands.0 c.args.left c.args.right c.args.at lower upper areas c.args.tree.now
     c.requires.stands.1 c.requires.below c.requires.above c.get-lower.ensures c.get-upper.ensures joins
     (area_of c.take.new.areas) (without_area c.args.right c.args.tree.now) now gone.good gone.areas gone.pages page
@@ -221,7 +221,7 @@ replace_both-requires-clause-stands c =
     c.requires.above c.get-lower.ensures c.get-upper.ensures joins) in
     let now = joined_now areas (area_of c.share.new.areas) (area_of c.take.new.areas) c.args.left c.args.right lower upper c.get-lower.ensures
     c.get-upper.ensures c.in_ok-share.ensures.areas c.take.ensures.areas in
-    subst (λ (a : Area). AreAreasOf a.pid (area_of c.take.new.areas) (without_area c.args.right c.args.tree.now)) (sym c.merge.ensures)
+    subst (λ (a : Area). AreAreasOf a.pid (area_of c.take.new.areas) (without_area c.args.right c.args.tree.now)) (sym c.join_of.ensures)
     (right_taken len c.requires.stands.0 c.args.left c.args.right c.args.at lower upper areas c.args.tree.now
     c.requires.stands.1 c.requires.below c.requires.above c.get-lower.ensures c.get-upper.ensures joins
     (area_of c.take.new.areas) (without_area c.args.right c.args.tree.now) now gone.good gone.areas gone.pages)
@@ -250,7 +250,7 @@ replace_both-requires-clause-was c =
     c.requires.above c.get-lower.ensures c.get-upper.ensures joins) in
     let now = joined_now areas (area_of c.share.new.areas) (area_of c.take.new.areas) c.args.left c.args.right lower upper c.get-lower.ensures
     c.get-upper.ensures c.in_ok-share.ensures.areas c.take.ensures.areas in
-    subst (λ (a : Area). IsSomeAnd (area_of c.take.new.areas c.args.left) (λ old. a ≡ with_bounds a.start a.end a.pgoff old)) (sym c.merge.ensures)
+    subst (λ (a : Area). IsSomeAnd (area_of c.take.new.areas c.args.left) (λ old. a ≡ with_bounds a.start a.end a.pgoff old)) (sym c.join_of.ensures)
     (left_was len c.requires.stands.0 c.args.left c.args.right c.args.at lower upper areas c.args.tree.now
     c.requires.stands.1 c.requires.below c.requires.above c.get-lower.ensures c.get-upper.ensures joins
     (area_of c.take.new.areas) (without_area c.args.right c.args.tree.now) now gone.good gone.areas gone.pages)
@@ -273,7 +273,7 @@ returns-clause-number c =
     ∙ c.if-not-mergeable.false in
     λ page e. c.replace_both.ensures.number page
     ∙ ap (λ (a : Area). cond (has_page a page) (Some c.args.left) (unless_area c.args.left (area_at (without_area c.args.right c.args.tree.now) page)))
-    c.merge.ensures
+    c.join_of.ensures
     ∙ rw (upper_goes len c.requires.stands.0 c.args.left c.args.right c.args.at lower upper areas c.args.tree.now c.requires.stands.1 c.requires.below
     c.requires.above c.get-lower.ensures c.get-upper.ensures joins page e) refl
 
@@ -292,7 +292,7 @@ returns-clause-others c =
     c.requires.above c.get-lower.ensures c.get-upper.ensures joins) in
     λ page apart. c.replace_both.ensures.number page
     ∙ ap (λ (a : Area). cond (has_page a page) (Some c.args.left) (unless_area c.args.left (area_at (without_area c.args.right c.args.tree.now) page)))
-    c.merge.ensures
+    c.join_of.ensures
     ∙ ap (λ a. cond (has_page (join_of lower upper) page) (Some c.args.left) (unless_area c.args.left a)) (gone.pages page)
     ∙ others_stay len c.requires.stands.0 c.args.left c.args.right c.args.at lower upper areas c.args.tree.now c.requires.stands.1 c.requires.below
     c.requires.above c.get-lower.ensures c.get-upper.ensures joins page apart

@@ -9,7 +9,7 @@ use Rattle.av_interval.specs.Span.{triple}
 use Rattle.av_interval.specs.Span.{key, key_of}
 use Rattle.av_interval.proofs.SpansLemmas.{all_with}
 use Rattle.av_interval.proofs.EntriesLemmas.{there_with, there_new, there_without}
-use Rattle.av_tests.proofs.interval.found.Goals as goal
+use Rattle.av_tests.proofs.interval.find_all.Goals as goal
 
 there_next : (i j : ℕ) (old : List Span) → ((j : ℕ) → j < i → IsSome (entry_at key (key_of (10 * j) j) old)) → j < i + 1 →
     IsSome (entry_at key (key_of (10 * j) j) (with_entry key (triple (10 * i) (10 * i + 4) i) old))

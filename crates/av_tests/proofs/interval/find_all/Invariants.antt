@@ -3,7 +3,7 @@ use Rattle.av_arena.specs.Order.{entry_at}
 use Rattle.std.specs.List.{AllByRecursion}
 use Rattle.av_interval.specs.Spans.{triples}
 use Rattle.av_interval.specs.Span.{key, key_of}
-use Rattle.av_tests.proofs.interval.found.Given as goal
+use Rattle.av_tests.proofs.interval.find_all.Given as goal
 
 abbrev pub invariant-loop-i : goal.invariant-loop-i
 invariant-loop-i g l =
