@@ -1,2 +1,1 @@
 pub mod Rmap
-pub mod Arena

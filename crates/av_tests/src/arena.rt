@@ -1,6 +1,5 @@
-ghost use Rattle.std.specs.Prelude.{◌≡◌, [], false, ◌||◌, OnOk};
+ghost use Rattle.std.specs.Prelude.{◌≡◌, [], ◌∷◌, false, true, ◌||◌, OnOk};
 ghost use Rattle.av_arena.specs.Any.{any_laws};
-ghost use Rattle.av_tests.specs.Arena.{note, notes};
 
 use av_arena::*;
 use std::alloc::{AllocError, Global};
@@ -43,7 +42,7 @@ impl Entry for Note {
 }
 
 fn entry(key: u64, marked: bool) -> Note
-    ensures { result ≡ note key marked }
+    ensures { result ≡ record { key = key; marked = marked } }
 {
     Note { key, marked }
 }
@@ -51,7 +50,8 @@ fn entry(key: u64, marked: bool) -> Note
 /// Puts three entries in, against their order.
 fn put_three(tree: &mut Avl<Note>) -> Result<(), AllocError>
     requires { tree.old ≡ [] }
-    ensures { OnOk result (tree.new ≡ notes) }
+    ensures { OnOk result (tree.new ≡ record { key = 1; marked = false }
+        ∷ record { key = 2; marked = true } ∷ record { key = 3; marked = false } ∷ []) }
 {
     tree.insert(entry(3, false))?;
     tree.insert(entry(2, true))?;
@@ -60,7 +60,8 @@ fn put_three(tree: &mut Avl<Note>) -> Result<(), AllocError>
 
 /// Takes the mark off and the last entry out, and says whether it shows so.
 fn is_unmarked(alloc: Global, tree: &mut Avl<Note>) -> Result<bool, AllocError>
-    requires { tree.old ≡ notes }
+    requires { tree.old ≡ record { key = 1; marked = false }
+        ∷ record { key = 2; marked = true } ∷ record { key = 3; marked = false } ∷ [] }
 {
     let was_marked = tree.part().sum();
     tree.replace(entry(2, false));
