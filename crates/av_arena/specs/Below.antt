@@ -125,7 +125,7 @@ module _ {T S : Type 0} (key : T → ℕ) (unit : S) (op : S → S → S) (of : 
   abbrev pub IsPlaceBelow : Store T S → ℕ → ℕ → T → Type 0
   IsPlaceBelow s n m x = IsAskedBelow (λ k. IsPlaceFor key unit op of s k m x) n
 
-  -- the entry is put into the tree with the root n, under the number m
+  -- the tree with the root n has the entry, too, and the number m besides
   abbrev pub IsPlacedBelow : Store T S → Store T S → ℕ → ℕ → T → Bool → Type 0
   IsPlacedBelow old new n m x =
       IsDoneBelow (λ k. IsPlaceFor key unit op of old k m x) (with_entry key x)
@@ -164,7 +164,7 @@ module _ {T S : Type 0} (key : T → ℕ) (unit : S) (op : S → S → S) (of : 
     pub taken : IsTaken old between child x rest
     pub put : new ≡ with_at n (side_put side rest (between n)) between
 
-  -- the node `out`, which has the key, is taken out of the tree with the root n
+  -- the entry with the key, and the number `out`, are taken out of the tree with the root n
   abbrev pub IsRemovedBelow : Store T S → Store T S → ℕ → T → ℕ → Bool → Type 0
   IsRemovedBelow old new n x out =
       IsDoneBelow (λ k. HasKey key unit op of old k x) (without_key key (key x)) (λ f. f) (is out)
@@ -183,7 +183,8 @@ module _ {T S : Type 0} (key : T → ℕ) (unit : S) (op : S → S → S) (of : 
   abbrev pub IsSplitBelowFor : Store T S → ℕ → ℕ → T → T → Type 0
   IsSplitBelowFor s n m x y = IsAskedBelow (λ k. IsSplitFor s k m x y) n
 
-  -- the tree with x in the node of the entry with its key, and the node m for y
+  -- the tree with x in the place of the entry with its key, and y right after it, and the number m
+  -- besides
   abbrev pub IsSplit : Store T S → Store T S → Option (Link S) → ℕ → T → T → Link S → Type 0
   IsSplit old new k m x y k' =
       IsTree key unit op of old new (Some k') (with_two key x y (entries_at old k))

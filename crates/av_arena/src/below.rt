@@ -356,7 +356,8 @@ fn removed_on<T: Entry>(
 }
 
 /// Puts `lower` in the place of the entry with its key, and the node `new` for `upper` right after
-/// it. Where both are in sum what that entry was, nothing above is written.
+/// it, and answers whether the root is stored otherwise, or got `lower`. Where both are in sum what
+/// that entry was, nothing above is written but where a height changes.
 #[cycle(split)]
 pub fn split_below<T: Entry>(
     arena: &mut Arena<T, T::Sum>,
@@ -437,8 +438,8 @@ fn joined_at<T: Entry>(
 
 /// Takes the node of `lower` or of `upper`, which comes right after it, out of the tree with the
 /// root `number`, and puts `joined`, which has the key of `lower`, into the other: the number of
-/// the node that goes, and whether the root is stored otherwise. Where `joined` is in sum what the
-/// two were, nothing above is written.
+/// the node that goes, and whether the root is stored otherwise, or got `joined`. Where that is in
+/// sum what the two were, nothing above is written but where a height changes.
 #[cycle(join)]
 pub fn joined_below<T: Entry>(
     arena: &mut Arena<T, T::Sum>,

@@ -1,4 +1,4 @@
--- What is seen of the frames: a free list, and for each frame its bytes, how many entries name it,
+-- What is shown of the frames: a free list, and for each frame its bytes, how many entries name it,
 -- its home, the slot at which it is cached, and whether it is dirty.
 use Rattle.std.specs.Prelude.{◌≡◌, ℕ, ◌+◌, ◌-◌, ◌^◌, ◌<◌, ◌≤◌, Bool, true, false, ◌==◌, if◌then◌else◌, List, [], length, slice_index, slice_index_or, Option, None}
 use Rattle.av_base.specs.declared.slot.Slot.{Slot}
@@ -53,7 +53,7 @@ abbrev pub overlaid : ℕ → List ℕ → (ℕ → ℕ) → ℕ → ℕ
 overlaid at piece bytes i =
     if within at (length piece) i then slice_index piece (i - at) else bytes i
 
--- what is seen, with one field of one frame changed
+-- what is shown, with one field of one frame changed
 abbrev pub with_bytes : ℕ → (ℕ → ℕ) → Shown → Shown
 with_bytes f bytes s = record s { bytes = with_at f bytes s.bytes }
 

@@ -5,8 +5,7 @@ use Rattle.av_io.specs.declared.sink.SinkErr.TheVariants.{Failed, Memory}
 use Rattle.av_io.specs.Count.{one_more}
 
 -- what the sink holds, where it is told; what it keeps back; how often a flush handed that on; how
--- often a call failed, and whether the last one did. A sink that tells what it holds keeps nothing
--- back.
+-- often a call failed, and whether the last one did
 pub record SinkView : Type 0 where
   pub held : Option (List ℕ)
   pub kept_back : List ℕ

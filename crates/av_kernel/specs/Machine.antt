@@ -1,4 +1,4 @@
--- What is seen of a kernel, and what is true of every one.
+-- What is shown of a kernel, and what is true of every one.
 use Rattle.std.specs.Prelude.{◌≡◌, ℕ, Bool, false, refl}
 use Rattle.std.specs.Coded.{Coded, code_by, coded×, coded_ℕ, coded_bool}
 use Rattle.av_reclaim.specs.declared.mem.Mem.{Mem}

@@ -32,7 +32,7 @@ pub mod SwapViewExamples
 pub mod ListsExamples
 pub mod AnonExamples
 pub mod RowExamples
-pub mod CutExamples
+pub mod SplitExamples
 pub mod Clusters
 pub mod FreeSlots
 pub mod Covered

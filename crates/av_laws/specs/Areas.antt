@@ -1,7 +1,7 @@
 -- Worked examples for areas: what a process has on its pages after some commands, and what it
 -- hasn't.
 -- Which example would fail if a definition were wrong:
---   a cut (`split_at`, `part_of`): protected_inside, hole, offset_anew, left_whole
+--   a split (`split_at`, `part_of`): protected_inside, hole, offset_anew, left_whole
 --   a join (`joined_at`, `are_mergeable`): joined_again, joined_above, joined_below, between,
 --     kept_apart, left_split, left_apart, joined_unlike
 --   what goes (`without_range`, `with_room`): hole, fixed_over, left_under
@@ -23,7 +23,7 @@
 --   the rows of `areas` (`ShowsAreas`, `AreRowsOf`, `area_row`): four_rows, area_left_out,
 --     shown_as_one, shown_in_two, falling_rows, other_offset_shown, root_owned, bare_shown,
 --     own_shown, chain_of_root, chain_of_child, chain_falling
---   what both parts of an area have that is cut (`part_of`, `chain_of`): unmapped_inside,
+--   what both parts of an area have that is split (`part_of`, `chain_of`): unmapped_inside,
 --     changed_inside, offset_kept, offset_of_address, own_lost, own_of_root, chain_lost,
 --     own_alone_linked, chain_turned, lower_chain_lost, hole_shown, middle_offset_kept,
 --     middle_own_lost, middle_own_alone, upper_offset_short
@@ -347,7 +347,7 @@ abbrev pub NeverShows : List Row → Type 0
 NeverShows rows = (new : State)
     → IsStep (machine 4) (state_of four_areas family) (AsksAreas 1) (with_rows rows) new → ⊥
 
--- ---- areas are shown before a cut and behind it
+-- ---- areas are shown before a split and behind it
 
 -- the child has four pages in one area, which came from elsewhere: its offset isn't its first page
 abbrev pub child_four : State

@@ -688,7 +688,7 @@ two_protections = record {
 abbrev pub with_runs : List Row → Reply
 with_runs rows = record { answer = RunCount (length rows); notes = []; rows = rows }
 
--- the lower run cut in two, though the protection is the same
+-- the lower run split in two, though the protection is the same
 abbrev pub split_run : Reply
 split_run = with_runs
     (Run 0x7fffffffc000 0x7fffffffd000 read_write ∷ Run 0x7fffffffd000 0x7fffffffe000 read_write

@@ -179,7 +179,7 @@ pub fn first_frames_prepare()
         (behind_root (with_own 1 unlike)) two_roots (behind_root (area_of 1 0x12 0x14)) two_roots }
 {}
 
-/// No others: an area that stays bare, or that is cut or joined; a second number for one area; an
+/// No others: an area that stays bare, or that is split or joined; a second number for one area; an
 /// anon_vma of the area before it though the one after it has one, or of a child; a new one though
 /// one is lent; a number that was used; a new one with another root or parent or a longer chain;
 /// one for a page that is only read; one that another process has, or that its area gets.
@@ -247,10 +247,10 @@ pub fn changed_rows_are_refused()
         ∷ row 0x14 0x16 read_write 0x14 (Some 1) (1 ∷ 0 ∷ []) ∷ last_row ∷ []) }
 {}
 
-/// `areas` shows both parts of an area with an anon_vma that is cut, whether a page inside it is
+/// `areas` shows both parts of an area with an anon_vma that is split, whether a page inside it is
 /// unmapped or gets another protection: each has its own anon_vma and its whole chain still, and
 /// offsets run on.
-pub fn cut_areas_are_shown()
+pub fn split_areas_are_shown()
     ensures unmapped_inside { ShowsAround second_unmapped (with_hole right_upper) }
     ensures changed_inside { ShowsAround second_protected (with_middle right_middle right_upper) }
 {}
@@ -260,7 +260,7 @@ pub fn cut_areas_are_shown()
 /// falls; a lower part without chain; the whole still, hole and all. And of a part that was
 /// changed: one with the offset of the whole, without anon_vma, or with that alone in its chain;
 /// nor an upper part whose offset runs on from the changed one's first page.
-pub fn changed_cuts_are_refused()
+pub fn changed_splits_are_refused()
     ensures offset_kept { NeverShowsAround second_unmapped
         (with_hole (of_child 0x12 0x14 read_write 0x20)) }
     ensures offset_of_address { NeverShowsAround second_unmapped

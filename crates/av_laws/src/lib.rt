@@ -62,8 +62,8 @@ ghost use Rattle.av_laws.specs.Determined.{
 
 pub use areas::{
     anon_vmas_are_left, areas_are_shown, areas_follow, changed_anon_vmas_are_refused,
-    changed_areas_are_refused, changed_cuts_are_refused, changed_prepares_are_refused,
-    changed_rows_are_refused, cut_areas_are_shown, first_frames_prepare,
+    changed_areas_are_refused, changed_prepares_are_refused, changed_rows_are_refused,
+    changed_splits_are_refused, first_frames_prepare, split_areas_are_shown,
 };
 pub use examples::{
     a_page_in_writeback_is_sound, changed_exits_and_reports_are_refused,

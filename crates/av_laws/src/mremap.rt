@@ -83,7 +83,7 @@ ghost use Rattle.av_laws.specs.Mremap.{
   zeros_stay,
 };
 
-/// Pages that move take their areas, cut to them, and their entries with them; those of other
+/// Pages that move take their areas, split to them, and their entries with them; those of other
 /// processes stay. An area with an anon_vma keeps its offset, another has that of its new place.
 /// What stands at the target goes first, then the pages past the new length, and pages that are new
 /// are zeros. Each boundary is tried, by rising address, and a joined area with what is behind it,

@@ -1,4 +1,4 @@
--- What is seen of `Lru`: how many frames there are, and the two lists, each from its head on.
+-- What is shown of `Lru`: how many frames there are, and the two lists, each from its head on.
 use Rattle.std.specs.Prelude.{◌≡◌, ℕ, Bool, false, ◌==◌, not, cond, if◌then◌else◌, List, [], ◌∷◌, filter, Option, Some, None}
 use Rattle.av_base.specs.Words.{is_in}
 use Rattle.av_lru.specs.declared.Which.{Which}

@@ -16,7 +16,7 @@ use Rattle.av_merge.proofs.PlacingLaws.{within_from}
 
 -- ---- parts of parts
 
--- an area cut at one page, and then at a later one, is cut at the later one, on the pages past both
+-- an area split at one page, and then at a later one, is split at the later one, on the pages past both
 late_part : (a b q : ℕ) (area : Area) → IsWhole area → a ≤ b → b ≤ q → part_of b q (part_of a q area) ≡ part_of b q area
 late_part a b q area whole le high =
     let start = whole.start in
@@ -76,7 +76,7 @@ module _ (len : Lengths) (effect : Effect) (on : Pages) (laid : AreLaid on) (a :
   low : first_of area ≤ a
   low = (has_parts area a (laid.here a area here)).0
 
-  -- what is left of the area past page b, and what is on all pages after the cuts at a and b
+  -- what is left of the area past page b, and what is on all pages after the splits at a and b
   abbrev upper : ℕ → Area
   upper b = record area { start = 4096 * b; pgoff = index_of area b }
 
@@ -218,7 +218,7 @@ module _ (len : Lengths) (effect : Effect) (on : Pages) (laid : AreLaid on) (a :
     joined_more : join_of (ended b x) (more b) ≡ ended (b + 1) x
     joined_more = λ i. record (ended (b + 1) x) { anon = g.own i }
 
-    -- past the part's new end and before its start, all is as after the cuts at a and b + 1
+    -- past the part's new end and before its start, all is as after the splits at a and b + 1
     wider_out : (q : ℕ) → has_page (ended (b + 1) x) q ≡ false → wider q ≡ rest (b + 1) q
     wider_out q out =
         let beyond : first_of x ≤ q → q < b + 1 → ⊥ = λ first last. both_ways (has_page (ended (b + 1) x) q) out (has_ended (b + 1) x q first last) in

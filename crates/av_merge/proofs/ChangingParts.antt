@@ -1,4 +1,4 @@
--- A part of an area is changed: it is cut off at both ends, its area is changed, and is joined with its neighbours.
+-- A part of an area is changed: it is split off at both ends, its area is changed, and is joined with its neighbours.
 use Rattle.std.proofs.Common.{◌≡◌, ℕ, ◌-◌, ◌*◌, ◌/◌, ◌<◌, ◌≤◌, ◌==◌, not, min, max, true, false, cond, List, Option, Some, None, Result, Ok, Err, OnOk, IfSome, IsSomeAnd, option_map, refl, sym, ap, subst, ◌∙◌, arith}
 use Rattle.std.specs.Prelude.{option_and_then}
 use Rattle.std.proofs.lemmas.Bool.{and_from, eq-eqb, false_from_ne_true, false≢true, lt-ltb, le-ltb}
@@ -24,7 +24,7 @@ use Rattle.av_merge.proofs.Kin.{keeps_fields}
 use Rattle.av_merge.proofs.Lengths.{AreAlike, around_alike}
 use Rattle.av_merge.proofs.PlacingMaps.{changed_maps, split_maps, joined_maps, laid_of, part_maps_to}
 
--- what is left of an area that is cut before its part and past it
+-- what is left of an area that is split before its part and past it
 record IsExact (from past : ℕ) (area : Area) : Type 0 where
   pub begins : first_of area ≡ from
   pub ends : past_of area ≡ past

@@ -1,4 +1,4 @@
--- What cutting and joining keep: how each page is mapped, and that each area is on all of its pages.
+-- What splitting and joining keep: how each page is mapped, and that each area is on all of its pages.
 use Rattle.std.proofs.Common.{◌≡◌, ℕ, ◌-◌, ◌≤◌, inl, inr, Bool, true, false, cond, List, Option, Some, None, option_map, refl, sym, ap, ◌∙◌}
 use Rattle.av_vma.specs.declared.area.Area.{Area}
 use Rattle.av_vma.specs.Join.{first_of}
@@ -25,7 +25,7 @@ laid_of p areas spans stands = record {
 abbrev mapping_of : ℕ → Option Area → Option Mapping
 mapping_of page = option_map (mapping_in page)
 
--- ---- a cut
+-- ---- a split
 
 part_maps : (at page : ℕ) (area : Area) → IsWhole area → first_of area ≤ page → mapping_in page (part_of at page area) ≡ mapping_in page area
 part_maps at page area whole low =
@@ -34,7 +34,7 @@ part_maps at page area whole low =
     let index = part_index at page area whole low in
     λ i. record { prot = prot i; flags = flags i; index = index i }
 
--- a cut keeps how each page is mapped
+-- a split keeps how each page is mapped
 pub split_maps : (at : ℕ) (on : Pages) → AreLaid on → (page : ℕ) → mapping (split_at at on) page ≡ mapping on page
 split_maps at on laid page = go (on page) refl
   where
@@ -104,7 +104,7 @@ changed_maps from past effect on page = by (within from (past - from) page)
     by true = each (on page)
     by false = refl
 
--- the cuts at the two ends of a range keep how each page is mapped
+-- the splits at the two ends of a range keep how each page is mapped
 splits_map : (from past : ℕ) (on : Pages) → AreLaid on → (page : ℕ) → mapping (split_at past (split_at from on)) page ≡ mapping on page
 splits_map from past on laid page = split_maps past (split_at from on) (laid_split from on laid) page ∙ split_maps from on laid page
 

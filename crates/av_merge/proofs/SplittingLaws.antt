@@ -1,4 +1,4 @@
--- A cut, over pages alone: what it leaves, and where it changes nothing.
+-- A split, over pages alone: what it leaves, and where it changes nothing.
 use Rattle.std.proofs.Common.{◌≡◌, ℕ, ◌+◌, ◌-◌, ◌*◌, ◌/◌, ◌<◌, ◌≤◌, max, min, nat_lt, true, false, cond, if◌then◌else◌, List, inl, inr, Option, Some, None, option_map, IfSome, IsSomeAnd, refl, sym, ap, subst, ◌∙◌, arith}
 use Rattle.std.specs.Prelude.{option_and_then}
 use Rattle.std.proofs.lemmas.Option.{same_Some}
@@ -23,7 +23,7 @@ least a b h = omega arith
 most : (a b : ℕ) → b ≤ a → max a b ≡ a
 most a b h = omega arith
 
--- an area that a cut doesn't cross is its own part
+-- an area that a split doesn't cross is its own part
 pub part_is : (at page : ℕ) (area : Area) → IsWhole area → has_page area page ≡ true → (first_of area < at → at < past_of area → ⊥) →
     part_of at page area ≡ area
 part_is at page area whole has out =
@@ -44,7 +44,7 @@ part_is at page area whole has out =
           ap (λ n. record area { start = n; pgoff = area.pgoff + (at - first_of area) }) same ∙ ap (λ n. record area { pgoff = n }) offset
     ] refl
 
--- where no area lies on both sides, a cut changes nothing
+-- where no area lies on both sides, a split changes nothing
 pub uncut : (on : Pages) (at : ℕ) → AreLaid on → ((area : Area) → on at ≡ Some area → at ≤ first_of area) → (page : ℕ) → on page ≡ split_at at on page
 uncut on at are none page = each (on page) refl
   where
@@ -54,7 +54,7 @@ uncut on at are none page = each (on page) refl
         let there = none area (are.all page at area e (has_from area at (omega arith) high)) in
         omega arith)))
 
--- the two parts of an area that a cut crosses
+-- the two parts of an area that a split crosses
 abbrev pub lower_of : ℕ → Area → Area
 lower_of at area = record area { end = 4096 * at }
 
@@ -150,7 +150,7 @@ module _ (on : Pages) (from to : ℕ) (area : Area) (are : AreLaid on) (there : 
             ] refl
       ] refl
 
--- after a cut, an area begins with the page
+-- after a split, an area begins with the page
 pub split_starts : (on : Pages) (at : ℕ) (area : Area) → split_at at on at ≡ Some area → at ≤ first_of area
 split_starts on at area e = each (on at) e
   where
@@ -162,7 +162,7 @@ split_starts on at area e = each (on at) e
         let start : max b.start (4096 * at) ≡ area.start = ap (λ (a : Area). a.start) same in
         omega arith
 
--- where no page goes, an area is cut in two
+-- where no page goes, an area is split in two
 pub only_cut : (at : ℕ) (on : Pages) → AreLaid on → (page : ℕ) → after_unmap at at on page ≡ split_at at on page
 only_cut at on are page =
     ap (λ b. cond b None (split_at at (split_at at on) page)) none
@@ -276,7 +276,7 @@ none_by_last spans at apart past n = each (span_of spans n) refl
       | inr over ↦ over
     ]
 
--- a cut at another page makes none that crosses
+-- a split at another page makes none that crosses
 pub cut_keeps : (on : Pages) (at page : ℕ) → ((area : Area) → on page ≡ Some area → page ≤ first_of area) → (area : Area) →
     split_at at on page ≡ Some area → page ≤ first_of area
 cut_keeps on at page starts area e = each (on page) refl e
@@ -291,14 +291,14 @@ cut_keeps on at page starts area e = each (on page) refl e
           | false ↦ λ same. let start : max b.start (4096 * at) ≡ area.start = ap (λ (a : Area). a.start) same in omega arith
         ] (let k : part_of at page b ≡ area = cc in k)
 
--- where none crosses, a cut at another page leaves none that crosses
+-- where none crosses, a split at another page leaves none that crosses
 pub none_after : (p at page : ℕ) (areas areas' : ℕ → Option Area) (spans spans' : List Span) → AreAreasOf p areas spans → AreAreasOf p areas' spans' →
     NoneCrosses page spans → ((q : ℕ) → pages_by areas' spans' q ≡ split_at at (pages_by areas spans) q) → NoneCrosses page spans'
 none_after p at page areas areas' spans spans' stands stands' none pages =
     none_from p page areas' spans' stands' (λ area e. cut_keeps (pages_by areas spans) at page (none_starts p page areas spans stands none) area
     (sym (pages page) ∙ e))
 
--- ---- an area is cut at a page of its own, or past one
+-- ---- an area is split at a page of its own, or past one
 
 -- the area that has a page, by its number
 pub record IsFound (p n page : ℕ) (areas : ℕ → Option Area) (spans : List Span) (area : Area) : Type 0 where
@@ -332,7 +332,7 @@ found_inside p n at areas spans area f below =
     let high = f.high in
     subst (λ o. IsSomeAnd o (λ s. (s.from < at) × (at < s.to))) (sym f.span_is) (omega arith, omega arith)
 
--- an area that begins with a page isn't cut there
+-- an area that begins with a page isn't split there
 pub begins_uncut : (on : Pages) (at : ℕ) (area : Area) → AreLaid on → on at ≡ Some area → at ≤ first_of area → (page : ℕ) → on page ≡ split_at at on page
 begins_uncut on at area laid here first = uncut on at laid (λ other e. subst (λ a. at ≤ first_of a) (same_Some area other (sym here ∙ e)) first)
 
@@ -358,7 +358,7 @@ has_before p n at areas spans area stands inside used = each (span_of spans n) r
     each None e h = absurd h
     each (Some s) e h = let low = h.0 in let high = h.1 in (omega arith, on_span p areas spans n s area (at - 1) stands e used (omega arith) (omega arith))
 
--- what begins with a page, after a cut there, goes as far as what was on the page
+-- what begins with a page, after a split there, goes as far as what was on the page
 pub goes_to : (p n from past : ℕ) (on : Pages) (areas : ℕ → Option Area) (spans : List Span) → AreAreasOf p areas spans → from < past →
     area_at spans from ≡ Some n → pages_by areas spans from ≡ split_at from on from → IsSomeAnd (on from) (λ area. past ≤ past_of area) →
     IsSomeAnd (span_of spans n) (λ s. (s.from < past) × (past ≤ s.to))

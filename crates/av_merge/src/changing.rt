@@ -90,7 +90,7 @@ impl Change {
 /// Changes the pages from `from` to below `to` up to the first that isn't mapped, and tells that
 /// one, else `to`.
 ///
-/// An area that is so already is neither cut nor joined (Linux's `vma_modify`).
+/// An area that is so already is neither split nor joined (Linux's `vma_modify`).
 pub fn modify(
     areas: &mut Areas,
     tree: &mut Tree,
@@ -128,7 +128,7 @@ pub fn modify(
 /// Changes the pages from `from` to below `past`, all of one area that the change makes another,
 /// and joins them with their neighbours.
 ///
-/// What a cut leaves of the area differs from them, so no boundary is tried there.
+/// What a split leaves of the area differs from them, so no boundary is tried there.
 fn modify_part(
     areas: &mut Areas,
     tree: &mut Tree,

@@ -18,7 +18,7 @@ pub fn areas_are_laid()
 {}
 
 /// Taking away a range leaves no page of it mapped, and each other page as it was.
-pub fn cuts_keep_mappings()
+pub fn unmappings_keep_mappings()
     ensures { (on : Pages) (from to page : ℕ) → AreLaid on → mapping (after_unmap from to on) page
         ≡ (if within from (to - from) page then None else mapping on page) }
 {}

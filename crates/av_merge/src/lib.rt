@@ -1,5 +1,5 @@
-//! The areas of one process: mapped, cut, protected, moved, joined and forked, with their chains of
-//! anon_vmas.
+//! The areas of one process: mapped, split, unmapped, changed, moved, grown, joined and forked, with
+//! their chains of anon_vmas.
 //!
 //! `Areas` holds the areas of all processes by number, a `Tree` the spans of one process's areas,
 //! and `Anons` the anon_vmas of all. Every call here changes the three together, but for `prepare`,
@@ -39,7 +39,7 @@ mod splitting;
 pub use changing::{Change, map, modify};
 pub use forking::fork;
 pub use laws::{
-    areas_are_laid, cuts_keep_mappings, joins_keep_mappings, parts_are_changed_page_by_page,
+    areas_are_laid, joins_keep_mappings, parts_are_changed_page_by_page, unmappings_keep_mappings,
 };
 pub use mremap::{grow, move_range};
 pub use preparing::prepare;

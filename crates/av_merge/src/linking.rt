@@ -98,7 +98,7 @@ pub fn share(
     anons.clone_chain(areas, other, number)
 }
 
-/// Gives the two parts of an area that is cut their bounds: the lower one keeps the area's number
+/// Gives the two parts of an area that is split their bounds: the lower one keeps the area's number
 /// and chain, and the upper one, which stands as an area without anon_vma, is linked to the whole
 /// chain.
 pub fn put_parts(

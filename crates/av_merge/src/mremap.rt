@@ -54,7 +54,7 @@ pub fn move_range(
 }
 
 /// Takes away what stands in the new range and, where that is shorter, the end of the old one; and
-/// cuts before the old one. What is left of it are whole areas.
+/// splits before the old one. What is left of it are whole areas.
 fn clear_ranges(
     areas: &mut Areas,
     tree: &mut Tree,

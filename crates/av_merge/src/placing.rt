@@ -148,7 +148,7 @@ pub fn replace_both(
     put(areas, anons, number, area)
 }
 
-/// Puts the two parts that a cut leaves of an area in its place, and answers the number of the
+/// Puts the two parts that a split leaves of an area in its place, and answers the number of the
 /// upper one. The lower one keeps its own.
 ///
 /// The tree is gone down once for both. Both have the area's own anon_vma and its chain.

@@ -1,4 +1,4 @@
-//! Cutting: an area becomes two, and what lies in a range goes.
+//! Splitting and unmapping: an area becomes two, and what lies in a range goes.
 
 ghost use Rattle.std.specs.Prelude.{◌≡◌, ℕ, ◌<◌, ◌≤◌, [], Some, IsSomeAnd, OnOk, IfOk};
 ghost use Rattle.av_vma.specs.Areas.{area_of};
@@ -99,7 +99,7 @@ fn unmap_within(
     put_apart(areas, tree, anons, area, lower, upper)
 }
 
-/// Cuts before the page `at`, where one area lies on both sides.
+/// Splits before the page `at`, where one area lies on both sides.
 pub fn split_before(
     areas: &mut Areas,
     tree: &mut Tree,
@@ -118,7 +118,7 @@ pub fn split_before(
     split_below(areas, tree, anons, below, at)
 }
 
-/// Cuts before the page `at` the last area that begins below it, where that goes on past it.
+/// Splits before the page `at` the last area that begins below it, where that goes on past it.
 fn split_below(
     areas: &mut Areas,
     tree: &mut Tree,
@@ -168,7 +168,7 @@ pub fn split_out(
     Ok(part)
 }
 
-/// Cuts an area before one of its pages, where it doesn't begin there, and answers the number of
+/// Splits an area before one of its pages, where it doesn't begin there, and answers the number of
 /// the area that does.
 fn split_from(
     areas: &mut Areas,
@@ -193,7 +193,7 @@ fn split_from(
     }
 }
 
-/// Cuts an area past one of its pages, where it goes on there. The lower part keeps the number.
+/// Splits an area past one of its pages, where it goes on there. The lower part keeps the number.
 fn split_to(
     areas: &mut Areas,
     tree: &mut Tree,
@@ -219,7 +219,7 @@ fn split_to(
 }
 
 /// Takes away the pages from `from` to below `to`. An area that goes past an end of the range is
-/// cut there; nothing is joined.
+/// split there; nothing is joined.
 pub fn unmap(
     areas: &mut Areas,
     tree: &mut Tree,
@@ -245,7 +245,7 @@ pub fn unmap(
     }
 }
 
-/// Takes away the pages from `from` to below `to`: cuts at the two ends, of which the lower is in
+/// Takes away the pages from `from` to below `to`: splits at the two ends, of which the lower is in
 /// the last area that begins below it or in none, and takes out what lies between.
 fn unmap_between(
     areas: &mut Areas,

@@ -22,5 +22,5 @@ StaySmall s p from n m = n < m → IsSomeAnd (pages_of s p (from + n - 1))
 
 -- one would get too great
 abbrev pub GrowTooFar : Spaces → ℕ → ℕ → ℕ → ℕ → Type 0
-GrowTooFar s p from n m = IsSomeAnd (pages_of s p (from + n - 1))
+GrowTooFar s p from n m = (n < m) × IsSomeAnd (pages_of s p (from + n - 1))
     (λ (area : Area). most_indices ≤ index_of area (from + n - 1) + (m - n))

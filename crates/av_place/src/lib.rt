@@ -1,8 +1,9 @@
-//! Where the pages of a process go: the places of `mmap` and `mremap`, and what `mmap`, `mprotect`
-//! and `mremap` refuse by addresses, lengths and the areas that are there.
+//! Where the pages of a process go: the places of `mmap` and `mremap`, and what `mmap`, `munmap`,
+//! `mprotect` and `mremap` refuse by addresses, lengths and the areas that are there.
 //!
-//! Nothing is changed. Proved: each refusal is the first test of the definitions that holds, and
-//! each place the one that they name.
+//! Nothing is changed. Proved: each refusal of an `mprotect` and an `mremap` is the first test of
+//! the definitions that holds here, each test of an `mmap` and a `munmap` the one that they name,
+//! and so is each place.
 #![tactic(auto)]
 
 mod mremap;

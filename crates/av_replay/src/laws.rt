@@ -1,4 +1,4 @@
-//! A law of the definitions that the contract of `run` cites.
+//! A law of the headline.
 
 ghost use Rattle.std.specs.Prelude.{ℕ, Option};
 ghost use Rattle.av_kernel.specs.Machine.{Machine};

@@ -52,7 +52,8 @@ fn hand_back(status: Status, kernel: Kernel) -> Outcome
 /// taken. The source is read in pieces, each time only when no whole line is left of the last
 /// piece. There is one flush of the sink for each read, and nothing is kept back when a read is
 /// waited for; and one more in the end, but after a call that failed. A flush that fails ends the
-/// run as a failed write does; where memory is wanting, the last one may fail beside that.
+/// run as a failed write does; where memory is wanting, the last one may fail beside that. (By the
+/// clauses one flush that fails may be told as want of memory: no status tells them apart.)
 pub fn run<S: Source, K: Sink>(
     alloc: Global,
     words: &[String],
@@ -70,10 +71,12 @@ pub fn run<S: Source, K: Sink>(
         → (source.new ≡ source.old) × (sink.new ≡ sink.old) }
     // A kernel is handed back exactly where there is one to go on with.
     ensures kernel { is_some result.kernel ≡ can_go_on result.status }
-    // What failed is what the status tells of, and no call of the sink came after one that failed.
+    // What failed is what the status tells of. (That no call of the sink came after one that failed
+    // is said in the headline, where the status is that of a failed write.)
     ensures unfailed { FailsOnlyAt result.status (streams (S.view source.old) (K.view sink.old))
         (streams (S.view source.new) (K.view sink.new)) }
-    // No text was kept back while a read was waited for, nor is in the end.
+    // No text was kept back while a read was waited for, nor is in the end, unless the sink failed,
+    // or memory was wanting before its first call.
     ensures flushed { IsFlushed result.status (streams (S.view source.old) (K.view sink.old))
         (streams (S.view source.new) (K.view sink.new)) }
 {

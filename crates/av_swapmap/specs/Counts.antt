@@ -1,4 +1,4 @@
--- What is seen of the counts of a swap area.
+-- What is shown of the counts of a swap area.
 use Rattle.std.specs.Prelude.{◌≡◌, ℕ, ◌<◌, ◌^◌, Bool, true, false, ◌&&◌, ◌==◌, nat_lt, if◌then◌else◌, List, length, slice_index, Option, None}
 use Rattle.av_base.specs.Words.{is_in, with_at}
 use Rattle.std.specs.Ordering.{nat_cmp}
@@ -41,7 +41,7 @@ fresh pages bad = record {
   count = λ p. 0;
 }
 
--- what is seen, with the count or the flag of one slot changed
+-- what is shown, with the count or the flag of one slot changed
 abbrev pub with_count : ℕ → ℕ → Shown → Shown
 with_count p n s = record s { count = with_at p n s.count }
 

@@ -46,9 +46,9 @@ home_parts page area home is = by area.anon refl is
 home_from : (page : ℕ) (area : Area) (home : ℕ × ℕ) → IsHome page area home → home_of page (Some area) ≡ Some home
 home_from page area home is = λ i. option_map (λ own. (own, is.index i)) (is.own i)
 
--- ---- cut and unmap
+-- ---- split and unmap
 
--- a cut gives each page the home that it had
+-- a split gives each page the home that it had
 pub homes_split : (at : ℕ) (on : Pages) → AreLaid on → (page : ℕ) → home_of page (split_at at on page) ≡ home_of page (on page)
 homes_split at on laid page = by (on page) refl
   where

@@ -1,4 +1,4 @@
--- How high linear indices go after cuts, joins and changes, and where a range of areas moves or grows.
+-- How high linear indices go after splits, joins and changes, and where a range of areas moves or grows.
 use Rattle.std.proofs.Common.{◌≡◌, ℕ, zero, suc, ◌+◌, ◌-◌, ◌*◌, ◌/◌, ◌^◌, ◌<◌, ◌≤◌, inl, inr, min, max, nat_lt, Bool, true, false, cond, Option, Some, None, is_some, option_map, refl, sym, ap, subst, ◌∙◌, arith}
 use Rattle.std.proofs.lemmas.Bool.{ltb-true, ltb-false}
 use Rattle.std.proofs.lemmas.Option.{none-some, same_Some}
@@ -21,7 +21,7 @@ use Rattle.av_vma.proofs.Mremap.{IsLast, IsReady, IsThere, carried, ends_there, 
 pub indices_more : (a b : ℕ) (on : Pages) → a ≤ b → AreIndicesBelow a on → AreIndicesBelow b on
 indices_more a b on less h page area is = let low = h page area is in omega (arith, low, less)
 
--- ---- cut and unmap
+-- ---- split and unmap
 
 part_below : (at page : ℕ) (area : Area) → IsWhole area → page < past_of area
     → index_of (part_of at page area) (past_of (part_of at page area)) ≤ index_of area (past_of area)

@@ -488,7 +488,7 @@ module _ (last past : ℕ) (on : Pages) (laid : AreLaid on) (g : IsGrowth last p
 abbrev pub index_at : ℕ → Option Area → Option ℕ
 index_at page = option_map (λ area. index_of area page)
 
--- a cut keeps it
+-- a split keeps it
 pub index_split : (at : ℕ) (on : Pages) → AreLaid on → (page : ℕ) → index_at page (split_at at on page) ≡ index_at page (on page)
 index_split at on laid page = by (on page) refl
   where

@@ -1,4 +1,4 @@
--- Cutting, joining, mapping, unmapping, changing, moving and growing give no area an own anon_vma that none had.
+-- Splitting, joining, mapping, unmapping, changing, moving and growing give no area an own anon_vma that none had.
 use Rattle.std.proofs.Common.{◌≡◌, ℕ, zero, suc, ◌+◌, ◌-◌, min, nat_lt, Bool, true, false, cond, Option, Some, None, IsSomeAnd, option_map, refl, sym, subst, ◌∙◌, inl, inr}
 use Rattle.std.specs.Option.{option_or}
 use Rattle.std.proofs.lemmas.Option.{none-some}
@@ -27,7 +27,7 @@ adds_neither a b c first second page own has = let there = second page own has i
 is_own : (o : Option Area) (area : Area) (own : ℕ) → o ≡ Some area → area.anon ≡ Some own → HasOwn own o
 is_own o area own is has = subst (HasOwn own) (sym is) has
 
--- ---- cut and unmap
+-- ---- split and unmap
 
 pub owns_split : (at : ℕ) (on : Pages) → AddsNoOwn on (split_at at on)
 owns_split at on page own has = (page, by (on page) has)

@@ -1,4 +1,4 @@
--- The protections of pages, through cuts and joins, where an area gets another anon_vma, and where a range of areas moves or grows.
+-- The protections of pages, through splits and joins, where an area gets another anon_vma, and where a range of areas moves or grows.
 use Rattle.std.proofs.Common.{◌≡◌, ℕ, zero, suc, ◌+◌, ◌-◌, ◌*◌, ◌/◌, ◌^◌, ◌<◌, ◌≤◌, inl, inr, min, Bool, true, false, cond, Option, Some, None, option_map, refl, sym, ap, subst, ◌∙◌, arith}
 use Rattle.std.proofs.lemmas.Bool.{cases_lt, false≢true}
 use Rattle.av_base.specs.Words.{within}
@@ -20,7 +20,7 @@ area_prot area = area.prot
 abbrev pub prots : Pages → ℕ → Option Prot
 prots on page = option_map area_prot (on page)
 
--- ---- cut and join
+-- ---- split and join
 
 -- a part has the protection of its area
 pub prots_split : (at : ℕ) (on : Pages) (page : ℕ) → prots (split_at at on) page ≡ prots on page

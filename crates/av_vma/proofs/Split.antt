@@ -1,4 +1,4 @@
--- Areas stay whole and on all of their pages through a cut, and where a range that no area leaves is emptied or changed.
+-- Areas stay whole and on all of their pages through a split, and where a range that no area leaves is emptied or changed.
 use Rattle.std.proofs.Common.{◌≡◌, ℕ, ◌+◌, ◌-◌, ◌*◌, ◌/◌, ◌<◌, ◌≤◌, min, max, Bool, true, false, cond, not, ◌&&◌, nat_lt, Option, Some, None, option_map, refl, sym, ap, subst, ◌∙◌, arith}
 use Rattle.std.proofs.lemmas.Bool.{ltb-true, ltb-false, lt-ltb, le-ltb}
 use Rattle.std.proofs.lemmas.Bool.Decides.{nat_tests}
@@ -42,7 +42,7 @@ part_index at page area whole low = by (nat_lt page at) refl
     by true e = refl
     by false e = runs_on area.start (first_of area) page area.pgoff whole.start low (ltb-false page at e)
 
--- what is known of the part of an area on the page's side of a cut
+-- what is known of the part of an area on the page's side of a split
 record IsPart (at page : ℕ) (area part : Area) : Type 0 where
   pub whole : IsWhole part
   pub here : has_page part page ≡ true
@@ -78,7 +78,7 @@ part_is at page area whole here =
           }
     ] refl
 
--- ---- a cut
+-- ---- a split
 
 -- the area that a part is of
 record IsOf (at page : ℕ) (on : Pages) (part : Area) : Type 0 where
@@ -129,7 +129,7 @@ split_at_splits at on page other part e h =
         let above : at ≤ other = omega (arith, least) in
         is ∙ sym (le-ltb other at above)
 
--- another cut leaves it so
+-- another split leaves it so
 pub still_splits : (at at' : ℕ) (on : Pages) → AreLaid on → Splits at on → Splits at (split_at at' on)
 still_splits at at' on laid split page other part e h =
     let one = part_of_one at' page on part e in
@@ -204,7 +204,7 @@ module _ (from past : ℕ) (on : Pages) (laid : AreLaid on) (low : Splits from o
       by_all page other a false is e h = ap (λ b. cond b (option_map (with_effect effect) (on other)) (on other))
           (sym (same_side page other a e h) ∙ is) ∙ laid.all page other a e h
 
--- ---- a range that is cut out
+-- ---- a range that is split out
 
 module _ (from past : ℕ) (on : Pages) (laid : AreLaid on) where
   pub laid_splits : AreLaid (split_at past (split_at from on))

@@ -50,7 +50,7 @@ after_resize len from n m on =
     else on
 
 -- n pages become m at another place: what stands there goes, the pages that stay move, in the parts
--- that their areas are cut to, the last of these ends with the new range, and each boundary of it
+-- that their areas are split to, the last of these ends with the new range, and each boundary of it
 -- is tried
 abbrev pub after_move : Lengths → ℕ → ℕ → ℕ → ℕ → Pages → Pages
 after_move len from n to m on =

@@ -1,5 +1,5 @@
 -- What a process has on its pages: for each page the area that holds it. And what mapping,
--- unmapping and changing a range make of that, with the cuts and joins that come of it.
+-- unmapping and changing a range make of that, with the splits and joins that come of it.
 use Rattle.std.specs.Prelude.{◌≡◌, ℕ, zero, suc, ◌+◌, ◌-◌, ◌^◌, ◌<◌, ◌≤◌, true, false, not, ◌==◌, min, max, unwrap_or, is_some, Bool, ◌&&◌, nat_lt, if◌then◌else◌, List, Option, Some, None, option_map}
 use Rattle.std.specs.List.{find}
 use Rattle.std.specs.Option.{option_or}
@@ -39,9 +39,9 @@ pub record AreLaid (on : Pages) : Type 0 where
   pub all : (page other : ℕ) (area : Area) → on page ≡ Some area → has_page area other ≡ true
       → on other ≡ Some area
 
--- ---- cut
+-- ---- split
 
--- the part of an area on the page's side of a cut before page `at`; the offset of an upper part
+-- the part of an area on the page's side of a split before page `at`; the offset of an upper part
 -- runs on
 abbrev pub part_of : ℕ → ℕ → Area → Area
 part_of at page area =
@@ -51,7 +51,7 @@ part_of at page area =
       pgoff = area.pgoff + (at - first_of area);
     }
 
--- a cut before page `at`
+-- a split before page `at`
 abbrev pub split_at : ℕ → Pages → Pages
 split_at at on page = option_map (part_of at page) (on page)
 
@@ -153,7 +153,7 @@ abbrev pub with_effect_on : ℕ → ℕ → Effect → Pages → Pages
 with_effect_on from past effect on page =
     if within from (past - from) page then option_map (with_effect effect) (on page) else on page
 
--- a part of an area is cut out, has the effect, and is joined with its neighbours
+-- a part of an area is split out, has the effect, and is joined with its neighbours
 abbrev pub part_changed : Lengths → ℕ → ℕ → Effect → Pages → Pages
 part_changed len from past effect on =
     joined_around len from past (with_effect_on from past effect (split_at past (split_at from on)))

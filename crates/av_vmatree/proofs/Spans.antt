@@ -476,17 +476,17 @@ entry_there n first (b ∷ xs) there =
     ] refl
 
 -- the nearest areas, down the tree
-pub or_else_assoc : (x y z : Option ℕ) → option_or (option_or x y) z ≡ option_or x (option_or y z)
-or_else_assoc (Some a) y z = refl
-or_else_assoc None y z = refl
+pub option_or_assoc : (x y z : Option ℕ) → option_or (option_or x y) z ≡ option_or x (option_or y z)
+option_or_assoc (Some a) y z = refl
+option_or_assoc None y z = refl
 
-or_else_some : (x y : Option ℕ) (n : ℕ) → option_or (option_or x (Some n)) y ≡ option_or x (Some n)
-or_else_some (Some a) y n = refl
-or_else_some None y n = refl
+option_or_some : (x y : Option ℕ) (n : ℕ) → option_or (option_or x (Some n)) y ≡ option_or x (Some n)
+option_or_some (Some a) y n = refl
+option_or_some None y n = refl
 
 before_cut : (p : ℕ) (l m : List Span) → area_before (l ++ m) p ≡ option_or (area_before m p) (area_before l p)
 before_cut p [] m = elim (area_before m p) as (λ o. o ≡ option_or o None) [ Some x ↦ refl | None ↦ refl ]
-before_cut p (b ∷ l) m = ap (λ o. option_or o (cond (leb b.to p) (Some b.area) None)) (before_cut p l m) ∙ or_else_assoc (area_before m p) (area_before l p) _
+before_cut p (b ∷ l) m = ap (λ o. option_or o (cond (leb b.to p) (Some b.area) None)) (before_cut p l m) ∙ option_or_assoc (area_before m p) (area_before l p) _
 
 before_none : (p : ℕ) (a : Span) (xs : List Span) → p < a.to → AllByRecursion (λ b. a.to ≤ b.from) xs → AreApart xs → area_before xs p ≡ None
 before_none p a [] h later s = refl
@@ -498,7 +498,8 @@ before_none p a (b ∷ xs) h later s =
 pub before_right : (p : ℕ) (d l : List Span) (a : Span) (r : List Span) (near : Option ℕ) → d ≡ l ++ a ∷ r → a.to ≤ p →
     option_or (area_before r p) (Some a.area) ≡ option_or (area_before d p) near
 before_right p d l a r near is h =
-    rw (is, before_cut p l (a ∷ r), le-leb a.to p h, or_else_some (area_before r p) (area_before l p) a.area, or_else_some (area_before r p) near a.area) refl
+    rw (is, before_cut p l (a ∷ r), le-leb a.to p h, option_or_some (area_before r p) (area_before l p) a.area, option_or_some (area_before r p) near a.area)
+        refl
 
 pub before_left : (p : ℕ) (d l : List Span) (a : Span) (r : List Span) (near : Option ℕ) → d ≡ l ++ a ∷ r → AreApart d → p < a.to →
     option_or (area_before l p) near ≡ option_or (area_before d p) near
@@ -521,7 +522,7 @@ after_none p (b ∷ l) a r h s =
 pub after_left : (p : ℕ) (d l : List Span) (a : Span) (r : List Span) (near : Option ℕ) → d ≡ l ++ a ∷ r → p < a.from →
     option_or (area_after l p) (Some a.area) ≡ option_or (area_after d p) near
 after_left p d l a r near is h =
-    rw (is, after_cut p l (a ∷ r), lt-ltb p a.from h, or_else_some (area_after l p) near a.area) refl
+    rw (is, after_cut p l (a ∷ r), lt-ltb p a.from h, option_or_some (area_after l p) near a.area) refl
 
 pub after_right : (p : ℕ) (d l : List Span) (a : Span) (r : List Span) (near : Option ℕ) → d ≡ l ++ a ∷ r → AreApart d → a.from ≤ p →
     option_or (area_after r p) near ≡ option_or (area_after d p) near

@@ -1,5 +1,5 @@
 use Rattle.std.proofs.Common.{arith, Result, Ok, Err, OnOk, sym, subst}
-use Rattle.av_vmatree.proofs.Cuts.{HasSpan, IsCut, begins, cut_if, cut_spans, next}
+use Rattle.av_vmatree.proofs.SplitLaws.{HasSpan, IsCut, begins, cut_if, cut_spans, next}
 use Rattle.av_vmatree.proofs.Spans.{entry_there, room_more}
 use Rattle.av_vmatree.proofs.tree.Tree.split.Goals as goal
 

@@ -1,4 +1,4 @@
--- The rows of `areas` before an area with an anon_vma is cut, and behind the cut.
+-- The rows of `areas` before an area with an anon_vma is split, and behind the split.
 use Rattle.std.proofs.Common.{◌≡◌, ℕ, Bool, true, false, cond, ◌==◌, List, [], ◌∷◌, map, Option, Some, None, option_map, refl, sym, subst, ◌∙◌, arith}
 use Rattle.std.proofs.lemmas.Bool.Decides.{nat_tests}
 use Rattle.av_base.specs.Words.{within}

@@ -1,6 +1,6 @@
 use Rattle.std.proofs.Common.{◌≡◌, ℕ, ap, arith}
-use Rattle.av_laws.proofs.CutExamples.{never-changed, never-unmapped, second_offset, third_offset}
-use Rattle.av_laws.proofs.areas.changed_cuts_are_refused.Goals as goal
+use Rattle.av_laws.proofs.SplitExamples.{never-changed, never-unmapped, second_offset, third_offset}
+use Rattle.av_laws.proofs.areas.changed_splits_are_refused.Goals as goal
 
 pub returns-clause-offset_kept : goal.returns-clause-offset_kept
 returns-clause-offset_kept c = never-unmapped _ (λ e. let d : ◌≡◌ {A = ℕ} 0x20 0x22 = ap second_offset e in omega (arith, d))
