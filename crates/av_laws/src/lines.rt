@@ -1,5 +1,5 @@
-//! Worked examples for lines: what one says and doesn't say, what an entry's answer is, and what the
-//! row of an area is.
+//! Worked examples for lines: what one says and doesn't say, what an entry's answer is, and what
+//! the row of an area is.
 
 ghost use Rattle.std.specs.Prelude.{◌≡◌, [], ◌∷◌, false, Some, codes};
 ghost use Rattle.av_trace.specs.declared.command.Command.TheVariants.{Fork, Mremap};

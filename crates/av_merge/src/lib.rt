@@ -1,5 +1,5 @@
-//! The areas of one process: mapped, split, unmapped, changed, moved, grown, joined and forked, with
-//! their chains of anon_vmas.
+//! The areas of one process: mapped, split, unmapped, changed, moved, grown, joined and forked,
+//! with their chains of anon_vmas.
 //!
 //! `Areas` holds the areas of all processes by number, a `Tree` the spans of one process's areas,
 //! and `Anons` the anon_vmas of all. Every call here changes the three together, but for `prepare`,

@@ -98,7 +98,8 @@ with_bytes q address bytes page = option_map (λ (p : Page). record p {
 
 -- the byte at an address, where it is mapped and claimed
 abbrev pub byte_at : Process → ℕ → Option ℕ
-byte_at q address = option_and_then (λ (p : Page). p.bytes (place_in_page address)) (q (page_of address))
+byte_at q address =
+    option_and_then (λ (p : Page). p.bytes (place_in_page address)) (q (page_of address))
 
 -- these are the bytes from an address on, where they are claimed
 abbrev pub Shows : Process → ℕ → List ℕ → Type 0

@@ -20,7 +20,7 @@ pub struct Area {
     pub anon: Option<u64>,
 }
 
-/// The linear index of a page of the area: it goes with the page through every split, join and move.
+/// The linear index of a page of the area: it goes with the page through each split, join and move.
 ///
 /// `page` is a page number, its address over 4096.
 pub fn index(area: &Area, page: u64) -> u64
