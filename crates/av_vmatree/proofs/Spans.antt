@@ -499,7 +499,7 @@ pub before_right : (p : ℕ) (d l : List Span) (a : Span) (r : List Span) (near 
     option_or (area_before r p) (Some a.area) ≡ option_or (area_before d p) near
 before_right p d l a r near is h =
     rw (is, before_cut p l (a ∷ r), le-leb a.to p h, option_or_some (area_before r p) (area_before l p) a.area, option_or_some (area_before r p) near a.area)
-        refl
+    refl
 
 pub before_left : (p : ℕ) (d l : List Span) (a : Span) (r : List Span) (near : Option ℕ) → d ≡ l ++ a ∷ r → AreApart d → p < a.to →
     option_or (area_before l p) near ≡ option_or (area_before d p) near
