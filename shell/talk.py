@@ -1,0 +1,183 @@
+"""`avsim talk FRAMES [SWAP..]`: a session at a prompt, which no mistyped line ends."""
+import re
+import shutil
+import sys
+import textwrap
+
+from program import Ended, Refused
+from reasons import reason_of
+from reference import Reference
+from session import BadLine, Session, Trouble, says_nothing
+from small import lines_for
+from terminal import Completion, Screen, Seen, is_terminal, set_up
+
+PROMPT = "> "
+OWN_WORDS = "undo [N] | save FILE | load FILE | touch P A LEN | help [COMMAND] | quit"
+
+
+class Talk:
+    """The prompt: reads a line, does it, and shows what came of it."""
+
+    def __init__(self, program, words):
+        self.session = Session(program, words)
+        self.reference = Reference()
+        self.screen, self.seen = Screen(), Seen()
+        self.is_terminal = is_terminal()
+        self.refused = 0
+        self.own_words = {
+            "undo": self.undo,
+            "save": self.save,
+            "load": self.load,
+            "help": self.help,
+        }
+
+    def lines(self):
+        """The lines of the session, as they come."""
+        if not self.is_terminal:
+            for line in sys.stdin.buffer:
+                yield line.decode("utf-8", "surrogateescape").removesuffix("\n")
+            return
+        while True:
+            try:
+                # (what is pasted may be several lines)
+                yield from input(PROMPT).split("\n")
+            except KeyboardInterrupt:
+                print()
+            except EOFError:
+                print()
+                return
+
+    def run(self):
+        """The session, up to its end; whether no line was refused."""
+        for line in self.lines():
+            if line.split() == ["quit"]:
+                break
+            try:
+                self.do(line)
+            except (Trouble, ValueError) as why:
+                self.refuse(str(why))
+            except BadLine as bad:
+                self.refuse(self.told(bad.line))
+            except KeyboardInterrupt:
+                self.refuse("interrupted")
+            sys.stdout.flush()
+        self.session.end()
+        return not self.refused
+
+    def refuse(self, text):
+        """Says why something isn't done."""
+        self.refused += 1
+        self.screen.own(text)
+
+    def told(self, line):
+        """What is said of a bad line: its reason, and where the rule stands."""
+        text = str(reason_of(line, self.reference))
+        return f"{text}; quit leaves the session" if line.split() == [b"exit"] else text
+
+    def do(self, line):
+        """Does a line: a word of the shell, or commands."""
+        words = line.split()
+        if words and words[0] in self.own_words:
+            self.own_words[words[0]](words[1:])
+            return
+        sent = lines_for(line, self.reference)
+        given = [it.encode("utf-8", "surrogateescape") for it in sent]
+        replies = self.session.do(given)
+        for text, reply in zip(sent, replies):
+            if sent != [line]:
+                self.screen.show(f"{PROMPT}{text}", "sent")
+            self.screen.reply(reply)
+            self.seen.see(text, self.reference.forms.get(text.split(" ")[0]), reply)
+
+    def undo(self, words):
+        """`undo`, `undo N`: takes back the last command, or the last N."""
+        if len(words) > 1 or words and not (words[0].isascii() and words[0].isdigit()):
+            raise Trouble("undo has at most one word, how many commands to take back: undo 3")
+        gone = self.session.undo(int(words[0][:9]) if words else 1)
+        if not gone:
+            self.screen.own("there is nothing to undo")
+        for step in gone[:10]:
+            more = f" .. and {len(step) - 1} more lines" * (len(step) > 1)
+            self.screen.own(f"undone: {step[0].decode('ascii', 'replace')[:80]}{more}")
+        if len(gone) > 10:
+            self.screen.own(f"undone: {len(gone) - 10} more commands")
+
+    def save(self, words):
+        """`save FILE`: writes the good lines so far."""
+        if len(words) != 1:
+            raise Trouble("save has one word, the name of a file: save my.trace")
+        count = self.session.save(words[0])
+        self.screen.own(f"saved: {counted(count, 'command')} in {words[0]}")
+
+    def load(self, words):
+        """`load FILE`: does the lines of a trace."""
+        if len(words) != 1:
+            raise Trouble("load has one word, the name of a file: load my.trace")
+        try:
+            replies = self.session.load(words[0])
+        except BadLine as bad:
+            raise Trouble(
+                f"{words[0]}, line {bad.at + 1}: {self.told(bad.line)}; nothing is loaded"
+            ) from None
+        loaded = [it for it in self.session.lines() if not says_nothing(it)]
+        for line, reply in zip(loaded[-len(replies) :], replies):
+            text = line.decode("ascii")
+            self.seen.see(text, self.reference.forms.get(text.split(" ")[0]), reply)
+        self.screen.own(f"loaded: {counted(len(replies), 'command')} of {words[0]}")
+
+    def help(self, words):
+        """`help`, `help COMMAND`: what the reference says."""
+        width = min(shutil.get_terminal_size().columns, 100) - 2
+        if not words:
+            self.screen.own("\n".join(self.overview(width)))
+            return
+        lines = self.reference.help(words[0], width) if len(words) == 1 else []
+        if not lines and words[0] in (*self.own_words, "touch", "quit"):
+            lines = self.reference.help("Talk", width)
+        if not lines:
+            raise Trouble(f"help knows no command {' '.join(words)[:40]}; help alone lists them")
+        self.screen.own("\n".join(lines).rstrip("\n"))
+
+    def overview(self, width):
+        """A line for each command, and the words of the shell."""
+        for form in self.reference.forms.values():
+            yield form.heading
+            yield from textwrap.wrap(
+                self.reference.first_sentence(form.name),
+                width,
+                initial_indent="    ",
+                subsequent_indent="    ",
+            )
+        yield f"{OWN_WORDS}"
+
+
+def counted(count, what):
+    """A number of things."""
+    return f"{count} {what}{'s' * (count != 1)}"
+
+
+def no_session(words, why):
+    """Why there is no session: the words, or what became of the program."""
+    if why.status != 2:
+        return Refused(f"there is no session: {why}")
+    if not (re.fullmatch("[1-9][0-9]{0,4}", words[0]) and int(words[0]) <= 16384):
+        return Refused(f"FRAMES is 1 to 16384: {words[0]}", 2)
+    return Refused(f"the program takes no such words behind FRAMES: {' '.join(words[1:])}", 2)
+
+
+def talk(program, words):
+    """A session. The status is 0; from a pipe it is 3 where something was refused."""
+    if not words:
+        raise Refused("FRAMES is missing, 1 to 16384, as in avsim talk 4", 2)
+    for stream in (sys.stdin, sys.stdout):
+        stream.reconfigure(encoding="utf-8", errors="surrogateescape")
+    it = Talk(program, words)
+    try:
+        it.session.start()
+    except Ended as why:
+        raise no_session(words, why) from None
+    if it.is_terminal:
+        set_up(Completion(it.reference, it.seen))
+        it.screen.own(f"{words[0]} frames; help lists the commands, quit or control-D leaves")
+    all_done = it.run()
+    return 0 if all_done or it.is_terminal else 3
