@@ -1,5 +1,6 @@
 """The program: which lines it takes for commands, and a run of it that is driven line by line."""
 import concurrent.futures
+import errno
 import itertools
 import os
 import re
@@ -27,6 +28,8 @@ class Ended(Exception):
 
 # runs of the program side by side, where lines are judged
 MOST_AT_ONCE = min(4, os.cpu_count() or 1)
+# bytes that a pipe takes though nobody reads it yet
+SMALL = 16_384
 
 
 def start(words, **how):
@@ -34,10 +37,8 @@ def start(words, **how):
     try:
         return subprocess.Popen(words, **how)
     except OSError as error:
-        raise Refused(
-            f"{os.path.relpath(words[0])} can't be run ({error.strerror}): "
-            "./avsim build makes the program"
-        ) from None
+        hint = "" if error.errno in (errno.ENOMEM, errno.EAGAIN) else ": ./avsim build makes it"
+        raise Refused(f"the program can't be run ({error.strerror}){hint}") from None
 
 
 def why_ended(status, said):
@@ -139,12 +140,15 @@ class Live:
     def answers(self, lines):
         """The replies to commands, each a list of lines. Lines that say nothing aren't for here."""
         data = b"".join(it + b"\n" for it in (*lines, b"stat"))
+        if len(data) <= SMALL:
+            self.write(data)
+            return self.read(len(lines))
         # a program whose replies nobody reads waits: so much is written while these are read
         writer = threading.Thread(target=self.write, args=(data,))
         writer.start()
         try:
             return self.read(len(lines))
-        except KeyboardInterrupt:
+        except BaseException:
             self.ran.kill()
             raise
         finally:

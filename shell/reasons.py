@@ -26,9 +26,16 @@ class Reason(Exception):
 
 
 def reason_of(line, reference):
-    """The reason of a line, which is bytes without the newline; one that says where to look if there
-    is none else.
-    """
+    """The reason of a line that the program refuses; one that says where to look if none is seen."""
+    return fault_of(line, reference) or Reason(
+        "the program takes this line for no command", line.split(b" ")[0].decode("ascii")
+    )
+
+
+def fault_of(line, reference):
+    """What is wrong with a line, which is bytes without the newline, as far as that is seen here."""
+    if not line or line.startswith(b"#") and len(line) <= LINE_LIMIT:
+        return None
     try:
         of_bytes(line)
         text = line.decode("ascii")
@@ -37,7 +44,7 @@ def reason_of(line, reference):
         of_words(text.split(" ")[1:], form)
     except Reason as found:
         return found
-    return Reason("the program takes this line for no command", form.name)
+    return None
 
 
 def shown(word):

@@ -68,8 +68,8 @@ class Reference:
 
     def help(self, name, width):
         """The section of a command, as lines of plain text."""
-        level = "### " if name in self.forms else "## "
-        return list(lines_of(self.section(level + name), width))
+        section = self.section(("### " if name in self.forms else "## ") + name)
+        return list(lines_of(section, width)) if section else []
 
 
 def plain(text):

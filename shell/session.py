@@ -1,14 +1,18 @@
 """A session: the lines that were good so far, and the run of the program that did them.
 
-Each line is first shown to another run of the program, so a bad one never reaches that of the
-session. Where the session's run ends all the same, and for `undo`, a new one is given the lines
-again: the same lines have the same replies.
+Whether a line is a command is the program's answer. One that looks bad is first shown to another
+run of the program, so that of the session goes on. Where the session's run ends all the same, and
+for `undo`, a new one is given the lines again: the same lines have the same replies.
 """
 import contextlib
 import os
 import tempfile
 
 from program import Ended, Judge, Live, Refused
+
+
+# bytes of a file that is loaded
+MOST_LOADED = 1 << 28
 
 
 class Trouble(Exception):
@@ -31,8 +35,8 @@ def says_nothing(line):
 class Session:
     """The good lines, kept in steps: what was typed as one is undone as one."""
 
-    def __init__(self, program, words):
-        self.program, self.words = program, words
+    def __init__(self, program, words, looks_good):
+        self.program, self.words, self.looks_good = program, words, looks_good
         self.judge = Judge(program)
         self.steps, self.live = [], None
 
@@ -72,13 +76,18 @@ class Session:
         """Does steps, each some lines, and gives the replies to their commands. If the program ends
         meanwhile, none of them is done.
         """
-        self.judged([line for step in steps for line in step])
-        commands = [line for step in steps for line in step if not says_nothing(line)]
+        lines = [line for step in steps for line in step]
+        commands = [line for line in lines if not says_nothing(line)]
+        if len(lines) > 1 or not self.looks_good(lines[0]):
+            self.judged(lines)
         try:
             self.start()
             replies = self.live.answers(commands)
         except (Ended, Refused) as why:
             self.again()
+            if len(lines) == 1:
+                # (it looked good, and may have been what the run ended at)
+                self.judged(lines)
             raise Trouble(f"{why}: this is not done, and the session goes on before it") from None
         except KeyboardInterrupt:
             self.again()
@@ -106,9 +115,12 @@ class Session:
         """Does the lines of a file, each as a step of its own, and gives their replies."""
         try:
             with open(name, "rb") as it:
-                lines = it.read().split(b"\n")
+                data = it.read(MOST_LOADED + 1)
         except OSError as error:
             raise Trouble(f"{name} can't be read: {error.strerror}") from None
+        if len(data) > MOST_LOADED:
+            raise Trouble(f"{name} has more than {MOST_LOADED} bytes")
+        lines = data.split(b"\n")
         if not lines[-1]:
             lines.pop()
         return self.do(*([it] for it in lines))

@@ -5,7 +5,7 @@ import sys
 import textwrap
 
 from program import Ended, Refused
-from reasons import reason_of
+from reasons import fault_of, reason_of
 from reference import Reference
 from session import BadLine, Session, Trouble, says_nothing
 from small import lines_for
@@ -19,8 +19,9 @@ class Talk:
     """The prompt: reads a line, does it, and shows what came of it."""
 
     def __init__(self, program, words):
-        self.session = Session(program, words)
         self.reference = Reference()
+        looks_good = lambda line: not fault_of(line, self.reference)
+        self.session = Session(program, words, looks_good)
         self.screen, self.seen = Screen(), Seen()
         self.is_terminal = is_terminal()
         self.refused = 0
@@ -58,6 +59,8 @@ class Talk:
                 self.refuse(str(why))
             except BadLine as bad:
                 self.refuse(self.told(bad.line))
+            except MemoryError:
+                self.refuse("there is no memory for this")
             except KeyboardInterrupt:
                 self.refuse("interrupted")
             sys.stdout.flush()
