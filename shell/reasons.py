@@ -26,14 +26,14 @@ class Reason(Exception):
 
 
 def reason_of(line, reference):
-    """The reason of a line that the program refuses; one that says where to look if none is seen."""
+    """The reason of a line that the program refuses: it says where to look if none is seen."""
     return fault_of(line, reference) or Reason(
         "the program takes this line for no command", line.split(b" ")[0].decode("ascii")
     )
 
 
 def fault_of(line, reference):
-    """What is wrong with a line, which is bytes without the newline, as far as that is seen here."""
+    """What is wrong with a line, which is bytes without the newline, as far as it is seen here."""
     if not line or line.startswith(b"#") and len(line) <= LINE_LIMIT:
         return None
     try:

@@ -13,6 +13,7 @@ from program import Ended, Judge, Live, Refused
 
 # bytes of a file that is loaded
 MOST_LOADED = 1 << 28
+NOT_DONE = "this is not done, and the session goes on before it"
 
 
 class Trouble(Exception):
@@ -88,10 +89,10 @@ class Session:
             if len(lines) == 1:
                 # (it looked good, and may have been what the run ended at)
                 self.judged(lines)
-            raise Trouble(f"{why}: this is not done, and the session goes on before it") from None
+            raise Trouble(f"{why}: {NOT_DONE}") from None
         except KeyboardInterrupt:
             self.again()
-            raise Trouble("interrupted: this is not done, and the session goes on before it") from None
+            raise Trouble(f"interrupted: {NOT_DONE}") from None
         self.steps += map(list, steps)
         return replies
 

@@ -53,7 +53,7 @@ def touched(words):
     if not re.fullmatch("[0-9a-f]{1,16}", address):
         raise ValueError(f"the address of a touch has hexadecimal digits alone: {address}")
     if not re.fullmatch("[1-9][0-9]{0,20}", length):
-        raise ValueError(f"the length of a touch is a number of bytes, or of pages as 64p: {length}")
+        raise ValueError(f"the length of a touch is bytes, or pages as 64p: {length}")
     pages = -(-int(length) // PAGE)
     if pages > MOST_TOUCHED:
         raise ValueError(f"a touch has at most {MOST_TOUCHED} pages, and here are {pages}")

@@ -88,7 +88,7 @@ class Talk:
         replies = self.session.do(given)
         for text, reply in zip(sent, replies):
             if sent != [line]:
-                self.screen.show(f"{PROMPT}{text}", "sent")
+                self.screen.show(f"+ {text}", "sent")
             self.screen.reply(reply)
             self.seen.see(text, self.reference.forms.get(text.split(" ")[0]), reply)
 
@@ -100,7 +100,7 @@ class Talk:
         if not gone:
             self.screen.own("there is nothing to undo")
         for step in gone[:10]:
-            more = f" .. and {len(step) - 1} more lines" * (len(step) > 1)
+            more = f" .. and {counted(len(step) - 1, 'more line')}" * (len(step) > 1)
             self.screen.own(f"undone: {step[0].decode('ascii', 'replace')[:80]}{more}")
         if len(gone) > 10:
             self.screen.own(f"undone: {len(gone) - 10} more commands")

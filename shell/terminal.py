@@ -94,7 +94,8 @@ class Completion:
             names = [*self.reference.forms, *WORDS_OF_TALK]
             return [f"{it} " * (it not in ("stat", "quit")) or it for it in begun(names, text)]
         if before[0] in ("save", "load"):
-            return [it + "/" * os.path.isdir(it) for it in sorted(glob.glob(glob.escape(text) + "*"))]
+            names = sorted(glob.glob(glob.escape(text) + "*"))
+            return [it + "/" * os.path.isdir(it) for it in names]
         if before[0] == "help":
             return begun([*self.reference.forms, *WORDS_OF_TALK], text)
         if before[0] == "touch":
