@@ -18,6 +18,20 @@ class Refused(Exception):
         self.status = status
 
 
+def lines_from(file, limit=-1):
+    """The lines of standard input, each with its newline, if it has one; what is beyond the limit
+    comes as a line, too.
+    """
+    while True:
+        try:
+            line = file.readline(limit)
+        except OSError as error:
+            raise Refused(f"standard input can't be read: {error.strerror}", 4) from None
+        if not line:
+            return
+        yield line
+
+
 class Ended(Exception):
     """The program ended while it was to answer: its status, and why in a few words."""
 

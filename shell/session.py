@@ -115,7 +115,7 @@ class Session:
     def load(self, name):
         """Does the lines of a file, each as a step of its own, and gives their replies."""
         try:
-            with open(name, "rb") as it:
+            with open(os.path.expanduser(name), "rb") as it:
                 data = it.read(MOST_LOADED + 1)
         except OSError as error:
             raise Trouble(f"{name} can't be read: {error.strerror}") from None
@@ -142,7 +142,7 @@ class Session:
 
 def replace(name, data):
     """Writes a file, so that what stood in it before stays if this fails."""
-    real = os.path.realpath(name)
+    real = os.path.realpath(os.path.expanduser(name))
     if os.path.exists(real) and not os.path.isfile(real):
         # (a device or a pipe)
         with open(real, "wb") as it:

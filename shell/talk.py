@@ -4,8 +4,8 @@ import shutil
 import sys
 import textwrap
 
-from program import Ended, Refused
-from reasons import fault_of, reason_of
+from program import Ended, Refused, lines_from
+from reasons import WORDS_OF_TALK, fault_of, reason_of
 from reference import Reference
 from session import BadLine, Session, Trouble, says_nothing
 from small import lines_for
@@ -35,7 +35,7 @@ class Talk:
     def lines(self):
         """The lines of the session, as they come."""
         if not self.is_terminal:
-            for line in sys.stdin.buffer:
+            for line in lines_from(sys.stdin.buffer):
                 yield line.decode("utf-8", "surrogateescape").removesuffix("\n")
             return
         while True:
@@ -75,7 +75,10 @@ class Talk:
     def told(self, line):
         """What is said of a bad line: its reason, and where the rule stands."""
         text = str(reason_of(line, self.reference))
-        return f"{text}; quit leaves the session" if line.split() == [b"exit"] else text
+        if line.split() == [b"exit"]:
+            return f"{text}; quit leaves the session"
+        is_name = text.startswith("there is no command")
+        return text + f"; of the shell there are {', '.join(WORDS_OF_TALK)}" * is_name
 
     def do(self, line):
         """Does a line: a word of the shell, or commands."""

@@ -2,7 +2,7 @@
 import itertools
 import sys
 
-from program import Judge, Refused
+from program import Judge, Refused, lines_from
 from reasons import LINE_LIMIT, reason_of
 from reference import Reference
 
@@ -14,9 +14,10 @@ KEPT = LINE_LIMIT + 1
 
 def lines_of(file):
     """The lines of a trace, without their newlines; of one that is too long only its beginning."""
-    while line := file.readline(KEPT + 1):
+    pieces = lines_from(file, KEPT + 1)
+    for line in pieces:
         cut = line
-        while not cut.endswith(b"\n") and (cut := file.readline(1 << 20)):
+        while not cut.endswith(b"\n") and (cut := next(pieces, b"\n")):
             pass
         yield line[:-1] if line.endswith(b"\n") else line[:KEPT]
 
