@@ -154,19 +154,17 @@ class Live:
     def answers(self, lines):
         """The replies to commands, each a list of lines. Lines that say nothing aren't for here."""
         data = b"".join(it + b"\n" for it in (*lines, b"stat"))
-        if len(data) <= SMALL:
-            self.write(data)
-            return self.read(len(lines))
         # a program whose replies nobody reads waits: so much is written while these are read
         writer = threading.Thread(target=self.write, args=(data,))
-        writer.start()
+        writer.run() if len(data) <= SMALL else writer.start()
         try:
             return self.read(len(lines))
         except BaseException:
             self.ran.kill()
             raise
         finally:
-            writer.join()
+            if writer.is_alive():
+                writer.join()
 
     def write(self, data):
         """Sends bytes. That the program has ended is seen where its replies are read."""

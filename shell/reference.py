@@ -64,7 +64,7 @@ class Reference:
     def first_sentence(self, name):
         """What a command does, in a sentence."""
         paragraphs = self.section(f"### {name}").split("\n\n")
-        return plain(re.split(r"(?<=[.:]) ", paragraphs[1])[0]) if len(paragraphs) > 1 else ""
+        return plain(re.split(r"(?<=[.]) ", paragraphs[1])[0]) if len(paragraphs) > 1 else ""
 
     def help(self, name, width):
         """The section of a command, as lines of plain text."""

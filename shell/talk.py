@@ -184,6 +184,7 @@ def talk(program, words):
         raise no_session(words, why) from None
     if it.is_terminal:
         set_up(Completion(it.reference, it.seen))
-        it.screen.own(f"{words[0]} frames; help lists the commands, quit or control-D leaves")
+        frames = counted(int(words[0]), "frame")
+        it.screen.own(f"{frames}; help lists the commands, quit or control-D leaves")
     all_done = it.run()
     return 0 if all_done or it.is_terminal else 3
