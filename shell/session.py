@@ -5,6 +5,7 @@ run of the program, so that of the session goes on. Where the session's run ends
 for `undo`, a new one is given the lines again: the same lines have the same replies.
 """
 import contextlib
+import errno
 import os
 import tempfile
 
@@ -79,11 +80,12 @@ class Session:
         """
         lines = [line for step in steps for line in step]
         commands = [line for line in lines if not says_nothing(line)]
-        if len(lines) > 1 or not self.looks_good(lines[0]):
+        if len(lines) != 1 or not self.looks_good(lines[0]):
             self.judged(lines)
         try:
             self.start()
             replies = self.live.answers(commands)
+            self.steps += map(list, steps)
         except (Ended, Refused) as why:
             self.again()
             if len(lines) == 1:
@@ -93,7 +95,6 @@ class Session:
         except KeyboardInterrupt:
             self.again()
             raise Trouble(f"interrupted: {NOT_DONE}") from None
-        self.steps += map(list, steps)
         return replies
 
     def again(self):
@@ -148,6 +149,8 @@ def replace(name, data):
         with open(real, "wb") as it:
             it.write(data)
         return
+    if os.path.exists(real) and not os.access(real, os.W_OK):
+        raise PermissionError(errno.EACCES, os.strerror(errno.EACCES))
     mode = os.stat(real).st_mode if os.path.exists(real) else 0o666 & ~umask()
     handle, beside = tempfile.mkstemp(dir=os.path.dirname(real), prefix=".avsim-")
     try:

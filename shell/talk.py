@@ -5,7 +5,7 @@ import sys
 import textwrap
 
 from program import Ended, Refused, lines_from
-from reasons import WORDS_OF_TALK, fault_of, reason_of
+from reasons import WORDS_OF_TALK, fault_of, reason_of, shown
 from reference import Reference
 from session import BadLine, Session, Trouble, says_nothing
 from small import lines_for
@@ -141,7 +141,7 @@ class Talk:
         if not lines and words[0] in (*self.own_words, "touch", "quit"):
             lines = self.reference.help("Talk", width)
         if not lines:
-            raise Trouble(f"help knows no command {' '.join(words)[:40]}; help alone lists them")
+            raise Trouble(f"help knows no command {shown(' '.join(words))}; help alone lists them")
         self.screen.own("\n".join(lines).rstrip("\n"))
 
     def overview(self, width):
