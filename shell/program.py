@@ -32,7 +32,7 @@ def lines_from(file, limit=-1):
         yield line
 
 
-class Ended(Exception):
+class EarlyEnd(Exception):
     """The program ended while it was to answer: its status, and why in a few words."""
 
     def __init__(self, status, said):
@@ -87,22 +87,22 @@ class Judge:
     def bad_of(self, lines):
         """Those of the lines (bytes, without their newlines) that are no commands."""
         try:
-            return self.bad_among(lines)
+            return self.bad_by_parts(lines)
         except OSError as error:
             raise Refused(f"lines can't be judged: {error.strerror}") from None
 
-    def bad_among(self, lines):
+    def bad_by_parts(self, lines):
         """As above."""
         asked = list(dict.fromkeys(lines))
         spawns = [it for it in asked if it.startswith(b"spawn")]
         others = [it for it in asked if not it.startswith(b"spawn")]
         parts = [it for lines in (spawns, others) for it in parts_of(lines) if it]
         if len(parts) < 2:
-            return {line for part in parts for line in self.refused(part)}
+            return {line for part in parts for line in self.bad_of_part(part)}
         with concurrent.futures.ThreadPoolExecutor(MOST_AT_ONCE) as pool:
-            return {line for bad in pool.map(self.refused, parts) for line in bad}
+            return {line for bad in pool.map(self.bad_of_part, parts) for line in bad}
 
-    def refused(self, lines):
+    def bad_of_part(self, lines):
         """The lines that the program refuses."""
         found = []
         begins = list(itertools.accumulate((len(it) + 1 for it in lines), initial=0))
@@ -181,7 +181,7 @@ class Live:
             line = self.ran.stdout.readline().decode("ascii", "replace")
             if not line.endswith("\n"):
                 said = self.ran.stderr.read().decode(errors="replace")
-                raise Ended(self.ran.wait(), said)
+                raise EarlyEnd(self.ran.wait(), said)
             if line.startswith(" ") and found:
                 found[-1].append(line[:-1])
             else:

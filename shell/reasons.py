@@ -47,7 +47,7 @@ def fault_of(line, reference):
     return None
 
 
-def shown(word):
+def printable(word):
     """A word as it can be shown: in ASCII, and not too long."""
     text = word if isinstance(word, str) else word.decode("utf-8", "backslashreplace")
     text = text.encode("ascii", "backslashreplace").decode()
@@ -99,11 +99,11 @@ def form_of(name, reference):
     if name in LATER:
         raise Reason(f"{name} is no command yet", COMMANDS)
     if name.lower() in (*reference.forms, *LATER):
-        raise Reason(f"the name of a command is lower case: {shown(name)}")
+        raise Reason(f"the name of a command is lower case: {printable(name)}")
     if name in WORDS_OF_TALK:
         raise Reason(f"{name} is a word of avsim talk, and of no trace", TALK)
     raise Reason(
-        f"there is no command {shown(name)}; there are {', '.join(reference.forms)}", COMMANDS
+        f"there is no command {printable(name)}; there are {', '.join(reference.forms)}", COMMANDS
     )
 
 
@@ -119,9 +119,9 @@ def of_words(words, form):
     if rest and form.ways:
         of_way(rest, form)
     elif rest and form.kinds[-1:] == ["HEX"]:
-        raise Reason(f"the bytes are one word, and a second one stands behind it: {shown(rest[0])}")
+        raise Reason(f"the bytes are one word, and here is a second one: {printable(rest[0])}")
     elif rest:
-        raise Reason(f"there is a word too many: {shown(rest[0])}", form.name)
+        raise Reason(f"there is a word too many: {printable(rest[0])}", form.name)
 
 
 def of_way(rest, form):
@@ -131,21 +131,21 @@ def of_way(rest, form):
     ways = [it for it in form.ways if it[0] == rest[0]]
     if not ways:
         if rest[0].lower() in firsts:
-            raise Reason(f"{rest[0].lower()} is lower case: {shown(rest[0])}", form.name)
+            raise Reason(f"{rest[0].lower()} is lower case: {printable(rest[0])}", form.name)
         if re.fullmatch("(0[xX])?[0-9a-fA-F]+", rest[0]):
-            raise Reason(f"before an address stands {some}: {shown(rest[0])}", form.name)
-        raise Reason(f"{some} may stand here: {shown(rest[0])}", form.name)
+            raise Reason(f"before an address stands {some}: {printable(rest[0])}", form.name)
+        raise Reason(f"{some} may stand here: {printable(rest[0])}", form.name)
     if set(rest[1:]) & set(firsts):
-        raise Reason(f"there is one of {some} at most: {shown(' '.join(rest))}", form.name)
+        raise Reason(f"there is one of {some} at most: {printable(' '.join(rest))}", form.name)
     longest = max(ways, key=len)
     for kind, word in zip(longest[1:], rest[1:]):
         of_kind(kind, word, form)
     if len(rest) < min(map(len, ways)):
         raise Reason(f"the address behind {rest[0]} is missing", form.name)
     if len(rest) > len(longest) == 1:
-        raise Reason(f"{rest[0]} has no address: {shown(rest[1])}", form.name)
+        raise Reason(f"{rest[0]} has no address: {printable(rest[1])}", form.name)
     if len(rest) > len(longest):
-        raise Reason(f"there is a word too many: {shown(rest[len(longest)])}", form.name)
+        raise Reason(f"there is a word too many: {printable(rest[len(longest)])}", form.name)
 
 
 def of_kind(kind, word, form):
@@ -168,7 +168,7 @@ def of_kind(kind, word, form):
 
 def of_decimal(what, word, least, most):
     """A decimal number from least to most, without sign, leading zero or unit."""
-    see = f": {shown(word)}"
+    see = f": {printable(word)}"
     if re.fullmatch("0[xX].*", word):
         raise Reason(f"{what} is decimal{see}")
     if re.fullmatch(r"[-+].*", word):
@@ -189,7 +189,7 @@ def of_decimal(what, word, least, most):
 
 def of_address(word):
     """An address: 1 to 16 lower-case hexadecimal digits, without 0x or leading zero."""
-    see = f": {shown(word)}"
+    see = f": {printable(word)}"
     if re.fullmatch("0[xX].*", word):
         raise Reason(f"an address has no 0x{see}")
     if re.fullmatch("[-+].*", word):
@@ -208,7 +208,7 @@ def of_address(word):
 
 def of_hex(word):
     """Bytes: two lower-case hexadecimal digits for each, 1 to 4096 of them."""
-    see = f": {shown(word)}"
+    see = f": {printable(word)}"
     if re.fullmatch("0[xX].*", word):
         raise Reason(f"bytes have no 0x{see}")
     if not re.fullmatch("[0-9a-fA-F]+", word):
@@ -223,7 +223,7 @@ def of_hex(word):
 
 def of_prot(word):
     """A protection: r or -, w or -, x or -."""
-    see = f": {shown(word)}"
+    see = f": {printable(word)}"
     if re.fullmatch("[rwxRWX-]*[RWX][rwxRWX-]*", word):
         raise Reason(f"a protection is lower case{see}")
     if len(word) != 3:

@@ -9,7 +9,7 @@ import errno
 import os
 import tempfile
 
-from program import Ended, Judge, Live, Refused
+from program import EarlyEnd, Judge, Live, Refused
 
 
 # bytes of a file that is loaded
@@ -49,7 +49,7 @@ class Session:
         live = Live(self.program, self.words)
         try:
             live.answers([it for it in self.lines() if not says_nothing(it)])
-        except (Ended, KeyboardInterrupt):
+        except (EarlyEnd, KeyboardInterrupt):
             live.end()
             raise
         self.live = live
@@ -64,7 +64,7 @@ class Session:
         """All lines so far."""
         return [line for step in self.steps for line in step]
 
-    def judged(self, lines):
+    def refuse_bad(self, lines):
         """Refuses lines of which one is no command."""
         try:
             bad = self.judge.bad_of(lines)
@@ -81,16 +81,16 @@ class Session:
         lines = [line for step in steps for line in step]
         commands = [line for line in lines if not says_nothing(line)]
         if len(lines) != 1 or not self.looks_good(lines[0]):
-            self.judged(lines)
+            self.refuse_bad(lines)
         try:
             self.start()
             replies = self.live.answers(commands)
             self.steps += map(list, steps)
-        except (Ended, Refused) as why:
+        except (EarlyEnd, Refused) as why:
             self.again()
             if len(lines) == 1:
                 # (it looked good, and may have been what the run ended at)
-                self.judged(lines)
+                self.refuse_bad(lines)
             raise Trouble(f"{why}: {NOT_DONE}") from None
         except KeyboardInterrupt:
             self.again()
@@ -100,7 +100,7 @@ class Session:
     def again(self):
         """Starts the session's run anew. Where that can't be, the next command tries it again."""
         self.end()
-        with contextlib.suppress(Ended, Refused, KeyboardInterrupt):
+        with contextlib.suppress(EarlyEnd, Refused, KeyboardInterrupt):
             self.start()
 
     def undo(self, count):

@@ -14,7 +14,7 @@ def lines_for(text, reference):
     """
     words = text.split(" ")
     if words[0] == "touch":
-        return touched(words)
+        return writes_of_touch(words)
     form = reference.forms.get(words[0])
     if not form:
         return [text]
@@ -43,7 +43,7 @@ def plain_word(kind, word):
     return word
 
 
-def touched(words):
+def writes_of_touch(words):
     """The writes of `touch P A LEN`: one byte in each page that a range from A on begins in steps
     of a page.
     """

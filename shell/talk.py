@@ -4,12 +4,12 @@ import shutil
 import sys
 import textwrap
 
-from program import Ended, Refused, lines_from
-from reasons import WORDS_OF_TALK, fault_of, reason_of, shown
+from program import EarlyEnd, Refused, lines_from
+from reasons import WORDS_OF_TALK, fault_of, reason_of, printable
 from reference import Reference
 from session import BadLine, Session, Trouble, says_nothing
 from small import lines_for
-from terminal import Completion, Screen, Seen, is_terminal, set_up
+from terminal import Completion, Screen, Names, is_terminal, set_up
 
 PROMPT = "> "
 OWN_WORDS = "undo [N] | save FILE | load FILE | touch P A LEN | help [COMMAND] | quit"
@@ -22,9 +22,9 @@ class Talk:
         self.reference = Reference()
         looks_good = lambda line: not fault_of(line, self.reference)
         self.session = Session(program, words, looks_good)
-        self.screen, self.seen = Screen(), Seen()
+        self.screen, self.names = Screen(), Names()
         self.is_terminal = is_terminal()
-        self.refused = 0
+        self.refusals = 0
         self.own_words = {
             "undo": self.undo,
             "save": self.save,
@@ -58,21 +58,21 @@ class Talk:
             except (Trouble, ValueError) as why:
                 self.refuse(str(why))
             except BadLine as bad:
-                self.refuse(self.told(bad.line))
+                self.refuse(self.sentence_for(bad.line))
             except MemoryError:
                 self.refuse("there is no memory for this")
             except KeyboardInterrupt:
                 self.refuse("interrupted")
             sys.stdout.flush()
         self.session.end()
-        return not self.refused
+        return not self.refusals
 
     def refuse(self, text):
         """Says why something isn't done."""
-        self.refused += 1
+        self.refusals += 1
         self.screen.own(text)
 
-    def told(self, line):
+    def sentence_for(self, line):
         """What is said of a bad line: its reason, and where the rule stands."""
         text = str(reason_of(line, self.reference))
         if line.split() == [b"exit"]:
@@ -93,7 +93,7 @@ class Talk:
             if sent != [line]:
                 self.screen.show(f"+ {text}", "sent")
             self.screen.reply(reply)
-            self.seen.see(text, self.reference.forms.get(text.split(" ")[0]), reply)
+            self.names.see(text, self.reference.forms.get(text.split(" ")[0]), reply)
 
     def undo(self, words):
         """`undo`, `undo N`: takes back the last command, or the last N."""
@@ -103,7 +103,7 @@ class Talk:
         if not gone:
             self.screen.own("there is nothing to undo")
         for step in gone[:10]:
-            more = f" .. and {counted(len(step) - 1, 'more line')}" * (len(step) > 1)
+            more = f" .. and {plural(len(step) - 1, 'more line')}" * (len(step) > 1)
             self.screen.own(f"undone: {step[0].decode('ascii', 'replace')[:80]}{more}")
         if len(gone) > 10:
             self.screen.own(f"undone: {len(gone) - 10} more commands")
@@ -113,7 +113,7 @@ class Talk:
         if len(words) != 1:
             raise Trouble("save has one word, the name of a file: save my.trace")
         count = self.session.save(words[0])
-        self.screen.own(f"saved: {counted(count, 'command')} in {words[0]}")
+        self.screen.own(f"saved: {plural(count, 'command')} in {words[0]}")
 
     def load(self, words):
         """`load FILE`: does the lines of a trace."""
@@ -123,13 +123,13 @@ class Talk:
             replies = self.session.load(words[0])
         except BadLine as bad:
             raise Trouble(
-                f"{words[0]}, line {bad.at + 1}: {self.told(bad.line)}; nothing is loaded"
+                f"{words[0]}, line {bad.at + 1}: {self.sentence_for(bad.line)}; nothing is loaded"
             ) from None
-        loaded = [it for it in self.session.lines() if not says_nothing(it)]
-        for line, reply in zip(loaded[-len(replies) :], replies):
+        commands = [it for it in self.session.lines() if not says_nothing(it)]
+        for line, reply in zip(commands[-len(replies) :], replies):
             text = line.decode("ascii")
-            self.seen.see(text, self.reference.forms.get(text.split(" ")[0]), reply)
-        self.screen.own(f"loaded: {counted(len(replies), 'command')} of {words[0]}")
+            self.names.see(text, self.reference.forms.get(text.split(" ")[0]), reply)
+        self.screen.own(f"loaded: {plural(len(replies), 'command')} of {words[0]}")
 
     def help(self, words):
         """`help`, `help COMMAND`: what the reference says."""
@@ -141,7 +141,8 @@ class Talk:
         if not lines and words[0] in (*self.own_words, "touch", "quit"):
             lines = self.reference.help("Talk", width)
         if not lines:
-            raise Trouble(f"help knows no command {shown(' '.join(words))}; help alone lists them")
+            name = printable(" ".join(words))
+            raise Trouble(f"help knows no command {name}; help alone lists them")
         self.screen.own("\n".join(lines).rstrip("\n"))
 
     def overview(self, width):
@@ -154,10 +155,10 @@ class Talk:
                 initial_indent="    ",
                 subsequent_indent="    ",
             )
-        yield f"{OWN_WORDS}"
+        yield OWN_WORDS
 
 
-def counted(count, what):
+def plural(count, what):
     """A number of things."""
     return f"{count} {what}{'s' * (count != 1)}"
 
@@ -180,11 +181,11 @@ def talk(program, words):
     it = Talk(program, words)
     try:
         it.session.start()
-    except Ended as why:
+    except EarlyEnd as why:
         raise no_session(words, why) from None
     if it.is_terminal:
-        set_up(Completion(it.reference, it.seen))
-        frames = counted(int(words[0]), "frame")
+        set_up(Completion(it.reference, it.names))
+        frames = plural(int(words[0]), "frame")
         it.screen.own(f"{frames}; help lists the commands, quit or control-D leaves")
     all_done = it.run()
     return 0 if all_done or it.is_terminal else 3

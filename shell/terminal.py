@@ -9,8 +9,10 @@ from reasons import WORDS_OF_TALK
 COLOURS = {"good": "32", "bad": "31", "note": "36", "sent": "2", "own": "33"}
 REFUSALS = ("err", "segv", "oom", "bus")
 PROTS = [f"{r}{w}{x}" for r in "r-" for w in "w-" for x in "x-"]
+# words that mostly stand alone
+ALONE = ("stat", "undo", "help", "quit")
 # addresses and processes that are remembered for completion
-MOST_SEEN = 1000
+MOST_NAMES = 1000
 
 
 def is_terminal():
@@ -46,7 +48,7 @@ class Screen:
             self.show(f"# {line}" if line else "#", "own")
 
 
-class Seen:
+class Names:
     """The addresses and processes that the session has named."""
 
     def __init__(self):
@@ -69,15 +71,15 @@ class Seen:
         words = self.of[kind]
         words.pop(word, None)
         words[word] = True
-        if len(words) > MOST_SEEN:
+        if len(words) > MOST_NAMES:
             del words[next(iter(words))]
 
 
 class Completion:
     """What a word that was begun may become."""
 
-    def __init__(self, reference, seen):
-        self.reference, self.seen, self.found = reference, seen, []
+    def __init__(self, reference, names):
+        self.reference, self.names, self.found = reference, names, []
 
     def complete(self, text, state):
         """The function that readline calls, with 0, 1, 2 .. until there are no more."""
@@ -91,13 +93,13 @@ class Completion:
     def words(self, before, text):
         """The words that may stand behind others and begin so, with a space if more must follow."""
         if not before:
-            names = [*self.reference.forms, *WORDS_OF_TALK]
-            return [f"{it} " * (it not in ("stat", "quit")) or it for it in begun(names, text)]
+            words = with_prefix([*self.reference.forms, *WORDS_OF_TALK], text)
+            return [it if it in ALONE else f"{it} " for it in words]
         if before[0] in ("save", "load"):
-            names = sorted(glob.glob(glob.escape(text) + "*"))
-            return [it + "/" * os.path.isdir(it) for it in names]
+            files = sorted(glob.glob(glob.escape(text) + "*"))
+            return [it + "/" * os.path.isdir(it) for it in files]
         if before[0] == "help":
-            return begun([*self.reference.forms, *WORDS_OF_TALK], text)
+            return with_prefix([*self.reference.forms, *WORDS_OF_TALK], text)
         if before[0] == "touch":
             kinds, ways = ["P", "A", "LEN"], []
         elif before[0] in self.reference.forms:
@@ -107,7 +109,7 @@ class Completion:
             return []
         at = len(before) - 1
         more = " " * (at + 1 < len(kinds))
-        return [it + more for it in begun(self.choices(before[1:], kinds, ways), text)]
+        return [it + more for it in with_prefix(self.choices(before[1:], kinds, ways), text)]
 
     def choices(self, before, kinds, ways):
         """All words that may stand behind the words of a command."""
@@ -120,13 +122,13 @@ class Completion:
                 return list(dict.fromkeys(it[0] for it in going_on))
             kind = going_on[0][len(rest)] if going_on else ""
         if kind in ("A", "B"):
-            return sorted(self.seen.of["A"])
+            return sorted(self.names.of["A"])
         if kind in ("P", "Q"):
-            return sorted(self.seen.of["P"], key=lambda it: (len(it), it))
+            return sorted(self.names.of["P"], key=lambda it: (len(it), it))
         return PROTS if kind == "PROT" else []
 
 
-def begun(words, text):
+def with_prefix(words, text):
     """The words that begin with a text."""
     return [it for it in words if it.startswith(text)]
 

@@ -22,7 +22,7 @@ def lines_of(file):
         yield line[:-1] if line.endswith(b"\n") else line[:KEPT]
 
 
-def numbered(judge, reference, file):
+def lines_with_reasons(judge, reference, file):
     """The number of each line, with the reason of one that is no command."""
     lines = enumerate(lines_of(file), 1)
     while batch := list(itertools.islice(lines, BATCH)):
@@ -37,7 +37,7 @@ def why(program, words):
     if words:
         raise Refused("a trace comes on standard input: avsim why < my.trace", 2)
     count = bad = 0
-    for count, reason in numbered(Judge(program), Reference(), sys.stdin.buffer):
+    for count, reason in lines_with_reasons(Judge(program), Reference(), sys.stdin.buffer):
         if reason:
             bad += 1
             print(f"line {count}: {reason}")
