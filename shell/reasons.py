@@ -127,7 +127,7 @@ def of_words(words, form):
 def of_way(rest, form):
     """The last words of a command that may end in several ways."""
     firsts = list(dict.fromkeys(it[0] for it in form.ways))
-    some = f"{', '.join(firsts[:-1])} or {firsts[-1]}"
+    some = " or ".join(filter(None, [", ".join(firsts[:-1]), firsts[-1]]))
     ways = [it for it in form.ways if it[0] == rest[0]]
     if not ways:
         if rest[0].lower() in firsts:
@@ -141,7 +141,8 @@ def of_way(rest, form):
     for kind, word in zip(longest[1:], rest[1:]):
         of_kind(kind, word, form)
     if len(rest) < min(map(len, ways)):
-        raise Reason(f"the address behind {rest[0]} is missing", form.name)
+        what = "the address" if longest[len(rest)] in ("A", "B") else longest[len(rest)]
+        raise Reason(f"{what} behind {rest[0]} is missing", form.name)
     if len(rest) > len(longest) == 1:
         raise Reason(f"{rest[0]} has no address: {printable(rest[1])}", form.name)
     if len(rest) > len(longest):

@@ -7,6 +7,7 @@ for `undo`, a new one is given the lines again: the same lines have the same rep
 import contextlib
 import errno
 import os
+import re
 import tempfile
 
 from program import EarlyEnd, Judge, Live, Refused
@@ -126,6 +127,12 @@ class Session:
         if not lines[-1]:
             lines.pop()
         return self.do(*([it] for it in lines))
+
+    def frames_asked(self):
+        """How many frames the last comment that says it asks for, as `Run it with 4 frames.`"""
+        text = b"\n".join(self.lines())
+        found = re.findall(rb"^#.*\bRun it with (\d{1,9}) frames?\.", text, re.M)
+        return found[-1].decode() if found else None
 
     def save(self, name):
         """Writes the lines to a file. One that is there is replaced when all is written."""

@@ -93,7 +93,11 @@ class Talk:
             if sent != [line]:
                 self.screen.show(f"+ {text}", "sent")
             self.screen.reply(reply)
-            self.names.see(text, self.reference.forms.get(text.split(" ")[0]), reply)
+            self.remember(text, reply)
+
+    def remember(self, text, reply):
+        """Keeps what a command and its reply name, for completion."""
+        self.names.see(text, self.reference.forms.get(text.split(" ")[0]), reply)
 
     def undo(self, words):
         """`undo`, `undo N`: takes back the last command, or the last N."""
@@ -127,9 +131,11 @@ class Talk:
             ) from None
         commands = [it for it in self.session.lines() if not says_nothing(it)]
         for line, reply in zip(commands[-len(replies) :], replies):
-            text = line.decode("ascii")
-            self.names.see(text, self.reference.forms.get(text.split(" ")[0]), reply)
+            self.remember(line.decode("ascii"), reply)
         self.screen.own(f"loaded: {plural(len(replies), 'command')} of {words[0]}")
+        asked = self.session.frames_asked()
+        if asked and asked != self.session.words[0]:
+            self.screen.own(f"it is for {plural(int(asked), 'frame')}, and not for this machine")
 
     def help(self, words):
         """`help`, `help COMMAND`: what the reference says."""
