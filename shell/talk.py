@@ -1,6 +1,7 @@
 """`avsim talk FRAMES [SWAP..]`: a session at a prompt, which no mistyped line ends."""
 import re
 import shutil
+import signal
 import sys
 import textwrap
 
@@ -190,6 +191,8 @@ def talk(program, words):
     except EarlyEnd as why:
         raise no_session(words, why) from None
     if it.is_terminal:
+        # (a shell that starts this in the background has control-C ignored)
+        signal.signal(signal.SIGINT, signal.default_int_handler)
         set_up(Completion(it.reference, it.names))
         frames = plural(int(words[0]), "frame")
         it.screen.own(f"{frames}; help lists the commands, quit or control-D leaves")
