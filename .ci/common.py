@@ -67,6 +67,12 @@ def replies_of(transcript):
     return re.findall(r"^(?! ).*\n(?:^ .*\n)*", transcript, re.M)
 
 
+def bytes_of(shown):
+    """A line whose invisible bytes are shown."""
+    shown = shown.replace(r"\s", " ").replace(r"\r", "\r").replace(r"\t", "\t").encode()
+    return re.sub(rb"\\x([0-9a-f]{2})", lambda it: bytes([int(it[1], 16)]), shown)
+
+
 class Session:
     """A session as the documents show it, in a block of code: `$ avsim run FRAMES`, lines behind
     `> `, and each one's reply below it.

@@ -1,0 +1,235 @@
+"""Why a line is no command: a sentence, and the section of the reference that has the rule.
+
+Whether it is none is for the program to say; here only its reason is sought. The tests stand in the
+order in which people would look: the line as bytes, its blanks, its first word, and then its words
+from left to right.
+"""
+import re
+
+from reference import LATER
+
+LINE_LIMIT = 8448
+WORDS_OF_TALK = ("touch", "undo", "save", "load", "help", "quit")
+# sections of the reference
+TRACE, COMMANDS, TALK = "Trace", "Commands", "Talk"
+
+
+class Reason(Exception):
+    """The reason that was found, and the section with the rule."""
+
+    def __init__(self, sentence, place=TRACE):
+        super().__init__(sentence)
+        self.sentence, self.place = sentence, place
+
+    def __str__(self):
+        return f'{self.sentence} (docs/REFERENCE.md, "{self.place}")'
+
+
+def reason_of(line, reference):
+    """The reason of a line that the program refuses: it says where to look if none is seen."""
+    return fault_of(line, reference) or Reason(
+        "the program takes this line for no command", line.split(b" ")[0].decode("ascii")
+    )
+
+
+def fault_of(line, reference):
+    """What is wrong with a line, which is bytes without the newline, as far as it is seen here."""
+    if not line or line.startswith(b"#") and len(line) <= LINE_LIMIT:
+        return None
+    try:
+        of_bytes(line)
+        text = line.decode("ascii")
+        of_blanks(text)
+        form = form_of(text.split(" ")[0], reference)
+        of_words(text.split(" ")[1:], form)
+    except Reason as found:
+        return found
+    return None
+
+
+def printable(word):
+    """A word as it can be shown: in ASCII, and not too long."""
+    text = word if isinstance(word, str) else word.decode("utf-8", "backslashreplace")
+    text = text.encode("ascii", "backslashreplace").decode()
+    text = "".join(it if it.isprintable() else f"\\x{ord(it):02x}" for it in text)
+    return text if len(text) <= 40 else f"{text[:37]}.."
+
+
+def of_bytes(line):
+    """Bytes that no line has."""
+    if len(line) > LINE_LIMIT:
+        raise Reason(f"a line has at most {LINE_LIMIT} bytes")
+    if line.startswith(b"\xef\xbb\xbf"):
+        raise Reason("a byte order mark stands in front")
+    if line.endswith(b"\r"):
+        raise Reason("a carriage return stands at the end: tr -d '\\r' takes them away")
+    if b"\r" in line:
+        raise Reason("a carriage return stands within the line")
+    if b"\t" in line:
+        raise Reason("a tab stands where one space belongs")
+    for byte in line:
+        if byte > 126:
+            raise Reason(f"a byte isn't ASCII: \\x{byte:02x}")
+        if byte < 32 or byte == 127:
+            raise Reason(f"a control byte: \\x{byte:02x}")
+
+
+def of_blanks(text):
+    """Spaces where none may stand, and comments that don't begin with the line."""
+    if not text.strip(" "):
+        raise Reason("a line of spaces isn't empty")
+    if text.lstrip(" ").startswith("#"):
+        raise Reason("a comment begins with the line, and a space stands before it")
+    if " #" in text:
+        raise Reason("a comment stands on a line of its own")
+    if text.startswith("> "):
+        raise Reason("the sign > of a session on paper is no part of the line")
+    if text.startswith(" "):
+        raise Reason("a space stands in front")
+    if text.endswith(" "):
+        raise Reason("a space stands at the end")
+    if "  " in text:
+        raise Reason("two spaces stand in a row")
+
+
+def form_of(name, reference):
+    """The form of the command of this name."""
+    if name in reference.forms:
+        return reference.forms[name]
+    if name in LATER:
+        raise Reason(f"{name} is no command yet", COMMANDS)
+    if name.lower() in (*reference.forms, *LATER):
+        raise Reason(f"the name of a command is lower case: {printable(name)}")
+    if name in WORDS_OF_TALK:
+        raise Reason(f"{name} is a word of avsim talk, and of no trace", TALK)
+    raise Reason(
+        f"there is no command {printable(name)}; there are {', '.join(reference.forms)}", COMMANDS
+    )
+
+
+def of_words(words, form):
+    """The words behind the name, from left to right, and whether there are too few or too many."""
+    for kind, word in zip(form.kinds, words):
+        of_kind(kind, word, form)
+    if not form.is_known:
+        return
+    if len(words) < len(form.kinds):
+        raise Reason(f"{form.kinds[len(words)]} is missing: {form.heading}", form.name)
+    rest = words[len(form.kinds) :]
+    if rest and form.ways:
+        of_way(rest, form)
+    elif rest and form.kinds[-1:] == ["HEX"]:
+        raise Reason(f"the bytes are one word, and here is a second one: {printable(rest[0])}")
+    elif rest:
+        raise Reason(f"there is a word too many: {printable(rest[0])}", form.name)
+
+
+def of_way(rest, form):
+    """The last words of a command that may end in several ways."""
+    firsts = list(dict.fromkeys(it[0] for it in form.ways))
+    some = " or ".join(filter(None, [", ".join(firsts[:-1]), firsts[-1]]))
+    ways = [it for it in form.ways if it[0] == rest[0]]
+    if not ways:
+        if rest[0].lower() in firsts:
+            raise Reason(f"{rest[0].lower()} is lower case: {printable(rest[0])}", form.name)
+        if re.fullmatch("(0[xX])?[0-9a-fA-F]+", rest[0]):
+            raise Reason(f"before an address stands {some}: {printable(rest[0])}", form.name)
+        raise Reason(f"{some} may stand here: {printable(rest[0])}", form.name)
+    if set(rest[1:]) & set(firsts):
+        raise Reason(f"there is one of {some} at most: {printable(' '.join(rest))}", form.name)
+    longest = max(ways, key=len)
+    for kind, word in zip(longest[1:], rest[1:]):
+        of_kind(kind, word, form)
+    if len(rest) < min(map(len, ways)):
+        what = "the address" if longest[len(rest)] in ("A", "B") else longest[len(rest)]
+        raise Reason(f"{what} behind {rest[0]} is missing", form.name)
+    if len(rest) > len(longest) == 1:
+        raise Reason(f"{rest[0]} has no address: {printable(rest[1])}", form.name)
+    if len(rest) > len(longest):
+        raise Reason(f"there is a word too many: {printable(rest[len(longest)])}", form.name)
+
+
+def of_kind(kind, word, form):
+    """A word that isn't of the kind that its place wants."""
+    if kind in ("P", "Q"):
+        of_decimal("a process", word, 1, 32767)
+    elif kind in ("LEN", "OLD", "NEW"):
+        of_decimal("a length", word, 0, 2**64 - 1)
+    elif kind == "N" and form.name == "read":
+        of_decimal("a number of bytes", word, 1, 4096)
+    elif kind in ("N", "K", "M"):
+        of_decimal("a number", word, 0, 2**64 - 1)
+    elif kind in ("A", "B"):
+        of_address(word)
+    elif kind == "HEX":
+        of_hex(word)
+    elif kind == "PROT":
+        of_prot(word)
+
+
+def of_decimal(what, word, least, most):
+    """A decimal number from least to most, without sign, leading zero or unit."""
+    see = f": {printable(word)}"
+    if re.fullmatch("0[xX].*", word):
+        raise Reason(f"{what} is decimal{see}")
+    if re.fullmatch(r"[-+].*", word):
+        raise Reason(f"{what} has no sign{see}")
+    if re.fullmatch("[0-9]+[kKmMgGtT]i?[bB]?|[0-9]+[pbB]", word):
+        raise Reason(f"{what} has no unit{see}")
+    if re.fullmatch("[0-9a-fA-F]+[hH]?", word) and not word.isdigit():
+        raise Reason(f"{what} is decimal{see}")
+    if not re.fullmatch("[0-9]+", word):
+        raise Reason(f"{what} has decimal digits alone{see}")
+    if len(word) > 1 and word[0] == "0":
+        raise Reason(f"{what} has no leading zero{see}")
+    # (a number of very many digits is too great without being read)
+    if len(word) > 20 or not least <= int(word) <= most:
+        bound = f"is {least} to {most}" if least else f"is at most {most}, below 2^64"
+        raise Reason(f"{what} {bound}{see}")
+
+
+def of_address(word):
+    """An address: 1 to 16 lower-case hexadecimal digits, without 0x or leading zero."""
+    see = f": {printable(word)}"
+    if re.fullmatch("0[xX].*", word):
+        raise Reason(f"an address has no 0x{see}")
+    if re.fullmatch("[-+].*", word):
+        raise Reason(f"an address has no sign{see}")
+    if re.fullmatch("[0-9a-f]+[-+][0-9]+p", word):
+        raise Reason(f"pages are added in avsim talk alone, from 0 to 2^64 - 1{see}", TALK)
+    if not re.fullmatch("[0-9a-fA-F]+", word):
+        raise Reason(f"an address has hexadecimal digits alone{see}")
+    if word != word.lower():
+        raise Reason(f"hexadecimal digits are lower case{see}")
+    if len(word) > 1 and word[0] == "0":
+        raise Reason(f"an address has no leading zero{see}")
+    if len(word) > 16:
+        raise Reason(f"an address has at most 16 digits{see}")
+
+
+def of_hex(word):
+    """Bytes: two lower-case hexadecimal digits for each, 1 to 4096 of them."""
+    see = f": {printable(word)}"
+    if re.fullmatch("0[xX].*", word):
+        raise Reason(f"bytes have no 0x{see}")
+    if not re.fullmatch("[0-9a-fA-F]+", word):
+        raise Reason(f"bytes are hexadecimal digits, two for each{see}")
+    if word != word.lower():
+        raise Reason(f"hexadecimal digits are lower case{see}")
+    if len(word) % 2:
+        raise Reason(f"a byte has two digits, and their number is odd{see}")
+    if len(word) > 8192:
+        raise Reason(f"a write has at most 4096 bytes, and here are {len(word) // 2}")
+
+
+def of_prot(word):
+    """A protection: r or -, w or -, x or -."""
+    see = f": {printable(word)}"
+    if re.fullmatch("[rwxRWX-]*[RWX][rwxRWX-]*", word):
+        raise Reason(f"a protection is lower case{see}")
+    if len(word) != 3:
+        raise Reason(f"a protection has three characters, as rw-{see}")
+    if not re.fullmatch("[rwx-]*", word):
+        raise Reason(f"a protection has the letters r, w, x, or - in their place{see}")
+    if not re.fullmatch("[r-][w-][x-]", word):
+        raise Reason(f"a protection has its letters in the order r, w, x{see}")

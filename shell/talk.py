@@ -1,0 +1,200 @@
+"""`avsim talk FRAMES [SWAP..]`: a session at a prompt, which no mistyped line ends."""
+import re
+import shutil
+import signal
+import sys
+import textwrap
+
+from program import EarlyEnd, Refused, lines_from
+from reasons import WORDS_OF_TALK, fault_of, reason_of, printable
+from reference import Reference
+from session import BadLine, Session, Trouble, says_nothing
+from small import lines_for
+from terminal import Completion, Screen, Names, is_terminal, set_up
+
+PROMPT = "> "
+OWN_WORDS = "undo [N] | save FILE | load FILE | touch P A LEN | help [COMMAND] | quit"
+
+
+class Talk:
+    """The prompt: reads a line, does it, and shows what came of it."""
+
+    def __init__(self, program, words):
+        self.reference = Reference()
+        looks_good = lambda line: not fault_of(line, self.reference)
+        self.session = Session(program, words, looks_good)
+        self.screen, self.names = Screen(), Names()
+        self.is_terminal = is_terminal()
+        self.refusals = 0
+        self.own_words = {
+            "undo": self.undo,
+            "save": self.save,
+            "load": self.load,
+            "help": self.help,
+        }
+
+    def lines(self):
+        """The lines of the session, as they come."""
+        if not self.is_terminal:
+            for line in lines_from(sys.stdin.buffer):
+                yield line.decode("utf-8", "surrogateescape").removesuffix("\n")
+            return
+        while True:
+            try:
+                # (what is pasted may be several lines)
+                yield from input(PROMPT).split("\n")
+            except KeyboardInterrupt:
+                print()
+            except EOFError:
+                print()
+                return
+
+    def run(self):
+        """The session, up to its end; whether no line was refused."""
+        for line in self.lines():
+            if line.split() == ["quit"]:
+                break
+            try:
+                self.do(line)
+            except (Trouble, ValueError) as why:
+                self.refuse(str(why))
+            except BadLine as bad:
+                self.refuse(self.sentence_for(bad.line))
+            except MemoryError:
+                self.refuse("there is no memory for this")
+            except KeyboardInterrupt:
+                self.refuse("interrupted")
+            sys.stdout.flush()
+        self.session.end()
+        return not self.refusals
+
+    def refuse(self, text):
+        """Says why something isn't done."""
+        self.refusals += 1
+        self.screen.own(text)
+
+    def sentence_for(self, line):
+        """What is said of a bad line: its reason, and where the rule stands."""
+        text = str(reason_of(line, self.reference))
+        if line.split() == [b"exit"]:
+            return f"{text}; quit leaves the session"
+        is_name = text.startswith("there is no command")
+        return text + f"; of the shell there are {', '.join(WORDS_OF_TALK)}" * is_name
+
+    def do(self, line):
+        """Does a line: a word of the shell, or commands."""
+        words = line.split()
+        if words and words[0] in self.own_words:
+            self.own_words[words[0]](words[1:])
+            return
+        sent = lines_for(line, self.reference)
+        given = [it.encode("utf-8", "surrogateescape") for it in sent]
+        replies = self.session.do(given)
+        for text, reply in zip(sent, replies):
+            if sent != [line]:
+                self.screen.show(f"+ {text}", "sent")
+            self.screen.reply(reply)
+            self.remember(text, reply)
+
+    def remember(self, text, reply):
+        """Keeps what a command and its reply name, for completion."""
+        self.names.see(text, self.reference.forms.get(text.split(" ")[0]), reply)
+
+    def undo(self, words):
+        """`undo`, `undo N`: takes back the last command, or the last N."""
+        if len(words) > 1 or words and not (words[0].isascii() and words[0].isdigit()):
+            raise Trouble("undo has at most one word, how many commands to take back: undo 3")
+        gone = self.session.undo(int(words[0][:9]) if words else 1)
+        if not gone:
+            self.screen.own("there is nothing to undo")
+        for step in gone[:10]:
+            more = f" .. and {plural(len(step) - 1, 'more line')}" * (len(step) > 1)
+            self.screen.own(f"undone: {step[0].decode('ascii', 'replace')[:80]}{more}")
+        if len(gone) > 10:
+            self.screen.own(f"undone: {len(gone) - 10} more commands")
+
+    def save(self, words):
+        """`save FILE`: writes the good lines so far."""
+        if len(words) != 1:
+            raise Trouble("save has one word, the name of a file: save my.trace")
+        count = self.session.save(words[0])
+        self.screen.own(f"saved: {plural(count, 'command')} in {words[0]}")
+
+    def load(self, words):
+        """`load FILE`: does the lines of a trace."""
+        if len(words) != 1:
+            raise Trouble("load has one word, the name of a file: load my.trace")
+        try:
+            replies = self.session.load(words[0])
+        except BadLine as bad:
+            raise Trouble(
+                f"{words[0]}, line {bad.at + 1}: {self.sentence_for(bad.line)}; nothing is loaded"
+            ) from None
+        commands = [it for it in self.session.lines() if not says_nothing(it)]
+        for line, reply in zip(commands[-len(replies) :], replies):
+            self.remember(line.decode("ascii"), reply)
+        self.screen.own(f"loaded: {plural(len(replies), 'command')} of {words[0]}")
+        asked = self.session.frames_asked()
+        if asked and asked != self.session.words[0]:
+            self.screen.own(f"it is for {plural(int(asked), 'frame')}, and not for this machine")
+
+    def help(self, words):
+        """`help`, `help COMMAND`: what the reference says."""
+        width = min(shutil.get_terminal_size().columns, 100) - 2
+        if not words:
+            self.screen.own("\n".join(self.overview(width)))
+            return
+        lines = self.reference.help(words[0], width) if len(words) == 1 else []
+        if not lines and words[0] in (*self.own_words, "touch", "quit"):
+            lines = self.reference.help("Talk", width)
+        if not lines:
+            name = printable(" ".join(words))
+            raise Trouble(f"help knows no command {name}; help alone lists them")
+        self.screen.own("\n".join(lines).rstrip("\n"))
+
+    def overview(self, width):
+        """A line for each command, and the words of the shell."""
+        for form in self.reference.forms.values():
+            yield form.heading
+            yield from textwrap.wrap(
+                self.reference.first_sentence(form.name),
+                width,
+                initial_indent="    ",
+                subsequent_indent="    ",
+            )
+        yield OWN_WORDS
+
+
+def plural(count, what):
+    """A number of things."""
+    return f"{count} {what}{'s' * (count != 1)}"
+
+
+def no_session(words, why):
+    """Why there is no session: the words, or what became of the program."""
+    if why.status != 2:
+        return Refused(f"there is no session: {why}")
+    if not (re.fullmatch("[1-9][0-9]{0,4}", words[0]) and int(words[0]) <= 16384):
+        return Refused(f"FRAMES is 1 to 16384: {words[0]}", 2)
+    return Refused(f"the program takes no such words behind FRAMES: {' '.join(words[1:])}", 2)
+
+
+def talk(program, words):
+    """A session. The status is 0; from a pipe it is 3 where something was refused."""
+    if not words:
+        raise Refused("FRAMES is missing, 1 to 16384, as in avsim talk 4", 2)
+    for stream in (sys.stdin, sys.stdout):
+        stream.reconfigure(encoding="utf-8", errors="surrogateescape")
+    it = Talk(program, words)
+    try:
+        it.session.start()
+    except EarlyEnd as why:
+        raise no_session(words, why) from None
+    if it.is_terminal:
+        # (a shell that starts this in the background has control-C ignored)
+        signal.signal(signal.SIGINT, signal.default_int_handler)
+        set_up(Completion(it.reference, it.names))
+        frames = plural(int(words[0]), "frame")
+        it.screen.own(f"{frames}; help lists the commands, quit or control-D leaves")
+    all_done = it.run()
+    return 0 if all_done or it.is_terminal else 3

@@ -1,0 +1,144 @@
+"""What the shell shows where it is at a terminal: colours, editing of lines, and completion."""
+import glob
+import os
+import re
+import sys
+
+from reasons import WORDS_OF_TALK
+
+COLOURS = {"good": "32", "bad": "31", "note": "36", "sent": "2", "own": "33"}
+REFUSALS = ("err", "segv", "oom", "bus")
+PROTS = [f"{r}{w}{x}" for r in "r-" for w in "w-" for x in "x-"]
+# words that mostly stand alone
+ALONE = ("stat", "undo", "help", "quit")
+# addresses and processes that are remembered for completion
+MOST_NAMES = 1000
+
+
+def is_terminal():
+    """Whether a person sits there."""
+    return sys.stdin.isatty() and sys.stdout.isatty()
+
+
+def has_colours():
+    """Whether the terminal shall have colours: NO_COLOR says no, and so does one that has none."""
+    unwanted = os.environ.get("NO_COLOR") or os.environ.get("TERM", "dumb") == "dumb"
+    return sys.stdout.isatty() and not unwanted
+
+
+class Screen:
+    """Writes lines, each with its colour."""
+
+    def __init__(self):
+        self.is_coloured = has_colours()
+
+    def show(self, text, kind):
+        """Writes a line."""
+        print(f"\x1b[{COLOURS[kind]}m{text}\x1b[0m" if self.is_coloured else text)
+
+    def reply(self, lines):
+        """Writes a reply."""
+        self.show(lines[0], "bad" if lines[0].split(" ")[0] in REFUSALS else "good")
+        for line in lines[1:]:
+            self.show(line, "note")
+
+    def own(self, text):
+        """Writes what the shell itself says: behind `#`, so that it is no reply."""
+        for line in text.split("\n"):
+            self.show(f"# {line}" if line else "#", "own")
+
+
+class Names:
+    """The addresses and processes that the session has named."""
+
+    def __init__(self):
+        self.of = {"A": {}, "P": {}}
+
+    def see(self, line, form, reply):
+        """Remembers what stands in a line of the trace and in its reply."""
+        kinds = {"P": "P", "Q": "P", "A": "A", "B": "A"}
+        for kind, word in zip(form.kinds if form else (), line.split(" ")[1:]):
+            if kind in kinds:
+                self.add(kinds[kind], word)
+        for address in re.findall(r"\bmap ([0-9a-f]+)$", reply[0]):
+            self.add("A", address)
+        for row in reply[1:]:
+            for address in re.findall("^ ([0-9a-f]+)-", row):
+                self.add("A", address)
+
+    def add(self, kind, word):
+        """Remembers one; the oldest goes where they are too many."""
+        words = self.of[kind]
+        words.pop(word, None)
+        words[word] = True
+        if len(words) > MOST_NAMES:
+            del words[next(iter(words))]
+
+
+class Completion:
+    """What a word that was begun may become."""
+
+    def __init__(self, reference, names):
+        self.reference, self.names, self.found = reference, names, []
+
+    def complete(self, text, state):
+        """The function that readline calls, with 0, 1, 2 .. until there are no more."""
+        import readline
+
+        if not state:
+            before = readline.get_line_buffer()[: readline.get_begidx()].split(" ")[:-1]
+            self.found = self.words(before, text)
+        return self.found[state] if state < len(self.found) else None
+
+    def words(self, before, text):
+        """The words that may stand behind others and begin so, with a space if more must follow."""
+        if not before:
+            words = with_prefix([*self.reference.forms, *WORDS_OF_TALK], text)
+            return [it if it in ALONE else f"{it} " for it in words]
+        if before[0] in ("save", "load"):
+            files = sorted(glob.glob(glob.escape(text) + "*"))
+            return [it + "/" * os.path.isdir(it) for it in files]
+        if before[0] == "help":
+            return with_prefix([*self.reference.forms, *WORDS_OF_TALK], text)
+        if before[0] == "touch":
+            kinds, ways = ["P", "A", "LEN"], []
+        elif before[0] in self.reference.forms:
+            form = self.reference.forms[before[0]]
+            kinds, ways = form.kinds, form.ways
+        else:
+            return []
+        at = len(before) - 1
+        more = " " * (at + 1 < len(kinds))
+        return [it + more for it in with_prefix(self.choices(before[1:], kinds, ways), text)]
+
+    def choices(self, before, kinds, ways):
+        """All words that may stand behind the words of a command."""
+        if len(before) < len(kinds):
+            kind = kinds[len(before)]
+        else:
+            rest = before[len(kinds) :]
+            going_on = [it for it in ways if it[: len(rest)] == rest and len(it) > len(rest)]
+            if not rest:
+                return list(dict.fromkeys(it[0] for it in going_on))
+            kind = going_on[0][len(rest)] if going_on else ""
+        if kind in ("A", "B"):
+            return sorted(self.names.of["A"])
+        if kind in ("P", "Q"):
+            return sorted(self.names.of["P"], key=lambda it: (len(it), it))
+        return PROTS if kind == "PROT" else []
+
+
+def with_prefix(words, text):
+    """The words that begin with a text."""
+    return [it for it in words if it.startswith(text)]
+
+
+def set_up(completion):
+    """Gives the prompt its editing, history and completion, where Python has them."""
+    try:
+        import readline
+    except ImportError:
+        return
+    readline.set_completer(completion.complete)
+    readline.set_completer_delims(" ")
+    readline.parse_and_bind("tab: complete")
