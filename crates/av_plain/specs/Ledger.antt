@@ -4,7 +4,7 @@ use Rattle.std.specs.FinMap.Entries.{find}
 use Rattle.std.specs.List.{list_any, list_all, range_with_len}
 use Rattle.std.specs.Option.{option_map_or}
 use Rattle.std.specs.Ordering.{nat_cmp, ordering_then}
-use Rattle.std.specs.Prelude.{◌≡◌, ℕ, ◌+◌, ◌-◌, Bool, true, false, not, ◌&&◌, ◌==◌, if◌then◌else◌, List, [], ◌∷◌, map, filter, Option, Some, None, is_some, ◌||◌, length, nat_lt, sum_by, option_map, ◌*◌, is_none, unwrap_or}
+use Rattle.std.specs.Prelude.{◌≡◌, ℕ, ◌+◌, ◌-◌, Bool, true, false, not, ◌&&◌, ◌==◌, if◌then◌else◌, List, [], ◌∷◌, map, filter, Option, Some, None, is_some, ◌||◌, length, nat_le, nat_lt, sum_by, option_map, ◌*◌, is_none, unwrap_or}
 use Rattle.std.specs.declared.cmp.Ordering.{Ordering}
 use Rattle.av_swapdev.specs.Header.{Layout}
 use Rattle.av_base.specs.Words.{how_many, is_in}
@@ -98,6 +98,10 @@ map_count l f = how_many (λ e. names_frame f e.1) l.entries
 abbrev pub slot_entries : Ledger → Slot → ℕ
 slot_entries l s = how_many (λ e. names_slot s e.1) l.entries
 
+-- the keys of the entries that name the slot, by process and page
+abbrev pub keys_of_slot : Ledger → Slot → List Key
+keys_of_slot l s = map (λ e. e.0) (filter (λ e. names_slot s e.1) l.entries)
+
 -- the first cached pair that passes the test
 abbrev pub cached_by : (Cached → Bool) → List Cached → Option Cached
 cached_by test [] = None
@@ -167,6 +171,12 @@ is_header_slot s (Some h) = nat_lt s.page h.pages && not (is_in s.page h.bad)
 abbrev pub may_be_slot : Slot → Option (ℕ → Option Layout) → Bool
 may_be_slot s None = true
 may_be_slot s (Some headers) = is_header_slot s (headers s.area)
+
+-- the page is past the end of its area, where headers are told
+abbrev pub is_past_area : Slot → Option (ℕ → Option Layout) → Bool
+is_past_area s None = false
+is_past_area s (Some headers) =
+    option_map_or (λ (h : Layout). nat_le h.pages s.page) (headers s.area) false
 
 -- what the header says of a page, where it is told: whether it is a slot
 abbrev pub is_usable : Setting → Slot → Bool

@@ -1,6 +1,7 @@
 -- The lines that are commands. Each command has one line.
-use Rattle.std.specs.Prelude.{ℕ, List, [], ◌∷◌, ◌++◌, codes, Option, Some, None}
+use Rattle.std.specs.Prelude.{ℕ, ◌-◌, ◌^◌, List, [], ◌∷◌, ◌++◌, codes, Option, Some, None}
 use Rattle.std.specs.Fmt.{decimal}
+use Rattle.av_base.specs.Limits.{most_frames}
 use Rattle.av_base.specs.Page.{page_size}
 use Rattle.av_base.specs.declared.prot.Prot.{Prot}
 use Rattle.av_trace.specs.declared.place.Place.{Place}
@@ -13,6 +14,14 @@ use Rattle.av_text.specs.Hex.{hex, hex_text, IsData, data_at}
 use Rattle.av_text.specs.Prot.{prot_text, prot_at}
 use Rattle.av_trace.specs.Place.{IsPlace, place_words, place_at}
 use Rattle.av_trace.specs.Mode.{IsMode, mode_words, mode_at}
+
+-- a swap area
+abbrev pub IsAreaNumber : ℕ → Type 0
+IsAreaNumber k = IsNumberIn 0 7 k
+
+-- how many frames or slots a command goes over, at most
+abbrev pub IsHowMany : ℕ → Type 0
+IsHowMany n = IsNumberIn 1 most_frames n
 
 -- the values are in range
 abbrev pub IsCommand : Command → Type 0
@@ -27,10 +36,16 @@ IsCommand (commands.Mremap p address old_len new_len mode) =
 IsCommand (commands.Read p address len) =
     IsProcess p × IsWide address × IsNumberIn 1 page_size len
 IsCommand (commands.Write p address bytes) = IsProcess p × IsWide address × IsData bytes
+IsCommand (commands.Reclaim n) = IsHowMany n
+IsCommand (commands.Age n) = IsHowMany n
+IsCommand (commands.Complete n) = IsHowMany n
+IsCommand (commands.Swapon k) = IsAreaNumber k
+IsCommand (commands.Swapoff k) = IsAreaNumber k
 IsCommand (commands.Maps p) = IsProcess p
 IsCommand (commands.Areas p) = IsProcess p
 IsCommand (commands.Rmap p address) = IsProcess p × IsWide address
 IsCommand (commands.Entry p address) = IsProcess p × IsWide address
+IsCommand (commands.Slot k page) = IsAreaNumber k × IsNumberIn 0 (2 ^ 32 - 1) page
 IsCommand commands.Stat = Unit {0}
 
 -- the one line of a command
@@ -51,10 +66,16 @@ line_of (commands.Read p address len) =
     line (codes "read") (decimal p ∷ hex address ∷ decimal len ∷ [])
 line_of (commands.Write p address bytes) =
     line (codes "write") (decimal p ∷ hex address ∷ hex_text bytes ∷ [])
+line_of (commands.Reclaim n) = line (codes "reclaim") (decimal n ∷ [])
+line_of (commands.Age n) = line (codes "age") (decimal n ∷ [])
+line_of (commands.Complete n) = line (codes "complete") (decimal n ∷ [])
+line_of (commands.Swapon k) = line (codes "swapon") (decimal k ∷ [])
+line_of (commands.Swapoff k) = line (codes "swapoff") (decimal k ∷ [])
 line_of (commands.Maps p) = line (codes "maps") (decimal p ∷ [])
 line_of (commands.Areas p) = line (codes "areas") (decimal p ∷ [])
 line_of (commands.Rmap p address) = line (codes "rmap") (decimal p ∷ hex address ∷ [])
 line_of (commands.Entry p address) = line (codes "entry") (decimal p ∷ hex address ∷ [])
+line_of (commands.Slot k page) = line (codes "slot") (decimal k ∷ decimal page ∷ [])
 line_of commands.Stat = codes "stat"
 
 -- ---- reading: each command has the words that a reader finds, and then the line ends
@@ -100,6 +121,18 @@ read_words bytes = both entry_at (decimal_at 1 page_size) bytes
 abbrev pub write_words : Reader ((ℕ × ℕ) × List ℕ)
 write_words bytes = both entry_at data_at bytes
 
+-- the word of `reclaim`, `age` and `complete`: how many frames or slots
+abbrev pub frames_at : Reader ℕ
+frames_at bytes = decimal_at 1 most_frames bytes
+
+-- the word of `swapon` and `swapoff`, and the first of `slot`: a swap area
+abbrev pub area_at : Reader ℕ
+area_at bytes = decimal_at 0 7 bytes
+
+-- the words of `slot`
+abbrev pub slot_words : Reader (ℕ × ℕ)
+slot_words bytes = both area_at (decimal_at 0 (2 ^ 32 - 1)) bytes
+
 -- what reads a command's words after its name
 abbrev pub CommandReader : Type 0
 CommandReader = List ℕ → Option Command
@@ -131,6 +164,9 @@ rmap_at = whole entry_at (λ x. commands.Rmap x.0 x.1)
 abbrev pub entry_of : CommandReader
 entry_of = whole entry_at (λ x. commands.Entry x.0 x.1)
 
+abbrev pub slot_at : CommandReader
+slot_at = whole slot_words (λ x. commands.Slot x.0 x.1)
+
 -- what reads the commands that access pages, by name
 abbrev pub access_readers : List (List ℕ × CommandReader)
 access_readers = (codes "write", write_at) ∷ (codes "read", read_at) ∷ []
@@ -152,6 +188,16 @@ range_readers =
     ∷ (codes "mremap", mremap_at)
     ∷ []
 
+-- those that move pages to swap areas and back
+abbrev pub swap_readers : List (List ℕ × CommandReader)
+swap_readers =
+    (codes "reclaim", whole frames_at commands.Reclaim)
+    ∷ (codes "age", whole frames_at commands.Age)
+    ∷ (codes "complete", whole frames_at commands.Complete)
+    ∷ (codes "swapon", whole area_at commands.Swapon)
+    ∷ (codes "swapoff", whole area_at commands.Swapoff)
+    ∷ []
+
 -- the reports
 abbrev pub report_readers : List (List ℕ × CommandReader)
 report_readers =
@@ -159,12 +205,13 @@ report_readers =
     ∷ (codes "areas", whole process_at commands.Areas)
     ∷ (codes "rmap", rmap_at)
     ∷ (codes "entry", entry_of)
+    ∷ (codes "slot", slot_at)
     ∷ (codes "stat", whole no_words (λ x. commands.Stat))
     ∷ []
 
 -- all commands
 abbrev pub readers : List (List ℕ × CommandReader)
-readers = access_readers ++ process_readers ++ range_readers ++ report_readers
+readers = access_readers ++ process_readers ++ range_readers ++ swap_readers ++ report_readers
 
 -- the command of a line that has one of these names
 abbrev pub command_in : List (List ℕ × CommandReader) → CommandReader

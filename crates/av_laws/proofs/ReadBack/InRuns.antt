@@ -13,7 +13,7 @@ use Rattle.av_vma.specs.Gap.{IsGap}
 use Rattle.av_trace.specs.Command.{IsCommand}
 use Rattle.av_text.specs.Number.{IsWide}
 use Rattle.av_trace.specs.declared.command.Command.{Command}
-use Rattle.av_trace.specs.declared.command.Command.TheVariants.{Spawn, Fork, Exit, Mmap, Mremap, Munmap, Mprotect, Read, Write, Maps, Areas as AsksAreas, Rmap as AsksRmap, Entry as AsksEntry, Stat}
+use Rattle.av_trace.specs.declared.command.Command.TheVariants.{Spawn, Fork, Exit, Mmap, Mremap, Munmap, Mprotect, Read, Write, Reclaim, Age, Complete, Swapon, Swapoff, Maps, Areas as AsksAreas, Rmap as AsksRmap, Entry as AsksEntry, Slot as AsksSlot, Stat}
 use Rattle.av_trace.specs.declared.note.Cause.TheVariants.{NoSlot, Referenced, WriteStarted, Writeback}
 use Rattle.av_trace.specs.declared.note.Note.{Note}
 use Rattle.av_trace.specs.declared.note.Note.TheVariants.{Aged, Copied, Dropped, Failed, Kept, Loaded, Mapped, New, Put, Started, Unmapped, Written, Zeroed}
@@ -23,13 +23,13 @@ use Rattle.av_trace.specs.declared.place.Place.TheVariants.{Auto, At, Fixed, NoR
 use Rattle.av_trace.specs.declared.reply.Answer.{Answer}
 use Rattle.av_trace.specs.declared.reply.Answer.TheVariants.{Done, MapAt, Refused}
 use Rattle.av_trace.specs.declared.reply.Errno.{Errno}
-use Rattle.av_trace.specs.declared.reply.Errno.TheVariants.{Eexist, Einval, Enomem, Eperm, Esrch}
+use Rattle.av_trace.specs.declared.reply.Errno.TheVariants.{Ebusy, Eexist, Einval, Enomem, Eperm, Esrch}
 use Rattle.av_trace.specs.declared.reply.Reply.{Reply}
 use Rattle.av_trace.specs.declared.row.Row.{Row}
 use Rattle.av_plain.specs.Access.{Accesses, End, after_write, first_bytes, page_events}
 use Rattle.av_plain.specs.Event.{Event, Forked, Inherited, is_inherited, without_seen, Moved, Noted, TurnedOff, TurnedOn, Used, Zapped, after, after_all, after_note, after_use_of, change_entries, entries_where, if_some, note_events, off_cache, off_flight, set_entry, settle_entry, to_inactive_tail, when, with_stale}
 use Rattle.av_plain.specs.Fault.{Stop}
-use Rattle.av_plain.specs.Ledger.{Entry, InFrame, InSlot, Key, Ledger, Setting, Zero, entry, frame_at, is_orphan, slot_of}
+use Rattle.av_plain.specs.Ledger.{Entry, InFrame, InSlot, Key, Ledger, Setting, Zero, entry, frame_at, is_on, is_orphan, size_of, slot_of}
 use Rattle.av_plain.specs.Load.{with_loads}
 use Rattle.av_plain.specs.Map.{with_prot_to_hole}
 use Rattle.av_plain.specs.Mremap.{MovesTo, events_to, prot_at, prot_left, range_zaps, remap_events, process_after_mremap}
@@ -39,6 +39,8 @@ use Rattle.av_plain.specs.Step.{Follows, IsLegal, next, next_world}
 use Rattle.av_plain.specs.Transcript.{IsStep, State}
 use Rattle.av_plain.specs.World.{Page, Process, World, end_process, is_mapped, lives, meets, no_pages, pages, pages_to_hole, set_process, with_bytes, with_pages, with_prot, with_prot_on, zeros}
 use Rattle.av_plain.specs.Zap.{keys_in, orphan_drop, slot_behind_key, zap_of, zaps_of}
+use Rattle.av_plain.proofs.NoDevice.{no-area, no-swapon}
+use Rattle.av_plain.specs.Device.{HasNoDevice}
 use Rattle.av_plain.proofs.Event.{put_all-only}
 use Rattle.av_plain.proofs.Load.{events_to-load_nothing, loads_nothing, without-loads}
 use Rattle.av_plain.proofs.Mremap.{others_of, shifted, then_target}
@@ -183,8 +185,9 @@ plain-accesses m w l p (page ∷ ps) es end (inr h) = ap (list_all is_plain) h.3
     ∙ plain-page page.0 (p, page.1) h.0 (Some h.1)
 
 plain-legal : (m : Setting) (w : World) (l : Ledger) (command : Command) (reply : Reply)
-    (es : List Event) → IsLegal m w l command reply es → list_all is_plain es ≡ true
-plain-legal m w l command reply es legal = by (refusal (tests m w l command)) legal.answer
+    (es : List Event) → HasNoDevice m → IsLegal m w l command reply es
+    → list_all is_plain es ≡ true
+plain-legal m w l command reply es bare legal = by (refusal (tests m w l command)) refl legal.answer
   where
     none : es ≡ [] → list_all is_plain es ≡ true
     none e = ap (list_all is_plain) e
@@ -192,35 +195,44 @@ plain-legal m w l command reply es legal = by (refusal (tests m w l command)) le
     these : (ks : List Key) → es ≡ zaps_of l ks → list_all is_plain es ≡ true
     these ks e = ap (list_all is_plain) e ∙ plain-zaps l ks
 
-    follows : (command : Command) → Follows m w l command es reply.answer reply.rows
-        → list_all is_plain es ≡ true
-    follows (Spawn p) q = none q.1
-    follows (Fork p c) q = ap (list_all is_plain) q.1
-    follows (Exit p) q = these _ q.1
-    follows (Mmap p len prot Auto) q = none q.3
-    follows (Mmap p len prot (At a)) q = none q.3
-    follows (Mmap p len prot (Fixed a)) q = these _ q.3
-    follows (Mmap p len prot (NoReplace a)) q = none q.3
-    follows (Munmap p a len) q = these _ q.1
-    follows (Mprotect p a len prot) q = none q.1
-    follows (Mremap p a old new mode) q = moves q.0 q.3
+    noted : (notes : List Note) → es ≡ note_events notes → list_all is_plain es ≡ true
+    noted notes e = ap (list_all is_plain) e ∙ plain-notes notes
+
+    follows : (command : Command) → refusal (tests m w l command) ≡ None
+        → Follows m w l command es reply.answer reply.rows → list_all is_plain es ≡ true
+    follows (Spawn p) fine q = none q.1
+    follows (Fork p c) fine q = ap (list_all is_plain) q.1
+    follows (Exit p) fine q = these _ q.1
+    follows (Mmap p len prot Auto) fine q = none q.3
+    follows (Mmap p len prot (At a)) fine q = none q.3
+    follows (Mmap p len prot (Fixed a)) fine q = these _ q.3
+    follows (Mmap p len prot (NoReplace a)) fine q = none q.3
+    follows (Munmap p a len) fine q = these _ q.1
+    follows (Mprotect p a len prot) fine q = none q.1
+    follows (Mremap p a old new mode) fine q = moves q.0 q.3
       where
         moves : (to : Option ℕ) → es ≡ events_to l p (page_of a) (pages_of old) to (pages_of new) → list_all is_plain es ≡ true
         moves None e = none e
         moves (Some to) e = ap (list_all is_plain) e ∙ plain-remap l p (page_of a) (pages_of old) to (pages_of new)
-    follows (Read p a n) q = plain-accesses m w l p _ es q.0 q.2
-    follows (Write p a bytes) q = plain-accesses m w l p _ es q.0 q.1
-    follows (Maps p) q = none q.2
-    follows (AsksAreas p) q = none q.2
-    follows (AsksRmap p a) q = none q.1
-    follows (AsksEntry p a) q = none q.1
-    follows Stat q = none q.1
+    follows (Read p a n) fine q = plain-accesses m w l p _ es q.0 q.2
+    follows (Write p a bytes) fine q = plain-accesses m w l p _ es q.0 q.1
+    follows (Reclaim n) fine q = noted q.0 q.3
+    follows (Age n) fine q = noted _ q.1
+    follows (Complete n) fine q = noted q.0 q.3
+    follows (Swapon k) fine q = absurd (no-swapon m k ((is_on l k, Ebusy) ∷ (size_of m k == 0, Einval) ∷ []) bare fine)
+    follows (Swapoff k) fine q = absurd (no-area m l k [] bare fine)
+    follows (Maps p) fine q = none q.2
+    follows (AsksAreas p) fine q = none q.2
+    follows (AsksRmap p a) fine q = none q.1
+    follows (AsksEntry p a) fine q = none q.1
+    follows (AsksSlot k page) fine q = none q.1
+    follows Stat fine q = none q.1
 
-    by : (o : Option Errno)
+    by : (o : Option Errno) → refusal (tests m w l command) ≡ o
         → MatchOption o (Follows m w l command es reply.answer reply.rows)
         (λ error. Refuses error es reply.answer reply.rows) → list_all is_plain es ≡ true
-    by None q = follows command q
-    by (Some error) q = none q.1
+    by None fine q = follows command fine q
+    by (Some error) fine q = none q.1
 
 -- ---- pages stay below the top, of processes with small numbers
 
@@ -492,22 +504,28 @@ below-follows m w now l (Mremap p a old new mode) es answer rows fit same below 
 below-follows m w now l (Read p a n) es answer rows fit same below none h = below
 below-follows m w now l (Write p a bytes) es answer rows fit same below none h = below-stored now p a
     (first_bytes answer bytes) below
+below-follows m w now l (Reclaim n) es answer rows fit same below none h = below
+below-follows m w now l (Age n) es answer rows fit same below none h = below
+below-follows m w now l (Complete n) es answer rows fit same below none h = below
+below-follows m w now l (Swapon k) es answer rows fit same below none h = below
+below-follows m w now l (Swapoff k) es answer rows fit same below none h = below
 below-follows m w now l (Maps p) es answer rows fit same below none h = below
 below-follows m w now l (AsksAreas p) es answer rows fit same below none h = below
 below-follows m w now l (AsksRmap p a) es answer rows fit same below none h = below
 below-follows m w now l (AsksEntry p a) es answer rows fit same below none h = below
+below-follows m w now l (AsksSlot k page) es answer rows fit same below none h = below
 below-follows m w now l Stat es answer rows fit same below none h = below
 
 pub step-small : (m : Setting) (old new : State) (command : Command) (reply : Reply)
-    → IsCommand command → IsSmall m old.world old.ledger → IsStep m old command reply new
-    → IsSmall m new.world new.ledger
-step-small m old new command reply fit small h = record {
+    → HasNoDevice m → IsCommand command → IsSmall m old.world old.ledger
+    → IsStep m old command reply new → IsSmall m new.world new.ledger
+step-small m old new command reply bare fit small h = record {
   frames = small.frames;
   below = λ p page is. (later p page is).0;
   processes = λ p page is. (later p page is).1;
   off = ap (λ (l : Ledger). l.on) h.ledger
       ∙ events-on h.events old.ledger
-      (plain-legal m old.world old.ledger command reply h.events h.legal) ∙ small.off;
+      (plain-legal m old.world old.ledger command reply h.events bare h.legal) ∙ small.off;
 }
   where
     now : World

@@ -55,7 +55,7 @@ runs-back m most old (e ∷ es) new none high room sound small made covers few f
   legal-reads_back m old.world old.ledger e.command e.reply h.1.events none sound small fit.0
       (asked-now m old e.command e.reply h.0 made covers.cover (omega (arith, few)) h.1) h.1.legal,
   runs-back m (most + top_page) h.0 es new none (omega arith) (omega arith) (step-sound m old e.command e.reply h.0 sound h.1)
-      (step-small m old h.0 e.command e.reply fit.0 small h.1)
+      (step-small m old h.0 e.command e.reply none fit.0 small h.1)
       (step-makes m old e.command e.reply h.0 made h.1).made
       (step-covers m most old e.command e.reply h.0 high (omega arith) covers h.1)
       (let more = step-few m most old e.command e.reply h.0 none high sound covers fit.0 h.1 in
