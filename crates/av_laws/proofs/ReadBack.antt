@@ -26,7 +26,7 @@ use Rattle.av_trace.specs.declared.row.Row.{Row}
 use Rattle.av_trace.specs.declared.row.Row.TheVariants.{Run, Entry as EntryRow, Area as AreaRow}
 use Rattle.av_trace.specs.declared.reply.Answer.{Answer}
 use Rattle.av_trace.specs.declared.reply.Answer.TheVariants.{AreaList, Done, MapAt, Refused, Oom, Runs, Counted}
-use Rattle.av_trace.specs.Command.{IsCommand}
+use Rattle.av_trace.specs.Command.{IsInRange}
 use Rattle.av_trace.specs.Note.{IsNote, IsSlot}
 use Rattle.av_trace.specs.Mode.{IsMode}
 use Rattle.av_text.specs.Number.{IsWide}
@@ -370,7 +370,7 @@ nothing-lands l (suc n) [] notes none h = h
 nothing-lands l (suc n) (t ∷ ts) notes none h = cc
 
 follows-fit : (m : Setting) (w : World) (l : Ledger) (command : Command) (events : List Event) (answer : Answer) (rows : List Row) → HasNoDevice m →
-    AllSound m w l → IsSmall m w l → IsCommand command → refusal (tests m w l command) ≡ None → CausesFit answer → AskedWide command rows
+    AllSound m w l → IsSmall m w l → IsInRange command → refusal (tests m w l command) ≡ None → CausesFit answer → AskedWide command rows
     → Follows m w l command events answer rows → Fits events answer rows
 follows-fit m w l (Spawn p) events answer rows none s small fit fine out wide h = fits-by events [] answer Done rows [] h.1 h.0 h.2 (tt, (tt, refl))
 follows-fit m w l (Fork p q) events answer rows none s small fit fine out wide h =
@@ -491,7 +491,7 @@ follows-fit m w l Stat events answer rows none s small fit fine out wide h = fit
     sums = frames-add m l s.ledger
 
 pub legal-reads_back : (m : Setting) (w : World) (l : Ledger) (command : Command) (reply : Reply) (events : List Event) → HasNoDevice m → AllSound m w l →
-    IsSmall m w l → IsCommand command → AskedWide command reply.rows → IsLegal m w l command reply events → IsReply reply
+    IsSmall m w l → IsInRange command → AskedWide command reply.rows → IsLegal m w l command reply events → IsReply reply
 legal-reads_back m w l command reply events none s small fit wide legal =
     let f = by (refusal (tests m w l command)) refl legal.answer in
     record { answer = f.0; rest = subst (λ ns. Follow reply.answer ns reply.rows) (sym legal.notes) f.1 }

@@ -1,5 +1,5 @@
 -- The lines that are commands. Each command has one line.
-use Rattle.std.specs.Prelude.{ℕ, ◌-◌, ◌^◌, List, [], ◌∷◌, ◌++◌, codes, Option, Some, None}
+use Rattle.std.specs.Prelude.{◌≡◌, ℕ, ◌-◌, ◌^◌, Bool, false, true, List, [], ◌∷◌, ◌++◌, codes, Option, Some, None}
 use Rattle.std.specs.Fmt.{decimal}
 use Rattle.av_base.specs.Limits.{most_frames}
 use Rattle.av_base.specs.Page.{page_size}
@@ -23,30 +23,44 @@ IsAreaNumber k = IsNumberIn 0 7 k
 abbrev pub IsHowMany : ℕ → Type 0
 IsHowMany n = IsNumberIn 1 most_frames n
 
--- the values are in range
-abbrev pub IsCommand : Command → Type 0
-IsCommand (commands.Spawn p) = IsProcess p
-IsCommand (commands.Fork p q) = IsProcess p × IsProcess q
-IsCommand (commands.Exit p) = IsProcess p
-IsCommand (commands.Mmap p len prot place) = IsProcess p × IsWide len × IsPlace place
-IsCommand (commands.Munmap p address len) = IsProcess p × IsWide address × IsWide len
-IsCommand (commands.Mprotect p address len prot) = IsProcess p × IsWide address × IsWide len
-IsCommand (commands.Mremap p address old_len new_len mode) =
+-- the values of the command are in range
+abbrev pub IsInRange : Command → Type 0
+IsInRange (commands.Spawn p) = IsProcess p
+IsInRange (commands.Fork p q) = IsProcess p × IsProcess q
+IsInRange (commands.Exit p) = IsProcess p
+IsInRange (commands.Mmap p len prot place) = IsProcess p × IsWide len × IsPlace place
+IsInRange (commands.Munmap p address len) = IsProcess p × IsWide address × IsWide len
+IsInRange (commands.Mprotect p address len prot) = IsProcess p × IsWide address × IsWide len
+IsInRange (commands.Mremap p address old_len new_len mode) =
     IsProcess p × IsWide address × IsWide old_len × IsWide new_len × IsMode mode
-IsCommand (commands.Read p address len) =
+IsInRange (commands.Read p address len) =
     IsProcess p × IsWide address × IsNumberIn 1 page_size len
-IsCommand (commands.Write p address bytes) = IsProcess p × IsWide address × IsData bytes
-IsCommand (commands.Reclaim n) = IsHowMany n
-IsCommand (commands.Age n) = IsHowMany n
-IsCommand (commands.Complete n) = IsHowMany n
-IsCommand (commands.Swapon k) = IsAreaNumber k
-IsCommand (commands.Swapoff k) = IsAreaNumber k
-IsCommand (commands.Maps p) = IsProcess p
-IsCommand (commands.Areas p) = IsProcess p
-IsCommand (commands.Rmap p address) = IsProcess p × IsWide address
-IsCommand (commands.Entry p address) = IsProcess p × IsWide address
-IsCommand (commands.Slot k page) = IsAreaNumber k × IsNumberIn 0 (2 ^ 32 - 1) page
-IsCommand commands.Stat = Unit {0}
+IsInRange (commands.Write p address bytes) = IsProcess p × IsWide address × IsData bytes
+IsInRange (commands.Reclaim n) = IsHowMany n
+IsInRange (commands.Age n) = IsHowMany n
+IsInRange (commands.Complete n) = IsHowMany n
+IsInRange (commands.Swapon k) = IsAreaNumber k
+IsInRange (commands.Swapoff k) = IsAreaNumber k
+IsInRange (commands.Maps p) = IsProcess p
+IsInRange (commands.Areas p) = IsProcess p
+IsInRange (commands.Rmap p address) = IsProcess p × IsWide address
+IsInRange (commands.Entry p address) = IsProcess p × IsWide address
+IsInRange (commands.Slot k page) = IsAreaNumber k × IsNumberIn 0 (2 ^ 32 - 1) page
+IsInRange commands.Stat = Unit {0}
+
+-- whether the grammar has the command. The others have a text and a meaning, and no line yet
+abbrev pub is_in_grammar : Command → Bool
+is_in_grammar (commands.Reclaim n) = false
+is_in_grammar (commands.Age n) = false
+is_in_grammar (commands.Complete n) = false
+is_in_grammar (commands.Swapon k) = false
+is_in_grammar (commands.Swapoff k) = false
+is_in_grammar (commands.Slot k page) = false
+is_in_grammar c = true
+
+-- a command of the grammar, with values in range
+abbrev pub IsCommand : Command → Type 0
+IsCommand c = (is_in_grammar c ≡ true) × IsInRange c
 
 -- the one line of a command
 abbrev pub line_of : Command → List ℕ
@@ -121,18 +135,6 @@ read_words bytes = both entry_at (decimal_at 1 page_size) bytes
 abbrev pub write_words : Reader ((ℕ × ℕ) × List ℕ)
 write_words bytes = both entry_at data_at bytes
 
--- the word of `reclaim`, `age` and `complete`: how many frames or slots
-abbrev pub frames_at : Reader ℕ
-frames_at bytes = decimal_at 1 most_frames bytes
-
--- the word of `swapon` and `swapoff`, and the first of `slot`: a swap area
-abbrev pub area_at : Reader ℕ
-area_at bytes = decimal_at 0 7 bytes
-
--- the words of `slot`
-abbrev pub slot_words : Reader (ℕ × ℕ)
-slot_words bytes = both area_at (decimal_at 0 (2 ^ 32 - 1)) bytes
-
 -- what reads a command's words after its name
 abbrev pub CommandReader : Type 0
 CommandReader = List ℕ → Option Command
@@ -164,9 +166,6 @@ rmap_at = whole entry_at (λ x. commands.Rmap x.0 x.1)
 abbrev pub entry_of : CommandReader
 entry_of = whole entry_at (λ x. commands.Entry x.0 x.1)
 
-abbrev pub slot_at : CommandReader
-slot_at = whole slot_words (λ x. commands.Slot x.0 x.1)
-
 -- what reads the commands that access pages, by name
 abbrev pub access_readers : List (List ℕ × CommandReader)
 access_readers = (codes "write", write_at) ∷ (codes "read", read_at) ∷ []
@@ -188,16 +187,6 @@ range_readers =
     ∷ (codes "mremap", mremap_at)
     ∷ []
 
--- those that move pages to swap areas and back
-abbrev pub swap_readers : List (List ℕ × CommandReader)
-swap_readers =
-    (codes "reclaim", whole frames_at commands.Reclaim)
-    ∷ (codes "age", whole frames_at commands.Age)
-    ∷ (codes "complete", whole frames_at commands.Complete)
-    ∷ (codes "swapon", whole area_at commands.Swapon)
-    ∷ (codes "swapoff", whole area_at commands.Swapoff)
-    ∷ []
-
 -- the reports
 abbrev pub report_readers : List (List ℕ × CommandReader)
 report_readers =
@@ -205,13 +194,12 @@ report_readers =
     ∷ (codes "areas", whole process_at commands.Areas)
     ∷ (codes "rmap", rmap_at)
     ∷ (codes "entry", entry_of)
-    ∷ (codes "slot", slot_at)
     ∷ (codes "stat", whole no_words (λ x. commands.Stat))
     ∷ []
 
--- all commands
+-- all commands of the grammar
 abbrev pub readers : List (List ℕ × CommandReader)
-readers = access_readers ++ process_readers ++ range_readers ++ swap_readers ++ report_readers
+readers = access_readers ++ process_readers ++ range_readers ++ report_readers
 
 -- the command of a line that has one of these names
 abbrev pub command_in : List (List ℕ × CommandReader) → CommandReader

@@ -1,13 +1,13 @@
 //! What a line asks for.
 
 ghost use Rattle.std.specs.Prelude.{◌≡◌, ◌++◌, codes, option_map, IfOk, OnErr};
-ghost use Rattle.av_trace.specs.Command.{at_end, whole, no_words, fork_at, mmap_at, munmap_at, mprotect_at, mremap_at, read_at, write_at, area_at, frames_at, rmap_at, entry_of, slot_at, command_in, command_of, process_readers, range_readers, swap_readers, report_readers, range_words};
+ghost use Rattle.av_trace.specs.Command.{at_end, whole, no_words, fork_at, mmap_at, munmap_at, mprotect_at, mremap_at, read_at, write_at, rmap_at, entry_of, is_in_grammar, command_in, command_of, process_readers, range_readers, report_readers, range_words};
 ghost use Rattle.av_text.specs.Number.{process_at};
 ghost use Rattle.av_text.specs.Word.{BeginsWith};
 
 use crate::mode::{Mode, mode_field};
 use crate::place::{Place, place_field};
-use av_base::{MOST_FRAMES, PAGE_SIZE, Prot};
+use av_base::{PAGE_SIZE, Prot};
 use av_text::Bytes;
 use av_text::hex::data_field;
 use av_text::number::{address, decimal, entry, len, process};
@@ -18,6 +18,7 @@ use std::alloc::{AllocError, Global};
 /// What a line asks for, with the words of the line in order.
 ///
 /// Addresses and lengths are in bytes; each length but that of `Read` is rounded up to whole pages.
+/// Swap areas are 0 to 7. Of what `is_in_grammar` leaves out no line asks yet.
 #[derive(Drop)]
 pub enum Command {
     Spawn {
@@ -98,6 +99,24 @@ pub enum Command {
         page: u32,
     },
     Stat,
+}
+
+impl Command {
+    /// Whether the grammar has the command. Lines of `reclaim`, `age`, `complete`, `swapon`,
+    /// `swapoff` and `slot` are no commands yet, and no kernel answers these.
+    pub fn is_in_grammar(&self) -> bool
+        ensures { result ≡ is_in_grammar self.now }
+    {
+        !matches!(
+            self,
+            Command::Reclaim { .. }
+                | Command::Age { .. }
+                | Command::Complete { .. }
+                | Command::Swapon { .. }
+                | Command::Swapoff { .. }
+                | Command::Slot { .. }
+        )
+    }
 }
 
 /// The command, if nothing is left.
@@ -240,62 +259,6 @@ fn write(alloc: Global, bytes: &[u8], spare: &mut Bytes) -> Result<Option<Comman
     Ok(end(command, b""))
 }
 
-/// How many frames or slots, and the rest.
-fn frames(bytes: &[u8]) -> Option<(u16, &[u8])>
-    ensures { option_map (λ x. (x.0, x.1.now)) result ≡ frames_at bytes.now }
-{
-    let (n, rest) = decimal(bytes, 1, MOST_FRAMES)?;
-    Some((n as u16, rest))
-}
-
-#[tactic(auto, unfolding(crate::specs::Command::whole))]
-fn reclaim(bytes: &[u8]) -> Option<Command>
-    ensures { result ≡ whole frames_at Command.Reclaim bytes.now }
-{
-    let (frames, rest) = frames(bytes)?;
-    end(Command::Reclaim { frames }, rest)
-}
-
-#[tactic(auto, unfolding(crate::specs::Command::whole))]
-fn age(bytes: &[u8]) -> Option<Command>
-    ensures { result ≡ whole frames_at Command.Age bytes.now }
-{
-    let (frames, rest) = frames(bytes)?;
-    end(Command::Age { frames }, rest)
-}
-
-#[tactic(auto, unfolding(crate::specs::Command::whole))]
-fn complete(bytes: &[u8]) -> Option<Command>
-    ensures { result ≡ whole frames_at Command.Complete bytes.now }
-{
-    let (slots, rest) = frames(bytes)?;
-    end(Command::Complete { slots }, rest)
-}
-
-/// A swap area, and the rest.
-fn area(bytes: &[u8]) -> Option<(u8, &[u8])>
-    ensures { option_map (λ x. (x.0, x.1.now)) result ≡ area_at bytes.now }
-{
-    let (n, rest) = decimal(bytes, 0, 7)?;
-    Some((n as u8, rest))
-}
-
-#[tactic(auto, unfolding(crate::specs::Command::whole))]
-fn swapon(bytes: &[u8]) -> Option<Command>
-    ensures { result ≡ whole area_at Command.Swapon bytes.now }
-{
-    let (area, rest) = area(bytes)?;
-    end(Command::Swapon { area }, rest)
-}
-
-#[tactic(auto, unfolding(crate::specs::Command::whole))]
-fn swapoff(bytes: &[u8]) -> Option<Command>
-    ensures { result ≡ whole area_at Command.Swapoff bytes.now }
-{
-    let (area, rest) = area(bytes)?;
-    end(Command::Swapoff { area }, rest)
-}
-
 #[tactic(auto, unfolding(crate::specs::Command::whole))]
 fn maps(bytes: &[u8]) -> Option<Command>
     ensures { result ≡ whole process_at Command.Maps bytes.now }
@@ -328,19 +291,6 @@ fn one_entry(bytes: &[u8]) -> Option<Command>
     end(Command::Entry { process, address }, rest)
 }
 
-#[tactic(auto, unfolding(crate::specs::Command::whole, av_text::specs::Word::both))]
-fn slot(bytes: &[u8]) -> Option<Command>
-    ensures { result ≡ slot_at bytes.now }
-{
-    let (area, rest) = area(bytes)?;
-    let (page, rest) = decimal(rest, 0, u32::MAX as u64)?;
-    let command = Command::Slot {
-        area,
-        page: page as u32,
-    };
-    end(command, rest)
-}
-
 #[tactic(auto, unfolding(crate::specs::Command::whole))]
 fn stat(bytes: &[u8]) -> Option<Command>
     ensures { result ≡ whole no_words (λ x. Command.Stat) bytes.now }
@@ -361,8 +311,6 @@ fn report(line: &[u8]) -> Option<Command>
         rmap(rest)
     } else if let Some(rest) = after(line, b"entry") {
         one_entry(rest)
-    } else if let Some(rest) = after(line, b"slot") {
-        slot(rest)
     } else if let Some(rest) = after(line, b"stat") {
         stat(rest)
     } else {
@@ -370,30 +318,10 @@ fn report(line: &[u8]) -> Option<Command>
     }
 }
 
-/// The change of swap, or the report, that a line asks for.
-#[inline]
-fn swap_change_or_report(line: &[u8]) -> Option<Command>
-    ensures { result ≡ command_in (swap_readers ++ report_readers) line.now }
-{
-    if let Some(rest) = after(line, b"reclaim") {
-        reclaim(rest)
-    } else if let Some(rest) = after(line, b"age") {
-        age(rest)
-    } else if let Some(rest) = after(line, b"complete") {
-        complete(rest)
-    } else if let Some(rest) = after(line, b"swapon") {
-        swapon(rest)
-    } else if let Some(rest) = after(line, b"swapoff") {
-        swapoff(rest)
-    } else {
-        report(line)
-    }
-}
-
-/// The change of a range or of swap, or the report, that a line asks for.
+/// The change of a range, or the report, that a line asks for.
 #[inline]
 fn range_change_or_report(line: &[u8]) -> Option<Command>
-    ensures { result ≡ command_in (range_readers ++ swap_readers ++ report_readers) line.now }
+    ensures { result ≡ command_in (range_readers ++ report_readers) line.now }
 {
     if let Some(rest) = after(line, b"mmap") {
         mmap(rest)
@@ -404,15 +332,15 @@ fn range_change_or_report(line: &[u8]) -> Option<Command>
     } else if let Some(rest) = after(line, b"mremap") {
         mremap(rest)
     } else {
-        swap_change_or_report(line)
+        report(line)
     }
 }
 
-/// The command on a process, a range or swap, or the report, that a line asks for.
+/// The command on a process or a range, or the report, that a line asks for.
 #[inline]
 fn change_or_report(line: &[u8]) -> Option<Command>
-    ensures { result ≡ command_in
-        (process_readers ++ range_readers ++ swap_readers ++ report_readers) line.now }
+    ensures { result ≡ command_in (process_readers ++ range_readers ++ report_readers)
+        line.now }
 {
     if let Some(rest) = after(line, b"spawn") {
         spawn(rest)

@@ -6,7 +6,7 @@ use Rattle.av_base.specs.Limits.{top_page}
 use Rattle.av_base.specs.Page.{address_of, page_of, pages_of, place_in_page}
 use Rattle.av_base.specs.Words.{how_many, with_at}
 use Rattle.av_base.specs.declared.slot.Slot.{Slot}
-use Rattle.av_trace.specs.Command.{IsCommand}
+use Rattle.av_trace.specs.Command.{IsInRange}
 use Rattle.av_trace.specs.declared.command.Command.{Command}
 use Rattle.av_trace.specs.declared.command.Command.TheVariants.{Spawn, Fork, Exit, Mmap, Mremap, Munmap, Mprotect, Read, Write, Reclaim, Age, Complete, Swapon, Swapoff, Maps, Areas as AsksAreas, Rmap as AsksRmap, Entry as AsksEntry, Slot as AsksSlot, Stat}
 use Rattle.av_trace.specs.declared.note.Note.{Note}
@@ -200,7 +200,7 @@ few-pages write a n h =
 
 -- ---- a legal reply
 
-legal-new : (m : Setting) (w : World) (l : Ledger) (command : Command) (reply : Reply) (es : List Event) → HasNoDevice m → AllSound m w l → IsCommand command
+legal-new : (m : Setting) (w : World) (l : Ledger) (command : Command) (reply : Reply) (es : List Event) → HasNoDevice m → AllSound m w l → IsInRange command
     → IsLegal m w l command reply es → news (notes_of es) ≤ 8192
 legal-new m w l command reply es none sound fit legal = by (refusal (tests m w l command)) refl legal.answer
   where
@@ -218,7 +218,7 @@ legal-new m w l command reply es none sound fit legal = by (refusal (tests m w l
     noted : (notes : List Note) → es ≡ note_events notes → AllBring (λ k. false) notes → news (notes_of es) ≤ 8192
     noted notes e bring = let none = none-new notes bring in same-new (notes_of es) notes 8192 (ap notes_of e ∙ notes_of-note_events notes) (omega (arith, none))
 
-    follows : (command : Command) → IsCommand command → refusal (tests m w l command) ≡ None → Follows m w l command es reply.answer reply.rows → news (notes_of es) ≤ 8192
+    follows : (command : Command) → IsInRange command → refusal (tests m w l command) ≡ None → Follows m w l command es reply.answer reply.rows → news (notes_of es) ≤ 8192
     follows (Spawn p) fit fine q = quiet [] q.1 refl
     follows (Fork p c) fit fine q = quiet _ q.1 refl
     follows (Exit p) fit fine q = these _ q.1
@@ -305,7 +305,7 @@ fork-few p q r next laid (areas, rise, on, goes) =
 
 -- a step of a command of the grammar makes fewer than twice as many as a process may have pages
 pub step-few : (m : Setting) (most : ℕ) (old : State) (command : Command) (reply : Reply) (new : State) → HasNoDevice m → top_page ≤ most
-    → AllSound m old.world old.ledger → CoverBelow most old.world old.areas → IsCommand command → IsStep m old command reply new
+    → AllSound m old.world old.ledger → CoverBelow most old.world old.areas → IsInRange command → IsStep m old command reply new
     → new.anons.next ≤ old.anons.next + 2 * top_page
 step-few m most old command reply new none high sound covers fit step = by (next-cases later old.world command reply.answer (rmap_of new) step.rmap)
   where

@@ -10,7 +10,7 @@ use Rattle.av_base.specs.Words.{within}
 use Rattle.av_base.specs.declared.prot.Prot.{Prot}
 use Rattle.av_base.specs.declared.slot.Slot.{Slot}
 use Rattle.av_vma.specs.Gap.{IsGap}
-use Rattle.av_trace.specs.Command.{IsCommand}
+use Rattle.av_trace.specs.Command.{IsInRange}
 use Rattle.av_text.specs.Number.{IsWide}
 use Rattle.av_trace.specs.declared.command.Command.{Command}
 use Rattle.av_trace.specs.declared.command.Command.TheVariants.{Spawn, Fork, Exit, Mmap, Mremap, Munmap, Mprotect, Read, Write, Reclaim, Age, Complete, Swapon, Swapoff, Maps, Areas as AsksAreas, Rmap as AsksRmap, Entry as AsksEntry, Slot as AsksSlot, Stat}
@@ -425,7 +425,7 @@ module _ (w : World) (p a old new : ℕ) (mode : Mode) (to : ℕ) (may : MayRema
 -- ---- a step
 
 below-follows : (m : Setting) (w now : World) (l : Ledger) (command : Command) (es : List Event)
-    (answer : Answer) (rows : List Row) → IsCommand command → (list_all loads_nothing es ≡ true → now ≡ w) → Below now
+    (answer : Answer) (rows : List Row) → IsInRange command → (list_all loads_nothing es ≡ true → now ≡ w) → Below now
     → refusal (tests m w l command) ≡ None
     → Follows m w l command es answer rows → Below (next now command answer)
 below-follows m w now l (Spawn p) es answer rows fit same below none h = subst
@@ -517,7 +517,7 @@ below-follows m w now l (AsksSlot k page) es answer rows fit same below none h =
 below-follows m w now l Stat es answer rows fit same below none h = below
 
 pub step-small : (m : Setting) (old new : State) (command : Command) (reply : Reply)
-    → HasNoDevice m → IsCommand command → IsSmall m old.world old.ledger
+    → HasNoDevice m → IsInRange command → IsSmall m old.world old.ledger
     → IsStep m old command reply new → IsSmall m new.world new.ledger
 step-small m old new command reply bare fit small h = record {
   frames = small.frames;
