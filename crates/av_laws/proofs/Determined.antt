@@ -41,7 +41,7 @@ use Rattle.av_plain.specs.World.{Page, Process, Shows, World, byte_at, end_proce
 use Rattle.av_laws.proofs.OneFork.{next-one}
 use Rattle.av_laws.proofs.AreaRows.{one-rows}
 use Rattle.av_laws.proofs.Maps.{one-answer}
-use Rattle.av_laws.proofs.OneSwap.{lands-one, reclaims-one, reports-slot-one, turns-off-one, turns-on-one}
+use Rattle.av_laws.proofs.OneSwap.{complete-one, reclaims-one, reports-slot-one, turns-off-one, turns-on-one}
 use Rattle.av_plain.specs.Swapon.{turn_on_events}
 use Rattle.av_laws.proofs.OnePage.{is_lost, touches-one}
 use Rattle.av_laws.proofs.OnePass.{AreDone, chooses-one, chosen-first, done-append, done-is}
@@ -379,7 +379,7 @@ follows-one m w l on anons (Reclaim n) es fs answer answer' rows rows' closing f
 follows-one m w l on anons (Age n) es fs answer answer' rows rows' closing free a b told claimed kept kept'
     x y c d h g s t = record { events = h.1 ∙ sym g.1; answers = h.0 ∙ sym g.0; reports = h.2 ∙ sym g.2 }
 follows-one m w l on anons (Complete n) es fs answer answer' rows rows' closing free a b told claimed kept kept'
-    x y c d h g s t = record { events = lands-one l n es fs answer answer' rows rows' h g x y; answers = h.2 ∙ sym g.2; reports = h.4 ∙ sym g.4 }
+    x y c d h g s t = record { events = complete-one l n es fs answer answer' rows rows' h g x y; answers = h.2 ∙ sym g.2; reports = h.4 ∙ sym g.4 }
 follows-one m w l on anons (Swapon k) es fs answer answer' rows rows' closing free a b told claimed kept kept'
     x y c d h g s t = let same = turns-on-one m k es fs answer answer' rows rows' told h g kept kept' in
     record { events = h.1 ∙ ap (turn_on_events k) same ∙ sym g.1; answers = same; reports = h.2 ∙ sym g.2 }

@@ -16,7 +16,7 @@ use Rattle.av_plain.specs.Event.{Event, after_notes, note_events, notes_of}
 use Rattle.av_plain.specs.Fault.{sparing}
 use Rattle.av_plain.specs.Ledger.{Ledger, Setting, frame_at, has_free, slot_of, slots_in_use}
 use Rattle.av_plain.specs.Pass.{IsSlotFor, Spared, TakesFor, out_of}
-use Rattle.av_plain.specs.Reclaim.{Lands, Outcomes, Reclaims, cause_of, from_tail, leave_notes}
+use Rattle.av_plain.specs.Reclaim.{CompletesFirst, Outcomes, Reclaims, cause_of, from_tail, leave_notes}
 use Rattle.av_plain.specs.Report.{MayBeNoSlot, count_answer, slot_answer, ReportsSlot}
 use Rattle.av_plain.specs.Step.{fault_answers}
 use Rattle.av_plain.specs.Swapoff.{Close, Closed, Empties, EndsAt, IsEmptied, IsFetched, NoRoom, TurnsOff, Unread, close_answer, end_at, map_notes, sparing_area, turn_off_events}
@@ -68,9 +68,9 @@ reclaims-one m closing told w l n es fs answer answer' rows rows' free a b h g x
     h.3 ∙ ap note_events (outcomes-one m closing told (sparing w l None) l free (from_tail n l.inactive) h.0 g.0 h.1 g.1
     (given-events m closing l free a h.0 es h.3 x c) (given-events m closing l free b g.0 fs g.3 y d)) ∙ sym g.3
 
-pub lands-one : (l : Ledger) (n : ℕ) (es fs : List Event) (answer answer' : Answer) (rows rows' : List Row) → Lands l n es answer rows →
-    Lands l n fs answer' rows' → AreDone (notes_of es) → AreDone (notes_of fs) → es ≡ fs
-lands-one l n es fs answer answer' rows rows' h g x y = h.3 ∙ ap note_events (completes-one l _ h.0 g.0 h.1 g.1
+pub complete-one : (l : Ledger) (n : ℕ) (es fs : List Event) (answer answer' : Answer) (rows rows' : List Row) → CompletesFirst l n es answer rows →
+    CompletesFirst l n fs answer' rows' → AreDone (notes_of es) → AreDone (notes_of fs) → es ≡ fs
+complete-one l n es fs answer answer' rows rows' h g x y = h.3 ∙ ap note_events (completes-one l _ h.0 g.0 h.1 g.1
     (subst AreDone (ap notes_of h.3 ∙ notes_of-note_events h.0) x) (subst AreDone (ap notes_of g.3 ∙ notes_of-note_events g.0) y)) ∙ sym g.3
 
 -- ---- swapon and slot

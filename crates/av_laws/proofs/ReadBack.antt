@@ -56,7 +56,7 @@ use Rattle.av_plain.proofs.Report.Totals.{frames-add}
 use Rattle.av_plain.proofs.Sound.Counts.{slot-itself}
 use Rattle.av_plain.specs.Device.{HasNoDevice}
 use Rattle.av_laws.specs.ReadBack.{IsSmall, IsWideRow}
-use Rattle.av_plain.proofs.NoDevice.{HasNoSlots, IsPlainAt, accesses-plain, in-areas, kept-alone, kept-bare, no-area, no-remap-notes, no-slots, no-swapon, no-zap-notes}
+use Rattle.av_plain.proofs.NoDevice.{HasNoSlots, IsPlainAt, accesses-plain, in-areas, kept-alone, kept-bare, no-area, no-remap-notes, none-on, no-slots, no-swapon, no-zap-notes}
 use Rattle.av_plain.proofs.Access.{notes_of-note_events}
 use Rattle.av_plain.proofs.Sound.Pass.{AreReady, ready-first, ready-rest}
 use Rattle.av_plain.proofs.Sound.Reclaim.{active-ready, inactive-ready, outcome-kept}
@@ -309,7 +309,7 @@ keys-fit : (ks : List Key) → AllByRecursion (λ (k : Key). IsWide k.0 × (k.1 
 keys-fit [] h = tt
 keys-fit (k ∷ ks) h = let below = h.0.1 in ((h.0.0, wide-page k.1 (omega (arith, below))), keys-fit ks h.1)
 
-walk-fits : (m : Setting) (w : World) (l : Ledger) (k : Key) → AllSound m w l → IsSmall m w l → (e : Option Entry) → entry l k ≡ e →
+walk-fits : (m : Setting) (w : World) (l : Ledger) (k : Key) → AllSound m w l → IsSmall m w → (e : Option Entry) → entry l k ≡ e →
     Fits [] (walk_answer l e) (walk_rows l e)
 walk-fits m w l k s small None is = (tt, (tt, refl))
 walk-fits m w l k s small (Some Zero) is = (tt, (tt, refl))
@@ -364,13 +364,13 @@ ages-wide m l (f ∷ fs) s wide ready = (
   ages-wide m l fs s wide (ready-rest l l f fs (λ g other. refl) ready),
 )
 
-nothing-lands : (l : Ledger) (n : ℕ) (ts : List Slot) (notes : List Note) → ts ≡ [] → Completes l (take n ts) notes → notes ≡ []
-nothing-lands l zero ts notes none h = h
-nothing-lands l (suc n) [] notes none h = h
-nothing-lands l (suc n) (t ∷ ts) notes none h = cc
+nothing-completes : (l : Ledger) (n : ℕ) (ts : List Slot) (notes : List Note) → ts ≡ [] → Completes l (take n ts) notes → notes ≡ []
+nothing-completes l zero ts notes none h = h
+nothing-completes l (suc n) [] notes none h = h
+nothing-completes l (suc n) (t ∷ ts) notes none h = cc
 
 follows-fit : (m : Setting) (w : World) (l : Ledger) (command : Command) (events : List Event) (answer : Answer) (rows : List Row) → HasNoDevice m →
-    AllSound m w l → IsSmall m w l → IsInRange command → refusal (tests m w l command) ≡ None → CausesFit answer → AskedWide command rows
+    AllSound m w l → IsSmall m w → IsInRange command → refusal (tests m w l command) ≡ None → CausesFit answer → AskedWide command rows
     → Follows m w l command events answer rows → Fits events answer rows
 follows-fit m w l (Spawn p) events answer rows none s small fit fine out wide h = fits-by events [] answer Done rows [] h.1 h.0 h.2 (tt, (tt, refl))
 follows-fit m w l (Fork p q) events answer rows none s small fit fine out wide h =
@@ -444,10 +444,10 @@ follows-fit m w l (Age n) events answer rows none s small fit fine out wide h =
     )
 follows-fit m w l (Complete n) events answer rows none s small fit fine out wide h =
     fits-by events (note_events h.0) answer Done rows [] h.3 h.2 h.4
-    (fits-notes (note_events h.0) Done [] (notes_of-note_events h.0 ∙ nothing-lands l n l.flight h.0 (no-slots m l none (in-areas m w l s)).flight h.1) tt (tt, refl))
+    (fits-notes (note_events h.0) Done [] (notes_of-note_events h.0 ∙ nothing-completes l n l.flight h.0 (no-slots m l none (in-areas m w l s)).flight h.1) tt (tt, refl))
 follows-fit m w l (Swapon k) events answer rows none s small fit fine out wide h =
     absurd (no-swapon m k ((is_on l k, Ebusy) ∷ (size_of m k == 0, Einval) ∷ []) none fine)
-follows-fit m w l (Swapoff k) events answer rows none s small fit fine out wide h = absurd (no-area m l k [] none fine)
+follows-fit m w l (Swapoff k) events answer rows none s small fit fine out wide h = absurd (no-area m l k [] none s.areas_fit fine)
 follows-fit m w l (Maps p) events answer rows none s small fit fine out wide h =
     let runs = h.1.0 in
     let high = covered (pages w p) runs h.1.3 (small.below p) in
@@ -466,7 +466,7 @@ follows-fit m w l (AsksEntry p a) events answer rows none s small fit fine out w
     fits-by events [] answer (entry_answer l (entry l (p, page_of a))) rows [] h.1 h.0 h.2
     (entry-fits m l (p, page_of a) none s.ledger (no-slots m l none (in-areas m w l s)) small.frames (entry l (p, page_of a)) refl)
 follows-fit m w l (AsksSlot k page) events answer rows none s small fit fine out wide h =
-    absurd (no-area m l k ((is_outside m (record { area = k; page = page }), Einval) ∷ []) none fine)
+    absurd (no-area m l k ((is_outside m (record { area = k; page = page }), Einval) ∷ []) none s.areas_fit fine)
 follows-fit m w l Stat events answer rows none s small fit fine out wide h = fits-by events [] answer (Counted (totals m w l)) rows [] h.1 h.0 h.2 (
   record {
     frames = frames;
@@ -474,8 +474,8 @@ follows-fit m w l Stat events answer rows none s small fit fine out wide h = fit
     active = omega (arith, sums, frames);
     inactive = omega (arith, sums, frames);
     flight = subst IsWide (sym (ap length (no-slots m l none (in-areas m w l s)).flight)) (omega arith);
-    slots = subst IsWide (sym (ap (sum_by (λ (a : ℕ × SwapArea). a.1.slots)) small.off)) (omega arith);
-    free_slots = subst IsWide (sym (ap (sum_by (free_slots m l)) small.off)) (omega arith);
+    slots = subst IsWide (sym (ap (sum_by (λ (a : ℕ × SwapArea). a.1.slots)) (none-on m l none s.areas_fit))) (omega arith);
+    free_slots = subst IsWide (sym (ap (sum_by (free_slots m l)) (none-on m l none s.areas_fit))) (omega arith);
     processes = omega (arith, few);
   },
   (tt, refl),
@@ -491,7 +491,7 @@ follows-fit m w l Stat events answer rows none s small fit fine out wide h = fit
     sums = frames-add m l s.ledger
 
 pub legal-reads_back : (m : Setting) (w : World) (l : Ledger) (command : Command) (reply : Reply) (events : List Event) → HasNoDevice m → AllSound m w l →
-    IsSmall m w l → IsInRange command → AskedWide command reply.rows → IsLegal m w l command reply events → IsReply reply
+    IsSmall m w → IsInRange command → AskedWide command reply.rows → IsLegal m w l command reply events → IsReply reply
 legal-reads_back m w l command reply events none s small fit wide legal =
     let f = by (refusal (tests m w l command)) refl legal.answer in
     record { answer = f.0; rest = subst (λ ns. Follow reply.answer ns reply.rows) (sym legal.notes) f.1 }

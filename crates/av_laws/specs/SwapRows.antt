@@ -7,7 +7,7 @@
 --   a pass over a frame without a slot (`is_stuck`): passed_over
 --   writes and loads that fail (`Turns`, `IsLost`, `out_of`): two_faults
 --   the slots of an area that is turned off (`TurnsOff`): turned_off, unread
---   an orphan (`end_notes`, `Lands`) and what `stat` says then: given_back
+--   an orphan (`end_notes`, `CompletesFirst`) and what `stat` says then: given_back
 --   a refusal (`is_off`): turned_off
 use Rattle.std.specs.Prelude.{List, [], ◌∷◌, Some, None}
 use Rattle.av_trace.specs.declared.command.Command.TheVariants.{Spawn, Exit, Mmap, Munmap, Read, Write, Reclaim, Age, Complete, Swapon, Swapoff, Slot as AsksSlot, Stat}

@@ -230,13 +230,13 @@ pub fn areas_has_one_answer()
 
 /// A legal reply to a command with values in range is one that is read back from its text: its
 /// numbers are of 64 bits, its bytes below 256, and its rows as many as it says. This is so where no
-/// device is attached and no area is on, and where offsets, own anon_vmas and chains that the rows
-/// of `areas` say are of 64 bits, too. Legality says nothing of these, since it knows of memories and
+/// device is attached, and where offsets, own anon_vmas and chains that the rows of `areas` say are
+/// of 64 bits, too. Legality says nothing of these, since it knows of memories and
 /// ledger alone: a step shows those of the state's areas, and in a run they are so, as the next law
 /// says.
 pub fn replies_are_read_back()
     ensures { (m : Setting) (w : World) (l : Ledger) (command : Command) (reply : Reply)
-        (events : List Event) → HasNoDevice m → AllSound m w l → IsSmall m w l
+        (events : List Event) → HasNoDevice m → AllSound m w l → IsSmall m w
         → IsInRange command → AllByRecursion IsWideRow reply.rows
         → IsLegal m w l command reply events → IsReply reply }
 {}

@@ -1,7 +1,7 @@
 -- Without a device no slot is in use: a page has at most one note, and is never lost.
 use Rattle.std.specs.List.{AllByRecursion, range_with_len}
 use Rattle.std.specs.Prelude.{MatchBool, MatchOption, IsTrue, unwrap_or}
-use Rattle.std.proofs.Common.{◌≡◌, ◌⊎◌, inl, inr, ℕ, zero, suc, ◌+◌, ◌-◌, ◌<◌, min, Bool, true, false, cond, not, ◌&&◌, ◌||◌, List, [], ◌∷◌, ◌++◌, map, take, Option, Some, None, is_none, is_some, refl, sym, ap, subst, ◌∙◌, arith, ◌==◌, nat_lt, append-nil}
+use Rattle.std.proofs.Common.{◌≡◌, ◌⊎◌, inl, inr, ℕ, zero, suc, ◌+◌, ◌-◌, ◌<◌, min, Bool, true, false, cond, not, ◌&&◌, List, [], ◌∷◌, ◌++◌, map, take, Option, Some, None, is_none, is_some, refl, sym, ap, subst, ◌∙◌, arith, ◌==◌, nat_lt, append-nil}
 use Rattle.std.proofs.lemmas.Bool.Decides.{nat_tests}
 use Rattle.av_base.specs.Page.{address_of}
 use Rattle.av_base.specs.Words.{how_many}
@@ -11,19 +11,20 @@ use Rattle.av_trace.specs.declared.reply.OutOf.{OutOf}
 use Rattle.av_trace.specs.declared.note.Note.TheVariants.{Aged, Copied, Dropped, Failed, Kept, Loaded, Mapped, New, Put, Started, Unmapped, Written, Zeroed}
 use Rattle.av_plain.specs.Device.{HasNoDevice}
 use Rattle.av_plain.specs.World.{Page, World, pages}
-use Rattle.av_plain.specs.Ledger.{has_free_slot, is_open, slot_count, Cached, Entry, InFrame, InSlot, Key, Ledger, Setting, Zero, entry, has_free, is_on, is_usable, map_count, may_give, names_slot, same_slot, size_of, slot_entries, slot_of}
+use Rattle.av_plain.specs.Ledger.{has_free_slot, is_open, slot_count, Cached, Entry, InFrame, InSlot, Key, Ledger, Setting, Zero, entry, SwapArea, has_free, is_on, is_usable, map_count, may_give, names_slot, same_slot, size_of, slot_entries, slot_of}
 use Rattle.av_plain.specs.Event.{Event, Moved, Used, after_all, after_note, after_notes, note_events, notes_of, when}
 use Rattle.av_plain.specs.Pass.{Completes, IsPass, IsSlotFor, Seeks, Spared, Turns, frames_in_turn, is_dirty, is_stuck, stays_cached, turn_notes}
 use Rattle.av_plain.specs.Fault.{drop_of_slot, ComesIn, CopyOnWrite, Denied, IsMade, Lost, MapCached, Need, NewPage, Ready, RunsOut, Serves, Sparing, Starved, Stop, SwapIn, Touches, ZeroPage, drop_at, drop_of_entry, is_shared, need, permits, pinned_by, sparing, was_slot}
 use Rattle.av_plain.specs.Access.{Accesses, End, Stopped, Whole, page_events}
-use Rattle.av_plain.specs.Sound.{count, flights, is_there, slots}
+use Rattle.av_plain.specs.Sound.{AreasFit, count, flights, is_there, slots}
 use Rattle.av_plain.proofs.Event.{slot_entries-unseen}
 use Rattle.av_plain.proofs.Ledger.{how_many-append, how_many-found}
 use Rattle.av_plain.proofs.Ledger.NoSwap.{no_slot}
 use Rattle.av_plain.proofs.Access.{notes_of-append, notes_of-note_events}
 use Rattle.av_plain.proofs.Sound.Counts.{slot-itself}
 use Rattle.av_plain.proofs.Sound.There.{InAreas, accesses-in}
-use Rattle.std.specs.FinMap.Entries.{is_sorted}
+use Rattle.std.specs.FinMap.Entries.{find, is_sorted}
+use Rattle.std.specs.Ordering.{eq_by_cmp, nat_cmp}
 use Rattle.std.specs.Prelude.{if◌then◌else◌, length, T}
 use Rattle.av_base.specs.Page.{page_of, pages_of}
 use Rattle.av_trace.specs.declared.command.Command.{Command}
@@ -558,7 +559,20 @@ kept-bare l f WriteStarted h = record { cache = h.cache; flight = h.flight; entr
 kept-bare l f NoSlot h = record { cache = h.cache; flight = h.flight; entries = h.entries }
 kept-bare l f Referenced h = record { cache = h.cache; flight = h.flight; entries = λ s. slot_entries-unseen f l s ∙ h.entries s }
 
--- without a device no area is turned on, off, or asked for its slots
+-- without a device no area is on
+pub none-on : (m : Setting) (l : Ledger) → HasNoDevice m → AreasFit m l → l.on ≡ []
+none-on m l none fits = by l.on fits.attached
+  where
+    same : (k : ℕ) → eq_by_cmp nat_cmp k k ≡ true
+    same k = grind (arith, nat_tests)
+
+    by : (on : List (ℕ × SwapArea)) → ((k : ℕ) → is_some (find nat_cmp k on) ≡ true → 0 < size_of m k) → on ≡ []
+    by [] has = refl
+    by (a ∷ on) has =
+        let sized = has a.0 (ap (λ b. is_some (cond b (Some a.1) (find nat_cmp a.0 on))) (same a.0)) in
+        let empty : size_of m a.0 ≡ 0 = ap (λ o. unwrap_or o 0) (none a.0) in absurd (omega (arith, sized, empty))
+
+-- none is turned on, off, or asked for its slots
 pub no-swapon : (m : Setting) (k : ℕ) (rest : Tests) → HasNoDevice m → refusal ((no_device_at m k, Einval) ∷ rest) ≡ None → ⊥
 no-swapon m k rest none fine = by (no_device_at m k) (ap is_none (none k)) fine
   where
@@ -566,12 +580,12 @@ no-swapon m k rest none fine = by (no_device_at m k) (ap is_none (none k)) fine
     by true is h = cc
     by false is h = cc
 
-pub no-area : (m : Setting) (l : Ledger) (k : ℕ) (rest : Tests) → HasNoDevice m → refusal ((is_off m l k, Einval) ∷ rest) ≡ None → ⊥
-no-area m l k rest none fine = by (no_device_at m k) (ap is_none (none k)) fine
+pub no-area : (m : Setting) (l : Ledger) (k : ℕ) (rest : Tests) → HasNoDevice m → AreasFit m l → refusal ((is_off l k, Einval) ∷ rest) ≡ None → ⊥
+no-area m l k rest none fits fine = by (is_on l k) (fits.attached k) fine
   where
-    by : (b : Bool) → b ≡ true → (if b || not (is_on l k) then Some Einval else refusal rest) ≡ None → ⊥
-    by true is h = cc
-    by false is h = cc
+    by : (b : Bool) → (b ≡ true → 0 < size_of m k) → (if not b then Some Einval else refusal rest) ≡ None → ⊥
+    by true has h = let sized = has refl in let empty : size_of m k ≡ 0 = ap (λ o. unwrap_or o 0) (none k) in omega (arith, sized, empty)
+    by false has h = cc
 
 follows-faultless : (m : Setting) (w : World) (l : Ledger) (command : Command) (events : List Event) (answer : Answer) (rows : List Row) → HasNoDevice m →
     InAreas m l → refusal (tests m w l command) ≡ None → Follows m w l command events answer rows → Faultless events answer
@@ -654,7 +668,7 @@ follows-faultless m w l (Complete n) events answer rows none s fine h =
     by (suc n) [] e c = c
     by (suc n) (t ∷ ts) e c = cc
 follows-faultless m w l (Swapon k) events answer rows none s fine h = absurd (no-swapon m k ((is_on l k, Ebusy) ∷ (size_of m k == 0, Einval) ∷ []) none fine)
-follows-faultless m w l (Swapoff k) events answer rows none s fine h = absurd (no-area m l k [] none fine)
+follows-faultless m w l (Swapoff k) events answer rows none s fine h = absurd (no-area m l k [] none s.fits fine)
 follows-faultless m w l (Maps p) events answer rows none s fine h = record {
   notes = ap (λ es. fails (notes_of es)) h.2;
   answered = is-faultless answer _ h.0
@@ -666,7 +680,7 @@ follows-faultless m w l (AsksRmap p a) events answer rows none s fine h =
     record { notes = ap (λ es. fails (notes_of es)) h.1; answered = is-faultless answer _ h.0 (walk-faultless l (entry l (p, page_of a))) }
 follows-faultless m w l (AsksEntry p a) events answer rows none s fine h =
     record { notes = ap (λ es. fails (notes_of es)) h.1; answered = is-faultless answer _ h.0 (entry-faultless l (entry l (p, page_of a))) }
-follows-faultless m w l (AsksSlot k page) events answer rows none s fine h = absurd (no-area m l k ((is_outside m (record { area = k; page = page }), Einval) ∷ []) none fine)
+follows-faultless m w l (AsksSlot k page) events answer rows none s fine h = absurd (no-area m l k ((is_outside m (record { area = k; page = page }), Einval) ∷ []) none s.fits fine)
 follows-faultless m w l Stat events answer rows none s fine h = record {
   notes = ap (λ es. fails (notes_of es)) h.1;
   answered = is-faultless answer _ h.0

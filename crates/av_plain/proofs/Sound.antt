@@ -16,7 +16,7 @@ pub mod Fork
 pub mod Mremap
 pub mod Bound
 pub mod Means
-use Rattle.std.proofs.Common.{◌≡◌, ℕ, suc, ◌≤◌, Bool, true, false, cond, not, ◌&&◌, T, List, [], ◌∷◌, length, Option, Some, None, is_some, option_map, refl, sym, ap, subst, ◌∙◌, arith, ◌==◌, nat_le, if◌then◌else◌}
+use Rattle.std.proofs.Common.{◌≡◌, ℕ, zero, suc, ◌<◌, ◌≤◌, Bool, true, false, cond, not, ◌&&◌, T, List, [], ◌∷◌, length, Option, Some, None, is_some, option_map, refl, sym, ap, subst, ◌∙◌, arith, ◌==◌, nat_le, if◌then◌else◌}
 use Rattle.std.proofs.lemmas.Bool.Decides.{nat_tests}
 use Rattle.std.specs.Prelude.{MatchOption, option_and_then}
 use Rattle.std.specs.Ordering.{nat_cmp, is_lt, eq_by_cmp}
@@ -59,7 +59,7 @@ use Rattle.av_plain.proofs.Sound.Counts.{same-itself}
 use Rattle.av_plain.proofs.Sound.Fork.{forked-kept, forked-no_new}
 use Rattle.av_plain.proofs.Sound.Mremap.{remap-here, remap-kept, remap-no_new, remap-others}
 use Rattle.av_plain.proofs.Sound.Pages.{accesses-at}
-use Rattle.av_plain.proofs.Sound.Swap.{age-sound, land-sound, reclaim-sound}
+use Rattle.av_plain.proofs.Sound.Swap.{age-sound, complete-sound, reclaim-sound}
 use Rattle.av_plain.proofs.Sound.Swap.Area.{turn-on-sound}
 use Rattle.av_plain.proofs.Sound.Swap.Empty.{turn-off-sound}
 use Rattle.av_plain.proofs.Sound.There.{InAreas, accesses-in, there-by}
@@ -479,14 +479,21 @@ follows-sound m w l (Write p a bytes) events answer rows s fine h =
     (lives-loads m w l events p ∙ alive (lives w p) _ fine)
 follows-sound m w l (AsksReclaim n) events answer rows s fine h = loads-sound m w l (after_all l events) events (reclaim-sound m w l n events answer rows s h)
 follows-sound m w l (Age n) events answer rows s fine h = loads-sound m w l (after_all l events) events (age-sound m w l n events answer rows s h)
-follows-sound m w l (Complete n) events answer rows s fine h = loads-sound m w l (after_all l events) events (land-sound m w l n events answer rows s h)
+follows-sound m w l (Complete n) events answer rows s fine h = loads-sound m w l (after_all l events) events (complete-sound m w l n events answer rows s h)
 follows-sound m w l (Swapon k) events answer rows s fine h = loads-sound m w l (after_all l events) events
-    (turn-on-sound m w l k events answer rows s (second (no_device_at m k) (is_on l k) (size_of m k == 0) fine) h)
+    (turn-on-sound m w l k events answer rows s (second (no_device_at m k) (is_on l k) (size_of m k == 0) fine)
+    (third (no_device_at m k) (is_on l k) (size_of m k) fine) h)
   where
     second : (a b c : Bool) → cond a (Some Einval) (cond b (Some Ebusy) (cond c (Some Einval) None)) ≡ None → b ≡ false
     second true b c h = cc
     second false true c h = cc
     second false false c h = refl
+
+    third : (a b : Bool) (n : ℕ) → cond a (Some Einval) (cond b (Some Ebusy) (cond (n == 0) (Some Einval) None)) ≡ None → 0 < n
+    third true b n h = cc
+    third false true n h = cc
+    third false false zero h = cc
+    third false false (suc n) h = omega arith
 follows-sound m w l (Swapoff k) events answer rows s fine h = loads-sound m w l (after_all l events) events (turn-off-sound m w l k events answer rows s h)
 follows-sound m w l (Maps p) events answer rows s fine h = loads-sound m w l (after_all l events) events (unchanged m w l events h.2 s)
 follows-sound m w l (AsksAreas p) events answer rows s fine h = loads-sound m w l (after_all l events) events (unchanged m w l events h.2 s)
@@ -530,7 +537,7 @@ first-sound m = record {
   };
   at_pages = λ p page h. cc;
   in_areas = λ s h. absurd (omega (arith, h));
-  areas_fit = record { rising = tt; fit = λ k. tt };
+  areas_fit = record { rising = tt; attached = λ k is. cc; fit = λ k. tt };
 }
 
 pub transcript-sound : (m : Setting) (w : World) (l : Ledger) (es : List Exchange) (w' : World) (l' : Ledger) → AllSound m w l →

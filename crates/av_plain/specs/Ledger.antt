@@ -4,7 +4,7 @@ use Rattle.std.specs.FinMap.Entries.{find}
 use Rattle.std.specs.List.{list_any, list_all, range_with_len}
 use Rattle.std.specs.Option.{option_map_or}
 use Rattle.std.specs.Ordering.{nat_cmp, ordering_then}
-use Rattle.std.specs.Prelude.{◌≡◌, ℕ, ◌+◌, ◌-◌, Bool, true, false, not, ◌&&◌, ◌==◌, if◌then◌else◌, List, [], ◌∷◌, map, filter, Option, Some, None, is_some, ◌||◌, length, nat_le, nat_lt, sum_by, option_map, ◌*◌, is_none, unwrap_or}
+use Rattle.std.specs.Prelude.{◌≡◌, ℕ, ◌+◌, ◌-◌, Bool, true, false, not, ◌&&◌, ◌==◌, if◌then◌else◌, List, [], ◌∷◌, map, filter, Option, Some, None, is_some, ◌||◌, length, nat_lt, sum_by, option_map, ◌*◌, is_none, unwrap_or}
 use Rattle.std.specs.declared.cmp.Ordering.{Ordering}
 use Rattle.av_swapdev.specs.Header.{Layout}
 use Rattle.av_base.specs.Words.{how_many, is_in}
@@ -158,6 +158,12 @@ is_orphan l s = is_unmapped l (frame_at l s) && not (in_flight l s) && slot_entr
 abbrev pub size_of : Setting → ℕ → ℕ
 size_of m k = unwrap_or (m.sizes k) 0
 
+-- the number of pages that an area uses: by its header where that is told, else all
+abbrev pub pages_used : Setting → ℕ → ℕ
+pages_used m k = option_map_or
+    (λ (headers : ℕ → Option Layout). option_map_or (λ (h : Layout). h.pages) (headers k) 0)
+    m.headers (size_of m k)
+
 -- whether the area is on
 abbrev pub is_on : Ledger → ℕ → Bool
 is_on l k = is_some (find nat_cmp k l.on)
@@ -171,12 +177,6 @@ is_header_slot s (Some h) = nat_lt s.page h.pages && not (is_in s.page h.bad)
 abbrev pub may_be_slot : Slot → Option (ℕ → Option Layout) → Bool
 may_be_slot s None = true
 may_be_slot s (Some headers) = is_header_slot s (headers s.area)
-
--- the page is past the end of its area, where headers are told
-abbrev pub is_past_area : Slot → Option (ℕ → Option Layout) → Bool
-is_past_area s None = false
-is_past_area s (Some headers) =
-    option_map_or (λ (h : Layout). nat_le h.pages s.page) (headers s.area) false
 
 -- what the header says of a page, where it is told: whether it is a slot
 abbrev pub is_usable : Setting → Slot → Bool

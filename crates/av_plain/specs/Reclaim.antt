@@ -32,15 +32,15 @@ names_seen f (InSlot s) = false
 abbrev pub is_referenced : Ledger → ℕ → Bool
 is_referenced l f = list_any (λ (e : Key × Entry). names_seen f e.1) l.entries
 
--- the write of the slot is in flight, if there is one
-abbrev pub is_written : Ledger → Option Slot → Bool
-is_written l None = false
-is_written l (Some s) = in_flight l s
+-- there is a slot, and its write is in flight
+abbrev pub is_in_writeback : Ledger → Option Slot → Bool
+is_in_writeback l None = false
+is_in_writeback l (Some s) = in_flight l s
 
 -- why a frame is kept before it is touched: the first of three tests that holds
 abbrev pub cause_of : Setting → Spared → Ledger → ℕ → Option Cause
 cause_of m spared l f =
-    if is_written l (slot_of l f) then Some Writeback
+    if is_in_writeback l (slot_of l f) then Some Writeback
     else (if is_referenced l f then Some Referenced
     else (if is_stuck m spared l f then Some NoSlot else None))
 
@@ -79,7 +79,7 @@ Ages l n events answer rows =
     (answer ≡ Done) × (events ≡ note_events (map Aged (from_tail n l.active))) × (rows ≡ [])
 
 -- complete: the first n writes in flight
-abbrev pub Lands : Ledger → ℕ → List Event → Answer → List Row → Type 0
-Lands l n events answer rows =
+abbrev pub CompletesFirst : Ledger → ℕ → List Event → Answer → List Row → Type 0
+CompletesFirst l n events answer rows =
     (notes : List Note) × Completes l (take n l.flight) notes
     × (answer ≡ Done) × (events ≡ note_events notes) × (rows ≡ [])

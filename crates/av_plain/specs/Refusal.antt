@@ -15,7 +15,7 @@ use Rattle.av_trace.specs.declared.reply.Errno.{Errno}
 use Rattle.av_trace.specs.declared.reply.Errno.TheVariants.{Ebusy, Efault, Enomem, Eperm, Esrch, Eagain, Eexist, Einval}
 use Rattle.av_trace.specs.declared.row.Row.{Row}
 use Rattle.av_plain.specs.Event.{Event}
-use Rattle.av_plain.specs.Ledger.{Setting, Ledger, is_on, is_past_area, size_of}
+use Rattle.av_plain.specs.Ledger.{Setting, Ledger, is_on, pages_used, size_of}
 use Rattle.av_plain.specs.Mremap.{have_one_prot, is_in_place, leaves_old, target_of}
 use Rattle.av_plain.specs.World.{Process, World, is_mapped, pages, lives, meets}
 
@@ -110,13 +110,13 @@ mremap_tests q a old new mode =
 abbrev pub no_device_at : Setting → ℕ → Bool
 no_device_at m k = is_none (m.sizes k)
 
--- nor is the area on
-abbrev pub is_off : Setting → Ledger → ℕ → Bool
-is_off m l k = no_device_at m k || not (is_on l k)
+-- the swap area is off; so is one that isn't attached, since one that is on has pages
+abbrev pub is_off : Ledger → ℕ → Bool
+is_off l k = not (is_on l k)
 
--- the area, of a device of so many pages, has no slot at the page: it is page 0, or past the end
+-- the area has no slot at the page: it is the header's, or past the pages that the area uses
 abbrev pub is_outside : Setting → Slot → Bool
-is_outside m s = s.page == 0 || nat_le (size_of m s.area) s.page || is_past_area s m.headers
+is_outside m s = s.page == 0 || nat_le (pages_used m s.area) s.page
 
 -- the tests of each command
 abbrev pub tests : Setting → World → Ledger → Command → Tests
@@ -139,13 +139,13 @@ tests m w l (Age n) = []
 tests m w l (Complete n) = []
 tests m w l (Swapon k) =
     (no_device_at m k, Einval) ∷ (is_on l k, Ebusy) ∷ (size_of m k == 0, Einval) ∷ []
-tests m w l (Swapoff k) = (is_off m l k, Einval) ∷ []
+tests m w l (Swapoff k) = (is_off l k, Einval) ∷ []
 tests m w l (Maps p) = no_process w p ∷ []
 tests m w l (AsksAreas p) = no_process w p ∷ []
 tests m w l (AsksRmap p a) = no_process w p ∷ no_page w p a ∷ []
 tests m w l (AsksEntry p a) = no_process w p ∷ no_page w p a ∷ []
 tests m w l (AsksSlot k page) =
-    (is_off m l k, Einval) ∷ (is_outside m (record { area = k; page = page }), Einval) ∷ []
+    (is_off l k, Einval) ∷ (is_outside m (record { area = k; page = page }), Einval) ∷ []
 tests m w l Stat = []
 
 -- the first test that holds

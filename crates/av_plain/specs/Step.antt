@@ -17,7 +17,7 @@ use Rattle.av_plain.specs.Map.{Unmaps, MapsAt, Protects, with_prot_to_hole}
 use Rattle.av_plain.specs.Mremap.{Remaps, prot_left, process_after_mremap}
 use Rattle.av_plain.specs.Pass.{fails}
 use Rattle.av_plain.specs.Process.{Spawns, Exits}
-use Rattle.av_plain.specs.Reclaim.{Ages, Lands, Reclaims}
+use Rattle.av_plain.specs.Reclaim.{Ages, CompletesFirst, Reclaims}
 use Rattle.av_plain.specs.Refusal.{tests, refusal, Refuses, wraps}
 use Rattle.av_plain.specs.Report.{ReportsAreas, ReportsEntry, ReportsRuns, ReportsSlot, ReportsTotals, ReportsWalk}
 use Rattle.av_plain.specs.Swapoff.{TurnsOff}
@@ -75,7 +75,7 @@ Follows m w l (Write p a bytes) events answer rows =
     WritesPages m w l p a (length bytes) events answer rows
 Follows m w l (Reclaim n) events answer rows = Reclaims m w l n events answer rows
 Follows m w l (Age n) events answer rows = Ages l n events answer rows
-Follows m w l (Complete n) events answer rows = Lands l n events answer rows
+Follows m w l (Complete n) events answer rows = CompletesFirst l n events answer rows
 Follows m w l (Swapon k) events answer rows = TurnsOn m k events answer rows
 Follows m w l (Swapoff k) events answer rows = TurnsOff m w l k events answer rows
 Follows m w l (Maps p) events answer rows = ReportsRuns (pages w p) events answer rows

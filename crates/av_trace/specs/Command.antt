@@ -20,8 +20,8 @@ abbrev pub IsAreaNumber : ℕ → Type 0
 IsAreaNumber k = IsNumberIn 0 7 k
 
 -- how many frames or slots a command goes over, at most
-abbrev pub IsHowMany : ℕ → Type 0
-IsHowMany n = IsNumberIn 1 most_frames n
+abbrev pub IsFrameCount : ℕ → Type 0
+IsFrameCount n = IsNumberIn 1 most_frames n
 
 -- the values of the command are in range
 abbrev pub IsInRange : Command → Type 0
@@ -36,9 +36,9 @@ IsInRange (commands.Mremap p address old_len new_len mode) =
 IsInRange (commands.Read p address len) =
     IsProcess p × IsWide address × IsNumberIn 1 page_size len
 IsInRange (commands.Write p address bytes) = IsProcess p × IsWide address × IsData bytes
-IsInRange (commands.Reclaim n) = IsHowMany n
-IsInRange (commands.Age n) = IsHowMany n
-IsInRange (commands.Complete n) = IsHowMany n
+IsInRange (commands.Reclaim n) = IsFrameCount n
+IsInRange (commands.Age n) = IsFrameCount n
+IsInRange (commands.Complete n) = IsFrameCount n
 IsInRange (commands.Swapon k) = IsAreaNumber k
 IsInRange (commands.Swapoff k) = IsAreaNumber k
 IsInRange (commands.Maps p) = IsProcess p

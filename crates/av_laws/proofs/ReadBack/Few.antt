@@ -239,7 +239,7 @@ legal-new m w l command reply es none sound fit legal = by (refusal (tests m w l
     follows (Age n) fit fine q = noted (map Aged (from_tail n l.active)) q.1 (bring-ages (λ k. false) (from_tail n l.active))
     follows (Complete n) fit fine q = noted q.0 q.3 (bring-completes (λ k. false) l (take n l.flight) q.0 q.1)
     follows (Swapon k) fit fine q = absurd (no-swapon m k ((is_on l k, Ebusy) ∷ (size_of m k == 0, Einval) ∷ []) none fine)
-    follows (Swapoff k) fit fine q = absurd (no-area m l k [] none fine)
+    follows (Swapoff k) fit fine q = absurd (no-area m l k [] none sound.areas_fit fine)
     follows (Maps p) fit fine q = quiet [] q.2 refl
     follows (AsksAreas p) fit fine q = quiet [] q.2 refl
     follows (AsksRmap p a) fit fine q = quiet [] q.1 refl

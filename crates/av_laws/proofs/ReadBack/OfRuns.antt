@@ -1,7 +1,7 @@
 -- All states of a run are small, where no device is attached: so each of its replies is read back.
 use Rattle.std.specs.List.{AllByRecursion}
 use Rattle.std.specs.Prelude.{MatchOption}
-use Rattle.std.proofs.Common.{◌≡◌, ℕ, ◌+◌, ◌*◌, ◌^◌, ◌≤◌, length, true, false, List, [], ◌∷◌, Option, Some, None, refl, sym, subst, arith}
+use Rattle.std.proofs.Common.{◌≡◌, ℕ, ◌+◌, ◌*◌, ◌^◌, ◌≤◌, length, true, false, List, [], ◌∷◌, Option, Some, None, sym, subst, arith}
 use Rattle.av_base.specs.Limits.{top_page}
 use Rattle.av_trace.specs.Command.{IsInRange}
 use Rattle.av_text.specs.Number.{IsWide}
@@ -45,7 +45,7 @@ asked-now m old command reply new made covers wide h = tt
 
 runs-back : (m : Setting) (most : ℕ) (old : State) (es : List Exchange) (new : State) → HasNoDevice m
     → top_page ≤ most → most + length es * top_page ≤ 2 ^ 60
-    → AllSound m old.world old.ledger → IsSmall m old.world old.ledger
+    → AllSound m old.world old.ledger → IsSmall m old.world
     → AreMade (rmap_of old) → CoverBelow most old.world old.areas
     → old.anons.next + length es * (2 * top_page) ≤ 2 ^ 62
     → AllByRecursion (λ (e : Exchange). IsInRange e.command) es
@@ -55,7 +55,7 @@ runs-back m most old (e ∷ es) new none high room sound small made covers few f
   legal-reads_back m old.world old.ledger e.command e.reply h.1.events none sound small fit.0
       (asked-now m old e.command e.reply h.0 made covers.cover (omega (arith, few)) h.1) h.1.legal,
   runs-back m (most + top_page) h.0 es new none (omega arith) (omega arith) (step-sound m old e.command e.reply h.0 sound h.1)
-      (step-small m old h.0 e.command e.reply none fit.0 small h.1)
+      (step-small m old h.0 e.command e.reply fit.0 small h.1)
       (step-makes m old e.command e.reply h.0 made h.1).made
       (step-covers m most old e.command e.reply h.0 high (omega arith) covers h.1)
       (let more = step-few m most old e.command e.reply h.0 none high sound covers fit.0 h.1 in
@@ -67,7 +67,7 @@ pub run-reads_back : (m : Setting) (es : List Exchange) (new : State) → HasNoD
     → IsRun m (at_first m) es new
     → AllByRecursion (λ (e : Exchange). IsReply e.reply) es
 run-reads_back m es new none wide short fit h = runs-back m top_page (at_first m) es new none (omega arith) (omega arith) (first-sound m)
-    (record { frames = wide; below = λ p page h. absurd (never_some h); processes = λ p page h. absurd (never_some h); off = refl })
+    (record { frames = wide; below = λ p page h. absurd (never_some h); processes = λ p page h. absurd (never_some h) })
     (record { owns = λ p page. tt; chains = λ v. tt }) (first-covers m) (omega arith) fit h
   where
     never_some : false ≡ true → ⊥

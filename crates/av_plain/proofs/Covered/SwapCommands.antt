@@ -21,7 +21,7 @@ use Rattle.av_plain.specs.Fault.{sparing}
 use Rattle.av_plain.specs.Fork.{IsRmapNext}
 use Rattle.av_plain.specs.Ledger.{Key, Ledger, Setting, entry, frame_at, keys_of_slot, slot_entries, slots_in_use}
 use Rattle.av_plain.specs.Pass.{Spared, TakesFor}
-use Rattle.av_plain.specs.Reclaim.{Ages, Lands, Reclaims, from_tail}
+use Rattle.av_plain.specs.Reclaim.{Ages, CompletesFirst, Reclaims, from_tail}
 use Rattle.av_plain.specs.Refusal.{Refuses, refusal, tests}
 use Rattle.av_plain.specs.Sound.{AllSound, IsSound, count, slots}
 use Rattle.av_plain.specs.Step.{Follows, IsLegal}
@@ -116,9 +116,9 @@ age-reach : (l : Ledger) (r : Rmap) (n : ℕ) (events : List Event) (answer : An
 age-reach l r n events answer rows s h =
     subst (Reaches l r) (sym h.1) (noted-reach l r (map Aged (from_tail n l.active)) (fit-ages l (from_tail n l.active)) s)
 
-land-reach : (l : Ledger) (r : Rmap) (n : ℕ) (events : List Event) (answer : Answer) (rows : List Row) → Reach l r → Lands l n events answer rows →
+complete-reach : (l : Ledger) (r : Rmap) (n : ℕ) (events : List Event) (answer : Answer) (rows : List Row) → Reach l r → CompletesFirst l n events answer rows →
     Reaches l r events
-land-reach l r n events answer rows s h = subst (Reaches l r) (sym h.3) (noted-reach l r h.0 (fit-completes l (take n l.flight) h.0 h.1) s)
+complete-reach l r n events answer rows s h = subst (Reaches l r) (sym h.3) (noted-reach l r h.0 (fit-completes l (take n l.flight) h.0 h.1) s)
 
 turn-on-reach : (m : Setting) (l : Ledger) (r : Rmap) (k : ℕ) (events : List Event) (answer : Answer) (rows : List Row) → Reach l r →
     TurnsOn m k events answer rows → Reaches l r events
@@ -167,7 +167,7 @@ follows-reach : (m : Setting) (w : World) (l : Ledger) (r : Rmap) (command : Com
     moves_swap command ≡ true → AllSound m w l → Reach l r → Follows m w l command events answer rows → Reaches l r events
 follows-reach m w l r (Reclaim n) events answer rows is s h f = reclaim-reach m w l r n events answer rows h f
 follows-reach m w l r (Age n) events answer rows is s h f = age-reach l r n events answer rows h f
-follows-reach m w l r (Complete n) events answer rows is s h f = land-reach l r n events answer rows h f
+follows-reach m w l r (Complete n) events answer rows is s h f = complete-reach l r n events answer rows h f
 follows-reach m w l r (Swapon k) events answer rows is s h f = turn-on-reach m l r k events answer rows h f
 follows-reach m w l r (Swapoff k) events answer rows is s h f = turn-off-reach m w l r k events answer rows s h f
 follows-reach m w l r command events answer rows is s h f = cc

@@ -11,7 +11,7 @@ use Rattle.av_trace.specs.declared.note.Note.TheVariants.{Aged, Dropped, Kept, S
 use Rattle.av_plain.specs.Event.{after_note, after_notes, change_entries, without_seen}
 use Rattle.av_plain.specs.Ledger.{Entry, InFrame, InSlot, Ledger, Setting, Zero, entry, in_flight, key_cmp, may_give, same_slot, slot_of}
 use Rattle.av_plain.specs.Pass.{IsSlotFor, Spared, is_dirty, is_stuck, unmap_notes}
-use Rattle.av_plain.specs.Reclaim.{Outcome, Outcomes, cause_of, from_tail, is_referenced, is_written, leave_notes}
+use Rattle.av_plain.specs.Reclaim.{Outcome, Outcomes, cause_of, from_tail, is_referenced, is_in_writeback, leave_notes}
 use Rattle.av_plain.specs.Sound.{IsSound, IsSoundBut, flights, holders, name_one, no_excuse, slots, uses}
 use Rattle.av_plain.proofs.Access.{after_notes-append}
 use Rattle.av_plain.proofs.Event.{entry-unseen, is_sorted-map, map_count-unseen, slot_entries-unseen, to_unseen}
@@ -104,18 +104,18 @@ kept-kept m l f Referenced s in_use = record {
 }
 
 -- the slot that a frame goes to isn't in flight
-not_flying : (m : Setting) (sp : Spared) (l : Ledger) (f : ℕ) (t : Slot) → IsSound m l → IsSlotFor m sp l f t → is_written l (slot_of l f) ≡ false →
+not_flying : (m : Setting) (sp : Spared) (l : Ledger) (f : ℕ) (t : Slot) → IsSound m l → IsSlotFor m sp l f t → is_in_writeback l (slot_of l f) ≡ false →
     flights l t ≡ 0
 not_flying m sp l f t s for idle = by (slot_of l f) for idle
   where
     zero_is : (n : ℕ) → nat_lt 0 n ≡ false → n ≡ 0
     zero_is n h = grind (arith, nat_tests, h)
 
-    by : (o : Option Slot) → MatchOption o (IsTrue (may_give m sp.closing l t)) (λ r. t ≡ r) → is_written l o ≡ false → flights l t ≡ 0
+    by : (o : Option Slot) → MatchOption o (IsTrue (may_give m sp.closing l t)) (λ r. t ≡ r) → is_in_writeback l o ≡ false → flights l t ≡ 0
     by None may h = let n = (given-nowhere m sp.closing l t may).uncached in let g = s.flying t in omega (arith, n, g)
     by (Some r) same h = zero_is (flights l t) (sym (any-counts (same_slot t) l.flight) ∙ ap (in_flight l) same ∙ h)
 
-pub leave-kept : (m : Setting) (sp : Spared) (l : Ledger) (f : ℕ) (t : Slot) → IsSound m l → IsSlotFor m sp l f t → is_written l (slot_of l f) ≡ false →
+pub leave-kept : (m : Setting) (sp : Spared) (l : Ledger) (f : ℕ) (t : Slot) → IsSound m l → IsSlotFor m sp l f t → is_in_writeback l (slot_of l f) ≡ false →
     0 < uses l f → OutcomeKept m l f (after_notes l (leave_notes l f t))
 leave-kept m sp l f t s for idle in_use = subst (OutcomeKept m l f)
     (sym (after_notes-append l (unmap_notes l f t) (cond (is_dirty l f t) (Started t ∷ Kept f WriteStarted ∷ []) (Dropped t ∷ [])))) (goes (is_dirty l f t))
@@ -149,8 +149,8 @@ leave-kept m sp l f t s for idle in_use = subst (OutcomeKept m l f)
         }
 
 -- a frame that no test keeps isn't in writeback
-idle_of : (m : Setting) (sp : Spared) (l : Ledger) (f : ℕ) → cause_of m sp l f ≡ None → is_written l (slot_of l f) ≡ false
-idle_of m sp l f h = by (is_written l (slot_of l f)) (is_referenced l f) (is_stuck m sp l f) h
+idle_of : (m : Setting) (sp : Spared) (l : Ledger) (f : ℕ) → cause_of m sp l f ≡ None → is_in_writeback l (slot_of l f) ≡ false
+idle_of m sp l f h = by (is_in_writeback l (slot_of l f)) (is_referenced l f) (is_stuck m sp l f) h
   where
     by : (a b c : Bool) → cond a (Some Writeback) (cond b (Some Referenced) (cond c (Some NoSlot) None)) ≡ None → a ≡ false
     by true b c h = cc

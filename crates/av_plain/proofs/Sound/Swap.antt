@@ -14,7 +14,7 @@ use Rattle.av_plain.specs.Event.{Event, after_all, after_note, after_notes, note
 use Rattle.av_plain.specs.Fault.{sparing}
 use Rattle.av_plain.specs.Ledger.{Key, Ledger, Setting, map_count, slot_of}
 use Rattle.av_plain.specs.Pass.{Completes, IsSlotFor, Spared, is_dirty, unmap_notes}
-use Rattle.av_plain.specs.Reclaim.{Ages, Lands, Outcome, Outcomes, Reclaims, cause_of, from_tail, leave_notes}
+use Rattle.av_plain.specs.Reclaim.{Ages, CompletesFirst, Outcome, Outcomes, Reclaims, cause_of, from_tail, leave_notes}
 use Rattle.av_plain.specs.Sound.{AllSound, AreThere, AreasFit, IsSound}
 use Rattle.av_plain.specs.World.{World}
 use Rattle.av_plain.proofs.Access.{note_events-all}
@@ -142,6 +142,6 @@ completes-hold m w l ts notes h c =
     notes-hold m w sp.closing l notes h (completes-kept m l ts notes h.sound c).sound (bring-completes (at_page w) l ts notes c)
     (lawful-completes m sp l ts notes c)
 
-pub land-sound : (m : Setting) (w : World) (l : Ledger) (n : ℕ) (events : List Event) (answer : Answer) (rows : List Row) → AllSound m w l →
-    Lands l n events answer rows → AllSound m w (after_all l events)
-land-sound m w l n events answer rows s h = noted-sound m w l h.0 events s (completes-hold m w l (take n l.flight) h.0 (of-sound m w l s) h.1) h.3
+pub complete-sound : (m : Setting) (w : World) (l : Ledger) (n : ℕ) (events : List Event) (answer : Answer) (rows : List Row) → AllSound m w l →
+    CompletesFirst l n events answer rows → AllSound m w (after_all l events)
+complete-sound m w l n events answer rows s h = noted-sound m w l h.0 events s (completes-hold m w l (take n l.flight) h.0 (of-sound m w l s) h.1) h.3

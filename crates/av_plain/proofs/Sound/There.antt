@@ -1,5 +1,5 @@
 -- Each slot in use is a slot of an area that is on, and no area has more in use than it has: only a `put` brings one into use.
-use Rattle.std.proofs.Common.{◌≡◌, ◌⊎◌, inl, inr, ℕ, ◌+◌, ◌<◌, Bool, true, false, cond, not, ◌&&◌, if◌then◌else◌, T, List, [], ◌∷◌, ◌++◌, Option, Some, None, refl, sym, ap, subst, ◌∙◌, arith, ◌==◌, nat_lt, is_none, length, filter, ◌≤◌, ◌-◌, IfSome, nat_cmp, zero, suc}
+use Rattle.std.proofs.Common.{◌≡◌, ◌⊎◌, inl, inr, ℕ, ◌+◌, ◌<◌, Bool, true, false, cond, not, ◌&&◌, if◌then◌else◌, T, List, [], ◌∷◌, ◌++◌, Option, Some, None, refl, sym, ap, subst, ◌∙◌, arith, ◌==◌, nat_lt, is_none, length, filter, ◌≤◌, ◌-◌, IfSome, is_some, nat_cmp, zero, suc}
 use Rattle.std.proofs.lemmas.Bool.Decides.{nat_tests}
 use Rattle.std.specs.Option.{option_map_or}
 use Rattle.std.specs.FinMap.Entries.{find, is_sorted}
@@ -104,6 +104,7 @@ one-more-passes p q t a (suc n) h = at (a == t) refl (one-more-passes p q t (a +
 fits-less : (m : Setting) (l l' : Ledger) → l'.on ≡ l.on → ((s : Slot) → 0 < count l' s → 0 < count l s) → AreasFit m l → AreasFit m l'
 fits-less m l l' on h f = record {
   rising = subst (λ o. T (is_sorted nat_cmp o)) (sym on) f.rising;
+  attached = λ k is. f.attached k (ap (λ o. is_some (find nat_cmp k o)) (sym on) ∙ is);
   fit = λ k. subst (λ o. IfSome (find nat_cmp k o) (λ area. length (slots_in_use m l' k) ≤ area.slots)) (sym on) (by k (find nat_cmp k l.on) (f.fit k));
 }
   where
@@ -126,7 +127,7 @@ fits-less m l l' on h f = record {
 
 -- one slot more comes into use, of an area that has a free one
 fits-put : (m : Setting) (l : Ledger) (f : ℕ) (t : Slot) → has_free_slot m l t.area ≡ true → AreasFit m l → AreasFit m (after_note (Put f t) l)
-fits-put m l f t free fits = record { rising = fits.rising; fit = λ k. by k (k == t.area) refl (find nat_cmp k l.on) refl (fits.fit k) }
+fits-put m l f t free fits = record { rising = fits.rising; attached = fits.attached; fit = λ k. by k (k == t.area) refl (find nat_cmp k l.on) refl (fits.fit k) }
   where
     l' : Ledger
     l' = after_note (Put f t) l
@@ -211,9 +212,9 @@ lawful-no_new m closing l note sorted lawful = go note lawful
     go : (note : Note) → IsLawful m closing l note → NoNew m l (after_note note l)
     go (Zeroed p a) h = fewer (key_at p a) Zero (λ s. refl)
     go (New p a f) h = let r = fewer (key_at p a) (InFrame f false) (λ s. refl) in
-        record { on_same = r.on_same; fits = λ x. record { rising = (r.fits x).rising; fit = (r.fits x).fit }; came = r.came }
+        record { on_same = r.on_same; fits = λ x. record { rising = (r.fits x).rising; attached = (r.fits x).attached; fit = (r.fits x).fit }; came = r.came }
     go (Copied p a f) h = let r = fewer (key_at p a) (InFrame f false) (λ s. refl) in
-        record { on_same = r.on_same; fits = λ x. record { rising = (r.fits x).rising; fit = (r.fits x).fit }; came = r.came }
+        record { on_same = r.on_same; fits = λ x. record { rising = (r.fits x).rising; attached = (r.fits x).attached; fit = (r.fits x).fit }; came = r.came }
     go (Mapped p a f) h = fewer (key_at p a) (InFrame f false) (λ s. refl)
     go (Loaded t f) h = less m l (after_note (Loaded t f) l) refl (λ s i. by s (same_slot s t) refl i)
       where

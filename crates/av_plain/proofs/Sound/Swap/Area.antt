@@ -114,13 +114,19 @@ module _ (m : Setting) (w : World) (l : Ledger) (k slots bad : ℕ) (s : AllSoun
       by false o e h = ap (λ x. is_some x && nat_lt 0 t.page && nat_lt t.page (size_of m t.area) && is_usable m t) e ∙ h
       by true None e h = cc
 
-  fit-on : AreasFit m now_on
-  fit-on = record {
+  fit-on : 0 < size_of m k → AreasFit m now_on
+  fit-on has = record {
     rising = is_sorted-put nat_cmp nat_cmp_total k (record { slots = slots; bad = bad }) l.on s.areas_fit.rising;
+    attached = λ j is. attached_at j (eq_by_cmp nat_cmp j k) refl (sym (ap is_some (found-on j)) ∙ is);
     fit = λ j. subst (λ o. IfSome o (λ area. length (slots_in_use m l j) ≤ area.slots)) (sym (found-on j))
         (by j (eq_by_cmp nat_cmp j k) refl (find nat_cmp j l.on) (s.areas_fit.fit j));
   }
     where
+      attached_at : (j : ℕ) (b : Bool) → eq_by_cmp nat_cmp j k ≡ b →
+          is_some (cond b (Some (record { slots = slots; bad = bad })) (find nat_cmp j l.on)) ≡ true → 0 < size_of m j
+      attached_at j true same is = let e : k ≡ j = grind (arith, nat_tests, same) in subst (λ n. 0 < size_of m n) e has
+      attached_at j false other is = s.areas_fit.attached j is
+
       by : (j : ℕ) (b : Bool) → eq_by_cmp nat_cmp j k ≡ b → (o : Option SwapArea) → IfSome o (λ area. length (slots_in_use m l j) ≤ area.slots) →
           IfSome (cond b (Some (record { slots = slots; bad = bad })) o) (λ area. length (slots_in_use m l j) ≤ area.slots)
       by j true is o h =
@@ -128,8 +134,8 @@ module _ (m : Setting) (w : World) (l : Ledger) (k slots bad : ℕ) (s : AllSoun
           let none = ap length (ap (slots_in_use m l) same ∙ off-unused m l k s.in_areas off) in omega (arith, none)
       by j false is o h = h
 
-  pub turned-on-sound : AllSound m w now_on
-  turned-on-sound = record {
+  pub turned-on-sound : 0 < size_of m k → AllSound m w now_on
+  turned-on-sound has = record {
     world = s.world;
     ledger = record {
       in_order = s.ledger.in_order;
@@ -143,7 +149,7 @@ module _ (m : Setting) (w : World) (l : Ledger) (k slots bad : ℕ) (s : AllSoun
     };
     at_pages = s.at_pages;
     in_areas = there-on;
-    areas_fit = fit-on;
+    areas_fit = fit-on has;
   }
 
 -- nothing happens, or the area is turned on
@@ -171,13 +177,13 @@ turn-on-events k (SlotCount slot n f) = inl refl
 turn-on-events k (Counted totals) = inl refl
 
 pub turn-on-sound : (m : Setting) (w : World) (l : Ledger) (k : ℕ) (events : List Event) (answer : Answer) (rows : List Row) → AllSound m w l →
-    is_on l k ≡ false → TurnsOn m k events answer rows → AllSound m w (after_all l events)
-turn-on-sound m w l k events answer rows s off h = subst (λ es. AllSound m w (after_all l es)) (sym h.1) (by (turn-on-events k answer))
+    is_on l k ≡ false → 0 < size_of m k → TurnsOn m k events answer rows → AllSound m w (after_all l events)
+turn-on-sound m w l k events answer rows s off has h = subst (λ es. AllSound m w (after_all l es)) (sym h.1) (by (turn-on-events k answer))
   where
     by : (turn_on_events k answer ≡ []) ⊎ ((slots : ℕ) × (bad : ℕ) × (turn_on_events k answer ≡ TurnedOn k slots bad ∷ [])) →
         AllSound m w (after_all l (turn_on_events k answer))
     by (inl e) = subst (λ es. AllSound m w (after_all l es)) (sym e) s
-    by (inr (slots, bad, e)) = subst (λ es. AllSound m w (after_all l es)) (sym e) (turned-on-sound m w l k slots bad s off)
+    by (inr (slots, bad, e)) = subst (λ es. AllSound m w (after_all l es)) (sym e) (turned-on-sound m w l k slots bad s off has)
 
 -- ---- an area is turned off
 
@@ -198,10 +204,15 @@ module _ (m : Setting) (w : World) (l : Ledger) (k : ℕ) (s : AllSound m w l) (
   fit-off : AreasFit m now_off
   fit-off = record {
     rising = is_sorted-where_key nat_cmp (λ q. not (q == k)) l.on s.areas_fit.rising;
+    attached = λ j is. attached_at j (not (j == k)) (sym (ap is_some (found-off j)) ∙ is);
     fit = λ j. subst (λ o. IfSome o (λ area. length (slots_in_use m l j) ≤ area.slots)) (sym (found-off j))
         (by j (j == k) (find nat_cmp j l.on) (s.areas_fit.fit j));
   }
     where
+      attached_at : (j : ℕ) (b : Bool) → is_some (cond b (find nat_cmp j l.on) None) ≡ true → 0 < size_of m j
+      attached_at j true is = s.areas_fit.attached j is
+      attached_at j false is = cc
+
       by : (j : ℕ) (b : Bool) (o : Option SwapArea) → IfSome o (λ area. length (slots_in_use m l j) ≤ area.slots) →
           IfSome (cond (not b) o None) (λ area. length (slots_in_use m l j) ≤ area.slots)
       by j true o h = tt
