@@ -560,7 +560,8 @@ module _ (most : ℕ) (enough : top_page ≤ most) where
       at None goes e = subst (λ x. Low (next now (Mmap p len prot place) x) (next_areas long on w (Mmap p len prot place) x)) (sym e) c
       at (Some page) goes e = subst (λ x. Low (next now (Mmap p len prot place) x) (next_areas long on w (Mmap p len prot place) x)) (sym e)
           (covers_set now on p _ _ c (covers_mapped long p (pages now p) (with_room (pages_of len) place (on p)) (page_of (address_of page)) (pages_of len) prot
-          (subst (λ f. Room (pages now p) (with_room (pages_of len) place (on p)) f (pages_of len)) (sym (back page)) (mmap-room m w now l on p len prot place es page same c none goes h.3))))
+          (subst (λ f. Room (pages now p) (with_room (pages_of len) place (on p)) f (pages_of len)) (sym (back page))
+          (mmap-room m w now l on p len prot place es page same c none goes h.3))))
   covers-follows m w now l long on (Munmap p a len) es answer rows other unmoved same c none h = subst
       (λ x. Low (next now (Munmap p a len) x) (next_areas long on w (Munmap p a len) x)) (sym h.0)
       (covers_set now on p _ _ c (covers_unmapped (pages now p) (on p) (page_of a) (pages_of len) (covers_one now on p c)))

@@ -717,7 +717,8 @@ switch-inv m l l' k made old new is counts on unused none untaken there sum off 
 -- no slot comes back where no count changes
 none-back : (m : Setting) (l l' : Ledger) (k : ℕ) → ((s : Slot) → slot_count l' s ≡ slot_count l s) → new_free_slots m l l' k ≡ []
 none-back m l l' k counts = none-passes (λ page. let s : Slot = record { area = k; page = page } in slot_count l' s == 0 && nat_lt 0 (slot_count l s)) 1
-    (size_of m k - 1) (λ page. let s : Slot = record { area = k; page = page } in ap (λ n. n == 0 && nat_lt 0 (slot_count l s)) (counts s) ∙ no (slot_count l s))
+    (size_of m k - 1) (λ page. let s : Slot = record { area = k; page = page } in ap (λ n. n == 0 && nat_lt 0 (slot_count l s)) (counts s)
+    ∙ no (slot_count l s))
   where
     no : (n : ℕ) → (n == 0 && nat_lt 0 n) ≡ false
     no n = grind (arith, nat_tests)
@@ -735,7 +736,8 @@ turned-on-inv m w l k slots bad free free' s layouts off c inv =
     let d = c.1.slots in
     let is = fresh-is m k slots bad d.2.0 (layouts k) d.2.1 in
     switch-inv m l (after l (TurnedOn k slots bad)) k d.2.0 free.slots free'.slots
-    (λ j. ap (λ (f : Free). f.slots j) c.2 ∙ ap (λ (n : AreaSlots). n j) d.4 ∙ ap (fold give_slot (d.1 j)) (none-back m l (after l (TurnedOn k slots bad)) j (λ t. refl))
+    (λ j. ap (λ (f : Free). f.slots j) c.2 ∙ ap (λ (n : AreaSlots). n j) d.4
+    ∙ ap (fold give_slot (d.1 j)) (none-back m l (after l (TurnedOn k slots bad)) j (λ t. refl))
     ∙ ap (λ (n : AreaSlots). n j) (d.3 ∙ d.2.2))
     (λ t. refl) (λ j other. found-on m w l k slots bad s off j ∙ ap (λ b. cond b (Some (record { slots = slots; bad = bad })) (find nat_cmp j l.on))
     (apart j k other))
@@ -755,7 +757,8 @@ turned-on-inv m w l k slots bad free free' s layouts off c inv =
 
     there : (page : ℕ) → (nat_lt 0 page && nat_lt page (size_of m k) && is_usable m (record { area = k; page = page })) ≡ true
         → is_there m (after l (TurnedOn k slots bad)) (record { area = k; page = page }) ≡ true
-    there page h = by (is_on (after l (TurnedOn k slots bad)) k) (nat_lt 0 page) (nat_lt page (size_of m k)) (is_usable m (record { area = k; page = page })) on_now h
+    there page h = by (is_on (after l (TurnedOn k slots bad)) k) (nat_lt 0 page) (nat_lt page (size_of m k))
+        (is_usable m (record { area = k; page = page })) on_now h
       where
         by : (a b c d : Bool) → a ≡ true → (b && c && d) ≡ true → (a && b && c && d) ≡ true
         by true b c d e h = h
@@ -959,7 +962,8 @@ step-lists_slots m old command reply new layouts s h step = subst (λ l. ListsSl
     (legal-inv m old.world old.ledger command reply step.events old.free new.free s layouts step.legal step.free
     (to_inv m old.world old.ledger old.free.slots s h)))
 
-run-from : (m : Setting) (old : State) (es : List Exchange) (new : State) → AreLayouts m → AllSound m old.world old.ledger → ListsSlots m old.ledger old.free.slots
+run-from : (m : Setting) (old : State) (es : List Exchange) (new : State) → AreLayouts m → AllSound m old.world old.ledger →
+    ListsSlots m old.ledger old.free.slots
     → IsRun m old es new
     → ListsSlots m new.ledger new.free.slots
 run-from m old [] new layouts s h q = subst (λ (x : State). ListsSlots m x.ledger x.free.slots) (sym q) h

@@ -150,7 +150,8 @@ never-both m closing told sp k l free page pages a b rest end read h g x y = by 
         let fs = given-parts m closing l free h.fetched (map_notes (after_notes l h.fetched) s h.frame) (given-is m closing l free a _ h.whole xs.1) in
         let ts = given-parts m closing l free taken.sought (Loaded s taken.frame ∷ []) (given-is m closing l free h.fetched _ taken.whole fs.1) in
         let same = seeks-one m closing told sp l free taken.sought b taken.seeks g.1 ts.1 y in
-        let free_there = ap (λ ns. has_free m (after_notes l ns)) (sym same) ∙ has_free-some m (after_notes l taken.sought) taken.frame taken.in_range taken.free in
+        let free_there = ap (λ ns. has_free m (after_notes l ns)) (sym same)
+        ∙ has_free-some m (after_notes l taken.sought) taken.frame taken.in_range taken.free in
         unread (has_free m (after_notes l b)) free_there (subst IsRead g.2 read)
       where
         unread : (c : Bool) → c ≡ true → IsRead (if c then Unread else NoRoom (out_of m None sp (after_notes l b))) → ⊥

@@ -444,7 +444,8 @@ follows-fit m w l (Age n) events answer rows none s small fit fine out wide h =
     )
 follows-fit m w l (Complete n) events answer rows none s small fit fine out wide h =
     fits-by events (note_events h.0) answer Done rows [] h.3 h.2 h.4
-    (fits-notes (note_events h.0) Done [] (notes_of-note_events h.0 ∙ nothing-completes l n l.flight h.0 (no-slots m l none (in-areas m w l s)).flight h.1) tt (tt, refl))
+    (fits-notes (note_events h.0) Done [] (notes_of-note_events h.0 ∙ nothing-completes l n l.flight h.0
+    (no-slots m l none (in-areas m w l s)).flight h.1) tt (tt, refl))
 follows-fit m w l (Swapon k) events answer rows none s small fit fine out wide h =
     absurd (no-swapon m k ((is_on l k, Ebusy) ∷ (size_of m k == 0, Einval) ∷ []) none fine)
 follows-fit m w l (Swapoff k) events answer rows none s small fit fine out wide h = absurd (no-area m l k [] none s.areas_fit fine)
@@ -501,7 +502,8 @@ legal-reads_back m w l command reply events none s small fit wide legal =
         small.frames in
         (omega (arith, sum, frames), omega (arith, sum, frames), omega (arith, sum, frames))
 
-    by : (o : Option Errno) → refusal (tests m w l command) ≡ o → MatchOption o (Follows m w l command events reply.answer reply.rows) (λ error. Refuses error events reply.answer reply.rows) →
+    by : (o : Option Errno) → refusal (tests m w l command) ≡ o → MatchOption o (Follows m w l command events reply.answer reply.rows)
+        (λ error. Refuses error events reply.answer reply.rows) →
         Fits events reply.answer reply.rows
     by None is h = follows-fit m w l command events reply.answer reply.rows none s small fit is out wide h
     by (Some error) is h = fits-by events [] reply.answer (Refused error) reply.rows [] h.1 h.0 h.2 (tt, (tt, refl))

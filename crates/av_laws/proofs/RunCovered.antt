@@ -182,7 +182,8 @@ module _ (m : Setting) (most : ℕ) (high : top_page ≤ most) (fits : most + to
           stays from n page e = grind (arith, nat_tests, e)
 
   mapped : (p len : ℕ) (prot : Prot) (place : Place) (h : IsStep m old (Mmap p len prot place) reply new)
-      → refusal (tests m old.world l (Mmap p len prot place)) ≡ None → (to : Option ℕ) → Goes (pages old.world p) (pages_of len) place to → IsMapAt reply.answer to
+      → refusal (tests m old.world l (Mmap p len prot place)) ≡ None → (to : Option ℕ) → Goes (pages old.world p) (pages_of len) place to →
+      IsMapAt reply.answer to
       → h.events ≡ zaps_for_place l p (pages_of len) place → IsCovered new
   mapped p len prot place h none None goes e is = quiet (Mmap p len prot place) refl h (zaps_for_place l p (pages_of len) place) is
       (place-silent p (pages_of len) place) (Refused Enomem) e
@@ -339,7 +340,8 @@ module _ (m : Setting) (most : ℕ) (high : top_page ≤ most) (fits : most + to
   step-both command h = by (refusal (tests m old.world l command)) refl h.legal.answer
     where
       by : (o : Option Errno) → refusal (tests m old.world l command) ≡ o
-          → MatchOption o (Follows m old.world l command h.events reply.answer reply.rows) (λ error. Refuses error h.events reply.answer reply.rows) → IsCovered new
+          → MatchOption o (Follows m old.world l command h.events reply.answer reply.rows) (λ error. Refuses error h.events reply.answer reply.rows) →
+          IsCovered new
       by None is f = follows command h is f
       by (Some error) is f = refused command h error is f.0 f.1
 

@@ -72,7 +72,9 @@ setting-layouts n d k = told d.pages
     sized page None = tt
     sized page (Some size) = header-layout page size
 
-    told : (o : Option (ℕ → ℕ → List ℕ)) → IfSome {T = ℕ → Option Layout} (option_map (λ (first : ℕ → List ℕ) (k : ℕ). option_and_then (λ n. without_fault (header_of (first k) n)) (d.sizes k))
-        (option_map (λ (told : ℕ → ℕ → List ℕ) (k : ℕ). told k 0) o)) (λ (headers : ℕ → Option Layout). IfSome (headers k) (IsLayout (size_of (setting_of n d) k)))
+    told : (o : Option (ℕ → ℕ → List ℕ)) → IfSome {T = ℕ → Option Layout} (option_map
+        (λ (first : ℕ → List ℕ) (k : ℕ). option_and_then (λ n. without_fault (header_of (first k) n)) (d.sizes k))
+        (option_map (λ (told : ℕ → ℕ → List ℕ) (k : ℕ). told k 0) o))
+        (λ (headers : ℕ → Option Layout). IfSome (headers k) (IsLayout (size_of (setting_of n d) k)))
     told None = tt
     told (Some pages) = sized (pages k 0) (d.sizes k)

@@ -690,7 +690,8 @@ legal-lists m w l command reply es free free' sound legal c h = by (refusal (tes
         let first = notes-lists m l notes free both.0 s.in_order held both.1 h in
         let same = note_events-all l notes in
         subst (λ es. Lists m (after_all l es) free') (sym q.whole)
-        (subst (λ x. Lists m x free') (sym (after_all-append l (note_events notes) (turn_off_events k q.end) ∙ ap (λ x. after_all x (turn_off_events k q.end)) same))
+        (subst (λ x. Lists m x free') (sym (after_all-append l (note_events notes) (turn_off_events k q.end)
+        ∙ ap (λ x. after_all x (turn_off_events k q.end)) same))
         (closes (after_notes l notes) k q.end both.0 (subst (λ x. ChoosesFrames m x (turn_off_events k q.end) both.0 free') same both.2) first))
 
     follows : (command : Command) → refusal (tests m w l command) ≡ None → Follows m w l command es reply.answer reply.rows → Lists m (after_all l es) free'

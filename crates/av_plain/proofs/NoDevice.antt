@@ -680,7 +680,8 @@ follows-faultless m w l (AsksRmap p a) events answer rows none s fine h =
     record { notes = ap (λ es. fails (notes_of es)) h.1; answered = is-faultless answer _ h.0 (walk-faultless l (entry l (p, page_of a))) }
 follows-faultless m w l (AsksEntry p a) events answer rows none s fine h =
     record { notes = ap (λ es. fails (notes_of es)) h.1; answered = is-faultless answer _ h.0 (entry-faultless l (entry l (p, page_of a))) }
-follows-faultless m w l (AsksSlot k page) events answer rows none s fine h = absurd (no-area m l k ((is_outside m (record { area = k; page = page }), Einval) ∷ []) none s.fits fine)
+follows-faultless m w l (AsksSlot k page) events answer rows none s fine h =
+    absurd (no-area m l k ((is_outside m (record { area = k; page = page }), Einval) ∷ []) none s.fits fine)
 follows-faultless m w l Stat events answer rows none s fine h = record {
   notes = ap (λ es. fails (notes_of es)) h.1;
   answered = is-faultless answer _ h.0

@@ -49,11 +49,11 @@ pub data Close : Type 0 where
   NoRoom : (out : OutOf) → Close
   Unread : Close
 
--- how it ends where no frame is free, or one is
+-- why the next page can't be had: no frame is free, or one is, and the device did not give it
 abbrev pub end_at : Setting → Spared → Ledger → Close
 end_at m spared l = if has_free m l then Unread else NoRoom (out_of m None spared l)
 
--- the end, by the slots that are in use still: the least of them can't be fetched
+-- the end, by the slots that are in use still: none, or the least of them can't be fetched
 abbrev pub EndsAt : Setting → Spared → ℕ → Ledger → List ℕ → List Note → Close → Type 0
 EndsAt m spared k l [] notes end = (notes ≡ []) × (end ≡ Closed)
 EndsAt m spared k l (page ∷ pages) notes end =

@@ -216,9 +216,11 @@ legal-new m w l command reply es none sound fit legal = by (refusal (tests m w l
         let short = few-pages write a n few in omega (arith, here, short)
 
     noted : (notes : List Note) → es ≡ note_events notes → AllBring (λ k. false) notes → news (notes_of es) ≤ 8192
-    noted notes e bring = let none = none-new notes bring in same-new (notes_of es) notes 8192 (ap notes_of e ∙ notes_of-note_events notes) (omega (arith, none))
+    noted notes e bring = let none = none-new notes bring in same-new (notes_of es) notes 8192 (ap notes_of e ∙ notes_of-note_events notes)
+        (omega (arith, none))
 
-    follows : (command : Command) → IsInRange command → refusal (tests m w l command) ≡ None → Follows m w l command es reply.answer reply.rows → news (notes_of es) ≤ 8192
+    follows : (command : Command) → IsInRange command → refusal (tests m w l command) ≡ None → Follows m w l command es reply.answer reply.rows →
+        news (notes_of es) ≤ 8192
     follows (Spawn p) fit fine q = quiet [] q.1 refl
     follows (Fork p c) fit fine q = quiet _ q.1 refl
     follows (Exit p) fit fine q = these _ q.1
@@ -247,7 +249,8 @@ legal-new m w l command reply es none sound fit legal = by (refusal (tests m w l
     follows (AsksSlot k page) fit fine q = quiet [] q.1 refl
     follows Stat fit fine q = quiet [] q.1 refl
 
-    by : (o : Option Errno) → refusal (tests m w l command) ≡ o → MatchOption o (Follows m w l command es reply.answer reply.rows) (λ error. Refuses error es reply.answer reply.rows)
+    by : (o : Option Errno) → refusal (tests m w l command) ≡ o → MatchOption o (Follows m w l command es reply.answer reply.rows)
+        (λ error. Refuses error es reply.answer reply.rows)
         → news (notes_of es) ≤ 8192
     by None fine q = follows command fit fine q
     by (Some error) fine q = quiet [] q.1 refl

@@ -25,7 +25,8 @@ use Rattle.av_plain.proofs.World.{pages-set}
 pub one-reach : (l : Ledger) (r next : Rmap) (p : ℕ) (on : Pages) → next.areas ≡ with_at p on r.areas → AddsNoOwn (r.areas p) on
     → ((page : ℕ) (h : ℕ × ℕ) → is_some (entry l (p, page)) ≡ true → home_of page (r.areas p page) ≡ Some h → home_of page (on page) ≡ Some h)
     → AreLeft r.anons next.areas next.anons → next.homes ≡ r.homes → Reach l r → Reach l next
-one-reach l r next p on areas adds keeps = next-reach l r next (λ k h there is. home k h (k.0 == p) refl there is) (λ q page v is. owns q page v (q == p) refl is)
+one-reach l r next p on areas adds keeps = next-reach l r next (λ k h there is. home k h (k.0 == p) refl there is)
+    (λ q page v is. owns q page v (q == p) refl is)
   where
     at_p : (q : ℕ) (b : Bool) → (q == p) ≡ b → next.areas q ≡ cond b on (r.areas q)
     at_p q b e = ap (λ x. x q) areas ∙ ap (λ b. cond b on (r.areas q)) e

@@ -255,7 +255,8 @@ fresh-alone : (l : Ledger) (k : Key) (f : ℕ) → T (is_sorted key_cmp l.entrie
     AloneAt (to_inactive_head f (set_entry k (InFrame f false) l)) k
 fresh-alone l k f sorted free g names = subst (Alone (to_inactive_head f (set_entry k (InFrame f false) l))) (sym (mine (same_key k k) (same_key-itself k)
     (subst (λ o. IsSomeAnd o (λ e. names_frame g e ≡ true)) (entry-set k (InFrame f false) l k) names))) (record {
-      few = let c = map_count-set k (InFrame f false) l f sorted in let u = unused l f free in let e = ap {B = ℕ} (λ b. cond b 1 0) (same-itself f) in omega (arith, c, u, e);
+      few = let c = map_count-set k (InFrame f false) l f sorted in let u = unused l f free in let e = ap {B = ℕ} (λ b. cond b 1 0) (same-itself f) in
+          omega (arith, c, u, e);
       unslotted = λ t q at is. free-uncached l f free t at;
     })
   where

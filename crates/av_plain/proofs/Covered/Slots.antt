@@ -148,7 +148,8 @@ pub slots-same : (l l' : Ledger) (r : Rmap) → ((s : Slot) (k : Key) → IsOfSl
 slots-same l l' r fewer same = slots-fewer l l' r r.homes fewer (λ s k f at names. (sym (same s) ∙ at, refl))
 
 -- an entry that names no slot takes the place of one
-pub set-fewer : (l : Ledger) (k : Key) (e : Entry) → ((s : Slot) → names_slot s e ≡ false) → (s : Slot) (q : Key) → IsOfSlot (set_entry k e l) s q → IsOfSlot l s q
+pub set-fewer : (l : Ledger) (k : Key) (e : Entry) → ((s : Slot) → names_slot s e ≡ false) → (s : Slot) (q : Key) → IsOfSlot (set_entry k e l) s q →
+    IsOfSlot l s q
 set-fewer l k e none s q names = by (same_key q k) (subst (λ o. IsSomeAnd o (λ e. names_slot s e ≡ true)) (entry-set k e l q) names)
   where
     by : (b : Bool) → IsSomeAnd (cond b (Some e) (entry l q)) (λ e. names_slot s e ≡ true) → IsOfSlot l s q
@@ -210,7 +211,8 @@ slots-loaded l r s f sorted free sound h = record {
     now g b e = cond b (home_for r (keys_of_slot l s)) (r.homes g)
 
     by : (t : Slot) (k : Key) (g : ℕ) (b : Bool) → same_slot t s ≡ b
-        → option_map (λ (c : Cached). c.frame) (cond b (Some (record { slot = s; frame = f; stale = false })) (cached_by (λ c. same_slot t c.slot) l.cache)) ≡ Some g
+        → option_map (λ (c : Cached). c.frame) (cond b (Some (record { slot = s; frame = f; stale = false }))
+        (cached_by (λ c. same_slot t c.slot) l.cache)) ≡ Some g
         → IsOfSlot l t k → IsSomeAnd (with_at f (home_for r (keys_of_slot l s)) r.homes g) (IsReached r k)
     by t k g true is at names =
         let same : f ≡ g = inner at in
@@ -268,7 +270,8 @@ slots-put l r s f stale none = slots-fewer l (into_cache s f stale l) r r.homes 
         one (Some e) at is = let some = how_many-found (names_slot s) k l.entries e at is in omega (arith, some, none)
 
     by : (t : Slot) (k : Key) (g : ℕ) (b : Bool) → same_slot t s ≡ b
-        → option_map (λ (c : Cached). c.frame) (cond b (Some (record { slot = s; frame = f; stale = stale })) (cached_by (λ c. same_slot t c.slot) l.cache)) ≡ Some g
+        → option_map (λ (c : Cached). c.frame) (cond b (Some (record { slot = s; frame = f; stale = stale }))
+        (cached_by (λ c. same_slot t c.slot) l.cache)) ≡ Some g
         → IsOfSlot l t k → (frame_at l t ≡ Some g) × (r.homes g ≡ r.homes g)
     by t k g true is at names = absurd (unnamed t k is names)
     by t k g false is at names = (at, refl)
@@ -297,7 +300,8 @@ frame_at-off s t (c ∷ cs) = by (same_slot s c.slot) refl (same_slot t c.slot) 
       where
         head : (b : Bool) → same_slot t c.slot ≡ b → option_map (λ (c : Cached). c.frame) (cond (same_slot t c.slot) (Some c)
             (cached_by (λ c. same_slot t c.slot) (filter (λ (c : Cached). not (same_slot s c.slot)) cs)))
-            ≡ option_map (λ (c : Cached). c.frame) (cond b (Some c) (cached_by (λ c. same_slot t c.slot) (filter (λ (c : Cached). not (same_slot s c.slot)) cs)))
+            ≡ option_map (λ (c : Cached). c.frame) (cond b (Some c)
+            (cached_by (λ c. same_slot t c.slot) (filter (λ (c : Cached). not (same_slot s c.slot)) cs)))
         head b f = ap (λ b. option_map (λ (c : Cached). c.frame) (cond b (Some c)
             (cached_by (λ c. same_slot t c.slot) (filter (λ (c : Cached). not (same_slot s c.slot)) cs)))) f
     by false e true f false g rest = ap (λ b. option_map (λ (c : Cached). c.frame) (cond b (Some c)
@@ -456,7 +460,8 @@ slots-unmapped l r f t at sound h = record {
         subst (λ g. IsSomeAnd (r.homes g) (IsReached r k)) same (reached k (a.either is))
 
 pub sound-unmapped : (l : Ledger) (r : Rmap) (f : ℕ) (t : Slot) → IsRmapSound l r → IsRmapSound (change_entries f (λ _. InSlot t) l) r
-sound-unmapped l r f t = sound-fewer l (change_entries f (λ _. InSlot t) l) r (λ k g names. of_changed (λ e. names_frame g e ≡ true) (λ e. names_frame g e ≡ true)
+sound-unmapped l r f t = sound-fewer l (change_entries f (λ _. InSlot t) l) r
+    (λ k g names. of_changed (λ e. names_frame g e ≡ true) (λ e. names_frame g e ≡ true)
     (to_slot f t) (named g) (entry l k) (subst (λ o. IsSomeAnd o (λ e. names_frame g e ≡ true)) (entry-unmap f t l k) names))
   where
     named : (g : ℕ) (e : Entry) → names_frame g (to_slot f t e) ≡ true → names_frame g e ≡ true

@@ -186,7 +186,8 @@ gets_reused r own v kin has among idle = record {
           chain = chain_by r.anons (Some own);
         })) (r.anons.anon v)) (IsKin (with_child own (Some v) r.anons))
         by true e = record {
-          root = subst (λ x. is_in x (chain_by r.anons (Some own)) ≡ true) (sym root-same) (subst (λ c. is_in has.anon.root c ≡ true) (sym chain-same) has.kin.root);
+          root = subst (λ x. is_in x (chain_by r.anons (Some own)) ≡ true) (sym root-same)
+              (subst (λ c. is_in has.anon.root c ≡ true) (sym chain-same) has.kin.root);
           members = λ u m. subst (λ x. IsSomeAnd ((with_child own (Some v) r.anons).anon u) (λ (other : AnonVma). other.root ≡ x)) (sym root-same)
               (roots u has.anon.root (has.kin.members u (subst (λ c. is_in u c ≡ true) chain-same m)));
         }
@@ -231,7 +232,8 @@ goes-kin q p page area r next chains kin at goes = by area.anon refl goes
       where
         never : {v : ℕ} → area.anon ≡ None → area.anon ≡ Some v → ⊥
         never a b = cc
-    by (Some w) is goes = subst (LeavesKin r) (sym goes.2) (leaves (Some (own_of_child r.anons goes.0)) (with_child w goes.0 r.anons) (through w goes.0 is goes.1))
+    by (Some w) is goes = subst (LeavesKin r) (sym goes.2) (leaves (Some (own_of_child r.anons goes.0)) (with_child w goes.0 r.anons)
+        (through w goes.0 is goes.1))
 
 -- ---- the areas in turn
 
@@ -253,7 +255,8 @@ module _ (p q : ℕ) (apart : (p == q) ≡ false) where
 
 -- where what is reached from a page's own home is reached from another page, that one is rooted as it was
 module _ (r next : Rmap) (was k : Key) (kin : HasKin r) (kin' : HasKin next) (roots : KeepsRoots r.anons next.anons)
-    (goes : (home : ℕ × ℕ) → IsReached r was home → IsReached next k home) (own-in : (v : ℕ) → Owns r was.0 was.1 v → is_in v (chain_by r.anons (Some v)) ≡ true)
+    (goes : (home : ℕ × ℕ) → IsReached r was home → IsReached next k home)
+    (own-in : (v : ℕ) → Owns r was.0 was.1 v → is_in v (chain_by r.anons (Some v)) ≡ true)
   where
     pub goes-rooted : (home : ℕ × ℕ) → IsRooted r was home → IsRooted next k home
     goes-rooted home is =

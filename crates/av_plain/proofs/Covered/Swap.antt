@@ -177,7 +177,8 @@ abbrev pub AllFit : Ledger → List Note → Type 0
 AllFit l [] = Unit {0}
 AllFit l (note ∷ notes) = Fits l note × AllFit (after_note note l) notes
 
-pub reach-notes : (l : Ledger) (r : Rmap) (notes : List Note) → AllFit l notes → Reach l r → Reach (after_notes l notes) (rmap_after_all l (note_events notes) r)
+pub reach-notes : (l : Ledger) (r : Rmap) (notes : List Note) → AllFit l notes → Reach l r →
+    Reach (after_notes l notes) (rmap_after_all l (note_events notes) r)
 reach-notes l r [] fit h = h
 reach-notes l r (note ∷ notes) fit h = reach-notes (after_note note l) (rmap_after_note l note r) notes fit.1 (reach-note l r note fit.0 h)
 

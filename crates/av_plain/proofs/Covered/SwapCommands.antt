@@ -132,7 +132,8 @@ turn-on-reach m l r k events answer rows s h = subst (Reaches l r) (sym h.1) (by
 turn-off-reach : (m : Setting) (w : World) (l : Ledger) (r : Rmap) (k : ℕ) (events : List Event) (answer : Answer) (rows : List Row) → AllSound m w l →
     Reach l r → TurnsOff m w l k events answer rows → Reaches l r events
 turn-off-reach m w l r k events answer rows s h t = subst (Reaches l r) (sym t.whole)
-    (subst (λ x. Reach x (rmap_after_all l (note_events all ++ turn_off_events k t.end) r)) (sym (after_all-append l (note_events all) (turn_off_events k t.end)))
+    (subst (λ x. Reach x (rmap_after_all l (note_events all ++ turn_off_events k t.end) r))
+    (sym (after_all-append l (note_events all) (turn_off_events k t.end)))
     (subst (Reach (after_all (after_all l (note_events all)) (turn_off_events k t.end)))
     (sym (rmap_after_all-append l (note_events all) (turn_off_events k t.end) r)) (ends t.end)))
   where
@@ -144,7 +145,8 @@ turn-off-reach m w l r k events answer rows s h t = subst (Reaches l r) (sym t.w
 
     before : Reaches l r (note_events (t.done ++ t.notes))
     before = noted-reach l r (t.done ++ t.notes) (fit-append l t.done t.notes (fit-completes l l.flight t.done t.completes)
-        (fit-empties m w (sparing_area w k (after_notes l t.done)) k (after_notes l t.done) t.pages t.notes t.end (done-empty m w l t.done s t.completes) t.empties)) h
+        (fit-empties m w (sparing_area w k (after_notes l t.done)) k (after_notes l t.done) t.pages t.notes t.end
+        (done-empty m w l t.done s t.completes) t.empties)) h
 
     ends : (end : Close) → Reach (after_all (after_all l (note_events (t.done ++ t.notes))) (turn_off_events k end))
         (rmap_after_all (after_all l (note_events (t.done ++ t.notes))) (turn_off_events k end) (rmap_after_all l (note_events (t.done ++ t.notes)) r))

@@ -127,7 +127,12 @@ fits-less m l l' on h f = record {
 
 -- one slot more comes into use, of an area that has a free one
 fits-put : (m : Setting) (l : Ledger) (f : ℕ) (t : Slot) → has_free_slot m l t.area ≡ true → AreasFit m l → AreasFit m (after_note (Put f t) l)
-fits-put m l f t free fits = record { rising = fits.rising; attached = fits.attached; fit = λ k. by k (k == t.area) refl (find nat_cmp k l.on) refl (fits.fit k) }
+fits-put m l f t free fits = record {
+  rising = fits.rising;
+  attached = fits.attached;
+  fit = λ k. by k (k == t.area) refl (find nat_cmp k l.on) refl
+      (fits.fit k);
+}
   where
     l' : Ledger
     l' = after_note (Put f t) l

@@ -51,7 +51,8 @@ positive n h = grind (arith, nat_tests, h)
 
 -- no slot of an area that is off is in use
 pub off-unused : (m : Setting) (l : Ledger) (k : ℕ) → AreThere m l → is_on l k ≡ false → slots_in_use m l k ≡ []
-off-unused m l k there off = none-left _ (range_with_len 1 (size_of m k - 1)) (λ page. by page (nat_lt 0 (slot_count l (record { area = k; page = page }))) refl)
+off-unused m l k there off = none-left _ (range_with_len 1 (size_of m k - 1))
+    (λ page. by page (nat_lt 0 (slot_count l (record { area = k; page = page }))) refl)
   where
     first_of : (a b c d : Bool) → (a && b && c && d) ≡ true → a ≡ true
     first_of true b c d h = refl
