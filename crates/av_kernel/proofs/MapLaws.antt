@@ -25,7 +25,7 @@ use Rattle.av_plain.specs.Ledger.{names_frame, Ledger, Entry, Zero, InFrame, InS
 use Rattle.av_plain.specs.Event.{Event, after_all}
 use Rattle.av_plain.specs.Zap.{keys_in, zaps_of}
 use Rattle.av_plain.specs.Refusal.{tests, place_tests, refusal, is_too_long, wraps, top, Refuses}
-use Rattle.av_plain.specs.Step.{IsLegal, Follows, next_world}
+use Rattle.av_plain.specs.Step.{closing_swap_area, IsLegal, Follows, next_world}
 use Rattle.av_plain.specs.Place.{Goes}
 use Rattle.av_plain.specs.Map.{zaps_for_place, with_prot_to_hole}
 use Rattle.av_anon.specs.declared.anons.Anons.{Anons as AnonSet}
@@ -270,12 +270,13 @@ module _ (old new : Mem) (s : State) (command : Command) (reply : Reply) (p page
       own_area : (at : ℕ) → areas_on new.spaces.processes p at ≡ on at
       own_area at = areas p at ∙ ap (λ b. (cond b on (s.areas p)) at) (itself p)
 
-  pub replaced-steps : is_fork command ≡ false → IsLegal (setting (frame_count old)) s.world s.ledger command reply events
+  pub replaced-steps : is_fork command ≡ false → closing_swap_area command ≡ None
+      → IsLegal (setting (frame_count old)) s.world s.ledger command reply events
       → set_process s.world p (with_pages (pages s.world p) page n (λ _. o)) ≡ next_world (setting (frame_count old)) s.world s.ledger events command
       reply.answer
       → with_at p on s.areas ≡ next_areas (chain_length s.anons) s.areas s.world command reply.answer
       → ShowsAreas s.areas s.anons command reply.answer reply.rows → MemSteps old new s command reply
-  replaced-steps plain legal world next shows =
+  replaced-steps plain open_all legal world next shows =
       let now : Process = with_pages (pages s.world p) page n (λ _. o) in
       changed old new s command reply p now on (after_all s.ledger events) keeps stay same_count taken.stands bytes homes
       (λ q at other. entries q at ∙ ap (λ b. cond (b && within page n at) None (entry s.ledger (q, at))) other) kept there home
@@ -284,7 +285,8 @@ module _ (old new : Mem) (s : State) (command : Command) (reply : Reply) (p page
         legal = legal;
         world = world;
         ledger = refl;
-        free = subst (λ free. ChoosesAll (setting (frame_count old)) None s.ledger events free (free_of (view new))) keeps.stands.free taken.free;
+        free = subst (λ closing. ChoosesAll (setting (frame_count old)) closing s.ledger events s.free (free_of (view new))) (sym open_all)
+            (subst (λ free. ChoosesAll (setting (frame_count old)) None s.ledger events free (free_of (view new))) keeps.stands.free taken.free);
         rmap =
             subst (λ r. IsRmapNext r s.world command reply.answer (rmap_of (state_after s p now on (after_all s.ledger events) (free_of (view new)) new.anons)))
             (sym silent) (next-plain (rmap_of s) s.world command reply.answer _ plain
@@ -344,7 +346,7 @@ module _ (old new : Mem) (s : State) (p a len : ℕ) (keeps : Keeps old s) (aliv
       (areas_so old new s p (after_unmap (page_of a) (page_of a + pages_of len)) keeps unmapped.areas) unmapped.anons unmapped.processes
       unmapped.bytes unmapped.homes unmapped.stay
       (rmap_after_all-zaps s.ledger (keys_in s.ledger p (page_of a) (pages_of len)) s.ledger (rmap_of s))
-      refl
+      refl refl
       (record {
         answer = subst (λ o. MatchOption o (Follows (setting (frame_count old)) s.world s.ledger (Munmap p a len) events Done [])
             (λ e. Refuses e events Done []))
@@ -449,7 +451,7 @@ module _ (old : Mem) (s : State) (p len : ℕ) (prot : Prot) (place : Place) (ke
         (stay_both old.spaces mid.spaces spaces old.anons mid.anons anons unmapped.anons stay) unmapped.processes unmapped.bytes unmapped.homes
         (λ at home outside is. given_homes at home outside (unmapped.stay at home outside is))
         (place-silent s.ledger p (pages_of len) place (rmap_of s))
-        refl
+        refl refl
         (record {
           answer = subst (λ o. MatchOption o (Follows (setting (frame_count old)) s.world s.ledger (Mmap p len prot place) events (MapAt (address_of page)) [])
               (λ e. Refuses e events (MapAt (address_of page)) [])) (sym (mmap-tests ∙ placed.0))

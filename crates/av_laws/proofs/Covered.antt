@@ -12,7 +12,7 @@ use Rattle.av_base.specs.Words.{with_at, within}
 use Rattle.av_base.specs.declared.prot.Prot.{Prot}
 use Rattle.av_base.specs.declared.slot.Slot.{Slot}
 use Rattle.av_trace.specs.declared.command.Command.{Command}
-use Rattle.av_trace.specs.declared.command.Command.TheVariants.{Spawn, Fork, Exit, Mmap, Mremap, Munmap, Mprotect, Read, Write, Maps, Areas as AsksAreas, Rmap as AsksRmap, Entry as AsksEntry, Stat}
+use Rattle.av_trace.specs.declared.command.Command.TheVariants.{Spawn, Fork, Exit, Mmap, Mremap, Munmap, Mprotect, Read, Write, Reclaim, Age, Complete, Swapon, Swapoff, Maps, Areas as AsksAreas, Rmap as AsksRmap, Entry as AsksEntry, Slot as AsksSlot, Stat}
 use Rattle.av_trace.specs.declared.mode.Mode.{Mode}
 use Rattle.av_trace.specs.declared.place.Place.{Place}
 use Rattle.av_trace.specs.declared.place.Place.TheVariants.{Auto, At, Fixed, NoReplace}
@@ -88,7 +88,7 @@ module _ (most : ℕ) (enough : top_page ≤ most) where
 
   -- ---- all processes
 
-  covers_one : (w : World) (on : Areas) (p : ℕ) → Low w on → Covers (pages w p) (on p)
+  pub covers_one : (w : World) (on : Areas) (p : ℕ) → Low w on → Covers (pages w p) (on p)
   covers_one w on p c = record { laid = c.laid p; same = c.prots p; low = c.low p }
 
   -- one process's, and those of the others
@@ -242,7 +242,7 @@ module _ (most : ℕ) (enough : top_page ≤ most) where
 
   -- an anon_vma that is prepared changes no page and no protection
   covers_prepared : (w : World) (l : Ledger) (es : List Event) (r : Rmap) → Low w r.areas → Low w (rmap_after_all l es r).areas
-  covers_prepared w l es r c = rmap_after_all-keeps (λ r. Low w r.areas) (covers_page w) (λ f k r c. c) l es r c
+  covers_prepared w l es r c = rmap_after_all-keeps (λ r. Low w r.areas) (covers_page w) (λ homes r c. c) l es r c
 
   -- ---- unmap
 
@@ -272,12 +272,12 @@ module _ (most : ℕ) (enough : top_page ≤ most) where
   -- ---- map
 
   -- there is room for n pages from one on, and the others are as they were
-  record Room (q : Process) (room : Pages) (from n : ℕ) : Type 0 where
-    laid : AreLaid room
-    some : 1 ≤ n
-    free : IsRoom (has_area room) n from
-    others : (page : ℕ) → within from n page ≡ false → prots room page ≡ prot_of (q page)
-    low : AreIndicesBelow most room
+  pub record Room (q : Process) (room : Pages) (from n : ℕ) : Type 0 where
+    pub laid : AreLaid room
+    pub some : 1 ≤ n
+    pub free : IsRoom (has_area room) n from
+    pub others : (page : ℕ) → within from n page ≡ false → prots room page ≡ prot_of (q page)
+    pub low : AreIndicesBelow most room
 
   placed-prots : (f : Area) (room : Pages) (page : ℕ) → prots (with_area f room) page ≡ cond (has_page f page) (Some f.prot) (prots room page)
   placed-prots f room page = by (has_page f page)
@@ -497,21 +497,12 @@ module _ (most : ℕ) (enough : top_page ≤ most) where
         by page true = ap (option_map (λ _. prot)) (c.same page) ∙ each (q page)
         by page false = c.same page
 
-  -- ---- a step
+  -- ---- a mapping has its room
 
-  covers-follows : (m : Setting) (w now : World) (l : Ledger) (long : Lengths) (on : Areas) (command : Command) (es : List Event) (answer : Answer)
-      (rows : List Row)
-      → ((p q : ℕ) → command ≡ Fork p q → answer ≡ Done → ⊥) → ((p a old new b : ℕ) (mode : Mode) → command ≡ Mremap p a old new mode → answer ≡ MapAt b → ⊥)
-      → (es ≡ [] → now ≡ w) → Low now on → refusal (tests m w l command) ≡ None → Follows m w l command es answer rows
-      → Low (next now command answer) (next_areas long on w command answer)
-  covers-follows m w now l long on (Spawn p) es answer rows other unmoved same c none h = subst
-      (λ x. Low (next now (Spawn p) x) (next_areas long on w (Spawn p) x)) (sym h.0)
-      (covers_set now on p no_pages none_on c covers_none)
-  covers-follows m w now l long on (Fork p q) es answer rows other unmoved same c none h = absurd (other p q refl h.0)
-  covers-follows m w now l long on (Exit p) es answer rows other unmoved same c none h = subst
-      (λ x. Low (next now (Exit p) x) (next_areas long on w (Exit p) x)) (sym h.0)
-      (covers_ended now on p c)
-  covers-follows m w now l long on (Mmap p len prot place) es answer rows other unmoved same c none h = at h.0 h.1 h.2
+  pub mmap-room : (m : Setting) (w now : World) (l : Ledger) (on : Areas) (p len : ℕ) (prot : Prot) (place : Place) (es : List Event) (page : ℕ)
+      → (es ≡ [] → now ≡ w) → Low now on → refusal (tests m w l (Mmap p len prot place)) ≡ None → Goes (pages w p) (pages_of len) place (Some page)
+      → es ≡ zaps_for_place l p (pages_of len) place → Room (pages now p) (with_room (pages_of len) place (on p)) page (pages_of len)
+  mmap-room m w now l on p len prot place es page same c none = room place page tests_pass.1
     where
       tests_pass : ((len == 0) ≡ false) × (refusal (place_tests (pages w p) (pages_of len) place) ≡ None)
       tests_pass =
@@ -522,9 +513,6 @@ module _ (most : ℕ) (enough : top_page ≤ most) where
 
       some : (len : ℕ) → (len == 0) ≡ false → 1 ≤ pages_of len
       some len e = let h : 0 < len = grind (arith, nat_tests, e) in omega (arith, h)
-
-      back : (page : ℕ) → page_of (address_of page) ≡ page
-      back page = omega arith
 
       one : Covers (pages now p) (on p)
       one = covers_one now on p c
@@ -548,12 +536,32 @@ module _ (most : ℕ) (enough : top_page ≤ most) where
       room (NoReplace a) page none goes e = subst (λ x. Room (pages now p) (on p) x (pages_of len)) (sym (inner goes))
           (to_now (on p) (page_of a) (same e) (room_new (pages w p) (on p) (pages_of len) a (of_before (same e)) (some len tests_pass.0) none))
 
+  -- ---- a step
+
+  covers-follows : (m : Setting) (w now : World) (l : Ledger) (long : Lengths) (on : Areas) (command : Command) (es : List Event) (answer : Answer)
+      (rows : List Row)
+      → ((p q : ℕ) → command ≡ Fork p q → answer ≡ Done → ⊥) → ((p a old new b : ℕ) (mode : Mode) → command ≡ Mremap p a old new mode → answer ≡ MapAt b → ⊥)
+      → (es ≡ [] → now ≡ w) → Low now on → refusal (tests m w l command) ≡ None → Follows m w l command es answer rows
+      → Low (next now command answer) (next_areas long on w command answer)
+  covers-follows m w now l long on (Spawn p) es answer rows other unmoved same c none h = subst
+      (λ x. Low (next now (Spawn p) x) (next_areas long on w (Spawn p) x)) (sym h.0)
+      (covers_set now on p no_pages none_on c covers_none)
+  covers-follows m w now l long on (Fork p q) es answer rows other unmoved same c none h = absurd (other p q refl h.0)
+  covers-follows m w now l long on (Exit p) es answer rows other unmoved same c none h = subst
+      (λ x. Low (next now (Exit p) x) (next_areas long on w (Exit p) x)) (sym h.0)
+      (covers_ended now on p c)
+  covers-follows m w now l long on (Mmap p len prot place) es answer rows other unmoved same c none h = at h.0 h.1 h.2
+    where
+      back : (page : ℕ) → page_of (address_of page) ≡ page
+      back page = omega arith
+
       at : (to : Option ℕ) → Goes (pages w p) (pages_of len) place to → IsMapAt answer to
           → Low (next now (Mmap p len prot place) answer) (next_areas long on w (Mmap p len prot place) answer)
       at None goes e = subst (λ x. Low (next now (Mmap p len prot place) x) (next_areas long on w (Mmap p len prot place) x)) (sym e) c
       at (Some page) goes e = subst (λ x. Low (next now (Mmap p len prot place) x) (next_areas long on w (Mmap p len prot place) x)) (sym e)
           (covers_set now on p _ _ c (covers_mapped long p (pages now p) (with_room (pages_of len) place (on p)) (page_of (address_of page)) (pages_of len) prot
-          (subst (λ f. Room (pages now p) (with_room (pages_of len) place (on p)) f (pages_of len)) (sym (back page)) (room place page tests_pass.1 goes h.3))))
+          (subst (λ f. Room (pages now p) (with_room (pages_of len) place (on p)) f (pages_of len)) (sym (back page))
+          (mmap-room m w now l on p len prot place es page same c none goes h.3))))
   covers-follows m w now l long on (Munmap p a len) es answer rows other unmoved same c none h = subst
       (λ x. Low (next now (Munmap p a len) x) (next_areas long on w (Munmap p a len) x)) (sym h.0)
       (covers_set now on p _ _ c (covers_unmapped (pages now p) (on p) (page_of a) (pages_of len) (covers_one now on p c)))
@@ -587,10 +595,16 @@ module _ (most : ℕ) (enough : top_page ≤ most) where
       by (Some to) e = absurd (unmoved p a old new (address_of to) mode refl e)
   covers-follows m w now l long on (Read p a n) es answer rows other unmoved same c none h = c
   covers-follows m w now l long on (Write p a bytes) es answer rows other unmoved same c none h = covers_stored now on p a (first_bytes answer bytes) c
+  covers-follows m w now l long on (Reclaim n) es answer rows other unmoved same c none h = c
+  covers-follows m w now l long on (Age n) es answer rows other unmoved same c none h = c
+  covers-follows m w now l long on (Complete n) es answer rows other unmoved same c none h = c
+  covers-follows m w now l long on (Swapon k) es answer rows other unmoved same c none h = c
+  covers-follows m w now l long on (Swapoff k) es answer rows other unmoved same c none h = c
   covers-follows m w now l long on (Maps p) es answer rows other unmoved same c none h = c
   covers-follows m w now l long on (AsksAreas p) es answer rows other unmoved same c none h = c
   covers-follows m w now l long on (AsksRmap p a) es answer rows other unmoved same c none h = c
   covers-follows m w now l long on (AsksEntry p a) es answer rows other unmoved same c none h = c
+  covers-follows m w now l long on (AsksSlot k page) es answer rows other unmoved same c none h = c
   covers-follows m w now l long on Stat es answer rows other unmoved same c none h = c
 
   -- the child's areas are on the parent's pages
@@ -800,7 +814,7 @@ low-step m most high higher old command reply new fits c h = by (remapped-cases 
     by (inr unmoved) = low-more most (most + top_page) new.world new.areas (omega arith) high higher
         (plain-covers most high m old command reply new unmoved c h)
 
-to_low : (most : ℕ) (high : top_page ≤ most) (w : World) (on : Areas) → CoverBelow most w on → Low most high w on
+pub to_low : (most : ℕ) (high : top_page ≤ most) (w : World) (on : Areas) → CoverBelow most w on → Low most high w on
 to_low most high w on c = record { laid = c.cover.laid; prots = c.cover.prots; low = c.low }
 
 from_low : (most : ℕ) (high : top_page ≤ most) (w : World) (on : Areas) → Low most high w on → CoverBelow most w on

@@ -5,7 +5,7 @@ use Rattle.std.specs.Prelude.{IfSome, MatchBool, MatchOption, option_and_then, s
 use Rattle.std.specs.Ordering.{nat_cmp, eq_by_cmp}
 use Rattle.av_vma.specs.Gap.{IsGap}
 use Rattle.av_trace.specs.declared.command.Command.{Command}
-use Rattle.av_trace.specs.declared.command.Command.TheVariants.{Spawn, Fork, Exit, Mmap, Mremap, Munmap, Mprotect, Read, Write, Maps, Areas as AsksAreas, Rmap as AsksRmap, Entry as AsksEntry, Stat}
+use Rattle.av_trace.specs.declared.command.Command.TheVariants.{Spawn, Fork, Exit, Mmap, Mremap, Munmap, Mprotect, Read, Write, Reclaim, Age, Complete, Swapon, Swapoff, Maps, Areas as AsksAreas, Rmap as AsksRmap, Entry as AsksEntry, Slot as AsksSlot, Stat}
 use Rattle.av_trace.specs.declared.mode.Mode.{Mode}
 use Rattle.av_trace.specs.declared.mode.Mode.TheVariants.{DontUnmap, Fixed as FixedAt, MayMove, Plain}
 use Rattle.av_trace.specs.declared.place.Place.{Place}
@@ -41,6 +41,8 @@ use Rattle.av_plain.specs.World.{Page, Process, Shows, World, byte_at, end_proce
 use Rattle.av_laws.proofs.OneFork.{next-one}
 use Rattle.av_laws.proofs.AreaRows.{one-rows}
 use Rattle.av_laws.proofs.Maps.{one-answer}
+use Rattle.av_laws.proofs.OneSwap.{complete-one, reclaims-one, reports-slot-one, turns-off-one, turns-on-one}
+use Rattle.av_plain.specs.Swapon.{turn_on_events}
 use Rattle.av_laws.proofs.OnePage.{is_lost, touches-one}
 use Rattle.av_laws.proofs.OnePass.{AreDone, chooses-one, chosen-first, done-append, done-is}
 use Rattle.av_plain.proofs.Access.{notes_of-append, notes_of-note_events}
@@ -368,6 +370,22 @@ follows-one m w l on anons (Write p at bytes) es fs answer answer' rows rows' cl
     g.0 free a b h.1 g.1 c d x y (write-kept at h.0 answer h.2 kept)
     (write-kept at g.0 answer' g.2 kept') in
     record { events = one.0; answers = h.2 ∙ ap (write_answer at) one.1 ∙ sym g.2; reports = h.3 ∙ sym g.3 }
+follows-one m w l on anons (Reclaim n) es fs answer answer' rows rows' closing free a b told claimed kept kept'
+    x y c d h g s t = record {
+      events = reclaims-one m closing told w l n es fs answer answer' rows rows' free a b h g x y c d;
+      answers = h.2 ∙ sym g.2;
+      reports = h.4 ∙ sym g.4;
+    }
+follows-one m w l on anons (Age n) es fs answer answer' rows rows' closing free a b told claimed kept kept'
+    x y c d h g s t = record { events = h.1 ∙ sym g.1; answers = h.0 ∙ sym g.0; reports = h.2 ∙ sym g.2 }
+follows-one m w l on anons (Complete n) es fs answer answer' rows rows' closing free a b told claimed kept kept'
+    x y c d h g s t = record { events = complete-one l n es fs answer answer' rows rows' h g x y; answers = h.2 ∙ sym g.2; reports = h.4 ∙ sym g.4 }
+follows-one m w l on anons (Swapon k) es fs answer answer' rows rows' closing free a b told claimed kept kept'
+    x y c d h g s t = let same = turns-on-one m k es fs answer answer' rows rows' told h g kept kept' in
+    record { events = h.1 ∙ ap (turn_on_events k) same ∙ sym g.1; answers = same; reports = h.2 ∙ sym g.2 }
+follows-one m w l on anons (Swapoff k) es fs answer answer' rows rows' closing free a b told claimed kept kept'
+    x y c d h g s t = let same = turns-off-one m closing told w l k es fs answer answer' rows rows' free a b h g kept kept' x y c d in
+    record { events = same.0; answers = same.1; reports = h.no_rows ∙ sym g.no_rows }
 follows-one m w l on anons (Maps p) es fs answer answer' rows rows' closing free a b told claimed kept kept'
     x y c d h g s t =
     let same = one-answer (pages w p) rows rows' h.1 g.1 in
@@ -381,6 +399,12 @@ follows-one m w l on anons (AsksRmap p at) es fs answer answer' rows rows' closi
     x y c d h g s t = record { events = h.1 ∙ sym g.1; answers = h.0 ∙ sym g.0; reports = h.2 ∙ sym g.2 }
 follows-one m w l on anons (AsksEntry p at) es fs answer answer' rows rows' closing free a b told claimed kept kept'
     x y c d h g s t = record { events = h.1 ∙ sym g.1; answers = h.0 ∙ sym g.0; reports = h.2 ∙ sym g.2 }
+follows-one m w l on anons (AsksSlot k page) es fs answer answer' rows rows' closing free a b told claimed kept kept'
+    x y c d h g s t = record {
+      events = h.1 ∙ sym g.1;
+      answers = reports-slot-one m l (record { area = k; page = page }) es fs answer answer' rows rows' told h g;
+      reports = h.2 ∙ sym g.2;
+    }
 follows-one m w l on anons Stat es fs answer answer' rows rows' closing free a b told claimed kept kept' x y
     c d h g s t = record { events = h.1 ∙ sym g.1; answers = h.0 ∙ sym g.0; reports = h.2 ∙ sym g.2 }
 
@@ -547,10 +571,16 @@ claimed-follows m w l command es answer rows told claimed h = subst (λ v. IsCla
             (λ x. each (page_of (address_of page)) x (within (page_of (address_of page)) (pages_of new) x)))
     by (Read p a n) h = claimed
     by (Write p a bytes) h = claimed-stored w p a (first_bytes answer bytes) claimed
+    by (Reclaim n) h = claimed
+    by (Age n) h = claimed
+    by (Complete n) h = claimed
+    by (Swapon k) h = claimed
+    by (Swapoff k) h = claimed
     by (Maps p) h = claimed
     by (AsksAreas p) h = claimed
     by (AsksRmap p a) h = claimed
     by (AsksEntry p a) h = claimed
+    by (AsksSlot k page) h = claimed
     by Stat h = claimed
 
 claimed-refused : (m : Setting) (w : World) (l : Ledger) (command : Command) (es : List Event) (error : Errno) → Tells m → IsClaimed w →

@@ -25,11 +25,11 @@ use Rattle.av_laws.proofs.Maps.{one-answer}
 use Rattle.av_laws.proofs.Accesses.{gets_frame, ready}
 
 -- no anon_vma is left, and the next one gets this number
-abbrev none_left : ℕ → Anons
+abbrev pub none_left : ℕ → Anons
 none_left next = record { next = next; anon = λ _. None }
 
 -- and so where the last process with one exits
-left-exit : (anons : Anons) (on : Areas) (p : ℕ) → ((q page : ℕ) → (q == p) ≡ false → IfSome (on q page) (λ area. area.anon ≡ None))
+pub left-exit : (anons : Anons) (on : Areas) (p : ℕ) → ((q page : ℕ) → (q == p) ≡ false → IfSome (on q page) (λ area. area.anon ≡ None))
     → AreLeft anons (with_at p none_on on) (none_left anons.next)
 left-exit anons on p others = left-bare anons (with_at p none_on on) (λ q page. by q page (q == p) refl)
   where

@@ -18,7 +18,7 @@ use Rattle.av_plain.specs.Event.{Event, Noted, Used, after_all}
 use Rattle.av_plain.specs.Fault.{Denied, Starved}
 use Rattle.av_plain.specs.Access.{Whole, Stopped}
 use Rattle.av_plain.specs.Report.{ShowsAreas}
-use Rattle.av_plain.specs.Step.{IsLegal, next_world}
+use Rattle.av_plain.specs.Step.{closing_swap_area, IsLegal, next_world}
 use Rattle.av_plain.specs.Areas.{Anons, AnonVma, Areas, AreLeft, chain_length, chain_by, IsLinked, next_areas, no_anons, no_areas, no_homes, rmap_after_all, Rmap}
 use Rattle.av_plain.proofs.Transcript.{is_forked, next-unforked}
 use Rattle.av_plain.proofs.Report.Areas.{asks_areas, shows-none}
@@ -97,7 +97,7 @@ state_after m old e events free anons =
 
 pub one-step : (m : Setting) (old : State) (e : Exchange) → is_forked e.command e.reply.answer ≡ false → (events : List Event) (free : List ℕ) (left : Anons)
     → IsLegal m old.world old.ledger e.command e.reply events → ChoosesFrames m old.ledger events old.free.frames free
-    → gives_all m None old.ledger events old.free.slots ≡ true
+    → gives_all m (closing_swap_area e.command) old.ledger events old.free.slots ≡ true
     → AreLeft (rmap_after_all old.ledger events (rmap_of old)).anons (state_after m old e events free left).areas left
     → ShowsAreas old.areas old.anons e.command e.reply.answer e.reply.rows
     → IsStep m old e.command e.reply (state_after m old e events free left)
@@ -106,7 +106,7 @@ one-step m old e other events free left legal frames given is shows = record {
   legal = legal;
   world = refl;
   ledger = refl;
-  free = all-chosen m None old.ledger events old.free.frames free old.free.slots frames given;
+  free = all-chosen m (closing_swap_area e.command) old.ledger events old.free.frames free old.free.slots frames given;
   rmap = next-unforked (rmap_after_all old.ledger events (rmap_of old)) old.world e.command e.reply.answer (rmap_of (state_after m old e events free left))
       other (record { areas = refl; anons = is; homes = refl });
   shows = shows;
@@ -167,7 +167,7 @@ Steps m old (e ∷ row) =
     let later : Type 0 = MatchBool (all_left m old e events)
     (Steps m (state_after m old e events free now.anons) row)
     ((left : Anons) × AreLeft now.anons (state_after m old e events free left).areas left × Steps m (state_after m old e events free left) row) in
-    MatchBool (take_none events) later ((gives_all m None old.ledger events old.free.slots ≡ true) × later))
+    MatchBool (take_none events) later ((gives_all m (closing_swap_area e.command) old.ledger events old.free.slots ≡ true) × later))
 
 -- the steps that are left after an exchange, by whether all anon_vmas are left
 abbrev Later : Setting → State → Exchange → List Exchange → List Event → List ℕ → Bool → Type 0
@@ -232,9 +232,9 @@ from_steps m old (e ∷ row) below h =
 
     given : (b : Bool) → take_none h.0 ≡ b
         → MatchBool b (Later m old e row h.0 h.1 (all_left m old e h.0))
-        ((gives_all m None old.ledger h.0 old.free.slots ≡ true) × Later m old e row h.0 h.1 (all_left m old e h.0))
-        → (gives_all m None old.ledger h.0 old.free.slots ≡ true) × Later m old e row h.0 h.1 (all_left m old e h.0)
-    given true is h' = (none-given m None old.ledger h.0 old.free.slots is, h')
+        ((gives_all m (closing_swap_area e.command) old.ledger h.0 old.free.slots ≡ true) × Later m old e row h.0 h.1 (all_left m old e h.0))
+        → (gives_all m (closing_swap_area e.command) old.ledger h.0 old.free.slots ≡ true) × Later m old e row h.0 h.1 (all_left m old e h.0)
+    given true is h' = (none-given m (closing_swap_area e.command) old.ledger h.0 old.free.slots is, h')
     given false is h' = h'
 
     are_left : (b : Bool) → all_left m old e h.0 ≡ b → Later m old e row h.0 h.1 b

@@ -1,8 +1,8 @@
 -- In a run the slots of each area are listed as the ledger has them: a page is taken where its slot is in use, and only slots are free.
-use Rattle.std.proofs.Common.{◌≡◌, ◌⊎◌, inl, inr, ℕ, zero, suc, ◌+◌, ◌-◌, min, ◌<◌, ◌≤◌, Bool, true, false, cond, not, ◌&&◌, ◌||◌, nat_lt, nat_le, T, List, [], ◌∷◌, length, filter, fold, Option, Some, None, IfSome, is_some, count_by, refl, sym, ap, subst, ◌∙◌, arith, ◌==◌, ◌++◌}
+use Rattle.std.proofs.Common.{◌≡◌, ◌⊎◌, inl, inr, ℕ, zero, suc, ◌+◌, ◌-◌, min, ◌<◌, ◌≤◌, Bool, true, false, cond, not, ◌&&◌, ◌||◌, nat_lt, nat_le, T, List, [], ◌∷◌, length, filter, fold, map, take, Option, Some, None, IfSome, is_some, count_by, refl, sym, ap, subst, ◌∙◌, arith, ◌==◌, ◌++◌}
 use Rattle.std.proofs.lemmas.Bool.Decides.{nat_tests}
 use Rattle.std.specs.Option.{option_map_or}
-use Rattle.std.specs.Ordering.{nat_cmp}
+use Rattle.std.specs.Ordering.{eq_by_cmp, nat_cmp}
 use Rattle.std.specs.Prelude.{IsSomeAnd, MatchOption}
 use Rattle.std.specs.FinMap.Entries.{find, is_sorted}
 use Rattle.av_base.specs.declared.slot.Slot.{Slot}
@@ -16,37 +16,47 @@ use Rattle.av_base.specs.Page.{page_of, pages_of}
 use Rattle.av_base.specs.Words.{how_many, with_at, within}
 use Rattle.std.specs.List.{range_with_len}
 use Rattle.av_trace.specs.declared.command.Command.{Command}
-use Rattle.av_trace.specs.declared.command.Command.TheVariants.{Spawn, Fork, Exit, Mmap, Mremap, Munmap, Mprotect, Read, Write, Maps, Areas as AsksAreas, Rmap as AsksRmap, Entry as AsksEntry, Stat}
+use Rattle.av_trace.specs.declared.command.Command.TheVariants.{Spawn, Fork, Exit, Mmap, Mremap, Munmap, Mprotect, Read, Write, Reclaim, Age, Complete, Swapon, Swapoff, Maps, Areas as AsksAreas, Rmap as AsksRmap, Entry as AsksEntry, Slot as AsksSlot, Stat}
 use Rattle.av_trace.specs.declared.place.Place.TheVariants.{Auto, At, Fixed, NoReplace}
 use Rattle.av_trace.specs.declared.reply.Errno.{Errno}
+use Rattle.av_trace.specs.declared.reply.Errno.TheVariants.{Ebusy, Einval}
+use Rattle.av_plain.specs.Device.{AreLayouts}
+use Rattle.av_plain.specs.Fault.{sparing}
+use Rattle.av_plain.specs.Reclaim.{from_tail}
+use Rattle.av_plain.specs.Swapoff.{Close, Closed, NoRoom, TurnsOff, Unread, sparing_area, turn_off_events}
+use Rattle.av_plain.specs.Swapon.{TurnsOn, turn_on_events}
+use Rattle.av_plain.proofs.Sound.Swap.{lawful-ages, lawful-outcomes, to-sound}
+use Rattle.av_plain.proofs.Sound.Swap.Area.{found-off, found-on, off-unused as in-use-none, turn-on-events, used-elsewhere}
+use Rattle.av_plain.proofs.Sound.Swap.Empty.{done-empty, empties-hold, lawful-empties}
+use Rattle.av_laws.proofs.Fresh.{fresh-is}
 use Rattle.av_trace.specs.declared.reply.Reply.{Reply}
 use Rattle.av_trace.specs.declared.note.Note.{Note}
 use Rattle.av_trace.specs.declared.note.Note.TheVariants.{Aged, Copied, Dropped, Failed, Kept, Loaded, Mapped, New, Put, Started, Unmapped, Written, Zeroed}
 use Rattle.av_plain.specs.Access.{Accesses, End, page_events, pages_of_access}
 use Rattle.av_plain.specs.Choice.{AreaSlots, ChoosesAll, Free, IsGiven, ListsSlots, new_free_slots, no_slots, slot_in_note, with_given_back}
-use Rattle.av_plain.specs.Event.{Event, Forked, Moved, Used, after_all, after_move, after_note, after_notes, after_use, after_zap, note_events, when}
+use Rattle.av_plain.specs.Event.{Event, Forked, Moved, TurnedOff, TurnedOn, Used, after, after_all, after_move, after_note, after_notes, after_use, after_zap, note_events, when}
 use Rattle.av_plain.specs.Fault.{Stop, Touches}
 use Rattle.av_plain.specs.Fork.{inheritance}
 use Rattle.av_plain.specs.Ledger.{Cached, Key, Ledger, Setting, SwapArea, entry, free_slots, is_cached, is_free_slot, is_on, is_orphan, is_usable, key_cmp, same_slot, size_of, slot_count, slot_entries, slots_in_use}
-use Rattle.av_plain.specs.Refusal.{Refuses, refusal, tests}
+use Rattle.av_plain.specs.Refusal.{Refuses, no_device_at, refusal, tests}
 use Rattle.av_plain.specs.Sound.{AllSound, IsSound, count, is_there, slots}
-use Rattle.av_plain.specs.Step.{Follows, IsLegal}
+use Rattle.av_plain.specs.Step.{Follows, IsLegal, closing_swap_area}
 use Rattle.av_plain.specs.Transcript.{Exchange, IsRun, IsStep, State, at_first}
 use Rattle.av_plain.specs.World.{World, lives}
 use Rattle.av_plain.specs.Zap.{keys_in, keys_of_process, orphan_drop, slot_behind_key, zap_of, zaps_of}
-use Rattle.av_plain.proofs.Access.{after_all-append, note_events-all}
+use Rattle.av_plain.proofs.Access.{after_all-append, after_notes-append, note_events-all}
 use Rattle.av_plain.proofs.NoDevice.{never}
 use Rattle.av_plain.proofs.Fork.{child_ledger}
 use Rattle.av_plain.proofs.Refusal.{may-fork}
 use Rattle.av_plain.proofs.Sound.{first-sound, no_entries, step-sound}
 use Rattle.av_plain.proofs.Sound.Access.{page_events-kept, touches-kept}
 use Rattle.av_plain.proofs.Sound.Changes.{any-counts}
-use Rattle.av_plain.proofs.Sound.Counts.{same-is, slot-is, slot-itself}
+use Rattle.av_plain.proofs.Sound.Counts.{same-is, same-itself, slot-is, slot-itself}
 use Rattle.av_plain.specs.Mremap.{events_to, range_zaps, remap_events}
 use Rattle.av_plain.proofs.Mremap.{then_tail, then_target}
 use Rattle.av_plain.proofs.Sound.Fork.{forked-no_new}
 use Rattle.av_plain.proofs.Sound.Mremap.{free_target, moved-no_new, tail-kept, target-kept}
-use Rattle.av_plain.proofs.Sound.There.{AreLawful, IsLawful, NoNew, lawful-no_new, lawful-touches, sorted-note, used-no_new}
+use Rattle.av_plain.proofs.Sound.There.{AreLawful, IsLawful, NoNew, lawful-append, lawful-completes, lawful-no_new, lawful-touches, sorted-note, used-no_new}
 use Rattle.av_plain.proofs.Sound.Zap.{zap_of-kept}
 use Rattle.av_plain.proofs.Zap.{in_order-after_zap, same_swap-after_zap, slot_entries-after_zap}
 use Rattle.av_laws.proofs.OnePass.{chosen-first}
@@ -638,57 +648,245 @@ remap-inv m l p from n to k free free' s c h = by (to == from) c
         (event-inv m None tail (after_move p (min n k) from to tail) None two.0.slots last.0.slots d.0 d.1 d.2 d.3 d.4
         (move-brings m tail p (min n k) from to (tail-kept m l p from n to k s) (free_target m l p from n to k s)) second))
 
+-- ---- areas that are turned on and off
+
+-- an area's slots are made anew, none of them in use; the others stay
+switch-inv : (m : Setting) (l l' : Ledger) (k : ℕ) (made : Slots) (old new : AreaSlots) → ((j : ℕ) → new j ≡ cond (j == k) made (old j))
+    → ((s : Slot) → slot_count l' s ≡ slot_count l s)
+    → ((j : ℕ) → (j == k) ≡ false → find nat_cmp j l'.on ≡ find nat_cmp j l.on)
+    → ((page : ℕ) → is_used l (record { area = k; page = page }) ≡ false) → slots_in_use m l k ≡ []
+    → ((page : ℕ) → is_taken (page_at made.pages page) ≡ false)
+    → ((page : ℕ) → is_free_page (page_at made.pages page) ≡ true → is_there m l' (record { area = k; page = page }) ≡ true)
+    → count_by is_free_page made.pages ≡ slots_on (find nat_cmp k l'.on) → (is_on l' k ≡ false → made ≡ no_slots k)
+    → Inv m l old → Inv m l' new
+switch-inv m l l' k made old new is counts on unused none untaken there sum off inv = record {
+  taken = λ s. taken s (s.area == k) refl;
+  free = λ s h. free s (s.area == k) refl h;
+  there = λ s h. there-still s (s.area == k) refl (ap (nat_lt 0) (sym (counts s)) ∙ h);
+  sum = λ j. sum-at j (j == k) refl;
+  off = λ j h. off-at j (j == k) refl h;
+}
+  where
+    same : (j : ℕ) → (j == k) ≡ true → j ≡ k
+    same j e = same-is j k e
+
+    used-same : (s : Slot) → is_used l' s ≡ is_used l s
+    used-same s = ap (nat_lt 0) (counts s)
+
+    now : (s : Slot) (b : Bool) → (s.area == k) ≡ b → at new s ≡ cond b (page_at made.pages s.page) (at old s)
+    now s true e = ap (λ (t : Slots). page_at t.pages s.page) (is s.area ∙ ap (λ b. cond b made (old s.area)) e)
+    now s false e = ap (λ (t : Slots). page_at t.pages s.page) (is s.area ∙ ap (λ b. cond b made (old s.area)) e)
+
+    taken : (s : Slot) (b : Bool) → (s.area == k) ≡ b → is_taken (at new s) ≡ is_used l' s
+    taken s true e = ap is_taken (now s true e) ∙ untaken s.page
+        ∙ sym (used-same s ∙ ap (λ j. is_used l (record { area = j; page = s.page })) (same s.area e) ∙ unused s.page)
+    taken s false e = ap is_taken (now s false e) ∙ inv.taken s ∙ sym (used-same s)
+
+    on-same : (s : Slot) → (s.area == k) ≡ false → is_there m l' s ≡ is_there m l s
+    on-same s e = ap (λ o. is_some o && nat_lt 0 s.page && nat_lt s.page (size_of m s.area) && is_usable m s) (on s.area e)
+
+    free : (s : Slot) (b : Bool) → (s.area == k) ≡ b → is_free_page (at new s) ≡ true → is_there m l' s ≡ true
+    free s true e h = subst (λ j. is_there m l' (record { area = j; page = s.page }) ≡ true) (sym (same s.area e))
+        (there s.page (sym (ap is_free_page (now s true e)) ∙ h))
+    free s false e h = on-same s e ∙ inv.free s (sym (ap is_free_page (now s false e)) ∙ h)
+
+    there-still : (s : Slot) (b : Bool) → (s.area == k) ≡ b → is_used l s ≡ true → is_there m l' s ≡ true
+    there-still s true e h = absurd (never (sym (ap (λ j. is_used l (record { area = j; page = s.page })) (same s.area e) ∙ unused s.page) ∙ h))
+    there-still s false e h = on-same s e ∙ inv.there s h
+
+    in_use : (j : ℕ) → slots_in_use m l' j ≡ slots_in_use m l j
+    in_use j = λ i. filter (λ page. used-same (record { area = j; page = page }) i) (range_with_len 1 (size_of m j - 1))
+
+    sum-at : (j : ℕ) (b : Bool) → (j == k) ≡ b → count_by is_free_page (new j).pages + length (slots_in_use m l' j) ≡ slots_on (find nat_cmp j l'.on)
+    sum-at j true e =
+        let a = ap (λ (t : Slots). count_by is_free_page t.pages) (is j ∙ ap (λ b. cond b made (old j)) e) in
+        let u = ap length (in_use j ∙ ap (slots_in_use m l) (same j e) ∙ none) in
+        let o = ap (λ j. slots_on (find nat_cmp j l'.on)) (same j e) in
+        omega (arith, a, u, o, sum)
+    sum-at j false e =
+        let a = ap (λ (t : Slots). count_by is_free_page t.pages) (is j ∙ ap (λ b. cond b made (old j)) e) in
+        let u = ap length (in_use j) in
+        let o = ap slots_on (on j e) in
+        let h = inv.sum j in
+        omega (arith, a, u, o, h)
+
+    off-at : (j : ℕ) (b : Bool) → (j == k) ≡ b → is_on l' j ≡ false → new j ≡ no_slots j
+    off-at j true e h = is j ∙ ap (λ b. cond b made (old j)) e ∙ off (ap (λ j. is_on l' j) (sym (same j e)) ∙ h)
+    off-at j false e h = is j ∙ ap (λ b. cond b made (old j)) e ∙ inv.off j (ap is_some (sym (on j e)) ∙ h)
+
+-- no slot comes back where no count changes
+none-back : (m : Setting) (l l' : Ledger) (k : ℕ) → ((s : Slot) → slot_count l' s ≡ slot_count l s) → new_free_slots m l l' k ≡ []
+none-back m l l' k counts = none-passes (λ page. let s : Slot = record { area = k; page = page } in slot_count l' s == 0 && nat_lt 0 (slot_count l s)) 1
+    (size_of m k - 1) (λ page. let s : Slot = record { area = k; page = page } in ap (λ n. n == 0 && nat_lt 0 (slot_count l s)) (counts s)
+    ∙ no (slot_count l s))
+  where
+    no : (n : ℕ) → (n == 0 && nat_lt 0 n) ≡ false
+    no n = grind (arith, nat_tests)
+
+apart : (j k : ℕ) → (j == k) ≡ false → eq_by_cmp nat_cmp j k ≡ false
+apart j k h = grind (arith, nat_tests, h)
+
+alike : (k : ℕ) → eq_by_cmp nat_cmp k k ≡ true
+alike k = grind (arith, nat_tests)
+
+-- an area is turned on
+turned-on-inv : (m : Setting) (w : World) (l : Ledger) (k slots bad : ℕ) (free free' : Free) → AllSound m w l → AreLayouts m → is_on l k ≡ false
+    → ChoosesAll m None l (TurnedOn k slots bad ∷ []) free free' → Inv m l free.slots → Inv m (after l (TurnedOn k slots bad)) free'.slots
+turned-on-inv m w l k slots bad free free' s layouts off c inv =
+    let d = c.1.slots in
+    let is = fresh-is m k slots bad d.2.0 (layouts k) d.2.1 in
+    switch-inv m l (after l (TurnedOn k slots bad)) k d.2.0 free.slots free'.slots
+    (λ j. ap (λ (f : Free). f.slots j) c.2 ∙ ap (λ (n : AreaSlots). n j) d.4
+    ∙ ap (fold give_slot (d.1 j)) (none-back m l (after l (TurnedOn k slots bad)) j (λ t. refl))
+    ∙ ap (λ (n : AreaSlots). n j) (d.3 ∙ d.2.2))
+    (λ t. refl) (λ j other. found-on m w l k slots bad s off j ∙ ap (λ b. cond b (Some (record { slots = slots; bad = bad })) (find nat_cmp j l.on))
+    (apart j k other))
+    (λ page. off-unused m l inv.there k page off) (in-use-none m l k s.in_areas off) is.untaken
+    (λ page h. there page (is.free page h))
+    (is.count ∙ ap slots_on (sym (found-on m w l k slots bad s off k ∙ ap (λ b. cond b (Some (record { slots = slots; bad = bad })) (find nat_cmp k l.on))
+    (alike k))))
+    (λ h. absurd (never (sym h ∙ on_now)))
+    inv
+  where
+    on_now : is_on (after l (TurnedOn k slots bad)) k ≡ true
+    on_now = ap is_some (found-on m w l k slots bad s off k) ∙ by (eq_by_cmp nat_cmp k k) (alike k)
+      where
+        by : (b : Bool) → b ≡ true → is_some (cond b (Some (record { slots = slots; bad = bad })) (find nat_cmp k l.on)) ≡ true
+        by true e = refl
+        by false e = cc
+
+    there : (page : ℕ) → (nat_lt 0 page && nat_lt page (size_of m k) && is_usable m (record { area = k; page = page })) ≡ true
+        → is_there m (after l (TurnedOn k slots bad)) (record { area = k; page = page }) ≡ true
+    there page h = by (is_on (after l (TurnedOn k slots bad)) k) (nat_lt 0 page) (nat_lt page (size_of m k))
+        (is_usable m (record { area = k; page = page })) on_now h
+      where
+        by : (a b c d : Bool) → a ≡ true → (b && c && d) ≡ true → (a && b && c && d) ≡ true
+        by true b c d e h = h
+        by false b c d e h = cc
+
+-- and off
+turned-off-inv : (m : Setting) (w : World) (l : Ledger) (k : ℕ) (free free' : Free) → AllSound m w l → slots_in_use m l k ≡ []
+    → ChoosesAll m (Some k) l (TurnedOff k ∷ []) free free' → Inv m l free.slots → Inv m (after l (TurnedOff k)) free'.slots
+turned-off-inv m w l k free free' s none c inv =
+    let d = c.1.slots in
+    switch-inv m l (after l (TurnedOff k)) k (no_slots k) free.slots free'.slots
+    (λ j. ap (λ (f : Free). f.slots j) c.2 ∙ ap (λ (n : AreaSlots). n j) d.4 ∙ ap (fold give_slot (d.1 j)) (none-back m l (after l (TurnedOff k)) j (λ t. refl))
+    ∙ ap (λ (n : AreaSlots). n j) (d.3 ∙ d.2))
+    (λ t. refl) (λ j other. found-off m w l k s none j ∙ ap (λ b. cond (not b) (find nat_cmp j l.on) None) other)
+    unused none (λ page. refl) (λ page h. cc)
+    (sym (ap slots_on (found-off m w l k s none k ∙ ap (λ b. cond (not b) (find nat_cmp k l.on) None) (same-itself k))))
+    (λ h. refl) inv
+  where
+    unused : (page : ℕ) → is_used l (record { area = k; page = page }) ≡ false
+    unused page = by (is_used l (record { area = k; page = page })) refl
+      where
+        by : (b : Bool) → is_used l (record { area = k; page = page }) ≡ b → b ≡ false
+        by false e = refl
+        by true e = let t : Slot = record { area = k; page = page } in
+            let other = used-elsewhere m l k t s.in_areas none (positive _ (sym (used-counts l t) ∙ e)) in grind (arith, nat_tests, other)
+
 -- ---- a step
 
 legal-inv : (m : Setting) (w : World) (l : Ledger) (command : Command) (reply : Reply) (es : List Event) (free free' : Free) → AllSound m w l
-    → IsLegal m w l command reply es
-    → ChoosesAll m None l es free free' → Inv m l free.slots → Inv m (after_all l es) free'.slots
-legal-inv m w l command reply es free free' sound legal c h = by (refusal (tests m w l command)) refl legal.answer
+    → AreLayouts m → IsLegal m w l command reply es
+    → ChoosesAll m (closing_swap_area command) l es free free' → Inv m l free.slots → Inv m (after_all l es) free'.slots
+legal-inv m w l command reply es free free' sound layouts legal chosen h = by (refusal (tests m w l command)) refl legal.answer
   where
     s : IsSound m l
     s = sound.ledger
 
-    forks : (p q : ℕ) → lives w q ≡ false → es ≡ Forked p q (inheritance l p) ∷ [] → Inv m (after_all l es) free'.slots
-    forks p q dead e = subst (λ es. Inv m (after_all l es) free'.slots) (sym e)
+    forks : (p q : ℕ) → lives w q ≡ false → es ≡ Forked p q (inheritance l p) ∷ [] → ChoosesAll m None l es free free' → Inv m (after_all l es) free'.slots
+    forks p q dead e c = subst (λ es. Inv m (after_all l es) free'.slots) (sym e)
         (fork-inv m l p q free free' s (no_entries w l q sound.at_pages dead) (subst (λ es. ChoosesAll m None l es free free') e c) h)
 
-    none : es ≡ [] → Inv m (after_all l es) free'.slots
-    none e = subst (λ es. Inv m (after_all l es) free'.slots) (sym e)
-        (subst (λ (f : Free). Inv m l f.slots) (sym (subst (λ es. ChoosesAll m None l es free free') e c)) h)
+    none : (closing : Option ℕ) → es ≡ [] → ChoosesAll m closing l es free free' → Inv m (after_all l es) free'.slots
+    none closing e c = subst (λ es. Inv m (after_all l es) free'.slots) (sym e)
+        (subst (λ (f : Free). Inv m l f.slots) (sym (subst (λ es. ChoosesAll m closing l es free free') e c)) h)
 
-    these : (ks : List Key) → es ≡ zaps_of l ks → Inv m (after_all l es) free'.slots
-    these ks e = subst (λ es. Inv m (after_all l es) free'.slots) (sym e)
+    noted : (closing : Option ℕ) (notes : List Note) → es ≡ note_events notes → AreLawful m closing l notes → ChoosesAll m closing l es free free'
+        → Inv m (after_all l es) free'.slots
+    noted closing notes e lawful c = subst (λ es. Inv m (after_all l es) free'.slots) (sym e) (subst (λ x. Inv m x free'.slots) (sym (note_events-all l notes))
+        (notes-inv m closing l notes free free' s.in_order lawful (subst (λ es. ChoosesAll m closing l es free free') e c) h))
+
+    these : (ks : List Key) → es ≡ zaps_of l ks → ChoosesAll m None l es free free' → Inv m (after_all l es) free'.slots
+    these ks e c = subst (λ es. Inv m (after_all l es) free'.slots) (sym e)
         (zaps-inv m l ks free free' s (subst (λ es. ChoosesAll m None l es free free') e c) h)
 
-    moves : (p from n k : ℕ) (to : Option ℕ) → es ≡ events_to l p from n to k → Inv m (after_all l es) free'.slots
-    moves p from n k None e = none e
-    moves p from n k (Some to) e = subst (λ es. Inv m (after_all l es) free'.slots) (sym e)
+    moves : (p from n k : ℕ) (to : Option ℕ) → es ≡ events_to l p from n to k → ChoosesAll m None l es free free' → Inv m (after_all l es) free'.slots
+    moves p from n k None e c = none None e c
+    moves p from n k (Some to) e c = subst (λ es. Inv m (after_all l es) free'.slots) (sym e)
         (remap-inv m l p from n to k free free' s (subst (λ es. ChoosesAll m None l es free free') e c) h)
 
-    follows : (command : Command) → refusal (tests m w l command) ≡ None → Follows m w l command es reply.answer reply.rows → Inv m (after_all l es) free'.slots
-    follows (Spawn p) fine q = none q.1
-    follows (Fork p c) fine q = forks p c (may-fork m w l p c fine).child q.1
-    follows (Exit p) fine q = these (keys_of_process l p) q.1
-    follows (Mmap p len prot Auto) fine q = none q.3
-    follows (Mmap p len prot (At a)) fine q = none q.3
-    follows (Mmap p len prot (Fixed a)) fine q = these (keys_in l p (page_of a) (pages_of len)) q.3
-    follows (Mmap p len prot (NoReplace a)) fine q = none q.3
-    follows (Munmap p a len) fine q = these (keys_in l p (page_of a) (pages_of len)) q.1
-    follows (Mprotect p a len prot) fine q = none q.1
-    follows (Mremap p a old new mode) fine q = moves p (page_of a) (pages_of old) (pages_of new) q.0 q.3
-    follows (Read p a n) fine q = accesses-inv m w l p (pages_of_access false a n) es q.0 free free' s q.2 c h
-    follows (Write p a bytes) fine q = accesses-inv m w l p (pages_of_access true a (length bytes)) es q.0 free free' s q.1 c h
-    follows (Maps p) fine q = none q.2
-    follows (AsksAreas p) fine q = none q.2
-    follows (AsksRmap p a) fine q = none q.1
-    follows (AsksEntry p a) fine q = none q.1
-    follows Stat fine q = none q.1
+    second : (a b c : Bool) → cond a (Some Einval) (cond b (Some Ebusy) (cond c (Some Einval) None)) ≡ None → b ≡ false
+    second true b c h = cc
+    second false true c h = cc
+    second false false c h = refl
+
+    turns_on : (k : ℕ) → is_on l k ≡ false → TurnsOn m k es reply.answer reply.rows
+        → (turn_on_events k reply.answer ≡ []) ⊎ ((slots : ℕ) × (bad : ℕ) × (turn_on_events k reply.answer ≡ TurnedOn k slots bad ∷ []))
+        → ChoosesAll m None l es free free' → Inv m (after_all l es) free'.slots
+    turns_on k off q (inl i) c = none None (q.1 ∙ i) c
+    turns_on k off q (inr (slots, bad, i)) c = subst (λ es. Inv m (after_all l es) free'.slots) (sym (q.1 ∙ i))
+        (turned-on-inv m w l k slots bad free free' sound layouts off (subst (λ es. ChoosesAll m None l es free free') (q.1 ∙ i) c) h)
+
+    closes : (l' : Ledger) (k : ℕ) (end : Close) (mid : Free) → AllSound m w l' → (end ≡ Closed → slots_in_use m l' k ≡ [])
+        → ChoosesAll m (Some k) l' (turn_off_events k end) mid free' → Inv m l' mid.slots → Inv m (after_all l' (turn_off_events k end)) free'.slots
+    closes l' k Closed mid s' empty c h = turned-off-inv m w l' k mid free' s' (empty refl) c h
+    closes l' k (NoRoom out) mid s' empty c h = subst (λ (f : Free). Inv m l' f.slots) (sym c) h
+    closes l' k Unread mid s' empty c h = subst (λ (f : Free). Inv m l' f.slots) (sym c) h
+
+    turns_off : (k : ℕ) → TurnsOff m w l k es reply.answer reply.rows → ChoosesAll m (Some k) l es free free' → Inv m (after_all l es) free'.slots
+    turns_off k q c =
+        let notes = q.done ++ q.notes in
+        let now = after_notes l q.done in
+        let sp = sparing_area w k now in
+        let empty = done-empty m w l q.done sound q.completes in
+        let emptied = empties-hold m w sp k now q.pages q.notes q.end empty q.empties in
+        let lawful = lawful-append m (Some k) l q.done q.notes (lawful-completes m sp l l.flight q.done q.completes)
+        (lawful-empties m w sp k now q.pages q.notes q.end empty q.empties) in
+        let both = chosen-first m (Some k) l (note_events notes) (turn_off_events k q.end) free free'
+        (subst (λ es. ChoosesAll m (Some k) l es free free') q.whole c) in
+        let first = notes-inv m (Some k) l notes free both.0 s.in_order lawful both.1 h in
+        let same = note_events-all l notes in
+        let split = after_notes-append l q.done q.notes in
+        let kept = subst (AllSound m w) (sym split) (to-sound m w l (after_notes now q.notes) sound emptied.holds) in
+        subst (λ es. Inv m (after_all l es) free'.slots) (sym q.whole)
+        (subst (λ x. Inv m x free'.slots) (sym (after_all-append l (note_events notes) (turn_off_events k q.end)
+        ∙ ap (λ x. after_all x (turn_off_events k q.end)) same))
+        (closes (after_notes l notes) k q.end both.0 kept (λ e. ap (λ x. slots_in_use m x k) split ∙ emptied.none e)
+        (subst (λ x. ChoosesAll m (Some k) x (turn_off_events k q.end) both.0 free') same both.2) first))
+
+    follows : (command : Command) → refusal (tests m w l command) ≡ None → Follows m w l command es reply.answer reply.rows
+        → ChoosesAll m (closing_swap_area command) l es free free' → Inv m (after_all l es) free'.slots
+    follows (Spawn p) fine q c = none None q.1 c
+    follows (Fork p child) fine q c = forks p child (may-fork m w l p child fine).child q.1 c
+    follows (Exit p) fine q c = these (keys_of_process l p) q.1 c
+    follows (Mmap p len prot Auto) fine q c = none None q.3 c
+    follows (Mmap p len prot (At a)) fine q c = none None q.3 c
+    follows (Mmap p len prot (Fixed a)) fine q c = these (keys_in l p (page_of a) (pages_of len)) q.3 c
+    follows (Mmap p len prot (NoReplace a)) fine q c = none None q.3 c
+    follows (Munmap p a len) fine q c = these (keys_in l p (page_of a) (pages_of len)) q.1 c
+    follows (Mprotect p a len prot) fine q c = none None q.1 c
+    follows (Mremap p a old new mode) fine q c = moves p (page_of a) (pages_of old) (pages_of new) q.0 q.3 c
+    follows (Read p a n) fine q c = accesses-inv m w l p (pages_of_access false a n) es q.0 free free' s q.2 c h
+    follows (Write p a bytes) fine q c = accesses-inv m w l p (pages_of_access true a (length bytes)) es q.0 free free' s q.1 c h
+    follows (Reclaim n) fine q c = noted None q.0 q.3 (lawful-outcomes m (sparing w l None) l (from_tail n l.inactive) q.0 q.1) c
+    follows (Age n) fine q c = noted None (map Aged (from_tail n l.active)) q.1 (lawful-ages m l (from_tail n l.active)) c
+    follows (Complete n) fine q c = noted None q.0 q.3 (lawful-completes m (sparing w l None) l (take n l.flight) q.0 q.1) c
+    follows (Swapon k) fine q c = turns_on k (second (no_device_at m k) (is_on l k) (size_of m k == 0) fine) q (turn-on-events k reply.answer) c
+    follows (Swapoff k) fine q c = turns_off k q c
+    follows (Maps p) fine q c = none None q.2 c
+    follows (AsksAreas p) fine q c = none None q.2 c
+    follows (AsksRmap p a) fine q c = none None q.1 c
+    follows (AsksEntry p a) fine q c = none None q.1 c
+    follows (AsksSlot k page) fine q c = none None q.1 c
+    follows Stat fine q c = none None q.1 c
 
     by : (o : Option Errno) → refusal (tests m w l command) ≡ o → MatchOption o (Follows m w l command es reply.answer reply.rows)
         (λ error. Refuses error es reply.answer reply.rows)
         → Inv m (after_all l es) free'.slots
-    by None fine q = follows command fine q
-    by (Some error) fine q = none q.1
+    by None fine q = follows command fine q chosen
+    by (Some error) fine q = none (closing_swap_area command) q.1 chosen
 
 -- ---- from what is listed and back
 
@@ -756,21 +954,22 @@ from_inv m l slots inv = record {
     by k None e = omega (arith, e)
     by k (Some area) e = omega (arith, e)
 
-pub step-lists_slots : (m : Setting) (old : State) (command : Command) (reply : Reply) (new : State) → AllSound m old.world old.ledger
+pub step-lists_slots : (m : Setting) (old : State) (command : Command) (reply : Reply) (new : State) → AreLayouts m → AllSound m old.world old.ledger
     → ListsSlots m old.ledger old.free.slots
     → IsStep m old command reply new → ListsSlots m new.ledger new.free.slots
-step-lists_slots m old command reply new s h step = subst (λ l. ListsSlots m l new.free.slots) (sym step.ledger)
+step-lists_slots m old command reply new layouts s h step = subst (λ l. ListsSlots m l new.free.slots) (sym step.ledger)
     (from_inv m (after_all old.ledger step.events) new.free.slots
-    (legal-inv m old.world old.ledger command reply step.events old.free new.free s step.legal step.free
+    (legal-inv m old.world old.ledger command reply step.events old.free new.free s layouts step.legal step.free
     (to_inv m old.world old.ledger old.free.slots s h)))
 
-run-from : (m : Setting) (old : State) (es : List Exchange) (new : State) → AllSound m old.world old.ledger → ListsSlots m old.ledger old.free.slots
+run-from : (m : Setting) (old : State) (es : List Exchange) (new : State) → AreLayouts m → AllSound m old.world old.ledger →
+    ListsSlots m old.ledger old.free.slots
     → IsRun m old es new
     → ListsSlots m new.ledger new.free.slots
-run-from m old [] new s h q = subst (λ (x : State). ListsSlots m x.ledger x.free.slots) (sym q) h
-run-from m old (e ∷ es) new s h q = run-from m q.0 es new (step-sound m old e.command e.reply q.0 s q.1)
-    (step-lists_slots m old e.command e.reply q.0 s h q.1) q.2
+run-from m old [] new layouts s h q = subst (λ (x : State). ListsSlots m x.ledger x.free.slots) (sym q) h
+run-from m old (e ∷ es) new layouts s h q = run-from m q.0 es new layouts (step-sound m old e.command e.reply q.0 s q.1)
+    (step-lists_slots m old e.command e.reply q.0 layouts s h q.1) q.2
 
-pub run-lists_slots : (m : Setting) (es : List Exchange) (new : State) → IsRun m (at_first m) es new → ListsSlots m new.ledger new.free.slots
-run-lists_slots m es new q = run-from m (at_first m) es new (first-sound m)
+pub run-lists_slots : (m : Setting) (es : List Exchange) (new : State) → AreLayouts m → IsRun m (at_first m) es new → ListsSlots m new.ledger new.free.slots
+run-lists_slots m es new layouts q = run-from m (at_first m) es new layouts (first-sound m)
     (record { taken = λ s. refl; free = λ s h. cc; number = λ k. refl; off = λ k h. refl }) q

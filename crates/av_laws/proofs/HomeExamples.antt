@@ -16,7 +16,7 @@ use Rattle.av_laws.specs.Areas.{child, family, one_root, root}
 use Rattle.av_laws.specs.Examples.{machine}
 use Rattle.av_laws.specs.Homes.{FourHomes, IsReachable, LeavesHomes, bare_child, child_alone, child_copy, child_exit, with_chain, child_new, child_read, child_write, homes_in, new_page, of_child, of_parent, with_child, with_home, with_number_to_come, bare_process}
 use Rattle.av_base.specs.Words.{is_in, with_at}
-use Rattle.av_plain.specs.Step.{IsLegal}
+use Rattle.av_plain.specs.Step.{closing_swap_area, IsLegal}
 use Rattle.std.specs.FinMap.Entries.{find}
 use Rattle.std.specs.List.{AllByRecursion}
 use Rattle.av_plain.specs.Covered.{IsReached}
@@ -40,7 +40,7 @@ Left old e events free left =
 -- by its events, and the frames that are free after it
 leaves : (old : State) (e : Exchange) (events : List Event) (free : List ℕ) (left : Anons) (homes : FourHomes)
     → IsLegal (machine 4) old.world old.ledger e.command e.reply events → ChoosesFrames (machine 4) old.ledger events old.free.frames free
-    → gives_all (machine 4) None old.ledger events old.free.slots ≡ true → Left old e events free left
+    → gives_all (machine 4) (closing_swap_area e.command) old.ledger events old.free.slots ≡ true → Left old e events free left
     → (asks_areas e.command || is_forked e.command e.reply.answer) ≡ false → homes_in (state_after (machine 4) old e events free left).homes ≡ homes →
     LeavesHomes old e homes
 leaves old e events free left homes legal frames given is plain same = let each = parts (asks_areas e.command) (is_forked e.command e.reply.answer) plain in (

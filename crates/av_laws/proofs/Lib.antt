@@ -5,10 +5,12 @@ pub mod Choice
 pub mod OnePass
 pub mod OnePage
 pub mod OneFork
+pub mod OneSwap
 pub mod Determined
 pub mod Accesses
 pub mod FirstExamples
 pub mod SwapExamples
+pub mod SwapRows
 pub mod LedgerExamples
 pub mod ChangedExamples
 pub mod SoundExample
@@ -34,6 +36,8 @@ pub mod AnonExamples
 pub mod RowExamples
 pub mod SplitExamples
 pub mod Clusters
+pub mod Fresh
 pub mod FreeSlots
 pub mod Covered
+pub mod RunCovered
 pub mod Texts

@@ -230,7 +230,7 @@ ends-well : (l : Ledger) (t : Slot) (failed : Bool) (rest : List Note)
 ends-well l t true rest h = absurd h.0
 ends-well l t false rest h = refl
 
-completes-one : (l : Ledger) (ts : List Slot) (a b : List Note) → Completes l ts a
+pub completes-one : (l : Ledger) (ts : List Slot) (a b : List Note) → Completes l ts a
     → Completes l ts b → AreDone a → AreDone b → a ≡ b
 completes-one l [] a b c d x y = c ∙ sym d
 completes-one l (t ∷ ts) a b c d x y =
@@ -275,7 +275,7 @@ put-given m closing l free f s notes
     g = let c = g.chosen.1.slots in (c.1, subst (λ on. IsGiven m closing l s on c.1) c.2 c.3)
 
 -- the slot is the frame's, or the one that is given
-slot-one : (m : Setting) (closing : Option ℕ) (l : Ledger) (free : Free) (f : ℕ) (s s' : Slot)
+pub slot-one : (m : Setting) (closing : Option ℕ) (l : Ledger) (free : Free) (f : ℕ) (s s' : Slot)
     (o : Option Slot) (P P' : Type 0) (x x' y y' z z' : List Note) → MatchOption o P (λ t. s ≡ t)
     → MatchOption o P' (λ t. s' ≡ t)
     → Given m closing l free (((when (is_none o) (Put f s) ++ x) ++ y) ++ z)

@@ -3,13 +3,13 @@ use Rattle.std.proofs.Common.{◌≡◌, ◌⊎◌, inl, inr, ℕ, zero, suc, �
 use Rattle.std.proofs.lemmas.Bool.Decides.{nat_tests}
 use Rattle.std.specs.Prelude.{IfSome, MatchOption}
 use Rattle.av_trace.specs.declared.command.Command.{Command}
-use Rattle.av_trace.specs.declared.command.Command.TheVariants.{Spawn, Fork, Exit, Mmap, Mremap, Munmap, Mprotect, Read, Write, Maps, Areas as AsksAreas, Rmap as AsksRmap, Entry as AsksEntry, Stat}
+use Rattle.av_trace.specs.declared.command.Command.TheVariants.{Spawn, Fork, Exit, Mmap, Mremap, Munmap, Mprotect, Read, Write, Reclaim, Age, Complete, Swapon, Swapoff, Maps, Areas as AsksAreas, Rmap as AsksRmap, Entry as AsksEntry, Slot as AsksSlot, Stat}
 use Rattle.av_trace.specs.declared.reply.Errno.{Errno}
-use Rattle.av_trace.specs.declared.reply.Errno.TheVariants.{Enomem}
+use Rattle.av_trace.specs.declared.reply.Errno.TheVariants.{Eio, Enomem}
 use Rattle.av_trace.specs.declared.reply.Reply.{Reply}
 use Rattle.av_trace.specs.declared.row.Row.{Row}
 use Rattle.av_trace.specs.declared.reply.Answer.{Answer}
-use Rattle.av_trace.specs.declared.reply.Answer.TheVariants.{Done, Refused, Oom}
+use Rattle.av_trace.specs.declared.reply.Answer.TheVariants.{Done, NoFrame, Refused, Oom, SlotBad}
 use Rattle.av_base.specs.Page.{page_of, pages_of}
 use Rattle.av_base.specs.Words.{how_many}
 use Rattle.std.specs.List.{range_with_len}
@@ -19,11 +19,14 @@ use Rattle.av_trace.specs.declared.reply.OutOf.{OutOf}
 use Rattle.av_plain.specs.Access.{Accesses, End, Stopped, Whole, bytes_before, page_events, pages_of_access, read_answer, stop_answer, write_answer}
 use Rattle.av_plain.specs.Event.{Event, after_all, after_notes}
 use Rattle.av_plain.specs.Fault.{ComesIn, CopyOnWrite, Denied, Lost, Ready, RunsOut, Starved, Stop, Touches, is_pinned, is_shared, need, need_of_slot, pinned_by, sparing}
-use Rattle.av_plain.specs.Ledger.{Entry, InFrame, InSlot, Key, Ledger, Setting, Zero, entry, frame_at, names_frame, slot_of}
+use Rattle.av_plain.specs.Ledger.{Entry, InFrame, InSlot, Key, Ledger, Setting, Zero, entry, frame_at, has_free, is_usable, names_frame, slot_of, slots_in_use}
 use Rattle.av_plain.specs.Pass.{out_of}
 use Rattle.av_plain.specs.Place.{IsMapAt}
 use Rattle.av_plain.specs.Refusal.{Refuses, low, refusal, tests}
-use Rattle.av_plain.specs.Report.{entry_answer, walk_answer}
+use Rattle.av_plain.specs.Report.{MayBeNoSlot, count_answer, entry_answer, slot_answer, walk_answer}
+use Rattle.av_plain.specs.Swapoff.{Close, Closed, Empties, EndsAt, NoRoom, Unread, close_answer, sparing_area}
+use Rattle.av_plain.specs.Swapon.{IsByHeader, header_answer}
+use Rattle.av_swapdev.specs.Header.{Layout}
 use Rattle.av_plain.specs.Sound.{AllSound, IsSound}
 use Rattle.av_plain.specs.Step.{Follows, IsLegal}
 use Rattle.av_plain.specs.World.{World, pages, pages_to_hole}
@@ -147,6 +150,7 @@ accesses-add m w l p (page ∷ pages) events end s (inr h) = subst (EndAdds m) (
 -- the numbers of an answer, if it is one of want of a frame
 abbrev AnswerAdds : Setting → Answer → Type 0
 AnswerAdds m (Oom k out shown) = AddUp m out
+AnswerAdds m (NoFrame out) = AddUp m out
 AnswerAdds m answer = Unit {0}
 
 stop-adds : (m : Setting) (stop : Stop) (k : ℕ) (shown : List ℕ) → StopAdds m stop → AnswerAdds m (stop_answer stop k shown)
@@ -174,6 +178,59 @@ entry-adds m l (Some Zero) = tt
 entry-adds m l (Some (InFrame f seen)) = tt
 entry-adds m l (Some (InSlot s)) = tt
 
+swapon-adds : (m : Setting) (k : ℕ) (answer : Answer) → (answer ≡ Refused Eio) ⊎ IsByHeader m.headers k answer → AnswerAdds m answer
+swapon-adds m k answer (inl e) = subst (AnswerAdds m) (sym e) tt
+swapon-adds m k answer (inr h) = by m.headers h
+  where
+    of_header : (o : Option Layout) → AnswerAdds m (header_answer o)
+    of_header None = tt
+    of_header (Some layout) = tt
+
+    by : (o : Option (ℕ → Option Layout)) → IsByHeader o k answer → AnswerAdds m answer
+    by (Some headers) e = subst (AnswerAdds m) (sym e) (of_header (headers k))
+    by None (inl e) = subst (AnswerAdds m) (sym e) tt
+    by None (inr h) = subst (AnswerAdds m) (sym h.3) tt
+
+-- where a swapoff ends for want of a frame
+abbrev pub CloseAdds : Setting → Close → Type 0
+CloseAdds m Closed = Unit {0}
+CloseAdds m (NoRoom out) = AddUp m out
+CloseAdds m Unread = Unit {0}
+
+ends-add : (m : Setting) (w : World) (k : ℕ) (at l : Ledger) (pages : List ℕ) (notes : List Note) (end : Close) →
+    EndsAt m (sparing_area w k at) k l pages notes end → CloseAdds m end
+ends-add m w k at l [] notes end h = subst (CloseAdds m) (sym h.1) tt
+ends-add m w k at l (page ∷ pages) notes end h = subst (CloseAdds m) (sym h.2) (by (has_free m (after_notes l notes)))
+  where
+    by : (b : Bool) → CloseAdds m (if b then Unread else NoRoom (out_of m None (sparing_area w k at) (after_notes l notes)))
+    by true = tt
+    by false = numbers-add m w None at (after_notes l notes) tt
+
+empties-add : (m : Setting) (w : World) (k : ℕ) (at l : Ledger) (pages : List ℕ) (notes : List Note) (end : Close) →
+    Empties m (sparing_area w k at) k l pages notes end → CloseAdds m end
+empties-add m w k at l [] notes end h = ends-add m w k at l (slots_in_use m l k) notes end h
+empties-add m w k at l (page ∷ pages) notes end h = empties-add m w k at (after_notes l h.1) pages h.2 end h.6
+
+close-adds : (m : Setting) (end : Close) → CloseAdds m end → AnswerAdds m (close_answer end)
+close-adds m Closed adds = tt
+close-adds m (NoRoom out) adds = adds
+close-adds m Unread adds = tt
+
+slot-adds : (m : Setting) (l : Ledger) (s : Slot) (answer : Answer) → MatchOption m.headers ((answer ≡ count_answer l s) ⊎ MayBeNoSlot l s answer)
+    (λ headers. answer ≡ slot_answer m l s) → AnswerAdds m answer
+slot-adds m l s answer h = by m.headers h
+  where
+    told : (b : Bool) → AnswerAdds m (if b then count_answer l s else SlotBad s)
+    told true = tt
+    told false = tt
+
+    by : (o : Option (ℕ → Option Layout)) → MatchOption o ((answer ≡ count_answer l s) ⊎ MayBeNoSlot l s answer)
+        (λ headers. answer ≡ slot_answer m l s) → AnswerAdds m answer
+    by (Some headers) e = subst (AnswerAdds m) (sym e) (told (is_usable m s))
+    by None (inl e) = subst (AnswerAdds m) (sym e) tt
+    by None (inr (unused, inl e)) = subst (AnswerAdds m) (sym e) tt
+    by None (inr (unused, inr e)) = subst (AnswerAdds m) (sym e) tt
+
 follows-add : (m : Setting) (w : World) (l : Ledger) (command : Command) (events : List Event) (answer : Answer) (rows : List Row) → IsSound m l →
     Follows m w l command events answer rows → AnswerAdds m answer
 follows-add m w l (Spawn p) events answer rows s h = subst (AnswerAdds m) (sym h.0) tt
@@ -200,17 +257,32 @@ follows-add m w l (Read p a n) events answer rows s h = subst (AnswerAdds m) (sy
     (read-adds m a h.0 h.1 (accesses-add m w l p (pages_of_access false a n) events h.0 s h.2))
 follows-add m w l (Write p a bytes) events answer rows s h = subst (AnswerAdds m) (sym h.2)
     (write-adds m a h.0 (accesses-add m w l p (pages_of_access true a (length bytes)) events h.0 s h.1))
+follows-add m w l (Reclaim n) events answer rows s h = subst (AnswerAdds m) (sym h.2) tt
+follows-add m w l (Age n) events answer rows s h = subst (AnswerAdds m) (sym h.0) tt
+follows-add m w l (Complete n) events answer rows s h = subst (AnswerAdds m) (sym h.2) tt
+follows-add m w l (Swapon k) events answer rows s h = swapon-adds m k answer h.0
+follows-add m w l (Swapoff k) events answer rows s h = subst (AnswerAdds m) (sym h.answered) (close-adds m h.end
+    (empties-add m w k (after_notes l h.done) (after_notes l h.done) h.pages h.notes h.end h.empties))
 follows-add m w l (Maps p) events answer rows s h = subst (AnswerAdds m) (sym h.0) tt
 follows-add m w l (AsksAreas p) events answer rows s h = subst (AnswerAdds m) (sym h.0) tt
 follows-add m w l (AsksRmap p a) events answer rows s h = subst (AnswerAdds m) (sym h.0) (walk-adds m l (entry l (p, page_of a)))
 follows-add m w l (AsksEntry p a) events answer rows s h = subst (AnswerAdds m) (sym h.0) (entry-adds m l (entry l (p, page_of a)))
+follows-add m w l (AsksSlot k page) events answer rows s h = slot-adds m l (record { area = k; page = page }) answer h.0
 follows-add m w l Stat events answer rows s h = subst (AnswerAdds m) (sym h.0) tt
 
-pub legal-adds : (m : Setting) (w : World) (l : Ledger) (command : Command) (reply : Reply) (events : List Event) (k : ℕ) (out : OutOf) (shown : List ℕ)
-    → AllSound m w l → IsLegal m w l command reply events → reply.answer ≡ Oom k out shown → out.pinned + out.noslot + out.fault ≡ m.frames
-legal-adds m w l command reply events k out shown s legal is = subst (AnswerAdds m) is (by (refusal (tests m w l command)) legal.answer)
+legal-numbers : (m : Setting) (w : World) (l : Ledger) (command : Command) (reply : Reply) (events : List Event) → AllSound m w l →
+    IsLegal m w l command reply events → AnswerAdds m reply.answer
+legal-numbers m w l command reply events s legal = by (refusal (tests m w l command)) legal.answer
   where
     by : (o : Option Errno) → MatchOption o (Follows m w l command events reply.answer reply.rows) (λ error. Refuses error events reply.answer reply.rows) →
         AnswerAdds m reply.answer
     by None h = follows-add m w l command events reply.answer reply.rows s.ledger h
     by (Some error) h = subst (AnswerAdds m) (sym h.0) tt
+
+pub legal-adds : (m : Setting) (w : World) (l : Ledger) (command : Command) (reply : Reply) (events : List Event) (k : ℕ) (out : OutOf) (shown : List ℕ)
+    → AllSound m w l → IsLegal m w l command reply events → reply.answer ≡ Oom k out shown → out.pinned + out.noslot + out.fault ≡ m.frames
+legal-adds m w l command reply events k out shown s legal is = subst (AnswerAdds m) is (legal-numbers m w l command reply events s legal)
+
+pub close-adds-up : (m : Setting) (w : World) (l : Ledger) (command : Command) (reply : Reply) (events : List Event) (out : OutOf)
+    → AllSound m w l → IsLegal m w l command reply events → reply.answer ≡ NoFrame out → out.pinned + out.noslot + out.fault ≡ m.frames
+close-adds-up m w l command reply events out s legal is = subst (AnswerAdds m) is (legal-numbers m w l command reply events s legal)

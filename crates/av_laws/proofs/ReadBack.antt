@@ -5,13 +5,13 @@ pub mod Few
 pub mod OfRuns
 use Rattle.std.specs.List.{AllByRecursion, range_with_len}
 use Rattle.std.specs.Prelude.{MatchBool, MatchOption, sum_by}
-use Rattle.std.proofs.Common.{◌≡◌, inl, inr, ℕ, zero, suc, ◌+◌, ◌-◌, ◌^◌, ◌<◌, ◌≤◌, Bool, true, false, cond, ◌&&◌, List, [], ◌∷◌, map, length, Option, Some, None, is_some, option_map, refl, sym, ap, subst, ◌∙◌, arith, ◌==◌, nat_lt, nat_le, if◌then◌else◌}
+use Rattle.std.proofs.Common.{◌≡◌, inl, inr, ℕ, zero, suc, ◌+◌, ◌-◌, ◌^◌, ◌<◌, ◌≤◌, Bool, true, false, cond, ◌&&◌, List, [], ◌∷◌, ◌++◌, map, take, length, Option, Some, None, is_some, option_map, refl, sym, ap, subst, ◌∙◌, arith, ◌==◌, nat_lt, nat_le, if◌then◌else◌}
 use Rattle.std.proofs.lemmas.Bool.Decides.{nat_tests}
 use Rattle.av_base.specs.Limits.{top_page}
 use Rattle.av_base.specs.Page.{address_of, page_of, pages_of, page_size, place_in_page}
 use Rattle.av_vma.specs.Gap.{IsGap}
 use Rattle.av_trace.specs.declared.command.Command.{Command}
-use Rattle.av_trace.specs.declared.command.Command.TheVariants.{Spawn, Fork, Exit, Mmap, Mremap, Munmap, Mprotect, Read, Write, Maps, Areas as AsksAreas, Rmap as AsksRmap, Entry as AsksEntry, Stat}
+use Rattle.av_trace.specs.declared.command.Command.TheVariants.{Spawn, Fork, Exit, Mmap, Mremap, Munmap, Mprotect, Read, Write, Reclaim, Age, Complete, Swapon, Swapoff, Maps, Areas as AsksAreas, Rmap as AsksRmap, Entry as AsksEntry, Slot as AsksSlot, Stat}
 use Rattle.av_trace.specs.declared.note.Note.{Note}
 use Rattle.av_trace.specs.declared.note.Note.TheVariants.{Aged, Copied, Dropped, Failed, Kept, Loaded, Mapped, New, Put, Started, Unmapped, Written, Zeroed}
 use Rattle.av_trace.specs.declared.mode.Mode.{Mode}
@@ -19,14 +19,14 @@ use Rattle.av_trace.specs.declared.mode.Mode.TheVariants.{DontUnmap, Fixed as Fi
 use Rattle.av_trace.specs.declared.place.Place.{Place}
 use Rattle.av_trace.specs.declared.place.Place.TheVariants.{Auto, At, Fixed, NoReplace}
 use Rattle.av_trace.specs.declared.reply.Errno.{Errno}
-use Rattle.av_trace.specs.declared.reply.Errno.TheVariants.{Enomem}
+use Rattle.av_trace.specs.declared.reply.Errno.TheVariants.{Ebusy, Einval, Enomem}
 use Rattle.av_trace.specs.declared.reply.OutOf.{OutOf}
 use Rattle.av_trace.specs.declared.reply.Reply.{Reply}
 use Rattle.av_trace.specs.declared.row.Row.{Row}
 use Rattle.av_trace.specs.declared.row.Row.TheVariants.{Run, Entry as EntryRow, Area as AreaRow}
 use Rattle.av_trace.specs.declared.reply.Answer.{Answer}
 use Rattle.av_trace.specs.declared.reply.Answer.TheVariants.{AreaList, Done, MapAt, Refused, Oom, Runs, Counted}
-use Rattle.av_trace.specs.Command.{IsCommand}
+use Rattle.av_trace.specs.Command.{IsInRange}
 use Rattle.av_trace.specs.Note.{IsNote, IsSlot}
 use Rattle.av_trace.specs.Mode.{IsMode}
 use Rattle.av_text.specs.Number.{IsWide}
@@ -34,17 +34,17 @@ use Rattle.av_trace.specs.Place.{IsPlace}
 use Rattle.av_trace.specs.Reply.{AreCauses, Follow, IfThere, IsAnswer, IsReply}
 use Rattle.av_trace.specs.Row.{IsAreaRow, IsEntry, IsRun}
 use Rattle.av_plain.specs.World.{Page, Process, World, is_mapped, pages, pages_to_hole}
-use Rattle.av_plain.specs.Ledger.{Entry, InFrame, InSlot, Key, Ledger, Setting, SwapArea, Zero, entry, free_frames, free_slots, map_count, names_frame, names_slot, slot_entries, walk}
-use Rattle.av_plain.specs.Event.{Event, Forked, after_all, notes_of}
+use Rattle.av_plain.specs.Ledger.{Entry, InFrame, InSlot, Key, Ledger, Setting, SwapArea, Zero, entry, free_frames, free_slots, is_on, map_count, names_frame, names_slot, size_of, slot_entries, walk}
+use Rattle.av_plain.specs.Event.{Event, Forked, after_all, after_notes, note_events, notes_of}
 use Rattle.av_plain.specs.Fork.{inheritance}
 use Rattle.av_plain.specs.Access.{Accesses, End, Stopped, Whole, bytes_before, page_events, pages_of_access, read_answer, stop_answer, write_answer}
 use Rattle.av_plain.specs.Fault.{Denied, Lost, Starved, Stop}
 use Rattle.av_plain.specs.Map.{zaps_for_place}
 use Rattle.av_plain.specs.Mremap.{MovesTo, events_to, may_stay}
 use Rattle.av_plain.specs.Place.{Goes, IsMapAt, is_room}
-use Rattle.av_plain.specs.Refusal.{Refuses, refusal, tests}
+use Rattle.av_plain.specs.Refusal.{Refuses, is_outside, refusal, tests}
 use Rattle.av_plain.specs.Report.{AreApart, AreLongest, Cover, Range, entry_answer, key_row, prot_in, row_of, run_of, totals, walk_answer, walk_rows}
-use Rattle.av_plain.specs.Sound.{AllSound, IsSound}
+use Rattle.av_plain.specs.Sound.{AllSound, IsSound, uses}
 use Rattle.av_plain.specs.Step.{Follows, IsLegal}
 use Rattle.av_plain.specs.Zap.{keys_in, keys_of_process, zaps_of}
 use Rattle.av_plain.proofs.Ledger.{how_many-found}
@@ -56,7 +56,14 @@ use Rattle.av_plain.proofs.Report.Totals.{frames-add}
 use Rattle.av_plain.proofs.Sound.Counts.{slot-itself}
 use Rattle.av_plain.specs.Device.{HasNoDevice}
 use Rattle.av_laws.specs.ReadBack.{IsSmall, IsWideRow}
-use Rattle.av_plain.proofs.NoDevice.{HasNoSlots, IsPlainAt, accesses-plain, in-areas, no-remap-notes, no-slots, no-zap-notes}
+use Rattle.av_plain.proofs.NoDevice.{HasNoSlots, IsPlainAt, accesses-plain, in-areas, kept-alone, kept-bare, no-area, no-remap-notes, none-on, no-slots, no-swapon, no-zap-notes}
+use Rattle.av_plain.proofs.Access.{notes_of-note_events}
+use Rattle.av_plain.proofs.Sound.Pass.{AreReady, ready-first, ready-rest}
+use Rattle.av_plain.proofs.Sound.Reclaim.{active-ready, inactive-ready, outcome-kept}
+use Rattle.av_plain.specs.Fault.{sparing}
+use Rattle.av_plain.specs.Pass.{Completes, Spared}
+use Rattle.av_plain.specs.Reclaim.{Outcomes, from_tail}
+use Rattle.av_base.specs.declared.slot.Slot.{Slot}
 use Rattle.av_laws.proofs.OutOfMemory.{legal-adds}
 
 -- what a reply has beside its notes
@@ -302,7 +309,7 @@ keys-fit : (ks : List Key) → AllByRecursion (λ (k : Key). IsWide k.0 × (k.1 
 keys-fit [] h = tt
 keys-fit (k ∷ ks) h = let below = h.0.1 in ((h.0.0, wide-page k.1 (omega (arith, below))), keys-fit ks h.1)
 
-walk-fits : (m : Setting) (w : World) (l : Ledger) (k : Key) → AllSound m w l → IsSmall m w l → (e : Option Entry) → entry l k ≡ e →
+walk-fits : (m : Setting) (w : World) (l : Ledger) (k : Key) → AllSound m w l → IsSmall m w → (e : Option Entry) → entry l k ≡ e →
     Fits [] (walk_answer l e) (walk_rows l e)
 walk-fits m w l k s small None is = (tt, (tt, refl))
 walk-fits m w l k s small (Some Zero) is = (tt, (tt, refl))
@@ -335,16 +342,43 @@ entry-fits m l k none s bare wide (Some (InSlot t)) is =
     let zero = bare.entries t in
     absurd (omega (arith, some, zero))
 
+-- ---- reclaim, age and complete
+
+kept-wide : (m : Setting) (sp : Spared) (l : Ledger) (fs : List ℕ) (notes : List Note) → HasNoDevice m → IsSound m l → HasNoSlots l →
+    IsWide m.frames → AreReady l fs → Outcomes m sp l fs notes → AllByRecursion IsNote notes
+kept-wide m sp l [] notes none s bare wide ready h = subst (AllByRecursion IsNote) (sym h) tt
+kept-wide m sp l (f ∷ fs) notes none s bare wide ready h =
+    let in_use = ready-first l f fs ready in
+    let low = wide-frame m f wide (s.in_range f in_use) in
+    let alone = kept-alone m sp l f h.0 none bare h.3 in
+    let kept = outcome-kept m sp l f h.0 s in_use h.3 in
+    let bare' = subst (λ ns. HasNoSlots (after_notes l ns)) (sym alone.1) (kept-bare l f alone.0 bare) in
+    subst (AllByRecursion IsNote) (sym (h.2 ∙ ap (λ ns. ns ++ h.1) alone.1))
+    (low, kept-wide m sp (after_notes l h.0) fs h.1 none kept.sound bare' wide (ready-rest l (after_notes l h.0) f fs kept.others ready) h.4)
+
+ages-wide : (m : Setting) (l : Ledger) (fs : List ℕ) → ((f : ℕ) → 0 < uses l f → f < m.frames) → IsWide m.frames → AreReady l fs →
+    AllByRecursion IsNote (map Aged fs)
+ages-wide m l [] s wide ready = tt
+ages-wide m l (f ∷ fs) s wide ready = (
+  wide-frame m f wide (s f (ready-first l f fs ready)),
+  ages-wide m l fs s wide (ready-rest l l f fs (λ g other. refl) ready),
+)
+
+nothing-completes : (l : Ledger) (n : ℕ) (ts : List Slot) (notes : List Note) → ts ≡ [] → Completes l (take n ts) notes → notes ≡ []
+nothing-completes l zero ts notes none h = h
+nothing-completes l (suc n) [] notes none h = h
+nothing-completes l (suc n) (t ∷ ts) notes none h = cc
+
 follows-fit : (m : Setting) (w : World) (l : Ledger) (command : Command) (events : List Event) (answer : Answer) (rows : List Row) → HasNoDevice m →
-    AllSound m w l → IsSmall m w l → IsCommand command → CausesFit answer → AskedWide command rows
+    AllSound m w l → IsSmall m w → IsInRange command → refusal (tests m w l command) ≡ None → CausesFit answer → AskedWide command rows
     → Follows m w l command events answer rows → Fits events answer rows
-follows-fit m w l (Spawn p) events answer rows none s small fit out wide h = fits-by events [] answer Done rows [] h.1 h.0 h.2 (tt, (tt, refl))
-follows-fit m w l (Fork p q) events answer rows none s small fit out wide h =
+follows-fit m w l (Spawn p) events answer rows none s small fit fine out wide h = fits-by events [] answer Done rows [] h.1 h.0 h.2 (tt, (tt, refl))
+follows-fit m w l (Fork p q) events answer rows none s small fit fine out wide h =
     fits-by events (Forked p q (inheritance l p) ∷ []) answer Done rows [] h.1 h.0 h.2 (tt, (tt, refl))
-follows-fit m w l (Exit p) events answer rows none s small fit out wide h =
+follows-fit m w l (Exit p) events answer rows none s small fit fine out wide h =
     fits-by events (zaps_of l (keys_of_process l p)) answer Done rows [] h.1 h.0 h.2
     (fits-notes (zaps_of l (keys_of_process l p)) Done [] (no-zap-notes m l (keys_of_process l p) none (in-areas m w l s)) tt (tt, refl))
-follows-fit m w l (Mmap p len prot place) events answer rows none s small fit out wide h = by h.0 h.1 h.2
+follows-fit m w l (Mmap p len prot place) events answer rows none s small fit fine out wide h = by h.0 h.1 h.2
   where
     quiet : (place : Place) → notes_of (zaps_for_place l p (pages_of len) place) ≡ []
     quiet Auto = refl
@@ -358,17 +392,17 @@ follows-fit m w l (Mmap p len prot place) events answer rows none s small fit ou
     by (Some page) goes e = fits-by events (zaps_for_place l p (pages_of len) place) answer (MapAt (address_of page)) rows [] h.3 e h.4
         (fits-notes (zaps_for_place l p (pages_of len) place) (MapAt (address_of page)) [] (quiet place)
         (place-below (pages w p) (pages_of len) page place fit.2 goes) (tt, refl))
-follows-fit m w l (Munmap p a len) events answer rows none s small fit out wide h =
+follows-fit m w l (Munmap p a len) events answer rows none s small fit fine out wide h =
     fits-by events (zaps_of l (keys_in l p (page_of a) (pages_of len))) answer Done rows [] h.1 h.0 h.2
     (fits-notes (zaps_of l (keys_in l p (page_of a) (pages_of len))) Done []
     (no-zap-notes m l (keys_in l p (page_of a) (pages_of len)) none (in-areas m w l s)) tt (tt, refl))
-follows-fit m w l (Mprotect p a len prot) events answer rows none s small fit out wide h =
+follows-fit m w l (Mprotect p a len prot) events answer rows none s small fit fine out wide h =
     fits-by events [] answer _ rows [] h.1 h.0 h.2 (by (pages_to_hole (pages w p) (page_of a) (pages_of len) == pages_of len))
   where
     by : (b : Bool) → Fits [] (if b then Done else Refused Enomem) []
     by true = (tt, (tt, refl))
     by false = (tt, (tt, refl))
-follows-fit m w l (Mremap p a old new mode) events answer rows none s small fit out wide h = by h.0 h.1 h.2 h.3
+follows-fit m w l (Mremap p a old new mode) events answer rows none s small fit fine out wide h = by h.0 h.1 h.2 h.3
   where
     these : Option ℕ → List Event
     these to = events_to l p (page_of a) (pages_of old) to (pages_of new)
@@ -380,42 +414,69 @@ follows-fit m w l (Mremap p a old new mode) events answer rows none s small fit 
         (fits-notes (these (Some page)) (MapAt (address_of page)) []
         (no-remap-notes m l p (page_of a) (pages_of old) page (pages_of new) none (in-areas m w l s))
         (remap-below (pages w p) a (pages_of old) (pages_of new) page mode fit.1 fit.4 goes) (tt, refl))
-follows-fit m w l (Read p a n) events answer rows none s small fit out wide h =
+follows-fit m w l (Read p a n) events answer rows none s small fit fine out wide h =
     let plain = accesses-plain IsNote m w p none (λ page note is. plain-note m p page small.frames fit.0.most (small.below p page is) note) l
     (pages_of_access false a n) events h.0 (in-areas m w l s) h.2 in
     fits-by events events answer (read_answer a h.0 h.1) rows [] refl h.4 h.5
     (read-fits a h.0 h.1 (notes_of events) (access-stops m w l false p a n events h.0 fit.2.most h.2) h.3.2 plain.notes (subst CausesFit h.4 out))
-follows-fit m w l (Write p a bytes) events answer rows none s small fit out wide h =
+follows-fit m w l (Write p a bytes) events answer rows none s small fit fine out wide h =
     let plain = accesses-plain IsNote m w p none (λ page note is. plain-note m p page small.frames fit.0.most (small.below p page is) note) l
     (pages_of_access true a (length bytes)) events h.0 (in-areas m w l s) h.1 in
     fits-by events events answer (write_answer a h.0) rows [] refl h.2 h.3
     (write-fits a h.0 (notes_of events) (access-stops m w l true p a (length bytes) events h.0 fit.2.0.most h.1) plain.notes (subst CausesFit h.2 out))
-follows-fit m w l (Maps p) events answer rows none s small fit out wide h =
+follows-fit m w l (Reclaim n) events answer rows none s small fit fine out wide h =
+    fits-by events (note_events h.0) answer Done rows [] h.3 h.2 h.4 (
+      tt,
+      (
+        subst (AllByRecursion IsNote) (sym (notes_of-note_events h.0)) (kept-wide m (sparing w l None) l (from_tail n l.inactive) h.0 none s.ledger
+            (no-slots m l none (in-areas m w l s)) small.frames (inactive-ready m l n s.ledger) h.1),
+        refl,
+      ),
+    )
+follows-fit m w l (Age n) events answer rows none s small fit fine out wide h =
+    fits-by events (note_events (map Aged (from_tail n l.active))) answer Done rows [] h.1 h.0 h.2 (
+      tt,
+      (
+        subst (AllByRecursion IsNote) (sym (notes_of-note_events (map Aged (from_tail n l.active))))
+            (ages-wide m l (from_tail n l.active) s.ledger.in_range small.frames (active-ready m l n s.ledger)),
+        refl,
+      ),
+    )
+follows-fit m w l (Complete n) events answer rows none s small fit fine out wide h =
+    fits-by events (note_events h.0) answer Done rows [] h.3 h.2 h.4
+    (fits-notes (note_events h.0) Done [] (notes_of-note_events h.0 ∙ nothing-completes l n l.flight h.0
+    (no-slots m l none (in-areas m w l s)).flight h.1) tt (tt, refl))
+follows-fit m w l (Swapon k) events answer rows none s small fit fine out wide h =
+    absurd (no-swapon m k ((is_on l k, Ebusy) ∷ (size_of m k == 0, Einval) ∷ []) none fine)
+follows-fit m w l (Swapoff k) events answer rows none s small fit fine out wide h = absurd (no-area m l k [] none s.areas_fit fine)
+follows-fit m w l (Maps p) events answer rows none s small fit fine out wide h =
     let runs = h.1.0 in
     let high = covered (pages w p) runs h.1.3 (small.below p) in
     fits-by events [] answer (Runs (length (map row_of runs))) rows (map row_of runs) h.2 (h.0 ∙ ap (λ rs. Runs (length rs)) h.1.1) h.1.1
     (few-rows runs (longest-apart runs h.1.2) high, (refl, refl, runs-wide runs (longest-apart runs h.1.2) high))
-follows-fit m w l (AsksAreas p) events answer rows none s small fit out wide h =
+follows-fit m w l (AsksAreas p) events answer rows none s small fit fine out wide h =
     let ranges = h.1.0 in
     let high = covered (pages w p) ranges h.1.3 (small.below p) in
     let rest = areas-wide ranges rows h.1.1 (runs-wide ranges h.1.2 high) wide in
     fits-by events [] answer (AreaList (length rows)) rows rows h.2 h.0 refl
     (subst IsWide (sym rest.0) (few-rows ranges h.1.2 high), (refl, refl, rest.1))
-follows-fit m w l (AsksRmap p a) events answer rows none s small fit out wide h =
+follows-fit m w l (AsksRmap p a) events answer rows none s small fit fine out wide h =
     let e = entry l (p, page_of a) in
     fits-by events [] answer (walk_answer l e) rows (walk_rows l e) h.1 h.0 h.2 (walk-fits m w l (p, page_of a) s small e refl)
-follows-fit m w l (AsksEntry p a) events answer rows none s small fit out wide h =
+follows-fit m w l (AsksEntry p a) events answer rows none s small fit fine out wide h =
     fits-by events [] answer (entry_answer l (entry l (p, page_of a))) rows [] h.1 h.0 h.2
     (entry-fits m l (p, page_of a) none s.ledger (no-slots m l none (in-areas m w l s)) small.frames (entry l (p, page_of a)) refl)
-follows-fit m w l Stat events answer rows none s small fit out wide h = fits-by events [] answer (Counted (totals m w l)) rows [] h.1 h.0 h.2 (
+follows-fit m w l (AsksSlot k page) events answer rows none s small fit fine out wide h =
+    absurd (no-area m l k ((is_outside m (record { area = k; page = page }), Einval) ∷ []) none s.areas_fit fine)
+follows-fit m w l Stat events answer rows none s small fit fine out wide h = fits-by events [] answer (Counted (totals m w l)) rows [] h.1 h.0 h.2 (
   record {
     frames = frames;
     free = omega (arith, sums, frames);
     active = omega (arith, sums, frames);
     inactive = omega (arith, sums, frames);
     flight = subst IsWide (sym (ap length (no-slots m l none (in-areas m w l s)).flight)) (omega arith);
-    slots = subst IsWide (sym (ap (sum_by (λ (a : ℕ × SwapArea). a.1.slots)) small.off)) (omega arith);
-    free_slots = subst IsWide (sym (ap (sum_by (free_slots m l)) small.off)) (omega arith);
+    slots = subst IsWide (sym (ap (sum_by (λ (a : ℕ × SwapArea). a.1.slots)) (none-on m l none s.areas_fit))) (omega arith);
+    free_slots = subst IsWide (sym (ap (sum_by (free_slots m l)) (none-on m l none s.areas_fit))) (omega arith);
     processes = omega (arith, few);
   },
   (tt, refl),
@@ -431,9 +492,9 @@ follows-fit m w l Stat events answer rows none s small fit out wide h = fits-by 
     sums = frames-add m l s.ledger
 
 pub legal-reads_back : (m : Setting) (w : World) (l : Ledger) (command : Command) (reply : Reply) (events : List Event) → HasNoDevice m → AllSound m w l →
-    IsSmall m w l → IsCommand command → AskedWide command reply.rows → IsLegal m w l command reply events → IsReply reply
+    IsSmall m w → IsInRange command → AskedWide command reply.rows → IsLegal m w l command reply events → IsReply reply
 legal-reads_back m w l command reply events none s small fit wide legal =
-    let f = by (refusal (tests m w l command)) legal.answer in
+    let f = by (refusal (tests m w l command)) refl legal.answer in
     record { answer = f.0; rest = subst (λ ns. Follow reply.answer ns reply.rows) (sym legal.notes) f.1 }
   where
     out : CausesFit reply.answer
@@ -441,7 +502,8 @@ legal-reads_back m w l command reply events none s small fit wide legal =
         small.frames in
         (omega (arith, sum, frames), omega (arith, sum, frames), omega (arith, sum, frames))
 
-    by : (o : Option Errno) → MatchOption o (Follows m w l command events reply.answer reply.rows) (λ error. Refuses error events reply.answer reply.rows) →
+    by : (o : Option Errno) → refusal (tests m w l command) ≡ o → MatchOption o (Follows m w l command events reply.answer reply.rows)
+        (λ error. Refuses error events reply.answer reply.rows) →
         Fits events reply.answer reply.rows
-    by None h = follows-fit m w l command events reply.answer reply.rows none s small fit out wide h
-    by (Some error) h = fits-by events [] reply.answer (Refused error) reply.rows [] h.1 h.0 h.2 (tt, (tt, refl))
+    by None is h = follows-fit m w l command events reply.answer reply.rows none s small fit is out wide h
+    by (Some error) is h = fits-by events [] reply.answer (Refused error) reply.rows [] h.1 h.0 h.2 (tt, (tt, refl))

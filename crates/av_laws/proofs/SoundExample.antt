@@ -5,7 +5,7 @@ use Rattle.std.specs.FinMap.Entries.{find}
 use Rattle.std.specs.Ordering.{nat_cmp, eq_by_cmp}
 use Rattle.av_base.specs.declared.slot.Slot.{Slot}
 use Rattle.av_plain.specs.World.{pages}
-use Rattle.av_plain.specs.Ledger.{Cached, SwapArea, slots_in_use, Ledger, Key, Entry, InSlot, entry, same_slot}
+use Rattle.av_plain.specs.Ledger.{Cached, SwapArea, size_of, slots_in_use, Ledger, Key, Entry, InSlot, entry, same_slot}
 use Rattle.av_base.specs.Words.{how_many}
 use Rattle.av_plain.specs.Sound.{is_there, AllSound, flights}
 use Rattle.av_laws.specs.Examples.{cached_out, with_swap, slot, in_writeback}
@@ -57,11 +57,17 @@ cached_out-sound flying stale = record {
   };
   at_pages = λ p page h. subst (λ (k : Key). is_some (pages in_writeback.world k.0 k.1) ≡ true) (sym (some-only (p, page) h)) refl;
   in_areas = λ s h. there s (same_slot s (slot 1)) refl h;
-  areas_fit = record { rising = tt; fit = fits };
+  areas_fit = record { rising = tt; attached = λ k is. attached k (eq_by_cmp nat_cmp k 0) refl is; fit = fits };
 }
   where
     cmp-is : (q p : ℕ) → eq_by_cmp nat_cmp q p ≡ true → q ≡ p
     cmp-is q p h = grind (arith, nat_tests, h)
+
+    attached : (k : ℕ) (b : Bool) → eq_by_cmp nat_cmp k 0 ≡ b
+        → is_some {T = SwapArea} (cond b (Some (record { slots = 7; bad = 0 })) None) ≡ true
+        → 0 < size_of (with_swap 4 8 7) k
+    attached k true is h = subst (λ x. 0 < size_of (with_swap 4 8 7) x) (sym (cmp-is k 0 is)) (omega arith)
+    attached k false is h = cc
 
     fits : (k : ℕ) → IfSome (find nat_cmp k (cached_out flying stale).ledger.on)
         (λ area. few flying stale k ≤ area.slots)

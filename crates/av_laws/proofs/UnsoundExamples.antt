@@ -4,7 +4,7 @@ use Rattle.std.proofs.Common.{arith, refl, ◌≤◌, ◌<◌}
 use Rattle.av_plain.specs.Ledger.{InFrame, InSlot, first_ledger}
 use Rattle.av_laws.specs.Examples.{crowd, machine, slot}
 use Rattle.av_laws.specs.Pairs.{bad_first}
-use Rattle.av_laws.specs.Unsound.{Unsound, four, one_process, falling_entries, slot_at_two_frames, frame_of_two_slots, no_such_frame, not_listed, in_both_lists, free_but_listed, in_flight_uncached, in_flight_twice, left_over, frame_twice, frame_and_its_slot, slot_and_its_frame, slot_twice, no_page_ledger, of_nobody, area_off, at_page, too_few_slots, falling_areas, falling_processes}
+use Rattle.av_laws.specs.Unsound.{Unsound, four, many_areas, one_process, falling_entries, slot_at_two_frames, frame_of_two_slots, no_such_frame, not_listed, in_both_lists, free_but_listed, in_flight_uncached, in_flight_twice, left_over, frame_twice, frame_and_its_slot, slot_and_its_frame, slot_twice, no_page_ledger, of_nobody, area_off, at_page, too_few_slots, unattached, falling_areas, falling_processes}
 
 never : ◌≡◌ {A = Bool} false true → ⊥
 never e = cc
@@ -79,7 +79,10 @@ bad_slot-not h = never (h.in_areas (slot 1) (omega arith))
 pub too_few_slots-not : Unsound four one_process too_few_slots
 too_few_slots-not h = let few : 1 ≤ 0 = h.areas_fit.fit 0 in omega (arith, few)
 
-pub falling_areas-not : Unsound four one_process falling_areas
+pub unattached-not : Unsound four one_process unattached
+unattached-not h = let has : 0 < 0 = h.areas_fit.attached 1 refl in omega (arith, has)
+
+pub falling_areas-not : Unsound many_areas one_process falling_areas
 falling_areas-not h = h.areas_fit.rising
 
 pub falling_processes-not : Unsound four falling_processes first_ledger

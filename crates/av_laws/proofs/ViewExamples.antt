@@ -187,7 +187,7 @@ forked-sound = record {
   };
   at_pages = λ p page h. at_page (p, page) h;
   in_areas = λ s h. absurd (omega (arith, h));
-  areas_fit = record { rising = tt; fit = λ k. tt };
+  areas_fit = record { rising = tt; attached = λ k is. cc; fit = λ k. tt };
 }
   where
     range_of : (f : ℕ) (b : Bool) → (f == 0) ≡ b → 0 < (cond b 1 0 + (cond b 1 0 + 0)) + 0 → f < 4

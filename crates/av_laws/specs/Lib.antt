@@ -7,6 +7,7 @@ pub mod NeedsFrame
 pub mod Views
 pub mod Areas
 pub mod Slots
+pub mod SwapRows
 pub mod Covered
 pub mod Homes
 pub mod Forks

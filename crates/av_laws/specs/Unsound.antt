@@ -1,6 +1,6 @@
 -- Ledgers that are not sound. Each is a sound one, whose page is in frame 0 and cached at slot 1
 -- with a write in flight, but for one thing: one clause of soundness alone refuses it.
-use Rattle.std.specs.Prelude.{ℕ, true, false, List, [], ◌∷◌}
+use Rattle.std.specs.Prelude.{ℕ, true, false, List, [], ◌∷◌, Some}
 use Rattle.av_base.specs.declared.slot.Slot.{Slot}
 use Rattle.av_plain.specs.World.{World}
 use Rattle.av_plain.specs.Ledger.{Ledger, Setting, Cached, Entry, Key, Zero, InFrame, InSlot, first_ledger}
@@ -15,6 +15,10 @@ Unsound m w l = AllSound m w l → ⊥
 -- four frames, and an area of seven slots
 abbrev pub four : Setting
 four = with_swap 4 8 7
+
+-- and any number of areas
+abbrev pub many_areas : Setting
+many_areas = record four { sizes = λ k. Some 8 }
 
 -- process 1 has the two topmost pages
 abbrev pub one_process : World
@@ -122,6 +126,10 @@ at_page page = ledger_of (upper (InSlot (slot page))) [] [] []
 -- more slots are in use than the area has
 abbrev pub too_few_slots : Ledger
 too_few_slots = record (ledger_of (upper (InSlot (slot 1))) [] [] []) { on = one_area 0 0 }
+
+-- an area that isn't attached
+abbrev pub unattached : Ledger
+unattached = record first_ledger { on = (1, record { slots = 7; bad = 0 }) ∷ [] }
 
 abbrev pub falling_areas : Ledger
 falling_areas = record first_ledger {

@@ -16,6 +16,7 @@ mod lines;
 mod mremap;
 mod pairs;
 mod slots;
+mod swap_rows;
 mod unsound;
 mod views;
 
@@ -24,10 +25,10 @@ ghost use Rattle.av_base.specs.Limits.{top_page, most_commands, most_indices};
 ghost use Rattle.std.specs.List.{AllByRecursion};
 ghost use Rattle.av_base.specs.declared.prot.Prot.{Prot};
 ghost use Rattle.av_trace.specs.declared.command.Command.{Command};
-ghost use Rattle.av_trace.specs.declared.command.Command.TheVariants.{Mprotect, Read, Write};
+ghost use Rattle.av_trace.specs.declared.command.Command.TheVariants.{Mprotect, Read, Swapoff, Write};
 ghost use Rattle.av_trace.specs.declared.reply.Errno.{Errno};
 ghost use Rattle.av_trace.specs.declared.reply.OutOf.{OutOf};
-ghost use Rattle.av_trace.specs.declared.reply.Answer.TheVariants.{Refused, Oom};
+ghost use Rattle.av_trace.specs.declared.reply.Answer.TheVariants.{NoFrame, Refused, Oom};
 ghost use Rattle.av_trace.specs.declared.reply.Reply.{Reply};
 ghost use Rattle.av_trace.specs.declared.row.Row.{Row};
 ghost use Rattle.av_plain.specs.World.{World, Process};
@@ -39,18 +40,20 @@ ghost use Rattle.av_vma.specs.Join.{index_of, past_of};
 ghost use Rattle.av_vma.specs.Pages.{Pages};
 ghost use Rattle.av_vma.specs.declared.area.Area.{Area};
 ghost use Rattle.av_plain.specs.Step.{IsLegal, causes, next_world};
-ghost use Rattle.av_plain.specs.Refusal.{is_mprotect};
+ghost use Rattle.av_plain.specs.Refusal.{may_end_midway};
+ghost use Rattle.av_plain.specs.Load.{with_loads};
 ghost use Rattle.av_plain.specs.Map.{StopsAtHole};
-ghost use Rattle.av_plain.specs.Transcript.{Exchange, State, IsStep, IsRun, at_first, causes_of};
+ghost use Rattle.av_plain.specs.Transcript.{Exchange, State, IsStep, IsRun, at_first, causes_of, rmap_of};
 ghost use Rattle.av_plain.specs.Sound.{AllSound};
+ghost use Rattle.av_plain.specs.Covered.{AreSlotsCovered, IsRmapSound};
 ghost use Rattle.av_plain.specs.Choice.{ListsFree, ListsSlots};
-ghost use Rattle.av_trace.specs.Command.{IsCommand};
+ghost use Rattle.av_trace.specs.Command.{IsInRange};
 ghost use Rattle.av_text.specs.Number.{IsWide};
 ghost use Rattle.av_trace.specs.Reply.{IsReply};
 ghost use Rattle.av_io.specs.Count.{Rose, RoseBy};
 ghost use Rattle.av_laws.specs.Covered.{CoverBelow, CoverPages};
 ghost use Rattle.av_laws.specs.NeedsFrame.{NoneWantsFrame};
-ghost use Rattle.av_plain.specs.Device.{HasNoDevice};
+ghost use Rattle.av_plain.specs.Device.{AreLayouts, Device, HasNoDevice, setting_of};
 ghost use Rattle.av_laws.specs.ReadBack.{IsSmall, IsWideRow};
 ghost use Rattle.av_laws.specs.Determined.{
   Tells,
@@ -84,6 +87,7 @@ pub use pairs::{
 pub use slots::{
     areas_are_turned_on_anew, slots_are_given_in_turn, slots_come_back, the_first_area_gives,
 };
+pub use swap_rows::{changed_swap_rows_are_refused, swap_rows_run};
 pub use unsound::{
     changed_ledgers_are_unsound, changed_memories_are_unsound, entries_of_one_memory_are_unsound,
 };
@@ -93,11 +97,13 @@ pub use views::{
 };
 
 /// A command that is refused changes neither the memories nor the ledger. An mprotect, which can
-/// stop at a page that isn't mapped, may have changed the protection of the pages before it.
+/// stop at a page that isn't mapped, may have changed the protection of the pages before it. A
+/// swapoff that ends at a slot leaves what it brought in, and the memories but for what its loads
+/// make unclaimed.
 pub fn refusals_change_nothing()
     ensures others { (m : Setting) (w : World) (l : Ledger) (command : Command) (reply : Reply)
         (events : List Event) (error : Errno)
-        → is_mprotect command ≡ false → IsLegal m w l command reply events
+        → may_end_midway command ≡ false → IsLegal m w l command reply events
         → reply.answer ≡ Refused error
         → (next_world m w l events command reply.answer ≡ w) × (after_all l events ≡ l) }
     ensures mprotect { (m : Setting) (w : World) (l : Ledger) (p a len : ℕ) (prot : Prot)
@@ -108,13 +114,21 @@ pub fn refusals_change_nothing()
         ⊎ StopsAtHole w p a len prot error
         (next_world m w l events (Mprotect p a len prot) reply.answer))
         × (after_all l events ≡ l) }
+    ensures swapoff { (m : Setting) (w : World) (l : Ledger) (k : ℕ) (reply : Reply)
+        (events : List Event)
+        → next_world m w l events (Swapoff k) reply.answer ≡ with_loads m w l events }
 {}
 
-/// The three numbers of an out-of-memory are all frames: pinned, not cached, and cached.
+/// The three numbers of an out-of-memory are all frames: pinned, not cached, and cached. So are
+/// those of a swapoff that found no frame.
 pub fn numbers_add_up()
-    ensures { (m : Setting) (w : World) (l : Ledger) (command : Command) (reply : Reply)
+    ensures access { (m : Setting) (w : World) (l : Ledger) (command : Command) (reply : Reply)
         (events : List Event) (k : ℕ) (out : OutOf) (shown : List ℕ)
         → AllSound m w l → IsLegal m w l command reply events → reply.answer ≡ Oom k out shown
+        → out.pinned + out.noslot + out.fault ≡ m.frames }
+    ensures swapoff { (m : Setting) (w : World) (l : Ledger) (command : Command) (reply : Reply)
+        (events : List Event) (out : OutOf)
+        → AllSound m w l → IsLegal m w l command reply events → reply.answer ≡ NoFrame out
         → out.pinned + out.noslot + out.fault ≡ m.frames }
 {}
 
@@ -146,15 +160,34 @@ pub fn runs_list_free_frames()
 
 /// In a run the pages of each swap area are as the ledger has its slots: taken exactly where the
 /// slot is in use, free only where it is free, and as many as are free. So it is after each command
-/// that finds it so in a sound state.
+/// that finds it so in a sound state. Headers that are told have to be such, as those of a device
+/// are.
 pub fn runs_list_free_slots()
     ensures from_nothing { (m : Setting) (exchanges : List Exchange) (new : State)
-        → IsRun m (at_first m) exchanges new
+        → AreLayouts m → IsRun m (at_first m) exchanges new
         → ListsSlots m new.ledger new.free.slots }
     ensures each_step { (m : Setting) (old new : State) (command : Command) (reply : Reply)
-        → AllSound m old.world old.ledger → ListsSlots m old.ledger old.free.slots
+        → AreLayouts m → AllSound m old.world old.ledger → ListsSlots m old.ledger old.free.slots
         → IsStep m old command reply new
         → ListsSlots m new.ledger new.free.slots }
+    ensures of_devices { (n : ℕ) (device : Device) → AreLayouts (setting_of n device) }
+{}
+
+/// In a run of at most 2^24 commands each entry that names a frame is reached from the frame's
+/// home, through a chain alone. The pages whose entries name one slot have one root and one linear
+/// index, and where the slot is cached they are reached, too: so the frame that takes its page has a
+/// home that reaches them all. So it is after each command that finds it so in a sound state whose
+/// areas cover its pages.
+pub fn runs_cover_entries()
+    ensures from_nothing { (m : Setting) (exchanges : List Exchange) (new : State)
+        → length exchanges ≤ most_commands → IsRun m (at_first m) exchanges new
+        → IsRmapSound new.ledger (rmap_of new) × AreSlotsCovered new.ledger (rmap_of new) }
+    ensures each_step { (m : Setting) (most : ℕ) (old new : State) (command : Command)
+        (reply : Reply) → top_page ≤ most → most + top_page ≤ most_indices
+        → CoverBelow most old.world old.areas → AllSound m old.world old.ledger
+        → IsRmapSound old.ledger (rmap_of old) → AreSlotsCovered old.ledger (rmap_of old)
+        → IsStep m old command reply new
+        → IsRmapSound new.ledger (rmap_of new) × AreSlotsCovered new.ledger (rmap_of new) }
 {}
 
 /// In a run of at most 2^24 commands the areas of each process cover exactly its pages, with their
@@ -195,26 +228,26 @@ pub fn areas_has_one_answer()
         → AreRowsOf anons on rows → AreRowsOf anons on others → rows ≡ others }
 {}
 
-/// A legal reply to a command of the grammar is one that is read back from its text: its numbers
-/// are of 64 bits, its bytes below 256, and its rows as many as it says. This is so where no device
-/// is attached and no area is on, and where offsets, own anon_vmas and chains that the rows of
-/// `areas` say are of 64 bits, too. Legality says nothing of these, since it knows of memories and
+/// A legal reply to a command with values in range is one that is read back from its text: its
+/// numbers are of 64 bits, its bytes below 256, and its rows as many as it says. This is so where no
+/// device is attached, and where offsets, own anon_vmas and chains that the rows of `areas` say are
+/// of 64 bits, too. Legality says nothing of these, since it knows of memories and
 /// ledger alone: a step shows those of the state's areas, and in a run they are so, as the next law
 /// says.
 pub fn replies_are_read_back()
     ensures { (m : Setting) (w : World) (l : Ledger) (command : Command) (reply : Reply)
-        (events : List Event) → HasNoDevice m → AllSound m w l → IsSmall m w l
-        → IsCommand command → AllByRecursion IsWideRow reply.rows
+        (events : List Event) → HasNoDevice m → AllSound m w l → IsSmall m w
+        → IsInRange command → AllByRecursion IsWideRow reply.rows
         → IsLegal m w l command reply events → IsReply reply }
 {}
 
 /// So is each reply of a run from nothing on, where no device is attached, the machine's frames
-/// have numbers of 64 bits, and the commands are at most 2^24, each of the grammar. A command makes
-/// fewer than 2^36 anon_vmas, so those of a run have numbers of 64 bits.
+/// have numbers of 64 bits, and the commands are at most 2^24, each with values in range. A command
+/// makes fewer than 2^36 anon_vmas, so those of a run have numbers of 64 bits.
 pub fn replies_of_runs_are_read_back()
     ensures { (m : Setting) (exchanges : List Exchange) (new : State) → HasNoDevice m
         → IsWide m.frames → length exchanges ≤ most_commands
-        → AllByRecursion (λ (e : Exchange). IsCommand e.command) exchanges
+        → AllByRecursion (λ (e : Exchange). IsInRange e.command) exchanges
         → IsRun m (at_first m) exchanges new
         → AllByRecursion (λ (e : Exchange). IsReply e.reply) exchanges }
 {}

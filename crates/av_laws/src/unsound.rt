@@ -6,6 +6,7 @@ ghost use Rattle.av_laws.specs.Pairs.{bad_first};
 ghost use Rattle.av_laws.specs.Unsound.{
   Unsound,
   four,
+  many_areas,
   one_process,
   at_page,
   falling_processes,
@@ -27,6 +28,7 @@ ghost use Rattle.av_laws.specs.Unsound.{
   of_nobody,
   area_off,
   too_few_slots,
+  unattached,
   falling_areas,
 };
 
@@ -55,8 +57,8 @@ pub fn entries_of_one_memory_are_unsound()
 {}
 
 /// An entry without a page or without a process; a slot of an area that is off, at the header's
-/// page, behind the area, or bad; more slots in use than there are; areas or processes that fall;
-/// too many processes.
+/// page, behind the area, or bad; more slots in use than there are; an area that is on and not
+/// attached; areas or processes that fall; too many processes.
 pub fn changed_memories_are_unsound()
     ensures unmapped { Unsound four one_process no_page_ledger }
     ensures of_nobody { Unsound four one_process of_nobody }
@@ -65,7 +67,8 @@ pub fn changed_memories_are_unsound()
     ensures behind_area { Unsound four one_process (at_page 8) }
     ensures bad_slot { Unsound bad_first one_process (at_page 1) }
     ensures too_few_slots { Unsound four one_process too_few_slots }
-    ensures falling_areas { Unsound four one_process falling_areas }
+    ensures unattached { Unsound four one_process unattached }
+    ensures falling_areas { Unsound many_areas one_process falling_areas }
     ensures falling_processes { Unsound four falling_processes first_ledger }
     ensures too_many_processes { Unsound (machine 4) (crowd 4097).world first_ledger }
 {}

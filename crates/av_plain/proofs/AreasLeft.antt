@@ -7,7 +7,7 @@ use Rattle.av_base.specs.Page.{page_of}
 use Rattle.av_base.specs.Words.{is_in, with_at}
 use Rattle.av_vma.specs.declared.area.Area.{Area}
 use Rattle.av_plain.specs.Stands.{AnonsStand, View}
-use Rattle.av_plain.specs.Areas.{AnonVma, Anons, AreLeft, Areas, Homes, IsLinked, Rmap, at_home, chain_length, chain_by, no_anons, prepare_page, rmap_after, rmap_after_all, rmap_after_note, rmap_after_use, with_root}
+use Rattle.av_plain.specs.Areas.{AnonVma, Anons, AreLeft, Areas, Homes, IsLinked, Rmap, chain_length, chain_by, no_anons, prepare_page, rmap_after, rmap_after_all, rmap_after_note, rmap_after_use, with_root}
 use Rattle.av_base.specs.declared.slot.Slot.{Slot}
 use Rattle.av_plain.specs.Event.{Event, Noted, Zapped, Used, Forked, Moved, TurnedOn, TurnedOff, after, after_all, note_events, notes_of, when}
 use Rattle.av_plain.specs.Ledger.{Entry, InFrame, InSlot, Key, Ledger, Zero, entry, is_orphan}
@@ -70,15 +70,15 @@ rmap_after_all-zaps l (k ∷ ks) m r =
 
 -- what each page that is prepared keeps, and each frame's coming home, all events keep
 pub rmap_after_all-keeps : (P : Rmap → Type 0) → ((p page : ℕ) (r : Rmap) → P r → P (prepare_page p page r))
-    → ((f : ℕ) (k : Key) (r : Rmap) → P r → P (at_home f k r)) → (l : Ledger) (es : List Event) (r : Rmap) → P r → P (rmap_after_all l es r)
+    → ((homes : Homes) (r : Rmap) → P r → P (record r { homes = homes })) → (l : Ledger) (es : List Event) (r : Rmap) → P r → P (rmap_after_all l es r)
 rmap_after_all-keeps P keeps homes l [] r h = h
 rmap_after_all-keeps P keeps homes l (e ∷ es) r h = rmap_after_all-keeps P keeps homes (after l e) es (rmap_after l e r) (event e)
   where
-    note : (n : Note) → P (rmap_after_note n r)
-    note (New p a f) = homes f (p, page_of a) _ (keeps p (page_of a) r h)
+    note : (n : Note) → P (rmap_after_note l n r)
+    note (New p a f) = homes _ _ (keeps p (page_of a) r h)
     note (Zeroed p a) = h
-    note (Copied p a f) = homes f (p, page_of a) r h
-    note (Loaded s f) = h
+    note (Copied p a f) = homes _ r h
+    note (Loaded s f) = homes _ r h
     note (Mapped p a f) = h
     note (Put f s) = h
     note (Unmapped f) = h
@@ -92,7 +92,7 @@ rmap_after_all-keeps P keeps homes l (e ∷ es) r h = rmap_after_all-keeps P kee
     through : (write : Bool) (k : Key) (o : Option Entry) → P (rmap_after_use write k o r)
     through true k None = h
     through true k (Some Zero) = h
-    through true k (Some (InFrame f seen)) = homes f k r h
+    through true k (Some (InFrame f seen)) = homes _ r h
     through true k (Some (InSlot s)) = h
     through false k o = h
 
@@ -128,13 +128,13 @@ same_prepared p page r r' h =
 
 pub rmap_after_all-notes : (l : Ledger) (es : List Event) (r r' : Rmap) → AreSame r r' → AreSame (rmap_after_all l es r) (prepare_notes (notes_of es) r')
 rmap_after_all-notes l [] r r' h = h
-rmap_after_all-notes l (Noted n ∷ es) r r' h = rmap_after_all-notes (after l (Noted n)) es (rmap_after_note n r) (prepare_note n r') (note n)
+rmap_after_all-notes l (Noted n ∷ es) r r' h = rmap_after_all-notes (after l (Noted n)) es (rmap_after_note l n r) (prepare_note n r') (note n)
   where
-    note : (n : Note) → AreSame (rmap_after_note n r) (prepare_note n r')
+    note : (n : Note) → AreSame (rmap_after_note l n r) (prepare_note n r')
     note (New p a f) = let both = same_prepared p (page_of a) r r' h in record { areas = both.areas; anons = both.anons }
     note (Zeroed p a) = h
     note (Copied p a f) = record { areas = h.areas; anons = h.anons }
-    note (Loaded s f) = h
+    note (Loaded s f) = record { areas = h.areas; anons = h.anons }
     note (Mapped p a f) = h
     note (Put f s) = h
     note (Unmapped f) = h
@@ -178,7 +178,7 @@ below-prepare_page p page r h = by (makes_anon (chain_length r.anons) (r.areas p
     by false = h
 
 pub below-all : (l : Ledger) (es : List Event) (r : Rmap) → AreBelow r.anons → AreBelow (rmap_after_all l es r).anons
-below-all l es r h = rmap_after_all-keeps (λ r. AreBelow r.anons) below-prepare_page (λ f k r h. h) l es r h
+below-all l es r h = rmap_after_all-keeps (λ r. AreBelow r.anons) below-prepare_page (λ homes r h. h) l es r h
 
 pub below-left : (anons : Anons) (on : Areas) (left : Anons) → AreLeft anons on left → AreBelow anons → AreBelow left
 below-left anons on left is h v above = by (left.anon v) refl

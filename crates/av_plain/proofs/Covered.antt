@@ -1,6 +1,13 @@
 -- What holds of areas, anon_vmas and homes at all times: it holds after each event and each change of areas.
+pub mod AreaCommands
 pub mod Fork
 pub mod Mremap
+pub mod Page
+pub mod Slots
+pub mod SlotsFork
+pub mod Swap
+pub mod SwapCommands
+pub mod Zaps
 use Rattle.std.proofs.Common.{◌≡◌, ℕ, suc, ◌<◌, Bool, true, false, cond, not, ◌==◌, ◌&&◌, ◌||◌, ◌-◌, ◌⊎◌, inl, inr, [], ◌∷◌, Option, Some, None, is_some, option_map, refl, sym, ap, subst, ◌∙◌, arith, T, ◌≤◌}
 use Rattle.std.proofs.lemmas.Bool.{false≢true}
 use Rattle.std.proofs.lemmas.Bool.Decides.{nat_tests}
@@ -10,8 +17,8 @@ use Rattle.av_base.specs.Words.{is_in, with_at}
 use Rattle.av_vma.specs.declared.area.Area.{Area}
 use Rattle.av_vma.specs.Join.{first_of, index_of, is_reusable, past_of}
 use Rattle.av_vma.specs.Pages.{AreLaid, Lengths, Pages, after_prepare, has_page, home_of, loan_beside, loan_of, makes_anon, with_anon, with_area}
-use Rattle.av_plain.specs.Areas.{AnonVma, Anons, AreLeft, Rmap, at_home, chain_length, chain_by, prepare_page, with_root}
-use Rattle.av_plain.specs.Covered.{IsReached, IsRmapSound}
+use Rattle.av_plain.specs.Areas.{AnonVma, Anons, AreLeft, Rmap, at_home, chain_length, chain_by, prepare_page, root_of, with_root}
+use Rattle.av_plain.specs.Covered.{AreSlotsCovered, IsKin, IsReached, IsRmapSound, IsRooted}
 use Rattle.av_plain.specs.Event.{set_entry}
 use Rattle.av_plain.specs.Ledger.{Entry, InFrame, Key, Ledger, Setting, entry, first_ledger, key_cmp, map_count, names_frame}
 use Rattle.av_plain.specs.Transcript.{at_first, rmap_of}
@@ -178,7 +185,7 @@ unnamed-by l f none q names = by (entry l q) refl names
 -- ---- the areas change
 
 -- a home is at an area's own anon_vma
-home_parts : (page : ℕ) (x : Option Area) (h : ℕ × ℕ) → home_of page x ≡ Some h → IsSomeAnd x (λ area. (area.anon ≡ Some h.0) × (index_of area page ≡ h.1))
+pub home_parts : (page : ℕ) (x : Option Area) (h : ℕ × ℕ) → home_of page x ≡ Some h → IsSomeAnd x (λ area. (area.anon ≡ Some h.0) × (index_of area page ≡ h.1))
 home_parts page None h is = cc
 home_parts page (Some area) h is = by area.anon refl is
   where
@@ -262,7 +269,7 @@ lent_own len area (Some near) w is = by (is_reusable area near (len near.anon)) 
     by true e = e
     by false e = cc
 
-lent_beside : (len : Lengths) (on : Pages) (area : Area) (w : ℕ) → loan_beside len on area ≡ Some w →
+pub lent_beside : (len : Lengths) (on : Pages) (area : Area) (w : ℕ) → loan_beside len on area ≡ Some w →
     (page : ℕ) × IsSomeAnd (on page) (λ near. near.anon ≡ Some w)
 lent_beside len on area w is = by (loan_of len area (on (past_of area))) (loan_of len area (on (first_of area - 1))) refl refl is
   where
@@ -349,7 +356,7 @@ module _ (l : Ledger) (p page : ℕ) (r : Rmap) (laid : AreLaid (r.areas p)) (h 
   abbrev now_anons : Anons
   now_anons = cond roots (with_root r.anons) r.anons
 
-  same_chain : (own : Option ℕ) (v : ℕ) → is_in v (chain_by r.anons own) ≡ true → chain_by now_anons own ≡ chain_by r.anons own
+  pub same_chain : (own : Option ℕ) (v : ℕ) → is_in v (chain_by r.anons own) ≡ true → chain_by now_anons own ≡ chain_by r.anons own
   same_chain own v is = chain_rooted r.anons roots own v h.made is
 
   made_now : (b : Bool) (v : ℕ) → IsSome ((cond b (with_root r.anons) r.anons).anon v) → v < (cond b (with_root r.anons) r.anons).next
@@ -391,7 +398,7 @@ module _ (l : Ledger) (p page : ℕ) (r : Rmap) (laid : AreLaid (r.areas p)) (h 
   abbrev now_areas : ℕ → Pages
   now_areas = with_at p (after_prepare len r.anons.next page on) r.areas
 
-  stays : (q other : ℕ) (a : Area) → r.areas q other ≡ Some a → IsSome a.anon → now_areas q other ≡ Some a
+  pub stays : (q other : ℕ) (a : Area) → r.areas q other ≡ Some a → IsSome a.anon → now_areas q other ≡ Some a
   stays q other a is own = by (q == p) refl
     where
       by : (b : Bool) → (q == p) ≡ b → (cond b (after_prepare len r.anons.next page on) (r.areas q)) other ≡ Some a
@@ -411,7 +418,7 @@ module _ (l : Ledger) (p page : ℕ) (r : Rmap) (laid : AreLaid (r.areas p)) (h 
       by true is = got (prepared-owns len r.anons.next page on other v is)
       by false is = own_before q other v is
 
-  reached_now : (k : Key) (home : ℕ × ℕ) (x : Option Area) → r.areas k.0 k.1 ≡ x →
+  pub reached_now : (k : Key) (home : ℕ × ℕ) (x : Option Area) → r.areas k.0 k.1 ≡ x →
       IsSomeAnd x (λ a. (is_in home.0 (chain_by r.anons a.anon) ≡ true) × (index_of a k.1 ≡ home.1))
       → IsSomeAnd (now_areas k.0 k.1) (λ a. (is_in home.0 (chain_by now_anons a.anon) ≡ true) × (index_of a k.1 ≡ home.1))
   reached_now k home None e is = absurd is
@@ -435,6 +442,111 @@ module _ (l : Ledger) (p page : ℕ) (r : Rmap) (laid : AreLaid (r.areas p)) (h 
     made = made_now roots;
     own = own_now;
     covered = λ k f names. reached k (r.homes f) (h.covered k f names);
+  }
+    where
+      reached : (k : Key) (o : Option (ℕ × ℕ)) → IsSomeAnd o (IsReached r k) → IsSomeAnd o (IsReached (prepare_page p page r) k)
+      reached k None is = is
+      reached k (Some home) is = reached_now k home (r.areas k.0 k.1) refl is
+
+  -- ---- and its slots
+
+  not_next : (v : ℕ) → IsSome (r.anons.anon v) → (v == r.anons.next) ≡ false
+  not_next v there = let less = h.made v there in grind (arith, nat_tests, less)
+
+  -- an anon_vma that is there stays
+  anon_now : (v : ℕ) → IsSome (r.anons.anon v) → now_anons.anon v ≡ r.anons.anon v
+  anon_now v there = by roots
+    where
+      by : (b : Bool) → (cond b (with_root r.anons) r.anons).anon v ≡ r.anons.anon v
+      by false = refl
+      by true = ap (λ c. cond c (Some (record { root = r.anons.next; parent = r.anons.next; chain = r.anons.next ∷ [] })) (r.anons.anon v)) (not_next v there)
+
+  some_of : {A : Type 0} (P : A → Type 0) (o : Option A) → IsSomeAnd o P → IsSome o
+  some_of P None is = absurd is
+  some_of P (Some x) is = refl
+
+  member_now : (u root : ℕ) → IsSomeAnd (r.anons.anon u) (λ other. other.root ≡ root) → IsSomeAnd (now_anons.anon u) (λ other. other.root ≡ root)
+  member_now u root is = subst (λ x. IsSomeAnd x (λ (other : AnonVma). other.root ≡ root))
+      (sym (anon_now u (some_of (λ (other : AnonVma). other.root ≡ root) (r.anons.anon u) is))) is
+
+  kin_now : (v : ℕ) → IsSomeAnd (r.anons.anon v) (IsKin r.anons) → IsSomeAnd (now_anons.anon v) (IsKin now_anons)
+  kin_now v is = subst (λ x. IsSomeAnd x (IsKin now_anons)) (sym (anon_now v (some_of (IsKin r.anons) (r.anons.anon v) is))) (by (r.anons.anon v) is)
+    where
+      by : (o : Option AnonVma) → IsSomeAnd o (IsKin r.anons) → IsSomeAnd o (IsKin now_anons)
+      by None kin = kin
+      by (Some a) kin = record { root = kin.root; members = λ u among. member_now u a.root (kin.members u among) }
+
+  -- a root is its own kin
+  root_kin : roots ≡ true → IsSomeAnd (now_anons.anon r.anons.next) (IsKin now_anons)
+  root_kin made = subst (λ b. IsSomeAnd ((cond b (with_root r.anons) r.anons).anon r.anons.next) (IsKin (cond b (with_root r.anons) r.anons))) (sym made)
+      (by (r.anons.next == r.anons.next) itself)
+    where
+      one : AnonVma
+      one = record { root = r.anons.next; parent = r.anons.next; chain = r.anons.next ∷ [] }
+
+      itself : (r.anons.next == r.anons.next) ≡ true
+      itself = grind (arith, nat_tests)
+
+      member : (u : ℕ) (b : Bool) → (u == r.anons.next) ≡ b → (b || false) ≡ true →
+          IsSomeAnd (cond (u == r.anons.next) (Some (record { root = r.anons.next; parent = r.anons.next; chain = r.anons.next ∷ [] })) (r.anons.anon u))
+          (λ (other : AnonVma). other.root ≡ r.anons.next)
+      member u true e among = subst (λ c. IsSomeAnd (cond c (Some (record { root = r.anons.next; parent = r.anons.next; chain = r.anons.next ∷ [] }))
+          (r.anons.anon u)) (λ (other : AnonVma). other.root ≡ r.anons.next)) (sym e) refl
+      member u false e among = absurd (false≢true among)
+
+      by : (c : Bool) → c ≡ true →
+          IsSomeAnd (cond c (Some (record { root = r.anons.next; parent = r.anons.next; chain = r.anons.next ∷ [] })) (r.anons.anon r.anons.next))
+          (IsKin (with_root r.anons))
+      by true e = record { root = ap (λ b. b || false) itself; members = λ u among. member u (u == r.anons.next) refl among }
+      by false e = absurd (false≢true e)
+
+  kin_got : AreSlotsCovered l r → (q other v : ℕ) → IsSomeAnd (now_areas q other) (λ a. a.anon ≡ Some v) → IsSomeAnd (now_anons.anon v) (IsKin now_anons)
+  kin_got slots q other v = by (q == p)
+    where
+      makes : (b : Area) → on page ≡ Some b → is_some b.anon ≡ false → (o : Option ℕ) → loan_beside len on b ≡ o → roots ≡ not (is_some o)
+      makes b is none o e = ap (makes_anon len on) is ∙ ap (λ x. not x && not (is_some (loan_beside len on b))) none ∙ ap (λ o. not (is_some o)) e
+
+      lent : (b : Area) → on page ≡ Some b → is_some b.anon ≡ false → (o : Option ℕ) → loan_beside len on b ≡ o →
+          IsSomeAnd (now_anons.anon (unwrap_or o r.anons.next)) (IsKin now_anons)
+      lent b is none (Some w) e = let near = lent_beside len on b w e in kin_now w (slots.kin p near.0 w near.1)
+      lent b is none None e = root_kin (makes b is none None e)
+
+      got : HadOrGot len r.anons.next page on other v → IsSomeAnd (now_anons.anon v) (IsKin now_anons)
+      got (inl is) = kin_now v (slots.kin p other v is)
+      got (inr (b, is, none, e)) = subst (λ v. IsSomeAnd (now_anons.anon v) (IsKin now_anons)) (sym e) (lent b is none (loan_beside len on b) refl)
+
+      by : (b : Bool) → IsSomeAnd ((cond b (after_prepare len r.anons.next page on) (r.areas q)) other) (λ a. a.anon ≡ Some v) →
+          IsSomeAnd (now_anons.anon v) (IsKin now_anons)
+      by true is = got (prepared-owns len r.anons.next page on other v is)
+      by false is = kin_now v (slots.kin q other v is)
+
+  rooted_now : AreSlotsCovered l r → (k : Key) (home : ℕ × ℕ) → IsRooted r k home → IsRooted (prepare_page p page r) k home
+  rooted_now slots k home is = at (r.areas k.0 k.1) refl is
+    where
+      root_now : (own : ℕ) → IsSome (r.anons.anon own) → root_of now_anons own ≡ root_of r.anons own
+      root_now own there = ap (λ x. option_map_or (λ (a : AnonVma). a.root) x own) (anon_now own there)
+
+      of_area : (a : Area) → r.areas k.0 k.1 ≡ Some a → (o : Option ℕ) → a.anon ≡ o → IsSomeAnd o (λ own. root_of r.anons own ≡ home.0) →
+          index_of a k.1 ≡ home.1 → IsRooted (prepare_page p page r) k home
+      of_area a e None f is same = absurd is
+      of_area a e (Some own) f is same =
+          let there = some_of (IsKin r.anons) (r.anons.anon own) (slots.kin k.0 k.1 own (subst (λ x. IsSomeAnd x (λ a. a.anon ≡ Some own)) (sym e) f)) in
+          subst (λ x. IsSomeAnd x (λ a. IsSomeAnd a.anon (λ own. root_of now_anons own ≡ home.0) × (index_of a k.1 ≡ home.1)))
+          (sym (stays k.0 k.1 a e (subst IsSome (sym f) refl)))
+          (subst (λ x. IsSomeAnd x (λ own. root_of now_anons own ≡ home.0)) (sym f) (root_now own there ∙ is), same)
+
+      at : (o : Option Area) → r.areas k.0 k.1 ≡ o
+          → IsSomeAnd o (λ a. IsSomeAnd a.anon (λ own. root_of r.anons own ≡ home.0) × (index_of a k.1 ≡ home.1)) → IsRooted (prepare_page p page r) k home
+      at None e is = absurd is
+      at (Some a) e is = of_area a e a.anon refl is.0 is.1
+
+  -- an area is prepared
+  pub slots-prepared : AreSlotsCovered l r → AreSlotsCovered l (prepare_page p page r)
+  slots-prepared slots = record {
+    kin = kin_got slots;
+    rooted = λ s k q names other. let home = slots.rooted s k q names other in
+        (home.0, rooted_now slots k home.0 home.1, rooted_now slots q home.0 home.2);
+    cached = λ s k f at names. reached k (r.homes f) (slots.cached s k f at names);
   }
     where
       reached : (k : Key) (o : Option (ℕ × ℕ)) → IsSomeAnd o (IsReached r k) → IsSomeAnd o (IsReached (prepare_page p page r) k)

@@ -1,5 +1,5 @@
 -- Laws of the larger changes: unmapping a frame, copying a process's entries, and taking entries away from the least key on.
-use Rattle.std.proofs.Common.{◌≡◌, ℕ, ◌+◌, Bool, true, false, cond, not, ◌&&◌, T, List, [], ◌∷◌, map, filter, Option, Some, None, option_map, refl, sym, ap, subst, ◌∙◌, arith, ◌==◌, Ordering}
+use Rattle.std.proofs.Common.{◌≡◌, ℕ, ◌+◌, Bool, true, false, cond, not, ◌&&◌, T, List, [], ◌∷◌, map, filter, Option, Some, None, option_map, refl, sym, ap, subst, ◌∙◌, arith, ◌==◌, if◌then◌else◌, Ordering}
 use Rattle.std.specs.Option.{option_or}
 use Rattle.std.specs.Ordering.{is_eq, is_lt, eq_by_cmp, ordering_reverse}
 use Rattle.std.specs.declared.cmp.Ordering.TheVariants.{Less, Equal, Greater}
@@ -8,7 +8,7 @@ use Rattle.std.specs.FinMap.Entries.{find, where_key, is_sorted, below_all}
 use Rattle.av_base.specs.declared.slot.Slot.{Slot}
 use Rattle.av_base.specs.Words.{how_many}
 use Rattle.av_plain.specs.Ledger.{Key, key_cmp, Entry, InFrame, InSlot, Zero, Ledger, entry, map_count, slot_entries, names_frame, names_slot, same_slot}
-use Rattle.av_plain.specs.Event.{set_entry, change_entries, put_all}
+use Rattle.av_plain.specs.Event.{set_entry, change_entries, put_all, without_seen}
 use Rattle.av_plain.proofs.Ledger.Order.{keys_total, both_first, both_second, count-put, is_less, find_below, below_less, weight}
 use Rattle.av_plain.proofs.Ledger.{entry-set, is_sorted-set, same_key, same_key-is, same_key-itself}
 
@@ -83,6 +83,30 @@ slot_entries-unmap f s l itself = how_many-map (λ e. names_slot s e.1) (λ e. (
       | false ↦ refl
     ]
     moved (InSlot t) = omega arith
+
+-- ---- seen bits are cleared
+
+abbrev pub to_unseen : ℕ → Entry → Entry
+to_unseen f e = if names_frame f e then without_seen e else e
+
+unseen-by : (f : ℕ) (p : Entry → Bool) → ((g : ℕ) (seen now : Bool) → p (InFrame g seen) ≡ p (InFrame g now)) → (e : Entry) → p (to_unseen f e) ≡ p e
+unseen-by f p h Zero = refl
+unseen-by f p h (InFrame g seen) = elim (f == g) as (λ b. p (if b then without_seen (InFrame g seen) else InFrame g seen) ≡ p (InFrame g seen)) [
+  | true ↦ h g false seen
+  | false ↦ refl
+]
+unseen-by f p h (InSlot t) = refl
+
+pub entry-unseen : (f : ℕ) (l : Ledger) (q : Key) → entry (change_entries f without_seen l) q ≡ option_map (to_unseen f) (entry l q)
+entry-unseen f l q = find-map key_cmp (to_unseen f) q l.entries
+
+pub map_count-unseen : (f : ℕ) (l : Ledger) (j : ℕ) → map_count (change_entries f without_seen l) j ≡ map_count l j
+map_count-unseen f l j = how_many-map (λ e. names_frame j e.1) (λ e. (e.0, to_unseen f e.1)) l.entries
+    ∙ how_many-same _ _ l.entries (λ e. unseen-by f (names_frame j) (λ g seen now. refl) e.1)
+
+pub slot_entries-unseen : (f : ℕ) (l : Ledger) (s : Slot) → slot_entries (change_entries f without_seen l) s ≡ slot_entries l s
+slot_entries-unseen f l s = how_many-map (λ e. names_slot s e.1) (λ e. (e.0, to_unseen f e.1)) l.entries
+    ∙ how_many-same _ _ l.entries (λ e. unseen-by f (names_slot s) (λ g seen now. refl) e.1)
 
 -- ---- entries put in
 

@@ -160,7 +160,7 @@ unseen-names_frame f Zero = refl
 unseen-names_frame f (InFrame g seen) = refl
 unseen-names_frame f (InSlot t) = refl
 
-unseen-names_slot : (r : Slot) (e : Entry) → names_slot r (without_seen e) ≡ names_slot r e
+pub unseen-names_slot : (r : Slot) (e : Entry) → names_slot r (without_seen e) ≡ names_slot r e
 unseen-names_slot r Zero = refl
 unseen-names_slot r (InFrame g seen) = refl
 unseen-names_slot r (InSlot t) = refl

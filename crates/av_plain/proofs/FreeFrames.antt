@@ -1,10 +1,10 @@
 -- In a run the list of free frames has each free frame of the machine once: a frame comes into use only where a note takes it.
-use Rattle.std.proofs.Common.{◌≡◌, ◌⊎◌, inl, inr, ℕ, zero, suc, ◌+◌, ◌-◌, min, ◌<◌, ◌≤◌, Bool, true, false, cond, not, ◌&&◌, if◌then◌else◌, nat_lt, nat_le, T, List, [], ◌∷◌, ◌++◌, length, Option, Some, None, is_none, refl, sym, ap, subst, ◌∙◌, arith, ◌==◌}
+use Rattle.std.proofs.Common.{◌≡◌, ◌⊎◌, inl, inr, ℕ, zero, suc, ◌+◌, ◌-◌, min, ◌<◌, ◌≤◌, Bool, true, false, cond, not, ◌&&◌, if◌then◌else◌, nat_lt, nat_le, T, List, [], ◌∷◌, ◌++◌, length, map, take, Option, Some, None, is_none, refl, sym, ap, subst, ◌∙◌, arith, ◌==◌}
 use Rattle.std.proofs.lemmas.Bool.Decides.{nat_tests}
 use Rattle.std.specs.Prelude.{MatchBool, MatchOption}
 use Rattle.std.specs.FinMap.Entries.{is_sorted}
 use Rattle.av_trace.specs.declared.command.Command.{Command}
-use Rattle.av_trace.specs.declared.command.Command.TheVariants.{Spawn, Fork, Exit, Mmap, Mremap, Munmap, Mprotect, Read, Write, Maps, Areas as AsksAreas, Rmap as AsksRmap, Entry as AsksEntry, Stat}
+use Rattle.av_trace.specs.declared.command.Command.TheVariants.{Spawn, Fork, Exit, Mmap, Mremap, Munmap, Mprotect, Read, Write, Reclaim as AsksReclaim, Age, Complete, Swapon, Swapoff, Maps, Areas as AsksAreas, Rmap as AsksRmap, Entry as AsksEntry, Slot as AsksSlot, Stat}
 use Rattle.av_trace.specs.declared.place.Place.TheVariants.{Auto, At, Fixed, NoReplace}
 use Rattle.av_trace.specs.declared.reply.Errno.{Errno}
 use Rattle.av_trace.specs.declared.reply.Reply.{Reply}
@@ -16,11 +16,11 @@ use Rattle.av_trace.specs.declared.note.Cause.TheVariants.{NoSlot, Referenced, W
 use Rattle.av_trace.specs.declared.note.Note.{Note}
 use Rattle.av_trace.specs.declared.note.Note.TheVariants.{Aged, Copied, Dropped, Failed, Kept, Loaded, Mapped, New, Put, Started, Unmapped, Written, Zeroed}
 use Rattle.av_plain.specs.Access.{Accesses, End, page_events, pages_of_access}
-use Rattle.av_plain.specs.Choice.{ChoosesAll, Free, ListsFree, frame_in_note, new_free}
-use Rattle.av_plain.specs.Event.{Event, Forked, Moved, Used, after_all, after_move, after_note, after_notes, after_use, after_use_of, after_zap, change_entries, if_some, key_at, note_events, off_cache, put_all, set_entry, when, with_stale, without_seen}
+use Rattle.av_plain.specs.Choice.{ChoosesAll, Free, ListsFree, frame_in, frame_in_note, new_free}
+use Rattle.av_plain.specs.Event.{Event, Forked, Moved, TurnedOff, TurnedOn, Used, after, after_all, after_move, after_note, after_notes, after_use, after_use_of, after_zap, change_entries, if_some, key_at, note_events, off_cache, put_all, set_entry, when, with_stale}
 use Rattle.av_plain.specs.Fault.{ComesIn, CopyOnWrite, Denied, IsMade, Lost, MapCached, Need, NewPage, Ready, RunsOut, Serves, Sparing, Starved, Stop, SwapIn, Touches, ZeroPage, drop_at, drop_of_entry, drop_of_slot, is_shared, is_unneeded, need, need_of_slot, pinned_by, sparing, was_slot}
 use Rattle.av_plain.specs.Fork.{inheritance}
-use Rattle.av_plain.specs.Ledger.{Cached, Entry, InFrame, InSlot, Key, Ledger, Setting, Zero, entry, first_ledger, frame_at, has_free, is_free, is_orphan, key_cmp, map_count, names_frame, slot_of}
+use Rattle.av_plain.specs.Ledger.{Cached, Entry, InFrame, InSlot, Key, Ledger, Setting, Zero, entry, first_ledger, frame_at, has_free, is_free, is_orphan, key_cmp, keys_of_slot, map_count, names_frame, slot_of, slots_in_use}
 use Rattle.av_plain.specs.Pass.{Completes, IsPass, IsSlotFor, Seeks, Spared, TakesFor, Turns, end_note, end_notes, frames_in_turn, is_dirty, is_stuck, stays_cached, turn_notes, unmap_notes}
 use Rattle.av_plain.specs.Refusal.{Refuses, refusal, tests}
 use Rattle.av_plain.specs.Sound.{AllSound, IsSound, count, flights, holders, uses}
@@ -31,7 +31,7 @@ use Rattle.av_plain.specs.Mremap.{events_to, range_zaps, remap_events}
 use Rattle.av_plain.specs.Zap.{keys_in, keys_of_process, orphan_drop, slot_behind_key, zap_of, zaps_of}
 use Rattle.av_plain.proofs.Choice.{ChoosesFrames, frames-chosen, frames-first}
 use Rattle.av_plain.proofs.Access.{after_all-append, note_events-all}
-use Rattle.av_plain.proofs.Event.{how_many-map, how_many-same, put_all-only}
+use Rattle.av_plain.proofs.Event.{map_count-unseen, put_all-only}
 use Rattle.av_plain.proofs.Fork.{copies, child_ledger, forked-is, frames-grow}
 use Rattle.av_plain.proofs.Ledger.{entry-set, how_many-append, how_many-found, map_count-set, same_key-itself}
 use Rattle.av_plain.proofs.Ledger.Order.{weight}
@@ -44,6 +44,13 @@ use Rattle.av_plain.proofs.Sound.Counts.{frame_at-some, pair-frame, same-is}
 use Rattle.av_plain.proofs.Mremap.{others_of, shifted, then_tail, then_target}
 use Rattle.av_plain.proofs.Sound.Mremap.{frames-stay, free_target, tail-kept, target-kept}
 use Rattle.av_plain.proofs.Sound.Pages.{settle-entries}
+use Rattle.av_plain.proofs.Sound.Reclaim.{inactive-ready, outcome-kept}
+use Rattle.av_plain.proofs.Sound.Swap.Area.{turn-on-events}
+use Rattle.av_plain.proofs.Sound.Swap.Empty.{Empty, done-empty, emptied-hold, fetched-hold, first-used, map_all}
+use Rattle.av_plain.specs.Reclaim.{Outcomes, cause_of, from_tail, leave_notes}
+use Rattle.av_plain.specs.Swapoff.{Close, Closed, Empties, EndsAt, IsEmptied, IsFetched, NoRoom, TurnsOff, Unread, map_notes, sparing_area, turn_off_events}
+use Rattle.av_plain.specs.Swapon.{turn_on_events}
+use Rattle.av_trace.specs.declared.note.Cause.{Cause}
 use Rattle.av_plain.proofs.Sound.Pass.{AreReady, TurnKept, alike-uses, all-ready, count-filter, ready-first, ready-rest, turn-kept}
 use Rattle.av_plain.proofs.Sound.Steps.{alike-end_note, alike-started, alike-with_stale, all_landed, completes-kept, holders-dropped}
 use Rattle.av_plain.proofs.Sound.There.{sorted-note}
@@ -80,10 +87,10 @@ once g a (suc n) = by (g == a) refl _ (once g (a + 1) n)
 
 -- ---- the list after one event
 
-abbrev is_listed : Setting → Ledger → ℕ → Bool
+abbrev pub is_listed : Setting → Ledger → ℕ → Bool
 is_listed m l g = (uses l g == 0) && nat_lt g m.frames
 
-abbrev Lists : Setting → Ledger → List ℕ → Type 0
+abbrev pub Lists : Setting → Ledger → List ℕ → Type 0
 Lists m l free = (g : ℕ) → how_many (λ x. g == x) free ≡ cond (is_listed m l g) 1 0
 
 abbrev is_that : Option ℕ → ℕ → Bool
@@ -153,12 +160,12 @@ lists-event m l l' taken free rest first steady h g =
 -- ---- what each note does to the uses of frames
 
 -- the condition at each note: a frame that an entry or a slot comes to name without being taken is in use
-abbrev IsHeld : Ledger → Note → Type 0
+abbrev pub IsHeld : Ledger → Note → Type 0
 IsHeld l (Mapped p a f) = 0 < uses l f
 IsHeld l (Put f s) = 0 < uses l f
 IsHeld l note = Unit {0}
 
-abbrev AreHeld : Ledger → List Note → Type 0
+abbrev pub AreHeld : Ledger → List Note → Type 0
 AreHeld l [] = Unit {0}
 AreHeld l (note ∷ notes) = IsHeld l note × AreHeld (after_note note l) notes
 
@@ -177,18 +184,6 @@ set-steady l l' k f seen sorted same = record {
 -- no frame is taken, and none comes into use
 fewer-steady : (l l' : Ledger) → ((g : ℕ) → uses l g ≡ 0 → uses l' g ≡ 0) → Steady l l' None
 fewer-steady l l' h = record { stays = λ g gone other. h g gone; taken_used = λ g is. cc }
-
-unseen-frames : (f : ℕ) (l : Ledger) (j : ℕ) → map_count (change_entries f without_seen l) j ≡ map_count l j
-unseen-frames f l j = how_many-map (λ e. names_frame j e.1) (λ e. (e.0, if names_frame f e.1 then without_seen e.1 else e.1)) l.entries
-    ∙ how_many-same _ _ l.entries (λ e. each e.1)
-  where
-    each : (e : Entry) → names_frame j (if names_frame f e then without_seen e else e) ≡ names_frame j e
-    each Zero = refl
-    each (InFrame g seen) = elim (f == g) as (λ b. names_frame j (if b then without_seen (InFrame g seen) else InFrame g seen) ≡ (j == g)) [
-      | true ↦ refl
-      | false ↦ refl
-    ]
-    each (InSlot t) = refl
 
 note-steady : (l : Ledger) (note : Note) → T (is_sorted key_cmp l.entries) → IsHeld l note → Steady l (after_note note l) (frame_in_note note)
 note-steady l (Zeroed p a) sorted h = fewer-steady l _ (λ g gone. let e = map_count-set (key_at p a) Zero l g sorted in omega (arith, gone, e))
@@ -231,13 +226,13 @@ note-steady l (Dropped s) sorted h = fewer-steady l _ (λ g gone. let a =
     let b = holders-dropped l s g in omega (arith, gone, a, b))
 note-steady l (Kept f Writeback) sorted h = fewer-steady l _ (λ g gone. gone)
 note-steady l (Kept f WriteStarted) sorted h = fewer-steady l _ (λ g gone. gone)
-note-steady l (Kept f Referenced) sorted h = fewer-steady l _ (λ g gone. let e = unseen-frames f l g in omega (arith, e, gone))
+note-steady l (Kept f Referenced) sorted h = fewer-steady l _ (λ g gone. let e = map_count-unseen f l g in omega (arith, e, gone))
 note-steady l (Kept f NoSlot) sorted h = fewer-steady l _ (λ g gone. gone)
-note-steady l (Aged f) sorted h = fewer-steady l _ (λ g gone. let e = unseen-frames f l g in omega (arith, e, gone))
+note-steady l (Aged f) sorted h = fewer-steady l _ (λ g gone. let e = map_count-unseen f l g in omega (arith, e, gone))
 
 -- ---- several notes
 
-notes-lists : (m : Setting) (l : Ledger) (notes : List Note) (free free' : List ℕ)
+pub notes-lists : (m : Setting) (l : Ledger) (notes : List Note) (free free' : List ℕ)
     → T (is_sorted key_cmp l.entries) → AreHeld l notes
     → ChoosesFrames m l (note_events notes) free free' → Lists m l free
     → Lists m (after_notes l notes) free'
@@ -267,18 +262,20 @@ held-completes l (t ∷ ts) notes c = held-is l notes _ c.2 (held-append l (end_
     one l false true = (tt, (tt, tt))
     one l false false = (tt, tt)
 
-held-turn : (l : Ledger) (f : ℕ) (t : Slot) (failed : Bool) → 0 < uses l f → AreHeld l (turn_notes l f t failed)
-held-turn l f t failed count = held-append l (unmap_notes l f t) _ (held-append l (when (is_none (slot_of l f)) (Put f t)) _ (put (is_none (slot_of l f)))
-    (unmaps _ (not (map_count l f == 0)))) (writes _ (is_dirty l f t))
+held-unmap : (l : Ledger) (f : ℕ) (t : Slot) → 0 < uses l f → AreHeld l (unmap_notes l f t)
+held-unmap l f t in_use = held-append l (when (is_none (slot_of l f)) (Put f t)) _ (put (is_none (slot_of l f))) (unmaps _ (not (map_count l f == 0)))
   where
     put : (b : Bool) → AreHeld l (when b (Put f t))
-    put true = (count, tt)
+    put true = (in_use, tt)
     put false = tt
 
     unmaps : (l : Ledger) (b : Bool) → AreHeld l (when b (Unmapped f))
     unmaps l true = (tt, tt)
     unmaps l false = tt
 
+held-turn : (l : Ledger) (f : ℕ) (t : Slot) (failed : Bool) → 0 < uses l f → AreHeld l (turn_notes l f t failed)
+held-turn l f t failed in_use = held-append l (unmap_notes l f t) _ (held-unmap l f t in_use) (writes _ (is_dirty l f t))
+  where
     ends : (l : Ledger) (failed : Bool) → IsHeld l (end_note failed t)
     ends l true = tt
     ends l false = tt
@@ -568,6 +565,76 @@ remap-lists m l p from n to k free free' s c h = by (to == from) c
         (lists-event m tail (after_move p (min n k) from to tail) None two.0 last.1.0 last.1.1
         (move-steady m tail p (min n k) from to (tail-kept m l p from n to k s) (free_target m l p from n to k s)) second))
 
+-- ---- reclaim, age and complete
+
+held-leave : (l : Ledger) (f : ℕ) (t : Slot) → 0 < uses l f → AreHeld l (leave_notes l f t)
+held-leave l f t in_use = held-append l (unmap_notes l f t) _ (held-unmap l f t in_use) (writes _ (is_dirty l f t))
+  where
+    writes : (l : Ledger) (b : Bool) → AreHeld l (if b then Started t ∷ Kept f WriteStarted ∷ [] else Dropped t ∷ [])
+    writes l true = (tt, (tt, tt))
+    writes l false = (tt, tt)
+
+held-outcomes : (m : Setting) (sp : Spared) (l : Ledger) (fs : List ℕ) (notes : List Note) → IsSound m l → AreReady l fs → Outcomes m sp l fs notes →
+    AreHeld l notes
+held-outcomes m sp l [] notes s ready h = held-is l notes [] h tt
+held-outcomes m sp l (f ∷ fs) notes s ready h =
+    let in_use = ready-first l f fs ready in
+    let here = outcome-kept m sp l f h.0 s in_use h.3 in
+    held-is l notes (h.0 ++ h.1) h.2 (held-append l h.0 h.1 (by (cause_of m sp l f) in_use h.3)
+    (held-outcomes m sp (after_notes l h.0) fs h.1 here.sound (ready-rest l (after_notes l h.0) f fs here.others ready) h.4))
+  where
+    by : (o : Option Cause) → 0 < uses l f → MatchOption o ((t : Slot) × IsSlotFor m sp l f t × (h.0 ≡ leave_notes l f t)) (λ cause. h.0 ≡ Kept f cause ∷ []) →
+        AreHeld l h.0
+    by None in_use q = held-is l h.0 (leave_notes l f q.0) q.2 (held-leave l f q.0 in_use)
+    by (Some cause) in_use q = held-is l h.0 (Kept f cause ∷ []) q (tt, tt)
+
+held-ages : (l : Ledger) (fs : List ℕ) → AreHeld l (map Aged fs)
+held-ages l [] = tt
+held-ages l (f ∷ fs) = (tt, held-ages (after_note (Aged f) l) fs)
+
+-- ---- swapoff
+
+held-maps : (l : Ledger) (f : ℕ) (t : Slot) (ks : List Key) → 0 < holders l f → AreHeld l (map_all ks f ++ Dropped t ∷ [])
+held-maps l f t [] held = (tt, tt)
+held-maps l f t (k ∷ ks) held = (omega (arith, held), held-maps (after_note (Mapped k.0 (address_of k.1) f) l) f t ks held)
+
+held-fetched : (m : Setting) (sp : Spared) (l : Ledger) (t : Slot) (f : ℕ) (notes : List Note) → IsSound m l → IsFetched m sp l t f notes → AreHeld l notes
+held-fetched m sp l t f notes s h = by (frame_at l t) h
+  where
+    by : (o : Option ℕ) → MatchOption o (TakesFor m sp l notes (Loaded t) × (frame_at (after_notes l notes) t ≡ Some f)) (λ g. (notes ≡ []) × (f ≡ g)) →
+        AreHeld l notes
+    by None q = held-takes m sp l notes (Loaded t) s (λ l f. tt) q.0
+    by (Some g) q = held-is l notes [] q.0 tt
+
+held-emptied : (m : Setting) (w : World) (sp : Spared) (l : Ledger) (t : Slot) (notes : List Note) → Empty m w l → 0 < count l t →
+    IsEmptied m sp l t notes → AreHeld l notes
+held-emptied m w sp l t notes e used h =
+    let l1 = after_notes l h.fetched in
+    let f = fetched-hold m w sp l t h.frame h.fetched e used h.fetches in
+    held-is l notes _ h.whole (held-append l h.fetched (map_notes l1 t h.frame) (held-fetched m sp l t h.frame h.fetched e.holds.sound h.fetches)
+    (held-maps l1 h.frame t (keys_of_slot l1 t) (let p = pair-frame t h.frame l1.cache in let q = f.pair in omega (arith, p, q))))
+
+held-ends : (m : Setting) (sp : Spared) (k : ℕ) (l : Ledger) (pages : List ℕ) (notes : List Note) (end : Close) → IsSound m l →
+    EndsAt m sp k l pages notes end → AreHeld l notes
+held-ends m sp k l [] notes end s h = held-is l notes [] h.0 tt
+held-ends m sp k l (page ∷ pages) notes end s h = held-seeks m sp l notes s h.1
+
+held-empties : (m : Setting) (w : World) (sp : Spared) (k : ℕ) (l : Ledger) (pages : List ℕ) (notes : List Note) (end : Close) → Empty m w l →
+    Empties m sp k l pages notes end → AreHeld l notes
+held-empties m w sp k l [] notes end e h = held-ends m sp k l (slots_in_use m l k) notes end e.holds.sound h
+held-empties m w sp k l (page ∷ pages) notes end e h =
+    let used = first-used m l k page h.0 h.3 in
+    held-is l notes (h.1 ++ h.2) h.4 (held-append l h.1 h.2 (held-emptied m w sp l (record { area = k; page = page }) h.1 e used h.5)
+    (held-empties m w sp k (after_notes l h.1) pages h.2 end (emptied-hold m w sp l (record { area = k; page = page }) h.1 e used h.5) h.6))
+
+-- areas that are turned on or off leave frames alone
+switch-lists : (m : Setting) (l l' : Ledger) (e : Event) (free free' : List ℕ) → after l e ≡ l' → frame_in e ≡ None → ((g : ℕ) → uses l' g ≡ uses l g) →
+    ChoosesFrames m l (e ∷ []) free free' → Lists m l free → Lists m l' free'
+switch-lists m l l' e free free' is none same c h = subst (λ x. Lists m x free') is
+    (subst (Lists m (after l e)) (sym (c.2 ∙ c.1.2)) (lists-event m l (after l e) None free c.1.0
+    (subst (λ o. MatchOption o (free ≡ c.1.0) (λ f. free ≡ f ∷ c.1.0)) none c.1.1)
+    (fewer-steady l (after l e) (λ g gone. ap (λ x. uses x g) is ∙ same g ∙ gone)) h))
+
 -- ---- a step, and a run
 
 legal-lists : (m : Setting) (w : World) (l : Ledger) (command : Command) (reply : Reply)
@@ -595,6 +662,38 @@ legal-lists m w l command reply es free free' sound legal c h = by (refusal (tes
     moves p from n k (Some to) e = subst (λ es. Lists m (after_all l es) free') (sym e)
         (remap-lists m l p from n to k free free' s (subst (λ es. ChoosesFrames m l es free free') e c) h)
 
+    noted : (notes : List Note) → es ≡ note_events notes → AreHeld l notes → Lists m (after_all l es) free'
+    noted notes e held = subst (λ es. Lists m (after_all l es) free') (sym e) (subst (λ x. Lists m x free') (sym (note_events-all l notes))
+        (notes-lists m l notes free free' s.in_order held (subst (λ es. ChoosesFrames m l es free free') e c) h))
+
+    turns_on : (k : ℕ) → es ≡ turn_on_events k reply.answer → (turn_on_events k reply.answer ≡ [])
+        ⊎ ((slots : ℕ) × (bad : ℕ) × (turn_on_events k reply.answer ≡ TurnedOn k slots bad ∷ [])) → Lists m (after_all l es) free'
+    turns_on k e (inl i) = none (e ∙ i)
+    turns_on k e (inr (slots, bad, i)) = subst (λ es. Lists m (after_all l es) free') (sym (e ∙ i))
+        (switch-lists m l (after l (TurnedOn k slots bad)) (TurnedOn k slots bad) free free' refl refl (λ g. refl)
+        (subst (λ es. ChoosesFrames m l es free free') (e ∙ i) c) h)
+
+    closes : (l' : Ledger) (k : ℕ) (end : Close) (mid : List ℕ) → ChoosesFrames m l' (turn_off_events k end) mid free' → Lists m l' mid →
+        Lists m (after_all l' (turn_off_events k end)) free'
+    closes l' k Closed mid c h = switch-lists m l' (after l' (TurnedOff k)) (TurnedOff k) mid free' refl refl (λ g. refl) c h
+    closes l' k (NoRoom out) mid c h = subst (Lists m l') (sym c) h
+    closes l' k Unread mid c h = subst (Lists m l') (sym c) h
+
+    turns_off : (k : ℕ) → TurnsOff m w l k es reply.answer reply.rows → Lists m (after_all l es) free'
+    turns_off k q =
+        let notes = q.done ++ q.notes in
+        let now = after_notes l q.done in
+        let empty = done-empty m w l q.done sound q.completes in
+        let held = held-append l q.done q.notes (held-completes l l.flight q.done q.completes)
+        (held-empties m w (sparing_area w k now) k now q.pages q.notes q.end empty q.empties) in
+        let both = frames-first m l (note_events notes) (turn_off_events k q.end) free free' (subst (λ es. ChoosesFrames m l es free free') q.whole c) in
+        let first = notes-lists m l notes free both.0 s.in_order held both.1 h in
+        let same = note_events-all l notes in
+        subst (λ es. Lists m (after_all l es) free') (sym q.whole)
+        (subst (λ x. Lists m x free') (sym (after_all-append l (note_events notes) (turn_off_events k q.end)
+        ∙ ap (λ x. after_all x (turn_off_events k q.end)) same))
+        (closes (after_notes l notes) k q.end both.0 (subst (λ x. ChoosesFrames m x (turn_off_events k q.end) both.0 free') same both.2) first))
+
     follows : (command : Command) → refusal (tests m w l command) ≡ None → Follows m w l command es reply.answer reply.rows → Lists m (after_all l es) free'
     follows (Spawn p) fine q = none q.1
     follows (Fork p c) fine q = forks p c (may-fork m w l p c fine).child q.1
@@ -608,10 +707,16 @@ legal-lists m w l command reply es free free' sound legal c h = by (refusal (tes
     follows (Mremap p a old new mode) fine q = moves p (page_of a) (pages_of old) (pages_of new) q.0 q.3
     follows (Read p a n) fine q = accesses-lists m w l p (pages_of_access false a n) es q.0 free free' s q.2 c h
     follows (Write p a bytes) fine q = accesses-lists m w l p (pages_of_access true a (length bytes)) es q.0 free free' s q.1 c h
+    follows (AsksReclaim n) fine q = noted q.0 q.3 (held-outcomes m (sparing w l None) l (from_tail n l.inactive) q.0 s (inactive-ready m l n s) q.1)
+    follows (Age n) fine q = noted (map Aged (from_tail n l.active)) q.1 (held-ages l (from_tail n l.active))
+    follows (Complete n) fine q = noted q.0 q.3 (held-completes l (take n l.flight) q.0 q.1)
+    follows (Swapon k) fine q = turns_on k q.1 (turn-on-events k reply.answer)
+    follows (Swapoff k) fine q = turns_off k q
     follows (Maps p) fine q = none q.2
     follows (AsksAreas p) fine q = none q.2
     follows (AsksRmap p a) fine q = none q.1
     follows (AsksEntry p a) fine q = none q.1
+    follows (AsksSlot k page) fine q = none q.1
     follows Stat fine q = none q.1
 
     by : (o : Option Errno) → refusal (tests m w l command) ≡ o → MatchOption o (Follows m w l command es reply.answer reply.rows)
@@ -638,10 +743,10 @@ first-lists m g = once g 0 m.frames ∙ ap (λ b. cond b 1 0) (plain g m.frames)
     plain : (g n : ℕ) → (nat_le 0 g && nat_lt g (0 + n)) ≡ nat_lt g n
     plain g n = grind (arith, nat_tests)
 
-to_lists : (m : Setting) (l : Ledger) (free : List ℕ) → ListsFree m l free → Lists m l free
+pub to_lists : (m : Setting) (l : Ledger) (free : List ℕ) → ListsFree m l free → Lists m l free
 to_lists m l free h f = h f ∙ ap (λ b. cond (b && nat_lt f m.frames) 1 0) (free-is l f)
 
-from_lists : (m : Setting) (l : Ledger) (free : List ℕ) → Lists m l free → ListsFree m l free
+pub from_lists : (m : Setting) (l : Ledger) (free : List ℕ) → Lists m l free → ListsFree m l free
 from_lists m l free h f = h f ∙ ap (λ b. cond (b && nat_lt f m.frames) 1 0) (sym (free-is l f))
 
 pub first-lists_free : (m : Setting) → ListsFree m first_ledger (range_with_len 0 m.frames)

@@ -1,7 +1,7 @@
 -- Without a device no slot is in use: a page has at most one note, and is never lost.
 use Rattle.std.specs.List.{AllByRecursion, range_with_len}
 use Rattle.std.specs.Prelude.{MatchBool, MatchOption, IsTrue, unwrap_or}
-use Rattle.std.proofs.Common.{◌≡◌, ◌⊎◌, inl, inr, ℕ, zero, suc, ◌+◌, ◌-◌, ◌<◌, min, Bool, true, false, cond, not, ◌&&◌, List, [], ◌∷◌, ◌++◌, Option, Some, None, is_some, refl, sym, ap, subst, ◌∙◌, arith, ◌==◌, nat_lt, append-nil}
+use Rattle.std.proofs.Common.{◌≡◌, ◌⊎◌, inl, inr, ℕ, zero, suc, ◌+◌, ◌-◌, ◌<◌, min, Bool, true, false, cond, not, ◌&&◌, List, [], ◌∷◌, ◌++◌, map, take, Option, Some, None, is_none, is_some, refl, sym, ap, subst, ◌∙◌, arith, ◌==◌, nat_lt, append-nil}
 use Rattle.std.proofs.lemmas.Bool.Decides.{nat_tests}
 use Rattle.av_base.specs.Page.{address_of}
 use Rattle.av_base.specs.Words.{how_many}
@@ -11,26 +11,28 @@ use Rattle.av_trace.specs.declared.reply.OutOf.{OutOf}
 use Rattle.av_trace.specs.declared.note.Note.TheVariants.{Aged, Copied, Dropped, Failed, Kept, Loaded, Mapped, New, Put, Started, Unmapped, Written, Zeroed}
 use Rattle.av_plain.specs.Device.{HasNoDevice}
 use Rattle.av_plain.specs.World.{Page, World, pages}
-use Rattle.av_plain.specs.Ledger.{has_free_slot, is_open, slot_count, Cached, Entry, InFrame, InSlot, Key, Ledger, Setting, Zero, entry, has_free, is_on, is_usable, may_give, names_slot, same_slot, size_of, slot_entries, slot_of}
-use Rattle.av_plain.specs.Event.{Event, Moved, Used, after_all, after_note, after_notes, note_events, notes_of}
-use Rattle.av_plain.specs.Pass.{Completes, IsPass, IsSlotFor, Seeks, Spared, Turns, frames_in_turn, is_stuck, stays_cached, turn_notes}
+use Rattle.av_plain.specs.Ledger.{has_free_slot, is_open, slot_count, Cached, Entry, InFrame, InSlot, Key, Ledger, Setting, Zero, entry, SwapArea, has_free, is_on, is_usable, map_count, may_give, names_slot, same_slot, size_of, slot_entries, slot_of}
+use Rattle.av_plain.specs.Event.{Event, Moved, Used, after_all, after_note, after_notes, note_events, notes_of, when}
+use Rattle.av_plain.specs.Pass.{Completes, IsPass, IsSlotFor, Seeks, Spared, Turns, frames_in_turn, is_dirty, is_stuck, stays_cached, turn_notes}
 use Rattle.av_plain.specs.Fault.{drop_of_slot, ComesIn, CopyOnWrite, Denied, IsMade, Lost, MapCached, Need, NewPage, Ready, RunsOut, Serves, Sparing, Starved, Stop, SwapIn, Touches, ZeroPage, drop_at, drop_of_entry, is_shared, need, permits, pinned_by, sparing, was_slot}
 use Rattle.av_plain.specs.Access.{Accesses, End, Stopped, Whole, page_events}
-use Rattle.av_plain.specs.Sound.{count, flights, is_there, slots}
-use Rattle.av_plain.proofs.Ledger.{how_many-found}
+use Rattle.av_plain.specs.Sound.{AreasFit, count, flights, is_there, slots}
+use Rattle.av_plain.proofs.Event.{slot_entries-unseen}
+use Rattle.av_plain.proofs.Ledger.{how_many-append, how_many-found}
 use Rattle.av_plain.proofs.Ledger.NoSwap.{no_slot}
 use Rattle.av_plain.proofs.Access.{notes_of-append, notes_of-note_events}
 use Rattle.av_plain.proofs.Sound.Counts.{slot-itself}
 use Rattle.av_plain.proofs.Sound.There.{InAreas, accesses-in}
-use Rattle.std.specs.FinMap.Entries.{is_sorted}
+use Rattle.std.specs.FinMap.Entries.{find, is_sorted}
+use Rattle.std.specs.Ordering.{eq_by_cmp, nat_cmp}
 use Rattle.std.specs.Prelude.{if◌then◌else◌, length, T}
 use Rattle.av_base.specs.Page.{page_of, pages_of}
 use Rattle.av_trace.specs.declared.command.Command.{Command}
-use Rattle.av_trace.specs.declared.command.Command.TheVariants.{Spawn, Fork, Exit, Mmap, Mremap, Munmap, Mprotect, Read, Write, Maps, Areas as AsksAreas, Rmap as AsksRmap, Entry as AsksEntry, Stat}
+use Rattle.av_trace.specs.declared.command.Command.TheVariants.{Spawn, Fork, Exit, Mmap, Mremap, Munmap, Mprotect, Read, Write, Reclaim, Age, Complete, Swapon, Swapoff, Maps, Areas as AsksAreas, Rmap as AsksRmap, Entry as AsksEntry, Slot as AsksSlot, Stat}
 use Rattle.av_trace.specs.declared.place.Place.{Place}
 use Rattle.av_trace.specs.declared.place.Place.TheVariants.{Auto, At, Fixed, NoReplace}
 use Rattle.av_trace.specs.declared.reply.Errno.{Errno}
-use Rattle.av_trace.specs.declared.reply.Errno.TheVariants.{Enomem, Eperm}
+use Rattle.av_trace.specs.declared.reply.Errno.TheVariants.{Ebusy, Einval, Enomem, Eperm}
 use Rattle.av_trace.specs.declared.reply.Reply.{Reply}
 use Rattle.av_trace.specs.declared.row.Row.{Row}
 use Rattle.av_trace.specs.declared.reply.Answer.{Answer}
@@ -44,7 +46,10 @@ use Rattle.av_plain.proofs.Mremap.{then_target}
 use Rattle.av_plain.proofs.Sound.Zap.{zaps-in}
 use Rattle.av_plain.specs.Pass.{fails, how_many_others, is_fail}
 use Rattle.av_plain.specs.Place.{IsMapAt}
-use Rattle.av_plain.specs.Refusal.{Refuses, Tests, refusal, tests}
+use Rattle.av_plain.specs.Reclaim.{Outcome, Outcomes, cause_of, from_tail, leave_notes}
+use Rattle.av_trace.specs.declared.note.Cause.{Cause}
+use Rattle.av_trace.specs.declared.note.Cause.TheVariants.{NoSlot, Referenced, WriteStarted, Writeback}
+use Rattle.av_plain.specs.Refusal.{Refuses, Tests, is_off, is_outside, no_device_at, refusal, tests}
 use Rattle.av_plain.specs.Report.{entry_answer, walk_answer}
 use Rattle.av_plain.specs.Sound.{AllSound}
 use Rattle.av_plain.specs.Step.{Follows, IsLegal, causes, failed_frames, fault_answers}
@@ -110,7 +115,7 @@ no-slots m l none h = record {
 
 -- ---- a pass has no notes
 
-ungiven : (m : Setting) (closing : Option ℕ) (l : Ledger) (s : Slot) → HasNoDevice m → IsTrue (may_give m closing l s) → ⊥
+pub ungiven : (m : Setting) (closing : Option ℕ) (l : Ledger) (s : Slot) → HasNoDevice m → IsTrue (may_give m closing l s) → ⊥
 ungiven m closing l s none h = by (is_on l s.area) (nat_lt 0 s.page) (nat_lt s.page (size_of m s.area)) (slot_count l s == 0) (is_usable m s)
     (is_open closing s.area) (has_free_slot m l s.area) small h
   where
@@ -505,21 +510,98 @@ entry-faultless l (Some Zero) = record { told = refl; failed = refl }
 entry-faultless l (Some (InFrame f seen)) = record { told = refl; failed = refl }
 entry-faultless l (Some (InSlot s)) = record { told = refl; failed = refl }
 
+-- reclaim ends no write
+leave-faultless : (l : Ledger) (f : ℕ) (t : Slot) → fails (leave_notes l f t) ≡ 0
+leave-faultless l f t = by (is_none (slot_of l f)) (not (map_count l f == 0)) (is_dirty l f t)
+  where
+    by : (a b c : Bool) → fails ((when a (Put f t) ++ when b (Unmapped f)) ++ (if c then Started t ∷ Kept f WriteStarted ∷ [] else Dropped t ∷ [])) ≡ 0
+    by true true true = refl
+    by true true false = refl
+    by true false true = refl
+    by true false false = refl
+    by false true true = refl
+    by false true false = refl
+    by false false true = refl
+    by false false false = refl
+
+pub outcomes-faultless : (m : Setting) (sp : Spared) (l : Ledger) (fs : List ℕ) (notes : List Note) → Outcomes m sp l fs notes → fails notes ≡ 0
+outcomes-faultless m sp l [] notes h = ap fails h
+outcomes-faultless m sp l (f ∷ fs) notes h = ap fails h.2 ∙ how_many-append is_fail h.0 h.1
+    ∙ (λ i. by (cause_of m sp l f) h.3 i + outcomes-faultless m sp (after_notes l h.0) fs h.1 h.4 i)
+  where
+    by : (o : Option Cause) → MatchOption o ((t : Slot) × IsSlotFor m sp l f t × (h.0 ≡ leave_notes l f t)) (λ cause. h.0 ≡ Kept f cause ∷ []) →
+        fails h.0 ≡ 0
+    by None q = ap fails q.2 ∙ leave-faultless l f q.0
+    by (Some cause) q = ap fails q
+
+pub ages-faultless : (fs : List ℕ) → fails (map Aged fs) ≡ 0
+ages-faultless [] = refl
+ages-faultless (f ∷ fs) = ap (λ n. 0 + n) (ages-faultless fs)
+
+-- without a device each frame is kept
+pub kept-alone : (m : Setting) (sp : Spared) (l : Ledger) (f : ℕ) (notes : List Note) → HasNoDevice m → HasNoSlots l → Outcome m sp l f notes →
+    (cause : Cause) × (notes ≡ Kept f cause ∷ [])
+kept-alone m sp l f notes none bare h = by (cause_of m sp l f) h
+  where
+    given : (s : Slot) (o : Option Slot) → o ≡ None → MatchOption o (IsTrue (may_give m sp.closing l s)) (λ t. s ≡ t) → ⊥
+    given s None e may = ungiven m sp.closing l s none may
+    given s (Some t) e same = cc
+
+    by : (o : Option Cause) → MatchOption o ((s : Slot) × IsSlotFor m sp l f s × (notes ≡ leave_notes l f s)) (λ cause. notes ≡ Kept f cause ∷ []) →
+        (cause : Cause) × (notes ≡ Kept f cause ∷ [])
+    by None q = absurd (given q.0 (slot_of l f) (no_slot l f bare.cache) q.1)
+    by (Some cause) q = (cause, q)
+
+-- and there are no slots still
+pub kept-bare : (l : Ledger) (f : ℕ) (cause : Cause) → HasNoSlots l → HasNoSlots (after_note (Kept f cause) l)
+kept-bare l f Writeback h = record { cache = h.cache; flight = h.flight; entries = h.entries }
+kept-bare l f WriteStarted h = record { cache = h.cache; flight = h.flight; entries = h.entries }
+kept-bare l f NoSlot h = record { cache = h.cache; flight = h.flight; entries = h.entries }
+kept-bare l f Referenced h = record { cache = h.cache; flight = h.flight; entries = λ s. slot_entries-unseen f l s ∙ h.entries s }
+
+-- without a device no area is on
+pub none-on : (m : Setting) (l : Ledger) → HasNoDevice m → AreasFit m l → l.on ≡ []
+none-on m l none fits = by l.on fits.attached
+  where
+    same : (k : ℕ) → eq_by_cmp nat_cmp k k ≡ true
+    same k = grind (arith, nat_tests)
+
+    by : (on : List (ℕ × SwapArea)) → ((k : ℕ) → is_some (find nat_cmp k on) ≡ true → 0 < size_of m k) → on ≡ []
+    by [] has = refl
+    by (a ∷ on) has =
+        let sized = has a.0 (ap (λ b. is_some (cond b (Some a.1) (find nat_cmp a.0 on))) (same a.0)) in
+        let empty : size_of m a.0 ≡ 0 = ap (λ o. unwrap_or o 0) (none a.0) in absurd (omega (arith, sized, empty))
+
+-- none is turned on, off, or asked for its slots
+pub no-swapon : (m : Setting) (k : ℕ) (rest : Tests) → HasNoDevice m → refusal ((no_device_at m k, Einval) ∷ rest) ≡ None → ⊥
+no-swapon m k rest none fine = by (no_device_at m k) (ap is_none (none k)) fine
+  where
+    by : (b : Bool) → b ≡ true → (if b then Some Einval else refusal rest) ≡ None → ⊥
+    by true is h = cc
+    by false is h = cc
+
+pub no-area : (m : Setting) (l : Ledger) (k : ℕ) (rest : Tests) → HasNoDevice m → AreasFit m l → refusal ((is_off l k, Einval) ∷ rest) ≡ None → ⊥
+no-area m l k rest none fits fine = by (is_on l k) (fits.attached k) fine
+  where
+    by : (b : Bool) → (b ≡ true → 0 < size_of m k) → (if not b then Some Einval else refusal rest) ≡ None → ⊥
+    by true has h = let sized = has refl in let empty : size_of m k ≡ 0 = ap (λ o. unwrap_or o 0) (none k) in omega (arith, sized, empty)
+    by false has h = cc
+
 follows-faultless : (m : Setting) (w : World) (l : Ledger) (command : Command) (events : List Event) (answer : Answer) (rows : List Row) → HasNoDevice m →
-    InAreas m l → Follows m w l command events answer rows → Faultless events answer
-follows-faultless m w l (Spawn p) events answer rows none s h = record {
+    InAreas m l → refusal (tests m w l command) ≡ None → Follows m w l command events answer rows → Faultless events answer
+follows-faultless m w l (Spawn p) events answer rows none s fine h = record {
   notes = ap (λ es. fails (notes_of es)) h.1;
   answered = is-faultless answer _ h.0
       (record { told = refl; failed = refl });
 }
-follows-faultless m w l (Fork p q) events answer rows none s h =
+follows-faultless m w l (Fork p q) events answer rows none s fine h =
     record { notes = ap (λ es. fails (notes_of es)) h.1; answered = is-faultless answer _ h.0 (record { told = refl; failed = refl }) }
-follows-faultless m w l (Exit p) events answer rows none s h = record {
+follows-faultless m w l (Exit p) events answer rows none s fine h = record {
   notes = ap (λ es. fails (notes_of es)) h.1 ∙ ap fails (no-zap-notes m l (keys_of_process l p) none s);
   answered =
       is-faultless answer _ h.0 (record { told = refl; failed = refl });
 }
-follows-faultless m w l (Mmap p len prot place) events answer rows none s h =
+follows-faultless m w l (Mmap p len prot place) events answer rows none s fine h =
     record { notes = ap (λ es. fails (notes_of es)) h.3 ∙ ap fails (no-place-notes place); answered = by h.0 h.2 }
   where
     by : (to : Option ℕ) → IsMapAt answer to → IsFaultless answer
@@ -531,12 +613,12 @@ follows-faultless m w l (Mmap p len prot place) events answer rows none s h =
     no-place-notes (At a) = refl
     no-place-notes (Fixed a) = no-zap-notes m l (keys_in l p (page_of a) (pages_of len)) none s
     no-place-notes (NoReplace a) = refl
-follows-faultless m w l (Munmap p a len) events answer rows none s h =
+follows-faultless m w l (Munmap p a len) events answer rows none s fine h =
     record {
       notes = ap (λ es. fails (notes_of es)) h.1 ∙ ap fails (no-zap-notes m l (keys_in l p (page_of a) (pages_of len)) none s);
       answered = is-faultless answer _ h.0 (record { told = refl; failed = refl });
     }
-follows-faultless m w l (Mprotect p a len prot) events answer rows none s h =
+follows-faultless m w l (Mprotect p a len prot) events answer rows none s fine h =
     record {
       notes = ap (λ es. fails (notes_of es)) h.1;
       answered = is-faultless answer _ h.0
@@ -546,7 +628,7 @@ follows-faultless m w l (Mprotect p a len prot) events answer rows none s h =
     by : (b : Bool) → IsFaultless (if b then Done else Refused Enomem)
     by true = record { told = refl; failed = refl }
     by false = record { told = refl; failed = refl }
-follows-faultless m w l (Mremap p a old new mode) events answer rows none s h = record
+follows-faultless m w l (Mremap p a old new mode) events answer rows none s fine h = record
     { notes = ap (λ es. fails (notes_of es)) h.3 ∙ quiet h.0; answered = by h.0 h.2 }
   where
     by : (to : Option ℕ) → IsMapAt answer to → IsFaultless answer
@@ -556,26 +638,51 @@ follows-faultless m w l (Mremap p a old new mode) events answer rows none s h = 
     quiet : (to : Option ℕ) → fails (notes_of (events_to l p (page_of a) (pages_of old) to (pages_of new))) ≡ 0
     quiet None = refl
     quiet (Some to) = ap fails (no-remap-notes m l p (page_of a) (pages_of old) to (pages_of new) none s)
-follows-faultless m w l (Read p a n) events answer rows none s h =
+follows-faultless m w l (Read p a n) events answer rows none s fine h =
     let plain = accesses-plain (λ note. is_fail note ≡ false) m w p none (λ page note is. plain-fails m (p, page) note) l
     (pages_of_access false a n) events h.0 s h.2 in
     record { notes = no-fails (notes_of events) plain.notes; answered = is-faultless answer _ h.4 (read-faultless a h.0 h.1 plain.ends) }
-follows-faultless m w l (Write p a bytes) events answer rows none s h =
+follows-faultless m w l (Write p a bytes) events answer rows none s fine h =
     let plain = accesses-plain (λ note. is_fail note ≡ false) m w p none (λ page note is. plain-fails m (p, page) note) l
     (pages_of_access true a (length bytes)) events h.0 s h.1 in
     record { notes = no-fails (notes_of events) plain.notes; answered = is-faultless answer _ h.2 (write-faultless a h.0 plain.ends) }
-follows-faultless m w l (Maps p) events answer rows none s h = record {
+follows-faultless m w l (Reclaim n) events answer rows none s fine h =
+    record {
+      notes = ap (λ es. fails (notes_of es)) h.3 ∙ ap fails (notes_of-note_events h.0)
+          ∙ outcomes-faultless m (sparing w l None) l (from_tail n l.inactive) h.0 h.1;
+      answered = is-faultless answer _ h.2 (record { told = refl; failed = refl });
+    }
+follows-faultless m w l (Age n) events answer rows none s fine h =
+    record {
+      notes = ap (λ es. fails (notes_of es)) h.1 ∙ ap fails (notes_of-note_events (map Aged (from_tail n l.active))) ∙ ages-faultless (from_tail n l.active);
+      answered = is-faultless answer _ h.0 (record { told = refl; failed = refl });
+    }
+follows-faultless m w l (Complete n) events answer rows none s fine h =
+    record {
+      notes = ap (λ es. fails (notes_of es)) h.3 ∙ ap fails (notes_of-note_events h.0) ∙ ap fails (by n l.flight (no-slots m l none s).flight h.1);
+      answered = is-faultless answer _ h.2 (record { told = refl; failed = refl });
+    }
+  where
+    by : (n : ℕ) (ts : List Slot) → ts ≡ [] → Completes l (take n ts) h.0 → h.0 ≡ []
+    by zero ts e c = c
+    by (suc n) [] e c = c
+    by (suc n) (t ∷ ts) e c = cc
+follows-faultless m w l (Swapon k) events answer rows none s fine h = absurd (no-swapon m k ((is_on l k, Ebusy) ∷ (size_of m k == 0, Einval) ∷ []) none fine)
+follows-faultless m w l (Swapoff k) events answer rows none s fine h = absurd (no-area m l k [] none s.fits fine)
+follows-faultless m w l (Maps p) events answer rows none s fine h = record {
   notes = ap (λ es. fails (notes_of es)) h.2;
   answered = is-faultless answer _ h.0
       (record { told = refl; failed = refl });
 }
-follows-faultless m w l (AsksAreas p) events answer rows none s h =
+follows-faultless m w l (AsksAreas p) events answer rows none s fine h =
     record { notes = ap (λ es. fails (notes_of es)) h.2; answered = is-faultless answer _ h.0 (record { told = refl; failed = refl }) }
-follows-faultless m w l (AsksRmap p a) events answer rows none s h =
+follows-faultless m w l (AsksRmap p a) events answer rows none s fine h =
     record { notes = ap (λ es. fails (notes_of es)) h.1; answered = is-faultless answer _ h.0 (walk-faultless l (entry l (p, page_of a))) }
-follows-faultless m w l (AsksEntry p a) events answer rows none s h =
+follows-faultless m w l (AsksEntry p a) events answer rows none s fine h =
     record { notes = ap (λ es. fails (notes_of es)) h.1; answered = is-faultless answer _ h.0 (entry-faultless l (entry l (p, page_of a))) }
-follows-faultless m w l Stat events answer rows none s h = record {
+follows-faultless m w l (AsksSlot k page) events answer rows none s fine h =
+    absurd (no-area m l k ((is_outside m (record { area = k; page = page }), Einval) ∷ []) none s.fits fine)
+follows-faultless m w l Stat events answer rows none s fine h = record {
   notes = ap (λ es. fails (notes_of es)) h.1;
   answered = is-faultless answer _ h.0
       (record { told = refl; failed = refl });
@@ -607,10 +714,16 @@ tests-mild m w l (Mprotect p a len prot) = (refl, (refl, (refl, tt)))
 tests-mild m w l (Mremap p a old new mode) = (refl, (refl, (refl, (refl, (refl, (refl, tt))))))
 tests-mild m w l (Read p a n) = (refl, tt)
 tests-mild m w l (Write p a bytes) = (refl, tt)
+tests-mild m w l (Reclaim n) = tt
+tests-mild m w l (Age n) = tt
+tests-mild m w l (Complete n) = tt
+tests-mild m w l (Swapon k) = (refl, (refl, (refl, tt)))
+tests-mild m w l (Swapoff k) = (refl, tt)
 tests-mild m w l (Maps p) = (refl, tt)
 tests-mild m w l (AsksAreas p) = (refl, tt)
 tests-mild m w l (AsksRmap p a) = (refl, (refl, tt))
 tests-mild m w l (AsksEntry p a) = (refl, (refl, tt))
+tests-mild m w l (AsksSlot k page) = (refl, (refl, tt))
 tests-mild m w l Stat = tt
 
 pub in-areas : (m : Setting) (w : World) (l : Ledger) → AllSound m w l → InAreas m l
@@ -627,7 +740,7 @@ no-causes m w l command reply events none s legal =
   where
     by : (o : Option Errno) → refusal (tests m w l command) ≡ o → MatchOption o (Follows m w l command events reply.answer reply.rows)
         (λ error. Refuses error events reply.answer reply.rows) → Faultless events reply.answer
-    by None is h = follows-faultless m w l command events reply.answer reply.rows none (in-areas m w l s) h
+    by None is h = follows-faultless m w l command events reply.answer reply.rows none (in-areas m w l s) is h
     by (Some error) is h = record {
       notes = ap (λ es. fails (notes_of es)) h.1;
       answered = is-faultless reply.answer _ h.0

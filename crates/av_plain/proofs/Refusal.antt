@@ -4,7 +4,7 @@ use Rattle.std.proofs.lemmas.Bool.Decides.{nat_tests}
 use Rattle.std.specs.Option.{option_map_or}
 use Rattle.std.specs.Prelude.{◌||◌, MatchOption, length, nat_le}
 use Rattle.av_trace.specs.declared.command.Command.{Command}
-use Rattle.av_trace.specs.declared.command.Command.TheVariants.{Spawn, Fork, Exit, Mmap, Mremap, Munmap, Mprotect, Read, Write, Maps, Areas as AsksAreas, Rmap as AsksRmap, Entry as AsksEntry, Stat}
+use Rattle.av_trace.specs.declared.command.Command.TheVariants.{Spawn, Fork, Exit, Mmap, Mremap, Munmap, Mprotect, Read, Write, Reclaim, Age, Complete, Swapon, Swapoff, Maps, Areas as AsksAreas, Rmap as AsksRmap, Entry as AsksEntry, Slot as AsksSlot, Stat}
 use Rattle.av_trace.specs.declared.mode.Mode.{Mode}
 use Rattle.av_trace.specs.declared.place.Place.{Place}
 use Rattle.av_trace.specs.declared.place.Place.TheVariants.{Auto, At, Fixed, NoReplace}
@@ -28,7 +28,7 @@ use Rattle.av_plain.specs.Load.{with_loads}
 use Rattle.av_plain.specs.Map.{StopsAtHole, with_prot_to_hole, zaps_for_place}
 use Rattle.av_plain.specs.Mremap.{events_to, have_prot, is_in_place, target_of}
 use Rattle.av_plain.specs.Place.{Goes, IsMapAt}
-use Rattle.av_plain.specs.Refusal.{Refuses, are_bad_lengths, is_below_low, is_mprotect, is_no_target, is_tail_too_high, lacks_pages, refusal, tests, wraps}
+use Rattle.av_plain.specs.Refusal.{Refuses, are_bad_lengths, is_below_low, may_end_midway, is_no_target, is_tail_too_high, lacks_pages, refusal, tests, wraps}
 use Rattle.av_plain.specs.Report.{entry_answer, walk_answer}
 use Rattle.av_plain.specs.Step.{Follows, IsLegal, next, next_world}
 use Rattle.av_plain.specs.World.{Page, Process, World, lives, pages, pages_to_hole}
@@ -124,10 +124,16 @@ refused-next m w now l (Mprotect p a len prot) Einval is = refl
 refused-next m w now l (Mremap p a old new mode) error is = refl
 refused-next m w now l (Read p a n) error is = refl
 refused-next m w now l (Write p a bytes) error is = refl
+refused-next m w now l (Reclaim n) error is = refl
+refused-next m w now l (Age n) error is = refl
+refused-next m w now l (Complete n) error is = refl
+refused-next m w now l (Swapon k) error is = refl
+refused-next m w now l (Swapoff k) error is = refl
 refused-next m w now l (Maps p) error is = refl
 refused-next m w now l (AsksAreas p) error is = refl
 refused-next m w now l (AsksRmap p a) error is = refl
 refused-next m w now l (AsksEntry p a) error is = refl
+refused-next m w now l (AsksSlot k page) error is = refl
 refused-next m w now l Stat error is = refl
 
 -- and the areas
@@ -151,10 +157,16 @@ refused-areas m w l long on (Mprotect p a len prot) Einval is = refl
 refused-areas m w l long on (Mremap p a old new mode) error is = refl
 refused-areas m w l long on (Read p a n) error is = refl
 refused-areas m w l long on (Write p a bytes) error is = refl
+refused-areas m w l long on (Reclaim n) error is = refl
+refused-areas m w l long on (Age n) error is = refl
+refused-areas m w l long on (Complete n) error is = refl
+refused-areas m w l long on (Swapon k) error is = refl
+refused-areas m w l long on (Swapoff k) error is = refl
 refused-areas m w l long on (Maps p) error is = refl
 refused-areas m w l long on (AsksAreas p) error is = refl
 refused-areas m w l long on (AsksRmap p a) error is = refl
 refused-areas m w l long on (AsksEntry p a) error is = refl
+refused-areas m w l long on (AsksSlot k page) error is = refl
 refused-areas m w l long on Stat error is = refl
 
 -- ---- a refusal that no test gives
@@ -195,9 +207,9 @@ no_place-clears q l p n (At a) goes = refl
 no_place-clears q l p n (Fixed a) goes = cc
 no_place-clears q l p n (NoReplace a) goes = cc
 
--- any other command than an mprotect has no events then, and leaves any memories as they are
+-- a command that ends as it began, or is done, has no events then, and leaves any memories as they are
 follows-refused : (m : Setting) (w now : World) (l : Ledger) (command : Command) (events : List Event) (error : Errno) (rows : List Row) →
-    is_mprotect command ≡ false
+    may_end_midway command ≡ false
     → Follows m w l command events (Refused error) rows → (events ≡ []) × (next now command (Refused error) ≡ now)
 follows-refused m w now l (Spawn p) events error rows other h = absurd (no-refusal refl h.0)
 follows-refused m w now l (Fork p q) events error rows other h = absurd (no-refusal refl h.0)
@@ -216,10 +228,16 @@ follows-refused m w now l (Munmap p a len) events error rows other h = absurd (n
 follows-refused m w now l (Mprotect p a len prot) events error rows other h = cc
 follows-refused m w now l (Read p a n) events error rows other h = absurd (read-refused a h.0 h.1 error h.4)
 follows-refused m w now l (Write p a bytes) events error rows other h = absurd (write-refused a h.0 error h.2)
+follows-refused m w now l (Reclaim n) events error rows other h = absurd (no-refusal refl h.2)
+follows-refused m w now l (Age n) events error rows other h = absurd (no-refusal refl h.0)
+follows-refused m w now l (Complete n) events error rows other h = absurd (no-refusal refl h.2)
+follows-refused m w now l (Swapon k) events error rows other h = (h.1, refl)
+follows-refused m w now l (Swapoff k) events error rows other h = cc
 follows-refused m w now l (Maps p) events error rows other h = cc
 follows-refused m w now l (AsksAreas p) events error rows other h = cc
 follows-refused m w now l (AsksRmap p a) events error rows other h = absurd (walk-refused l (entry l (p, page_of a)) error h.0)
 follows-refused m w now l (AsksEntry p a) events error rows other h = absurd (entry-refused l (entry l (p, page_of a)) error h.0)
+follows-refused m w now l (AsksSlot k page) events error rows other h = (h.1, refl)
 follows-refused m w now l Stat events error rows other h = cc
 
 -- ---- the law
@@ -238,7 +256,7 @@ refused-by m w l command reply events error P legal is told met = by (refusal (t
 
 -- the memories and the ledger stay
 pub refused-nothing : (m : Setting) (w : World) (l : Ledger) (command : Command) (reply : Reply) (events : List Event) (error : Errno) →
-    is_mprotect command ≡ false → IsLegal m w l command reply events → reply.answer ≡ Refused error
+    may_end_midway command ≡ false → IsLegal m w l command reply events → reply.answer ≡ Refused error
     → (next_world m w l events command reply.answer ≡ w) × (after_all l events ≡ l)
 refused-nothing m w l command reply events error other legal is =
     let both = refused-by m w l command reply events error ((events ≡ []) × (next (with_loads m w l events) command (Refused error) ≡ with_loads m w l events))
@@ -246,6 +264,11 @@ refused-nothing m w l command reply events error other legal is =
     (λ e none. (none, refused-next m w (with_loads m w l events) l command error e))
     (λ e h. follows-refused m w (with_loads m w l events) l command events error reply.rows other h) in
     (ap (next (with_loads m w l events) command) is ∙ both.1 ∙ loads-none m w l events both.0, ap (after_all l) both.0)
+
+-- after a swapoff the memories are as its loads leave them
+pub refused-swapoff : (m : Setting) (w : World) (l : Ledger) (k : ℕ) (reply : Reply) (events : List Event) →
+    next_world m w l events (Swapoff k) reply.answer ≡ with_loads m w l events
+refused-swapoff m w l k reply events = refl
 
 -- and after an mprotect, but for the pages before a hole
 pub refused-mprotect : (m : Setting) (w : World) (l : Ledger) (p a len : ℕ) (prot : Prot) (reply : Reply) (events : List Event) (error : Errno) →

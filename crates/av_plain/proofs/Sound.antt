@@ -6,26 +6,28 @@ pub mod Cache
 pub mod Flight
 pub mod Steps
 pub mod Pass
+pub mod Reclaim
 pub mod Access
 pub mod Pages
 pub mod There
+pub mod Swap
 pub mod Zap
 pub mod Fork
 pub mod Mremap
 pub mod Bound
 pub mod Means
-use Rattle.std.proofs.Common.{◌≡◌, ℕ, suc, ◌≤◌, Bool, true, false, cond, not, ◌&&◌, T, List, [], ◌∷◌, length, Option, Some, None, is_some, option_map, refl, sym, ap, subst, ◌∙◌, arith, ◌==◌, nat_le, if◌then◌else◌}
+use Rattle.std.proofs.Common.{◌≡◌, ℕ, zero, suc, ◌<◌, ◌≤◌, Bool, true, false, cond, not, ◌&&◌, T, List, [], ◌∷◌, length, Option, Some, None, is_some, option_map, refl, sym, ap, subst, ◌∙◌, arith, ◌==◌, nat_le, if◌then◌else◌}
 use Rattle.std.proofs.lemmas.Bool.Decides.{nat_tests}
 use Rattle.std.specs.Prelude.{MatchOption, option_and_then}
 use Rattle.std.specs.Ordering.{nat_cmp, is_lt, eq_by_cmp}
 use Rattle.std.specs.FinMap.Entries.{find, is_sorted, below_all}
 use Rattle.std.specs.Option.{option_or}
 use Rattle.av_trace.specs.declared.command.Command.{Command}
-use Rattle.av_trace.specs.declared.command.Command.TheVariants.{Spawn, Fork as AsksFork, Exit, Mmap, Mremap as AsksMremap, Munmap, Mprotect, Read, Write, Maps, Areas as AsksAreas, Rmap as AsksRmap, Entry as AsksEntry, Stat}
+use Rattle.av_trace.specs.declared.command.Command.TheVariants.{Spawn, Fork as AsksFork, Exit, Mmap, Mremap as AsksMremap, Munmap, Mprotect, Read, Write, Reclaim as AsksReclaim, Age, Complete, Swapon, Swapoff, Maps, Areas as AsksAreas, Rmap as AsksRmap, Entry as AsksEntry, Slot as AsksSlot, Stat}
 use Rattle.av_trace.specs.declared.place.Place.{Place}
 use Rattle.av_trace.specs.declared.place.Place.TheVariants.{Auto, At, Fixed, NoReplace}
 use Rattle.av_trace.specs.declared.reply.Errno.{Errno}
-use Rattle.av_trace.specs.declared.reply.Errno.TheVariants.{Esrch, Eagain, Enomem, Eexist}
+use Rattle.av_trace.specs.declared.reply.Errno.TheVariants.{Ebusy, Einval, Esrch, Eagain, Enomem, Eexist}
 use Rattle.av_trace.specs.declared.row.Row.{Row}
 use Rattle.av_trace.specs.declared.reply.Reply.{Reply}
 use Rattle.av_trace.specs.declared.reply.Answer.{Answer}
@@ -38,12 +40,12 @@ use Rattle.av_base.specs.declared.prot.Prot.{Prot}
 use Rattle.av_base.specs.declared.slot.Slot.{Slot}
 use Rattle.av_plain.specs.Access.{Accesses, End, after_write, first_bytes, pages_of_access}
 use Rattle.av_plain.specs.Event.{Event, Forked, Moved, Noted, TurnedOff, TurnedOn, Used, Zapped, after, after_all, without_seen}
-use Rattle.av_plain.specs.Ledger.{Entry, Ledger, Setting, entry, first_ledger}
+use Rattle.av_plain.specs.Ledger.{Entry, Ledger, Setting, entry, first_ledger, is_on, size_of}
 use Rattle.av_plain.specs.Load.{after_load, after_loads, is_of_slot, with_loads, without_bytes, without_claims}
 use Rattle.av_plain.specs.Map.{with_prot_to_hole, zaps_for_place}
 use Rattle.av_plain.specs.Mremap.{events_to, prot_left, remap_events, process_after_mremap}
 use Rattle.av_plain.specs.Place.{Goes, IsMapAt}
-use Rattle.av_plain.specs.Refusal.{Refuses, refusal, tests, wraps}
+use Rattle.av_plain.specs.Refusal.{Refuses, no_device_at, refusal, tests, wraps}
 use Rattle.av_plain.specs.Sound.{AllSound, AtPages, IsTidy}
 use Rattle.av_plain.specs.Step.{Follows, IsLegal, next, next_world}
 use Rattle.av_plain.specs.Transcript.{Exchange, IsLegalFrom, IsRun, IsStep, State, at_first}
@@ -57,6 +59,9 @@ use Rattle.av_plain.proofs.Sound.Counts.{same-itself}
 use Rattle.av_plain.proofs.Sound.Fork.{forked-kept, forked-no_new}
 use Rattle.av_plain.proofs.Sound.Mremap.{remap-here, remap-kept, remap-no_new, remap-others}
 use Rattle.av_plain.proofs.Sound.Pages.{accesses-at}
+use Rattle.av_plain.proofs.Sound.Swap.{age-sound, complete-sound, reclaim-sound}
+use Rattle.av_plain.proofs.Sound.Swap.Area.{turn-on-sound}
+use Rattle.av_plain.proofs.Sound.Swap.Empty.{turn-off-sound}
 use Rattle.av_plain.proofs.Sound.There.{InAreas, accesses-in, there-by}
 use Rattle.av_plain.proofs.Sound.Zap.{after_zap-sound, exit-sound, zaps_of-at}
 use Rattle.av_plain.proofs.World.{is_sorted-set, length-set_new, length-set_old, pages-set}
@@ -472,10 +477,29 @@ follows-sound m w l (Write p a bytes) events answer rows s fine h =
     stored-sound m (with_loads m w l events) (after_all l events) p a (first_bytes answer bytes)
     (loads-sound m w l (after_all l events) events (accesses-sound m w l p (pages_of_access true a (length bytes)) events h.0 s h.1))
     (lives-loads m w l events p ∙ alive (lives w p) _ fine)
+follows-sound m w l (AsksReclaim n) events answer rows s fine h = loads-sound m w l (after_all l events) events (reclaim-sound m w l n events answer rows s h)
+follows-sound m w l (Age n) events answer rows s fine h = loads-sound m w l (after_all l events) events (age-sound m w l n events answer rows s h)
+follows-sound m w l (Complete n) events answer rows s fine h = loads-sound m w l (after_all l events) events (complete-sound m w l n events answer rows s h)
+follows-sound m w l (Swapon k) events answer rows s fine h = loads-sound m w l (after_all l events) events
+    (turn-on-sound m w l k events answer rows s (second (no_device_at m k) (is_on l k) (size_of m k == 0) fine)
+    (third (no_device_at m k) (is_on l k) (size_of m k) fine) h)
+  where
+    second : (a b c : Bool) → cond a (Some Einval) (cond b (Some Ebusy) (cond c (Some Einval) None)) ≡ None → b ≡ false
+    second true b c h = cc
+    second false true c h = cc
+    second false false c h = refl
+
+    third : (a b : Bool) (n : ℕ) → cond a (Some Einval) (cond b (Some Ebusy) (cond (n == 0) (Some Einval) None)) ≡ None → 0 < n
+    third true b n h = cc
+    third false true n h = cc
+    third false false zero h = cc
+    third false false (suc n) h = omega arith
+follows-sound m w l (Swapoff k) events answer rows s fine h = loads-sound m w l (after_all l events) events (turn-off-sound m w l k events answer rows s h)
 follows-sound m w l (Maps p) events answer rows s fine h = loads-sound m w l (after_all l events) events (unchanged m w l events h.2 s)
 follows-sound m w l (AsksAreas p) events answer rows s fine h = loads-sound m w l (after_all l events) events (unchanged m w l events h.2 s)
 follows-sound m w l (AsksRmap p a) events answer rows s fine h = loads-sound m w l (after_all l events) events (unchanged m w l events h.1 s)
 follows-sound m w l (AsksEntry p a) events answer rows s fine h = loads-sound m w l (after_all l events) events (unchanged m w l events h.1 s)
+follows-sound m w l (AsksSlot k page) events answer rows s fine h = loads-sound m w l (after_all l events) events (unchanged m w l events h.1 s)
 follows-sound m w l Stat events answer rows s fine h = loads-sound m w l (after_all l events) events (unchanged m w l events h.1 s)
 
 refused-sound : (m : Setting) (w : World) (l : Ledger) (command : Command) (error : Errno) (events : List Event) → refusal (tests m w l command) ≡ Some error →
@@ -513,7 +537,7 @@ first-sound m = record {
   };
   at_pages = λ p page h. cc;
   in_areas = λ s h. absurd (omega (arith, h));
-  areas_fit = record { rising = tt; fit = λ k. tt };
+  areas_fit = record { rising = tt; attached = λ k is. cc; fit = λ k. tt };
 }
 
 pub transcript-sound : (m : Setting) (w : World) (l : Ledger) (es : List Exchange) (w' : World) (l' : Ledger) → AllSound m w l →

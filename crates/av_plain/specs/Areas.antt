@@ -14,11 +14,11 @@ use Rattle.av_trace.specs.declared.reply.Answer.{Answer}
 use Rattle.av_trace.specs.declared.reply.Answer.TheVariants.{Done, MapAt, Refused}
 use Rattle.av_trace.specs.declared.reply.Errno.TheVariants.{Enomem}
 use Rattle.av_trace.specs.declared.note.Note.{Note}
-use Rattle.av_trace.specs.declared.note.Note.TheVariants.{New, Copied}
+use Rattle.av_trace.specs.declared.note.Note.TheVariants.{New, Copied, Loaded}
 use Rattle.av_vma.specs.Pages.{Lengths, Pages, after_map, after_prepare, after_unmap, home_of, makes_anon, pages_changed, to_prot}
 use Rattle.av_vma.specs.declared.area.Area.{Area}
 use Rattle.av_plain.specs.Event.{Event, Noted, Used, after}
-use Rattle.av_plain.specs.Ledger.{Entry, InFrame, Key, Ledger, entry}
+use Rattle.av_plain.specs.Ledger.{Entry, InFrame, Key, Ledger, entry, keys_of_slot}
 use Rattle.av_plain.specs.Mremap.{after_mremap, prot_at, prot_left}
 use Rattle.av_plain.specs.Refusal.{wraps}
 use Rattle.av_plain.specs.World.{Process, World, pages, pages_to_hole}
@@ -100,6 +100,21 @@ pub record Rmap : Type 0 where
 abbrev pub at_home : ℕ → Key → Rmap → Rmap
 at_home f k r = record r { homes = with_at f (home_of k.1 (r.areas k.0 k.1)) r.homes }
 
+-- the root of an anon_vma
+abbrev pub root_of : Anons → ℕ → ℕ
+root_of anons v = option_map_or (λ (anon : AnonVma). anon.root) (anons.anon v) v
+
+-- the same home, with the root in place of the anon_vma
+abbrev pub at_root : Anons → Option (ℕ × ℕ) → Option (ℕ × ℕ)
+at_root anons home = option_map (λ (h : ℕ × ℕ). (root_of anons h.0, h.1)) home
+
+-- the home of a frame that takes the page of a slot, by the keys of the slot's entries: that of the
+-- one page; where there are more, that of a page with the root, which they all have
+abbrev pub home_for : Rmap → List Key → Option (ℕ × ℕ)
+home_for r [] = None
+home_for r (k ∷ []) = home_of k.1 (r.areas k.0 k.1)
+home_for r (k ∷ q ∷ ks) = at_root r.anons (home_of k.1 (r.areas k.0 k.1))
+
 -- ---- prepare
 
 -- an anon_vma that is its own root and parent, and whose chain is itself alone
@@ -124,11 +139,13 @@ prepare_page p page r = let on = r.areas p in let len = chain_length r.anons in 
 -- ---- after events
 
 -- an area is prepared where a page of it gets a new frame; a frame is at home at the page that gets
--- it, new or as a copy. (One that is loaded from swap gets its home where swap comes.)
-abbrev pub rmap_after_note : Note → Rmap → Rmap
-rmap_after_note (New p a f) r = at_home f (p, page_of a) (prepare_page p (page_of a) r)
-rmap_after_note (Copied p a f) r = at_home f (p, page_of a) r
-rmap_after_note note r = r
+-- it, new or as a copy; and one that takes a slot's page, where the entries of the slot say
+abbrev pub rmap_after_note : Ledger → Note → Rmap → Rmap
+rmap_after_note l (New p a f) r = at_home f (p, page_of a) (prepare_page p (page_of a) r)
+rmap_after_note l (Copied p a f) r = at_home f (p, page_of a) r
+rmap_after_note l (Loaded s f) r =
+    record r { homes = with_at f (home_for r (keys_of_slot l s)) r.homes }
+rmap_after_note l note r = r
 
 -- and at the page through whose entry it is written
 abbrev pub rmap_after_use : Bool → Key → Option Entry → Rmap → Rmap
@@ -137,7 +154,7 @@ rmap_after_use write k e r = r
 
 -- after an event, by the ledger before it
 abbrev pub rmap_after : Ledger → Event → Rmap → Rmap
-rmap_after l (Noted note) r = rmap_after_note note r
+rmap_after l (Noted note) r = rmap_after_note l note r
 rmap_after l (Used write k) r = rmap_after_use write k (entry l k) r
 rmap_after l event r = r
 

@@ -1,6 +1,5 @@
 -- What is taken: the first of the free frames, and the slot that the clusters of a swap area give,
--- each in an order that follows the events. This is not part of what makes a reply legal. No
--- command turns a swap area on yet.
+-- each in an order that follows the events. This is not part of what makes a reply legal.
 use Rattle.std.specs.FinMap.Entries.{find as find_area}
 use Rattle.std.specs.List.{find, range_with_len}
 use Rattle.std.specs.Option.{option_map_or}

@@ -1,9 +1,10 @@
 -- Covered: each entry that names a frame is reached from the frame's home, through a chain alone.
 use Rattle.std.specs.Prelude.{◌≡◌, ◌<◌, ℕ, true, Some, IsSome, IsSomeAnd}
+use Rattle.av_base.specs.declared.slot.Slot.{Slot}
 use Rattle.av_base.specs.Words.{is_in}
 use Rattle.av_vma.specs.Join.{index_of}
-use Rattle.av_plain.specs.Areas.{Rmap, chain_by}
-use Rattle.av_plain.specs.Ledger.{Key, Ledger, entry, names_frame}
+use Rattle.av_plain.specs.Areas.{AnonVma, Anons, Rmap, chain_by, root_of}
+use Rattle.av_plain.specs.Ledger.{Key, Ledger, entry, frame_at, names_frame, names_slot}
 
 -- a page is reached from a home: its area's chain has the home's anon_vma, and its linear index is
 -- the home's
@@ -23,3 +24,32 @@ pub record IsRmapSound (l : Ledger) (r : Rmap) : Type 0 where
   pub own : (p page v : ℕ) → IsSomeAnd (r.areas p page) (λ area. area.anon ≡ Some v)
       → is_in v (chain_by r.anons (Some v)) ≡ true
   pub covered : AreCovered l r
+
+-- ---- slots
+
+-- an anon_vma's chain holds its root, and each member of it is there and has that root
+pub record IsKin (anons : Anons) (v : AnonVma) : Type 0 where
+  pub root : is_in v.root v.chain ≡ true
+  pub members : (u : ℕ) → is_in u v.chain ≡ true
+      → IsSomeAnd (anons.anon u) (λ other. other.root ≡ v.root)
+
+-- the own anon_vma of a page's area has this root, and the page this linear index
+abbrev pub IsRooted : Rmap → Key → ℕ × ℕ → Type 0
+IsRooted r k home = IsSomeAnd (r.areas k.0 k.1)
+    (λ area. IsSomeAnd area.anon (λ own. root_of r.anons own ≡ home.0)
+    × (index_of area k.1 ≡ home.1))
+
+-- the entry of a key names the slot
+abbrev pub IsOfSlot : Ledger → Slot → Key → Type 0
+IsOfSlot l s k = IsSomeAnd (entry l k) (λ e. names_slot s e ≡ true)
+
+-- what is true of slots at all times: the chains are of one root each; the pages whose entries name
+-- one slot have one root and one linear index; and where it is cached, they are reached from the
+-- frame's home. So the frame that takes the slot's page has a home that reaches them all
+pub record AreSlotsCovered (l : Ledger) (r : Rmap) : Type 0 where
+  pub kin : (p page v : ℕ) → IsSomeAnd (r.areas p page) (λ area. area.anon ≡ Some v)
+      → IsSomeAnd (r.anons.anon v) (IsKin r.anons)
+  pub rooted : (s : Slot) (k q : Key) → IsOfSlot l s k → IsOfSlot l s q
+      → (home : ℕ × ℕ) × IsRooted r k home × IsRooted r q home
+  pub cached : (s : Slot) (k : Key) (f : ℕ) → frame_at l s ≡ Some f → IsOfSlot l s k
+      → IsSomeAnd (r.homes f) (IsReached r k)

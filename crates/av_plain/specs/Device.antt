@@ -1,8 +1,9 @@
 -- Devices with swap areas, as a run sees them.
-use Rattle.std.specs.Prelude.{◌≡◌, ◌≤◌, ℕ, List, [], Option, Some, None, option_map, option_and_then, Result, Ok, Err}
+use Rattle.std.specs.Prelude.{◌≡◌, ◌≤◌, ℕ, IfSome, List, [], length, min, Option, Some, None, option_map, option_and_then, Result, Ok, Err}
 use Rattle.av_swapdev.specs.declared.header.HeaderErr.{HeaderErr}
-use Rattle.av_swapdev.specs.Header.{Layout, header_of}
-use Rattle.av_plain.specs.Ledger.{Setting}
+use Rattle.av_swapdev.specs.Device.{most_pages}
+use Rattle.av_swapdev.specs.Header.{Layout, header_of, slots_of}
+use Rattle.av_plain.specs.Ledger.{Setting, size_of}
 
 -- the number of pages of each swap area that is attached; what the pages hold, where that is told;
 -- and how often it failed
@@ -44,3 +45,15 @@ pub record IsSameDevice (old new : Device) : Type 0 where
 -- no swap area is attached
 abbrev pub HasNoDevice : Setting → Type 0
 HasNoDevice m = (k : ℕ) → m.sizes k ≡ None
+
+-- ---- settings over a device
+
+-- an area of a device with so many pages: they are the device's, and its slots are those behind the
+-- header that aren't bad
+pub record IsLayout (size : ℕ) (h : Layout) : Type 0 where
+  pub fits : h.pages ≤ min size most_pages
+  pub slots : h.slots ≡ length (slots_of h.pages h.bad)
+
+-- where headers are told, they are such
+abbrev pub AreLayouts : Setting → Type 0
+AreLayouts m = (k : ℕ) → IfSome m.headers (λ headers. IfSome (headers k) (IsLayout (size_of m k)))

@@ -11,7 +11,7 @@ use Rattle.av_trace.specs.declared.reply.Answer.TheVariants.{Done}
 use Rattle.av_trace.specs.declared.row.Row.{Row}
 use Rattle.av_vma.specs.declared.area.Area.{Area}
 use Rattle.av_vma.specs.Pages.{pages_in, with_area}
-use Rattle.av_plain.specs.Areas.{AnonVma, Anons, AreNext, Rmap, chain_by, none_on}
+use Rattle.av_plain.specs.Areas.{AnonVma, Anons, AreNext, Rmap, chain_by, none_on, root_of}
 use Rattle.av_plain.specs.Event.{Event, Forked, Inherited}
 use Rattle.av_plain.specs.Ledger.{Key, Ledger}
 use Rattle.av_plain.specs.Report.{AreApart, range_of}
@@ -52,9 +52,6 @@ abbrev pub IsReused : Rmap → List ℕ → Option ℕ → Type 0
 IsReused r chain None = (v : ℕ) → is_in v chain ≡ true → IsIdle r v → ⊥
 IsReused r chain (Some v) = (is_in v chain ≡ true) × IsIdle r v
     × ((w : ℕ) → is_in w chain ≡ true → IsIdle r w → v ≤ w)
-
-abbrev pub root_of : Anons → ℕ → ℕ
-root_of anons v = option_map_or (λ (anon : AnonVma). anon.root) (anons.anon v) v
 
 -- the own anon_vma of the child's area: that member, else a new one
 abbrev pub own_of_child : Anons → Option ℕ → ℕ

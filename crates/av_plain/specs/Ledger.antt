@@ -98,6 +98,10 @@ map_count l f = how_many (λ e. names_frame f e.1) l.entries
 abbrev pub slot_entries : Ledger → Slot → ℕ
 slot_entries l s = how_many (λ e. names_slot s e.1) l.entries
 
+-- the keys of the entries that name the slot, by process and page
+abbrev pub keys_of_slot : Ledger → Slot → List Key
+keys_of_slot l s = map (λ e. e.0) (filter (λ e. names_slot s e.1) l.entries)
+
 -- the first cached pair that passes the test
 abbrev pub cached_by : (Cached → Bool) → List Cached → Option Cached
 cached_by test [] = None
@@ -153,6 +157,12 @@ is_orphan l s = is_unmapped l (frame_at l s) && not (in_flight l s) && slot_entr
 -- the number of an area's pages, 0 where none is attached
 abbrev pub size_of : Setting → ℕ → ℕ
 size_of m k = unwrap_or (m.sizes k) 0
+
+-- the number of pages that an area uses: by its header where that is told, else all
+abbrev pub pages_used : Setting → ℕ → ℕ
+pages_used m k = option_map_or
+    (λ (headers : ℕ → Option Layout). option_map_or (λ (h : Layout). h.pages) (headers k) 0)
+    m.headers (size_of m k)
 
 -- whether the area is on
 abbrev pub is_on : Ledger → ℕ → Bool

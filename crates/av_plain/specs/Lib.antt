@@ -12,6 +12,9 @@ pub mod Place
 pub mod Map
 pub mod Mremap
 pub mod Report
+pub mod Swapon
+pub mod Reclaim
+pub mod Swapoff
 pub mod Refusal
 pub mod Step
 pub mod Areas

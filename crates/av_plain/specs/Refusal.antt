@@ -1,20 +1,21 @@
 -- Which commands are refused, and with which error: the first test that holds, in one order for
 -- each command.
-use Rattle.std.specs.Prelude.{ℕ, ◌+◌, Bool, true, false, not, ◌==◌, if◌then◌else◌, ◌&&◌, List, [], ◌∷◌, ◌++◌, Option, Some, None, ◌≡◌, ◌||◌, length, nat_lt, nat_le, ◌*◌, ◌^◌}
+use Rattle.std.specs.Prelude.{ℕ, ◌+◌, Bool, true, false, not, ◌==◌, if◌then◌else◌, ◌&&◌, List, [], ◌∷◌, ◌++◌, Option, Some, None, ◌≡◌, ◌||◌, is_none, length, nat_lt, nat_le, ◌^◌}
 use Rattle.av_base.specs.Limits.{most_processes, low_page, top_page}
 use Rattle.av_base.specs.Page.{page_of, address_of, pages_of, is_on_page}
+use Rattle.av_base.specs.declared.slot.Slot.{Slot}
 use Rattle.av_trace.specs.declared.command.Command.{Command}
-use Rattle.av_trace.specs.declared.command.Command.TheVariants.{Mprotect, Mremap, Spawn, Fork, Exit, Mmap, Munmap, Read, Write, Maps, Areas as AsksAreas, Rmap as AsksRmap, Entry as AsksEntry, Stat}
+use Rattle.av_trace.specs.declared.command.Command.TheVariants.{Mprotect, Mremap, Spawn, Fork, Exit, Mmap, Munmap, Read, Write, Maps, Reclaim, Age, Complete, Swapon, Swapoff, Areas as AsksAreas, Rmap as AsksRmap, Entry as AsksEntry, Slot as AsksSlot, Stat}
 use Rattle.av_trace.specs.declared.mode.Mode.{Mode}
 use Rattle.av_trace.specs.declared.place.Place.{Place}
 use Rattle.av_trace.specs.declared.place.Place.TheVariants.{Auto, At, Fixed, NoReplace}
 use Rattle.av_trace.specs.declared.reply.Answer.{Answer}
 use Rattle.av_trace.specs.declared.reply.Answer.TheVariants.{Refused}
 use Rattle.av_trace.specs.declared.reply.Errno.{Errno}
-use Rattle.av_trace.specs.declared.reply.Errno.TheVariants.{Efault, Enomem, Eperm, Esrch, Eagain, Eexist, Einval}
+use Rattle.av_trace.specs.declared.reply.Errno.TheVariants.{Ebusy, Efault, Enomem, Eperm, Esrch, Eagain, Eexist, Einval}
 use Rattle.av_trace.specs.declared.row.Row.{Row}
 use Rattle.av_plain.specs.Event.{Event}
-use Rattle.av_plain.specs.Ledger.{Setting, Ledger}
+use Rattle.av_plain.specs.Ledger.{Setting, Ledger, is_on, pages_used, size_of}
 use Rattle.av_plain.specs.Mremap.{have_one_prot, is_in_place, leaves_old, target_of}
 use Rattle.av_plain.specs.World.{Process, World, is_mapped, pages, lives, meets}
 
@@ -105,6 +106,18 @@ mremap_tests q a old new mode =
     ∷ (is_tail_too_high a (pages_of old) (pages_of new) mode, Einval)
     ∷ (is_below_low (target_of mode), Eperm) ∷ []
 
+-- no device is attached as the swap area
+abbrev pub no_device_at : Setting → ℕ → Bool
+no_device_at m k = is_none (m.sizes k)
+
+-- the swap area is off; so is one that isn't attached, since one that is on has pages
+abbrev pub is_off : Ledger → ℕ → Bool
+is_off l k = not (is_on l k)
+
+-- the area has no slot at the page: it is the header's, or past the pages that the area uses
+abbrev pub is_outside : Setting → Slot → Bool
+is_outside m s = s.page == 0 || nat_le (pages_used m s.area) s.page
+
 -- the tests of each command
 abbrev pub tests : Setting → World → Ledger → Command → Tests
 tests m w l (Spawn p) = (lives w p, Eexist) ∷ too_many w ∷ []
@@ -121,10 +134,18 @@ tests m w l (Mremap p a old new mode) =
     no_process w p ∷ mremap_tests (pages w p) a old new mode
 tests m w l (Read p a n) = no_process w p ∷ []
 tests m w l (Write p a bytes) = no_process w p ∷ []
+tests m w l (Reclaim n) = []
+tests m w l (Age n) = []
+tests m w l (Complete n) = []
+tests m w l (Swapon k) =
+    (no_device_at m k, Einval) ∷ (is_on l k, Ebusy) ∷ (size_of m k == 0, Einval) ∷ []
+tests m w l (Swapoff k) = (is_off l k, Einval) ∷ []
 tests m w l (Maps p) = no_process w p ∷ []
 tests m w l (AsksAreas p) = no_process w p ∷ []
 tests m w l (AsksRmap p a) = no_process w p ∷ no_page w p a ∷ []
 tests m w l (AsksEntry p a) = no_process w p ∷ no_page w p a ∷ []
+tests m w l (AsksSlot k page) =
+    (is_off l k, Einval) ∷ (is_outside m (record { area = k; page = page }), Einval) ∷ []
 tests m w l Stat = []
 
 -- the first test that holds
@@ -136,7 +157,9 @@ refusal (t ∷ ts) = if t.0 then Some t.1 else refusal ts
 abbrev pub Refuses : Errno → List Event → Answer → List Row → Type 0
 Refuses error events answer rows = (answer ≡ Refused error) × (events ≡ []) × (rows ≡ [])
 
--- the one command that may change something and be refused
-abbrev pub is_mprotect : Command → Bool
-is_mprotect (Mprotect p a len prot) = true
-is_mprotect command = false
+-- the commands that may change something and be refused: an mprotect that meets a hole, and a
+-- swapoff that ends at a slot
+abbrev pub may_end_midway : Command → Bool
+may_end_midway (Mprotect p a len prot) = true
+may_end_midway (Swapoff k) = true
+may_end_midway command = false

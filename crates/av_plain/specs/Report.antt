@@ -1,12 +1,14 @@
--- Reports: the runs of `maps`, the areas of `areas`, the walk of `rmap`, the entry of `entry`, and
--- the numbers of `stat`.
-use Rattle.std.specs.Prelude.{◌≡◌, ℕ, ◌<◌, ◌≤◌, ◌&&◌, nat_lt, nat_le, if◌then◌else◌, List, [], ◌∷◌, map, length, sum_by, Option, Some, None, option_map}
+-- Reports: the runs of `maps`, the areas of `areas`, the walk of `rmap`, the entry of `entry`, the
+-- count of `slot`, and the numbers of `stat`.
+use Rattle.std.specs.Prelude.{◌≡◌, ◌⊎◌, ℕ, ◌<◌, ◌≤◌, ◌&&◌, nat_lt, nat_le, if◌then◌else◌, List, [], ◌∷◌, map, length, sum_by, Option, Some, None, option_map, MatchOption}
 use Rattle.av_base.specs.Page.{address_of}
 use Rattle.av_base.specs.declared.prot.Prot.{Prot}
+use Rattle.av_base.specs.declared.slot.Slot.{Slot}
 use Rattle.av_trace.specs.declared.reply.Answer.{Answer}
 use Rattle.av_trace.specs.declared.command.Command.{Command}
 use Rattle.av_trace.specs.declared.command.Command.TheVariants.{Areas as AsksAreas}
-use Rattle.av_trace.specs.declared.reply.Answer.TheVariants.{AreaList, Walk, NoWalk, EntryEmpty, EntryFrame, EntrySlot, EntryZero, Runs, Counted}
+use Rattle.av_trace.specs.declared.reply.Answer.TheVariants.{AreaList, Walk, NoWalk, EntryEmpty, EntryFrame, EntrySlot, EntryZero, Refused, Runs, SlotBad, SlotCount, Counted}
+use Rattle.av_trace.specs.declared.reply.Errno.TheVariants.{Einval}
 use Rattle.av_trace.specs.declared.row.Row.{Row}
 use Rattle.av_trace.specs.declared.row.Row.TheVariants.{Run, Area as AreaRow, Entry as EntryRow}
 use Rattle.av_trace.specs.declared.reply.Totals.{Totals}
@@ -16,7 +18,7 @@ use Rattle.av_vma.specs.Pages.{Pages, pages_in}
 use Rattle.av_plain.specs.Areas.{Anons, Areas, chain_by}
 use Rattle.av_plain.specs.World.{World, Process, Page}
 use Rattle.av_plain.specs.Event.{Event}
-use Rattle.av_plain.specs.Ledger.{Entry, InFrame, InSlot, Key, Ledger, Setting, SwapArea, Zero, entry, frame_at, free_frames, free_slots, slot_of, walk}
+use Rattle.av_plain.specs.Ledger.{Entry, InFrame, InSlot, Key, Ledger, Setting, SwapArea, Zero, entry, frame_at, free_frames, free_slots, is_usable, slot_count, slot_of, walk}
 
 -- ---- ranges of pages
 
@@ -136,6 +138,28 @@ entry_answer l (Some (InSlot s)) = EntrySlot s (frame_at l s)
 abbrev pub ReportsEntry : Ledger → Key → List Event → Answer → List Row → Type 0
 ReportsEntry l key events answer rows =
     (answer ≡ entry_answer l (entry l key)) × (events ≡ []) × (rows ≡ [])
+
+-- ---- slot
+
+-- the count of a slot, and the frame that caches it
+abbrev pub count_answer : Ledger → Slot → Answer
+count_answer l s = SlotCount s (slot_count l s) (frame_at l s)
+
+-- where headers are told, a page of the area that is no slot is bad
+abbrev pub slot_answer : Setting → Ledger → Slot → Answer
+slot_answer m l s = if is_usable m s then count_answer l s else SlotBad s
+
+-- elsewhere a slot that nothing names may be answered to be bad, or past the end of the area
+abbrev pub MayBeNoSlot : Ledger → Slot → Answer → Type 0
+MayBeNoSlot l s answer =
+    (slot_count l s ≡ 0) × ((answer ≡ SlotBad s) ⊎ (answer ≡ Refused Einval))
+
+-- the answer to `slot`: what the slot is
+abbrev pub ReportsSlot : Setting → Ledger → Slot → List Event → Answer → List Row → Type 0
+ReportsSlot m l s events answer rows = MatchOption m.headers
+    ((answer ≡ count_answer l s) ⊎ MayBeNoSlot l s answer)
+    (λ headers. answer ≡ slot_answer m l s)
+    × (events ≡ []) × (rows ≡ [])
 
 -- ---- stat
 

@@ -91,9 +91,11 @@ is_there m l s =
 abbrev pub AreThere : Setting → Ledger → Type 0
 AreThere m l = (s : Slot) → 0 < count l s → is_there m l s ≡ true
 
--- the swap areas that are on rise, and none has more slots in use than it has slots
+-- the swap areas that are on rise, each is attached and has pages, and none has more slots in use
+-- than it has slots
 pub record AreasFit (m : Setting) (l : Ledger) : Type 0 where
   pub rising : T (is_sorted nat_cmp l.on)
+  pub attached : (k : ℕ) → is_on l k ≡ true → 0 < size_of m k
   pub fit : (k : ℕ) → IfSome (find nat_cmp k l.on)
       (λ area. length (slots_in_use m l k) ≤ area.slots)
 

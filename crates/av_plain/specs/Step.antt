@@ -2,7 +2,7 @@
 use Rattle.std.specs.Prelude.{ℕ, ◌+◌, if◌then◌else◌, List, Option, None, Some, ◌≡◌, length, max, MatchOption}
 use Rattle.av_base.specs.Page.{page_of, pages_of}
 use Rattle.av_trace.specs.declared.command.Command.{Command}
-use Rattle.av_trace.specs.declared.command.Command.TheVariants.{Mprotect, Mremap, Spawn, Fork, Exit, Mmap, Munmap, Read, Write, Maps, Areas as AsksAreas, Rmap as AsksRmap, Entry as AsksEntry, Stat}
+use Rattle.av_trace.specs.declared.command.Command.TheVariants.{Mprotect, Mremap, Spawn, Fork, Exit, Mmap, Munmap, Read, Write, Maps, Reclaim, Age, Complete, Swapon, Swapoff, Areas as AsksAreas, Rmap as AsksRmap, Entry as AsksEntry, Slot as AsksSlot, Stat}
 use Rattle.av_trace.specs.declared.reply.Answer.{Answer}
 use Rattle.av_trace.specs.declared.reply.Answer.TheVariants.{Bus, Done, MapAt, NoFrame, Oom, Refused}
 use Rattle.av_trace.specs.declared.reply.Errno.TheVariants.{Enomem, Eio}
@@ -17,8 +17,11 @@ use Rattle.av_plain.specs.Map.{Unmaps, MapsAt, Protects, with_prot_to_hole}
 use Rattle.av_plain.specs.Mremap.{Remaps, prot_left, process_after_mremap}
 use Rattle.av_plain.specs.Pass.{fails}
 use Rattle.av_plain.specs.Process.{Spawns, Exits}
+use Rattle.av_plain.specs.Reclaim.{Ages, CompletesFirst, Reclaims}
 use Rattle.av_plain.specs.Refusal.{tests, refusal, Refuses, wraps}
-use Rattle.av_plain.specs.Report.{ReportsAreas, ReportsEntry, ReportsRuns, ReportsTotals, ReportsWalk}
+use Rattle.av_plain.specs.Report.{ReportsAreas, ReportsEntry, ReportsRuns, ReportsSlot, ReportsTotals, ReportsWalk}
+use Rattle.av_plain.specs.Swapoff.{TurnsOff}
+use Rattle.av_plain.specs.Swapon.{TurnsOn}
 use Rattle.av_plain.specs.World.{World, no_pages, pages, with_prot_on, set_process, zeros, end_process, with_pages}
 
 -- ---- the memories after a command
@@ -49,8 +52,9 @@ next_world m w l events command answer = next (with_loads m w l events) command 
 
 -- ---- what each command does
 
--- the swap area that a command closes while it runs: none does so yet
+-- the swap area that a command closes while it runs
 abbrev pub closing_swap_area : Command → Option ℕ
+closing_swap_area (Swapoff k) = Some k
 closing_swap_area command = None
 
 -- what each command does where it isn't refused: its events, its answer and its rows
@@ -69,11 +73,18 @@ Follows m w l (Mremap p a old new mode) events answer rows =
 Follows m w l (Read p a n) events answer rows = ReadsPages m w l p a n events answer rows
 Follows m w l (Write p a bytes) events answer rows =
     WritesPages m w l p a (length bytes) events answer rows
+Follows m w l (Reclaim n) events answer rows = Reclaims m w l n events answer rows
+Follows m w l (Age n) events answer rows = Ages l n events answer rows
+Follows m w l (Complete n) events answer rows = CompletesFirst l n events answer rows
+Follows m w l (Swapon k) events answer rows = TurnsOn m k events answer rows
+Follows m w l (Swapoff k) events answer rows = TurnsOff m w l k events answer rows
 Follows m w l (Maps p) events answer rows = ReportsRuns (pages w p) events answer rows
 Follows m w l (AsksAreas p) events answer rows = ReportsAreas (pages w p) events answer rows
 Follows m w l (AsksRmap p a) events answer rows = ReportsWalk l (p, page_of a) events answer rows
 Follows m w l (AsksEntry p a) events answer rows =
     ReportsEntry l (p, page_of a) events answer rows
+Follows m w l (AsksSlot k page) events answer rows =
+    ReportsSlot m l (record { area = k; page = page }) events answer rows
 Follows m w l Stat events answer rows = ReportsTotals m w l events answer rows
 
 -- ---- a legal reply

@@ -1,6 +1,7 @@
 -- The lines that are commands. Each command has one line.
-use Rattle.std.specs.Prelude.{ℕ, List, [], ◌∷◌, ◌++◌, codes, Option, Some, None}
+use Rattle.std.specs.Prelude.{◌≡◌, ℕ, ◌-◌, ◌^◌, Bool, false, true, List, [], ◌∷◌, ◌++◌, codes, Option, Some, None}
 use Rattle.std.specs.Fmt.{decimal}
+use Rattle.av_base.specs.Limits.{most_frames}
 use Rattle.av_base.specs.Page.{page_size}
 use Rattle.av_base.specs.declared.prot.Prot.{Prot}
 use Rattle.av_trace.specs.declared.place.Place.{Place}
@@ -14,24 +15,52 @@ use Rattle.av_text.specs.Prot.{prot_text, prot_at}
 use Rattle.av_trace.specs.Place.{IsPlace, place_words, place_at}
 use Rattle.av_trace.specs.Mode.{IsMode, mode_words, mode_at}
 
--- the values are in range
-abbrev pub IsCommand : Command → Type 0
-IsCommand (commands.Spawn p) = IsProcess p
-IsCommand (commands.Fork p q) = IsProcess p × IsProcess q
-IsCommand (commands.Exit p) = IsProcess p
-IsCommand (commands.Mmap p len prot place) = IsProcess p × IsWide len × IsPlace place
-IsCommand (commands.Munmap p address len) = IsProcess p × IsWide address × IsWide len
-IsCommand (commands.Mprotect p address len prot) = IsProcess p × IsWide address × IsWide len
-IsCommand (commands.Mremap p address old_len new_len mode) =
+-- a swap area
+abbrev pub IsAreaNumber : ℕ → Type 0
+IsAreaNumber k = IsNumberIn 0 7 k
+
+-- how many frames or slots a command goes over, at most
+abbrev pub IsFrameCount : ℕ → Type 0
+IsFrameCount n = IsNumberIn 1 most_frames n
+
+-- the values of the command are in range
+abbrev pub IsInRange : Command → Type 0
+IsInRange (commands.Spawn p) = IsProcess p
+IsInRange (commands.Fork p q) = IsProcess p × IsProcess q
+IsInRange (commands.Exit p) = IsProcess p
+IsInRange (commands.Mmap p len prot place) = IsProcess p × IsWide len × IsPlace place
+IsInRange (commands.Munmap p address len) = IsProcess p × IsWide address × IsWide len
+IsInRange (commands.Mprotect p address len prot) = IsProcess p × IsWide address × IsWide len
+IsInRange (commands.Mremap p address old_len new_len mode) =
     IsProcess p × IsWide address × IsWide old_len × IsWide new_len × IsMode mode
-IsCommand (commands.Read p address len) =
+IsInRange (commands.Read p address len) =
     IsProcess p × IsWide address × IsNumberIn 1 page_size len
-IsCommand (commands.Write p address bytes) = IsProcess p × IsWide address × IsData bytes
-IsCommand (commands.Maps p) = IsProcess p
-IsCommand (commands.Areas p) = IsProcess p
-IsCommand (commands.Rmap p address) = IsProcess p × IsWide address
-IsCommand (commands.Entry p address) = IsProcess p × IsWide address
-IsCommand commands.Stat = Unit {0}
+IsInRange (commands.Write p address bytes) = IsProcess p × IsWide address × IsData bytes
+IsInRange (commands.Reclaim n) = IsFrameCount n
+IsInRange (commands.Age n) = IsFrameCount n
+IsInRange (commands.Complete n) = IsFrameCount n
+IsInRange (commands.Swapon k) = IsAreaNumber k
+IsInRange (commands.Swapoff k) = IsAreaNumber k
+IsInRange (commands.Maps p) = IsProcess p
+IsInRange (commands.Areas p) = IsProcess p
+IsInRange (commands.Rmap p address) = IsProcess p × IsWide address
+IsInRange (commands.Entry p address) = IsProcess p × IsWide address
+IsInRange (commands.Slot k page) = IsAreaNumber k × IsNumberIn 0 (2 ^ 32 - 1) page
+IsInRange commands.Stat = Unit {0}
+
+-- whether the grammar has the command. The others have a text and a meaning, and no line yet
+abbrev pub is_in_grammar : Command → Bool
+is_in_grammar (commands.Reclaim n) = false
+is_in_grammar (commands.Age n) = false
+is_in_grammar (commands.Complete n) = false
+is_in_grammar (commands.Swapon k) = false
+is_in_grammar (commands.Swapoff k) = false
+is_in_grammar (commands.Slot k page) = false
+is_in_grammar c = true
+
+-- a command of the grammar, with values in range
+abbrev pub IsCommand : Command → Type 0
+IsCommand c = (is_in_grammar c ≡ true) × IsInRange c
 
 -- the one line of a command
 abbrev pub line_of : Command → List ℕ
@@ -51,10 +80,16 @@ line_of (commands.Read p address len) =
     line (codes "read") (decimal p ∷ hex address ∷ decimal len ∷ [])
 line_of (commands.Write p address bytes) =
     line (codes "write") (decimal p ∷ hex address ∷ hex_text bytes ∷ [])
+line_of (commands.Reclaim n) = line (codes "reclaim") (decimal n ∷ [])
+line_of (commands.Age n) = line (codes "age") (decimal n ∷ [])
+line_of (commands.Complete n) = line (codes "complete") (decimal n ∷ [])
+line_of (commands.Swapon k) = line (codes "swapon") (decimal k ∷ [])
+line_of (commands.Swapoff k) = line (codes "swapoff") (decimal k ∷ [])
 line_of (commands.Maps p) = line (codes "maps") (decimal p ∷ [])
 line_of (commands.Areas p) = line (codes "areas") (decimal p ∷ [])
 line_of (commands.Rmap p address) = line (codes "rmap") (decimal p ∷ hex address ∷ [])
 line_of (commands.Entry p address) = line (codes "entry") (decimal p ∷ hex address ∷ [])
+line_of (commands.Slot k page) = line (codes "slot") (decimal k ∷ decimal page ∷ [])
 line_of commands.Stat = codes "stat"
 
 -- ---- reading: each command has the words that a reader finds, and then the line ends
@@ -162,7 +197,7 @@ report_readers =
     ∷ (codes "stat", whole no_words (λ x. commands.Stat))
     ∷ []
 
--- all commands
+-- all commands of the grammar
 abbrev pub readers : List (List ℕ × CommandReader)
 readers = access_readers ++ process_readers ++ range_readers ++ report_readers
 

@@ -1,7 +1,7 @@
 //! What a line asks for.
 
 ghost use Rattle.std.specs.Prelude.{◌≡◌, ◌++◌, codes, option_map, IfOk, OnErr};
-ghost use Rattle.av_trace.specs.Command.{at_end, whole, no_words, fork_at, mmap_at, munmap_at, mprotect_at, mremap_at, read_at, write_at, rmap_at, entry_of, command_in, command_of, process_readers, range_readers, report_readers, range_words};
+ghost use Rattle.av_trace.specs.Command.{at_end, whole, no_words, fork_at, mmap_at, munmap_at, mprotect_at, mremap_at, read_at, write_at, rmap_at, entry_of, is_in_grammar, command_in, command_of, process_readers, range_readers, report_readers, range_words};
 ghost use Rattle.av_text.specs.Number.{process_at};
 ghost use Rattle.av_text.specs.Word.{BeginsWith};
 
@@ -18,6 +18,7 @@ use std::alloc::{AllocError, Global};
 /// What a line asks for, with the words of the line in order.
 ///
 /// Addresses and lengths are in bytes; each length but that of `Read` is rounded up to whole pages.
+/// Swap areas are 0 to 7. Of what `is_in_grammar` leaves out no line asks yet.
 #[derive(Drop)]
 pub enum Command {
     Spawn {
@@ -64,6 +65,21 @@ pub enum Command {
         address: u64,
         bytes: Bytes,
     },
+    Reclaim {
+        frames: u16,
+    },
+    Age {
+        frames: u16,
+    },
+    Complete {
+        slots: u16,
+    },
+    Swapon {
+        area: u8,
+    },
+    Swapoff {
+        area: u8,
+    },
     Maps {
         process: u16,
     },
@@ -78,7 +94,29 @@ pub enum Command {
         process: u16,
         address: u64,
     },
+    Slot {
+        area: u8,
+        page: u32,
+    },
     Stat,
+}
+
+impl Command {
+    /// Whether the grammar has the command. Lines of `reclaim`, `age`, `complete`, `swapon`,
+    /// `swapoff` and `slot` are no commands yet, and no kernel answers these.
+    pub fn is_in_grammar(&self) -> bool
+        ensures { result ≡ is_in_grammar self.now }
+    {
+        !matches!(
+            self,
+            Command::Reclaim { .. }
+                | Command::Age { .. }
+                | Command::Complete { .. }
+                | Command::Swapon { .. }
+                | Command::Swapoff { .. }
+                | Command::Slot { .. }
+        )
+    }
 }
 
 /// The command, if nothing is left.

@@ -15,7 +15,7 @@ use Rattle.av_text.specs.Number.{IsWide}
 use Rattle.av_trace.specs.declared.command.Command.{Command}
 use Rattle.av_trace.specs.declared.command.Command.TheVariants.{Spawn, Exit, Mmap, Mremap, Munmap, Mprotect}
 use Rattle.av_trace.specs.declared.note.Note.{Note}
-use Rattle.av_trace.specs.declared.note.Note.TheVariants.{Copied, New}
+use Rattle.av_trace.specs.declared.note.Note.TheVariants.{Copied, New, Loaded}
 use Rattle.av_trace.specs.declared.place.Place.{Place}
 use Rattle.av_trace.specs.declared.place.Place.TheVariants.{Auto, At, Fixed, NoReplace}
 use Rattle.av_trace.specs.declared.reply.Answer.{Answer}
@@ -23,9 +23,9 @@ use Rattle.av_trace.specs.declared.reply.Answer.TheVariants.{Done, MapAt, Refuse
 use Rattle.av_trace.specs.declared.reply.Errno.TheVariants.{Enomem}
 use Rattle.av_trace.specs.declared.reply.Reply.{Reply}
 use Rattle.av_trace.specs.declared.row.Row.{Row}
-use Rattle.av_plain.specs.Areas.{Anons, AnonVma, Areas, areas_to_hole, AreLeft, AreNext, at_home, chain_length, chain_by, next_areas, none_on, prepare_page, Rmap, rmap_after, rmap_after_all, rmap_after_note, rmap_after_use, root_anon, with_room, with_root}
+use Rattle.av_plain.specs.Areas.{Anons, AnonVma, Areas, areas_to_hole, AreLeft, AreNext, at_home, chain_length, chain_by, next_areas, none_on, prepare_page, Rmap, rmap_after, rmap_after_all, rmap_after_note, rmap_after_use, root_anon, with_room, with_root, root_of}
 use Rattle.av_plain.specs.Event.{Event, Noted, Used, after}
-use Rattle.av_plain.specs.Fork.{AreForked, GoOver, GoesBy, root_of}
+use Rattle.av_plain.specs.Fork.{AreForked, GoOver, GoesBy}
 use Rattle.av_vma.specs.Mremap.{after_grow, after_move, after_resize, grown_to, joined_over, moved_area, moved_range}
 use Rattle.av_plain.specs.Ledger.{Entry, InFrame, Key, Ledger, Setting, entry}
 use Rattle.av_plain.specs.Mremap.{after_mremap, with_old_range, prot_left}
@@ -323,17 +323,18 @@ home-made r r' f k h = record { made = record { owns = h.made.owns; chains = h.m
 none-made : (r : Rmap) → AreMade r → Makes r r
 none-made r h = record { made = h; more = omega arith }
 
-note-made : (note : Note) (r : Rmap) → AreMade r → Makes r (rmap_after_note note r)
-note-made (New p a f) r h = home-made r (prepare_page p (page_of a) r) f (p, page_of a) (page-made p (page_of a) r h)
-note-made (Copied p a f) r h = home-made r r f (p, page_of a) (none-made r h)
-note-made note r h = none-made r h
+note-made : (l : Ledger) (note : Note) (r : Rmap) → AreMade r → Makes r (rmap_after_note l note r)
+note-made l (New p a f) r h = home-made r (prepare_page p (page_of a) r) f (p, page_of a) (page-made p (page_of a) r h)
+note-made l (Copied p a f) r h = home-made r r f (p, page_of a) (none-made r h)
+note-made l (Loaded s f) r h = record { made = record { owns = h.owns; chains = h.chains }; more = omega arith }
+note-made l note r h = none-made r h
 
 use-made : (write : Bool) (k : Key) (o : Option Entry) (r : Rmap) → AreMade r → Makes r (rmap_after_use write k o r)
 use-made true k (Some (InFrame f seen)) r h = home-made r r f k (none-made r h)
 use-made write k o r h = none-made r h
 
 event-made : (l : Ledger) (e : Event) (r : Rmap) → AreMade r → Makes r (rmap_after l e r)
-event-made l (Noted note) r h = note-made note r h
+event-made l (Noted note) r h = note-made l note r h
 event-made l (Used write k) r h = use-made write k (entry l k) r h
 event-made l e r h = none-made r h
 

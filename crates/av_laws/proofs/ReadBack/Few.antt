@@ -1,18 +1,19 @@
 -- A step makes few anon_vmas: one for each page that gets a frame, and one for each area of a parent.
 use Rattle.std.specs.List.{AllByRecursion, range_with_len}
-use Rattle.std.proofs.Common.{◌≡◌, ◌⊎◌, inl, inr, ℕ, zero, suc, ◌+◌, ◌*◌, ◌≤◌, Bool, true, false, cond, List, [], ◌∷◌, ◌++◌, length, map, Option, Some, None, append-nil, refl, sym, ap, subst, ◌∙◌, arith, ◌==◌, if◌then◌else◌}
+use Rattle.std.proofs.Common.{◌≡◌, ◌⊎◌, inl, inr, ℕ, zero, suc, ◌+◌, ◌*◌, ◌≤◌, Bool, true, false, cond, List, [], ◌∷◌, ◌++◌, length, map, take, Option, Some, None, append-nil, refl, sym, ap, subst, ◌∙◌, arith, ◌==◌, if◌then◌else◌}
 use Rattle.std.specs.Prelude.{MatchOption}
 use Rattle.av_base.specs.Limits.{top_page}
 use Rattle.av_base.specs.Page.{address_of, page_of, pages_of, place_in_page}
 use Rattle.av_base.specs.Words.{how_many, with_at}
 use Rattle.av_base.specs.declared.slot.Slot.{Slot}
-use Rattle.av_trace.specs.Command.{IsCommand}
+use Rattle.av_trace.specs.Command.{IsInRange}
 use Rattle.av_trace.specs.declared.command.Command.{Command}
-use Rattle.av_trace.specs.declared.command.Command.TheVariants.{Spawn, Fork, Exit, Mmap, Mremap, Munmap, Mprotect, Read, Write, Maps, Areas as AsksAreas, Rmap as AsksRmap, Entry as AsksEntry, Stat}
+use Rattle.av_trace.specs.declared.command.Command.TheVariants.{Spawn, Fork, Exit, Mmap, Mremap, Munmap, Mprotect, Read, Write, Reclaim, Age, Complete, Swapon, Swapoff, Maps, Areas as AsksAreas, Rmap as AsksRmap, Entry as AsksEntry, Slot as AsksSlot, Stat}
 use Rattle.av_trace.specs.declared.note.Note.{Note}
 use Rattle.av_trace.specs.declared.note.Note.TheVariants.{Aged, Copied, Dropped, Failed, Kept, Loaded, Mapped, New, Put, Started, Unmapped, Written, Zeroed}
 use Rattle.av_trace.specs.declared.place.Place.TheVariants.{Auto, At, Fixed, NoReplace}
 use Rattle.av_trace.specs.declared.reply.Errno.{Errno}
+use Rattle.av_trace.specs.declared.reply.Errno.TheVariants.{Ebusy, Einval}
 use Rattle.av_trace.specs.declared.reply.OutOf.{OutOf}
 use Rattle.av_trace.specs.declared.reply.Reply.{Reply}
 use Rattle.av_vma.specs.Join.{first_of, past_of}
@@ -24,7 +25,7 @@ use Rattle.av_plain.specs.Device.{HasNoDevice}
 use Rattle.av_plain.specs.Event.{Event, Used, after_all, after_notes, note_events, notes_of, when}
 use Rattle.av_plain.specs.Fault.{ComesIn, CopyOnWrite, Denied, IsMade, Lost, MapCached, Need, NewPage, Ready, RunsOut, Serves, Sparing, Starved, Stop, SwapIn, Touches, ZeroPage, drop_at, drop_of_entry, drop_of_slot, is_unneeded, need, pinned_by, sparing, was_slot}
 use Rattle.av_plain.specs.Fork.{AreForked, GoOver, GoesBy}
-use Rattle.av_plain.specs.Ledger.{Entry, InFrame, InSlot, Key, Ledger, Setting, Zero, entry, slot_of}
+use Rattle.av_plain.specs.Ledger.{Entry, InFrame, InSlot, Key, Ledger, Setting, Zero, entry, is_on, size_of, slot_of}
 use Rattle.av_plain.specs.Mremap.{events_to}
 use Rattle.av_plain.specs.Pass.{Seeks, Spared, TakesFor}
 use Rattle.av_plain.specs.Refusal.{Refuses, refusal, tests}
@@ -37,9 +38,11 @@ use Rattle.av_plain.specs.Zap.{zaps_of}
 use Rattle.av_plain.proofs.Access.{notes_of-append, notes_of-note_events}
 use Rattle.av_plain.proofs.AreasLeft.{prepare_note, prepare_notes, rmap_after_all-notes}
 use Rattle.av_plain.proofs.Ledger.{how_many-append}
-use Rattle.av_plain.proofs.NoDevice.{in-areas, no-remap-notes, no-zap-notes}
+use Rattle.av_plain.proofs.NoDevice.{in-areas, no-area, no-remap-notes, no-swapon, no-zap-notes}
 use Rattle.av_plain.proofs.Report.Areas.{all_from, on_first}
-use Rattle.av_plain.proofs.Sound.Pages.{AllBring, Brings, bring-seeks}
+use Rattle.av_plain.proofs.Sound.Pages.{AllBring, Brings, bring-completes, bring-seeks}
+use Rattle.av_plain.proofs.Sound.Swap.{bring-ages, bring-outcomes}
+use Rattle.av_plain.specs.Reclaim.{from_tail}
 use Rattle.av_plain.proofs.Transcript.{IsFork, IsPlain, next-cases}
 use Rattle.av_laws.specs.Covered.{CoverBelow}
 use Rattle.av_laws.proofs.Covered.{later-laid}
@@ -197,9 +200,9 @@ few-pages write a n h =
 
 -- ---- a legal reply
 
-legal-new : (m : Setting) (w : World) (l : Ledger) (command : Command) (reply : Reply) (es : List Event) → HasNoDevice m → AllSound m w l → IsCommand command
+legal-new : (m : Setting) (w : World) (l : Ledger) (command : Command) (reply : Reply) (es : List Event) → HasNoDevice m → AllSound m w l → IsInRange command
     → IsLegal m w l command reply es → news (notes_of es) ≤ 8192
-legal-new m w l command reply es none sound fit legal = by (refusal (tests m w l command)) legal.answer
+legal-new m w l command reply es none sound fit legal = by (refusal (tests m w l command)) refl legal.answer
   where
     quiet : (fs : List Event) → es ≡ fs → notes_of fs ≡ [] → news (notes_of es) ≤ 8192
     quiet fs e q = same-new (notes_of es) [] 8192 (ap notes_of e ∙ q) (omega arith)
@@ -212,33 +215,45 @@ legal-new m w l command reply es none sound fit legal = by (refusal (tests m w l
         let here = accesses-new m w l p (pages_of_access write a n) es end h in
         let short = few-pages write a n few in omega (arith, here, short)
 
-    follows : (command : Command) → IsCommand command → Follows m w l command es reply.answer reply.rows → news (notes_of es) ≤ 8192
-    follows (Spawn p) fit q = quiet [] q.1 refl
-    follows (Fork p c) fit q = quiet _ q.1 refl
-    follows (Exit p) fit q = these _ q.1
-    follows (Mmap p len prot Auto) fit q = quiet [] q.3 refl
-    follows (Mmap p len prot (At a)) fit q = quiet [] q.3 refl
-    follows (Mmap p len prot (Fixed a)) fit q = these _ q.3
-    follows (Mmap p len prot (NoReplace a)) fit q = quiet [] q.3 refl
-    follows (Munmap p a len) fit q = these _ q.1
-    follows (Mprotect p a len prot) fit q = quiet [] q.1 refl
-    follows (Mremap p a old new mode) fit q = moves q.0 q.3
+    noted : (notes : List Note) → es ≡ note_events notes → AllBring (λ k. false) notes → news (notes_of es) ≤ 8192
+    noted notes e bring = let none = none-new notes bring in same-new (notes_of es) notes 8192 (ap notes_of e ∙ notes_of-note_events notes)
+        (omega (arith, none))
+
+    follows : (command : Command) → IsInRange command → refusal (tests m w l command) ≡ None → Follows m w l command es reply.answer reply.rows →
+        news (notes_of es) ≤ 8192
+    follows (Spawn p) fit fine q = quiet [] q.1 refl
+    follows (Fork p c) fit fine q = quiet _ q.1 refl
+    follows (Exit p) fit fine q = these _ q.1
+    follows (Mmap p len prot Auto) fit fine q = quiet [] q.3 refl
+    follows (Mmap p len prot (At a)) fit fine q = quiet [] q.3 refl
+    follows (Mmap p len prot (Fixed a)) fit fine q = these _ q.3
+    follows (Mmap p len prot (NoReplace a)) fit fine q = quiet [] q.3 refl
+    follows (Munmap p a len) fit fine q = these _ q.1
+    follows (Mprotect p a len prot) fit fine q = quiet [] q.1 refl
+    follows (Mremap p a old new mode) fit fine q = moves q.0 q.3
       where
         moves : (to : Option ℕ) → es ≡ events_to l p (page_of a) (pages_of old) to (pages_of new) → news (notes_of es) ≤ 8192
         moves None e = quiet [] e refl
         moves (Some to) e = quiet _ e (no-remap-notes m l p (page_of a) (pages_of old) to (pages_of new) none (in-areas m w l sound))
-    follows (Read p a n) fit q = accessed p false a n q.0 fit.2.most q.2
-    follows (Write p a bytes) fit q = accessed p true a (length bytes) q.0 fit.2.0.most q.1
-    follows (Maps p) fit q = quiet [] q.2 refl
-    follows (AsksAreas p) fit q = quiet [] q.2 refl
-    follows (AsksRmap p a) fit q = quiet [] q.1 refl
-    follows (AsksEntry p a) fit q = quiet [] q.1 refl
-    follows Stat fit q = quiet [] q.1 refl
+    follows (Read p a n) fit fine q = accessed p false a n q.0 fit.2.most q.2
+    follows (Write p a bytes) fit fine q = accessed p true a (length bytes) q.0 fit.2.0.most q.1
+    follows (Reclaim n) fit fine q = noted q.0 q.3 (bring-outcomes (λ k. false) m (sparing w l None) l (from_tail n l.inactive) q.0 q.1)
+    follows (Age n) fit fine q = noted (map Aged (from_tail n l.active)) q.1 (bring-ages (λ k. false) (from_tail n l.active))
+    follows (Complete n) fit fine q = noted q.0 q.3 (bring-completes (λ k. false) l (take n l.flight) q.0 q.1)
+    follows (Swapon k) fit fine q = absurd (no-swapon m k ((is_on l k, Ebusy) ∷ (size_of m k == 0, Einval) ∷ []) none fine)
+    follows (Swapoff k) fit fine q = absurd (no-area m l k [] none sound.areas_fit fine)
+    follows (Maps p) fit fine q = quiet [] q.2 refl
+    follows (AsksAreas p) fit fine q = quiet [] q.2 refl
+    follows (AsksRmap p a) fit fine q = quiet [] q.1 refl
+    follows (AsksEntry p a) fit fine q = quiet [] q.1 refl
+    follows (AsksSlot k page) fit fine q = quiet [] q.1 refl
+    follows Stat fit fine q = quiet [] q.1 refl
 
-    by : (o : Option Errno) → MatchOption o (Follows m w l command es reply.answer reply.rows) (λ error. Refuses error es reply.answer reply.rows)
+    by : (o : Option Errno) → refusal (tests m w l command) ≡ o → MatchOption o (Follows m w l command es reply.answer reply.rows)
+        (λ error. Refuses error es reply.answer reply.rows)
         → news (notes_of es) ≤ 8192
-    by None q = follows command fit q
-    by (Some error) q = quiet [] q.1 refl
+    by None fine q = follows command fit fine q
+    by (Some error) fine q = quiet [] q.1 refl
 
 -- ---- how many are made
 
@@ -293,7 +308,7 @@ fork-few p q r next laid (areas, rise, on, goes) =
 
 -- a step of a command of the grammar makes fewer than twice as many as a process may have pages
 pub step-few : (m : Setting) (most : ℕ) (old : State) (command : Command) (reply : Reply) (new : State) → HasNoDevice m → top_page ≤ most
-    → AllSound m old.world old.ledger → CoverBelow most old.world old.areas → IsCommand command → IsStep m old command reply new
+    → AllSound m old.world old.ledger → CoverBelow most old.world old.areas → IsInRange command → IsStep m old command reply new
     → new.anons.next ≤ old.anons.next + 2 * top_page
 step-few m most old command reply new none high sound covers fit step = by (next-cases later old.world command reply.answer (rmap_of new) step.rmap)
   where

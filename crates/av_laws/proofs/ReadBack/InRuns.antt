@@ -2,21 +2,17 @@
 use Rattle.std.specs.List.{list_all}
 use Rattle.std.specs.Prelude.{MatchBool, MatchOption, slice_index}
 use Rattle.std.specs.Ordering.{nat_cmp, eq_by_cmp}
-use Rattle.std.proofs.Common.{◌≡◌, inl, inr, ℕ, ◌+◌, ◌-◌, ◌<◌, ◌≤◌, min, Bool, true, false, cond, not, ◌&&◌, List, [], ◌∷◌, ◌++◌, length, map, Option, Some, None, is_some, option_map, refl, sym, ap, subst, ◌∙◌, arith, ◌==◌, nat_lt, nat_le, if◌then◌else◌}
+use Rattle.std.proofs.Common.{◌≡◌, inl, inr, ℕ, ◌+◌, ◌-◌, ◌<◌, ◌≤◌, Bool, true, false, cond, not, ◌&&◌, List, [], ◌∷◌, ◌++◌, length, Option, Some, None, is_some, option_map, refl, sym, ap, subst, ◌∙◌, arith, ◌==◌, nat_lt, nat_le, if◌then◌else◌}
 use Rattle.std.proofs.lemmas.Bool.Decides.{nat_tests}
 use Rattle.av_base.specs.Limits.{low_page, top_page}
 use Rattle.av_base.specs.Page.{address_of, is_on_page, page_of, pages_of}
 use Rattle.av_base.specs.Words.{within}
 use Rattle.av_base.specs.declared.prot.Prot.{Prot}
-use Rattle.av_base.specs.declared.slot.Slot.{Slot}
 use Rattle.av_vma.specs.Gap.{IsGap}
-use Rattle.av_trace.specs.Command.{IsCommand}
+use Rattle.av_trace.specs.Command.{IsInRange}
 use Rattle.av_text.specs.Number.{IsWide}
 use Rattle.av_trace.specs.declared.command.Command.{Command}
-use Rattle.av_trace.specs.declared.command.Command.TheVariants.{Spawn, Fork, Exit, Mmap, Mremap, Munmap, Mprotect, Read, Write, Maps, Areas as AsksAreas, Rmap as AsksRmap, Entry as AsksEntry, Stat}
-use Rattle.av_trace.specs.declared.note.Cause.TheVariants.{NoSlot, Referenced, WriteStarted, Writeback}
-use Rattle.av_trace.specs.declared.note.Note.{Note}
-use Rattle.av_trace.specs.declared.note.Note.TheVariants.{Aged, Copied, Dropped, Failed, Kept, Loaded, Mapped, New, Put, Started, Unmapped, Written, Zeroed}
+use Rattle.av_trace.specs.declared.command.Command.TheVariants.{Spawn, Fork, Exit, Mmap, Mremap, Munmap, Mprotect, Read, Write, Reclaim, Age, Complete, Swapon, Swapoff, Maps, Areas as AsksAreas, Rmap as AsksRmap, Entry as AsksEntry, Slot as AsksSlot, Stat}
 use Rattle.av_trace.specs.declared.mode.Mode.{Mode}
 use Rattle.av_trace.specs.declared.place.Place.{Place}
 use Rattle.av_trace.specs.declared.place.Place.TheVariants.{Auto, At, Fixed, NoReplace}
@@ -26,201 +22,24 @@ use Rattle.av_trace.specs.declared.reply.Errno.{Errno}
 use Rattle.av_trace.specs.declared.reply.Errno.TheVariants.{Eexist, Einval, Enomem, Eperm, Esrch}
 use Rattle.av_trace.specs.declared.reply.Reply.{Reply}
 use Rattle.av_trace.specs.declared.row.Row.{Row}
-use Rattle.av_plain.specs.Access.{Accesses, End, after_write, first_bytes, page_events}
-use Rattle.av_plain.specs.Event.{Event, Forked, Inherited, is_inherited, without_seen, Moved, Noted, TurnedOff, TurnedOn, Used, Zapped, after, after_all, after_note, after_use_of, change_entries, entries_where, if_some, note_events, off_cache, off_flight, set_entry, settle_entry, to_inactive_tail, when, with_stale}
-use Rattle.av_plain.specs.Fault.{Stop}
-use Rattle.av_plain.specs.Ledger.{Entry, InFrame, InSlot, Key, Ledger, Setting, Zero, entry, frame_at, is_orphan, slot_of}
+use Rattle.av_plain.specs.Access.{after_write, first_bytes}
+use Rattle.av_plain.specs.Event.{Event}
+use Rattle.av_plain.specs.Ledger.{Ledger, Setting}
 use Rattle.av_plain.specs.Load.{with_loads}
 use Rattle.av_plain.specs.Map.{with_prot_to_hole}
-use Rattle.av_plain.specs.Mremap.{MovesTo, events_to, prot_at, prot_left, range_zaps, remap_events, process_after_mremap}
+use Rattle.av_plain.specs.Mremap.{MovesTo, events_to, prot_at, prot_left, process_after_mremap}
 use Rattle.av_plain.specs.Place.{Goes, IsMapAt, is_room}
 use Rattle.av_plain.specs.Refusal.{Refuses, Tests, fixed_tests, is_too_long, low, place_tests, refusal, tests, top, wraps}
-use Rattle.av_plain.specs.Step.{Follows, IsLegal, next, next_world}
+use Rattle.av_plain.specs.Step.{Follows, next, next_world}
 use Rattle.av_plain.specs.Transcript.{IsStep, State}
 use Rattle.av_plain.specs.World.{Page, Process, World, end_process, is_mapped, lives, meets, no_pages, pages, pages_to_hole, set_process, with_bytes, with_pages, with_prot, with_prot_on, zeros}
-use Rattle.av_plain.specs.Zap.{keys_in, orphan_drop, slot_behind_key, zap_of, zaps_of}
-use Rattle.av_plain.proofs.Event.{put_all-only}
 use Rattle.av_plain.proofs.Load.{events_to-load_nothing, loads_nothing, without-loads}
-use Rattle.av_plain.proofs.Mremap.{others_of, shifted, then_target}
 use Rattle.av_plain.proofs.Mremap.Legal.{highest, left_each}
 use Rattle.av_plain.proofs.Refusal.{MayRemap, may-remap, refused-next}
 use Rattle.av_plain.proofs.Sound.{map_count-loads}
-use Rattle.av_plain.proofs.Sound.There.{settle-on}
 use Rattle.av_plain.proofs.Sound.Zap.{pages-ended}
 use Rattle.av_plain.proofs.World.{pages-set}
 use Rattle.av_laws.specs.ReadBack.{IsSmall}
-
--- ---- no area goes on
-
-note-on : (note : Note) (l : Ledger) → (after_note note l).on ≡ l.on
-note-on (Zeroed p a) l = refl
-note-on (New p a f) l = refl
-note-on (Copied p a f) l = refl
-note-on (Loaded s f) l = refl
-note-on (Mapped p a f) l = refl
-note-on (Put f s) l = refl
-note-on (Unmapped f) l = by (slot_of l f)
-  where
-    by : (o : Option Slot) → (if_some o (λ s. change_entries f (λ _. InSlot s)) l).on ≡ l.on
-    by None = refl
-    by (Some s) = refl
-note-on (Started s) l = refl
-note-on (Written s) l = by (frame_at l s)
-  where
-    by : (o : Option ℕ) → (if_some o to_inactive_tail (off_flight s l)).on ≡ l.on
-    by None = refl
-    by (Some f) = refl
-note-on (Failed s) l = refl
-note-on (Dropped s) l = settle-on (frame_at l s) (off_cache s l)
-note-on (Kept f Writeback) l = refl
-note-on (Kept f WriteStarted) l = refl
-note-on (Kept f Referenced) l = refl
-note-on (Kept f NoSlot) l = refl
-note-on (Aged f) l = refl
-
--- the events of commands so far
-abbrev is_plain : Event → Bool
-is_plain (Noted note) = true
-is_plain (Zapped k) = true
-is_plain (Used write k) = true
-is_plain (Forked p c pages) = true
-is_plain (Moved p n from to) = true
-is_plain (TurnedOn k slots bad) = false
-is_plain (TurnedOff k) = false
-
-event-on : (e : Event) (l : Ledger) → is_plain e ≡ true → (after l e).on ≡ l.on
-event-on (Noted note) l h = note-on note l
-event-on (Zapped k) l h = by (entry l k)
-    (record l { entries = entries_where (λ q. not (k.0 == q.0 && k.1 == q.1)) l })
-  where
-    by : (o : Option Entry) (l' : Ledger) → (settle_entry o l').on ≡ l'.on
-    by None l' = refl
-    by (Some Zero) l' = refl
-    by (Some (InSlot s)) l' = refl
-    by (Some (InFrame f seen)) l' = settle-on (Some f) l'
-event-on (Used write k) l h = by write (entry l k)
-  where
-    stale : (f : ℕ) (o : Option Slot)
-        → (if_some o (with_stale true) (set_entry k (InFrame f true) l)).on ≡ l.on
-    stale f None = refl
-    stale f (Some s) = refl
-
-    by : (write : Bool) (o : Option Entry) → (after_use_of write k l o).on ≡ l.on
-    by write None = refl
-    by write (Some Zero) = refl
-    by write (Some (InSlot s)) = refl
-    by false (Some (InFrame f seen)) = refl
-    by true (Some (InFrame f seen)) = stale f (slot_of l f)
-event-on (Forked p c pages) l h = ap (λ (l : Ledger). l.on) (put_all-only (copies_of p c pages l) l)
-  where
-    copies_of : ℕ → ℕ → List Inherited → Ledger → List (Key × Entry)
-    copies_of p q pages l = map (λ e. ((q, e.0.1), without_seen e.1)) (entries_where (λ k. k.0 == p && is_inherited pages k.1) l)
-event-on (Moved p n from to) l h = ap (λ (l : Ledger). l.on) (put_all-only (shifted p n from to l.entries)
-    (record l { entries = others_of p from n l.entries }))
-event-on (TurnedOn k slots bad) l h = cc
-event-on (TurnedOff k) l h = cc
-
-both : (a b : Bool) → (a && b) ≡ true → (a ≡ true) × (b ≡ true)
-both true b h = (refl, h)
-both false b h = cc
-
-events-on : (es : List Event) (l : Ledger) → list_all is_plain es ≡ true
-    → (after_all l es).on ≡ l.on
-events-on [] l h = refl
-events-on (e ∷ es) l h = let parts = both (is_plain e) (list_all is_plain es) h in events-on es
-    (after l e) parts.1 ∙ event-on e l parts.0
-
-plain-append : (a b : List Event) → list_all is_plain a ≡ true → list_all is_plain b ≡ true
-    → list_all is_plain (a ++ b) ≡ true
-plain-append [] b h g = g
-plain-append (e ∷ a) b h g = let parts = both (is_plain e) (list_all is_plain a) h in ap
-    (λ c. c && list_all is_plain (a ++ b)) parts.0 ∙ plain-append a b parts.1 g
-
-plain-notes : (notes : List Note) → list_all is_plain (note_events notes) ≡ true
-plain-notes [] = refl
-plain-notes (note ∷ notes) = plain-notes notes
-
-plain-zaps : (l : Ledger) (ks : List Key) → list_all is_plain (zaps_of l ks) ≡ true
-plain-zaps l [] = refl
-plain-zaps l (k ∷ ks) = plain-append (zap_of l k) (zaps_of (after_all l (zap_of l k)) ks)
-    (drop (slot_behind_key l (entry l k))) (plain-zaps (after_all l (zap_of l k)) ks)
-  where
-    now : Ledger
-    now = after l (Zapped k)
-
-    drop : (o : Option Slot) → list_all is_plain (orphan_drop now o) ≡ true
-    drop None = refl
-    drop (Some s) = plain-notes (when (is_orphan now s) (Dropped s))
-
-plain-remap : (l : Ledger) (p from n to k : ℕ) → list_all is_plain (remap_events l p from n to k) ≡ true
-plain-remap l p from n to k = by (to == from)
-  where
-    target : Ledger
-    target = then_target l p from n to k
-
-    by : (b : Bool) → list_all is_plain (cond b (range_zaps l p (from + k) (n - k))
-        ((range_zaps l p to k ++ range_zaps target p (from + k) (n - k)) ++ Moved p (min n k) from to ∷ [])) ≡ true
-    by true = plain-zaps l (keys_in l p (from + k) (n - k))
-    by false = plain-append (range_zaps l p to k ++ range_zaps target p (from + k) (n - k)) (Moved p (min n k) from to ∷ [])
-        (plain-append (range_zaps l p to k) (range_zaps target p (from + k) (n - k))
-        (plain-zaps l (keys_in l p to k)) (plain-zaps target (keys_in target p (from + k) (n - k)))) refl
-
-plain-page : (write : Bool) (k : Key) (notes : List Note) (end : Option Stop)
-    → list_all is_plain (page_events write k notes end) ≡ true
-plain-page write k notes None = plain-append (note_events notes) (Used write k ∷ [])
-    (plain-notes notes) refl
-plain-page write k notes (Some stop) = plain-notes notes
-
-plain-accesses : (m : Setting) (w : World) (l : Ledger) (p : ℕ) (ps : List (Bool × ℕ))
-    (es : List Event) (end : End) → Accesses m w l p ps es end → list_all is_plain es ≡ true
-plain-accesses m w l p [] es end h = ap (list_all is_plain) h.0
-plain-accesses m w l p (page ∷ ps) es end (inl h) = ap (list_all is_plain) h.3
-    ∙ plain-append (page_events page.0 (p, page.1) h.0 None) h.1
-    (plain-page page.0 (p, page.1) h.0 None)
-    (plain-accesses m w (after_all l (page_events page.0 (p, page.1) h.0 None)) p ps h.1 end
-    h.4)
-plain-accesses m w l p (page ∷ ps) es end (inr h) = ap (list_all is_plain) h.3
-    ∙ plain-page page.0 (p, page.1) h.0 (Some h.1)
-
-plain-legal : (m : Setting) (w : World) (l : Ledger) (command : Command) (reply : Reply)
-    (es : List Event) → IsLegal m w l command reply es → list_all is_plain es ≡ true
-plain-legal m w l command reply es legal = by (refusal (tests m w l command)) legal.answer
-  where
-    none : es ≡ [] → list_all is_plain es ≡ true
-    none e = ap (list_all is_plain) e
-
-    these : (ks : List Key) → es ≡ zaps_of l ks → list_all is_plain es ≡ true
-    these ks e = ap (list_all is_plain) e ∙ plain-zaps l ks
-
-    follows : (command : Command) → Follows m w l command es reply.answer reply.rows
-        → list_all is_plain es ≡ true
-    follows (Spawn p) q = none q.1
-    follows (Fork p c) q = ap (list_all is_plain) q.1
-    follows (Exit p) q = these _ q.1
-    follows (Mmap p len prot Auto) q = none q.3
-    follows (Mmap p len prot (At a)) q = none q.3
-    follows (Mmap p len prot (Fixed a)) q = these _ q.3
-    follows (Mmap p len prot (NoReplace a)) q = none q.3
-    follows (Munmap p a len) q = these _ q.1
-    follows (Mprotect p a len prot) q = none q.1
-    follows (Mremap p a old new mode) q = moves q.0 q.3
-      where
-        moves : (to : Option ℕ) → es ≡ events_to l p (page_of a) (pages_of old) to (pages_of new) → list_all is_plain es ≡ true
-        moves None e = none e
-        moves (Some to) e = ap (list_all is_plain) e ∙ plain-remap l p (page_of a) (pages_of old) to (pages_of new)
-    follows (Read p a n) q = plain-accesses m w l p _ es q.0 q.2
-    follows (Write p a bytes) q = plain-accesses m w l p _ es q.0 q.1
-    follows (Maps p) q = none q.2
-    follows (AsksAreas p) q = none q.2
-    follows (AsksRmap p a) q = none q.1
-    follows (AsksEntry p a) q = none q.1
-    follows Stat q = none q.1
-
-    by : (o : Option Errno)
-        → MatchOption o (Follows m w l command es reply.answer reply.rows)
-        (λ error. Refuses error es reply.answer reply.rows) → list_all is_plain es ≡ true
-    by None q = follows command q
-    by (Some error) q = none q.1
 
 -- ---- pages stay below the top, of processes with small numbers
 
@@ -413,7 +232,7 @@ module _ (w : World) (p a old new : ℕ) (mode : Mode) (to : ℕ) (may : MayRema
 -- ---- a step
 
 below-follows : (m : Setting) (w now : World) (l : Ledger) (command : Command) (es : List Event)
-    (answer : Answer) (rows : List Row) → IsCommand command → (list_all loads_nothing es ≡ true → now ≡ w) → Below now
+    (answer : Answer) (rows : List Row) → IsInRange command → (list_all loads_nothing es ≡ true → now ≡ w) → Below now
     → refusal (tests m w l command) ≡ None
     → Follows m w l command es answer rows → Below (next now command answer)
 below-follows m w now l (Spawn p) es answer rows fit same below none h = subst
@@ -492,22 +311,24 @@ below-follows m w now l (Mremap p a old new mode) es answer rows fit same below 
 below-follows m w now l (Read p a n) es answer rows fit same below none h = below
 below-follows m w now l (Write p a bytes) es answer rows fit same below none h = below-stored now p a
     (first_bytes answer bytes) below
+below-follows m w now l (Reclaim n) es answer rows fit same below none h = below
+below-follows m w now l (Age n) es answer rows fit same below none h = below
+below-follows m w now l (Complete n) es answer rows fit same below none h = below
+below-follows m w now l (Swapon k) es answer rows fit same below none h = below
+below-follows m w now l (Swapoff k) es answer rows fit same below none h = below
 below-follows m w now l (Maps p) es answer rows fit same below none h = below
 below-follows m w now l (AsksAreas p) es answer rows fit same below none h = below
 below-follows m w now l (AsksRmap p a) es answer rows fit same below none h = below
 below-follows m w now l (AsksEntry p a) es answer rows fit same below none h = below
+below-follows m w now l (AsksSlot k page) es answer rows fit same below none h = below
 below-follows m w now l Stat es answer rows fit same below none h = below
 
 pub step-small : (m : Setting) (old new : State) (command : Command) (reply : Reply)
-    → IsCommand command → IsSmall m old.world old.ledger → IsStep m old command reply new
-    → IsSmall m new.world new.ledger
+    → IsInRange command → IsSmall m old.world → IsStep m old command reply new → IsSmall m new.world
 step-small m old new command reply fit small h = record {
   frames = small.frames;
   below = λ p page is. (later p page is).0;
   processes = λ p page is. (later p page is).1;
-  off = ap (λ (l : Ledger). l.on) h.ledger
-      ∙ events-on h.events old.ledger
-      (plain-legal m old.world old.ledger command reply h.events h.legal) ∙ small.off;
 }
   where
     now : World

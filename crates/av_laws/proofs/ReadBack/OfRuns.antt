@@ -1,9 +1,9 @@
 -- All states of a run are small, where no device is attached: so each of its replies is read back.
 use Rattle.std.specs.List.{AllByRecursion}
 use Rattle.std.specs.Prelude.{MatchOption}
-use Rattle.std.proofs.Common.{◌≡◌, ℕ, ◌+◌, ◌*◌, ◌^◌, ◌≤◌, length, true, false, List, [], ◌∷◌, Option, Some, None, refl, sym, subst, arith}
+use Rattle.std.proofs.Common.{◌≡◌, ℕ, ◌+◌, ◌*◌, ◌^◌, ◌≤◌, length, true, false, List, [], ◌∷◌, Option, Some, None, sym, subst, arith}
 use Rattle.av_base.specs.Limits.{top_page}
-use Rattle.av_trace.specs.Command.{IsCommand}
+use Rattle.av_trace.specs.Command.{IsInRange}
 use Rattle.av_text.specs.Number.{IsWide}
 use Rattle.av_trace.specs.Reply.{IsReply}
 use Rattle.av_trace.specs.declared.command.Command.{Command}
@@ -45,10 +45,10 @@ asked-now m old command reply new made covers wide h = tt
 
 runs-back : (m : Setting) (most : ℕ) (old : State) (es : List Exchange) (new : State) → HasNoDevice m
     → top_page ≤ most → most + length es * top_page ≤ 2 ^ 60
-    → AllSound m old.world old.ledger → IsSmall m old.world old.ledger
+    → AllSound m old.world old.ledger → IsSmall m old.world
     → AreMade (rmap_of old) → CoverBelow most old.world old.areas
     → old.anons.next + length es * (2 * top_page) ≤ 2 ^ 62
-    → AllByRecursion (λ (e : Exchange). IsCommand e.command) es
+    → AllByRecursion (λ (e : Exchange). IsInRange e.command) es
     → IsRun m old es new → AllByRecursion (λ (e : Exchange). IsReply e.reply) es
 runs-back m most old [] new none high room sound small made covers few fit h = tt
 runs-back m most old (e ∷ es) new none high room sound small made covers few fit h = (
@@ -63,11 +63,11 @@ runs-back m most old (e ∷ es) new none high room sound small made covers few f
 )
 
 pub run-reads_back : (m : Setting) (es : List Exchange) (new : State) → HasNoDevice m
-    → IsWide m.frames → length es ≤ 2 ^ 24 → AllByRecursion (λ (e : Exchange). IsCommand e.command) es
+    → IsWide m.frames → length es ≤ 2 ^ 24 → AllByRecursion (λ (e : Exchange). IsInRange e.command) es
     → IsRun m (at_first m) es new
     → AllByRecursion (λ (e : Exchange). IsReply e.reply) es
 run-reads_back m es new none wide short fit h = runs-back m top_page (at_first m) es new none (omega arith) (omega arith) (first-sound m)
-    (record { frames = wide; below = λ p page h. absurd (never_some h); processes = λ p page h. absurd (never_some h); off = refl })
+    (record { frames = wide; below = λ p page h. absurd (never_some h); processes = λ p page h. absurd (never_some h) })
     (record { owns = λ p page. tt; chains = λ v. tt }) (first-covers m) (omega arith) fit h
   where
     never_some : false ≡ true → ⊥

@@ -28,7 +28,7 @@ pub record HasChains (r : Rmap) : Type 0 where
 itself : (n : ℕ) → (n == n) ≡ true
 itself n = grind (arith, nat_tests)
 
-in_front : (v : ℕ) (xs ys : List ℕ) → is_in v xs ≡ true → is_in v (xs ++ ys) ≡ true
+pub in_front : (v : ℕ) (xs ys : List ℕ) → is_in v xs ≡ true → is_in v (xs ++ ys) ≡ true
 in_front v [] ys h = absurd (false≢true h)
 in_front v (x ∷ xs) ys h = by (v == x) h (in_front v xs ys)
   where
@@ -54,10 +54,10 @@ record Gets (r : Rmap) (area : Area) (own : Option ℕ) (anons : Anons) : Type 0
   all : (v : ℕ) → is_in v (chain_by r.anons area.anon) ≡ true → is_in v (chain_by anons own) ≡ true
 
 -- what the chains keep: those that areas have stay, and the child's has what the parent's has
-record Keeps (q : ℕ) (area : Area) (r next : Rmap) : Type 0 where
-  chain : (p page v : ℕ) → Owns r p page v → chain_by next.anons (Some v) ≡ chain_by r.anons (Some v)
-  chains : HasChains next
-  all : (page : ℕ) (own : Option ℕ) → has_page area page ≡ true → next.areas q page ≡ Some (in_child q area own)
+pub record Keeps (q : ℕ) (area : Area) (r next : Rmap) : Type 0 where
+  pub chain : (p page v : ℕ) → Owns r p page v → chain_by next.anons (Some v) ≡ chain_by r.anons (Some v)
+  pub chains : HasChains next
+  pub all : (page : ℕ) (own : Option ℕ) → has_page area page ≡ true → next.areas q page ≡ Some (in_child q area own)
       → (v : ℕ) → is_in v (chain_by r.anons area.anon) ≡ true → is_in v (chain_by next.anons own) ≡ true
 
 keeps_with : (q : ℕ) (area : Area) (r : Rmap) (own : Option ℕ) (anons : Anons) → HasChains r → Gets r area own anons →
@@ -160,7 +160,7 @@ gets_reused r area own v h is among idle = record {
     made w true e there = subst (λ w. w < r.anons.next) (sym (same w v e)) (h.made v (there_some (r.anons.anon v) idle.below))
     made w false e there = h.made w there
 
-keeps : (q : ℕ) (area : Area) (r next : Rmap) → HasChains r → GoesBy area.anon q area r next → Keeps q area r next
+pub keeps : (q : ℕ) (area : Area) (r next : Rmap) → HasChains r → GoesBy area.anon q area r next → Keeps q area r next
 keeps q area r next h goes = by area.anon refl goes
   where
     through : (w : ℕ) (reused : Option ℕ) → area.anon ≡ Some w → IsReused r (chain_by r.anons (Some w)) reused →
@@ -191,10 +191,10 @@ chain_holds r next p page a is h = by a.anon refl
     by (Some w) e v among = subst (λ c. is_in v c ≡ true) (sym (h w (subst (λ x. IsSomeAnd x (λ a. a.anon ≡ Some w)) (sym is) e))) among
 
 -- what the chains keep when all have gone
-record KeepsAll (q : ℕ) (areas : List Area) (r next : Rmap) : Type 0 where
-  chain : (p page v : ℕ) → IsLeft q areas p page → Owns r p page v → chain_by next.anons (Some v) ≡ chain_by r.anons (Some v)
-  chains : HasChains next
-  all : (page : ℕ) (area : Area) (own : Option ℕ) → pages_in (Some areas) page ≡ Some area → next.areas q page ≡ Some (in_child q area own)
+pub record KeepsAll (q : ℕ) (areas : List Area) (r next : Rmap) : Type 0 where
+  pub chain : (p page v : ℕ) → IsLeft q areas p page → Owns r p page v → chain_by next.anons (Some v) ≡ chain_by r.anons (Some v)
+  pub chains : HasChains next
+  pub all : (page : ℕ) (area : Area) (own : Option ℕ) → pages_in (Some areas) page ≡ Some area → next.areas q page ≡ Some (in_child q area own)
       → (v : ℕ) → is_in v (chain_by r.anons area.anon) ≡ true → is_in v (chain_by next.anons own) ≡ true
 
 module _ (p q : ℕ) (apart : (p == q) ≡ false) where
@@ -233,58 +233,63 @@ module _ (p q : ℕ) (apart : (p == q) ≡ false) where
 
 -- ---- the whole
 
+module _ (p q : ℕ) (r next : Rmap) (apart : (p == q) ≡ false) (forks : AreForked p q r next) (chains : HasChains r) where
+  child : ChildHas p q r next
+  child = child-has p q r next forks
+
+  owned_before : (k page v : ℕ) → Owns (before q r) k page v → Owns r k page v
+  owned_before k page v = by (k == q)
+    where
+      by : (b : Bool) → IsSomeAnd ((cond b none_on (r.areas k)) page) (λ a. a.anon ≡ Some v) → Owns r k page v
+      by true is = absurd is
+      by false is = is
+
+  pub fork-keeps : KeepsAll q forks.0 (before q r) next
+  fork-keeps = keeps-all p q apart forks.0 (before q r) next forks.1 (λ page area is. before-others q r p page apart ∙ sym (forks.2 page) ∙ is)
+      (record { made = chains.made; own = λ k page v is. chains.own k page v (owned_before k page v is) }) forks.3
+
+  -- a page of another process is reached still
+  pub fork-stays : (k : Key) → (k.0 == q) ≡ false → (home : ℕ × ℕ) → IsReached r k home → IsReached next k home
+  fork-stays k other home is = at (r.areas k.0 k.1) refl is
+    where
+      at : (o : Option Area) → r.areas k.0 k.1 ≡ o → IsSomeAnd o (λ area. (is_in home.0 (chain_by r.anons area.anon) ≡ true) × (index_of area k.1 ≡ home.1)) →
+          IsReached next k home
+      at None e is = absurd is
+      at (Some area) e is = subst (λ x. IsSomeAnd x (λ area. (is_in home.0 (chain_by next.anons area.anon) ≡ true) × (index_of area k.1 ≡ home.1)))
+          (sym (child.others k.0 k.1 other ∙ e)) (
+            chain_holds (before q r) next k.0 k.1 area (before-others q r k.0 k.1 other ∙ e)
+                (λ v owned. fork-keeps.chain k.0 k.1 v (inl other) owned) home.0 is.0,
+            is.1,
+          )
+
+  -- and so is the child's from where the parent's was
+  pub fork-goes_over : (page : ℕ) (home : ℕ × ℕ) → IsReached r (p, page) home → IsReached next (q, page) home
+  fork-goes_over page home is = at (r.areas p page) refl is
+    where
+      at : (o : Option Area) → r.areas p page ≡ o → IsSomeAnd o (λ area. (is_in home.0 (chain_by r.anons area.anon) ≡ true) × (index_of area page ≡ home.1)) →
+          IsReached next (q, page) home
+      at None e is = absurd is
+      at (Some area) e is = subst (λ x. IsSomeAnd x (λ area. (is_in home.0 (chain_by next.anons area.anon) ≡ true) × (index_of area page ≡ home.1)))
+          (sym (child.here page area e))
+          (fork-keeps.all page area (child.own page) (forks.2 page ∙ e) (child.here page area e) home.0 is.0, is.1)
+
 -- the entries that go over are reached from the homes of their frames
 pub sound-forked : (l : Ledger) (p q : ℕ) (r next : Rmap) → T (is_sorted key_cmp l.entries) → (p == q) ≡ false → ((page : ℕ) → entry l (q, page) ≡ None)
     → AreForked p q r next → IsRmapSound l r → IsRmapSound (child_ledger p q l) next
 sound-forked l p q r next sorted apart none forks h = record {
-  made = keep.chains.made;
-  own = keep.chains.own;
+  made = (fork-keeps p q r next apart forks chains).chains.made;
+  own = (fork-keeps p q r next apart forks chains).chains.own;
   covered = λ k f names. reached k f (k.0 == q) refl (subst (λ o. IsSomeAnd o (λ e. names_frame f e ≡ true)) (entry-forked p q l k sorted) names);
 }
   where
-    child : ChildHas p q r next
-    child = child-has p q r next forks
-
-    owns : (k page v : ℕ) → Owns (before q r) k page v → Owns r k page v
-    owns k page v = by (k == q)
-      where
-        by : (b : Bool) → IsSomeAnd ((cond b none_on (r.areas k)) page) (λ a. a.anon ≡ Some v) → Owns r k page v
-        by true is = absurd is
-        by false is = is
-
-    keep : KeepsAll q forks.0 (before q r) next
-    keep = keeps-all p q apart forks.0 (before q r) next forks.1 (λ page area is. before-others q r p page apart ∙ sym (forks.2 page) ∙ is)
-        (record { made = h.made; own = λ k page v is. h.own k page v (owns k page v is) }) forks.3
-
-    -- an entry that stays
-    stays : (k : Key) → (k.0 == q) ≡ false → (home : ℕ × ℕ) → IsReached r k home → IsReached next k home
-    stays k other home is = at (r.areas k.0 k.1) refl is
-      where
-        at : (o : Option Area) → r.areas k.0 k.1 ≡ o → IsSomeAnd o (λ area. (is_in home.0 (chain_by r.anons area.anon) ≡ true) × (index_of area k.1 ≡ home.1)) →
-            IsReached next k home
-        at None e is = absurd is
-        at (Some area) e is = subst (λ x. IsSomeAnd x (λ area. (is_in home.0 (chain_by next.anons area.anon) ≡ true) × (index_of area k.1 ≡ home.1)))
-            (sym (child.others k.0 k.1 other ∙ e)) (
-              chain_holds (before q r) next k.0 k.1 area (before-others q r k.0 k.1 other ∙ e)
-                  (λ v owned. keep.chain k.0 k.1 v (inl other) owned) home.0 is.0,
-              is.1,
-            )
-
-    -- and one that goes over
-    goes_over : (page : ℕ) (home : ℕ × ℕ) → IsReached r (p, page) home → IsReached next (q, page) home
-    goes_over page home is = at (r.areas p page) refl is
-      where
-        at : (o : Option Area) → r.areas p page ≡ o → IsSomeAnd o (λ area. (is_in home.0 (chain_by r.anons area.anon) ≡ true) × (index_of area page ≡ home.1)) →
-            IsReached next (q, page) home
-        at None e is = absurd is
-        at (Some area) e is = subst (λ x. IsSomeAnd x (λ area. (is_in home.0 (chain_by next.anons area.anon) ≡ true) × (index_of area page ≡ home.1)))
-            (sym (child.here page area e))
-            (keep.all page area (child.own page) (forks.2 page ∙ e) (child.here page area e) home.0 is.0, is.1)
+    chains : HasChains r
+    chains = record { made = h.made; own = h.own }
 
     -- at the home that the frame has still
     at_home : (k q' : Key) (f : ℕ) → ((home : ℕ × ℕ) → IsReached r k home → IsReached next q' home) → IsSomeAnd (r.homes f) (IsReached r k) →
         IsSomeAnd (next.homes f) (IsReached next q')
-    at_home k q' f there is = subst (λ (hs : ℕ → Option (ℕ × ℕ)). IsSomeAnd (hs f) (IsReached next q')) (sym child.homes) (by (r.homes f) is)
+    at_home k q' f there is = subst (λ (hs : ℕ → Option (ℕ × ℕ)). IsSomeAnd (hs f) (IsReached next q')) (sym (child-has p q r next forks).homes)
+        (by (r.homes f) is)
       where
         by : (o : Option (ℕ × ℕ)) → IsSomeAnd o (IsReached r k) → IsSomeAnd o (IsReached next q')
         by None is = is
@@ -293,11 +298,11 @@ sound-forked l p q r next sorted apart none forks h = record {
     reached : (k : Key) (f : ℕ) (b : Bool) → (k.0 == q) ≡ b → IsSomeAnd (option_or (cond b (option_map without_seen (entry l (p, k.1))) None) (entry l k))
         (λ e. names_frame f e ≡ true)
         → IsSomeAnd (next.homes f) (IsReached next k)
-    reached k f false is names = at_home k k f (stays k is) (h.covered k f names)
+    reached k f false is names = at_home k k f (fork-stays p q r next apart forks chains k is) (h.covered k f names)
     reached k f true is names =
         let there : Names l (p, k.1) f = parent (entry l (p, k.1)) names in
         subst (λ x. IsSomeAnd (next.homes f) (IsReached next (x, k.1))) (sym (same k.0 q is))
-        (at_home (p, k.1) (q, k.1) f (goes_over k.1) (h.covered (p, k.1) f there))
+        (at_home (p, k.1) (q, k.1) f (fork-goes_over p q r next apart forks chains k.1) (h.covered (p, k.1) f there))
       where
         absent : entry l k ≡ None
         absent = ap (λ x. entry l (x, k.1)) (same k.0 q is) ∙ none k.1

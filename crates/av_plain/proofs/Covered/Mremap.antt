@@ -1,31 +1,101 @@
 -- After an mremap each entry is covered: it carries its home with it.
-use Rattle.std.proofs.Common.{◌≡◌, ◌⊎◌, inl, inr, ℕ, ◌+◌, ◌-◌, min, Bool, true, false, cond, Option, Some, None, refl, sym, ap, subst, ◌∙◌, arith, ◌==◌, T}
+use Rattle.std.proofs.Common.{◌≡◌, ◌⊎◌, inl, inr, ℕ, ◌+◌, ◌-◌, min, Bool, true, false, cond, not, ◌&&◌, List, [], ◌∷◌, ◌++◌, map, Option, Some, None, option_map, refl, sym, ap, subst, ◌∙◌, arith, ◌==◌, T}
 use Rattle.std.proofs.lemmas.Bool.Decides.{nat_tests}
 use Rattle.std.specs.FinMap.Entries.{is_sorted}
-use Rattle.std.specs.Prelude.{IsSomeAnd}
+use Rattle.std.specs.Prelude.{IsSomeAnd, if◌then◌else◌}
+use Rattle.av_base.specs.declared.slot.Slot.{Slot}
+use Rattle.av_trace.specs.declared.note.Note.TheVariants.{Dropped}
 use Rattle.av_base.specs.Words.{with_at, within}
 use Rattle.av_base.specs.declared.prot.Prot.{Prot}
 use Rattle.av_vma.specs.Pages.{AreLaid, Pages, home_of}
 use Rattle.av_vma.proofs.Mremap.{in_range as range_bounds}
 use Rattle.av_plain.specs.Areas.{AreLeft, Areas, Rmap, chain_length}
-use Rattle.av_plain.specs.Covered.{IsRmapSound}
-use Rattle.av_plain.specs.Event.{after_all}
-use Rattle.av_plain.specs.Ledger.{Entry, Key, Ledger, entry, key_cmp, names_frame}
-use Rattle.av_plain.specs.Mremap.{after_mremap, remap_events}
-use Rattle.av_plain.proofs.Covered.{Carries, Names, Owns, sound-carried}
+use Rattle.av_plain.specs.Covered.{AreSlotsCovered, IsRmapSound}
+use Rattle.av_plain.specs.Event.{Event, Moved, after_all, after_move, after_note, after_zap, entries_where, note_events, off_cache, when}
+use Rattle.av_plain.specs.Ledger.{Cached, Entry, Key, Ledger, cached_by, entry, frame_at, is_orphan, key_cmp, names_frame, names_slot, same_slot}
+use Rattle.av_plain.specs.Mremap.{after_mremap, range_zaps, remap_events}
+use Rattle.av_plain.specs.Zap.{keys_in, orphan_drop, slot_behind_key, zap_of, zaps_of}
+use Rattle.av_plain.proofs.Access.{after_all-append}
+use Rattle.av_plain.proofs.Covered.{Owns, sound-carried}
+use Rattle.av_plain.proofs.Covered.Slots.{frame_at-off, slots-carried}
+use Rattle.av_plain.proofs.Event.{put_all-only}
 use Rattle.av_plain.proofs.Mremap.{after-in_place, remap-came}
 use Rattle.av_plain.proofs.Mremap.Areas.{IsRemap, home_elsewhere, home_in_place, home_outside, owns_remapped}
-use Rattle.av_plain.proofs.Zap.{entry-range, in_range}
+use Rattle.av_plain.proofs.Sound.Steps.{settle-cache}
+use Rattle.av_plain.proofs.Zap.{entry-range, in_range, same_swap-after_zap}
 
--- an entry that names the frame
-record IsNaming (f : ℕ) (o : Option Entry) : Type 0 where
+-- an entry of which this holds
+record IsNaming (P : Entry → Type 0) (o : Option Entry) : Type 0 where
   entry : Entry
   is : o ≡ Some entry
-  names : names_frame f entry ≡ true
+  names : P entry
 
-naming : (f : ℕ) (o : Option Entry) → IsSomeAnd o (λ e. names_frame f e ≡ true) → IsNaming f o
-naming f None h = absurd h
-naming f (Some e) h = record { entry = e; is = refl; names = h }
+naming : (P : Entry → Type 0) (o : Option Entry) → IsSomeAnd o P → IsNaming P o
+naming P None h = absurd h
+naming P (Some e) h = record { entry = e; is = refl; names = h }
+
+-- it came from a page with such an entry, and the home of that page is its page's now
+record Came (l : Ledger) (r next : Rmap) (P : Entry → Type 0) (k : Key) : Type 0 where
+  was : Key
+  names : IsSomeAnd (entry l was) P
+  home : (h : ℕ × ℕ) → home_of was.1 (r.areas was.0 was.1) ≡ Some h → home_of k.1 (next.areas k.0 k.1) ≡ Some h
+
+-- ---- what is cached then was
+
+-- each slot that is cached was so at the same frame
+abbrev CachesFewer : Ledger → Ledger → Type 0
+CachesFewer l l' = (t : Slot) (f : ℕ) → frame_at l' t ≡ Some f → frame_at l t ≡ Some f
+
+fewer-same : (l l' : Ledger) → l'.cache ≡ l.cache → CachesFewer l l'
+fewer-same l l' same t f at = ap (λ cs. option_map (λ (c : Cached). c.frame) (cached_by (λ c. same_slot t c.slot) cs)) (sym same) ∙ at
+
+fewer-orphan : (x l : Ledger) (o : Option Slot) → CachesFewer l (after_all l (orphan_drop x o))
+fewer-orphan x l None t f at = at
+fewer-orphan x l (Some u) t f at = by (is_orphan x u) at
+  where
+    was : (b : Bool) → cond b None (frame_at l t) ≡ Some f → frame_at l t ≡ Some f
+    was true e = cc
+    was false e = e
+
+    by : (b : Bool) → frame_at (after_all l (note_events (when b (Dropped u)))) t ≡ Some f → frame_at l t ≡ Some f
+    by true at = was (same_slot t u) (sym (frame_at-off u t l.cache)
+        ∙ fewer-same (off_cache u l) (after_note (Dropped u) l) (settle-cache (frame_at l u) (off_cache u l)) t f at)
+    by false at = at
+
+fewer-zaps : (l : Ledger) (ks : List Key) → CachesFewer l (after_all l (zaps_of l ks))
+fewer-zaps l [] t f at = at
+fewer-zaps l (k ∷ ks) t f at =
+    fewer-same l (after_zap k l) (same_swap-after_zap k l).cache t f
+    (fewer-orphan (after_zap k l) (after_zap k l) (slot_behind_key l (entry l k)) t f
+    (fewer-zaps (after_all l (zap_of l k)) ks t f
+    (subst (λ x. frame_at x t ≡ Some f) (after_all-append l (zap_of l k) (zaps_of (after_all l (zap_of l k)) ks)) at)))
+
+fewer-remap : (l : Ledger) (p from n to m : ℕ) → CachesFewer l (after_all l (remap_events l p from n to m))
+fewer-remap l p from n to m t f = by (to == from)
+  where
+    target : List Event
+    target = range_zaps l p to m
+
+    tail : List Event
+    tail = range_zaps (after_all l (range_zaps l p to m)) p (from + m) (n - m)
+
+    moved : (x : Ledger) → CachesFewer x (after_move p (min n m) from to x)
+    moved x = fewer-same x (after_move p (min n m) from to x) (ap (λ (y : Ledger). y.cache)
+        (put_all-only (map (λ e. ((p, e.0.1 - from + to), e.1)) (entries_where (λ k. k.0 == p && within from (min n m) k.1) x))
+        (record x { entries = entries_where (λ k. not (k.0 == p && within from (min n m) k.1)) x })))
+
+    by : (b : Bool) → frame_at (after_all l (if b then range_zaps l p (from + m) (n - m)
+        else range_zaps l p to m ++ range_zaps (after_all l (range_zaps l p to m)) p (from + m) (n - m) ++ Moved p (min n m) from to ∷ [])) t ≡ Some f
+        → frame_at l t ≡ Some f
+    by true at = fewer-zaps l (keys_in l p (from + m) (n - m)) t f at
+    by false at =
+        let l1 = after_all l target in
+        let l2 = after_all l1 tail in
+        fewer-zaps l (keys_in l p to m) t f (fewer-zaps l1 (keys_in l1 p (from + m) (n - m)) t f (moved l2 t f
+        (subst (λ x. frame_at x t ≡ Some f) (after_all-append l (target ++ tail) (Moved p (min n m) from to ∷ [])
+        ∙ ap (after_move p (min n m) from to) (after_all-append l target tail)) at)))
+
+-- ---- each entry has its home
 
 module _ (l : Ledger) (p from n to k : ℕ) (left : Option Prot) (r next : Rmap) (sorted : T (is_sorted key_cmp l.entries)) (laid : AreLaid (r.areas p))
     (may : IsRemap from n to k (r.areas p)) (is : next.areas ≡ with_at p (after_mremap (chain_length r.anons) p from n to k left (r.areas p)) r.areas) where
@@ -47,23 +117,23 @@ module _ (l : Ledger) (p from n to k : ℕ) (left : Option Prot) (r next : Rmap)
   same : (q : ℕ) → (q == p) ≡ true → q ≡ p
   same q e = grind (arith, nat_tests, e)
 
-  named : (key : Key) (f : ℕ) (e : Entry) → entry l key ≡ Some e → names_frame f e ≡ true → Names l key f
-  named key f e at names = subst (λ o. IsSomeAnd o (λ e. names_frame f e ≡ true)) (sym at) names
+  named : (P : Entry → Type 0) (key : Key) (e : Entry) → entry l key ≡ Some e → P e → IsSomeAnd (entry l key) P
+  named P key e at names = subst (λ o. IsSomeAnd o P) (sym at) names
 
   -- the home of a page of the process then, from one that it had
-  carry : (q was page f : ℕ) (e : Entry) → (q == p) ≡ true → entry l (q, was) ≡ Some e → names_frame f e ≡ true
-      → ((home : ℕ × ℕ) → home_of was (on was) ≡ Some home → home_of page (here page) ≡ Some home) → Carries l r next (q, page) f
-  carry q was page f e of_p at names goes = record {
+  carry : (P : Entry → Type 0) (q was page : ℕ) (e : Entry) → (q == p) ≡ true → entry l (q, was) ≡ Some e → P e
+      → ((home : ℕ × ℕ) → home_of was (on was) ≡ Some home → home_of page (here page) ≡ Some home) → Came l r next P (q, page)
+  carry P q was page e of_p at names goes = record {
     was = (q, was);
-    names = named (q, was) f e at names;
+    names = named P (q, was) e at names;
     home = λ home had. ap (λ (x : Pages). home_of page (x page)) (at_p q of_p) ∙ goes home (ap (λ x. home_of was (r.areas x was)) (sym (same q of_p)) ∙ had);
   }
 
   -- a page of another process stays
-  stay : (q page f : ℕ) (e : Entry) → (q == p) ≡ false → entry l (q, page) ≡ Some e → names_frame f e ≡ true → Carries l r next (q, page) f
-  stay q page f e other at names = record {
+  stay : (P : Entry → Type 0) (q page : ℕ) (e : Entry) → (q == p) ≡ false → entry l (q, page) ≡ Some e → P e → Came l r next P (q, page)
+  stay P q page e other at names = record {
     was = (q, page);
-    names = named (q, page) f e at names;
+    names = named P (q, page) e at names;
     home = λ home had. ap (λ (x : Pages). home_of page (x page)) (at_other q other) ∙ had;
   }
 
@@ -78,45 +148,45 @@ module _ (l : Ledger) (p from n to k : ℕ) (left : Option Prot) (r next : Rmap)
   of_range : (a m q page : ℕ) → (q == p) ≡ true → in_range p a m (q, page) ≡ false → within a m page ≡ false
   of_range a m q page e h = grind (arith, nat_tests, e, h)
 
-  in_place : (to == from) ≡ true → (q page f : ℕ) (e : Entry) → entry later (q, page) ≡ Some e → names_frame f e ≡ true → Carries l r next (q, page) f
-  in_place there q page f e at names =
+  in_place : (to == from) ≡ true → (P : Entry → Type 0) (q page : ℕ) (e : Entry) → entry later (q, page) ≡ Some e → P e → Came l r next P (q, page)
+  in_place there P q page e at names =
       let was = stays_out q page e (sym (ap (λ l. entry l (q, page)) (after-in_place l p from n to k there) ∙ entry-range l p (from + k)
       (n - k) q page) ∙ at) in
       by (q == p) refl was.0 was.1
     where
-      by : (b : Bool) → (q == p) ≡ b → in_range p (from + k) (n - k) (q, page) ≡ false → entry l (q, page) ≡ Some e → Carries l r next (q, page) f
-      by true of_p out had = carry q page page f e of_p had names
+      by : (b : Bool) → (q == p) ≡ b → in_range p (from + k) (n - k) (q, page) ≡ false → entry l (q, page) ≡ Some e → Came l r next P (q, page)
+      by true of_p out had = carry P q page page e of_p had names
           (home_in_place (chain_length r.anons) p from n to k left on laid may there page (of_range (from + k) (n - k) q page of_p out))
-      by false other out had = stay q page f e other had names
+      by false other out had = stay P q page e other had names
 
-  elsewhere : (to == from) ≡ false → (q page f : ℕ) (e : Entry) → entry later (q, page) ≡ Some e → names_frame f e ≡ true → Carries l r next (q, page) f
-  elsewhere apart q page f e at names = let c = remap-came l p from n to k sorted apart q page e at in by c.was c.here c.moves
+  elsewhere : (to == from) ≡ false → (P : Entry → Type 0) (q page : ℕ) (e : Entry) → entry later (q, page) ≡ Some e → P e → Came l r next P (q, page)
+  elsewhere apart P q page e at names = let c = remap-came l p from n to k sorted apart q page e at in by c.was c.here c.moves
     where
       turned : (a : ℕ) → a - to + from ≡ from + (a - to)
       turned a = omega arith
 
       stays : (b : Bool) → (q == p) ≡ b → in_range p from n (q, page) ≡ false → in_range p to k (q, page) ≡ false → entry l (q, page) ≡ Some e
-          → Carries l r next (q, page) f
-      stays true of_p gone out had = carry q page page f e of_p had names
+          → Came l r next P (q, page)
+      stays true of_p gone out had = carry P q page page e of_p had names
           (home_outside (chain_length r.anons) p from n to k left on laid may apart page (of_range to k q page of_p out) (of_range from n q page of_p gone))
-      stays false other gone out had = stay q page f e other had names
+      stays false other gone out had = stay P q page e other had names
 
       by : (was : ℕ) → entry l (q, was) ≡ Some e
           → ((q == p) ≡ true) × (within to (min n k) page ≡ true) × (was ≡ page - to + from)
           ⊎ (in_range p from n (q, page) ≡ false) × (in_range p to k (q, page) ≡ false) × (was ≡ page)
-          → Carries l r next (q, page) f
+          → Came l r next P (q, page)
       by was had (inl m) =
           let ends = range_bounds to (min n k) page m.1 in
-          carry q (from + (page - to)) page f e m.0 (ap (λ x. entry l (q, x)) (sym (m.2 ∙ turned page)) ∙ had) names
+          carry P q (from + (page - to)) page e m.0 (ap (λ x. entry l (q, x)) (sym (m.2 ∙ turned page)) ∙ had) names
           (home_elsewhere (chain_length r.anons) p from n to k left on laid may apart page ends.0 ends.1)
       by was had (inr s) = stays (q == p) refl s.0 s.1 (ap (λ x. entry l (q, x)) (sym s.2) ∙ had)
 
-  carries : (key : Key) (f : ℕ) → Names later key f → Carries l r next key f
-  carries key f names = let e = naming f (entry later key) names in by (to == from) refl e.entry e.is e.names
+  came : (P : Entry → Type 0) (key : Key) → IsSomeAnd (entry later key) P → Came l r next P key
+  came P key names = let e = naming P (entry later key) names in by (to == from) refl e.entry e.is e.names
     where
-      by : (b : Bool) → (to == from) ≡ b → (e : Entry) → entry later key ≡ Some e → names_frame f e ≡ true → Carries l r next key f
-      by true here = in_place here key.0 key.1 f
-      by false apart = elsewhere apart key.0 key.1 f
+      by : (b : Bool) → (to == from) ≡ b → (e : Entry) → entry later key ≡ Some e → P e → Came l r next P key
+      by true here = in_place here P key.0 key.1
+      by false apart = elsewhere apart P key.0 key.1
 
   -- no own anon_vma is new
   owns : (q page v : ℕ) → Owns next q page v → (x : ℕ) × (other : ℕ) × Owns r x other v
@@ -130,4 +200,9 @@ module _ (l : Ledger) (p from n to k : ℕ) (left : Option Prot) (r next : Rmap)
       by false e = (q, page, subst (λ (x : Pages). IsSomeAnd (x page) (λ area. area.anon ≡ Some v)) (at_other q e) has)
 
   pub sound-remapped : AreLeft r.anons next.areas next.anons → next.homes ≡ r.homes → IsRmapSound l r → IsRmapSound later next
-  sound-remapped = sound-carried l later r next carries owns
+  sound-remapped = sound-carried l later r next (λ key f names.
+      let c = came (λ e. names_frame f e ≡ true) key names in record { was = c.was; names = c.names; home = c.home }) owns
+
+  pub slots-remapped : AreLeft r.anons next.areas next.anons → next.homes ≡ r.homes → IsRmapSound l r → AreSlotsCovered l r → AreSlotsCovered later next
+  slots-remapped = slots-carried l later r next (λ t key names.
+      let c = came (λ e. names_slot t e ≡ true) key names in record { was = c.was; names = c.names; home = c.home }) (fewer-remap l p from n to k) owns

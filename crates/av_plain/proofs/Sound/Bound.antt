@@ -7,7 +7,7 @@ use Rattle.av_base.specs.Limits.{most_processes}
 use Rattle.av_base.specs.Words.{how_many}
 use Rattle.av_base.specs.declared.slot.Slot.{Slot}
 use Rattle.av_plain.specs.Ledger.{Entry, InFrame, InSlot, Key, Ledger, Setting, Zero, entry, key_cmp, map_count, names_frame, names_slot, same_slot, slot_entries}
-use Rattle.av_plain.specs.Sound.{AllSound, name_one}
+use Rattle.av_plain.specs.Sound.{AllSound, name_one, IsSoundBut, AtPages, no_excuse}
 use Rattle.av_plain.specs.World.{World, lives}
 use Rattle.av_plain.proofs.Event.{how_many-none, how_many-or}
 use Rattle.av_plain.proofs.Ledger.{same_key, same_key-is}
@@ -162,10 +162,10 @@ counted test es (x ∷ w) one alive =
 
 -- ---- of a sound ledger: entries that name one memory two by two
 
-abbrev at_entry : (Entry → Bool) → Key × Entry → Bool
+abbrev pub at_entry : (Entry → Bool) → Key × Entry → Bool
 at_entry test e = test e.1
 
-abbrev NameOne : Ledger → (Entry → Bool) → Type 0
+abbrev pub NameOne : Ledger → (Entry → Bool) → Type 0
 NameOne l test = (d e : Entry) → test d ≡ true → test e ≡ true → name_one l d e ≡ true
 
 first_true : (a b : Bool) → (a && b) ≡ true → a ≡ true
@@ -177,10 +177,10 @@ second_true true b h = h
 second_true false b h = cc
 
 -- a process has one of them at most
-name_one-once : (m : Setting) (w : World) (l : Ledger) (test : Entry → Bool) (p : ℕ) → AllSound m w l → NameOne l test →
+name_one-once : (m : Setting) (x : Slot → ℕ) (l : Ledger) (test : Entry → Bool) (p : ℕ) → IsSoundBut m x l → NameOne l test →
     how_many (of p (at_entry test)) l.entries ≤ 1
-name_one-once m w l test p s named_once = one-passes (of p (at_entry test)) l.entries s.ledger.in_order
-    (λ q r d e at h at' i. same q r (here q r _ _ h i) (s.ledger.one q.0 q.1 r.1 d e at (ap (λ x. entry l (x, r.1)) (here q r _ _ h i) ∙ at')
+name_one-once m x l test p s named_once = one-passes (of p (at_entry test)) l.entries s.in_order
+    (λ q r d e at h at' i. same q r (here q r _ _ h i) (s.one q.0 q.1 r.1 d e at (ap (λ x. entry l (x, r.1)) (here q r _ _ h i) ∙ at')
     (named_once d e (first_true _ _ h) (first_true _ _ i))))
   where
     here : (q r : Key) (a b : Bool) → (a && q.0 == p) ≡ true → (b && r.0 == p) ≡ true → q.0 ≡ r.0
@@ -190,12 +190,12 @@ name_one-once m w l test p s named_once = one-passes (of p (at_entry test)) l.en
     same q r h i = λ k. (h k, i k)
 
 -- a process that has an entry lives
-counted-lives : (m : Setting) (w : World) (l : Ledger) (test : Entry → Bool) (p : ℕ) → AllSound m w l →
+counted-lives : (m : Setting) (x : Slot → ℕ) (w : World) (l : Ledger) (test : Entry → Bool) (p : ℕ) → IsSoundBut m x l → AtPages w l →
     0 < how_many (of p (at_entry test)) l.entries → lives w p ≡ true
-counted-lives m w l test p s h = by (lives w p) refl
+counted-lives m x w l test p s at_pages h = by (lives w p) refl
   where
     fails : lives w p ≡ false → (q : Key) (d : Entry) → entry l q ≡ Some d → (b : Bool) → (q.0 == p) ≡ b → (test d && b) ≡ false
-    fails dead q d at true is = absurd (never (no_entries w l p s.at_pages dead q.1) (ap (λ x. entry l (x, q.1)) (sym (same-is q.0 p is)) ∙ at))
+    fails dead q d at true is = absurd (never (no_entries w l p at_pages dead q.1) (ap (λ x. entry l (x, q.1)) (sym (same-is q.0 p is)) ∙ at))
       where
         never : {o : Option Entry} → o ≡ None → o ≡ Some d → ⊥
         never a b = cc
@@ -207,16 +207,17 @@ counted-lives m w l test p s h = by (lives w p) refl
 
     by : (b : Bool) → lives w p ≡ b → b ≡ true
     by true is = refl
-    by false is = let z : how_many (of p (at_entry test)) l.entries ≡ 0 = none-passes (of p (at_entry test)) l.entries s.ledger.in_order
+    by false is = let z : how_many (of p (at_entry test)) l.entries ≡ 0 = none-passes (of p (at_entry test)) l.entries s.in_order
         (λ q d at. fails is q d at (q.0 == p) refl) in absurd (omega (arith, h, z))
 
-name_one-bound : (m : Setting) (w : World) (l : Ledger) (test : Entry → Bool) → AllSound m w l → NameOne l test → how_many (at_entry test) l.entries ≤ length w
-name_one-bound m w l test s named_once = counted (at_entry test) l.entries w (λ p. name_one-once m w l test p s named_once)
-    (λ p h. counted-lives m w l test p s h)
+pub name_one-bound : (m : Setting) (x : Slot → ℕ) (w : World) (l : Ledger) (test : Entry → Bool) → IsSoundBut m x l → AtPages w l → NameOne l test
+    → how_many (at_entry test) l.entries ≤ length w
+name_one-bound m x w l test s at_pages named_once = counted (at_entry test) l.entries w (λ p. name_one-once m x l test p s named_once)
+    (λ p h. counted-lives m x w l test p s at_pages h)
 
 -- at most as many entries name a frame as processes live
 pub map_count-bound : (m : Setting) (w : World) (l : Ledger) (f : ℕ) → AllSound m w l → map_count l f ≤ length w
-map_count-bound m w l f s = name_one-bound m w l (names_frame f) s named_once
+map_count-bound m w l f s = name_one-bound m no_excuse w l (names_frame f) s.ledger s.at_pages named_once
   where
     named_once : NameOne l (names_frame f)
     named_once Zero e h i = cc
@@ -227,7 +228,7 @@ map_count-bound m w l f s = name_one-bound m w l (names_frame f) s named_once
 
 -- and as many a slot
 pub slot_entries-bound : (m : Setting) (w : World) (l : Ledger) (t : Slot) → AllSound m w l → slot_entries l t ≤ length w
-slot_entries-bound m w l t s = name_one-bound m w l (names_slot t) s named_once
+slot_entries-bound m w l t s = name_one-bound m no_excuse w l (names_slot t) s.ledger s.at_pages named_once
   where
     named_once : NameOne l (names_slot t)
     named_once Zero e h i = cc

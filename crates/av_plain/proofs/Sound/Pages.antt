@@ -110,7 +110,7 @@ module _ (test : Key → Bool) where
   bring-append [] b x y = y
   bring-append (note ∷ a) b x y = (x.0, bring-append a b x.1 y)
 
-  bring-when : (b : Bool) (note : Note) → Brings test note → AllBring test (when b note)
+  pub bring-when : (b : Bool) (note : Note) → Brings test note → AllBring test (when b note)
   bring-when true note h = (h, tt)
   bring-when false note h = tt
 
@@ -123,7 +123,7 @@ module _ (test : Key → Bool) where
   bring-end true t = tt
   bring-end false t = tt
 
-  bring-completes : (l : Ledger) (ts : List Slot) (notes : List Note) → Completes l ts notes → AllBring test notes
+  pub bring-completes : (l : Ledger) (ts : List Slot) (notes : List Note) → Completes l ts notes → AllBring test notes
   bring-completes l [] notes c = bring-is notes [] c tt
   bring-completes l (t ∷ ts) notes c = bring-is notes _ c.2
       (bring-append (end_notes l t c.0) c.1 (bring-end c.0 t, bring-when (is_orphan (after_note (end_note c.0 t) l) t) (Dropped t) tt)

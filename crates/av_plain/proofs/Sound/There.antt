@@ -1,5 +1,5 @@
 -- Each slot in use is a slot of an area that is on, and no area has more in use than it has: only a `put` brings one into use.
-use Rattle.std.proofs.Common.{◌≡◌, ◌⊎◌, inl, inr, ℕ, ◌+◌, ◌<◌, Bool, true, false, cond, not, ◌&&◌, if◌then◌else◌, T, List, [], ◌∷◌, ◌++◌, Option, Some, None, refl, sym, ap, subst, ◌∙◌, arith, ◌==◌, nat_lt, is_none, length, filter, ◌≤◌, ◌-◌, IfSome, nat_cmp, zero, suc}
+use Rattle.std.proofs.Common.{◌≡◌, ◌⊎◌, inl, inr, ℕ, ◌+◌, ◌<◌, Bool, true, false, cond, not, ◌&&◌, if◌then◌else◌, T, List, [], ◌∷◌, ◌++◌, Option, Some, None, refl, sym, ap, subst, ◌∙◌, arith, ◌==◌, nat_lt, is_none, length, filter, ◌≤◌, ◌-◌, IfSome, is_some, nat_cmp, zero, suc}
 use Rattle.std.proofs.lemmas.Bool.Decides.{nat_tests}
 use Rattle.std.specs.Option.{option_map_or}
 use Rattle.std.specs.FinMap.Entries.{find, is_sorted}
@@ -12,14 +12,14 @@ use Rattle.std.specs.List.{range_with_len}
 use Rattle.av_base.specs.declared.slot.Slot.{Slot}
 use Rattle.av_trace.specs.declared.reply.OutOf.{OutOf}
 use Rattle.av_plain.specs.Access.{Accesses, End, page_events}
-use Rattle.av_plain.specs.Event.{Event, Used, after_all, after_note, after_notes, after_use, after_use_of, change_entries, if_some, key_at, note_events, off_cache, off_flight, off_lists, set_entry, settle, to_inactive_tail, when, with_stale, without_seen}
+use Rattle.av_plain.specs.Event.{Event, Used, after_all, after_note, after_notes, after_use, after_use_of, change_entries, if_some, key_at, note_events, off_cache, off_flight, off_lists, set_entry, settle, to_inactive_tail, when, with_stale}
 use Rattle.av_plain.specs.Fault.{ComesIn, CopyOnWrite, Denied, IsMade, Lost, MapCached, Need, NewPage, Ready, RunsOut, Serves, Sparing, Starved, Stop, SwapIn, Takes, Touches, ZeroPage, drop_at, drop_of_entry, drop_of_slot, is_shared, is_unneeded, need, need_of_slot, pinned_by, sparing, was_slot}
-use Rattle.av_plain.specs.Ledger.{is_free_slot, Cached, Entry, InFrame, InSlot, Key, Ledger, Setting, SwapArea, Zero, entry, frame_at, has_free, has_free_slot, is_cached, is_free, is_on, is_open, is_orphan, is_usable, key_cmp, map_count, may_give, names_frame, names_slot, same_slot, size_of, slot_count, slot_entries, slot_of, slots_in_use}
+use Rattle.av_plain.specs.Ledger.{is_free_slot, Cached, Entry, InFrame, InSlot, Key, Ledger, Setting, SwapArea, Zero, entry, frame_at, has_free, has_free_slot, is_cached, is_free, is_on, is_open, is_orphan, is_usable, key_cmp, map_count, may_give, names_slot, same_slot, size_of, slot_count, slot_entries, slot_of, slots_in_use}
 use Rattle.av_plain.specs.Pass.{Completes, IsPass, IsSlotFor, Seeks, Spared, TakesFor, Turns, end_note, end_notes, frames_in_turn, is_dirty, is_stuck, stays_cached, turn_notes, unmap_notes}
 use Rattle.av_plain.specs.Sound.{AreThere, AreasFit, IsSound, count, is_there, slots}
 use Rattle.av_plain.specs.World.{World}
 use Rattle.av_plain.proofs.Access.{accesses-keep, after_all-append, note_events-all}
-use Rattle.av_plain.proofs.Event.{how_many-map, how_many-same, is_sorted-map, to_slot}
+use Rattle.av_plain.proofs.Event.{how_many-map, how_many-same, is_sorted-map, slot_entries-unseen, to_slot, to_unseen}
 use Rattle.av_plain.proofs.Ledger.{how_many-found, is_sorted-set}
 use Rattle.av_plain.proofs.Sound.Access.{page_events-kept, touches-kept}
 use Rattle.av_plain.proofs.Sound.Cache.{slots_more}
@@ -42,7 +42,7 @@ AreLawful m closing l (note ∷ notes) = IsLawful m closing l note × AreLawful 
 
 -- ---- how many slots of an area are in use
 
-counted-slot : (l : Ledger) (s : Slot) → nat_lt 0 (slot_count l s) ≡ nat_lt 0 (count l s)
+pub counted-slot : (l : Ledger) (s : Slot) → nat_lt 0 (slot_count l s) ≡ nat_lt 0 (count l s)
 counted-slot l s = by (is_cached l s) (slots l s) (slot_entries l s) (any-counts (λ (c : Cached). same_slot s c.slot) l.cache)
   where
     by : (b : Bool) (n e : ℕ) → b ≡ nat_lt 0 n → nat_lt 0 (e + cond b 1 0) ≡ nat_lt 0 (n + e)
@@ -104,6 +104,7 @@ one-more-passes p q t a (suc n) h = at (a == t) refl (one-more-passes p q t (a +
 fits-less : (m : Setting) (l l' : Ledger) → l'.on ≡ l.on → ((s : Slot) → 0 < count l' s → 0 < count l s) → AreasFit m l → AreasFit m l'
 fits-less m l l' on h f = record {
   rising = subst (λ o. T (is_sorted nat_cmp o)) (sym on) f.rising;
+  attached = λ k is. f.attached k (ap (λ o. is_some (find nat_cmp k o)) (sym on) ∙ is);
   fit = λ k. subst (λ o. IfSome (find nat_cmp k o) (λ area. length (slots_in_use m l' k) ≤ area.slots)) (sym on) (by k (find nat_cmp k l.on) (f.fit k));
 }
   where
@@ -126,7 +127,12 @@ fits-less m l l' on h f = record {
 
 -- one slot more comes into use, of an area that has a free one
 fits-put : (m : Setting) (l : Ledger) (f : ℕ) (t : Slot) → has_free_slot m l t.area ≡ true → AreasFit m l → AreasFit m (after_note (Put f t) l)
-fits-put m l f t free fits = record { rising = fits.rising; fit = λ k. by k (k == t.area) refl (find nat_cmp k l.on) refl (fits.fit k) }
+fits-put m l f t free fits = record {
+  rising = fits.rising;
+  attached = fits.attached;
+  fit = λ k. by k (k == t.area) refl (find nat_cmp k l.on) refl
+      (fits.fit k);
+}
   where
     l' : Ledger
     l' = after_note (Put f t) l
@@ -193,21 +199,6 @@ pub settle-on : (o : Option ℕ) (l : Ledger) → (if_some o settle l).on ≡ l.
 settle-on None l = refl
 settle-on (Some f) l = elim (is_free l f) as (λ b. (cond b (off_lists f l) l).on ≡ l.on) [ true ↦ refl | false ↦ refl ]
 
-abbrev to_unseen : ℕ → Entry → Entry
-to_unseen f e = if names_frame f e then without_seen e else e
-
-slots-unseen : (f : ℕ) (l : Ledger) (s : Slot) → slot_entries (change_entries f without_seen l) s ≡ slot_entries l s
-slots-unseen f l s = how_many-map (λ e. names_slot s e.1) (λ e. (e.0, if names_frame f e.1 then without_seen e.1 else e.1)) l.entries
-    ∙ how_many-same _ _ l.entries (λ e. each e.1)
-  where
-    each : (e : Entry) → names_slot s (if names_frame f e then without_seen e else e) ≡ names_slot s e
-    each Zero = refl
-    each (InFrame g seen) = elim (f == g) as (λ b. names_slot s (if b then without_seen (InFrame g seen) else InFrame g seen) ≡ false) [
-      | true ↦ refl
-      | false ↦ refl
-    ]
-    each (InSlot t) = refl
-
 pub lawful-no_new : (m : Setting) (closing : Option ℕ) (l : Ledger) (note : Note) → T (is_sorted key_cmp l.entries) → IsLawful m closing l note →
     NoNew m l (after_note note l)
 lawful-no_new m closing l note sorted lawful = go note lawful
@@ -226,9 +217,9 @@ lawful-no_new m closing l note sorted lawful = go note lawful
     go : (note : Note) → IsLawful m closing l note → NoNew m l (after_note note l)
     go (Zeroed p a) h = fewer (key_at p a) Zero (λ s. refl)
     go (New p a f) h = let r = fewer (key_at p a) (InFrame f false) (λ s. refl) in
-        record { on_same = r.on_same; fits = λ x. record { rising = (r.fits x).rising; fit = (r.fits x).fit }; came = r.came }
+        record { on_same = r.on_same; fits = λ x. record { rising = (r.fits x).rising; attached = (r.fits x).attached; fit = (r.fits x).fit }; came = r.came }
     go (Copied p a f) h = let r = fewer (key_at p a) (InFrame f false) (λ s. refl) in
-        record { on_same = r.on_same; fits = λ x. record { rising = (r.fits x).rising; fit = (r.fits x).fit }; came = r.came }
+        record { on_same = r.on_same; fits = λ x. record { rising = (r.fits x).rising; attached = (r.fits x).attached; fit = (r.fits x).fit }; came = r.came }
     go (Mapped p a f) h = fewer (key_at p a) (InFrame f false) (λ s. refl)
     go (Loaded t f) h = less m l (after_note (Loaded t f) l) refl (λ s i. by s (same_slot s t) refl i)
       where
@@ -283,9 +274,9 @@ lawful-no_new m closing l note sorted lawful = go note lawful
         by s false a c i = omega (arith, a, c, i)
     go (Kept f Writeback) h = less m l (after_note (Kept f Writeback) l) refl (λ s i. i)
     go (Kept f WriteStarted) h = less m l (after_note (Kept f WriteStarted) l) refl (λ s i. i)
-    go (Kept f Referenced) h = less m l (after_note (Kept f Referenced) l) refl (λ s i. let e = slots-unseen f l s in omega (arith, e, i))
+    go (Kept f Referenced) h = less m l (after_note (Kept f Referenced) l) refl (λ s i. let e = slot_entries-unseen f l s in omega (arith, e, i))
     go (Kept f NoSlot) h = less m l (after_note (Kept f NoSlot) l) refl (λ s i. i)
-    go (Aged f) h = less m l (after_note (Aged f) l) refl (λ s i. let e = slots-unseen f l s in omega (arith, e, i))
+    go (Aged f) h = less m l (after_note (Aged f) l) refl (λ s i. let e = slot_entries-unseen f l s in omega (arith, e, i))
 
 -- ---- entries stay in order
 
@@ -421,7 +412,7 @@ there-notes m closing l notes s h = there-by m l (after_notes l notes) (all_lawf
 abbrev pub Opens : Sparing → Type 0
 Opens sp = (l : Ledger) (pinned : Option ℕ) → (sp l pinned).closing ≡ None
 
-lawful-takes : (m : Setting) (sp : Spared) (l : Ledger) (notes : List Note) (note : ℕ → Note) → (takes : TakesFor m sp l notes note) →
+pub lawful-takes : (m : Setting) (sp : Spared) (l : Ledger) (notes : List Note) (note : ℕ → Note) → (takes : TakesFor m sp l notes note) →
     IsLawful m sp.closing (after_notes l takes.sought) (note takes.frame) → AreLawful m sp.closing l notes
 lawful-takes m sp l notes note takes h = lawful-is m sp.closing l notes _ takes.whole
     (lawful-append m sp.closing l takes.sought (note takes.frame ∷ []) (lawful-seeks m sp l takes.sought takes.seeks) (h, tt))

@@ -1,4 +1,4 @@
-use Rattle.av_laws.proofs.UnsoundExamples.{unmapped-not, of_nobody-not, area_off-not, header_page-not, behind_area-not, bad_slot-not, too_few_slots-not, falling_areas-not, falling_processes-not, too_many_processes-not}
+use Rattle.av_laws.proofs.UnsoundExamples.{unmapped-not, of_nobody-not, area_off-not, header_page-not, behind_area-not, bad_slot-not, too_few_slots-not, unattached-not, falling_areas-not, falling_processes-not, too_many_processes-not}
 use Rattle.av_laws.proofs.unsound.changed_memories_are_unsound.Goals as goal
 
 pub returns-clause-unmapped : goal.returns-clause-unmapped
@@ -21,6 +21,9 @@ returns-clause-bad_slot c = bad_slot-not
 
 pub returns-clause-too_few_slots : goal.returns-clause-too_few_slots
 returns-clause-too_few_slots c = too_few_slots-not
+
+pub returns-clause-unattached : goal.returns-clause-unattached
+returns-clause-unattached c = unattached-not
 
 pub returns-clause-falling_areas : goal.returns-clause-falling_areas
 returns-clause-falling_areas c = falling_areas-not
