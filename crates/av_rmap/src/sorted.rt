@@ -15,7 +15,7 @@ use std::sync::ledger::Ledger;
 
 /// Process and page of each entry that names the frame, once, by process and then by page. `home`
 /// is the frame's, and no more than `count` entries name it. Without memory it takes no look.
-pub fn walk_sorted<K: Look, L: Ledger>(
+pub fn walk_sorted<K: Look<L>, L: Ledger>(
     alloc: Global,
     look: &K,
     frame: u32,
