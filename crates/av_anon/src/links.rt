@@ -5,7 +5,9 @@ ghost use Rattle.av_chain.specs.Links.{chain_of, users_of};
 ghost use Rattle.av_anon.specs.Anons.{IsRising, is_empty, users_with};
 
 use av_chain::Links;
+use av_chain::ring::Ring;
 use std::alloc::AllocError;
+use std::sync::ledger::Ledger;
 
 /// Links an area that has no link to each of these anon_vmas, in their order.
 pub(crate) fn link_each(links: &mut Links, area: u64, anons: &[u64]) -> Result<(), AllocError>
@@ -22,9 +24,15 @@ pub(crate) fn link_each(links: &mut Links, area: u64, anons: &[u64]) -> Result<(
     Ok(())
 }
 
-/// Whether no area is linked to an anon_vma.
-pub(crate) fn is_unused(links: &Links, anon: u64) -> bool
-    ensures { result ≡ is_empty (users_of links.now anon) }
-{
-    links.users(anon).next().is_none()
+/// A ring that tells, too, whether an anon_vma has a user.
+pub(crate) trait UserRing<L: Ledger>: Ring<L> {
+    /// Whether no area is linked to an anon_vma. It is no step.
+    fn is_unused(&self, anon: u64) -> bool
+        ensures { result ≡ is_empty (Self.users_of self.now anon) };
+}
+
+impl<L: Ledger> UserRing<L> for Links {
+    fn is_unused(&self, anon: u64) -> bool {
+        self.users(anon).next().is_none()
+    }
 }

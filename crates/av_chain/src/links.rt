@@ -122,12 +122,12 @@ impl Links {
     }
 }
 
-impl Ring for Links {
+impl<L: Ledger> Ring<L> for Links {
     ghost chain_of = { λ l. chain_of l };
 
     ghost users_of = { λ l. users_of l };
 
-    fn pop<L: Ledger>(&mut self, area: u64, steps: &mut Steps<L>) -> Option<u64> {
+    fn pop(&mut self, area: u64, steps: &mut Steps<L>) -> Option<u64> {
         let place = self.lists.first(area)?;
         steps.tick();
         Some(self.lists.take_out(self.alloc, place))

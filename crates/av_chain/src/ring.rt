@@ -8,14 +8,14 @@ use std::sync::ledger::Ledger;
 
 /// Links between areas and anon_vmas, seen as two maps: of each area its anon_vmas, of each
 /// anon_vma its areas.
-pub trait Ring {
+pub trait Ring<L: Ledger> {
     ghost chain_of: { Self → ℕ → List ℕ };
 
     ghost users_of: { Self → ℕ → List ℕ };
 
     /// Takes out the first link of an area, and tells its anon_vma. It is one step. None exactly
     /// where the area has no link, which is no step.
-    fn pop<L: Ledger>(&mut self, area: u64, steps: &mut Steps<L>) -> Option<u64>
+    fn pop(&mut self, area: u64, steps: &mut Steps<L>) -> Option<u64>
         ensures first { result ≡ first_in (chain_of self.old area) }
         ensures chain { chain_of self.new
             ≡ with_at area (rest_in (chain_of self.old area)) (chain_of self.old) }
@@ -25,7 +25,7 @@ pub trait Ring {
 }
 
 /// Takes an area out of all its lists, in as many steps as it has links.
-pub fn unlink_from<R: Ring, L: Ledger>(ring: &mut R, area: u64, steps: &mut Steps<L>)
+pub fn unlink_from<R: Ring<L>, L: Ledger>(ring: &mut R, area: u64, steps: &mut Steps<L>)
     ensures chain { R.chain_of ring.new ≡ with_at area [] (R.chain_of ring.old) }
     ensures users { R.users_of ring.new
         ≡ left_by_all area (R.chain_of ring.old area) (R.users_of ring.old) }

@@ -18,7 +18,7 @@ pub struct Node {
     pub right: Option<(u64, u64)>,
 }
 
-pub trait Nodes {
+pub trait Nodes<L: Ledger> {
     // The tree of an anon_vma.
     ghost tree: { Self → ℕ → Tree };
 
@@ -32,7 +32,7 @@ pub trait Nodes {
             (λ n. is_node self.now n × (below self.now n ≡ tree self.now anon)) }
         ensures ordered { IsOrdered (entries (tree self.now anon)) };
 
-    fn visit<L: Ledger>(&self, node: u64, steps: &mut Steps<L>) -> Node
+    fn visit(&self, node: u64, steps: &mut Steps<L>) -> Node
         requires { is_node self.now node }
         ensures seen { IsSeen (is_node self.now) (below self.now) (below self.now node) result }
         ensures counted { steps.new ≡ steps.old + 1 };

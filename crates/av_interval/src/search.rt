@@ -36,7 +36,7 @@ fn child_that_reaches(child: Option<(u64, u64)>, index: u64) -> Option<u64>
 }
 
 /// The first node below `number` that reaches `index`.
-fn first_reaching<N: Nodes, L: Ledger>(
+fn first_reaching<N: Nodes<L>, L: Ledger>(
     nodes: &N,
     number: u64,
     index: u64,
@@ -62,7 +62,7 @@ fn first_reaching<N: Nodes, L: Ledger>(
 }
 
 /// The first node past `after` that reaches `index`.
-fn first_past<N: Nodes, L: Ledger>(
+fn first_past<N: Nodes<L>, L: Ledger>(
     nodes: &N,
     number: Option<u64>,
     index: u64,
@@ -110,7 +110,7 @@ fn first_past<N: Nodes, L: Ledger>(
 }
 
 /// First index and area of the first span past `after` that overlaps `index`.
-pub fn search<N: Nodes, L: Ledger>(
+pub fn search<N: Nodes<L>, L: Ledger>(
     nodes: &N,
     anon: u64,
     index: u64,
@@ -134,7 +134,7 @@ pub fn search<N: Nodes, L: Ledger>(
 }
 
 /// How many spans overlap `index`. Each is asked for in turn, until there is none.
-pub fn count<N: Nodes, L: Ledger>(nodes: &N, anon: u64, index: u64, steps: &mut Steps<L>) -> u64
+pub fn count<N: Nodes<L>, L: Ledger>(nodes: &N, anon: u64, index: u64, steps: &mut Steps<L>) -> u64
     requires room { length (entries (N.tree nodes.now anon)) < 2 ^ 64 }
     ensures count { result ≡ how_many (overlaps index) (entries (N.tree nodes.now anon)) }
     ensures cost { steps.new ≤ steps.old + 2 * ((result + 1) * (height (N.tree nodes.now anon) +

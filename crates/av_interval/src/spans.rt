@@ -168,7 +168,7 @@ fn child(tree: Option<Link<u64>>) -> Option<(u64, u64)>
     }
 }
 
-impl Nodes for Spans {
+impl<L: Ledger> Nodes<L> for Spans {
     ghost use Rattle.av_interval.specs.Spans.{IsNode, below, tree_of};
 
     ghost tree = { tree_of };
@@ -184,7 +184,7 @@ impl Nodes for Spans {
         }
     }
 
-    fn visit<L: Ledger>(&self, node: u64, steps: &mut Steps<L>) -> Node {
+    fn visit(&self, node: u64, steps: &mut Steps<L>) -> Node {
         steps.tick();
         let stored = self.arena.get(node);
         Node {

@@ -3,7 +3,7 @@
 //! Where want of memory leaves an anon_vma without the span of an area, `put` and `put_parts`
 //! change the areas all the same, so that they and the tree go together; `share` leaves all areas.
 
-ghost use Rattle.std.specs.Prelude.{◌≡◌, ◌≢◌, ℕ, Some, None, is_some, IsSome, IsSomeAnd, OnErr, OnOk, length, if◌then◌else◌};
+ghost use Rattle.std.specs.Prelude.{◌≡◌, ◌≢◌, ℕ, ◌<◌, Some, None, is_some, IsSome, IsSomeAnd, OnErr, OnOk, length, if◌then◌else◌};
 ghost use Rattle.std.specs.Option.{option_or};
 ghost use Rattle.av_base.specs.Words.{with_at};
 ghost use Rattle.av_vma.specs.Areas.{area_of};
@@ -14,8 +14,11 @@ ghost use Rattle.av_anon.specs.Resize.{with_bounds};
 ghost use Rattle.av_merge.specs.Kin.{AreInOrder, StayKin};
 
 use av_anon::Anons;
+use av_base::Steps;
 use av_vma::{Area, AreaId, Areas};
 use std::alloc::AllocError;
+use std::marker::Brand;
+use std::sync::ledger::{Blank, Ledger};
 
 /// How long the chain of an area with this own anon_vma is. Where it has none no table is asked.
 pub fn chain_len(anons: &Anons, number: AreaId, own: Option<u64>) -> u64
@@ -34,21 +37,35 @@ pub fn take(areas: &mut Areas, anons: &mut Anons, number: AreaId)
     ensures areas { (k : ℕ) → area_of areas.new k ≡ with_at number None (area_of areas.old) k }
     ensures kin { StayKin areas.old anons.old areas.new anons.new }
 {
-    leave(areas, anons, number);
+    leave(areas, anons, number, Blank::new(1));
     areas.remove(number);
 }
 
-/// An area leaves its anon_vmas, if it has any.
-fn leave(areas: &mut Areas, anons: &mut Anons, number: AreaId)
+/// An area leaves its anon_vmas, if it has any, its links counted by a ledger of their own.
+fn leave(areas: &mut Areas, anons: &mut Anons, number: AreaId, blank: Blank)
     requires order { AreInOrder areas.old anons.old }
     requires used { IsSome (area_of areas.old number) }
+    requires some { 0 < blank.parts }
+    ensures areas { (k : ℕ) → area_of areas.new k ≡ give_own number None (area_of areas.old) k }
+    ensures kin { StayKin areas.old anons.old areas.new anons.new }
+{
+    leave_by::<Brand>(areas, anons, number, blank);
+}
+
+fn leave_by<L: Ledger>(areas: &mut Areas, anons: &mut Anons, number: AreaId, blank: Blank)
+    requires order { AreInOrder areas.old anons.old }
+    requires used { IsSome (area_of areas.old number) }
+    requires name { blank.name ≡ L.name }
+    requires parts { blank.parts ≡ L.parts }
+    requires some { 0 < blank.parts }
     ensures areas { (k : ℕ) → area_of areas.new k ≡ give_own number None (area_of areas.old) k }
     ensures kin { StayKin areas.old anons.old areas.new anons.new }
 {
     if areas.get(number).anon.is_none() {
         return;
     }
-    anons.unlink(areas, number);
+    let mut steps = Steps::<L>::open(blank);
+    anons.unlink(areas, number, &mut steps);
 }
 
 /// Gives an area other bounds and another offset, and its spans with it.

@@ -25,9 +25,9 @@ use Rattle.av_spaces.proofs.Rising.{laid}
 use Rattle.av_spaces.specs.Kin as in_spaces
 use Rattle.av_spaces.specs.Kin.{info_of}
 use Rattle.av_rmap.specs.View.{AreApart, AreSpanned, View as Reach, view_with}
-use Rattle.av_rmap.specs.Covered.{IsCovered, IsReached}
+use Rattle.av_rmap.specs.Covered.{IsCoveredFrom, IsReached}
 use Rattle.av_rmap.specs.Sorted.{AreRising, IsBefore}
-use Rattle.av_rmap.specs.Walk.{AreItsEntries, Key, names_frame, same_key}
+use Rattle.av_rmap.specs.Walk.{AreItsEntries, Key, looks_from, names_frame, same_key}
 use Rattle.av_interval.specs.Search.{overlaps}
 use Rattle.av_rmap.proofs.Counting.{keys-as-long}
 use Rattle.av_rmap.proofs.LinkedAreas.{spans-are-areas}
@@ -153,9 +153,18 @@ module _ (k : Mem) (s : State) (keeps : Keeps k s) where
   covers f q named = subst (λ o. IsSomeAnd o (IsReachedAt (rmap_of s) q)) (sym (keeps.stands.homes f))
       (keeps.stands.reach.covered q f (passes-some f (entry s.ledger q) (sym (names-there f q) ∙ named)))
 
-  pub covered : AreNumbered k.spaces → (f : ℕ) (home : ℕ × ℕ) → (view k).homes f ≡ Some home → IsCovered (reach k) f home
-  covered numbered f home is p page named = reached numbered home p page
-      (subst (λ o. IsSomeAnd o (IsReachedAt (rmap_of s) (p, page))) is (covers f (p, page) named))
+  -- from its home each of the frame's entries is reached; without one it has none
+  pub covered : AreNumbered k.spaces → (f : ℕ) → IsCoveredFrom (reach k) f ((view k).homes f)
+  covered numbered f = by ((view k).homes f) refl
+    where
+      unnamed : (view k).homes f ≡ None → (p page : ℕ) (b : Bool) → names_frame f (entry_at k.tables p page) ≡ b → b ≡ false
+      unnamed homeless p page false e = refl
+      unnamed homeless p page true e = absurd (subst (λ o. IsSomeAnd o (IsReachedAt (rmap_of s) (p, page))) homeless (covers f (p, page) e))
+
+      by : (o : Option (ℕ × ℕ)) → (view k).homes f ≡ o → IsCoveredFrom (reach k) f o
+      by None is = λ p page. unnamed is p page (names_frame f (entry_at k.tables p page)) refl
+      by (Some home) is = λ p page named. reached numbered home p page
+          (subst (λ o. IsSomeAnd o (IsReachedAt (rmap_of s) (p, page))) is (covers f (p, page) named))
 
   -- ---- what it finds
 
@@ -179,14 +188,6 @@ module _ (k : Mem) (s : State) (keeps : Keeps k s) where
   pub found : (f : ℕ) (keys : List Key) → AreItsEntries (reach k) f keys → AreRising keys → keys ≡ walk s.ledger f
   found f keys also rising = rising-same keys (walk s.ledger f) rising (rises f) (λ q. also q ∙ sym (its f q))
 
-  -- a frame without a home has no entry
-  pub none-named : (f : ℕ) → (view k).homes f ≡ None → walk s.ledger f ≡ []
-  none-named f homeless = rising-same (walk s.ledger f) [] (rises f) tt (λ q. its f q ∙ ap one_if (unnamed q (names_frame f (entry_at k.tables q.0 q.1)) refl))
-    where
-      unnamed : (q : Key) (b : Bool) → names_frame f (entry_at k.tables q.0 q.1) ≡ b → b ≡ false
-      unnamed q false e = refl
-      unnamed q true e = absurd (subst (λ o. IsSomeAnd o (IsReachedAt (rmap_of s) q)) homeless (covers f q e))
-
   -- and each is at a page below the top
   mapped_below : AllRising k.spaces.processes → (q : Key) → is_some (entry s.ledger q) ≡ true → q.1 < top_page
   mapped_below rising q is =
@@ -206,8 +207,12 @@ module _ (k : Mem) (s : State) (keeps : Keeps k s) where
   below rising f = all-walked (λ q. q.1 < top_page) s.ledger f in_order (mapped_below rising)
 
   -- it looks once in each area that is linked and holds the index
-  pub looks : (f : ℕ) (home : ℕ × ℕ) → (view k).homes f ≡ Some home → how_many (overlaps home.1) ((reach k).spans home.0) ≡ areas_at k ((view k).homes f)
-  looks f home is = spans-are-areas (area_of k.spaces.areas) (family k.anons) (spans_of k.anons) home.0 home.1 keeps.anons.order ∙ sym (ap (areas_at k) is)
+  pub looks : (f : ℕ) → looks_from (reach k) ((view k).homes f) ≡ areas_at k ((view k).homes f)
+  looks f = by ((view k).homes f)
+    where
+      by : (o : Option (ℕ × ℕ)) → looks_from (reach k) o ≡ areas_at k o
+      by None = refl
+      by (Some home) = spans-are-areas (area_of k.spaces.areas) (family k.anons) (spans_of k.anons) home.0 home.1 keeps.anons.order
 
 -- ---- results
 

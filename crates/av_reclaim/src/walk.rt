@@ -10,7 +10,7 @@ ghost use Rattle.av_reclaim.specs.Walk.{areas_at};
 
 use crate::mem::Mem;
 use av_base::Steps;
-use av_rmap::sorted::walk_sorted;
+use av_rmap::sorted::walk_frame;
 use av_rmap::stores::Stores;
 use std::alloc::{AllocError, Global};
 use std::sync::ledger::Ledger;
@@ -33,13 +33,17 @@ pub fn walk<L: Ledger>(
         (steps.new ≡ steps.old + areas_at mem.now ((view mem.now).homes frame)) }
     ensures kept { OnErr result (steps.new ≡ steps.old) }
 {
-    let Some(home) = mem.frames.home(frame) else {
-        return Ok(Vec::new(alloc));
-    };
     let stores = Stores {
         areas: mem.spaces.by_number(),
         anons: &mem.anons,
         tables: &mem.tables,
     };
-    walk_sorted(alloc, &stores, frame, home, mem.frames.maps(frame), steps)
+    walk_frame(
+        alloc,
+        &stores,
+        frame,
+        mem.frames.home(frame),
+        mem.frames.maps(frame),
+        steps,
+    )
 }

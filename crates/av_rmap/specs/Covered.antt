@@ -1,5 +1,5 @@
 -- Covered: each entry that names a frame can be reached from the frame's home through chains alone.
-use Rattle.std.specs.Prelude.{◌≡◌, ℕ, true, Some}
+use Rattle.std.specs.Prelude.{◌≡◌, ℕ, true, false, Option, Some, None}
 use Rattle.av_base.specs.Words.{is_in}
 use Rattle.av_vma.specs.declared.area.Area.{Area}
 use Rattle.av_vma.specs.Join.{index_of}
@@ -22,3 +22,9 @@ pub record IsReached (view : View) (home : ℕ × ℕ) (process page : ℕ) : Ty
 abbrev pub IsCovered : View → ℕ → ℕ × ℕ → Type 0
 IsCovered view frame home = (process page : ℕ)
     → names_frame frame (view.entry process page) ≡ true → IsReached view home process page
+
+-- the same where the frame may have no home: no entry names it then
+abbrev pub IsCoveredFrom : View → ℕ → Option (ℕ × ℕ) → Type 0
+IsCoveredFrom view frame None =
+    (process page : ℕ) → names_frame frame (view.entry process page) ≡ false
+IsCoveredFrom view frame (Some home) = IsCovered view frame home

@@ -6,6 +6,7 @@ use Rattle.av_pagetable.specs.declared.pte.Pte.{Pte}
 use Rattle.av_pagetable.specs.declared.pte.Pte.TheVariants.{Empty, Zero, Here, Away}
 use Rattle.av_vma.specs.declared.area.Area.{Area}
 use Rattle.av_vma.specs.Join.{first_of, past_of}
+use Rattle.av_interval.specs.Search.{overlaps}
 use Rattle.av_rmap.specs.View.{View}
 
 -- a process and a page
@@ -45,6 +46,11 @@ page_at index area = first_of area + (index - area.pgoff)
 abbrev pub is_held : ℕ → Option Area → Bool
 is_held index None = false
 is_held index (Some area) = holds index area
+
+-- how many looks a walk from a home takes: one for each span that overlaps; none without a home
+abbrev pub looks_from : View → Option (ℕ × ℕ) → ℕ
+looks_from view None = 0
+looks_from view (Some home) = how_many (overlaps home.1) (view.spans home.0)
 
 -- what one look finds: the area's page with the index, where its entry passes the test
 abbrev pub found_in : View → (Pte → Bool) → ℕ → Option Area → List Key

@@ -10,7 +10,7 @@ use av_base::Steps;
 use av_pagetable::Pte;
 use std::sync::ledger::Ledger;
 
-pub trait Look {
+pub trait Look<L: Ledger> {
     // The areas with their chains, the spans of each anon_vma, and the entries.
     ghost view: { Self → View };
 
@@ -26,12 +26,12 @@ pub trait Look {
         ensures { IfSome ((view self.now).areas area) (λ a. result ≡ (a.pid, page_at index a)) };
 
     /// The entry of a page. This is the one call that takes a step.
-    fn look<L: Ledger>(&self, process: u16, page: u64, steps: &mut Steps<L>) -> Pte
+    fn look(&self, process: u16, page: u64, steps: &mut Steps<L>) -> Pte
         ensures entry { result ≡ (view self.now).entry process page }
         ensures counted { steps.new ≡ steps.old + 1 };
 }
 
-pub trait LookMut: Look {
+pub trait LookMut<L: Ledger>: Look<L> {
     // What a change leaves as it was, beside what a walk reads.
     ghost Kept: { Type 0 };
 

@@ -14,7 +14,7 @@ use std::sync::ledger::Ledger;
 
 /// Whether an entry that names the frame says that its page was accessed. `home` is the frame's. It
 /// looks at no more entries than a walk.
-pub fn any_seen<K: Look, L: Ledger>(
+pub fn any_seen<K: Look<L>, L: Ledger>(
     look: &K,
     frame: u32,
     home: (u64, u64),
@@ -41,7 +41,7 @@ pub fn any_seen<K: Look, L: Ledger>(
 }
 
 /// One look: whether the entry of the area's page with this index names the frame, and is seen.
-fn seen_in<K: Look, L: Ledger>(
+fn seen_in<K: Look<L>, L: Ledger>(
     look: &K,
     frame: u32,
     index: u64,
@@ -66,7 +66,7 @@ fn seen_in<K: Look, L: Ledger>(
 
 /// Takes the frame as not accessed: no entry that names it says any more that its page was, and
 /// nothing else changes. `home` is the frame's. It looks at as many entries as a walk.
-pub fn clear_seen<K: LookMut, L: Ledger>(
+pub fn clear_seen<K: LookMut<L>, L: Ledger>(
     look: &mut K,
     frame: u32,
     home: (u64, u64),
@@ -90,7 +90,7 @@ pub fn clear_seen<K: LookMut, L: Ledger>(
 
 /// One look: the entry of the area's page with this index doesn't say any more that the page was
 /// accessed, where it names the frame.
-fn clear_in<K: LookMut, L: Ledger>(
+fn clear_in<K: LookMut<L>, L: Ledger>(
     look: &mut K,
     frame: u32,
     index: u64,

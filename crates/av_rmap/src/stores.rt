@@ -24,12 +24,12 @@ pub struct Stores<'a> {
     pub tables: &'a Tables<PageTable>,
 }
 
-impl<'a> Look for Stores<'a> {
+impl<'a, L: Ledger> Look<L> for Stores<'a> {
     ghost view = { view_of };
 
     fn next(&self, anon: u64, index: u64, after: Option<(u64, u64)>) -> Option<(u64, u64)> {
         let spans = self.anons.spans();
-        let _ = spans.root(anon);
+        let _ = Nodes::<L>::root(spans, anon);
         overlap::<Brand>(spans, anon, index, after, Blank::new(1))
     }
 
@@ -38,7 +38,7 @@ impl<'a> Look for Stores<'a> {
         (area.pid, area.start / PAGE_SIZE + (index - area.pgoff))
     }
 
-    fn look<L: Ledger>(&self, process: u16, page: u64, steps: &mut Steps<L>) -> Pte {
+    fn look(&self, process: u16, page: u64, steps: &mut Steps<L>) -> Pte {
         steps.tick();
         self.tables.get(process, page)
     }
@@ -65,23 +65,23 @@ impl<'a> StoresMut<'a> {
     }
 }
 
-impl<'a> Look for StoresMut<'a> {
+impl<'a, L: Ledger> Look<L> for StoresMut<'a> {
     ghost view = { view_of_mut };
 
     fn next(&self, anon: u64, index: u64, after: Option<(u64, u64)>) -> Option<(u64, u64)> {
-        self.stores().next(anon, index, after)
+        Look::<L>::next(&self.stores(), anon, index, after)
     }
 
     fn place(&self, area: u64, index: u64) -> (u16, u64) {
-        self.stores().place(area, index)
+        Look::<L>::place(&self.stores(), area, index)
     }
 
-    fn look<L: Ledger>(&self, process: u16, page: u64, steps: &mut Steps<L>) -> Pte {
+    fn look(&self, process: u16, page: u64, steps: &mut Steps<L>) -> Pte {
         self.stores().look(process, page, steps)
     }
 }
 
-impl<'a> LookMut for StoresMut<'a> {
+impl<'a, L: Ledger> LookMut<L> for StoresMut<'a> {
     // It is lent the same tables, of the same processes.
     ghost Kept = { GName × (ℕ → Bool) };
 

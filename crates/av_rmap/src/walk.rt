@@ -15,7 +15,7 @@ use std::sync::ledger::Ledger;
 /// anon_vma and a linear index. It takes no memory.
 ///
 /// It looks at as many entries as areas that are linked to the anon_vma hold the index.
-pub fn walk<K: Look, L: Ledger>(
+pub fn walk<K: Look<L>, L: Ledger>(
     look: &K,
     frame: u32,
     home: (u64, u64),
@@ -50,7 +50,7 @@ pub fn walks_are_equally_long()
 {}
 
 /// One look: the page of the area with this index, where its entry names the frame.
-fn look_at<K: Look, L: Ledger>(
+fn look_at<K: Look<L>, L: Ledger>(
     look: &K,
     frame: u32,
     index: u64,

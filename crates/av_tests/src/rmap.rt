@@ -7,6 +7,7 @@ ghost use Rattle.av_interval.specs.Search.{overlaps};
 ghost use Rattle.av_merge.specs.Kin.{AreInOrder};
 ghost use Rattle.av_pagetable.specs.Entries.{entry_at, has};
 ghost use Rattle.av_rmap.specs.Covered.{IsCovered};
+ghost use Rattle.av_rmap.specs.Stores.{view_of_mut};
 ghost use Rattle.av_rmap.specs.View.{AreApart, AreSpanned};
 ghost use Rattle.av_rmap.specs.Walk.{AreItsEntries, Key};
 ghost use Rattle.av_tests.specs.Rmap.{AreThree, shared_entries};
@@ -18,7 +19,7 @@ use av_base::{PAGE_SIZE, Prot, Steps};
 use av_pagetable::{PageTable, Pte, Tables};
 use av_rmap::look::LookMut;
 use av_rmap::seen::{any_seen, clear_seen};
-use av_rmap::sorted::walk_sorted;
+use av_rmap::sorted::walk_frame;
 use av_rmap::stores::StoresMut;
 use av_vma::{Area, AreaId, Areas};
 use std::alloc::{AllocError, Global};
@@ -105,46 +106,38 @@ fn add_like(
 type Found = (Vec<(u16, u64)>, (bool, bool));
 
 /// Whether a frame was accessed, and whether it still says so when its seen bits are cleared.
-fn seen_and_then<K: LookMut, L: Ledger>(
+fn seen_and_then<K: LookMut<L>, L: Ledger>(
     look: &mut K,
     frame: u32,
     home: (u64, u64),
-    blank: Blank,
+    steps: &mut Steps<L>,
 ) -> (bool, bool)
     requires spanned { AreSpanned (K.view look.old) }
     requires apart { AreApart (K.view look.old) }
     requires covered { IsCovered (K.view look.old) frame home }
+{
+    let before = any_seen(look, frame, home, steps);
+    clear_seen(look, frame, home, steps);
+    let after = any_seen(look, frame, home, steps);
+    (before, after)
+}
+
+/// The same in stores, by a counter of its own.
+fn seen_in_stores<L: Ledger>(
+    stores: &mut StoresMut<'_>,
+    frame: u32,
+    home: (u64, u64),
+    blank: Blank,
+) -> (bool, bool)
+    requires spanned { AreSpanned (view_of_mut stores.old) }
+    requires apart { AreApart (view_of_mut stores.old) }
+    requires covered { IsCovered (view_of_mut stores.old) frame home }
     requires name { blank.name ≡ L.name }
     requires parts { blank.parts ≡ L.parts }
     requires some { 0 < blank.parts }
 {
     let mut steps = Steps::<L>::open(blank);
-    let before = any_seen(look, frame, home, &mut steps);
-    clear_seen(look, frame, home, &mut steps);
-    let after = any_seen(look, frame, home, &mut steps);
-    (before, after)
-}
-
-/// Walks a frame with `count` entries, and asks whether it was accessed.
-fn ask<K: LookMut, L: Ledger>(
-    alloc: Global,
-    look: &mut K,
-    frame: u32,
-    home: (u64, u64),
-    count: u64,
-    steps: &mut Steps<L>,
-) -> Result<Found, AllocError>
-    requires spanned { AreSpanned (K.view look.old) }
-    requires apart { AreApart (K.view look.old) }
-    requires covered { IsCovered (K.view look.old) frame home }
-    requires count { (keys : List Key) → AreItsEntries (K.view look.old) frame keys
-        → length keys ≤ count }
-    ensures counted { OnOk result (steps.new ≡ steps.old
-        + how_many (overlaps home.1) ((K.view look.old).spans home.0)) }
-{
-    let keys = walk_sorted(alloc, look, frame, home, count, steps)?;
-    let seen = seen_and_then::<K, Brand>(look, frame, home, Blank::new(1));
-    Ok((keys, seen))
+    seen_and_then(stores, frame, home, &mut steps)
 }
 
 /// Links the areas of page 11 in two processes, and one that doesn't hold its index, to the first
@@ -201,7 +194,9 @@ fn walk_shared<L: Ledger>(
         anons,
         tables,
     };
-    ask(alloc, &mut stores, 7, (0, 11), 2, steps)
+    let keys = walk_frame(alloc, &stores, 7, Some((0, 11)), 2, steps)?;
+    let seen = seen_in_stores::<Brand>(&mut stores, 7, (0, 11), Blank::new(1));
+    Ok((keys, seen))
 }
 
 /// The same, by stores and a counter of its own.

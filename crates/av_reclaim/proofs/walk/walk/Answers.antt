@@ -2,58 +2,49 @@ use Rattle.std.proofs.Common.{◌≡◌, ℕ, ◌+◌, ◌<◌, ◌≤◌, List,
 use Rattle.std.specs.List.{AllByRecursion}
 use Rattle.av_base.specs.Limits.{top_page}
 use Rattle.av_vma.specs.declared.area.Area.{Area}
-use Rattle.av_rmap.specs.Covered.{IsCovered}
+use Rattle.av_rmap.specs.Covered.{IsCoveredFrom}
 use Rattle.av_rmap.specs.Sorted.{AreRising}
 use Rattle.av_rmap.specs.View.{AreApart}
-use Rattle.av_rmap.specs.Walk.{AreItsEntries, Key}
+use Rattle.av_rmap.specs.Walk.{AreItsEntries, Key, looks_from}
 use Rattle.av_plain.specs.Ledger.{walk as walk_of}
 use Rattle.av_reclaim.specs.Walk.{areas_at}
-use Rattle.av_reclaim.proofs.WalkLaws.{apart, below, covered, few, found, if_both, looks, none-named, on_ok, reach_by}
+use Rattle.av_reclaim.proofs.WalkLaws.{apart, below, covered, few, found, if_both, looks, on_ok, reach_by}
 use Rattle.av_reclaim.proofs.walk.walk.Goals as goal
 
-pub returns-in_default-clause-keys : goal.returns-in_default-clause-keys
-returns-in_default-clause-keys g c = λ s keeps.
-    c.new.ensures.items ∙ sym (none-named c.args.mem.now s keeps c.args.frame (sym c.home.ensures ∙ c.in_default.is))
-
-pub returns-in_default-clause-counted : goal.returns-in_default-clause-counted
-returns-in_default-clause-counted g c =
-    let none = ap (areas_at c.args.mem.now) (sym c.home.ensures ∙ c.in_default.is) in omega (arith, none)
-
-pub walk_sorted-requires-clause-apart : goal.walk_sorted-requires-clause-apart
-walk_sorted-requires-clause-apart g c = let s = c.requires.steady in
+pub walk_frame-requires-clause-apart : goal.walk_frame-requires-clause-apart
+walk_frame-requires-clause-apart g c = let s = c.requires.steady in
     subst (λ (areas : List (Option Area)). AreApart (reach_by c.args.mem.now areas)) (sym c.by_number.ensures.areas)
     (apart c.args.mem.now s.0 s.1 c.by_number.ensures.numbered)
 
-pub walk_sorted-requires-clause-covered : goal.walk_sorted-requires-clause-covered
-walk_sorted-requires-clause-covered g c = let s = c.requires.steady in
-    subst (λ (areas : List (Option Area)). IsCovered (reach_by c.args.mem.now areas) c.args.frame c.in-Some.home) (sym c.by_number.ensures.areas)
-    (covered c.args.mem.now s.0 s.1 c.by_number.ensures.numbered c.args.frame c.in-Some.home (sym c.home.ensures ∙ c.in-Some.is))
+pub walk_frame-requires-clause-covered : goal.walk_frame-requires-clause-covered
+walk_frame-requires-clause-covered g c = let s = c.requires.steady in
+    subst (λ (areas : List (Option Area)). IsCoveredFrom (reach_by c.args.mem.now areas) c.args.frame c.home.result) (sym c.by_number.ensures.areas)
+    (subst (IsCoveredFrom (reach_by c.args.mem.now c.args.mem.now.spaces.areas) c.args.frame) (sym c.home.ensures)
+    (covered c.args.mem.now s.0 s.1 c.by_number.ensures.numbered c.args.frame))
 
-pub walk_sorted-requires-clause-count : goal.walk_sorted-requires-clause-count
-walk_sorted-requires-clause-count g c = let s = c.requires.steady in
+pub walk_frame-requires-clause-count : goal.walk_frame-requires-clause-count
+walk_frame-requires-clause-count g c = let s = c.requires.steady in
     subst (λ (n : ℕ). (keys : List Key) → AreItsEntries (reach_by c.args.mem.now c.by_number.result.now) c.args.frame keys →
     length keys ≤ n) (sym c.maps.ensures)
     (few c.args.mem.now s.0 s.1 c.args.frame)
 
 pub returns-clause-keys : goal.returns-clause-keys
 returns-clause-keys g c = λ s keeps.
-    if_both c.walk_sorted.result (λ keys. AreItsEntries (reach_by c.args.mem.now c.by_number.result.now) c.args.frame keys.items) (λ keys. AreRising keys.items)
+    if_both c.walk_frame.result (λ keys. AreItsEntries (reach_by c.args.mem.now c.by_number.result.now) c.args.frame keys.items) (λ keys. AreRising keys.items)
     (λ keys. keys.items ≡ walk_of s.ledger c.args.frame) (λ keys its rising. found c.args.mem.now s keeps c.args.frame keys.items its rising)
-    c.walk_sorted.ensures.entries c.walk_sorted.ensures.rising
-
-pub returns-in_default-clause-below : goal.returns-in_default-clause-below
-returns-in_default-clause-below g c = subst (AllByRecursion (λ (key : ℕ × ℕ). key.1 < top_page)) (sym c.new.ensures.items) tt
+    c.walk_frame.ensures.entries c.walk_frame.ensures.rising
 
 pub returns-clause-below : goal.returns-clause-below
 returns-clause-below g c = let s = c.requires.steady in
-    if_both c.walk_sorted.result (λ keys. AreItsEntries (reach_by c.args.mem.now c.by_number.result.now) c.args.frame keys.items) (λ keys. AreRising keys.items)
+    if_both c.walk_frame.result (λ keys. AreItsEntries (reach_by c.args.mem.now c.by_number.result.now) c.args.frame keys.items) (λ keys. AreRising keys.items)
     (λ keys. AllByRecursion (λ (key : ℕ × ℕ). key.1 < top_page) keys.items)
     (λ keys its rising. subst (AllByRecursion (λ (key : ℕ × ℕ). key.1 < top_page)) (sym (found c.args.mem.now s.0 s.1 c.args.frame keys.items its rising))
     (below c.args.mem.now s.0 s.1 c.by_number.ensures.rising c.args.frame))
-    c.walk_sorted.ensures.entries c.walk_sorted.ensures.rising
+    c.walk_frame.ensures.entries c.walk_frame.ensures.rising
 
 pub returns-clause-counted : goal.returns-clause-counted
 returns-clause-counted g c =
     let s = c.requires.steady in
-    let l = looks c.args.mem.now s.0 s.1 c.args.frame c.in-Some.home (sym c.home.ensures ∙ c.in-Some.is) in
-    on_ok c.walk_sorted.result (λ counted. counted ∙ ap (λ n. c.args.steps.now + n) l) c.walk_sorted.ensures.counted
+    let l = looks c.args.mem.now s.0 s.1 c.args.frame in
+    on_ok c.walk_frame.result (λ counted. counted ∙ ap (λ h. c.args.steps.now + looks_from (reach_by c.args.mem.now c.args.mem.now.spaces.areas) h) c.home.ensures
+    ∙ ap (λ n. c.args.steps.now + n) l) c.walk_frame.ensures.counted

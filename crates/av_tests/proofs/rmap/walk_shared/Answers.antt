@@ -3,24 +3,36 @@ use Rattle.av_anon.specs.Anons.{family}
 use Rattle.av_anon.specs.Spans.{spans_of}
 use Rattle.av_pagetable.specs.Entries.{entry_at}
 use Rattle.av_vma.specs.Areas.{area_of}
-use Rattle.av_tests.proofs.RmapLaws.{on_ok, three_apart, three_covered, two_at_most, two_looks}
+use Rattle.av_tests.proofs.RmapLaws.{three_apart, three_covered, two_at_most, two_looks}
 use Rattle.av_tests.proofs.rmap.walk_shared.Goals as goal
 
-pub ask-requires-clause-apart : goal.ask-requires-clause-apart
-ask-requires-clause-apart g c = let ids = c.in_ok-_ids._ids in
+pub walk_frame-requires-clause-apart : goal.walk_frame-requires-clause-apart
+walk_frame-requires-clause-apart g c = let ids = c.in_ok-_ids._ids in
     three_apart (area_of c.link_three.new.areas) (family c.link_three.new.anons) (spans_of c.link_three.new.anons)
     (entry_at c.share_frame.new.tables) ids.0 ids.1 ids.2
     c.in_ok-_ids.ensures.areas c.in_ok-_ids.ensures.order c.in_ok-share_frame.ensures
 
-pub ask-requires-clause-covered : goal.ask-requires-clause-covered
-ask-requires-clause-covered g c = let ids = c.in_ok-_ids._ids in
+pub walk_frame-requires-clause-covered : goal.walk_frame-requires-clause-covered
+walk_frame-requires-clause-covered g c = let ids = c.in_ok-_ids._ids in
     three_covered (area_of c.link_three.new.areas) (family c.link_three.new.anons) (spans_of c.link_three.new.anons)
     (entry_at c.share_frame.new.tables) ids.0 ids.1 ids.2
     c.in_ok-_ids.ensures.areas c.in_ok-_ids.ensures.order c.in_ok-share_frame.ensures
 
-pub ask-requires-clause-count : goal.ask-requires-clause-count
-ask-requires-clause-count g c = let ids = c.in_ok-_ids._ids in
+pub walk_frame-requires-clause-count : goal.walk_frame-requires-clause-count
+walk_frame-requires-clause-count g c = let ids = c.in_ok-_ids._ids in
     two_at_most (area_of c.link_three.new.areas) (family c.link_three.new.anons) (spans_of c.link_three.new.anons)
+    (entry_at c.share_frame.new.tables) ids.0 ids.1 ids.2
+    c.in_ok-_ids.ensures.areas c.in_ok-_ids.ensures.order c.in_ok-share_frame.ensures
+
+pub seen_in_stores-seen-requires-clause-apart : goal.seen_in_stores-seen-requires-clause-apart
+seen_in_stores-seen-requires-clause-apart g c = let ids = c.in_ok-_ids._ids in
+    three_apart (area_of c.link_three.new.areas) (family c.link_three.new.anons) (spans_of c.link_three.new.anons)
+    (entry_at c.share_frame.new.tables) ids.0 ids.1 ids.2
+    c.in_ok-_ids.ensures.areas c.in_ok-_ids.ensures.order c.in_ok-share_frame.ensures
+
+pub seen_in_stores-seen-requires-clause-covered : goal.seen_in_stores-seen-requires-clause-covered
+seen_in_stores-seen-requires-clause-covered g c = let ids = c.in_ok-_ids._ids in
+    three_covered (area_of c.link_three.new.areas) (family c.link_three.new.anons) (spans_of c.link_three.new.anons)
     (entry_at c.share_frame.new.tables) ids.0 ids.1 ids.2
     c.in_ok-_ids.ensures.areas c.in_ok-_ids.ensures.order c.in_ok-share_frame.ensures
 
@@ -29,4 +41,4 @@ returns g c = let ids = c.in_ok-_ids._ids in
     let looks = two_looks (area_of c.link_three.new.areas) (family c.link_three.new.anons) (spans_of c.link_three.new.anons)
     (entry_at c.share_frame.new.tables) ids.0 ids.1 ids.2
     c.in_ok-_ids.ensures.areas c.in_ok-_ids.ensures.order c.in_ok-share_frame.ensures c.in_ok-_ids.ensures.users in
-    on_ok c.ask.result (λ counted. counted ∙ ap (λ n. c.args.steps.now + n) looks) c.ask.ensures.counted
+    c.in_ok-keys.ensures.counted ∙ ap (λ n. c.args.steps.now + n) looks

@@ -7,11 +7,11 @@ use Rattle.av_anon.proofs.Spanned.{there_in_all}
 use Rattle.av_anon.proofs.anons.Anons.unlink.Goals as goal
 
 pub leave-requires-clause-there : goal.leave-requires-clause-there
-leave-requires-clause-there c = there_in_all (area_of c.args.areas.now) (chain_of c.args.self.now.links)
+leave-requires-clause-there g c = there_in_all (area_of c.args.areas.now) (chain_of c.args.self.now.links)
     (spans_of c.args.self.now) c.requires.order.spanned c.args.area c.get-this.result c.get-this.ensures
 
 pub returns-in-Some-clause-spans : goal.returns-in-Some-clause-spans
-returns-in-Some-clause-spans c =
+returns-in-Some-clause-spans g c =
     let areas = area_of c.args.areas.now in
     let areas' = area_of c.change.new.self in
     let chain = chain_of c.args.self.now.links in

@@ -5,7 +5,7 @@ use Rattle.av_rmap.specs.Walk.{holds, page_at}
 use Rattle.av_rmap.proofs.stores.StoresMutLook.place.Goals as goal
 
 pub place-requires : goal.place-requires
-place-requires c = subst (λ (v : View). IsSomeAnd (v.areas c.args.area) (λ a. holds c.args.index a ≡ true)) (sym c.stores.ensures) c.requires
+place-requires g c = subst (λ (v : View). IsSomeAnd (v.areas c.args.area) (λ a. holds c.args.index a ≡ true)) (sym c.stores.ensures) c.requires
 
 pub returns : goal.returns
-returns c = subst (λ (v : View). IfSome (v.areas c.args.area) (λ a. c.place.result ≡ (a.pid, page_at c.args.index a))) c.stores.ensures c.place.ensures
+returns g c = subst (λ (v : View). IfSome (v.areas c.args.area) (λ a. c.place.result ≡ (a.pid, page_at c.args.index a))) c.stores.ensures c.place.ensures

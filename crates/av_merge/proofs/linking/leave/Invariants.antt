@@ -1,4 +1,4 @@
-use Rattle.av_anon.proofs.anons.Anons.leave.Given as goal
+use Rattle.av_merge.proofs.linking.leave.Given as goal
 
 abbrev pub ghosts-leave_by : goal.ghosts-leave_by
 ghosts-leave_by a = record { name = a.blank.name; parts = a.blank.parts }
