@@ -39,7 +39,8 @@ fn link_at<T: Entry>(arena: &Arena<T, T::Sum>, number: u64) -> Link<T::Sum>
     }
 }
 
-/// What becomes of a node whose sides differ by two levels at most.
+/// What becomes of a node whose sides differ by two levels at most. Where they are level it stays
+/// as it is.
 #[inline(always)]
 pub fn settle<T: Entry>(arena: &mut Arena<T, T::Sum>, number: u64) -> Link<T::Sum>
     requires { IsUnsettled T.key T.unit T.op T.of 2 (store_of arena.old) number }

@@ -250,7 +250,8 @@ fn with_left<T: Entry>(
     }
 }
 
-/// The tree with the node `number`, which is in use and not in it, for the entry.
+/// The tree with the node `number`, which is in use and not in it, for the entry. Each other entry
+/// keeps its number.
 pub fn place<T: Entry>(
     arena: &mut Arena<T, T::Sum>,
     tree: Option<Link<T::Sum>>,
@@ -302,7 +303,7 @@ pub fn pop_first<T: Entry>(
     (number, entry, Some(whole))
 }
 
-/// The number of the node with the key of `like`, and a tree of the others.
+/// The number of the node with the key of `like`, and a tree of the others, which keep theirs.
 pub fn remove<T: Entry>(
     arena: &mut Arena<T, T::Sum>,
     tree: Option<Link<T::Sum>>,

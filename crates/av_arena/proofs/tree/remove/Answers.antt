@@ -87,5 +87,8 @@ pub returns-then-is_at-clause-node : goal.returns-then-is_at-clause-node
 returns-then-is_at-clause-node g c = subst (IsAt g.T.Entry.key g.T.Entry.unit g.T.Entry.op g.T.Entry.of (store_of c.args.arena.now) c.in-Some.tree.number c.args.like)
     c.if-is_at.true c.is_at.ensures
 
+pub returns-clause-node : goal.returns-clause-node
+returns-clause-node g c = c.removed_below-number.ensures.node
+
 pub returns-clause-kept : goal.returns-clause-kept
 returns-clause-kept g c = keeps_keeps _ _ _ c.removed_below-number.ensures.kept c.settle-whole.ensures.kept
