@@ -24,7 +24,7 @@ fn says_nothing(line: &[u8]) -> bool
 {
     match line {
         [] => true,
-        [first, ..] => b'#' == *first,
+        [first, ..] => *first == b'#',
     }
 }
 
