@@ -4,7 +4,7 @@ use Rattle.std.proofs.Math.Path.{fun_ext}
 use Rattle.std.proofs.lemmas.Bool.{both_ways, cases_lt}
 use Rattle.av_base.specs.Words.{with_at}
 use Rattle.av_arena.specs.Arena.{entry_put, on_other, on_side, side_put, with_side}
-use Rattle.av_arena.specs.Below.{AreOn, IsBeside, IsBetween, HasKeyBelow, IsAbove, IsAskedBelow, IsAt, IsChanged, IsDoneBelow, IsHung, IsPlaceBelow, IsPlacedBelow, IsRemovedBelow, IsReplacedBelow, IsSettled, IsSideFor, IsSideSettled, IsSideTaken, IsSplitBelow, IsSplitBelowFor, IsSplitFor, IsTaken, IsTold, IsUnsettled, child_number, entry_below, height_below, in_order, number_of}
+use Rattle.av_arena.specs.Below.{AreOn, IsBeside, IsBetween, HasKeyBelow, IsAbove, IsAskedBelow, IsAt, IsChanged, IsDoneBelow, IsHung, IsPlaceBelow, IsPlacedBelow, IsRemovedBelow, IsReplacedBelow, IsSettled, IsSideFor, IsSideSettled, IsSideTaken, IsSplitBelow, IsSplitBelowFor, IsSplitFor, IsTaken, IsTold, IsUnsettled, child_number, height_below, in_order, number_of}
 use Rattle.av_arena.specs.Monoid.{MonoidLaws}
 use Rattle.av_arena.specs.Order.{IsRising, NoneBetween, entry_at, with_entry, with_two, without_key}
 use Rattle.std.specs.List.{AllByRecursion}
@@ -91,6 +91,7 @@ module _ {T S : Type 0} (key : T → ℕ) (unit : S) (op : S → S → S) (of : 
         subst (λ (m : ℕ). IsJoined key unit op of s s m v.left v.entry v.right k) p
             (joined_same key unit op of laws s k v.left v.entry v.right root (rw p spot)),
         (omega arith, omega arith, λ _. h),
+        λ _. refl,
       )
 
   -- a side gets another link than it has had
@@ -366,18 +367,6 @@ module _ {T S : Type 0} (key : T → ℕ) (unit : S) (op : S → S → S) (of : 
       let b : count_at t rest m.number ≡ count_at t (Some m) m.number = ap (λ q. count_at t q m.number) r in
       omega arith
 
-  with_side_entry : (side : Side) (l : Option (Link S)) (o : Option (Stored T S)) → entry_below (side_put side l o) ≡ entry_below o
-  with_side_entry side l None = refl
-  with_side_entry Left l (Some v) = refl
-  with_side_entry Right l (Some v) = refl
-
-  -- the root keeps its entry where only a side is put
-  pub entry_put_side : (side : Side) (s t : Store T S) (n : ℕ) (l : Option (Link S)) → t ≡ with_at n (side_put side l (s n)) s →
-      entry_below (t n) ≡ entry_below (s n)
-  entry_put_side side s t n l e =
-      ap (λ (q : Store T S). entry_below (q n)) e ∙ (ap entry_below (with_at_same key unit op of laws n (side_put side l (s n)) s)
-      ∙ with_side_entry side l (s n))
-
   -- one level further down
   pub record IsFurther (Asked : Option (Link S) → Type 0) (s : Store T S) (n below : ℕ) : Type 0 where
     pub asked : IsAskedBelow Asked below
@@ -442,11 +431,9 @@ module _ {T S : Type 0} (key : T → ℕ) (unit : S) (op : S → S → S) (of : 
   pub record IsStepped (Put : Type 0) (side : Side) (s t : Store T S) (n below : ℕ) (c : Bool) : Type 0 where
     pub ready : IsUnsettled key unit op of 2 t below
     pub used : IsSome (t n)
-    pub entry : entry_below (t n) ≡ entry_below (s n)
     pub same : c ≡ false → IsDoneBelow key unit op of Asked list numbers gone lower higher Put s t n false
     pub settled : (u : Store T S) (b : Bool) → IsSideSettled key unit op of side t u n below b →
         IsDoneBelow key unit op of Asked list numbers gone lower higher Put s u n b
-    pub settled_entry : (u : Store T S) (b : Bool) → IsSideSettled key unit op of side t u n below b → entry_below (u n) ≡ entry_below (s n)
 
   done_child : {Own : Type 0} (side : Side) (s t : Store T S) (k : Link S) (v : Stored T S) (below : ℕ) (c : Bool) →
       (m : IsChild key unit op of laws side v below) →
@@ -489,14 +476,6 @@ module _ {T S : Type 0} (key : T → ℕ) (unit : S) (op : S → S → S) (of : 
       put_below side s st.between u k v (Some st.link) b few p d.tree st.put (omega arith) (omega arith) (λ z i. st.stays z v i)
       (λ z i. st.differs z v i (ap number_of m.is ∙ ap Some m.number))
 
-  step_entry : {Own : Type 0} (side : Side) (s t u : Store T S) (k : Link S) (v : Stored T S) (below : ℕ) (c b : Bool)
-      (m : IsChild key unit op of laws side v below) →
-      GoesDown key unit op of laws Asked list numbers side s k v → IsDoneBelow key unit op of Asked list numbers gone lower higher Own s t below c →
-      IsSideSettled key unit op of side t u k.number below b → entry_below (u k.number) ≡ entry_below (s k.number)
-  step_entry side s t u k v below c b m p done st =
-      entry_put_side key unit op of laws side st.between u k.number (Some st.link) st.put
-      ∙ ap entry_below (above_stays side s st.between k v (Some st.link) p (done_settle side s t u k v below c b m p done st).tree)
-
   pub step : {Own : Type 0} (Put : Type 0) (side : Side) (s t : Store T S) (n : ℕ) (v : Stored T S) (below : ℕ) (c : Bool) → lower + higher ≤ 1 → s n ≡ Some v →
       child_number side (s n) ≡ Some below →
       ((k : Link S) → k.number ≡ n → Asked (Some k) → GoesDown key unit op of laws Asked list numbers side s k v) → IsAskedBelow Asked n →
@@ -513,13 +492,8 @@ module _ {T S : Type 0} (key : T → ℕ) (unit : S) (op : S → S → S) (of : 
       record {
         ready = subst (IsUnsettled key unit op of 2 t) m.number (unsettled key unit op of laws s t m.link c _ _ gone lower higher ch (omega arith));
         used = subst (λ i. IsSome (t i)) b.number (ch.above.used b.link.number p.opened.used);
-        entry = subst (λ i. entry_below (t i) ≡ entry_below (s i)) b.number
-            (ap entry_below (ch.above.kept b.link.number (let i = p.once b.link.number in let j = p.count b.link.number in
-            let q = is_self key unit op of laws b.link.number in omega arith)));
         same = λ z k q a. step_same side s t k v below c few m (down k q a) done z;
         settled = λ u b' st k q a. step_settled side s t u k v below c b' few m (down k q a) done (at u b' k q st);
-        settled_entry = λ u b' st. subst (λ i. entry_below (u i) ≡ entry_below (s i)) b.number
-            (step_entry side s t u b.link v below c b' m p done (at u b' b.link b.number st));
       }
 
   -- what follows where the tree o with the root k has changed below its root
@@ -784,11 +758,6 @@ module _ {T S : Type 0} (key : T → ℕ) (unit : S) (op : S → S → S) (of : 
       never key unit op of laws (λ l. HasKey key unit op of s l x) (without_key key (key x)) (λ f. f) none 1 0 side s n w.node w.stored d
       (removed_down side s n w.node x w.stored other for) b (λ h. no_key key unit op of laws s x h)
 
-  -- the root of a side is taken out
-  pub record IsCut (s u : Store T S) (n child : ℕ) (x : T) : Type 0 where
-    pub removed : IsRemovedBelow key unit op of s u n x child true
-    pub entry : entry_below (u n) ≡ entry_below (s n)
-
   cut_tree : (side : Side) (s u : Store T S) (n : ℕ) (k : Link S) (v : Stored T S) (child : ℕ) (x : T) (m : IsChild key unit op of laws side v child)
       (w : IsSideTaken key unit op of side s u n child x) →
       GoesDown key unit op of laws (λ l. HasKey key unit op of s l x) (without_key key (key x)) (λ f. f) side s k v →
@@ -798,30 +767,24 @@ module _ {T S : Type 0} (key : T → ℕ) (unit : S) (op : S → S → S) (of : 
       let got = w.taken m.link m.number (subst (λ l. HasKey key unit op of s l x) m.is g.asked) in
       (subst (λ l. IsWithout key unit op of s w.between l (without_key key (key x) (entries_at s l)) child w.rest) (sym m.is) got.0, got.1)
 
+  -- the root of a side is taken out
   pub cut : (side : Side) (s u : Store T S) (n below : ℕ) (x : T) → child_number side (s n) ≡ Some below →
       IsAt key unit op of s n x false → IsSideFor key unit op of s n x side → HasKeyBelow key unit op of s n x →
-      IsSideTaken key unit op of side s u n below x → IsCut s u n below x
+      IsSideTaken key unit op of side s u n below x → IsRemovedBelow key unit op of s u n x below true
   cut side s u n below x d other for b w =
       let n' = node_at key unit op of laws s n b.link b.number b.asked.held in
       let v = n'.node in
       let m = child key unit op of laws side s n v below n'.stored d in
       let down = removed_down side s n v x n'.stored other for in
       let high : height_of (on_side side v) ≡ m.link.height = ap height_of m.is in
-      let g = down b.link b.number b.asked in
-      let stay = above_stays key unit op of laws (λ l. HasKey key unit op of s l x) (without_key key (key x)) (λ f. f) (is below) 1 0
-      side s w.between b.link v w.rest g (cut_tree side s u n b.link v below x m w g).0 in
-      record {
-        removed = λ k p h. let g' = down k p h in let got = cut_tree side s u n k v below x m w g' in let a = got.1.0 in let c = got.1.1 in
-            let put = subst (λ i. u ≡ with_at i (side_put side w.rest (w.between i)) w.between) (sym p) w.put in
-            let gone = subst (λ i. IsWithout key unit op of s w.between (on_side side v) (without_key key (key x) (entries_at s (on_side side v))) i w.rest)
-            (sym m.number) got.0 in
-            put_below key unit op of laws (λ l. HasKey key unit op of s l x) (without_key key (key x)) (λ f. f) (is below) 1 0
-            side s w.between u k v w.rest true (omega arith) g' got.0 put (omega arith) (omega arith) (λ z. absurd (both_ways true z refl))
-            (λ _ _ e. rest_differs key unit op of laws s w.between (on_side side v) w.rest m.link _ (held_side key unit op of laws side s k v g'.opened)
-            gone m.is e);
-        entry = entry_put_side key unit op of laws side w.between u n w.rest w.put
-            ∙ ap entry_below (subst (λ i. w.between i ≡ s i) b.number stay);
-      }
+      λ k p h. let g = down k p h in let got = cut_tree side s u n k v below x m w g in let a = got.1.0 in let c = got.1.1 in
+      let put = subst (λ i. u ≡ with_at i (side_put side w.rest (w.between i)) w.between) (sym p) w.put in
+      let gone = subst (λ i. IsWithout key unit op of s w.between (on_side side v) (without_key key (key x) (entries_at s (on_side side v))) i w.rest)
+      (sym m.number) got.0 in
+      put_below key unit op of laws (λ l. HasKey key unit op of s l x) (without_key key (key x)) (λ f. f) (is below) 1 0
+      side s w.between u k v w.rest true (omega arith) g got.0 put (omega arith) (omega arith) (λ z. absurd (both_ways true z refl))
+      (λ _ _ e. rest_differs key unit op of laws s w.between (on_side side v) w.rest m.link _ (held_side key unit op of laws side s k v g.opened)
+      gone m.is e)
 
   -- what is left of a tree without its root
   pub taken_last : (s : Store T S) (n : ℕ) (v : Stored T S) (x : T) → s n ≡ Some v → IsAt key unit op of s n x true → v.right ≡ None →

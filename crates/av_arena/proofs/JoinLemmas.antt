@@ -2,8 +2,8 @@
 use Rattle.std.proofs.Common.{◌≡◌, ℕ, ◌<◌, ◌≤◌, ◌⊎◌, inl, inr, Bool, true, false, cond, eqb, Some, None, List, [], ◌∷◌, ◌++◌, refl, sym, ap, ◌∙◌, subst, arith}
 use Rattle.std.proofs.lemmas.Bool.{both_ways, eqb-true, eq-eqb}
 use Rattle.av_base.specs.Words.{with_at}
-use Rattle.av_arena.specs.Arena.{entry_put, on_other, on_side}
-use Rattle.av_arena.specs.Below.{AreOn, HasKeyBelow, IsAt, IsBeside, IsBetween, IsChanged, IsJoinBelowFor, IsJoinFor, IsJoinedBelow, IsRemovedBelow, child_number, entry_below, in_order}
+use Rattle.av_arena.specs.Arena.{entry_of, entry_put, on_other, on_side}
+use Rattle.av_arena.specs.Below.{AreOn, HasKeyBelow, IsAt, IsBeside, IsBetween, IsChanged, IsJoinBelowFor, IsJoinFor, IsJoinedBelow, IsRemovedBelow, child_number, in_order}
 use Rattle.av_arena.specs.Monoid.{MonoidLaws}
 use Rattle.av_arena.specs.Order.{IsRising, NoneWithin, with_entry, with_joined, without_key}
 use Rattle.std.specs.List.{AllByRecursion}
@@ -189,7 +189,7 @@ module _ {T S : Type 0} (key : T → ℕ) (unit : S) (op : S → S → S) (of : 
   -- the root is one of the two, and the other goes
   put_at_root : {Put : Type 0} (s t u : Store T S) (n out : ℕ) (k : Link S) (v : Stored T S) (x y z : T) (c : Bool) (xs : List T) →
       IsBetween key unit op of s n x y → k.number ≡ n → s n ≡ Some v →
-      entry_below (t n) ≡ entry_below (s n) → u ≡ with_at n (entry_put z (t n)) t → IsChanged key unit op of s t k c xs (λ j. count j (tree_at s (Some k)))
+      entry_of (t n) ≡ entry_of (s n) → u ≡ with_at n (entry_put z (t n)) t → IsChanged key unit op of s t k c xs (λ j. count j (tree_at s (Some k)))
       (is out) 1 0 Put → ((l r : List T) → l ++ v.entry ∷ r ≡ xs → l ++ z ∷ r ≡ with_joined key x y z (entries (tree_at s (Some k)))) →
       IsChanged key unit op of s u k true (with_joined key x y z (entries (tree_at s (Some k)))) (λ j. count j (tree_at s (Some k))) (is out) 1 0
       (IsBetween key unit op of s n x y)
@@ -197,7 +197,7 @@ module _ {T S : Type 0} (key : T → ℕ) (unit : S) (op : S → S → S) (of : 
       let w = ch.node in
       let w' : Stored T S = record { left = w.left; entry = z; right = w.right } in
       let here : t n ≡ Some w = subst (λ i. t i ≡ Some w) p ch.above.stored in
-      let same : w.entry ≡ v.entry = (let d : entry_below (Some w) ≡ entry_below (Some v) = ap entry_below (sym here) ∙ (stays ∙ ap entry_below e) in cc) in
+      let same : w.entry ≡ v.entry = (let d : entry_of (Some w) ≡ entry_of (Some v) = ap entry_of (sym here) ∙ (stays ∙ ap entry_of e) in cc) in
       let put : u ≡ with_at k.number (Some w') t = rw p (at ∙ ap (λ m. with_at n (entry_put z m) t) here) in
       let was : entries (tree_at t w.left) ++ v.entry ∷ entries (tree_at t w.right) ≡ xs =
       subst (λ i. entries (tree_at t w.left) ++ i ∷ entries (tree_at t w.right) ≡ xs) same ch.above.entries in
@@ -213,7 +213,7 @@ module _ {T S : Type 0} (key : T → ℕ) (unit : S) (op : S → S → S) (of : 
       }
 
   pub join_lower_goes : (s t u : Store T S) (n out : ℕ) (v : Stored T S) (x y z : T) (c : Bool) → s n ≡ Some v → IsBetween key unit op of s n x y →
-      key x < key v.entry → IsRemovedBelow key unit op of s t n x out c → entry_below (t n) ≡ entry_below (s n) → u ≡ with_at n (entry_put z (t n)) t →
+      key x < key v.entry → IsRemovedBelow key unit op of s t n x out c → entry_of (t n) ≡ entry_of (s n) → u ≡ with_at n (entry_put z (t n)) t →
       IsJoinedBelow key unit op of s u n x y z out true
   join_lower_goes s t u n out v x y z c e meets lt below stays at k p h =
       let o = opened_at key unit op of laws s n k v p h.has.held e in
@@ -224,7 +224,7 @@ module _ {T S : Type 0} (key : T → ℕ) (unit : S) (op : S → S → S) (of : 
       (λ l r d. joined_upper key x y z v.entry _ l r h.has.rising h.after h.next h.same is_y d)
 
   pub join_upper_goes : (s t u : Store T S) (n out : ℕ) (v : Stored T S) (x y z : T) (c : Bool) → s n ≡ Some v → IsBetween key unit op of s n x y →
-      key v.entry ≤ key x → IsRemovedBelow key unit op of s t n y out c → entry_below (t n) ≡ entry_below (s n) → u ≡ with_at n (entry_put z (t n)) t →
+      key v.entry ≤ key x → IsRemovedBelow key unit op of s t n y out c → entry_of (t n) ≡ entry_of (s n) → u ≡ with_at n (entry_put z (t n)) t →
       IsJoinedBelow key unit op of s u n x y z out true
   join_upper_goes s t u n out v x y z c e meets le below stays at k p h =
       let ge = (meets v e).0 in

@@ -1,5 +1,6 @@
 pub mod AvlLemmas
 pub mod BelowLemmas
+pub mod Entries
 pub mod JoinLemmas
 pub mod Monoid
 pub mod Order

@@ -1,7 +1,8 @@
 -- What an arena holds.
 use Rattle.slab.specs.Slab.{get}
 use Rattle.av_arena.specs.Tree.{Store}
-use Rattle.std.specs.Prelude.{Option, Some, None}
+use Rattle.std.specs.Prelude.{◌≡◌, ℕ, Option, Some, None}
+use Rattle.av_base.specs.Words.{with_at}
 use Rattle.av_arena.specs.declared.arena.Arena.{Arena}
 use Rattle.av_arena.specs.declared.link.Link.{Link}
 use Rattle.av_arena.specs.declared.link.Side.{Side}
@@ -35,3 +36,16 @@ side_put side link (Some v) = Some (with_side side link v)
 abbrev pub entry_put : {T S : Type 0} → T → Option (Stored T S) → Option (Stored T S)
 entry_put x None = None
 entry_put x (Some v) = Some (record v { entry = x })
+
+-- the entry of a node
+abbrev pub entry_of : {T S : Type 0} → Option (Stored T S) → Option T
+entry_of None = None
+entry_of (Some v) = Some v.entry
+
+-- under each number stands the entry that stood there
+abbrev pub KeepsEntries : {T S : Type 0} → Store T S → Store T S → Type 0
+KeepsEntries old new = (j : ℕ) → entry_of (new j) ≡ entry_of (old j)
+
+-- the same but under n, where the entry x stands now
+abbrev pub PutsEntry : {T S : Type 0} → Store T S → Store T S → ℕ → T → Type 0
+PutsEntry old new n x = (j : ℕ) → entry_of (new j) ≡ with_at n (Some x) (λ i. entry_of (old i)) j

@@ -57,12 +57,13 @@ module _ {T S : Type 0} (key : T → ℕ) (unit : S) (op : S → S → S) (of : 
         sum = op (sum_of unit v.left) (op (of v.entry) (sum_of unit v.right));
       }
 
-  -- the link k is what the node n becomes
+  -- the link k is what the node n becomes, which stays as it is where its sides are level
   abbrev pub IsSettled : Store T S → Store T S → ℕ → Link S → Type 0
   IsSettled old new n k =
       (v : Stored T S) → old n ≡ Some v →
       IsJoined key unit op of old new n v.left v.entry v.right k ×
-      IsHeightAfter (height_of v.left) (height_of v.right) k.height
+      IsHeightAfter (height_of v.left) (height_of v.right) k.height ×
+      (DifferByAtMost 1 (height_of v.left) (height_of v.right) → new ≡ old)
 
   -- a side, whose root is `child`, is settled and put on its side of the node n: whether the link
   -- is another one than the node has had there
@@ -245,8 +246,3 @@ abbrev pub HasSide : {T S : Type 0} → Store T S → ℕ → Side → Link S �
 HasSide {T = T} {S = S} s n side k b =
     (v : Stored T S) → s n ≡ Some v →
     (b ≡ true → on_side side v ≡ Some k) × (on_side side v ≡ Some k → b ≡ true)
-
--- the entry of a node
-abbrev pub entry_below : {T S : Type 0} → Option (Stored T S) → Option T
-entry_below None = None
-entry_below (Some v) = Some v.entry

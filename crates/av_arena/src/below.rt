@@ -6,8 +6,8 @@
 // A step to either side is one function, in line and called with a constant, so that no side is
 // kept over the call below.
 ghost use Rattle.std.specs.Prelude.{◌≡◌, true, false, IsSome, None, Some};
-ghost use Rattle.av_arena.specs.Arena.{store_of};
-ghost use Rattle.av_arena.specs.Below.{HasKeyBelow, IsAt, IsBeside, IsBetween, IsHung, IsJoinBelowFor, IsJoinedBelow, IsLevelAt, IsPlaceBelow, IsPlacedBelow, IsRemovedBelow, IsReplacedBelow, IsSettled, IsSideFor, IsSideSettled, IsSideTaken, IsSplitBelow, IsSplitBelowFor, IsTaken, IsTold, IsUnsettled, HasSide, child_number, entry_below, number_of};
+ghost use Rattle.av_arena.specs.Arena.{KeepsEntries, PutsEntry, store_of};
+ghost use Rattle.av_arena.specs.Below.{HasKeyBelow, IsAt, IsBeside, IsBetween, IsHung, IsJoinBelowFor, IsJoinedBelow, IsLevelAt, IsPlaceBelow, IsPlacedBelow, IsRemovedBelow, IsReplacedBelow, IsSettled, IsSideFor, IsSideSettled, IsSideTaken, IsSplitBelow, IsSplitBelowFor, IsTaken, IsTold, IsUnsettled, HasSide, child_number, number_of};
 
 use crate::arena::Arena;
 use crate::entry::Entry;
@@ -39,12 +39,14 @@ fn link_at<T: Entry>(arena: &Arena<T, T::Sum>, number: u64) -> Link<T::Sum>
     }
 }
 
-/// What becomes of a node whose sides differ by two levels at most.
+/// What becomes of a node whose sides differ by two levels at most. Where they are level it stays
+/// as it is.
 #[inline(always)]
 pub fn settle<T: Entry>(arena: &mut Arena<T, T::Sum>, number: u64) -> Link<T::Sum>
     requires { IsUnsettled T.key T.unit T.op T.of 2 (store_of arena.old) number }
-    ensures { IsSettled T.key T.unit T.op T.of (store_of arena.old) (store_of arena.new) number
-        result }
+    ensures settled { IsSettled T.key T.unit T.op T.of (store_of arena.old) (store_of arena.new)
+        number result }
+    ensures kept { KeepsEntries (store_of arena.old) (store_of arena.new) }
 {
     if is_level(arena, number) {
         return link_at(arena, number);
@@ -61,6 +63,7 @@ fn rotate<T: Entry>(arena: &mut Arena<T, T::Sum>, number: u64) -> Link<T::Sum>
     ensures settled { IsSettled T.key T.unit T.op T.of (store_of arena.old) (store_of arena.new)
         number result }
     ensures other { result.number ≡ number → ⊥ }
+    ensures kept { KeepsEntries (store_of arena.old) (store_of arena.new) }
 {
     let Stored { left, entry, right } = arena.get(number);
     balance(arena, number, left, entry, right)
@@ -73,8 +76,9 @@ fn turn_side<T: Entry>(arena: &mut Arena<T, T::Sum>, number: u64, child: u64, si
     requires child { IsUnsettled T.key T.unit T.op T.of 2 (store_of arena.old) child }
     requires uneven { IsLevelAt T.key T.unit T.op T.of (store_of arena.old) child false }
     requires used { IsSome (store_of arena.old number) }
-    ensures { IsSideSettled T.key T.unit T.op T.of side (store_of arena.old) (store_of arena.new)
-        number child result }
+    ensures settled { IsSideSettled T.key T.unit T.op T.of side (store_of arena.old)
+        (store_of arena.new) number child result }
+    ensures kept { KeepsEntries (store_of arena.old) (store_of arena.new) }
 {
     let link = rotate(arena, child);
     arena.set_side(number, side, Some(link));
@@ -100,8 +104,9 @@ fn has_side<T: Entry>(arena: &Arena<T, T::Sum>, number: u64, link: Link<T::Sum>,
 fn settle_side<T: Entry>(arena: &mut Arena<T, T::Sum>, number: u64, child: u64, side: Side) -> bool
     requires child { IsUnsettled T.key T.unit T.op T.of 2 (store_of arena.old) child }
     requires used { IsSome (store_of arena.old number) }
-    ensures { IsSideSettled T.key T.unit T.op T.of side (store_of arena.old) (store_of arena.new)
-        number child result }
+    ensures settled { IsSideSettled T.key T.unit T.op T.of side (store_of arena.old)
+        (store_of arena.new) number child result }
+    ensures kept { KeepsEntries (store_of arena.old) (store_of arena.new) }
 {
     if !is_level(arena, child) {
         return turn_side(arena, number, child, side);
@@ -120,8 +125,9 @@ fn hang<T: Entry>(arena: &mut Arena<T, T::Sum>, number: u64, new: u64, entry: &T
     requires used { IsSome (store_of arena.old number) }
     requires empty { child_number side (store_of arena.old number) ≡ None }
     requires new { IsSome (store_of arena.old new) }
-    ensures { IsHung T.key T.unit T.op T.of side (store_of arena.old) (store_of arena.new) number
-        new entry.now }
+    ensures hung { IsHung T.key T.unit T.op T.of side (store_of arena.old) (store_of arena.new)
+        number new entry.now }
+    ensures put { PutsEntry (store_of arena.old) (store_of arena.new) new entry.now }
 {
     let link = close(arena, new, None, *entry, None);
     arena.set_side(number, side, Some(link));
@@ -191,8 +197,9 @@ pub fn placed_below<T: Entry>(
     entry: &T,
 ) -> bool
     requires { IsPlaceBelow T.key T.unit T.op T.of (store_of arena.old) number new entry.now }
-    ensures { IsPlacedBelow T.key T.unit T.op T.of (store_of arena.old) (store_of arena.new) number
-        new entry.now result }
+    ensures placed { IsPlacedBelow T.key T.unit T.op T.of (store_of arena.old) (store_of arena.new)
+        number new entry.now result }
+    ensures put { PutsEntry (store_of arena.old) (store_of arena.new) new entry.now }
 {
     match side_for(arena, number, entry) {
         Side::Left => placed_on(arena, number, new, entry, Side::Left),
@@ -212,8 +219,9 @@ fn placed_on<T: Entry>(
 ) -> bool
     requires place { IsPlaceBelow T.key T.unit T.op T.of (store_of arena.old) number new entry.now }
     requires side { IsSideFor T.key T.unit T.op T.of (store_of arena.old) number entry.now side }
-    ensures { IsPlacedBelow T.key T.unit T.op T.of (store_of arena.old) (store_of arena.new) number
-        new entry.now result }
+    ensures placed { IsPlacedBelow T.key T.unit T.op T.of (store_of arena.old) (store_of arena.new)
+        number new entry.now result }
+    ensures put { PutsEntry (store_of arena.old) (store_of arena.new) new entry.now }
 {
     let Some(child) = child_of(arena, number, side) else {
         hang(arena, number, new, entry, side);
@@ -277,8 +285,9 @@ pub fn is_at<T: Entry>(arena: &Arena<T, T::Sum>, number: u64, like: &T) -> bool
 pub fn take<T: Entry>(arena: &mut Arena<T, T::Sum>, number: u64, like: &T) -> Option<Link<T::Sum>>
     requires there { HasKeyBelow T.key T.unit T.op T.of (store_of arena.old) number like.now }
     requires same { IsAt T.key T.unit T.op T.of (store_of arena.old) number like.now true }
-    ensures { IsTaken T.key T.unit T.op T.of (store_of arena.old) (store_of arena.new) number
+    ensures taken { IsTaken T.key T.unit T.op T.of (store_of arena.old) (store_of arena.new) number
         like.now result }
+    ensures kept { KeepsEntries (store_of arena.old) (store_of arena.new) }
 {
     let node = arena.get(number);
     let Stored {
@@ -300,8 +309,9 @@ fn take_child<T: Entry>(arena: &mut Arena<T, T::Sum>, number: u64, child: u64, l
     requires used { IsSome (store_of arena.old number) }
     requires there { HasKeyBelow T.key T.unit T.op T.of (store_of arena.old) child like.now }
     requires same { IsAt T.key T.unit T.op T.of (store_of arena.old) child like.now true }
-    ensures { IsSideTaken T.key T.unit T.op T.of side (store_of arena.old) (store_of arena.new)
-        number child like.now }
+    ensures taken { IsSideTaken T.key T.unit T.op T.of side (store_of arena.old)
+        (store_of arena.new) number child like.now }
+    ensures kept { KeepsEntries (store_of arena.old) (store_of arena.new) }
 {
     let rest = take(arena, child, like);
     arena.set_side(number, side, rest);
@@ -315,8 +325,8 @@ pub fn removed_below<T: Entry>(arena: &mut Arena<T, T::Sum>, number: u64, like: 
     requires other { IsAt T.key T.unit T.op T.of (store_of arena.old) number like.now false }
     ensures removed { IsRemovedBelow T.key T.unit T.op T.of (store_of arena.old)
         (store_of arena.new) number like.now result.0 result.1 }
-    ensures entry { entry_below (store_of arena.new number)
-        ≡ entry_below (store_of arena.old number) }
+    ensures node { IsAt T.key T.unit T.op T.of (store_of arena.old) result.0 like.now true }
+    ensures kept { KeepsEntries (store_of arena.old) (store_of arena.new) }
 {
     match side_for(arena, number, like) {
         Side::Left => removed_on(arena, number, like, Side::Left),
@@ -338,8 +348,8 @@ fn removed_on<T: Entry>(
     requires side { IsSideFor T.key T.unit T.op T.of (store_of arena.old) number like.now side }
     ensures removed { IsRemovedBelow T.key T.unit T.op T.of (store_of arena.old)
         (store_of arena.new) number like.now result.0 result.1 }
-    ensures entry { entry_below (store_of arena.new number)
-        ≡ entry_below (store_of arena.old number) }
+    ensures node { IsAt T.key T.unit T.op T.of (store_of arena.old) result.0 like.now true }
+    ensures kept { KeepsEntries (store_of arena.old) (store_of arena.new) }
 {
     let Some(child) = child_of(arena, number, side) else {
         unreachable!()

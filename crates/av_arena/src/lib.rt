@@ -7,8 +7,12 @@
 //!
 //! Proved: `insert`, `remove`, `replace`, `split` and `join` make exactly the list that the keys
 //! call for, all stays where memory is wanting, the sides of each node differ by one level at most,
-//! each summary is that of the entries below, and no node is lost: what is in use is the tree's. A
-//! change goes down once, by the numbers of nodes, and comes up to where a link stays. Each step
+//! each summary is that of the entries below, and no node is lost: what is in use is the tree's. An
+//! entry keeps its number: `place` puts its own under the number that it is given, `remove` answers
+//! that of the entry with the key, and under each other number stands what stood there, whatever is
+//! rotated. A node whose sides are level stays as it is.
+//!
+//! A change goes down once, by the numbers of nodes, and comes up to where a link stays. Each step
 //! says whether its root is stored otherwise than before, exactly but where the root itself gets an
 //! entry. That nothing above is written then is not proved: no clause counts writes.
 #![tactic(auto)]

@@ -1,8 +1,8 @@
 ghost use Rattle.std.specs.Prelude.{◌≡◌, ◌+◌, ◌^◌, ◌<◌, ◌≤◌, max, true, Some, IsSome};
 ghost use Rattle.av_arena.specs.Order.{without_key};
 ghost use Rattle.av_arena.specs.Tree.{DifferByAtMost, IsHeightAfter, HasKey, IsHeld, IsJoined, IsOpened, IsPlaceFor, IsPlaced, IsPopped, IsReplaced, IsRoot, IsRootAfter, IsSet, IsSpot, IsWithout, sum_of, height_of, tree_at, entries};
-ghost use Rattle.av_arena.specs.Arena.{store_of};
-ghost use Rattle.av_arena.specs.Below.{IsJoinFor, IsJoinedAt, IsSplit, IsSplitFor};
+ghost use Rattle.av_arena.specs.Arena.{KeepsEntries, PutsEntry, entry_of, store_of};
+ghost use Rattle.av_arena.specs.Below.{IsAt, IsJoinFor, IsJoinedAt, IsSplit, IsSplitFor};
 
 use crate::arena::Arena;
 use crate::below::{
@@ -54,6 +54,7 @@ pub fn close<T: Entry>(
     ensures set { IsSet T.key T.unit T.op T.of (store_of arena.old) (store_of arena.new) number left
         entry right result }
     ensures height { result.height ≡ max (height_of left) (height_of right) + 1 }
+    ensures put { PutsEntry (store_of arena.old) (store_of arena.new) number entry }
 {
     let level = height(left).max(height(right)) + 1;
     let total = T::join_sums(sum::<T>(left), &entry, sum::<T>(right));
@@ -89,6 +90,7 @@ fn lean_left<T: Entry>(
     ensures not_lower { left.height ≤ result.height }
     ensures at_most_one_higher { result.height ≤ left.height + 1 }
     ensures other { result.number ≡ number → ⊥ }
+    ensures put { PutsEntry (store_of arena.old) (store_of arena.new) number entry }
 {
     let side = open(arena, left);
     let Stored {
@@ -131,6 +133,7 @@ fn lean_right<T: Entry>(
     ensures not_lower { right.height ≤ result.height }
     ensures at_most_one_higher { result.height ≤ right.height + 1 }
     ensures other { result.number ≡ number → ⊥ }
+    ensures put { PutsEntry (store_of arena.old) (store_of arena.new) number entry }
 {
     let side = open(arena, right);
     let Stored {
@@ -172,6 +175,7 @@ pub fn balance<T: Entry>(
         number left entry right result }
     ensures height { IsHeightAfter (height_of left) (height_of right) result.height }
     ensures root { IsRootAfter (height_of left) (height_of right) number result.number }
+    ensures put { PutsEntry (store_of arena.old) (store_of arena.new) number entry }
 {
     let (before, after) = (height(left), height(right));
     if before > after + 1 {
@@ -223,6 +227,7 @@ fn with_left<T: Entry>(
     ensures joined { IsJoined T.key T.unit T.op T.of (store_of arena.old) (store_of arena.new)
         tree.number left entry right result }
     ensures height { IsHeightAfter (height_of left) (height_of right) result.height }
+    ensures kept { KeepsEntries (store_of arena.old) (store_of arena.new) }
 {
     let node = arena.get(tree.number);
     let Stored {
@@ -245,7 +250,8 @@ fn with_left<T: Entry>(
     }
 }
 
-/// The tree with the node `number`, which is in use and not in it, for the entry.
+/// The tree with the node `number`, which is in use and not in it, for the entry. Each other entry
+/// keeps its number.
 pub fn place<T: Entry>(
     arena: &mut Arena<T, T::Sum>,
     tree: Option<Link<T::Sum>>,
@@ -258,6 +264,7 @@ pub fn place<T: Entry>(
         number entry result }
     ensures not_lower { height_of tree ≤ result.height }
     ensures at_most_one_higher { result.height ≤ height_of tree + 1 }
+    ensures put { PutsEntry (store_of arena.old) (store_of arena.new) number entry }
 {
     let Some(tree) = tree else {
         return close(arena, number, None, entry, None);
@@ -279,6 +286,8 @@ pub fn pop_first<T: Entry>(
         result.0 result.1 result.2 }
     ensures not_higher { height_of result.2 ≤ tree.height }
     ensures at_most_one_lower { tree.height ≤ height_of result.2 + 1 }
+    ensures node { entry_of (store_of arena.old result.0) ≡ Some result.1 }
+    ensures kept { KeepsEntries (store_of arena.old) (store_of arena.new) }
 {
     let node = open(arena, tree);
     let Stored {
@@ -294,7 +303,7 @@ pub fn pop_first<T: Entry>(
     (number, entry, Some(whole))
 }
 
-/// The number of the node with the key of `like`, and a tree of the others.
+/// The number of the node with the key of `like`, and a tree of the others, which keep theirs.
 pub fn remove<T: Entry>(
     arena: &mut Arena<T, T::Sum>,
     tree: Option<Link<T::Sum>>,
@@ -307,6 +316,8 @@ pub fn remove<T: Entry>(
         result.1 }
     ensures not_higher { height_of result.1 ≤ height_of tree }
     ensures at_most_one_lower { height_of tree ≤ height_of result.1 + 1 }
+    ensures node { IsAt T.key T.unit T.op T.of (store_of arena.old) result.0 like true }
+    ensures kept { KeepsEntries (store_of arena.old) (store_of arena.new) }
 {
     let Some(tree) = tree else { unreachable!() };
     if is_at(arena, tree.number, &like) {

@@ -2,9 +2,18 @@
 //!
 //! Proved: what a call of a source or a sink takes, gives and counts, by the traits `Source` and
 //! `Sink`, and whether a sink's last call failed; for those in memory also which calls fail,
-//! exactly; over a writer that memory is never wanting. What passes through a real reader or writer
-//! is not told but where its bytes are known: that it does is only tested. How often a reader or a
-//! writer is asked is no clause.
+//! exactly; over a writer that memory is never wanting.
+//!
+//! Over a reader or a writer whose bytes are known, what passes is exact: a source gives the next
+//! ones and loses none, and what a sink took is what the writer holds then, with what is kept back
+//! for it behind that; after a flush that succeeds nothing is kept back. Of a real one no bytes are
+//! known: that they pass is only tested.
+//!
+//! A sink over a writer takes a piece for which there is room whole, and doesn't ask the writer then.
+//! Not proved, since the clauses of std's readers and writers don't tell when they fail: that a
+//! source's read, a flush, or a write for which there is no room fails only where the reader or the
+//! writer does, and how often that is asked. So a body that fails there without asking, or tries
+//! again where nothing was taken, meets the clauses.
 #![tactic(auto)]
 
 mod faults;

@@ -59,4 +59,4 @@ pub joined_on-settle_side-requires-clause-used : goal.joined_on-settle_side-requ
 joined_on-settle_side-requires-clause-used g t c = (stepped g t (goal.at.joined_on-settle_side-requires-clause-used g t c).After-joined_below-out).used
 
 pub joined_on-returns : goal.joined_on-returns
-joined_on-returns g t c = (stepped g t (goal.at.joined_on-returns g t c).After-joined_below-out).settled _ _ c.settle_side.ensures
+joined_on-returns g t c = (stepped g t (goal.at.joined_on-returns g t c).After-joined_below-out).settled _ _ c.settle_side.ensures.settled

@@ -1,3 +1,4 @@
+use Rattle.av_arena.proofs.Entries.{keeps_keeps}
 use Rattle.std.proofs.Common.{rules, ◌≡◌, ℕ, None, Some, false, sym, ◌∙◌, subst}
 use Rattle.av_arena.specs.Arena.{store_of}
 use Rattle.av_arena.specs.Below.{IsAt, child_number}
@@ -20,15 +21,7 @@ removed_on-returns-then-is_at-clause-removed g t c =
     let s = store_of c.args.arena.now in
     let at : child_number c.args.side (s c.args.number) ≡ Some c.in-Some.child = sym c.child_of.ensures ∙ c.in-Some.is in
     (cut m.key m.unit m.op m.of g.met.T.Entry.laws c.args.side s (store_of c.take_child.new.arena) c.args.number c.in-Some.child c.args.like.now at
-    c.requires.other c.requires.side c.requires.there c.take_child.ensures).removed
-
-pub removed_on-returns-then-is_at-clause-entry : goal.removed_on-returns-then-is_at-clause-entry
-removed_on-returns-then-is_at-clause-entry g t c =
-    let m = g.T.Entry in
-    let s = store_of c.args.arena.now in
-    let at : child_number c.args.side (s c.args.number) ≡ Some c.in-Some.child = sym c.child_of.ensures ∙ c.in-Some.is in
-    (cut m.key m.unit m.op m.of g.met.T.Entry.laws c.args.side s (store_of c.take_child.new.arena) c.args.number c.in-Some.child c.args.like.now at
-    c.requires.other c.requires.side c.requires.there c.take_child.ensures).entry
+    c.requires.other c.requires.side c.requires.there c.take_child.ensures.taken)
 
 pub removed_on-unreachable-requires : goal.removed_on-unreachable-requires
 removed_on-unreachable-requires g t c =
@@ -63,10 +56,6 @@ pub removed_on-returns-then-not-changed-clause-removed : goal.removed_on-returns
 removed_on-returns-then-not-changed-clause-removed g t c =
     (stepped g t (goal.at.removed_on-returns-then-not-changed-clause-removed g t c).After-removed_below-out).same (search rules)
 
-pub removed_on-returns-then-not-changed-clause-entry : goal.removed_on-returns-then-not-changed-clause-entry
-removed_on-returns-then-not-changed-clause-entry g t c =
-    (stepped g t (goal.at.removed_on-returns-then-not-changed-clause-entry g t c).After-removed_below-out).entry
-
 pub removed_on-settle_side-requires-clause-child : goal.removed_on-settle_side-requires-clause-child
 removed_on-settle_side-requires-clause-child g t c = (stepped g t (goal.at.removed_on-settle_side-requires-clause-child g t c).After-removed_below-out).ready
 
@@ -75,8 +64,11 @@ removed_on-settle_side-requires-clause-used g t c = (stepped g t (goal.at.remove
 
 pub removed_on-returns-clause-removed : goal.removed_on-returns-clause-removed
 removed_on-returns-clause-removed g t c =
-    (stepped g t (goal.at.removed_on-returns-clause-removed g t c).After-removed_below-out).settled _ _ c.settle_side.ensures
+    (stepped g t (goal.at.removed_on-returns-clause-removed g t c).After-removed_below-out).settled _ _ c.settle_side.ensures.settled
 
-pub removed_on-returns-clause-entry : goal.removed_on-returns-clause-entry
-removed_on-returns-clause-entry g t c =
-    (stepped g t (goal.at.removed_on-returns-clause-entry g t c).After-removed_below-out).settled_entry _ _ c.settle_side.ensures
+pub removed_on-returns-then-is_at-clause-node : goal.removed_on-returns-then-is_at-clause-node
+removed_on-returns-then-is_at-clause-node g t c = subst (IsAt g.T.Entry.key g.T.Entry.unit g.T.Entry.op g.T.Entry.of (store_of c.args.arena.now) c.in-Some.child c.args.like.now)
+    c.if-is_at.true c.is_at.ensures
+
+pub removed_on-returns-clause-kept : goal.removed_on-returns-clause-kept
+removed_on-returns-clause-kept g t c = keeps_keeps _ _ _ c.removed_below-out.ensures.kept c.settle_side.ensures.kept

@@ -68,4 +68,4 @@ pub replaced_on-settle_side-requires-clause-used : goal.replaced_on-settle_side-
 replaced_on-settle_side-requires-clause-used g t c = (stepped g t (goal.at.replaced_on-settle_side-requires-clause-used g t c).After-replaced_below).used
 
 pub replaced_on-returns : goal.replaced_on-returns
-replaced_on-returns g t c = (stepped g t (goal.at.replaced_on-returns g t c).After-replaced_below).settled _ _ c.settle_side.ensures
+replaced_on-returns g t c = (stepped g t (goal.at.replaced_on-returns g t c).After-replaced_below).settled _ _ c.settle_side.ensures.settled

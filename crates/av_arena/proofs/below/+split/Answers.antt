@@ -44,7 +44,7 @@ split_below-returns-in-None g t c =
     c.set_entry.ensures in
     split_at m.key m.unit m.op m.of g.met.T.Entry.laws s (store_of c.set_entry.new.self) (store_of c.placed_below.new.arena) c.args.number c.args.new
     c.args.lower.now c.args.upper.now _ between r
-    c.placed_below.ensures
+    c.placed_below.ensures.placed
 
 pub split_on-unreachable-requires : goal.split_on-unreachable-requires
 split_on-unreachable-requires g t c =
@@ -84,4 +84,4 @@ pub split_on-settle_side-requires-clause-used : goal.split_on-settle_side-requir
 split_on-settle_side-requires-clause-used g t c = (stepped g t (goal.at.split_on-settle_side-requires-clause-used g t c).After-split_below).used
 
 pub split_on-returns : goal.split_on-returns
-split_on-returns g t c = (stepped g t (goal.at.split_on-returns g t c).After-split_below).settled _ _ c.settle_side.ensures
+split_on-returns g t c = (stepped g t (goal.at.split_on-returns g t c).After-split_below).settled _ _ c.settle_side.ensures.settled

@@ -1,12 +1,13 @@
-use Rattle.std.proofs.Common.{rules, ◌≡◌, None, ap, subst, arith}
+use Rattle.av_arena.proofs.Entries.{keeps_keeps, put_own}
+use Rattle.std.proofs.Common.{rules, ◌≡◌, None, ap, subst, arith, refl, ◌∙◌}
 use Rattle.av_arena.specs.Arena.{store_of}
 use Rattle.av_arena.specs.Tree.{IsHeld, height_of}
 use Rattle.av_arena.proofs.TreeLemmas.{removed_middle_ready}
 use Rattle.av_arena.proofs.BelowLemmas.{opened_at, taken_last, taken_middle}
 use Rattle.av_arena.proofs.below.take.Goals as goal
 
-pub returns-in_default : goal.returns-in_default
-returns-in_default g c =
+pub returns-in_default-clause-taken : goal.returns-in_default-clause-taken
+returns-in_default-clause-taken g c =
     let m = g.T.Entry in
     let none : c.get-node.result.right ≡ None = search rules in
     taken_last m.key m.unit m.op m.of g.met.T.Entry.laws (store_of c.args.arena.now) c.args.number c.get-node.result c.args.like.now
@@ -65,10 +66,18 @@ balance-whole-requires-clause-low g c =
     let a = c.pop_first-first.ensures.not_higher in
     omega arith
 
-pub returns : goal.returns
-returns g c =
+pub returns-clause-taken : goal.returns-clause-taken
+returns-clause-taken g c =
     let m = g.T.Entry in
     let p = c.pop_first-first in
     taken_middle m.key m.unit m.op m.of g.met.T.Entry.laws (store_of c.args.arena.now) (store_of p.new.arena) (store_of c.balance-whole.new.arena) c.args.number
     c.get-node.result c.args.like.now c.in-Some.right p.result.0 p.result.1 p.result.2 c.balance-whole.result c.get-node.ensures c.requires.same c.in-Some.is
     p.ensures.popped p.ensures.not_higher p.ensures.at_most_one_lower c.balance-whole.ensures.joined c.balance-whole.ensures.height
+
+pub returns-in_default-clause-kept : goal.returns-in_default-clause-kept
+returns-in_default-clause-kept g c = λ j. refl
+
+pub returns-clause-kept : goal.returns-clause-kept
+returns-clause-kept g c =
+    let p = c.pop_first-first in
+    keeps_keeps _ _ _ p.ensures.kept (put_own _ _ p.result.0 _ c.balance-whole.ensures.put (p.ensures.kept p.result.0 ∙ p.ensures.node))

@@ -1,5 +1,6 @@
-use Rattle.std.proofs.Common.{rules, ap, arith}
-use Rattle.av_arena.specs.Arena.{store_of}
+use Rattle.av_arena.proofs.Entries.{keeps_keeps}
+use Rattle.std.proofs.Common.{rules, ap, arith, refl}
+use Rattle.av_arena.specs.Arena.{store_of, entry_of}
 use Rattle.av_arena.specs.Tree.{height_of}
 use Rattle.av_arena.proofs.TreeLemmas.{popped_first, popped_ready, popped_later, popped_root}
 use Rattle.av_arena.proofs.tree.+pop_first.Goals as goal
@@ -39,3 +40,12 @@ with_left-whole-requires-clause-low g t c = let e = ap height_of c.in-Some.is in
 
 pub returns-in_default-clause-not_higher : goal.returns-in_default-clause-not_higher
 returns-in_default-clause-not_higher g t c = omega arith
+
+pub returns-in_default-clause-node : goal.returns-in_default-clause-node
+returns-in_default-clause-node g t c = ap entry_of c.open-node.ensures.root.stored
+
+pub returns-in_default-clause-kept : goal.returns-in_default-clause-kept
+returns-in_default-clause-kept g t c = λ j. refl
+
+pub returns-clause-kept : goal.returns-clause-kept
+returns-clause-kept g t c = keeps_keeps _ _ _ c.pop_first-number.ensures.kept c.with_left-whole.ensures.kept

@@ -33,4 +33,4 @@ pub settle-whole-requires : goal.settle-whole-requires
 settle-whole-requires g c = (after_call g (goal.at.settle-whole-requires g c).After-joined_below-number).ready
 
 pub returns : goal.returns
-returns g c = ((after_call g (goal.at.returns g c).After-joined_below-number).settled _ _ c.settle-whole.ensures).tree
+returns g c = ((after_call g (goal.at.returns g c).After-joined_below-number).settled _ _ c.settle-whole.ensures.settled).tree

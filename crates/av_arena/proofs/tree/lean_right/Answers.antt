@@ -1,5 +1,6 @@
+use Rattle.av_arena.proofs.Entries.{puts_other}
 use Rattle.std.proofs.Common.{rules, sym, ap, ◌∙◌, arith}
-use Rattle.av_arena.specs.Arena.{store_of}
+use Rattle.av_arena.specs.Arena.{store_of, entry_of}
 use Rattle.av_arena.specs.Tree.{height_of}
 use Rattle.av_arena.proofs.TreeLemmas.{other_right, other_right_left, set_root, still_used, turned_left, turned_right_left}
 use Rattle.av_arena.proofs.tree.lean_right.Goals as goal
@@ -71,3 +72,20 @@ returns-clause-not_lower g c = let e = ap height_of c.in-Some.is in omega arith
 
 pub returns-clause-at_most_one_higher : goal.returns-clause-at_most_one_higher
 returns-clause-at_most_one_higher g c = let e = ap height_of c.in-Some.is in omega arith
+
+pub returns-then-height-clause-put : goal.returns-then-height-clause-put
+returns-then-height-clause-put g c =
+    let m = g.T.Entry in
+    puts_other _ _ _ c.args.number c.args.right.number _ _ c.close-low.ensures.put
+    (other_right m.key m.unit m.op m.of g.met.T.Entry.laws _ _ _ _ _ c.requires.spot c.open-side.ensures) (ap entry_of c.open-side.ensures.root.stored)
+    c.close.ensures.put
+
+pub returns-clause-put : goal.returns-clause-put
+returns-clause-put g c =
+    let m = g.T.Entry in
+    puts_other _ _ _ c.args.number c.in-Some.middle.number _ _
+    (puts_other _ _ _ c.args.number c.args.right.number _ _ c.close-before.ensures.put
+    (other_right m.key m.unit m.op m.of g.met.T.Entry.laws _ _ _ _ _ c.requires.spot c.open-side.ensures) (ap entry_of c.open-side.ensures.root.stored)
+    c.close-after.ensures.put)
+    (other_right_left m.key m.unit m.op m.of g.met.T.Entry.laws _ _ _ _ _ _ _ c.requires.spot c.open-side.ensures c.in-Some.is c.open-inner.ensures)
+    (ap entry_of c.open-inner.ensures.root.stored) c.close-2.ensures.put

@@ -1,3 +1,4 @@
+use Rattle.av_arena.proofs.Entries.{puts_keeps}
 use Rattle.std.proofs.Common.{rules, ◌≡◌, ◌+◌, None, sym, subst, ap, arith}
 use Rattle.av_arena.specs.Arena.{store_of}
 use Rattle.av_arena.specs.Order.{with_entry}
@@ -33,7 +34,7 @@ after_call g c =
     let s = store_of c.args.arena.now in
     called m.key m.unit m.op m.of g.met.T.Entry.laws (λ k. IsPlaceFor m.key m.unit m.op m.of s k c.args.number c.args.entry) (with_entry m.key c.args.entry)
     (λ f j. is c.args.number j + f j) none 0 1 s _ _ _ _
-    c.in-Some.is c.requires.place c.requires.place.held c.requires.low c.placed_below.ensures
+    c.in-Some.is c.requires.place c.requires.place.held c.requires.low c.placed_below.ensures.placed
 
 pub returns-then-not-placed_below-clause-placed : goal.returns-then-not-placed_below-clause-placed
 returns-then-not-placed_below-clause-placed g c =
@@ -43,18 +44,21 @@ pub settle-requires : goal.settle-requires
 settle-requires g c = (after_call g (goal.at.settle-requires g c).After-placed_below).ready
 
 pub returns-clause-placed : goal.returns-clause-placed
-returns-clause-placed g c = ((after_call g (goal.at.returns-clause-placed g c).After-placed_below).settled _ _ c.settle.ensures).tree
+returns-clause-placed g c = ((after_call g (goal.at.returns-clause-placed g c).After-placed_below).settled _ _ c.settle.ensures.settled).tree
 
 pub returns-clause-not_lower : goal.returns-clause-not_lower
 returns-clause-not_lower g c =
-    let d = (after_call g (goal.at.returns-clause-not_lower g c).After-placed_below).settled _ _ c.settle.ensures in
+    let d = (after_call g (goal.at.returns-clause-not_lower g c).After-placed_below).settled _ _ c.settle.ensures.settled in
     let h = ap height_of c.in-Some.is in
     let n = d.not_lower in
     omega arith
 
 pub returns-clause-at_most_one_higher : goal.returns-clause-at_most_one_higher
 returns-clause-at_most_one_higher g c =
-    let d = (after_call g (goal.at.returns-clause-at_most_one_higher g c).After-placed_below).settled _ _ c.settle.ensures in
+    let d = (after_call g (goal.at.returns-clause-at_most_one_higher g c).After-placed_below).settled _ _ c.settle.ensures.settled in
     let h = ap height_of c.in-Some.is in
     let n = d.not_higher in
     omega arith
+
+pub returns-clause-put : goal.returns-clause-put
+returns-clause-put g c = puts_keeps _ _ _ c.args.number _ c.placed_below.ensures.put c.settle.ensures.kept

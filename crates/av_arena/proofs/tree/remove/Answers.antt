@@ -1,3 +1,5 @@
+use Rattle.av_arena.proofs.Entries.{keeps_keeps}
+use Rattle.av_arena.specs.Below.{IsAt}
 use Rattle.std.proofs.Common.{rules, refl, sym, subst, ap, arith}
 use Rattle.av_arena.specs.Arena.{store_of}
 use Rattle.av_arena.specs.Order.{without_key}
@@ -18,7 +20,7 @@ returns-then-is_at-clause-removed g c =
     let s = store_of c.args.arena.now in
     let k = c.in-Some.tree in
     let p = subst (λ o. HasKey m.key m.unit m.op m.of s o c.args.like) c.in-Some.is c.requires.there in
-    let w = c.take-rest.ensures k refl p in
+    let w = c.take-rest.ensures.taken k refl p in
     subst (λ o. IsWithout m.key m.unit m.op m.of s (store_of c.take-rest.new.arena) o (without_key m.key (m.key c.args.like) (entries_at s o)) k.number
     c.take-rest.result) (sym c.in-Some.is) w.0
 
@@ -26,7 +28,7 @@ pub returns-then-is_at-clause-not_higher : goal.returns-then-is_at-clause-not_hi
 returns-then-is_at-clause-not_higher g c =
     let m = g.T.Entry in
     let p = subst (λ o. HasKey m.key m.unit m.op m.of (store_of c.args.arena.now) o c.args.like) c.in-Some.is c.requires.there in
-    let w = c.take-rest.ensures c.in-Some.tree refl p in
+    let w = c.take-rest.ensures.taken c.in-Some.tree refl p in
     let a = w.1.0 in
     let h = ap height_of c.in-Some.is in
     omega arith
@@ -35,7 +37,7 @@ pub returns-then-is_at-clause-at_most_one_lower : goal.returns-then-is_at-clause
 returns-then-is_at-clause-at_most_one_lower g c =
     let m = g.T.Entry in
     let p = subst (λ o. HasKey m.key m.unit m.op m.of (store_of c.args.arena.now) o c.args.like) c.in-Some.is c.requires.there in
-    let w = c.take-rest.ensures c.in-Some.tree refl p in
+    let w = c.take-rest.ensures.taken c.in-Some.tree refl p in
     let a = w.1.1 in
     let h = ap height_of c.in-Some.is in
     omega arith
@@ -65,18 +67,28 @@ pub settle-whole-requires : goal.settle-whole-requires
 settle-whole-requires g c = (after_call g (goal.at.settle-whole-requires g c).After-removed_below-number).ready
 
 pub returns-clause-removed : goal.returns-clause-removed
-returns-clause-removed g c = ((after_call g (goal.at.returns-clause-removed g c).After-removed_below-number).settled _ _ c.settle-whole.ensures).tree
+returns-clause-removed g c = ((after_call g (goal.at.returns-clause-removed g c).After-removed_below-number).settled _ _ c.settle-whole.ensures.settled).tree
 
 pub returns-clause-not_higher : goal.returns-clause-not_higher
 returns-clause-not_higher g c =
-    let d = (after_call g (goal.at.returns-clause-not_higher g c).After-removed_below-number).settled _ _ c.settle-whole.ensures in
+    let d = (after_call g (goal.at.returns-clause-not_higher g c).After-removed_below-number).settled _ _ c.settle-whole.ensures.settled in
     let h = ap height_of c.in-Some.is in
     let n = d.not_higher in
     omega arith
 
 pub returns-clause-at_most_one_lower : goal.returns-clause-at_most_one_lower
 returns-clause-at_most_one_lower g c =
-    let d = (after_call g (goal.at.returns-clause-at_most_one_lower g c).After-removed_below-number).settled _ _ c.settle-whole.ensures in
+    let d = (after_call g (goal.at.returns-clause-at_most_one_lower g c).After-removed_below-number).settled _ _ c.settle-whole.ensures.settled in
     let h = ap height_of c.in-Some.is in
     let n = d.not_lower in
     omega arith
+
+pub returns-then-is_at-clause-node : goal.returns-then-is_at-clause-node
+returns-then-is_at-clause-node g c = subst (IsAt g.T.Entry.key g.T.Entry.unit g.T.Entry.op g.T.Entry.of (store_of c.args.arena.now) c.in-Some.tree.number c.args.like)
+    c.if-is_at.true c.is_at.ensures
+
+pub returns-clause-node : goal.returns-clause-node
+returns-clause-node g c = c.removed_below-number.ensures.node
+
+pub returns-clause-kept : goal.returns-clause-kept
+returns-clause-kept g c = keeps_keeps _ _ _ c.removed_below-number.ensures.kept c.settle-whole.ensures.kept

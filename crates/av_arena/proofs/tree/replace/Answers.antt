@@ -32,11 +32,11 @@ pub settle-requires : goal.settle-requires
 settle-requires g c = (after_call g (goal.at.settle-requires g c).After-replaced_below).ready
 
 pub returns-clause-replaced : goal.returns-clause-replaced
-returns-clause-replaced g c = ((after_call g (goal.at.returns-clause-replaced g c).After-replaced_below).settled _ _ c.settle.ensures).tree
+returns-clause-replaced g c = ((after_call g (goal.at.returns-clause-replaced g c).After-replaced_below).settled _ _ c.settle.ensures.settled).tree
 
 pub returns-clause-height : goal.returns-clause-height
 returns-clause-height g c =
-    let d = (after_call g (goal.at.returns-clause-height g c).After-replaced_below).settled _ _ c.settle.ensures in
+    let d = (after_call g (goal.at.returns-clause-height g c).After-replaced_below).settled _ _ c.settle.ensures.settled in
     let h = ap height_of c.in-Some.is in
     let n = d.not_higher in
     let l = d.not_lower in

@@ -33,4 +33,4 @@ pub settle-requires : goal.settle-requires
 settle-requires g c = (after_call g (goal.at.settle-requires g c).After-split_below).ready
 
 pub returns : goal.returns
-returns g c = ((after_call g (goal.at.returns g c).After-split_below).settled _ _ c.settle.ensures).tree
+returns g c = ((after_call g (goal.at.returns g c).After-split_below).settled _ _ c.settle.ensures.settled).tree

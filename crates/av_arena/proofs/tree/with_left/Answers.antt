@@ -1,5 +1,7 @@
-use Rattle.std.proofs.Common.{rules, ◌≡◌, sym, ap, ◌∙◌, subst}
-use Rattle.av_arena.specs.Arena.{store_of}
+use Rattle.av_arena.specs.declared.link.Side.TheVariants.{Left}
+use Rattle.av_arena.proofs.Entries.{put_own, side_keeps}
+use Rattle.std.proofs.Common.{rules, ◌≡◌, sym, ap, ◌∙◌, subst, refl}
+use Rattle.av_arena.specs.Arena.{store_of, entry_of}
 use Rattle.av_arena.specs.Tree.{height_of, sum_of, IsRoot}
 use Rattle.av_arena.specs.declared.link.Stored.{Stored}
 use Rattle.av_arena.proofs.TreeLemmas.{joined_same, left_set, node_is}
@@ -30,3 +32,12 @@ returns-clause-joined g c =
     (m.op (m.of w.entry) (sum_of m.unit w.right))) e sum in
     left_set m.key m.unit m.op m.of g.met.T.Entry.laws s (store_of c.set_side.new.self) c.args.tree c.args.own c.args.left c.args.entry c.args.right
     c.join_sums-total.result c.requires.root c.requires.spot c.set_side.ensures own total
+
+pub returns-then-is_same_link-clause-kept : goal.returns-then-is_same_link-clause-kept
+returns-then-is_same_link-clause-kept g c = λ j. refl
+
+pub returns-then-height-clause-kept : goal.returns-then-height-clause-kept
+returns-then-height-clause-kept g c = put_own _ _ c.args.tree.number _ c.balance.ensures.put (ap entry_of c.get-node.ensures)
+
+pub returns-clause-kept : goal.returns-clause-kept
+returns-clause-kept g c = side_keeps Left _ _ c.args.tree.number _ c.set_side.ensures

@@ -1,3 +1,4 @@
+use Rattle.std.proofs.Common.{rules}
 use Rattle.av_vma.specs.Areas.{area_of}
 use Rattle.av_anon.specs.Anons.{family}
 use Rattle.av_anon.specs.Spans.{spans_of}
@@ -10,5 +11,5 @@ returns-clause-kin c =
     c.clone_chain-result.ensures.spans (λ now is spanned.
     linked_keeps (area_of c.args.areas.now) (area_of c.clone_chain-result.new.areas) (area_of c.change.new.self) (family c.args.anons.now)
     (family c.clone_chain-result.new.self)
-    (spans_of c.args.anons.now) (spans_of c.clone_chain-result.new.self) c.args.number c.args.area c.requires.order spanned c.change.ensures c.args.other
-    c.requires.there c.requires.same_own now is)
+    (spans_of c.args.anons.now) (spans_of c.clone_chain-result.new.self) c.args.number c.args.area c.requires.order spanned c.change.ensures _
+    c.requires.there (search rules) now is)
