@@ -29,6 +29,7 @@ pub mod AreaExamples
 pub mod Faults
 pub mod SlotExamples
 pub mod SwapViewExamples
+pub mod SeveralExamples
 pub mod ListsExamples
 pub mod AnonExamples
 pub mod RowExamples

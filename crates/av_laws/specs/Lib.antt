@@ -1,12 +1,14 @@
 pub mod Determined
 pub mod Examples
 pub mod Pairs
+pub mod PassTurns
 pub mod Unsound
 pub mod ReadBack
 pub mod NeedsFrame
 pub mod Views
 pub mod Areas
 pub mod Slots
+pub mod Several
 pub mod Covered
 pub mod Homes
 pub mod Forks

@@ -15,6 +15,8 @@ mod homes;
 mod lines;
 mod mremap;
 mod pairs;
+mod pass_turns;
+mod several;
 mod slots;
 mod unsound;
 mod views;
@@ -81,6 +83,11 @@ pub use pairs::{
     changed_pairs_are_refused, faults_are_counted, ledgers_of_two_follow, loads_make_unclaimed,
     passes_run, two_pages_run,
 };
+pub use pass_turns::{
+    cached_frames_are_unmapped_and_written, frames_have_their_turns, pages_are_lost_behind_a_pass,
+    passes_end_with_a_free_frame,
+};
+pub use several::{all_areas_count, kept_frames_go_to_the_head, pages_are_at_their_own_slots};
 pub use slots::{
     areas_are_turned_on_anew, slots_are_given_in_turn, slots_come_back, the_first_area_gives,
 };

@@ -1,0 +1,36 @@
+//! Worked examples with several of a kind that differ: frames in lists, swap areas, pages of a
+//! device.
+
+ghost use Rattle.std.specs.Prelude.{◌≡◌, [], ◌∷◌, false};
+ghost use Rattle.av_trace.specs.declared.note.Note.TheVariants.{Kept};
+ghost use Rattle.av_trace.specs.declared.note.Cause.TheVariants.{Referenced, WriteStarted};
+ghost use Rattle.av_plain.specs.Event.{after_note};
+ghost use Rattle.av_plain.specs.Ledger.{is_full};
+ghost use Rattle.av_plain.specs.Report.{totals};
+ghost use Rattle.av_laws.specs.Examples.{cached_out, paged_out};
+ghost use Rattle.av_laws.specs.Several.{HoldWith, listed};
+ghost use Rattle.av_laws.specs.Slots.{lower_in_use, two_swaps};
+
+/// A frame that was referenced goes to the head of active, one whose write started to the head of
+/// inactive.
+pub fn kept_frames_go_to_the_head()
+    ensures to_active_head { after_note (Kept 5 Referenced) (listed (7 ∷ 8 ∷ []) (5 ∷ 6 ∷ []))
+        ≡ listed (5 ∷ 7 ∷ 8 ∷ []) (6 ∷ []) }
+    ensures started_to_head { after_note (Kept 6 WriteStarted) (listed (7 ∷ 8 ∷ []) (5 ∷ 6 ∷ []))
+        ≡ listed (7 ∷ 8 ∷ []) (6 ∷ 5 ∷ []) }
+{}
+
+/// All areas that are on count: a free one beside one without a free slot.
+pub fn all_areas_count()
+    ensures not_full { is_full two_swaps (lower_in_use 2) ≡ false }
+    ensures all_slots { (totals two_swaps [] (lower_in_use 2)).slots ≡ 9 }
+    ensures all_free_slots { (totals two_swaps [] (lower_in_use 2)).free_slots ≡ 7 }
+{}
+
+/// The device holds a page at its own slot, and not at another one; and so where its frame is
+/// cached and clean.
+pub fn pages_are_at_their_own_slots()
+    ensures held { HoldWith 1 (paged_out 7 []) }
+    ensures held_elsewhere { HoldWith 2 (paged_out 7 []) → ⊥ }
+    ensures clean_elsewhere { HoldWith 2 (cached_out false false) → ⊥ }
+{}
