@@ -1,7 +1,7 @@
 -- What a device holds of a page that is at a slot, in no frame, and whose neighbours differ.
-use Rattle.std.specs.Prelude.{◌≡◌, ◌==◌, ◌&&◌, ℕ, Bool, true, false, cond, if◌then◌else◌, [], Option, Some, None, option_and_then, refl}
+use Rattle.std.specs.Prelude.{◌≡◌, ◌==◌, ◌&&◌, ℕ, Bool, true, false, cond, if◌then◌else◌, [], Some, None, option_and_then, refl}
 use Rattle.std.proofs.Common.{sym, subst}
-use Rattle.av_plain.specs.Ledger.{Entry, InSlot, Ledger, entry}
+use Rattle.av_plain.specs.Ledger.{InSlot, Ledger, entry}
 use Rattle.av_plain.specs.Stands.{Holds, IsKept, View}
 use Rattle.av_plain.specs.World.{Process, pages, process}
 use Rattle.av_plain.proofs.Ledger.NoSwap.{key_is}
@@ -25,7 +25,7 @@ process-is p i = cond (same_number p 1 i) (Some (with_byte 7)) None
 kept : (p page : ℕ) → IsKept view (seven_at 1) ledger (entry ledger (p, page)) (pages (paged_out 7 []).world p page)
 kept p page = subst (λ o. IsKept view (seven_at 1) ledger o (pages (paged_out 7 []).world p page)) (sym (entry-is p page))
     (subst (λ o. IsKept view (seven_at 1) ledger (cond (p == 1 && page == 0x7fffffffe) (Some (InSlot (slot 1))) None)
-        (option_and_then (λ (q : Process). q page) o)) (sym (process-is p))
+    (option_and_then (λ (q : Process). q page) o)) (sym (process-is p))
     (by (p == 1) (page == 0x7fffffffe) (with_byte 7) refl))
   where
     by : (a c : Bool) (q : Process) → q page ≡ (if c then Some (page_with 7) else None)

@@ -12,12 +12,21 @@ returns-clause-lost_behind_pass c = record {
   answer = (
     Stopped 0x10 Lost,
     [],
-    inr (lost.notes, Lost, (refl, record {
-      slot = slot 3;
-      absent = refl;
-      seeks = (Failed (slot 2) ∷ [], Dropped (slot 1) ∷ [], refl, (true, [], refl, refl), (slot 1, false, refl, refl));
-      frame = refl;
-    }), refl, refl),
+    inr (
+      lost.notes,
+      Lost,
+      (
+        refl,
+        record {
+          slot = slot 3;
+          absent = refl;
+          seeks = (Failed (slot 2) ∷ [], Dropped (slot 1) ∷ [], refl, (true, [], refl, refl), (slot 1, false, refl, refl));
+          frame = refl;
+        },
+      ),
+      refl,
+      refl,
+    ),
     (refl, tt, tt),
     refl,
     refl,

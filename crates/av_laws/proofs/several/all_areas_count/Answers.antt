@@ -9,3 +9,9 @@ returns-clause-all_slots c = refl
 
 pub returns-clause-all_free_slots : goal.returns-clause-all_free_slots
 returns-clause-all_free_slots c = refl
+
+pub returns-clause-full : goal.returns-clause-full
+returns-clause-full c = refl
+
+pub returns-clause-closing_gives_none : goal.returns-clause-closing_gives_none
+returns-clause-closing_gives_none c = refl
