@@ -35,5 +35,5 @@ kept p page = subst (λ o. IsKept view (seven_at 1) ledger o (pages (paged_out 7
     by true false q is = subst (λ o. Holds o (λ _. 0)) (sym is) tt
     by false c q is = tt
 
-pub held-holds : HoldWith 1 (paged_out 7 [])
-held-holds = record { kept = kept; clean = λ s fresh still. tt }
+pub page_at_its_slot-holds : HoldWith 1 (paged_out 7 [])
+page_at_its_slot-holds = record { kept = kept; clean = λ s fresh still. tt }

@@ -1,9 +1,9 @@
 -- Worked examples of the direct pass: whose turn it is, what a turn is, and when the pass ends.
 -- Which example would fail if a definition were wrong:
---   what a turn is (`is_dirty`, `unmap_notes`): stale_written, cached_unmapped
+--   what a turn is (`is_dirty`, `unmap_notes`): stale_frame_written, cached_frame_unmapped
 --   whose turn it is (`frames_in_turn`): inactive_first, active_too
---   who is passed over (`no_slot`, `Turns`): none_while_closing, past_stuck
---   when the pass ends (`Turns`, `IsPass`): past_failed, freed_by_completion
+--   who is passed over (`no_slot`, `Turns`): none_while_closing, past_stuck_frame
+--   when the pass ends (`Turns`, `IsPass`): past_failure, freed_by_completion
 --   `bus` behind a pass (`IsLost`, `causes`): lost_behind_pass, lost_and_failed
 -- Frames 0 and 1 are all that there are, and where it isn't said otherwise both are cached, clean,
 -- and named by no entry: so the one whose turn comes first is dropped at once.
@@ -43,8 +43,8 @@ last_cached slots = record first_ledger {
 }
 
 -- the write of frame 0 to its slot fails, and frame 1 has its turn
-abbrev pub past_failed : List Note
-past_failed =
+abbrev pub failure_first : List Note
+failure_first =
     Put 0 (slot 2) ∷ Unmapped 0 ∷ Started (slot 2) ∷ Failed (slot 2) ∷ Dropped (slot 1) ∷ []
 
 -- nothing names frame 0 but its slot, whose write is in flight
@@ -64,5 +64,5 @@ third_out = record (both_cached false Zero [] (1 ∷ 0 ∷ [])) {
 }
 
 -- that write fails, frame 0 is freed, and yet the page does not come
-abbrev pub lost : Reply
-lost = reply_with (Bus 0 []) (Failed (slot 2) ∷ Dropped (slot 1) ∷ [])
+abbrev pub lost_reply : Reply
+lost_reply = reply_with (Bus 0 []) (Failed (slot 2) ∷ Dropped (slot 1) ∷ [])

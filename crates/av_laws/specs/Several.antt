@@ -3,7 +3,8 @@
 --   where a frame goes in its list (`to_active`, `after_note`): to_active_head, started_to_head
 --   what counts over all areas (`is_full`, `totals`): not_full, full, all_slots, all_free_slots
 --   which areas give (`may_give`): closing_gives_none
---   which page of the device it is (`HoldsTold`, `IsClean`): held, held_elsewhere, clean_elsewhere
+--   which page of the device it is (`HoldsTold`, `IsClean`): page_at_its_slot, page_at_next_slot,
+--     clean_at_next_slot
 use Rattle.std.specs.Prelude.{ℕ, false, ◌==◌, if◌then◌else◌, List, [], ◌∷◌, Some, None, replicate}
 use Rattle.av_plain.specs.Device.{Device}
 use Rattle.av_plain.specs.Ledger.{InFrame, InSlot, Ledger, Setting, first_ledger}
@@ -14,8 +15,8 @@ use Rattle.av_laws.specs.Slots.{slot_at, two_swaps}
 use Rattle.av_laws.specs.Views.{cached_view, header_page, swap_device}
 
 -- these are the lists, and no frame is cached
-abbrev pub listed : List ℕ → List ℕ → Ledger
-listed active inactive = ledger_with (InFrame 5 false) [] [] active inactive
+abbrev pub with_lists : List ℕ → List ℕ → Ledger
+with_lists active inactive = ledger_with (InFrame 5 false) [] [] active inactive
 
 -- one slot of each of two areas is in use; the lower one has another, the upper one has none
 abbrev pub one_free : Ledger

@@ -17,10 +17,10 @@ ghost use Rattle.av_laws.specs.PassTurns.{
   Passes,
   all_readable,
   both_cached,
+  failure_first,
   last_cached,
-  lost,
+  lost_reply,
   orphan_in_flight,
-  past_failed,
   third_out,
 };
 
@@ -36,10 +36,10 @@ pub fn frames_have_their_turns()
 
 /// A cached frame is unmapped too, and written where it is stale, before it is dropped.
 pub fn cached_frames_are_unmapped_and_written()
-    ensures stale_written { Passes (with_swap 2 8 7) None
+    ensures stale_frame_written { Passes (with_swap 2 8 7) None
         (both_cached true (InSlot (slot 1)) [] (1 ∷ 0 ∷ []))
         (Started (slot 1) ∷ Written (slot 1) ∷ Dropped (slot 1) ∷ []) }
-    ensures cached_unmapped { Passes (with_swap 2 8 7) None
+    ensures cached_frame_unmapped { Passes (with_swap 2 8 7) None
         (both_cached false (InFrame 0 true) [] (1 ∷ 0 ∷ []))
         (Unmapped 0 ∷ Dropped (slot 1) ∷ []) }
 {}
@@ -47,8 +47,9 @@ pub fn cached_frames_are_unmapped_and_written()
 /// The pass goes on past a frame that has no slot, and past one whose write fails; it ends where a
 /// frame is free once all writes in flight have ended. A swap area that is closing has no slot.
 pub fn passes_end_with_a_free_frame()
-    ensures past_stuck { Passes (with_swap 2 2 1) None (last_cached 1) (Dropped (slot 1) ∷ []) }
-    ensures past_failed { Passes (with_swap 2 8 7) None (last_cached 7) past_failed }
+    ensures past_stuck_frame { Passes (with_swap 2 2 1) None (last_cached 1)
+        (Dropped (slot 1) ∷ []) }
+    ensures past_failure { Passes (with_swap 2 8 7) None (last_cached 7) failure_first }
     ensures freed_by_completion { Passes (with_swap 2 8 7) None orphan_in_flight
         (Written (slot 1) ∷ Dropped (slot 1) ∷ []) }
     ensures none_while_closing { Passes bad_first (Some 0) full.ledger [] }
@@ -58,6 +59,6 @@ pub fn passes_end_with_a_free_frame()
 /// than writes failed.
 pub fn pages_are_lost_behind_a_pass()
     ensures lost_behind_pass { IsLegal (with_swap 2 8 7) all_readable third_out (Read 1 0x10000 1)
-        lost (note_events lost.notes) }
-    ensures lost_and_failed { causes lost ≡ 2 }
+        lost_reply (note_events lost_reply.notes) }
+    ensures lost_and_failed { causes lost_reply ≡ 2 }
 {}

@@ -4,7 +4,7 @@ use Rattle.av_trace.specs.declared.note.Note.TheVariants.{Dropped, Failed}
 use Rattle.av_plain.specs.Access.{Stopped}
 use Rattle.av_plain.specs.Fault.{Lost}
 use Rattle.av_laws.specs.Examples.{slot}
-use Rattle.av_laws.specs.PassTurns.{lost}
+use Rattle.av_laws.specs.PassTurns.{lost_reply}
 use Rattle.av_laws.proofs.pass_turns.pages_are_lost_behind_a_pass.Goals as goal
 
 pub returns-clause-lost_behind_pass : goal.returns-clause-lost_behind_pass
@@ -13,7 +13,7 @@ returns-clause-lost_behind_pass c = record {
     Stopped 0x10 Lost,
     [],
     inr (
-      lost.notes,
+      lost_reply.notes,
       Lost,
       (
         refl,
