@@ -51,11 +51,11 @@ failure_first =
 abbrev pub orphan_in_flight : Ledger
 orphan_in_flight = record (both_cached false Zero [] (1 ∷ 0 ∷ [])) { flight = slot 1 ∷ [] }
 
--- a process with each page for reading; the lowest one is at slot 3, and in no frame, and the write
--- of frame 1 is in flight
+-- a process that may read each page
 abbrev pub all_readable : World
 all_readable = (1, λ page. Some (zeros read_only)) ∷ []
 
+-- its first page is at slot 3 and in no frame, and the write of frame 1 is in flight
 abbrev pub third_out : Ledger
 third_out = record (both_cached false Zero [] (1 ∷ 0 ∷ [])) {
   entries = ((1, 0x10), InSlot (slot 3)) ∷ ((1, 0x11), InSlot (slot 2))
