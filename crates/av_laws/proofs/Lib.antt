@@ -30,6 +30,7 @@ pub mod Faults
 pub mod SlotExamples
 pub mod SwapViewExamples
 pub mod SeveralExamples
+pub mod TurnExamples
 pub mod ListsExamples
 pub mod AnonExamples
 pub mod RowExamples

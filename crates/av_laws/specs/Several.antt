@@ -2,7 +2,6 @@
 -- device. Which example would fail if a definition were wrong:
 --   where a frame goes in its list (`to_active`, `after_note`): to_active_head, started_to_head
 --   what counts over all areas (`is_full`, `totals`): not_full, full, all_slots, all_free_slots
---   which areas give (`may_give`): closing_gives_none
 --   which page of the device it is (`HoldsTold`, `IsClean`): page_at_its_slot, page_at_next_slot,
 --     clean_at_next_slot
 use Rattle.std.specs.Prelude.{ℕ, false, ◌==◌, if◌then◌else◌, List, [], ◌∷◌, Some, None, replicate}

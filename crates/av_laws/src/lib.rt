@@ -84,8 +84,8 @@ pub use pairs::{
     passes_run, two_pages_run,
 };
 pub use pass_turns::{
-    cached_frames_are_unmapped_and_written, frames_have_their_turns, pages_are_lost_behind_a_pass,
-    passes_end_with_a_free_frame,
+    cached_frames_are_unmapped_and_written, changed_passes_are_refused, frames_have_their_turns,
+    pages_are_lost_behind_a_pass, passes_end_with_a_free_frame,
 };
 pub use several::{all_areas_count, kept_frames_go_to_the_head, pages_are_at_their_own_slots};
 pub use slots::{

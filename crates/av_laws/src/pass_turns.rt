@@ -20,9 +20,12 @@ ghost use Rattle.av_laws.specs.PassTurns.{
   failure_first,
   last_cached,
   lost_reply,
+  one_frame_two_areas,
   orphan_in_flight,
   third_out,
+  to_lower_area,
 };
+ghost use Rattle.av_laws.specs.Slots.{lower_in_use};
 
 /// Inactive frames have their turns before active ones, and these have theirs.
 pub fn frames_have_their_turns()
@@ -53,6 +56,16 @@ pub fn passes_end_with_a_free_frame()
     ensures freed_by_completion { Passes (with_swap 2 8 7) None orphan_in_flight
         (Written (slot 1) ∷ Dropped (slot 1) ∷ []) }
     ensures none_while_closing { Passes bad_first (Some 0) full.ledger [] }
+{}
+
+/// No pass goes past a clean frame, and none puts a frame at a slot of an area that is closing,
+/// though another area has slots.
+pub fn changed_passes_are_refused()
+    ensures clean_passed_over { Passes (with_swap 2 8 7) None
+        (both_cached false (InSlot (slot 1)) [] (1 ∷ 0 ∷ []))
+        (Dropped (slot 2) ∷ []) → ⊥ }
+    ensures slot_while_closing { Passes one_frame_two_areas (Some 0) (lower_in_use 1)
+        to_lower_area → ⊥ }
 {}
 
 /// A page may be lost behind a pass that frees a frame for it. Then the device failed once more

@@ -1,15 +1,15 @@
 //! Worked examples with several of a kind that differ: frames in lists, swap areas, pages of a
 //! device.
 
-ghost use Rattle.std.specs.Prelude.{◌≡◌, [], ◌∷◌, true, false, Some};
+ghost use Rattle.std.specs.Prelude.{◌≡◌, [], ◌∷◌, true, false};
 ghost use Rattle.av_trace.specs.declared.note.Note.TheVariants.{Kept};
 ghost use Rattle.av_trace.specs.declared.note.Cause.TheVariants.{Referenced, WriteStarted};
 ghost use Rattle.av_plain.specs.Event.{after_note};
-ghost use Rattle.av_plain.specs.Ledger.{is_full, may_give};
+ghost use Rattle.av_plain.specs.Ledger.{is_full};
 ghost use Rattle.av_plain.specs.Report.{totals};
 ghost use Rattle.av_laws.specs.Examples.{cached_out, paged_out};
 ghost use Rattle.av_laws.specs.Several.{HoldWith, one_free, two_untold, with_lists};
-ghost use Rattle.av_laws.specs.Slots.{lower_in_use, slot_at, two_swaps};
+ghost use Rattle.av_laws.specs.Slots.{lower_in_use, two_swaps};
 
 /// A frame that was referenced goes to the head of active, one whose write started to the head of
 /// inactive.
@@ -20,14 +20,12 @@ pub fn kept_frames_go_to_the_head()
         ≡ with_lists (7 ∷ 8 ∷ []) (6 ∷ 5 ∷ []) }
 {}
 
-/// All areas that are on count, and not the first one alone; one that is closing gives no slot.
+/// All areas that are on count, and not the first one alone.
 pub fn all_areas_count()
     ensures not_full { is_full two_swaps (lower_in_use 2) ≡ false }
     ensures full { is_full two_untold one_free ≡ true }
     ensures all_slots { (totals two_swaps [] (lower_in_use 2)).slots ≡ 9 }
     ensures all_free_slots { (totals two_swaps [] (lower_in_use 2)).free_slots ≡ 7 }
-    ensures closing_gives_none { may_give two_swaps (Some 0) (lower_in_use 1) (slot_at 0 2)
-        ≡ false }
 {}
 
 /// The device holds a page at its own slot, and not at another one; and so where its frame is

@@ -12,6 +12,3 @@ returns-clause-all_free_slots c = refl
 
 pub returns-clause-full : goal.returns-clause-full
 returns-clause-full c = refl
-
-pub returns-clause-closing_gives_none : goal.returns-clause-closing_gives_none
-returns-clause-closing_gives_none c = refl
