@@ -16,7 +16,8 @@ ghost use Rattle.av_laws.specs.Slots.{lower_in_use, two_swaps};
 pub fn kept_frames_go_to_the_head()
     ensures to_active_head { after_note (Kept 5 Referenced) (with_lists (7 ∷ 8 ∷ []) (5 ∷ 6 ∷ []))
         ≡ with_lists (5 ∷ 7 ∷ 8 ∷ []) (6 ∷ []) }
-    ensures started_to_head { after_note (Kept 6 WriteStarted) (with_lists (7 ∷ 8 ∷ []) (5 ∷ 6 ∷ []))
+    ensures started_to_head { after_note (Kept 6 WriteStarted)
+        (with_lists (7 ∷ 8 ∷ []) (5 ∷ 6 ∷ []))
         ≡ with_lists (7 ∷ 8 ∷ []) (6 ∷ 5 ∷ []) }
 {}
 
