@@ -31,6 +31,8 @@ pub mod AreaExamples
 pub mod Faults
 pub mod SlotExamples
 pub mod SwapViewExamples
+pub mod SeveralExamples
+pub mod TurnExamples
 pub mod ListsExamples
 pub mod AnonExamples
 pub mod RowExamples

@@ -45,7 +45,7 @@ headers-are b = ap Some (λ i k. by (k == 0) i)
     by false = refl
 
 -- a slot's page has the frame's bytes, where their first one is the same
-same-bytes : (i : ℕ) → i < page_size
+pub same-bytes : (i : ℕ) → i < page_size
     → slice_index (7 ∷ replicate 4095 0) i ≡ (if i == 0 then 7 else 0)
 same-bytes i below = by 4095 i (omega (arith, below))
   where
@@ -65,7 +65,7 @@ same-bytes i below = by 4095 i (omega (arith, below))
 
 -- ---- the one process
 
-same_number : (p n : ℕ) → eq_by_cmp nat_cmp p n ≡ (p == n)
+pub same_number : (p n : ℕ) → eq_by_cmp nat_cmp p n ≡ (p == n)
 same_number p n = grind (arith, nat_tests)
 
 module _ (flying stale : Bool) where

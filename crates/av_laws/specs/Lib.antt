@@ -1,6 +1,7 @@
 pub mod Determined
 pub mod Examples
 pub mod Pairs
+pub mod PassTurns
 pub mod Unsound
 pub mod ReadBack
 pub mod NeedsFrame
@@ -8,6 +9,7 @@ pub mod Views
 pub mod Areas
 pub mod Slots
 pub mod SwapRows
+pub mod Several
 pub mod Covered
 pub mod Homes
 pub mod Forks

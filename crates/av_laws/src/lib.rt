@@ -1,9 +1,9 @@
 //! What follows from the definitions of `av_plain`, beside what the kernel needs of them: replies
 //! are determined, numbers add up, a refusal changes nothing, a reply is read back from its text,
 //! what is free is listed, areas cover what is mapped; and worked examples: legal ones and such as
-//! may not be, what lines, answers and rows say, slots that are given, areas, anon_vmas and homes
-//! that come of commands, forks, pages that move, sound states and unsound ones, views that stand
-//! for a state and such as don't.
+//! may not be, turns in a pass, several of a kind that differ, what lines, answers and rows say,
+//! slots that are given, areas, anon_vmas and homes that come of commands, forks, pages that move,
+//! sound states and unsound ones, views that stand for a state and such as don't.
 //!
 //! No function does anything. Each one's contract is a law, proved of the definitions alone.
 #![tactic(auto)]
@@ -15,6 +15,8 @@ mod homes;
 mod lines;
 mod mremap;
 mod pairs;
+mod pass_turns;
+mod several;
 mod slots;
 mod swap_rows;
 mod unsound;
@@ -84,6 +86,11 @@ pub use pairs::{
     changed_pairs_are_refused, faults_are_counted, ledgers_of_two_follow, loads_make_unclaimed,
     passes_run, two_pages_run,
 };
+pub use pass_turns::{
+    cached_frames_are_unmapped_and_written, changed_passes_are_refused, frames_have_their_turns,
+    pages_are_lost_behind_a_pass, passes_end_with_a_free_frame,
+};
+pub use several::{all_areas_count, kept_frames_go_to_the_head, pages_are_at_their_own_slots};
 pub use slots::{
     areas_are_turned_on_anew, slots_are_given_in_turn, slots_come_back, the_first_area_gives,
 };

@@ -1,0 +1,18 @@
+use Rattle.std.specs.Prelude.{[], ◌∷◌, false, true, refl}
+use Rattle.av_trace.specs.declared.note.Note.TheVariants.{Dropped, Written}
+use Rattle.av_laws.specs.Examples.{slot}
+use Rattle.av_laws.specs.PassTurns.{failure_first}
+use Rattle.av_laws.proofs.pass_turns.passes_end_with_a_free_frame.Goals as goal
+
+pub returns-clause-past_stuck_frame : goal.returns-clause-past_stuck_frame
+returns-clause-past_stuck_frame c = ([], Dropped (slot 1) ∷ [], refl, refl, (slot 1, false, refl, refl))
+
+pub returns-clause-past_failure : goal.returns-clause-past_failure
+returns-clause-past_failure c =
+    ([], failure_first, refl, refl, (slot 2, true, refl, (Dropped (slot 1) ∷ [], refl, (slot 1, false, refl, refl))))
+
+pub returns-clause-freed_by_completion : goal.returns-clause-freed_by_completion
+returns-clause-freed_by_completion c = (Written (slot 1) ∷ Dropped (slot 1) ∷ [], [], refl, (false, [], refl, refl), refl)
+
+pub returns-clause-none_while_closing : goal.returns-clause-none_while_closing
+returns-clause-none_while_closing c = ([], [], refl, refl, refl)

@@ -1,0 +1,40 @@
+-- Worked examples with several of a kind that differ: frames in lists, swap areas, pages of a
+-- device. Which example would fail if a definition were wrong:
+--   where a frame goes in its list (`to_active`, `after_note`): to_active_head, started_to_head
+--   what counts over all areas (`is_full`, `totals`): not_full, full, all_slots, all_free_slots
+--   which page of the device it is (`HoldsTold`, `IsClean`): page_at_its_slot, page_at_next_slot,
+--     clean_at_next_slot
+use Rattle.std.specs.Prelude.{ℕ, false, ◌==◌, if◌then◌else◌, List, [], ◌∷◌, Some, None, replicate}
+use Rattle.av_plain.specs.Device.{Device}
+use Rattle.av_plain.specs.Ledger.{InFrame, InSlot, Ledger, Setting, first_ledger}
+use Rattle.av_plain.specs.Stands.{BytesStand}
+use Rattle.av_plain.specs.Transcript.{State}
+use Rattle.av_laws.specs.Examples.{ledger_with}
+use Rattle.av_laws.specs.Slots.{slot_at, two_swaps}
+use Rattle.av_laws.specs.Views.{cached_view, header_page, swap_device}
+
+-- these are the lists, and no frame is cached
+abbrev pub with_lists : List ℕ → List ℕ → Ledger
+with_lists active inactive = ledger_with (InFrame 5 false) [] [] active inactive
+
+-- one slot of each of two areas is in use; the lower one has another, the upper one has none
+abbrev pub one_free : Ledger
+one_free = record first_ledger {
+  entries = ((1, 0x10), InSlot (slot_at 0 1)) ∷ ((1, 0x11), InSlot (slot_at 1 1)) ∷ [];
+  on = (0, record { slots = 2; bad = 0 }) ∷ (1, record { slots = 1; bad = 6 }) ∷ [];
+}
+
+-- the device doesn't tell which pages are bad
+abbrev pub two_untold : Setting
+two_untold = record two_swaps { headers = None }
+
+-- the page of this slot begins with 7, that of each other one with 9
+abbrev pub seven_at : ℕ → Device
+seven_at slot = record (swap_device 9) {
+  pages = Some (λ k page. if page == 0 then header_page
+      else (if page == slot then 7 else 9) ∷ replicate 4095 0);
+}
+
+-- with that device frames and device hold what the pages of the state claim
+abbrev pub HoldWith : ℕ → State → Type 0
+HoldWith slot s = BytesStand (cached_view false false) (seven_at slot) s.world s.ledger
