@@ -10,6 +10,7 @@
 mod laws;
 mod line;
 mod pending;
+mod ports;
 mod replay;
 mod status;
 mod top_call;
