@@ -71,10 +71,7 @@ pub fn read_on<P: Ports>(ports: &mut P, pending: &mut Pending) -> Result<usize, 
 
 /// Reads on until a line has come, and says where it ends; or None, where the input has ended
 /// before another.
-pub fn read_line<P: Ports>(
-    ports: &mut P,
-    pending: &mut Pending,
-) -> Result<Option<Line>, RunErr>
+pub fn read_line<P: Ports>(ports: &mut P, pending: &mut Pending) -> Result<Option<Line>, RunErr>
     ensures reads { ReadsOn pending.old pending.new (P.view ports.old) (P.view ports.new) }
     ensures line { LineRead result pending.new (P.view ports.old) (P.view ports.new) }
     ensures unfailed { FailsOnly result (P.view ports.old) (P.view ports.new) }

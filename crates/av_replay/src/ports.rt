@@ -50,19 +50,23 @@ pub trait Ports {
 
 /// A source, a sink and a device, lent to a run.
 #[derive(Drop)]
-pub struct LentPorts<'a, S, K, D> {
-    pub source: &'a mut S,
-    pub sink: &'a mut K,
-    pub dev: &'a mut D,
+pub struct LentPorts<'s, 'k, 'd, S, K, D> {
+    pub source: &'s mut S,
+    pub sink: &'k mut K,
+    pub dev: &'d mut D,
 }
 
-impl<'a, S: Source, K: Sink, D> Ports for LentPorts<'a, S, K, D> {
+impl<'s, 'k, 'd, S: Source, K: Sink, D> Ports for LentPorts<'s, 'k, 'd, S, K, D> {
     ghost view = { λ ports. without_device (S.view ports.source.now) (K.view ports.sink.now) };
 
     ghost Kept = { GName × GName × GName × D };
 
-    ghost kept = { λ ports. (ports.source.ghost_name, ports.sink.ghost_name,
-        ports.dev.ghost_name, ports.dev.now) };
+    ghost kept = { λ ports. (
+      ports.source.ghost_name,
+      ports.sink.ghost_name,
+      ports.dev.ghost_name,
+      ports.dev.now,
+    ) };
 
     ghost none_shown = { λ _. refl };
 

@@ -1,8 +1,9 @@
 //! The top call.
 
 ghost use Rattle.std.specs.Prelude.{◌≡◌, ◌≢◌, ℕ, is_some, map, string_bytes};
+ghost use Rattle.av_plain.specs.Device.{no_device};
 ghost use Rattle.av_replay.specs.Ports.{without_device};
-ghost use Rattle.av_replay.specs.Replay.{Replayed, can_go_on, kernel_at};
+ghost use Rattle.av_replay.specs.Replay.{IsAtStart, Replayed, can_go_on, kernel_at};
 ghost use Rattle.av_replay.specs.Words.{IsForm, RefusesWords};
 
 use crate::ports::LentPorts;
@@ -48,6 +49,24 @@ fn hand_back(status: Status, kernel: Kernel) -> Outcome
     }
 }
 
+/// Replays the trace of a source, with these as one value.
+fn replay_over<S: Source, K: Sink, D: SwapDev>(
+    alloc: Global,
+    kernel: &mut Kernel,
+    source: &mut S,
+    sink: &mut K,
+    dev: &mut D,
+) -> Status
+    requires { IsAtStart kernel.old no_device }
+    ensures replayed { Replayed kernel.old.frames result
+        (without_device (S.view source.old) (K.view sink.old))
+        (without_device (S.view source.new) (K.view sink.new)) (kernel_at result kernel.new) }
+    ensures device { dev.new ≡ dev.old }
+{
+    let mut ports = LentPorts { source, sink, dev };
+    replay(alloc, kernel, &mut ports)
+}
+
 /// Runs the program on the command line's words, which are `run` and the number of frames.
 ///
 /// Each line of the source is read whole and done, and its text written, before the next line is
@@ -91,7 +110,6 @@ pub fn run<S: Source, K: Sink, D: SwapDev>(
             kernel: None,
         };
     };
-    let mut ports = LentPorts { source, sink, dev };
-    let status = replay(alloc, &mut kernel, &mut ports);
+    let status = replay_over(alloc, &mut kernel, source, sink, dev);
     hand_back(status, kernel)
 }

@@ -1,4 +1,3 @@
-use Rattle.std.proofs.Common.{ap, refl}
 use Rattle.av_replay.proofs.Calls.{goes_on_at}
 use Rattle.av_replay.proofs.Endings.{nothing_done, no_usage, same_frames}
 use Rattle.av_replay.proofs.top_call.run.Goals as goal
@@ -8,13 +7,13 @@ returns-in_default-new-clause-replayed g c = λ _. (c.in-Some.frames, c.in-Some.
 
 pub returns : goal.returns
 returns g c =
-    let r = c.replay-status.ensures.replayed in
+    let r = c.replay_over-status.ensures.replayed in
     let never = no_usage _ _ _ _ _ r.headline in
     let back = c.hand_back.ensures in
     rw (back.status, back.kernel) (record {
       replayed = λ _. (c.in-Some.frames, c.in-Some.ensures.found, same_frames _ _ _ _ _ _ c.in-Ok.ensures.new.frames r);
       usage = record { only = λ e. absurd (never e); always = λ no_form. absurd (no_form c.in-Some.frames c.in-Some.ensures.found) };
       nothing = λ e. absurd (never e);
-      kernel = goes_on_at c.replay-status.result _;
-      device = ap (λ kept. kept.3) c.replay-status.ensures.kept;
+      kernel = goes_on_at c.replay_over-status.result _;
+      device = c.replay_over-status.ensures.device;
     })
