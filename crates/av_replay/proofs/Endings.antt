@@ -17,7 +17,7 @@ use Rattle.av_replay.specs.declared.status.RunErr.TheVariants as errors
 use Rattle.av_replay.specs.Ports.{PortsView, OnlySink, undone, AreFlushed, AreUnfailed, ReadsOn, IsAtEnd, IsReadFault}
 use Rattle.av_replay.specs.Line.{IsLine}
 use Rattle.av_replay.specs.Turn.{texts, Commands, IsEnding, TakesLine, Waits, CutsShort, IsUnflushed, Halts, DoesNext, FindsEnd, Finished}
-use Rattle.av_replay.specs.Replay.{most_lines, all_lines, Transcribes, Run, done_lines, Replays, IsHandedBack, StopsAt, MayGoOn, IsCutOff, Ends, status_at, Headline, can_go_on, kernel_at, FailsOnlyAt, FailsUntold, Replayed, FlushesLast}
+use Rattle.av_replay.specs.Replay.{most_lines, all_lines, Transcribes, Run, done_lines, Replays, IsHandedBack, StopsAt, MayGoOn, IsCutOff, Ends, status_at, Headline, can_go_on, kernel_at, FailsOnlyAt, FailsUntold, IsFlushed, Replayed, FlushesLast}
 use Rattle.av_replay.proofs.Bytes.{Took-none, Took-ahead, Gained-none, rose_none}
 use Rattle.av_replay.proofs.Times.{device_same, failed_since, read_fault_since, flushed_none, handed_on, only_sink}
 use Rattle.av_replay.proofs.Runs.{Past, whole, SoFar, longer, next_answers, read_more, wrote_more, device_more, faults_more, legal_more, kernel_more, texts_more, all_push, Transcribes-push, joined-push}
@@ -402,39 +402,20 @@ module _ (n : ℕ) (old now : PortsView) (kernel : Machine) (sink : SinkView) wh
           flushed = kept flushed keeps.flushes;
         }
 
+    -- it was served, after which a run ends as it did before
+    served : (status : Status) → HandsOn now.sink sink → (h : Headline n status old now (kernel_at status kernel)) →
+        Ends status old new h.run h.rest h.written → FailsOnlyAt status old new → IsFlushed status old new →
+        Replayed n status old new (kernel_at status kernel)
+    served status hands_on h ends fails so = record { headline = ends_so status h hands_on.held ends; unfailed = fails; flushed = so }
+
     at_memory : (h : Headline n statuses.Memory old now None) → HandsOn now.sink sink ⊎ KeepsBack now.sink sink →
         Replayed n statuses.Memory old new None
-    at_memory h (inl hands_on) = record {
-      headline = ends_so statuses.Memory h hands_on.held h.ends;
-      unfailed = (was.source, inl (hands_on.unfailed ∙ was.sink));
-      flushed = inr (inl (handed_on old now sink flushed hands_on));
-    }
+    at_memory h (inl hands_on) =
+        served statuses.Memory hands_on h h.ends (was.source, inl (hands_on.unfailed ∙ was.sink)) (inr (inl (handed_on old now sink flushed hands_on)))
     at_memory h (inr keeps) = record {
       headline = ends_so statuses.Memory h keeps.held h.ends;
       unfailed = (was.source, inr (fails_untold keeps));
       flushed = inr (inr (fails_untold keeps, kept flushed keeps.flushes));
-    }
-
-    at_done : Headline n statuses.Done old now (Some kernel) → HandsOn now.sink sink → Replayed n statuses.Done old new (Some kernel)
-    at_done h hands_on = record {
-      headline = ends_so statuses.Done h hands_on.held h.ends;
-      unfailed = unfailed hands_on;
-      flushed = handed_on old now sink flushed hands_on;
-    }
-
-    at_bad_line : (number : ℕ) → Headline n (statuses.BadLine number) old now (Some kernel) → HandsOn now.sink sink →
-        Replayed n (statuses.BadLine number) old new (Some kernel)
-    at_bad_line number h hands_on = record {
-      headline = ends_so (statuses.BadLine number) h hands_on.held h.ends;
-      unfailed = unfailed hands_on;
-      flushed = handed_on old now sink flushed hands_on;
-    }
-
-    at_too_many : Headline n statuses.TooMany old now (Some kernel) → HandsOn now.sink sink → Replayed n statuses.TooMany old new (Some kernel)
-    at_too_many h hands_on = record {
-      headline = ends_so statuses.TooMany h hands_on.held h.ends;
-      unfailed = unfailed hands_on;
-      flushed = handed_on old now sink flushed hands_on;
     }
 
   -- no flush came
@@ -447,13 +428,16 @@ module _ (n : ℕ) (old now : PortsView) (kernel : Machine) (sink : SinkView) wh
   replayed : (status last : Status) → FlushesLast status last now.sink sink → Headline n status old now (kernel_at status kernel) →
       FailsOnlyAt status old now → (status ≡ statuses.Memory → AreUnfailed old now) → AreFlushed 0 old now →
       (status ≡ statuses.ReadFault → now.sink.kept_back ≡ []) → Replayed n last old new (kernel_at last kernel)
-  replayed statuses.Done last (inl f) h was memory so none = named statuses.Done last f.0 (at_done was so h f.1)
+  replayed statuses.Done last (inl f) h was memory so none =
+      named statuses.Done last f.0 (served was so statuses.Done f.1 h h.ends (unfailed was so f.1) (handed_on old now sink so f.1))
   replayed statuses.Done last (inr f) h was memory so none =
       named statuses.WriteFault last f.0 (unflushed was so statuses.Done h.run h.rest h.written h.replays h.handed_back h.ends.0 h.ends.1 f.1)
-  replayed (statuses.BadLine number) last (inl f) h was memory so none = named (statuses.BadLine number) last f.0 (at_bad_line was so number h f.1)
+  replayed (statuses.BadLine number) last (inl f) h was memory so none = named (statuses.BadLine number) last f.0
+      (served was so (statuses.BadLine number) f.1 h h.ends (unfailed was so f.1) (handed_on old now sink so f.1))
   replayed (statuses.BadLine number) last (inr f) h was memory so none =
       named statuses.WriteFault last f.0 (unflushed was so (statuses.BadLine number) h.run h.rest h.written h.replays h.handed_back h.ends.0 h.ends.1 f.1)
-  replayed statuses.TooMany last (inl f) h was memory so none = named statuses.TooMany last f.0 (at_too_many was so h f.1)
+  replayed statuses.TooMany last (inl f) h was memory so none =
+      named statuses.TooMany last f.0 (served was so statuses.TooMany f.1 h h.ends (unfailed was so f.1) (handed_on old now sink so f.1))
   replayed statuses.TooMany last (inr f) h was memory so none =
       named statuses.WriteFault last f.0 (unflushed was so statuses.TooMany h.run h.rest h.written h.replays h.handed_back h.ends.0 h.ends.1 f.1)
   replayed statuses.Usage last f h was memory so none = absurd h.ends.0

@@ -1,10 +1,10 @@
 -- Sources and sinks from one time to the next.
-use Rattle.std.proofs.Common.{zero, suc, ◌≡◌, ℕ, ◌+◌, ◌≤◌, List, length, refl, ap, ◌∙◌, arith}
+use Rattle.std.proofs.Common.{zero, suc, ◌≡◌, ℕ, ◌+◌, refl, ap, ◌∙◌, arith}
 use Rattle.av_io.specs.Count.{one_more}
 use Rattle.av_io.specs.Source.{SourceView}
 use Rattle.av_io.specs.Sink.{SinkView, HandsOn, HasFailed}
 use Rattle.av_plain.specs.Device.{Device, IsSameDevice}
-use Rattle.av_replay.specs.Ports.{PortsView, OnlySink, room, after_calls, AreFlushed, AreUnfailed, IsReadFault, ReadsOn, StaysOpen}
+use Rattle.av_replay.specs.Ports.{PortsView, OnlySink, after_calls, AreFlushed, AreUnfailed, IsReadFault, StaysOpen}
 use Rattle.av_replay.specs.Replay.{IsHandedOn}
 
 -- ---- a device
@@ -23,14 +23,6 @@ only_sink old new only =
 
 pub only_sink_then : (a b c : PortsView) → OnlySink a b → OnlySink b c → OnlySink a c
 only_sink_then a b c p q = record { source = q.source ∙ p.source; device = q.device ∙ p.device }
-
--- ---- what was read ahead
-
-pub reads_then : (x y z : List ℕ) (a b c : PortsView) → ReadsOn x y a b → ReadsOn y z b c → ReadsOn x z a c
-reads_then x y z a b c p q = record { same = q.same ∙ p.same; held = q.held ∙ p.held; device = q.device ∙ p.device; near = q.near }
-
-pub reads_same : (x : List ℕ) (a : PortsView) → length x ≤ room → ReadsOn x x a a
-reads_same x a near = record { same = refl; held = refl; device = refl; near = near }
 
 -- ---- what failed, where nothing had before
 
@@ -67,10 +59,6 @@ flushed_then more a b c p q =
 -- no read, and no flush
 pub flushed_none : (a b : PortsView) → b.source.reads ≡ a.source.reads → b.sink.flushes ≡ a.sink.flushes → AreFlushed 0 a b
 flushed_none a b reads flushes = record { n = 0; reads = reads; flushes = flushes }
-
--- a flush, and a read
-pub flushed_once : (a b : PortsView) → b.source.reads ≡ one_more a.source.reads → b.sink.flushes ≡ one_more a.sink.flushes → AreFlushed 0 a b
-flushed_once a b reads flushes = record { n = 1; reads = reads; flushes = flushes }
 
 -- the last flush
 pub handed_on : (old now : PortsView) (sink : SinkView) → AreFlushed 0 old now → HandsOn now.sink sink → IsHandedOn 1 old (record now { sink = sink })

@@ -98,25 +98,6 @@ module _ (ahead mid : List ℕ) (old now new : PortsView) (k k' : Machine) (line
   halts error was (inl next) not = halts_by (10 ∷ []) error was (ends_line line mid new.source next.0 next.1) not
   halts error was (inr next) not = halts_by [] error was (ends_last line mid new.source next.0 next.1 next.2 next.3 (at_end next.4)) not
 
-  -- it was done, and its text written
-  pub does_line : (text : List ℕ) → HasLine line.size mid → line.whole ≡ line.size + 1 →
-      DoesLine (take line.size mid) now.device new.device k k' text → Writes now.sink new.sink text →
-      DoesNext ahead (drop line.whole mid) old new k k' (10 ∷ [])
-  does_line text has whole does writes = record {
-    line = take line.size mid;
-    text = text;
-    takes = takes (10 ∷ []) text text (ends_line line mid new.source has whole) does writes;
-  }
-
-  pub does_last : (text : List ℕ) → IsLine mid → line.size ≡ length mid → 0 < line.size → line.whole ≡ line.size → IsAtEnd now.source →
-      DoesLine (take line.size mid) now.device new.device k k' text → Writes now.sink new.sink text →
-      DoesNext ahead (drop line.whole mid) old new k k' []
-  does_last text is_line size some whole end does writes = record {
-    line = take line.size mid;
-    text = text;
-    takes = takes [] text text (ends_last line mid new.source is_line size some whole (at_end end)) does writes;
-  }
-
 -- no line could be read
 pub unread : (error : RunErr) (ahead mid : List ℕ) (old now : PortsView) (k : Machine) → ReadsOn ahead mid old now → StopsReading error mid old now →
     Halts error ahead mid old now k k

@@ -67,6 +67,31 @@ fn replay_over<S: Source, K: Sink, D: SwapDev>(
     replay(alloc, kernel, &mut ports)
 }
 
+/// Replays the trace of a source on a new machine of so many frames.
+fn run_trace<S: Source, K: Sink, D: SwapDev>(
+    alloc: Global,
+    frames: u32,
+    source: &mut S,
+    sink: &mut K,
+    dev: &mut D,
+) -> Outcome
+    ensures replayed { Replayed frames result.status
+        (without_device (S.view source.old) (K.view sink.old))
+        (without_device (S.view source.new) (K.view sink.new)) result.kernel }
+    ensures begun { result.status ≢ Status.Usage }
+    ensures kernel { is_some result.kernel ≡ can_go_on result.status }
+    ensures device { dev.new ≡ dev.old }
+{
+    let Ok(mut kernel) = Kernel::new(alloc, frames) else {
+        return Outcome {
+            status: Status::Memory,
+            kernel: None,
+        };
+    };
+    let status = replay_over(alloc, &mut kernel, source, sink, dev);
+    hand_back(status, kernel)
+}
+
 /// Runs the program on the command line's words, which are `run` and the number of frames.
 ///
 /// Each line of the source is read whole and done, and its text written, before the next line is
@@ -98,18 +123,11 @@ pub fn run<S: Source, K: Sink, D: SwapDev>(
     // No command reaches the device yet.
     ensures device { dev.new ≡ dev.old }
 {
-    let Some(frames) = frames_of(words) else {
-        return Outcome {
+    match frames_of(words) {
+        Some(frames) => run_trace(alloc, frames, source, sink, dev),
+        None => Outcome {
             status: Status::Usage,
             kernel: None,
-        };
-    };
-    let Ok(mut kernel) = Kernel::new(alloc, frames) else {
-        return Outcome {
-            status: Status::Memory,
-            kernel: None,
-        };
-    };
-    let status = replay_over(alloc, &mut kernel, source, sink, dev);
-    hand_back(status, kernel)
+        },
+    }
 }
