@@ -23,9 +23,6 @@ pub Took-ahead : (left left' : Option (List ℕ)) (x ahead : List ℕ) → Took 
 Took-ahead left None x ahead p = p
 Took-ahead left (Some rest) x ahead p = p ∙ ap Some (sym (append_assoc x ahead rest))
 
-pub Took-same : (a b : Option (List ℕ)) → b ≡ a → Took a b []
-Took-same a b e = Took-none a ∙ ap (option_map (λ (rest : List ℕ). rest)) (sym e)
-
 pub Gained-then : (a b c : Option (List ℕ)) (x y : List ℕ) → Gained a b x → Gained b c y → Gained a c (x ++ y)
 Gained-then None b c x y p q = q ∙ ap (option_map (λ (t : List ℕ). t ++ y)) p
 Gained-then (Some text) b c x y p q = q ∙ ap (option_map (λ (t : List ℕ). t ++ y)) p ∙ ap Some (append_assoc text x y)
@@ -33,9 +30,6 @@ Gained-then (Some text) b c x y p q = q ∙ ap (option_map (λ (t : List ℕ). t
 pub Gained-none : (a : Option (List ℕ)) → Gained a a []
 Gained-none None = refl
 Gained-none (Some text) = ap Some (sym (append-nil text))
-
-pub Gained-same : (a b : Option (List ℕ)) → b ≡ a → Gained a b []
-Gained-same a b e = e ∙ Gained-none a
 
 -- nothing is less than a count rose by
 pub rose_none : (a : ℕ) → RoseBy 0 a a

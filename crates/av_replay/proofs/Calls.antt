@@ -6,7 +6,7 @@ use Rattle.av_replay.specs.declared.status.Status.{Status}
 use Rattle.av_replay.specs.declared.status.Status.TheVariants as statuses
 use Rattle.av_replay.specs.declared.status.RunErr.{RunErr}
 use Rattle.av_replay.specs.declared.status.RunErr.TheVariants as errors
-use Rattle.av_replay.specs.Streams.{Streams, AreUnfailed}
+use Rattle.av_replay.specs.Ports.{PortsView, AreUnfailed}
 use Rattle.av_replay.specs.Line.{FailsBy, IsUnread}
 use Rattle.av_replay.specs.Turn.{Finished}
 use Rattle.av_replay.specs.Replay.{FailsOnlyAt, status_at, can_go_on, kernel_at}
@@ -14,7 +14,7 @@ use Rattle.av_replay.proofs.Times.{unfailed_then, failed_since}
 
 -- ---- by an error, which gives the status
 
-module _ (old new : Streams) where
+module _ (old new : PortsView) where
   pub fails_at : (error : RunErr) (number : ℕ) → FailsBy error old new → FailsOnlyAt (status_at error number) old new
   fails_at errors.BadLine number fails = fails
   fails_at errors.Read number fails = fails
@@ -49,7 +49,7 @@ goes_on_at status kernel = elim (can_go_on status) as (λ b. is_some (if b then 
 
 -- ---- where nothing had failed before
 
-module _ (old now new : Streams) (was : AreUnfailed old now) where
+module _ (old now new : PortsView) (was : AreUnfailed old now) where
   pub fails_then : (error : RunErr) → FailsBy error now new → FailsBy error old new
   fails_then errors.BadLine fails = unfailed_then old now new was fails
   fails_then errors.Read fails = fails ∙ was.sink

@@ -14,18 +14,18 @@ use Rattle.av_replay.specs.declared.status.Status.{Status}
 use Rattle.av_replay.specs.declared.status.Status.TheVariants as statuses
 use Rattle.av_replay.specs.declared.status.RunErr.{RunErr}
 use Rattle.av_replay.specs.declared.status.RunErr.TheVariants as errors
-use Rattle.av_replay.specs.Streams.{Streams, undone, AreFlushed, AreUnfailed, ReadsOn, IsAtEnd, IsReadFault}
+use Rattle.av_replay.specs.Ports.{PortsView, OnlySink, undone, AreFlushed, AreUnfailed, ReadsOn, IsAtEnd, IsReadFault}
 use Rattle.av_replay.specs.Line.{IsLine}
 use Rattle.av_replay.specs.Turn.{texts, Commands, IsEnding, TakesLine, Waits, CutsShort, IsUnflushed, Halts, DoesNext, FindsEnd, Finished}
-use Rattle.av_replay.specs.Replay.{most_lines, all_lines, Transcribes, Run, done_lines, Replays, IsHandedBack, StopsAt, MayGoOn, IsCutOff, Ends, status_at, Headline, can_go_on, kernel_at, FailsOnlyAt, FailsUntold, IsFlushed, FlushesLast}
+use Rattle.av_replay.specs.Replay.{most_lines, all_lines, Transcribes, Run, done_lines, Replays, IsHandedBack, StopsAt, MayGoOn, IsCutOff, Ends, status_at, Headline, can_go_on, kernel_at, FailsOnlyAt, FailsUntold, IsFlushed, Replayed, FlushesLast}
 use Rattle.av_replay.proofs.Bytes.{Took-none, Took-ahead, Gained-none, rose_none}
-use Rattle.av_replay.proofs.Times.{device_same, failed_since, read_fault_since, handed_on}
+use Rattle.av_replay.proofs.Times.{device_same, failed_since, read_fault_since, flushed_none, handed_on, only_sink}
 use Rattle.av_replay.proofs.Runs.{Past, whole, SoFar, longer, next_answers, read_more, wrote_more, device_more, faults_more, legal_more, kernel_more, texts_more, all_push, Transcribes-push, joined-push}
 
 -- ---- what the end of a turn leaves
 
 -- a run, the bytes that were written, and the kernel
-pub record Leaves (n : ℕ) (rest : List ℕ) (old new : Streams) (kernel : Machine) (run : Run) (written : List ℕ) : Type 0 where
+pub record Leaves (n : ℕ) (rest : List ℕ) (old new : PortsView) (kernel : Machine) (run : Run) (written : List ℕ) : Type 0 where
   pub replays : Replays n old new run rest written
   pub left : IsHandedBack kernel new.device n run
 
@@ -33,7 +33,7 @@ hands_if : (b : Bool) (P : Machine → Type 0) (kernel : Machine) → P kernel �
 hands_if true P kernel left = left
 hands_if false P kernel left = tt
 
-pub headline : (n : ℕ) (status : Status) (rest : List ℕ) (old new : Streams) (kernel : Machine) (run : Run) (written : List ℕ) →
+pub headline : (n : ℕ) (status : Status) (rest : List ℕ) (old new : PortsView) (kernel : Machine) (run : Run) (written : List ℕ) →
     Leaves n rest old new kernel run written → Ends status old new run rest written → Headline n status old new (kernel_at status kernel)
 headline n status rest old new kernel run written leaves ends = record {
   run = run;
@@ -48,7 +48,7 @@ few_whole : (lines : List (List ℕ)) → length lines ≤ most_lines → length
 few_whole lines few = omega (arith, few, ap length (append-nil lines))
 
 -- nothing was done in the turn, or only read
-pub waited : (n : ℕ) (past : Past) (ahead rest : List ℕ) (old now new : Streams) (k : Machine) → SoFar n past ahead old now k → length past.lines ≤ most_lines →
+pub waited : (n : ℕ) (past : Past) (ahead rest : List ℕ) (old now new : PortsView) (k : Machine) → SoFar n past ahead old now k → length past.lines ≤ most_lines →
     ReadsOn ahead rest now new → Replays n old new (whole past) rest (texts past.transcript)
 waited n past ahead rest old now new k so_far few reads = record {
   read = Took-ahead old.source.left new.source.left (all_lines past.lines) rest
@@ -64,7 +64,7 @@ waited n past ahead rest old now new k so_far few reads = record {
   device = subst (IsSameDevice old.device) (sym reads.device) so_far.device;
 }
 
-pub stops : (n : ℕ) (past : Past) (ahead rest : List ℕ) (old now new : Streams) (k k' : Machine) → SoFar n past ahead old now k →
+pub stops : (n : ℕ) (past : Past) (ahead rest : List ℕ) (old now new : PortsView) (k k' : Machine) → SoFar n past ahead old now k →
     length past.lines ≤ most_lines → Waits ahead rest now new k k' → Leaves n rest old new k' (whole past) (texts past.transcript)
 stops n past ahead rest old now new k k' so_far few waits = record {
   replays = waited n past ahead rest old now new k so_far few waits.reads;
@@ -78,7 +78,7 @@ stops n past ahead rest old now new k k' so_far few waits = record {
 abbrev pub with_last : Past → List ℕ → Option Exchange → State → Run
 with_last past line did next = record { lines = past.lines; last = Some line; transcript = past.transcript ++ option_to_list did; state = next }
 
-module _ (n : ℕ) (past : Past) (ahead : List ℕ) (old now new : Streams) (k k' : Machine) (line rest text written : List ℕ)
+module _ (n : ℕ) (past : Past) (ahead : List ℕ) (old now new : PortsView) (k k' : Machine) (line rest text written : List ℕ)
     (so_far : SoFar n past ahead old now k) (few : length past.lines < most_lines) where
   pub ends_line : (takes : TakesLine ahead now new k k' line (10 ∷ []) rest text written) →
       Leaves n rest old new k' (whole (longer past line (next_answers n past ahead old now new k k' line (10 ∷ []) rest text written so_far takes).did
@@ -130,11 +130,11 @@ module _ (n : ℕ) (past : Past) (ahead : List ℕ) (old now new : Streams) (k k
       }
 
 -- a line that ended with the input, told apart from one that ended at its newline
-at_last : (line rest : List ℕ) (new : Streams) → IsEnding line [] rest new.source → (rest ≡ []) × (0 < length line) × IsAtEnd new.source
+at_last : (line rest : List ℕ) (new : PortsView) → IsEnding line [] rest new.source → (rest ≡ []) × (0 < length line) × IsAtEnd new.source
 at_last line rest new (inl newline) = absurd cc
 at_last line rest new (inr last) = (last.1, last.2, last.3)
 
-pub last_done : (n : ℕ) (past : Past) (ahead rest : List ℕ) (old now new : Streams) (k k' : Machine) → SoFar n past ahead old now k →
+pub last_done : (n : ℕ) (past : Past) (ahead rest : List ℕ) (old now new : PortsView) (k k' : Machine) → SoFar n past ahead old now k →
     length past.lines < most_lines → DoesNext ahead rest now new k k' [] → Headline n statuses.Done old new (Some k')
 last_done n past ahead rest old now new k k' so_far few does =
     let last = at_last does.line rest new does.takes.ends in
@@ -145,12 +145,12 @@ last_done n past ahead rest old now new k k' so_far few does =
           does.text does.text so_far does.takes,
     )
 
-pub all_done : (n : ℕ) (past : Past) (ahead rest : List ℕ) (old now new : Streams) (k k' : Machine) → SoFar n past ahead old now k →
+pub all_done : (n : ℕ) (past : Past) (ahead rest : List ℕ) (old now new : PortsView) (k k' : Machine) → SoFar n past ahead old now k →
     length past.lines ≤ most_lines → FindsEnd ahead rest now new k k' → Headline n statuses.Done old new (Some k')
 all_done n past ahead rest old now new k k' so_far few finds =
     headline n statuses.Done rest old new k' _ _ (stops n past ahead rest old now new k k' so_far few finds.waits) ((finds.none, finds.end), refl)
 
-pub done : (n : ℕ) (past : Past) (ahead rest : List ℕ) (old now new : Streams) (k k' : Machine) → SoFar n past ahead old now k →
+pub done : (n : ℕ) (past : Past) (ahead rest : List ℕ) (old now new : PortsView) (k k' : Machine) → SoFar n past ahead old now k →
     length past.lines < most_lines → FindsEnd ahead rest now new k k' ⊎ DoesNext ahead rest now new k k' [] → Headline n statuses.Done old new (Some k')
 done n past ahead rest old now new k k' so_far few (inl finds) = all_done n past ahead rest old now new k k' so_far (omega arith) finds
 done n past ahead rest old now new k k' so_far few (inr does) = last_done n past ahead rest old now new k k' so_far few does
@@ -158,7 +158,7 @@ done n past ahead rest old now new k k' so_far few (inr does) = last_done n past
 -- ---- the text of the last reply was cut
 
 -- a run that ends so
-pub record Cuts (n : ℕ) (old new : Streams) (kernel : Machine) : Type 0 where
+pub record Cuts (n : ℕ) (old new : PortsView) (kernel : Machine) : Type 0 where
   pub run : Run
   pub rest : List ℕ
   pub written : List ℕ
@@ -185,7 +185,7 @@ cut_at run before line es (Some e) text n lines transcript commands said short =
       is = ap (λ (t : List ℕ). texts es ++ take n t) same;
     }
 
-cuts_at : (n : ℕ) (past : Past) (ahead : List ℕ) (old now new : Streams) (k k' : Machine) (line ending rest text : List ℕ) (size : ℕ) →
+cuts_at : (n : ℕ) (past : Past) (ahead : List ℕ) (old now new : PortsView) (k k' : Machine) (line ending rest text : List ℕ) (size : ℕ) →
     SoFar n past ahead old now k → length past.lines < most_lines → size < length text → TakesLine ahead now new k k' line ending rest text (take size text) →
     IsEnding line ending rest new.source → Cuts n old new k'
 cuts_at n past ahead old now new k k' line ending rest text size so_far few short takes (inl newline) =
@@ -213,7 +213,7 @@ cuts_at n past ahead old now new k k' line ending rest text size so_far few shor
       cut = cut_at run past.lines line past.transcript a.did text size refl refl a.commands a.said short;
     }
 
-pub cuts : (n : ℕ) (past : Past) (ahead : List ℕ) (old now new : Streams) (k k' : Machine) → SoFar n past ahead old now k → length past.lines < most_lines →
+pub cuts : (n : ℕ) (past : Past) (ahead : List ℕ) (old now new : PortsView) (k k' : Machine) → SoFar n past ahead old now k → length past.lines < most_lines →
     CutsShort ahead now new k k' → Cuts n old new k'
 cuts n past ahead old now new k k' so_far few cut = cuts_at n past ahead old now new k k' cut.line cut.ending cut.rest cut.text cut.size so_far few
     cut.short cut.takes cut.takes.ends
@@ -224,7 +224,7 @@ may_go_on : (past : Past) (rest : List ℕ) → length past.lines < most_lines �
 may_go_on past rest few some = few
 
 -- the sink could not hand on what it kept back, before a read
-kept_back : (n : ℕ) (past : Past) (ahead rest : List ℕ) (old now new : Streams) (k k' : Machine) → SoFar n past ahead old now k →
+kept_back : (n : ℕ) (past : Past) (ahead rest : List ℕ) (old now new : PortsView) (k k' : Machine) → SoFar n past ahead old now k →
     length past.lines ≤ most_lines → MayGoOn (whole past) rest → IsUnflushed ahead rest now new k k' →
     HasFailed now.sink new.sink → Headline n statuses.WriteFault old new (Some k')
 kept_back n past ahead rest old now new k k' so_far few may unflushed failed =
@@ -233,7 +233,7 @@ kept_back n past ahead rest old now new k k' so_far few may unflushed failed =
       failed_since old.sink now.sink new.sink so_far.unfailed.sink failed,
     )
 
-read_fault : (n : ℕ) (past : Past) (ahead rest : List ℕ) (old now new : Streams) (k k' : Machine) → SoFar n past ahead old now k →
+read_fault : (n : ℕ) (past : Past) (ahead rest : List ℕ) (old now new : PortsView) (k k' : Machine) → SoFar n past ahead old now k →
     length past.lines ≤ most_lines → MayGoOn (whole past) rest → Waits ahead rest now new k k' → IsLine rest →
     IsReadFault now.source new.source → Headline n statuses.ReadFault old new (Some k')
 read_fault n past ahead rest old now new k k' so_far few may waits part failed =
@@ -243,7 +243,7 @@ read_fault n past ahead rest old now new k k' so_far few may waits part failed =
       read_fault_since old.source now.source new.source so_far.unfailed.source so_far.stays_open failed,
     )
 
-memory : (n : ℕ) (past : Past) (ahead rest : List ℕ) (old now new : Streams) (k k' : Machine) → SoFar n past ahead old now k → length past.lines < most_lines →
+memory : (n : ℕ) (past : Past) (ahead rest : List ℕ) (old now new : PortsView) (k k' : Machine) → SoFar n past ahead old now k → length past.lines < most_lines →
     ReadsOn ahead rest now new ⊎ CutsShort ahead now new k k' → Headline n statuses.Memory old new None
 memory n past ahead rest old now new k k' so_far few (inl reads) = record {
   run = whole past;
@@ -257,7 +257,7 @@ memory n past ahead rest old now new k k' so_far few (inr cut) =
     let c = cuts n past ahead old now new k k' so_far few cut in
     headline n statuses.Memory c.rest old new k' c.run c.written c.leaves (inr c.cut)
 
-write_fault : (n : ℕ) (past : Past) (ahead rest : List ℕ) (old now new : Streams) (k k' : Machine) → SoFar n past ahead old now k →
+write_fault : (n : ℕ) (past : Past) (ahead rest : List ℕ) (old now new : PortsView) (k k' : Machine) → SoFar n past ahead old now k →
     length past.lines < most_lines → CutsShort ahead now new k k' ⊎ IsUnflushed ahead rest now new k k' →
     HasFailed now.sink new.sink → Headline n statuses.WriteFault old new (Some k')
 write_fault n past ahead rest old now new k k' so_far few (inl cut) failed =
@@ -267,7 +267,7 @@ write_fault n past ahead rest old now new k k' so_far few (inl cut) failed =
 write_fault n past ahead rest old now new k k' so_far few (inr unflushed) failed =
     kept_back n past ahead rest old now new k k' so_far (omega arith) (may_go_on past rest few) unflushed failed
 
-pub halts : (n : ℕ) (past : Past) (ahead rest : List ℕ) (old now new : Streams) (k k' : Machine) (error : RunErr) (number : ℕ) → SoFar n past ahead old now k →
+pub halts : (n : ℕ) (past : Past) (ahead rest : List ℕ) (old now new : PortsView) (k k' : Machine) (error : RunErr) (number : ℕ) → SoFar n past ahead old now k →
     number ≡ length past.lines + 1 → number ≤ most_lines → Halts error ahead rest now new k k' →
     Headline n (status_at error number) old new (kernel_at (status_at error number) k')
 halts n past ahead rest old now new k k' errors.BadLine number so_far count few h =
@@ -286,7 +286,7 @@ nil_is_line rest none = subst IsLine (sym none) (record { one = All-nil _; short
 none_may : (past : Past) (rest : List ℕ) → rest ≡ [] → MayGoOn (whole past) rest
 none_may past rest none some = absurd (omega (arith, ap length none))
 
-module _ (n : ℕ) (past : Past) (ahead rest : List ℕ) (old now new : Streams) (k : Machine) (so_far : SoFar n past ahead old now k)
+module _ (n : ℕ) (past : Past) (ahead rest : List ℕ) (old now new : PortsView) (k : Machine) (so_far : SoFar n past ahead old now k)
     (count : length past.lines ≡ most_lines) (reads : ReadsOn ahead rest now new) where
   waits : Waits ahead rest now new k k
   waits = record { reads = reads; kernel = refl }
@@ -308,46 +308,44 @@ module _ (n : ℕ) (past : Past) (ahead rest : List ℕ) (old now new : Streams)
 -- ---- the whole run
 
 -- memory ran out before anything was read
-pub nothing_done : (n : ℕ) (io : Streams) → Headline n statuses.Memory io io None
-nothing_done n io = record {
-  run = record { lines = []; last = None; transcript = []; state = at_first (setting_of n io.device) };
-  rest = [];
-  written = [];
-  replays = record {
-    read = Took-none io.source.left;
-    near = omega arith;
-    lines = tt;
-    few = omega arith;
-    commands = refl;
-    last = tt;
-    legal = refl;
-    faults = rose_none io.device.faults;
-    wrote = Gained-none io.sink.held;
-    device = device_same io.device;
+pub nothing_done : (n : ℕ) (ports : PortsView) → Replayed n statuses.Memory ports ports None
+nothing_done n ports = record {
+  headline = record {
+    run = record { lines = []; last = None; transcript = []; state = at_first (setting_of n ports.device) };
+    rest = [];
+    written = [];
+    replays = record {
+      read = Took-none ports.source.left;
+      near = omega arith;
+      lines = tt;
+      few = omega arith;
+      commands = refl;
+      last = tt;
+      legal = refl;
+      faults = rose_none ports.device.faults;
+      wrote = Gained-none ports.sink.held;
+      device = device_same ports.device;
+    };
+    ends = inl refl;
+    handed_back = tt;
   };
-  ends = inl refl;
-  handed_back = tt;
+  unfailed = (refl, inl refl);
+  flushed = inl (refl, flushed_none ports ports refl refl);
 }
 
-pub same_frames : (m n : ℕ) (status : Status) (old new : Streams) (kernel : Option Machine) → m ≡ n → Headline m status old new kernel →
-    Headline n status old new kernel
-same_frames m n status old new kernel e h = subst (λ (k : ℕ). Headline k status old new kernel) e h
+pub same_frames : (m n : ℕ) (status : Status) (old new : PortsView) (kernel : Option Machine) → m ≡ n → Replayed m status old new kernel →
+    Replayed n status old new kernel
+same_frames m n status old new kernel e r = subst (λ (k : ℕ). Replayed k status old new kernel) e r
 
 -- a trace that was begun is no usage error
-pub no_usage : (n : ℕ) (status : Status) (old new : Streams) (kernel : Option Machine) → Headline n status old new kernel → status ≢ statuses.Usage
+pub no_usage : (n : ℕ) (status : Status) (old new : PortsView) (kernel : Option Machine) → Headline n status old new kernel → status ≢ statuses.Usage
 no_usage n status old new kernel h e =
     let ends = subst (λ (s : Status). Ends s old new h.run h.rest h.written) e h.ends in ends.0
 
 -- ---- the last flush
 
--- what a replay says
-pub record Replayed (n : ℕ) (status : Status) (old new : Streams) (kernel : Machine) : Type 0 where
-  pub headline : Headline n status old new (kernel_at status kernel)
-  pub unfailed : FailsOnlyAt status old new
-  pub flushed : IsFlushed status old new
-
-module _ (n : ℕ) (old now : Streams) (kernel : Machine) (sink : SinkView) where
-  abbrev new : Streams
+module _ (n : ℕ) (old now : PortsView) (kernel : Machine) (sink : SinkView) where
+  abbrev new : PortsView
   new = record now { sink = sink }
 
   replays_flush : (run : Run) (rest written : List ℕ) → sink.held ≡ now.sink.held → Replays n old now run rest written → Replays n old new run rest written
@@ -388,7 +386,7 @@ module _ (n : ℕ) (old now : Streams) (kernel : Machine) (sink : SinkView) wher
 
     -- it failed
     unflushed : (status : Status) (run : Run) (rest written : List ℕ) → Replays n old now run rest written → IsHandedBack kernel now.device n run →
-        StopsAt status new run rest → written ≡ texts run.transcript → KeepsBack now.sink sink → Replayed n statuses.WriteFault old new kernel
+        StopsAt status new run rest → written ≡ texts run.transcript → KeepsBack now.sink sink → Replayed n statuses.WriteFault old new (Some kernel)
     unflushed status run rest written replays left stops whole keeps =
         let untold = fails_untold keeps in
         record {
@@ -404,58 +402,42 @@ module _ (n : ℕ) (old now : Streams) (kernel : Machine) (sink : SinkView) wher
           flushed = kept flushed keeps.flushes;
         }
 
+    -- it was served, after which a run ends as it did before
+    served : (status : Status) → HandsOn now.sink sink → (h : Headline n status old now (kernel_at status kernel)) →
+        Ends status old new h.run h.rest h.written → FailsOnlyAt status old new → IsFlushed status old new →
+        Replayed n status old new (kernel_at status kernel)
+    served status hands_on h ends fails so = record { headline = ends_so status h hands_on.held ends; unfailed = fails; flushed = so }
+
     at_memory : (h : Headline n statuses.Memory old now None) → HandsOn now.sink sink ⊎ KeepsBack now.sink sink →
-        Replayed n statuses.Memory old new kernel
-    at_memory h (inl hands_on) = record {
-      headline = ends_so statuses.Memory h hands_on.held h.ends;
-      unfailed = (was.source, inl (hands_on.unfailed ∙ was.sink));
-      flushed = inr (inl (handed_on old now sink flushed hands_on));
-    }
+        Replayed n statuses.Memory old new None
+    at_memory h (inl hands_on) =
+        served statuses.Memory hands_on h h.ends (was.source, inl (hands_on.unfailed ∙ was.sink)) (inr (inl (handed_on old now sink flushed hands_on)))
     at_memory h (inr keeps) = record {
       headline = ends_so statuses.Memory h keeps.held h.ends;
       unfailed = (was.source, inr (fails_untold keeps));
       flushed = inr (inr (fails_untold keeps, kept flushed keeps.flushes));
     }
 
-    at_done : Headline n statuses.Done old now (Some kernel) → HandsOn now.sink sink → Replayed n statuses.Done old new kernel
-    at_done h hands_on = record {
-      headline = ends_so statuses.Done h hands_on.held h.ends;
-      unfailed = unfailed hands_on;
-      flushed = handed_on old now sink flushed hands_on;
-    }
-
-    at_bad_line : (number : ℕ) → Headline n (statuses.BadLine number) old now (Some kernel) → HandsOn now.sink sink →
-        Replayed n (statuses.BadLine number) old new kernel
-    at_bad_line number h hands_on = record {
-      headline = ends_so (statuses.BadLine number) h hands_on.held h.ends;
-      unfailed = unfailed hands_on;
-      flushed = handed_on old now sink flushed hands_on;
-    }
-
-    at_too_many : Headline n statuses.TooMany old now (Some kernel) → HandsOn now.sink sink → Replayed n statuses.TooMany old new kernel
-    at_too_many h hands_on = record {
-      headline = ends_so statuses.TooMany h hands_on.held h.ends;
-      unfailed = unfailed hands_on;
-      flushed = handed_on old now sink flushed hands_on;
-    }
-
   -- no flush came
-  same_sink : (status : Status) → sink ≡ now.sink → Replayed n status old now kernel → Replayed n status old new kernel
-  same_sink status e r = subst (λ (s : SinkView). Replayed n status old (record now { sink = s }) kernel) (sym e) r
+  same_sink : (status : Status) → sink ≡ now.sink → Replayed n status old now (kernel_at status kernel) → Replayed n status old new (kernel_at status kernel)
+  same_sink status e r = subst (λ (s : SinkView). Replayed n status old (record now { sink = s }) (kernel_at status kernel)) (sym e) r
 
-  named : (status last : Status) → last ≡ status → Replayed n status old new kernel → Replayed n last old new kernel
-  named status last e r = subst (λ (s : Status). Replayed n s old new kernel) (sym e) r
+  named : (status last : Status) → last ≡ status → Replayed n status old new (kernel_at status kernel) → Replayed n last old new (kernel_at last kernel)
+  named status last e r = subst (λ (s : Status). Replayed n s old new (kernel_at s kernel)) (sym e) r
 
-  pub replayed : (status last : Status) → FlushesLast status last now.sink sink → Headline n status old now (kernel_at status kernel) →
+  replayed : (status last : Status) → FlushesLast status last now.sink sink → Headline n status old now (kernel_at status kernel) →
       FailsOnlyAt status old now → (status ≡ statuses.Memory → AreUnfailed old now) → AreFlushed 0 old now →
-      (status ≡ statuses.ReadFault → now.sink.kept_back ≡ []) → Replayed n last old new kernel
-  replayed statuses.Done last (inl f) h was memory so none = named statuses.Done last f.0 (at_done was so h f.1)
+      (status ≡ statuses.ReadFault → now.sink.kept_back ≡ []) → Replayed n last old new (kernel_at last kernel)
+  replayed statuses.Done last (inl f) h was memory so none =
+      named statuses.Done last f.0 (served was so statuses.Done f.1 h h.ends (unfailed was so f.1) (handed_on old now sink so f.1))
   replayed statuses.Done last (inr f) h was memory so none =
       named statuses.WriteFault last f.0 (unflushed was so statuses.Done h.run h.rest h.written h.replays h.handed_back h.ends.0 h.ends.1 f.1)
-  replayed (statuses.BadLine number) last (inl f) h was memory so none = named (statuses.BadLine number) last f.0 (at_bad_line was so number h f.1)
+  replayed (statuses.BadLine number) last (inl f) h was memory so none = named (statuses.BadLine number) last f.0
+      (served was so (statuses.BadLine number) f.1 h h.ends (unfailed was so f.1) (handed_on old now sink so f.1))
   replayed (statuses.BadLine number) last (inr f) h was memory so none =
       named statuses.WriteFault last f.0 (unflushed was so (statuses.BadLine number) h.run h.rest h.written h.replays h.handed_back h.ends.0 h.ends.1 f.1)
-  replayed statuses.TooMany last (inl f) h was memory so none = named statuses.TooMany last f.0 (at_too_many was so h f.1)
+  replayed statuses.TooMany last (inl f) h was memory so none =
+      named statuses.TooMany last f.0 (served was so statuses.TooMany f.1 h h.ends (unfailed was so f.1) (handed_on old now sink so f.1))
   replayed statuses.TooMany last (inr f) h was memory so none =
       named statuses.WriteFault last f.0 (unflushed was so statuses.TooMany h.run h.rest h.written h.replays h.handed_back h.ends.0 h.ends.1 f.1)
   replayed statuses.Usage last f h was memory so none = absurd h.ends.0
@@ -465,3 +447,12 @@ module _ (n : ℕ) (old now : Streams) (kernel : Machine) (sink : SinkView) wher
   replayed statuses.WriteFault last f h was memory so none =
       named statuses.WriteFault last f.0 (same_sink statuses.WriteFault f.1 (record { headline = h; unfailed = was; flushed = so }))
   replayed statuses.Memory last f h was memory so none = named statuses.Memory last f.0 (at_memory (memory refl) so h f.1)
+
+-- the same, where the flush changed nothing but the sink
+pub replays_last : (n : ℕ) (old now new : PortsView) (kernel : Machine) (status last : Status) → OnlySink now new →
+    FlushesLast status last now.sink new.sink → Headline n status old now (kernel_at status kernel) → FailsOnlyAt status old now →
+    (status ≡ statuses.Memory → AreUnfailed old now) → AreFlushed 0 old now → (status ≡ statuses.ReadFault → now.sink.kept_back ≡ []) →
+    Replayed n last old new (kernel_at last kernel)
+replays_last n old now new kernel status last only f h was memory so none =
+    subst (λ (p : PortsView). Replayed n last old p (kernel_at last kernel)) (sym (only_sink now new only))
+    (replayed n old now kernel new.sink status last f h was memory so none)

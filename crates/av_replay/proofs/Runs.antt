@@ -15,7 +15,7 @@ use Rattle.av_io.specs.Count.{RoseBy}
 use Rattle.std.proofs.lemmas.List.Sums.{sum_by-append}
 use Rattle.av_io.specs.Source.{in_front, Took}
 use Rattle.av_io.specs.Sink.{Gained}
-use Rattle.av_replay.specs.Streams.{Streams, undone, room, AreUnfailed, StaysOpen}
+use Rattle.av_replay.specs.Ports.{PortsView, undone, room, AreUnfailed, StaysOpen}
 use Rattle.av_replay.specs.Line.{IsLine}
 use Rattle.av_replay.specs.Turn.{texts, tally_of, Commands, Answers, TakesLine}
 use Rattle.av_replay.specs.Replay.{all_lines, Transcribes, Run, IsHandedBack, IsAtStart}
@@ -65,7 +65,7 @@ abbrev pub whole : Past → Run
 whole past = record { lines = past.lines; last = None; transcript = past.transcript; state = past.state }
 
 -- the lines so far were done, and their texts written; these bytes were read beyond them
-pub record SoFar (n : ℕ) (past : Past) (ahead : List ℕ) (old now : Streams) (kernel : Machine) : Type 0 where
+pub record SoFar (n : ℕ) (past : Past) (ahead : List ℕ) (old now : PortsView) (kernel : Machine) : Type 0 where
   pub read : Took old.source.left (undone ahead now) (all_lines past.lines)
   pub near : length ahead ≤ room
   pub lines : AllByRecursion IsLine past.lines
@@ -81,7 +81,7 @@ pub record SoFar (n : ℕ) (past : Past) (ahead : List ℕ) (old now : Streams) 
 abbrev pub no_past : Setting → Past
 no_past m = record { lines = []; transcript = []; state = at_first m }
 
-pub starts : (ahead : List ℕ) (now : Streams) (kernel : Machine) → ahead ≡ [] → IsAtStart kernel now.device →
+pub starts : (ahead : List ℕ) (now : PortsView) (kernel : Machine) → ahead ≡ [] → IsAtStart kernel now.device →
     SoFar kernel.frames (no_past (setting_of kernel.frames now.device)) ahead now now kernel
 starts ahead now kernel none start = record {
   read = Took-none now.source.left ∙ ap (in_front []) (Took-none now.source.left ∙ ap (λ (bytes : List ℕ). in_front bytes now.source.left) (sym none));
@@ -102,7 +102,7 @@ starts ahead now kernel none start = record {
 abbrev pub longer : Past → List ℕ → Option Exchange → State → Past
 longer past line did next = record { lines = past.lines ++ line ∷ []; transcript = past.transcript ++ option_to_list did; state = next }
 
-module _ (n : ℕ) (past : Past) (ahead : List ℕ) (old now new : Streams) (k k' : Machine) (line ending rest text written : List ℕ)
+module _ (n : ℕ) (past : Past) (ahead : List ℕ) (old now new : PortsView) (k k' : Machine) (line ending rest text written : List ℕ)
     (so_far : SoFar n past ahead old now k) (takes : TakesLine ahead now new k k' line ending rest text written) where
   -- the answers to the next line
   abbrev pub next_answers : Answers line now.device new.device past.state k k' text
@@ -151,7 +151,7 @@ module _ (n : ℕ) (past : Past) (ahead : List ℕ) (old now new : Streams) (k k
   texts_more = ap (λ (t : List ℕ). texts past.transcript ++ t) next_answers.said
       ∙ sym (flat_map-append (λ (e : Exchange). text_of e.reply) past.transcript (option_to_list next_answers.did))
 
-pub goes_on : (n : ℕ) (past : Past) (ahead rest : List ℕ) (old now new : Streams) (k k' : Machine) (line text : List ℕ) (so_far : SoFar n past ahead old now k)
+pub goes_on : (n : ℕ) (past : Past) (ahead rest : List ℕ) (old now new : PortsView) (k k' : Machine) (line text : List ℕ) (so_far : SoFar n past ahead old now k)
     (takes : TakesLine ahead now new k k' line (10 ∷ []) rest text text) (unfailed : AreUnfailed now new)
     (stays_open : StaysOpen now.source new.source) →
     SoFar n (longer past line (next_answers n past ahead old now new k k' line (10 ∷ []) rest text text so_far takes).did

@@ -1,10 +1,10 @@
 -- Sources and sinks from one time to the next.
-use Rattle.std.proofs.Common.{zero, suc, ◌≡◌, ℕ, ◌+◌, ◌≤◌, List, length, refl, ap, ◌∙◌, arith}
+use Rattle.std.proofs.Common.{zero, suc, ◌≡◌, ℕ, ◌+◌, refl, ap, ◌∙◌, arith}
 use Rattle.av_io.specs.Count.{one_more}
 use Rattle.av_io.specs.Source.{SourceView}
 use Rattle.av_io.specs.Sink.{SinkView, HandsOn, HasFailed}
 use Rattle.av_plain.specs.Device.{Device, IsSameDevice}
-use Rattle.av_replay.specs.Streams.{Streams, room, after_calls, AreFlushed, AreUnfailed, IsReadFault, ReadsOn, StaysOpen}
+use Rattle.av_replay.specs.Ports.{PortsView, OnlySink, after_calls, AreFlushed, AreUnfailed, IsReadFault, StaysOpen}
 use Rattle.av_replay.specs.Replay.{IsHandedOn}
 
 -- ---- a device
@@ -15,17 +15,18 @@ device_same a = record { sizes = refl; first = refl; faults = omega arith }
 pub device_then : (a b c : Device) → IsSameDevice a b → IsSameDevice b c → IsSameDevice a c
 device_then a b c p q = record { sizes = q.sizes ∙ p.sizes; first = q.first ∙ p.first; faults = omega (arith, p.faults, q.faults) }
 
--- ---- what was read ahead
+-- ---- where only the sink changed
 
-pub reads_then : (x y z : List ℕ) (a b c : Streams) → ReadsOn x y a b → ReadsOn y z b c → ReadsOn x z a c
-reads_then x y z a b c p q = record { same = q.same ∙ p.same; held = q.held ∙ p.held; device = q.device ∙ p.device; near = q.near }
+pub only_sink : (old new : PortsView) → OnlySink old new → new ≡ record old { sink = new.sink }
+only_sink old new only =
+    ap (λ (s : SourceView). record new { source = s }) only.source ∙ ap (λ (d : Device). record { source = old.source; sink = new.sink; device = d }) only.device
 
-pub reads_same : (x : List ℕ) (a : Streams) → length x ≤ room → ReadsOn x x a a
-reads_same x a near = record { same = refl; held = refl; device = refl; near = near }
+pub only_sink_then : (a b c : PortsView) → OnlySink a b → OnlySink b c → OnlySink a c
+only_sink_then a b c p q = record { source = q.source ∙ p.source; device = q.device ∙ p.device }
 
 -- ---- what failed, where nothing had before
 
-pub unfailed_then : (a b c : Streams) → AreUnfailed a b → AreUnfailed b c → AreUnfailed a c
+pub unfailed_then : (a b c : PortsView) → AreUnfailed a b → AreUnfailed b c → AreUnfailed a c
 unfailed_then a b c p q = record { source = q.source ∙ p.source; sink = q.sink ∙ p.sink }
 
 pub failed_since : (a b c : SinkView) → b.faults ≡ a.faults → HasFailed b c → HasFailed a c
@@ -45,7 +46,7 @@ after_calls-then (suc m) n count =
     let e : suc (n + m) ≡ n + suc m = omega arith in
     ap one_more (after_calls-then m n count) ∙ ap (λ (k : ℕ). after_calls k count) e
 
-pub flushed_then : (more : ℕ) (a b c : Streams) → AreFlushed 0 a b → AreFlushed more b c → AreFlushed more a c
+pub flushed_then : (more : ℕ) (a b c : PortsView) → AreFlushed 0 a b → AreFlushed more b c → AreFlushed more a c
 flushed_then more a b c p q =
     let e : (p.n + 0) + (q.n + more) ≡ (p.n + q.n) + more = omega arith in
     record {
@@ -56,15 +57,11 @@ flushed_then more a b c p q =
     }
 
 -- no read, and no flush
-pub flushed_none : (a b : Streams) → b.source.reads ≡ a.source.reads → b.sink.flushes ≡ a.sink.flushes → AreFlushed 0 a b
+pub flushed_none : (a b : PortsView) → b.source.reads ≡ a.source.reads → b.sink.flushes ≡ a.sink.flushes → AreFlushed 0 a b
 flushed_none a b reads flushes = record { n = 0; reads = reads; flushes = flushes }
 
--- a flush, and a read
-pub flushed_once : (a b : Streams) → b.source.reads ≡ one_more a.source.reads → b.sink.flushes ≡ one_more a.sink.flushes → AreFlushed 0 a b
-flushed_once a b reads flushes = record { n = 1; reads = reads; flushes = flushes }
-
 -- the last flush
-pub handed_on : (old now : Streams) (sink : SinkView) → AreFlushed 0 old now → HandsOn now.sink sink → IsHandedOn 1 old (record now { sink = sink })
+pub handed_on : (old now : PortsView) (sink : SinkView) → AreFlushed 0 old now → HandsOn now.sink sink → IsHandedOn 1 old (record now { sink = sink })
 handed_on old now sink was hands_on =
     let e : suc (was.n + 0) ≡ was.n + 1 = omega arith in
     record {

@@ -12,7 +12,7 @@ use Rattle.av_replay.specs.declared.status.Status.TheVariants as statuses
 use Rattle.av_io.specs.Source.{SourceView, Took, HasEnded}
 use Rattle.av_replay.specs.Line.{IsLine, IsNoNewline, HasNoNewline}
 use Rattle.av_replay.specs.Turn.{IsBad}
-use Rattle.av_replay.specs.Streams.{Streams}
+use Rattle.av_replay.specs.Ports.{PortsView}
 use Rattle.av_replay.specs.Replay.{most_lines, all_lines, Headline}
 use Rattle.av_replay.specs.Trace.{onto_first, lines_of, IsGood, IsComplete}
 
@@ -137,7 +137,7 @@ read_is left left' content taken rest last e none took =
     subst (λ (l : Option (List ℕ)). Took l left' (taken ++ rest)) e
     (subst (λ (o : Option (List ℕ)). Took left left' (taken ++ (unwrap_or o [] ++ rest))) none took)
 
-pub complete : (n : ℕ) (status : Status) (old new : Streams) (kernel : Option Machine) → Headline n status old new kernel → IsComplete status old new
+pub complete : (n : ℕ) (status : Status) (old new : PortsView) (kernel : Option Machine) → Headline n status old new kernel → IsComplete status old new
 complete n statuses.Done old new kernel h content e trace no_read no_write = inl refl
 complete n statuses.Memory old new kernel h content e trace no_read no_write = inr refl
 complete n statuses.Usage old new kernel h content e trace no_read no_write = absurd h.ends.0

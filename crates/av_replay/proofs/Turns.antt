@@ -4,26 +4,27 @@ use Rattle.std.specs.Prelude.{option_map}
 use Rattle.std.proofs.lemmas.List.{take_all, drop_all}
 use Rattle.av_kernel.specs.Machine.{Machine}
 use Rattle.av_plain.specs.Device.{Device, IsSameDevice}
-use Rattle.av_io.specs.Source.{in_front}
+use Rattle.av_io.specs.Source.{SourceView, in_front}
 use Rattle.av_io.specs.Sink.{SinkView}
 use Rattle.av_replay.specs.declared.line.Line.{Line}
 use Rattle.av_replay.specs.declared.status.RunErr.{RunErr}
 use Rattle.av_replay.specs.declared.status.RunErr.TheVariants as errors
-use Rattle.av_replay.specs.Streams.{Streams, AreUnfailed, ReadsOn, IsAtEnd, Writes}
+use Rattle.av_replay.specs.Ports.{PortsView, OnlySink, AreUnfailed, ReadsOn, IsAtEnd, Writes}
 use Rattle.av_replay.specs.Line.{IsLine, HasLine, IsNext, StopsReading}
 use Rattle.av_replay.specs.Turn.{DoesLine, IsCut, IsNotAnswered, StandsNext, IsEnding, TakesLine, CutsShort, Halts, DoesNext}
 use Rattle.av_replay.proofs.Bytes.{in_front-then}
 use Rattle.av_replay.proofs.Times.{device_same, failed_since}
 
 -- how the line in front ends
-pub record EndsBy (line : Line) (ahead ending : List ℕ) (now : Streams) : Type 0 where
+pub record EndsBy (line : Line) (ahead ending : List ℕ) (source : SourceView) : Type 0 where
   pub is_line : IsLine (take line.size ahead)
   pub parts : ahead ≡ (take line.size ahead ++ ending) ++ drop line.whole ahead
-  pub ends : IsEnding (take line.size ahead) ending (drop line.whole ahead) now.source
-  pub next : StandsNext (take line.size ahead) ahead now.source
+  pub ends : IsEnding (take line.size ahead) ending (drop line.whole ahead) source
+  pub next : StandsNext (take line.size ahead) ahead source
 
-ends_line : (line : Line) (ahead : List ℕ) (now : Streams) → HasLine line.size ahead → line.whole ≡ line.size + 1 → EndsBy line ahead (10 ∷ []) now
-ends_line line ahead now has whole =
+ends_line : (line : Line) (ahead : List ℕ) (source : SourceView) → HasLine line.size ahead → line.whole ≡ line.size + 1 →
+    EndsBy line ahead (10 ∷ []) source
+ends_line line ahead source has whole =
     let front = take line.size ahead in
     record {
       is_line = has.line;
@@ -32,9 +33,9 @@ ends_line line ahead now has whole =
       next = inl (drop (line.size + 1) ahead, has.newline);
     }
 
-ends_last : (line : Line) (ahead : List ℕ) (now : Streams) → IsLine ahead → line.size ≡ length ahead → 0 < line.size → line.whole ≡ line.size →
-    IsAtEnd now.source → EndsBy line ahead [] now
-ends_last line ahead now is_line size some whole end =
+ends_last : (line : Line) (ahead : List ℕ) (source : SourceView) → IsLine ahead → line.size ≡ length ahead → 0 < line.size → line.whole ≡ line.size →
+    IsAtEnd source → EndsBy line ahead [] source
+ends_last line ahead source is_line size some whole end =
     let front = take line.size ahead in
     let all : front ≡ ahead = take_all line.size ahead (omega arith) in
     let none : drop line.whole ahead ≡ [] = drop_all line.whole ahead (omega arith) in
@@ -46,24 +47,22 @@ ends_last line ahead now is_line size some whole end =
       next = inr (sym all, long, end);
     }
 
-module _ (ahead mid : List ℕ) (old now : Streams) (k k' : Machine) (line : Line) (sink : SinkView) (reads : ReadsOn ahead mid old now) where
+module _ (ahead mid : List ℕ) (old now new : PortsView) (k k' : Machine) (line : Line) (reads : ReadsOn ahead mid old now) (only : OnlySink now new) where
   -- the line is done, and this was written
-  pub takes : (ending text written : List ℕ) → EndsBy line mid ending now → DoesLine (take line.size mid) now.device now.device k k' text →
-      Writes now.sink sink written
-      → TakesLine ahead old (record now { sink = sink }) k k' (take line.size mid) ending (drop line.whole mid) text written
+  takes : (ending text written : List ℕ) → EndsBy line mid ending new.source → DoesLine (take line.size mid) now.device new.device k k' text →
+      Writes now.sink new.sink written → TakesLine ahead old new k k' (take line.size mid) ending (drop line.whole mid) text written
   takes ending text written by does writes = record {
     is_line = by.is_line;
-    took = sym reads.same ∙ ap (λ (l : List ℕ). in_front l now.source.left) by.parts ∙ in_front-then (take line.size mid ++ ending)
-        (drop line.whole mid) now.source.left;
+    took = sym reads.same ∙ ap (λ (s : SourceView). in_front mid s.left) (sym only.source) ∙ ap (λ (l : List ℕ). in_front l new.source.left) by.parts
+        ∙ in_front-then (take line.size mid ++ ending) (drop line.whole mid) new.source.left;
     ends = by.ends;
     near = omega (arith, length-drop line.whole mid, reads.near);
-    does = subst (λ d. DoesLine (take line.size mid) d now.device k k' text) reads.device does;
+    does = subst (λ d. DoesLine (take line.size mid) d new.device k k' text) reads.device does;
     gained = writes.gained ∙ ap (λ (h : Option (List ℕ)). option_map (λ (t : List ℕ). t ++ written) h) reads.held;
-    device = subst (λ (d : Device). IsSameDevice old.device d) (sym reads.device) (device_same old.device);
+    device = subst (λ (d : Device). IsSameDevice old.device d) (sym (only.device ∙ reads.device)) (device_same old.device);
   }
 
-  cuts : (ending : List ℕ) → EndsBy line mid ending now → IsCut (take line.size mid) now.device now.device k k' now.sink sink →
-      CutsShort ahead old (record now { sink = sink }) k k'
+  cuts : (ending : List ℕ) → EndsBy line mid ending new.source → IsCut (take line.size mid) now new k k' → CutsShort ahead old new k k'
   cuts ending by cut = record {
     line = take line.size mid;
     ending = ending;
@@ -74,45 +73,33 @@ module _ (ahead mid : List ℕ) (old now : Streams) (k k' : Machine) (line : Lin
     takes = takes ending cut.text (take cut.size cut.text) by cut.does cut.writes;
   }
 
-  same_sink : sink ≡ now.sink → ReadsOn ahead mid old (record now { sink = sink })
-  same_sink e = subst (λ (s : SinkView). ReadsOn ahead mid old (record now { sink = s })) (sym e) reads
+  same_sink : new.sink ≡ now.sink → ReadsOn ahead mid old new
+  same_sink e = record {
+    same = ap (λ (s : SourceView). in_front mid s.left) only.source ∙ reads.same;
+    held = ap (λ (s : SinkView). s.held) e ∙ reads.held;
+    device = only.device ∙ reads.device;
+    near = reads.near;
+  }
 
-  halts_by : (ending : List ℕ) (error : RunErr) → AreUnfailed old now → EndsBy line mid ending now →
-      IsNotAnswered error (take line.size mid) now.device now.device k k' now.sink sink → Halts error ahead mid old (record now { sink = sink }) k k'
+  halts_by : (ending : List ℕ) (error : RunErr) → AreUnfailed old now → EndsBy line mid ending new.source →
+      IsNotAnswered error (take line.size mid) now new k k' → Halts error ahead mid old new k k'
   halts_by ending errors.BadLine was by not = (record { reads = same_sink not.2; kernel = not.1 }, inr (take line.size mid, by.is_line, not.0, by.next))
   halts_by ending errors.Memory was by (inl same) = inl (same_sink same)
   halts_by ending errors.Memory was by (inr cut) = inr (cuts ending by cut)
-  halts_by ending errors.Write was by not = (inl (cuts ending by not.0), failed_since old.sink now.sink sink was.sink not.1)
+  halts_by ending errors.Write was by not = (inl (cuts ending by not.0), failed_since old.sink now.sink new.sink was.sink not.1)
   halts_by ending errors.Read was by not = absurd not
+
+  at_end : IsAtEnd now.source → IsAtEnd new.source
+  at_end = subst IsAtEnd (sym only.source)
 
   -- a line stood in front, and was not done, or its text not written
   pub halts : (error : RunErr) → AreUnfailed old now → IsNext line mid old.source now.source →
-      IsNotAnswered error (take line.size mid) now.device now.device k k' now.sink sink →
-      Halts error ahead mid old (record now { sink = sink }) k k'
-  halts error was (inl next) not = halts_by (10 ∷ []) error was (ends_line line mid now next.0 next.1) not
-  halts error was (inr next) not = halts_by [] error was (ends_last line mid now next.0 next.1 next.2 next.3 next.4) not
-
-  -- it was done, and its text written
-  pub does_line : (text : List ℕ) → HasLine line.size mid → line.whole ≡ line.size + 1 → DoesLine (take line.size mid) now.device now.device k k' text →
-      Writes now.sink sink text → DoesNext ahead (drop line.whole mid) old (record now { sink = sink }) k k' (10 ∷ [])
-  does_line text has whole does writes = record {
-    line = take line.size mid;
-    text = text;
-    takes = takes (10 ∷ []) text text
-        (ends_line line mid now has whole) does writes;
-  }
-
-  pub does_last : (text : List ℕ) → IsLine mid → line.size ≡ length mid → 0 < line.size → line.whole ≡ line.size → IsAtEnd now.source →
-      DoesLine (take line.size mid) now.device now.device k k' text → Writes now.sink sink text →
-      DoesNext ahead (drop line.whole mid) old (record now { sink = sink }) k k' []
-  does_last text is_line size some whole end does writes = record {
-    line = take line.size mid;
-    text = text;
-    takes = takes [] text text (ends_last line mid now is_line size some whole end) does writes;
-  }
+      IsNotAnswered error (take line.size mid) now new k k' → Halts error ahead mid old new k k'
+  halts error was (inl next) not = halts_by (10 ∷ []) error was (ends_line line mid new.source next.0 next.1) not
+  halts error was (inr next) not = halts_by [] error was (ends_last line mid new.source next.0 next.1 next.2 next.3 (at_end next.4)) not
 
 -- no line could be read
-pub unread : (error : RunErr) (ahead mid : List ℕ) (old now : Streams) (k : Machine) → ReadsOn ahead mid old now → StopsReading error mid old now →
+pub unread : (error : RunErr) (ahead mid : List ℕ) (old now : PortsView) (k : Machine) → ReadsOn ahead mid old now → StopsReading error mid old now →
     Halts error ahead mid old now k k
 unread errors.BadLine ahead mid old now k reads stops = (record { reads = reads; kernel = refl }, inl stops)
 unread errors.Read ahead mid old now k reads stops = (record { reads = reads; kernel = refl }, stops.0, stops.1)

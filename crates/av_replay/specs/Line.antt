@@ -7,7 +7,7 @@ use Rattle.av_replay.specs.declared.line.Found.TheVariants as founds
 use Rattle.av_replay.specs.declared.line.Line.{Line}
 use Rattle.av_replay.specs.declared.status.RunErr.{RunErr}
 use Rattle.av_replay.specs.declared.status.RunErr.TheVariants as errors
-use Rattle.av_replay.specs.Streams.{Streams, AreUnfailed, IsAtEnd, IsReadFault, StaysOpen}
+use Rattle.av_replay.specs.Ports.{PortsView, AreUnfailed, IsAtEnd, IsReadFault, StaysOpen}
 
 -- a line has at most so many bytes
 abbrev pub longest : ℕ
@@ -52,30 +52,30 @@ IsNext line ahead old new =
     × IsAtEnd new)
 
 -- why no more could be read: the source failed, or the sink could not hand on what it kept back
-abbrev pub IsUnread : RunErr → Streams → Streams → Type 0
+abbrev pub IsUnread : RunErr → PortsView → PortsView → Type 0
 IsUnread errors.Read old new = IsReadFault old.source new.source
 IsUnread errors.Write old new = (new.sink.held ≡ None) × HasFailed old.sink new.sink
 IsUnread errors.BadLine old new = ⊥
 IsUnread errors.Memory old new = ⊥
 
 -- why no further line can be had
-abbrev pub StopsReading : RunErr → List ℕ → Streams → Streams → Type 0
+abbrev pub StopsReading : RunErr → List ℕ → PortsView → PortsView → Type 0
 StopsReading errors.BadLine ahead old new = IsTooLong ahead
 StopsReading error ahead old new = IsLine ahead × IsUnread error old new
 
 -- nothing failed but what the error tells of
-abbrev pub FailsBy : RunErr → Streams → Streams → Type 0
+abbrev pub FailsBy : RunErr → PortsView → PortsView → Type 0
 FailsBy errors.Read old new = new.sink.faults ≡ old.sink.faults
 FailsBy errors.Write old new = new.source.faults ≡ old.source.faults
 FailsBy error old new = AreUnfailed old new
 
 -- nothing failed but what the result tells of
-abbrev pub FailsOnly : {A : Type 0} → Result A RunErr → Streams → Streams → Type 0
+abbrev pub FailsOnly : {A : Type 0} → Result A RunErr → PortsView → PortsView → Type 0
 FailsOnly (Ok x) old new = AreUnfailed old new
 FailsOnly (Err error) old new = FailsBy error old new
 
 -- how the reading of a line ended, or of none at the end of the input
-abbrev pub LineRead : Result (Option Line) RunErr → List ℕ → Streams → Streams → Type 0
+abbrev pub LineRead : Result (Option Line) RunErr → List ℕ → PortsView → PortsView → Type 0
 LineRead (Ok (Some line)) ahead old new = IsNext line ahead old.source new.source
 LineRead (Ok None) ahead old new = (ahead ≡ []) × IsAtEnd new.source
 LineRead (Err error) ahead old new = StopsReading error ahead old new

@@ -15,7 +15,7 @@ use Rattle.av_replay.specs.declared.status.Status.{Status}
 use Rattle.av_replay.specs.declared.status.Status.TheVariants as statuses
 use Rattle.av_replay.specs.declared.status.RunErr.{RunErr}
 use Rattle.av_replay.specs.declared.status.RunErr.TheVariants as errors
-use Rattle.av_replay.specs.Streams.{Streams, room, AreFlushed, AreUnfailed, IsAtEnd, IsReadFault}
+use Rattle.av_replay.specs.Ports.{PortsView, room, AreFlushed, AreUnfailed, IsAtEnd, IsReadFault}
 use Rattle.av_replay.specs.Line.{IsLine}
 use Rattle.av_replay.specs.Turn.{texts, tally_of, Commands, IsBad}
 
@@ -52,7 +52,7 @@ done_lines run = run.lines ++ option_to_list run.last
 -- Their transcript is legal, each frame and slot chosen exactly and the areas by the rules, from
 -- the empty state on. What was written is this. A last line without newline stands at the end of
 -- the input. What only faults of the device explain is within what it failed.
-pub record Replays (frames : ℕ) (old new : Streams) (run : Run) (rest written : List ℕ)
+pub record Replays (frames : ℕ) (old new : PortsView) (run : Run) (rest written : List ℕ)
     : Type 0 where
   pub read : Took old.source.left new.source.left
       (all_lines run.lines ++ (unwrap_or run.last [] ++ rest))
@@ -111,7 +111,7 @@ MayGoOn run rest = 0 < length rest → length run.lines < most_lines
 
 -- The place at which a run of this status stops: at the end of the input, before line n, within a
 -- line, or after the last line that is done, with a byte of one more.
-abbrev pub StopsAt : Status → Streams → Run → List ℕ → Type 0
+abbrev pub StopsAt : Status → PortsView → Run → List ℕ → Type 0
 StopsAt statuses.Done new run rest = (rest ≡ []) × IsAtEnd new.source
 StopsAt (statuses.BadLine n) new run rest =
     (run.last ≡ None) × (n ≡ length run.lines + 1) × (n ≤ most_lines) × IsBad rest new.source
@@ -138,7 +138,7 @@ pub record IsCutOff (run : Run) (written : List ℕ) : Type 0 where
 -- The sink took every text, but it doesn't tell what it holds, and could not hand on what it kept
 -- back. That was found where another status would have ended the run, or where the run would have
 -- read on within a line.
-pub record IsKeptBack (new : Streams) (run : Run) (rest written : List ℕ) : Type 0 where
+pub record IsKeptBack (new : PortsView) (run : Run) (rest written : List ℕ) : Type 0 where
   pub untold : new.sink.held ≡ None
   pub whole : written ≡ texts run.transcript
   pub status : Status
@@ -147,7 +147,7 @@ pub record IsKeptBack (new : Streams) (run : Run) (rest written : List ℕ) : Ty
 -- how each status ends: what was read beyond the lines done, what was written, and which fault was
 -- counted. A read that fails isn't one after the end was told, and no call of the sink is served
 -- after one that failed; which call fails no one knows before, so none is made then.
-abbrev pub Ends : Status → Streams → Streams → Run → List ℕ → List ℕ → Type 0
+abbrev pub Ends : Status → PortsView → PortsView → Run → List ℕ → List ℕ → Type 0
 Ends statuses.ReadFault old new run rest written =
     StopsAt statuses.ReadFault new run rest × (written ≡ texts run.transcript)
     × IsReadFault old.source new.source
@@ -159,7 +159,7 @@ Ends status old new run rest written =
     StopsAt status new run rest × (written ≡ texts run.transcript)
 
 -- The headline, for a status at which the trace was begun.
-pub record Headline (frames : ℕ) (status : Status) (old new : Streams) (kernel : Option Machine)
+pub record Headline (frames : ℕ) (status : Status) (old new : PortsView) (kernel : Option Machine)
     : Type 0 where
   pub run : Run
   pub rest : List ℕ
@@ -176,7 +176,7 @@ FailsUntold old new = (new.held ≡ None) × HasFailed old new
 
 -- Nothing failed but what the status tells of. Where memory is wanting, the last flush may have
 -- failed, too, if the sink doesn't tell what it holds.
-abbrev pub FailsOnlyAt : Status → Streams → Streams → Type 0
+abbrev pub FailsOnlyAt : Status → PortsView → PortsView → Type 0
 FailsOnlyAt statuses.ReadFault old new = new.sink.faults ≡ old.sink.faults
 FailsOnlyAt statuses.WriteFault old new = new.source.faults ≡ old.source.faults
 FailsOnlyAt statuses.Memory old new =
@@ -185,21 +185,28 @@ FailsOnlyAt statuses.Memory old new =
 FailsOnlyAt status old new = AreUnfailed old new
 
 -- nothing is kept back, after a flush for each read, and so many more
-pub record IsHandedOn (more : ℕ) (old new : Streams) : Type 0 where
+pub record IsHandedOn (more : ℕ) (old new : PortsView) : Type 0 where
   pub none_kept : new.sink.kept_back ≡ []
   pub flushed : AreFlushed more old new
 
 -- How the sink was flushed. Where a read failed nothing is kept back, and no flush came since: so
 -- nothing was kept back when that read was waited for. Which read fails no one knows before, so it
 -- was so at each. Where memory is wanting, what the sink took is handed on, unless that fails.
-abbrev pub IsFlushed : Status → Streams → Streams → Type 0
+abbrev pub IsFlushed : Status → PortsView → PortsView → Type 0
 IsFlushed statuses.ReadFault old new = IsHandedOn 0 old new
 IsFlushed statuses.WriteFault old new = AreFlushed 0 old new
-IsFlushed statuses.Usage old new = AreFlushed 0 old new
 IsFlushed statuses.Memory old new =
     ((new.sink ≡ old.sink) × AreFlushed 0 old new) ⊎ IsHandedOn 1 old new
     ⊎ (FailsUntold old.sink new.sink × AreFlushed 0 old new)
 IsFlushed status old new = IsHandedOn 1 old new
+
+-- What a run says of a trace that was begun. (That no call of the sink came after one that failed is
+-- said in the headline, where the status is that of a failed write.)
+pub record Replayed (frames : ℕ) (status : Status) (old new : PortsView) (kernel : Option Machine)
+    : Type 0 where
+  pub headline : Headline frames status old new kernel
+  pub unfailed : FailsOnlyAt status old new
+  pub flushed : IsFlushed status old new
 
 -- the last flush, and the status that it makes of another. There is none after a call that failed.
 abbrev pub FlushesLast : Status → Status → SinkView → SinkView → Type 0

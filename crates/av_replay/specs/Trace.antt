@@ -6,7 +6,7 @@ use Rattle.av_replay.specs.declared.status.Status.{Status}
 use Rattle.av_replay.specs.declared.status.Status.TheVariants as statuses
 use Rattle.av_io.specs.Count.{one_more}
 use Rattle.av_io.specs.Sink.{HasFailed}
-use Rattle.av_replay.specs.Streams.{Streams}
+use Rattle.av_replay.specs.Ports.{PortsView}
 use Rattle.av_replay.specs.Line.{IsLine}
 use Rattle.av_replay.specs.Replay.{most_lines}
 
@@ -37,7 +37,7 @@ abbrev pub IsDoneOrMemory : Status → Type 0
 IsDoneOrMemory status = (status ≡ statuses.Done) ⊎ (status ≡ statuses.Memory)
 
 -- a trace of good lines is done, or memory ran out, where neither source nor sink failed
-abbrev pub IsComplete : Status → Streams → Streams → Type 0
+abbrev pub IsComplete : Status → PortsView → PortsView → Type 0
 IsComplete status old new = (content : List ℕ) → old.source.left ≡ Some content → IsTrace content
     → (new.source.faults ≡ one_more old.source.faults → ⊥) → (HasFailed old.sink new.sink → ⊥)
     → IsDoneOrMemory status

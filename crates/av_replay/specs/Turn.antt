@@ -13,12 +13,12 @@ use Rattle.av_kernel.specs.declared.tally.Tally.{Tally}
 use Rattle.av_plain.specs.Device.{Device, IsSameDevice, setting_of}
 use Rattle.av_io.specs.Count.{RoseBy}
 use Rattle.av_io.specs.Source.{SourceView, Took}
-use Rattle.av_io.specs.Sink.{SinkView, Gained, HasFailed}
+use Rattle.av_io.specs.Sink.{Gained, HasFailed}
 use Rattle.av_replay.specs.declared.status.Status.{Status}
 use Rattle.av_replay.specs.declared.status.Status.TheVariants as statuses
 use Rattle.av_replay.specs.declared.status.RunErr.{RunErr}
 use Rattle.av_replay.specs.declared.status.RunErr.TheVariants as errors
-use Rattle.av_replay.specs.Streams.{Streams, undone, room, ReadsOn, IsAtEnd, IsReadFault, StaysOpen, Writes}
+use Rattle.av_replay.specs.Ports.{PortsView, undone, room, ReadsOn, IsAtEnd, IsReadFault, StaysOpen, Writes}
 use Rattle.av_replay.specs.Line.{IsLine, IsTooLong}
 
 -- ---- what a line does
@@ -73,24 +73,23 @@ IsNotDone errors.Read line old new = ⊥
 IsNotDone errors.Write line old new = ⊥
 
 -- a line was done, and its text cut short
-pub record IsCut (line : List ℕ) (device device' : Device) (old new : Machine)
-    (sink sink' : SinkView) : Type 0 where
+pub record IsCut (line : List ℕ) (old new : PortsView) (k k' : Machine) : Type 0 where
   pub text : List ℕ
   pub size : ℕ
   pub short : size < length text
-  pub does : DoesLine line device device' old new text
-  pub writes : Writes sink sink' (take size text)
+  pub does : DoesLine line old.device new.device k k' text
+  pub writes : Writes old.sink new.sink (take size text)
 
 -- why a line is not done, or its text not written
-abbrev pub IsNotAnswered : RunErr → List ℕ → Device → Device → Machine → Machine
-    → SinkView → SinkView → Type 0
-IsNotAnswered errors.BadLine line device device' old new sink sink' =
-    SaysNothing line × (new ≡ old) × (sink' ≡ sink)
-IsNotAnswered errors.Memory line device device' old new sink sink' =
-    (sink' ≡ sink) ⊎ IsCut line device device' old new sink sink'
-IsNotAnswered errors.Write line device device' old new sink sink' =
-    IsCut line device device' old new sink sink' × HasFailed sink sink'
-IsNotAnswered errors.Read line device device' old new sink sink' = ⊥
+abbrev pub IsNotAnswered :
+    RunErr → List ℕ → PortsView → PortsView → Machine → Machine → Type 0
+IsNotAnswered errors.BadLine line old new k k' =
+    SaysNothing line × (k' ≡ k) × (new.sink ≡ old.sink)
+IsNotAnswered errors.Memory line old new k k' =
+    (new.sink ≡ old.sink) ⊎ IsCut line old new k k'
+IsNotAnswered errors.Write line old new k k' =
+    IsCut line old new k k' × HasFailed old.sink new.sink
+IsNotAnswered errors.Read line old new k k' = ⊥
 
 -- ---- a turn
 
@@ -114,7 +113,7 @@ IsEnding line ending rest source =
 
 -- a line was taken and done, this was written, and these bytes were read beyond it
 pub record TakesLine
-    (ahead : List ℕ) (old new : Streams) (k k' : Machine) (line ending rest text written : List ℕ)
+    (ahead : List ℕ) (old new : PortsView) (k k' : Machine) (line ending rest text written : List ℕ)
     : Type 0 where
   pub is_line : IsLine line
   pub took : Took (undone ahead old) (undone rest new) (line ++ ending)
@@ -125,12 +124,12 @@ pub record TakesLine
   pub device : IsSameDevice old.device new.device
 
 -- nothing was done
-pub record Waits (ahead ahead' : List ℕ) (old new : Streams) (k k' : Machine) : Type 0 where
+pub record Waits (ahead ahead' : List ℕ) (old new : PortsView) (k k' : Machine) : Type 0 where
   pub reads : ReadsOn ahead ahead' old new
   pub kernel : k' ≡ k
 
 -- a line was done, and its text cut short
-pub record CutsShort (ahead : List ℕ) (old new : Streams) (k k' : Machine) : Type 0 where
+pub record CutsShort (ahead : List ℕ) (old new : PortsView) (k k' : Machine) : Type 0 where
   pub line : List ℕ
   pub ending : List ℕ
   pub rest : List ℕ
@@ -140,7 +139,7 @@ pub record CutsShort (ahead : List ℕ) (old new : Streams) (k k' : Machine) : T
   pub takes : TakesLine ahead old new k k' line ending rest text (take size text)
 
 -- the sink could not hand on what it kept back, before more of a line was read
-pub record IsUnflushed (ahead ahead' : List ℕ) (old new : Streams) (k k' : Machine)
+pub record IsUnflushed (ahead ahead' : List ℕ) (old new : PortsView) (k k' : Machine)
     : Type 0 where
   pub waits : Waits ahead ahead' old new k k'
   pub part : IsLine ahead'
@@ -148,7 +147,7 @@ pub record IsUnflushed (ahead ahead' : List ℕ) (old new : Streams) (k k' : Mac
 
 -- why a turn did not end well
 abbrev pub Halts :
-    RunErr → List ℕ → List ℕ → Streams → Streams → Machine → Machine → Type 0
+    RunErr → List ℕ → List ℕ → PortsView → PortsView → Machine → Machine → Type 0
 Halts errors.BadLine ahead ahead' old new k k' =
     Waits ahead ahead' old new k k' × IsBad ahead' new.source
 Halts errors.Read ahead ahead' old new k k' =
@@ -160,21 +159,21 @@ Halts errors.Memory ahead ahead' old new k k' =
     ReadsOn ahead ahead' old new ⊎ CutsShort ahead old new k k'
 
 -- a line was done, with its newline or as the last one
-pub record DoesNext (ahead ahead' : List ℕ) (old new : Streams) (k k' : Machine)
+pub record DoesNext (ahead ahead' : List ℕ) (old new : PortsView) (k k' : Machine)
     (ending : List ℕ) : Type 0 where
   pub line : List ℕ
   pub text : List ℕ
   pub takes : TakesLine ahead old new k k' line ending ahead' text text
 
 -- nothing was left to be done
-pub record FindsEnd (ahead ahead' : List ℕ) (old new : Streams) (k k' : Machine) : Type 0 where
+pub record FindsEnd (ahead ahead' : List ℕ) (old new : PortsView) (k k' : Machine) : Type 0 where
   pub waits : Waits ahead ahead' old new k k'
   pub none : ahead' ≡ []
   pub end : IsAtEnd new.source
 
 -- what a turn did, and whether the input goes on
 abbrev pub Turned :
-    Result Bool RunErr → List ℕ → List ℕ → Streams → Streams → Machine → Machine → Type 0
+    Result Bool RunErr → List ℕ → List ℕ → PortsView → PortsView → Machine → Machine → Type 0
 Turned (Ok true) ahead ahead' old new k k' =
     DoesNext ahead ahead' old new k k' (10 ∷ []) × StaysOpen old.source new.source
 Turned (Ok false) ahead ahead' old new k k' =
@@ -182,7 +181,7 @@ Turned (Ok false) ahead ahead' old new k k' =
 Turned (Err error) ahead ahead' old new k k' = Halts error ahead ahead' old new k k'
 
 -- after the last line that may be done: whether a byte of one more came
-abbrev pub Finished : Status → List ℕ → Streams → Streams → Type 0
+abbrev pub Finished : Status → List ℕ → PortsView → PortsView → Type 0
 Finished statuses.TooMany ahead' old new = 0 < length ahead'
 Finished statuses.Done ahead' old new = (ahead' ≡ []) × IsAtEnd new.source
 Finished statuses.ReadFault ahead' old new = (ahead' ≡ []) × IsReadFault old.source new.source

@@ -1,12 +1,12 @@
 //! Reading a line.
 
 ghost use Rattle.std.specs.Prelude.{◌≡◌, ◌+◌, ◌<◌, ◌≤◌, [], length, IfOk, IfErr, IfSome, IfNone};
-ghost use Rattle.av_replay.specs.Streams.{streams, ReadsOn, IsAtEnd, AreFlushed, StaysOpen};
+ghost use Rattle.av_replay.specs.Ports.{ReadsOn, IsAtEnd, AreFlushed, StaysOpen};
 ghost use Rattle.av_replay.specs.Line.{longest, FailsOnly, Finds, LineRead, IsUnread};
 
 use crate::pending::Pending;
+use crate::ports::Ports;
 use crate::status::RunErr;
-use av_io::{Sink, Source};
 use memchr::memchr;
 
 /// So many bytes without a newline are no line.
@@ -44,33 +44,26 @@ pub struct Line {
 /// Reads on, and says how many bytes came. 0 is the end of the input.
 ///
 /// The sink is flushed first: who waits for the replies so far, before going on, sees them.
-pub fn read_on<S: Source, K: Sink>(
-    source: &mut S,
-    sink: &mut K,
-    pending: &mut Pending,
-) -> Result<usize, RunErr>
+pub fn read_on<P: Ports>(ports: &mut P, pending: &mut Pending) -> Result<usize, RunErr>
     requires { length pending.old ≤ longest }
-    ensures reads { ReadsOn pending.old pending.new (streams (S.view source.old) (K.view sink.old))
-        (streams (S.view source.new) (K.view sink.new)) }
+    ensures reads { ReadsOn pending.old pending.new (P.view ports.old) (P.view ports.new) }
     ensures more { IfOk result (λ n. length pending.new ≡ length pending.old + n) }
     ensures ended { IfOk result
-        (λ n. n ≡ 0 → (pending.new ≡ pending.old) × IsAtEnd (S.view source.new)) }
+        (λ n. n ≡ 0 → (pending.new ≡ pending.old) × IsAtEnd (P.view ports.new).source) }
     ensures stays_open { IfOk result
-        (λ n. 0 < n → StaysOpen (S.view source.old) (S.view source.new)) }
-    ensures unfailed { FailsOnly result (streams (S.view source.old) (K.view sink.old))
-        (streams (S.view source.new) (K.view sink.new)) }
-    ensures flushed { AreFlushed 0 (streams (S.view source.old) (K.view sink.old))
-        (streams (S.view source.new) (K.view sink.new)) }
+        (λ n. 0 < n → StaysOpen (P.view ports.old).source (P.view ports.new).source) }
+    ensures unfailed { FailsOnly result (P.view ports.old) (P.view ports.new) }
+    ensures flushed { AreFlushed 0 (P.view ports.old) (P.view ports.new) }
     ensures none_kept { IfErr result
-        (λ e. e ≡ RunErr.Read → (K.view sink.new).kept_back ≡ []) }
+        (λ e. e ≡ RunErr.Read → (P.view ports.new).sink.kept_back ≡ []) }
     ensures err { IfErr result (λ e. (pending.new ≡ pending.old)
-        × IsUnread e (streams (S.view source.old) (K.view sink.old))
-        (streams (S.view source.new) (K.view sink.new))) }
+        × IsUnread e (P.view ports.old) (P.view ports.new)) }
+    ensures kept { P.kept ports.new ≡ P.kept ports.old }
 {
-    if sink.flush().is_err() {
+    if ports.flush().is_err() {
         return Err(RunErr::Write);
     }
-    match pending.fill(source) {
+    match pending.fill(ports) {
         Ok(count) => Ok(count),
         Err(_) => Err(RunErr::Read),
     }
@@ -78,21 +71,14 @@ pub fn read_on<S: Source, K: Sink>(
 
 /// Reads on until a line has come, and says where it ends; or None, where the input has ended
 /// before another.
-pub fn read_line<S: Source, K: Sink>(
-    source: &mut S,
-    sink: &mut K,
-    pending: &mut Pending,
-) -> Result<Option<Line>, RunErr>
-    ensures reads { ReadsOn pending.old pending.new (streams (S.view source.old) (K.view sink.old))
-        (streams (S.view source.new) (K.view sink.new)) }
-    ensures line { LineRead result pending.new (streams (S.view source.old) (K.view sink.old))
-        (streams (S.view source.new) (K.view sink.new)) }
-    ensures unfailed { FailsOnly result (streams (S.view source.old) (K.view sink.old))
-        (streams (S.view source.new) (K.view sink.new)) }
-    ensures flushed { AreFlushed 0 (streams (S.view source.old) (K.view sink.old))
-        (streams (S.view source.new) (K.view sink.new)) }
+pub fn read_line<P: Ports>(ports: &mut P, pending: &mut Pending) -> Result<Option<Line>, RunErr>
+    ensures reads { ReadsOn pending.old pending.new (P.view ports.old) (P.view ports.new) }
+    ensures line { LineRead result pending.new (P.view ports.old) (P.view ports.new) }
+    ensures unfailed { FailsOnly result (P.view ports.old) (P.view ports.new) }
+    ensures flushed { AreFlushed 0 (P.view ports.old) (P.view ports.new) }
     ensures none_kept { IfErr result
-        (λ e. e ≡ RunErr.Read → (K.view sink.new).kept_back ≡ []) }
+        (λ e. e ≡ RunErr.Read → (P.view ports.new).sink.kept_back ≡ []) }
+    ensures kept { P.kept ports.new ≡ P.kept ports.old }
 {
     loop {
         match find_line(pending.as_slice()) {
@@ -105,7 +91,7 @@ pub fn read_line<S: Source, K: Sink>(
             Found::TooLong => return Err(RunErr::BadLine),
             Found::Part => {}
         }
-        if read_on(source, sink, pending)? == 0 {
+        if read_on(ports, pending)? == 0 {
             return Ok(last_line(pending.as_slice().len()));
         }
     }

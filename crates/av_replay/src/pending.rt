@@ -2,11 +2,12 @@
 
 ghost use Rattle.std.specs.Prelude.{◌≡◌, ◌+◌, ◌-◌, ◌<◌, ◌≤◌, [], false, length, take, drop, IfOk, OnOk, OnErr};
 ghost use Rattle.av_io.specs.Count.{one_more};
-ghost use Rattle.av_io.specs.Source.{in_front, Took, GivesNothing};
-ghost use Rattle.av_replay.specs.Streams.{room, IsAtEnd};
+ghost use Rattle.av_io.specs.Source.{Took, GivesNothing};
+ghost use Rattle.av_replay.specs.Ports.{room, IsAtEnd, OnlySource, undone};
 ghost use Rattle.av_replay.specs.Line.{longest};
 
-use av_io::{Failed, Source};
+use crate::ports::Ports;
+use av_io::Failed;
 use std::alloc::{AllocError, Global};
 use std::marker::Model;
 
@@ -47,19 +48,23 @@ fn move_to_front(bytes: &mut Vec<u8>, start: usize, end: usize)
 }
 
 /// Reads into the room after the bytes that are kept.
-fn read_behind<S: Source>(source: &mut S, bytes: &mut [u8], kept: usize) -> Result<usize, Failed>
+fn read_behind<P: Ports>(ports: &mut P, bytes: &mut [u8], kept: usize) -> Result<usize, Failed>
     requires { kept < length bytes.old }
-    ensures kept { take kept bytes.new ≡ take kept bytes.old }
+    ensures front { take kept bytes.new ≡ take kept bytes.old }
     ensures within { IfOk result (λ n. kept + n ≤ length bytes.new) }
-    ensures taken { IfOk result (λ n. Took (S.view source.old).left (S.view source.new).left
-        (take n (drop kept bytes.new))) }
-    ensures ended { IfOk result (λ n. n ≡ 0 → IsAtEnd (S.view source.new)) }
-    ensures reads { (S.view source.new).reads ≡ one_more (S.view source.old).reads }
-    ensures stays_open { IfOk result (λ n. 0 < n → (S.view source.new).has_told_end ≡ false) }
-    ensures unfailed { OnOk result ((S.view source.new).faults ≡ (S.view source.old).faults) }
-    ensures err { OnErr result (GivesNothing (S.view source.old) (S.view source.new)) }
+    ensures taken { IfOk result (λ n. Took (P.view ports.old).source.left
+        (P.view ports.new).source.left (take n (drop kept bytes.new))) }
+    ensures ended { IfOk result (λ n. n ≡ 0 → IsAtEnd (P.view ports.new).source) }
+    ensures reads { (P.view ports.new).source.reads ≡ one_more (P.view ports.old).source.reads }
+    ensures stays_open { IfOk result
+        (λ n. 0 < n → (P.view ports.new).source.has_told_end ≡ false) }
+    ensures unfailed { OnOk result
+        ((P.view ports.new).source.faults ≡ (P.view ports.old).source.faults) }
+    ensures err { OnErr result (GivesNothing (P.view ports.old).source (P.view ports.new).source) }
+    ensures only { OnlySource (P.view ports.old) (P.view ports.new) }
+    ensures kept { P.kept ports.new ≡ P.kept ports.old }
 {
-    match source.read(&mut bytes[kept..]) {
+    match ports.read(&mut bytes[kept..]) {
         Ok(count) => Ok(count),
         Err(error) => Err(error),
     }
@@ -94,27 +99,30 @@ impl Pending {
     }
 
     /// Reads more, and says how many bytes came. 0 is the end of the input.
-    pub fn fill<S: Source>(&mut self, source: &mut S) -> Result<usize, Failed>
+    pub fn fill<P: Ports>(&mut self, ports: &mut P) -> Result<usize, Failed>
         requires { length self.old ≤ longest }
-        ensures undone { in_front self.new (S.view source.new).left
-            ≡ in_front self.old (S.view source.old).left }
+        ensures undone { undone self.new (P.view ports.new) ≡ undone self.old (P.view ports.old) }
         ensures few { length self.new ≤ room }
         ensures more { IfOk result (λ n. length self.new ≡ length self.old + n) }
         ensures ended { IfOk result
-            (λ n. n ≡ 0 → (self.new ≡ self.old) × IsAtEnd (S.view source.new)) }
-        ensures reads { (S.view source.new).reads ≡ one_more (S.view source.old).reads }
-        ensures stays_open { IfOk result (λ n. 0 < n → (S.view source.new).has_told_end ≡ false) }
-        ensures unfailed { OnOk result ((S.view source.new).faults ≡ (S.view source.old).faults) }
+            (λ n. n ≡ 0 → (self.new ≡ self.old) × IsAtEnd (P.view ports.new).source) }
+        ensures reads { (P.view ports.new).source.reads ≡ one_more (P.view ports.old).source.reads }
+        ensures stays_open { IfOk result
+            (λ n. 0 < n → (P.view ports.new).source.has_told_end ≡ false) }
+        ensures unfailed { OnOk result
+            ((P.view ports.new).source.faults ≡ (P.view ports.old).source.faults) }
         ensures untold { OnErr result
-            ((S.view source.new).has_told_end ≡ (S.view source.old).has_told_end) }
+            ((P.view ports.new).source.has_told_end ≡ (P.view ports.old).source.has_told_end) }
         ensures failed { OnErr result (self.new ≡ self.old) }
         ensures cause { OnErr result
-            ((S.view source.new).faults ≡ one_more (S.view source.old).faults) }
+            ((P.view ports.new).source.faults ≡ one_more (P.view ports.old).source.faults) }
+        ensures only { OnlySource (P.view ports.old) (P.view ports.new) }
+        ensures kept { P.kept ports.new ≡ P.kept ports.old }
     {
         move_to_front(&mut self.bytes, self.start, self.end);
         self.end -= self.start;
         self.start = 0;
-        let count = read_behind(source, &mut self.bytes, self.end)?;
+        let count = read_behind(ports, &mut self.bytes, self.end)?;
         self.end += count;
         Ok(count)
     }

@@ -1,24 +1,23 @@
 //! The loop over the lines.
 
 ghost use Rattle.std.specs.Prelude.{◌≡◌, []};
-ghost use Rattle.av_plain.specs.Device.{no_device};
-ghost use Rattle.av_replay.specs.Streams.{streams, AreFlushed, AreUnfailed, ReadsOn};
+ghost use Rattle.av_replay.specs.Ports.{AreFlushed, AreUnfailed, OnlySink, ReadsOn};
 ghost use Rattle.av_replay.specs.Turn.{Finished};
 ghost use Rattle.av_replay.specs.Replay.{
   FailsOnlyAt,
   FlushesLast,
   Headline,
   IsAtStart,
-  IsFlushed,
+  Replayed,
   kernel_at,
   status_at,
 };
 
 use crate::line::read_on;
 use crate::pending::Pending;
+use crate::ports::Ports;
 use crate::status::{RunErr, Status};
 use crate::turn::{Scratch, next_line};
-use av_io::{Sink, Source};
 use av_kernel::Kernel;
 use std::alloc::Global;
 
@@ -38,21 +37,18 @@ fn status_of(error: RunErr, number: u32) -> Status
 }
 
 /// After as many lines as may be: whether a byte of one more comes.
-fn finish<S: Source, K: Sink>(source: &mut S, sink: &mut K, pending: &mut Pending) -> Status
-    ensures reads { ReadsOn pending.old pending.new (streams (S.view source.old) (K.view sink.old))
-        (streams (S.view source.new) (K.view sink.new)) }
-    ensures finished { Finished result pending.new (streams (S.view source.old) (K.view sink.old))
-        (streams (S.view source.new) (K.view sink.new)) }
-    ensures unfailed { FailsOnlyAt result (streams (S.view source.old) (K.view sink.old))
-        (streams (S.view source.new) (K.view sink.new)) }
-    ensures flushed { AreFlushed 0 (streams (S.view source.old) (K.view sink.old))
-        (streams (S.view source.new) (K.view sink.new)) }
-    ensures none_kept { result ≡ Status.ReadFault → (K.view sink.new).kept_back ≡ [] }
+fn finish<P: Ports>(ports: &mut P, pending: &mut Pending) -> Status
+    ensures reads { ReadsOn pending.old pending.new (P.view ports.old) (P.view ports.new) }
+    ensures finished { Finished result pending.new (P.view ports.old) (P.view ports.new) }
+    ensures unfailed { FailsOnlyAt result (P.view ports.old) (P.view ports.new) }
+    ensures flushed { AreFlushed 0 (P.view ports.old) (P.view ports.new) }
+    ensures none_kept { result ≡ Status.ReadFault → (P.view ports.new).sink.kept_back ≡ [] }
+    ensures kept { P.kept ports.new ≡ P.kept ports.old }
 {
     if !pending.as_slice().is_empty() {
         return Status::TooMany;
     }
-    match read_on(source, sink, pending) {
+    match read_on(ports, pending) {
         Ok(0) => Status::Done,
         Ok(_) => Status::TooMany,
         Err(error) => status_of(error, MOST_LINES),
@@ -60,52 +56,49 @@ fn finish<S: Source, K: Sink>(source: &mut S, sink: &mut K, pending: &mut Pendin
 }
 
 /// Does all lines of the source.
-fn do_lines<S: Source, K: Sink>(
+fn do_lines<P: Ports>(
     alloc: Global,
     kernel: &mut Kernel,
-    source: &mut S,
-    sink: &mut K,
+    ports: &mut P,
     pending: &mut Pending,
     scratch: &mut Scratch,
 ) -> Status
-    requires start { IsAtStart kernel.old no_device }
+    requires start { IsAtStart kernel.old (P.view ports.old).device }
     requires pending { pending.old ≡ [] }
-    ensures headline { Headline kernel.old.frames result
-        (streams (S.view source.old) (K.view sink.old))
-        (streams (S.view source.new) (K.view sink.new)) (kernel_at result kernel.new) }
-    ensures unfailed { FailsOnlyAt result (streams (S.view source.old) (K.view sink.old))
-        (streams (S.view source.new) (K.view sink.new)) }
-    ensures memory { result ≡ Status.Memory
-        → AreUnfailed (streams (S.view source.old) (K.view sink.old))
-        (streams (S.view source.new) (K.view sink.new)) }
-    ensures flushed { AreFlushed 0 (streams (S.view source.old) (K.view sink.old))
-        (streams (S.view source.new) (K.view sink.new)) }
-    ensures none_kept { result ≡ Status.ReadFault → (K.view sink.new).kept_back ≡ [] }
+    ensures headline { Headline kernel.old.frames result (P.view ports.old) (P.view ports.new)
+        (kernel_at result kernel.new) }
+    ensures unfailed { FailsOnlyAt result (P.view ports.old) (P.view ports.new) }
+    ensures memory { result ≡ Status.Memory → AreUnfailed (P.view ports.old) (P.view ports.new) }
+    ensures flushed { AreFlushed 0 (P.view ports.old) (P.view ports.new) }
+    ensures none_kept { result ≡ Status.ReadFault → (P.view ports.new).sink.kept_back ≡ [] }
+    ensures kept { P.kept ports.new ≡ P.kept ports.old }
 {
     for number in 0..MOST_LINES {
-        match next_line(alloc, kernel, source, sink, pending, scratch) {
+        match next_line(alloc, kernel, ports, pending, scratch) {
             Ok(true) => {}
             Ok(false) => return Status::Done,
             Err(error) => return status_of(error, number + 1),
         }
     }
-    finish(source, sink, pending)
+    finish(ports, pending)
 }
 
 /// Flushes the sink in the end, and says how the run ended then.
 ///
 /// Where that flush alone fails, the status is `WriteFault`. There is none after a failed write,
 /// nor after a failed read: nothing was kept back when that was waited for.
-fn flush_last<K: Sink>(status: Status, sink: &mut K) -> Status
-    ensures { FlushesLast status result (K.view sink.old) (K.view sink.new) }
+fn flush_last<P: Ports>(status: Status, ports: &mut P) -> Status
+    ensures last { FlushesLast status result (P.view ports.old).sink (P.view ports.new).sink }
+    ensures only { OnlySink (P.view ports.old) (P.view ports.new) }
+    ensures kept { P.kept ports.new ≡ P.kept ports.old }
 {
     match status {
         Status::ReadFault | Status::WriteFault => status,
         Status::Memory => {
-            let _ = sink.flush();
+            let _ = ports.flush();
             status
         }
-        _ => match sink.flush() {
+        _ => match ports.flush() {
             Ok(()) => status,
             Err(_) => Status::WriteFault,
         },
@@ -113,25 +106,16 @@ fn flush_last<K: Sink>(status: Status, sink: &mut K) -> Status
 }
 
 /// Does all lines of the source, and flushes the sink in the end.
-pub fn replay<S: Source, K: Sink>(
-    alloc: Global,
-    kernel: &mut Kernel,
-    source: &mut S,
-    sink: &mut K,
-) -> Status
-    requires { IsAtStart kernel.old no_device }
-    ensures headline { Headline kernel.old.frames result
-        (streams (S.view source.old) (K.view sink.old))
-        (streams (S.view source.new) (K.view sink.new)) (kernel_at result kernel.new) }
-    ensures unfailed { FailsOnlyAt result (streams (S.view source.old) (K.view sink.old))
-        (streams (S.view source.new) (K.view sink.new)) }
-    ensures flushed { IsFlushed result (streams (S.view source.old) (K.view sink.old))
-        (streams (S.view source.new) (K.view sink.new)) }
+pub fn replay<P: Ports>(alloc: Global, kernel: &mut Kernel, ports: &mut P) -> Status
+    requires { IsAtStart kernel.old (P.view ports.old).device }
+    ensures replayed { Replayed kernel.old.frames result (P.view ports.old) (P.view ports.new)
+        (kernel_at result kernel.new) }
+    ensures kept { P.kept ports.new ≡ P.kept ports.old }
 {
     let Ok(mut pending) = Pending::new(alloc) else {
         return Status::Memory;
     };
     let mut scratch = Scratch::new(alloc);
-    let status = do_lines(alloc, kernel, source, sink, &mut pending, &mut scratch);
-    flush_last(status, sink)
+    let status = do_lines(alloc, kernel, ports, &mut pending, &mut scratch);
+    flush_last(status, ports)
 }

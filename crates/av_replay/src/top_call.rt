@@ -1,15 +1,18 @@
 //! The top call.
 
 ghost use Rattle.std.specs.Prelude.{◌≡◌, ◌≢◌, ℕ, is_some, map, string_bytes};
-ghost use Rattle.av_replay.specs.Streams.{streams};
-ghost use Rattle.av_replay.specs.Replay.{FailsOnlyAt, Headline, IsFlushed, can_go_on, kernel_at};
+ghost use Rattle.av_plain.specs.Device.{no_device};
+ghost use Rattle.av_replay.specs.Ports.{without_device};
+ghost use Rattle.av_replay.specs.Replay.{IsAtStart, Replayed, can_go_on, kernel_at};
 ghost use Rattle.av_replay.specs.Words.{IsForm, RefusesWords};
 
+use crate::ports::LentPorts;
 use crate::replay::replay;
 use crate::status::Status;
 use crate::words::frames_of;
 use av_io::{Sink, Source};
 use av_kernel::Kernel;
+use av_swapdev::SwapDev;
 use std::alloc::Global;
 
 /// How a run ended, and the kernel that it leaves.
@@ -46,6 +49,49 @@ fn hand_back(status: Status, kernel: Kernel) -> Outcome
     }
 }
 
+/// Replays the trace of a source, with these as one value.
+fn replay_over<S: Source, K: Sink, D: SwapDev>(
+    alloc: Global,
+    kernel: &mut Kernel,
+    source: &mut S,
+    sink: &mut K,
+    dev: &mut D,
+) -> Status
+    requires { IsAtStart kernel.old no_device }
+    ensures replayed { Replayed kernel.old.frames result
+        (without_device (S.view source.old) (K.view sink.old))
+        (without_device (S.view source.new) (K.view sink.new)) (kernel_at result kernel.new) }
+    ensures device { dev.new ≡ dev.old }
+{
+    let mut ports = LentPorts { source, sink, dev };
+    replay(alloc, kernel, &mut ports)
+}
+
+/// Replays the trace of a source on a new machine of so many frames.
+fn run_trace<S: Source, K: Sink, D: SwapDev>(
+    alloc: Global,
+    frames: u32,
+    source: &mut S,
+    sink: &mut K,
+    dev: &mut D,
+) -> Outcome
+    ensures replayed { Replayed frames result.status
+        (without_device (S.view source.old) (K.view sink.old))
+        (without_device (S.view source.new) (K.view sink.new)) result.kernel }
+    ensures begun { result.status ≢ Status.Usage }
+    ensures kernel { is_some result.kernel ≡ can_go_on result.status }
+    ensures device { dev.new ≡ dev.old }
+{
+    let Ok(mut kernel) = Kernel::new(alloc, frames) else {
+        return Outcome {
+            status: Status::Memory,
+            kernel: None,
+        };
+    };
+    let status = replay_over(alloc, &mut kernel, source, sink, dev);
+    hand_back(status, kernel)
+}
+
 /// Runs the program on the command line's words, which are `run` and the number of frames.
 ///
 /// Each line of the source is read whole and done, and its text written, before the next line is
@@ -54,44 +100,34 @@ fn hand_back(status: Status, kernel: Kernel) -> Outcome
 /// waited for; and one more in the end, but after a call that failed. A flush that fails ends the
 /// run as a failed write does; where memory is wanting, the last one may fail beside that. (By the
 /// clauses one flush that fails may be told as want of memory: no status tells them apart.)
-pub fn run<S: Source, K: Sink>(
+pub fn run<S: Source, K: Sink, D: SwapDev>(
     alloc: Global,
     words: &[String],
     source: &mut S,
     sink: &mut K,
+    dev: &mut D,
 ) -> Outcome
-    // What was read, done and written, by the status, and what the kernel handed back stands for.
-    ensures headline { result.status ≢ Status.Usage → (n : ℕ)
+    // What was read, done and written, by the status, and what the kernel handed back stands for;
+    // what failed is what the status tells of; and no text was kept back while a read was waited
+    // for, nor is in the end, unless the sink failed, or memory was wanting before its first call.
+    ensures replayed { result.status ≢ Status.Usage → (n : ℕ)
         × IsForm (map string_bytes words.now) n
-        × Headline n result.status (streams (S.view source.old) (K.view sink.old))
-        (streams (S.view source.new) (K.view sink.new)) result.kernel }
+        × Replayed n result.status (without_device (S.view source.old) (K.view sink.old))
+        (without_device (S.view source.new) (K.view sink.new)) result.kernel }
     // Bad words, and they alone, are a usage error, and then nothing is read or written.
     ensures usage { RefusesWords result.status (map string_bytes words.now) }
     ensures nothing { result.status ≡ Status.Usage
         → (source.new ≡ source.old) × (sink.new ≡ sink.old) }
     // A kernel is handed back exactly where there is one to go on with.
     ensures kernel { is_some result.kernel ≡ can_go_on result.status }
-    // What failed is what the status tells of. (That no call of the sink came after one that failed
-    // is said in the headline, where the status is that of a failed write.)
-    ensures unfailed { FailsOnlyAt result.status (streams (S.view source.old) (K.view sink.old))
-        (streams (S.view source.new) (K.view sink.new)) }
-    // No text was kept back while a read was waited for, nor is in the end, unless the sink failed,
-    // or memory was wanting before its first call.
-    ensures flushed { IsFlushed result.status (streams (S.view source.old) (K.view sink.old))
-        (streams (S.view source.new) (K.view sink.new)) }
+    // No command reaches the device yet.
+    ensures device { dev.new ≡ dev.old }
 {
-    let Some(frames) = frames_of(words) else {
-        return Outcome {
+    match frames_of(words) {
+        Some(frames) => run_trace(alloc, frames, source, sink, dev),
+        None => Outcome {
             status: Status::Usage,
             kernel: None,
-        };
-    };
-    let Ok(mut kernel) = Kernel::new(alloc, frames) else {
-        return Outcome {
-            status: Status::Memory,
-            kernel: None,
-        };
-    };
-    let status = replay(alloc, &mut kernel, source, sink);
-    hand_back(status, kernel)
+        },
+    }
 }

@@ -3,15 +3,16 @@
 ghost use Rattle.std.specs.Prelude.{◌≡◌, ◌<◌, ◌^◌, [], OnOk, IfErr};
 ghost use Rattle.av_base.specs.Limits.{most_commands};
 ghost use Rattle.av_plain.specs.Device.{no_device};
-ghost use Rattle.av_replay.specs.Streams.{streams, Writes, AreFlushed};
+ghost use Rattle.av_replay.specs.Ports.{AreFlushed, OnlySink, Writes};
 ghost use Rattle.av_replay.specs.Line.{FailsOnly};
 ghost use Rattle.av_replay.specs.Turn.{DoesLine, IsNotDone, IsNotAnswered, Turned};
 
 use crate::line::read_line;
 use crate::pending::Pending;
+use crate::ports::Ports;
 use crate::status::RunErr;
 use crate::write::write_all;
-use av_io::{Sink, SinkErr, Source};
+use av_io::SinkErr;
 use av_kernel::Kernel;
 use av_text::Bytes;
 use av_trace::{Command, LineErr, Reply, parse_line_with, reply_text};
@@ -68,26 +69,30 @@ pub fn do_line(
 }
 
 /// Does a line, and writes the text of its reply.
-pub fn answer_line<K: Sink>(
+pub fn answer_line<P: Ports>(
     alloc: Global,
     kernel: &mut Kernel,
-    sink: &mut K,
+    ports: &mut P,
     line: &[u8],
     scratch: &mut Scratch,
 ) -> Result<(), RunErr>
     requires { kernel.old.steps < most_commands }
-    ensures does { OnOk result (DoesLine line.now no_device no_device kernel.old kernel.new
-        scratch.new.text) }
-    ensures writes { OnOk result (Writes (K.view sink.old) (K.view sink.new) scratch.new.text) }
-    ensures unfailed { OnOk result ((K.view sink.new).faults ≡ (K.view sink.old).faults) }
+    ensures does { OnOk result (DoesLine line.now (P.view ports.old).device
+        (P.view ports.new).device kernel.old kernel.new scratch.new.text) }
+    ensures writes { OnOk result
+        (Writes (P.view ports.old).sink (P.view ports.new).sink scratch.new.text) }
+    ensures unfailed { OnOk result
+        ((P.view ports.new).sink.faults ≡ (P.view ports.old).sink.faults) }
     ensures memory { IfErr result (λ e. e ≡ RunErr.Memory
-        → (K.view sink.new).faults ≡ (K.view sink.old).faults) }
-    ensures flushes { (K.view sink.new).flushes ≡ (K.view sink.old).flushes }
-    ensures err { IfErr result (λ e. IsNotAnswered e line.now no_device no_device
-        kernel.old kernel.new (K.view sink.old) (K.view sink.new)) }
+        → (P.view ports.new).sink.faults ≡ (P.view ports.old).sink.faults) }
+    ensures flushes { (P.view ports.new).sink.flushes ≡ (P.view ports.old).sink.flushes }
+    ensures err { IfErr result (λ e. IsNotAnswered e line.now (P.view ports.old)
+        (P.view ports.new) kernel.old kernel.new) }
+    ensures only { OnlySink (P.view ports.old) (P.view ports.new) }
+    ensures kept { P.kept ports.new ≡ P.kept ports.old }
 {
     do_line(alloc, kernel, line, scratch)?;
-    match write_all(sink, scratch.text.as_slice()) {
+    match write_all(ports, scratch.text.as_slice()) {
         Ok(()) => Ok(()),
         Err(SinkErr::Failed) => Err(RunErr::Write),
         Err(SinkErr::Memory) => Err(RunErr::Memory),
@@ -95,33 +100,30 @@ pub fn answer_line<K: Sink>(
 }
 
 /// Reads a line and does it, and says whether the input goes on behind it.
-pub fn next_line<S: Source, K: Sink>(
+pub fn next_line<P: Ports>(
     alloc: Global,
     kernel: &mut Kernel,
-    source: &mut S,
-    sink: &mut K,
+    ports: &mut P,
     pending: &mut Pending,
     scratch: &mut Scratch,
 ) -> Result<bool, RunErr>
     requires { kernel.old.steps < most_commands }
     ensures turned { Turned result pending.old pending.new
-        (streams (S.view source.old) (K.view sink.old))
-        (streams (S.view source.new) (K.view sink.new))
+        (P.view ports.old) (P.view ports.new)
         kernel.old kernel.new }
-    ensures unfailed { FailsOnly result (streams (S.view source.old) (K.view sink.old))
-        (streams (S.view source.new) (K.view sink.new)) }
-    ensures flushed { AreFlushed 0 (streams (S.view source.old) (K.view sink.old))
-        (streams (S.view source.new) (K.view sink.new)) }
+    ensures unfailed { FailsOnly result (P.view ports.old) (P.view ports.new) }
+    ensures flushed { AreFlushed 0 (P.view ports.old) (P.view ports.new) }
     ensures none_kept { IfErr result
-        (λ e. e ≡ RunErr.Read → (K.view sink.new).kept_back ≡ []) }
+        (λ e. e ≡ RunErr.Read → (P.view ports.new).sink.kept_back ≡ []) }
+    ensures kept { P.kept ports.new ≡ P.kept ports.old }
 {
-    let Some(line) = read_line(source, sink, pending)? else {
+    let Some(line) = read_line(ports, pending)? else {
         return Ok(false);
     };
     answer_line(
         alloc,
         kernel,
-        sink,
+        ports,
         &pending.as_slice()[..line.size],
         scratch,
     )?;

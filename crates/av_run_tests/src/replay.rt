@@ -1,5 +1,6 @@
 use av_io::{MemSink, MemSource};
 use av_replay::*;
+use av_swapdev::MemDev;
 use std::alloc::{AllocError, Global};
 use std::test::*;
 
@@ -23,7 +24,8 @@ fn run_on(
     ]?;
     let mut source = MemSource::new(Vec::from_slice(alloc, trace)?, vec![in alloc; read_fails]?);
     let mut text = MemSink::new(alloc, vec![in alloc; write_fails]?);
-    let outcome = run(alloc, &words, &mut source, &mut text);
+    let mut dev = MemDev::new(Vec::new(alloc), Vec::new(alloc));
+    let outcome = run(alloc, &words, &mut source, &mut text, &mut dev);
     Ok(Ran { text, outcome })
 }
 

@@ -12,6 +12,8 @@ use crate::failure::{Failure, exit_number};
 use crate::help::text_for;
 use av_io::{ReadSource, WriteSink};
 use av_replay::{Status, run};
+use av_swapdev::{FileDev, HostFiles};
+use std::alloc::AllocError;
 use std::env;
 use std::io::{self, ErrorKind};
 use std::process::ExitCode;
@@ -41,6 +43,11 @@ fn print_text(rt: &HostRuntime, text: &str) -> Status {
     }
 }
 
+/// A device over the files of the host, of which none is attached yet.
+fn host_dev(rt: &HostRuntime) -> Result<FileDev<HostFiles<HostRuntime>>, AllocError> {
+    FileDev::new(rt.alloc(), HostFiles::new(rt.clone()?))
+}
+
 /// Runs the program on its words, over standard input and output.
 fn run_program(rt: &HostRuntime) -> Status {
     let words = match read_words(rt) {
@@ -54,7 +61,10 @@ fn run_program(rt: &HostRuntime) -> Status {
     let Ok(mut sink) = WriteSink::new(rt.alloc(), io::writer(rt)) else {
         return Status::Memory;
     };
-    run(rt.alloc(), &words, &mut source, &mut sink).into_status()
+    let Ok(mut dev) = host_dev(rt) else {
+        return Status::Memory;
+    };
+    run(rt.alloc(), &words, &mut source, &mut sink, &mut dev).into_status()
 }
 
 fn main(rt: HostRuntime) -> ExitCode {

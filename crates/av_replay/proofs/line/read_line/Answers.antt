@@ -9,6 +9,8 @@ loop-size-preserved g c =
     record {
       same = now.reads.same ∙ was.same;
       held = now.reads.held ∙ was.held;
+      device = now.reads.device ∙ was.device;
+      kept = now.kept ∙ was.kept;
       unfailed = unfailed_then _ _ _ was.unfailed now.unfailed;
       flushed = flushed_then 0 _ _ _ was.flushed now.flushed;
       stays_open = λ untold. now.stays_open (omega arith) (was.stays_open untold);

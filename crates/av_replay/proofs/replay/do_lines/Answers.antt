@@ -1,6 +1,5 @@
 use Rattle.std.proofs.Common.{◌+◌, ◌∷◌, [], ◌∙◌, ap, length-append, refl, arith}
-use Rattle.av_plain.specs.Device.{no_device, setting_of}
-use Rattle.av_replay.specs.Streams.{streams}
+use Rattle.av_plain.specs.Device.{setting_of}
 use Rattle.av_replay.proofs.Runs.{no_past, starts, longer, next_answers, goes_on}
 use Rattle.av_replay.proofs.Times.{flushed_none, flushed_then, unfailed_then}
 use Rattle.av_replay.proofs.Calls.{fails_at, fails_since, fails_then, finished_memory, memory_at, read_at}
@@ -10,12 +9,12 @@ use Rattle.av_replay.proofs.replay.do_lines.Goals as goal
 pub loop-number-init : goal.loop-number-init
 loop-number-init g c = record {
   so_far = (
-    no_past (setting_of c.args.kernel.now.frames no_device),
-    starts c.args.pending.now
-        (streams (g.S.Source.view c.args.source.now) (g.K.Sink.view c.args.sink.now)) c.args.kernel.now c.requires.pending c.requires.start,
+    no_past (setting_of c.args.kernel.now.frames (g.P.Ports.view c.args.ports.now).device),
+    starts c.args.pending.now (g.P.Ports.view c.args.ports.now) c.args.kernel.now c.requires.pending c.requires.start,
     refl,
   );
   flushed = flushed_none _ _ refl refl;
+  kept = refl;
   steps = omega (arith, c.requires.start.steps);
 }
 
@@ -32,6 +31,7 @@ loop-number-preserved g c =
         length-append s.0.lines (t.line ∷ []) ∙ ap (λ n. n + 1) s.2,
       );
       flushed = flushed_then 0 _ _ _ c.loop-number.invariant.flushed c.in-Ok-true.ensures.flushed;
+      kept = c.in-Ok-true.ensures.kept ∙ c.loop-number.invariant.kept;
       steps = omega (arith, c.loop-number.invariant.steps, t.takes.does.steps);
     }
 
@@ -44,6 +44,7 @@ returns-in-Ok-false g c =
       memory = λ e. absurd cc;
       flushed = flushed_then 0 _ _ _ c.loop-number.invariant.flushed c.in-Ok-false.ensures.flushed;
       none_kept = λ e. absurd cc;
+      kept = c.in-Ok-false.ensures.kept ∙ c.loop-number.invariant.kept;
     }
 
 pub returns-in-Err : goal.returns-in-Err
@@ -58,6 +59,7 @@ returns-in-Err g c =
       memory = memory_at _ _ error number fails;
       flushed = flushed_then 0 _ _ _ c.loop-number.invariant.flushed c.in-Err.ensures.flushed;
       none_kept = λ e. c.in-Err.ensures.none_kept (read_at error number e);
+      kept = c.in-Err.ensures.kept ∙ c.loop-number.invariant.kept;
     })
 
 pub returns : goal.returns
@@ -70,4 +72,5 @@ returns g c =
       memory = λ e. unfailed_then _ _ _ s.1.unfailed (finished_memory _ _ c.finish.result _ f.finished e);
       flushed = flushed_then 0 _ _ _ c.loop-number.invariant.flushed f.flushed;
       none_kept = f.none_kept;
+      kept = f.kept ∙ c.loop-number.invariant.kept;
     }

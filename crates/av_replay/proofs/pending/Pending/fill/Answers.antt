@@ -10,6 +10,6 @@ returns-clause-undone g c =
     let was : take k c.deref_mut.result.now ≡ c.args.self.now = ap (take k) c.deref_mut.ensures.value ∙ c.move_to_front.ensures.moved ∙ c.self.view_is in
     let items = with_items_is c.move_to_front.new.bytes new (omega (arith, c.read_behind.auto.bytes, c.deref_mut.ensures.len)) in
     let size : k + c.in_ok-count.count - 0 ≡ k + c.in_ok-count.count = omega arith in
-    let more = filled k c.in_ok-count.count c.deref_mut.result.now new c.args.self.now (g.S.Source.view c.args.source.now).left
-    (g.S.Source.view c.read_behind.new.source).left was c.in_ok-count.ensures.kept c.in_ok-count.ensures.taken in
+    let more = filled k c.in_ok-count.count c.deref_mut.result.now new c.args.self.now (g.P.Ports.view c.args.ports.now).source.left
+    (g.P.Ports.view c.read_behind.new.ports).source.left was c.in_ok-count.ensures.front c.in_ok-count.ensures.taken in
     rw (items, size) more

@@ -1,4 +1,4 @@
--- A source, a sink and a device, side by side.
+-- The outside of a run: a source, a sink and a device, side by side.
 use Rattle.std.specs.Prelude.{◌≡◌, ℕ, zero, suc, ◌+◌, ◌≤◌, List, length, Option, false, true}
 use Rattle.av_io.specs.Count.{one_more}
 use Rattle.av_io.specs.Source.{SourceView, in_front, HasEnded}
@@ -6,21 +6,31 @@ use Rattle.av_io.specs.Sink.{SinkView, Gained}
 use Rattle.av_plain.specs.Device.{Device, no_device}
 
 -- what is told of a source, a sink and a device at one time
-pub record Streams : Type 0 where
+pub record PortsView : Type 0 where
   pub source : SourceView
   pub sink : SinkView
   pub device : Device
 
--- those of a run without a device
-abbrev pub streams : SourceView → SinkView → Streams
-streams source sink = record { source = source; sink = sink; device = no_device }
+-- those of a run that is shown no device
+abbrev pub without_device : SourceView → SinkView → PortsView
+without_device source sink = record { source = source; sink = sink; device = no_device }
+
+-- nothing changed but the source
+pub record OnlySource (old new : PortsView) : Type 0 where
+  pub sink : new.sink ≡ old.sink
+  pub device : new.device ≡ old.device
+
+-- nothing changed but the sink
+pub record OnlySink (old new : PortsView) : Type 0 where
+  pub source : new.source ≡ old.source
+  pub device : new.device ≡ old.device
 
 -- so many bytes are read at once, at most, and no more are ever kept of what was read
 abbrev pub room : ℕ
 room = 65536
 
 -- all that is not done: what was read ahead, and what the source has left
-abbrev pub undone : List ℕ → Streams → Option (List ℕ)
+abbrev pub undone : List ℕ → PortsView → Option (List ℕ)
 undone ahead io = in_front ahead io.source.left
 
 -- a count after so many calls more
@@ -29,7 +39,7 @@ after_calls zero count = count
 after_calls (suc n) count = one_more (after_calls n count)
 
 -- the source was read n times, and the sink flushed as often, and so many times more
-pub record AreFlushed (more : ℕ) (old new : Streams) : Type 0 where
+pub record AreFlushed (more : ℕ) (old new : PortsView) : Type 0 where
   pub n : ℕ
   pub reads : new.source.reads ≡ after_calls n old.source.reads
   pub flushes : new.sink.flushes ≡ after_calls (n + more) old.sink.flushes
@@ -44,14 +54,14 @@ pub record IsReadFault (old new : SourceView) : Type 0 where
   pub stays_open : StaysOpen old new
 
 -- nothing was done of what was read, though more may have been read
-pub record ReadsOn (ahead ahead' : List ℕ) (old new : Streams) : Type 0 where
+pub record ReadsOn (ahead ahead' : List ℕ) (old new : PortsView) : Type 0 where
   pub same : undone ahead' new ≡ undone ahead old
   pub held : new.sink.held ≡ old.sink.held
   pub device : new.device ≡ old.device
   pub near : length ahead' ≤ room
 
 -- from one time to a later one neither the source nor the sink failed
-pub record AreUnfailed (old new : Streams) : Type 0 where
+pub record AreUnfailed (old new : PortsView) : Type 0 where
   pub source : new.source.faults ≡ old.source.faults
   pub sink : new.sink.faults ≡ old.sink.faults
 
