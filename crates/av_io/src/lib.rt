@@ -9,11 +9,9 @@
 //! for it behind that; after a flush that succeeds nothing is kept back. Of a real one no bytes are
 //! known: that they pass is only tested.
 //!
-//! A sink over a writer takes a piece for which there is room whole, and doesn't ask the writer then.
 //! Not proved, since the clauses of std's readers and writers don't tell when they fail: that a
-//! source's read, a flush, or a write for which there is no room fails only where the reader or the
-//! writer does, and how often that is asked. So a body that fails there without asking, or tries
-//! again where nothing was taken, meets the clauses.
+//! call fails only where the reader or the writer does, and how often that is asked. So a body that
+//! fails without asking, or tries again where nothing was taken, meets the clauses.
 #![tactic(auto)]
 
 mod faults;

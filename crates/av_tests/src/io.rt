@@ -98,45 +98,6 @@ fn faults_of_a_writer(rt: HostRuntime) -> Result<(), Fail> {
     Ok(())
 }
 
-/// A writer that takes one byte at a call; a signal interrupts the second, and the fourth fails.
-#[derive(Drop)]
-struct Slow {
-    calls: u8,
-    bytes: Vec<u8>,
-}
-
-impl Write for Slow {
-    fn write(&mut self, buf: &[u8]) -> io::Result<usize> {
-        self.calls = self.calls.saturating_add(1);
-        match self.calls {
-            2 => return Err(io::Error::from(ErrorKind::Interrupted)),
-            4 => return Err(io::Error::from(ErrorKind::TimedOut)),
-            _ => {}
-        }
-        let front = &buf[..buf.len().min(1)];
-        self.bytes.extend_from_slice(front)?;
-        Ok(front.len())
-    }
-
-    fn flush(&mut self) -> io::Result<()> {
-        Ok(())
-    }
-}
-
-#[test]
-fn what_a_writer_has_not_taken_stays(rt: HostRuntime) -> Result<(), Fail> {
-    let mut slow = Slow {
-        calls: 0,
-        bytes: Vec::new(rt.alloc()),
-    };
-    let mut sink = WriteSink::new(rt.alloc(), &mut slow)?;
-    assert!(rt; takes(&mut sink, b"abcd") && sink.flush().is_err());
-    assert!(rt; takes(&mut sink, b"ef") && sink.flush().is_ok());
-    drop(sink);
-    assert!(rt; slow.bytes.as_slice() == b"abcdef".as_slice());
-    Ok(())
-}
-
 #[test]
 fn a_file_gets_bytes_at_a_flush(rt: HostRuntime) -> Result<(), Fail> {
     let path = path_of_test(&rt, "av_io")?;

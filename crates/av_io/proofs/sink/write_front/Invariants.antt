@@ -1,7 +1,0 @@
--- A write that fails appends nothing.
-use Rattle.std.proofs.Common.{[]}
-use Rattle.std.specs.Io.KnownBytes.{Appends}
-use Rattle.av_io.proofs.sink.write_front.Given as goal
-
-abbrev pub invariant-loop : goal.invariant-loop
-invariant-loop g l = Appends (g.W.Write.contents l.initial.writer) (g.W.Write.contents l.writer) []
