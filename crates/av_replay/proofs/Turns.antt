@@ -11,7 +11,7 @@ use Rattle.av_replay.specs.declared.status.RunErr.{RunErr}
 use Rattle.av_replay.specs.declared.status.RunErr.TheVariants as errors
 use Rattle.av_replay.specs.Ports.{PortsView, OnlySink, AreUnfailed, ReadsOn, IsAtEnd, Writes}
 use Rattle.av_replay.specs.Line.{IsLine, HasLine, IsNext, StopsReading}
-use Rattle.av_replay.specs.Turn.{DoesLine, IsCut, IsNotAnswered, StandsNext, IsEnding, TakesLine, CutsShort, Halts, DoesNext}
+use Rattle.av_replay.specs.Turn.{DoesLine, IsCut, IsNotAnswered, StandsNext, IsEnding, TakesLine, CutsShort, Halts}
 use Rattle.av_replay.proofs.Bytes.{in_front-then}
 use Rattle.av_replay.proofs.Times.{device_same, failed_since}
 
