@@ -1,11 +1,11 @@
 -- Which frames an event makes free, and so the order of the free ones after it.
 use Rattle.std.proofs.Common.{◌≡◌, ℕ, zero, suc, ◌+◌, ◌-◌, ◌<◌, ◌≤◌, Bool, true, false, cond, not, ◌&&◌, T, List, [], ◌∷◌, ◌++◌, filter, Option, Some, None, refl, sym, ap, subst, ◌∙◌, arith, ◌==◌, nat_lt}
 use Rattle.std.proofs.lemmas.Bool.Decides.{nat_tests}
-use Rattle.std.specs.Prelude.{MatchOption, fold}
+use Rattle.std.specs.Prelude.{MatchOption, fold, unwrap_or}
 use Rattle.std.specs.FinMap.Entries.{is_sorted}
 use Rattle.av_base.specs.Words.{how_many}
 use Rattle.std.specs.List.{range_with_len}
-use Rattle.av_plain.specs.Ledger.{Ledger, Setting, Cached, Key, key_cmp, Entry, InFrame, entry, names_frame, is_free, size_of, slot_count}
+use Rattle.av_plain.specs.Ledger.{Ledger, Setting, Cached, Key, key_cmp, Entry, InFrame, entry, names_frame, is_free, slot_count}
 use Rattle.av_plain.specs.Event.{Event, set_entry, after, after_all, after_zap}
 use Rattle.av_clusters.specs.Clusters.{Slots, give_slot}
 use Rattle.av_base.specs.declared.slot.Slot.{Slot}
@@ -88,23 +88,29 @@ new_free-one m l l' f below had gone others = one-passes (λ f. is_free l' f && 
 
 -- ---- an event that makes none free
 
--- where no slot has fewer uses, an event that neither takes a slot nor turns an area leaves the slots
-pub no-slot-chosen : (m : Setting) (closing : Option ℕ) (l : Ledger) (e : Event) (slots : AreaSlots) →
-    ((s : Slot) → slot_count l s ≤ slot_count (after l e) s) → SwitchesArea m e slots slots →
-    slot_in e ≡ None → ChoosesSlot m closing l e slots slots
-no-slot-chosen m closing l e slots more turns takes = (
+-- where no slot is in use, an event that neither takes a slot nor turns an area leaves the slots
+pub no-slot-chosen : (m : Setting) (closing : Option ℕ) (l : Ledger) (e : Event) (slots : AreaSlots) → ((s : Slot) → slot_count l s ≡ 0) →
+    SwitchesArea m e slots slots → slot_in e ≡ None → ChoosesSlot m closing l e slots slots
+no-slot-chosen m closing l e slots none turns takes = (
   slots,
   slots,
   turns,
   subst (λ o. MatchOption o (slots ≡ slots) (λ s. IsGiven m closing l s slots slots)) (sym takes) refl,
-  λ i k. sym (ap (fold give_slot (slots k)) (none-passes (is_back k) 1 (size_of m k - 1) (λ page below. not_back (more (record { area = k; page = page }))))) i,
+  λ i k. sym (given k) i,
 )
   where
-    is_back : ℕ → ℕ → Bool
-    is_back k page = let s : Slot = record { area = k; page = page } in slot_count (after l e) s == 0 && nat_lt 0 (slot_count l s)
+    unused : (k page : ℕ) → (let s : Slot = record { area = k; page = page } in slot_count (after l e) s == 0 && nat_lt 0 (slot_count l s)) ≡ false
+    unused k page = ap (λ n. slot_count (after l e) (record { area = k; page = page }) == 0 && nat_lt 0 n) (none (record { area = k; page = page }))
+        ∙ by (slot_count (after l e) (record { area = k; page = page }) == 0)
+      where
+        by : (b : Bool) → (b && false) ≡ false
+        by true = refl
+        by false = refl
 
-    not_back : {n n' : ℕ} → n ≤ n' → (n' == 0 && nat_lt 0 n) ≡ false
-    not_back less = grind (arith, nat_tests, less)
+    given : (k : ℕ) → fold give_slot (slots k)
+        (filter (λ page. let s : Slot = record { area = k; page = page } in slot_count (after l e) s == 0 && nat_lt 0 (slot_count l s))
+        (range_with_len 1 (unwrap_or (m.sizes k) 0 - 1))) ≡ slots k
+    given k = ap (fold give_slot (slots k)) (none-passes _ 1 (unwrap_or (m.sizes k) 0 - 1) (λ page below. unused k page))
 
 -- nothing is taken and nothing becomes free
 pub chooses-kept : (m : Setting) (closing : Option ℕ) (l : Ledger) (e : Event) (free : Free) → ChoosesSlot m closing l e free.slots free.slots →
