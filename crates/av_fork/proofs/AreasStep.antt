@@ -15,8 +15,8 @@ use Rattle.av_merge.specs.Kin.{kin_in}
 use Rattle.av_spaces.specs.Fork.{kin_of as kin_now}
 use Rattle.av_spaces.specs.Kin.{AnonsFit, IsOwnedIn}
 use Rattle.av_spaces.specs.Spaces.{AllSpaces, Spaces, pages_of as areas_on}
-use Rattle.av_plain.specs.Areas.{AnonVma, Anons, Rmap, chain_by}
-use Rattle.av_plain.specs.Fork.{GoesBy, own_of_child, root_of as root_in, with_child, with_child_area}
+use Rattle.av_plain.specs.Areas.{AnonVma, Anons, Rmap, chain_by, root_of as root_in}
+use Rattle.av_plain.specs.Fork.{GoesBy, own_of_child, with_child, with_child_area}
 use Rattle.av_plain.specs.Stands.{kin_of}
 use Rattle.av_fork.proofs.AreasReused.{Shows, chain_in, is_reused}
 

@@ -107,11 +107,7 @@ module _ (m : Setting) (listed : ℕ) (v : View) (l : Ledger) (p page : ℕ)
     (cache : l.cache ≡ []) (parts : SoundLedger m listed v l) (no_entries : (s : Slot) → v.entries s ≡ 0) where
   -- no slot is taken or given back
   unslotted : ChoosesSlot m None l (Zapped (p, page)) v.slots v.slots
-  unslotted = no-slot-chosen m None l (Zapped (p, page)) v.slots
-      (λ s. fewer (none_used l s cache (sym (parts.parts.swap.counts s) ∙ no_entries s))) refl refl
-    where
-      fewer : {n n' : ℕ} → n ≡ 0 → n ≤ n'
-      fewer z = omega (arith, z)
+  unslotted = no-slot-chosen m None l (Zapped (p, page)) v.slots (λ s. none_used l s cache (sym (parts.parts.swap.counts s) ∙ no_entries s)) refl refl
 
   frees : (g : ℕ) → g < m.frames → is_in g v.free ≡ (v.maps g == 0)
   frees g below = parts.parts.frames.free g below ∙ free_is l g cache ∙ ap (λ n. n == 0) (sym (parts.parts.frames.maps g))

@@ -33,7 +33,7 @@ Takes d old new l p from past (Some page) =
     × Stand d new (after_zap (p, page) l)
 
 -- the same view with as many frames, and lists of as many, stands for the same
-same_ledger : (d : Device) (old new : Parts) (l : Ledger) {v : View} → SoundLedger (setting_at d old) old.lists.frames v l → seen_as new ≡ v →
+pub same_ledger : (d : Device) (old new : Parts) (l : Ledger) {v : View} → SoundLedger (setting_at d old) old.lists.frames v l → seen_as new ≡ v →
     new.frames.count ≡ old.frames.count → new.lists.frames ≡ old.lists.frames → Stand d new l
 same_ledger d old new l h seen_so counts listed =
     subst (λ n. SoundLedger (setting_of n d) new.lists.frames (seen_as new) l) (sym counts)
