@@ -142,7 +142,7 @@ module _ (s : State) (old : Mem) (keeps : Keeps old s) (mid : Mem) (frames : Sto
       (alone-by s.ledger (p, page) f (of_keeps old s keeps).in_order few names) keeps.stands.reach)))
 
   -- a page that gets a frame which no entry names
-  module _ (note : Note) (r : Rmap) (note_rmap : rmap_after_note note (rmap_of s) ≡ at_home f (p, page) r)
+  module _ (note : Note) (r : Rmap) (note_rmap : rmap_after_note s.ledger note (rmap_of s) ≡ at_home f (p, page) r)
       (note_is : after_note note s.ledger ≡ given_to p page f s.ledger) (unnamed : map_count s.ledger f ≡ 0)
       (owns : IsSomeAnd (r.areas p page) (λ a. IsSome a.anon)) (sound : IsRmapSound s.ledger r) where
     named : entry (after_note note s.ledger) (p, page) ≡ Some (InFrame f false)
@@ -181,11 +181,11 @@ module _ (s : State) (old : Mem) (keeps : Keeps old s) (mid : Mem) (frames : Sto
         (subst (λ l. IsRmapSound l (at_home f (p, page) (at_home f (p, page) r))) (sym use_is) twice)))
 
 -- what the notes do
-pub new_rmap : (p page f : ℕ) (r : Rmap) → rmap_after_note (New p (4096 * page) f) r ≡ at_home f (p, page) (prepare_page p page r)
-new_rmap p page f r = ap (λ (k : Key). at_home f k (prepare_page p k.1 r)) (key_at-page p page)
+pub new_rmap : (l : Ledger) (p page f : ℕ) (r : Rmap) → rmap_after_note l (New p (4096 * page) f) r ≡ at_home f (p, page) (prepare_page p page r)
+new_rmap l p page f r = ap (λ (k : Key). at_home f k (prepare_page p k.1 r)) (key_at-page p page)
 
-pub copied_rmap : (p page f : ℕ) (r : Rmap) → rmap_after_note (Copied p (4096 * page) f) r ≡ at_home f (p, page) r
-copied_rmap p page f r = ap (λ (k : Key). at_home f k r) (key_at-page p page)
+pub copied_rmap : (l : Ledger) (p page f : ℕ) (r : Rmap) → rmap_after_note l (Copied p (4096 * page) f) r ≡ at_home f (p, page) r
+copied_rmap l p page f r = ap (λ (k : Key). at_home f k r) (key_at-page p page)
 
 -- a page whose entry names a frame has an area with an own anon_vma
 pub owns_named : (s : State) (old : Mem) → Keeps old s → (p page from : ℕ) (was : Bool) → entry s.ledger (p, page) ≡ Some (InFrame from was) →

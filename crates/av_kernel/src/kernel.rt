@@ -2,6 +2,7 @@
 
 ghost use Rattle.std.specs.Prelude.{◌≡◌, ◌<◌, ◌^◌, IfOk, OnOk, OnErr, true, false};
 ghost use Rattle.av_base.specs.Limits.{most_commands};
+ghost use Rattle.av_trace.specs.Command.{is_in_grammar};
 ghost use Rattle.av_plain.specs.Device.{no_device};
 ghost use Rattle.av_plain.specs.Transcript.{State, at_first};
 ghost use Rattle.av_reclaim.specs.Mem.{setting};
@@ -66,9 +67,11 @@ impl Kernel {
         })
     }
 
-    /// Does one command. After want of memory the kernel is spent: then it does nothing more.
+    /// Does one command of the grammar. After want of memory the kernel is spent: then it does
+    /// nothing more.
     pub fn step(&mut self, alloc: Global, command: &Command) -> Result<Reply, AllocError>
-        requires { self.old.steps < most_commands }
+        requires few { self.old.steps < most_commands }
+        requires grammar { is_in_grammar command.now ≡ true }
         ensures stands { (s : State) → Stands self.old no_device s →
             IfOk result (Steps self.old self.new no_device no_device s command.now) }
         ensures counts { IfOk result (Counts self.old self.new) }
@@ -89,7 +92,8 @@ impl Kernel {
         command: &Command,
         reply: &mut Reply,
     ) -> Result<(), AllocError>
-        requires { self.old.steps < most_commands }
+        requires few { self.old.steps < most_commands }
+        requires grammar { is_in_grammar command.now ≡ true }
         ensures stands { (s : State) → Stands self.old no_device s → OnOk result
             (Steps self.old self.new no_device no_device s command.now reply.new) }
         ensures counts { OnOk result (Counts self.old self.new reply.new) }

@@ -1,6 +1,7 @@
 //! Which command goes where, and what a refusal replies.
 
 ghost use Rattle.std.specs.Prelude.{◌≡◌, OnOk, true};
+ghost use Rattle.av_trace.specs.Command.{is_in_grammar};
 ghost use Rattle.av_trace.specs.Reply.{IsCleared};
 ghost use Rattle.av_plain.specs.Transcript.{State};
 ghost use Rattle.av_reclaim.specs.Mem.{frame_count, Keeps, IsSteady};
@@ -29,7 +30,8 @@ pub fn perform(
     command: &Command,
     reply: &mut Reply,
 ) -> Result<(), AllocError>
-    requires { IsSteady mem.old }
+    requires steady { IsSteady mem.old }
+    requires grammar { is_in_grammar command.now ≡ true }
     ensures step { (s : State) → Keeps mem.old s →
         OnOk result (MemSteps mem.old mem.new s command.now reply.new) }
     ensures count { frame_count mem.new ≡ frame_count mem.old }
@@ -58,6 +60,7 @@ fn dispatch(
     reply: &mut Reply,
 ) -> Result<(), Refusal>
     requires steady { IsSteady mem.old }
+    requires grammar { is_in_grammar command.now ≡ true }
     requires cleared { IsCleared reply.old }
     ensures { Does mem.old mem.new command.now (reply_in reply.new result) }
 {

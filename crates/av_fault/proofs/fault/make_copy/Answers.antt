@@ -41,7 +41,7 @@ returns c = record {
       let served = copy_served s old mid p page c.args.notes.now keeps c.take_copy.ensures.processes c.take_copy.ensures.count fit c.requires.permitted
       c.args.from named.0 named.1 c.requires.shared f c.push.new.self c.in_ok-push.ensures.ok is in
       given_home s old keeps mid c.set_home.new.self p page f c.args.home c.set_home.ensures c.args.notes.now c.push.new.self (Copied p (4096 * page) f)
-      (rmap_of s) (copied_rmap p page f (rmap_of s)) (copied_is p page f s.ledger)
+      (rmap_of s) (copied_rmap s.ledger p page f (rmap_of s)) (copied_is p page f s.ledger)
       (unnamed s old mid p page c.args.notes.now keeps c.take_copy.ensures.processes c.take_copy.ensures.count fit c.requires.permitted f is.below is.first)
       (owns_named s old keeps p page c.args.from named.0 named.1) keeps.stands.reach served refl refl served.parts
       (rmap_still s old mid keeps (ap (λ v. v.areas) is.view) (ap (λ v. v.anons) is.view) (ap (λ v. v.homes) is.view))

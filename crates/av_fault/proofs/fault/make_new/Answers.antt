@@ -39,7 +39,7 @@ returns c = record {
       let rmap = prepared_rmap old s keeps first c.take_zeros.ensures.spaces c.take_zeros.ensures.anons c.prepare.new.self c.prepare.new.anons p page
       c.in_ok-prepare.ensures.areas c.in_ok-prepare.ensures.anons (λ g. ap (λ v. v.homes g) is.view ∙ keeps.stands.homes g) in
       given_home s old keeps mid c.set_home.new.self p page f c.home_at-home.result c.set_home.ensures c.args.notes.now c.push.new.self (New p (4096 * page) f)
-      (prepare_page p page (rmap_of s)) (new_rmap p page f (rmap_of s)) (new_is p page f s.ledger)
+      (prepare_page p page (rmap_of s)) (new_rmap s.ledger p page f (rmap_of s)) (new_is p page f s.ledger)
       (unnamed s old first p page c.args.notes.now keeps c.take_zeros.ensures.processes c.take_zeros.ensures.count fit c.requires.permitted f is.below is.first)
       (prepared_owns old s keeps first c.take_zeros.ensures.spaces c.take_zeros.ensures.anons c.prepare.new.self c.prepare.new.anons p page
       c.in_ok-prepare.ensures.areas c.in_ok-prepare.ensures.anons (mapped_there s old keeps p page c.requires.permitted))

@@ -14,7 +14,7 @@ use Rattle.av_kernel.proofs.kernel.Kernel.answer.Goals as goal
 
 pub count-requires : goal.count-requires
 count-requires c = few-enough c.self.inside.tally c.self.inside.steps (2 ^ 24)
-    (let few = subst (λ (k : Machine). k.steps < 2 ^ 24) (sym c.self.view_is) c.requires in omega (arith, few)) c.self.invariant.few
+    (let few = subst (λ (k : Machine). k.steps < 2 ^ 24) (sym c.self.view_is) c.requires.few in omega (arith, few)) c.self.invariant.few
 
 pub invariant_of-self : goal.invariant_of-self
 invariant_of-self c =
