@@ -52,7 +52,7 @@ same_turned f g = grind (arith, nat_tests)
 without-turned : (f : ℕ) (fs : List ℕ) → filter (λ g. not (g == f)) fs ≡ without f fs
 without-turned f fs = ap (λ (test : ℕ → Bool). filter test fs) (λ i g. not (same_turned f g i))
 
-lists-without : (f : ℕ) (ls : Lists) → without_frame f ls ≡ record { frames = ls.frames; active = without f ls.active; inactive = without f ls.inactive }
+pub lists-without : (f : ℕ) (ls : Lists) → without_frame f ls ≡ record { frames = ls.frames; active = without f ls.active; inactive = without f ls.inactive }
 lists-without f ls = λ i. record { frames = ls.frames; active = without-turned f ls.active i; inactive = without-turned f ls.inactive i }
 
 -- the view of it
