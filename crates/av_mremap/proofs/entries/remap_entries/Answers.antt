@@ -14,6 +14,9 @@ returns-then-to-from-clause-remaps c = λ d l stands.
     (of_length d a.mem.now c.zap_range.new.mem l a.process (a.from + a.new_pages) (a.from + a.pages) (a.pages - a.new_pages) (omega arith)
     (c.zap_range.ensures.zapped d l stands))
 
+pub zap_range-requires-3 : goal.zap_range-requires-3
+zap_range-requires-3 c = let o = c.requires.orderly in (o.0, _, (c.zap_range-2.ensures.zapped o.0 o.1 o.2).stands)
+
 pub move_entries-requires-clause-orderly : goal.move_entries-requires-clause-orderly
 move_entries-requires-clause-orderly c =
     let o = c.requires.orderly in
