@@ -15,7 +15,7 @@ returns-then-to-from-clause-remaps c = λ d l stands.
     (c.zap_range.ensures.zapped d l stands))
 
 pub zap_range-requires-3 : goal.zap_range-requires-3
-zap_range-requires-3 c = let o = c.requires.orderly in (o.0, _, (c.zap_range-2.ensures.zapped o.0 o.1 o.2).stands)
+zap_range-requires-3 c = let o = c.requires.orderly in record { orderly = (o.0, _, (c.zap_range-2.ensures.zapped o.0 o.1 o.2).stands) }
 
 pub move_entries-requires-clause-orderly : goal.move_entries-requires-clause-orderly
 move_entries-requires-clause-orderly c =
