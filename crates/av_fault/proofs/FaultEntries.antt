@@ -4,50 +4,55 @@ use Rattle.std.proofs.lemmas.Bool.Decides.{nat_tests}
 use Rattle.std.proofs.lemmas.Bool.{false≢true}
 use Rattle.av_base.specs.declared.slot.Slot.{Slot}
 use Rattle.av_base.specs.Words.{with_at, is_in}
+use Rattle.av_plain.specs.Device.{Device}
 use Rattle.av_plain.specs.World.{World, pages}
 use Rattle.av_plain.specs.Ledger.{Ledger, Setting, Entry, Zero, InFrame, entry, map_count, names_frame, names_slot, is_free}
 use Rattle.av_plain.specs.Event.{set_entry, to_inactive_head, without}
-use Rattle.av_plain.specs.Device.{no_device}
 use Rattle.av_plain.specs.Stands.{View, Holds, IsKept}
 use Rattle.av_plain.proofs.Ledger.Order.{weight}
 use Rattle.av_plain.proofs.Ledger.{entry-set, same_key-itself, how_many-found, map_count-set}
 use Rattle.av_plain.proofs.Ledger.NoSwap.{itself, free_is, zero_is}
 use Rattle.av_reclaim.proofs.MemLaws.{equal_is}
-use Rattle.av_fault.proofs.FaultParts.{Parts, changed, as_pte, parts_now}
+use Rattle.av_fault.proofs.FaultParts.{Parts, changed, as_pte, parts_now, with_lists}
 
 -- how a free list and the counts agree
-pub frees : (m : Setting) (v : View) (w : World) (l : Ledger) → Parts m v w l → (g : ℕ) → g < m.frames → is_in g v.free ≡ (v.maps g == 0)
-frees m v w l parts g below = parts.frames.free g below ∙ free_is l g parts.cache ∙ ap (λ n. n == 0) (sym (parts.frames.maps g))
+pub frees : (d : Device) (m : Setting) (v : View) (w : World) (l : Ledger) → Parts d m v w l → (g : ℕ) → g < m.frames → is_in g v.free ≡ (v.maps g == 0)
+frees d m v w l parts g below = parts.frames.free g below ∙ free_is l g parts.cache ∙ ap (λ n. n == 0) (sym (parts.frames.maps g))
 
 pub not_equal : (a b : ℕ) → (a == b) ≡ false → a ≢ b
 not_equal a b h = grind (arith, nat_tests)
 
 -- ---- zeros
 
-pub zeroed : (m : Setting) (v : View) (w : World) (l : Ledger) (p page : ℕ) → Parts m v w l → is_some (pages w p page) ≡ true → entry l (p, page) ≡ None
-    → Parts m (changed p page (as_pte Zero false) v.bytes v.maps v.free v) w (set_entry (p, page) Zero l)
-zeroed m v w l p page parts there none =
-    parts_now m v w l (set_entry (p, page) Zero l) p page Zero false v.bytes v.maps v.free parts refl parts.cache refl refl parts.active there
+pub zeroed : (d : Device) (m : Setting) (v : View) (w : World) (l : Ledger) (p page : ℕ) → Parts d m v w l → is_some (pages w p page) ≡ true → entry l (p, page) ≡ None
+    → Parts d m (changed p page (as_pte Zero false) v.bytes v.maps v.free v) w (set_entry (p, page) Zero l)
+zeroed d m v w l p page parts there none =
+    parts_now d m v w l (set_entry (p, page) Zero l) p page Zero false v.bytes v.maps v.free v.active v.inactive parts refl parts.cache refl refl
+    (record { active = parts.lists.active; inactive = parts.lists.inactive }) there
     (λ s. ap (weight (names_slot s)) none) (λ s. refl)
     (λ g. ap (λ o. v.maps g + weight (names_frame g) o) none)
-    (frees m v w l parts) (λ g few. few) (λ t g names. absurd (false≢true names)) (λ q o g was is other. refl)
-    (subst (λ o. IsKept v no_device l o (pages w p page)) none (parts.bytes.kept p page))
+    (frees d m v w l parts) (λ g few. few) (λ t g names. absurd (false≢true names)) (λ q o g was is other. refl)
+    (subst (λ o. IsKept v d l o (pages w p page)) none (parts.bytes.kept p page))
 
 -- ---- the same frame, as seen
 
-module _ (m : Setting) (v : View) (w : World) (l : Ledger) (p page f : ℕ) (was write : Bool) (parts : Parts m v w l) (there : is_some (pages w p page) ≡ true)
+module _ (d : Device) (m : Setting) (v : View) (w : World) (l : Ledger) (p page f : ℕ) (was write : Bool) (parts : Parts d m v w l) (there : is_some (pages w p page) ≡ true)
     (named : entry l (p, page) ≡ Some (InFrame f was)) (few : write ≡ true → map_count l f ≤ 1) where
-  pub seen : Parts m (changed p page (as_pte (InFrame f true) write) v.bytes v.maps v.free v) w (set_entry (p, page) (InFrame f true) l)
-  seen = parts_now m v w l (set_entry (p, page) (InFrame f true) l) p page (InFrame f true) write v.bytes v.maps v.free parts refl
-      parts.cache refl refl parts.active there
+  pub seen : Parts d m (changed p page (as_pte (InFrame f true) write) v.bytes v.maps v.free v) w (set_entry (p, page) (InFrame f true) l)
+  seen = parts_now d m v w l (set_entry (p, page) (InFrame f true) l) p page (InFrame f true) write v.bytes v.maps v.free v.active v.inactive parts refl
+      parts.cache refl refl (record { active = parts.lists.active; inactive = parts.lists.inactive }) there
       (λ s. ap (weight (names_slot s)) named) (λ s. refl)
       (λ g. ap (λ o. v.maps g + weight (names_frame g) o) named)
-      (frees m v w l parts) (λ g few. few)
+      (frees d m v w l parts) (λ g few. few)
       (λ writes g names. subst (λ x. v.maps x ≤ 1) (sym (equal_is g f names)) (subst (λ n. n ≤ 1) (sym (parts.frames.maps f)) (few writes)))
       (λ q o g was is other. refl)
-      (subst (λ o. IsKept v no_device l o (pages w p page)) named (parts.bytes.kept p page))
+      (subst (λ o. IsKept v d l o (pages w p page)) named (parts.bytes.kept p page))
 
 -- ---- a frame that was free
+
+-- the frame is at the head of inactive, and nowhere else
+abbrev pub to_head : ℕ → View → View
+to_head f v = with_lists (without f v.active) (f ∷ without f v.inactive) v
 
 -- the ledger after
 abbrev pub given_to : ℕ → ℕ → ℕ → Ledger → Ledger
@@ -65,7 +70,7 @@ at_most_one test (Some e) = bit (test e)
     bit true = omega arith
     bit false = omega arith
 
-module _ (m : Setting) (v : View) (w : World) (l : Ledger) (p page f : ℕ) (rest : List ℕ) (bytes maps : ℕ → ℕ) (parts : Parts m v w l)
+module _ (d : Device) (m : Setting) (v : View) (w : World) (l : Ledger) (p page f : ℕ) (rest : List ℕ) (bytes maps : ℕ → ℕ) (parts : Parts d m v w l)
     (first : v.free ≡ f ∷ rest) (gone : is_in f rest ≡ false) (below : f < m.frames) where
   -- f was named by no entry
   pub was_free : is_free l f ≡ true
@@ -108,7 +113,7 @@ module _ (m : Setting) (v : View) (w : World) (l : Ledger) (p page f : ℕ) (res
         one : (n k c : ℕ) → n + k ≡ c + 1 → c ≡ 0 → (0 < k → 1 < c) → (n == 0) ≡ false
         one n zero c h z more = grind (arith, nat_tests)
         one n (suc k) c h z more = let two = more (omega arith) in absurd (omega (arith, two, z))
-    free_now g under false e = sym (ap (λ b. b || is_in g rest) e) ∙ sym (ap (is_in g) first) ∙ frees m v w l parts g under
+    free_now g under false e = sym (ap (λ b. b || is_in g rest) e) ∙ sym (ap (is_in g) first) ∙ frees d m v w l parts g under
         ∙ sym (same_test _ _ _ (counts g ∙ ap (λ b. v.maps g + cond b 1 0) e) (keeps g) (at_most_one (names_frame g) (entry l (p, page))))
       where
         not_zero : (n : ℕ) → 0 < n → (n == 0) ≡ false
@@ -123,9 +128,10 @@ module _ (m : Setting) (v : View) (w : World) (l : Ledger) (p page f : ℕ) (res
     other_frame g some false e = e
     other_frame g some true e = let zero = ap (map_count l) (equal_is g f e) ∙ unmapped in absurd (omega (arith, some, zero))
 
-    pub given : Parts m (changed p page (as_pte (InFrame f false) true) (with_at f bytes v.bytes) maps rest v) w (given_to p page f l)
-    given = parts_now m v w l (given_to p page f l) p page (InFrame f false) true (with_at f bytes v.bytes) maps rest parts refl parts.cache refl refl
-        (ap (without f) parts.active) there no_slot (λ s. refl) counts
+    pub given : Parts d m (changed p page (as_pte (InFrame f false) true) (with_at f bytes v.bytes) maps rest (to_head f v)) w (given_to p page f l)
+    given = parts_now d m v w l (given_to p page f l) p page (InFrame f false) true (with_at f bytes v.bytes) maps rest
+        (without f v.active) (f ∷ without f v.inactive) parts refl parts.cache refl refl
+        (record { active = ap (without f) parts.lists.active; inactive = ap (λ fs. f ∷ without f fs) parts.lists.inactive }) there no_slot (λ s. refl) counts
         (λ g under. free_now g under (g == f) refl) few
         (λ writes g names. few_own g names)
         (λ q o g was is other. ap (λ b. cond b bytes (v.bytes g)) (other_frame g (how_many-found (names_frame g) (q, o) l.entries (InFrame g was) is (itself g))

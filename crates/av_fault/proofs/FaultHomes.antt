@@ -15,7 +15,7 @@ use Rattle.av_plain.specs.World.{Page, World, pages}
 use Rattle.av_plain.specs.Access.{page_events}
 use Rattle.av_plain.specs.Areas.{Homes, Rmap, at_home, prepare_page, rmap_after_note, rmap_after_use}
 use Rattle.av_plain.specs.Covered.{IsRmapSound}
-use Rattle.av_plain.specs.Device.{Device, no_device}
+use Rattle.av_plain.specs.Device.{Device, setting_of}
 use Rattle.av_plain.specs.Event.{after_all, after_note, after_use, set_entry}
 use Rattle.av_plain.specs.Ledger.{Entry, InFrame, InSlot, Key, Ledger, Setting, Zero, entry, frame_at, map_count, names_frame}
 use Rattle.av_plain.specs.Stands.{AnonsStand, AreasAre, HomesAre, IsClean, IsKept, IsKeptAt, PartsStand, View, free_of, prot_of}
@@ -24,7 +24,7 @@ use Rattle.av_plain.proofs.Covered.{Names, alone-by, covered-owns, sound-prepare
 use Rattle.av_plain.proofs.Ledger.{entry-set, same_key}
 use Rattle.av_plain.proofs.Ledger.NoSwap.{key_at-page}
 use Rattle.av_reclaim.specs.declared.mem.Mem.{Mem}
-use Rattle.av_reclaim.specs.Mem.{Keeps, KeepsWithin, frame_count, ranges_of, setting, view, view_of_parts}
+use Rattle.av_reclaim.specs.Mem.{Keeps, KeepsWithin, frame_count, ranges_of, setting_by, view, view_of_parts}
 use Rattle.av_spaces.specs.Spaces.{pages_of}
 use Rattle.av_reclaim.proofs.MemLaws.{prot_on, prots_are}
 use Rattle.av_fault.specs.Fault.{HasRmap, IsTouched, is_permitted}
@@ -66,7 +66,7 @@ parts_at_home m v homes d w l h = let ledger = h.ledger in record {
       dirty = ledger.frames.dirty;
       free = ledger.frames.free;
     };
-    lists = record { active = ledger.lists.active };
+    lists = record { active = ledger.lists.active; inactive = ledger.lists.inactive };
     tables = record { entries = ledger.tables.entries; write_bits = ledger.tables.write_bits };
     swap = record { finds = ledger.swap.finds; counts = ledger.swap.counts; flight = ledger.swap.flight; on = ledger.swap.on };
   };
@@ -80,16 +80,17 @@ parts_at_home m v homes d w l h = let ledger = h.ledger in record {
 
 -- ---- a frame of the kernel gets a home
 
-module _ (mid : Mem) (frames : Store) (p page f : ℕ) (home : Option (ℕ × ℕ)) (is : shown frames ≡ with_home f home (shown mid.frames)) where
+module _ (d : Device) (mid : Mem) (frames : Store) (p page f : ℕ) (home : Option (ℕ × ℕ)) (is : shown frames ≡ with_home f home (shown mid.frames)) where
   abbrev mem_at_home : Mem
   mem_at_home = record mid { frames = frames }
 
-  pub within_at_home : (w : World) (l : Ledger) → KeepsWithin mid w l → KeepsWithin mem_at_home w l
+  pub within_at_home : (w : World) (l : Ledger) → KeepsWithin d mid w l → KeepsWithin d mem_at_home w l
   within_at_home w l h = record {
     in_order = h.in_order;
     at_pages = h.at_pages;
-    parts = subst (λ (x : Shown). PartsStand (setting x.count) (view_of_parts x (view mid).table mid.spaces mid.anons) no_device w l) (sym is)
-        (parts_at_home (setting (frame_count mid)) (view mid) (with_at f home (view mid).homes) no_device w l h.parts);
+    parts = subst (λ (x : Shown). PartsStand (setting_of x.count d) (view_of_parts x mid.lists (view mid).table mid.spaces mid.anons) d w l) (sym is)
+        (parts_at_home (setting_by d mid) (view mid) (with_at f home (view mid).homes) d w l h.parts);
+    lists = h.lists ∙ sym (ap (λ (x : Shown). x.count) is);
     tables = h.tables;
     anons = h.anons;
   }
@@ -116,7 +117,7 @@ at_home_twice k p page f r h = record { areas = h.areas; anons = h.anons; homes 
 
 -- ---- the page is ready
 
-module _ (s : State) (old : Mem) (keeps : Keeps old s) (mid : Mem) (frames : Store) (p page f : ℕ) (home : Option (ℕ × ℕ))
+module _ (d : Device) (s : State) (old : Mem) (keeps : Keeps d old s) (mid : Mem) (frames : Store) (p page f : ℕ) (home : Option (ℕ × ℕ))
     (is : shown frames ≡ with_home f home (shown mid.frames)) (notes now : List Note) where
   same_count : frame_count mid ≡ frame_count (record mid { frames = frames })
   same_count = sym (ap (λ (x : Shown). x.count) is)
@@ -125,21 +126,21 @@ module _ (s : State) (old : Mem) (keeps : Keeps old s) (mid : Mem) (frames : Sto
   same_free = sym (ap (λ (x : Shown). frames_free x.free) is)
 
   -- a page that is written where it is
-  pub written_home : IsServed s mid true (p, page) notes now [] (ReadyAt f) → HasRmap mid (rmap_of s) → (was : Bool) →
+  pub written_home : IsServed d s mid true (p, page) notes now [] (ReadyAt f) → HasRmap mid (rmap_of s) → (was : Bool) →
       entry s.ledger (p, page) ≡ Some (InFrame f was) → map_count s.ledger f ≤ 1 → home ≡ home_of page (s.areas p page)
-      → IsTouched s (record mid { frames = frames }) true (p, page) notes now (ReadyAt f)
+      → IsTouched d s (record mid { frames = frames }) true (p, page) notes now (ReadyAt f)
   written_home served rmap was named few at =
-      let use_is = used_is true s.ledger (p, page) f was (of_keeps old s keeps).cache named in
+      let use_is = used_is true s.ledger (p, page) f was (of_keeps d old s keeps).cache named in
       let names : Names s.ledger (p, page) f = subst (λ o. IsSomeAnd o (λ e. names_frame f e ≡ true)) (sym named) (itself f) in
-      to_touched s mid (record mid { frames = frames }) true (p, page) notes now [] (ReadyAt f) served same_count same_free
-      (within_at_home mid frames p page f home is s.world _ served.parts)
+      to_touched d s mid (record mid { frames = frames }) true (p, page) notes now [] (ReadyAt f) served same_count same_free
+      (within_at_home d mid frames p page f home is s.world _ served.parts)
       (subst (λ o. HasRmap (record mid { frames = frames }) (rmap_after_use true (p, page) o (rmap_of s))) (sym named)
-      (rmap_at_home mid frames p page f home is (rmap_of s) rmap at))
+      (rmap_at_home d mid frames p page f home is (rmap_of s) rmap at))
       (subst (λ o. IsRmapSound (after_use true (p, page) s.ledger) (rmap_after_use true (p, page) o (rmap_of s))) (sym named)
       (subst (λ l. IsRmapSound l (at_home f (p, page) (rmap_of s))) (sym use_is)
       (sound-put s.ledger (set_entry (p, page) (InFrame f true) s.ledger) (rmap_of s) (p, page) f true (entry-set (p, page) (InFrame f true) s.ledger)
       (covered-owns s.ledger (rmap_of s) (p, page) f keeps.stands.reach names)
-      (alone-by s.ledger (p, page) f (of_keeps old s keeps).in_order few names) keeps.stands.reach)))
+      (alone-by s.ledger (p, page) f (of_keeps d old s keeps).in_order few names) keeps.stands.reach)))
 
   -- a page that gets a frame which no entry names
   module _ (note : Note) (r : Rmap) (note_rmap : rmap_after_note s.ledger note (rmap_of s) ≡ at_home f (p, page) r)
@@ -149,7 +150,7 @@ module _ (s : State) (old : Mem) (keeps : Keeps old s) (mid : Mem) (frames : Sto
     named = ap (λ l. entry l (p, page)) note_is ∙ entry_given p page f s.ledger
 
     use_is : after_use true (p, page) (after_note note s.ledger) ≡ set_entry (p, page) (InFrame f true) (given_to p page f s.ledger)
-    use_is = ap (after_use true (p, page)) note_is ∙ used_is true (given_to p page f s.ledger) (p, page) f false (of_keeps old s keeps).cache
+    use_is = ap (after_use true (p, page)) note_is ∙ used_is true (given_to p page f s.ledger) (p, page) f false (of_keeps d old s keeps).cache
         (entry_given p page f s.ledger)
 
     once : IsRmapSound (given_to p page f s.ledger) (at_home f (p, page) r)
@@ -165,16 +166,16 @@ module _ (s : State) (old : Mem) (keeps : Keeps old s) (mid : Mem) (frames : Sto
     twice = sound-put (given_to p page f s.ledger) (set_entry (p, page) (InFrame f true) (given_to p page f s.ledger)) (at_home f (p, page) r) (p, page) f true
         (entry-set (p, page) (InFrame f true) (given_to p page f s.ledger)) owns others_not once
 
-    pub given_home : {first : Mem} → IsServed s first true (p, page) notes now (note ∷ []) (ReadyAt f) → frame_count first ≡ frame_count mid →
+    pub given_home : {first : Mem} → IsServed d s first true (p, page) notes now (note ∷ []) (ReadyAt f) → frame_count first ≡ frame_count mid →
         free_of (view first) ≡ free_of (view mid)
-        → KeepsWithin mid s.world (after_all s.ledger (page_events true (p, page) (note ∷ []) None)) → HasRmap mid r → home ≡ home_of page (r.areas p page)
-        → IsTouched s (record mid { frames = frames }) true (p, page) notes now (ReadyAt f)
+        → KeepsWithin d mid s.world (after_all s.ledger (page_events true (p, page) (note ∷ []) None)) → HasRmap mid r → home ≡ home_of page (r.areas p page)
+        → IsTouched d s (record mid { frames = frames }) true (p, page) notes now (ReadyAt f)
     given_home {first} served counted freed within rmap at =
-        to_touched s first (record mid { frames = frames }) true (p, page) notes now (note ∷ []) (ReadyAt f) served (counted ∙ same_count) (freed ∙ same_free)
-        (within_at_home mid frames p page f home is s.world _ within)
+        to_touched d s first (record mid { frames = frames }) true (p, page) notes now (note ∷ []) (ReadyAt f) served (counted ∙ same_count) (freed ∙ same_free)
+        (within_at_home d mid frames p page f home is s.world _ within)
         (subst (λ x. HasRmap (record mid { frames = frames }) (rmap_after_use true (p, page) (entry (after_note note s.ledger) (p, page)) x)) (sym note_rmap)
         (subst (λ o. HasRmap (record mid { frames = frames }) (rmap_after_use true (p, page) o (at_home f (p, page) r))) (sym named)
-        (at_home_twice (record mid { frames = frames }) p page f r (rmap_at_home mid frames p page f home is r rmap at))))
+        (at_home_twice (record mid { frames = frames }) p page f r (rmap_at_home d mid frames p page f home is r rmap at))))
         (subst (λ x. IsRmapSound (after_use true (p, page) (after_note note s.ledger))
         (rmap_after_use true (p, page) (entry (after_note note s.ledger) (p, page)) x)) (sym note_rmap)
         (subst (λ o. IsRmapSound (after_use true (p, page) (after_note note s.ledger)) (rmap_after_use true (p, page) o (at_home f (p, page) r))) (sym named)
@@ -188,15 +189,15 @@ pub copied_rmap : (l : Ledger) (p page f : ℕ) (r : Rmap) → rmap_after_note l
 copied_rmap l p page f r = ap (λ (k : Key). at_home f k r) (key_at-page p page)
 
 -- a page whose entry names a frame has an area with an own anon_vma
-pub owns_named : (s : State) (old : Mem) → Keeps old s → (p page from : ℕ) (was : Bool) → entry s.ledger (p, page) ≡ Some (InFrame from was) →
+pub owns_named : (d : Device) (s : State) (old : Mem) → Keeps d old s → (p page from : ℕ) (was : Bool) → entry s.ledger (p, page) ≡ Some (InFrame from was) →
     IsSomeAnd (s.areas p page) (λ a. IsSome a.anon)
-owns_named s old keeps p page from was named = covered-owns s.ledger (rmap_of s) (p, page) from keeps.stands.reach
+owns_named d s old keeps p page from was named = covered-owns s.ledger (rmap_of s) (p, page) from keeps.stands.reach
     (subst (λ o. IsSomeAnd o (λ e. names_frame from e ≡ true)) (sym named) (itself from))
 
 -- one that may be written is mapped
-pub mapped_there : (s : State) (old : Mem) → Keeps old s → (p page : ℕ) → is_permitted true (prot_of (ranges_of old.spaces.processes p) page) ≡ true →
+pub mapped_there : (d : Device) (s : State) (old : Mem) → Keeps d old s → (p page : ℕ) → is_permitted true (prot_of (ranges_of old.spaces.processes p) page) ≡ true →
     IsSome (s.areas p page)
-mapped_there s old keeps p page allowed = subst IsSome (keeps.stands.areas p page)
+mapped_there d s old keeps p page allowed = subst IsSome (keeps.stands.areas p page)
     (by (pages_of old.spaces.processes p page) (sym (ap (is_permitted true) (prots_are old.spaces.processes p page)) ∙ allowed))
   where
     by : (o : Option Area) → is_permitted true (option_map prot_on o) ≡ true → IsSome o

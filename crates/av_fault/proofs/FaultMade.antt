@@ -6,10 +6,10 @@ use Rattle.av_trace.specs.declared.note.Note.{Note}
 use Rattle.av_trace.specs.declared.note.Note.TheVariants.{New, Copied}
 use Rattle.av_base.specs.Words.{is_in}
 use Rattle.av_pagetable.specs.Entries.{entry_at, has}
+use Rattle.av_plain.specs.Device.{Device}
 use Rattle.av_plain.specs.World.{pages}
 use Rattle.av_plain.specs.Ledger.{Ledger, Key, Entry, Zero, InFrame, InSlot, entry, map_count, names_frame, names_slot, is_free}
 use Rattle.av_plain.specs.Event.{after_note, set_entry, to_inactive_head}
-use Rattle.av_plain.specs.Device.{no_device}
 use Rattle.av_plain.proofs.Pass.{takes-alone}
 use Rattle.av_plain.specs.Fault.{sparing, NewPage, CopyOnWrite, need}
 use Rattle.av_plain.specs.Stands.{View, prot_of, ranges_in, Holds, IsKept}
@@ -21,7 +21,7 @@ use Rattle.av_reclaim.specs.declared.mem.Mem.{Mem}
 use Rattle.av_fault.specs.declared.fault.Stop.TheVariants.{Oom}
 use Rattle.av_fault.specs.declared.fault.Touched.TheVariants.{Ready as ReadyAt, Stopped}
 use Rattle.av_spaces.specs.Kin.{AnonsFit}
-use Rattle.av_reclaim.specs.Mem.{setting, frame_count, view, Keeps}
+use Rattle.av_reclaim.specs.Mem.{setting_by, frame_count, view, HasLists, Keeps}
 use Rattle.av_fault.specs.Fault.{is_permitted, frame_named, one_more, one_less, IsTouched, IsTaken}
 use Rattle.av_fault.proofs.FaultParts.{of_keeps, no_swap}
 use Rattle.av_fault.proofs.FaultEntries.{given_to}
@@ -41,14 +41,14 @@ copied_is p page f l = ap (λ (k : Key). to_inactive_head f (set_entry k (InFram
 abbrev numbers_of : ℕ → ℕ → OutOf
 numbers_of pinned n = record { pinned = pinned; noslot = n - pinned; fault = 0 }
 
-module _ (s : State) (old new : Mem) (p page : ℕ) (notes : List Note) (keeps : Keeps old s) (processes : has new.tables ≡ has old.tables)
-    (same : frame_count new ≡ frame_count old) (order : AnonsFit new.spaces new.anons)
+module _ (d : Device) (s : State) (old new : Mem) (p page : ℕ) (notes : List Note) (keeps : Keeps d old s) (processes : has new.tables ≡ has old.tables)
+    (same : frame_count new ≡ frame_count old) (listed : HasLists new) (order : AnonsFit new.spaces new.anons)
     (allowed : is_permitted true (prot_of (ranges_in ((view old).areas p)) page) ≡ true) where
   free_now : (f : ℕ) → f < frame_count old → (view old).free ≡ f ∷ (view new).free → is_free s.ledger f ≡ true
   free_now f below first = sym (keeps.stands.parts.ledger.frames.free f below) ∙ ap (is_in f) first ∙ ap (λ b. b || is_in f (view new).free) (itself f)
 
   none_yet : (f : ℕ) → f < frame_count old → (view old).free ≡ f ∷ (view new).free → (view old).maps f ≡ 0
-  none_yet f below first = keeps.stands.parts.ledger.frames.maps f ∙ zero_is _ (sym (free_is s.ledger f (of_keeps old s keeps).cache) ∙ free_now f below first)
+  none_yet f below first = keeps.stands.parts.ledger.frames.maps f ∙ zero_is _ (sym (free_is s.ledger f (of_keeps d old s keeps).cache) ∙ free_now f below first)
 
   -- so the ledger has no entry of it
   pub unnamed : (f : ℕ) → f < frame_count old → (view old).free ≡ f ∷ (view new).free → map_count s.ledger f ≡ 0
@@ -58,35 +58,35 @@ module _ (s : State) (old new : Mem) (p page : ℕ) (notes : List Note) (keeps :
 
   module _ (bare : frame_named (entry_at old.tables p page) ≡ None) where
     is_bare_now : is_bare (entry s.ledger (p, page)) ≡ true
-    is_bare_now = bare_entry (setting (frame_count old)) (view old) s.world s.ledger (p, page) (entry_at old.tables p page) (of_keeps old s keeps)
+    is_bare_now = bare_entry d (setting_by d old) (view old) s.world s.ledger (p, page) (entry_at old.tables p page) (of_keeps d old s keeps)
         (λ t. refl) bare
         (keeps.stands.parts.ledger.tables.entries p page)
 
     pub new_starved : (out : OutOf) → view new ≡ view old → (view old).free ≡ [] → out ≡ numbers_of 0 (frame_count new) →
-        IsTouched s new true (p, page) notes notes (Stopped (Oom out))
-    new_starved out is empty numbers = starved s old new p page notes keeps processes same order NewPage out is allowed
+        IsTouched d s new true (p, page) notes notes (Stopped (Oom out))
+    new_starved out is empty numbers = starved d s old new p page notes keeps processes same listed order NewPage out is allowed
         (need_fresh s.ledger (entry s.ledger (p, page)) is_bare_now) refl empty
-        (numbers ∙ ap (numbers_of 0) same ∙ out_is (setting (frame_count old)) s.ledger None (of_keeps old s keeps).cache (λ g e. absurd (clash e)))
+        (numbers ∙ ap (numbers_of 0) same ∙ out_is (setting_by d old) s.ledger None (of_keeps d old s keeps).cache (λ g e. absurd (clash e)))
       where
         clash : {g : ℕ} → None ≡ Some g → ⊥
         clash e = cc
 
     pub new_made : (f : ℕ) (now : List Note) → now ≡ notes ++ New p (4096 * page) f ∷ [] → IsTaken old new p page f (λ i. 0) (one_more f (view old).maps) →
-        IsServed s new true (p, page) notes now (New p (4096 * page) f ∷ []) (ReadyAt f)
-    new_made f now added is = given_now s old new p page notes keeps processes same order now (New p (4096 * page) f) f (λ i. 0) (one_more f (view old).maps)
+        IsServed d s new true (p, page) notes now (New p (4096 * page) f ∷ []) (ReadyAt f)
+    new_made f now added is = given_now d s old new p page notes keeps processes same listed order now (New p (4096 * page) f) f (λ i. 0) (one_more f (view old).maps)
         added is allowed (new_is p page f s.ledger) refl
         (sym keeps.stands.free ∙ ap frames_free is.first)
-        (serves (setting (frame_count old)) (sparing s.world) s.ledger true (p, page) (New p (4096 * page) f ∷ []) NewPage
+        (serves (setting_by d old) (sparing s.world) s.ledger true (p, page) (New p (4096 * page) f ∷ []) NewPage
         (need_fresh s.ledger (entry s.ledger (p, page)) is_bare_now) refl
-        (takes-alone (setting (frame_count old)) (sparing s.world s.ledger None) s.ledger f (New p (4096 * page))
-        (no_swap (setting (frame_count old)) (view old) s.world s.ledger (of_keeps old s keeps)) is.below (free_now f is.below is.first))
-        (of_keeps old s keeps).cache)
+        (takes-alone (setting_by d old) (sparing s.world s.ledger None) s.ledger f (New p (4096 * page))
+        (no_swap d (setting_by d old) (view old) s.world s.ledger (of_keeps d old s keeps)) is.below (free_now f is.below is.first))
+        (of_keeps d old s keeps).cache)
         (blank (entry s.ledger (p, page)) is_bare_now (keeps.stands.parts.bytes.kept p page))
         (λ g. counts g (g == f) refl (bare_frame (entry s.ledger (p, page)) is_bare_now g))
         (λ g some. absurd (let none = bare_frame (entry s.ledger (p, page)) is_bare_now g in omega (arith, some, none)))
         (bare_slot (entry s.ledger (p, page)) is_bare_now)
       where
-        blank : (e : Option Entry) → is_bare e ≡ true → IsKept (view old) no_device s.ledger e (pages s.world p page) → Holds (pages s.world p page) (λ i. 0)
+        blank : (e : Option Entry) → is_bare e ≡ true → IsKept (view old) d s.ledger e (pages s.world p page) → Holds (pages s.world p page) (λ i. 0)
         blank None h k = k
         blank (Some Zero) h k = k
         blank (Some (InFrame g seen)) h k = absurd (false≢true h)
@@ -112,28 +112,28 @@ module _ (s : State) (old new : Mem) (p page : ℕ) (notes : List Note) (keeps :
     many = subst (λ n. 1 < n) (keeps.stands.parts.ledger.frames.maps from) shared
 
     splits : need true s.ledger (entry s.ledger (p, page)) ≡ CopyOnWrite from
-    splits = need_split s.ledger from was (entry s.ledger (p, page)) (of_keeps old s keeps).cache named many
+    splits = need_split s.ledger from was (entry s.ledger (p, page)) (of_keeps d old s keeps).cache named many
 
     pub copy_starved : (out : OutOf) → view new ≡ view old → (view old).free ≡ [] → out ≡ numbers_of 1 (frame_count new) →
-        IsTouched s new true (p, page) notes notes (Stopped (Oom out))
-    copy_starved out is empty numbers = starved s old new p page notes keeps processes same order (CopyOnWrite from) out is allowed splits refl empty
-        (numbers ∙ ap (numbers_of 1) same ∙ out_is (setting (frame_count old)) s.ledger (Some from) (of_keeps old s keeps).cache
-        (λ g e. subst (λ x. x < frame_count old) (inner e) (named_frame old s p page from was keeps named).0))
+        IsTouched d s new true (p, page) notes notes (Stopped (Oom out))
+    copy_starved out is empty numbers = starved d s old new p page notes keeps processes same listed order (CopyOnWrite from) out is allowed splits refl empty
+        (numbers ∙ ap (numbers_of 1) same ∙ out_is (setting_by d old) s.ledger (Some from) (of_keeps d old s keeps).cache
+        (λ g e. subst (λ x. x < frame_count old) (inner e) (named_frame d old s p page from was keeps named).0))
       where
         inner : {x y : ℕ} → Some x ≡ Some y → x ≡ y
         inner e = cc
 
     pub copy_served : (f : ℕ) (now : List Note) → now ≡ notes ++ Copied p (4096 * page) f ∷ [] →
         IsTaken old new p page f ((view old).bytes from) (one_less from (one_more f (view old).maps)) →
-        IsServed s new true (p, page) notes now (Copied p (4096 * page) f ∷ []) (ReadyAt f)
-    copy_served f now added is = given_now s old new p page notes keeps processes same order now (Copied p (4096 * page) f) f ((view old).bytes from)
+        IsServed d s new true (p, page) notes now (Copied p (4096 * page) f ∷ []) (ReadyAt f)
+    copy_served f now added is = given_now d s old new p page notes keeps processes same listed order now (Copied p (4096 * page) f) f ((view old).bytes from)
         (one_less from (one_more f (view old).maps)) added is allowed (copied_is p page f s.ledger) refl
         (sym keeps.stands.free ∙ ap frames_free is.first)
-        (serves (setting (frame_count old)) (sparing s.world) s.ledger true (p, page) (Copied p (4096 * page) f ∷ []) (CopyOnWrite from) splits refl
-        (takes-alone (setting (frame_count old)) (sparing s.world s.ledger (Some from)) s.ledger f (Copied p (4096 * page))
-        (no_swap (setting (frame_count old)) (view old) s.world s.ledger (of_keeps old s keeps)) is.below (free_now f is.below is.first))
-        (of_keeps old s keeps).cache)
-        (subst (λ e. IsKept (view old) no_device s.ledger e (pages s.world p page)) named (keeps.stands.parts.bytes.kept p page))
+        (serves (setting_by d old) (sparing s.world) s.ledger true (p, page) (Copied p (4096 * page) f ∷ []) (CopyOnWrite from) splits refl
+        (takes-alone (setting_by d old) (sparing s.world s.ledger (Some from)) s.ledger f (Copied p (4096 * page))
+        (no_swap d (setting_by d old) (view old) s.world s.ledger (of_keeps d old s keeps)) is.below (free_now f is.below is.first))
+        (of_keeps d old s keeps).cache)
+        (subst (λ e. IsKept (view old) d s.ledger e (pages s.world p page)) named (keeps.stands.parts.bytes.kept p page))
         (λ g. counts g (g == from) refl (g == f) refl (ap (weight (names_frame g)) named))
         (λ g some. kept g (g == from) refl (subst (λ n. 0 < n) (ap (weight (names_frame g)) named) some))
         (λ t. ap (weight (names_slot t)) named)

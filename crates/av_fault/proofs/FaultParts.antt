@@ -7,12 +7,12 @@ use Rattle.std.specs.FinMap.Entries.{find, put, is_sorted}
 use Rattle.av_base.specs.declared.slot.Slot.{Slot}
 use Rattle.av_base.specs.Words.{how_many, is_in}
 use Rattle.av_pagetable.specs.Entries.{with_entry}
+use Rattle.av_plain.specs.Device.{Device}
 use Rattle.av_plain.specs.World.{World, Page, pages}
 use Rattle.av_plain.specs.Ledger.{HasNumbers, Ledger, Setting, SwapArea, Key, key_cmp, Entry, Zero, InFrame, InSlot, entry, map_count, slot_entries, names_frame, names_slot, frame_at, cached_by, Cached, same_slot, is_stale}
 use Rattle.av_plain.specs.Fault.{is_shared}
 use Rattle.av_plain.specs.Sound.{AtPages}
-use Rattle.av_plain.specs.Device.{no_device}
-use Rattle.av_plain.specs.Stands.{View, Pte as Plain, entry_of, Holds, IsKept, TablesStand, FramesStand, SwapStands, AreasStand, BytesStand, HeadersStand}
+use Rattle.av_plain.specs.Stands.{View, Pte as Plain, entry_of, Holds, IsKept, TablesStand, FramesStand, ListsStand, SwapStands, AreasStand, BytesStand, HeadersStand}
 use Rattle.av_plain.proofs.Pass.{HasNoSwap}
 use Rattle.av_plain.specs.Transcript.{State}
 use Rattle.av_plain.proofs.Ledger.Order.{keys_total, weight, count-put}
@@ -21,20 +21,20 @@ use Rattle.av_plain.proofs.Ledger.NoSwap.{itself, key_is, no_slot, free_is, shar
 use Rattle.av_reclaim.specs.declared.mem.Mem.{Mem}
 use Rattle.av_reclaim.proofs.MemLaws.{no_cache, no_frame_at, slot_kept, nothing_clean}
 use Rattle.av_spaces.specs.Kin.{AnonsFit}
-use Rattle.av_reclaim.specs.Mem.{setting, frame_count, view, Keeps, KeepsWithin, HasTables}
+use Rattle.av_reclaim.specs.Mem.{setting_by, view, Keeps, KeepsWithin, HasLists, HasTables}
 
-pub record Parts (m : Setting) (v : View) (w : World) (l : Ledger) : Type 0 where
+pub record Parts (d : Device) (m : Setting) (v : View) (w : World) (l : Ledger) : Type 0 where
   pub in_order : T (is_sorted key_cmp l.entries)
   pub cache : l.cache ≡ []
   pub flight : l.flight ≡ []
   pub on : l.on ≡ []
-  pub active : l.active ≡ []
+  pub lists : ListsStand v l
   pub at_pages : AtPages w l
   pub frames : FramesStand m v l
   pub tables : TablesStand v l
   pub swap : SwapStands v l
   pub areas : AreasStand v w
-  pub bytes : BytesStand v no_device w l
+  pub bytes : BytesStand v d w l
 
 -- ---- to and from the kernel
 
@@ -43,15 +43,15 @@ pub no_headers : (m : Setting) (l : Ledger) → l.on ≡ [] → HeadersStand m l
 no_headers m l none k = subst (λ (on : List (ℕ × SwapArea)). IfSome (find nat_cmp k on)
     (λ area. IfSome m.headers (λ headers. IsSomeAnd (headers k) (HasNumbers area)))) (sym none) tt
 
-pub of_stand : (k : Mem) (w : World) (l : Ledger) → KeepsWithin k w l → Parts (setting (frame_count k)) (view k) w l
-of_stand k w l h =
+pub of_stand : (d : Device) (k : Mem) (w : World) (l : Ledger) → KeepsWithin d k w l → Parts d (setting_by d k) (view k) w l
+of_stand d k w l h =
     let ledger = h.parts.ledger in
     record {
       in_order = h.in_order;
       cache = no_cache l ledger.swap.finds;
       flight = sym ledger.swap.flight;
       on = sym ledger.swap.on;
-      active = sym ledger.lists.active;
+      lists = ledger.lists;
       at_pages = h.at_pages;
       frames = ledger.frames;
       tables = ledger.tables;
@@ -60,32 +60,34 @@ of_stand k w l h =
       bytes = h.parts.bytes;
     }
 
-pub to_stand : (k : Mem) (w : World) (l : Ledger) → Parts (setting (frame_count k)) (view k) w l → HasTables k → AnonsFit k.spaces k.anons → KeepsWithin k w l
-to_stand k w l h tables order = record {
+pub to_stand : (d : Device) (k : Mem) (w : World) (l : Ledger) → Parts d (setting_by d k) (view k) w l → HasLists k → HasTables k → AnonsFit k.spaces k.anons → KeepsWithin d k w l
+to_stand d k w l h listed tables order = record {
   in_order = h.in_order;
   at_pages = h.at_pages;
   parts = record {
-    ledger = record { frames = h.frames; lists = record { active = sym h.active }; tables = h.tables; swap = h.swap };
+    ledger = record { frames = h.frames; lists = h.lists; tables = h.tables; swap = h.swap };
     areas = h.areas;
     bytes = h.bytes;
-    headers = no_headers (setting (frame_count k)) l h.on;
+    headers = no_headers (setting_by d k) l h.on;
   };
+  lists = listed;
   tables = tables;
   anons = order;
 }
 
-pub of_keeps : (k : Mem) (s : State) → Keeps k s → Parts (setting (frame_count k)) (view k) s.world s.ledger
-of_keeps k s h = of_stand k s.world s.ledger (record {
+pub of_keeps : (d : Device) (k : Mem) (s : State) → Keeps d k s → Parts d (setting_by d k) (view k) s.world s.ledger
+of_keeps d k s h = of_stand d k s.world s.ledger (record {
   in_order = h.stands.sound.ledger.in_order;
   at_pages = h.stands.sound.at_pages;
   parts = h.stands.parts;
+  lists = h.lists;
   tables = h.tables;
   anons = h.anons;
 })
 
 -- nothing of the ledger is of swap
-pub no_swap : (m : Setting) (v : View) (w : World) (l : Ledger) → Parts m v w l → HasNoSwap l
-no_swap m v w l h = record { cache = h.cache; flight = h.flight; on = h.on }
+pub no_swap : (d : Device) (m : Setting) (v : View) (w : World) (l : Ledger) → Parts d m v w l → HasNoSwap l
+no_swap d m v w l h = record { cache = h.cache; flight = h.flight; on = h.on }
 
 -- ---- an entry is put in
 
@@ -96,10 +98,15 @@ as_pte e write = record { entry = e; write = write }
 abbrev pub changed : ℕ → ℕ → Plain → (ℕ → ℕ → ℕ) → (ℕ → ℕ) → List ℕ → View → View
 changed p page t bytes maps rest v = record v { table = with_entry p page (Some t) v.table; bytes = bytes; maps = maps; free = rest }
 
-module _ (m : Setting) (v : View) (w : World) (l l' : Ledger) (p page : ℕ) (e : Entry) (write : Bool) (bytes : ℕ → ℕ → ℕ) (maps : ℕ → ℕ) (rest : List ℕ)
-    (parts : Parts m v w l)
+-- the view with these lists
+abbrev pub with_lists : List ℕ → List ℕ → View → View
+with_lists active inactive v = record v { active = active; inactive = inactive }
+
+module _ (d : Device) (m : Setting) (v : View) (w : World) (l l' : Ledger) (p page : ℕ) (e : Entry) (write : Bool) (bytes : ℕ → ℕ → ℕ) (maps : ℕ → ℕ)
+    (rest active inactive : List ℕ)
+    (parts : Parts d m v w l)
     (entries_is : l'.entries ≡ put key_cmp (p, page) e l.entries) (cache_is : l'.cache ≡ []) (flight_is : l'.flight ≡ l.flight)
-    (on_is : l'.on ≡ l.on) (active_is : l'.active ≡ [])
+    (on_is : l'.on ≡ l.on) (lists : ListsStand (with_lists active inactive v) l')
     (there : is_some (pages w p page) ≡ true)
     (was_no_slot : (s : Slot) → weight (names_slot s) (entry l (p, page)) ≡ 0)
     (is_no_slot : (s : Slot) → names_slot s e ≡ false)
@@ -108,7 +115,11 @@ module _ (m : Setting) (v : View) (w : World) (l l' : Ledger) (p page : ℕ) (e 
     (few : (g : ℕ) → v.maps g ≤ 1 → maps g ≤ 1)
     (own : write ≡ true → (g : ℕ) → names_frame g e ≡ true → maps g ≤ 1)
     (kept : (q o g : ℕ) (was : Bool) → entry l (q, o) ≡ Some (InFrame g was) → same_key (q, o) (p, page) ≡ false → bytes g ≡ v.bytes g)
-    (holds : IsKept (changed p page (as_pte e write) bytes maps rest v) no_device l' (Some e) (pages w p page)) where
+    (holds : IsKept (changed p page (as_pte e write) bytes maps rest (with_lists active inactive v)) d l' (Some e) (pages w p page)) where
+  -- the view then
+  abbrev now : View
+  now = changed p page (as_pte e write) bytes maps rest (with_lists active inactive v)
+
   entry_now : (k : Key) → entry l' k ≡ cond (same_key k (p, page)) (Some e) (entry l k)
   entry_now k = ap (find key_cmp k) entries_is ∙ entry-set (p, page) e l k
 
@@ -132,7 +143,7 @@ module _ (m : Setting) (v : View) (w : World) (l l' : Ledger) (p page : ℕ) (e 
       not_two : (n : ℕ) → n ≤ 1 → nat_lt 1 n ≡ false
       not_two n h = grind (arith, nat_tests)
 
-  tables_now : TablesStand (changed p page (as_pte e write) bytes maps rest v) l'
+  tables_now : TablesStand now l'
   tables_now = record {
     entries = λ q o. pushed (q == p && o == page) (v.table q o) (entry l (q, o)) (parts.tables.entries q o) ∙ ap (λ b. cond b (Some e) (entry l (q, o)))
         (sym (key_is q o p page)) ∙ sym (entry_now (q, o));
@@ -160,7 +171,7 @@ module _ (m : Setting) (v : View) (w : World) (l l' : Ledger) (p page : ℕ) (e 
       at_key q o t g true is writes names = alone g (put_in t g is writes names)
       at_key q o t g false is writes names = alone g (few g (few_of g (parts.tables.write_bits q o t g is writes names)))
 
-  frames_now : FramesStand m (changed p page (as_pte e write) bytes maps rest v) l'
+  frames_now : FramesStand m now l'
   frames_now = record {
     frames = parts.frames.frames;
     maps = λ g. sym (mapped_now g);
@@ -169,7 +180,7 @@ module _ (m : Setting) (v : View) (w : World) (l l' : Ledger) (p page : ℕ) (e 
     free = λ g below. free g below ∙ ap (λ n. n == 0) (sym (mapped_now g)) ∙ sym (free_is l' g cache_is);
   }
 
-  swap_now : SwapStands (changed p page (as_pte e write) bytes maps rest v) l'
+  swap_now : SwapStands now l'
   swap_now = record {
     finds = λ s. parts.swap.finds s ∙ no_frame_at l s parts.cache ∙ sym (no_frame_at l' s cache_is);
     counts = λ s. parts.swap.counts s ∙ sym (slots_now s);
@@ -184,34 +195,34 @@ module _ (m : Setting) (v : View) (w : World) (l l' : Ledger) (p page : ℕ) (e 
       at_key true same h = ap (λ (k : Key). is_some (pages w k.0 k.1)) (same_key-is (q, o) (p, page) same) ∙ there
       at_key false same h = parts.at_pages q o h
 
-  bytes_now : BytesStand (changed p page (as_pte e write) bytes maps rest v) no_device w l'
+  bytes_now : BytesStand now d w l'
   bytes_now = record {
-    kept = λ q o. subst (λ x. IsKept (changed p page (as_pte e write) bytes maps rest v) no_device l' x (pages w q o)) (sym (entry_now (q, o)))
+    kept = λ q o. subst (λ x. IsKept now d l' x (pages w q o)) (sym (entry_now (q, o)))
         (at_key q o (same_key (q, o) (p, page)) refl);
-    clean = λ s stale flying. nothing_clean (changed p page (as_pte e write) bytes maps rest v) s (frame_at l' s) (no_frame_at l' s cache_is);
+    clean = λ s stale flying. nothing_clean d now s (frame_at l' s) (no_frame_at l' s cache_is);
   }
     where
-      others : (q o : ℕ) (x : Option Entry) → entry l (q, o) ≡ x → same_key (q, o) (p, page) ≡ false → IsKept v no_device l x (pages w q o) →
-          IsKept (changed p page (as_pte e write) bytes maps rest v) no_device l' x (pages w q o)
+      others : (q o : ℕ) (x : Option Entry) → entry l (q, o) ≡ x → same_key (q, o) (p, page) ≡ false → IsKept v d l x (pages w q o) →
+          IsKept now d l' x (pages w q o)
       others q o None is other h = h
       others q o (Some Zero) is other h = h
       others q o (Some (InFrame g was)) is other h = subst (Holds (pages w q o)) (sym (kept q o g was is other)) h
-      others q o (Some (InSlot s)) is other h = slot_kept v (changed p page (as_pte e write) bytes maps rest v) s (pages w q o) (frame_at l s) (frame_at l' s)
+      others q o (Some (InSlot s)) is other h = slot_kept d v now s (pages w q o) (frame_at l s) (frame_at l' s)
           (no_frame_at l s parts.cache) (no_frame_at l' s cache_is) h
 
-      at_key : (q o : ℕ) (b : Bool) → same_key (q, o) (p, page) ≡ b → IsKept (changed p page (as_pte e write) bytes maps rest v) no_device l'
+      at_key : (q o : ℕ) (b : Bool) → same_key (q, o) (p, page) ≡ b → IsKept now d l'
           (cond b (Some e) (entry l (q, o))) (pages w q o)
-      at_key q o true same = subst (λ (k : Key). IsKept (changed p page (as_pte e write) bytes maps rest v) no_device l' (Some e) (pages w k.0 k.1))
+      at_key q o true same = subst (λ (k : Key). IsKept now d l' (Some e) (pages w k.0 k.1))
           (sym (same_key-is (q, o) (p, page) same)) holds
       at_key q o false same = others q o (entry l (q, o)) refl same (parts.bytes.kept q o)
 
-  pub parts_now : Parts m (changed p page (as_pte e write) bytes maps rest v) w l'
+  pub parts_now : Parts d m now w l'
   parts_now = record {
     in_order = subst (λ es. T (is_sorted key_cmp es)) (sym entries_is) (is_sorted-set (p, page) e l parts.in_order);
     cache = cache_is;
     flight = flight_is ∙ parts.flight;
     on = on_is ∙ parts.on;
-    active = active_is;
+    lists = record { active = lists.active; inactive = lists.inactive };
     at_pages = at_pages_now;
     frames = frames_now;
     tables = tables_now;

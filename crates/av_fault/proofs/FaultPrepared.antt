@@ -16,6 +16,7 @@ use Rattle.av_base.specs.Words.{is_in}
 use Rattle.av_anon.specs.declared.infos.Info.{Info}
 use Rattle.av_spaces.specs.Kin as in_spaces
 use Rattle.av_spaces.specs.Kin.{AnonsPrepare, IsOwnedIn, info_of, made_for}
+use Rattle.av_plain.specs.Device.{Device}
 use Rattle.av_plain.specs.Covered.{IsRmapSound}
 use Rattle.av_plain.proofs.Covered.{owns-prepared, sound-prepared}
 use Rattle.av_plain.specs.Stands.{AnonsStand, HomesAre, kin_of}
@@ -32,9 +33,8 @@ use Rattle.av_spaces.specs.Kin.{AnonsFit}
 use Rattle.av_spaces.proofs.Rising.{laid}
 use Rattle.av_plain.specs.World.{Page, World, pages}
 use Rattle.av_plain.specs.Ledger.{Ledger, Entry, Zero, InFrame, InSlot, entry, frame_at}
-use Rattle.av_plain.specs.Device.{no_device}
 use Rattle.av_plain.specs.Stands.{IsClean, IsKept, IsKeptAt, LedgerStands, prot_of}
-use Rattle.av_reclaim.specs.Mem.{KeepsWithin, frame_count, ranges_of, setting}
+use Rattle.av_reclaim.specs.Mem.{KeepsWithin, ranges_of, setting_by}
 use Rattle.av_reclaim.proofs.MemLaws.{alive_is, all_apart, prot_on, prots_are}
 use Rattle.av_reclaim.proofs.AnonLaws.{area_chain, lengths_alike, shown_chain}
 
@@ -79,7 +79,7 @@ number_is q p e = grind (arith, nat_tests)
 other_is : (q p : ℕ) → (q == p) ≡ false → q ≢ p
 other_is q p e = grind (arith, nat_tests)
 
-module _ (old : Mem) (s : State) (keeps : Keeps old s) (spaces : AllSpaces) (now : AnonSet) (p page : ℕ)
+module _ (d : Device) (old : Mem) (s : State) (keeps : Keeps d old s) (spaces : AllSpaces) (now : AnonSet) (p page : ℕ)
     (changed : IsChanged old.spaces.processes spaces.processes p (AreThese
     (after_prepare (lengths old.spaces.areas old.anons) old.anons.next page (areas_on old.spaces.processes p))))
     (made : AnonsPrepare old.spaces old.anons spaces now p page) where
@@ -87,7 +87,7 @@ module _ (old : Mem) (s : State) (keeps : Keeps old s) (spaces : AllSpaces) (now
   on = areas_on old.spaces.processes p
 
   alike : AreAlike (lengths old.spaces.areas old.anons) (chain_length s.anons) on
-  alike = lengths_alike old s keeps old.spaces old.anons (stay_same old.spaces old.anons keeps.anons) p
+  alike = lengths_alike d old s keeps old.spaces old.anons (stay_same old.spaces old.anons keeps.anons) p
 
   same_on : on ≡ s.areas p
   same_on = λ i o. keeps.stands.areas p o i
@@ -133,7 +133,7 @@ module _ (old : Mem) (s : State) (keeps : Keeps old s) (spaces : AllSpaces) (now
           in_spaces.chain_by old.spaces old.anons (Some v) ≡ chain_by s.anons (Some v)
       by None is own = absurd own
       by (Some A) is own = subst (λ o. in_spaces.chain_by old.spaces old.anons o ≡ chain_by s.anons o) own
-          (area_chain old s keeps old.spaces old.anons (stay_same old.spaces old.anons keeps.anons) h.0 h.1 A is)
+          (area_chain d old s keeps old.spaces old.anons (stay_same old.spaces old.anons keeps.anons) h.0 h.1 A is)
 
   -- the kin that is shown
   shown_kin : (c : List ℕ) (i : Option Info) → option_map kin_of (option_map (anon_vma c) i) ≡ option_map kin_in i
@@ -221,11 +221,11 @@ prots_prepared len next page on laid q = by (on page) refl
         bare false = over A (Some (unwrap_or (loan_beside len on A) next)) e (has_page A q) refl
 
 -- where areas change as a prepare makes them, what stands within an access still does
-pub within_prepared : (mid : Mem) (w : World) (l : Ledger) (spaces : AllSpaces) (now : AnonSet) (p page : ℕ) (len : Lengths) (next : ℕ)
-    → KeepsWithin mid w l → is_some (areas_of mid.spaces.processes p) ≡ true →
+pub within_prepared : (d : Device) (mid : Mem) (w : World) (l : Ledger) (spaces : AllSpaces) (now : AnonSet) (p page : ℕ) (len : Lengths) (next : ℕ)
+    → KeepsWithin d mid w l → is_some (areas_of mid.spaces.processes p) ≡ true →
     IsChanged mid.spaces.processes spaces.processes p (AreThese (after_prepare len next page (areas_on mid.spaces.processes p))) → AnonsFit spaces now
-    → KeepsWithin (record mid { spaces = spaces; anons = now }) w l
-within_prepared mid w l spaces now p page len next h alive changed fit = record {
+    → KeepsWithin d (record mid { spaces = spaces; anons = now }) w l
+within_prepared d mid w l spaces now p page len next h alive changed fit = record {
   in_order = h.in_order;
   at_pages = h.at_pages;
   parts = record {
@@ -237,7 +237,7 @@ within_prepared mid w l spaces now p page len next h alive changed fit = record 
         dirty = ledger.frames.dirty;
         free = ledger.frames.free;
       };
-      lists = record { active = ledger.lists.active };
+      lists = record { active = ledger.lists.active; inactive = ledger.lists.inactive };
       tables = record { entries = ledger.tables.entries; write_bits = ledger.tables.write_bits };
       swap = record { finds = ledger.swap.finds; counts = ledger.swap.counts; flight = ledger.swap.flight; on = ledger.swap.on };
     };
@@ -254,11 +254,12 @@ within_prepared mid w l spaces now p page len next h alive changed fit = record 
     };
     headers = h.parts.headers;
   };
+  lists = h.lists;
   tables = λ q. h.tables q ∙ alive_is mid.spaces.processes q ∙ sym (lives_same q) ∙ sym (alive_is spaces.processes q);
   anons = fit;
 }
   where
-    ledger : LedgerStands (setting (frame_count mid)) (view mid) l
+    ledger : LedgerStands (setting_by d mid) (view mid) l
     ledger = h.parts.ledger
 
     lives_same : (q : ℕ) → is_some (areas_of spaces.processes q) ≡ is_some (areas_of mid.spaces.processes q)
@@ -278,30 +279,30 @@ within_prepared mid w l spaces now p page len next h alive changed fit = record 
             ∙ sym (ap (λ n. option_map prot_on (areas_on mid.spaces.processes n o)) (number_is q p e))
         by false e = ap (λ a. option_map prot_on (pages_in a o)) (changed.others q (other_is q p e))
 
-    same_kept : (e : Option Entry) (x : Option Page) → IsKept (view mid) no_device l e x →
-        IsKept (view (record mid { spaces = spaces; anons = now })) no_device l e x
+    same_kept : (e : Option Entry) (x : Option Page) → IsKept (view mid) d l e x →
+        IsKept (view (record mid { spaces = spaces; anons = now })) d l e x
     same_kept None x h = h
     same_kept (Some Zero) x h = h
     same_kept (Some (InFrame f seen)) x h = h
     same_kept (Some (InSlot t)) x h = at (frame_at l t) h
       where
-        at : (o : Option ℕ) → IsKeptAt (view mid) no_device t x o → IsKeptAt (view (record mid { spaces = spaces; anons = now })) no_device t x o
+        at : (o : Option ℕ) → IsKeptAt (view mid) d t x o → IsKeptAt (view (record mid { spaces = spaces; anons = now })) d t x o
         at None h = h
         at (Some f) h = h
 
-    same_clean : (t : Slot) (o : Option ℕ) → IsClean (view mid) no_device t o → IsClean (view (record mid { spaces = spaces; anons = now })) no_device t o
+    same_clean : (t : Slot) (o : Option ℕ) → IsClean (view mid) d t o → IsClean (view (record mid { spaces = spaces; anons = now })) d t o
     same_clean t None h = h
     same_clean t (Some f) h = h
 
 -- ---- the new page's areas and anon_vmas
 
 -- a process with a table lives, and still does where the areas stay
-pub lives_still : (old : Mem) (s : State) (mid : Mem) (p : ℕ) → Keeps old s → mid.spaces ≡ old.spaces → has old.tables p ≡ true →
+pub lives_still : (d : Device) (old : Mem) (s : State) (mid : Mem) (p : ℕ) → Keeps d old s → mid.spaces ≡ old.spaces → has old.tables p ≡ true →
     is_some (areas_of mid.spaces.processes p) ≡ true
-lives_still old s mid p keeps same there = ap (λ (x : AllSpaces). is_some (areas_of x.processes p)) same ∙ sym (alive_is old.spaces.processes p)
+lives_still d old s mid p keeps same there = ap (λ (x : AllSpaces). is_some (areas_of x.processes p)) same ∙ sym (alive_is old.spaces.processes p)
     ∙ sym (keeps.tables p) ∙ there
 
-module _ (old : Mem) (s : State) (keeps : Keeps old s) (mid : Mem) (same_spaces : mid.spaces ≡ old.spaces) (same_anons : mid.anons ≡ old.anons)
+module _ (d : Device) (old : Mem) (s : State) (keeps : Keeps d old s) (mid : Mem) (same_spaces : mid.spaces ≡ old.spaces) (same_anons : mid.anons ≡ old.anons)
     (spaces : AllSpaces) (now : AnonSet) (p page : ℕ)
     (changed : IsChanged mid.spaces.processes spaces.processes p (AreThese
     (after_prepare (lengths mid.spaces.areas mid.anons) mid.anons.next page (areas_on mid.spaces.processes p))))
@@ -320,15 +321,15 @@ module _ (old : Mem) (s : State) (keeps : Keeps old s) (mid : Mem) (same_spaces 
   -- a page's area has its anon_vma then, and the frames have the homes that they had
   pub prepared_rmap : HomesAre (view mid) s.homes → HasRmap (record mid { spaces = spaces; anons = now }) (prepare_page p page (rmap_of s))
   prepared_rmap homes = record {
-    areas = λ q o. areas_prepared old s keeps spaces now p page changed_old made_old q o;
-    anons = anons_prepared old s keeps spaces now p page changed_old made_old (record mid { spaces = spaces; anons = now }) refl refl;
+    areas = λ q o. areas_prepared d old s keeps spaces now p page changed_old made_old q o;
+    anons = anons_prepared d old s keeps spaces now p page changed_old made_old (record mid { spaces = spaces; anons = now }) refl refl;
     homes = homes;
   }
 
   -- what stands within an access still does
-  pub prepared_within : (w : World) (l : Ledger) → KeepsWithin mid w l → is_some (areas_of mid.spaces.processes p) ≡ true →
-      KeepsWithin (record mid { spaces = spaces; anons = now }) w l
-  prepared_within w l within alive = within_prepared mid w l spaces now p page (lengths mid.spaces.areas mid.anons) mid.anons.next within alive changed made.fit
+  pub prepared_within : (w : World) (l : Ledger) → KeepsWithin d mid w l → is_some (areas_of mid.spaces.processes p) ≡ true →
+      KeepsWithin d (record mid { spaces = spaces; anons = now }) w l
+  prepared_within w l within alive = within_prepared d mid w l spaces now p page (lengths mid.spaces.areas mid.anons) mid.anons.next within alive changed made.fit
 
   laid_before : AreLaid (s.areas p)
   laid_before = subst AreLaid (λ i o. keeps.stands.areas p o i) (laid old.spaces.processes p changed_old.were_rising)

@@ -9,6 +9,7 @@ use Rattle.av_trace.specs.declared.reply.OutOf.{OutOf}
 use Rattle.av_trace.specs.declared.note.Note.{Note}
 use Rattle.av_pagetable.specs.declared.pte.Pte.{Pte}
 use Rattle.av_pagetable.specs.declared.pte.Pte.TheVariants.{Empty, Zero as ZeroPte, Here, Away}
+use Rattle.av_plain.specs.Device.{Device}
 use Rattle.av_plain.specs.World.{World, Page, pages}
 use Rattle.av_plain.specs.Ledger.{Ledger, Setting, Key, Entry, Zero, InFrame, InSlot, entry, map_count, slot_entries, names_frame, names_slot, is_free, has_free, slot_of}
 use Rattle.av_plain.specs.Event.{without, after_notes}
@@ -50,9 +51,9 @@ is_bare (Some Zero) = true
 is_bare (Some (InFrame f was)) = false
 is_bare (Some (InSlot s)) = false
 
-pub not_away : (m : Setting) (v : View) (w : World) (l : Ledger) (k : Key) (s : Slot) → Parts m v w l → ((s : Slot) → v.entries s ≡ 0) →
+pub not_away : (d : Device) (m : Setting) (v : View) (w : World) (l : Ledger) (k : Key) (s : Slot) → Parts d m v w l → ((s : Slot) → v.entries s ≡ 0) →
     entry l k ≡ Some (InSlot s) → ⊥
-not_away m v w l k s parts none is =
+not_away d m v w l k s parts none is =
     let some = how_many-found (names_slot s) k l.entries (InSlot s) is (λ i. itself s.area i && itself s.page i) in
     let zero : slot_entries l s ≡ 0 = sym (parts.swap.counts s) ∙ none s in
     omega (arith, some, zero)
@@ -66,12 +67,12 @@ some_none e = cc
 inner : {x y : ℕ} → Some x ≡ Some y → x ≡ y
 inner e = cc
 
-pub bare_entry : (m : Setting) (v : View) (w : World) (l : Ledger) (k : Key) (e : Pte) → Parts m v w l → ((s : Slot) → v.entries s ≡ 0) → frame_named e ≡ None →
+pub bare_entry : (d : Device) (m : Setting) (v : View) (w : World) (l : Ledger) (k : Key) (e : Pte) → Parts d m v w l → ((s : Slot) → v.entries s ≡ 0) → frame_named e ≡ None →
     entry_of (plain e) ≡ entry l k → is_bare (entry l k) ≡ true
-bare_entry m v w l k Empty parts none bare is = ap is_bare (sym is)
-bare_entry m v w l k ZeroPte parts none bare is = ap is_bare (sym is)
-bare_entry m v w l k (Here f write was) parts none bare is = absurd (some_none bare)
-bare_entry m v w l k (Away s) parts none bare is = absurd (not_away m v w l k s parts none (sym is))
+bare_entry d m v w l k Empty parts none bare is = ap is_bare (sym is)
+bare_entry d m v w l k ZeroPte parts none bare is = ap is_bare (sym is)
+bare_entry d m v w l k (Here f write was) parts none bare is = absurd (some_none bare)
+bare_entry d m v w l k (Away s) parts none bare is = absurd (not_away d m v w l k s parts none (sym is))
 
 pub named_entry : (g : ℕ) (t : Pte) (e : Option Entry) → frame_named t ≡ Some g → entry_of (plain t) ≡ e → (was : Bool) × (e ≡ Some (InFrame g was))
 named_entry g Empty e h is = absurd (none_some h)
@@ -139,8 +140,8 @@ none_free test a zero h = refl
 none_free test a (suc n) h = ap (λ b. b || list_any test (range_with_len (a + 1) n)) (h a (omega arith)) ∙ none_free test (a + 1) n
     (λ f under. h f (omega (arith, under)))
 
-pub nothing_free : (m : Setting) (v : View) (w : World) (l : Ledger) → Parts m v w l → v.free ≡ [] → has_free m l ≡ false
-nothing_free m v w l parts empty = none_free (is_free l) 0 m.frames (λ g under. sym (parts.frames.free g (omega (arith, under)))
+pub nothing_free : (d : Device) (m : Setting) (v : View) (w : World) (l : Ledger) → Parts d m v w l → v.free ≡ [] → has_free m l ≡ false
+nothing_free d m v w l parts empty = none_free (is_free l) 0 m.frames (λ g under. sym (parts.frames.free g (omega (arith, under)))
     ∙ ap (λ fs. list_any (λ x. g == x) fs) empty)
 
 -- how many there are but for the pinned one

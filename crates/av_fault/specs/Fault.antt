@@ -9,7 +9,8 @@ use Rattle.av_pagetable.specs.declared.pte.Pte.TheVariants.{Empty, Zero as ZeroP
 use Rattle.av_pagetable.specs.Entries.{with_entry}
 use Rattle.av_plain.specs.World.{allows}
 use Rattle.av_plain.specs.Ledger.{Ledger, Key, Zero, InFrame, entry, map_count}
-use Rattle.av_plain.specs.Event.{after_all}
+use Rattle.av_plain.specs.Device.{Device}
+use Rattle.av_plain.specs.Event.{after_all, without}
 use Rattle.av_plain.specs.Fault as faults
 use Rattle.av_plain.specs.Fault.{Touches, Denied, Starved}
 use Rattle.av_plain.specs.Access.{page_events}
@@ -19,7 +20,7 @@ use Rattle.av_plain.specs.Covered.{IsRmapSound}
 use Rattle.av_plain.specs.Transcript.{State, rmap_of}
 use Rattle.av_plain.specs.Stands.{View, AnonsStand, AreasAre, HomesAre, free_of}
 use Rattle.av_reclaim.specs.declared.mem.Mem.{Mem}
-use Rattle.av_reclaim.specs.Mem.{setting, frame_count, plain, view, Keeps, KeepsWithin}
+use Rattle.av_reclaim.specs.Mem.{setting_by, frame_count, plain, view, Keeps, KeepsWithin}
 use Rattle.av_fault.specs.declared.fault.Stop.{Stop}
 use Rattle.av_fault.specs.declared.fault.Stop.TheVariants.{Segv, Oom}
 use Rattle.av_fault.specs.declared.fault.Touched.{Touched}
@@ -52,16 +53,16 @@ pub record HasRmap (new : Mem) (r : Rmap) : Type 0 where
 
 -- these notes were added, and they make the page ready or say why not; the kernel's parts stand
 -- after them and the page's use, but that a write has stored no byte yet
-pub record IsTouched (s : State) (new : Mem) (write : Bool) (k : Key) (before now : List Note)
-    (touched : Touched) : Type 0 where
+pub record IsTouched (d : Device) (s : State) (new : Mem) (write : Bool) (k : Key)
+    (before now : List Note) (touched : Touched) : Type 0 where
   pub added : List Note
   pub notes : now ≡ before ++ added
-  pub touches : Touches (setting (frame_count new)) s.world s.ledger write k added (end_of touched)
+  pub touches : Touches (setting_by d new) s.world s.ledger write k added (end_of touched)
   pub ready : IsReady write (after_all s.ledger (page_events write k added (end_of touched))) k
       touched
-  pub parts : KeepsWithin new s.world
+  pub parts : KeepsWithin d new s.world
       (after_all s.ledger (page_events write k added (end_of touched)))
-  pub free : ChoosesAll (setting (frame_count new)) None s.ledger
+  pub free : ChoosesAll (setting_by d new) None s.ledger
       (page_events write k added (end_of touched)) s.free (free_of (view new))
   pub rmap : HasRmap new
       (rmap_after_all s.ledger (page_events write k added (end_of touched)) (rmap_of s))
@@ -71,7 +72,8 @@ pub record IsTouched (s : State) (new : Mem) (write : Bool) (k : Key) (before no
 -- whatever stood before: the page is made ready or not, and there are as many frames
 pub record MakesReady (old new : Mem) (write : Bool) (k : Key) (before now : List Note)
     (result : Result Touched AllocError) : Type 0 where
-  pub step : (s : State) → Keeps old s → IfOk result (IsTouched s new write k before now)
+  pub step : (d : Device) (s : State) → Keeps d old s
+      → IfOk result (IsTouched d s new write k before now)
   pub count : frame_count new ≡ frame_count old
 
 -- ---- the parts of a fault
@@ -96,13 +98,15 @@ abbrev pub one_less : ℕ → (ℕ → ℕ) → ℕ → ℕ
 one_less g maps = with_at g (maps g - 1) maps
 
 -- a frame has been taken for a page, which may write it in place; then these are its bytes, the
--- counts of entries, and the free frames
+-- counts of entries, and the free frames; it is at the head of inactive
 abbrev pub taken_for : ℕ → ℕ → ℕ → (ℕ → ℕ) → (ℕ → ℕ) → List ℕ → View → View
 taken_for p page f bytes maps rest v = record v {
   table = with_entry p page (plain (Here f true true)) v.table;
   bytes = with_at f bytes v.bytes;
   maps = maps;
   free = rest;
+  active = without f v.active;
+  inactive = f ∷ without f v.inactive;
 }
 
 -- it was the first of the free ones

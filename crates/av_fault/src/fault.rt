@@ -272,7 +272,7 @@ fn make_copy(
     Ok(Touched::Ready(frame))
 }
 
-/// Takes a frame of zeros for a page. None exactly where no frame is free.
+/// Takes a frame of zeros for a page, to the head of the inactive list. None exactly where no frame is free.
 fn take_zeros(mem: &mut Mem, process: u16, page: u64) -> Result<Option<u32>, AllocError>
     requires steady { IsSteady mem.old }
     requires there { has mem.old.tables process ≡ true }
@@ -280,21 +280,26 @@ fn take_zeros(mem: &mut Mem, process: u16, page: u64) -> Result<Option<u32>, All
     ensures taken { IfOk result (AreTaken mem.old mem.new process page (λ i. 0)
         (λ f. one_more f (view mem.old).maps)) }
     ensures processes { has mem.new.tables ≡ has mem.old.tables }
-    ensures spaces { mem.new.spaces ≡ mem.old.spaces }
-    ensures anons { mem.new.anons ≡ mem.old.anons }
     ensures count { frame_count mem.new ≡ frame_count mem.old }
+    ensures lists { mem.new.lists.frames ≡ mem.old.lists.frames }
+    ensures rest { mem.new ≡ record mem.old {
+      frames = mem.new.frames;
+      lists = mem.new.lists;
+      tables = mem.new.tables;
+    } }
 {
     let Some(frame) = mem.frames.take() else {
         return Ok(None);
     };
     mem.tables.set(process, page, accessed_entry(frame, true))?;
+    mem.lists.to_inactive_head(frame);
     mem.frames.zero(frame);
     mem.frames.map_up(frame);
     Ok(Some(frame))
 }
 
-/// Takes a frame for a page and copies the page's present one to it. None exactly where no frame is
-/// free.
+/// Takes a frame for a page, to the head of the inactive list, and copies the page's present one to
+/// it. None exactly where no frame is free.
 fn take_copy(mem: &mut Mem, process: u16, page: u64, from: u32) -> Result<Option<u32>, AllocError>
     requires steady { IsSteady mem.old }
     requires there { has mem.old.tables process ≡ true }
@@ -303,14 +308,19 @@ fn take_copy(mem: &mut Mem, process: u16, page: u64, from: u32) -> Result<Option
     ensures taken { IfOk result (AreTaken mem.old mem.new process page ((view mem.old).bytes from)
         (λ f. one_less from (one_more f (view mem.old).maps))) }
     ensures processes { has mem.new.tables ≡ has mem.old.tables }
-    ensures spaces { mem.new.spaces ≡ mem.old.spaces }
-    ensures anons { mem.new.anons ≡ mem.old.anons }
     ensures count { frame_count mem.new ≡ frame_count mem.old }
+    ensures lists { mem.new.lists.frames ≡ mem.old.lists.frames }
+    ensures rest { mem.new ≡ record mem.old {
+      frames = mem.new.frames;
+      lists = mem.new.lists;
+      tables = mem.new.tables;
+    } }
 {
     let Some(frame) = mem.frames.take() else {
         return Ok(None);
     };
     mem.tables.set(process, page, accessed_entry(frame, true))?;
+    mem.lists.to_inactive_head(frame);
     mem.frames.copy(from, frame);
     mem.frames.map_up(frame);
     mem.frames.map_down(from);

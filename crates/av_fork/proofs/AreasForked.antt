@@ -20,6 +20,7 @@ use Rattle.av_spaces.proofs.ForkLaws.{areas_in_child-more, kin_after-more}
 use Rattle.av_spaces.proofs.Kin.{stay_same}
 use Rattle.av_plain.specs.Areas.{Rmap, chain_by, none_on}
 use Rattle.av_plain.specs.Fork.{AreForked, GoOver, GoesBy, with_child_area}
+use Rattle.av_plain.specs.Device.{Device}
 use Rattle.av_plain.specs.Ledger.{Ledger}
 use Rattle.av_plain.specs.Report.{AreApart, range_of}
 use Rattle.av_plain.specs.Stands.{AnonsStand, kin_of}
@@ -82,7 +83,7 @@ record Reaches (old : AllSpaces) (anons : AnonSet) (child : ℕ) (first : Rmap) 
   shows : (spaces : Spaces) → IsSpawned old.processes spaces child (areas_in_child child areas (kin_now old anons))
       → Shows spaces (kin_after areas (kin_now old anons)) next
 
-module _ (old : Mem) (s : State) (keeps : Keeps old s) (parent child : ℕ) (areas : List Area) (there : areas_of old.spaces.processes parent ≡ Some areas)
+module _ (d : Device) (old : Mem) (s : State) (keeps : Keeps d old s) (parent child : ℕ) (areas : List Area) (there : areas_of old.spaces.processes parent ≡ Some areas)
     (dead : areas_of old.spaces.processes child ≡ None) (turn : GoInTurn old.spaces old.anons child areas) where
   abbrev k : Lineage
   k = kin_now old.spaces old.anons
@@ -110,7 +111,7 @@ module _ (old : Mem) (s : State) (keeps : Keeps old s) (parent child : ℕ) (are
       by None is = tt
       by (Some area) is =
           same_chain old.spaces old.anons area.anon
-          ∙ area_chain old s keeps old.spaces old.anons (stay_same old.spaces old.anons keeps.anons) p page area (keeps.stands.areas p page ∙ is)
+          ∙ area_chain d old s keeps old.spaces old.anons (stay_same old.spaces old.anons keeps.anons) p page area (keeps.stands.areas p page ∙ is)
 
   at_first : Reaches old.spaces old.anons child first []
   at_first = record {
@@ -268,31 +269,29 @@ module _ (old : Mem) (s : State) (keeps : Keeps old s) (parent child : ℕ) (are
     }
 
 -- by the parent's areas
-pub has_fork_by : (old new : Mem) (s : State) (keeps : Keeps old s) (parent child : ℕ) (areas : Option (List Area))
+pub has_fork_by : (d : Device) (old new : Mem) (s : State) (keeps : Keeps d old s) (parent child : ℕ) (areas : Option (List Area))
     → areas_of old.spaces.processes parent ≡ areas
     → areas_of old.spaces.processes child ≡ None → IsSomeAnd areas (IsForked old.spaces old.anons new.spaces new.anons child)
     → IsSomeAnd areas (GoInTurn old.spaces old.anons child) → new.frames ≡ old.frames → HasFork old new parent child s
-has_fork_by old new s keeps parent child None there dead f turn same = absurd f
-has_fork_by old new s keeps parent child (Some areas) there dead f turn same = has_fork old s keeps parent child areas there dead turn new f same
+has_fork_by d old new s keeps parent child None there dead f turn same = absurd f
+has_fork_by d old new s keeps parent child (Some areas) there dead f turn same = has_fork d old s keeps parent child areas there dead turn new f same
 
 -- ---- the ledger
 
 -- what stands for a ledger goes by frames and tables alone
-ledger_beside : (old : Mem) (spaces : AllSpaces) (anons : AnonSet) (l : Ledger) → HasLedger old l
-    → HasLedger (record old { spaces = spaces; anons = anons }) l
-ledger_beside old spaces anons l h = let parts = h.parts in let of = parts.frames in record {
+ledger_beside : (d : Device) (old : Mem) (spaces : AllSpaces) (anons : AnonSet) (l : Ledger) → HasLedger d old l
+    → HasLedger d (record old { spaces = spaces; anons = anons }) l
+ledger_beside d old spaces anons l h = let parts = h.parts in let of = parts.frames in record {
   sound = h.sound;
   parts = record {
     frames = record { frames = of.frames; maps = of.maps; slots = of.slots; dirty = of.dirty; free = of.free };
-    lists = record { active = parts.lists.active };
+    lists = record { active = parts.lists.active; inactive = parts.lists.inactive };
     tables = record { entries = parts.tables.entries; write_bits = parts.tables.write_bits };
     swap = record { finds = parts.swap.finds; counts = parts.swap.counts; flight = parts.swap.flight; on = parts.swap.on };
   };
+  lists = h.lists;
 }
 
 -- so it stays where these do
-pub ledger_stays : (old new : Mem) (l : Ledger) → new.frames ≡ old.frames → new.tables ≡ old.tables → HasLedger old l → HasLedger new l
-ledger_stays old new l same_frames same_tables h =
-    let at_frames = subst (λ frames. HasLedger (record new { frames = frames; tables = old.tables }) l) (sym same_frames)
-    (ledger_beside old new.spaces new.anons l h) in
-    subst (λ tables. HasLedger (record new { tables = tables }) l) (sym same_tables) at_frames
+pub ledger_stays : (d : Device) (old new : Mem) (l : Ledger) → new ≡ record old { spaces = new.spaces; anons = new.anons } → HasLedger d old l → HasLedger d new l
+ledger_stays d old new l rest h = subst (λ (k : Mem). HasLedger d k l) (sym rest) (ledger_beside d old new.spaces new.anons l h)

@@ -195,12 +195,12 @@ module _ (m : Setting) (l : Ledger) (p q page : ℕ) (e : Entry) (sound : IsSoun
             no_zero n h = grind (arith, nat_tests, h)
         none false n n' is there = ap (λ k. k == 0) (omega (arith, is))
 
-    pub stands_now : IsFrom p q l → SoundLedger m (after_fork_entry p q page v) next_ledger
-    stands_now from = record {
+    pub stands_now : IsFrom p q l → {n : ℕ} → n ≡ m.frames → SoundLedger m n (after_fork_entry p q page v) next_ledger
+    stands_now from listed = record {
       sound = sound_now from;
       parts = record {
         frames = frames_now;
-        lists = record { active = parts.lists.active };
+        lists = record { active = parts.lists.active; inactive = parts.lists.inactive };
         tables = tables_now;
         swap = record {
           finds = parts.swap.finds;
@@ -209,4 +209,5 @@ module _ (m : Setting) (l : Ledger) (p q page : ℕ) (e : Entry) (sound : IsSoun
           on = parts.swap.on;
         };
       };
+      lists = listed;
     }

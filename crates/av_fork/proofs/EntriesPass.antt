@@ -11,9 +11,10 @@ use Rattle.av_pagetable.specs.declared.pte.Pte.TheVariants.{Away, Empty, Here, Z
 use Rattle.av_pagetable.specs.Entries.{entry_at}
 use Rattle.av_pagetable.specs.Table.{IsFirst, page_bound}
 use Rattle.av_plain.specs.Choice.{Chooses}
+use Rattle.av_plain.specs.Device.{Device}
 use Rattle.av_plain.specs.Event.{Event, Forked, Inherited, after, is_inherited, put_all, set_entry, without_seen}
 use Rattle.av_plain.specs.Fork.{inheritance}
-use Rattle.av_plain.specs.Ledger.{Entry, Key, Ledger, Setting, entry, key_cmp, names_slot}
+use Rattle.av_plain.specs.Ledger.{Entry, Key, Ledger, Setting, entry, key_cmp, names_slot, slot_count}
 use Rattle.av_plain.specs.Sound.{uses}
 use Rattle.av_plain.specs.Stands.{entry_of, free_of}
 use Rattle.av_plain.proofs.Choice.{chooses-kept, new_free-none, no-slot-chosen}
@@ -21,9 +22,10 @@ use Rattle.av_plain.proofs.Ledger.{entry-set, how_many-found, same_key, same_key
 use Rattle.av_plain.proofs.Ledger.NoSwap.{itself}
 use Rattle.av_plain.proofs.Ledger.Order.{both_first, both_second, is_less}
 use Rattle.av_reclaim.specs.declared.mem.Mem.{Mem}
-use Rattle.av_reclaim.specs.Mem.{HasLedger, SoundLedger, frame_count, plain, setting, view}
-use Rattle.av_reclaim.proofs.MemLaws.{no_cache}
-use Rattle.av_reclaim.proofs.Parts.{Parts, Stand, parts_of, seen_as}
+use Rattle.av_reclaim.specs.Mem.{HasLedger, SoundLedger, plain, setting_by, view}
+use Rattle.av_reclaim.proofs.MemLaws.{no_cache, none_used}
+use Rattle.av_reclaim.proofs.Parts.{Parts, Stand, parts_of, seen_as, setting_at}
+use Rattle.av_reclaim.proofs.ZapFirst.{same_ledger}
 use Rattle.av_fork.specs.Entries.{HasForked, after_fork_entry}
 use Rattle.av_fork.proofs.EntriesLedger.{IsFrom, more_uses, stands_now}
 
@@ -193,9 +195,9 @@ abbrev pub given_from : ℕ → ℕ → ℕ → Entries → Entries
 given_from p q at es = map (λ e. ((q, e.0.1), without_seen e.1)) (where_key key_cmp (from_page p at) es)
 
 -- the child has the parent's entries below a page: what is left to give makes the same ledger in the end
-pub record IsForking (k : Parts) (p q next : ℕ) (first : Ledger) : Type 0 where
+pub record IsForking (d : Device) (k : Parts) (p q next : ℕ) (first : Ledger) : Type 0 where
   pub ledger : Ledger
-  pub stands : Stand k ledger
+  pub stands : Stand d k ledger
   pub sorted : T (is_sorted key_cmp first.entries)
   pub same : after first (Forked p q (inheritance first p)) ≡ put_all (given_from p q next first.entries) ledger
   pub parents : (o : ℕ) → entry ledger (p, o) ≡ entry first (p, o)
@@ -204,11 +206,11 @@ pub record IsForking (k : Parts) (p q next : ℕ) (first : Ledger) : Type 0 wher
   pub used : (f : ℕ) → uses first f ≤ uses ledger f
 
 -- what a table's place says of the ledger
-pub at_place : (k : Parts) (l : Ledger) (p page : ℕ) (e : Pte) → Stand k l → k.table p page ≡ e → entry l (p, page) ≡ entry_of (plain e)
+pub at_place : {m : Setting} {n : ℕ} (k : Parts) (l : Ledger) (p page : ℕ) (e : Pte) → SoundLedger m n (seen_as k) l → k.table p page ≡ e → entry l (p, page) ≡ entry_of (plain e)
 at_place k l p page e stands is = sym (stands.parts.tables.entries p page) ∙ ap (λ t. entry_of (plain t)) is
 
 -- no entry means an empty one
-no_entry : (k : Parts) (l : Ledger) (p page : ℕ) → Stand k l → entry l (p, page) ≡ None → k.table p page ≡ Empty
+no_entry : {m : Setting} {n : ℕ} (k : Parts) (l : Ledger) (p page : ℕ) → SoundLedger m n (seen_as k) l → entry l (p, page) ≡ None → k.table p page ≡ Empty
 no_entry k l p page stands none = by (k.table p page) (stands.parts.tables.entries p page ∙ none)
   where
     by : (t : Pte) → entry_of (plain t) ≡ None → t ≡ Empty
@@ -218,7 +220,7 @@ no_entry k l p page stands none = by (k.table p page) (stands.parts.tables.entri
     by (Away s) e = absurd (no_two e)
 
 -- no entry is a slot
-pub no_slots : (k : Parts) (l : Ledger) (p page : ℕ) (e : Entry) → Stand k l → entry l (p, page) ≡ Some e → (s : Slot) → names_slot s e ≡ false
+pub no_slots : {m : Setting} {n : ℕ} (k : Parts) (l : Ledger) (p page : ℕ) (e : Entry) → SoundLedger m n (seen_as k) l → entry l (p, page) ≡ Some e → (s : Slot) → names_slot s e ≡ false
 no_slots k l p page e stands is s = by (names_slot s e) refl
   where
     by : (b : Bool) → names_slot s e ≡ b → b ≡ false
@@ -227,8 +229,8 @@ no_slots k l p page e stands is s = by (names_slot s e) refl
     by false named = refl
 
 -- nothing has gone over yet
-pub none_yet : (k : Parts) (p q : ℕ) (l : Ledger) → Stand k l → ((o : ℕ) → k.table q o ≡ Empty) → IsForking k p q 0 l
-none_yet k p q l stands empty = record {
+pub none_yet : (d : Device) (k : Parts) (p q : ℕ) (l : Ledger) → Stand d k l → ((o : ℕ) → k.table q o ≡ Empty) → IsForking d k p q 0 l
+none_yet d k p q l stands empty = record {
   ledger = l;
   stands = stands;
   sorted = stands.sound.in_order;
@@ -243,12 +245,13 @@ none_yet k p q l stands empty = record {
     nothing o = at_place k l q o Empty stands (empty o)
 
 -- the child lacks the entries from there on
-pub child_lacks : (k : Parts) (p q next o : ℕ) (first : Ledger) → IsForking k p q next first → next ≤ o → k.table q o ≡ Empty
-child_lacks k p q next o first t low = no_entry k t.ledger q o t.stands (t.children o low)
+pub child_lacks : (d : Device) (k : Parts) (p q next o : ℕ) (first : Ledger) → IsForking d k p q next first → next ≤ o → k.table q o ≡ Empty
+child_lacks d k p q next o first t low = no_entry k t.ledger q o t.stands (t.children o low)
 
 -- one more goes over
-module _ (mid new : Parts) (p q next page : ℕ) (first : Ledger) (t : IsForking mid p q next first) (is : IsFirst (mid.table p) next page_bound page)
-    (seen_so : seen_as new ≡ after_fork_entry p q page (seen_as mid)) (counts : new.frames.count ≡ mid.frames.count) where
+module _ (d : Device) (mid new : Parts) (p q next page : ℕ) (first : Ledger) (t : IsForking d mid p q next first) (is : IsFirst (mid.table p) next page_bound page)
+    (seen_so : seen_as new ≡ after_fork_entry p q page (seen_as mid)) (counts : new.frames.count ≡ mid.frames.count)
+    (listed : new.lists.frames ≡ mid.lists.frames) where
   module _ (e : Entry) (named : entry t.ledger (p, page) ≡ Some e) where
     absent : entry t.ledger (q, page) ≡ None
     absent = t.children page is.from_there
@@ -280,23 +283,22 @@ module _ (mid new : Parts) (p q next page : ℕ) (first : Ledger) (t : IsForking
         other_page q o h = grind (arith, nat_tests, h)
 
     still_from : IsFrom p q next_ledger
-    still_from o d there = by (same_key (q, o) (q, page)) refl (sym (entry-set (q, page) (without_seen e) t.ledger (q, o)) ∙ there)
+    still_from o x there = by (same_key (q, o) (q, page)) refl (sym (entry-set (q, page) (without_seen e) t.ledger (q, o)) ∙ there)
       where
         value : {x y : Entry} → Some x ≡ Some y → x ≡ y
         value e = cc
 
-        by : (b : Bool) → same_key (q, o) (q, page) ≡ b → cond b (Some (without_seen e)) (entry t.ledger (q, o)) ≡ Some d
-            → (c : Entry) × (entry next_ledger (p, o) ≡ Some c) × (d ≡ without_seen c)
+        by : (b : Bool) → same_key (q, o) (q, page) ≡ b → cond b (Some (without_seen e)) (entry t.ledger (q, o)) ≡ Some x
+            → (c : Entry) × (entry next_ledger (p, o) ≡ Some c) × (x ≡ without_seen c)
         by true i at = (e, parents_stay o ∙ ap (λ (k : Key). entry t.ledger (p, k.1)) (same_key-is (q, o) (q, page) i) ∙ named, sym (value at))
-        by false i at = let c = t.from o d at in (c.0, parents_stay o ∙ c.1, c.2)
+        by false i at = let c = t.from o x at in (c.0, parents_stay o ∙ c.1, c.2)
 
-    stands_next : SoundLedger (setting new.frames.count) (seen_as new) next_ledger
-    stands_next = subst (λ n. SoundLedger (setting n) (seen_as new) next_ledger) (sym counts)
-        (subst (λ v. SoundLedger (setting mid.frames.count) v next_ledger) (sym seen_so)
-        (stands_now (setting mid.frames.count) t.ledger p q page e t.stands.sound named absent (no_slots mid t.ledger p page e t.stands named)
-        (seen_as mid) t.stands.parts (no_cache t.ledger t.stands.parts.swap.finds) t.from))
+    stands_next : Stand d new next_ledger
+    stands_next = same_ledger d mid new next_ledger
+        (stands_now (setting_at d mid) t.ledger p q page e t.stands.sound named absent (no_slots mid t.ledger p page e t.stands named)
+        (seen_as mid) t.stands.parts (no_cache t.ledger t.stands.parts.swap.finds) t.from t.stands.lists) seen_so counts listed
 
-    one_more : IsForking new p q (page + 1) first
+    one_more : IsForking d new p q (page + 1) first
     one_more = record {
       ledger = next_ledger;
       stands = stands_next;
@@ -307,30 +309,33 @@ module _ (mid new : Parts) (p q next page : ℕ) (first : Ledger) (t : IsForking
       parents = λ o. parents_stay o ∙ t.parents o;
       children = still_none;
       from = still_from;
-      used = λ f. let a = t.used f in let b = more_uses (setting mid.frames.count) t.ledger p q page e t.stands.sound named absent
+      used = λ f. let a = t.used f in let b = more_uses (setting_at d mid) t.ledger p q page e t.stands.sound named absent
           (no_slots mid t.ledger p page e t.stands named) f in omega (arith, a, b);
     }
 
-  pub more_given : IsForking new p q (page + 1) first
+  pub more_given : IsForking d new p q (page + 1) first
   more_given = by (entry t.ledger (p, page)) refl
     where
-      by : (o : Option Entry) → entry t.ledger (p, page) ≡ o → IsForking new p q (page + 1) first
+      by : (o : Option Entry) → entry t.ledger (p, page) ≡ o → IsForking d new p q (page + 1) first
       by None none = absurd (is.there (no_entry mid t.ledger p page t.stands none))
       by (Some e) some = one_more e some
 
 -- where none is left, all has gone over, and no frame has become free
-pub all_given : (old new : Mem) (p q next : ℕ) (first : Ledger) → IsForking (parts_of new) p q next first
+pub all_given : (d : Device) (old new : Mem) (p q next : ℕ) (first : Ledger) → HasLedger d old first → IsForking d (parts_of new) p q next first
     → ((o : ℕ) → next ≤ o → entry_at new.tables p o ≡ Empty) → free_of (view new) ≡ free_of (view old)
-    → HasForked old new first p q
-all_given old new p q next first t none free = record {
-  stands = subst (HasLedger new) (sym whole) t.stands;
+    → HasForked d old new first p q
+all_given d old new p q next first before t none free = record {
+  stands = subst (HasLedger d new) (sym whole) t.stands;
   free = subst (Chooses m None first event (free_of (view old))) (sym free)
-      (chooses-kept m None first event (free_of (view old)) (no-slot-chosen m None first event (view old).slots (λ k. refl) refl refl) refl
+      (chooses-kept m None first event (free_of (view old)) (no-slot-chosen m None first event (view old).slots unused refl refl) refl
       (new_free-none m first (after first event) (λ f below. subst (λ (l : Ledger). uses first f ≤ uses l f) (sym whole) (t.used f))));
 }
   where
     m : Setting
-    m = setting (frame_count old)
+    m = setting_by d old
+
+    unused : (s : Slot) → slot_count first s ≡ 0
+    unused s = none_used first s (no_cache first before.parts.swap.finds) (sym (before.parts.swap.counts s))
 
     event : Event
     event = Forked p q (inheritance first p)

@@ -12,13 +12,15 @@ use Rattle.av_pagetable.specs.Entries.{with_entry}
 use Rattle.av_pagetable.specs.Table.{IsFirst, IsGroup, child_entry as child_raw, page_bound, read_only}
 use Rattle.av_pagetable.specs.declared.pte.Pte.{Pte}
 use Rattle.av_pagetable.specs.declared.pte.Pte.TheVariants.{Away, Empty, Here, Zero}
+use Rattle.av_lru.specs.Lists.{Lists}
+use Rattle.av_plain.specs.Device.{Device}
 use Rattle.av_plain.specs.Ledger.{InFrame, Ledger, entry, map_count, names_frame}
 use Rattle.av_plain.specs.Transcript.{State}
 use Rattle.av_plain.proofs.Ledger.{how_many-found}
 use Rattle.av_plain.proofs.Ledger.NoSwap.{itself}
 use Rattle.av_plain.proofs.Sound.Bound.{map_count-few}
 use Rattle.av_reclaim.specs.declared.mem.Mem.{Mem}
-use Rattle.av_reclaim.specs.Mem.{HasLedger, Keeps, SoundLedger, frame_count, plain, setting, view, view_of_parts}
+use Rattle.av_reclaim.specs.Mem.{HasLedger, Keeps, plain, setting_by, view, view_of_parts}
 use Rattle.av_spaces.specs.Spaces.{AllSpaces}
 use Rattle.av_fork.specs.Entries.{after_fork_entry, after_map_ups, names, child_entry, without_write}
 use Rattle.av_pagetable.proofs.DirImages.{child_none}
@@ -33,15 +35,10 @@ pub in_error : {X E : Type 0} (r : Result X E) (A : Type 0) {B : Type 0} → IsE
 in_error (Ok x) A is h = absurd (false≢true is)
 in_error (Err e) A is h = h
 
--- what is seen alike stands for the same ledger
-pub same_ledger : (old new : Mem) (l : Ledger) → view new ≡ view old → frame_count new ≡ frame_count old → HasLedger old l → HasLedger new l
-same_ledger old new l is counts stands = subst (λ n. SoundLedger (setting n) (view new) l) (sym counts)
-    (subst (λ v. SoundLedger (setting (frame_count old)) v l) (sym is) stands)
-
 -- in what a kernel stands for no more entries name a frame than processes may live
-pub few-entries : (k : Mem) (s : State) → Keeps k s → (f : ℕ) → (view k).maps f ≤ most_processes
-few-entries k s keeps f = subst (λ n. n ≤ most_processes) (sym (keeps.stands.parts.ledger.frames.maps f))
-    (map_count-few (setting (frame_count k)) s.world s.ledger f keeps.stands.sound)
+pub few-entries : (d : Device) (k : Mem) (s : State) → Keeps d k s → (f : ℕ) → (view k).maps f ≤ most_processes
+few-entries d k s keeps f = subst (λ n. n ≤ most_processes) (sym (keeps.stands.parts.ledger.frames.maps f))
+    (map_count-few (setting_by d k) s.world s.ledger f keeps.stands.sound)
 
 equal : (a b : ℕ) → (a == b) ≡ true → a ≡ b
 equal a b h = grind (arith, nat_tests, h)
@@ -94,14 +91,14 @@ forked p q old = with_at p (λ o. read_only (copied p q old p o)) (copied p q ol
 abbrev pub stage : ℕ → ℕ → (ℕ → ℕ → Pte) → ℕ → ℕ → ℕ → Pte
 stage p q old next x o = cond (nat_lt o next) (forked p q old x o) (old x o)
 
-abbrev pub stage_parts : AllSpaces → AnonSet → ℕ → ℕ → (ℕ → ℕ → Pte) → Shown → ℕ → Parts
-stage_parts spaces anons p q old frames next = record { frames = frames; table = stage p q old next; spaces = spaces; anons = anons }
+abbrev pub stage_parts : Lists → AllSpaces → AnonSet → ℕ → ℕ → (ℕ → ℕ → Pte) → Shown → ℕ → Parts
+stage_parts lists spaces anons p q old frames next = record { frames = frames; lists = lists; table = stage p q old next; spaces = spaces; anons = anons }
 
 -- below a page all has gone over; pages where nothing is left may be counted in
-pub record IsForkingTo (spaces : AllSpaces) (anons : AnonSet) (p q : ℕ) (old : ℕ → ℕ → Pte) (frames : Shown) (next : ℕ) (first : Ledger) : Type 0 where
+pub record IsForkingTo (d : Device) (lists : Lists) (spaces : AllSpaces) (anons : AnonSet) (p q : ℕ) (old : ℕ → ℕ → Pte) (frames : Shown) (next : ℕ) (first : Ledger) : Type 0 where
   pub at : ℕ
   pub low : at ≤ next
-  pub forking : IsForking (stage_parts spaces anons p q old frames next) p q at first
+  pub forking : IsForking d (stage_parts lists spaces anons p q old frames next) p q at first
   pub skipped : (o : ℕ) → at ≤ o → o < next → old p o ≡ Empty
 
 module _ (p q : ℕ) (old : ℕ → ℕ → Pte) (empty : (o : ℕ) → old q o ≡ Empty) where
@@ -186,13 +183,13 @@ module _ (p q : ℕ) (old : ℕ → ℕ → Pte) (empty : (o : ℕ) → old q o 
       by x o false true false i j k = other x o k
       by x o false false false i j k = other x o k
 
-  module _ (spaces : AllSpaces) (anons : AnonSet) (first : Ledger) where
+  module _ (d : Device) (lists : Lists) (spaces : AllSpaces) (anons : AnonSet) (first : Ledger) where
     pub skip_to : (frames : Shown) (next next' : ℕ) → next ≤ next' → ((o : ℕ) → next ≤ o → o < next' → old p o ≡ Empty)
-        → IsForkingTo spaces anons p q old frames next first → IsForkingTo spaces anons p q old frames next' first
+        → IsForkingTo d lists spaces anons p q old frames next first → IsForkingTo d lists spaces anons p q old frames next' first
     skip_to frames next next' le none t = record {
       at = t.at;
       low = let low = t.low in omega (arith, low, le);
-      forking = subst (λ (table : ℕ → ℕ → Pte). IsForking (record { frames = frames; table = table; spaces = spaces; anons = anons }) p q t.at first)
+      forking = subst (λ (table : ℕ → ℕ → Pte). IsForking d (record { frames = frames; lists = lists; table = table; spaces = spaces; anons = anons }) p q t.at first)
           (sym (skip next next' le none)) t.forking;
       skipped = λ o low high. elim (cases_lt o next) [
         | inl lt ↦ t.skipped o low lt
@@ -201,22 +198,22 @@ module _ (p q : ℕ) (old : ℕ → ℕ → Pte) (empty : (o : ℕ) → old q o 
     }
 
     -- a frame of an entry that has not gone over is in range
-    pub in_range : (frames : Shown) (next : ℕ) → IsForkingTo spaces anons p q old frames next first → (o : ℕ) → next ≤ o
+    pub in_range : (frames : Shown) (next : ℕ) → IsForkingTo d lists spaces anons p q old frames next first → (o : ℕ) → next ≤ o
         → (f : ℕ) (write was : Bool) → child_raw (old p o) ≡ Here f write was → f < frames.count
     in_range frames next t o low f write was is =
         let e = given_frame (old p o) f write was is in
-        let named : entry t.forking.ledger (p, o) ≡ Some (InFrame f e.1) = at_place (stage_parts spaces anons p q old frames next) t.forking.ledger p o
+        let named : entry t.forking.ledger (p, o) ≡ Some (InFrame f e.1) = at_place (stage_parts lists spaces anons p q old frames next) t.forking.ledger p o
         (Here f e.0 e.1) t.forking.stands (still next p o low ∙ e.2) in
         let some : 0 < map_count t.forking.ledger f = how_many-found (names_frame f) (p, o) t.forking.ledger.entries (InFrame f e.1) named (itself f) in
         t.forking.stands.sound.in_range f (omega (arith, some))
 
-    one_page : (frames : Shown) (page : ℕ) → page < page_bound → IsForkingTo spaces anons p q old frames page first
-        → IsForkingTo spaces anons p q old (record frames { maps = λ f. frames.maps f + cond (names f (plain (child_raw (old p page)))) 1 0 }) (page + 1) first
+    one_page : (frames : Shown) (page : ℕ) → page < page_bound → IsForkingTo d lists spaces anons p q old frames page first
+        → IsForkingTo d lists spaces anons p q old (record frames { maps = λ f. frames.maps f + cond (names f (plain (child_raw (old p page)))) 1 0 }) (page + 1) first
     one_page frames page below t = none_or (old p page) _ empty_page (λ some. record {
       at = page + 1;
       low = omega arith;
-      forking = more_given (stage_parts spaces anons p q old frames page) (stage_parts spaces anons p q old counted (page + 1)) p q t.at page
-          first t.forking (is some) seen_so refl;
+      forking = more_given d (stage_parts lists spaces anons p q old frames page) (stage_parts lists spaces anons p q old counted (page + 1)) p q t.at page
+          first t.forking (is some) seen_so refl refl;
       skipped = λ o low high. absurd (omega (arith, low, high));
     })
       where
@@ -237,35 +234,35 @@ module _ (p q : ℕ) (old : ℕ → ℕ → Pte) (empty : (o : ℕ) → old q o 
         name : (f : ℕ) → names f (plain (child_raw (old p page))) ≡ names f (plain (stage p q old page p page))
         name f = given_names f (old p page) ∙ ap (λ e. names f (plain e)) (sym old_here)
 
-        seen_so : seen_as (stage_parts spaces anons p q old counted (page + 1)) ≡ after_fork_entry p q page
-            (seen_as (stage_parts spaces anons p q old frames page))
+        seen_so : seen_as (stage_parts lists spaces anons p q old counted (page + 1)) ≡ after_fork_entry p q page
+            (seen_as (stage_parts lists spaces anons p q old frames page))
         seen_so =
-            (λ i. view_of_parts counted (stage_next page i) spaces anons)
-            ∙ (λ i. view_of_parts (record frames { maps = λ f. frames.maps f + cond (name f i) 1 0 })
+            (λ i. view_of_parts counted lists (stage_next page i) spaces anons)
+            ∙ (λ i. view_of_parts (record frames { maps = λ f. frames.maps f + cond (name f i) 1 0 }) lists
             (with_entry p page (without_write (plain (sym old_here i)))
             (with_entry q page (child_entry (plain (sym old_here i))) (λ x o. plain (stage p q old page x o)))) spaces anons)
 
         nothing : (n : ℕ) → n ≡ n + 0
         nothing n = omega arith
 
-        empty_page : old p page ≡ Empty → IsForkingTo spaces anons p q old counted (page + 1) first
-        empty_page none = subst (λ (maps : ℕ → ℕ). IsForkingTo spaces anons p q old (record frames { maps = maps }) (page + 1) first)
+        empty_page : old p page ≡ Empty → IsForkingTo d lists spaces anons p q old counted (page + 1) first
+        empty_page none = subst (λ (maps : ℕ → ℕ). IsForkingTo d lists spaces anons p q old (record frames { maps = maps }) (page + 1) first)
             (λ i f. (nothing (frames.maps f) ∙ ap (λ e. frames.maps f + cond (names f (plain (child_raw e))) 1 0) (sym none)) i)
             (skip_to frames page (page + 1) (omega arith) (λ o low high. ap (old p) (let same : o ≡ page = omega (arith, low, high) in same) ∙ none) t)
 
     pub whole_group : (group : List Pte) (frames : Shown) (page : ℕ) → page + length group ≤ page_bound →
         ((i : ℕ) → i < length group → get_or group i Empty ≡ child_raw (old p (page + i)))
-        → IsForkingTo spaces anons p q old frames page first → IsForkingTo spaces anons p q old (after_map_ups group frames) (page + length group) first
+        → IsForkingTo d lists spaces anons p q old frames page first → IsForkingTo d lists spaces anons p q old (after_map_ups group frames) (page + length group) first
     whole_group [] frames page below are t =
-        subst (λ n. IsForkingTo spaces anons p q old (after_map_ups [] frames) n first) (let same : page ≡ page + 0 = omega arith in same)
-        (subst (λ (maps : ℕ → ℕ). IsForkingTo spaces anons p q old (record frames { maps = maps }) page first) (λ i f. nothing (frames.maps f) i) t)
+        subst (λ n. IsForkingTo d lists spaces anons p q old (after_map_ups [] frames) n first) (let same : page ≡ page + 0 = omega arith in same)
+        (subst (λ (maps : ℕ → ℕ). IsForkingTo d lists spaces anons p q old (record frames { maps = maps }) page first) (λ i f. nothing (frames.maps f) i) t)
       where
         nothing : (n : ℕ) → n ≡ n + 0
         nothing n = omega arith
     whole_group (e ∷ es) frames page below are t =
-        subst (λ n. IsForkingTo spaces anons p q old (after_map_ups (e ∷ es) frames) n first)
+        subst (λ n. IsForkingTo d lists spaces anons p q old (after_map_ups (e ∷ es) frames) n first)
         (let same : page + 1 + length es ≡ page + length (e ∷ es) = omega arith in same)
-        (subst (λ (maps : ℕ → ℕ). IsForkingTo spaces anons p q old (record frames { maps = maps }) (page + 1 + length es) first) (λ i f. joined f i)
+        (subst (λ (maps : ℕ → ℕ). IsForkingTo d lists spaces anons p q old (record frames { maps = maps }) (page + 1 + length es) first) (λ i f. joined f i)
         (whole_group es (record frames { maps = λ f. frames.maps f + cond (names f (plain (child_raw (old p page)))) 1 0 }) (page + 1) (omega (arith, below))
         (λ i low. are (suc i) (omega (arith, low)) ∙ ap (λ o. child_raw (old p o)) (let same : page + suc i ≡ page + 1 + i = omega arith in same))
         (one_page frames page (omega (arith, below)) t)))
@@ -282,31 +279,31 @@ module _ (p q : ℕ) (old : ℕ → ℕ → Pte) (empty : (o : ℕ) → old q o 
             (cond (names f (plain e)) 1 0) (how_many (λ e. names f (plain e)) es)
 
   -- the group of the first page with an entry goes over, and the pages before it have none
-  pub next_group : (spaces : AllSpaces) (anons : AnonSet) (first : Ledger) (frames : Shown) (table : ℕ → Pte) (number page : ℕ) (group : List Pte)
+  pub next_group : (d : Device) (lists : Lists) (spaces : AllSpaces) (anons : AnonSet) (first : Ledger) (frames : Shown) (table : ℕ → Pte) (number page : ℕ) (group : List Pte)
       → length group ≡ 64 → ((o : ℕ) → table o ≡ child_raw (old p o)) → IsFirst table (number * 64) page_bound page → IsGroup table (page / 64) group
-      → IsForkingTo spaces anons p q old frames (number * 64) first
-      → IsForkingTo spaces anons p q old (after_map_ups group frames) ((page / 64 + 1) * 64) first
-  next_group spaces anons first frames table number page group long copies is are t =
+      → IsForkingTo d lists spaces anons p q old frames (number * 64) first
+      → IsForkingTo d lists spaces anons p q old (after_map_ups group frames) ((page / 64 + 1) * 64) first
+  next_group d lists spaces anons first frames table number page group long copies is are t =
       let at = group_from table number page (length group) long is in
       let low = at.low in
       let here = at.here in
-      subst (λ n. IsForkingTo spaces anons p q old (after_map_ups group frames) n first) at.past
-      (whole_group spaces anons first group frames (page / 64 * 64) at.fits
+      subst (λ n. IsForkingTo d lists spaces anons p q old (after_map_ups group frames) n first) at.past
+      (whole_group d lists spaces anons first group frames (page / 64 * 64) at.fits
       (λ i under. are i (omega (arith, under, long)) ∙ copies (page / 64 * 64 + i))
-      (skip_to spaces anons first frames (number * 64) (page / 64 * 64) low
+      (skip_to d lists spaces anons first frames (number * 64) (page / 64 * 64) low
       (λ o above under. child_none (old p o) (sym (copies o) ∙ is.least o above (omega (arith, under, here)))) t))
 
 -- ---- the whole pass
 
 module _ (old : Mem) (p q : ℕ) (empty : (o : ℕ) → entry_at old.tables q o ≡ Empty) where
   -- nothing has gone over yet
-  pub none_over : (l : Ledger) → HasLedger old l → IsForkingTo old.spaces old.anons p q (entry_at old.tables) (shown old.frames) 0 l
-  none_over l stands = record {
+  pub none_over : (d : Device) (l : Ledger) → HasLedger d old l → IsForkingTo d old.lists old.spaces old.anons p q (entry_at old.tables) (shown old.frames) 0 l
+  none_over d l stands = record {
     at = 0;
     low = omega arith;
-    forking = subst (λ (table : ℕ → ℕ → Pte). IsForking (record { frames = shown old.frames; table = table; spaces = old.spaces; anons = old.anons }) p q 0 l)
+    forking = subst (λ (table : ℕ → ℕ → Pte). IsForking d (record (parts_of old) { table = table }) p q 0 l)
         (λ i x o. sym (still p q (entry_at old.tables) empty 0 x o (omega arith)) i)
-        (none_yet (parts_of old) p q l stands empty);
+        (none_yet d (parts_of old) p q l stands empty);
     skipped = λ o low high. absurd (omega (arith, low, high));
   }
 
@@ -319,11 +316,11 @@ module _ (old : Mem) (p q : ℕ) (empty : (o : ℕ) → entry_at old.tables q o 
     parent_none o none = child_none (entry_at old.tables p o) (sym (child_is o) ∙ none)
 
     -- where the child has none from a page on, all has gone over
-    pub all_over : (next : ℕ) (first : Ledger) → ((o : ℕ) → next ≤ o → entry_at new.tables q o ≡ Empty) → free_of (view new) ≡ free_of (view old)
-        → IsForkingTo new.spaces new.anons p q (entry_at old.tables) (shown new.frames) next first → HasForked old new first p q
-    all_over next first over free t =
-        all_given old new p q t.at first
-        (subst (λ (table : ℕ → ℕ → Pte). IsForking (record { frames = shown new.frames; table = table; spaces = new.spaces; anons = new.anons }) p q t.at first)
+    pub all_over : (d : Device) (next : ℕ) (first : Ledger) → HasLedger d old first → ((o : ℕ) → next ≤ o → entry_at new.tables q o ≡ Empty) → free_of (view new) ≡ free_of (view old)
+        → IsForkingTo d new.lists new.spaces new.anons p q (entry_at old.tables) (shown new.frames) next first → HasForked d old new first p q
+    all_over d next first before over free t =
+        all_given d old new p q t.at first before
+        (subst (λ (table : ℕ → ℕ → Pte). IsForking d (record (parts_of new) { table = table }) p q t.at first)
         (λ i x o. point x o i) t.forking)
         (λ o low. ap (λ t. t p o) tables ∙ forked_parent p q (entry_at old.tables) empty o ∙ ap read_only (none o low)) free
       where

@@ -5,12 +5,13 @@ use Rattle.av_frames.specs.Store.{Shown}
 use Rattle.av_pagetable.specs.declared.pte.Pte.{Pte as Raw}
 use Rattle.av_pagetable.specs.Entries.{with_entry}
 use Rattle.av_plain.specs.Choice.{Chooses}
+use Rattle.av_plain.specs.Device.{Device}
 use Rattle.av_plain.specs.Event.{Forked, after, without_seen}
 use Rattle.av_plain.specs.Fork.{inheritance}
 use Rattle.av_plain.specs.Ledger.{Ledger, names_frame}
 use Rattle.av_plain.specs.Stands.{View, Pte, free_of}
 use Rattle.av_reclaim.specs.declared.mem.Mem.{Mem}
-use Rattle.av_reclaim.specs.Mem.{setting, frame_count, plain, view, HasLedger}
+use Rattle.av_reclaim.specs.Mem.{setting_by, plain, view, HasLedger}
 
 -- what the parent keeps of its entry: no write bit, so that a write asks for a copy
 abbrev pub without_write : Option Pte → Option Pte
@@ -41,7 +42,7 @@ after_fork_entry p q page v = record v {
 }
 
 -- the child has inherited each entry of the parent: nothing is taken, and nothing becomes free
-pub record HasForked (old new : Mem) (l : Ledger) (p q : ℕ) : Type 0 where
-  pub stands : HasLedger new (after l (Forked p q (inheritance l p)))
-  pub free : Chooses (setting (frame_count old)) None l (Forked p q (inheritance l p))
+pub record HasForked (d : Device) (old new : Mem) (l : Ledger) (p q : ℕ) : Type 0 where
+  pub stands : HasLedger d new (after l (Forked p q (inheritance l p)))
+  pub free : Chooses (setting_by d old) None l (Forked p q (inheritance l p))
       (free_of (view old)) (free_of (view new))

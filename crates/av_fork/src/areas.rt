@@ -2,6 +2,7 @@
 
 ghost use Rattle.std.specs.Prelude.{◌≡◌, None, OnOk, is_some, true};
 ghost use Rattle.av_fork.specs.Areas.{HasFork};
+ghost use Rattle.av_plain.specs.Device.{Device};
 ghost use Rattle.av_plain.specs.Transcript.{State};
 ghost use Rattle.av_reclaim.specs.Mem.{IsSteady, Keeps};
 ghost use Rattle.av_spaces.specs.Spaces.{areas_of};
@@ -16,10 +17,10 @@ pub fn fork_areas(mem: &mut Mem, parent: u16, child: u16) -> Result<(), AllocErr
     requires steady { IsSteady mem.old }
     requires lives { is_some (areas_of mem.old.spaces.processes parent) ≡ true }
     requires dead { areas_of mem.old.spaces.processes child ≡ None }
-    ensures forks { (s : State) → Keeps mem.old s →
+    ensures forks { (d : Device) (s : State) → Keeps d mem.old s →
         OnOk result (HasFork mem.old mem.new parent child s) }
-    ensures frames { mem.new.frames ≡ mem.old.frames }
-    ensures tables { mem.new.tables ≡ mem.old.tables }
+    ensures rest { mem.new
+        ≡ record mem.old { spaces = mem.new.spaces; anons = mem.new.anons } }
 {
     mem.spaces.fork(&mut mem.anons, parent, child)
 }

@@ -6,6 +6,7 @@ ghost use Rattle.av_fork.specs.Entries.{after_map_ups, HasForked};
 ghost use Rattle.av_frames.specs.Store.{shown};
 ghost use Rattle.av_pagetable.specs.Entries.{entry_at, has};
 ghost use Rattle.av_pagetable.specs.Table.{group_size};
+ghost use Rattle.av_plain.specs.Device.{Device};
 ghost use Rattle.av_plain.specs.Ledger.{Ledger};
 ghost use Rattle.av_plain.specs.Stands.{free_of};
 ghost use Rattle.av_reclaim.specs.Mem.{view, HasLedger, IsOrderly};
@@ -23,8 +24,8 @@ pub fn fork_entries(mem: &mut Mem, alloc: Global, parent: u16, child: u16) -> Re
     requires few { (f : ℕ) → (view mem.old).maps f ≤ most_processes }
     requires there { has mem.old.tables child ≡ true }
     requires empty { (page : ℕ) → entry_at mem.old.tables child page ≡ Pte.Empty }
-    ensures forks { (l : Ledger) → HasLedger mem.old l →
-        OnOk result (HasForked mem.old mem.new l parent child) }
+    ensures forks { (d : Device) (l : Ledger) → HasLedger d mem.old l →
+        OnOk result (HasForked d mem.old mem.new l parent child) }
     ensures free { free_of (view mem.new) ≡ free_of (view mem.old) }
     ensures rest { KeepsRest mem.old mem.new }
     ensures orderly { OnErr result (IsOrderly mem.new) }

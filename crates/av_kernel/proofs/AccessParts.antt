@@ -3,6 +3,7 @@ use Rattle.std.proofs.Common.{◌≡◌, ℕ, ◌+◌, ◌-◌, ◌*◌, ◌%◌
 use Rattle.std.proofs.lemmas.List.{append-nil, append_assoc}
 use Rattle.av_trace.specs.declared.note.Note.{Note}
 use Rattle.std.specs.List.{range_with_len}
+use Rattle.av_plain.specs.Device.{Device, setting_of}
 use Rattle.av_plain.specs.World.{World, lives, pages}
 use Rattle.av_plain.specs.Ledger.{Ledger, Setting}
 use Rattle.av_plain.specs.Event.{Event, Used, after_all, notes_of, note_events}
@@ -16,14 +17,13 @@ use Rattle.av_plain.proofs.AreasLeft.{rmap_after_all-append}
 use Rattle.av_plain.proofs.Access.{after_all-append, notes_of-append, notes_of-note_events, chooses-append, accesses-append, alike-by-allowed}
 use Rattle.av_reclaim.specs.declared.mem.Mem.{Mem}
 use Rattle.av_fault.specs.declared.fault.Stop.{Stop}
-use Rattle.av_reclaim.specs.Mem.{setting, frame_count}
+use Rattle.av_reclaim.specs.Mem.{setting_by, frame_count}
 use Rattle.av_kernel.specs.Page.{IsPageStep, ShowsPiece, world_after}
 use Rattle.av_kernel.specs.Access.{IsAccess, IsPiece, world_served}
 use Rattle.av_fault.specs.Fault.{stop_of}
 use Rattle.av_kernel.specs.declared.access.Piece.{Piece}
 use Rattle.av_kernel.proofs.AccessPages.{touches, touched-one, touched-more}
 use Rattle.av_kernel.proofs.AccessBytes.{reads-more, stored_twice, allowed-stored, lives-stored}
-
 -- ---- the memories after a part of an access
 
 pub allowed-served : (w : World) (write wants : Bool) (p a : ℕ) (bytes : List ℕ) (page : ℕ) →
@@ -46,9 +46,9 @@ stop_answer-world true p page at ys stop w = refl
 stop_answer-world false p page at ys stop w = refl
 
 -- the process lives on after a part of an access
-pub still_lives : {s : State} {mid : Mem} {write : Bool} {p a k : ℕ} {xs : List ℕ} {before now : List Note} → lives s.world p ≡ true →
-    (h : IsAccess s mid write p a k xs before now None k) → lives h.next.world p ≡ true
-still_lives {s} {mid} {write} {p} {a} {k} {xs} lived h = ap (λ w. lives w p) h.world ∙ lives-served s.world write p a xs lived
+pub still_lives : {d : Device} {s : State} {mid : Mem} {write : Bool} {p a k : ℕ} {xs : List ℕ} {before now : List Note} → lives s.world p ≡ true →
+    (h : IsAccess d s mid write p a k xs before now None k) → lives h.next.world p ≡ true
+still_lives {d} {s} {mid} {write} {p} {a} {k} {xs} lived h = ap (λ w. lives w p) h.world ∙ lives-served s.world write p a xs lived
 
 -- ---- what happens at one page
 
@@ -75,29 +75,29 @@ record Behind (a k page at : ℕ) : Type 0 where
   small : at < 4096
   begins : 1 ≤ k → at ≡ 0
 
-module _ (s : State) (mid new : Mem) (write : Bool) (p a k page at : ℕ) (xs ys : List ℕ) (before now after : List Note)
-    (same : frame_count new ≡ frame_count mid) (behind : Behind a k page at) (h : IsAccess s mid write p a k xs before now None k) where
+module _ {d : Device} (s : State) (mid new : Mem) (write : Bool) (p a k page at : ℕ) (xs ys : List ℕ) (before now after : List Note)
+    (same : frame_count new ≡ frame_count mid) (behind : Behind a k page at) (h : IsAccess d s mid write p a k xs before now None k) where
   notes-both : (end : Option faults.Stop) (added : List Note) → after ≡ now ++ added →
       after ≡ before ++ notes_of (h.events ++ page_events write (p, page) added end)
   notes-both end added is = is ∙ ap (λ ns. ns ++ added) h.notes ∙ append_assoc before (notes_of h.events) added
       ∙ ap (λ ns. before ++ ns) (ap (λ ns. notes_of h.events ++ ns) (sym (notes-happening write (p, page) added end))
       ∙ sym (notes_of-append h.events (page_events write (p, page) added end)))
 
-  accesses-both : (pages : List (Bool × ℕ)) (more : List Event) (end : End) → Accesses (setting (frame_count new)) h.next.world h.next.ledger p pages more end
-      → Accesses (setting (frame_count new)) s.world s.ledger p (pages_of_access write a k ++ pages) (h.events ++ more) end
-  accesses-both pages more end g = accesses-append (setting (frame_count new)) s.world h.next.world s.ledger p (pages_of_access write a k) pages h.events
+  accesses-both : (pages : List (Bool × ℕ)) (more : List Event) (end : End) → Accesses (setting_by d new) h.next.world h.next.ledger p pages more end
+      → Accesses (setting_by d new) s.world s.ledger p (pages_of_access write a k ++ pages) (h.events ++ more) end
+  accesses-both pages more end g = accesses-append (setting_by d new) s.world h.next.world s.ledger p (pages_of_access write a k) pages h.events
       more end
       (alike-by-allowed s.world h.next.world p (λ wants page. allowed-served s.world write wants p a xs page
       ∙ ap (λ w. is_allowed w wants (p, page)) (sym h.world)))
-      (subst (λ n. Accesses (setting n) s.world s.ledger p (pages_of_access write a k) h.events Whole) (sym same)
-      (subst (λ end. Accesses (setting (frame_count mid)) s.world s.ledger p (pages_of_access write a k) h.events end) h.is_end.0 h.accesses))
-      (subst (λ l. Accesses (setting (frame_count new)) h.next.world l p pages more end) h.ledger g)
+      (subst (λ n. Accesses (setting_of n d) s.world s.ledger p (pages_of_access write a k) h.events Whole) (sym same)
+      (subst (λ end. Accesses (setting_by d mid) s.world s.ledger p (pages_of_access write a k) h.events end) h.is_end.0 h.accesses))
+      (subst (λ l. Accesses (setting_by d new) h.next.world l p pages more end) h.ledger g)
 
-  free-both : (more : List Event) (free : Free) → ChoosesAll (setting (frame_count new)) None h.next.ledger more h.next.free free →
-      ChoosesAll (setting (frame_count new)) None s.ledger (h.events ++ more) s.free free
-  free-both more free g = chooses-append (setting (frame_count new)) None s.ledger h.events more s.free h.next.free free
-      (subst (λ n. ChoosesAll (setting n) None s.ledger h.events s.free h.next.free) (sym same) h.free)
-      (subst (λ l. ChoosesAll (setting (frame_count new)) None l more h.next.free free) h.ledger g)
+  free-both : (more : List Event) (free : Free) → ChoosesAll (setting_by d new) None h.next.ledger more h.next.free free →
+      ChoosesAll (setting_by d new) None s.ledger (h.events ++ more) s.free free
+  free-both more free g = chooses-append (setting_by d new) None s.ledger h.events more s.free h.next.free free
+      (subst (λ n. ChoosesAll (setting_of n d) None s.ledger h.events s.free h.next.free) (sym same) h.free)
+      (subst (λ l. ChoosesAll (setting_by d new) None l more h.next.free free) h.ledger g)
 
   ledger-both : (more : List Event) (l : Ledger) → l ≡ after_all h.next.ledger more → l ≡ after_all s.ledger (h.events ++ more)
   ledger-both more l is = is ∙ ap (λ x. after_all x more) h.ledger ∙ sym (after_all-append s.ledger h.events more)
@@ -107,13 +107,13 @@ module _ (s : State) (mid new : Mem) (write : Bool) (p a k page at : ℕ) (xs ys
   rmap-both more r is = is ∙ (λ i. rmap_after_all (h.ledger i) more (h.rmap i)) ∙ sym (rmap_after_all-append s.ledger h.events more (rmap_of s))
 
   -- by m bytes of the page
-  goes_on : (m : ℕ) → at + m ≤ 4096 → 1 ≤ m → (write ≡ true → length xs ≡ k) → IsPageStep h.next new write p page at ys now after None
-      → IsAccess s new write p a (k + m) (xs ++ ys) before after None (k + m)
+  goes_on : (m : ℕ) → at + m ≤ 4096 → 1 ≤ m → (write ≡ true → length xs ≡ k) → IsPageStep d h.next new write p page at ys now after None
+      → IsAccess d s new write p a (k + m) (xs ++ ys) before after None (k + m)
   goes_on m small some long g = record {
     events = h.events ++ page_events write (p, page) g.added None;
     notes = notes-both None g.added g.notes;
     end = Whole;
-    accesses = subst (λ pages. Accesses (setting (frame_count new)) s.world s.ledger p pages (h.events ++ page_events write (p, page) g.added None) Whole)
+    accesses = subst (λ pages. Accesses (setting_by d new) s.world s.ledger p pages (h.events ++ page_events write (p, page) g.added None) Whole)
         (sym (touched-one write a k m page at behind.is small some behind.begins))
         (accesses-both ((write, page) ∷ []) _ Whole (one_served _ h.next.world h.next.ledger write p page g.added g.touches));
     is_end = (refl, refl);
@@ -127,13 +127,13 @@ module _ (s : State) (mid new : Mem) (write : Bool) (p a k page at : ℕ) (xs ys
   }
 
   -- or stops there
-  stops : (n : ℕ) (stop : Stop) → k < n → IsPageStep h.next new write p page at ys now after (Some stop)
-      → IsAccess s new write p a n xs before after (Some stop) k
+  stops : (n : ℕ) (stop : Stop) → k < n → IsPageStep d h.next new write p page at ys now after (Some stop)
+      → IsAccess d s new write p a n xs before after (Some stop) k
   stops n stop less g = record {
     events = h.events ++ page_events write (p, page) g.added (Some (stop_of stop));
     notes = notes-both (Some (stop_of stop)) g.added g.notes;
     end = Stopped page (stop_of stop);
-    accesses = subst (λ pages. Accesses (setting (frame_count new)) s.world s.ledger p pages
+    accesses = subst (λ pages. Accesses (setting_by d new) s.world s.ledger p pages
         (h.events ++ page_events write (p, page) g.added (Some (stop_of stop)))
         (Stopped page (stop_of stop))) (sym (touched-more write a k n page at behind.is behind.small less behind.begins))
         (accesses-both ((write, page) ∷ map (λ page. (write, page)) (range_with_len (page + 1) (touches a n - (touches a k + 1)))) _ _
@@ -178,24 +178,24 @@ none_left None h = refl
 none_left (Some stop) h = absurd (h stop refl)
 
 -- a page's step is taken from where the access stands
-module _ (s : State) (mid new : Mem) (write : Bool) (p a n k : ℕ) (piece : Piece) (xs ys : List ℕ) (before now after : List Note) (end : Option Stop)
+module _ {d : Device} (s : State) (mid new : Mem) (write : Bool) (p a n k : ℕ) (piece : Piece) (xs ys : List ℕ) (before now after : List Note) (end : Option Stop)
     (same : frame_count new ≡ frame_count mid) (is : IsPiece a n k piece) (less : k < n) (begins : 1 ≤ k → k < n → (a + k) % 4096 ≡ 0)
-    (h : IsAccess s mid write p a k xs before now None k) where
+    (h : IsAccess d s mid write p a k xs before now None k) where
   behind : Behind a k piece.page piece.at
   behind = behind-piece a n k piece is less begins
 
-  pub piece-served : IsPageStep h.next new write p piece.page piece.at ys now after end → ((stop : Stop) → end ≡ Some stop → ⊥) →
+  pub piece-served : IsPageStep d h.next new write p piece.page piece.at ys now after end → ((stop : Stop) → end ≡ Some stop → ⊥) →
       (write ≡ true → length xs ≡ k) → (zs : List ℕ) → xs ++ ys ≡ zs
-      → IsAccess s new write p a (k + piece.len) zs before after None (k + piece.len)
-  piece-served g none long zs whole = subst (λ zs. IsAccess s new write p a (k + piece.len) zs before after None (k + piece.len)) whole
+      → IsAccess d s new write p a (k + piece.len) zs before after None (k + piece.len)
+  piece-served g none long zs whole = subst (λ zs. IsAccess d s new write p a (k + piece.len) zs before after None (k + piece.len)) whole
       (goes_on s mid new write p a k piece.page piece.at xs ys before now after same behind h piece.len (piece-in_page a n k piece is)
       (piece-some a n k piece is less) long
-      (subst (λ end. IsPageStep h.next new write p piece.page piece.at ys now after end) (none_left end none) g))
+      (subst (λ end. IsPageStep d h.next new write p piece.page piece.at ys now after end) (none_left end none) g))
 
-  pub piece-stopped : IsPageStep h.next new write p piece.page piece.at ys now after end → (stop : Stop) → end ≡ Some stop →
-      IsAccess s new write p a n xs before after (Some stop) k
+  pub piece-stopped : IsPageStep d h.next new write p piece.page piece.at ys now after end → (stop : Stop) → end ≡ Some stop →
+      IsAccess d s new write p a n xs before after (Some stop) k
   piece-stopped g stop some = stops s mid new write p a k piece.page piece.at xs ys before now after same behind h n stop less
-      (subst (λ end. IsPageStep h.next new write p piece.page piece.at ys now after end) some g)
+      (subst (λ end. IsPageStep d h.next new write p piece.page piece.at ys now after end) some g)
 
 -- the piece that was served is shown too
 pub piece-shown : (w w' : World) (p a n k : ℕ) (piece : Piece) (shown now : List ℕ) (end : Option Stop) → w' ≡ w → IsPiece a n k piece →

@@ -9,9 +9,10 @@ use Rattle.av_trace.specs.declared.reply.Errno.TheVariants.{Esrch}
 use Rattle.av_trace.specs.declared.reply.Answer.{Answer}
 use Rattle.av_trace.specs.declared.reply.Answer.TheVariants as answers
 use Rattle.av_trace.specs.declared.command.Command.TheVariants.{Read, Write}
+use Rattle.av_plain.specs.Device.{Device, setting_of}
 use Rattle.av_plain.specs.Fork.{IsRmapNext}
 use Rattle.av_plain.specs.World.{World, lives, pages}
-use Rattle.av_plain.specs.Access.{Accesses, Whole, Stopped, pages_of_access, bytes_before, stop_answer, Reads, after_write}
+use Rattle.av_plain.specs.Access.{Accesses, End, Whole, Stopped, pages_of_access, bytes_before, stop_answer, Reads, after_write}
 use Rattle.av_plain.specs.Step.{next}
 use Rattle.av_plain.specs.Choice.{ChoosesAll}
 use Rattle.av_plain.specs.Transcript.{State, rmap_of}
@@ -22,14 +23,18 @@ use Rattle.av_fault.specs.declared.fault.Stop.TheVariants.{Segv, Oom}
 use Rattle.av_vma.specs.Pages.{Lengths}
 use Rattle.av_plain.specs.Areas.{Areas, Rmap, chain_length, next_areas, rmap_after_all}
 use Rattle.av_trace.specs.declared.command.Command.{Command}
-use Rattle.av_reclaim.specs.Mem.{Keeps, setting, frame_count}
+use Rattle.av_reclaim.specs.Mem.{Keeps, setting_by, frame_count}
 use Rattle.av_fault.specs.Fault.{stop_of}
 use Rattle.av_plain.proofs.Transcript.{is_fork, next-plain}
 use Rattle.av_kernel.specs.Step.{MemSteps}
 use Rattle.av_kernel.specs.Access.{IsAccess, answer_at, answer_of}
 use Rattle.av_kernel.proofs.StepLaws.{left_alone}
-
+use Rattle.av_kernel.proofs.Loads.{accesses-load_nothing, world_as}
+use Rattle.av_plain.specs.Load.{with_loads}
+use Rattle.av_plain.proofs.Load.{loads_nothing, without-loads}
+use Rattle.std.specs.List.{list_all}
 -- the process lives, so that the command is not refused
+
 not_refused : (lived : Bool) (Follow : Type 0) (Refuse : Errno → Type 0) → lived ≡ true → Follow →
     MatchOption (cond (not lived) (Some Esrch) None) Follow Refuse
 not_refused true Follow Refuse is h = h
@@ -49,13 +54,13 @@ world-stopped : (w : World) (p a k : ℕ) (bytes : List ℕ) (stop : Stop) → a
 world-stopped w p a k bytes Segv = refl
 world-stopped w p a k bytes (Oom out) = refl
 
-module _ (s : State) (old new : Mem) (p a : ℕ) (before notes : List Note) (rows : List Row) (k : ℕ) (fresh : before ≡ []) (none : rows ≡ [])
-    (same : frame_count new ≡ frame_count old) (lived : lives s.world p ≡ true) (keeps : Keeps old s) where
+module _ {d : Device} (s : State) (old new : Mem) (p a : ℕ) (before notes : List Note) (rows : List Row) (k : ℕ) (fresh : before ≡ []) (none : rows ≡ [])
+    (same : frame_count new ≡ frame_count old) (lived : lives s.world p ≡ true) (keeps : Keeps d old s) where
   -- areas and anon_vmas are those that its events prepared
   rmap_still : (command : Command) (answer : Answer) → is_fork command ≡ false →
       ((long : Lengths) (on : Areas) → next_areas long on s.world command answer ≡ on) → (now : State) (events : List Event) →
       rmap_of now ≡ rmap_after_all s.ledger events (rmap_of s)
-      → Keeps new now → IsRmapNext (rmap_after_all s.ledger events (rmap_of s)) s.world command answer (rmap_of now)
+      → Keeps d new now → IsRmapNext (rmap_after_all s.ledger events (rmap_of s)) s.world command answer (rmap_of now)
   rmap_still command answer plain stay now events is kept = subst (λ (r : Rmap). IsRmapNext r s.world command answer (rmap_of now)) is
       (next-plain (rmap_of now) s.world command answer (rmap_of now) plain (record {
         areas = sym (stay (chain_length now.anons) now.areas);
@@ -67,9 +72,19 @@ module _ (s : State) (old new : Mem) (p a : ℕ) (before notes : List Note) (row
   alone : (events : List Event) → notes ≡ before ++ notes_of events → notes ≡ notes_of events
   alone events is = is ∙ ap (λ ns. ns ++ notes_of events) fresh
 
-  read-done : (n : ℕ) (shown : List ℕ) (answer : Answer) → IsAccess s new false p a n [] before notes None k → Reads (pages s.world p) a k shown →
+  -- no event of it is a load
+  silent : (ps : List (Bool × ℕ)) (events : List Event) (end : End) → Accesses (setting_by d new) s.world s.ledger p ps events end →
+      list_all loads_nothing events ≡ true
+  silent ps events end h = accesses-load_nothing (setting_by d old) s.world s.ledger p (sym keeps.stands.parts.ledger.swap.on) keeps.stands.sound ps events end
+      (subst (λ m. Accesses (setting_of m d) s.world s.ledger p ps events end) same h)
+
+  reads_still : (n : ℕ) (shown : List ℕ) (events : List Event) → list_all loads_nothing events ≡ true → Reads (pages s.world p) a n shown →
+      Reads (pages (with_loads (setting_by d old) s.world s.ledger events) p) a n shown
+  reads_still n shown events loads = subst (λ w. Reads (pages w p) a n shown) (sym (without-loads (setting_by d old) s.world s.ledger events loads))
+
+  read-done : (n : ℕ) (shown : List ℕ) (answer : Answer) → IsAccess d s new false p a n [] before notes None k → Reads (pages s.world p) a k shown →
       answer ≡ answers.Data shown
-      → MemSteps old new s (Read p a n) (record { answer = answer; notes = notes; rows = rows })
+      → MemSteps d old new s (Read p a n) (record { answer = answer; notes = notes; rows = rows })
   read-done n shown answer h reads is = record {
     next = h.next;
     step = record {
@@ -78,26 +93,26 @@ module _ (s : State) (old new : Mem) (p a : ℕ) (before notes : List Note) (row
         answer = not_refused (lives s.world p) _ _ lived (
           Whole,
           shown,
-          subst (λ end. Accesses (setting (frame_count old)) s.world s.ledger p (pages_of_access false a n) h.events end) h.is_end.0
-              (subst (λ m. Accesses (setting m) s.world s.ledger p (pages_of_access false a n) h.events h.end) same h.accesses),
-          subst (λ k. Reads (pages s.world p) a k shown) h.is_end.1 reads,
+          subst (λ end. Accesses (setting_by d old) s.world s.ledger p (pages_of_access false a n) h.events end) h.is_end.0
+              (subst (λ m. Accesses (setting_of m d) s.world s.ledger p (pages_of_access false a n) h.events h.end) same h.accesses),
+          reads_still n shown h.events (silent _ h.events h.end h.accesses) (subst (λ k. Reads (pages s.world p) a k shown) h.is_end.1 reads),
           is,
           none,
         );
         notes = alone h.events h.notes;
       };
-      world = h.world;
+      world = h.world ∙ world_as (setting_by d old) s.world s.ledger h.events (Read p a n) answer (silent _ h.events h.end h.accesses);
       ledger = h.ledger;
-      free = subst (λ m. ChoosesAll (setting m) None s.ledger h.events s.free h.next.free) same h.free;
+      free = subst (λ m. ChoosesAll (setting_of m d) None s.ledger h.events s.free h.next.free) same h.free;
       rmap = rmap_still (Read p a n) answer refl (λ long on. refl) h.next h.events h.rmap h.keeps;
       shows = tt;
     };
     keeps = h.keeps;
   }
 
-  read-stopped : (n : ℕ) (shown : List ℕ) (answer : Answer) (stop : Stop) → IsAccess s new false p a n [] before notes (Some stop) k →
+  read-stopped : (n : ℕ) (shown : List ℕ) (answer : Answer) (stop : Stop) → IsAccess d s new false p a n [] before notes (Some stop) k →
       Reads (pages s.world p) a k shown → answer ≡ answer_of stop k shown
-      → MemSteps old new s (Read p a n) (record { answer = answer; notes = notes; rows = rows })
+      → MemSteps d old new s (Read p a n) (record { answer = answer; notes = notes; rows = rows })
   read-stopped n shown answer stop h reads is = record {
     next = h.next;
     step = record {
@@ -106,25 +121,26 @@ module _ (s : State) (old new : Mem) (p a : ℕ) (before notes : List Note) (row
         answer = not_refused (lives s.world p) _ _ lived (
           Stopped h.is_end.0 (stop_of stop),
           shown,
-          subst (λ end. Accesses (setting (frame_count old)) s.world s.ledger p (pages_of_access false a n) h.events end) h.is_end.1
-              (subst (λ m. Accesses (setting m) s.world s.ledger p (pages_of_access false a n) h.events h.end) same h.accesses),
-          subst (λ k. Reads (pages s.world p) a k shown) h.is_end.2 reads,
+          subst (λ end. Accesses (setting_by d old) s.world s.ledger p (pages_of_access false a n) h.events end) h.is_end.1
+              (subst (λ m. Accesses (setting_of m d) s.world s.ledger p (pages_of_access false a n) h.events h.end) same h.accesses),
+          reads_still (bytes_before a h.is_end.0) shown h.events (silent _ h.events h.end h.accesses)
+              (subst (λ k. Reads (pages s.world p) a k shown) h.is_end.2 reads),
           is ∙ answers-stopped a k h.is_end.0 stop shown h.is_end.2,
           none,
         );
         notes = alone h.events h.notes;
       };
-      world = h.world;
+      world = h.world ∙ world_as (setting_by d old) s.world s.ledger h.events (Read p a n) answer (silent _ h.events h.end h.accesses);
       ledger = h.ledger;
-      free = subst (λ m. ChoosesAll (setting m) None s.ledger h.events s.free h.next.free) same h.free;
+      free = subst (λ m. ChoosesAll (setting_of m d) None s.ledger h.events s.free h.next.free) same h.free;
       rmap = rmap_still (Read p a n) answer refl (λ long on. refl) h.next h.events h.rmap h.keeps;
       shows = tt;
     };
     keeps = h.keeps;
   }
 
-  write-done : (bytes : List ℕ) (answer : Answer) → IsAccess s new true p a (length bytes) (take k bytes) before notes None k → answer ≡ answers.Done
-      → MemSteps old new s (Write p a bytes) (record { answer = answer; notes = notes; rows = rows })
+  write-done : (bytes : List ℕ) (answer : Answer) → IsAccess d s new true p a (length bytes) (take k bytes) before notes None k → answer ≡ answers.Done
+      → MemSteps d old new s (Write p a bytes) (record { answer = answer; notes = notes; rows = rows })
   write-done bytes answer h is = record {
     next = h.next;
     step = record {
@@ -132,25 +148,26 @@ module _ (s : State) (old new : Mem) (p a : ℕ) (before notes : List Note) (row
       legal = record {
         answer = not_refused (lives s.world p) _ _ lived (
           Whole,
-          subst (λ end. Accesses (setting (frame_count old)) s.world s.ledger p (pages_of_access true a (length bytes)) h.events end) h.is_end.0
-              (subst (λ m. Accesses (setting m) s.world s.ledger p (pages_of_access true a (length bytes)) h.events h.end) same h.accesses),
+          subst (λ end. Accesses (setting_by d old) s.world s.ledger p (pages_of_access true a (length bytes)) h.events end) h.is_end.0
+              (subst (λ m. Accesses (setting_of m d) s.world s.ledger p (pages_of_access true a (length bytes)) h.events h.end) same h.accesses),
           is,
           none,
         );
         notes = alone h.events h.notes;
       };
-      world = h.world ∙ ap (after_write s.world p a) (ap (λ k. take k bytes) h.is_end.1 ∙ take-length bytes) ∙ ap (next s.world (Write p a bytes)) (sym is);
+      world = h.world ∙ ap (after_write s.world p a) (ap (λ k. take k bytes) h.is_end.1 ∙ take-length bytes) ∙ ap (next s.world (Write p a bytes)) (sym is)
+          ∙ world_as (setting_by d old) s.world s.ledger h.events (Write p a bytes) answer (silent _ h.events h.end h.accesses);
       ledger = h.ledger;
-      free = subst (λ m. ChoosesAll (setting m) None s.ledger h.events s.free h.next.free) same h.free;
+      free = subst (λ m. ChoosesAll (setting_of m d) None s.ledger h.events s.free h.next.free) same h.free;
       rmap = rmap_still (Write p a bytes) answer refl (λ long on. refl) h.next h.events h.rmap h.keeps;
       shows = tt;
     };
     keeps = h.keeps;
   }
 
-  write-stopped : (bytes : List ℕ) (answer : Answer) (stop : Stop) → IsAccess s new true p a (length bytes) (take k bytes) before notes (Some stop) k →
+  write-stopped : (bytes : List ℕ) (answer : Answer) (stop : Stop) → IsAccess d s new true p a (length bytes) (take k bytes) before notes (Some stop) k →
       answer ≡ answer_of stop k []
-      → MemSteps old new s (Write p a bytes) (record { answer = answer; notes = notes; rows = rows })
+      → MemSteps d old new s (Write p a bytes) (record { answer = answer; notes = notes; rows = rows })
   write-stopped bytes answer stop h is = record {
     next = h.next;
     step = record {
@@ -158,16 +175,17 @@ module _ (s : State) (old new : Mem) (p a : ℕ) (before notes : List Note) (row
       legal = record {
         answer = not_refused (lives s.world p) _ _ lived (
           Stopped h.is_end.0 (stop_of stop),
-          subst (λ end. Accesses (setting (frame_count old)) s.world s.ledger p (pages_of_access true a (length bytes)) h.events end) h.is_end.1
-              (subst (λ m. Accesses (setting m) s.world s.ledger p (pages_of_access true a (length bytes)) h.events h.end) same h.accesses),
+          subst (λ end. Accesses (setting_by d old) s.world s.ledger p (pages_of_access true a (length bytes)) h.events end) h.is_end.1
+              (subst (λ m. Accesses (setting_of m d) s.world s.ledger p (pages_of_access true a (length bytes)) h.events h.end) same h.accesses),
           is ∙ answers-stopped a k h.is_end.0 stop [] h.is_end.2,
           none,
         );
         notes = alone h.events h.notes;
       };
-      world = h.world ∙ world-stopped s.world p a k bytes stop ∙ ap (next s.world (Write p a bytes)) (sym is);
+      world = h.world ∙ world-stopped s.world p a k bytes stop ∙ ap (next s.world (Write p a bytes)) (sym is)
+          ∙ world_as (setting_by d old) s.world s.ledger h.events (Write p a bytes) answer (silent _ h.events h.end h.accesses);
       ledger = h.ledger;
-      free = subst (λ m. ChoosesAll (setting m) None s.ledger h.events s.free h.next.free) same h.free;
+      free = subst (λ m. ChoosesAll (setting_of m d) None s.ledger h.events s.free h.next.free) same h.free;
       rmap = rmap_still (Write p a bytes) answer refl (λ long on. refl) h.next h.events h.rmap h.keeps;
       shows = tt;
     };
@@ -176,14 +194,14 @@ module _ (s : State) (old new : Mem) (p a : ℕ) (before notes : List Note) (row
 
   -- ---- by how it ended
 
-  pub read-ended : (n : ℕ) (shown : List ℕ) (answer : Answer) (stop : Option Stop) → IsAccess s new false p a n [] before notes stop k →
+  pub read-ended : (n : ℕ) (shown : List ℕ) (answer : Answer) (stop : Option Stop) → IsAccess d s new false p a n [] before notes stop k →
       Reads (pages s.world p) a k shown → answer ≡ answer_at stop (answers.Data shown) k shown
-      → MemSteps old new s (Read p a n) (record { answer = answer; notes = notes; rows = rows })
+      → MemSteps d old new s (Read p a n) (record { answer = answer; notes = notes; rows = rows })
   read-ended n shown answer None h reads is = read-done n shown answer h reads is
   read-ended n shown answer (Some stop) h reads is = read-stopped n shown answer stop h reads is
 
-  pub write-ended : (bytes : List ℕ) (answer : Answer) (stop : Option Stop) → IsAccess s new true p a (length bytes) (take k bytes) before notes stop k →
+  pub write-ended : (bytes : List ℕ) (answer : Answer) (stop : Option Stop) → IsAccess d s new true p a (length bytes) (take k bytes) before notes stop k →
       answer ≡ answer_at stop answers.Done k []
-      → MemSteps old new s (Write p a bytes) (record { answer = answer; notes = notes; rows = rows })
+      → MemSteps d old new s (Write p a bytes) (record { answer = answer; notes = notes; rows = rows })
   write-ended bytes answer None h is = write-done bytes answer h is
   write-ended bytes answer (Some stop) h is = write-stopped bytes answer stop h is

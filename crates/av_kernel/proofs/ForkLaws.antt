@@ -12,6 +12,7 @@ use Rattle.av_trace.specs.declared.reply.Answer.TheVariants.{Done}
 use Rattle.av_trace.specs.Reply.{answer_only}
 use Rattle.av_vma.specs.declared.area.Area.{Area}
 use Rattle.av_pagetable.specs.Entries.{ProcessTables, entry_at, has}
+use Rattle.av_plain.specs.Device.{Device}
 use Rattle.av_plain.specs.World.{Page, lives, pages, set_process}
 use Rattle.av_plain.specs.Ledger.{Entry, InFrame, InSlot, Ledger, Zero, entry}
 use Rattle.av_plain.specs.Event.{Forked, without_seen}
@@ -20,7 +21,6 @@ use Rattle.av_plain.specs.Refusal.{tests, refusal, Refuses}
 use Rattle.av_plain.specs.Step.{Follows}
 use Rattle.av_plain.specs.Choice.{Chooses}
 use Rattle.av_plain.specs.Covered.{IsRmapSound}
-use Rattle.av_plain.specs.Device.{no_device}
 use Rattle.av_plain.specs.Stands.{View, AnonsStand, AreasStand, HomesAre, IsKept, free_of}
 use Rattle.av_plain.specs.Transcript.{State, IsStep, rmap_of}
 use Rattle.av_plain.proofs.Covered.Fork.{sound-forked}
@@ -30,7 +30,7 @@ use Rattle.av_plain.proofs.Sound.{no_entries}
 use Rattle.av_plain.proofs.Sound.Means.{says}
 use Rattle.av_plain.proofs.World.{pages-set, lives-set, length-set_new}
 use Rattle.av_reclaim.specs.declared.mem.Mem.{Mem}
-use Rattle.av_reclaim.specs.Mem.{setting, view, frame_count, HasLedger, HasTables, Keeps}
+use Rattle.av_reclaim.specs.Mem.{setting_by, view, HasLedger, HasTables, Keeps}
 use Rattle.av_reclaim.specs.Zap.{KeepsRest}
 use Rattle.av_reclaim.proofs.MemLaws.{alive_is, lives_is, all_apart, no_cache, prot_on, prots_are}
 use Rattle.av_anon.specs.declared.anons.Anons.{Anons as AnonSet}
@@ -41,30 +41,30 @@ use Rattle.av_kernel.specs.Process.{new_tests}
 use Rattle.av_kernel.specs.Step.{MemSteps}
 use Rattle.av_kernel.proofs.StepLaws.{is_number, kept-on, moved_on, stays_orderly, stepped}
 use Rattle.av_kernel.proofs.ProcessLaws.{absent, at_number, new_is, new_refusal}
-
+use Rattle.av_kernel.proofs.Loads.{world_as}
 -- ---- refusals
-
 -- where the parent lives, it is refused as its child
-pub fork_is : (k : Mem) (s : State) (p q : ℕ) → Keeps k s → is_some (areas_of k.spaces.processes p) ≡ true
-    → refusal (tests (setting (frame_count k)) s.world s.ledger (Fork p q)) ≡ refusal (new_tests k.spaces.processes q)
-fork_is k s p q keeps alive = ap (λ b. cond (not b) (Some Esrch) (new_refusal s.world q)) (sym (lives_is k s keeps p) ∙ alive) ∙ new_is k s q keeps
+
+pub fork_is : {d : Device} (k : Mem) (s : State) (p q : ℕ) → Keeps d k s → is_some (areas_of k.spaces.processes p) ≡ true
+    → refusal (tests (setting_by d k) s.world s.ledger (Fork p q)) ≡ refusal (new_tests k.spaces.processes q)
+fork_is {d} k s p q keeps alive = ap (λ b. cond (not b) (Some Esrch) (new_refusal s.world q)) (sym (lives_is d k s keeps p) ∙ alive) ∙ new_is k s q keeps
 
 -- ---- entries
 
 -- no more of them name a frame than processes may live: of each process one does at most
-pub entries_few : (k : Mem) (s : State) → Keeps k s → (f : ℕ) → (view k).maps f ≤ most_processes
-entries_few k s keeps f =
+pub entries_few : {d : Device} (k : Mem) (s : State) → Keeps d k s → (f : ℕ) → (view k).maps f ≤ most_processes
+entries_few {d} k s keeps f =
     let same = keeps.stands.parts.ledger.frames.maps f in
-    let named = (says (setting (frame_count k)) s.world s.ledger keeps.stands.sound).mapped_few f in
+    let named = (says (setting_by d k) s.world s.ledger keeps.stands.sound).mapped_few f in
     let few = keeps.stands.sound.world.few in
     omega (arith, same, named, few)
 
 -- the parts stand for the ledger still, once the areas went over and the child has a table
-pub still_orderly : (old gone : Mem) (tables : ProcessTables) (l : Ledger) → gone.frames ≡ old.frames → gone.tables ≡ old.tables →
-    entry_at tables ≡ entry_at gone.tables → HasLedger old l → HasLedger (record gone { tables = tables }) l
-still_orderly old gone tables l frames same entries h =
-    subst (λ f. HasLedger (record { frames = f; tables = tables; spaces = gone.spaces; anons = gone.anons }) l) (sym frames)
-    (stays_orderly old tables gone.spaces gone.anons l (entries ∙ ap (λ t. entry_at t) same) h)
+pub still_orderly : (d : Device) (old gone : Mem) (tables : ProcessTables) (l : Ledger) → gone ≡ record old { spaces = gone.spaces; anons = gone.anons } →
+    entry_at tables ≡ entry_at gone.tables → HasLedger d old l → HasLedger d (record gone { tables = tables }) l
+still_orderly d old gone tables l rest entries h =
+    subst (λ (k : Mem). HasLedger d (record k { tables = tables }) l) (sym rest)
+    (stays_orderly d old tables gone.spaces gone.anons l (entries ∙ ap (λ (k : Mem). entry_at k.tables) rest) h)
 
 -- the child has a table
 pub has_table : (k : Mem) (tables : ProcessTables) (q : ℕ) → has tables ≡ with_at q true (has k.tables) → has tables q ≡ true
@@ -74,20 +74,20 @@ has_table k tables q processes = ap (λ (h : ℕ → Bool). h q) processes ∙ a
     itself n = grind (arith, nat_tests)
 
 -- a page keeps its bytes by an entry that was not seen
-kept-unseen : (v : View) (l : Ledger) (e : Option Entry) (page : Option Page) → IsKept v no_device l e page →
-    IsKept v no_device l (option_or (option_map without_seen e) None) page
-kept-unseen v l None page h = h
-kept-unseen v l (Some Zero) page h = h
-kept-unseen v l (Some (InFrame f seen)) page h = h
-kept-unseen v l (Some (InSlot s)) page h = h
+kept-unseen : (d : Device) (v : View) (l : Ledger) (e : Option Entry) (page : Option Page) → IsKept v d l e page →
+    IsKept v d l (option_or (option_map without_seen e) None) page
+kept-unseen d v l None page h = h
+kept-unseen d v l (Some Zero) page h = h
+kept-unseen d v l (Some (InFrame f seen)) page h = h
+kept-unseen d v l (Some (InSlot s)) page h = h
 
 -- ---- the whole
 
 -- the areas went over, and then the entries, into an empty table
-module _ (old mid : Mem) (tables : ProcessTables) (spaces : AllSpaces) (anons : AnonSet) (s : State) (p q : ℕ) (keeps : Keeps old s)
+module _ {d : Device} (old mid : Mem) (tables : ProcessTables) (spaces : AllSpaces) (anons : AnonSet) (s : State) (p q : ℕ) (keeps : Keeps d old s)
     (alive : is_some (areas_of old.spaces.processes p) ≡ true) (may : refusal (new_tests old.spaces.processes q) ≡ None)
     (shown : HasFork old (moved_on old old.tables spaces anons) p q s)
-    (processes : has tables ≡ with_at q true (has old.tables)) (given : HasForked (moved_on old tables spaces anons) mid s.ledger p q)
+    (processes : has tables ≡ with_at q true (has old.tables)) (given : HasForked d (moved_on old tables spaces anons) mid s.ledger p q)
     (rest : KeepsRest (moved_on old tables spaces anons) mid) where
   abbrev new : Mem
   new = moved_on mid mid.tables spaces anons
@@ -96,10 +96,10 @@ module _ (old mid : Mem) (tables : ProcessTables) (spaces : AllSpaces) (anons : 
   l = child_ledger p q s.ledger
 
   parent_lives : lives s.world p ≡ true
-  parent_lives = sym (lives_is old s keeps p) ∙ alive
+  parent_lives = sym (lives_is d old s keeps p) ∙ alive
 
   child_dead : lives s.world q ≡ false
-  child_dead = sym (lives_is old s keeps q) ∙ ap is_some (absent old.spaces.processes q may)
+  child_dead = sym (lives_is d old s keeps q) ∙ ap is_some (absent old.spaces.processes q may)
 
   apart : (p == q) ≡ false
   apart = by (p == q) refl
@@ -124,24 +124,24 @@ module _ (old mid : Mem) (tables : ProcessTables) (spaces : AllSpaces) (anons : 
     homes = shown.next.homes;
   }
 
-  allowed : refusal (tests (setting (frame_count old)) s.world s.ledger (Fork p q)) ≡ None
+  allowed : refusal (tests (setting_by d old) s.world s.ledger (Fork p q)) ≡ None
   allowed = fork_is old s p q keeps alive ∙ may
 
-  fork-step : IsStep (setting (frame_count old)) s (Fork p q) (answer_only Done) next
+  fork-step : IsStep (setting_by d old) s (Fork p q) (answer_only Done) next
   fork-step =
       let events = Forked p q (inheritance s.ledger p) ∷ [] in
       record {
         events = events;
         legal = record {
-          answer = subst (λ o. MatchOption o (Follows (setting (frame_count old)) s.world s.ledger (Fork p q) events Done []) (λ e. Refuses e events Done []))
+          answer = subst (λ o. MatchOption o (Follows (setting_by d old) s.world s.ledger (Fork p q) events Done []) (λ e. Refuses e events Done []))
               (sym allowed) (refl, refl, refl);
           notes = refl;
         };
-        world = refl;
+        world = world_as (setting_by d old) s.world s.ledger events (Fork p q) Done refl;
         ledger = refl;
         free = (
           free_of (view mid),
-          subst (λ free. Chooses (setting (frame_count old)) None s.ledger (Forked p q (inheritance s.ledger p)) free (free_of (view mid)))
+          subst (λ free. Chooses (setting_by d old) None s.ledger (Forked p q (inheritance s.ledger p)) free (free_of (view mid)))
               keeps.stands.free given.free,
           refl,
         );
@@ -194,21 +194,21 @@ module _ (old mid : Mem) (tables : ProcessTables) (spaces : AllSpaces) (anons : 
       by false = keeps.tables k ∙ alive_is old.spaces.processes k
 
   -- each page keeps its bytes, and the child's by the entry that went over
-  kept_now : (k page : ℕ) → IsKept (view new) no_device l (entry l (k, page)) (pages next.world k page)
+  kept_now : (k page : ℕ) → IsKept (view new) d l (entry l (k, page)) (pages next.world k page)
   kept_now k page =
-      kept-on (view old) (view new) s.ledger l (entry l (k, page)) (pages next.world k page) rest.bytes (no_cache s.ledger keeps.stands.parts.ledger.swap.finds)
+      kept-on d (view old) (view new) s.ledger l (entry l (k, page)) (pages next.world k page) rest.bytes (no_cache s.ledger keeps.stands.parts.ledger.swap.finds)
       (no_cache l given.stands.parts.swap.finds)
-      (subst (IsKept (view old) no_device s.ledger (entry l (k, page))) (sym (page_now k page))
-      (subst (λ e. IsKept (view old) no_device s.ledger e (cond (k == q) (pages s.world p page) (pages s.world k page)))
+      (subst (IsKept (view old) d s.ledger (entry l (k, page))) (sym (page_now k page))
+      (subst (λ e. IsKept (view old) d s.ledger e (cond (k == q) (pages s.world p page) (pages s.world k page)))
       (sym (entry-forked p q s.ledger (k, page) keeps.stands.sound.ledger.in_order)) (by (k == q) refl)))
     where
       by : (b : Bool) → (k == q) ≡ b
-          → IsKept (view old) no_device s.ledger (option_or (cond b (option_map without_seen (entry s.ledger (p, page))) None) (entry s.ledger (k, page)))
+          → IsKept (view old) d s.ledger (option_or (cond b (option_map without_seen (entry s.ledger (p, page))) None) (entry s.ledger (k, page)))
           (cond b (pages s.world p page) (pages s.world k page))
       by true same =
-          subst (λ e. IsKept (view old) no_device s.ledger (option_or (option_map without_seen (entry s.ledger (p, page))) e) (pages s.world p page))
+          subst (λ e. IsKept (view old) d s.ledger (option_or (option_map without_seen (entry s.ledger (p, page))) e) (pages s.world p page))
           (sym (ap (λ n. entry s.ledger (n, page)) (is_number k q same) ∙ no_entry page))
-          (kept-unseen (view old) s.ledger (entry s.ledger (p, page)) (pages s.world p page) (keeps.stands.parts.bytes.kept p page))
+          (kept-unseen d (view old) s.ledger (entry s.ledger (p, page)) (pages s.world p page) (keeps.stands.parts.bytes.kept p page))
       by false other = keeps.stands.parts.bytes.kept k page
 
   homes_now : HomesAre (view new) shown.next.homes
@@ -220,23 +220,23 @@ module _ (old mid : Mem) (tables : ProcessTables) (spaces : AllSpaces) (anons : 
   anons_now : AnonsStand (view new) shown.next.areas shown.next.anons
   anons_now = record { next = shown.anons.next; kin = shown.anons.kin; chains = shown.anons.chains }
 
-  steps : MemSteps old new s (Fork p q) (answer_only Done)
-  steps = stepped old new s next (Fork p q) (answer_only Done) keeps fork-step rest.count (stays_orderly mid mid.tables spaces anons l refl given.stands) refl
+  steps : MemSteps d old new s (Fork p q) (answer_only Done)
+  steps = stepped old new s next (Fork p q) (answer_only Done) keeps fork-step rest.count (stays_orderly d mid mid.tables spaces anons l refl given.stands) refl
       shown.areas anons_now homes_now reach_now shown.fit areas_now tables_now kept_now
 
-  forks : MemSteps old mid s (Fork p q) (answer_only Done)
-  forks = subst (λ k. MemSteps old k s (Fork p q) (answer_only Done))
-      (λ i. record { frames = mid.frames; tables = mid.tables; spaces = (sym rest.spaces) i; anons = (sym rest.anons) i }) steps
+  forks : MemSteps d old mid s (Fork p q) (answer_only Done)
+  forks = subst (λ k. MemSteps d old k s (Fork p q) (answer_only Done))
+      (λ i. record mid { spaces = (sym rest.spaces) i; anons = (sym rest.anons) i }) steps
 
 -- neither frames nor entries changed as the areas went over
-pub fork-steps : (old gone mid : Mem) (tables : ProcessTables) (s : State) (p q : ℕ) (keeps : Keeps old s) → is_some (areas_of old.spaces.processes p) ≡ true →
-    refusal (new_tests old.spaces.processes q) ≡ None
-    → gone.frames ≡ old.frames → gone.tables ≡ old.tables → HasFork old gone p q s → has tables ≡ with_at q true (has gone.tables)
-    → HasForked (record gone { tables = tables }) mid s.ledger p q → KeepsRest (record gone { tables = tables }) mid →
-    MemSteps old mid s (Fork p q) (answer_only Done)
-fork-steps old gone mid tables s p q keeps alive may frames entries shown processes given rest =
+pub fork-steps : {d : Device} (old gone mid : Mem) (tables : ProcessTables) (s : State) (p q : ℕ) (keeps : Keeps d old s)
+    → is_some (areas_of old.spaces.processes p) ≡ true → refusal (new_tests old.spaces.processes q) ≡ None
+    → gone ≡ record old { spaces = gone.spaces; anons = gone.anons } → HasFork old gone p q s → has tables ≡ with_at q true (has gone.tables)
+    → HasForked d (record gone { tables = tables }) mid s.ledger p q → KeepsRest (record gone { tables = tables }) mid →
+    MemSteps d old mid s (Fork p q) (answer_only Done)
+fork-steps {d} old gone mid tables s p q keeps alive may same shown processes given rest =
     forks old mid tables gone.spaces gone.anons s p q keeps alive may
-    (subst (λ g. HasFork old g p q s) (λ i. record { frames = frames i; tables = entries i; spaces = gone.spaces; anons = gone.anons }) shown)
-    (processes ∙ ap (λ t. with_at q true (has t)) entries)
-    (subst (λ f. HasForked (record { frames = f; tables = tables; spaces = gone.spaces; anons = gone.anons }) mid s.ledger p q) frames given)
-    (subst (λ f. KeepsRest (record { frames = f; tables = tables; spaces = gone.spaces; anons = gone.anons }) mid) frames rest)
+    (subst (λ (g : Mem). HasFork old g p q s) same shown)
+    (processes ∙ ap (λ (g : Mem). with_at q true (has g.tables)) same)
+    (subst (λ (g : Mem). HasForked d (record g { tables = tables }) mid s.ledger p q) same given)
+    (subst (λ (g : Mem). KeepsRest (record g { tables = tables }) mid) same rest)

@@ -1,3 +1,4 @@
+pub mod Loads
 pub mod StepLaws
 pub mod ProcessLaws
 pub mod ForkLaws

@@ -2,7 +2,7 @@
 use Rattle.std.proofs.Common.{◌≡◌, inl, inr, Ok, Err, ℕ, ◌+◌, ◌-◌, ◌<◌, ◌≤◌, Bool, true, false, cond, not, ◌&&◌, ◌||◌, List, [], ◌∷◌, slice_index, Option, Some, None, is_some, option_map, Result, refl, sym, ap, subst, ◌∙◌, arith, ◌==◌, nat_lt, IsSomeAnd}
 use Rattle.std.proofs.lemmas.Bool.Decides.{nat_tests}
 use Rattle.std.proofs.lemmas.Bool.{false≢true}
-use Rattle.std.specs.Prelude.{MatchOption, OnOk}
+use Rattle.std.specs.Prelude.{IfSome, MatchOption, OnOk}
 use Rattle.av_base.specs.declared.prot.Prot.{Prot}
 use Rattle.av_base.specs.Words.{with_at, within}
 use Rattle.av_vmatree.specs.Spans.{IsFree}
@@ -18,6 +18,7 @@ use Rattle.av_trace.specs.declared.reply.Answer.{Answer}
 use Rattle.av_trace.specs.declared.reply.Answer.TheVariants.{Done, MapAt, Refused}
 use Rattle.av_trace.specs.Reply.{answer_only}
 use Rattle.av_pagetable.specs.Entries.{has}
+use Rattle.av_plain.specs.Device.{Device}
 use Rattle.av_plain.specs.Fork.{IsRmapNext}
 use Rattle.av_plain.specs.World.{lives, Process, Page, zeros, pages, is_mapped, pages_to_hole, set_process, with_pages, with_prot_on, with_prot}
 use Rattle.av_base.specs.Page.{page_of, pages_of, address_of, is_on_page}
@@ -25,7 +26,7 @@ use Rattle.av_plain.specs.Ledger.{names_frame, Ledger, Entry, Zero, InFrame, InS
 use Rattle.av_plain.specs.Event.{Event, after_all}
 use Rattle.av_plain.specs.Zap.{keys_in, zaps_of}
 use Rattle.av_plain.specs.Refusal.{tests, place_tests, refusal, is_too_long, wraps, top, Refuses}
-use Rattle.av_plain.specs.Step.{closing_swap_area, IsLegal, Follows, next_world}
+use Rattle.av_plain.specs.Step.{closing_swap_area, IsLegal, Follows, next}
 use Rattle.av_plain.specs.Place.{Goes}
 use Rattle.av_plain.specs.Map.{zaps_for_place, with_prot_to_hole}
 use Rattle.av_anon.specs.declared.anons.Anons.{Anons as AnonSet}
@@ -42,7 +43,6 @@ use Rattle.av_plain.specs.Areas.{areas_to_hole, chain_length, next_areas, with_r
 use Rattle.av_plain.specs.Choice.{ChoosesAll}
 use Rattle.av_plain.specs.Report.{ShowsAreas}
 use Rattle.av_plain.specs.Transcript.{State, rmap_of}
-use Rattle.av_plain.specs.Device.{no_device}
 use Rattle.av_plain.specs.Stands.{AreasAre, Holds, IsKept, IsKeptAt, free_of, prot_of}
 use Rattle.av_vma.specs.Pages.{Pages, home_of, after_map, pages_changed, to_prot, after_unmap}
 use Rattle.av_plain.proofs.World.Ranges.{is-pages_to_hole}
@@ -51,26 +51,28 @@ use Rattle.av_reclaim.specs.declared.mem.Mem.{Mem}
 use Rattle.av_spaces.specs.Spaces.{AllSpaces, Spaces, areas_of, is_taken, pages_of as areas_on}
 use Rattle.av_plain.proofs.Transcript.{is_fork, next-plain}
 use Rattle.av_kernel.specs.Map.{set_on, GetsAreas, GetsProts, HomesStay, AreUnmapped}
-use Rattle.av_reclaim.specs.Mem.{ranges_of, setting, view, frame_count, Keeps, IsSteady, HasLedger}
+use Rattle.av_reclaim.specs.Mem.{ranges_of, setting_by, view, frame_count, Keeps, IsSteady, HasLedger}
 use Rattle.av_reclaim.specs.Zap.{HasZapped}
 use Rattle.av_place.specs.Place.{protect_tests, IsProcess, IsPlaced, AreToUnmap}
 use Rattle.av_kernel.specs.Step.{MemSteps}
 use Rattle.av_reclaim.proofs.MemLaws.{lives_is, alive_is, taken_has, mapped_is}
 use Rattle.av_place.proofs.PlaceLaws.{page_back, IsSuited, suited}
 use Rattle.av_kernel.proofs.StepLaws.{areas_kept, is_number, moved_on, orderly, refused, state_after, stays_orderly, changed, areas_changed, tables_kept}
-
+use Rattle.av_kernel.proofs.Loads.{place-loads, world_as}
+use Rattle.av_plain.proofs.Load.{loads_nothing, zaps-load_nothing}
+use Rattle.std.specs.List.{list_all}
 -- ---- pages and their areas
-
 -- a page is taken exactly where it is mapped
-pub taken_is : (k : Mem) (s : State) (p : ℕ) → Keeps k s → IsProcess k.spaces.processes p (pages s.world p)
-taken_is k s p keeps page = taken_has k.spaces.processes p page ∙ ap is_some (keeps.stands.parts.areas.covers p page) ∙ mapped_is (pages s.world p page)
+
+pub taken_is : {d : Device} (k : Mem) (s : State) (p : ℕ) → Keeps d k s → IsProcess k.spaces.processes p (pages s.world p)
+taken_is {d} k s p keeps page = taken_has k.spaces.processes p page ∙ ap is_some (keeps.stands.parts.areas.covers p page) ∙ mapped_is (pages s.world p page)
 
 -- a place suits the pages of a process, whatever the kernel stands for
 pub suits : (k : Mem) → IsSteady k → (p n page : ℕ) (place : Place) → ((q : Process) → IsProcess k.spaces.processes p q → IsPlaced q n place (Ok page)) →
     IsSuited k.spaces.processes p n page place
 suits k steady p n page place placed =
-    let same = taken_is k steady.0 p steady.1 in
-    suited k.spaces.processes p (pages steady.0.world p) same n page place (placed (pages steady.0.world p) same)
+    let same = taken_is k steady.1 p steady.2 in
+    suited k.spaces.processes p (pages steady.1.world p) same n page place (placed (pages steady.1.world p) same)
 
 -- the same pages change twice
 pub twice_changed : (s t u : Spaces) (p page n : ℕ) (x y : Option Prot) → GetsProts s t p (set_on page n x (prot_of (ranges_of s p))) →
@@ -120,10 +122,10 @@ unplaced s p q page = by (q == p) refl
     by false e = refl
 
 -- what the kernel's areas become, those of the state do
-areas_so : (old new : Mem) (s : State) (p : ℕ) (change : Pages → Pages) → Keeps old s →
+areas_so : {d : Device} (old new : Mem) (s : State) (p : ℕ) (change : Pages → Pages) → Keeps d old s →
     GetsAreas old.spaces.processes new.spaces.processes p (change (areas_on old.spaces.processes p)) →
     AreasAre (view new) (with_at p (change (s.areas p)) s.areas)
-areas_so old new s p change keeps h q page = h q page ∙ (λ i. with_at p (change (λ o. keeps.stands.areas p o i)) (λ r o. keeps.stands.areas r o i) q page)
+areas_so {d} old new s p change keeps h q page = h q page ∙ (λ i. with_at p (change (λ o. keeps.stands.areas p o i)) (λ r o. keeps.stands.areas r o i) q page)
 
 -- ---- the pages of a range go
 
@@ -136,17 +138,17 @@ both_ok (Ok x) f h g = f h g
 both_ok (Err e) f h g = tt
 
 -- their entries have gone, and then their areas
-pub are_unmapped : (old mid : Mem) (spaces : AllSpaces) (anons : AnonSet) (p page n : ℕ) (l : Ledger) →
-    HasZapped old mid l (zaps_of l (keys_in l p page (page + n - page))) → mid.spaces ≡ old.spaces → mid.anons ≡ old.anons → has mid.tables ≡ has old.tables →
+pub are_unmapped : {d : Device} (old mid : Mem) (spaces : AllSpaces) (anons : AnonSet) (p page n : ℕ) (l : Ledger) →
+    HasZapped d old mid l (zaps_of l (keys_in l p page (page + n - page))) → mid.spaces ≡ old.spaces → mid.anons ≡ old.anons → has mid.tables ≡ has old.tables →
     (view mid).bytes ≡ (view old).bytes → (view mid).homes ≡ (view old).homes
     → GetsProts mid.spaces.processes spaces.processes p (set_on page n None (prot_of (ranges_of mid.spaces.processes p))) →
     GetsAreas mid.spaces.processes spaces.processes p (after_unmap page (page + n) (areas_on mid.spaces.processes p))
     → AnonsStay mid.spaces mid.anons spaces anons → HomesStay mid.spaces.processes spaces.processes p page n
-    → AreUnmapped old (moved_on mid mid.tables spaces anons) p page n (after_unmap page (page + n) (areas_on old.spaces.processes p)) l
+    → AreUnmapped d old (moved_on mid mid.tables spaces anons) p page n (after_unmap page (page + n) (areas_on old.spaces.processes p)) l
     (zaps_of l (keys_in l p page n))
-are_unmapped old mid spaces anons p page n l t same same_anons processes bytes homes gone areas anons_stay stay = record {
-  taken = subst (λ x. HasZapped old (moved_on mid mid.tables spaces anons) l (zaps_of l (keys_in l p page x))) (let size : page + n - page ≡ n = omega arith in
-      size) (record { stands = stays_orderly mid mid.tables spaces anons _ refl t.stands; notes = t.notes; free = t.free });
+are_unmapped {d} old mid spaces anons p page n l t same same_anons processes bytes homes gone areas anons_stay stay = record {
+  taken = subst (λ x. HasZapped d old (moved_on mid mid.tables spaces anons) l (zaps_of l (keys_in l p page x))) (let size : page + n - page ≡ n = omega arith in
+      size) (record { stands = stays_orderly d mid mid.tables spaces anons _ refl t.stands; notes = t.notes; free = t.free });
   spaces = subst (λ (x : AllSpaces). GetsProts x.processes spaces.processes p (set_on page n None (prot_of (ranges_of x.processes p)))) same gone;
   areas = subst (λ (x : AllSpaces). GetsAreas x.processes spaces.processes p (after_unmap page (page + n) (areas_on x.processes p))) same areas;
   anons = subst (λ (x : AllSpaces). AnonsStay x old.anons spaces anons) same (subst (λ a. AnonsStay mid.spaces a spaces anons) same_anons anons_stay);
@@ -156,19 +158,19 @@ are_unmapped old mid spaces anons p page n l t same same_anons processes bytes h
   stay = subst (λ (x : AllSpaces). HomesStay x.processes spaces.processes p page n) same stay;
 }
 
-left_alone : (k : Mem) → IsSteady k → (p page n : ℕ) (l : Ledger) → HasLedger k l → is_some (areas_of k.spaces.processes p) ≡ true →
-    IsFree (is_taken k.spaces.processes p) page (page + n) → AreUnmapped k k p page n (areas_on k.spaces.processes p) l []
-left_alone k steady p page n l stands alive free = record {
+left_alone : (d : Device) (k : Mem) → IsSteady k → (p page n : ℕ) (l : Ledger) → HasLedger d k l → is_some (areas_of k.spaces.processes p) ≡ true →
+    IsFree (is_taken k.spaces.processes p) page (page + n) → AreUnmapped d k k p page n (areas_on k.spaces.processes p) l []
+left_alone d k steady p page n l stands alive free = record {
   taken = record { stands = stands; notes = refl; free = refl };
   spaces = record {
     others = λ q other. refl;
     alive = alive_is k.spaces.processes p ∙ alive;
     pages = λ o. by o (within page n o) refl;
     number = refl;
-    apart = steady.1.stands.parts.areas.apart;
+    apart = steady.2.stands.parts.areas.apart;
   };
   areas = unplaced k.spaces.processes p;
-  anons = stay_same k.spaces k.anons steady.1.anons;
+  anons = stay_same k.spaces k.anons steady.2.anons;
   processes = refl;
   bytes = refl;
   homes = refl;
@@ -187,22 +189,22 @@ left_alone k steady p page n l stands alive free = record {
     by o false e = refl
 
 -- where a mapping isn't to be at a fixed place, its pages are free, and nothing goes
-pub nothing_there : (k : Mem) → IsSteady k → (p page n : ℕ) (place : Place) (l : Ledger) → HasLedger k l → is_some (areas_of k.spaces.processes p) ≡ true →
+pub nothing_there : (d : Device) (k : Mem) → IsSteady k → (p page n : ℕ) (place : Place) (l : Ledger) → HasLedger d k l → is_some (areas_of k.spaces.processes p) ≡ true →
     AreToUnmap (is_taken k.spaces.processes p) page n place → ((a : ℕ) → place ≡ Fixed a → ⊥)
-    → AreUnmapped k k p page n (with_room n place (areas_on k.spaces.processes p)) l (zaps_for_place l p n place)
-nothing_there k steady p page n Auto l stands alive free other = left_alone k steady p page n l stands alive free
-nothing_there k steady p page n (At a) l stands alive free other = left_alone k steady p page n l stands alive free
-nothing_there k steady p page n (Fixed a) l stands alive free other = absurd (other a refl)
-nothing_there k steady p page n (NoReplace a) l stands alive free other = left_alone k steady p page n l stands alive free
+    → AreUnmapped d k k p page n (with_room n place (areas_on k.spaces.processes p)) l (zaps_for_place l p n place)
+nothing_there d k steady p page n Auto l stands alive free other = left_alone d k steady p page n l stands alive free
+nothing_there d k steady p page n (At a) l stands alive free other = left_alone d k steady p page n l stands alive free
+nothing_there d k steady p page n (Fixed a) l stands alive free other = absurd (other a refl)
+nothing_there d k steady p page n (NoReplace a) l stands alive free other = left_alone d k steady p page n l stands alive free
 
 -- the process lives on, and none of the pages is taken
-pub unmapped_lives : (old new : Mem) (p page n : ℕ) (on : Pages) (l : Ledger) (events : List Event) → AreUnmapped old new p page n on l events →
+pub unmapped_lives : {d : Device} (old new : Mem) (p page n : ℕ) (on : Pages) (l : Ledger) (events : List Event) → AreUnmapped d old new p page n on l events →
     is_some (areas_of new.spaces.processes p) ≡ true
-unmapped_lives old new p page n on l events h = sym (alive_is new.spaces.processes p) ∙ h.spaces.alive
+unmapped_lives {d} old new p page n on l events h = sym (alive_is new.spaces.processes p) ∙ h.spaces.alive
 
-pub unmapped_free : (old new : Mem) (p page n : ℕ) (on : Pages) (l : Ledger) (events : List Event) → AreUnmapped old new p page n on l events →
+pub unmapped_free : {d : Device} (old new : Mem) (p page n : ℕ) (on : Pages) (l : Ledger) (events : List Event) → AreUnmapped d old new p page n on l events →
     IsFree (is_taken new.spaces.processes p) page (page + n)
-unmapped_free old new p page n on l events h o low high =
+unmapped_free {d} old new p page n on l events h o low high =
     let inside : within page n o ≡ true = grind (arith, nat_tests, low, high) in
     taken_has new.spaces.processes p o ∙ ap is_some (h.spaces.pages o ∙ ap (λ b. cond b None (prot_of (ranges_of old.spaces.processes p) o)) inside)
 
@@ -215,9 +217,9 @@ place-silent l p n (NoReplace a) r = refl
 
 -- ---- the pages of a range are replaced
 
-module _ (old new : Mem) (s : State) (command : Command) (reply : Reply) (p page n : ℕ) (o : Option Page) (on : Pages) (events : List Event)
-    (keeps : Keeps old s) (alive : is_some (ranges_of old.spaces.processes p) ≡ true) (same_count : frame_count new ≡ frame_count old)
-    (taken : HasZapped old new s.ledger events) (entries : (q at : ℕ) →
+module _ {d : Device} (old new : Mem) (s : State) (command : Command) (reply : Reply) (p page n : ℕ) (o : Option Page) (on : Pages) (events : List Event)
+    (keeps : Keeps d old s) (alive : is_some (ranges_of old.spaces.processes p) ≡ true) (same_count : frame_count new ≡ frame_count old)
+    (taken : HasZapped d old new s.ledger events) (entries : (q at : ℕ) →
     entry (after_all s.ledger events) (q, at) ≡ cond (q == p && within page n at) None (entry s.ledger (q, at)))
     (blank : Holds o (λ _. 0)) (spaces : GetsProts old.spaces.processes new.spaces.processes p
     (set_on page n (option_map (λ (x : Page). x.prot) o) (prot_of (ranges_of old.spaces.processes p))))
@@ -234,14 +236,14 @@ module _ (old new : Mem) (s : State) (command : Command) (reply : Reply) (p page
       by true = refl
       by false = keeps.stands.parts.areas.covers p at
 
-  kept : (at : ℕ) → IsKept (view old) no_device s.ledger (entry (after_all s.ledger events) (p, at)) (with_pages (pages s.world p) page n (λ _. o) at)
-  kept at = subst (λ e. IsKept (view old) no_device s.ledger e (with_pages (pages s.world p) page n (λ _. o) at))
+  kept : (at : ℕ) → IsKept (view old) d s.ledger (entry (after_all s.ledger events) (p, at)) (with_pages (pages s.world p) page n (λ _. o) at)
+  kept at = subst (λ e. IsKept (view old) d s.ledger e (with_pages (pages s.world p) page n (λ _. o) at))
       (sym (entries p at ∙ ap (λ b. cond (b && within page n at) None (entry s.ledger (p, at))) (itself p))) (by (within page n at))
     where
       itself : (p : ℕ) → (p == p) ≡ true
       itself p = grind (arith, nat_tests)
 
-      by : (b : Bool) → IsKept (view old) no_device s.ledger (cond b None (entry s.ledger (p, at))) (cond b o (pages s.world p at))
+      by : (b : Bool) → IsKept (view old) d s.ledger (cond b None (entry s.ledger (p, at))) (cond b o (pages s.world p at))
       by true = blank
       by false = keeps.stands.parts.bytes.kept p at
 
@@ -271,26 +273,25 @@ module _ (old new : Mem) (s : State) (command : Command) (reply : Reply) (p page
       own_area at = areas p at ∙ ap (λ b. (cond b on (s.areas p)) at) (itself p)
 
   pub replaced-steps : is_fork command ≡ false → closing_swap_area command ≡ None
-      → IsLegal (setting (frame_count old)) s.world s.ledger command reply events
-      → set_process s.world p (with_pages (pages s.world p) page n (λ _. o)) ≡ next_world (setting (frame_count old)) s.world s.ledger events command
-      reply.answer
+      → IsLegal (setting_by d old) s.world s.ledger command reply events
+      → list_all loads_nothing events ≡ true → set_process s.world p (with_pages (pages s.world p) page n (λ _. o)) ≡ next s.world command reply.answer
       → with_at p on s.areas ≡ next_areas (chain_length s.anons) s.areas s.world command reply.answer
-      → ShowsAreas s.areas s.anons command reply.answer reply.rows → MemSteps old new s command reply
-  replaced-steps plain open_all legal world next shows =
+      → ShowsAreas s.areas s.anons command reply.answer reply.rows → MemSteps d old new s command reply
+  replaced-steps plain open_all legal loads world areas_next shows =
       let now : Process = with_pages (pages s.world p) page n (λ _. o) in
       changed old new s command reply p now on (after_all s.ledger events) keeps stay same_count taken.stands bytes homes
       (λ q at other. entries q at ∙ ap (λ b. cond (b && within page n at) None (entry s.ledger (q, at))) other) kept there home
       (record {
         events = events;
         legal = legal;
-        world = world;
+        world = world ∙ world_as (setting_by d old) s.world s.ledger events command reply.answer loads;
         ledger = refl;
-        free = subst (λ closing. ChoosesAll (setting (frame_count old)) closing s.ledger events s.free (free_of (view new))) (sym open_all)
-            (subst (λ free. ChoosesAll (setting (frame_count old)) None s.ledger events free (free_of (view new))) keeps.stands.free taken.free);
+        free = subst (λ closing. ChoosesAll (setting_by d old) closing s.ledger events s.free (free_of (view new))) (sym open_all)
+            (subst (λ free. ChoosesAll (setting_by d old) None s.ledger events free (free_of (view new))) keeps.stands.free taken.free);
         rmap =
             subst (λ r. IsRmapNext r s.world command reply.answer (rmap_of (state_after s p now on (after_all s.ledger events) (free_of (view new)) new.anons)))
             (sym silent) (next-plain (rmap_of s) s.world command reply.answer _ plain
-            (record { areas = next; anons = are_left old s keeps new.spaces new.anons stay (with_at p on s.areas) areas; homes = refl }));
+            (record { areas = areas_next; anons = are_left d old s keeps new.spaces new.anons stay (with_at p on s.areas) areas; homes = refl }));
         shows = shows;
       })
       areas
@@ -302,42 +303,42 @@ module _ (old new : Mem) (s : State) (command : Command) (reply : Reply) (p page
 -- ---- what is refused
 
 -- the process lives
-lived : (k : Mem) (s : State) (p : ℕ) → Keeps k s → is_some (areas_of k.spaces.processes p) ≡ true → (rest : Option Errno) →
+lived : {d : Device} (k : Mem) (s : State) (p : ℕ) → Keeps d k s → is_some (areas_of k.spaces.processes p) ≡ true → (rest : Option Errno) →
     cond (not (lives s.world p)) (Some Esrch) rest ≡ rest
-lived k s p keeps alive rest = ap (λ b. cond (not b) (Some Esrch) rest) (sym (lives_is k s keeps p) ∙ alive)
+lived {d} k s p keeps alive rest = ap (λ b. cond (not b) (Some Esrch) rest) (sym (lives_is d k s keeps p) ∙ alive)
 
-pub munmap-refused : (k : Mem) (s : State) (p a len : ℕ) → Keeps k s → is_some (areas_of k.spaces.processes p) ≡ true →
-    (not (is_on_page a) || len == 0 || nat_lt top (a + len)) ≡ true → refusal (tests (setting (frame_count k)) s.world s.ledger (Munmap p a len)) ≡ Some Einval
-munmap-refused k s p a len keeps alive none = lived k s p keeps alive (cond (not (is_on_page a) || len == 0 || nat_lt top (a + len)) (Some Einval) None)
+pub munmap-refused : {d : Device} (k : Mem) (s : State) (p a len : ℕ) → Keeps d k s → is_some (areas_of k.spaces.processes p) ≡ true →
+    (not (is_on_page a) || len == 0 || nat_lt top (a + len)) ≡ true → refusal (tests (setting_by d k) s.world s.ledger (Munmap p a len)) ≡ Some Einval
+munmap-refused {d} k s p a len keeps alive none = lived k s p keeps alive (cond (not (is_on_page a) || len == 0 || nat_lt top (a + len)) (Some Einval) None)
     ∙ ap (λ b. cond b (Some Einval) None) none
 
-pub mprotect-refused : (k : Mem) (s : State) (p a len : ℕ) (prot : Prot) (error : Errno) → Keeps k s → is_some (areas_of k.spaces.processes p) ≡ true →
-    refusal (protect_tests a len) ≡ Some error → refusal (tests (setting (frame_count k)) s.world s.ledger (Mprotect p a len prot)) ≡ Some error
-mprotect-refused k s p a len prot error keeps alive is = lived k s p keeps alive (refusal (protect_tests a len)) ∙ is
+pub mprotect-refused : {d : Device} (k : Mem) (s : State) (p a len : ℕ) (prot : Prot) (error : Errno) → Keeps d k s → is_some (areas_of k.spaces.processes p) ≡ true →
+    refusal (protect_tests a len) ≡ Some error → refusal (tests (setting_by d k) s.world s.ledger (Mprotect p a len prot)) ≡ Some error
+mprotect-refused {d} k s p a len prot error keeps alive is = lived k s p keeps alive (refusal (protect_tests a len)) ∙ is
 
-module _ (k : Mem) (s : State) (p len : ℕ) (prot : Prot) (place : Place) (keeps : Keeps k s) (alive : is_some (areas_of k.spaces.processes p) ≡ true) where
-  pub mmap-tests-first : (len == 0) ≡ true → refusal (tests (setting (frame_count k)) s.world s.ledger (Mmap p len prot place)) ≡ Some Einval
+module _ {d : Device} (k : Mem) (s : State) (p len : ℕ) (prot : Prot) (place : Place) (keeps : Keeps d k s) (alive : is_some (areas_of k.spaces.processes p) ≡ true) where
+  pub mmap-tests-first : (len == 0) ≡ true → refusal (tests (setting_by d k) s.world s.ledger (Mmap p len prot place)) ≡ Some Einval
   mmap-tests-first none = lived k s p keeps alive _ ∙ ap (λ b. cond b (Some Einval)
       (cond (is_too_long len) (Some Enomem) (refusal (place_tests (pages s.world p) (pages_of len) place)))) none
 
   pub mmap-tests-second : (len == 0) ≡ false → is_too_long len ≡ true →
-      refusal (tests (setting (frame_count k)) s.world s.ledger (Mmap p len prot place)) ≡ Some Enomem
+      refusal (tests (setting_by d k) s.world s.ledger (Mmap p len prot place)) ≡ Some Enomem
   mmap-tests-second some long = lived k s p keeps alive _ ∙ ap (λ b. cond b (Some Einval)
       (cond (is_too_long len) (Some Enomem) (refusal (place_tests (pages s.world p) (pages_of len) place)))) some
       ∙ ap (λ b. cond b (Some Enomem) (refusal (place_tests (pages s.world p) (pages_of len) place))) long
 
 -- ---- munmap
 
-module _ (old new : Mem) (s : State) (p a len : ℕ) (keeps : Keeps old s) (alive : is_some (ranges_of old.spaces.processes p) ≡ true)
+module _ {d : Device} (old new : Mem) (s : State) (p a len : ℕ) (keeps : Keeps d old s) (alive : is_some (ranges_of old.spaces.processes p) ≡ true)
     (valid : (not (is_on_page a) || len == 0 || nat_lt top (a + len)) ≡ false)
-    (same_count : frame_count new ≡ frame_count old) (unmapped : AreUnmapped old new p (page_of a) (pages_of len)
+    (same_count : frame_count new ≡ frame_count old) (unmapped : AreUnmapped d old new p (page_of a) (pages_of len)
     (after_unmap (page_of a) (page_of a + pages_of len) (areas_on old.spaces.processes p)) s.ledger
     (zaps_of s.ledger (keys_in s.ledger p (page_of a) (pages_of len)))) where
-  munmap-allowed : refusal (tests (setting (frame_count old)) s.world s.ledger (Munmap p a len)) ≡ None
+  munmap-allowed : refusal (tests (setting_by d old) s.world s.ledger (Munmap p a len)) ≡ None
   munmap-allowed = ap (λ b. cond (not b) (Some Esrch) (cond (not (is_on_page a) || len == 0 || nat_lt top (a + len)) (Some Einval) None))
-      (sym (lives_is old s keeps p) ∙ sym (alive_is old.spaces.processes p) ∙ alive) ∙ ap (λ b. cond b (Some Einval) None) valid
+      (sym (lives_is d old s keeps p) ∙ sym (alive_is old.spaces.processes p) ∙ alive) ∙ ap (λ b. cond b (Some Einval) None) valid
 
-  pub munmap-steps : MemSteps old new s (Munmap p a len) (answer_only Done)
+  pub munmap-steps : MemSteps d old new s (Munmap p a len) (answer_only Done)
   munmap-steps =
       let events = zaps_of s.ledger (keys_in s.ledger p (page_of a) (pages_of len)) in
       replaced-steps old new s (Munmap p a len) (answer_only Done) p (page_of a) (pages_of len) None
@@ -348,41 +349,41 @@ module _ (old new : Mem) (s : State) (p a len : ℕ) (keeps : Keeps old s) (aliv
       (rmap_after_all-zaps s.ledger (keys_in s.ledger p (page_of a) (pages_of len)) s.ledger (rmap_of s))
       refl refl
       (record {
-        answer = subst (λ o. MatchOption o (Follows (setting (frame_count old)) s.world s.ledger (Munmap p a len) events Done [])
+        answer = subst (λ o. MatchOption o (Follows (setting_by d old) s.world s.ledger (Munmap p a len) events Done [])
             (λ e. Refuses e events Done []))
             (sym munmap-allowed) (refl, refl, refl);
         notes = sym unmapped.taken.notes;
       })
-      refl refl tt
+      (zaps-load_nothing s.ledger (keys_in s.ledger p (page_of a) (pages_of len))) refl refl tt
 
 -- ---- mmap
 
-module _ (old : Mem) (s : State) (p len : ℕ) (prot : Prot) (place : Place) (keeps : Keeps old s) (alive : is_some (ranges_of old.spaces.processes p) ≡ true)
+module _ {d : Device} (old : Mem) (s : State) (p len : ℕ) (prot : Prot) (place : Place) (keeps : Keeps d old s) (alive : is_some (ranges_of old.spaces.processes p) ≡ true)
     (some : (len == 0) ≡ false) (fits : is_too_long len ≡ false) where
   -- the tests of its place are left
-  mmap-tests : refusal (tests (setting (frame_count old)) s.world s.ledger (Mmap p len prot place)) ≡ refusal
+  mmap-tests : refusal (tests (setting_by d old) s.world s.ledger (Mmap p len prot place)) ≡ refusal
       (place_tests (pages s.world p) (pages_of len) place)
   mmap-tests = ap (λ b. cond (not b) (Some Esrch) (cond (len == 0) (Some Einval)
       (cond (is_too_long len) (Some Enomem) (refusal (place_tests (pages s.world p) (pages_of len) place)))))
-      (sym (lives_is old s keeps p) ∙ sym (alive_is old.spaces.processes p) ∙ alive)
+      (sym (lives_is d old s keeps p) ∙ sym (alive_is old.spaces.processes p) ∙ alive)
       ∙ ap (λ b. cond b (Some Einval) (cond (is_too_long len) (Some Enomem) (refusal (place_tests (pages s.world p) (pages_of len) place)))) some
       ∙ ap (λ b. cond b (Some Enomem) (refusal (place_tests (pages s.world p) (pages_of len) place))) fits
 
   -- the pages go nowhere
   pub mmap-refused : (error : Errno) → IsPlaced (pages s.world p) (pages_of len) place (Err error) →
-      MemSteps old old s (Mmap p len prot place) (answer_only (Refused error))
+      MemSteps d old old s (Mmap p len prot place) (answer_only (Refused error))
   mmap-refused error (inl is) = refused old s (Mmap p len prot place) error keeps (mmap-tests ∙ is)
   mmap-refused error (inr h) = record {
     next = s;
     step = record {
       events = [];
       legal = record {
-        answer = subst (λ o. MatchOption o (Follows (setting (frame_count old)) s.world s.ledger (Mmap p len prot place) [] (Refused error) [])
+        answer = subst (λ o. MatchOption o (Follows (setting_by d old) s.world s.ledger (Mmap p len prot place) [] (Refused error) [])
             (λ e. Refuses e [] (Refused error) [])) (sym (mmap-tests ∙ h.0))
             (None, h.1, ap Refused h.2, sym (none_unmapped_for place h.1), refl);
         notes = refl;
       };
-      world = refl;
+      world = world_as (setting_by d old) s.world s.ledger [] (Mmap p len prot place) (Refused error) refl;
       ledger = refl;
       free = refl;
       rmap = areas_kept old s (Mmap p len prot place) (Refused error) keeps refl;
@@ -423,7 +424,7 @@ module _ (old : Mem) (s : State) (p len : ℕ) (prot : Prot) (place : Place) (ke
 
   module _ (mid : Mem) (spaces : AllSpaces) (anons : AnonSet) (page : ℕ) (placed : IsPlaced (pages s.world p) (pages_of len) place (Ok page))
       (clear : AreToUnmap (is_taken old.spaces.processes p) page (pages_of len) place)
-      (same_count : frame_count mid ≡ frame_count old) (unmapped : AreUnmapped old mid p page (pages_of len)
+      (same_count : frame_count mid ≡ frame_count old) (unmapped : AreUnmapped d old mid p page (pages_of len)
       (with_room (pages_of len) place (areas_on old.spaces.processes p)) s.ledger (zaps_for_place s.ledger p (pages_of len) place))
       (given : GetsProts mid.spaces.processes spaces.processes p (set_on page (pages_of len) (Some prot) (prot_of (ranges_of mid.spaces.processes p))))
       (areas : GetsAreas mid.spaces.processes spaces.processes p (after_map (lengths mid.spaces.areas mid.anons) p page (page + pages_of len) prot
@@ -432,16 +433,16 @@ module _ (old : Mem) (s : State) (p len : ℕ) (prot : Prot) (place : Place) (ke
     alike : (q : ℕ) → after_map (lengths mid.spaces.areas mid.anons) p page (page + pages_of len) prot (areas_on mid.spaces.processes p) q ≡ after_map
         (chain_length s.anons) p page (page + pages_of len) prot (areas_on mid.spaces.processes p) q
     alike = map_alike (lengths mid.spaces.areas mid.anons) (chain_length s.anons) p page (page + pages_of len) prot (areas_on mid.spaces.processes p) refl
-        (lengths_alike old s keeps mid.spaces mid.anons unmapped.anons p)
+        (lengths_alike d old s keeps mid.spaces mid.anons unmapped.anons p)
 
-    pub mmap-steps : MemSteps old (moved_on mid mid.tables spaces anons) s (Mmap p len prot place) (answer_only (MapAt (address_of page)))
+    pub mmap-steps : MemSteps d old (moved_on mid mid.tables spaces anons) s (Mmap p len prot place) (answer_only (MapAt (address_of page)))
     mmap-steps =
         let events = zaps_for_place s.ledger p (pages_of len) place in
         let t = unmapped.taken in
         replaced-steps old (moved_on mid mid.tables spaces anons) s (Mmap p len prot place) (answer_only (MapAt (address_of page))) p page (pages_of len)
         (Some (zeros prot)) (after_map (chain_length s.anons) p page (page + pages_of len) prot (with_room (pages_of len) place (s.areas p)))
         events keeps alive same_count
-        (record { stands = stays_orderly mid mid.tables spaces anons (after_all s.ledger events) refl t.stands; notes = t.notes; free = t.free })
+        (record { stands = stays_orderly d mid mid.tables spaces anons (after_all s.ledger events) refl t.stands; notes = t.notes; free = t.free })
         (λ q at. entry-unmapped place page (pages_of len) q at clear) (λ i below. refl)
         (twice_changed old.spaces.processes mid.spaces.processes spaces.processes p page (pages_of len) None (Some prot) unmapped.spaces given)
         (areas_so old (moved_on mid mid.tables spaces anons) s p (λ on. after_map (chain_length s.anons) p page (page + pages_of len) prot
@@ -453,11 +454,12 @@ module _ (old : Mem) (s : State) (p len : ℕ) (prot : Prot) (place : Place) (ke
         (place-silent s.ledger p (pages_of len) place (rmap_of s))
         refl refl
         (record {
-          answer = subst (λ o. MatchOption o (Follows (setting (frame_count old)) s.world s.ledger (Mmap p len prot place) events (MapAt (address_of page)) [])
+          answer = subst (λ o. MatchOption o (Follows (setting_by d old) s.world s.ledger (Mmap p len prot place) events (MapAt (address_of page)) [])
               (λ e. Refuses e events (MapAt (address_of page)) [])) (sym (mmap-tests ∙ placed.0))
               (Some page, placed.1, refl, refl, refl);
           notes = sym t.notes;
         })
+        (place-loads s.ledger p (pages_of len) place)
         (ap (λ x. set_process s.world p (with_pages (pages s.world p) x (pages_of len) (λ _. Some (zeros prot)))) (sym (page_back page)))
         (ap (λ x. with_at p (after_map (chain_length s.anons) p x (x + pages_of len) prot (with_room (pages_of len) place (s.areas p))) s.areas)
         (sym (page_back page)))
@@ -465,7 +467,7 @@ module _ (old : Mem) (s : State) (p len : ℕ) (prot : Prot) (place : Place) (ke
 
 -- ---- mprotect
 
-module _ (old : Mem) (spaces : AllSpaces) (anons : AnonSet) (s : State) (p a len reached : ℕ) (prot : Prot) (keeps : Keeps old s)
+module _ {d : Device} (old : Mem) (spaces : AllSpaces) (anons : AnonSet) (s : State) (p a len reached : ℕ) (prot : Prot) (keeps : Keeps d old s)
     (alive : is_some (ranges_of old.spaces.processes p) ≡ true) (passed : refusal ((not (is_on_page a), Einval) ∷ (wraps a len, Enomem) ∷ []) ≡ None)
     (reaches : GoesTo (is_taken old.spaces.processes p) (page_of a) (page_of a + pages_of len) reached)
     (given : GetsProts old.spaces.processes spaces.processes p (set_on (page_of a) (reached - page_of a) (Some prot)
@@ -473,9 +475,9 @@ module _ (old : Mem) (spaces : AllSpaces) (anons : AnonSet) (s : State) (p a len
     (areas : GetsAreas old.spaces.processes spaces.processes p (pages_changed (lengths old.spaces.areas old.anons) (to_prot prot) (page_of a)
     (reached - page_of a) (areas_on old.spaces.processes p)))
     (stay : AnonsStay old.spaces old.anons spaces anons) (homes : KeepsHomes (areas_on old.spaces.processes p) (areas_on spaces.processes p)) where
-  mprotect-allowed : refusal (tests (setting (frame_count old)) s.world s.ledger (Mprotect p a len prot)) ≡ None
+  mprotect-allowed : refusal (tests (setting_by d old) s.world s.ledger (Mprotect p a len prot)) ≡ None
   mprotect-allowed = ap (λ b. cond (not b) (Some Esrch) (refusal ((not (is_on_page a), Einval) ∷ (wraps a len, Enomem) ∷ [])))
-      (sym (lives_is old s keeps p) ∙ sym (alive_is old.spaces.processes p) ∙ alive) ∙ passed
+      (sym (lives_is d old s keeps p) ∙ sym (alive_is old.spaces.processes p) ∙ alive) ∙ passed
 
   in_reach : wraps a len ≡ false
   in_reach = by (is_on_page a) (wraps a len) passed
@@ -490,7 +492,7 @@ module _ (old : Mem) (spaces : AllSpaces) (anons : AnonSet) (s : State) (p a len
       ≡ pages_changed (chain_length s.anons) (to_prot prot) (page_of a) (reached - page_of a) (areas_on old.spaces.processes p) q
   changed_alike = pages_alike (lengths old.spaces.areas old.anons) (chain_length s.anons) (to_prot prot) (page_of a) (reached - page_of a)
       (areas_on old.spaces.processes p)
-      (lengths_alike old s keeps old.spaces old.anons (stay_same old.spaces old.anons keeps.anons) p)
+      (lengths_alike d old s keeps old.spaces old.anons (stay_same old.spaces old.anons keeps.anons) p)
 
   -- so many pages are mapped before the first that isn't
   leads : pages_to_hole (pages s.world p) (page_of a) (pages_of len) ≡ reached - page_of a
@@ -519,7 +521,7 @@ module _ (old : Mem) (spaces : AllSpaces) (anons : AnonSet) (s : State) (p a len
           there (pages s.world p page) (sym (taken_is old s p keeps page) ∙ reaches.all page low (let least = reaches.lowest in omega (arith, high, least)))
       by false e = keeps.stands.parts.areas.covers p page
 
-  kept-protected : (page : ℕ) → IsKept (view old) no_device s.ledger (entry s.ledger (p, page))
+  kept-protected : (page : ℕ) → IsKept (view old) d s.ledger (entry s.ledger (p, page))
       (with_prot_on (pages s.world p) (page_of a) (reached - page_of a) prot page)
   kept-protected page = by (within (page_of a) (reached - page_of a) page)
     where
@@ -527,18 +529,23 @@ module _ (old : Mem) (spaces : AllSpaces) (anons : AnonSet) (s : State) (p a len
       held None at h = h
       held (Some x) at h = h
 
-      kept : (e : Option Entry) (o : Option Page) → IsKept (view old) no_device s.ledger e o →
-          IsKept (view old) no_device s.ledger e (option_map (with_prot prot) o)
+      kept : (e : Option Entry) (o : Option Page) → IsKept (view old) d s.ledger e o →
+          IsKept (view old) d s.ledger e (option_map (with_prot prot) o)
       kept None o h = held o (λ _. 0) h
       kept (Some Zero) o h = held o (λ _. 0) h
       kept (Some (InFrame f seen)) o h = held o ((view old).bytes f) h
       kept (Some (InSlot t)) o h = at (frame_at s.ledger t) h
         where
-          at : (f : Option ℕ) → IsKeptAt (view old) no_device t o f → IsKeptAt (view old) no_device t (option_map (with_prot prot) o) f
-          at None h = held o (slice_index []) h
+          told : (x : Option (ℕ → ℕ → List ℕ)) → IfSome x (λ told. Holds o (slice_index (told t.area t.page)))
+              → IfSome x (λ told. Holds (option_map (with_prot prot) o) (slice_index (told t.area t.page)))
+          told None h = tt
+          told (Some pages) h = held o (slice_index (pages t.area t.page)) h
+
+          at : (f : Option ℕ) → IsKeptAt (view old) d t o f → IsKeptAt (view old) d t (option_map (with_prot prot) o) f
+          at None h = told d.pages h
           at (Some f) h = held o ((view old).bytes f) h
 
-      by : (b : Bool) → IsKept (view old) no_device s.ledger (entry s.ledger (p, page))
+      by : (b : Bool) → IsKept (view old) d s.ledger (entry s.ledger (p, page))
           (cond b (option_map (with_prot prot) (pages s.world p page)) (pages s.world p page))
       by true = kept (entry s.ledger (p, page)) (pages s.world p page) (keeps.stands.parts.bytes.kept p page)
       by false = keeps.stands.parts.bytes.kept p page
@@ -559,33 +566,31 @@ module _ (old : Mem) (spaces : AllSpaces) (anons : AnonSet) (s : State) (p a len
           (λ o. keeps.stands.areas p o i) page)
 
   protected-steps : (answer : Answer) → answer ≡ (cond (pages_to_hole (pages s.world p) (page_of a) (pages_of len) == pages_of len) Done (Refused Enomem))
-      → set_process s.world p (with_prot_on (pages s.world p) (page_of a) (reached - page_of a) prot) ≡ next_world (setting (frame_count old)) s.world
-      s.ledger []
-      (Mprotect p a len prot) answer
+      → set_process s.world p (with_prot_on (pages s.world p) (page_of a) (reached - page_of a) prot) ≡ next s.world (Mprotect p a len prot) answer
       → with_at p (pages_changed (chain_length s.anons) (to_prot prot) (page_of a) (reached - page_of a) (s.areas p)) s.areas ≡ next_areas
       (chain_length s.anons) s.areas s.world (Mprotect p a len prot) answer
-      → MemSteps old (moved_on old old.tables spaces anons) s (Mprotect p a len prot) (answer_only answer)
-  protected-steps answer is world next =
+      → MemSteps d old (moved_on old old.tables spaces anons) s (Mprotect p a len prot) (answer_only answer)
+  protected-steps answer is world areas_next =
       let now : Process = with_prot_on (pages s.world p) (page_of a) (reached - page_of a) prot in
       let new = moved_on old old.tables spaces anons in
       let now_on = areas_so old new s p (pages_changed (chain_length s.anons) (to_prot prot) (page_of a) (reached - page_of a)) keeps
       (re_areas old.spaces.processes spaces.processes p _ _ changed_alike areas) in
       changed old new s (Mprotect p a len prot) (answer_only answer) p now
       (pages_changed (chain_length s.anons) (to_prot prot) (page_of a) (reached - page_of a) (s.areas p)) s.ledger keeps stay refl
-      (stays_orderly old old.tables spaces anons s.ledger refl (orderly old s keeps)) refl refl (λ q page other. refl) kept-protected (λ page f names. names)
+      (stays_orderly d old old.tables spaces anons s.ledger refl (orderly old s keeps)) refl refl (λ q page other. refl) kept-protected (λ page f names. names)
       (λ page f home names is. home_protected page home is)
       (record {
         events = [];
         legal = record {
-          answer = subst (λ o. MatchOption o (Follows (setting (frame_count old)) s.world s.ledger (Mprotect p a len prot) [] answer [])
+          answer = subst (λ o. MatchOption o (Follows (setting_by d old) s.world s.ledger (Mprotect p a len prot) [] answer [])
               (λ e. Refuses e [] answer [])) (sym mprotect-allowed) (is, refl, refl);
           notes = refl;
         };
-        world = world;
+        world = world ∙ world_as (setting_by d old) s.world s.ledger [] (Mprotect p a len prot) answer refl;
         ledger = refl;
         free = keeps.stands.free;
         rmap = next-plain (rmap_of s) s.world (Mprotect p a len prot) answer _ refl
-            (record { areas = next; anons = are_left old s keeps spaces anons stay _ now_on; homes = refl });
+            (record { areas = areas_next; anons = are_left d old s keeps spaces anons stay _ now_on; homes = refl });
         shows = tt;
       })
       now_on
@@ -595,7 +600,7 @@ module _ (old : Mem) (spaces : AllSpaces) (anons : AnonSet) (s : State) (p a len
       alive given covered-protected refl)
 
   -- all pages were mapped
-  pub mprotect-steps : page_of a + pages_of len ≤ reached → MemSteps old (moved_on old old.tables spaces anons) s (Mprotect p a len prot) (answer_only Done)
+  pub mprotect-steps : page_of a + pages_of len ≤ reached → MemSteps d old (moved_on old old.tables spaces anons) s (Mprotect p a len prot) (answer_only Done)
   mprotect-steps whole =
       let high = reaches.highest in
       let size : reached - page_of a ≡ pages_of len = omega (arith, whole, high) in
@@ -607,7 +612,7 @@ module _ (old : Mem) (spaces : AllSpaces) (anons : AnonSet) (s : State) (p a len
       equal k n e = grind (arith, nat_tests, e)
 
   -- a page before the end was not
-  pub mprotect-stops : reached < page_of a + pages_of len → MemSteps old (moved_on old old.tables spaces anons) s (Mprotect p a len prot)
+  pub mprotect-stops : reached < page_of a + pages_of len → MemSteps d old (moved_on old old.tables spaces anons) s (Mprotect p a len prot)
       (answer_only (Refused Enomem))
   mprotect-stops less =
       let low = reaches.lowest in

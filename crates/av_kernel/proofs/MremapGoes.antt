@@ -10,6 +10,7 @@ use Rattle.av_trace.specs.declared.reply.Answer.TheVariants.{MapAt}
 use Rattle.av_vma.specs.Mremap.{IsGrowth, IsMove}
 use Rattle.av_vma.specs.Pages.{AreLaid}
 use Rattle.av_spaces.specs.Spaces.{areas_of, is_taken, pages_of as areas_on}
+use Rattle.av_plain.specs.Device.{Device}
 use Rattle.av_plain.specs.Areas.{HaveProtsOf, chain_length}
 use Rattle.av_plain.specs.Mremap.{MovesTo, after_mremap, leaves_old, prot_left, remap_events}
 use Rattle.av_plain.specs.Refusal.{mremap_tests, overflows, refusal}
@@ -17,7 +18,7 @@ use Rattle.av_plain.specs.Transcript.{State}
 use Rattle.av_plain.specs.World.{Process, pages}
 use Rattle.av_plain.proofs.Refusal.{MayRemap, may-remap}
 use Rattle.av_reclaim.specs.declared.mem.Mem.{Mem}
-use Rattle.av_reclaim.specs.Mem.{IsSteady, Keeps, frame_count, setting}
+use Rattle.av_reclaim.specs.Mem.{IsSteady, Keeps, setting_by}
 use Rattle.av_reclaim.specs.Zap.{KeepsRest}
 use Rattle.av_mremap.specs.Areas.{HasRemap}
 use Rattle.av_mremap.specs.Entries.{HasRemapped}
@@ -26,8 +27,8 @@ use Rattle.av_kernel.specs.Step.{MemSteps}
 use Rattle.av_kernel.proofs.MremapLaws.{last_taken, may_grow, may_move, may_shrink, old_high, remaps, some_pages}
 use Rattle.av_kernel.proofs.MremapRefusals.{have_prots_of, tests_are}
 use Rattle.av_kernel.proofs.StepLaws.{moved_on}
-
 -- what holds of two numbers holds of two that are equal
+
 pub both_are : (P : ℕ → ℕ → Type 0) {n n' m m' : ℕ} → n ≡ n' → m ≡ m' → P n m → P n' m'
 both_are P {n} {n'} {m} {m'} e f h = subst (λ x. P x m') e (subst (P n) f h)
 
@@ -45,14 +46,14 @@ pub record Goes (old : Mem) (p a olen nlen n m : ℕ) (mode : Mode) (to : ℕ) :
   pub goes : (q : Process) → HaveProtsOf (areas_on old.spaces.processes p) q → MovesTo q (page_of a) n m mode (Some to)
 
 module _ {old : Mem} {p a olen nlen : ℕ} {mode : Mode} (passes : Passes old p a olen nlen mode) where
-  may_by : (s : State) → Keeps old s → MayRemap s.world p a olen nlen mode
-  may_by s keeps = may-remap (setting (frame_count old)) s.world s.ledger p a olen nlen mode
+  may_by : {d : Device} (s : State) → Keeps d old s → MayRemap s.world p a olen nlen mode
+  may_by {d} s keeps = may-remap (setting_by d old) s.world s.ledger p a olen nlen mode
       (tests_are old p a olen nlen mode passes.alive s keeps ∙ passes.tests (pages s.world p) (have_prots_of old s keeps p))
 
   -- before a place is sought, the new length has a page
   pub some_new : IsSteady old → 1 ≤ pages_of nlen
   some_new steady =
-      by (olen == 0) (nlen == 0) (overflows olen) (overflows nlen) (leaves_old mode && not (olen == nlen)) refl (may_by steady.0 steady.1).lengths
+      by (olen == 0) (nlen == 0) (overflows olen) (overflows nlen) (leaves_old mode && not (olen == nlen)) refl (may_by steady.1 steady.2).lengths
     where
       by : (b c d e f : Bool) → (nlen == 0) ≡ c → (b || c || d || e || f) ≡ false → 1 ≤ pages_of nlen
       by true c d e f is h = cc
@@ -67,27 +68,27 @@ module _ {old : Mem} {p a olen nlen n m : ℕ} {mode : Mode} {to : ℕ} (go : Go
   of_pages : (P : ℕ → ℕ → Type 0) → P (pages_of olen) (pages_of nlen) → P n m
   of_pages P h = both_are P (sym go.as_old) (sym go.as_new) h
 
-  goes_by : (s : State) → Keeps old s → MovesTo (pages s.world p) from (pages_of olen) (pages_of nlen) mode (Some to)
-  goes_by s keeps = both_are (λ n m. MovesTo (pages s.world p) from n m mode (Some to)) go.as_old go.as_new
+  goes_by : {d : Device} (s : State) → Keeps d old s → MovesTo (pages s.world p) from (pages_of olen) (pages_of nlen) mode (Some to)
+  goes_by {d} s keeps = both_are (λ n m. MovesTo (pages s.world p) from n m mode (Some to)) go.as_old go.as_new
       (go.goes (pages s.world p) (have_prots_of old s keeps p))
 
   module _ (steady : IsSteady old) where
-    may_now : MayRemap steady.0.world p a olen nlen mode
-    may_now = may_by go.passes steady.0 steady.1
+    may_now : MayRemap steady.1.world p a olen nlen mode
+    may_now = may_by go.passes steady.1 steady.2
 
-    goes_now : MovesTo (pages steady.0.world p) from (pages_of olen) (pages_of nlen) mode (Some to)
-    goes_now = goes_by steady.0 steady.1
+    goes_now : MovesTo (pages steady.1.world p) from (pages_of olen) (pages_of nlen) mode (Some to)
+    goes_now = goes_by steady.1 steady.2
 
     pub some_by : (1 ≤ n) × (1 ≤ m)
-    some_by = of_pages (λ n m. (1 ≤ n) × (1 ≤ m)) (some_pages steady.1 may_now to go.passes.alive goes_now go.passes.laid)
+    some_by = of_pages (λ n m. (1 ≤ n) × (1 ≤ m)) (some_pages steady.2 may_now to go.passes.alive goes_now go.passes.laid)
 
     pub last_by : n < m → is_taken old.spaces.processes p (from + n - 1) ≡ true
     last_by = of_pages (λ n m. n < m → is_taken old.spaces.processes p (from + n - 1) ≡ true)
-        (last_taken steady.1 may_now to go.passes.alive goes_now go.passes.laid)
+        (last_taken steady.2 may_now to go.passes.alive goes_now go.passes.laid)
 
     pub shrink_by : to ≡ from → m < n → from + n ≤ top_page
     shrink_by = of_pages (λ n m. to ≡ from → m < n → from + n ≤ top_page)
-        (may_shrink steady.1 may_now to go.passes.alive goes_now go.passes.laid)
+        (may_shrink steady.2 may_now to go.passes.alive goes_now go.passes.laid)
 
     module _ (small : StaySmall old.spaces.processes p from n m) where
       small_by : StaySmall old.spaces.processes p from (pages_of olen) (pages_of nlen)
@@ -95,15 +96,15 @@ module _ {old : Mem} {p a olen nlen n m : ℕ} {mode : Mode} {to : ℕ} (go : Go
 
       pub grow_by : to ≡ from → n < m → IsGrowth (from + n - 1) (from + m) (areas_on old.spaces.processes p)
       grow_by = of_pages (λ n m. to ≡ from → n < m → IsGrowth (from + n - 1) (from + m) (areas_on old.spaces.processes p))
-          (may_grow steady.1 may_now to go.passes.alive goes_now go.passes.laid small_by)
+          (may_grow steady.2 may_now to go.passes.alive goes_now go.passes.laid small_by)
 
       pub move_by : (to ≡ from → ⊥) → IsMove from n to m (areas_on old.spaces.processes p)
       move_by = of_pages (λ n m. (to ≡ from → ⊥) → IsMove from n to m (areas_on old.spaces.processes p))
-          (may_move steady.1 may_now to go.passes.alive goes_now go.passes.laid small_by)
+          (may_move steady.2 may_now to go.passes.alive goes_now go.passes.laid small_by)
 
       pub high_by : (to ≡ from → ⊥) → from + n ≤ top_page
       high_by = of_pages (λ n m. (to ≡ from → ⊥) → from + n ≤ top_page)
-          (old_high steady.1 may_now to go.passes.alive goes_now go.passes.laid small_by)
+          (old_high steady.2 may_now to go.passes.alive goes_now go.passes.laid small_by)
 
       -- the address of the page where they stand then is a number of the machine
       pub to_fits : from < 2 ^ 52 → to < 2 ^ 52
@@ -117,21 +118,19 @@ module _ {old : Mem} {p a olen nlen n m : ℕ} {mode : Mode} {to : ℕ} (go : Go
               no e h = grind (arith, nat_tests, e, h)
 
   -- the areas changed, and then the entries
-  pub steps_by : (s : State) (keeps : Keeps old s) → StaySmall old.spaces.processes p from n m
-      → (gone new : Mem) → gone.frames ≡ old.frames → gone.tables ≡ old.tables
+  pub steps_by : {d : Device} (s : State) (keeps : Keeps d old s) → StaySmall old.spaces.processes p from n m
+      → (gone new : Mem) → gone ≡ record old { spaces = gone.spaces; anons = gone.anons }
       → HasRemap old gone p (after_mremap (chain_length s.anons) p from n to m (prot_left mode (pages s.world p) from) (s.areas p))
-      → HasRemapped gone new s.ledger (remap_events s.ledger p from n to m) → KeepsRest gone new
-      → MemSteps old new s (Mremap p a olen nlen mode) (answer_only (MapAt (address_of to)))
-  steps_by s keeps small gone new frames tables remap done rest =
-      let same : gone ≡ moved_on old old.tables gone.spaces gone.anons =
-      λ i. record { frames = frames i; tables = tables i; spaces = gone.spaces; anons = gone.anons } in
+      → HasRemapped d gone new s.ledger (remap_events s.ledger p from n to m) → KeepsRest gone new
+      → MemSteps d old new s (Mremap p a olen nlen mode) (answer_only (MapAt (address_of to)))
+  steps_by {d} s keeps small gone new same remap done rest =
       let left = prot_left mode (pages s.world p) from in
       let long = chain_length s.anons in
       remaps keeps (may_by go.passes s keeps) to go.passes.alive (goes_by s keeps) go.passes.laid
       (both_are (λ n m. StaySmall old.spaces.processes p from n m) go.as_old go.as_new small) gone.spaces gone.anons
       (subst (λ g. HasRemap old g p (after_mremap long p from (pages_of olen) to (pages_of nlen) left (s.areas p))) same
       (both_are (λ n m. HasRemap old gone p (after_mremap long p from n to m left (s.areas p))) go.as_old go.as_new remap))
-      new (subst (λ g. HasRemapped g new s.ledger (remap_events s.ledger p from (pages_of olen) to (pages_of nlen))) same
-      (both_are (λ n m. HasRemapped gone new s.ledger (remap_events s.ledger p from n to m)) go.as_old go.as_new done))
+      new (subst (λ g. HasRemapped d g new s.ledger (remap_events s.ledger p from (pages_of olen) to (pages_of nlen))) same
+      (both_are (λ n m. HasRemapped d gone new s.ledger (remap_events s.ledger p from n to m)) go.as_old go.as_new done))
       (subst (λ g. KeepsRest g new) same rest)
       (tests_are old p a olen nlen mode go.passes.alive s keeps ∙ go.passes.tests (pages s.world p) (have_prots_of old s keeps p))

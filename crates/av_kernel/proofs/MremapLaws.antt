@@ -23,10 +23,10 @@ use Rattle.av_vma.proofs.Mremap.{in_range as range_bounds, is_in_range, out_of_r
 use Rattle.av_vma.proofs.Prots.{area_prot, prots}
 use Rattle.av_anon.specs.declared.anons.Anons.{Anons as AnonSet}
 use Rattle.av_spaces.specs.Spaces.{AllSpaces, areas_of, is_taken, pages_of as areas_on}
+use Rattle.av_plain.specs.Device.{Device}
 use Rattle.av_plain.specs.Areas.{chain_length, rmap_after_all}
 use Rattle.av_plain.specs.Choice.{ChoosesAll}
 use Rattle.av_plain.specs.Covered.{IsRmapSound}
-use Rattle.av_plain.specs.Device.{no_device}
 use Rattle.av_plain.specs.Event.{Moved, after_all}
 use Rattle.av_plain.specs.Fork.{IsRmapNext}
 use Rattle.av_plain.specs.Ledger.{Entry, Ledger, entry, key_cmp}
@@ -47,7 +47,7 @@ use Rattle.av_plain.proofs.Refusal.{MayRemap}
 use Rattle.av_plain.proofs.Transcript.{next-plain}
 use Rattle.av_plain.proofs.World.{pages-set, lives-set, length-set_old}
 use Rattle.av_reclaim.specs.declared.mem.Mem.{Mem}
-use Rattle.av_reclaim.specs.Mem.{HasTables, Keeps, frame_count, setting, view}
+use Rattle.av_reclaim.specs.Mem.{HasTables, Keeps, setting_by, view}
 use Rattle.av_reclaim.specs.Zap.{KeepsRest}
 use Rattle.av_reclaim.proofs.AnonLaws.{anons_stand, are_left, left_of}
 use Rattle.av_reclaim.proofs.MemLaws.{alive_is, lives_is, no_cache, prots_are}
@@ -59,8 +59,10 @@ use Rattle.av_plain.proofs.Mremap.Entries.{came, grew, here_goes, here_stays, le
 use Rattle.av_place.proofs.PlaceLaws.{page_back}
 use Rattle.av_kernel.proofs.ProcessLaws.{at_number}
 use Rattle.av_kernel.proofs.StepLaws.{is_number, kept-on, moved_on, stays_orderly, stepped}
+use Rattle.av_kernel.proofs.Loads.{world_as}
+use Rattle.av_plain.proofs.Load.{events_to-load_nothing}
 
-module _ {old : Mem} {s : State} (keeps : Keeps old s) {p a olen nlen : ℕ} {mode : Mode} (may : MayRemap s.world p a olen nlen mode) (to : ℕ)
+module _ {d : Device} {old : Mem} {s : State} (keeps : Keeps d old s) {p a olen nlen : ℕ} {mode : Mode} (may : MayRemap s.world p a olen nlen mode) (to : ℕ)
     (alive : is_some (areas_of old.spaces.processes p) ≡ true)
     (goes : MovesTo (pages s.world p) (page_of a) (pages_of olen) (pages_of nlen) mode (Some to))
     (laid : AreLaid (areas_on old.spaces.processes p)) where
@@ -198,7 +200,7 @@ module _ {old : Mem} {s : State} (keeps : Keeps old s) {p a olen nlen : ℕ} {mo
     -- the areas have changed, and after them the entries
     module _ (spaces : AllSpaces) (anons : AnonSet)
         (remap : HasRemap old (moved_on old old.tables spaces anons) p (after_mremap (chain_length s.anons) p from n to m left on))
-        (mid : Mem) (done : HasRemapped (moved_on old old.tables spaces anons) mid s.ledger (remap_events s.ledger p from n to m))
+        (mid : Mem) (done : HasRemapped d (moved_on old old.tables spaces anons) mid s.ledger (remap_events s.ledger p from n to m))
         (rest : KeepsRest (moved_on old old.tables spaces anons) mid) where
       abbrev l : Ledger
       l = after_all s.ledger (remap_events s.ledger p from n to m)
@@ -227,7 +229,7 @@ module _ {old : Mem} {s : State} (keeps : Keeps old s) {p a olen nlen : ℕ} {mo
 
       -- no test refuses it
       abbrev IsAllowed : Type 0
-      IsAllowed = refusal (tests (setting (frame_count old)) s.world s.ledger command) ≡ None
+      IsAllowed = refusal (tests (setting_by d old) s.world s.ledger command) ≡ None
 
       abbrev answer : Answer
       answer = MapAt (address_of to)
@@ -253,7 +255,7 @@ module _ {old : Mem} {s : State} (keeps : Keeps old s) {p a olen nlen : ℕ} {mo
               ∙ rmap_after_all-zaps s.ledger (keys_in s.ledger p to m) s.ledger (rmap_of s)
 
       lives_now : lives s.world p ≡ true
-      lives_now = sym (lives_is old s keeps p) ∙ alive
+      lives_now = sym (lives_is d old s keeps p) ∙ alive
 
       page_now : (k page : ℕ) → pages next.world k page ≡ cond (k == p) (now page) (pages s.world k page)
       page_now k page = pages-set s.world p now k page ∙ ap (λ b. cond b (now page) (pages s.world k page)) (at_number k p)
@@ -289,19 +291,19 @@ module _ {old : Mem} {s : State} (keeps : Keeps old s) {p a olen nlen : ℕ} {mo
 
       -- the entry that p's page has now keeps the bytes that it has
       abbrev IsKeptAt : ℕ → Type 0
-      IsKeptAt page = IsKept (view old) no_device s.ledger (entry l (p, page)) (now page)
+      IsKeptAt page = IsKept (view old) d s.ledger (entry l (p, page)) (now page)
 
       -- a page without entry that is zeros, or not mapped
-      bare : (o : Option Prot) (e : Option Entry) → e ≡ None → IsKept (view old) no_device s.ledger e (option_map zeros o)
-      bare None e is = subst (λ e. IsKept (view old) no_device s.ledger e None) (sym is) tt
-      bare (Some prot) e is = subst (λ e. IsKept (view old) no_device s.ledger e (Some (zeros prot))) (sym is) (λ i below. refl)
+      bare : (o : Option Prot) (e : Option Entry) → e ≡ None → IsKept (view old) d s.ledger e (option_map zeros o)
+      bare None e is = subst (λ e. IsKept (view old) d s.ledger e None) (sym is) tt
+      bare (Some prot) e is = subst (λ e. IsKept (view old) d s.ledger e (Some (zeros prot))) (sym is) (λ i below. refl)
 
       carried : (page was : ℕ) → entry l (p, page) ≡ entry s.ledger (p, was) → now page ≡ q was → IsKeptAt page
-      carried page was same is = subst (IsKept (view old) no_device s.ledger (entry l (p, page))) (sym is)
-          (subst (λ e. IsKept (view old) no_device s.ledger e (q was)) (sym same) (keeps.stands.parts.bytes.kept p was))
+      carried page was same is = subst (IsKept (view old) d s.ledger (entry l (p, page))) (sym is)
+          (subst (λ e. IsKept (view old) d s.ledger e (q was)) (sym same) (keeps.stands.parts.bytes.kept p was))
 
       emptied : (page : ℕ) (o : Option Prot) → entry l (p, page) ≡ None → now page ≡ option_map zeros o → IsKeptAt page
-      emptied page o none is = subst (IsKept (view old) no_device s.ledger (entry l (p, page))) (sym is) (bare o (entry l (p, page)) none)
+      emptied page o none is = subst (IsKept (view old) d s.ledger (entry l (p, page))) (sym is) (bare o (entry l (p, page)) none)
 
       -- a page that isn't mapped has no entry
       no_entry : (page : ℕ) → is_some (on page) ≡ false → entry s.ledger (p, page) ≡ None
@@ -375,37 +377,38 @@ module _ {old : Mem} {s : State} (keeps : Keeps old s) {p a olen nlen : ℕ} {mo
             by true here = kept_here here (within to m page) (within from n page) (nat_lt (page - to) n) refl refl refl
             by false there = kept_there there (within to m page) (within from n page) (nat_lt (page - to) n) refl refl refl
 
-      kept_now : (k page : ℕ) → IsKept (view new) no_device l (entry l (k, page)) (pages next.world k page)
+      kept_now : (k page : ℕ) → IsKept (view new) d l (entry l (k, page)) (pages next.world k page)
       kept_now k page =
-          kept-on (view old) (view new) s.ledger l (entry l (k, page)) (pages next.world k page) rest.bytes
+          kept-on d (view old) (view new) s.ledger l (entry l (k, page)) (pages next.world k page) rest.bytes
           (no_cache s.ledger keeps.stands.parts.ledger.swap.finds) (no_cache l done.stands.parts.swap.finds)
-          (subst (IsKept (view old) no_device s.ledger (entry l (k, page))) (sym (page_now k page)) (by (k == p) refl))
+          (subst (IsKept (view old) d s.ledger (entry l (k, page))) (sym (page_now k page)) (by (k == p) refl))
         where
-          by : (b : Bool) → (k == p) ≡ b → IsKept (view old) no_device s.ledger (entry l (k, page)) (cond b (now page) (pages s.world k page))
-          by true same = subst (λ x. IsKept (view old) no_device s.ledger (entry l (x, page)) (now page)) (sym (is_number k p same)) (kept_page page)
-          by false other = subst (λ e. IsKept (view old) no_device s.ledger e (pages s.world k page))
+          by : (b : Bool) → (k == p) ≡ b → IsKept (view old) d s.ledger (entry l (k, page)) (cond b (now page) (pages s.world k page))
+          by true same = subst (λ x. IsKept (view old) d s.ledger (entry l (x, page)) (now page)) (sym (is_number k p same)) (kept_page page)
+          by false other = subst (λ e. IsKept (view old) d s.ledger e (pages s.world k page))
               (sym (of_others s.ledger p from n to m keeps.stands.sound.ledger.in_order k page other)) (keeps.stands.parts.bytes.kept k page)
 
       -- ---- the step
 
-      remap-step : IsAllowed → IsStep (setting (frame_count old)) s command (answer_only answer) next
+      remap-step : IsAllowed → IsStep (setting_by d old) s command (answer_only answer) next
       remap-step allowed =
           let events = remap_events s.ledger p from n to m in
           record {
             events = events;
             legal = record {
-              answer = subst (λ o. MatchOption o (Follows (setting (frame_count old)) s.world s.ledger command events answer [])
+              answer = subst (λ o. MatchOption o (Follows (setting_by d old) s.world s.ledger command events answer [])
                   (λ e. Refuses e events answer []))
                   (sym allowed) (Some to, goes, refl, refl, refl);
               notes = sym done.notes;
             };
-            world = ap (λ x. set_process s.world p (process_after_mremap from n x m left q)) (sym (page_back to));
+            world = ap (λ x. set_process s.world p (process_after_mremap from n x m left q)) (sym (page_back to))
+                ∙ world_as (setting_by d old) s.world s.ledger events command answer (events_to-load_nothing s.ledger p from n m (Some to));
             ledger = refl;
-            free = subst (λ free. ChoosesAll (setting (frame_count old)) None s.ledger events free (free_of (view mid))) keeps.stands.free done.free;
+            free = subst (λ free. ChoosesAll (setting_by d old) None s.ledger events free (free_of (view mid))) keeps.stands.free done.free;
             rmap = subst (λ r. IsRmapNext r s.world command answer (rmap_of next)) (sym silent)
                 (next-plain (rmap_of s) s.world command answer (rmap_of next) refl (record {
                   areas = ap (λ x. with_at p (after_mremap (chain_length s.anons) p from n x m left on) s.areas) (sym (page_back to));
-                  anons = are_left old s keeps spaces anons remap.anons next.areas areas_now;
+                  anons = are_left d old s keeps spaces anons remap.anons next.areas areas_now;
                   homes = refl;
                 }));
             shows = tt;
@@ -413,14 +416,14 @@ module _ {old : Mem} {s : State} (keeps : Keeps old s) {p a olen nlen : ℕ} {mo
 
       reach_now : IsRmapSound l (rmap_of next)
       reach_now = sound-remapped s.ledger p from n to m left (rmap_of s) (rmap_of next) keeps.stands.sound.ledger.in_order laid_on becomes_on refl
-          (are_left old s keeps spaces anons remap.anons next.areas areas_now) refl keeps.stands.reach
+          (are_left d old s keeps spaces anons remap.anons next.areas areas_now) refl keeps.stands.reach
 
-      steps : IsAllowed → MemSteps old new s command (answer_only answer)
+      steps : IsAllowed → MemSteps d old new s command (answer_only answer)
       steps allowed = stepped old new s next command (answer_only answer) keeps (remap-step allowed) rest.count
-          (stays_orderly mid mid.tables spaces anons l refl done.stands) refl areas_now
-          (anons_stand old s keeps spaces anons remap.anons next.areas areas_now new refl refl)
+          (stays_orderly d mid mid.tables spaces anons l refl done.stands) refl areas_now
+          (anons_stand d old s keeps spaces anons remap.anons next.areas areas_now new refl refl)
           (λ f. ap (λ h. h f) rest.homes ∙ keeps.stands.homes f) reach_now remap.anons.fit areas_stand tables_now kept_now
 
-      pub remaps : IsAllowed → MemSteps old mid s command (answer_only answer)
-      remaps allowed = subst (λ k. MemSteps old k s command (answer_only answer))
-          (λ i. record { frames = mid.frames; tables = mid.tables; spaces = (sym rest.spaces) i; anons = (sym rest.anons) i }) (steps allowed)
+      pub remaps : IsAllowed → MemSteps d old mid s command (answer_only answer)
+      remaps allowed = subst (λ k. MemSteps d old k s command (answer_only answer))
+          (λ i. record mid { spaces = (sym rest.spaces) i; anons = (sym rest.anons) i }) (steps allowed)

@@ -10,6 +10,7 @@ use Rattle.av_trace.specs.declared.reply.Answer.TheVariants.{Refused}
 use Rattle.av_trace.specs.declared.reply.Errno.{Errno}
 use Rattle.av_trace.specs.declared.reply.Errno.TheVariants.{Enomem, Esrch}
 use Rattle.av_spaces.specs.Spaces.{areas_of, pages_of as areas_on}
+use Rattle.av_plain.specs.Device.{Device}
 use Rattle.av_plain.specs.Areas.{HaveProtsOf}
 use Rattle.av_plain.specs.Mremap.{MovesTo}
 use Rattle.av_plain.specs.Refusal.{Refuses, mremap_tests, refusal, tests}
@@ -17,16 +18,17 @@ use Rattle.av_plain.specs.Step.{Follows}
 use Rattle.av_plain.specs.Transcript.{State}
 use Rattle.av_plain.specs.World.{Process, pages}
 use Rattle.av_reclaim.specs.declared.mem.Mem.{Mem}
-use Rattle.av_reclaim.specs.Mem.{Keeps, frame_count, setting}
+use Rattle.av_reclaim.specs.Mem.{Keeps, setting_by}
 use Rattle.av_reclaim.proofs.MemLaws.{lives_is, prots_are}
 use Rattle.av_kernel.specs.declared.refusal.Refusal.TheVariants as refusals
 use Rattle.av_place.specs.Mremap.{IsTarget}
 use Rattle.av_kernel.specs.Step.{Does, MemSteps}
 use Rattle.av_kernel.proofs.StepLaws.{areas_kept, dead_first, refuses}
-
+use Rattle.av_kernel.proofs.Loads.{world_as}
 -- the pages of a process have the protections of its areas
-pub have_prots_of : (old : Mem) (s : State) → Keeps old s → (p : ℕ) → HaveProtsOf (areas_on old.spaces.processes p) (pages s.world p)
-have_prots_of old s keeps p page = sym (prots_are old.spaces.processes p page) ∙ keeps.stands.parts.areas.covers p page
+
+pub have_prots_of : {d : Device} (old : Mem) (s : State) → Keeps d old s → (p : ℕ) → HaveProtsOf (areas_on old.spaces.processes p) (pages s.world p)
+have_prots_of {d} old s keeps p page = sym (prots_are old.spaces.processes p page) ∙ keeps.stands.parts.areas.covers p page
 
 module _ (old : Mem) (p a olen nlen : ℕ) (mode : Mode) where
   abbrev command : Command
@@ -34,35 +36,35 @@ module _ (old : Mem) (p a olen nlen : ℕ) (mode : Mode) where
 
   -- what is refused where no process lives
   pub dead_does : is_some (areas_of old.spaces.processes p) ≡ false → Does old old command (Err (refusals.Refused Esrch))
-  dead_does dead = refuses old command Esrch (λ s keeps. dead_first old s p (refusal (mremap_tests (pages s.world p) a olen nlen mode)) keeps dead)
+  dead_does dead = refuses old command Esrch (λ d s keeps. dead_first old s p (refusal (mremap_tests (pages s.world p) a olen nlen mode)) keeps dead)
 
   module _ (alive : is_some (areas_of old.spaces.processes p) ≡ true) where
     -- the process lives, so the other tests decide
-    pub tests_are : (s : State) → Keeps old s
-        → refusal (tests (setting (frame_count old)) s.world s.ledger command) ≡ refusal (mremap_tests (pages s.world p) a olen nlen mode)
-    tests_are s keeps = ap (λ b. cond (not b) (Some Esrch) (refusal (mremap_tests (pages s.world p) a olen nlen mode)))
-        (sym (lives_is old s keeps p) ∙ alive)
+    pub tests_are : {d : Device} (s : State) → Keeps d old s
+        → refusal (tests (setting_by d old) s.world s.ledger command) ≡ refusal (mremap_tests (pages s.world p) a olen nlen mode)
+    tests_are {d} s keeps = ap (λ b. cond (not b) (Some Esrch) (refusal (mremap_tests (pages s.world p) a olen nlen mode)))
+        (sym (lives_is d old s keeps p) ∙ alive)
 
     -- one of them refuses it
     pub refused_does : (error : Errno)
         → ((q : Process) → HaveProtsOf (areas_on old.spaces.processes p) q → refusal (mremap_tests q a olen nlen mode) ≡ Some error)
         → Does old old command (Err (refusals.Refused error))
-    refused_does error is = refuses old command error (λ s keeps. tests_are s keeps ∙ is (pages s.world p) (have_prots_of old s keeps p))
+    refused_does error is = refuses old command error (λ d s keeps. tests_are s keeps ∙ is (pages s.world p) (have_prots_of old s keeps p))
 
     -- none does, but there is no room
-    no_room : (s : State) → Keeps old s → refusal (mremap_tests (pages s.world p) a olen nlen mode) ≡ None
+    no_room : {d : Device} (s : State) → Keeps d old s → refusal (mremap_tests (pages s.world p) a olen nlen mode) ≡ None
         → MovesTo (pages s.world p) (page_of a) (pages_of olen) (pages_of nlen) mode None
-        → MemSteps old old s command (answer_only (Refused Enomem))
-    no_room s keeps passed goes = record {
+        → MemSteps d old old s command (answer_only (Refused Enomem))
+    no_room {d} s keeps passed goes = record {
       next = s;
       step = record {
         events = [];
         legal = record {
-          answer = subst (λ o. MatchOption o (Follows (setting (frame_count old)) s.world s.ledger command [] (Refused Enomem) [])
+          answer = subst (λ o. MatchOption o (Follows (setting_by d old) s.world s.ledger command [] (Refused Enomem) [])
               (λ e. Refuses e [] (Refused Enomem) [])) (sym (tests_are s keeps ∙ passed)) (None, goes, refl, refl, refl);
           notes = refl;
         };
-        world = refl;
+        world = world_as (setting_by d old) s.world s.ledger [] command (Refused Enomem) refl;
         ledger = refl;
         free = refl;
         rmap = areas_kept old s command (Refused Enomem) keeps refl;
@@ -75,10 +77,10 @@ module _ (old : Mem) (p a olen nlen : ℕ) (mode : Mode) where
         → ((q : Process) → HaveProtsOf (areas_on old.spaces.processes p) q → IsTarget q (page_of a) (pages_of olen) (pages_of nlen) mode (Err error))
         → Does old old command (Err (refusals.Refused error))
     no_room_does error passed none = record {
-      step = λ s keeps.
+      step = λ d s keeps.
           let same = have_prots_of old s keeps p in
           let room = none (pages s.world p) same in
-          subst (λ e. MemSteps old old s command (answer_only (Refused e))) (sym room.1)
+          subst (λ e. MemSteps d old old s command (answer_only (Refused e))) (sym room.1)
           (no_room s keeps (passed (pages s.world p) same) room.0);
       count = refl;
     }

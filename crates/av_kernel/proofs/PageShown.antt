@@ -4,10 +4,10 @@ use Rattle.std.proofs.lemmas.List.{get_or-take, get_or-drop, get_or-replicate, l
 use Rattle.std.specs.Prelude.{IfSome, option_and_then}
 use Rattle.std.specs.List.{AllByRecursion}
 use Rattle.av_trace.specs.declared.note.Note.{Note}
+use Rattle.av_plain.specs.Device.{Device}
 use Rattle.av_plain.specs.World.{Process, Page, pages, byte_at, Shows}
 use Rattle.av_plain.specs.Event.{after_all}
 use Rattle.av_plain.specs.Access.{page_events}
-use Rattle.av_plain.specs.Device.{no_device}
 use Rattle.av_plain.specs.Stands.{Holds, IsKept}
 use Rattle.av_plain.specs.Transcript.{State}
 use Rattle.av_reclaim.specs.declared.mem.Mem.{Mem}
@@ -57,13 +57,13 @@ all_zeros (suc n) = (omega arith, all_zeros n)
 
 module _ (s : State) (new : Mem) (p page at n : ℕ) (before now : List Note) (fits : at + n ≤ 4096) where
   -- from a frame's bytes
-  pub frame_shown : (f : ℕ) (bytes shown shown' : List ℕ) → IsTouched s new false (p, page) before now (Ready f) → length bytes ≡ 4096 →
+  pub frame_shown : {d : Device} (f : ℕ) (bytes shown shown' : List ℕ) → IsTouched d s new false (p, page) before now (Ready f) → length bytes ≡ 4096 →
       ((i : ℕ) → get_or bytes i 0 ≡ (view new).bytes f i)
       → shown' ≡ shown ++ take (at + n - at) (drop at bytes) → AllByRecursion (λ b. b < 2 ^ 8) (take (at + n - at) (drop at bytes)) →
       ShowsPiece s.world p page at n shown shown' None
-  frame_shown f bytes shown shown' t long are is below =
+  frame_shown {d} f bytes shown shown' t long are is below =
       let l = after_all s.ledger (page_events false (p, page) t.added None) in
-      let holds : Holds (pages s.world p page) ((view new).bytes f) = subst (λ e. IsKept (view new) no_device l e (pages s.world p page)) t.ready.0
+      let holds : Holds (pages s.world p page) ((view new).bytes f) = subst (λ e. IsKept (view new) d l e (pages s.world p page)) t.ready.0
       (t.parts.parts.bytes.kept p page) in
       let size : length (take (at + n - at) (drop at bytes)) ≡ n = length-take-le (at + n - at) (drop at bytes)
       (enough (length (drop at bytes)) (length-drop at bytes) long) ∙ rest in (
@@ -82,11 +82,11 @@ module _ (s : State) (new : Mem) (p page at n : ℕ) (before now : List Note) (f
       enough k e long = omega (arith, e, long, fits)
 
   -- from the page of zeros
-  pub zeros_shown : (shown shown' : List ℕ) → IsTouched s new false (p, page) before now Zeros → shown' ≡ shown ++ replicate n 0 →
+  pub zeros_shown : {d : Device} (shown shown' : List ℕ) → IsTouched d s new false (p, page) before now Zeros → shown' ≡ shown ++ replicate n 0 →
       ShowsPiece s.world p page at n shown shown' None
-  zeros_shown shown shown' t is =
+  zeros_shown {d} shown shown' t is =
       let l = after_all s.ledger (page_events false (p, page) t.added None) in
-      let holds : Holds (pages s.world p page) (λ _. 0) = subst (λ e. IsKept (view new) no_device l e (pages s.world p page)) t.ready.0
+      let holds : Holds (pages s.world p page) (λ _. 0) = subst (λ e. IsKept (view new) d l e (pages s.world p page)) t.ready.0
       (t.parts.parts.bytes.kept p page) in
       let size : length (replicate {A = ℕ} n 0) ≡ n = length-replicate n 0 in (
         replicate n 0,

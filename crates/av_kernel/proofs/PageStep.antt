@@ -9,6 +9,8 @@ use Rattle.av_trace.specs.declared.reply.Errno.TheVariants.{Esrch}
 use Rattle.av_trace.specs.declared.reply.Answer.TheVariants.{Done}
 use Rattle.av_trace.specs.declared.command.Command.TheVariants.{Write}
 use Rattle.av_pagetable.specs.Entries.{entry_at, has}
+use Rattle.av_lru.specs.Lists.{Lists}
+use Rattle.av_plain.specs.Device.{Device, setting_of}
 use Rattle.av_plain.specs.World.{World, lives, pages, with_bytes, set_process}
 use Rattle.av_base.specs.Page.{page_of, pages_of}
 use Rattle.av_plain.specs.Ledger.{Ledger, Setting, InFrame, map_count, names_frame}
@@ -36,16 +38,16 @@ use Rattle.av_reclaim.specs.declared.mem.Mem.{Mem}
 use Rattle.av_fault.specs.declared.fault.Stop.{Stop}
 use Rattle.av_fault.specs.declared.fault.Touched.{Touched}
 use Rattle.av_fault.specs.declared.fault.Touched.TheVariants.{Ready, Stopped}
-use Rattle.av_reclaim.specs.Mem.{anons_of, ranges_of, setting, frame_count, plain, view, view_of_parts, Keeps, KeepsWithin}
+use Rattle.av_reclaim.specs.Mem.{anons_of, ranges_of, setting_by, frame_count, plain, view, view_of_parts, Keeps, KeepsWithin}
 use Rattle.av_fault.specs.Fault.{HasRmap, IsTouched, end_of, stop_of}
 use Rattle.av_kernel.specs.Page.{IsPageStep, world_after}
 use Rattle.av_fault.proofs.FaultParts.{Parts, of_stand, to_stand}
 use Rattle.av_fault.proofs.FaultTouched.{anons_still}
 use Rattle.av_kernel.proofs.PageWritten.{over, written_now, stored_is}
-
+use Rattle.av_kernel.proofs.Loads.{accesses-load_nothing, world_as}
 -- ---- soundness
-
 -- the page of a piece that ends within it
+
 one_page : (write : Bool) (page at n : ℕ) → 1 ≤ n → at + n ≤ 4096 → pages_of_access write (4096 * page + at) n ≡ (write, page) ∷ []
 one_page write page at n some fits =
     ap (λ k. map (λ page. (write, page)) (range_with_len (page_of (4096 * page + at)) k)) (not_none ∙ one) ∙ ap (λ q. (write, q) ∷ [])
@@ -85,65 +87,69 @@ sound_touched m w l write p page notes end s h =
       areas_fit = areas.fits;
     }
 
-sound_written : (n : ℕ) (w : World) (l : Ledger) (p page at : ℕ) (piece : List ℕ) (notes : List Note) → AllSound (setting n) w l → lives w p ≡ true →
+sound_written : (d : Device) (n : ℕ) (w : World) (l : Ledger) (p page at : ℕ) (piece : List ℕ) (notes : List Note) → AllSound (setting_of n d) w l → l.on ≡ [] → lives w p ≡ true →
     1 ≤ length piece → at + length piece ≤ 4096
-    → Touches (setting n) w l true (p, page) notes None → AllSound (setting n) (after_write w p (4096 * page + at) piece)
+    → Touches (setting_of n d) w l true (p, page) notes None → AllSound (setting_of n d) (after_write w p (4096 * page + at) piece)
     (after_all l (page_events true (p, page) notes None))
-sound_written n w l p page at piece notes s alive some fits h =
-    follows-sound (setting n) w l (Write p (4096 * page + at) piece) (page_events true (p, page) notes None) Done [] s
+sound_written d n w l p page at piece notes s off alive some fits h =
+    subst (λ w. AllSound (setting_of n d) w (after_all l (page_events true (p, page) notes None)))
+    (sym (world_as (setting_of n d) w l (page_events true (p, page) notes None) (Write p (4096 * page + at) piece) Done
+    (accesses-load_nothing (setting_of n d) w l p off s ((true, page) ∷ []) (page_events true (p, page) notes None) Whole (accessed (setting_of n d) w l true p page notes None h))))
+    (follows-sound (setting_of n d) w l (Write p (4096 * page + at) piece) (page_events true (p, page) notes None) Done [] s
     (ap (λ b. cond (not b) (Some Esrch) None) alive) (
       Whole,
-      subst (λ ps. Accesses (setting n) w l p ps (page_events true (p, page) notes None) Whole) (sym (one_page true page at (length piece) some fits))
-          (accessed (setting n) w l true p page notes None h),
+      subst (λ ps. Accesses (setting_of n d) w l p ps (page_events true (p, page) notes None) Whole) (sym (one_page true page at (length piece) some fits))
+          (accessed (setting_of n d) w l true p page notes None h),
       refl,
       refl,
-    )
+    ))
 
 -- ---- the kernel
 
-pub keeps_now : (k : Mem) (w : World) (l : Ledger) (r : Rmap) → KeepsWithin k w l → AllSound (setting (frame_count k)) w l →
-    ListsFree (setting (frame_count k)) l (view k).free → HasRmap k r → IsRmapSound l r
-    → Keeps k (record { world = w; ledger = l; free = free_of (view k); areas = r.areas; anons = r.anons; homes = r.homes })
-keeps_now k w l r h sound free rmap reach = record {
+pub keeps_now : {d : Device} (k : Mem) (w : World) (l : Ledger) (r : Rmap) → KeepsWithin d k w l → AllSound (setting_by d k) w l →
+    ListsFree (setting_by d k) l (view k).free → HasRmap k r → IsRmapSound l r
+    → Keeps d k (record { world = w; ledger = l; free = free_of (view k); areas = r.areas; anons = r.anons; homes = r.homes })
+keeps_now {d} k w l r h sound free rmap reach = record {
   stands = record {
     over = record { sizes = refl; headers = refl };
     sound = sound;
     parts = h.parts;
     free = refl;
-    lists = listed k (setting (frame_count k)) l (view k).free h.parts.ledger.swap free;
+    lists = listed k (setting_by d k) l (view k).free h.parts.ledger.swap free;
     areas = rmap.areas;
     anons = rmap.anons;
     homes = rmap.homes;
     reach = reach;
   };
+  lists = h.lists;
   anons = h.anons;
   tables = h.tables;
 }
 
-module _ (s : State) (old : Mem) (p page at : ℕ) (piece : List ℕ) (before now : List Note) (keeps : Keeps old s) where
+module _ {d : Device} (s : State) (old : Mem) (p page at : ℕ) (piece : List ℕ) (before now : List Note) (keeps : Keeps d old s) where
   -- the frame of a page that is ready is one of the machine's
-  pub frame_below : (new : Mem) (write : Bool) (f : ℕ) → frame_count new ≡ frame_count old → IsTouched s new write (p, page) before now (Ready f) → f <
+  pub frame_below : (new : Mem) (write : Bool) (f : ℕ) → frame_count new ≡ frame_count old → IsTouched d s new write (p, page) before now (Ready f) → f <
       frame_count new
   frame_below new write f same t =
       let l = after_all s.ledger (page_events write (p, page) t.added None) in
-      let sound = sound_touched (setting (frame_count new)) s.world s.ledger write p page t.added None
-      (subst (λ n. AllSound (setting n) s.world s.ledger) (sym same) keeps.stands.sound) t.touches in
+      let sound = sound_touched (setting_by d new) s.world s.ledger write p page t.added None
+      (subst (λ n. AllSound (setting_of n d) s.world s.ledger) (sym same) keeps.stands.sound) t.touches in
       let some : 0 < map_count l f = how_many-found (names_frame f) (p, page) l.entries (InFrame f true) t.ready.0 (itself f) in
       sound.ledger.in_range f (omega (arith, some))
 
   -- what is free then is what the ledger has free
   free_listed : (n : ℕ) (write : Bool) (added : List Note) (end : Option faults.Stop) (free : Free) → frame_count old ≡ n →
-      Touches (setting n) s.world s.ledger write (p, page) added end
-      → ChoosesAll (setting n) None s.ledger (page_events write (p, page) added end) s.free free →
-      ListsFree (setting n) (after_all s.ledger (page_events write (p, page) added end)) free.frames
+      Touches (setting_of n d) s.world s.ledger write (p, page) added end
+      → ChoosesAll (setting_of n d) None s.ledger (page_events write (p, page) added end) s.free free →
+      ListsFree (setting_of n d) (after_all s.ledger (page_events write (p, page) added end)) free.frames
   free_listed n write added end free same touches chosen =
-      page-lists_free (setting n) s.world s.ledger write (p, page) added end None s.free free
-      (subst (λ n. AllSound (setting n) s.world s.ledger) same keeps.stands.sound).ledger touches chosen
-      (subst (λ n. ListsFree (setting n) s.ledger s.free.frames) same keeps.stands.lists.frames)
+      page-lists_free (setting_of n d) s.world s.ledger write (p, page) added end None s.free free
+      (subst (λ n. AllSound (setting_of n d) s.world s.ledger) same keeps.stands.sound).ledger touches chosen
+      (subst (λ n. ListsFree (setting_of n d) s.ledger s.free.frames) same keeps.stands.lists.frames)
 
   -- it was not served
-  pub stopped : (new : Mem) (write : Bool) (stop : Stop) → frame_count new ≡ frame_count old → IsTouched s new write (p, page) before now (Stopped stop) →
-      IsPageStep s new write p page at piece before now (Some stop)
+  pub stopped : (new : Mem) (write : Bool) (stop : Stop) → frame_count new ≡ frame_count old → IsTouched d s new write (p, page) before now (Stopped stop) →
+      IsPageStep d s new write p page at piece before now (Some stop)
   stopped new write stop same t =
       let rs : Rmap = rmap_after_all s.ledger (page_events write (p, page) t.added (Some (stop_of stop))) (rmap_of s) in record {
         added = t.added;
@@ -162,8 +168,8 @@ module _ (s : State) (old : Mem) (p page at : ℕ) (piece : List ℕ) (before no
         free = t.free;
         rmap = refl;
         keeps = keeps_now new s.world (after_all s.ledger (page_events write (p, page) t.added (Some (stop_of stop)))) rs t.parts
-            (sound_touched (setting (frame_count new)) s.world s.ledger write p page t.added (Some (stop_of stop))
-            (subst (λ n. AllSound (setting n) s.world s.ledger) (sym same) keeps.stands.sound) t.touches)
+            (sound_touched (setting_by d new) s.world s.ledger write p page t.added (Some (stop_of stop))
+            (subst (λ n. AllSound (setting_of n d) s.world s.ledger) (sym same) keeps.stands.sound) t.touches)
             (free_listed (frame_count new) write t.added (Some (stop_of stop)) (free_of (view new)) (sym same) t.touches t.free) t.rmap t.reach;
       }
     where
@@ -172,18 +178,18 @@ module _ (s : State) (old : Mem) (p page at : ℕ) (piece : List ℕ) (before no
       world_is false = refl
 
   -- it was served to a read
-  pub read_served : (new : Mem) (ready : Touched) → frame_count new ≡ frame_count old → end_of ready ≡ None → IsTouched s new false (p, page) before now ready →
-      IsPageStep s new false p page at piece before now None
+  pub read_served : (new : Mem) (ready : Touched) → frame_count new ≡ frame_count old → end_of ready ≡ None → IsTouched d s new false (p, page) before now ready →
+      IsPageStep d s new false p page at piece before now None
   read_served new ready same served t =
-      let touches : Touches (setting (frame_count new)) s.world s.ledger false (p, page) t.added None =
-      subst (Touches (setting (frame_count new)) s.world s.ledger false (p, page) t.added) served t.touches in
+      let touches : Touches (setting_by d new) s.world s.ledger false (p, page) t.added None =
+      subst (Touches (setting_by d new) s.world s.ledger false (p, page) t.added) served t.touches in
       let after = ap (λ end. after_all s.ledger (page_events false (p, page) t.added end)) served in
       let rs : Rmap = rmap_after_all s.ledger (page_events false (p, page) t.added None) (rmap_of s) in
       let rmap : HasRmap new rs = subst (λ end. HasRmap new (rmap_after_all s.ledger (page_events false (p, page) t.added end) (rmap_of s))) served t.rmap in
       let reach : IsRmapSound (after_all s.ledger (page_events false (p, page) t.added None)) rs =
       subst (λ end. IsRmapSound (after_all s.ledger (page_events false (p, page) t.added end))
       (rmap_after_all s.ledger (page_events false (p, page) t.added end) (rmap_of s))) served t.reach in
-      let chosen = subst (λ end. ChoosesAll (setting (frame_count new)) None s.ledger (page_events false (p, page) t.added end) s.free (free_of (view new)))
+      let chosen = subst (λ end. ChoosesAll (setting_by d new) None s.ledger (page_events false (p, page) t.added end) s.free (free_of (view new)))
       served t.free in
       record {
         added = t.added;
@@ -201,34 +207,34 @@ module _ (s : State) (old : Mem) (p page at : ℕ) (piece : List ℕ) (before no
         ledger = refl;
         free = chosen;
         rmap = refl;
-        keeps = keeps_now new s.world (after_all s.ledger (page_events false (p, page) t.added None)) rs (subst (KeepsWithin new s.world) after t.parts)
-            (sound_touched (setting (frame_count new)) s.world s.ledger false p page t.added None
-            (subst (λ n. AllSound (setting n) s.world s.ledger) (sym same) keeps.stands.sound) touches)
+        keeps = keeps_now new s.world (after_all s.ledger (page_events false (p, page) t.added None)) rs (subst (KeepsWithin d new s.world) after t.parts)
+            (sound_touched (setting_by d new) s.world s.ledger false p page t.added None
+            (subst (λ n. AllSound (setting_of n d) s.world s.ledger) (sym same) keeps.stands.sound) touches)
             (free_listed (frame_count new) false t.added None (free_of (view new)) (sym same) touches chosen) rmap reach;
       }
 
   -- it was served to a write, and then the piece was laid over the frame's bytes
   pub written_served : (mid new : Mem) (f : ℕ) → frame_count mid ≡ frame_count old → lives s.world p ≡ true → 1 ≤ length piece → at + length piece ≤ 4096 →
-      IsTouched s mid true (p, page) before now (Ready f)
+      IsTouched d s mid true (p, page) before now (Ready f)
       → shown new.frames ≡ record (shown mid.frames) { bytes = with_at f (overlaid at piece ((shown mid.frames).bytes f)) (shown mid.frames).bytes } →
-      new.tables ≡ mid.tables → new.spaces ≡ mid.spaces → new.anons ≡ mid.anons
-      → IsPageStep s new true p page at piece before now None
-  written_served mid new f same alive some fits t frames tables spaces anons =
+      new.lists ≡ mid.lists → new.tables ≡ mid.tables → new.spaces ≡ mid.spaces → new.anons ≡ mid.anons
+      → IsPageStep d s new true p page at piece before now None
+  written_served mid new f same alive some fits t frames lists tables spaces anons =
       let l = after_all s.ledger (page_events true (p, page) t.added None) in
       let rs : Rmap = rmap_after_all s.ledger (page_events true (p, page) t.added None) (rmap_of s) in
-      let m = setting (frame_count mid) in
-      let view_is : view new ≡ over f at piece (view mid) = λ i. view_of_parts (frames i) (λ q o. plain (entry_at (tables i) q o)) (spaces i) (anons i) in
-      let sound = sound_written (frame_count mid) s.world s.ledger p page at piece t.added
-      (subst (λ n. AllSound (setting n) s.world s.ledger) (sym same) keeps.stands.sound) alive some fits t.touches in
-      let parts = written_now m (view mid) s.world l p page f true at piece (of_stand mid s.world l t.parts) keeps.stands.sound.world alive
+      let m = setting_by d mid in
+      let view_is : view new ≡ over f at piece (view mid) = λ i. view_of_parts (frames i) (lists i) (λ q o. plain (entry_at (tables i) q o)) (spaces i) (anons i) in
+      let sound = sound_written d (frame_count mid) s.world s.ledger p page at piece t.added
+      (subst (λ n. AllSound (setting_of n d) s.world s.ledger) (sym same) keeps.stands.sound) (sym keeps.stands.parts.ledger.swap.on) alive some fits t.touches in
+      let parts = written_now d m (view mid) s.world l p page f true at piece (of_stand d mid s.world l t.parts) keeps.stands.sound.world alive
       t.ready.0 (t.ready.1 refl) fits in
-      let parts' : Parts m (view new) (after_write s.world p (4096 * page + at) piece) l =
-      subst (λ w. Parts m (view new) w l) (sym (stored_is s.world p (4096 * page + at) piece some))
-      (subst (λ v. Parts m v (set_process s.world p (with_bytes (pages s.world p) (4096 * page + at) piece)) l) (sym view_is) parts) in
+      let parts' : Parts d m (view new) (after_write s.world p (4096 * page + at) piece) l =
+      subst (λ w. Parts d m (view new) w l) (sym (stored_is s.world p (4096 * page + at) piece some))
+      (subst (λ v. Parts d m v (set_process s.world p (with_bytes (pages s.world p) (4096 * page + at) piece)) l) (sym view_is) parts) in
       let count_is : frame_count mid ≡ frame_count new = sym (ap (λ (s : Shown). s.count) frames) in
-      let touches = subst (λ n. Touches (setting n) s.world s.ledger true (p, page) t.added None) count_is t.touches in
-      let chosen = subst (λ n. ChoosesAll (setting n) None s.ledger (page_events true (p, page) t.added None) s.free (free_of (view new))) count_is
-      (subst (ChoosesAll (setting (frame_count mid)) None s.ledger (page_events true (p, page) t.added None) s.free)
+      let touches = subst (λ n. Touches (setting_of n d) s.world s.ledger true (p, page) t.added None) count_is t.touches in
+      let chosen = subst (λ n. ChoosesAll (setting_of n d) None s.ledger (page_events true (p, page) t.added None) s.free (free_of (view new))) count_is
+      (subst (ChoosesAll (setting_by d mid) None s.ledger (page_events true (p, page) t.added None) s.free)
       (sym (ap (λ (s : Shown). frames_free s.free) frames)) t.free) in
       record {
         added = t.added;
@@ -247,11 +253,12 @@ module _ (s : State) (old : Mem) (p page at : ℕ) (piece : List ℕ) (before no
         free = chosen;
         rmap = refl;
         keeps = keeps_now new (after_write s.world p (4096 * page + at) piece) l rs
-            (to_stand new (after_write s.world p (4096 * page + at) piece) l
-            (subst (λ n. Parts (setting n) (view new) (after_write s.world p (4096 * page + at) piece) l) count_is parts')
+            (to_stand d new (after_write s.world p (4096 * page + at) piece) l
+            (subst (λ n. Parts d (setting_of n d) (view new) (after_write s.world p (4096 * page + at) piece) l) count_is parts')
+            (ap (λ (ls : Lists). ls.frames) lists ∙ t.parts.lists ∙ count_is)
             (λ q. ap (λ t. has t q) tables ∙ t.parts.tables q ∙ sym (ap (λ (x : AllSpaces). is_some (ranges_of x.processes q)) spaces))
             (subst (λ x. AnonsFit x new.anons) (sym spaces) (subst (AnonsFit mid.spaces) (sym anons) t.parts.anons)))
-            (subst (λ n. AllSound (setting n) (after_write s.world p (4096 * page + at) piece) l) count_is sound)
+            (subst (λ n. AllSound (setting_of n d) (after_write s.world p (4096 * page + at) piece) l) count_is sound)
             (free_listed (frame_count new) true t.added None (free_of (view new)) (sym same ∙ count_is) touches chosen)
             (record {
               areas = λ q o. ap (λ (x : AllSpaces). areas_on x.processes q o) spaces ∙ t.rmap.areas q o;

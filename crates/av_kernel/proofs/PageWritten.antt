@@ -6,11 +6,11 @@ use Rattle.std.specs.Prelude.{IfSome}
 use Rattle.std.specs.Ordering.{nat_cmp, eq_by_cmp}
 use Rattle.av_base.specs.Words.{within, with_at}
 use Rattle.av_frames.specs.Store.{overlaid}
+use Rattle.av_plain.specs.Device.{Device}
 use Rattle.av_plain.specs.World.{World, Process, Page, pages, lives, with_bytes, set_process}
 use Rattle.av_plain.specs.Ledger.{Ledger, Setting, Key, Entry, Zero, InFrame, InSlot, entry, map_count, frame_at}
 use Rattle.av_plain.specs.Access.{after_write}
 use Rattle.av_plain.specs.Sound.{IsTidy}
-use Rattle.av_plain.specs.Device.{no_device}
 use Rattle.av_plain.specs.Stands.{View, Holds, IsKept, IsKeptAt, AreasStand, BytesStand}
 use Rattle.av_plain.proofs.Ledger.{same_key, same_key-is, same_key-itself, only_one}
 use Rattle.av_plain.proofs.World.{pages-set, lives-set, length-set_old}
@@ -98,8 +98,8 @@ pub stored_is : (w : World) (p a : ℕ) (piece : List ℕ) → 1 ≤ length piec
 stored_is w p a [] some = absurd (omega (arith, some))
 stored_is w p a (b ∷ piece) some = refl
 
-module _ (m : Setting) (v : View) (w : World) (l : Ledger) (p page f : ℕ) (was : Bool) (start : ℕ) (piece : List ℕ)
-    (parts : Parts m v w l) (tidy : IsTidy w) (alive : lives w p ≡ true)
+module _ (d : Device) (m : Setting) (v : View) (w : World) (l : Ledger) (p page f : ℕ) (was : Bool) (start : ℕ) (piece : List ℕ)
+    (parts : Parts d m v w l) (tidy : IsTidy w) (alive : lives w p ≡ true)
     (named : entry l (p, page) ≡ Some (InFrame f was)) (few : map_count l f ≤ 1) (fits : start + length piece ≤ 4096) where
   new_process : Process
   new_process = with_bytes (pages w p) (4096 * page + start) piece
@@ -125,8 +125,8 @@ module _ (m : Setting) (v : View) (w : World) (l : Ledger) (p page f : ℕ) (was
       lives_as q false e = refl
 
   -- the bytes of an entry that is not this one
-  others : (q o : ℕ) (x : Option Page) (e : Option Entry) → entry l (q, o) ≡ e → same_key (q, o) (p, page) ≡ false → IsKept v no_device l e x →
-      IsKept (over f start piece v) no_device l e x
+  others : (q o : ℕ) (x : Option Page) (e : Option Entry) → entry l (q, o) ≡ e → same_key (q, o) (p, page) ≡ false → IsKept v d l e x →
+      IsKept (over f start piece v) d l e x
   others q o x None is ne h = h
   others q o x (Some Zero) is ne h = h
   others q o x (Some (InFrame g seen)) is ne h = subst (Holds x) (sym (ap (λ b. cond b (overlaid start piece (v.bytes f)) (v.bytes g)) (apart (g == f) refl))) h
@@ -136,7 +136,7 @@ module _ (m : Setting) (v : View) (w : World) (l : Ledger) (p page f : ℕ) (was
       apart true e = let same : g ≡ f = grind (arith, nat_tests) in
           absurd (false≢true (sym ne ∙ only_one l f (p, page) (q, o) (InFrame f was) (InFrame g seen) parts.in_order few named (itself f) is
           (ap (λ x. f == x) same ∙ itself f)))
-  others q o x (Some (InSlot s)) is ne h = slot_kept v (over f start piece v) s x (frame_at l s) (frame_at l s) (no_frame_at l s parts.cache)
+  others q o x (Some (InSlot s)) is ne h = slot_kept d v (over f start piece v) s x (frame_at l s) (frame_at l s) (no_frame_at l s parts.cache)
       (no_frame_at l s parts.cache) h
 
   keep_else : (o : ℕ) → o ≢ page → (at : ℕ → ℕ) → Holds (pages w p o) at → Holds (with_bytes (pages w p) (4096 * page + start) piece o) at
@@ -144,30 +144,35 @@ module _ (m : Setting) (v : View) (w : World) (l : Ledger) (p page f : ℕ) (was
       (λ i below. sym (ap (λ b. cond b (slice_index piece (4096 * o + i - (4096 * page + start))) (at i))
       (elsewhere page o start (length piece) i fits below ne)))
 
-  world_else : (q o : ℕ) (e : Option Entry) → same_key (q, o) (p, page) ≡ false → IsKept (over f start piece v) no_device l e (pages w q o)
-      → IsKept (over f start piece v) no_device l e (pages (set_process w p (with_bytes (pages w p) (4096 * page + start) piece)) q o)
-  world_else q o e ne h = by_process w p (with_bytes (pages w p) (4096 * page + start) piece) q o (IsKept (over f start piece v) no_device l e)
-      (λ same. by_entry e (subst (λ x. IsKept (over f start piece v) no_device l e (pages w x o)) same h) (other same)) (λ _. h)
+  world_else : (q o : ℕ) (e : Option Entry) → same_key (q, o) (p, page) ≡ false → IsKept (over f start piece v) d l e (pages w q o)
+      → IsKept (over f start piece v) d l e (pages (set_process w p (with_bytes (pages w p) (4096 * page + start) piece)) q o)
+  world_else q o e ne h = by_process w p (with_bytes (pages w p) (4096 * page + start) piece) q o (IsKept (over f start piece v) d l e)
+      (λ same. by_entry e (subst (λ x. IsKept (over f start piece v) d l e (pages w x o)) same h) (other same)) (λ _. h)
     where
       other : q ≡ p → o ≢ page
       other same is = false≢true (sym ne ∙ (λ i. same_key (same i, is i) (p, page)) ∙ same_key-itself (p, page))
 
-      by_entry : (e : Option Entry) → IsKept (over f start piece v) no_device l e (pages w p o) → o ≢ page
-          → IsKept (over f start piece v) no_device l e (with_bytes (pages w p) (4096 * page + start) piece o)
+      by_entry : (e : Option Entry) → IsKept (over f start piece v) d l e (pages w p o) → o ≢ page
+          → IsKept (over f start piece v) d l e (with_bytes (pages w p) (4096 * page + start) piece o)
       by_entry None h ne = keep_else o ne (λ _. 0) h
       by_entry (Some Zero) h ne = keep_else o ne (λ _. 0) h
       by_entry (Some (InFrame g seen)) h ne = keep_else o ne ((over f start piece v).bytes g) h
       by_entry (Some (InSlot s)) h ne = by_frame (frame_at l s) h
         where
-          by_frame : (y : Option ℕ) → IsKeptAt (over f start piece v) no_device s (pages w p o) y →
-              IsKeptAt (over f start piece v) no_device s (with_bytes (pages w p) (4096 * page + start) piece o) y
-          by_frame None h = keep_else o ne (slice_index []) h
+          told : (t : Option (ℕ → ℕ → List ℕ)) → IfSome t (λ told. Holds (pages w p o) (slice_index (told s.area s.page)))
+              → IfSome t (λ told. Holds (with_bytes (pages w p) (4096 * page + start) piece o) (slice_index (told s.area s.page)))
+          told None h = tt
+          told (Some pages) h = keep_else o ne (slice_index (pages s.area s.page)) h
+
+          by_frame : (y : Option ℕ) → IsKeptAt (over f start piece v) d s (pages w p o) y →
+              IsKeptAt (over f start piece v) d s (with_bytes (pages w p) (4096 * page + start) piece o) y
+          by_frame None h = told d.pages h
           by_frame (Some g) h = keep_else o ne ((over f start piece v).bytes g) h
 
-  bytes_now : BytesStand (over f start piece v) no_device (set_process w p (with_bytes (pages w p) (4096 * page + start) piece)) l
+  bytes_now : BytesStand (over f start piece v) d (set_process w p (with_bytes (pages w p) (4096 * page + start) piece)) l
   bytes_now = record {
     kept = λ q o. at_key q o (same_key (q, o) (p, page)) refl;
-    clean = λ s stale flying. nothing_clean (over f start piece v) s (frame_at l s) (no_frame_at l s parts.cache);
+    clean = λ s stale flying. nothing_clean d (over f start piece v) s (frame_at l s) (no_frame_at l s parts.cache);
   }
     where
       here : Holds (pages (set_process w p (with_bytes (pages w p) (4096 * page + start) piece)) p page)
@@ -177,25 +182,25 @@ module _ (m : Setting) (v : View) (w : World) (l : Ledger) (p page f : ℕ) (was
           (λ _. subst (Holds (with_bytes (pages w p) (4096 * page + start) piece page))
           (sym (ap (λ b. cond b (overlaid start piece (v.bytes f)) (v.bytes f)) (itself f)))
           (holds_written (pages w p) (4096 * page + start) piece page (v.bytes f) (overlaid start piece (v.bytes f))
-          (subst (λ e. IsKept v no_device l e (pages w p page)) named (parts.bytes.kept p page))
+          (subst (λ e. IsKept v d l e (pages w p page)) named (parts.bytes.kept p page))
           (λ i below. sym ((λ k. cond (in_place page start (length piece) i k) (slice_index piece (from_start page start i k)) (v.bytes f i))))))
           (λ ne. absurd (ne refl))
 
-      at_key : (q o : ℕ) (b : Bool) → same_key (q, o) (p, page) ≡ b → IsKept (over f start piece v) no_device l (entry l (q, o))
+      at_key : (q o : ℕ) (b : Bool) → same_key (q, o) (p, page) ≡ b → IsKept (over f start piece v) d l (entry l (q, o))
           (pages (set_process w p (with_bytes (pages w p) (4096 * page + start) piece)) q o)
-      at_key q o true e = subst (λ (k : Key). IsKept (over f start piece v) no_device l (entry l k)
+      at_key q o true e = subst (λ (k : Key). IsKept (over f start piece v) d l (entry l k)
           (pages (set_process w p (with_bytes (pages w p) (4096 * page + start) piece)) k.0 k.1)) (sym (same_key-is (q, o) (p, page) e))
-          (subst (λ x. IsKept (over f start piece v) no_device l x (pages (set_process w p (with_bytes (pages w p) (4096 * page + start) piece)) p page))
+          (subst (λ x. IsKept (over f start piece v) d l x (pages (set_process w p (with_bytes (pages w p) (4096 * page + start) piece)) p page))
           (sym named) here)
       at_key q o false e = world_else q o (entry l (q, o)) e (others q o (pages w q o) (entry l (q, o)) refl e (parts.bytes.kept q o))
 
-  pub written_now : Parts m (over f start piece v) (set_process w p (with_bytes (pages w p) (4096 * page + start) piece)) l
+  pub written_now : Parts d m (over f start piece v) (set_process w p (with_bytes (pages w p) (4096 * page + start) piece)) l
   written_now = record {
     in_order = parts.in_order;
     cache = parts.cache;
     flight = parts.flight;
     on = parts.on;
-    active = parts.active;
+    lists = record { active = parts.lists.active; inactive = parts.lists.inactive };
     at_pages = at_pages_now;
     frames = record {
       frames = parts.frames.frames;

@@ -16,6 +16,7 @@ use Rattle.av_trace.specs.Reply.{answer_only}
 use Rattle.av_pagetable.specs.declared.pte.Pte.{Pte}
 use Rattle.av_pagetable.specs.declared.pte.Pte.TheVariants.{Empty}
 use Rattle.av_pagetable.specs.Entries.{ProcessTables, entry_at, has}
+use Rattle.av_plain.specs.Device.{Device}
 use Rattle.av_plain.specs.World.{Process, World, Page, no_pages, lives, pages, set_process, end_process}
 use Rattle.av_plain.specs.Ledger.{Entry, Key, entry, names_frame}
 use Rattle.av_plain.specs.Event.{after_all}
@@ -24,7 +25,6 @@ use Rattle.av_plain.specs.Zap.{keys_of_process, zaps_of}
 use Rattle.av_plain.specs.Refusal.{tests, refusal, Refuses}
 use Rattle.av_plain.specs.Step.{Follows}
 use Rattle.av_plain.specs.Choice.{ChoosesAll}
-use Rattle.av_plain.specs.Device.{no_device}
 use Rattle.av_plain.proofs.AreasLeft.{rmap_after_all-zaps}
 use Rattle.av_plain.proofs.Covered.{Names}
 use Rattle.av_plain.specs.Areas.{AreNext, none_on}
@@ -38,7 +38,7 @@ use Rattle.av_plain.proofs.Sound.Zap.{process-ended, pages-ended}
 use Rattle.av_reclaim.specs.declared.mem.Mem.{Mem}
 use Rattle.av_spaces.specs.Spaces.{AllSpaces, Spaces, areas_of, pages_of, IsSpawned, IsEnded}
 use Rattle.av_plain.specs.Report.{range_of}
-use Rattle.av_reclaim.specs.Mem.{ranges_of, setting, plain, view, frame_count, HasTables, Keeps, HasLedger}
+use Rattle.av_reclaim.specs.Mem.{ranges_of, setting_by, plain, view, frame_count, HasTables, Keeps, HasLedger}
 use Rattle.av_kernel.specs.Process.{new_tests}
 use Rattle.av_kernel.specs.Step.{MemSteps}
 use Rattle.av_reclaim.specs.Zap.{HasZapped}
@@ -47,7 +47,8 @@ use Rattle.av_anon.specs.declared.anons.Anons.{Anons as AnonSet}
 use Rattle.av_spaces.specs.Kin.{AnonsStay}
 use Rattle.av_reclaim.proofs.AnonLaws.{anons_stand, are_left, left_of}
 use Rattle.av_kernel.proofs.StepLaws.{AreLeftIn, reach_after, is_number, orderly, moved_on, stays_orderly, state_after, changed, kept-on, stepped}
-
+use Rattle.av_kernel.proofs.Loads.{world_as}
+use Rattle.av_plain.proofs.Load.{zaps-load_nothing}
 -- ---- the ranges of a process that comes or goes
 
 ranges_spawned : (old new : Spaces) (p : ℕ) → IsSpawned old new p [] → (q : ℕ) → ranges_of new q ≡ cond (q == p) (Some []) (ranges_of old q)
@@ -73,8 +74,8 @@ at_number q p = grind (arith, nat_tests)
 abbrev pub new_refusal : World → ℕ → Option Errno
 new_refusal w p = cond (lives w p) (Some Eexist) (cond (nat_le most_processes (length w)) (Some Eagain) None)
 
-pub new_is : (k : Mem) (s : State) (p : ℕ) → Keeps k s → new_refusal s.world p ≡ refusal (new_tests k.spaces.processes p)
-new_is k s p keeps = λ i. cond (sym (lives_is k s keeps p) i) (Some Eexist)
+pub new_is : {d : Device} (k : Mem) (s : State) (p : ℕ) → Keeps d k s → new_refusal s.world p ≡ refusal (new_tests k.spaces.processes p)
+new_is {d} k s p keeps = λ i. cond (sym (lives_is d k s keeps p) i) (Some Eexist)
     (cond (nat_le most_processes (sym keeps.stands.parts.areas.number i)) (Some Eagain) None)
 
 -- one that may come doesn't live
@@ -85,21 +86,21 @@ absent s p = by (areas_of s p)
     by None may = refl
     by (Some areas) may = cc
 
-pub no_table : (k : Mem) (s : State) (p : ℕ) → Keeps k s → areas_of k.spaces.processes p ≡ None → has k.tables p ≡ false
-no_table k s p keeps gone = keeps.tables p ∙ alive_is k.spaces.processes p ∙ ap is_some gone
+pub no_table : {d : Device} (k : Mem) (s : State) (p : ℕ) → Keeps d k s → areas_of k.spaces.processes p ≡ None → has k.tables p ≡ false
+no_table {d} k s p keeps gone = keeps.tables p ∙ alive_is k.spaces.processes p ∙ ap is_some gone
 
 -- ---- spawn
 
 -- a process that didn't live does now
-module _ (old : Mem) (tables : ProcessTables) (spaces : AllSpaces) (s : State) (p : ℕ) (keeps : Keeps old s)
+module _ {d : Device} (old : Mem) (tables : ProcessTables) (spaces : AllSpaces) (s : State) (p : ℕ) (keeps : Keeps d old s)
     (may : refusal (new_tests old.spaces.processes p) ≡ None)
     (entries : entry_at tables ≡ entry_at old.tables) (processes : has tables ≡ with_at p true (has old.tables))
     (spawned : IsSpawned old.spaces.processes spaces.processes p [])
     (stay : AnonsStay old.spaces old.anons spaces old.anons) where
   dead_before : lives s.world p ≡ false
-  dead_before = sym (lives_is old s keeps p) ∙ ap is_some (absent old.spaces.processes p may)
+  dead_before = sym (lives_is d old s keeps p) ∙ ap is_some (absent old.spaces.processes p may)
 
-  spawn-allowed : refusal (tests (setting (frame_count old)) s.world s.ledger (Spawn p)) ≡ None
+  spawn-allowed : refusal (tests (setting_by d old) s.world s.ledger (Spawn p)) ≡ None
   spawn-allowed = new_is old s p keeps ∙ may
 
   spawn-on : AreasAre (view (moved_on old tables spaces old.anons)) (with_at p none_on s.areas)
@@ -109,18 +110,18 @@ module _ (old : Mem) (tables : ProcessTables) (spaces : AllSpaces) (s : State) (
       by true = refl
       by false = keeps.stands.areas q page
 
-  spawn-step : IsStep (setting (frame_count old)) s (Spawn p) (answer_only Done) (state_after s p no_pages none_on s.ledger (free_of (view old)) old.anons)
+  spawn-step : IsStep (setting_by d old) s (Spawn p) (answer_only Done) (state_after s p no_pages none_on s.ledger (free_of (view old)) old.anons)
   spawn-step = record {
     events = [];
     legal = record {
-      answer = subst (λ o. MatchOption o (Follows (setting (frame_count old)) s.world s.ledger (Spawn p) [] Done []) (λ e. Refuses e [] Done []))
+      answer = subst (λ o. MatchOption o (Follows (setting_by d old) s.world s.ledger (Spawn p) [] Done []) (λ e. Refuses e [] Done []))
           (sym spawn-allowed) (refl, refl, refl);
       notes = refl;
     };
-    world = refl;
+    world = world_as (setting_by d old) s.world s.ledger [] (Spawn p) Done refl;
     ledger = refl;
     free = keeps.stands.free;
-    rmap = record { areas = refl; anons = are_left old s keeps spaces old.anons stay (with_at p none_on s.areas) spawn-on; homes = refl };
+    rmap = record { areas = refl; anons = are_left d old s keeps spaces old.anons stay (with_at p none_on s.areas) spawn-on; homes = refl };
     shows = tt;
   }
 
@@ -169,10 +170,10 @@ module _ (old : Mem) (tables : ProcessTables) (spaces : AllSpaces) (s : State) (
               none None gone there = false≢true there
               none (Some q) gone there = false≢true (sym gone)
 
-  pub spawned-steps : MemSteps old (moved_on old tables spaces old.anons) s (Spawn p) (answer_only Done)
+  pub spawned-steps : MemSteps d old (moved_on old tables spaces old.anons) s (Spawn p) (answer_only Done)
   spawned-steps = changed old (moved_on old tables spaces old.anons) s (Spawn p) (answer_only Done) p no_pages none_on s.ledger keeps stay refl
-      (stays_orderly old tables spaces old.anons s.ledger entries (orderly old s keeps)) refl refl
-      (λ q page other. refl) (λ page. kept-nothing (view old) s.ledger (entry s.ledger (p, page))) (λ page f names. names)
+      (stays_orderly d old tables spaces old.anons s.ledger entries (orderly old s keeps)) refl refl
+      (λ q page other. refl) (λ page. kept-nothing d (view old) s.ledger (entry s.ledger (p, page))) (λ page f names. names)
       (λ page f home names is. absurd (no_entry page f names)) spawn-step spawn-on spawn-areas spawn-tables
 
 -- ---- exit: the memories
@@ -222,28 +223,28 @@ lives-ended w p q = ap is_some (process-ended w p q) ∙ by (q == p)
 
 -- ---- exit: the end
 
-module _ (old mid : Mem) (tables : ProcessTables) (spaces : AllSpaces) (anons : AnonSet) (s : State) (p : ℕ) (keeps : Keeps old s)
+module _ {d : Device} (old mid : Mem) (tables : ProcessTables) (spaces : AllSpaces) (anons : AnonSet) (s : State) (p : ℕ) (keeps : Keeps d old s)
     (alive : is_some (ranges_of old.spaces.processes p) ≡ true)
-    (taken : HasZapped old mid s.ledger (zaps_of s.ledger (keys_of_process s.ledger p))) (bytes : (view mid).bytes ≡ (view old).bytes)
+    (taken : HasZapped d old mid s.ledger (zaps_of s.ledger (keys_of_process s.ledger p))) (bytes : (view mid).bytes ≡ (view old).bytes)
     (homes : (view mid).homes ≡ (view old).homes) (same_spaces : mid.spaces ≡ old.spaces) (same_tables : has mid.tables ≡ has old.tables)
     (same_count : frame_count mid ≡ frame_count old)
     (processes : has tables ≡ with_at p false (has mid.tables)) (entries : entry_at tables ≡ with_at p (λ page. Empty) (entry_at mid.tables))
     (ended : IsEnded mid.spaces.processes spaces.processes p)
     (stay : AnonsStay old.spaces old.anons spaces anons) where
   alive_now : lives s.world p ≡ true
-  alive_now = sym (lives_is old s keeps p) ∙ sym (alive_is old.spaces.processes p) ∙ alive
+  alive_now = sym (lives_is d old s keeps p) ∙ sym (alive_is old.spaces.processes p) ∙ alive
 
-  allowed : refusal (tests (setting (frame_count old)) s.world s.ledger (Exit p)) ≡ None
+  allowed : refusal (tests (setting_by d old) s.world s.ledger (Exit p)) ≡ None
   allowed = ap (λ b. cond (not b) (Some Esrch) None) alive_now
 
-  exit-on : AreasAre (view (record { frames = mid.frames; tables = tables; spaces = spaces; anons = anons })) (with_at p none_on s.areas)
+  exit-on : AreasAre (view (record { frames = mid.frames; lists = mid.lists; tables = tables; spaces = spaces; anons = anons })) (with_at p none_on s.areas)
   exit-on q page = ap (λ a. pages_in a page) (ended.areas q) ∙ by (q == p)
     where
       by : (b : Bool) → pages_in (cond b None (areas_of mid.spaces.processes q)) page ≡ (cond b none_on (s.areas q)) page
       by true = refl
       by false = ap (λ (x : AllSpaces). pages_of x.processes q page) same_spaces ∙ keeps.stands.areas q page
 
-  exit-step : IsStep (setting (frame_count old)) s (Exit p) (answer_only Done)
+  exit-step : IsStep (setting_by d old) s (Exit p) (answer_only Done)
       (record {
         world = end_process s.world p;
         ledger = after_all s.ledger (zaps_of s.ledger (keys_of_process s.ledger p));
@@ -255,13 +256,14 @@ module _ (old mid : Mem) (tables : ProcessTables) (spaces : AllSpaces) (anons : 
   exit-step = record {
     events = zaps_of s.ledger (keys_of_process s.ledger p);
     legal = record {
-      answer = subst (λ o. MatchOption o (Follows (setting (frame_count old)) s.world s.ledger (Exit p) (zaps_of s.ledger (keys_of_process s.ledger p)) Done [])
+      answer = subst (λ o. MatchOption o (Follows (setting_by d old) s.world s.ledger (Exit p) (zaps_of s.ledger (keys_of_process s.ledger p)) Done [])
           (λ e. Refuses e (zaps_of s.ledger (keys_of_process s.ledger p)) Done [])) (sym allowed) (refl, refl, refl);
       notes = sym taken.notes;
     };
-    world = refl;
+    world = world_as (setting_by d old) s.world s.ledger (zaps_of s.ledger (keys_of_process s.ledger p)) (Exit p) Done
+        (zaps-load_nothing s.ledger (keys_of_process s.ledger p));
     ledger = refl;
-    free = subst (λ free. ChoosesAll (setting (frame_count old)) None s.ledger (zaps_of s.ledger (keys_of_process s.ledger p)) free (free_of (view mid)))
+    free = subst (λ free. ChoosesAll (setting_by d old) None s.ledger (zaps_of s.ledger (keys_of_process s.ledger p)) free (free_of (view mid)))
         keeps.stands.free taken.free;
     rmap = subst (λ r. AreNext r s.world (Exit p) Done (rmap_of (record {
       world = end_process s.world p;
@@ -273,7 +275,7 @@ module _ (old mid : Mem) (tables : ProcessTables) (spaces : AllSpaces) (anons : 
       homes = s.homes;
     })))
         (sym (rmap_after_all-zaps s.ledger (keys_of_process s.ledger p) s.ledger (rmap_of s)))
-        (record { areas = refl; anons = are_left old s keeps spaces anons stay (with_at p none_on s.areas) exit-on; homes = refl });
+        (record { areas = refl; anons = are_left d old s keeps spaces anons stay (with_at p none_on s.areas) exit-on; homes = refl });
     shows = tt;
   }
 
@@ -286,7 +288,7 @@ module _ (old mid : Mem) (tables : ProcessTables) (spaces : AllSpaces) (anons : 
       by true = refl
       by false = refl
 
-  tables_now : TablesStand (view (record { frames = mid.frames; tables = tables; spaces = spaces; anons = anons }))
+  tables_now : TablesStand (view (record { frames = mid.frames; lists = mid.lists; tables = tables; spaces = spaces; anons = anons }))
       (after_all s.ledger (zaps_of s.ledger (keys_of_process s.ledger p)))
   tables_now = record {
     entries = λ q page. ap (λ e. entry_of (plain e)) (entry_is q page) ∙ kept q page (q == p) refl;
@@ -308,7 +310,7 @@ module _ (old mid : Mem) (tables : ProcessTables) (spaces : AllSpaces) (anons : 
       bits true q page t f is writes names = absurd (clash is)
       bits false q page t f is writes names = taken.stands.parts.tables.write_bits q page t f is writes names
 
-  areas_now : AreasStand (view (record { frames = mid.frames; tables = tables; spaces = spaces; anons = anons })) (end_process s.world p)
+  areas_now : AreasStand (view (record { frames = mid.frames; lists = mid.lists; tables = tables; spaces = spaces; anons = anons })) (end_process s.world p)
   areas_now = record {
     alive = λ q. ap is_some (ended.areas q) ∙ lives_as q (q == p) ∙ sym (lives-ended s.world p q);
     number = number _ _ _ _ (ended.number ∙ ap (λ (x : AllSpaces). length x.processes) same_spaces) keeps.stands.parts.areas.number
@@ -330,32 +332,32 @@ module _ (old mid : Mem) (tables : ProcessTables) (spaces : AllSpaces) (anons : 
       covered q page true = refl
       covered q page false = ap (λ (x : AllSpaces). prot_of (ranges_of x.processes q) page) same_spaces ∙ keeps.stands.parts.areas.covers q page
 
-  kept_now : (q page : ℕ) → IsKept (view (record { frames = mid.frames; tables = tables; spaces = spaces; anons = anons })) no_device
+  kept_now : (q page : ℕ) → IsKept (view (record { frames = mid.frames; lists = mid.lists; tables = tables; spaces = spaces; anons = anons })) d
       (after_all s.ledger (zaps_of s.ledger (keys_of_process s.ledger p)))
       (entry (after_all s.ledger (zaps_of s.ledger (keys_of_process s.ledger p))) (q, page))
       (pages (end_process s.world p) q page)
   kept_now q page =
       let l = after_all s.ledger (zaps_of s.ledger (keys_of_process s.ledger p)) in
-      subst (IsKept (view (record { frames = mid.frames; tables = tables; spaces = spaces; anons = anons })) no_device l (entry l (q, page)))
+      subst (IsKept (view (record { frames = mid.frames; lists = mid.lists; tables = tables; spaces = spaces; anons = anons })) d l (entry l (q, page)))
       (sym (pages-ended s.world p q page))
-      (kept-on (view old) (view (record { frames = mid.frames; tables = tables; spaces = spaces; anons = anons })) s.ledger l (entry l (q, page))
+      (kept-on d (view old) (view (record { frames = mid.frames; lists = mid.lists; tables = tables; spaces = spaces; anons = anons })) s.ledger l (entry l (q, page))
       (cond (q == p) None (pages s.world q page)) bytes (no_cache s.ledger keeps.stands.parts.ledger.swap.finds)
       (no_cache l taken.stands.parts.swap.finds) (by (q == p) refl))
     where
-      by : (b : Bool) → (q == p) ≡ b → IsKept (view old) no_device s.ledger
+      by : (b : Bool) → (q == p) ≡ b → IsKept (view old) d s.ledger
           (entry (after_all s.ledger (zaps_of s.ledger (keys_of_process s.ledger p))) (q, page)) (cond b None (pages s.world q page))
-      by true e = kept-nothing (view old) s.ledger (entry (after_all s.ledger (zaps_of s.ledger (keys_of_process s.ledger p))) (q, page))
-      by false e = subst (λ x. IsKept (view old) no_device s.ledger x (pages s.world q page)) (sym (entry-others s.ledger p q page e))
+      by true e = kept-nothing d (view old) s.ledger (entry (after_all s.ledger (zaps_of s.ledger (keys_of_process s.ledger p))) (q, page))
+      by false e = subst (λ x. IsKept (view old) d s.ledger x (pages s.world q page)) (sym (entry-others s.ledger p q page e))
           (keeps.stands.parts.bytes.kept q page)
 
-  has_now : HasTables (record { frames = mid.frames; tables = tables; spaces = spaces; anons = anons })
+  has_now : HasTables (record { frames = mid.frames; lists = mid.lists; tables = tables; spaces = spaces; anons = anons })
   has_now q = ap (λ (h : ℕ → Bool). h q) processes ∙ has_as q (q == p) ∙ sym (ap is_some (ranges_ended mid.spaces.processes spaces.processes p ended q))
     where
       has_as : (q : ℕ) (b : Bool) → cond b false (has mid.tables q) ≡ is_some (cond b None (ranges_of mid.spaces.processes q))
       has_as q true = refl
       has_as q false = ap (λ (h : ℕ → Bool). h q) same_tables ∙ keeps.tables q ∙ sym (ap (λ (x : AllSpaces). is_some (ranges_of x.processes q)) same_spaces)
 
-  stands_now : HasLedger (record { frames = mid.frames; tables = tables; spaces = spaces; anons = anons })
+  stands_now : HasLedger d (record { frames = mid.frames; lists = mid.lists; tables = tables; spaces = spaces; anons = anons })
       (after_all s.ledger (zaps_of s.ledger (keys_of_process s.ledger p)))
   stands_now = record {
     sound = taken.stands.sound;
@@ -363,10 +365,11 @@ module _ (old mid : Mem) (tables : ProcessTables) (spaces : AllSpaces) (anons : 
         let had = taken.stands.parts in
         record {
           frames = record { frames = had.frames.frames; maps = had.frames.maps; slots = had.frames.slots; dirty = had.frames.dirty; free = had.frames.free };
-          lists = record { active = had.lists.active };
+          lists = record { active = had.lists.active; inactive = had.lists.inactive };
           tables = tables_now;
           swap = record { finds = had.swap.finds; counts = had.swap.counts; flight = had.swap.flight; on = had.swap.on };
         };
+    lists = taken.stands.lists;
   }
 
   -- only entries of others are left
@@ -391,8 +394,8 @@ module _ (old mid : Mem) (tables : ProcessTables) (spaces : AllSpaces) (anons : 
       stays k f home names is true e = absurd (gone k f e names)
       stays k f home names is false e = is
 
-  pub exit-steps : MemSteps old (record { frames = mid.frames; tables = tables; spaces = spaces; anons = anons }) s (Exit p) (answer_only Done)
-  exit-steps = stepped old (record { frames = mid.frames; tables = tables; spaces = spaces; anons = anons }) s
+  pub exit-steps : MemSteps d old (record { frames = mid.frames; lists = mid.lists; tables = tables; spaces = spaces; anons = anons }) s (Exit p) (answer_only Done)
+  exit-steps = stepped old (record { frames = mid.frames; lists = mid.lists; tables = tables; spaces = spaces; anons = anons }) s
       (record {
         world = end_process s.world p;
         ledger = after_all s.ledger (zaps_of s.ledger (keys_of_process s.ledger p));
@@ -401,7 +404,7 @@ module _ (old mid : Mem) (tables : ProcessTables) (spaces : AllSpaces) (anons : 
         anons = left_of anons s.anons;
         homes = s.homes;
       }) (Exit p) (answer_only Done)
-      keeps exit-step same_count stands_now refl exit-on (anons_stand old s keeps spaces anons stay (with_at p none_on s.areas) exit-on
-      (record { frames = mid.frames; tables = tables; spaces = spaces; anons = anons }) refl refl)
+      keeps exit-step same_count stands_now refl exit-on (anons_stand d old s keeps spaces anons stay (with_at p none_on s.areas) exit-on
+      (record { frames = mid.frames; lists = mid.lists; tables = tables; spaces = spaces; anons = anons }) refl refl)
       (λ f. ap (λ h. h f) homes ∙ keeps.stands.homes f) (reach_after old s keeps spaces anons stay
       (after_all s.ledger (zaps_of s.ledger (keys_of_process s.ledger p))) (with_at p none_on s.areas) exit-on left_in) stay.fit areas_now has_now kept_now

@@ -16,6 +16,7 @@ use Rattle.av_trace.specs.declared.row.Row.TheVariants as rows
 use Rattle.av_spaces.specs.Kin as in_spaces
 use Rattle.av_spaces.specs.Kin.{AnonsFit, chain_at}
 use Rattle.av_spaces.specs.Spaces.{AllSpaces, AreRising, areas_of, pages_of as areas_on}
+use Rattle.av_plain.specs.Device.{Device}
 use Rattle.av_plain.specs.Areas.{Anons, chain_by}
 use Rattle.av_plain.specs.Refusal.{tests, refusal, Refuses}
 use Rattle.av_plain.specs.Report.{area_row, range_of}
@@ -24,13 +25,13 @@ use Rattle.av_plain.specs.Step.{Follows}
 use Rattle.av_plain.specs.Transcript.{State}
 use Rattle.av_plain.proofs.Report.Areas.{all_from, on_first, runs-of_rows}
 use Rattle.av_reclaim.specs.declared.mem.Mem.{Mem}
-use Rattle.av_reclaim.specs.Mem.{anons_of, setting, frame_count, view, Keeps}
+use Rattle.av_reclaim.specs.Mem.{anons_of, setting_by, view, Keeps}
 use Rattle.av_reclaim.proofs.AnonLaws.{shown_chain}
 use Rattle.av_reclaim.proofs.MemLaws.{apart_of, lives_is}
 use Rattle.av_kernel.specs.Step.{MemSteps}
 use Rattle.av_kernel.proofs.ReportRuns.{own_rest, own_first}
 use Rattle.av_kernel.proofs.StepLaws.{areas_kept}
-
+use Rattle.av_kernel.proofs.Loads.{world_as}
 -- ---- the areas of a process
 
 pub all_at : {A : Type 0} (P : A → Type 0) (none : A) (xs : List A) (i : ℕ) → i < length xs → AllByRecursion P xs → P (slice_index_or xs i none)
@@ -71,10 +72,10 @@ rows_by : (a b : Anons) (areas : List Area) → AllByRecursion (λ (area : Area)
 rows_by a b [] h = refl
 rows_by a b (area ∷ areas) h = λ i. rows.Area area.start area.end area.prot area.pgoff area.anon (h.0 i) ∷ rows_by a b areas h.1 i
 
-module _ (k : Mem) (s : State) (p : ℕ) (areas : List Area) (keeps : Keeps k s) (alive : is_some (areas_of k.spaces.processes p) ≡ true)
+module _ {d : Device} (k : Mem) (s : State) (p : ℕ) (areas : List Area) (keeps : Keeps d k s) (alive : is_some (areas_of k.spaces.processes p) ≡ true)
     (are : areas_of k.spaces.processes p ≡ Some areas) (rising : AreRising p areas) where
-  allowed : refusal (tests (setting (frame_count k)) s.world s.ledger (AsksAreas p)) ≡ None
-  allowed = ap (λ b. cond (not b) (Some Esrch) None) (sym (lives_is k s keeps p) ∙ alive)
+  allowed : refusal (tests (setting_by d k) s.world s.ledger (AsksAreas p)) ≡ None
+  allowed = ap (λ b. cond (not b) (Some Esrch) None) (sym (lives_is d k s keeps p) ∙ alive)
 
   abbrev pub shown : List Row
   shown = map (area_row (view k).anons) areas
@@ -88,13 +89,13 @@ module _ (k : Mem) (s : State) (p : ℕ) (areas : List Area) (keeps : Keeps k s)
       (keeps.stands.anons.chains p (first_of a)))
       areas (on_pages p areas rising)
 
-  pub areas-steps : MemSteps k k s (AsksAreas p) (record { answer = AreaList (length shown); notes = []; rows = shown })
+  pub areas-steps : MemSteps d k k s (AsksAreas p) (record { answer = AreaList (length shown); notes = []; rows = shown })
   areas-steps = record {
     next = s;
     step = record {
       events = [];
       legal = record {
-        answer = subst (λ o. MatchOption o (Follows (setting (frame_count k)) s.world s.ledger (AsksAreas p) [] (AreaList (length shown)) shown)
+        answer = subst (λ o. MatchOption o (Follows (setting_by d k) s.world s.ledger (AsksAreas p) [] (AreaList (length shown)) shown)
             (λ e. Refuses e [] (AreaList (length shown)) shown)) (sym allowed) (
               refl,
               (
@@ -107,7 +108,7 @@ module _ (k : Mem) (s : State) (p : ℕ) (areas : List Area) (keeps : Keeps k s)
             );
         notes = refl;
       };
-      world = refl;
+      world = world_as (setting_by d k) s.world s.ledger [] (AsksAreas p) (AreaList (length shown)) refl;
       ledger = refl;
       free = refl;
       rmap = areas_kept k s _ _ keeps refl;

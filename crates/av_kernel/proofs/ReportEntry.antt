@@ -8,6 +8,7 @@ use Rattle.av_trace.specs.declared.reply.Errno.{Errno}
 use Rattle.av_trace.specs.declared.reply.Errno.TheVariants.{Efault, Esrch}
 use Rattle.av_trace.specs.Reply.{answer_only}
 use Rattle.av_spaces.specs.Spaces.{areas_of, pages_of}
+use Rattle.av_plain.specs.Device.{Device}
 use Rattle.av_plain.specs.Ledger.{entry}
 use Rattle.av_plain.specs.Refusal.{Refuses, refusal, tests}
 use Rattle.av_plain.specs.Report.{entry_answer}
@@ -15,44 +16,44 @@ use Rattle.av_plain.specs.Step.{Follows}
 use Rattle.av_plain.specs.Transcript.{State}
 use Rattle.av_plain.specs.World.{is_mapped, lives, pages}
 use Rattle.av_reclaim.specs.declared.mem.Mem.{Mem}
-use Rattle.av_reclaim.specs.Mem.{Keeps, frame_count, setting}
+use Rattle.av_reclaim.specs.Mem.{Keeps, setting_by}
 use Rattle.av_reclaim.proofs.MemLaws.{lives_is, mapped_is, taken_has}
 use Rattle.av_kernel.specs.Step.{MemSteps}
 use Rattle.av_kernel.proofs.StepLaws.{rmap_kept}
-
+use Rattle.av_kernel.proofs.Loads.{world_as}
 -- ---- which pages are mapped
-
 -- a page is of an area exactly where it is mapped
-pub area_there : (k : Mem) (s : State) → Keeps k s → (p page : ℕ) → is_some (pages_of k.spaces.processes p page) ≡ is_mapped (pages s.world p) page
-area_there k s keeps p page = taken_has k.spaces.processes p page ∙ ap is_some (keeps.stands.parts.areas.covers p page) ∙ mapped_is (pages s.world p page)
+
+pub area_there : {d : Device} (k : Mem) (s : State) → Keeps d k s → (p page : ℕ) → is_some (pages_of k.spaces.processes p page) ≡ is_mapped (pages s.world p) page
+area_there {d} k s keeps p page = taken_has k.spaces.processes p page ∙ ap is_some (keeps.stands.parts.areas.covers p page) ∙ mapped_is (pages s.world p page)
 
 -- the two tests of a page
 abbrev pub by_tests : Bool → Bool → Option Errno
 by_tests alive mapped = cond (not alive) (Some Esrch) (cond (not mapped) (Some Efault) None)
 
-module _ (k : Mem) (s : State) (p a : ℕ) (keeps : Keeps k s) (alive : is_some (areas_of k.spaces.processes p) ≡ true) where
+module _ {d : Device} (k : Mem) (s : State) (p a : ℕ) (keeps : Keeps d k s) (alive : is_some (areas_of k.spaces.processes p) ≡ true) where
   pub tests_are : (b : Bool) → is_some (pages_of k.spaces.processes p (page_of a)) ≡ b →
       by_tests (lives s.world p) (is_mapped (pages s.world p) (page_of a)) ≡ by_tests true b
-  tests_are b is = (λ i. by_tests ((sym (lives_is k s keeps p) ∙ alive) i) ((sym (area_there k s keeps p (page_of a)) ∙ is) i))
+  tests_are b is = (λ i. by_tests ((sym (lives_is d k s keeps p) ∙ alive) i) ((sym (area_there k s keeps p (page_of a)) ∙ is) i))
 
   -- one that isn't is refused
   pub unmapped_next : is_some (pages_of k.spaces.processes p (page_of a)) ≡ false →
-      refusal (tests (setting (frame_count k)) s.world s.ledger (AsksEntry p a)) ≡ Some Efault
+      refusal (tests (setting_by d k) s.world s.ledger (AsksEntry p a)) ≡ Some Efault
   unmapped_next none = tests_are false none
 
   pub entry-steps : is_some (pages_of k.spaces.processes p (page_of a)) ≡ true → (answer : Answer) →
       answer ≡ entry_answer s.ledger (entry s.ledger (p, page_of a))
-      → MemSteps k k s (AsksEntry p a) (answer_only answer)
+      → MemSteps d k k s (AsksEntry p a) (answer_only answer)
   entry-steps mapped answer is = record {
     next = s;
     step = record {
       events = [];
       legal = record {
-        answer = subst (λ o. MatchOption o (Follows (setting (frame_count k)) s.world s.ledger (AsksEntry p a) [] answer []) (λ e. Refuses e [] answer []))
+        answer = subst (λ o. MatchOption o (Follows (setting_by d k) s.world s.ledger (AsksEntry p a) [] answer []) (λ e. Refuses e [] answer []))
             (sym (tests_are true mapped)) (is, refl, refl);
         notes = refl;
       };
-      world = refl;
+      world = world_as (setting_by d k) s.world s.ledger [] (AsksEntry p a) answer refl;
       ledger = refl;
       free = refl;
       rmap = rmap_kept k s (AsksEntry p a) answer refl keeps refl;

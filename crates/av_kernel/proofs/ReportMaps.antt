@@ -7,30 +7,32 @@ use Rattle.av_trace.specs.declared.reply.Answer.TheVariants.{Runs}
 use Rattle.av_trace.specs.declared.reply.Errno.TheVariants.{Esrch}
 use Rattle.av_trace.specs.declared.row.Row.{Row}
 use Rattle.av_spaces.specs.Spaces.{areas_of}
+use Rattle.av_plain.specs.Device.{Device}
 use Rattle.av_plain.specs.Refusal.{tests, refusal, Refuses}
 use Rattle.av_plain.specs.Step.{Follows}
 use Rattle.av_plain.specs.Stands.{prot_of}
 use Rattle.av_plain.specs.Transcript.{State}
 use Rattle.av_reclaim.specs.declared.mem.Mem.{Mem}
 use Rattle.av_plain.specs.Report.{range_of}
-use Rattle.av_reclaim.specs.Mem.{setting, frame_count, Keeps}
+use Rattle.av_reclaim.specs.Mem.{setting_by, Keeps}
 use Rattle.av_reclaim.proofs.MemLaws.{lives_is}
 use Rattle.av_kernel.specs.Report.{AreRuns}
 use Rattle.av_kernel.specs.Step.{MemSteps}
 use Rattle.av_kernel.proofs.StepLaws.{areas_kept}
+use Rattle.av_kernel.proofs.Loads.{world_as}
 
-module _ (k : Mem) (s : State) (p : ℕ) (areas : List Area) (rows : List Row) (keeps : Keeps k s) (alive : is_some (areas_of k.spaces.processes p) ≡ true)
+module _ {d : Device} (k : Mem) (s : State) (p : ℕ) (areas : List Area) (rows : List Row) (keeps : Keeps d k s) (alive : is_some (areas_of k.spaces.processes p) ≡ true)
     (are : areas_of k.spaces.processes p ≡ Some areas) (runs : AreRuns (map range_of areas) rows) where
-  allowed : refusal (tests (setting (frame_count k)) s.world s.ledger (Maps p)) ≡ None
-  allowed = ap (λ b. cond (not b) (Some Esrch) None) (sym (lives_is k s keeps p) ∙ alive)
+  allowed : refusal (tests (setting_by d k) s.world s.ledger (Maps p)) ≡ None
+  allowed = ap (λ b. cond (not b) (Some Esrch) None) (sym (lives_is d k s keeps p) ∙ alive)
 
-  pub maps-steps : MemSteps k k s (Maps p) (record { answer = Runs (length rows); notes = []; rows = rows })
+  pub maps-steps : MemSteps d k k s (Maps p) (record { answer = Runs (length rows); notes = []; rows = rows })
   maps-steps = record {
     next = s;
     step = record {
       events = [];
       legal = record {
-        answer = subst (λ o. MatchOption o (Follows (setting (frame_count k)) s.world s.ledger (Maps p) [] (Runs (length rows)) rows)
+        answer = subst (λ o. MatchOption o (Follows (setting_by d k) s.world s.ledger (Maps p) [] (Runs (length rows)) rows)
             (λ e. Refuses e [] (Runs (length rows)) rows)) (sym allowed) (
               refl,
               (
@@ -43,7 +45,7 @@ module _ (k : Mem) (s : State) (p : ℕ) (areas : List Area) (rows : List Row) (
             );
         notes = refl;
       };
-      world = refl;
+      world = world_as (setting_by d k) s.world s.ledger [] (Maps p) (Runs (length rows)) refl;
       ledger = refl;
       free = refl;
       rmap = areas_kept k s _ _ keeps refl;

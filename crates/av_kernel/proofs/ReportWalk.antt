@@ -11,6 +11,7 @@ use Rattle.av_trace.specs.declared.reply.Answer.TheVariants.{NoWalk}
 use Rattle.av_trace.specs.declared.reply.Reply.{Reply}
 use Rattle.av_trace.specs.Reply.{answer_only}
 use Rattle.av_spaces.specs.Spaces.{areas_of, pages_of}
+use Rattle.av_plain.specs.Device.{Device}
 use Rattle.av_plain.specs.Ledger.{Entry, Ledger, entry}
 use Rattle.av_plain.specs.Refusal.{Refuses}
 use Rattle.av_plain.specs.Report.{walk_answer, walk_rows}
@@ -18,29 +19,30 @@ use Rattle.av_plain.specs.Stands.{entry_of}
 use Rattle.av_plain.specs.Step.{Follows}
 use Rattle.av_plain.specs.Transcript.{State}
 use Rattle.av_reclaim.specs.declared.mem.Mem.{Mem}
-use Rattle.av_reclaim.specs.Mem.{Keeps, frame_count, plain, setting}
+use Rattle.av_reclaim.specs.Mem.{Keeps, plain, setting_by}
 use Rattle.av_kernel.specs.Step.{MemSteps}
 use Rattle.av_kernel.proofs.ReportEntry.{tests_are}
 use Rattle.av_kernel.proofs.StepLaws.{rmap_kept}
-
+use Rattle.av_kernel.proofs.Loads.{world_as}
 -- what is shown of an entry
+
 abbrev pub shown : Ledger → Option Entry → Reply
 shown l e = record { answer = walk_answer l e; notes = []; rows = walk_rows l e }
 
-module _ (k : Mem) (s : State) (p a : ℕ) (keeps : Keeps k s) (alive : is_some (areas_of k.spaces.processes p) ≡ true)
+module _ {d : Device} (k : Mem) (s : State) (p a : ℕ) (keeps : Keeps d k s) (alive : is_some (areas_of k.spaces.processes p) ≡ true)
     (mapped : is_some (pages_of k.spaces.processes p (page_of a)) ≡ true) where
-  shown-steps : MemSteps k k s (AsksRmap p a) (shown s.ledger (entry s.ledger (p, page_of a)))
+  shown-steps : MemSteps d k k s (AsksRmap p a) (shown s.ledger (entry s.ledger (p, page_of a)))
   shown-steps =
       let reply = shown s.ledger (entry s.ledger (p, page_of a)) in record {
         next = s;
         step = record {
           events = [];
           legal = record {
-            answer = subst (λ o. MatchOption o (Follows (setting (frame_count k)) s.world s.ledger (AsksRmap p a) [] reply.answer reply.rows)
+            answer = subst (λ o. MatchOption o (Follows (setting_by d k) s.world s.ledger (AsksRmap p a) [] reply.answer reply.rows)
                 (λ e. Refuses e [] reply.answer reply.rows)) (sym (tests_are k s p a keeps alive true mapped)) (refl, refl, refl);
             notes = refl;
           };
-          world = refl;
+          world = world_as (setting_by d k) s.world s.ledger [] (AsksRmap p a) reply.answer refl;
           ledger = refl;
           free = refl;
           rmap = rmap_kept k s (AsksRmap p a) reply.answer refl keeps refl;
@@ -51,9 +53,9 @@ module _ (k : Mem) (s : State) (p a : ℕ) (keeps : Keeps k s) (alive : is_some 
 
   -- by what the table has
   pub walk-steps : (t : Pte) (reply : Reply) → entry_at k.tables p (page_of a) ≡ t → reply ≡ shown s.ledger (entry_of (plain t)) →
-      MemSteps k k s (AsksRmap p a) reply
+      MemSteps d k k s (AsksRmap p a) reply
   walk-steps t reply at is =
-      subst (MemSteps k k s (AsksRmap p a)) (sym (is ∙ ap (λ t. shown s.ledger (entry_of (plain t))) (sym at)
+      subst (MemSteps d k k s (AsksRmap p a)) (sym (is ∙ ap (λ t. shown s.ledger (entry_of (plain t))) (sym at)
       ∙ ap (shown s.ledger) (keeps.stands.parts.ledger.tables.entries p (page_of a)))) shown-steps
 
 -- where the table has no frame there is no walk

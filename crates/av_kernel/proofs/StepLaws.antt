@@ -6,12 +6,16 @@ use Rattle.std.specs.Ordering.{nat_cmp, eq_by_cmp}
 use Rattle.std.specs.Prelude.{IsSomeAnd, MatchOption, IsErr, IsErrAnd}
 use Rattle.av_base.specs.declared.prot.Prot.{Prot}
 use Rattle.av_trace.specs.declared.command.Command.{Command}
+use Rattle.av_trace.specs.Command.{is_in_grammar}
+use Rattle.av_trace.specs.declared.command.Command.TheVariants.{Spawn, Fork, Exit, Mmap, Mremap, Munmap, Mprotect, Read, Write, Reclaim, Age, Complete, Swapon, Swapoff, Maps, Areas as AsksAreas, Rmap as AsksRmap, Entry as AsksEntry, Slot as AsksSlot, Stat}
+use Rattle.av_plain.specs.Swapon.{is_swapon}
 use Rattle.av_trace.specs.declared.reply.Errno.{Errno}
 use Rattle.av_trace.specs.declared.reply.Errno.TheVariants.{Esrch}
 use Rattle.av_trace.specs.declared.reply.Reply.{Reply}
 use Rattle.av_trace.specs.declared.reply.Answer.{Answer}
 use Rattle.av_trace.specs.declared.reply.Answer.TheVariants.{Refused}
 use Rattle.av_trace.specs.Reply.{IsCleared, answer_only}
+use Rattle.av_plain.specs.Device.{Device, setting_of}
 use Rattle.av_plain.specs.Fork.{IsRmapNext}
 use Rattle.av_plain.specs.World.{Process, Page, lives, pages, set_process}
 use Rattle.av_plain.specs.Ledger.{Key, Ledger, Entry, Zero, InFrame, InSlot, entry, frame_at, names_frame}
@@ -19,7 +23,6 @@ use Rattle.av_plain.specs.Refusal.{tests, refusal, Refuses}
 use Rattle.av_plain.specs.Step.{Follows}
 use Rattle.av_plain.specs.Transcript.{State, IsStep, rmap_of}
 use Rattle.av_plain.specs.Sound.{AllSound}
-use Rattle.av_plain.specs.Device.{no_device}
 use Rattle.av_plain.specs.Choice.{Free, ListsAll, ListsFree}
 use Rattle.av_base.specs.Words.{with_at}
 use Rattle.av_vma.specs.Pages.{Pages, home_of}
@@ -43,10 +46,11 @@ use Rattle.av_reclaim.specs.declared.mem.Mem.{Mem}
 use Rattle.av_spaces.specs.Spaces.{AllSpaces, areas_of, pages_of as areas_on}
 use Rattle.av_plain.proofs.Transcript.{is_fork, next-plain}
 use Rattle.av_kernel.specs.Map.{GetsProts}
-use Rattle.av_reclaim.specs.Mem.{anon_vma, ranges_of, setting, plain, view, frame_count, HasTables, Keeps, HasLedger}
+use Rattle.av_reclaim.specs.Mem.{anon_vma, ranges_of, setting_by, plain, view, frame_count, HasTables, Keeps, HasLedger}
 use Rattle.av_kernel.specs.declared.refusal.Refusal.{Refusal}
 use Rattle.av_kernel.specs.declared.refusal.Refusal.TheVariants as refusals
 use Rattle.av_kernel.specs.Step.{MemSteps, Does, reply_in}
+use Rattle.av_kernel.proofs.Loads.{world_as}
 use Rattle.av_reclaim.proofs.MemLaws.{alive_is, listed, lives_is, no_cache, no_frame_at, slot_kept, nothing_clean}
 use Rattle.av_fault.proofs.FaultParts.{no_headers}
 
@@ -59,12 +63,35 @@ is_number q p e = grind (arith, nat_tests)
 pub other_number : (q p : ℕ) → (q == p) ≡ false → q ≢ p
 other_number q p e = grind (arith, nat_tests)
 
+-- a command of the grammar turns no area on
+pub not_swapon : (command : Command) → is_in_grammar command ≡ true → is_swapon command ≡ false
+not_swapon (Swapon k) is = absurd (false≢true is)
+not_swapon (Spawn p) is = refl
+not_swapon (Fork p q) is = refl
+not_swapon (Exit p) is = refl
+not_swapon (Mmap p len prot place) is = refl
+not_swapon (Munmap p a len) is = refl
+not_swapon (Mprotect p a len prot) is = refl
+not_swapon (Mremap p a len new mode) is = refl
+not_swapon (Read p a n) is = refl
+not_swapon (Write p a bytes) is = refl
+not_swapon (Reclaim n) is = refl
+not_swapon (Age n) is = refl
+not_swapon (Complete n) is = refl
+not_swapon (Swapoff k) is = refl
+not_swapon (Maps p) is = refl
+not_swapon (AsksAreas p) is = refl
+not_swapon (AsksRmap p a) is = refl
+not_swapon (AsksEntry p a) is = refl
+not_swapon (AsksSlot k page) is = refl
+not_swapon Stat is = refl
+
 -- ---- areas and anon_vmas
 
 -- each anon_vma that is there is linked
-pub left_alone : (k : Mem) (s : State) → Keeps k s → AreLeft s.anons s.areas s.anons
-left_alone k s keeps =
-    let h = are_left k s keeps k.spaces k.anons (stay_same k.spaces k.anons keeps.anons) s.areas keeps.stands.areas in
+pub left_alone : {d : Device} (k : Mem) (s : State) → Keeps d k s → AreLeft s.anons s.areas s.anons
+left_alone {d} k s keeps =
+    let h = are_left d k s keeps k.spaces k.anons (stay_same k.spaces k.anons keeps.anons) s.areas keeps.stands.areas in
     record { next = refl; there = λ v there. h.there v (still v there); linked = λ v linked. refl }
   where
     still : (v : ℕ) → IsSome (s.anons.anon v) → IsSome ((left_of k.anons s.anons).anon v)
@@ -78,36 +105,37 @@ left_alone k s keeps =
         by (Some i) e o there same = there
 
 -- so a command that leaves the areas leaves the anon_vmas
-pub areas_kept : (k : Mem) (s : State) (command : Command) (answer : Answer) → Keeps k s →
+pub areas_kept : {d : Device} (k : Mem) (s : State) (command : Command) (answer : Answer) → Keeps d k s →
     next_areas (chain_length s.anons) s.areas s.world command answer ≡ s.areas
     → AreNext (rmap_of s) s.world command answer (rmap_of s)
-areas_kept k s command answer keeps stay = record { areas = sym stay; anons = left_alone k s keeps; homes = refl }
+areas_kept {d} k s command answer keeps stay = record { areas = sym stay; anons = left_alone k s keeps; homes = refl }
 
 -- after any command but a fork
-pub rmap_kept : (k : Mem) (s : State) (command : Command) (answer : Answer) → is_fork command ≡ false → Keeps k s →
+pub rmap_kept : {d : Device} (k : Mem) (s : State) (command : Command) (answer : Answer) → is_fork command ≡ false → Keeps d k s →
     next_areas (chain_length s.anons) s.areas s.world command answer ≡ s.areas
     → IsRmapNext (rmap_of s) s.world command answer (rmap_of s)
-rmap_kept k s command answer plain keeps stay = next-plain (rmap_of s) s.world command answer (rmap_of s) plain (areas_kept k s command answer keeps stay)
+rmap_kept {d} k s command answer plain keeps stay = next-plain (rmap_of s) s.world command answer (rmap_of s) plain (areas_kept k s command answer keeps stay)
 
 -- ---- a refusal
 
 -- the first test that holds refuses the command, and nothing changes
-pub refused : (k : Mem) (s : State) (command : Command) (error : Errno) → Keeps k s →
-    refusal (tests (setting (frame_count k)) s.world s.ledger command) ≡ Some error → MemSteps k k s command (answer_only (Refused error))
-refused k s command error keeps is = record {
+pub refused : {d : Device} (k : Mem) (s : State) (command : Command) (error : Errno) → Keeps d k s →
+    refusal (tests (setting_by d k) s.world s.ledger command) ≡ Some error → MemSteps d k k s command (answer_only (Refused error))
+refused {d} k s command error keeps is = record {
   next = s;
   step = record {
     events = [];
     legal = record {
-      answer = subst (λ o. MatchOption o (Follows (setting (frame_count k)) s.world s.ledger command [] (Refused error) [])
+      answer = subst (λ o. MatchOption o (Follows (setting_by d k) s.world s.ledger command [] (Refused error) [])
           (λ e. Refuses e [] (Refused error) []))
           (sym is) (refl, refl, refl);
       notes = refl;
     };
-    world = sym (refused-next (setting (frame_count k)) s.world s.world s.ledger command error is);
+    world = sym (refused-next (setting_by d k) s.world s.world s.ledger command error is)
+        ∙ world_as (setting_by d k) s.world s.ledger [] command (Refused error) refl;
     ledger = refl;
     free = refl;
-    rmap = areas_kept k s command (Refused error) keeps (refused-areas (setting (frame_count k)) s.world s.ledger (chain_length s.anons) s.areas command
+    rmap = areas_kept k s command (Refused error) keeps (refused-areas (setting_by d k) s.world s.ledger (chain_length s.anons) s.areas command
         error is);
     shows = shows-refused s.areas s.anons command error [];
   };
@@ -115,13 +143,13 @@ refused k s command error keeps is = record {
 }
 
 -- so a command is done where it is refused
-pub refuses : (k : Mem) (command : Command) (error : Errno) → ((s : State) → Keeps k s →
-    refusal (tests (setting (frame_count k)) s.world s.ledger command) ≡ Some error) → Does k k command (Err (refusals.Refused error))
-refuses k command error is = record { step = λ s keeps. refused k s command error keeps (is s keeps); count = refl }
+pub refuses : (k : Mem) (command : Command) (error : Errno) → ((d : Device) (s : State) → Keeps d k s →
+    refusal (tests (setting_by d k) s.world s.ledger command) ≡ Some error) → Does k k command (Err (refusals.Refused error))
+refuses k command error is = record { step = λ d s keeps. refused k s command error keeps (is d s keeps); count = refl }
 
 -- and where memory is wanting nothing is promised but the number of frames
 pub wants : (old new : Mem) (command : Command) → frame_count new ≡ frame_count old → Does old new command (Err refusals.Memory)
-wants old new command same = record { step = λ s keeps. tt; count = same }
+wants old new command same = record { step = λ d s keeps. tt; count = same }
 
 -- as `?` hands it out
 pub wants-by : (old new : Mem) (command : Command) (reply : Reply) (r : Result (Unit {0}) Refusal) → IsErr r × IsErrAnd r (λ e. e ≡ refusals.Memory) →
@@ -144,15 +172,15 @@ refuses-as old new command error reply r x is same does = refuses-by old new com
 pub only_answer : (reply : Reply) (answer : Answer) → IsCleared reply → record reply { answer = answer } ≡ answer_only answer
 only_answer reply answer cleared = λ i. record { answer = answer; notes = cleared.notes i; rows = cleared.rows i }
 
-pub answers : {old new : Mem} {s : State} {command : Command} {answer : Answer} (reply reply' : Reply) → IsCleared reply →
-    reply' ≡ record reply { answer = answer } → MemSteps old new s command (answer_only answer) → MemSteps old new s command reply'
-answers {old} {new} {s} {command} {answer} reply reply' cleared is steps =
-    subst (MemSteps old new s command) (sym (is ∙ only_answer reply answer cleared)) steps
+pub answers : {d : Device} {old new : Mem} {s : State} {command : Command} {answer : Answer} (reply reply' : Reply) → IsCleared reply →
+    reply' ≡ record reply { answer = answer } → MemSteps d old new s command (answer_only answer) → MemSteps d old new s command reply'
+answers {d} {old} {new} {s} {command} {answer} reply reply' cleared is steps =
+    subst (MemSteps d old new s command) (sym (is ∙ only_answer reply answer cleared)) steps
 
 -- a process that has no areas is refused first
-pub dead_first : (k : Mem) (s : State) (p : ℕ) (rest : Option Errno) → Keeps k s → is_some (areas_of k.spaces.processes p) ≡ false →
+pub dead_first : {d : Device} (k : Mem) (s : State) (p : ℕ) (rest : Option Errno) → Keeps d k s → is_some (areas_of k.spaces.processes p) ≡ false →
     cond (not (lives s.world p)) (Some Esrch) rest ≡ Some Esrch
-dead_first k s p rest keeps dead = ap (λ b. cond (not b) (Some Esrch) rest) (sym (lives_is k s keeps p) ∙ dead)
+dead_first {d} k s p rest keeps dead = ap (λ b. cond (not b) (Some Esrch) rest) (sym (lives_is d k s keeps p) ∙ dead)
 
 -- a process that has areas has ranges
 pub ranges_there : (k : Mem) (p : ℕ) → is_some (areas_of k.spaces.processes p) ≡ true → is_some (ranges_of k.spaces.processes p) ≡ true
@@ -161,59 +189,60 @@ ranges_there k p alive = alive_is k.spaces.processes p ∙ alive
 -- ---- what pages keep
 
 -- where no slot is cached, a page keeps its bytes with the frames' ones
-pub kept-on : (v v' : View) (l l' : Ledger) (e : Option Entry) (p : Option Page) → v'.bytes ≡ v.bytes → l.cache ≡ [] → l'.cache ≡ [] →
-    IsKept v no_device l e p → IsKept v' no_device l' e p
-kept-on v v' l l' None p same was none h = h
-kept-on v v' l l' (Some Zero) p same was none h = h
-kept-on v v' l l' (Some (InFrame f seen)) p same was none h = subst (λ (b : ℕ → ℕ → ℕ). Holds p (b f)) (sym same) h
-kept-on v v' l l' (Some (InSlot s)) p same was none h = slot_kept v v' s p (frame_at l s) (frame_at l' s) (no_frame_at l s was) (no_frame_at l' s none) h
+pub kept-on : (d : Device) (v v' : View) (l l' : Ledger) (e : Option Entry) (p : Option Page) → v'.bytes ≡ v.bytes → l.cache ≡ [] → l'.cache ≡ [] →
+    IsKept v d l e p → IsKept v' d l' e p
+kept-on d v v' l l' None p same was none h = h
+kept-on d v v' l l' (Some Zero) p same was none h = h
+kept-on d v v' l l' (Some (InFrame f seen)) p same was none h = subst (λ (b : ℕ → ℕ → ℕ). Holds p (b f)) (sym same) h
+kept-on d v v' l l' (Some (InSlot s)) p same was none h = slot_kept d v v' s p (frame_at l s) (frame_at l' s) (no_frame_at l s was) (no_frame_at l' s none) h
 
 -- ---- a step, from its parts
 
 -- the parts that speak of the ledger alone
-pub orderly : (k : Mem) (s : State) → Keeps k s → HasLedger k s.ledger
-orderly k s keeps = record { sound = keeps.stands.sound.ledger; parts = keeps.stands.parts.ledger }
+pub orderly : {d : Device} (k : Mem) (s : State) → Keeps d k s → HasLedger d k s.ledger
+orderly {d} k s keeps = record { sound = keeps.stands.sound.ledger; parts = keeps.stands.parts.ledger; lists = keeps.lists }
 
-pub stepped : (old new : Mem) (s next : State) (command : Command) (reply : Reply) → Keeps old s → IsStep (setting (frame_count old)) s command reply next →
-    frame_count new ≡ frame_count old → HasLedger new next.ledger → free_of (view new) ≡ next.free
+pub stepped : {d : Device} (old new : Mem) (s next : State) (command : Command) (reply : Reply) → Keeps d old s → IsStep (setting_by d old) s command reply next →
+    frame_count new ≡ frame_count old → HasLedger d new next.ledger → free_of (view new) ≡ next.free
     → AreasAre (view new) next.areas → AnonsStand (view new) next.areas next.anons → HomesAre (view new) next.homes → IsRmapSound next.ledger (rmap_of next) →
     AnonsFit new.spaces new.anons → AreasStand (view new) next.world → HasTables new →
-    ((q page : ℕ) → IsKept (view new) no_device next.ledger (entry next.ledger (q, page)) (pages next.world q page)) → MemSteps old new s command reply
-stepped old new s next command reply keeps step same_count stands free areas_now anons_now homes_now reach fit areas tables kept = record {
+    ((q page : ℕ) → IsKept (view new) d next.ledger (entry next.ledger (q, page)) (pages next.world q page)) → MemSteps d old new s command reply
+stepped {d} old new s next command reply keeps step same_count stands free areas_now anons_now homes_now reach fit areas tables kept = record {
   next = next;
   step = step;
   keeps = record {
     stands = record {
       over = record { sizes = refl; headers = refl };
-      sound = subst (λ n. AllSound (setting n) next.world next.ledger) (sym same_count)
-          (step-sound (setting (frame_count old)) s command reply next keeps.stands.sound step);
+      sound = subst (λ n. AllSound (setting_of n d) next.world next.ledger) (sym same_count)
+          (step-sound (setting_by d old) s command reply next keeps.stands.sound step);
       parts = record {
         ledger = stands.parts;
         areas = areas;
         bytes = record {
           kept = kept;
-          clean = λ t stale flying. nothing_clean (view new) t (frame_at next.ledger t)
+          clean = λ t stale flying. nothing_clean d (view new) t (frame_at next.ledger t)
               (no_frame_at next.ledger t (no_cache next.ledger stands.parts.swap.finds));
         };
-        headers = no_headers (setting (frame_count new)) next.ledger (sym stands.parts.swap.on);
+        headers = no_headers (setting_by d new) next.ledger (sym stands.parts.swap.on);
       };
       free = free;
-      lists = subst (ListsAll (setting (frame_count new)) next.ledger) free
-          (listed new (setting (frame_count new)) next.ledger (view new).free stands.parts.swap lists);
+      lists = subst (ListsAll (setting_by d new) next.ledger) free
+          (listed new (setting_by d new) next.ledger (view new).free stands.parts.swap lists);
       areas = areas_now;
       anons = anons_now;
       homes = homes_now;
       reach = reach;
     };
+    lists = stands.lists;
     tables = tables;
     anons = fit;
   };
 }
   where
-    lists : ListsFree (setting (frame_count new)) next.ledger (view new).free
-    lists = subst (λ n. ListsFree (setting n) next.ledger (view new).free) (sym same_count)
-        (subst (ListsFree (setting (frame_count old)) next.ledger) (sym (ap (λ (f : Free). f.frames) free))
-        (step-lists_free (setting (frame_count old)) s command reply next keeps.stands.sound keeps.stands.lists.frames step))
+    lists : ListsFree (setting_by d new) next.ledger (view new).free
+    lists = subst (λ n. ListsFree (setting_of n d) next.ledger (view new).free) (sym same_count)
+        (subst (ListsFree (setting_by d old) next.ledger) (sym (ap (λ (f : Free). f.frames) free))
+        (step-lists_free (setting_by d old) s command reply next keeps.stands.sound keeps.stands.lists.frames step))
 
 -- ---- what reverse mapping goes by, after areas changed
 
@@ -222,12 +251,12 @@ pub record AreLeftIn (s : State) (l : Ledger) (on : Areas) : Type 0 where
   pub there : (k : Key) (f : ℕ) → Names l k f → Names s.ledger k f
   pub home : (k : Key) (f : ℕ) (home : ℕ × ℕ) → Names l k f → home_of k.1 (s.areas k.0 k.1) ≡ Some home → home_of k.1 (on k.0 k.1) ≡ Some home
 
-pub reach_after : (old : Mem) (s : State) → Keeps old s → (spaces : AllSpaces) (anons : AnonSet) → AnonsStay old.spaces old.anons spaces anons →
+pub reach_after : {d : Device} (old : Mem) (s : State) → Keeps d old s → (spaces : AllSpaces) (anons : AnonSet) → AnonsStay old.spaces old.anons spaces anons →
     (l : Ledger) (on : Areas) → ((q page : ℕ) → areas_on spaces.processes q page ≡ on q page)
     → AreLeftIn s l on → IsRmapSound l (record { areas = on; anons = left_of anons s.anons; homes = s.homes })
-reach_after old s keeps spaces anons stay l on same left =
+reach_after {d} old s keeps spaces anons stay l on same left =
     sound-next s.ledger l (rmap_of s) (record { areas = on; anons = left_of anons s.anons; homes = s.homes }) left.there left.home owns
-    (are_left old s keeps spaces anons stay on same) refl keeps.stands.reach
+    (are_left d old s keeps spaces anons stay on same) refl keeps.stands.reach
   where
     owns : (p page v : ℕ) → IsSomeAnd (on p page) (λ area. area.anon ≡ Some v) →
         (q : ℕ) × (other : ℕ) × IsSomeAnd (s.areas q other) (λ area. area.anon ≡ Some v)
@@ -247,23 +276,23 @@ state_after s p now on l free anons = record {
   homes = s.homes;
 }
 
-module _ (old new : Mem) (s : State) (command : Command) (reply : Reply) (p : ℕ) (now : Process) (on : Pages) (l : Ledger)
-    (keeps : Keeps old s) (stay : AnonsStay old.spaces old.anons new.spaces new.anons) (same_count : frame_count new ≡ frame_count old)
-    (stands : HasLedger new l)
+module _ {d : Device} (old new : Mem) (s : State) (command : Command) (reply : Reply) (p : ℕ) (now : Process) (on : Pages) (l : Ledger)
+    (keeps : Keeps d old s) (stay : AnonsStay old.spaces old.anons new.spaces new.anons) (same_count : frame_count new ≡ frame_count old)
+    (stands : HasLedger d new l)
     (bytes : (view new).bytes ≡ (view old).bytes) (homes : (view new).homes ≡ (view old).homes)
     (others : (q page : ℕ) → (q == p) ≡ false → entry l (q, page) ≡ entry s.ledger (q, page))
-    (kept : (page : ℕ) → IsKept (view old) no_device s.ledger (entry l (p, page)) (now page))
+    (kept : (page : ℕ) → IsKept (view old) d s.ledger (entry l (p, page)) (now page))
     (there : (page f : ℕ) → Names l (p, page) f → Names s.ledger (p, page) f) (home : (page f : ℕ) (home : ℕ × ℕ) → Names l (p, page) f →
     home_of page (s.areas p page) ≡ Some home → home_of page (on page) ≡ Some home) where
-  kept-all : (q page : ℕ) → IsKept (view new) no_device l (entry l (q, page)) (pages (set_process s.world p now) q page)
-  kept-all q page = subst (IsKept (view new) no_device l (entry l (q, page)))
+  kept-all : (q page : ℕ) → IsKept (view new) d l (entry l (q, page)) (pages (set_process s.world p now) q page)
+  kept-all q page = subst (IsKept (view new) d l (entry l (q, page)))
       (sym (pages-set s.world p now q page ∙ ap (λ b. cond b (now page) (pages s.world q page)) (at_number q p)))
-      (kept-on (view old) (view new) s.ledger l (entry l (q, page)) (cond (q == p) (now page) (pages s.world q page)) bytes
+      (kept-on d (view old) (view new) s.ledger l (entry l (q, page)) (cond (q == p) (now page) (pages s.world q page)) bytes
       (no_cache s.ledger keeps.stands.parts.ledger.swap.finds) (no_cache l stands.parts.swap.finds) (by (q == p) refl))
     where
-      by : (b : Bool) → (q == p) ≡ b → IsKept (view old) no_device s.ledger (entry l (q, page)) (cond b (now page) (pages s.world q page))
-      by true e = subst (λ n. IsKept (view old) no_device s.ledger (entry l (n, page)) (now page)) (sym (is_number q p e)) (kept page)
-      by false e = subst (λ x. IsKept (view old) no_device s.ledger x (pages s.world q page)) (sym (others q page e)) (keeps.stands.parts.bytes.kept q page)
+      by : (b : Bool) → (q == p) ≡ b → IsKept (view old) d s.ledger (entry l (q, page)) (cond b (now page) (pages s.world q page))
+      by true e = subst (λ n. IsKept (view old) d s.ledger (entry l (n, page)) (now page)) (sym (is_number q p e)) (kept page)
+      by false e = subst (λ x. IsKept (view old) d s.ledger x (pages s.world q page)) (sym (others q page e)) (keeps.stands.parts.bytes.kept q page)
 
   left_in : AreLeftIn s l (with_at p on s.areas)
   left_in = record {
@@ -282,15 +311,15 @@ module _ (old new : Mem) (s : State) (command : Command) (reply : Reply) (p : �
           (subst (λ q. home_of k.1 (s.areas q k.1) ≡ Some h) (is_number k.0 p e) is)
       home_at k f h names is false e = is
 
-  pub changed : IsStep (setting (frame_count old)) s command reply (state_after s p now on l (free_of (view new)) new.anons) →
-      AreasAre (view new) (with_at p on s.areas) → AreasStand (view new) (set_process s.world p now) → HasTables new → MemSteps old new s command reply
+  pub changed : IsStep (setting_by d old) s command reply (state_after s p now on l (free_of (view new)) new.anons) →
+      AreasAre (view new) (with_at p on s.areas) → AreasStand (view new) (set_process s.world p now) → HasTables new → MemSteps d old new s command reply
   changed step areas_now areas tables = stepped old new s (state_after s p now on l (free_of (view new)) new.anons) command reply keeps
       step same_count stands refl areas_now
-      (anons_stand old s keeps new.spaces new.anons stay (with_at p on s.areas) areas_now new refl refl) (λ f. ap (λ h. h f) homes ∙ keeps.stands.homes f)
+      (anons_stand d old s keeps new.spaces new.anons stay (with_at p on s.areas) areas_now new refl refl) (λ f. ap (λ h. h f) homes ∙ keeps.stands.homes f)
       (reach_after old s keeps new.spaces new.anons stay l (with_at p on s.areas) areas_now left_in) stay.fit areas tables kept-all
 
 -- the areas of a process that lives have changed
-module _ (old new : Mem) (s : State) (p : ℕ) (now : Process) (prots : ℕ → Option Prot) (keeps : Keeps old s)
+module _ {d : Device} (old new : Mem) (s : State) (p : ℕ) (now : Process) (prots : ℕ → Option Prot) (keeps : Keeps d old s)
     (alive : is_some (ranges_of old.spaces.processes p) ≡ true)
     (spaces : GetsProts old.spaces.processes new.spaces.processes p prots) (is : (page : ℕ) → prots page ≡ option_map (λ (x : Page). x.prot) (now page)) where
   lives_as : (q : ℕ) → is_some (ranges_of new.spaces.processes q) ≡ is_some (ranges_of old.spaces.processes q)
@@ -315,7 +344,7 @@ module _ (old new : Mem) (s : State) (p : ℕ) (now : Process) (prots : ℕ → 
   }
     where
       lives_now : lives s.world p ≡ true
-      lives_now = sym (lives_is old s keeps p) ∙ sym (alive_is old.spaces.processes p) ∙ alive
+      lives_now = sym (lives_is d old s keeps p) ∙ sym (alive_is old.spaces.processes p) ∙ alive
 
       by : (q : ℕ) (b : Bool) → (q == p) ≡ b → lives s.world q ≡ cond (q == p) true (lives s.world q)
       by q true e = ap (lives s.world) (is_number q p e) ∙ lives_now ∙ sym (ap (λ b. cond b true (lives s.world q)) e)
@@ -332,21 +361,22 @@ module _ (old new : Mem) (s : State) (p : ℕ) (now : Process) (prots : ℕ → 
 
 -- the tables and the areas change, the frames and the entries don't
 abbrev pub moved_on : Mem → ProcessTables → AllSpaces → AnonSet → Mem
-moved_on old tables spaces anons = record { frames = old.frames; tables = tables; spaces = spaces; anons = anons }
+moved_on old tables spaces anons = record { frames = old.frames; lists = old.lists; tables = tables; spaces = spaces; anons = anons }
 
-pub stays_orderly : (old : Mem) (tables : ProcessTables) (spaces : AllSpaces) (anons : AnonSet) (l : Ledger) → entry_at tables ≡ entry_at old.tables →
-    HasLedger old l → HasLedger (moved_on old tables spaces anons) l
-stays_orderly old tables spaces anons l entries h = record {
+pub stays_orderly : (d : Device) (old : Mem) (tables : ProcessTables) (spaces : AllSpaces) (anons : AnonSet) (l : Ledger) → entry_at tables ≡ entry_at old.tables →
+    HasLedger d old l → HasLedger d (moved_on old tables spaces anons) l
+stays_orderly d old tables spaces anons l entries h = record {
   sound = h.sound;
   parts =
       let had = h.parts in
       record {
         frames = record { frames = had.frames.frames; maps = had.frames.maps; slots = had.frames.slots; dirty = had.frames.dirty; free = had.frames.free };
-        lists = record { active = had.lists.active };
+        lists = record { active = had.lists.active; inactive = had.lists.inactive };
         tables = record {
           entries = λ q page. ap (λ (t : ℕ → ℕ → Pte). entry_of (plain (t q page))) entries ∙ had.tables.entries q page;
           write_bits = λ q page t f is. had.tables.write_bits q page t f (sym (ap (λ (t : ℕ → ℕ → Pte). plain (t q page)) entries) ∙ is);
         };
         swap = record { finds = had.swap.finds; counts = had.swap.counts; flight = had.swap.flight; on = had.swap.on };
       };
+  lists = h.lists;
 }

@@ -3,6 +3,7 @@ use Rattle.std.specs.Prelude.{◌≡◌, ℕ, ◌+◌, ◌-◌, ◌<◌, ◌++�
 use Rattle.av_trace.specs.declared.note.Note.{Note}
 use Rattle.av_trace.specs.declared.reply.Answer.{Answer}
 use Rattle.av_trace.specs.declared.reply.Answer.TheVariants as answers
+use Rattle.av_plain.specs.Device.{Device}
 use Rattle.av_plain.specs.World.{World}
 use Rattle.av_base.specs.Page.{address_of, page_size}
 use Rattle.av_plain.specs.Event.{Event, after_all, notes_of}
@@ -14,7 +15,7 @@ use Rattle.av_kernel.specs.declared.access.Piece.{Piece}
 use Rattle.av_reclaim.specs.declared.mem.Mem.{Mem}
 use Rattle.av_fault.specs.declared.fault.Stop.{Stop}
 use Rattle.av_fault.specs.declared.fault.Stop.TheVariants.{Segv, Oom}
-use Rattle.av_reclaim.specs.Mem.{setting, frame_count, Keeps}
+use Rattle.av_reclaim.specs.Mem.{setting_by, Keeps}
 use Rattle.av_fault.specs.Fault.{stop_of}
 
 -- it begins behind the first `done` of n bytes, and goes on to the end of its page or of the bytes
@@ -36,20 +37,20 @@ world_served false p a bytes w = w
 
 -- an access of n bytes, k of them served, and those of a write stored: its events, its notes, where
 -- it ended, and what the kernel stands for then
-pub record IsAccess (s : State) (new : Mem) (write : Bool) (p a n : ℕ) (bytes : List ℕ)
-    (before now : List Note) (stop : Option Stop) (k : ℕ) : Type 0 where
+pub record IsAccess (d : Device) (s : State) (new : Mem) (write : Bool) (p a n : ℕ)
+    (bytes : List ℕ) (before now : List Note) (stop : Option Stop) (k : ℕ) : Type 0 where
   pub events : List Event
   pub notes : now ≡ before ++ notes_of events
   pub end : End
-  pub accesses : Accesses (setting (frame_count new)) s.world s.ledger p (pages_of_access write a n)
+  pub accesses : Accesses (setting_by d new) s.world s.ledger p (pages_of_access write a n)
       events end
   pub is_end : IsEnd a n stop k end
   pub next : State
   pub world : next.world ≡ world_served write p a bytes s.world
   pub ledger : next.ledger ≡ after_all s.ledger events
-  pub free : ChoosesAll (setting (frame_count new)) None s.ledger events s.free next.free
+  pub free : ChoosesAll (setting_by d new) None s.ledger events s.free next.free
   pub rmap : rmap_of next ≡ rmap_after_all s.ledger events (rmap_of s)
-  pub keeps : Keeps new next
+  pub keeps : Keeps d new next
 
 -- the answer of an access that stopped
 abbrev pub answer_of : Stop → ℕ → List ℕ → Answer

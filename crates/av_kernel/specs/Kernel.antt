@@ -4,21 +4,16 @@ use Rattle.av_trace.specs.declared.command.Command.{Command}
 use Rattle.av_trace.specs.declared.reply.Reply.{Reply}
 use Rattle.av_io.specs.Count.{RoseBy}
 use Rattle.av_plain.specs.Device.{Device, IsSameDevice, setting_of}
-use Rattle.av_plain.specs.Stands.{Stands as ViewStands}
 use Rattle.av_plain.specs.Step.{causes}
 use Rattle.av_plain.specs.Transcript.{State, IsStep}
-use Rattle.av_reclaim.specs.Mem.{HasTables, frame_count, view}
-use Rattle.av_spaces.specs.Kin.{AnonsFit}
+use Rattle.av_reclaim.specs.Mem.{Keeps}
 use Rattle.av_kernel.specs.Machine.{Machine}
 use Rattle.av_kernel.specs.Tally.{tally_with, none_counted}
 
 -- the kernel and the device, as it is now, stand for the memories, the ledger, what is free, the
--- areas and the anon_vmas, among which there is chain order, and the homes; a process has a table
--- exactly where it has areas
-pub record Stands (k : Machine) (device : Device) (s : State) : Type 0 where
-  pub stands : ViewStands (setting_of (frame_count k.mem) device) (view k.mem) device s
-  pub tables : HasTables k.mem
-  pub anons : AnonsFit k.mem.spaces k.mem.anons
+-- areas and the anon_vmas, among which there is chain order, and the homes
+abbrev pub Stands : Machine → Device → State → Type 0
+Stands k device s = Keeps device k.mem s
 
 -- a command's reply is a step over the device as it was; it is the same device then, and kernel and
 -- device stand for what the step leaves; what only faults of the device explain is within what it

@@ -6,6 +6,7 @@ use Rattle.av_pagetable.specs.Entries.{has}
 use Rattle.av_spaces.specs.Kin.{AnonsStay}
 use Rattle.av_spaces.specs.Spaces.{Spaces, pages_of}
 use Rattle.av_vma.specs.Pages.{Pages, home_of}
+use Rattle.av_plain.specs.Device.{Device}
 use Rattle.av_plain.specs.Ledger.{Ledger}
 use Rattle.av_plain.specs.Event.{Event}
 use Rattle.av_plain.specs.Report.{AreApart}
@@ -39,9 +40,9 @@ HomesStay old new p from n = (page : ℕ) (home : ℕ × ℕ) → within from n 
     → home_of page (pages_of new p page) ≡ Some home
 
 -- the n pages of p from one on have gone, with their entries, by these events; its areas are these
-pub record AreUnmapped (old new : Mem) (p page n : ℕ) (on : Pages) (l : Ledger)
+pub record AreUnmapped (d : Device) (old new : Mem) (p page n : ℕ) (on : Pages) (l : Ledger)
     (events : List Event) : Type 0 where
-  pub taken : HasZapped old new l events
+  pub taken : HasZapped d old new l events
   pub spaces : GetsProts old.spaces.processes new.spaces.processes p
       (set_on page n None (prot_of (ranges_of old.spaces.processes p)))
   pub areas : GetsAreas old.spaces.processes new.spaces.processes p on

@@ -3,6 +3,7 @@ use Rattle.std.specs.Prelude.{◌≡◌, ℕ, ◌+◌, ◌^◌, ◌<◌, ◌++�
 use Rattle.std.specs.List.{AllByRecursion}
 use Rattle.av_base.specs.Page.{address_of}
 use Rattle.av_trace.specs.declared.note.Note.{Note}
+use Rattle.av_plain.specs.Device.{Device}
 use Rattle.av_plain.specs.World.{World, pages, Shows}
 use Rattle.av_plain.specs.Event.{after_all}
 use Rattle.av_plain.specs.Fault.{Touches}
@@ -11,7 +12,7 @@ use Rattle.av_plain.specs.Choice.{ChoosesAll}
 use Rattle.av_plain.specs.Areas.{rmap_after_all}
 use Rattle.av_plain.specs.Transcript.{State, rmap_of}
 use Rattle.av_reclaim.specs.declared.mem.Mem.{Mem}
-use Rattle.av_reclaim.specs.Mem.{setting, frame_count, Keeps}
+use Rattle.av_reclaim.specs.Mem.{setting_by, Keeps}
 use Rattle.av_fault.specs.declared.fault.Stop.{Stop}
 use Rattle.av_fault.specs.Fault.{stop_of}
 
@@ -21,22 +22,22 @@ world_after true p page at piece None w = after_write w p (address_of page + at)
 world_after write p page at piece end w = w
 
 -- one page of an access: its notes, where it ended, and what the kernel stands for then
-pub record IsPageStep (s : State) (new : Mem) (write : Bool) (p page at : ℕ) (piece : List ℕ)
-    (before now : List Note) (end : Option Stop) : Type 0 where
+pub record IsPageStep (d : Device) (s : State) (new : Mem) (write : Bool) (p page at : ℕ)
+    (piece : List ℕ) (before now : List Note) (end : Option Stop) : Type 0 where
   pub added : List Note
   pub notes : now ≡ before ++ added
-  pub touches : Touches (setting (frame_count new)) s.world s.ledger write (p, page) added
+  pub touches : Touches (setting_by d new) s.world s.ledger write (p, page) added
       (option_map stop_of end)
   pub next : State
   pub world : next.world ≡ world_after write p page at piece end s.world
   pub ledger : next.ledger
       ≡ after_all s.ledger (page_events write (p, page) added (option_map stop_of end))
-  pub free : ChoosesAll (setting (frame_count new)) None s.ledger
+  pub free : ChoosesAll (setting_by d new) None s.ledger
       (page_events write (p, page) added (option_map stop_of end)) s.free next.free
   pub rmap : rmap_of next
       ≡ rmap_after_all s.ledger (page_events write (p, page) added (option_map stop_of end))
       (rmap_of s)
-  pub keeps : Keeps new next
+  pub keeps : Keeps d new next
 
 -- what a read of n bytes shows of a page that was served
 abbrev pub ShowsPiece : World → ℕ → ℕ → ℕ → ℕ → List ℕ → List ℕ → Option Stop → Type 0

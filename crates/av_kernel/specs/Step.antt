@@ -5,9 +5,10 @@ use Rattle.av_trace.specs.declared.command.Command.TheVariants.{Mmap, Mprotect, 
 use Rattle.av_trace.specs.declared.reply.Answer.TheVariants as answers
 use Rattle.av_trace.specs.declared.reply.Reply.{Reply}
 use Rattle.av_trace.specs.Reply.{answer_only}
+use Rattle.av_plain.specs.Device.{Device}
 use Rattle.av_plain.specs.Transcript.{State, IsStep}
 use Rattle.av_reclaim.specs.declared.mem.Mem.{Mem}
-use Rattle.av_reclaim.specs.Mem.{setting, frame_count, Keeps}
+use Rattle.av_reclaim.specs.Mem.{setting_by, frame_count, Keeps}
 use Rattle.av_kernel.specs.declared.refusal.Refusal.{Refusal}
 use Rattle.av_kernel.specs.declared.refusal.Refusal.TheVariants.{Refused, Memory}
 
@@ -30,14 +31,16 @@ reply_of (Ok reply) = Some reply
 reply_of (Err (Refused error)) = Some (answer_only (answers.Refused error))
 reply_of (Err Memory) = None
 
--- a command's reply is a step, and the memory system stands for what it leaves
-pub record MemSteps (old new : Mem) (s : State) (command : Command) (reply : Reply) : Type 0 where
+-- a command's reply is a step over this device, and the memory system stands for what it leaves
+pub record MemSteps (d : Device) (old new : Mem) (s : State) (command : Command) (reply : Reply)
+    : Type 0 where
   pub next : State
-  pub step : IsStep (setting (frame_count old)) s command reply next
-  pub keeps : Keeps new next
+  pub step : IsStep (setting_by d old) s command reply next
+  pub keeps : Keeps d new next
 
--- What every command promises: whatever the memory system stood for, the reply is a step, and it
--- stands for what that leaves. There are as many frames as before
+-- What every command promises: over any device, and whatever the memory system stood for, the reply
+-- is a step, and it stands for what that leaves. There are as many frames as before
 pub record Does (old new : Mem) (command : Command) (result : Result Reply Refusal) : Type 0 where
-  pub step : (s : State) → Keeps old s → IfSome (reply_of result) (MemSteps old new s command)
+  pub step : (d : Device) (s : State) → Keeps d old s
+      → IfSome (reply_of result) (MemSteps d old new s command)
   pub count : frame_count new ≡ frame_count old

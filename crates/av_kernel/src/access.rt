@@ -1,6 +1,7 @@
 //! Reads and writes, page by page.
 
 ghost use Rattle.std.specs.Prelude.{◌≡◌, ◌<◌, [], true, false, is_some, length, take, IfOk};
+ghost use Rattle.av_plain.specs.Device.{Device};
 ghost use Rattle.av_plain.specs.Transcript.{State};
 ghost use Rattle.av_plain.specs.Access.{Reads};
 ghost use Rattle.av_plain.specs.World.{pages};
@@ -98,10 +99,10 @@ fn read_pieces(
     requires steady { IsSteady mem.old }
     requires lives { is_some (areas_of mem.old.spaces.processes process) ≡ true }
     requires fresh { shown.old ≡ [] }
-    ensures access { (s : State) → Keeps mem.old s → IfOk result (λ ended.
-        IsAccess s mem.new false process address len [] notes.old notes.new
+    ensures access { (d : Device) (s : State) → Keeps d mem.old s → IfOk result (λ ended.
+        IsAccess d s mem.new false process address len [] notes.old notes.new
         ended.stop ended.served) }
-    ensures reads { (s : State) → Keeps mem.old s → IfOk result (λ ended.
+    ensures reads { (d : Device) (s : State) → Keeps d mem.old s → IfOk result (λ ended.
         Reads (pages s.world process) address ended.served shown.new) }
     ensures count { frame_count mem.new ≡ frame_count mem.old }
 {
@@ -134,8 +135,8 @@ fn write_pieces(
 ) -> Result<Ended, AllocError>
     requires steady { IsSteady mem.old }
     requires lives { is_some (areas_of mem.old.spaces.processes process) ≡ true }
-    ensures access { (s : State) → Keeps mem.old s → IfOk result (λ ended.
-        IsAccess s mem.new true process address (length bytes.now) (take ended.served bytes.now)
+    ensures access { (d : Device) (s : State) → Keeps d mem.old s → IfOk result (λ ended.
+        IsAccess d s mem.new true process address (length bytes.now) (take ended.served bytes.now)
         notes.old notes.new ended.stop ended.served) }
     ensures count { frame_count mem.new ≡ frame_count mem.old }
 {

@@ -3,9 +3,8 @@
 ghost use Rattle.std.specs.Prelude.{◌≡◌, ◌<◌, ◌^◌, IfOk, OnOk, OnErr, true, false};
 ghost use Rattle.av_base.specs.Limits.{most_commands};
 ghost use Rattle.av_trace.specs.Command.{is_in_grammar};
-ghost use Rattle.av_plain.specs.Device.{no_device};
+ghost use Rattle.av_plain.specs.Device.{Device, setting_of};
 ghost use Rattle.av_plain.specs.Transcript.{State, at_first};
-ghost use Rattle.av_reclaim.specs.Mem.{setting};
 ghost use Rattle.av_kernel.specs.Kernel.{Stands, Steps, Counts, IsNew, IsSpent};
 
 use crate::step::perform;
@@ -55,7 +54,8 @@ impl Model for Kernel {
 impl Kernel {
     /// A kernel with this many frames, all free, and no process.
     pub fn new(alloc: Global, frames: u32) -> Result<Kernel, AllocError>
-        ensures stands { IfOk result (λ k. Stands k no_device (at_first (setting frames))) }
+        ensures stands { IfOk result (λ k. (d : Device) →
+            Stands k d (at_first (setting_of frames d))) }
         ensures new { IfOk result (IsNew frames) }
     {
         Ok(Kernel {
@@ -72,8 +72,8 @@ impl Kernel {
     pub fn step(&mut self, alloc: Global, command: &Command) -> Result<Reply, AllocError>
         requires few { self.old.steps < most_commands }
         requires grammar { is_in_grammar command.now ≡ true }
-        ensures stands { (s : State) → Stands self.old no_device s →
-            IfOk result (Steps self.old self.new no_device no_device s command.now) }
+        ensures stands { (d : Device) (s : State) → Stands self.old d s →
+            IfOk result (Steps self.old self.new d d s command.now) }
         ensures counts { IfOk result (Counts self.old self.new) }
         ensures spent { OnErr result (IsSpent self.old self.new) }
     {
@@ -94,8 +94,8 @@ impl Kernel {
     ) -> Result<(), AllocError>
         requires few { self.old.steps < most_commands }
         requires grammar { is_in_grammar command.now ≡ true }
-        ensures stands { (s : State) → Stands self.old no_device s → OnOk result
-            (Steps self.old self.new no_device no_device s command.now reply.new) }
+        ensures stands { (d : Device) (s : State) → Stands self.old d s →
+            OnOk result (Steps self.old self.new d d s command.now reply.new) }
         ensures counts { OnOk result (Counts self.old self.new reply.new) }
         ensures spent { OnErr result (IsSpent self.old self.new) }
     {

@@ -2,6 +2,7 @@
 
 ghost use Rattle.std.specs.Prelude.{◌≡◌, ℕ, ◌+◌, ◌≤◌, true, is_some, OnOk};
 ghost use Rattle.av_base.specs.Limits.{top_page};
+ghost use Rattle.av_plain.specs.Device.{Device};
 ghost use Rattle.av_plain.specs.Ledger.{Ledger};
 ghost use Rattle.av_plain.specs.Zap.{keys_in, zaps_of};
 ghost use Rattle.av_plain.specs.Map.{zaps_for_place};
@@ -117,8 +118,8 @@ fn make_room(
     requires lives { is_some (areas_of mem.old.spaces.processes process) ≡ true }
     requires high { page + pages ≤ top_page }
     requires there { AreToUnmap (is_taken mem.old.spaces.processes process) page pages place }
-    ensures unmapped { (l : Ledger) → HasLedger mem.old l → OnOk result
-        (AreUnmapped mem.old mem.new process page pages
+    ensures unmapped { (d : Device) (l : Ledger) → HasLedger d mem.old l → OnOk result
+        (AreUnmapped d mem.old mem.new process page pages
         (with_room pages place (pages_of mem.old.spaces.processes process)) l
         (zaps_for_place l process pages place)) }
     ensures count { frame_count mem.new ≡ frame_count mem.old }
@@ -134,8 +135,8 @@ fn unmap_pages(mem: &mut Mem, process: u16, page: u64, pages: u64) -> Result<(),
     requires steady { IsSteady mem.old }
     requires lives { is_some (areas_of mem.old.spaces.processes process) ≡ true }
     requires high { page + pages ≤ top_page }
-    ensures unmapped { (l : Ledger) → HasLedger mem.old l → OnOk result
-        (AreUnmapped mem.old mem.new process page pages
+    ensures unmapped { (d : Device) (l : Ledger) → HasLedger d mem.old l → OnOk result
+        (AreUnmapped d mem.old mem.new process page pages
         (after_unmap page (page + pages) (pages_of mem.old.spaces.processes process)) l
         (zaps_of l (keys_in l process page pages))) }
     ensures count { frame_count mem.new ≡ frame_count mem.old }

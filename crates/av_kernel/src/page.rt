@@ -3,6 +3,7 @@
 ghost use Rattle.std.specs.Prelude.{◌≡◌, ◌+◌, ◌^◌, ◌<◌, ◌≤◌, [], length, true, false, replicate, ◌++◌, IfOk, OnOk};
 ghost use Rattle.std.specs.List.{AllByRecursion};
 ghost use Rattle.av_base.specs.Page.{page_size};
+ghost use Rattle.av_plain.specs.Device.{Device};
 ghost use Rattle.av_plain.specs.World.{lives};
 ghost use Rattle.av_plain.specs.Transcript.{State};
 ghost use Rattle.av_reclaim.specs.Mem.{frame_count, Keeps, IsSteady};
@@ -27,8 +28,8 @@ pub fn write_page(
     requires steady { IsSteady mem.old }
     requires some { 1 ≤ length piece.now }
     requires fits { at + length piece.now ≤ page_size }
-    ensures step { (s : State) → Keeps mem.old s → lives s.world process ≡ true → IfOk result
-        (IsPageStep s mem.new true process page at piece.now notes.old notes.new) }
+    ensures step { (d : Device) (s : State) → Keeps d mem.old s → lives s.world process ≡ true → IfOk result
+        (IsPageStep d s mem.new true process page at piece.now notes.old notes.new) }
     ensures count { frame_count mem.new ≡ frame_count mem.old }
 {
     match touch(mem, process, page, true, notes)? {
@@ -54,9 +55,9 @@ pub fn read_page(
     requires steady { IsSteady mem.old }
     requires some { 1 ≤ len }
     requires fits { at + len ≤ page_size }
-    ensures step { (s : State) → Keeps mem.old s → lives s.world process ≡ true → IfOk result
-        (IsPageStep s mem.new false process page at [] notes.old notes.new) }
-    ensures shown { (s : State) → Keeps mem.old s → lives s.world process ≡ true → IfOk result
+    ensures step { (d : Device) (s : State) → Keeps d mem.old s → lives s.world process ≡ true → IfOk result
+        (IsPageStep d s mem.new false process page at [] notes.old notes.new) }
+    ensures shown { (d : Device) (s : State) → Keeps d mem.old s → lives s.world process ≡ true → IfOk result
         (ShowsPiece s.world process page at len shown.old shown.new) }
     ensures count { frame_count mem.new ≡ frame_count mem.old }
 {

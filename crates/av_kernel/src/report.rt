@@ -6,6 +6,7 @@ ghost use Rattle.av_base.specs.Limits.{top_page};
 ghost use Rattle.av_spaces.specs.Kin.{AnonsFit};
 ghost use Rattle.av_spaces.specs.Spaces.{AreRising, areas_of, pages_of};
 ghost use Rattle.av_vma.specs.Join.{first_of};
+ghost use Rattle.av_plain.specs.Device.{Device};
 ghost use Rattle.av_plain.specs.Ledger.{entry as entry_of, walk as walk_of};
 ghost use Rattle.av_plain.specs.Report.{area_row as row_of_area, entry_answer as answer_of_entry, key_row, range_of};
 ghost use Rattle.av_plain.specs.Transcript.{State};
@@ -22,6 +23,7 @@ use crate::answer::answer_with;
 use crate::process::check_lives;
 use crate::refusal::Refusal;
 use av_base::{PAGE_SIZE, Steps};
+use av_lru::Which;
 use av_pagetable::Pte;
 use av_reclaim::Mem;
 use av_reclaim::walk::walk;
@@ -96,19 +98,18 @@ pub fn entry(mem: &Mem, process: u16, address: u64, reply: &mut Reply) -> Result
     Ok(())
 }
 
-/// Does a `stat`: how many frames and processes there are. No frame is active, and there is no
-/// slot.
+/// Does a `stat`: how many frames there are, are free, and are in each of the two lists, and how many
+/// processes. There is no slot.
 pub fn stat(mem: &Mem, reply: &mut Reply)
     requires steady { IsSteady mem.now }
     requires cleared { IsCleared reply.old }
     ensures { Does mem.now mem.now commands.Stat (Ok reply.new) }
 {
-    let (frames, free) = (mem.frames.count(), mem.frames.free());
     let totals = Totals {
-        frames: u64::from(frames),
-        free: u64::from(free),
-        active: 0,
-        inactive: u64::from(frames - free),
+        frames: u64::from(mem.frames.count()),
+        free: u64::from(mem.frames.free()),
+        active: u64::from(mem.lists.len(Which::Active)),
+        inactive: u64::from(mem.lists.len(Which::Inactive)),
         flight: 0,
         slots: 0,
         free_slots: 0,
@@ -215,7 +216,7 @@ fn check_mapped(mem: &Mem, process: u16, page: u64) -> Result<(), Refusal>
 /// What the entry of a page is; no frame caches a slot.
 fn entry_answer(mem: &Mem, process: u16, page: u64) -> Answer
     requires { IsSteady mem.now }
-    ensures { (s : State) → Keeps mem.now s
+    ensures { (d : Device) (s : State) → Keeps d mem.now s
         → result ≡ answer_of_entry s.ledger (entry_of s.ledger (process, page)) }
 {
     match mem.tables.get(process, page) {
@@ -235,7 +236,7 @@ fn show_walk(mem: &Mem, alloc: Global, frame: u32, reply: &mut Reply) -> Result<
     requires steady { IsSteady mem.now }
     requires in_range { frame < frame_count mem.now }
     requires cleared { IsCleared reply.old }
-    ensures { (s : State) → Keeps mem.now s
+    ensures { (d : Device) (s : State) → Keeps d mem.now s
         → OnOk result (reply.new ≡ shown_walk frame (walk_of s.ledger frame)) }
 {
     let keys = keys_of(mem, alloc, frame, Blank::new(1))?;
@@ -255,7 +256,7 @@ fn keys_of(
     requires steady { IsSteady mem.now }
     requires in_range { frame < frame_count mem.now }
     requires some { 0 < blank.parts }
-    ensures keys { (s : State) → Keeps mem.now s
+    ensures keys { (d : Device) (s : State) → Keeps d mem.now s
         → IfOk result (λ keys. keys.items ≡ walk_of s.ledger frame) }
     ensures below { IfOk result (λ keys. AllByRecursion (λ key. key.1 < top_page) keys.items) }
 {
@@ -273,7 +274,7 @@ fn keys_by<L: Ledger>(
     requires name { blank.name ≡ L.name }
     requires parts { blank.parts ≡ L.parts }
     requires some { 0 < blank.parts }
-    ensures keys { (s : State) → Keeps mem.now s
+    ensures keys { (d : Device) (s : State) → Keeps d mem.now s
         → IfOk result (λ keys. keys.items ≡ walk_of s.ledger frame) }
     ensures below { IfOk result (λ keys. AllByRecursion (λ key. key.1 < top_page) keys.items) }
 {

@@ -3,6 +3,7 @@
 ghost use Rattle.std.specs.Prelude.{◌≡◌, OnOk, true};
 ghost use Rattle.av_trace.specs.Command.{is_in_grammar};
 ghost use Rattle.av_trace.specs.Reply.{IsCleared};
+ghost use Rattle.av_plain.specs.Device.{Device};
 ghost use Rattle.av_plain.specs.Transcript.{State};
 ghost use Rattle.av_reclaim.specs.Mem.{frame_count, Keeps, IsSteady};
 ghost use Rattle.av_kernel.specs.Step.{MemSteps, Does, is_of_pages, reply_in};
@@ -32,8 +33,8 @@ pub fn perform(
 ) -> Result<(), AllocError>
     requires steady { IsSteady mem.old }
     requires grammar { is_in_grammar command.now ≡ true }
-    ensures step { (s : State) → Keeps mem.old s →
-        OnOk result (MemSteps mem.old mem.new s command.now reply.new) }
+    ensures step { (d : Device) (s : State) → Keeps d mem.old s →
+        OnOk result (MemSteps d mem.old mem.new s command.now reply.new) }
     ensures count { frame_count mem.new ≡ frame_count mem.old }
 {
     if let Answer::Data(shown) = &mut reply.answer {

@@ -28,7 +28,7 @@ use Rattle.av_plain.specs.Sound.{AllSound}
 use Rattle.av_plain.proofs.Ledger.{entry-set, how_many-found, is_sorted-set, map_count-set, same_key, same_key-itself}
 use Rattle.av_plain.proofs.Ledger.Order.{weight}
 use Rattle.av_plain.proofs.Ledger.NoSwap.{key_at-address, key_is}
-use Rattle.av_plain.proofs.NoDevice.{HasNoSlots, in-areas, never, no-slots}
+use Rattle.av_plain.proofs.NoDevice.{HasNoSlots, in-areas, never, no-slots, without-device}
 use Rattle.av_plain.proofs.Sound.Counts.{frame_at-none, slot-is, slot-itself}
 use Rattle.av_plain.proofs.Sound.Steps.{settle-entries, slots-dropped}
 use Rattle.av_laws.specs.NeedsFrame.{NoneWantsFrame}
@@ -450,7 +450,7 @@ write-served m w l p a bytes reply events k out shown device sound none legal is
     (refusal (tests m w l (Write p a bytes))) legal.answer
   where
     slots : HasNoSlots l
-    slots = no-slots m l device (in-areas m w l sound)
+    slots = no-slots m l (without-device m l device) (in-areas m w l sound)
 
     n : ℕ
     n = cond (length bytes == 0) 0 (pages_of (place_in_page a + length bytes))

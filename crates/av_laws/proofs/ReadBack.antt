@@ -56,7 +56,7 @@ use Rattle.av_plain.proofs.Report.Totals.{frames-add}
 use Rattle.av_plain.proofs.Sound.Counts.{slot-itself}
 use Rattle.av_plain.specs.Device.{HasNoDevice}
 use Rattle.av_laws.specs.ReadBack.{IsSmall, IsWideRow}
-use Rattle.av_plain.proofs.NoDevice.{HasNoSlots, IsPlainAt, accesses-plain, in-areas, kept-alone, kept-bare, no-area, no-remap-notes, none-on, no-slots, no-swapon, no-zap-notes}
+use Rattle.av_plain.proofs.NoDevice.{HasNoSlots, IsPlainAt, accesses-plain, in-areas, kept-alone, kept-bare, no-area, no-remap-notes, none-on, no-slots, no-swapon, no-zap-notes, without-device}
 use Rattle.av_plain.proofs.Access.{notes_of-note_events}
 use Rattle.av_plain.proofs.Sound.Pass.{AreReady, ready-first, ready-rest}
 use Rattle.av_plain.proofs.Sound.Reclaim.{active-ready, inactive-ready, outcome-kept}
@@ -350,7 +350,7 @@ kept-wide m sp l [] notes none s bare wide ready h = subst (AllByRecursion IsNot
 kept-wide m sp l (f ∷ fs) notes none s bare wide ready h =
     let in_use = ready-first l f fs ready in
     let low = wide-frame m f wide (s.in_range f in_use) in
-    let alone = kept-alone m sp l f h.0 none bare h.3 in
+    let alone = kept-alone m sp l f h.0 (without-device m l none) bare h.3 in
     let kept = outcome-kept m sp l f h.0 s in_use h.3 in
     let bare' = subst (λ ns. HasNoSlots (after_notes l ns)) (sym alone.1) (kept-bare l f alone.0 bare) in
     subst (AllByRecursion IsNote) (sym (h.2 ∙ ap (λ ns. ns ++ h.1) alone.1))
@@ -377,13 +377,13 @@ follows-fit m w l (Fork p q) events answer rows none s small fit fine out wide h
     fits-by events (Forked p q (inheritance l p) ∷ []) answer Done rows [] h.1 h.0 h.2 (tt, (tt, refl))
 follows-fit m w l (Exit p) events answer rows none s small fit fine out wide h =
     fits-by events (zaps_of l (keys_of_process l p)) answer Done rows [] h.1 h.0 h.2
-    (fits-notes (zaps_of l (keys_of_process l p)) Done [] (no-zap-notes m l (keys_of_process l p) none (in-areas m w l s)) tt (tt, refl))
+    (fits-notes (zaps_of l (keys_of_process l p)) Done [] (no-zap-notes m l (keys_of_process l p) (without-device m l none) (in-areas m w l s)) tt (tt, refl))
 follows-fit m w l (Mmap p len prot place) events answer rows none s small fit fine out wide h = by h.0 h.1 h.2
   where
     quiet : (place : Place) → notes_of (zaps_for_place l p (pages_of len) place) ≡ []
     quiet Auto = refl
     quiet (At a) = refl
-    quiet (Fixed a) = no-zap-notes m l (keys_in l p (page_of a) (pages_of len)) none (in-areas m w l s)
+    quiet (Fixed a) = no-zap-notes m l (keys_in l p (page_of a) (pages_of len)) (without-device m l none) (in-areas m w l s)
     quiet (NoReplace a) = refl
 
     by : (to : Option ℕ) → Goes (pages w p) (pages_of len) place to → IsMapAt answer to → Fits events answer rows
@@ -395,7 +395,7 @@ follows-fit m w l (Mmap p len prot place) events answer rows none s small fit fi
 follows-fit m w l (Munmap p a len) events answer rows none s small fit fine out wide h =
     fits-by events (zaps_of l (keys_in l p (page_of a) (pages_of len))) answer Done rows [] h.1 h.0 h.2
     (fits-notes (zaps_of l (keys_in l p (page_of a) (pages_of len))) Done []
-    (no-zap-notes m l (keys_in l p (page_of a) (pages_of len)) none (in-areas m w l s)) tt (tt, refl))
+    (no-zap-notes m l (keys_in l p (page_of a) (pages_of len)) (without-device m l none) (in-areas m w l s)) tt (tt, refl))
 follows-fit m w l (Mprotect p a len prot) events answer rows none s small fit fine out wide h =
     fits-by events [] answer _ rows [] h.1 h.0 h.2 (by (pages_to_hole (pages w p) (page_of a) (pages_of len) == pages_of len))
   where
@@ -412,16 +412,16 @@ follows-fit m w l (Mremap p a old new mode) events answer rows none s small fit 
     by None goes e es = fits-by events (these None) answer (Refused Enomem) rows [] es e h.4 (fits-notes (these None) (Refused Enomem) [] refl tt (tt, refl))
     by (Some page) goes e es = fits-by events (these (Some page)) answer (MapAt (address_of page)) rows [] es e h.4
         (fits-notes (these (Some page)) (MapAt (address_of page)) []
-        (no-remap-notes m l p (page_of a) (pages_of old) page (pages_of new) none (in-areas m w l s))
+        (no-remap-notes m l p (page_of a) (pages_of old) page (pages_of new) (without-device m l none) (in-areas m w l s))
         (remap-below (pages w p) a (pages_of old) (pages_of new) page mode fit.1 fit.4 goes) (tt, refl))
 follows-fit m w l (Read p a n) events answer rows none s small fit fine out wide h =
-    let plain = accesses-plain IsNote m w p none (λ page note is. plain-note m p page small.frames fit.0.most (small.below p page is) note) l
-    (pages_of_access false a n) events h.0 (in-areas m w l s) h.2 in
+    let plain = accesses-plain IsNote m w p (λ page note is. plain-note m p page small.frames fit.0.most (small.below p page is) note) l
+    (pages_of_access false a n) events h.0 (without-device m l none) (in-areas m w l s) h.2 in
     fits-by events events answer (read_answer a h.0 h.1) rows [] refl h.4 h.5
     (read-fits a h.0 h.1 (notes_of events) (access-stops m w l false p a n events h.0 fit.2.most h.2) h.3.2 plain.notes (subst CausesFit h.4 out))
 follows-fit m w l (Write p a bytes) events answer rows none s small fit fine out wide h =
-    let plain = accesses-plain IsNote m w p none (λ page note is. plain-note m p page small.frames fit.0.most (small.below p page is) note) l
-    (pages_of_access true a (length bytes)) events h.0 (in-areas m w l s) h.1 in
+    let plain = accesses-plain IsNote m w p (λ page note is. plain-note m p page small.frames fit.0.most (small.below p page is) note) l
+    (pages_of_access true a (length bytes)) events h.0 (without-device m l none) (in-areas m w l s) h.1 in
     fits-by events events answer (write_answer a h.0) rows [] refl h.2 h.3
     (write-fits a h.0 (notes_of events) (access-stops m w l true p a (length bytes) events h.0 fit.2.0.most h.1) plain.notes (subst CausesFit h.2 out))
 follows-fit m w l (Reclaim n) events answer rows none s small fit fine out wide h =
@@ -429,7 +429,7 @@ follows-fit m w l (Reclaim n) events answer rows none s small fit fine out wide 
       tt,
       (
         subst (AllByRecursion IsNote) (sym (notes_of-note_events h.0)) (kept-wide m (sparing w l None) l (from_tail n l.inactive) h.0 none s.ledger
-            (no-slots m l none (in-areas m w l s)) small.frames (inactive-ready m l n s.ledger) h.1),
+            (no-slots m l (without-device m l none) (in-areas m w l s)) small.frames (inactive-ready m l n s.ledger) h.1),
         refl,
       ),
     )
@@ -445,7 +445,7 @@ follows-fit m w l (Age n) events answer rows none s small fit fine out wide h =
 follows-fit m w l (Complete n) events answer rows none s small fit fine out wide h =
     fits-by events (note_events h.0) answer Done rows [] h.3 h.2 h.4
     (fits-notes (note_events h.0) Done [] (notes_of-note_events h.0 ∙ nothing-completes l n l.flight h.0
-    (no-slots m l none (in-areas m w l s)).flight h.1) tt (tt, refl))
+    (no-slots m l (without-device m l none) (in-areas m w l s)).flight h.1) tt (tt, refl))
 follows-fit m w l (Swapon k) events answer rows none s small fit fine out wide h =
     absurd (no-swapon m k ((is_on l k, Ebusy) ∷ (size_of m k == 0, Einval) ∷ []) none fine)
 follows-fit m w l (Swapoff k) events answer rows none s small fit fine out wide h = absurd (no-area m l k [] none s.areas_fit fine)
@@ -465,7 +465,7 @@ follows-fit m w l (AsksRmap p a) events answer rows none s small fit fine out wi
     fits-by events [] answer (walk_answer l e) rows (walk_rows l e) h.1 h.0 h.2 (walk-fits m w l (p, page_of a) s small e refl)
 follows-fit m w l (AsksEntry p a) events answer rows none s small fit fine out wide h =
     fits-by events [] answer (entry_answer l (entry l (p, page_of a))) rows [] h.1 h.0 h.2
-    (entry-fits m l (p, page_of a) none s.ledger (no-slots m l none (in-areas m w l s)) small.frames (entry l (p, page_of a)) refl)
+    (entry-fits m l (p, page_of a) none s.ledger (no-slots m l (without-device m l none) (in-areas m w l s)) small.frames (entry l (p, page_of a)) refl)
 follows-fit m w l (AsksSlot k page) events answer rows none s small fit fine out wide h =
     absurd (no-area m l k ((is_outside m (record { area = k; page = page }), Einval) ∷ []) none s.areas_fit fine)
 follows-fit m w l Stat events answer rows none s small fit fine out wide h = fits-by events [] answer (Counted (totals m w l)) rows [] h.1 h.0 h.2 (
@@ -474,7 +474,7 @@ follows-fit m w l Stat events answer rows none s small fit fine out wide h = fit
     free = omega (arith, sums, frames);
     active = omega (arith, sums, frames);
     inactive = omega (arith, sums, frames);
-    flight = subst IsWide (sym (ap length (no-slots m l none (in-areas m w l s)).flight)) (omega arith);
+    flight = subst IsWide (sym (ap length (no-slots m l (without-device m l none) (in-areas m w l s)).flight)) (omega arith);
     slots = subst IsWide (sym (ap (sum_by (λ (a : ℕ × SwapArea). a.1.slots)) (none-on m l none s.areas_fit))) (omega arith);
     free_slots = subst IsWide (sym (ap (sum_by (free_slots m l)) (none-on m l none s.areas_fit))) (omega arith);
     processes = omega (arith, few);

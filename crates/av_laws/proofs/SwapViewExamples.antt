@@ -225,7 +225,7 @@ module _ (flying stale : Bool) where
           dirty = dirty;
           free = free;
         };
-        lists = record { active = refl };
+        lists = record { active = refl; inactive = refl };
         tables = record {
           entries = λ p page. entries
               (entry (cached_out flying stale).ledger (p, page));

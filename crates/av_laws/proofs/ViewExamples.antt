@@ -339,7 +339,7 @@ right-stands = record {
   parts = record {
     ledger = record {
       frames = record { frames = refl; maps = λ f. refl; slots = λ f. refl; dirty = λ f. tt; free = free };
-      lists = record { active = refl };
+      lists = record { active = refl; inactive = refl };
       tables = record {
         entries = λ p page. entries (entry fork_state.ledger (p, page));
         write_bits = λ p page t f is write named. absurd

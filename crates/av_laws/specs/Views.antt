@@ -53,6 +53,7 @@ view_with areas write = record {
   dirty = λ f. false;
   free = 1 ∷ 2 ∷ 3 ∷ [];
   active = [];
+  inactive = fork_state.ledger.inactive;
   table = λ p page.
       option_map (λ e. record { entry = e; write = write }) (entry fork_state.ledger (p, page));
   processes = 2;
@@ -144,6 +145,7 @@ cached_view flying stale = let l = (cached_out flying stale).ledger in record {
   dirty = λ f. stale;
   free = 1 ∷ 2 ∷ 3 ∷ [];
   active = [];
+  inactive = l.inactive;
   table = λ p page. option_map (λ e. record { entry = e; write = false }) (entry l (p, page));
   processes = 1;
   areas = λ p. if p == 1 then Some (area 0x7fffffffe 0x7ffffffff 1 ∷ []) else None;

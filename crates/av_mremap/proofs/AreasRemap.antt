@@ -14,6 +14,7 @@ use Rattle.av_spaces.specs.Kin.{AnonsStay}
 use Rattle.av_spaces.specs.Spaces.{AllSpaces, AreThese, IsChanged, Spaces, areas_of, is_taken, pages_of}
 use Rattle.av_spaces.proofs.Kin.{stay_both, stay_same}
 use Rattle.av_spaces.proofs.Rising.{laid}
+use Rattle.av_plain.specs.Device.{Device}
 use Rattle.av_plain.specs.Areas.{chain_length}
 use Rattle.av_plain.specs.Mremap.{after_mremap, with_old_range}
 use Rattle.av_plain.specs.Transcript.{State}
@@ -67,8 +68,8 @@ module _ (old : Mem) (spaces : AllSpaces) (anons : AnonSet) (p : ℕ) (alive : i
       lives q false e = ap is_some (h.others q (other q p e))
 
 -- nothing has changed
-pub unchanged : (old : Mem) (s : State) → Keeps old s → (p : ℕ) → HasRemap old old p (s.areas p)
-unchanged old s keeps p = record {
+pub unchanged : (d : Device) (old : Mem) (s : State) → Keeps d old s → (p : ℕ) → HasRemap old old p (s.areas p)
+unchanged d old s keeps p = record {
   areas = λ q page. by q page (q == p) refl;
   alive = λ q. refl;
   number = refl;
@@ -83,7 +84,7 @@ unchanged old s keeps p = record {
 
 -- ---- the changes of an mremap
 
-module _ (old : Mem) (s : State) (keeps : Keeps old s) (p : ℕ) (alive : is_some (areas_of old.spaces.processes p) ≡ true) where
+module _ (d : Device) (old : Mem) (s : State) (keeps : Keeps d old s) (p : ℕ) (alive : is_some (areas_of old.spaces.processes p) ≡ true) where
   abbrev on : Pages
   on = pages_of old.spaces.processes p
 
@@ -95,7 +96,7 @@ module _ (old : Mem) (s : State) (keeps : Keeps old s) (p : ℕ) (alive : is_som
   was = lengths old.spaces.areas old.anons
 
   alike_before : AreAlike was len on
-  alike_before = lengths_alike old s keeps old.spaces old.anons (stay_same old.spaces old.anons keeps.anons) p
+  alike_before = lengths_alike d old s keeps old.spaces old.anons (stay_same old.spaces old.anons keeps.anons) p
 
   module _ (spaces : AllSpaces) (anons : AnonSet) (stay : AnonsStay old.spaces old.anons spaces anons) (from n m : ℕ) where
     shrunk_is : nat_lt m n ≡ true → (page : ℕ) → after_unmap (from + m) (from + m + (n - m)) on page ≡ after_resize len from n m (s.areas p) page
@@ -172,7 +173,7 @@ module _ (old : Mem) (s : State) (keeps : Keeps old s) (p : ℕ) (alive : is_som
       mapped_is : (page : ℕ) → after_map (lengths spaces.areas anons) p from (from + n) prot (pages_of spaces.processes p) page
           ≡ after_map len p from (from + n) prot (after_move len from n to m (s.areas p)) page
       mapped_is page = map_alike (lengths spaces.areas anons) len p from (from + n) prot (pages_of spaces.processes p) refl
-          (lengths_alike old s keeps spaces anons stay p) page
+          (lengths_alike d old s keeps spaces anons stay p) page
           ∙ (λ i. after_map len p from (from + n) prot (λ o. (h.pages o ∙ moved_is o) i) page)
 
       pub has_left_areas : (to == from) ≡ false
@@ -182,9 +183,9 @@ module _ (old : Mem) (s : State) (keeps : Keeps old s) (p : ℕ) (alive : is_som
           (after_mremap len p from n to m (Some prot) (s.areas p)) (λ page. mapped_is page ∙ elsewhere (Some prot) e page)
 
 -- as many pages as before change nothing
-pub unchanged_size : (old : Mem) (s : State) → Keeps old s → (p from n m : ℕ) → n ≤ m → m ≤ n
+pub unchanged_size : (d : Device) (old : Mem) (s : State) → Keeps d old s → (p from n m : ℕ) → n ≤ m → m ≤ n
     → HasRemap old old p (after_resize (chain_length s.anons) from n m (s.areas p))
-unchanged_size old s keeps p from n m more less = subst (HasRemap old old p) (sym is) (unchanged old s keeps p)
+unchanged_size d old s keeps p from n m more less = subst (HasRemap old old p) (sym is) (unchanged d old s keeps p)
   where
     not_less : (a b : ℕ) → b ≤ a → nat_lt a b ≡ false
     not_less a b h = grind (arith, nat_tests, h)

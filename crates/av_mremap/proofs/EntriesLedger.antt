@@ -7,10 +7,11 @@ use Rattle.av_frames.specs.Store.{shown}
 use Rattle.av_pagetable.specs.Entries.{entry_at}
 use Rattle.av_pagetable.specs.declared.pte.Pte.{Pte}
 use Rattle.av_pagetable.specs.declared.pte.Pte.TheVariants.{Empty}
-use Rattle.av_plain.specs.Choice.{Chooses}
+use Rattle.av_base.specs.declared.slot.Slot.{Slot}
+use Rattle.av_plain.specs.Device.{Device}
 use Rattle.av_plain.specs.Event.{Event, Moved, after, after_move, put_all}
 use Rattle.av_plain.specs.Fault.{is_shared}
-use Rattle.av_plain.specs.Ledger.{Entry, Ledger, Setting, entry, map_count, names_frame, slot_of}
+use Rattle.av_plain.specs.Ledger.{Entry, Ledger, Setting, entry, map_count, names_frame, slot_count, slot_of}
 use Rattle.av_plain.specs.Sound.{uses}
 use Rattle.av_plain.specs.Stands.{LedgerStands, Pte as Plain, TablesStand, View, entry_of, free_of}
 use Rattle.av_plain.proofs.Choice.{chooses-kept, new_free-none, no-slot-chosen}
@@ -19,13 +20,13 @@ use Rattle.av_plain.proofs.Ledger.NoSwap.{shared_is}
 use Rattle.av_plain.proofs.Mremap.{entry-moved, others_of, shifted}
 use Rattle.av_plain.proofs.Sound.Mremap.{frames-stay, moved-kept, slots-stay}
 use Rattle.av_reclaim.specs.declared.mem.Mem.{Mem}
-use Rattle.av_reclaim.specs.Mem.{HasLedger, SoundLedger, frame_count, plain, setting, view, view_of_parts}
-use Rattle.av_reclaim.proofs.MemLaws.{no_cache}
+use Rattle.av_reclaim.specs.Mem.{HasLedger, SoundLedger, plain, setting_by, view, view_of_parts}
+use Rattle.av_reclaim.proofs.MemLaws.{no_cache, none_used}
 use Rattle.av_mremap.specs.Entries.{HasMoved, moved_entries}
 
 -- ---- the parts
 
-module _ (m : Setting) (v : View) (l : Ledger) (p n from to : ℕ) (parts : SoundLedger m v l) (cache : l.cache ≡ [])
+module _ (m : Setting) (listed : ℕ) (v : View) (l : Ledger) (p n from to : ℕ) (parts : SoundLedger m listed v l) (cache : l.cache ≡ [])
     (bare : (o : ℕ) → within to n o ≡ true → entry l (p, o) ≡ None) where
   free : (o : ℕ) → within to n o ≡ true → within from n o ≡ false → entry l (p, o) ≡ None
   free o inside _ = bare o inside
@@ -90,7 +91,7 @@ module _ (m : Setting) (v : View) (l : Ledger) (p n from to : ℕ) (parts : Soun
       dirty = parts.parts.frames.dirty;
       free = λ f below. parts.parts.frames.free f below ∙ (λ i. sym (same_maps f) i == 0 && is_none (slot_of l f));
     };
-    lists = record { active = parts.parts.lists.active };
+    lists = record { active = parts.parts.lists.active; inactive = parts.parts.lists.inactive };
     tables = tables_now;
     swap = record {
       finds = parts.parts.swap.finds;
@@ -103,10 +104,11 @@ module _ (m : Setting) (v : View) (l : Ledger) (p n from to : ℕ) (parts : Soun
   only : after_move p n from to l ≡ now
   only = put_all-only (shifted p n from to l.entries) (record l { entries = others_of p from n l.entries })
 
-  pub stands_now : SoundLedger m v_now (after_move p n from to l)
+  pub stands_now : SoundLedger m listed v_now (after_move p n from to l)
   stands_now = record {
     sound = moved-kept m l p n from to parts.sound free;
     parts = subst (LedgerStands m v_now) (sym only) parts_now;
+    lists = parts.lists;
   }
 
   -- each frame has as many uses
@@ -115,14 +117,14 @@ module _ (m : Setting) (v : View) (l : Ledger) (p n from to : ℕ) (parts : Soun
 
 -- ---- the memory system
 
-module _ (old new : Mem) (p n from to : ℕ) (bare : (o : ℕ) → within to n o ≡ true → entry_at old.tables p o ≡ Empty)
+module _ (d : Device) (old new : Mem) (p n from to : ℕ) (bare : (o : ℕ) → within to n o ≡ true → entry_at old.tables p o ≡ Empty)
     (moved : entry_at new.tables ≡ moved_entries Empty p n from to (entry_at old.tables))
-    (frames : new.frames ≡ old.frames) (spaces : new.spaces ≡ old.spaces) (anons : new.anons ≡ old.anons) (l : Ledger) (stands : HasLedger old l) where
+    (rest : new ≡ record old { tables = new.tables }) (l : Ledger) (stands : HasLedger d old l) where
   abbrev event : Event
   event = Moved p n from to
 
-  seen_so : view new ≡ record (view old) { table = moved_entries None p n from to (view old).table }
-  seen_so = λ i. view_of_parts (shown (frames i)) (λ q o. table q o i) (spaces i) (anons i)
+  seen_so : view (record old { tables = new.tables }) ≡ record (view old) { table = moved_entries None p n from to (view old).table }
+  seen_so = λ i. view_of_parts (shown old.frames) old.lists (λ q o. table q o i) old.spaces old.anons
     where
       pushed : (a b : Bool) (x y : Pte) → plain (cond a x (cond b Empty y)) ≡ cond a (plain x) (cond b None (plain y))
       pushed true b x y = refl
@@ -133,23 +135,22 @@ module _ (old new : Mem) (p n from to : ℕ) (bare : (o : ℕ) → within to n o
       table q o = ap (λ f. plain (f q o)) moved
           ∙ pushed (q == p && within to n o) (q == p && within from n o) (entry_at old.tables p (from + (o - to))) (entry_at old.tables q o)
 
-  same_count : frame_count new ≡ frame_count old
-  same_count = ap (λ f. (shown f).count) frames
-
   none_at : (o : ℕ) → within to n o ≡ true → entry l (p, o) ≡ None
   none_at o inside = sym (stands.parts.tables.entries p o) ∙ ap (λ t. entry_of (plain t)) (bare o inside)
 
   no_slots : l.cache ≡ []
   no_slots = no_cache l stands.parts.swap.finds
 
-  abbrev m : Setting
-  m = setting (frame_count old)
+  unused : (s : Slot) → slot_count l s ≡ 0
+  unused s = none_used l s no_slots (sym (stands.parts.swap.counts s))
 
-  pub has_moved : HasMoved old new l p n from to
-  has_moved = record {
-    stands = subst (λ c. SoundLedger (setting c) (view new) (after l event)) (sym same_count)
-        (subst (λ v. SoundLedger m v (after l event)) (sym seen_so) (stands_now m (view old) l p n from to stands no_slots none_at));
-    free = subst (Chooses m None l event (free_of (view old))) (sym (ap free_of seen_so))
-        (chooses-kept m None l event (free_of (view old)) (no-slot-chosen m None l event (view old).slots (λ k. refl) refl refl) refl
-        (new_free-none m l (after l event) (λ f below. same_uses m (view old) l p n from to stands no_slots none_at f)));
-  }
+  abbrev m : Setting
+  m = setting_by d old
+
+  pub has_moved : HasMoved d old new l p n from to
+  has_moved = subst (λ (k : Mem). HasMoved d old k l p n from to) (sym rest) (record {
+    stands = subst (λ v. SoundLedger m old.lists.frames v (after l event)) (sym seen_so)
+        (stands_now m old.lists.frames (view old) l p n from to stands no_slots none_at);
+    free = chooses-kept m None l event (free_of (view old)) (no-slot-chosen m None l event (view old).slots unused refl refl) refl
+        (new_free-none m l (after l event) (λ f below. same_uses m old.lists.frames (view old) l p n from to stands no_slots none_at f));
+  })

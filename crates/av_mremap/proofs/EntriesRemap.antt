@@ -6,6 +6,7 @@ use Rattle.av_pagetable.specs.Entries.{entry_at}
 use Rattle.av_pagetable.specs.declared.pte.Pte.{Pte}
 use Rattle.av_pagetable.specs.declared.pte.Pte.TheVariants.{Away, Empty, Here, Zero}
 use Rattle.av_plain.specs.Choice.{Chooses, ChoosesAll}
+use Rattle.av_plain.specs.Device.{Device, setting_of}
 use Rattle.av_plain.specs.Event.{Event, Moved, after_all, notes_of}
 use Rattle.av_plain.specs.Ledger.{Ledger, entry}
 use Rattle.av_plain.specs.Mremap.{range_zaps, remap_events}
@@ -14,13 +15,13 @@ use Rattle.av_plain.specs.Zap.{keys_in, zaps_of}
 use Rattle.av_plain.proofs.Access.{after_all-append, chooses-append, notes_of-append}
 use Rattle.av_plain.proofs.Mremap.{after-elsewhere, target_free, then_tail, then_target}
 use Rattle.av_reclaim.specs.declared.mem.Mem.{Mem}
-use Rattle.av_reclaim.specs.Mem.{HasLedger, frame_count, plain, setting, view}
+use Rattle.av_reclaim.specs.Mem.{HasLedger, frame_count, plain, setting_by, view}
 use Rattle.av_reclaim.specs.Zap.{HasZapped}
 use Rattle.av_mremap.specs.Entries.{HasMoved, HasRemapped}
 
 -- a place where the ledger has no entry is empty
-pub no_entry : (k : Mem) (l : Ledger) (p page : ℕ) → HasLedger k l → entry l (p, page) ≡ None → entry_at k.tables p page ≡ Empty
-no_entry k l p page stands none = by (entry_at k.tables p page) (stands.parts.tables.entries p page ∙ none)
+pub no_entry : (d : Device) (k : Mem) (l : Ledger) (p page : ℕ) → HasLedger d k l → entry l (p, page) ≡ None → entry_at k.tables p page ≡ Empty
+no_entry d k l p page stands none = by (entry_at k.tables p page) (stands.parts.tables.entries p page ∙ none)
   where
     by : (t : Pte) → entry_of (plain t) ≡ None → t ≡ Empty
     by Empty e = refl
@@ -29,28 +30,28 @@ no_entry k l p page stands none = by (entry_at k.tables p page) (stands.parts.ta
     by (Away s) e = cc
 
 -- the entries of a range have gone, said by its length
-pub of_length : (old new : Mem) (l : Ledger) (p from past n : ℕ) → past - from ≡ n → HasZapped old new l (zaps_of l (keys_in l p from (past - from)))
-    → HasZapped old new l (range_zaps l p from n)
-of_length old new l p from past n same h = subst (λ k. HasZapped old new l (range_zaps l p from k)) same h
+pub of_length : (d : Device) (old new : Mem) (l : Ledger) (p from past n : ℕ) → past - from ≡ n → HasZapped d old new l (zaps_of l (keys_in l p from (past - from)))
+    → HasZapped d old new l (range_zaps l p from n)
+of_length d old new l p from past n same h = subst (λ k. HasZapped d old new l (range_zaps l p from k)) same h
 
 -- in place those past the new pages have gone
-pub in_place : (old new : Mem) (l : Ledger) (p from n to m : ℕ) → (to == from) ≡ true → HasZapped old new l (range_zaps l p (from + m) (n - m))
-    → HasRemapped old new l (remap_events l p from n to m)
-in_place old new l p from n to m here t = subst (HasRemapped old new l) (sym is) (record { stands = t.stands; notes = t.notes; free = t.free })
+pub in_place : (d : Device) (old new : Mem) (l : Ledger) (p from n to m : ℕ) → (to == from) ≡ true → HasZapped d old new l (range_zaps l p (from + m) (n - m))
+    → HasRemapped d old new l (remap_events l p from n to m)
+in_place d old new l p from n to m here t = subst (HasRemapped d old new l) (sym is) (record { stands = t.stands; notes = t.notes; free = t.free })
   where
     is : remap_events l p from n to m ≡ range_zaps l p (from + m) (n - m)
     is = ap (λ b. cond b (range_zaps l p (from + m) (n - m))
         ((range_zaps l p to m ++ range_zaps (then_target l p from n to m) p (from + m) (n - m)) ++ Moved p (min n m) from to ∷ [])) here
 
-module _ (old mid gone : Mem) (l : Ledger) (p from n to m : ℕ) (first : HasZapped old mid l (range_zaps l p to m))
-    (second : HasZapped mid gone (then_target l p from n to m) (range_zaps (then_target l p from n to m) p (from + m) (n - m))) where
+module _ (d : Device) (old mid gone : Mem) (l : Ledger) (p from n to m : ℕ) (first : HasZapped d old mid l (range_zaps l p to m))
+    (second : HasZapped d mid gone (then_target l p from n to m) (range_zaps (then_target l p from n to m) p (from + m) (n - m))) where
   -- the range to which they go is empty
   pub bare : (o : ℕ) → within to (min n m) o ≡ true → entry_at gone.tables p o ≡ Empty
-  bare o inside = no_entry gone (then_tail l p from n to m) p o second.stands (target_free l p from n to m o inside)
+  bare o inside = no_entry d gone (then_tail l p from n to m) p o second.stands (target_free l p from n to m o inside)
 
   -- elsewhere the rest has moved, too
   module _ (new : Mem) (counts : frame_count mid ≡ frame_count old) (counts' : frame_count gone ≡ frame_count old)
-      (third : HasMoved gone new (then_tail l p from n to m) p (min n m) from to) where
+      (third : HasMoved d gone new (then_tail l p from n to m) p (min n m) from to) where
     abbrev target : List Event
     target = range_zaps l p to m
 
@@ -66,22 +67,22 @@ module _ (old mid gone : Mem) (l : Ledger) (p from n to m : ℕ) (first : HasZap
     silent : notes_of ((target ++ tail) ++ last) ≡ []
     silent = notes_of-append (target ++ tail) last ∙ ap (λ ns. ns ++ []) (notes_of-append target tail ∙ (λ i. first.notes i ++ second.notes i))
 
-    chosen : ChoosesAll (setting (frame_count old)) None l ((target ++ tail) ++ last) (free_of (view old)) (free_of (view new))
-    chosen = chooses-append (setting (frame_count old)) None l (target ++ tail) last (free_of (view old)) (free_of (view gone)) (free_of (view new))
-        (chooses-append (setting (frame_count old)) None l target tail (free_of (view old)) (free_of (view mid)) (free_of (view gone)) first.free
-        (subst (λ c. ChoosesAll (setting c) None (then_target l p from n to m) tail (free_of (view mid)) (free_of (view gone))) counts second.free)) (
+    chosen : ChoosesAll (setting_by d old) None l ((target ++ tail) ++ last) (free_of (view old)) (free_of (view new))
+    chosen = chooses-append (setting_by d old) None l (target ++ tail) last (free_of (view old)) (free_of (view gone)) (free_of (view new))
+        (chooses-append (setting_by d old) None l target tail (free_of (view old)) (free_of (view mid)) (free_of (view gone)) first.free
+        (subst (λ c. ChoosesAll (setting_of c d) None (then_target l p from n to m) tail (free_of (view mid)) (free_of (view gone))) counts second.free)) (
           free_of (view new),
-          subst (λ x. Chooses (setting (frame_count old)) None x (Moved p (min n m) from to) (free_of (view gone)) (free_of (view new))) (sym both)
-              (subst (λ c. Chooses (setting c) None (then_tail l p from n to m) (Moved p (min n m) from to) (free_of (view gone)) (free_of (view new)))
+          subst (λ x. Chooses (setting_by d old) None x (Moved p (min n m) from to) (free_of (view gone)) (free_of (view new))) (sym both)
+              (subst (λ c. Chooses (setting_of c d) None (then_tail l p from n to m) (Moved p (min n m) from to) (free_of (view gone)) (free_of (view new)))
               counts' third.free),
           refl,
         )
 
-    pub elsewhere : (to == from) ≡ false → HasRemapped old new l (remap_events l p from n to m)
+    pub elsewhere : (to == from) ≡ false → HasRemapped d old new l (remap_events l p from n to m)
     elsewhere there = record {
-      stands = subst (HasLedger new) (sym (after-elsewhere l p from n to m there)) third.stands;
+      stands = subst (HasLedger d new) (sym (after-elsewhere l p from n to m there)) third.stands;
       notes = subst (λ es. notes_of es ≡ []) (sym is) silent;
-      free = subst (λ es. ChoosesAll (setting (frame_count old)) None l es (free_of (view old)) (free_of (view new))) (sym is) chosen;
+      free = subst (λ es. ChoosesAll (setting_by d old) None l es (free_of (view old)) (free_of (view new))) (sym is) chosen;
     }
       where
         is : remap_events l p from n to m ≡ (target ++ tail) ++ last

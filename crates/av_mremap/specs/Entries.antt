@@ -2,11 +2,12 @@
 use Rattle.std.specs.Prelude.{◌≡◌, ℕ, ◌+◌, ◌-◌, ◌&&◌, ◌==◌, if◌then◌else◌, List, [], None}
 use Rattle.av_base.specs.Words.{within}
 use Rattle.av_plain.specs.Choice.{Chooses, ChoosesAll}
+use Rattle.av_plain.specs.Device.{Device}
 use Rattle.av_plain.specs.Event.{Event, Moved, after, after_all, notes_of}
 use Rattle.av_plain.specs.Ledger.{Ledger}
 use Rattle.av_plain.specs.Stands.{free_of}
 use Rattle.av_reclaim.specs.declared.mem.Mem.{Mem}
-use Rattle.av_reclaim.specs.Mem.{setting, frame_count, view, HasLedger}
+use Rattle.av_reclaim.specs.Mem.{setting_by, view, HasLedger}
 
 -- what n pages of a process have, from one page on, is on as many others then, and nothing is left
 -- where it was
@@ -17,14 +18,14 @@ moved_entries nothing p n from to f q page =
     else f q page
 
 -- the entries have moved: nothing is taken, and nothing becomes free
-pub record HasMoved (old new : Mem) (l : Ledger) (p n from to : ℕ) : Type 0 where
-  pub stands : HasLedger new (after l (Moved p n from to))
-  pub free : Chooses (setting (frame_count old)) None l (Moved p n from to)
+pub record HasMoved (d : Device) (old new : Mem) (l : Ledger) (p n from to : ℕ) : Type 0 where
+  pub stands : HasLedger d new (after l (Moved p n from to))
+  pub free : Chooses (setting_by d old) None l (Moved p n from to)
       (free_of (view old)) (free_of (view new))
 
 -- these events of an mremap have happened, without a note, and what is free follows them
-pub record HasRemapped (old new : Mem) (l : Ledger) (events : List Event) : Type 0 where
-  pub stands : HasLedger new (after_all l events)
+pub record HasRemapped (d : Device) (old new : Mem) (l : Ledger) (events : List Event) : Type 0 where
+  pub stands : HasLedger d new (after_all l events)
   pub notes : notes_of events ≡ []
-  pub free : ChoosesAll (setting (frame_count old)) None l events
+  pub free : ChoosesAll (setting_by d old) None l events
       (free_of (view old)) (free_of (view new))

@@ -4,6 +4,7 @@ ghost use Rattle.std.specs.Prelude.{◌≡◌, ℕ, ◌+◌, ◌-◌, ◌<◌, �
 ghost use Rattle.av_base.specs.Limits.{top_page};
 ghost use Rattle.av_mremap.specs.Areas.{HasRemap};
 ghost use Rattle.av_plain.specs.Areas.{chain_length};
+ghost use Rattle.av_plain.specs.Device.{Device};
 ghost use Rattle.av_plain.specs.Mremap.{after_mremap};
 ghost use Rattle.av_plain.specs.Transcript.{State};
 ghost use Rattle.av_reclaim.specs.Mem.{IsSteady, Keeps};
@@ -38,11 +39,11 @@ pub fn remap_areas(
         (from + new_pages) (pages_of mem.old.spaces.processes process) }
     requires moves { (to ≡ from → ⊥) → IsMove from pages to new_pages
         (pages_of mem.old.spaces.processes process) }
-    ensures remaps { (s : State) → Keeps mem.old s →
+    ensures remaps { (d : Device) (s : State) → Keeps d mem.old s →
         OnOk result (HasRemap mem.old mem.new process (after_mremap (chain_length s.anons)
         process from pages to new_pages left (s.areas process))) }
-    ensures frames { mem.new.frames ≡ mem.old.frames }
-    ensures tables { mem.new.tables ≡ mem.old.tables }
+    ensures rest { mem.new
+        ≡ record mem.old { spaces = mem.new.spaces; anons = mem.new.anons } }
 {
     if to == from {
         return resize_areas(mem, process, from, pages, new_pages);
@@ -69,11 +70,11 @@ fn resize_areas(
     requires shrinks { new_pages < pages → from + pages ≤ top_page }
     requires grows { pages < new_pages → IsGrowth (from + pages - 1)
         (from + new_pages) (pages_of mem.old.spaces.processes process) }
-    ensures resizes { (s : State) → Keeps mem.old s →
+    ensures resizes { (d : Device) (s : State) → Keeps d mem.old s →
         OnOk result (HasRemap mem.old mem.new process (after_resize (chain_length s.anons)
         from pages new_pages (s.areas process))) }
-    ensures frames { mem.new.frames ≡ mem.old.frames }
-    ensures tables { mem.new.tables ≡ mem.old.tables }
+    ensures rest { mem.new
+        ≡ record mem.old { spaces = mem.new.spaces; anons = mem.new.anons } }
 {
     if new_pages < pages {
         let past = from + new_pages;

@@ -6,6 +6,7 @@ ghost use Rattle.av_mremap.specs.Entries.{moved_entries, HasMoved, HasRemapped};
 ghost use Rattle.av_pagetable.specs.Entries.{entry_at, has};
 ghost use Rattle.av_pagetable.specs.Table.{page_bound};
 ghost use Rattle.av_pagetable.specs.declared.pte.Pte.TheVariants as Pte;
+ghost use Rattle.av_plain.specs.Device.{Device};
 ghost use Rattle.av_plain.specs.Ledger.{Ledger};
 ghost use Rattle.av_plain.specs.Mremap.{remap_events};
 ghost use Rattle.av_reclaim.specs.Mem.{HasLedger, IsOrderly};
@@ -35,8 +36,9 @@ pub fn remap_entries(
     requires old_range { (to ≡ from → ⊥) → from + pages ≤ page_bound }
     requires new_range { (to ≡ from → ⊥) → to + new_pages ≤ page_bound }
     requires apart { (to ≡ from → ⊥) → (to + new_pages ≤ from) ⊎ (from + pages ≤ to) }
-    ensures remaps { (l : Ledger) → HasLedger mem.old l → OnOk result (HasRemapped mem.old
-        mem.new l (remap_events l process from pages to new_pages)) }
+    ensures remaps { (d : Device) (l : Ledger) → HasLedger d mem.old l →
+        OnOk result (HasRemapped d mem.old mem.new l
+        (remap_events l process from pages to new_pages)) }
     ensures rest { KeepsRest mem.old mem.new }
 {
     let (stay, past) = (from + new_pages, from + pages);
@@ -68,11 +70,11 @@ fn move_entries(
     requires apart { (to + pages ≤ from) ⊎ (from + pages ≤ to) }
     requires bare { (page : ℕ) → within to pages page ≡ true →
         entry_at mem.old.tables process page ≡ Pte.Empty }
-    ensures moves { (l : Ledger) → HasLedger mem.old l →
-        OnOk result (HasMoved mem.old mem.new l process pages from to) }
+    ensures moves { (d : Device) (l : Ledger) → HasLedger d mem.old l →
+        OnOk result (HasMoved d mem.old mem.new l process pages from to) }
     ensures entries { OnOk result (entry_at mem.new.tables
         ≡ moved_entries Pte.Empty process pages from to (entry_at mem.old.tables)) }
-    ensures frames { mem.new.frames ≡ mem.old.frames }
+    ensures stay { mem.new ≡ record mem.old { tables = mem.new.tables } }
     ensures rest { KeepsRest mem.old mem.new }
 {
     let past = from + pages;

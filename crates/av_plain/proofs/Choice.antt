@@ -9,7 +9,6 @@ use Rattle.av_plain.specs.Ledger.{Ledger, Setting, Cached, Key, key_cmp, Entry, 
 use Rattle.av_plain.specs.Event.{Event, set_entry, after, after_all, after_zap}
 use Rattle.av_clusters.specs.Clusters.{Slots, give_slot}
 use Rattle.av_base.specs.declared.slot.Slot.{Slot}
-use Rattle.av_plain.specs.Device.{HasNoDevice}
 use Rattle.av_plain.specs.Choice.{AreaSlots, Chooses, ChoosesAll, ChoosesFrame, ChoosesSlot, Free, IsGiven, SwitchesArea, frame_in, new_free, slot_in}
 use Rattle.av_plain.specs.Sound.{uses}
 use Rattle.av_plain.proofs.Ledger.Order.{weight}
@@ -89,21 +88,29 @@ new_free-one m l l' f below had gone others = one-passes (λ f. is_free l' f && 
 
 -- ---- an event that makes none free
 
--- where no area is attached, an event that neither takes a slot nor turns an area leaves the slots
-pub no-slot-chosen : (m : Setting) (closing : Option ℕ) (l : Ledger) (e : Event) (slots : AreaSlots) → HasNoDevice m → SwitchesArea m e slots slots →
-    slot_in e ≡ None → ChoosesSlot m closing l e slots slots
+-- where no slot is in use, an event that neither takes a slot nor turns an area leaves the slots
+pub no-slot-chosen : (m : Setting) (closing : Option ℕ) (l : Ledger) (e : Event) (slots : AreaSlots) → ((s : Slot) → slot_count l s ≡ 0) →
+    SwitchesArea m e slots slots → slot_in e ≡ None → ChoosesSlot m closing l e slots slots
 no-slot-chosen m closing l e slots none turns takes = (
   slots,
   slots,
   turns,
   subst (λ o. MatchOption o (slots ≡ slots) (λ s. IsGiven m closing l s slots slots)) (sym takes) refl,
-  λ i k. sym (ap (given k) (none k)) i,
+  λ i k. sym (given k) i,
 )
   where
-    given : ℕ → Option ℕ → Slots
-    given k size = fold give_slot (slots k)
+    unused : (k page : ℕ) → (let s : Slot = record { area = k; page = page } in slot_count (after l e) s == 0 && nat_lt 0 (slot_count l s)) ≡ false
+    unused k page = ap (λ n. slot_count (after l e) (record { area = k; page = page }) == 0 && nat_lt 0 n) (none (record { area = k; page = page }))
+        ∙ by (slot_count (after l e) (record { area = k; page = page }) == 0)
+      where
+        by : (b : Bool) → (b && false) ≡ false
+        by true = refl
+        by false = refl
+
+    given : (k : ℕ) → fold give_slot (slots k)
         (filter (λ page. let s : Slot = record { area = k; page = page } in slot_count (after l e) s == 0 && nat_lt 0 (slot_count l s))
-        (range_with_len 1 (unwrap_or size 0 - 1)))
+        (range_with_len 1 (unwrap_or (m.sizes k) 0 - 1))) ≡ slots k
+    given k = ap (fold give_slot (slots k)) (none-passes _ 1 (unwrap_or (m.sizes k) 0 - 1) (λ page below. unused k page))
 
 -- nothing is taken and nothing becomes free
 pub chooses-kept : (m : Setting) (closing : Option ℕ) (l : Ledger) (e : Event) (free : Free) → ChoosesSlot m closing l e free.slots free.slots →

@@ -1,4 +1,5 @@
--- Without a device no slot is in use: a page has at most one note, and is never lost.
+-- Where no swap area that is on has a page no slot is in use: a page has at most one note, and is never lost. So it is without a device, and where no area
+-- is on.
 use Rattle.std.specs.List.{AllByRecursion, range_with_len}
 use Rattle.std.specs.Prelude.{MatchBool, MatchOption, IsTrue, unwrap_or}
 use Rattle.std.proofs.Common.{◌≡◌, ◌⊎◌, inl, inr, ℕ, zero, suc, ◌+◌, ◌-◌, ◌<◌, min, Bool, true, false, cond, not, ◌&&◌, List, [], ◌∷◌, ◌++◌, map, take, Option, Some, None, is_none, is_some, refl, sym, ap, subst, ◌∙◌, arith, ◌==◌, nat_lt, append-nil}
@@ -11,8 +12,8 @@ use Rattle.av_trace.specs.declared.reply.OutOf.{OutOf}
 use Rattle.av_trace.specs.declared.note.Note.TheVariants.{Aged, Copied, Dropped, Failed, Kept, Loaded, Mapped, New, Put, Started, Unmapped, Written, Zeroed}
 use Rattle.av_plain.specs.Device.{HasNoDevice}
 use Rattle.av_plain.specs.World.{Page, World, pages}
-use Rattle.av_plain.specs.Ledger.{has_free_slot, is_open, slot_count, Cached, Entry, InFrame, InSlot, Key, Ledger, Setting, Zero, entry, SwapArea, has_free, is_on, is_usable, map_count, may_give, names_slot, same_slot, size_of, slot_entries, slot_of}
-use Rattle.av_plain.specs.Event.{Event, Moved, Used, after_all, after_note, after_notes, note_events, notes_of, when}
+use Rattle.av_plain.specs.Ledger.{has_free_slot, is_open, slot_count, Cached, Entry, InFrame, InSlot, Key, Ledger, Setting, Zero, entry, frame_at, has_free, is_on, is_orphan, is_usable, map_count, may_give, names_slot, same_slot, size_of, slot_entries, slot_of, SwapArea}
+use Rattle.av_plain.specs.Event.{Event, Moved, Used, after_all, after_note, after_notes, after_use, after_use_of, change_entries, if_some, note_events, notes_of, off_cache, off_flight, set_entry, to_inactive_tail, when, with_stale}
 use Rattle.av_plain.specs.Pass.{Completes, IsPass, IsSlotFor, Seeks, Spared, Turns, frames_in_turn, is_dirty, is_stuck, stays_cached, turn_notes}
 use Rattle.av_plain.specs.Fault.{drop_of_slot, ComesIn, CopyOnWrite, Denied, IsMade, Lost, MapCached, Need, NewPage, Ready, RunsOut, Serves, Sparing, Starved, Stop, SwapIn, Touches, ZeroPage, drop_at, drop_of_entry, is_shared, need, permits, pinned_by, sparing, was_slot}
 use Rattle.av_plain.specs.Access.{Accesses, End, Stopped, Whole, page_events}
@@ -20,9 +21,9 @@ use Rattle.av_plain.specs.Sound.{AreasFit, count, flights, is_there, slots}
 use Rattle.av_plain.proofs.Event.{slot_entries-unseen}
 use Rattle.av_plain.proofs.Ledger.{how_many-append, how_many-found}
 use Rattle.av_plain.proofs.Ledger.NoSwap.{no_slot}
-use Rattle.av_plain.proofs.Access.{notes_of-append, notes_of-note_events}
+use Rattle.av_plain.proofs.Access.{after_all-append, note_events-all, notes_of-append, notes_of-note_events}
 use Rattle.av_plain.proofs.Sound.Counts.{slot-itself}
-use Rattle.av_plain.proofs.Sound.There.{InAreas, accesses-in}
+use Rattle.av_plain.proofs.Sound.There.{InAreas, accesses-in, settle-on}
 use Rattle.std.specs.FinMap.Entries.{find, is_sorted}
 use Rattle.std.specs.Ordering.{eq_by_cmp, nat_cmp}
 use Rattle.std.specs.Prelude.{if◌then◌else◌, length, T}
@@ -52,9 +53,10 @@ use Rattle.av_trace.specs.declared.note.Cause.TheVariants.{NoSlot, Referenced, W
 use Rattle.av_plain.specs.Refusal.{Refuses, Tests, is_off, is_outside, no_device_at, refusal, tests}
 use Rattle.av_plain.specs.Report.{entry_answer, walk_answer}
 use Rattle.av_plain.specs.Sound.{AllSound}
+use Rattle.av_plain.specs.Swapon.{is_swapon}
 use Rattle.av_plain.specs.Step.{Follows, IsLegal, causes, failed_frames, fault_answers}
 use Rattle.av_plain.specs.World.{pages_to_hole}
-use Rattle.av_plain.specs.Zap.{keys_in, keys_of_process, zap_of, zaps_of}
+use Rattle.av_plain.specs.Zap.{keys_in, keys_of_process, orphan_drop, slot_behind_key, zap_of, zaps_of}
 use Rattle.av_plain.proofs.Zap.{in_order-after_zap, same_swap-after_zap, slot_entries-after_zap, zap_of-alone}
 
 -- nothing is cached or in flight, and no entry names a slot
@@ -66,22 +68,41 @@ pub record HasNoSlots (l : Ledger) : Type 0 where
 pub never : ◌≡◌ {A = Bool} false true → ⊥
 never e = cc
 
+-- ---- no area has a page
+
+-- no swap area that is on has a page
+abbrev pub HasNoArea : Setting → Ledger → Type 0
+HasNoArea m l = (k : ℕ) → (is_on l k && nat_lt 0 (size_of m k)) ≡ false
+
+pub without-device : (m : Setting) (l : Ledger) → HasNoDevice m → HasNoArea m l
+without-device m l none k = ap (λ o. is_on l k && nat_lt 0 (unwrap_or o 0)) (none k) ∙ by (is_on l k)
+  where
+    by : (b : Bool) → (b && false) ≡ false
+    by true = refl
+    by false = refl
+
+pub all-off : (m : Setting) (l : Ledger) → l.on ≡ [] → HasNoArea m l
+all-off m l off k = ap (λ on. is_some (find nat_cmp k on) && nat_lt 0 (size_of m k)) off
+
+-- it stays so while the same areas are on
+pub area-stays : (m : Setting) (l l' : Ledger) → l'.on ≡ l.on → HasNoArea m l → HasNoArea m l'
+area-stays m l l' same none k = ap (λ on. is_some (find nat_cmp k on) && nat_lt 0 (size_of m k)) same ∙ none k
+
+positive : (p n : ℕ) → nat_lt p n ≡ true → nat_lt 0 n ≡ true
+positive p n h = grind (arith, nat_tests, h)
+
 -- ---- no slot is there
 
-not-there : (m : Setting) (l : Ledger) (s : Slot) → HasNoDevice m → is_there m l s ≡ true → ⊥
-not-there m l s none h = by (is_on l s.area) (nat_lt 0 s.page) (nat_lt s.page (size_of m s.area)) (is_usable m s) small h
+not-there : (m : Setting) (l : Ledger) (s : Slot) → HasNoArea m l → is_there m l s ≡ true → ⊥
+not-there m l s none h = by (is_on l s.area) (nat_lt 0 s.page) (nat_lt s.page (size_of m s.area)) (is_usable m s) (positive s.page (size_of m s.area))
+    (none s.area) h
   where
-    below : (n : ℕ) → nat_lt n 0 ≡ false
-    below n = grind (arith, nat_tests)
-
-    small : nat_lt s.page (size_of m s.area) ≡ false
-    small = ap (λ o. nat_lt s.page (unwrap_or o 0)) (none s.area) ∙ below s.page
-
-    by : (a b c d : Bool) → c ≡ false → (a && b && c && d) ≡ true → ⊥
-    by true true true d e h = cc
-    by true true false d e h = never h
-    by true false c d e h = never h
-    by false b c d e h = never h
+    by : (a b c d : Bool) → (c ≡ true → nat_lt 0 (size_of m s.area) ≡ true) → (a && nat_lt 0 (size_of m s.area)) ≡ false → (a && b && c && d) ≡ true → ⊥
+    by true true true true f e h = never (sym e ∙ f refl)
+    by true true true false f e h = never h
+    by true true false d f e h = never h
+    by true false c d f e h = never h
+    by false b c d f e h = never h
 
 zero-of : (n : ℕ) → (0 < n → ⊥) → n ≡ 0
 zero-of zero h = refl
@@ -103,7 +124,7 @@ nothing-flying (t ∷ ss) h = absurd (by (same_slot t t) (slot-itself t) (h t))
     by true is e = omega (arith, e)
     by false is e = never is
 
-pub no-slots : (m : Setting) (l : Ledger) → HasNoDevice m → InAreas m l → HasNoSlots l
+pub no-slots : (m : Setting) (l : Ledger) → HasNoArea m l → InAreas m l → HasNoSlots l
 no-slots m l none h = record {
   cache = nothing-cached l.cache (λ s. let z = counted s in let e : slots l s ≡ 0 = omega (arith, z) in e);
   flight = nothing-flying l.flight (λ s. let z = counted s in let f = h.sound.flying s in let e : flights l s ≡ 0 = omega (arith, z, f) in e);
@@ -115,23 +136,18 @@ no-slots m l none h = record {
 
 -- ---- a pass has no notes
 
-pub ungiven : (m : Setting) (closing : Option ℕ) (l : Ledger) (s : Slot) → HasNoDevice m → IsTrue (may_give m closing l s) → ⊥
+pub ungiven : (m : Setting) (closing : Option ℕ) (l : Ledger) (s : Slot) → HasNoArea m l → IsTrue (may_give m closing l s) → ⊥
 ungiven m closing l s none h = by (is_on l s.area) (nat_lt 0 s.page) (nat_lt s.page (size_of m s.area)) (slot_count l s == 0) (is_usable m s)
-    (is_open closing s.area) (has_free_slot m l s.area) small h
+    (is_open closing s.area) (has_free_slot m l s.area) (positive s.page (size_of m s.area)) (none s.area) h
   where
-    below : (n : ℕ) → nat_lt n 0 ≡ false
-    below n = grind (arith, nat_tests)
+    by : (a b c d e f g : Bool) → (c ≡ true → nat_lt 0 (size_of m s.area) ≡ true) → (a && nat_lt 0 (size_of m s.area)) ≡ false →
+        IsTrue (a && b && c && d && e && f && g) → ⊥
+    by true true true d e f g pos is h = never (sym is ∙ pos refl)
+    by true true false d e f g pos is h = never h
+    by true false c d e f g pos is h = never h
+    by false b c d e f g pos is h = never h
 
-    small : nat_lt s.page (size_of m s.area) ≡ false
-    small = ap (λ o. nat_lt s.page (unwrap_or o 0)) (none s.area) ∙ below s.page
-
-    by : (a b c d e f g : Bool) → c ≡ false → IsTrue (a && b && c && d && e && f && g) → ⊥
-    by true true true d e f g is h = never (sym is)
-    by true true false d e f g is h = never h
-    by true false c d e f g is h = never h
-    by false b c d e f g is h = never h
-
-turns-nothing : (m : Setting) (sp : Spared) (l : Ledger) (fs : List ℕ) (notes : List Note) → HasNoDevice m → l.cache ≡ [] → Turns m sp l fs notes → notes ≡ []
+turns-nothing : (m : Setting) (sp : Spared) (l : Ledger) (fs : List ℕ) (notes : List Note) → HasNoArea m l → l.cache ≡ [] → Turns m sp l fs notes → notes ≡ []
 turns-nothing m sp l [] notes none cache h = h
 turns-nothing m sp l (f ∷ fs) notes none cache h = by (is_stuck m sp l f) (turns-nothing m sp l fs notes none cache) h
   where
@@ -146,7 +162,7 @@ turns-nothing m sp l (f ∷ fs) notes none cache h = by (is_stuck m sp l f) (tur
     by true rest q = rest q
     by false rest q = absurd (for_it q.0 (slot_of l f) (no_slot l f cache) q.2)
 
-pub seeks-nothing : (m : Setting) (sp : Spared) (l : Ledger) (notes : List Note) → HasNoDevice m → HasNoSlots l → Seeks m sp l notes → notes ≡ []
+pub seeks-nothing : (m : Setting) (sp : Spared) (l : Ledger) (notes : List Note) → HasNoArea m l → HasNoSlots l → Seeks m sp l notes → notes ≡ []
 seeks-nothing m sp l notes none h s = by (has_free m l) s
   where
     completed : (ts : List Slot) (ns : List Note) → ts ≡ [] → Completes l ts ns → ns ≡ []
@@ -156,8 +172,8 @@ seeks-nothing m sp l notes none h s = by (has_free m l) s
     turned : (b : Bool) (done turns : List Note) → done ≡ [] → MatchBool b (turns ≡ [])
         (Turns m sp (after_notes l done) (frames_in_turn sp (after_notes l done)) turns) → turns ≡ []
     turned true done turns e q = q
-    turned false done turns e q = turns-nothing m sp (after_notes l done) (frames_in_turn sp (after_notes l done)) turns none
-        (ap (λ ns. (after_notes l ns).cache) e ∙ h.cache) q
+    turned false done turns e q = turns-nothing m sp (after_notes l done) (frames_in_turn sp (after_notes l done)) turns
+        (subst (λ ns. HasNoArea m (after_notes l ns)) (sym e) none) (ap (λ ns. (after_notes l ns).cache) e ∙ h.cache) q
 
     by : (b : Bool) → MatchBool b (notes ≡ []) (IsPass m sp l notes) → notes ≡ []
     by true q = q
@@ -223,7 +239,7 @@ nothing-comes m sp l k (CopyOnWrite g) notes p h = h
 nothing-comes m sp l k (SwapIn s) notes p h = absurd p
 nothing-comes m sp l k (MapCached f) notes p h = absurd p
 
-made-plain : (m : Setting) (sp : Sparing) (l : Ledger) (k : Key) (n : Need) (notes : List Note) → HasNoDevice m → HasNoSlots l →
+made-plain : (m : Setting) (sp : Sparing) (l : Ledger) (k : Key) (n : Need) (notes : List Note) → HasNoArea m l → HasNoSlots l →
     IsMade m sp l k n notes → ArePlainAt m k notes
 made-plain m sp l k Ready notes none q h = subst (ArePlainAt m k) (sym h) tt
 made-plain m sp l k ZeroPage notes none q h = subst (ArePlainAt m k) (sym h) ((refl, refl), tt)
@@ -285,7 +301,7 @@ none-cached m sp l cache = none-counted (λ f. not (sp.frame f) && is_some (slot
     and_false true = refl
     and_false false = refl
 
-serves-plain : (m : Setting) (sp : Sparing) (l : Ledger) (write : Bool) (k : Key) (notes : List Note) → HasNoDevice m → HasNoSlots l →
+serves-plain : (m : Setting) (sp : Sparing) (l : Ledger) (write : Bool) (k : Key) (notes : List Note) → HasNoArea m l → HasNoSlots l →
     Serves m sp l write k notes → ArePlainAt m k notes
 serves-plain m sp l write k notes none q h =
     let e = nothing-comes m sp l k (need write l (entry l k)) h.coming (plain-need l write k q) h.comes_in in
@@ -298,23 +314,25 @@ serves-plain m sp l write k notes none q h =
     ∙ ap (λ ns. h.making ++ ns) (nothing-dropped m write (was_slot (need write l (entry l k))) now k clean) ∙ append-nil h.making in
     subst (ArePlainAt m k) (sym all) plain
 
-runs_out-nothing : (m : Setting) (sp : Sparing) (l : Ledger) (write : Bool) (k : Key) (notes : List Note) {out : OutOf} → HasNoDevice m → HasNoSlots l →
+runs_out-nothing : (m : Setting) (sp : Sparing) (l : Ledger) (write : Bool) (k : Key) (notes : List Note) {out : OutOf} → HasNoArea m l → HasNoSlots l →
     RunsOut m sp l write k notes out → notes ≡ []
 runs_out-nothing m sp l write k notes none q h =
     let e = before h.before in
     h.whole ∙ ap (λ ns. ns ++ h.sought) e
-    ∙ seeks-nothing m _ (after_notes l h.coming) h.sought none (subst (λ ns. HasNoSlots (after_notes l ns)) (sym e) q) h.finds.seeks
+    ∙ seeks-nothing m _ (after_notes l h.coming) h.sought (subst (λ ns. HasNoArea m (after_notes l ns)) (sym e) none)
+    (subst (λ ns. HasNoSlots (after_notes l ns)) (sym e) q) h.finds.seeks
   where
     before : (h.coming ≡ []) ⊎ ComesIn m sp l k (need write l (entry l k)) h.coming → h.coming ≡ []
     before (inl e) = e
     before (inr c) = nothing-comes m sp l k (need write l (entry l k)) h.coming (plain-need l write k q) c
 
 -- and its numbers are those of frames that aren't cached
-starved-uncached : (m : Setting) (sp : Sparing) (l : Ledger) (write : Bool) (k : Key) (notes : List Note) {out : OutOf} → HasNoDevice m → HasNoSlots l →
+starved-uncached : (m : Setting) (sp : Sparing) (l : Ledger) (write : Bool) (k : Key) (notes : List Note) {out : OutOf} → HasNoArea m l → HasNoSlots l →
     RunsOut m sp l write k notes out → out.fault ≡ 0
 starved-uncached m sp l write k notes none q h =
     let e = coming_none h.before in
-    let sought_none = seeks-nothing m _ (after_notes l h.coming) h.sought none (subst (λ ns. HasNoSlots (after_notes l ns)) (sym e) q) h.finds.seeks in
+    let sought_none = seeks-nothing m _ (after_notes l h.coming) h.sought (subst (λ ns. HasNoArea m (after_notes l ns)) (sym e) none)
+    (subst (λ ns. HasNoSlots (after_notes l ns)) (sym e) q) h.finds.seeks in
     ap (λ (o : OutOf). o.fault) h.finds.numbers
     ∙ none-cached m (sp (after_notes l h.coming) (pinned_by (need write (after_notes l h.coming) (entry (after_notes l h.coming) k))))
     (after_notes (after_notes l h.coming) h.sought) (ap (λ ns. (after_notes (after_notes l h.coming) ns).cache) sought_none
@@ -330,7 +348,7 @@ pub record PlainPage (m : Setting) (w : World) (k : Key) (notes : List Note) (st
   pub mapped : (notes ≡ []) ⊎ (is_some (pages w k.0 k.1) ≡ true)
   pub kept : IsKept stop
 
-pub touches-plain : (m : Setting) (w : World) (l : Ledger) (write : Bool) (k : Key) (notes : List Note) (stop : Option Stop) → HasNoDevice m → HasNoSlots l →
+pub touches-plain : (m : Setting) (w : World) (l : Ledger) (write : Bool) (k : Key) (notes : List Note) (stop : Option Stop) → HasNoArea m l → HasNoSlots l →
     Touches m w l write k notes stop → PlainPage m w k notes stop
 touches-plain m w l write k notes stop none q = by stop
   where
@@ -348,6 +366,75 @@ touches-plain m w l write k notes stop none q = by stop
     by (Some (Starved out)) (allowed, h) = let e = runs_out-nothing m (sparing w) l write k notes none q h in
         record { plain = subst (ArePlainAt m k) (sym e) tt; mapped = inl e; kept = starved-uncached m (sparing w) l write k notes none q h }
     by (Some Lost) (allowed, h) = absurd (subst IsPlain h.absent (plain-need l write k q))
+
+-- ---- the same areas are on
+
+on-note : (l : Ledger) (note : Note) → (after_note note l).on ≡ l.on
+on-note l (Zeroed p a) = refl
+on-note l (New p a f) = refl
+on-note l (Copied p a f) = refl
+on-note l (Loaded s f) = refl
+on-note l (Mapped p a f) = refl
+on-note l (Put f s) = refl
+on-note l (Unmapped f) = by (slot_of l f)
+  where
+    by : (o : Option Slot) → (if_some o (λ s. change_entries f (λ _. InSlot s)) l).on ≡ l.on
+    by None = refl
+    by (Some s) = refl
+on-note l (Started s) = refl
+on-note l (Written s) = by (frame_at l s)
+  where
+    by : (o : Option ℕ) → (if_some o to_inactive_tail (off_flight s l)).on ≡ l.on
+    by None = refl
+    by (Some f) = refl
+on-note l (Failed s) = refl
+on-note l (Dropped s) = settle-on (frame_at l s) (off_cache s l)
+on-note l (Kept f Writeback) = refl
+on-note l (Kept f WriteStarted) = refl
+on-note l (Kept f Referenced) = refl
+on-note l (Kept f NoSlot) = refl
+on-note l (Aged f) = refl
+
+on-notes : (l : Ledger) (notes : List Note) → (after_notes l notes).on ≡ l.on
+on-notes l [] = refl
+on-notes l (note ∷ notes) = on-notes (after_note note l) notes ∙ on-note l note
+
+on-use : (l : Ledger) (write : Bool) (k : Key) → (after_use write k l).on ≡ l.on
+on-use l write k = by write (entry l k)
+  where
+    stale : (f : ℕ) (o : Option Slot) → (if_some o (with_stale true) (set_entry k (InFrame f true) l)).on ≡ l.on
+    stale f None = refl
+    stale f (Some s) = refl
+
+    by : (write : Bool) (o : Option Entry) → (after_use_of write k l o).on ≡ l.on
+    by false None = refl
+    by true None = refl
+    by false (Some Zero) = refl
+    by true (Some Zero) = refl
+    by false (Some (InSlot s)) = refl
+    by true (Some (InSlot s)) = refl
+    by false (Some (InFrame f seen)) = refl
+    by true (Some (InFrame f seen)) = stale f (slot_of l f)
+
+on-page : (l : Ledger) (write : Bool) (k : Key) (notes : List Note) → (after_all l (page_events write k notes None)).on ≡ l.on
+on-page l write k notes = ap (λ (l : Ledger). l.on) (after_all-append l (note_events notes) (Used write k ∷ []) ∙ ap (after_use write k) (note_events-all l notes))
+    ∙ on-use (after_notes l notes) write k ∙ on-notes l notes
+
+on-zap : (l : Ledger) (k : Key) → (after_all l (zap_of l k)).on ≡ l.on
+on-zap l k = by (slot_behind_key l (entry l k)) ∙ (same_swap-after_zap k l).on
+  where
+    dropped : (b : Bool) (s : Slot) → (after_all (after_zap k l) (note_events (when b (Dropped s)))).on ≡ (after_zap k l).on
+    dropped true s = on-note (after_zap k l) (Dropped s)
+    dropped false s = refl
+
+    by : (o : Option Slot) → (after_all (after_zap k l) (orphan_drop (after_zap k l) o)).on ≡ (after_zap k l).on
+    by None = refl
+    by (Some s) = dropped (is_orphan (after_zap k l) s) s
+
+on-zaps : (l : Ledger) (ks : List Key) → (after_all l (zaps_of l ks)).on ≡ l.on
+on-zaps l [] = refl
+on-zaps l (k ∷ ks) = ap (λ (l : Ledger). l.on) (after_all-append l (zap_of l k) (zaps_of (after_all l (zap_of l k)) ks))
+    ∙ on-zaps (after_all l (zap_of l k)) ks ∙ on-zap l k
 
 -- ---- an access
 
@@ -369,18 +456,20 @@ all-by : (P Q : Note → Type 0) → ((note : Note) → P note → Q note) → (
 all-by P Q f [] h = tt
 all-by P Q f (note ∷ notes) h = (f note h.0, all-by P Q f notes h.1)
 
-pub accesses-plain : (P : Note → Type 0) (m : Setting) (w : World) (p : ℕ) → HasNoDevice m
+pub accesses-plain : (P : Note → Type 0) (m : Setting) (w : World) (p : ℕ)
     → ((page : ℕ) (note : Note) → is_some (pages w p page) ≡ true → IsPlainAt m (p, page) note → P note)
-    → (l : Ledger) (pages : List (Bool × ℕ)) (events : List Event) (end : End) → InAreas m l → Accesses m w l p pages events end → PlainAccess P events end
-accesses-plain P m w p none each l [] events end s h = record {
+    → (l : Ledger) (pages : List (Bool × ℕ)) (events : List Event) (end : End) → HasNoArea m l → InAreas m l → Accesses m w l p pages events end →
+    PlainAccess P events end
+accesses-plain P m w p each l [] events end none s h = record {
   notes = subst (λ es. AllByRecursion P (notes_of es)) (sym h.0) tt;
   ends = subst Ends (sym h.1) tt;
 }
-accesses-plain P m w p none each l (page ∷ rest) events end s (inl h) =
+accesses-plain P m w p each l (page ∷ rest) events end none s (inl h) =
     let here = page_events page.0 (p, page.1) h.0 None in
     let t = touches-plain m w l page.0 (p, page.1) h.0 None none (no-slots m l none s) h.2 in
     let s' = accesses-in m w l p (page ∷ []) here Whole s (inl (h.0, [], h.2, sym (append-nil here), (refl, refl))) in
-    let more = accesses-plain P m w p none each (after_all l here) rest h.1 end s' h.4 in
+    let none' = area-stays m l (after_all l here) (on-page l page.0 (p, page.1) h.0) none in
+    let more = accesses-plain P m w p each (after_all l here) rest h.1 end none' s' h.4 in
     record {
       notes = subst (λ es. AllByRecursion P (notes_of es)) (sym h.3)
           (subst (AllByRecursion P) (sym (notes_of-append here h.1)) (all-append P (notes_of here) (notes_of h.1)
@@ -392,7 +481,7 @@ accesses-plain P m w p none each l (page ∷ rest) events end s (inl h) =
     all_at : (page : ℕ) (notes : List Note) → ArePlainAt m (p, page) notes → (notes ≡ []) ⊎ (is_some (pages w p page) ≡ true) → AllByRecursion P notes
     all_at page notes a (inl e) = subst (AllByRecursion P) (sym e) tt
     all_at page notes a (inr is) = all-by (IsPlainAt m (p, page)) P (λ note. each page note is) notes a
-accesses-plain P m w p none each l (page ∷ rest) events end s (inr h) =
+accesses-plain P m w p each l (page ∷ rest) events end none s (inr h) =
     let t = touches-plain m w l page.0 (p, page.1) h.0 (Some h.1) none (no-slots m l none s) h.2 in
     record {
       notes = subst (λ es. AllByRecursion P (notes_of es)) (sym h.3)
@@ -424,11 +513,11 @@ zaps-quiet l (k ∷ ks) q =
     notes_of-append (zap_of l k) (zaps_of (after_all l (zap_of l k)) ks)
     ∙ ap (λ es. notes_of es ++ notes_of (zaps_of (after_all l es) ks)) alone ∙ zaps-quiet (after_zap k l) ks quiet
 
-pub no-zap-notes : (m : Setting) (l : Ledger) (ks : List Key) → HasNoDevice m → InAreas m l → notes_of (zaps_of l ks) ≡ []
+pub no-zap-notes : (m : Setting) (l : Ledger) (ks : List Key) → HasNoArea m l → InAreas m l → notes_of (zaps_of l ks) ≡ []
 no-zap-notes m l ks none s = let q = no-slots m l none s in zaps-quiet l ks (record { cache = q.cache; entries = q.entries; in_order = s.sound.in_order })
 
 -- nor has an mremap
-pub no-remap-notes : (m : Setting) (l : Ledger) (p from n to k : ℕ) → HasNoDevice m → InAreas m l → notes_of (remap_events l p from n to k) ≡ []
+pub no-remap-notes : (m : Setting) (l : Ledger) (p from n to k : ℕ) → HasNoArea m l → InAreas m l → notes_of (remap_events l p from n to k) ≡ []
 no-remap-notes m l p from n to k none s = by (to == from)
   where
     target : Ledger
@@ -438,7 +527,8 @@ no-remap-notes m l p from n to k none s = by (to == from)
     quiet = no-zap-notes m l (keys_in l p to k) none s
 
     tail_quiet : notes_of (range_zaps target p (from + k) (n - k)) ≡ []
-    tail_quiet = no-zap-notes m target (keys_in target p (from + k) (n - k)) none (zaps-in m l (keys_in l p to k) s)
+    tail_quiet = no-zap-notes m target (keys_in target p (from + k) (n - k))
+        (area-stays m l target (on-zaps l (keys_in l p to k)) none) (zaps-in m l (keys_in l p to k) s)
 
     by : (b : Bool) → notes_of (cond b (range_zaps l p (from + k) (n - k))
         ((range_zaps l p to k ++ range_zaps target p (from + k) (n - k)) ++ Moved p (min n k) from to ∷ [])) ≡ []
@@ -539,7 +629,7 @@ ages-faultless [] = refl
 ages-faultless (f ∷ fs) = ap (λ n. 0 + n) (ages-faultless fs)
 
 -- without a device each frame is kept
-pub kept-alone : (m : Setting) (sp : Spared) (l : Ledger) (f : ℕ) (notes : List Note) → HasNoDevice m → HasNoSlots l → Outcome m sp l f notes →
+pub kept-alone : (m : Setting) (sp : Spared) (l : Ledger) (f : ℕ) (notes : List Note) → HasNoArea m l → HasNoSlots l → Outcome m sp l f notes →
     (cause : Cause) × (notes ≡ Kept f cause ∷ [])
 kept-alone m sp l f notes none bare h = by (cause_of m sp l f) h
   where
@@ -558,6 +648,14 @@ kept-bare l f Writeback h = record { cache = h.cache; flight = h.flight; entries
 kept-bare l f WriteStarted h = record { cache = h.cache; flight = h.flight; entries = h.entries }
 kept-bare l f NoSlot h = record { cache = h.cache; flight = h.flight; entries = h.entries }
 kept-bare l f Referenced h = record { cache = h.cache; flight = h.flight; entries = λ s. slot_entries-unseen f l s ∙ h.entries s }
+
+-- ---- commands on swap areas
+
+abbrev pub is_of_area : Command → Bool
+is_of_area (Swapon k) = true
+is_of_area (Swapoff k) = true
+is_of_area (AsksSlot k page) = true
+is_of_area command = false
 
 -- without a device no area is on
 pub none-on : (m : Setting) (l : Ledger) → HasNoDevice m → AreasFit m l → l.on ≡ []
@@ -587,21 +685,21 @@ no-area m l k rest none fits fine = by (is_on l k) (fits.attached k) fine
     by true has h = let sized = has refl in let empty : size_of m k ≡ 0 = ap (λ o. unwrap_or o 0) (none k) in omega (arith, sized, empty)
     by false has h = cc
 
-follows-faultless : (m : Setting) (w : World) (l : Ledger) (command : Command) (events : List Event) (answer : Answer) (rows : List Row) → HasNoDevice m →
-    InAreas m l → refusal (tests m w l command) ≡ None → Follows m w l command events answer rows → Faultless events answer
-follows-faultless m w l (Spawn p) events answer rows none s fine h = record {
+follows-faultless : (m : Setting) (w : World) (l : Ledger) (command : Command) (events : List Event) (answer : Answer) (rows : List Row) → HasNoArea m l →
+    (is_of_area command ≡ true → refusal (tests m w l command) ≡ None → ⊥) → InAreas m l → refusal (tests m w l command) ≡ None → Follows m w l command events answer rows → Faultless events answer
+follows-faultless m w l (Spawn p) events answer rows none refused s fine h = record {
   notes = ap (λ es. fails (notes_of es)) h.1;
   answered = is-faultless answer _ h.0
       (record { told = refl; failed = refl });
 }
-follows-faultless m w l (Fork p q) events answer rows none s fine h =
+follows-faultless m w l (Fork p q) events answer rows none refused s fine h =
     record { notes = ap (λ es. fails (notes_of es)) h.1; answered = is-faultless answer _ h.0 (record { told = refl; failed = refl }) }
-follows-faultless m w l (Exit p) events answer rows none s fine h = record {
+follows-faultless m w l (Exit p) events answer rows none refused s fine h = record {
   notes = ap (λ es. fails (notes_of es)) h.1 ∙ ap fails (no-zap-notes m l (keys_of_process l p) none s);
   answered =
       is-faultless answer _ h.0 (record { told = refl; failed = refl });
 }
-follows-faultless m w l (Mmap p len prot place) events answer rows none s fine h =
+follows-faultless m w l (Mmap p len prot place) events answer rows none refused s fine h =
     record { notes = ap (λ es. fails (notes_of es)) h.3 ∙ ap fails (no-place-notes place); answered = by h.0 h.2 }
   where
     by : (to : Option ℕ) → IsMapAt answer to → IsFaultless answer
@@ -613,12 +711,12 @@ follows-faultless m w l (Mmap p len prot place) events answer rows none s fine h
     no-place-notes (At a) = refl
     no-place-notes (Fixed a) = no-zap-notes m l (keys_in l p (page_of a) (pages_of len)) none s
     no-place-notes (NoReplace a) = refl
-follows-faultless m w l (Munmap p a len) events answer rows none s fine h =
+follows-faultless m w l (Munmap p a len) events answer rows none refused s fine h =
     record {
       notes = ap (λ es. fails (notes_of es)) h.1 ∙ ap fails (no-zap-notes m l (keys_in l p (page_of a) (pages_of len)) none s);
       answered = is-faultless answer _ h.0 (record { told = refl; failed = refl });
     }
-follows-faultless m w l (Mprotect p a len prot) events answer rows none s fine h =
+follows-faultless m w l (Mprotect p a len prot) events answer rows none refused s fine h =
     record {
       notes = ap (λ es. fails (notes_of es)) h.1;
       answered = is-faultless answer _ h.0
@@ -628,7 +726,7 @@ follows-faultless m w l (Mprotect p a len prot) events answer rows none s fine h
     by : (b : Bool) → IsFaultless (if b then Done else Refused Enomem)
     by true = record { told = refl; failed = refl }
     by false = record { told = refl; failed = refl }
-follows-faultless m w l (Mremap p a old new mode) events answer rows none s fine h = record
+follows-faultless m w l (Mremap p a old new mode) events answer rows none refused s fine h = record
     { notes = ap (λ es. fails (notes_of es)) h.3 ∙ quiet h.0; answered = by h.0 h.2 }
   where
     by : (to : Option ℕ) → IsMapAt answer to → IsFaultless answer
@@ -638,26 +736,26 @@ follows-faultless m w l (Mremap p a old new mode) events answer rows none s fine
     quiet : (to : Option ℕ) → fails (notes_of (events_to l p (page_of a) (pages_of old) to (pages_of new))) ≡ 0
     quiet None = refl
     quiet (Some to) = ap fails (no-remap-notes m l p (page_of a) (pages_of old) to (pages_of new) none s)
-follows-faultless m w l (Read p a n) events answer rows none s fine h =
-    let plain = accesses-plain (λ note. is_fail note ≡ false) m w p none (λ page note is. plain-fails m (p, page) note) l
-    (pages_of_access false a n) events h.0 s h.2 in
+follows-faultless m w l (Read p a n) events answer rows none refused s fine h =
+    let plain = accesses-plain (λ note. is_fail note ≡ false) m w p (λ page note is. plain-fails m (p, page) note) l
+    (pages_of_access false a n) events h.0 none s h.2 in
     record { notes = no-fails (notes_of events) plain.notes; answered = is-faultless answer _ h.4 (read-faultless a h.0 h.1 plain.ends) }
-follows-faultless m w l (Write p a bytes) events answer rows none s fine h =
-    let plain = accesses-plain (λ note. is_fail note ≡ false) m w p none (λ page note is. plain-fails m (p, page) note) l
-    (pages_of_access true a (length bytes)) events h.0 s h.1 in
+follows-faultless m w l (Write p a bytes) events answer rows none refused s fine h =
+    let plain = accesses-plain (λ note. is_fail note ≡ false) m w p (λ page note is. plain-fails m (p, page) note) l
+    (pages_of_access true a (length bytes)) events h.0 none s h.1 in
     record { notes = no-fails (notes_of events) plain.notes; answered = is-faultless answer _ h.2 (write-faultless a h.0 plain.ends) }
-follows-faultless m w l (Reclaim n) events answer rows none s fine h =
+follows-faultless m w l (Reclaim n) events answer rows none refused s fine h =
     record {
       notes = ap (λ es. fails (notes_of es)) h.3 ∙ ap fails (notes_of-note_events h.0)
           ∙ outcomes-faultless m (sparing w l None) l (from_tail n l.inactive) h.0 h.1;
       answered = is-faultless answer _ h.2 (record { told = refl; failed = refl });
     }
-follows-faultless m w l (Age n) events answer rows none s fine h =
+follows-faultless m w l (Age n) events answer rows none refused s fine h =
     record {
       notes = ap (λ es. fails (notes_of es)) h.1 ∙ ap fails (notes_of-note_events (map Aged (from_tail n l.active))) ∙ ages-faultless (from_tail n l.active);
       answered = is-faultless answer _ h.0 (record { told = refl; failed = refl });
     }
-follows-faultless m w l (Complete n) events answer rows none s fine h =
+follows-faultless m w l (Complete n) events answer rows none refused s fine h =
     record {
       notes = ap (λ es. fails (notes_of es)) h.3 ∙ ap fails (notes_of-note_events h.0) ∙ ap fails (by n l.flight (no-slots m l none s).flight h.1);
       answered = is-faultless answer _ h.2 (record { told = refl; failed = refl });
@@ -667,22 +765,21 @@ follows-faultless m w l (Complete n) events answer rows none s fine h =
     by zero ts e c = c
     by (suc n) [] e c = c
     by (suc n) (t ∷ ts) e c = cc
-follows-faultless m w l (Swapon k) events answer rows none s fine h = absurd (no-swapon m k ((is_on l k, Ebusy) ∷ (size_of m k == 0, Einval) ∷ []) none fine)
-follows-faultless m w l (Swapoff k) events answer rows none s fine h = absurd (no-area m l k [] none s.fits fine)
-follows-faultless m w l (Maps p) events answer rows none s fine h = record {
+follows-faultless m w l (Swapon k) events answer rows none refused s fine h = absurd (refused refl fine)
+follows-faultless m w l (Swapoff k) events answer rows none refused s fine h = absurd (refused refl fine)
+follows-faultless m w l (Maps p) events answer rows none refused s fine h = record {
   notes = ap (λ es. fails (notes_of es)) h.2;
   answered = is-faultless answer _ h.0
       (record { told = refl; failed = refl });
 }
-follows-faultless m w l (AsksAreas p) events answer rows none s fine h =
+follows-faultless m w l (AsksAreas p) events answer rows none refused s fine h =
     record { notes = ap (λ es. fails (notes_of es)) h.2; answered = is-faultless answer _ h.0 (record { told = refl; failed = refl }) }
-follows-faultless m w l (AsksRmap p a) events answer rows none s fine h =
+follows-faultless m w l (AsksRmap p a) events answer rows none refused s fine h =
     record { notes = ap (λ es. fails (notes_of es)) h.1; answered = is-faultless answer _ h.0 (walk-faultless l (entry l (p, page_of a))) }
-follows-faultless m w l (AsksEntry p a) events answer rows none s fine h =
+follows-faultless m w l (AsksEntry p a) events answer rows none refused s fine h =
     record { notes = ap (λ es. fails (notes_of es)) h.1; answered = is-faultless answer _ h.0 (entry-faultless l (entry l (p, page_of a))) }
-follows-faultless m w l (AsksSlot k page) events answer rows none s fine h =
-    absurd (no-area m l k ((is_outside m (record { area = k; page = page }), Einval) ∷ []) none s.fits fine)
-follows-faultless m w l Stat events answer rows none s fine h = record {
+follows-faultless m w l (AsksSlot k page) events answer rows none refused s fine h = absurd (refused refl fine)
+follows-faultless m w l Stat events answer rows none refused s fine h = record {
   notes = ap (λ es. fails (notes_of es)) h.1;
   answered = is-faultless answer _ h.0
       (record { told = refl; failed = refl });
@@ -729,9 +826,10 @@ tests-mild m w l Stat = tt
 pub in-areas : (m : Setting) (w : World) (l : Ledger) → AllSound m w l → InAreas m l
 in-areas m w l s = record { sound = s.ledger; there = s.in_areas; fits = s.areas_fit }
 
-pub no-causes : (m : Setting) (w : World) (l : Ledger) (command : Command) (reply : Reply) (events : List Event) → HasNoDevice m → AllSound m w l →
-    IsLegal m w l command reply events → causes reply ≡ 0
-no-causes m w l command reply events none s legal =
+-- a reply to a command tells of no fault, where no area has a page and a command on an area is refused
+faultless-causes : (m : Setting) (w : World) (l : Ledger) (command : Command) (reply : Reply) (events : List Event) → HasNoArea m l →
+    (is_of_area command ≡ true → refusal (tests m w l command) ≡ None → ⊥) → AllSound m w l → IsLegal m w l command reply events → causes reply ≡ 0
+faultless-causes m w l command reply events none refused s legal =
     let f = by (refusal (tests m w l command)) refl legal.answer in
     let a = ap fails legal.notes ∙ f.notes in
     let b = f.answered.told in
@@ -740,9 +838,70 @@ no-causes m w l command reply events none s legal =
   where
     by : (o : Option Errno) → refusal (tests m w l command) ≡ o → MatchOption o (Follows m w l command events reply.answer reply.rows)
         (λ error. Refuses error events reply.answer reply.rows) → Faultless events reply.answer
-    by None is h = follows-faultless m w l command events reply.answer reply.rows none (in-areas m w l s) is h
+    by None is h = follows-faultless m w l command events reply.answer reply.rows none refused (in-areas m w l s) is h
     by (Some error) is h = record {
       notes = ap (λ es. fails (notes_of es)) h.1;
       answered = is-faultless reply.answer _ h.0
           (record { told = mild-refusal (tests m w l command) error (tests-mild m w l command) is; failed = refl });
     }
+
+-- without a device each command on an area is refused
+pub no-causes : (m : Setting) (w : World) (l : Ledger) (command : Command) (reply : Reply) (events : List Event) → HasNoDevice m → AllSound m w l →
+    IsLegal m w l command reply events → causes reply ≡ 0
+no-causes m w l command reply events none s legal = faultless-causes m w l command reply events (without-device m l none) (refused command) s legal
+  where
+    refused : (command : Command) → is_of_area command ≡ true → refusal (tests m w l command) ≡ None → ⊥
+    refused (Swapon k) of fine = no-swapon m k ((is_on l k, Ebusy) ∷ (size_of m k == 0, Einval) ∷ []) none fine
+    refused (Swapoff k) of fine = no-area m l k [] none s.areas_fit fine
+    refused (AsksSlot k page) of fine = no-area m l k ((is_outside m (record { area = k; page = page }), Einval) ∷ []) none s.areas_fit fine
+    refused (Spawn p) of fine = never of
+    refused (Fork p q) of fine = never of
+    refused (Exit p) of fine = never of
+    refused (Mmap p len prot place) of fine = never of
+    refused (Munmap p a len) of fine = never of
+    refused (Mprotect p a len prot) of fine = never of
+    refused (Mremap p a old new mode) of fine = never of
+    refused (Read p a n) of fine = never of
+    refused (Write p a bytes) of fine = never of
+    refused (Reclaim n) of fine = never of
+    refused (Age n) of fine = never of
+    refused (Complete n) of fine = never of
+    refused (Maps p) of fine = never of
+    refused (AsksAreas p) of fine = never of
+    refused (AsksRmap p a) of fine = never of
+    refused (AsksEntry p a) of fine = never of
+    refused Stat of fine = never of
+
+-- where no area is on, each but one that turns an area on
+pub no-causes-off : (m : Setting) (w : World) (l : Ledger) (command : Command) (reply : Reply) (events : List Event) → l.on ≡ [] → is_swapon command ≡ false →
+    AllSound m w l → IsLegal m w l command reply events → causes reply ≡ 0
+no-causes-off m w l command reply events off other s legal = faultless-causes m w l command reply events (all-off m l off) (refused command other) s legal
+  where
+    is_off_now : (k : ℕ) → is_off l k ≡ true
+    is_off_now k = ap (λ on. not (is_some (find nat_cmp k on))) off
+
+    first-refuses : (b : Bool) (rest : Tests) → b ≡ true → refusal ((b, Einval) ∷ rest) ≡ None → ⊥
+    first-refuses true rest is h = cc
+    first-refuses false rest is h = never is
+
+    refused : (command : Command) → is_swapon command ≡ false → is_of_area command ≡ true → refusal (tests m w l command) ≡ None → ⊥
+    refused (Swapon k) other of fine = never (sym other)
+    refused (Swapoff k) other of fine = first-refuses (is_off l k) [] (is_off_now k) fine
+    refused (AsksSlot k page) other of fine = first-refuses (is_off l k) ((is_outside m (record { area = k; page = page }), Einval) ∷ []) (is_off_now k) fine
+    refused (Spawn p) other of fine = never of
+    refused (Fork p q) other of fine = never of
+    refused (Exit p) other of fine = never of
+    refused (Mmap p len prot place) other of fine = never of
+    refused (Munmap p a len) other of fine = never of
+    refused (Mprotect p a len prot) other of fine = never of
+    refused (Mremap p a old new mode) other of fine = never of
+    refused (Read p a n) other of fine = never of
+    refused (Write p a bytes) other of fine = never of
+    refused (Reclaim n) other of fine = never of
+    refused (Age n) other of fine = never of
+    refused (Complete n) other of fine = never of
+    refused (Maps p) other of fine = never of
+    refused (AsksAreas p) other of fine = never of
+    refused (AsksRmap p a) other of fine = never of
+    refused (AsksEntry p a) other of fine = never of
+    refused Stat other of fine = never of

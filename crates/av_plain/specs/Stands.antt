@@ -38,8 +38,9 @@ pub record View : Type 0 where
   pub slot : ℕ → Option Slot
   pub dirty : ℕ → Bool
   pub free : List ℕ
-  -- the active frames, head first
+  -- the two lists of frames, head first
   pub active : List ℕ
+  pub inactive : List ℕ
   -- the table of a process, by page
   pub table : ℕ → ℕ → Option Pte
   -- how many processes live, the areas of one that does, and the anon_vmas
@@ -66,10 +67,10 @@ pub record FramesStand (m : Setting) (v : View) (l : Ledger) : Type 0 where
 
 -- ---- the lists
 
--- the active frames are these. (That the inactive ones are the kernel's, too, begins where it keeps
--- lists: all others in use are inactive.)
+-- these are the two lists
 pub record ListsStand (v : View) (l : Ledger) : Type 0 where
   pub active : v.active ≡ l.active
+  pub inactive : v.inactive ≡ l.inactive
 
 -- ---- the tables
 

@@ -1,5 +1,7 @@
 -- A swap area is turned on, as page 0 of its device says.
-use Rattle.std.specs.Prelude.{◌≡◌, ◌⊎◌, ℕ, ◌<◌, List, [], ◌∷◌, length, Option, Some, None}
+use Rattle.std.specs.Prelude.{◌≡◌, ◌⊎◌, ℕ, ◌<◌, Bool, true, false, List, [], ◌∷◌, length, Option, Some, None}
+use Rattle.av_trace.specs.declared.command.Command.{Command}
+use Rattle.av_trace.specs.declared.command.Command.TheVariants.{Swapon as AsksOn}
 use Rattle.av_trace.specs.declared.reply.Answer.{Answer}
 use Rattle.av_trace.specs.declared.reply.Answer.TheVariants.{On, Refused}
 use Rattle.av_trace.specs.declared.reply.Errno.TheVariants.{Einval, Eio}
@@ -30,3 +32,8 @@ abbrev pub TurnsOn : Setting → ℕ → List Event → Answer → List Row → 
 TurnsOn m k events answer rows =
     ((answer ≡ Refused Eio) ⊎ IsByHeader m.headers k answer)
     × (events ≡ turn_on_events k answer) × (rows ≡ [])
+
+-- the command that turns an area on
+abbrev pub is_swapon : Command → Bool
+is_swapon (AsksOn k) = true
+is_swapon command = false

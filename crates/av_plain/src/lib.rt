@@ -6,7 +6,7 @@
 //! No function does anything. Each one's contract is a law, proved of the definitions alone.
 #![tactic(auto)]
 
-ghost use Rattle.std.specs.Prelude.{◌≡◌, List, []};
+ghost use Rattle.std.specs.Prelude.{◌≡◌, List, [], false};
 ghost use Rattle.av_trace.specs.declared.command.Command.{Command};
 ghost use Rattle.av_trace.specs.declared.reply.Reply.{Reply};
 ghost use Rattle.av_plain.specs.World.{World};
@@ -16,6 +16,7 @@ ghost use Rattle.av_plain.specs.Event.{Event, after_all};
 ghost use Rattle.av_plain.specs.Step.{IsLegal, causes, next_world};
 ghost use Rattle.av_plain.specs.Transcript.{Exchange, State, IsLegalFrom, IsRun};
 ghost use Rattle.av_plain.specs.Sound.{AllSound, SaysSound};
+ghost use Rattle.av_plain.specs.Swapon.{is_swapon};
 
 /// Sound memories and a sound ledger are so after every legal reply, a refusal too.
 pub fn soundness_stays()
@@ -50,5 +51,12 @@ pub fn runs_are_legal()
 pub fn no_device_has_no_faults()
     ensures { (m : Setting) (w : World) (l : Ledger) (command : Command) (reply : Reply)
         (events : List Event) → HasNoDevice m → AllSound m w l
+        → IsLegal m w l command reply events → causes reply ≡ 0 }
+{}
+
+/// So it is where no swap area is on, but for a command that turns one on.
+pub fn no_area_on_has_no_faults()
+    ensures { (m : Setting) (w : World) (l : Ledger) (command : Command) (reply : Reply)
+        (events : List Event) → l.on ≡ [] → is_swapon command ≡ false → AllSound m w l
         → IsLegal m w l command reply events → causes reply ≡ 0 }
 {}

@@ -13,6 +13,7 @@ use Rattle.av_spaces.specs.Spaces.{AllSpaces, pages_of as areas_on}
 use Rattle.av_spaces.specs.Kin as in_spaces
 use Rattle.av_spaces.specs.Kin.{AnonsStay, IsLinkedIn, IsOwnedIn, info_of}
 use Rattle.av_plain.specs.Areas.{AnonVma, Anons, AreLeft, Areas, IsLinked, chain_length, chain_by}
+use Rattle.av_plain.specs.Device.{Device}
 use Rattle.av_plain.specs.Stands.{AnonsStand, kin_of}
 use Rattle.av_plain.specs.Transcript.{State}
 use Rattle.av_reclaim.specs.declared.mem.Mem.{Mem}
@@ -40,7 +41,7 @@ if_there b v = cond b v None
 abbrev pub left_of : AnonSet → Anons → Anons
 left_of now anons = record { next = anons.next; anon = λ v. if_there (is_some (info_of now v)) (anons.anon v) }
 
-module _ (old : Mem) (s : State) (keeps : Keeps old s) (spaces : AllSpaces) (now : AnonSet) (stay : AnonsStay old.spaces old.anons spaces now) where
+module _ (d : Device) (old : Mem) (s : State) (keeps : Keeps d old s) (spaces : AllSpaces) (now : AnonSet) (stay : AnonsStay old.spaces old.anons spaces now) where
   -- an own anon_vma is there, and was
   there_now : (v : ℕ) → IsOwnedIn spaces v → IsSome (info_of now v)
   there_now v h = stay.fit.linked v (h.0, h.1, with_chain (areas_on spaces.processes h.0 h.1) h.2)

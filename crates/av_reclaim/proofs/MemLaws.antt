@@ -2,7 +2,7 @@
 use Rattle.std.proofs.Common.{◌≡◌, ℕ, ◌+◌, ◌-◌, ◌≤◌, ◌↔◌, Bool, true, false, cond, ◌&&◌, ◌==◌, nat_lt, nat_le, List, [], ◌∷◌, Option, Some, None, refl, sym, ap, subst, ◌∙◌, arith, is_some}
 use Rattle.std.proofs.lemmas.Bool.Decides.{nat_tests}
 use Rattle.std.proofs.lemmas.Bool.{false≢true}
-use Rattle.std.specs.Prelude.{IfSome, IsSomeAnd, option_map, length, map}
+use Rattle.std.specs.Prelude.{IfSome, IsSomeAnd, option_map, length, map, slice_index}
 use Rattle.std.specs.FinMap.Entries.{find as find_key}
 use Rattle.std.specs.List.{find, list_any, range_with_len}
 use Rattle.std.specs.Option.{option_map_or}
@@ -13,6 +13,7 @@ use Rattle.av_base.specs.Words.{is_in, within}
 use Rattle.av_vma.specs.declared.area.Area.{Area}
 use Rattle.av_vma.specs.Join.{first_of, past_of}
 use Rattle.av_vma.specs.Pages.{has_page, pages_in}
+use Rattle.av_lru.specs.Lists.{Lists}
 use Rattle.av_frames.specs.Store.{Store, Shown, shown, fresh as fresh_frames}
 use Rattle.av_pagetable.specs.declared.pte.Pte.{Pte}
 use Rattle.av_pagetable.specs.Entries.{ProcessTables, entry_at, has, with_entry}
@@ -28,17 +29,17 @@ use Rattle.av_spaces.specs.Kin.{InOrder, IsOwnedIn, chain_by, info_of}
 use Rattle.av_spaces.specs.Spaces.{AllSpaces, Spaces, areas_of, pages_of, is_taken, AreRising, AllRising}
 use Rattle.av_plain.specs.World.{Page, lives}
 use Rattle.av_plain.specs.Ledger.{Ledger, Setting, Entry, Zero as ZeroEntry, InFrame, InSlot, first_ledger, frame_at, free_slots, cached_by, Cached, is_cached, same_slot, slot_count, slot_entries}
-use Rattle.av_plain.specs.Device.{no_device}
+use Rattle.av_plain.specs.Device.{Device, setting_of}
 use Rattle.av_plain.specs.Choice.{Free, ListsAll, ListsFree, no_slots}
 use Rattle.av_plain.specs.Report.{AreApart, prot_in, range_of}
-use Rattle.av_plain.specs.Stands.{View, Pte as Plain, SwapStands, entry_of, kin_of, prot_of, IsKept, IsKeptAt, IsClean}
+use Rattle.av_plain.specs.Stands.{View, Pte as Plain, SwapStands, entry_of, kin_of, prot_of, Holds, IsKept, IsKeptAt, IsClean}
 use Rattle.av_plain.specs.Transcript.{State, at_first}
 use Rattle.av_plain.proofs.Covered.{sound-first}
 use Rattle.av_plain.proofs.Ledger.NoSwap.{itself, is_in-numbers}
 use Rattle.av_plain.proofs.FreeFrames.{first-lists_free}
 use Rattle.av_plain.proofs.Sound.{first-sound}
 use Rattle.av_reclaim.specs.declared.mem.Mem.{Mem}
-use Rattle.av_reclaim.specs.Mem.{anon_vma, setting, plain, view_of_parts, view, ranges_of, Keeps}
+use Rattle.av_reclaim.specs.Mem.{anon_vma, plain, view_of_parts, view, ranges_of, Keeps}
 
 -- ---- the areas, seen as ranges
 
@@ -55,8 +56,8 @@ alive_is s p = by (areas_of s p)
     by (Some areas) = refl
 
 -- a process has areas exactly where it lives
-pub lives_is : (k : Mem) (s : State) → Keeps k s → (p : ℕ) → is_some (areas_of k.spaces.processes p) ≡ lives s.world p
-lives_is k s keeps p = keeps.stands.parts.areas.alive p
+pub lives_is : (d : Device) (k : Mem) (s : State) → Keeps d k s → (p : ℕ) → is_some (areas_of k.spaces.processes p) ≡ lives s.world p
+lives_is d k s keeps p = keeps.stands.parts.areas.alive p
 
 in_range : (a b page : ℕ) → (nat_le a page && nat_lt page b) ≡ within a (b - a) page
 in_range a b page = grind (arith, nat_tests)
@@ -107,9 +108,9 @@ all_apart s rising p = by (areas_of s p) (rising p)
 -- ---- the view
 
 -- tables with the same entries are seen alike
-pub view_same : (old new : Mem) → entry_at new.tables ≡ entry_at old.tables → new.frames ≡ old.frames → new.spaces ≡ old.spaces →
-    new.anons ≡ old.anons → view new ≡ view old
-view_same old new tables frames spaces anons = λ i. view_of_parts (shown (frames i)) (λ p page. plain (tables i p page)) (spaces i) (anons i)
+pub view_same : (old new : Mem) → entry_at new.tables ≡ entry_at old.tables → new.frames ≡ old.frames → new.lists ≡ old.lists
+    → new.spaces ≡ old.spaces → new.anons ≡ old.anons → view new ≡ view old
+view_same old new tables frames lists spaces anons = λ i. view_of_parts (shown (frames i)) (lists i) (λ p page. plain (tables i p page)) (spaces i) (anons i)
 
 pub plain_set : (old new : ℕ → ℕ → Pte) (p page : ℕ) (e : Pte) → new ≡ with_entry p page e old
     → ◌≡◌ {A = ℕ → ℕ → Option Plain} (λ q o. plain (new q o)) (with_entry p page (plain e) (λ q o. plain (old q o)))
@@ -121,9 +122,9 @@ plain_set old new p page e is = λ k q o. (ap (λ f. plain (f q o)) is ∙ pushe
 
 -- an entry has been set
 pub entry_put_in : (old new : Mem) (p page : ℕ) (e : Pte) → entry_at new.tables ≡ with_entry p page e (entry_at old.tables) → new.frames ≡ old.frames →
-    new.spaces ≡ old.spaces → new.anons ≡ old.anons
+    new.lists ≡ old.lists → new.spaces ≡ old.spaces → new.anons ≡ old.anons
     → view new ≡ record (view old) { table = with_entry p page (plain e) (view old).table }
-entry_put_in old new p page e is frames spaces anons = λ i. view_of_parts (shown (frames i))
+entry_put_in old new p page e is frames lists spaces anons = λ i. view_of_parts (shown (frames i)) (lists i)
     (plain_set (entry_at old.tables) (entry_at new.tables) p page e is i) (spaces i) (anons i)
 
 -- ---- no slot is cached
@@ -148,6 +149,12 @@ no_cache l none = by l.cache refl
 pub no_frame_at : (l : Ledger) (s : Slot) → l.cache ≡ [] → frame_at l s ≡ None
 no_frame_at l s none = ap (λ (c : List Cached). option_map (λ (c : Cached). c.frame) (cached_by (λ c. same_slot s c.slot) c)) none
 
+-- where none is cached and no entry names one, none is in use
+pub none_used : (l : Ledger) (s : Slot) → l.cache ≡ [] → slot_entries l s ≡ 0 → slot_count l s ≡ 0
+none_used l s none unnamed =
+    let cached : is_cached l s ≡ false = ap (list_any (λ (c : Cached). same_slot s c.slot)) none in
+    ap (λ b. slot_entries l s + cond b 1 0) cached ∙ (let n : slot_entries l s + 0 ≡ 0 = omega (arith, unnamed) in n)
+
 -- what is free, where no area has slots
 abbrev pub frames_free : List ℕ → Free
 frames_free frames = record { frames = frames; slots = no_slots }
@@ -165,31 +172,32 @@ listed k m l frames swap free = record {
 }
   where
     unused : (s : Slot) → slot_count l s ≡ 0
-    unused s =
-        let entries = swap.counts s in
-        let cached : is_cached l s ≡ false = ap (list_any (λ (c : Cached). same_slot s c.slot)) (no_cache l swap.finds) in
-        ap (λ b. slot_entries l s + cond b 1 0) cached ∙ (let n : slot_entries l s + 0 ≡ 0 = omega (arith, entries) in n)
+    unused s = none_used l s (no_cache l swap.finds) (sym (swap.counts s))
 
 -- where no frame caches a slot, its page is kept as it was
-pub slot_kept : (v v' : View) (s : Slot) (p : Option Page) (o o' : Option ℕ) → o ≡ None → o' ≡ None → IsKeptAt v no_device s p o → IsKeptAt v' no_device s p o'
-slot_kept v v' s p None None e e' h = h
-slot_kept v v' s p None (Some f) e e' h = absurd (clash (sym e'))
-slot_kept v v' s p (Some f) o' e e' h = absurd (clash (sym e))
+pub slot_kept : (d : Device) (v v' : View) (s : Slot) (p : Option Page) (o o' : Option ℕ) → o ≡ None → o' ≡ None → IsKeptAt v d s p o → IsKeptAt v' d s p o'
+slot_kept d v v' s p None None e e' h = h
+slot_kept d v v' s p None (Some f) e e' h = absurd (clash (sym e'))
+slot_kept d v v' s p (Some f) o' e e' h = absurd (clash (sym e))
 
 -- and it has nothing to be clean
-pub nothing_clean : (v : View) (s : Slot) (o : Option ℕ) → o ≡ None → IsClean v no_device s o
-nothing_clean v s None e = tt
-nothing_clean v s (Some f) e = absurd (clash (sym e))
+pub nothing_clean : (d : Device) (v : View) (s : Slot) (o : Option ℕ) → o ≡ None → IsClean v d s o
+nothing_clean d v s None e = tt
+nothing_clean d v s (Some f) e = absurd (clash (sym e))
 
 -- a place that isn't mapped keeps nothing, whatever its entry is
-pub kept-nothing : (v : View) (l : Ledger) (e : Option Entry) → IsKept v no_device l e None
-kept-nothing v l None = tt
-kept-nothing v l (Some ZeroEntry) = tt
-kept-nothing v l (Some (InFrame f seen)) = tt
-kept-nothing v l (Some (InSlot s)) = at (frame_at l s)
+pub kept-nothing : (d : Device) (v : View) (l : Ledger) (e : Option Entry) → IsKept v d l e None
+kept-nothing d v l None = tt
+kept-nothing d v l (Some ZeroEntry) = tt
+kept-nothing d v l (Some (InFrame f seen)) = tt
+kept-nothing d v l (Some (InSlot s)) = at (frame_at l s)
   where
-    at : (o : Option ℕ) → IsKeptAt v no_device s None o
-    at None = tt
+    told : (o : Option (ℕ → ℕ → List ℕ)) → IfSome o (λ told. Holds None (slice_index (told s.area s.page)))
+    told None = tt
+    told (Some pages) = tt
+
+    at : (o : Option ℕ) → IsKeptAt v d s None o
+    at None = told d.pages
     at (Some f) = tt
 
 -- ---- nothing in it
@@ -197,14 +205,15 @@ kept-nothing v l (Some (InSlot s)) = at (frame_at l s)
 nothing : {A : Type 0} {x : A} → None ≡ Some x → ⊥
 nothing e = cc
 
-pub fresh-keeps : (frames : Store) (tables : ProcessTables) (spaces : AllSpaces) (anons : AnonSet) (n : ℕ) → shown frames ≡ fresh_frames n →
+pub fresh-keeps : (d : Device) (frames : Store) (lists : Lists) (tables : ProcessTables) (spaces : AllSpaces) (anons : AnonSet) (n : ℕ) → shown frames ≡ fresh_frames n →
+    lists ≡ record { frames = n; active = []; inactive = [] } →
     ((p : ℕ) → has tables p ≡ false) → spaces.processes ≡ []
     → ((number : ℕ) → area_of spaces.areas number ≡ None) → family anons ≡ nobody → ((v : ℕ) → spans_of anons v ≡ [])
-    → Keeps (record { frames = frames; tables = tables; spaces = spaces; anons = anons }) (at_first (setting n))
-fresh-keeps frames tables spaces anons n is none empty unused nobodies unspanned = record {
+    → Keeps d (record { frames = frames; lists = lists; tables = tables; spaces = spaces; anons = anons }) (at_first (setting_of n d))
+fresh-keeps d frames lists tables spaces anons n is unlisted none empty unused nobodies unspanned = record {
   stands = record {
     over = record { sizes = refl; headers = refl };
-    sound = first-sound (setting (shown frames).count);
+    sound = first-sound m;
     parts = record {
       ledger = record {
         frames = record {
@@ -215,7 +224,7 @@ fresh-keeps frames tables spaces anons n is none empty unused nobodies unspanned
           free = λ f below. ap (λ (s : Shown). is_in f s.free) is ∙ is_in-numbers 0 n f (omega arith) (let same = ap (λ (s : Shown). s.count) is in
               omega (arith, below, same));
         };
-        lists = record { active = refl };
+        lists = record { active = ap (λ (ls : Lists). ls.active) unlisted; inactive = ap (λ (ls : Lists). ls.inactive) unlisted };
         tables = record {
           entries = λ p page. ap (λ t. entry_of (plain t)) (none_there tables p page (none p));
           write_bits = λ p page t f there write names. absurd (nothing (ap plain (sym (none_there tables p page (none p))) ∙ there));
@@ -242,6 +251,7 @@ fresh-keeps frames tables spaces anons n is none empty unused nobodies unspanned
     homes = λ f. ap (λ (s : Shown). s.home f) is;
     reach = sound-first m;
   };
+  lists = ap (λ (ls : Lists). ls.frames) unlisted ∙ sym (ap (λ (s : Shown). s.count) is);
   tables = λ p. none p ∙ sym (ap (λ (s : Spaces). is_some (ranges_of s p)) empty);
   anons = record {
     order = in_order;
@@ -253,10 +263,10 @@ fresh-keeps frames tables spaces anons n is none empty unused nobodies unspanned
 }
   where
     k : Mem
-    k = record { frames = frames; tables = tables; spaces = spaces; anons = anons }
+    k = record { frames = frames; lists = lists; tables = tables; spaces = spaces; anons = anons }
 
     m : Setting
-    m = setting (shown frames).count
+    m = setting_of (shown frames).count d
 
     in_order : InOrder spaces anons
     in_order = subst (λ (areas : ℕ → Option Area). IsInOrder areas (family anons) (spans_of anons)) (λ i number. sym (unused number) i)

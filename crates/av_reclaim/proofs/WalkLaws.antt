@@ -34,6 +34,7 @@ use Rattle.av_rmap.proofs.LinkedAreas.{spans-are-areas}
 use Rattle.av_rmap.proofs.SortedLemmas.{below-before, once-there, rising-same}
 use Rattle.av_plain.specs.Areas.{AnonVma, chain_by}
 use Rattle.av_plain.specs.Covered.{IsReached as IsReachedAt}
+use Rattle.av_plain.specs.Device.{Device}
 use Rattle.av_plain.specs.Ledger.{Entry, entry, key_cmp, names_frame as names, walk}
 use Rattle.av_plain.specs.Stands.{entry_of}
 use Rattle.av_plain.specs.World.{pages}
@@ -99,7 +100,7 @@ reach_by k areas = view_with (area_of areas) (family k.anons) (spans_of k.anons)
 abbrev pub reach : Mem → Reach
 reach k = reach_by k k.spaces.areas
 
-module _ (k : Mem) (s : State) (keeps : Keeps k s) where
+module _ (d : Device) (k : Mem) (s : State) (keeps : Keeps d k s) where
   pub spanned : AreSpanned (reach k)
   spanned = record { spanned = keeps.anons.order.spanned; areas_fit = keeps.anons.order.areas_fit }
 

@@ -5,51 +5,37 @@ use Rattle.std.specs.Prelude.{IfSome}
 use Rattle.av_base.specs.declared.slot.Slot.{Slot}
 use Rattle.av_base.specs.Words.{how_many, with_at, is_in}
 use Rattle.av_pagetable.specs.Entries.{with_entry}
-use Rattle.av_plain.specs.Ledger.{Ledger, Cached, Setting, Key, Entry, Zero, InFrame, entry, map_count, slot_entries, names_frame, names_slot, is_free, is_stale}
-use Rattle.av_plain.specs.Event.{Zapped, after_all, after_zap, settle_entry, settle, off_lists, without, if_some, frame_of}
+use Rattle.av_plain.specs.Ledger.{Ledger, Cached, Setting, Entry, Zero, InFrame, entry, map_count, slot_count, slot_entries, names_frame, names_slot, is_free, is_stale}
+use Rattle.av_plain.specs.Event.{Zapped, after_all, after_zap, off_lists, without}
 use Rattle.av_plain.specs.Fault.{is_shared}
-use Rattle.av_plain.specs.Device.{HasNoDevice}
 use Rattle.av_plain.specs.Choice.{Chooses, ChoosesSlot}
 use Rattle.av_plain.proofs.Choice.{chooses-kept, no-slot-chosen, new_free-zap_none, new_free-zap_more, new_free-zap_last}
 use Rattle.av_plain.specs.Sound.{IsSound, uses}
-use Rattle.av_plain.specs.Stands.{View, Pte as Plain, entry_of, free_of, TablesStand}
+use Rattle.av_plain.specs.Stands.{View, Pte as Plain, entry_of, free_of, ListsStand, TablesStand}
 use Rattle.av_plain.proofs.Ledger.Order.{weight}
 use Rattle.av_plain.proofs.Ledger.{same_key, how_many-found}
 use Rattle.av_plain.proofs.Ledger.NoSwap.{itself, no_slot, free_is, shared_is}
-use Rattle.av_plain.proofs.Zap.{leaving, after_zap-is, entry-after_zap, map_count-after_zap, slot_entries-after_zap, same_swap-after_zap, zap_of-alone}
+use Rattle.av_plain.proofs.Zap.{leaving, after_zap-blank, after_zap-frame, entry-after_zap, map_count-after_zap, map_count-leaving, slot_entries-after_zap, same_swap-after_zap, zap_of-alone}
 use Rattle.av_plain.proofs.Sound.Zap.{zap_of-kept}
 use Rattle.av_reclaim.specs.Mem.{SoundLedger}
 use Rattle.av_reclaim.specs.Zap.{after_unmap_frame}
-use Rattle.av_reclaim.proofs.MemLaws.{no_frame_at, equal_is}
-
--- ---- the ledger
-
--- no frame becomes active as an entry goes
-active-taken : (k : Key) (l : Ledger) → l.active ≡ [] → (after_zap k l).active ≡ []
-active-taken k l none = ap (λ (l : Ledger). l.active) (after_zap-is k l) ∙ by (entry l k)
-  where
-    unlists : (b : Bool) (f : ℕ) → (cond b (off_lists f (leaving k l)) (leaving k l)).active ≡ []
-    unlists true f = ap (without f) none
-    unlists false f = none
-
-    frame : (o : Option ℕ) → (if_some o settle (leaving k l)).active ≡ []
-    frame None = none
-    frame (Some f) = unlists (is_free (leaving k l) f) f
-
-    by : (o : Option Entry) → (settle_entry o (leaving k l)).active ≡ []
-    by None = none
-    by (Some e) = frame (frame_of e)
+use Rattle.av_reclaim.proofs.MemLaws.{no_frame_at, none_used, equal_is}
 
 key_is : (p page q o : ℕ) → same_key (p, page) (q, o) ≡ (q == p && o == page)
 key_is p page q o = grind (arith, nat_tests)
 
 -- ---- an entry that is no slot goes
 
-module _ (m : Setting) (v : View) (l : Ledger) (p page : ℕ) (e : Entry) (maps : ℕ → ℕ) (rest : List ℕ)
-    (cache : l.cache ≡ []) (parts : SoundLedger m v l) (no_active : v.active ≡ []) (no_entries : (s : Slot) → v.entries s ≡ 0)
+module _ (m : Setting) (listed : ℕ) (v : View) (l : Ledger) (p page : ℕ) (e : Entry) (maps : ℕ → ℕ) (rest active inactive : List ℕ)
+    (cache : l.cache ≡ []) (parts : SoundLedger m listed v l) (no_entries : (s : Slot) → v.entries s ≡ 0)
     (is : entry l (p, page) ≡ Some e) (no_slots : (s : Slot) → names_slot s e ≡ false)
     (counts : (g : ℕ) → maps g + cond (names_frame g e) 1 0 ≡ v.maps g)
-    (free : (g : ℕ) → g < m.frames → is_in g rest ≡ (maps g == 0)) where
+    (free : (g : ℕ) → g < m.frames → is_in g rest ≡ (maps g == 0))
+    (active_is : active ≡ (after_zap (p, page) l).active) (inactive_is : inactive ≡ (after_zap (p, page) l).inactive) where
+  -- the view then
+  abbrev seen : View
+  seen = record v { table = with_entry p page None v.table; maps = maps; free = rest; active = active; inactive = inactive }
+
   cache_now : (after_zap (p, page) l).cache ≡ []
   cache_now = (same_swap-after_zap (p, page) l).cache ∙ cache
 
@@ -66,7 +52,7 @@ module _ (m : Setting) (v : View) (l : Ledger) (p page : ℕ) (e : Entry) (maps 
       equal : (n x k : ℕ) → n ≡ x + k → k ≡ 0 → n ≡ x
       equal n x k a b = omega arith
 
-  tables_now : TablesStand (record v { table = with_entry p page None v.table; maps = maps; free = rest }) (after_zap (p, page) l)
+  tables_now : TablesStand seen (after_zap (p, page) l)
   tables_now = record {
     entries = λ q o. pushed (q == p && o == page) (v.table q o) (entry l (q, o)) (parts.parts.tables.entries q o)
         ∙ sym (entry-after_zap (p, page) l (q, o) ∙ ap (λ b. cond b None (entry l (q, o))) (key_is p page q o));
@@ -91,7 +77,7 @@ module _ (m : Setting) (v : View) (l : Ledger) (p page : ℕ) (e : Entry) (maps 
           ∙ fewer (map_count l g) (maps g) (map_count (after_zap (p, page) l) g) (cond (names_frame g e) 1 0)
           (sym (shared_is l g cache) ∙ parts.parts.tables.write_bits q o t g there writes names) (counts g ∙ parts.parts.frames.maps g) (mapped_now g)
 
-  pub stands_now : SoundLedger m (record v { table = with_entry p page None v.table; maps = maps; free = rest }) (after_zap (p, page) l)
+  pub stands_now : SoundLedger m listed seen (after_zap (p, page) l)
   stands_now = record {
     sound = subst (IsSound m) (ap (after_all l) (zap_of-alone l (p, page) cache (λ s. sym (parts.parts.swap.counts s) ∙ no_entries s)))
         (zap_of-kept m l (p, page) parts.sound);
@@ -103,7 +89,7 @@ module _ (m : Setting) (v : View) (l : Ledger) (p page : ℕ) (e : Entry) (maps 
         dirty = λ g. subst (λ o. IfSome o (λ s. v.dirty g ≡ is_stale (after_zap (p, page) l) s)) (sym (no_slot (after_zap (p, page) l) g cache_now)) tt;
         free = λ g below. free g below ∙ ap (λ n. n == 0) (sym (mapped_now g)) ∙ sym (free_is (after_zap (p, page) l) g cache_now);
       };
-      lists = record { active = no_active ∙ sym (active-taken (p, page) l (sym parts.parts.lists.active ∙ no_active)) };
+      lists = record { active = active_is; inactive = inactive_is };
       tables = tables_now;
       swap = record {
         finds = λ s. parts.parts.swap.finds s ∙ no_frame_at l s cache ∙ sym (no_frame_at (after_zap (p, page) l) s cache_now);
@@ -112,27 +98,32 @@ module _ (m : Setting) (v : View) (l : Ledger) (p page : ℕ) (e : Entry) (maps 
         on = parts.parts.swap.on ∙ sym (same_swap-after_zap (p, page) l).on;
       };
     };
+    lists = parts.lists;
   }
 
 -- ---- the page of zeros, and a frame
 
-module _ (m : Setting) (v : View) (l : Ledger) (p page : ℕ)
-    (cache : l.cache ≡ []) (parts : SoundLedger m v l) (no_active : v.active ≡ []) (no_entries : (s : Slot) → v.entries s ≡ 0) where
+module _ (m : Setting) (listed : ℕ) (v : View) (l : Ledger) (p page : ℕ)
+    (cache : l.cache ≡ []) (parts : SoundLedger m listed v l) (no_entries : (s : Slot) → v.entries s ≡ 0) where
   -- no slot is taken or given back
-  unslotted : HasNoDevice m → ChoosesSlot m None l (Zapped (p, page)) v.slots v.slots
-  unslotted none = no-slot-chosen m None l (Zapped (p, page)) v.slots none refl refl
+  unslotted : ChoosesSlot m None l (Zapped (p, page)) v.slots v.slots
+  unslotted = no-slot-chosen m None l (Zapped (p, page)) v.slots (λ s. none_used l s cache (sym (parts.parts.swap.counts s) ∙ no_entries s)) refl refl
 
   frees : (g : ℕ) → g < m.frames → is_in g v.free ≡ (v.maps g == 0)
   frees g below = parts.parts.frames.free g below ∙ free_is l g cache ∙ ap (λ n. n == 0) (sym (parts.parts.frames.maps g))
 
-  pub zero_left : entry l (p, page) ≡ Some Zero → SoundLedger m (record v { table = with_entry p page None v.table }) (after_zap (p, page) l)
-  zero_left is = stands_now m v l p page Zero v.maps v.free cache parts no_active no_entries is (λ s. refl) (λ g. same (v.maps g)) frees
+  pub zero_left : entry l (p, page) ≡ Some Zero → SoundLedger m listed (record v { table = with_entry p page None v.table }) (after_zap (p, page) l)
+  zero_left is = stands_now m listed v l p page Zero v.maps v.free v.active v.inactive cache parts no_entries is (λ s. refl) (λ g. same (v.maps g)) frees
+      (parts.parts.lists.active ∙ ap (λ (l : Ledger). l.active) (sym left)) (parts.parts.lists.inactive ∙ ap (λ (l : Ledger). l.inactive) (sym left))
     where
       same : (n : ℕ) → n + 0 ≡ n
       same n = omega arith
 
-  pub zero_freed : HasNoDevice m → entry l (p, page) ≡ Some Zero → Chooses m None l (Zapped (p, page)) (free_of v) (free_of v)
-  zero_freed none is = chooses-kept m None l (Zapped (p, page)) (free_of v) (unslotted none) refl
+      left : after_zap (p, page) l ≡ leaving (p, page) l
+      left = after_zap-blank (p, page) l Zero is refl
+
+  pub zero_freed : entry l (p, page) ≡ Some Zero → Chooses m None l (Zapped (p, page)) (free_of v) (free_of v)
+  zero_freed is = chooses-kept m None l (Zapped (p, page)) (free_of v) unslotted refl
       (new_free-zap_none m (p, page) l parts.sound.in_order (λ g. ap (weight (names_frame g)) is))
 
   -- without a slot the uses of a frame are its entries
@@ -159,6 +150,17 @@ module _ (m : Setting) (v : View) (l : Ledger) (p page : ℕ)
     at_f : with_at f (v.maps f - 1) v.maps f ≡ v.maps f - 1
     at_f = ap (λ b. cond b (v.maps f - 1) (v.maps f)) (itself f)
 
+    -- the frame is free then where no entry is left that names it
+    leaving_free : is_free (leaving (p, page) l) f ≡ (v.maps f - 1 == 0)
+    leaving_free = free_is (leaving (p, page) l) f cache ∙ ap (λ n. n == 0) (one_less _ _ _ (map_count-leaving (p, page) l f parts.sound.in_order)
+        (ap (weight (names_frame f)) is ∙ ap (λ b. cond b 1 0) (itself f)) (parts.parts.frames.maps f))
+      where
+        one_less : (n x k : ℕ) {c : ℕ} → n ≡ x + k → k ≡ 1 → c ≡ n → x ≡ c - 1
+        one_less n x k a b e = omega (arith, a, b, e)
+
+    left_by : (b : Bool) → (v.maps f - 1 == 0) ≡ b → after_zap (p, page) l ≡ cond b (off_lists f (leaving (p, page) l)) (leaving (p, page) l)
+    left_by b e = after_zap-frame (p, page) l f was is ∙ ap (λ b. cond b (off_lists f (leaving (p, page) l)) (leaving (p, page) l)) (leaving_free ∙ e)
+
     -- another entry names the frame
     module _ (more : (v.maps f == 1) ≡ false) where
       two : 1 < v.maps f
@@ -177,12 +179,19 @@ module _ (m : Setting) (v : View) (l : Ledger) (p page : ℕ)
           by true e = both _ _ (ap v.maps (equal_is g f e)) two
           by false e = refl
 
-      pub shared_left : SoundLedger m (record v { table = with_entry p page None v.table; maps = with_at f (v.maps f - 1) v.maps }) (after_zap (p, page) l)
-      shared_left = stands_now m v l p page (InFrame f was) (with_at f (v.maps f - 1) v.maps) v.free cache parts no_active no_entries is
-          (λ s. refl) fewer shared_free
+      stays : after_zap (p, page) l ≡ leaving (p, page) l
+      stays = left_by false (let positive = two in above (v.maps f) positive)
+        where
+          above : (n : ℕ) → 1 < n → (n - 1 == 0) ≡ false
+          above n h = grind (arith, nat_tests, h)
 
-      pub shared_freed : HasNoDevice m → Chooses m None l (Zapped (p, page)) (free_of v) (free_of v)
-      shared_freed none = chooses-kept m None l (Zapped (p, page)) (free_of v) (unslotted none) refl
+      pub shared_left : SoundLedger m listed (record v { table = with_entry p page None v.table; maps = with_at f (v.maps f - 1) v.maps }) (after_zap (p, page) l)
+      shared_left = stands_now m listed v l p page (InFrame f was) (with_at f (v.maps f - 1) v.maps) v.free v.active v.inactive cache parts no_entries is
+          (λ s. refl) fewer shared_free
+          (parts.parts.lists.active ∙ ap (λ (l : Ledger). l.active) (sym stays)) (parts.parts.lists.inactive ∙ ap (λ (l : Ledger). l.inactive) (sym stays))
+
+      pub shared_freed : Chooses m None l (Zapped (p, page)) (free_of v) (free_of v)
+      shared_freed = chooses-kept m None l (Zapped (p, page)) (free_of v) unslotted refl
           (new_free-zap_more m (p, page) l f was parts.sound.in_order is (subst (λ n. 1 < n) (sym (uses_are f)) two))
 
     -- no other does
@@ -197,20 +206,33 @@ module _ (m : Setting) (v : View) (l : Ledger) (p page : ℕ)
           by true e = gone (v.maps f) one
           by false e = refl
 
-      pub last_left : SoundLedger m (record v { table = with_entry p page None v.table; maps = with_at f (v.maps f - 1) v.maps; free = f ∷ v.free })
-          (after_zap (p, page) l)
-      last_left = stands_now m v l p page (InFrame f was) (with_at f (v.maps f - 1) v.maps) (f ∷ v.free) cache parts no_active no_entries is
-          (λ s. refl) fewer last_free
+      goes : after_zap (p, page) l ≡ off_lists f (leaving (p, page) l)
+      goes = left_by true (gone (v.maps f) one)
+        where
+          gone : (n : ℕ) → (n == 1) ≡ true → (n - 1 == 0) ≡ true
+          gone n e = grind (arith, nat_tests, e)
 
-      pub last_freed : HasNoDevice m → Chooses m None l (Zapped (p, page)) (free_of v) (record { frames = f ∷ v.free; slots = v.slots })
-      last_freed none = record {
+      pub last_left : SoundLedger m listed (record v {
+        table = with_entry p page None v.table;
+        maps = with_at f (v.maps f - 1) v.maps;
+        free = f ∷ v.free;
+        active = without f v.active;
+        inactive = without f v.inactive;
+      }) (after_zap (p, page) l)
+      last_left = stands_now m listed v l p page (InFrame f was) (with_at f (v.maps f - 1) v.maps) (f ∷ v.free) (without f v.active) (without f v.inactive)
+          cache parts no_entries is (λ s. refl) fewer last_free
+          (ap (without f) parts.parts.lists.active ∙ ap (λ (l : Ledger). l.active) (sym goes))
+          (ap (without f) parts.parts.lists.inactive ∙ ap (λ (l : Ledger). l.inactive) (sym goes))
+
+      pub last_freed : Chooses m None l (Zapped (p, page)) (free_of v) (record { frames = f ∷ v.free; slots = v.slots })
+      last_freed = record {
         frames = (
           v.free,
           refl,
           ap (λ fs. fs ++ v.free) (sym (new_free-zap_last m (p, page) l f was parts.sound.in_order is below
               (uses_are f ∙ once (v.maps f) one))),
         );
-        slots = unslotted none;
+        slots = unslotted;
       }
         where
           once : (n : ℕ) → (n == 1) ≡ true → n ≡ 1
@@ -220,22 +242,26 @@ module _ (m : Setting) (v : View) (l : Ledger) (p page : ℕ)
           below = parts.sound.in_range f (let used = uses_are f in let some_maps = some in omega (arith, used, some_maps))
 
     -- released, it is one or the other
-    pub released_left : SoundLedger m (after_unmap_frame f (record v { table = with_entry p page None v.table })) (after_zap (p, page) l)
+    abbrev released : Bool → View
+    released b = cond b (record v {
+      table = with_entry p page None v.table;
+      maps = with_at f (v.maps f - 1) v.maps;
+      free = f ∷ v.free;
+      active = without f v.active;
+      inactive = without f v.inactive;
+    }) (record v { table = with_entry p page None v.table; maps = with_at f (v.maps f - 1) v.maps })
+
+    pub released_left : SoundLedger m listed (after_unmap_frame f (record v { table = with_entry p page None v.table })) (after_zap (p, page) l)
     released_left = by (v.maps f == 1) refl
       where
-        by : (b : Bool) → (v.maps f == 1) ≡ b
-            → SoundLedger m (cond b (record v { table = with_entry p page None v.table; maps = with_at f (v.maps f - 1) v.maps; free = f ∷ v.free })
-            (record v { table = with_entry p page None v.table; maps = with_at f (v.maps f - 1) v.maps })) (after_zap (p, page) l)
+        by : (b : Bool) → (v.maps f == 1) ≡ b → SoundLedger m listed (released b) (after_zap (p, page) l)
         by true e = last_left e
         by false e = shared_left e
 
-    pub released_freed : HasNoDevice m → Chooses m None l (Zapped (p, page)) (free_of v)
+    pub released_freed : Chooses m None l (Zapped (p, page)) (free_of v)
         (free_of (after_unmap_frame f (record v { table = with_entry p page None v.table })))
-    released_freed none = by (v.maps f == 1) refl
+    released_freed = by (v.maps f == 1) refl
       where
-        by : (b : Bool) → (v.maps f == 1) ≡ b
-            → Chooses m None l (Zapped (p, page)) (free_of v)
-            (free_of (cond b (record v { table = with_entry p page None v.table; maps = with_at f (v.maps f - 1) v.maps; free = f ∷ v.free })
-            (record v { table = with_entry p page None v.table; maps = with_at f (v.maps f - 1) v.maps })))
-        by true e = last_freed e none
-        by false e = shared_freed e none
+        by : (b : Bool) → (v.maps f == 1) ≡ b → Chooses m None l (Zapped (p, page)) (free_of v) (free_of (released b))
+        by true e = last_freed e
+        by false e = shared_freed e

@@ -3,34 +3,44 @@ use Rattle.std.proofs.Common.{◌≡◌, ℕ, ◌<◌, ◌≤◌, Bool, true, fa
 use Rattle.std.proofs.lemmas.Bool.Decides.{nat_tests}
 use Rattle.av_base.specs.Words.{is_in}
 use Rattle.av_frames.specs.Store.{Shown}
+use Rattle.av_lru.specs.Lists.{Lists}
 use Rattle.av_pagetable.specs.declared.pte.Pte.{Pte}
 use Rattle.av_pagetable.specs.declared.pte.Pte.TheVariants.{Empty, Zero as ZeroPte, Here, Away}
 use Rattle.av_pagetable.specs.Table.{IsFirst}
 use Rattle.av_pagetable.specs.Entries.{with_entry}
 use Rattle.av_plain.specs.Ledger.{Ledger, Zero, InFrame, InSlot, entry, map_count, names_frame, names_slot}
 use Rattle.av_plain.specs.Choice.{Chooses}
+use Rattle.av_plain.specs.Device.{Device, setting_of}
 use Rattle.av_plain.specs.Event.{Zapped, after_zap}
-use Rattle.av_plain.specs.Stands.{entry_of, free_of}
+use Rattle.av_plain.specs.Stands.{View, entry_of, free_of}
 use Rattle.av_plain.proofs.Ledger.{how_many-found}
 use Rattle.av_plain.proofs.Ledger.NoSwap.{itself, free_is}
-use Rattle.av_reclaim.specs.Mem.{setting, plain, SoundLedger}
-use Rattle.av_reclaim.specs.Zap.{after_unmap_frame}
+use Rattle.av_reclaim.specs.Mem.{plain, SoundLedger}
+use Rattle.av_reclaim.specs.Zap.{IsFrameInUse, after_unmap_frame}
 use Rattle.av_reclaim.proofs.MemLaws.{frames_free, no_cache}
-use Rattle.av_reclaim.proofs.Parts.{Parts, Stand, parts_put, parts_same, seen_as}
+use Rattle.av_reclaim.proofs.Parts.{Parts, Stand, parts_put, parts_same, seen_as, setting_at}
 use Rattle.av_reclaim.proofs.ZapEntry.{zero_left, zero_freed, released_left, released_freed}
 
 -- the entry of the least page from `from` to below `past` goes, or there is none: as `ZapsFirst`, over parts
-abbrev pub Takes : Parts → Parts → Ledger → ℕ → ℕ → ℕ → Option ℕ → Type 0
-Takes old new l p from past None =
+abbrev pub Takes : Device → Parts → Parts → Ledger → ℕ → ℕ → ℕ → Option ℕ → Type 0
+Takes d old new l p from past None =
     ((q : ℕ) → from ≤ q → q < past → entry l (p, q) ≡ None)
-    × (free_of (seen_as new) ≡ free_of (seen_as old)) × Stand new l
-Takes old new l p from past (Some page) =
+    × (free_of (seen_as new) ≡ free_of (seen_as old)) × Stand d new l
+Takes d old new l p from past (Some page) =
     (from ≤ page) × (is_some (entry l (p, page)) ≡ true)
     × ((q : ℕ) → from ≤ q → q < page → entry l (p, q) ≡ None)
-    × Chooses (setting old.frames.count) None l (Zapped (p, page)) (free_of (seen_as old)) (free_of (seen_as new))
-    × Stand new (after_zap (p, page) l)
+    × Chooses (setting_at d old) None l (Zapped (p, page)) (free_of (seen_as old)) (free_of (seen_as new))
+    × Stand d new (after_zap (p, page) l)
 
-module _ (old : Parts) (l : Ledger) (stands : Stand old l) where
+-- the same view with as many frames, and lists of as many, stands for the same
+pub same_ledger : (d : Device) (old new : Parts) (l : Ledger) {v : View} → SoundLedger (setting_at d old) old.lists.frames v l → seen_as new ≡ v →
+    new.frames.count ≡ old.frames.count → new.lists.frames ≡ old.lists.frames → Stand d new l
+same_ledger d old new l h seen_so counts listed =
+    subst (λ n. SoundLedger (setting_of n d) new.lists.frames (seen_as new) l) (sym counts)
+    (subst (λ n. SoundLedger (setting_at d old) n (seen_as new) l) (sym listed)
+    (subst (λ v. SoundLedger (setting_at d old) old.lists.frames v l) (sym seen_so) h))
+
+module _ (d : Device) (old : Parts) (l : Ledger) (stands : Stand d old l) where
   cache : l.cache ≡ []
   cache = no_cache l stands.parts.swap.finds
 
@@ -41,8 +51,7 @@ module _ (old : Parts) (l : Ledger) (stands : Stand old l) where
   frame_there p page f write was e = sym (stands.parts.tables.entries p page) ∙ ap (λ t. entry_of (plain t)) e
 
   -- an entry's frame is in use
-  pub frame_used : (p page f : ℕ) (write was : Bool) → old.table p page ≡ Here f write was → (f < old.frames.count) × (0 < (seen_as old).maps f)
-      × (is_in f (seen_as old).free ≡ false)
+  pub frame_used : (p page f : ℕ) (write was : Bool) → old.table p page ≡ Here f write was → IsFrameInUse f old.frames
   frame_used p page f write was e =
       let some : 0 < map_count l f = how_many-found (names_frame f) (p, page) l.entries (InFrame f was) (frame_there p page f write was e) (itself f) in
       let below : f < old.frames.count = stands.sound.in_range f (omega (arith, some)) in
@@ -64,13 +73,13 @@ module _ (old : Parts) (l : Ledger) (stands : Stand old l) where
       absurd (omega (arith, found, zero))
 
   module _ (new : Parts) (p from past : ℕ) where
-    pub none_taken : ((q : ℕ) → from ≤ q → q < past → old.table p q ≡ Empty) → new.table ≡ old.table → new.frames ≡ old.frames → new.spaces ≡ old.spaces →
-        new.anons ≡ old.anons → Takes old new l p from past None
-    none_taken none tables frames spaces anons = (
+    pub none_taken : ((q : ℕ) → from ≤ q → q < past → old.table p q ≡ Empty) → new.table ≡ old.table → new.frames ≡ old.frames → new.lists ≡ old.lists →
+        new.spaces ≡ old.spaces → new.anons ≡ old.anons → Takes d old new l p from past None
+    none_taken none tables frames lists spaces anons = (
       λ q low high. nothing_at p q (none q low high),
       ap (λ (f : Shown). frames_free f.free) frames,
-      subst (λ n. SoundLedger (setting n) (seen_as new) l) (sym (ap (λ (f : Shown). f.count) frames))
-          (subst (λ v. SoundLedger (setting old.frames.count) v l) (sym (parts_same old new tables frames spaces anons)) stands),
+      same_ledger d old new l stands (parts_same old new tables frames lists spaces anons) (ap (λ (f : Shown). f.count) frames)
+          (ap (λ (ls : Lists). ls.frames) lists),
     )
 
     module _ (page : ℕ) (e : Pte) (first : IsFirst (old.table p) from past page) (is : old.table p page ≡ e) where
@@ -78,32 +87,31 @@ module _ (old : Parts) (l : Ledger) (stands : Stand old l) where
       least q low high = nothing_at p q (first.least q low high)
 
       pub zero_taken : ((f : ℕ) (write was : Bool) → e ≡ Here f write was → ⊥) → new.table ≡ with_entry p page Empty (old.table) → new.frames ≡ old.frames →
-          new.spaces ≡ old.spaces → new.anons ≡ old.anons → Takes old new l p from past (Some page)
-      zero_taken other tables frames spaces anons =
+          new.lists ≡ old.lists → new.spaces ≡ old.spaces → new.anons ≡ old.anons → Takes d old new l p from past (Some page)
+      zero_taken other tables frames lists spaces anons =
           let there = zero_there p page e is (λ none. first.there (is ∙ none)) other in (
             first.from_there,
             ap is_some there,
             least,
-            subst (Chooses (setting old.frames.count) None l (Zapped (p, page)) (free_of (seen_as old))) (sym (ap (λ (f : Shown). frames_free f.free) frames))
-                (zero_freed (setting old.frames.count) (seen_as old) l p page cache stands refl (λ s. refl) (λ k. refl) there),
-            subst (λ n. SoundLedger (setting n) (seen_as new) (after_zap (p, page) l)) (sym (ap (λ (f : Shown). f.count) frames))
-                (subst (λ v. SoundLedger (setting old.frames.count) v (after_zap (p, page) l)) (sym (parts_put old new p page Empty tables frames spaces anons))
-                (zero_left (setting old.frames.count) (seen_as old) l p page cache stands refl (λ s. refl) there)),
+            subst (Chooses (setting_at d old) None l (Zapped (p, page)) (free_of (seen_as old))) (sym (ap (λ (f : Shown). frames_free f.free) frames))
+                (zero_freed (setting_at d old) old.lists.frames (seen_as old) l p page cache stands (λ s. refl) there),
+            same_ledger d old new (after_zap (p, page) l) (zero_left (setting_at d old) old.lists.frames (seen_as old) l p page cache stands (λ s. refl) there)
+                (parts_put old new p page Empty tables frames lists spaces anons) (ap (λ (f : Shown). f.count) frames) (ap (λ (ls : Lists). ls.frames) lists),
           )
 
       pub frame_taken : (mid : Parts) (f : ℕ) (write was : Bool) → e ≡ Here f write was → mid.table ≡ with_entry p page Empty (old.table) →
-          mid.frames ≡ old.frames → mid.spaces ≡ old.spaces → mid.anons ≡ old.anons
-          → seen_as new ≡ after_unmap_frame f (seen_as mid) → new.frames.count ≡ old.frames.count → Takes old new l p from past (Some page)
-      frame_taken mid f write was here tables frames spaces anons same counts =
+          mid.frames ≡ old.frames → mid.lists ≡ old.lists → mid.spaces ≡ old.spaces → mid.anons ≡ old.anons
+          → seen_as new ≡ after_unmap_frame f (seen_as mid) → new.frames.count ≡ old.frames.count → new.lists.frames ≡ old.lists.frames →
+          Takes d old new l p from past (Some page)
+      frame_taken mid f write was here tables frames lists spaces anons same counts listed =
           let there = frame_there p page f write was (is ∙ here) in
           let seen_so : seen_as new ≡ after_unmap_frame f (record (seen_as old) { table = with_entry p page None (seen_as old).table }) =
-          same ∙ ap (after_unmap_frame f) (parts_put old mid p page Empty tables frames spaces anons) in (
+          same ∙ ap (after_unmap_frame f) (parts_put old mid p page Empty tables frames lists spaces anons) in (
             first.from_there,
             ap is_some there,
             least,
-            subst (Chooses (setting old.frames.count) None l (Zapped (p, page)) (free_of (seen_as old))) (sym (ap free_of seen_so))
-                (released_freed (setting old.frames.count) (seen_as old) l p page cache stands refl (λ s. refl) f was there (λ k. refl)),
-            subst (λ n. SoundLedger (setting n) (seen_as new) (after_zap (p, page) l)) (sym counts)
-                (subst (λ v. SoundLedger (setting old.frames.count) v (after_zap (p, page) l)) (sym seen_so)
-                (released_left (setting old.frames.count) (seen_as old) l p page cache stands refl (λ s. refl) f was there)),
+            subst (Chooses (setting_at d old) None l (Zapped (p, page)) (free_of (seen_as old))) (sym (ap free_of seen_so))
+                (released_freed (setting_at d old) old.lists.frames (seen_as old) l p page cache stands (λ s. refl) f was there),
+            same_ledger d old new (after_zap (p, page) l)
+                (released_left (setting_at d old) old.lists.frames (seen_as old) l p page cache stands (λ s. refl) f was there) seen_so counts listed,
           )

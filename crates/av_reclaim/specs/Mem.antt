@@ -1,12 +1,12 @@
--- The memory system: its view, put together from what its parts are seen as, and what it stands
--- for.
+-- The memory system over a device: its view, put together from what its parts are seen as, and what
+-- it stands for.
 use Rattle.std.specs.Prelude.{◌≡◌, ℕ, false, List, [], length, map, Option, Some, None, is_some, option_map, T}
 use Rattle.std.specs.FinMap.Entries.{is_sorted}
 use Rattle.av_plain.specs.World.{World}
 use Rattle.av_plain.specs.Ledger.{Ledger, Setting, Zero as ZeroEntry, InFrame, InSlot, key_cmp}
 use Rattle.av_plain.specs.Transcript.{State}
 use Rattle.av_plain.specs.Sound.{IsSound, AtPages}
-use Rattle.av_plain.specs.Device.{no_device, setting_of}
+use Rattle.av_plain.specs.Device.{Device, setting_of}
 use Rattle.av_anon.specs.declared.anons.Anons.{Anons as AnonSet}
 use Rattle.av_anon.specs.declared.infos.Info.{Info}
 use Rattle.av_plain.specs.Areas.{AnonVma, Anons}
@@ -14,16 +14,13 @@ use Rattle.av_plain.specs.Choice.{no_slots}
 use Rattle.av_plain.specs.Report.{Range, range_of}
 use Rattle.av_plain.specs.Stands.{View, Pte as Plain, Stands, LedgerStands, PartsStand}
 use Rattle.av_frames.specs.Store.{Shown, shown}
+use Rattle.av_lru.specs.Lists.{Lists}
 use Rattle.av_pagetable.specs.declared.pte.Pte.{Pte}
 use Rattle.av_pagetable.specs.declared.pte.Pte.TheVariants.{Empty, Zero, Here, Away}
 use Rattle.av_pagetable.specs.Entries.{entry_at, has}
 use Rattle.av_spaces.specs.Kin.{AnonsFit, chain_by, info_of}
 use Rattle.av_spaces.specs.Spaces.{AllSpaces, Spaces, areas_of}
 use Rattle.av_reclaim.specs.declared.mem.Mem.{Mem}
-
--- so many frames, and a device that has no area
-abbrev pub setting : ℕ → Setting
-setting frames = setting_of frames no_device
 
 -- an entry in the words of the ledger
 abbrev pub plain : Pte → Option Plain
@@ -47,9 +44,9 @@ anons_of s anons = record {
   anon = λ v. option_map (anon_vma (chain_by s anons (Some v))) (info_of anons v);
 }
 
--- the view of frames, entries, areas and anon_vmas, without swap. No frame is active
-abbrev pub view_of_parts : Shown → (ℕ → ℕ → Option Plain) → AllSpaces → AnonSet → View
-view_of_parts frames table spaces anons = record {
+-- the view of frames with their lists, entries, areas and anon_vmas; no swap area is on
+abbrev pub view_of_parts : Shown → Lists → (ℕ → ℕ → Option Plain) → AllSpaces → AnonSet → View
+view_of_parts frames lists table spaces anons = record {
   frames = frames.count;
   bytes = frames.bytes;
   maps = frames.maps;
@@ -57,7 +54,8 @@ view_of_parts frames table spaces anons = record {
   slot = frames.slot;
   dirty = frames.dirty;
   free = frames.free;
-  active = [];
+  active = lists.active;
+  inactive = lists.inactive;
   table = table;
   processes = length spaces.processes;
   areas = areas_of spaces.processes;
@@ -70,47 +68,59 @@ view_of_parts frames table spaces anons = record {
 }
 
 abbrev pub view : Mem → View
-view k =
-    view_of_parts (shown k.frames) (λ p page. plain (entry_at k.tables p page)) k.spaces k.anons
+view k = view_of_parts (shown k.frames) k.lists (λ p page. plain (entry_at k.tables p page))
+    k.spaces k.anons
 
 -- how many frames there are
 abbrev pub frame_count : Mem → ℕ
 frame_count k = (shown k.frames).count
 
+-- what does not change in a run over this device
+abbrev pub setting_by : Device → Mem → Setting
+setting_by d k = setting_of (frame_count k) d
+
+-- the lists are of as many frames as there are
+abbrev pub HasLists : Mem → Type 0
+HasLists k = k.lists.frames ≡ frame_count k
+
 -- a process has a table exactly where it has areas
 abbrev pub HasTables : Mem → Type 0
 HasTables k = (p : ℕ) → has k.tables p ≡ is_some (ranges_of k.spaces.processes p)
 
--- the memory system stands for the memories, the ledger, what is free, the areas, the anon_vmas,
--- among which there is chain order, and the homes; there is no device
-pub record Keeps (k : Mem) (s : State) : Type 0 where
-  pub stands : Stands (setting (frame_count k)) (view k) no_device s
+-- the memory system over this device stands for the memories, the ledger, what is free, the areas,
+-- the anon_vmas, among which there is chain order, and the homes
+pub record Keeps (d : Device) (k : Mem) (s : State) : Type 0 where
+  pub stands : Stands (setting_by d k) (view k) d s
+  pub lists : HasLists k
   pub tables : HasTables k
   pub anons : AnonsFit k.spaces k.anons
 
--- it stands for some
+-- it stands for some, over some device
 abbrev pub IsSteady : Mem → Type 0
-IsSteady k = (s : State) × Keeps k s
+IsSteady k = (d : Device) × (s : State) × Keeps d k s
 
 -- ---- within a command
 
--- the ledger is sound, and the parts that speak of it alone stand for it
-pub record SoundLedger (m : Setting) (v : View) (l : Ledger) : Type 0 where
+-- the ledger is sound, the parts that speak of it alone stand for it, and lists of so many frames
+-- are of those that there are
+pub record SoundLedger (m : Setting) (listed : ℕ) (v : View) (l : Ledger) : Type 0 where
   pub sound : IsSound m l
   pub parts : LedgerStands m v l
+  pub lists : listed ≡ m.frames
 
 -- the memory system's parts do
-abbrev pub HasLedger : Mem → Ledger → Type 0
-HasLedger k l = SoundLedger (setting (frame_count k)) (view k) l
+abbrev pub HasLedger : Device → Mem → Ledger → Type 0
+HasLedger d k l = SoundLedger (setting_by d k) k.lists.frames (view k) l
 
--- they stand for some
+-- they stand for some, over some device
 abbrev pub IsOrderly : Mem → Type 0
-IsOrderly k = (l : Ledger) × HasLedger k l
+IsOrderly k = (d : Device) × (l : Ledger) × HasLedger d k l
 
 -- what stands within an access
-pub record KeepsWithin (k : Mem) (w : World) (l : Ledger) : Type 0 where
+pub record KeepsWithin (d : Device) (k : Mem) (w : World) (l : Ledger) : Type 0 where
   pub in_order : T (is_sorted key_cmp l.entries)
   pub at_pages : AtPages w l
-  pub parts : PartsStand (setting (frame_count k)) (view k) no_device w l
+  pub parts : PartsStand (setting_by d k) (view k) d w l
+  pub lists : HasLists k
   pub tables : HasTables k
   pub anons : AnonsFit k.spaces k.anons

@@ -3,6 +3,7 @@
 ghost use Rattle.std.specs.Prelude.{◌≡◌, ◌+◌, ◌<◌, IfOk, OnErr, OnOk};
 ghost use Rattle.std.specs.List.{AllByRecursion};
 ghost use Rattle.av_base.specs.Limits.{top_page};
+ghost use Rattle.av_plain.specs.Device.{Device};
 ghost use Rattle.av_plain.specs.Ledger.{walk as walk_of};
 ghost use Rattle.av_plain.specs.Transcript.{State};
 ghost use Rattle.av_reclaim.specs.Mem.{frame_count, view, IsSteady, Keeps};
@@ -26,7 +27,7 @@ pub fn walk<L: Ledger>(
 ) -> Result<Vec<(u16, u64)>, AllocError>
     requires steady { IsSteady mem.now }
     requires in_range { frame < frame_count mem.now }
-    ensures keys { (s : State) → Keeps mem.now s
+    ensures keys { (d : Device) (s : State) → Keeps d mem.now s
         → IfOk result (λ keys. keys.items ≡ walk_of s.ledger frame) }
     ensures below { IfOk result (λ keys. AllByRecursion (λ key. key.1 < top_page) keys.items) }
     ensures counted { OnOk result

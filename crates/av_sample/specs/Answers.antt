@@ -6,14 +6,15 @@ use Rattle.av_trace.specs.Line.{Says}
 use Rattle.av_trace.specs.Print.{text_of}
 use Rattle.av_plain.specs.Transcript.{State}
 use Rattle.av_kernel.specs.Machine.{Machine}
-use Rattle.av_plain.specs.Device.{no_device}
+use Rattle.av_plain.specs.Device.{Device}
 use Rattle.av_kernel.specs.Kernel.{Steps}
 
--- The line says a command; its reply is a legal step from the state, and the kernel stands for the
--- next one; the text is that of the reply.
-pub record Answers (line : List ℕ) (s : State) (old new : Machine) (text : List ℕ) : Type 0 where
+-- The line says a command; its reply is a legal step from the state over the device, and the kernel
+-- stands for the next one; the text is that of the reply.
+pub record Answers (line : List ℕ) (d : Device) (s : State) (old new : Machine) (text : List ℕ)
+    : Type 0 where
   pub command : Command
   pub reply : Reply
   pub says : Says line (Some command)
-  pub steps : Steps old new no_device no_device s command reply
+  pub steps : Steps old new d d s command reply
   pub shows : text ≡ text_of reply

@@ -3,7 +3,7 @@
 ghost use Rattle.std.specs.Prelude.{◌≡◌, ◌≤◌, ◌^◌, Option, Some, None, IfOk, IsErrOf};
 ghost use Rattle.av_trace.specs.declared.command.Command.{Command as AnyCommand};
 ghost use Rattle.av_trace.specs.Line.{Says};
-ghost use Rattle.av_plain.specs.Device.{no_device};
+ghost use Rattle.av_plain.specs.Device.{Device};
 ghost use Rattle.av_plain.specs.Transcript.{State};
 ghost use Rattle.av_kernel.specs.Kernel.{Stands};
 ghost use Rattle.av_sample.specs.Answers.{Answers};
@@ -49,8 +49,8 @@ fn said_command(alloc: Global, line: &[u8]) -> Result<Command, Unanswered>
 ///
 /// Where it refuses a line, or the kernel has done enough, the kernel is as before.
 pub fn ask(alloc: Global, kernel: &mut Kernel, line: &[u8]) -> Result<Bytes, Unanswered>
-    ensures answers { (s : State) → Stands kernel.old no_device s
-        → IfOk result (λ text. Answers line.now s kernel.old kernel.new text) }
+    ensures answers { (d : Device) (s : State) → Stands kernel.old d s
+        → IfOk result (λ text. Answers line.now d s kernel.old kernel.new text) }
     ensures blank { IsErrOf result Unanswered.Blank
         → Says line.now None × (kernel.new ≡ kernel.old) }
     ensures bad { IsErrOf result Unanswered.NoCommand

@@ -38,7 +38,7 @@ use Rattle.av_plain.specs.Zap.{zaps_of}
 use Rattle.av_plain.proofs.Access.{notes_of-append, notes_of-note_events}
 use Rattle.av_plain.proofs.AreasLeft.{prepare_note, prepare_notes, rmap_after_all-notes}
 use Rattle.av_plain.proofs.Ledger.{how_many-append}
-use Rattle.av_plain.proofs.NoDevice.{in-areas, no-area, no-remap-notes, no-swapon, no-zap-notes}
+use Rattle.av_plain.proofs.NoDevice.{in-areas, no-area, no-remap-notes, no-swapon, no-zap-notes, without-device}
 use Rattle.av_plain.proofs.Report.Areas.{all_from, on_first}
 use Rattle.av_plain.proofs.Sound.Pages.{AllBring, Brings, bring-completes, bring-seeks}
 use Rattle.av_plain.proofs.Sound.Swap.{bring-ages, bring-outcomes}
@@ -208,7 +208,7 @@ legal-new m w l command reply es none sound fit legal = by (refusal (tests m w l
     quiet fs e q = same-new (notes_of es) [] 8192 (ap notes_of e ∙ q) (omega arith)
 
     these : (ks : List Key) → es ≡ zaps_of l ks → news (notes_of es) ≤ 8192
-    these ks e = quiet (zaps_of l ks) e (no-zap-notes m l ks none (in-areas m w l sound))
+    these ks e = quiet (zaps_of l ks) e (no-zap-notes m l ks (without-device m l none) (in-areas m w l sound))
 
     accessed : (p : ℕ) (write : Bool) (a n : ℕ) (end : End) → n ≤ 4096 → Accesses m w l p (pages_of_access write a n) es end → news (notes_of es) ≤ 8192
     accessed p write a n end few h =
@@ -234,7 +234,7 @@ legal-new m w l command reply es none sound fit legal = by (refusal (tests m w l
       where
         moves : (to : Option ℕ) → es ≡ events_to l p (page_of a) (pages_of old) to (pages_of new) → news (notes_of es) ≤ 8192
         moves None e = quiet [] e refl
-        moves (Some to) e = quiet _ e (no-remap-notes m l p (page_of a) (pages_of old) to (pages_of new) none (in-areas m w l sound))
+        moves (Some to) e = quiet _ e (no-remap-notes m l p (page_of a) (pages_of old) to (pages_of new) (without-device m l none) (in-areas m w l sound))
     follows (Read p a n) fit fine q = accessed p false a n q.0 fit.2.most q.2
     follows (Write p a bytes) fit fine q = accessed p true a (length bytes) q.0 fit.2.0.most q.1
     follows (Reclaim n) fit fine q = noted q.0 q.3 (bring-outcomes (λ k. false) m (sparing w l None) l (from_tail n l.inactive) q.0 q.1)

@@ -139,29 +139,26 @@ frames-add m l s =
         by u true n h i = let z : u ≡ 0 = grind (arith, nat_tests, h) in omega (arith, z, i)
         by u false n h i = let z : 0 < u = grind (arith, nat_tests, h) in omega (arith, z, i)
 
--- `stat` without swap and active frames: the frames that aren't free are the inactive ones
-pub totals-plain : (m : Setting) (w : World) (l : Ledger) (fs : List ℕ) → IsSound m l → l.active ≡ [] → l.flight ≡ [] → l.on ≡ []
+-- `stat` without swap: the free frames are those of a list that has each once
+pub totals-plain : (m : Setting) (w : World) (l : Ledger) (fs : List ℕ) → l.flight ≡ [] → l.on ≡ []
     → ((f : ℕ) → how_many (λ g. f == g) fs ≡ cond (nat_lt f m.frames && is_free l f) 1 0)
     → totals m w l ≡ record {
       frames = m.frames;
       free = length fs;
-      active = 0;
-      inactive = m.frames - length fs;
+      active = length l.active;
+      inactive = length l.inactive;
       flight = 0;
       slots = 0;
       free_slots = 0;
       processes = length w;
     }
-totals-plain m w l fs s active flight on once =
-    let free = free-length m l fs once in
-    let inactive : length l.inactive ≡ m.frames - length fs = let a = frames-add m l s in let none = ap length active in omega (arith, a, none, free) in
-    λ i. record {
-      frames = m.frames;
-      free = sym free i;
-      active = length (active i);
-      inactive = inactive i;
-      flight = length (flight i);
-      slots = (totals m w (record l { on = on i })).slots;
-      free_slots = (totals m w (record l { on = on i })).free_slots;
-      processes = length w;
-    }
+totals-plain m w l fs flight on once = λ i. record {
+  frames = m.frames;
+  free = sym (free-length m l fs once) i;
+  active = length l.active;
+  inactive = length l.inactive;
+  flight = length (flight i);
+  slots = (totals m w (record l { on = on i })).slots;
+  free_slots = (totals m w (record l { on = on i })).free_slots;
+  processes = length w;
+}

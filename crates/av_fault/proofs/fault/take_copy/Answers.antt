@@ -51,5 +51,10 @@ returns-clause-taken c =
     (c.map_down.ensures ∙ ap (λ (s : Shown). record s { maps = with_at g (s.maps g - 1) s.maps })
     (c.map_up.ensures ∙ ap (λ (s : Shown). record s { maps = with_at f (s.maps f + 1) s.maps })
     (c.copy.ensures ∙ ap (λ (s : Shown). record s { bytes = with_at f (s.bytes g) s.bytes }) t.3)))
-    t.0 t.2 t.1 (subst (λ e. entry_at c.set.new.self ≡ with_entry c.args.process c.args.page e (entry_at c.args.mem.now.tables)) c.accessed_entry.ensures
+    t.0 t.2 t.1 c.to_inactive_head.ensures (subst (λ e. entry_at c.set.new.self ≡ with_entry c.args.process c.args.page e (entry_at c.args.mem.now.tables)) c.accessed_entry.ensures
     c.in_ok-set.ensures.sets) refl refl
+
+pub to_inactive_head-requires : goal.to_inactive_head-requires
+to_inactive_head-requires c =
+    let t = c.in-Some.ensures in
+    subst (λ n. c.in-Some.frame < n) (sym c.requires.steady.2.lists) t.1

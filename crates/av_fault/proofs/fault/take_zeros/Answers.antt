@@ -1,4 +1,4 @@
-use Rattle.std.proofs.Common.{◌≡◌, ◌∙◌, ap, refl, subst, ◌+◌, arith}
+use Rattle.std.proofs.Common.{◌≡◌, ◌∙◌, ◌<◌, ap, refl, subst, sym, ◌+◌, arith}
 use Rattle.av_base.specs.Words.{with_at}
 use Rattle.av_frames.specs.Store.{Shown, shown}
 use Rattle.av_pagetable.specs.Entries.{entry_at, with_entry}
@@ -22,5 +22,10 @@ returns-clause-taken c =
     frame_taken c.args.mem.now _ c.args.process c.args.page f _ _ c.take.new.self.free
     (c.map_up.ensures ∙ ap (λ (s : Shown). record s { maps = with_at f (s.maps f + 1) s.maps })
     (c.zero.ensures ∙ ap (λ (s : Shown). record s { bytes = with_at f (λ i. 0) s.bytes }) t.3))
-    t.0 t.2 t.1 (subst (λ e. entry_at c.set.new.self ≡ with_entry c.args.process c.args.page e (entry_at c.args.mem.now.tables)) c.accessed_entry.ensures
+    t.0 t.2 t.1 c.to_inactive_head.ensures (subst (λ e. entry_at c.set.new.self ≡ with_entry c.args.process c.args.page e (entry_at c.args.mem.now.tables)) c.accessed_entry.ensures
     c.in_ok-set.ensures.sets) refl refl
+
+pub to_inactive_head-requires : goal.to_inactive_head-requires
+to_inactive_head-requires c =
+    let t = c.in-Some.ensures in
+    subst (λ n. c.in-Some.frame < n) (sym c.requires.steady.2.lists) t.1

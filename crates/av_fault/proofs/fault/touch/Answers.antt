@@ -6,7 +6,7 @@ use Rattle.av_fault.proofs.fault.touch.Goals as goal
 pub returns-in_default : goal.returns-in_default
 returns-in_default c = record {
   count = refl;
-  step = λ s keeps. denied s c.args.mem.now c.args.mem.now c.args.process c.args.page c.args.notes.now keeps c.args.write
+  step = λ d s keeps. denied d s c.args.mem.now c.args.mem.now c.args.process c.args.page c.args.notes.now keeps c.args.write
       (sym c.area_for.ensures.permitted ∙ ap is_some c.in_default.is);
 }
 

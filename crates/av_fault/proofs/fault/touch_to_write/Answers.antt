@@ -28,32 +28,32 @@ unreachable-requires c = none_away c.args.mem.now c.args.process c.args.page c.i
 pub returns-else-is_shared : goal.returns-else-is_shared
 returns-else-is_shared c = record {
   count = ap (λ (x : Shown). x.count) c.set_home-in-Here.ensures;
-  step = λ s keeps.
+  step = λ d s keeps.
       let h = c.in-Here in
       let old = c.args.mem.now in
       let is = sym c.get.ensures ∙ h.is in
       let few : map_count s.ledger h.frame ≤ 1 = subst (λ n. n ≤ 1) (keeps.stands.parts.ledger.frames.maps h.frame)
       (rw c.if-is_shared.false at c.is_shared.ensures) in
-      written_home s old keeps (record old { tables = c.change.new.self }) c.set_home-in-Here.new.self c.args.process c.args.page h.frame c.args.home
+      written_home d s old keeps (record old { tables = c.change.new.self }) c.set_home-in-Here.new.self c.args.process c.args.page h.frame c.args.home
       c.set_home-in-Here.ensures c.args.notes.now c.args.notes.now
-      (written_now old (record old { tables = c.change.new.self }) s c.args.process c.args.page h.frame h.write true h.seen c.args.notes.now keeps is
+      (written_now d old (record old { tables = c.change.new.self }) s c.args.process c.args.page h.frame h.write true h.seen c.args.notes.now keeps is
       (subst (λ e. entry_at c.change.new.self ≡ with_entry c.args.process c.args.page e (entry_at old.tables)) c.accessed_entry.ensures c.change.ensures.sets)
-      c.change.ensures.processes refl refl refl (λ _. few) c.requires.permitted few)
-      (rmap_still s old (record old { tables = c.change.new.self }) keeps refl refl refl) h.seen
-      (frame_entry old s c.args.process c.args.page h.frame h.write h.seen keeps is) few
+      c.change.ensures.processes refl refl refl refl (λ _. few) c.requires.permitted few)
+      (rmap_still d s old (record old { tables = c.change.new.self }) keeps refl refl refl) h.seen
+      (frame_entry d old s c.args.process c.args.page h.frame h.write h.seen keeps is) few
       (c.requires.home ∙ ap (home_of c.args.page) (keeps.stands.areas c.args.process c.args.page));
 }
 
 pub returns-then-seen : goal.returns-then-seen
 returns-then-seen c = record {
   count = ap (λ (x : Shown). x.count) c.set_home.ensures;
-  step = λ s keeps.
+  step = λ d s keeps.
       let h = c.in-Here in
       let old = c.args.mem.now in
       let is = sym c.get.ensures ∙ h.is ∙ ap (Here h.frame h.write) c.if-seen.true in
-      written_home s old keeps old c.set_home.new.self c.args.process c.args.page h.frame c.args.home c.set_home.ensures c.args.notes.now c.args.notes.now
-      (written_there old s c.args.process c.args.page h.frame h.write c.args.notes.now keeps c.requires.permitted is c.if-write.true)
-      (rmap_now s old keeps) true (frame_entry old s c.args.process c.args.page h.frame h.write true keeps is)
-      (few_by_bit old s c.args.process c.args.page h.frame h.write true keeps is c.if-write.true)
+      written_home d s old keeps old c.set_home.new.self c.args.process c.args.page h.frame c.args.home c.set_home.ensures c.args.notes.now c.args.notes.now
+      (written_there d old s c.args.process c.args.page h.frame h.write c.args.notes.now keeps c.requires.permitted is c.if-write.true)
+      (rmap_now d s old keeps) true (frame_entry d old s c.args.process c.args.page h.frame h.write true keeps is)
+      (few_by_bit d old s c.args.process c.args.page h.frame h.write true keeps is c.if-write.true)
       (c.requires.home ∙ ap (home_of c.args.page) (keeps.stands.areas c.args.process c.args.page));
 }

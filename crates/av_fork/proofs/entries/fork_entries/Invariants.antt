@@ -3,6 +3,7 @@ use Rattle.av_base.specs.Limits.{most_processes}
 use Rattle.av_frames.specs.Store.{shown}
 use Rattle.av_pagetable.specs.Entries.{entry_at}
 use Rattle.av_pagetable.specs.Table.{page_bound}
+use Rattle.av_plain.specs.Device.{Device}
 use Rattle.av_plain.specs.Ledger.{Ledger}
 use Rattle.av_plain.specs.Stands.{free_of}
 use Rattle.av_reclaim.specs.Mem.{HasLedger, view}
@@ -15,8 +16,8 @@ invariant-loop-page l = record {
   within : l.number * 64 ≤ page_bound;
   few : (f : ℕ) → (view l.mem).maps f ≤ most_processes + l.number * 64;
   tables : entry_at l.mem.tables ≡ forked l.parent l.child (entry_at l.fn.mem.tables);
-  forking : (first : Ledger) → HasLedger l.fn.mem first
-      → IsForkingTo l.mem.spaces l.mem.anons l.parent l.child (entry_at l.fn.mem.tables) (shown l.mem.frames) (l.number * 64) first;
+  forking : (d : Device) (first : Ledger) → HasLedger d l.fn.mem first
+      → IsForkingTo d l.mem.lists l.mem.spaces l.mem.anons l.parent l.child (entry_at l.fn.mem.tables) (shown l.mem.frames) (l.number * 64) first;
   free : free_of (view l.mem) ≡ free_of (view l.fn.mem);
   rest : KeepsRest l.fn.mem l.mem;
 }

@@ -11,15 +11,15 @@ use Rattle.av_kernel.proofs.access.read.Goals as goal
 pub returns : goal.returns
 returns c = record {
   count = c.in_ok-ended.ensures.count;
-  step = λ s keeps.
+  step = λ d s keeps.
       let reply = c.args.reply.now in
       let new = c.read_pieces.new in
-      let lived = sym (lives_is c.args.mem.now s keeps c.args.process) ∙ c.in_ok-check_lives.ensures in
-      subst (MemSteps c.args.mem.now new.mem s (Read c.args.process c.args.address c.args.len)) (sym c.answer_with.ensures)
+      let lived = sym (lives_is d c.args.mem.now s keeps c.args.process) ∙ c.in_ok-check_lives.ensures in
+      subst (MemSteps d c.args.mem.now new.mem s (Read c.args.process c.args.address c.args.len)) (sym c.answer_with.ensures)
       (read-ended s c.args.mem.now new.mem c.args.process c.args.address reply.notes new.notes reply.rows c.in_ok-ended.ended.served
       c.requires.cleared.notes c.requires.cleared.rows c.in_ok-ended.ensures.count lived keeps
       c.args.len new.shown c.read_answer.result c.in_ok-ended.ended.stop
-      (c.in_ok-ended.ensures.access s keeps) (c.in_ok-ended.ensures.reads s keeps) c.read_answer.ensures);
+      (c.in_ok-ended.ensures.access d s keeps) (c.in_ok-ended.ensures.reads d s keeps) c.read_answer.ensures);
 }
 
 pub returns-in_err-check_lives : goal.returns-in_err-check_lives
@@ -27,7 +27,7 @@ returns-in_err-check_lives c =
     refuses-as c.args.mem.now c.args.mem.now (Read c.args.process c.args.address c.args.len) Esrch c.args.reply.now c.from_residual.result
     c.in_err-check_lives.field-0.0 c.from_residual.ensures c.in_err-check_lives.ensures.1
     (refuses c.args.mem.now (Read c.args.process c.args.address c.args.len) Esrch
-    (λ s keeps. dead_first c.args.mem.now s c.args.process _ keeps c.in_err-check_lives.ensures.0))
+    (λ d s keeps. dead_first c.args.mem.now s c.args.process _ keeps c.in_err-check_lives.ensures.0))
 
 pub returns-in_err-ended : goal.returns-in_err-ended
 returns-in_err-ended c = wants-by c.args.mem.now c.read_pieces.new.mem (Read c.args.process c.args.address c.args.len)

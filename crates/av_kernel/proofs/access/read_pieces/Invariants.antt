@@ -1,5 +1,6 @@
 -- What is done so far is an access of its own, served whole and shown; behind it a page begins, or nothing is left.
 use Rattle.std.proofs.Common.{◌≡◌, ◌+◌, ◌-◌, ◌%◌, ◌<◌, ◌≤◌, false, [], None}
+use Rattle.av_plain.specs.Device.{Device}
 use Rattle.av_plain.specs.World.{pages}
 use Rattle.av_plain.specs.Access.{Reads}
 use Rattle.av_plain.specs.Transcript.{State}
@@ -14,7 +15,7 @@ abbrev pub invariant-loop-done : goal.invariant-loop-done
 invariant-loop-done l = record {
   within : l.done ≤ l.len;
   begins : 1 ≤ l.done → l.done < l.len → (l.address + l.done) % 4096 ≡ 0;
-  access : (s : State) → Keeps l.initial.mem s → IsAccess s l.mem false l.process l.address l.done [] l.initial.notes l.notes None l.done;
-  reads : (s : State) → Keeps l.initial.mem s → Reads (pages s.world l.process) l.address l.done l.shown;
+  access : (d : Device) (s : State) → Keeps d l.initial.mem s → IsAccess d s l.mem false l.process l.address l.done [] l.initial.notes l.notes None l.done;
+  reads : (d : Device) (s : State) → Keeps d l.initial.mem s → Reads (pages s.world l.process) l.address l.done l.shown;
   count : frame_count l.mem ≡ frame_count l.initial.mem;
 }

@@ -15,21 +15,21 @@ parts k m bytes = ap (λ n. take k bytes ++ take n (drop k bytes)) (let same : k
 
 pub write_page-requires-clause-steady : goal.write_page-requires-clause-steady
 write_page-requires-clause-steady c =
-    let h = c.loop-done.invariant.access c.requires.steady.0 c.requires.steady.1 in
-    (h.next, h.keeps)
+    let h = c.loop-done.invariant.access c.requires.steady.0 c.requires.steady.1 c.requires.steady.2 in
+    (c.requires.steady.0, h.next, h.keeps)
 
 pub returns-in-Some-clause-access : goal.returns-in-Some-clause-access
-returns-in-Some-clause-access c = λ s keeps.
+returns-in-Some-clause-access c = λ d s keeps.
     let bytes = c.args.bytes.now in
     let k = c.loop-done.done in
     let piece = c.next_piece-piece.result in
-    let h = c.loop-done.invariant.access s keeps in
-    let lived = sym (lives_is c.args.mem.now s keeps c.args.process) ∙ c.requires.lives in
+    let h = c.loop-done.invariant.access d s keeps in
+    let lived = sym (lives_is d c.args.mem.now s keeps c.args.process) ∙ c.requires.lives in
     let alive = still_lives lived h in
     piece-stopped s c.loop-done.mem c.write_page.new.mem true c.args.process c.args.address (length bytes) k piece (take k bytes) (part k piece.len bytes)
     c.args.notes.now c.loop-done.notes _ c.in_ok-stop.field-0
     c.write_page.ensures.count c.next_piece-piece.ensures c.loop-done-test.true c.loop-done.invariant.begins h
-    (c.in_ok-stop.ensures.step h.next h.keeps alive) c.in-Some.stop c.in-Some.is
+    (c.in_ok-stop.ensures.step d h.next h.keeps alive) c.in-Some.stop c.in-Some.is
 
 pub loop-done-preserved : goal.loop-done-preserved
 loop-done-preserved c =
@@ -39,14 +39,14 @@ loop-done-preserved c =
     record {
       within = piece-within c.args.address (length bytes) k piece c.next_piece-piece.ensures c.loop-done-test.true;
       begins = piece-ends c.args.address (length bytes) k piece c.next_piece-piece.ensures;
-      access = λ s keeps.
-          let h = c.loop-done.invariant.access s keeps in
-          let lived = sym (lives_is c.args.mem.now s keeps c.args.process) ∙ c.requires.lives in
+      access = λ d s keeps.
+          let h = c.loop-done.invariant.access d s keeps in
+          let lived = sym (lives_is d c.args.mem.now s keeps c.args.process) ∙ c.requires.lives in
           let alive = still_lives lived h in
           piece-served s c.loop-done.mem c.write_page.new.mem true c.args.process c.args.address (length bytes) k piece (take k bytes) (part k piece.len bytes)
           c.args.notes.now c.loop-done.notes _ c.in_ok-stop.field-0
           c.write_page.ensures.count c.next_piece-piece.ensures c.loop-done-test.true c.loop-done.invariant.begins h
-          (c.in_ok-stop.ensures.step h.next h.keeps alive) c.in_default.not-Some
+          (c.in_ok-stop.ensures.step d h.next h.keeps alive) c.in_default.not-Some
           (λ _. length-take-le k bytes c.loop-done.invariant.within) (take (k + piece.len) bytes) (parts k piece.len bytes);
       count = c.write_page.ensures.count ∙ c.loop-done.invariant.count;
     }

@@ -1,5 +1,6 @@
 -- What is done so far is an access of its own, served whole; behind it a page begins, or nothing is left.
 use Rattle.std.proofs.Common.{◌≡◌, ◌+◌, ◌-◌, ◌%◌, ◌<◌, ◌≤◌, true, length, take, None}
+use Rattle.av_plain.specs.Device.{Device}
 use Rattle.av_plain.specs.Transcript.{State}
 use Rattle.av_reclaim.specs.Mem.{frame_count, Keeps}
 use Rattle.av_kernel.specs.Access.{IsAccess}
@@ -12,6 +13,6 @@ abbrev pub invariant-loop-done : goal.invariant-loop-done
 invariant-loop-done l = record {
   within : l.done ≤ length l.bytes;
   begins : 1 ≤ l.done → l.done < length l.bytes → (l.address + l.done) % 4096 ≡ 0;
-  access : (s : State) → Keeps l.initial.mem s → IsAccess s l.mem true l.process l.address l.done (take l.done l.bytes) l.initial.notes l.notes None l.done;
+  access : (d : Device) (s : State) → Keeps d l.initial.mem s → IsAccess d s l.mem true l.process l.address l.done (take l.done l.bytes) l.initial.notes l.notes None l.done;
   count : frame_count l.mem ≡ frame_count l.initial.mem;
 }

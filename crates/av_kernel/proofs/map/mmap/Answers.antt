@@ -39,7 +39,7 @@ make_room-requires-clause-there c = (suits c.args.mem.now c.requires.steady c.ar
 
 pub map-requires-clause-lives : goal.map-requires-clause-lives
 map-requires-clause-lives c = let steady = c.requires.steady in unmapped_lives c.args.mem.now c.make_room.new.mem c.args.process c.in_ok-page.page
-    c.div_ceil-pages.result _ _ _ (c.in_ok-make_room.ensures.unmapped steady.0.ledger (orderly c.args.mem.now steady.0 steady.1))
+    c.div_ceil-pages.result _ _ _ (c.in_ok-make_room.ensures.unmapped steady.0 steady.1.ledger (orderly c.args.mem.now steady.1 steady.2))
 
 pub map-requires-clause-low : goal.map-requires-clause-low
 map-requires-clause-low c = (suits c.args.mem.now c.requires.steady c.args.process c.div_ceil-pages.result c.in_ok-page.page
@@ -51,7 +51,7 @@ map-requires-clause-high c = (suits c.args.mem.now c.requires.steady c.args.proc
 
 pub map-requires-clause-free : goal.map-requires-clause-free
 map-requires-clause-free c = let steady = c.requires.steady in unmapped_free c.args.mem.now c.make_room.new.mem c.args.process c.in_ok-page.page
-    c.div_ceil-pages.result _ _ _ (c.in_ok-make_room.ensures.unmapped steady.0.ledger (orderly c.args.mem.now steady.0 steady.1))
+    c.div_ceil-pages.result _ _ _ (c.in_ok-make_room.ensures.unmapped steady.0 steady.1.ledger (orderly c.args.mem.now steady.1 steady.2))
 
 pub overflow_mul-page : goal.overflow_mul-page
 overflow_mul-page c = let high = (suits c.args.mem.now c.requires.steady c.args.process c.div_ceil-pages.result c.in_ok-page.page c.args.place
@@ -62,23 +62,23 @@ returns-in_err-check_lives c =
     refuses-as c.args.mem.now c.args.mem.now (Mmap c.args.process c.args.len c.args.prot c.args.place) Esrch c.args.reply.now c.from_residual.result
     c.in_err-check_lives.field-0.0 c.from_residual.ensures c.in_err-check_lives.ensures.1
     (refuses c.args.mem.now (Mmap c.args.process c.args.len c.args.prot c.args.place) Esrch
-    (λ s keeps. dead_first c.args.mem.now s c.args.process _ keeps c.in_err-check_lives.ensures.0))
+    (λ d s keeps. dead_first c.args.mem.now s c.args.process _ keeps c.in_err-check_lives.ensures.0))
 
 pub returns-then-len-eq0 : goal.returns-then-len-eq0
 returns-then-len-eq0 c = refuses c.args.mem.now (Mmap c.args.process c.args.len c.args.prot c.args.place) Einval
-    (λ s keeps. mmap-tests-first c.args.mem.now s c.args.process c.args.len c.args.prot c.args.place keeps c.in_ok-check_lives.ensures
+    (λ d s keeps. mmap-tests-first c.args.mem.now s c.args.process c.args.len c.args.prot c.args.place keeps c.in_ok-check_lives.ensures
     (is_zero c.args.len c.if-len-eq0.true))
 
 pub returns-then-is_too_long : goal.returns-then-is_too_long
 returns-then-is_too_long c = refuses c.args.mem.now (Mmap c.args.process c.args.len c.args.prot c.args.place) Enomem
-    (λ s keeps. mmap-tests-second c.args.mem.now s c.args.process c.args.len c.args.prot c.args.place keeps c.in_ok-check_lives.ensures
+    (λ d s keeps. mmap-tests-second c.args.mem.now s c.args.process c.args.len c.args.prot c.args.place keeps c.in_ok-check_lives.ensures
     (not_zero c.args.len c.if-len-eq0.false) (sym c.is_too_long.ensures ∙ c.if-is_too_long.true))
 
 pub returns-in_err-page : goal.returns-in_err-page
 returns-in_err-page c = refuses-by c.args.mem.now c.args.mem.now (Mmap c.args.process c.args.len c.args.prot c.args.place) c.in_err-page.field-0.0
     c.args.reply.now c.from_residual-in_err-page.result c.from_residual-in_err-page.ensures (record {
       count = refl;
-      step = λ s keeps.
+      step = λ d s keeps.
           let k = c.args.mem.now in
           let size = c.div_ceil-pages.ensures ∙ rounded_up c.args.len in
           mmap-refused k s c.args.process c.args.len c.args.prot c.args.place keeps (ranges_there k c.args.process c.in_ok-check_lives.ensures)
@@ -99,13 +99,13 @@ returns-in_err-map c = wants-by c.args.mem.now (record c.make_room.new.mem { spa
 pub returns : goal.returns
 returns c = record {
   count = c.make_room.ensures.count;
-  step = λ s keeps.
+  step = λ d s keeps.
       let k = c.args.mem.now in
       let mid = c.make_room.new.mem in
       let page = c.in_ok-page.page in
       let size = c.div_ceil-pages.ensures ∙ rounded_up c.args.len in
       let suit = (suits c.args.mem.now c.requires.steady c.args.process c.div_ceil-pages.result c.in_ok-page.page c.args.place c.in_ok-page.ensures) in
-      let unmapped = c.in_ok-make_room.ensures.unmapped s.ledger (orderly k s keeps) in
+      let unmapped = c.in_ok-make_room.ensures.unmapped d s.ledger (orderly k s keeps) in
       let placed = subst (λ n. IsPlaced (pages s.world c.args.process) n c.args.place (Ok page)) size
       (c.in_ok-page.ensures (pages s.world c.args.process) (taken_is k s c.args.process keeps)) in
       let free = unmapped_free k mid c.args.process page c.div_ceil-pages.result _ s.ledger _ unmapped in
@@ -120,7 +120,7 @@ returns c = record {
       (not_zero c.args.len c.if-len-eq0.false) (sym c.is_too_long.ensures ∙ c.if-is_too_long.false)
       mid c.map.new.self c.map.new.anons page placed (suited k.spaces.processes c.args.process (pages s.world c.args.process)
       (taken_is k s c.args.process keeps) (pages_of c.args.len) page c.args.place placed).clear c.make_room.ensures.count
-      (subst (λ n. AreUnmapped k mid c.args.process page n (with_room n c.args.place (plain_pages k.spaces.processes c.args.process)) s.ledger
+      (subst (λ n. AreUnmapped d k mid c.args.process page n (with_room n c.args.place (plain_pages k.spaces.processes c.args.process)) s.ledger
       (zaps_for_place s.ledger c.args.process n c.args.place)) size unmapped)
       (subst (λ n. GetsProts mid.spaces.processes c.map.new.self.processes c.args.process
       (set_on page n (Some c.args.prot) (prot_of (ranges_of mid.spaces.processes c.args.process)))) size prots)
@@ -132,5 +132,5 @@ returns c = record {
 
 pub map-requires-clause-order : goal.map-requires-clause-order
 map-requires-clause-order c =
-    let s = c.requires.steady.0 in
-    (c.in_ok-make_room.ensures.unmapped s.ledger (orderly c.args.mem.now s c.requires.steady.1)).anons.fit.order
+    let s = c.requires.steady in
+    (c.in_ok-make_room.ensures.unmapped s.0 s.1.ledger (orderly c.args.mem.now s.1 s.2)).anons.fit.order

@@ -15,13 +15,13 @@ returns-in_err-check_lives c =
     refuses-as c.args.mem.now c.args.mem.now (Mprotect c.args.process c.args.address c.args.len c.args.prot) Esrch c.args.reply.now c.from_residual.result
     c.in_err-check_lives.field-0.0 c.from_residual.ensures c.in_err-check_lives.ensures.1
     (refuses c.args.mem.now (Mprotect c.args.process c.args.address c.args.len c.args.prot) Esrch
-    (λ s keeps. dead_first c.args.mem.now s c.args.process _ keeps c.in_err-check_lives.ensures.0))
+    (λ d s keeps. dead_first c.args.mem.now s c.args.process _ keeps c.in_err-check_lives.ensures.0))
 
 pub returns-in_err-check_protect : goal.returns-in_err-check_protect
 returns-in_err-check_protect c = refuses-by c.args.mem.now c.args.mem.now (Mprotect c.args.process c.args.address c.args.len c.args.prot)
     c.in_err-check_protect.field-0.0 c.args.reply.now c.from_residual-in_err-check_protect.result c.from_residual-in_err-check_protect.ensures
     (refuses c.args.mem.now (Mprotect c.args.process c.args.address c.args.len c.args.prot) c.in_err-check_protect.field-0.0
-    (λ s keeps. mprotect-refused c.args.mem.now s c.args.process c.args.address c.args.len c.args.prot _ keeps c.in_ok-check_lives.ensures
+    (λ d s keeps. mprotect-refused c.args.mem.now s c.args.process c.args.address c.args.len c.args.prot _ keeps c.in_ok-check_lives.ensures
     c.in_err-check_protect.ensures))
 
 pub returns-in_err-reached : goal.returns-in_err-reached
@@ -32,7 +32,7 @@ returns-in_err-reached c = wants-by c.args.mem.now (record c.args.mem.now { spac
 pub returns : goal.returns
 returns c = record {
   count = refl;
-  step = λ s keeps.
+  step = λ d s keeps.
       let k = c.args.mem.now in
       let page = c.args.address / 4096 in
       let reached = c.in_ok-reached.reached in
@@ -51,7 +51,7 @@ returns c = record {
 pub returns-then-reached-past : goal.returns-then-reached-past
 returns-then-reached-past c = record {
   count = refl;
-  step = λ s keeps.
+  step = λ d s keeps.
       let k = c.args.mem.now in
       let page = c.args.address / 4096 in
       let reached = c.in_ok-reached.reached in
@@ -67,4 +67,4 @@ returns-then-reached-past c = record {
 }
 
 pub protect-requires-clause-order : goal.protect-requires-clause-order
-protect-requires-clause-order c = c.requires.steady.1.anons.order
+protect-requires-clause-order c = c.requires.steady.2.anons.order

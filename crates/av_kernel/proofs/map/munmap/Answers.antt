@@ -15,11 +15,11 @@ returns-in_err-check_lives c =
     refuses-as c.args.mem.now c.args.mem.now (Munmap c.args.process c.args.address c.args.len) Esrch c.args.reply.now c.from_residual.result
     c.in_err-check_lives.field-0.0 c.from_residual.ensures c.in_err-check_lives.ensures.1
     (refuses c.args.mem.now (Munmap c.args.process c.args.address c.args.len) Esrch
-    (λ s keeps. dead_first c.args.mem.now s c.args.process _ keeps c.in_err-check_lives.ensures.0))
+    (λ d s keeps. dead_first c.args.mem.now s c.args.process _ keeps c.in_err-check_lives.ensures.0))
 
 pub returns-then-is_no_range : goal.returns-then-is_no_range
 returns-then-is_no_range c = refuses c.args.mem.now (Munmap c.args.process c.args.address c.args.len) Einval
-    (λ s keeps. munmap-refused c.args.mem.now s c.args.process c.args.address c.args.len keeps c.in_ok-check_lives.ensures
+    (λ d s keeps. munmap-refused c.args.mem.now s c.args.process c.args.address c.args.len keeps c.in_ok-check_lives.ensures
     (sym c.is_no_range.ensures ∙ c.if-is_no_range.true))
 
 pub returns-in_err-unmap_pages : goal.returns-in_err-unmap_pages
@@ -29,13 +29,13 @@ returns-in_err-unmap_pages c = wants-by c.args.mem.now c.unmap_pages.new.mem (Mu
 pub returns : goal.returns
 returns c = record {
   count = c.unmap_pages.ensures.count;
-  step = λ s keeps.
+  step = λ d s keeps.
       let k = c.args.mem.now in
       let page = c.args.address / 4096 in
       answers c.args.reply.now c.answer_with.new.reply c.requires.cleared c.answer_with.ensures
       (munmap-steps k c.unmap_pages.new.mem s c.args.process c.args.address c.args.len keeps (ranges_there k c.args.process c.in_ok-check_lives.ensures)
       (sym c.is_no_range.ensures ∙ c.if-is_no_range.false) c.unmap_pages.ensures.count
-      (subst (λ n. AreUnmapped k c.unmap_pages.new.mem c.args.process page n (after_unmap page (page + n) (pages_of k.spaces.processes c.args.process)) s.ledger
+      (subst (λ n. AreUnmapped d k c.unmap_pages.new.mem c.args.process page n (after_unmap page (page + n) (pages_of k.spaces.processes c.args.process)) s.ledger
       (zaps_of s.ledger (keys_in s.ledger c.args.process page n))) (c.div_ceil.ensures ∙ rounded_up c.args.len)
-      (c.in_ok-unmap_pages.ensures.unmapped s.ledger (orderly k s keeps))));
+      (c.in_ok-unmap_pages.ensures.unmapped d s.ledger (orderly k s keeps))));
 }

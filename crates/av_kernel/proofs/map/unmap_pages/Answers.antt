@@ -9,14 +9,14 @@ pub unmap-requires-clause-order : goal.unmap-requires-clause-order
 unmap-requires-clause-order c =
     let rest = c.zap_range.ensures.rest in
     (subst (λ (x : AllSpaces). AnonsFit x c.zap_range.new.mem.anons) (sym rest.spaces)
-    (subst (AnonsFit c.args.mem.now.spaces) (sym rest.anons) c.requires.steady.1.anons)).order
+    (subst (AnonsFit c.args.mem.now.spaces) (sym rest.anons) c.requires.steady.2.anons)).order
 
 pub returns-clause-unmapped : goal.returns-clause-unmapped
-returns-clause-unmapped c = λ l stands.
+returns-clause-unmapped c = λ d l stands.
     let t = c.zap_range.ensures in
     let mid = c.zap_range.new.mem in
     both_ok c.unmap.result (λ gone stay. are_unmapped c.args.mem.now mid c.unmap.new.self c.unmap.new.anons c.args.process c.args.page c.args.pages l
-    (t.zapped l stands) t.rest.spaces t.rest.anons t.rest.processes t.rest.bytes t.rest.homes
+    (t.zapped d l stands) t.rest.spaces t.rest.anons t.rest.processes t.rest.bytes t.rest.homes
     (unmapped-prots mid.spaces.processes c.unmap.new.self.processes c.args.process c.args.page c.args.pages gone)
     (gets_areas mid.spaces.processes c.unmap.new.self.processes c.args.process _ gone) stay
     (unmapped-homes mid.spaces.processes c.unmap.new.self.processes c.args.process c.args.page c.args.pages gone)) c.unmap.ensures.areas c.unmap.ensures.anons

@@ -11,6 +11,7 @@ use Rattle.av_place.specs.Mremap.{IsTarget}
 use Rattle.av_kernel.proofs.MremapGoes.{Goes, Passes, both_are, grow_by, high_by, last_by, move_by, shrink_by, some_by, some_new, steps_by, to_fits}
 use Rattle.av_kernel.proofs.MremapRefusals.{dead_does, have_prots_of, no_room_does, refused_does}
 use Rattle.av_place.proofs.PlaceLaws.{rounded_up}
+use Rattle.av_reclaim.specs.declared.mem.Mem.{Mem}
 use Rattle.av_kernel.proofs.StepLaws.{answers, orderly, refuses-as, refuses-by, ranges_there, wants-by}
 use Rattle.av_kernel.proofs.ForkLaws.{still_orderly}
 use Rattle.av_kernel.proofs.mremap.mremap.Goals.{In_ok-check_remap, In_ok-to}
@@ -105,7 +106,7 @@ pub returns-in_err-remap_areas : goal.returns-in_err-remap_areas
 returns-in_err-remap_areas c =
     let a = c.args in
     wants-by a.mem.now c.remap_areas.new.mem (Mremap a.process a.address a.old_len a.new_len a.mode) a.reply.now
-    c.from_residual-in_err-remap_areas.result c.from_residual-in_err-remap_areas.ensures (ap (λ f. (shown f).count) c.remap_areas.ensures.frames)
+    c.from_residual-in_err-remap_areas.result c.from_residual-in_err-remap_areas.ensures (ap (λ (k : Mem). (shown k.frames).count) c.remap_areas.ensures.rest)
 
 -- ---- entries
 
@@ -114,16 +115,16 @@ remap_entries-requires-clause-orderly c =
     let a = c.args in
     let s = c.requires.steady in
     let gone = c.remap_areas.new.mem in (
-      s.0.ledger,
-      still_orderly a.mem.now gone gone.tables s.0.ledger c.remap_areas.ensures.frames c.remap_areas.ensures.tables refl
-          (orderly a.mem.now s.0 s.1),
+      s.0,
+      s.1.ledger,
+      still_orderly s.0 a.mem.now gone gone.tables s.1.ledger c.remap_areas.ensures.rest refl (orderly a.mem.now s.1 s.2),
     )
 
 pub remap_entries-requires-clause-there : goal.remap_entries-requires-clause-there
 remap_entries-requires-clause-there c =
     let a = c.args in
     let s = c.requires.steady in
-    ap (λ t. has t a.process) c.remap_areas.ensures.tables ∙ s.1.tables a.process ∙ ranges_there a.mem.now a.process c.in_ok-check_lives.ensures
+    ap (λ (k : Mem). has k.tables a.process) c.remap_areas.ensures.rest ∙ s.2.tables a.process ∙ ranges_there a.mem.now a.process c.in_ok-check_lives.ensures
 
 pub remap_entries-requires-clause-old_range : goal.remap_entries-requires-clause-old_range
 remap_entries-requires-clause-old_range c = λ there.
@@ -145,7 +146,7 @@ returns-in_err-remap_entries c =
     let a = c.args in
     wants-by a.mem.now c.remap_entries.new.mem (Mremap a.process a.address a.old_len a.new_len a.mode) a.reply.now
     c.from_residual-in_err-remap_entries.result c.from_residual-in_err-remap_entries.ensures
-    (c.remap_entries.ensures.rest.count ∙ ap (λ f. (shown f).count) c.remap_areas.ensures.frames)
+    (c.remap_entries.ensures.rest.count ∙ ap (λ (k : Mem). (shown k.frames).count) c.remap_areas.ensures.rest)
 
 -- ---- the answer
 
@@ -157,17 +158,17 @@ overflow_mul-to c =
 
 pub returns : goal.returns
 returns c = record {
-  count = c.remap_entries.ensures.rest.count ∙ ap (λ f. (shown f).count) c.remap_areas.ensures.frames;
-  step = λ s keeps.
+  count = c.remap_entries.ensures.rest.count ∙ ap (λ (k : Mem). (shown k.frames).count) c.remap_areas.ensures.rest;
+  step = λ d s keeps.
       let a = c.args in
       let gone = c.remap_areas.new.mem in
       let left = c.prot_left-left.ensures (pages s.world a.process) (have_prots_of a.mem.now s keeps a.process) in
       answers a.reply.now c.answer_with.new.reply c.requires.cleared c.answer_with.ensures
       (steps_by (goes (goal.at.returns c).In_ok-to) s keeps c.in_ok-check_indices.ensures.small gone c.remap_entries.new.mem
-      c.remap_areas.ensures.frames c.remap_areas.ensures.tables
+      c.remap_areas.ensures.rest
       (subst (λ left. HasRemap a.mem.now gone a.process (after_mremap (chain_length s.anons) a.process (a.address / 4096)
-      c.div_ceil-pages.result c.in_ok-to.to c.div_ceil-new_pages.result left (s.areas a.process))) left (c.in_ok-remap_areas.ensures.remaps s keeps))
-      (c.in_ok-remap_entries.ensures.remaps s.ledger
-      (still_orderly a.mem.now gone gone.tables s.ledger c.remap_areas.ensures.frames c.remap_areas.ensures.tables refl (orderly a.mem.now s keeps)))
+      c.div_ceil-pages.result c.in_ok-to.to c.div_ceil-new_pages.result left (s.areas a.process))) left (c.in_ok-remap_areas.ensures.remaps d s keeps))
+      (c.in_ok-remap_entries.ensures.remaps d s.ledger
+      (still_orderly d a.mem.now gone gone.tables s.ledger c.remap_areas.ensures.rest refl (orderly a.mem.now s keeps)))
       c.remap_entries.ensures.rest);
 }

@@ -11,22 +11,22 @@ pub returns-in_err-check_lives : goal.returns-in_err-check_lives
 returns-in_err-check_lives c =
     refuses-as c.args.mem.now c.args.mem.now (Exit c.args.process) Esrch c.args.reply.now c.from_residual.result c.in_err-check_lives.field-0.0
     c.from_residual.ensures c.in_err-check_lives.ensures.1
-    (refuses c.args.mem.now (Exit c.args.process) Esrch (λ s keeps. dead_first c.args.mem.now s c.args.process _ keeps c.in_err-check_lives.ensures.0))
+    (refuses c.args.mem.now (Exit c.args.process) Esrch (λ d s keeps. dead_first c.args.mem.now s c.args.process _ keeps c.in_err-check_lives.ensures.0))
 
 pub end-requires : goal.end-requires
-end-requires c = ap (λ h. h c.args.process) c.zap_all.ensures.rest.processes ∙ c.requires.steady.1.tables c.args.process
+end-requires c = ap (λ h. h c.args.process) c.zap_all.ensures.rest.processes ∙ c.requires.steady.2.tables c.args.process
     ∙ ranges_there c.args.mem.now c.args.process c.in_ok-check_lives.ensures
 
 pub returns : goal.returns
 returns c = record {
   count = c.zap_all.ensures.rest.count;
-  step = λ s keeps.
+  step = λ d s keeps.
       let old = c.args.mem.now in
       let mid = c.zap_all.new.mem in
       let rest = c.zap_all.ensures.rest in
       answers c.args.reply.now c.answer_with.new.reply c.requires.cleared c.answer_with.ensures
       (exit-steps old mid c.end.new.self c.end-2.new.self c.end-2.new.anons s c.args.process keeps (ranges_there old c.args.process c.in_ok-check_lives.ensures)
-      (c.zap_all.ensures.zapped s.ledger (orderly old s keeps))
+      (c.zap_all.ensures.zapped d s.ledger (orderly old s keeps))
       rest.bytes rest.homes rest.spaces rest.processes rest.count c.end.ensures.processes c.end.ensures.entries c.end-2.ensures.areas
       (subst (λ (x : AllSpaces). AnonsStay x old.anons c.end-2.new.self c.end-2.new.anons) rest.spaces
       (subst (λ a. AnonsStay mid.spaces a c.end-2.new.self c.end-2.new.anons) rest.anons c.end-2.ensures.anons)));

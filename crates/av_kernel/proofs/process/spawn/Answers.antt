@@ -8,10 +8,10 @@ pub returns-in_err-check_new : goal.returns-in_err-check_new
 returns-in_err-check_new c =
     refuses-by c.args.mem.now c.args.mem.now (Spawn c.args.process) c.in_err-check_new.field-0.0 c.args.reply.now c.from_residual.result c.from_residual.ensures
     (refuses c.args.mem.now (Spawn c.args.process) c.in_err-check_new.field-0.0
-    (λ s keeps. new_is c.args.mem.now s c.args.process keeps ∙ c.in_err-check_new.ensures))
+    (λ d s keeps. new_is c.args.mem.now s c.args.process keeps ∙ c.in_err-check_new.ensures))
 
 pub spawn-requires : goal.spawn-requires
-spawn-requires c = no_table c.args.mem.now c.requires.steady.0 c.args.process c.requires.steady.1
+spawn-requires c = no_table c.args.mem.now c.requires.steady.1 c.args.process c.requires.steady.2
     (absent c.args.mem.now.spaces.processes c.args.process c.in_ok-check_new.ensures)
 
 pub spawn-requires-2 : goal.spawn-requires-2
@@ -28,7 +28,7 @@ returns-in_err-spawn-2 c = wants-by c.args.mem.now (moved_on c.args.mem.now c.sp
 pub returns : goal.returns
 returns c = record {
   count = refl;
-  step = λ s keeps.
+  step = λ d s keeps.
       let k = c.args.mem.now in
       answers c.args.reply.now c.answer_with.new.reply c.requires.cleared c.answer_with.ensures
       (spawned-steps k c.spawn.new.self c.spawn-2.new.self s c.args.process keeps c.in_ok-check_new.ensures c.in_ok-spawn.ensures.entries

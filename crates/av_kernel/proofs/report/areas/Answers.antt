@@ -15,7 +15,7 @@ pub returns-in_err-check_lives : goal.returns-in_err-check_lives
 returns-in_err-check_lives c =
     refuses-as c.args.mem.now c.args.mem.now (AsksAreas c.args.process) Esrch c.args.reply.now c.from_residual.result c.in_err-check_lives.field-0.0
     c.from_residual.ensures c.in_err-check_lives.ensures.1
-    (refuses c.args.mem.now (AsksAreas c.args.process) Esrch (λ s keeps. dead_first c.args.mem.now s c.args.process _ keeps c.in_err-check_lives.ensures.0))
+    (refuses c.args.mem.now (AsksAreas c.args.process) Esrch (λ d s keeps. dead_first c.args.mem.now s c.args.process _ keeps c.in_err-check_lives.ensures.0))
 
 pub returns-in_err-areas : goal.returns-in_err-areas
 returns-in_err-areas c = wants-by c.args.mem.now c.args.mem.now (AsksAreas c.args.process) c.args.reply.now c.from_residual-in_err-areas.result
@@ -28,14 +28,14 @@ returns-in_err-add_areas c = wants-by c.args.mem.now c.args.mem.now (AsksAreas c
 pub returns : goal.returns
 returns c = record {
   count = refl;
-  step = λ s keeps.
+  step = λ d s keeps.
       let k = c.args.mem.now in
       let are = c.in_ok-areas.ensures in
       let areas = c.in_ok-areas.areas.items in
       let rows : c.add_areas.new.rows ≡ map (area_row (view k).anons) areas =
       c.in_ok-add_areas.ensures ∙ ap (map (area_row (view k).anons)) c.deref.ensures.value in
-      subst (MemSteps k k s (AsksAreas c.args.process)) (sym c.answer_with.ensures)
-      (subst (MemSteps k k s (AsksAreas c.args.process)) (λ i. record {
+      subst (MemSteps d k k s (AsksAreas c.args.process)) (sym c.answer_with.ensures)
+      (subst (MemSteps d k k s (AsksAreas c.args.process)) (λ i. record {
         answer = AreaList (length ((sym rows ∙ sym c.as_slice.ensures) i));
         notes = sym c.requires.cleared.notes i;
         rows = sym rows i;
@@ -50,4 +50,4 @@ pub add_areas-requires-clause-rising : goal.add_areas-requires-clause-rising
 add_areas-requires-clause-rising c = subst (AreRising c.args.process) (sym c.deref.ensures.value) c.in_ok-areas.ensures.rising
 
 pub add_areas-requires-clause-fit : goal.add_areas-requires-clause-fit
-add_areas-requires-clause-fit c = c.requires.steady.1.anons
+add_areas-requires-clause-fit c = c.requires.steady.2.anons

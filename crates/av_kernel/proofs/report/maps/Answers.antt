@@ -16,7 +16,7 @@ pub returns-in_err-check_lives : goal.returns-in_err-check_lives
 returns-in_err-check_lives c =
     refuses-as c.args.mem.now c.args.mem.now (Maps c.args.process) Esrch c.args.reply.now c.from_residual.result c.in_err-check_lives.field-0.0
     c.from_residual.ensures c.in_err-check_lives.ensures.1
-    (refuses c.args.mem.now (Maps c.args.process) Esrch (λ s keeps. dead_first c.args.mem.now s c.args.process _ keeps c.in_err-check_lives.ensures.0))
+    (refuses c.args.mem.now (Maps c.args.process) Esrch (λ d s keeps. dead_first c.args.mem.now s c.args.process _ keeps c.in_err-check_lives.ensures.0))
 
 pub returns-in_err-areas : goal.returns-in_err-areas
 returns-in_err-areas c = wants-by c.args.mem.now c.args.mem.now (Maps c.args.process) c.args.reply.now c.from_residual-in_err-areas.result
@@ -29,12 +29,12 @@ returns-in_err-add_runs c = wants-by c.args.mem.now c.args.mem.now (Maps c.args.
 pub returns : goal.returns
 returns c = record {
   count = refl;
-  step = λ s keeps.
+  step = λ d s keeps.
       let k = c.args.mem.now in
       let areas = c.in_ok-areas.ensures.areas in
       let runs = subst (λ (areas : List Area). AreRuns (map range_of areas) c.add_runs.new.rows) c.deref.ensures.value c.in_ok-add_runs.ensures in
-      subst (MemSteps k k s (Maps c.args.process)) (sym c.answer_with.ensures)
-      (subst (MemSteps k k s (Maps c.args.process)) (λ i. record {
+      subst (MemSteps d k k s (Maps c.args.process)) (sym c.answer_with.ensures)
+      (subst (MemSteps d k k s (Maps c.args.process)) (λ i. record {
         answer = Runs (length (sym c.as_slice.ensures i));
         notes = sym c.requires.cleared.notes i;
         rows = c.add_runs.new.rows;

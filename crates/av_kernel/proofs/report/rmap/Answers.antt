@@ -16,14 +16,14 @@ returns-in_err-check_lives c =
     refuses-as c.args.mem.now c.args.mem.now (AsksRmap c.args.process c.args.address) Esrch c.args.reply.now c.from_residual.result
     c.in_err-check_lives.field-0.0 c.from_residual.ensures c.in_err-check_lives.ensures.1
     (refuses c.args.mem.now (AsksRmap c.args.process c.args.address) Esrch
-    (λ s keeps. dead_first c.args.mem.now s c.args.process _ keeps c.in_err-check_lives.ensures.0))
+    (λ d s keeps. dead_first c.args.mem.now s c.args.process _ keeps c.in_err-check_lives.ensures.0))
 
 pub returns-in_err-check_mapped : goal.returns-in_err-check_mapped
 returns-in_err-check_mapped c =
     refuses-as c.args.mem.now c.args.mem.now (AsksRmap c.args.process c.args.address) Efault c.args.reply.now c.from_residual-in_err-check_mapped.result
     c.in_err-check_mapped.field-0.0 c.from_residual-in_err-check_mapped.ensures c.in_err-check_mapped.ensures.1
     (refuses c.args.mem.now (AsksRmap c.args.process c.args.address) Efault
-    (λ s keeps. unmapped_next c.args.mem.now s c.args.process c.args.address keeps c.in_ok-check_lives.ensures c.in_err-check_mapped.ensures.0))
+    (λ d s keeps. unmapped_next c.args.mem.now s c.args.process c.args.address keeps c.in_ok-check_lives.ensures c.in_err-check_mapped.ensures.0))
 
 pub show_walk-requires-clause-in_range : goal.show_walk-requires-clause-in_range
 show_walk-requires-clause-in_range c = (entry_frame c.args.mem.now c.args.process (page_of c.args.address) c.in-Here.frame c.requires.steady
@@ -32,16 +32,16 @@ show_walk-requires-clause-in_range c = (entry_frame c.args.mem.now c.args.proces
 pub returns-in_ok-show_walk-in-Here : goal.returns-in_ok-show_walk-in-Here
 returns-in_ok-show_walk-in-Here c = record {
   count = refl;
-  step = λ s keeps.
+  step = λ d s keeps.
       walk-steps c.args.mem.now s c.args.process c.args.address keeps c.in_ok-check_lives.ensures c.in_ok-check_mapped.ensures
       (Here c.in-Here.frame c.in-Here.write c.in-Here.seen) c.show_walk.new.reply
-      (sym c.get.ensures ∙ c.in-Here.is) (c.in_ok-show_walk-in-Here.ensures s keeps);
+      (sym c.get.ensures ∙ c.in-Here.is) (c.in_ok-show_walk-in-Here.ensures d s keeps);
 }
 
 pub returns-in-Empty : goal.returns-in-Empty
 returns-in-Empty c = record {
   count = refl;
-  step = λ s keeps.
+  step = λ d s keeps.
       walk-steps c.args.mem.now s c.args.process c.args.address keeps c.in_ok-check_lives.ensures c.in_ok-check_mapped.ensures c.get.result
       c.answer_with.new.reply
       (sym c.get.ensures) (c.answer_with.ensures ∙ only_answer c.args.reply.now NoWalk c.requires.cleared ∙ none-shown s.ledger c.get.result c.in-Empty.is);

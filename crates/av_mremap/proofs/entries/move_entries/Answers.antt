@@ -1,5 +1,6 @@
 use Rattle.std.proofs.Common.{ℕ, Bool, ap, arith, refl, ◌∙◌}
 use Rattle.av_pagetable.specs.Entries.{entry_at, with_entry}
+use Rattle.av_reclaim.specs.declared.mem.Mem.{Mem}
 use Rattle.av_reclaim.proofs.ZapRange.{rest_rest}
 use Rattle.av_mremap.proofs.EntriesLedger.{has_moved}
 use Rattle.av_mremap.proofs.EntriesTables.{all_moved, one_moved}
@@ -18,7 +19,7 @@ loop-page-preserved c =
       moving = one_moved (entry_at a.mem.now.tables) a.process a.pages a.from a.to c.requires.apart c.requires.bare
           (entry_at c.loop-page.mem.tables) c.loop-page.next i.moving (entry_at c.set.new.self) _ c.in-Some.page _ c.in-Some.entry _
           (omega arith) (omega arith) (cc) takes.0 takes.1 (c.in_ok-set.ensures.sets ∙ ap (with_entry a.process _ _) takes.2);
-      frames = i.frames;
+      stay = ap (λ (k : Mem). record k { tables = c.set.new.self }) i.stay;
       rest = rest_rest i.rest (record {
         processes = c.in_ok-set.ensures.processes ∙ c.take_first.ensures.processes;
         bytes = refl;
@@ -38,11 +39,14 @@ returns-clause-entries c =
     (entry_at c.loop-page.mem.tables) c.loop-page.next i.moving _ (omega arith) takes.0
 
 pub returns-clause-moves : goal.returns-clause-moves
-returns-clause-moves c = λ l stands.
+returns-clause-moves c = λ d l stands.
     let i = c.loop-page.invariant in
     let a = c.args in
     let takes = c.in_default.ensures.takes in
-    has_moved a.mem.now (record c.loop-page.mem { tables = c.take_first.new.self }) a.process a.pages a.from a.to c.requires.bare
+    has_moved d a.mem.now (record c.loop-page.mem { tables = c.take_first.new.self }) a.process a.pages a.from a.to c.requires.bare
     (takes.1 ∙ all_moved (entry_at a.mem.now.tables) a.process a.pages a.from a.to c.requires.apart c.requires.bare
     (entry_at c.loop-page.mem.tables) c.loop-page.next i.moving _ (omega arith) takes.0)
-    i.frames i.rest.spaces i.rest.anons l stands
+    (ap (λ (k : Mem). record k { tables = c.take_first.new.self }) i.stay) l stands
+
+pub returns-clause-stay : goal.returns-clause-stay
+returns-clause-stay c = ap (λ (k : Mem). record k { tables = c.take_first.new.self }) c.loop-page.invariant.stay

@@ -7,7 +7,7 @@ use Rattle.av_mremap.proofs.entries.move_entries.Given as goal
 abbrev pub invariant-loop-page : goal.invariant-loop-page
 invariant-loop-page l = record {
   moving : IsMoving (entry_at l.initial.mem.tables) (entry_at l.mem.tables) l.process l.pages l.from l.to l.next;
-  frames : l.mem.frames ≡ l.initial.mem.frames;
+  stay : l.mem ≡ record (l.initial.mem) { tables = l.mem.tables };
   rest : KeepsRest l.initial.mem l.mem;
 }
 

@@ -8,17 +8,20 @@ use Rattle.av_mremap.proofs.EntriesRemap.{bare, elsewhere, in_place, of_length, 
 use Rattle.av_mremap.proofs.entries.remap_entries.Goals as goal
 
 pub returns-then-to-from-clause-remaps : goal.returns-then-to-from-clause-remaps
-returns-then-to-from-clause-remaps c = λ l stands.
+returns-then-to-from-clause-remaps c = λ d l stands.
     let a = c.args in
-    in_place a.mem.now c.zap_range.new.mem l a.process a.from a.pages a.to a.new_pages (same_place a.to a.from c.if-to-from.true)
-    (of_length a.mem.now c.zap_range.new.mem l a.process (a.from + a.new_pages) (a.from + a.pages) (a.pages - a.new_pages) (omega arith)
-    (c.zap_range.ensures.zapped l stands))
+    in_place d a.mem.now c.zap_range.new.mem l a.process a.from a.pages a.to a.new_pages (same_place a.to a.from c.if-to-from.true)
+    (of_length d a.mem.now c.zap_range.new.mem l a.process (a.from + a.new_pages) (a.from + a.pages) (a.pages - a.new_pages) (omega arith)
+    (c.zap_range.ensures.zapped d l stands))
+
+pub zap_range-requires-3 : goal.zap_range-requires-3
+zap_range-requires-3 c = let o = c.requires.orderly in record { orderly = (o.0, _, (c.zap_range-2.ensures.zapped o.0 o.1 o.2).stands) }
 
 pub move_entries-requires-clause-orderly : goal.move_entries-requires-clause-orderly
 move_entries-requires-clause-orderly c =
     let o = c.requires.orderly in
-    let first = c.zap_range-2.ensures.zapped o.0 o.1 in
-    (_, (c.zap_range-3.ensures.zapped _ first.stands).stands)
+    let first = c.zap_range-2.ensures.zapped o.0 o.1 o.2 in
+    (o.0, _, (c.zap_range-3.ensures.zapped o.0 _ first.stands).stands)
 
 pub move_entries-requires-clause-there : goal.move_entries-requires-clause-there
 move_entries-requires-clause-there c = ap (λ (has : ℕ → Bool). has c.args.process)
@@ -28,26 +31,26 @@ pub move_entries-requires-clause-bare : goal.move_entries-requires-clause-bare
 move_entries-requires-clause-bare c =
     let o = c.requires.orderly in
     let a = c.args in
-    let first = of_length a.mem.now c.zap_range-2.new.mem o.0 a.process a.to (a.to + a.new_pages) a.new_pages (omega arith)
-    (c.zap_range-2.ensures.zapped o.0 o.1) in
-    let second = of_length c.zap_range-2.new.mem c.zap_range-3.new.mem (then_target o.0 a.process a.from a.pages a.to a.new_pages)
+    let first = of_length o.0 a.mem.now c.zap_range-2.new.mem o.1 a.process a.to (a.to + a.new_pages) a.new_pages (omega arith)
+    (c.zap_range-2.ensures.zapped o.0 o.1 o.2) in
+    let second = of_length o.0 c.zap_range-2.new.mem c.zap_range-3.new.mem (then_target o.1 a.process a.from a.pages a.to a.new_pages)
     a.process (a.from + a.new_pages) (a.from + a.pages) (a.pages - a.new_pages) (omega arith)
-    (c.zap_range-3.ensures.zapped (then_target o.0 a.process a.from a.pages a.to a.new_pages) first.stands) in
-    λ page inside. bare a.mem.now c.zap_range-2.new.mem c.zap_range-3.new.mem o.0 a.process a.from a.pages a.to a.new_pages first second page
+    (c.zap_range-3.ensures.zapped o.0 (then_target o.1 a.process a.from a.pages a.to a.new_pages) first.stands) in
+    λ page inside. bare o.0 a.mem.now c.zap_range-2.new.mem c.zap_range-3.new.mem o.1 a.process a.from a.pages a.to a.new_pages first second page
     (subst (λ k. within a.to k page ≡ true) c.min.ensures inside)
 
 pub returns-clause-remaps : goal.returns-clause-remaps
-returns-clause-remaps c = λ l stands.
+returns-clause-remaps c = λ d l stands.
     let a = c.args in
-    let first = of_length a.mem.now c.zap_range-2.new.mem l a.process a.to (a.to + a.new_pages) a.new_pages (omega arith)
-    (c.zap_range-2.ensures.zapped l stands) in
-    let second = of_length c.zap_range-2.new.mem c.zap_range-3.new.mem (then_target l a.process a.from a.pages a.to a.new_pages)
+    let first = of_length d a.mem.now c.zap_range-2.new.mem l a.process a.to (a.to + a.new_pages) a.new_pages (omega arith)
+    (c.zap_range-2.ensures.zapped d l stands) in
+    let second = of_length d c.zap_range-2.new.mem c.zap_range-3.new.mem (then_target l a.process a.from a.pages a.to a.new_pages)
     a.process (a.from + a.new_pages) (a.from + a.pages) (a.pages - a.new_pages) (omega arith)
-    (c.zap_range-3.ensures.zapped (then_target l a.process a.from a.pages a.to a.new_pages) first.stands) in
+    (c.zap_range-3.ensures.zapped d (then_target l a.process a.from a.pages a.to a.new_pages) first.stands) in
     on_ok c.move_entries.result (λ third.
-    elsewhere a.mem.now c.zap_range-2.new.mem c.zap_range-3.new.mem l a.process a.from a.pages a.to a.new_pages first second c.move_entries.new.mem
+    elsewhere d a.mem.now c.zap_range-2.new.mem c.zap_range-3.new.mem l a.process a.from a.pages a.to a.new_pages first second c.move_entries.new.mem
     c.zap_range-2.ensures.rest.count (c.zap_range-3.ensures.rest.count ∙ c.zap_range-2.ensures.rest.count)
-    (subst (λ k. HasMoved c.zap_range-3.new.mem c.move_entries.new.mem (then_tail l a.process a.from a.pages a.to a.new_pages) a.process k a.from a.to)
+    (subst (λ k. HasMoved d c.zap_range-3.new.mem c.move_entries.new.mem (then_tail l a.process a.from a.pages a.to a.new_pages) a.process k a.from a.to)
     c.min.ensures third)
     (differs a.to a.from c.if-to-from.false))
-    (c.move_entries.ensures.moves (then_tail l a.process a.from a.pages a.to a.new_pages) second.stands)
+    (c.move_entries.ensures.moves d (then_tail l a.process a.from a.pages a.to a.new_pages) second.stands)

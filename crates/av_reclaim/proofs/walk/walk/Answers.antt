@@ -14,37 +14,37 @@ use Rattle.av_reclaim.proofs.walk.walk.Goals as goal
 pub walk_frame-requires-clause-apart : goal.walk_frame-requires-clause-apart
 walk_frame-requires-clause-apart g c = let s = c.requires.steady in
     subst (λ (areas : List (Option Area)). AreApart (reach_by c.args.mem.now areas)) (sym c.by_number.ensures.areas)
-    (apart c.args.mem.now s.0 s.1 c.by_number.ensures.numbered)
+    (apart s.0 c.args.mem.now s.1 s.2 c.by_number.ensures.numbered)
 
 pub walk_frame-requires-clause-covered : goal.walk_frame-requires-clause-covered
 walk_frame-requires-clause-covered g c = let s = c.requires.steady in
     subst (λ (areas : List (Option Area)). IsCoveredFrom (reach_by c.args.mem.now areas) c.args.frame c.home.result) (sym c.by_number.ensures.areas)
     (subst (IsCoveredFrom (reach_by c.args.mem.now c.args.mem.now.spaces.areas) c.args.frame) (sym c.home.ensures)
-    (covered c.args.mem.now s.0 s.1 c.by_number.ensures.numbered c.args.frame))
+    (covered s.0 c.args.mem.now s.1 s.2 c.by_number.ensures.numbered c.args.frame))
 
 pub walk_frame-requires-clause-count : goal.walk_frame-requires-clause-count
 walk_frame-requires-clause-count g c = let s = c.requires.steady in
     subst (λ (n : ℕ). (keys : List Key) → AreItsEntries (reach_by c.args.mem.now c.by_number.result.now) c.args.frame keys →
     length keys ≤ n) (sym c.maps.ensures)
-    (few c.args.mem.now s.0 s.1 c.args.frame)
+    (few s.0 c.args.mem.now s.1 s.2 c.args.frame)
 
 pub returns-clause-keys : goal.returns-clause-keys
-returns-clause-keys g c = λ s keeps.
+returns-clause-keys g c = λ d s keeps.
     if_both c.walk_frame.result (λ keys. AreItsEntries (reach_by c.args.mem.now c.by_number.result.now) c.args.frame keys.items) (λ keys. AreRising keys.items)
-    (λ keys. keys.items ≡ walk_of s.ledger c.args.frame) (λ keys its rising. found c.args.mem.now s keeps c.args.frame keys.items its rising)
+    (λ keys. keys.items ≡ walk_of s.ledger c.args.frame) (λ keys its rising. found d c.args.mem.now s keeps c.args.frame keys.items its rising)
     c.walk_frame.ensures.entries c.walk_frame.ensures.rising
 
 pub returns-clause-below : goal.returns-clause-below
 returns-clause-below g c = let s = c.requires.steady in
     if_both c.walk_frame.result (λ keys. AreItsEntries (reach_by c.args.mem.now c.by_number.result.now) c.args.frame keys.items) (λ keys. AreRising keys.items)
     (λ keys. AllByRecursion (λ (key : ℕ × ℕ). key.1 < top_page) keys.items)
-    (λ keys its rising. subst (AllByRecursion (λ (key : ℕ × ℕ). key.1 < top_page)) (sym (found c.args.mem.now s.0 s.1 c.args.frame keys.items its rising))
-    (below c.args.mem.now s.0 s.1 c.by_number.ensures.rising c.args.frame))
+    (λ keys its rising. subst (AllByRecursion (λ (key : ℕ × ℕ). key.1 < top_page)) (sym (found s.0 c.args.mem.now s.1 s.2 c.args.frame keys.items its rising))
+    (below s.0 c.args.mem.now s.1 s.2 c.by_number.ensures.rising c.args.frame))
     c.walk_frame.ensures.entries c.walk_frame.ensures.rising
 
 pub returns-clause-counted : goal.returns-clause-counted
 returns-clause-counted g c =
     let s = c.requires.steady in
-    let l = looks c.args.mem.now s.0 s.1 c.args.frame in
+    let l = looks s.0 c.args.mem.now s.1 s.2 c.args.frame in
     on_ok c.walk_frame.result (λ counted. counted ∙ ap (λ h. c.args.steps.now + looks_from (reach_by c.args.mem.now c.args.mem.now.spaces.areas) h) c.home.ensures
     ∙ ap (λ n. c.args.steps.now + n) l) c.walk_frame.ensures.counted

@@ -1,10 +1,10 @@
 use Rattle.std.proofs.Common.{◌≡◌, ◌-◌, ◌*◌, ◌≤◌}
-use Rattle.av_frames.specs.Store.{shown}
 use Rattle.av_pagetable.specs.Entries.{entry_at}
 use Rattle.av_pagetable.specs.Table.{page_bound}
+use Rattle.av_plain.specs.Device.{Device}
 use Rattle.av_plain.specs.Ledger.{Ledger}
 use Rattle.av_reclaim.specs.Mem.{HasLedger}
-use Rattle.av_reclaim.specs.Zap.{KeepsRest}
+use Rattle.av_reclaim.specs.Zap.{KeepsRest, pool}
 use Rattle.av_reclaim.proofs.Parts.{parts_of}
 use Rattle.av_reclaim.proofs.ZapGroup.{IsZapping}
 use Rattle.av_reclaim.proofs.zap.zap_all.Given as goal
@@ -13,8 +13,8 @@ abbrev pub invariant-loop-page : goal.invariant-loop-page
 invariant-loop-page l = record {
   within : l.number * 64 ≤ page_bound;
   tables : l.mem.tables ≡ l.fn.mem.tables;
-  zapping : (first : Ledger) → HasLedger l.fn.mem first
-      → IsZapping l.process (entry_at l.fn.mem.tables) (parts_of l.fn.mem) l.mem.spaces l.mem.anons page_bound first (shown l.mem.frames) (l.number * 64);
+  zapping : (d : Device) (first : Ledger) → HasLedger d l.fn.mem first → IsZapping l.process (entry_at l.fn.mem.tables) d (parts_of l.fn.mem)
+      l.mem.spaces l.mem.anons page_bound first (pool l.mem.frames l.mem.lists) (l.number * 64);
   rest : KeepsRest l.fn.mem l.mem;
 }
 

@@ -1,4 +1,5 @@
 use Rattle.std.proofs.Common.{◌-◌}
+use Rattle.av_plain.specs.Device.{Device}
 use Rattle.av_plain.specs.Ledger.{Ledger}
 use Rattle.av_reclaim.specs.Mem.{HasLedger, IsOrderly}
 use Rattle.av_reclaim.specs.Zap.{KeepsRest}
@@ -9,7 +10,7 @@ use Rattle.av_reclaim.proofs.zap.zap_range.Given as goal
 abbrev pub invariant-loop-page : goal.invariant-loop-page
 invariant-loop-page l = record {
   orderly : IsOrderly l.mem;
-  taking : (first : Ledger) → HasLedger l.initial.mem first → IsTaking (parts_of l.initial.mem) (parts_of l.mem) l.process l.from l.past l.next first;
+  taking : (d : Device) (first : Ledger) → HasLedger d l.initial.mem first → IsTaking d (parts_of l.initial.mem) (parts_of l.mem) l.process l.from l.past l.next first;
   rest : KeepsRest l.initial.mem l.mem;
 }
 

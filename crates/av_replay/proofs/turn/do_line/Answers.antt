@@ -7,7 +7,7 @@ returns-clause-ok c =
     record {
       answers = λ s stands.
           let says = rw c.in-Some.is at c.in-Ok.ensures.found in
-          let steps = c.in_ok-answer.ensures.stands s stands in
+          let steps = c.in_ok-answer.ensures.stands no_device s stands in
           record {
             did = Some (record { command = c.in-Some.command; reply = c.answer.new.reply });
             next = steps.next;

@@ -1,0 +1,22 @@
+use Rattle.std.proofs.Common.{None, arith, subst, sym}
+use Rattle.av_kernel.specs.Tally.{IsAtMost, none_counted}
+use Rattle.av_kernel.proofs.kernel.Kernel.new.Goals as goal
+
+few-none : IsAtMost 0 none_counted
+few-none = record {
+  done = omega arith;
+  mapped = omega arith;
+  shown = omega arith;
+  on = omega arith;
+  refused = omega arith;
+  segv = omega arith;
+  bus = omega arith;
+  oom = omega arith;
+}
+
+-- over a device that has no area it is steady
+pub invariant_of-result : goal.invariant_of-result
+invariant_of-result c = record {
+  few = subst (IsAtMost 0) (sym c.new-2.ensures) few-none;
+  steady = λ _. (record { sizes = λ k. None; pages = None; faults = 0 }, _, c.in_ok-new.ensures.keeps _);
+}
