@@ -200,8 +200,8 @@ IsFlushed statuses.Memory old new =
     ⊎ (FailsUntold old.sink new.sink × AreFlushed 0 old new)
 IsFlushed status old new = IsHandedOn 1 old new
 
--- What a run says of a trace that was begun. (That no call of the sink came after one that failed is
--- said in the headline, where the status is that of a failed write.)
+-- What a run says of a trace that was begun. (That no call of the sink came after one that failed
+-- is said in the headline, where the status is that of a failed write.)
 pub record Replayed (frames : ℕ) (status : Status) (old new : PortsView) (kernel : Option Machine)
     : Type 0 where
   pub headline : Headline frames status old new kernel

@@ -48,7 +48,8 @@ pub trait Ports {
     ghost none_shown: { (ports : Self) → (view ports).device ≡ no_device };
 }
 
-/// A source, a sink and a device, lent to a run.
+/// A source, a sink and a device, lent to a run. (Each has a lifetime of its own: with one for all
+/// three no proof is made of a call that takes this value.)
 #[derive(Drop)]
 pub struct LentPorts<'s, 'k, 'd, S, K, D> {
     pub source: &'s mut S,

@@ -120,7 +120,7 @@ pub fn run<S: Source, K: Sink, D: SwapDev>(
         → (source.new ≡ source.old) × (sink.new ≡ sink.old) }
     // A kernel is handed back exactly where there is one to go on with.
     ensures kernel { is_some result.kernel ≡ can_go_on result.status }
-    // No command reaches the device yet.
+    // No command reaches the device yet: the trace is replayed as without one.
     ensures device { dev.new ≡ dev.old }
 {
     match frames_of(words) {
