@@ -36,7 +36,8 @@ stepped g t c =
     (sym c.child_of.ensures ∙ c.in-Some.is) c.requires.side c.placed_below.ensures.placed
 
 pub placed_on-returns-then-not-placed_below-clause-placed : goal.placed_on-returns-then-not-placed_below-clause-placed
-placed_on-returns-then-not-placed_below-clause-placed g t c = (stepped g t (goal.at.placed_on-returns-then-not-placed_below-clause-placed g t c).After-placed_below).same (search rules)
+placed_on-returns-then-not-placed_below-clause-placed g t c =
+    (stepped g t (goal.at.placed_on-returns-then-not-placed_below-clause-placed g t c).After-placed_below).same (search rules)
 
 pub placed_on-settle_side-requires-clause-child : goal.placed_on-settle_side-requires-clause-child
 placed_on-settle_side-requires-clause-child g t c = (stepped g t (goal.at.placed_on-settle_side-requires-clause-child g t c).After-placed_below).ready

@@ -67,8 +67,9 @@ removed_on-returns-clause-removed g t c =
     (stepped g t (goal.at.removed_on-returns-clause-removed g t c).After-removed_below-out).settled _ _ c.settle_side.ensures.settled
 
 pub removed_on-returns-then-is_at-clause-node : goal.removed_on-returns-then-is_at-clause-node
-removed_on-returns-then-is_at-clause-node g t c = subst (IsAt g.T.Entry.key g.T.Entry.unit g.T.Entry.op g.T.Entry.of (store_of c.args.arena.now) c.in-Some.child c.args.like.now)
-    c.if-is_at.true c.is_at.ensures
+removed_on-returns-then-is_at-clause-node g t c =
+    let m = g.T.Entry in
+    subst (IsAt m.key m.unit m.op m.of (store_of c.args.arena.now) c.in-Some.child c.args.like.now) c.if-is_at.true c.is_at.ensures
 
 pub removed_on-returns-clause-kept : goal.removed_on-returns-clause-kept
 removed_on-returns-clause-kept g t c = keeps_keeps _ _ _ c.removed_below-out.ensures.kept c.settle_side.ensures.kept

@@ -84,8 +84,9 @@ returns-clause-at_most_one_lower g c =
     omega arith
 
 pub returns-then-is_at-clause-node : goal.returns-then-is_at-clause-node
-returns-then-is_at-clause-node g c = subst (IsAt g.T.Entry.key g.T.Entry.unit g.T.Entry.op g.T.Entry.of (store_of c.args.arena.now) c.in-Some.tree.number c.args.like)
-    c.if-is_at.true c.is_at.ensures
+returns-then-is_at-clause-node g c =
+    let m = g.T.Entry in
+    subst (IsAt m.key m.unit m.op m.of (store_of c.args.arena.now) c.in-Some.tree.number c.args.like) c.if-is_at.true c.is_at.ensures
 
 pub returns-clause-node : goal.returns-clause-node
 returns-clause-node g c = c.removed_below-number.ensures.node
