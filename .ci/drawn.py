@@ -3,12 +3,20 @@
 `Drawn` does by itself what a page does with the operations in it (view/told.py says what they
 are); `compare` holds each step of a page against `areas`, `entry`, `rmap`, `slot` and `stat`.
 `random_trace` makes the traces for that.
+
+Called as `.ci/drawn.py PROGRAM COUNT [GENERATOR..]` it compares the pages of COUNT random traces,
+with swap where the program has it. They are its own or, where a command is named that makes one,
+called with a seed and a number of lines, that command's; its first line then says `frames=N`.
 """
 import json
+import os
 import random
 import re
+import subprocess
+import sys
+import tempfile
 
-from common import replies_of, run
+from common import ROOT, replies_of, run
 
 # pages of an area that are compared at most
 MOST_PAGES = 24
@@ -96,6 +104,9 @@ class Drawn:
             return f"slot {code[1:]}{cached}"
         return {"-": "empty", "z": "zero"}.get(code, "?")
 
+    def areas(self, process):
+        return [row for _, row in sorted(self.rows[process].items())]
+
     def pages(self, process):
         """Pages of its areas: of a long area the first ones, and those that have a code."""
         for start, row in sorted(self.rows[process].items()):
@@ -117,7 +128,7 @@ class Drawn:
     def answers(self):
         """Reports, each with the answer that this state stands for."""
         for process in self.tables:
-            rows = [row for _, row in sorted(self.rows[process].items())]
+            rows = self.areas(process)
             yield f"areas {process}", "\n ".join([f"areas {len(rows)}", *rows])
             for page in self.pages(process):
                 text = self.entry(process, page)
@@ -220,3 +231,74 @@ def random_trace(seed, lines, swap=False):
             live.add(int(words[1]))
         if name == "exit" and len(live) > 1:
             live.discard(int(words[0]))
+
+
+def swap_file(file, pages):
+    """A swap file of so many pages."""
+    first = bytearray(4096)
+    first[1024:1032] = (1).to_bytes(4, "little") + (pages - 1).to_bytes(4, "little")
+    first[4086:] = b"SWAPSPACE2"
+    with open(file, "wb") as it:
+        it.write(first)
+        it.truncate(pages * 4096)
+
+
+def has_swap(program):
+    return run(program, ["run", "1"], b"reclaim 1\n")[0] == 0
+
+
+def page_of(program, words, trace):
+    """The page that view/run makes of a trace, or what it says instead."""
+    with open("random.trace", "w", encoding="ascii") as it:
+        it.writelines(f"{line}\n" for line in trace)
+    ran = subprocess.run(
+        [f"{ROOT}/view/run", "--program", program, "-o", "-", words[0], "random.trace", *words[1:]],
+        stdout=subprocess.PIPE,
+        stderr=subprocess.PIPE,
+        timeout=300,
+    )
+    return ran.stdout.decode() or ran.stderr.decode()
+
+
+def compare_random(program, seed, lines, generator=None):
+    """What is wrong in the page of one random trace, and how many answers were compared."""
+    pick = random.Random(seed)
+    words, swap = [str(pick.choice([2, 3, 4, 8, 16, 64]))], has_swap(program) and seed % 3 > 0
+    if generator:
+        made = subprocess.run(
+            [*generator, str(seed), str(lines)], stdout=subprocess.PIPE, check=True
+        ).stdout.decode()
+        trace, words = made.splitlines(), [re.search(r"frames=(\d+)", made)[1]]
+    else:
+        trace = list(random_trace(seed, lines, swap))
+    if swap:
+        swap_file("random.img", pick.choice([4, 8, 20]))
+        words.append("random.img")
+    page = page_of(program, words, trace)
+    if not page.startswith("<!DOCTYPE html>"):
+        return [page], 0
+    data = data_in(page)
+    wrong, count = compare(program, words, data)
+    # (a generator may know commands that this program doesn't: the page says where it ends)
+    if len(data["steps"]) < sum(not it.startswith("#") for it in trace) and not data["said"]:
+        wrong.append("the page ends early and doesn't say so")
+    return wrong + [data["said"]] * ("fault" in data["said"]), count
+
+
+def main():
+    program, count, *generator = sys.argv[1:]
+    program, total, bad = os.path.abspath(program), 0, 0
+    with tempfile.TemporaryDirectory() as room:
+        os.chdir(room)
+        for seed in range(int(count)):
+            wrong, compared = compare_random(program, seed, 250, generator)
+            total, bad = total + compared, bad + bool(wrong)
+            if wrong:
+                print(f"seed {seed}: {len(wrong)} wrong: {wrong[0]}")
+        os.chdir(ROOT)
+    print(f"{count} traces, {total} answers, {bad} traces with something wrong")
+    sys.exit(bool(bad))
+
+
+if __name__ == "__main__":
+    main()

@@ -244,6 +244,8 @@ function move(wanted) {
 
 // Goes to a step by way of the one before it, so that what it changes is seen.
 function moveTo(n) {
+  // (far away every frame may be another)
+  if (Math.abs(n - done) > 1) frameCells.clear();
   change = null;
   move(Math.max(n - 1, 0));
   change = newChange();
@@ -360,11 +362,9 @@ function cellsOf(number, process, row, codeAt, isNew) {
   let next = row.start, passed = 0;
   const gap = to => {
     const here = lowerBound(inside, to) - passed;
-    if (next < to) {
-      const text = here ? `${many(to - next, "page")}, ${here} of them with entry` :
-        `${many(to - next, "page")} ${without}`;
-      cells.append(make("span", "hole", text));
-    }
+    const text = here ? `${many(to - next, "page")}, ${here} of them with entry` :
+      pages.length > 4 ? `\u00b7${to - next}\u00b7` : `${many(to - next, "page")} ${without}`;
+    if (next < to) cells.append(make("span", "hole", text));
     passed = lowerBound(inside, to + 1);
   };
   for (const page of pages) {
@@ -377,7 +377,7 @@ function cellsOf(number, process, row, codeAt, isNew) {
 }
 
 // an area with its cells; `kind` is new, gone or nothing
-function rowElement(number, process, row, kind) {
+function rowElement(number, process, row, kind, isMarked) {
   const count = row.end - row.start;
   const box = make("div", `row ${kind}${count > BIG_CELLS ? " long" : ""}`);
   box.append(make("span", "text", `${kind === "gone" ? "was " : ""}${row.text}`));
@@ -387,8 +387,27 @@ function rowElement(number, process, row, kind) {
   const isBorn = change.born.has(number);
   const isNew = page => !isGone && change.entries.has(keyOf(number, page)) ||
     isBorn && codeAt(page) !== "-";
-  box.append(cellsOf(number, process, row, codeAt, isNew));
+  const cells = () => cellsOf(number, process, row, codeAt, isNew);
+  box.append(isLazy && !isMarked && count > BIG_CELLS ? later(process, row, cells) : cells());
   box.link = {number, row, kind};
+  return box;
+}
+
+// Cells of an area that the command doesn't touch are made when they come into sight.
+let isLazy = "IntersectionObserver" in window;
+const sight = isLazy && new IntersectionObserver(seen => {
+  for (const it of seen.filter(it => it.isIntersecting && it.target.cells)) {
+    sight.unobserve(it.target);
+    it.target.replaceWith(it.target.cells());
+  }
+}, {root: at("scroll"), rootMargin: "300px"});
+
+function later(process, row, cells) {
+  const box = make("div", "cells");
+  const count = Math.min(row.end - row.start, MOST_CELLS, process.table.size + 480);
+  box.style.height = `${Math.ceil(count / 38) * 0.85}rem`;
+  box.cells = cells;
+  sight.observe(box);
   return box;
 }
 
@@ -401,7 +420,7 @@ function drawnRow(number, process, row, dirtyRows, marked) {
   const isFresh = change.fresh.get(number)?.includes(row) || change.born.has(number);
   const isMarked = isFresh || marked.has(row);
   if (kept && !kept.isMarked && !isMarked && !dirtyRows.has(row)) return kept.box;
-  const box = rowElement(number, process, row, isFresh ? "new" : "");
+  const box = rowElement(number, process, row, isFresh ? "new" : "", marked.has(row));
   cache.set(row.text, {box, isMarked});
   return box;
 }
@@ -448,9 +467,11 @@ function withHoles(rows) {
 function setChildren(box, children) {
   const wanted = new Set(children);
   for (const it of [...box.children]) if (!wanted.has(it)) it.remove();
-  children.forEach((it, i) => {
-    if (box.children[i] !== it) box.insertBefore(it, box.children[i] || null);
-  });
+  let next = box.firstChild;
+  for (const it of children) {
+    if (it === next) next = next.nextSibling;
+    else box.insertBefore(it, next);
+  }
 }
 
 const boxes = new Map();
@@ -549,26 +570,25 @@ function litIn(number) {
 
 // the areas that map the frame that is lit, and the anon_vmas that all of them are linked to
 function litRows() {
-  const found = new Set();
-  for (const key of state.owners.get(lit.frame) || []) {
-    const row = rowAt(state.processes.get(processOf(key)), pageOf(key));
-    if (row) found.add(row);
-  }
-  return found;
+  return [...(state.owners.get(lit.frame) || [])].map(key => {
+    const number = processOf(key);
+    return {number, row: rowAt(state.processes.get(number), pageOf(key))};
+  }).filter(it => it.row);
 }
 
 function litAnons(rows) {
-  const [first, ...others] = rows;
+  const [first, ...others] = rows.map(it => it.row.chain);
   if (lit.anon !== null) return new Set([lit.anon]);
-  return new Set((first?.chain || []).filter(anon => others.every(it => it.chain.includes(anon))));
+  return new Set((first || []).filter(anon => others.every(it => it.includes(anon))));
 }
 
 const rowBoxes = () => [...at("spaces").querySelectorAll(".row")].filter(it => it.link);
 
 function markRows() {
-  const rows = litRows();
+  const texts = new Set([...litRows()].map(({number, row}) => `${number} ${row.text}`));
   for (const box of rowBoxes()) {
-    const isLit = rows.has(box.link.row) || box.link.row.chain.includes(lit.anon);
+    const {number, row} = box.link;
+    const isLit = texts.has(`${number} ${row.text}`) || row.chain.includes(lit.anon);
     box.classList.toggle("lit", isLit && box.link.kind !== "gone");
   }
 }
@@ -691,7 +711,18 @@ function cardOf(frame) {
   return card;
 }
 
+// (those that a step doesn't touch stay as they were drawn)
+const frameCells = new Map();
+
 function frameCell(frame) {
+  const isMarked = change.frames.has(frame) || frame === lit.frame;
+  const kept = frameCells.get(frame);
+  if (kept && !kept.isMarked && !isMarked) return kept.cell;
+  frameCells.set(frame, {cell: newFrameCell(frame), isMarked});
+  return frameCells.get(frame).cell;
+}
+
+function newFrameCell(frame) {
   const cell = make("span", inUse(frame) ? "cell" : "cell none", frame);
   const owners = state.owners.get(frame)?.size || 0;
   if (inUse(frame)) cell.style.background = colour(frame);
@@ -717,9 +748,10 @@ function showFrames() {
   const shown = new Set([...changed.slice(0, MOST_CHANGED), ...numbers.slice(0, MOST_CELLS)]);
   const cells = [...shown].sort((a, b) => a - b).map(frameCell);
   const more = numbers.filter(it => !shown.has(it)).length;
-  at("frames").replaceChildren(
-    ...[...cards].map(cardOf), make("span", "wide"), ...cells,
-    make("span", "soft", `${more ? `and ${more} more in use; ` : ""}${many(data.frames - used.size, "frame")} free`));
+  const free = `${many(data.frames - used.size, "frame")} free`;
+  const rest = make("span", "soft", `${more ? `and ${more} more in use; ` : ""}${free}`);
+  const wide = make("span", "wide");
+  setChildren(at("frames"), [...[...cards].map(cardOf), wide, ...cells, rest]);
 }
 
 function numbers() {
@@ -763,7 +795,7 @@ function showSwap() {
   // (those that changed come first where there are too many)
   if (slots.length > MOST_CELLS) slots.sort(([a], [b]) => change.slots.has(b) - change.slots.has(a));
   const known = state.listsKnown;
-  const frames = isActive => used.filter(it => state.active.has(it) === isActive).map(frameCell);
+  const frames = isActive => used.filter(it => state.active.has(it) === isActive).map(newFrameCell);
   const count = known ? it => `${it.length}` : () => "which isn't known";
   const lists = [frames(true), frames(false)].map(it => (known ? it : []));
   at("lists").replaceChildren(
@@ -835,6 +867,7 @@ let timer = null;
 
 function redraw() {
   drawn.clear();
+  frameCells.clear();
   drawAll();
 }
 
