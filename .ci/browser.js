@@ -20,7 +20,7 @@ function shown() {
     found.push(`area ${box.link.number} ${text.textContent}`);
     for (const it of cells) found.push(`entry ${it.dataset.at.split(" ").slice(0, 2).join(" ")} ${code(it)}`);
   }
-  for (const card of document.querySelectorAll("#frames .card")) {
+  for (const card of document.querySelectorAll("#cards .card")) {
     const owners = [...card.querySelectorAll("div:not(.gone):not(.soft)")].map(it => it.textContent);
     if (owners.length) found.push(`frame ${card.dataset.frame} ${owners.join(", ")}`);
   }
@@ -33,7 +33,9 @@ const walks = [[], [], []];
 press("Home");
 for (let n = 0; n <= last; n++, press("ArrowRight")) walks[0].push(shown());
 for (let n = last; n >= 0; n--, press("ArrowLeft")) walks[1].unshift(shown());
-for (const n of [last, 1, last >> 1]) { go(n); walks[2].push(shown()); }
+const leaps = [last, 1, last >> 1];
+for (let n = 0; n < last; n += 5) leaps.push(n + 9, n);
+for (const n of leaps) { go(n); walks[2].push(shown()); }
 press("End");
 const facts = {place: at("place").textContent};
 at("slider").value = 2;
@@ -45,7 +47,7 @@ at("only").dispatchEvent(new Event("input"));
 facts.only = [...document.querySelectorAll("#spaces h3")].map(it => it.textContent);
 at("only").value = "";
 at("only").dispatchEvent(new Event("input"));
-const lamp = document.querySelector("#frames .card:not(.none)");
+const lamp = document.querySelector("#cards .card:not(.none)");
 lamp?.click();
 facts.frame = lamp?.dataset.frame;
 facts.lit = [...document.querySelectorAll("#spaces .lit[data-at]")].map(it => it.dataset.at);

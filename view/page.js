@@ -455,7 +455,9 @@ function withHoles(rows) {
   for (const {row, box} of rows) {
     const isGone = box.link.kind === "gone";
     if (!isGone && end !== null && row.start > end) {
-      found.push(make("div", "row hole", `${many(row.start - end, "page")} not mapped`));
+      const text = `${many(row.start - end, "page")} not mapped`;
+      if (box.hole?.textContent !== text) box.hole = make("div", "row hole", text);
+      found.push(box.hole);
     }
     found.push(box);
     if (!isGone) end = row.end;
@@ -472,6 +474,11 @@ function setChildren(box, children) {
     if (it === next) next = next.nextSibling;
     else box.insertBefore(it, next);
   }
+}
+
+function setText(box, text, kind) {
+  if (box.textContent !== text) box.textContent = text;
+  if (box.className !== kind) box.className = kind;
 }
 
 const boxes = new Map();
@@ -496,8 +503,7 @@ function spaceBox(number, pagesChanged) {
     ? rowsOf(process).map(row => ({row, box: rowElement(number, process, row, "gone")}))
     : spaceRows(number, process, pagesChanged);
   const said = rows.length ? "" : ": no memory";
-  box.firstChild.textContent = `${isGone ? "was " : ""}process ${number}${said}`;
-  box.firstChild.className = isGone ? "gone" : "";
+  setText(box.firstChild, `${isGone ? "was " : ""}process ${number}${said}`, isGone ? "gone" : "");
   setChildren(box.lastChild, withHoles(rows));
   return box;
 }
@@ -541,18 +547,23 @@ function showSpaces(step) {
   const found = open.map(number => spaceBox(number, changedPages.get(number) || []));
   if (!numbers.length) found.push(make("p", "soft", only ? "none of these processes lives" : "no process lives"));
   setChildren(at("spaces"), found);
-  at("others").replaceChildren(...numbers.filter(it => !isOpen(it)).map(folded));
+  setChildren(at("others"), numbers.filter(it => !isOpen(it)).map(folded));
   markRows();
-  showAnons();
-  scrollToChange();
 }
 
+const buttons = new Map();
+
 function folded(number) {
-  const process = state.processes.get(number) || change.died.get(number);
-  const text = `${number}: ${many(process.rows.size, "area")}, ${many(process.table.size, "entry")}`;
-  const it = make("button", state.processes.has(number) ? "" : "gone", `process ${text}`.replace("entrys", "entries"));
-  it.onclick = () => toggle(number, true);
-  return it;
+  if (!buttons.has(number)) {
+    const it = make("button");
+    it.onclick = () => toggle(number, true);
+    buttons.set(number, it);
+  }
+  const isGone = !state.processes.has(number);
+  const {rows, table} = isGone ? change.died.get(number) : state.processes.get(number);
+  const text = `process ${number}: ${many(rows.size, "area")}, ${table.size} entered`;
+  setText(buttons.get(number), `${isGone ? "was " : ""}${text}`, isGone ? "gone" : "");
+  return buttons.get(number);
 }
 
 function toggle(number, isOpen) {
@@ -593,15 +604,15 @@ function markRows() {
   }
 }
 
-function scrollToChange() {
+// where the list of areas has to be scrolled to, so that what changed or is lit is seen
+function readScroll() {
   const box = at("scroll");
   const mark = lit.page >= 0 || lit.frame >= 0 ? box.querySelector(".lit") : null;
   const it = mark || box.querySelector(".cell.new, .dot.new") || box.querySelector(".row.new, .gone");
-  if (!it) return;
+  if (!it) return box.scrollTop;
   const [outer, inner] = [box.getBoundingClientRect(), it.getBoundingClientRect()];
-  if (inner.top < outer.top || inner.bottom > outer.bottom) {
-    box.scrollTop += inner.top - outer.top - outer.height / 3;
-  }
+  const isSeen = inner.top >= outer.top && inner.bottom <= outer.bottom;
+  return isSeen ? box.scrollTop : box.scrollTop + inner.top - outer.top - outer.height / 3;
 }
 
 // anon_vmas beside the areas, a line for each member of a chain; an area's own is drawn thick
@@ -644,22 +655,27 @@ function placesOf(rows, step) {
   return places;
 }
 
-function showAnons() {
-  const area = at("spaces");
-  area.querySelector("svg")?.remove();
+// (all places are read before anything is drawn: to read them in between costs a layout each)
+function readAnons() {
   const boxes = linkedRows();
-  at("gutter").hidden = !boxes.length;
-  if (!boxes.length) return;
+  const area = at("spaces");
   const em = parseFloat(getComputedStyle(document.documentElement).fontSize);
   const top = area.getBoundingClientRect().top;
   const rows = boxes.map(box => {
     const {top: y, height} = box.getBoundingClientRect();
-    return {row: box.link.row, y: y - top + Math.min(height / 2, em), isMarked: box.matches(".new, .lit")};
+    return {row: box.link.row, y: y - top + Math.min(height / 2, em)};
   });
+  return {rows, em, height: area.offsetHeight};
+}
+
+function showAnons({rows, em, height}) {
+  const area = at("spaces");
+  area.querySelector("svg")?.remove();
+  at("gutter").hidden = !rows.length;
+  if (!rows.length) return;
   const places = placesOf(rows, 2.1 * em);
-  const height = Math.max(area.scrollHeight, places[places.length - 1].y + 1.2 * em);
   const svg = document.createElementNS(SVG, "svg");
-  svg.setAttribute("height", height);
+  svg.setAttribute("height", Math.max(height, places[places.length - 1].y + 1.2 * em));
   const chosen = litAnons(litRows());
   const x = 6.7 * em;
   const yOf = new Map(places.map(it => [it.anon, it.y]));
@@ -738,7 +754,7 @@ function newFrameCell(frame) {
 function showFrames() {
   const changed = [...change.frames.keys()].sort((a, b) => a - b);
   if (data.frames <= MOST_CARDS) {
-    at("frames").replaceChildren(...Array.from({length: data.frames}, (_, i) => cardOf(i)));
+    at("cards").replaceChildren(...Array.from({length: data.frames}, (_, i) => cardOf(i)));
     return;
   }
   const cards = new Set(changed.slice(0, 8));
@@ -749,9 +765,9 @@ function showFrames() {
   const cells = [...shown].sort((a, b) => a - b).map(frameCell);
   const more = numbers.filter(it => !shown.has(it)).length;
   const free = `${many(data.frames - used.size, "frame")} free`;
-  const rest = make("span", "soft", `${more ? `and ${more} more in use; ` : ""}${free}`);
-  const wide = make("span", "wide");
-  setChildren(at("frames"), [...[...cards].map(cardOf), wide, ...cells, rest]);
+  at("cards").replaceChildren(...[...cards].map(cardOf));
+  setChildren(at("frames"), cells);
+  setText(at("free"), `${more ? `and ${more} more in use; ` : ""}${free}`, "soft");
 }
 
 function numbers() {
@@ -845,21 +861,22 @@ function lineOf(i) {
 }
 
 // (only the lines that can be seen are made)
-function showLines() {
-  const box = at("trace");
-  const first = Math.max(0, Math.floor(box.scrollTop / lineHeight) - 5);
-  const end = Math.min(listLength(), first + Math.ceil(box.clientHeight / lineHeight) + 10);
+function showLines({top, height}) {
+  const first = Math.max(0, Math.floor(top / lineHeight) - 5);
+  const end = Math.min(listLength(), first + Math.ceil(height / lineHeight) + 10);
+  const lines = Array.from({length: Math.max(0, end - first)}, (_, k) => lineOf(first + k));
   at("lines").style.height = `${listLength() * lineHeight}px`;
-  at("lines").replaceChildren(...Array.from({length: Math.max(0, end - first)}, (_, k) => lineOf(first + k)));
+  at("lines").replaceChildren(...lines);
 }
 
-function scrollLines() {
-  const box = at("trace");
-  const top = placeIn(here) * lineHeight;
-  if (top < box.scrollTop || top + lineHeight > box.scrollTop + box.clientHeight) {
-    box.scrollTop = Math.max(0, top - box.clientHeight / 2);
-  }
-  showLines();
+const readLines = () => ({top: at("trace").scrollTop, height: at("trace").clientHeight});
+
+function scrollLines({top, height}) {
+  const line = placeIn(here) * lineHeight;
+  const isSeen = top <= line && line + lineHeight <= top + height;
+  const wanted = isSeen ? top : Math.max(0, line - height / 2);
+  showLines({top: wanted, height});
+  if (!isSeen) at("trace").scrollTop = wanted;
 }
 
 let here = -1;
@@ -876,11 +893,14 @@ function drawAll() {
   at("slider").value = here;
   at("place").textContent = `${here + data.first - 1} of ${data.total}`;
   showCommand(step, here);
-  scrollLines();
   showSpaces(step);
   showStat();
   showFrames();
   showSwap();
+  const [lines, anons, top] = [readLines(), readAnons(), readScroll()];
+  scrollLines(lines);
+  showAnons(anons);
+  if (top !== at("scroll").scrollTop) at("scroll").scrollTop = top;
 }
 
 function show(wanted) {
@@ -889,8 +909,16 @@ function show(wanted) {
   here = n;
   moveTo(n);
   drawAll();
+  // (a browser takes its time for this)
+  clearTimeout(naming);
+  naming = setTimeout(nameStep, 300);
+}
+
+let naming = null;
+
+function nameStep() {
   try {
-    history.replaceState(null, "", `#step=${n + data.first - 1}`);
+    history.replaceState(null, "", `#step=${here + data.first - 1}`);
   } catch {
     // a page without an address
   }
@@ -997,7 +1025,7 @@ at("last").onclick = () => go(last);
 at("play").onclick = () => play(!timer);
 at("only").addEventListener("input", () => showOnly(at("only").value));
 at("find").addEventListener("input", () => find(at("find").value));
-at("trace").addEventListener("scroll", showLines);
+at("trace").addEventListener("scroll", () => showLines(readLines()));
 window.addEventListener("hashchange", hashed);
 window.addEventListener("resize", () => { measure(); redraw(); });
 
