@@ -393,22 +393,28 @@ function rowElement(number, process, row, kind, isMarked) {
   return box;
 }
 
-// Cells of an area that the command doesn't touch are made when they come into sight.
-let isLazy = "IntersectionObserver" in window;
-const sight = isLazy && new IntersectionObserver(seen => {
-  for (const it of seen.filter(it => it.isIntersecting && it.target.cells)) {
-    sight.unobserve(it.target);
-    it.target.replaceWith(it.target.cells());
-  }
-}, {root: at("scroll"), rootMargin: "300px"});
+// Cells of a long area that the command doesn't touch are made when they come into sight.
+let isLazy = true;
 
 function later(process, row, cells) {
-  const box = make("div", "cells");
+  const box = make("div", "cells later");
   const count = Math.min(row.end - row.start, MOST_CELLS, process.table.size + 480);
   box.style.height = `${Math.ceil(count / 38) * 0.85}rem`;
-  box.cells = cells;
-  sight.observe(box);
+  box.make = cells;
   return box;
+}
+
+// makes the cells that are in sight where the list of areas is scrolled to this place
+function makeSeen(top) {
+  const box = at("scroll");
+  const {top: begin, height} = box.getBoundingClientRect();
+  const found = [...box.querySelectorAll(".later")].filter(it => {
+    const place = it.getBoundingClientRect();
+    const y = place.top - begin + box.scrollTop - top;
+    return y < height + 200 && y + place.height > -200;
+  });
+  for (const it of found) it.replaceWith(it.make());
+  return found.length > 0;
 }
 
 // Rows that a step doesn't touch stay as they were drawn.
@@ -561,7 +567,8 @@ function folded(number) {
   }
   const isGone = !state.processes.has(number);
   const {rows, table} = isGone ? change.died.get(number) : state.processes.get(number);
-  const text = `process ${number}: ${many(rows.size, "area")}, ${table.size} entered`;
+  const entries = `${table.size} ${table.size === 1 ? "entry" : "entries"}`;
+  const text = `process ${number}: ${many(rows.size, "area")}, ${entries}`;
   setText(buttons.get(number), `${isGone ? "was " : ""}${text}`, isGone ? "gone" : "");
   return buttons.get(number);
 }
@@ -635,17 +642,18 @@ function linkedRows() {
   return boxes.filter(it => it.matches(".new, .lit") || it.querySelector(".new, .lit")).slice(0, 60);
 }
 
-// where each anon_vma is drawn: at the middle of its areas, but apart from the next one
-function placesOf(rows, step) {
+// where each anon_vma is drawn: at the middle of its areas, but apart from the next one (and once
+// for each process, where not all of them fit on a screen)
+function placesOf(rows, step, nameOf) {
   const sums = new Map();
-  for (const {row, y} of rows) {
+  for (const {row, y, number} of rows) {
     for (const anon of row.chain) {
       const weight = row.own === anon ? 4 : 1;
-      const sum = sums.get(anon) || {y: 0, weight: 0};
-      sums.set(anon, {y: sum.y + weight * y, weight: sum.weight + weight});
+      const sum = sums.get(nameOf(number, anon)) || {y: 0, weight: 0};
+      sums.set(nameOf(number, anon), {anon, y: sum.y + weight * y, weight: sum.weight + weight});
     }
   }
-  const places = [...sums].map(([anon, it]) => ({anon, y: it.y / it.weight}))
+  const places = [...sums].map(([name, it]) => ({name, anon: it.anon, y: it.y / it.weight}))
     .sort((a, b) => a.y - b.y || a.anon - b.anon);
   let next = step / 2;
   for (const it of places) {
@@ -663,28 +671,30 @@ function readAnons() {
   const top = area.getBoundingClientRect().top;
   const rows = boxes.map(box => {
     const {top: y, height} = box.getBoundingClientRect();
-    return {row: box.link.row, y: y - top + Math.min(height / 2, em)};
+    return {row: box.link.row, number: box.link.number, y: y - top + Math.min(height / 2, em)};
   });
-  return {rows, em, height: area.offsetHeight};
+  const isTall = rows.length > 0 && rows[rows.length - 1].y - rows[0].y > at("scroll").clientHeight;
+  return {rows, em, height: area.offsetHeight, isTall};
 }
 
-function showAnons({rows, em, height}) {
+function showAnons({rows, em, height, isTall}) {
   const area = at("spaces");
   area.querySelector("svg")?.remove();
   at("gutter").hidden = !rows.length;
   if (!rows.length) return;
-  const places = placesOf(rows, 2.1 * em);
+  const nameOf = (number, anon) => (isTall ? `${number} ${anon}` : anon);
+  const places = placesOf(rows, 2.1 * em, nameOf);
   const svg = document.createElementNS(SVG, "svg");
   svg.setAttribute("height", Math.max(height, places[places.length - 1].y + 1.2 * em));
   const chosen = litAnons(litRows());
   const x = 6.7 * em;
-  const yOf = new Map(places.map(it => [it.anon, it.y]));
-  for (const {row, y} of rows) {
+  const yOf = new Map(places.map(it => [it.name, it.y]));
+  for (const {row, y, number} of rows) {
     for (const anon of row.chain) {
       const isOwn = row.own === anon;
       const stroke = chosen.has(anon) ? "#1864ab" : isOwn ? "#d9480f" : "#8a93a3";
       draw(svg, "line", {
-        x1: 2, y1: y, x2: x - em, y2: yOf.get(anon), stroke, "stroke-width": isOwn ? 3 : 1.4,
+        x1: 2, y1: y, x2: x - em, y2: yOf.get(nameOf(number, anon)), stroke, "stroke-width": isOwn ? 3 : 1.4,
         "data-link": `${row.text.split(" ")[0]} ${anon}`,
       });
     }
@@ -897,6 +907,7 @@ function drawAll() {
   showStat();
   showFrames();
   showSwap();
+  if (makeSeen(readScroll())) makeSeen(readScroll());
   const [lines, anons, top] = [readLines(), readAnons(), readScroll()];
   scrollLines(lines);
   showAnons(anons);
@@ -1026,6 +1037,9 @@ at("play").onclick = () => play(!timer);
 at("only").addEventListener("input", () => showOnly(at("only").value));
 at("find").addEventListener("input", () => find(at("find").value));
 at("trace").addEventListener("scroll", () => showLines(readLines()));
+at("scroll").addEventListener("scroll", () => {
+  if (makeSeen(at("scroll").scrollTop)) showAnons(readAnons());
+});
 window.addEventListener("hashchange", hashed);
 window.addEventListener("resize", () => { measure(); redraw(); });
 
