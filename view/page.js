@@ -923,6 +923,8 @@ function show(wanted) {
   // (a browser takes its time for this)
   clearTimeout(naming);
   naming = setTimeout(nameStep, 300);
+  // (a page that this one lies in may follow: view/lesson.html)
+  window.onstep?.(n);
 }
 
 let naming = null;
