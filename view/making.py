@@ -8,7 +8,7 @@ import sys
 import threading
 import time
 
-from told import BY_NOTES, BY_RANGE, REPORTS, Told, page_of
+from told import BY_RANGE, Told, page_of
 
 # steps that one page has at most, and bytes
 MOST_STEPS, MOST_BYTES = 50_000, 90_000_000
@@ -146,16 +146,13 @@ def reports(told: Told, words: list[str], reply: list[str]) -> list[str]:
     """The reports to put behind a command, in order. `told` is what was told up to it; afterwards
     the command is told, too.
     """
-    before = [(process, page) for process, table in told.tables.items() for page in table] if (
-        words[0] not in BY_NOTES | BY_RANGE | REPORTS | {"spawn", "fork", "exit"}
-    ) else []
     told.tell(words, reply)
     asked = [f"areas {it}" for it in asks_areas(words, reply)]
     if words[0] in ("read", "write", "entry", "rmap"):
         asked += [f"entry {words[1]} {it << 12:x}" for it in pages_named(words)]
     if told.lost:
         asked += [f"areas {it}" for it in told.tables]
-        asked += [f"entry {process} {page << 12:x}" for process, page in before]
+        asked += [f"entry {process} {page << 12:x}" for process, page in told.forgotten]
     asked += [f"slot {it.replace(':', ' ')}" for it in sorted(told.touched)]
     return [*asked[:MOST_ASKED], "stat"]
 

@@ -552,6 +552,8 @@ function showSpaces(step) {
   for (const number of [...drawn.keys()]) if (!open.includes(number)) drawn.delete(number);
   const found = open.map(number => spaceBox(number, changedPages.get(number) || []));
   if (!numbers.length) found.push(make("p", "soft", only ? "none of these processes lives" : "no process lives"));
+  const lives = Number(Object.fromEntries(statNumbers()).procs) - state.processes.size;
+  if (lives > 0) found.push(make("p", "dim", `${lives} more live, of which nothing is known`));
   setChildren(at("spaces"), found);
   setChildren(at("others"), numbers.filter(it => !isOpen(it)).map(folded));
   markRows();
@@ -780,14 +782,14 @@ function showFrames() {
   setText(at("free"), `${more ? `and ${more} more in use; ` : ""}${free}`, "soft");
 }
 
-function numbers() {
+function statNumbers() {
   return state.stat.split(" ").filter(it => it).map(it => it.split("="));
 }
 
 function showStat() {
   const isSwap = hasSwap();
   const later = new Set(["active", "inactive", "flight", "slots", "freeslots"]);
-  at("stat").replaceChildren(...numbers().filter(([name]) => isSwap || !later.has(name)).map(([name, value]) => {
+  at("stat").replaceChildren(...statNumbers().filter(([name]) => isSwap || !later.has(name)).map(([name, value]) => {
     const pair = make("div");
     pair.append(make("dt", "", name), make("dd", "", value));
     return pair;
@@ -795,7 +797,7 @@ function showStat() {
 }
 
 function hasSwap() {
-  const stat = Object.fromEntries(numbers());
+  const stat = Object.fromEntries(statNumbers());
   return ["active", "flight", "slots"].some(it => Number(stat[it])) || state.counts.size > 0;
 }
 
@@ -827,7 +829,7 @@ function showSwap() {
   at("lists").replaceChildren(
     ...listOf(`active: ${count(lists[0])}`, lists[0], known ? "none" : "?"),
     ...listOf(`inactive: ${count(lists[1])}`, lists[1], known ? "none" : "?"),
-    ...listOf("being written", [...state.flight].map(it => slotCell(it, "")), "none"),
+    ...listOf("being written", known ? [...state.flight].map(it => slotCell(it, "")) : [], known ? "none" : "?"),
     ...listOf("slots", slots.map(([slot, text]) => slotCell(slot, text)), "none was named"));
 }
 

@@ -76,7 +76,7 @@ class Told:
         self.rows: dict[int, list[str]] = {}
         self.numbers, self.lists_known = "", True
         self.touched: set[str] = set()
-        self.lost = False
+        self.lost, self.forgotten = False, []
         self.ops: list[list] = []
 
     # entries
@@ -113,7 +113,9 @@ class Told:
 
     def put(self, process: int, page: int, code: str) -> None:
         """The entry of a page is this."""
-        table = self.tables.setdefault(process, {})
+        if process not in self.tables:
+            return
+        table = self.tables[process]
         old = table.get(page, "?" if process in self.dim else "-")
         if old == code:
             return
@@ -156,9 +158,14 @@ class Told:
         self.ops.append(["p", process])
 
     def fork(self, process: int, child: int) -> None:
+        if process not in self.tables:
+            self.spawn(child)
+            self.dim.add(child)
+            self.ops.append(["u", child])
+            return
         self.tables[child] = {
             page: "f" + code[1:] if code[0] == "F" else code
-            for page, code in self.tables.get(process, {}).items()
+            for page, code in self.tables[process].items()
         }
         self.rows[child] = []
         (self.dim.add if process in self.dim else self.dim.discard)(child)
@@ -167,9 +174,11 @@ class Told:
         self.ops.append(["f", process, child])
 
     def exit(self, process: int) -> None:
-        for page, code in self.tables.pop(process, {}).items():
+        if process not in self.tables:
+            return
+        for page, code in self.tables.pop(process).items():
             self.unlink(process, page, code)
-        self.rows.pop(process, None)
+        del self.rows[process]
         self.dim.discard(process)
         self.ops.append(["x", process])
 
@@ -188,7 +197,9 @@ class Told:
         for process, table in self.tables.items():
             for page, code in table.items():
                 self.unlink(process, page, code)
-            table.clear()
+                self.forgotten.append((process, page))
+                # (it may be asked for again, if that is forgotten too)
+                table[page] = "?"
             self.dim.add(process)
             self.ops.append(["u", process])
 
@@ -241,6 +252,12 @@ class Told:
 
     def note(self, words: list[str]) -> bool:
         """What a note says; False where it can't be read."""
+        try:
+            return self.take_note(words)
+        except ValueError:
+            return False
+
+    def take_note(self, words: list[str]) -> bool:
         match words:
             case ["zero", process, at]:
                 self.put(int(process), page_of(int(at, 16)), "z")
@@ -270,9 +287,9 @@ class Told:
 
     def tell(self, words: list[str], reply: list[str]) -> None:
         """A command with its reply. `touched` are then the slots whose count may be another, and
-        `lost` says that not all of what it did is told.
+        `lost` says that not all of what it did is told: then the pages of `forgotten` had entries.
         """
-        self.touched, self.lost = set(), False
+        self.touched, self.lost, self.forgotten = set(), False, []
         name, is_done = words[0], not reply[0].startswith("err ")
         if name in REPORTS:
             return
