@@ -10,7 +10,8 @@ const code = cell => {
   if (cell.classList.contains("dot")) return cell.dataset.at.split(" ")[2];
   const text = cell.textContent;
   if (cell.classList.contains("slot")) return `s${text}`;
-  return {"\u00b7": "-", zero: "z", "?": "?"}[text] || (cell.classList.contains("old") ? "f" : "F") + text;
+  const seen = cell.classList.contains("old") ? "f" : "F";
+  return {"\u00b7": "-", zero: "z", "?": "?"}[text] || seen + text;
 };
 
 function shown() {
@@ -18,10 +19,14 @@ function shown() {
   for (const box of document.querySelectorAll("#spaces .row:not(.gone):not(.hole)")) {
     const [text, ...cells] = [box.querySelector(".text"), ...box.querySelectorAll("[data-at]")];
     found.push(`area ${box.link.number} ${text.textContent}`);
-    for (const it of cells) found.push(`entry ${it.dataset.at.split(" ").slice(0, 2).join(" ")} ${code(it)}`);
+    for (const it of cells) {
+      const [process, page] = it.dataset.at.split(" ");
+      found.push(`entry ${process} ${page} ${code(it)}`);
+    }
   }
   for (const card of document.querySelectorAll("#cards .card")) {
-    const owners = [...card.querySelectorAll("div:not(.gone):not(.soft)")].map(it => it.textContent);
+    const lines = [...card.querySelectorAll("div:not(.gone):not(.soft)")];
+    const owners = lines.map(it => it.textContent);
     if (owners.length) found.push(`frame ${card.dataset.frame} ${owners.join(", ")}`);
   }
   for (const it of document.querySelectorAll("[data-link]")) found.push(`link ${it.dataset.link}`);

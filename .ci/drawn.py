@@ -148,7 +148,8 @@ class Drawn:
 
 
 def data_in(page):
-    return json.loads(re.search(r'<script type="application/json" id="data">(.*?)</script>', page)[1])
+    data = re.search(r'<script type="application/json" id="data">(.*?)</script>', page)
+    return json.loads(data[1])
 
 
 def numbers_wrong(drawn):
@@ -180,7 +181,8 @@ def compare(program, words, data):
             f"line {step['n']}, stat: {key}: drawn are {it[0]}, it says {it[1]}"
             for key, it in numbers_wrong(drawn).items()
         ]
-    given = replies_of(run(program, ["run", *words], "".join(f"{it}\n" for it in lines).encode())[1])
+    trace = "".join(f"{it}\n" for it in lines).encode()
+    given = replies_of(run(program, ["run", *words], trace)[1])
     if len(given) != len(wanted):
         wrong.append(f"{len(given)} replies to {len(wanted)} lines")
     for (step, line, answer), reply in zip(wanted, given):
@@ -280,7 +282,8 @@ def compare_random(program, seed, lines, generator=None):
     data = data_in(page)
     wrong, count = compare(program, words, data)
     # (a generator may know commands that this program doesn't: the page says where it ends)
-    if len(data["steps"]) < sum(not it.startswith("#") for it in trace) and not data["said"]:
+    commands = [it for it in trace if it and not it.startswith("#")]
+    if len(data["steps"]) < len(commands) and not data["said"]:
         wrong.append("the page ends early and doesn't say so")
     return wrong + [data["said"]] * ("fault" in data["said"]), count
 

@@ -1,10 +1,11 @@
-"""Makes a page of its data: the template, its style and its script in one file."""
+"""Makes a page of its data: the template, its style and its scripts in one file."""
 import html
 import json
 import os
 import re
 
 HERE = os.path.dirname(os.path.realpath(__file__))
+SCRIPTS = ("state.js", "spaces.js", "frames.js", "page.js")
 
 
 def file_of(name: str) -> str:
@@ -18,7 +19,7 @@ def page_of(data: dict) -> str:
     pieces = {
         "<title></title>": f"<title>avsim: {html.escape(data['title'])}</title>",
         "/*STYLE*/": file_of("page.css"),
-        "/*SCRIPT*/": file_of("page.js"),
+        "/*SCRIPT*/": "\n\n".join(map(file_of, SCRIPTS)),
         "/*DATA*/": text,
     }
     places = "|".join(map(re.escape, pieces))

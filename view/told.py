@@ -10,7 +10,7 @@ An entry is kept as a code: `z` the page of zeros, `F7` frame 7 and seen, `f7` f
 `s0:3` slot 0:3, `-` none, `?` not known. A page without a code has no entry, but of a process in
 `dim`, where it isn't known.
 
-Each change is also an operation, a list that a page applies (view/page.js):
+Each change is also an operation, a list that a page applies (view/state.js):
 
     p P             process P lives, without memory
     x P             it ended
