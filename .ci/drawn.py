@@ -204,6 +204,7 @@ def random_lines(pick, live):
         f"mmap {p} {length} rw-",
         f"munmap {p} {at:x} {length}",
         f"mprotect {p} {at:x} {length} {pick.choice(['rw-', 'rw-', 'r--'])}",
+        f"mprotect {p} {at:x} {4 * length} {pick.choice(['rw-', 'rw-', 'r--'])}",
         f"mremap {p} {at:x} {length} {4096 * k} maymove",
         f"mremap {p} {at:x} {length} {4096 * k}",
         f"mremap {p} {at:x} {length} {4096 * k} fixed {at + 0x5000:x}",
@@ -285,6 +286,12 @@ def compare_random(program, seed, lines, generator=None):
     commands = [it for it in trace if it and not it.startswith("#")]
     if len(data["steps"]) < len(commands) and not data["said"]:
         wrong.append("the page ends early and doesn't say so")
+    wrong += [
+        f"line {step['n']}, {op}: something isn't known"
+        for step in data["steps"]
+        for op in step["o"]
+        if op == ["o", 0] or op[0] == "u" or op[0] == "k" and op[2] == "?"
+    ]
     return wrong + [data["said"]] * ("fault" in data["said"]), count
 
 

@@ -166,7 +166,7 @@ class Asking(threading.Thread):
 
     def __init__(self, run: Run):
         super().__init__(daemon=True)
-        self.run_, self.asked = run, queue.Queue(maxsize=4096)
+        self.run_, self.asked, self.error = run, queue.Queue(maxsize=4096), None
         try:
             self.avsim = subprocess.Popen(
                 [run.program, "run", *run.words],
@@ -186,12 +186,19 @@ class Asking(threading.Thread):
                 self.asked.put(asked)
                 text = "\n".join([command.line, *asked, ""])
                 self.avsim.stdin.write(text.encode(errors="surrogateescape"))
-            self.avsim.stdin.close()
-        except (BrokenPipeError, ValueError):
+        except Exception as error:  # pylint: disable=broad-exception-caught
             # (the reader sees that answers are missing)
-            pass
+            self.error = error
         finally:
+            self.close_input()
             self.asked.put(None)
+
+    def close_input(self):
+        try:
+            self.avsim.stdin.close()
+        except OSError:
+            # (what couldn't be written is lost with the program that didn't read it)
+            pass
 
     def replies(self):
         """The replies of the second run, one after the other."""
@@ -215,6 +222,8 @@ class Asking(threading.Thread):
             for command, reply in zip(self.run_.commands, self.run_.replies):
                 asked = self.asked.get()
                 answer = next(given, "")
+                if self.error and not isinstance(self.error, OSError):
+                    raise self.error
                 if asked is None or answer.replace("\n ", "\n") != "\n".join(reply):
                     raise Refused(
                         f"line {command.number} is answered otherwise with reports before it: "
