@@ -46,6 +46,7 @@ const facts = {place: at("place").textContent};
 at("slider").value = 2;
 at("slider").dispatchEvent(new Event("input"));
 facts.slider = at("place").textContent;
+press("End");
 toggled.clear();
 at("only").value = "1";
 at("only").dispatchEvent(new Event("input"));
