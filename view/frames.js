@@ -2,6 +2,10 @@
 
 const place = key => `${processOf(key)} ${hex(pageOf(key))}`;
 const inUse = frame => state.owners.has(frame) || state.slots.has(frame);
+const usedFrames = () => new Set([...state.owners.keys(), ...state.slots.keys()]);
+const freeFrames = () => Number(Object.fromEntries(statNumbers()).free ?? data.frames);
+// (where entries aren't known, a frame that none is known to name may be in use)
+const areKnown = () => data.frames - usedFrames().size === freeFrames();
 
 function cardOf(frame) {
   const {added, lost} = change.frames.get(frame) || {added: new Set(), lost: new Set()};
@@ -14,7 +18,7 @@ function cardOf(frame) {
   if (more > 0) card.append(make("div", "soft", `and ${more} more`));
   if (slot) card.append(make("div", "", `cached at ${slot}`));
   if (inUse(frame)) card.style.background = colour(frame);
-  else card.append(make("div", "soft", "\u2013"));
+  else card.append(make("div", "soft", areKnown() ? "\u2013" : "?"));
   if (!inUse(frame)) card.classList.add("none");
   const gone = [...lost].filter(key => !state.owners.get(frame)?.has(key)).sort((a, b) => a - b);
   for (const key of gone.slice(0, MOST_OWNERS)) {
@@ -58,12 +62,13 @@ function showFrames() {
   }
   const cards = new Set(changed.slice(0, 8));
   if (lit.frame >= 0) cards.add(lit.frame);
-  const used = new Set([...state.owners.keys(), ...state.slots.keys()]);
+  const used = usedFrames();
   const numbers = [...used].sort((a, b) => a - b);
   const shown = new Set([...changed.slice(0, MOST_CHANGED), ...numbers.slice(0, MOST_CELLS)]);
   const cells = [...shown].sort((a, b) => a - b).map(frameCell);
   const more = numbers.filter(it => !shown.has(it)).length;
-  const free = `${many(data.frames - used.size, "frame")} free`;
+  const hidden = data.frames - used.size - freeFrames();
+  const free = `${many(freeFrames(), "frame")} free${hidden ? `, ${hidden} not known` : ""}`;
   at("cards").replaceChildren(...[...cards].map(cardOf));
   setChildren(at("frames"), cells);
   setText(at("free"), `${more ? `and ${more} more in use; ` : ""}${free}`, "soft");
@@ -106,7 +111,7 @@ function slotCell(slot, text) {
 function showSwap() {
   at("swap").hidden = !hasSwap();
   if (at("swap").hidden) return;
-  const used = [...new Set([...state.owners.keys(), ...state.slots.keys()])].sort((a, b) => a - b);
+  const used = [...usedFrames()].sort((a, b) => a - b);
   const [area, page] = [it => Number(it.split(":")[0]), it => Number(it.split(":")[1])];
   const slots = [...state.counts].sort(([a], [b]) => area(a) - area(b) || page(a) - page(b));
   // (those that changed come first where there are too many)
