@@ -1,0 +1,64 @@
+// Put behind a page's own script by .ci/view: goes through its steps, and leaves in the page what
+// stood there at each.
+"use strict";
+isLazy = false;
+for (let number = 1; number < 10; number++) toggled.set(number, true);
+frameCells.clear();
+redraw();
+
+const code = cell => {
+  if (cell.classList.contains("dot")) return cell.dataset.at.split(" ")[2];
+  const text = cell.textContent;
+  if (cell.classList.contains("slot")) return `s${text}`;
+  const seen = cell.classList.contains("old") ? "f" : "F";
+  return {"\u00b7": "-", zero: "z", "?": "?"}[text] || seen + text;
+};
+
+function shown() {
+  const found = [`place ${at("place").textContent}`];
+  for (const box of document.querySelectorAll("#spaces .row:not(.gone):not(.hole)")) {
+    const [text, ...cells] = [box.querySelector(".text"), ...box.querySelectorAll("[data-at]")];
+    found.push(`area ${box.link.number} ${text.textContent}`);
+    for (const it of cells) {
+      const [process, page] = it.dataset.at.split(" ");
+      found.push(`entry ${process} ${page} ${code(it)}`);
+    }
+  }
+  for (const card of document.querySelectorAll("#cards .card")) {
+    const lines = [...card.querySelectorAll("div:not(.gone):not(.soft)")];
+    const owners = lines.map(it => it.textContent);
+    if (owners.length) found.push(`frame ${card.dataset.frame} ${owners.join(", ")}`);
+  }
+  for (const it of document.querySelectorAll("[data-link]")) found.push(`link ${it.dataset.link}`);
+  return found.sort().join("\n");
+}
+
+const press = key => document.dispatchEvent(new KeyboardEvent("keydown", {key, bubbles: true}));
+const walks = [[], [], []];
+press("Home");
+for (let n = 0; n <= last; n++, press("ArrowRight")) walks[0].push(shown());
+for (let n = last; n >= 0; n--, press("ArrowLeft")) walks[1].unshift(shown());
+const leaps = [last, 1, last >> 1];
+for (let n = 0; n < last; n += 5) leaps.push(n + 9, n);
+for (const n of leaps) { go(n); walks[2].push(shown()); }
+press("End");
+const facts = {place: at("place").textContent};
+at("slider").value = 2;
+at("slider").dispatchEvent(new Event("input"));
+facts.slider = at("place").textContent;
+press("End");
+toggled.clear();
+at("only").value = "1";
+at("only").dispatchEvent(new Event("input"));
+facts.only = [...document.querySelectorAll("#spaces h3")].map(it => it.textContent);
+at("only").value = "";
+at("only").dispatchEvent(new Event("input"));
+const lamp = document.querySelector("#cards .card:not(.none)");
+lamp?.click();
+facts.frame = lamp?.dataset.frame;
+facts.lit = [...document.querySelectorAll("#spaces .lit[data-at]")].map(it => it.dataset.at);
+at("find").value = "20123";
+at("find").dispatchEvent(new Event("input"));
+facts.found = at("found").textContent;
+const result = {walks, facts, height: document.documentElement.scrollHeight - window.innerHeight};
+document.body.replaceChildren(make("pre", "", JSON.stringify(result)));

@@ -1,0 +1,314 @@
+"""What a page of view/run draws, and whether it is what the program answers.
+
+`Drawn` does by itself what a page does with the operations in it (view/told.py says what they
+are); `compare` holds each step of a page against `areas`, `entry`, `rmap`, `slot` and `stat`.
+`random_trace` makes the traces for that.
+
+Called as `.ci/drawn.py PROGRAM COUNT [GENERATOR..]` it compares the pages of COUNT random traces,
+with swap where the program has it. They are its own or, where a command is named that makes one,
+called with a seed and a number of lines, that command's; its first line then says `frames=N`.
+"""
+import json
+import os
+import random
+import re
+import subprocess
+import sys
+import tempfile
+
+from common import ROOT, replies_of, run
+
+# pages of an area that are compared at most
+MOST_PAGES = 24
+
+
+class Drawn:
+    """The state that a page draws after some of its steps."""
+
+    def __init__(self):
+        self.tables, self.dim, self.rows = {}, set(), {}
+        self.cached, self.counts, self.flight, self.active = {}, {}, set(), set()
+        self.stat, self.lists = "", True
+
+    def apply(self, ops):
+        for name, *of in ops:
+            getattr(self, f"op_{name}")(*of)
+
+    def op_p(self, process):
+        self.tables[process], self.rows[process] = {}, {}
+        self.dim.discard(process)
+
+    def op_x(self, process):
+        del self.tables[process], self.rows[process]
+
+    def op_f(self, process, child):
+        self.op_p(child)
+        self.tables[child] = {
+            page: it.replace("F", "f") for page, it in self.tables[process].items()
+        }
+        if process in self.dim:
+            self.dim.add(child)
+
+    def op_e(self, process, page, code):
+        self.tables[process][page] = code
+
+    def op_d(self, process, first, count):
+        table = self.tables[process]
+        for page in [it for it in table if first <= it < first + count]:
+            del table[page]
+
+    def op_m(self, process, first, to, count):
+        table = self.tables[process]
+        for page in [it for it in table if first <= it < first + count]:
+            table[page - first + to] = table.pop(page)
+
+    def op_u(self, process):
+        self.tables[process] = {}
+        self.dim.add(process)
+
+    def op_a(self, process, gone, new):
+        for start in gone:
+            del self.rows[process][start]
+        for row in new:
+            self.rows[process][int(row.split("-")[0], 16) >> 12] = row
+
+    def op_c(self, slot, frame):
+        self.cached.pop(slot, None)
+        if frame >= 0:
+            self.cached[slot] = frame
+
+    def op_k(self, slot, text):
+        self.counts[slot] = text
+
+    def op_l(self, frame, is_on):
+        (self.active.add if is_on else self.active.discard)(frame)
+
+    def op_w(self, slot, is_on):
+        (self.flight.add if is_on else self.flight.discard)(slot)
+
+    def op_o(self, is_known):
+        self.lists = is_known
+
+    def op_s(self, text):
+        self.stat = text
+
+    def entry(self, process, page):
+        """What stands in the cell of a page, in the words of `entry`; `?` where it isn't known."""
+        code = self.tables[process].get(page, "?" if process in self.dim else "-")
+        if code[0] in "fF":
+            slot = next((it for it, frame in self.cached.items() if frame == int(code[1:])), None)
+            text = f"frame {code[1:]} {'seen' if code[0] == 'F' else 'old'}"
+            return text + (f" cached {slot}" if slot else "")
+        if code[0] == "s":
+            cached = f" cached {self.cached[code[1:]]}" if code[1:] in self.cached else ""
+            return f"slot {code[1:]}{cached}"
+        return {"-": "empty", "z": "zero"}.get(code, "?")
+
+    def areas(self, process):
+        return [row for _, row in sorted(self.rows[process].items())]
+
+    def pages(self, process):
+        """Pages of its areas: of a long area the first ones, and those that have a code."""
+        for start, row in sorted(self.rows[process].items()):
+            end = int(re.match(r"\w+-(\w+)", row)[1], 16) >> 12
+            yield from range(start, min(end, start + MOST_PAGES))
+            yield from sorted(
+                it for it in self.tables[process] if start + MOST_PAGES <= it < end
+            )
+
+    def owners(self):
+        """The pages that name each frame."""
+        found = {}
+        for process, table in self.tables.items():
+            for page, code in table.items():
+                if code[0] in "fF":
+                    found.setdefault(int(code[1:]), set()).add((process, page))
+        return found
+
+    def answers(self):
+        """Reports, each with the answer that this state stands for."""
+        for process in self.tables:
+            rows = self.areas(process)
+            yield f"areas {process}", "\n ".join([f"areas {len(rows)}", *rows])
+            for page in self.pages(process):
+                text = self.entry(process, page)
+                if text != "?":
+                    yield f"entry {process} {page << 12:x}", text
+        for frame, owners in self.owners().items():
+            process, page = min(owners)
+            rows = [f" {it} {at << 12:x}" for it, at in sorted(owners)]
+            yield (
+                f"rmap {process} {page << 12:x}",
+                "\n".join([f"frame {frame} maps {len(owners)}", *rows]),
+            )
+        for slot, text in self.counts.items():
+            if text not in ("", "?"):
+                yield f"slot {slot.replace(':', ' ')}", f"slot {slot} {text}"
+        yield "stat", f"stat {self.stat}"
+
+
+def data_in(page):
+    data = re.search(r'<script type="application/json" id="data">(.*?)</script>', page)
+    return json.loads(data[1])
+
+
+def numbers_wrong(drawn):
+    """Whether what is drawn adds up otherwise than `stat` says."""
+    numbers = dict(it.split("=") for it in drawn.stat.split())
+    in_use = set(drawn.owners()) | set(drawn.cached.values())
+    told = {"procs": len(drawn.tables)}
+    if not drawn.dim:
+        told["free"] = int(numbers["frames"]) - len(in_use)
+    if drawn.lists:
+        told.update(active=len(drawn.active), flight=len(drawn.flight))
+    return {key: (it, numbers[key]) for key, it in told.items() if int(numbers[key]) != it}
+
+
+def compare(program, words, data):
+    """What is wrong in the steps of a page: a list of texts; and how many answers were held
+    against each other.
+    """
+    drawn, lines, wanted, wrong = Drawn(), [], [], []
+    drawn.apply(data["base"])
+    for step in data["steps"]:
+        drawn.apply(step["o"])
+        lines.append(step["c"])
+        wanted.append((step, step["c"], None))
+        for line, answer in drawn.answers():
+            lines.append(line)
+            wanted.append((step, line, answer))
+        wrong += [
+            f"line {step['n']}, stat: {key}: drawn are {it[0]}, it says {it[1]}"
+            for key, it in numbers_wrong(drawn).items()
+        ]
+    trace = "".join(f"{it}\n" for it in lines).encode()
+    given = replies_of(run(program, ["run", *words], trace)[1])
+    if len(given) != len(wanted):
+        wrong.append(f"{len(given)} replies to {len(wanted)} lines")
+    for (step, line, answer), reply in zip(wanted, given):
+        if answer is not None and reply != f"{answer}\n":
+            wrong.append(f"line {step['n']}, {step['c']}: {line}: drawn {answer!r}, is {reply!r}")
+    return wrong, len(wanted)
+
+
+def random_lines(pick, live):
+    """A few lines to choose from, for processes that live, as far as one knows."""
+    p = pick.choice(sorted(live)) if pick.random() < 0.95 else pick.randint(1, 5)
+    n, k = pick.randint(1, 3), pick.randint(1, 4)
+    at, length = 0x20000 + 4096 * pick.randint(0, 12), 4096 * n
+    yield from [f"write {p} {at + 4095:x} 0304", f"read {p} {at + 4090:x} 8"] * 6
+    yield from [f"fork {p} {pick.randint(1, 5)}"] * 3
+    yield from [
+        f"mmap {p} {4 * length} rw- fixed {at:x}",
+        f"mmap {p} {length} {pick.choice(['rw-', 'rw-', 'r--'])} at {at:x}",
+        f"mmap {p} {length} rw-",
+        f"munmap {p} {at:x} {length}",
+        f"mprotect {p} {at:x} {length} {pick.choice(['rw-', 'rw-', 'r--'])}",
+        f"mprotect {p} {at:x} {4 * length} {pick.choice(['rw-', 'rw-', 'r--'])}",
+        f"mremap {p} {at:x} {length} {4096 * k} maymove",
+        f"mremap {p} {at:x} {length} {4096 * k}",
+        f"mremap {p} {at:x} {length} {4096 * k} fixed {at + 0x5000:x}",
+        f"mremap {p} {at:x} {length} {length} dontunmap",
+        f"mremap {p} {at:x} {length} {length} dontunmap {at - 0x4000:x}",
+        f"rmap {p} {at:x}",
+    ]
+    if len(live) > 2 or pick.random() < 0.1:
+        yield f"exit {p}"
+
+
+def random_trace(seed, lines, swap=False):
+    """A trace of commands, most of them good, of processes that share pages."""
+    pick, live = random.Random(seed), {1}
+    begin = ["swapon 0"] * swap + ["spawn 1", "mmap 1 53248 rw- fixed 20000"]
+    yield from begin
+    for _ in range(lines - len(begin)):
+        line = pick.choice(list(random_lines(pick, live)))
+        if swap and pick.random() < 0.4:
+            n = pick.randint(1, 4)
+            line = pick.choice([f"reclaim {n}", f"reclaim {n}", f"age {n}", f"complete {n}"])
+            if pick.random() < 0.05:
+                line = pick.choice(["swapoff 0", "swapon 0"])
+        yield line
+        name, *words = line.split(" ")
+        if name == "fork" and int(words[0]) in live:
+            live.add(int(words[1]))
+        if name == "exit" and len(live) > 1:
+            live.discard(int(words[0]))
+
+
+def swap_file(file, pages):
+    """A swap file of so many pages."""
+    first = bytearray(4096)
+    first[1024:1032] = (1).to_bytes(4, "little") + (pages - 1).to_bytes(4, "little")
+    first[4086:] = b"SWAPSPACE2"
+    with open(file, "wb") as it:
+        it.write(first)
+        it.truncate(pages * 4096)
+
+
+def has_swap(program):
+    return run(program, ["run", "1"], b"reclaim 1\n")[0] == 0
+
+
+def page_of(program, words, trace):
+    """The page that view/run makes of a trace, or what it says instead."""
+    with open("random.trace", "w", encoding="ascii") as it:
+        it.writelines(f"{line}\n" for line in trace)
+    ran = subprocess.run(
+        [f"{ROOT}/view/run", "--program", program, "-o", "-", words[0], "random.trace", *words[1:]],
+        stdout=subprocess.PIPE,
+        stderr=subprocess.PIPE,
+        timeout=300,
+    )
+    return ran.stdout.decode() or ran.stderr.decode()
+
+
+def compare_random(program, seed, lines, generator=None):
+    """What is wrong in the page of one random trace, and how many answers were compared."""
+    pick = random.Random(seed)
+    words, swap = [str(pick.choice([2, 3, 4, 8, 16, 64]))], has_swap(program) and seed % 3 > 0
+    if generator:
+        made = subprocess.run(
+            [*generator, str(seed), str(lines)], stdout=subprocess.PIPE, check=True
+        ).stdout.decode()
+        trace, words = made.splitlines(), [re.search(r"frames=(\d+)", made)[1]]
+    else:
+        trace = list(random_trace(seed, lines, swap))
+    if swap:
+        swap_file("random.img", pick.choice([4, 8, 20]))
+        words.append("random.img")
+    page = page_of(program, words, trace)
+    if not page.startswith("<!DOCTYPE html>"):
+        return [page], 0
+    data = data_in(page)
+    wrong, count = compare(program, words, data)
+    # (a generator may know commands that this program doesn't: the page says where it ends)
+    commands = [it for it in trace if it and not it.startswith("#")]
+    if len(data["steps"]) < len(commands) and not data["said"]:
+        wrong.append("the page ends early and doesn't say so")
+    wrong += [
+        f"line {step['n']}, {op}: something isn't known"
+        for step in data["steps"]
+        for op in step["o"]
+        if op == ["o", 0] or op[0] == "u" or op[0] == "k" and op[2] == "?"
+    ]
+    return wrong + [data["said"]] * ("fault" in data["said"]), count
+
+
+def main():
+    program, count, *generator = sys.argv[1:]
+    program, total, bad = os.path.abspath(program), 0, 0
+    with tempfile.TemporaryDirectory() as room:
+        os.chdir(room)
+        for seed in range(int(count)):
+            wrong, compared = compare_random(program, seed, 250, generator)
+            total, bad = total + compared, bad + bool(wrong)
+            if wrong:
+                print(f"seed {seed}: {len(wrong)} wrong: {wrong[0]}")
+        os.chdir(ROOT)
+    print(f"{count} traces, {total} answers, {bad} traces with something wrong")
+    sys.exit(bool(bad))
+
+
+if __name__ == "__main__":
+    main()

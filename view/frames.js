@@ -1,0 +1,130 @@
+// Draws frames with who maps them, the lists, and slots.
+
+const place = key => `${processOf(key)} ${hex(pageOf(key))}`;
+const inUse = frame => state.owners.has(frame) || state.slots.has(frame);
+const usedFrames = () => new Set([...state.owners.keys(), ...state.slots.keys()]);
+const freeFrames = () => Number(Object.fromEntries(statNumbers()).free ?? data.frames);
+// (where entries aren't known, a frame that none is known to name may be in use)
+const areKnown = () => data.frames - usedFrames().size === freeFrames();
+
+function cardOf(frame) {
+  const {added, lost} = change.frames.get(frame) || {added: new Set(), lost: new Set()};
+  const owners = [...(state.owners.get(frame) || [])].sort((a, b) => a - b);
+  const slot = state.slots.get(frame);
+  const card = make("span", "card");
+  card.append(make("b", "", `frame ${frame}${owners.length > 1 ? ` maps ${owners.length}` : ""}`));
+  const more = owners.length - MOST_OWNERS;
+  for (const key of owners.slice(0, MOST_OWNERS)) card.append(make("div", "", place(key)));
+  if (more > 0) card.append(make("div", "soft", `and ${more} more`));
+  if (slot) card.append(make("div", "", `cached at ${slot}`));
+  if (inUse(frame)) card.style.background = colour(frame);
+  else card.append(make("div", "soft", areKnown() ? "\u2013" : "?"));
+  if (!inUse(frame)) card.classList.add("none");
+  const gone = [...lost].filter(key => !state.owners.get(frame)?.has(key)).sort((a, b) => a - b);
+  for (const key of gone.slice(0, MOST_OWNERS)) {
+    card.append(make("div", "gone", `was ${place(key)}`));
+  }
+  if (gone.length || [...added].some(key => !lost.has(key))) card.classList.add("new");
+  if (frame === lit.frame) card.classList.add("lit");
+  card.dataset.frame = frame;
+  return card;
+}
+
+// (those that a step doesn't touch stay as they were drawn)
+const frameCells = new Map();
+
+function frameCell(frame) {
+  const isMarked = change.frames.has(frame) || frame === lit.frame;
+  const kept = frameCells.get(frame);
+  if (kept && !kept.isMarked && !isMarked) return kept.cell;
+  frameCells.set(frame, {cell: newFrameCell(frame), isMarked});
+  return frameCells.get(frame).cell;
+}
+
+function newFrameCell(frame) {
+  const cell = make("span", inUse(frame) ? "cell" : "cell none", frame);
+  const owners = state.owners.get(frame)?.size || 0;
+  if (inUse(frame)) cell.style.background = colour(frame);
+  if (change.frames.has(frame)) cell.classList.add("new");
+  if (frame === lit.frame) cell.classList.add("lit");
+  cell.dataset.frame = frame;
+  cell.title = `frame ${frame} maps ${owners}`;
+  return cell;
+}
+
+// Few frames are cards, with who maps them. Of many, those that changed are cards, and others in
+// use are small.
+function showFrames() {
+  const changed = [...change.frames.keys()].sort((a, b) => a - b);
+  if (data.frames <= MOST_CARDS) {
+    at("cards").replaceChildren(...Array.from({length: data.frames}, (_, i) => cardOf(i)));
+    return;
+  }
+  const cards = new Set(changed.slice(0, 8));
+  if (lit.frame >= 0) cards.add(lit.frame);
+  const used = usedFrames();
+  const numbers = [...used].sort((a, b) => a - b);
+  const shown = new Set([...changed.slice(0, MOST_CHANGED), ...numbers.slice(0, MOST_CELLS)]);
+  const cells = [...shown].sort((a, b) => a - b).map(frameCell);
+  const more = numbers.filter(it => !shown.has(it)).length;
+  const hidden = data.frames - used.size - freeFrames();
+  const free = `${many(freeFrames(), "frame")} free${hidden ? `, ${hidden} not known` : ""}`;
+  at("cards").replaceChildren(...[...cards].map(cardOf));
+  setChildren(at("frames"), cells);
+  setText(at("free"), `${more ? `and ${more} more in use; ` : ""}${free}`, "soft");
+}
+
+function statNumbers() {
+  return state.stat.split(" ").filter(it => it).map(it => it.split("="));
+}
+
+function showStat() {
+  const isSwap = hasSwap();
+  const later = new Set(["active", "inactive", "flight", "slots", "freeslots"]);
+  const shown = statNumbers().filter(([name]) => isSwap || !later.has(name));
+  at("stat").replaceChildren(...shown.map(([name, value]) => {
+    const pair = make("div");
+    pair.append(make("dt", "", name), make("dd", "", value));
+    return pair;
+  }));
+}
+
+function hasSwap() {
+  const stat = Object.fromEntries(statNumbers());
+  return ["active", "flight", "slots"].some(it => Number(stat[it])) || state.counts.size > 0;
+}
+
+function listOf(title, cells, said) {
+  const box = make("div", "cells");
+  const more = cells.length - MOST_CELLS;
+  box.append(...cells.slice(0, MOST_CELLS));
+  if (more > 0) box.append(make("span", "soft", `and ${more} more`));
+  if (!cells.length) box.append(make("span", "soft", said));
+  return [make("h3", "", title), box];
+}
+
+function slotCell(slot, text) {
+  const marks = `${change.slots.has(slot) ? " new" : ""}${text === "?" ? " dim" : ""}`;
+  return make("span", `cell slot${marks}`, `${slot} ${text}`.trim());
+}
+
+function showSwap() {
+  at("swap").hidden = !hasSwap();
+  if (at("swap").hidden) return;
+  const used = [...usedFrames()].sort((a, b) => a - b);
+  const [area, page] = [it => Number(it.split(":")[0]), it => Number(it.split(":")[1])];
+  const slots = [...state.counts].sort(([a], [b]) => area(a) - area(b) || page(a) - page(b));
+  // (those that changed come first where there are too many)
+  const changedFirst = ([a], [b]) => change.slots.has(b) - change.slots.has(a);
+  if (slots.length > MOST_CELLS) slots.sort(changedFirst);
+  const known = state.listsKnown;
+  const frames = isActive => used.filter(it => state.active.has(it) === isActive).map(newFrameCell);
+  const count = known ? it => `${it.length}` : () => "which isn't known";
+  const flight = [...state.flight].map(it => slotCell(it, ""));
+  const lists = [frames(true), frames(false), flight].map(it => (known ? it : []));
+  at("lists").replaceChildren(
+    ...listOf(`active: ${count(lists[0])}`, lists[0], known ? "none" : "?"),
+    ...listOf(`inactive: ${count(lists[1])}`, lists[1], known ? "none" : "?"),
+    ...listOf("being written", lists[2], known ? "none" : "?"),
+    ...listOf("slots", slots.map(([slot, text]) => slotCell(slot, text)), "none was named"));
+}

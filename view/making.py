@@ -1,0 +1,346 @@
+"""Runs avsim on a trace with reports between its lines, and makes the page's data of it."""
+import collections
+import os
+import queue
+import re
+import subprocess
+import sys
+import threading
+import time
+
+from told import BY_RANGE, Told, page_of
+
+# steps that one page has at most, and bytes
+MOST_STEPS, MOST_BYTES = 50_000, 90_000_000
+# rows of a reply that a page shows at most
+MOST_ROWS = 64
+# reports that are asked behind one command at most
+MOST_ASKED = 4096
+
+
+class Refused(Exception):
+    """What the user is told in place of a page."""
+
+
+class Progress:
+    """Says on standard error how far it is: on a terminal in one line that changes, elsewhere a
+    line now and then, from two seconds on.
+    """
+
+    def __init__(self):
+        self.is_terminal = sys.stderr.isatty()
+        self.next, self.shown = time.monotonic() + (0.2 if self.is_terminal else 2), False
+
+    def say(self, text: str) -> None:
+        now = time.monotonic()
+        if now < self.next:
+            return
+        self.next, self.shown = now + (0.2 if self.is_terminal else 2), True
+        print(*self.dressed(f"view: {text}"), end="", file=sys.stderr, flush=True)
+
+    def dressed(self, text: str) -> list[str]:
+        return [f"\r{text:<60}"] if self.is_terminal else [f"{text}\n"]
+
+    def end(self) -> None:
+        if self.shown and self.is_terminal:
+            print(f"\r{'':<60}\r", end="", file=sys.stderr, flush=True)
+
+
+Command = collections.namedtuple("Command", "number comment line")
+
+
+def commands_of(text: str) -> list[Command]:
+    """The commands of a trace, each with the number of its line and the comments above it."""
+    comment, found = [], []
+    for number, line in enumerate(text.split("\n"), 1):
+        if line.startswith("#"):
+            comment.append(line[1:].strip())
+        elif line:
+            found.append(Command(number, "\n".join(comment).strip("\n"), line))
+            comment = []
+        else:
+            comment.append("")
+    return found
+
+
+def replies_of(transcript: str) -> list[list[str]]:
+    """The replies, each a list of lines. A line that begins with a space belongs to the reply
+    above it.
+    """
+    whole = re.split(r"\n(?! )", transcript.removesuffix("\n")) if transcript else []
+    return [[it.removeprefix(" ") for it in reply.split("\n")] for reply in whole]
+
+
+def cannot_run(program: str, error: OSError) -> Refused:
+    return Refused(
+        f"{os.path.relpath(program)} can't be run ({error.strerror}): "
+        "./avsim build makes the program"
+    )
+
+
+def run_plainly(program: str, words: list[str], lines: list[str]) -> tuple[str, int, str]:
+    """The transcript of a trace, with the status and what standard error said."""
+    text = "".join(f"{it}\n" for it in lines)
+    try:
+        ran = subprocess.run(
+            [program, "run", *words],
+            input=text.encode(errors="surrogateescape"),
+            stdout=subprocess.PIPE,
+            stderr=subprocess.PIPE,
+            check=False,
+        )
+    except OSError as error:
+        raise cannot_run(program, error) from None
+    said = ran.stderr.decode(errors="replace").strip()
+    return ran.stdout.decode(errors="replace"), ran.returncode, said
+
+
+class Run:
+    """A trace as avsim answers it. `said` is why it ended early, if it did."""
+
+    def __init__(self, program: str, words: list[str], commands: list[Command]):
+        self.program, self.words, self.commands = program, words, commands
+        transcript, status, said = run_plainly(program, words, [it.line for it in commands])
+        self.replies, self.said = replies_of(transcript), said
+        if status == 2 or not self.replies and commands and status not in (0, 3):
+            raise Refused(f"avsim ended with status {status}: {said or 'it says nothing'}")
+        # (the program counts the lines that it was given, and here those without a command are
+        # left out)
+        if status == 3:
+            at = commands[len(self.replies)]
+            self.said = (
+                f"line {at.number} of the trace is no command, so the run ends before it: "
+                f"{ascii(at.line[:80])} (docs/REFERENCE.md says why)"
+            )
+        elif status:
+            self.said = said or f"avsim ended with status {status}"
+
+    def __len__(self):
+        return len(self.replies)
+
+
+def pages_named(words: list[str]) -> range:
+    """The pages of a read, write, entry or rmap."""
+    count = 1
+    if words[0] == "read":
+        count = int(words[3])
+    elif words[0] == "write":
+        count = len(words[3]) // 2
+    first = int(words[2], 16)
+    return range(page_of(first), page_of(min(first + count, 2**64) - 1) + 1)
+
+
+def asks_areas(words: list[str], reply: list[str]) -> list[int]:
+    """The processes whose areas a command may have changed."""
+    is_done = not reply[0].startswith("err ")
+    if words[0] in BY_RANGE and (is_done or words[0] == "mprotect"):
+        return [int(words[1])]
+    if words[0] in ("read", "write") and any(it.startswith("new ") for it in reply[1:]):
+        return [int(words[1])]
+    if words[0] == "fork" and is_done:
+        return [int(words[2])]
+    return []
+
+
+def reports(told: Told, words: list[str], reply: list[str]) -> list[str]:
+    """The reports to put behind a command, in order. `told` is what was told up to it; afterwards
+    the command is told, too.
+    """
+    told.tell(words, reply)
+    asked = [f"areas {it}" for it in asks_areas(words, reply)]
+    if words[0] in ("read", "write", "entry", "rmap"):
+        asked += [f"entry {words[1]} {it << 12:x}" for it in pages_named(words)]
+    if told.lost:
+        asked += [f"areas {it}" for it in told.tables]
+        asked += [f"entry {process} {page << 12:x}" for process, page in told.forgotten]
+    asked += [f"slot {it.replace(':', ' ')}" for it in sorted(told.touched)]
+    return [*asked[:MOST_ASKED], "stat"]
+
+
+class Asking(threading.Thread):
+    """Puts reports between the lines, and hands on what is answered, step by step.
+
+    The reports depend on replies, so the trace was run once to see them. This thread writes the
+    lines to a second run; whoever iterates reads its answers.
+    """
+
+    def __init__(self, run: Run):
+        super().__init__(daemon=True)
+        self.run_, self.asked, self.error = run, queue.Queue(maxsize=4096), None
+        try:
+            self.avsim = subprocess.Popen(
+                [run.program, "run", *run.words],
+                stdin=subprocess.PIPE,
+                stdout=subprocess.PIPE,
+                stderr=subprocess.DEVNULL,
+            )
+        except OSError as error:
+            raise cannot_run(run.program, error) from None
+
+    def run(self):
+        told = Told()
+        try:
+            for command, reply in zip(self.run_.commands, self.run_.replies):
+                asked = reports(told, command.line.split(" "), reply)
+                told.ops.clear()
+                self.asked.put(asked)
+                text = "\n".join([command.line, *asked, ""])
+                self.avsim.stdin.write(text.encode(errors="surrogateescape"))
+        except Exception as error:  # pylint: disable=broad-exception-caught
+            # (the reader sees that answers are missing)
+            self.error = error
+        finally:
+            self.close_input()
+            self.asked.put(None)
+
+    def close_input(self):
+        try:
+            self.avsim.stdin.close()
+        except OSError:
+            # (what couldn't be written is lost with the program that didn't read it)
+            pass
+
+    def replies(self):
+        """The replies of the second run, one after the other."""
+        rest = ""
+        while block := self.avsim.stdout.read1(1 << 18):
+            # (a reply is whole when the next one's first byte is there)
+            parts = re.split(r"\n(?! )", rest + block.decode(errors="replace"))
+            *whole, rest = parts
+            if not rest and whole:
+                rest = whole.pop() + "\n"
+            for it in whole:
+                yield it
+        if rest:
+            yield rest.removesuffix("\n")
+
+    def steps(self):
+        """Each command with its reply, and the reports behind it with what they answer."""
+        self.start()
+        given = self.replies()
+        try:
+            for command, reply in zip(self.run_.commands, self.run_.replies):
+                asked = self.asked.get()
+                answer = next(given, "")
+                if self.error and not isinstance(self.error, OSError):
+                    raise self.error
+                if asked is None or answer.replace("\n ", "\n") != "\n".join(reply):
+                    raise Refused(
+                        f"line {command.number} is answered otherwise with reports before it: "
+                        "that is a fault of avsim, please tell"
+                    )
+                yield command, reply, [(it, next(given, "err")) for it in asked]
+        finally:
+            self.avsim.kill()
+            self.avsim.wait()
+
+
+def take(told: Told, ask: str, answer: str) -> bool:
+    """Takes in what a report answers; False where something else was told."""
+    kind, *of = ask.split(" ")
+    is_there = not answer.startswith("err")
+    if kind == "areas":
+        if is_there:
+            told.answer_areas(int(of[0]), answer.split("\n ")[1:])
+    elif kind == "entry":
+        return told.answer_entry(int(of[0]), page_of(int(of[1], 16)), answer)
+    elif kind == "slot":
+        told.answer_slot(":".join(of), answer.split(" ", 2)[2] if is_there else "")
+    elif is_there:
+        told.answer_stat(answer[5:])
+    return True
+
+
+def step_of(command: Command, reply: list[str], ops: list[list]) -> dict:
+    """A step as it stands in the page."""
+    step = {"n": command.number, "c": command.line, "r": reply[:MOST_ROWS], "o": ops}
+    if len(reply) > MOST_ROWS:
+        step["more"] = len(reply) - MOST_ROWS
+    if command.comment:
+        step["t"] = command.comment
+    return step
+
+
+def follow(run: Run, progress: Progress):
+    """Each command with its reply, and what is known behind it. (The operations of `told` are
+    those of this step, until the next one.)
+    """
+    told = Told()
+    for at, (command, reply, answers) in enumerate(Asking(run).steps(), 1):
+        words = command.line.split(" ")
+        told.ops = []
+        told.tell(words, reply)
+        slots = set(told.touched)
+        same = all([take(told, ask, answer) for ask, answer in answers])
+        slots -= {":".join(ask.split(" ")[1:]) for ask, _ in answers if ask.startswith("slot ")}
+        for slot in sorted(slots):
+            told.answer_slot(slot, "?")
+        if words[0] == "swapoff" and reply[0] == "ok":
+            for slot in [it for it in told.counts if it.startswith(f"{words[1]}:")]:
+                told.answer_slot(slot, "")
+        progress.say(f"{at} of {len(run)} commands")
+        yield command, reply, told, same
+
+
+def lost_at(run: Run) -> list[int]:
+    """The steps of which not all that they did is told, from 0. (For a terminal, where nothing
+    is asked.)
+    """
+    told, found = Told(), []
+    for at, (command, reply) in enumerate(zip(run.commands, run.replies)):
+        told.tell(command.line.split(" "), reply)
+        told.ops.clear()
+        if told.lost:
+            found.append(at)
+    return found
+
+
+def window_of(wanted: tuple[int, int] | None, count: int) -> tuple[int, int]:
+    """The steps that a page shows, from 1: those that are wanted, else the last ones."""
+    first, last = wanted or (max(1, count - MOST_STEPS + 1), count)
+    if first > max(count, 1):
+        raise Refused(f"--steps begins at command {first}, and the run has {count}")
+    last = min(last, count)
+    if last - first + 1 > MOST_STEPS:
+        raise Refused(f"--steps names more than {MOST_STEPS} commands")
+    return first, last
+
+
+def data_of(title: str, frames: int, run: Run, wanted: tuple[int, int] | None) -> dict:
+    """What the page shows, as it stands in it."""
+    progress, steps, base, said, size = Progress(), [], [], [run.said], 0
+    first, last = window_of(wanted, len(run))
+    wrong = lost = 0
+    for at, (command, reply, told, same) in enumerate(follow(run, progress), 1):
+        wrong, lost = wrong or (not same and command.number), lost or told.lost and command.number
+        if at == first - 1:
+            base = told.all_ops()
+        if at < first:
+            continue
+        steps.append(step_of(command, reply, told.ops))
+        size += 200 + sum(map(len, reply[:MOST_ROWS])) + sum(len(str(it)) for it in told.ops)
+        if at == last or size > MOST_BYTES:
+            break
+    progress.end()
+    last = first + len(steps) - 1
+    if len(steps) < len(run):
+        said.append(
+            f"the page has commands {first} to {last} of {len(run)}: "
+            "--steps FROM-TO names others"
+        )
+    if wrong:
+        said.append(
+            f"from line {wrong} on the notes and `entry` tell entries apart: "
+            "that is a fault, please tell"
+        )
+    if lost:
+        said.append(f"from line {lost} on not all entries are known: they are drawn as ?")
+    return {
+        "title": title,
+        "frames": frames,
+        "first": first,
+        "total": len(run),
+        "said": "; ".join(it for it in said if it),
+        "base": base,
+        "steps": steps,
+    }

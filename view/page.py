@@ -1,0 +1,26 @@
+"""Makes a page of its data: the template, its style and its scripts in one file."""
+import html
+import json
+import os
+import re
+
+HERE = os.path.dirname(os.path.realpath(__file__))
+SCRIPTS = ("state.js", "spaces.js", "frames.js", "page.js")
+
+
+def file_of(name: str) -> str:
+    with open(f"{HERE}/{name}", encoding="utf-8") as it:
+        return it.read().rstrip("\n")
+
+
+def page_of(data: dict) -> str:
+    """The page. (Within a script no text may look like the script's end.)"""
+    text = json.dumps(data, separators=(",", ":"), ensure_ascii=True).replace("<", "\\u003c")
+    pieces = {
+        "<title></title>": f"<title>avsim: {html.escape(data['title'])}</title>",
+        "/*STYLE*/": file_of("page.css"),
+        "/*SCRIPT*/": "\n\n".join(map(file_of, SCRIPTS)),
+        "/*DATA*/": text,
+    }
+    places = "|".join(map(re.escape, pieces))
+    return re.sub(places, lambda it: pieces[it[0]], file_of("page.html")) + "\n"

@@ -1,0 +1,386 @@
+"""What the lines of a trace, with their replies and notes, tell of memory.
+
+`Told` is no second model of memory. It takes what the program's own words say: a note names an
+entry and what it becomes. Three things are told by a command as a whole, and are copies that no
+note repeats: a fork gives the child its parent's entries, unseen; an `mremap` takes the entries
+along to the new range; what is unmapped or mapped anew has no entry. Whatever else a line may do
+is not known, and is said to be so.
+
+An entry is kept as a code: `z` the page of zeros, `F7` frame 7 and seen, `f7` frame 7 and old,
+`s0:3` slot 0:3, `-` none, `?` not known. A page without a code has no entry, but of a process in
+`dim`, where it isn't known.
+
+Each change is also an operation, a list that a page applies (view/state.js):
+
+    p P             process P lives, without memory
+    x P             it ended
+    f P Q           Q lives, with the entries of P, unseen
+    e P N C         the entry of page number N of P is C
+    d P N K         of K pages from N on no entry is known
+    m P N T K       K pages from N on take their entries to T
+    u P             of P's entries nothing is known
+    a P [N] [ROW]   areas that begin at pages N are gone, and these rows of `areas` are there
+    c S F           slot S is cached in frame F (-1: in none)
+    k S TEXT        what `slot` says of S (none: nothing is drawn)
+    l F IS          frame F is in the active list, or isn't
+    w S IS          slot S is being written, or isn't
+    o IS            in which list each frame is, is known, or isn't
+    s TEXT          what `stat` says
+"""
+
+# commands that change nothing
+REPORTS = {"maps", "areas", "entry", "rmap", "slot", "stat"}
+# commands that notes tell all of, but for a seen bit
+BY_NOTES = {"read", "write", "reclaim", "age", "complete", "swapon", "swapoff"}
+# commands that change which areas there are
+BY_RANGE = {"mmap", "munmap", "mprotect", "mremap"}
+
+
+def page_of(address: int) -> int:
+    return address >> 12
+
+
+def pages_of(length: int) -> int:
+    return (length + 4095) >> 12
+
+
+def code_of(reply: str) -> str:
+    """The code of a reply to `entry`; none where the page isn't mapped."""
+    match reply.split(" "):
+        case ["frame", frame, seen, *_]:
+            return ("F" if seen == "seen" else "f") + frame
+        case ["slot", slot, *_]:
+            return f"s{slot}"
+        case [word]:
+            return {"empty": "-", "zero": "z"}.get(word, "")
+    return ""
+
+
+def frame_of(code: str) -> int:
+    """The frame that an entry names, or -1."""
+    return int(code[1:]) if code[:1] in ("f", "F") else -1
+
+
+class Told:
+    """The entries of each process as far as they are told, with what goes with them."""
+
+    def __init__(self):
+        self.tables: dict[int, dict[int, str]] = {}
+        self.dim: set[int] = set()
+        self.owners: dict[int, set[tuple[int, int]]] = {}
+        self.frame_at: dict[str, int] = {}
+        self.slot_of: dict[int, str] = {}
+        self.active: set[int] = set()
+        self.flight: dict[str, bool] = {}
+        self.counts: dict[str, str] = {}
+        self.rows: dict[int, list[str]] = {}
+        self.numbers, self.lists_known = "", True
+        self.touched: set[str] = set()
+        self.lost, self.forgotten = False, []
+        self.ops: list[list] = []
+
+    # entries
+
+    def link(self, process: int, page: int, code: str) -> None:
+        frame = frame_of(code)
+        if frame >= 0:
+            self.owners.setdefault(frame, set()).add((process, page))
+        elif code[:1] == "s":
+            self.touched.add(code[1:])
+
+    def unlink(self, process: int, page: int, code: str) -> None:
+        frame = frame_of(code)
+        if frame >= 0:
+            owners = self.owners[frame]
+            owners.discard((process, page))
+            if not owners:
+                del self.owners[frame]
+                self.leave(frame)
+            if frame in self.slot_of:
+                self.touched.add(self.slot_of[frame])
+        elif code[:1] == "s":
+            self.touched.add(code[1:])
+
+    def leave(self, frame: int) -> None:
+        """A frame that nothing names any more is in no list."""
+        if frame not in self.owners and frame not in self.slot_of:
+            self.enlist(frame, False)
+
+    def enlist(self, frame: int, is_active: bool) -> None:
+        if is_active != (frame in self.active):
+            (self.active.add if is_active else self.active.discard)(frame)
+            self.ops.append(["l", frame, int(is_active)])
+
+    def put(self, process: int, page: int, code: str) -> None:
+        """The entry of a page is this."""
+        if process not in self.tables:
+            return
+        table = self.tables[process]
+        old = table.get(page, "?" if process in self.dim else "-")
+        if old == code:
+            return
+        if frame_of(old) < 0 or frame_of(old) != frame_of(code):
+            self.link(process, page, code)
+            self.unlink(process, page, old)
+        table[page] = code
+        if code == "-" and process not in self.dim:
+            del table[page]
+        self.ops.append(["e", process, page, code])
+
+    def drop(self, process: int, first: int, count: int) -> None:
+        """No entry of these pages is known (in most processes: there is none)."""
+        table = self.tables.get(process, {})
+        if count < len(table):
+            pages = [it for it in range(first, first + count) if it in table]
+        else:
+            pages = [it for it in table if first <= it < first + count]
+        for page in pages:
+            self.unlink(process, page, table.pop(page))
+        if pages:
+            self.ops.append(["d", process, first, count])
+
+    def move(self, process: int, first: int, to: int, count: int) -> None:
+        table = self.tables.get(process, {})
+        pages = [it for it in table if first <= it < first + count]
+        codes = [table.pop(it) for it in pages]
+        for page, code in zip(pages, codes):
+            self.link(process, page - first + to, code)
+            self.unlink(process, page, code)
+            table[page - first + to] = code
+        if pages:
+            self.ops.append(["m", process, first, to, count])
+
+    # commands
+
+    def spawn(self, process: int) -> None:
+        self.tables[process], self.rows[process] = {}, []
+        self.dim.discard(process)
+        self.ops.append(["p", process])
+
+    def fork(self, process: int, child: int) -> None:
+        if process not in self.tables:
+            self.spawn(child)
+            self.dim.add(child)
+            self.ops.append(["u", child])
+            return
+        self.tables[child] = {
+            page: "f" + code[1:] if code[0] == "F" else code
+            for page, code in self.tables[process].items()
+        }
+        self.rows[child] = []
+        (self.dim.add if process in self.dim else self.dim.discard)(child)
+        for page, code in self.tables[child].items():
+            self.link(child, page, code)
+        self.ops.append(["f", process, child])
+
+    def exit(self, process: int) -> None:
+        if process not in self.tables:
+            return
+        for page, code in self.tables.pop(process).items():
+            self.unlink(process, page, code)
+        del self.rows[process]
+        self.dim.discard(process)
+        self.ops.append(["x", process])
+
+    def mremap(self, words: list[str], place: int) -> None:
+        process, first = int(words[1]), page_of(int(words[2], 16))
+        old, new = pages_of(int(words[3])), pages_of(int(words[4]))
+        if place != first:
+            self.drop(process, place, new)
+            self.move(process, first, place, min(old, new))
+        if new < old:
+            self.drop(process, first + new, old - new)
+
+    def forget(self) -> None:
+        """A line of which it isn't told what it changed: nothing is known of any entry."""
+        self.lost = True
+        for process, table in self.tables.items():
+            for page, code in table.items():
+                self.unlink(process, page, code)
+                self.forgotten.append((process, page))
+                # (it may be asked for again, if that is forgotten too)
+                table[page] = "?"
+            self.dim.add(process)
+            self.ops.append(["u", process])
+
+    # notes
+
+    def cache(self, slot: str, frame: int) -> None:
+        self.uncache(slot)
+        self.frame_at[slot], self.slot_of[frame] = frame, slot
+        self.touched.add(slot)
+        self.ops.append(["c", slot, frame])
+
+    def uncache(self, slot: str) -> None:
+        frame = self.frame_at.pop(slot, -1)
+        self.touched.add(slot)
+        if frame >= 0:
+            del self.slot_of[frame]
+            self.ops.append(["c", slot, -1])
+            self.leave(frame)
+
+    def fly(self, slot: str, is_on: bool) -> None:
+        self.touched.add(slot)
+        if is_on != (slot in self.flight):
+            if is_on:
+                self.flight[slot] = True
+            else:
+                del self.flight[slot]
+            self.ops.append(["w", slot, int(is_on)])
+
+    def clear_seen(self, frame: int) -> None:
+        for process, page in sorted(self.owners.get(frame, ())):
+            self.put(process, page, f"f{frame}")
+
+    def unmap(self, frame: int) -> None:
+        for process, page in sorted(self.owners.get(frame, ())):
+            self.put(process, page, f"s{self.slot_of[frame]}")
+
+    def keep(self, frame: int, cause: str) -> None:
+        if cause == "referenced":
+            self.clear_seen(frame)
+        self.enlist(frame, cause in ("referenced", "noslot"))
+
+    def age(self, frame: int) -> None:
+        self.clear_seen(frame)
+        self.enlist(frame, False)
+
+    def done(self, slot: str) -> None:
+        self.fly(slot, False)
+        if slot in self.frame_at:
+            self.enlist(self.frame_at[slot], False)
+
+    def note(self, words: list[str]) -> bool:
+        """What a note says; False where it can't be read."""
+        try:
+            return self.take_note(words)
+        except ValueError:
+            return False
+
+    def take_note(self, words: list[str]) -> bool:
+        match words:
+            case ["zero", process, at]:
+                self.put(int(process), page_of(int(at, 16)), "z")
+            case ["new" | "copy", process, at, frame]:
+                self.put(int(process), page_of(int(at, 16)), f"F{frame}")
+            case ["map", process, at, frame]:
+                self.put(int(process), page_of(int(at, 16)), f"f{frame}")
+            case ["load", slot, frame] | ["put", frame, slot]:
+                self.cache(slot, int(frame))
+            case ["unmap", frame] if int(frame) in self.slot_of:
+                self.unmap(int(frame))
+            case ["keep", frame, cause]:
+                self.keep(int(frame), cause)
+            case ["age", frame]:
+                self.age(int(frame))
+            case ["start", slot]:
+                self.fly(slot, True)
+            case ["done", slot]:
+                self.done(slot)
+            case ["fail", slot]:
+                self.fly(slot, False)
+            case ["drop", slot]:
+                self.uncache(slot)
+            case _:
+                return False
+        return True
+
+    def tell(self, words: list[str], reply: list[str]) -> None:
+        """A command with its reply. `touched` are then the slots whose count may be another, and
+        `lost` says that not all of what it did is told: then the pages of `forgotten` had entries.
+        """
+        self.touched, self.lost, self.forgotten = set(), False, []
+        name, is_done = words[0], not reply[0].startswith("err ")
+        if name in REPORTS:
+            return
+        if name == "spawn" and is_done:
+            self.spawn(int(words[1]))
+        elif name == "fork" and is_done:
+            self.fork(int(words[1]), int(words[2]))
+        elif name == "exit" and is_done:
+            self.exit(int(words[1]))
+        elif name == "munmap" and is_done:
+            self.drop(int(words[1]), page_of(int(words[2], 16)), pages_of(int(words[3])))
+        elif name == "mmap" and is_done:
+            self.drop(int(words[1]), page_of(int(reply[0][4:], 16)), pages_of(int(words[2])))
+        elif name == "mremap" and is_done:
+            self.mremap(words, page_of(int(reply[0][4:], 16)))
+        elif name not in BY_NOTES | BY_RANGE | {"spawn", "fork", "exit"}:
+            self.forget()
+            return
+        if not all([self.note(it.split()) for it in reply[1:]]):
+            self.forget()
+
+    # answers
+
+    def answer_entry(self, process: int, page: int, reply: str) -> bool:
+        """What `entry` answers of a page; False where something else was told."""
+        code = code_of(reply)
+        if process not in self.tables or not code:
+            return True
+        known = self.tables[process].get(page, "?" if process in self.dim else "-")
+        self.put(process, page, code)
+        return known[:1].lower() + known[1:] == code[:1].lower() + code[1:] or known == "?"
+
+    def answer_areas(self, process: int, rows: list[str]) -> None:
+        """What `areas` answers: the operation has the rows that are gone or new."""
+        old = self.rows.get(process, [])
+        if process not in self.tables or rows == old:
+            return
+        gone, new = set(old).difference(rows), set(rows).difference(old)
+        starts = [page_of(int(it[: it.index("-")], 16)) for it in sorted(gone)]
+        self.rows[process] = rows
+        self.ops.append(["a", process, starts, sorted(new)])
+
+    def answer_slot(self, slot: str, text: str) -> None:
+        """What `slot` answers; an empty text where the area is off, `?` where nobody asked."""
+        if self.counts.get(slot, "") != text:
+            self.counts[slot] = text
+            if not text:
+                del self.counts[slot]
+            self.ops.append(["k", slot, text])
+
+    def answer_stat(self, text: str) -> None:
+        """What `stat` answers. Where its numbers aren't those of the lists that notes told of, it
+        isn't known which frames are in which.
+        """
+        if text != self.numbers:
+            self.numbers = text
+            self.ops.append(["s", text])
+        numbers = dict(it.split("=", 1) for it in text.split(" ") if "=" in it)
+        known = numbers.get("active") == str(len(self.active)) and numbers.get("flight") == str(
+            len(self.flight)
+        )
+        if known != self.lists_known:
+            self.lists_known = known
+            self.ops.append(["o", int(known)])
+
+    # all of it
+
+    def all_ops(self) -> list[list]:
+        """Operations that lead from nothing to what is known now."""
+        ops: list[list] = []
+        for process, table in sorted(self.tables.items()):
+            ops.append(["p", process])
+            ops += [["u", process]] if process in self.dim else []
+            if self.rows.get(process):
+                ops.append(["a", process, [], self.rows[process]])
+            ops += [["e", process, page, code] for page, code in sorted(table.items())]
+        ops += [["c", slot, frame] for slot, frame in sorted(self.frame_at.items())]
+        ops += [["k", slot, text] for slot, text in sorted(self.counts.items())]
+        ops += [["l", frame, 1] for frame in sorted(self.active)]
+        ops += [["w", slot, 1] for slot in self.flight]
+        ops += [] if self.lists_known else [["o", 0]]
+        return ops + ([["s", self.numbers]] if self.numbers else [])
+
+    def entry_text(self, process: int, page: int) -> str:
+        """What `entry` would answer, as far as it is known; `?` where it isn't."""
+        code = self.tables[process].get(page, "?" if process in self.dim else "-")
+        frame = frame_of(code)
+        if frame >= 0:
+            text = f"frame {frame} {'seen' if code[0] == 'F' else 'old'}"
+            return text + (f" cached {self.slot_of[frame]}" if frame in self.slot_of else "")
+        if code[0] == "s":
+            at = self.frame_at.get(code[1:], -1)
+            return f"slot {code[1:]}" + (f" cached {at}" if at >= 0 else "")
+        return {"-": "empty", "z": "zero"}.get(code, "?")
