@@ -12,7 +12,7 @@ use Rattle.av_plain.specs.Stands.{View, Holds, IsKept}
 use Rattle.av_plain.proofs.Ledger.Order.{weight}
 use Rattle.av_plain.proofs.Ledger.{entry-set, same_key-itself, how_many-found, map_count-set}
 use Rattle.av_plain.proofs.Ledger.NoSwap.{itself, free_is, zero_is}
-use Rattle.av_reclaim.proofs.MemLaws.{equal_is}
+use Rattle.av_mem.proofs.MemLaws.{equal_is}
 use Rattle.av_fault.proofs.FaultParts.{Parts, changed, as_pte, parts_now, with_lists}
 
 -- how a free list and the counts agree

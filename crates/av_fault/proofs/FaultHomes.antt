@@ -23,15 +23,15 @@ use Rattle.av_plain.specs.Transcript.{State, rmap_of}
 use Rattle.av_plain.proofs.Covered.{Names, alone-by, covered-owns, sound-prepared, sound-put, unnamed-by}
 use Rattle.av_plain.proofs.Ledger.{entry-set, same_key}
 use Rattle.av_plain.proofs.Ledger.NoSwap.{key_at-page}
-use Rattle.av_reclaim.specs.declared.mem.Mem.{Mem}
-use Rattle.av_reclaim.specs.Mem.{Keeps, KeepsWithin, frame_count, ranges_of, setting_by, view, view_of_parts}
+use Rattle.av_mem.specs.declared.mem.Mem.{Mem}
+use Rattle.av_mem.specs.Mem.{Keeps, KeepsWithin, frame_count, ranges_of, setting_by, view, view_of_parts}
 use Rattle.av_spaces.specs.Spaces.{pages_of}
-use Rattle.av_reclaim.proofs.MemLaws.{prot_on, prots_are}
+use Rattle.av_mem.proofs.MemLaws.{prot_on, prots_are}
 use Rattle.av_fault.specs.Fault.{HasRmap, IsTouched, is_permitted}
 use Rattle.av_fault.specs.declared.fault.Touched.TheVariants.{Ready as ReadyAt}
 use Rattle.av_fault.proofs.FaultEntries.{entry_given, given_to}
 use Rattle.av_fault.proofs.FaultParts.{of_keeps}
-use Rattle.av_reclaim.proofs.MemLaws.{frames_free}
+use Rattle.av_mem.proofs.MemLaws.{frames_free}
 use Rattle.av_fault.proofs.FaultTouched.{IsServed, entry_put, to_touched, used_is}
 
 itself : (n : ℕ) → (n == n) ≡ true

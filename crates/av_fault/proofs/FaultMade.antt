@@ -17,15 +17,15 @@ use Rattle.av_vma.specs.Pages.{pages_in}
 use Rattle.av_plain.specs.Transcript.{State}
 use Rattle.av_plain.proofs.Ledger.Order.{weight}
 use Rattle.av_plain.proofs.Ledger.NoSwap.{itself, key_at-page, free_is, zero_is}
-use Rattle.av_reclaim.specs.declared.mem.Mem.{Mem}
+use Rattle.av_mem.specs.declared.mem.Mem.{Mem}
 use Rattle.av_fault.specs.declared.fault.Stop.TheVariants.{Oom}
 use Rattle.av_fault.specs.declared.fault.Touched.TheVariants.{Ready as ReadyAt, Stopped}
 use Rattle.av_spaces.specs.Kin.{AnonsFit}
-use Rattle.av_reclaim.specs.Mem.{setting_by, frame_count, view, HasLists, Keeps}
+use Rattle.av_mem.specs.Mem.{setting_by, frame_count, view, HasLists, Keeps}
 use Rattle.av_fault.specs.Fault.{is_permitted, frame_named, one_more, one_less, IsTouched, IsTaken}
 use Rattle.av_fault.proofs.FaultParts.{of_keeps, no_swap}
 use Rattle.av_fault.proofs.FaultEntries.{given_to}
-use Rattle.av_reclaim.proofs.MemLaws.{equal_is, frames_free}
+use Rattle.av_mem.proofs.MemLaws.{equal_is, frames_free}
 use Rattle.av_fault.proofs.FaultServes.{is_bare, bare_entry, bare_frame, bare_slot, need_fresh, need_split, serves, out_is}
 use Rattle.av_fault.proofs.FaultTouched.{IsServed, given_now, starved}
 use Rattle.av_fault.proofs.FaultSafe.{named_frame}

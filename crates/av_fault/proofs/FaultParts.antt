@@ -18,10 +18,10 @@ use Rattle.av_plain.specs.Transcript.{State}
 use Rattle.av_plain.proofs.Ledger.Order.{keys_total, weight, count-put}
 use Rattle.av_plain.proofs.Ledger.{same_key, same_key-is, entry-set, map_count-set, is_sorted-set}
 use Rattle.av_plain.proofs.Ledger.NoSwap.{itself, key_is, no_slot, free_is, shared_is}
-use Rattle.av_reclaim.specs.declared.mem.Mem.{Mem}
-use Rattle.av_reclaim.proofs.MemLaws.{no_cache, no_frame_at, slot_kept, nothing_clean}
+use Rattle.av_mem.specs.declared.mem.Mem.{Mem}
+use Rattle.av_mem.proofs.MemLaws.{no_cache, no_frame_at, slot_kept, nothing_clean}
 use Rattle.av_spaces.specs.Kin.{AnonsFit}
-use Rattle.av_reclaim.specs.Mem.{setting_by, view, Keeps, KeepsWithin, HasLists, HasTables}
+use Rattle.av_mem.specs.Mem.{setting_by, view, Keeps, KeepsWithin, HasLists, HasTables}
 
 pub record Parts (d : Device) (m : Setting) (v : View) (w : World) (l : Ledger) : Type 0 where
   pub in_order : T (is_sorted key_cmp l.entries)

@@ -25,8 +25,8 @@ use Rattle.av_plain.specs.Areas.{AnonVma, Anons, Areas, Rmap, chain_length, chai
 use Rattle.av_plain.specs.Transcript.{State, rmap_of}
 use Rattle.av_pagetable.specs.Entries.{has}
 use Rattle.av_fault.specs.Fault.{HasRmap}
-use Rattle.av_reclaim.specs.declared.mem.Mem.{Mem}
-use Rattle.av_reclaim.specs.Mem.{Keeps, anon_vma, anons_of, view}
+use Rattle.av_mem.specs.declared.mem.Mem.{Mem}
+use Rattle.av_mem.specs.Mem.{Keeps, anon_vma, anons_of, view}
 use Rattle.av_base.specs.declared.slot.Slot.{Slot}
 use Rattle.av_vma.specs.Pages.{AreLaid, has_page}
 use Rattle.av_spaces.specs.Kin.{AnonsFit}
@@ -34,9 +34,9 @@ use Rattle.av_spaces.proofs.Rising.{laid}
 use Rattle.av_plain.specs.World.{Page, World, pages}
 use Rattle.av_plain.specs.Ledger.{Ledger, Entry, Zero, InFrame, InSlot, entry, frame_at}
 use Rattle.av_plain.specs.Stands.{IsClean, IsKept, IsKeptAt, LedgerStands, prot_of}
-use Rattle.av_reclaim.specs.Mem.{KeepsWithin, ranges_of, setting_by}
-use Rattle.av_reclaim.proofs.MemLaws.{alive_is, all_apart, prot_on, prots_are}
-use Rattle.av_reclaim.proofs.AnonLaws.{area_chain, lengths_alike, shown_chain}
+use Rattle.av_mem.specs.Mem.{KeepsWithin, ranges_of, setting_by}
+use Rattle.av_mem.proofs.MemLaws.{alive_is, all_apart, prot_on, prots_are}
+use Rattle.av_mem.proofs.AnonLaws.{area_chain, lengths_alike, shown_chain}
 
 -- ---- by lengths that are alike
 

@@ -22,13 +22,13 @@ use Rattle.std.specs.List.{find}
 use Rattle.av_vma.specs.Join.{first_of, index_of, past_of}
 use Rattle.av_vma.specs.Pages.{IsWhole, has_page, pages_in}
 use Rattle.av_spaces.specs.Spaces.{Spaces, areas_of, pages_of}
-use Rattle.av_reclaim.specs.declared.mem.Mem.{Mem}
+use Rattle.av_mem.specs.declared.mem.Mem.{Mem}
 use Rattle.av_fault.specs.declared.fault.Touched.TheVariants.{Ready}
 use Rattle.av_spaces.specs.Kin.{AnonsFit}
-use Rattle.av_reclaim.specs.Mem.{ranges_of, setting_by, frame_count, plain, view, HasLists, Keeps, IsSteady}
+use Rattle.av_mem.specs.Mem.{ranges_of, setting_by, frame_count, plain, view, HasLists, Keeps, IsSteady}
 use Rattle.av_fault.specs.Fault.{is_permitted, frame_named, IsTouched}
 use Rattle.av_fault.proofs.FaultParts.{of_keeps, as_pte}
-use Rattle.av_reclaim.proofs.MemLaws.{prot_on, prots_are, entry_put_in}
+use Rattle.av_mem.proofs.MemLaws.{prot_on, prots_are, entry_put_in}
 use Rattle.av_fault.proofs.FaultTouched.{IsServed, again, marked, read_marked}
 use Rattle.av_fault.proofs.FaultServes.{named_entry, not_away}
 

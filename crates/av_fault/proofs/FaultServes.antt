@@ -21,7 +21,7 @@ use Rattle.av_plain.proofs.Ledger.Order.{weight}
 use Rattle.av_plain.proofs.Ledger.{how_many-found}
 use Rattle.av_plain.proofs.Event.{how_many-same, how_many-none}
 use Rattle.av_plain.proofs.Ledger.NoSwap.{itself, no_slot, shared_is}
-use Rattle.av_reclaim.specs.Mem.{plain}
+use Rattle.av_mem.specs.Mem.{plain}
 use Rattle.av_fault.specs.Fault.{is_permitted, frame_named}
 use Rattle.av_fault.proofs.FaultParts.{Parts}
 

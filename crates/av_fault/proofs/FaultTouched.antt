@@ -25,17 +25,17 @@ use Rattle.av_plain.specs.Transcript.{State, rmap_of}
 use Rattle.av_plain.proofs.Ledger.Order.{weight}
 use Rattle.av_plain.proofs.Ledger.{same_key-is, same_key-itself, entry-set, map_count-set}
 use Rattle.av_plain.proofs.Ledger.NoSwap.{key_at-page, key_is, no_slot, free_is}
-use Rattle.av_reclaim.specs.declared.mem.Mem.{Mem}
+use Rattle.av_mem.specs.declared.mem.Mem.{Mem}
 use Rattle.av_fault.specs.declared.fault.Stop.TheVariants.{Segv, Oom}
 use Rattle.av_fault.specs.declared.fault.Touched.{Touched}
 use Rattle.av_fault.specs.declared.fault.Touched.TheVariants.{Ready as ReadyAt, Zeros, Stopped}
 use Rattle.av_vma.specs.Pages.{pages_in}
-use Rattle.av_reclaim.proofs.MemLaws.{frames_free, none_used}
+use Rattle.av_mem.proofs.MemLaws.{frames_free, none_used}
 use Rattle.av_plain.specs.Areas.{Anons, Areas, Homes, chain_by, rmap_after_all}
 use Rattle.av_plain.specs.Covered.{IsRmapSound}
 use Rattle.av_plain.proofs.Covered.{sound-set}
 use Rattle.av_spaces.specs.Kin.{AnonsFit}
-use Rattle.av_reclaim.specs.Mem.{setting_by, frame_count, view, Keeps, KeepsWithin, HasLists, HasTables}
+use Rattle.av_mem.specs.Mem.{setting_by, frame_count, view, Keeps, KeepsWithin, HasLists, HasTables}
 use Rattle.av_fault.specs.Fault.{HasRmap, IsReady, end_of, is_permitted, IsTouched, IsTaken}
 use Rattle.av_fault.proofs.FaultParts.{Parts, changed, as_pte, of_keeps, to_stand, no_swap}
 use Rattle.av_fault.proofs.FaultEntries.{at_most_one, zeroed, seen, given, given_to, entry_given, once_named, to_head}

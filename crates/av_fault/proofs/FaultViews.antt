@@ -8,10 +8,10 @@ use Rattle.av_pagetable.specs.Entries.{entry_at, with_entry}
 use Rattle.av_lru.specs.Lists.{Lists, without_frame}
 use Rattle.av_plain.specs.Event.{without}
 use Rattle.av_plain.specs.Stands.{Pte as Plain}
-use Rattle.av_reclaim.specs.declared.mem.Mem.{Mem}
-use Rattle.av_reclaim.specs.Mem.{plain, view_of_parts, view, frame_count}
-use Rattle.av_reclaim.proofs.MemLaws.{plain_set}
-use Rattle.av_reclaim.proofs.ZapFrame.{lists-without}
+use Rattle.av_mem.specs.declared.mem.Mem.{Mem}
+use Rattle.av_mem.specs.Mem.{plain, view_of_parts, view, frame_count}
+use Rattle.av_mem.proofs.MemLaws.{plain_set}
+use Rattle.av_mem.proofs.ZapFrame.{lists-without}
 use Rattle.av_fault.specs.Fault.{IsTaken, taken_for}
 
 -- the first free frame has been taken for a page

@@ -5,15 +5,15 @@ ghost use Rattle.av_base.specs.Limits.{top_page};
 ghost use Rattle.av_pagetable.specs.Entries.{entry_at, has};
 ghost use Rattle.av_pagetable.specs.declared.pte.Pte.TheVariants as Pte;
 ghost use Rattle.av_plain.specs.Stands.{prot_of};
-ghost use Rattle.av_reclaim.specs.Mem.{frame_count, view, ranges_of, IsSteady};
+ghost use Rattle.av_mem.specs.Mem.{frame_count, view, ranges_of, IsSteady};
 ghost use Rattle.av_spaces.specs.Spaces.{pages_of};
 ghost use Rattle.av_plain.specs.World.{allows};
 ghost use Rattle.av_vma.specs.Pages.{IsWhole, home_of};
 ghost use Rattle.av_fault.specs.Fault.{is_permitted, frame_named, one_more, one_less, AreTaken, MakesReady};
 
 use av_base::{PAGE_SIZE, Prot};
+use av_mem::Mem;
 use av_pagetable::Pte;
-use av_reclaim::Mem;
 use av_trace::{Note, Notes, OutOf};
 use av_vma::{Area, home};
 use std::alloc::AllocError;

@@ -27,10 +27,10 @@ use Rattle.av_plain.specs.Stands.{AnonsStand, kin_of}
 use Rattle.av_plain.specs.Transcript.{State, rmap_of}
 use Rattle.av_plain.proofs.Fork.Areas.{before, child-has, not_first, not_later}
 use Rattle.av_plain.proofs.Report.Areas.{rest_apart, some_pages}
-use Rattle.av_reclaim.specs.declared.mem.Mem.{Mem}
-use Rattle.av_reclaim.specs.Mem.{HasLedger, Keeps, anon_vma, view}
-use Rattle.av_reclaim.proofs.AnonLaws.{area_chain, shown_chain}
-use Rattle.av_reclaim.proofs.MemLaws.{all_apart}
+use Rattle.av_mem.specs.declared.mem.Mem.{Mem}
+use Rattle.av_mem.specs.Mem.{HasLedger, Keeps, anon_vma, view}
+use Rattle.av_mem.proofs.AnonLaws.{area_chain, shown_chain}
+use Rattle.av_mem.proofs.MemLaws.{all_apart}
 use Rattle.av_frames.specs.Store.{shown}
 use Rattle.av_fork.specs.Areas.{HasFork}
 use Rattle.av_fork.proofs.AreasReused.{Shows, chain_in}

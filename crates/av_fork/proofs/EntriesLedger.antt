@@ -12,7 +12,7 @@ use Rattle.av_plain.proofs.Ledger.{entry-set, how_many-found, is_sorted-set, map
 use Rattle.av_plain.proofs.Ledger.NoSwap.{free_is, key_is, shared_is}
 use Rattle.av_plain.proofs.Ledger.Order.{weight}
 use Rattle.av_plain.proofs.Sound.Entries.{one-set, slot_entries-set}
-use Rattle.av_reclaim.specs.Mem.{SoundLedger}
+use Rattle.av_mem.specs.Mem.{SoundLedger}
 use Rattle.av_fork.specs.Entries.{after_fork_entry, names, child_entry, without_write}
 
 -- ---- an entry that is not seen names what it named

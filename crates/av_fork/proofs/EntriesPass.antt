@@ -21,11 +21,11 @@ use Rattle.av_plain.proofs.Choice.{chooses-kept, new_free-none, no-slot-chosen}
 use Rattle.av_plain.proofs.Ledger.{entry-set, how_many-found, same_key, same_key-is, same_key-itself}
 use Rattle.av_plain.proofs.Ledger.NoSwap.{itself}
 use Rattle.av_plain.proofs.Ledger.Order.{both_first, both_second, is_less}
-use Rattle.av_reclaim.specs.declared.mem.Mem.{Mem}
-use Rattle.av_reclaim.specs.Mem.{HasLedger, SoundLedger, plain, setting_by, view}
-use Rattle.av_reclaim.proofs.MemLaws.{no_cache, none_used}
-use Rattle.av_reclaim.proofs.Parts.{Parts, Stand, parts_of, seen_as, setting_at}
-use Rattle.av_reclaim.proofs.ZapFirst.{same_ledger}
+use Rattle.av_mem.specs.declared.mem.Mem.{Mem}
+use Rattle.av_mem.specs.Mem.{HasLedger, SoundLedger, plain, setting_by, view}
+use Rattle.av_mem.proofs.MemLaws.{no_cache, none_used}
+use Rattle.av_mem.proofs.Parts.{Parts, Stand, parts_of, seen_as, setting_at}
+use Rattle.av_mem.proofs.ZapFirst.{same_ledger}
 use Rattle.av_fork.specs.Entries.{HasForked, after_fork_entry}
 use Rattle.av_fork.proofs.EntriesLedger.{IsFrom, more_uses, stands_now}
 

@@ -19,16 +19,16 @@ use Rattle.av_plain.specs.Transcript.{State}
 use Rattle.av_plain.proofs.Ledger.{how_many-found}
 use Rattle.av_plain.proofs.Ledger.NoSwap.{itself}
 use Rattle.av_plain.proofs.Sound.Bound.{map_count-few}
-use Rattle.av_reclaim.specs.declared.mem.Mem.{Mem}
-use Rattle.av_reclaim.specs.Mem.{HasLedger, Keeps, plain, setting_by, view, view_of_parts}
+use Rattle.av_mem.specs.declared.mem.Mem.{Mem}
+use Rattle.av_mem.specs.Mem.{HasLedger, Keeps, plain, setting_by, view, view_of_parts}
 use Rattle.av_spaces.specs.Spaces.{AllSpaces}
 use Rattle.av_fork.specs.Entries.{after_fork_entry, after_map_ups, names, child_entry, without_write}
 use Rattle.av_pagetable.proofs.DirImages.{child_none}
 use Rattle.av_pagetable.specs.Entries.{entry_at}
 use Rattle.av_plain.specs.Stands.{free_of}
 use Rattle.av_fork.specs.Entries.{HasForked}
-use Rattle.av_reclaim.proofs.Groups.{group_from}
-use Rattle.av_reclaim.proofs.Parts.{Parts, parts_of, seen_as}
+use Rattle.av_mem.proofs.Groups.{group_from}
+use Rattle.av_mem.proofs.Parts.{Parts, parts_of, seen_as}
 use Rattle.av_fork.proofs.EntriesPass.{IsForking, all_given, at_place, more_given, none_yet}
 
 pub in_error : {X E : Type 0} (r : Result X E) (A : Type 0) {B : Type 0} → IsErr r → B → MatchResult r (λ _. A) (λ _. B)

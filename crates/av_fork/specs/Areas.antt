@@ -5,8 +5,8 @@ use Rattle.av_plain.specs.Areas.{Rmap}
 use Rattle.av_plain.specs.Fork.{AreForked}
 use Rattle.av_plain.specs.Stands.{AnonsStand, AreasAre, HomesAre}
 use Rattle.av_plain.specs.Transcript.{State, rmap_of}
-use Rattle.av_reclaim.specs.declared.mem.Mem.{Mem}
-use Rattle.av_reclaim.specs.Mem.{view}
+use Rattle.av_mem.specs.declared.mem.Mem.{Mem}
+use Rattle.av_mem.specs.Mem.{view}
 use Rattle.av_spaces.specs.Kin.{AnonsFit}
 use Rattle.av_spaces.specs.Spaces.{IsSpawned}
 

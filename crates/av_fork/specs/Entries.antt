@@ -10,8 +10,8 @@ use Rattle.av_plain.specs.Event.{Forked, after, without_seen}
 use Rattle.av_plain.specs.Fork.{inheritance}
 use Rattle.av_plain.specs.Ledger.{Ledger, names_frame}
 use Rattle.av_plain.specs.Stands.{View, Pte, free_of}
-use Rattle.av_reclaim.specs.declared.mem.Mem.{Mem}
-use Rattle.av_reclaim.specs.Mem.{setting_by, plain, view, HasLedger}
+use Rattle.av_mem.specs.declared.mem.Mem.{Mem}
+use Rattle.av_mem.specs.Mem.{setting_by, plain, view, HasLedger}
 
 -- what the parent keeps of its entry: no write bit, so that a write asks for a copy
 abbrev pub without_write : Option Pte → Option Pte

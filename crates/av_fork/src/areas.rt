@@ -4,10 +4,10 @@ ghost use Rattle.std.specs.Prelude.{◌≡◌, None, OnOk, is_some, true};
 ghost use Rattle.av_fork.specs.Areas.{HasFork};
 ghost use Rattle.av_plain.specs.Device.{Device};
 ghost use Rattle.av_plain.specs.Transcript.{State};
-ghost use Rattle.av_reclaim.specs.Mem.{IsSteady, Keeps};
+ghost use Rattle.av_mem.specs.Mem.{IsSteady, Keeps};
 ghost use Rattle.av_spaces.specs.Spaces.{areas_of};
 
-use av_reclaim::Mem;
+use av_mem::Mem;
 use std::alloc::AllocError;
 
 /// Lets a child live, with each area of its parent. Where the parent's has an anon_vma, the child's

@@ -9,12 +9,12 @@ ghost use Rattle.av_pagetable.specs.Table.{group_size};
 ghost use Rattle.av_plain.specs.Device.{Device};
 ghost use Rattle.av_plain.specs.Ledger.{Ledger};
 ghost use Rattle.av_plain.specs.Stands.{free_of};
-ghost use Rattle.av_reclaim.specs.Mem.{view, HasLedger, IsOrderly};
-ghost use Rattle.av_reclaim.specs.Zap.{KeepsRest};
+ghost use Rattle.av_mem.specs.Mem.{view, HasLedger, IsOrderly};
+ghost use Rattle.av_mem.specs.Zap.{KeepsRest};
 
 use av_frames::Frames;
+use av_mem::Mem;
 use av_pagetable::{GROUP, Pte};
-use av_reclaim::Mem;
 use std::alloc::{AllocError, Global};
 
 /// Gives a process with an empty table each entry of another one: not seen, and written in place by

@@ -15,15 +15,16 @@ use Rattle.av_plain.specs.Areas.{Rmap, rmap_after_all}
 use Rattle.av_plain.specs.Transcript.{State, rmap_of}
 use Rattle.av_plain.proofs.AreasLeft.{rmap_after_all-append}
 use Rattle.av_plain.proofs.Access.{after_all-append, notes_of-append, notes_of-note_events, chooses-append, accesses-append, alike-by-allowed}
-use Rattle.av_reclaim.specs.declared.mem.Mem.{Mem}
+use Rattle.av_mem.specs.declared.mem.Mem.{Mem}
 use Rattle.av_fault.specs.declared.fault.Stop.{Stop}
-use Rattle.av_reclaim.specs.Mem.{setting_by, frame_count}
+use Rattle.av_mem.specs.Mem.{setting_by, frame_count}
 use Rattle.av_kernel.specs.Page.{IsPageStep, ShowsPiece, world_after}
 use Rattle.av_kernel.specs.Access.{IsAccess, IsPiece, world_served}
 use Rattle.av_fault.specs.Fault.{stop_of}
 use Rattle.av_kernel.specs.declared.access.Piece.{Piece}
 use Rattle.av_kernel.proofs.AccessPages.{touches, touched-one, touched-more}
 use Rattle.av_kernel.proofs.AccessBytes.{reads-more, stored_twice, allowed-stored, lives-stored}
+
 -- ---- the memories after a part of an access
 
 pub allowed-served : (w : World) (write wants : Bool) (p a : ℕ) (bytes : List ℕ) (page : ℕ) →

@@ -17,13 +17,13 @@ use Rattle.av_plain.specs.Step.{next}
 use Rattle.av_plain.specs.Choice.{ChoosesAll}
 use Rattle.av_plain.specs.Transcript.{State, rmap_of}
 use Rattle.av_plain.specs.Event.{Event, notes_of}
-use Rattle.av_reclaim.specs.declared.mem.Mem.{Mem}
+use Rattle.av_mem.specs.declared.mem.Mem.{Mem}
 use Rattle.av_fault.specs.declared.fault.Stop.{Stop}
 use Rattle.av_fault.specs.declared.fault.Stop.TheVariants.{Segv, Oom}
 use Rattle.av_vma.specs.Pages.{Lengths}
 use Rattle.av_plain.specs.Areas.{Areas, Rmap, chain_length, next_areas, rmap_after_all}
 use Rattle.av_trace.specs.declared.command.Command.{Command}
-use Rattle.av_reclaim.specs.Mem.{Keeps, setting_by, frame_count}
+use Rattle.av_mem.specs.Mem.{Keeps, setting_by, frame_count}
 use Rattle.av_fault.specs.Fault.{stop_of}
 use Rattle.av_plain.proofs.Transcript.{is_fork, next-plain}
 use Rattle.av_kernel.specs.Step.{MemSteps}
@@ -33,6 +33,7 @@ use Rattle.av_kernel.proofs.Loads.{accesses-load_nothing, world_as}
 use Rattle.av_plain.specs.Load.{with_loads}
 use Rattle.av_plain.proofs.Load.{loads_nothing, without-loads}
 use Rattle.std.specs.List.{list_all}
+
 -- the process lives, so that the command is not refused
 
 not_refused : (lived : Bool) (Follow : Type 0) (Refuse : Errno → Type 0) → lived ≡ true → Follow →

@@ -29,10 +29,10 @@ use Rattle.av_plain.proofs.Fork.Areas.{ChildHas, child-has}
 use Rattle.av_plain.proofs.Sound.{no_entries}
 use Rattle.av_plain.proofs.Sound.Means.{says}
 use Rattle.av_plain.proofs.World.{pages-set, lives-set, length-set_new}
-use Rattle.av_reclaim.specs.declared.mem.Mem.{Mem}
-use Rattle.av_reclaim.specs.Mem.{setting_by, view, HasLedger, HasTables, Keeps}
-use Rattle.av_reclaim.specs.Zap.{KeepsRest}
-use Rattle.av_reclaim.proofs.MemLaws.{alive_is, lives_is, all_apart, no_cache, prot_on, prots_are}
+use Rattle.av_mem.specs.declared.mem.Mem.{Mem}
+use Rattle.av_mem.specs.Mem.{setting_by, view, HasLedger, HasTables, Keeps}
+use Rattle.av_mem.specs.Zap.{KeepsRest}
+use Rattle.av_mem.proofs.MemLaws.{alive_is, lives_is, all_apart, no_cache, prot_on, prots_are}
 use Rattle.av_anon.specs.declared.anons.Anons.{Anons as AnonSet}
 use Rattle.av_spaces.specs.Spaces.{AllSpaces, areas_of}
 use Rattle.av_fork.specs.Areas.{HasFork}
@@ -42,6 +42,7 @@ use Rattle.av_kernel.specs.Step.{MemSteps}
 use Rattle.av_kernel.proofs.StepLaws.{is_number, kept-on, moved_on, stays_orderly, stepped}
 use Rattle.av_kernel.proofs.ProcessLaws.{absent, at_number, new_is, new_refusal}
 use Rattle.av_kernel.proofs.Loads.{world_as}
+
 -- ---- refusals
 -- where the parent lives, it is refused as its child
 

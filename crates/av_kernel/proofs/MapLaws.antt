@@ -34,7 +34,7 @@ use Rattle.av_merge.specs.Kin.{lengths}
 use Rattle.av_merge.proofs.Lengths.{map_alike, pages_alike}
 use Rattle.av_spaces.specs.Kin.{AnonsStay}
 use Rattle.av_spaces.proofs.Kin.{stay_both, stay_same}
-use Rattle.av_reclaim.proofs.AnonLaws.{are_left, lengths_alike}
+use Rattle.av_mem.proofs.AnonLaws.{are_left, lengths_alike}
 use Rattle.av_plain.proofs.AreasLeft.{rmap_after_all-zaps}
 use Rattle.av_plain.proofs.Covered.{Names}
 use Rattle.av_plain.specs.Areas.{Rmap, rmap_after_all}
@@ -47,20 +47,21 @@ use Rattle.av_plain.specs.Stands.{AreasAre, Holds, IsKept, IsKeptAt, free_of, pr
 use Rattle.av_vma.specs.Pages.{Pages, home_of, after_map, pages_changed, to_prot, after_unmap}
 use Rattle.av_plain.proofs.World.Ranges.{is-pages_to_hole}
 use Rattle.av_plain.proofs.Zap.{entry-range}
-use Rattle.av_reclaim.specs.declared.mem.Mem.{Mem}
+use Rattle.av_mem.specs.declared.mem.Mem.{Mem}
 use Rattle.av_spaces.specs.Spaces.{AllSpaces, Spaces, areas_of, is_taken, pages_of as areas_on}
 use Rattle.av_plain.proofs.Transcript.{is_fork, next-plain}
 use Rattle.av_kernel.specs.Map.{set_on, GetsAreas, GetsProts, HomesStay, AreUnmapped}
-use Rattle.av_reclaim.specs.Mem.{ranges_of, setting_by, view, frame_count, Keeps, IsSteady, HasLedger}
-use Rattle.av_reclaim.specs.Zap.{HasZapped}
+use Rattle.av_mem.specs.Mem.{ranges_of, setting_by, view, frame_count, Keeps, IsSteady, HasLedger}
+use Rattle.av_mem.specs.Zap.{HasZapped}
 use Rattle.av_place.specs.Place.{protect_tests, IsProcess, IsPlaced, AreToUnmap}
 use Rattle.av_kernel.specs.Step.{MemSteps}
-use Rattle.av_reclaim.proofs.MemLaws.{lives_is, alive_is, taken_has, mapped_is}
+use Rattle.av_mem.proofs.MemLaws.{lives_is, alive_is, taken_has, mapped_is}
 use Rattle.av_place.proofs.PlaceLaws.{page_back, IsSuited, suited}
 use Rattle.av_kernel.proofs.StepLaws.{areas_kept, is_number, moved_on, orderly, refused, state_after, stays_orderly, changed, areas_changed, tables_kept}
 use Rattle.av_kernel.proofs.Loads.{place-loads, world_as}
 use Rattle.av_plain.proofs.Load.{loads_nothing, zaps-load_nothing}
 use Rattle.std.specs.List.{list_all}
+
 -- ---- pages and their areas
 -- a page is taken exactly where it is mapped
 

@@ -18,8 +18,8 @@ use Rattle.av_spaces.specs.Spaces.{Spaces, pages_of, is_taken, AreThese, IsChang
 use Rattle.av_spaces.proofs.Rising.{laid}
 use Rattle.av_plain.specs.Stands.{prot_of}
 use Rattle.av_plain.specs.Report.{range_of}
-use Rattle.av_reclaim.specs.Mem.{ranges_of}
-use Rattle.av_reclaim.proofs.MemLaws.{prot_on, alive_is, prots_are, all_apart}
+use Rattle.av_mem.specs.Mem.{ranges_of}
+use Rattle.av_mem.proofs.MemLaws.{prot_on, alive_is, prots_are, all_apart}
 use Rattle.av_vma.proofs.Homes.{KeepsHomes, homes_changed, homes_mapped, homes_unmapped}
 use Rattle.av_kernel.specs.Map.{set_on, GetsAreas, GetsProts, HomesStay}
 use Rattle.av_kernel.proofs.StepLaws.{is_number, other_number}

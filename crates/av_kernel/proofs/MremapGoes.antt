@@ -17,9 +17,9 @@ use Rattle.av_plain.specs.Refusal.{mremap_tests, overflows, refusal}
 use Rattle.av_plain.specs.Transcript.{State}
 use Rattle.av_plain.specs.World.{Process, pages}
 use Rattle.av_plain.proofs.Refusal.{MayRemap, may-remap}
-use Rattle.av_reclaim.specs.declared.mem.Mem.{Mem}
-use Rattle.av_reclaim.specs.Mem.{IsSteady, Keeps, setting_by}
-use Rattle.av_reclaim.specs.Zap.{KeepsRest}
+use Rattle.av_mem.specs.declared.mem.Mem.{Mem}
+use Rattle.av_mem.specs.Mem.{IsSteady, Keeps, setting_by}
+use Rattle.av_mem.specs.Zap.{KeepsRest}
 use Rattle.av_mremap.specs.Areas.{HasRemap}
 use Rattle.av_mremap.specs.Entries.{HasRemapped}
 use Rattle.av_place.specs.Mremap.{StaySmall}
@@ -27,6 +27,7 @@ use Rattle.av_kernel.specs.Step.{MemSteps}
 use Rattle.av_kernel.proofs.MremapLaws.{last_taken, may_grow, may_move, may_shrink, old_high, remaps, some_pages}
 use Rattle.av_kernel.proofs.MremapRefusals.{have_prots_of, tests_are}
 use Rattle.av_kernel.proofs.StepLaws.{moved_on}
+
 -- what holds of two numbers holds of two that are equal
 
 pub both_are : (P : ℕ → ℕ → Type 0) {n n' m m' : ℕ} → n ≡ n' → m ≡ m' → P n m → P n' m'

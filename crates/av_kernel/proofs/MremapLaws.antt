@@ -46,11 +46,11 @@ use Rattle.av_plain.proofs.Mremap.Legal.{some, uniform, uniform-where}
 use Rattle.av_plain.proofs.Refusal.{MayRemap}
 use Rattle.av_plain.proofs.Transcript.{next-plain}
 use Rattle.av_plain.proofs.World.{pages-set, lives-set, length-set_old}
-use Rattle.av_reclaim.specs.declared.mem.Mem.{Mem}
-use Rattle.av_reclaim.specs.Mem.{HasTables, Keeps, setting_by, view}
-use Rattle.av_reclaim.specs.Zap.{KeepsRest}
-use Rattle.av_reclaim.proofs.AnonLaws.{anons_stand, are_left, left_of}
-use Rattle.av_reclaim.proofs.MemLaws.{alive_is, lives_is, no_cache, prots_are}
+use Rattle.av_mem.specs.declared.mem.Mem.{Mem}
+use Rattle.av_mem.specs.Mem.{HasTables, Keeps, setting_by, view}
+use Rattle.av_mem.specs.Zap.{KeepsRest}
+use Rattle.av_mem.proofs.AnonLaws.{anons_stand, are_left, left_of}
+use Rattle.av_mem.proofs.MemLaws.{alive_is, lives_is, no_cache, prots_are}
 use Rattle.av_mremap.specs.Areas.{HasRemap}
 use Rattle.av_mremap.specs.Entries.{HasRemapped}
 use Rattle.av_place.specs.Mremap.{StaySmall}

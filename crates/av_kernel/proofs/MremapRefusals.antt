@@ -17,14 +17,15 @@ use Rattle.av_plain.specs.Refusal.{Refuses, mremap_tests, refusal, tests}
 use Rattle.av_plain.specs.Step.{Follows}
 use Rattle.av_plain.specs.Transcript.{State}
 use Rattle.av_plain.specs.World.{Process, pages}
-use Rattle.av_reclaim.specs.declared.mem.Mem.{Mem}
-use Rattle.av_reclaim.specs.Mem.{Keeps, setting_by}
-use Rattle.av_reclaim.proofs.MemLaws.{lives_is, prots_are}
+use Rattle.av_mem.specs.declared.mem.Mem.{Mem}
+use Rattle.av_mem.specs.Mem.{Keeps, setting_by}
+use Rattle.av_mem.proofs.MemLaws.{lives_is, prots_are}
 use Rattle.av_kernel.specs.declared.refusal.Refusal.TheVariants as refusals
 use Rattle.av_place.specs.Mremap.{IsTarget}
 use Rattle.av_kernel.specs.Step.{Does, MemSteps}
 use Rattle.av_kernel.proofs.StepLaws.{areas_kept, dead_first, refuses}
 use Rattle.av_kernel.proofs.Loads.{world_as}
+
 -- the pages of a process have the protections of its areas
 
 pub have_prots_of : {d : Device} (old : Mem) (s : State) → Keeps d old s → (p : ℕ) → HaveProtsOf (areas_on old.spaces.processes p) (pages s.world p)

@@ -10,9 +10,9 @@ use Rattle.av_plain.specs.Event.{after_all}
 use Rattle.av_plain.specs.Access.{page_events}
 use Rattle.av_plain.specs.Stands.{Holds, IsKept}
 use Rattle.av_plain.specs.Transcript.{State}
-use Rattle.av_reclaim.specs.declared.mem.Mem.{Mem}
+use Rattle.av_mem.specs.declared.mem.Mem.{Mem}
 use Rattle.av_fault.specs.declared.fault.Touched.TheVariants.{Ready, Zeros}
-use Rattle.av_reclaim.specs.Mem.{view}
+use Rattle.av_mem.specs.Mem.{view}
 use Rattle.av_fault.specs.Fault.{IsTouched}
 use Rattle.av_kernel.specs.Page.{ShowsPiece}
 

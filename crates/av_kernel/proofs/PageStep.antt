@@ -25,7 +25,7 @@ use Rattle.av_plain.specs.Choice.{ChoosesAll, Free, ListsFree}
 use Rattle.av_plain.specs.Stands.{free_of}
 use Rattle.av_spaces.specs.Kin.{AnonsFit}
 use Rattle.av_spaces.specs.Spaces.{AllSpaces, pages_of as areas_on}
-use Rattle.av_reclaim.proofs.MemLaws.{frames_free, listed}
+use Rattle.av_mem.proofs.MemLaws.{frames_free, listed}
 use Rattle.av_plain.specs.Transcript.{State, rmap_of}
 use Rattle.av_plain.proofs.FreeFrames.{page-lists_free}
 use Rattle.av_plain.proofs.Ledger.{how_many-found}
@@ -34,17 +34,18 @@ use Rattle.av_plain.proofs.Sound.Access.{accesses-kept}
 use Rattle.av_plain.proofs.Sound.Pages.{accesses-at}
 use Rattle.av_plain.proofs.Sound.There.{accesses-in}
 use Rattle.av_plain.proofs.Sound.{follows-sound}
-use Rattle.av_reclaim.specs.declared.mem.Mem.{Mem}
+use Rattle.av_mem.specs.declared.mem.Mem.{Mem}
 use Rattle.av_fault.specs.declared.fault.Stop.{Stop}
 use Rattle.av_fault.specs.declared.fault.Touched.{Touched}
 use Rattle.av_fault.specs.declared.fault.Touched.TheVariants.{Ready, Stopped}
-use Rattle.av_reclaim.specs.Mem.{anons_of, ranges_of, setting_by, frame_count, plain, view, view_of_parts, Keeps, KeepsWithin}
+use Rattle.av_mem.specs.Mem.{anons_of, ranges_of, setting_by, frame_count, plain, view, view_of_parts, Keeps, KeepsWithin}
 use Rattle.av_fault.specs.Fault.{HasRmap, IsTouched, end_of, stop_of}
 use Rattle.av_kernel.specs.Page.{IsPageStep, world_after}
 use Rattle.av_fault.proofs.FaultParts.{Parts, of_stand, to_stand}
 use Rattle.av_fault.proofs.FaultTouched.{anons_still}
 use Rattle.av_kernel.proofs.PageWritten.{over, written_now, stored_is}
 use Rattle.av_kernel.proofs.Loads.{accesses-load_nothing, world_as}
+
 -- ---- soundness
 -- the page of a piece that ends within it
 

@@ -16,7 +16,7 @@ use Rattle.av_plain.proofs.Ledger.{same_key, same_key-is, same_key-itself, only_
 use Rattle.av_plain.proofs.World.{pages-set, lives-set, length-set_old}
 use Rattle.av_plain.proofs.Ledger.NoSwap.{itself}
 use Rattle.av_fault.proofs.FaultParts.{Parts}
-use Rattle.av_reclaim.proofs.MemLaws.{no_frame_at, slot_kept, nothing_clean}
+use Rattle.av_mem.proofs.MemLaws.{no_frame_at, slot_kept, nothing_clean}
 
 same_number : (q p : ℕ) → eq_by_cmp nat_cmp q p ≡ true → q ≡ p
 same_number q p h = grind (arith, nat_tests)

@@ -35,20 +35,21 @@ use Rattle.av_plain.proofs.Ledger.Order.{both_first, both_second}
 use Rattle.av_plain.proofs.World.{pages-set, lives-set, length-set_new}
 use Rattle.av_plain.proofs.Zap.{entry-ended, entry-others}
 use Rattle.av_plain.proofs.Sound.Zap.{process-ended, pages-ended}
-use Rattle.av_reclaim.specs.declared.mem.Mem.{Mem}
+use Rattle.av_mem.specs.declared.mem.Mem.{Mem}
 use Rattle.av_spaces.specs.Spaces.{AllSpaces, Spaces, areas_of, pages_of, IsSpawned, IsEnded}
 use Rattle.av_plain.specs.Report.{range_of}
-use Rattle.av_reclaim.specs.Mem.{ranges_of, setting_by, plain, view, frame_count, HasTables, Keeps, HasLedger}
+use Rattle.av_mem.specs.Mem.{ranges_of, setting_by, plain, view, frame_count, HasTables, Keeps, HasLedger}
 use Rattle.av_kernel.specs.Process.{new_tests}
 use Rattle.av_kernel.specs.Step.{MemSteps}
-use Rattle.av_reclaim.specs.Zap.{HasZapped}
-use Rattle.av_reclaim.proofs.MemLaws.{alive_is, lives_is, all_apart, kept-nothing, no_cache}
+use Rattle.av_mem.specs.Zap.{HasZapped}
+use Rattle.av_mem.proofs.MemLaws.{alive_is, lives_is, all_apart, kept-nothing, no_cache}
 use Rattle.av_anon.specs.declared.anons.Anons.{Anons as AnonSet}
 use Rattle.av_spaces.specs.Kin.{AnonsStay}
-use Rattle.av_reclaim.proofs.AnonLaws.{anons_stand, are_left, left_of}
+use Rattle.av_mem.proofs.AnonLaws.{anons_stand, are_left, left_of}
 use Rattle.av_kernel.proofs.StepLaws.{AreLeftIn, reach_after, is_number, orderly, moved_on, stays_orderly, state_after, changed, kept-on, stepped}
 use Rattle.av_kernel.proofs.Loads.{world_as}
 use Rattle.av_plain.proofs.Load.{zaps-load_nothing}
+
 -- ---- the ranges of a process that comes or goes
 
 ranges_spawned : (old new : Spaces) (p : ℕ) → IsSpawned old new p [] → (q : ℕ) → ranges_of new q ≡ cond (q == p) (Some []) (ranges_of old q)

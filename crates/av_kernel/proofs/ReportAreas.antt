@@ -24,14 +24,15 @@ use Rattle.av_plain.specs.Stands.{prot_of}
 use Rattle.av_plain.specs.Step.{Follows}
 use Rattle.av_plain.specs.Transcript.{State}
 use Rattle.av_plain.proofs.Report.Areas.{all_from, on_first, runs-of_rows}
-use Rattle.av_reclaim.specs.declared.mem.Mem.{Mem}
-use Rattle.av_reclaim.specs.Mem.{anons_of, setting_by, view, Keeps}
-use Rattle.av_reclaim.proofs.AnonLaws.{shown_chain}
-use Rattle.av_reclaim.proofs.MemLaws.{apart_of, lives_is}
+use Rattle.av_mem.specs.declared.mem.Mem.{Mem}
+use Rattle.av_mem.specs.Mem.{anons_of, setting_by, view, Keeps}
+use Rattle.av_mem.proofs.AnonLaws.{shown_chain}
+use Rattle.av_mem.proofs.MemLaws.{apart_of, lives_is}
 use Rattle.av_kernel.specs.Step.{MemSteps}
 use Rattle.av_kernel.proofs.ReportRuns.{own_rest, own_first}
 use Rattle.av_kernel.proofs.StepLaws.{areas_kept}
 use Rattle.av_kernel.proofs.Loads.{world_as}
+
 -- ---- the areas of a process
 
 pub all_at : {A : Type 0} (P : A → Type 0) (none : A) (xs : List A) (i : ℕ) → i < length xs → AllByRecursion P xs → P (slice_index_or xs i none)

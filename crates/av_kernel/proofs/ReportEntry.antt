@@ -15,12 +15,13 @@ use Rattle.av_plain.specs.Report.{entry_answer}
 use Rattle.av_plain.specs.Step.{Follows}
 use Rattle.av_plain.specs.Transcript.{State}
 use Rattle.av_plain.specs.World.{is_mapped, lives, pages}
-use Rattle.av_reclaim.specs.declared.mem.Mem.{Mem}
-use Rattle.av_reclaim.specs.Mem.{Keeps, setting_by}
-use Rattle.av_reclaim.proofs.MemLaws.{lives_is, mapped_is, taken_has}
+use Rattle.av_mem.specs.declared.mem.Mem.{Mem}
+use Rattle.av_mem.specs.Mem.{Keeps, setting_by}
+use Rattle.av_mem.proofs.MemLaws.{lives_is, mapped_is, taken_has}
 use Rattle.av_kernel.specs.Step.{MemSteps}
 use Rattle.av_kernel.proofs.StepLaws.{rmap_kept}
 use Rattle.av_kernel.proofs.Loads.{world_as}
+
 -- ---- which pages are mapped
 -- a page is of an area exactly where it is mapped
 

@@ -12,10 +12,10 @@ use Rattle.av_plain.specs.Refusal.{tests, refusal, Refuses}
 use Rattle.av_plain.specs.Step.{Follows}
 use Rattle.av_plain.specs.Stands.{prot_of}
 use Rattle.av_plain.specs.Transcript.{State}
-use Rattle.av_reclaim.specs.declared.mem.Mem.{Mem}
+use Rattle.av_mem.specs.declared.mem.Mem.{Mem}
 use Rattle.av_plain.specs.Report.{range_of}
-use Rattle.av_reclaim.specs.Mem.{setting_by, Keeps}
-use Rattle.av_reclaim.proofs.MemLaws.{lives_is}
+use Rattle.av_mem.specs.Mem.{setting_by, Keeps}
+use Rattle.av_mem.proofs.MemLaws.{lives_is}
 use Rattle.av_kernel.specs.Report.{AreRuns}
 use Rattle.av_kernel.specs.Step.{MemSteps}
 use Rattle.av_kernel.proofs.StepLaws.{areas_kept}

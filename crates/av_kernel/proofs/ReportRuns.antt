@@ -15,7 +15,7 @@ use Rattle.av_plain.specs.Report.{Range, row_of}
 use Rattle.av_plain.specs.Report.{AreApart}
 use Rattle.av_plain.proofs.Report.Runs.{joined, all_joined, longest, cover}
 use Rattle.av_plain.specs.Report.{range_of}
-use Rattle.av_reclaim.proofs.MemLaws.{apart_of}
+use Rattle.av_mem.proofs.MemLaws.{apart_of}
 use Rattle.av_kernel.specs.Report.{AreRuns}
 
 -- ---- whether two protections are one

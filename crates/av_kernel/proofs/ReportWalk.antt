@@ -18,12 +18,13 @@ use Rattle.av_plain.specs.Report.{walk_answer, walk_rows}
 use Rattle.av_plain.specs.Stands.{entry_of}
 use Rattle.av_plain.specs.Step.{Follows}
 use Rattle.av_plain.specs.Transcript.{State}
-use Rattle.av_reclaim.specs.declared.mem.Mem.{Mem}
-use Rattle.av_reclaim.specs.Mem.{Keeps, plain, setting_by}
+use Rattle.av_mem.specs.declared.mem.Mem.{Mem}
+use Rattle.av_mem.specs.Mem.{Keeps, plain, setting_by}
 use Rattle.av_kernel.specs.Step.{MemSteps}
 use Rattle.av_kernel.proofs.ReportEntry.{tests_are}
 use Rattle.av_kernel.proofs.StepLaws.{rmap_kept}
 use Rattle.av_kernel.proofs.Loads.{world_as}
+
 -- what is shown of an entry
 
 abbrev pub shown : Ledger → Option Entry → Reply

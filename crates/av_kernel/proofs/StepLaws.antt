@@ -34,7 +34,7 @@ use Rattle.av_spaces.proofs.Kin.{stay_same}
 use Rattle.av_plain.specs.Areas.{AnonVma, AreLeft, AreNext, Areas, chain_length, next_areas}
 use Rattle.av_plain.specs.Covered.{IsRmapSound}
 use Rattle.av_plain.proofs.Covered.{Names, sound-next}
-use Rattle.av_reclaim.proofs.AnonLaws.{anons_stand, are_left, left_of}
+use Rattle.av_mem.proofs.AnonLaws.{anons_stand, are_left, left_of}
 use Rattle.av_plain.proofs.FreeFrames.{step-lists_free}
 use Rattle.av_plain.proofs.Refusal.{refused-areas, refused-next}
 use Rattle.av_plain.proofs.Report.Areas.{shows-refused}
@@ -42,16 +42,16 @@ use Rattle.av_plain.proofs.Sound.{step-sound}
 use Rattle.av_plain.proofs.World.{pages-set, lives-set, length-set_old}
 use Rattle.av_pagetable.specs.Entries.{ProcessTables, entry_at, has}
 use Rattle.av_pagetable.specs.declared.pte.Pte.{Pte}
-use Rattle.av_reclaim.specs.declared.mem.Mem.{Mem}
+use Rattle.av_mem.specs.declared.mem.Mem.{Mem}
 use Rattle.av_spaces.specs.Spaces.{AllSpaces, areas_of, pages_of as areas_on}
 use Rattle.av_plain.proofs.Transcript.{is_fork, next-plain}
 use Rattle.av_kernel.specs.Map.{GetsProts}
-use Rattle.av_reclaim.specs.Mem.{anon_vma, ranges_of, setting_by, plain, view, frame_count, HasTables, Keeps, HasLedger}
+use Rattle.av_mem.specs.Mem.{anon_vma, ranges_of, setting_by, plain, view, frame_count, HasTables, Keeps, HasLedger}
 use Rattle.av_kernel.specs.declared.refusal.Refusal.{Refusal}
 use Rattle.av_kernel.specs.declared.refusal.Refusal.TheVariants as refusals
 use Rattle.av_kernel.specs.Step.{MemSteps, Does, reply_in}
 use Rattle.av_kernel.proofs.Loads.{world_as}
-use Rattle.av_reclaim.proofs.MemLaws.{alive_is, listed, lives_is, no_cache, no_frame_at, slot_kept, nothing_clean}
+use Rattle.av_mem.proofs.MemLaws.{alive_is, listed, lives_is, no_cache, no_frame_at, slot_kept, nothing_clean}
 use Rattle.av_fault.proofs.FaultParts.{no_headers}
 
 at_number : (q p : ℕ) → eq_by_cmp nat_cmp q p ≡ (q == p)

@@ -6,7 +6,7 @@ use Rattle.av_io.specs.Count.{RoseBy}
 use Rattle.av_plain.specs.Device.{Device, IsSameDevice, setting_of}
 use Rattle.av_plain.specs.Step.{causes}
 use Rattle.av_plain.specs.Transcript.{State, IsStep}
-use Rattle.av_reclaim.specs.Mem.{Keeps}
+use Rattle.av_mem.specs.Mem.{Keeps}
 use Rattle.av_kernel.specs.Machine.{Machine}
 use Rattle.av_kernel.specs.Tally.{tally_with, none_counted}
 

@@ -1,8 +1,8 @@
 -- What is shown of a kernel, and what is true of every one.
 use Rattle.std.specs.Prelude.{◌≡◌, ℕ, Bool, false, refl}
 use Rattle.std.specs.Coded.{Coded, code_by, coded×, coded_ℕ, coded_bool}
-use Rattle.av_reclaim.specs.declared.mem.Mem.{Mem}
-use Rattle.av_reclaim.specs.Mem.{IsSteady}
+use Rattle.av_mem.specs.declared.mem.Mem.{Mem}
+use Rattle.av_mem.specs.Mem.{IsSteady}
 use Rattle.av_kernel.specs.declared.tally.Tally.{Tally}
 use Rattle.av_kernel.specs.Tally.{IsAtMost}
 

@@ -11,9 +11,9 @@ use Rattle.av_plain.specs.Ledger.{Ledger}
 use Rattle.av_plain.specs.Event.{Event}
 use Rattle.av_plain.specs.Report.{AreApart}
 use Rattle.av_plain.specs.Stands.{prot_of}
-use Rattle.av_reclaim.specs.declared.mem.Mem.{Mem}
-use Rattle.av_reclaim.specs.Mem.{view, ranges_of}
-use Rattle.av_reclaim.specs.Zap.{HasZapped}
+use Rattle.av_mem.specs.declared.mem.Mem.{Mem}
+use Rattle.av_mem.specs.Mem.{view, ranges_of}
+use Rattle.av_mem.specs.Zap.{HasZapped}
 
 -- the n pages from `from` on have this protection, or are not mapped
 abbrev pub set_on : ℕ → ℕ → Option Prot → (ℕ → Option Prot) → ℕ → Option Prot

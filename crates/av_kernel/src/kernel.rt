@@ -11,8 +11,8 @@ use crate::step::perform;
 use crate::tally::Tally;
 use av_anon::Anons;
 use av_frames::Frames;
+use av_mem::Mem;
 use av_pagetable::{PageTable, Tables};
-use av_reclaim::Mem;
 use av_spaces::Spaces;
 use av_text::Bytes;
 use av_trace::{Command, Reply};
@@ -31,8 +31,8 @@ pub struct Kernel {
 }
 
 impl Model for Kernel {
-    ghost use Rattle.av_reclaim.specs.Mem.{frame_count};
-    ghost use Rattle.av_reclaim.specs.contracts.mem.Mem.{the_row};
+    ghost use Rattle.av_mem.specs.Mem.{frame_count};
+    ghost use Rattle.av_mem.specs.contracts.mem.Mem.{the_row};
     ghost use Rattle.av_kernel.specs.contracts.tally.Tally.{the_row as tally_row};
     ghost use Rattle.av_kernel.specs.Machine.{Machine, machine_code, IsSound};
 

@@ -9,7 +9,7 @@ ghost use Rattle.av_plain.specs.Map.{zaps_for_place};
 ghost use Rattle.av_plain.specs.Areas.{with_room};
 ghost use Rattle.av_vma.specs.Pages.{after_unmap};
 ghost use Rattle.av_spaces.specs.Spaces.{areas_of, is_taken, pages_of};
-ghost use Rattle.av_reclaim.specs.Mem.{frame_count, IsSteady, HasLedger};
+ghost use Rattle.av_mem.specs.Mem.{frame_count, IsSteady, HasLedger};
 ghost use Rattle.av_place.specs.Place.{AreToUnmap};
 ghost use Rattle.av_kernel.specs.Map.{AreUnmapped};
 ghost use Rattle.av_kernel.specs.Step.{Does, reply_in};
@@ -20,8 +20,8 @@ use crate::answer::answer_with;
 use crate::process::check_lives;
 use crate::refusal::Refusal;
 use av_base::{PAGE_SIZE, Prot};
+use av_mem::{Mem, zap_range};
 use av_place::{check_protect, find_place, is_no_range, is_too_long};
-use av_reclaim::{Mem, zap_range};
 use av_trace::{Answer, Errno, Place, Reply};
 use std::alloc::AllocError;
 

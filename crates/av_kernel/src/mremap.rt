@@ -1,7 +1,7 @@
 //! The command `mremap`: a range of pages moves, shrinks or grows, with what it has.
 
 ghost use Rattle.av_kernel.specs.Step.{Does, reply_in};
-ghost use Rattle.av_reclaim.specs.Mem.{IsSteady};
+ghost use Rattle.av_mem.specs.Mem.{IsSteady};
 ghost use Rattle.av_trace.specs.Reply.{IsCleared};
 ghost use Rattle.av_trace.specs.declared.command.Command.TheVariants as commands;
 
@@ -9,9 +9,9 @@ use crate::answer::answer_with;
 use crate::process::check_lives;
 use crate::refusal::Refusal;
 use av_base::PAGE_SIZE;
+use av_mem::Mem;
 use av_mremap::{remap_areas, remap_entries};
 use av_place::{check_indices, check_remap, find_target, prot_left};
-use av_reclaim::Mem;
 use av_trace::{Answer, Mode, Reply};
 
 /// Does an `mremap`: the pages of the old range are those of the new one, as many as it has, and

@@ -6,12 +6,12 @@ ghost use Rattle.av_base.specs.Page.{page_size};
 ghost use Rattle.av_plain.specs.Device.{Device};
 ghost use Rattle.av_plain.specs.World.{lives};
 ghost use Rattle.av_plain.specs.Transcript.{State};
-ghost use Rattle.av_reclaim.specs.Mem.{frame_count, Keeps, IsSteady};
+ghost use Rattle.av_mem.specs.Mem.{frame_count, Keeps, IsSteady};
 ghost use Rattle.av_kernel.specs.Page.{IsPageStep, ShowsPiece};
 
 use av_base::PAGE_SIZE;
 use av_fault::{Stop, Touched, touch};
-use av_reclaim::Mem;
+use av_mem::Mem;
 use av_text::Bytes;
 use av_trace::Notes;
 use std::alloc::AllocError;

@@ -3,7 +3,7 @@
 ghost use Rattle.std.specs.Prelude.{◌≡◌, true, false, is_some, Some, None, MatchResult};
 ghost use Rattle.av_plain.specs.Refusal.{refusal};
 ghost use Rattle.av_spaces.specs.Spaces.{areas_of};
-ghost use Rattle.av_reclaim.specs.Mem.{IsSteady};
+ghost use Rattle.av_mem.specs.Mem.{IsSteady};
 ghost use Rattle.av_kernel.specs.Process.{new_tests};
 ghost use Rattle.av_kernel.specs.Step.{Does, reply_in};
 ghost use Rattle.av_kernel.specs.declared.refusal.Refusal.TheVariants as refusals;
@@ -15,7 +15,7 @@ use crate::answer::answer_with;
 use crate::refusal::Refusal;
 use av_base::MOST_PROCESSES;
 use av_fork::{fork_areas, fork_entries};
-use av_reclaim::{Mem, zap_all};
+use av_mem::{Mem, zap_all};
 use av_spaces::Spaces;
 use av_trace::{Answer, Errno, Reply};
 use std::alloc::Global;

@@ -5,7 +5,7 @@ ghost use Rattle.av_trace.specs.Command.{is_in_grammar};
 ghost use Rattle.av_trace.specs.Reply.{IsCleared};
 ghost use Rattle.av_plain.specs.Device.{Device};
 ghost use Rattle.av_plain.specs.Transcript.{State};
-ghost use Rattle.av_reclaim.specs.Mem.{frame_count, Keeps, IsSteady};
+ghost use Rattle.av_mem.specs.Mem.{frame_count, Keeps, IsSteady};
 ghost use Rattle.av_kernel.specs.Step.{MemSteps, Does, is_of_pages, reply_in};
 
 use crate::access::{read, write};
@@ -14,7 +14,7 @@ use crate::mremap::mremap;
 use crate::process::{exit, fork, spawn};
 use crate::refusal::Refusal;
 use crate::report::{areas, entry, maps, rmap, stat};
-use av_reclaim::Mem;
+use av_mem::Mem;
 use av_text::Bytes;
 use av_trace::{Answer, Command, Reply};
 use std::alloc::{AllocError, Global};

@@ -19,10 +19,10 @@ use Rattle.av_plain.specs.Areas.{chain_length}
 use Rattle.av_plain.specs.Mremap.{after_mremap, with_old_range}
 use Rattle.av_plain.specs.Transcript.{State}
 use Rattle.av_plain.proofs.Mremap.Areas.{room}
-use Rattle.av_reclaim.specs.declared.mem.Mem.{Mem}
-use Rattle.av_reclaim.specs.Mem.{Keeps}
-use Rattle.av_reclaim.proofs.AnonLaws.{lengths_alike}
-use Rattle.av_reclaim.proofs.MemLaws.{all_apart}
+use Rattle.av_mem.specs.declared.mem.Mem.{Mem}
+use Rattle.av_mem.specs.Mem.{Keeps}
+use Rattle.av_mem.proofs.AnonLaws.{lengths_alike}
+use Rattle.av_mem.proofs.MemLaws.{all_apart}
 use Rattle.av_mremap.specs.Areas.{HasRemap}
 
 equal : (a b : ℕ) → (a == b) ≡ true → a ≡ b

@@ -19,9 +19,9 @@ use Rattle.av_plain.proofs.Event.{put_all-only}
 use Rattle.av_plain.proofs.Ledger.NoSwap.{shared_is}
 use Rattle.av_plain.proofs.Mremap.{entry-moved, others_of, shifted}
 use Rattle.av_plain.proofs.Sound.Mremap.{frames-stay, moved-kept, slots-stay}
-use Rattle.av_reclaim.specs.declared.mem.Mem.{Mem}
-use Rattle.av_reclaim.specs.Mem.{HasLedger, SoundLedger, plain, setting_by, view, view_of_parts}
-use Rattle.av_reclaim.proofs.MemLaws.{no_cache, none_used}
+use Rattle.av_mem.specs.declared.mem.Mem.{Mem}
+use Rattle.av_mem.specs.Mem.{HasLedger, SoundLedger, plain, setting_by, view, view_of_parts}
+use Rattle.av_mem.proofs.MemLaws.{no_cache, none_used}
 use Rattle.av_mremap.specs.Entries.{HasMoved, moved_entries}
 
 -- ---- the parts

@@ -14,9 +14,9 @@ use Rattle.av_plain.specs.Stands.{entry_of, free_of}
 use Rattle.av_plain.specs.Zap.{keys_in, zaps_of}
 use Rattle.av_plain.proofs.Access.{after_all-append, chooses-append, notes_of-append}
 use Rattle.av_plain.proofs.Mremap.{after-elsewhere, target_free, then_tail, then_target}
-use Rattle.av_reclaim.specs.declared.mem.Mem.{Mem}
-use Rattle.av_reclaim.specs.Mem.{HasLedger, frame_count, plain, setting_by, view}
-use Rattle.av_reclaim.specs.Zap.{HasZapped}
+use Rattle.av_mem.specs.declared.mem.Mem.{Mem}
+use Rattle.av_mem.specs.Mem.{HasLedger, frame_count, plain, setting_by, view}
+use Rattle.av_mem.specs.Zap.{HasZapped}
 use Rattle.av_mremap.specs.Entries.{HasMoved, HasRemapped}
 
 -- a place where the ledger has no entry is empty

@@ -3,8 +3,8 @@ use Rattle.std.specs.Prelude.{◌≡◌, ℕ, is_some, length, IfSome}
 use Rattle.av_base.specs.Words.{with_at}
 use Rattle.av_vma.specs.Pages.{Pages}
 use Rattle.av_plain.specs.Report.{AreApart}
-use Rattle.av_reclaim.specs.declared.mem.Mem.{Mem}
-use Rattle.av_reclaim.specs.Mem.{ranges_of}
+use Rattle.av_mem.specs.declared.mem.Mem.{Mem}
+use Rattle.av_mem.specs.Mem.{ranges_of}
 use Rattle.av_spaces.specs.Kin.{AnonsStay}
 use Rattle.av_spaces.specs.Spaces.{areas_of, pages_of}
 

@@ -6,8 +6,8 @@ use Rattle.av_plain.specs.Device.{Device}
 use Rattle.av_plain.specs.Event.{Event, Moved, after, after_all, notes_of}
 use Rattle.av_plain.specs.Ledger.{Ledger}
 use Rattle.av_plain.specs.Stands.{free_of}
-use Rattle.av_reclaim.specs.declared.mem.Mem.{Mem}
-use Rattle.av_reclaim.specs.Mem.{setting_by, view, HasLedger}
+use Rattle.av_mem.specs.declared.mem.Mem.{Mem}
+use Rattle.av_mem.specs.Mem.{setting_by, view, HasLedger}
 
 -- what n pages of a process have, from one page on, is on as many others then, and nothing is left
 -- where it was

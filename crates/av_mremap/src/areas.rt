@@ -7,12 +7,12 @@ ghost use Rattle.av_plain.specs.Areas.{chain_length};
 ghost use Rattle.av_plain.specs.Device.{Device};
 ghost use Rattle.av_plain.specs.Mremap.{after_mremap};
 ghost use Rattle.av_plain.specs.Transcript.{State};
-ghost use Rattle.av_reclaim.specs.Mem.{IsSteady, Keeps};
+ghost use Rattle.av_mem.specs.Mem.{IsSteady, Keeps};
 ghost use Rattle.av_spaces.specs.Spaces.{areas_of, pages_of};
 ghost use Rattle.av_vma.specs.Mremap.{IsGrowth, IsMove, after_resize};
 
 use av_base::Prot;
-use av_reclaim::Mem;
+use av_mem::Mem;
 use std::alloc::AllocError;
 
 /// Makes `new_pages` pages from the page `to` on of a process's `pages` pages from the page `from`

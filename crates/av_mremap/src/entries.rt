@@ -9,10 +9,10 @@ ghost use Rattle.av_pagetable.specs.declared.pte.Pte.TheVariants as Pte;
 ghost use Rattle.av_plain.specs.Device.{Device};
 ghost use Rattle.av_plain.specs.Ledger.{Ledger};
 ghost use Rattle.av_plain.specs.Mremap.{remap_events};
-ghost use Rattle.av_reclaim.specs.Mem.{HasLedger, IsOrderly};
-ghost use Rattle.av_reclaim.specs.Zap.{KeepsRest};
+ghost use Rattle.av_mem.specs.Mem.{HasLedger, IsOrderly};
+ghost use Rattle.av_mem.specs.Zap.{KeepsRest};
 
-use av_reclaim::{Mem, zap_range};
+use av_mem::{Mem, zap_range};
 use std::alloc::AllocError;
 
 /// Does to the entries of a process what an mremap does where `pages` pages from the page `from` on

@@ -1,5 +1,5 @@
 use av_fault::*;
-use av_reclaim::Mem;
+use av_mem::Mem;
 use av_trace::Notes;
 use std::test::Fail;
 

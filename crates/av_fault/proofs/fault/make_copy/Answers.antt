@@ -5,7 +5,7 @@ use Rattle.av_frames.specs.Store.{Shown}
 use Rattle.av_vma.specs.Pages.{home_of}
 use Rattle.av_plain.specs.Transcript.{rmap_of}
 use Rattle.av_trace.specs.declared.note.Note.TheVariants.{Copied}
-use Rattle.av_reclaim.specs.declared.mem.Mem.{Mem}
+use Rattle.av_mem.specs.declared.mem.Mem.{Mem}
 use Rattle.av_fault.proofs.FaultServes.{named_entry}
 use Rattle.av_fault.proofs.FaultMade.{copied_is, copy_starved, copy_served, unnamed}
 use Rattle.av_fault.proofs.FaultHomes.{copied_rmap, given_home, owns_named}

@@ -4,7 +4,7 @@ use Rattle.av_plain.specs.Transcript.{rmap_of}
 use Rattle.av_trace.specs.declared.note.Note.TheVariants.{New}
 use Rattle.av_frames.specs.Store.{Shown}
 use Rattle.av_vma.specs.Pages.{home_of}
-use Rattle.av_reclaim.specs.declared.mem.Mem.{Mem}
+use Rattle.av_mem.specs.declared.mem.Mem.{Mem}
 use Rattle.av_fault.proofs.FaultMade.{new_is, new_made, new_starved, unnamed}
 use Rattle.av_fault.proofs.FaultHomes.{given_home, mapped_there, new_rmap}
 use Rattle.av_fault.proofs.FaultPrepared.{lives_still, prepared_owns, prepared_reach, prepared_rmap, prepared_within}

@@ -1,8 +1,8 @@
 use Rattle.std.proofs.Common.{◌∙◌, sym, ap, refl}
 use Rattle.av_pagetable.specs.declared.pte.Pte.TheVariants.{Zero}
 use Rattle.av_plain.specs.Stands.{entry_of}
-use Rattle.av_reclaim.specs.Mem.{plain}
-use Rattle.av_reclaim.proofs.MemLaws.{entry_put_in}
+use Rattle.av_mem.specs.Mem.{plain}
+use Rattle.av_mem.proofs.MemLaws.{entry_put_in}
 use Rattle.av_fault.proofs.FaultTouched.{zeroed_now}
 use Rattle.av_fault.proofs.fault.make_zero.Goals as goal
 

@@ -2,7 +2,7 @@ use Rattle.std.proofs.Common.{◌≡◌, ◌∙◌, sym, ap, refl, subst, false}
 use Rattle.av_pagetable.specs.Entries.{entry_at, with_entry}
 use Rattle.av_pagetable.specs.declared.pte.Pte.TheVariants.{Here}
 use Rattle.av_plain.specs.Stands.{entry_of}
-use Rattle.av_reclaim.specs.Mem.{plain}
+use Rattle.av_mem.specs.Mem.{plain}
 use Rattle.av_fault.proofs.FaultTouched.{zeros_there}
 use Rattle.av_fault.proofs.FaultSafe.{none_away, process_there, seen_there, seen_now, few_by_bit}
 use Rattle.av_fault.proofs.fault.touch_to_read.Goals as goal

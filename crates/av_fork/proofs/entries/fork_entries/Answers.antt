@@ -5,12 +5,12 @@ use Rattle.av_pagetable.specs.Entries.{entry_at}
 use Rattle.av_pagetable.specs.Table.{read_only}
 use Rattle.av_pagetable.specs.declared.pte.Pte.{Pte}
 use Rattle.av_plain.specs.Stands.{free_of}
-use Rattle.av_reclaim.specs.Mem.{plain, view_of_parts}
-use Rattle.av_reclaim.proofs.MemLaws.{view_same}
-use Rattle.av_reclaim.proofs.Groups.{group_from}
-use Rattle.av_reclaim.proofs.Parts.{parts_of}
-use Rattle.av_reclaim.proofs.ZapFirst.{same_ledger}
-use Rattle.av_reclaim.proofs.ZapRange.{rest_rest}
+use Rattle.av_mem.specs.Mem.{plain, view_of_parts}
+use Rattle.av_mem.proofs.MemLaws.{view_same}
+use Rattle.av_mem.proofs.Groups.{group_from}
+use Rattle.av_mem.proofs.Parts.{parts_of}
+use Rattle.av_mem.proofs.ZapFirst.{same_ledger}
+use Rattle.av_mem.proofs.ZapRange.{rest_rest}
 use Rattle.av_fork.specs.Entries.{names}
 use Rattle.av_fork.proofs.EntriesViews.{IsForkingTo, all_over, child_is, few_named, in_error, in_range, next_group, none_over}
 use Rattle.av_fork.proofs.entries.fork_entries.Goals as goal

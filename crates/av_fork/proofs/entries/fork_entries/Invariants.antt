@@ -6,8 +6,8 @@ use Rattle.av_pagetable.specs.Table.{page_bound}
 use Rattle.av_plain.specs.Device.{Device}
 use Rattle.av_plain.specs.Ledger.{Ledger}
 use Rattle.av_plain.specs.Stands.{free_of}
-use Rattle.av_reclaim.specs.Mem.{HasLedger, view}
-use Rattle.av_reclaim.specs.Zap.{KeepsRest}
+use Rattle.av_mem.specs.Mem.{HasLedger, view}
+use Rattle.av_mem.specs.Zap.{KeepsRest}
 use Rattle.av_fork.proofs.EntriesViews.{IsForkingTo, forked}
 use Rattle.av_fork.proofs.entries.fork_entries.Given as goal
 

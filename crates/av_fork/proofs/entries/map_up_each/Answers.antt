@@ -1,6 +1,6 @@
 use Rattle.std.proofs.Common.{◌∙◌, ap, arith, refl}
 use Rattle.av_frames.specs.Store.{Shown, shown}
-use Rattle.av_reclaim.specs.Mem.{plain}
+use Rattle.av_mem.specs.Mem.{plain}
 use Rattle.av_fork.specs.Entries.{names}
 use Rattle.av_fork.proofs.EntriesViews.{few_first, none_named, one_named}
 use Rattle.av_fork.proofs.entries.map_up_each.Goals.{in-Here, in_default}

@@ -1,6 +1,6 @@
 -- Each piece that is served is a part of the access more, and is shown; one that stops ends it.
 use Rattle.std.proofs.Common.{◌≡◌, [], true, false, refl, sym, ◌∙◌}
-use Rattle.av_reclaim.proofs.MemLaws.{lives_is}
+use Rattle.av_mem.proofs.MemLaws.{lives_is}
 use Rattle.av_kernel.proofs.AccessParts.{still_lives, piece-served, piece-stopped, piece-shown, piece-within, piece-ends}
 use Rattle.av_kernel.proofs.access.read_pieces.Goals as goal
 

@@ -4,7 +4,7 @@ use Rattle.av_plain.specs.Device.{Device}
 use Rattle.av_plain.specs.World.{pages}
 use Rattle.av_plain.specs.Access.{Reads}
 use Rattle.av_plain.specs.Transcript.{State}
-use Rattle.av_reclaim.specs.Mem.{frame_count, Keeps}
+use Rattle.av_mem.specs.Mem.{frame_count, Keeps}
 use Rattle.av_kernel.specs.Access.{IsAccess}
 use Rattle.av_kernel.proofs.access.read_pieces.Given as goal
 

@@ -1,7 +1,7 @@
 -- The reply by how the access ended.
 use Rattle.std.proofs.Common.{sym, subst, ◌∙◌}
 use Rattle.av_kernel.specs.Step.{MemSteps}
-use Rattle.av_reclaim.proofs.MemLaws.{lives_is}
+use Rattle.av_mem.proofs.MemLaws.{lives_is}
 use Rattle.av_trace.specs.declared.command.Command.TheVariants.{Write}
 use Rattle.av_trace.specs.declared.reply.Errno.TheVariants.{Esrch}
 use Rattle.av_kernel.proofs.StepLaws.{refuses, refuses-as, dead_first, wants-by}

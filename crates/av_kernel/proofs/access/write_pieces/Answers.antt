@@ -2,7 +2,7 @@
 use Rattle.std.proofs.Common.{◌≡◌, ℕ, ◌+◌, ◌-◌, List, ◌++◌, length, take, drop, true, sym, ap, ◌∙◌, arith}
 use Rattle.std.proofs.lemmas.List.{length-take-le}
 use Rattle.std.proofs.Math.Seq.{take-add}
-use Rattle.av_reclaim.proofs.MemLaws.{lives_is}
+use Rattle.av_mem.proofs.MemLaws.{lives_is}
 use Rattle.av_kernel.proofs.AccessParts.{still_lives, piece-served, piece-stopped, piece-within, piece-ends}
 use Rattle.av_kernel.proofs.access.write_pieces.Goals as goal
 

@@ -2,7 +2,7 @@
 use Rattle.std.proofs.Common.{◌≡◌, ◌+◌, ◌-◌, ◌%◌, ◌<◌, ◌≤◌, true, length, take, None}
 use Rattle.av_plain.specs.Device.{Device}
 use Rattle.av_plain.specs.Transcript.{State}
-use Rattle.av_reclaim.specs.Mem.{frame_count, Keeps}
+use Rattle.av_mem.specs.Mem.{frame_count, Keeps}
 use Rattle.av_kernel.specs.Access.{IsAccess}
 use Rattle.av_kernel.proofs.access.write_pieces.Given as goal
 

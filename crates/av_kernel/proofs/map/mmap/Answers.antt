@@ -5,7 +5,7 @@ use Rattle.av_trace.specs.declared.command.Command.TheVariants.{Mmap}
 use Rattle.av_plain.specs.World.{pages}
 use Rattle.av_plain.specs.Stands.{prot_of}
 use Rattle.av_plain.specs.Map.{zaps_for_place}
-use Rattle.av_reclaim.specs.Mem.{ranges_of}
+use Rattle.av_mem.specs.Mem.{ranges_of}
 use Rattle.av_kernel.specs.Map.{set_on, GetsAreas, GetsProts, HomesStay, AreUnmapped}
 use Rattle.av_plain.specs.Areas.{with_room}
 use Rattle.av_vma.specs.Pages.{after_map}

@@ -11,7 +11,7 @@ use Rattle.av_place.specs.Mremap.{IsTarget}
 use Rattle.av_kernel.proofs.MremapGoes.{Goes, Passes, both_are, grow_by, high_by, last_by, move_by, shrink_by, some_by, some_new, steps_by, to_fits}
 use Rattle.av_kernel.proofs.MremapRefusals.{dead_does, have_prots_of, no_room_does, refused_does}
 use Rattle.av_place.proofs.PlaceLaws.{rounded_up}
-use Rattle.av_reclaim.specs.declared.mem.Mem.{Mem}
+use Rattle.av_mem.specs.declared.mem.Mem.{Mem}
 use Rattle.av_kernel.proofs.StepLaws.{answers, orderly, refuses-as, refuses-by, ranges_there, wants-by}
 use Rattle.av_kernel.proofs.ForkLaws.{still_orderly}
 use Rattle.av_kernel.proofs.mremap.mremap.Goals.{In_ok-check_remap, In_ok-to}

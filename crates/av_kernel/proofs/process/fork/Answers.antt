@@ -5,7 +5,7 @@ use Rattle.av_trace.specs.declared.command.Command.TheVariants.{Fork}
 use Rattle.av_trace.specs.declared.reply.Errno.TheVariants.{Esrch}
 use Rattle.av_pagetable.specs.Entries.{has}
 use Rattle.av_pagetable.proofs.Entries.{none_there}
-use Rattle.av_reclaim.specs.declared.mem.Mem.{Mem}
+use Rattle.av_mem.specs.declared.mem.Mem.{Mem}
 use Rattle.av_kernel.proofs.StepLaws.{answers, orderly, refuses, refuses-as, refuses-by, dead_first, wants-by}
 use Rattle.av_kernel.proofs.ProcessLaws.{absent, no_table}
 use Rattle.av_kernel.proofs.ForkLaws.{entries_few, fork-steps, fork_is, has_table, still_orderly}

@@ -1,7 +1,7 @@
 use Rattle.std.proofs.Common.{◌≡◌, take}
 use Rattle.std.specs.Prelude.{map}
 use Rattle.av_plain.specs.Report.{area_row}
-use Rattle.av_reclaim.specs.Mem.{view}
+use Rattle.av_mem.specs.Mem.{view}
 use Rattle.av_kernel.proofs.report.add_areas.Given as goal
 
 abbrev pub invariant-loop-area : goal.invariant-loop-area

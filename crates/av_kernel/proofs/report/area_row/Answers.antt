@@ -2,7 +2,7 @@ use Rattle.std.proofs.Common.{◌≡◌, ◌∙◌, ap, sym}
 use Rattle.av_trace.specs.declared.row.Row.TheVariants as row
 use Rattle.av_vma.specs.Join.{first_of}
 use Rattle.av_plain.specs.Areas.{chain_by}
-use Rattle.av_reclaim.specs.Mem.{anons_of}
+use Rattle.av_mem.specs.Mem.{anons_of}
 use Rattle.av_kernel.proofs.ReportAreas.{own_chain}
 use Rattle.av_kernel.proofs.report.area_row.Goals.{in-Some+in_ok-chain-in-Some, in-None}
 use Rattle.av_kernel.proofs.report.area_row.Goals as goal

@@ -5,7 +5,7 @@ use Rattle.av_trace.specs.declared.reply.Answer.TheVariants.{AreaList}
 use Rattle.av_trace.specs.declared.reply.Errno.TheVariants.{Esrch}
 use Rattle.av_spaces.specs.Spaces.{AreRising}
 use Rattle.av_plain.specs.Report.{area_row}
-use Rattle.av_reclaim.specs.Mem.{view}
+use Rattle.av_mem.specs.Mem.{view}
 use Rattle.av_kernel.specs.Step.{MemSteps}
 use Rattle.av_kernel.proofs.StepLaws.{refuses, refuses-as, dead_first, wants-by}
 use Rattle.av_kernel.proofs.ReportAreas.{areas-steps}

@@ -1,7 +1,7 @@
 use Rattle.std.proofs.Common.{ℕ, Bool, ap, arith, refl, ◌∙◌}
 use Rattle.av_pagetable.specs.Entries.{entry_at, with_entry}
-use Rattle.av_reclaim.specs.declared.mem.Mem.{Mem}
-use Rattle.av_reclaim.proofs.ZapRange.{rest_rest}
+use Rattle.av_mem.specs.declared.mem.Mem.{Mem}
+use Rattle.av_mem.proofs.ZapRange.{rest_rest}
 use Rattle.av_mremap.proofs.EntriesLedger.{has_moved}
 use Rattle.av_mremap.proofs.EntriesTables.{all_moved, one_moved}
 use Rattle.av_mremap.proofs.entries.move_entries.Goals as goal

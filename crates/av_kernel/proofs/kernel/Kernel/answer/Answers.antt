@@ -5,7 +5,7 @@ use Rattle.av_plain.specs.Device.{setting_of}
 use Rattle.av_plain.specs.Step.{causes}
 use Rattle.av_plain.proofs.NoDevice.{no-causes-off}
 use Rattle.av_plain.specs.Transcript.{IsStep}
-use Rattle.av_reclaim.specs.Mem.{setting_by, Keeps}
+use Rattle.av_mem.specs.Mem.{setting_by, Keeps}
 use Rattle.av_kernel.specs.Machine.{Machine}
 use Rattle.av_kernel.specs.Tally.{IsAtMost}
 use Rattle.av_kernel.proofs.StepLaws.{not_swapon}

@@ -1,0 +1,17 @@
+//! The memory system, the walk over it, and how its entries are taken away.
+//!
+//! `Mem` holds the frames with their two lists, the page tables, the areas and the anon_vmas; the
+//! kernel has one. What it stands for, over any device, is said by the definitions' `Stands` over
+//! its `view`. `zap_range` takes away the entries of a range of pages, and frees the frames that no
+//! other page has: proved for every ledger that the parts stand for. `walk` finds the entries of a frame through its home: proved
+//! for every state that the memory system stands for, with the number of its looks. It is one call
+//! of av_rmap's `walk_frame`, which looks through the trait `Look` alone. Not proved: that nothing
+//! which holds a `Mem`, `walk` among it, asks the tables past that trait.
+#![tactic(auto)]
+
+mod mem;
+pub mod walk;
+mod zap;
+
+pub use mem::Mem;
+pub use zap::{zap_all, zap_range};

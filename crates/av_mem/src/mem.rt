@@ -1,0 +1,41 @@
+//! The memory system: frames with their lists, page tables, areas and anon_vmas.
+
+ghost use Rattle.std.specs.Prelude.{◌≡◌, IfOk};
+ghost use Rattle.av_plain.specs.Device.{Device, setting_of};
+ghost use Rattle.av_plain.specs.Transcript.{at_first};
+ghost use Rattle.av_mem.specs.Mem.{frame_count, Keeps};
+
+use av_anon::Anons;
+use av_frames::Frames;
+use av_lru::Lru;
+use av_pagetable::{PageTable, Tables};
+use av_spaces::Spaces;
+use std::alloc::{AllocError, Global};
+
+/// The frames with the two lists of those in use, the page table of each process, the areas of
+/// each, and the anon_vmas.
+#[derive(Drop)]
+pub struct Mem {
+    pub frames: Frames,
+    pub lists: Lru,
+    pub tables: Tables<PageTable>,
+    pub spaces: Spaces,
+    pub anons: Anons,
+}
+
+impl Mem {
+    /// This many frames, all free, and no process.
+    pub fn new(alloc: Global, frames: u32) -> Result<Mem, AllocError>
+        ensures keeps { IfOk result (λ k. (d : Device) →
+            Keeps d k (at_first (setting_of frames d))) }
+        ensures count { IfOk result (λ k. frame_count k ≡ frames) }
+    {
+        Ok(Mem {
+            frames: Frames::new(alloc, frames)?,
+            lists: Lru::new(alloc, frames)?,
+            tables: Tables::new(alloc),
+            spaces: Spaces::new(alloc),
+            anons: Anons::new(alloc),
+        })
+    }
+}

@@ -1,0 +1,50 @@
+//! The walk from a frame to the entries that name it.
+
+ghost use Rattle.std.specs.Prelude.{◌≡◌, ◌+◌, ◌<◌, IfOk, OnErr, OnOk};
+ghost use Rattle.std.specs.List.{AllByRecursion};
+ghost use Rattle.av_base.specs.Limits.{top_page};
+ghost use Rattle.av_plain.specs.Device.{Device};
+ghost use Rattle.av_plain.specs.Ledger.{walk as walk_of};
+ghost use Rattle.av_plain.specs.Transcript.{State};
+ghost use Rattle.av_mem.specs.Mem.{frame_count, view, IsSteady, Keeps};
+ghost use Rattle.av_mem.specs.Walk.{areas_at};
+
+use crate::mem::Mem;
+use av_base::Steps;
+use av_rmap::sorted::walk_frame;
+use av_rmap::stores::Stores;
+use std::alloc::{AllocError, Global};
+use std::sync::ledger::Ledger;
+
+/// Process and page of each entry that names the frame, by process and then by page, found through
+/// the frame's home. Each look at an entry takes a step: one look for each area that is linked to
+/// the home's anon_vma and holds its index. Without memory it takes none.
+pub fn walk<L: Ledger>(
+    mem: &Mem,
+    alloc: Global,
+    frame: u32,
+    steps: &mut Steps<L>,
+) -> Result<Vec<(u16, u64)>, AllocError>
+    requires steady { IsSteady mem.now }
+    requires in_range { frame < frame_count mem.now }
+    ensures keys { (d : Device) (s : State) → Keeps d mem.now s
+        → IfOk result (λ keys. keys.items ≡ walk_of s.ledger frame) }
+    ensures below { IfOk result (λ keys. AllByRecursion (λ key. key.1 < top_page) keys.items) }
+    ensures counted { OnOk result
+        (steps.new ≡ steps.old + areas_at mem.now ((view mem.now).homes frame)) }
+    ensures kept { OnErr result (steps.new ≡ steps.old) }
+{
+    let stores = Stores {
+        areas: mem.spaces.by_number(),
+        anons: &mem.anons,
+        tables: &mem.tables,
+    };
+    walk_frame(
+        alloc,
+        &stores,
+        frame,
+        mem.frames.home(frame),
+        mem.frames.maps(frame),
+        steps,
+    )
+}
