@@ -8,7 +8,8 @@
 //! Proved: the two maps that the links are, each the other's inverse, after each call; that a link
 //! comes last in both lists; that an area leaves all its lists in as many steps as it has links;
 //! that each node in memory lies in both its lists, so that none is lost, and dropping finds each.
-//! Not proved: that memory is there, and time.
+//! Not proved: that `Links::unlink_all`, which holds the links themselves, takes out none but by
+//! `unlink_from`; that memory is there, and time.
 #![tactic(auto)]
 
 mod links;

@@ -133,8 +133,9 @@ child_exit = says (Exit 2) Done []
 
 -- ---- event by event
 
--- a new frame and a copy are at home at their pages, and so is a frame that is written; one that is
--- read, looked at or taken away from a page keeps its home, and one that is loaded gets none
+-- a new frame and a copy are at home at their pages, and so is a frame that is written. One that is
+-- read, looked at or taken away from a page keeps its home. One that is loaded gets none here: no
+-- entry names its slot
 abbrev pub by_events : List (Event × FourHomes)
 by_events =
     (Noted (New 2 0x13000 1), Some (0, 0x22) ∷ Some (1, 0x23) ∷ None ∷ None ∷ [])

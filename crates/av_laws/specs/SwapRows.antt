@@ -1,8 +1,8 @@
 -- Worked rows of swap, each a run from nothing on.
 -- Which row would fail if a definition were wrong:
 --   the numbers of a header (`TurnsOn`): all; other_numbers
---   what becomes of a frame, in the order of its tests (`cause_of`, `leave_notes`): written_again;
---     dropped_in_flight
+--   what becomes of a frame, some of its tests and not the order of all (`cause_of`,
+--     `leave_notes`): written_again, dropped_in_flight
 --   a page that is written while its write is in flight (`is_stale`): written_again
 --   a pass over a frame without a slot (`is_stuck`): passed_over
 --   writes and loads that fail (`Turns`, `IsLost`, `out_of`): two_faults

@@ -105,8 +105,8 @@ pub use views::{
 
 /// A command that is refused changes neither the memories nor the ledger. An mprotect, which can
 /// stop at a page that isn't mapped, may have changed the protection of the pages before it. A
-/// swapoff that ends at a slot leaves what it brought in, and the memories but for what its loads
-/// make unclaimed.
+/// swapoff leaves the memories but for what its loads make unclaimed; where it ends at a slot,
+/// nothing is said of the ledger.
 pub fn refusals_change_nothing()
     ensures others { (m : Setting) (w : World) (l : Ledger) (command : Command) (reply : Reply)
         (events : List Event) (error : Errno)

@@ -1,4 +1,4 @@
--- Where a walk looks.
+-- How many steps a walk takes.
 use Rattle.std.specs.Prelude.{ℕ, Option, Some, None}
 use Rattle.av_base.specs.Words.{how_many}
 use Rattle.av_vma.specs.Areas.{area_of}

@@ -3,10 +3,12 @@
 //! `Mem` holds the frames with their two lists, the page tables, the areas and the anon_vmas; the
 //! kernel has one. What it stands for, over any device, is said by the definitions' `Stands` over
 //! its `view`. `zap_range` takes away the entries of a range of pages, and frees the frames that no
-//! other page has: proved for every ledger that the parts stand for. `walk` finds the entries of a frame through its home: proved
-//! for every state that the memory system stands for, with the number of its looks. It is one call
-//! of av_rmap's `walk_frame`, which looks through the trait `Look` alone. Not proved: that nothing
-//! which holds a `Mem`, `walk` among it, asks the tables past that trait.
+//! other page has: proved for every ledger that the parts stand for.
+//!
+//! `walk` gives the entries of a frame: proved for every state that the memory system stands for,
+//! with the number of its steps. It is one call of av_rmap's `walk_frame`, which looks through the
+//! trait `Look` alone, no more often than it takes steps. Not proved: that nothing which holds a
+//! `Mem`, `walk` among it, asks the tables past that trait.
 #![tactic(auto)]
 
 mod mem;

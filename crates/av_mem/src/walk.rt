@@ -16,9 +16,11 @@ use av_rmap::stores::Stores;
 use std::alloc::{AllocError, Global};
 use std::sync::ledger::Ledger;
 
-/// Process and page of each entry that names the frame, by process and then by page, found through
-/// the frame's home. Each look at an entry takes a step: one look for each area that is linked to
-/// the home's anon_vma and holds its index. Without memory it takes none.
+/// Process and page of each entry that names the frame, by process and then by page. It takes
+/// exactly as many steps as areas that are linked to the anon_vma of the frame's home hold its
+/// index; without memory none.
+///
+/// It is one call of `walk_frame`, whose looks at an entry are no more than its steps.
 pub fn walk<L: Ledger>(
     mem: &Mem,
     alloc: Global,

@@ -96,8 +96,11 @@ fn run_trace<S: Source, K: Sink, D: SwapDev>(
 ///
 /// Each line of the source is read whole and done, and its text written, before the next line is
 /// taken. The source is read in pieces, each time only when no whole line is left of the last
-/// piece. There is one flush of the sink for each read, and nothing is kept back when a read is
-/// waited for; and one more in the end, but after a call that failed. A flush that fails ends the
+/// piece. How small a piece may be is no clause: so the lines don't bound how often the source is
+/// read, and the sink flushed with it.
+///
+/// There is one flush of the sink for each read, and nothing is kept back when a read is waited
+/// for; and one more in the end, but after a call that failed. A flush that fails ends the
 /// run as a failed write does; where memory is wanting, the last one may fail beside that. (By the
 /// clauses one flush that fails may be told as want of memory: no status tells them apart.)
 pub fn run<S: Source, K: Sink, D: SwapDev>(

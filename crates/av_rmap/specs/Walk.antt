@@ -47,7 +47,8 @@ abbrev pub is_held : ℕ → Option Area → Bool
 is_held index None = false
 is_held index (Some area) = holds index area
 
--- how many looks a walk from a home takes: one for each span that overlaps; none without a home
+-- how many steps a walk from a home takes, and so how many looks at most: one for each span that
+-- overlaps; none without a home
 abbrev pub looks_from : View → Option (ℕ × ℕ) → ℕ
 looks_from view None = 0
 looks_from view (Some home) = how_many (overlaps home.1) (view.spans home.0)

@@ -37,7 +37,7 @@ pub trait LookMut<L: Ledger>: Look<L> {
 
     ghost kept: { Self → Self.Kept };
 
-    /// Puts an entry in place of one that is there. It takes no step: a look comes before it.
+    /// Puts an entry in place of one that is there. It takes no step, so it isn't counted.
     fn change(&mut self, process: u16, page: u64, entry: Pte)
         requires some { entry ≡ Pte.Empty → ⊥ }
         requires there { (Self.view self.old).entry process page ≡ Pte.Empty → ⊥ }

@@ -13,7 +13,7 @@ use av_pagetable::Pte;
 use std::sync::ledger::Ledger;
 
 /// Whether an entry that names the frame says that its page was accessed. `home` is the frame's. It
-/// looks at no more entries than a walk.
+/// takes no more steps than a walk.
 pub fn any_seen<K: Look<L>, L: Ledger>(
     look: &K,
     frame: u32,
@@ -65,7 +65,7 @@ fn seen_in<K: Look<L>, L: Ledger>(
 }
 
 /// Takes the frame as not accessed: no entry that names it says any more that its page was, and
-/// nothing else changes. `home` is the frame's. It looks at as many entries as a walk.
+/// nothing else changes. `home` is the frame's. It takes as many steps as a walk.
 pub fn clear_seen<K: LookMut<L>, L: Ledger>(
     look: &mut K,
     frame: u32,

@@ -14,7 +14,7 @@ use std::sync::ledger::Ledger;
 /// Appends the process and page of each entry that names the frame, once. `home` is the frame's: an
 /// anon_vma and a linear index. It takes no memory.
 ///
-/// It looks at as many entries as areas that are linked to the anon_vma hold the index.
+/// It takes as many steps as spans of the anon_vma hold the index, and each look is one.
 pub fn walk<K: Look<L>, L: Ledger>(
     look: &K,
     frame: u32,
