@@ -64,14 +64,14 @@ pub record Parts : Type 0 where
   pub pages : Option (ℕ → ℕ → List ℕ)
   pub faults : ℕ
 
--- nothing was in flight, or the first slot was written, or not
+-- nothing was in flight, or the first slot was written from the frame that caches it, or not
 abbrev pub Finishes : Option Finished → Parts → Parts → Type 0
 Finishes None old new = (old.swap.flight ≡ []) × (new ≡ old)
-Finishes (Some (Done s)) old new =
-    (f : ℕ) × (page : List ℕ) × IsFirst s f page old.swap new.swap old.frames
+Finishes (Some (Done s f)) old new =
+    (page : List ℕ) × IsFirst s f page old.swap new.swap old.frames
     × IsWritten s.area s.page page old.pages new.pages × (new.frames ≡ old.frames)
     × (new.faults ≡ old.faults)
-Finishes (Some (Failed s)) old new =
-    (f : ℕ) × (page : List ℕ) × IsFirst s f page old.swap new.swap old.frames
+Finishes (Some (Failed s f)) old new =
+    (page : List ℕ) × IsFirst s f page old.swap new.swap old.frames
     × IsSpoiled s.area s.page old.pages new.pages
     × (new.frames ≡ with_dirty f true old.frames) × Rose old.faults new.faults

@@ -36,10 +36,10 @@ pub enum SwapOn {
 /// What came of a write of a slot.
 #[derive(Clone, Copy, Drop, Debug, PartialEq, Eq)]
 pub enum Finished {
-    /// The device holds the frame's bytes.
-    Done(Slot),
-    /// The device failed.
-    Failed(Slot),
+    /// The slot's page holds the bytes of the frame that caches it.
+    Done { slot: Slot, frame: u32 },
+    /// The device failed, and the slot's page holds any bytes.
+    Failed { slot: Slot, frame: u32 },
 }
 
 /// The swap areas that are on and the swap cache. Only `new`, `swapon` and `entry_up` take memory.
@@ -270,9 +270,9 @@ impl Swap {
             .is_err()
         {
             frames.set_dirty(frame, true);
-            return Some(Finished::Failed(slot));
+            return Some(Finished::Failed { slot, frame });
         }
-        Some(Finished::Done(slot))
+        Some(Finished::Done { slot, frame })
     }
 
     /// So many more entries name a slot that is in use. Without memory all stays.
