@@ -83,7 +83,7 @@ whole_fresh header bad counts all frames c a f free = record {
 
 pub shown_fresh : (header : Header) (kept priority : ℤ) (bad : List ℕ) (counts : Counts) (slots : Slots) (frames : List (Option ℕ)) →
     shown_counts counts ≡ fresh_counts header.pages bad → slots ≡ fresh_slots header.pages bad → frames ≡ replicate header.pages None → kept ≡ priority
-    → area_shown (record { header = header; priority = kept; closing = false; counts = counts; slots = slots; cache = frames }) ≡ fresh_area header priority bad
+    → area_shown (record { header = header; priority = kept; counts = counts; slots = slots; cache = frames }) ≡ fresh_area header priority bad
 shown_fresh header kept priority bad counts slots frames c t f same = λ k. record (fresh_area header priority bad) {
   priority = same k;
   find = λ p. (ap (λ l. frame_at l p) f ∙ frame_at-replicate header.pages p) k;

@@ -5,7 +5,7 @@ use Rattle.std.proofs.lemmas.Int.{ints}
 use Rattle.std.proofs.lemmas.List.{get_or_past}
 use Rattle.std.specs.Prelude.{ℤ, int_lt, ◌<ℤ◌, ◌≤ℤ◌, MatchOption}
 use Rattle.av_swapcache.specs.Area.{AreaStore, area_shown, free_in}
-use Rattle.av_swapcache.specs.Swap.{GivesFirst, Shown, Store, can_give, closing_in, goes_before, shown, slots_in}
+use Rattle.av_swapcache.specs.Swap.{GivesFirst, Shown, Store, can_give, goes_before, is_closing, shown, slots_in}
 
 -- of the areas below n this one gives first, or none gives
 abbrev pub GivesBelow : Shown → ℕ → Option ℕ → Type 0
@@ -78,16 +78,11 @@ module _ (h : Shown) (n : ℕ) where
 pub none_past : (s v : Store) → s ≡ v → length s.areas ≡ 8 → ((k : ℕ) → k < 8 → can_give (shown v) k ≡ false) → (k : ℕ) → can_give (shown v) k ≡ false
 none_past s v same eight below k = by (cases_lt k 8)
   where
-    choose : (b : Bool) → (b && false) ≡ false
-    choose true = refl
-    choose false = refl
-
     by : (k < 8) ⊎ (8 ≤ k) → can_give (shown v) k ≡ false
     by (inl b) = below k b
     by (inr b) = let past : length s.areas ≤ k = omega (arith, b, eight) in
         sym (ap (λ (w : Store). can_give (shown w) k) same)
-        ∙ ap (λ (o : Option AreaStore). not (closing_in (option_map area_shown o)) && ltb 0 (free_in (slots_in (option_map area_shown o)))) (get_or_past s.areas k None past)
-        ∙ choose true
+        ∙ ap (λ (o : Option AreaStore). ltb 0 (free_in (slots_in (option_map area_shown o))) && not (is_closing (shown s) k)) (get_or_past s.areas k None past)
 
 -- all areas were looked at
 pub found_first : (s v : Store) (n : ℕ) (first : Option ℕ) → s ≡ v → length s.areas ≡ 8 → n ≡ 8 → GivesBelow (shown v) n first

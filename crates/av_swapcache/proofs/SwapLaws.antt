@@ -5,7 +5,7 @@ use Rattle.av_base.specs.Words.{with_at}
 use Rattle.av_base.specs.declared.slot.Slot.{Slot}
 use Rattle.av_clusters.specs.Clusters.{Slots}
 use Rattle.av_swapcache.specs.Area.{AreaShown, AreaStore, after_count, area_shown, count_in, given_back as area_given_back, with_frame, with_entries as area_with_entries}
-use Rattle.av_swapcache.specs.Swap.{Store, after_put, area_at, bad_in, closing_in, count_of, entries_in, find_in, frame_in, given_back, header_at, is_on, priority_in, shown, slots_in, with_closing, with_entries, with_find, with_slot}
+use Rattle.av_swapcache.specs.Swap.{Store, after_put, area_at, bad_in, count_of, entries_in, find_in, frame_in, given_back, header_at, is_on, priority_in, shown, slots_in, with_entries, with_find, with_slot}
 use Rattle.av_swapcache.proofs.AreaLaws.{own}
 use Rattle.av_swapcache.proofs.SlotLaws.{area_at-set, areas_one, areas_same, find-on, here, is_there, on-same, slots_one, slots_same}
 
@@ -65,7 +65,6 @@ module _ (s : Store) (k : ℕ) (a b : AreaStore) (h : get_or s.areas k None ≡ 
     entries = slots_kept s.areas k a b entries_in h (λ i. (e i).entries) i;
     bad = slots_kept s.areas k a b bad_in h (λ i. (e i).bad) i;
     on = on-same 0 k s.areas a b h (λ i. (e i).header) i;
-    closing = areas_kept s.areas k a b closing_in h (λ i. (e i).closing) i;
     priority = areas_kept s.areas k a b priority_in h (λ i. (e i).priority) i;
     slots = areas_kept s.areas k a b slots_in h (λ i. (e i).slots) i;
   }
@@ -77,18 +76,6 @@ module _ (s : Store) (k : ℕ) (a b : AreaStore) (h : get_or s.areas k None ≡ 
     entries = slots_changed s.areas k a b entries_in p n h (λ i. (e i).entries) i;
     bad = slots_kept s.areas k a b bad_in h (λ i. (e i).bad) i;
     on = on-same 0 k s.areas a b h (λ i. (e i).header) i;
-    closing = areas_kept s.areas k a b closing_in h (λ i. (e i).closing) i;
-    priority = areas_kept s.areas k a b priority_in h (λ i. (e i).priority) i;
-    slots = areas_kept s.areas k a b slots_in h (λ i. (e i).slots) i;
-  }
-
-  pub shown_closed : (closing : Bool) → area_shown b ≡ record (area_shown a) { closing = closing } → shown (with_one s k b) ≡ with_closing k closing (shown s)
-  shown_closed closing e = λ i. record (shown s) {
-    find = slots_kept s.areas k a b find_in h (λ i. (e i).find) i;
-    entries = slots_kept s.areas k a b entries_in h (λ i. (e i).entries) i;
-    bad = slots_kept s.areas k a b bad_in h (λ i. (e i).bad) i;
-    on = on-same 0 k s.areas a b h (λ i. (e i).header) i;
-    closing = areas_changed s.areas k a b closing_in closing h (λ i. (e i).closing) i;
     priority = areas_kept s.areas k a b priority_in h (λ i. (e i).priority) i;
     slots = areas_kept s.areas k a b slots_in h (λ i. (e i).slots) i;
   }
@@ -99,7 +86,6 @@ module _ (s : Store) (k : ℕ) (a b : AreaStore) (h : get_or s.areas k None ≡ 
     entries = slots_kept s.areas k a b entries_in h (λ i. (e i).entries) i;
     bad = slots_kept s.areas k a b bad_in h (λ i. (e i).bad) i;
     on = on-same 0 k s.areas a b h (λ i. (e i).header) i;
-    closing = areas_kept s.areas k a b closing_in h (λ i. (e i).closing) i;
     priority = areas_kept s.areas k a b priority_in h (λ i. (e i).priority) i;
     slots = areas_kept s.areas k a b slots_in h (λ i. (e i).slots) i;
   }
@@ -111,7 +97,6 @@ module _ (s : Store) (k : ℕ) (a b : AreaStore) (h : get_or s.areas k None ≡ 
     entries = slots_kept s.areas k a b entries_in h (λ i. (e i).entries) i;
     bad = slots_kept s.areas k a b bad_in h (λ i. (e i).bad) i;
     on = on-same 0 k s.areas a b h (λ i. (e i).header) i;
-    closing = areas_kept s.areas k a b closing_in h (λ i. (e i).closing) i;
     priority = areas_kept s.areas k a b priority_in h (λ i. (e i).priority) i;
     slots = areas_changed s.areas k a b slots_in rest h (λ i. (e i).slots) i;
   }
@@ -127,7 +112,6 @@ module _ (s : Store) (k : ℕ) (a b : AreaStore) (h : get_or s.areas k None ≡ 
     entries = slots_kept s.areas k a b entries_in h (λ i. (e i).entries) i;
     bad = slots_kept s.areas k a b bad_in h (λ i. (e i).bad) i;
     on = on-same 0 k s.areas a b h (λ i. (e i).header) i;
-    closing = areas_kept s.areas k a b closing_in h (λ i. (e i).closing) i;
     priority = areas_kept s.areas k a b priority_in h (λ i. (e i).priority) i;
     slots = areas_changed s.areas k a b slots_in _ h (left e) i;
   }
@@ -149,7 +133,6 @@ module _ (s : Store) (k : ℕ) (a b : AreaStore) (h : get_or s.areas k None ≡ 
     entries = slots_changed s.areas k a b entries_in p n h (λ i. (e i).entries) i;
     bad = slots_kept s.areas k a b bad_in h (λ i. (e i).bad) i;
     on = on-same 0 k s.areas a b h (λ i. (e i).header) i;
-    closing = areas_kept s.areas k a b closing_in h (λ i. (e i).closing) i;
     priority = areas_kept s.areas k a b priority_in h (λ i. (e i).priority) i;
     slots = areas_changed s.areas k a b slots_in _ h (left e) i;
   }

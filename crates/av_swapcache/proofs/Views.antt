@@ -17,7 +17,7 @@ use Rattle.std.specs.Prelude.{ℤ, ◌<ℤ◌}
 use Rattle.std.proofs.lemmas.Int.{ints}
 use Rattle.av_swapdev.specs.declared.header.Header.{Header}
 use Rattle.av_swapcache.specs.Area.{AreaStore, area_shown, free_in}
-use Rattle.av_swapcache.specs.Swap.{GivesFirst, HasAreas, Shown, Store, after_off, after_on, can_give, closing_in, on_from, shown, slots_in}
+use Rattle.av_swapcache.specs.Swap.{GivesFirst, HasAreas, Shown, Store, after_off, after_on, can_give, is_closing, on_from, shown, slots_in}
 
 -- ---- the list of areas by other values
 
@@ -85,7 +85,7 @@ gives_first-is s n k g alike = found_on (can_give (shown s)) 0 k s.areas (λ i e
     zero_plus m = omega arith
 
     off : (i : ℕ) → get_or s.areas i None ≡ None → can_give (shown s) i ≡ false
-    off i e = ap (λ (o : Option AreaStore). not (closing_in (option_map area_shown o)) && ltb 0 (free_in (slots_in (option_map area_shown o)))) e
+    off i e = ap (λ (o : Option AreaStore). ltb 0 (free_in (slots_in (option_map area_shown o))) && not (is_closing (shown s) i)) e
 
     none : (i : ℕ) → i < k → (b : Bool) → can_give (shown s) i ≡ b → can_give (shown s) i ≡ false
     none i less true e = let p = g.least i less e in let q = alike i k e g.gives in absurd (never _ _ p q)

@@ -23,7 +23,7 @@ use Rattle.av_base.specs.Words.{how_many, with_at}
 use Rattle.av_base.specs.declared.slot.Slot.{Slot}
 use Rattle.av_swapdev.specs.declared.header.Header.{Header}
 use Rattle.av_swapcache.specs.Area.{AreaShown, AreaStore, IsSlot, area_shown, count_in, counted, free_in, fresh_area, given_back as area_given_back, with_entries as area_with_entries, with_frame}
-use Rattle.av_swapcache.specs.Swap.{HasAreas, IsSlotIn, IsWhole, Shown, Store, after_off, after_on, after_put, area_at, bad_in, can_give, closing_in, count_of, entries_in, find_in, frame_in, given_back, header_at, is_on, is_writing, itself, on_from, priority_in, same_slot, shown, slots_in, with_area, with_entries}
+use Rattle.av_swapcache.specs.Swap.{HasAreas, IsSlotIn, IsWhole, Shown, Store, after_off, after_on, after_put, area_at, bad_in, can_give, count_of, entries_in, find_in, frame_in, given_back, header_at, is_closing, is_on, is_writing, itself, on_from, priority_in, same_slot, shown, slots_in, with_area, with_entries}
 use Rattle.av_swapcache.proofs.Flight.{is_listed, whole_drop, whole_put, whole_same}
 use Rattle.av_swapcache.proofs.SwapLaws.{area_is, frames_kept, frames_one, header-at, shown_named, shown_put, shown_same, shown_unnamed, with_one}
 
@@ -161,15 +161,18 @@ behind_header s k p is = by (area_at s.areas k) is
 -- an area that gives a slot is on
 pub gives_is_on : (s v : Store) (k : ℕ) → s ≡ v → can_give (shown v) k ≡ true → None ≡ get_or s.areas k None → ⊥
 gives_is_on s v k same gives off = false≢true (sym (ap (λ (w : Store). can_give (shown w) k) (sym same)
-    ∙ ap (λ o. not (closing_in (option_map area_shown o)) && ltb 0 (free_in (slots_in (option_map area_shown o)))) (sym off)) ∙ gives)
+    ∙ ap (λ o. ltb 0 (free_in (slots_in (option_map area_shown o))) && not (is_closing (shown s) k)) (sym off)) ∙ gives)
 
 pub gives_some : (s v : Store) (k : ℕ) (a : AreaStore) → s ≡ v → can_give (shown v) k ≡ true → Some a ≡ get_or s.areas k None → 0 < free_in (area_shown a).slots
-gives_some s v k a same gives on = by (not a.closing) (free_in a.slots) (sym (ap (λ (w : Store). can_give (shown w) k) (sym same)
-    ∙ ap (λ o. not (closing_in (option_map area_shown o)) && ltb 0 (free_in (slots_in (option_map area_shown o)))) (sym on)) ∙ gives)
+gives_some s v k a same gives on = by (not (is_closing (shown s) k)) (free_in a.slots) (sym (ap (λ (w : Store). can_give (shown w) k) (sym same)
+    ∙ ap (λ o. ltb 0 (free_in (slots_in (option_map area_shown o))) && not (is_closing (shown s) k)) (sym on)) ∙ gives)
   where
-    by : (b : Bool) (m : ℕ) → (b && ltb 0 m) ≡ true → 0 < m
-    by true m e = grind (arith, nat_tests)
-    by false m e = absurd (false≢true e)
+    first : (b c : Bool) → (b && c) ≡ true → b ≡ true
+    first true c e = refl
+    first false c e = e
+
+    by : (b : Bool) (m : ℕ) → (ltb 0 m && b) ≡ true → 0 < m
+    by b m e = let some = first (ltb 0 m) b e in grind (arith, nat_tests)
 
 -- ---- a slot that is put
 
@@ -281,14 +284,14 @@ module _ (s v : Store) (k : ℕ) (same : s ≡ v) (on : is_on (shown v) k ≡ tr
   off_whole ql qr w = resized (length s.areas) (length (set s.areas k None)) (frame_in (set s.areas k None)) s.flight ql qr s.writing (length-set s.areas k None)
       (whole_same (length s.areas) (frame_in s.areas) s.flight ql qr s.writing (frame_in (set s.areas k None)) frames_same w)
 
-  pub off_shown : shown (record s { areas = set s.areas k None }) ≡ after_off k (shown v)
+  pub off_shown : shown (record s { areas = set s.areas k None; closing = None }) ≡ after_off k (shown v)
   off_shown = (λ i. record (shown s) {
     find = frames_same i;
     entries = ((λ i t. entries_in (now i t.area) t.page)
         ∙ slots_same entries_in (area_at s.areas) k None (λ i p. sym (uncached s v k same none p).1 i)) i;
     bad = ((λ i t. bad_in (now i t.area) t.page) ∙ slots_all bad_in (area_at s.areas) k None) i;
     on = on-off 0 k k s.areas (zero_is k) i;
-    closing = ((λ i j. closing_in (now i j)) ∙ areas_one closing_in (area_at s.areas) k None) i;
+    closing = None;
     priority = ((λ i j. priority_in (now i j)) ∙ areas_one priority_in (area_at s.areas) k None) i;
     slots = ((λ i j. slots_in (now i j)) ∙ areas_one slots_in (area_at s.areas) k None) i;
   }) ∙ ap (λ (w : Store). after_off k (shown w)) same
@@ -331,8 +334,6 @@ module _ (s v : Store) (k : ℕ) (b : AreaStore) (header : Header) (priority : �
     bad = ((λ i t. bad_in (now_on i t.area) t.page) ∙ slots_all bad_in (area_at s.areas) k (Some (area_shown b))
         ∙ (λ i. with_area k (e i).bad (λ (t : Slot). bad_in (area_at s.areas t.area) t.page))) i;
     on = (on-put 0 k k s.areas b (zero_is k) below is_none ∙ (λ i. put nat_cmp k (e i).header (on_from 0 s.areas))) i;
-    closing = ((λ i j. closing_in (now_on i j))
-        ∙ areas_same closing_in (area_at s.areas) k (Some (area_shown b)) ((λ i. (e i).closing) ∙ sym (ap closing_in was_off))) i;
     priority = ((λ i j. priority_in (now_on i j)) ∙ areas_one priority_in (area_at s.areas) k (Some (area_shown b))
         ∙ (λ i. with_at k (e i).priority (λ j. priority_in (area_at s.areas j)))) i;
     slots = ((λ i j. slots_in (now_on i j)) ∙ areas_one slots_in (area_at s.areas) k (Some (area_shown b))

@@ -11,7 +11,6 @@ use Rattle.av_swapmap.specs.Counts.{Store as Counts, Shown as ShownCounts, shown
 pub record AreaStore : Type 0 where
   pub header : Header
   pub priority : ℤ
-  pub closing : Bool
   pub counts : Counts
   pub slots : Slots
   pub cache : List (Option ℕ)
@@ -21,7 +20,6 @@ pub record AreaStore : Type 0 where
 pub record AreaShown : Type 0 where
   pub header : Header
   pub priority : ℤ
-  pub closing : Bool
   pub find : ℕ → Option ℕ
   pub entries : ℕ → ℕ
   pub bad : ℕ → Bool
@@ -36,7 +34,6 @@ abbrev pub area_shown : AreaStore → AreaShown
 area_shown a = record {
   header = a.header;
   priority = a.priority;
-  closing = a.closing;
   find = frame_at a.cache;
   entries = (shown_counts a.counts).count;
   bad = (shown_counts a.counts).bad;
@@ -48,7 +45,6 @@ abbrev pub fresh_area : Header → ℤ → List ℕ → AreaShown
 fresh_area header priority bad = record {
   header = header;
   priority = priority;
-  closing = false;
   find = λ p. None;
   entries = λ p. 0;
   bad = λ p. nat_lt p header.pages && is_in p bad;

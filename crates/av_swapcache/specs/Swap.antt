@@ -12,16 +12,17 @@ use Rattle.av_swapcache.specs.Area.{AreaShown, AreaStore, IsKept, IsSlot, is_slo
 
 -- ---- what is shown
 
--- the value of `Swap`: the areas by number, the slots in flight, and whether the slot that is
--- cached at a frame is one of them
+-- the value of `Swap`: the areas by number, the one that is closing, the slots in flight, and
+-- whether the slot that is cached at a frame is one of them
 pub record Store : Type 0 where
   pub areas : List (Option AreaStore)
+  pub closing : Option ℕ
   pub flight : List Slot
   pub writing : List Bool
 
 -- how many frames there may be; the frame that caches a slot, how many entries name it, and whether
--- it is bad; the slots in flight, in order; the areas that are on, rising; of each whether it is
--- closing, its priority, and its slots with their clusters
+-- it is bad; the slots in flight, in order; the areas that are on, rising; the one of them that is
+-- closing; of each its priority, and its slots with their clusters
 pub record Shown : Type 0 where
   pub frames : ℕ
   pub find : Slot → Option ℕ
@@ -29,7 +30,7 @@ pub record Shown : Type 0 where
   pub bad : Slot → Bool
   pub flight : List Slot
   pub on : List (ℕ × Header)
-  pub closing : ℕ → Bool
+  pub closing : Option ℕ
   pub priority : ℕ → ℤ
   pub slots : ℕ → Slots
 
@@ -49,10 +50,6 @@ entries_in (Some a) p = a.entries p
 abbrev pub bad_in : Option AreaShown → ℕ → Bool
 bad_in None p = false
 bad_in (Some a) p = a.bad p
-
-abbrev pub closing_in : Option AreaShown → Bool
-closing_in None = false
-closing_in (Some a) = a.closing
 
 abbrev pub priority_in : Option AreaShown → ℤ
 priority_in None = pos 0
@@ -102,7 +99,7 @@ shown s = record {
   bad = λ t. bad_in (area_at s.areas t.area) t.page;
   flight = s.flight;
   on = on_from 0 s.areas;
-  closing = λ k. closing_in (area_at s.areas k);
+  closing = s.closing;
   priority = λ k. priority_in (area_at s.areas k);
   slots = λ k. slots_in (area_at s.areas k);
 }
@@ -116,7 +113,7 @@ fresh frames = record {
   bad = λ s. false;
   flight = [];
   on = [];
-  closing = λ k. false;
+  closing = None;
   priority = λ k. pos 0;
   slots = λ k. no_slots;
 }
@@ -165,9 +162,17 @@ IsUncached h f = (s : Slot) → h.find s ≡ Some f → ⊥
 abbrev pub free_of : Shown → ℕ → ℕ
 free_of h k = free_in (h.slots k)
 
+-- whether the area that is closing is this one
+abbrev pub is_area : ℕ → Option ℕ → Bool
+is_area k None = false
+is_area k (Some j) = k == j
+
+abbrev pub is_closing : Shown → ℕ → Bool
+is_closing h k = is_area k h.closing
+
 -- whether an area gives a slot
 abbrev pub can_give : Shown → ℕ → Bool
-can_give h k = not (h.closing k) && nat_lt 0 (free_of h k)
+can_give h k = nat_lt 0 (free_of h k) && not (is_closing h k)
 
 -- of the areas below n this one gives, and none that gives goes before it: none has a greater
 -- priority, or that priority and a lesser number
@@ -230,8 +235,8 @@ with_find s frame h = record h { find = with_slot s frame h.find }
 abbrev pub with_entries : Slot → ℕ → Shown → Shown
 with_entries s n h = record h { entries = with_slot s n h.entries }
 
-abbrev pub with_closing : ℕ → Bool → Shown → Shown
-with_closing k closing h = record h { closing = with_at k closing h.closing }
+abbrev pub with_closing : Option ℕ → Shown → Shown
+with_closing k h = record h { closing = k }
 
 -- a slot whose count is 0 is given back to its clusters
 abbrev pub given_back : Slot → Shown → Shown
@@ -255,12 +260,12 @@ after_on k header priority bad_list h = record h {
   slots = with_at k (fresh_slots header.pages bad_list) h.slots;
 }
 
--- an area is off
+-- the area that was closing is off
 abbrev pub after_off : ℕ → Shown → Shown
 after_off k h = record h {
   bad = with_area k (λ p. false) h.bad;
   on = where_key nat_cmp (λ q. not (q == k)) h.on;
-  closing = with_at k false h.closing;
+  closing = None;
   priority = with_at k (pos 0) h.priority;
   slots = with_at k no_slots h.slots;
 }

@@ -18,7 +18,6 @@ use std::marker::Model;
 pub(crate) struct Area {
     header: Header,
     priority: i32,
-    closing: bool,
     counts: Counts,
     clusters: Clusters,
     // The frame that caches each slot, by page.
@@ -34,7 +33,6 @@ impl Model for Area {
     ghost view = { λ a. record {
       header = a.header;
       priority = a.priority;
-      closing = a.closing;
       counts = a.counts;
       slots = a.clusters;
       cache = a.cache.items;
@@ -58,7 +56,6 @@ impl Area {
         Ok(Area {
             header,
             priority,
-            closing: false,
             counts: Counts::new(alloc, header.pages, bad)?,
             clusters: Clusters::new(alloc, header.pages, bad)?,
             cache: nothing_cached(alloc, header.pages)?,
@@ -77,19 +74,6 @@ impl Area {
         ensures { result ≡ (area_shown self.now).priority }
     {
         self.priority
-    }
-
-    /// Whether no slot is given for now.
-    pub(crate) fn closing(&self) -> bool
-        ensures { result ≡ (area_shown self.now).closing }
-    {
-        self.closing
-    }
-
-    pub(crate) fn set_closing(&mut self, closing: bool)
-        ensures { area_shown self.new ≡ record (area_shown self.old) { closing = closing } }
-    {
-        self.closing = closing;
     }
 
     /// How many slots are free.
@@ -117,12 +101,15 @@ impl Area {
         let _ = &self.cache;
     }
 
-    /// How many entries name the slot.
+    /// How many entries name the slot of a page; 0 of a page past the last.
     pub(crate) fn entries(&self, page: u32) -> u32
-        requires { page < (area_shown self.now).header.pages }
         ensures { result ≡ (area_shown self.now).entries page }
     {
-        self.counts.get(page)
+        if page < self.header.pages {
+            self.counts.get(page)
+        } else {
+            0
+        }
     }
 
     /// Whether the page is bad.

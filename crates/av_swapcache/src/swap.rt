@@ -1,10 +1,10 @@
 //! The swap cache over the areas that are on.
 
-ghost use Rattle.std.specs.Prelude.{◌≡◌, ℕ, ◌+◌, ◌-◌, ◌<◌, ◌≤◌, ◌^◌, ◌∷◌, ◌++◌, [], length, replicate, IfOk, IfSome, IsSomeAnd, MatchOption, MatchResult, OnOk, OnErr, Ok, Some, None, true, false};
+ghost use Rattle.std.specs.Prelude.{◌≡◌, ℕ, ◌+◌, ◌-◌, ◌<◌, ◌≤◌, ◌^◌, ◌∷◌, ◌++◌, [], nat_lt, length, replicate, IfOk, IfSome, IsSomeAnd, MatchOption, MatchResult, OnOk, OnErr, Ok, Some, None, true, false};
 ghost use Rattle.av_frames.specs.Store.{shown as frames_shown, with_dirty, with_slot as with_frame_slot};
 ghost use Rattle.av_io.specs.Count.{Rose};
 ghost use Rattle.av_swapcache.specs.Calls.{Answers, Finishes, IsLoaded, IsPut};
-ghost use Rattle.av_swapcache.specs.Swap.{shown, fresh, all_free, all_slots, IsFit, GivesFirst, HasAreas, IsPage, IsUncached, can_give, count_of, is_cached, is_flying, is_full, is_on, header_at, free_of, goes_before, with_closing, with_entries, with_find, given_back, after_off};
+ghost use Rattle.av_swapcache.specs.Swap.{shown, fresh, all_free, all_slots, IsFit, GivesFirst, HasAreas, IsPage, IsUncached, can_give, count_of, is_cached, is_flying, is_full, is_on, header_at, free_of, goes_before, is_closing, with_closing, with_entries, with_find, given_back, after_off};
 ghost use Rattle.av_swapdev.specs.Device.{most_areas};
 
 use crate::area::Area;
@@ -46,6 +46,8 @@ pub enum Finished {
 #[derive(Drop)]
 pub struct Swap {
     areas: Areas,
+    // The area that gives no slot for now, since it is about to be turned off.
+    closing: Option<u8>,
     // The slots in flight, in order. There is room for one of each frame.
     flight: VecDeque<Slot>,
     // Whether the slot that a frame caches is in flight, so that no one has to search it.
@@ -61,6 +63,7 @@ impl Model for Swap {
 
     ghost view = { λ a. record {
       areas = a.areas.areas.items;
+      closing = a.closing;
       flight = a.flight.items;
       writing = a.writing.items;
     } };
@@ -76,6 +79,7 @@ impl Swap {
     {
         Ok(Swap {
             areas: Areas::new(alloc, AREAS)?,
+            closing: None,
             flight: VecDeque::with_capacity(alloc, frames as usize)?,
             writing: no_flags(alloc, frames)?,
         })
@@ -305,39 +309,45 @@ impl Swap {
         area.entry_down(slot.page, n);
     }
 
-    /// Lets no slot of an area be given.
+    /// Lets no slot of an area be given, while it is emptied. At most one area is closing at a time.
     pub fn close(&mut self, area: u8)
-        requires { is_on (shown self.old) area ≡ true }
-        ensures { shown self.new ≡ with_closing area true (shown self.old) }
+        requires on { is_on (shown self.old) area ≡ true }
+        requires none_closing { (shown self.old).closing ≡ None }
+        ensures { shown self.new ≡ with_closing (Some area) (shown self.old) }
     {
-        self.set_closing(area, true);
+        self.closing = Some(area);
     }
 
-    /// Lets its slots be given again.
-    pub fn reopen(&mut self, area: u8)
-        requires { is_on (shown self.old) area ≡ true }
-        ensures { shown self.new ≡ with_closing area false (shown self.old) }
+    /// Lets the slots of the area that is closing be given again.
+    pub fn reopen(&mut self)
+        ensures { shown self.new ≡ with_closing None (shown self.old) }
     {
-        self.set_closing(area, false);
+        self.closing = None;
     }
 
-    fn set_closing(&mut self, number: u8, closing: bool)
-        requires { is_on (shown self.old) number ≡ true }
-        ensures { shown self.new ≡ with_closing number closing (shown self.old) }
-    {
-        let Some(area) = self.areas.of_mut(number) else {
-            unreachable!();
-        };
-        area.set_closing(closing);
-    }
-
-    /// Turns an area off, no slot of which is in use.
+    /// Turns off the area that is closing, no slot of which is in use.
     pub fn remove(&mut self, area: u8)
         requires on { is_on (shown self.old) area ≡ true }
+        requires closing { (shown self.old).closing ≡ Some area }
         requires unused { (s : Slot) → s.area ≡ area → count_of (shown self.old) s ≡ 0 }
         ensures { shown self.new ≡ after_off area (shown self.old) }
     {
         self.areas.areas[area as usize] = None;
+        self.closing = None;
+    }
+
+    /// For how many frames there is room: those of the `Frames` that the calls are handed.
+    pub fn frames(&self) -> u32
+        ensures { result ≡ (shown self.now).frames }
+    {
+        self.writing.len() as u32
+    }
+
+    /// The area that is closing, if one is.
+    pub fn closing(&self) -> Option<u8>
+        ensures { result ≡ (shown self.now).closing }
+    {
+        self.closing
     }
 
     /// Whether an area is on.
@@ -423,15 +433,33 @@ impl Swap {
         2 * self.all_free_slots() < self.all_slots()
     }
 
-    /// How many entries name a slot.
+    /// How many entries name a slot; 0 of what is no slot of an area that is on.
     pub fn entries(&self, slot: Slot) -> u32
-        requires { IsPage (shown self.now) slot }
         ensures { result ≡ (shown self.now).entries slot }
     {
-        let Some(area) = self.areas.of(slot.area) else {
-            unreachable!();
-        };
-        area.entries(slot.page)
+        match self.areas.of(slot.area) {
+            Some(area) => area.entries(slot.page),
+            None => 0,
+        }
+    }
+
+    /// The count of a slot: the entries that name it, and one more where it is cached. 0 of what is
+    /// no slot of an area that is on.
+    pub fn count(&self, slot: Slot) -> u64
+        ensures { result ≡ count_of (shown self.now) slot }
+    {
+        let entries = u64::from(self.entries(slot));
+        match self.find(slot) {
+            Some(_) => entries + 1,
+            None => entries,
+        }
+    }
+
+    /// Whether a slot is in use: an entry names it, or it is cached.
+    pub fn is_in_use(&self, slot: Slot) -> bool
+        ensures { result ≡ nat_lt 0 (count_of (shown self.now) slot) }
+    {
+        self.count(slot) > 0
     }
 
     /// Whether a page is bad.
@@ -465,8 +493,15 @@ impl Swap {
     fn can_give(&self, area: u8) -> bool
         ensures { result ≡ can_give (shown self.now) area }
     {
-        match self.areas.of(area) {
-            Some(area) => !area.closing() && area.free() > 0,
+        self.free_slots(area) > 0 && !self.is_closing(area)
+    }
+
+    /// Whether the area that is closing is this one.
+    fn is_closing(&self, area: u8) -> bool
+        ensures { result ≡ is_closing (shown self.now) area }
+    {
+        match self.closing {
+            Some(closing) => area == closing,
             None => false,
         }
     }
