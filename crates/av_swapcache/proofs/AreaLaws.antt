@@ -2,7 +2,6 @@
 use Rattle.std.proofs.Common.{◌≡◌, ℕ, suc, [], ◌∷◌, count_by, ◌+◌, ◌<◌, ◌≤◌, Bool, true, false, cond, not, ◌&&◌, ◌==◌, List, length, get_or, set, Option, Some, None, is_some, refl, sym, ap, subst, ◌∙◌, arith, ltb, length-set, get_or-set_same, get_or-set_other}
 use Rattle.std.proofs.lemmas.Bool.{false≢true}
 use Rattle.std.proofs.lemmas.Bool.Decides.{nat_tests}
-use Rattle.std.proofs.lemmas.List.{get_or_past}
 use Rattle.std.proofs.lemmas.List.Sums.{sum_by-cons}
 use Rattle.av_swapdev.specs.declared.header.Header.{Header}
 use Rattle.std.specs.Prelude.{IsSomeAnd, MatchResult, Result, Ok, Err}
@@ -129,17 +128,6 @@ module _ (header : Header) (counts : ShownCounts) (all : List Page) (frames : Li
 
       high : ltb p header.pages ≡ true → p < header.pages
       high e = grind (arith, nat_tests)
-
--- no entry names a page past the last
-pub past_unnamed : (header : Header) (counts : ShownCounts) (all : List Page) (frames : List (Option ℕ)) (p : ℕ) → IsArea header counts all frames →
-    ltb p header.pages ≡ false → 0 ≡ counts.count p
-past_unnamed header counts all frames p w past = none (counts.count p) _ (sym (w.taken p) ∙ ap is_taken (get_or_past all p Unusable (beyond _ w.pages)))
-  where
-    none : (m c : ℕ) → ltb 0 (m + c) ≡ false → 0 ≡ m
-    none m c e = grind (arith, nat_tests)
-
-    beyond : (l : ℕ) → l ≡ header.pages → l ≤ p
-    beyond l e = grind (arith, nat_tests)
 
 -- the flag of a slot changes with its frame
 pub flag_changes : (p : ℕ) (x : Option ℕ) (b : Bool) (old new : ShownCounts) (all : List Page) (frames : List (Option ℕ)) → b ≡ is_some x →

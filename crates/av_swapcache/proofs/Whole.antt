@@ -14,7 +14,7 @@ use Rattle.std.specs.Prelude.{ℤ, IfSome, IsSomeAnd, MatchResult, OnOk, OnErr, 
 use Rattle.av_base.specs.Page.{page_size}
 use Rattle.av_frames.specs.Store.{Shown as ShownFrames}
 use Rattle.av_swapcache.specs.Calls.{IsFirst}
-use Rattle.av_swapcache.proofs.SlotLaws.{area_at-set, areas_one, areas_same, is_there, on-off, on-put, slots_all, slots_same}
+use Rattle.av_swapcache.proofs.SlotLaws.{area_at-set, areas_one, is_there, on-off, on-put, slots_all, slots_same}
 use Rattle.std.proofs.lemmas.Bool.Decides.{nat_tests}
 use Rattle.av_clusters.specs.Clusters.{Slots, is_free, pages_of, take_slot}
 use Rattle.av_swapdev.specs.Device.{HasPage}

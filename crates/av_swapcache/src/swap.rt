@@ -1,4 +1,5 @@
-//! The swap cache over the areas that are on.
+//! The swap areas that are on and the swap cache: one struct, whose calls go through frames and
+//! device (Linux's `mm/swapfile.c` and `mm/swap_state.c`).
 
 ghost use Rattle.std.specs.Prelude.{◌≡◌, ℕ, ◌+◌, ◌-◌, ◌<◌, ◌≤◌, ◌^◌, ◌∷◌, ◌++◌, [], nat_lt, length, replicate, IfOk, IfSome, IsSomeAnd, MatchOption, MatchResult, OnOk, OnErr, Ok, Some, None, true, false};
 ghost use Rattle.av_frames.specs.Store.{shown as frames_shown, with_dirty, with_slot as with_frame_slot};
@@ -42,7 +43,8 @@ pub enum Finished {
     Failed { slot: Slot, frame: u32 },
 }
 
-/// The swap areas that are on and the swap cache. Only `new`, `swapon` and `entry_up` take memory.
+/// The swap areas that are on and the swap cache. Areas are numbered from 0 to 7, the pages of each
+/// from 0, its header. Only `new`, `swapon` and `entry_up` take memory.
 #[derive(Drop)]
 pub struct Swap {
     areas: Areas,
@@ -85,8 +87,9 @@ impl Swap {
         })
     }
 
-    /// Turns an area on, by the header on page 0 of the device. Of two areas the one with the
-    /// greater priority gives its slots first. Without memory all stays.
+    /// Turns an area on, which has so many pages on the device, by the header on its page 0. Of two
+    /// areas the one with the greater priority gives its slots first. `Err` is want of memory
+    /// alone: all stays then, as where the answer is another than `On`.
     pub fn swapon<D: SwapDev>(
         &mut self,
         alloc: Global,
@@ -131,7 +134,7 @@ impl Swap {
         self.areas.keep();
     }
 
-    /// The frame that caches a slot.
+    /// The frame that caches a slot (Linux's `lookup_swap_cache`).
     pub fn find(&self, slot: Slot) -> Option<u32>
         ensures value { result ≡ (shown self.now).find slot }
         ensures in_range { IfSome result (λ f. f < (shown self.now).frames) }
@@ -205,8 +208,8 @@ impl Swap {
         Ok(())
     }
 
-    /// A cached slot is so no longer, nor is its frame; the slot is given back where no entry names
-    /// it.
+    /// A cached slot is so no longer, nor is its frame (Linux's `delete_from_swap_cache`); the slot
+    /// is given back where no entry names it. The frame's dirty bit stays, and it isn't freed.
     pub fn drop_ref(&mut self, frames: &mut Frames, slot: Slot)
         requires fits { (shown self.old).frames ≡ (frames_shown frames.old).count }
         requires cached { is_cached (shown self.old) slot ≡ true }
@@ -279,7 +282,8 @@ impl Swap {
         Some(Finished::Done { slot, frame })
     }
 
-    /// So many more entries name a slot that is in use. Without memory all stays.
+    /// So many more entries name a slot that is in use (Linux's `swap_duplicate`). Without memory
+    /// all stays.
     pub fn entry_up(&mut self, slot: Slot, n: u32) -> Result<(), AllocError>
         requires used { 0 < count_of (shown self.old) slot }
         requires room { (shown self.old).entries slot + n < 2 ^ 32 }
@@ -294,8 +298,8 @@ impl Swap {
         area.entry_up(slot.page, n)
     }
 
-    /// So many fewer entries name a slot that is in use. It is given back where its count becomes
-    /// 0.
+    /// So many fewer entries name a slot that is in use (Linux's `swap_free`). It is given back
+    /// where its count becomes 0.
     pub fn entry_down(&mut self, slot: Slot, n: u32)
         requires used { 0 < count_of (shown self.old) slot }
         requires some { n ≤ (shown self.old).entries slot }
