@@ -1,1 +1,2 @@
 mod RmapLaws
+mod SwapcacheLaws

@@ -1,1 +1,2 @@
 pub mod Rmap
+pub mod Swapcache

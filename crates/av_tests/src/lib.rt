@@ -25,6 +25,8 @@ mod paths;
 #[cfg(test)]
 mod rmap;
 #[cfg(test)]
+mod swapcache;
+#[cfg(test)]
 mod swapdev;
 #[cfg(test)]
 mod swapmap;

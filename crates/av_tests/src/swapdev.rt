@@ -25,7 +25,7 @@ fn put(page: &mut [u8; PAGE_LEN], little: bool, at: usize, number: u32)
 }
 
 /// A header in this order of bytes. Where `bad` is too long, it says so, and has the first of them.
-fn header(little: bool, version: u32, last: u32, bad: &[u32]) -> [u8; PAGE_LEN] {
+pub(crate) fn header(little: bool, version: u32, last: u32, bad: &[u32]) -> [u8; PAGE_LEN] {
     let mut page = [0; PAGE_LEN];
     page[PAGE_LEN - 10..].copy_from_slice(b"SWAPSPACE2");
     let named = bad.len().min(MOST_BAD + 1);
@@ -98,7 +98,7 @@ fn bad_pages_of_a_header(rt: HostRuntime) -> Result<(), Fail> {
 }
 
 /// Whether what has this name is attached as area 0, with so many pages.
-fn is_attached<D: SwapDev>(device: &mut D, name: &str, pages: u32) -> bool
+pub(crate) fn is_attached<D: SwapDev>(device: &mut D, name: &str, pages: u32) -> bool
     ensures { result ≡ true → D.sizes device.new 0 ≡ Some pages }
 {
     device.attach(0, name) == Ok(pages)

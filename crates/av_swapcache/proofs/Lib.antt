@@ -1,0 +1,10 @@
+pub mod AreaLaws
+pub mod FreshArea
+pub mod SlotLaws
+pub mod Flight
+pub mod SwapLaws
+pub mod Whole
+pub mod Giving
+pub mod Sums
+pub mod Fits
+pub mod Views
