@@ -215,7 +215,8 @@ AreKept areas n = (k : ℕ) → k < n → IsKeptOn (slice_index_or areas k None)
 -- bad, as many as the header says; an area that is off has none. No frame caches two slots. Each
 -- slot in flight stands there once, and is cached.
 pub record IsFit (h : Shown) : Type 0 where
-  pub taken : (s : Slot) → is_taken (page_at (h.slots s.area).pages s.page) ≡ nat_lt 0 (count_of h s)
+  pub taken : (s : Slot)
+      → is_taken (page_at (h.slots s.area).pages s.page) ≡ nat_lt 0 (count_of h s)
   pub usable : (s : Slot) → IfSome (header_at h s.area) (λ (a : Header).
       is_slot (page_at (h.slots s.area).pages s.page)
       ≡ (nat_lt 0 s.page && nat_lt s.page a.pages && not (h.bad s)))

@@ -313,7 +313,7 @@ impl Swap {
         area.entry_down(slot.page, n);
     }
 
-    /// Lets no slot of an area be given, while it is emptied. At most one area is closing at a time.
+    /// Lets no slot of an area be given, while it is emptied. At most one area closes at a time.
     pub fn close(&mut self, area: u8)
         requires on { is_on (shown self.old) area ≡ true }
         requires none_closing { (shown self.old).closing ≡ None }
