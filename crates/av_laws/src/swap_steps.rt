@@ -81,7 +81,7 @@ pub fn slots_are_told()
         (reply_with (Refused Einval) []) }
     ensures past_header { MayCome third_bad [] third_bad_on (AsksSlot 0 8)
         (reply_with (Refused Einval) []) }
-    ensures off_area { MayCome third_bad [] third_bad_on (AsksSlot 2 1)
+    ensures off_area { MayCome third_bad [] first_ledger (AsksSlot 0 1)
         (reply_with (Refused Einval) []) }
 {}
 
