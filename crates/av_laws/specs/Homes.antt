@@ -6,6 +6,7 @@
 --     new_keeps_last
 --   a copy (`rmap_after_note`): by_events, copy, copy_unhomed, copy_at_root, copied_frame_moved
 --   a write in place (`rmap_after_use`): in_place, left_in_place, lost_in_place
+--   a frame that takes a slot's page (`home_for`, `at_root`): of_one_page, of_two_pages
 --   what leaves each home (`rmap_after`, `rmap_after_use`): by_events, read, read_alone,
 --     moved_by_read, moved_by_read_alone, after_exit
 --   several events (`rmap_after_all`): copy, copied_frame_moved
@@ -27,7 +28,7 @@ use Rattle.av_vma.specs.declared.area.Area.{Area}
 use Rattle.av_plain.specs.Areas.{Homes, Rmap, no_anons, no_areas, no_homes, rmap_after}
 use Rattle.av_plain.specs.Covered.{IsRmapSound}
 use Rattle.av_plain.specs.Event.{Event, Noted, Used, Zapped, after}
-use Rattle.av_plain.specs.Ledger.{Entry, InFrame, Key, Ledger, first_ledger}
+use Rattle.av_plain.specs.Ledger.{Entry, InFrame, InSlot, Key, Ledger, first_ledger}
 use Rattle.av_plain.specs.Transcript.{Exchange, IsStep, State, rmap_of}
 use Rattle.av_laws.specs.Areas.{anons_of, area, child, family, process_with, root, state_of, with_own}
 use Rattle.av_laws.specs.Examples.{machine, only_frames, read_write, says, slot}
@@ -151,6 +152,18 @@ by_events =
 -- where no area has an anon_vma the page is prepared before its frame is at home there
 abbrev pub prepared_first : List (Event × FourHomes)
 prepared_first = (Noted (New 1 0x12000 0), Some (0, 0x22) ∷ None ∷ None ∷ None ∷ []) ∷ []
+
+-- frame 3 takes the page of slot 1, and has this home then
+abbrev pub loaded_at : Option (ℕ × ℕ) → List (Event × FourHomes)
+loaded_at home =
+    (Noted (Loaded (slot 1) 3), Some (0, 0x22) ∷ Some (0, 0x21) ∷ None ∷ home ∷ []) ∷ []
+
+-- the slot's page is the child's; or the child's and one of a process that was forked from it
+abbrev pub of_one_page : List (Key × Entry)
+of_one_page = ((2, 0x12), InSlot (slot 1)) ∷ []
+
+abbrev pub of_two_pages : List (Key × Entry)
+of_two_pages = ((2, 0x12), InSlot (slot 1)) ∷ ((3, 0x12), InSlot (slot 1)) ∷ []
 
 -- ---- what is covered
 

@@ -9,6 +9,7 @@ pub mod Views
 pub mod Areas
 pub mod Slots
 pub mod SwapRows
+pub mod SwapSteps
 pub mod Several
 pub mod Covered
 pub mod Homes

@@ -18,9 +18,13 @@ ghost use Rattle.av_laws.specs.Homes.{
   child_new,
   child_read,
   child_write,
+  loaded_at,
   moved_four,
+  naming,
   new_page,
   of_child,
+  of_one_page,
+  of_two_pages,
   prepared_first,
   with_child,
   with_home,
@@ -58,6 +62,15 @@ pub fn homes_follow()
         (Some (0, 0x22) ∷ Some (0, 0x21) ∷ None ∷ None ∷ []) }
     ensures by_events { LeadsHomes with_child.ledger (rmap_of with_child) by_events }
     ensures prepared_first { LeadsHomes bare_process.ledger (rmap_of bare_process) prepared_first }
+{}
+
+/// A frame that takes a slot's page is at home at that page, with the own anon_vma of its area;
+/// where two pages are at the slot, with the root of that anon_vma.
+pub fn loaded_frames_are_at_home()
+    ensures of_one_page { LeadsHomes (naming of_one_page) (rmap_of child_alone)
+        (loaded_at (Some (1, 0x22))) }
+    ensures of_two_pages { LeadsHomes (naming of_two_pages) (rmap_of child_alone)
+        (loaded_at (Some (0, 0x22))) }
 {}
 
 /// No others: a new frame or a copy without a home, at the root's where the own anon_vma is the

@@ -1,9 +1,10 @@
 //! What follows from the definitions of `av_plain`, beside what the kernel needs of them: replies
 //! are determined, numbers add up, a refusal changes nothing, a reply is read back from its text,
 //! what is free is listed, areas cover what is mapped; and worked examples: legal ones and such as
-//! may not be, turns in a pass, several of a kind that differ, what lines, answers and rows say,
-//! slots that are given, areas, anon_vmas and homes that come of commands, forks, pages that move,
-//! sound states and unsound ones, views that stand for a state and such as don't.
+//! may not be, turns in a pass, single steps of swap, several of a kind that differ, what lines,
+//! answers and rows say, slots that are given, areas, anon_vmas and homes that come of commands,
+//! forks, pages that move, sound states and unsound ones, views that stand for a state and such as
+//! don't.
 //!
 //! No function does anything. Each one's contract is a law, proved of the definitions alone.
 #![tactic(auto)]
@@ -19,6 +20,7 @@ mod pass_turns;
 mod several;
 mod slots;
 mod swap_rows;
+mod swap_steps;
 mod unsound;
 mod views;
 

@@ -1,0 +1,155 @@
+-- Worked steps of swap: single commands that meet several frames, slots or areas.
+-- Which step would fail if a definition were wrong:
+--   why a frame is kept (`cause_of`, `is_referenced`): four_reclaimed
+--   what those before a frame left (`Outcomes`): four_reclaimed
+--   which frames, and in which order (`from_tail`): two_reclaimed, two_aged
+--   how a clean frame leaves (`leave_notes`): clean_reclaimed
+--   the slots of an area that is turned off, in order (`Empties`, `map_notes`): two_emptied
+--   which area gives a slot while one is turned off (`closing_swap_area`, `sparing_area`):
+--     other_area_fills, other_area_gives
+--   what `slot` tests (`is_outside`, `is_off`, `is_usable`): bad_page, header_page, past_header,
+--     last_slot, off_area
+--   what `swapon` tests, and a header (`header_answer`): no_device, no_pages, no_device_unread,
+--     no_pages_unread, unread_header, wrong_header, header
+--   whether swap is full (`Serves`, `is_full`): full_at_the_drop, half_full_at_the_drop
+--   what is claimed after a write (`next_world`): written_after_load, around_unclaimed, around_told
+use Rattle.std.specs.Prelude.{◌≡◌, ℕ, true, false, ◌==◌, if◌then◌else◌, List, [], ◌∷◌, ◌++◌, Option, Some, None}
+use Rattle.av_trace.specs.declared.command.Command.{Command}
+use Rattle.av_trace.specs.declared.command.Command.TheVariants.{Swapoff, Write}
+use Rattle.av_trace.specs.declared.note.Cause.TheVariants.{Referenced, NoSlot, WriteStarted, Writeback}
+use Rattle.av_trace.specs.declared.note.Note.{Note}
+use Rattle.av_trace.specs.declared.note.Note.TheVariants.{Loaded, Mapped, Put, Unmapped, Started, Written, Dropped, Kept}
+use Rattle.av_trace.specs.declared.reply.Answer.TheVariants.{Done}
+use Rattle.av_trace.specs.declared.reply.Reply.{Reply}
+use Rattle.av_plain.specs.Event.{Event, Noted, TurnedOff, Used, note_events}
+use Rattle.av_plain.specs.Ledger.{InFrame, InSlot, Ledger, Setting, first_ledger}
+use Rattle.av_plain.specs.Step.{IsLegal, closing_swap_area, next_world}
+use Rattle.av_plain.specs.World.{World, byte_at, pages}
+use Rattle.av_laws.specs.Examples.{paged_out, slot}
+use Rattle.av_laws.specs.Pairs.{cached_at, one_area}
+use Rattle.av_laws.specs.PassTurns.{one_frame_two_areas}
+use Rattle.av_laws.specs.Slots.{MayChoose, lower_given, lower_in_use, slot_at}
+
+-- the reply may come to the command; or it may not
+abbrev pub MayCome : Setting → World → Ledger → Command → Reply → Type 0
+MayCome m w l command reply = (events : List Event) × IsLegal m w l command reply events
+
+abbrev pub MayNotCome : Setting → World → Ledger → Command → Reply → Type 0
+MayNotCome m w l command reply = MayCome m w l command reply → ⊥
+
+-- ---- reclaim and age
+
+-- frame 0 is cached at slot 1, whose write is in flight, and was read since; frame 1 has two
+-- entries, of which the second alone was seen; frames 2 and 3 have no slot, and one slot is free
+abbrev pub four_inactive : Ledger
+four_inactive = record first_ledger {
+  entries = ((1, 0x10), InFrame 0 true) ∷ ((1, 0x11), InFrame 1 false)
+      ∷ ((1, 0x12), InFrame 2 false) ∷ ((1, 0x13), InFrame 3 false)
+      ∷ ((2, 0x11), InFrame 1 true) ∷ [];
+  cache = cached_at 1 0 false ∷ [];
+  flight = slot 1 ∷ [];
+  inactive = 3 ∷ 2 ∷ 1 ∷ 0 ∷ [];
+  on = one_area 2 0;
+}
+
+-- the first two, from the tail, are kept; frame 2 takes the slot, so that none is left for frame 3
+abbrev pub two_kept : List Note
+two_kept = Kept 0 Writeback ∷ Kept 1 Referenced ∷ []
+
+abbrev pub four_reclaimed : List Note
+four_reclaimed =
+    Kept 0 Writeback ∷ Kept 1 Referenced ∷ Put 2 (slot 2) ∷ Unmapped 2 ∷ Started (slot 2)
+    ∷ Kept 2 WriteStarted ∷ Kept 3 NoSlot ∷ []
+
+-- three frames are active
+abbrev pub three_active : Ledger
+three_active = record first_ledger { active = 2 ∷ 1 ∷ 0 ∷ [] }
+
+-- ---- swapoff
+
+-- slot 1 is on the device, and pages of two processes are at it; slot 2 is cached at frame 0, which
+-- process 1 has, its write is in flight, and a page of process 2 is at it
+abbrev pub two_slots : Ledger
+two_slots = record first_ledger {
+  entries = ((1, 0x10), InFrame 0 true) ∷ ((1, 0x12), InSlot (slot 1))
+      ∷ ((2, 0x11), InSlot (slot 1)) ∷ ((2, 0x13), InSlot (slot 2)) ∷ [];
+  cache = cached_at 2 0 true ∷ [];
+  flight = slot 2 ∷ [];
+  inactive = 0 ∷ [];
+  on = one_area 2 0;
+}
+
+-- the least slot comes first, and of its pages that of the first process, whatever their addresses;
+-- the other slot has its frame
+abbrev pub two_emptied : List Note
+two_emptied =
+    Written (slot 2) ∷ Loaded (slot 1) 1 ∷ Mapped 1 0x12000 1 ∷ Mapped 2 0x11000 1
+    ∷ Dropped (slot 1) ∷ Mapped 2 0x13000 0 ∷ Dropped (slot 2) ∷ []
+
+-- the one frame goes to the other area, and then has the page of the slot
+abbrev pub to_other_area : List Note
+to_other_area =
+    Put 0 (slot_at 1 1) ∷ Unmapped 0 ∷ Started (slot_at 1 1) ∷ Written (slot_at 1 1)
+    ∷ Dropped (slot_at 1 1) ∷ []
+
+abbrev pub other_area_fills : List Note
+other_area_fills = to_other_area ++ Loaded (slot 1) 0 ∷ Mapped 1 0x11000 0 ∷ Dropped (slot 1) ∷ []
+
+-- so it is chosen, where one slot of the area that is turned off was given and others are free
+abbrev pub OtherAreaGives : Type 0
+OtherAreaGives = MayChoose one_frame_two_areas (closing_swap_area (Swapoff 0)) (lower_in_use 1)
+    (note_events other_area_fills ++ TurnedOff 0 ∷ [])
+    (record (lower_given 1) { frames = [] })
+
+-- ---- slot and swapon
+
+-- devices of ten pages are areas 0 and 2, and one without a page is area 1. The header of the first
+-- has 8 pages, the third of them bad; the others have none
+abbrev pub third_bad : Setting
+third_bad = record {
+  frames = 4;
+  sizes = λ k. if k == 0 then Some 10 else (if k == 1 then Some 0
+      else (if k == 2 then Some 10 else None));
+  headers = Some
+      (λ k. if k == 0 then Some (record { pages = 8; slots = 6; bad = 3 ∷ [] }) else None);
+}
+
+-- it is on
+abbrev pub third_bad_on : Ledger
+third_bad_on = record first_ledger { on = one_area 6 1 }
+
+-- ---- reads and writes
+
+-- page 0x10 is at slot 1 of so many, and page 0x11 in the one frame
+abbrev pub one_out : ℕ → Ledger
+one_out slots = record first_ledger {
+  entries = ((1, 0x10), InSlot (slot 1)) ∷ ((1, 0x11), InFrame 0 true) ∷ [];
+  inactive = 0 ∷ [];
+  on = one_area slots 0;
+}
+
+-- One slot is in use; with the one that the frame goes to, two are. So of three slots swap is full
+-- where the page has come in, and was not before; of four it is not.
+abbrev pub frame_freed : List Note
+frame_freed =
+    Put 0 (slot 2) ∷ Unmapped 0 ∷ Started (slot 2) ∷ Written (slot 2) ∷ Dropped (slot 2) ∷ []
+
+abbrev pub page_in : List Note
+page_in = frame_freed ++ Loaded (slot 1) 0 ∷ Mapped 1 0x10000 0 ∷ []
+
+abbrev pub page_in_and_drop : List Note
+page_in_and_drop = page_in ++ Dropped (slot 1) ∷ []
+
+-- the page at slot 1 is written, so that it is loaded and the slot dropped
+abbrev pub out_and_written : List Event
+out_and_written =
+    Noted (Loaded (slot 1) 0) ∷ Noted (Mapped 1 0x7fffffffe000 0) ∷ Used true (1, 0x7fffffffe)
+    ∷ Noted (Dropped (slot 1)) ∷ []
+
+-- after that the byte at the address is this, or nobody claims it
+abbrev pub ClaimsAfterWrite : Setting → ℕ → Option ℕ → Type 0
+ClaimsAfterWrite m address claimed =
+    let old = paged_out 7 (0 ∷ []) in
+    let new = next_world m old.world old.ledger out_and_written
+    (Write 1 0x7fffffffe000 (9 ∷ [])) Done in
+    byte_at (pages new 1) address ≡ claimed

@@ -1,0 +1,122 @@
+//! Worked steps of swap: single commands that meet several frames, slots or areas.
+
+ghost use Rattle.std.specs.Prelude.{[], ◌∷◌, false, Some, None};
+ghost use Rattle.av_trace.specs.declared.command.Command.TheVariants.{
+  Age,
+  Read,
+  Reclaim,
+  Slot as AsksSlot,
+  Swapoff,
+  Swapon,
+};
+ghost use Rattle.av_trace.specs.declared.note.Note.TheVariants.{Aged, Dropped, Unmapped};
+ghost use Rattle.av_trace.specs.declared.reply.Answer.TheVariants.{
+  Data,
+  Done,
+  On,
+  Refused,
+  SlotBad,
+  SlotCount,
+};
+ghost use Rattle.av_trace.specs.declared.reply.Errno.TheVariants.{Einval, Eio};
+ghost use Rattle.av_plain.specs.Ledger.{InFrame, first_ledger};
+ghost use Rattle.av_laws.specs.Examples.{reply_with, slot, untold, with_swap};
+ghost use Rattle.av_laws.specs.PassTurns.{all_readable, both_cached, one_frame_two_areas};
+ghost use Rattle.av_laws.specs.Slots.{lower_in_use};
+ghost use Rattle.av_laws.specs.SwapSteps.{
+  ClaimsAfterWrite,
+  MayCome,
+  MayNotCome,
+  OtherAreaGives,
+  four_inactive,
+  four_reclaimed,
+  one_out,
+  other_area_fills,
+  page_in,
+  page_in_and_drop,
+  third_bad,
+  third_bad_on,
+  three_active,
+  two_emptied,
+  two_kept,
+  two_slots,
+};
+
+/// Frames are reclaimed and aged from the tail, each by what those before it left. One whose write
+/// is in flight is kept for that, though it was read since; one with two entries is referenced by
+/// the second alone. A clean frame is unmapped and dropped.
+pub fn frames_are_reclaimed_from_the_tail()
+    ensures four_reclaimed { MayCome (with_swap 4 3 2) [] four_inactive (Reclaim 4)
+        (reply_with Done four_reclaimed) }
+    ensures two_reclaimed { MayCome (with_swap 4 3 2) [] four_inactive (Reclaim 2)
+        (reply_with Done two_kept) }
+    ensures clean_reclaimed { MayCome (with_swap 2 8 7) []
+        (both_cached false (InFrame 0 false) [] (1 ∷ 0 ∷ []))
+        (Reclaim 1)
+        (reply_with Done (Unmapped 0 ∷ Dropped (slot 1) ∷ [])) }
+    ensures two_aged { MayCome (with_swap 4 3 2) [] three_active (Age 2)
+        (reply_with Done (Aged 0 ∷ Aged 1 ∷ [])) }
+{}
+
+/// The slots of an area that is turned off are emptied, the least first, once the writes in flight
+/// have ended. Each page at a slot is mapped, by process and then address, to the frame that caches
+/// the slot or, where none does, one that takes its page. A frame that has to go for that goes to
+/// another area.
+pub fn slots_are_emptied_in_turn()
+    ensures two_emptied { MayCome (with_swap 4 3 2) [] two_slots (Swapoff 0)
+        (reply_with Done two_emptied) }
+    ensures other_area_fills { MayCome one_frame_two_areas [] (lower_in_use 1) (Swapoff 0)
+        (reply_with Done other_area_fills) }
+    ensures other_area_gives { OtherAreaGives }
+{}
+
+/// `slot` tells a bad page and the count of a slot, and refuses page 0, a page past the header's
+/// and an area that is off.
+pub fn slots_are_told()
+    ensures bad_page { MayCome third_bad [] third_bad_on (AsksSlot 0 3)
+        (reply_with (SlotBad (slot 3)) []) }
+    ensures last_slot { MayCome third_bad [] third_bad_on (AsksSlot 0 7)
+        (reply_with (SlotCount (slot 7) 0 None) []) }
+    ensures header_page { MayCome third_bad [] third_bad_on (AsksSlot 0 0)
+        (reply_with (Refused Einval) []) }
+    ensures past_header { MayCome third_bad [] third_bad_on (AsksSlot 0 8)
+        (reply_with (Refused Einval) []) }
+    ensures off_area { MayCome third_bad [] first_ledger (AsksSlot 0 1)
+        (reply_with (Refused Einval) []) }
+{}
+
+/// `swapon` refuses an area without a device, or without a page, before anything is read of it.
+/// Else its page 0 isn't read, or is no header, or is one and its numbers are told.
+pub fn areas_are_turned_on()
+    ensures no_device { MayCome third_bad [] first_ledger (Swapon 3)
+        (reply_with (Refused Einval) []) }
+    ensures no_pages { MayCome third_bad [] first_ledger (Swapon 1)
+        (reply_with (Refused Einval) []) }
+    ensures no_device_unread { MayNotCome third_bad [] first_ledger (Swapon 3)
+        (reply_with (Refused Eio) []) }
+    ensures no_pages_unread { MayNotCome third_bad [] first_ledger (Swapon 1)
+        (reply_with (Refused Eio) []) }
+    ensures unread_header { MayCome third_bad [] first_ledger (Swapon 0)
+        (reply_with (Refused Eio) []) }
+    ensures wrong_header { MayCome third_bad [] first_ledger (Swapon 2)
+        (reply_with (Refused Einval) []) }
+    ensures header { MayCome third_bad [] first_ledger (Swapon 0) (reply_with (On 6 1) []) }
+{}
+
+/// A slot is dropped behind a load where swap is full then, though it wasn't before the page came
+/// in; and not where half of it is free then.
+pub fn full_is_asked_at_the_drop()
+    ensures full_at_the_drop { MayCome (with_swap 1 4 3) all_readable (one_out 3) (Read 1 0x10000 1)
+        (reply_with (Data (0 ∷ [])) page_in_and_drop) }
+    ensures half_full_at_the_drop { MayCome (with_swap 1 5 4) all_readable (one_out 4)
+        (Read 1 0x10000 1)
+        (reply_with (Data (0 ∷ [])) page_in) }
+{}
+
+/// A page that is written is loaded first: so the bytes that were written are claimed, and around
+/// them none are where the device doesn't tell its pages.
+pub fn written_bytes_are_claimed()
+    ensures written_after_load { ClaimsAfterWrite untold 0x7fffffffe000 (Some 9) }
+    ensures around_unclaimed { ClaimsAfterWrite untold 0x7fffffffe001 None }
+    ensures around_told { ClaimsAfterWrite (with_swap 4 8 7) 0x7fffffffe001 (Some 0) }
+{}
