@@ -1,4 +1,7 @@
-use Rattle.std.proofs.Common.{inl, refl}
+use Rattle.std.proofs.Common.{ℕ, inl, refl, subst, sym}
+use Rattle.av_plain.specs.Device.{no_device, setting_of}
+use Rattle.av_plain.specs.Transcript.{at_first}
+use Rattle.av_kernel.specs.Kernel.{Stands}
 use Rattle.av_replay.proofs.Calls.{goes_on_at}
 use Rattle.av_replay.proofs.Endings.{nothing_done, no_usage, same_frames}
 use Rattle.av_replay.proofs.Times.{flushed_none}
@@ -12,6 +15,16 @@ returns-in_default-new-clause-flushed g c = inl (refl, flushed_none _ _ refl ref
 
 pub returns-in_default-clause-flushed : goal.returns-in_default-clause-flushed
 returns-in_default-clause-flushed g c = flushed_none _ _ refl refl
+
+pub replay-status-requires : goal.replay-status-requires
+replay-status-requires g c =
+    let new = c.in-Ok.ensures.new in
+    record {
+      stands = subst (λ (n : ℕ). Stands c.in-Ok.kernel no_device (at_first (setting_of n no_device))) (sym new.frames) (c.in-Ok.ensures.stands no_device);
+      steps = new.steps;
+      tally = new.tally;
+      unspent = new.spent;
+    }
 
 pub returns : goal.returns
 returns g c =

@@ -1,4 +1,5 @@
 use Rattle.std.proofs.Common.{Some, append-nil, arith, refl}
+use Rattle.av_plain.specs.Device.{no_device}
 use Rattle.av_replay.proofs.turn.do_line.Goals as goal
 
 pub returns-clause-ok : goal.returns-clause-ok
