@@ -272,7 +272,8 @@ fn make_copy(
     Ok(Touched::Ready(frame))
 }
 
-/// Takes a frame of zeros for a page, to the head of the inactive list. None exactly where no frame is free.
+/// Takes a frame of zeros for a page, to the head of the inactive list. None exactly where no frame
+/// is free.
 fn take_zeros(mem: &mut Mem, process: u16, page: u64) -> Result<Option<u32>, AllocError>
     requires steady { IsSteady mem.old }
     requires there { has mem.old.tables process ≡ true }

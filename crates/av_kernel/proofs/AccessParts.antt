@@ -24,6 +24,7 @@ use Rattle.av_fault.specs.Fault.{stop_of}
 use Rattle.av_kernel.specs.declared.access.Piece.{Piece}
 use Rattle.av_kernel.proofs.AccessPages.{touches, touched-one, touched-more}
 use Rattle.av_kernel.proofs.AccessBytes.{reads-more, stored_twice, allowed-stored, lives-stored}
+
 -- ---- the memories after a part of an access
 
 pub allowed-served : (w : World) (write wants : Bool) (p a : ℕ) (bytes : List ℕ) (page : ℕ) →

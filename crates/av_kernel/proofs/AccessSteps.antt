@@ -33,6 +33,7 @@ use Rattle.av_kernel.proofs.Loads.{accesses-load_nothing, world_as}
 use Rattle.av_plain.specs.Load.{with_loads}
 use Rattle.av_plain.proofs.Load.{loads_nothing, without-loads}
 use Rattle.std.specs.List.{list_all}
+
 -- the process lives, so that the command is not refused
 
 not_refused : (lived : Bool) (Follow : Type 0) (Refuse : Errno → Type 0) → lived ≡ true → Follow →

@@ -42,6 +42,7 @@ use Rattle.av_kernel.specs.Step.{MemSteps}
 use Rattle.av_kernel.proofs.StepLaws.{is_number, kept-on, moved_on, stays_orderly, stepped}
 use Rattle.av_kernel.proofs.ProcessLaws.{absent, at_number, new_is, new_refusal}
 use Rattle.av_kernel.proofs.Loads.{world_as}
+
 -- ---- refusals
 -- where the parent lives, it is refused as its child
 

@@ -61,6 +61,7 @@ use Rattle.av_kernel.proofs.StepLaws.{areas_kept, is_number, moved_on, orderly, 
 use Rattle.av_kernel.proofs.Loads.{place-loads, world_as}
 use Rattle.av_plain.proofs.Load.{loads_nothing, zaps-load_nothing}
 use Rattle.std.specs.List.{list_all}
+
 -- ---- pages and their areas
 -- a page is taken exactly where it is mapped
 

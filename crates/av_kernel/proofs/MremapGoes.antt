@@ -27,6 +27,7 @@ use Rattle.av_kernel.specs.Step.{MemSteps}
 use Rattle.av_kernel.proofs.MremapLaws.{last_taken, may_grow, may_move, may_shrink, old_high, remaps, some_pages}
 use Rattle.av_kernel.proofs.MremapRefusals.{have_prots_of, tests_are}
 use Rattle.av_kernel.proofs.StepLaws.{moved_on}
+
 -- what holds of two numbers holds of two that are equal
 
 pub both_are : (P : ℕ → ℕ → Type 0) {n n' m m' : ℕ} → n ≡ n' → m ≡ m' → P n m → P n' m'

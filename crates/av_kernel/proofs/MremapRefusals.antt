@@ -25,6 +25,7 @@ use Rattle.av_place.specs.Mremap.{IsTarget}
 use Rattle.av_kernel.specs.Step.{Does, MemSteps}
 use Rattle.av_kernel.proofs.StepLaws.{areas_kept, dead_first, refuses}
 use Rattle.av_kernel.proofs.Loads.{world_as}
+
 -- the pages of a process have the protections of its areas
 
 pub have_prots_of : {d : Device} (old : Mem) (s : State) → Keeps d old s → (p : ℕ) → HaveProtsOf (areas_on old.spaces.processes p) (pages s.world p)

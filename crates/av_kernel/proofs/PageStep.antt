@@ -45,6 +45,7 @@ use Rattle.av_fault.proofs.FaultParts.{Parts, of_stand, to_stand}
 use Rattle.av_fault.proofs.FaultTouched.{anons_still}
 use Rattle.av_kernel.proofs.PageWritten.{over, written_now, stored_is}
 use Rattle.av_kernel.proofs.Loads.{accesses-load_nothing, world_as}
+
 -- ---- soundness
 -- the page of a piece that ends within it
 

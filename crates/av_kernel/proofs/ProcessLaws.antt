@@ -49,6 +49,7 @@ use Rattle.av_reclaim.proofs.AnonLaws.{anons_stand, are_left, left_of}
 use Rattle.av_kernel.proofs.StepLaws.{AreLeftIn, reach_after, is_number, orderly, moved_on, stays_orderly, state_after, changed, kept-on, stepped}
 use Rattle.av_kernel.proofs.Loads.{world_as}
 use Rattle.av_plain.proofs.Load.{zaps-load_nothing}
+
 -- ---- the ranges of a process that comes or goes
 
 ranges_spawned : (old new : Spaces) (p : ℕ) → IsSpawned old new p [] → (q : ℕ) → ranges_of new q ≡ cond (q == p) (Some []) (ranges_of old q)

@@ -32,6 +32,7 @@ use Rattle.av_kernel.specs.Step.{MemSteps}
 use Rattle.av_kernel.proofs.ReportRuns.{own_rest, own_first}
 use Rattle.av_kernel.proofs.StepLaws.{areas_kept}
 use Rattle.av_kernel.proofs.Loads.{world_as}
+
 -- ---- the areas of a process
 
 pub all_at : {A : Type 0} (P : A → Type 0) (none : A) (xs : List A) (i : ℕ) → i < length xs → AllByRecursion P xs → P (slice_index_or xs i none)

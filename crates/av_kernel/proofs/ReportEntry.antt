@@ -21,6 +21,7 @@ use Rattle.av_reclaim.proofs.MemLaws.{lives_is, mapped_is, taken_has}
 use Rattle.av_kernel.specs.Step.{MemSteps}
 use Rattle.av_kernel.proofs.StepLaws.{rmap_kept}
 use Rattle.av_kernel.proofs.Loads.{world_as}
+
 -- ---- which pages are mapped
 -- a page is of an area exactly where it is mapped
 

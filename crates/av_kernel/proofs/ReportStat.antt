@@ -14,6 +14,7 @@ use Rattle.av_reclaim.specs.Mem.{setting_by, view, frame_count, Keeps}
 use Rattle.av_kernel.specs.Step.{MemSteps}
 use Rattle.av_kernel.proofs.StepLaws.{areas_kept}
 use Rattle.av_kernel.proofs.Loads.{world_as}
+
 -- what the kernel counts is what the ledger has
 pub counted : {d : Device} (k : Mem) (s : State) (processes : ℕ) → Keeps d k s → ((f : ℕ) → how_many (λ g. f == g) (view k).free ≤ 1) →
     ((f : ℕ) → is_in f (view k).free ≡ true → f < frame_count k) → processes ≡ length k.spaces.processes

@@ -24,6 +24,7 @@ use Rattle.av_kernel.specs.Step.{MemSteps}
 use Rattle.av_kernel.proofs.ReportEntry.{tests_are}
 use Rattle.av_kernel.proofs.StepLaws.{rmap_kept}
 use Rattle.av_kernel.proofs.Loads.{world_as}
+
 -- what is shown of an entry
 
 abbrev pub shown : Ledger → Option Entry → Reply

@@ -28,8 +28,8 @@ pub fn write_page(
     requires steady { IsSteady mem.old }
     requires some { 1 ≤ length piece.now }
     requires fits { at + length piece.now ≤ page_size }
-    ensures step { (d : Device) (s : State) → Keeps d mem.old s → lives s.world process ≡ true → IfOk result
-        (IsPageStep d s mem.new true process page at piece.now notes.old notes.new) }
+    ensures step { (d : Device) (s : State) → Keeps d mem.old s → lives s.world process ≡ true →
+        IfOk result (IsPageStep d s mem.new true process page at piece.now notes.old notes.new) }
     ensures count { frame_count mem.new ≡ frame_count mem.old }
 {
     match touch(mem, process, page, true, notes)? {
@@ -55,10 +55,10 @@ pub fn read_page(
     requires steady { IsSteady mem.old }
     requires some { 1 ≤ len }
     requires fits { at + len ≤ page_size }
-    ensures step { (d : Device) (s : State) → Keeps d mem.old s → lives s.world process ≡ true → IfOk result
-        (IsPageStep d s mem.new false process page at [] notes.old notes.new) }
-    ensures shown { (d : Device) (s : State) → Keeps d mem.old s → lives s.world process ≡ true → IfOk result
-        (ShowsPiece s.world process page at len shown.old shown.new) }
+    ensures step { (d : Device) (s : State) → Keeps d mem.old s → lives s.world process ≡ true →
+        IfOk result (IsPageStep d s mem.new false process page at [] notes.old notes.new) }
+    ensures shown { (d : Device) (s : State) → Keeps d mem.old s → lives s.world process ≡ true →
+        IfOk result (ShowsPiece s.world process page at len shown.old shown.new) }
     ensures count { frame_count mem.new ≡ frame_count mem.old }
 {
     match touch(mem, process, page, false, notes)? {

@@ -98,8 +98,8 @@ pub fn entry(mem: &Mem, process: u16, address: u64, reply: &mut Reply) -> Result
     Ok(())
 }
 
-/// Does a `stat`: how many frames there are, are free, and are in each of the two lists, and how many
-/// processes. There is no slot.
+/// Does a `stat`: how many frames there are, are free, and are in each of the two lists, and how
+/// many processes. There is no slot.
 pub fn stat(mem: &Mem, reply: &mut Reply)
     requires steady { IsSteady mem.now }
     requires cleared { IsCleared reply.old }

@@ -24,7 +24,8 @@ pub record HasMoved (d : Device) (old new : Mem) (l : Ledger) (p n from to : ℕ
       (free_of (view old)) (free_of (view new))
 
 -- these events of an mremap have happened, without a note, and what is free follows them
-pub record HasRemapped (d : Device) (old new : Mem) (l : Ledger) (events : List Event) : Type 0 where
+pub record HasRemapped (d : Device) (old new : Mem) (l : Ledger) (events : List Event)
+    : Type 0 where
   pub stands : HasLedger d new (after_all l events)
   pub notes : notes_of events ≡ []
   pub free : ChoosesAll (setting_by d old) None l events
