@@ -3,7 +3,7 @@ use Rattle.std.specs.Prelude.{◌≡◌, ℕ, zero, suc, ◌+◌, ◌≤◌, Lis
 use Rattle.av_io.specs.Count.{one_more}
 use Rattle.av_io.specs.Source.{SourceView, in_front, HasEnded}
 use Rattle.av_io.specs.Sink.{SinkView, Gained}
-use Rattle.av_plain.specs.Device.{Device, no_device}
+use Rattle.av_plain.specs.Device.{Device}
 
 -- what is told of a source, a sink and a device at one time
 pub record PortsView : Type 0 where
@@ -11,9 +11,14 @@ pub record PortsView : Type 0 where
   pub sink : SinkView
   pub device : Device
 
--- those of a run that is shown no device
-abbrev pub without_device : SourceView → SinkView → PortsView
-without_device source sink = record { source = source; sink = sink; device = no_device }
+-- these of a source, a sink and a device, whose sizes, pages and faults are told apart
+abbrev pub side_by_side : SourceView → SinkView → (ℕ → Option ℕ) → Option (ℕ → ℕ → List ℕ) → ℕ
+    → PortsView
+side_by_side source sink sizes pages faults = record {
+  source = source;
+  sink = sink;
+  device = record { sizes = sizes; pages = pages; faults = faults };
+}
 
 -- nothing changed but the source
 pub record OnlySource (old new : PortsView) : Type 0 where

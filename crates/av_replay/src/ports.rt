@@ -1,13 +1,13 @@
 //! The outside of a run as one value: its source, its sink and its device.
 
-ghost use Rattle.std.specs.Prelude.{◌≡◌, refl, IfOk, IfErr, OnOk, OnErr};
+ghost use Rattle.std.specs.Prelude.{◌≡◌, IfOk, IfErr, OnOk, OnErr};
 ghost use Rattle.std.specs.Borrow.{GName};
 ghost use Rattle.av_io.specs.Source.{Gives, GivesNothing};
 ghost use Rattle.av_io.specs.Sink.{Takes, TakesNothing, HandsOn, KeepsBack};
-ghost use Rattle.av_plain.specs.Device.{no_device};
-ghost use Rattle.av_replay.specs.Ports.{OnlySink, OnlySource, PortsView, without_device};
+ghost use Rattle.av_replay.specs.Ports.{OnlySink, OnlySource, PortsView, side_by_side};
 
 use av_io::{Failed, Sink, SinkErr, Source};
+use av_swapdev::SwapDev;
 
 /// What a run reads, writes and is to swap with.
 pub trait Ports {
@@ -43,9 +43,6 @@ pub trait Ports {
         ensures err { OnErr result (KeepsBack (view self.old).sink (view self.new).sink) }
         ensures only { OnlySink (view self.old) (view self.new) }
         ensures kept { kept self.new ≡ kept self.old };
-
-    // The kernel is shown no device.
-    ghost none_shown: { (ports : Self) → (view ports).device ≡ no_device };
 }
 
 /// A source, a sink and a device, lent to a run. (Each has a lifetime of its own: with one for all
@@ -57,8 +54,9 @@ pub struct LentPorts<'s, 'k, 'd, S, K, D> {
     pub dev: &'d mut D,
 }
 
-impl<'s, 'k, 'd, S: Source, K: Sink, D> Ports for LentPorts<'s, 'k, 'd, S, K, D> {
-    ghost view = { λ ports. without_device (S.view ports.source.now) (K.view ports.sink.now) };
+impl<'s, 'k, 'd, S: Source, K: Sink, D: SwapDev> Ports for LentPorts<'s, 'k, 'd, S, K, D> {
+    ghost view = { λ ports. side_by_side (S.view ports.source.now) (K.view ports.sink.now)
+        (D.sizes ports.dev.now) (D.pages ports.dev.now) (D.faults ports.dev.now) };
 
     ghost Kept = { GName × GName × GName × D };
 
@@ -68,8 +66,6 @@ impl<'s, 'k, 'd, S: Source, K: Sink, D> Ports for LentPorts<'s, 'k, 'd, S, K, D>
       ports.dev.ghost_name,
       ports.dev.now,
     ) };
-
-    ghost none_shown = { λ _. refl };
 
     fn read(&mut self, into: &mut [u8]) -> Result<usize, Failed> {
         self.source.read(into)

@@ -1,8 +1,7 @@
 //! The top call.
 
 ghost use Rattle.std.specs.Prelude.{◌≡◌, ◌≢◌, ℕ, is_some, map, string_bytes};
-ghost use Rattle.av_plain.specs.Device.{no_device};
-ghost use Rattle.av_replay.specs.Ports.{without_device};
+ghost use Rattle.av_replay.specs.Ports.{side_by_side};
 ghost use Rattle.av_replay.specs.Replay.{IsAtStart, Replayed, can_go_on, kernel_at};
 ghost use Rattle.av_replay.specs.Words.{IsForm, RefusesWords};
 
@@ -57,10 +56,13 @@ fn replay_over<S: Source, K: Sink, D: SwapDev>(
     sink: &mut K,
     dev: &mut D,
 ) -> Status
-    requires { IsAtStart kernel.old no_device }
+    requires { IsAtStart kernel.old (side_by_side (S.view source.old) (K.view sink.old)
+        (D.sizes dev.old) (D.pages dev.old) (D.faults dev.old)).device }
     ensures replayed { Replayed kernel.old.frames result
-        (without_device (S.view source.old) (K.view sink.old))
-        (without_device (S.view source.new) (K.view sink.new)) (kernel_at result kernel.new) }
+        (side_by_side (S.view source.old) (K.view sink.old) (D.sizes dev.old) (D.pages dev.old)
+        (D.faults dev.old))
+        (side_by_side (S.view source.new) (K.view sink.new) (D.sizes dev.new) (D.pages dev.new)
+        (D.faults dev.new)) (kernel_at result kernel.new) }
     ensures device { dev.new ≡ dev.old }
 {
     let mut ports = LentPorts { source, sink, dev };
@@ -76,8 +78,10 @@ fn run_trace<S: Source, K: Sink, D: SwapDev>(
     dev: &mut D,
 ) -> Outcome
     ensures replayed { Replayed frames result.status
-        (without_device (S.view source.old) (K.view sink.old))
-        (without_device (S.view source.new) (K.view sink.new)) result.kernel }
+        (side_by_side (S.view source.old) (K.view sink.old) (D.sizes dev.old) (D.pages dev.old)
+        (D.faults dev.old))
+        (side_by_side (S.view source.new) (K.view sink.new) (D.sizes dev.new) (D.pages dev.new)
+        (D.faults dev.new)) result.kernel }
     ensures begun { result.status ≢ Status.Usage }
     ensures kernel { is_some result.kernel ≡ can_go_on result.status }
     ensures device { dev.new ≡ dev.old }
@@ -96,11 +100,8 @@ fn run_trace<S: Source, K: Sink, D: SwapDev>(
 ///
 /// Each line of the source is read whole and done, and its text written, before the next line is
 /// taken. The source is read in pieces, each time only when no whole line is left of the last
-/// piece. How small a piece may be is no clause: so the lines don't bound how often the source is
-/// read, and the sink flushed with it.
-///
-/// There is one flush of the sink for each read, and nothing is kept back when a read is waited
-/// for; and one more in the end, but after a call that failed. A flush that fails ends the
+/// piece. There is one flush of the sink for each read, and nothing is kept back when a read is
+/// waited for; and one more in the end, but after a call that failed. A flush that fails ends the
 /// run as a failed write does; where memory is wanting, the last one may fail beside that. (By the
 /// clauses one flush that fails may be told as want of memory: no status tells them apart.)
 pub fn run<S: Source, K: Sink, D: SwapDev>(
@@ -115,8 +116,10 @@ pub fn run<S: Source, K: Sink, D: SwapDev>(
     // for, nor is in the end, unless the sink failed, or memory was wanting before its first call.
     ensures replayed { result.status ≢ Status.Usage → (n : ℕ)
         × IsForm (map string_bytes words.now) n
-        × Replayed n result.status (without_device (S.view source.old) (K.view sink.old))
-        (without_device (S.view source.new) (K.view sink.new)) result.kernel }
+        × Replayed n result.status (side_by_side (S.view source.old) (K.view sink.old) (D.sizes dev.old) (D.pages dev.old)
+        (D.faults dev.old))
+        (side_by_side (S.view source.new) (K.view sink.new) (D.sizes dev.new) (D.pages dev.new)
+        (D.faults dev.new)) result.kernel }
     // Bad words, and they alone, are a usage error, and then nothing is read or written.
     ensures usage { RefusesWords result.status (map string_bytes words.now) }
     ensures nothing { result.status ≡ Status.Usage

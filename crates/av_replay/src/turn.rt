@@ -2,7 +2,7 @@
 
 ghost use Rattle.std.specs.Prelude.{◌≡◌, ◌<◌, ◌^◌, [], OnOk, IfErr};
 ghost use Rattle.av_base.specs.Limits.{most_commands};
-ghost use Rattle.av_plain.specs.Device.{no_device};
+ghost use Rattle.av_plain.specs.Device.{Device};
 ghost use Rattle.av_replay.specs.Ports.{AreFlushed, OnlySink, Writes};
 ghost use Rattle.av_replay.specs.Line.{FailsOnly};
 ghost use Rattle.av_replay.specs.Turn.{DoesLine, IsNotDone, IsNotAnswered, Turned};
@@ -46,7 +46,7 @@ pub fn do_line(
     scratch: &mut Scratch,
 ) -> Result<(), RunErr>
     requires { kernel.old.steps < most_commands }
-    ensures ok { OnOk result (DoesLine line.now no_device no_device kernel.old kernel.new
+    ensures ok { (d : Device) → OnOk result (DoesLine line.now d d kernel.old kernel.new
         scratch.new.text) }
     ensures err { IfErr result (λ e. IsNotDone e line.now kernel.old kernel.new) }
 {

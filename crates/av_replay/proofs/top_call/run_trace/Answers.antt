@@ -1,9 +1,28 @@
+use Rattle.std.proofs.Common.{ℕ, subst, sym}
+use Rattle.av_kernel.specs.Kernel.{Stands}
+use Rattle.av_plain.specs.Device.{Device, setting_of}
+use Rattle.av_plain.specs.Transcript.{at_first}
 use Rattle.av_replay.proofs.Calls.{goes_on_at}
 use Rattle.av_replay.proofs.Endings.{nothing_done, no_usage, same_frames}
 use Rattle.av_replay.proofs.top_call.run_trace.Goals as goal
 
 pub returns-in_default-clause-replayed : goal.returns-in_default-clause-replayed
 returns-in_default-clause-replayed g c = nothing_done c.args.frames _
+
+pub replay_over-status-requires : goal.replay_over-status-requires
+replay_over-status-requires g c =
+    let new = c.in-Ok.ensures.new in
+    let d : Device = record {
+      sizes = g.D.SwapDev.sizes c.args.dev.now;
+      pages = g.D.SwapDev.pages c.args.dev.now;
+      faults = g.D.SwapDev.faults c.args.dev.now;
+    } in
+    record {
+      stands = subst (λ (n : ℕ). Stands c.in-Ok.kernel d (at_first (setting_of n d))) (sym new.frames) (c.in-Ok.ensures.stands d);
+      steps = new.steps;
+      tally = new.tally;
+      unspent = new.spent;
+    }
 
 pub returns : goal.returns
 returns g c =

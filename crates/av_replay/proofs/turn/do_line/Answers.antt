@@ -2,12 +2,12 @@ use Rattle.std.proofs.Common.{Some, append-nil, arith, refl}
 use Rattle.av_replay.proofs.turn.do_line.Goals as goal
 
 pub returns-clause-ok : goal.returns-clause-ok
-returns-clause-ok c =
+returns-clause-ok c = λ d.
     let counted = c.in_ok-answer.ensures.counts in
     record {
       answers = λ s stands.
           let says = rw c.in-Some.is at c.in-Ok.ensures.found in
-          let steps = c.in_ok-answer.ensures.stands no_device s stands in
+          let steps = c.in_ok-answer.ensures.stands d s stands in
           record {
             did = Some (record { command = c.in-Some.command; reply = c.answer.new.reply });
             next = steps.next;
