@@ -1,0 +1,131 @@
+"""Texts that are made from one source, so that each list is written once.
+
+The commands are those of docs/REFERENCE.md: a heading for each, and the first sentence below it.
+What is proved of a crate is the head of its lib.rt (or main.rt).
+"""
+import os
+import re
+import subprocess
+import sys
+
+ROOT = os.path.dirname(os.path.dirname(os.path.abspath(__file__)))
+sys.path.insert(0, f"{ROOT}/shell")
+
+from reference import Reference, plain  # pylint: disable=wrong-import-position
+
+# the items of a crate whose contracts carry what its head says; a crate without an entry has none
+CARRIERS = {
+    "av_base": "Prot Steps",
+    "av_vma": "Areas index mergeable reusable",
+    "av_text": "Bytes",
+    "av_trace": "parse_line one_meaning reply_text one_reply",
+    "av_frames": "Frames",
+    "av_pagetable": "Table RadixTable Tables",
+    "av_lru": "Lru",
+    "av_swapmap": "Counts digits_are_worth_the_count",
+    "av_clusters": "Clusters",
+    "av_arena": "Avl Arena",
+    "av_interval": "Spans search",
+    "av_chain": "Links unlink_from each_link_stands_once",
+    "av_anon": "Anons order kin",
+    "av_rmap": "walk walk_sorted walk_frame any_seen clear_seen",
+    "av_vmatree": "Tree",
+    "av_merge": "map unmap modify move_range grow prepare fork unmap_all "
+    "parts_are_changed_page_by_page",
+    "av_io": "Source Sink MemSource MemSink ReadSource WriteSink",
+    "av_swapdev": "SwapDev MemDev FileDev SwapFile SwapFiles read_header is_bad bad_pages",
+    "av_swapcache": "Swap",
+    "av_plain": "soundness_stays transcripts_are_sound runs_are_legal what_sound_says "
+    "no_device_has_no_faults no_area_on_has_no_faults",
+    "av_laws": "refusals_change_nothing numbers_add_up replies_are_determined "
+    "replies_of_runs_are_read_back runs_lay_areas runs_cover_entries",
+    "av_spaces": "Spaces",
+    "av_mem": "Mem Keeps zap_range zap_all walk",
+    "av_fork": "fork_areas fork_entries",
+    "av_mremap": "remap_areas remap_entries",
+    "av_fault": "touch",
+    "av_place": "find_place find_gap find_target check_protect check_remap is_too_long "
+    "is_no_range prot_left check_indices",
+    "av_kernel": "Kernel",
+    "av_replay": "run good_traces_are_done",
+    "avsim": "text_for exit_number Failure",
+    "av_sample": "ask",
+}
+
+
+def text_of(file):
+    """The text of a file of the repository."""
+    with open(f"{ROOT}/{file}", encoding="utf-8") as it:
+        return it.read()
+
+
+def crates():
+    """The names of the crates, lowest first."""
+    return re.findall(r"^(\w+)(?: \w+)?:", text_of("crates.txt"), re.M)
+
+
+def root_file(crate):
+    """The file that a crate begins with."""
+    library = f"crates/{crate}/src/lib.rt"
+    return library if os.path.exists(f"{ROOT}/{library}") else f"crates/{crate}/src/main.rt"
+
+
+def head_of(crate):
+    """The paragraphs of a crate's head."""
+    lines = re.findall(r"^//! ?(.*)$", text_of(root_file(crate)), re.M)
+    return [" ".join(it.split("\n")) for it in re.split(r"\n\n+", "\n".join(lines).strip())]
+
+
+def anchor_of(heading):
+    """The name by which a page is led to one of its headings."""
+    return re.sub(r"[^\w -]", "", heading.lower()).replace(" ", "-")
+
+
+def commands_table():
+    """The commands, each with what it does in a sentence, and the way to its section."""
+    yield "| Command | What it does |"
+    yield "|---|---|"
+    reference = Reference()
+    for form in reference.forms.values():
+        words = " ".join([form.name, *form.kinds])
+        place = f"docs/REFERENCE.md#{anchor_of(form.heading)}"
+        yield f"| [`{words}`]({place}) | {reference.first_sentence(form.name)} |"
+
+
+def crates_table():
+    """What the heads of the crates say."""
+    yield "| Crate | What its head says | Carried by |"
+    yield "|---|---|---|"
+    for crate in crates():
+        head = "<br><br>".join(head_of(crate)).replace("|", "\\|")
+        names = ", ".join(f"`{it}`" for it in CARRIERS.get(crate, "").split())
+        yield f"| [{crate}](../{root_file(crate)}) | {head} | {names} |"
+
+
+# the parts of documents that are made: the name that stands in the marks around each
+PARTS = {"commands": commands_table, "crates": crates_table}
+MARKED = re.compile(r"(<!-- made: (\w+) -->\n).*?(<!-- end -->)", re.S)
+
+
+def with_parts(text):
+    """A document with its made parts as they should be."""
+    return MARKED.sub(lambda it: it[1] + "\n".join(PARTS[it[2]]()) + "\n" + it[3], text)
+
+
+def without_parts(text):
+    """What is written by hand in a document."""
+    return MARKED.sub("", text)
+
+
+def man_page():
+    """The reference as a man page."""
+    ran = subprocess.run([f"{ROOT}/.ci/man"], stdout=subprocess.PIPE, text=True, check=True)
+    return ran.stdout
+
+
+# each file that has something made in it, and what it should be
+FILES = {
+    "README.md": lambda: with_parts(text_of("README.md")),
+    "docs/PROVED.md": lambda: with_parts(text_of("docs/PROVED.md")),
+    "docs/avsim.1": man_page,
+}
