@@ -97,7 +97,7 @@ def crates_table():
     yield "| Crate | What its head says | Carried by |"
     yield "|---|---|---|"
     for crate in crates():
-        head = "<br><br>".join(head_of(crate)).replace("|", "\\|")
+        head = " <br><br> ".join(head_of(crate)).replace("|", "\\|")
         names = ", ".join(f"`{it}`" for it in CARRIERS.get(crate, "").split())
         yield f"| [{crate}](../{root_file(crate)}) | {head} | {names} |"
 
