@@ -1,0 +1,119 @@
+"""Where the model answers a trace otherwise than the kernel answered the program, and which rule
+of docs/LINUX.md explains it.
+"""
+import os
+import re
+import sys
+
+ROOT = os.path.dirname(os.path.dirname(os.path.realpath(__file__)))
+sys.path.insert(0, f"{ROOT}/view")
+
+import making  # pylint: disable=wrong-import-position
+from memory import Command
+from saying import Refused, counted
+
+# a rule is a section of docs/LINUX.md and the beginning of a row in it
+SPAWN = ("The calls", "`spawn P`")
+LOWEST = ("The profile", "lowest address of `fixed`")
+LIMITS = ("The profile", "limits")
+ONE_PROTECTION = ("mremap", "`EFAULT`, else")
+SAME_LENGTH = ("mremap", "`EINVAL`: `dontunmap`, and OLD isn't NEW")
+RULES = (SPAWN, LOWEST, LIMITS, ONE_PROTECTION, SAME_LENGTH)
+NONE = "no rule of docs/LINUX.md explains it"
+
+
+def run(program: str, frames: int, commands: list[Command]) -> list[list[str]]:
+    """The replies of the model, each a list of lines."""
+    lines = [making.Command(number, "", it.line) for number, it in enumerate(commands, 1)]
+    try:
+        found = making.Run(program, [str(frames)], lines)
+    except making.Refused as why:
+        raise Refused(str(why)) from None
+    if len(found) < len(commands):
+        raise Refused(f"the model ends early: {found.said}")
+    return found.replies
+
+
+def text_of(rule: tuple[str, str]) -> str:
+    """A row of docs/LINUX.md, without the signs of Markdown."""
+    section, begin = rule
+    with open(f"{ROOT}/docs/LINUX.md", encoding="utf-8") as it:
+        found = re.search(rf"^## {section}$(.*?)(?=^## |\Z)", it.read(), re.M | re.S)
+    rows = found[1].split("\n") if found else []
+    row = next((it for it in rows if it.startswith(f"| {begin}")), "")
+    if not row:
+        raise Refused(f"docs/LINUX.md has no row {begin!r} under {section!r}")
+    cells = [it for it in row.strip("| ").split(" | ") if it.strip()]
+    return f'docs/LINUX.md, "{section}": {"; Linux: ".join(cells[:2])}'.replace("`", "")
+
+
+def rule_of(command: Command, reply: str) -> tuple[str, str] | None:
+    """The rule that explains a reply; None where there is none."""
+    words, error = command.line.split(" "), reply.removeprefix("err ")
+    match words[0], error:
+        case "mprotect", "ENOMEM":
+            return SPAWN if command.missing == "execve" else None
+        case "mremap", "EFAULT" if command.missing:
+            return SPAWN if command.missing == "execve" else None
+        case "mremap", "EFAULT":
+            return ONE_PROTECTION
+        case "mremap", "EINVAL" if "dontunmap" in words and words[3] != words[4]:
+            return SAME_LENGTH
+        case "mmap" | "mremap", "EPERM":
+            return LOWEST
+        case "spawn" | "fork", "EAGAIN":
+            return LIMITS
+        case "read" | "write", _ if reply.startswith("oom"):
+            return LIMITS
+    return None
+
+
+class Differences:
+    """The replies that aren't what the kernel's answers are, by the reason."""
+
+    def __init__(self):
+        self.found: dict[str, list[str]] = {}
+        # where a process first lost what the kernel gave it
+        self.lost: dict[str, str] = {}
+
+    def why(self, command: Command, reply: str) -> str:
+        """A rule, or the word that there is none."""
+        rule, process = rule_of(command, reply), command.line.split(" ")[1]
+        if rule:
+            return text_of(rule)
+        if command.missing == "log":
+            return "the log was begun when a part of the range was mapped already"
+        if process in self.lost:
+            return f"it follows from {self.lost[process]}"
+        return NONE
+
+    def take(self, command: Command, reply: str) -> None:
+        """A command with the first line of its reply."""
+        words, wanted = command.line.split(" "), command.wanted.split(" ")
+        agrees = reply.split(" ")[: len(wanted)] == wanted
+        if not agrees:
+            told = f"{command.place}: {command.origin}\n    {command.line}: {reply}"
+            self.found.setdefault(self.why(command, reply), []).append(told)
+        if words[0] == "fork" and words[1] in self.lost:
+            self.lost.setdefault(words[2], self.lost[words[1]])
+        if not agrees and words[0] in ("spawn", "fork", "mmap", "mremap"):
+            self.lost.setdefault(words[2 if words[0] == "fork" else 1], command.place)
+        if words[0] == "exit":
+            self.lost.pop(words[1], None)
+
+
+def check(found, program: str) -> int:
+    """Tells the differences, and how many there are; 3 where one isn't explained."""
+    commands, differences = found.memory.commands, Differences()
+    for command, reply in zip(commands, run(program, found.frames(), commands)):
+        differences.take(command, reply[0])
+    for why, told in differences.found.items():
+        print(why, *told, sep="\n  ")
+    count = sum(map(len, differences.found.values()))
+    not_explained = len(differences.found.get(NONE, ()))
+    print(
+        f"{counted(count, 'reply', 'replies')} of {len(commands)} "
+        f"{'differs' if count == 1 else 'differ'} from the kernel's answers: "
+        f"{count - not_explained} explained, {not_explained} not"
+    )
+    return 3 if not_explained else 0
