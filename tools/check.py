@@ -10,7 +10,7 @@ sys.path.insert(0, f"{ROOT}/view")
 
 import making  # pylint: disable=wrong-import-position
 from memory import Command
-from saying import Refused, counted
+from saying import Refused, count_of
 
 # a rule is a section of docs/LINUX.md and the beginning of a row in it
 SPAWN = ("The calls", "`spawn P`")
@@ -112,7 +112,7 @@ def check(found, program: str) -> int:
     count = sum(map(len, differences.found.values()))
     not_explained = len(differences.found.get(NONE, ()))
     print(
-        f"{counted(count, 'reply', 'replies')} of {len(commands)} "
+        f"{count_of(count, 'reply', 'replies')} of {len(commands)} "
         f"{'differs' if count == 1 else 'differ'} from the kernel's answers: "
         f"{count - not_explained} explained, {not_explained} not"
     )

@@ -4,9 +4,11 @@ and the accesses that page faults tell of, by time.
 import dataclasses
 import re
 
+from calls import advice_of_model
 from faults import Fault
-from memory import Command, Memory, Space, advice_of_model
-from saying import Refused, counted, shown
+from memory import Command, Memory
+from saying import Refused, count_of, printable
+from spaces import Space
 from strace import ALONE, Call, Step
 
 FORKS = ("clone", "clone3", "fork", "vfork")
@@ -29,8 +31,8 @@ class Options:
 
 
 class Thread:
-    """A thread: its group, and the memory that it has, none before its first execve. Its life
-    begins at a time that the log tells, or isn't known.
+    """A thread: its group, and the memory that it has, none before its first execve. It begins
+    after the call that made it began, where the log has that.
     """
 
     def __init__(self, number: int, group: int, space: Space | None, born: int = -1):
@@ -52,7 +54,7 @@ class Convert:
         self.making: dict[int, Call] = {}
         self.made: set[int] = set()
         self.numbers: set[int] = set()
-        self.last_number = 0
+        self.last_number, self.now = 0, -1
         # strace says of each thread that it exited, or (-qq) of none: then a call of exit ends one
         # of which no later line says that it was killed
         self.tells_exits = any(it.text.startswith("+++ exited") for it in steps)
@@ -66,7 +68,7 @@ class Convert:
             while fault and fault.time < step.time:
                 self.access(fault)
                 fault = next(faults, None)
-            self.memory.now = step.time
+            self.now = step.time
             self.do(step, at)
         while fault:
             self.access(fault)
@@ -74,23 +76,22 @@ class Convert:
         self.end()
 
     def do(self, step: Step, at: int) -> None:
-        thread = self.threads.get(step.thread) or self.newcomer(step)
+        thread, call = self.threads.get(step.thread) or self.newcomer(step), step.call
         if step.kind == "ends":
             self.leave(thread, step.place, step.text)
         elif step.kind == "superseded":
             self.supersede(thread, step)
-        elif step.call.name in FORKS:
+        elif call.name in FORKS:
             self.make(step)
-        elif step.kind == "begins":
-            # what goes away may be another's before the call returns; some never return
-            if step.call.name == "munmap" or not step.call.answer:
-                self.once(thread, step.call)
-        elif step.call.name in ("execve", "execveat"):
-            self.execve(thread, step.call)
-        elif step.call.name in ("exit", "exit_group"):
-            self.exit(thread, step.call, at)
+        elif step.kind == "begins" and call.answer and call.name != "munmap":
+            # it is done where it returns; but what a munmap takes away may be another's before
+            return
+        elif call.name in ("execve", "execveat"):
+            self.execve(thread, call)
+        elif call.name in ("exit", "exit_group"):
+            self.exit(thread, call, at)
         else:
-            self.once(thread, step.call)
+            self.once(thread, call)
 
     def once(self, thread: Thread, call: Call) -> None:
         """A call of memory, where it isn't done yet."""
@@ -161,7 +162,7 @@ class Convert:
     def fail(self, call: Call) -> None:
         """A call that did nothing: it failed, or never returned."""
         if not re.match(r"-1 E|\?|$", call.answer):
-            raise Refused(f"{call.place}: an answer that no such call has: {shown(str(call))}")
+            raise Refused(f"{call.place}: an answer that no such call has: {printable(str(call))}")
         self.tally.failed[call.name] += 1
 
     def begin_child(self, call: Call, number: int) -> Thread:
@@ -169,19 +170,19 @@ class Convert:
         parent = self.threads.get(call.thread)
         flags = re.search(r"\bflags=([A-Za-z0-9_|]+)", call.words)
         if number in self.threads or not parent or call.name in ("clone", "clone3") and not flags:
-            raise Refused(f"{call.place}: this makes no thread {number}: {shown(str(call))}")
+            raise Refused(f"{call.place}: this makes no thread {number}: {printable(str(call))}")
         self.made.add(id(call))
         words = flags[1].split("|") if flags else []
         group = parent.group if "CLONE_THREAD" in words else number
-        now, space = self.memory.now, parent.space
+        space = parent.space
         if call.name == "vfork" or "CLONE_VM" in words:
             self.tally.left_out[f"{call.name} of a thread, or of a child in the same memory"] += 1
         elif space:
             space = self.fork(call, space, number)
-        return self.begin(Thread(number, group, space, now))
+        return self.begin(Thread(number, group, space, call.time))
 
     def fork(self, call: Call, space: Space, number: int) -> Space:
-        child = Space(self.number(call.place), space.rest, space, self.memory.now)
+        child = Space(self.number(call.place), space.rest, space, call.time)
         self.tally.kept["fork"] += 1
         self.memory.at(call.place, str(call))
         comment = f"process {child.number} is {number}, a child of {call.thread}"
@@ -224,7 +225,7 @@ class Convert:
     def leave(self, thread: Thread, place: str, origin: str) -> None:
         """A thread ends."""
         self.memory.at(place, origin)
-        thread.ended = self.memory.now
+        thread.ended = self.now
         del self.threads[thread.number]
         self.empty(thread)
 
@@ -252,7 +253,7 @@ class Convert:
         if self.threads and not self.options.cut:
             last, some = self.steps[-1].place, next(iter(self.threads))
             raise Refused(
-                f"{last}: the log ends, and {counted(len(self.threads), 'thread')} still "
+                f"{last}: the log ends, and {count_of(len(self.threads), 'thread')} still "
                 f"{'lives' if len(self.threads) == 1 else 'live'} ({some}): it was cut. "
                 "(--cut takes it, if strace left the program before its end)"
             )
@@ -268,7 +269,6 @@ class Convert:
         """A page fault: an access that is served."""
         thread = self.threads.get(fault.thread)
         if not thread and fault.thread in self.making:
-            self.memory.now = fault.time
             thread = self.begin_child(self.making[fault.thread], fault.thread)
         why_not = self.why_no_access(thread, fault)
         if why_not:
@@ -293,7 +293,7 @@ class Convert:
         mapped = thread.space.ranges.at(fault.address) if thread.space else None
         if not mapped:
             return "where no call mapped anything (the program's file, ld.so, stack)"
-        if not self.memory.takes(mapped.kind):
+        if not self.memory.has(mapped.kind):
             return f"in {mapped.kind} mappings"
         return ""
 
@@ -306,11 +306,11 @@ class Convert:
 
     def text(self, title: str, with_origin: bool) -> str:
         """The trace. Its last line is a comment, so that one can see that it is whole."""
-        lines = [f"# {title}", f"# Run it with {counted(self.frames(), 'frame')}."]
+        lines = [f"# {title}", f"# Run it with {count_of(self.frames(), 'frame')}."]
         for it in self.memory.commands:
             lines += [f"# {it.comment}"] if it.comment else []
             lines += [f"# {it.place}: {it.origin[:400]}"] if with_origin and it.origin else []
             lines.append(it.line)
         if self.threads:
-            lines.append(f"# (the log ends here, and {counted(len(self.threads), 'thread')} lives)")
+            lines.append(f"# (the log ends here; threads that still live: {len(self.threads)})")
         return "\n".join([*lines, "# end", ""])

@@ -6,10 +6,9 @@ between such a call and the first fault behind it is the constant, but for the f
 that passed between.
 """
 import dataclasses
-import os
 import re
 
-from saying import Refused, lines_of, shown
+from saying import Refused, lines_of, name_of, printable
 from strace import time_of
 
 # the first and the last line of what tools/record leaves, so that one sees whether it is whole
@@ -51,11 +50,11 @@ def read_faults(file: str) -> list[Fault]:
     for number, line in enumerate(lines, 1):
         if line.strip() and not line.startswith("#"):
             match = FAULT.fullmatch(line)
-            fault = fault_of(match, f"{os.path.basename(file)}, line {number}") if match else None
+            fault = fault_of(match, f"{name_of(file)}, line {number}") if match else None
             if not fault:
                 raise Refused(
                     f"{file}, line {number}: it is no page fault as perf script -F "
-                    f"comm,pid,tid,time,event,addr prints them: {shown(line)}"
+                    f"comm,pid,tid,time,event,addr prints them: {printable(line)}"
                 )
             if match["name"] not in OTHERS:
                 found.append(fault)

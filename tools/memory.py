@@ -1,57 +1,33 @@
-"""What calls of memory become in a trace, and which areas they leave.
+"""What the calls of memory become in a trace.
 
 Addresses are the kernel's own answers. Private file mappings are taken as anonymous ones, or are
 left out; shared ones keep their place, as `---`, so that no page of theirs is ever accessed.
 """
 import collections
 import dataclasses
-import os
 import re
-from typing import NamedTuple
+from typing import NoReturn
 
-from areas import PAGE, Ranges, up
-from saying import Refused, shown
+from areas import PAGE, Range, up
+from calls import (
+    ADVICE,
+    ANSWER,
+    FAILURE,
+    FORMS,
+    PASSED_OVER,
+    WITHOUT,
+    Mapped,
+    address_of,
+    kind_of,
+    protection_of,
+)
+from saying import Refused, printable
+from spaces import Space, runs_of
 from strace import Call
 
-REFERENCE = os.path.join(os.path.dirname(os.path.realpath(__file__)), "..", "docs", "REFERENCE.md")
-# what the words of calls look like
-AT, COUNT, FLAGS = r"(NULL|0x[0-9a-f]+)", r"(\d+)", r"([A-Z0-9a-fx_|<]+)"
-FORMS = {
-    "mmap": rf"{AT}, {COUNT}, {FLAGS}, {FLAGS}, (-?\d+)(?:<.*>)?, (?:0x[0-9a-f]+|\d+)",
-    "munmap": rf"{AT}, {COUNT}",
-    "mprotect": rf"{AT}, {COUNT}, {FLAGS}",
-    "pkey_mprotect": rf"{AT}, {COUNT}, {FLAGS}, (-?\d+)",
-    "mremap": rf"{AT}, {COUNT}, {COUNT}, {FLAGS}(?:, {AT})?",
-    "madvise": rf"{AT}, {COUNT}, (\S.*)",
-    "brk": AT,
-}
-# calls of memory that no command stands for
-WITHOUT = set(
-    "io_destroy io_setup map_shadow_stack mbind migrate_pages mincore mlock mlock2 mlockall"
-    " move_pages mseal msync munlock munlockall pkey_alloc pkey_free process_madvise"
-    " process_mrelease remap_file_pages set_mempolicy set_mempolicy_home_node shmat shmdt".split()
-)
-# the words of `madvise`, where the reference has that command
-ADVICE = {
-    "MADV_DONTNEED": "dontneed",
-    "MADV_DONTFORK": "dontfork",
-    "MADV_DOFORK": "dofork",
-    "MADV_WIPEONFORK": "wipeonfork",
-    "MADV_KEEPONFORK": "keeponfork",
-}
-# flags of mmap that ask for something that no command does
-PASSED_OVER = ("MAP_POPULATE", "MAP_LOCKED", "MAP_GROWSDOWN", "MAP_HUGETLB", "MAP_DROPPABLE")
-PROTECTIONS = "NONE READ WRITE EXEC SEM BTI MTE GROWSDOWN GROWSUP".split()
-
-ANSWER = re.compile(r"(0x[0-9a-f]+|\d+)(?: <\d+\.\d+>)?")
-FAILED = re.compile(r"-1 (E[A-Z0-9]+) \(.*\)(?: <\d+\.\d+>)?")
-
-
-class Mapped(NamedTuple):
-    """What a range is: `anonymous`, `file` or `shared`."""
-
-    prot: str
-    kind: str
+# kinds of what is left out
+SHARED = "shared (its place is kept, as ---)"
+OF_FILE = "of a file"
 
 
 @dataclasses.dataclass(slots=True)
@@ -69,32 +45,8 @@ class Command:
     missing: str = ""
 
 
-class Space:
-    """The memory of a process, as far as calls made it. The rest is `execve`'s, or from before
-    the `log`. `births` has the first time at which an address was mapped.
-    """
-
-    def __init__(self, number: int, rest: str, parent: "Space | None" = None, now: int = -1):
-        self.number, self.rest = number, rest
-        self.ranges = Ranges(parent.ranges if parent else ())
-        self.heap = parent.heap if parent else 0
-        self.births = Ranges()
-        for it in self.ranges:
-            self.births.put(it.start, it.end, now)
-        self.threads: set[int] = set()
-
-    def map(self, start: int, end: int, mapped: Mapped, now: int) -> None:
-        self.ranges.put(start, end, mapped)
-        for hole in self.births.holes(start, end):
-            self.births.put(*hole, now)
-
-    def missing(self, start: int, length: int) -> str:
-        """Who mapped what isn't mapped by calls, if a part of the range isn't."""
-        return self.rest if self.ranges.holes(start, start + max(up(length), 1)) else ""
-
-
 class Tally:
-    """How many calls are kept, and how many of each kind aren't."""
+    """How many calls and accesses are in the trace, and how many of each kind aren't."""
 
     def __init__(self):
         self.kept = collections.Counter()
@@ -104,51 +56,16 @@ class Tally:
         self.flags = collections.Counter()
         self.accesses = collections.Counter()
         self.no_accesses = collections.Counter()
-        self.kept_apart = 0
-
-
-def protection(text: str) -> str:
-    """A protection as a trace has it."""
-    words = [it.removeprefix("PROT_") for it in text.split("|")]
-    if [it for it in words if it not in PROTECTIONS]:
-        raise ValueError(text)
-    pairs = zip("rwx", ("READ", "WRITE", "EXEC"))
-    return "".join(letter if word in words else "-" for letter, word in pairs)
-
-
-def kind_of(flags: list[str], file: str) -> str:
-    """What a mapping is."""
-    if "MAP_SHARED" in flags or "MAP_SHARED_VALIDATE" in flags:
-        return "shared"
-    if "MAP_PRIVATE" not in flags and "MAP_DROPPABLE" not in flags:
-        raise ValueError("|".join(flags))
-    if "MAP_ANONYMOUS" in flags:
-        return "anonymous"
-    if file == "-1":
-        raise ValueError("|".join(flags))
-    return "file"
-
-
-def address(word: str | None) -> int:
-    return 0 if word in (None, "NULL") else int(word, 16)
-
-
-def advice_of_model() -> set[str]:
-    """The words of `madvise` that the reference has: none as long as it has no such command."""
-    try:
-        with open(REFERENCE, encoding="utf-8") as it:
-            section = re.search(r"^### madvise\b.*?(?=^#{2,3} |\Z)", it.read(), re.M | re.S)
-    except OSError:
-        return set()
-    return {it for it in ADVICE.values() if section and f"`{it}`" in section[0]}
+        # pairs of areas that Linux keeps apart, and the model may join
+        self.pairs = 0
 
 
 class Memory:
-    """Calls of memory, one after the other. `now` is the time of the call that is done."""
+    """Calls of memory, one after the other."""
 
     def __init__(self, anonymous_only: bool, touch: int, advice: set[str]):
-        self.anonymous_only, self.touched, self.advice = anonymous_only, touch, advice
-        self.tally, self.commands, self.now = Tally(), [], -1
+        self.anonymous_only, self.touch_pages, self.advice = anonymous_only, touch, advice
+        self.tally, self.commands = Tally(), []
         self.place, self.origin, self.call = "", "", None
 
     def at(self, place: str, origin: str) -> None:
@@ -158,15 +75,15 @@ class Memory:
     def add(self, line: str, wanted: str, comment: str = "", missing: str = "") -> None:
         self.commands.append(Command(line, wanted, self.place, self.origin, comment, missing))
 
-    def takes(self, kind: str) -> bool:
+    def has(self, kind: str) -> bool:
         """Whether pages of such a range are in the trace."""
         return kind == "anonymous" or kind == "file" and not self.anonymous_only
 
-    def garbled(self, what: str):
-        raise Refused(f"{self.place}: {what}: {shown(self.origin)}")
+    def refuse(self, what: str) -> NoReturn:
+        raise Refused(f"{self.place}: {what}: {printable(self.origin)}")
 
     def do(self, space: Space, call: Call) -> None:
-        """A call that has an answer, whatever it is."""
+        """A call, whatever it is."""
         self.call = call
         self.at(call.place, str(call))
         if call.name in WITHOUT:
@@ -175,140 +92,141 @@ class Memory:
             self.tally.others[call.name] += 1
         elif not call.answer or call.answer.startswith("?"):
             self.tally.left_out[f"{call.name} without an answer"] += 1
-        elif failed := FAILED.fullmatch(call.answer):
-            self.fail(space, failed[1])
         else:
-            self.done(space, ANSWER.fullmatch(call.answer))
+            try:
+                self.do_memory(space)
+            except ValueError as error:
+                self.refuse(f"no such protection or flags ({printable(str(error))})")
 
     def words(self) -> re.Match:
         match = re.fullmatch(FORMS[self.call.name], self.call.words)
-        return match or self.garbled("words that no such call has")
+        return match or self.refuse("words that no such call has")
 
-    def done(self, space: Space, answer: re.Match | None) -> None:
-        """A call that did what it was to."""
-        if not answer:
-            self.garbled("an answer that no such call has")
-        words = self.words()
-        try:
-            name = self.call.name.removeprefix("pkey_")
-            getattr(self, name)(space, words, int(answer[1], 0))
-        except ValueError as error:
-            self.garbled(f"no such protection or flags ({shown(str(error))})")
+    def do_memory(self, space: Space) -> None:
+        """A call of memory that returned."""
+        if failure := FAILURE.fullmatch(self.call.answer):
+            self.fail(space, failure[1])
+            return
+        answer, name = ANSWER.fullmatch(self.call.answer), self.call.name.removeprefix("pkey_")
+        number = int(answer[1], 0) if answer else -1
+        if number < 0 or number > 0 and name in ("munmap", "mprotect", "madvise"):
+            self.refuse("an answer that no such call has")
+        getattr(self, name)(space, self.words(), number)
 
     def fail(self, space: Space, error: str) -> None:
         """A call that failed; a mprotect that met a hole changed the pages before it."""
         if self.call.name == "mprotect" and error == "ENOMEM":
-            words = self.words()
-            self.protect(space, address(words[1]), int(words[2]), words[3], "err ENOMEM")
+            self.protect(space, self.words(), f"err {error}")
         else:
             self.tally.failed[f"{self.call.name} {error}"] += 1
 
     # calls, by name
 
     def mmap(self, space: Space, words: re.Match, at: int) -> None:
-        length, prot, flags = int(words[2]), protection(words[3]), words[4].split("|")
-        kind = kind_of(flags, words[5])
-        if "MAP_FIXED" in flags and at != address(words[1]) or at % PAGE or not length:
-            self.garbled("an answer that no such call has")
+        length, prot, flags = int(words[2]), protection_of(words[3]), words[4].split("|")
+        kind, end = kind_of(flags, words[5]), at + up(length)
+        if "MAP_FIXED" in flags and at != address_of(words[1]) or at % PAGE or not length:
+            self.refuse("an answer that no such call has")
         for flag in set(flags) & set(PASSED_OVER):
             self.tally.flags[flag] += 1
-        if not self.takes(kind):
-            self.leave_out(space, at, length, kind)
+        if kind == "shared":
+            self.tally.left_out[f"mmap, {SHARED}"] += 1
+            self.map(space, at, length, "---")
+        elif not self.has(kind):
+            self.tally.left_out[f"mmap {OF_FILE}"] += 1
+            self.clear(space, at, length)
         else:
-            self.tally.kept["mmap of a file" if kind == "file" else "mmap"] += 1
+            self.tally.kept[f"mmap {OF_FILE}" if kind == "file" else "mmap"] += 1
             self.map(space, at, length, prot)
-        space.map(at, at + up(length), Mapped(prot, kind), self.now)
-        self.touch(space, at, at + up(length))
+        space.map(at, end, Mapped(prot, kind), self.call.time)
+        self.touch(space, at, end)
 
     def map(self, space: Space, at: int, length: int, prot: str) -> None:
         self.add(f"mmap {space.number} {length} {prot} fixed {at:x}", f"map {at:x}")
 
-    def leave_out(self, space: Space, at: int, length: int, kind: str) -> None:
-        """A mapping whose pages aren't in the trace. What it replaces goes."""
-        if kind == "shared":
-            self.tally.left_out["mmap, shared (its place is kept, as ---)"] += 1
-            self.map(space, at, length, "---")
-            return
-        self.tally.left_out["mmap of a file"] += 1
-        if self.taken(space, at, at + up(length)):
+    def clear(self, space: Space, at: int, length: int) -> None:
+        """Something comes that isn't in the trace: what it replaces goes."""
+        if any(self.has(it.of.kind) for it in space.ranges.within(at, at + up(length))):
             self.add(f"munmap {space.number} {at:x} {length}", "ok")
 
-    def taken(self, space: Space, start: int, end: int) -> list:
-        """The ranges of the trace between two addresses, without shared ones."""
-        return [it for it in space.ranges.within(start, end) if self.takes(it.of.kind)]
-
     def munmap(self, space: Space, words: re.Match, _answer: int) -> None:
-        start, length = address(words[1]), int(words[2])
+        start, length = address_of(words[1]), int(words[2])
         self.tally.kept["munmap"] += 1
         self.add(f"munmap {space.number} {start:x} {length}", "ok")
-        space.ranges.cut(start, start + up(length))
+        space.unmap(start, start + up(length))
 
     def mprotect(self, space: Space, words: re.Match, _answer: int) -> None:
         if self.call.name == "pkey_mprotect" and int(words[4]) > 0:
             self.tally.flags["key of pkey_mprotect"] += 1
-        self.protect(space, address(words[1]), int(words[2]), words[3], "ok")
+        self.protect(space, words, "ok")
 
-    def protect(self, space: Space, start: int, length: int, prot: str, wanted: str) -> None:
-        """The pages of a range that the trace has get a protection."""
-        name, new = self.call.name, protection(prot)
+    def protect(self, space: Space, words: re.Match, wanted: str) -> None:
+        """The pages that the trace has in a range get a protection."""
+        start, length, prot = address_of(words[1]), int(words[2]), protection_of(words[3])
         parts = space.ranges.within(start, start + up(length))
-        mine = [it for it in parts if self.takes(it.of.kind)]
-        if "PROT_GROWS" in prot or parts and not mine:
-            what = prot if "PROT_GROWS" in prot else "of mappings that are left out"
-            self.tally.left_out[f"{name} {what}"] += 1
+        ours = [it for it in parts if self.has(it.of.kind)]
+        if "PROT_GROWS" in words[3] or parts and not ours:
+            what = words[3] if "PROT_GROWS" in words[3] else "of mappings that are left out"
+            self.tally.left_out[f"{self.call.name} {what}"] += 1
             return
-        self.tally.kept[name] += 1
-        if len(mine) == len(parts):
-            line = f"mprotect {space.number} {start:x} {length} {new}"
+        self.tally.kept[self.call.name] += 1
+        if len(ours) == len(parts):
+            line = f"mprotect {space.number} {start:x} {length} {prot}"
             self.add(line, wanted, missing=space.missing(start, length))
-        for first, end in joined(mine) if len(mine) < len(parts) else ():
-            self.add(f"mprotect {space.number} {first:x} {end - first} {new}", "ok")
-        for it in until_hole(mine, wanted):
-            space.ranges.put(it.start, it.end, Mapped(new, it.of.kind))
+        for at, end in runs_of(ours) if len(ours) < len(parts) else ():
+            self.add(f"mprotect {space.number} {at:x} {end - at} {prot}", "ok")
+        # (a call that failed ended at the first hole)
+        last = 2**64 if wanted == "ok" else runs_of(ours)[0][1] if ours else 0
+        for it in [it for it in ours if it.end <= last]:
+            space.ranges.put(it.start, it.end, Mapped(prot, it.of.kind))
             if "w" not in it.of.prot:
                 self.touch(space, it.start, it.end)
 
     def mremap(self, space: Space, words: re.Match, to: int) -> None:
-        start, old, new = address(words[1]), int(words[2]), int(words[3])
+        start, old, new = address_of(words[1]), int(words[2]), int(words[3])
         flags = words[4].split("|")
-        if "MREMAP_FIXED" in flags and to != address(words[5]) or to % PAGE:
-            self.garbled("an answer that no such call has")
-        is_left = "MREMAP_DONTUNMAP" in flags
-        moved = space.ranges.within(start, start + min(up(old) or up(new), up(new)))
-        if moved and moved[0].of.kind != "shared" and not self.takes(moved[0].of.kind):
-            self.tally.left_out["mremap of a file"] += 1
-            if to != start and self.taken(space, to, to + up(new)):
-                self.add(f"munmap {space.number} {to:x} {new}", "ok")
+        if "MREMAP_FIXED" in flags and to != address_of(words[5]) or to % PAGE:
+            self.refuse("an answer that no such call has")
+        parts = space.ranges.within(start, start + min(up(old) or up(new), up(new)))
+        is_file = bool(parts) and parts[0].of.kind == "file"
+        if is_file and self.anonymous_only:
+            self.tally.left_out[f"mremap {OF_FILE}"] += 1
+            if to != start:
+                self.clear(space, to, new)
         elif not old:
-            self.tally.left_out["mremap, shared (its place is kept, as ---)"] += 1
+            # (a second mapping of the same shared pages)
+            self.tally.left_out[f"mremap, {SHARED}"] += 1
             self.map(space, to, new, "---")
+            parts = [Range(start, start + up(new), Mapped("---", "shared"))]
         else:
-            self.tally.kept["mremap"] += 1
-            way = f" dontunmap {to:x}" if is_left else f" fixed {to:x}" if to != start else ""
-            line = f"mremap {space.number} {start:x} {old} {new}{way}"
-            is_in_place = not way and up(new) <= up(old)
-            missing = space.missing(start, 1 if is_in_place else old)
-            self.add(line, f"map {to:x}", missing=missing)
-        self.move(space, moved, start, up(old), to, up(new), is_left)
-
-    def move(self, space, moved, start: int, old: int, to: int, new: int, is_left: bool) -> None:
-        """The ranges after a mremap. (Lengths are whole pages.)"""
-        if old and not is_left:
-            space.ranges.cut(start, start + old)
+            self.add_mremap(space, words, to, "MREMAP_DONTUNMAP" in flags)
+        if old and "MREMAP_DONTUNMAP" not in flags:
+            space.unmap(start, start + up(old))
         if to != start:
-            space.ranges.cut(to, to + new)
-        for it in moved:
-            space.map(it.start - start + to, it.end - start + to, it.of, self.now)
-        if new > old and moved and old:
-            space.map(to + old, to + new, moved[-1].of, self.now)
+            space.unmap(to, to + up(new))
+        space.move(parts, to - start, self.call.time)
+        if parts and 0 < up(old) < up(new):
+            space.map(to + up(old), to + up(new), parts[-1].of, self.call.time)
+
+    def add_mremap(self, space: Space, words: re.Match, to: int, is_left: bool) -> None:
+        """The command of a mremap that moved or resized what the trace has."""
+        start, old, new = address_of(words[1]), int(words[2]), int(words[3])
+        self.tally.kept["mremap"] += 1
+        way = f" dontunmap {to:x}" if is_left else f" fixed {to:x}" if to != start else ""
+        is_in_place = not way and up(new) <= up(old)
+        self.add(
+            f"mremap {space.number} {start:x} {old} {new}{way}",
+            f"map {to:x}",
+            missing=space.missing(start, 1 if is_in_place else old),
+        )
 
     def madvise(self, space: Space, words: re.Match, _answer: int) -> None:
         word = ADVICE.get(words[3], "")
         if word not in self.advice:
-            self.tally.left_out[f"madvise {shown(words[3])}"] += 1
+            self.tally.left_out[f"madvise {printable(words[3])}"] += 1
             return
         self.tally.kept["madvise"] += 1
-        start, length = address(words[1]), int(words[2])
+        start, length = address_of(words[1]), int(words[2])
         line = f"madvise {space.number} {start:x} {length} {word}"
         self.add(line, "ok", missing=space.missing(start, length))
 
@@ -321,51 +239,26 @@ class Memory:
         self.tally.kept["brk"] += 1
         if new > old:
             self.map(space, old, new - old, "rw-")
-            space.map(old, new, Mapped("rw-", "anonymous"), self.now)
+            space.map(old, new, Mapped("rw-", "anonymous"), self.call.time)
             self.touch(space, old, new)
         else:
             self.add(f"munmap {space.number} {new:x} {old - new}", "ok")
-            space.ranges.cut(new, old)
+            space.unmap(new, old)
 
     def touch(self, space: Space, start: int, end: int) -> None:
         """Writes to the first pages of what may be written from now on."""
         mapped = space.ranges.at(start)
-        if "w" not in mapped.prot or not self.takes(mapped.kind):
+        if "w" not in mapped.prot or not self.has(mapped.kind):
             return
-        for at in range(start, min(end, start + self.touched * PAGE), PAGE):
+        for at in range(start, min(end, start + self.touch_pages * PAGE), PAGE):
             self.tally.accesses["write"] += 1
             self.add(f"write {space.number} {at:x} 01", "ok")
 
     def end(self, space: Space) -> None:
-        """A process ends. Counts where its ranges touch so that Linux keeps two areas, and the
-        model joins them.
+        """A process ends. Areas that adjoin with one protection, one of them of a file, are two in
+        Linux, and may be one in the model.
         """
-        before = None
-        for it in space.ranges:
-            if (
-                before
-                and before.end == it.start
-                and before.of.prot == it.of.prot
-                and self.takes(before.of.kind)
-                and self.takes(it.of.kind)
-                and "file" in (before.of.kind, it.of.kind)
-            ):
-                self.tally.kept_apart += 1
-            before = it
-
-
-def joined(ranges: list) -> list[tuple[int, int]]:
-    """Ranges that adjoin as one."""
-    found = []
-    for it in ranges:
-        if found and found[-1][1] == it.start:
-            found[-1] = (found[-1][0], it.end)
-        else:
-            found.append((it.start, it.end))
-    return found
-
-
-def until_hole(ranges: list, wanted: str) -> list:
-    """All ranges, or those before the first hole where a call ended at one."""
-    end = joined(ranges)[0][1] if ranges and wanted != "ok" else 2**64
-    return [it for it in ranges if it.end <= end]
+        for one, two in space.pairs():
+            kinds = one.of.kind, two.of.kind
+            if one.of.prot == two.of.prot and "file" in kinds and all(map(self.has, kinds)):
+                self.tally.pairs += 1

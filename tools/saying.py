@@ -41,13 +41,20 @@ def lines_of(file: str) -> list[str]:
     return text[:-1].split("\n")
 
 
-def shown(text: str) -> str:
+def name_of(file: str) -> str:
+    """A file's name, without its folder, in ASCII."""
+    if file == "-":
+        return "standard input"
+    return os.path.basename(file).encode("ascii", "backslashreplace").decode()
+
+
+def printable(text: str) -> str:
     """A line as it can be shown in a sentence."""
     text = "".join(it if it.isprintable() else f"\\x{ord(it):02x}" for it in text)
     return text if len(text) <= 90 else f"{text[:87]}.."
 
 
-def counted(number: int, one: str, many: str = "") -> str:
+def count_of(number: int, one: str, many: str = "") -> str:
     """A number with its word: 1 call, 2 calls."""
     return f"{number} {one if number == 1 else many or one + 's'}"
 

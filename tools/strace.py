@@ -8,8 +8,9 @@ import dataclasses
 import glob
 import os
 import re
+from typing import NoReturn
 
-from saying import Refused, lines_of, shown
+from saying import Refused, lines_of, name_of, printable
 
 # the number of the thread in a log without numbers
 ALONE = 0
@@ -17,9 +18,9 @@ DAY = 24 * 3600 * 10**9
 
 TIME = r"\d+\.\d+|\d\d:\d\d:\d\d(?:\.\d+)?"
 LINE = re.compile(rf"(?:(\d+) +)?(?:({TIME}) +)?(\S.*)")
-WHOLE = re.compile(r"(\w+)\((.*)\) += (.+)")
-BEGINS = re.compile(r"(\w+)\((.*?),? ?<(unfinished|detached) \.\.\.>")
-RESUMED = re.compile(r"<\.\.\. (\w+) resumed> ?(.*)\) += (.+)")
+WHOLE = re.compile(r"([\w?]+)\((.*)\) += (.+)")
+BEGINS = re.compile(r"([\w?]+)\((.*?),? ?<(unfinished|detached) \.\.\.>")
+RESUMED = re.compile(r"<\.\.\. ([\w?]+) resumed> ?(.*)\) += (.+)")
 ENDS = re.compile(r"\+\+\+ (?:exited with \d+|killed by \w+(?: \(core dumped\))?) \+\+\+")
 CHANGED = re.compile(r"(execve\w*)\((.*?),? ?<pid changed to (\d+) \.\.\.>")
 SUPERSEDED = re.compile(r"\+\+\+ superseded by execve in pid (\d+) \+\+\+")
@@ -28,13 +29,14 @@ SIGNAL = re.compile(r"--- .* ---")
 
 @dataclasses.dataclass(slots=True)
 class Call:
-    """A call: its words as they stand between the brackets, and the kernel's answer; none where
-    it never returned.
+    """A call: its words as they stand between the brackets, the time at which it began, and the
+    kernel's answer; none where it never returned.
     """
 
     thread: int
     name: str
     words: str
+    time: int
     place: str
     answer: str = ""
 
@@ -75,12 +77,12 @@ class Reader:
     """
 
     def __init__(self, file: str, thread: int = ALONE):
-        self.file, self.thread = file, thread
+        self.file, self.name, self.thread = file, name_of(file), thread
         self.pending: dict[int, Call] = {}
         self.changed: set[tuple[int, int]] = set()
         self.days, self.last = 0, -1
 
-    def refuse(self, number: int, why: str):
+    def refuse(self, number: int, why: str) -> NoReturn:
         raise Refused(f"{self.file}, line {number}: {why}")
 
     def steps(self) -> list[Step]:
@@ -97,7 +99,7 @@ class Reader:
             )
         match = LINE.fullmatch(line)
         if not match:
-            self.refuse(number, f"it is no line of strace: {shown(line)}")
+            self.refuse(number, f"it is no line of strace: {printable(line)}")
         thread = int(match[1]) if match[1] else self.thread
         return self.step_of(thread, self.time(match[2]), number, match[3])
 
@@ -112,7 +114,7 @@ class Reader:
         return time
 
     def step_of(self, thread: int, time: int, number: int, text: str) -> Step | None:
-        place = f"{os.path.basename(self.file)}, line {number}"
+        place = f"{self.name}, line {number}"
         if SIGNAL.fullmatch(text):
             return None
         if ENDS.fullmatch(text):
@@ -121,21 +123,21 @@ class Reader:
         if by := SUPERSEDED.fullmatch(text):
             return self.superseded(Step("superseded", thread, time, place, text, by=int(by[1])))
         if changed := CHANGED.fullmatch(text):
-            self.pending[thread] = Call(thread, changed[1], changed[2], place)
+            self.pending[thread] = Call(thread, changed[1], changed[2], time, place)
             to = int(changed[3])
             return self.superseded(Step("superseded", to, time, place, text, by=thread))
         if begins := BEGINS.fullmatch(text):
             self.is_free(thread, number)
-            call = self.pending[thread] = Call(thread, begins[1], begins[2], place)
+            call = self.pending[thread] = Call(thread, begins[1], begins[2], time, place)
             return Step("begins", thread, time, place, text, call)
         if resumed := RESUMED.fullmatch(text):
             call = self.resumed(thread, number, resumed)
             return Step("call", thread, time, place, text, call)
         if whole := WHOLE.fullmatch(text):
             self.is_free(thread, number)
-            call = Call(thread, whole[1], whole[2], place, whole[3])
+            call = Call(thread, whole[1], whole[2], time, place, whole[3])
             return Step("call", thread, time, place, text, call)
-        return self.refuse(number, f"it is no line of strace: {shown(text)}")
+        self.refuse(number, f"it is no line of strace: {printable(text)}")
 
     def is_free(self, thread: int, number: int) -> None:
         """A thread that calls isn't within another call."""
@@ -153,7 +155,7 @@ class Reader:
         """
         call = self.pending.pop(thread, None)
         if not call:
-            return Call(thread, match[1], "", f"{os.path.basename(self.file)}, line {number}")
+            return Call(thread, match[1], "", self.last, f"{self.name}, line {number}")
         if call.name != match[1]:
             self.refuse(
                 number,
@@ -199,4 +201,6 @@ def read_log(log: str) -> list[Step]:
         if steps and steps[0].time < first - DAY // 2:
             for it in steps:
                 it.time += DAY
+                if it.call and it.call.place == it.place:
+                    it.call.time += DAY
     return sorted((it for steps in several for it in steps), key=lambda it: it.time)
