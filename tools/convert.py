@@ -9,7 +9,7 @@ from faults import Fault
 from memory import Command, Memory
 from saying import Refused, count_of, printable
 from spaces import Space
-from strace import ALONE, Call, Step
+from strace import ALONE, NEVER, Call, Step
 
 FORKS = ("clone", "clone3", "fork", "vfork")
 # numbers that a process may have, and frames that a machine may have
@@ -30,15 +30,33 @@ class Options:
     touch: int = 0
 
 
+@dataclasses.dataclass(slots=True)
+class Stay:
+    """A memory that a thread had, from some time after `first` to some time before `last`."""
+
+    space: Space
+    first: int
+    last: int = NEVER
+
+
 class Thread:
     """A thread: its group, and the memory that it has, none before its first execve. It begins
     after the call that made it began, where the log has that.
     """
 
     def __init__(self, number: int, group: int, space: Space | None, born: int = -1):
-        self.number, self.group, self.born, self.ended = number, group, born, -1
-        self.spaces = [space] if space else []
+        self.number, self.group, self.born, self.ended = number, group, born, NEVER
+        self.space, self.stays = None, []
+        if space:
+            self.enter(space, born, born)
+
+    def enter(self, space: Space, first: int, last: int) -> None:
+        """The thread has another memory, from a time between the two on."""
+        if self.stays:
+            self.stays[-1].last = last
         self.space = space
+        self.stays.append(Stay(space, first))
+        space.threads.add(self.number)
 
 
 class Convert:
@@ -138,8 +156,6 @@ class Convert:
     def begin(self, thread: Thread) -> Thread:
         self.threads[thread.number] = thread
         self.all.append(thread)
-        if thread.space:
-            thread.space.threads.add(thread.number)
         return thread
 
     def make(self, step: Step) -> None:
@@ -201,9 +217,7 @@ class Convert:
         old, is_free = thread.space, self.empty(thread)
         number = old.number if is_free else self.number(call.place)
         self.numbers.add(number)
-        thread.space = Space(number, "execve")
-        thread.spaces.append(thread.space)
-        thread.space.threads.add(thread.number)
+        thread.enter(Space(number, "execve"), call.time, self.now)
         self.tally.kept["execve"] += 1
         path = re.search(r'"((?:[^"\\]|\\.)*)"', call.words)
         comment = f"process {number} is {thread.number}: {path[1] if path else '?'}"

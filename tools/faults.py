@@ -1,12 +1,13 @@
 """Page faults as `perf script` prints them, on the clock of a log.
 
-perf and strace have clocks of their own, which differ by a constant. The log tells it: a page is
-touched first after the call that mapped it began, and often at once. So the greatest difference
-between such a call and the first fault behind it is the constant, but for the few microseconds
-that passed between.
+perf and strace have clocks of their own, which differ by a constant. The log tells it: a thread
+has its faults while it lives, and touches a page after the call that mapped it began, often at
+once. So the constant is the least with which most of that is so, but for the few microseconds
+between a call and the first touch.
 """
 import dataclasses
 import re
+from typing import Iterator
 
 from saying import Refused, lines_of, name_of, printable
 from strace import time_of
@@ -15,9 +16,8 @@ from strace import time_of
 HEAD, TAIL = "# faults, as perf script prints them", "# end"
 # who runs beside the program
 OTHERS = ("strace", "perf", "perf-exec")
-# how much the clocks may disagree with the log, and how long after a call its page is touched at
-# the earliest
-TOLERANCE, AFTER = 10_000_000, 10_000
+# nanoseconds from the beginning of a call to the first touch of what it mapped, at the least
+AFTER = 10_000
 
 FAULT = re.compile(
     r"\s*(?:(?P<name>\S.*?)\s+)?(?P<process>\d+)(?:/(?P<thread>\d+))?\s+(?:\[\d+\]\s+)?"
@@ -79,57 +79,73 @@ def fault_of(match: re.Match, place: str) -> Fault | None:
 
 
 class Clocks:
-    """What a log tells of the difference between its clock and that of its faults. `threads` are
-    those that the log has, with when they lived and what they mapped.
+    """What a log tells of the difference between its clock and that of its faults: what is added
+    to a fault's time. `threads` are those that the log has.
     """
 
     def __init__(self, threads: list):
-        self.born: dict[int, int] = {}
-        self.ended: dict[int, int] = {}
-        self.spaces: dict[int, list] = {}
+        self.threads: dict[int, list] = {}
         for it in threads:
-            self.born.setdefault(it.number, it.born)
-            self.ended[it.number] = it.ended
-            self.spaces.setdefault(it.number, []).extend(it.spaces)
+            self.threads.setdefault(it.number, []).append(it)
 
-    def least(self, fault: Fault) -> int | None:
-        """The difference isn't less: the fault comes after its thread was made, and after its
-        page was mapped.
+    def lives(self, fault: Fault) -> Iterator[tuple[int, int]]:
+        """Between which differences a fault is in the life of its thread."""
+        for thread in self.threads.get(fault.thread, ()):
+            yield thread.born - fault.time, thread.ended - fault.time
+
+    def touches(self, fault: Fault) -> Iterator[tuple[int, int]]:
+        """Between which differences it comes after a call that mapped its page, in a memory that
+        the thread still has.
         """
-        times = [space.births.at(fault.address) for space in self.spaces[fault.thread]]
-        mapped = [it for it in times if it is not None]
-        after = max(self.born[fault.thread], min(mapped, default=-1))
-        return after - fault.time if after >= 0 else None
+        for thread in self.threads.get(fault.thread, ()):
+            for stay in thread.stays:
+                birth = stay.space.births.at(fault.address)
+                if birth is not None:
+                    last = min(stay.last, thread.ended)
+                    yield max(birth, stay.first) - fault.time, last - fault.time
 
     def difference(self, faults: list[Fault], file: str) -> tuple[int, int]:
-        """What is added to a fault's time, and how much more it might be at most (-1: unknown)."""
-        ours = [it for it in faults if it.thread in self.born]
+        """The least difference with which most is so, and the greatest that is as good."""
+        ours = [it for it in faults if it.thread in self.threads]
         if not ours:
             raise Refused(f"{file} has no fault of a thread of the log: are they of one run?")
-        least = [it for it in map(self.least, ours) if it is not None]
-        if not least:
+        touches = [it for fault in ours for it in self.touches(fault)]
+        if not touches:
             raise Refused(
                 f"{file} has no fault in what the log maps, so the clocks can't be brought together"
             )
-        low = max(least)
-        ended = [(self.ended[it.thread], it.time) for it in ours]
-        most = [end - time for end, time in ended if end >= 0]
-        if not most:
-            return low + AFTER, -1
-        room = min(most) - low
-        if room < -TOLERANCE:
+        low, high = most_common([it for fault in ours for it in self.lives(fault)] + touches)
+        live = [it for it in ours if any(a <= low <= b for a, b in self.lives(it))]
+        if len(live) < len(ours) * 9 // 10:
             raise Refused(
-                f"{file} doesn't fit the log: by {-room / 10**9:.3f} s a thread has faults after "
-                "its end, or before what it touches is mapped: are they of one run?"
+                f"{file} doesn't fit the log: {len(ours) - len(live)} of {len(ours)} faults are of "
+                "threads that don't live then: are they of one run?"
             )
-        return low + max(0, min(room // 2, AFTER)), max(room, 0)
+        return low, high
+
+
+def most_common(spans: list[tuple[int, int]]) -> tuple[int, int]:
+    """The least numbers, from one to another, that most spans have."""
+    ends = sorted([(low, 0) for low, _ in spans] + [(high, 1) for _, high in spans])
+    count = most = low = high = 0
+    is_best = False
+    for at, is_end in ends:
+        if is_end:
+            high = at if is_best else high
+            is_best, count = False, count - 1
+        else:
+            count += 1
+            if count > most:
+                is_best, most, low = True, count, at
+    return low, high
 
 
 def on_clock_of(threads: list, faults: list[Fault], file: str) -> tuple[int, int]:
-    """Sets the faults' times to those of the log, and gives the difference, and how much more it
-    might be.
+    """Sets the faults' times to those of the log. Gives the difference, and what it might be at
+    most.
     """
-    found = Clocks(threads).difference(faults, file)
+    low, high = Clocks(threads).difference(faults, file)
+    difference = low + min((high - low) // 2, AFTER)
     for it in faults:
-        it.time += found[0]
-    return found
+        it.time += difference
+    return difference, high

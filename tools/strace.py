@@ -15,6 +15,8 @@ from saying import Refused, lines_of, name_of, printable
 # the number of the thread in a log without numbers
 ALONE = 0
 DAY = 24 * 3600 * 10**9
+# a time after all others
+NEVER = 2**62
 
 TIME = r"\d+\.\d+|\d\d:\d\d:\d\d(?:\.\d+)?"
 LINE = re.compile(rf"(?:(\d+) +)?(?:({TIME}) +)?(\S.*)")
