@@ -8,7 +8,6 @@ import dataclasses
 import re
 from typing import NoReturn
 
-from areas import PAGE, Range, up
 from calls import (
     ADVICE,
     ANSWER,
@@ -21,6 +20,7 @@ from calls import (
     kind_of,
     protection_of,
 )
+from ranges import PAGE, Range, up
 from saying import Refused, printable
 from spaces import Space, runs_of
 from strace import Call

@@ -1,6 +1,6 @@
 """The memory of a process, as far as the calls of a log made it."""
-from areas import Range, Ranges, up
 from calls import Mapped
+from ranges import Range, Ranges, up
 
 
 class Space:
