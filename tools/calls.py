@@ -21,6 +21,8 @@ WITHOUT = set(
     " move_pages mseal msync munlock munlockall pkey_alloc pkey_free process_madvise"
     " process_mrelease remap_file_pages set_mempolicy set_mempolicy_home_node shmat shmdt".split()
 )
+# those of them that map something
+MAPS_TOO = ("io_setup", "map_shadow_stack", "shmat")
 # the words of `madvise`, where the reference has that command
 ADVICE = {
     "MADV_DONTNEED": "dontneed",

@@ -83,6 +83,8 @@ class Differences:
             return text_of(rule)
         if command.missing == "log":
             return "the log was begun when a part of the range was mapped already"
+        if command.missing not in ("", "execve"):
+            return f"the trace has no {command.missing}, which may have mapped a part of the range"
         if process in self.lost:
             return f"it follows from {self.lost[process]}"
         return NONE

@@ -13,6 +13,7 @@ from calls import (
     ANSWER,
     FAILURE,
     FORMS,
+    MAPS_TOO,
     PASSED_OVER,
     WITHOUT,
     Mapped,
@@ -33,8 +34,8 @@ OF_FILE = "of a file"
 @dataclasses.dataclass(slots=True)
 class Command:
     """A line of the trace, and how a reply begins that agrees with the kernel. `missing` says who
-    mapped what no call of the log did, where the range has a part that none mapped: `execve`, or
-    calls before the `log`.
+    may have mapped it, where no call that is kept mapped a part of the range: `execve`, calls
+    before the `log`, or a call that is left out.
     """
 
     line: str
@@ -88,6 +89,7 @@ class Memory:
         self.at(call.place, str(call))
         if call.name in WITHOUT:
             self.tally.left_out[call.name] += 1
+            space.rest = call.name if call.name in MAPS_TOO else space.rest
         elif call.name not in FORMS:
             self.tally.others[call.name] += 1
         elif not call.answer or call.answer.startswith("?"):

@@ -4,8 +4,8 @@ from ranges import Range, Ranges, up
 
 
 class Space:
-    """What calls mapped, and the end of the heap; the rest is `execve`'s, or from before the
-    `log`. `births` has the first time at which an address was mapped.
+    """What calls mapped, and the end of the heap; the rest is `execve`'s, from before the `log`,
+    or of a call that is left out. `births` has the first time at which an address was mapped.
     """
 
     def __init__(self, number: int, rest: str, parent: "Space | None" = None, now: int = -1):
@@ -31,10 +31,10 @@ class Space:
             self.map(it.start + by, it.end + by, it.of, now)
 
     def missing(self, start: int, length: int) -> str:
-        """Who mapped what isn't mapped by calls, if a part of the range isn't."""
+        """Who mapped the rest, if a part of the range isn't mapped by calls."""
         return self.rest if self.ranges.holes(start, start + max(up(length), 1)) else ""
 
-    def pairs(self):
+    def pairs(self) -> list[tuple[Range, Range]]:
         """The ranges that adjoin, two by two."""
         ranges = list(self.ranges)
         return [(one, two) for one, two in zip(ranges, ranges[1:]) if one.end == two.start]
