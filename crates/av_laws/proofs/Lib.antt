@@ -37,8 +37,6 @@ pub mod ListsExamples
 pub mod AnonExamples
 pub mod RowExamples
 pub mod SplitExamples
-pub mod Clusters
-pub mod Fresh
 pub mod FreeSlots
 pub mod Covered
 pub mod RunCovered

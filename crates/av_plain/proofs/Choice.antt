@@ -7,7 +7,7 @@ use Rattle.av_base.specs.Words.{how_many}
 use Rattle.std.specs.List.{range_with_len}
 use Rattle.av_plain.specs.Ledger.{Ledger, Setting, Cached, Key, key_cmp, Entry, InFrame, entry, names_frame, is_free, slot_count}
 use Rattle.av_plain.specs.Event.{Event, set_entry, after, after_all, after_zap}
-use Rattle.av_clusters.specs.Clusters.{Slots, give_slot}
+use Rattle.av_clusters.specs.Clusters.{give_slot}
 use Rattle.av_base.specs.declared.slot.Slot.{Slot}
 use Rattle.av_plain.specs.Choice.{AreaSlots, Chooses, ChoosesAll, ChoosesFrame, ChoosesSlot, Free, IsGiven, SwitchesArea, frame_in, new_free, slot_in}
 use Rattle.av_plain.specs.Sound.{uses}

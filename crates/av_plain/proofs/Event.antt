@@ -89,7 +89,7 @@ slot_entries-unmap f s l itself = how_many-map (λ e. names_slot s e.1) (λ e. (
 abbrev pub to_unseen : ℕ → Entry → Entry
 to_unseen f e = if names_frame f e then without_seen e else e
 
-unseen-by : (f : ℕ) (p : Entry → Bool) → ((g : ℕ) (seen now : Bool) → p (InFrame g seen) ≡ p (InFrame g now)) → (e : Entry) → p (to_unseen f e) ≡ p e
+pub unseen-by : (f : ℕ) (p : Entry → Bool) → ((g : ℕ) (seen now : Bool) → p (InFrame g seen) ≡ p (InFrame g now)) → (e : Entry) → p (to_unseen f e) ≡ p e
 unseen-by f p h Zero = refl
 unseen-by f p h (InFrame g seen) = elim (f == g) as (λ b. p (if b then without_seen (InFrame g seen) else InFrame g seen) ≡ p (InFrame g seen)) [
   | true ↦ h g false seen

@@ -98,7 +98,7 @@ is_that None g = false
 is_that (Some f) g = g == f
 
 -- a frame without uses stays so, unless it is taken; and then it has one
-record Steady (l l' : Ledger) (taken : Option ℕ) : Type 0 where
+pub record Steady (l l' : Ledger) (taken : Option ℕ) : Type 0 where
   stays : (g : ℕ) → uses l g ≡ 0 → is_that taken g ≡ false → uses l' g ≡ 0
   taken_used : (g : ℕ) → is_that taken g ≡ true → 0 < uses l' g
 
@@ -112,7 +112,7 @@ at_most false = omega arith
 differ : {x : Bool} → false ≡ x → x ≡ true → ⊥
 differ h i = cc
 
-lists-event : (m : Setting) (l l' : Ledger) (taken : Option ℕ) (free rest : List ℕ) → MatchOption taken (free ≡ rest) (λ f. free ≡ f ∷ rest) →
+pub lists-event : (m : Setting) (l l' : Ledger) (taken : Option ℕ) (free rest : List ℕ) → MatchOption taken (free ≡ rest) (λ f. free ≡ f ∷ rest) →
     Steady l l' taken → Lists m l free → Lists m l' (new_free m l l' ++ rest)
 lists-event m l l' taken free rest first steady h g =
     let a = how_many-append (λ x. g == x) (new_free m l l') rest in
@@ -182,10 +182,10 @@ set-steady l l' k f seen sorted same = record {
     flag false e = refl
 
 -- no frame is taken, and none comes into use
-fewer-steady : (l l' : Ledger) → ((g : ℕ) → uses l g ≡ 0 → uses l' g ≡ 0) → Steady l l' None
+pub fewer-steady : (l l' : Ledger) → ((g : ℕ) → uses l g ≡ 0 → uses l' g ≡ 0) → Steady l l' None
 fewer-steady l l' h = record { stays = λ g gone other. h g gone; taken_used = λ g is. cc }
 
-note-steady : (l : Ledger) (note : Note) → T (is_sorted key_cmp l.entries) → IsHeld l note → Steady l (after_note note l) (frame_in_note note)
+pub note-steady : (l : Ledger) (note : Note) → T (is_sorted key_cmp l.entries) → IsHeld l note → Steady l (after_note note l) (frame_in_note note)
 note-steady l (Zeroed p a) sorted h = fewer-steady l _ (λ g gone. let e = map_count-set (key_at p a) Zero l g sorted in omega (arith, gone, e))
 note-steady l (New p a f) sorted h = set-steady l (after_note (New p a f) l) (key_at p a) f false sorted (λ g. refl)
 note-steady l (Copied p a f) sorted h = set-steady l (after_note (Copied p a f) l) (key_at p a) f false sorted (λ g. refl)
@@ -414,12 +414,12 @@ held-touches m w l write k notes (Some Lost) s q = held-seeks m (sparing w l Non
 
 -- ---- a use, and an access
 
-used-steady : (m : Setting) (l : Ledger) (write : Bool) (k : Key) → IsSound m l → Steady l (after_use write k l) None
-used-steady m l write k s = by write (entry l k) refl
+pub used-steady : (l : Ledger) (write : Bool) (k : Key) → T (is_sorted key_cmp l.entries) → Steady l (after_use write k l) None
+used-steady l write k sorted = by write (entry l k) refl
   where
     seen : (f : ℕ) (was : Bool) → entry l k ≡ Some (InFrame f was) → (g : ℕ) → uses l g ≡ 0 → uses (set_entry k (InFrame f true) l) g ≡ 0
     seen f was here g gone = let a = ap (λ o. map_count (set_entry k (InFrame f true) l) g + weight (names_frame g) o) (sym here)
-        ∙ map_count-set k (InFrame f true) l g s.in_order in omega (arith, gone, a)
+        ∙ map_count-set k (InFrame f true) l g sorted in omega (arith, gone, a)
 
     stale : (f : ℕ) (was : Bool) → entry l k ≡ Some (InFrame f was) → (o : Option Slot) →
         Steady l (if_some o (with_stale true) (set_entry k (InFrame f true) l)) None
@@ -448,7 +448,7 @@ page-lists m w l write k notes None free free' s q c h =
     (note_events-all l notes) p.2 in
     subst (λ x. Lists m x free') (sym (after_all-append l (note_events notes) (Used write k ∷ []) ∙ ap (after_use write k) (note_events-all l notes)))
     (subst (Lists m (after_use write k now)) (sym (last.2 ∙ last.1.2))
-    (lists-event m now (after_use write k now) None p.0 last.1.0 last.1.1 (used-steady m now write k (touches-kept m w l write k notes None s q)) first))
+    (lists-event m now (after_use write k now) None p.0 last.1.0 last.1.1 (used-steady now write k (touches-kept m w l write k notes None s q).in_order) first))
 
 accesses-lists : (m : Setting) (w : World) (l : Ledger) (p : ℕ) (ps : List (Bool × ℕ))
     (es : List Event) (end : End) (free free' : List ℕ) → IsSound m l → Accesses m w l p ps es end
@@ -470,8 +470,8 @@ accesses-lists m w l p (page ∷ ps) es end free free' s (inr q) c h =
 
 -- ---- entries taken away
 
-zap-steady : (m : Setting) (l : Ledger) (k : Key) → T (is_sorted key_cmp l.entries) → Steady l (after_zap k l) None
-zap-steady m l k sorted = fewer-steady l _ (λ g gone. let a = map_count-after_zap k l g sorted in
+pub zap-steady : (l : Ledger) (k : Key) → T (is_sorted key_cmp l.entries) → Steady l (after_zap k l) None
+zap-steady l k sorted = fewer-steady l _ (λ g gone. let a = map_count-after_zap k l g sorted in
     let b = ap (how_many (λ (c : Cached). g == c.frame)) (same_swap-after_zap k l).cache in omega (arith, gone, a, b))
 
 zap-lists : (m : Setting) (l : Ledger) (k : Key) (free free' : List ℕ) → IsSound m l
@@ -479,7 +479,7 @@ zap-lists : (m : Setting) (l : Ledger) (k : Key) (free free' : List ℕ) → IsS
     → Lists m (after_all l (zap_of l k)) free'
 zap-lists m l k free free' s c h =
     let now = after_zap k l in
-    let first = subst (Lists m now) (sym c.1.2) (lists-event m l now None free c.1.0 c.1.1 (zap-steady m l k s.in_order) h) in
+    let first = subst (Lists m now) (sym c.1.2) (lists-event m l now None free c.1.0 c.1.1 (zap-steady l k s.in_order) h) in
     drop (slot_behind_key l (entry l k)) c.2 first
   where
     dropped : (t : Slot) (b : Bool)
@@ -508,7 +508,7 @@ zaps-lists m l (k ∷ ks) free free' s c h =
 -- ---- entries that go over
 
 -- no frame comes into use
-fork-steady : (m : Setting) (l : Ledger) (p q : ℕ) → IsSound m l → ((page : ℕ) → entry l (q, page) ≡ None) → Steady l (child_ledger p q l) None
+pub fork-steady : (m : Setting) (l : Ledger) (p q : ℕ) → IsSound m l → ((page : ℕ) → entry l (q, page) ≡ None) → Steady l (child_ledger p q l) None
 fork-steady m l p q s none = subst (λ l'. Steady l l' None) (sym (forked-is p q l ∙ put_all-only (copies p q l.entries) l))
     (fewer-steady l (record l { entries = (put_all (copies p q l.entries) l).entries }) (λ g gone. let a = (frames-grow p q l s.in_order none g).count in
     let b = (frames-grow p q l s.in_order none g).few in omega (arith, gone, a, b)))
@@ -521,7 +521,7 @@ fork-lists m l p q free free' s none c h = subst (Lists m (child_ledger p q l)) 
 -- ---- entries that move
 
 -- no frame comes into use
-move-steady : (m : Setting) (l : Ledger) (p n from to : ℕ) → IsSound m l
+pub move-steady : (m : Setting) (l : Ledger) (p n from to : ℕ) → IsSound m l
     → ((page : ℕ) → within to n page ≡ true → within from n page ≡ false → entry l (p, page) ≡ None) → Steady l (after_move p n from to l) None
 move-steady m l p n from to s free = subst (λ l'. Steady l l' None) (sym (put_all-only (shifted p n from to l.entries) others))
     (fewer-steady l (record l { entries = (put_all (shifted p n from to l.entries) others).entries })

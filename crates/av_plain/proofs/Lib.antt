@@ -12,8 +12,13 @@ pub mod Load
 pub mod Mremap
 pub mod Transcript
 pub mod Sound
+pub mod Faultless
 pub mod NoDevice
+pub mod Clusters
+pub mod Fresh
 pub mod FreeFrames
+pub mod FreeSlots
+pub mod FreeLists
 pub mod AreasLeft
 pub mod Covered
 pub mod Device

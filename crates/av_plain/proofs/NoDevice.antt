@@ -19,6 +19,7 @@ use Rattle.av_plain.specs.Fault.{drop_of_slot, ComesIn, CopyOnWrite, Denied, IsM
 use Rattle.av_plain.specs.Access.{Accesses, End, Stopped, Whole, page_events}
 use Rattle.av_plain.specs.Sound.{AreasFit, count, flights, is_there, slots}
 use Rattle.av_plain.proofs.Event.{slot_entries-unseen}
+use Rattle.av_plain.proofs.Faultless.{Faultless, IsFaultless, faultless-causes, is-faultless, no-fails, unused-follows}
 use Rattle.av_plain.proofs.Ledger.{how_many-append, how_many-found}
 use Rattle.av_plain.proofs.Ledger.NoSwap.{no_slot}
 use Rattle.av_plain.proofs.Access.{after_all-append, note_events-all, notes_of-append, notes_of-note_events}
@@ -538,28 +539,6 @@ no-remap-notes m l p from n to k none s = by (to == from)
 
 -- ---- a command
 
--- the answer tells of no fault
-record IsFaultless (answer : Answer) : Type 0 where
-  told : fault_answers answer ≡ 0
-  failed : failed_frames answer ≡ 0
-
--- and no note does
-record Faultless (events : List Event) (answer : Answer) : Type 0 where
-  notes : fails (notes_of events) ≡ 0
-  answered : IsFaultless answer
-
--- so it is with an answer that is known
-is-faultless : (answer answer' : Answer) → answer ≡ answer' → IsFaultless answer' → IsFaultless answer
-is-faultless answer answer' e h = subst IsFaultless (sym e) h
-
-no-fails : (notes : List Note) → AllByRecursion (λ note. is_fail note ≡ false) notes → fails notes ≡ 0
-no-fails [] h = refl
-no-fails (note ∷ notes) h = let rest = no-fails notes h.1 in by (is_fail note) h.0 rest
-  where
-    by : (b : Bool) → b ≡ false → fails notes ≡ 0 → cond b 1 0 + fails notes ≡ 0
-    by true e rest = absurd (never (sym e))
-    by false e rest = omega (arith, rest)
-
 plain-fails : (m : Setting) (k : Key) (note : Note) → IsPlainAt m k note → is_fail note ≡ false
 plain-fails m k (Zeroed p a) h = refl
 plain-fails m k (New p a f) h = refl
@@ -575,6 +554,9 @@ plain-fails m k (Dropped s) h = absurd h
 plain-fails m k (Kept f c) h = absurd h
 plain-fails m k (Aged f) h = absurd h
 
+pub plain-notes : (m : Setting) (k : Key) (notes : List Note) → ArePlainAt m k notes → fails notes ≡ 0
+plain-notes m k notes h = no-fails notes (all-by (IsPlainAt m k) (λ note. is_fail note ≡ false) (plain-fails m k) notes h)
+
 stop-faultless : (stop : Stop) (k : ℕ) (shown : List ℕ) → IsKept (Some stop) → IsFaultless (stop_answer stop k shown)
 stop-faultless Denied k shown h = record { told = refl; failed = refl }
 stop-faultless (Starved out) k shown h = record { told = refl; failed = h }
@@ -587,46 +569,6 @@ read-faultless a (Stopped page stop) shown h = stop-faultless stop (bytes_before
 write-faultless : (a : ℕ) (end : End) → Ends end → IsFaultless (write_answer a end)
 write-faultless a Whole h = record { told = refl; failed = refl }
 write-faultless a (Stopped page stop) h = stop-faultless stop (bytes_before a page) [] h
-
-walk-faultless : (l : Ledger) (e : Option Entry) → IsFaultless (walk_answer l e)
-walk-faultless l None = record { told = refl; failed = refl }
-walk-faultless l (Some Zero) = record { told = refl; failed = refl }
-walk-faultless l (Some (InFrame f seen)) = record { told = refl; failed = refl }
-walk-faultless l (Some (InSlot s)) = record { told = refl; failed = refl }
-
-entry-faultless : (l : Ledger) (e : Option Entry) → IsFaultless (entry_answer l e)
-entry-faultless l None = record { told = refl; failed = refl }
-entry-faultless l (Some Zero) = record { told = refl; failed = refl }
-entry-faultless l (Some (InFrame f seen)) = record { told = refl; failed = refl }
-entry-faultless l (Some (InSlot s)) = record { told = refl; failed = refl }
-
--- reclaim ends no write
-leave-faultless : (l : Ledger) (f : ℕ) (t : Slot) → fails (leave_notes l f t) ≡ 0
-leave-faultless l f t = by (is_none (slot_of l f)) (not (map_count l f == 0)) (is_dirty l f t)
-  where
-    by : (a b c : Bool) → fails ((when a (Put f t) ++ when b (Unmapped f)) ++ (if c then Started t ∷ Kept f WriteStarted ∷ [] else Dropped t ∷ [])) ≡ 0
-    by true true true = refl
-    by true true false = refl
-    by true false true = refl
-    by true false false = refl
-    by false true true = refl
-    by false true false = refl
-    by false false true = refl
-    by false false false = refl
-
-pub outcomes-faultless : (m : Setting) (sp : Spared) (l : Ledger) (fs : List ℕ) (notes : List Note) → Outcomes m sp l fs notes → fails notes ≡ 0
-outcomes-faultless m sp l [] notes h = ap fails h
-outcomes-faultless m sp l (f ∷ fs) notes h = ap fails h.2 ∙ how_many-append is_fail h.0 h.1
-    ∙ (λ i. by (cause_of m sp l f) h.3 i + outcomes-faultless m sp (after_notes l h.0) fs h.1 h.4 i)
-  where
-    by : (o : Option Cause) → MatchOption o ((t : Slot) × IsSlotFor m sp l f t × (h.0 ≡ leave_notes l f t)) (λ cause. h.0 ≡ Kept f cause ∷ []) →
-        fails h.0 ≡ 0
-    by None q = ap fails q.2 ∙ leave-faultless l f q.0
-    by (Some cause) q = ap fails q
-
-pub ages-faultless : (fs : List ℕ) → fails (map Aged fs) ≡ 0
-ages-faultless [] = refl
-ages-faultless (f ∷ fs) = ap (λ n. 0 + n) (ages-faultless fs)
 
 -- without a device each frame is kept
 pub kept-alone : (m : Setting) (sp : Spared) (l : Ledger) (f : ℕ) (notes : List Note) → HasNoArea m l → HasNoSlots l → Outcome m sp l f notes →
@@ -687,55 +629,6 @@ no-area m l k rest none fits fine = by (is_on l k) (fits.attached k) fine
 
 follows-faultless : (m : Setting) (w : World) (l : Ledger) (command : Command) (events : List Event) (answer : Answer) (rows : List Row) → HasNoArea m l →
     (is_of_area command ≡ true → refusal (tests m w l command) ≡ None → ⊥) → InAreas m l → refusal (tests m w l command) ≡ None → Follows m w l command events answer rows → Faultless events answer
-follows-faultless m w l (Spawn p) events answer rows none refused s fine h = record {
-  notes = ap (λ es. fails (notes_of es)) h.1;
-  answered = is-faultless answer _ h.0
-      (record { told = refl; failed = refl });
-}
-follows-faultless m w l (Fork p q) events answer rows none refused s fine h =
-    record { notes = ap (λ es. fails (notes_of es)) h.1; answered = is-faultless answer _ h.0 (record { told = refl; failed = refl }) }
-follows-faultless m w l (Exit p) events answer rows none refused s fine h = record {
-  notes = ap (λ es. fails (notes_of es)) h.1 ∙ ap fails (no-zap-notes m l (keys_of_process l p) none s);
-  answered =
-      is-faultless answer _ h.0 (record { told = refl; failed = refl });
-}
-follows-faultless m w l (Mmap p len prot place) events answer rows none refused s fine h =
-    record { notes = ap (λ es. fails (notes_of es)) h.3 ∙ ap fails (no-place-notes place); answered = by h.0 h.2 }
-  where
-    by : (to : Option ℕ) → IsMapAt answer to → IsFaultless answer
-    by None e = is-faultless answer _ e (record { told = refl; failed = refl })
-    by (Some page) e = is-faultless answer _ e (record { told = refl; failed = refl })
-
-    no-place-notes : (place : Place) → notes_of (zaps_for_place l p (pages_of len) place) ≡ []
-    no-place-notes Auto = refl
-    no-place-notes (At a) = refl
-    no-place-notes (Fixed a) = no-zap-notes m l (keys_in l p (page_of a) (pages_of len)) none s
-    no-place-notes (NoReplace a) = refl
-follows-faultless m w l (Munmap p a len) events answer rows none refused s fine h =
-    record {
-      notes = ap (λ es. fails (notes_of es)) h.1 ∙ ap fails (no-zap-notes m l (keys_in l p (page_of a) (pages_of len)) none s);
-      answered = is-faultless answer _ h.0 (record { told = refl; failed = refl });
-    }
-follows-faultless m w l (Mprotect p a len prot) events answer rows none refused s fine h =
-    record {
-      notes = ap (λ es. fails (notes_of es)) h.1;
-      answered = is-faultless answer _ h.0
-          (by (pages_to_hole (pages w p) (page_of a) (pages_of len) == pages_of len));
-    }
-  where
-    by : (b : Bool) → IsFaultless (if b then Done else Refused Enomem)
-    by true = record { told = refl; failed = refl }
-    by false = record { told = refl; failed = refl }
-follows-faultless m w l (Mremap p a old new mode) events answer rows none refused s fine h = record
-    { notes = ap (λ es. fails (notes_of es)) h.3 ∙ quiet h.0; answered = by h.0 h.2 }
-  where
-    by : (to : Option ℕ) → IsMapAt answer to → IsFaultless answer
-    by None e = is-faultless answer _ e (record { told = refl; failed = refl })
-    by (Some page) e = is-faultless answer _ e (record { told = refl; failed = refl })
-
-    quiet : (to : Option ℕ) → fails (notes_of (events_to l p (page_of a) (pages_of old) to (pages_of new))) ≡ 0
-    quiet None = refl
-    quiet (Some to) = ap fails (no-remap-notes m l p (page_of a) (pages_of old) to (pages_of new) none s)
 follows-faultless m w l (Read p a n) events answer rows none refused s fine h =
     let plain = accesses-plain (λ note. is_fail note ≡ false) m w p (λ page note is. plain-fails m (p, page) note) l
     (pages_of_access false a n) events h.0 none s h.2 in
@@ -744,17 +637,6 @@ follows-faultless m w l (Write p a bytes) events answer rows none refused s fine
     let plain = accesses-plain (λ note. is_fail note ≡ false) m w p (λ page note is. plain-fails m (p, page) note) l
     (pages_of_access true a (length bytes)) events h.0 none s h.1 in
     record { notes = no-fails (notes_of events) plain.notes; answered = is-faultless answer _ h.2 (write-faultless a h.0 plain.ends) }
-follows-faultless m w l (Reclaim n) events answer rows none refused s fine h =
-    record {
-      notes = ap (λ es. fails (notes_of es)) h.3 ∙ ap fails (notes_of-note_events h.0)
-          ∙ outcomes-faultless m (sparing w l None) l (from_tail n l.inactive) h.0 h.1;
-      answered = is-faultless answer _ h.2 (record { told = refl; failed = refl });
-    }
-follows-faultless m w l (Age n) events answer rows none refused s fine h =
-    record {
-      notes = ap (λ es. fails (notes_of es)) h.1 ∙ ap fails (notes_of-note_events (map Aged (from_tail n l.active))) ∙ ages-faultless (from_tail n l.active);
-      answered = is-faultless answer _ h.0 (record { told = refl; failed = refl });
-    }
 follows-faultless m w l (Complete n) events answer rows none refused s fine h =
     record {
       notes = ap (λ es. fails (notes_of es)) h.3 ∙ ap fails (notes_of-note_events h.0) ∙ ap fails (by n l.flight (no-slots m l none s).flight h.1);
@@ -767,88 +649,21 @@ follows-faultless m w l (Complete n) events answer rows none refused s fine h =
     by (suc n) (t ∷ ts) e c = cc
 follows-faultless m w l (Swapon k) events answer rows none refused s fine h = absurd (refused refl fine)
 follows-faultless m w l (Swapoff k) events answer rows none refused s fine h = absurd (refused refl fine)
-follows-faultless m w l (Maps p) events answer rows none refused s fine h = record {
-  notes = ap (λ es. fails (notes_of es)) h.2;
-  answered = is-faultless answer _ h.0
-      (record { told = refl; failed = refl });
-}
-follows-faultless m w l (AsksAreas p) events answer rows none refused s fine h =
-    record { notes = ap (λ es. fails (notes_of es)) h.2; answered = is-faultless answer _ h.0 (record { told = refl; failed = refl }) }
-follows-faultless m w l (AsksRmap p a) events answer rows none refused s fine h =
-    record { notes = ap (λ es. fails (notes_of es)) h.1; answered = is-faultless answer _ h.0 (walk-faultless l (entry l (p, page_of a))) }
-follows-faultless m w l (AsksEntry p a) events answer rows none refused s fine h =
-    record { notes = ap (λ es. fails (notes_of es)) h.1; answered = is-faultless answer _ h.0 (entry-faultless l (entry l (p, page_of a))) }
-follows-faultless m w l (AsksSlot k page) events answer rows none refused s fine h = absurd (refused refl fine)
-follows-faultless m w l Stat events answer rows none refused s fine h = record {
-  notes = ap (λ es. fails (notes_of es)) h.1;
-  answered = is-faultless answer _ h.0
-      (record { told = refl; failed = refl });
-}
-
--- no test leads to EIO
-abbrev AreMild : Tests → Type 0
-AreMild tests = AllByRecursion (λ (t : Bool × Errno). fault_answers (Refused t.1) ≡ 0) tests
-
-mild-refusal : (ts : Tests) (error : Errno) → AreMild ts → refusal ts ≡ Some error → fault_answers (Refused error) ≡ 0
-mild-refusal [] error h e = cc
-mild-refusal (t ∷ ts) error h e = by t.0 e (mild-refusal ts error h.1)
-  where
-    by : (b : Bool) → (if b then Some t.1 else refusal ts) ≡ Some error → (refusal ts ≡ Some error → fault_answers (Refused error) ≡ 0) →
-        fault_answers (Refused error) ≡ 0
-    by true e rest = ap (λ o. fault_answers (Refused (unwrap_or o Eperm))) (sym e) ∙ h.0
-    by false e rest = rest e
-
-tests-mild : (m : Setting) (w : World) (l : Ledger) (command : Command) → AreMild (tests m w l command)
-tests-mild m w l (Spawn p) = (refl, (refl, tt))
-tests-mild m w l (Fork p q) = (refl, (refl, (refl, tt)))
-tests-mild m w l (Exit p) = (refl, tt)
-tests-mild m w l (Mmap p len prot Auto) = (refl, (refl, (refl, tt)))
-tests-mild m w l (Mmap p len prot (At a)) = (refl, (refl, (refl, tt)))
-tests-mild m w l (Mmap p len prot (Fixed a)) = (refl, (refl, (refl, (refl, (refl, (refl, tt))))))
-tests-mild m w l (Mmap p len prot (NoReplace a)) = (refl, (refl, (refl, (refl, (refl, (refl, (refl, tt)))))))
-tests-mild m w l (Munmap p a len) = (refl, (refl, tt))
-tests-mild m w l (Mprotect p a len prot) = (refl, (refl, (refl, tt)))
-tests-mild m w l (Mremap p a old new mode) = (refl, (refl, (refl, (refl, (refl, (refl, tt))))))
-tests-mild m w l (Read p a n) = (refl, tt)
-tests-mild m w l (Write p a bytes) = (refl, tt)
-tests-mild m w l (Reclaim n) = tt
-tests-mild m w l (Age n) = tt
-tests-mild m w l (Complete n) = tt
-tests-mild m w l (Swapon k) = (refl, (refl, (refl, tt)))
-tests-mild m w l (Swapoff k) = (refl, tt)
-tests-mild m w l (Maps p) = (refl, tt)
-tests-mild m w l (AsksAreas p) = (refl, tt)
-tests-mild m w l (AsksRmap p a) = (refl, (refl, tt))
-tests-mild m w l (AsksEntry p a) = (refl, (refl, tt))
-tests-mild m w l (AsksSlot k page) = (refl, (refl, tt))
-tests-mild m w l Stat = tt
+follows-faultless m w l command events answer rows none refused s fine h = unused-follows m w l command events answer rows refl h
 
 pub in-areas : (m : Setting) (w : World) (l : Ledger) → AllSound m w l → InAreas m l
 in-areas m w l s = record { sound = s.ledger; there = s.in_areas; fits = s.areas_fit }
 
 -- a reply to a command tells of no fault, where no area has a page and a command on an area is refused
-faultless-causes : (m : Setting) (w : World) (l : Ledger) (command : Command) (reply : Reply) (events : List Event) → HasNoArea m l →
+areas-causes : (m : Setting) (w : World) (l : Ledger) (command : Command) (reply : Reply) (events : List Event) → HasNoArea m l →
     (is_of_area command ≡ true → refusal (tests m w l command) ≡ None → ⊥) → AllSound m w l → IsLegal m w l command reply events → causes reply ≡ 0
-faultless-causes m w l command reply events none refused s legal =
-    let f = by (refusal (tests m w l command)) refl legal.answer in
-    let a = ap fails legal.notes ∙ f.notes in
-    let b = f.answered.told in
-    let c = f.answered.failed in
-    grind (arith, a, b, c)
-  where
-    by : (o : Option Errno) → refusal (tests m w l command) ≡ o → MatchOption o (Follows m w l command events reply.answer reply.rows)
-        (λ error. Refuses error events reply.answer reply.rows) → Faultless events reply.answer
-    by None is h = follows-faultless m w l command events reply.answer reply.rows none refused (in-areas m w l s) is h
-    by (Some error) is h = record {
-      notes = ap (λ es. fails (notes_of es)) h.1;
-      answered = is-faultless reply.answer _ h.0
-          (record { told = mild-refusal (tests m w l command) error (tests-mild m w l command) is; failed = refl });
-    }
+areas-causes m w l command reply events none refused s legal = faultless-causes m w l command reply events
+    (λ fine. follows-faultless m w l command events reply.answer reply.rows none refused (in-areas m w l s) fine) legal
 
 -- without a device each command on an area is refused
 pub no-causes : (m : Setting) (w : World) (l : Ledger) (command : Command) (reply : Reply) (events : List Event) → HasNoDevice m → AllSound m w l →
     IsLegal m w l command reply events → causes reply ≡ 0
-no-causes m w l command reply events none s legal = faultless-causes m w l command reply events (without-device m l none) (refused command) s legal
+no-causes m w l command reply events none s legal = areas-causes m w l command reply events (without-device m l none) (refused command) s legal
   where
     refused : (command : Command) → is_of_area command ≡ true → refusal (tests m w l command) ≡ None → ⊥
     refused (Swapon k) of fine = no-swapon m k ((is_on l k, Ebusy) ∷ (size_of m k == 0, Einval) ∷ []) none fine
@@ -875,7 +690,7 @@ no-causes m w l command reply events none s legal = faultless-causes m w l comma
 -- where no area is on, each but one that turns an area on
 pub no-causes-off : (m : Setting) (w : World) (l : Ledger) (command : Command) (reply : Reply) (events : List Event) → l.on ≡ [] → is_swapon command ≡ false →
     AllSound m w l → IsLegal m w l command reply events → causes reply ≡ 0
-no-causes-off m w l command reply events off other s legal = faultless-causes m w l command reply events (all-off m l off) (refused command other) s legal
+no-causes-off m w l command reply events off other s legal = areas-causes m w l command reply events (all-off m l off) (refused command other) s legal
   where
     is_off_now : (k : ℕ) → is_off l k ≡ true
     is_off_now k = ap (λ on. not (is_some (find nat_cmp k on))) off

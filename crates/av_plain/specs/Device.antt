@@ -12,6 +12,10 @@ pub record Device : Type 0 where
   pub pages : Option (ℕ → ℕ → List ℕ)
   pub faults : ℕ
 
+-- a device by what a contract sees of one
+abbrev pub device_by : (ℕ → Option ℕ) → Option (ℕ → ℕ → List ℕ) → ℕ → Device
+device_by sizes pages faults = record { sizes = sizes; pages = pages; faults = faults }
+
 -- the device that has no swap area, and so never fails
 abbrev pub no_device : Device
 no_device = record { sizes = λ k. None; pages = Some (λ k page. []); faults = 0 }

@@ -82,6 +82,13 @@ names_slot s Zero = false
 names_slot s (InFrame f seen) = false
 names_slot s (InSlot t) = same_slot s t
 
+-- a page without an entry, or with one that names neither a frame nor a slot
+abbrev pub IsBlank : Option Entry → Type 0
+IsBlank None = Unit {0}
+IsBlank (Some Zero) = Unit {0}
+IsBlank (Some (InFrame f seen)) = ⊥
+IsBlank (Some (InSlot s)) = ⊥
+
 -- the entry of a key, if it has one
 abbrev pub entry : Ledger → Key → Option Entry
 entry l k = find key_cmp k l.entries

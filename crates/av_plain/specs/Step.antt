@@ -1,5 +1,5 @@
 -- What one command may answer, and the memories and the ledger after it.
-use Rattle.std.specs.Prelude.{ℕ, ◌+◌, if◌then◌else◌, List, Option, None, Some, ◌≡◌, length, max, MatchOption}
+use Rattle.std.specs.Prelude.{ℕ, ◌+◌, Bool, false, true, if◌then◌else◌, List, Option, None, Some, ◌≡◌, length, max, MatchOption}
 use Rattle.av_base.specs.Page.{page_of, pages_of}
 use Rattle.av_trace.specs.declared.command.Command.{Command}
 use Rattle.av_trace.specs.declared.command.Command.TheVariants.{Mprotect, Mremap, Spawn, Fork, Exit, Mmap, Munmap, Read, Write, Maps, Reclaim, Age, Complete, Swapon, Swapoff, Areas as AsksAreas, Rmap as AsksRmap, Entry as AsksEntry, Slot as AsksSlot, Stat}
@@ -56,6 +56,16 @@ next_world m w l events command answer = next (with_loads m w l events) command 
 abbrev pub closing_swap_area : Command → Option ℕ
 closing_swap_area (Swapoff k) = Some k
 closing_swap_area command = None
+
+-- whether a command may read the device or write to it: a page of an access may come from its slot,
+-- and others may go to theirs for it
+abbrev pub uses_device : Command → Bool
+uses_device (Read p a n) = true
+uses_device (Write p a bytes) = true
+uses_device (Complete n) = true
+uses_device (Swapon k) = true
+uses_device (Swapoff k) = true
+uses_device command = false
 
 -- what each command does where it isn't refused: its events, its answer and its rows
 abbrev pub Follows : Setting → World → Ledger → Command → List Event → Answer → List Row → Type 0

@@ -13,7 +13,7 @@ ghost use Rattle.av_plain.specs.World.{World};
 ghost use Rattle.av_plain.specs.Device.{HasNoDevice};
 ghost use Rattle.av_plain.specs.Ledger.{Ledger, Setting, first_ledger};
 ghost use Rattle.av_plain.specs.Event.{Event, after_all};
-ghost use Rattle.av_plain.specs.Step.{IsLegal, causes, next_world};
+ghost use Rattle.av_plain.specs.Step.{IsLegal, causes, next_world, uses_device};
 ghost use Rattle.av_plain.specs.Transcript.{Exchange, State, IsLegalFrom, IsRun};
 ghost use Rattle.av_plain.specs.Sound.{AllSound, SaysSound};
 ghost use Rattle.av_plain.specs.Swapon.{is_swapon};
@@ -59,4 +59,11 @@ pub fn no_area_on_has_no_faults()
     ensures { (m : Setting) (w : World) (l : Ledger) (command : Command) (reply : Reply)
         (events : List Event) → l.on ≡ [] → is_swapon command ≡ false → AllSound m w l
         → IsLegal m w l command reply events → causes reply ≡ 0 }
+{}
+
+/// And so it is with each command that doesn't use the device, whatever is on.
+pub fn a_device_that_is_not_used_has_no_faults()
+    ensures { (m : Setting) (w : World) (l : Ledger) (command : Command) (reply : Reply)
+        (events : List Event) → uses_device command ≡ false → IsLegal m w l command reply events
+        → causes reply ≡ 0 }
 {}

@@ -17,7 +17,7 @@ use Rattle.av_plain.specs.Event.{after_note, change_entries, if_some, into_cache
 use Rattle.av_plain.specs.Ledger.{Cached, Entry, InFrame, InSlot, Key, Ledger, Zero, cached_by, entry, frame_at, key_cmp, keys_of_slot, names_frame, names_slot, same_slot, slot_entries}
 use Rattle.av_plain.specs.Sound.{slots}
 use Rattle.av_plain.proofs.Covered.{Names, Owns, chain_there, home_parts, sound-fewer}
-use Rattle.av_plain.proofs.Event.{entry-unmap, entry-unseen, to_slot, to_unseen}
+use Rattle.av_plain.proofs.Event.{entry-unmap, entry-unseen, to_slot, to_unseen, unseen-by}
 use Rattle.av_plain.proofs.Ledger.{entry-set, how_many-found, same_key, same_key-is, same_key-itself}
 use Rattle.av_plain.proofs.Ledger.Walk.{keys-filter, passes}
 use Rattle.av_plain.proofs.Sound.Steps.{settle-cache, settle-entries}
@@ -123,7 +123,7 @@ module _ (r : Rmap) (k : Key) (o : Own r k) where
       ))
 
   -- and the root of its home, where the page is rooted there
-  root-home : (home : ℕ × ℕ) → IsRooted r k home → at_root r.anons (home_of k.1 (r.areas k.0 k.1)) ≡ Some home
+  pub root-home : (home : ℕ × ℕ) → IsRooted r k home → at_root r.anons (home_of k.1 (r.areas k.0 k.1)) ≡ Some home
   root-home home is =
       let here = of_area (λ area. IsSomeAnd area.anon (λ own. root_of r.anons own ≡ home.0) × (index_of area k.1 ≡ home.1)) is in
       ap (at_root r.anons) home-is
@@ -159,14 +159,14 @@ set-fewer l k e none s q names = by (same_key q k) (subst (λ o. IsSomeAnd o (λ
 -- ---- a frame takes the page of a slot
 
 -- the keys of a slot's entries
-keys-are : (l : Ledger) (s : Slot) (k : Key) → T (is_sorted key_cmp l.entries) → IsOfSlot l s k → list_any (same_key k) (keys_of_slot l s) ≡ true
+pub keys-are : (l : Ledger) (s : Slot) (k : Key) → T (is_sorted key_cmp l.entries) → IsOfSlot l s k → list_any (same_key k) (keys_of_slot l s) ≡ true
 keys-are l s k sorted is = keys-filter (names_slot s) l.entries k sorted ∙ by (entry l k) is
   where
     by : (o : Option Entry) → IsSomeAnd o (λ e. names_slot s e ≡ true) → passes (names_slot s) o ≡ true
     by None is = absurd is
     by (Some e) is = is
 
-are-keys : (l : Ledger) (s : Slot) (k : Key) → T (is_sorted key_cmp l.entries) → list_any (same_key k) (keys_of_slot l s) ≡ true → IsOfSlot l s k
+pub are-keys : (l : Ledger) (s : Slot) (k : Key) → T (is_sorted key_cmp l.entries) → list_any (same_key k) (keys_of_slot l s) ≡ true → IsOfSlot l s k
 are-keys l s k sorted is = by (entry l k) (sym (keys-filter (names_slot s) l.entries k sorted) ∙ is)
   where
     by : (o : Option Entry) → passes (names_slot s) o ≡ true → IsSomeAnd o (λ e. names_slot s e ≡ true)
@@ -370,19 +370,6 @@ slots-tail l r (Some f) h = slots-lists l (to_inactive_tail f l) r refl refl h
 
 -- ---- seen bits are cleared
 
-unseen-slot : (s : Slot) (f : ℕ) (e : Entry) → names_slot s (to_unseen f e) ≡ names_slot s e
-unseen-slot s f Zero = refl
-unseen-slot s f (InFrame g seen) = elim (f == g) as (λ b. names_slot s (if b then InFrame g false else InFrame g seen) ≡ false) [ true ↦ refl | false ↦ refl ]
-unseen-slot s f (InSlot t) = refl
-
-unseen-frame : (g f : ℕ) (e : Entry) → names_frame g (to_unseen f e) ≡ names_frame g e
-unseen-frame g f Zero = refl
-unseen-frame g f (InFrame i seen) = elim (f == i) as (λ b. names_frame g (if b then InFrame i false else InFrame i seen) ≡ (g == i)) [
-  | true ↦ refl
-  | false ↦ refl
-]
-unseen-frame g f (InSlot t) = refl
-
 -- entries are changed, and each names only what it named
 of_changed : (P Q : Entry → Type 0) (c : Entry → Entry) → ((e : Entry) → P (c e) → Q e) → (o : Option Entry) → IsSomeAnd (option_map c o) P → IsSomeAnd o Q
 of_changed P Q c h None is = is
@@ -390,12 +377,12 @@ of_changed P Q c h (Some e) is = h e is
 
 pub slots-unseen : (l : Ledger) (r : Rmap) (f : ℕ) → AreSlotsCovered l r → AreSlotsCovered (change_entries f without_seen l) r
 slots-unseen l r f = slots-same l (change_entries f without_seen l) r (λ s k names. of_changed (λ e. names_slot s e ≡ true) (λ e. names_slot s e ≡ true)
-    (to_unseen f) (λ e is. sym (unseen-slot s f e) ∙ is) (entry l k) (subst (λ o. IsSomeAnd o (λ e. names_slot s e ≡ true)) (entry-unseen f l k) names))
+    (to_unseen f) (λ e is. sym (unseen-by f (names_slot s) (λ g seen now. refl) e) ∙ is) (entry l k) (subst (λ o. IsSomeAnd o (λ e. names_slot s e ≡ true)) (entry-unseen f l k) names))
     (λ s. refl)
 
 pub sound-unseen : (l : Ledger) (r : Rmap) (f : ℕ) → IsRmapSound l r → IsRmapSound (change_entries f without_seen l) r
 sound-unseen l r f = sound-fewer l (change_entries f without_seen l) r (λ k g names. of_changed (λ e. names_frame g e ≡ true) (λ e. names_frame g e ≡ true)
-    (to_unseen f) (λ e is. sym (unseen-frame g f e) ∙ is) (entry l k) (subst (λ o. IsSomeAnd o (λ e. names_frame g e ≡ true)) (entry-unseen f l k) names))
+    (to_unseen f) (λ e is. sym (unseen-by f (names_frame g) (λ i seen now. refl) e) ∙ is) (entry l k) (subst (λ o. IsSomeAnd o (λ e. names_frame g e ≡ true)) (entry-unseen f l k) names))
 
 -- ---- entries of a cached frame become its slot
 

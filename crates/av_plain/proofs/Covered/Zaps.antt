@@ -5,6 +5,7 @@ use Rattle.av_base.specs.declared.slot.Slot.{Slot}
 use Rattle.av_vma.specs.Pages.{home_of}
 use Rattle.av_trace.specs.declared.note.Note.TheVariants.{Dropped}
 use Rattle.av_plain.specs.Areas.{AreLeft, Rmap}
+use Rattle.av_plain.specs.Covered.{AreSlotsCovered, IsRmapSound}
 use Rattle.av_plain.specs.Event.{after_all, after_zap, note_events, when}
 use Rattle.av_plain.specs.Ledger.{Cached, Entry, Key, Ledger, cached_by, entry, is_orphan, names_frame, names_slot, same_slot}
 use Rattle.av_plain.specs.Zap.{orphan_drop, slot_behind_key, zap_of, zaps_of}
@@ -25,13 +26,19 @@ left-was P k l q is = by (same_key k q) (subst (λ o. IsSomeAnd o P) (entry-afte
     by true is = absurd is
     by false is = is
 
+pub sound-zapped : (l : Ledger) (r : Rmap) (k : Key) → IsRmapSound l r → IsRmapSound (after_zap k l) r
+sound-zapped l r k = sound-fewer l (after_zap k l) r (λ q f. left-was (λ e. names_frame f e ≡ true) k l q)
+
+pub slots-zapped : (l : Ledger) (r : Rmap) (k : Key) → AreSlotsCovered l r → AreSlotsCovered (after_zap k l) r
+slots-zapped l r k = slots-same l (after_zap k l) r (λ t q. left-was (λ e. names_slot t e ≡ true) k l q)
+    (λ t. ap (λ cs. option_map (λ (c : Cached). c.frame) (cached_by (λ c. same_slot t c.slot) cs)) (same_swap-after_zap k l).cache)
+
 pub zapped-reach : (l : Ledger) (r : Rmap) (k : Key) → Reach l r → Reach (after_zap k l) r
 zapped-reach l r k h = record {
   in_order = in_order-after_zap k l h.in_order;
   once = λ s. subst (λ cs. how_many (λ (c : Cached). same_slot s c.slot) cs ≤ 1) (sym (same_swap-after_zap k l).cache) (h.once s);
-  sound = sound-fewer l (after_zap k l) r (λ q f. left-was (λ e. names_frame f e ≡ true) k l q) h.sound;
-  slots = slots-same l (after_zap k l) r (λ t q. left-was (λ e. names_slot t e ≡ true) k l q)
-      (λ t. ap (λ cs. option_map (λ (c : Cached). c.frame) (cached_by (λ c. same_slot t c.slot) cs)) (same_swap-after_zap k l).cache) h.slots;
+  sound = sound-zapped l r k h.sound;
+  slots = slots-zapped l r k h.slots;
 }
 
 pub orphan-reach : (x l : Ledger) (r : Rmap) (o : Option Slot) → Reach l r → Reach (after_all l (orphan_drop x o)) r
@@ -61,8 +68,14 @@ pub next-reach : (l : Ledger) (r next : Rmap)
 next-reach l r next home owns left homes h = record {
   in_order = h.in_order;
   once = h.once;
-  sound = sound-next l l r next (λ k f names. names) (λ k f x names is. home k x (there (λ e. names_frame f e ≡ true) k names) is) owns left homes h.sound;
-  slots = slots-carried l l r next (λ t k names. record { was = k; names = names; home = λ x is. home k x (there (λ e. names_slot t e ≡ true) k names) is })
+  sound = sound-next l l r next (λ k f names. names) (λ k f x names is. home k x
+      (there (λ e. names_frame f e ≡ true) k names) is) owns left homes h.sound;
+  slots = slots-carried l l r next (λ t k names. record {
+    was = k;
+    names = names;
+    home = λ x is. home k x
+        (there (λ e. names_slot t e ≡ true) k names) is;
+  })
       (λ t f at. at) owns left homes h.sound h.slots;
 }
   where

@@ -9,7 +9,7 @@ use Rattle.av_trace.specs.declared.reply.OutOf.{OutOf}
 use Rattle.av_plain.specs.Access.{Accesses, End, page_events}
 use Rattle.av_plain.specs.Event.{Event, Used, after_all, after_note, after_notes, after_use, note_events, set_entry, to_inactive_head, when}
 use Rattle.av_plain.specs.Fault.{ComesIn, CopyOnWrite, Denied, IsMade, Lost, Ready, RunsOut, Serves, Sparing, Starved, Stop, Takes, Touches, drop_at, drop_of_entry, drop_of_slot, is_named, is_shared, need, need_of_slot, pinned_by, sparing, was_slot}
-use Rattle.av_plain.specs.Ledger.{Entry, InFrame, InSlot, Key, Ledger, Setting, Zero, entry, frame_at, in_flight, is_free, is_full, map_count, names_frame, names_slot, same_slot, slot_entries, slot_of}
+use Rattle.av_plain.specs.Ledger.{IsBlank, Entry, InFrame, InSlot, Key, Ledger, Setting, Zero, entry, frame_at, in_flight, is_free, is_full, map_count, names_frame, names_slot, same_slot, slot_entries, slot_of}
 use Rattle.av_plain.specs.Sound.{IsSound, flights, no_excuse, uses}
 use Rattle.av_plain.specs.World.{World, pages}
 use Rattle.av_plain.proofs.Access.{accesses-keep, after_all-append, after_notes-append, note_events-all}
@@ -17,7 +17,7 @@ use Rattle.av_plain.proofs.Ledger.{how_many-found}
 use Rattle.av_plain.proofs.Ledger.NoSwap.{key_at-address, zero_is}
 use Rattle.av_plain.proofs.Sound.Changes.{after_use-kept, any-counts, drop-sound, free-is, loaded-kept}
 use Rattle.av_plain.proofs.Sound.Counts.{frame_at-none, frame_at-some, same-itself, slot-itself, slot_of-some}
-use Rattle.av_plain.proofs.Sound.Entries.{ByFrame, BySlot, IsBlank, IsSharedBy, copied-kept, mapped-kept, new-kept, zeroed-kept}
+use Rattle.av_plain.proofs.Sound.Entries.{ByFrame, BySlot, IsSharedBy, copied-kept, mapped-kept, new-kept, zeroed-kept}
 use Rattle.av_plain.proofs.Sound.Pass.{seeks-kept}
 use Rattle.av_plain.proofs.Sound.Steps.{Keeps, is_steady}
 

@@ -4,7 +4,7 @@ use Rattle.std.proofs.lemmas.Bool.Decides.{nat_tests}
 use Rattle.std.specs.FinMap.Entries.{is_sorted}
 use Rattle.av_base.specs.declared.slot.Slot.{Slot}
 use Rattle.av_plain.specs.Event.{set_entry, to_inactive_head}
-use Rattle.av_plain.specs.Ledger.{Entry, InFrame, InSlot, Key, Ledger, Setting, Zero, entry, key_cmp, map_count, names_frame, names_slot, same_slot, slot_entries}
+use Rattle.av_plain.specs.Ledger.{IsBlank, Entry, InFrame, InSlot, Key, Ledger, Setting, Zero, entry, key_cmp, map_count, names_frame, names_slot, same_slot, slot_entries}
 use Rattle.av_plain.specs.Sound.{IsSoundBut, flights, holders, name_one, listings, pairs, uses}
 use Rattle.av_plain.proofs.Ledger.{entry-set, how_many-found, is_sorted-set, map_count-set, same_key, same_key-is}
 use Rattle.av_plain.proofs.Ledger.Order.{keys_total, weight, count-put}
@@ -47,13 +47,6 @@ one-set l k n one h p a b d e at at' related =
         sym (ap (λ (x : Key). x.1) here ∙ h a d (ap (λ (x : Key). entry l (x.0, a)) (sym here) ∙ g)
         (name_one-turned l n d ∙ ap (λ x. name_one l d x) is ∙ related))
     cases false false i j g g' = one p a b d e g g' related
-
--- an entry that names neither a frame nor a slot
-abbrev pub IsBlank : Option Entry → Type 0
-IsBlank None = Unit {0}
-IsBlank (Some Zero) = Unit {0}
-IsBlank (Some (InFrame f seen)) = ⊥
-IsBlank (Some (InSlot s)) = ⊥
 
 pub blank-frame : (o : Option Entry) (g : ℕ) → IsBlank o → weight (names_frame g) o ≡ 0
 blank-frame None g h = refl

@@ -513,11 +513,11 @@ slots-marked l t r = how_many-map (λ (c : Cached). same_slot r c.slot) (λ (c :
     ∙ how_many-same _ _ l.cache (λ c. elim (same_slot t c.slot) as (λ (v : Bool). same_slot r (if v then record c { stale = true } else c).slot ≡ same_slot r
     c.slot) [ true ↦ refl | false ↦ refl ])
 
-pub used-no_new : (m : Setting) (l : Ledger) (write : Bool) (k : Key) → IsSound m l → NoNew m l (after_use write k l)
-used-no_new m l write k s = by write (entry l k)
+pub used-no_new : (m : Setting) (l : Ledger) (write : Bool) (k : Key) → T (is_sorted key_cmp l.entries) → NoNew m l (after_use write k l)
+used-no_new m l write k sorted = by write (entry l k)
   where
     set : (f : ℕ) → NoNew m l (set_entry k (InFrame f true) l)
-    set f = less m l (set_entry k (InFrame f true) l) refl (λ t h. let a = slot_entries-set k (InFrame f true) l t s.in_order in omega (arith, a, h))
+    set f = less m l (set_entry k (InFrame f true) l) refl (λ t h. let a = slot_entries-set k (InFrame f true) l t sorted in omega (arith, a, h))
 
     stale : (o : Option Slot) (l' : Ledger) → NoNew m l l' → NoNew m l (if_some o (with_stale true) l')
     stale None l' n = n
@@ -539,7 +539,7 @@ touches-no_new m w l write k notes end s t = by end (all_lawful-no_new m None l 
   where
     by : (end : Option Stop) → NoNew m l (after_notes l notes) → IsSound m (after_notes l notes) → NoNew m l (after_all l (page_events write k notes end))
     by None n s' = subst (NoNew m l) (sym (after_all-append l (note_events notes) (Used write k ∷ []) ∙ ap (after_use write k) (note_events-all l notes)))
-        (no_new-then m l (after_notes l notes) (after_use write k (after_notes l notes)) n (used-no_new m (after_notes l notes) write k s'))
+        (no_new-then m l (after_notes l notes) (after_use write k (after_notes l notes)) n (used-no_new m (after_notes l notes) write k s'.in_order))
     by (Some stop) n s' = subst (NoNew m l) (sym (note_events-all l notes)) n
 
 -- an access

@@ -99,7 +99,7 @@ zaps_of-kept m l (k ∷ ks) s = subst (IsSound m) (sym (after_all-append l (zap_
 
 -- ---- no slot comes into use
 
-no_new-taken : (m : Setting) (k : Key) (l : Ledger) → T (is_sorted key_cmp l.entries) → NoNew m l (after_zap k l)
+pub no_new-taken : (m : Setting) (k : Key) (l : Ledger) → T (is_sorted key_cmp l.entries) → NoNew m l (after_zap k l)
 no_new-taken m k l h =
     let same = same_swap-after_zap k l in
     less m l (after_zap k l) same.on (λ t i. let a = slot_entries-after_zap k l t h in let b = ap (how_many (λ c. same_slot t c.slot)) same.cache in

@@ -42,7 +42,7 @@ none-passes test a (suc n) x h low high = by (test a) refl (λ none above. none-
         here true e = let same : a ≡ x = grind (arith, nat_tests, e) in subst (λ y. test y ≡ false) same is
         here false e = rest h (grind (arith, nat_tests, e, low))
 
-none-left : (test : ℕ → Bool) (xs : List ℕ) → ((x : ℕ) → test x ≡ false) → filter test xs ≡ []
+pub none-left : (test : ℕ → Bool) (xs : List ℕ) → ((x : ℕ) → test x ≡ false) → filter test xs ≡ []
 none-left test [] h = refl
 none-left test (x ∷ xs) h = ap (λ b. cond b (x ∷ filter test xs) (filter test xs)) (h x) ∙ none-left test xs h
 
@@ -99,15 +99,16 @@ used-elsewhere m l k s there none used = by (s.area == k) refl
 
 -- ---- an area is turned on
 
-module _ (m : Setting) (w : World) (l : Ledger) (k slots bad : ℕ) (s : AllSound m w l) (off : is_on l k ≡ false) where
+pub found-on : (l : Ledger) (k slots bad j : ℕ) → find nat_cmp j (after l (TurnedOn k slots bad)).on
+    ≡ cond (eq_by_cmp nat_cmp j k) (Some (record { slots = slots; bad = bad })) (find nat_cmp j l.on)
+found-on l k slots bad j = find-put nat_cmp nat_cmp_total j k (record { slots = slots; bad = bad }) l.on
+
+module _ (m : Setting) (l : Ledger) (k slots bad : ℕ) (there : AreThere m l) (fits : AreasFit m l) (off : is_on l k ≡ false) where
   abbrev pub now_on : Ledger
   now_on = after l (TurnedOn k slots bad)
 
-  pub found-on : (j : ℕ) → find nat_cmp j now_on.on ≡ cond (eq_by_cmp nat_cmp j k) (Some (record { slots = slots; bad = bad })) (find nat_cmp j l.on)
-  found-on j = find-put nat_cmp nat_cmp_total j k (record { slots = slots; bad = bad }) l.on
-
-  there-on : AreThere m now_on
-  there-on t used = by (eq_by_cmp nat_cmp t.area k) (find nat_cmp t.area l.on) (found-on t.area) (s.in_areas t used)
+  pub there-on : AreThere m now_on
+  there-on t used = by (eq_by_cmp nat_cmp t.area k) (find nat_cmp t.area l.on) (found-on l k slots bad t.area) (there t used)
     where
       by : (b : Bool) (o : Option SwapArea) → find nat_cmp t.area now_on.on ≡ cond b (Some (record { slots = slots; bad = bad })) o →
           (is_some o && nat_lt 0 t.page && nat_lt t.page (size_of m t.area) && is_usable m t) ≡ true → is_there m now_on t ≡ true
@@ -115,27 +116,28 @@ module _ (m : Setting) (w : World) (l : Ledger) (k slots bad : ℕ) (s : AllSoun
       by false o e h = ap (λ x. is_some x && nat_lt 0 t.page && nat_lt t.page (size_of m t.area) && is_usable m t) e ∙ h
       by true None e h = cc
 
-  fit-on : 0 < size_of m k → AreasFit m now_on
+  pub fit-on : 0 < size_of m k → AreasFit m now_on
   fit-on has = record {
-    rising = is_sorted-put nat_cmp nat_cmp_total k (record { slots = slots; bad = bad }) l.on s.areas_fit.rising;
-    attached = λ j is. attached_at j (eq_by_cmp nat_cmp j k) refl (sym (ap is_some (found-on j)) ∙ is);
-    fit = λ j. subst (λ o. IfSome o (λ area. length (slots_in_use m l j) ≤ area.slots)) (sym (found-on j))
-        (by j (eq_by_cmp nat_cmp j k) refl (find nat_cmp j l.on) (s.areas_fit.fit j));
+    rising = is_sorted-put nat_cmp nat_cmp_total k (record { slots = slots; bad = bad }) l.on fits.rising;
+    attached = λ j is. attached_at j (eq_by_cmp nat_cmp j k) refl (sym (ap is_some (found-on l k slots bad j)) ∙ is);
+    fit = λ j. subst (λ o. IfSome o (λ area. length (slots_in_use m l j) ≤ area.slots)) (sym (found-on l k slots bad j))
+        (by j (eq_by_cmp nat_cmp j k) refl (find nat_cmp j l.on) (fits.fit j));
   }
     where
       attached_at : (j : ℕ) (b : Bool) → eq_by_cmp nat_cmp j k ≡ b →
           is_some (cond b (Some (record { slots = slots; bad = bad })) (find nat_cmp j l.on)) ≡ true → 0 < size_of m j
       attached_at j true same is = let e : k ≡ j = grind (arith, nat_tests, same) in subst (λ n. 0 < size_of m n) e has
-      attached_at j false other is = s.areas_fit.attached j is
+      attached_at j false other is = fits.attached j is
 
       by : (j : ℕ) (b : Bool) → eq_by_cmp nat_cmp j k ≡ b → (o : Option SwapArea) → IfSome o (λ area. length (slots_in_use m l j) ≤ area.slots) →
           IfSome (cond b (Some (record { slots = slots; bad = bad })) o) (λ area. length (slots_in_use m l j) ≤ area.slots)
       by j true is o h =
           let same : j ≡ k = grind (arith, nat_tests, is) in
-          let none = ap length (ap (slots_in_use m l) same ∙ off-unused m l k s.in_areas off) in omega (arith, none)
+          let none = ap length (ap (slots_in_use m l) same ∙ off-unused m l k there off) in omega (arith, none)
       by j false is o h = h
 
-  pub turned-on-sound : 0 < size_of m k → AllSound m w now_on
+module _ (m : Setting) (w : World) (l : Ledger) (k slots bad : ℕ) (s : AllSound m w l) (off : is_on l k ≡ false) where
+  pub turned-on-sound : 0 < size_of m k → AllSound m w (after l (TurnedOn k slots bad))
   turned-on-sound has = record {
     world = s.world;
     ledger = record {
@@ -149,8 +151,8 @@ module _ (m : Setting) (w : World) (l : Ledger) (k slots bad : ℕ) (s : AllSoun
       one = s.ledger.one;
     };
     at_pages = s.at_pages;
-    in_areas = there-on;
-    areas_fit = fit-on has;
+    in_areas = there-on m l k slots bad s.in_areas s.areas_fit off;
+    areas_fit = fit-on m l k slots bad s.in_areas s.areas_fit off has;
   }
 
 -- nothing happens, or the area is turned on
@@ -188,30 +190,30 @@ turn-on-sound m w l k events answer rows s off has h = subst (λ es. AllSound m 
 
 -- ---- an area is turned off
 
-module _ (m : Setting) (w : World) (l : Ledger) (k : ℕ) (s : AllSound m w l) (none : slots_in_use m l k ≡ []) where
+pub found-off : (l : Ledger) (k j : ℕ) → find nat_cmp j (after l (TurnedOff k)).on ≡ cond (not (j == k)) (find nat_cmp j l.on) None
+found-off l k j = find-where_key nat_cmp (λ q. not (q == k)) j (λ x e. ap (λ y. not (y == k)) (sym (equal j x e))) l.on
+  where
+    equal : (j x : ℕ) → nat_cmp j x ≡ Equal → j ≡ x
+    equal j x e = grind (arith, nat_tests, e)
+
+module _ (m : Setting) (l : Ledger) (k : ℕ) (there : AreThere m l) (fits : AreasFit m l) (none : slots_in_use m l k ≡ []) where
   abbrev pub now_off : Ledger
   now_off = after l (TurnedOff k)
 
-  pub found-off : (j : ℕ) → find nat_cmp j now_off.on ≡ cond (not (j == k)) (find nat_cmp j l.on) None
-  found-off j = find-where_key nat_cmp (λ q. not (q == k)) j (λ x e. ap (λ y. not (y == k)) (sym (equal j x e))) l.on
-    where
-      equal : (j x : ℕ) → nat_cmp j x ≡ Equal → j ≡ x
-      equal j x e = grind (arith, nat_tests, e)
-
-  there-off : AreThere m now_off
+  pub there-off : AreThere m now_off
   there-off t used = ap (λ o. is_some o && nat_lt 0 t.page && nat_lt t.page (size_of m t.area) && is_usable m t)
-      (found-off t.area ∙ ap (λ b. cond (not b) (find nat_cmp t.area l.on) None) (used-elsewhere m l k t s.in_areas none used)) ∙ s.in_areas t used
+      (found-off l k t.area ∙ ap (λ b. cond (not b) (find nat_cmp t.area l.on) None) (used-elsewhere m l k t there none used)) ∙ there t used
 
-  fit-off : AreasFit m now_off
+  pub fit-off : AreasFit m now_off
   fit-off = record {
-    rising = is_sorted-where_key nat_cmp (λ q. not (q == k)) l.on s.areas_fit.rising;
-    attached = λ j is. attached_at j (not (j == k)) (sym (ap is_some (found-off j)) ∙ is);
-    fit = λ j. subst (λ o. IfSome o (λ area. length (slots_in_use m l j) ≤ area.slots)) (sym (found-off j))
-        (by j (j == k) (find nat_cmp j l.on) (s.areas_fit.fit j));
+    rising = is_sorted-where_key nat_cmp (λ q. not (q == k)) l.on fits.rising;
+    attached = λ j is. attached_at j (not (j == k)) (sym (ap is_some (found-off l k j)) ∙ is);
+    fit = λ j. subst (λ o. IfSome o (λ area. length (slots_in_use m l j) ≤ area.slots)) (sym (found-off l k j))
+        (by j (j == k) (find nat_cmp j l.on) (fits.fit j));
   }
     where
       attached_at : (j : ℕ) (b : Bool) → is_some (cond b (find nat_cmp j l.on) None) ≡ true → 0 < size_of m j
-      attached_at j true is = s.areas_fit.attached j is
+      attached_at j true is = fits.attached j is
       attached_at j false is = cc
 
       by : (j : ℕ) (b : Bool) (o : Option SwapArea) → IfSome o (λ area. length (slots_in_use m l j) ≤ area.slots) →
@@ -219,7 +221,8 @@ module _ (m : Setting) (w : World) (l : Ledger) (k : ℕ) (s : AllSound m w l) (
       by j true o h = tt
       by j false o h = h
 
-  pub turned-off-sound : AllSound m w now_off
+module _ (m : Setting) (w : World) (l : Ledger) (k : ℕ) (s : AllSound m w l) (none : slots_in_use m l k ≡ []) where
+  pub turned-off-sound : AllSound m w (after l (TurnedOff k))
   turned-off-sound = record {
     world = s.world;
     ledger = record {
@@ -233,6 +236,6 @@ module _ (m : Setting) (w : World) (l : Ledger) (k : ℕ) (s : AllSound m w l) (
       one = s.ledger.one;
     };
     at_pages = s.at_pages;
-    in_areas = there-off;
-    areas_fit = fit-off;
+    in_areas = there-off m l k s.in_areas s.areas_fit none;
+    areas_fit = fit-off m l k s.in_areas s.areas_fit none;
   }

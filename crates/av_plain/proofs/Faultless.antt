@@ -1,0 +1,290 @@
+-- A command that doesn't use the device tells of no fault of one, whatever is on: what it takes away leaves only drops, and no test refuses it so.
+use Rattle.std.specs.List.{AllByRecursion}
+use Rattle.std.specs.Prelude.{MatchOption, unwrap_or, if◌then◌else◌}
+use Rattle.std.proofs.Common.{◌≡◌, ◌⊎◌, inl, inr, ℕ, ◌+◌, ◌-◌, min, Bool, true, false, cond, not, List, [], ◌∷◌, ◌++◌, map, Option, Some, None, is_none, refl, sym, ap, subst, ◌∙◌, arith, ◌==◌}
+use Rattle.av_base.specs.Page.{page_of, pages_of}
+use Rattle.av_base.specs.declared.slot.Slot.{Slot}
+use Rattle.av_swapdev.specs.Header.{Layout}
+use Rattle.av_trace.specs.declared.command.Command.{Command}
+use Rattle.av_trace.specs.declared.command.Command.TheVariants.{Spawn, Fork, Exit, Mmap, Mremap, Munmap, Mprotect, Read, Write, Reclaim, Age, Complete, Swapon, Swapoff, Maps, Areas as AsksAreas, Rmap as AsksRmap, Entry as AsksEntry, Slot as AsksSlot, Stat}
+use Rattle.av_trace.specs.declared.place.Place.{Place}
+use Rattle.av_trace.specs.declared.place.Place.TheVariants.{Auto, At, Fixed, NoReplace}
+use Rattle.av_trace.specs.declared.note.Cause.{Cause}
+use Rattle.av_trace.specs.declared.note.Cause.TheVariants.{WriteStarted}
+use Rattle.av_trace.specs.declared.note.Note.{Note}
+use Rattle.av_trace.specs.declared.note.Note.TheVariants.{Aged, Dropped, Kept, Put, Started, Unmapped}
+use Rattle.av_trace.specs.declared.reply.Answer.{Answer}
+use Rattle.av_trace.specs.declared.reply.Answer.TheVariants.{Done, Refused, SlotBad}
+use Rattle.av_trace.specs.declared.reply.Errno.{Errno}
+use Rattle.av_trace.specs.declared.reply.Errno.TheVariants.{Einval, Enomem, Eperm}
+use Rattle.av_trace.specs.declared.reply.Reply.{Reply}
+use Rattle.av_trace.specs.declared.row.Row.{Row}
+use Rattle.av_plain.specs.Event.{Event, Moved, Zapped, after, after_all, after_notes, note_events, notes_of, when}
+use Rattle.av_plain.specs.Fault.{sparing}
+use Rattle.av_plain.specs.Ledger.{Entry, InFrame, InSlot, Key, Ledger, Setting, Zero, entry, is_orphan, is_usable, map_count, slot_of}
+use Rattle.av_plain.specs.Map.{zaps_for_place}
+use Rattle.av_plain.specs.Mremap.{events_to, range_zaps, remap_events}
+use Rattle.av_plain.specs.Pass.{IsSlotFor, Spared, fails, is_dirty, is_fail}
+use Rattle.av_plain.specs.Place.{IsMapAt}
+use Rattle.av_plain.specs.Reclaim.{Outcomes, cause_of, from_tail, leave_notes}
+use Rattle.av_plain.specs.Refusal.{Refuses, Tests, refusal, tests}
+use Rattle.av_plain.specs.Report.{MayBeNoSlot, count_answer, entry_answer, slot_answer, walk_answer}
+use Rattle.av_plain.specs.Step.{Follows, IsLegal, causes, failed_frames, fault_answers, uses_device}
+use Rattle.av_plain.specs.World.{World, pages, pages_to_hole}
+use Rattle.av_plain.specs.Zap.{keys_in, keys_of_process, orphan_drop, slot_behind_key, zap_of, zaps_of}
+use Rattle.av_plain.proofs.Access.{notes_of-append, notes_of-note_events}
+use Rattle.av_plain.proofs.Ledger.{how_many-append}
+
+-- ---- replies that tell of no fault
+
+-- the answer tells of no fault
+pub record IsFaultless (answer : Answer) : Type 0 where
+  pub told : fault_answers answer ≡ 0
+  pub failed : failed_frames answer ≡ 0
+
+-- and no note does
+pub record Faultless (events : List Event) (answer : Answer) : Type 0 where
+  pub notes : fails (notes_of events) ≡ 0
+  pub answered : IsFaultless answer
+
+-- so it is with an answer that is known
+pub is-faultless : (answer answer' : Answer) → answer ≡ answer' → IsFaultless answer' → IsFaultless answer
+is-faultless answer answer' e h = subst IsFaultless (sym e) h
+
+pub no-fails : (notes : List Note) → AllByRecursion (λ note. is_fail note ≡ false) notes → fails notes ≡ 0
+no-fails [] h = refl
+no-fails (note ∷ notes) h = let rest = no-fails notes h.1 in by (is_fail note) h.0 rest
+  where
+    by : (b : Bool) → b ≡ false → fails notes ≡ 0 → cond b 1 0 + fails notes ≡ 0
+    by true e rest = cc
+    by false e rest = omega (arith, rest)
+
+-- ---- entries that go
+
+both : (xs ys : List Note) → fails xs ≡ 0 → fails ys ≡ 0 → fails (xs ++ ys) ≡ 0
+both xs ys a b = let e = how_many-append is_fail xs ys in omega (arith, a, b, e)
+
+pub both-events : (es fs : List Event) → fails (notes_of es) ≡ 0 → fails (notes_of fs) ≡ 0 → fails (notes_of (es ++ fs)) ≡ 0
+both-events es fs a b = ap fails (notes_of-append es fs) ∙ both (notes_of es) (notes_of fs) a b
+
+zap-faultless : (l : Ledger) (k : Key) → fails (notes_of (zap_of l k)) ≡ 0
+zap-faultless l k = by (slot_behind_key l (entry l k))
+  where
+    gone : Ledger
+    gone = after l (Zapped k)
+
+    dropped : (b : Bool) (s : Slot) → fails (notes_of (note_events (when b (Dropped s)))) ≡ 0
+    dropped true s = refl
+    dropped false s = refl
+
+    by : (o : Option Slot) → fails (notes_of (orphan_drop gone o)) ≡ 0
+    by None = refl
+    by (Some s) = dropped (is_orphan gone s) s
+
+pub zaps-faultless : (l : Ledger) (ks : List Key) → fails (notes_of (zaps_of l ks)) ≡ 0
+zaps-faultless l [] = refl
+zaps-faultless l (k ∷ ks) = both-events (zap_of l k) (zaps_of (after_all l (zap_of l k)) ks) (zap-faultless l k)
+    (zaps-faultless (after_all l (zap_of l k)) ks)
+
+place-faultless : (l : Ledger) (p n : ℕ) (place : Place) → fails (notes_of (zaps_for_place l p n place)) ≡ 0
+place-faultless l p n Auto = refl
+place-faultless l p n (At a) = refl
+place-faultless l p n (Fixed a) = zaps-faultless l (keys_in l p (page_of a) n)
+place-faultless l p n (NoReplace a) = refl
+
+remap-faultless : (l : Ledger) (p from n : ℕ) (to : Option ℕ) (k : ℕ) → fails (notes_of (events_to l p from n to k)) ≡ 0
+remap-faultless l p from n None k = refl
+remap-faultless l p from n (Some to) k = by (to == from)
+  where
+    by : (b : Bool) → fails (notes_of (cond b (range_zaps l p (from + k) (n - k))
+        ((range_zaps l p to k ++ range_zaps (after_all l (range_zaps l p to k)) p (from + k) (n - k)) ++ Moved p (min n k) from to ∷ []))) ≡ 0
+    by true = zaps-faultless l (keys_in l p (from + k) (n - k))
+    by false = both-events (range_zaps l p to k ++ range_zaps (after_all l (range_zaps l p to k)) p (from + k) (n - k)) (Moved p (min n k) from to ∷ [])
+        (both-events (range_zaps l p to k) (range_zaps (after_all l (range_zaps l p to k)) p (from + k) (n - k))
+        (zaps-faultless l (keys_in l p to k)) (zaps-faultless (after_all l (range_zaps l p to k)) (keys_in (after_all l (range_zaps l p to k)) p (from + k) (n - k)))) refl
+
+-- ---- answers
+
+mapped-faultless : (answer : Answer) (to : Option ℕ) → IsMapAt answer to → IsFaultless answer
+mapped-faultless answer None e = is-faultless answer _ e (record { told = refl; failed = refl })
+mapped-faultless answer (Some page) e = is-faultless answer _ e (record { told = refl; failed = refl })
+
+walk-faultless : (l : Ledger) (e : Option Entry) → IsFaultless (walk_answer l e)
+walk-faultless l None = record { told = refl; failed = refl }
+walk-faultless l (Some Zero) = record { told = refl; failed = refl }
+walk-faultless l (Some (InFrame f seen)) = record { told = refl; failed = refl }
+walk-faultless l (Some (InSlot s)) = record { told = refl; failed = refl }
+
+entry-faultless : (l : Ledger) (e : Option Entry) → IsFaultless (entry_answer l e)
+entry-faultless l None = record { told = refl; failed = refl }
+entry-faultless l (Some Zero) = record { told = refl; failed = refl }
+entry-faultless l (Some (InFrame f seen)) = record { told = refl; failed = refl }
+entry-faultless l (Some (InSlot s)) = record { told = refl; failed = refl }
+
+slot-faultless : (m : Setting) (l : Ledger) (s : Slot) (answer : Answer) →
+    MatchOption m.headers ((answer ≡ count_answer l s) ⊎ MayBeNoSlot l s answer) (λ headers. answer ≡ slot_answer m l s) → IsFaultless answer
+slot-faultless m l s answer = by m.headers (is_usable m s)
+  where
+    by : (o : Option (ℕ → Option Layout)) (b : Bool) → MatchOption o ((answer ≡ count_answer l s) ⊎ MayBeNoSlot l s answer)
+        (λ headers. answer ≡ (if b then count_answer l s else SlotBad s)) → IsFaultless answer
+    by None b (inl e) = is-faultless answer _ e (record { told = refl; failed = refl })
+    by None b (inr (none, inl e)) = is-faultless answer _ e (record { told = refl; failed = refl })
+    by None b (inr (none, inr e)) = is-faultless answer _ e (record { told = refl; failed = refl })
+    by (Some headers) true e = is-faultless answer _ e (record { told = refl; failed = refl })
+    by (Some headers) false e = is-faultless answer _ e (record { told = refl; failed = refl })
+
+-- ---- frames that are reclaimed or aged
+
+-- reclaim ends no write
+leave-faultless : (l : Ledger) (f : ℕ) (t : Slot) → fails (leave_notes l f t) ≡ 0
+leave-faultless l f t = by (is_none (slot_of l f)) (not (map_count l f == 0)) (is_dirty l f t)
+  where
+    by : (a b c : Bool) → fails ((when a (Put f t) ++ when b (Unmapped f)) ++ (if c then Started t ∷ Kept f WriteStarted ∷ [] else Dropped t ∷ [])) ≡ 0
+    by true true true = refl
+    by true true false = refl
+    by true false true = refl
+    by true false false = refl
+    by false true true = refl
+    by false true false = refl
+    by false false true = refl
+    by false false false = refl
+
+pub outcomes-faultless : (m : Setting) (sp : Spared) (l : Ledger) (fs : List ℕ) (notes : List Note) → Outcomes m sp l fs notes → fails notes ≡ 0
+outcomes-faultless m sp l [] notes h = ap fails h
+outcomes-faultless m sp l (f ∷ fs) notes h = ap fails h.2 ∙ how_many-append is_fail h.0 h.1
+    ∙ (λ i. by (cause_of m sp l f) h.3 i + outcomes-faultless m sp (after_notes l h.0) fs h.1 h.4 i)
+  where
+    by : (o : Option Cause) → MatchOption o ((t : Slot) × IsSlotFor m sp l f t × (h.0 ≡ leave_notes l f t)) (λ cause. h.0 ≡ Kept f cause ∷ []) →
+        fails h.0 ≡ 0
+    by None q = ap fails q.2 ∙ leave-faultless l f q.0
+    by (Some cause) q = ap fails q
+
+pub ages-faultless : (fs : List ℕ) → fails (map Aged fs) ≡ 0
+ages-faultless [] = refl
+ages-faultless (f ∷ fs) = ap (λ n. 0 + n) (ages-faultless fs)
+
+-- ---- a command
+
+pub unused-follows : (m : Setting) (w : World) (l : Ledger) (command : Command) (events : List Event) (answer : Answer) (rows : List Row) →
+    uses_device command ≡ false → Follows m w l command events answer rows → Faultless events answer
+unused-follows m w l (Spawn p) events answer rows un h =
+    record { notes = ap (λ es. fails (notes_of es)) h.1; answered = is-faultless answer _ h.0 (record { told = refl; failed = refl }) }
+unused-follows m w l (Fork p q) events answer rows un h =
+    record { notes = ap (λ es. fails (notes_of es)) h.1; answered = is-faultless answer _ h.0 (record { told = refl; failed = refl }) }
+unused-follows m w l (Exit p) events answer rows un h = record {
+  notes = ap (λ es. fails (notes_of es)) h.1 ∙ zaps-faultless l (keys_of_process l p);
+  answered = is-faultless answer _ h.0 (record { told = refl; failed = refl });
+}
+unused-follows m w l (Mmap p len prot place) events answer rows un h = record {
+  notes = ap (λ es. fails (notes_of es)) h.3 ∙ place-faultless l p (pages_of len) place;
+  answered = mapped-faultless answer h.0 h.2;
+}
+unused-follows m w l (Munmap p a len) events answer rows un h = record {
+  notes = ap (λ es. fails (notes_of es)) h.1 ∙ zaps-faultless l (keys_in l p (page_of a) (pages_of len));
+  answered = is-faultless answer _ h.0 (record { told = refl; failed = refl });
+}
+unused-follows m w l (Mprotect p a len prot) events answer rows un h = record {
+  notes = ap (λ es. fails (notes_of es)) h.1;
+  answered = is-faultless answer _ h.0 (by (pages_to_hole (pages w p) (page_of a) (pages_of len) == pages_of len));
+}
+  where
+    by : (b : Bool) → IsFaultless (if b then Done else Refused Enomem)
+    by true = record { told = refl; failed = refl }
+    by false = record { told = refl; failed = refl }
+unused-follows m w l (Mremap p a old new mode) events answer rows un h = record {
+  notes = ap (λ es. fails (notes_of es)) h.3 ∙ remap-faultless l p (page_of a) (pages_of old) h.0 (pages_of new);
+  answered = mapped-faultless answer h.0 h.2;
+}
+unused-follows m w l (Read p a n) events answer rows un h = cc
+unused-follows m w l (Write p a bytes) events answer rows un h = cc
+unused-follows m w l (Reclaim n) events answer rows un h = record {
+  notes = ap (λ es. fails (notes_of es)) h.3 ∙ ap fails (notes_of-note_events h.0)
+      ∙ outcomes-faultless m (sparing w l None) l (from_tail n l.inactive) h.0 h.1;
+  answered = is-faultless answer _ h.2 (record { told = refl; failed = refl });
+}
+unused-follows m w l (Age n) events answer rows un h = record {
+  notes = ap (λ es. fails (notes_of es)) h.1 ∙ ap fails (notes_of-note_events (map Aged (from_tail n l.active))) ∙ ages-faultless (from_tail n l.active);
+  answered = is-faultless answer _ h.0 (record { told = refl; failed = refl });
+}
+unused-follows m w l (Complete n) events answer rows un h = cc
+unused-follows m w l (Swapon k) events answer rows un h = cc
+unused-follows m w l (Swapoff k) events answer rows un h = cc
+unused-follows m w l (Maps p) events answer rows un h =
+    record { notes = ap (λ es. fails (notes_of es)) h.2; answered = is-faultless answer _ h.0 (record { told = refl; failed = refl }) }
+unused-follows m w l (AsksAreas p) events answer rows un h =
+    record { notes = ap (λ es. fails (notes_of es)) h.2; answered = is-faultless answer _ h.0 (record { told = refl; failed = refl }) }
+unused-follows m w l (AsksRmap p a) events answer rows un h =
+    record { notes = ap (λ es. fails (notes_of es)) h.1; answered = is-faultless answer _ h.0 (walk-faultless l (entry l (p, page_of a))) }
+unused-follows m w l (AsksEntry p a) events answer rows un h =
+    record { notes = ap (λ es. fails (notes_of es)) h.1; answered = is-faultless answer _ h.0 (entry-faultless l (entry l (p, page_of a))) }
+unused-follows m w l (AsksSlot k page) events answer rows un h = record {
+  notes = ap (λ es. fails (notes_of es)) h.1;
+  answered = slot-faultless m l (record { area = k; page = page }) answer h.0;
+}
+unused-follows m w l Stat events answer rows un h =
+    record { notes = ap (λ es. fails (notes_of es)) h.1; answered = is-faultless answer _ h.0 (record { told = refl; failed = refl }) }
+
+-- ---- refusals
+
+-- no test leads to EIO
+abbrev AreMild : Tests → Type 0
+AreMild tests = AllByRecursion (λ (t : Bool × Errno). fault_answers (Refused t.1) ≡ 0) tests
+
+mild-refusal : (ts : Tests) (error : Errno) → AreMild ts → refusal ts ≡ Some error → fault_answers (Refused error) ≡ 0
+mild-refusal [] error h e = cc
+mild-refusal (t ∷ ts) error h e = by t.0 e (mild-refusal ts error h.1)
+  where
+    by : (b : Bool) → (if b then Some t.1 else refusal ts) ≡ Some error → (refusal ts ≡ Some error → fault_answers (Refused error) ≡ 0) →
+        fault_answers (Refused error) ≡ 0
+    by true e rest = ap (λ o. fault_answers (Refused (unwrap_or o Eperm))) (sym e) ∙ h.0
+    by false e rest = rest e
+
+tests-mild : (m : Setting) (w : World) (l : Ledger) (command : Command) → AreMild (tests m w l command)
+tests-mild m w l (Spawn p) = (refl, (refl, tt))
+tests-mild m w l (Fork p q) = (refl, (refl, (refl, tt)))
+tests-mild m w l (Exit p) = (refl, tt)
+tests-mild m w l (Mmap p len prot Auto) = (refl, (refl, (refl, tt)))
+tests-mild m w l (Mmap p len prot (At a)) = (refl, (refl, (refl, tt)))
+tests-mild m w l (Mmap p len prot (Fixed a)) = (refl, (refl, (refl, (refl, (refl, (refl, tt))))))
+tests-mild m w l (Mmap p len prot (NoReplace a)) = (refl, (refl, (refl, (refl, (refl, (refl, (refl, tt)))))))
+tests-mild m w l (Munmap p a len) = (refl, (refl, tt))
+tests-mild m w l (Mprotect p a len prot) = (refl, (refl, (refl, tt)))
+tests-mild m w l (Mremap p a old new mode) = (refl, (refl, (refl, (refl, (refl, (refl, tt))))))
+tests-mild m w l (Read p a n) = (refl, tt)
+tests-mild m w l (Write p a bytes) = (refl, tt)
+tests-mild m w l (Reclaim n) = tt
+tests-mild m w l (Age n) = tt
+tests-mild m w l (Complete n) = tt
+tests-mild m w l (Swapon k) = (refl, (refl, (refl, tt)))
+tests-mild m w l (Swapoff k) = (refl, tt)
+tests-mild m w l (Maps p) = (refl, tt)
+tests-mild m w l (AsksAreas p) = (refl, tt)
+tests-mild m w l (AsksRmap p a) = (refl, (refl, tt))
+tests-mild m w l (AsksEntry p a) = (refl, (refl, tt))
+tests-mild m w l (AsksSlot k page) = (refl, (refl, tt))
+tests-mild m w l Stat = tt
+
+-- a reply has no causes where the command tells of no fault unless it is refused
+pub faultless-causes : (m : Setting) (w : World) (l : Ledger) (command : Command) (reply : Reply) (events : List Event) →
+    (refusal (tests m w l command) ≡ None → Follows m w l command events reply.answer reply.rows → Faultless events reply.answer) →
+    IsLegal m w l command reply events → causes reply ≡ 0
+faultless-causes m w l command reply events follows legal =
+    let f = by (refusal (tests m w l command)) refl legal.answer in
+    let a = ap fails legal.notes ∙ f.notes in
+    let b = f.answered.told in
+    let c = f.answered.failed in
+    grind (arith, a, b, c)
+  where
+    by : (o : Option Errno) → refusal (tests m w l command) ≡ o → MatchOption o (Follows m w l command events reply.answer reply.rows)
+        (λ error. Refuses error events reply.answer reply.rows) → Faultless events reply.answer
+    by None is h = follows is h
+    by (Some error) is h = record {
+      notes = ap (λ es. fails (notes_of es)) h.1;
+      answered = is-faultless reply.answer _ h.0
+          (record { told = mild-refusal (tests m w l command) error (tests-mild m w l command) is; failed = refl });
+    }
+
+pub unused-causes : (m : Setting) (w : World) (l : Ledger) (command : Command) (reply : Reply) (events : List Event) → uses_device command ≡ false →
+    IsLegal m w l command reply events → causes reply ≡ 0
+unused-causes m w l command reply events un legal =
+    faultless-causes m w l command reply events (λ fine. unused-follows m w l command events reply.answer reply.rows un) legal

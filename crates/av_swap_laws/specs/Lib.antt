@@ -1,0 +1,4 @@
+pub mod Steps
+pub mod May
+pub mod Held
+pub mod Example
