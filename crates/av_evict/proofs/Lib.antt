@@ -1,0 +1,10 @@
+pub mod SystemLaws
+pub mod StepLaws
+pub mod FlightLaws
+pub mod TurnLaws
+pub mod InactiveLaws
+pub mod TailLaws
+pub mod PassLaws
+pub mod OrderLaws
+pub mod SeekLaws
+pub mod OutLaws

@@ -1,0 +1,239 @@
+-- A frame's turn in the direct pass.
+use Rattle.std.proofs.Common.{slice_get, Bool, List, None, Option, Some, [], ap, arith, cond, false, if◌then◌else◌, is_none, map, not, refl, subst, sym, true, ℕ, ◌&&◌, ◌++◌, ◌<◌, ◌==◌, ◌||◌, ◌∙◌, ◌∷◌, ◌≡◌}
+use Rattle.std.specs.Prelude.{IsTrue, MatchBool, MatchOption}
+use Rattle.std.proofs.lemmas.Bool.Decides.{nat_tests}
+use Rattle.std.proofs.lemmas.List.{append-nil, append_assoc}
+use Rattle.std.specs.List.{list_any}
+use Rattle.av_base.specs.Words.{how_many}
+use Rattle.av_base.specs.declared.slot.Slot.{Slot}
+use Rattle.av_trace.specs.declared.note.Note.{Note}
+use Rattle.av_trace.specs.declared.note.Note.TheVariants.{Dropped, Put, Started, Unmapped}
+use Rattle.av_plain.specs.Event.{after_note, after_notes, change_entries, if_some, into_cache, off_flight, to_inactive_tail, when}
+use Rattle.av_plain.specs.Ledger.{Cached, InSlot, Ledger, Setting, frame_at, in_flight, is_orphan, is_stale, is_unmapped, map_count, may_give, same_slot, slot_entries, slot_of}
+use Rattle.av_plain.specs.Pass.{IsSlotFor, end_note, end_notes, is_dirty, is_stuck, turn_notes, unmap_notes}
+use Rattle.av_plain.specs.Sound.{IsSound, flights, pairs}
+use Rattle.av_plain.proofs.Sound.Counts.{pair-frame, slot-itself, slot_of-some}
+use Rattle.av_plain.proofs.Sound.Steps.{UnmapKept, alike-end_note, alike-started, alike-then, flights-end_note, unmap_notes-kept}
+use Rattle.av_plain.specs.Fault.{is_pinned}
+use Rattle.av_evict.specs.Steps.{EndsFirst, IsSent, MayDrop, MayStart, spares}
+use Rattle.av_evict.specs.Turn.{InVain, IsCleaned, IsEvicted, IsSentTo, IsTurn, IsTurnUnlessPinned, MayTurn, MayWrite, has_failed, unpinned}
+use Rattle.av_evict.specs.declared.system.WriteEnd.{WriteEnd}
+use Rattle.av_evict.proofs.StepLaws.{clean-may_drop, pair-cached, pair-slot_of}
+
+-- ---- a page is written at once
+
+-- once it has begun, the slot is not stale
+pub started-clean : (l : Ledger) (s : Slot) → is_stale (after_note (Started s) l) s ≡ false
+started-clean l s = each l.cache
+  where
+    one : (c : Cached) (b : Bool) → same_slot s c.slot ≡ b →
+        (same_slot s (if b then record c { stale = false } else c).slot && (if b then record c { stale = false }
+        else c).stale) ≡ false
+    one c true is = ap (λ b. b && false) is
+    one c false is = ap (λ b. b && c.stale) is
+
+    each : (cs : List Cached) → list_any (λ (c : Cached). same_slot s c.slot && c.stale)
+        (map (λ (c : Cached). if same_slot s c.slot then record c { stale = false } else c) cs) ≡ false
+    each [] = refl
+    each (c ∷ cs) = (λ i. one c (same_slot s c.slot) refl i || each cs i)
+
+pub write-may_start : (l : Ledger) (s : Slot) → MayWrite s l → MayStart s l
+write-may_start l s may = record { cached = may.cached; landed = ap (list_any (same_slot s)) may.landed }
+
+-- a slot that an entry names is no orphan
+pub named-no_orphan : (l : Ledger) (s : Slot) → 0 < slot_entries l s → is_orphan l s ≡ false
+named-no_orphan l s named = by (is_unmapped l (frame_at l s)) (not (in_flight l s)) (slot_entries l s == 0) (grind (arith, nat_tests, named))
+  where
+    by : (a b c : Bool) → c ≡ false → (a && b && c) ≡ false
+    by true true c h = h
+    by true false c h = refl
+    by false b c h = refl
+
+-- the write that ends is the one that began
+pub write-ends : (l : Ledger) (s : Slot) (end : Option WriteEnd) (ns : List Note) → MayWrite s l → EndsFirst end (after_note (Started s) l) ns →
+    ns ≡ end_note (has_failed end) s ∷ []
+write-ends l s None ns may h = absurd (not_empty s (sym (ap (λ fs. fs ++ s ∷ []) may.landed) ∙ h.0))
+  where
+    not_empty : (s : Slot) → ◌≡◌ {A = List Slot} (s ∷ []) [] → ⊥
+    not_empty s h = cc
+write-ends l s (Some e) ns may h = h.1 ∙ subst (λ x. end_notes (after_note (Started s) l) x e.failed ≡ end_note e.failed s ∷ []) (sym is)
+    (ap (λ b. end_note e.failed s ∷ when b (Dropped s)) kept)
+  where
+    is : e.slot ≡ s
+    is = some_is e.slot s (h.0 ∙ ap (λ fs. slice_get (fs ++ s ∷ []) 0) may.landed)
+      where
+        some_is : (a b : Slot) → Some a ≡ Some b → a ≡ b
+        some_is a b h = cc
+
+    named : 0 < slot_entries (after_note (end_note e.failed s) (after_note (Started s) l)) s
+    named = subst (λ es. 0 < slot_entries (record l { entries = es }) s)
+        (sym (alike-then l (after_note (Started s) l) _ (alike-started l s) (alike-end_note (after_note (Started s) l) e.failed s)).entries) may.named
+
+    kept : is_orphan (after_note (end_note e.failed s) (after_note (Started s) l)) s ≡ false
+    kept = named-no_orphan (after_note (end_note e.failed s) (after_note (Started s) l)) s named
+
+pub write-both : (l : Ledger) (s : Slot) (end : Option WriteEnd) (failed : Bool) (ns ms : List Note) → MayWrite s l → failed ≡ has_failed end →
+    ns ≡ Started s ∷ [] → EndsFirst end (after_notes l ns) ms → ns ++ ms ≡ Started s ∷ end_note failed s ∷ []
+write-both l s end failed ns ms may same is ends = (λ i. is i ++ (write-ends l s end ms may (subst (λ x. EndsFirst end (after_notes l x) ms) is ends)
+    ∙ ap (λ b. end_note b s ∷ []) (sym same)) i)
+
+-- ---- cleaned, and dropped
+
+pub sent-pair : (l : Ledger) (f : ℕ) (s : Slot) → IsSentTo f s l → 0 < pairs l s f
+sent-pair l f s at = slot_of-some f s l.cache at.cached
+
+pub sent-below : (m : Setting) (l : Ledger) (f : ℕ) (s : Slot) → IsSound m l → IsSentTo f s l → f < m.frames
+sent-below m l f s sound at = sound.in_range f (let p = sent-pair l f s at in let q = pair-frame s f l.cache in omega (arith, p, q))
+
+pub sent-may_write : (l : Ledger) (f : ℕ) (s : Slot) → IsSentTo f s l → MayWrite s l
+sent-may_write l f s at = record { landed = at.landed; cached = pair-cached l s f (sent-pair l f s at); named = at.named }
+
+pub cleaned-none : (l : Ledger) (s : Slot) → false ≡ is_stale l s → IsCleaned s false l []
+cleaned-none l s is = (by (is_stale l s), ap (λ (b : Bool). if b then Started s ∷ end_note false s ∷ [] else []) is)
+  where
+    by : (b : Bool) → (b || true) ≡ true
+    by true = refl
+    by false = refl
+
+pub cleaned-some : (l : Ledger) (s : Slot) (failed : Bool) (ns : List Note) → true ≡ is_stale l s → ns ≡ Started s ∷ end_note failed s ∷ [] →
+    IsCleaned s failed l ns
+cleaned-some l s failed ns is h = (ap (λ b. b || not failed) (sym is), h ∙ ap (λ (b : Bool). if b then Started s ∷ end_note failed s ∷ [] else []) is)
+
+pub cleaned-may_drop : (m : Setting) (l : Ledger) (f : ℕ) (s : Slot) (ns : List Note) → IsSentTo f s l → IsCleaned s false l ns →
+    IsSound m (after_notes l ns) →
+    MayDrop s (after_notes l ns)
+cleaned-may_drop m l f s ns at clean sound = subst (λ x. MayDrop s (after_notes l x)) (sym clean.1)
+    (by (is_stale l s) refl (subst (λ x. IsSound m (after_notes l x)) clean.1 sound))
+  where
+    by : (b : Bool) → is_stale l s ≡ b → IsSound m (after_notes l (if b then Started s ∷ end_note false s ∷ [] else [])) →
+        MayDrop s (after_notes l (if b then Started s ∷ end_note false s ∷ [] else []))
+    by false is sound = clean-may_drop m l s f sound (sent-pair l f s at) at.unmapped (ap (λ fs. how_many (same_slot s) fs) at.landed) is
+    by true is sound =
+        let l1 = after_note (Started s) l in
+        let l2 = after_note (end_note false s) l1 in
+        let a = alike-then l l1 l2 (alike-started l s) (alike-end_note l1 false s) in
+        clean-may_drop m l2 s f sound (let p = sent-pair l f s at in let e = a.pairs_same s f in omega (arith, p, e))
+        (ap (λ es. map_count (record l { entries = es }) f) a.entries ∙ at.unmapped)
+        (flights-end_note l1 false s s ∙ gone (same_slot s s) (slot-itself s) (flights l1 s)) (same (frame_at l1 s) ∙ started-clean l s)
+      where
+        gone : (b : Bool) → b ≡ true → (n : ℕ) → cond b 0 n ≡ 0
+        gone true h n = refl
+        gone false h n = cc
+
+        same : (o : Option ℕ) → is_stale (if_some o to_inactive_tail (off_flight s (after_note (Started s) l))) s ≡ is_stale
+            (after_note (Started s) l) s
+        same None = refl
+        same (Some g) = refl
+
+pub evicted-some : (l : Ledger) (s : Slot) (ns ms : List Note) → IsCleaned s false l ns → ms ≡ Dropped s ∷ [] → IsEvicted s true l (ns ++ ms)
+evicted-some l s ns ms clean is = (false, ns, by (is_stale l s), clean, ap (λ x. ns ++ x) is)
+  where
+    by : (b : Bool) → (b && false) ≡ false
+    by true = refl
+    by false = refl
+
+-- ---- a whole turn
+
+-- the slot is stale where the frame was dirty
+pub sent-stale : (m : Setting) (closing : Option ℕ) (l : Ledger) (f : ℕ) (s : Slot) → IsSlotFor m (spares closing None) l f s →
+    is_stale (after_notes l (unmap_notes l f s)) s ≡ is_dirty l f s
+sent-stale m closing l f s for = by (slot_of l f) refl for
+  where
+    gone : (l : Ledger) (b : Bool) → is_stale (after_notes l (when b (Unmapped f))) s ≡ is_stale l s
+    gone l false = refl
+    gone l true = at (slot_of l f)
+      where
+        at : (o : Option Slot) → is_stale (if_some o (λ s. change_entries f (λ _. InSlot s)) l) s ≡ is_stale l s
+        at None = refl
+        at (Some t) = refl
+
+    here : (b c : Bool) → b ≡ true → ((b && true) || c) ≡ true
+    here true c h = refl
+    here false c h = cc
+
+    by : (o : Option Slot) → slot_of l f ≡ o → MatchOption o (IsTrue (may_give m closing l s)) (λ t. s ≡ t) →
+        is_stale (after_notes l (when (is_none (slot_of l f)) (Put f s) ++ when (not (map_count l f == 0)) (Unmapped f)))
+        s ≡ (is_none (slot_of l f) || is_stale l s)
+    by None is h = subst (λ o. is_stale (after_notes l (when (is_none o) (Put f s) ++ when (not (map_count l f == 0)) (Unmapped f)))
+        s ≡ (is_none o || is_stale l s))
+        (sym is) (gone (into_cache s f true l) (not (map_count l f == 0)) ∙ here (same_slot s s) (is_stale l s) (slot-itself s))
+    by (Some t) is h = subst (λ o. is_stale (after_notes l (when (is_none o) (Put f s) ++ when (not (map_count l f == 0)) (Unmapped f)))
+        s ≡ (is_none o || is_stale l s))
+        (sym is) (gone l (not (map_count l f == 0)))
+
+pub sent-to : (m : Setting) (closing : Option ℕ) (l : Ledger) (f : ℕ) (s : Slot) (ns : List Note) → IsSound m l → MayTurn f l →
+    IsSent m closing f (Some s) l ns →
+    IsSentTo f s (after_notes l ns)
+sent-to m closing l f s ns sound may sent = subst (λ x. IsSentTo f s (after_notes l x)) (sym sent.2) (record {
+  landed = u.flight_same ∙ may.landed;
+  cached = pair-slot_of m (after_notes l (unmap_notes l f s)) s f u.sound u.pair;
+  unmapped = u.none;
+  named = (let w = u.sound.used s f u.pair in let z = u.none in
+      let y = ap (λ fs. how_many (same_slot s) fs) (u.flight_same ∙ may.landed) in omega (arith, w, z, y));
+})
+  where
+    u : UnmapKept m l f s (after_notes l (unmap_notes l f s))
+    u = unmap_notes-kept m (spares closing None) l f s sound sent.1 may.used
+
+pub turn-none : (m : Setting) (closing : Option ℕ) (l : Ledger) (f : ℕ) (ns : List Note) → IsSent m closing f None l ns →
+    IsTurn m closing f false l ns
+turn-none m closing l f ns sent = by (is_stuck m (spares closing None) l f) sent.0
+  where
+    by : (b : Bool) → b ≡ true → MatchBool b (ns ≡ []) ((s : Slot) × (rest : List Note) × IsSlotFor m (spares closing None) l f s
+        × (is_dirty l f s ≡ true) × (ns ≡ turn_notes l f s true ++ rest) × (rest ≡ []))
+    by true h = sent.1
+    by false h = cc
+
+pub turn-both : (m : Setting) (closing : Option ℕ) (l : Ledger) (f : ℕ) (s : Slot) (freed : Bool) (ns ms : List Note) →
+    IsSent m closing f (Some s) l ns →
+    IsEvicted s freed (after_notes l ns) ms → IsTurn m closing f freed l (ns ++ ms)
+turn-both m closing l f s true ns ms sent out = record {
+  slot = s;
+  failed = out.0;
+  unstuck = sent.0;
+  for = sent.1;
+  written = ap (λ b. b && out.0) (sym stale) ∙ out.2;
+  whole = (λ i. sent.2 i ++ out.4 i) ∙ sym (append_assoc (unmap_notes l f s) out.1 (Dropped s ∷ []))
+      ∙ ap (λ x. (unmap_notes l f s ++ x) ++ Dropped s ∷ []) (out.3.1 ∙ ap (λ (b : Bool). if b then Started s ∷ end_note out.0 s ∷ [] else []) stale);
+}
+  where
+    stale : is_stale (after_notes l ns) s ≡ is_dirty l f s
+    stale = ap (λ x. is_stale (after_notes l x) s) sent.2 ∙ sent-stale m closing l f s sent.1
+turn-both m closing l f s false ns ms sent out = by (is_stuck m (spares closing None) l f) sent.0
+  where
+    stale : is_stale (after_notes l ns) s ≡ is_dirty l f s
+    stale = ap (λ x. is_stale (after_notes l x) s) sent.2 ∙ sent-stale m closing l f s sent.1
+
+    first : (b : Bool) → (b || false) ≡ true → b ≡ true
+    first true h = refl
+    first false h = h
+
+    by : (b : Bool) → b ≡ false → MatchBool b (ns ++ ms ≡ []) ((t : Slot) × (rest : List Note) × IsSlotFor m (spares closing None) l f t
+        × (is_dirty l f t ≡ true) × (ns ++ ms ≡ turn_notes l f t true ++ rest) × (rest ≡ []))
+    by true h = cc
+    by false h = (
+      s,
+      [],
+      sent.1,
+      sym stale ∙ first _ out.0,
+      (λ i. sent.2 i ++ (out.1 ∙ ap (λ (b : Bool). if b then Started s ∷ end_note true s ∷ [] else []) stale) i) ∙ sym (append-nil _),
+      refl,
+    )
+
+-- ---- the pinned frame has no turn
+
+pub pinned-turn : (m : Setting) (closing pinned : Option ℕ) (l : Ledger) (f : ℕ) → is_pinned pinned f ≡ true →
+    IsTurnUnlessPinned m closing pinned f false l []
+pinned-turn m closing pinned l f is = by (is_pinned pinned f) is
+  where
+    by : (b : Bool) → b ≡ true → InVain m closing l (cond (not b) (f ∷ []) []) []
+    by true h = refl
+    by false h = cc
+
+pub unpinned-one : (pinned : Option ℕ) (f : ℕ) → is_pinned pinned f ≡ false → unpinned pinned (f ∷ []) ≡ f ∷ []
+unpinned-one pinned f is = ap (λ b. cond (not b) (f ∷ []) []) is
+
+pub unpinned-turn : (m : Setting) (closing pinned : Option ℕ) (l : Ledger) (f : ℕ) (freed : Bool) (ns : List Note) → is_pinned pinned f ≡ false →
+    IsTurn m closing f freed l ns → IsTurnUnlessPinned m closing pinned f freed l ns
+unpinned-turn m closing pinned l f true ns is turn = (is, turn)
+unpinned-turn m closing pinned l f false ns is turn = subst (λ fs. InVain m closing l fs ns) (sym (unpinned-one pinned f is)) turn

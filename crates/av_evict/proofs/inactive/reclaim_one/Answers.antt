@@ -1,0 +1,81 @@
+use Rattle.std.proofs.Common.{◌∷◌, [], ◌∙◌, sym, Some, None, false}
+use Rattle.av_trace.specs.declared.note.Cause.TheVariants.{NoSlot, Referenced, Writeback}
+use Rattle.av_trace.specs.declared.note.Note.TheVariants.{Kept}
+use Rattle.av_plain.specs.Reclaim.{Outcome}
+use Rattle.av_evict.specs.Inactive.{GoesOut, IsSentIdle}
+use Rattle.av_evict.specs.Steps.{IsUsed, spares}
+use Rattle.av_evict.specs.System.{Adds}
+use Rattle.av_evict.proofs.InactiveLaws.{GoesOn, goes-on, outcome-referenced, outcome-sent, outcome-stuck, outcome-writeback, sent-idle, stuck-used}
+use Rattle.av_evict.proofs.SystemLaws.{at-knows, gives-as, gives-at, gives-then, loose}
+use Rattle.av_evict.proofs.inactive.reclaim_one.Goals as goal
+
+pub is_in_writeback-requires : goal.is_in_writeback-requires
+is_in_writeback-requires g c = c.requires.1.in_range c.args.frame c.requires.3
+
+pub is_referenced-seen-requires : goal.is_referenced-seen-requires
+is_referenced-seen-requires g c = at-knows (g.S.System.view c.args.system.now false) (IsUsed c.args.frame) c.requires
+
+pub returns-then-is_in_writeback : goal.returns-then-is_in_writeback
+returns-then-is_in_writeback g c = λ told.
+    let k = g.S.System.view c.args.system.now told in
+    let f = c.args.frame in
+    gives-as _ _ _ _ (IsUsed f) (IsUsed f) (Adds (Kept f Writeback ∷ [])) (λ l ns. Outcome k.setting (spares k.closing None) l f ns)
+    (c.in_ok-keep.ensures told)
+    (λ l sound stands used. used)
+    (λ l ns sound stands used is. outcome-writeback k.setting (spares k.closing None) l f ns
+    (sym (c.is_in_writeback.ensures told l (loose _ _ l sound) stands) ∙ c.if-is_in_writeback.true) is)
+
+pub returns-then-seen : goal.returns-then-seen
+returns-then-seen g c = λ told.
+    let k = g.S.System.view c.args.system.now told in
+    let f = c.args.frame in
+    gives-as _ _ _ _ (IsUsed f) (IsUsed f) (Adds (Kept f Referenced ∷ [])) (λ l ns. Outcome k.setting (spares k.closing None) l f ns)
+    (c.in_ok-keep-2.ensures told)
+    (λ l sound stands used. used)
+    (λ l ns sound stands used is. outcome-referenced k.setting (spares k.closing None) l f ns
+    (sym (c.is_in_writeback.ensures told l (loose _ _ l sound) stands) ∙ c.if-is_in_writeback.false)
+    (sym (c.is_referenced-seen.ensures told l (loose _ _ l sound) stands) ∙ c.if-seen.true) is)
+
+pub keep-requires-in_default : goal.keep-requires-in_default
+keep-requires-in_default g c =
+    let k = g.S.System.view c.args.system.now false in
+    let f = c.args.frame in
+    gives-at _ _ _ _ (IsUsed f) (IsUsed f) (GoesOn k.setting k.closing f None) c.requires
+    (goes-on _ _ _ _ f None _ _ (c.is_in_writeback.ensures false) c.if-is_in_writeback.false (c.is_referenced-seen.ensures false) c.if-seen.false
+    (rw c.in_default.is at (c.in_ok-slot.ensures false)))
+    (λ l ns sound used on after. stuck-used k.setting k.closing l f ns used on)
+
+pub returns-in_default : goal.returns-in_default
+returns-in_default g c = λ told.
+    let k = g.S.System.view c.args.system.now told in
+    let f = c.args.frame in
+    gives-then _ _ _ _ _ _ (IsUsed f) (IsUsed f) (GoesOn k.setting k.closing f None) (Adds (Kept f NoSlot ∷ []))
+    (λ l ns. Outcome k.setting (spares k.closing None) l f ns)
+    (goes-on _ _ _ _ f None _ _ (c.is_in_writeback.ensures told) c.if-is_in_writeback.false (c.is_referenced-seen.ensures told) c.if-seen.false
+    (rw c.in_default.is at (c.in_ok-slot.ensures told)))
+    (c.in_ok-keep-3.ensures told)
+    (λ l ns sound used on after. stuck-used k.setting k.closing l f ns used on)
+    (λ l ns ms sound used on is. outcome-stuck k.setting k.closing l f ns ms on is)
+
+pub write_or_drop-requires : goal.write_or_drop-requires
+write_or_drop-requires g c =
+    let k = g.S.System.view c.args.system.now false in
+    let f = c.args.frame in
+    let s = c.in-Some.slot in
+    gives-at _ _ _ _ (IsUsed f) (IsSentIdle f s) (GoesOn k.setting k.closing f (Some s)) c.requires
+    (goes-on _ _ _ _ f (Some s) _ _ (c.is_in_writeback.ensures false) c.if-is_in_writeback.false (c.is_referenced-seen.ensures false) c.if-seen.false
+    (rw c.in-Some.is at (c.in_ok-slot.ensures false)))
+    (λ l ns sound used on after. sent-idle k.setting k.closing l f s ns sound used on)
+
+pub returns : goal.returns
+returns g c = λ told.
+    let k = g.S.System.view c.args.system.now told in
+    let f = c.args.frame in
+    let s = c.in-Some.slot in
+    gives-then _ _ _ _ _ _ (IsUsed f) (IsSentIdle f s) (GoesOn k.setting k.closing f (Some s)) (GoesOut f s)
+    (λ l ns. Outcome k.setting (spares k.closing None) l f ns)
+    (goes-on _ _ _ _ f (Some s) _ _ (c.is_in_writeback.ensures told) c.if-is_in_writeback.false (c.is_referenced-seen.ensures told) c.if-seen.false
+    (rw c.in-Some.is at (c.in_ok-slot.ensures told)))
+    (c.in_ok-write_or_drop.ensures told)
+    (λ l ns sound used on after. sent-idle k.setting k.closing l f s ns sound used on)
+    (λ l ns ms sound used on out. outcome-sent k.setting k.closing l f s ns ms on out)

@@ -1,0 +1,45 @@
+use Rattle.std.proofs.Common.{◌≡◌, ◌<◌, false, true, ap, subst, ◌∙◌}
+use Rattle.av_plain.specs.Event.{after_notes}
+use Rattle.av_plain.specs.Ledger.{has_free, is_free}
+use Rattle.av_plain.specs.Pass.{IsPass, out_of}
+use Rattle.av_evict.specs.Pass.{IsEnd, IsPassed}
+use Rattle.av_evict.specs.Steps.{spares}
+use Rattle.av_evict.specs.System.{Always}
+use Rattle.av_evict.specs.declared.pass.SeekEnd.TheVariants.{Frame, Out}
+use Rattle.av_evict.proofs.OutLaws.{vain-out}
+use Rattle.av_evict.proofs.SystemLaws.{gives-so}
+use Rattle.av_evict.proofs.pass.direct.Goals as goal
+
+pub returns-in-Some-clause-pass : goal.returns-in-Some-clause-pass
+returns-in-Some-clause-pass g c = λ told.
+    let k = g.S.System.view c.args.system.now told in
+    let p = c.args.pinned in
+    let f = c.in-Some.frame in
+    gives-so _ _ _ _ Always (IsPassed k.setting k.closing p)
+    (λ l ns. IsPass k.setting (spares k.closing p) l ns × IsEnd k.setting k.closing p (Frame f) l ns)
+    (c.in_ok-pass.ensures told)
+    (λ l ns sound stands passed goes after. (
+      passed.pass,
+      subst (λ m. (f < m.frames) × (is_free (after_notes l ns) f ≡ true)) goes.does.setting
+          (c.in-Some.ensures.free told (after_notes l ns) after goes.does.stands),
+    ))
+
+pub returns-in-None-clause-pass : goal.returns-in-None-clause-pass
+returns-in-None-clause-pass g c = λ told.
+    let k = g.S.System.view c.args.system.now told in
+    let new = g.S.System.view c.pass.new.system told in
+    let p = c.args.pinned in
+    let out = c.out_of.result in
+    gives-so _ _ _ _ Always (IsPassed k.setting k.closing p)
+    (λ l ns. IsPass k.setting (spares k.closing p) l ns × IsEnd k.setting k.closing p (Out out) l ns)
+    (c.in_ok-pass.ensures told)
+    (λ l ns sound stands passed goes after.
+    let none = subst (λ m. has_free m (after_notes l ns) ≡ false) goes.does.setting
+    (c.in-None.ensures.free told (after_notes l ns) after goes.does.stands)
+    in (
+      passed.pass,
+      vain-out k.setting k.closing p l ns out sound (passed.vain none) none
+          (c.out_of.ensures told (after_notes l ns) after goes.does.stands
+          ∙ ap (λ m. out_of m p (spares new.closing p) (after_notes l ns)) goes.does.setting
+          ∙ ap (λ x. out_of k.setting p (spares x p) (after_notes l ns)) goes.does.closing),
+    ))

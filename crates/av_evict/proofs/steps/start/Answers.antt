@@ -1,0 +1,10 @@
+use Rattle.std.proofs.Common.{◌∷◌, []}
+use Rattle.av_trace.specs.declared.note.Note.TheVariants.{Started}
+use Rattle.av_evict.specs.Steps.{MayStart}
+use Rattle.av_evict.proofs.SystemLaws.{makes-gives}
+use Rattle.av_evict.proofs.StepLaws.{start-sound}
+use Rattle.av_evict.proofs.steps.start.Goals as goal
+
+pub returns : goal.returns
+returns g c = λ told. makes-gives _ _ _ _ (MayStart c.args.slot) (Started c.args.slot ∷ []) (c.start.ensures told) c.in_ok-push.ensures.ok
+    (λ l sound stands may. start-sound _ l c.args.slot sound may)

@@ -1,0 +1,31 @@
+use Rattle.std.proofs.Common.{◌∷◌, [], false}
+use Rattle.av_trace.specs.declared.note.Note.TheVariants.{Started}
+use Rattle.av_plain.specs.Pass.{end_note}
+use Rattle.av_evict.specs.System.{Adds, Always}
+use Rattle.av_evict.specs.Steps.{EndsFirst, MayStart}
+use Rattle.av_evict.specs.Turn.{MayWrite}
+use Rattle.av_evict.proofs.SystemLaws.{gives-as, gives-at, gives-then}
+use Rattle.av_evict.proofs.TurnLaws.{write-both, write-may_start}
+use Rattle.av_evict.proofs.turn.write.Goals as goal
+
+pub start-requires : goal.start-requires
+start-requires g c = let at = c.requires in (at.0, at.1, at.2, write-may_start at.0 c.args.slot at.3)
+
+pub finish_first-requires : goal.finish_first-requires
+finish_first-requires g c =
+    let s = c.args.slot in
+    gives-at _ _ _ _ (MayStart s) Always (Adds (Started s ∷ []))
+    (let at = c.requires in (at.0, at.1, at.2, write-may_start at.0 s at.3)) (c.in_ok-start.ensures false)
+    (λ l ns sound ready is after. tt)
+
+pub returns : goal.returns
+returns g c = λ told.
+    let s = c.args.slot in
+    let end = c.in_ok-end.end in
+    let failed = c.has_failed.result in
+    gives-then _ _ _ _ _ _ (MayWrite s) Always (Adds (Started s ∷ [])) (EndsFirst end) (Adds (Started s ∷ end_note failed s ∷ []))
+    (gives-as _ _ _ _ (MayStart s) (MayWrite s) (Adds (Started s ∷ [])) (Adds (Started s ∷ [])) (c.in_ok-start.ensures told)
+    (λ l sound stands may. write-may_start l s may) (λ l ns sound stands may is. is))
+    (c.in_ok-end.ensures told)
+    (λ l ns sound ready is after. tt)
+    (λ l ns ms sound may is ends. write-both l s end failed ns ms may c.has_failed.ensures is ends)

@@ -1,0 +1,6 @@
+pub mod System
+pub mod Steps
+pub mod Inactive
+pub mod Turn
+pub mod Pass
+pub mod Witness

@@ -1,0 +1,92 @@
+-- Single steps: when one may be taken, the note that tells it, and what each does with its note.
+use Rattle.std.specs.Prelude.{◌≡◌, ℕ, ◌<◌, true, false, ◌==◌, not, List, [], ◌∷◌, slice_get, Option, Some, None, is_none, is_some}
+use Rattle.av_base.specs.declared.slot.Slot.{Slot}
+use Rattle.av_trace.specs.declared.note.Note.{Note}
+use Rattle.av_trace.specs.declared.note.Note.TheVariants.{Put, Unmapped}
+use Rattle.av_plain.specs.Event.{when}
+use Rattle.av_plain.specs.Fault.{is_pinned}
+use Rattle.av_plain.specs.Ledger.{Ledger, Setting, frame_at, in_flight, is_cached, is_stale, is_unmapped, map_count, slot_entries, slot_of}
+use Rattle.av_plain.specs.Pass.{IsSlotFor, Spared, end_note, end_notes, is_stuck, unmap_notes}
+use Rattle.av_plain.specs.Sound.{uses}
+use Rattle.av_evict.specs.declared.system.WriteEnd.{WriteEnd}
+
+-- ---- when a step may be taken
+
+-- an entry names the frame, and it is not cached
+pub record MayPut (f : ℕ) (l : Ledger) : Type 0 where
+  pub uncached : slot_of l f ≡ None
+  pub mapped : 0 < map_count l f
+
+-- an entry names the frame, and it is cached
+pub record MayUnmap (f : ℕ) (l : Ledger) : Type 0 where
+  pub cached : is_some (slot_of l f) ≡ true
+  pub mapped : 0 < map_count l f
+
+-- the slot is cached, and not in flight
+pub record MayStart (s : Slot) (l : Ledger) : Type 0 where
+  pub cached : is_cached l s ≡ true
+  pub landed : in_flight l s ≡ false
+
+-- the slot is cached and not in flight; and no entry names it, or no entry names its frame, and its
+-- page is written
+pub record MayDrop (s : Slot) (l : Ledger) : Type 0 where
+  pub cached : is_cached l s ≡ true
+  pub landed : in_flight l s ≡ false
+  pub kept : (slot_entries l s == 0) ≡ false
+      → (is_unmapped l (frame_at l s) ≡ true) × (is_stale l s ≡ false)
+
+-- an entry or a slot names the frame
+abbrev pub IsUsed : ℕ → Ledger → Type 0
+IsUsed f l = 0 < uses l f
+
+-- ---- the note of a step, if there is one
+
+-- the `put` of a frame that was given this slot, or none
+abbrev pub put_notes : ℕ → Option Slot → List Note
+put_notes f None = []
+put_notes f (Some s) = Put f s ∷ []
+
+-- the slot whose write ended
+abbrev pub slot_of_end : Option WriteEnd → Option Slot
+slot_of_end None = None
+slot_of_end (Some end) = Some end.slot
+
+-- and how
+abbrev pub notes_of_end : Option WriteEnd → List Note
+notes_of_end None = []
+notes_of_end (Some end) = end_note end.failed end.slot ∷ []
+
+-- ---- steps with their notes
+
+-- what is left alone: the pinned frame, if there is one, and the swap area that is closing
+abbrev pub spares : Option ℕ → Option ℕ → Spared
+spares closing pinned = record { frame = is_pinned pinned; closing = closing }
+
+-- the first write in flight has ended so, and its slot was dropped where it was an orphan then
+abbrev pub EndsFirst : Option WriteEnd → Ledger → List Note → Type 0
+EndsFirst None l notes = (l.flight ≡ []) × (notes ≡ [])
+EndsFirst (Some end) l notes =
+    (Some end.slot ≡ slice_get l.flight 0) × (notes ≡ end_notes l end.slot end.failed)
+
+-- the frame has this slot, and no entry any more; or there is none for it
+abbrev pub IsSent : Setting → Option ℕ → ℕ → Option Slot → Ledger → List Note → Type 0
+IsSent m closing f None l notes = (is_stuck m (spares closing None) l f ≡ true) × (notes ≡ [])
+IsSent m closing f (Some s) l notes =
+    (is_stuck m (spares closing None) l f ≡ false) × IsSlotFor m (spares closing None) l f s
+    × (notes ≡ unmap_notes l f s)
+
+-- the first half: it has this slot
+abbrev pub GetsSlot : Setting → Option ℕ → ℕ → Option Slot → Ledger → List Note → Type 0
+GetsSlot m closing f None l notes =
+    (is_stuck m (spares closing None) l f ≡ true) × (notes ≡ [])
+GetsSlot m closing f (Some s) l notes =
+    (is_stuck m (spares closing None) l f ≡ false) × IsSlotFor m (spares closing None) l f s
+    × (notes ≡ when (is_none (slot_of l f)) (Put f s))
+
+-- the frame is cached
+abbrev pub IsInCache : ℕ → Ledger → Type 0
+IsInCache f l = is_some (slot_of l f) ≡ true
+
+-- the second half: no entry any more
+abbrev pub IsUnmapped : ℕ → Ledger → List Note → Type 0
+IsUnmapped f l notes = notes ≡ when (not (map_count l f == 0)) (Unmapped f)

@@ -1,0 +1,49 @@
+-- That a step can be met: a system that stands for one ledger alone, before and after it.
+use Rattle.std.specs.Prelude.{◌≡◌, ℕ, Bool, true, false, if◌then◌else◌, List, [], ◌∷◌, Option, None, MatchOption}
+use Rattle.av_trace.specs.declared.note.Note.{Note}
+use Rattle.av_plain.specs.Areas.{Rmap}
+use Rattle.av_plain.specs.Choice.{AreaSlots, Free, IsGiven, frame_in_note, slot_in_note}
+use Rattle.av_plain.specs.Event.{after_note}
+use Rattle.av_plain.specs.Ledger.{Ledger, Setting}
+use Rattle.av_plain.specs.World.{World}
+use Rattle.av_evict.specs.System.{Does, SystemView}
+
+-- the setting, or one just like it that doesn't tell headers
+abbrev pub setting_told : Bool → Setting → Setting
+setting_told true m = m
+setting_told false m = record m { headers = None }
+
+-- the view of a system that stands for this ledger alone, with these memories, areas, anon_vmas and
+-- homes
+abbrev pub only_view : Setting → Option ℕ → Option (ℕ → List ℕ) → Free → ℕ → World → Rmap → Ledger
+    → SystemView
+only_view m closing first free faults w r l = record {
+  setting = m;
+  closing = closing;
+  free = free;
+  first = first;
+  faults = faults;
+  names = [];
+  stands = λ x. x ≡ l;
+  claims = λ v q x. (v ≡ w) × (q ≡ r);
+}
+
+-- what the note takes, if anything, is what comes next
+pub record TakesNext (m : Setting) (closing : Option ℕ) (l : Ledger) (free : Free) (note : Note)
+    : Type 0 where
+  pub frames : List ℕ
+  pub slots : AreaSlots
+  pub first : MatchOption (frame_in_note note) (free.frames ≡ frames)
+      (λ f. free.frames ≡ f ∷ frames)
+  pub slot : MatchOption (slot_in_note note) (slots ≡ free.slots)
+      (λ s. IsGiven m closing l s free.slots slots)
+
+-- then there is a system after it, whether its device tells its pages or not, and what is free in it
+-- is the same in both
+abbrev pub CanBeMet : Setting → Option ℕ → Option (ℕ → List ℕ) → Free → ℕ → World → Rmap → Ledger
+    → Note → Type 0
+CanBeMet m closing first free faults w r l note =
+    (free' : Free) × (faults' : ℕ) × (w' : Bool → World) × (r' : Rmap) × ((told : Bool) →
+    let now = setting_told told m in let page = if told then first else None in
+    Does (only_view now closing page free faults w r l)
+    (only_view now closing page free' faults' (w' told) r' (after_note note l)) l (note ∷ []))

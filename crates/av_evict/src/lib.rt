@@ -1,0 +1,24 @@
+//! Reclaim, age, completion and the search for a free frame, over the single steps of a memory
+//! system.
+//!
+//! Each call adds notes, and promises what they are in the words of the definitions (`av_plain`):
+//! from each sound ledger that the system stood for, the notes added are those of `Outcomes`,
+//! `Completes` or `Seeks`, and the system stands for the ledger after them, which is sound again.
+//! So it is whether the device's pages are told or not, and what is asked is asked of the system
+//! that doesn't tell them.
+//! Where a note finds no memory the call answers `AllocError`, and promises nothing.
+#![tactic(auto)]
+
+mod flight;
+mod inactive;
+mod pass;
+mod steps;
+mod system;
+mod turn;
+mod witness;
+
+pub use flight::complete;
+pub use inactive::{age, reclaim};
+pub use pass::{SeekEnd, seek};
+pub use system::{System, WriteEnd};
+pub use witness::steps_can_be_met;

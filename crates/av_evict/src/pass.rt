@@ -1,0 +1,181 @@
+//! The search for a free frame: where none is free, a direct pass, in which the frames in use have
+//! their turns.
+
+ghost use Rattle.std.specs.Prelude.{◌≡◌, ◌<◌, ◌∷◌, ◌++◌, ◌≤◌, ◌+◌, ℕ, List, slice_get, IfOk, OnOk, Bool, false};
+ghost use Rattle.av_plain.specs.Ledger.{has_free as is_any_free};
+ghost use Rattle.av_plain.specs.Pass.{IsPass, Seeks, out_of as numbers};
+ghost use Rattle.av_evict.specs.Pass.{AreTurns, Counts, IsEnd, IsLanded, IsNext, IsPassed, turn_order};
+ghost use Rattle.av_evict.specs.Steps.{IsUsed, spares};
+ghost use Rattle.av_evict.specs.System.{Always, Gives, IsAt, Knows, Tells};
+
+use crate::flight::complete;
+use crate::system::System;
+use crate::turn::{is_pinned, turn_unless_pinned};
+use av_trace::{Notes, OutOf};
+use std::alloc::AllocError;
+
+/// How the search for a free frame ends.
+#[derive(Clone, Copy, Drop)]
+pub enum SeekEnd {
+    /// This frame is free, and is the one that is taken next.
+    Frame(u32),
+    /// None is, and why.
+    Out(OutOf),
+}
+
+/// Finds a free frame, behind a direct pass exactly where none is free. The pass leaves the pinned
+/// frame alone.
+pub fn seek<S: System>(
+    system: &mut S,
+    pinned: Option<u32>,
+    notes: &mut Notes,
+) -> Result<SeekEnd, AllocError>
+    requires { IsAt (S.view system.old false) Always }
+    ensures seeks { IfOk result (λ end. (told : Bool) → let old = S.view system.old told in
+        Gives old (S.view system.new told) notes.old notes.new Always (λ l added.
+        Seeks old.setting (spares old.closing pinned) l added
+        × IsEnd old.setting old.closing pinned end l added)) }
+    ensures next { IfOk result (λ end. (told : Bool) →
+        IsNext end (S.view system.new told).free.frames) }
+{
+    if let Some(frame) = system.free_frame() {
+        return Ok(SeekEnd::Frame(frame));
+    }
+    let end = direct(system, pinned, notes)?;
+    Ok(end)
+}
+
+// A direct pass: all writes in flight end, and where no frame is free then, the frames in use have
+// their turns, but for the pinned one, until one is free.
+fn direct<S: System>(
+    system: &mut S,
+    pinned: Option<u32>,
+    notes: &mut Notes,
+) -> Result<SeekEnd, AllocError>
+    requires { IsAt (S.view system.old false) Always }
+    ensures pass { IfOk result (λ end. (told : Bool) → let old = S.view system.old told in
+        Gives old (S.view system.new told) notes.old notes.new Always (λ l added.
+        IsPass old.setting (spares old.closing pinned) l added
+        × IsEnd old.setting old.closing pinned end l added)) }
+    ensures next { IfOk result (λ end. (told : Bool) →
+        IsNext end (S.view system.new told).free.frames) }
+{
+    pass(system, pinned, notes)?;
+    match system.free_frame() {
+        Some(frame) => Ok(SeekEnd::Frame(frame)),
+        None => Ok(SeekEnd::Out(out_of(system, pinned))),
+    }
+}
+
+// The pass itself.
+fn pass<S: System>(system: &mut S, pinned: Option<u32>, notes: &mut Notes) -> Result<(), AllocError>
+    requires { IsAt (S.view system.old false) Always }
+    ensures { OnOk result ((told : Bool) → let old = S.view system.old told in
+        Gives old (S.view system.new told) notes.old notes.new Always
+        (IsPassed old.setting old.closing pinned)) }
+{
+    let flying = system.flight_len();
+    complete(system, flying, notes)?;
+    if has_free(system) {
+        return Ok(());
+    }
+    turns(system, pinned, notes)?;
+    Ok(())
+}
+
+// Whether a frame is free.
+fn has_free<S: System>(system: &S) -> bool
+    ensures { (told : Bool) → let now = S.view system.now told in
+        Tells now (λ l. result ≡ is_any_free now.setting l) }
+{
+    system.free_frame().is_some()
+}
+
+// The numbers that say why no frame is free.
+fn out_of<S: System>(system: &S, pinned: Option<u32>) -> OutOf
+    ensures { (told : Bool) → let now = S.view system.now told in Tells now (λ l.
+        result ≡ numbers now.setting pinned (spares now.closing pinned) l) }
+{
+    let mut noslot = 0;
+    let mut fault = 0;
+    for frame in 0..system.frames() {
+        let (without, with) = counts(system, pinned, frame);
+        noslot += without;
+        fault += with;
+    }
+    OutOf {
+        pinned: u32::from(pinned.is_some()),
+        noslot,
+        fault,
+    }
+}
+
+// What a frame adds to the numbers: to those that are not cached, and to those that are.
+fn counts<S: System>(system: &S, pinned: Option<u32>, frame: u32) -> (u32, u32)
+    requires { frame < (S.view system.now false).setting.frames }
+    ensures once { result.0 + result.1 ≤ 1 }
+    ensures counts { (told : Bool) → Tells (S.view system.now told)
+        (λ l. Counts pinned frame l result) }
+{
+    if is_pinned(pinned, frame) {
+        return (0, 0);
+    }
+    if system.slot(frame).is_some() {
+        (0, 1)
+    } else {
+        (1, 0)
+    }
+}
+
+// The frames in use have their turns, but for the pinned one, until one is free.
+fn turns<S: System>(
+    system: &mut S,
+    pinned: Option<u32>,
+    notes: &mut Notes,
+) -> Result<(), AllocError>
+    requires { IsAt (S.view system.old false) IsLanded }
+    ensures { OnOk result ((told : Bool) → let old = S.view system.old told in
+        Gives old (S.view system.new told) notes.old notes.new IsLanded
+        (AreTurns old.setting old.closing pinned)) }
+{
+    let mut next = first_in_turn(system);
+    let all = u64::from(system.inactive_len()) + u64::from(system.active_len());
+    for _turn in 0..all {
+        let Some(frame) = next else {
+            return Ok(());
+        };
+        let freed = turn_unless_pinned(system, pinned, frame, notes)?;
+        if freed {
+            return Ok(());
+        }
+        next = next_in_turn(system, frame);
+    }
+    Ok(())
+}
+
+// The frame whose turn is first: the last of inactive, else the last of active.
+fn first_in_turn<S: System>(system: &S) -> Option<u32>
+    ensures { (told : Bool) → Tells (S.view system.now told)
+        (λ l. result ≡ slice_get (turn_order l) 0) }
+{
+    match system.last_inactive() {
+        Some(frame) => Some(frame),
+        None => system.last_active(),
+    }
+}
+
+// The frame whose turn is next: the one before in its list, and from the head of inactive the last
+// of active.
+fn next_in_turn<S: System>(system: &S, frame: u32) -> Option<u32>
+    requires { Knows (S.view system.now false) (IsUsed frame) }
+    ensures { (told : Bool) → Tells (S.view system.now told) (λ l. (ahead behind : List ℕ) →
+        turn_order l ≡ ahead ++ frame ∷ behind → result ≡ slice_get behind 0) }
+{
+    if let Some(before) = system.before(frame) {
+        return Some(before);
+    }
+    if system.is_inactive(frame) {
+        return system.last_active();
+    }
+    None
+}

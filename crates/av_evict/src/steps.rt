@@ -1,0 +1,146 @@
+//! Single steps with their notes.
+
+ghost use Rattle.std.specs.Prelude.{◌≡◌, ◌∷◌, [], OnOk, IfOk, Bool, false};
+ghost use Rattle.av_trace.specs.declared.note.Note.TheVariants.{Aged, Dropped, Kept, Started};
+ghost use Rattle.av_plain.specs.Pass.{end_note as note_of};
+ghost use Rattle.av_evict.specs.Steps.{EndsFirst, GetsSlot, IsInCache, IsSent, IsUnmapped, IsUsed, MayDrop, MayStart};
+ghost use Rattle.av_evict.specs.System.{Adds, Always, Gives, IsAt};
+
+use crate::system::{System, WriteEnd};
+use av_base::Slot;
+use av_trace::{Cause, Note, Notes};
+use std::alloc::AllocError;
+
+/// Ends the first write in flight, if there is one, and drops its slot where that is an orphan
+/// then.
+pub fn finish_first<S: System>(
+    system: &mut S,
+    notes: &mut Notes,
+) -> Result<Option<WriteEnd>, AllocError>
+    requires { IsAt (S.view system.old false) Always }
+    ensures { IfOk result (λ end. (told : Bool) → Gives (S.view system.old told)
+        (S.view system.new told) notes.old notes.new Always (EndsFirst end)) }
+{
+    let Some(end) = system.finish() else {
+        return Ok(None);
+    };
+    notes.push(end_note(end))?;
+    if system.is_orphan(end.slot) {
+        system.drop_slot(end.slot);
+        notes.push(Note::Dropped(end.slot))?;
+    }
+    Ok(Some(end))
+}
+
+/// The note of how a write ended.
+fn end_note(end: WriteEnd) -> Note
+    ensures { result ≡ note_of end.failed end.slot }
+{
+    if end.failed {
+        Note::Failed(end.slot)
+    } else {
+        Note::Written(end.slot)
+    }
+}
+
+/// Puts the write of a cached slot last in flight.
+pub fn start<S: System>(system: &mut S, slot: Slot, notes: &mut Notes) -> Result<(), AllocError>
+    requires { IsAt (S.view system.old false) (MayStart slot) }
+    ensures { OnOk result ((told : Bool) → Gives (S.view system.old told) (S.view system.new told)
+        notes.old notes.new (MayStart slot) (Adds (Started slot ∷ []))) }
+{
+    system.start(slot);
+    notes.push(Note::Started(slot))?;
+    Ok(())
+}
+
+/// Takes a slot out of the cache.
+pub fn drop_slot<S: System>(system: &mut S, slot: Slot, notes: &mut Notes) -> Result<(), AllocError>
+    requires { IsAt (S.view system.old false) (MayDrop slot) }
+    ensures { OnOk result ((told : Bool) → Gives (S.view system.old told) (S.view system.new told)
+        notes.old notes.new (MayDrop slot) (Adds (Dropped slot ∷ []))) }
+{
+    system.drop_slot(slot);
+    notes.push(Note::Dropped(slot))?;
+    Ok(())
+}
+
+/// Sends a frame in use to its slot: caches it at the next one where it isn't cached, and unmaps it
+/// where an entry names it. Without a slot it stays as it is.
+pub fn send<S: System>(
+    system: &mut S,
+    frame: u32,
+    notes: &mut Notes,
+) -> Result<Option<Slot>, AllocError>
+    requires { IsAt (S.view system.old false) (IsUsed frame) }
+    ensures { IfOk result (λ slot. (told : Bool) → let old = S.view system.old told in
+        Gives old (S.view system.new told) notes.old notes.new (IsUsed frame)
+        (IsSent old.setting old.closing frame slot)) }
+{
+    let Some(slot) = slot_for(system, frame, notes)? else {
+        return Ok(None);
+    };
+    unmap(system, frame, notes)?;
+    Ok(Some(slot))
+}
+
+// The slot of a frame in use: it is cached at the next one where it isn't cached yet.
+fn slot_for<S: System>(
+    system: &mut S,
+    frame: u32,
+    notes: &mut Notes,
+) -> Result<Option<Slot>, AllocError>
+    requires { IsAt (S.view system.old false) (IsUsed frame) }
+    ensures { IfOk result (λ slot. (told : Bool) → let old = S.view system.old told in
+        Gives old (S.view system.new told) notes.old notes.new (IsUsed frame)
+        (GetsSlot old.setting old.closing frame slot)) }
+{
+    if let Some(slot) = system.slot(frame) {
+        return Ok(Some(slot));
+    }
+    let Some(slot) = system.put(frame) else {
+        return Ok(None);
+    };
+    notes.push(Note::Put { frame, slot })?;
+    Ok(Some(slot))
+}
+
+// Unmaps a cached frame where an entry names it.
+fn unmap<S: System>(system: &mut S, frame: u32, notes: &mut Notes) -> Result<(), AllocError>
+    requires { IsAt (S.view system.old false) (IsInCache frame) }
+    ensures { OnOk result ((told : Bool) → Gives (S.view system.old told) (S.view system.new told)
+        notes.old notes.new (IsInCache frame) (IsUnmapped frame)) }
+{
+    if system.is_mapped(frame) {
+        system.unmap(frame)?;
+        notes.push(Note::Unmapped(frame))?;
+    }
+    Ok(())
+}
+
+/// Moves a frame in use to the head of the list that the cause names.
+pub fn keep<S: System>(
+    system: &mut S,
+    frame: u32,
+    cause: Cause,
+    notes: &mut Notes,
+) -> Result<(), AllocError>
+    requires { IsAt (S.view system.old false) (IsUsed frame) }
+    ensures { OnOk result ((told : Bool) → Gives (S.view system.old told) (S.view system.new told)
+        notes.old notes.new (IsUsed frame) (Adds (Kept frame cause ∷ []))) }
+{
+    system.keep(frame, cause);
+    notes.push(Note::Kept { frame, cause })?;
+    Ok(())
+}
+
+/// Moves a frame in use to the head of inactive.
+pub fn age_one<S: System>(system: &mut S, frame: u32, notes: &mut Notes) -> Result<(), AllocError>
+    requires { IsAt (S.view system.old false) (IsUsed frame) }
+    ensures { OnOk result ((told : Bool) → Gives (S.view system.old told) (S.view system.new told)
+        notes.old notes.new (IsUsed frame) (Adds (Aged frame ∷ []))) }
+{
+    system.age(frame);
+    notes.push(Note::Aged(frame))?;
+    Ok(())
+}

@@ -1,0 +1,163 @@
+//! A memory system in single steps, each known by what it does to the ledger.
+
+ghost use Rattle.std.specs.Prelude.{◌≡◌, ◌<◌, ◌∷◌, ◌++◌, [], length, ℕ, List, not, ◌==◌, reverse, slice_get, OnOk, Some, MatchOption, false, true, Bool};
+ghost use Rattle.av_base.specs.Words.{is_in};
+ghost use Rattle.av_base.specs.declared.slot.Slot.{Slot};
+ghost use Rattle.av_trace.specs.declared.note.Note.TheVariants.{Aged, Dropped, Kept, Started, Unmapped};
+ghost use Rattle.av_plain.specs.Ledger.{has_free, in_flight, is_free, is_orphan, is_stale, map_count, may_give, no_slot, slot_of};
+ghost use Rattle.av_plain.specs.Reclaim.{is_referenced};
+ghost use Rattle.av_evict.specs.Steps.{IsUsed, MayDrop, MayPut, MayStart, MayUnmap, notes_of_end, put_notes, slot_of_end};
+ghost use Rattle.av_evict.specs.System.{Always, Knows, Makes, SystemView, Tells};
+
+use av_base::Slot;
+use av_trace::Cause;
+use std::alloc::AllocError;
+
+/// How the write of a slot ended.
+#[derive(Clone, Copy, Drop)]
+pub struct WriteEnd {
+    pub slot: Slot,
+    pub failed: bool,
+}
+
+/// A memory system with its device. What it stands for is said by the ledgers that its view names.
+pub trait System {
+    // What is seen of it, by whether the pages of its device are told: where they aren't, it stands
+    // even if somebody else writes them, so each step asks of that alone.
+    ghost view: { Self → Bool → SystemView };
+
+    // ---- frames and slots
+
+    /// How many frames there are.
+    fn frames(&self) -> u32
+        ensures { (told : Bool) → result ≡ (view self.now told).setting.frames };
+
+    /// The free frame that is taken next. None exactly where none is free.
+    fn free_frame(&self) -> Option<u32>
+        ensures first { (told : Bool) → result ≡ slice_get (view self.now told).free.frames 0 }
+        ensures free { (told : Bool) → let now = view self.now told in Tells now (λ l.
+            MatchOption result (has_free now.setting l ≡ false)
+            (λ f. (f < now.setting.frames) × (is_free l f ≡ true))) };
+
+    /// The slot at which a frame is cached.
+    fn slot(&self, frame: u32) -> Option<Slot>
+        requires { frame < (view self.now false).setting.frames }
+        ensures { (told : Bool) → Tells (view self.now told) (λ l. result ≡ slot_of l frame) };
+
+    /// Whether an entry names the frame.
+    fn is_mapped(&self, frame: u32) -> bool
+        requires { frame < (view self.now false).setting.frames }
+        ensures { (told : Bool) → Tells (view self.now told)
+            (λ l. result ≡ not (map_count l frame == 0)) };
+
+    /// Whether a cached frame changed since its last write began.
+    fn is_dirty(&self, frame: u32) -> bool
+        requires { frame < (view self.now false).setting.frames }
+        ensures { (told : Bool) → Tells (view self.now told) (λ l. (s : Slot) →
+            slot_of l frame ≡ Some s → result ≡ is_stale l s) };
+
+    /// Whether an entry of a frame in use is seen.
+    fn is_referenced(&self, frame: u32) -> bool
+        requires { Knows (view self.now false) (IsUsed frame) }
+        ensures { (told : Bool) → Tells (view self.now told)
+            (λ l. result ≡ is_referenced l frame) };
+
+    /// Whether the write of a slot is in flight.
+    fn is_in_flight(&self, slot: Slot) -> bool
+        ensures { (told : Bool) → Tells (view self.now told) (λ l. result ≡ in_flight l slot) };
+
+    /// Whether neither an entry names a cached slot nor one its frame, and it is not in flight.
+    fn is_orphan(&self, slot: Slot) -> bool
+        ensures { (told : Bool) → Tells (view self.now told) (λ l. result ≡ is_orphan l slot) };
+
+    // ---- lists
+
+    /// How many frames are inactive.
+    fn inactive_len(&self) -> u32
+        ensures { (told : Bool) → Tells (view self.now told) (λ l. result ≡ length l.inactive) };
+
+    /// The inactive frame at the tail.
+    fn last_inactive(&self) -> Option<u32>
+        ensures { (told : Bool) → Tells (view self.now told)
+            (λ l. result ≡ slice_get (reverse l.inactive) 0) };
+
+    /// How many frames are active.
+    fn active_len(&self) -> u32
+        ensures { (told : Bool) → Tells (view self.now told) (λ l. result ≡ length l.active) };
+
+    /// The active frame at the tail.
+    fn last_active(&self) -> Option<u32>
+        ensures { (told : Bool) → Tells (view self.now told)
+            (λ l. result ≡ slice_get (reverse l.active) 0) };
+
+    /// Whether a frame in use is inactive.
+    fn is_inactive(&self, frame: u32) -> bool
+        requires { Knows (view self.now false) (IsUsed frame) }
+        ensures { (told : Bool) → Tells (view self.now told)
+            (λ l. result ≡ is_in frame l.inactive) };
+
+    /// The frame just before one in use in its list. None where that is at the head.
+    fn before(&self, frame: u32) -> Option<u32>
+        requires { Knows (view self.now false) (IsUsed frame) }
+        ensures inactive { (told : Bool) → Tells (view self.now told) (λ l.
+            (ahead behind : List ℕ) → l.inactive ≡ ahead ++ frame ∷ behind
+            → result ≡ slice_get (reverse ahead) 0) }
+        ensures active { (told : Bool) → Tells (view self.now told) (λ l.
+            (ahead behind : List ℕ) → l.active ≡ ahead ++ frame ∷ behind
+            → result ≡ slice_get (reverse ahead) 0) };
+
+    /// How many writes are in flight.
+    fn flight_len(&self) -> u32
+        ensures { (told : Bool) → Tells (view self.now told) (λ l. result ≡ length l.flight) };
+
+    // ---- steps
+
+    /// Caches a frame at the slot that is given next. None exactly where none may be given: nothing
+    /// changes then.
+    fn put(&mut self, frame: u32) -> Option<Slot>
+        requires { Knows (view self.old false) (MayPut frame) }
+        ensures slot { (told : Bool) → let old = view self.old told in Tells old (λ l.
+            MayPut frame l → MatchOption result (no_slot old.setting old.closing l ≡ true)
+            (λ s. may_give old.setting old.closing l s ≡ true)) }
+        ensures puts { (told : Bool) → Makes (view self.old told) (view self.new told)
+            (MayPut frame) (put_notes frame result) };
+
+    /// Each entry of a cached frame becomes its slot.
+    fn unmap(&mut self, frame: u32) -> Result<(), AllocError>
+        requires { Knows (view self.old false) (MayUnmap frame) }
+        ensures { OnOk result ((told : Bool) → Makes (view self.old told) (view self.new told)
+            (MayUnmap frame) (Unmapped frame ∷ [])) };
+
+    /// Puts the write of a cached slot last in flight.
+    fn start(&mut self, slot: Slot)
+        requires { Knows (view self.old false) (MayStart slot) }
+        ensures { (told : Bool) → Makes (view self.old told) (view self.new told) (MayStart slot)
+            (Started slot ∷ []) };
+
+    /// Ends the first write in flight. None exactly where none is in flight.
+    fn finish(&mut self) -> Option<WriteEnd>
+        requires { Knows (view self.old false) Always }
+        ensures first { (told : Bool) → Tells (view self.old told)
+            (λ l. slot_of_end result ≡ slice_get l.flight 0) }
+        ensures ends { (told : Bool) → Makes (view self.old told) (view self.new told) Always
+            (notes_of_end result) };
+
+    /// Takes a slot out of the cache.
+    fn drop_slot(&mut self, slot: Slot)
+        requires { Knows (view self.old false) (MayDrop slot) }
+        ensures { (told : Bool) → Makes (view self.old told) (view self.new told) (MayDrop slot)
+            (Dropped slot ∷ []) };
+
+    /// Moves a frame in use to the head of the list that the cause names. A referenced one is not
+    /// seen any more.
+    fn keep(&mut self, frame: u32, cause: Cause)
+        requires { Knows (view self.old false) (IsUsed frame) }
+        ensures { (told : Bool) → Makes (view self.old told) (view self.new told) (IsUsed frame)
+            (Kept frame cause ∷ []) };
+
+    /// Moves a frame in use to the head of inactive. It is not seen any more.
+    fn age(&mut self, frame: u32)
+        requires { Knows (view self.old false) (IsUsed frame) }
+        ensures { (told : Bool) → Makes (view self.old told) (view self.new told) (IsUsed frame)
+            (Aged frame ∷ []) };
+}

@@ -1,0 +1,118 @@
+//! A frame's turn in the direct pass.
+
+ghost use Rattle.std.specs.Prelude.{◌≡◌, ◌∷◌, [], IfOk, Bool, false};
+ghost use Rattle.av_trace.specs.declared.note.Note.TheVariants.{Started};
+ghost use Rattle.av_plain.specs.Fault.{is_pinned as pins};
+ghost use Rattle.av_plain.specs.Pass.{end_note};
+ghost use Rattle.av_evict.specs.System.{Adds, Gives, IsAt};
+ghost use Rattle.av_evict.specs.Turn.{IsCleaned, IsEvicted, IsSentTo, IsTurn, IsTurnUnlessPinned, MayTurn, MayWrite, has_failed as failed_in};
+
+use crate::steps::{drop_slot, finish_first, send, start};
+use crate::system::{System, WriteEnd};
+use av_base::Slot;
+use av_trace::Notes;
+use std::alloc::AllocError;
+
+/// A frame in use has its turn, unless it is pinned. Whether it is free then.
+pub fn turn_unless_pinned<S: System>(
+    system: &mut S,
+    pinned: Option<u32>,
+    frame: u32,
+    notes: &mut Notes,
+) -> Result<bool, AllocError>
+    requires { IsAt (S.view system.old false) (MayTurn frame) }
+    ensures { IfOk result (λ freed. (told : Bool) → let old = S.view system.old told in
+        Gives old (S.view system.new told) notes.old notes.new (MayTurn frame)
+        (IsTurnUnlessPinned old.setting old.closing pinned frame freed)) }
+{
+    if is_pinned(pinned, frame) {
+        return Ok(false);
+    }
+    let freed = turn(system, frame, notes)?;
+    Ok(freed)
+}
+
+/// Whether it is the frame that a pass leaves alone.
+pub fn is_pinned(pinned: Option<u32>, frame: u32) -> bool
+    ensures { result ≡ pins pinned frame }
+{
+    match pinned {
+        Some(pinned) => pinned == frame,
+        None => false,
+    }
+}
+
+// A frame in use has its turn. Whether it is free then.
+fn turn<S: System>(system: &mut S, frame: u32, notes: &mut Notes) -> Result<bool, AllocError>
+    requires { IsAt (S.view system.old false) (MayTurn frame) }
+    ensures { IfOk result (λ freed. (told : Bool) → let old = S.view system.old told in
+        Gives old (S.view system.new told) notes.old notes.new (MayTurn frame)
+        (IsTurn old.setting old.closing frame freed)) }
+{
+    let Some(slot) = send(system, frame, notes)? else {
+        return Ok(false);
+    };
+    let freed = evict(system, frame, slot, notes)?;
+    Ok(freed)
+}
+
+// Drops the slot of a frame that was sent to it, unless its page has to be written and that fails.
+// Whether the frame is free then.
+fn evict<S: System>(
+    system: &mut S,
+    frame: u32,
+    slot: Slot,
+    notes: &mut Notes,
+) -> Result<bool, AllocError>
+    requires { IsAt (S.view system.old false) (IsSentTo frame slot) }
+    ensures { IfOk result (λ freed. (told : Bool) → Gives (S.view system.old told)
+        (S.view system.new told) notes.old notes.new (IsSentTo frame slot) (IsEvicted slot freed)) }
+{
+    let failed = clean(system, frame, slot, notes)?;
+    if failed {
+        return Ok(false);
+    }
+    drop_slot(system, slot, notes)?;
+    Ok(true)
+}
+
+// Writes a slot's page at once where it is stale. Whether that failed.
+fn clean<S: System>(
+    system: &mut S,
+    frame: u32,
+    slot: Slot,
+    notes: &mut Notes,
+) -> Result<bool, AllocError>
+    requires { IsAt (S.view system.old false) (IsSentTo frame slot) }
+    ensures { IfOk result (λ failed. (told : Bool) → Gives (S.view system.old told)
+        (S.view system.new told) notes.old notes.new (IsSentTo frame slot)
+        (IsCleaned slot failed)) }
+{
+    if !system.is_dirty(frame) {
+        return Ok(false);
+    }
+    let failed = write(system, slot, notes)?;
+    Ok(failed)
+}
+
+// Writes a slot's page at once. Whether that failed.
+fn write<S: System>(system: &mut S, slot: Slot, notes: &mut Notes) -> Result<bool, AllocError>
+    requires { IsAt (S.view system.old false) (MayWrite slot) }
+    ensures { IfOk result (λ failed. (told : Bool) → Gives (S.view system.old told)
+        (S.view system.new told) notes.old notes.new (MayWrite slot)
+        (Adds (Started slot ∷ end_note failed slot ∷ []))) }
+{
+    start(system, slot, notes)?;
+    let end = finish_first(system, notes)?;
+    Ok(has_failed(end))
+}
+
+// Whether a write that ended failed.
+fn has_failed(end: Option<WriteEnd>) -> bool
+    ensures { result ≡ failed_in end }
+{
+    match end {
+        Some(end) => end.failed,
+        None => false,
+    }
+}
