@@ -39,6 +39,7 @@ CARRIERS = {
     "no_device_has_no_faults no_area_on_has_no_faults",
     "av_laws": "refusals_change_nothing numbers_add_up replies_are_determined "
     "replies_of_runs_are_read_back runs_lay_areas runs_cover_entries",
+    "av_swap_laws": "frames_are_put slots_are_loaded slots_are_dropped soundness_goes_on",
     "av_spaces": "Spaces",
     "av_mem": "Mem Keeps zap_range zap_all walk",
     "av_fork": "fork_areas fork_entries",

@@ -1,9 +1,15 @@
 -- An access goes on by one page, or stops at it.
-use Rattle.std.proofs.Common.{◌≡◌, ℕ, ◌+◌, ◌-◌, ◌*◌, ◌%◌, ◌<◌, ◌≤◌, Bool, true, false, List, [], ◌∷◌, ◌++◌, map, length, Option, Some, None, inl, inr, zero, suc, refl, sym, ap, subst, ◌∙◌, arith}
+use Rattle.std.proofs.Common.{◌≡◌, ℕ, ◌+◌, ◌-◌, ◌*◌, ◌%◌, ◌<◌, ◌≤◌, Bool, true, false, List, [], ◌∷◌, ◌++◌, map, length, max, Option, Some, None, option_map, inl, inr, zero, suc, refl, sym, ap, subst, ◌∙◌, arith}
 use Rattle.std.proofs.lemmas.List.{append-nil, append_assoc}
 use Rattle.av_trace.specs.declared.note.Note.{Note}
 use Rattle.std.specs.List.{range_with_len}
-use Rattle.av_plain.specs.Device.{Device, setting_of}
+use Rattle.av_io.specs.Count.{RoseBy}
+use Rattle.av_plain.specs.Device.{Device, IsSameDevice, setting_of}
+use Rattle.av_plain.specs.Pass.{fails, is_fail}
+use Rattle.av_plain.specs.Step.{failed_frames, fault_answers}
+use Rattle.av_plain.proofs.Device.{setting_same}
+use Rattle.av_plain.proofs.Ledger.{how_many-append}
+use Rattle.av_trace.specs.declared.reply.Answer.TheVariants.{Done}
 use Rattle.av_plain.specs.World.{World, lives, pages}
 use Rattle.av_plain.specs.Ledger.{Ledger, Setting}
 use Rattle.av_plain.specs.Event.{Event, Used, after_all, notes_of, note_events}
@@ -17,11 +23,14 @@ use Rattle.av_plain.proofs.AreasLeft.{rmap_after_all-append}
 use Rattle.av_plain.proofs.Access.{after_all-append, notes_of-append, notes_of-note_events, chooses-append, accesses-append, alike-by-allowed}
 use Rattle.av_mem.specs.declared.mem.Mem.{Mem}
 use Rattle.av_fault.specs.declared.fault.Stop.{Stop}
-use Rattle.av_mem.specs.Mem.{setting_by, frame_count}
+use Rattle.av_mem.specs.Mem.{setting_by, frame_count, Keeps}
+use Rattle.av_mem.proofs.MemLaws.{lives_is}
+use Rattle.av_kernel.specs.Step.{IsSteadyFor}
 use Rattle.av_kernel.specs.Page.{IsPageStep, ShowsPiece, world_after}
-use Rattle.av_kernel.specs.Access.{IsAccess, IsPiece, world_served}
+use Rattle.av_kernel.specs.Access.{IsAccess, IsPiece, answer_at, causes_of_access, world_served}
 use Rattle.av_fault.specs.Fault.{stop_of}
 use Rattle.av_kernel.specs.declared.access.Piece.{Piece}
+use Rattle.av_kernel.proofs.StepLaws.{same_then}
 use Rattle.av_kernel.proofs.AccessPages.{touches, touched-one, touched-more}
 use Rattle.av_kernel.proofs.AccessBytes.{reads-more, stored_twice, allowed-stored, lives-stored}
 
@@ -47,9 +56,29 @@ stop_answer-world true p page at ys stop w = refl
 stop_answer-world false p page at ys stop w = refl
 
 -- the process lives on after a part of an access
-pub still_lives : {d : Device} {s : State} {mid : Mem} {write : Bool} {p a k : ℕ} {xs : List ℕ} {before now : List Note} → lives s.world p ≡ true →
-    (h : IsAccess d s mid write p a k xs before now None k) → lives h.next.world p ≡ true
-still_lives {d} {s} {mid} {write} {p} {a} {k} {xs} lived h = ap (λ w. lives w p) h.world ∙ lives-served s.world write p a xs lived
+pub still_lives : {d d' : Device} {s : State} {mid : Mem} {write : Bool} {p a k : ℕ} {xs : List ℕ} {before now : List Note} → lives s.world p ≡ true →
+    (h : IsAccess d d' s mid write p a k xs before now None k) → lives h.next.world p ≡ true
+still_lives {d} {d'} {s} {mid} {write} {p} {a} {k} {xs} lived h = ap (λ w. lives w p) h.world ∙ lives-served s.world write p a xs lived
+
+-- and after a page of it
+page-lives : (w : World) (write : Bool) (p page at : ℕ) (ys : List ℕ) (end : Option Stop) → lives w p ≡ true →
+    lives (world_after write p page at ys end w) p ≡ true
+page-lives w true p page at ys None h = lives-stored w p (4096 * page + at) ys h
+page-lives w true p page at ys (Some stop) h = h
+page-lives w false p page at ys end h = h
+
+-- ---- what is there of the memory system
+
+-- a process that lives does so in the memory system
+pub steady-for : (d : Device) (sizes : ℕ → Option ℕ) (k : Mem) (s : State) (p : ℕ) → d.sizes ≡ sizes → Keeps d k s → lives s.world p ≡ true →
+    IsSteadyFor sizes p k
+steady-for d sizes k s p same keeps alive = ((d, same, s, keeps), lives_is d k s keeps p ∙ alive)
+
+-- so it is after a page
+pub page-steady : {d d' : Device} (sizes : ℕ → Option ℕ) (s : State) (new : Mem) (write : Bool) (p page at : ℕ) (ys : List ℕ) (before now : List Note)
+    (end : Option Stop) → d.sizes ≡ sizes → lives s.world p ≡ true → IsPageStep d d' s new write p page at ys before now end → IsSteadyFor sizes p new
+page-steady {d} {d'} sizes s new write p page at ys before now end same alive h = steady-for d' sizes new h.next p (h.same.sizes ∙ same) h.keeps
+    (ap (λ w. lives w p) h.world ∙ page-lives s.world write p page at ys end alive)
 
 -- ---- what happens at one page
 
@@ -68,6 +97,20 @@ one_stopped : (m : Setting) (w : World) (l : Ledger) (write : Bool) (p page : �
     → Accesses m w l p ((write, page) ∷ rest) (page_events write (p, page) added (Some stop)) (Stopped page stop)
 one_stopped m w l write p page rest added stop h = inr (added, stop, h, refl, refl)
 
+-- ---- what only faults explain
+
+rose-both : (m n k a b c : ℕ) → RoseBy m a b → RoseBy n b c → k ≤ m + n → RoseBy k a c
+rose-both m n k a b c h g few = omega (arith, h, g, few)
+
+causes-append : (xs ys : List Note) (end : Option Stop) (a b c : ℕ) → RoseBy (causes_of_access xs None) a b → RoseBy (causes_of_access ys end) b c →
+    RoseBy (causes_of_access (xs ++ ys) end) a c
+causes-append xs ys end a b c h g = rose-both (causes_of_access xs None) (causes_of_access ys end) (causes_of_access (xs ++ ys) end) a b c h g
+    (let both = how_many-append is_fail xs ys in few (fails (xs ++ ys)) (fails xs) (fails ys)
+    (failed_frames (answer_at end Done 0 [])) (fault_answers (answer_at end Done 0 [])) both)
+  where
+    few : (f m n x y : ℕ) → f ≡ m + n → max f x + y ≤ (max m 0 + 0) + (max n x + y)
+    few f m n x y is = omega (arith, is)
+
 -- ---- the access goes on
 
 -- k bytes were served, and a piece begins behind them
@@ -76,8 +119,8 @@ record Behind (a k page at : ℕ) : Type 0 where
   small : at < 4096
   begins : 1 ≤ k → at ≡ 0
 
-module _ {d : Device} (s : State) (mid new : Mem) (write : Bool) (p a k page at : ℕ) (xs ys : List ℕ) (before now after : List Note)
-    (same : frame_count new ≡ frame_count mid) (behind : Behind a k page at) (h : IsAccess d s mid write p a k xs before now None k) where
+module _ {d d' : Device} (s : State) (mid new : Mem) (write : Bool) (p a k page at : ℕ) (xs ys : List ℕ) (before now after : List Note)
+    (same : frame_count new ≡ frame_count mid) (behind : Behind a k page at) (h : IsAccess d d' s mid write p a k xs before now None k) where
   notes-both : (end : Option faults.Stop) (added : List Note) → after ≡ now ++ added →
       after ≡ before ++ notes_of (h.events ++ page_events write (p, page) added end)
   notes-both end added is = is ∙ ap (λ ns. ns ++ added) h.notes ∙ append_assoc before (notes_of h.events) added
@@ -107,29 +150,52 @@ module _ {d : Device} (s : State) (mid new : Mem) (write : Bool) (p a k page at 
       r ≡ rmap_after_all s.ledger (h.events ++ more) (rmap_of s)
   rmap-both more r is = is ∙ (λ i. rmap_after_all (h.ledger i) more (h.rmap i)) ∙ sym (rmap_after_all-append s.ledger h.events more (rmap_of s))
 
+  -- the page's step is over the device as it is then, which is the same
+  setting-same : setting_by d' new ≡ setting_by d new
+  setting-same = setting_same (frame_count new) d d' h.same
+
+  module _ {d'' : Device} (end : Option Stop) (g : IsPageStep d' d'' h.next new write p page at ys now after end) where
+    touches-same : Touches (setting_by d new) h.next.world h.next.ledger write (p, page) g.added (option_map stop_of end)
+    touches-same = subst (λ m. Touches m h.next.world h.next.ledger write (p, page) g.added (option_map stop_of end)) setting-same g.touches
+
+    free-same : ChoosesAll (setting_by d new) None h.next.ledger (page_events write (p, page) g.added (option_map stop_of end)) h.next.free g.next.free
+    free-same = subst (λ m. ChoosesAll m None h.next.ledger (page_events write (p, page) g.added (option_map stop_of end)) h.next.free g.next.free)
+        setting-same g.free
+
+    device-same : IsSameDevice d d''
+    device-same = same_then d d' d'' h.same g.same
+
+    faults-both : RoseBy (causes_of_access (notes_of (h.events ++ page_events write (p, page) g.added (option_map stop_of end))) end) d.faults d''.faults
+    faults-both = subst (λ ns. RoseBy (causes_of_access ns end) d.faults d''.faults)
+        (sym (notes_of-append h.events (page_events write (p, page) g.added (option_map stop_of end))
+        ∙ ap (λ ns. notes_of h.events ++ ns) (notes-happening write (p, page) g.added (option_map stop_of end))))
+        (causes-append (notes_of h.events) g.added end d.faults d'.faults d''.faults h.faults g.faults)
+
   -- by m bytes of the page
-  goes_on : (m : ℕ) → at + m ≤ 4096 → 1 ≤ m → (write ≡ true → length xs ≡ k) → IsPageStep d h.next new write p page at ys now after None
-      → IsAccess d s new write p a (k + m) (xs ++ ys) before after None (k + m)
+  goes_on : {d'' : Device} (m : ℕ) → at + m ≤ 4096 → 1 ≤ m → (write ≡ true → length xs ≡ k) → IsPageStep d' d'' h.next new write p page at ys now after None
+      → IsAccess d d'' s new write p a (k + m) (xs ++ ys) before after None (k + m)
   goes_on m small some long g = record {
     events = h.events ++ page_events write (p, page) g.added None;
     notes = notes-both None g.added g.notes;
     end = Whole;
     accesses = subst (λ pages. Accesses (setting_by d new) s.world s.ledger p pages (h.events ++ page_events write (p, page) g.added None) Whole)
         (sym (touched-one write a k m page at behind.is small some behind.begins))
-        (accesses-both ((write, page) ∷ []) _ Whole (one_served _ h.next.world h.next.ledger write p page g.added g.touches));
+        (accesses-both ((write, page) ∷ []) _ Whole (one_served _ h.next.world h.next.ledger write p page g.added (touches-same None g)));
     is_end = (refl, refl);
     next = g.next;
     world = g.world ∙ ap (world_after write p page at ys None) h.world ∙ served_twice s.world write p a page at xs ys
         (λ is. behind.is ∙ ap (λ n. a + n) (sym (long is)));
     ledger = ledger-both _ _ g.ledger;
-    free = free-both _ _ g.free;
+    free = free-both _ _ (free-same None g);
     rmap = rmap-both _ _ g.rmap;
     keeps = g.keeps;
+    same = device-same None g;
+    faults = faults-both None g;
   }
 
   -- or stops there
-  stops : (n : ℕ) (stop : Stop) → k < n → IsPageStep d h.next new write p page at ys now after (Some stop)
-      → IsAccess d s new write p a n xs before after (Some stop) k
+  stops : {d'' : Device} (n : ℕ) (stop : Stop) → k < n → IsPageStep d' d'' h.next new write p page at ys now after (Some stop)
+      → IsAccess d d'' s new write p a n xs before after (Some stop) k
   stops n stop less g = record {
     events = h.events ++ page_events write (p, page) g.added (Some (stop_of stop));
     notes = notes-both (Some (stop_of stop)) g.added g.notes;
@@ -138,14 +204,16 @@ module _ {d : Device} (s : State) (mid new : Mem) (write : Bool) (p a k page at 
         (h.events ++ page_events write (p, page) g.added (Some (stop_of stop)))
         (Stopped page (stop_of stop))) (sym (touched-more write a k n page at behind.is behind.small less behind.begins))
         (accesses-both ((write, page) ∷ map (λ page. (write, page)) (range_with_len (page + 1) (touches a n - (touches a k + 1)))) _ _
-        (one_stopped _ h.next.world h.next.ledger write p page _ g.added (stop_of stop) g.touches));
+        (one_stopped _ h.next.world h.next.ledger write p page _ g.added (stop_of stop) (touches-same (Some stop) g)));
     is_end = (page, refl, served k behind.is behind.begins, less);
     next = g.next;
     world = g.world ∙ stop_answer-world write p page at ys stop h.next.world ∙ h.world;
     ledger = ledger-both _ _ g.ledger;
-    free = free-both _ _ g.free;
+    free = free-both _ _ (free-same (Some stop) g);
     rmap = rmap-both _ _ g.rmap;
     keeps = g.keeps;
+    same = device-same (Some stop) g;
+    faults = faults-both (Some stop) g;
   }
     where
       served : (k : ℕ) → 4096 * page + at ≡ a + k → (1 ≤ k → at ≡ 0) → k ≡ 4096 * page - a
@@ -179,24 +247,24 @@ none_left None h = refl
 none_left (Some stop) h = absurd (h stop refl)
 
 -- a page's step is taken from where the access stands
-module _ {d : Device} (s : State) (mid new : Mem) (write : Bool) (p a n k : ℕ) (piece : Piece) (xs ys : List ℕ) (before now after : List Note) (end : Option Stop)
+module _ {d d' : Device} (s : State) (mid new : Mem) (write : Bool) (p a n k : ℕ) (piece : Piece) (xs ys : List ℕ) (before now after : List Note) (end : Option Stop)
     (same : frame_count new ≡ frame_count mid) (is : IsPiece a n k piece) (less : k < n) (begins : 1 ≤ k → k < n → (a + k) % 4096 ≡ 0)
-    (h : IsAccess d s mid write p a k xs before now None k) where
+    (h : IsAccess d d' s mid write p a k xs before now None k) where
   behind : Behind a k piece.page piece.at
   behind = behind-piece a n k piece is less begins
 
-  pub piece-served : IsPageStep d h.next new write p piece.page piece.at ys now after end → ((stop : Stop) → end ≡ Some stop → ⊥) →
+  pub piece-served : {d'' : Device} → IsPageStep d' d'' h.next new write p piece.page piece.at ys now after end → ((stop : Stop) → end ≡ Some stop → ⊥) →
       (write ≡ true → length xs ≡ k) → (zs : List ℕ) → xs ++ ys ≡ zs
-      → IsAccess d s new write p a (k + piece.len) zs before after None (k + piece.len)
-  piece-served g none long zs whole = subst (λ zs. IsAccess d s new write p a (k + piece.len) zs before after None (k + piece.len)) whole
+      → IsAccess d d'' s new write p a (k + piece.len) zs before after None (k + piece.len)
+  piece-served {d''} g none long zs whole = subst (λ zs. IsAccess d d'' s new write p a (k + piece.len) zs before after None (k + piece.len)) whole
       (goes_on s mid new write p a k piece.page piece.at xs ys before now after same behind h piece.len (piece-in_page a n k piece is)
       (piece-some a n k piece is less) long
-      (subst (λ end. IsPageStep d h.next new write p piece.page piece.at ys now after end) (none_left end none) g))
+      (subst (λ end. IsPageStep d' d'' h.next new write p piece.page piece.at ys now after end) (none_left end none) g))
 
-  pub piece-stopped : IsPageStep d h.next new write p piece.page piece.at ys now after end → (stop : Stop) → end ≡ Some stop →
-      IsAccess d s new write p a n xs before after (Some stop) k
-  piece-stopped g stop some = stops s mid new write p a k piece.page piece.at xs ys before now after same behind h n stop less
-      (subst (λ end. IsPageStep d h.next new write p piece.page piece.at ys now after end) some g)
+  pub piece-stopped : {d'' : Device} → IsPageStep d' d'' h.next new write p piece.page piece.at ys now after end → (stop : Stop) → end ≡ Some stop →
+      IsAccess d d'' s new write p a n xs before after (Some stop) k
+  piece-stopped {d''} g stop some = stops s mid new write p a k piece.page piece.at xs ys before now after same behind h n stop less
+      (subst (λ end. IsPageStep d' d'' h.next new write p piece.page piece.at ys now after end) some g)
 
 -- the piece that was served is shown too
 pub piece-shown : (w w' : World) (p a n k : ℕ) (piece : Piece) (shown now : List ℕ) (end : Option Stop) → w' ≡ w → IsPiece a n k piece →

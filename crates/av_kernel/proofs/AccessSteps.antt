@@ -1,5 +1,5 @@
 -- A whole access is a step, by how it ended.
-use Rattle.std.proofs.Common.{◌≡◌, ℕ, Bool, true, false, not, cond, List, [], length, take, ◌++◌, Option, Some, None, refl, sym, ap, subst, ◌∙◌}
+use Rattle.std.proofs.Common.{◌≡◌, ℕ, ◌+◌, max, Bool, true, false, not, cond, List, [], length, take, ◌++◌, Option, Some, None, refl, sym, ap, subst, ◌∙◌}
 use Rattle.std.specs.Prelude.{MatchOption}
 use Rattle.std.proofs.Math.Seq.{take-length}
 use Rattle.av_trace.specs.declared.note.Note.{Note}
@@ -13,7 +13,9 @@ use Rattle.av_plain.specs.Device.{Device, setting_of}
 use Rattle.av_plain.specs.Fork.{IsRmapNext}
 use Rattle.av_plain.specs.World.{World, lives, pages}
 use Rattle.av_plain.specs.Access.{Accesses, End, Whole, Stopped, pages_of_access, bytes_before, stop_answer, Reads, after_write}
-use Rattle.av_plain.specs.Step.{next}
+use Rattle.av_io.specs.Count.{RoseBy}
+use Rattle.av_plain.specs.Pass.{fails}
+use Rattle.av_plain.specs.Step.{causes, failed_frames, fault_answers, next}
 use Rattle.av_plain.specs.Choice.{ChoosesAll}
 use Rattle.av_plain.specs.Transcript.{State, rmap_of}
 use Rattle.av_plain.specs.Event.{Event, notes_of}
@@ -27,7 +29,7 @@ use Rattle.av_mem.specs.Mem.{Keeps, setting_by, frame_count}
 use Rattle.av_fault.specs.Fault.{stop_of}
 use Rattle.av_plain.proofs.Transcript.{is_fork, next-plain}
 use Rattle.av_kernel.specs.Step.{MemSteps}
-use Rattle.av_kernel.specs.Access.{IsAccess, answer_at, answer_of}
+use Rattle.av_kernel.specs.Access.{IsAccess, answer_at, answer_of, causes_of_access}
 use Rattle.av_kernel.proofs.StepLaws.{left_alone}
 use Rattle.av_kernel.proofs.Loads.{accesses-load_nothing, world_as}
 use Rattle.av_plain.specs.Load.{with_loads}
@@ -58,11 +60,11 @@ world-stopped w p a k bytes (Oom out) = refl
 module _ {d : Device} (s : State) (old new : Mem) (p a : ℕ) (before notes : List Note) (rows : List Row) (k : ℕ) (fresh : before ≡ []) (none : rows ≡ [])
     (same : frame_count new ≡ frame_count old) (lived : lives s.world p ≡ true) (keeps : Keeps d old s) where
   -- areas and anon_vmas are those that its events prepared
-  rmap_still : (command : Command) (answer : Answer) → is_fork command ≡ false →
+  rmap_still : {d' : Device} (command : Command) (answer : Answer) → is_fork command ≡ false →
       ((long : Lengths) (on : Areas) → next_areas long on s.world command answer ≡ on) → (now : State) (events : List Event) →
       rmap_of now ≡ rmap_after_all s.ledger events (rmap_of s)
-      → Keeps d new now → IsRmapNext (rmap_after_all s.ledger events (rmap_of s)) s.world command answer (rmap_of now)
-  rmap_still command answer plain stay now events is kept = subst (λ (r : Rmap). IsRmapNext r s.world command answer (rmap_of now)) is
+      → Keeps d' new now → IsRmapNext (rmap_after_all s.ledger events (rmap_of s)) s.world command answer (rmap_of now)
+  rmap_still {d'} command answer plain stay now events is kept = subst (λ (r : Rmap). IsRmapNext r s.world command answer (rmap_of now)) is
       (next-plain (rmap_of now) s.world command answer (rmap_of now) plain (record {
         areas = sym (stay (chain_length now.anons) now.areas);
         anons = left_alone new now kept;
@@ -83,10 +85,11 @@ module _ {d : Device} (s : State) (old new : Mem) (p a : ℕ) (before notes : Li
       Reads (pages (with_loads (setting_by d old) s.world s.ledger events) p) a n shown
   reads_still n shown events loads = subst (λ w. Reads (pages w p) a n shown) (sym (without-loads (setting_by d old) s.world s.ledger events loads))
 
-  read-done : (n : ℕ) (shown : List ℕ) (answer : Answer) → IsAccess d s new false p a n [] before notes None k → Reads (pages s.world p) a k shown →
+  read-done : {d' : Device} (n : ℕ) (shown : List ℕ) (answer : Answer) → IsAccess d d' s new false p a n [] before notes None k → Reads (pages s.world p) a k shown →
       answer ≡ answers.Data shown
-      → MemSteps d old new s (Read p a n) (record { answer = answer; notes = notes; rows = rows })
-  read-done n shown answer h reads is = record {
+      → RoseBy (causes (record { answer = answer; notes = notes; rows = rows })) d.faults d'.faults
+      → MemSteps d d' old new s (Read p a n) (record { answer = answer; notes = notes; rows = rows })
+  read-done n shown answer h reads is rose = record {
     next = h.next;
     step = record {
       events = h.events;
@@ -109,12 +112,15 @@ module _ {d : Device} (s : State) (old new : Mem) (p a : ℕ) (before notes : Li
       shows = tt;
     };
     keeps = h.keeps;
+    same = h.same;
+    faults = rose;
   }
 
-  read-stopped : (n : ℕ) (shown : List ℕ) (answer : Answer) (stop : Stop) → IsAccess d s new false p a n [] before notes (Some stop) k →
+  read-stopped : {d' : Device} (n : ℕ) (shown : List ℕ) (answer : Answer) (stop : Stop) → IsAccess d d' s new false p a n [] before notes (Some stop) k →
       Reads (pages s.world p) a k shown → answer ≡ answer_of stop k shown
-      → MemSteps d old new s (Read p a n) (record { answer = answer; notes = notes; rows = rows })
-  read-stopped n shown answer stop h reads is = record {
+      → RoseBy (causes (record { answer = answer; notes = notes; rows = rows })) d.faults d'.faults
+      → MemSteps d d' old new s (Read p a n) (record { answer = answer; notes = notes; rows = rows })
+  read-stopped n shown answer stop h reads is rose = record {
     next = h.next;
     step = record {
       events = h.events;
@@ -138,11 +144,14 @@ module _ {d : Device} (s : State) (old new : Mem) (p a : ℕ) (before notes : Li
       shows = tt;
     };
     keeps = h.keeps;
+    same = h.same;
+    faults = rose;
   }
 
-  write-done : (bytes : List ℕ) (answer : Answer) → IsAccess d s new true p a (length bytes) (take k bytes) before notes None k → answer ≡ answers.Done
-      → MemSteps d old new s (Write p a bytes) (record { answer = answer; notes = notes; rows = rows })
-  write-done bytes answer h is = record {
+  write-done : {d' : Device} (bytes : List ℕ) (answer : Answer) → IsAccess d d' s new true p a (length bytes) (take k bytes) before notes None k → answer ≡ answers.Done
+      → RoseBy (causes (record { answer = answer; notes = notes; rows = rows })) d.faults d'.faults
+      → MemSteps d d' old new s (Write p a bytes) (record { answer = answer; notes = notes; rows = rows })
+  write-done bytes answer h is rose = record {
     next = h.next;
     step = record {
       events = h.events;
@@ -164,12 +173,15 @@ module _ {d : Device} (s : State) (old new : Mem) (p a : ℕ) (before notes : Li
       shows = tt;
     };
     keeps = h.keeps;
+    same = h.same;
+    faults = rose;
   }
 
-  write-stopped : (bytes : List ℕ) (answer : Answer) (stop : Stop) → IsAccess d s new true p a (length bytes) (take k bytes) before notes (Some stop) k →
+  write-stopped : {d' : Device} (bytes : List ℕ) (answer : Answer) (stop : Stop) → IsAccess d d' s new true p a (length bytes) (take k bytes) before notes (Some stop) k →
       answer ≡ answer_of stop k []
-      → MemSteps d old new s (Write p a bytes) (record { answer = answer; notes = notes; rows = rows })
-  write-stopped bytes answer stop h is = record {
+      → RoseBy (causes (record { answer = answer; notes = notes; rows = rows })) d.faults d'.faults
+      → MemSteps d d' old new s (Write p a bytes) (record { answer = answer; notes = notes; rows = rows })
+  write-stopped bytes answer stop h is rose = record {
     next = h.next;
     step = record {
       events = h.events;
@@ -191,18 +203,47 @@ module _ {d : Device} (s : State) (old new : Mem) (p a : ℕ) (before notes : Li
       shows = tt;
     };
     keeps = h.keeps;
+    same = h.same;
+    faults = rose;
   }
 
   -- ---- by how it ended
 
-  pub read-ended : (n : ℕ) (shown : List ℕ) (answer : Answer) (stop : Option Stop) → IsAccess d s new false p a n [] before notes stop k →
-      Reads (pages s.world p) a k shown → answer ≡ answer_at stop (answers.Data shown) k shown
-      → MemSteps d old new s (Read p a n) (record { answer = answer; notes = notes; rows = rows })
-  read-ended n shown answer None h reads is = read-done n shown answer h reads is
-  read-ended n shown answer (Some stop) h reads is = read-stopped n shown answer stop h reads is
+  rose-ended : (d' : Device) (stop : Option Stop) (whole answer : Answer) (shown : List ℕ) (events : List Event) → failed_frames whole ≡ 0 → fault_answers whole ≡ 0 →
+      answer ≡ answer_at stop whole k shown → notes ≡ before ++ notes_of events → RoseBy (causes_of_access (notes_of events) stop) d.faults d'.faults →
+      RoseBy (causes (record { answer = answer; notes = notes; rows = rows })) d.faults d'.faults
+  rose-ended d' stop whole answer shown events one two is all = subst (λ n. RoseBy n d.faults d'.faults) (sym ((λ i. causes (record {
+    answer = is i;
+    notes = alone events all i;
+    rows = rows;
+  }))
+      ∙ by stop))
+    where
+      by : (stop : Option Stop) → causes (record { answer = answer_at stop whole k shown; notes = notes_of events; rows = rows })
+          ≡ causes_of_access (notes_of events) stop
+      by None = λ i. max (fails (notes_of events)) (one i) + two i
+      by (Some Segv) = refl
+      by (Some (Oom out)) = refl
 
-  pub write-ended : (bytes : List ℕ) (answer : Answer) (stop : Option Stop) → IsAccess d s new true p a (length bytes) (take k bytes) before notes stop k →
+  pub read-ended : {d' : Device} (n : ℕ) (shown : List ℕ) (answer : Answer) (stop : Option Stop) → IsAccess d d' s new false p a n [] before notes stop k →
+      Reads (pages s.world p) a k shown → answer ≡ answer_at stop (answers.Data shown) k shown
+      → MemSteps d d' old new s (Read p a n) (record { answer = answer; notes = notes; rows = rows })
+  read-ended {d'} n shown answer stop h reads is = by stop h is
+      (rose-ended d' stop (answers.Data shown) answer shown h.events refl refl is h.notes h.faults)
+    where
+      by : (stop : Option Stop) → IsAccess d d' s new false p a n [] before notes stop k → answer ≡ answer_at stop (answers.Data shown) k shown →
+          RoseBy (causes (record { answer = answer; notes = notes; rows = rows })) d.faults d'.faults
+          → MemSteps d d' old new s (Read p a n) (record { answer = answer; notes = notes; rows = rows })
+      by None h is rose = read-done n shown answer h reads is rose
+      by (Some stop) h is rose = read-stopped n shown answer stop h reads is rose
+
+  pub write-ended : {d' : Device} (bytes : List ℕ) (answer : Answer) (stop : Option Stop) → IsAccess d d' s new true p a (length bytes) (take k bytes) before notes stop k →
       answer ≡ answer_at stop answers.Done k []
-      → MemSteps d old new s (Write p a bytes) (record { answer = answer; notes = notes; rows = rows })
-  write-ended bytes answer None h is = write-done bytes answer h is
-  write-ended bytes answer (Some stop) h is = write-stopped bytes answer stop h is
+      → MemSteps d d' old new s (Write p a bytes) (record { answer = answer; notes = notes; rows = rows })
+  write-ended {d'} bytes answer stop h is = by stop h is (rose-ended d' stop answers.Done answer [] h.events refl refl is h.notes h.faults)
+    where
+      by : (stop : Option Stop) → IsAccess d d' s new true p a (length bytes) (take k bytes) before notes stop k → answer ≡ answer_at stop answers.Done k [] →
+          RoseBy (causes (record { answer = answer; notes = notes; rows = rows })) d.faults d'.faults
+          → MemSteps d d' old new s (Write p a bytes) (record { answer = answer; notes = notes; rows = rows })
+      by None h is rose = write-done bytes answer h is rose
+      by (Some stop) h is rose = write-stopped bytes answer stop h is rose

@@ -38,7 +38,7 @@ use Rattle.av_spaces.specs.Spaces.{AllSpaces, areas_of}
 use Rattle.av_fork.specs.Areas.{HasFork}
 use Rattle.av_fork.specs.Entries.{HasForked}
 use Rattle.av_kernel.specs.Process.{new_tests}
-use Rattle.av_kernel.specs.Step.{MemSteps}
+use Rattle.av_kernel.specs.Step.{StepsBeside}
 use Rattle.av_kernel.proofs.StepLaws.{is_number, kept-on, moved_on, stays_orderly, stepped}
 use Rattle.av_kernel.proofs.ProcessLaws.{absent, at_number, new_is, new_refusal}
 use Rattle.av_kernel.proofs.Loads.{world_as}
@@ -221,12 +221,12 @@ module _ {d : Device} (old mid : Mem) (tables : ProcessTables) (spaces : AllSpac
   anons_now : AnonsStand (view new) shown.next.areas shown.next.anons
   anons_now = record { next = shown.anons.next; kin = shown.anons.kin; chains = shown.anons.chains }
 
-  steps : MemSteps d old new s (Fork p q) (answer_only Done)
+  steps : StepsBeside d old new s (Fork p q) (answer_only Done)
   steps = stepped old new s next (Fork p q) (answer_only Done) keeps fork-step rest.count (stays_orderly d mid mid.tables spaces anons l refl given.stands) refl
       shown.areas anons_now homes_now reach_now shown.fit areas_now tables_now kept_now
 
-  forks : MemSteps d old mid s (Fork p q) (answer_only Done)
-  forks = subst (λ k. MemSteps d old k s (Fork p q) (answer_only Done))
+  forks : StepsBeside d old mid s (Fork p q) (answer_only Done)
+  forks = subst (λ k. StepsBeside d old k s (Fork p q) (answer_only Done))
       (λ i. record mid { spaces = (sym rest.spaces) i; anons = (sym rest.anons) i }) steps
 
 -- neither frames nor entries changed as the areas went over
@@ -234,7 +234,7 @@ pub fork-steps : {d : Device} (old gone mid : Mem) (tables : ProcessTables) (s :
     → is_some (areas_of old.spaces.processes p) ≡ true → refusal (new_tests old.spaces.processes q) ≡ None
     → gone ≡ record old { spaces = gone.spaces; anons = gone.anons } → HasFork old gone p q s → has tables ≡ with_at q true (has gone.tables)
     → HasForked d (record gone { tables = tables }) mid s.ledger p q → KeepsRest (record gone { tables = tables }) mid →
-    MemSteps d old mid s (Fork p q) (answer_only Done)
+    StepsBeside d old mid s (Fork p q) (answer_only Done)
 fork-steps {d} old gone mid tables s p q keeps alive may same shown processes given rest =
     forks old mid tables gone.spaces gone.anons s p q keeps alive may
     (subst (λ (g : Mem). HasFork old g p q s) same shown)

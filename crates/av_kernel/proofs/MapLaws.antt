@@ -54,7 +54,7 @@ use Rattle.av_kernel.specs.Map.{set_on, GetsAreas, GetsProts, HomesStay, AreUnma
 use Rattle.av_mem.specs.Mem.{ranges_of, setting_by, view, frame_count, Keeps, IsSteady, HasLedger}
 use Rattle.av_mem.specs.Zap.{HasZapped}
 use Rattle.av_place.specs.Place.{protect_tests, IsProcess, IsPlaced, AreToUnmap}
-use Rattle.av_kernel.specs.Step.{MemSteps}
+use Rattle.av_kernel.specs.Step.{StepsBeside}
 use Rattle.av_mem.proofs.MemLaws.{lives_is, alive_is, taken_has, mapped_is}
 use Rattle.av_place.proofs.PlaceLaws.{page_back, IsSuited, suited}
 use Rattle.av_kernel.proofs.StepLaws.{areas_kept, is_number, moved_on, orderly, refused, state_after, stays_orderly, changed, areas_changed, tables_kept}
@@ -277,7 +277,7 @@ module _ {d : Device} (old new : Mem) (s : State) (command : Command) (reply : R
       → IsLegal (setting_by d old) s.world s.ledger command reply events
       → list_all loads_nothing events ≡ true → set_process s.world p (with_pages (pages s.world p) page n (λ _. o)) ≡ next s.world command reply.answer
       → with_at p on s.areas ≡ next_areas (chain_length s.anons) s.areas s.world command reply.answer
-      → ShowsAreas s.areas s.anons command reply.answer reply.rows → MemSteps d old new s command reply
+      → ShowsAreas s.areas s.anons command reply.answer reply.rows → StepsBeside d old new s command reply
   replaced-steps plain open_all legal loads world areas_next shows =
       let now : Process = with_pages (pages s.world p) page n (λ _. o) in
       changed old new s command reply p now on (after_all s.ledger events) keeps stay same_count taken.stands bytes homes
@@ -339,7 +339,7 @@ module _ {d : Device} (old new : Mem) (s : State) (p a len : ℕ) (keeps : Keeps
   munmap-allowed = ap (λ b. cond (not b) (Some Esrch) (cond (not (is_on_page a) || len == 0 || nat_lt top (a + len)) (Some Einval) None))
       (sym (lives_is d old s keeps p) ∙ sym (alive_is old.spaces.processes p) ∙ alive) ∙ ap (λ b. cond b (Some Einval) None) valid
 
-  pub munmap-steps : MemSteps d old new s (Munmap p a len) (answer_only Done)
+  pub munmap-steps : StepsBeside d old new s (Munmap p a len) (answer_only Done)
   munmap-steps =
       let events = zaps_of s.ledger (keys_in s.ledger p (page_of a) (pages_of len)) in
       replaced-steps old new s (Munmap p a len) (answer_only Done) p (page_of a) (pages_of len) None
@@ -372,7 +372,7 @@ module _ {d : Device} (old : Mem) (s : State) (p len : ℕ) (prot : Prot) (place
 
   -- the pages go nowhere
   pub mmap-refused : (error : Errno) → IsPlaced (pages s.world p) (pages_of len) place (Err error) →
-      MemSteps d old old s (Mmap p len prot place) (answer_only (Refused error))
+      StepsBeside d old old s (Mmap p len prot place) (answer_only (Refused error))
   mmap-refused error (inl is) = refused old s (Mmap p len prot place) error keeps (mmap-tests ∙ is)
   mmap-refused error (inr h) = record {
     next = s;
@@ -436,7 +436,7 @@ module _ {d : Device} (old : Mem) (s : State) (p len : ℕ) (prot : Prot) (place
     alike = map_alike (lengths mid.spaces.areas mid.anons) (chain_length s.anons) p page (page + pages_of len) prot (areas_on mid.spaces.processes p) refl
         (lengths_alike d old s keeps mid.spaces mid.anons unmapped.anons p)
 
-    pub mmap-steps : MemSteps d old (moved_on mid mid.tables spaces anons) s (Mmap p len prot place) (answer_only (MapAt (address_of page)))
+    pub mmap-steps : StepsBeside d old (moved_on mid mid.tables spaces anons) s (Mmap p len prot place) (answer_only (MapAt (address_of page)))
     mmap-steps =
         let events = zaps_for_place s.ledger p (pages_of len) place in
         let t = unmapped.taken in
@@ -570,7 +570,7 @@ module _ {d : Device} (old : Mem) (spaces : AllSpaces) (anons : AnonSet) (s : St
       → set_process s.world p (with_prot_on (pages s.world p) (page_of a) (reached - page_of a) prot) ≡ next s.world (Mprotect p a len prot) answer
       → with_at p (pages_changed (chain_length s.anons) (to_prot prot) (page_of a) (reached - page_of a) (s.areas p)) s.areas ≡ next_areas
       (chain_length s.anons) s.areas s.world (Mprotect p a len prot) answer
-      → MemSteps d old (moved_on old old.tables spaces anons) s (Mprotect p a len prot) (answer_only answer)
+      → StepsBeside d old (moved_on old old.tables spaces anons) s (Mprotect p a len prot) (answer_only answer)
   protected-steps answer is world areas_next =
       let now : Process = with_prot_on (pages s.world p) (page_of a) (reached - page_of a) prot in
       let new = moved_on old old.tables spaces anons in
@@ -601,7 +601,7 @@ module _ {d : Device} (old : Mem) (spaces : AllSpaces) (anons : AnonSet) (s : St
       alive given covered-protected refl)
 
   -- all pages were mapped
-  pub mprotect-steps : page_of a + pages_of len ≤ reached → MemSteps d old (moved_on old old.tables spaces anons) s (Mprotect p a len prot) (answer_only Done)
+  pub mprotect-steps : page_of a + pages_of len ≤ reached → StepsBeside d old (moved_on old old.tables spaces anons) s (Mprotect p a len prot) (answer_only Done)
   mprotect-steps whole =
       let high = reaches.highest in
       let size : reached - page_of a ≡ pages_of len = omega (arith, whole, high) in
@@ -613,7 +613,7 @@ module _ {d : Device} (old : Mem) (spaces : AllSpaces) (anons : AnonSet) (s : St
       equal k n e = grind (arith, nat_tests, e)
 
   -- a page before the end was not
-  pub mprotect-stops : reached < page_of a + pages_of len → MemSteps d old (moved_on old old.tables spaces anons) s (Mprotect p a len prot)
+  pub mprotect-stops : reached < page_of a + pages_of len → StepsBeside d old (moved_on old old.tables spaces anons) s (Mprotect p a len prot)
       (answer_only (Refused Enomem))
   mprotect-stops less =
       let low = reaches.lowest in

@@ -23,10 +23,9 @@ use Rattle.av_mem.specs.Zap.{KeepsRest}
 use Rattle.av_mremap.specs.Areas.{HasRemap}
 use Rattle.av_mremap.specs.Entries.{HasRemapped}
 use Rattle.av_place.specs.Mremap.{StaySmall}
-use Rattle.av_kernel.specs.Step.{MemSteps}
+use Rattle.av_kernel.specs.Step.{StepsBeside}
 use Rattle.av_kernel.proofs.MremapLaws.{last_taken, may_grow, may_move, may_shrink, old_high, remaps, some_pages}
 use Rattle.av_kernel.proofs.MremapRefusals.{have_prots_of, tests_are}
-use Rattle.av_kernel.proofs.StepLaws.{moved_on}
 
 -- what holds of two numbers holds of two that are equal
 
@@ -123,7 +122,7 @@ module _ {old : Mem} {p a olen nlen n m : ℕ} {mode : Mode} {to : ℕ} (go : Go
       → (gone new : Mem) → gone ≡ record old { spaces = gone.spaces; anons = gone.anons }
       → HasRemap old gone p (after_mremap (chain_length s.anons) p from n to m (prot_left mode (pages s.world p) from) (s.areas p))
       → HasRemapped d gone new s.ledger (remap_events s.ledger p from n to m) → KeepsRest gone new
-      → MemSteps d old new s (Mremap p a olen nlen mode) (answer_only (MapAt (address_of to)))
+      → StepsBeside d old new s (Mremap p a olen nlen mode) (answer_only (MapAt (address_of to)))
   steps_by {d} s keeps small gone new same remap done rest =
       let left = prot_left mode (pages s.world p) from in
       let long = chain_length s.anons in

@@ -54,7 +54,7 @@ use Rattle.av_mem.proofs.MemLaws.{alive_is, lives_is, no_cache, prots_are}
 use Rattle.av_mremap.specs.Areas.{HasRemap}
 use Rattle.av_mremap.specs.Entries.{HasRemapped}
 use Rattle.av_place.specs.Mremap.{StaySmall}
-use Rattle.av_kernel.specs.Step.{MemSteps}
+use Rattle.av_kernel.specs.Step.{StepsBeside}
 use Rattle.av_plain.proofs.Mremap.Entries.{came, grew, here_goes, here_stays, left as has_left, of_others, stays}
 use Rattle.av_place.proofs.PlaceLaws.{page_back}
 use Rattle.av_kernel.proofs.ProcessLaws.{at_number}
@@ -418,12 +418,12 @@ module _ {d : Device} {old : Mem} {s : State} (keeps : Keeps d old s) {p a olen 
       reach_now = sound-remapped s.ledger p from n to m left (rmap_of s) (rmap_of next) keeps.stands.sound.ledger.in_order laid_on becomes_on refl
           (are_left d old s keeps spaces anons remap.anons next.areas areas_now) refl keeps.stands.reach
 
-      steps : IsAllowed → MemSteps d old new s command (answer_only answer)
+      steps : IsAllowed → StepsBeside d old new s command (answer_only answer)
       steps allowed = stepped old new s next command (answer_only answer) keeps (remap-step allowed) rest.count
           (stays_orderly d mid mid.tables spaces anons l refl done.stands) refl areas_now
           (anons_stand d old s keeps spaces anons remap.anons next.areas areas_now new refl refl)
           (λ f. ap (λ h. h f) rest.homes ∙ keeps.stands.homes f) reach_now remap.anons.fit areas_stand tables_now kept_now
 
-      pub remaps : IsAllowed → MemSteps d old mid s command (answer_only answer)
-      remaps allowed = subst (λ k. MemSteps d old k s command (answer_only answer))
+      pub remaps : IsAllowed → StepsBeside d old mid s command (answer_only answer)
+      remaps allowed = subst (λ k. StepsBeside d old k s command (answer_only answer))
           (λ i. record mid { spaces = (sym rest.spaces) i; anons = (sym rest.anons) i }) (steps allowed)

@@ -22,7 +22,7 @@ use Rattle.av_mem.specs.Mem.{Keeps, setting_by}
 use Rattle.av_mem.proofs.MemLaws.{lives_is, prots_are}
 use Rattle.av_kernel.specs.declared.refusal.Refusal.TheVariants as refusals
 use Rattle.av_place.specs.Mremap.{IsTarget}
-use Rattle.av_kernel.specs.Step.{Does, MemSteps}
+use Rattle.av_kernel.specs.Step.{DoesBeside, StepsBeside}
 use Rattle.av_kernel.proofs.StepLaws.{areas_kept, dead_first, refuses}
 use Rattle.av_kernel.proofs.Loads.{world_as}
 
@@ -36,7 +36,7 @@ module _ (old : Mem) (p a olen nlen : ℕ) (mode : Mode) where
   command = Mremap p a olen nlen mode
 
   -- what is refused where no process lives
-  pub dead_does : is_some (areas_of old.spaces.processes p) ≡ false → Does old old command (Err (refusals.Refused Esrch))
+  pub dead_does : is_some (areas_of old.spaces.processes p) ≡ false → DoesBeside old old command (Err (refusals.Refused Esrch))
   dead_does dead = refuses old command Esrch (λ d s keeps. dead_first old s p (refusal (mremap_tests (pages s.world p) a olen nlen mode)) keeps dead)
 
   module _ (alive : is_some (areas_of old.spaces.processes p) ≡ true) where
@@ -49,13 +49,13 @@ module _ (old : Mem) (p a olen nlen : ℕ) (mode : Mode) where
     -- one of them refuses it
     pub refused_does : (error : Errno)
         → ((q : Process) → HaveProtsOf (areas_on old.spaces.processes p) q → refusal (mremap_tests q a olen nlen mode) ≡ Some error)
-        → Does old old command (Err (refusals.Refused error))
+        → DoesBeside old old command (Err (refusals.Refused error))
     refused_does error is = refuses old command error (λ d s keeps. tests_are s keeps ∙ is (pages s.world p) (have_prots_of old s keeps p))
 
     -- none does, but there is no room
     no_room : {d : Device} (s : State) → Keeps d old s → refusal (mremap_tests (pages s.world p) a olen nlen mode) ≡ None
         → MovesTo (pages s.world p) (page_of a) (pages_of olen) (pages_of nlen) mode None
-        → MemSteps d old old s command (answer_only (Refused Enomem))
+        → StepsBeside d old old s command (answer_only (Refused Enomem))
     no_room {d} s keeps passed goes = record {
       next = s;
       step = record {
@@ -76,12 +76,12 @@ module _ (old : Mem) (p a olen nlen : ℕ) (mode : Mode) where
 
     pub no_room_does : (error : Errno) → ((q : Process) → HaveProtsOf (areas_on old.spaces.processes p) q → refusal (mremap_tests q a olen nlen mode) ≡ None)
         → ((q : Process) → HaveProtsOf (areas_on old.spaces.processes p) q → IsTarget q (page_of a) (pages_of olen) (pages_of nlen) mode (Err error))
-        → Does old old command (Err (refusals.Refused error))
+        → DoesBeside old old command (Err (refusals.Refused error))
     no_room_does error passed none = record {
       step = λ d s keeps.
           let same = have_prots_of old s keeps p in
           let room = none (pages s.world p) same in
-          subst (λ e. MemSteps d old old s command (answer_only (Refused e))) (sym room.1)
+          subst (λ e. StepsBeside d old old s command (answer_only (Refused e))) (sym room.1)
           (no_room s keeps (passed (pages s.world p) same) room.0);
       count = refl;
     }

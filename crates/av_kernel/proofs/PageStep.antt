@@ -1,5 +1,5 @@
 -- A page that has been touched, and then read or written, or not served: what the kernel stands for after it.
-use Rattle.std.proofs.Common.{◌≡◌, ℕ, ◌+◌, ◌*◌, ◌/◌, ◌%◌, ◌<◌, ◌≤◌, Bool, true, false, cond, not, List, [], ◌∷◌, map, length, Option, Some, None, inl, inr, refl, sym, ap, subst, ◌∙◌, arith, ◌==◌, is_some, append-nil, if◌then◌else◌}
+use Rattle.std.proofs.Common.{◌≡◌, ℕ, ◌+◌, ◌*◌, ◌/◌, ◌%◌, ◌<◌, ◌≤◌, Bool, true, false, cond, not, List, [], ◌∷◌, map, length, Option, Some, None, option_map, inl, inr, refl, sym, ap, subst, ◌∙◌, arith, ◌==◌, is_some, append-nil, if◌then◌else◌}
 use Rattle.std.proofs.lemmas.Bool.Decides.{nat_tests}
 use Rattle.av_base.specs.Words.{with_at}
 use Rattle.std.specs.List.{range_with_len}
@@ -36,13 +36,18 @@ use Rattle.av_plain.proofs.Sound.There.{accesses-in}
 use Rattle.av_plain.proofs.Sound.{follows-sound}
 use Rattle.av_mem.specs.declared.mem.Mem.{Mem}
 use Rattle.av_fault.specs.declared.fault.Stop.{Stop}
+use Rattle.av_fault.specs.declared.fault.Stop.TheVariants.{Segv, Oom}
 use Rattle.av_fault.specs.declared.fault.Touched.{Touched}
 use Rattle.av_fault.specs.declared.fault.Touched.TheVariants.{Ready, Stopped}
 use Rattle.av_mem.specs.Mem.{anons_of, ranges_of, setting_by, frame_count, plain, view, view_of_parts, Keeps, KeepsWithin}
 use Rattle.av_fault.specs.Fault.{HasRmap, IsTouched, end_of, stop_of}
+use Rattle.av_kernel.specs.Access.{causes_of_access}
 use Rattle.av_kernel.specs.Page.{IsPageStep, world_after}
 use Rattle.av_fault.proofs.FaultParts.{Parts, of_stand, to_stand}
 use Rattle.av_fault.proofs.FaultTouched.{anons_still}
+use Rattle.av_plain.specs.Pass.{fails}
+use Rattle.av_plain.proofs.NoDevice.{HasNoArea, IsKept, PlainPage, all-off, in-areas, no-slots, plain-notes, touches-plain}
+use Rattle.av_kernel.proofs.StepLaws.{none_rose, same_itself}
 use Rattle.av_kernel.proofs.PageWritten.{over, written_now, stored_is}
 use Rattle.av_kernel.proofs.Loads.{accesses-load_nothing, world_as}
 
@@ -148,9 +153,29 @@ module _ {d : Device} (s : State) (old : Mem) (p page at : ℕ) (piece : List �
       (subst (λ n. AllSound (setting_of n d) s.world s.ledger) same keeps.stands.sound).ledger touches chosen
       (subst (λ n. ListsFree (setting_of n d) s.ledger s.free.frames) same keeps.stands.lists.frames)
 
+  -- no page has a note, or stops the access, that only a fault explains
+  page-causes : (n : ℕ) (write : Bool) (added : List Note) (end : Option Stop) → frame_count old ≡ n →
+      Touches (setting_of n d) s.world s.ledger write (p, page) added (option_map stop_of end) → causes_of_access added end ≡ 0
+  page-causes n write added end same touches = by end page_is.kept (plain-notes m (p, page) added page_is.plain)
+    where
+      m : Setting
+      m = setting_of n d
+
+      none : HasNoArea m s.ledger
+      none = all-off m s.ledger (sym keeps.stands.parts.ledger.swap.on)
+
+      page_is : PlainPage m s.world (p, page) added (option_map stop_of end)
+      page_is = touches-plain m s.world s.ledger write (p, page) added (option_map stop_of end) none (no-slots m s.ledger none
+          (in-areas m s.world s.ledger (subst (λ n. AllSound (setting_of n d) s.world s.ledger) same keeps.stands.sound))) touches
+
+      by : (end : Option Stop) → IsKept (option_map stop_of end) → fails added ≡ 0 → causes_of_access added end ≡ 0
+      by None kept f = grind (arith, f)
+      by (Some Segv) kept f = grind (arith, f)
+      by (Some (Oom out)) kept f = grind (arith, f, kept)
+
   -- it was not served
   pub stopped : (new : Mem) (write : Bool) (stop : Stop) → frame_count new ≡ frame_count old → IsTouched d s new write (p, page) before now (Stopped stop) →
-      IsPageStep d s new write p page at piece before now (Some stop)
+      IsPageStep d d s new write p page at piece before now (Some stop)
   stopped new write stop same t =
       let rs : Rmap = rmap_after_all s.ledger (page_events write (p, page) t.added (Some (stop_of stop))) (rmap_of s) in record {
         added = t.added;
@@ -172,6 +197,8 @@ module _ {d : Device} (s : State) (old : Mem) (p page at : ℕ) (piece : List �
             (sound_touched (setting_by d new) s.world s.ledger write p page t.added (Some (stop_of stop))
             (subst (λ n. AllSound (setting_of n d) s.world s.ledger) (sym same) keeps.stands.sound) t.touches)
             (free_listed (frame_count new) write t.added (Some (stop_of stop)) (free_of (view new)) (sym same) t.touches t.free) t.rmap t.reach;
+        same = same_itself d;
+        faults = none_rose (causes_of_access t.added (Some stop)) d.faults (page-causes (frame_count new) write t.added (Some stop) (sym same) t.touches);
       }
     where
       world_is : (write : Bool) → s.world ≡ world_after write p page at piece (Some stop) s.world
@@ -180,7 +207,7 @@ module _ {d : Device} (s : State) (old : Mem) (p page at : ℕ) (piece : List �
 
   -- it was served to a read
   pub read_served : (new : Mem) (ready : Touched) → frame_count new ≡ frame_count old → end_of ready ≡ None → IsTouched d s new false (p, page) before now ready →
-      IsPageStep d s new false p page at piece before now None
+      IsPageStep d d s new false p page at piece before now None
   read_served new ready same served t =
       let touches : Touches (setting_by d new) s.world s.ledger false (p, page) t.added None =
       subst (Touches (setting_by d new) s.world s.ledger false (p, page) t.added) served t.touches in
@@ -212,6 +239,8 @@ module _ {d : Device} (s : State) (old : Mem) (p page at : ℕ) (piece : List �
             (sound_touched (setting_by d new) s.world s.ledger false p page t.added None
             (subst (λ n. AllSound (setting_of n d) s.world s.ledger) (sym same) keeps.stands.sound) touches)
             (free_listed (frame_count new) false t.added None (free_of (view new)) (sym same) touches chosen) rmap reach;
+        same = same_itself d;
+        faults = none_rose (causes_of_access t.added None) d.faults (page-causes (frame_count new) false t.added None (sym same) touches);
       }
 
   -- it was served to a write, and then the piece was laid over the frame's bytes
@@ -219,7 +248,7 @@ module _ {d : Device} (s : State) (old : Mem) (p page at : ℕ) (piece : List �
       IsTouched d s mid true (p, page) before now (Ready f)
       → shown new.frames ≡ record (shown mid.frames) { bytes = with_at f (overlaid at piece ((shown mid.frames).bytes f)) (shown mid.frames).bytes } →
       new.lists ≡ mid.lists → new.tables ≡ mid.tables → new.spaces ≡ mid.spaces → new.anons ≡ mid.anons
-      → IsPageStep d s new true p page at piece before now None
+      → IsPageStep d d s new true p page at piece before now None
   written_served mid new f same alive some fits t frames lists tables spaces anons =
       let l = after_all s.ledger (page_events true (p, page) t.added None) in
       let rs : Rmap = rmap_after_all s.ledger (page_events true (p, page) t.added None) (rmap_of s) in
@@ -266,4 +295,6 @@ module _ {d : Device} (s : State) (old : Mem) (p page at : ℕ) (piece : List �
               anons = anons_still (view mid) (view new) rs.areas rs.anons (λ i. anons_of (spaces i) (anons i)) t.rmap.anons;
               homes = λ g. ap (λ (x : Shown). x.home g) frames ∙ t.rmap.homes g;
             }) t.reach;
+        same = same_itself d;
+        faults = none_rose (causes_of_access t.added None) d.faults (page-causes (frame_count new) true t.added None (sym same ∙ count_is) touches);
       }

@@ -40,7 +40,7 @@ use Rattle.av_spaces.specs.Spaces.{AllSpaces, Spaces, areas_of, pages_of, IsSpaw
 use Rattle.av_plain.specs.Report.{range_of}
 use Rattle.av_mem.specs.Mem.{ranges_of, setting_by, plain, view, frame_count, HasTables, Keeps, HasLedger}
 use Rattle.av_kernel.specs.Process.{new_tests}
-use Rattle.av_kernel.specs.Step.{MemSteps}
+use Rattle.av_kernel.specs.Step.{StepsBeside}
 use Rattle.av_mem.specs.Zap.{HasZapped}
 use Rattle.av_mem.proofs.MemLaws.{alive_is, lives_is, all_apart, kept-nothing, no_cache}
 use Rattle.av_anon.specs.declared.anons.Anons.{Anons as AnonSet}
@@ -171,7 +171,7 @@ module _ {d : Device} (old : Mem) (tables : ProcessTables) (spaces : AllSpaces) 
               none None gone there = false≢true there
               none (Some q) gone there = false≢true (sym gone)
 
-  pub spawned-steps : MemSteps d old (moved_on old tables spaces old.anons) s (Spawn p) (answer_only Done)
+  pub spawned-steps : StepsBeside d old (moved_on old tables spaces old.anons) s (Spawn p) (answer_only Done)
   spawned-steps = changed old (moved_on old tables spaces old.anons) s (Spawn p) (answer_only Done) p no_pages none_on s.ledger keeps stay refl
       (stays_orderly d old tables spaces old.anons s.ledger entries (orderly old s keeps)) refl refl
       (λ q page other. refl) (λ page. kept-nothing d (view old) s.ledger (entry s.ledger (p, page))) (λ page f names. names)
@@ -395,7 +395,7 @@ module _ {d : Device} (old mid : Mem) (tables : ProcessTables) (spaces : AllSpac
       stays k f home names is true e = absurd (gone k f e names)
       stays k f home names is false e = is
 
-  pub exit-steps : MemSteps d old (record { frames = mid.frames; lists = mid.lists; tables = tables; spaces = spaces; anons = anons }) s (Exit p) (answer_only Done)
+  pub exit-steps : StepsBeside d old (record { frames = mid.frames; lists = mid.lists; tables = tables; spaces = spaces; anons = anons }) s (Exit p) (answer_only Done)
   exit-steps = stepped old (record { frames = mid.frames; lists = mid.lists; tables = tables; spaces = spaces; anons = anons }) s
       (record {
         world = end_process s.world p;

@@ -28,7 +28,7 @@ use Rattle.av_mem.specs.declared.mem.Mem.{Mem}
 use Rattle.av_mem.specs.Mem.{anons_of, setting_by, view, Keeps}
 use Rattle.av_mem.proofs.AnonLaws.{shown_chain}
 use Rattle.av_mem.proofs.MemLaws.{apart_of, lives_is}
-use Rattle.av_kernel.specs.Step.{MemSteps}
+use Rattle.av_kernel.specs.Step.{StepsBeside}
 use Rattle.av_kernel.proofs.ReportRuns.{own_rest, own_first}
 use Rattle.av_kernel.proofs.StepLaws.{areas_kept}
 use Rattle.av_kernel.proofs.Loads.{world_as}
@@ -90,7 +90,7 @@ module _ {d : Device} (k : Mem) (s : State) (p : ℕ) (areas : List Area) (keeps
       (keeps.stands.anons.chains p (first_of a)))
       areas (on_pages p areas rising)
 
-  pub areas-steps : MemSteps d k k s (AsksAreas p) (record { answer = AreaList (length shown); notes = []; rows = shown })
+  pub areas-steps : StepsBeside d k k s (AsksAreas p) (record { answer = AreaList (length shown); notes = []; rows = shown })
   areas-steps = record {
     next = s;
     step = record {

@@ -18,7 +18,7 @@ use Rattle.av_plain.specs.World.{is_mapped, lives, pages}
 use Rattle.av_mem.specs.declared.mem.Mem.{Mem}
 use Rattle.av_mem.specs.Mem.{Keeps, setting_by}
 use Rattle.av_mem.proofs.MemLaws.{lives_is, mapped_is, taken_has}
-use Rattle.av_kernel.specs.Step.{MemSteps}
+use Rattle.av_kernel.specs.Step.{StepsBeside}
 use Rattle.av_kernel.proofs.StepLaws.{rmap_kept}
 use Rattle.av_kernel.proofs.Loads.{world_as}
 
@@ -44,7 +44,7 @@ module _ {d : Device} (k : Mem) (s : State) (p a : ℕ) (keeps : Keeps d k s) (a
 
   pub entry-steps : is_some (pages_of k.spaces.processes p (page_of a)) ≡ true → (answer : Answer) →
       answer ≡ entry_answer s.ledger (entry s.ledger (p, page_of a))
-      → MemSteps d k k s (AsksEntry p a) (answer_only answer)
+      → StepsBeside d k k s (AsksEntry p a) (answer_only answer)
   entry-steps mapped answer is = record {
     next = s;
     step = record {

@@ -17,7 +17,7 @@ use Rattle.av_plain.specs.Report.{range_of}
 use Rattle.av_mem.specs.Mem.{setting_by, Keeps}
 use Rattle.av_mem.proofs.MemLaws.{lives_is}
 use Rattle.av_kernel.specs.Report.{AreRuns}
-use Rattle.av_kernel.specs.Step.{MemSteps}
+use Rattle.av_kernel.specs.Step.{StepsBeside}
 use Rattle.av_kernel.proofs.StepLaws.{areas_kept}
 use Rattle.av_kernel.proofs.Loads.{world_as}
 
@@ -26,7 +26,7 @@ module _ {d : Device} (k : Mem) (s : State) (p : ℕ) (areas : List Area) (rows 
   allowed : refusal (tests (setting_by d k) s.world s.ledger (Maps p)) ≡ None
   allowed = ap (λ b. cond (not b) (Some Esrch) None) (sym (lives_is d k s keeps p) ∙ alive)
 
-  pub maps-steps : MemSteps d k k s (Maps p) (record { answer = Runs (length rows); notes = []; rows = rows })
+  pub maps-steps : StepsBeside d k k s (Maps p) (record { answer = Runs (length rows); notes = []; rows = rows })
   maps-steps = record {
     next = s;
     step = record {

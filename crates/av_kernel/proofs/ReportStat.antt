@@ -11,7 +11,7 @@ use Rattle.av_plain.specs.Report.{totals}
 use Rattle.av_plain.proofs.Report.Totals.{free-once, totals-plain}
 use Rattle.av_mem.specs.declared.mem.Mem.{Mem}
 use Rattle.av_mem.specs.Mem.{setting_by, view, frame_count, Keeps}
-use Rattle.av_kernel.specs.Step.{MemSteps}
+use Rattle.av_kernel.specs.Step.{StepsBeside}
 use Rattle.av_kernel.proofs.StepLaws.{areas_kept}
 use Rattle.av_kernel.proofs.Loads.{world_as}
 
@@ -48,7 +48,7 @@ counted {d} k s processes keeps once below number =
 
 pub stat-steps : {d : Device} (k : Mem) (s : State) (processes : ℕ) → Keeps d k s → ((f : ℕ) → how_many (λ g. f == g) (view k).free ≤ 1) →
     ((f : ℕ) → is_in f (view k).free ≡ true → f < frame_count k) → processes ≡ length k.spaces.processes
-    → MemSteps d k k s Stat (answer_only (Counted (record {
+    → StepsBeside d k k s Stat (answer_only (Counted (record {
       frames = frame_count k;
       free = length (view k).free;
       active = length (view k).active;

@@ -20,7 +20,7 @@ use Rattle.av_plain.specs.Step.{Follows}
 use Rattle.av_plain.specs.Transcript.{State}
 use Rattle.av_mem.specs.declared.mem.Mem.{Mem}
 use Rattle.av_mem.specs.Mem.{Keeps, plain, setting_by}
-use Rattle.av_kernel.specs.Step.{MemSteps}
+use Rattle.av_kernel.specs.Step.{StepsBeside}
 use Rattle.av_kernel.proofs.ReportEntry.{tests_are}
 use Rattle.av_kernel.proofs.StepLaws.{rmap_kept}
 use Rattle.av_kernel.proofs.Loads.{world_as}
@@ -32,7 +32,7 @@ shown l e = record { answer = walk_answer l e; notes = []; rows = walk_rows l e 
 
 module _ {d : Device} (k : Mem) (s : State) (p a : ℕ) (keeps : Keeps d k s) (alive : is_some (areas_of k.spaces.processes p) ≡ true)
     (mapped : is_some (pages_of k.spaces.processes p (page_of a)) ≡ true) where
-  shown-steps : MemSteps d k k s (AsksRmap p a) (shown s.ledger (entry s.ledger (p, page_of a)))
+  shown-steps : StepsBeside d k k s (AsksRmap p a) (shown s.ledger (entry s.ledger (p, page_of a)))
   shown-steps =
       let reply = shown s.ledger (entry s.ledger (p, page_of a)) in record {
         next = s;
@@ -54,9 +54,9 @@ module _ {d : Device} (k : Mem) (s : State) (p a : ℕ) (keeps : Keeps d k s) (a
 
   -- by what the table has
   pub walk-steps : (t : Pte) (reply : Reply) → entry_at k.tables p (page_of a) ≡ t → reply ≡ shown s.ledger (entry_of (plain t)) →
-      MemSteps d k k s (AsksRmap p a) reply
+      StepsBeside d k k s (AsksRmap p a) reply
   walk-steps t reply at is =
-      subst (MemSteps d k k s (AsksRmap p a)) (sym (is ∙ ap (λ t. shown s.ledger (entry_of (plain t))) (sym at)
+      subst (StepsBeside d k k s (AsksRmap p a)) (sym (is ∙ ap (λ t. shown s.ledger (entry_of (plain t))) (sym at)
       ∙ ap (shown s.ledger) (keeps.stands.parts.ledger.tables.entries p (page_of a)))) shown-steps
 
 -- where the table has no frame there is no walk

@@ -1,26 +1,22 @@
 -- One command's step: the ledger's parts stand after its events, and so do the areas and the bytes of the pages that it changed.
-use Rattle.std.proofs.Common.{◌≡◌, ◌≢◌, ℕ, Bool, true, false, cond, not, [], Option, Some, None, IsSome, is_some, option_map, Result, Ok, Err, refl, sym, ap, subst, ◌∙◌, arith, ◌==◌}
+use Rattle.std.proofs.Common.{◌≡◌, ◌≢◌, ℕ, ◌+◌, max, Bool, true, false, cond, not, [], Option, Some, None, IsSome, is_some, option_map, Result, Ok, Err, refl, sym, ap, subst, ◌∙◌, arith, ◌==◌}
 use Rattle.std.proofs.lemmas.Bool.Decides.{nat_tests}
 use Rattle.std.proofs.lemmas.Bool.{false≢true}
 use Rattle.std.specs.Ordering.{nat_cmp, eq_by_cmp}
-use Rattle.std.specs.Prelude.{IsSomeAnd, MatchOption, IsErr, IsErrAnd}
+use Rattle.std.specs.Prelude.{IfSome, IsSomeAnd, MatchOption, IsErr, IsErrAnd}
 use Rattle.av_base.specs.declared.prot.Prot.{Prot}
 use Rattle.av_trace.specs.declared.command.Command.{Command}
-use Rattle.av_trace.specs.Command.{is_in_grammar}
-use Rattle.av_trace.specs.declared.command.Command.TheVariants.{Spawn, Fork, Exit, Mmap, Mremap, Munmap, Mprotect, Read, Write, Reclaim, Age, Complete, Swapon, Swapoff, Maps, Areas as AsksAreas, Rmap as AsksRmap, Entry as AsksEntry, Slot as AsksSlot, Stat}
-use Rattle.av_plain.specs.Swapon.{is_swapon}
 use Rattle.av_trace.specs.declared.reply.Errno.{Errno}
 use Rattle.av_trace.specs.declared.reply.Errno.TheVariants.{Esrch}
 use Rattle.av_trace.specs.declared.reply.Reply.{Reply}
 use Rattle.av_trace.specs.declared.reply.Answer.{Answer}
 use Rattle.av_trace.specs.declared.reply.Answer.TheVariants.{Refused}
 use Rattle.av_trace.specs.Reply.{IsCleared, answer_only}
-use Rattle.av_plain.specs.Device.{Device, setting_of}
+use Rattle.av_plain.specs.Device.{Device, IsSameDevice, setting_of}
 use Rattle.av_plain.specs.Fork.{IsRmapNext}
 use Rattle.av_plain.specs.World.{Process, Page, lives, pages, set_process}
 use Rattle.av_plain.specs.Ledger.{Key, Ledger, Entry, Zero, InFrame, InSlot, entry, frame_at, names_frame}
 use Rattle.av_plain.specs.Refusal.{tests, refusal, Refuses}
-use Rattle.av_plain.specs.Step.{Follows}
 use Rattle.av_plain.specs.Transcript.{State, IsStep, rmap_of}
 use Rattle.av_plain.specs.Sound.{AllSound}
 use Rattle.av_plain.specs.Choice.{Free, ListsAll, ListsFree}
@@ -46,10 +42,14 @@ use Rattle.av_mem.specs.declared.mem.Mem.{Mem}
 use Rattle.av_spaces.specs.Spaces.{AllSpaces, areas_of, pages_of as areas_on}
 use Rattle.av_plain.proofs.Transcript.{is_fork, next-plain}
 use Rattle.av_kernel.specs.Map.{GetsProts}
-use Rattle.av_mem.specs.Mem.{anon_vma, ranges_of, setting_by, plain, view, frame_count, HasTables, Keeps, HasLedger}
+use Rattle.av_mem.specs.Mem.{anon_vma, ranges_of, setting_by, plain, view, frame_count, HasTables, IsSteady, Keeps, HasLedger}
 use Rattle.av_kernel.specs.declared.refusal.Refusal.{Refusal}
 use Rattle.av_kernel.specs.declared.refusal.Refusal.TheVariants as refusals
-use Rattle.av_kernel.specs.Step.{MemSteps, Does, reply_in}
+use Rattle.av_kernel.specs.Step.{Does, DoesBeside, IsSteadyAt, MemSteps, StepsBeside, reply_in, reply_of}
+use Rattle.av_io.specs.Count.{RoseBy}
+use Rattle.av_plain.specs.Pass.{fails}
+use Rattle.av_plain.specs.Step.{Follows, causes, fault_answers, uses_device}
+use Rattle.av_plain.proofs.Faultless.{unused-causes}
 use Rattle.av_kernel.proofs.Loads.{world_as}
 use Rattle.av_mem.proofs.MemLaws.{alive_is, listed, lives_is, no_cache, no_frame_at, slot_kept, nothing_clean}
 use Rattle.av_fault.proofs.FaultParts.{no_headers}
@@ -62,29 +62,6 @@ is_number q p e = grind (arith, nat_tests)
 
 pub other_number : (q p : ℕ) → (q == p) ≡ false → q ≢ p
 other_number q p e = grind (arith, nat_tests)
-
--- a command of the grammar turns no area on
-pub not_swapon : (command : Command) → is_in_grammar command ≡ true → is_swapon command ≡ false
-not_swapon (Swapon k) is = absurd (false≢true is)
-not_swapon (Spawn p) is = refl
-not_swapon (Fork p q) is = refl
-not_swapon (Exit p) is = refl
-not_swapon (Mmap p len prot place) is = refl
-not_swapon (Munmap p a len) is = refl
-not_swapon (Mprotect p a len prot) is = refl
-not_swapon (Mremap p a len new mode) is = refl
-not_swapon (Read p a n) is = refl
-not_swapon (Write p a bytes) is = refl
-not_swapon (Reclaim n) is = refl
-not_swapon (Age n) is = refl
-not_swapon (Complete n) is = refl
-not_swapon (Swapoff k) is = refl
-not_swapon (Maps p) is = refl
-not_swapon (AsksAreas p) is = refl
-not_swapon (AsksRmap p a) is = refl
-not_swapon (AsksEntry p a) is = refl
-not_swapon (AsksSlot k page) is = refl
-not_swapon Stat is = refl
 
 -- ---- areas and anon_vmas
 
@@ -120,7 +97,7 @@ rmap_kept {d} k s command answer plain keeps stay = next-plain (rmap_of s) s.wor
 
 -- the first test that holds refuses the command, and nothing changes
 pub refused : {d : Device} (k : Mem) (s : State) (command : Command) (error : Errno) → Keeps d k s →
-    refusal (tests (setting_by d k) s.world s.ledger command) ≡ Some error → MemSteps d k k s command (answer_only (Refused error))
+    refusal (tests (setting_by d k) s.world s.ledger command) ≡ Some error → StepsBeside d k k s command (answer_only (Refused error))
 refused {d} k s command error keeps is = record {
   next = s;
   step = record {
@@ -144,38 +121,115 @@ refused {d} k s command error keeps is = record {
 
 -- so a command is done where it is refused
 pub refuses : (k : Mem) (command : Command) (error : Errno) → ((d : Device) (s : State) → Keeps d k s →
-    refusal (tests (setting_by d k) s.world s.ledger command) ≡ Some error) → Does k k command (Err (refusals.Refused error))
+    refusal (tests (setting_by d k) s.world s.ledger command) ≡ Some error) → DoesBeside k k command (Err (refusals.Refused error))
 refuses k command error is = record { step = λ d s keeps. refused k s command error keeps (is d s keeps); count = refl }
 
 -- and where memory is wanting nothing is promised but the number of frames
-pub wants : (old new : Mem) (command : Command) → frame_count new ≡ frame_count old → Does old new command (Err refusals.Memory)
+pub wants : (old new : Mem) (command : Command) → frame_count new ≡ frame_count old → DoesBeside old new command (Err refusals.Memory)
 wants old new command same = record { step = λ d s keeps. tt; count = same }
 
 -- as `?` hands it out
 pub wants-by : (old new : Mem) (command : Command) (reply : Reply) (r : Result (Unit {0}) Refusal) → IsErr r × IsErrAnd r (λ e. e ≡ refusals.Memory) →
-    frame_count new ≡ frame_count old → Does old new command (reply_in reply r)
+    frame_count new ≡ frame_count old → DoesBeside old new command (reply_in reply r)
 wants-by old new command reply (Ok done) is same = absurd is.1
-wants-by old new command reply (Err e) is same = subst (λ e. Does old new command (Err e)) (sym is.1) (wants old new command same)
+wants-by old new command reply (Err e) is same = subst (λ e. DoesBeside old new command (Err e)) (sym is.1) (wants old new command same)
 
 pub refuses-by : (old new : Mem) (command : Command) (error : Errno) (reply : Reply) (r : Result (Unit {0}) Refusal) →
-    IsErr r × IsErrAnd r (λ e. e ≡ refusals.Refused error) → Does old new command (Err (refusals.Refused error)) → Does old new command (reply_in reply r)
+    IsErr r × IsErrAnd r (λ e. e ≡ refusals.Refused error) → DoesBeside old new command (Err (refusals.Refused error)) → DoesBeside old new command (reply_in reply r)
 refuses-by old new command error reply (Ok done) is does = absurd is.1
-refuses-by old new command error reply (Err e) is does = subst (λ e. Does old new command (Err e)) (sym is.1) does
+refuses-by old new command error reply (Err e) is does = subst (λ e. DoesBeside old new command (Err e)) (sym is.1) does
 
 pub refuses-as : (old new : Mem) (command : Command) (error : Errno) (reply : Reply) (r : Result (Unit {0}) Refusal) (x : Refusal) →
-    IsErr r × IsErrAnd r (λ e. e ≡ x) → x ≡ refusals.Refused error → Does old new command (Err (refusals.Refused error)) →
-    Does old new command (reply_in reply r)
+    IsErr r × IsErrAnd r (λ e. e ≡ x) → x ≡ refusals.Refused error → DoesBeside old new command (Err (refusals.Refused error)) →
+    DoesBeside old new command (reply_in reply r)
 refuses-as old new command error reply r x is same does = refuses-by old new command error reply r
     (is.0, subst (λ (y : Refusal). IsErrAnd r (λ e. e ≡ y)) same is.1) does
+
+-- ---- beside a device
+
+-- a device that stays as it is
+pub same_itself : (d : Device) → IsSameDevice d d
+same_itself d = record { sizes = refl; first = refl; faults = omega arith }
+
+pub same_then : (a b c : Device) → IsSameDevice a b → IsSameDevice b c → IsSameDevice a c
+same_then a b c p q = record { sizes = q.sizes ∙ p.sizes; first = q.first ∙ p.first; faults = omega (arith, p.faults, q.faults) }
+
+pub none_rose : (n count : ℕ) → n ≡ 0 → RoseBy n count count
+none_rose n count none = omega (arith, none)
+
+-- at some sizes it is steady
+pub steady_of : (sizes : ℕ → Option ℕ) (k : Mem) → IsSteadyAt sizes k → IsSteady k
+steady_of sizes k h = (h.0, h.2, h.3)
+
+-- what is so of a reply is so in other words
+pub reply-so : (o : Option Reply) (P Q : Reply → Type 0) → ((reply : Reply) → P reply → Q reply) → IfSome o P → IfSome o Q
+reply-so None P Q f h = tt
+reply-so (Some reply) P Q f h = f reply h
+
+-- a command that doesn't use the device does the same over any, which stays as it is
+pub beside : (old new : Mem) (command : Command) (result : Result Reply Refusal) → uses_device command ≡ false → DoesBeside old new command result →
+    (d : Device) → Does d d old new command result
+beside old new command result unused does d = record {
+  step = λ s keeps. reply-so (reply_of result) (StepsBeside d old new s command) (MemSteps d d old new s command) (λ reply h. record {
+    next = h.next;
+    step = h.step;
+    keeps = h.keeps;
+    same = same_itself d;
+    faults = none_rose (causes reply) d.faults
+        (unused-causes (setting_by d old) s.world s.ledger command reply h.step.events unused h.step.legal);
+  }) (does.step d s keeps);
+  steady = λ steady. reply-so (reply_of result) (StepsBeside steady.0 old new steady.2 command) (λ reply. IsSteadyAt d.sizes new)
+      (λ reply h. (steady.0, steady.1, h.next, h.keeps)) (does.step steady.0 steady.2 steady.3);
+  same = same_itself d;
+  count = does.count;
+}
+
+-- ---- refusals of a command that uses the device
+
+-- its first test refuses it, over any device
+pub refused-over : (k : Mem) (command : Command) (error : Errno) → fault_answers (Refused error) ≡ 0 → ((d : Device) (s : State) → Keeps d k s →
+    refusal (tests (setting_by d k) s.world s.ledger command) ≡ Some error) → (d : Device) → Does d d k k command (Err (refusals.Refused error))
+refused-over k command error mild is d = record {
+  step = λ s keeps. let h = refused k s command error keeps (is d s keeps) in record {
+    next = h.next;
+    step = h.step;
+    keeps = h.keeps;
+    same = same_itself d;
+    faults = none_rose (causes (answer_only (Refused error))) d.faults (ap (λ n. max (fails []) 0 + n) mild);
+  };
+  steady = λ steady. steady;
+  same = same_itself d;
+  count = refl;
+}
+
+-- as `?` hands it out
+pub beside-by : (k : Mem) (command : Command) (error : Errno) (reply : Reply) (r : Result (Unit {0}) Refusal) (x : Refusal) →
+    IsErr r × IsErrAnd r (λ e. e ≡ x) → x ≡ refusals.Refused error → fault_answers (Refused error) ≡ 0 → ((d : Device) (s : State) → Keeps d k s →
+    refusal (tests (setting_by d k) s.world s.ledger command) ≡ Some error) → (d : Device) → Does d d k k command (reply_in reply r)
+beside-by k command error reply (Ok done) x is same mild refuses d = absurd is.1
+beside-by k command error reply (Err e) x is same mild refuses d =
+    subst (λ e. Does d d k k command (Err e)) (sym (is.1 ∙ same)) (refused-over k command error mild refuses d)
+
+-- and where memory is wanting, what is promised of the device
+pub wants-over : (d d' : Device) (old new : Mem) (command : Command) (reply : Reply) (r : Result (Unit {0}) Refusal) →
+    IsErr r × IsErrAnd r (λ e. e ≡ refusals.Memory) → IsSameDevice d d' → frame_count new ≡ frame_count old →
+    Does d d' old new command (reply_in reply r)
+wants-over d d' old new command reply (Ok done) is same count = absurd is.1
+wants-over d d' old new command reply (Err e) is same count = subst (λ e. Does d d' old new command (Err e)) (sym is.1) (record {
+  step = λ s keeps. tt;
+  steady = λ steady. tt;
+  same = same;
+  count = count;
+})
 
 -- a cleared reply that is given an answer says no more
 pub only_answer : (reply : Reply) (answer : Answer) → IsCleared reply → record reply { answer = answer } ≡ answer_only answer
 only_answer reply answer cleared = λ i. record { answer = answer; notes = cleared.notes i; rows = cleared.rows i }
 
 pub answers : {d : Device} {old new : Mem} {s : State} {command : Command} {answer : Answer} (reply reply' : Reply) → IsCleared reply →
-    reply' ≡ record reply { answer = answer } → MemSteps d old new s command (answer_only answer) → MemSteps d old new s command reply'
+    reply' ≡ record reply { answer = answer } → StepsBeside d old new s command (answer_only answer) → StepsBeside d old new s command reply'
 answers {d} {old} {new} {s} {command} {answer} reply reply' cleared is steps =
-    subst (MemSteps d old new s command) (sym (is ∙ only_answer reply answer cleared)) steps
+    subst (StepsBeside d old new s command) (sym (is ∙ only_answer reply answer cleared)) steps
 
 -- a process that has no areas is refused first
 pub dead_first : {d : Device} (k : Mem) (s : State) (p : ℕ) (rest : Option Errno) → Keeps d k s → is_some (areas_of k.spaces.processes p) ≡ false →
@@ -206,7 +260,7 @@ pub stepped : {d : Device} (old new : Mem) (s next : State) (command : Command) 
     frame_count new ≡ frame_count old → HasLedger d new next.ledger → free_of (view new) ≡ next.free
     → AreasAre (view new) next.areas → AnonsStand (view new) next.areas next.anons → HomesAre (view new) next.homes → IsRmapSound next.ledger (rmap_of next) →
     AnonsFit new.spaces new.anons → AreasStand (view new) next.world → HasTables new →
-    ((q page : ℕ) → IsKept (view new) d next.ledger (entry next.ledger (q, page)) (pages next.world q page)) → MemSteps d old new s command reply
+    ((q page : ℕ) → IsKept (view new) d next.ledger (entry next.ledger (q, page)) (pages next.world q page)) → StepsBeside d old new s command reply
 stepped {d} old new s next command reply keeps step same_count stands free areas_now anons_now homes_now reach fit areas tables kept = record {
   next = next;
   step = step;
@@ -312,7 +366,7 @@ module _ {d : Device} (old new : Mem) (s : State) (command : Command) (reply : R
       home_at k f h names is false e = is
 
   pub changed : IsStep (setting_by d old) s command reply (state_after s p now on l (free_of (view new)) new.anons) →
-      AreasAre (view new) (with_at p on s.areas) → AreasStand (view new) (set_process s.world p now) → HasTables new → MemSteps d old new s command reply
+      AreasAre (view new) (with_at p on s.areas) → AreasStand (view new) (set_process s.world p now) → HasTables new → StepsBeside d old new s command reply
   changed step areas_now areas tables = stepped old new s (state_after s p now on l (free_of (view new)) new.anons) command reply keeps
       step same_count stands refl areas_now
       (anons_stand d old s keeps new.spaces new.anons stay (with_at p on s.areas) areas_now new refl refl) (λ f. ap (λ h. h f) homes ∙ keeps.stands.homes f)

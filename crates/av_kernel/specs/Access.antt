@@ -1,9 +1,11 @@
 -- What a whole read or write does.
-use Rattle.std.specs.Prelude.{◌≡◌, ℕ, ◌+◌, ◌-◌, ◌<◌, ◌++◌, Bool, true, false, List, min, Option, Some, None}
+use Rattle.std.specs.Prelude.{◌≡◌, ℕ, ◌+◌, ◌-◌, ◌<◌, ◌++◌, Bool, true, false, List, [], min, Option, Some, None}
 use Rattle.av_trace.specs.declared.note.Note.{Note}
 use Rattle.av_trace.specs.declared.reply.Answer.{Answer}
 use Rattle.av_trace.specs.declared.reply.Answer.TheVariants as answers
-use Rattle.av_plain.specs.Device.{Device}
+use Rattle.av_io.specs.Count.{RoseBy}
+use Rattle.av_plain.specs.Device.{Device, IsSameDevice}
+use Rattle.av_plain.specs.Step.{causes}
 use Rattle.av_plain.specs.World.{World}
 use Rattle.av_base.specs.Page.{address_of, page_size}
 use Rattle.av_plain.specs.Event.{Event, after_all, notes_of}
@@ -17,6 +19,26 @@ use Rattle.av_fault.specs.declared.fault.Stop.{Stop}
 use Rattle.av_fault.specs.declared.fault.Stop.TheVariants.{Segv, Oom}
 use Rattle.av_mem.specs.Mem.{setting_by, Keeps}
 use Rattle.av_fault.specs.Fault.{stop_of}
+
+-- ---- what it answers
+
+-- the answer of an access that stopped
+abbrev pub answer_of : Stop → ℕ → List ℕ → Answer
+answer_of Segv k shown = answers.Segv k shown
+answer_of (Oom out) k shown = answers.Oom k out shown
+
+-- the answer of an access by how it ended: this one where it was whole
+abbrev pub answer_at : Option Stop → Answer → ℕ → List ℕ → Answer
+answer_at None whole k shown = whole
+answer_at (Some stop) whole k shown = answer_of stop k shown
+
+-- by how much the device's count of faults has risen at the least, where an access has these notes
+-- and ends so
+abbrev pub causes_of_access : List Note → Option Stop → ℕ
+causes_of_access notes stop =
+    causes (record { answer = answer_at stop answers.Done 0 []; notes = notes; rows = [] })
+
+-- ---- what it does
 
 -- it begins behind the first `done` of n bytes, and goes on to the end of its page or of the bytes
 abbrev pub IsPiece : ℕ → ℕ → ℕ → Piece → Type 0
@@ -36,8 +58,8 @@ world_served true p a bytes w = after_write w p a bytes
 world_served false p a bytes w = w
 
 -- an access of n bytes, k of them served, and those of a write stored: its events, its notes, where
--- it ended, and what the kernel stands for then
-pub record IsAccess (d : Device) (s : State) (new : Mem) (write : Bool) (p a n : ℕ)
+-- it ended, and what the kernel stands for then, with the device as it is then
+pub record IsAccess (d d' : Device) (s : State) (new : Mem) (write : Bool) (p a n : ℕ)
     (bytes : List ℕ) (before now : List Note) (stop : Option Stop) (k : ℕ) : Type 0 where
   pub events : List Event
   pub notes : now ≡ before ++ notes_of events
@@ -50,14 +72,6 @@ pub record IsAccess (d : Device) (s : State) (new : Mem) (write : Bool) (p a n :
   pub ledger : next.ledger ≡ after_all s.ledger events
   pub free : ChoosesAll (setting_by d new) None s.ledger events s.free next.free
   pub rmap : rmap_of next ≡ rmap_after_all s.ledger events (rmap_of s)
-  pub keeps : Keeps d new next
-
--- the answer of an access that stopped
-abbrev pub answer_of : Stop → ℕ → List ℕ → Answer
-answer_of Segv k shown = answers.Segv k shown
-answer_of (Oom out) k shown = answers.Oom k out shown
-
--- the answer of an access by how it ended: this one where it was whole
-abbrev pub answer_at : Option Stop → Answer → ℕ → List ℕ → Answer
-answer_at None whole k shown = whole
-answer_at (Some stop) whole k shown = answer_of stop k shown
+  pub keeps : Keeps d' new next
+  pub same : IsSameDevice d d'
+  pub faults : RoseBy (causes_of_access (notes_of events) stop) d.faults d'.faults

@@ -1,5 +1,5 @@
 -- What the kernel stands for, and what one command does to it.
-use Rattle.std.specs.Prelude.{◌≡◌, ℕ, ◌+◌, true, false}
+use Rattle.std.specs.Prelude.{◌≡◌, ℕ, ◌+◌, List, true, false}
 use Rattle.av_trace.specs.declared.command.Command.{Command}
 use Rattle.av_trace.specs.declared.reply.Reply.{Reply}
 use Rattle.av_io.specs.Count.{RoseBy}
@@ -26,9 +26,10 @@ pub record Steps (old new : Machine) (device device' : Device) (s : State) (comm
   pub stands : Stands new device' next
   pub faults : RoseBy (causes reply) device.faults device'.faults
 
--- so many frames, and no command yet
-pub record IsNew (n : ℕ) (k : Machine) : Type 0 where
+-- so many frames, swap areas with so many pages each, and no command yet
+pub record IsNew (n : ℕ) (pages : List ℕ) (k : Machine) : Type 0 where
   pub frames : k.frames ≡ n
+  pub sizes : k.sizes ≡ pages
   pub steps : k.steps ≡ 0
   pub tally : k.tally ≡ none_counted
   pub spent : k.spent ≡ false
@@ -37,6 +38,7 @@ pub record IsNew (n : ℕ) (k : Machine) : Type 0 where
 -- in it
 pub record Counts (old new : Machine) (reply : Reply) : Type 0 where
   pub frames : new.frames ≡ old.frames
+  pub sizes : new.sizes ≡ old.sizes
   pub steps : new.steps ≡ old.steps + 1
   pub tally : new.tally ≡ tally_with reply.answer old.tally
   pub was_spent : old.spent ≡ false
@@ -45,6 +47,7 @@ pub record Counts (old new : Machine) (reply : Reply) : Type 0 where
 -- memory was wanting: the kernel is spent, nothing is counted, and one that was spent is as it was
 pub record IsSpent (old new : Machine) : Type 0 where
   pub frames : new.frames ≡ old.frames
+  pub sizes : new.sizes ≡ old.sizes
   pub steps : new.steps ≡ old.steps
   pub tally : new.tally ≡ old.tally
   pub spent : new.spent ≡ true

@@ -1,8 +1,8 @@
 pub mod Step
 pub mod Process
 pub mod Map
-pub mod Page
 pub mod Access
+pub mod Page
 pub mod Report
 pub mod Tally
 pub mod Machine

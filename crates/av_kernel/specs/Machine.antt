@@ -1,14 +1,15 @@
 -- What is shown of a kernel, and what is true of every one.
-use Rattle.std.specs.Prelude.{◌≡◌, ℕ, Bool, false, refl}
-use Rattle.std.specs.Coded.{Coded, code_by, coded×, coded_ℕ, coded_bool}
+use Rattle.std.specs.Prelude.{◌≡◌, ℕ, Bool, false, List, Option, refl, slice_get}
+use Rattle.std.specs.Coded.{Coded, code_by, coded×, coded_ℕ, coded_bool, coded_list}
 use Rattle.av_mem.specs.declared.mem.Mem.{Mem}
-use Rattle.av_mem.specs.Mem.{IsSteady}
 use Rattle.av_kernel.specs.declared.tally.Tally.{Tally}
+use Rattle.av_kernel.specs.Step.{IsSteadyAt}
 use Rattle.av_kernel.specs.Tally.{IsAtMost}
 
 pub record Machine : Type 0 where
-  -- how many frames there are
+  -- how many frames there are, and how many pages each attached swap area has
   pub frames : ℕ
+  pub sizes : List ℕ
   pub mem : Mem
   -- how many commands were answered, and how often each first word of a reply
   pub steps : ℕ
@@ -18,20 +19,27 @@ pub record Machine : Type 0 where
 
 abbrev pub machine_code : Coded Mem → Coded Tally → Coded Machine
 machine_code mem tally =
-    code_by (ℕ × (Mem × (ℕ × (Tally × Bool))))
-    (coded× coded_ℕ (coded× mem (coded× coded_ℕ (coded× tally coded_bool))))
-    (λ s. (s.frames, (s.mem, (s.steps, (s.tally, s.spent)))))
+    code_by (ℕ × (List ℕ × (Mem × (ℕ × (Tally × Bool)))))
+    (coded× coded_ℕ (coded× (coded_list coded_ℕ) (coded× mem (coded× coded_ℕ
+    (coded× tally coded_bool)))))
+    (λ s. (s.frames, (s.sizes, (s.mem, (s.steps, (s.tally, s.spent))))))
     (λ p. record {
       frames = p.0;
-      mem = p.1.0;
-      steps = p.1.1.0;
-      tally = p.1.1.1.0;
-      spent = p.1.1.1.1;
+      sizes = p.1.0;
+      mem = p.1.1.0;
+      steps = p.1.1.1.0;
+      tally = p.1.1.1.1.0;
+      spent = p.1.1.1.1.1;
     })
     (λ _. refl)
 
+-- the sizes of swap areas by their numbers: an area past them is not attached
+abbrev pub sizes_of : List ℕ → ℕ → Option ℕ
+sizes_of sizes k = slice_get sizes k
+
 -- no word of a reply came more often than commands were answered; where memory never ran out, the
--- memory system stands for something
-pub record IsSound (mem : Mem) (steps : ℕ) (tally : Tally) (spent : Bool) : Type 0 where
+-- memory system stands for something over a device with these sizes
+pub record IsSound (sizes : List ℕ) (mem : Mem) (steps : ℕ) (tally : Tally) (spent : Bool)
+    : Type 0 where
   pub few : IsAtMost steps tally
-  pub steady : spent ≡ false → IsSteady mem
+  pub steady : spent ≡ false → IsSteadyAt (sizes_of sizes) mem

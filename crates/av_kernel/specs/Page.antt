@@ -3,7 +3,8 @@ use Rattle.std.specs.Prelude.{◌≡◌, ℕ, ◌+◌, ◌^◌, ◌<◌, ◌++�
 use Rattle.std.specs.List.{AllByRecursion}
 use Rattle.av_base.specs.Page.{address_of}
 use Rattle.av_trace.specs.declared.note.Note.{Note}
-use Rattle.av_plain.specs.Device.{Device}
+use Rattle.av_io.specs.Count.{RoseBy}
+use Rattle.av_plain.specs.Device.{Device, IsSameDevice}
 use Rattle.av_plain.specs.World.{World, pages, Shows}
 use Rattle.av_plain.specs.Event.{after_all}
 use Rattle.av_plain.specs.Fault.{Touches}
@@ -15,14 +16,16 @@ use Rattle.av_mem.specs.declared.mem.Mem.{Mem}
 use Rattle.av_mem.specs.Mem.{setting_by, Keeps}
 use Rattle.av_fault.specs.declared.fault.Stop.{Stop}
 use Rattle.av_fault.specs.Fault.{stop_of}
+use Rattle.av_kernel.specs.Access.{causes_of_access}
 
 -- the memories after a write that was served, and after all else
 abbrev pub world_after : Bool → ℕ → ℕ → ℕ → List ℕ → Option Stop → World → World
 world_after true p page at piece None w = after_write w p (address_of page + at) piece
 world_after write p page at piece end w = w
 
--- one page of an access: its notes, where it ended, and what the kernel stands for then
-pub record IsPageStep (d : Device) (s : State) (new : Mem) (write : Bool) (p page at : ℕ)
+-- one page of an access: its notes, where it ended, and what the kernel stands for then, with the
+-- device as it is then
+pub record IsPageStep (d d' : Device) (s : State) (new : Mem) (write : Bool) (p page at : ℕ)
     (piece : List ℕ) (before now : List Note) (end : Option Stop) : Type 0 where
   pub added : List Note
   pub notes : now ≡ before ++ added
@@ -37,7 +40,9 @@ pub record IsPageStep (d : Device) (s : State) (new : Mem) (write : Bool) (p pag
   pub rmap : rmap_of next
       ≡ rmap_after_all s.ledger (page_events write (p, page) added (option_map stop_of end))
       (rmap_of s)
-  pub keeps : Keeps d new next
+  pub keeps : Keeps d' new next
+  pub same : IsSameDevice d d'
+  pub faults : RoseBy (causes_of_access added end) d.faults d'.faults
 
 -- what a read of n bytes shows of a page that was served
 abbrev pub ShowsPiece : World → ℕ → ℕ → ℕ → ℕ → List ℕ → List ℕ → Option Stop → Type 0

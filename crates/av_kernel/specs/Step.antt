@@ -1,12 +1,15 @@
 -- What one command does to the memory system.
-use Rattle.std.specs.Prelude.{◌≡◌, Bool, false, true, Option, Some, None, Result, Ok, Err, IfSome}
+use Rattle.std.specs.Prelude.{◌≡◌, ℕ, Bool, false, true, List, Option, Some, None, Result, Ok, Err, IfSome, is_some}
 use Rattle.av_trace.specs.declared.command.Command.{Command}
 use Rattle.av_trace.specs.declared.command.Command.TheVariants.{Mmap, Mprotect, Mremap, Munmap}
 use Rattle.av_trace.specs.declared.reply.Answer.TheVariants as answers
 use Rattle.av_trace.specs.declared.reply.Reply.{Reply}
 use Rattle.av_trace.specs.Reply.{answer_only}
-use Rattle.av_plain.specs.Device.{Device}
+use Rattle.av_io.specs.Count.{RoseBy}
+use Rattle.av_plain.specs.Device.{Device, IsSameDevice, device_by}
+use Rattle.av_plain.specs.Step.{causes}
 use Rattle.av_plain.specs.Transcript.{State, IsStep}
+use Rattle.av_spaces.specs.Spaces.{areas_of}
 use Rattle.av_mem.specs.declared.mem.Mem.{Mem}
 use Rattle.av_mem.specs.Mem.{setting_by, frame_count, Keeps}
 use Rattle.av_kernel.specs.declared.refusal.Refusal.{Refusal}
@@ -31,16 +34,59 @@ reply_of (Ok reply) = Some reply
 reply_of (Err (Refused error)) = Some (answer_only (answers.Refused error))
 reply_of (Err Memory) = None
 
--- a command's reply is a step over this device, and the memory system stands for what it leaves
-pub record MemSteps (d : Device) (old new : Mem) (s : State) (command : Command) (reply : Reply)
+-- ---- the device
+
+-- a device by what is told of one
+abbrev pub seen_by : {D : Type 0} → (D → ℕ → Option ℕ) → (D → Option (ℕ → ℕ → List ℕ)) → (D → ℕ)
+    → D → Device
+seen_by sizes pages faults d = device_by (sizes d) (pages d) (faults d)
+
+-- over some device with these sizes the memory system stands for something
+abbrev pub IsSteadyAt : (ℕ → Option ℕ) → Mem → Type 0
+IsSteadyAt sizes k = (d : Device) × (d.sizes ≡ sizes) × (s : State) × Keeps d k s
+
+-- and a process lives in it
+abbrev pub IsSteadyFor : (ℕ → Option ℕ) → ℕ → Mem → Type 0
+IsSteadyFor sizes p k = IsSteadyAt sizes k × (is_some (areas_of k.spaces.processes p) ≡ true)
+
+-- ---- commands
+
+-- a command's reply is a step over the device as it was; it is the same device then, and with it
+-- the memory system stands for what the step leaves; what only faults of the device explain is
+-- within what it failed
+pub record MemSteps (d d' : Device) (old new : Mem) (s : State) (command : Command) (reply : Reply)
+    : Type 0 where
+  pub next : State
+  pub step : IsStep (setting_by d old) s command reply next
+  pub keeps : Keeps d' new next
+  pub same : IsSameDevice d d'
+  pub faults : RoseBy (causes reply) d.faults d'.faults
+
+-- What every command promises, over the device as it was and as it is: whatever the memory system
+-- stood for, the reply is a step, and it stands for what that leaves; and where it stood for
+-- something over other pages of these sizes, so it does then. It is the same device, and there are
+-- as many frames as before, also where memory was wanting
+pub record Does (d d' : Device) (old new : Mem) (command : Command) (result : Result Reply Refusal)
+    : Type 0 where
+  pub step : (s : State) → Keeps d old s
+      → IfSome (reply_of result) (MemSteps d d' old new s command)
+  pub steady : IsSteadyAt d.sizes old → IfSome (reply_of result) (λ reply. IsSteadyAt d.sizes new)
+  pub same : IsSameDevice d d'
+  pub count : frame_count new ≡ frame_count old
+
+-- ---- commands that don't use the device
+
+-- beside this device, which stays as it is, a command's reply is a step, and the memory system
+-- stands for what it leaves
+pub record StepsBeside (d : Device) (old new : Mem) (s : State) (command : Command) (reply : Reply)
     : Type 0 where
   pub next : State
   pub step : IsStep (setting_by d old) s command reply next
   pub keeps : Keeps d new next
 
--- What every command promises: over any device, and whatever the memory system stood for, the reply
--- is a step, and it stands for what that leaves. There are as many frames as before
-pub record Does (old new : Mem) (command : Command) (result : Result Reply Refusal) : Type 0 where
+-- what a command promises that doesn't use the device: it does so beside any
+pub record DoesBeside (old new : Mem) (command : Command) (result : Result Reply Refusal)
+    : Type 0 where
   pub step : (d : Device) (s : State) → Keeps d old s
-      → IfSome (reply_of result) (MemSteps d old new s command)
+      → IfSome (reply_of result) (StepsBeside d old new s command)
   pub count : frame_count new ≡ frame_count old

@@ -1,13 +1,12 @@
 //! Reads and writes, page by page.
 
-ghost use Rattle.std.specs.Prelude.{◌≡◌, ◌<◌, [], true, false, is_some, length, take, IfOk};
-ghost use Rattle.av_plain.specs.Device.{Device};
+ghost use Rattle.std.specs.Prelude.{◌≡◌, ◌<◌, [], true, false, length, take, IfOk};
+ghost use Rattle.av_plain.specs.Device.{IsSameDevice};
 ghost use Rattle.av_plain.specs.Transcript.{State};
 ghost use Rattle.av_plain.specs.Access.{Reads};
 ghost use Rattle.av_plain.specs.World.{pages};
-ghost use Rattle.av_spaces.specs.Spaces.{areas_of};
-ghost use Rattle.av_mem.specs.Mem.{frame_count, Keeps, IsSteady};
-ghost use Rattle.av_kernel.specs.Step.{Does, reply_in};
+ghost use Rattle.av_mem.specs.Mem.{frame_count, Keeps};
+ghost use Rattle.av_kernel.specs.Step.{Does, IsSteadyAt, IsSteadyFor, reply_in, seen_by};
 ghost use Rattle.av_kernel.specs.Access.{IsPiece, IsAccess, answer_at, answer_of};
 ghost use Rattle.av_trace.specs.Reply.{IsCleared};
 ghost use Rattle.av_trace.specs.declared.command.Command.TheVariants as commands;
@@ -20,6 +19,7 @@ use crate::refusal::Refusal;
 use av_base::PAGE_SIZE;
 use av_fault::Stop;
 use av_mem::Mem;
+use av_swapdev::SwapDev;
 use av_text::Bytes;
 use av_trace::{Answer, Notes, Reply};
 use std::alloc::{AllocError, Global};
@@ -45,8 +45,9 @@ struct Ended {
 
 /// Does a `read`: the bytes, or those before the page at which it stops. They take the memory of
 /// `spare`.
-pub fn read(
+pub fn read<D: SwapDev>(
     mem: &mut Mem,
+    dev: &mut D,
     spare: &mut Bytes,
     alloc: Global,
     process: u16,
@@ -54,63 +55,69 @@ pub fn read(
     len: u16,
     reply: &mut Reply,
 ) -> Result<(), Refusal>
-    requires steady { IsSteady mem.old }
+    requires steady { IsSteadyAt (D.sizes dev.old) mem.old }
     requires cleared { IsCleared reply.old }
-    ensures { Does mem.old mem.new (commands.Read process address len) (reply_in reply.new result) }
+    ensures { let d = seen_by D.sizes D.pages D.faults in Does (d dev.old) (d dev.new)
+        mem.old mem.new (commands.Read process address len) (reply_in reply.new result) }
 {
     check_lives(mem, process)?;
     let mut shown = replace(spare, Bytes::new(alloc));
     shown.clear();
     let notes = &mut reply.notes;
-    let ended = read_pieces(mem, process, address, len as usize, &mut shown, notes)?;
+    let ended = read_pieces(mem, dev, process, address, len as usize, &mut shown, notes)?;
     answer_with(reply, read_answer(ended, shown));
     Ok(())
 }
 
 /// Does a `write`, or tells how many bytes are stored before the page at which it stops.
-pub fn write(
+pub fn write<D: SwapDev>(
     mem: &mut Mem,
+    dev: &mut D,
     alloc: Global,
     process: u16,
     address: u64,
     bytes: &[u8],
     reply: &mut Reply,
 ) -> Result<(), Refusal>
-    requires steady { IsSteady mem.old }
+    requires steady { IsSteadyAt (D.sizes dev.old) mem.old }
     requires cleared { IsCleared reply.old }
-    ensures { Does mem.old mem.new (commands.Write process address bytes.now)
-        (reply_in reply.new result) }
+    ensures { let d = seen_by D.sizes D.pages D.faults in Does (d dev.old) (d dev.new)
+        mem.old mem.new (commands.Write process address bytes.now) (reply_in reply.new result) }
 {
     check_lives(mem, process)?;
-    let ended = write_pieces(mem, process, address, bytes, &mut reply.notes)?;
+    let ended = write_pieces(mem, dev, process, address, bytes, &mut reply.notes)?;
     answer_with(reply, write_answer(alloc, ended));
     Ok(())
 }
 
 /// Reads the pages in turn, up to the first that is not served.
-fn read_pieces(
+fn read_pieces<D: SwapDev>(
     mem: &mut Mem,
+    dev: &mut D,
     process: u16,
     address: u64,
     len: usize,
     shown: &mut Bytes,
     notes: &mut Notes,
 ) -> Result<Ended, AllocError>
-    requires steady { IsSteady mem.old }
-    requires lives { is_some (areas_of mem.old.spaces.processes process) ≡ true }
+    requires steady { IsSteadyFor (D.sizes dev.old) process mem.old }
     requires fresh { shown.old ≡ [] }
-    ensures access { (d : Device) (s : State) → Keeps d mem.old s → IfOk result (λ ended.
-        IsAccess d s mem.new false process address len [] notes.old notes.new
-        ended.stop ended.served) }
-    ensures reads { (d : Device) (s : State) → Keeps d mem.old s → IfOk result (λ ended.
-        Reads (pages s.world process) address ended.served shown.new) }
+    ensures access { let d = seen_by D.sizes D.pages D.faults in (s : State)
+        → Keeps (d dev.old) mem.old s → IfOk result (λ ended.
+        IsAccess (d dev.old) (d dev.new) s mem.new false process address len []
+        notes.old notes.new ended.stop ended.served) }
+    ensures reads { (s : State) → Keeps (seen_by D.sizes D.pages D.faults dev.old) mem.old s
+        → IfOk result (λ ended. Reads (pages s.world process) address ended.served shown.new) }
+    ensures steady { IfOk result (λ ended. IsSteadyFor (D.sizes dev.old) process mem.new) }
+    ensures same { let d = seen_by D.sizes D.pages D.faults in
+        IsSameDevice (d dev.old) (d dev.new) }
     ensures count { frame_count mem.new ≡ frame_count mem.old }
 {
     let mut done = 0;
     while done < len {
         let piece = next_piece(address, len, done);
         if let Some(stop) = read_page(
-            mem, process, piece.page, piece.at, piece.len, shown, notes,
+            mem, dev, process, piece.page, piece.at, piece.len, shown, notes,
         )? {
             return Ok(Ended {
                 stop: Some(stop),
@@ -126,25 +133,29 @@ fn read_pieces(
 }
 
 /// Writes the pages in turn, up to the first that is not served.
-fn write_pieces(
+fn write_pieces<D: SwapDev>(
     mem: &mut Mem,
+    dev: &mut D,
     process: u16,
     address: u64,
     bytes: &[u8],
     notes: &mut Notes,
 ) -> Result<Ended, AllocError>
-    requires steady { IsSteady mem.old }
-    requires lives { is_some (areas_of mem.old.spaces.processes process) ≡ true }
-    ensures access { (d : Device) (s : State) → Keeps d mem.old s → IfOk result (λ ended.
-        IsAccess d s mem.new true process address (length bytes.now) (take ended.served bytes.now)
-        notes.old notes.new ended.stop ended.served) }
+    requires steady { IsSteadyFor (D.sizes dev.old) process mem.old }
+    ensures access { let d = seen_by D.sizes D.pages D.faults in (s : State)
+        → Keeps (d dev.old) mem.old s → IfOk result (λ ended.
+        IsAccess (d dev.old) (d dev.new) s mem.new true process address (length bytes.now)
+        (take ended.served bytes.now) notes.old notes.new ended.stop ended.served) }
+    ensures steady { IfOk result (λ ended. IsSteadyFor (D.sizes dev.old) process mem.new) }
+    ensures same { let d = seen_by D.sizes D.pages D.faults in
+        IsSameDevice (d dev.old) (d dev.new) }
     ensures count { frame_count mem.new ≡ frame_count mem.old }
 {
     let mut done = 0;
     while done < bytes.len() {
         let piece = next_piece(address, bytes.len(), done);
         let part = &bytes[done..done + piece.len];
-        if let Some(stop) = write_page(mem, process, piece.page, piece.at, part, notes)? {
+        if let Some(stop) = write_page(mem, dev, process, piece.page, piece.at, part, notes)? {
             return Ok(Ended {
                 stop: Some(stop),
                 served: done,

@@ -1,19 +1,24 @@
 //! The kernel, one command at a time.
 
-ghost use Rattle.std.specs.Prelude.{◌≡◌, ◌<◌, ◌^◌, IfOk, OnOk, OnErr, true, false};
+ghost use Rattle.std.specs.Prelude.{◌≡◌, ◌<◌, ◌≤◌, ◌^◌, IfOk, OnOk, OnErr, length, true, false};
 ghost use Rattle.av_base.specs.Limits.{most_commands};
 ghost use Rattle.av_trace.specs.Command.{is_in_grammar};
-ghost use Rattle.av_plain.specs.Device.{Device, setting_of};
+ghost use Rattle.av_plain.specs.Device.{Device, IsSameDevice, setting_of};
 ghost use Rattle.av_plain.specs.Transcript.{State, at_first};
+ghost use Rattle.av_swapdev.specs.Device.{most_areas};
 ghost use Rattle.av_kernel.specs.Kernel.{Stands, Steps, Counts, IsNew, IsSpent};
+ghost use Rattle.av_kernel.specs.Machine.{sizes_of};
+ghost use Rattle.av_kernel.specs.Step.{seen_by};
 
 use crate::step::perform;
 use crate::tally::Tally;
 use av_anon::Anons;
 use av_frames::Frames;
+use av_lru::Lru;
 use av_mem::Mem;
 use av_pagetable::{PageTable, Tables};
 use av_spaces::Spaces;
+use av_swapdev::SwapDev;
 use av_text::Bytes;
 use av_trace::{Command, Reply};
 use std::alloc::{AllocError, Global};
@@ -23,6 +28,8 @@ use std::marker::Model;
 #[derive(Drop)]
 pub struct Kernel {
     mem: Mem,
+    /// How many pages each attached swap area has, by its number.
+    sizes: Vec<u32>,
     steps: u32,
     tally: Tally,
     spent: bool,
@@ -42,24 +49,28 @@ impl Model for Kernel {
 
     ghost view = { λ k. record {
       frames = frame_count k.mem;
+      sizes = k.sizes.items;
       mem = k.mem;
       steps = k.steps;
       tally = k.tally;
       spent = k.spent;
     } };
 
-    ghost invariant = { λ k. IsSound k.mem k.steps k.tally k.spent };
+    ghost invariant = { λ k. IsSound k.sizes.items k.mem k.steps k.tally k.spent };
 }
 
 impl Kernel {
-    /// A kernel with this many frames, all free, and no process.
-    pub fn new(alloc: Global, frames: u32) -> Result<Kernel, AllocError>
+    /// A kernel with this many frames, all free, and no process. `pages` says how many pages each
+    /// attached swap area has, by its number; none is on yet.
+    pub fn new(alloc: Global, frames: u32, pages: &[u32]) -> Result<Kernel, AllocError>
+        requires { length pages.now ≤ most_areas }
         ensures stands { IfOk result (λ k. (d : Device) →
             Stands k d (at_first (setting_of frames d))) }
-        ensures new { IfOk result (IsNew frames) }
+        ensures new { IfOk result (IsNew frames pages.now) }
     {
         Ok(Kernel {
             mem: Mem::new(alloc, frames)?,
+            sizes: Vec::from_slice(alloc, pages)?,
             steps: 0,
             tally: Tally::new(),
             spent: false,
@@ -68,17 +79,26 @@ impl Kernel {
     }
 
     /// Does one command of the grammar. After want of memory the kernel is spent: then it does
-    /// nothing more.
-    pub fn step(&mut self, alloc: Global, command: &Command) -> Result<Reply, AllocError>
+    /// nothing more. The device has the swap areas with which the kernel was made.
+    pub fn step<D: SwapDev>(
+        &mut self,
+        alloc: Global,
+        command: &Command,
+        dev: &mut D,
+    ) -> Result<Reply, AllocError>
         requires few { self.old.steps < most_commands }
         requires grammar { is_in_grammar command.now ≡ true }
-        ensures stands { (d : Device) (s : State) → Stands self.old d s →
-            IfOk result (Steps self.old self.new d d s command.now) }
+        requires attached { D.sizes dev.old ≡ sizes_of self.old.sizes }
+        ensures stands { let d = seen_by D.sizes D.pages D.faults in (s : State)
+            → Stands self.old (d dev.old) s → IfOk result
+            (Steps self.old self.new (d dev.old) (d dev.new) s command.now) }
         ensures counts { IfOk result (Counts self.old self.new) }
         ensures spent { OnErr result (IsSpent self.old self.new) }
+        ensures same { let d = seen_by D.sizes D.pages D.faults in
+            IsSameDevice (d dev.old) (d dev.new) }
     {
         let mut reply = Reply::new(alloc);
-        self.answer(alloc, command, &mut reply)?;
+        self.answer(alloc, command, dev, &mut reply)?;
         Ok(reply)
     }
 
@@ -86,23 +106,28 @@ impl Kernel {
     /// notes, its rows and the bytes that it shows serves again.
     ///
     /// After want of memory nothing is promised of the reply.
-    pub fn answer(
+    pub fn answer<D: SwapDev>(
         &mut self,
         alloc: Global,
         command: &Command,
+        dev: &mut D,
         reply: &mut Reply,
     ) -> Result<(), AllocError>
         requires few { self.old.steps < most_commands }
         requires grammar { is_in_grammar command.now ≡ true }
-        ensures stands { (d : Device) (s : State) → Stands self.old d s →
-            OnOk result (Steps self.old self.new d d s command.now reply.new) }
+        requires attached { D.sizes dev.old ≡ sizes_of self.old.sizes }
+        ensures stands { let d = seen_by D.sizes D.pages D.faults in (s : State)
+            → Stands self.old (d dev.old) s → OnOk result
+            (Steps self.old self.new (d dev.old) (d dev.new) s command.now reply.new) }
         ensures counts { OnOk result (Counts self.old self.new reply.new) }
         ensures spent { OnErr result (IsSpent self.old self.new) }
+        ensures same { let d = seen_by D.sizes D.pages D.faults in
+            IsSameDevice (d dev.old) (d dev.new) }
     {
         if self.spent {
             return Err(AllocError);
         }
-        match perform(&mut self.mem, &mut self.spare, alloc, command, reply) {
+        match perform(&mut self.mem, dev, &mut self.spare, alloc, command, reply) {
             Ok(()) => {
                 self.steps += 1;
                 self.tally.count(&reply.answer);
@@ -120,6 +145,13 @@ impl Kernel {
         ensures { result.now ≡ self.now.mem.frames }
     {
         &self.mem.frames
+    }
+
+    /// The two lists of the frames in use.
+    pub fn lists(&self) -> &Lru
+        ensures { result.now ≡ self.now.mem.lists }
+    {
+        &self.mem.lists
     }
 
     /// The page tables of the processes that live.

@@ -12,7 +12,7 @@ ghost use Rattle.av_spaces.specs.Spaces.{areas_of, is_taken, pages_of};
 ghost use Rattle.av_mem.specs.Mem.{frame_count, IsSteady, HasLedger};
 ghost use Rattle.av_place.specs.Place.{AreToUnmap};
 ghost use Rattle.av_kernel.specs.Map.{AreUnmapped};
-ghost use Rattle.av_kernel.specs.Step.{Does, reply_in};
+ghost use Rattle.av_kernel.specs.Step.{DoesBeside, reply_in};
 ghost use Rattle.av_trace.specs.Reply.{IsCleared};
 ghost use Rattle.av_trace.specs.declared.command.Command.TheVariants as commands;
 
@@ -36,7 +36,7 @@ pub fn mmap(
 ) -> Result<(), Refusal>
     requires steady { IsSteady mem.old }
     requires cleared { IsCleared reply.old }
-    ensures { Does mem.old mem.new (commands.Mmap process len prot place)
+    ensures { DoesBeside mem.old mem.new (commands.Mmap process len prot place)
         (reply_in reply.new result) }
 {
     check_lives(mem, process)?;
@@ -65,7 +65,7 @@ pub fn munmap(
 ) -> Result<(), Refusal>
     requires steady { IsSteady mem.old }
     requires cleared { IsCleared reply.old }
-    ensures { Does mem.old mem.new (commands.Munmap process address len)
+    ensures { DoesBeside mem.old mem.new (commands.Munmap process address len)
         (reply_in reply.new result) }
 {
     check_lives(mem, process)?;
@@ -88,7 +88,7 @@ pub fn mprotect(
 ) -> Result<(), Refusal>
     requires steady { IsSteady mem.old }
     requires cleared { IsCleared reply.old }
-    ensures { Does mem.old mem.new (commands.Mprotect process address len prot)
+    ensures { DoesBeside mem.old mem.new (commands.Mprotect process address len prot)
         (reply_in reply.new result) }
 {
     check_lives(mem, process)?;

@@ -1,6 +1,6 @@
 //! The command `mremap`: a range of pages moves, shrinks or grows, with what it has.
 
-ghost use Rattle.av_kernel.specs.Step.{Does, reply_in};
+ghost use Rattle.av_kernel.specs.Step.{DoesBeside, reply_in};
 ghost use Rattle.av_mem.specs.Mem.{IsSteady};
 ghost use Rattle.av_trace.specs.Reply.{IsCleared};
 ghost use Rattle.av_trace.specs.declared.command.Command.TheVariants as commands;
@@ -27,7 +27,7 @@ pub fn mremap(
 ) -> Result<(), Refusal>
     requires steady { IsSteady mem.old }
     requires cleared { IsCleared reply.old }
-    ensures { Does mem.old mem.new (commands.Mremap process address old_len new_len mode)
+    ensures { DoesBeside mem.old mem.new (commands.Mremap process address old_len new_len mode)
         (reply_in reply.new result) }
 {
     check_lives(mem, process)?;

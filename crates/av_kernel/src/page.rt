@@ -3,33 +3,40 @@
 ghost use Rattle.std.specs.Prelude.{◌≡◌, ◌+◌, ◌^◌, ◌<◌, ◌≤◌, [], length, true, false, replicate, ◌++◌, IfOk, OnOk};
 ghost use Rattle.std.specs.List.{AllByRecursion};
 ghost use Rattle.av_base.specs.Page.{page_size};
-ghost use Rattle.av_plain.specs.Device.{Device};
-ghost use Rattle.av_plain.specs.World.{lives};
+ghost use Rattle.av_plain.specs.Device.{IsSameDevice};
 ghost use Rattle.av_plain.specs.Transcript.{State};
-ghost use Rattle.av_mem.specs.Mem.{frame_count, Keeps, IsSteady};
+ghost use Rattle.av_mem.specs.Mem.{frame_count, Keeps};
 ghost use Rattle.av_kernel.specs.Page.{IsPageStep, ShowsPiece};
+ghost use Rattle.av_kernel.specs.Step.{IsSteadyFor, seen_by};
 
 use av_base::PAGE_SIZE;
 use av_fault::{Stop, Touched, touch};
 use av_mem::Mem;
+use av_swapdev::SwapDev;
 use av_text::Bytes;
 use av_trace::Notes;
 use std::alloc::AllocError;
 
 /// Writes a piece of a page, and adds the notes of what it took. None where it is served.
-pub fn write_page(
+pub fn write_page<D: SwapDev>(
     mem: &mut Mem,
+    dev: &mut D,
     process: u16,
     page: u64,
     at: usize,
     piece: &[u8],
     notes: &mut Notes,
 ) -> Result<Option<Stop>, AllocError>
-    requires steady { IsSteady mem.old }
+    requires steady { IsSteadyFor (D.sizes dev.old) process mem.old }
     requires some { 1 ≤ length piece.now }
     requires fits { at + length piece.now ≤ page_size }
-    ensures step { (d : Device) (s : State) → Keeps d mem.old s → lives s.world process ≡ true
-        → IfOk result (IsPageStep d s mem.new true process page at piece.now notes.old notes.new) }
+    ensures step { let d = seen_by D.sizes D.pages D.faults in (s : State)
+        → Keeps (d dev.old) mem.old s → IfOk result
+        (IsPageStep (d dev.old) (d dev.new) s mem.new true process page at piece.now
+        notes.old notes.new) }
+    ensures steady { IfOk result (λ stop. IsSteadyFor (D.sizes dev.old) process mem.new) }
+    ensures same { let d = seen_by D.sizes D.pages D.faults in
+        IsSameDevice (d dev.old) (d dev.new) }
     ensures count { frame_count mem.new ≡ frame_count mem.old }
 {
     match touch(mem, process, page, true, notes)? {
@@ -43,8 +50,9 @@ pub fn write_page(
 }
 
 /// Adds a piece of a page to what is shown, and the notes of what it took. None where it is served.
-pub fn read_page(
+pub fn read_page<D: SwapDev>(
     mem: &mut Mem,
+    dev: &mut D,
     process: u16,
     page: u64,
     at: usize,
@@ -52,13 +60,18 @@ pub fn read_page(
     shown: &mut Bytes,
     notes: &mut Notes,
 ) -> Result<Option<Stop>, AllocError>
-    requires steady { IsSteady mem.old }
+    requires steady { IsSteadyFor (D.sizes dev.old) process mem.old }
     requires some { 1 ≤ len }
     requires fits { at + len ≤ page_size }
-    ensures step { (d : Device) (s : State) → Keeps d mem.old s → lives s.world process ≡ true
-        → IfOk result (IsPageStep d s mem.new false process page at [] notes.old notes.new) }
-    ensures shown { (d : Device) (s : State) → Keeps d mem.old s → lives s.world process ≡ true
+    ensures step { let d = seen_by D.sizes D.pages D.faults in (s : State)
+        → Keeps (d dev.old) mem.old s → IfOk result
+        (IsPageStep (d dev.old) (d dev.new) s mem.new false process page at []
+        notes.old notes.new) }
+    ensures shown { (s : State) → Keeps (seen_by D.sizes D.pages D.faults dev.old) mem.old s
         → IfOk result (ShowsPiece s.world process page at len shown.old shown.new) }
+    ensures steady { IfOk result (λ stop. IsSteadyFor (D.sizes dev.old) process mem.new) }
+    ensures same { let d = seen_by D.sizes D.pages D.faults in
+        IsSameDevice (d dev.old) (d dev.new) }
     ensures count { frame_count mem.new ≡ frame_count mem.old }
 {
     match touch(mem, process, page, false, notes)? {

@@ -5,7 +5,7 @@ ghost use Rattle.av_plain.specs.Refusal.{refusal};
 ghost use Rattle.av_spaces.specs.Spaces.{areas_of};
 ghost use Rattle.av_mem.specs.Mem.{IsSteady};
 ghost use Rattle.av_kernel.specs.Process.{new_tests};
-ghost use Rattle.av_kernel.specs.Step.{Does, reply_in};
+ghost use Rattle.av_kernel.specs.Step.{DoesBeside, reply_in};
 ghost use Rattle.av_kernel.specs.declared.refusal.Refusal.TheVariants as refusals;
 ghost use Rattle.av_trace.specs.Reply.{IsCleared};
 ghost use Rattle.av_trace.specs.declared.command.Command.TheVariants as commands;
@@ -52,7 +52,7 @@ fn check_new(spaces: &Spaces, process: u16) -> Result<(), Errno>
 pub fn spawn(mem: &mut Mem, alloc: Global, process: u16, reply: &mut Reply) -> Result<(), Refusal>
     requires steady { IsSteady mem.old }
     requires cleared { IsCleared reply.old }
-    ensures { Does mem.old mem.new (commands.Spawn process) (reply_in reply.new result) }
+    ensures { DoesBeside mem.old mem.new (commands.Spawn process) (reply_in reply.new result) }
 {
     check_new(&mem.spaces, process)?;
     mem.tables.spawn(alloc, process)?;
@@ -72,7 +72,7 @@ pub fn fork(
 ) -> Result<(), Refusal>
     requires steady { IsSteady mem.old }
     requires cleared { IsCleared reply.old }
-    ensures { Does mem.old mem.new (commands.Fork parent child) (reply_in reply.new result) }
+    ensures { DoesBeside mem.old mem.new (commands.Fork parent child) (reply_in reply.new result) }
 {
     check_lives(mem, parent)?;
     check_new(&mem.spaces, child)?;
@@ -88,7 +88,7 @@ pub fn fork(
 pub fn exit(mem: &mut Mem, process: u16, reply: &mut Reply) -> Result<(), Refusal>
     requires steady { IsSteady mem.old }
     requires cleared { IsCleared reply.old }
-    ensures { Does mem.old mem.new (commands.Exit process) (reply_in reply.new result) }
+    ensures { DoesBeside mem.old mem.new (commands.Exit process) (reply_in reply.new result) }
 {
     check_lives(mem, process)?;
     zap_all(mem, process);

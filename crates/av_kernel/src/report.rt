@@ -11,7 +11,7 @@ ghost use Rattle.av_plain.specs.Ledger.{entry as entry_of, walk as walk_of};
 ghost use Rattle.av_plain.specs.Report.{area_row as row_of_area, entry_answer as answer_of_entry, key_row, range_of};
 ghost use Rattle.av_plain.specs.Transcript.{State};
 ghost use Rattle.av_mem.specs.Mem.{IsSteady, Keeps, frame_count, view};
-ghost use Rattle.av_kernel.specs.Step.{Does, reply_in};
+ghost use Rattle.av_kernel.specs.Step.{DoesBeside, reply_in};
 ghost use Rattle.av_kernel.specs.Report.{AreRuns, shown_walk};
 ghost use Rattle.av_kernel.specs.declared.refusal.Refusal.TheVariants as refusals;
 ghost use Rattle.av_trace.specs.Reply.{IsCleared};
@@ -37,7 +37,7 @@ use std::sync::ledger::{Blank, Ledger};
 pub fn maps(mem: &Mem, process: u16, reply: &mut Reply) -> Result<(), Refusal>
     requires steady { IsSteady mem.now }
     requires cleared { IsCleared reply.old }
-    ensures { Does mem.now mem.now (commands.Maps process) (reply_in reply.new result) }
+    ensures { DoesBeside mem.now mem.now (commands.Maps process) (reply_in reply.new result) }
 {
     check_lives(mem, process)?;
     let areas = mem.spaces.areas(process)?;
@@ -51,7 +51,7 @@ pub fn maps(mem: &Mem, process: u16, reply: &mut Reply) -> Result<(), Refusal>
 pub fn areas(mem: &Mem, alloc: Global, process: u16, reply: &mut Reply) -> Result<(), Refusal>
     requires steady { IsSteady mem.now }
     requires cleared { IsCleared reply.old }
-    ensures { Does mem.now mem.now (commands.Areas process) (reply_in reply.new result) }
+    ensures { DoesBeside mem.now mem.now (commands.Areas process) (reply_in reply.new result) }
 {
     check_lives(mem, process)?;
     let areas = mem.spaces.areas(process)?;
@@ -71,7 +71,8 @@ pub fn rmap(
 ) -> Result<(), Refusal>
     requires steady { IsSteady mem.now }
     requires cleared { IsCleared reply.old }
-    ensures { Does mem.now mem.now (commands.Rmap process address) (reply_in reply.new result) }
+    ensures { DoesBeside mem.now mem.now (commands.Rmap process address)
+        (reply_in reply.new result) }
 {
     check_lives(mem, process)?;
     let page = address / PAGE_SIZE;
@@ -89,7 +90,8 @@ pub fn rmap(
 pub fn entry(mem: &Mem, process: u16, address: u64, reply: &mut Reply) -> Result<(), Refusal>
     requires steady { IsSteady mem.now }
     requires cleared { IsCleared reply.old }
-    ensures { Does mem.now mem.now (commands.Entry process address) (reply_in reply.new result) }
+    ensures { DoesBeside mem.now mem.now (commands.Entry process address)
+        (reply_in reply.new result) }
 {
     check_lives(mem, process)?;
     let page = address / PAGE_SIZE;
@@ -103,7 +105,7 @@ pub fn entry(mem: &Mem, process: u16, address: u64, reply: &mut Reply) -> Result
 pub fn stat(mem: &Mem, reply: &mut Reply)
     requires steady { IsSteady mem.now }
     requires cleared { IsCleared reply.old }
-    ensures { Does mem.now mem.now commands.Stat (Ok reply.new) }
+    ensures { DoesBeside mem.now mem.now commands.Stat (Ok reply.new) }
 {
     let totals = Totals {
         frames: u64::from(mem.frames.count()),

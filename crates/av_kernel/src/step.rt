@@ -1,12 +1,21 @@
 //! Which command goes where, and what a refusal replies.
 
-ghost use Rattle.std.specs.Prelude.{◌≡◌, OnOk, true};
+ghost use Rattle.std.specs.Prelude.{◌≡◌, OnOk, false, true};
 ghost use Rattle.av_trace.specs.Command.{is_in_grammar};
 ghost use Rattle.av_trace.specs.Reply.{IsCleared};
-ghost use Rattle.av_plain.specs.Device.{Device};
+ghost use Rattle.av_plain.specs.Step.{uses_device};
+ghost use Rattle.av_plain.specs.Device.{IsSameDevice};
 ghost use Rattle.av_plain.specs.Transcript.{State};
 ghost use Rattle.av_mem.specs.Mem.{frame_count, Keeps, IsSteady};
-ghost use Rattle.av_kernel.specs.Step.{MemSteps, Does, is_of_pages, reply_in};
+ghost use Rattle.av_kernel.specs.Step.{
+  Does,
+  DoesBeside,
+  IsSteadyAt,
+  MemSteps,
+  is_of_pages,
+  reply_in,
+  seen_by,
+};
 
 use crate::access::{read, write};
 use crate::map::{mmap, mprotect, munmap};
@@ -15,6 +24,7 @@ use crate::process::{exit, fork, spawn};
 use crate::refusal::Refusal;
 use crate::report::{areas, entry, maps, rmap, stat};
 use av_mem::Mem;
+use av_swapdev::SwapDev;
 use av_text::Bytes;
 use av_trace::{Answer, Command, Reply};
 use std::alloc::{AllocError, Global};
@@ -24,24 +34,29 @@ use std::mem::swap;
 /// of the memory system but its frames' number, nor of the reply.
 ///
 /// Bytes that the reply showed give their memory to `spare`, and a read takes that of `spare`.
-pub fn perform(
+pub fn perform<D: SwapDev>(
     mem: &mut Mem,
+    dev: &mut D,
     spare: &mut Bytes,
     alloc: Global,
     command: &Command,
     reply: &mut Reply,
 ) -> Result<(), AllocError>
-    requires steady { IsSteady mem.old }
+    requires steady { IsSteadyAt (D.sizes dev.old) mem.old }
     requires grammar { is_in_grammar command.now ≡ true }
-    ensures step { (d : Device) (s : State) → Keeps d mem.old s →
-        OnOk result (MemSteps d mem.old mem.new s command.now reply.new) }
+    ensures step { let d = seen_by D.sizes D.pages D.faults in (s : State)
+        → Keeps (d dev.old) mem.old s → OnOk result
+        (MemSteps (d dev.old) (d dev.new) mem.old mem.new s command.now reply.new) }
+    ensures steady { OnOk result (IsSteadyAt (D.sizes dev.old) mem.new) }
+    ensures same { let d = seen_by D.sizes D.pages D.faults in
+        IsSameDevice (d dev.old) (d dev.new) }
     ensures count { frame_count mem.new ≡ frame_count mem.old }
 {
     if let Answer::Data(shown) = &mut reply.answer {
         swap(shown, spare);
     }
     reply.clear();
-    match dispatch(mem, spare, alloc, command, reply) {
+    match dispatch(mem, dev, spare, alloc, command, reply) {
         Ok(()) => Ok(()),
         Err(Refusal::Refused(error)) => {
             reply.clear();
@@ -53,32 +68,52 @@ pub fn perform(
 }
 
 /// Does a command, and fills the reply.
-fn dispatch(
+fn dispatch<D: SwapDev>(
     mem: &mut Mem,
+    dev: &mut D,
     spare: &mut Bytes,
+    alloc: Global,
+    command: &Command,
+    reply: &mut Reply,
+) -> Result<(), Refusal>
+    requires steady { IsSteadyAt (D.sizes dev.old) mem.old }
+    requires grammar { is_in_grammar command.now ≡ true }
+    requires cleared { IsCleared reply.old }
+    ensures { let d = seen_by D.sizes D.pages D.faults in Does (d dev.old) (d dev.new)
+        mem.old mem.new command.now (reply_in reply.new result) }
+{
+    match command {
+        Command::Read {
+            process,
+            address,
+            len,
+        } => read(mem, dev, spare, alloc, *process, *address, *len, reply),
+        Command::Write {
+            process,
+            address,
+            bytes,
+        } => write(mem, dev, alloc, *process, *address, bytes.as_slice(), reply),
+        _ => do_beside(mem, alloc, command, reply),
+    }
+}
+
+/// Does a command that doesn't use the device.
+fn do_beside(
+    mem: &mut Mem,
     alloc: Global,
     command: &Command,
     reply: &mut Reply,
 ) -> Result<(), Refusal>
     requires steady { IsSteady mem.old }
     requires grammar { is_in_grammar command.now ≡ true }
+    requires beside { uses_device command.now ≡ false }
     requires cleared { IsCleared reply.old }
-    ensures { Does mem.old mem.new command.now (reply_in reply.new result) }
+    ensures { DoesBeside mem.old mem.new command.now (reply_in reply.new result) }
 {
     match command {
         Command::Spawn { process } => spawn(mem, alloc, *process, reply),
         Command::Fork { parent, child } => fork(mem, alloc, *parent, *child, reply),
         Command::Exit { process } => exit(mem, *process, reply),
-        Command::Read {
-            process,
-            address,
-            len,
-        } => read(mem, spare, alloc, *process, *address, *len, reply),
-        Command::Write {
-            process,
-            address,
-            bytes,
-        } => write(mem, alloc, *process, *address, bytes.as_slice(), reply),
         Command::Maps { process } => maps(mem, *process, reply),
         Command::Areas { process } => areas(mem, alloc, *process, reply),
         Command::Rmap { process, address } => rmap(mem, alloc, *process, *address, reply),
@@ -96,7 +131,7 @@ fn map_or_change(mem: &mut Mem, command: &Command, reply: &mut Reply) -> Result<
     requires steady { IsSteady mem.old }
     requires cleared { IsCleared reply.old }
     requires pages { is_of_pages command.now ≡ true }
-    ensures { Does mem.old mem.new command.now (reply_in reply.new result) }
+    ensures { DoesBeside mem.old mem.new command.now (reply_in reply.new result) }
 {
     match command {
         Command::Mmap {

@@ -7,19 +7,18 @@ use Rattle.av_trace.specs.Print.{text_of}
 use Rattle.av_plain.specs.Transcript.{Exchange, State, at_first, causes_of}
 use Rattle.av_kernel.specs.Machine.{Machine}
 use Rattle.av_plain.specs.Device.{Device, IsSameDevice, setting_of}
-use Rattle.av_io.specs.Count.{RoseBy}
 use Rattle.av_io.specs.Source.{Took}
 use Rattle.av_io.specs.Sink.{SinkView, Gained, HandsOn, HasFailed, KeepsBack}
 use Rattle.av_replay.specs.declared.status.Status.{Status}
 use Rattle.av_replay.specs.declared.status.Status.TheVariants as statuses
 use Rattle.av_replay.specs.declared.status.RunErr.{RunErr}
 use Rattle.av_replay.specs.declared.status.RunErr.TheVariants as errors
-use Rattle.av_replay.specs.Ports.{PortsView, OnlySink, undone, AreFlushed, AreUnfailed, ReadsOn, IsAtEnd, IsReadFault}
+use Rattle.av_replay.specs.Ports.{PortsView, OnlySink, Begins, undone, AreFlushed, AreUnfailed, ReadsOn, IsAtEnd, IsReadFault}
 use Rattle.av_replay.specs.Line.{IsLine}
 use Rattle.av_replay.specs.Turn.{texts, Commands, IsEnding, TakesLine, Waits, CutsShort, IsUnflushed, Halts, DoesNext, FindsEnd, Finished}
 use Rattle.av_replay.specs.Replay.{most_lines, all_lines, Transcribes, Run, done_lines, Replays, IsHandedBack, StopsAt, MayGoOn, IsCutOff, Ends, status_at, Headline, can_go_on, kernel_at, FailsOnlyAt, FailsUntold, IsFlushed, Replayed, FlushesLast}
-use Rattle.av_replay.proofs.Bytes.{Took-none, Took-ahead, Gained-none, rose_none}
-use Rattle.av_replay.proofs.Times.{device_same, failed_since, read_fault_since, flushed_none, handed_on, only_sink}
+use Rattle.av_replay.proofs.Bytes.{Took-none, Took-ahead, Gained-none, rose_none, rose_on}
+use Rattle.av_replay.proofs.Times.{device_same, device_then, failed_since, read_fault_since, flushed_none, handed_on, only_sink}
 use Rattle.av_replay.proofs.Runs.{Past, whole, SoFar, longer, next_answers, read_more, wrote_more, device_more, faults_more, legal_more, kernel_more, texts_more, all_push, Transcribes-push, joined-push}
 
 -- ---- what the end of a turn leaves
@@ -47,9 +46,18 @@ headline n status rest old new kernel run written leaves ends = record {
 few_whole : (lines : List (List ℕ)) → length lines ≤ most_lines → length (lines ++ []) ≤ most_lines
 few_whole lines few = omega (arith, few, ap length (append-nil lines))
 
--- nothing was done in the turn, or only read
+-- where something was read, a line may have been begun
+begun_of : (ahead rest : List ℕ) (now new : PortsView) → ReadsOn ahead rest now new → Begins ahead rest now new
+begun_of ahead rest now new reads = record {
+  same = reads.same;
+  held = reads.held;
+  device = subst (IsSameDevice now.device) (sym reads.device) (device_same now.device);
+  near = reads.near;
+}
+
+-- no line was done in the turn
 pub waited : (n : ℕ) (past : Past) (ahead rest : List ℕ) (old now new : PortsView) (k : Machine) → SoFar n past ahead old now k → length past.lines ≤ most_lines →
-    ReadsOn ahead rest now new → Replays n old new (whole past) rest (texts past.transcript)
+    Begins ahead rest now new → Replays n old new (whole past) rest (texts past.transcript)
 waited n past ahead rest old now new k so_far few reads = record {
   read = Took-ahead old.source.left new.source.left (all_lines past.lines) rest
       (subst (λ (l : Option (List ℕ)). Took old.source.left l (all_lines past.lines)) (sym reads.same) so_far.read);
@@ -59,15 +67,15 @@ waited n past ahead rest old now new k so_far few reads = record {
   last = tt;
   commands = subst (λ (lines : List (List ℕ)). Transcribes lines past.transcript) (sym (append-nil past.lines)) so_far.commands;
   legal = so_far.legal;
-  faults = subst (RoseBy (causes_of past.transcript) old.device.faults) (sym (ap (λ (d : Device). d.faults) reads.device)) so_far.faults;
+  faults = rose_on (causes_of past.transcript) old.device.faults now.device.faults new.device.faults so_far.faults reads.device.faults;
   wrote = subst (λ (h : Option (List ℕ)). Gained old.sink.held h (texts past.transcript)) (sym reads.held) so_far.wrote;
-  device = subst (IsSameDevice old.device) (sym reads.device) so_far.device;
+  device = device_then old.device now.device new.device so_far.device reads.device;
 }
 
 pub stops : (n : ℕ) (past : Past) (ahead rest : List ℕ) (old now new : PortsView) (k k' : Machine) → SoFar n past ahead old now k →
     length past.lines ≤ most_lines → Waits ahead rest now new k k' → Leaves n rest old new k' (whole past) (texts past.transcript)
 stops n past ahead rest old now new k k' so_far few waits = record {
-  replays = waited n past ahead rest old now new k so_far few waits.reads;
+  replays = waited n past ahead rest old now new k so_far few (begun_of ahead rest now new waits.reads);
   left = subst (λ (d : Device). IsHandedBack k' d n (whole past)) (sym waits.reads.device)
       (subst (λ (m : Machine). IsHandedBack m now.device n (whole past)) (sym waits.kernel) so_far.kernel_left);
 }
@@ -244,7 +252,7 @@ read_fault n past ahead rest old now new k k' so_far few may waits part failed =
     )
 
 memory : (n : ℕ) (past : Past) (ahead rest : List ℕ) (old now new : PortsView) (k k' : Machine) → SoFar n past ahead old now k → length past.lines < most_lines →
-    ReadsOn ahead rest now new ⊎ CutsShort ahead now new k k' → Headline n statuses.Memory old new None
+    Begins ahead rest now new ⊎ CutsShort ahead now new k k' → Headline n statuses.Memory old new None
 memory n past ahead rest old now new k k' so_far few (inl reads) = record {
   run = whole past;
   rest = rest;
@@ -302,6 +310,7 @@ module _ (n : ℕ) (past : Past) (ahead rest : List ℕ) (old now new : PortsVie
       kept_back n past ahead rest old now new k k so_far (omega arith) (none_may past rest f.0)
       (record { waits = waits; part = nil_is_line rest f.0; untold = f.1 }) f.2
   finishes statuses.Usage f = absurd f
+  finishes statuses.AttachFault f = absurd f
   finishes (statuses.BadLine number) f = absurd f
   finishes statuses.Memory f = absurd f
 
@@ -337,7 +346,12 @@ pub same_frames : (m n : ℕ) (status : Status) (old new : PortsView) (kernel : 
     Replayed n status old new kernel
 same_frames m n status old new kernel e r = subst (λ (k : ℕ). Replayed k status old new kernel) e r
 
--- a trace that was begun is no usage error
+-- a trace that was begun is no usage error, nor was an area not attached
+pub no_attach_fault : (n : ℕ) (status : Status) (old new : PortsView) (kernel : Option Machine) → Headline n status old new kernel →
+    status ≢ statuses.AttachFault
+no_attach_fault n status old new kernel h e =
+    let ends = subst (λ (s : Status). Ends s old new h.run h.rest h.written) e h.ends in ends.0
+
 pub no_usage : (n : ℕ) (status : Status) (old new : PortsView) (kernel : Option Machine) → Headline n status old new kernel → status ≢ statuses.Usage
 no_usage n status old new kernel h e =
     let ends = subst (λ (s : Status). Ends s old new h.run h.rest h.written) e h.ends in ends.0
@@ -441,6 +455,7 @@ module _ (n : ℕ) (old now : PortsView) (kernel : Machine) (sink : SinkView) wh
   replayed statuses.TooMany last (inr f) h was memory so none =
       named statuses.WriteFault last f.0 (unflushed was so statuses.TooMany h.run h.rest h.written h.replays h.handed_back h.ends.0 h.ends.1 f.1)
   replayed statuses.Usage last f h was memory so none = absurd h.ends.0
+  replayed statuses.AttachFault last f h was memory so none = absurd h.ends.0
   replayed statuses.ReadFault last f h was memory so none =
       named statuses.ReadFault last f.0 (same_sink statuses.ReadFault f.1
       (record { headline = h; unfailed = was; flushed = record { none_kept = none refl; flushed = so } }))

@@ -1,4 +1,5 @@
 pub mod Bytes
+pub mod Attached
 pub mod Calls
 pub mod Times
 pub mod Front

@@ -8,7 +8,7 @@ use Rattle.std.proofs.lemmas.List.Concat.{flat_map-append}
 use Rattle.av_trace.specs.Print.{text_of}
 use Rattle.av_plain.specs.Ledger.{Setting}
 use Rattle.av_plain.specs.Transcript.{Exchange, State, IsRun, at_first, causes_of}
-use Rattle.av_kernel.specs.Machine.{Machine}
+use Rattle.av_kernel.specs.Machine.{Machine, sizes_of}
 use Rattle.av_plain.specs.Device.{IsSameDevice, setting_of}
 use Rattle.av_plain.specs.Step.{causes}
 use Rattle.av_io.specs.Count.{RoseBy}
@@ -91,7 +91,14 @@ starts ahead now kernel none start = record {
   legal = refl;
   faults = rose_none now.device.faults;
   wrote = Gained-none now.sink.held;
-  kernel_left = record { stands = start.stands; frames = refl; steps = start.steps; tally = start.tally; unspent = start.unspent };
+  kernel_left = record {
+    stands = start.stands;
+    frames = refl;
+    steps = start.steps;
+    tally = start.tally;
+    unspent = start.unspent;
+    attached = start.attached;
+  };
   device = device_same now.device;
   unfailed = record { source = refl; sink = refl };
   stays_open = λ untold. untold;
@@ -144,6 +151,7 @@ module _ (n : ℕ) (past : Past) (ahead : List ℕ) (old now new : PortsView) (k
         steps = omega (arith, a.counts.steps, kept.steps, length-append past.transcript (option_to_list a.did));
         tally = a.counts.tally ∙ ap (tally_of (option_to_list a.did)) kept.tally ∙ sym (tally_of-append past.transcript (option_to_list a.did) none_counted);
         unspent = a.counts.spent kept.unspent;
+        attached = takes.device.sizes ∙ kept.attached ∙ ap sizes_of (sym a.counts.sizes);
       }
 
   -- the texts with the next one

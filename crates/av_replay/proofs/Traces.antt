@@ -141,6 +141,7 @@ pub complete : (n : ℕ) (status : Status) (old new : PortsView) (kernel : Optio
 complete n statuses.Done old new kernel h content e trace no_read no_write = inl refl
 complete n statuses.Memory old new kernel h content e trace no_read no_write = inr refl
 complete n statuses.Usage old new kernel h content e trace no_read no_write = absurd h.ends.0
+complete n statuses.AttachFault old new kernel h content e trace no_read no_write = absurd h.ends.0
 complete n statuses.ReadFault old new kernel h content e trace no_read no_write = absurd (no_read h.ends.2.faults)
 complete n statuses.WriteFault old new kernel h content e trace no_read no_write = absurd (no_write h.ends.1)
 complete n (statuses.BadLine number) old new kernel h content e trace no_read no_write =

@@ -9,11 +9,11 @@ use Rattle.av_io.specs.Sink.{SinkView}
 use Rattle.av_replay.specs.declared.line.Line.{Line}
 use Rattle.av_replay.specs.declared.status.RunErr.{RunErr}
 use Rattle.av_replay.specs.declared.status.RunErr.TheVariants as errors
-use Rattle.av_replay.specs.Ports.{PortsView, OnlySink, AreUnfailed, ReadsOn, IsAtEnd, Writes}
+use Rattle.av_replay.specs.Ports.{PortsView, AreUnfailed, Begins, IsAtEnd, LeavesSource, ReadsOn, Writes}
 use Rattle.av_replay.specs.Line.{IsLine, HasLine, IsNext, StopsReading}
 use Rattle.av_replay.specs.Turn.{DoesLine, IsCut, IsNotAnswered, StandsNext, IsEnding, TakesLine, CutsShort, Halts}
 use Rattle.av_replay.proofs.Bytes.{in_front-then}
-use Rattle.av_replay.proofs.Times.{device_same, failed_since}
+use Rattle.av_replay.proofs.Times.{failed_since}
 
 -- how the line in front ends
 pub record EndsBy (line : Line) (ahead ending : List ℕ) (source : SourceView) : Type 0 where
@@ -47,19 +47,19 @@ ends_last line ahead source is_line size some whole end =
       next = inr (sym all, long, end);
     }
 
-module _ (ahead mid : List ℕ) (old now new : PortsView) (k k' : Machine) (line : Line) (reads : ReadsOn ahead mid old now) (only : OnlySink now new) where
+module _ (ahead mid : List ℕ) (old now new : PortsView) (k k' : Machine) (line : Line) (reads : ReadsOn ahead mid old now) (leaves : LeavesSource now new) where
   -- the line is done, and this was written
   takes : (ending text written : List ℕ) → EndsBy line mid ending new.source → DoesLine (take line.size mid) now.device new.device k k' text →
       Writes now.sink new.sink written → TakesLine ahead old new k k' (take line.size mid) ending (drop line.whole mid) text written
   takes ending text written by does writes = record {
     is_line = by.is_line;
-    took = sym reads.same ∙ ap (λ (s : SourceView). in_front mid s.left) (sym only.source) ∙ ap (λ (l : List ℕ). in_front l new.source.left) by.parts
+    took = sym reads.same ∙ ap (λ (s : SourceView). in_front mid s.left) (sym leaves.source) ∙ ap (λ (l : List ℕ). in_front l new.source.left) by.parts
         ∙ in_front-then (take line.size mid ++ ending) (drop line.whole mid) new.source.left;
     ends = by.ends;
     near = omega (arith, length-drop line.whole mid, reads.near);
     does = subst (λ d. DoesLine (take line.size mid) d new.device k k' text) reads.device does;
     gained = writes.gained ∙ ap (λ (h : Option (List ℕ)). option_map (λ (t : List ℕ). t ++ written) h) reads.held;
-    device = subst (λ (d : Device). IsSameDevice old.device d) (sym (only.device ∙ reads.device)) (device_same old.device);
+    device = subst (λ (d : Device). IsSameDevice d new.device) reads.device leaves.device;
   }
 
   cuts : (ending : List ℕ) → EndsBy line mid ending new.source → IsCut (take line.size mid) now new k k' → CutsShort ahead old new k k'
@@ -73,24 +73,24 @@ module _ (ahead mid : List ℕ) (old now new : PortsView) (k k' : Machine) (line
     takes = takes ending cut.text (take cut.size cut.text) by cut.does cut.writes;
   }
 
-  same_sink : new.sink ≡ now.sink → ReadsOn ahead mid old new
-  same_sink e = record {
-    same = ap (λ (s : SourceView). in_front mid s.left) only.source ∙ reads.same;
+  begins : new.sink ≡ now.sink → Begins ahead mid old new
+  begins e = record {
+    same = ap (λ (s : SourceView). in_front mid s.left) leaves.source ∙ reads.same;
     held = ap (λ (s : SinkView). s.held) e ∙ reads.held;
-    device = only.device ∙ reads.device;
+    device = subst (λ (d : Device). IsSameDevice d new.device) reads.device leaves.device;
     near = reads.near;
   }
 
   halts_by : (ending : List ℕ) (error : RunErr) → AreUnfailed old now → EndsBy line mid ending new.source →
       IsNotAnswered error (take line.size mid) now new k k' → Halts error ahead mid old new k k'
-  halts_by ending errors.BadLine was by not = (record { reads = same_sink not.2; kernel = not.1 }, inr (take line.size mid, by.is_line, not.0, by.next))
-  halts_by ending errors.Memory was by (inl same) = inl (same_sink same)
+  halts_by ending errors.BadLine was by not = (record { reads = subst (ReadsOn ahead mid old) (sym not.2) reads; kernel = not.1 }, inr (take line.size mid, by.is_line, not.0, by.next))
+  halts_by ending errors.Memory was by (inl same) = inl (begins same)
   halts_by ending errors.Memory was by (inr cut) = inr (cuts ending by cut)
   halts_by ending errors.Write was by not = (inl (cuts ending by not.0), failed_since old.sink now.sink new.sink was.sink not.1)
   halts_by ending errors.Read was by not = absurd not
 
   at_end : IsAtEnd now.source → IsAtEnd new.source
-  at_end = subst IsAtEnd (sym only.source)
+  at_end = subst IsAtEnd (sym leaves.source)
 
   -- a line stood in front, and was not done, or its text not written
   pub halts : (error : RunErr) → AreUnfailed old now → IsNext line mid old.source now.source →

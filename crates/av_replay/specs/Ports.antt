@@ -3,7 +3,8 @@ use Rattle.std.specs.Prelude.{◌≡◌, ℕ, zero, suc, ◌+◌, ◌≤◌, Lis
 use Rattle.av_io.specs.Count.{one_more}
 use Rattle.av_io.specs.Source.{SourceView, in_front, HasEnded}
 use Rattle.av_io.specs.Sink.{SinkView, Gained}
-use Rattle.av_plain.specs.Device.{Device}
+use Rattle.av_kernel.specs.Machine.{Machine, sizes_of}
+use Rattle.av_plain.specs.Device.{Device, IsSameDevice, device_by}
 
 -- what is told of a source, a sink and a device at one time
 pub record PortsView : Type 0 where
@@ -17,8 +18,14 @@ abbrev pub side_by_side : SourceView → SinkView → (ℕ → Option ℕ) → O
 side_by_side source sink sizes pages faults = record {
   source = source;
   sink = sink;
-  device = record { sizes = sizes; pages = pages; faults = faults };
+  device = device_by sizes pages faults;
 }
+
+-- a source, a sink and a device, by what is told of each
+abbrev pub ports_by : {S K D : Type 0} → (S → SourceView) → (K → SinkView) → (D → ℕ → Option ℕ)
+    → (D → Option (ℕ → ℕ → List ℕ)) → (D → ℕ) → S → K → D → PortsView
+ports_by source sink sizes pages faults s k d =
+    side_by_side (source s) (sink k) (sizes d) (pages d) (faults d)
 
 -- nothing changed but the source
 pub record OnlySource (old new : PortsView) : Type 0 where
@@ -29,6 +36,17 @@ pub record OnlySource (old new : PortsView) : Type 0 where
 pub record OnlySink (old new : PortsView) : Type 0 where
   pub source : new.source ≡ old.source
   pub device : new.device ≡ old.device
+
+-- nothing changed but the device, which is the same one
+pub record OnlyDevice (old new : PortsView) : Type 0 where
+  pub source : new.source ≡ old.source
+  pub sink : new.sink ≡ old.sink
+  pub device : IsSameDevice old.device new.device
+
+-- the source is as it was, and the device the same one
+pub record LeavesSource (old new : PortsView) : Type 0 where
+  pub source : new.source ≡ old.source
+  pub device : IsSameDevice old.device new.device
 
 -- so many bytes are read at once, at most, and no more are ever kept of what was read
 abbrev pub room : ℕ
@@ -65,6 +83,13 @@ pub record ReadsOn (ahead ahead' : List ℕ) (old new : PortsView) : Type 0 wher
   pub device : new.device ≡ old.device
   pub near : length ahead' ≤ room
 
+-- a line was begun of what was read, and none done: the device may have been used
+pub record Begins (ahead ahead' : List ℕ) (old new : PortsView) : Type 0 where
+  pub same : undone ahead' new ≡ undone ahead old
+  pub held : new.sink.held ≡ old.sink.held
+  pub device : IsSameDevice old.device new.device
+  pub near : length ahead' ≤ room
+
 -- from one time to a later one neither the source nor the sink failed
 pub record AreUnfailed (old new : PortsView) : Type 0 where
   pub source : new.source.faults ≡ old.source.faults
@@ -79,3 +104,7 @@ pub record IsAtEnd (source : SourceView) : Type 0 where
 pub record Writes (old new : SinkView) (text : List ℕ) : Type 0 where
   pub gained : Gained old.held new.held text
   pub flushes : new.flushes ≡ old.flushes
+
+-- the device has the swap areas with which the kernel was made
+abbrev pub IsAttached : Device → Machine → Type 0
+IsAttached device kernel = device.sizes ≡ sizes_of kernel.sizes

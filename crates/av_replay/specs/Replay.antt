@@ -15,7 +15,7 @@ use Rattle.av_replay.specs.declared.status.Status.{Status}
 use Rattle.av_replay.specs.declared.status.Status.TheVariants as statuses
 use Rattle.av_replay.specs.declared.status.RunErr.{RunErr}
 use Rattle.av_replay.specs.declared.status.RunErr.TheVariants as errors
-use Rattle.av_replay.specs.Ports.{PortsView, room, AreFlushed, AreUnfailed, IsAtEnd, IsReadFault}
+use Rattle.av_replay.specs.Ports.{PortsView, room, AreFlushed, AreUnfailed, IsAtEnd, IsAttached, IsReadFault}
 use Rattle.av_replay.specs.Line.{IsLine}
 use Rattle.av_replay.specs.Turn.{texts, tally_of, Commands, IsBad}
 
@@ -71,17 +71,19 @@ pub record Replays (frames : ℕ) (old new : PortsView) (run : Run) (rest writte
 -- ---- the kernel that is handed back
 
 -- it and the device stand for the state that the transcript leaves; it counted the replies, and can
--- go on
+-- go on, with the swap areas of this device
 pub record IsHandedBack (kernel : Machine) (device : Device) (n : ℕ) (run : Run) : Type 0 where
   pub stands : Stands kernel device run.state
   pub frames : kernel.frames ≡ n
   pub steps : kernel.steps ≡ length run.transcript
   pub tally : kernel.tally ≡ tally_of run.transcript none_counted
   pub unspent : kernel.spent ≡ false
+  pub attached : IsAttached device kernel
 
 -- whether there is a kernel to go on with, by the status
 abbrev pub can_go_on : Status → Bool
 can_go_on statuses.Usage = false
+can_go_on statuses.AttachFault = false
 can_go_on statuses.Memory = false
 can_go_on status = true
 
@@ -95,6 +97,7 @@ pub record IsAtStart (kernel : Machine) (device : Device) : Type 0 where
   pub steps : kernel.steps ≡ 0
   pub tally : kernel.tally ≡ none_counted
   pub unspent : kernel.spent ≡ false
+  pub attached : IsAttached device kernel
 
 -- ---- where a run ends
 
@@ -119,6 +122,7 @@ StopsAt statuses.ReadFault new run rest = (run.last ≡ None) × MayGoOn run res
 StopsAt statuses.TooMany new run rest =
     (run.last ≡ None) × (length run.lines ≡ most_lines) × (0 < length rest)
 StopsAt statuses.Usage new run rest = ⊥
+StopsAt statuses.AttachFault new run rest = ⊥
 StopsAt statuses.WriteFault new run rest = ⊥
 StopsAt statuses.Memory new run rest = ⊥
 

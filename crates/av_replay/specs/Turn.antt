@@ -18,7 +18,7 @@ use Rattle.av_replay.specs.declared.status.Status.{Status}
 use Rattle.av_replay.specs.declared.status.Status.TheVariants as statuses
 use Rattle.av_replay.specs.declared.status.RunErr.{RunErr}
 use Rattle.av_replay.specs.declared.status.RunErr.TheVariants as errors
-use Rattle.av_replay.specs.Ports.{PortsView, undone, room, ReadsOn, IsAtEnd, IsReadFault, StaysOpen, Writes}
+use Rattle.av_replay.specs.Ports.{PortsView, undone, room, Begins, ReadsOn, IsAtEnd, IsReadFault, StaysOpen, Writes}
 use Rattle.av_replay.specs.Line.{IsLine, IsTooLong}
 
 -- ---- what a line does
@@ -45,6 +45,7 @@ pub record Counted (old new : Machine) (es : List Exchange) : Type 0 where
   pub steps : new.steps ≡ old.steps + length es
   pub tally : new.tally ≡ tally_of es old.tally
   pub frames : new.frames ≡ old.frames
+  pub sizes : new.sizes ≡ old.sizes
   pub spent : old.spent ≡ false → new.spent ≡ false
 
 -- what a line does in a state, over a device: this one before it, and that one after it
@@ -66,11 +67,11 @@ pub record DoesLine (line : List ℕ) (device device' : Device) (old new : Machi
   pub steps : new.steps ≤ old.steps + 1
 
 -- why a line is not done
-abbrev pub IsNotDone : RunErr → List ℕ → Machine → Machine → Type 0
-IsNotDone errors.BadLine line old new = SaysNothing line × (new ≡ old)
-IsNotDone errors.Memory line old new = Unit {0}
-IsNotDone errors.Read line old new = ⊥
-IsNotDone errors.Write line old new = ⊥
+abbrev pub IsNotDone : RunErr → List ℕ → PortsView → PortsView → Machine → Machine → Type 0
+IsNotDone errors.BadLine line old new k k' = SaysNothing line × (k' ≡ k) × (new ≡ old)
+IsNotDone errors.Memory line old new k k' = Unit {0}
+IsNotDone errors.Read line old new k k' = ⊥
+IsNotDone errors.Write line old new k k' = ⊥
 
 -- a line was done, and its text cut short
 pub record IsCut (line : List ℕ) (old new : PortsView) (k k' : Machine) : Type 0 where
@@ -84,7 +85,7 @@ pub record IsCut (line : List ℕ) (old new : PortsView) (k k' : Machine) : Type
 abbrev pub IsNotAnswered :
     RunErr → List ℕ → PortsView → PortsView → Machine → Machine → Type 0
 IsNotAnswered errors.BadLine line old new k k' =
-    SaysNothing line × (k' ≡ k) × (new.sink ≡ old.sink)
+    SaysNothing line × (k' ≡ k) × (new ≡ old)
 IsNotAnswered errors.Memory line old new k k' =
     (new.sink ≡ old.sink) ⊎ IsCut line old new k k'
 IsNotAnswered errors.Write line old new k k' =
@@ -156,7 +157,7 @@ Halts errors.Write ahead ahead' old new k k' =
     (CutsShort ahead old new k k' ⊎ IsUnflushed ahead ahead' old new k k')
     × HasFailed old.sink new.sink
 Halts errors.Memory ahead ahead' old new k k' =
-    ReadsOn ahead ahead' old new ⊎ CutsShort ahead old new k k'
+    Begins ahead ahead' old new ⊎ CutsShort ahead old new k k'
 
 -- a line was done, with its newline or as the last one
 pub record DoesNext (ahead ahead' : List ℕ) (old new : PortsView) (k k' : Machine)

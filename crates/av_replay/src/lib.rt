@@ -2,12 +2,14 @@
 //!
 //! Proved: `run` says for each status what was read, done and written, why and exactly where a run
 //! ends early, that there was one flush of the sink for each read of the source and how many more,
-//! that nothing is kept back where a read failed, what failed and how often, that only as many
-//! faults show as the device had, that the kernel handed back stands for what the transcript
-//! leaves, and that the device handed in, which no command reaches yet, is as it was. That memory
+//! that nothing is kept back where a read failed, what failed and how often, that the swap area
+//! that the words name is attached before all else, as which area, and why not, that only as many
+//! faults show as the device had then, and that the kernel handed back stands, with the device as
+//! it is in the end, for what the transcript leaves. No command uses the device yet. That memory
 //! suffices is only tested.
 #![tactic(auto)]
 
+mod attach;
 mod laws;
 mod line;
 mod pending;

@@ -1,20 +1,34 @@
 //! The outside of a run as one value: its source, its sink and its device.
 
-ghost use Rattle.std.specs.Prelude.{◌≡◌, IfOk, IfErr, OnOk, OnErr};
+ghost use Rattle.std.specs.Prelude.{◌≡◌, ◌<◌, IfOk, IfErr, OnOk, OnErr, true};
 ghost use Rattle.std.specs.Borrow.{GName};
+ghost use Rattle.av_base.specs.Limits.{most_commands};
+ghost use Rattle.av_trace.specs.Command.{is_in_grammar};
+ghost use Rattle.av_plain.specs.Transcript.{State};
+ghost use Rattle.av_kernel.specs.Kernel.{Counts, IsSpent, Stands, Steps};
 ghost use Rattle.av_io.specs.Source.{Gives, GivesNothing};
 ghost use Rattle.av_io.specs.Sink.{Takes, TakesNothing, HandsOn, KeepsBack};
-ghost use Rattle.av_replay.specs.Ports.{OnlySink, OnlySource, PortsView, side_by_side};
+ghost use Rattle.av_replay.specs.Ports.{
+  IsAttached,
+  OnlyDevice,
+  OnlySink,
+  OnlySource,
+  PortsView,
+  ports_by,
+};
 
 use av_io::{Failed, Sink, SinkErr, Source};
+use av_kernel::Kernel;
 use av_swapdev::SwapDev;
+use av_trace::{Command, Reply};
+use std::alloc::{AllocError, Global};
 
-/// What a run reads, writes and is to swap with.
+/// What a run reads, writes and swaps with.
 pub trait Ports {
     /// What is told of source, sink and device.
     ghost view: { Self → PortsView };
 
-    // What no call changes: whose they are, and the device, which no command reaches yet.
+    // What no call changes: whose they are.
     ghost Kept: { Type 0 };
 
     ghost kept: { Self → Self.Kept };
@@ -43,6 +57,25 @@ pub trait Ports {
         ensures err { OnErr result (KeepsBack (view self.old).sink (view self.new).sink) }
         ensures only { OnlySink (view self.old) (view self.new) }
         ensures kept { kept self.new ≡ kept self.old };
+
+    /// Has a kernel answer a command over the device.
+    fn answer(
+        &mut self,
+        alloc: Global,
+        kernel: &mut Kernel,
+        command: &Command,
+        reply: &mut Reply,
+    ) -> Result<(), AllocError>
+        requires few { kernel.old.steps < most_commands }
+        requires grammar { is_in_grammar command.now ≡ true }
+        requires attached { IsAttached (view self.old).device kernel.old }
+        ensures stands { (s : State) → Stands kernel.old (view self.old).device s → OnOk result
+            (Steps kernel.old kernel.new (view self.old).device (view self.new).device s
+            command.now reply.new) }
+        ensures counts { OnOk result (Counts kernel.old kernel.new reply.new) }
+        ensures spent { OnErr result (IsSpent kernel.old kernel.new) }
+        ensures only { OnlyDevice (view self.old) (view self.new) }
+        ensures kept { kept self.new ≡ kept self.old };
 }
 
 /// A source, a sink and a device, lent to a run. (Each has a lifetime of its own: with one for all
@@ -55,16 +88,15 @@ pub struct LentPorts<'s, 'k, 'd, S, K, D> {
 }
 
 impl<'s, 'k, 'd, S: Source, K: Sink, D: SwapDev> Ports for LentPorts<'s, 'k, 'd, S, K, D> {
-    ghost view = { λ ports. side_by_side (S.view ports.source.now) (K.view ports.sink.now)
-        (D.sizes ports.dev.now) (D.pages ports.dev.now) (D.faults ports.dev.now) };
+    ghost view = { λ ports. ports_by S.view K.view D.sizes D.pages D.faults
+        ports.source.now ports.sink.now ports.dev.now };
 
-    ghost Kept = { GName × GName × GName × D };
+    ghost Kept = { GName × GName × GName };
 
     ghost kept = { λ ports. (
       ports.source.ghost_name,
       ports.sink.ghost_name,
       ports.dev.ghost_name,
-      ports.dev.now,
     ) };
 
     fn read(&mut self, into: &mut [u8]) -> Result<usize, Failed> {
@@ -77,5 +109,15 @@ impl<'s, 'k, 'd, S: Source, K: Sink, D: SwapDev> Ports for LentPorts<'s, 'k, 'd,
 
     fn flush(&mut self) -> Result<(), Failed> {
         self.sink.flush()
+    }
+
+    fn answer(
+        &mut self,
+        alloc: Global,
+        kernel: &mut Kernel,
+        command: &Command,
+        reply: &mut Reply,
+    ) -> Result<(), AllocError> {
+        kernel.answer(alloc, command, self.dev, reply)
     }
 }

@@ -22,6 +22,8 @@ pub enum Status {
     Memory,
     /// The first byte of line 2^24 + 1 came. The lines before it are done.
     TooMany,
+    /// A swap area could not be attached: the device failed. Nothing was read or written.
+    AttachFault,
 }
 
 /// Why no further line is done.

@@ -2,8 +2,7 @@
 
 ghost use Rattle.std.specs.Prelude.{◌≡◌, ◌<◌, ◌^◌, [], OnOk, IfErr};
 ghost use Rattle.av_base.specs.Limits.{most_commands};
-ghost use Rattle.av_plain.specs.Device.{Device};
-ghost use Rattle.av_replay.specs.Ports.{AreFlushed, OnlySink, Writes};
+ghost use Rattle.av_replay.specs.Ports.{AreFlushed, IsAttached, LeavesSource, OnlyDevice, Writes};
 ghost use Rattle.av_replay.specs.Line.{FailsOnly};
 ghost use Rattle.av_replay.specs.Turn.{DoesLine, IsNotDone, IsNotAnswered, Turned};
 
@@ -39,16 +38,21 @@ impl Scratch {
 }
 
 /// Does a line, and makes its reply and the reply's text. What they were before is forgotten.
-pub fn do_line(
+pub fn do_line<P: Ports>(
     alloc: Global,
     kernel: &mut Kernel,
+    ports: &mut P,
     line: &[u8],
     scratch: &mut Scratch,
 ) -> Result<(), RunErr>
-    requires { kernel.old.steps < most_commands }
-    ensures ok { (d : Device) → OnOk result (DoesLine line.now d d kernel.old kernel.new
-        scratch.new.text) }
-    ensures err { IfErr result (λ e. IsNotDone e line.now kernel.old kernel.new) }
+    requires few { kernel.old.steps < most_commands }
+    requires attached { IsAttached (P.view ports.old).device kernel.old }
+    ensures ok { OnOk result (DoesLine line.now (P.view ports.old).device
+        (P.view ports.new).device kernel.old kernel.new scratch.new.text) }
+    ensures err { IfErr result (λ e. IsNotDone e line.now (P.view ports.old) (P.view ports.new)
+        kernel.old kernel.new) }
+    ensures only { OnlyDevice (P.view ports.old) (P.view ports.new) }
+    ensures kept { P.kept ports.new ≡ P.kept ports.old }
 {
     let Scratch { reply, text, spare } = scratch;
     text.clear();
@@ -60,7 +64,7 @@ pub fn do_line(
     let Some(command) = said else {
         return Ok(());
     };
-    kernel.answer(alloc, &command, reply)?;
+    ports.answer(alloc, kernel, &command, reply)?;
     if let Command::Write { bytes, .. } = command {
         *spare = bytes;
     }
@@ -76,7 +80,8 @@ pub fn answer_line<P: Ports>(
     line: &[u8],
     scratch: &mut Scratch,
 ) -> Result<(), RunErr>
-    requires { kernel.old.steps < most_commands }
+    requires few { kernel.old.steps < most_commands }
+    requires attached { IsAttached (P.view ports.old).device kernel.old }
     ensures does { OnOk result (DoesLine line.now (P.view ports.old).device
         (P.view ports.new).device kernel.old kernel.new scratch.new.text) }
     ensures writes { OnOk result
@@ -88,10 +93,10 @@ pub fn answer_line<P: Ports>(
     ensures flushes { (P.view ports.new).sink.flushes ≡ (P.view ports.old).sink.flushes }
     ensures err { IfErr result (λ e. IsNotAnswered e line.now (P.view ports.old)
         (P.view ports.new) kernel.old kernel.new) }
-    ensures only { OnlySink (P.view ports.old) (P.view ports.new) }
+    ensures leaves { LeavesSource (P.view ports.old) (P.view ports.new) }
     ensures kept { P.kept ports.new ≡ P.kept ports.old }
 {
-    do_line(alloc, kernel, line, scratch)?;
+    do_line(alloc, kernel, ports, line, scratch)?;
     match write_all(ports, scratch.text.as_slice()) {
         Ok(()) => Ok(()),
         Err(SinkErr::Failed) => Err(RunErr::Write),
@@ -107,7 +112,8 @@ pub fn next_line<P: Ports>(
     pending: &mut Pending,
     scratch: &mut Scratch,
 ) -> Result<bool, RunErr>
-    requires { kernel.old.steps < most_commands }
+    requires few { kernel.old.steps < most_commands }
+    requires attached { IsAttached (P.view ports.old).device kernel.old }
     ensures turned { Turned result pending.old pending.new
         (P.view ports.old) (P.view ports.new)
         kernel.old kernel.new }

@@ -1,5 +1,10 @@
+ghost use Rattle.std.specs.Prelude.{◌≡◌};
+ghost use Rattle.av_kernel.specs.Machine.{sizes_of};
+
 use av_base::Prot;
 use av_kernel::*;
+use av_lru::Which;
+use av_swapdev::{MemDev, SwapDev};
 use av_text::Bytes;
 use av_trace::{Command, Place, reply_text};
 use std::alloc::{AllocError, Global};
@@ -32,29 +37,36 @@ fn commands_of_test(alloc: Global) -> Result<[Command; 3], AllocError> {
 
 /// Does a command of the grammar, one of the first three, and puts the text of its reply into
 /// `text`.
-fn step(
+fn step<D: SwapDev>(
     alloc: Global,
     kernel: &mut Kernel,
+    dev: &mut D,
     command: &Command,
     text: &mut Bytes,
-) -> Result<bool, AllocError> {
+) -> Result<bool, AllocError>
+    requires { D.sizes dev.old ≡ sizes_of kernel.old.sizes }
+    ensures { D.sizes dev.new ≡ sizes_of kernel.new.sizes }
+{
     if kernel.steps_done() > 2 || !command.is_in_grammar() {
         return Ok(false);
     }
-    let reply = kernel.step(alloc, command)?;
+    let reply = kernel.step(alloc, command, dev)?;
     reply_text(&reply, text)?;
     Ok(true)
 }
 
 /// Does the commands, and puts the texts of their replies into `text`.
-fn step_all(
+fn step_all<D: SwapDev>(
     alloc: Global,
     kernel: &mut Kernel,
+    dev: &mut D,
     commands: &[Command],
     text: &mut Bytes,
-) -> Result<bool, AllocError> {
+) -> Result<bool, AllocError>
+    requires { D.sizes dev.old ≡ sizes_of kernel.old.sizes }
+{
     for command in commands {
-        if !step(alloc, kernel, command, text)? {
+        if !step(alloc, kernel, dev, command, text)? {
             return Ok(false);
         }
     }
@@ -67,14 +79,18 @@ fn tells(kernel: &Kernel) -> bool {
         && kernel.tally().refused == 1
         && !kernel.is_spent()
         && kernel.frames().free() == 4
+        && kernel.lists().len(Which::Inactive) == 0
         && kernel.areas().count() == 1
 }
 
 /// Whether the commands give this text and leave such a kernel.
 fn gives(alloc: Global, commands: &[Command], wanted: &[u8]) -> Result<bool, AllocError> {
     let mut text = Bytes::new(alloc);
-    let mut kernel = Kernel::new(alloc, 4)?;
-    let done = step_all(alloc, &mut kernel, commands, &mut text)?;
+    let mut dev = MemDev::new(Vec::new(alloc), Vec::new(alloc));
+    let Ok(mut kernel) = Kernel::new(alloc, 4, &[]) else {
+        return Err(AllocError);
+    };
+    let done = step_all(alloc, &mut kernel, &mut dev, commands, &mut text)?;
     Ok(done && text.as_slice() == wanted && tells(&kernel))
 }
 

@@ -11,66 +11,109 @@ struct Ran {
     outcome: Outcome,
 }
 
-/// Runs a trace. Calls of the source and the sink of these numbers fail, if they are not 0.
-fn run_on(
-    alloc: Global,
-    trace: &[u8],
+/// How a run ends: the words of the command line, its trace, and the call of a read, of a write and
+/// of the device that fails, by its number, if it is not 0.
+#[derive(Clone, Copy)]
+struct Case {
+    words: &'static [&'static str],
+    trace: &'static [u8],
     read_fails: u64,
     write_fails: u64,
-) -> Result<Ran, AllocError> {
-    let words = vec![in alloc;
-        String::from_str(alloc, "run")?,
-        String::from_str(alloc, "4")?,
-    ]?;
-    let mut source = MemSource::new(Vec::from_slice(alloc, trace)?, vec![in alloc; read_fails]?);
-    let mut text = MemSink::new(alloc, vec![in alloc; write_fails]?);
-    let mut dev = MemDev::new(Vec::new(alloc), Vec::new(alloc));
+    dev_fails: u64,
+    status: Status,
+    text: &'static [u8],
+    /// How many commands the kernel has done, if there is one.
+    steps: Option<u32>,
+}
+
+const TRACE: &[u8] = b"spawn 1\nmmap 1 4096 rw-\nwrite 1 7fffffffe005 41\nread 1 7fffffffe004 3\n";
+
+const TEXT: &[u8] = b"ok\nmap 7fffffffe000\nok\n new 1 7fffffffe000 0\ndata 004100\n";
+
+/// A run of the trace on four frames, in which nothing fails.
+const WHOLE: Case = Case {
+    words: &["run", "4"],
+    trace: TRACE,
+    read_fails: 0,
+    write_fails: 0,
+    dev_fails: 0,
+    status: Status::Done,
+    text: TEXT,
+    steps: Some(4),
+};
+
+const CASES: [Case; 8] = [
+    WHOLE,
+    Case {
+        read_fails: 1,
+        status: Status::ReadFault,
+        text: b"",
+        steps: Some(0),
+        ..WHOLE
+    },
+    Case {
+        write_fails: 2,
+        status: Status::WriteFault,
+        text: b"ok\n",
+        steps: Some(2),
+        ..WHOLE
+    },
+    Case {
+        words: &["run", "4", "-x"],
+        status: Status::Usage,
+        text: b"",
+        steps: None,
+        ..WHOLE
+    },
+    Case {
+        words: &["run", "4", "s", "t"],
+        status: Status::Usage,
+        text: b"",
+        steps: None,
+        ..WHOLE
+    },
+    Case {
+        words: &["run", "4", "s"],
+        dev_fails: 1,
+        status: Status::AttachFault,
+        text: b"",
+        steps: None,
+        ..WHOLE
+    },
+    Case {
+        words: &["run", "4", "s"],
+        trace: b"",
+        text: b"",
+        steps: Some(0),
+        ..WHOLE
+    },
+    Case {
+        words: &["run", "4", "s"],
+        dev_fails: 2,
+        ..WHOLE
+    },
+];
+
+/// Runs a case, over a device in memory.
+fn run_on(alloc: Global, case: &Case) -> Result<Ran, AllocError> {
+    let mut words = Vec::new(alloc);
+    for word in case.words {
+        words.push(String::from_str(alloc, word)?)?;
+    }
+    let trace = Vec::from_slice(alloc, case.trace)?;
+    let mut source = MemSource::new(trace, vec![in alloc; case.read_fails]?);
+    let mut text = MemSink::new(alloc, vec![in alloc; case.write_fails]?);
+    let mut dev = MemDev::new(Vec::new(alloc), vec![in alloc; case.dev_fails]?);
     let outcome = run(alloc, &words, &mut source, &mut text, &mut dev);
     Ok(Ran { text, outcome })
 }
 
-/// Whether the call of a read or of a write fails, by its number, and how the run ends then.
-#[derive(Clone, Copy)]
-struct Case {
-    read_fails: u64,
-    write_fails: u64,
-    status: Status,
-    text: &'static [u8],
-    steps: u32,
-}
-
-const CASES: [Case; 3] = [
-    Case {
-        read_fails: 0,
-        write_fails: 0,
-        status: Status::Done,
-        text: b"ok\nmap 7fffffffe000\nok\n new 1 7fffffffe000 0\ndata 004100\n",
-        steps: 4,
-    },
-    Case {
-        read_fails: 1,
-        write_fails: 0,
-        status: Status::ReadFault,
-        text: b"",
-        steps: 0,
-    },
-    Case {
-        read_fails: 0,
-        write_fails: 2,
-        status: Status::WriteFault,
-        text: b"ok\n",
-        steps: 2,
-    },
-];
-
-const TRACE: &[u8] = b"spawn 1\nmmap 1 4096 rw-\nwrite 1 7fffffffe005 41\nread 1 7fffffffe004 3\n";
-
-/// Whether the trace ends as the case says.
+/// Whether a run ends as the case says.
 fn ends_so(alloc: Global, case: &Case) -> Result<bool, AllocError> {
-    let ran = run_on(alloc, TRACE, case.read_fails, case.write_fails)?;
+    let ran = run_on(alloc, case)?;
     let steps = match &ran.outcome.kernel {
-        Some(kernel) => kernel.steps_done(),
-        None => u32::MAX,
+        Some(kernel) => Some(kernel.steps_done()),
+        None => None,
     };
     Ok(ran.outcome.status == case.status && ran.text.bytes() == case.text && steps == case.steps)
 }

@@ -9,12 +9,12 @@ use Rattle.av_kernel.specs.Machine.{Machine}
 use Rattle.av_plain.specs.Device.{Device}
 use Rattle.av_kernel.specs.Kernel.{Steps}
 
--- The line says a command; its reply is a legal step from the state over the device, and the kernel
--- stands for the next one; the text is that of the reply.
-pub record Answers (line : List ℕ) (d : Device) (s : State) (old new : Machine) (text : List ℕ)
-    : Type 0 where
+-- The line says a command; its reply is a legal step from the state over the device as it was; the
+-- kernel, with the device as it is, stands for the next one; the text is that of the reply.
+pub record Answers (line : List ℕ) (d d' : Device) (s : State) (old new : Machine)
+    (text : List ℕ) : Type 0 where
   pub command : Command
   pub reply : Reply
   pub says : Says line (Some command)
-  pub steps : Steps old new d d s command reply
+  pub steps : Steps old new d d' s command reply
   pub shows : text ≡ text_of reply

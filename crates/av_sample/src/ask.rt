@@ -3,12 +3,14 @@
 ghost use Rattle.std.specs.Prelude.{◌≡◌, ◌≤◌, ◌^◌, Option, Some, None, IfOk, IsErrOf};
 ghost use Rattle.av_trace.specs.declared.command.Command.{Command as AnyCommand};
 ghost use Rattle.av_trace.specs.Line.{Says};
-ghost use Rattle.av_plain.specs.Device.{Device};
 ghost use Rattle.av_plain.specs.Transcript.{State};
 ghost use Rattle.av_kernel.specs.Kernel.{Stands};
+ghost use Rattle.av_kernel.specs.Machine.{sizes_of};
+ghost use Rattle.av_kernel.specs.Step.{seen_by};
 ghost use Rattle.av_sample.specs.Answers.{Answers};
 
 use av_kernel::Kernel;
+use av_swapdev::SwapDev;
 use av_text::Bytes;
 use av_trace::{Command, LineErr, parse_line, reply_text};
 use std::alloc::Global;
@@ -45,24 +47,34 @@ fn said_command(alloc: Global, line: &[u8]) -> Result<Command, Unanswered>
     }
 }
 
-/// Does what a line commands, and gives the reply's text, newlines included.
+/// Does what a line commands, over the device whose swap areas the kernel has, and gives the
+/// reply's text, newlines included.
 ///
-/// Where it refuses a line, or the kernel has done enough, the kernel is as before.
-pub fn ask(alloc: Global, kernel: &mut Kernel, line: &[u8]) -> Result<Bytes, Unanswered>
-    ensures answers { (d : Device) (s : State) → Stands kernel.old d s
-        → IfOk result (λ text. Answers line.now d s kernel.old kernel.new text) }
+/// Where it refuses a line, or the kernel has done enough, kernel and device are as before.
+pub fn ask<D: SwapDev>(
+    alloc: Global,
+    kernel: &mut Kernel,
+    dev: &mut D,
+    line: &[u8],
+) -> Result<Bytes, Unanswered>
+    requires attached { D.sizes dev.old ≡ sizes_of kernel.old.sizes }
+    ensures answers { let d = seen_by D.sizes D.pages D.faults in (s : State)
+        → Stands kernel.old (d dev.old) s → IfOk result
+        (Answers line.now (d dev.old) (d dev.new) s kernel.old kernel.new) }
     ensures blank { IsErrOf result Unanswered.Blank
-        → Says line.now None × (kernel.new ≡ kernel.old) }
+        → Says line.now None × (kernel.new ≡ kernel.old) × (dev.new ≡ dev.old) }
     ensures bad { IsErrOf result Unanswered.NoCommand
-        → ((said : Option AnyCommand) → Says line.now said → ⊥) × (kernel.new ≡ kernel.old) }
+        → ((said : Option AnyCommand) → Says line.now said → ⊥) × (kernel.new ≡ kernel.old)
+        × (dev.new ≡ dev.old) }
     ensures enough { IsErrOf result Unanswered.TooMany
-        → (2 ^ 24 ≤ kernel.old.steps) × (kernel.new ≡ kernel.old) }
+        → (2 ^ 24 ≤ kernel.old.steps) × (kernel.new ≡ kernel.old) × (dev.new ≡ dev.old) }
+    ensures attached { D.sizes dev.new ≡ sizes_of kernel.new.sizes }
 {
     if MOST_COMMANDS <= kernel.steps_done() {
         return Err(Unanswered::TooMany);
     }
     let command = said_command(alloc, line)?;
-    let Ok(reply) = kernel.step(alloc, &command) else {
+    let Ok(reply) = kernel.step(alloc, &command, dev) else {
         return Err(Unanswered::Memory);
     };
     let mut text = Bytes::new(alloc);

@@ -14,6 +14,7 @@ number_of statuses.ReadFault = 4
 number_of statuses.WriteFault = 5
 number_of statuses.Memory = 6
 number_of statuses.TooMany = 7
+number_of statuses.AttachFault = 8
 
 -- the failure whose text is printed
 abbrev pub failure_of : Status → Option Failure
@@ -24,3 +25,4 @@ failure_of statuses.ReadFault = Some failures.Read
 failure_of statuses.WriteFault = Some failures.Write
 failure_of statuses.Memory = Some failures.Memory
 failure_of statuses.TooMany = Some failures.TooMany
+failure_of statuses.AttachFault = Some failures.Attach

@@ -21,6 +21,8 @@ pub enum Failure {
     Memory,
     #[error("too many lines")]
     TooMany,
+    #[error("swap file can't be opened")]
+    Attach,
 }
 
 impl Failure {
@@ -36,6 +38,7 @@ impl Failure {
             Status::WriteFault => Some(Failure::Write),
             Status::Memory => Some(Failure::Memory),
             Status::TooMany => Some(Failure::TooMany),
+            Status::AttachFault => Some(Failure::Attach),
         }
     }
 }
@@ -52,5 +55,6 @@ pub fn exit_number(status: Status) -> u8
         Status::WriteFault => 5,
         Status::Memory => 6,
         Status::TooMany => 7,
+        Status::AttachFault => 8,
     }
 }

@@ -11,7 +11,9 @@ pub const HELP: &str = "\
 avsim replays a trace of memory commands against a model of Linux private anonymous memory.
 It reads the trace from standard input and writes each command's reply to standard output.
 
-usage: avsim run FRAMES     replay a trace on a machine with 1 to 16384 frames of 4096 bytes
+usage: avsim run FRAMES [SWAP]
+                            replay a trace on a machine with 1 to 16384 frames of 4096 bytes; SWAP
+                            is a file that is attached as swap area 0 (no command uses it yet)
        avsim --help         print this text
        avsim --version      print the version
 
@@ -58,7 +60,7 @@ A reply is followed by notes of what happened, each on a line that begins with a
   copy P A f                it is frame f, a copy of the frame that it was
 
 exit status: 0, or 2 usage, 3 a line that is no command, 4 a failed read, 5 a failed write,
-             6 out of memory, 7 too many lines
+             6 out of memory, 7 too many lines, 8 a swap file that can't be opened
 ";
 
 /// The text that the words ask for, where they ask for one and nothing else.

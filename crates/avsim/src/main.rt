@@ -5,6 +5,9 @@
 //! reach standard output and standard error.
 #![tactic(auto)]
 
+ghost use Rattle.std.specs.Prelude.{IfOk};
+ghost use Rattle.av_replay.specs.Attach.{HasNone};
+
 mod failure;
 mod help;
 
@@ -12,7 +15,7 @@ use crate::failure::{Failure, exit_number};
 use crate::help::text_for;
 use av_io::{ReadSource, WriteSink};
 use av_replay::{Status, run};
-use av_swapdev::{FileDev, HostFiles};
+use av_swapdev::{FileDev, HostFiles, SwapDev};
 use std::alloc::AllocError;
 use std::env;
 use std::io::{self, ErrorKind};
@@ -44,7 +47,10 @@ fn print_text(rt: &HostRuntime, text: &str) -> Status {
 }
 
 /// A device over the files of the host, of which none is attached yet.
-fn host_dev(rt: &HostRuntime) -> Result<FileDev<HostFiles<HostRuntime>>, AllocError> {
+fn host_dev(rt: &HostRuntime) -> Result<FileDev<HostFiles<HostRuntime>>, AllocError>
+    ensures { IfOk result (λ dev.
+        HasNone (⟦<FileDev<HostFiles<HostRuntime>> as SwapDev>⟧.sizes dev)) }
+{
     FileDev::new(rt.alloc(), HostFiles::new(rt.clone()?))
 }
 

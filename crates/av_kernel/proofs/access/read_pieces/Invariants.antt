@@ -1,21 +1,27 @@
 -- What is done so far is an access of its own, served whole and shown; behind it a page begins, or nothing is left.
 use Rattle.std.proofs.Common.{◌≡◌, ◌+◌, ◌-◌, ◌%◌, ◌<◌, ◌≤◌, false, [], None}
-use Rattle.av_plain.specs.Device.{Device}
 use Rattle.av_plain.specs.World.{pages}
 use Rattle.av_plain.specs.Access.{Reads}
+use Rattle.av_plain.specs.Device.{IsSameDevice}
 use Rattle.av_plain.specs.Transcript.{State}
 use Rattle.av_mem.specs.Mem.{frame_count, Keeps}
 use Rattle.av_kernel.specs.Access.{IsAccess}
+use Rattle.av_kernel.specs.Step.{IsSteadyFor, seen_by}
 use Rattle.av_kernel.proofs.access.read_pieces.Given as goal
 
 abbrev pub decreases-loop-done : goal.decreases-loop-done
-decreases-loop-done l = l.len - l.done
+decreases-loop-done g l = l.len - l.done
 
 abbrev pub invariant-loop-done : goal.invariant-loop-done
-invariant-loop-done l = record {
+invariant-loop-done g l = record {
   within : l.done ≤ l.len;
   begins : 1 ≤ l.done → l.done < l.len → (l.address + l.done) % 4096 ≡ 0;
-  access : (d : Device) (s : State) → Keeps d l.initial.mem s → IsAccess d s l.mem false l.process l.address l.done [] l.initial.notes l.notes None l.done;
-  reads : (d : Device) (s : State) → Keeps d l.initial.mem s → Reads (pages s.world l.process) l.address l.done l.shown;
+  access : (s : State) → Keeps (seen_by g.D.SwapDev.sizes g.D.SwapDev.pages g.D.SwapDev.faults l.initial.dev) l.initial.mem s
+      → IsAccess (seen_by g.D.SwapDev.sizes g.D.SwapDev.pages g.D.SwapDev.faults l.initial.dev)
+      (seen_by g.D.SwapDev.sizes g.D.SwapDev.pages g.D.SwapDev.faults l.dev) s l.mem false l.process l.address l.done [] l.initial.notes l.notes None l.done;
+  reads : (s : State) → Keeps (seen_by g.D.SwapDev.sizes g.D.SwapDev.pages g.D.SwapDev.faults l.initial.dev) l.initial.mem s → Reads (pages s.world l.process) l.address l.done l.shown;
+  steady : IsSteadyFor (g.D.SwapDev.sizes l.initial.dev) l.process l.mem;
+  same : IsSameDevice (seen_by g.D.SwapDev.sizes g.D.SwapDev.pages g.D.SwapDev.faults l.initial.dev)
+      (seen_by g.D.SwapDev.sizes g.D.SwapDev.pages g.D.SwapDev.faults l.dev);
   count : frame_count l.mem ≡ frame_count l.initial.mem;
 }

@@ -1,5 +1,4 @@
-use Rattle.std.proofs.Common.{ℕ, ◌+◌, refl, subst, sym, ◌∙◌}
-use Rattle.av_base.specs.Page.{page_of}
+use Rattle.std.proofs.Common.{ℕ, ◌+◌, refl, subst, sym}
 use Rattle.av_trace.specs.declared.place.Place.{Place}
 use Rattle.av_vma.specs.Pages.{after_unmap}
 use Rattle.av_spaces.specs.Spaces.{is_taken, pages_of}

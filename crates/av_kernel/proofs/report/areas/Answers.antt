@@ -6,7 +6,7 @@ use Rattle.av_trace.specs.declared.reply.Errno.TheVariants.{Esrch}
 use Rattle.av_spaces.specs.Spaces.{AreRising}
 use Rattle.av_plain.specs.Report.{area_row}
 use Rattle.av_mem.specs.Mem.{view}
-use Rattle.av_kernel.specs.Step.{MemSteps}
+use Rattle.av_kernel.specs.Step.{StepsBeside}
 use Rattle.av_kernel.proofs.StepLaws.{refuses, refuses-as, dead_first, wants-by}
 use Rattle.av_kernel.proofs.ReportAreas.{areas-steps}
 use Rattle.av_kernel.proofs.report.areas.Goals as goal
@@ -34,8 +34,8 @@ returns c = record {
       let areas = c.in_ok-areas.areas.items in
       let rows : c.add_areas.new.rows ≡ map (area_row (view k).anons) areas =
       c.in_ok-add_areas.ensures ∙ ap (map (area_row (view k).anons)) c.deref.ensures.value in
-      subst (MemSteps d k k s (AsksAreas c.args.process)) (sym c.answer_with.ensures)
-      (subst (MemSteps d k k s (AsksAreas c.args.process)) (λ i. record {
+      subst (StepsBeside d k k s (AsksAreas c.args.process)) (sym c.answer_with.ensures)
+      (subst (StepsBeside d k k s (AsksAreas c.args.process)) (λ i. record {
         answer = AreaList (length ((sym rows ∙ sym c.as_slice.ensures) i));
         notes = sym c.requires.cleared.notes i;
         rows = sym rows i;

@@ -7,7 +7,7 @@ use Rattle.av_trace.specs.declared.reply.Errno.TheVariants.{Esrch}
 use Rattle.av_plain.specs.Report.{range_of}
 use Rattle.av_spaces.specs.Spaces.{AreRising}
 use Rattle.av_kernel.specs.Report.{AreRuns}
-use Rattle.av_kernel.specs.Step.{MemSteps}
+use Rattle.av_kernel.specs.Step.{StepsBeside}
 use Rattle.av_kernel.proofs.StepLaws.{refuses, refuses-as, dead_first, wants-by}
 use Rattle.av_kernel.proofs.ReportMaps.{maps-steps}
 use Rattle.av_kernel.proofs.report.maps.Goals as goal
@@ -33,8 +33,8 @@ returns c = record {
       let k = c.args.mem.now in
       let areas = c.in_ok-areas.ensures.areas in
       let runs = subst (λ (areas : List Area). AreRuns (map range_of areas) c.add_runs.new.rows) c.deref.ensures.value c.in_ok-add_runs.ensures in
-      subst (MemSteps d k k s (Maps c.args.process)) (sym c.answer_with.ensures)
-      (subst (MemSteps d k k s (Maps c.args.process)) (λ i. record {
+      subst (StepsBeside d k k s (Maps c.args.process)) (sym c.answer_with.ensures)
+      (subst (StepsBeside d k k s (Maps c.args.process)) (λ i. record {
         answer = Runs (length (sym c.as_slice.ensures i));
         notes = sym c.requires.cleared.notes i;
         rows = c.add_runs.new.rows;

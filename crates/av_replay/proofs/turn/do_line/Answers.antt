@@ -1,13 +1,13 @@
-use Rattle.std.proofs.Common.{Some, append-nil, arith, refl}
+use Rattle.std.proofs.Common.{Some, append-nil, refl, arith}
 use Rattle.av_replay.proofs.turn.do_line.Goals as goal
 
 pub returns-clause-ok : goal.returns-clause-ok
-returns-clause-ok c = λ d.
+returns-clause-ok g c =
     let counted = c.in_ok-answer.ensures.counts in
     record {
       answers = λ s stands.
           let says = rw c.in-Some.is at c.in-Ok.ensures.found in
-          let steps = c.in_ok-answer.ensures.stands d s stands in
+          let steps = c.in_ok-answer.ensures.stands s stands in
           record {
             did = Some (record { command = c.in-Some.command; reply = c.answer.new.reply });
             next = steps.next;
@@ -16,7 +16,13 @@ returns-clause-ok c = λ d.
             said = rw (append-nil, c.in_ok-reply_text.ensures, c.clear.ensures) refl;
             stands = steps.stands;
             faults = let within = steps.faults in omega (arith, within);
-            counts = record { steps = counted.steps; tally = counted.tally; frames = counted.frames; spent = λ _. counted.spent };
+            counts = record {
+              steps = counted.steps;
+              tally = counted.tally;
+              frames = counted.frames;
+              sizes = counted.sizes;
+              spent = λ _. counted.spent;
+            };
           };
       steps = omega (arith, counted.steps);
     }

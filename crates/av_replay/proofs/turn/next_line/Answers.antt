@@ -9,4 +9,4 @@ returns-in_err-answer_line-clause-turned g c =
     let not = rw c.as_slice.ensures.is at c.in_err-answer_line.ensures.err in
     rw (p.1, p.2) (halts c.args.pending.now c.read_line.new.pending (g.P.Ports.view c.args.ports.now) (g.P.Ports.view c.read_line.new.ports)
     (g.P.Ports.view c.answer_line.new.ports) c.args.kernel.now c.answer_line.new.kernel c.in-Some.line c.in_ok-line.ensures.reads
-    c.in_err-answer_line.ensures.only c.in_err-answer_line.field-0.0 c.in_ok-line.ensures.unfailed next not)
+    c.answer_line.ensures.leaves c.in_err-answer_line.field-0.0 c.in_ok-line.ensures.unfailed next not)

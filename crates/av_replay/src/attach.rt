@@ -1,0 +1,38 @@
+//! Attaching the swap areas that the words name.
+
+ghost use Rattle.std.specs.Prelude.{◌≡◌, ℕ, ◌≤◌, List, length, IfOk, IsErrOf};
+ghost use Rattle.av_io.specs.Count.{Rose};
+ghost use Rattle.av_swapdev.specs.Device.{most_areas};
+ghost use Rattle.av_kernel.specs.Step.{seen_by};
+ghost use Rattle.av_replay.specs.Attach.{Attaches, HasNone};
+
+use av_swapdev::{AttachErr, SwapDev};
+use std::alloc::Global;
+
+/// Attaches these names as the areas 0, 1, .. of a device that has none, and says how many pages
+/// each has.
+pub fn attach_all<D: SwapDev>(
+    alloc: Global,
+    names: &[String],
+    dev: &mut D,
+) -> Result<Vec<u32>, AttachErr>
+    requires few { length names.now ≤ most_areas }
+    requires none { HasNone (D.sizes dev.old) }
+    ensures all { IfOk result (λ pages. (length pages.items ≡ length names.now)
+        × Attaches pages.items (seen_by D.sizes D.pages D.faults dev.old)
+        (seen_by D.sizes D.pages D.faults dev.new)) }
+    ensures cause { IsErrOf result AttachErr.Failed → Rose (D.faults dev.old) (D.faults dev.new) }
+    ensures wanting { IsErrOf result AttachErr.Memory → (pages : List ℕ)
+        × (length pages ≤ length names.now)
+        × Attaches pages (seen_by D.sizes D.pages D.faults dev.old)
+        (seen_by D.sizes D.pages D.faults dev.new) }
+{
+    let mut pages = Vec::new(alloc);
+    for (area, name) in names.iter().enumerate() {
+        let size = dev.attach(area as u8, name)?;
+        if pages.push(size).is_err() {
+            return Err(AttachErr::Memory);
+        }
+    }
+    Ok(pages)
+}
