@@ -1,1 +1,6 @@
+pub mod Between
+pub mod Coming
 pub mod Fault
+pub mod Making
+pub mod Seek
+pub mod Using

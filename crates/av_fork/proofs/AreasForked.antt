@@ -290,6 +290,8 @@ ledger_beside d old spaces anons l h = let parts = h.parts in let of = parts.fra
     swap = record { finds = parts.swap.finds; counts = parts.swap.counts; flight = parts.swap.flight; on = parts.swap.on };
   };
   lists = h.lists;
+  there = h.there;
+  swap = h.swap;
 }
 
 -- so it stays where these do

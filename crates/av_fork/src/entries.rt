@@ -1,34 +1,34 @@
 //! How the entries of a process go over to another one.
 
-ghost use Rattle.std.specs.Prelude.{◌≡◌, ℕ, ◌+◌, ◌<◌, ◌≤◌, ◌^◌, Bool, slice_index_or, true, OnErr, OnOk};
+ghost use Rattle.std.specs.Prelude.{◌≡◌, ℕ, ◌<◌, ◌≤◌, true, slice_index_or, MatchResult, OnOk};
 ghost use Rattle.av_base.specs.Limits.{most_processes};
-ghost use Rattle.av_fork.specs.Entries.{after_map_ups, HasForked};
-ghost use Rattle.av_frames.specs.Store.{shown};
+ghost use Rattle.av_base.specs.declared.slot.Slot.{Slot};
+ghost use Rattle.av_fork.specs.Entries.{after_count_up, after_count_ups, HasForked, HasRoomFor, IsInUse};
 ghost use Rattle.av_pagetable.specs.Entries.{entry_at, has};
 ghost use Rattle.av_pagetable.specs.Table.{group_size};
+ghost use Rattle.av_pagetable.specs.declared.pte.Pte.TheVariants as Pte;
 ghost use Rattle.av_plain.specs.Device.{Device};
 ghost use Rattle.av_plain.specs.Ledger.{Ledger};
 ghost use Rattle.av_plain.specs.Stands.{free_of};
 ghost use Rattle.av_mem.specs.Mem.{view, HasLedger, IsOrderly};
-ghost use Rattle.av_mem.specs.Zap.{KeepsRest};
+ghost use Rattle.av_mem.specs.Steps.{KeepsRest};
 
-use av_frames::Frames;
 use av_mem::Mem;
 use av_pagetable::{GROUP, Pte};
 use std::alloc::{AllocError, Global};
 
 /// Gives a process with an empty table each entry of another one: not seen, and written in place by
-/// neither. Without memory the memory system still stands for a ledger.
+/// neither. Without memory nothing is promised of entries and counts.
 pub fn fork_entries(mem: &mut Mem, alloc: Global, parent: u16, child: u16) -> Result<(), AllocError>
     requires orderly { IsOrderly mem.old }
     requires few { (f : ℕ) → (view mem.old).maps f ≤ most_processes }
+    requires few_slots { (s : Slot) → (view mem.old).entries s ≤ most_processes }
     requires there { has mem.old.tables child ≡ true }
     requires empty { (page : ℕ) → entry_at mem.old.tables child page ≡ Pte.Empty }
     ensures forks { (d : Device) (l : Ledger) → HasLedger d mem.old l →
         OnOk result (HasForked d mem.old mem.new l parent child) }
     ensures free { free_of (view mem.new) ≡ free_of (view mem.old) }
     ensures rest { KeepsRest mem.old mem.new }
-    ensures orderly { OnErr result (IsOrderly mem.new) }
 {
     mem.tables.copy(alloc, parent, child)?;
     mem.tables.write_protect(parent);
@@ -37,23 +37,46 @@ pub fn fork_entries(mem: &mut Mem, alloc: Global, parent: u16, child: u16) -> Re
         let mut group = [Pte::Empty; GROUP];
         mem.tables
             .read_group(child, page / GROUP as u64, &mut group);
-        map_up_each(&mut mem.frames, &group);
+        count_up_each(mem, &group)?;
         number = page / GROUP as u64 + 1;
     }
     Ok(())
 }
 
-/// One more entry names each frame that an entry of the group names.
-fn map_up_each(frames: &mut Frames, group: &[Pte; GROUP])
-    requires in_range { (i f : ℕ) (write was : Bool) → i < group_size
-        → slice_index_or group.now i Pte.Empty ≡ Pte.Here f write was
-        → f < (shown frames.old).count }
-    requires room { (f : ℕ) → (shown frames.old).maps f + group_size < 2 ^ 64 }
-    ensures { shown frames.new ≡ after_map_ups group.now (shown frames.old) }
+/// One more entry names each frame and slot that an entry of the group names. Only a slot takes
+/// memory; without it nothing is promised of counts.
+fn count_up_each(mem: &mut Mem, group: &[Pte; GROUP]) -> Result<(), AllocError>
+    requires used { (i : ℕ) → i < group_size
+        → IsInUse mem.old (slice_index_or group.now i Pte.Empty) }
+    requires room { HasRoomFor mem.old group_size }
+    ensures counts { OnOk result (view mem.new ≡ after_count_ups group.now (view mem.old)) }
+    ensures tables { entry_at mem.new.tables ≡ entry_at mem.old.tables }
+    ensures free { free_of (view mem.new) ≡ free_of (view mem.old) }
+    ensures rest { KeepsRest mem.old mem.new }
 {
     for entry in group {
-        if let Pte::Here { frame, .. } = *entry {
-            frames.map_up(frame);
+        count_up(mem, *entry)?;
+    }
+    Ok(())
+}
+
+/// One more entry names the frame or slot of an entry. Only a slot takes memory; without it all
+/// counts stay.
+fn count_up(mem: &mut Mem, entry: Pte) -> Result<(), AllocError>
+    requires used { IsInUse mem.old entry }
+    requires room { HasRoomFor mem.old 1 }
+    ensures counts { MatchResult result
+        (λ _. view mem.new ≡ after_count_up entry (view mem.old))
+        (λ _. view mem.new ≡ view mem.old) }
+    ensures tables { entry_at mem.new.tables ≡ entry_at mem.old.tables }
+    ensures rest { KeepsRest mem.old mem.new }
+{
+    match entry {
+        Pte::Empty | Pte::Zero => Ok(()),
+        Pte::Here { frame, .. } => {
+            mem.frames.map_up(frame);
+            Ok(())
         }
+        Pte::Away { slot } => mem.swap.entry_up(slot, 1),
     }
 }

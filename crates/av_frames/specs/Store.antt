@@ -1,6 +1,6 @@
 -- What is shown of the frames: a free list, and for each frame its bytes, how many entries name it,
 -- its home, the slot at which it is cached, and whether it is dirty.
-use Rattle.std.specs.Prelude.{◌≡◌, ℕ, ◌+◌, ◌-◌, ◌^◌, ◌<◌, ◌≤◌, Bool, true, false, ◌==◌, if◌then◌else◌, List, [], length, slice_index, slice_index_or, Option, None}
+use Rattle.std.specs.Prelude.{◌≡◌, ℕ, ◌+◌, ◌-◌, ◌^◌, ◌<◌, ◌≤◌, Bool, true, false, ◌==◌, if◌then◌else◌, List, [], ◌∷◌, length, slice_index, slice_index_or, Option, None, Some}
 use Rattle.av_base.specs.declared.slot.Slot.{Slot}
 use Rattle.av_base.specs.Words.{how_many, within, with_at}
 use Rattle.std.specs.List.{range_with_len}
@@ -35,6 +35,11 @@ shown s = record {
   dirty = λ f. slice_index_or s.dirty f false;
   slot = λ f. slice_index_or s.slots f None;
 }
+
+-- the first of a list
+abbrev pub first_of : {X : Type 0} → List X → Option X
+first_of [] = None
+first_of (x ∷ xs) = Some x
 
 -- n frames that are all free, full of zeros, and named by nothing
 abbrev pub fresh : ℕ → Shown

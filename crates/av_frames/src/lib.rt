@@ -9,7 +9,7 @@
 mod pages;
 
 ghost use Rattle.std.specs.Prelude.{◌≡◌, ℕ, ◌+◌, ◌<◌, ◌≤◌, ◌^◌, ◌-◌, ◌∷◌, ◌==◌, [], length, slice_index, MatchOption, IfOk, true, false, replicate, not};
-ghost use Rattle.av_frames.specs.Store.{shown, fresh, overlaid, with_bytes, with_maps, with_home, with_dirty, with_slot};
+ghost use Rattle.av_frames.specs.Store.{shown, first_of, fresh, overlaid, with_bytes, with_maps, with_home, with_dirty, with_slot};
 ghost use Rattle.av_base.specs.Page.{page_size};
 ghost use Rattle.av_base.specs.Words.{is_in, how_many};
 ghost use Rattle.std.specs.List.{range_with_len};
@@ -85,6 +85,13 @@ impl Frames {
         Some(frame)
     }
 
+    /// The free frame that is taken next. None exactly where none is free.
+    pub fn first(&self) -> Option<u32>
+        ensures { result ≡ first_of self.now.free }
+    {
+        self.free.front().copied()
+    }
+
     /// Puts a frame in front of the free ones.
     pub fn give(&mut self, frame: u32)
         requires in_range { frame < (shown self.old).count }
@@ -128,6 +135,14 @@ impl Frames {
             ≡ with_maps frame ((shown self.old).maps frame - 1) (shown self.old) }
     {
         self.maps[frame as usize] -= 1;
+    }
+
+    /// No entry names the frame any more.
+    pub fn clear_maps(&mut self, frame: u32)
+        requires { frame < (shown self.old).count }
+        ensures { shown self.new ≡ with_maps frame 0 (shown self.old) }
+    {
+        self.maps[frame as usize] = 0;
     }
 
     /// Where the entries of the frame are found: an anon_vma's number, and the linear index there.

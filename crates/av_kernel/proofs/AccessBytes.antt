@@ -1,9 +1,9 @@
 -- The bytes of an access piece by piece are those of the whole.
-use Rattle.std.proofs.Common.{◌≡◌, ℕ, ◌+◌, ◌^◌, ◌<◌, suc, Bool, true, cond, List, [], ◌∷◌, ◌++◌, length, Option, Some, None, refl, sym, ap, subst, ◌∙◌, arith}
+use Rattle.std.proofs.Common.{◌≡◌, ℕ, ◌+◌, ◌^◌, ◌<◌, suc, Bool, true, cond, List, [], ◌∷◌, ◌++◌, length, Option, Some, None, Ordering, refl, sym, ap, subst, ◌∙◌, arith}
 use Rattle.std.specs.List.{AllByRecursion}
 use Rattle.std.specs.Ordering.{nat_cmp, is_eq, eq_by_cmp}
 use Rattle.std.specs.declared.cmp.Ordering.TheVariants.{Less, Equal, Greater}
-use Rattle.std.specs.Cmp.{nat_cmp_total, tied_itself}
+use Rattle.std.specs.Cmp.{IsTotalOrder, nat_cmp_total, tied_itself}
 use Rattle.std.specs.FinMap.Entries.{put, by_order}
 use Rattle.std.proofs.lemmas.List.{append-nil, length-append}
 use Rattle.av_plain.specs.World.{World, Process, Page, pages, lives, set_process, with_bytes, Shows}
@@ -38,15 +38,15 @@ reads-more q a k m at shown now piece begins is long h below g = (
 
 -- ---- stored
 
-put_twice : (p : ℕ) (m n : Process) (w : World) → put nat_cmp p n (put nat_cmp p m w) ≡ put nat_cmp p n w
-put_twice p m n [] = ap (λ r. by_order r ((p, n) ∷ (p, m) ∷ []) ((p, n) ∷ []) ((p, m) ∷ (p, n) ∷ [])) (tied_itself nat_cmp_total p)
-put_twice p m n (e ∷ w) =
-    elim (nat_cmp p e.0) as (λ r. nat_cmp p e.0 ≡ r → put nat_cmp p n (by_order r ((p, m) ∷ e ∷ w) ((e.0, m) ∷ w) (e ∷ put nat_cmp p m w)) ≡ by_order r
-    ((p, n) ∷ e ∷ w) ((e.0, n) ∷ w) (e ∷ put nat_cmp p n w)) [
-      | Less ↦ λ is. ap (λ r. by_order r ((p, n) ∷ (p, m) ∷ e ∷ w) ((p, n) ∷ e ∷ w) ((p, m) ∷ put nat_cmp p n (e ∷ w))) (tied_itself nat_cmp_total p)
-      | Equal ↦ λ is. ap (λ r. by_order r ((p, n) ∷ (e.0, m) ∷ w) ((e.0, n) ∷ w) ((e.0, m) ∷ put nat_cmp p n w)) is
-      | Greater ↦ λ is. ap (λ r. by_order r ((p, n) ∷ e ∷ put nat_cmp p m w) ((e.0, n) ∷ put nat_cmp p m w) (e ∷ put nat_cmp p n (put nat_cmp p m w))) is
-          ∙ ap (λ es. e ∷ es) (put_twice p m n w)
+pub put_twice : {K X : Type 0} (R : K → K → Ordering) → IsTotalOrder R → (p : K) (m n : X) (w : List (K × X)) → put R p n (put R p m w) ≡ put R p n w
+put_twice R total p m n [] = ap (λ r. by_order r ((p, n) ∷ (p, m) ∷ []) ((p, n) ∷ []) ((p, m) ∷ (p, n) ∷ [])) (tied_itself total p)
+put_twice R total p m n (e ∷ w) =
+    elim (R p e.0) as (λ r. R p e.0 ≡ r → put R p n (by_order r ((p, m) ∷ e ∷ w) ((e.0, m) ∷ w) (e ∷ put R p m w)) ≡ by_order r
+    ((p, n) ∷ e ∷ w) ((e.0, n) ∷ w) (e ∷ put R p n w)) [
+      | Less ↦ λ is. ap (λ r. by_order r ((p, n) ∷ (p, m) ∷ e ∷ w) ((p, n) ∷ e ∷ w) ((p, m) ∷ put R p n (e ∷ w))) (tied_itself total p)
+      | Equal ↦ λ is. ap (λ r. by_order r ((p, n) ∷ (e.0, m) ∷ w) ((e.0, n) ∷ w) ((e.0, m) ∷ put R p n w)) is
+      | Greater ↦ λ is. ap (λ r. by_order r ((p, n) ∷ e ∷ put R p m w) ((e.0, n) ∷ put R p m w) (e ∷ put R p n (put R p m w))) is
+          ∙ ap (λ es. e ∷ es) (put_twice R total p m n w)
     ] refl
 
 pub itself : (p : ℕ) → eq_by_cmp nat_cmp p p ≡ true
@@ -62,7 +62,7 @@ stored_twice w p a (x ∷ xs) [] = ap (λ zs. after_write w p a (x ∷ zs)) (sym
 stored_twice w p a (x ∷ xs) (y ∷ ys) =
     ap (λ (m : Process). set_process (after_write w p a (x ∷ xs)) p (with_bytes m (a + length (x ∷ xs)) (y ∷ ys)))
     (pages-given w p (with_bytes (pages w p) a (x ∷ xs)))
-    ∙ put_twice p _ _ w
+    ∙ put_twice nat_cmp nat_cmp_total p _ _ w
     ∙ ap (set_process w p) (with_bytes_twice (pages w p) a (x ∷ xs) (y ∷ ys))
 
 pub lives-stored : (w : World) (p a : ℕ) (bytes : List ℕ) → lives w p ≡ true → lives (after_write w p a bytes) p ≡ true

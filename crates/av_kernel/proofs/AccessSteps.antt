@@ -12,7 +12,7 @@ use Rattle.av_trace.specs.declared.command.Command.TheVariants.{Read, Write}
 use Rattle.av_plain.specs.Device.{Device, setting_of}
 use Rattle.av_plain.specs.Fork.{IsRmapNext}
 use Rattle.av_plain.specs.World.{World, lives, pages}
-use Rattle.av_plain.specs.Access.{Accesses, End, Whole, Stopped, pages_of_access, bytes_before, stop_answer, Reads, after_write}
+use Rattle.av_plain.specs.Access.{Accesses, Whole, Stopped, pages_of_access, bytes_before, stop_answer, Reads, after_write}
 use Rattle.av_io.specs.Count.{RoseBy}
 use Rattle.av_plain.specs.Pass.{fails}
 use Rattle.av_plain.specs.Step.{causes, failed_frames, fault_answers, next}
@@ -21,7 +21,7 @@ use Rattle.av_plain.specs.Transcript.{State, rmap_of}
 use Rattle.av_plain.specs.Event.{Event, notes_of}
 use Rattle.av_mem.specs.declared.mem.Mem.{Mem}
 use Rattle.av_fault.specs.declared.fault.Stop.{Stop}
-use Rattle.av_fault.specs.declared.fault.Stop.TheVariants.{Segv, Oom}
+use Rattle.av_fault.specs.declared.fault.Stop.TheVariants.{Bus, Oom, Segv}
 use Rattle.av_vma.specs.Pages.{Lengths}
 use Rattle.av_plain.specs.Areas.{Areas, Rmap, chain_length, next_areas, rmap_after_all}
 use Rattle.av_trace.specs.declared.command.Command.{Command}
@@ -29,12 +29,9 @@ use Rattle.av_mem.specs.Mem.{Keeps, setting_by, frame_count}
 use Rattle.av_fault.specs.Fault.{stop_of}
 use Rattle.av_plain.proofs.Transcript.{is_fork, next-plain}
 use Rattle.av_kernel.specs.Step.{MemSteps}
-use Rattle.av_kernel.specs.Access.{IsAccess, answer_at, answer_of, causes_of_access}
+use Rattle.av_kernel.specs.Access.{IsAccess, IsRead, answer_at, answer_of, causes_of_access}
 use Rattle.av_kernel.proofs.StepLaws.{left_alone}
-use Rattle.av_kernel.proofs.Loads.{accesses-load_nothing, world_as}
 use Rattle.av_plain.specs.Load.{with_loads}
-use Rattle.av_plain.proofs.Load.{loads_nothing, without-loads}
-use Rattle.std.specs.List.{list_all}
 
 -- the process lives, so that the command is not refused
 
@@ -50,14 +47,18 @@ not_refused false Follow Refuse is h = absurd (no is)
 answers-stopped : (a k page : ℕ) (stop : Stop) (shown : List ℕ) → k ≡ bytes_before a page →
     answer_of stop k shown ≡ stop_answer (stop_of stop) (bytes_before a page) shown
 answers-stopped a k page Segv shown is = ap (λ k. answers.Segv k shown) is
+answers-stopped a k page Bus shown is = ap (λ k. answers.Bus k shown) is
 answers-stopped a k page (Oom out) shown is = ap (λ k. answers.Oom k out shown) is
 
 -- a write that stopped stored what it says
-world-stopped : (w : World) (p a k : ℕ) (bytes : List ℕ) (stop : Stop) → after_write w p a (take k bytes) ≡ next w (Write p a bytes) (answer_of stop k [])
+world-stopped : (w : World) (p a k : ℕ) (bytes : List ℕ) (stop : Stop) → after_write w p a (take k bytes) ≡ next w (Write p a bytes)
+    (answer_of stop k [])
 world-stopped w p a k bytes Segv = refl
+world-stopped w p a k bytes Bus = refl
 world-stopped w p a k bytes (Oom out) = refl
 
-module _ {d : Device} (s : State) (old new : Mem) (p a : ℕ) (before notes : List Note) (rows : List Row) (k : ℕ) (fresh : before ≡ []) (none : rows ≡ [])
+module _ {d : Device} (s : State) (old new : Mem) (p a : ℕ) (before notes : List Note) (rows : List Row) (k : ℕ) (fresh : before ≡ [])
+    (none : rows ≡ [])
     (same : frame_count new ≡ frame_count old) (lived : lives s.world p ≡ true) (keeps : Keeps d old s) where
   -- areas and anon_vmas are those that its events prepared
   rmap_still : {d' : Device} (command : Command) (answer : Answer) → is_fork command ≡ false →
@@ -75,21 +76,15 @@ module _ {d : Device} (s : State) (old new : Mem) (p a : ℕ) (before notes : Li
   alone : (events : List Event) → notes ≡ before ++ notes_of events → notes ≡ notes_of events
   alone events is = is ∙ ap (λ ns. ns ++ notes_of events) fresh
 
-  -- no event of it is a load
-  silent : (ps : List (Bool × ℕ)) (events : List Event) (end : End) → Accesses (setting_by d new) s.world s.ledger p ps events end →
-      list_all loads_nothing events ≡ true
-  silent ps events end h = accesses-load_nothing (setting_by d old) s.world s.ledger p (sym keeps.stands.parts.ledger.swap.on) keeps.stands.sound ps events end
-      (subst (λ m. Accesses (setting_of m d) s.world s.ledger p ps events end) same h)
+  -- the memories after its loads are those over the device as it was
+  loads-same : (events : List Event) → with_loads (setting_by d new) s.world s.ledger events ≡ with_loads (setting_by d old) s.world s.ledger events
+  loads-same events = λ i. with_loads (setting_of (same i) d) s.world s.ledger events
 
-  reads_still : (n : ℕ) (shown : List ℕ) (events : List Event) → list_all loads_nothing events ≡ true → Reads (pages s.world p) a n shown →
-      Reads (pages (with_loads (setting_by d old) s.world s.ledger events) p) a n shown
-  reads_still n shown events loads = subst (λ w. Reads (pages w p) a n shown) (sym (without-loads (setting_by d old) s.world s.ledger events loads))
-
-  read-done : {d' : Device} (n : ℕ) (shown : List ℕ) (answer : Answer) → IsAccess d d' s new false p a n [] before notes None k → Reads (pages s.world p) a k shown →
-      answer ≡ answers.Data shown
+  read-done : {d' : Device} (n : ℕ) (shown : List ℕ) (answer : Answer) → IsRead d d' s new p a n before notes None k shown
+      → answer ≡ answers.Data shown
       → RoseBy (causes (record { answer = answer; notes = notes; rows = rows })) d.faults d'.faults
       → MemSteps d d' old new s (Read p a n) (record { answer = answer; notes = notes; rows = rows })
-  read-done n shown answer h reads is rose = record {
+  read-done n shown answer read is rose = let h = read.access in record {
     next = h.next;
     step = record {
       events = h.events;
@@ -99,13 +94,14 @@ module _ {d : Device} (s : State) (old new : Mem) (p a : ℕ) (before notes : Li
           shown,
           subst (λ end. Accesses (setting_by d old) s.world s.ledger p (pages_of_access false a n) h.events end) h.is_end.0
               (subst (λ m. Accesses (setting_of m d) s.world s.ledger p (pages_of_access false a n) h.events h.end) same h.accesses),
-          reads_still n shown h.events (silent _ h.events h.end h.accesses) (subst (λ k. Reads (pages s.world p) a k shown) h.is_end.1 reads),
+          subst (λ w. Reads (pages w p) a n shown) (h.world ∙ loads-same h.events)
+              (subst (λ k. Reads (pages h.next.world p) a k shown) h.is_end.1 read.reads),
           is,
           none,
         );
         notes = alone h.events h.notes;
       };
-      world = h.world ∙ world_as (setting_by d old) s.world s.ledger h.events (Read p a n) answer (silent _ h.events h.end h.accesses);
+      world = h.world ∙ loads-same h.events;
       ledger = h.ledger;
       free = subst (λ m. ChoosesAll (setting_of m d) None s.ledger h.events s.free h.next.free) same h.free;
       rmap = rmap_still (Read p a n) answer refl (λ long on. refl) h.next h.events h.rmap h.keeps;
@@ -116,11 +112,11 @@ module _ {d : Device} (s : State) (old new : Mem) (p a : ℕ) (before notes : Li
     faults = rose;
   }
 
-  read-stopped : {d' : Device} (n : ℕ) (shown : List ℕ) (answer : Answer) (stop : Stop) → IsAccess d d' s new false p a n [] before notes (Some stop) k →
-      Reads (pages s.world p) a k shown → answer ≡ answer_of stop k shown
+  read-stopped : {d' : Device} (n : ℕ) (shown : List ℕ) (answer : Answer) (stop : Stop) → IsRead d d' s new p a n before notes (Some stop) k shown →
+      answer ≡ answer_of stop k shown
       → RoseBy (causes (record { answer = answer; notes = notes; rows = rows })) d.faults d'.faults
       → MemSteps d d' old new s (Read p a n) (record { answer = answer; notes = notes; rows = rows })
-  read-stopped n shown answer stop h reads is rose = record {
+  read-stopped n shown answer stop read is rose = let h = read.access in record {
     next = h.next;
     step = record {
       events = h.events;
@@ -130,14 +126,14 @@ module _ {d : Device} (s : State) (old new : Mem) (p a : ℕ) (before notes : Li
           shown,
           subst (λ end. Accesses (setting_by d old) s.world s.ledger p (pages_of_access false a n) h.events end) h.is_end.1
               (subst (λ m. Accesses (setting_of m d) s.world s.ledger p (pages_of_access false a n) h.events h.end) same h.accesses),
-          reads_still (bytes_before a h.is_end.0) shown h.events (silent _ h.events h.end h.accesses)
-              (subst (λ k. Reads (pages s.world p) a k shown) h.is_end.2 reads),
+          subst (λ w. Reads (pages w p) a (bytes_before a h.is_end.0) shown) (h.world ∙ loads-same h.events)
+              (subst (λ k. Reads (pages h.next.world p) a k shown) h.is_end.2 read.reads),
           is ∙ answers-stopped a k h.is_end.0 stop shown h.is_end.2,
           none,
         );
         notes = alone h.events h.notes;
       };
-      world = h.world ∙ world_as (setting_by d old) s.world s.ledger h.events (Read p a n) answer (silent _ h.events h.end h.accesses);
+      world = h.world ∙ loads-same h.events;
       ledger = h.ledger;
       free = subst (λ m. ChoosesAll (setting_of m d) None s.ledger h.events s.free h.next.free) same h.free;
       rmap = rmap_still (Read p a n) answer refl (λ long on. refl) h.next h.events h.rmap h.keeps;
@@ -148,7 +144,8 @@ module _ {d : Device} (s : State) (old new : Mem) (p a : ℕ) (before notes : Li
     faults = rose;
   }
 
-  write-done : {d' : Device} (bytes : List ℕ) (answer : Answer) → IsAccess d d' s new true p a (length bytes) (take k bytes) before notes None k → answer ≡ answers.Done
+  write-done : {d' : Device} (bytes : List ℕ) (answer : Answer) → IsAccess d d' s new true p a (length bytes) (take k bytes) before notes None k
+      → answer ≡ answers.Done
       → RoseBy (causes (record { answer = answer; notes = notes; rows = rows })) d.faults d'.faults
       → MemSteps d d' old new s (Write p a bytes) (record { answer = answer; notes = notes; rows = rows })
   write-done bytes answer h is rose = record {
@@ -165,8 +162,8 @@ module _ {d : Device} (s : State) (old new : Mem) (p a : ℕ) (before notes : Li
         );
         notes = alone h.events h.notes;
       };
-      world = h.world ∙ ap (after_write s.world p a) (ap (λ k. take k bytes) h.is_end.1 ∙ take-length bytes) ∙ ap (next s.world (Write p a bytes)) (sym is)
-          ∙ world_as (setting_by d old) s.world s.ledger h.events (Write p a bytes) answer (silent _ h.events h.end h.accesses);
+      world = h.world ∙ (λ i. after_write (loads-same h.events i) p a ((ap (λ k. take k bytes) h.is_end.1 ∙ take-length bytes) i))
+          ∙ ap (next (with_loads (setting_by d old) s.world s.ledger h.events) (Write p a bytes)) (sym is);
       ledger = h.ledger;
       free = subst (λ m. ChoosesAll (setting_of m d) None s.ledger h.events s.free h.next.free) same h.free;
       rmap = rmap_still (Write p a bytes) answer refl (λ long on. refl) h.next h.events h.rmap h.keeps;
@@ -177,7 +174,8 @@ module _ {d : Device} (s : State) (old new : Mem) (p a : ℕ) (before notes : Li
     faults = rose;
   }
 
-  write-stopped : {d' : Device} (bytes : List ℕ) (answer : Answer) (stop : Stop) → IsAccess d d' s new true p a (length bytes) (take k bytes) before notes (Some stop) k →
+  write-stopped : {d' : Device} (bytes : List ℕ) (answer : Answer) (stop : Stop) → IsAccess d d' s new true p a (length bytes)
+      (take k bytes) before notes (Some stop) k →
       answer ≡ answer_of stop k []
       → RoseBy (causes (record { answer = answer; notes = notes; rows = rows })) d.faults d'.faults
       → MemSteps d d' old new s (Write p a bytes) (record { answer = answer; notes = notes; rows = rows })
@@ -195,8 +193,9 @@ module _ {d : Device} (s : State) (old new : Mem) (p a : ℕ) (before notes : Li
         );
         notes = alone h.events h.notes;
       };
-      world = h.world ∙ world-stopped s.world p a k bytes stop ∙ ap (next s.world (Write p a bytes)) (sym is)
-          ∙ world_as (setting_by d old) s.world s.ledger h.events (Write p a bytes) answer (silent _ h.events h.end h.accesses);
+      world = h.world ∙ ap (λ w. after_write w p a (take k bytes)) (loads-same h.events)
+          ∙ world-stopped (with_loads (setting_by d old) s.world s.ledger h.events) p a k bytes stop
+          ∙ ap (next (with_loads (setting_by d old) s.world s.ledger h.events) (Write p a bytes)) (sym is);
       ledger = h.ledger;
       free = subst (λ m. ChoosesAll (setting_of m d) None s.ledger h.events s.free h.next.free) same h.free;
       rmap = rmap_still (Write p a bytes) answer refl (λ long on. refl) h.next h.events h.rmap h.keeps;
@@ -209,8 +208,10 @@ module _ {d : Device} (s : State) (old new : Mem) (p a : ℕ) (before notes : Li
 
   -- ---- by how it ended
 
-  rose-ended : (d' : Device) (stop : Option Stop) (whole answer : Answer) (shown : List ℕ) (events : List Event) → failed_frames whole ≡ 0 → fault_answers whole ≡ 0 →
-      answer ≡ answer_at stop whole k shown → notes ≡ before ++ notes_of events → RoseBy (causes_of_access (notes_of events) stop) d.faults d'.faults →
+  rose-ended : (d' : Device) (stop : Option Stop) (whole answer : Answer) (shown : List ℕ) (events : List Event) → failed_frames whole ≡ 0
+      → fault_answers whole ≡ 0 →
+      answer ≡ answer_at stop whole k shown → notes ≡ before ++ notes_of events → RoseBy
+      (causes_of_access (notes_of events) stop) d.faults d'.faults →
       RoseBy (causes (record { answer = answer; notes = notes; rows = rows })) d.faults d'.faults
   rose-ended d' stop whole answer shown events one two is all = subst (λ n. RoseBy n d.faults d'.faults) (sym ((λ i. causes (record {
     answer = is i;
@@ -223,26 +224,29 @@ module _ {d : Device} (s : State) (old new : Mem) (p a : ℕ) (before notes : Li
           ≡ causes_of_access (notes_of events) stop
       by None = λ i. max (fails (notes_of events)) (one i) + two i
       by (Some Segv) = refl
+      by (Some Bus) = refl
       by (Some (Oom out)) = refl
 
-  pub read-ended : {d' : Device} (n : ℕ) (shown : List ℕ) (answer : Answer) (stop : Option Stop) → IsAccess d d' s new false p a n [] before notes stop k →
-      Reads (pages s.world p) a k shown → answer ≡ answer_at stop (answers.Data shown) k shown
-      → MemSteps d d' old new s (Read p a n) (record { answer = answer; notes = notes; rows = rows })
-  read-ended {d'} n shown answer stop h reads is = by stop h is
-      (rose-ended d' stop (answers.Data shown) answer shown h.events refl refl is h.notes h.faults)
+  pub read-ended : {d' : Device} (n : ℕ) (shown : List ℕ) (answer : Answer) (stop : Option Stop) → IsRead d d' s new p a n before notes stop k shown →
+      answer ≡ answer_at stop (answers.Data shown) k shown → MemSteps d d' old new s (Read p a n)
+      (record { answer = answer; notes = notes; rows = rows })
+  read-ended {d'} n shown answer stop h is = by stop h is
+      (rose-ended d' stop (answers.Data shown) answer shown h.access.events refl refl is h.access.notes h.access.faults)
     where
-      by : (stop : Option Stop) → IsAccess d d' s new false p a n [] before notes stop k → answer ≡ answer_at stop (answers.Data shown) k shown →
+      by : (stop : Option Stop) → IsRead d d' s new p a n before notes stop k shown → answer ≡ answer_at stop (answers.Data shown) k shown →
           RoseBy (causes (record { answer = answer; notes = notes; rows = rows })) d.faults d'.faults
           → MemSteps d d' old new s (Read p a n) (record { answer = answer; notes = notes; rows = rows })
-      by None h is rose = read-done n shown answer h reads is rose
-      by (Some stop) h is rose = read-stopped n shown answer stop h reads is rose
+      by None h is rose = read-done n shown answer h is rose
+      by (Some stop) h is rose = read-stopped n shown answer stop h is rose
 
-  pub write-ended : {d' : Device} (bytes : List ℕ) (answer : Answer) (stop : Option Stop) → IsAccess d d' s new true p a (length bytes) (take k bytes) before notes stop k →
+  pub write-ended : {d' : Device} (bytes : List ℕ) (answer : Answer) (stop : Option Stop) → IsAccess d d' s new true p a (length bytes)
+      (take k bytes) before notes stop k →
       answer ≡ answer_at stop answers.Done k []
       → MemSteps d d' old new s (Write p a bytes) (record { answer = answer; notes = notes; rows = rows })
   write-ended {d'} bytes answer stop h is = by stop h is (rose-ended d' stop answers.Done answer [] h.events refl refl is h.notes h.faults)
     where
-      by : (stop : Option Stop) → IsAccess d d' s new true p a (length bytes) (take k bytes) before notes stop k → answer ≡ answer_at stop answers.Done k [] →
+      by : (stop : Option Stop) → IsAccess d d' s new true p a (length bytes) (take k bytes) before notes stop k
+          → answer ≡ answer_at stop answers.Done k [] →
           RoseBy (causes (record { answer = answer; notes = notes; rows = rows })) d.faults d'.faults
           → MemSteps d d' old new s (Write p a bytes) (record { answer = answer; notes = notes; rows = rows })
       by None h is rose = write-done bytes answer h is rose

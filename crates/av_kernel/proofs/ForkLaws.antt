@@ -3,9 +3,9 @@ use Rattle.std.proofs.Common.{◌≡◌, ℕ, ◌+◌, ◌≤◌, Bool, true, fa
 use Rattle.std.proofs.lemmas.Bool.Decides.{nat_tests}
 use Rattle.std.proofs.lemmas.Bool.{false≢true}
 use Rattle.std.specs.Prelude.{MatchOption}
-use Rattle.std.specs.Option.{option_or}
 use Rattle.av_base.specs.Limits.{most_processes}
 use Rattle.av_base.specs.Words.{with_at}
+use Rattle.av_base.specs.declared.slot.Slot.{Slot}
 use Rattle.av_trace.specs.declared.command.Command.TheVariants.{Fork}
 use Rattle.av_trace.specs.declared.reply.Errno.TheVariants.{Esrch}
 use Rattle.av_trace.specs.declared.reply.Answer.TheVariants.{Done}
@@ -14,32 +14,34 @@ use Rattle.av_vma.specs.declared.area.Area.{Area}
 use Rattle.av_pagetable.specs.Entries.{ProcessTables, entry_at, has}
 use Rattle.av_plain.specs.Device.{Device}
 use Rattle.av_plain.specs.World.{Page, lives, pages, set_process}
-use Rattle.av_plain.specs.Ledger.{Entry, InFrame, InSlot, Ledger, Zero, entry}
-use Rattle.av_plain.specs.Event.{Forked, without_seen}
+use Rattle.av_plain.specs.Ledger.{Ledger, entry}
+use Rattle.av_plain.specs.Event.{Forked}
 use Rattle.av_plain.specs.Fork.{inheritance}
 use Rattle.av_plain.specs.Refusal.{tests, refusal, Refuses}
 use Rattle.av_plain.specs.Step.{Follows}
 use Rattle.av_plain.specs.Choice.{Chooses}
-use Rattle.av_plain.specs.Covered.{IsRmapSound}
-use Rattle.av_plain.specs.Stands.{View, AnonsStand, AreasStand, HomesAre, IsKept, free_of}
+use Rattle.av_plain.specs.Stands.{AnonsStand, AreasStand, BytesStand, HomesAre, free_of}
 use Rattle.av_plain.specs.Transcript.{State, IsStep, rmap_of}
 use Rattle.av_plain.proofs.Covered.Fork.{sound-forked}
-use Rattle.av_plain.proofs.Fork.{child_ledger, entry-forked}
+use Rattle.av_plain.proofs.Covered.SlotsFork.{slots-forked}
+use Rattle.av_plain.proofs.Fork.{child_ledger}
 use Rattle.av_plain.proofs.Fork.Areas.{ChildHas, child-has}
 use Rattle.av_plain.proofs.Sound.{no_entries}
 use Rattle.av_plain.proofs.Sound.Means.{says}
 use Rattle.av_plain.proofs.World.{pages-set, lives-set, length-set_new}
 use Rattle.av_mem.specs.declared.mem.Mem.{Mem}
 use Rattle.av_mem.specs.Mem.{setting_by, view, HasLedger, HasTables, Keeps}
-use Rattle.av_mem.specs.Zap.{KeepsRest}
-use Rattle.av_mem.proofs.MemLaws.{alive_is, lives_is, all_apart, no_cache, prot_on, prots_are}
+use Rattle.av_mem.specs.Steps.{KeepsRest}
+use Rattle.av_swap_laws.proofs.Fork.{fork-bytes}
+use Rattle.av_swap_laws.specs.Held.{AllCovered}
+use Rattle.av_mem.proofs.MemLaws.{alive_is, lives_is, all_apart, prot_on, prots_are}
 use Rattle.av_anon.specs.declared.anons.Anons.{Anons as AnonSet}
 use Rattle.av_spaces.specs.Spaces.{AllSpaces, areas_of}
 use Rattle.av_fork.specs.Areas.{HasFork}
 use Rattle.av_fork.specs.Entries.{HasForked}
 use Rattle.av_kernel.specs.Process.{new_tests}
 use Rattle.av_kernel.specs.Step.{StepsBeside}
-use Rattle.av_kernel.proofs.StepLaws.{is_number, kept-on, moved_on, stays_orderly, stepped}
+use Rattle.av_kernel.proofs.StepLaws.{is_number, moved_on, stays_orderly, stepped, swap_alike}
 use Rattle.av_kernel.proofs.ProcessLaws.{absent, at_number, new_is, new_refusal}
 use Rattle.av_kernel.proofs.Loads.{world_as}
 
@@ -60,6 +62,14 @@ entries_few {d} k s keeps f =
     let few = keeps.stands.sound.world.few in
     omega (arith, same, named, few)
 
+-- nor a slot
+pub slots_few : {d : Device} (k : Mem) (s : State) → Keeps d k s → (slot : Slot) → (view k).entries slot ≤ most_processes
+slots_few {d} k s keeps slot =
+    let same = keeps.stands.parts.ledger.swap.counts slot in
+    let named = (says (setting_by d k) s.world s.ledger keeps.stands.sound).slot_entries_few slot in
+    let few = keeps.stands.sound.world.few in
+    omega (arith, same, named, few)
+
 -- the parts stand for the ledger still, once the areas went over and the child has a table
 pub still_orderly : (d : Device) (old gone : Mem) (tables : ProcessTables) (l : Ledger) → gone ≡ record old { spaces = gone.spaces; anons = gone.anons } →
     entry_at tables ≡ entry_at gone.tables → HasLedger d old l → HasLedger d (record gone { tables = tables }) l
@@ -73,14 +83,6 @@ has_table k tables q processes = ap (λ (h : ℕ → Bool). h q) processes ∙ a
   where
     itself : (n : ℕ) → (n == n) ≡ true
     itself n = grind (arith, nat_tests)
-
--- a page keeps its bytes by an entry that was not seen
-kept-unseen : (d : Device) (v : View) (l : Ledger) (e : Option Entry) (page : Option Page) → IsKept v d l e page →
-    IsKept v d l (option_or (option_map without_seen e) None) page
-kept-unseen d v l None page h = h
-kept-unseen d v l (Some Zero) page h = h
-kept-unseen d v l (Some (InFrame f seen)) page h = h
-kept-unseen d v l (Some (InSlot s)) page h = h
 
 -- ---- the whole
 
@@ -188,46 +190,37 @@ module _ {d : Device} (old mid : Mem) (tables : ProcessTables) (spaces : AllSpac
       lives_as k false = keeps.stands.parts.areas.alive k
 
   tables_now : HasTables new
-  tables_now k = ap (λ (h : ℕ → Bool). h k) (rest.processes ∙ processes) ∙ by (k == q) ∙ sym (alive_is spaces.processes k ∙ ap is_some (shown.spawned.areas k))
+  tables_now k = ap (λ (h : ℕ → Bool). h k) (rest.parts.processes ∙ processes) ∙ by (k == q) ∙ sym (alive_is spaces.processes k ∙ ap is_some (shown.spawned.areas k))
     where
       by : (b : Bool) → cond b true (has old.tables k) ≡ is_some (cond b (Some shown.these) (areas_of old.spaces.processes k))
       by true = refl
       by false = keeps.tables k ∙ alive_is old.spaces.processes k
 
   -- each page keeps its bytes, and the child's by the entry that went over
-  kept_now : (k page : ℕ) → IsKept (view new) d l (entry l (k, page)) (pages next.world k page)
-  kept_now k page =
-      kept-on d (view old) (view new) s.ledger l (entry l (k, page)) (pages next.world k page) rest.bytes (no_cache s.ledger keeps.stands.parts.ledger.swap.finds)
-      (no_cache l given.stands.parts.swap.finds)
-      (subst (IsKept (view old) d s.ledger (entry l (k, page))) (sym (page_now k page))
-      (subst (λ e. IsKept (view old) d s.ledger e (cond (k == q) (pages s.world p page) (pages s.world k page)))
-      (sym (entry-forked p q s.ledger (k, page) keeps.stands.sound.ledger.in_order)) (by (k == q) refl)))
-    where
-      by : (b : Bool) → (k == q) ≡ b
-          → IsKept (view old) d s.ledger (option_or (cond b (option_map without_seen (entry s.ledger (p, page))) None) (entry s.ledger (k, page)))
-          (cond b (pages s.world p page) (pages s.world k page))
-      by true same =
-          subst (λ e. IsKept (view old) d s.ledger (option_or (option_map without_seen (entry s.ledger (p, page))) e) (pages s.world p page))
-          (sym (ap (λ n. entry s.ledger (n, page)) (is_number k q same) ∙ no_entry page))
-          (kept-unseen d (view old) s.ledger (entry s.ledger (p, page)) (pages s.world p page) (keeps.stands.parts.bytes.kept p page))
-      by false other = keeps.stands.parts.bytes.kept k page
+  bytes_now : BytesStand (view new) d next.world l
+  bytes_now = fork-bytes (view old) (view new) d s.world s.ledger p q keeps.stands.sound.ledger.in_order rest.bytes no_entry keeps.stands.parts.bytes
 
   homes_now : HomesAre (view new) shown.next.homes
   homes_now f = ap (λ h. h f) rest.homes ∙ shown.homes f
 
-  reach_now : IsRmapSound l shown.next
-  reach_now = sound-forked s.ledger p q (rmap_of s) shown.next keeps.stands.sound.ledger.in_order apart no_entry shown.forked keeps.stands.reach
+  covered_now : AllCovered l shown.next
+  covered_now = record {
+    frames = sound-forked s.ledger p q (rmap_of s) shown.next keeps.stands.sound.ledger.in_order apart no_entry shown.forked keeps.stands.reach;
+    slots = slots-forked s.ledger p q (rmap_of s) shown.next keeps.stands.sound.ledger.in_order apart no_entry shown.forked keeps.stands.reach
+        keeps.stands.slots;
+  }
 
   anons_now : AnonsStand (view new) shown.next.areas shown.next.anons
   anons_now = record { next = shown.anons.next; kin = shown.anons.kin; chains = shown.anons.chains }
 
   steps : StepsBeside d old new s (Fork p q) (answer_only Done)
-  steps = stepped old new s next (Fork p q) (answer_only Done) keeps fork-step rest.count (stays_orderly d mid mid.tables spaces anons l refl given.stands) refl
-      shown.areas anons_now homes_now reach_now shown.fit areas_now tables_now kept_now
+  steps = stepped old new s next (Fork p q) (answer_only Done) keeps fork-step rest.parts.count
+      (swap_alike (moved_on old tables spaces anons) mid old new refl refl rest.parts.swap) (stays_orderly d mid mid.tables spaces anons l refl given.stands)
+      refl shown.areas anons_now homes_now covered_now shown.fit areas_now tables_now bytes_now
 
   forks : StepsBeside d old mid s (Fork p q) (answer_only Done)
   forks = subst (λ k. StepsBeside d old k s (Fork p q) (answer_only Done))
-      (λ i. record mid { spaces = (sym rest.spaces) i; anons = (sym rest.anons) i }) steps
+      (λ i. record mid { spaces = (sym rest.parts.spaces) i; anons = (sym rest.parts.anons) i }) steps
 
 -- neither frames nor entries changed as the areas went over
 pub fork-steps : {d : Device} (old gone mid : Mem) (tables : ProcessTables) (s : State) (p q : ℕ) (keeps : Keeps d old s)

@@ -1,4 +1,5 @@
 pub mod Loads
+pub mod CacheLeft
 pub mod StepLaws
 pub mod ProcessLaws
 pub mod ForkLaws

@@ -2,6 +2,7 @@
 use Rattle.std.proofs.Common.{◌≡◌, inl, inr, Ok, Err, ℕ, ◌+◌, ◌-◌, ◌<◌, ◌≤◌, Bool, true, false, cond, not, ◌&&◌, ◌||◌, List, [], ◌∷◌, slice_index, Option, Some, None, is_some, option_map, Result, refl, sym, ap, subst, ◌∙◌, arith, ◌==◌, nat_lt, IsSomeAnd}
 use Rattle.std.proofs.lemmas.Bool.Decides.{nat_tests}
 use Rattle.std.proofs.lemmas.Bool.{false≢true}
+use Rattle.std.proofs.lemmas.List.{append-nil}
 use Rattle.std.specs.Prelude.{IfSome, MatchOption, OnOk}
 use Rattle.av_base.specs.declared.prot.Prot.{Prot}
 use Rattle.av_base.specs.Words.{with_at, within}
@@ -13,6 +14,7 @@ use Rattle.av_trace.specs.declared.place.Place.{Place}
 use Rattle.av_trace.specs.declared.place.Place.TheVariants.{Auto, At, Fixed, NoReplace}
 use Rattle.av_trace.specs.declared.reply.Errno.{Errno}
 use Rattle.av_trace.specs.declared.reply.Errno.TheVariants.{Esrch, Enomem, Einval}
+use Rattle.av_trace.specs.declared.note.Note.{Note}
 use Rattle.av_trace.specs.declared.reply.Reply.{Reply}
 use Rattle.av_trace.specs.declared.reply.Answer.{Answer}
 use Rattle.av_trace.specs.declared.reply.Answer.TheVariants.{Done, MapAt, Refused}
@@ -22,8 +24,9 @@ use Rattle.av_plain.specs.Device.{Device}
 use Rattle.av_plain.specs.Fork.{IsRmapNext}
 use Rattle.av_plain.specs.World.{lives, Process, Page, zeros, pages, is_mapped, pages_to_hole, set_process, with_pages, with_prot_on, with_prot}
 use Rattle.av_base.specs.Page.{page_of, pages_of, address_of, is_on_page}
-use Rattle.av_plain.specs.Ledger.{names_frame, Ledger, Entry, Zero, InFrame, InSlot, entry, frame_at}
-use Rattle.av_plain.specs.Event.{Event, after_all}
+use Rattle.av_plain.specs.Ledger.{Ledger, Entry, Setting, Zero, InFrame, InSlot, entry, frame_at}
+use Rattle.av_plain.specs.Event.{Event, after_all, notes_of}
+use Rattle.av_plain.specs.Sound.{IsSound}
 use Rattle.av_plain.specs.Zap.{keys_in, zaps_of}
 use Rattle.av_plain.specs.Refusal.{tests, place_tests, refusal, is_too_long, wraps, top, Refuses}
 use Rattle.av_plain.specs.Step.{closing_swap_area, IsLegal, Follows, next}
@@ -36,7 +39,8 @@ use Rattle.av_spaces.specs.Kin.{AnonsStay}
 use Rattle.av_spaces.proofs.Kin.{stay_both, stay_same}
 use Rattle.av_mem.proofs.AnonLaws.{are_left, lengths_alike}
 use Rattle.av_plain.proofs.AreasLeft.{rmap_after_all-zaps}
-use Rattle.av_plain.proofs.Covered.{Names}
+use Rattle.av_plain.proofs.Covered.Swap.{Reach}
+use Rattle.av_plain.proofs.Covered.Zaps.{zaps-reach}
 use Rattle.av_plain.specs.Areas.{Rmap, rmap_after_all}
 use Rattle.av_vma.proofs.Homes.{KeepsHomes}
 use Rattle.av_plain.specs.Areas.{areas_to_hole, chain_length, next_areas, with_room}
@@ -52,12 +56,14 @@ use Rattle.av_spaces.specs.Spaces.{AllSpaces, Spaces, areas_of, is_taken, pages_
 use Rattle.av_plain.proofs.Transcript.{is_fork, next-plain}
 use Rattle.av_kernel.specs.Map.{set_on, GetsAreas, GetsProts, HomesStay, AreUnmapped}
 use Rattle.av_mem.specs.Mem.{ranges_of, setting_by, view, frame_count, Keeps, IsSteady, HasLedger}
+use Rattle.av_mem.specs.Steps.{KeepsRest, KeepsSwap}
 use Rattle.av_mem.specs.Zap.{HasZapped}
 use Rattle.av_place.specs.Place.{protect_tests, IsProcess, IsPlaced, AreToUnmap}
 use Rattle.av_kernel.specs.Step.{StepsBeside}
 use Rattle.av_mem.proofs.MemLaws.{lives_is, alive_is, taken_has, mapped_is}
 use Rattle.av_place.proofs.PlaceLaws.{page_back, IsSuited, suited}
-use Rattle.av_kernel.proofs.StepLaws.{areas_kept, is_number, moved_on, orderly, refused, state_after, stays_orderly, changed, areas_changed, tables_kept}
+use Rattle.av_kernel.proofs.CacheLeft.{KeepsCached, cached-itself, zaps-cached}
+use Rattle.av_kernel.proofs.StepLaws.{areas_kept, is_number, moved_on, noted, orderly, reach_of, refused, state_after, stays_orderly, changed, areas_changed, swap_alike, swap_itself, tables_kept}
 use Rattle.av_kernel.proofs.Loads.{place-loads, world_as}
 use Rattle.av_plain.proofs.Load.{loads_nothing, zaps-load_nothing}
 use Rattle.std.specs.List.{list_all}
@@ -139,30 +145,33 @@ both_ok (Ok x) f h g = f h g
 both_ok (Err e) f h g = tt
 
 -- their entries have gone, and then their areas
-pub are_unmapped : {d : Device} (old mid : Mem) (spaces : AllSpaces) (anons : AnonSet) (p page n : ℕ) (l : Ledger) →
-    HasZapped d old mid l (zaps_of l (keys_in l p page (page + n - page))) → mid.spaces ≡ old.spaces → mid.anons ≡ old.anons → has mid.tables ≡ has old.tables →
-    (view mid).bytes ≡ (view old).bytes → (view mid).homes ≡ (view old).homes
+pub are_unmapped : {d : Device} (old mid : Mem) (spaces : AllSpaces) (anons : AnonSet) (p page n : ℕ) (l : Ledger) (before notes : List Note) →
+    HasZapped d old mid l (zaps_of l (keys_in l p page (page + n - page))) before notes → KeepsRest old mid
     → GetsProts mid.spaces.processes spaces.processes p (set_on page n None (prot_of (ranges_of mid.spaces.processes p))) →
     GetsAreas mid.spaces.processes spaces.processes p (after_unmap page (page + n) (areas_on mid.spaces.processes p))
     → AnonsStay mid.spaces mid.anons spaces anons → HomesStay mid.spaces.processes spaces.processes p page n
     → AreUnmapped d old (moved_on mid mid.tables spaces anons) p page n (after_unmap page (page + n) (areas_on old.spaces.processes p)) l
-    (zaps_of l (keys_in l p page n))
-are_unmapped {d} old mid spaces anons p page n l t same same_anons processes bytes homes gone areas anons_stay stay = record {
-  taken = subst (λ x. HasZapped d old (moved_on mid mid.tables spaces anons) l (zaps_of l (keys_in l p page x))) (let size : page + n - page ≡ n = omega arith in
-      size) (record { stands = stays_orderly d mid mid.tables spaces anons _ refl t.stands; notes = t.notes; free = t.free });
-  spaces = subst (λ (x : AllSpaces). GetsProts x.processes spaces.processes p (set_on page n None (prot_of (ranges_of x.processes p)))) same gone;
-  areas = subst (λ (x : AllSpaces). GetsAreas x.processes spaces.processes p (after_unmap page (page + n) (areas_on x.processes p))) same areas;
-  anons = subst (λ (x : AllSpaces). AnonsStay x old.anons spaces anons) same (subst (λ a. AnonsStay mid.spaces a spaces anons) same_anons anons_stay);
-  processes = processes;
-  bytes = bytes;
-  homes = homes;
-  stay = subst (λ (x : AllSpaces). HomesStay x.processes spaces.processes p page n) same stay;
+    (zaps_of l (keys_in l p page n)) before notes
+are_unmapped {d} old mid spaces anons p page n l before notes t rest gone areas anons_stay stay = record {
+  taken = subst (λ x. HasZapped d old (moved_on mid mid.tables spaces anons) l (zaps_of l (keys_in l p page x)) before notes)
+      (let size : page + n - page ≡ n = omega arith in size)
+      (record { stands = stays_orderly d mid mid.tables spaces anons _ refl t.stands; notes = t.notes; free = t.free });
+  spaces = subst (λ (x : AllSpaces). GetsProts x.processes spaces.processes p (set_on page n None (prot_of (ranges_of x.processes p)))) rest.parts.spaces gone;
+  areas = subst (λ (x : AllSpaces). GetsAreas x.processes spaces.processes p (after_unmap page (page + n) (areas_on x.processes p))) rest.parts.spaces areas;
+  anons = subst (λ (x : AllSpaces). AnonsStay x old.anons spaces anons) rest.parts.spaces
+      (subst (λ a. AnonsStay mid.spaces a spaces anons) rest.parts.anons anons_stay);
+  processes = rest.parts.processes;
+  bytes = rest.bytes;
+  homes = rest.homes;
+  stay = subst (λ (x : AllSpaces). HomesStay x.processes spaces.processes p page n) rest.parts.spaces stay;
+  swap = swap_alike old mid old (moved_on mid mid.tables spaces anons) refl refl rest.parts.swap;
 }
 
-left_alone : (d : Device) (k : Mem) → IsSteady k → (p page n : ℕ) (l : Ledger) → HasLedger d k l → is_some (areas_of k.spaces.processes p) ≡ true →
-    IsFree (is_taken k.spaces.processes p) page (page + n) → AreUnmapped d k k p page n (areas_on k.spaces.processes p) l []
-left_alone d k steady p page n l stands alive free = record {
-  taken = record { stands = stands; notes = refl; free = refl };
+left_alone : (d : Device) (k : Mem) → IsSteady k → (p page n : ℕ) (l : Ledger) (notes : List Note) → HasLedger d k l →
+    is_some (areas_of k.spaces.processes p) ≡ true → IsFree (is_taken k.spaces.processes p) page (page + n)
+    → AreUnmapped d k k p page n (areas_on k.spaces.processes p) l [] notes notes
+left_alone d k steady p page n l notes stands alive free = record {
+  taken = record { stands = stands; notes = sym (append-nil notes); free = refl };
   spaces = record {
     others = λ q other. refl;
     alive = alive_is k.spaces.processes p ∙ alive;
@@ -176,6 +185,7 @@ left_alone d k steady p page n l stands alive free = record {
   bytes = refl;
   homes = refl;
   stay = λ at home outside is. is;
+  swap = swap_itself k;
 }
   where
     none : (o : Option Prot) → is_some o ≡ false → o ≡ None
@@ -190,22 +200,22 @@ left_alone d k steady p page n l stands alive free = record {
     by o false e = refl
 
 -- where a mapping isn't to be at a fixed place, its pages are free, and nothing goes
-pub nothing_there : (d : Device) (k : Mem) → IsSteady k → (p page n : ℕ) (place : Place) (l : Ledger) → HasLedger d k l → is_some (areas_of k.spaces.processes p) ≡ true →
-    AreToUnmap (is_taken k.spaces.processes p) page n place → ((a : ℕ) → place ≡ Fixed a → ⊥)
-    → AreUnmapped d k k p page n (with_room n place (areas_on k.spaces.processes p)) l (zaps_for_place l p n place)
-nothing_there d k steady p page n Auto l stands alive free other = left_alone d k steady p page n l stands alive free
-nothing_there d k steady p page n (At a) l stands alive free other = left_alone d k steady p page n l stands alive free
-nothing_there d k steady p page n (Fixed a) l stands alive free other = absurd (other a refl)
-nothing_there d k steady p page n (NoReplace a) l stands alive free other = left_alone d k steady p page n l stands alive free
+pub nothing_there : (d : Device) (k : Mem) → IsSteady k → (p page n : ℕ) (place : Place) (l : Ledger) (notes : List Note) → HasLedger d k l →
+    is_some (areas_of k.spaces.processes p) ≡ true → AreToUnmap (is_taken k.spaces.processes p) page n place → ((a : ℕ) → place ≡ Fixed a → ⊥)
+    → AreUnmapped d k k p page n (with_room n place (areas_on k.spaces.processes p)) l (zaps_for_place l p n place) notes notes
+nothing_there d k steady p page n Auto l notes stands alive free other = left_alone d k steady p page n l notes stands alive free
+nothing_there d k steady p page n (At a) l notes stands alive free other = left_alone d k steady p page n l notes stands alive free
+nothing_there d k steady p page n (Fixed a) l notes stands alive free other = absurd (other a refl)
+nothing_there d k steady p page n (NoReplace a) l notes stands alive free other = left_alone d k steady p page n l notes stands alive free
 
 -- the process lives on, and none of the pages is taken
-pub unmapped_lives : {d : Device} (old new : Mem) (p page n : ℕ) (on : Pages) (l : Ledger) (events : List Event) → AreUnmapped d old new p page n on l events →
-    is_some (areas_of new.spaces.processes p) ≡ true
-unmapped_lives {d} old new p page n on l events h = sym (alive_is new.spaces.processes p) ∙ h.spaces.alive
+pub unmapped_lives : {d : Device} (old new : Mem) (p page n : ℕ) (on : Pages) (l : Ledger) (events : List Event) (before notes : List Note) →
+    AreUnmapped d old new p page n on l events before notes → is_some (areas_of new.spaces.processes p) ≡ true
+unmapped_lives {d} old new p page n on l events before notes h = sym (alive_is new.spaces.processes p) ∙ h.spaces.alive
 
-pub unmapped_free : {d : Device} (old new : Mem) (p page n : ℕ) (on : Pages) (l : Ledger) (events : List Event) → AreUnmapped d old new p page n on l events →
-    IsFree (is_taken new.spaces.processes p) page (page + n)
-unmapped_free {d} old new p page n on l events h o low high =
+pub unmapped_free : {d : Device} (old new : Mem) (p page n : ℕ) (on : Pages) (l : Ledger) (events : List Event) (before notes : List Note) →
+    AreUnmapped d old new p page n on l events before notes → IsFree (is_taken new.spaces.processes p) page (page + n)
+unmapped_free {d} old new p page n on l events before notes h o low high =
     let inside : within page n o ≡ true = grind (arith, nat_tests, low, high) in
     taken_has new.spaces.processes p o ∙ ap is_some (h.spaces.pages o ∙ ap (λ b. cond b None (prot_of (ranges_of old.spaces.processes p) o)) inside)
 
@@ -216,11 +226,25 @@ place-silent l p n (At a) r = refl
 place-silent l p n (Fixed a) r = rmap_after_all-zaps l (keys_in l p (page_of a) n) l r
 place-silent l p n (NoReplace a) r = refl
 
+-- what is covered stays so, and what is cached
+place-reach : (l : Ledger) (p n : ℕ) (place : Place) (r : Rmap) → Reach l r → Reach (after_all l (zaps_for_place l p n place)) r
+place-reach l p n Auto r h = h
+place-reach l p n (At a) r h = h
+place-reach l p n (Fixed a) r h = zaps-reach l r (keys_in l p (page_of a) n) h
+place-reach l p n (NoReplace a) r h = h
+
+place-cached : (m : Setting) (l : Ledger) (p n : ℕ) (place : Place) → IsSound m l → KeepsCached l (after_all l (zaps_for_place l p n place))
+place-cached m l p n Auto sound = cached-itself l
+place-cached m l p n (At a) sound = cached-itself l
+place-cached m l p n (Fixed a) sound = zaps-cached m l (keys_in l p (page_of a) n) sound
+place-cached m l p n (NoReplace a) sound = cached-itself l
+
 -- ---- the pages of a range are replaced
 
 module _ {d : Device} (old new : Mem) (s : State) (command : Command) (reply : Reply) (p page n : ℕ) (o : Option Page) (on : Pages) (events : List Event)
-    (keeps : Keeps d old s) (alive : is_some (ranges_of old.spaces.processes p) ≡ true) (same_count : frame_count new ≡ frame_count old)
-    (taken : HasZapped d old new s.ledger events) (entries : (q at : ℕ) →
+    (before notes : List Note) (keeps : Keeps d old s) (alive : is_some (ranges_of old.spaces.processes p) ≡ true) (same_count : frame_count new ≡ frame_count old)
+    (taken : HasZapped d old new s.ledger events before notes) (cached : KeepsCached s.ledger (after_all s.ledger events))
+    (reach : Reach (after_all s.ledger events) (rmap_of s)) (swap : KeepsSwap old new) (entries : (q at : ℕ) →
     entry (after_all s.ledger events) (q, at) ≡ cond (q == p && within page n at) None (entry s.ledger (q, at)))
     (blank : Holds o (λ _. 0)) (spaces : GetsProts old.spaces.processes new.spaces.processes p
     (set_on page n (option_map (λ (x : Page). x.prot) o) (prot_of (ranges_of old.spaces.processes p))))
@@ -248,28 +272,22 @@ module _ {d : Device} (old new : Mem) (s : State) (command : Command) (reply : R
       by true = blank
       by false = keeps.stands.parts.bytes.kept p at
 
-  -- an entry that is left was there, and stands outside of the range
-  left_outside : (at f : ℕ) → Names (after_all s.ledger events) (p, at) f → (within page n at ≡ false) × Names s.ledger (p, at) f
-  left_outside at f names = by (within page n at) refl (subst (λ o. IsSomeAnd o (λ e. names_frame f e ≡ true))
-      (entries p at ∙ ap (λ b. cond (b && within page n at) None (entry s.ledger (p, at))) (itself p)) names)
+  itself : (p : ℕ) → (p == p) ≡ true
+  itself p = grind (arith, nat_tests)
+
+  -- an entry that is left stands outside of the range
+  left_outside : (at : ℕ) → is_some (entry (after_all s.ledger events) (p, at)) ≡ true → within page n at ≡ false
+  left_outside at there = by (within page n at) refl
+      (sym (ap is_some (entries p at ∙ ap (λ b. cond (b && within page n at) None (entry s.ledger (p, at))) (itself p))) ∙ there)
     where
-      itself : (p : ℕ) → (p == p) ≡ true
-      itself p = grind (arith, nat_tests)
+      by : (b : Bool) → within page n at ≡ b → is_some (cond b None (entry s.ledger (p, at))) ≡ true → within page n at ≡ false
+      by true e there = absurd (false≢true there)
+      by false e there = e
 
-      by : (b : Bool) → within page n at ≡ b → IsSomeAnd (cond b None (entry s.ledger (p, at))) (λ e. names_frame f e ≡ true) →
-          (within page n at ≡ false) × Names s.ledger (p, at) f
-      by true e names = absurd names
-      by false e names = (e, names)
-
-  there : (at f : ℕ) → Names (after_all s.ledger events) (p, at) f → Names s.ledger (p, at) f
-  there at f names = (left_outside at f names).1
-
-  home : (at f : ℕ) (home : ℕ × ℕ) → Names (after_all s.ledger events) (p, at) f → home_of at (s.areas p at) ≡ Some home → home_of at (on at) ≡ Some home
-  home at f h names is = sym (ap (home_of at) (own_area at)) ∙ home_stay at h (left_outside at f names).0 (ap (home_of at) (keeps.stands.areas p at) ∙ is)
+  home : (at : ℕ) (home : ℕ × ℕ) → is_some (entry (after_all s.ledger events) (p, at)) ≡ true → home_of at (s.areas p at) ≡ Some home
+      → home_of at (on at) ≡ Some home
+  home at h there is = sym (ap (home_of at) (own_area at)) ∙ home_stay at h (left_outside at there) (ap (home_of at) (keeps.stands.areas p at) ∙ is)
     where
-      itself : (p : ℕ) → (p == p) ≡ true
-      itself p = grind (arith, nat_tests)
-
       own_area : (at : ℕ) → areas_on new.spaces.processes p at ≡ on at
       own_area at = areas p at ∙ ap (λ b. (cond b on (s.areas p)) at) (itself p)
 
@@ -280,8 +298,8 @@ module _ {d : Device} (old new : Mem) (s : State) (command : Command) (reply : R
       → ShowsAreas s.areas s.anons command reply.answer reply.rows → StepsBeside d old new s command reply
   replaced-steps plain open_all legal loads world areas_next shows =
       let now : Process = with_pages (pages s.world p) page n (λ _. o) in
-      changed old new s command reply p now on (after_all s.ledger events) keeps stay same_count taken.stands bytes homes
-      (λ q at other. entries q at ∙ ap (λ b. cond (b && within page n at) None (entry s.ledger (q, at))) other) kept there home
+      changed old new s command reply p now on (after_all s.ledger events) keeps stay same_count swap taken.stands bytes homes
+      (λ q at other. entries q at ∙ ap (λ b. cond (b && within page n at) None (entry s.ledger (q, at))) other) cached kept reach home
       (record {
         events = events;
         legal = legal;
@@ -332,30 +350,33 @@ module _ {d : Device} (k : Mem) (s : State) (p len : ℕ) (prot : Prot) (place :
 
 module _ {d : Device} (old new : Mem) (s : State) (p a len : ℕ) (keeps : Keeps d old s) (alive : is_some (ranges_of old.spaces.processes p) ≡ true)
     (valid : (not (is_on_page a) || len == 0 || nat_lt top (a + len)) ≡ false)
-    (same_count : frame_count new ≡ frame_count old) (unmapped : AreUnmapped d old new p (page_of a) (pages_of len)
-    (after_unmap (page_of a) (page_of a + pages_of len) (areas_on old.spaces.processes p)) s.ledger
-    (zaps_of s.ledger (keys_in s.ledger p (page_of a) (pages_of len)))) where
+    (same_count : frame_count new ≡ frame_count old) (before notes : List Note)
+    (unmapped : AreUnmapped d old new p (page_of a) (pages_of len) (after_unmap (page_of a) (page_of a + pages_of len) (areas_on old.spaces.processes p)) s.ledger
+    (zaps_of s.ledger (keys_in s.ledger p (page_of a) (pages_of len))) before notes) where
+  abbrev munmap_events : List Event
+  munmap_events = zaps_of s.ledger (keys_in s.ledger p (page_of a) (pages_of len))
+
   munmap-allowed : refusal (tests (setting_by d old) s.world s.ledger (Munmap p a len)) ≡ None
   munmap-allowed = ap (λ b. cond (not b) (Some Esrch) (cond (not (is_on_page a) || len == 0 || nat_lt top (a + len)) (Some Einval) None))
       (sym (lives_is d old s keeps p) ∙ sym (alive_is old.spaces.processes p) ∙ alive) ∙ ap (λ b. cond b (Some Einval) None) valid
 
-  pub munmap-steps : StepsBeside d old new s (Munmap p a len) (answer_only Done)
+  pub munmap-steps : StepsBeside d old new s (Munmap p a len) (noted Done (notes_of munmap_events))
   munmap-steps =
-      let events = zaps_of s.ledger (keys_in s.ledger p (page_of a) (pages_of len)) in
-      replaced-steps old new s (Munmap p a len) (answer_only Done) p (page_of a) (pages_of len) None
-      (after_unmap (page_of a) (page_of a + pages_of len) (s.areas p)) events keeps alive same_count unmapped.taken
+      let ks = keys_in s.ledger p (page_of a) (pages_of len) in
+      let events = munmap_events in
+      replaced-steps old new s (Munmap p a len) (noted Done (notes_of events)) p (page_of a) (pages_of len) None
+      (after_unmap (page_of a) (page_of a + pages_of len) (s.areas p)) events before notes keeps alive same_count unmapped.taken
+      (zaps-cached (setting_by d old) s.ledger ks keeps.stands.sound.ledger) (zaps-reach s.ledger (rmap_of s) ks (reach_of old s keeps)) unmapped.swap
       (λ q at. entry-range s.ledger p (page_of a) (pages_of len) q at) tt unmapped.spaces
       (areas_so old new s p (after_unmap (page_of a) (page_of a + pages_of len)) keeps unmapped.areas) unmapped.anons unmapped.processes
-      unmapped.bytes unmapped.homes unmapped.stay
-      (rmap_after_all-zaps s.ledger (keys_in s.ledger p (page_of a) (pages_of len)) s.ledger (rmap_of s))
-      refl refl
+      unmapped.bytes unmapped.homes unmapped.stay (rmap_after_all-zaps s.ledger ks s.ledger (rmap_of s)) refl refl
       (record {
         answer = subst (λ o. MatchOption o (Follows (setting_by d old) s.world s.ledger (Munmap p a len) events Done [])
             (λ e. Refuses e events Done []))
             (sym munmap-allowed) (refl, refl, refl);
-        notes = sym unmapped.taken.notes;
+        notes = refl;
       })
-      (zaps-load_nothing s.ledger (keys_in s.ledger p (page_of a) (pages_of len))) refl refl tt
+      (zaps-load_nothing s.ledger ks) refl refl tt
 
 -- ---- mmap
 
@@ -425,8 +446,8 @@ module _ {d : Device} (old : Mem) (s : State) (p len : ℕ) (prot : Prot) (place
 
   module _ (mid : Mem) (spaces : AllSpaces) (anons : AnonSet) (page : ℕ) (placed : IsPlaced (pages s.world p) (pages_of len) place (Ok page))
       (clear : AreToUnmap (is_taken old.spaces.processes p) page (pages_of len) place)
-      (same_count : frame_count mid ≡ frame_count old) (unmapped : AreUnmapped d old mid p page (pages_of len)
-      (with_room (pages_of len) place (areas_on old.spaces.processes p)) s.ledger (zaps_for_place s.ledger p (pages_of len) place))
+      (same_count : frame_count mid ≡ frame_count old) (before notes : List Note) (unmapped : AreUnmapped d old mid p page (pages_of len)
+      (with_room (pages_of len) place (areas_on old.spaces.processes p)) s.ledger (zaps_for_place s.ledger p (pages_of len) place) before notes)
       (given : GetsProts mid.spaces.processes spaces.processes p (set_on page (pages_of len) (Some prot) (prot_of (ranges_of mid.spaces.processes p))))
       (areas : GetsAreas mid.spaces.processes spaces.processes p (after_map (lengths mid.spaces.areas mid.anons) p page (page + pages_of len) prot
       (areas_on mid.spaces.processes p)))
@@ -436,14 +457,18 @@ module _ {d : Device} (old : Mem) (s : State) (p len : ℕ) (prot : Prot) (place
     alike = map_alike (lengths mid.spaces.areas mid.anons) (chain_length s.anons) p page (page + pages_of len) prot (areas_on mid.spaces.processes p) refl
         (lengths_alike d old s keeps mid.spaces mid.anons unmapped.anons p)
 
-    pub mmap-steps : StepsBeside d old (moved_on mid mid.tables spaces anons) s (Mmap p len prot place) (answer_only (MapAt (address_of page)))
+    pub mmap-steps : StepsBeside d old (moved_on mid mid.tables spaces anons) s (Mmap p len prot place)
+        (noted (MapAt (address_of page)) (notes_of (zaps_for_place s.ledger p (pages_of len) place)))
     mmap-steps =
         let events = zaps_for_place s.ledger p (pages_of len) place in
+        let new = moved_on mid mid.tables spaces anons in
         let t = unmapped.taken in
-        replaced-steps old (moved_on mid mid.tables spaces anons) s (Mmap p len prot place) (answer_only (MapAt (address_of page))) p page (pages_of len)
+        replaced-steps old new s (Mmap p len prot place) (noted (MapAt (address_of page)) (notes_of events)) p page (pages_of len)
         (Some (zeros prot)) (after_map (chain_length s.anons) p page (page + pages_of len) prot (with_room (pages_of len) place (s.areas p)))
-        events keeps alive same_count
+        events before notes keeps alive same_count
         (record { stands = stays_orderly d mid mid.tables spaces anons (after_all s.ledger events) refl t.stands; notes = t.notes; free = t.free })
+        (place-cached (setting_by d old) s.ledger p (pages_of len) place keeps.stands.sound.ledger)
+        (place-reach s.ledger p (pages_of len) place (rmap_of s) (reach_of old s keeps)) (swap_alike old mid old new refl refl unmapped.swap)
         (λ q at. entry-unmapped place page (pages_of len) q at clear) (λ i below. refl)
         (twice_changed old.spaces.processes mid.spaces.processes spaces.processes p page (pages_of len) None (Some prot) unmapped.spaces given)
         (areas_so old (moved_on mid mid.tables spaces anons) s p (λ on. after_map (chain_length s.anons) p page (page + pages_of len) prot
@@ -458,7 +483,7 @@ module _ {d : Device} (old : Mem) (s : State) (p len : ℕ) (prot : Prot) (place
           answer = subst (λ o. MatchOption o (Follows (setting_by d old) s.world s.ledger (Mmap p len prot place) events (MapAt (address_of page)) [])
               (λ e. Refuses e events (MapAt (address_of page)) [])) (sym (mmap-tests ∙ placed.0))
               (Some page, placed.1, refl, refl, refl);
-          notes = sym t.notes;
+          notes = refl;
         })
         (place-loads s.ledger p (pages_of len) place)
         (ap (λ x. set_process s.world p (with_pages (pages s.world p) x (pages_of len) (λ _. Some (zeros prot)))) (sym (page_back page)))
@@ -578,8 +603,8 @@ module _ {d : Device} (old : Mem) (spaces : AllSpaces) (anons : AnonSet) (s : St
       (re_areas old.spaces.processes spaces.processes p _ _ changed_alike areas) in
       changed old new s (Mprotect p a len prot) (answer_only answer) p now
       (pages_changed (chain_length s.anons) (to_prot prot) (page_of a) (reached - page_of a) (s.areas p)) s.ledger keeps stay refl
-      (stays_orderly d old old.tables spaces anons s.ledger refl (orderly old s keeps)) refl refl (λ q page other. refl) kept-protected (λ page f names. names)
-      (λ page f home names is. home_protected page home is)
+      (swap_alike old old old new refl refl (swap_itself old)) (stays_orderly d old old.tables spaces anons s.ledger refl (orderly old s keeps)) refl refl
+      (λ q page other. refl) (cached-itself s.ledger) kept-protected (reach_of old s keeps) (λ page home there is. home_protected page home is)
       (record {
         events = [];
         legal = record {

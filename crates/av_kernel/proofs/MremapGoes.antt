@@ -1,9 +1,9 @@
 -- What an mremap that goes somewhere may rely on, whatever the memory system stands for.
-use Rattle.std.proofs.Common.{◌≡◌, ℕ, ◌+◌, ◌-◌, ◌^◌, ◌<◌, ◌≤◌, ◌==◌, ◌&&◌, ◌||◌, Bool, true, false, not, Some, None, is_some, refl, sym, subst, ◌∙◌, arith}
+use Rattle.std.proofs.Common.{◌≡◌, ℕ, ◌+◌, ◌-◌, ◌^◌, ◌<◌, ◌≤◌, ◌==◌, ◌&&◌, ◌||◌, Bool, true, false, not, List, Some, None, is_some, refl, sym, subst, ◌∙◌, arith}
 use Rattle.std.proofs.lemmas.Bool.Decides.{nat_tests}
 use Rattle.av_base.specs.Limits.{top_page}
 use Rattle.av_base.specs.Page.{address_of, page_of, pages_of}
-use Rattle.av_trace.specs.Reply.{answer_only}
+use Rattle.av_trace.specs.declared.note.Note.{Note}
 use Rattle.av_trace.specs.declared.command.Command.TheVariants.{Mremap}
 use Rattle.av_trace.specs.declared.mode.Mode.{Mode}
 use Rattle.av_trace.specs.declared.reply.Answer.TheVariants.{MapAt}
@@ -12,6 +12,7 @@ use Rattle.av_vma.specs.Pages.{AreLaid}
 use Rattle.av_spaces.specs.Spaces.{areas_of, is_taken, pages_of as areas_on}
 use Rattle.av_plain.specs.Device.{Device}
 use Rattle.av_plain.specs.Areas.{HaveProtsOf, chain_length}
+use Rattle.av_plain.specs.Event.{notes_of}
 use Rattle.av_plain.specs.Mremap.{MovesTo, after_mremap, leaves_old, prot_left, remap_events}
 use Rattle.av_plain.specs.Refusal.{mremap_tests, overflows, refusal}
 use Rattle.av_plain.specs.Transcript.{State}
@@ -19,13 +20,14 @@ use Rattle.av_plain.specs.World.{Process, pages}
 use Rattle.av_plain.proofs.Refusal.{MayRemap, may-remap}
 use Rattle.av_mem.specs.declared.mem.Mem.{Mem}
 use Rattle.av_mem.specs.Mem.{IsSteady, Keeps, setting_by}
-use Rattle.av_mem.specs.Zap.{KeepsRest}
+use Rattle.av_mem.specs.Steps.{KeepsRest}
 use Rattle.av_mremap.specs.Areas.{HasRemap}
 use Rattle.av_mremap.specs.Entries.{HasRemapped}
 use Rattle.av_place.specs.Mremap.{StaySmall}
 use Rattle.av_kernel.specs.Step.{StepsBeside}
 use Rattle.av_kernel.proofs.MremapLaws.{last_taken, may_grow, may_move, may_shrink, old_high, remaps, some_pages}
 use Rattle.av_kernel.proofs.MremapRefusals.{have_prots_of, tests_are}
+use Rattle.av_kernel.proofs.StepLaws.{noted}
 
 -- what holds of two numbers holds of two that are equal
 
@@ -118,19 +120,20 @@ module _ {old : Mem} {p a olen nlen n m : ℕ} {mode : Mode} {to : ℕ} (go : Go
               no e h = grind (arith, nat_tests, e, h)
 
   -- the areas changed, and then the entries
-  pub steps_by : {d : Device} (s : State) (keeps : Keeps d old s) → StaySmall old.spaces.processes p from n m
+  pub steps_by : {d : Device} (s : State) (keeps : Keeps d old s) (before notes : List Note) → StaySmall old.spaces.processes p from n m
       → (gone new : Mem) → gone ≡ record old { spaces = gone.spaces; anons = gone.anons }
       → HasRemap old gone p (after_mremap (chain_length s.anons) p from n to m (prot_left mode (pages s.world p) from) (s.areas p))
-      → HasRemapped d gone new s.ledger (remap_events s.ledger p from n to m) → KeepsRest gone new
-      → StepsBeside d old new s (Mremap p a olen nlen mode) (answer_only (MapAt (address_of to)))
-  steps_by {d} s keeps small gone new same remap done rest =
+      → HasRemapped d gone new s.ledger (remap_events s.ledger p from n to m) before notes → KeepsRest gone new
+      → StepsBeside d old new s (Mremap p a olen nlen mode) (noted (MapAt (address_of to)) (notes_of (remap_events s.ledger p from n to m)))
+  steps_by {d} s keeps before notes small gone new same remap done rest =
       let left = prot_left mode (pages s.world p) from in
       let long = chain_length s.anons in
-      remaps keeps (may_by go.passes s keeps) to go.passes.alive (goes_by s keeps) go.passes.laid
+      of_pages (λ n m. StepsBeside d old new s (Mremap p a olen nlen mode) (noted (MapAt (address_of to)) (notes_of (remap_events s.ledger p from n to m))))
+      (remaps keeps (may_by go.passes s keeps) to go.passes.alive (goes_by s keeps) go.passes.laid
       (both_are (λ n m. StaySmall old.spaces.processes p from n m) go.as_old go.as_new small) gone.spaces gone.anons
       (subst (λ g. HasRemap old g p (after_mremap long p from (pages_of olen) to (pages_of nlen) left (s.areas p))) same
       (both_are (λ n m. HasRemap old gone p (after_mremap long p from n to m left (s.areas p))) go.as_old go.as_new remap))
-      new (subst (λ g. HasRemapped d g new s.ledger (remap_events s.ledger p from (pages_of olen) to (pages_of nlen))) same
-      (both_are (λ n m. HasRemapped d gone new s.ledger (remap_events s.ledger p from n to m)) go.as_old go.as_new done))
+      new before notes (subst (λ g. HasRemapped d g new s.ledger (remap_events s.ledger p from (pages_of olen) to (pages_of nlen)) before notes) same
+      (both_are (λ n m. HasRemapped d gone new s.ledger (remap_events s.ledger p from n to m) before notes) go.as_old go.as_new done))
       (subst (λ g. KeepsRest g new) same rest)
-      (tests_are old p a olen nlen mode go.passes.alive s keeps ∙ go.passes.tests (pages s.world p) (have_prots_of old s keeps p))
+      (tests_are old p a olen nlen mode go.passes.alive s keeps ∙ go.passes.tests (pages s.world p) (have_prots_of old s keeps p)))

@@ -1,5 +1,5 @@
 -- Pages move, shrink or grow: the memory system stands for what the definitions leave.
-use Rattle.std.proofs.Common.{◌≡◌, ◌⊎◌, inl, inr, ℕ, ◌+◌, ◌-◌, ◌^◌, ◌<◌, ◌≤◌, min, nat_lt, Bool, true, false, cond, not, ◌&&◌, T, [], ◌∷◌, ◌++◌, Option, Some, None, is_some, option_map, IsSomeAnd, refl, sym, ap, subst, ◌∙◌, arith, ◌==◌}
+use Rattle.std.proofs.Common.{◌≡◌, ◌⊎◌, inl, inr, ℕ, ◌+◌, ◌-◌, ◌^◌, ◌<◌, ◌≤◌, min, nat_lt, Bool, true, false, cond, not, ◌&&◌, T, List, [], ◌∷◌, ◌++◌, Option, Some, None, is_some, option_map, IsSomeAnd, refl, sym, ap, subst, ◌∙◌, arith, ◌==◌}
 use Rattle.std.proofs.lemmas.Bool.{cases_lt, false≢true, ltb-false}
 use Rattle.std.proofs.lemmas.Bool.Decides.{nat_tests}
 use Rattle.std.specs.FinMap.Entries.{is_sorted}
@@ -8,10 +8,11 @@ use Rattle.av_base.specs.Limits.{top_page}
 use Rattle.av_base.specs.Page.{address_of, page_of, pages_of}
 use Rattle.av_base.specs.Words.{with_at, within}
 use Rattle.av_base.specs.declared.prot.Prot.{Prot}
-use Rattle.av_trace.specs.Reply.{answer_only}
 use Rattle.av_trace.specs.declared.command.Command.{Command}
 use Rattle.av_trace.specs.declared.command.Command.TheVariants.{Mremap}
 use Rattle.av_trace.specs.declared.mode.Mode.{Mode}
+use Rattle.av_trace.specs.declared.note.Note.{Note}
+use Rattle.av_trace.specs.declared.reply.Reply.{Reply}
 use Rattle.av_trace.specs.declared.reply.Answer.{Answer}
 use Rattle.av_trace.specs.declared.reply.Answer.TheVariants.{MapAt}
 use Rattle.av_vma.specs.declared.area.Area.{Area}
@@ -26,8 +27,7 @@ use Rattle.av_spaces.specs.Spaces.{AllSpaces, areas_of, is_taken, pages_of as ar
 use Rattle.av_plain.specs.Device.{Device}
 use Rattle.av_plain.specs.Areas.{chain_length, rmap_after_all}
 use Rattle.av_plain.specs.Choice.{ChoosesAll}
-use Rattle.av_plain.specs.Covered.{IsRmapSound}
-use Rattle.av_plain.specs.Event.{Moved, after_all}
+use Rattle.av_plain.specs.Event.{Event, Moved, after_all, notes_of}
 use Rattle.av_plain.specs.Fork.{IsRmapNext}
 use Rattle.av_plain.specs.Ledger.{Entry, Ledger, entry, key_cmp}
 use Rattle.av_plain.specs.Mremap.{MovesTo, after_mremap, have_one_prot, is_in_place, prot_at, prot_left, range_zaps, remap_events, process_after_mremap}
@@ -38,7 +38,7 @@ use Rattle.av_plain.specs.Transcript.{IsStep, State, rmap_of}
 use Rattle.av_plain.specs.World.{Page, Process, is_mapped, lives, pages, set_process, zeros}
 use Rattle.av_plain.specs.Zap.{keys_in}
 use Rattle.av_plain.proofs.AreasLeft.{rmap_after_all-append, rmap_after_all-zaps}
-use Rattle.av_plain.proofs.Covered.Mremap.{sound-remapped}
+use Rattle.av_plain.proofs.Covered.Mremap.{slots-remapped, sound-remapped}
 use Rattle.av_plain.proofs.Mremap.{then_target}
 use Rattle.av_plain.proofs.Mremap.Areas.{IsRemap}
 use Rattle.av_plain.proofs.Mremap.Cover.{becomes, from_itself, from_left, from_old, from_zeros, prots_become}
@@ -48,9 +48,10 @@ use Rattle.av_plain.proofs.Transcript.{next-plain}
 use Rattle.av_plain.proofs.World.{pages-set, lives-set, length-set_old}
 use Rattle.av_mem.specs.declared.mem.Mem.{Mem}
 use Rattle.av_mem.specs.Mem.{HasTables, Keeps, setting_by, view}
-use Rattle.av_mem.specs.Zap.{KeepsRest}
+use Rattle.av_mem.specs.Steps.{KeepsRest}
+use Rattle.av_swap_laws.specs.Held.{AllCovered}
 use Rattle.av_mem.proofs.AnonLaws.{anons_stand, are_left, left_of}
-use Rattle.av_mem.proofs.MemLaws.{alive_is, lives_is, no_cache, prots_are}
+use Rattle.av_mem.proofs.MemLaws.{alive_is, lives_is, prots_are}
 use Rattle.av_mremap.specs.Areas.{HasRemap}
 use Rattle.av_mremap.specs.Entries.{HasRemapped}
 use Rattle.av_place.specs.Mremap.{StaySmall}
@@ -58,7 +59,8 @@ use Rattle.av_kernel.specs.Step.{StepsBeside}
 use Rattle.av_plain.proofs.Mremap.Entries.{came, grew, here_goes, here_stays, left as has_left, of_others, stays}
 use Rattle.av_place.proofs.PlaceLaws.{page_back}
 use Rattle.av_kernel.proofs.ProcessLaws.{at_number}
-use Rattle.av_kernel.proofs.StepLaws.{is_number, kept-on, moved_on, stays_orderly, stepped}
+use Rattle.av_kernel.proofs.CacheLeft.{bytes-left, remap-cached}
+use Rattle.av_kernel.proofs.StepLaws.{is_number, moved_on, noted, stays_orderly, stepped, swap_alike}
 use Rattle.av_kernel.proofs.Loads.{world_as}
 use Rattle.av_plain.proofs.Load.{events_to-load_nothing}
 
@@ -200,10 +202,14 @@ module _ {d : Device} {old : Mem} {s : State} (keeps : Keeps d old s) {p a olen 
     -- the areas have changed, and after them the entries
     module _ (spaces : AllSpaces) (anons : AnonSet)
         (remap : HasRemap old (moved_on old old.tables spaces anons) p (after_mremap (chain_length s.anons) p from n to m left on))
-        (mid : Mem) (done : HasRemapped d (moved_on old old.tables spaces anons) mid s.ledger (remap_events s.ledger p from n to m))
+        (mid : Mem) (before notes : List Note)
+        (done : HasRemapped d (moved_on old old.tables spaces anons) mid s.ledger (remap_events s.ledger p from n to m) before notes)
         (rest : KeepsRest (moved_on old old.tables spaces anons) mid) where
+      abbrev events : List Event
+      events = remap_events s.ledger p from n to m
+
       abbrev l : Ledger
-      l = after_all s.ledger (remap_events s.ledger p from n to m)
+      l = after_all s.ledger events
 
       abbrev now : Process
       now = process_after_mremap from n to m left q
@@ -233,6 +239,9 @@ module _ {d : Device} {old : Mem} {s : State} (keeps : Keeps d old s) {p a olen 
 
       abbrev answer : Answer
       answer = MapAt (address_of to)
+
+      abbrev reply : Reply
+      reply = noted answer (notes_of events)
 
       areas_now : AreasAre (view new) next.areas
       areas_now k page = remap.areas k page ∙ (λ i. with_at p now_on (λ r o. keeps.stands.areas r o i) k page)
@@ -284,7 +293,7 @@ module _ {d : Device} {old : Mem} {s : State} (keeps : Keeps d old s) {p a olen 
           by k false e = sym (ap (λ b. cond b true (lives s.world k)) e)
 
       tables_now : HasTables new
-      tables_now k = ap (λ (h : ℕ → Bool). h k) rest.processes ∙ keeps.tables k
+      tables_now k = ap (λ (h : ℕ → Bool). h k) rest.parts.processes ∙ keeps.tables k
           ∙ alive_is old.spaces.processes k ∙ sym (alive_is spaces.processes k ∙ remap.alive k)
 
       -- ---- bytes
@@ -338,13 +347,13 @@ module _ {d : Device} {old : Mem} {s : State} (keeps : Keeps d old s) {p a olen 
         kept_here : (to == from) ≡ true → (i j k : Bool) → within to m page ≡ i → within from n page ≡ j → nat_lt (page - to) n ≡ k
             → IsKeptAt page
         kept_here here true j true e f g =
-            carried page page (here_stays s.ledger p from n to m in_order here page (before e)) (from_old q from n to m left page e g ∙ ap q (back e))
+            carried page page (here_stays s.ledger p from n to m in_order here page (not_past e)) (from_old q from n to m left page e g ∙ ap q (back e))
           where
             back : within to m page ≡ true → from + (page - to) ≡ page
             back e = let b = range_bounds to m page e in let same = is_number to from here in omega arith
 
-            before : within to m page ≡ true → within (from + m) (n - m) page ≡ false
-            before e =
+            not_past : within to m page ≡ true → within (from + m) (n - m) page ≡ false
+            not_past e =
                 let b = range_bounds to m page e in
                 let same = is_number to from here in
                 out_of_range (from + m) (n - m) page (λ low high. omega (arith, b, low, same))
@@ -377,11 +386,8 @@ module _ {d : Device} {old : Mem} {s : State} (keeps : Keeps d old s) {p a olen 
             by true here = kept_here here (within to m page) (within from n page) (nat_lt (page - to) n) refl refl refl
             by false there = kept_there there (within to m page) (within from n page) (nat_lt (page - to) n) refl refl refl
 
-      kept_now : (k page : ℕ) → IsKept (view new) d l (entry l (k, page)) (pages next.world k page)
-      kept_now k page =
-          kept-on d (view old) (view new) s.ledger l (entry l (k, page)) (pages next.world k page) rest.bytes
-          (no_cache s.ledger keeps.stands.parts.ledger.swap.finds) (no_cache l done.stands.parts.swap.finds)
-          (subst (IsKept (view old) d s.ledger (entry l (k, page))) (sym (page_now k page)) (by (k == p) refl))
+      kept_now : (k page : ℕ) → IsKept (view old) d s.ledger (entry l (k, page)) (pages next.world k page)
+      kept_now k page = subst (IsKept (view old) d s.ledger (entry l (k, page))) (sym (page_now k page)) (by (k == p) refl)
         where
           by : (b : Bool) → (k == p) ≡ b → IsKept (view old) d s.ledger (entry l (k, page)) (cond b (now page) (pages s.world k page))
           by true same = subst (λ x. IsKept (view old) d s.ledger (entry l (x, page)) (now page)) (sym (is_number k p same)) (kept_page page)
@@ -390,40 +396,47 @@ module _ {d : Device} {old : Mem} {s : State} (keeps : Keeps d old s) {p a olen 
 
       -- ---- the step
 
-      remap-step : IsAllowed → IsStep (setting_by d old) s command (answer_only answer) next
-      remap-step allowed =
-          let events = remap_events s.ledger p from n to m in
+      remap-step : IsAllowed → IsStep (setting_by d old) s command reply next
+      remap-step allowed = record {
+        events = events;
+        legal = record {
+          answer = subst (λ o. MatchOption o (Follows (setting_by d old) s.world s.ledger command events answer [])
+              (λ e. Refuses e events answer []))
+              (sym allowed) (Some to, goes, refl, refl, refl);
+          notes = refl;
+        };
+        world = ap (λ x. set_process s.world p (process_after_mremap from n x m left q)) (sym (page_back to))
+            ∙ world_as (setting_by d old) s.world s.ledger events command answer (events_to-load_nothing s.ledger p from n m (Some to));
+        ledger = refl;
+        free = subst (λ free. ChoosesAll (setting_by d old) None s.ledger events free (free_of (view mid))) keeps.stands.free done.free;
+        rmap = subst (λ r. IsRmapNext r s.world command answer (rmap_of next)) (sym silent)
+            (next-plain (rmap_of s) s.world command answer (rmap_of next) refl (record {
+              areas = ap (λ x. with_at p (after_mremap (chain_length s.anons) p from n x m left on) s.areas) (sym (page_back to));
+              anons = are_left d old s keeps spaces anons remap.anons next.areas areas_now;
+              homes = refl;
+            }));
+        shows = tt;
+      }
+
+      covered_now : AllCovered l (rmap_of next)
+      covered_now =
+          let are = are_left d old s keeps spaces anons remap.anons next.areas areas_now in
           record {
-            events = events;
-            legal = record {
-              answer = subst (λ o. MatchOption o (Follows (setting_by d old) s.world s.ledger command events answer [])
-                  (λ e. Refuses e events answer []))
-                  (sym allowed) (Some to, goes, refl, refl, refl);
-              notes = sym done.notes;
-            };
-            world = ap (λ x. set_process s.world p (process_after_mremap from n x m left q)) (sym (page_back to))
-                ∙ world_as (setting_by d old) s.world s.ledger events command answer (events_to-load_nothing s.ledger p from n m (Some to));
-            ledger = refl;
-            free = subst (λ free. ChoosesAll (setting_by d old) None s.ledger events free (free_of (view mid))) keeps.stands.free done.free;
-            rmap = subst (λ r. IsRmapNext r s.world command answer (rmap_of next)) (sym silent)
-                (next-plain (rmap_of s) s.world command answer (rmap_of next) refl (record {
-                  areas = ap (λ x. with_at p (after_mremap (chain_length s.anons) p from n x m left on) s.areas) (sym (page_back to));
-                  anons = are_left d old s keeps spaces anons remap.anons next.areas areas_now;
-                  homes = refl;
-                }));
-            shows = tt;
+            frames = sound-remapped s.ledger p from n to m left (rmap_of s) (rmap_of next) keeps.stands.sound.ledger.in_order laid_on becomes_on refl
+                are refl keeps.stands.reach;
+            slots = slots-remapped s.ledger p from n to m left (rmap_of s) (rmap_of next) keeps.stands.sound.ledger.in_order laid_on becomes_on refl
+                are refl keeps.stands.reach keeps.stands.slots;
           }
 
-      reach_now : IsRmapSound l (rmap_of next)
-      reach_now = sound-remapped s.ledger p from n to m left (rmap_of s) (rmap_of next) keeps.stands.sound.ledger.in_order laid_on becomes_on refl
-          (are_left d old s keeps spaces anons remap.anons next.areas areas_now) refl keeps.stands.reach
-
-      steps : IsAllowed → StepsBeside d old new s command (answer_only answer)
-      steps allowed = stepped old new s next command (answer_only answer) keeps (remap-step allowed) rest.count
+      steps : IsAllowed → StepsBeside d old new s command reply
+      steps allowed = stepped old new s next command reply keeps (remap-step allowed) rest.parts.count
+          (swap_alike (moved_on old old.tables spaces anons) mid old new refl refl rest.parts.swap)
           (stays_orderly d mid mid.tables spaces anons l refl done.stands) refl areas_now
           (anons_stand d old s keeps spaces anons remap.anons next.areas areas_now new refl refl)
-          (λ f. ap (λ h. h f) rest.homes ∙ keeps.stands.homes f) reach_now remap.anons.fit areas_stand tables_now kept_now
+          (λ f. ap (λ h. h f) rest.homes ∙ keeps.stands.homes f) covered_now remap.anons.fit areas_stand tables_now
+          (bytes-left d (view old) (view new) s.world next.world s.ledger l rest.bytes
+          (remap-cached (setting_by d old) s.ledger p from n to m keeps.stands.sound.ledger) keeps.stands.parts.bytes kept_now)
 
-      pub remaps : IsAllowed → StepsBeside d old mid s command (answer_only answer)
-      remaps allowed = subst (λ k. StepsBeside d old k s command (answer_only answer))
-          (λ i. record mid { spaces = (sym rest.spaces) i; anons = (sym rest.anons) i }) (steps allowed)
+      pub remaps : IsAllowed → StepsBeside d old mid s command reply
+      remaps allowed = subst (λ k. StepsBeside d old k s command reply)
+          (λ i. record mid { spaces = (sym rest.parts.spaces) i; anons = (sym rest.parts.anons) i }) (steps allowed)

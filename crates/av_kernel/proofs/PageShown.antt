@@ -4,7 +4,7 @@ use Rattle.std.proofs.lemmas.List.{get_or-take, get_or-drop, get_or-replicate, l
 use Rattle.std.specs.Prelude.{IfSome, option_and_then}
 use Rattle.std.specs.List.{AllByRecursion}
 use Rattle.av_trace.specs.declared.note.Note.{Note}
-use Rattle.av_plain.specs.Device.{Device}
+use Rattle.av_plain.specs.Device.{Device, IsSameDevice}
 use Rattle.av_plain.specs.World.{Process, Page, pages, byte_at, Shows}
 use Rattle.av_plain.specs.Event.{after_all}
 use Rattle.av_plain.specs.Access.{page_events}
@@ -14,9 +14,11 @@ use Rattle.av_mem.specs.declared.mem.Mem.{Mem}
 use Rattle.av_fault.specs.declared.fault.Touched.TheVariants.{Ready, Zeros}
 use Rattle.av_mem.specs.Mem.{view}
 use Rattle.av_fault.specs.Fault.{IsTouched}
-use Rattle.av_kernel.specs.Page.{ShowsPiece}
+use Rattle.av_kernel.specs.Page.{IsPageRead}
+use Rattle.av_kernel.proofs.PageStep.{loaded, read_served}
 
-held_byte : (o : Option Page) (at : ℕ → ℕ) (i : ℕ) → i < 4096 → Holds o at → IfSome (option_and_then (λ (p : Page). p.bytes i) o) (λ claimed. claimed ≡ at i)
+held_byte : (o : Option Page) (at : ℕ → ℕ) (i : ℕ) → i < 4096 → Holds o at → IfSome (option_and_then (λ (p : Page). p.bytes i) o)
+    (λ claimed. claimed ≡ at i)
 held_byte None at i below h = tt
 held_byte (Some p) at i below h = flip (p.bytes i) (h i below)
   where
@@ -55,22 +57,24 @@ all_zeros : (n : ℕ) → AllByRecursion (λ b. b < 2 ^ 8) (replicate n 0)
 all_zeros zero = tt
 all_zeros (suc n) = (omega arith, all_zeros n)
 
-module _ (s : State) (new : Mem) (p page at n : ℕ) (before now : List Note) (fits : at + n ≤ 4096) where
+module _ {d d' : Device} (s : State) (new : Mem) (p page at n : ℕ) (before now : List Note) (fits : at + n ≤ 4096) (same : IsSameDevice d d') where
   -- from a frame's bytes
-  pub frame_shown : {d : Device} (f : ℕ) (bytes shown shown' : List ℕ) → IsTouched d s new false (p, page) before now (Ready f) → length bytes ≡ 4096 →
+  pub frame_shown : (f : ℕ) (bytes shown shown' : List ℕ) (t : IsTouched d d' s new false (p, page) before now (Ready f)) → length bytes ≡ 4096 →
       ((i : ℕ) → get_or bytes i 0 ≡ (view new).bytes f i)
       → shown' ≡ shown ++ take (at + n - at) (drop at bytes) → AllByRecursion (λ b. b < 2 ^ 8) (take (at + n - at) (drop at bytes)) →
-      ShowsPiece s.world p page at n shown shown' None
-  frame_shown {d} f bytes shown shown' t long are is below =
+      IsPageRead d d' s new p page at n before now shown shown' None
+  frame_shown f bytes shown shown' t long are is below =
       let l = after_all s.ledger (page_events false (p, page) t.added None) in
-      let holds : Holds (pages s.world p page) ((view new).bytes f) = subst (λ e. IsKept (view new) d l e (pages s.world p page)) t.ready.0
-      (t.parts.parts.bytes.kept p page) in
+      let holds : Holds (pages (loaded d s new p page t.added) p page) ((view new).bytes f) =
+      subst (λ e. IsKept (view new) d' l e (pages (loaded d s new p page t.added) p page)) t.ready.0 (t.served.serves.held.bytes.kept p page) in
       let size : length (take (at + n - at) (drop at bytes)) ≡ n = length-take-le (at + n - at) (drop at bytes)
-      (enough (length (drop at bytes)) (length-drop at bytes) long) ∙ rest in (
+      (enough (length (drop at bytes)) (length-drop at bytes) long) ∙ rest in
+      read_served s new p page at n before now shown shown' same t.added t.notes t.touches t.served t.faults (
         take (at + n - at) (drop at bytes),
         is,
         size,
-        shown_from (pages s.world p) page at ((view new).bytes f) (take (at + n - at) (drop at bytes)) holds (omega (arith, size, fits))
+        shown_from (pages (loaded d s new p page t.added) p) page at ((view new).bytes f) (take (at + n - at) (drop at bytes)) holds
+            (omega (arith, size, fits))
             (λ j below. get_or-take (at + n - at) (drop at bytes) j 0 (omega (arith, size, below)) ∙ get_or-drop at bytes j 0 ∙ are (at + j)),
         below,
       )
@@ -82,17 +86,18 @@ module _ (s : State) (new : Mem) (p page at n : ℕ) (before now : List Note) (f
       enough k e long = omega (arith, e, long, fits)
 
   -- from the page of zeros
-  pub zeros_shown : {d : Device} (shown shown' : List ℕ) → IsTouched d s new false (p, page) before now Zeros → shown' ≡ shown ++ replicate n 0 →
-      ShowsPiece s.world p page at n shown shown' None
-  zeros_shown {d} shown shown' t is =
+  pub zeros_shown : (shown shown' : List ℕ) (t : IsTouched d d' s new false (p, page) before now Zeros) → shown' ≡ shown ++ replicate n 0 →
+      IsPageRead d d' s new p page at n before now shown shown' None
+  zeros_shown shown shown' t is =
       let l = after_all s.ledger (page_events false (p, page) t.added None) in
-      let holds : Holds (pages s.world p page) (λ _. 0) = subst (λ e. IsKept (view new) d l e (pages s.world p page)) t.ready.0
-      (t.parts.parts.bytes.kept p page) in
-      let size : length (replicate {A = ℕ} n 0) ≡ n = length-replicate n 0 in (
+      let holds : Holds (pages (loaded d s new p page t.added) p page) (λ _. 0) =
+      subst (λ e. IsKept (view new) d' l e (pages (loaded d s new p page t.added) p page)) t.ready.0 (t.served.serves.held.bytes.kept p page) in
+      let size : length (replicate {A = ℕ} n 0) ≡ n = length-replicate n 0 in
+      read_served s new p page at n before now shown shown' same t.added t.notes t.touches t.served t.faults (
         replicate n 0,
         is,
         size,
-        shown_from (pages s.world p) page at (λ _. 0) (replicate n 0) holds (omega (arith, size, fits))
+        shown_from (pages (loaded d s new p page t.added) p) page at (λ _. 0) (replicate n 0) holds (omega (arith, size, fits))
             (λ j below. get_or-replicate n j 0 0 (omega (arith, size, below))),
         all_zeros n,
       )

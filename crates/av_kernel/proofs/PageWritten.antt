@@ -1,22 +1,28 @@
--- A piece is written to a page's frame, which no other page has: the parts stand after it.
-use Rattle.std.proofs.Common.{◌≡◌, ◌≢◌, ℕ, ◌+◌, ◌-◌, ◌*◌, ◌<◌, ◌≤◌, Bool, true, false, cond, ◌&&◌, List, [], ◌∷◌, length, slice_index, Option, Some, None, option_map, refl, sym, ap, subst, ◌∙◌, arith, ◌==◌, nat_lt, nat_le, is_some, if◌then◌else◌}
+-- A piece is written to the frame of a page that was used, which nothing else names: what stood for the memories stands for those
+-- with the piece.
+use Rattle.std.proofs.Common.{◌≡◌, ◌≢◌, ℕ, ◌+◌, ◌-◌, ◌*◌, ◌<◌, ◌≤◌, Bool, true, false, cond, ◌&&◌, List, [], ◌∷◌, length, map, slice_index, Option, Some, None, option_map, refl, sym, ap, subst, ◌∙◌, arith, nat_lt, nat_le, is_some, if◌then◌else◌}
 use Rattle.std.proofs.lemmas.Bool.Decides.{nat_tests}
 use Rattle.std.proofs.lemmas.Bool.{false≢true}
 use Rattle.std.specs.Prelude.{IfSome}
 use Rattle.std.specs.Ordering.{nat_cmp, eq_by_cmp}
+use Rattle.av_base.specs.Limits.{most_processes}
 use Rattle.av_base.specs.Words.{within, with_at}
+use Rattle.av_base.specs.declared.slot.Slot.{Slot}
 use Rattle.av_frames.specs.Store.{overlaid}
-use Rattle.av_plain.specs.Device.{Device}
 use Rattle.av_plain.specs.World.{World, Process, Page, pages, lives, with_bytes, set_process}
-use Rattle.av_plain.specs.Ledger.{Ledger, Setting, Key, Entry, Zero, InFrame, InSlot, entry, map_count, frame_at}
+use Rattle.av_plain.specs.Ledger.{Cached, Entry, InFrame, InSlot, Ledger, Setting, Zero, entry, key_cmp, same_slot, slot_of}
+use Rattle.av_plain.specs.Event.{after_use, after_use_of, if_some, set_entry, with_stale}
+use Rattle.av_plain.specs.Fault.{is_shared}
 use Rattle.av_plain.specs.Access.{after_write}
-use Rattle.av_plain.specs.Sound.{IsTidy}
-use Rattle.av_plain.specs.Stands.{View, Holds, IsKept, IsKeptAt, AreasStand, BytesStand}
-use Rattle.av_plain.proofs.Ledger.{same_key, same_key-is, same_key-itself, only_one}
-use Rattle.av_plain.proofs.World.{pages-set, lives-set, length-set_old}
-use Rattle.av_plain.proofs.Ledger.NoSwap.{itself}
-use Rattle.av_fault.proofs.FaultParts.{Parts}
-use Rattle.av_mem.proofs.MemLaws.{no_frame_at, slot_kept, nothing_clean}
+use Rattle.av_plain.specs.Sound.{AtPages, IsSound, IsTidy, no_excuse}
+use Rattle.av_plain.specs.Stands.{View, Holds, IsKept, AreasStand, BytesStand}
+use Rattle.av_plain.proofs.Ledger.{entry-set, same_key, same_key-itself}
+use Rattle.av_plain.proofs.Ledger.Order.{keys_total}
+use Rattle.av_plain.proofs.World.{is_sorted-set, length-set_old, lives-set, pages-set}
+use Rattle.av_swap_laws.specs.Held.{Held, IsHeld}
+use Rattle.av_swap_laws.proofs.Cache.{once-of, slot_of-stale}
+use Rattle.av_swap_laws.proofs.Use.{write-bytes}
+use Rattle.av_kernel.proofs.AccessBytes.{put_twice}
 
 same_number : (q p : ℕ) → eq_by_cmp nat_cmp q p ≡ true → q ≡ p
 same_number q p h = grind (arith, nat_tests)
@@ -98,119 +104,150 @@ pub stored_is : (w : World) (p a : ℕ) (piece : List ℕ) → 1 ≤ length piec
 stored_is w p a [] some = absurd (omega (arith, some))
 stored_is w p a (b ∷ piece) some = refl
 
-module _ (d : Device) (m : Setting) (v : View) (w : World) (l : Ledger) (p page f : ℕ) (was : Bool) (start : ℕ) (piece : List ℕ)
-    (parts : Parts d m v w l) (tidy : IsTidy w) (alive : lives w p ≡ true)
-    (named : entry l (p, page) ≡ Some (InFrame f was)) (few : map_count l f ≤ 1) (fits : start + length piece ≤ 4096) where
-  new_process : Process
-  new_process = with_bytes (pages w p) (4096 * page + start) piece
+-- ---- a page that was used is used again
 
-  at_pages_now : (q o : ℕ) → is_some (entry l (q, o)) ≡ true → is_some (pages (set_process w p (with_bytes (pages w p) (4096 * page + start) piece)) q o) ≡ true
-  at_pages_now q o h =
-      let there = parts.at_pages q o h in
-      by_process w p (with_bytes (pages w p) (4096 * page + start) piece) q o (λ x. is_some x ≡ true)
+-- a slot that is made stale twice
+stale_twice : (s : Slot) (cs : List Cached) → let stale : Cached → Cached = λ c. if same_slot s c.slot then record c { stale = true } else c in
+    map stale (map stale cs) ≡ map stale cs
+stale_twice s [] = refl
+stale_twice s (c ∷ cs) = (λ i. one (same_slot s c.slot) refl i ∷ stale_twice s cs i)
+  where
+    one : (b : Bool) → same_slot s c.slot ≡ b
+        → cond (same_slot s (cond b (record c { stale = true }) c).slot) (record (cond b (record c { stale = true }) c) { stale = true })
+        (cond b (record c { stale = true }) c) ≡ cond b (record c { stale = true }) c
+    one true e = ap (λ b. cond b (record c { stale = true }) (record c { stale = true })) e
+    one false e = ap (λ b. cond b (record c { stale = true }) c) e
+
+pub used_twice : (l : Ledger) (p page : ℕ) → after_use true (p, page) (after_use true (p, page) l) ≡ after_use true (p, page) l
+used_twice l p page = by (entry l (p, page)) refl
+  where
+    seen : ℕ → Ledger
+    seen f = set_entry (p, page) (InFrame f true) l
+
+    named : (f : ℕ) → entry (seen f) (p, page) ≡ Some (InFrame f true)
+    named f = entry-set (p, page) (InFrame f true) l (p, page) ∙ ap (λ b. cond b (Some (InFrame f true)) (entry l (p, page)))
+        (same_key-itself (p, page))
+
+    again : (f : ℕ) → set_entry (p, page) (InFrame f true) (seen f) ≡ seen f
+    again f = ap (λ es. record l { entries = es }) (put_twice key_cmp keys_total (p, page) (InFrame f true) (InFrame f true) l.entries)
+
+    staled : (f : ℕ) (o : Option Slot) → slot_of l f ≡ o
+        → after_use_of true (p, page) (if_some o (with_stale true) (seen f)) (Some (InFrame f true)) ≡ if_some o (with_stale true) (seen f)
+    staled f None e = ap (λ o. if_some o (with_stale true) (set_entry (p, page) (InFrame f true) (seen f))) e ∙ again f
+    staled f (Some s) e = ap (λ o. if_some o (with_stale true) (set_entry (p, page) (InFrame f true) (with_stale true s (seen f))))
+        (slot_of-stale true s (seen f) f ∙ e)
+        ∙ (λ i. record (again f i) { cache = stale_twice s l.cache i })
+
+    still : (f : ℕ) (o : Option Slot) → entry (if_some o (with_stale true) (seen f)) (p, page) ≡ Some (InFrame f true)
+    still f None = named f
+    still f (Some s) = named f
+
+    by : (o : Option Entry) → entry l (p, page) ≡ o
+        → after_use true (p, page) (after_use_of true (p, page) l o) ≡ after_use_of true (p, page) l o
+    by None e = ap (after_use_of true (p, page) l) e
+    by (Some Zero) e = ap (after_use_of true (p, page) l) e
+    by (Some (InSlot s)) e = ap (after_use_of true (p, page) l) e
+    by (Some (InFrame f was)) e = ap (after_use_of true (p, page) (if_some (slot_of l f) (with_stale true) (seen f))) (still f (slot_of l f))
+        ∙ staled f (slot_of l f) refl
+
+-- ---- the piece is written
+
+-- what stands before: the page was used, and nothing else names its frame
+pub record MayWrite (m : Setting) (h : Held) (p page f start : ℕ) (piece : List ℕ) : Type 0 where
+  pub held : IsHeld m h
+  pub areas : AreasStand h.view h.world
+  pub tidy : IsTidy h.world
+  pub at_pages : AtPages h.world h.ledger
+  pub sound : IsSound m h.ledger
+  pub alive : lives h.world p ≡ true
+  pub named : entry h.ledger (p, page) ≡ Some (InFrame f true)
+  pub alone : is_shared h.ledger f ≡ false
+  pub used : after_use true (p, page) h.ledger ≡ h.ledger
+  pub fits : start + length piece ≤ 4096
+
+module _ (m : Setting) (h : Held) (p page f start : ℕ) (piece : List ℕ) (may : MayWrite m h p page f start piece) where
+  abbrev w : World
+  w = h.world
+
+  abbrev l : Ledger
+  l = h.ledger
+
+  -- the process with the piece, and the memories with that
+  abbrev now : Process
+  now = with_bytes (pages w p) (4096 * page + start) piece
+
+  abbrev pub stored : World
+  stored = set_process h.world p (with_bytes (pages h.world p) (4096 * page + start) piece)
+
+  pub tidy-now : IsTidy stored
+  tidy-now = record {
+    in_order = is_sorted-set w p now may.tidy.in_order;
+    few = subst (λ n. n ≤ most_processes) (sym (length-set_old w p now may.tidy.in_order may.alive)) may.tidy.few;
+  }
+
+  pub at_pages-now : AtPages stored l
+  at_pages-now q o h =
+      let there = may.at_pages q o h in
+      by_process w p now q o (λ x. is_some x ≡ true)
       (λ same. some_written (pages w p) (4096 * page + start) piece o (subst (λ x. is_some (pages w x o) ≡ true) same there)) (λ _. there)
 
-  areas_now : AreasStand (over f start piece v) (set_process w p (with_bytes (pages w p) (4096 * page + start) piece))
-  areas_now = record {
-    alive = λ q. parts.areas.alive q ∙ sym (lives-set w p (with_bytes (pages w p) (4096 * page + start) piece) q ∙ lives_as q (eq_by_cmp nat_cmp q p) refl);
-    number = parts.areas.number ∙ sym (length-set_old w p (with_bytes (pages w p) (4096 * page + start) piece) tidy.in_order alive);
-    apart = parts.areas.apart;
-    covers = λ q o. parts.areas.covers q o ∙ sym (by_process w p (with_bytes (pages w p) (4096 * page + start) piece) q o
+  pub areas-now : AreasStand (over f start piece h.view) stored
+  areas-now = record {
+    alive = λ q. may.areas.alive q ∙ sym (lives-set w p now q ∙ lives_as q (eq_by_cmp nat_cmp q p) refl);
+    number = may.areas.number ∙ sym (length-set_old w p now may.tidy.in_order may.alive);
+    apart = may.areas.apart;
+    covers = λ q o. may.areas.covers q o ∙ sym (by_process w p now q o
         (λ x. option_map (λ (q : Page). q.prot) x ≡ option_map (λ (q : Page). q.prot) (pages w q o))
-        (λ same. prot_written (pages w p) (4096 * page + start) piece o ∙ ap (λ x. option_map (λ (q : Page). q.prot) (pages w x o)) (sym same)) (λ _. refl));
+        (λ same. prot_written (pages w p) (4096 * page + start) piece o ∙ ap (λ x. option_map (λ (q : Page). q.prot) (pages w x o)) (sym same))
+        (λ _. refl));
   }
     where
       lives_as : (q : ℕ) (b : Bool) → eq_by_cmp nat_cmp q p ≡ b → cond b true (lives w q) ≡ lives w q
-      lives_as q true e = sym (ap (lives w) (same_number q p e) ∙ alive)
+      lives_as q true e = sym (ap (lives w) (same_number q p e) ∙ may.alive)
       lives_as q false e = refl
 
-  -- the bytes of an entry that is not this one
-  others : (q o : ℕ) (x : Option Page) (e : Option Entry) → entry l (q, o) ≡ e → same_key (q, o) (p, page) ≡ false → IsKept v d l e x →
-      IsKept (over f start piece v) d l e x
-  others q o x None is ne h = h
-  others q o x (Some Zero) is ne h = h
-  others q o x (Some (InFrame g seen)) is ne h = subst (Holds x) (sym (ap (λ b. cond b (overlaid start piece (v.bytes f)) (v.bytes g)) (apart (g == f) refl))) h
-    where
-      apart : (b : Bool) → (g == f) ≡ b → (g == f) ≡ false
-      apart false e = e
-      apart true e = let same : g ≡ f = grind (arith, nat_tests) in
-          absurd (false≢true (sym ne ∙ only_one l f (p, page) (q, o) (InFrame f was) (InFrame g seen) parts.in_order few named (itself f) is
-          (ap (λ x. f == x) same ∙ itself f)))
-  others q o x (Some (InSlot s)) is ne h = slot_kept d v (over f start piece v) s x (frame_at l s) (frame_at l s) (no_frame_at l s parts.cache)
-      (no_frame_at l s parts.cache) h
-
-  keep_else : (o : ℕ) → o ≢ page → (at : ℕ → ℕ) → Holds (pages w p o) at → Holds (with_bytes (pages w p) (4096 * page + start) piece o) at
-  keep_else o ne at h = holds_written (pages w p) (4096 * page + start) piece o at at h
-      (λ i below. sym (ap (λ b. cond b (slice_index piece (4096 * o + i - (4096 * page + start))) (at i))
-      (elsewhere page o start (length piece) i fits below ne)))
-
-  world_else : (q o : ℕ) (e : Option Entry) → same_key (q, o) (p, page) ≡ false → IsKept (over f start piece v) d l e (pages w q o)
-      → IsKept (over f start piece v) d l e (pages (set_process w p (with_bytes (pages w p) (4096 * page + start) piece)) q o)
-  world_else q o e ne h = by_process w p (with_bytes (pages w p) (4096 * page + start) piece) q o (IsKept (over f start piece v) d l e)
-      (λ same. by_entry e (subst (λ x. IsKept (over f start piece v) d l e (pages w x o)) same h) (other same)) (λ _. h)
+  -- another page holds what it may.held
+  held_else : (q o : ℕ) → same_key (q, o) (p, page) ≡ false → (bytes : ℕ → ℕ) → Holds (pages w q o) bytes → Holds (pages stored q o) bytes
+  held_else q o ne bytes h = by_process w p now q o (λ x. Holds x bytes)
+      (λ same. holds_written (pages w p) (4096 * page + start) piece o bytes bytes (subst (λ n. Holds (pages w n o) bytes) same h)
+      (λ i below. sym (ap (λ b. cond b (slice_index piece (4096 * o + i - (4096 * page + start))) (bytes i))
+      (elsewhere page o start (length piece) i may.fits below (other same))))) (λ _. h)
     where
       other : q ≡ p → o ≢ page
       other same is = false≢true (sym ne ∙ (λ i. same_key (same i, is i) (p, page)) ∙ same_key-itself (p, page))
 
-      by_entry : (e : Option Entry) → IsKept (over f start piece v) d l e (pages w p o) → o ≢ page
-          → IsKept (over f start piece v) d l e (with_bytes (pages w p) (4096 * page + start) piece o)
-      by_entry None h ne = keep_else o ne (λ _. 0) h
-      by_entry (Some Zero) h ne = keep_else o ne (λ _. 0) h
-      by_entry (Some (InFrame g seen)) h ne = keep_else o ne ((over f start piece v).bytes g) h
-      by_entry (Some (InSlot s)) h ne = by_frame (frame_at l s) h
-        where
-          told : (t : Option (ℕ → ℕ → List ℕ)) → IfSome t (λ told. Holds (pages w p o) (slice_index (told s.area s.page)))
-              → IfSome t (λ told. Holds (with_bytes (pages w p) (4096 * page + start) piece o) (slice_index (told s.area s.page)))
-          told None h = tt
-          told (Some pages) h = keep_else o ne (slice_index (pages s.area s.page)) h
+  held_here : Holds (pages stored p page) (overlaid start piece (h.view.bytes f))
+  held_here = by_process w p now p page (λ x. Holds x (overlaid start piece (h.view.bytes f)))
+      (λ _. holds_written (pages w p) (4096 * page + start) piece page (h.view.bytes f) (overlaid start piece (h.view.bytes f))
+      (subst (λ e. IsKept h.view h.device l e (pages w p page)) may.named (may.held.bytes.kept p page))
+      (λ i below. sym ((λ k. cond (in_place page start (length piece) i k) (slice_index piece (from_start page start i k)) (h.view.bytes f i)))))
+      (λ ne. absurd (ne refl))
 
-          by_frame : (y : Option ℕ) → IsKeptAt (over f start piece v) d s (pages w p o) y →
-              IsKeptAt (over f start piece v) d s (with_bytes (pages w p) (4096 * page + start) piece o) y
-          by_frame None h = told d.pages h
-          by_frame (Some g) h = keep_else o ne ((over f start piece v).bytes g) h
+  bytes-now : BytesStand (over f start piece h.view) h.device stored l
+  bytes-now =
+      let laid = subst (BytesStand _ h.device stored) may.used
+      (write-bytes l p page f true may.sound.in_order may.named h.view h.device w stored true (overlaid start piece (h.view.bytes f)) None
+      (once-of m no_excuse l may.sound) may.alone may.held.bytes held_here held_else) in
+      record { kept = laid.kept; clean = laid.clean }
 
-  bytes_now : BytesStand (over f start piece v) d (set_process w p (with_bytes (pages w p) (4096 * page + start) piece)) l
-  bytes_now = record {
-    kept = λ q o. at_key q o (same_key (q, o) (p, page)) refl;
-    clean = λ s stale flying. nothing_clean d (over f start piece v) s (frame_at l s) (no_frame_at l s parts.cache);
-  }
-    where
-      here : Holds (pages (set_process w p (with_bytes (pages w p) (4096 * page + start) piece)) p page)
-          (cond (f == f) (overlaid start piece (v.bytes f)) (v.bytes f))
-      here = by_process w p (with_bytes (pages w p) (4096 * page + start) piece) p page
-          (λ x. Holds x (cond (f == f) (overlaid start piece (v.bytes f)) (v.bytes f)))
-          (λ _. subst (Holds (with_bytes (pages w p) (4096 * page + start) piece page))
-          (sym (ap (λ b. cond b (overlaid start piece (v.bytes f)) (v.bytes f)) (itself f)))
-          (holds_written (pages w p) (4096 * page + start) piece page (v.bytes f) (overlaid start piece (v.bytes f))
-          (subst (λ e. IsKept v d l e (pages w p page)) named (parts.bytes.kept p page))
-          (λ i below. sym ((λ k. cond (in_place page start (length piece) i k) (slice_index piece (from_start page start i k)) (v.bytes f i))))))
-          (λ ne. absurd (ne refl))
-
-      at_key : (q o : ℕ) (b : Bool) → same_key (q, o) (p, page) ≡ b → IsKept (over f start piece v) d l (entry l (q, o))
-          (pages (set_process w p (with_bytes (pages w p) (4096 * page + start) piece)) q o)
-      at_key q o true e = subst (λ (k : Key). IsKept (over f start piece v) d l (entry l k)
-          (pages (set_process w p (with_bytes (pages w p) (4096 * page + start) piece)) k.0 k.1)) (sym (same_key-is (q, o) (p, page) e))
-          (subst (λ x. IsKept (over f start piece v) d l x (pages (set_process w p (with_bytes (pages w p) (4096 * page + start) piece)) p page))
-          (sym named) here)
-      at_key q o false e = world_else q o (entry l (q, o)) e (others q o (pages w q o) (entry l (q, o)) refl e (parts.bytes.kept q o))
-
-  pub written_now : Parts d m (over f start piece v) (set_process w p (with_bytes (pages w p) (4096 * page + start) piece)) l
-  written_now = record {
-    in_order = parts.in_order;
-    cache = parts.cache;
-    flight = parts.flight;
-    on = parts.on;
-    lists = record { active = parts.lists.active; inactive = parts.lists.inactive };
-    at_pages = at_pages_now;
-    frames = record {
-      frames = parts.frames.frames;
-      maps = parts.frames.maps;
-      slots = parts.frames.slots;
-      dirty = parts.frames.dirty;
-      free = parts.frames.free;
-    };
-    tables = record { entries = parts.tables.entries; write_bits = parts.tables.write_bits };
-    swap = record { finds = parts.swap.finds; counts = parts.swap.counts; flight = parts.swap.flight; on = parts.swap.on };
-    areas = areas_now;
-    bytes = bytes_now;
+  pub held-now : IsHeld m (record h { view = over f start piece h.view; world = stored })
+  held-now = record {
+    ledger =
+        let had = may.held.ledger in
+        record {
+          frames = record {
+            frames = had.frames.frames;
+            maps = had.frames.maps;
+            slots = had.frames.slots;
+            dirty = had.frames.dirty;
+            free = had.frames.free;
+          };
+          lists = record { active = had.lists.active; inactive = had.lists.inactive };
+          tables = record { entries = had.tables.entries; write_bits = had.tables.write_bits };
+          swap = record { finds = had.swap.finds; counts = had.swap.counts; flight = had.swap.flight; on = had.swap.on };
+        };
+    bytes = bytes-now;
+    headers = may.held.headers;
+    covered = may.held.covered;
+    homes = may.held.homes;
   }

@@ -13,20 +13,22 @@ use Rattle.av_trace.specs.declared.reply.Errno.{Errno}
 use Rattle.av_trace.specs.declared.reply.Errno.TheVariants.{Esrch, Eagain, Eexist}
 use Rattle.av_trace.specs.declared.reply.Answer.TheVariants.{Done}
 use Rattle.av_trace.specs.Reply.{answer_only}
+use Rattle.av_trace.specs.declared.reply.Reply.{Reply}
+use Rattle.av_trace.specs.declared.note.Note.{Note}
 use Rattle.av_pagetable.specs.declared.pte.Pte.{Pte}
 use Rattle.av_pagetable.specs.declared.pte.Pte.TheVariants.{Empty}
 use Rattle.av_pagetable.specs.Entries.{ProcessTables, entry_at, has}
 use Rattle.av_plain.specs.Device.{Device}
 use Rattle.av_plain.specs.World.{Process, World, Page, no_pages, lives, pages, set_process, end_process}
-use Rattle.av_plain.specs.Ledger.{Entry, Key, entry, names_frame}
-use Rattle.av_plain.specs.Event.{after_all}
+use Rattle.av_plain.specs.Ledger.{Entry, Key, Ledger, entry, names_frame}
+use Rattle.av_plain.specs.Event.{Event, after_all, notes_of}
 use Rattle.av_plain.specs.Fault.{is_shared}
 use Rattle.av_plain.specs.Zap.{keys_of_process, zaps_of}
 use Rattle.av_plain.specs.Refusal.{tests, refusal, Refuses}
 use Rattle.av_plain.specs.Step.{Follows}
 use Rattle.av_plain.specs.Choice.{ChoosesAll}
 use Rattle.av_plain.proofs.AreasLeft.{rmap_after_all-zaps}
-use Rattle.av_plain.proofs.Covered.{Names}
+use Rattle.av_plain.proofs.Covered.Zaps.{zaps-reach}
 use Rattle.av_plain.specs.Areas.{AreNext, none_on}
 use Rattle.av_vma.specs.Pages.{home_of, pages_in}
 use Rattle.av_plain.specs.Stands.{AreasAre, free_of, Pte as Plain, IsKept, entry_of, prot_of, AreasStand, TablesStand}
@@ -34,6 +36,7 @@ use Rattle.av_plain.specs.Transcript.{State, IsStep, rmap_of}
 use Rattle.av_plain.proofs.Ledger.Order.{both_first, both_second}
 use Rattle.av_plain.proofs.World.{pages-set, lives-set, length-set_new}
 use Rattle.av_plain.proofs.Zap.{entry-ended, entry-others}
+use Rattle.av_plain.proofs.Sound.{no_entries}
 use Rattle.av_plain.proofs.Sound.Zap.{process-ended, pages-ended}
 use Rattle.av_mem.specs.declared.mem.Mem.{Mem}
 use Rattle.av_spaces.specs.Spaces.{AllSpaces, Spaces, areas_of, pages_of, IsSpawned, IsEnded}
@@ -42,11 +45,13 @@ use Rattle.av_mem.specs.Mem.{ranges_of, setting_by, plain, view, frame_count, Ha
 use Rattle.av_kernel.specs.Process.{new_tests}
 use Rattle.av_kernel.specs.Step.{StepsBeside}
 use Rattle.av_mem.specs.Zap.{HasZapped}
-use Rattle.av_mem.proofs.MemLaws.{alive_is, lives_is, all_apart, kept-nothing, no_cache}
+use Rattle.av_mem.specs.Steps.{KeepsRest}
+use Rattle.av_mem.proofs.MemLaws.{alive_is, lives_is, all_apart, kept-nothing}
 use Rattle.av_anon.specs.declared.anons.Anons.{Anons as AnonSet}
 use Rattle.av_spaces.specs.Kin.{AnonsStay}
 use Rattle.av_mem.proofs.AnonLaws.{anons_stand, are_left, left_of}
-use Rattle.av_kernel.proofs.StepLaws.{AreLeftIn, reach_after, is_number, orderly, moved_on, stays_orderly, state_after, changed, kept-on, stepped}
+use Rattle.av_kernel.proofs.CacheLeft.{bytes-left, cached-itself, zaps-cached}
+use Rattle.av_kernel.proofs.StepLaws.{changed, is_number, moved_on, noted, orderly, reach_after, reach_of, state_after, stays_orderly, stepped, swap_alike, swap_itself}
 use Rattle.av_kernel.proofs.Loads.{world_as}
 use Rattle.av_plain.proofs.Load.{zaps-load_nothing}
 
@@ -157,25 +162,15 @@ module _ {d : Device} (old : Mem) (tables : ProcessTables) (spaces : AllSpaces) 
       by false = keeps.tables q
 
   -- a process that did not live has no entry
-  no_entry : (page f : ℕ) → Names s.ledger (p, page) f → ⊥
-  no_entry page f names = by (entry s.ledger (p, page)) refl names
-    where
-      by : (o : Option Entry) → entry s.ledger (p, page) ≡ o → IsSomeAnd o (λ e. names_frame f e ≡ true) → ⊥
-      by None is names = names
-      by (Some e) is names = dead (keeps.stands.sound.at_pages p page (ap is_some is))
-        where
-          dead : is_some (pages s.world p page) ≡ true → ⊥
-          dead there = none (find nat_cmp p s.world) dead_before there
-            where
-              none : (o : Option Process) → is_some o ≡ false → is_some (option_and_then (λ (q : Process). q page) o) ≡ true → ⊥
-              none None gone there = false≢true there
-              none (Some q) gone there = false≢true (sym gone)
+  no_entry : (page : ℕ) → is_some (entry s.ledger (p, page)) ≡ true → ⊥
+  no_entry page there = false≢true (sym (ap is_some (no_entries s.world s.ledger p keeps.stands.sound.at_pages dead_before page)) ∙ there)
 
   pub spawned-steps : StepsBeside d old (moved_on old tables spaces old.anons) s (Spawn p) (answer_only Done)
   spawned-steps = changed old (moved_on old tables spaces old.anons) s (Spawn p) (answer_only Done) p no_pages none_on s.ledger keeps stay refl
-      (stays_orderly d old tables spaces old.anons s.ledger entries (orderly old s keeps)) refl refl
-      (λ q page other. refl) (λ page. kept-nothing d (view old) s.ledger (entry s.ledger (p, page))) (λ page f names. names)
-      (λ page f home names is. absurd (no_entry page f names)) spawn-step spawn-on spawn-areas spawn-tables
+      (swap_alike old old old (moved_on old tables spaces old.anons) refl refl (swap_itself old)) (stays_orderly d old tables spaces old.anons s.ledger entries (orderly old s keeps))
+      refl refl
+      (λ q page other. refl) (cached-itself s.ledger) (λ page. kept-nothing d (view old) s.ledger (entry s.ledger (p, page))) (reach_of old s keeps)
+      (λ page home there is. absurd (no_entry page there)) spawn-step spawn-on spawn-areas spawn-tables
 
 -- ---- exit: the memories
 
@@ -224,58 +219,59 @@ lives-ended w p q = ap is_some (process-ended w p q) ∙ by (q == p)
 
 -- ---- exit: the end
 
-module _ {d : Device} (old mid : Mem) (tables : ProcessTables) (spaces : AllSpaces) (anons : AnonSet) (s : State) (p : ℕ) (keeps : Keeps d old s)
-    (alive : is_some (ranges_of old.spaces.processes p) ≡ true)
-    (taken : HasZapped d old mid s.ledger (zaps_of s.ledger (keys_of_process s.ledger p))) (bytes : (view mid).bytes ≡ (view old).bytes)
-    (homes : (view mid).homes ≡ (view old).homes) (same_spaces : mid.spaces ≡ old.spaces) (same_tables : has mid.tables ≡ has old.tables)
-    (same_count : frame_count mid ≡ frame_count old)
+module _ {d : Device} (old mid : Mem) (tables : ProcessTables) (spaces : AllSpaces) (anons : AnonSet) (s : State) (p : ℕ) (before notes : List Note)
+    (keeps : Keeps d old s) (alive : is_some (ranges_of old.spaces.processes p) ≡ true)
+    (taken : HasZapped d old mid s.ledger (zaps_of s.ledger (keys_of_process s.ledger p)) before notes) (rest : KeepsRest old mid)
     (processes : has tables ≡ with_at p false (has mid.tables)) (entries : entry_at tables ≡ with_at p (λ page. Empty) (entry_at mid.tables))
-    (ended : IsEnded mid.spaces.processes spaces.processes p)
-    (stay : AnonsStay old.spaces old.anons spaces anons) where
+    (ended : IsEnded mid.spaces.processes spaces.processes p) (stay : AnonsStay old.spaces old.anons spaces anons) where
+  -- its entries go by these events
+  abbrev events : List Event
+  events = zaps_of s.ledger (keys_of_process s.ledger p)
+
+  abbrev l : Ledger
+  l = after_all s.ledger events
+
+  abbrev new : Mem
+  new = moved_on mid tables spaces anons
+
+  abbrev next : State
+  next = record {
+    world = end_process s.world p;
+    ledger = l;
+    free = free_of (view mid);
+    areas = with_at p none_on s.areas;
+    anons = left_of anons s.anons;
+    homes = s.homes;
+  }
+
+  abbrev reply : Reply
+  reply = noted Done (notes_of events)
+
   alive_now : lives s.world p ≡ true
   alive_now = sym (lives_is d old s keeps p) ∙ sym (alive_is old.spaces.processes p) ∙ alive
 
   allowed : refusal (tests (setting_by d old) s.world s.ledger (Exit p)) ≡ None
   allowed = ap (λ b. cond (not b) (Some Esrch) None) alive_now
 
-  exit-on : AreasAre (view (record { frames = mid.frames; lists = mid.lists; tables = tables; spaces = spaces; anons = anons })) (with_at p none_on s.areas)
+  exit-on : AreasAre (view new) (with_at p none_on s.areas)
   exit-on q page = ap (λ a. pages_in a page) (ended.areas q) ∙ by (q == p)
     where
       by : (b : Bool) → pages_in (cond b None (areas_of mid.spaces.processes q)) page ≡ (cond b none_on (s.areas q)) page
       by true = refl
-      by false = ap (λ (x : AllSpaces). pages_of x.processes q page) same_spaces ∙ keeps.stands.areas q page
+      by false = ap (λ (x : AllSpaces). pages_of x.processes q page) rest.parts.spaces ∙ keeps.stands.areas q page
 
-  exit-step : IsStep (setting_by d old) s (Exit p) (answer_only Done)
-      (record {
-        world = end_process s.world p;
-        ledger = after_all s.ledger (zaps_of s.ledger (keys_of_process s.ledger p));
-        free = free_of (view mid);
-        areas = with_at p none_on s.areas;
-        anons = left_of anons s.anons;
-        homes = s.homes;
-      })
+  exit-step : IsStep (setting_by d old) s (Exit p) reply next
   exit-step = record {
-    events = zaps_of s.ledger (keys_of_process s.ledger p);
+    events = events;
     legal = record {
-      answer = subst (λ o. MatchOption o (Follows (setting_by d old) s.world s.ledger (Exit p) (zaps_of s.ledger (keys_of_process s.ledger p)) Done [])
-          (λ e. Refuses e (zaps_of s.ledger (keys_of_process s.ledger p)) Done [])) (sym allowed) (refl, refl, refl);
-      notes = sym taken.notes;
+      answer = subst (λ o. MatchOption o (Follows (setting_by d old) s.world s.ledger (Exit p) events Done []) (λ e. Refuses e events Done []))
+          (sym allowed) (refl, refl, refl);
+      notes = refl;
     };
-    world = world_as (setting_by d old) s.world s.ledger (zaps_of s.ledger (keys_of_process s.ledger p)) (Exit p) Done
-        (zaps-load_nothing s.ledger (keys_of_process s.ledger p));
+    world = world_as (setting_by d old) s.world s.ledger events (Exit p) Done (zaps-load_nothing s.ledger (keys_of_process s.ledger p));
     ledger = refl;
-    free = subst (λ free. ChoosesAll (setting_by d old) None s.ledger (zaps_of s.ledger (keys_of_process s.ledger p)) free (free_of (view mid)))
-        keeps.stands.free taken.free;
-    rmap = subst (λ r. AreNext r s.world (Exit p) Done (rmap_of (record {
-      world = end_process s.world p;
-      ledger = after_all s.ledger (zaps_of s.ledger (keys_of_process s.ledger p));
-      free = free_of (view mid);
-      areas =
-          with_at p none_on s.areas;
-      anons = left_of anons s.anons;
-      homes = s.homes;
-    })))
-        (sym (rmap_after_all-zaps s.ledger (keys_of_process s.ledger p) s.ledger (rmap_of s)))
+    free = subst (λ free. ChoosesAll (setting_by d old) None s.ledger events free (free_of (view mid))) keeps.stands.free taken.free;
+    rmap = subst (λ r. AreNext r s.world (Exit p) Done (rmap_of next)) (sym (rmap_after_all-zaps s.ledger (keys_of_process s.ledger p) s.ledger (rmap_of s)))
         (record { areas = refl; anons = are_left d old s keeps spaces anons stay (with_at p none_on s.areas) exit-on; homes = refl });
     shows = tt;
   }
@@ -289,32 +285,28 @@ module _ {d : Device} (old mid : Mem) (tables : ProcessTables) (spaces : AllSpac
       by true = refl
       by false = refl
 
-  tables_now : TablesStand (view (record { frames = mid.frames; lists = mid.lists; tables = tables; spaces = spaces; anons = anons }))
-      (after_all s.ledger (zaps_of s.ledger (keys_of_process s.ledger p)))
+  tables_now : TablesStand (view new) l
   tables_now = record {
     entries = λ q page. ap (λ e. entry_of (plain e)) (entry_is q page) ∙ kept q page (q == p) refl;
     write_bits = λ q page t f is writes names. bits (q == p) q page t f (sym (ap plain (entry_is q page)) ∙ is) writes names;
   }
     where
-      kept : (q page : ℕ) (b : Bool) → (q == p) ≡ b → entry_of (plain (cond b Empty (entry_at mid.tables q page))) ≡ entry
-          (after_all s.ledger (zaps_of s.ledger (keys_of_process s.ledger p))) (q, page)
-      kept q page true e = sym (ap (λ n. entry (after_all s.ledger (zaps_of s.ledger (keys_of_process s.ledger p))) (n, page)) (is_number q p e)
-          ∙ entry-ended s.ledger p page)
+      kept : (q page : ℕ) (b : Bool) → (q == p) ≡ b → entry_of (plain (cond b Empty (entry_at mid.tables q page))) ≡ entry l (q, page)
+      kept q page true e = sym (ap (λ n. entry l (n, page)) (is_number q p e) ∙ entry-ended s.ledger p page)
       kept q page false e = taken.stands.parts.tables.entries q page
 
       clash : {t : Plain} → None ≡ Some t → ⊥
       clash e = cc
 
       bits : (b : Bool) (q page : ℕ) (t : Plain) (f : ℕ) → plain (cond b Empty (entry_at mid.tables q page)) ≡ Some t →
-          t.write ≡ true → names_frame f t.entry ≡ true
-          → is_shared (after_all s.ledger (zaps_of s.ledger (keys_of_process s.ledger p))) f ≡ false
+          t.write ≡ true → names_frame f t.entry ≡ true → is_shared l f ≡ false
       bits true q page t f is writes names = absurd (clash is)
       bits false q page t f is writes names = taken.stands.parts.tables.write_bits q page t f is writes names
 
-  areas_now : AreasStand (view (record { frames = mid.frames; lists = mid.lists; tables = tables; spaces = spaces; anons = anons })) (end_process s.world p)
+  areas_now : AreasStand (view new) (end_process s.world p)
   areas_now = record {
     alive = λ q. ap is_some (ended.areas q) ∙ lives_as q (q == p) ∙ sym (lives-ended s.world p q);
-    number = number _ _ _ _ (ended.number ∙ ap (λ (x : AllSpaces). length x.processes) same_spaces) keeps.stands.parts.areas.number
+    number = number _ _ _ _ (ended.number ∙ ap (λ (x : AllSpaces). length x.processes) rest.parts.spaces) keeps.stands.parts.areas.number
         (length_ended s.world p keeps.stands.sound.world.in_order alive_now);
     apart = all_apart spaces.processes ended.rising;
     covers = λ q page. ap (λ o. prot_of o page) (ranges_ended mid.spaces.processes spaces.processes p ended q) ∙ covered q page (q == p)
@@ -326,42 +318,33 @@ module _ {d : Device} (old mid : Mem) (tables : ProcessTables) (spaces : AllSpac
 
       lives_as : (q : ℕ) (b : Bool) → is_some (cond b None (areas_of mid.spaces.processes q)) ≡ cond b false (lives s.world q)
       lives_as q true = refl
-      lives_as q false = ap (λ (x : AllSpaces). is_some (areas_of x.processes q)) same_spaces ∙ keeps.stands.parts.areas.alive q
+      lives_as q false = ap (λ (x : AllSpaces). is_some (areas_of x.processes q)) rest.parts.spaces ∙ keeps.stands.parts.areas.alive q
 
       covered : (q page : ℕ) (b : Bool) → prot_of (cond b None (ranges_of mid.spaces.processes q)) page ≡ option_map (λ (x : Page). x.prot)
           (cond b None (pages s.world q page))
       covered q page true = refl
-      covered q page false = ap (λ (x : AllSpaces). prot_of (ranges_of x.processes q) page) same_spaces ∙ keeps.stands.parts.areas.covers q page
+      covered q page false = ap (λ (x : AllSpaces). prot_of (ranges_of x.processes q) page) rest.parts.spaces ∙ keeps.stands.parts.areas.covers q page
 
-  kept_now : (q page : ℕ) → IsKept (view (record { frames = mid.frames; lists = mid.lists; tables = tables; spaces = spaces; anons = anons })) d
-      (after_all s.ledger (zaps_of s.ledger (keys_of_process s.ledger p)))
-      (entry (after_all s.ledger (zaps_of s.ledger (keys_of_process s.ledger p))) (q, page))
-      (pages (end_process s.world p) q page)
-  kept_now q page =
-      let l = after_all s.ledger (zaps_of s.ledger (keys_of_process s.ledger p)) in
-      subst (IsKept (view (record { frames = mid.frames; lists = mid.lists; tables = tables; spaces = spaces; anons = anons })) d l (entry l (q, page)))
-      (sym (pages-ended s.world p q page))
-      (kept-on d (view old) (view (record { frames = mid.frames; lists = mid.lists; tables = tables; spaces = spaces; anons = anons })) s.ledger l (entry l (q, page))
-      (cond (q == p) None (pages s.world q page)) bytes (no_cache s.ledger keeps.stands.parts.ledger.swap.finds)
-      (no_cache l taken.stands.parts.swap.finds) (by (q == p) refl))
+  kept_now : (q page : ℕ) → IsKept (view old) d s.ledger (entry l (q, page)) (pages (end_process s.world p) q page)
+  kept_now q page = subst (IsKept (view old) d s.ledger (entry l (q, page))) (sym (pages-ended s.world p q page)) (by (q == p) refl)
     where
-      by : (b : Bool) → (q == p) ≡ b → IsKept (view old) d s.ledger
-          (entry (after_all s.ledger (zaps_of s.ledger (keys_of_process s.ledger p))) (q, page)) (cond b None (pages s.world q page))
-      by true e = kept-nothing d (view old) s.ledger (entry (after_all s.ledger (zaps_of s.ledger (keys_of_process s.ledger p))) (q, page))
+      by : (b : Bool) → (q == p) ≡ b → IsKept (view old) d s.ledger (entry l (q, page)) (cond b None (pages s.world q page))
+      by true e = kept-nothing d (view old) s.ledger (entry l (q, page))
       by false e = subst (λ x. IsKept (view old) d s.ledger x (pages s.world q page)) (sym (entry-others s.ledger p q page e))
           (keeps.stands.parts.bytes.kept q page)
 
-  has_now : HasTables (record { frames = mid.frames; lists = mid.lists; tables = tables; spaces = spaces; anons = anons })
+  has_now : HasTables new
   has_now q = ap (λ (h : ℕ → Bool). h q) processes ∙ has_as q (q == p) ∙ sym (ap is_some (ranges_ended mid.spaces.processes spaces.processes p ended q))
     where
       has_as : (q : ℕ) (b : Bool) → cond b false (has mid.tables q) ≡ is_some (cond b None (ranges_of mid.spaces.processes q))
       has_as q true = refl
-      has_as q false = ap (λ (h : ℕ → Bool). h q) same_tables ∙ keeps.tables q ∙ sym (ap (λ (x : AllSpaces). is_some (ranges_of x.processes q)) same_spaces)
+      has_as q false = ap (λ (h : ℕ → Bool). h q) rest.parts.processes ∙ keeps.tables q
+          ∙ sym (ap (λ (x : AllSpaces). is_some (ranges_of x.processes q)) rest.parts.spaces)
 
-  stands_now : HasLedger d (record { frames = mid.frames; lists = mid.lists; tables = tables; spaces = spaces; anons = anons })
-      (after_all s.ledger (zaps_of s.ledger (keys_of_process s.ledger p)))
+  stands_now : HasLedger d new l
   stands_now = record {
     sound = taken.stands.sound;
+    there = taken.stands.there;
     parts =
         let had = taken.stands.parts in
         record {
@@ -371,41 +354,24 @@ module _ {d : Device} (old mid : Mem) (tables : ProcessTables) (spaces : AllSpac
           swap = record { finds = had.swap.finds; counts = had.swap.counts; flight = had.swap.flight; on = had.swap.on };
         };
     lists = taken.stands.lists;
+    swap = taken.stands.swap;
   }
 
   -- only entries of others are left
-  left_in : AreLeftIn s (after_all s.ledger (zaps_of s.ledger (keys_of_process s.ledger p))) (with_at p none_on s.areas)
-  left_in = record {
-    there = λ k f names. there k f names (k.0 == p) refl;
-    home = λ k f home names is. stays k f home names is (k.0 == p) refl;
-  }
+  homes_stay : (k : Key) (home : ℕ × ℕ) → is_some (entry l k) ≡ true → home_of k.1 (s.areas k.0 k.1) ≡ Some home
+      → home_of k.1 ((with_at p none_on s.areas) k.0 k.1) ≡ Some home
+  homes_stay k home there is = by (k.0 == p) refl
     where
-      gone : (k : Key) (f : ℕ) → (k.0 == p) ≡ true → Names (after_all s.ledger (zaps_of s.ledger (keys_of_process s.ledger p))) k f → ⊥
-      gone k f e names = subst (λ o. IsSomeAnd o (λ e. names_frame f e ≡ true))
-          (ap (λ n. entry (after_all s.ledger (zaps_of s.ledger (keys_of_process s.ledger p))) (n, k.1)) (is_number k.0 p e) ∙ entry-ended s.ledger p k.1) names
+      by : (b : Bool) → (k.0 == p) ≡ b → home_of k.1 ((cond b none_on (s.areas k.0)) k.1) ≡ Some home
+      by true e = absurd (false≢true (sym (ap is_some (ap (λ n. entry l (n, k.1)) (is_number k.0 p e) ∙ entry-ended s.ledger p k.1)) ∙ there))
+      by false e = is
 
-      there : (k : Key) (f : ℕ) → Names (after_all s.ledger (zaps_of s.ledger (keys_of_process s.ledger p))) k f → (b : Bool) →
-          (k.0 == p) ≡ b → Names s.ledger k f
-      there k f names true e = absurd (gone k f e names)
-      there k f names false e = subst (λ o. IsSomeAnd o (λ e. names_frame f e ≡ true)) (entry-others s.ledger p k.0 k.1 e) names
-
-      stays : (k : Key) (f : ℕ) (home : ℕ × ℕ) → Names (after_all s.ledger (zaps_of s.ledger (keys_of_process s.ledger p))) k f →
-          home_of k.1 (s.areas k.0 k.1) ≡ Some home → (b : Bool) → (k.0 == p) ≡ b
-          → home_of k.1 ((cond b none_on (s.areas k.0)) k.1) ≡ Some home
-      stays k f home names is true e = absurd (gone k f e names)
-      stays k f home names is false e = is
-
-  pub exit-steps : StepsBeside d old (record { frames = mid.frames; lists = mid.lists; tables = tables; spaces = spaces; anons = anons }) s (Exit p) (answer_only Done)
-  exit-steps = stepped old (record { frames = mid.frames; lists = mid.lists; tables = tables; spaces = spaces; anons = anons }) s
-      (record {
-        world = end_process s.world p;
-        ledger = after_all s.ledger (zaps_of s.ledger (keys_of_process s.ledger p));
-        free = free_of (view mid);
-        areas = with_at p none_on s.areas;
-        anons = left_of anons s.anons;
-        homes = s.homes;
-      }) (Exit p) (answer_only Done)
-      keeps exit-step same_count stands_now refl exit-on (anons_stand d old s keeps spaces anons stay (with_at p none_on s.areas) exit-on
-      (record { frames = mid.frames; lists = mid.lists; tables = tables; spaces = spaces; anons = anons }) refl refl)
-      (λ f. ap (λ h. h f) homes ∙ keeps.stands.homes f) (reach_after old s keeps spaces anons stay
-      (after_all s.ledger (zaps_of s.ledger (keys_of_process s.ledger p))) (with_at p none_on s.areas) exit-on left_in) stay.fit areas_now has_now kept_now
+  pub exit-steps : StepsBeside d old new s (Exit p) reply
+  exit-steps = stepped old new s next (Exit p) reply keeps exit-step rest.parts.count (swap_alike old mid old new refl refl rest.parts.swap) stands_now refl
+      exit-on (anons_stand d old s keeps spaces anons stay (with_at p none_on s.areas) exit-on new refl refl)
+      (λ f. ap (λ h. h f) rest.homes ∙ keeps.stands.homes f)
+      (reach_after old s keeps spaces anons stay l (with_at p none_on s.areas) exit-on homes_stay
+      (zaps-reach s.ledger (rmap_of s) (keys_of_process s.ledger p) (reach_of old s keeps)))
+      stay.fit areas_now has_now
+      (bytes-left d (view old) (view new) s.world (end_process s.world p) s.ledger l rest.bytes
+      (zaps-cached (setting_by d old) s.ledger (keys_of_process s.ledger p) keeps.stands.sound.ledger) keeps.stands.parts.bytes kept_now)

@@ -1,5 +1,5 @@
 -- The reply of `entry`.
-use Rattle.std.proofs.Common.{◌≡◌, ℕ, Bool, true, false, cond, not, [], Option, Some, None, is_some, refl, sym, ap, subst, ◌∙◌}
+use Rattle.std.proofs.Common.{◌≡◌, ℕ, ◌<◌, Bool, true, false, cond, not, [], Option, Some, None, is_some, refl, sym, ap, subst, ◌∙◌, arith}
 use Rattle.std.specs.Prelude.{MatchOption}
 use Rattle.av_base.specs.Page.{page_of}
 use Rattle.av_trace.specs.declared.command.Command.TheVariants.{Entry as AsksEntry}
@@ -9,18 +9,33 @@ use Rattle.av_trace.specs.declared.reply.Errno.TheVariants.{Efault, Esrch}
 use Rattle.av_trace.specs.Reply.{answer_only}
 use Rattle.av_spaces.specs.Spaces.{areas_of, pages_of}
 use Rattle.av_plain.specs.Device.{Device}
-use Rattle.av_plain.specs.Ledger.{entry}
+use Rattle.av_pagetable.specs.Entries.{entry_at}
+use Rattle.av_pagetable.specs.declared.pte.Pte.TheVariants.{Here}
+use Rattle.av_plain.specs.Ledger.{InFrame, entry, names_frame}
+use Rattle.av_plain.specs.Stands.{entry_of}
 use Rattle.av_plain.specs.Refusal.{Refuses, refusal, tests}
 use Rattle.av_plain.specs.Report.{entry_answer}
 use Rattle.av_plain.specs.Step.{Follows}
 use Rattle.av_plain.specs.Transcript.{State}
 use Rattle.av_plain.specs.World.{is_mapped, lives, pages}
 use Rattle.av_mem.specs.declared.mem.Mem.{Mem}
-use Rattle.av_mem.specs.Mem.{Keeps, setting_by}
+use Rattle.av_plain.proofs.Ledger.{how_many-found}
+use Rattle.av_plain.proofs.Sound.Counts.{same-itself}
+use Rattle.av_mem.specs.Mem.{IsSteady, Keeps, frame_count, plain, setting_by}
 use Rattle.av_mem.proofs.MemLaws.{lives_is, mapped_is, taken_has}
 use Rattle.av_kernel.specs.Step.{StepsBeside}
 use Rattle.av_kernel.proofs.StepLaws.{rmap_kept}
 use Rattle.av_kernel.proofs.Loads.{world_as}
+
+-- ---- which frames there are
+
+-- a frame that an entry names is one of the machine's
+pub frame_below : (k : Mem) (p page f : ℕ) (write seen : Bool) → IsSteady k → entry_at k.tables p page ≡ Here f write seen → f < frame_count k
+frame_below k p page f write seen steady is =
+    let l = steady.1.ledger in
+    let named : entry l (p, page) ≡ Some (InFrame f seen) = sym (steady.2.stands.parts.ledger.tables.entries p page) ∙ ap (λ t. entry_of (plain t)) is in
+    let some = how_many-found (names_frame f) (p, page) l.entries (InFrame f seen) named (same-itself f) in
+    steady.2.stands.sound.ledger.in_range f (omega (arith, some))
 
 -- ---- which pages are mapped
 -- a page is of an area exactly where it is mapped

@@ -1,37 +1,41 @@
 -- One command's step: the ledger's parts stand after its events, and so do the areas and the bytes of the pages that it changed.
-use Rattle.std.proofs.Common.{◌≡◌, ◌≢◌, ℕ, ◌+◌, max, Bool, true, false, cond, not, [], Option, Some, None, IsSome, is_some, option_map, Result, Ok, Err, refl, sym, ap, subst, ◌∙◌, arith, ◌==◌}
+use Rattle.std.proofs.Common.{◌≡◌, ◌≢◌, ℕ, ◌+◌, max, Bool, true, false, cond, not, [], ◌++◌, Option, Some, None, IsSome, is_some, option_map, Result, Ok, Err, refl, sym, ap, subst, ◌∙◌, arith, ◌==◌}
 use Rattle.std.proofs.lemmas.Bool.Decides.{nat_tests}
 use Rattle.std.proofs.lemmas.Bool.{false≢true}
 use Rattle.std.specs.Ordering.{nat_cmp, eq_by_cmp}
-use Rattle.std.specs.Prelude.{IfSome, IsSomeAnd, MatchOption, IsErr, IsErrAnd}
+use Rattle.std.specs.FinMap.Entries.{find}
+use Rattle.std.specs.Prelude.{IfSome, IsSomeAnd, List, MatchOption, IsErr, IsErrAnd, map}
 use Rattle.av_base.specs.declared.prot.Prot.{Prot}
 use Rattle.av_trace.specs.declared.command.Command.{Command}
 use Rattle.av_trace.specs.declared.reply.Errno.{Errno}
 use Rattle.av_trace.specs.declared.reply.Errno.TheVariants.{Esrch}
+use Rattle.av_trace.specs.declared.note.Note.{Note}
 use Rattle.av_trace.specs.declared.reply.Reply.{Reply}
 use Rattle.av_trace.specs.declared.reply.Answer.{Answer}
 use Rattle.av_trace.specs.declared.reply.Answer.TheVariants.{Refused}
 use Rattle.av_trace.specs.Reply.{IsCleared, answer_only}
-use Rattle.av_plain.specs.Device.{Device, IsSameDevice, setting_of}
+use Rattle.av_plain.specs.Device.{Device, IsSameDevice, setting_of, device_by}
 use Rattle.av_plain.specs.Fork.{IsRmapNext}
 use Rattle.av_plain.specs.World.{Process, Page, lives, pages, set_process}
-use Rattle.av_plain.specs.Ledger.{Key, Ledger, Entry, Zero, InFrame, InSlot, entry, frame_at, names_frame}
+use Rattle.av_plain.specs.Ledger.{HasNumbers, Key, Ledger, SwapArea, entry}
 use Rattle.av_plain.specs.Refusal.{tests, refusal, Refuses}
 use Rattle.av_plain.specs.Transcript.{State, IsStep, rmap_of}
 use Rattle.av_plain.specs.Sound.{AllSound}
-use Rattle.av_plain.specs.Choice.{Free, ListsAll, ListsFree}
+use Rattle.av_plain.specs.Choice.{Free, ListsAll}
 use Rattle.av_base.specs.Words.{with_at}
 use Rattle.av_vma.specs.Pages.{Pages, home_of}
-use Rattle.av_plain.specs.Stands.{View, Holds, IsKept, AnonsStand, AreasAre, HomesAre, kin_of, AreasStand, entry_of, free_of, prot_of}
+use Rattle.av_plain.specs.Stands.{AnonsStand, AreasAre, AreasStand, BytesStand, HeadersStand, HomesAre, IsKept, entry_of, free_of, kin_of, prot_of}
 use Rattle.av_anon.specs.declared.anons.Anons.{Anons as AnonSet}
 use Rattle.av_anon.specs.declared.infos.Info.{Info}
 use Rattle.av_spaces.specs.Kin.{AnonsFit, AnonsStay, chain_by, info_of}
 use Rattle.av_spaces.proofs.Kin.{stay_same}
 use Rattle.av_plain.specs.Areas.{AnonVma, AreLeft, AreNext, Areas, chain_length, next_areas}
-use Rattle.av_plain.specs.Covered.{IsRmapSound}
-use Rattle.av_plain.proofs.Covered.{Names, sound-next}
+use Rattle.av_plain.proofs.Covered.Swap.{Reach}
+use Rattle.av_plain.proofs.Covered.Zaps.{next-reach}
+use Rattle.av_plain.proofs.Device.{setting-layouts}
+use Rattle.av_swap_laws.specs.Held.{AllCovered}
 use Rattle.av_mem.proofs.AnonLaws.{anons_stand, are_left, left_of}
-use Rattle.av_plain.proofs.FreeFrames.{step-lists_free}
+use Rattle.av_plain.proofs.FreeSteps.{step-lists}
 use Rattle.av_plain.proofs.Refusal.{refused-areas, refused-next}
 use Rattle.av_plain.proofs.Report.Areas.{shows-refused}
 use Rattle.av_plain.proofs.Sound.{step-sound}
@@ -42,17 +46,20 @@ use Rattle.av_mem.specs.declared.mem.Mem.{Mem}
 use Rattle.av_spaces.specs.Spaces.{AllSpaces, areas_of, pages_of as areas_on}
 use Rattle.av_plain.proofs.Transcript.{is_fork, next-plain}
 use Rattle.av_kernel.specs.Map.{GetsProts}
-use Rattle.av_mem.specs.Mem.{anon_vma, ranges_of, setting_by, plain, view, frame_count, HasTables, IsSteady, Keeps, HasLedger}
+use Rattle.av_mem.specs.Mem.{anon_vma, ranges_of, setting_by, plain, view, frame_count, numbers_of, HasTables, IsSteady, Keeps, HasLedger, IsSteadyAt}
+use Rattle.av_mem.specs.Steps.{KeepsSwap}
+use Rattle.av_swapcache.specs.Swap.{shown as shown_swap}
 use Rattle.av_kernel.specs.declared.refusal.Refusal.{Refusal}
 use Rattle.av_kernel.specs.declared.refusal.Refusal.TheVariants as refusals
-use Rattle.av_kernel.specs.Step.{Does, DoesBeside, IsSteadyAt, MemSteps, StepsBeside, reply_in, reply_of}
+use Rattle.av_kernel.specs.Step.{Does, DoesBeside, MemSteps, StepsBeside, reply_in, reply_of}
 use Rattle.av_io.specs.Count.{RoseBy}
 use Rattle.av_plain.specs.Pass.{fails}
 use Rattle.av_plain.specs.Step.{Follows, causes, fault_answers, uses_device}
 use Rattle.av_plain.proofs.Faultless.{unused-causes}
 use Rattle.av_kernel.proofs.Loads.{world_as}
-use Rattle.av_mem.proofs.MemLaws.{alive_is, listed, lives_is, no_cache, no_frame_at, slot_kept, nothing_clean}
-use Rattle.av_fault.proofs.FaultParts.{no_headers}
+use Rattle.av_mem.proofs.KeepsLaws.{fits-kept}
+use Rattle.av_mem.proofs.MemLaws.{alive_is, lives_is}
+use Rattle.av_kernel.proofs.CacheLeft.{KeepsCached, bytes-left}
 
 at_number : (q p : ℕ) → eq_by_cmp nat_cmp q p ≡ (q == p)
 at_number q p = grind (arith, nat_tests)
@@ -159,7 +166,7 @@ none_rose n count none = omega (arith, none)
 
 -- at some sizes it is steady
 pub steady_of : (sizes : ℕ → Option ℕ) (k : Mem) → IsSteadyAt sizes k → IsSteady k
-steady_of sizes k h = (h.0, h.2, h.3)
+steady_of sizes k h = (device_by sizes None h.0, h.1, h.2)
 
 -- what is so of a reply is so in other words
 pub reply-so : (o : Option Reply) (P Q : Reply → Type 0) → ((reply : Reply) → P reply → Q reply) → IfSome o P → IfSome o Q
@@ -178,8 +185,9 @@ beside old new command result unused does d = record {
     faults = none_rose (causes reply) d.faults
         (unused-causes (setting_by d old) s.world s.ledger command reply h.step.events unused h.step.legal);
   }) (does.step d s keeps);
-  steady = λ steady. reply-so (reply_of result) (StepsBeside steady.0 old new steady.2 command) (λ reply. IsSteadyAt d.sizes new)
-      (λ reply h. (steady.0, steady.1, h.next, h.keeps)) (does.step steady.0 steady.2 steady.3);
+  steady = λ steady. let untold = device_by d.sizes None steady.0 in
+      reply-so (reply_of result) (StepsBeside untold old new steady.1 command) (λ reply. IsSteadyAt d.sizes new)
+      (λ reply h. (steady.0, h.next, h.keeps)) (does.step untold steady.1 steady.2);
   same = same_itself d;
   count = does.count;
 }
@@ -231,6 +239,17 @@ pub answers : {d : Device} {old new : Mem} {s : State} {command : Command} {answ
 answers {d} {old} {new} {s} {command} {answer} reply reply' cleared is steps =
     subst (StepsBeside d old new s command) (sym (is ∙ only_answer reply answer cleared)) steps
 
+-- so one that is given notes, too
+abbrev pub noted : Answer → List Note → Reply
+noted answer notes = record { answer = answer; notes = notes; rows = [] }
+
+pub answers-noted : {d : Device} {old new : Mem} {s : State} {command : Command} {answer : Answer} (reply reply' : Reply) (notes added : List Note) →
+    IsCleared reply → reply' ≡ record reply { answer = answer; notes = notes } → notes ≡ reply.notes ++ added
+    → StepsBeside d old new s command (noted answer added) → StepsBeside d old new s command reply'
+answers-noted {d} {old} {new} {s} {command} {answer} reply reply' notes added cleared is grown steps =
+    subst (StepsBeside d old new s command)
+    (sym (is ∙ (λ i. record { answer = answer; notes = (grown ∙ ap (λ x. x ++ added) cleared.notes) i; rows = cleared.rows i }))) steps
+
 -- a process that has no areas is refused first
 pub dead_first : {d : Device} (k : Mem) (s : State) (p : ℕ) (rest : Option Errno) → Keeps d k s → is_some (areas_of k.spaces.processes p) ≡ false →
     cond (not (lives s.world p)) (Some Esrch) rest ≡ Some Esrch
@@ -240,28 +259,33 @@ dead_first {d} k s p rest keeps dead = ap (λ b. cond (not b) (Some Esrch) rest)
 pub ranges_there : (k : Mem) (p : ℕ) → is_some (areas_of k.spaces.processes p) ≡ true → is_some (ranges_of k.spaces.processes p) ≡ true
 ranges_there k p alive = alive_is k.spaces.processes p ∙ alive
 
--- ---- what pages keep
-
--- where no slot is cached, a page keeps its bytes with the frames' ones
-pub kept-on : (d : Device) (v v' : View) (l l' : Ledger) (e : Option Entry) (p : Option Page) → v'.bytes ≡ v.bytes → l.cache ≡ [] → l'.cache ≡ [] →
-    IsKept v d l e p → IsKept v' d l' e p
-kept-on d v v' l l' None p same was none h = h
-kept-on d v v' l l' (Some Zero) p same was none h = h
-kept-on d v v' l l' (Some (InFrame f seen)) p same was none h = subst (λ (b : ℕ → ℕ → ℕ). Holds p (b f)) (sym same) h
-kept-on d v v' l l' (Some (InSlot s)) p same was none h = slot_kept d v v' s p (frame_at l s) (frame_at l' s) (no_frame_at l s was) (no_frame_at l' s none) h
-
 -- ---- a step, from its parts
 
 -- the parts that speak of the ledger alone
 pub orderly : {d : Device} (k : Mem) (s : State) → Keeps d k s → HasLedger d k s.ledger
-orderly {d} k s keeps = record { sound = keeps.stands.sound.ledger; parts = keeps.stands.parts.ledger; lists = keeps.lists }
+orderly {d} k s keeps = record {
+  sound = keeps.stands.sound.ledger;
+  there = keeps.stands.sound.in_areas;
+  parts = keeps.stands.parts.ledger;
+  lists = keeps.lists;
+  swap = keeps.swap.frames;
+}
+
+-- each entry of a frame or a slot is covered
+pub reach_of : {d : Device} (k : Mem) (s : State) → Keeps d k s → Reach s.ledger (rmap_of s)
+reach_of {d} k s keeps = record {
+  in_order = keeps.stands.sound.ledger.in_order;
+  once = keeps.stands.sound.ledger.slots_once;
+  sound = keeps.stands.reach;
+  slots = keeps.stands.slots;
+}
 
 pub stepped : {d : Device} (old new : Mem) (s next : State) (command : Command) (reply : Reply) → Keeps d old s → IsStep (setting_by d old) s command reply next →
-    frame_count new ≡ frame_count old → HasLedger d new next.ledger → free_of (view new) ≡ next.free
-    → AreasAre (view new) next.areas → AnonsStand (view new) next.areas next.anons → HomesAre (view new) next.homes → IsRmapSound next.ledger (rmap_of next) →
-    AnonsFit new.spaces new.anons → AreasStand (view new) next.world → HasTables new →
-    ((q page : ℕ) → IsKept (view new) d next.ledger (entry next.ledger (q, page)) (pages next.world q page)) → StepsBeside d old new s command reply
-stepped {d} old new s next command reply keeps step same_count stands free areas_now anons_now homes_now reach fit areas tables kept = record {
+    frame_count new ≡ frame_count old → KeepsSwap old new → HasLedger d new next.ledger → free_of (view new) ≡ next.free
+    → AreasAre (view new) next.areas → AnonsStand (view new) next.areas next.anons → HomesAre (view new) next.homes → AllCovered next.ledger (rmap_of next) →
+    AnonsFit new.spaces new.anons → AreasStand (view new) next.world → HasTables new → BytesStand (view new) d next.world next.ledger
+    → StepsBeside d old new s command reply
+stepped {d} old new s next command reply keeps step same_count swap stands free areas_now anons_now homes_now covered fit areas tables bytes = record {
   next = next;
   step = step;
   keeps = record {
@@ -269,48 +293,41 @@ stepped {d} old new s next command reply keeps step same_count stands free areas
       over = record { sizes = refl; headers = refl };
       sound = subst (λ n. AllSound (setting_of n d) next.world next.ledger) (sym same_count)
           (step-sound (setting_by d old) s command reply next keeps.stands.sound step);
-      parts = record {
-        ledger = stands.parts;
-        areas = areas;
-        bytes = record {
-          kept = kept;
-          clean = λ t stale flying. nothing_clean d (view new) t (frame_at next.ledger t)
-              (no_frame_at next.ledger t (no_cache next.ledger stands.parts.swap.finds));
-        };
-        headers = no_headers (setting_by d new) next.ledger (sym stands.parts.swap.on);
-      };
+      parts = record { ledger = stands.parts; areas = areas; bytes = bytes; headers = headers };
       free = free;
-      lists = subst (ListsAll (setting_by d new) next.ledger) free
-          (listed new (setting_by d new) next.ledger (view new).free stands.parts.swap lists);
+      lists = subst (λ n. ListsAll (setting_of n d) next.ledger next.free) (sym same_count)
+          (step-lists (setting_by d old) s command reply next (setting-layouts (frame_count old) d) keeps.stands.sound keeps.stands.lists step);
       areas = areas_now;
       anons = anons_now;
       homes = homes_now;
-      reach = reach;
+      reach = covered.frames;
+      slots = covered.slots;
     };
     lists = stands.lists;
     tables = tables;
     anons = fit;
+    swap = fits-kept d None old new swap same_count keeps.swap;
   };
 }
   where
-    lists : ListsFree (setting_by d new) next.ledger (view new).free
-    lists = subst (λ n. ListsFree (setting_of n d) next.ledger (view new).free) (sym same_count)
-        (subst (ListsFree (setting_by d old) next.ledger) (sym (ap (λ (f : Free). f.frames) free))
-        (step-lists_free (setting_by d old) s command reply next keeps.stands.sound keeps.stands.lists.frames step))
+    same_on : next.ledger.on ≡ s.ledger.on
+    same_on = sym stands.parts.swap.on ∙ ap (map numbers_of) swap.on ∙ keeps.stands.parts.ledger.swap.on
+
+    headers : HeadersStand (setting_by d new) next.ledger
+    headers k = subst (λ (on : List (ℕ × SwapArea)). IfSome (find nat_cmp k on)
+        (λ area. IfSome (setting_by d new).headers (λ headers. IsSomeAnd (headers k) (HasNumbers area)))) (sym same_on) (keeps.stands.parts.headers k)
 
 -- ---- what reverse mapping goes by, after areas changed
 
--- an entry that is left was there, and its page keeps the home that frames have from it
-pub record AreLeftIn (s : State) (l : Ledger) (on : Areas) : Type 0 where
-  pub there : (k : Key) (f : ℕ) → Names l k f → Names s.ledger k f
-  pub home : (k : Key) (f : ℕ) (home : ℕ × ℕ) → Names l k f → home_of k.1 (s.areas k.0 k.1) ≡ Some home → home_of k.1 (on k.0 k.1) ≡ Some home
-
+-- each page with an entry keeps the home that frames have from it
 pub reach_after : {d : Device} (old : Mem) (s : State) → Keeps d old s → (spaces : AllSpaces) (anons : AnonSet) → AnonsStay old.spaces old.anons spaces anons →
     (l : Ledger) (on : Areas) → ((q page : ℕ) → areas_on spaces.processes q page ≡ on q page)
-    → AreLeftIn s l on → IsRmapSound l (record { areas = on; anons = left_of anons s.anons; homes = s.homes })
-reach_after {d} old s keeps spaces anons stay l on same left =
-    sound-next s.ledger l (rmap_of s) (record { areas = on; anons = left_of anons s.anons; homes = s.homes }) left.there left.home owns
-    (are_left d old s keeps spaces anons stay on same) refl keeps.stands.reach
+    → ((k : Key) (home : ℕ × ℕ) → is_some (entry l k) ≡ true → home_of k.1 (s.areas k.0 k.1) ≡ Some home → home_of k.1 (on k.0 k.1) ≡ Some home)
+    → Reach l (rmap_of s) → AllCovered l (record { areas = on; anons = left_of anons s.anons; homes = s.homes })
+reach_after {d} old s keeps spaces anons stay l on same homes reach =
+    let after = next-reach l (rmap_of s) (record { areas = on; anons = left_of anons s.anons; homes = s.homes }) homes owns
+    (are_left d old s keeps spaces anons stay on same) refl reach in
+    record { frames = after.sound; slots = after.slots }
   where
     owns : (p page v : ℕ) → IsSomeAnd (on p page) (λ area. area.anon ≡ Some v) →
         (q : ℕ) × (other : ℕ) × IsSomeAnd (s.areas q other) (λ area. area.anon ≡ Some v)
@@ -332,45 +349,35 @@ state_after s p now on l free anons = record {
 
 module _ {d : Device} (old new : Mem) (s : State) (command : Command) (reply : Reply) (p : ℕ) (now : Process) (on : Pages) (l : Ledger)
     (keeps : Keeps d old s) (stay : AnonsStay old.spaces old.anons new.spaces new.anons) (same_count : frame_count new ≡ frame_count old)
-    (stands : HasLedger d new l)
+    (swap : KeepsSwap old new) (stands : HasLedger d new l)
     (bytes : (view new).bytes ≡ (view old).bytes) (homes : (view new).homes ≡ (view old).homes)
     (others : (q page : ℕ) → (q == p) ≡ false → entry l (q, page) ≡ entry s.ledger (q, page))
-    (kept : (page : ℕ) → IsKept (view old) d s.ledger (entry l (p, page)) (now page))
-    (there : (page f : ℕ) → Names l (p, page) f → Names s.ledger (p, page) f) (home : (page f : ℕ) (home : ℕ × ℕ) → Names l (p, page) f →
+    (cached : KeepsCached s.ledger l) (kept : (page : ℕ) → IsKept (view old) d s.ledger (entry l (p, page)) (now page))
+    (reach : Reach l (rmap_of s)) (home : (page : ℕ) (home : ℕ × ℕ) → is_some (entry l (p, page)) ≡ true →
     home_of page (s.areas p page) ≡ Some home → home_of page (on page) ≡ Some home) where
-  kept-all : (q page : ℕ) → IsKept (view new) d l (entry l (q, page)) (pages (set_process s.world p now) q page)
-  kept-all q page = subst (IsKept (view new) d l (entry l (q, page)))
-      (sym (pages-set s.world p now q page ∙ ap (λ b. cond b (now page) (pages s.world q page)) (at_number q p)))
-      (kept-on d (view old) (view new) s.ledger l (entry l (q, page)) (cond (q == p) (now page) (pages s.world q page)) bytes
-      (no_cache s.ledger keeps.stands.parts.ledger.swap.finds) (no_cache l stands.parts.swap.finds) (by (q == p) refl))
+  kept-all : (q page : ℕ) → IsKept (view old) d s.ledger (entry l (q, page)) (pages (set_process s.world p now) q page)
+  kept-all q page = subst (IsKept (view old) d s.ledger (entry l (q, page)))
+      (sym (pages-set s.world p now q page ∙ ap (λ b. cond b (now page) (pages s.world q page)) (at_number q p))) (by (q == p) refl)
     where
       by : (b : Bool) → (q == p) ≡ b → IsKept (view old) d s.ledger (entry l (q, page)) (cond b (now page) (pages s.world q page))
       by true e = subst (λ n. IsKept (view old) d s.ledger (entry l (n, page)) (now page)) (sym (is_number q p e)) (kept page)
       by false e = subst (λ x. IsKept (view old) d s.ledger x (pages s.world q page)) (sym (others q page e)) (keeps.stands.parts.bytes.kept q page)
 
-  left_in : AreLeftIn s l (with_at p on s.areas)
-  left_in = record {
-    there = λ k f names. there_at k f names (k.0 == p) refl;
-    home = λ k f home names is. home_at k f home names is (k.0 == p) refl;
-  }
+  home-all : (k : Key) (h : ℕ × ℕ) → is_some (entry l k) ≡ true → home_of k.1 (s.areas k.0 k.1) ≡ Some h → home_of k.1 ((with_at p on s.areas) k.0 k.1) ≡ Some h
+  home-all k h there is = by (k.0 == p) refl
     where
-      there_at : (k : Key) (f : ℕ) → Names l k f → (b : Bool) → (k.0 == p) ≡ b → Names s.ledger k f
-      there_at k f names true e = subst (λ q. Names s.ledger (q, k.1) f) (sym (is_number k.0 p e))
-          (there k.1 f (subst (λ q. Names l (q, k.1) f) (is_number k.0 p e) names))
-      there_at k f names false e = subst (λ o. IsSomeAnd o (λ e. names_frame f e ≡ true)) (others k.0 k.1 e) names
-
-      home_at : (k : Key) (f : ℕ) (h : ℕ × ℕ) → Names l k f → home_of k.1 (s.areas k.0 k.1) ≡ Some h → (b : Bool) → (k.0 == p) ≡ b →
-          home_of k.1 ((cond b on (s.areas k.0)) k.1) ≡ Some h
-      home_at k f h names is true e = home k.1 f h (subst (λ q. Names l (q, k.1) f) (is_number k.0 p e) names)
-          (subst (λ q. home_of k.1 (s.areas q k.1) ≡ Some h) (is_number k.0 p e) is)
-      home_at k f h names is false e = is
+      by : (b : Bool) → (k.0 == p) ≡ b → home_of k.1 ((cond b on (s.areas k.0)) k.1) ≡ Some h
+      by true e = home k.1 h (ap (λ q. is_some (entry l (q, k.1))) (sym (is_number k.0 p e)) ∙ there)
+          (ap (λ q. home_of k.1 (s.areas q k.1)) (sym (is_number k.0 p e)) ∙ is)
+      by false e = is
 
   pub changed : IsStep (setting_by d old) s command reply (state_after s p now on l (free_of (view new)) new.anons) →
       AreasAre (view new) (with_at p on s.areas) → AreasStand (view new) (set_process s.world p now) → HasTables new → StepsBeside d old new s command reply
   changed step areas_now areas tables = stepped old new s (state_after s p now on l (free_of (view new)) new.anons) command reply keeps
-      step same_count stands refl areas_now
+      step same_count swap stands refl areas_now
       (anons_stand d old s keeps new.spaces new.anons stay (with_at p on s.areas) areas_now new refl refl) (λ f. ap (λ h. h f) homes ∙ keeps.stands.homes f)
-      (reach_after old s keeps new.spaces new.anons stay l (with_at p on s.areas) areas_now left_in) stay.fit areas tables kept-all
+      (reach_after old s keeps new.spaces new.anons stay l (with_at p on s.areas) areas_now home-all reach) stay.fit areas tables
+      (bytes-left d (view old) (view new) s.world (set_process s.world p now) s.ledger l bytes cached keeps.stands.parts.bytes kept-all)
 
 -- the areas of a process that lives have changed
 module _ {d : Device} (old new : Mem) (s : State) (p : ℕ) (now : Process) (prots : ℕ → Option Prot) (keeps : Keeps d old s)
@@ -415,12 +422,27 @@ module _ {d : Device} (old new : Mem) (s : State) (p : ℕ) (now : Process) (pro
 
 -- the tables and the areas change, the frames and the entries don't
 abbrev pub moved_on : Mem → ProcessTables → AllSpaces → AnonSet → Mem
-moved_on old tables spaces anons = record { frames = old.frames; lists = old.lists; tables = tables; spaces = spaces; anons = anons }
+moved_on old tables spaces anons =
+    record { frames = old.frames; lists = old.lists; tables = tables; spaces = spaces; anons = anons; swap = old.swap }
+
+pub swap_itself : (k : Mem) → KeepsSwap k k
+swap_itself k = record { frames = refl; on = refl; bad = refl; closing = refl; priority = refl }
+
+-- the swap areas of others with the same ones stay, too
+pub swap_alike : (old new before now : Mem) → before.swap ≡ old.swap → now.swap ≡ new.swap → KeepsSwap old new → KeepsSwap before now
+swap_alike old new before now was is h = record {
+  frames = ap (λ s. (shown_swap s).frames) is ∙ h.frames ∙ sym (ap (λ s. (shown_swap s).frames) was);
+  on = ap (λ s. (shown_swap s).on) is ∙ h.on ∙ sym (ap (λ s. (shown_swap s).on) was);
+  bad = ap (λ s. (shown_swap s).bad) is ∙ h.bad ∙ sym (ap (λ s. (shown_swap s).bad) was);
+  closing = ap (λ s. (shown_swap s).closing) is ∙ h.closing ∙ sym (ap (λ s. (shown_swap s).closing) was);
+  priority = ap (λ s. (shown_swap s).priority) is ∙ h.priority ∙ sym (ap (λ s. (shown_swap s).priority) was);
+}
 
 pub stays_orderly : (d : Device) (old : Mem) (tables : ProcessTables) (spaces : AllSpaces) (anons : AnonSet) (l : Ledger) → entry_at tables ≡ entry_at old.tables →
     HasLedger d old l → HasLedger d (moved_on old tables spaces anons) l
 stays_orderly d old tables spaces anons l entries h = record {
   sound = h.sound;
+  there = h.there;
   parts =
       let had = h.parts in
       record {
@@ -433,4 +455,5 @@ stays_orderly d old tables spaces anons l entries h = record {
         swap = record { finds = had.swap.finds; counts = had.swap.counts; flight = had.swap.flight; on = had.swap.on };
       };
   lists = h.lists;
+  swap = h.swap;
 }

@@ -6,17 +6,18 @@ use Rattle.av_trace.specs.declared.reply.Answer.TheVariants as answers
 use Rattle.av_io.specs.Count.{RoseBy}
 use Rattle.av_plain.specs.Device.{Device, IsSameDevice}
 use Rattle.av_plain.specs.Step.{causes}
-use Rattle.av_plain.specs.World.{World}
+use Rattle.av_plain.specs.Load.{with_loads}
+use Rattle.av_plain.specs.World.{World, pages}
 use Rattle.av_base.specs.Page.{address_of, page_size}
 use Rattle.av_plain.specs.Event.{Event, after_all, notes_of}
-use Rattle.av_plain.specs.Access.{Accesses, End, Whole, Stopped, pages_of_access, bytes_before, after_write}
+use Rattle.av_plain.specs.Access.{Accesses, End, Whole, Stopped, pages_of_access, bytes_before, after_write, Reads}
 use Rattle.av_plain.specs.Choice.{ChoosesAll}
 use Rattle.av_plain.specs.Areas.{rmap_after_all}
 use Rattle.av_plain.specs.Transcript.{State, rmap_of}
 use Rattle.av_kernel.specs.declared.access.Piece.{Piece}
 use Rattle.av_mem.specs.declared.mem.Mem.{Mem}
 use Rattle.av_fault.specs.declared.fault.Stop.{Stop}
-use Rattle.av_fault.specs.declared.fault.Stop.TheVariants.{Segv, Oom}
+use Rattle.av_fault.specs.declared.fault.Stop.TheVariants.{Bus, Oom, Segv}
 use Rattle.av_mem.specs.Mem.{setting_by, Keeps}
 use Rattle.av_fault.specs.Fault.{stop_of}
 
@@ -25,6 +26,7 @@ use Rattle.av_fault.specs.Fault.{stop_of}
 -- the answer of an access that stopped
 abbrev pub answer_of : Stop → ℕ → List ℕ → Answer
 answer_of Segv k shown = answers.Segv k shown
+answer_of Bus k shown = answers.Bus k shown
 answer_of (Oom out) k shown = answers.Oom k out shown
 
 -- the answer of an access by how it ended: this one where it was whole
@@ -52,7 +54,7 @@ IsEnd a n None k end = (end ≡ Whole) × (k ≡ n)
 IsEnd a n (Some stop) k end =
     (page : ℕ) × (end ≡ Stopped page (stop_of stop)) × (k ≡ bytes_before a page) × (k < n)
 
--- the memories after a write of these bytes, and after a read
+-- the memories after a write of these bytes, and after a read, where these are after the loads
 abbrev pub world_served : Bool → ℕ → ℕ → List ℕ → World → World
 world_served true p a bytes w = after_write w p a bytes
 world_served false p a bytes w = w
@@ -68,10 +70,17 @@ pub record IsAccess (d d' : Device) (s : State) (new : Mem) (write : Bool) (p a 
       events end
   pub is_end : IsEnd a n stop k end
   pub next : State
-  pub world : next.world ≡ world_served write p a bytes s.world
+  pub world : next.world
+      ≡ world_served write p a bytes (with_loads (setting_by d new) s.world s.ledger events)
   pub ledger : next.ledger ≡ after_all s.ledger events
   pub free : ChoosesAll (setting_by d new) None s.ledger events s.free next.free
   pub rmap : rmap_of next ≡ rmap_after_all s.ledger events (rmap_of s)
   pub keeps : Keeps d' new next
   pub same : IsSameDevice d d'
   pub faults : RoseBy (causes_of_access (notes_of events) stop) d.faults d'.faults
+
+-- a read of n bytes, which shows the k that were served as they are after all its loads
+pub record IsRead (d d' : Device) (s : State) (new : Mem) (p a n : ℕ) (before now : List Note)
+    (stop : Option Stop) (k : ℕ) (shown : List ℕ) : Type 0 where
+  pub access : IsAccess d d' s new false p a n [] before now stop k
+  pub reads : Reads (pages access.next.world p) a k shown

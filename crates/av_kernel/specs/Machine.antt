@@ -2,8 +2,8 @@
 use Rattle.std.specs.Prelude.{◌≡◌, ℕ, Bool, false, List, Option, refl, slice_get}
 use Rattle.std.specs.Coded.{Coded, code_by, coded×, coded_ℕ, coded_bool, coded_list}
 use Rattle.av_mem.specs.declared.mem.Mem.{Mem}
+use Rattle.av_mem.specs.Mem.{IsSteadyAt}
 use Rattle.av_kernel.specs.declared.tally.Tally.{Tally}
-use Rattle.av_kernel.specs.Step.{IsSteadyAt}
 use Rattle.av_kernel.specs.Tally.{IsAtMost}
 
 pub record Machine : Type 0 where

@@ -13,7 +13,9 @@ use Rattle.av_plain.specs.Report.{AreApart}
 use Rattle.av_plain.specs.Stands.{prot_of}
 use Rattle.av_mem.specs.declared.mem.Mem.{Mem}
 use Rattle.av_mem.specs.Mem.{view, ranges_of}
+use Rattle.av_mem.specs.Steps.{KeepsSwap}
 use Rattle.av_mem.specs.Zap.{HasZapped}
+use Rattle.av_trace.specs.declared.note.Note.{Note}
 
 -- the n pages from `from` on have this protection, or are not mapped
 abbrev pub set_on : ℕ → ℕ → Option Prot → (ℕ → Option Prot) → ℕ → Option Prot
@@ -39,10 +41,11 @@ HomesStay old new p from n = (page : ℕ) (home : ℕ × ℕ) → within from n 
     → home_of page (pages_of old p page) ≡ Some home
     → home_of page (pages_of new p page) ≡ Some home
 
--- the n pages of p from one on have gone, with their entries, by these events; its areas are these
+-- the n pages of p from one on have gone, with their entries, by these events, whose notes were
+-- added; its areas are these
 pub record AreUnmapped (d : Device) (old new : Mem) (p page n : ℕ) (on : Pages) (l : Ledger)
-    (events : List Event) : Type 0 where
-  pub taken : HasZapped d old new l events
+    (events : List Event) (before now : List Note) : Type 0 where
+  pub taken : HasZapped d old new l events before now
   pub spaces : GetsProts old.spaces.processes new.spaces.processes p
       (set_on page n None (prot_of (ranges_of old.spaces.processes p)))
   pub areas : GetsAreas old.spaces.processes new.spaces.processes p on
@@ -51,3 +54,4 @@ pub record AreUnmapped (d : Device) (old new : Mem) (p page n : ℕ) (on : Pages
   pub bytes : (view new).bytes ≡ (view old).bytes
   pub homes : (view new).homes ≡ (view old).homes
   pub stay : HomesStay old.spaces.processes new.spaces.processes p page n
+  pub swap : KeepsSwap old new

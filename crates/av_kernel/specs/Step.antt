@@ -11,7 +11,7 @@ use Rattle.av_plain.specs.Step.{causes}
 use Rattle.av_plain.specs.Transcript.{State, IsStep}
 use Rattle.av_spaces.specs.Spaces.{areas_of}
 use Rattle.av_mem.specs.declared.mem.Mem.{Mem}
-use Rattle.av_mem.specs.Mem.{setting_by, frame_count, Keeps}
+use Rattle.av_mem.specs.Mem.{setting_by, frame_count, IsSteadyAt, Keeps}
 use Rattle.av_kernel.specs.declared.refusal.Refusal.{Refusal}
 use Rattle.av_kernel.specs.declared.refusal.Refusal.TheVariants.{Refused, Memory}
 
@@ -41,11 +41,8 @@ abbrev pub seen_by : {D : Type 0} → (D → ℕ → Option ℕ) → (D → Opti
     → D → Device
 seen_by sizes pages faults d = device_by (sizes d) (pages d) (faults d)
 
--- over some device with these sizes the memory system stands for something
-abbrev pub IsSteadyAt : (ℕ → Option ℕ) → Mem → Type 0
-IsSteadyAt sizes k = (d : Device) × (d.sizes ≡ sizes) × (s : State) × Keeps d k s
-
--- and a process lives in it
+-- over some device with these sizes the memory system stands for something, in which the process
+-- lives
 abbrev pub IsSteadyFor : (ℕ → Option ℕ) → ℕ → Mem → Type 0
 IsSteadyFor sizes p k = IsSteadyAt sizes k × (is_some (areas_of k.spaces.processes p) ≡ true)
 

@@ -1,13 +1,11 @@
 //! Reads and writes, page by page.
 
-ghost use Rattle.std.specs.Prelude.{◌≡◌, ◌<◌, [], true, false, length, take, IfOk};
+ghost use Rattle.std.specs.Prelude.{◌≡◌, ◌<◌, [], true, length, take, IfOk};
 ghost use Rattle.av_plain.specs.Device.{IsSameDevice};
 ghost use Rattle.av_plain.specs.Transcript.{State};
-ghost use Rattle.av_plain.specs.Access.{Reads};
-ghost use Rattle.av_plain.specs.World.{pages};
-ghost use Rattle.av_mem.specs.Mem.{frame_count, Keeps};
-ghost use Rattle.av_kernel.specs.Step.{Does, IsSteadyAt, IsSteadyFor, reply_in, seen_by};
-ghost use Rattle.av_kernel.specs.Access.{IsPiece, IsAccess, answer_at, answer_of};
+ghost use Rattle.av_mem.specs.Mem.{frame_count, Keeps, IsSteadyAt};
+ghost use Rattle.av_kernel.specs.Step.{Does, IsSteadyFor, reply_in, seen_by};
+ghost use Rattle.av_kernel.specs.Access.{IsPiece, IsAccess, IsRead, answer_at, answer_of};
 ghost use Rattle.av_trace.specs.Reply.{IsCleared};
 ghost use Rattle.av_trace.specs.declared.command.Command.TheVariants as commands;
 ghost use Rattle.av_trace.specs.declared.reply.Answer.TheVariants as answers;
@@ -104,10 +102,8 @@ fn read_pieces<D: SwapDev>(
     requires fresh { shown.old ≡ [] }
     ensures access { let d = seen_by D.sizes D.pages D.faults in (s : State)
         → Keeps (d dev.old) mem.old s → IfOk result (λ ended.
-        IsAccess (d dev.old) (d dev.new) s mem.new false process address len []
-        notes.old notes.new ended.stop ended.served) }
-    ensures reads { (s : State) → Keeps (seen_by D.sizes D.pages D.faults dev.old) mem.old s
-        → IfOk result (λ ended. Reads (pages s.world process) address ended.served shown.new) }
+        IsRead (d dev.old) (d dev.new) s mem.new process address len
+        notes.old notes.new ended.stop ended.served shown.new) }
     ensures steady { IfOk result (λ ended. IsSteadyFor (D.sizes dev.old) process mem.new) }
     ensures same { let d = seen_by D.sizes D.pages D.faults in
         IsSameDevice (d dev.old) (d dev.new) }
@@ -212,6 +208,10 @@ fn stop_answer(stop: Stop, served: usize, shown: Bytes) -> Answer
 {
     match stop {
         Stop::Segv => Answer::Segv {
+            served: served as u64,
+            shown,
+        },
+        Stop::Bus => Answer::Bus {
             served: served as u64,
             shown,
         },

@@ -18,6 +18,7 @@ use av_lru::Lru;
 use av_mem::Mem;
 use av_pagetable::{PageTable, Tables};
 use av_spaces::Spaces;
+use av_swapcache::Swap;
 use av_swapdev::SwapDev;
 use av_text::Bytes;
 use av_trace::{Command, Reply};
@@ -173,6 +174,13 @@ impl Kernel {
         ensures { result.now ≡ self.now.mem.anons }
     {
         &self.mem.anons
+    }
+
+    /// The swap areas that are on, with the swap cache.
+    pub fn swap(&self) -> &Swap
+        ensures { result.now ≡ self.now.mem.swap }
+    {
+        &self.mem.swap
     }
 
     /// How many commands were answered.

@@ -22,7 +22,7 @@ use crate::refusal::Refusal;
 use av_base::{PAGE_SIZE, Prot};
 use av_mem::{Mem, zap_range};
 use av_place::{check_protect, find_place, is_no_range, is_too_long};
-use av_trace::{Answer, Errno, Place, Reply};
+use av_trace::{Answer, Errno, Notes, Place, Reply};
 use std::alloc::AllocError;
 
 /// Does an `mmap`: the pages are zeros. At a fixed place they replace what stands there.
@@ -48,7 +48,7 @@ pub fn mmap(
     }
     let pages = len.div_ceil(PAGE_SIZE);
     let page = find_place(&mem.spaces, process, pages, place)?;
-    make_room(mem, process, page, pages, place)?;
+    make_room(mem, process, page, pages, place, &mut reply.notes)?;
     mem.spaces.map(&mut mem.anons, process, page, pages, prot)?;
     answer_with(reply, Answer::MapAt(PAGE_SIZE * page));
     Ok(())
@@ -72,7 +72,8 @@ pub fn munmap(
     if is_no_range(address, len) {
         return Err(Refusal::Refused(Errno::Einval));
     }
-    unmap_pages(mem, process, address / PAGE_SIZE, len.div_ceil(PAGE_SIZE))?;
+    let (page, pages) = (address / PAGE_SIZE, len.div_ceil(PAGE_SIZE));
+    unmap_pages(mem, process, page, pages, &mut reply.notes)?;
     answer_with(reply, Answer::Done);
     Ok(())
 }
@@ -113,6 +114,7 @@ fn make_room(
     page: u64,
     pages: u64,
     place: Place,
+    notes: &mut Notes,
 ) -> Result<(), AllocError>
     requires steady { IsSteady mem.old }
     requires lives { is_some (areas_of mem.old.spaces.processes process) ≡ true }
@@ -121,26 +123,33 @@ fn make_room(
     ensures unmapped { (d : Device) (l : Ledger) → HasLedger d mem.old l → OnOk result
         (AreUnmapped d mem.old mem.new process page pages
         (with_room pages place (pages_of mem.old.spaces.processes process)) l
-        (zaps_for_place l process pages place)) }
+        (zaps_for_place l process pages place) notes.old notes.new) }
     ensures count { frame_count mem.new ≡ frame_count mem.old }
 {
     match place {
-        Place::Fixed(_) => unmap_pages(mem, process, page, pages),
+        Place::Fixed(_) => unmap_pages(mem, process, page, pages, notes),
         _ => Ok(()),
     }
 }
 
-/// Takes away pages of a process that lives, with their entries.
-fn unmap_pages(mem: &mut Mem, process: u16, page: u64, pages: u64) -> Result<(), AllocError>
+/// Takes away pages of a process that lives, with their entries, and adds the notes of the slots
+/// that were dropped.
+fn unmap_pages(
+    mem: &mut Mem,
+    process: u16,
+    page: u64,
+    pages: u64,
+    notes: &mut Notes,
+) -> Result<(), AllocError>
     requires steady { IsSteady mem.old }
     requires lives { is_some (areas_of mem.old.spaces.processes process) ≡ true }
     requires high { page + pages ≤ top_page }
     ensures unmapped { (d : Device) (l : Ledger) → HasLedger d mem.old l → OnOk result
         (AreUnmapped d mem.old mem.new process page pages
         (after_unmap page (page + pages) (pages_of mem.old.spaces.processes process)) l
-        (zaps_of l (keys_in l process page pages))) }
+        (zaps_of l (keys_in l process page pages)) notes.old notes.new) }
     ensures count { frame_count mem.new ≡ frame_count mem.old }
 {
-    zap_range(mem, process, page, page + pages);
+    zap_range(mem, process, page, page + pages, notes)?;
     mem.spaces.unmap(&mut mem.anons, process, page, pages)
 }

@@ -38,7 +38,7 @@ pub fn mremap(
     check_indices(&mem.spaces, process, from, pages, new_pages)?;
     let left = prot_left(&mem.spaces, process, from, mode);
     remap_areas(mem, process, from, pages, to, new_pages, left)?;
-    remap_entries(mem, process, from, pages, to, new_pages)?;
+    remap_entries(mem, process, from, pages, to, new_pages, &mut reply.notes)?;
     answer_with(reply, Answer::MapAt(PAGE_SIZE * to));
     Ok(())
 }

@@ -1,12 +1,12 @@
 //! Reads and writes of a piece of one page.
 
-ghost use Rattle.std.specs.Prelude.{◌≡◌, ◌+◌, ◌^◌, ◌<◌, ◌≤◌, [], length, true, false, replicate, ◌++◌, IfOk, OnOk};
+ghost use Rattle.std.specs.Prelude.{◌≡◌, ◌+◌, ◌^◌, ◌<◌, ◌≤◌, length, true, replicate, ◌++◌, IfOk, OnOk};
 ghost use Rattle.std.specs.List.{AllByRecursion};
 ghost use Rattle.av_base.specs.Page.{page_size};
 ghost use Rattle.av_plain.specs.Device.{IsSameDevice};
 ghost use Rattle.av_plain.specs.Transcript.{State};
 ghost use Rattle.av_mem.specs.Mem.{frame_count, Keeps};
-ghost use Rattle.av_kernel.specs.Page.{IsPageStep, ShowsPiece};
+ghost use Rattle.av_kernel.specs.Page.{IsPageStep, IsPageRead};
 ghost use Rattle.av_kernel.specs.Step.{IsSteadyFor, seen_by};
 
 use av_base::PAGE_SIZE;
@@ -39,7 +39,7 @@ pub fn write_page<D: SwapDev>(
         IsSameDevice (d dev.old) (d dev.new) }
     ensures count { frame_count mem.new ≡ frame_count mem.old }
 {
-    match touch(mem, process, page, true, notes)? {
+    match touch(mem, dev, process, page, true, notes)? {
         Touched::Ready(frame) => {
             mem.frames.write_at(frame, at, piece);
             Ok(None)
@@ -65,16 +65,14 @@ pub fn read_page<D: SwapDev>(
     requires fits { at + len ≤ page_size }
     ensures step { let d = seen_by D.sizes D.pages D.faults in (s : State)
         → Keeps (d dev.old) mem.old s → IfOk result
-        (IsPageStep (d dev.old) (d dev.new) s mem.new false process page at []
-        notes.old notes.new) }
-    ensures shown { (s : State) → Keeps (seen_by D.sizes D.pages D.faults dev.old) mem.old s
-        → IfOk result (ShowsPiece s.world process page at len shown.old shown.new) }
+        (IsPageRead (d dev.old) (d dev.new) s mem.new process page at len
+        notes.old notes.new shown.old shown.new) }
     ensures steady { IfOk result (λ stop. IsSteadyFor (D.sizes dev.old) process mem.new) }
     ensures same { let d = seen_by D.sizes D.pages D.faults in
         IsSameDevice (d dev.old) (d dev.new) }
     ensures count { frame_count mem.new ≡ frame_count mem.old }
 {
-    match touch(mem, process, page, false, notes)? {
+    match touch(mem, dev, process, page, false, notes)? {
         Touched::Ready(frame) => {
             append_piece(shown, &mem.frames.bytes(frame)[at..at + len])?;
             Ok(None)

@@ -84,14 +84,14 @@ pub fn fork(
 }
 
 /// Does an `exit`: its entries, its page table and its areas go. The frames that no other process
-/// has become free.
+/// has become free, and the slots that nothing uses any more are dropped.
 pub fn exit(mem: &mut Mem, process: u16, reply: &mut Reply) -> Result<(), Refusal>
     requires steady { IsSteady mem.old }
     requires cleared { IsCleared reply.old }
     ensures { DoesBeside mem.old mem.new (commands.Exit process) (reply_in reply.new result) }
 {
     check_lives(mem, process)?;
-    zap_all(mem, process);
+    zap_all(mem, process, &mut reply.notes)?;
     mem.tables.end(process);
     mem.spaces.end(&mut mem.anons, process);
     answer_with(reply, Answer::Done);

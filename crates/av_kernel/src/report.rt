@@ -100,8 +100,8 @@ pub fn entry(mem: &Mem, process: u16, address: u64, reply: &mut Reply) -> Result
     Ok(())
 }
 
-/// Does a `stat`: how many frames there are, are free, and are in each of the two lists, and how
-/// many processes. There is no slot.
+/// Does a `stat`: how many frames there are, are free, and are in each of the two lists, how many
+/// slots are in flight, there are, and are free, and how many processes there are.
 pub fn stat(mem: &Mem, reply: &mut Reply)
     requires steady { IsSteady mem.now }
     requires cleared { IsCleared reply.old }
@@ -112,9 +112,9 @@ pub fn stat(mem: &Mem, reply: &mut Reply)
         free: u64::from(mem.frames.free()),
         active: u64::from(mem.lists.len(Which::Active)),
         inactive: u64::from(mem.lists.len(Which::Inactive)),
-        flight: 0,
-        slots: 0,
-        free_slots: 0,
+        flight: u64::from(mem.swap.flight()),
+        slots: mem.swap.all_slots(),
+        free_slots: mem.swap.all_free_slots(),
         processes: mem.spaces.count() as u64,
     };
     answer_with(reply, Answer::Counted(totals));
@@ -215,7 +215,7 @@ fn check_mapped(mem: &Mem, process: u16, page: u64) -> Result<(), Refusal>
     Ok(())
 }
 
-/// What the entry of a page is; no frame caches a slot.
+/// What the entry of a page is.
 fn entry_answer(mem: &Mem, process: u16, page: u64) -> Answer
     requires { IsSteady mem.now }
     ensures { (d : Device) (s : State) → Keeps d mem.now s
@@ -229,7 +229,10 @@ fn entry_answer(mem: &Mem, process: u16, page: u64) -> Answer
             seen,
             cached: mem.frames.slot(frame),
         },
-        Pte::Away { slot } => Answer::EntrySlot { slot, cached: None },
+        Pte::Away { slot } => Answer::EntrySlot {
+            slot,
+            cached: mem.swap.find(slot),
+        },
     }
 }
 

@@ -6,11 +6,10 @@ ghost use Rattle.av_trace.specs.Reply.{IsCleared};
 ghost use Rattle.av_plain.specs.Step.{uses_device};
 ghost use Rattle.av_plain.specs.Device.{IsSameDevice};
 ghost use Rattle.av_plain.specs.Transcript.{State};
-ghost use Rattle.av_mem.specs.Mem.{frame_count, Keeps, IsSteady};
+ghost use Rattle.av_mem.specs.Mem.{frame_count, Keeps, IsSteady, IsSteadyAt};
 ghost use Rattle.av_kernel.specs.Step.{
   Does,
   DoesBeside,
-  IsSteadyAt,
   MemSteps,
   is_of_pages,
   reply_in,

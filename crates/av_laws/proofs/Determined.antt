@@ -44,11 +44,12 @@ use Rattle.av_laws.proofs.Maps.{one-answer}
 use Rattle.av_laws.proofs.OneSwap.{complete-one, reclaims-one, reports-slot-one, turns-off-one, turns-on-one}
 use Rattle.av_plain.specs.Swapon.{turn_on_events}
 use Rattle.av_laws.proofs.OnePage.{is_lost, touches-one}
-use Rattle.av_laws.proofs.OnePass.{AreDone, chooses-one, chosen-first, done-append, done-is}
+use Rattle.av_laws.proofs.OnePass.{AreDone, chooses-one, done-append, done-is}
 use Rattle.av_plain.proofs.Access.{notes_of-append, notes_of-note_events}
 use Rattle.av_plain.proofs.Refusal.{refused-next}
 use Rattle.av_plain.proofs.Sound.Zap.{pages-ended}
 use Rattle.av_plain.proofs.World.{pages-set}
+use Rattle.av_plain.proofs.Choice.{chosen-first}
 
 -- ---- accesses
 

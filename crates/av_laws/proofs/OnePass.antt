@@ -16,6 +16,7 @@ use Rattle.av_plain.specs.Choice.{AreFresh, AreaSlots, Chooses, ChoosesAll, Choo
 use Rattle.av_laws.specs.Determined.{Tells}
 use Rattle.av_plain.proofs.Access.{note_events-append, note_events-all}
 use Rattle.av_plain.proofs.Ledger.NoSwap.{has_free-some}
+use Rattle.av_plain.proofs.Choice.{chosen-first}
 
 -- ---- notes without a failed write
 
@@ -175,14 +176,6 @@ chooses-one m closing l (e ∷ es) free a b told h i =
     chooses-one m closing (after l e) es i.0 a b told
     (subst (λ x. ChoosesAll m closing (after l e) es x a)
     (chooses-same m closing l e free h.0 i.0 told h.1 i.1) h.2) i.2
-
-pub chosen-first : (m : Setting) (closing : Option ℕ) (l : Ledger) (es fs : List Event)
-    (free free' : Free) → ChoosesAll m closing l (es ++ fs) free free'
-    → (mid : Free) × ChoosesAll m closing l es free mid
-    × ChoosesAll m closing (after_all l es) fs mid free'
-chosen-first m closing l [] fs free free' h = (free, refl, h)
-chosen-first m closing l (e ∷ es) fs free free' h = let rest = chosen-first m closing (after l e) es
-    fs h.0 free' h.2 in (rest.0, (h.0, h.1, rest.1), rest.2)
 
 -- ---- notes whose frames and slots are chosen exactly, and no write of which fails
 

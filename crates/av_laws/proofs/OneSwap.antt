@@ -24,7 +24,8 @@ use Rattle.av_plain.specs.Swapon.{IsByHeader, TurnsOn}
 use Rattle.av_plain.specs.World.{World}
 use Rattle.av_plain.proofs.Access.{notes_of-append, notes_of-note_events}
 use Rattle.av_plain.proofs.Ledger.NoSwap.{has_free-some}
-use Rattle.av_laws.proofs.OnePass.{AreDone, Given, chosen-first, completes-one, done-append, given-is, given-parts, left-one, seeks-one, slot-one, takes-one}
+use Rattle.av_plain.proofs.Choice.{chosen-first}
+use Rattle.av_laws.proofs.OnePass.{AreDone, Given, completes-one, done-append, given-is, given-parts, left-one, seeks-one, slot-one, takes-one}
 
 -- ---- reclaim
 

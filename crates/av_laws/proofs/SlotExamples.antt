@@ -11,9 +11,9 @@ use Rattle.av_laws.specs.Determined.{Tells}
 use Rattle.av_laws.specs.Examples.{slot, with_slots, with_swap}
 use Rattle.av_laws.specs.Slots.{MayBeFresh, MayChoose, MayNotBeFresh, MayNotChoose, cached_and_named, lower_given, lower_in_use, no_slot_yet, none_on, one_put, puts, puts_after_drop, puts_after_fail, puts_after_zap, puts_again, puts_then, puts_when_on_again, slot_at, some_given, some_out, three_in_use, turn_on, two_swaps}
 use Rattle.av_clusters.proofs.Fresh.{length-pages_of}
-use Rattle.av_plain.proofs.Choice.{ChoosesFrames}
+use Rattle.av_plain.proofs.Choice.{ChoosesFrames, chosen-first}
 use Rattle.av_laws.proofs.Choice.{all-chosen, gives_all}
-use Rattle.av_laws.proofs.OnePass.{chooses-one, chosen-first, slot-same}
+use Rattle.av_laws.proofs.OnePass.{chooses-one, slot-same}
 
 -- these events may come, by the frames that are free after them
 may : (m : Setting) (closing : Option ℕ) (l : Ledger) (es : List Event) (free : Free)

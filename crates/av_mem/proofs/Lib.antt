@@ -1,10 +1,19 @@
 pub mod MemLaws
-pub mod Parts
-pub mod ZapEntry
-pub mod ZapFrame
-pub mod ZapFirst
-pub mod ZapRange
-pub mod Groups
-pub mod ZapGroup
 pub mod AnonLaws
+pub mod ReachLaws
+pub mod ServesLaws
 pub mod WalkLaws
+pub mod KeepsLaws
+pub mod StepLaws
+mod CacheLaws
+mod DropLaws
+mod LoadLaws
+mod ChainLaws
+pub mod EntryViews
+pub mod PagesGone
+pub mod ZapRange
+pub mod EntryGoes
+pub mod LetGoLaws
+pub mod Groups
+pub mod ZapLaws
+pub mod SwapSums

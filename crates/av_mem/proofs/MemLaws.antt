@@ -1,12 +1,9 @@
--- The memory system: its view and its areas, with no slot cached; and one with nothing in it stands for no memories.
+-- The memory system: its view and its areas; and one with nothing in it stands for no memories.
 use Rattle.std.proofs.Common.{◌≡◌, ℕ, ◌+◌, ◌-◌, ◌≤◌, ◌↔◌, Bool, true, false, cond, ◌&&◌, ◌==◌, nat_lt, nat_le, List, [], ◌∷◌, Option, Some, None, refl, sym, ap, subst, ◌∙◌, arith, is_some}
 use Rattle.std.proofs.lemmas.Bool.Decides.{nat_tests}
 use Rattle.std.proofs.lemmas.Bool.{false≢true}
 use Rattle.std.specs.Prelude.{IfSome, IsSomeAnd, option_map, length, map, slice_index}
-use Rattle.std.specs.FinMap.Entries.{find as find_key}
 use Rattle.std.specs.List.{find, list_any, range_with_len}
-use Rattle.std.specs.Option.{option_map_or}
-use Rattle.std.specs.Ordering.{nat_cmp}
 use Rattle.av_base.specs.declared.slot.Slot.{Slot}
 use Rattle.av_base.specs.declared.prot.Prot.{Prot}
 use Rattle.av_base.specs.Words.{is_in, within}
@@ -28,18 +25,21 @@ use Rattle.av_anon.proofs.OrderLaws.{order-nobody}
 use Rattle.av_spaces.specs.Kin.{InOrder, IsOwnedIn, chain_by, info_of}
 use Rattle.av_spaces.specs.Spaces.{AllSpaces, Spaces, areas_of, pages_of, is_taken, AreRising, AllRising}
 use Rattle.av_plain.specs.World.{Page, lives}
-use Rattle.av_plain.specs.Ledger.{Ledger, Setting, Entry, Zero as ZeroEntry, InFrame, InSlot, first_ledger, frame_at, free_slots, cached_by, Cached, is_cached, same_slot, slot_count, slot_entries}
-use Rattle.av_plain.specs.Device.{Device, setting_of}
+use Rattle.av_plain.specs.Ledger.{Ledger, Setting, Entry, Zero as ZeroEntry, InFrame, InSlot, first_ledger, frame_at, cached_by, Cached, is_cached, same_slot, slot_count, slot_entries}
+use Rattle.av_plain.specs.Device.{Device, headers_of, setting_of}
 use Rattle.av_plain.specs.Choice.{Free, ListsAll, ListsFree, no_slots}
 use Rattle.av_plain.specs.Report.{AreApart, prot_in, range_of}
-use Rattle.av_plain.specs.Stands.{View, Pte as Plain, SwapStands, entry_of, kin_of, prot_of, Holds, IsKept, IsKeptAt, IsClean}
+use Rattle.av_plain.specs.Stands.{View, Pte as Plain, entry_of, kin_of, prot_of, Holds, IsKept, IsKeptAt, IsClean}
 use Rattle.av_plain.specs.Transcript.{State, at_first}
-use Rattle.av_plain.proofs.Covered.{sound-first}
+use Rattle.av_plain.proofs.Covered.{slots-first, sound-first}
 use Rattle.av_plain.proofs.Ledger.NoSwap.{itself, is_in-numbers}
 use Rattle.av_plain.proofs.FreeFrames.{first-lists_free}
 use Rattle.av_plain.proofs.Sound.{first-sound}
 use Rattle.av_mem.specs.declared.mem.Mem.{Mem}
-use Rattle.av_mem.specs.Mem.{anon_vma, plain, view_of_parts, view, ranges_of, Keeps}
+use Rattle.av_swapcache.specs.Swap.{Store as SwapStore, Shown as ShownSwap, fresh as fresh_swap, header_at, shown as shown_swap}
+use Rattle.av_swapdev.specs.Header.{Layout}
+use Rattle.av_swapdev.specs.declared.header.Header.{Header}
+use Rattle.av_mem.specs.Mem.{AreByHeaders, anon_vma, numbers_of, plain, view_of_parts, view, ranges_of, Keeps}
 
 -- ---- the areas, seen as ranges
 
@@ -109,8 +109,9 @@ all_apart s rising p = by (areas_of s p) (rising p)
 
 -- tables with the same entries are seen alike
 pub view_same : (old new : Mem) → entry_at new.tables ≡ entry_at old.tables → new.frames ≡ old.frames → new.lists ≡ old.lists
-    → new.spaces ≡ old.spaces → new.anons ≡ old.anons → view new ≡ view old
-view_same old new tables frames lists spaces anons = λ i. view_of_parts (shown (frames i)) (lists i) (λ p page. plain (tables i p page)) (spaces i) (anons i)
+    → new.spaces ≡ old.spaces → new.anons ≡ old.anons → new.swap ≡ old.swap → view new ≡ view old
+view_same old new tables frames lists spaces anons swap =
+    λ i. view_of_parts (shown (frames i)) (lists i) (λ p page. plain (tables i p page)) (spaces i) (anons i) (shown_swap (swap i))
 
 pub plain_set : (old new : ℕ → ℕ → Pte) (p page : ℕ) (e : Pte) → new ≡ with_entry p page e old
     → ◌≡◌ {A = ℕ → ℕ → Option Plain} (λ q o. plain (new q o)) (with_entry p page (plain e) (λ q o. plain (old q o)))
@@ -122,10 +123,10 @@ plain_set old new p page e is = λ k q o. (ap (λ f. plain (f q o)) is ∙ pushe
 
 -- an entry has been set
 pub entry_put_in : (old new : Mem) (p page : ℕ) (e : Pte) → entry_at new.tables ≡ with_entry p page e (entry_at old.tables) → new.frames ≡ old.frames →
-    new.lists ≡ old.lists → new.spaces ≡ old.spaces → new.anons ≡ old.anons
+    new.lists ≡ old.lists → new.spaces ≡ old.spaces → new.anons ≡ old.anons → new.swap ≡ old.swap
     → view new ≡ record (view old) { table = with_entry p page (plain e) (view old).table }
-entry_put_in old new p page e is frames lists spaces anons = λ i. view_of_parts (shown (frames i)) (lists i)
-    (plain_set (entry_at old.tables) (entry_at new.tables) p page e is i) (spaces i) (anons i)
+entry_put_in old new p page e is frames lists spaces anons swap = λ i. view_of_parts (shown (frames i)) (lists i)
+    (plain_set (entry_at old.tables) (entry_at new.tables) p page e is i) (spaces i) (anons i) (shown_swap (swap i))
 
 -- ---- no slot is cached
 
@@ -155,25 +156,6 @@ none_used l s none unnamed =
     let cached : is_cached l s ≡ false = ap (list_any (λ (c : Cached). same_slot s c.slot)) none in
     ap (λ b. slot_entries l s + cond b 1 0) cached ∙ (let n : slot_entries l s + 0 ≡ 0 = omega (arith, unnamed) in n)
 
--- what is free, where no area has slots
-abbrev pub frames_free : List ℕ → Free
-frames_free frames = record { frames = frames; slots = no_slots }
-
--- without swap what is free is what the ledger has free
-pub listed : (k : Mem) (m : Setting) (l : Ledger) (frames : List ℕ) → SwapStands (view k) l → ListsFree m l frames → ListsAll m l (frames_free frames)
-listed k m l frames swap free = record {
-  frames = free;
-  slots = record {
-    taken = λ s. sym (ap (nat_lt 0) (unused s));
-    free = λ s is. cc;
-    number = λ a. ap (λ on. option_map_or (λ area. free_slots m l (a, area)) (find_key nat_cmp a on) 0) swap.on;
-    off = λ a is. refl;
-  };
-}
-  where
-    unused : (s : Slot) → slot_count l s ≡ 0
-    unused s = none_used l s (no_cache l swap.finds) (sym (swap.counts s))
-
 -- where no frame caches a slot, its page is kept as it was
 pub slot_kept : (d : Device) (v v' : View) (s : Slot) (p : Option Page) (o o' : Option ℕ) → o ≡ None → o' ≡ None → IsKeptAt v d s p o → IsKeptAt v' d s p o'
 slot_kept d v v' s p None None e e' h = h
@@ -202,15 +184,16 @@ kept-nothing d v l (Some (InSlot s)) = at (frame_at l s)
 
 -- ---- nothing in it
 
-nothing : {A : Type 0} {x : A} → None ≡ Some x → ⊥
-nothing e = cc
+-- what is free, where no area has slots
+abbrev frames_free : List ℕ → Free
+frames_free frames = record { frames = frames; slots = no_slots }
 
-pub fresh-keeps : (d : Device) (frames : Store) (lists : Lists) (tables : ProcessTables) (spaces : AllSpaces) (anons : AnonSet) (n : ℕ) → shown frames ≡ fresh_frames n →
-    lists ≡ record { frames = n; active = []; inactive = [] } →
-    ((p : ℕ) → has tables p ≡ false) → spaces.processes ≡ []
-    → ((number : ℕ) → area_of spaces.areas number ≡ None) → family anons ≡ nobody → ((v : ℕ) → spans_of anons v ≡ [])
-    → Keeps d (record { frames = frames; lists = lists; tables = tables; spaces = spaces; anons = anons }) (at_first (setting_of n d))
-fresh-keeps d frames lists tables spaces anons n is unlisted none empty unused nobodies unspanned = record {
+pub fresh-keeps : (d : Device) (frames : Store) (lists : Lists) (tables : ProcessTables) (spaces : AllSpaces) (anons : AnonSet) (swap : SwapStore) (n : ℕ)
+    → shown frames ≡ fresh_frames n → lists ≡ record { frames = n; active = []; inactive = [] }
+    → ((p : ℕ) → has tables p ≡ false) → spaces.processes ≡ []
+    → ((number : ℕ) → area_of spaces.areas number ≡ None) → family anons ≡ nobody → ((v : ℕ) → spans_of anons v ≡ []) → shown_swap swap ≡ fresh_swap n
+    → Keeps d (record { frames = frames; lists = lists; tables = tables; spaces = spaces; anons = anons; swap = swap }) (at_first (setting_of n d))
+fresh-keeps d frames lists tables spaces anons swap n is unlisted none empty unused nobodies unspanned blank = record {
   stands = record {
     over = record { sizes = refl; headers = refl };
     sound = first-sound m;
@@ -227,9 +210,14 @@ fresh-keeps d frames lists tables spaces anons n is unlisted none empty unused n
         lists = record { active = ap (λ (ls : Lists). ls.active) unlisted; inactive = ap (λ (ls : Lists). ls.inactive) unlisted };
         tables = record {
           entries = λ p page. ap (λ t. entry_of (plain t)) (none_there tables p page (none p));
-          write_bits = λ p page t f there write names. absurd (nothing (ap plain (sym (none_there tables p page (none p))) ∙ there));
+          write_bits = λ p page t f there write names. absurd (clash (ap plain (sym (none_there tables p page (none p))) ∙ there));
         };
-        swap = record { finds = λ s. refl; counts = λ s. refl; flight = refl; on = refl };
+        swap = record {
+          finds = λ s. ap (λ (h : ShownSwap). h.find s) blank;
+          counts = λ s. ap (λ (h : ShownSwap). h.entries s) blank;
+          flight = ap (λ (h : ShownSwap). h.flight) blank;
+          on = ap (λ (h : ShownSwap). map numbers_of h.on) blank;
+        };
       };
       areas = record {
         alive = λ p. ap (λ (s : Spaces). is_some (areas_of s p)) empty;
@@ -240,7 +228,7 @@ fresh-keeps d frames lists tables spaces anons n is unlisted none empty unused n
       bytes = record { kept = λ p page. tt; clean = λ s a b. tt };
       headers = λ k. tt;
     };
-    free = ap (λ (s : Shown). frames_free s.free) is;
+    free = (λ i. record { frames = (is i).free; slots = (blank i).slots });
     lists = none_listed;
     areas = λ p page. ap (λ (s : Spaces). pages_of s p page) empty;
     anons = record {
@@ -250,6 +238,7 @@ fresh-keeps d frames lists tables spaces anons n is unlisted none empty unused n
     };
     homes = λ f. ap (λ (s : Shown). s.home f) is;
     reach = sound-first m;
+    slots = slots-first m;
   };
   lists = ap (λ (ls : Lists). ls.frames) unlisted ∙ sym (ap (λ (s : Shown). s.count) is);
   tables = λ p. none p ∙ sym (ap (λ (s : Spaces). is_some (ranges_of s p)) empty);
@@ -260,13 +249,22 @@ fresh-keeps d frames lists tables spaces anons n is unlisted none empty unused n
     own = λ v h. absurd (subst (λ o. IsSomeAnd o (λ area. area.anon ≡ Some v)) (none_on_page h.0 h.1) h.2);
     active = λ v. subst (λ o. IfSome o (λ i. (1 ≤ i.active) ↔ IsOwnedIn spaces v)) (sym (ap (λ (f : Family). f.info v) nobodies)) tt;
   };
+  swap = record {
+    frames = ap (λ (h : ShownSwap). h.frames) blank ∙ sym (ap (λ (s : Shown). s.count) is);
+    one_priority = λ a. ap (λ (h : ShownSwap). h.priority a) blank;
+    closed = ap (λ (h : ShownSwap). h.closing) blank;
+    on_device = λ a. subst (λ (h : ShownSwap). IfSome (header_at h a) (λ (x : Header). IsSomeAnd (d.sizes a) (λ n. x.pages ≤ n))) (sym blank) tt;
+    by_headers = subst (AreByHeaders (headers_of d)) (sym blank) (unmade (headers_of d));
+    none_on = ap (λ (h : ShownSwap). h.on) blank;
+  };
 }
   where
-    k : Mem
-    k = record { frames = frames; lists = lists; tables = tables; spaces = spaces; anons = anons }
-
     m : Setting
     m = setting_of (shown frames).count d
+
+    unmade : (o : Option (ℕ → Option Layout)) → AreByHeaders o (fresh_swap n)
+    unmade None = tt
+    unmade (Some told) = λ a. tt
 
     in_order : InOrder spaces anons
     in_order = subst (λ (areas : ℕ → Option Area). IsInOrder areas (family anons) (spans_of anons)) (λ i number. sym (unused number) i)
@@ -280,5 +278,7 @@ fresh-keeps d frames lists tables spaces anons n is unlisted none empty unused n
     none_on_page p page = ap (λ (s : Spaces). pages_of s p page) empty
 
     none_listed : ListsAll m first_ledger (frames_free (range_with_len 0 n))
-    none_listed = listed k m first_ledger (range_with_len 0 n) (record { finds = λ s. refl; counts = λ s. refl; flight = refl; on = refl })
-        (subst (λ j. ListsFree m first_ledger (range_with_len 0 j)) (ap (λ (s : Shown). s.count) is) (first-lists_free m))
+    none_listed = record {
+      frames = subst (λ j. ListsFree m first_ledger (range_with_len 0 j)) (ap (λ (s : Shown). s.count) is) (first-lists_free m);
+      slots = record { taken = λ s. refl; free = λ s is. cc; number = λ a. refl; off = λ a is. refl };
+    }

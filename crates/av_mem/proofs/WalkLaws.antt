@@ -1,42 +1,28 @@
 -- What a walk needs holds of whatever the memory system stands for, and what it finds is the ledger's walk.
-use Rattle.std.proofs.Common.{◌≡◌, ℕ, ◌<◌, ◌≤◌, Bool, true, false, cond, ◌||◌, T, List, [], ◌∷◌, length, map, filter, Option, Some, None, is_some, option_map, Result, Ok, Err, IfSome, IsSomeAnd, refl, sym, ap, subst, ◌∙◌, arith}
+use Rattle.std.proofs.Common.{◌≡◌, ℕ, ◌<◌, ◌≤◌, Bool, true, false, cond, ◌||◌, T, List, [], ◌∷◌, length, map, filter, Option, Some, None, is_some, Result, Ok, Err, refl, sym, ap, ◌∙◌, arith}
 use Rattle.std.specs.Prelude.{IfOk, OnOk}
 use Rattle.std.proofs.lemmas.Bool.{false≢true}
 use Rattle.std.proofs.lemmas.Bool.Decides.{nat_tests}
 use Rattle.std.specs.List.{AllByRecursion, list_any}
 use Rattle.std.specs.FinMap.Entries.{below_all, is_sorted}
 use Rattle.std.specs.Ordering.{is_lt}
-use Rattle.std.specs.Option.{option_map_or}
 use Rattle.av_base.specs.Limits.{top_page}
-use Rattle.av_base.specs.Words.{how_many, is_in}
 use Rattle.av_chain.specs.Links.{one_if}
 use Rattle.av_vma.specs.declared.area.Area.{Area}
 use Rattle.av_vma.specs.Areas.{area_of}
-use Rattle.av_vma.specs.Join.{index_of}
-use Rattle.av_pagetable.specs.declared.pte.Pte.{Pte}
-use Rattle.av_pagetable.specs.declared.pte.Pte.TheVariants.{Empty, Zero, Here, Away}
 use Rattle.av_pagetable.specs.Entries.{entry_at}
-use Rattle.av_anon.specs.declared.infos.Info.{Info}
-use Rattle.av_anon.specs.Anons.{family, own_of}
+use Rattle.av_anon.specs.Anons.{family}
 use Rattle.av_anon.specs.Spans.{spans_of}
-use Rattle.av_anon.proofs.KinLaws.{chain_by-is}
-use Rattle.av_spaces.specs.Spaces.{AllRising, AreNumbered, IsNumber, pages_of}
+use Rattle.av_spaces.specs.Spaces.{AllRising, AreNumbered, pages_of}
 use Rattle.av_spaces.proofs.Rising.{laid}
-use Rattle.av_spaces.specs.Kin as in_spaces
-use Rattle.av_spaces.specs.Kin.{info_of}
 use Rattle.av_rmap.specs.View.{AreApart, AreSpanned, View as Reach, view_with}
-use Rattle.av_rmap.specs.Covered.{IsCoveredFrom, IsReached}
 use Rattle.av_rmap.specs.Sorted.{AreRising, IsBefore}
 use Rattle.av_rmap.specs.Walk.{AreItsEntries, Key, looks_from, names_frame, same_key}
-use Rattle.av_interval.specs.Search.{overlaps}
 use Rattle.av_rmap.proofs.Counting.{keys-as-long}
 use Rattle.av_rmap.proofs.LinkedAreas.{spans-are-areas}
 use Rattle.av_rmap.proofs.SortedLemmas.{below-before, once-there, rising-same}
-use Rattle.av_plain.specs.Areas.{AnonVma, chain_by}
-use Rattle.av_plain.specs.Covered.{IsReached as IsReachedAt}
 use Rattle.av_plain.specs.Device.{Device}
 use Rattle.av_plain.specs.Ledger.{Entry, entry, key_cmp, names_frame as names, walk}
-use Rattle.av_plain.specs.Stands.{entry_of}
 use Rattle.av_plain.specs.World.{pages}
 use Rattle.av_plain.specs.Transcript.{State, rmap_of}
 use Rattle.av_plain.proofs.Ledger.{same_key as same_key_by}
@@ -44,9 +30,11 @@ use Rattle.av_plain.proofs.Ledger.NoSwap.{key_is}
 use Rattle.av_plain.proofs.Ledger.Order.{both_first, both_second}
 use Rattle.av_plain.proofs.Ledger.Walk.{all-walked, length-walk, passes, walk-has}
 use Rattle.av_mem.specs.declared.mem.Mem.{Mem}
-use Rattle.av_mem.specs.Mem.{Keeps, anon_vma, anons_of, plain, view}
+use Rattle.av_mem.specs.Mem.{Keeps, view}
+use Rattle.av_mem.specs.Chains.{AreReached, reach}
 use Rattle.av_mem.specs.Walk.{areas_at}
 use Rattle.av_mem.proofs.MemLaws.{mapped_is, taken_has}
+use Rattle.av_mem.proofs.ReachLaws.{Reaches, are-reached, names-there as names-there-by, reaches-kept}
 
 -- ---- the walk of the ledger rises
 
@@ -77,28 +65,15 @@ keys-rise p (e ∷ es) h = by (p e.1) (keys-rise p es (both_second _ _ h))
 
 -- ---- an entry in both words
 
-names-are : (f : ℕ) (t : Pte) → names_frame f t ≡ passes (names f) (entry_of (plain t))
-names-are f Empty = refl
-names-are f Zero = refl
-names-are f (Here g write seen) = refl
-names-are f (Away slot) = refl
-
 any-same : (k : Key) (ks : List Key) → list_any (same_key k) ks ≡ list_any (same_key_by k) ks
 any-same k [] = refl
 any-same k (j ∷ js) = ap (λ b. b || list_any (same_key k) js) (sym (key_is k.0 k.1 j.0 j.1)) ∙ ap (λ b. same_key_by k j || b) (any-same k js)
-
-passes-some : (f : ℕ) (o : Option Entry) → passes (names f) o ≡ true → IsSomeAnd o (λ e. names f e ≡ true)
-passes-some f None h = absurd (false≢true h)
-passes-some f (Some e) h = h
 
 -- ---- the premises of a walk
 
 -- what a walk reads of the memory system, with these areas by number
 abbrev pub reach_by : Mem → List (Option Area) → Reach
 reach_by k areas = view_with (area_of areas) (family k.anons) (spans_of k.anons) (entry_at k.tables)
-
-abbrev pub reach : Mem → Reach
-reach k = reach_by k k.spaces.areas
 
 module _ (d : Device) (k : Mem) (s : State) (keeps : Keeps d k s) where
   pub spanned : AreSpanned (reach k)
@@ -108,64 +83,15 @@ module _ (d : Device) (k : Mem) (s : State) (keeps : Keeps d k s) where
   apart numbered a b page A B is also same here there = numbered.apart A.pid page a b A B
       (record { at = is; process = refl; here = here }) (record { at = also; process = sym same; here = there })
 
-  -- an entry names the frame where the ledger's does
+  reaching : Reaches k (rmap_of s) s.ledger
+  reaching = reaches-kept d k s keeps
+
   names-there : (f : ℕ) (q : Key) → names_frame f (entry_at k.tables q.0 q.1) ≡ passes (names f) (entry s.ledger q)
-  names-there f q = names-are f (entry_at k.tables q.0 q.1) ∙ ap (passes (names f)) (keeps.stands.parts.ledger.tables.entries q.0 q.1)
-
-  -- a link that the definitions say is one of the area's chain
-  linked_is : (p page v n : ℕ) (A : Area) → IsNumber k.spaces p page A n → s.areas p page ≡ Some A
-      → is_in v (chain_by s.anons A.anon) ≡ true → is_in v ((family k.anons).chain n) ≡ true
-  linked_is p page v n A is on linked = of_own A.anon refl (ap (is_in v)
-      (subst (λ o. IfSome o (λ area. chain_by (anons_of k.spaces k.anons) area.anon ≡ chain_by s.anons area.anon)) on (keeps.stands.anons.chains p page))
-      ∙ linked)
-    where
-      of_info : (own : ℕ) (o : Option Info) → is_in v (option_map_or (λ (x : AnonVma). x.chain)
-          (option_map (anon_vma (in_spaces.chain_by k.spaces k.anons (Some own))) o) []) ≡ true
-          → is_in v (in_spaces.chain_by k.spaces k.anons (Some own)) ≡ true
-      of_info own None h = absurd (false≢true h)
-      of_info own (Some i) h = h
-
-      of_own : (own : Option ℕ) → A.anon ≡ own → is_in v (chain_by (anons_of k.spaces k.anons) own) ≡ true → is_in v ((family k.anons).chain n) ≡ true
-      of_own None e h = absurd (false≢true h)
-      of_own (Some own) e h =
-          ap (is_in v) (sym (chain_by-is (area_of k.spaces.areas) (family k.anons) (spans_of k.anons) n own keeps.anons.order (ap own_of is.at ∙ e)))
-          ∙ of_info own (info_of k.anons own) h
-
-  reached : AreNumbered k.spaces → (home : ℕ × ℕ) (p page : ℕ) → IsReachedAt (rmap_of s) (p, page) home → IsReached (reach k) home p page
-  reached numbered home p page h = by (s.areas p page) refl h
-    where
-      by : (o : Option Area) → s.areas p page ≡ o → IsSomeAnd o (λ area. (is_in home.0 (chain_by s.anons area.anon) ≡ true) × (index_of area page ≡ home.1)) →
-          IsReached (reach k) home p page
-      by None on h = absurd h
-      by (Some A) on h =
-          let n = numbered.numbers p page A (keeps.stands.areas p page ∙ on) in
-          record {
-            number = n.0;
-            area = A;
-            stands = n.1.at;
-            of = n.1.process;
-            here = n.1.here;
-            linked = linked_is p page home.0 n.0 A n.1 on h.0;
-            index = h.1;
-          }
-
-  -- where an entry names the frame, the frame has a home from which it is reached
-  covers : (f : ℕ) (q : Key) → names_frame f (entry_at k.tables q.0 q.1) ≡ true → IsSomeAnd ((view k).homes f) (IsReachedAt (rmap_of s) q)
-  covers f q named = subst (λ o. IsSomeAnd o (IsReachedAt (rmap_of s) q)) (sym (keeps.stands.homes f))
-      (keeps.stands.reach.covered q f (passes-some f (entry s.ledger q) (sym (names-there f q) ∙ named)))
+  names-there = names-there-by k (rmap_of s) s.ledger reaching
 
   -- from its home each of the frame's entries is reached; without one it has none
-  pub covered : AreNumbered k.spaces → (f : ℕ) → IsCoveredFrom (reach k) f ((view k).homes f)
-  covered numbered f = by ((view k).homes f) refl
-    where
-      unnamed : (view k).homes f ≡ None → (p page : ℕ) (b : Bool) → names_frame f (entry_at k.tables p page) ≡ b → b ≡ false
-      unnamed homeless p page false e = refl
-      unnamed homeless p page true e = absurd (subst (λ o. IsSomeAnd o (IsReachedAt (rmap_of s) (p, page))) homeless (covers f (p, page) e))
-
-      by : (o : Option (ℕ × ℕ)) → (view k).homes f ≡ o → IsCoveredFrom (reach k) f o
-      by None is = λ p page. unnamed is p page (names_frame f (entry_at k.tables p page)) refl
-      by (Some home) is = λ p page named. reached numbered home p page
-          (subst (λ o. IsSomeAnd o (IsReachedAt (rmap_of s) (p, page))) is (covers f (p, page) named))
+  pub covered : AreNumbered k.spaces → (f : ℕ) → AreReached k f
+  covered = are-reached k (rmap_of s) s.ledger reaching
 
   -- ---- what it finds
 

@@ -1,20 +1,23 @@
 -- The memory system over a device: its view, put together from what its parts are seen as, and what
 -- it stands for.
-use Rattle.std.specs.Prelude.{◌≡◌, ℕ, false, List, [], length, map, Option, Some, None, is_some, option_map, T}
-use Rattle.std.specs.FinMap.Entries.{is_sorted}
+use Rattle.std.specs.Prelude.{◌≡◌, ℕ, ◌<◌, pos, not, false, List, [], length, map, Option, Some, None, IfSome, IsSomeAnd, is_some, option_map}
 use Rattle.av_plain.specs.World.{World}
-use Rattle.av_plain.specs.Ledger.{Ledger, Setting, Zero as ZeroEntry, InFrame, InSlot, key_cmp}
+use Rattle.av_plain.specs.Ledger.{Ledger, Setting, SwapArea, Zero as ZeroEntry, InFrame, InSlot, is_header_slot}
 use Rattle.av_plain.specs.Transcript.{State}
-use Rattle.av_plain.specs.Sound.{IsSound, AtPages}
-use Rattle.av_plain.specs.Device.{Device, setting_of}
+use Rattle.av_plain.specs.Sound.{IsSound, AreThere, AreasFit, AtPages, IsTidy}
+use Rattle.av_plain.specs.Device.{Device, device_by, headers_of, setting_of}
 use Rattle.av_anon.specs.declared.anons.Anons.{Anons as AnonSet}
 use Rattle.av_anon.specs.declared.infos.Info.{Info}
-use Rattle.av_plain.specs.Areas.{AnonVma, Anons}
-use Rattle.av_plain.specs.Choice.{no_slots}
+use Rattle.av_plain.specs.Areas.{AnonVma, Anons, Rmap}
+use Rattle.av_plain.specs.Choice.{ListsAll}
 use Rattle.av_plain.specs.Report.{Range, range_of}
-use Rattle.av_plain.specs.Stands.{View, Pte as Plain, Stands, LedgerStands, PartsStand}
+use Rattle.av_plain.specs.Stands.{View, Pte as Plain, AnonsStand, AreasAre, AreasStand, Stands, LedgerStands, free_of}
 use Rattle.av_frames.specs.Store.{Shown, shown}
 use Rattle.av_lru.specs.Lists.{Lists}
+use Rattle.av_swap_laws.specs.Held.{Held, IsHeld}
+use Rattle.av_swapcache.specs.Swap.{HasAreas, Shown as ShownSwap, header_at, shown as shown_swap}
+use Rattle.av_swapdev.specs.Header.{Layout}
+use Rattle.av_swapdev.specs.declared.header.Header.{Header}
 use Rattle.av_pagetable.specs.declared.pte.Pte.{Pte}
 use Rattle.av_pagetable.specs.declared.pte.Pte.TheVariants.{Empty, Zero, Here, Away}
 use Rattle.av_pagetable.specs.Entries.{entry_at, has}
@@ -44,9 +47,14 @@ anons_of s anons = record {
   anon = λ v. option_map (anon_vma (chain_by s anons (Some v))) (info_of anons v);
 }
 
--- the view of frames with their lists, entries, areas and anon_vmas; no swap area is on
-abbrev pub view_of_parts : Shown → Lists → (ℕ → ℕ → Option Plain) → AllSpaces → AnonSet → View
-view_of_parts frames lists table spaces anons = record {
+-- the numbers of a header that a ledger keeps
+abbrev pub numbers_of : ℕ × Header → ℕ × SwapArea
+numbers_of a = (a.0, record { slots = a.1.slots; bad = a.1.bad })
+
+-- the view of frames with their lists, entries, areas, anon_vmas and swap areas
+abbrev pub view_of_parts :
+    Shown → Lists → (ℕ → ℕ → Option Plain) → AllSpaces → AnonSet → ShownSwap → View
+view_of_parts frames lists table spaces anons swap = record {
   frames = frames.count;
   bytes = frames.bytes;
   maps = frames.maps;
@@ -60,16 +68,16 @@ view_of_parts frames lists table spaces anons = record {
   processes = length spaces.processes;
   areas = areas_of spaces.processes;
   anons = anons_of spaces anons;
-  find = λ s. None;
-  entries = λ s. 0;
-  flight = [];
-  on = [];
-  slots = no_slots;
+  find = swap.find;
+  entries = swap.entries;
+  flight = swap.flight;
+  on = map numbers_of swap.on;
+  slots = swap.slots;
 }
 
 abbrev pub view : Mem → View
 view k = view_of_parts (shown k.frames) k.lists (λ p page. plain (entry_at k.tables p page))
-    k.spaces k.anons
+    k.spaces k.anons (shown_swap k.swap)
 
 -- how many frames there are
 abbrev pub frame_count : Mem → ℕ
@@ -83,9 +91,36 @@ setting_by d k = setting_of (frame_count k) d
 abbrev pub HasLists : Mem → Type 0
 HasLists k = k.lists.frames ≡ frame_count k
 
+-- there is room in the swap cache for as many frames as there are
+abbrev pub HasRoom : Mem → Type 0
+HasRoom k = (shown_swap k.swap).frames ≡ frame_count k
+
 -- a process has a table exactly where it has areas
 abbrev pub HasTables : Mem → Type 0
 HasTables k = (p : ℕ) → has k.tables p ≡ is_some (ranges_of k.spaces.processes p)
+
+-- the pages, slots and bad pages that are kept of a swap area are those of its header
+pub record AgreesWith (swap : ShownSwap) (k : ℕ) (header : Header) (layout : Layout) : Type 0 where
+  pub pages : header.pages ≡ layout.pages
+  pub slots : (page : ℕ) → page < header.pages
+      → is_header_slot (record { area = k; page = page }) (Some layout)
+      ≡ not (swap.bad (record { area = k; page = page }))
+
+-- so it is of each that is on, where headers are told
+abbrev pub AreByHeaders : Option (ℕ → Option Layout) → ShownSwap → Type 0
+AreByHeaders headers swap = IfSome headers (λ told. (k : ℕ) → IfSome (header_at swap k)
+    (λ header. IsSomeAnd (told k) (AgreesWith swap k header)))
+
+-- there is room in the swap cache for as many frames as there are; the swap areas that are on have
+-- one priority, and their pages are on the device, by its headers; this one is closing, if any is;
+-- and none is on, since no command turns one on yet
+pub record SwapFits (d : Device) (closing : Option ℕ) (k : Mem) : Type 0 where
+  pub frames : HasRoom k
+  pub one_priority : (a : ℕ) → (shown_swap k.swap).priority a ≡ pos 0
+  pub closed : (shown_swap k.swap).closing ≡ closing
+  pub on_device : HasAreas d.sizes (shown_swap k.swap)
+  pub by_headers : AreByHeaders (headers_of d) (shown_swap k.swap)
+  pub none_on : (shown_swap k.swap).on ≡ []
 
 -- the memory system over this device stands for the memories, the ledger, what is free, the areas,
 -- the anon_vmas, among which there is chain order, and the homes
@@ -94,33 +129,55 @@ pub record Keeps (d : Device) (k : Mem) (s : State) : Type 0 where
   pub lists : HasLists k
   pub tables : HasTables k
   pub anons : AnonsFit k.spaces k.anons
+  pub swap : SwapFits d None k
 
 -- it stands for some, over some device
 abbrev pub IsSteady : Mem → Type 0
 IsSteady k = (d : Device) × (s : State) × Keeps d k s
 
+-- over some device with these sizes that doesn't tell its pages: so much stands whatever others do
+-- to the pages
+abbrev pub IsSteadyAt : (ℕ → Option ℕ) → Mem → Type 0
+IsSteadyAt sizes k = (n : ℕ) × (s : State) × Keeps (device_by sizes None n) k s
+
 -- ---- within a command
 
--- the ledger is sound, the parts that speak of it alone stand for it, and lists of so many frames
--- are of those that there are
-pub record SoundLedger (m : Setting) (listed : ℕ) (v : View) (l : Ledger) : Type 0 where
+-- the ledger is sound, its slots are those of areas that are on, the parts that speak of it alone
+-- stand for it, and lists and a swap cache of so many frames are of those that there are
+pub record SoundLedger (m : Setting) (listed room : ℕ) (v : View) (l : Ledger) : Type 0 where
   pub sound : IsSound m l
+  pub there : AreThere m l
   pub parts : LedgerStands m v l
   pub lists : listed ≡ m.frames
+  pub swap : room ≡ m.frames
 
 -- the memory system's parts do
 abbrev pub HasLedger : Device → Mem → Ledger → Type 0
-HasLedger d k l = SoundLedger (setting_by d k) k.lists.frames (view k) l
+HasLedger d k l =
+    SoundLedger (setting_by d k) k.lists.frames (shown_swap k.swap).frames (view k) l
 
 -- they stand for some, over some device
 abbrev pub IsOrderly : Mem → Type 0
 IsOrderly k = (d : Device) × (l : Ledger) × HasLedger d k l
 
--- what stands within an access
-pub record KeepsWithin (d : Device) (k : Mem) (w : World) (l : Ledger) : Type 0 where
-  pub in_order : T (is_sorted key_cmp l.entries)
+-- the parts that steps change, with the device, the memories, the ledger, areas, anon_vmas and homes
+abbrev pub held_by : Device → Mem → World → Rmap → Ledger → Held
+held_by d k w r l = record { view = view k; device = d; world = w; ledger = l; rmap = r }
+
+-- what the memory system over this device stands for between two steps of a command that changes no
+-- areas, while this swap area, if any, is closing: all but that the ledger is sound
+pub record Serves (d : Device) (closing : Option ℕ) (k : Mem) (w : World) (r : Rmap) (l : Ledger)
+    : Type 0 where
+  pub held : IsHeld (setting_by d k) (held_by d k w r l)
+  pub areas : AreasStand (view k) w
+  pub are : AreasAre (view k) r.areas
+  pub anons : AnonsStand (view k) r.areas r.anons
+  pub tidy : IsTidy w
   pub at_pages : AtPages w l
-  pub parts : PartsStand (setting_by d k) (view k) d w l
+  pub there : AreThere (setting_by d k) l
+  pub areas_fit : AreasFit (setting_by d k) l
+  pub free : ListsAll (setting_by d k) l (free_of (view k))
   pub lists : HasLists k
   pub tables : HasTables k
-  pub anons : AnonsFit k.spaces k.anons
+  pub fit : AnonsFit k.spaces k.anons
+  pub swap : SwapFits d closing k

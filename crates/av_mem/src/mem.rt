@@ -1,4 +1,4 @@
-//! The memory system: frames with their lists, page tables, areas and anon_vmas.
+//! The memory system: frames with their lists, page tables, areas, anon_vmas and swap areas.
 
 ghost use Rattle.std.specs.Prelude.{◌≡◌, IfOk};
 ghost use Rattle.av_plain.specs.Device.{Device, setting_of};
@@ -10,10 +10,11 @@ use av_frames::Frames;
 use av_lru::Lru;
 use av_pagetable::{PageTable, Tables};
 use av_spaces::Spaces;
+use av_swapcache::Swap;
 use std::alloc::{AllocError, Global};
 
 /// The frames with the two lists of those in use, the page table of each process, the areas of
-/// each, and the anon_vmas.
+/// each, the anon_vmas, and the swap areas that are on with the swap cache.
 #[derive(Drop)]
 pub struct Mem {
     pub frames: Frames,
@@ -21,10 +22,11 @@ pub struct Mem {
     pub tables: Tables<PageTable>,
     pub spaces: Spaces,
     pub anons: Anons,
+    pub swap: Swap,
 }
 
 impl Mem {
-    /// This many frames, all free, and no process.
+    /// This many frames, all free, no process, and no swap area that is on.
     pub fn new(alloc: Global, frames: u32) -> Result<Mem, AllocError>
         ensures keeps { IfOk result (λ k. (d : Device) →
             Keeps d k (at_first (setting_of frames d))) }
@@ -36,6 +38,7 @@ impl Mem {
             tables: Tables::new(alloc),
             spaces: Spaces::new(alloc),
             anons: Anons::new(alloc),
+            swap: Swap::new(alloc, frames)?,
         })
     }
 }

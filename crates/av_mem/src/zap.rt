@@ -1,23 +1,32 @@
-//! How the entries of a range of pages go: each frame that no other entry names becomes free.
+//! How the entries of a range of pages go: each frame that no other entry names becomes free, and
+//! each slot that nothing uses any more is dropped.
 
-ghost use Rattle.std.specs.Prelude.{◌≡◌, ◌-◌, ◌<◌, ◌≤◌, IfSome};
+ghost use Rattle.std.specs.Prelude.{◌≡◌, ℕ, ◌-◌, OnOk};
+ghost use Rattle.av_pagetable.specs.Table.{group_size};
 ghost use Rattle.av_plain.specs.Device.{Device};
 ghost use Rattle.av_plain.specs.Ledger.{Ledger};
 ghost use Rattle.av_plain.specs.Zap.{keys_in, keys_of_process, zaps_of};
-ghost use Rattle.av_mem.specs.Mem.{frame_count, view, HasLedger, HasLists, IsOrderly};
-ghost use Rattle.av_frames.specs.Store.{shown};
-ghost use Rattle.av_mem.specs.Zap.{after_release, after_unmap_frame, after_unmaps, pool, AreInUse, IsFrameInUse, ZapsFirst, HasZapped, KeepsRest};
+ghost use Rattle.av_mem.specs.Entries.{HasAll, HasEntries, HasLedgerBy, LetsGo, Table};
+ghost use Rattle.av_mem.specs.Mem.{view, HasLedger, IsOrderly};
+ghost use Rattle.av_mem.specs.Steps.{KeepsRest};
+ghost use Rattle.av_mem.specs.Zap.{HasZapped};
 
+use crate::entries::let_go;
 use crate::mem::Mem;
-use av_frames::Frames;
-use av_lru::Lru;
 use av_pagetable::{GROUP, Pte};
+use av_trace::Notes;
+use std::alloc::AllocError;
 
-/// Takes away all entries of a process, by rising page.
-pub fn zap_all(mem: &mut Mem, process: u16)
+/// Takes away all entries of a process, by rising page, and adds the notes of the slots that were
+/// dropped.
+///
+/// Costs by the entries. Without memory, which only a note takes, nothing is promised of entries
+/// and counts.
+pub fn zap_all(mem: &mut Mem, process: u16, notes: &mut Notes) -> Result<(), AllocError>
     requires orderly { IsOrderly mem.old }
     ensures zapped { (d : Device) (l : Ledger) → HasLedger d mem.old l →
-        HasZapped d mem.old mem.new l (zaps_of l (keys_of_process l process)) }
+        OnOk result (HasZapped d mem.old mem.new l (zaps_of l (keys_of_process l process))
+        notes.old notes.new) }
     ensures rest { KeepsRest mem.old mem.new }
 {
     let mut number = 0;
@@ -25,75 +34,49 @@ pub fn zap_all(mem: &mut Mem, process: u16)
         let mut group = [Pte::Empty; GROUP];
         mem.tables
             .read_group(process, page / GROUP as u64, &mut group);
-        unmap_each(&mut mem.frames, &mut mem.lists, &group);
+        let_go_each(mem, &group, notes)?;
         number = page / GROUP as u64 + 1;
     }
     mem.tables.clear(process);
+    Ok(())
 }
 
-/// Takes away the entries of a process's pages from `from` to below `past`, by rising page.
-pub fn zap_range(mem: &mut Mem, process: u16, from: u64, past: u64)
+/// Takes away the entries of a process's pages from `from` to below `past`, by rising page, and
+/// adds the notes of the slots that were dropped.
+///
+/// Costs by the entries. Without memory nothing is promised, as of `zap_all`.
+pub fn zap_range(
+    mem: &mut Mem,
+    process: u16,
+    from: u64,
+    past: u64,
+    notes: &mut Notes,
+) -> Result<(), AllocError>
     requires orderly { IsOrderly mem.old }
     ensures zapped { (d : Device) (l : Ledger) → HasLedger d mem.old l →
-        HasZapped d mem.old mem.new l (zaps_of l (keys_in l process from (past - from))) }
+        OnOk result (HasZapped d mem.old mem.new l
+        (zaps_of l (keys_in l process from (past - from))) notes.old notes.new) }
     ensures rest { KeepsRest mem.old mem.new }
 {
     let mut next = from;
-    while let Some(page) = zap_first(mem, process, next, past) {
+    while let Some((page, entry)) = mem.tables.take_first(process, next, past) {
+        let_go(mem, entry, notes)?;
         next = page + 1;
     }
+    Ok(())
 }
 
-/// Takes away the entry of a process's least page from `from` to below `past`, and tells the page.
-fn zap_first(mem: &mut Mem, process: u16, from: u64, past: u64) -> Option<u64>
-    requires orderly { IsOrderly mem.old }
-    ensures zapped { (d : Device) (l : Ledger) → HasLedger d mem.old l →
-        ZapsFirst d mem.old mem.new l process from past result }
-    ensures within { IfSome result (λ page. (from ≤ page) × (page < past)) }
+/// Lets the entries of a group go, by rising page.
+fn let_go_each(mem: &mut Mem, group: &[Pte; GROUP], notes: &mut Notes) -> Result<(), AllocError>
+    requires there { HasEntries mem.old group.now }
+    ensures goes { (d : Device) (l : Ledger) (table : Table) (p page : ℕ) →
+        HasLedgerBy d mem.old table l → HasAll table p page group.now →
+        OnOk result (LetsGo d mem.old mem.new table l p page group_size notes.old notes.new) }
+    ensures tables { (view mem.new).table ≡ (view mem.old).table }
     ensures rest { KeepsRest mem.old mem.new }
 {
-    let (page, entry) = mem.tables.take_first(process, from, past)?;
-    if let Pte::Here { frame, .. } = entry {
-        unmap_frame(mem, frame);
-    }
-    Some(page)
-}
-
-/// One entry fewer names the frame, which becomes free where that was the last.
-fn unmap_frame(mem: &mut Mem, frame: u32)
-    requires lists { HasLists mem.old }
-    requires used { IsFrameInUse frame (shown mem.old.frames) }
-    ensures view { view mem.new ≡ after_unmap_frame frame (view mem.old) }
-    ensures lists { mem.new.lists.frames ≡ mem.old.lists.frames }
-    ensures count { frame_count mem.new ≡ frame_count mem.old }
-    ensures rest { mem.new
-        ≡ record mem.old { frames = mem.new.frames; lists = mem.new.lists } }
-{
-    release(&mut mem.frames, &mut mem.lists, frame);
-}
-
-/// One entry fewer names each frame that an entry of the group names, in their order.
-fn unmap_each(frames: &mut Frames, lists: &mut Lru, group: &[Pte; GROUP])
-    requires lists { lists.old.frames ≡ (shown frames.old).count }
-    requires used { AreInUse group.now (pool frames.old lists.old) }
-    ensures { pool frames.new lists.new ≡ after_unmaps group.now (pool frames.old lists.old) }
-{
     for entry in group {
-        if let Pte::Here { frame, .. } = *entry {
-            release(frames, lists, frame);
-        }
+        let_go(mem, *entry, notes)?;
     }
-}
-
-/// The same of one frame.
-fn release(frames: &mut Frames, lists: &mut Lru, frame: u32)
-    requires lists { lists.old.frames ≡ (shown frames.old).count }
-    requires used { IsFrameInUse frame (shown frames.old) }
-    ensures { pool frames.new lists.new ≡ after_release frame (pool frames.old lists.old) }
-{
-    frames.map_down(frame);
-    if frames.maps(frame) == 0 {
-        frames.give(frame);
-        lists.remove(frame);
-    }
+    Ok(())
 }

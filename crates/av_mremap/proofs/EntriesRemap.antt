@@ -5,6 +5,8 @@ use Rattle.av_base.specs.Words.{within}
 use Rattle.av_pagetable.specs.Entries.{entry_at}
 use Rattle.av_pagetable.specs.declared.pte.Pte.{Pte}
 use Rattle.av_pagetable.specs.declared.pte.Pte.TheVariants.{Away, Empty, Here, Zero}
+use Rattle.std.proofs.lemmas.List.{append-nil, append_assoc}
+use Rattle.av_trace.specs.declared.note.Note.{Note}
 use Rattle.av_plain.specs.Choice.{Chooses, ChoosesAll}
 use Rattle.av_plain.specs.Device.{Device, setting_of}
 use Rattle.av_plain.specs.Event.{Event, Moved, after_all, notes_of}
@@ -30,21 +32,23 @@ no_entry d k l p page stands none = by (entry_at k.tables p page) (stands.parts.
     by (Away s) e = cc
 
 -- the entries of a range have gone, said by its length
-pub of_length : (d : Device) (old new : Mem) (l : Ledger) (p from past n : ℕ) → past - from ≡ n → HasZapped d old new l (zaps_of l (keys_in l p from (past - from)))
-    → HasZapped d old new l (range_zaps l p from n)
-of_length d old new l p from past n same h = subst (λ k. HasZapped d old new l (range_zaps l p from k)) same h
+pub of_length : (d : Device) (old new : Mem) (l : Ledger) (p from past n : ℕ) (before now : List Note) → past - from ≡ n
+    → HasZapped d old new l (zaps_of l (keys_in l p from (past - from))) before now → HasZapped d old new l (range_zaps l p from n) before now
+of_length d old new l p from past n before now same h = subst (λ k. HasZapped d old new l (range_zaps l p from k) before now) same h
 
 -- in place those past the new pages have gone
-pub in_place : (d : Device) (old new : Mem) (l : Ledger) (p from n to m : ℕ) → (to == from) ≡ true → HasZapped d old new l (range_zaps l p (from + m) (n - m))
-    → HasRemapped d old new l (remap_events l p from n to m)
-in_place d old new l p from n to m here t = subst (HasRemapped d old new l) (sym is) (record { stands = t.stands; notes = t.notes; free = t.free })
+pub in_place : (d : Device) (old new : Mem) (l : Ledger) (p from n to m : ℕ) (before now : List Note) → (to == from) ≡ true
+    → HasZapped d old new l (range_zaps l p (from + m) (n - m)) before now → HasRemapped d old new l (remap_events l p from n to m) before now
+in_place d old new l p from n to m before now here t =
+    subst (λ es. HasRemapped d old new l es before now) (sym is) (record { stands = t.stands; notes = t.notes; free = t.free })
   where
     is : remap_events l p from n to m ≡ range_zaps l p (from + m) (n - m)
     is = ap (λ b. cond b (range_zaps l p (from + m) (n - m))
         ((range_zaps l p to m ++ range_zaps (then_target l p from n to m) p (from + m) (n - m)) ++ Moved p (min n m) from to ∷ [])) here
 
-module _ (d : Device) (old mid gone : Mem) (l : Ledger) (p from n to m : ℕ) (first : HasZapped d old mid l (range_zaps l p to m))
-    (second : HasZapped d mid gone (then_target l p from n to m) (range_zaps (then_target l p from n to m) p (from + m) (n - m))) where
+module _ (d : Device) (old mid gone : Mem) (l : Ledger) (p from n to m : ℕ) (before between now : List Note)
+    (first : HasZapped d old mid l (range_zaps l p to m) before between)
+    (second : HasZapped d mid gone (then_target l p from n to m) (range_zaps (then_target l p from n to m) p (from + m) (n - m)) between now) where
   -- the range to which they go is empty
   pub bare : (o : ℕ) → within to (min n m) o ≡ true → entry_at gone.tables p o ≡ Empty
   bare o inside = no_entry d gone (then_tail l p from n to m) p o second.stands (target_free l p from n to m o inside)
@@ -64,8 +68,10 @@ module _ (d : Device) (old mid gone : Mem) (l : Ledger) (p from n to m : ℕ) (f
     both : after_all l (target ++ tail) ≡ then_tail l p from n to m
     both = after_all-append l target tail
 
-    silent : notes_of ((target ++ tail) ++ last) ≡ []
-    silent = notes_of-append (target ++ tail) last ∙ ap (λ ns. ns ++ []) (notes_of-append target tail ∙ (λ i. first.notes i ++ second.notes i))
+    noted : now ≡ before ++ notes_of ((target ++ tail) ++ last)
+    noted = second.notes ∙ ap (λ ns. ns ++ notes_of tail) first.notes ∙ append_assoc before (notes_of target) (notes_of tail)
+        ∙ ap (λ ns. before ++ ns) (sym (notes_of-append target tail) ∙ sym (append-nil (notes_of (target ++ tail)))
+        ∙ sym (notes_of-append (target ++ tail) last))
 
     chosen : ChoosesAll (setting_by d old) None l ((target ++ tail) ++ last) (free_of (view old)) (free_of (view new))
     chosen = chooses-append (setting_by d old) None l (target ++ tail) last (free_of (view old)) (free_of (view gone)) (free_of (view new))
@@ -78,10 +84,10 @@ module _ (d : Device) (old mid gone : Mem) (l : Ledger) (p from n to m : ℕ) (f
           refl,
         )
 
-    pub elsewhere : (to == from) ≡ false → HasRemapped d old new l (remap_events l p from n to m)
+    pub elsewhere : (to == from) ≡ false → HasRemapped d old new l (remap_events l p from n to m) before now
     elsewhere there = record {
       stands = subst (HasLedger d new) (sym (after-elsewhere l p from n to m there)) third.stands;
-      notes = subst (λ es. notes_of es ≡ []) (sym is) silent;
+      notes = subst (λ es. now ≡ before ++ notes_of es) (sym is) noted;
       free = subst (λ es. ChoosesAll (setting_by d old) None l es (free_of (view old)) (free_of (view new))) (sym is) chosen;
     }
       where

@@ -1,4 +1,4 @@
+pub mod AreasRemap
 pub mod EntriesTables
 pub mod EntriesLedger
 pub mod EntriesRemap
-pub mod AreasRemap

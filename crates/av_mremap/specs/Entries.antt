@@ -1,6 +1,7 @@
 -- What becomes of the entries of a range of pages.
-use Rattle.std.specs.Prelude.{◌≡◌, ℕ, ◌+◌, ◌-◌, ◌&&◌, ◌==◌, if◌then◌else◌, List, [], None}
+use Rattle.std.specs.Prelude.{◌≡◌, ℕ, ◌+◌, ◌-◌, ◌&&◌, ◌++◌, ◌==◌, if◌then◌else◌, List, None}
 use Rattle.av_base.specs.Words.{within}
+use Rattle.av_trace.specs.declared.note.Note.{Note}
 use Rattle.av_plain.specs.Choice.{Chooses, ChoosesAll}
 use Rattle.av_plain.specs.Device.{Device}
 use Rattle.av_plain.specs.Event.{Event, Moved, after, after_all, notes_of}
@@ -23,10 +24,10 @@ pub record HasMoved (d : Device) (old new : Mem) (l : Ledger) (p n from to : ℕ
   pub free : Chooses (setting_by d old) None l (Moved p n from to)
       (free_of (view old)) (free_of (view new))
 
--- these events of an mremap have happened, without a note, and what is free follows them
+-- these events of an mremap have happened, with their notes, and what is free follows them
 pub record HasRemapped (d : Device) (old new : Mem) (l : Ledger) (events : List Event)
-    : Type 0 where
+    (before now : List Note) : Type 0 where
   pub stands : HasLedger d new (after_all l events)
-  pub notes : notes_of events ≡ []
+  pub notes : now ≡ before ++ notes_of events
   pub free : ChoosesAll (setting_by d old) None l events
       (free_of (view old)) (free_of (view new))

@@ -10,14 +10,16 @@ ghost use Rattle.av_plain.specs.Device.{Device};
 ghost use Rattle.av_plain.specs.Ledger.{Ledger};
 ghost use Rattle.av_plain.specs.Mremap.{remap_events};
 ghost use Rattle.av_mem.specs.Mem.{HasLedger, IsOrderly};
-ghost use Rattle.av_mem.specs.Zap.{KeepsRest};
+ghost use Rattle.av_mem.specs.Steps.{KeepsRest};
 
 use av_mem::{Mem, zap_range};
+use av_trace::Notes;
 use std::alloc::AllocError;
 
 /// Does to the entries of a process what an mremap does where `pages` pages from the page `from` on
 /// become `new_pages` from the page `to` on: those past the new pages go, and where the pages move,
-/// those of the new range go first, and last the rest moves.
+/// those of the new range go first, and last the rest moves. It adds the notes of the slots that
+/// were dropped.
 ///
 /// Costs by the entries of the two ranges. Without memory some entries may have moved, and one may
 /// be lost.
@@ -28,6 +30,7 @@ pub fn remap_entries(
     pages: u64,
     to: u64,
     new_pages: u64,
+    notes: &mut Notes,
 ) -> Result<(), AllocError>
     requires orderly { IsOrderly mem.old }
     requires there { has mem.old.tables process ≡ true }
@@ -38,16 +41,15 @@ pub fn remap_entries(
     requires apart { (to ≡ from → ⊥) → (to + new_pages ≤ from) ⊎ (from + pages ≤ to) }
     ensures remaps { (d : Device) (l : Ledger) → HasLedger d mem.old l →
         OnOk result (HasRemapped d mem.old mem.new l
-        (remap_events l process from pages to new_pages)) }
+        (remap_events l process from pages to new_pages) notes.old notes.new) }
     ensures rest { KeepsRest mem.old mem.new }
 {
     let (stay, past) = (from + new_pages, from + pages);
     if to == from {
-        zap_range(mem, process, stay, past);
-        return Ok(());
+        return zap_range(mem, process, stay, past, notes);
     }
-    zap_range(mem, process, to, to + new_pages);
-    zap_range(mem, process, stay, past);
+    zap_range(mem, process, to, to + new_pages, notes)?;
+    zap_range(mem, process, stay, past, notes)?;
     move_entries(mem, process, from, pages.min(new_pages), to)
 }
 

@@ -210,3 +210,12 @@ frames-first m l [] fs free free' h = (free, refl, h)
 frames-first m l (e ∷ es) fs free free' h =
     let rest = frames-first m (after l e) es fs h.0 free' h.2 in
     (rest.0, (h.0, h.1, rest.1), rest.2)
+
+-- and so it is of frames and slots
+pub chosen-first : (m : Setting) (closing : Option ℕ) (l : Ledger) (es fs : List Event)
+    (free free' : Free) → ChoosesAll m closing l (es ++ fs) free free'
+    → (mid : Free) × ChoosesAll m closing l es free mid
+    × ChoosesAll m closing (after_all l es) fs mid free'
+chosen-first m closing l [] fs free free' h = (free, refl, h)
+chosen-first m closing l (e ∷ es) fs free free' h = let rest = chosen-first m closing (after l e) es
+    fs h.0 free' h.2 in (rest.0, (h.0, h.1, rest.1), rest.2)

@@ -67,6 +67,9 @@ sound-fewer l l' r fewer h = record { made = h.made; own = h.own; covered = λ k
 pub sound-first : (m : Setting) → IsRmapSound first_ledger (rmap_of (at_first m))
 sound-first m = record { made = λ v there. absurd (false≢true there); own = λ p page v is. absurd is; covered = λ k f names. absurd names }
 
+pub slots-first : (m : Setting) → AreSlotsCovered first_ledger (rmap_of (at_first m))
+slots-first m = record { kin = λ p page v is. absurd is; rooted = λ s k q names other. absurd names; cached = λ s k f at names. absurd names }
+
 -- an entry that names no other frame than before takes the place of one
 pub sound-set : (l l' : Ledger) (r : Rmap) (k : Key) (e : Entry) → l' ≡ set_entry k e l → ((f : ℕ) → names_frame f e ≡ true → Names l k f) →
     IsRmapSound l r → IsRmapSound l' r

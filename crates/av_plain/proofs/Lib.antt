@@ -19,6 +19,7 @@ pub mod Fresh
 pub mod FreeFrames
 pub mod FreeSlots
 pub mod FreeLists
+pub mod FreeSteps
 pub mod AreasLeft
 pub mod Covered
 pub mod Device

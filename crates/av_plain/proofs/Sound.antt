@@ -146,12 +146,15 @@ pub map_count-loads : (m : Setting) (w : World) (l : Ledger) (es : List Event) (
     is_some (pages (with_loads m w l es) p page) ≡ is_some (pages w p page)
 map_count-loads m w l es p page = loads-same (λ w. is_some (pages w p page)) m w l es (unclaimed-pages p page)
 
+pub tidy-loads : (m : Setting) (w : World) (l : Ledger) (es : List Event) → IsTidy w → IsTidy (with_loads m w l es)
+tidy-loads m w l es tidy = record {
+  in_order = subst T (sym (loads-same (is_sorted nat_cmp) m w l es unclaimed-sorted)) tidy.in_order;
+  few = subst (λ n. n ≤ most_processes) (sym (length-loads m w l es)) tidy.few;
+}
+
 loads-sound : (m : Setting) (w : World) (l l' : Ledger) (es : List Event) → AllSound m w l' → AllSound m (with_loads m w l es) l'
 loads-sound m w l l' es s = record {
-  world = record {
-    in_order = subst T (sym (loads-same (is_sorted nat_cmp) m w l es unclaimed-sorted)) s.world.in_order;
-    few = subst (λ n. n ≤ most_processes) (sym (length-loads m w l es)) s.world.few;
-  };
+  world = tidy-loads m w l es s.world;
   ledger = s.ledger;
   at_pages = λ p page h. map_count-loads m w l es p page ∙ s.at_pages p page h;
   in_areas = s.in_areas;

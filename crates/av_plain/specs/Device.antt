@@ -1,5 +1,5 @@
 -- Devices with swap areas, as a run sees them.
-use Rattle.std.specs.Prelude.{◌≡◌, ◌≤◌, ℕ, IfSome, List, [], length, min, Option, Some, None, option_map, option_and_then, Result, Ok, Err}
+use Rattle.std.specs.Prelude.{◌≡◌, ◌≤◌, ℕ, Bool, true, false, IfSome, List, [], length, min, Option, Some, None, option_map, option_and_then, Result, Ok, Err}
 use Rattle.av_swapdev.specs.declared.header.HeaderErr.{HeaderErr}
 use Rattle.av_swapdev.specs.Device.{most_pages}
 use Rattle.av_swapdev.specs.Header.{Layout, header_of, slots_of}
@@ -15,6 +15,11 @@ pub record Device : Type 0 where
 -- a device by what a contract sees of one
 abbrev pub device_by : (ℕ → Option ℕ) → Option (ℕ → ℕ → List ℕ) → ℕ → Device
 device_by sizes pages faults = record { sizes = sizes; pages = pages; faults = faults }
+
+-- the device, or one just like it that doesn't tell its pages
+abbrev pub as_told : Bool → Device → Device
+as_told true d = d
+as_told false d = record d { pages = None }
 
 -- the device that has no swap area, and so never fails
 abbrev pub no_device : Device

@@ -11,7 +11,7 @@ use Rattle.av_plain.specs.Fault.{is_shared}
 use Rattle.av_plain.specs.Ledger.{Entry, HasNumbers, InFrame, InSlot, Ledger, Setting, SwapArea, Zero, entry, frame_at, in_flight, is_free, is_stale, map_count, names_frame, slot_entries, slot_of}
 use Rattle.av_plain.specs.Areas.{AnonVma, Anons, Areas, Homes, chain_by}
 use Rattle.av_plain.specs.Choice.{AreaSlots, Free, ListsAll}
-use Rattle.av_plain.specs.Covered.{IsRmapSound}
+use Rattle.av_plain.specs.Covered.{AreSlotsCovered, IsRmapSound}
 use Rattle.av_plain.specs.Report.{Range, prot_in, range_of, AreApart}
 use Rattle.av_plain.specs.Sound.{AllSound}
 use Rattle.av_plain.specs.Transcript.{State, rmap_of}
@@ -203,7 +203,7 @@ HomesAre v homes = (f : ℕ) → v.homes f ≡ homes f
 
 -- the kernel and the device stand for the memories, the ledger, what is free in its order, the
 -- areas with all that each says, the anon_vmas, and the homes; what is free is what the ledger has
--- free, and each entry of a frame is covered
+-- free, and each entry of a frame or a slot is covered
 pub record Stands (m : Setting) (v : View) (device : Device) (s : State) : Type 0 where
   pub over : IsOver m device
   pub sound : AllSound m s.world s.ledger
@@ -214,3 +214,4 @@ pub record Stands (m : Setting) (v : View) (device : Device) (s : State) : Type 
   pub anons : AnonsStand v s.areas s.anons
   pub homes : HomesAre v s.homes
   pub reach : IsRmapSound s.ledger (rmap_of s)
+  pub slots : AreSlotsCovered s.ledger (rmap_of s)

@@ -5,3 +5,4 @@ pub mod Looks
 pub mod SeenLemmas
 pub mod SortedLemmas
 pub mod SpanLemmas
+pub mod UnmapLemmas

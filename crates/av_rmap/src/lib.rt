@@ -21,4 +21,5 @@ pub mod look;
 pub mod seen;
 pub mod sorted;
 pub mod stores;
+pub mod unmap;
 pub mod walk;

@@ -14,7 +14,7 @@ ghost use Rattle.av_spaces.specs.Fork.{AreKept, GoInTurn, IsForked};
 ghost use Rattle.av_spaces.specs.Kin.{AnonsPrepare, AnonsStay, InOrder, chain_at};
 ghost use Rattle.av_spaces.specs.Spaces.{areas_of, pages_of, is_taken, AllRising, AreNumbered, AreThese, AreRising, IsSpawned, IsChanged, IsEnded};
 ghost use Rattle.av_vma.specs.Mremap.{IsGrowth, IsMove, after_grow, after_move};
-ghost use Rattle.av_vma.specs.Pages.{AreLaid, IsWhole, after_map, after_prepare, after_unmap, pages_changed, to_prot};
+ghost use Rattle.av_vma.specs.Pages.{AreLaid, IsWhole, after_map, after_prepare, after_unmap, home_of, pages_changed, to_prot};
 ghost use Rattle.av_spaces.specs.Trees.{areas_by, tree_at, IsGrown};
 
 use crate::fork::fork_each;
@@ -315,9 +315,14 @@ impl Spaces {
     }
 
     /// Gives the area of a page an anon_vma, where the page is mapped and its area has none: that
-    /// of the area after it, else of the one before, where it may take it; else a new root. Without
-    /// memory as for `map`.
-    pub fn prepare(&mut self, anons: &mut Anons, process: u16, page: u64) -> Result<(), AllocError>
+    /// of the area after it, else of the one before, where it may take it; else a new root. Answers
+    /// the home that a frame has from the page then. Without memory as for `map`.
+    pub fn prepare(
+        &mut self,
+        anons: &mut Anons,
+        process: u16,
+        page: u64,
+    ) -> Result<Option<(u64, u64)>, AllocError>
         requires order { InOrder self.old anons.old }
         requires lives { is_some (areas_of self.old.processes process) ≡ true }
         ensures areas { OnOk result (IsChanged self.old.processes self.new.processes process
@@ -325,6 +330,8 @@ impl Spaces {
             (pages_of self.old.processes process)))) }
         ensures anons { OnOk result
             (AnonsPrepare self.old anons.old self.new anons.new process page) }
+        ensures home { IfOk result (λ home.
+            home ≡ home_of page (pages_of self.new.processes process page)) }
     {
         let Some(tree) = tree_of(&self.trees, process) else {
             unreachable!()

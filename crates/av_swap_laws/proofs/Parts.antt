@@ -1,5 +1,5 @@
 -- What is said of an option, of shared frames and of the bytes of pages, where a ledger changes.
-use Rattle.std.proofs.Common.{◌≡◌, ℕ, ◌<◌, ◌≤◌, Bool, true, false, ◌||◌, nat_lt, Option, Some, None, refl, sym, ap, subst, ◌∙◌, arith}
+use Rattle.std.proofs.Common.{◌≡◌, ℕ, ◌<◌, ◌≤◌, Bool, true, false, ◌||◌, nat_lt, List, Option, Some, None, refl, sym, ap, subst, ◌∙◌, arith}
 use Rattle.std.proofs.lemmas.Bool.Decides.{nat_tests}
 use Rattle.std.proofs.lemmas.Bool.{false≢true}
 use Rattle.std.specs.Prelude.{IfSome, slice_index}
@@ -96,6 +96,23 @@ kept-moves v v' d d' l l' (Some (InSlot t)) p bytes slots told h = subst (IsKept
     by : (o : Option ℕ) → frame_at l t ≡ o → IsKeptAt v d t p o → IsKeptAt v' d' t p o
     by None e h = told t refl e h
     by (Some f) e h = subst (λ (b : ℕ → ℕ → ℕ). Holds p (b f)) (sym bytes) h
+
+-- what holds one page holds another that claims no more
+pub kept-claims : (v : View) (d : Device) (l : Ledger) (o : Option Entry) (x y : Option Page) → ((at : ℕ → ℕ) → Holds x at → Holds y at)
+    → IsKept v d l o x → IsKept v d l o y
+kept-claims v d l None x y less h = less (λ _. 0) h
+kept-claims v d l (Some Zero) x y less h = less (λ _. 0) h
+kept-claims v d l (Some (InFrame g seen)) x y less h = less (v.bytes g) h
+kept-claims v d l (Some (InSlot t)) x y less h = by (frame_at l t) h
+  where
+    told : (o : Option (ℕ → ℕ → List ℕ)) → IfSome o (λ told. Holds x (slice_index (told t.area t.page)))
+        → IfSome o (λ told. Holds y (slice_index (told t.area t.page)))
+    told None h = tt
+    told (Some pages) h = less (slice_index (pages t.area t.page)) h
+
+    by : (o : Option ℕ) → IsKeptAt v d t x o → IsKeptAt v d t y o
+    by None h = told d.pages h
+    by (Some g) h = less (v.bytes g) h
 
 -- the page of a slot that is cached where it was has its frame's bytes there
 pub clean-same : (v v' : View) (d : Device) (t : Slot) (o o' : Option ℕ) → v'.bytes ≡ v.bytes → o' ≡ o → IsClean v d t o → IsClean v' d t o'

@@ -22,7 +22,7 @@ use Rattle.av_swap_laws.specs.May.{AreOnce}
 use Rattle.av_swap_laws.specs.Steps.{view_seen, view_written}
 use Rattle.av_swap_laws.proofs.Cache.{cached-is, frame-slot, is_stale-itself, is_stale-other, slot-frame}
 use Rattle.av_swap_laws.proofs.One.{one-stands, set-at}
-use Rattle.av_swap_laws.proofs.Parts.{differ, if-some, named-slot, none-some, shared-same, some-is}
+use Rattle.av_swap_laws.proofs.Parts.{differ, if-some, kept-claims, named-slot, none-some, shared-same, some-is}
 use Rattle.av_swap_laws.proofs.Stale.{restale-stands}
 
 module _ (l : Ledger) (p page f : ℕ) (seen : Bool) (sorted : T (is_sorted key_cmp l.entries)) (at : entry l (p, page) ≡ Some (InFrame f seen)) where
@@ -104,7 +104,7 @@ module _ (l : Ledger) (p page f : ℕ) (seen : Bool) (sorted : T (is_sorted key_
   module _ (v : View) (d : Device) (w w' : World) (write : Bool) (held : ℕ → ℕ) (home : Option (ℕ × ℕ)) (once : AreOnce l)
       (alone : is_shared l f ≡ false) (h : BytesStand v d w l)
       (holds : Holds (pages w' p page) held)
-      (others : (q o : ℕ) → same_key (q, o) (p, page) ≡ false → pages w' q o ≡ pages w q o) where
+      (others : (q o : ℕ) → same_key (q, o) (p, page) ≡ false → (bytes : ℕ → ℕ) → Holds (pages w q o) bytes → Holds (pages w' q o) bytes) where
     abbrev written : View
     written = view_written p page f write held home v
 
@@ -169,7 +169,8 @@ module _ (l : Ledger) (p page f : ℕ) (seen : Bool) (sorted : T (is_sorted key_
           by : (b : Bool) → same_key (q, o) (p, page) ≡ b → IsKept written d k (cond b (Some (InFrame f true)) (entry l (q, o))) (pages w' q o)
           by true e = let same = same_key-is (q, o) (p, page) e in
               subst (λ (k : Key). Holds (pages w' k.0 k.1) (written.bytes f)) (sym same) (subst (Holds (pages w' p page)) (sym own) holds)
-          by false e = subst (IsKept written d k (entry l (q, o))) (sym (others q o e)) (still e (entry l (q, o)) refl (pages w q o) (h.kept q o))
+          by false e = kept-claims written d k (entry l (q, o)) (pages w q o) (pages w' q o) (others q o e)
+              (still e (entry l (q, o)) refl (pages w q o) (h.kept q o))
 
       clean-other : (t : Slot) → ((g : ℕ) → frame_at l t ≡ Some g → (g == f) ≡ false) → IsClean v d t (frame_at l t)
           → IsClean written d t (frame_at k t)

@@ -186,7 +186,7 @@ module _ (m : Setting) (closing : Option ℕ) (old : Held) (h : IsHeld m old) wh
       f home (record { areas = refl; processes = refl }) refl refl refl areas
       (write-stands l p page f seen sorted at m v write h.ledger (λ _. alone) held home once)
       (write-bytes l p page f seen sorted at v old.device old.world w write held home once alone h.bytes holds
-      (λ q o e. others q o (sym (key_is q o p page) ∙ e)))
+      (λ q o e bytes. subst (λ x. Holds x bytes) (sym (others q o (sym (key_is q o p page) ∙ e)))))
       (write-covered l old.rmap h.covered (p, page) f seen sorted once at alone)
       (write-chosen m closing v l p page f seen sorted at write held home)
 

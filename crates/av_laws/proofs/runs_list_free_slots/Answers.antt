@@ -1,5 +1,6 @@
 use Rattle.av_plain.proofs.Device.{setting-layouts}
-use Rattle.av_laws.proofs.FreeSlots.{run-lists_slots, step-lists_slots}
+use Rattle.av_plain.proofs.FreeSteps.{step-lists_slots}
+use Rattle.av_laws.proofs.FreeSlots.{run-lists_slots}
 use Rattle.av_laws.proofs.runs_list_free_slots.Goals as goal
 
 pub returns-clause-from_nothing : goal.returns-clause-from_nothing

@@ -75,7 +75,7 @@ note-areas l r (Dropped t) fits = refl
 note-areas l r (Kept f cause) fits = refl
 note-areas l r (Aged f) fits = refl
 
-fit-areas : (l : Ledger) (r : Rmap) (notes : List Note) → AllFit l notes → (rmap_after_all l (note_events notes) r).areas ≡ r.areas
+pub fit-areas : (l : Ledger) (r : Rmap) (notes : List Note) → AllFit l notes → (rmap_after_all l (note_events notes) r).areas ≡ r.areas
 fit-areas l r [] fit = refl
 fit-areas l r (note ∷ notes) fit = fit-areas (after_note note l) (rmap_after_note l note r) notes fit.1 ∙ note-areas l r note fit.0
 

@@ -96,12 +96,12 @@ shared-is l g h = by (nat_lt 1 (map_count l g)) refl (slot_of l g) refl h
     by false is (Some t) at h = BySlot t (slot_of-some g t l.cache at) (grind (arith, nat_tests, h))
 
 -- what shares the frame does so after a pass that leaves the frame alone
-shared-stays : (spared : ℕ → Bool) (l l' : Ledger) (g : ℕ) → spared g ≡ true → Keeps spared l l' → 0 < map_count l g → IsSharedBy l g → IsSharedBy l' g
+pub shared-stays : (spared : ℕ → Bool) (l l' : Ledger) (g : ℕ) → spared g ≡ true → Keeps spared l l' → 0 < map_count l g → IsSharedBy l g → IsSharedBy l' g
 shared-stays spared l l' g alone keeps in_use (ByFrame two) = ByFrame (let e = keeps.mapped_same g alone in omega (arith, e, two))
 shared-stays spared l l' g alone keeps in_use (BySlot t pair named) =
     BySlot t (keeps.pairs_kept t g alone in_use pair) (let a = keeps.more t in omega (arith, a, named))
 
-blank-steady : (spared : ℕ → Bool) (o : Option Entry) → IsBlank o → is_steady spared o ≡ true
+pub blank-steady : (spared : ℕ → Bool) (o : Option Entry) → IsBlank o → is_steady spared o ≡ true
 blank-steady spared None h = refl
 blank-steady spared (Some Zero) h = refl
 blank-steady spared (Some (InFrame g seen)) h = absurd h

@@ -243,7 +243,7 @@ touches-bring m w l write k notes (Some Denied) h = bring-is (at_page w) notes [
 touches-bring m w l write k notes (Some (Starved out)) h = bring-runs_out (at_page w) k (allowed-there w write k h.0) m (sparing w) l write notes out h.1
 touches-bring m w l write k notes (Some Lost) h = bring-seeks (at_page w) m (sparing w l None) l notes h.1.seeks
 
-used-at : (w : World) (l : Ledger) (write : Bool) (k : Key) → AllAt (at_page w) l → AllAt (at_page w) (after_use write k l)
+pub used-at : (w : World) (l : Ledger) (write : Bool) (k : Key) → AllAt (at_page w) l → AllAt (at_page w) (after_use write k l)
 used-at w l write k all = by write (entry l k) refl
   where
     set_here : (f : ℕ) (seen : Bool) → entry l k ≡ Some (InFrame f seen) → AllAt (at_page w) (set_entry k (InFrame f true) l)

@@ -21,14 +21,15 @@ returns g c = record {
       (read-ended s c.args.mem.now new.mem c.args.process c.args.address reply.notes new.notes reply.rows c.in_ok-ended.ended.served
       c.requires.cleared.notes c.requires.cleared.rows c.in_ok-ended.ensures.count lived keeps
       c.args.len new.shown c.read_answer.result c.in_ok-ended.ended.stop
-      (c.in_ok-ended.ensures.access s keeps) (c.in_ok-ended.ensures.reads s keeps) c.read_answer.ensures);
+      (c.in_ok-ended.ensures.access s keeps) c.read_answer.ensures);
 }
 
 pub read_pieces-requires-clause-steady : goal.read_pieces-requires-clause-steady
 read_pieces-requires-clause-steady g c = (c.requires.steady, c.in_ok-check_lives.ensures)
 
 pub returns-in_err-check_lives : goal.returns-in_err-check_lives
-returns-in_err-check_lives g c = beside-by c.args.mem.now (Read c.args.process c.args.address c.args.len) Esrch c.args.reply.now c.from_residual.result
+returns-in_err-check_lives g c = beside-by c.args.mem.now (Read c.args.process c.args.address c.args.len) Esrch c.args.reply.now
+    c.from_residual.result
     c.in_err-check_lives.field-0.0 c.from_residual.ensures c.in_err-check_lives.ensures.1 refl
     (λ d s keeps. dead_first c.args.mem.now s c.args.process _ keeps c.in_err-check_lives.ensures.0) _
 

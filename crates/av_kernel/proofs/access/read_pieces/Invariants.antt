@@ -1,11 +1,9 @@
 -- What is done so far is an access of its own, served whole and shown; behind it a page begins, or nothing is left.
-use Rattle.std.proofs.Common.{◌≡◌, ◌+◌, ◌-◌, ◌%◌, ◌<◌, ◌≤◌, false, [], None}
-use Rattle.av_plain.specs.World.{pages}
-use Rattle.av_plain.specs.Access.{Reads}
+use Rattle.std.proofs.Common.{◌≡◌, ◌+◌, ◌-◌, ◌%◌, ◌<◌, ◌≤◌, None}
 use Rattle.av_plain.specs.Device.{IsSameDevice}
 use Rattle.av_plain.specs.Transcript.{State}
 use Rattle.av_mem.specs.Mem.{frame_count, Keeps}
-use Rattle.av_kernel.specs.Access.{IsAccess}
+use Rattle.av_kernel.specs.Access.{IsRead}
 use Rattle.av_kernel.specs.Step.{IsSteadyFor, seen_by}
 use Rattle.av_kernel.proofs.access.read_pieces.Given as goal
 
@@ -17,9 +15,9 @@ invariant-loop-done g l = record {
   within : l.done ≤ l.len;
   begins : 1 ≤ l.done → l.done < l.len → (l.address + l.done) % 4096 ≡ 0;
   access : (s : State) → Keeps (seen_by g.D.SwapDev.sizes g.D.SwapDev.pages g.D.SwapDev.faults l.initial.dev) l.initial.mem s
-      → IsAccess (seen_by g.D.SwapDev.sizes g.D.SwapDev.pages g.D.SwapDev.faults l.initial.dev)
-      (seen_by g.D.SwapDev.sizes g.D.SwapDev.pages g.D.SwapDev.faults l.dev) s l.mem false l.process l.address l.done [] l.initial.notes l.notes None l.done;
-  reads : (s : State) → Keeps (seen_by g.D.SwapDev.sizes g.D.SwapDev.pages g.D.SwapDev.faults l.initial.dev) l.initial.mem s → Reads (pages s.world l.process) l.address l.done l.shown;
+      → IsRead (seen_by g.D.SwapDev.sizes g.D.SwapDev.pages g.D.SwapDev.faults l.initial.dev)
+      (seen_by g.D.SwapDev.sizes g.D.SwapDev.pages g.D.SwapDev.faults l.dev) s l.mem l.process l.address l.done l.initial.notes l.notes None l.done
+      l.shown;
   steady : IsSteadyFor (g.D.SwapDev.sizes l.initial.dev) l.process l.mem;
   same : IsSameDevice (seen_by g.D.SwapDev.sizes g.D.SwapDev.pages g.D.SwapDev.faults l.initial.dev)
       (seen_by g.D.SwapDev.sizes g.D.SwapDev.pages g.D.SwapDev.faults l.dev);

@@ -28,7 +28,8 @@ pub write_pieces-requires : goal.write_pieces-requires
 write_pieces-requires g c = record { steady = (c.requires.steady, c.in_ok-check_lives.ensures) }
 
 pub returns-in_err-check_lives : goal.returns-in_err-check_lives
-returns-in_err-check_lives g c = beside-by c.args.mem.now (Write c.args.process c.args.address c.args.bytes.now) Esrch c.args.reply.now c.from_residual.result
+returns-in_err-check_lives g c = beside-by c.args.mem.now (Write c.args.process c.args.address c.args.bytes.now) Esrch c.args.reply.now
+    c.from_residual.result
     c.in_err-check_lives.field-0.0 c.from_residual.ensures c.in_err-check_lives.ensures.1 refl
     (λ d s keeps. dead_first c.args.mem.now s c.args.process _ keeps c.in_err-check_lives.ensures.0) _
 

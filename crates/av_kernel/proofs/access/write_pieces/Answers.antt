@@ -24,10 +24,11 @@ returns-in-Some-clause-access g c = λ s keeps.
     let k = c.loop-done.done in
     let piece = c.next_piece-piece.result in
     let h = c.loop-done.invariant.access s keeps in
-    piece-stopped s c.loop-done.mem c.write_page.new.mem true c.args.process c.args.address (length bytes) k piece (take k bytes) (part k piece.len bytes)
+    piece-stopped s c.loop-done.mem c.write_page.new.mem true c.args.process c.args.address (length bytes) k piece (take k bytes)
+    (part k piece.len bytes)
     c.args.notes.now c.loop-done.notes _ c.in_ok-stop.field-0
     c.write_page.ensures.count c.next_piece-piece.ensures c.loop-done-test.true c.loop-done.invariant.begins h
-    (c.in_ok-stop.ensures.step h.next h.keeps) c.in-Some.stop c.in-Some.is
+    (λ _. length-take-le k bytes c.loop-done.invariant.within) (c.in_ok-stop.ensures.step h.next h.keeps) c.in-Some.stop c.in-Some.is
 
 pub loop-done-preserved : goal.loop-done-preserved
 loop-done-preserved g c =
@@ -39,11 +40,12 @@ loop-done-preserved g c =
       begins = piece-ends c.args.address (length bytes) k piece c.next_piece-piece.ensures;
       access = λ s keeps.
           let h = c.loop-done.invariant.access s keeps in
-          piece-served s c.loop-done.mem c.write_page.new.mem true c.args.process c.args.address (length bytes) k piece (take k bytes) (part k piece.len bytes)
+          piece-served s c.loop-done.mem c.write_page.new.mem true c.args.process c.args.address (length bytes) k piece (take k bytes)
+          (part k piece.len bytes)
           c.args.notes.now c.loop-done.notes _ c.in_ok-stop.field-0
           c.write_page.ensures.count c.next_piece-piece.ensures c.loop-done-test.true c.loop-done.invariant.begins h
-          (c.in_ok-stop.ensures.step h.next h.keeps) c.in_default.not-Some
-          (λ _. length-take-le k bytes c.loop-done.invariant.within) (take (k + piece.len) bytes) (parts k piece.len bytes);
+          (λ _. length-take-le k bytes c.loop-done.invariant.within) (c.in_ok-stop.ensures.step h.next h.keeps) c.in_default.not-Some
+          (take (k + piece.len) bytes) (parts k piece.len bytes);
       steady = subst (λ sizes. IsSteadyFor sizes c.args.process c.write_page.new.mem) c.loop-done.invariant.same.sizes c.in_ok-stop.ensures.steady;
       same = same_then _ _ _ c.loop-done.invariant.same c.write_page.ensures.same;
       count = c.write_page.ensures.count ∙ c.loop-done.invariant.count;

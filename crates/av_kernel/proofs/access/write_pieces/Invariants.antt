@@ -16,7 +16,8 @@ invariant-loop-done g l = record {
   begins : 1 ≤ l.done → l.done < length l.bytes → (l.address + l.done) % 4096 ≡ 0;
   access : (s : State) → Keeps (seen_by g.D.SwapDev.sizes g.D.SwapDev.pages g.D.SwapDev.faults l.initial.dev) l.initial.mem s
       → IsAccess (seen_by g.D.SwapDev.sizes g.D.SwapDev.pages g.D.SwapDev.faults l.initial.dev)
-      (seen_by g.D.SwapDev.sizes g.D.SwapDev.pages g.D.SwapDev.faults l.dev) s l.mem true l.process l.address l.done (take l.done l.bytes) l.initial.notes l.notes None l.done;
+      (seen_by g.D.SwapDev.sizes g.D.SwapDev.pages g.D.SwapDev.faults l.dev) s l.mem true l.process l.address l.done
+      (take l.done l.bytes) l.initial.notes l.notes None l.done;
   steady : IsSteadyFor (g.D.SwapDev.sizes l.initial.dev) l.process l.mem;
   same : IsSameDevice (seen_by g.D.SwapDev.sizes g.D.SwapDev.pages g.D.SwapDev.faults l.initial.dev)
       (seen_by g.D.SwapDev.sizes g.D.SwapDev.pages g.D.SwapDev.faults l.dev);

@@ -14,7 +14,7 @@ use Rattle.av_merge.specs.Kin.{lengths}
 use Rattle.av_place.specs.Place.{IsPlaced}
 use Rattle.std.specs.Int.{div_ceil}
 use Rattle.av_trace.specs.declared.reply.Errno.TheVariants.{Esrch, Einval, Enomem}
-use Rattle.av_kernel.proofs.StepLaws.{answers, orderly, ranges_there, refuses, refuses-as, refuses-by, dead_first, wants-by}
+use Rattle.av_kernel.proofs.StepLaws.{answers-noted, orderly, ranges_there, refuses, refuses-as, refuses-by, dead_first, wants-by}
 use Rattle.av_place.proofs.PlaceLaws.{rounded_up, suited}
 use Rattle.av_kernel.proofs.MapLaws.{taken_is, suits, unmapped_lives, unmapped_free, mmap-refused, mmap-steps, mmap-tests-first, mmap-tests-second}
 use Rattle.av_kernel.proofs.MapProts.{gets_areas, mapped-homes, mapped-prots}
@@ -39,7 +39,7 @@ make_room-requires-clause-there c = (suits c.args.mem.now c.requires.steady c.ar
 
 pub map-requires-clause-lives : goal.map-requires-clause-lives
 map-requires-clause-lives c = let steady = c.requires.steady in unmapped_lives c.args.mem.now c.make_room.new.mem c.args.process c.in_ok-page.page
-    c.div_ceil-pages.result _ _ _ (c.in_ok-make_room.ensures.unmapped steady.0 steady.1.ledger (orderly c.args.mem.now steady.1 steady.2))
+    c.div_ceil-pages.result _ _ _ _ _ (c.in_ok-make_room.ensures.unmapped steady.0 steady.1.ledger (orderly c.args.mem.now steady.1 steady.2))
 
 pub map-requires-clause-low : goal.map-requires-clause-low
 map-requires-clause-low c = (suits c.args.mem.now c.requires.steady c.args.process c.div_ceil-pages.result c.in_ok-page.page
@@ -51,7 +51,7 @@ map-requires-clause-high c = (suits c.args.mem.now c.requires.steady c.args.proc
 
 pub map-requires-clause-free : goal.map-requires-clause-free
 map-requires-clause-free c = let steady = c.requires.steady in unmapped_free c.args.mem.now c.make_room.new.mem c.args.process c.in_ok-page.page
-    c.div_ceil-pages.result _ _ _ (c.in_ok-make_room.ensures.unmapped steady.0 steady.1.ledger (orderly c.args.mem.now steady.1 steady.2))
+    c.div_ceil-pages.result _ _ _ _ _ (c.in_ok-make_room.ensures.unmapped steady.0 steady.1.ledger (orderly c.args.mem.now steady.1 steady.2))
 
 pub overflow_mul-page : goal.overflow_mul-page
 overflow_mul-page c = let high = (suits c.args.mem.now c.requires.steady c.args.process c.div_ceil-pages.result c.in_ok-page.page c.args.place
@@ -88,12 +88,12 @@ returns-in_err-page c = refuses-by c.args.mem.now c.args.mem.now (Mmap c.args.pr
     })
 
 pub returns-in_err-make_room : goal.returns-in_err-make_room
-returns-in_err-make_room c = wants-by c.args.mem.now c.make_room.new.mem (Mmap c.args.process c.args.len c.args.prot c.args.place) c.args.reply.now
+returns-in_err-make_room c = wants-by c.args.mem.now c.make_room.new.mem (Mmap c.args.process c.args.len c.args.prot c.args.place) (record c.args.reply.now { notes = c.make_room.new.notes })
     c.from_residual-in_err-make_room.result c.from_residual-in_err-make_room.ensures c.make_room.ensures.count
 
 pub returns-in_err-map : goal.returns-in_err-map
 returns-in_err-map c = wants-by c.args.mem.now (record c.make_room.new.mem { spaces = c.map.new.self; anons = c.map.new.anons })
-    (Mmap c.args.process c.args.len c.args.prot c.args.place) c.args.reply.now c.from_residual-in_err-map.result
+    (Mmap c.args.process c.args.len c.args.prot c.args.place) (record c.args.reply.now { notes = c.make_room.new.notes }) c.from_residual-in_err-map.result
     c.from_residual-in_err-map.ensures c.make_room.ensures.count
 
 pub returns : goal.returns
@@ -105,23 +105,25 @@ returns c = record {
       let page = c.in_ok-page.page in
       let size = c.div_ceil-pages.ensures ∙ rounded_up c.args.len in
       let suit = (suits c.args.mem.now c.requires.steady c.args.process c.div_ceil-pages.result c.in_ok-page.page c.args.place c.in_ok-page.ensures) in
+      let before = c.args.reply.now.notes in
+      let notes = c.make_room.new.notes in
       let unmapped = c.in_ok-make_room.ensures.unmapped d s.ledger (orderly k s keeps) in
+      let sized = subst (λ n. AreUnmapped d k mid c.args.process page n (with_room n c.args.place (plain_pages k.spaces.processes c.args.process)) s.ledger
+      (zaps_for_place s.ledger c.args.process n c.args.place) before notes) size unmapped in
       let placed = subst (λ n. IsPlaced (pages s.world c.args.process) n c.args.place (Ok page)) size
       (c.in_ok-page.ensures (pages s.world c.args.process) (taken_is k s c.args.process keeps)) in
-      let free = unmapped_free k mid c.args.process page c.div_ceil-pages.result _ s.ledger _ unmapped in
+      let free = unmapped_free k mid c.args.process page c.div_ceil-pages.result _ s.ledger _ before notes unmapped in
       let prots = mapped-prots (lengths mid.spaces.areas mid.anons) mid.spaces.processes c.map.new.self.processes c.args.process page c.div_ceil-pages.result
       c.args.prot (some_pages c.args.len c.div_ceil-pages.result c.if-len-eq0.false c.div_ceil-pages.ensures) suit.lowest suit.highest
       free c.in_ok-map.ensures.areas in
       let homes = mapped-homes (lengths mid.spaces.areas mid.anons) mid.spaces.processes c.map.new.self.processes c.args.process page c.div_ceil-pages.result
       c.args.prot (some_pages c.args.len c.div_ceil-pages.result c.if-len-eq0.false c.div_ceil-pages.ensures) suit.lowest suit.highest
       free c.in_ok-map.ensures.areas in
-      answers c.args.reply.now c.answer_with.new.reply c.requires.cleared c.answer_with.ensures
+      answers-noted c.args.reply.now c.answer_with.new.reply notes _ c.requires.cleared c.answer_with.ensures sized.taken.notes
       (mmap-steps k s c.args.process c.args.len c.args.prot c.args.place keeps (ranges_there k c.args.process c.in_ok-check_lives.ensures)
       (not_zero c.args.len c.if-len-eq0.false) (sym c.is_too_long.ensures ∙ c.if-is_too_long.false)
       mid c.map.new.self c.map.new.anons page placed (suited k.spaces.processes c.args.process (pages s.world c.args.process)
-      (taken_is k s c.args.process keeps) (pages_of c.args.len) page c.args.place placed).clear c.make_room.ensures.count
-      (subst (λ n. AreUnmapped d k mid c.args.process page n (with_room n c.args.place (plain_pages k.spaces.processes c.args.process)) s.ledger
-      (zaps_for_place s.ledger c.args.process n c.args.place)) size unmapped)
+      (taken_is k s c.args.process keeps) (pages_of c.args.len) page c.args.place placed).clear c.make_room.ensures.count before notes sized
       (subst (λ n. GetsProts mid.spaces.processes c.map.new.self.processes c.args.process
       (set_on page n (Some c.args.prot) (prot_of (ranges_of mid.spaces.processes c.args.process)))) size prots)
       (subst (λ n. GetsAreas mid.spaces.processes c.map.new.self.processes c.args.process

@@ -5,7 +5,7 @@ use Rattle.av_kernel.specs.Map.{AreUnmapped}
 use Rattle.av_vma.specs.Pages.{after_unmap}
 use Rattle.av_spaces.specs.Spaces.{pages_of}
 use Rattle.av_trace.specs.declared.reply.Errno.TheVariants.{Esrch, Einval}
-use Rattle.av_kernel.proofs.StepLaws.{answers, orderly, ranges_there, refuses, refuses-as, dead_first, wants-by}
+use Rattle.av_kernel.proofs.StepLaws.{answers-noted, orderly, ranges_there, refuses, refuses-as, dead_first, wants-by}
 use Rattle.av_place.proofs.PlaceLaws.{rounded_up}
 use Rattle.av_kernel.proofs.MapLaws.{munmap-steps, munmap-refused}
 use Rattle.av_kernel.proofs.map.munmap.Goals as goal
@@ -23,8 +23,10 @@ returns-then-is_no_range c = refuses c.args.mem.now (Munmap c.args.process c.arg
     (sym c.is_no_range.ensures ∙ c.if-is_no_range.true))
 
 pub returns-in_err-unmap_pages : goal.returns-in_err-unmap_pages
-returns-in_err-unmap_pages c = wants-by c.args.mem.now c.unmap_pages.new.mem (Munmap c.args.process c.args.address c.args.len) c.args.reply.now
-    c.from_residual-in_err-unmap_pages.result c.from_residual-in_err-unmap_pages.ensures c.unmap_pages.ensures.count
+returns-in_err-unmap_pages c =
+    wants-by c.args.mem.now c.unmap_pages.new.mem (Munmap c.args.process c.args.address c.args.len)
+    (record c.args.reply.now { notes = c.unmap_pages.new.notes }) c.from_residual-in_err-unmap_pages.result c.from_residual-in_err-unmap_pages.ensures
+    c.unmap_pages.ensures.count
 
 pub returns : goal.returns
 returns c = record {
@@ -32,10 +34,13 @@ returns c = record {
   step = λ d s keeps.
       let k = c.args.mem.now in
       let page = c.args.address / 4096 in
-      answers c.args.reply.now c.answer_with.new.reply c.requires.cleared c.answer_with.ensures
+      let before = c.args.reply.now.notes in
+      let notes = c.unmap_pages.new.notes in
+      let unmapped = subst (λ n. AreUnmapped d k c.unmap_pages.new.mem c.args.process page n
+      (after_unmap page (page + n) (pages_of k.spaces.processes c.args.process)) s.ledger
+      (zaps_of s.ledger (keys_in s.ledger c.args.process page n)) before notes) (c.div_ceil-pages.ensures ∙ rounded_up c.args.len)
+      (c.in_ok-unmap_pages.ensures.unmapped d s.ledger (orderly k s keeps)) in
+      answers-noted c.args.reply.now c.answer_with.new.reply notes _ c.requires.cleared c.answer_with.ensures unmapped.taken.notes
       (munmap-steps k c.unmap_pages.new.mem s c.args.process c.args.address c.args.len keeps (ranges_there k c.args.process c.in_ok-check_lives.ensures)
-      (sym c.is_no_range.ensures ∙ c.if-is_no_range.false) c.unmap_pages.ensures.count
-      (subst (λ n. AreUnmapped d k c.unmap_pages.new.mem c.args.process page n (after_unmap page (page + n) (pages_of k.spaces.processes c.args.process)) s.ledger
-      (zaps_of s.ledger (keys_in s.ledger c.args.process page n))) (c.div_ceil.ensures ∙ rounded_up c.args.len)
-      (c.in_ok-unmap_pages.ensures.unmapped d s.ledger (orderly k s keeps))));
+      (sym c.is_no_range.ensures ∙ c.if-is_no_range.false) c.unmap_pages.ensures.count before notes unmapped);
 }

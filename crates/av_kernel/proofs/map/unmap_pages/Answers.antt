@@ -8,15 +8,15 @@ use Rattle.av_kernel.proofs.map.unmap_pages.Goals as goal
 pub unmap-requires-clause-order : goal.unmap-requires-clause-order
 unmap-requires-clause-order c =
     let rest = c.zap_range.ensures.rest in
-    (subst (λ (x : AllSpaces). AnonsFit x c.zap_range.new.mem.anons) (sym rest.spaces)
-    (subst (AnonsFit c.args.mem.now.spaces) (sym rest.anons) c.requires.steady.2.anons)).order
+    (subst (λ (x : AllSpaces). AnonsFit x c.zap_range.new.mem.anons) (sym rest.parts.spaces)
+    (subst (AnonsFit c.args.mem.now.spaces) (sym rest.parts.anons) c.requires.steady.2.anons)).order
 
 pub returns-clause-unmapped : goal.returns-clause-unmapped
 returns-clause-unmapped c = λ d l stands.
-    let t = c.zap_range.ensures in
+    let t = c.in_ok-zap_range.ensures in
     let mid = c.zap_range.new.mem in
     both_ok c.unmap.result (λ gone stay. are_unmapped c.args.mem.now mid c.unmap.new.self c.unmap.new.anons c.args.process c.args.page c.args.pages l
-    (t.zapped d l stands) t.rest.spaces t.rest.anons t.rest.processes t.rest.bytes t.rest.homes
+    c.args.notes.now c.zap_range.new.notes (t.zapped d l stands) t.rest
     (unmapped-prots mid.spaces.processes c.unmap.new.self.processes c.args.process c.args.page c.args.pages gone)
     (gets_areas mid.spaces.processes c.unmap.new.self.processes c.args.process _ gone) stay
     (unmapped-homes mid.spaces.processes c.unmap.new.self.processes c.args.process c.args.page c.args.pages gone)) c.unmap.ensures.areas c.unmap.ensures.anons

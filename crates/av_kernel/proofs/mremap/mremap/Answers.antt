@@ -12,7 +12,7 @@ use Rattle.av_kernel.proofs.MremapGoes.{Goes, Passes, both_are, grow_by, high_by
 use Rattle.av_kernel.proofs.MremapRefusals.{dead_does, have_prots_of, no_room_does, refused_does}
 use Rattle.av_place.proofs.PlaceLaws.{rounded_up}
 use Rattle.av_mem.specs.declared.mem.Mem.{Mem}
-use Rattle.av_kernel.proofs.StepLaws.{answers, orderly, refuses-as, refuses-by, ranges_there, wants-by}
+use Rattle.av_kernel.proofs.StepLaws.{answers-noted, orderly, refuses-as, refuses-by, ranges_there, wants-by}
 use Rattle.av_kernel.proofs.ForkLaws.{still_orderly}
 use Rattle.av_kernel.proofs.mremap.mremap.Goals.{In_ok-check_remap, In_ok-to}
 use Rattle.av_kernel.proofs.mremap.mremap.Goals as goal
@@ -144,9 +144,9 @@ remap_entries-requires-clause-apart c = λ there.
 pub returns-in_err-remap_entries : goal.returns-in_err-remap_entries
 returns-in_err-remap_entries c =
     let a = c.args in
-    wants-by a.mem.now c.remap_entries.new.mem (Mremap a.process a.address a.old_len a.new_len a.mode) a.reply.now
+    wants-by a.mem.now c.remap_entries.new.mem (Mremap a.process a.address a.old_len a.new_len a.mode) (record a.reply.now { notes = c.remap_entries.new.notes })
     c.from_residual-in_err-remap_entries.result c.from_residual-in_err-remap_entries.ensures
-    (c.remap_entries.ensures.rest.count ∙ ap (λ (k : Mem). (shown k.frames).count) c.remap_areas.ensures.rest)
+    (c.remap_entries.ensures.rest.parts.count ∙ ap (λ (k : Mem). (shown k.frames).count) c.remap_areas.ensures.rest)
 
 -- ---- the answer
 
@@ -158,17 +158,18 @@ overflow_mul-to c =
 
 pub returns : goal.returns
 returns c = record {
-  count = c.remap_entries.ensures.rest.count ∙ ap (λ (k : Mem). (shown k.frames).count) c.remap_areas.ensures.rest;
+  count = c.remap_entries.ensures.rest.parts.count ∙ ap (λ (k : Mem). (shown k.frames).count) c.remap_areas.ensures.rest;
   step = λ d s keeps.
       let a = c.args in
       let gone = c.remap_areas.new.mem in
+      let notes = c.remap_entries.new.notes in
       let left = c.prot_left-left.ensures (pages s.world a.process) (have_prots_of a.mem.now s keeps a.process) in
-      answers a.reply.now c.answer_with.new.reply c.requires.cleared c.answer_with.ensures
-      (steps_by (goes (goal.at.returns c).In_ok-to) s keeps c.in_ok-check_indices.ensures.small gone c.remap_entries.new.mem
+      let done = c.in_ok-remap_entries.ensures.remaps d s.ledger
+      (still_orderly d a.mem.now gone gone.tables s.ledger c.remap_areas.ensures.rest refl (orderly a.mem.now s keeps)) in
+      answers-noted a.reply.now c.answer_with.new.reply notes _ c.requires.cleared c.answer_with.ensures done.notes
+      (steps_by (goes (goal.at.returns c).In_ok-to) s keeps a.reply.now.notes notes c.in_ok-check_indices.ensures.small gone c.remap_entries.new.mem
       c.remap_areas.ensures.rest
       (subst (λ left. HasRemap a.mem.now gone a.process (after_mremap (chain_length s.anons) a.process (a.address / 4096)
       c.div_ceil-pages.result c.in_ok-to.to c.div_ceil-new_pages.result left (s.areas a.process))) left (c.in_ok-remap_areas.ensures.remaps d s keeps))
-      (c.in_ok-remap_entries.ensures.remaps d s.ledger
-      (still_orderly d a.mem.now gone gone.tables s.ledger c.remap_areas.ensures.rest refl (orderly a.mem.now s keeps)))
-      c.remap_entries.ensures.rest);
+      done c.remap_entries.ensures.rest);
 }

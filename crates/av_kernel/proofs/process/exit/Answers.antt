@@ -3,7 +3,7 @@ use Rattle.av_trace.specs.declared.command.Command.TheVariants.{Exit}
 use Rattle.av_spaces.specs.Spaces.{AllSpaces}
 use Rattle.av_spaces.specs.Kin.{AnonsStay}
 use Rattle.av_trace.specs.declared.reply.Errno.TheVariants.{Esrch}
-use Rattle.av_kernel.proofs.StepLaws.{answers, orderly, ranges_there, refuses, refuses-as, dead_first}
+use Rattle.av_kernel.proofs.StepLaws.{answers-noted, orderly, ranges_there, refuses, refuses-as, dead_first}
 use Rattle.av_kernel.proofs.ProcessLaws.{exit-steps}
 use Rattle.av_kernel.proofs.process.exit.Goals as goal
 
@@ -14,20 +14,21 @@ returns-in_err-check_lives c =
     (refuses c.args.mem.now (Exit c.args.process) Esrch (λ d s keeps. dead_first c.args.mem.now s c.args.process _ keeps c.in_err-check_lives.ensures.0))
 
 pub end-requires : goal.end-requires
-end-requires c = ap (λ h. h c.args.process) c.zap_all.ensures.rest.processes ∙ c.requires.steady.2.tables c.args.process
+end-requires c = ap (λ h. h c.args.process) c.zap_all.ensures.rest.parts.processes ∙ c.requires.steady.2.tables c.args.process
     ∙ ranges_there c.args.mem.now c.args.process c.in_ok-check_lives.ensures
 
 pub returns : goal.returns
 returns c = record {
-  count = c.zap_all.ensures.rest.count;
+  count = c.zap_all.ensures.rest.parts.count;
   step = λ d s keeps.
       let old = c.args.mem.now in
       let mid = c.zap_all.new.mem in
       let rest = c.zap_all.ensures.rest in
-      answers c.args.reply.now c.answer_with.new.reply c.requires.cleared c.answer_with.ensures
-      (exit-steps old mid c.end.new.self c.end-2.new.self c.end-2.new.anons s c.args.process keeps (ranges_there old c.args.process c.in_ok-check_lives.ensures)
-      (c.zap_all.ensures.zapped d s.ledger (orderly old s keeps))
-      rest.bytes rest.homes rest.spaces rest.processes rest.count c.end.ensures.processes c.end.ensures.entries c.end-2.ensures.areas
-      (subst (λ (x : AllSpaces). AnonsStay x old.anons c.end-2.new.self c.end-2.new.anons) rest.spaces
-      (subst (λ a. AnonsStay mid.spaces a c.end-2.new.self c.end-2.new.anons) rest.anons c.end-2.ensures.anons)));
+      let taken = c.in_ok-zap_all.ensures.zapped d s.ledger (orderly old s keeps) in
+      answers-noted c.args.reply.now c.answer_with.new.reply c.zap_all.new.notes _ c.requires.cleared c.answer_with.ensures taken.notes
+      (exit-steps old mid c.end.new.self c.end-2.new.self c.end-2.new.anons s c.args.process c.args.reply.now.notes c.zap_all.new.notes keeps
+      (ranges_there old c.args.process c.in_ok-check_lives.ensures) taken rest
+      c.end.ensures.processes c.end.ensures.entries c.end-2.ensures.areas
+      (subst (λ (x : AllSpaces). AnonsStay x old.anons c.end-2.new.self c.end-2.new.anons) rest.parts.spaces
+      (subst (λ a. AnonsStay mid.spaces a c.end-2.new.self c.end-2.new.anons) rest.parts.anons c.end-2.ensures.anons)));
 }

@@ -6,9 +6,10 @@ use Rattle.av_trace.specs.declared.reply.Errno.TheVariants.{Esrch}
 use Rattle.av_pagetable.specs.Entries.{has}
 use Rattle.av_pagetable.proofs.Entries.{none_there}
 use Rattle.av_mem.specs.declared.mem.Mem.{Mem}
+use Rattle.av_swapcache.specs.Swap.{shown as shown_swap}
 use Rattle.av_kernel.proofs.StepLaws.{answers, orderly, refuses, refuses-as, refuses-by, dead_first, wants-by}
 use Rattle.av_kernel.proofs.ProcessLaws.{absent, no_table}
-use Rattle.av_kernel.proofs.ForkLaws.{entries_few, fork-steps, fork_is, has_table, still_orderly}
+use Rattle.av_kernel.proofs.ForkLaws.{entries_few, fork-steps, fork_is, has_table, slots_few, still_orderly}
 use Rattle.av_kernel.proofs.process.fork.Goals as goal
 
 pub returns-in_err-check_lives : goal.returns-in_err-check_lives
@@ -54,6 +55,10 @@ pub fork_entries-requires-clause-few : goal.fork_entries-requires-clause-few
 fork_entries-requires-clause-few c f = subst (λ (k : Mem). (shown k.frames).maps f ≤ most_processes) (sym c.fork_areas.ensures.rest)
     (entries_few c.args.mem.now c.requires.steady.1 c.requires.steady.2 f)
 
+pub fork_entries-requires-clause-few_slots : goal.fork_entries-requires-clause-few_slots
+fork_entries-requires-clause-few_slots c s = subst (λ (k : Mem). (shown_swap k.swap).entries s ≤ most_processes) (sym c.fork_areas.ensures.rest)
+    (slots_few c.args.mem.now c.requires.steady.1 c.requires.steady.2 s)
+
 pub fork_entries-requires-clause-there : goal.fork_entries-requires-clause-there
 fork_entries-requires-clause-there c = has_table c.fork_areas.new.mem c.spawn.new.self c.args.child c.in_ok-spawn.ensures.processes
 
@@ -67,11 +72,11 @@ fork_entries-requires-clause-empty c page =
 pub returns-in_err-fork_entries : goal.returns-in_err-fork_entries
 returns-in_err-fork_entries c =
     wants-by c.args.mem.now c.fork_entries.new.mem (Fork c.args.parent c.args.child) c.args.reply.now c.from_residual-in_err-fork_entries.result
-    c.from_residual-in_err-fork_entries.ensures (c.fork_entries.ensures.rest.count ∙ ap (λ (k : Mem). (shown k.frames).count) c.fork_areas.ensures.rest)
+    c.from_residual-in_err-fork_entries.ensures (c.fork_entries.ensures.rest.parts.count ∙ ap (λ (k : Mem). (shown k.frames).count) c.fork_areas.ensures.rest)
 
 pub returns : goal.returns
 returns c = record {
-  count = c.fork_entries.ensures.rest.count ∙ ap (λ (k : Mem). (shown k.frames).count) c.fork_areas.ensures.rest;
+  count = c.fork_entries.ensures.rest.parts.count ∙ ap (λ (k : Mem). (shown k.frames).count) c.fork_areas.ensures.rest;
   step = λ d s keeps.
       let k = c.args.mem.now in
       let gone = c.fork_areas.new.mem in

@@ -1,13 +1,11 @@
 use Rattle.std.proofs.Common.{refl, sym, ap, ◌∙◌}
 use Rattle.av_base.specs.Page.{page_of}
 use Rattle.av_pagetable.specs.declared.pte.Pte.TheVariants.{Here}
-use Rattle.av_fault.specs.Fault.{frame_named}
-use Rattle.av_fault.proofs.FaultSafe.{entry_frame}
 use Rattle.av_trace.specs.declared.command.Command.TheVariants.{Rmap as AsksRmap}
 use Rattle.av_trace.specs.declared.reply.Answer.TheVariants.{NoWalk}
 use Rattle.av_trace.specs.declared.reply.Errno.TheVariants.{Efault, Esrch}
 use Rattle.av_kernel.proofs.StepLaws.{dead_first, only_answer, refuses, refuses-as}
-use Rattle.av_kernel.proofs.ReportEntry.{unmapped_next}
+use Rattle.av_kernel.proofs.ReportEntry.{frame_below, unmapped_next}
 use Rattle.av_kernel.proofs.ReportWalk.{none-shown, walk-steps}
 use Rattle.av_kernel.proofs.report.rmap.Goals as goal
 
@@ -26,8 +24,8 @@ returns-in_err-check_mapped c =
     (λ d s keeps. unmapped_next c.args.mem.now s c.args.process c.args.address keeps c.in_ok-check_lives.ensures c.in_err-check_mapped.ensures.0))
 
 pub show_walk-requires-clause-in_range : goal.show_walk-requires-clause-in_range
-show_walk-requires-clause-in_range c = (entry_frame c.args.mem.now c.args.process (page_of c.args.address) c.in-Here.frame c.requires.steady
-    (ap frame_named (sym c.get.ensures ∙ c.in-Here.is))).0
+show_walk-requires-clause-in_range c = frame_below c.args.mem.now c.args.process (page_of c.args.address) c.in-Here.frame c.in-Here.write c.in-Here.seen
+    c.requires.steady (sym c.get.ensures ∙ c.in-Here.is)
 
 pub returns-in_ok-show_walk-in-Here : goal.returns-in_ok-show_walk-in-Here
 returns-in_ok-show_walk-in-Here c = record {

@@ -1,8 +1,11 @@
 use Rattle.std.proofs.Common.{subst, sym, ◌∙◌, refl}
 use Rattle.av_trace.specs.declared.command.Command.TheVariants.{Stat}
+use Rattle.av_trace.specs.declared.reply.Answer.TheVariants.{Counted}
+use Rattle.av_trace.specs.declared.reply.Totals.{Totals}
+use Rattle.av_trace.specs.Reply.{answer_only}
 use Rattle.av_kernel.specs.Step.{StepsBeside}
 use Rattle.av_kernel.proofs.StepLaws.{answers}
-use Rattle.av_kernel.proofs.ReportStat.{stat-steps, same_reply}
+use Rattle.av_kernel.proofs.ReportStat.{stat-steps}
 use Rattle.av_kernel.proofs.report.stat.Goals as goal
 
 pub returns : goal.returns
@@ -10,8 +13,16 @@ returns c = record {
   count = refl;
   step = λ d s keeps.
       let k = c.args.mem.now in
-      answers c.args.reply.now c.answer_with.new.reply c.requires.cleared c.answer_with.ensures (subst (StepsBeside d k k s Stat)
-      (sym (same_reply _ _ _ _ _ _ _ _ c.count-2.result (c.from.ensures ∙ c.count.ensures) (c.from-2.ensures ∙ c.free.ensures.count)
-      (c.from-3.ensures ∙ c.len.ensures.count) (c.from-4.ensures ∙ c.len-2.ensures.count)))
+      answers c.args.reply.now c.answer_with.new.reply c.requires.cleared c.answer_with.ensures
+      (subst (λ (t : Totals). StepsBeside d k k s Stat (answer_only (Counted t))) (sym (λ i. record {
+        frames = (c.from.ensures ∙ c.count.ensures) i;
+        free = (c.from-2.ensures ∙ c.free.ensures.count) i;
+        active = (c.from-3.ensures ∙ c.len.ensures.count) i;
+        inactive = (c.from-4.ensures ∙ c.len-2.ensures.count) i;
+        flight = (c.from-5.ensures ∙ c.flight.ensures) i;
+        slots = c.all_slots.ensures.sum i;
+        free_slots = c.all_free_slots.ensures.sum i;
+        processes = c.count-2.result;
+      }))
       (stat-steps k s c.count-2.result keeps c.free.ensures.once c.free.ensures.in_range c.count-2.ensures));
 }

@@ -1,4 +1,4 @@
-use Rattle.std.proofs.Common.{◌≡◌, ℕ, ◌+◌, ◌<◌, ◌≤◌, List, Option, length, sym, ap, subst, ◌∙◌, arith}
+use Rattle.std.proofs.Common.{◌≡◌, ℕ, ◌+◌, ◌<◌, ◌≤◌, List, Option, length, sym, ap, subst, ◌∙◌}
 use Rattle.std.specs.List.{AllByRecursion}
 use Rattle.av_base.specs.Limits.{top_page}
 use Rattle.av_vma.specs.declared.area.Area.{Area}
@@ -7,7 +7,6 @@ use Rattle.av_rmap.specs.Sorted.{AreRising}
 use Rattle.av_rmap.specs.View.{AreApart}
 use Rattle.av_rmap.specs.Walk.{AreItsEntries, Key, looks_from}
 use Rattle.av_plain.specs.Ledger.{walk as walk_of}
-use Rattle.av_mem.specs.Walk.{areas_at}
 use Rattle.av_mem.proofs.WalkLaws.{apart, below, covered, few, found, if_both, looks, on_ok, reach_by}
 use Rattle.av_mem.proofs.walk.walk.Goals as goal
 

@@ -1,16 +1,18 @@
-use Rattle.std.proofs.Common.{◌-◌}
+use Rattle.std.proofs.Common.{◌≡◌, ◌+◌, ◌-◌, ◌≤◌}
 use Rattle.av_plain.specs.Device.{Device}
 use Rattle.av_plain.specs.Ledger.{Ledger}
-use Rattle.av_mem.specs.Mem.{HasLedger, IsOrderly}
-use Rattle.av_mem.specs.Zap.{KeepsRest}
-use Rattle.av_mem.proofs.Parts.{parts_of}
-use Rattle.av_mem.proofs.ZapRange.{IsTaking}
+use Rattle.av_mem.specs.Entries.{LetsGo, without_pages}
+use Rattle.av_mem.specs.Mem.{HasLedger, view}
+use Rattle.av_mem.specs.Steps.{KeepsRest}
 use Rattle.av_mem.proofs.zap.zap_range.Given as goal
 
 abbrev pub invariant-loop-page : goal.invariant-loop-page
 invariant-loop-page l = record {
-  orderly : IsOrderly l.mem;
-  taking : (d : Device) (first : Ledger) → HasLedger d l.initial.mem first → IsTaking d (parts_of l.initial.mem) (parts_of l.mem) l.process l.from l.past l.next first;
+  low : l.from ≤ l.next;
+  all : (l.next - l.from) + (l.past - l.next) ≡ l.past - l.from;
+  goes : (d : Device) (first : Ledger) → HasLedger d l.initial.mem first
+      → LetsGo d l.initial.mem l.mem (view l.initial.mem).table first l.process l.from (l.next - l.from) l.initial.notes l.notes;
+  tables : (view l.mem).table ≡ without_pages l.process l.from (l.next - l.from) (view l.initial.mem).table;
   rest : KeepsRest l.initial.mem l.mem;
 }
 

@@ -6,8 +6,7 @@ use Rattle.av_anon.specs.Anons.{family}
 use Rattle.av_anon.specs.Spans.{spans_of}
 use Rattle.av_merge.specs.Kin.{lengths}
 use Rattle.av_merge.specs.Pages.{pages_by}
-use Rattle.av_merge.proofs.LinkingLaws.{none_of, ok_three}
-use Rattle.std.proofs.lemmas.Result.{on_ok_weaker}
+use Rattle.av_merge.proofs.LinkingLaws.{none_of}
 use Rattle.av_merge.proofs.PreparingLaws.{makes_none, prepare_kin, prepare_pages, prepares_none}
 use Rattle.av_merge.proofs.preparing.prepare.Goals as goal
 
@@ -28,19 +27,18 @@ returns-then-is_some-clause-kin c =
 
 pub returns-clause-kin : goal.returns-clause-kin
 returns-clause-kin c =
-    ok_three c.prepare.result c.prepare.ensures.family c.prepare.ensures.areas c.prepare.ensures.spans (λ was now goes.
+    let done = c.in_ok-prepare.ensures in
     prepare_kin c.requires.stands.0 c.in-Some.number c.args.page (area_of c.args.areas.now) (area_of c.prepare.new.areas)
     (family c.args.anons.now) (family c.prepare.new.self) (spans_of c.args.anons.now) (spans_of c.prepare.new.self)
     c.args.tree.now c.get-area.result c.requires.order c.requires.stands.1 (sym c.in-Some.ensures.area) c.get-area.ensures
     (none_of c.get-area.result.anon (sym c.is_some.ensures ∙ c.if-is_some.false))
-    c.find-before.result c.find-after.result c.find-before.ensures.area c.find-after.ensures.area was now goes)
+    c.find-before.result c.find-after.result c.find-before.ensures.area c.find-after.ensures.area done.family done.areas done.spans
 
 pub returns-clause-pages : goal.returns-clause-pages
 returns-clause-pages c =
-    on_ok_weaker c.prepare.result (λ now.
+    let done = c.in_ok-prepare.ensures in
     prepare_pages c.requires.stands.0 c.in-Some.number c.args.page (area_of c.args.areas.now) (area_of c.prepare.new.areas)
     (family c.args.anons.now) (family c.prepare.new.self) (spans_of c.args.anons.now) (spans_of c.prepare.new.self)
     c.args.tree.now c.get-area.result c.requires.order c.requires.stands.1 (sym c.in-Some.ensures.area) c.get-area.ensures
     (none_of c.get-area.result.anon (sym c.is_some.ensures ∙ c.if-is_some.false))
-    c.find-before.result c.find-after.result c.find-before.ensures.area c.find-after.ensures.area now)
-    c.prepare.ensures.areas
+    c.find-before.result c.find-after.result c.find-before.ensures.area c.find-after.ensures.area done.areas

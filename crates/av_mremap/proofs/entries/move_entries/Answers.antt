@@ -1,14 +1,14 @@
-use Rattle.std.proofs.Common.{ℕ, Bool, ap, arith, refl, ◌∙◌}
+use Rattle.std.proofs.Common.{ℕ, Bool, ap, arith, ◌∙◌}
 use Rattle.av_pagetable.specs.Entries.{entry_at, with_entry}
 use Rattle.av_mem.specs.declared.mem.Mem.{Mem}
-use Rattle.av_mem.proofs.ZapRange.{rest_rest}
+use Rattle.av_mem.proofs.LetGoLaws.{rest-tables, rest-then}
 use Rattle.av_mremap.proofs.EntriesLedger.{has_moved}
 use Rattle.av_mremap.proofs.EntriesTables.{all_moved, one_moved}
 use Rattle.av_mremap.proofs.entries.move_entries.Goals as goal
 
 pub set-requires-clause-there : goal.set-requires-clause-there
 set-requires-clause-there c = ap (λ (has : ℕ → Bool). has c.args.process)
-    (c.take_first.ensures.processes ∙ c.loop-page.invariant.rest.processes) ∙ c.requires.there
+    (c.take_first.ensures.processes ∙ c.loop-page.invariant.rest.parts.processes) ∙ c.requires.there
 
 pub loop-page-preserved : goal.loop-page-preserved
 loop-page-preserved c =
@@ -20,14 +20,7 @@ loop-page-preserved c =
           (entry_at c.loop-page.mem.tables) c.loop-page.next i.moving (entry_at c.set.new.self) _ c.in-Some.page _ c.in-Some.entry _
           (omega arith) (omega arith) (cc) takes.0 takes.1 (c.in_ok-set.ensures.sets ∙ ap (with_entry a.process _ _) takes.2);
       stay = ap (λ (k : Mem). record k { tables = c.set.new.self }) i.stay;
-      rest = rest_rest i.rest (record {
-        processes = c.in_ok-set.ensures.processes ∙ c.take_first.ensures.processes;
-        bytes = refl;
-        homes = refl;
-        spaces = refl;
-        anons = refl;
-        count = refl;
-      });
+      rest = rest-then i.rest (rest-tables c.loop-page.mem c.set.new.self (c.in_ok-set.ensures.processes ∙ c.take_first.ensures.processes));
     }
 
 pub returns-clause-entries : goal.returns-clause-entries

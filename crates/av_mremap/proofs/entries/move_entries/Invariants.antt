@@ -1,6 +1,6 @@
 use Rattle.std.proofs.Common.{◌≡◌, ◌-◌}
 use Rattle.av_pagetable.specs.Entries.{entry_at}
-use Rattle.av_mem.specs.Zap.{KeepsRest}
+use Rattle.av_mem.specs.Steps.{KeepsRest}
 use Rattle.av_mremap.proofs.EntriesTables.{IsMoving}
 use Rattle.av_mremap.proofs.entries.move_entries.Given as goal
 

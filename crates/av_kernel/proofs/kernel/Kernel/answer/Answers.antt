@@ -3,7 +3,8 @@ use Rattle.av_plain.specs.Device.{setting_of}
 use Rattle.av_plain.specs.Transcript.{IsStep}
 use Rattle.av_mem.specs.Mem.{Keeps}
 use Rattle.av_kernel.specs.Machine.{Machine, sizes_of}
-use Rattle.av_kernel.specs.Step.{IsSteadyAt, seen_by}
+use Rattle.av_kernel.specs.Step.{seen_by}
+use Rattle.av_mem.specs.Mem.{IsSteadyAt}
 use Rattle.av_kernel.specs.Tally.{IsAtMost}
 use Rattle.av_kernel.proofs.TallyCounts.{counted-few, few-enough}
 use Rattle.av_kernel.proofs.kernel.Kernel.answer.Goals as goal

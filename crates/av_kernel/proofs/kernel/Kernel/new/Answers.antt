@@ -1,4 +1,4 @@
-use Rattle.std.proofs.Common.{None, arith, refl, subst, sym}
+use Rattle.std.proofs.Common.{arith, subst, sym}
 use Rattle.av_kernel.specs.Tally.{IsAtMost, none_counted}
 use Rattle.av_kernel.proofs.kernel.Kernel.new.Goals as goal
 
@@ -18,6 +18,5 @@ few-none = record {
 pub invariant_of-result : goal.invariant_of-result
 invariant_of-result c = record {
   few = subst (IsAtMost 0) (sym c.new-2.ensures) few-none;
-  steady = λ _.
-      (record { sizes = _; pages = None; faults = 0 }, refl, _, c.in_ok-new.ensures.keeps _);
+  steady = λ _. (0, _, c.in_ok-new.ensures.keeps _);
 }

@@ -1,0 +1,291 @@
+-- What stands between two events, of the memory system.
+use Rattle.std.proofs.Common.{◌≡◌, ℕ, ◌+◌, ◌≤◌, Bool, true, false, cond, not, nat_lt, ◌&&◌, ◌==◌, ◌<◌, List, [], ◌∷◌, ◌++◌, Option, Some, None, is_some, IfSome, IsSomeAnd, refl, sym, ap, subst, ◌∙◌, arith}
+use Rattle.std.specs.FinMap.Entries.{find}
+use Rattle.std.specs.Ordering.{nat_cmp}
+use Rattle.std.specs.Prelude.{map, option_map, slice_index}
+use Rattle.av_base.specs.Page.{page_size}
+use Rattle.av_base.specs.declared.slot.Slot.{Slot}
+use Rattle.av_anon.specs.declared.anons.Anons.{Anons as AnonSet}
+use Rattle.av_io.specs.Count.{RoseBy}
+use Rattle.av_lru.specs.Lists.{Lists}
+use Rattle.av_spaces.specs.Kin.{AnonsFit}
+use Rattle.av_spaces.specs.Spaces.{AllSpaces}
+use Rattle.av_swapcache.specs.Swap.{Shown as ShownSwap, header_at, shown as shown_swap}
+use Rattle.av_swapdev.specs.declared.header.Header.{Header}
+use Rattle.av_swapdev.specs.Header.{Layout}
+use Rattle.av_plain.specs.Areas.{Rmap, rmap_after_all}
+use Rattle.av_plain.specs.Choice.{ChoosesAll, Free, ListsAll}
+use Rattle.av_plain.specs.Device.{Device, IsSameDevice, as_told, device_by, headers_of, setting_of}
+use Rattle.av_plain.specs.Event.{Event, after, after_all}
+use Rattle.av_plain.specs.Ledger.{Entry, InFrame, InSlot, Ledger, Setting, Zero, entry, frame_at, SwapArea, is_free_slot, is_on, is_usable, may_be_slot, size_of, slot_count}
+use Rattle.av_plain.specs.Load.{after_load, after_loads, with_loads}
+use Rattle.av_plain.specs.Sound.{AreThere, AreasFit, IsSound, count, is_there}
+use Rattle.av_plain.specs.Stands.{BytesStand, HeadersStand, Holds, IsClean, IsKept, IsKeptAt, LedgerStands, View, free_of}
+use Rattle.av_plain.specs.Transcript.{State, rmap_of}
+use Rattle.av_plain.specs.World.{Page, World, pages}
+use Rattle.av_plain.proofs.Access.{after_all-append, chooses-append}
+use Rattle.av_plain.proofs.AreasLeft.{rmap_after_all-append}
+use Rattle.av_plain.proofs.Device.{setting_same}
+use Rattle.av_pagetable.specs.Entries.{has}
+use Rattle.av_swap_laws.specs.Held.{Held, IsHeld}
+use Rattle.av_mem.specs.declared.mem.Mem.{Mem}
+use Rattle.av_mem.specs.Mem.{AgreesWith, AreByHeaders, HasLists, HasTables, IsSteadyAt, Keeps, Serves, SwapFits, frame_count, held_by, ranges_of, setting_by, view}
+use Rattle.av_mem.specs.Steps.{KeepsParts}
+use Rattle.av_fault.specs.Between.{IsBetween, KeepsBetween}
+use Rattle.av_fault.proofs.Amid.{Amid}
+
+-- ---- of the view, and of the parts
+
+-- what is said of the parts beside the view
+pub record PartsFit (d : Device) (k : Mem) : Type 0 where
+  pub lists : HasLists k
+  pub tables : HasTables k
+  pub fit : AnonsFit k.spaces k.anons
+  pub swap : SwapFits d None k
+
+module _ (d : Device) (k : Mem) (w : World) (r : Rmap) (l : Ledger) where
+  pub to-amid : KeepsBetween d k w r l → Amid (setting_by d k) (held_by d k w r l)
+  to-amid h = record {
+    sound = h.sound;
+    held = h.serves.held;
+    areas = h.serves.areas;
+    are = h.serves.are;
+    anons = h.serves.anons;
+    tidy = h.serves.tidy;
+    at_pages = h.serves.at_pages;
+    there = h.serves.there;
+    areas_fit = h.serves.areas_fit;
+    free = h.serves.free;
+  }
+
+  pub to-fit : KeepsBetween d k w r l → PartsFit d k
+  to-fit h = record { lists = h.serves.lists; tables = h.serves.tables; fit = h.serves.fit; swap = h.serves.swap }
+
+  pub of-amid : Amid (setting_by d k) (held_by d k w r l) → PartsFit d k → KeepsBetween d k w r l
+  of-amid a f = record {
+    sound = a.sound;
+    serves = record {
+      held = a.held;
+      areas = a.areas;
+      are = a.are;
+      anons = a.anons;
+      tidy = a.tidy;
+      at_pages = a.at_pages;
+      there = a.there;
+      areas_fit = a.areas_fit;
+      free = a.free;
+      lists = f.lists;
+      tables = f.tables;
+      fit = f.fit;
+      swap = f.swap;
+    };
+  }
+
+-- between two commands it stands for a state
+pub between-of : (d : Device) (k : Mem) (s : State) → Keeps d k s → KeepsBetween d k s.world (rmap_of s) s.ledger
+between-of d k s h = record {
+  sound = h.stands.sound.ledger;
+  serves = record {
+    held = record {
+      ledger = h.stands.parts.ledger;
+      bytes = h.stands.parts.bytes;
+      headers = h.stands.parts.headers;
+      covered = record { frames = h.stands.reach; slots = h.stands.slots };
+      homes = h.stands.homes;
+    };
+    areas = h.stands.parts.areas;
+    are = h.stands.areas;
+    anons = h.stands.anons;
+    tidy = h.stands.sound.world;
+    at_pages = h.stands.sound.at_pages;
+    there = h.stands.sound.in_areas;
+    areas_fit = h.stands.sound.areas_fit;
+    free = subst (ListsAll (setting_by d k) s.ledger) (sym h.stands.free) h.stands.lists;
+    lists = h.lists;
+    tables = h.tables;
+    fit = h.anons;
+    swap = h.swap;
+  };
+}
+
+-- ---- the device
+
+-- the headers of one device
+headers-same : (a b : Device) → IsSameDevice a b → headers_of b ≡ headers_of a
+headers-same a b same = ap (λ (m : Setting). m.headers) (setting_same 0 a b same)
+
+pub same-still : (d : Device) → IsSameDevice d d
+same-still d = record { sizes = refl; first = refl; faults = omega arith }
+
+pub same-then : (a b c : Device) → IsSameDevice a b → IsSameDevice b c → IsSameDevice a c
+same-then a b c ab bc = record {
+  sizes = bc.sizes ∙ ab.sizes;
+  first = bc.first ∙ ab.first;
+  faults = let x = ab.faults in let y = bc.faults in omega (arith, x, y);
+}
+
+pub setting-stays : (d d' : Device) (old new : Mem) → IsSameDevice d d' → frame_count new ≡ frame_count old → setting_by d' new ≡ setting_by d old
+setting-stays d d' old new same count = ap (λ n. setting_of n d') count ∙ setting_same (frame_count old) d d' same
+
+-- the swap areas that are on have the pages of their headers still
+by-headers-stay : (o : Option (ℕ → Option Layout)) (h h' : ShownSwap) → h'.on ≡ h.on → h'.bad ≡ h.bad → AreByHeaders o h → AreByHeaders o h'
+by-headers-stay None h h' on bad are = tt
+by-headers-stay (Some told) h h' on bad are = λ a. subst (λ x. IfSome x (λ header. IsSomeAnd (told a) (AgreesWith h' a header)))
+    (sym (ap (λ os. find nat_cmp a os) on)) (by a (header_at h a) (are a))
+  where
+    agrees : (a : ℕ) (header : Header) (o : Option Layout) → IsSomeAnd o (AgreesWith h a header) → IsSomeAnd o (AgreesWith h' a header)
+    agrees a header None x = x
+    agrees a header (Some layout) x = record {
+      pages = x.pages;
+      slots = λ page below. x.slots page below ∙ sym (ap (λ (b : Slot → Bool). not (b (record { area = a; page = page }))) bad);
+    }
+
+    by : (a : ℕ) (x : Option Header) → IfSome x (λ header. IsSomeAnd (told a) (AgreesWith h a header))
+        → IfSome x (λ header. IsSomeAnd (told a) (AgreesWith h' a header))
+    by a None x = tt
+    by a (Some header) x = agrees a header (told a) x
+
+-- where nothing changes beside the view, the parts fit still
+pub fit-stays : (d d' : Device) (old new : Mem) → IsSameDevice d d' → KeepsParts old new → PartsFit d old → PartsFit d' new
+fit-stays d d' old new same parts h = record {
+  lists = parts.lists ∙ h.lists ∙ sym parts.count;
+  tables = λ p. ap (λ (there : ℕ → Bool). there p) parts.processes ∙ h.tables p
+      ∙ ap (λ (s : AllSpaces). is_some (ranges_of s.processes p)) (sym parts.spaces);
+  fit = subst (λ (s : AllSpaces). AnonsFit s new.anons) (sym parts.spaces) (subst (AnonsFit old.spaces) (sym parts.anons) h.fit);
+  swap = record {
+    frames = parts.swap.frames ∙ h.swap.frames ∙ sym parts.count;
+    one_priority = λ a. ap (λ f. f a) parts.swap.priority ∙ h.swap.one_priority a;
+    closed = parts.swap.closing ∙ h.swap.closed;
+    on_device = λ a. subst (λ (on : List (ℕ × Header)). IfSome (find nat_cmp a on) (λ (x : Header). IsSomeAnd (d'.sizes a) (λ n. x.pages ≤ n)))
+        (sym parts.swap.on)
+        (subst (λ (sizes : ℕ → Option ℕ). IfSome (header_at (shown_swap old.swap) a) (λ (x : Header). IsSomeAnd (sizes a) (λ n. x.pages ≤ n)))
+        (sym same.sizes) (h.swap.on_device a));
+    by_headers = subst (λ o. AreByHeaders o (shown_swap new.swap)) (sym (headers-same d d' same))
+        (by-headers-stay (headers_of d) (shown_swap old.swap) (shown_swap new.swap) parts.swap.on parts.swap.bad h.swap.by_headers);
+    none_on = parts.swap.on ∙ h.swap.none_on;
+  };
+}
+
+-- ---- on another device
+
+-- what is said of the pages of one device is said of the other
+abbrev pub SaysAsMuch : Device → Device → Type 1
+SaysAsMuch d d' = (IsSo : (ℕ → ℕ → List ℕ) → Type 0) → IfSome d.pages IsSo → IfSome d'.pages IsSo
+
+-- frames and device hold what the pages claim on the other one too
+pub bytes-move : (v : View) (d d' : Device) (w : World) (l : Ledger) → SaysAsMuch d d' → BytesStand v d w l → BytesStand v d' w l
+bytes-move v d d' w l move h = record {
+  kept = λ p page. kept (entry l (p, page)) (pages w p page) (h.kept p page);
+  clean = λ s stale flying. clean s (frame_at l s) (h.clean s stale flying);
+}
+  where
+    at : (s : Slot) (x : Option Page) (o : Option ℕ) → IsKeptAt v d s x o → IsKeptAt v d' s x o
+    at s x None k = move (λ told. Holds x (slice_index (told s.area s.page))) k
+    at s x (Some f) k = k
+
+    kept : (e : Option Entry) (x : Option Page) → IsKept v d l e x → IsKept v d' l e x
+    kept None x k = k
+    kept (Some Zero) x k = k
+    kept (Some (InFrame f seen)) x k = k
+    kept (Some (InSlot s)) x k = at s x (frame_at l s) k
+
+    clean : (s : Slot) (o : Option ℕ) → IsClean v d s o → IsClean v d' s o
+    clean s None c = c
+    clean s (Some f) c = move (λ told. (i : ℕ) → i < page_size → slice_index (told s.area s.page) i ≡ v.bytes f i) c
+
+-- less is a slot, where headers are told
+usable : (o : Option (ℕ → Option Layout)) (a b c e : Bool) (s : Slot) → (a && b && c && e && may_be_slot s o) ≡ true → (a && b && c && e && true) ≡ true
+usable o true true true true s is = refl
+usable o true true true false s is = cc
+usable o true true false e s is = cc
+usable o true false c e s is = cc
+usable o false b c e s is = cc
+
+module _ (d : Device) (k : Mem) (w : World) (r : Rmap) (l : Ledger) (n : ℕ) (h : KeepsBetween d k w r l) where
+  abbrev m : Setting
+  m = setting_by (device_by d.sizes None n) k
+
+  there-untold : (a b c : Bool) (s : Slot) (o : Option (ℕ → Option Layout)) → (a && b && c && may_be_slot s o) ≡ true → (a && b && c && true) ≡ true
+  there-untold true true true s o is = refl
+  there-untold true true false s o is = cc
+  there-untold true false c s o is = cc
+  there-untold false b c s o is = cc
+
+  -- it stands for them over this one too
+  pub between-untold : KeepsBetween (device_by d.sizes None n) k w r l
+  between-untold = record {
+    sound = record {
+      in_order = h.sound.in_order;
+      slots_once = h.sound.slots_once;
+      frames_once = h.sound.frames_once;
+      in_range = h.sound.in_range;
+      listed = h.sound.listed;
+      flying = h.sound.flying;
+      used = h.sound.used;
+      one = h.sound.one;
+    };
+    serves = record {
+      held = record {
+        ledger = record {
+          frames = let f = h.serves.held.ledger.frames in
+              record { frames = f.frames; maps = f.maps; slots = f.slots; dirty = f.dirty; free = f.free };
+          lists = h.serves.held.ledger.lists;
+          tables = h.serves.held.ledger.tables;
+          swap = h.serves.held.ledger.swap;
+        };
+        bytes = bytes-move (view k) d (device_by d.sizes None n) w l (λ IsSo x. tt) h.serves.held.bytes;
+        headers = λ a. unsaid (find nat_cmp a l.on);
+        covered = h.serves.held.covered;
+        homes = h.serves.held.homes;
+      };
+      areas = h.serves.areas;
+      are = h.serves.are;
+      anons = h.serves.anons;
+      tidy = h.serves.tidy;
+      at_pages = h.serves.at_pages;
+      there = λ s used. there-untold (is_on l s.area) (nat_lt 0 s.page) (nat_lt s.page (size_of m s.area)) s (headers_of d) (h.serves.there s used);
+      areas_fit = record { rising = h.serves.areas_fit.rising; attached = h.serves.areas_fit.attached; fit = h.serves.areas_fit.fit };
+      free = record {
+        frames = h.serves.free.frames;
+        slots = record {
+          taken = h.serves.free.slots.taken;
+          free = λ s is. usable (headers_of d) (is_on l s.area) (nat_lt 0 s.page) (nat_lt s.page (size_of m s.area)) (slot_count l s == 0) s
+              (h.serves.free.slots.free s is);
+          number = h.serves.free.slots.number;
+          off = h.serves.free.slots.off;
+        };
+      };
+      lists = h.serves.lists;
+      tables = h.serves.tables;
+      fit = h.serves.fit;
+      swap = record {
+        frames = h.serves.swap.frames;
+        one_priority = h.serves.swap.one_priority;
+        closed = h.serves.swap.closed;
+        on_device = h.serves.swap.on_device;
+        by_headers = tt;
+        none_on = h.serves.swap.none_on;
+      };
+    };
+  }
+    where
+      unsaid : (o : Option SwapArea) → IfSome o (λ area. Unit {0})
+      unsaid None = tt
+      unsaid (Some area) = tt
+
+-- the count of faults is nothing that is stood for
+pub between-some : (sizes : ℕ → Option ℕ) (k : Mem) (n : ℕ) → IsBetween sizes k
+    → (w : World) × (r : Rmap) × (l : Ledger) × KeepsBetween (device_by sizes None n) k w r l
+between-some sizes k n h = (h.1, h.2, h.3, between-untold (device_by sizes None h.0) k h.1 h.2 h.3 n h.4)
+
+pub steady-between : (sizes : ℕ → Option ℕ) (k : Mem) → IsSteadyAt sizes k → IsBetween sizes k
+steady-between sizes k h = (h.0, h.1.world, rmap_of h.1, h.1.ledger, between-of (device_by sizes None h.0) k h.1 h.2)
+
+-- a device after a call that changes its faults at the most
+pub seen-same : (told : Bool) (d d' : Device) → d'.sizes ≡ d.sizes → d'.pages ≡ d.pages → d.faults ≤ d'.faults → IsSameDevice (as_told told d) (as_told told d')
+seen-same true d d' sizes told faults = record { sizes = sizes; first = ap (option_map {U = ℕ → List ℕ} (λ (t : ℕ → ℕ → List ℕ) k. t k 0)) told; faults = faults }
+seen-same false d d' sizes told faults = record { sizes = sizes; first = refl; faults = faults }
+
+pub seen-says : (told : Bool) (d d' : Device) → d'.pages ≡ d.pages → SaysAsMuch (as_told told d) (as_told told d')
+seen-says true d d' told IsSo is = subst (λ o. IfSome o IsSo) (sym told) is
+seen-says false d d' told IsSo is = tt

@@ -1,0 +1,607 @@
+-- A page comes in whose entry names a slot: the slot's page is in a frame, and the entry names that.
+use Rattle.std.proofs.Common.{◌≡◌, ℕ, ◌+◌, ◌-◌, ◌^◌, ◌<◌, ◌==◌, Bool, true, false, cond, List, [], ◌∷◌, ◌++◌, Option, Some, None, IfSome, is_some, refl, sym, ap, subst, ◌∙◌, arith}
+use Rattle.std.proofs.lemmas.List.{append-nil, append_assoc}
+use Rattle.std.specs.Option.{option_map_or}
+use Rattle.std.specs.Prelude.{IsSome, IsSomeAnd, MatchOption, Err, Ok, Result, option_map, slice_index}
+use Rattle.av_base.specs.Page.{address_of, page_of, page_size}
+use Rattle.av_base.specs.Words.{is_in}
+use Rattle.av_base.specs.declared.slot.Slot.{Slot}
+use Rattle.av_anon.specs.declared.infos.Info.{Info}
+use Rattle.av_io.specs.Count.{Rose, RoseBy}
+use Rattle.av_pagetable.specs.declared.pte.Pte.{Pte}
+use Rattle.av_pagetable.specs.declared.pte.Pte.TheVariants.{Away, Empty, Here, Zero}
+use Rattle.av_pagetable.specs.Entries.{entry_at}
+use Rattle.av_spaces.specs.Kin.{chain_by, info_of}
+use Rattle.av_spaces.specs.Spaces.{pages_of}
+use Rattle.av_swapcache.specs.Swap.{IsUncached, shown as shown_swap}
+use Rattle.av_swapdev.specs.Device.{Holds as HoldsBytes}
+use Rattle.av_trace.specs.declared.note.Note.{Note}
+use Rattle.av_trace.specs.declared.note.Note.TheVariants.{Aged, Copied, Dropped, Failed, Kept, Loaded, Mapped, New, Put, Started, Unmapped, Written, Zeroed}
+use Rattle.av_trace.specs.declared.reply.OutOf.{OutOf}
+use Rattle.av_vma.specs.Join.{index_of}
+use Rattle.av_vma.specs.Pages.{home_of}
+use Rattle.av_vma.specs.declared.area.Area.{Area}
+use Rattle.av_plain.specs.Areas.{AnonVma, Rmap, home_for, rmap_after_all, rmap_after_note, root_of}
+use Rattle.av_plain.specs.Choice.{ChoosesAll, ListsFree}
+use Rattle.av_plain.specs.Covered.{IsKin}
+use Rattle.av_plain.specs.Device.{Device, IsSameDevice, as_told}
+use Rattle.av_plain.specs.Event.{Event, Noted, after_all, after_note, after_notes, key_at, note_events, set_entry}
+use Rattle.av_plain.specs.Fault.{ComesIn, need_of_slot, sparing}
+use Rattle.av_plain.specs.Ledger.{InFrame, InSlot, Key, Ledger, Setting, entry, frame_at, has_free, is_free, keys_of_slot, map_count, names_slot, slot_entries}
+use Rattle.av_plain.specs.Load.{with_loads}
+use Rattle.av_plain.specs.Pass.{TakesFor, fails, is_fail}
+use Rattle.av_plain.specs.Sound.{no_excuse, slots, uses}
+use Rattle.av_plain.specs.Stands.{Pte as Plain, View, entry_of, free_of, kin_of}
+use Rattle.av_plain.specs.World.{World}
+use Rattle.av_plain.proofs.Access.{after_notes-append, note_events-all, note_events-append}
+use Rattle.av_plain.proofs.Covered.Swap.{AllFit, Fits, fit-seeks}
+use Rattle.av_plain.proofs.Ledger.{entry-set, how_many-append, same_key-itself}
+use Rattle.av_plain.proofs.Ledger.NoSwap.{key_at-address, key_is}
+use Rattle.av_plain.proofs.Load.{without-loads}
+use Rattle.av_plain.proofs.Sound.Access.{load-kept}
+use Rattle.av_plain.proofs.Sound.Counts.{frame_at-none, frame_at-some, pair-frame, slot-itself}
+use Rattle.av_plain.proofs.Sound.Pass.{seeks-kept}
+use Rattle.av_plain.proofs.Sound.Steps.{is_steady}
+use Rattle.av_swap_laws.specs.Held.{Held}
+use Rattle.av_swap_laws.specs.Steps.{view_load, view_map}
+use Rattle.av_swap_laws.proofs.Cache.{frame-slot, frame_at-into, once-of, uncached-frame}
+use Rattle.av_swap_laws.proofs.Few.{together-few}
+use Rattle.av_swap_laws.proofs.From.{IsFirst, cached-in_range, first-is, uncached-may_load}
+use Rattle.av_swap_laws.proofs.Homes.{home-any}
+use Rattle.av_swap_laws.proofs.Load.{unslotted}
+use Rattle.av_swap_laws.proofs.Parts.{named-slot, none-some}
+use Rattle.av_swap_laws.proofs.Sound.{load-sound, map-sound}
+use Rattle.av_swap_laws.proofs.WholePages.{load-steps, map-steps}
+use Rattle.av_mem.specs.declared.mem.Mem.{Mem}
+use Rattle.av_mem.specs.Cache.{HasLoaded}
+use Rattle.av_mem.specs.Mem.{HasLists, anon_vma, frame_count, held_by, plain, setting_by, view}
+use Rattle.av_mem.specs.Steps.{KeepsParts}
+use Rattle.av_fault.specs.Between.{Does, HasDone, IsBetween, KeepsBetween}
+use Rattle.av_fault.specs.Coming.{Comes, Fetches, HasCome, home_by, root_in}
+use Rattle.av_fault.specs.Seek.{HasSought}
+use Rattle.av_fault.specs.declared.fault.Stop.{Stop}
+use Rattle.av_fault.specs.declared.fault.Stop.TheVariants.{Bus, Oom}
+use Rattle.av_fault.specs.declared.seek.Got.{Got}
+use Rattle.av_fault.specs.declared.seek.Got.TheVariants.{Frame, Out}
+use Rattle.av_fault.proofs.Amid.{Amid}
+use Rattle.av_fault.proofs.Between.{SaysAsMuch, between-some, bytes-move, fit-stays, same-still, same-then, setting-stays, to-amid, to-fit}
+use Rattle.av_fault.proofs.Done.{done-by, done-none, done-then, rose-none, rose-then}
+use Rattle.av_fault.proofs.Run.{run-done, run-none, run-then}
+use Rattle.av_fault.proofs.SeekLaws.{free-some}
+
+-- ---- an entry that is a slot
+
+module _ (d : Device) (k : Mem) (w : World) (r : Rmap) (l : Ledger) (h : KeepsBetween d k w r l) (q : Key) (s : Slot) where
+  pub entry-away : entry_at k.tables q.0 q.1 ≡ Away s → entry l q ≡ Some (InSlot s)
+  entry-away there = sym (h.serves.held.ledger.tables.entries q.0 q.1) ∙ ap (λ e. entry_of (plain e)) there
+
+  pub away-is : entry l q ≡ Some (InSlot s) → entry_at k.tables q.0 q.1 ≡ Away s
+  away-is at = by (entry_at k.tables q.0 q.1) (h.serves.held.ledger.tables.entries q.0 q.1 ∙ at)
+    where
+      by : (e : Pte) → entry_of (plain e) ≡ Some (InSlot s) → e ≡ Away s
+      by Empty is = cc
+      by Zero is = cc
+      by (Here f write was) is = cc
+      by (Away t) is = cc
+
+  -- ---- the home of a frame that takes the slot's page
+
+  -- roots are as the definitions have them
+  root-is : (v : ℕ) → root_in k v ≡ root_of r.anons v
+  root-is v = by (info_of k.anons v) (r.anons.anon v) (h.serves.anons.kin v)
+    where
+      by : (x : Option Info) (y : Option AnonVma)
+          → option_map kin_of (option_map (anon_vma (chain_by k.spaces k.anons (Some v))) x) ≡ option_map kin_of y
+          → option_map_or (λ (i : Info). i.root) x v ≡ option_map_or (λ (a : AnonVma). a.root) y v
+      by None None e = refl
+      by None (Some a) e = ap (λ (o : Option (ℕ × ℕ)). option_map_or (λ (p : ℕ × ℕ). p.0) o v) e
+      by (Some i) None e = ap (λ (o : Option (ℕ × ℕ)). option_map_or (λ (p : ℕ × ℕ). p.0) o v) e
+      by (Some i) (Some a) e = ap (λ (o : Option (ℕ × ℕ)). option_map_or (λ (p : ℕ × ℕ). p.0) o v) e
+
+  module _ (at : entry l q ≡ Some (InSlot s)) (home : Option (ℕ × ℕ)) (is : home ≡ home_of q.1 (r.areas q.0 q.1)) where
+    pub home-law : home_by k s home ≡ home_for r (keys_of_slot l s)
+    home-law = ap (home_by k s) is ∙ sym (by (r.areas q.0 q.1) (home-any l r s q h.sound.in_order h.serves.held.covered.slots
+        (subst (λ o. IsSomeAnd o (λ e. names_slot s e ≡ true)) (sym at) (slot-itself s))))
+      where
+        owned : (area : Area) (o : Option ℕ)
+            → IsSomeAnd o (λ own. home_for r (keys_of_slot l s) ≡ Some (cond (slot_entries l s == 1) own (root_of r.anons own), index_of area q.1))
+            → home_for r (keys_of_slot l s) ≡ home_by k s (option_map (λ own. (own, index_of area q.1)) o)
+        owned area None x = absurd x
+        owned area (Some own) x = x ∙ (λ i. Some (cond (sym (h.serves.held.ledger.swap.counts s) i == 1) own (sym (root-is own) i), index_of area q.1))
+
+        by : (o : Option Area) → IsSomeAnd o (λ area. IsSomeAnd area.anon (λ own.
+            home_for r (keys_of_slot l s) ≡ Some (cond (slot_entries l s == 1) own (root_of r.anons own), index_of area q.1)))
+            → home_for r (keys_of_slot l s) ≡ home_by k s (home_of q.1 o)
+        by None x = absurd x
+        by (Some area) x = owned area area.anon x
+
+    -- the anon_vma of the page's area is there
+    pub home-there : (x : ℕ × ℕ) → home ≡ Some x → IsSome (info_of k.anons x.0)
+    home-there x e = by (info_of k.anons x.0) (r.anons.anon x.0) (h.serves.anons.kin x.0)
+        (h.serves.held.covered.slots.kin q.0 q.1 x.0 (area (r.areas q.0 q.1) (sym is ∙ e)))
+      where
+        own : (index : ℕ) (o : Option ℕ) → option_map (λ own. (own, index)) o ≡ Some x → o ≡ Some x.0
+        own index None e = absurd (none-some x e)
+        own index (Some v) e = ap (option_map (λ (p : ℕ × ℕ). p.0)) e
+
+        area : (o : Option Area) → home_of q.1 o ≡ Some x → IsSomeAnd o (λ area. area.anon ≡ Some x.0)
+        area None e = absurd (none-some x e)
+        area (Some a) e = own (index_of a q.1) a.anon e
+
+        by : (i : Option Info) (y : Option AnonVma)
+            → option_map kin_of (option_map (anon_vma (chain_by k.spaces k.anons (Some x.0))) i) ≡ option_map kin_of y
+            → IsSomeAnd y (IsKin r.anons) → IsSome i
+        by None None e kin = absurd kin
+        by None (Some a) e kin = absurd (none-some (kin_of a) e)
+        by (Some i) y e kin = refl
+
+-- ---- notes that prepare no area
+
+note-areas : (l : Ledger) (r : Rmap) (note : Note) → Fits l note → (rmap_after_note l note r).areas ≡ r.areas
+note-areas l r (Zeroed p a) fits = refl
+note-areas l r (New p a f) fits = absurd fits
+note-areas l r (Copied p a f) fits = refl
+note-areas l r (Loaded t f) fits = refl
+note-areas l r (Mapped p a f) fits = refl
+note-areas l r (Put f t) fits = refl
+note-areas l r (Unmapped f) fits = refl
+note-areas l r (Started t) fits = refl
+note-areas l r (Written t) fits = refl
+note-areas l r (Failed t) fits = refl
+note-areas l r (Dropped t) fits = refl
+note-areas l r (Kept f cause) fits = refl
+note-areas l r (Aged f) fits = refl
+
+fit-areas : (l : Ledger) (r : Rmap) (notes : List Note) → AllFit l notes → (rmap_after_all l (note_events notes) r).areas ≡ r.areas
+fit-areas l r [] fit = refl
+fit-areas l r (note ∷ notes) fit = fit-areas (after_note note l) (rmap_after_note l note r) notes fit.1 ∙ note-areas l r note fit.0
+
+-- ---- notes that are no failed write
+
+no-fault : (note : Note) → is_fail note ≡ false → (notes : List Note) → fails notes ≡ fails (notes ++ note ∷ []) + 0
+no-fault note none notes = plain _ _ _ (how_many-append is_fail notes (note ∷ [])) (ap (λ b. cond b 1 0 + 0) none)
+  where
+    plain : (a b c : ℕ) → b ≡ a + c → c ≡ 0 → a ≡ b + 0
+    plain a b c e z = omega (arith, e, z)
+
+-- ---- the slot is cached already
+
+pub come-cached : (d : Device) (k : Mem) (w : World) (r : Rmap) (l : Ledger) (s : Slot) (f : ℕ) (notes : List Note) → KeepsBetween d k w r l
+    → (view k).find s ≡ Some f → HasCome (λ m w l added came. Fetches m w l s added came) d d k k w r l notes notes (Ok f)
+come-cached d k w r l s f notes h cached = record {
+  added = [];
+  notes = sym (append-nil notes);
+  comes = subst (λ o. MatchOption o
+      (TakesFor (setting_by d k) (sparing w l None) l [] (Loaded s) × (frame_at l s ≡ Some f)) (λ cached. (◌≡◌ {A = List Note} [] []) × (f ≡ cached)))
+      (sym cached ∙ h.serves.held.ledger.swap.finds s) (refl, refl);
+  done = done-none d k w r l h;
+  faults = rose-none d.faults;
+  failed = omega arith;
+}
+
+-- ---- a frame was sought for the page
+
+-- none is free
+pub come-out : (d d1 : Device) (old mid : Mem) (w : World) (r : Rmap) (l : Ledger) (s : Slot) (out : OutOf) (before now : List Note)
+    → KeepsBetween d old w r l → (view old).find s ≡ None → HasSought d d1 old mid w r l None before now (Out out)
+    → HasCome (λ m w l added came. Fetches m w l s added came) d d1 old mid w r l before now (Err (Oom out))
+come-out d d1 old mid w r l s out before now h absent sought = record {
+  added = sought.added;
+  notes = sought.notes;
+  comes = (sym (h.serves.held.ledger.swap.finds s) ∙ absent, sought.seeks, sought.finds);
+  done = sought.done;
+  faults = subst (λ n. RoseBy n d.faults d1.faults) (plus_zero (fails sought.added)) sought.faults;
+  failed = sought.failed;
+}
+  where
+    plus_zero : (n : ℕ) → n ≡ n + 0
+    plus_zero n = omega arith
+
+-- one is
+module _ (d d1 : Device) (old mid : Mem) (w : World) (r : Rmap) (l : Ledger) (q : Key) (s : Slot) (home : Option (ℕ × ℕ)) (before now : List Note)
+    (h : KeepsBetween d old w r l) (there : entry_at old.tables q.0 q.1 ≡ Away s)
+    (is : home ≡ home_of q.1 (pages_of old.spaces.processes q.0 q.1)) (absent : (view old).find s ≡ None)
+    (sought : HasSought d d1 old mid w r l None before now Frame) where
+  abbrev m : Setting
+  m = setting_by d old
+
+  abbrev m1 : Setting
+  m1 = setting_by d1 mid
+
+  abbrev sought_events : List Event
+  sought_events = note_events sought.added
+
+  abbrev w1 : World
+  w1 = with_loads m w l sought_events
+
+  abbrev r1 : Rmap
+  r1 = rmap_after_all l sought_events r
+
+  abbrev l1 : Ledger
+  l1 = after_all l sought_events
+
+  between : KeepsBetween d1 mid w1 r1 l1
+  between = sought.done.between
+
+  by_notes : l1 ≡ after_notes l sought.added
+  by_notes = note_events-all l sought.added
+
+  at_first : entry l q ≡ Some (InSlot s)
+  at_first = entry-away d old w r l h q s there
+
+  out_first : frame_at l s ≡ None
+  out_first = sym (h.serves.held.ledger.swap.finds s) ∙ absent
+
+  -- the entry names the slot still, and that is not cached yet
+  at_now : entry l1 q ≡ Some (InSlot s)
+  at_now = ap (λ x. entry x q) by_notes
+      ∙ (seeks-kept m (sparing w l None) l sought.added h.sound sought.seeks).keeps.steady q (ap (is_steady (sparing w l None).frame) at_first) ∙ at_first
+
+  out_now : frame_at l1 s ≡ None
+  out_now = uncached-frame s l1 (ap (λ x. slots x s) by_notes
+      ∙ (seeks-kept m (sparing w l None) l sought.added h.sound sought.seeks).keeps.absent s (frame_at-none s l.cache out_first) (named-slot l q s at_first))
+
+  home_now : home ≡ home_of q.1 (r1.areas q.0 q.1)
+  home_now = is ∙ ap (home_of q.1) (h.serves.are q.0 q.1)
+      ∙ sym (ap (λ (on : ℕ → ℕ → Option Area). home_of q.1 (on q.0 q.1)) (fit-areas l r sought.added (fit-seeks m (sparing w l None) l sought.added sought.seeks)))
+
+  -- ---- what the load asks for
+
+  pub load-home : (x : ℕ × ℕ) → home ≡ Some x → IsSome (info_of mid.anons x.0)
+  load-home = home-there d1 mid w1 r1 l1 between q s at_now home home_now
+
+  pub load-named : 0 < (view mid).entries s
+  load-named = subst (λ n. 0 < n) (sym (between.serves.held.ledger.swap.counts s)) (named-slot l1 q s at_now)
+
+  pub load-absent : (view mid).find s ≡ None
+  load-absent = between.serves.held.ledger.swap.finds s ∙ out_now
+
+  pub load-uncached : (f : ℕ) → is_in f (view mid).free ≡ true → IsUncached (shown_swap mid.swap) f
+  load-uncached f free t found =
+      let cached : frame_at l1 t ≡ Some f = sym (between.serves.held.ledger.swap.finds t) ∙ found in
+      none-some t (sym (unslotted l1 f (sym (between.serves.held.ledger.frames.free f (cached-in_range m1 no_excuse l1 between.sound f t cached)) ∙ free))
+      ∙ frame-slot l1 (once-of m1 no_excuse l1 between.sound) f t cached)
+
+  -- a frame is free
+  pub load-finds : (view mid).free ≡ [] → ⊥
+  load-finds = free-some d1 mid w1 r1 l1 between
+      ((λ i. has_free (setting-stays d d1 old mid sought.done.same sought.done.count i) (by_notes i)) ∙ sought.finds)
+
+  -- ---- the device did not give the page
+
+  module _ (d2 : Device) (new : Mem) (same : IsSameDevice d1 d2) (says : SaysAsMuch d1 d2) (seen : view new ≡ view mid) (parts : KeepsParts mid new) where
+    moved : Amid m1 (held_by d2 new w1 r1 l1)
+    moved =
+        let a = to-amid d1 mid w1 r1 l1 between in
+        subst (λ (v : View). Amid m1 (record { view = v; device = d2; world = w1; ledger = l1; rmap = r1 })) (sym seen) (record {
+          sound = a.sound;
+          held = record {
+            ledger = a.held.ledger;
+            bytes = bytes-move (view mid) d1 d2 w1 l1 says a.held.bytes;
+            headers = a.held.headers;
+            covered = a.held.covered;
+            homes = a.held.homes;
+          };
+          areas = a.areas;
+          are = a.are;
+          anons = a.anons;
+          tidy = a.tidy;
+          at_pages = a.at_pages;
+          there = a.there;
+          areas_fit = a.areas_fit;
+          free = a.free;
+        })
+
+    lost-done : HasDone d d2 old new w r l sought_events
+    lost-done = done-by d d2 old new w w1 r r1 l l1 sought_events refl refl refl (same-then d d1 d2 sought.done.same same) (parts.count ∙ sought.done.count)
+        (subst (λ m. Amid m (held_by d2 new w1 r1 l1)) (setting-stays d d1 old mid sought.done.same sought.done.count) moved)
+        (fit-stays d1 d2 mid new same parts (to-fit d1 mid w1 r1 l1 between))
+        (subst (λ (v : View). ChoosesAll m None l sought_events (free_of (view old)) (free_of v)) (sym seen) sought.done.free)
+
+    pub come-lost : Rose d1.faults d2.faults
+        → HasCome (λ m w l added came. Fetches m w l s added came) d d2 old new w r l before now (Err Bus)
+    come-lost rose = record {
+      added = sought.added;
+      notes = sought.notes;
+      comes = (out_first, sought.seeks, sought.finds);
+      done = lost-done;
+      faults = rose-then (fails sought.added) 1 d.faults d1.faults d2.faults sought.faults rose;
+      failed = omega arith;
+    }
+
+  -- ---- the first free frame takes it
+
+  module _ (new : Mem) (pages : Option (ℕ → ℕ → List ℕ)) (f : ℕ) (homed : Option (ℕ × ℕ)) (is_home : homed ≡ home_by mid s home)
+      (load : HasLoaded mid new pages f s homed) (parts : KeepsParts mid new)
+      (got : IfSome d1.pages (λ told. (i : ℕ) → i < page_size → slice_index load.page i ≡ slice_index (told s.area s.page) i)) where
+    abbrev load_event : Event
+    load_event = Noted (Loaded s f)
+
+    abbrev held_sought : Held
+    held_sought = held_by d1 mid w1 r1 l1
+
+    first : IsFirst m1 l1 f load.left
+    first = first-is m1 l1 f load.left (subst (ListsFree m1 l1) load.first between.serves.free.frames)
+
+    abbrev view_loaded : View
+    view_loaded = view_load f s load.left (slice_index load.page) (home_for r1 (keys_of_slot l1 s)) (view mid)
+
+    seen_loaded : view new ≡ view_loaded
+    seen_loaded = load.loads ∙ ap (λ x. view_load f s load.left (slice_index load.page) x (view mid))
+        (is_home ∙ home-law d1 mid w1 r1 l1 between q s at_now home home_now)
+
+    loads : HasDone d1 d1 mid new w1 r1 l1 (load_event ∷ [])
+    loads =
+        run-done d1 d1 mid new w1 (with_loads m1 w1 l1 (load_event ∷ [])) r1 (rmap_after_note l1 (Loaded s f) r1) l1 (after_note (Loaded s f) l1) (load_event ∷ []) held_sought view_loaded
+        (run-then m1 held_sought held_sought
+        (record { view = view_loaded; device = d1; world = with_loads m1 w1 l1 (load_event ∷ []); ledger = after_note (Loaded s f) l1; rmap = rmap_after_note l1 (Loaded s f) r1 })
+        [] load_event (run-none m1 held_sought (to-amid d1 mid w1 r1 l1 between)) (named-slot l1 q s at_now, tt, tt)
+        (load-steps m1 None held_sought between.serves.held f s load.left (slice_index load.page) between.sound.in_order
+        (once-of m1 no_excuse l1 between.sound) (uncached-may_load m1 no_excuse l1 between.sound f s out_now first.free)
+        (record { sizes = refl; headers = refl }) load.first first.alone got)
+        (record { world = refl; view_areas = refl; view_anons = refl; areas = refl; anons = refl })
+        (load-sound m1 no_excuse l1 between.sound f s (uncached-may_load m1 no_excuse l1 between.sound f s out_now first.free)
+        (named-slot l1 q s at_now) first.below))
+        seen_loaded refl refl refl refl (same-still d1) parts.count (fit-stays d1 d1 mid new (same-still d1) parts (to-fit d1 mid w1 r1 l1 between))
+
+    abbrev added : List Note
+    added = sought.added ++ Loaded s f ∷ []
+
+    takes : TakesFor m (sparing w l None) l added (Loaded s)
+    takes = record {
+      sought = sought.added;
+      frame = f;
+      seeks = sought.seeks;
+      in_range = subst (λ n. f < n) sought.done.count first.below;
+      free = subst (λ x. is_free x f ≡ true) by_notes first.free;
+      whole = refl;
+    }
+
+    cached_now : frame_at (after_notes l added) s ≡ Some f
+    cached_now = ap (λ x. frame_at x s) (after_notes-append l sought.added (Loaded s f ∷ []))
+        ∙ frame_at-into s f false (after_notes l sought.added) s ∙ ap (λ b. cond b (Some f) (frame_at (after_notes l sought.added) s)) (slot-itself s)
+
+    pub come-loaded : (last : List Note) → last ≡ now ++ Loaded s f ∷ []
+        → HasCome (λ m w l added came. Fetches m w l s added came) d d1 old new w r l before last (Ok f)
+    come-loaded last ends = record {
+      added = added;
+      notes = ends ∙ ap (λ ns. ns ++ Loaded s f ∷ []) sought.notes ∙ append_assoc before sought.added (Loaded s f ∷ []);
+      comes = subst (λ o. MatchOption o (TakesFor m (sparing w l None) l added (Loaded s) × (frame_at (after_notes l added) s ≡ Some f))
+          (λ cached. (added ≡ []) × (f ≡ cached))) (sym out_first) (takes, cached_now);
+      done = subst (HasDone d d1 old new w r l) (sym (note_events-append sought.added (Loaded s f ∷ [])))
+          (done-then d d1 d1 old mid new w r l sought_events (load_event ∷ []) sought.done loads);
+      faults = subst (λ n. RoseBy n d.faults d1.faults) (no-fault (Loaded s f) refl sought.added) sought.faults;
+      failed = omega arith;
+    }
+
+-- what the frame got is the device's page, where that is told
+pub got-told : (told : Bool) (d : Device) (s : Slot) (page : List ℕ) → HoldsBytes d.pages s.area s.page page
+    → IfSome (as_told told d).pages (λ kept. (i : ℕ) → i < page_size → slice_index page i ≡ slice_index (kept s.area s.page) i)
+got-told false d s page holds = tt
+got-told true d s page holds = by d.pages holds
+  where
+    by : (o : Option (ℕ → ℕ → List ℕ)) → HoldsBytes o s.area s.page page
+        → IfSome o (λ kept. (i : ℕ) → i < page_size → slice_index page i ≡ slice_index (kept s.area s.page) i)
+    by None holds = tt
+    by (Some kept) holds = λ i below. ap (λ bytes. slice_index bytes i) (sym holds)
+
+-- a device is the same after a call that changes nothing of it
+pub told-still : (told : Bool) (d d' : Device) → d'.sizes ≡ d.sizes → d'.pages ≡ d.pages → d'.faults ≡ d.faults → as_told told d' ≡ as_told told d
+told-still told d d' sizes pages faults = λ i. as_told told (record { sizes = sizes i; pages = pages i; faults = faults i })
+
+pub told-rose : (told : Bool) (n : ℕ) (d d' : Device) → RoseBy n d.faults d'.faults → RoseBy n (as_told told d).faults (as_told told d').faults
+told-rose true n d d' rose = rose
+told-rose false n d d' rose = rose
+
+-- what the load asks for, whatever the device tells
+pub record IsToLoad (mid : Mem) (s : Slot) (home : Option (ℕ × ℕ)) : Type 0 where
+  pub anon : (x : ℕ × ℕ) → home ≡ Some x → IsSome (info_of mid.anons x.0)
+  pub listed : HasLists mid
+  pub named : 0 < (view mid).entries s
+  pub absent : (view mid).find s ≡ None
+  pub uncached : (f : ℕ) → is_in f (view mid).free ≡ true → IsUncached (shown_swap mid.swap) f
+  pub finds : (view mid).free ≡ [] → ⊥
+
+pub to-load : (d d1 : Device) (old mid : Mem) (q : Key) (s : Slot) (home : Option (ℕ × ℕ)) (before now : List Note) (found : Got) → IsBetween d.sizes old
+    → entry_at old.tables q.0 q.1 ≡ Away s → home ≡ home_of q.1 (pages_of old.spaces.processes q.0 q.1) → (view old).find s ≡ None
+    → Does d d1 old (λ d d' w r l. HasSought d d' old mid w r l None before now found) → found ≡ Frame → IsToLoad mid s home
+to-load d d1 old mid q s home before now found between there is absent does frame =
+    let b = between-some d.sizes old d.faults between in
+    let d0 = as_told false d in
+    let d2 = as_told false d1 in
+    let sought = subst (HasSought d0 d2 old mid b.0 b.1 b.2 None before now) frame (does false b.0 b.1 b.2 b.3) in
+    record {
+      anon = load-home d0 d2 old mid b.0 b.1 b.2 q s home before now b.3 there is absent sought;
+      listed = sought.done.between.serves.lists;
+      named = load-named d0 d2 old mid b.0 b.1 b.2 q s home before now b.3 there is absent sought;
+      absent = load-absent d0 d2 old mid b.0 b.1 b.2 q s home before now b.3 there is absent sought;
+      uncached = load-uncached d0 d2 old mid b.0 b.1 b.2 q s home before now b.3 there is absent sought;
+      finds = load-finds d0 d2 old mid b.0 b.1 b.2 q s home before now b.3 there is absent sought;
+    }
+
+-- ---- the entry names the frame then
+
+-- what no entry of a table but a frame's shows
+here-is : (k : Mem) (p page f : ℕ) → (view k).table p page ≡ Some (record { entry = InFrame f false; write = false })
+    → entry_at k.tables p page ≡ Here f false false
+here-is k p page f is = by (entry_at k.tables p page) is
+  where
+    by : (e : Pte) → plain e ≡ Some (record { entry = InFrame f false; write = false }) → e ≡ Here f false false
+    by Empty is = cc
+    by Zero is = let x = ap entry_of is in cc
+    by (Here g write was) is = let x = ap entry_of is in let y = ap (option_map (λ (e : Plain). e.write)) is in cc
+    by (Away t) is = let x = ap entry_of is in cc
+
+pub map-here : (mid new : Mem) (q : Key) (s : Slot) (f : ℕ) → view new ≡ view_map q.0 q.1 f s (view mid) → entry_at new.tables q.0 q.1 ≡ Here f false false
+map-here mid new q s f now = here-is new q.0 q.1 f (ap (λ (v : View). v.table q.0 q.1) now
+    ∙ ap (λ b. cond b (Some (record { entry = InFrame f false; write = false })) ((view mid).table q.0 q.1)) (sym (key_is q.0 q.1 q.0 q.1) ∙ same_key-itself q))
+
+-- the page's entry names its slot still, and the frame caches that
+pub record IsThere (l : Ledger) (q : Key) (s : Slot) (f : ℕ) : Type 0 where
+  pub at : entry l q ≡ Some (InSlot s)
+  pub cached : frame_at l s ≡ Some f
+
+module _ (d d1 : Device) (old mid : Mem) (w : World) (r : Rmap) (l : Ledger) (q : Key) (s : Slot) (before now : List Note)
+    (h : KeepsBetween d old w r l) (there : entry_at old.tables q.0 q.1 ≡ Away s) (f : ℕ)
+    (came : HasCome (λ m w l added came. Fetches m w l s added came) d d1 old mid w r l before now (Ok f)) where
+  abbrev fetched_events : List Event
+  fetched_events = note_events came.added
+
+  abbrev wf : World
+  wf = with_loads (setting_by d old) w l fetched_events
+
+  abbrev rf : Rmap
+  rf = rmap_after_all l fetched_events r
+
+  abbrev lf : Ledger
+  lf = after_all l fetched_events
+
+  abbrev mf : Setting
+  mf = setting_by d1 mid
+
+  fetched : KeepsBetween d1 mid wf rf lf
+  fetched = came.done.between
+
+  named_once : entry l q ≡ Some (InSlot s)
+  named_once = entry-away d old w r l h q s there
+
+  is_there : IsThere lf q s f
+  is_there = subst (λ x. IsThere x q s f) (sym (note_events-all l came.added)) (by (frame_at l s) refl came.comes)
+    where
+      by : (o : Option ℕ) → frame_at l s ≡ o → MatchOption o
+          (TakesFor (setting_by d old) (sparing w l None) l came.added (Loaded s) × (frame_at (after_notes l came.added) s ≡ Some f))
+          (λ cached. (came.added ≡ []) × (f ≡ cached)) → IsThere (after_notes l came.added) q s f
+      by None out c = record {
+        at = (load-kept (setting_by d old) (sparing w) l s came.added h.sound out (named-slot l q s named_once) c.0).steady q s named_once;
+        cached = c.1;
+      }
+      by (Some g) is c = subst (λ ns. IsThere (after_notes l ns) q s f) (sym c.0) (record { at = named_once; cached = is ∙ ap Some (sym c.1) })
+
+  few : map_count lf f < 2 ^ 64 - 1
+  few =
+      let sum = together-few mf no_excuse wf lf f s fetched.sound fetched.serves.at_pages
+      (frame-slot lf (once-of mf no_excuse lf fetched.sound) f s is_there.cached) in
+      let most = fetched.serves.tidy.few in
+      omega (arith, sum, most)
+
+  -- ---- what the map asks for
+
+  pub map-in_range : f < frame_count mid
+  map-in_range = cached-in_range mf no_excuse lf fetched.sound f s is_there.cached
+
+  pub map-names : entry_at mid.tables q.0 q.1 ≡ Away s
+  map-names = away-is d1 mid wf rf lf fetched q s is_there.at
+
+  pub map-cached : (view mid).find s ≡ Some f
+  map-cached = fetched.serves.held.ledger.swap.finds s ∙ is_there.cached
+
+  pub map-named : 0 < (view mid).entries s
+  map-named = subst (λ n. 0 < n) (sym (fetched.serves.held.ledger.swap.counts s)) (named-slot lf q s is_there.at)
+
+  pub map-few : (view mid).maps f < 2 ^ 64 - 1
+  map-few = subst (λ n. n < 2 ^ 64 - 1) (sym (fetched.serves.held.ledger.frames.maps f)) few
+
+  -- ---- what it leaves
+
+  module _ (new : Mem) (now_seen : view new ≡ view_map q.0 q.1 f s (view mid)) (parts : KeepsParts mid new) where
+    abbrev note : Note
+    note = Mapped q.0 (address_of q.1) f
+
+    abbrev held_fetched : Held
+    held_fetched = held_by d1 mid wf rf lf
+
+    abbrev view_mapped : View
+    view_mapped = view_map q.0 (page_of (address_of q.1)) f s (view mid)
+
+    same_page : page_of (address_of q.1) ≡ q.1
+    same_page = ap (λ (k : Key). k.1) (key_at-address q)
+
+    at_address : entry lf (key_at q.0 (address_of q.1)) ≡ Some (InSlot s)
+    at_address = ap (entry lf) (key_at-address q) ∙ is_there.at
+
+    used : 0 < uses lf f
+    used =
+        let pair = frame_at-some f s lf.cache is_there.cached in
+        let held = pair-frame s f lf.cache in
+        omega (arith, pair, held)
+
+    maps : HasDone d1 d1 mid new wf rf lf (Noted note ∷ [])
+    maps = run-done d1 d1 mid new wf wf rf rf lf (after_note note lf) (Noted note ∷ []) held_fetched view_mapped
+        (run-then mf held_fetched held_fetched (record held_fetched { view = view_mapped; ledger = after_note note lf }) [] (Noted note)
+        (run-none mf held_fetched (to-amid d1 mid wf rf lf fetched))
+        (tt, used, fetched.serves.at_pages q.0 (page_of (address_of q.1)) (ap is_some at_address))
+        (map-steps mf None held_fetched fetched.serves.held q.0 (address_of q.1) f s fetched.sound.in_order (once-of mf no_excuse lf fetched.sound)
+        at_address is_there.cached)
+        (record { world = sym (without-loads mf wf lf (Noted note ∷ []) refl); view_areas = refl; view_anons = refl; areas = refl; anons = refl })
+        (map-sound mf no_excuse lf fetched.sound q.0 (address_of q.1) f s at_address is_there.cached))
+        (now_seen ∙ ap (λ page. view_map q.0 page f s (view mid)) (sym same_page)) refl refl (sym (without-loads mf wf lf (Noted note ∷ []) refl)) refl
+        (same-still d1) parts.count (fit-stays d1 d1 mid new (same-still d1) parts (to-fit d1 mid wf rf lf fetched))
+
+    comes_in : ComesIn (setting_by d old) (sparing w) l q (need_of_slot s (frame_at l s)) (came.added ++ note ∷ [])
+    comes_in = by (frame_at l s) came.comes
+      where
+        by : (o : Option ℕ) → MatchOption o
+            (TakesFor (setting_by d old) (sparing w l None) l came.added (Loaded s) × (frame_at (after_notes l came.added) s ≡ Some f))
+            (λ cached. (came.added ≡ []) × (f ≡ cached))
+            → ComesIn (setting_by d old) (sparing w) l q (need_of_slot s o) (came.added ++ note ∷ [])
+        by None c = (came.added, f, c.0, c.1, refl)
+        by (Some g) c = (λ i. c.0 i ++ Mapped q.0 (address_of q.1) (c.1 i) ∷ [])
+
+    in_frame : entry (after_notes l (came.added ++ note ∷ [])) q ≡ Some (InFrame f false)
+    in_frame = ap (λ x. entry x q) (after_notes-append l came.added (note ∷ []))
+        ∙ ap (λ k. entry (set_entry k (InFrame f false) (after_notes l came.added)) q) (key_at-address q)
+        ∙ entry-set q (InFrame f false) (after_notes l came.added) q
+        ∙ ap (λ b. cond b (Some (InFrame f false)) (entry (after_notes l came.added) q)) (same_key-itself q)
+
+    pub come-mapped : (last : List Note) → last ≡ now ++ note ∷ []
+        → HasCome (λ m w l added came. Comes m w l q s added came) d d1 old new w r l before last (Ok f)
+    come-mapped last ends = record {
+      added = came.added ++ note ∷ [];
+      notes = ends ∙ ap (λ ns. ns ++ note ∷ []) came.notes ∙ append_assoc before came.added (note ∷ []);
+      comes = (comes_in, in_frame);
+      done = subst (HasDone d d1 old new w r l) (sym (note_events-append came.added (note ∷ [])))
+          (done-then d d1 d1 old mid new w r l fetched_events (Noted note ∷ []) came.done maps);
+      faults = subst (λ n. RoseBy n d.faults d1.faults) (minus_zero _ ∙ no-fault note refl came.added) came.faults;
+      failed = omega arith;
+    }
+      where
+        minus_zero : (n : ℕ) → n + 0 ≡ n
+        minus_zero n = omega arith
+
+-- where the slot's page can't be had, nor does the page come in
+pub come-stopped : (d d1 : Device) (old mid : Mem) (w : World) (r : Rmap) (l : Ledger) (q : Key) (s : Slot) (before now : List Note) (stop : Stop)
+    → HasCome (λ m w l added came. Fetches m w l s added came) d d1 old mid w r l before now (Err stop)
+    → HasCome (λ m w l added came. Comes m w l q s added came) d d1 old mid w r l before now (Err stop)
+come-stopped d d1 old mid w r l q s before now stop came = record {
+  added = came.added;
+  notes = came.notes;
+  comes = came.comes;
+  done = came.done;
+  faults = came.faults;
+  failed = came.failed;
+}
+
+-- what the map asks for, whatever the device tells
+pub record IsToMap (mid : Mem) (q : Key) (s : Slot) (f : ℕ) : Type 0 where
+  pub in_range : f < frame_count mid
+  pub names : entry_at mid.tables q.0 q.1 ≡ Away s
+  pub cached : (view mid).find s ≡ Some f
+  pub named : 0 < (view mid).entries s
+  pub few : (view mid).maps f < 2 ^ 64 - 1
+
+pub to-map : (d d1 : Device) (old mid : Mem) (q : Key) (s : Slot) (before now : List Note) (f : ℕ) (end : Result ℕ Stop) → IsBetween d.sizes old
+    → entry_at old.tables q.0 q.1 ≡ Away s
+    → Does d d1 old (λ d d' w r l. HasCome (λ m w l added came. Fetches m w l s added came) d d' old mid w r l before now end) → end ≡ Ok f
+    → IsToMap mid q s f
+to-map d d1 old mid q s before now f end between there does is =
+    let b = between-some d.sizes old d.faults between in
+    let d0 = as_told false d in
+    let d2 = as_told false d1 in
+    let came = subst (HasCome (λ m w l added came. Fetches m w l s added came) d0 d2 old mid b.0 b.1 b.2 before now) is (does false b.0 b.1 b.2 b.3) in
+    record {
+      in_range = map-in_range d0 d2 old mid b.0 b.1 b.2 q s before now b.3 there f came;
+      names = map-names d0 d2 old mid b.0 b.1 b.2 q s before now b.3 there f came;
+      cached = map-cached d0 d2 old mid b.0 b.1 b.2 q s before now b.3 there f came;
+      named = map-named d0 d2 old mid b.0 b.1 b.2 q s before now b.3 there f came;
+      few = map-few d0 d2 old mid b.0 b.1 b.2 q s before now b.3 there f came;
+    }

@@ -1,0 +1,78 @@
+use Rattle.std.proofs.Common.{false, None, Some, refl, sym, subst, ◌∙◌}
+use Rattle.av_plain.specs.Device.{as_told, device_by}
+use Rattle.av_plain.specs.Fault.{CopyOnWrite}
+use Rattle.av_fault.specs.Seek.{HasSought}
+use Rattle.av_fault.specs.declared.seek.Got.TheVariants.{Frame, Out}
+use Rattle.av_fault.proofs.Between.{between-some}
+use Rattle.av_fault.proofs.CopyLaws.{copy-here, copy-made, copy-mapped, copy-needs}
+use Rattle.av_fault.proofs.SharedLaws.{shared-in}
+use Rattle.av_fault.proofs.SoughtLaws.{free-sought}
+use Rattle.av_fault.proofs.TakenLaws.{out-made}
+use Rattle.av_fault.proofs.making.make_copy.Goals as goal
+
+pub returns-in-Out-clause-made : goal.returns-in-Out-clause-made
+returns-in-Out-clause-made g c = λ told w r l h came.
+    let d = as_told told (device_by (g.D.SwapDev.sizes c.args.dev.now) (g.D.SwapDev.pages c.args.dev.now) (g.D.SwapDev.faults c.args.dev.now)) in
+    let d' = as_told told (device_by (g.D.SwapDev.sizes c.seek.new.dev) (g.D.SwapDev.pages c.seek.new.dev) (g.D.SwapDev.faults c.seek.new.dev)) in
+    let old = c.args.mem.now in
+    let shared = sym (shared-in d old w r l h c.args.from) ∙ c.requires.shared in
+    let f = c.args.from in
+    let got = Out c.in-Out.out in
+    let s = subst (HasSought d d' old c.seek.new.mem w r l (Some f) c.args.notes.now c.seek.new.notes) c.in-Out.is
+    (c.in_ok-out.ensures.sought told w r l h) in
+    out-made d d' old c.seek.new.mem w r l (Some f) c.args.notes.now c.seek.new.notes c.args.key came c.in-Out.out s (CopyOnWrite f)
+    (copy-needs d d' old c.seek.new.mem w r l c.args.notes.now c.seek.new.notes c.args.key f got h s false c.requires.here shared) refl refl
+
+pub take_copy-frame-requires-clause-here : goal.take_copy-frame-requires-clause-here
+take_copy-frame-requires-clause-here g c =
+    let sizes = g.D.SwapDev.sizes c.args.dev.now in
+    let faults = g.D.SwapDev.faults c.args.dev.now in
+    let old = c.args.mem.now in
+    let d = device_by sizes None faults in
+    let d' = device_by (g.D.SwapDev.sizes c.seek.new.dev) None (g.D.SwapDev.faults c.seek.new.dev) in
+    let b = between-some sizes old faults c.requires.between in
+    let f = c.args.from in
+    let s = subst (HasSought d d' old c.seek.new.mem b.0 b.1 b.2 (Some c.args.from) c.args.notes.now c.seek.new.notes) c.in_default.is
+    (c.in_ok-out.ensures.sought false b.0 b.1 b.2 b.3) in
+    let shared = sym (shared-in d old b.0 b.1 b.2 b.3 f) ∙ c.requires.shared in
+    copy-here d d' old c.seek.new.mem b.0 b.1 b.2 c.args.notes.now c.seek.new.notes c.args.key f Frame b.3 s false c.requires.here shared
+
+pub take_copy-frame-requires-clause-free : goal.take_copy-frame-requires-clause-free
+take_copy-frame-requires-clause-free g c =
+    let sizes = g.D.SwapDev.sizes c.args.dev.now in
+    let faults = g.D.SwapDev.faults c.args.dev.now in
+    let old = c.args.mem.now in
+    let d = device_by sizes None faults in
+    let d' = device_by (g.D.SwapDev.sizes c.seek.new.dev) None (g.D.SwapDev.faults c.seek.new.dev) in
+    let b = between-some sizes old faults c.requires.between in
+    let f = c.args.from in
+    let s = subst (HasSought d d' old c.seek.new.mem b.0 b.1 b.2 (Some c.args.from) c.args.notes.now c.seek.new.notes) c.in_default.is
+    (c.in_ok-out.ensures.sought false b.0 b.1 b.2 b.3) in
+    free-sought d d' old c.seek.new.mem b.0 b.1 b.2 (Some f) c.args.notes.now c.seek.new.notes Frame b.3 s s.finds
+
+pub take_copy-frame-requires-clause-mapped : goal.take_copy-frame-requires-clause-mapped
+take_copy-frame-requires-clause-mapped g c =
+    let sizes = g.D.SwapDev.sizes c.args.dev.now in
+    let faults = g.D.SwapDev.faults c.args.dev.now in
+    let old = c.args.mem.now in
+    let d = device_by sizes None faults in
+    let d' = device_by (g.D.SwapDev.sizes c.seek.new.dev) None (g.D.SwapDev.faults c.seek.new.dev) in
+    let b = between-some sizes old faults c.requires.between in
+    let f = c.args.from in
+    let s = subst (HasSought d d' old c.seek.new.mem b.0 b.1 b.2 (Some c.args.from) c.args.notes.now c.seek.new.notes) c.in_default.is
+    (c.in_ok-out.ensures.sought false b.0 b.1 b.2 b.3) in
+    let shared = sym (shared-in d old b.0 b.1 b.2 b.3 f) ∙ c.requires.shared in
+    copy-mapped d d' old c.seek.new.mem b.0 b.1 b.2 c.args.notes.now c.seek.new.notes c.args.key f Frame b.3 s false c.requires.here shared
+
+pub returns-clause-made : goal.returns-clause-made
+returns-clause-made g c = λ told w r l h came.
+    let d = as_told told (device_by (g.D.SwapDev.sizes c.args.dev.now) (g.D.SwapDev.pages c.args.dev.now) (g.D.SwapDev.faults c.args.dev.now)) in
+    let d' = as_told told (device_by (g.D.SwapDev.sizes c.seek.new.dev) (g.D.SwapDev.pages c.seek.new.dev) (g.D.SwapDev.faults c.seek.new.dev)) in
+    let old = c.args.mem.now in
+    let shared = sym (shared-in d old w r l h c.args.from) ∙ c.requires.shared in
+    let f = c.args.from in
+    let s = subst (HasSought d d' old c.seek.new.mem w r l (Some f) c.args.notes.now c.seek.new.notes) c.in_default.is
+    (c.in_ok-out.ensures.sought told w r l h) in
+    copy-made d d' old c.seek.new.mem c.take_copy-frame.new.mem w r l c.args.notes.now c.seek.new.notes c.push.new.self c.args.key
+    c.take_copy-frame.result f came false h s c.requires.here shared c.args.home c.requires.home c.take_copy-frame.ensures.taken
+    c.take_copy-frame.ensures.parts c.in_ok-push.ensures.ok

@@ -1,0 +1,81 @@
+-- How a page comes in whose entry names a slot.
+use Rattle.std.specs.Option.{option_map_or}
+use Rattle.std.specs.Prelude.{◌≡◌, ℕ, ◌+◌, ◌≤◌, ◌==◌, if◌then◌else◌, false, List, ◌++◌, Option, None, Some, option_map, Result, Ok, Err}
+use Rattle.av_base.specs.declared.slot.Slot.{Slot}
+use Rattle.av_anon.specs.declared.infos.Info.{Info}
+use Rattle.av_spaces.specs.Kin.{info_of}
+use Rattle.av_io.specs.Count.{RoseBy}
+use Rattle.av_trace.specs.declared.note.Note.{Note}
+use Rattle.av_plain.specs.Areas.{Rmap}
+use Rattle.av_plain.specs.Device.{Device}
+use Rattle.av_plain.specs.Event.{after_notes, note_events}
+use Rattle.av_plain.specs.Fault.{ComesIn, need_of_slot, sparing}
+use Rattle.av_plain.specs.Ledger.{InFrame, Key, Ledger, Setting, entry, frame_at}
+use Rattle.av_plain.specs.Pass.{Seeks, fails}
+use Rattle.av_plain.specs.Swapoff.{IsFetched}
+use Rattle.av_plain.specs.World.{World}
+use Rattle.av_mem.specs.declared.mem.Mem.{Mem}
+use Rattle.av_mem.specs.Mem.{setting_by, view}
+use Rattle.av_fault.specs.Between.{HasDone}
+use Rattle.av_fault.specs.Fault.{failed_by, lost_by}
+use Rattle.av_fault.specs.Seek.{Finds}
+use Rattle.av_fault.specs.declared.fault.Stop.{Stop}
+use Rattle.av_fault.specs.declared.fault.Stop.TheVariants.{Bus, Oom, Segv}
+use Rattle.av_fault.specs.declared.fault.Touched.TheVariants.{Stopped}
+use Rattle.av_fault.specs.declared.seek.Got.TheVariants.{Frame, Out}
+
+-- ---- the home of a frame that is loaded
+
+-- the root of an anon_vma
+abbrev pub root_in : Mem → ℕ → ℕ
+root_in k v = option_map_or (λ (i : Info). i.root) (info_of k.anons v) v
+
+-- the home of a page where it is the only one whose entry names the slot, else with the root
+abbrev pub home_by : Mem → Slot → Option (ℕ × ℕ) → Option (ℕ × ℕ)
+home_by k s home = option_map
+    (λ (h : ℕ × ℕ). (if (view k).entries s == 1 then h.0 else root_in k h.0, h.1)) home
+
+-- ---- what is added
+
+-- the slot's page can't be had: no frame is free for it, or one is, and the device did not give it
+abbrev pub Misses : Setting → World → Ledger → Slot → List Note → Stop → Type 0
+Misses m w l s added Bus =
+    (frame_at l s ≡ None) × Seeks m (sparing w l None) l added
+    × Finds m None (sparing w l None) (after_notes l added) Frame
+Misses m w l s added (Oom out) =
+    (frame_at l s ≡ None) × Seeks m (sparing w l None) l added
+    × Finds m None (sparing w l None) (after_notes l added) (Out out)
+Misses m w l s added Segv = ⊥
+
+-- the slot's page is in a frame with these notes
+abbrev pub Fetches : Setting → World → Ledger → Slot → List Note → Result ℕ Stop → Type 0
+Fetches m w l s added (Ok f) = IsFetched m (sparing w l None) l s f added
+Fetches m w l s added (Err stop) = Misses m w l s added stop
+
+-- and the page's entry names that frame
+abbrev pub Comes : Setting → World → Ledger → Key → Slot → List Note → Result ℕ Stop → Type 0
+Comes m w l k s added (Ok f) =
+    ComesIn m (sparing w) l k (need_of_slot s (frame_at l s)) added
+    × (entry (after_notes l added) k ≡ Some (InFrame f false))
+Comes m w l k s added (Err stop) = Misses m w l s added stop
+
+-- how often the device failed beside the `fail` notes
+abbrev pub lost_at : Result ℕ Stop → ℕ
+lost_at (Ok f) = 0
+lost_at (Err stop) = lost_by (Stopped stop)
+
+-- how many frames an out-of-memory calls cached
+abbrev pub failed_at : Result ℕ Stop → ℕ
+failed_at (Ok f) = 0
+failed_at (Err stop) = failed_by (Stopped stop)
+
+-- these notes were added, with this outcome
+pub record HasCome (IsSo : Setting → World → Ledger → List Note → Result ℕ Stop → Type 0)
+    (d d' : Device) (old new : Mem) (w : World) (r : Rmap) (l : Ledger) (before now : List Note)
+    (came : Result ℕ Stop) : Type 0 where
+  pub added : List Note
+  pub notes : now ≡ before ++ added
+  pub comes : IsSo (setting_by d old) w l added came
+  pub done : HasDone d d' old new w r l (note_events added)
+  pub faults : RoseBy (fails added + lost_at came) d.faults d'.faults
+  pub failed : failed_at came ≤ fails added

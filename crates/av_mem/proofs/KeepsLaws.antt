@@ -1,0 +1,146 @@
+-- What the memory system stands for between commands, and what it serves between two steps of one: the one gives the other. And neither says how often
+-- the device failed. The swap areas fit where they stay.
+use Rattle.std.proofs.Common.{◌≡◌, ℕ, ◌<◌, ◌≤◌, List, None, Option, Some, refl, sym, ap, subst, ◌∙◌}
+use Rattle.std.specs.FinMap.Entries.{find}
+use Rattle.std.specs.Ordering.{nat_cmp}
+use Rattle.std.specs.Prelude.{ℤ, Bool, not, IfSome, IsSomeAnd}
+use Rattle.av_base.specs.declared.slot.Slot.{Slot}
+use Rattle.av_swapcache.specs.Swap.{shown as shown_swap}
+use Rattle.av_swapdev.specs.Header.{Layout}
+use Rattle.av_swapdev.specs.declared.header.Header.{Header}
+use Rattle.av_plain.specs.Areas.{Rmap}
+use Rattle.av_plain.specs.Choice.{Free, ListsAll}
+use Rattle.av_plain.specs.Device.{Device, device_by, headers_of}
+use Rattle.av_plain.specs.Ledger.{Ledger}
+use Rattle.av_plain.specs.Sound.{IsSound}
+use Rattle.av_plain.specs.Stands.{free_of}
+use Rattle.av_plain.specs.Transcript.{State, rmap_of}
+use Rattle.av_plain.specs.World.{World}
+use Rattle.av_mem.specs.declared.mem.Mem.{Mem}
+use Rattle.av_mem.specs.Mem.{AgreesWith, AreByHeaders, Keeps, Serves, SwapFits, frame_count, setting_by, view}
+use Rattle.av_mem.specs.Steps.{KeepsSwap}
+
+-- the state of these memories, this ledger, and areas, anon_vmas and homes
+abbrev pub state_by : Mem → World → Rmap → Ledger → State
+state_by k w r l = record { world = w; ledger = l; free = free_of (view k); areas = r.areas; anons = r.anons; homes = r.homes }
+
+pub keeps-serves : (d : Device) (k : Mem) (s : State) → Keeps d k s → Serves d None k s.world (rmap_of s) s.ledger
+keeps-serves d k s keeps = let stands = keeps.stands in record {
+  held = record {
+    ledger = stands.parts.ledger;
+    bytes = stands.parts.bytes;
+    headers = stands.parts.headers;
+    covered = record { frames = stands.reach; slots = stands.slots };
+    homes = stands.homes;
+  };
+  areas = stands.parts.areas;
+  are = stands.areas;
+  anons = stands.anons;
+  tidy = stands.sound.world;
+  at_pages = stands.sound.at_pages;
+  there = stands.sound.in_areas;
+  areas_fit = stands.sound.areas_fit;
+  free = subst (λ (free : Free). ListsAll (setting_by d k) s.ledger free) (sym stands.free) stands.lists;
+  lists = keeps.lists;
+  tables = keeps.tables;
+  fit = keeps.anons;
+  swap = keeps.swap;
+}
+
+-- where the ledger is sound
+pub serves-keeps : (d : Device) (k : Mem) (w : World) (r : Rmap) (l : Ledger) → IsSound (setting_by d k) l → Serves d None k w r l
+    → Keeps d k (state_by k w r l)
+serves-keeps d k w r l sound serves = record {
+  stands = record {
+    over = record { sizes = refl; headers = refl };
+    sound = record { world = serves.tidy; ledger = sound; at_pages = serves.at_pages; in_areas = serves.there; areas_fit = serves.areas_fit };
+    parts = record { ledger = serves.held.ledger; areas = serves.areas; bytes = serves.held.bytes; headers = serves.held.headers };
+    free = refl;
+    lists = serves.free;
+    areas = serves.are;
+    anons = serves.anons;
+    homes = serves.held.homes;
+    reach = serves.held.covered.frames;
+    slots = serves.held.covered.slots;
+  };
+  lists = serves.lists;
+  tables = serves.tables;
+  anons = serves.fit;
+  swap = serves.swap;
+}
+
+-- ---- how often the device failed
+
+fits-whenever : (sizes : ℕ → Option ℕ) (pages : Option (ℕ → ℕ → List ℕ)) (n n' : ℕ) (closing : Option ℕ) (k : Mem)
+    → SwapFits (device_by sizes pages n) closing k → SwapFits (device_by sizes pages n') closing k
+fits-whenever sizes pages n n' closing k h = record {
+  frames = h.frames;
+  one_priority = h.one_priority;
+  closed = h.closed;
+  on_device = h.on_device;
+  by_headers = h.by_headers;
+  none_on = h.none_on;
+}
+
+pub keeps-whenever : (sizes : ℕ → Option ℕ) (pages : Option (ℕ → ℕ → List ℕ)) (n n' : ℕ) (k : Mem) (s : State)
+    → Keeps (device_by sizes pages n) k s → Keeps (device_by sizes pages n') k s
+keeps-whenever sizes pages n n' k s h = let stands = h.stands in record {
+  stands = record {
+    over = record { sizes = stands.over.sizes; headers = stands.over.headers };
+    sound = stands.sound;
+    parts = record {
+      ledger = stands.parts.ledger;
+      areas = stands.parts.areas;
+      bytes = record { kept = stands.parts.bytes.kept; clean = stands.parts.bytes.clean };
+      headers = stands.parts.headers;
+    };
+    free = stands.free;
+    lists = stands.lists;
+    areas = stands.areas;
+    anons = stands.anons;
+    homes = stands.homes;
+    reach = stands.reach;
+    slots = stands.slots;
+  };
+  lists = h.lists;
+  tables = h.tables;
+  anons = h.anons;
+  swap = fits-whenever sizes pages n n' None k h.swap;
+}
+
+-- ---- the swap areas
+
+-- where they stay, with as many frames, they fit as they did
+pub fits-kept : (d : Device) (closing : Option ℕ) (old new : Mem) → KeepsSwap old new → frame_count new ≡ frame_count old → SwapFits d closing old
+    → SwapFits d closing new
+fits-kept d closing old new swap count h = record {
+  frames = swap.frames ∙ h.frames ∙ sym count;
+  one_priority = λ k. ap (λ (f : ℕ → ℤ). f k) swap.priority ∙ h.one_priority k;
+  closed = swap.closing ∙ h.closed;
+  on_device = λ k. subst (λ (on : List (ℕ × Header)). IfSome (find nat_cmp k on) (λ a. IsSomeAnd (d.sizes k) (λ n. a.pages ≤ n))) (sym swap.on) (h.on_device k);
+  by_headers = told (headers_of d) h.by_headers;
+  none_on = swap.on ∙ h.none_on;
+}
+  where
+    agrees : (k : ℕ) (header : Header) (layout : Layout) → AgreesWith (shown_swap old.swap) k header layout → AgreesWith (shown_swap new.swap) k header layout
+    agrees k header layout a = record {
+      pages = a.pages;
+      slots = λ page below. a.slots page below ∙ ap (λ (bad : Slot → Bool). not (bad (record { area = k; page = page }))) (sym swap.bad);
+    }
+
+    layout_so : (k : ℕ) (header : Header) (o : Option Layout) → IsSomeAnd o (AgreesWith (shown_swap old.swap) k header)
+        → IsSomeAnd o (AgreesWith (shown_swap new.swap) k header)
+    layout_so k header None a = a
+    layout_so k header (Some layout) a = agrees k header layout a
+
+    header_so : (k : ℕ) (layouts : ℕ → Option Layout) (o : Option Header)
+        → IfSome o (λ header. IsSomeAnd (layouts k) (AgreesWith (shown_swap old.swap) k header))
+        → IfSome o (λ header. IsSomeAnd (layouts k) (AgreesWith (shown_swap new.swap) k header))
+    header_so k layouts None a = tt
+    header_so k layouts (Some header) a = layout_so k header (layouts k) a
+
+    told : (o : Option (ℕ → Option Layout)) → AreByHeaders o (shown_swap old.swap) → AreByHeaders o (shown_swap new.swap)
+    told None a = tt
+    told (Some layouts) a = λ k. subst (λ (on : List (ℕ × Header)). IfSome (find nat_cmp k on)
+        (λ header. IsSomeAnd (layouts k) (AgreesWith (shown_swap new.swap) k header))) (sym swap.on)
+        (header_so k layouts (find nat_cmp k (shown_swap old.swap).on) (a k))

@@ -1,0 +1,130 @@
+-- A frame's entries are reached from its home: of what is kept between commands, and of what is served within one.
+use Rattle.std.proofs.Common.{◌≡◌, ℕ, Bool, true, false, [], Option, Some, None, option_map, IfSome, IsSomeAnd, refl, sym, ap, subst, ◌∙◌}
+use Rattle.std.proofs.lemmas.Bool.{false≢true}
+use Rattle.std.specs.Option.{option_map_or}
+use Rattle.av_base.specs.Words.{is_in}
+use Rattle.av_vma.specs.declared.area.Area.{Area}
+use Rattle.av_vma.specs.Areas.{area_of}
+use Rattle.av_vma.specs.Join.{index_of}
+use Rattle.av_pagetable.specs.declared.pte.Pte.{Pte}
+use Rattle.av_pagetable.specs.declared.pte.Pte.TheVariants.{Empty, Zero, Here, Away}
+use Rattle.av_pagetable.specs.Entries.{entry_at}
+use Rattle.av_anon.specs.declared.infos.Info.{Info}
+use Rattle.av_anon.specs.Anons.{family, own_of}
+use Rattle.av_anon.specs.Spans.{spans_of}
+use Rattle.av_anon.proofs.KinLaws.{chain_by-is}
+use Rattle.av_spaces.specs.Spaces.{AreNumbered, IsNumber}
+use Rattle.av_spaces.specs.Kin as in_spaces
+use Rattle.av_spaces.specs.Kin.{AnonsFit, info_of}
+use Rattle.av_rmap.specs.Covered.{IsCoveredFrom, IsReached}
+use Rattle.av_rmap.specs.Walk.{names_frame}
+use Rattle.av_plain.specs.Areas.{AnonVma, Rmap, chain_by}
+use Rattle.av_plain.specs.Covered.{IsReached as IsReachedAt, IsRmapSound}
+use Rattle.av_plain.specs.Device.{Device}
+use Rattle.av_plain.specs.Ledger.{Entry, Key, Ledger, entry, names_frame as names}
+use Rattle.av_plain.specs.Stands.{AnonsStand, AreasAre, HomesAre, entry_of}
+use Rattle.av_plain.specs.Transcript.{State, rmap_of}
+use Rattle.av_plain.specs.World.{World}
+use Rattle.av_plain.proofs.Ledger.Walk.{passes}
+use Rattle.av_mem.specs.declared.mem.Mem.{Mem}
+use Rattle.av_mem.specs.Chains.{AreReached, reach}
+use Rattle.av_mem.specs.Mem.{Keeps, Serves, anon_vma, anons_of, plain, view}
+
+names-are : (f : ℕ) (t : Pte) → names_frame f t ≡ passes (names f) (entry_of (plain t))
+names-are f Empty = refl
+names-are f Zero = refl
+names-are f (Here g write seen) = refl
+names-are f (Away slot) = refl
+
+passes-some : (f : ℕ) (o : Option Entry) → passes (names f) o ≡ true → IsSomeAnd o (λ e. names f e ≡ true)
+passes-some f None h = absurd (false≢true h)
+passes-some f (Some e) h = h
+
+-- the entries are the ledger's, areas, anon_vmas and homes are these, there is chain order, and the entries of frames are covered
+pub record Reaches (k : Mem) (r : Rmap) (l : Ledger) : Type 0 where
+  pub entries : (p page : ℕ) → entry_of (plain (entry_at k.tables p page)) ≡ entry l (p, page)
+  pub areas : AreasAre (view k) r.areas
+  pub anons : AnonsStand (view k) r.areas r.anons
+  pub homes : HomesAre (view k) r.homes
+  pub fit : AnonsFit k.spaces k.anons
+  pub covered : IsRmapSound l r
+
+pub reaches-kept : (d : Device) (k : Mem) (s : State) → Keeps d k s → Reaches k (rmap_of s) s.ledger
+reaches-kept d k s h = record {
+  entries = h.stands.parts.ledger.tables.entries;
+  areas = h.stands.areas;
+  anons = h.stands.anons;
+  homes = h.stands.homes;
+  fit = h.anons;
+  covered = h.stands.reach;
+}
+
+pub reaches-served : (d : Device) (closing : Option ℕ) (k : Mem) (w : World) (r : Rmap) (l : Ledger) → Serves d closing k w r l → Reaches k r l
+reaches-served d closing k w r l h = record {
+  entries = h.held.ledger.tables.entries;
+  areas = h.are;
+  anons = h.anons;
+  homes = h.held.homes;
+  fit = h.fit;
+  covered = h.held.covered.frames;
+}
+
+module _ (k : Mem) (r : Rmap) (l : Ledger) (h : Reaches k r l) where
+  -- an entry names the frame where the ledger's does
+  pub names-there : (f : ℕ) (q : Key) → names_frame f (entry_at k.tables q.0 q.1) ≡ passes (names f) (entry l q)
+  names-there f q = names-are f (entry_at k.tables q.0 q.1) ∙ ap (passes (names f)) (h.entries q.0 q.1)
+
+  -- a link that the definitions say is one of the area's chain
+  linked_is : (p page v n : ℕ) (A : Area) → IsNumber k.spaces p page A n → r.areas p page ≡ Some A
+      → is_in v (chain_by r.anons A.anon) ≡ true → is_in v ((family k.anons).chain n) ≡ true
+  linked_is p page v n A is on linked = of_own A.anon refl (ap (is_in v)
+      (subst (λ o. IfSome o (λ (area : Area). chain_by (anons_of k.spaces k.anons) area.anon ≡ chain_by r.anons area.anon)) on (h.anons.chains p page))
+      ∙ linked)
+    where
+      of_info : (own : ℕ) (o : Option Info) → is_in v (option_map_or (λ (x : AnonVma). x.chain)
+          (option_map (anon_vma (in_spaces.chain_by k.spaces k.anons (Some own))) o) []) ≡ true
+          → is_in v (in_spaces.chain_by k.spaces k.anons (Some own)) ≡ true
+      of_info own None inside = absurd (false≢true inside)
+      of_info own (Some i) inside = inside
+
+      of_own : (own : Option ℕ) → A.anon ≡ own → is_in v (chain_by (anons_of k.spaces k.anons) own) ≡ true → is_in v ((family k.anons).chain n) ≡ true
+      of_own None e inside = absurd (false≢true inside)
+      of_own (Some own) e inside =
+          ap (is_in v) (sym (chain_by-is (area_of k.spaces.areas) (family k.anons) (spans_of k.anons) n own h.fit.order (ap own_of is.at ∙ e)))
+          ∙ of_info own (info_of k.anons own) inside
+
+  reached : AreNumbered k.spaces → (home : ℕ × ℕ) (p page : ℕ) → IsReachedAt r (p, page) home → IsReached (reach k) home p page
+  reached numbered home p page is = by (r.areas p page) refl is
+    where
+      by : (o : Option Area) → r.areas p page ≡ o → IsSomeAnd o (λ area. (is_in home.0 (chain_by r.anons area.anon) ≡ true) × (index_of area page ≡ home.1))
+          → IsReached (reach k) home p page
+      by None on is = absurd is
+      by (Some A) on is =
+          let n = numbered.numbers p page A (h.areas p page ∙ on) in
+          record {
+            number = n.0;
+            area = A;
+            stands = n.1.at;
+            of = n.1.process;
+            here = n.1.here;
+            linked = linked_is p page home.0 n.0 A n.1 on is.0;
+            index = is.1;
+          }
+
+  -- where an entry names the frame, the frame has a home from which it is reached
+  covers : (f : ℕ) (q : Key) → names_frame f (entry_at k.tables q.0 q.1) ≡ true → IsSomeAnd ((view k).homes f) (IsReachedAt r q)
+  covers f q named = subst (λ o. IsSomeAnd o (IsReachedAt r q)) (sym (h.homes f))
+      (h.covered.covered q f (passes-some f (entry l q) (sym (names-there f q) ∙ named)))
+
+  -- from its home each of the frame's entries is reached; without one it has none
+  pub are-reached : AreNumbered k.spaces → (f : ℕ) → AreReached k f
+  are-reached numbered f = by ((view k).homes f) refl
+    where
+      unnamed : (view k).homes f ≡ None → (q : Key) (b : Bool) → names_frame f (entry_at k.tables q.0 q.1) ≡ b → b ≡ false
+      unnamed homeless q false e = refl
+      unnamed homeless q true e = absurd (subst (λ o. IsSomeAnd o (IsReachedAt r q)) homeless (covers f q e))
+
+      by : (o : Option (ℕ × ℕ)) → (view k).homes f ≡ o → IsCoveredFrom (reach k) f o
+      by None is = λ p page. unnamed is (p, page) (names_frame f (entry_at k.tables p page)) refl
+      by (Some home) is = λ p page named. reached numbered home p page
+          (subst (λ o. IsSomeAnd o (IsReachedAt r (p, page))) is (covers f (p, page) named))

@@ -1,0 +1,10 @@
+use Rattle.std.proofs.Common.{refl}
+use Rattle.av_mem.specs.declared.mem.Mem.{Mem}
+use Rattle.av_mem.proofs.CacheLaws.{start-view}
+use Rattle.av_mem.proofs.mem.Mem.start.Goals as goal
+
+pub returns-clause-started : goal.returns-clause-started
+returns-clause-started c =
+    let old : Mem = c.args.self.now in
+    let new : Mem = record old { frames = c.start.new.frames; swap = c.start.new.self } in
+    start-view old new c.args.slot (record { tables = refl; spaces = refl; anons = refl }) refl c.start.ensures.swap _ c.start.ensures.frame

@@ -1,0 +1,18 @@
+-- What is reached of a frame's entries through its home.
+use Rattle.std.specs.Prelude.{ℕ}
+use Rattle.av_anon.specs.Anons.{family}
+use Rattle.av_anon.specs.Spans.{spans_of}
+use Rattle.av_pagetable.specs.Entries.{entry_at}
+use Rattle.av_rmap.specs.Covered.{IsCoveredFrom}
+use Rattle.av_rmap.specs.View.{View, view_with}
+use Rattle.av_vma.specs.Areas.{area_of}
+use Rattle.av_mem.specs.Mem.{view}
+use Rattle.av_mem.specs.declared.mem.Mem.{Mem}
+
+-- what a walk reads of the memory system
+abbrev pub reach : Mem → View
+reach k = view_with (area_of k.spaces.areas) (family k.anons) (spans_of k.anons) (entry_at k.tables)
+
+-- each entry that names the frame is reached from its home; without a home none does
+abbrev pub AreReached : Mem → ℕ → Type 0
+AreReached k f = IsCoveredFrom (reach k) f ((view k).homes f)

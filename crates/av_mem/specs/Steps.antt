@@ -1,0 +1,30 @@
+-- What a step of the memory system leaves as it was.
+use Rattle.std.specs.Prelude.{◌≡◌}
+use Rattle.av_pagetable.specs.Entries.{has}
+use Rattle.av_swapcache.specs.Swap.{shown}
+use Rattle.av_mem.specs.declared.mem.Mem.{Mem}
+use Rattle.av_mem.specs.Mem.{frame_count, view}
+
+-- which swap areas are on, with their bad pages and priorities, and which is closing
+pub record KeepsSwap (old new : Mem) : Type 0 where
+  pub frames : (shown new.swap).frames ≡ (shown old.swap).frames
+  pub on : (shown new.swap).on ≡ (shown old.swap).on
+  pub bad : (shown new.swap).bad ≡ (shown old.swap).bad
+  pub closing : (shown new.swap).closing ≡ (shown old.swap).closing
+  pub priority : (shown new.swap).priority ≡ (shown old.swap).priority
+
+-- the areas, the anon_vmas, which processes have a table, the number of frames, and of swap which
+-- areas are on
+pub record KeepsParts (old new : Mem) : Type 0 where
+  pub spaces : new.spaces ≡ old.spaces
+  pub anons : new.anons ≡ old.anons
+  pub processes : has new.tables ≡ has old.tables
+  pub count : frame_count new ≡ frame_count old
+  pub lists : new.lists.frames ≡ old.lists.frames
+  pub swap : KeepsSwap old new
+
+-- these, and the bytes and the homes of the frames
+pub record KeepsRest (old new : Mem) : Type 0 where
+  pub parts : KeepsParts old new
+  pub bytes : (view new).bytes ≡ (view old).bytes
+  pub homes : (view new).homes ≡ (view old).homes

@@ -1,0 +1,146 @@
+//! Steps of the swap cache, with frames, lists and the device.
+
+ghost use Rattle.std.specs.Prelude.{◌≡◌, ◌+◌, ◌-◌, ◌<◌, ◌≤◌, ◌^◌, ℕ, None, true, false, IfSome};
+ghost use Rattle.av_base.specs.Words.{is_in};
+ghost use Rattle.av_pagetable.specs.Entries.{entry_at};
+ghost use Rattle.av_swap_laws.specs.Steps.{view_drop, view_map, view_start};
+ghost use Rattle.av_swapcache.specs.Swap.{HasAreas, IsUncached, is_cached, is_flying, shown as shown_swap};
+ghost use Rattle.av_mem.specs.Cache.{Ends, Loads, Puts};
+ghost use Rattle.av_mem.specs.Mem.{HasLists, HasRoom, frame_count, view};
+ghost use Rattle.av_mem.specs.Steps.{KeepsParts};
+
+use crate::mem::Mem;
+use av_base::Slot;
+use av_io::Failed;
+use av_pagetable::Pte;
+use av_swapcache::Finished;
+use av_swapdev::SwapDev;
+
+impl Mem {
+    /// Caches a frame at the next slot, if there is one. The frame is dirty then.
+    pub fn put(&mut self, frame: u32) -> Option<Slot>
+        requires fits { HasRoom self.old }
+        requires in_range { frame < frame_count self.old }
+        requires uncached { IsUncached (shown_swap self.old.swap) frame }
+        ensures put { Puts result self.old self.new frame }
+        ensures parts { KeepsParts self.old self.new }
+    {
+        self.swap.put(&mut self.frames, frame)
+    }
+
+    /// Puts the write of a cached slot last in flight. Its frame is clean then.
+    pub fn start(&mut self, slot: Slot)
+        requires fits { HasRoom self.old }
+        requires cached { is_cached (shown_swap self.old.swap) slot ≡ true }
+        requires landed { is_flying (shown_swap self.old.swap) slot ≡ false }
+        ensures started { IfSome ((view self.old).find slot) (λ f.
+            view self.new ≡ view_start f slot (view self.old)) }
+        ensures parts { KeepsParts self.old self.new }
+    {
+        self.swap.start(&mut self.frames, slot);
+    }
+
+    /// Ends the first write in flight, if there is one, and tells its slot and frame, and whether
+    /// it failed. A frame that was written goes to the tail of inactive; one that was not is dirty.
+    pub fn finish<D: SwapDev>(&mut self, dev: &mut D) -> Option<Finished>
+        requires fits { HasRoom self.old }
+        requires listed { HasLists self.old }
+        requires areas { HasAreas (D.sizes dev.old) (shown_swap self.old.swap) }
+        ensures ends { Ends result self.old self.new (D.pages dev.old) (D.pages dev.new)
+            (D.faults dev.old) (D.faults dev.new) }
+        ensures same_sizes { D.sizes dev.new ≡ D.sizes dev.old }
+        ensures never_falls { D.faults dev.old ≤ D.faults dev.new }
+        ensures parts { KeepsParts self.old self.new }
+    {
+        self.swap.keeps();
+        match self.swap.finish(&mut self.frames, dev) {
+            None => None,
+            Some(Finished::Done { slot, frame }) => {
+                self.lists.to_inactive_tail(frame);
+                Some(Finished::Done { slot, frame })
+            }
+            Some(Finished::Failed { slot, frame }) => Some(Finished::Failed { slot, frame }),
+        }
+    }
+
+    /// Takes a slot out of the cache. Its frame is free where no entry names it, and the slot is
+    /// given back where none names that.
+    pub fn drop_slot(&mut self, slot: Slot)
+        requires fits { HasRoom self.old }
+        requires listed { HasLists self.old }
+        requires cached { is_cached (shown_swap self.old.swap) slot ≡ true }
+        requires landed { is_flying (shown_swap self.old.swap) slot ≡ false }
+        requires in_use { IfSome ((view self.old).find slot) (λ f.
+            is_in f (view self.old).free ≡ false) }
+        ensures dropped { IfSome ((view self.old).find slot) (λ f.
+            view self.new ≡ view_drop f slot (view self.old)) }
+        ensures parts { KeepsParts self.old self.new }
+    {
+        let Some(frame) = self.swap.find(slot) else {
+            unreachable!();
+        };
+        self.swap.drop_ref(&mut self.frames, slot);
+        if self.frames.maps(frame) == 0 {
+            self.frames.give(frame);
+            self.lists.remove(frame);
+        }
+    }
+
+    /// Reads the page of a slot that an entry names from the device into the first free frame, and
+    /// caches it there, clean, with this home, at the head of inactive. None exactly where no frame
+    /// is free. Then, and after a failure, the memory system is as it was.
+    pub fn load<D: SwapDev>(
+        &mut self,
+        slot: Slot,
+        home: Option<(u64, u64)>,
+        dev: &mut D,
+    ) -> Option<Result<u32, Failed>>
+        requires fits { HasRoom self.old }
+        requires listed { HasLists self.old }
+        requires named { 0 < (view self.old).entries slot }
+        requires absent { (view self.old).find slot ≡ None }
+        requires uncached { (f : ℕ) → is_in f (view self.old).free ≡ true
+            → IsUncached (shown_swap self.old.swap) f }
+        requires areas { HasAreas (D.sizes dev.old) (shown_swap self.old.swap) }
+        ensures loads { Loads result self.old self.new (D.pages dev.old) slot home
+            (D.faults dev.old) (D.faults dev.new) }
+        ensures same_pages { D.pages dev.new ≡ D.pages dev.old }
+        ensures same_sizes { D.sizes dev.new ≡ D.sizes dev.old }
+        ensures never_falls { D.faults dev.old ≤ D.faults dev.new }
+        ensures parts { KeepsParts self.old self.new }
+    {
+        let frame = self.frames.take()?;
+        match self.swap.load(&mut self.frames, slot, frame, dev) {
+            Ok(()) => {
+                self.frames.set_home(frame, home);
+                self.lists.to_inactive_head(frame);
+                Some(Ok(frame))
+            }
+            Err(failed) => {
+                self.frames.give(frame);
+                Some(Err(failed))
+            }
+        }
+    }
+
+    /// The entry of a page that names a cached slot names its frame, not seen and without a write
+    /// bit.
+    pub fn map(&mut self, process: u16, page: u64, slot: Slot, frame: u32)
+        requires in_range { frame < frame_count self.old }
+        requires names { entry_at self.old.tables process page ≡ Pte.Away slot }
+        requires cached { (view self.old).find slot ≡ Some frame }
+        requires named { 0 < (view self.old).entries slot }
+        requires few { (view self.old).maps frame < 2 ^ 64 - 1 }
+        ensures mapped { view self.new ≡ view_map process page frame slot (view self.old) }
+        ensures parts { KeepsParts self.old self.new }
+    {
+        let entry = Pte::Here {
+            frame,
+            write: false,
+            seen: false,
+        };
+        self.tables.change(process, page, entry);
+        self.frames.map_up(frame);
+        self.swap.entry_down(slot, 1);
+    }
+}

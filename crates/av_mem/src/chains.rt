@@ -1,0 +1,100 @@
+//! Steps that go through a frame's home to its entries.
+
+ghost use Rattle.std.specs.Prelude.{◌≡◌, ◌<◌, ◌+◌, ◌^◌, true, OnOk, OnErr};
+ghost use Rattle.av_pagetable.specs.Entries.{entry_at, has};
+ghost use Rattle.av_rmap.specs.Seen.{unseen};
+ghost use Rattle.av_rmap.specs.Unmap.{away};
+ghost use Rattle.av_spaces.specs.Kin.{AnonsFit};
+ghost use Rattle.av_swap_laws.specs.Steps.{view_unmap, view_unseen};
+ghost use Rattle.av_swapcache.specs.Swap.{is_cached, shown as shown_swap};
+ghost use Rattle.av_mem.specs.Chains.{AreReached};
+ghost use Rattle.av_mem.specs.Mem.{frame_count, view};
+ghost use Rattle.av_mem.specs.Steps.{KeepsParts};
+
+use crate::mem::Mem;
+use av_base::{Slot, Steps};
+use av_rmap::seen::clear_seen;
+use av_rmap::stores::StoresMut;
+use av_rmap::unmap::unmap;
+use std::alloc::AllocError;
+use std::marker::Brand;
+use std::sync::ledger::{Blank, Ledger};
+
+impl Mem {
+    /// Each entry of a cached frame becomes its slot. Without memory all stays.
+    pub fn unmap(&mut self, frame: u32, slot: Slot) -> Result<(), AllocError>
+        requires anons { AnonsFit self.old.spaces self.old.anons }
+        requires in_range { frame < frame_count self.old }
+        requires reached { AreReached self.old frame }
+        requires cached { is_cached (shown_swap self.old.swap) slot ≡ true }
+        requires few { (view self.old).entries slot + (view self.old).maps frame < 2 ^ 32 }
+        ensures unmapped { OnOk result (view self.new ≡ view_unmap frame slot (view self.old)) }
+        ensures none { OnErr result (view self.new ≡ view self.old) }
+        ensures parts { KeepsParts self.old self.new }
+    {
+        let count = self.frames.maps(frame);
+        self.swap.entry_up(slot, count as u32)?;
+        self.send_away::<Brand>(frame, slot, Blank::new(1));
+        self.frames.clear_maps(frame);
+        Ok(())
+    }
+
+    /// No entry of a frame is seen any more.
+    pub fn unsee(&mut self, frame: u32)
+        requires anons { AnonsFit self.old.spaces self.old.anons }
+        requires in_range { frame < frame_count self.old }
+        requires reached { AreReached self.old frame }
+        ensures unseen { view self.new ≡ view_unseen frame (view self.old) }
+        ensures parts { KeepsParts self.old self.new }
+    {
+        self.clear::<Brand>(frame, Blank::new(1));
+    }
+
+    // Each entry that names a frame names the slot then. Nobody counts the looks.
+    fn send_away<L: Ledger>(&mut self, frame: u32, slot: Slot, blank: Blank)
+        requires name { blank.name ≡ L.name }
+        requires parts { blank.parts ≡ L.parts }
+        requires some { 0 < blank.parts }
+        requires anons { AnonsFit self.old.spaces self.old.anons }
+        requires in_range { frame < frame_count self.old }
+        requires reached { AreReached self.old frame }
+        ensures entries { entry_at self.new.tables
+            ≡ (λ process page. away frame slot (entry_at self.old.tables process page)) }
+        ensures processes { has self.new.tables ≡ has self.old.tables }
+        ensures rest { self.new ≡ record self.old { tables = self.new.tables } }
+    {
+        if let Some(home) = self.frames.home(frame) {
+            let mut steps = Steps::<L>::open(blank);
+            let mut stores = StoresMut {
+                areas: self.spaces.by_number(),
+                anons: &self.anons,
+                tables: &mut self.tables,
+            };
+            unmap(&mut stores, frame, slot, home, &mut steps);
+        }
+    }
+
+    // No entry that names a frame is seen then. Nobody counts the looks.
+    fn clear<L: Ledger>(&mut self, frame: u32, blank: Blank)
+        requires name { blank.name ≡ L.name }
+        requires parts { blank.parts ≡ L.parts }
+        requires some { 0 < blank.parts }
+        requires anons { AnonsFit self.old.spaces self.old.anons }
+        requires in_range { frame < frame_count self.old }
+        requires reached { AreReached self.old frame }
+        ensures entries { entry_at self.new.tables
+            ≡ (λ process page. unseen frame (entry_at self.old.tables process page)) }
+        ensures processes { has self.new.tables ≡ has self.old.tables }
+        ensures rest { self.new ≡ record self.old { tables = self.new.tables } }
+    {
+        if let Some(home) = self.frames.home(frame) {
+            let mut steps = Steps::<L>::open(blank);
+            let mut stores = StoresMut {
+                areas: self.spaces.by_number(),
+                anons: &self.anons,
+                tables: &mut self.tables,
+            };
+            clear_seen(&mut stores, frame, home, &mut steps);
+        }
+    }
+}
