@@ -83,6 +83,7 @@ does-then a b c l ns ms d e = record {
       (e.claims (with_loads a.setting w l (note_events ns)) (rmap_after_all l (note_events ns) r) (d.claims w r h)));
   faults = subst (λ n. RoseBy n a.faults c.faults) (sym (how_many-append is_fail ns ms))
       (rose-then (fails ns) (fails ms) (2 ^ 64 - 1) a.faults b.faults c.faults d.faults e.faults);
+  never_falls = omega (arith, d.never_falls, e.never_falls);
 }
 
 pub goes-then : (a b c : SystemView) (l : Ledger) (ns ms : List Note) → Goes a b l ns → Goes b c (after_notes l ns) ms → Goes a c l (ns ++ ms)
@@ -110,6 +111,7 @@ does-none a l h = record {
   first = refl;
   chooses = refl;
   faults = rose-none a.faults (2 ^ 64 - 1) a.faults a.faults refl (omega arith);
+  never_falls = omega arith;
 }
 
 -- ---- calls put together

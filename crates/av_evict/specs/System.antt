@@ -1,5 +1,5 @@
 -- A memory system that can be driven in single steps, seen through the ledgers that it stands for.
-use Rattle.std.specs.Prelude.{◌≡◌, ℕ, List, ◌++◌, Option}
+use Rattle.std.specs.Prelude.{◌≡◌, ◌≤◌, ℕ, List, ◌++◌, Option}
 use Rattle.av_base.specs.declared.slot.Slot.{Slot}
 use Rattle.av_io.specs.Count.{RoseBy}
 use Rattle.av_trace.specs.declared.note.Note.{Note}
@@ -51,6 +51,7 @@ pub record Does (old new : SystemView) (l : Ledger) (notes : List Note) : Type 0
   pub first : new.first ≡ old.first
   pub chooses : ChoosesAll old.setting old.closing l (note_events notes) old.free new.free
   pub faults : RoseBy (fails notes) old.faults new.faults
+  pub never_falls : old.faults ≤ new.faults
   pub claims : (w : World) (r : Rmap) → old.claims w r l
       → new.claims (with_loads old.setting w l (note_events notes))
       (rmap_after_all l (note_events notes) r) (after_notes l notes)

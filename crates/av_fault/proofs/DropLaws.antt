@@ -14,20 +14,22 @@ use Rattle.av_trace.specs.declared.note.Note.{Note}
 use Rattle.av_trace.specs.declared.note.Note.TheVariants.{Dropped}
 use Rattle.av_plain.specs.Areas.{Anons, Rmap}
 use Rattle.av_plain.specs.Device.{Device}
-use Rattle.av_plain.specs.Event.{Noted, after_note, if_some, off_cache, settle, when}
-use Rattle.av_plain.specs.Fault.{drop_of_slot, is_unneeded}
-use Rattle.av_plain.specs.Ledger.{Entry, InFrame, InSlot, Ledger, Setting, Zero as ZeroEntry, frame_at, in_flight, is_full, same_slot, slot_entries, slot_of}
-use Rattle.av_plain.specs.Sound.{flights, no_excuse}
+use Rattle.av_plain.specs.Event.{Noted, after_note, after_notes, if_some, off_cache, settle, when}
+use Rattle.av_plain.specs.Fault.{drop_of_slot, is_shared, is_unneeded}
+use Rattle.av_plain.specs.Ledger.{Entry, InFrame, InSlot, Ledger, Setting, Zero as ZeroEntry, frame_at, in_flight, is_full, map_count, same_slot, slot_entries, slot_of}
+use Rattle.av_plain.specs.Pass.{fails}
+use Rattle.av_plain.specs.Sound.{IsSound, flights, no_excuse}
 use Rattle.av_plain.specs.Stands.{Pte as Plain, View}
 use Rattle.av_plain.specs.World.{World}
 use Rattle.av_plain.proofs.Load.{without-loads}
 use Rattle.av_plain.proofs.Sound.Changes.{any-counts, drop-sound}
 use Rattle.av_plain.proofs.Sound.Counts.{same-itself}
-use Rattle.av_plain.proofs.Sound.Steps.{settle-cache}
+use Rattle.av_plain.proofs.Sound.Steps.{settle-cache, settle-entries}
 use Rattle.av_swap_laws.specs.Held.{Held}
 use Rattle.av_swap_laws.specs.Steps.{view_drop, view_freed, view_given_back, view_uncached}
 use Rattle.av_swap_laws.proofs.Cache.{once-of, slot-frame, slot_of-off}
 use Rattle.av_swap_laws.proofs.From.{cached-in_range, cached-there, unneeded-leaves}
+use Rattle.av_swap_laws.proofs.Parts.{shared-less}
 use Rattle.av_swap_laws.proofs.Whole.{drop-steps}
 use Rattle.av_mem.specs.declared.mem.Mem.{Mem}
 use Rattle.av_mem.specs.Mem.{held_by, plain, setting_by, view}
@@ -261,3 +263,34 @@ full-dropped d old new w r l f before after still full x = record {
   drops = x.drops ∙ drops-full (setting_by d old) l (slot_of l f) full;
   done = x.done;
 }
+
+-- what others don't use they don't use then
+pub dropped-alone : (m : Setting) (l : Ledger) (f : ℕ) → IsSound m l → is_shared l f ≡ false
+    → is_shared (after_notes l (drop_of_slot m true false l (slot_of l f))) f ≡ false
+dropped-alone m l f sound alone = by (slot_of l f) refl
+  where
+    uncached : (s : Slot) → slot_of l f ≡ Some s → slot_of (after_note (Dropped s) l) f ≡ None
+    uncached s at =
+        let once = once-of m no_excuse l sound in
+        ap (λ cs. slot_of (record l { cache = cs }) f) (settle-cache (frame_at l s) (off_cache s l))
+        ∙ slot_of-off l once s f (slot-frame l once f s at) f ∙ ap (λ b. cond b None (slot_of l f)) (same-itself f)
+
+    same : (s : Slot) → map_count (after_note (Dropped s) l) f ≡ map_count l f
+    same s = ap (λ es. map_count (record l { entries = es }) f) (settle-entries (frame_at l s) (off_cache s l))
+
+    at_slot : (s : Slot) → slot_of l f ≡ Some s → (b : Bool) → is_shared (after_notes l (when b (Dropped s))) f ≡ false
+    at_slot s at true = shared-less l (after_note (Dropped s) l) f (same s) (uncached s at) alone
+    at_slot s at false = alone
+
+    by : (o : Option Slot) → slot_of l f ≡ o → is_shared (after_notes l (drop_of_slot m true false l o)) f ≡ false
+    by None at = alone
+    by (Some s) at = at_slot s at (is_unneeded m true false l s)
+
+-- no failure is told
+pub drops-unfailed : (m : Setting) (write came : Bool) (l : Ledger) (o : Option Slot) → fails (drop_of_slot m write came l o) ≡ 0
+drops-unfailed m write came l None = refl
+drops-unfailed m write came l (Some s) = by (is_unneeded m write came l s)
+  where
+    by : (b : Bool) → fails (when b (Dropped s)) ≡ 0
+    by true = refl
+    by false = refl

@@ -1,10 +1,12 @@
 pub mod Amid
 pub mod Between
+pub mod ComingLaws
 pub mod CopyLaws
 pub mod Done
 pub mod DropLaws
 pub mod EntryLaws
 pub mod FullLaws
+pub mod MadeLaws
 pub mod MakingLaws
 pub mod NewLaws
 pub mod Prepared
@@ -14,5 +16,6 @@ pub mod SeekLaws
 pub mod SharedLaws
 pub mod SoughtLaws
 pub mod TakenLaws
+pub mod TouchLaws
 pub mod UsingLaws
 pub mod ZeroLaws

@@ -19,13 +19,13 @@ use Rattle.av_plain.specs.Areas.{Rmap, at_home, rmap_after_all, rmap_after_use}
 use Rattle.av_plain.specs.Device.{Device}
 use Rattle.av_plain.specs.Event.{Event, Noted, Used, after_note, after_use, after_use_of, if_some, note_events, set_entry, with_stale}
 use Rattle.av_plain.specs.Fault.{drop_of_slot, is_shared, is_unneeded}
-use Rattle.av_plain.specs.Ledger.{Entry, InFrame, Key, Ledger, Setting, entry, frame_at, in_flight, is_free, is_full, is_stale, map_count, slot_entries, slot_of}
+use Rattle.av_plain.specs.Ledger.{Entry, InFrame, Key, Ledger, Setting, entry, frame_at, in_flight, is_free, is_full, is_stale, map_count, names_frame, slot_entries, slot_of}
 use Rattle.av_plain.specs.Load.{with_loads}
 use Rattle.av_plain.specs.Stands.{BytesStand, Holds, IsKept, View, entry_of, free_of}
 use Rattle.av_plain.specs.World.{World, pages}
 use Rattle.av_plain.proofs.Load.{without-loads}
 use Rattle.av_plain.proofs.Ledger.Order.{keys_total}
-use Rattle.av_plain.proofs.Ledger.{same_key, same_key-is}
+use Rattle.av_plain.proofs.Ledger.{how_many-found, same_key, same_key-is}
 use Rattle.av_plain.proofs.Ledger.NoSwap.{key_is}
 use Rattle.av_plain.proofs.Sound.Changes.{after_use-kept, any-counts, drop-sound}
 use Rattle.av_plain.proofs.Sound.Counts.{same-is, same-itself}
@@ -57,6 +57,16 @@ module _ (d : Device) (k : Mem) (w : World) (r : Rmap) (l : Ledger) (h : KeepsBe
   -- the write bit says that a write need not copy
   pub own-here : write ≡ true → is_shared l f ≡ false
   own-here own = h.serves.held.ledger.tables.write_bits q.0 q.1 (record { entry = InFrame f seen; write = write }) f (ap plain there) own (same-itself f)
+
+  named : 0 < map_count l f
+  named = how_many-found (names_frame f) q l.entries (InFrame f seen) entry-here (same-itself f)
+
+  -- the frame is one of the machine's, and not free
+  pub here-below : f < frame_count k
+  here-below = let some = named in h.sound.in_range f (omega (arith, some))
+
+  pub here-maps : 0 < (view k).maps f
+  here-maps = subst (λ n. 0 < n) (sym (h.serves.held.ledger.frames.maps f)) named
 
 -- the entry that is there, put in again
 pub seen-again : (p page f : ℕ) (write : Bool) (v : View) → v.table p page ≡ Some (record { entry = InFrame f true; write = write }) →

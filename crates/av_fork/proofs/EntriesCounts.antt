@@ -41,7 +41,8 @@ tally-group test mark [] x a are = ap (tally test) (let same : a + 0 ≡ a = ome
     ∙ (let n = tally test a in let same : n ≡ n + 0 = omega arith in same)
 tally-group test mark (y ∷ ys) x a are =
     ap (tally test) (let next : a + suc (length ys) ≡ suc a + length ys = omega arith in next)
-    ∙ tally-group test mark ys x (suc a) (λ i low. are (suc i) (omega (arith, low)) ∙ ap test (let next : a + suc i ≡ suc a + i = omega arith in next))
+    ∙ tally-group test mark ys x (suc a) (λ i low. are (suc i) (omega (arith, low))
+    ∙ ap test (let next : a + suc i ≡ suc a + i = omega arith in next))
     ∙ ap (λ b. tally test a + cond b 1 0 + how_many mark ys)
     (ap test (let same : a ≡ a + 0 = omega arith in same) ∙ sym (are 0 (omega arith)))
     ∙ added (tally test a) (cond (mark y) 1 0) (how_many mark ys)
@@ -77,7 +78,8 @@ below p n k = k.0 == p && nat_lt k.1 n
 
 below-none : (t : Entry → Bool) (p : ℕ) (es : List (Key × Entry)) → entries_with t (where_key key_cmp (below p 0) es) ≡ 0
 below-none t p [] = refl
-below-none t p (e ∷ es) = ap (λ b. entries_with t (cond b (e ∷ where_key key_cmp (below p 0) es) (where_key key_cmp (below p 0) es))) (none e.0.0 e.0.1)
+below-none t p (e ∷ es) =
+    ap (λ b. entries_with t (cond b (e ∷ where_key key_cmp (below p 0) es) (where_key key_cmp (below p 0) es))) (none e.0.0 e.0.1)
     ∙ below-none t p es
   where
     none : (a b : ℕ) → (a == p && nat_lt b 0) ≡ false
@@ -85,7 +87,8 @@ below-none t p (e ∷ es) = ap (λ b. entries_with t (cond b (e ∷ where_key ke
 
 -- one page more
 below-more : (t : Entry → Bool) (p n : ℕ) (es : List (Key × Entry)) → T (is_sorted key_cmp es)
-    → entries_with t (where_key key_cmp (below p (suc n)) es) ≡ entries_with t (where_key key_cmp (below p n) es) + cond (passes t (find key_cmp (p, n) es)) 1 0
+    → entries_with t (where_key key_cmp (below p (suc n)) es)
+    ≡ entries_with t (where_key key_cmp (below p n) es) + cond (passes t (find key_cmp (p, n) es)) 1 0
 below-more t p n [] h = refl
 below-more t p n (e ∷ es) h = by (same_key (p, n) e.0) refl (below-more t p n es (both_second _ _ h))
   where
@@ -171,7 +174,8 @@ all-below p n (e ∷ es) none = by (all-below p n es (λ o low. tail o (same_key
         (ap (λ q. same_key (q, e.0.1) e.0) (sym (equal e.0.0 p i)) ∙ same_key-itself e.0)) ∙ none e.0.1 (high e.0.1 n j)))
     test false b i j = refl
 
-    by : where_key key_cmp (λ k. k.0 == p) es ≡ where_key key_cmp (below p n) es → where_key key_cmp (λ k. k.0 == p) (e ∷ es) ≡ where_key key_cmp (below p n) (e ∷ es)
+    by : where_key key_cmp (λ k. k.0 == p) es ≡ where_key key_cmp (below p n) es
+        → where_key key_cmp (λ k. k.0 == p) (e ∷ es) ≡ where_key key_cmp (below p n) (e ∷ es)
     by rest = λ i. cond (test (e.0.0 == p) (nat_lt e.0.1 n) refl refl i) (e ∷ rest i) (rest i)
 
 -- so as many are copied

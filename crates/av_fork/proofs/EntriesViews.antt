@@ -179,7 +179,8 @@ fork_view k p q n = record (with_more (λ f. more (view k) p n (names_frame f)) 
 }
 
 module _ (old : Mem) (p q : ℕ) where
-  pub none-seen : (tables : ProcessTables) → entry_at tables ≡ fork_tables p q (entry_at old.tables) → view (record old { tables = tables }) ≡ fork_view old p q 0
+  pub none-seen : (tables : ProcessTables) → entry_at tables ≡ fork_tables p q (entry_at old.tables)
+      → view (record old { tables = tables }) ≡ fork_view old p q 0
   none-seen tables is =
       (λ i. record (view old) { table = λ x o. plain (is i x o) })
       ∙ by-counts (record (view old) { table = λ x o. plain (fork_tables p q (entry_at old.tables) x o) }) _ _ _ _ (λ f. no_more ((view old).maps f))
@@ -191,7 +192,8 @@ module _ (old : Mem) (p q : ℕ) where
       → view now ≡ fork_view old p q (number * 64) → view new ≡ after_count_ups group (view now) → view new ≡ fork_view old p q ((page / 64 + 1) * 64)
   group-seen now new table number page group long copies first are is ups =
       ups ∙ ap (after_count_ups group) is
-      ∙ by-counts (record (view old) { table = λ x o. plain (fork_tables p q (entry_at old.tables) x o) }) _ _ _ _ (λ f. joined ((view old).maps f) (names_frame f) (unseen-frame f)) (λ s. joined ((view old).entries s) (names_slot s) (unseen-slot s))
+      ∙ by-counts (record (view old) { table = λ x o. plain (fork_tables p q (entry_at old.tables) x o) }) _ _ _ _
+      (λ f. joined ((view old).maps f) (names_frame f) (unseen-frame f)) (λ s. joined ((view old).entries s) (names_slot s) (unseen-slot s))
     where
       -- a child's entry names what its parent's does
       IsBlind : (Entry → Bool) → Type 0
@@ -217,7 +219,8 @@ module _ (old : Mem) (p q : ℕ) where
       joined k t blind = add k _ _ _ (sym (
           ap (λ n. more (view old) p n t) (sym at.past)
           ∙ tally-group (λ o. entry_passes t ((view old).table p o)) (λ e. entry_passes t (plain e)) group Empty start
-          (λ i low. ap (λ e. entry_passes t (plain e)) (are i (omega (arith, low, long)) ∙ copies (start + i)) ∙ blind (entry_at old.tables p (start + i)))
+          (λ i low. ap (λ e. entry_passes t (plain e)) (are i (omega (arith, low, long)) ∙ copies (start + i))
+          ∙ blind (entry_at old.tables p (start + i)))
           ∙ ap (λ c. c + how_many (λ e. entry_passes t (plain e)) group) skipped
           ))
         where
@@ -228,9 +231,12 @@ module _ (old : Mem) (p q : ℕ) where
           add a b c d e = omega (arith, e)
 
           skipped : more (view old) p start t ≡ more (view old) p (number * 64) t
-          skipped = ap (λ n. more (view old) p n t) (let low = at.low in let same : start ≡ number * 64 + (start - number * 64) = omega (arith, low) in same)
+          skipped =
+              ap (λ n. more (view old) p n t) (let low = at.low in
+              let same : start ≡ number * 64 + (start - number * 64) = omega (arith, low) in same)
               ∙ tally-on _ (number * 64) (start - number * 64) (λ o low high. ap (λ e. entry_passes t (plain e))
-              (child_none (entry_at old.tables p o) (sym (copies o) ∙ first.least o low (let here = at.here in let after = at.low in omega (arith, high, here, after)))))
+              (child_none (entry_at old.tables p o) (sym (copies o) ∙ first.least o low (let here = at.here in let after = at.low in
+              omega (arith, high, here, after)))))
 
   module _ (d : Device) (l : Ledger) (h : HasLedger d old l) where
     -- what an entry of the parent names is in use

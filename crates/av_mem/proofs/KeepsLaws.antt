@@ -79,7 +79,6 @@ fits-whenever sizes pages n n' closing k h = record {
   closed = h.closed;
   on_device = h.on_device;
   by_headers = h.by_headers;
-  none_on = h.none_on;
 }
 
 pub keeps-whenever : (sizes : ℕ → Option ℕ) (pages : Option (ℕ → ℕ → List ℕ)) (n n' : ℕ) (k : Mem) (s : State)

@@ -255,7 +255,6 @@ fresh-keeps d frames lists tables spaces anons swap n is unlisted none empty unu
     closed = ap (λ (h : ShownSwap). h.closing) blank;
     on_device = λ a. subst (λ (h : ShownSwap). IfSome (header_at h a) (λ (x : Header). IsSomeAnd (d.sizes a) (λ n. x.pages ≤ n))) (sym blank) tt;
     by_headers = subst (AreByHeaders (headers_of d)) (sym blank) (unmade (headers_of d));
-    none_on = ap (λ (h : ShownSwap). h.on) blank;
   };
 }
   where

@@ -117,8 +117,8 @@ module _ (k : Mem) (r : Rmap) (l : Ledger) (h : Reaches k r l) where
       (h.covered.covered q f (passes-some f (entry l q) (sym (names-there f q) ∙ named)))
 
   -- from its home each of the frame's entries is reached; without one it has none
-  pub are-reached : AreNumbered k.spaces → (f : ℕ) → AreReached k f
-  are-reached numbered f = by ((view k).homes f) refl
+  pub are-reached : (f : ℕ) → AreReached k f
+  are-reached f numbered = by ((view k).homes f) refl
     where
       unnamed : (view k).homes f ≡ None → (q : Key) (b : Bool) → names_frame f (entry_at k.tables q.0 q.1) ≡ b → b ≡ false
       unnamed homeless q false e = refl

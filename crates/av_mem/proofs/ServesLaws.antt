@@ -90,7 +90,6 @@ module _ (old new : Mem) (parts : KeepsParts old new) where
         (sym parts.swap.on) (subst (λ (sizes : ℕ → Option ℕ). IfSome (find nat_cmp a (shown_swap old.swap).on) (λ (x : Header). IsSomeAnd (sizes a)
         (λ n. x.pages ≤ n))) (sym same.sizes) (h.on_device a));
     by_headers = by-headers (headers_of d') (subst (λ headers. AreByHeaders headers (shown_swap old.swap)) (sym (same-headers d d' same)) h.by_headers);
-    none_on = parts.swap.on ∙ h.none_on;
   }
 
   -- one setting

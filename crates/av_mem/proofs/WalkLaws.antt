@@ -90,7 +90,7 @@ module _ (d : Device) (k : Mem) (s : State) (keeps : Keeps d k s) where
   names-there = names-there-by k (rmap_of s) s.ledger reaching
 
   -- from its home each of the frame's entries is reached; without one it has none
-  pub covered : AreNumbered k.spaces → (f : ℕ) → AreReached k f
+  pub covered : (f : ℕ) → AreReached k f
   covered = are-reached k (rmap_of s) s.ledger reaching
 
   -- ---- what it finds

@@ -5,6 +5,7 @@ use Rattle.av_anon.specs.Spans.{spans_of}
 use Rattle.av_pagetable.specs.Entries.{entry_at}
 use Rattle.av_rmap.specs.Covered.{IsCoveredFrom}
 use Rattle.av_rmap.specs.View.{View, view_with}
+use Rattle.av_spaces.specs.Spaces.{AreNumbered}
 use Rattle.av_vma.specs.Areas.{area_of}
 use Rattle.av_mem.specs.Mem.{view}
 use Rattle.av_mem.specs.declared.mem.Mem.{Mem}
@@ -13,6 +14,7 @@ use Rattle.av_mem.specs.declared.mem.Mem.{Mem}
 abbrev pub reach : Mem → View
 reach k = view_with (area_of k.spaces.areas) (family k.anons) (spans_of k.anons) (entry_at k.tables)
 
--- each entry that names the frame is reached from its home; without a home none does
+-- each entry that names the frame is reached from its home; without a home none does. It is so where
+-- areas stand under their numbers, which the areas themselves keep
 abbrev pub AreReached : Mem → ℕ → Type 0
-AreReached k f = IsCoveredFrom (reach k) f ((view k).homes f)
+AreReached k f = AreNumbered k.spaces → IsCoveredFrom (reach k) f ((view k).homes f)

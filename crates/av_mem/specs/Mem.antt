@@ -120,7 +120,6 @@ pub record SwapFits (d : Device) (closing : Option ℕ) (k : Mem) : Type 0 where
   pub closed : (shown_swap k.swap).closing ≡ closing
   pub on_device : HasAreas d.sizes (shown_swap k.swap)
   pub by_headers : AreByHeaders (headers_of d) (shown_swap k.swap)
-  pub none_on : (shown_swap k.swap).on ≡ []
 
 -- the memory system over this device stands for the memories, the ledger, what is free, the areas,
 -- the anon_vmas, among which there is chain order, and the homes

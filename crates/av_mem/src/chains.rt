@@ -1,9 +1,10 @@
 //! Steps that go through a frame's home to its entries.
 
-ghost use Rattle.std.specs.Prelude.{◌≡◌, ◌<◌, ◌+◌, ◌^◌, true, OnOk, OnErr};
+ghost use Rattle.std.specs.Prelude.{◌≡◌, ◌<◌, ◌+◌, ◌^◌, ℕ, true, false, MatchBool, OnOk, OnErr};
 ghost use Rattle.av_pagetable.specs.Entries.{entry_at, has};
 ghost use Rattle.av_rmap.specs.Seen.{unseen};
 ghost use Rattle.av_rmap.specs.Unmap.{away};
+ghost use Rattle.av_rmap.specs.Walk.{Key, names_seen};
 ghost use Rattle.av_spaces.specs.Kin.{AnonsFit};
 ghost use Rattle.av_swap_laws.specs.Steps.{view_unmap, view_unseen};
 ghost use Rattle.av_swapcache.specs.Swap.{is_cached, shown as shown_swap};
@@ -13,8 +14,8 @@ ghost use Rattle.av_mem.specs.Steps.{KeepsParts};
 
 use crate::mem::Mem;
 use av_base::{Slot, Steps};
-use av_rmap::seen::clear_seen;
-use av_rmap::stores::StoresMut;
+use av_rmap::seen::{any_seen, clear_seen};
+use av_rmap::stores::{Stores, StoresMut};
 use av_rmap::unmap::unmap;
 use std::alloc::AllocError;
 use std::marker::Brand;
@@ -50,6 +51,45 @@ impl Mem {
         self.clear::<Brand>(frame, Blank::new(1));
     }
 
+    /// Whether an entry that names a frame is seen.
+    pub fn is_seen(&self, frame: u32) -> bool
+        requires anons { AnonsFit self.now.spaces self.now.anons }
+        requires in_range { frame < frame_count self.now }
+        requires reached { AreReached self.now frame }
+        ensures { MatchBool result
+            ((k : Key) × (names_seen frame (entry_at self.now.tables k.0 k.1) ≡ true))
+            ((process page : ℕ)
+            → names_seen frame (entry_at self.now.tables process page) ≡ false) }
+    {
+        self.any_seen::<Brand>(frame, Blank::new(1))
+    }
+
+    // The same. Nobody counts the looks.
+    fn any_seen<L: Ledger>(&self, frame: u32, blank: Blank) -> bool
+        requires name { blank.name ≡ L.name }
+        requires parts { blank.parts ≡ L.parts }
+        requires some { 0 < blank.parts }
+        requires anons { AnonsFit self.now.spaces self.now.anons }
+        requires in_range { frame < frame_count self.now }
+        requires reached { AreReached self.now frame }
+        ensures { MatchBool result
+            ((k : Key) × (names_seen frame (entry_at self.now.tables k.0 k.1) ≡ true))
+            ((process page : ℕ)
+            → names_seen frame (entry_at self.now.tables process page) ≡ false) }
+    {
+        let areas = self.spaces.by_number();
+        let Some(home) = self.frames.home(frame) else {
+            return false;
+        };
+        let mut steps = Steps::<L>::open(blank);
+        let stores = Stores {
+            areas,
+            anons: &self.anons,
+            tables: &self.tables,
+        };
+        any_seen(&stores, frame, home, &mut steps)
+    }
+
     // Each entry that names a frame names the slot then. Nobody counts the looks.
     fn send_away<L: Ledger>(&mut self, frame: u32, slot: Slot, blank: Blank)
         requires name { blank.name ≡ L.name }
@@ -63,10 +103,11 @@ impl Mem {
         ensures processes { has self.new.tables ≡ has self.old.tables }
         ensures rest { self.new ≡ record self.old { tables = self.new.tables } }
     {
+        let areas = self.spaces.by_number();
         if let Some(home) = self.frames.home(frame) {
             let mut steps = Steps::<L>::open(blank);
             let mut stores = StoresMut {
-                areas: self.spaces.by_number(),
+                areas,
                 anons: &self.anons,
                 tables: &mut self.tables,
             };
@@ -87,10 +128,11 @@ impl Mem {
         ensures processes { has self.new.tables ≡ has self.old.tables }
         ensures rest { self.new ≡ record self.old { tables = self.new.tables } }
     {
+        let areas = self.spaces.by_number();
         if let Some(home) = self.frames.home(frame) {
             let mut steps = Steps::<L>::open(blank);
             let mut stores = StoresMut {
-                areas: self.spaces.by_number(),
+                areas,
                 anons: &self.anons,
                 tables: &mut self.tables,
             };

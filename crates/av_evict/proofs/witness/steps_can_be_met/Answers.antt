@@ -11,8 +11,11 @@ use Rattle.av_evict.specs.System.{Does}
 use Rattle.av_evict.specs.Witness.{TakesNext, only_view, setting_told}
 use Rattle.av_evict.proofs.witness.steps_can_be_met.Goals as goal
 
-most : (n a top : ℕ) → min (a + n) top ≤ top
+most : (n a top : ℕ) → min (a + n) top ≤ a + n
 most n a top = omega arith
+
+no-less : (n a : ℕ) → a ≤ a + n
+no-less n a = omega arith
 
 -- what is free after the note
 abbrev free_after : (m : Setting) (closing : Option ℕ) (free : Free) (l : Ledger) (note : Note) → TakesNext m closing l free note → Free
@@ -25,7 +28,7 @@ free_after m closing free l note next = record {
 met : (m : Setting) (closing : Option ℕ) (first : Option (ℕ → List ℕ)) (free : Free) (faults : ℕ) (w : World) (r : Rmap) (l : Ledger) (note : Note) →
     (next : TakesNext m closing l free note) →
     Does (only_view m closing first free faults w r l)
-    (only_view m closing first (free_after m closing free l note next) (2 ^ 64 - 1) (with_loads m w l (note_events (note ∷ [])))
+    (only_view m closing first (free_after m closing free l note next) (faults + fails (note ∷ [])) (with_loads m w l (note_events (note ∷ [])))
     (rmap_after_all l (note_events (note ∷ [])) r) (after_note note l)) l (note ∷ [])
 met m closing first free faults w r l note next = record {
   stands = refl;
@@ -40,6 +43,7 @@ met m closing first free faults w r l note next = record {
   );
   claims = λ v q is. (ap (λ x. with_loads m x l (note_events (note ∷ []))) is.0, ap (rmap_after_all l (note_events (note ∷ []))) is.1);
   faults = most (fails (note ∷ [])) faults (2 ^ 64 - 1);
+  never_falls = no-less (fails (note ∷ [])) faults;
 }
 
 -- in both
@@ -47,7 +51,7 @@ met_told : (m : Setting) (closing : Option ℕ) (first : Option (ℕ → List �
     (note : Note) →
     (next : TakesNext m closing l free note) → (told : Bool) →
     Does (only_view (setting_told told m) closing (if told then first else None) free faults w r l)
-    (only_view (setting_told told m) closing (if told then first else None) (free_after m closing free l note next) (2 ^ 64 - 1)
+    (only_view (setting_told told m) closing (if told then first else None) (free_after m closing free l note next) (faults + fails (note ∷ []))
     (with_loads (setting_told told m) w l (note_events (note ∷ []))) (rmap_after_all l (note_events (note ∷ [])) r) (after_note note l))
     l (note ∷ [])
 met_told m closing first free faults w r l note next true = met m closing first free faults w r l note next
@@ -57,7 +61,7 @@ met_told m closing first free faults w r l note next false = met (setting_told f
 pub returns : goal.returns
 returns c = λ m closing first free faults w r l note next. (
   free_after m closing free l note next,
-  2 ^ 64 - 1,
+  faults + fails (note ∷ []),
   λ told. with_loads (setting_told told m) w l (note_events (note ∷ [])),
   rmap_after_all l (note_events (note ∷ [])) r,
   met_told m closing first free faults w r l note next,

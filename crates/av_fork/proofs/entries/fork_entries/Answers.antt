@@ -12,7 +12,8 @@ use Rattle.av_fork.proofs.entries.fork_entries.Goals as goal
 pub loop-page-init : goal.loop-page-init
 loop-page-init c =
     let old = c.args.mem.now in
-    let tables = c.write_protect.ensures.protects ∙ ap (λ (t : ℕ → ℕ → Pte). with_at {X = ℕ → Pte} c.args.parent (λ o. read_only (t c.args.parent o)) t)
+    let tables = c.write_protect.ensures.protects
+    ∙ ap (λ (t : ℕ → ℕ → Pte). with_at {X = ℕ → Pte} c.args.parent (λ o. read_only (t c.args.parent o)) t)
     c.in_ok-copy.ensures.copies in
     record {
       within = omega arith;

@@ -19,7 +19,7 @@ pub walk_frame-requires-clause-covered : goal.walk_frame-requires-clause-covered
 walk_frame-requires-clause-covered g c = let s = c.requires.steady in
     subst (λ (areas : List (Option Area)). IsCoveredFrom (reach_by c.args.mem.now areas) c.args.frame c.home.result) (sym c.by_number.ensures.areas)
     (subst (IsCoveredFrom (reach_by c.args.mem.now c.args.mem.now.spaces.areas) c.args.frame) (sym c.home.ensures)
-    (covered s.0 c.args.mem.now s.1 s.2 c.by_number.ensures.numbered c.args.frame))
+    (covered s.0 c.args.mem.now s.1 s.2 c.args.frame c.by_number.ensures.numbered))
 
 pub walk_frame-requires-clause-count : goal.walk_frame-requires-clause-count
 walk_frame-requires-clause-count g c = let s = c.requires.steady in

@@ -1,0 +1,6 @@
+mod OneNote
+mod StepMakes
+mod FinishMakes
+mod PutMakes
+mod ReadLaws
+mod CommandLaws

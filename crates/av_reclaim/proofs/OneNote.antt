@@ -1,0 +1,64 @@
+-- A step with one note, by the law of the note.
+use Rattle.std.proofs.Common.{◌≡◌, ℕ, ◌≤◌, T, List, [], ◌∷◌, refl, sym, ap, subst}
+use Rattle.std.specs.FinMap.Entries.{is_sorted}
+use Rattle.av_io.specs.Count.{RoseBy}
+use Rattle.av_trace.specs.declared.note.Note.{Note}
+use Rattle.av_plain.specs.Areas.{Rmap, rmap_after_note}
+use Rattle.av_plain.specs.Device.{Device, IsSameDevice}
+use Rattle.av_plain.specs.Event.{Noted, after_note, note_events}
+use Rattle.av_plain.specs.Ledger.{Ledger, key_cmp}
+use Rattle.av_plain.specs.Load.{with_loads}
+use Rattle.av_plain.specs.Pass.{fails}
+use Rattle.av_plain.specs.Sound.{IsSoundBut}
+use Rattle.av_plain.specs.World.{World}
+use Rattle.av_plain.proofs.FreeLists.{IsLawfulEvent}
+use Rattle.av_plain.proofs.Sound.Pages.{Brings}
+use Rattle.av_swap_laws.specs.Held.{Steps}
+use Rattle.av_evict.specs.System.{Does, any_slot}
+use Rattle.av_mem.specs.Mem.{Serves, held_by, setting_by}
+use Rattle.av_mem.specs.Steps.{KeepsParts}
+use Rattle.av_mem.specs.declared.mem.Mem.{Mem}
+use Rattle.av_mem.proofs.ServesLaws.{PreparesNone, is_mapped, serves-note, setting-stays}
+use Rattle.av_reclaim.specs.Driver.{closing_of, view_of}
+
+-- the ledger is sound but for what is amid a step, and the memory system stands for it
+pub record StandsBy (d : Device) (k : Mem) (l : Ledger) : Type 0 where
+  pub sound : IsSoundBut (setting_by d k) any_slot l
+  pub world : World
+  pub rmap : Rmap
+  pub serves : Serves d (closing_of k) k world rmap l
+
+-- what a step owes beside the law: it leaves areas and device, and takes and brings what it may
+pub record Owes (d d' : Device) (old new : Mem) (l : Ledger) (note : Note) : Type 0 where
+  pub parts : KeepsParts old new
+  pub same : IsSameDevice d d'
+  pub lawful : IsLawfulEvent (setting_by d old) (closing_of old) l (Noted note)
+  pub brings : (w : World) → Brings (is_mapped w) note
+  pub still : PreparesNone note
+  pub loads : (w : World) → with_loads (setting_by d old) w l (note_events (note ∷ [])) ≡ w
+  pub faults : RoseBy (fails (note ∷ [])) d.faults d'.faults
+
+-- the step of the law, which leaves the memories as they are
+abbrev pub StepsBy : Device → Device → Mem → Mem → Ledger → Note → Type 0
+StepsBy d d' old new l note = (w : World) (r : Rmap) → Serves d (closing_of old) old w r l
+    → Steps (setting_by d old) (closing_of old) (Noted note) (held_by d old w r l) (held_by d' new w (rmap_after_note l note r) (after_note note l))
+
+pub one-does : (names : List ℕ) (d d' : Device) (old new : Mem) (l : Ledger) (note : Note) → StandsBy d old l → Owes d d' old new l note
+    → StepsBy d d' old new l note → Does (view_of names d old) (view_of names d' new) l (note ∷ [])
+one-does names d d' old new l note stood owes law = record {
+  stands = (stood.world, rmap_after_note l note stood.rmap, next stood.world stood.rmap stood.serves);
+  setting = setting-stays old new owes.parts d d' owes.same;
+  closing = owes.parts.swap.closing;
+  names = refl;
+  first = owes.same.first;
+  chooses = (_, (law stood.world stood.rmap stood.serves).chosen, refl);
+  faults = owes.faults;
+  never_falls = owes.same.faults;
+  claims = λ w r c. subst (λ w'. Serves d' (closing_of new) new w' (rmap_after_note l note r) (after_note note l)) (sym (owes.loads w)) (next w r c);
+}
+  where
+    next : (w : World) (r : Rmap) → Serves d (closing_of old) old w r l
+        → Serves d' (closing_of new) new w (rmap_after_note l note r) (after_note note l)
+    next w r c = subst (λ k. Serves d' k new w (rmap_after_note l note r) (after_note note l)) (sym owes.parts.swap.closing)
+        (serves-note old new d d' (closing_of old) w w r l note owes.parts owes.same stood.sound.in_order owes.lawful (owes.brings w) owes.still
+        (sym (owes.loads w)) c (law w r c))

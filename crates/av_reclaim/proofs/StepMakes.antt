@@ -1,0 +1,240 @@
+-- Frames that are kept or age, and slots whose writes begin or that are dropped.
+use Rattle.std.proofs.Common.{◌≡◌, ℕ, ◌+◌, ◌≤◌, ◌<◌, min, ◌^◌, ◌-◌, ◌⊎◌, inl, inr, Bool, true, false, cond, ◌==◌, ◌&&◌, ◌||◌, List, [], ◌∷◌, Option, Some, None, is_some, IfSome, option_map, refl, sym, ap, subst, ◌∙◌, arith}
+use Rattle.std.proofs.lemmas.Bool.Decides.{nat_tests}
+use Rattle.std.proofs.lemmas.Bool.{false≢true}
+use Rattle.std.specs.List.{list_any}
+use Rattle.std.specs.Prelude.{is_none}
+use Rattle.av_base.specs.Words.{is_in}
+use Rattle.av_base.specs.declared.slot.Slot.{Slot}
+use Rattle.av_trace.specs.declared.note.Cause.{Cause}
+use Rattle.av_trace.specs.declared.note.Cause.TheVariants.{WriteStarted, Writeback}
+use Rattle.av_trace.specs.declared.note.Note.{Note}
+use Rattle.av_trace.specs.declared.note.Note.TheVariants.{Aged, Dropped, Kept, Started, Unmapped}
+use Rattle.av_plain.specs.Areas.{Rmap}
+use Rattle.av_plain.specs.Device.{Device, IsSameDevice}
+use Rattle.av_plain.specs.Event.{Noted, after_note}
+use Rattle.av_plain.specs.Ledger.{Cached, Ledger, Setting, cached_by, frame_at, is_cached, map_count, same_slot, slot_entries, slot_of}
+use Rattle.av_plain.specs.Sound.{IsSoundBut}
+use Rattle.av_plain.specs.Stands.{View}
+use Rattle.av_plain.specs.World.{World}
+use Rattle.av_swap_laws.specs.Held.{Steps}
+use Rattle.av_swap_laws.specs.May.{AreOnce, MayLeave}
+use Rattle.av_swap_laws.specs.Steps.{view_drop, view_keep, view_start, view_to_head, view_unmap, view_unseen}
+use Rattle.av_swap_laws.proofs.Cache.{frame-slot, once-of, slot-frame}
+use Rattle.av_swap_laws.proofs.Few.{together-few}
+use Rattle.av_swap_laws.proofs.From.{cached-in_range, cached-there}
+use Rattle.av_swap_laws.proofs.Whole.{age-steps, drop-steps, keep-steps, start-steps, unmap-steps}
+use Rattle.av_swapcache.specs.Swap.{IsUncached, shown}
+use Rattle.av_evict.specs.Steps.{IsUsed, MayDrop, MayStart, MayUnmap}
+use Rattle.av_evict.specs.System.{Does, Makes, any_slot}
+use Rattle.av_mem.specs.Mem.{Serves, held_by, setting_by, view}
+use Rattle.av_mem.specs.Steps.{KeepsParts}
+use Rattle.av_mem.specs.declared.mem.Mem.{Mem}
+use Rattle.av_reclaim.specs.Driver.{closing_of, view_of}
+use Rattle.av_reclaim.proofs.OneNote.{Owes, StandsBy, StepsBy, one-does}
+
+-- ---- words on a step
+
+pub same-world : (b : Bool) (w : World) → cond b w w ≡ w
+same-world true w = refl
+same-world false w = refl
+
+-- one device
+pub itself : (d : Device) → IsSameDevice d d
+itself d = record { sizes = refl; first = refl; faults = omega arith }
+
+pub stands-still : (a : ℕ) → min (a + 0) (2 ^ 64 - 1) ≤ a
+stands-still a = omega arith
+
+-- what the memory system is seen as is this
+pub by-view : (d d' : Device) (old new : Mem) (l : Ledger) (note : Note) (v : View) (w : World) (r : Rmap) → view new ≡ v
+    → Steps (setting_by d old) (closing_of old) (Noted note) (held_by d old w r l)
+    (record { view = v; device = d'; world = w; ledger = after_note note l; rmap = r })
+    → Steps (setting_by d old) (closing_of old) (Noted note) (held_by d old w r l) (held_by d' new w r (after_note note l))
+by-view d d' old new l note v w r is = subst (λ (v : View). Steps (setting_by d old) (closing_of old) (Noted note) (held_by d old w r l)
+    (record { view = v; device = d'; world = w; ledger = after_note note l; rmap = r })) (sym is)
+
+-- a slot that is cached has a frame
+pub frame-found : (s : Slot) (l : Ledger) → is_some (frame_at l s) ≡ is_cached l s
+frame-found s l = by l.cache
+  where
+    by : (cs : List Cached) → is_some (option_map (λ (c : Cached). c.frame) (cached_by (λ c. same_slot s c.slot) cs))
+        ≡ list_any (λ (c : Cached). same_slot s c.slot) cs
+    by [] = refl
+    by (c ∷ cs) = one (same_slot s c.slot) (by cs)
+      where
+        one : (b : Bool) → is_some (option_map (λ (c : Cached). c.frame) (cached_by (λ c. same_slot s c.slot) cs)) ≡ list_any (λ (c : Cached). same_slot s c.slot) cs
+            → is_some (option_map (λ (c : Cached). c.frame) (cond b (Some c) (cached_by (λ c. same_slot s c.slot) cs)))
+            ≡ (b || list_any (λ (c : Cached). same_slot s c.slot) cs)
+        one true h = refl
+        one false h = h
+
+some-is : {X : Type 0} (o : Option X) → is_some o ≡ true → (x : X) × (o ≡ Some x)
+some-is None h = absurd (false≢true h)
+some-is (Some x) h = (x, refl)
+
+pub frame-of : (s : Slot) (l : Ledger) → is_cached l s ≡ true → (f : ℕ) × (frame_at l s ≡ Some f)
+frame-of s l cached = some-is (frame_at l s) (frame-found s l ∙ cached)
+
+-- the swap cache has it
+pub cached-there-too : (d : Device) (closing : Option ℕ) (k : Mem) (w : World) (r : Rmap) (l : Ledger) (s : Slot) → Serves d closing k w r l
+    → is_cached l s ≡ true → is_some ((view k).find s) ≡ true
+cached-there-too d closing k w r l s h cached = ap is_some (h.held.ledger.swap.finds s) ∙ frame-found s l ∙ cached
+
+-- ---- kept, or aged
+
+-- for this cause
+pub kept-as : (old new : Mem) (f : ℕ) (cause this : Cause) → cause ≡ this → view new ≡ view_keep f this (view old) → view new ≡ view_keep f cause (view old)
+kept-as old new f cause this is at = at ∙ ap (λ c. view_keep f c (view old)) (sym is)
+
+-- for one of two that it is at the head of inactive
+pub kept-at : (old new : Mem) (f : ℕ) (cause : Cause) → (cause ≡ Writeback) ⊎ (cause ≡ WriteStarted) → view new ≡ view_to_head f (view old)
+    → view new ≡ view_keep f cause (view old)
+kept-at old new f cause (inl is) at = kept-as old new f cause Writeback is at
+kept-at old new f cause (inr is) at = kept-as old new f cause WriteStarted is at
+
+pub keep-makes : (names : List ℕ) (d : Device) (old new : Mem) (f : ℕ) (cause : Cause) → view new ≡ view_keep f cause (view old) → KeepsParts old new
+    → Makes (view_of names d old) (view_of names d new) (IsUsed f) (Kept f cause ∷ [])
+keep-makes names d old new f cause is parts = λ l sound stood may. one-does names d d old new l (Kept f cause)
+    (record { sound = sound; world = stood.0; rmap = stood.1; serves = stood.2 }) (record {
+      parts = parts;
+      same = itself d;
+      lawful = (tt, tt);
+      brings = λ w. tt;
+      still = tt;
+      loads = λ w. same-world (is_some (setting_by d old).headers) w;
+      faults = stands-still d.faults;
+    }) (λ w r h. by-view d d old new l (Kept f cause) (view_keep f cause (view old)) w r is
+    (keep-steps (setting_by d old) (closing_of old) (held_by d old w r l) h.held f cause))
+
+pub age-makes : (names : List ℕ) (d : Device) (old new : Mem) (f : ℕ) → view new ≡ view_to_head f (view_unseen f (view old)) → KeepsParts old new
+    → Makes (view_of names d old) (view_of names d new) (IsUsed f) (Aged f ∷ [])
+age-makes names d old new f is parts = λ l sound stood may. one-does names d d old new l (Aged f)
+    (record { sound = sound; world = stood.0; rmap = stood.1; serves = stood.2 }) (record {
+      parts = parts;
+      same = itself d;
+      lawful = (tt, tt);
+      brings = λ w. tt;
+      still = tt;
+      loads = λ w. same-world (is_some (setting_by d old).headers) w;
+      faults = stands-still d.faults;
+    }) (λ w r h. by-view d d old new l (Aged f) (view_to_head f (view_unseen f (view old))) w r is
+    (age-steps (setting_by d old) (closing_of old) (held_by d old w r l) h.held f))
+
+-- ---- a write begins
+
+pub start-makes : (names : List ℕ) (d : Device) (old new : Mem) (s : Slot) → IfSome ((view old).find s) (λ f. view new ≡ view_start f s (view old))
+    → KeepsParts old new → Makes (view_of names d old) (view_of names d new) (MayStart s) (Started s ∷ [])
+start-makes names d old new s is parts = λ l sound stood may. let at = frame-of s l may.cached in
+    one-does names d d old new l (Started s) (record { sound = sound; world = stood.0; rmap = stood.1; serves = stood.2 }) (record {
+      parts = parts;
+      same = itself d;
+      lawful = (tt, tt);
+      brings = λ w. tt;
+      still = tt;
+      loads = λ w. same-world (is_some (setting_by d old).headers) w;
+      faults = stands-still d.faults;
+    }) (λ w r h. by-view d d old new l (Started s) (view_start at.0 s (view old)) w r
+    (subst (λ o. IfSome o (λ f. view new ≡ view_start f s (view old))) (h.held.ledger.swap.finds s ∙ at.1) is)
+    (start-steps (setting_by d old) (closing_of old) (held_by d old w r l) h.held at.0 s (once-of (setting_by d old) any_slot l sound) at.1))
+
+-- ---- a slot is dropped
+
+-- what the loops know of a drop is what its law asks
+may-leave : (l : Ledger) (s : Slot) → MayDrop s l → MayLeave l s
+may-leave l s may = by (slot_entries l s == 0) refl
+  where
+    by : (b : Bool) → (slot_entries l s == 0) ≡ b → MayLeave l s
+    by true e = let none : slot_entries l s ≡ 0 = grind (arith, nat_tests, e) in inl none
+    by false e = inr ((may.kept e).1, may.landed)
+
+pub drop-makes : (names : List ℕ) (d : Device) (old new : Mem) (s : Slot) → IfSome ((view old).find s) (λ f. view new ≡ view_drop f s (view old))
+    → KeepsParts old new → Makes (view_of names d old) (view_of names d new) (MayDrop s) (Dropped s ∷ [])
+drop-makes names d old new s is parts = λ l sound stood may. let at = frame-of s l may.cached in
+    one-does names d d old new l (Dropped s) (record { sound = sound; world = stood.0; rmap = stood.1; serves = stood.2 }) (record {
+      parts = parts;
+      same = itself d;
+      lawful = (tt, tt);
+      brings = λ w. tt;
+      still = tt;
+      loads = λ w. same-world (is_some (setting_by d old).headers) w;
+      faults = stands-still d.faults;
+    }) (λ w r h. by-view d d old new l (Dropped s) (view_drop at.0 s (view old)) w r
+    (subst (λ o. IfSome o (λ f. view new ≡ view_drop f s (view old))) (h.held.ledger.swap.finds s ∙ at.1) is)
+    (drop-steps (setting_by d old) (closing_of old) (held_by d old w r l) h.held at.0 s (once-of (setting_by d old) any_slot l sound) at.1
+    (cached-in_range (setting_by d old) any_slot l sound at.0 s at.1) (cached-there (setting_by d old) any_slot l sound at.0 s h.there at.1)
+    (may-leave l s may)))
+
+-- its frame is not free
+pub in-use : (d : Device) (closing : Option ℕ) (k : Mem) (w : World) (r : Rmap) (l : Ledger) (s : Slot) → IsSoundBut (setting_by d k) any_slot l
+    → Serves d closing k w r l → IfSome ((view k).find s) (λ f. is_in f (view k).free ≡ false)
+in-use d closing k w r l s sound h = by ((view k).find s) (sym (h.held.ledger.swap.finds s))
+  where
+    by : (o : Option ℕ) → frame_at l s ≡ o → IfSome o (λ f. is_in f (view k).free ≡ false)
+    by None at = tt
+    by (Some f) at = h.held.ledger.frames.free f (cached-in_range (setting_by d k) any_slot l sound f s at)
+        ∙ ap (λ o. (map_count l f == 0) && is_none o) (frame-slot l (once-of (setting_by d k) any_slot l sound) f s at) ∙ none (map_count l f == 0)
+      where
+        none : (b : Bool) → (b && false) ≡ false
+        none true = refl
+        none false = refl
+
+-- ---- a frame is unmapped
+
+pub unmap-makes : (names : List ℕ) (d : Device) (old new : Mem) (f : ℕ) (s : Slot) → (view old).slot f ≡ Some s → view new ≡ view_unmap f s (view old)
+    → KeepsParts old new → Makes (view_of names d old) (view_of names d new) (MayUnmap f) (Unmapped f ∷ [])
+unmap-makes names d old new f s at is parts = λ l sound stood may.
+    one-does names d d old new l (Unmapped f) (record { sound = sound; world = stood.0; rmap = stood.1; serves = stood.2 }) (record {
+      parts = parts;
+      same = itself d;
+      lawful = (tt, tt);
+      brings = λ w. tt;
+      still = tt;
+      loads = λ w. same-world (is_some (setting_by d old).headers) w;
+      faults = stands-still d.faults;
+    }) (λ w r h. by-view d d old new l (Unmapped f) (view_unmap f s (view old)) w r is
+    (unmap-steps (setting_by d old) (closing_of old) (held_by d old w r l) h.held f s (once-of (setting_by d old) any_slot l sound)
+    (sym (h.held.ledger.frames.slots f) ∙ at)))
+
+-- the frame that the swap cache has at a slot
+pub slot-cached : (d : Device) (closing : Option ℕ) (k : Mem) (w : World) (r : Rmap) (l : Ledger) (f : ℕ) (s : Slot) → IsSoundBut (setting_by d k) any_slot l
+    → Serves d closing k w r l → (view k).slot f ≡ Some s → is_some ((view k).find s) ≡ true
+slot-cached d closing k w r l f s sound h at = ap is_some (h.held.ledger.swap.finds s
+    ∙ slot-frame l (once-of (setting_by d k) any_slot l sound) f s (sym (h.held.ledger.frames.slots f) ∙ at))
+
+-- counts have room for all entries of the frame
+pub names-few : (d : Device) (closing : Option ℕ) (k : Mem) (w : World) (r : Rmap) (l : Ledger) (f : ℕ) (s : Slot) → IsSoundBut (setting_by d k) any_slot l
+    → Serves d closing k w r l → (view k).slot f ≡ Some s → (view k).entries s + (view k).maps f < 2 ^ 32
+names-few d closing k w r l f s sound h at =
+    let few = together-few (setting_by d k) any_slot w l f s sound h.at_pages (sym (h.held.ledger.frames.slots f) ∙ at) in
+    let most = h.tidy.few in
+    let entries = h.held.ledger.swap.counts s in
+    let maps = h.held.ledger.frames.maps f in
+    omega (arith, few, most, entries, maps)
+
+-- a frame that the ledger has in no slot is cached nowhere
+pub put-uncached : (d : Device) (closing : Option ℕ) (k : Mem) (w : World) (r : Rmap) (l : Ledger) (f : ℕ) → IsSoundBut (setting_by d k) any_slot l
+    → Serves d closing k w r l → slot_of l f ≡ None → IsUncached (shown k.swap) f
+put-uncached d closing k w r l f sound h none s found =
+    let at = frame-slot l (once-of (setting_by d k) any_slot l sound) f s (sym (h.held.ledger.swap.finds s) ∙ found) in
+    clash s (sym none ∙ at)
+  where
+    clash : (s : Slot) → None ≡ Some s → ⊥
+    clash s e = cc
+
+-- two steps
+pub parts-then : (a b c : Mem) → KeepsParts a b → KeepsParts b c → KeepsParts a c
+parts-then a b c x y = record {
+  spaces = y.spaces ∙ x.spaces;
+  anons = y.anons ∙ x.anons;
+  processes = y.processes ∙ x.processes;
+  count = y.count ∙ x.count;
+  lists = y.lists ∙ x.lists;
+  swap = record {
+    frames = y.swap.frames ∙ x.swap.frames;
+    on = y.swap.on ∙ x.swap.on;
+    bad = y.swap.bad ∙ x.swap.bad;
+    closing = y.swap.closing ∙ x.swap.closing;
+    priority = y.swap.priority ∙ x.swap.priority;
+  };
+}

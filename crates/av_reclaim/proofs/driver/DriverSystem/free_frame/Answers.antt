@@ -1,0 +1,13 @@
+use Rattle.std.proofs.Common.{◌∙◌}
+use Rattle.av_plain.specs.Device.{as_told, device_by}
+use Rattle.av_mem.specs.Mem.{setting_by}
+use Rattle.av_reclaim.proofs.ReadLaws.{at-front, free-first}
+use Rattle.av_reclaim.proofs.driver.DriverSystem.free_frame.Goals as goal
+
+pub returns-clause-first : goal.returns-clause-first
+returns-clause-first g c = λ told. c.first.ensures ∙ at-front c.args.self.now.mem.now.frames.free
+
+pub returns-clause-free : goal.returns-clause-free
+returns-clause-free g c = let dev = c.args.self.now.dev.now in λ told l sound stood.
+    free-first (setting_by (as_told told (device_by (g.D.SwapDev.sizes dev) (g.D.SwapDev.pages dev) (g.D.SwapDev.faults dev))) c.args.self.now.mem.now) l
+    c.args.self.now.mem.now.frames.free _ c.first.ensures stood.2.free.frames

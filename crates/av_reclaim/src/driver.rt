@@ -1,0 +1,152 @@
+//! The memory system with its device, in single steps.
+
+ghost use Rattle.std.specs.Prelude.{◌≡◌, ◌∷◌, []};
+ghost use Rattle.av_plain.specs.Device.{as_told, device_by};
+ghost use Rattle.av_reclaim.specs.Driver.{end_of, view_of};
+
+use av_base::Slot;
+use av_evict::{System, WriteEnd};
+use av_lru::Which;
+use av_mem::Mem;
+use av_swapcache::Finished;
+use av_swapdev::SwapDev;
+use av_trace::Cause;
+use std::alloc::AllocError;
+
+/// The memory system with its device, both lent.
+#[derive(Drop)]
+pub struct Driver<'a, D: SwapDev> {
+    pub mem: &'a mut Mem,
+    pub dev: &'a mut D,
+}
+
+impl<'a, D: SwapDev> System for Driver<'a, D> {
+    ghost view = { λ s told. view_of (s.mem.ghost_name ∷ s.dev.ghost_name ∷ []) (as_told told
+        (device_by (D.sizes s.dev.now) (D.pages s.dev.now) (D.faults s.dev.now))) s.mem.now };
+
+    fn frames(&self) -> u32 {
+        self.mem.frames.count()
+    }
+
+    fn free_frame(&self) -> Option<u32> {
+        self.mem.frames.first()
+    }
+
+    fn slot(&self, frame: u32) -> Option<Slot> {
+        self.mem.frames.slot(frame)
+    }
+
+    fn is_mapped(&self, frame: u32) -> bool {
+        self.mem.frames.maps(frame) > 0
+    }
+
+    fn is_dirty(&self, frame: u32) -> bool {
+        self.mem.frames.dirty(frame)
+    }
+
+    fn is_referenced(&self, frame: u32) -> bool {
+        self.mem.is_seen(frame)
+    }
+
+    fn is_in_flight(&self, slot: Slot) -> bool {
+        self.mem.swap.in_flight(slot)
+    }
+
+    fn is_orphan(&self, slot: Slot) -> bool {
+        match self.mem.swap.find(slot) {
+            // A frame that caches a slot is one of the machine's wherever a ledger stands. Nothing
+            // that stands is asked for here, so that is looked up.
+            Some(frame) => {
+                frame < self.mem.frames.count()
+                    && self.mem.frames.maps(frame) == 0
+                    && !self.mem.swap.in_flight(slot)
+                    && self.mem.swap.entries(slot) == 0
+            }
+            None => false,
+        }
+    }
+
+    fn inactive_len(&self) -> u32 {
+        self.mem.lists.len(Which::Inactive)
+    }
+
+    fn last_inactive(&self) -> Option<u32> {
+        self.mem.lists.tail(Which::Inactive)
+    }
+
+    fn active_len(&self) -> u32 {
+        self.mem.lists.len(Which::Active)
+    }
+
+    fn last_active(&self) -> Option<u32> {
+        self.mem.lists.tail(Which::Active)
+    }
+
+    fn is_inactive(&self, frame: u32) -> bool {
+        match self.mem.lists.place(frame) {
+            Some(Which::Inactive) => true,
+            Some(Which::Active) | None => false,
+        }
+    }
+
+    fn before(&self, frame: u32) -> Option<u32> {
+        self.mem.lists.before(frame)
+    }
+
+    fn flight_len(&self) -> u32 {
+        self.mem.swap.flight()
+    }
+
+    fn put(&mut self, frame: u32) -> Option<Slot> {
+        self.mem.put(frame)
+    }
+
+    fn unmap(&mut self, frame: u32) -> Result<(), AllocError> {
+        let Some(slot) = self.mem.frames.slot(frame) else {
+            unreachable!();
+        };
+        self.mem.unmap(frame, slot)
+    }
+
+    fn start(&mut self, slot: Slot) {
+        self.mem.start(slot);
+    }
+
+    fn finish(&mut self) -> Option<WriteEnd> {
+        let finished = self.mem.finish(&mut *self.dev)?;
+        Some(end_of(finished))
+    }
+
+    fn drop_slot(&mut self, slot: Slot) {
+        self.mem.drop_slot(slot);
+    }
+
+    fn keep(&mut self, frame: u32, cause: Cause) {
+        match cause {
+            Cause::Writeback | Cause::WriteStarted => self.mem.to_head(frame),
+            Cause::NoSlot => self.mem.to_active(frame),
+            Cause::Referenced => {
+                self.mem.unsee(frame);
+                self.mem.to_active(frame);
+            }
+        }
+    }
+
+    fn age(&mut self, frame: u32) {
+        self.mem.unsee(frame);
+        self.mem.to_head(frame);
+    }
+}
+
+/// How the write of a slot ended.
+fn end_of(finished: Finished) -> WriteEnd
+    ensures { result ≡ end_of finished }
+{
+    match finished {
+        Finished::Done { slot, .. } => WriteEnd {
+            slot,
+            failed: false,
+        },
+        Finished::Failed { slot, .. } => WriteEnd { slot, failed: true },
+    }
+}
