@@ -162,7 +162,6 @@ fit-stays d d' old new same parts h = record {
         (sym same.sizes) (h.swap.on_device a));
     by_headers = subst (λ o. AreByHeaders o (shown_swap new.swap)) (sym (headers-same d d' same))
         (by-headers-stay (headers_of d) (shown_swap old.swap) (shown_swap new.swap) parts.swap.on parts.swap.bad h.swap.by_headers);
-    none_on = parts.swap.on ∙ h.swap.none_on;
   };
 }
 
@@ -264,7 +263,6 @@ module _ (d : Device) (k : Mem) (w : World) (r : Rmap) (l : Ledger) (n : ℕ) (h
         closed = h.serves.swap.closed;
         on_device = h.serves.swap.on_device;
         by_headers = tt;
-        none_on = h.serves.swap.none_on;
       };
     };
   }

@@ -282,7 +282,6 @@ module _ (d : Device) (old : Mem) (w : World) (r : Rmap) (l : Ledger) (h : Keeps
         closed = h.serves.swap.closed;
         on_device = h.serves.swap.on_device;
         by_headers = h.serves.swap.by_headers;
-        none_on = h.serves.swap.none_on;
       };
     };
   }

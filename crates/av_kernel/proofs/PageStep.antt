@@ -215,7 +215,6 @@ module _ {d d' : Device} (s : State) (p page at : ℕ) (piece : List ℕ) (befor
             closed = serves.swap.closed;
             on_device = serves.swap.on_device;
             by_headers = serves.swap.by_headers;
-            none_on = serves.swap.none_on;
           };
         });
         same = same;

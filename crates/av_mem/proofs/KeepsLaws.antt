@@ -118,7 +118,6 @@ fits-kept d closing old new swap count h = record {
   closed = swap.closing ∙ h.closed;
   on_device = λ k. subst (λ (on : List (ℕ × Header)). IfSome (find nat_cmp k on) (λ a. IsSomeAnd (d.sizes k) (λ n. a.pages ≤ n))) (sym swap.on) (h.on_device k);
   by_headers = told (headers_of d) h.by_headers;
-  none_on = swap.on ∙ h.none_on;
 }
   where
     agrees : (k : ℕ) (header : Header) (layout : Layout) → AgreesWith (shown_swap old.swap) k header layout → AgreesWith (shown_swap new.swap) k header layout

@@ -112,8 +112,7 @@ AreByHeaders headers swap = IfSome headers (λ told. (k : ℕ) → IfSome (heade
     (λ header. IsSomeAnd (told k) (AgreesWith swap k header)))
 
 -- there is room in the swap cache for as many frames as there are; the swap areas that are on have
--- one priority, and their pages are on the device, by its headers; this one is closing, if any is;
--- and none is on, since no command turns one on yet
+-- one priority, and their pages are on the device, by its headers; this one is closing, if any is
 pub record SwapFits (d : Device) (closing : Option ℕ) (k : Mem) : Type 0 where
   pub frames : HasRoom k
   pub one_priority : (a : ℕ) → (shown_swap k.swap).priority a ≡ pos 0
