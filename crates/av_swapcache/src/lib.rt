@@ -1,7 +1,6 @@
 //! The swap areas that are on, and the swap cache (Linux's `mm/swapfile.c` and `mm/swap_state.c`):
 //! which frame caches a slot, which slots are in flight, how many entries name each slot, and which
-//! slot is given next. The frames themselves are `av_frames`'. A layer for swap: no command calls
-//! it yet.
+//! slot is given next. The frames themselves are `av_frames`'.
 //!
 //! There may be eight areas, each with a priority. One area with one priority is all that will be
 //! used at first.

@@ -1,17 +1,18 @@
 -- Each command: what is read is in range and on its line, and what is in range is read from its line.
 use Rattle.std.proofs.Common.{◌≡◌, ℕ, true, List, [], ◌∷◌, ◌++◌, append-nil, Option, Some, refl, sym, ap, subst, ◌∙◌, lit<}
-use Rattle.std.specs.Prelude.{codes, Result, Ok, Err, OnErr}
+use Rattle.std.specs.Prelude.{◌-◌, ◌^◌, codes, Result, Ok, Err, OnErr}
 use Rattle.std.specs.List.{flat_map, AllByRecursion}
 use Rattle.std.specs.Fmt.{decimal}
 use Rattle.std.proofs.lemmas.Bool.{false≢true}
 use Rattle.std.proofs.lemmas.Option.{same_Some}
+use Rattle.av_base.specs.Limits.{most_frames}
 use Rattle.av_base.specs.Page.{page_size}
 use Rattle.av_base.specs.declared.prot.Prot.{Prot}
 use Rattle.av_trace.specs.declared.command.Command.{Command}
 use Rattle.av_trace.specs.declared.command.Command.TheVariants as commands
 use Rattle.av_trace.specs.declared.place.Place.{Place}
 use Rattle.av_trace.specs.declared.mode.Mode.{Mode}
-use Rattle.av_trace.specs.Command.{is_in_grammar, IsCommand, IsInRange, line_of, at_end, whole, no_words, fork_words, range_words, mmap_words, mprotect_words, mremap_words, read_words, write_words, CommandReader, fork_at, mmap_at, munmap_at, mprotect_at, mremap_at, read_at, write_at, rmap_at, entry_of, readers, command_of}
+use Rattle.av_trace.specs.Command.{is_in_grammar, IsAreaNumber, IsCommand, IsFrameCount, IsInRange, line_of, at_end, whole, no_words, fork_words, range_words, mmap_words, mprotect_words, mremap_words, read_words, write_words, CommandReader, fork_at, mmap_at, munmap_at, mprotect_at, mremap_at, read_at, write_at, area_at, frames_at, rmap_at, entry_of, slot_at, slot_words, readers, command_of}
 use Rattle.av_text.specs.Hex.{hex, hex_text, IsData}
 use Rattle.av_text.specs.Number.{IsNumberIn, IsProcess, IsWide, process_at}
 use Rattle.av_trace.specs.Place.{IsPlace, place_words}
@@ -60,6 +61,15 @@ reads = reads_both entries (reads_decimal 1 page_size (lit< tt))
 writes : Reads write_words (λ (x : (ℕ × ℕ) × List ℕ). (IsProcess x.0.0 × IsWide x.0.1) × IsData x.1)
     (λ (x : (ℕ × ℕ) × List ℕ). decimal x.0.0 ∷ hex x.0.1 ∷ hex_text x.1 ∷ []) IsEnd
 writes = reads_both entries stored
+
+counts : Reads frames_at IsFrameCount (λ (n : ℕ). decimal n ∷ []) IsRest
+counts = reads_decimal 1 most_frames (lit< tt)
+
+swap_areas : Reads area_at IsAreaNumber (λ (k : ℕ). decimal k ∷ []) IsRest
+swap_areas = reads_decimal 0 7 (lit< tt)
+
+slots : Reads slot_words (λ (x : ℕ × ℕ). IsAreaNumber x.0 × IsNumberIn 0 (2 ^ 32 - 1) x.1) (λ (x : ℕ × ℕ). decimal x.0 ∷ decimal x.1 ∷ []) IsRest
+slots = reads_both swap_areas (reads_decimal 0 (2 ^ 32 - 1) (lit< tt))
 
 -- ---- what is read
 
@@ -112,6 +122,18 @@ forks-found = whole-found forks (codes "fork") _ (λ _. refl) (λ _ h. h) (λ _.
 exits-found : IsReader (codes "exit", whole process_at commands.Exit)
 exits-found = whole-found processes (codes "exit") commands.Exit (λ _. refl) (λ _ h. h) (λ _. refl)
 
+reclaims-found : IsReader (codes "reclaim", whole frames_at commands.Reclaim)
+reclaims-found = whole-found counts (codes "reclaim") commands.Reclaim (λ _. refl) (λ _ h. h) (λ _. refl)
+
+ages-found : IsReader (codes "age", whole frames_at commands.Age)
+ages-found = whole-found counts (codes "age") commands.Age (λ _. refl) (λ _ h. h) (λ _. refl)
+
+completes-found : IsReader (codes "complete", whole frames_at commands.Complete)
+completes-found = whole-found counts (codes "complete") commands.Complete (λ _. refl) (λ _ h. h) (λ _. refl)
+
+swapons-found : IsReader (codes "swapon", whole area_at commands.Swapon)
+swapons-found = whole-found swap_areas (codes "swapon") commands.Swapon (λ _. refl) (λ _ h. h) (λ _. refl)
+
 maps-found : IsReader (codes "maps", whole process_at commands.Maps)
 maps-found = whole-found processes (codes "maps") commands.Maps (λ _. refl) (λ _ h. h) (λ _. refl)
 
@@ -124,35 +146,14 @@ rmaps-found = whole-found entries (codes "rmap") _ (λ _. refl) (λ _ h. h) (λ 
 entries-found : IsReader (codes "entry", entry_of)
 entries-found = whole-found entries (codes "entry") _ (λ _. refl) (λ _ h. h) (λ _. refl)
 
+slots-found : IsReader (codes "slot", slot_at)
+slots-found = whole-found slots (codes "slot") _ (λ _. refl) (λ _ h. h) (λ _. refl)
+
 stats-found : IsReader (codes "stat", whole no_words (λ x. commands.Stat))
 stats-found = whole-found nothing (codes "stat") _ (λ _. refl) (λ _ _. tt) (λ _. refl)
 
 each_reads : AllByRecursion IsReader readers
-each_reads = (
-  writes-found,
-  (
-    reads-found,
-    (
-      spawns-found,
-      (
-        forks-found,
-        (
-          exits-found,
-          (
-            mmaps-found,
-            (
-              ranges-found,
-              (
-                mprotects-found,
-                (mremaps-found, (maps-found, (areas-found, (rmaps-found, (entries-found, (stats-found, tt)))))),
-              ),
-            ),
-          ),
-        ),
-      ),
-    ),
-  ),
-)
+each_reads = (writes-found, (reads-found, (spawns-found, (forks-found, (exits-found, (mmaps-found, (ranges-found, (mprotects-found, (mremaps-found, (reclaims-found, (ages-found, (completes-found, (swapons-found, (maps-found, (areas-found, (rmaps-found, (entries-found, (slots-found, (stats-found, tt)))))))))))))))))))
 
 pub command_of-found : (bytes : List ℕ) (c : Command) → command_of bytes ≡ Some c → IsCommand c × (bytes ≡ line_of c)
 unfolding command_of
@@ -184,16 +185,16 @@ command_of-in-range (commands.Mremap p address old_len new_len mode) has h =
     whole-again mremaps refl _ ((((p, address), old_len), new_len), mode) ((((h.0, h.1), h.2), h.3), h.4)
 command_of-in-range (commands.Read p address len) has h = whole-again reads tt _ ((p, address), len) ((h.0, h.1), h.2)
 command_of-in-range (commands.Write p address bytes) has h = whole-again writes refl _ ((p, address), bytes) ((h.0, h.1), h.2)
-command_of-in-range (commands.Reclaim n) has h = absurd (false≢true has)
-command_of-in-range (commands.Age n) has h = absurd (false≢true has)
-command_of-in-range (commands.Complete n) has h = absurd (false≢true has)
-command_of-in-range (commands.Swapon k) has h = absurd (false≢true has)
+command_of-in-range (commands.Reclaim n) has h = whole-again counts tt commands.Reclaim n h
+command_of-in-range (commands.Age n) has h = whole-again counts tt commands.Age n h
+command_of-in-range (commands.Complete n) has h = whole-again counts tt commands.Complete n h
+command_of-in-range (commands.Swapon k) has h = whole-again swap_areas tt commands.Swapon k h
 command_of-in-range (commands.Swapoff k) has h = absurd (false≢true has)
 command_of-in-range (commands.Maps p) has h = whole-again processes tt commands.Maps p h
 command_of-in-range (commands.Areas p) has h = whole-again processes tt commands.Areas p h
 command_of-in-range (commands.Rmap p address) has h = whole-again entries tt _ (p, address) h
 command_of-in-range (commands.Entry p address) has h = whole-again entries tt _ (p, address) h
-command_of-in-range (commands.Slot k page) has h = absurd (false≢true has)
+command_of-in-range (commands.Slot k page) has h = whole-again slots tt _ (k, page) h
 command_of-in-range commands.Stat has h = whole-again nothing tt (λ x. commands.Stat) tt tt
 
 pub command_of-again : (c : Command) → IsCommand c → command_of (line_of c) ≡ Some c

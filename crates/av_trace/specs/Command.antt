@@ -48,14 +48,9 @@ IsInRange (commands.Entry p address) = IsProcess p × IsWide address
 IsInRange (commands.Slot k page) = IsAreaNumber k × IsNumberIn 0 (2 ^ 32 - 1) page
 IsInRange commands.Stat = Unit {0}
 
--- whether the grammar has the command. The others have a text and a meaning, and no line yet
+-- whether the grammar has the command. One that it hasn't has a text and a meaning, and no line yet
 abbrev pub is_in_grammar : Command → Bool
-is_in_grammar (commands.Reclaim n) = false
-is_in_grammar (commands.Age n) = false
-is_in_grammar (commands.Complete n) = false
-is_in_grammar (commands.Swapon k) = false
 is_in_grammar (commands.Swapoff k) = false
-is_in_grammar (commands.Slot k page) = false
 is_in_grammar c = true
 
 -- a command of the grammar, with values in range
@@ -135,6 +130,18 @@ read_words bytes = both entry_at (decimal_at 1 page_size) bytes
 abbrev pub write_words : Reader ((ℕ × ℕ) × List ℕ)
 write_words bytes = both entry_at data_at bytes
 
+-- the word of `reclaim`, `age` and `complete`: how many frames or slots
+abbrev pub frames_at : Reader ℕ
+frames_at bytes = decimal_at 1 most_frames bytes
+
+-- the word of `swapon`, and the first of `slot`: a swap area
+abbrev pub area_at : Reader ℕ
+area_at bytes = decimal_at 0 7 bytes
+
+-- the words of `slot`
+abbrev pub slot_words : Reader (ℕ × ℕ)
+slot_words bytes = both area_at (decimal_at 0 (2 ^ 32 - 1)) bytes
+
 -- what reads a command's words after its name
 abbrev pub CommandReader : Type 0
 CommandReader = List ℕ → Option Command
@@ -166,6 +173,9 @@ rmap_at = whole entry_at (λ x. commands.Rmap x.0 x.1)
 abbrev pub entry_of : CommandReader
 entry_of = whole entry_at (λ x. commands.Entry x.0 x.1)
 
+abbrev pub slot_at : CommandReader
+slot_at = whole slot_words (λ x. commands.Slot x.0 x.1)
+
 -- what reads the commands that access pages, by name
 abbrev pub access_readers : List (List ℕ × CommandReader)
 access_readers = (codes "write", write_at) ∷ (codes "read", read_at) ∷ []
@@ -187,6 +197,15 @@ range_readers =
     ∷ (codes "mremap", mremap_at)
     ∷ []
 
+-- those that move pages to swap areas, and turn these on
+abbrev pub swap_readers : List (List ℕ × CommandReader)
+swap_readers =
+    (codes "reclaim", whole frames_at commands.Reclaim)
+    ∷ (codes "age", whole frames_at commands.Age)
+    ∷ (codes "complete", whole frames_at commands.Complete)
+    ∷ (codes "swapon", whole area_at commands.Swapon)
+    ∷ []
+
 -- the reports
 abbrev pub report_readers : List (List ℕ × CommandReader)
 report_readers =
@@ -194,12 +213,13 @@ report_readers =
     ∷ (codes "areas", whole process_at commands.Areas)
     ∷ (codes "rmap", rmap_at)
     ∷ (codes "entry", entry_of)
+    ∷ (codes "slot", slot_at)
     ∷ (codes "stat", whole no_words (λ x. commands.Stat))
     ∷ []
 
 -- all commands of the grammar
 abbrev pub readers : List (List ℕ × CommandReader)
-readers = access_readers ++ process_readers ++ range_readers ++ report_readers
+readers = access_readers ++ process_readers ++ range_readers ++ swap_readers ++ report_readers
 
 -- the command of a line that has one of these names
 abbrev pub command_in : List (List ℕ × CommandReader) → CommandReader

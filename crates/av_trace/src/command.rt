@@ -1,13 +1,13 @@
 //! What a line asks for.
 
 ghost use Rattle.std.specs.Prelude.{◌≡◌, ◌++◌, codes, option_map, IfOk, OnErr};
-ghost use Rattle.av_trace.specs.Command.{at_end, whole, no_words, fork_at, mmap_at, munmap_at, mprotect_at, mremap_at, read_at, write_at, rmap_at, entry_of, is_in_grammar, command_in, command_of, process_readers, range_readers, report_readers, range_words};
+ghost use Rattle.av_trace.specs.Command.{at_end, whole, no_words, fork_at, mmap_at, munmap_at, mprotect_at, mremap_at, read_at, write_at, area_at, frames_at, rmap_at, entry_of, slot_at, is_in_grammar, command_in, command_of, process_readers, range_readers, swap_readers, report_readers, range_words};
 ghost use Rattle.av_text.specs.Number.{process_at};
 ghost use Rattle.av_text.specs.Word.{BeginsWith};
 
 use crate::mode::{Mode, mode_field};
 use crate::place::{Place, place_field};
-use av_base::{PAGE_SIZE, Prot};
+use av_base::{MOST_FRAMES, PAGE_SIZE, Prot};
 use av_text::Bytes;
 use av_text::hex::data_field;
 use av_text::number::{address, decimal, entry, len, process};
@@ -102,20 +102,12 @@ pub enum Command {
 }
 
 impl Command {
-    /// Whether the grammar has the command. Lines of `reclaim`, `age`, `complete`, `swapon`,
-    /// `swapoff` and `slot` are no commands yet, and no kernel answers these.
+    /// Whether the grammar has the command. A line of `swapoff` is no command yet, and no kernel
+    /// answers it.
     pub fn is_in_grammar(&self) -> bool
         ensures { result ≡ is_in_grammar self.now }
     {
-        !matches!(
-            self,
-            Command::Reclaim { .. }
-                | Command::Age { .. }
-                | Command::Complete { .. }
-                | Command::Swapon { .. }
-                | Command::Swapoff { .. }
-                | Command::Slot { .. }
-        )
+        !matches!(self, Command::Swapoff { .. })
     }
 }
 
@@ -259,6 +251,54 @@ fn write(alloc: Global, bytes: &[u8], spare: &mut Bytes) -> Result<Option<Comman
     Ok(end(command, b""))
 }
 
+/// How many frames or slots, and the rest.
+fn frames(bytes: &[u8]) -> Option<(u16, &[u8])>
+    ensures { option_map (λ x. (x.0, x.1.now)) result ≡ frames_at bytes.now }
+{
+    let (frames, rest) = decimal(bytes, 1, MOST_FRAMES)?;
+    Some((frames as u16, rest))
+}
+
+#[tactic(auto, unfolding(crate::specs::Command::whole))]
+fn reclaim(bytes: &[u8]) -> Option<Command>
+    ensures { result ≡ whole frames_at Command.Reclaim bytes.now }
+{
+    let (frames, rest) = frames(bytes)?;
+    end(Command::Reclaim { frames }, rest)
+}
+
+#[tactic(auto, unfolding(crate::specs::Command::whole))]
+fn age(bytes: &[u8]) -> Option<Command>
+    ensures { result ≡ whole frames_at Command.Age bytes.now }
+{
+    let (frames, rest) = frames(bytes)?;
+    end(Command::Age { frames }, rest)
+}
+
+#[tactic(auto, unfolding(crate::specs::Command::whole))]
+fn complete(bytes: &[u8]) -> Option<Command>
+    ensures { result ≡ whole frames_at Command.Complete bytes.now }
+{
+    let (slots, rest) = frames(bytes)?;
+    end(Command::Complete { slots }, rest)
+}
+
+/// A swap area, and the rest.
+fn area(bytes: &[u8]) -> Option<(u8, &[u8])>
+    ensures { option_map (λ x. (x.0, x.1.now)) result ≡ area_at bytes.now }
+{
+    let (area, rest) = decimal(bytes, 0, 7)?;
+    Some((area as u8, rest))
+}
+
+#[tactic(auto, unfolding(crate::specs::Command::whole))]
+fn swapon(bytes: &[u8]) -> Option<Command>
+    ensures { result ≡ whole area_at Command.Swapon bytes.now }
+{
+    let (area, rest) = area(bytes)?;
+    end(Command::Swapon { area }, rest)
+}
+
 #[tactic(auto, unfolding(crate::specs::Command::whole))]
 fn maps(bytes: &[u8]) -> Option<Command>
     ensures { result ≡ whole process_at Command.Maps bytes.now }
@@ -291,6 +331,19 @@ fn one_entry(bytes: &[u8]) -> Option<Command>
     end(Command::Entry { process, address }, rest)
 }
 
+#[tactic(auto, unfolding(crate::specs::Command::whole, av_text::specs::Word::both))]
+fn slot(bytes: &[u8]) -> Option<Command>
+    ensures { result ≡ slot_at bytes.now }
+{
+    let (area, rest) = area(bytes)?;
+    let (page, rest) = decimal(rest, 0, u64::from(u32::MAX))?;
+    let command = Command::Slot {
+        area,
+        page: page as u32,
+    };
+    end(command, rest)
+}
+
 #[tactic(auto, unfolding(crate::specs::Command::whole))]
 fn stat(bytes: &[u8]) -> Option<Command>
     ensures { result ≡ whole no_words (λ x. Command.Stat) bytes.now }
@@ -311,6 +364,8 @@ fn report(line: &[u8]) -> Option<Command>
         rmap(rest)
     } else if let Some(rest) = after(line, b"entry") {
         one_entry(rest)
+    } else if let Some(rest) = after(line, b"slot") {
+        slot(rest)
     } else if let Some(rest) = after(line, b"stat") {
         stat(rest)
     } else {
@@ -318,10 +373,28 @@ fn report(line: &[u8]) -> Option<Command>
     }
 }
 
-/// The change of a range, or the report, that a line asks for.
+/// The change of swap, or the report, that a line asks for.
+#[inline]
+fn swap_change_or_report(line: &[u8]) -> Option<Command>
+    ensures { result ≡ command_in (swap_readers ++ report_readers) line.now }
+{
+    if let Some(rest) = after(line, b"reclaim") {
+        reclaim(rest)
+    } else if let Some(rest) = after(line, b"age") {
+        age(rest)
+    } else if let Some(rest) = after(line, b"complete") {
+        complete(rest)
+    } else if let Some(rest) = after(line, b"swapon") {
+        swapon(rest)
+    } else {
+        report(line)
+    }
+}
+
+/// The change of a range or of swap, or the report, that a line asks for.
 #[inline]
 fn range_change_or_report(line: &[u8]) -> Option<Command>
-    ensures { result ≡ command_in (range_readers ++ report_readers) line.now }
+    ensures { result ≡ command_in (range_readers ++ swap_readers ++ report_readers) line.now }
 {
     if let Some(rest) = after(line, b"mmap") {
         mmap(rest)
@@ -332,15 +405,15 @@ fn range_change_or_report(line: &[u8]) -> Option<Command>
     } else if let Some(rest) = after(line, b"mremap") {
         mremap(rest)
     } else {
-        report(line)
+        swap_change_or_report(line)
     }
 }
 
-/// The command on a process or a range, or the report, that a line asks for.
+/// The command on a process, a range or swap, or the report, that a line asks for.
 #[inline]
 fn change_or_report(line: &[u8]) -> Option<Command>
-    ensures { result ≡ command_in (process_readers ++ range_readers ++ report_readers)
-        line.now }
+    ensures { result ≡ command_in
+        (process_readers ++ range_readers ++ swap_readers ++ report_readers) line.now }
 {
     if let Some(rest) = after(line, b"spawn") {
         spawn(rest)

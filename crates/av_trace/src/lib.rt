@@ -7,8 +7,8 @@
 //!
 //! Only tested: nothing. Which reply a command has is no matter of this crate.
 //!
-//! Notes, answers and rows of commands that don't exist yet are declared, printed and proved
-//! already; where that is so, they say it.
+//! The command `swapoff`, which no kernel answers yet, is declared, with the answer that it alone
+//! gives; it has no line.
 #![tactic(auto)]
 
 mod command;

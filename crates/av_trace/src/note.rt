@@ -14,7 +14,7 @@ use av_text::word::add_word;
 use std::alloc::{AllocError, Global};
 use std::marker::Model;
 
-/// Why `reclaim` kept a frame. (No command gives it yet.)
+/// Why `reclaim` kept a frame.
 #[derive(Clone, Copy, Drop)]
 pub enum Cause {
     Referenced,
@@ -24,9 +24,6 @@ pub enum Cause {
 }
 
 /// What happened to an entry, a frame or a slot. Each is printed as a line of its own.
-///
-/// Today's commands give `Zeroed`, `New` and `Copied`. The others are declared ahead of the
-/// commands that give them: swap and reclaim.
 #[derive(Clone, Copy, Drop)]
 pub enum Note {
     Zeroed {

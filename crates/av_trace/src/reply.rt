@@ -17,8 +17,6 @@ use av_text::word::add_word;
 use std::alloc::{AllocError, Global};
 
 /// Why a command was refused, by the kernel's error numbers.
-///
-/// `Eio` and `Ebusy` are declared ahead of the commands that give them: swap.
 #[derive(Clone, Copy, Drop, Debug, PartialEq, Eq)]
 pub enum Errno {
     Eperm,
@@ -59,8 +57,7 @@ pub struct Totals {
 /// Where an access stops before its end, `served` counts the bytes before the stop, and `shown`
 /// are those of a read.
 ///
-/// Declared ahead of the commands that give them: `Bus`, `On`, `NoFrame` and `EntrySlot` (swap),
-/// and those of slots (reports).
+/// `NoFrame` is declared ahead of the command that gives it: `swapoff`.
 #[derive(Drop)]
 pub enum Answer {
     Done,
