@@ -31,7 +31,7 @@ use Rattle.av_swap_laws.specs.Held.{Held, IsHeld}
 use Rattle.av_mem.specs.declared.mem.Mem.{Mem}
 use Rattle.av_mem.specs.Mem.{AgreesWith, AreByHeaders, HasLists, HasTables, IsSteadyAt, Keeps, Serves, SwapFits, frame_count, held_by, ranges_of, setting_by, view}
 use Rattle.av_mem.specs.Steps.{KeepsParts}
-use Rattle.av_fault.specs.Between.{IsBetween, KeepsBetween}
+use Rattle.av_mem.specs.Between.{IsBetween, KeepsBetween}
 use Rattle.av_fault.proofs.Amid.{Amid}
 
 -- ---- of the view, and of the parts

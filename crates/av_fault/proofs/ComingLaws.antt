@@ -56,7 +56,7 @@ use Rattle.av_mem.specs.declared.mem.Mem.{Mem}
 use Rattle.av_mem.specs.Cache.{HasLoaded}
 use Rattle.av_mem.specs.Mem.{HasLists, anon_vma, frame_count, held_by, plain, setting_by, view}
 use Rattle.av_mem.specs.Steps.{KeepsParts}
-use Rattle.av_fault.specs.Between.{Does, HasDone, IsBetween, KeepsBetween}
+use Rattle.av_mem.specs.Between.{Does, HasDone, IsBetween, KeepsBetween}
 use Rattle.av_fault.specs.Coming.{Comes, Fetches, HasCome, home_by, root_in}
 use Rattle.av_fault.specs.Seek.{HasSought}
 use Rattle.av_fault.specs.declared.fault.Stop.{Stop}

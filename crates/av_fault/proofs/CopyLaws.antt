@@ -37,7 +37,7 @@ use Rattle.av_swap_laws.proofs.WholePages.{copy-steps}
 use Rattle.av_mem.specs.declared.mem.Mem.{Mem}
 use Rattle.av_mem.specs.Mem.{held_by, plain, setting_by, view}
 use Rattle.av_mem.specs.Steps.{KeepsParts}
-use Rattle.av_fault.specs.Between.{HasDone, KeepsBetween}
+use Rattle.av_mem.specs.Between.{HasDone, KeepsBetween}
 use Rattle.av_fault.specs.Making.{HasMade, IsTaken}
 use Rattle.av_fault.specs.Seek.{HasSought}
 use Rattle.av_fault.specs.Using.{IsHere}

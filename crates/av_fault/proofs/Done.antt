@@ -14,7 +14,7 @@ use Rattle.av_plain.proofs.AreasLeft.{rmap_after_all-append}
 use Rattle.av_swap_laws.specs.Held.{Held}
 use Rattle.av_mem.specs.declared.mem.Mem.{Mem}
 use Rattle.av_mem.specs.Mem.{frame_count, held_by, setting_by, view}
-use Rattle.av_fault.specs.Between.{HasDone, KeepsBetween}
+use Rattle.av_mem.specs.Between.{HasDone, KeepsBetween}
 use Rattle.av_fault.proofs.Amid.{Amid}
 use Rattle.av_fault.proofs.Between.{PartsFit, of-amid, same-still, same-then, setting-stays}
 

@@ -34,7 +34,7 @@ use Rattle.av_swap_laws.proofs.Whole.{drop-steps}
 use Rattle.av_mem.specs.declared.mem.Mem.{Mem}
 use Rattle.av_mem.specs.Mem.{held_by, plain, setting_by, view}
 use Rattle.av_mem.specs.Steps.{KeepsParts}
-use Rattle.av_fault.specs.Between.{HasDone, KeepsBetween}
+use Rattle.av_mem.specs.Between.{HasDone, KeepsBetween}
 use Rattle.av_fault.specs.Using.{HasDropped, HasDroppedFull}
 use Rattle.av_fault.proofs.Between.{fit-stays, same-still, to-amid, to-fit}
 use Rattle.av_fault.proofs.Done.{done-none}

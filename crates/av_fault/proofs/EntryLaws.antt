@@ -15,7 +15,7 @@ use Rattle.av_plain.proofs.Ledger.NoSwap.{key_at-address}
 use Rattle.av_mem.specs.declared.mem.Mem.{Mem}
 use Rattle.av_mem.specs.Mem.{plain, ranges_of}
 use Rattle.av_mem.proofs.MemLaws.{mapped_is, prot_on, prots_are}
-use Rattle.av_fault.specs.Between.{KeepsBetween}
+use Rattle.av_mem.specs.Between.{KeepsBetween}
 
 -- the page of its address
 pub page-back : (page : ℕ) → page_of (address_of page) ≡ page

@@ -14,7 +14,7 @@ use Rattle.av_plain.specs.Ledger.{Ledger, SwapArea, free_slots, is_full}
 use Rattle.av_plain.specs.World.{World}
 use Rattle.av_mem.specs.declared.mem.Mem.{Mem}
 use Rattle.av_mem.specs.Mem.{numbers_of, setting_by, view}
-use Rattle.av_fault.specs.Between.{KeepsBetween}
+use Rattle.av_mem.specs.Between.{KeepsBetween}
 
 -- what is found lies behind all that a number is below
 found-above : (x k : ℕ) (es : List (ℕ × SwapArea)) (a : SwapArea) → T (below_all nat_cmp x es) → find nat_cmp k es ≡ Some a → x < k

@@ -31,7 +31,7 @@ use Rattle.av_mem.specs.Mem.{Keeps, anon_vma, anons_of, held_by, ranges_of, sett
 use Rattle.av_mem.proofs.AnonLaws.{area_chain, lengths_alike, shown_chain}
 use Rattle.av_mem.proofs.KeepsLaws.{serves-keeps, state_by}
 use Rattle.av_mem.proofs.MemLaws.{alive_is, all_apart, prot_on, prots_are}
-use Rattle.av_fault.specs.Between.{KeepsBetween}
+use Rattle.av_mem.specs.Between.{KeepsBetween}
 
 -- ---- by lengths that are alike
 

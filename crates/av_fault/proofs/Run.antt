@@ -14,7 +14,7 @@ use Rattle.av_plain.proofs.Access.{after_all-append, chooses-append}
 use Rattle.av_swap_laws.specs.Held.{Held, Steps}
 use Rattle.av_mem.specs.declared.mem.Mem.{Mem}
 use Rattle.av_mem.specs.Mem.{frame_count, held_by, setting_by, view}
-use Rattle.av_fault.specs.Between.{HasDone}
+use Rattle.av_mem.specs.Between.{HasDone}
 use Rattle.av_fault.proofs.Amid.{Amid, Beside, IsOfAccess, amid-after}
 use Rattle.av_fault.proofs.Between.{PartsFit}
 use Rattle.av_fault.proofs.Done.{done-by}

@@ -28,7 +28,7 @@ use Rattle.av_swap_laws.proofs.From.{first-is}
 use Rattle.av_mem.specs.declared.mem.Mem.{Mem}
 use Rattle.av_mem.specs.Mem.{frame_count, numbers_of, setting_by, view}
 use Rattle.av_mem.proofs.MemLaws.{no_cache}
-use Rattle.av_fault.specs.Between.{KeepsBetween}
+use Rattle.av_mem.specs.Between.{KeepsBetween}
 use Rattle.av_fault.specs.Seek.{Finds, HasSought, all_uncached, failed_of}
 use Rattle.av_fault.specs.declared.seek.Got.{Got}
 use Rattle.av_fault.specs.declared.seek.Got.TheVariants.{Frame, Out}

@@ -12,7 +12,7 @@ use Rattle.av_plain.proofs.Sound.Counts.{pair-frame, slot-is, slot_of-none, slot
 use Rattle.av_plain.proofs.Sound.Entries.{ByFrame, BySlot, IsSharedBy}
 use Rattle.av_mem.specs.declared.mem.Mem.{Mem}
 use Rattle.av_mem.specs.Mem.{frame_count, setting_by, view}
-use Rattle.av_fault.specs.Between.{KeepsBetween}
+use Rattle.av_mem.specs.Between.{KeepsBetween}
 use Rattle.av_fault.specs.Using.{is_named_in, is_shared_in}
 
 -- what another entry names, or whose slot an entry names

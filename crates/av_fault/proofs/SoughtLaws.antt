@@ -27,7 +27,7 @@ use Rattle.av_plain.proofs.Sound.Steps.{is_steady}
 use Rattle.av_mem.specs.declared.mem.Mem.{Mem}
 use Rattle.av_mem.specs.Mem.{frame_count, setting_by, view}
 use Rattle.av_mem.proofs.MemLaws.{alive_is}
-use Rattle.av_fault.specs.Between.{KeepsBetween}
+use Rattle.av_mem.specs.Between.{KeepsBetween}
 use Rattle.av_fault.specs.Making.{HasFree, IsMapped}
 use Rattle.av_fault.specs.Seek.{HasSought}
 use Rattle.av_fault.specs.declared.seek.Got.{Got}

@@ -25,7 +25,7 @@ use Rattle.av_swap_laws.specs.Held.{Held}
 use Rattle.av_swap_laws.specs.Steps.{view_seen}
 use Rattle.av_mem.specs.declared.mem.Mem.{Mem}
 use Rattle.av_mem.specs.Mem.{setting_by, view}
-use Rattle.av_fault.specs.Between.{HasDone, KeepsBetween}
+use Rattle.av_mem.specs.Between.{HasDone, KeepsBetween}
 use Rattle.av_fault.specs.Making.{HasMade}
 use Rattle.av_fault.specs.Seek.{HasSought}
 use Rattle.av_fault.specs.declared.fault.Stop.TheVariants.{Oom}

@@ -42,7 +42,7 @@ use Rattle.av_swap_laws.proofs.Parts.{named-slot}
 use Rattle.av_mem.specs.declared.mem.Mem.{Mem}
 use Rattle.av_mem.specs.Mem.{Keeps, Serves, frame_count, held_by, plain, ranges_of, setting_by, view}
 use Rattle.av_mem.proofs.MemLaws.{prot_on, prots_are}
-use Rattle.av_fault.specs.Between.{HasDone, KeepsBetween}
+use Rattle.av_mem.specs.Between.{HasDone, KeepsBetween}
 use Rattle.av_fault.specs.Fault.{HasTouched, IsReady, IsTouched, end_of, is_permitted, touch_events}
 use Rattle.av_fault.specs.Making.{HasMade, IsMadeBy, Makes}
 use Rattle.av_fault.specs.Using.{HasDroppedFull}

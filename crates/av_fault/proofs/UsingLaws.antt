@@ -41,7 +41,7 @@ use Rattle.av_mem.specs.declared.mem.Mem.{Mem}
 use Rattle.av_mem.specs.Mem.{frame_count, held_by, plain, setting_by, view, view_of_parts}
 use Rattle.av_mem.proofs.MemLaws.{entry_put_in}
 use Rattle.av_mem.specs.Steps.{KeepsParts}
-use Rattle.av_fault.specs.Between.{HasDone, KeepsBetween}
+use Rattle.av_mem.specs.Between.{HasDone, KeepsBetween}
 use Rattle.av_fault.specs.Using.{IsHere}
 use Rattle.av_fault.proofs.Amid.{Amid}
 use Rattle.av_fault.proofs.Between.{fit-stays, same-still, to-amid, to-fit}

@@ -24,7 +24,7 @@ use Rattle.av_swap_laws.proofs.WholePages.{zero-steps}
 use Rattle.av_mem.specs.declared.mem.Mem.{Mem}
 use Rattle.av_mem.specs.Mem.{held_by, setting_by, view}
 use Rattle.av_mem.specs.Steps.{KeepsParts}
-use Rattle.av_fault.specs.Between.{HasDone, KeepsBetween}
+use Rattle.av_mem.specs.Between.{HasDone, KeepsBetween}
 use Rattle.av_fault.specs.Making.{HasMade, IsMapped}
 use Rattle.av_fault.specs.declared.fault.Touched.TheVariants.{Zeros}
 use Rattle.av_fault.proofs.Between.{fit-stays, same-still, to-amid, to-fit}

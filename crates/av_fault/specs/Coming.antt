@@ -16,7 +16,7 @@ use Rattle.av_plain.specs.Swapoff.{IsFetched}
 use Rattle.av_plain.specs.World.{World}
 use Rattle.av_mem.specs.declared.mem.Mem.{Mem}
 use Rattle.av_mem.specs.Mem.{setting_by, view}
-use Rattle.av_fault.specs.Between.{HasDone}
+use Rattle.av_mem.specs.Between.{HasDone}
 use Rattle.av_fault.specs.Fault.{failed_by, lost_by}
 use Rattle.av_fault.specs.Seek.{Finds}
 use Rattle.av_fault.specs.declared.fault.Stop.{Stop}

@@ -13,7 +13,7 @@ use Rattle.av_plain.specs.Choice.{ChoosesAll}
 use Rattle.av_plain.specs.Areas.{Rmap, rmap_after_all}
 use Rattle.av_plain.specs.World.{World, allows}
 use Rattle.av_base.specs.declared.prot.Prot.{Prot}
-use Rattle.av_fault.specs.Between.{HasDone}
+use Rattle.av_mem.specs.Between.{HasDone}
 use Rattle.av_plain.specs.Load.{with_loads}
 use Rattle.av_plain.specs.Pass.{fails}
 use Rattle.av_plain.specs.Sound.{IsSound}
@@ -21,7 +21,6 @@ use Rattle.av_plain.specs.Stands.{free_of}
 use Rattle.av_plain.specs.Transcript.{State, rmap_of}
 use Rattle.av_mem.specs.declared.mem.Mem.{Mem}
 use Rattle.av_mem.specs.Mem.{frame_count, setting_by, view, Keeps, Serves}
-use Rattle.av_mem.specs.Steps.{KeepsSwap}
 use Rattle.av_fault.specs.declared.fault.Stop.{Stop}
 use Rattle.av_fault.specs.declared.fault.Stop.TheVariants.{Bus, Oom, Segv}
 use Rattle.av_fault.specs.declared.fault.Touched.{Touched}
@@ -89,14 +88,13 @@ pub record IsTouched (d d' : Device) (s : State) (new : Mem) (write : Bool) (k :
   pub faults : RoseBy (fails added + lost_by touched) d.faults d'.faults
   pub failed : failed_by touched ≤ fails added
 
--- whatever stood before: the page is made ready or not. It is the same device then, there are as
--- many frames, and the same swap areas are on
+-- whatever stood before: the page is made ready or not. It is the same device then, and there are as
+-- many frames, also where memory was wanting
 pub record MakesReady (d d' : Device) (old new : Mem) (write : Bool) (k : Key)
     (before now : List Note) (result : Result Touched AllocError) : Type 0 where
   pub step : (s : State) → Keeps d old s
       → IfOk result (IsTouched d d' s new write k before now)
   pub same : IsSameDevice d d'
-  pub swap : KeepsSwap old new
   pub count : frame_count new ≡ frame_count old
 
 -- ---- the parts of a fault

@@ -1,4 +1,3 @@
-pub mod Between
 pub mod Coming
 pub mod Fault
 pub mod Making

@@ -18,7 +18,7 @@ use Rattle.av_plain.specs.Stands.{View}
 use Rattle.av_plain.specs.World.{World}
 use Rattle.av_mem.specs.declared.mem.Mem.{Mem}
 use Rattle.av_mem.specs.Mem.{HasLists, setting_by, view}
-use Rattle.av_fault.specs.Between.{HasDone}
+use Rattle.av_mem.specs.Between.{HasDone}
 use Rattle.av_fault.specs.Fault.{IsReady, failed_by, lost_by, touch_events}
 use Rattle.av_fault.specs.declared.fault.Stop.TheVariants.{Bus, Oom, Segv}
 use Rattle.av_fault.specs.declared.fault.Touched.{Touched}

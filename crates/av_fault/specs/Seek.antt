@@ -12,7 +12,7 @@ use Rattle.av_plain.specs.Pass.{Seeks, Spared, fails, out_of}
 use Rattle.av_plain.specs.World.{World}
 use Rattle.av_mem.specs.declared.mem.Mem.{Mem}
 use Rattle.av_mem.specs.Mem.{setting_by}
-use Rattle.av_fault.specs.Between.{HasDone}
+use Rattle.av_mem.specs.Between.{HasDone}
 use Rattle.av_fault.specs.declared.seek.Got.{Got}
 use Rattle.av_fault.specs.declared.seek.Got.TheVariants.{Frame, Out}
 

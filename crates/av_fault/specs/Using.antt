@@ -13,7 +13,7 @@ use Rattle.av_plain.specs.Stands.{View}
 use Rattle.av_plain.specs.World.{World}
 use Rattle.av_mem.specs.declared.mem.Mem.{Mem}
 use Rattle.av_mem.specs.Mem.{setting_by}
-use Rattle.av_fault.specs.Between.{HasDone}
+use Rattle.av_mem.specs.Between.{HasDone}
 
 -- the entry of the page is the frame; if that is settled, it is marked as written already
 pub record IsHere (old : Mem) (k : Key) (f : ℕ) (settled : Bool) : Type 0 where

@@ -8,7 +8,8 @@ ghost use Rattle.av_plain.specs.Device.{IsSameDevice, device_by};
 ghost use Rattle.av_spaces.specs.Kin.{info_of};
 ghost use Rattle.av_spaces.specs.Spaces.{pages_of};
 ghost use Rattle.av_vma.specs.Pages.{home_of};
-ghost use Rattle.av_fault.specs.Between.{Does, IsBetween, KeepsPlaces};
+ghost use Rattle.av_mem.specs.Mem.{frame_count};
+ghost use Rattle.av_mem.specs.Between.{Does, IsBetween};
 ghost use Rattle.av_fault.specs.Coming.{Comes, Fetches, HasCome, home_by};
 
 use crate::fault::Stop;
@@ -41,7 +42,7 @@ pub(crate) fn come_in<D: SwapDev>(
         entry_at mem.new.tables key.0 key.1 ≡ Pte.Here f false false)) }
     ensures same { IsSameDevice (device_by (D.sizes dev.old) (D.pages dev.old) (D.faults dev.old))
         (device_by (D.sizes dev.new) (D.pages dev.new) (D.faults dev.new)) }
-    ensures places { KeepsPlaces mem.old mem.new }
+    ensures count { frame_count mem.new ≡ frame_count mem.old }
 {
     match fetch(mem, dev, key, slot, home, notes)? {
         Ok(frame) => {
@@ -76,7 +77,7 @@ fn fetch<D: SwapDev>(
         d d' mem.old mem.new w r l notes.old notes.new came)) }
     ensures same { IsSameDevice (device_by (D.sizes dev.old) (D.pages dev.old) (D.faults dev.old))
         (device_by (D.sizes dev.new) (D.pages dev.new) (D.faults dev.new)) }
-    ensures places { KeepsPlaces mem.old mem.new }
+    ensures count { frame_count mem.new ≡ frame_count mem.old }
 {
     if let Some(frame) = mem.swap.find(slot) {
         return Ok(Ok(frame));

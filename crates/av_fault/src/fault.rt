@@ -2,13 +2,13 @@
 
 ghost use Rattle.std.specs.Prelude.{◌≡◌, ◌<◌, Bool, true, false, is_some, IfOk, IfSome, IsSome};
 ghost use Rattle.av_base.specs.Limits.{top_page};
-ghost use Rattle.av_mem.specs.Mem.{IsSteadyAt, ranges_of};
+ghost use Rattle.av_mem.specs.Mem.{frame_count, ranges_of, IsSteadyAt};
 ghost use Rattle.av_plain.specs.Device.{as_told, device_by, IsSameDevice};
 ghost use Rattle.av_plain.specs.Stands.{prot_of};
 ghost use Rattle.av_plain.specs.World.{allows};
 ghost use Rattle.av_spaces.specs.Spaces.{pages_of};
 ghost use Rattle.av_vma.specs.Pages.{AreLaid, IsWhole, home_of};
-ghost use Rattle.av_fault.specs.Between.{Does, IsBetween, KeepsPlaces};
+ghost use Rattle.av_mem.specs.Between.{Does, IsBetween};
 ghost use Rattle.av_fault.specs.Fault.{HasTouched, MakesReady, is_permitted};
 ghost use Rattle.av_fault.specs.Making.{IsMapped};
 
@@ -120,7 +120,7 @@ fn touch_to_read<D: SwapDev>(
         HasTouched d d' mem.old mem.new w r l false key notes.old notes.new touched)) }
     ensures same { IsSameDevice (device_by (D.sizes dev.old) (D.pages dev.old) (D.faults dev.old))
         (device_by (D.sizes dev.new) (D.pages dev.new) (D.faults dev.new)) }
-    ensures places { KeepsPlaces mem.old mem.new }
+    ensures count { frame_count mem.new ≡ frame_count mem.old }
 {
     match mem.tables.get(key.0, key.1) {
         Pte::Empty => make_zero(mem, key, notes),
@@ -156,7 +156,7 @@ fn touch_to_write<D: SwapDev>(
         HasTouched d d' mem.old mem.new w r l true key notes.old notes.new touched)) }
     ensures same { IsSameDevice (device_by (D.sizes dev.old) (D.pages dev.old) (D.faults dev.old))
         (device_by (D.sizes dev.new) (D.pages dev.new) (D.faults dev.new)) }
-    ensures places { KeepsPlaces mem.old mem.new }
+    ensures count { frame_count mem.new ≡ frame_count mem.old }
 {
     match mem.tables.get(key.0, key.1) {
         Pte::Empty | Pte::Zero => make_new(mem, dev, key, notes),

@@ -12,7 +12,7 @@ ghost use Rattle.av_swap_laws.specs.Steps.{view_copy, view_new, view_seen};
 ghost use Rattle.av_vma.specs.Pages.{home_of};
 ghost use Rattle.av_mem.specs.Mem.{frame_count, view};
 ghost use Rattle.av_mem.specs.Steps.{KeepsParts};
-ghost use Rattle.av_fault.specs.Between.{Does, IsBetween, KeepsBetween, KeepsPlaces};
+ghost use Rattle.av_mem.specs.Between.{Does, IsBetween, KeepsBetween};
 ghost use Rattle.av_fault.specs.Making.{HasFree, HasMade, IsBare, IsMapped, IsTaken};
 ghost use Rattle.av_fault.specs.Using.{IsHere, is_shared_in};
 
@@ -36,7 +36,7 @@ pub(crate) fn make_zero(
     ensures made { IfOk result (λ touched. (d : Device) (w : World) (r : Rmap) (l : Ledger)
         → KeepsBetween d mem.old w r l
         → HasMade d d mem.old mem.new w r l false false key notes.old notes.new touched) }
-    ensures places { KeepsPlaces mem.old mem.new }
+    ensures count { frame_count mem.new ≡ frame_count mem.old }
 {
     mem.tables.set(key.0, key.1, Pte::Zero)?;
     notes.push(Note::Zeroed {
@@ -62,7 +62,7 @@ pub(crate) fn make_new<D: SwapDev>(
         HasMade d d' mem.old mem.new w r l true false key notes.old notes.new touched)) }
     ensures same { IsSameDevice (device_by (D.sizes dev.old) (D.pages dev.old) (D.faults dev.old))
         (device_by (D.sizes dev.new) (D.pages dev.new) (D.faults dev.new)) }
-    ensures places { KeepsPlaces mem.old mem.new }
+    ensures count { frame_count mem.new ≡ frame_count mem.old }
 {
     if let Got::Out(out) = seek(mem, dev, None, notes)? {
         return Ok(Touched::Stopped(Stop::Oom(out)));
@@ -97,7 +97,7 @@ pub(crate) fn make_copy<D: SwapDev>(
         → HasMade d d' mem.old mem.new w r l true came key notes.old notes.new touched)) }
     ensures same { IsSameDevice (device_by (D.sizes dev.old) (D.pages dev.old) (D.faults dev.old))
         (device_by (D.sizes dev.new) (D.pages dev.new) (D.faults dev.new)) }
-    ensures places { KeepsPlaces mem.old mem.new }
+    ensures count { frame_count mem.new ≡ frame_count mem.old }
 {
     if let Got::Out(out) = seek(mem, dev, Some(from), notes)? {
         return Ok(Touched::Stopped(Stop::Oom(out)));
@@ -122,7 +122,7 @@ fn take_zeros(
     ensures taken { IfOk result (λ f. IsTaken mem.old mem.new f (λ left.
         view_seen key.0 key.1 f true (view_new key.0 key.1 f true left (λ i. 0) home (view mem.old)))) }
     ensures parts { OnOk result (KeepsParts mem.old mem.new) }
-    ensures places { KeepsPlaces mem.old mem.new }
+    ensures count { frame_count mem.new ≡ frame_count mem.old }
 {
     let Some(frame) = mem.frames.take() else {
         unreachable!();

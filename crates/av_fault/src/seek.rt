@@ -1,12 +1,12 @@
 //! What comes before a frame is taken.
 
-ghost use Rattle.std.specs.Prelude.{◌≡◌, ◌<◌, IfOk};
-ghost use Rattle.std.specs.Option.{ForSome};
-ghost use Rattle.av_mem.specs.Mem.{frame_count};
+ghost use Rattle.std.specs.Prelude.{◌≡◌, IfOk};
 ghost use Rattle.av_plain.specs.Device.{IsSameDevice, device_by};
-ghost use Rattle.av_fault.specs.Between.{Does, IsBetween, KeepsPlaces};
-ghost use Rattle.av_fault.specs.Seek.{HasSought, all_uncached};
+ghost use Rattle.av_mem.specs.Between.{Does, IsBetween};
+ghost use Rattle.av_mem.specs.Mem.{frame_count};
+ghost use Rattle.av_fault.specs.Seek.{HasSought};
 
+use av_evict::SeekEnd;
 use av_mem::Mem;
 use av_swapdev::SwapDev;
 use av_trace::{Notes, OutOf};
@@ -21,10 +21,8 @@ pub(crate) enum Got {
     Out(OutOf),
 }
 
-/// Seeks a frame that may be taken, and leaves one alone, if any. Adds the notes of what it evicted
-/// where none was free.
-// No swap area can be on yet, so nothing can be evicted.
-#[inline(always)]
+/// Seeks a frame that may be taken, behind a direct pass exactly where none is free. The pass leaves
+/// the pinned frame alone, and its notes are added.
 pub(crate) fn seek<D: SwapDev>(
     mem: &mut Mem,
     dev: &mut D,
@@ -32,30 +30,16 @@ pub(crate) fn seek<D: SwapDev>(
     notes: &mut Notes,
 ) -> Result<Got, AllocError>
     requires between { IsBetween (D.sizes dev.old) mem.old }
-    requires pinned { ForSome pinned (λ f. f < frame_count mem.old) }
     ensures sought { IfOk result (λ got. Does
         (device_by (D.sizes dev.old) (D.pages dev.old) (D.faults dev.old))
         (device_by (D.sizes dev.new) (D.pages dev.new) (D.faults dev.new)) mem.old
         (λ d d' w r l. HasSought d d' mem.old mem.new w r l pinned notes.old notes.new got)) }
     ensures same { IsSameDevice (device_by (D.sizes dev.old) (D.pages dev.old) (D.faults dev.old))
         (device_by (D.sizes dev.new) (D.pages dev.new) (D.faults dev.new)) }
-    ensures places { KeepsPlaces mem.old mem.new }
+    ensures count { frame_count mem.new ≡ frame_count mem.old }
 {
-    if mem.frames.first().is_some() {
-        return Ok(Got::Frame);
-    }
-    Ok(Got::Out(out_of(mem, pinned)))
-}
-
-/// The numbers of an out-of-memory where no frame is cached: all but the pinned one have no slot.
-fn out_of(mem: &Mem, pinned: Option<u32>) -> OutOf
-    requires { ForSome pinned (λ f. f < frame_count mem.now) }
-    ensures { result ≡ all_uncached (frame_count mem.now) pinned }
-{
-    let pinned = u32::from(pinned.is_some());
-    OutOf {
-        pinned,
-        noslot: mem.frames.count() - pinned,
-        fault: 0,
+    match av_reclaim::seek(mem, dev, pinned, notes)? {
+        SeekEnd::Frame(_) => Ok(Got::Frame),
+        SeekEnd::Out(out) => Ok(Got::Out(out)),
     }
 }

@@ -12,7 +12,7 @@ ghost use Rattle.av_plain.specs.World.{World};
 ghost use Rattle.av_spaces.specs.Spaces.{pages_of};
 ghost use Rattle.av_vma.specs.Pages.{home_of};
 ghost use Rattle.av_mem.specs.Mem.{frame_count, view};
-ghost use Rattle.av_fault.specs.Between.{Does, HasBetween, HasDone, IsBetween, KeepsBetween, KeepsPlaces};
+ghost use Rattle.av_mem.specs.Between.{Does, HasBetween, HasDone, IsBetween, KeepsBetween};
 ghost use Rattle.av_fault.specs.Making.{HasMade};
 ghost use Rattle.av_fault.specs.Using.{HasDropped, HasDroppedFull, IsHere, is_shared_in};
 
@@ -29,7 +29,7 @@ pub(crate) fn read_frame(mem: &mut Mem, key: (u16, u64), frame: u32, write: bool
     ensures read { (d : Device) (w : World) (r : Rmap) (l : Ledger) → KeepsBetween d mem.old w r l
         → HasDone d d mem.old mem.new w r l (Used false key ∷ []) }
     ensures here { entry_at mem.new.tables key.0 key.1 ≡ Pte.Here frame write true }
-    ensures places { KeepsPlaces mem.old mem.new }
+    ensures count { frame_count mem.new ≡ frame_count mem.old }
 {
     if !seen {
         mem.tables
@@ -50,7 +50,7 @@ pub(crate) fn read_in(
     ensures made { IfOk result (λ touched. (d : Device) (w : World) (r : Rmap) (l : Ledger)
         → KeepsBetween d mem.old w r l
         → HasMade d d mem.old mem.new w r l false true key notes.old notes.new touched) }
-    ensures places { KeepsPlaces mem.old mem.new }
+    ensures count { frame_count mem.new ≡ frame_count mem.old }
 {
     drop_where_full(mem, frame, notes)?;
     read_frame(mem, key, frame, false, false);
@@ -79,7 +79,7 @@ pub(crate) fn write_frame<D: SwapDev>(
         → HasMade d d' mem.old mem.new w r l true came key notes.old notes.new touched)) }
     ensures same { IsSameDevice (device_by (D.sizes dev.old) (D.pages dev.old) (D.faults dev.old))
         (device_by (D.sizes dev.new) (D.pages dev.new) (D.faults dev.new)) }
-    ensures places { KeepsPlaces mem.old mem.new }
+    ensures count { frame_count mem.new ≡ frame_count mem.old }
 {
     if !settled && is_shared(mem, frame) {
         return make_copy(mem, dev, key, frame, home, notes);
@@ -117,7 +117,7 @@ pub(crate) fn drop_unneeded(
         → HasDropped d mem.old mem.new w r l frame notes.old notes.new cached) }
     ensures entries { entry_at mem.new.tables ≡ entry_at mem.old.tables }
     ensures spaces { mem.new.spaces ≡ mem.old.spaces }
-    ensures places { KeepsPlaces mem.old mem.new }
+    ensures count { frame_count mem.new ≡ frame_count mem.old }
 {
     let Some(slot) = mem.frames.slot(frame) else {
         return Ok(false);
@@ -138,7 +138,7 @@ fn drop_where_full(mem: &mut Mem, frame: u32, notes: &mut Notes) -> Result<(), A
         → KeepsBetween d mem.old w r l
         → HasDroppedFull d mem.old mem.new w r l frame notes.old notes.new) }
     ensures entries { entry_at mem.new.tables ≡ entry_at mem.old.tables }
-    ensures places { KeepsPlaces mem.old mem.new }
+    ensures count { frame_count mem.new ≡ frame_count mem.old }
 {
     if !mem.swap.full() {
         return Ok(());
@@ -165,7 +165,7 @@ fn write_own(
         → cached ≡ is_some (slot_of l frame)
         → HasDone d d mem.old mem.new w r l (Used true key ∷ []) }
     ensures here { entry_at mem.new.tables key.0 key.1 ≡ Pte.Here frame true true }
-    ensures places { KeepsPlaces mem.old mem.new }
+    ensures count { frame_count mem.new ≡ frame_count mem.old }
 {
     if !settled {
         mem.tables

@@ -1,6 +1,7 @@
 -- What is shown of a kernel, and what is true of every one.
-use Rattle.std.specs.Prelude.{◌≡◌, ℕ, Bool, false, List, Option, refl, slice_get}
+use Rattle.std.specs.Prelude.{◌≡◌, ℕ, ◌≤◌, Bool, false, List, Option, length, refl, slice_get}
 use Rattle.std.specs.Coded.{Coded, code_by, coded×, coded_ℕ, coded_bool, coded_list}
+use Rattle.av_swapdev.specs.Device.{most_areas}
 use Rattle.av_mem.specs.declared.mem.Mem.{Mem}
 use Rattle.av_mem.specs.Mem.{IsSteadyAt}
 use Rattle.av_kernel.specs.declared.tally.Tally.{Tally}
@@ -37,9 +38,11 @@ machine_code mem tally =
 abbrev pub sizes_of : List ℕ → ℕ → Option ℕ
 sizes_of sizes k = slice_get sizes k
 
--- no word of a reply came more often than commands were answered; where memory never ran out, the
--- memory system stands for something over a device with these sizes
+-- there are no more swap areas than a device can have; no word of a reply came more often than
+-- commands were answered; where memory never ran out, the memory system stands for something over a
+-- device with these sizes
 pub record IsSound (sizes : List ℕ) (mem : Mem) (steps : ℕ) (tally : Tally) (spent : Bool)
     : Type 0 where
+  pub attached : length sizes ≤ most_areas
   pub few : IsAtMost steps tally
   pub steady : spent ≡ false → IsSteadyAt (sizes_of sizes) mem

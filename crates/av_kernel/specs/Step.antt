@@ -1,7 +1,7 @@
 -- What one command does to the memory system.
 use Rattle.std.specs.Prelude.{◌≡◌, ℕ, Bool, false, true, List, Option, Some, None, Result, Ok, Err, IfSome, is_some}
 use Rattle.av_trace.specs.declared.command.Command.{Command}
-use Rattle.av_trace.specs.declared.command.Command.TheVariants.{Mmap, Mprotect, Mremap, Munmap}
+use Rattle.av_trace.specs.declared.command.Command.TheVariants.{Age, Complete, Mmap, Mprotect, Mremap, Munmap, Read, Reclaim, Swapon, Write}
 use Rattle.av_trace.specs.declared.reply.Answer.TheVariants as answers
 use Rattle.av_trace.specs.declared.reply.Reply.{Reply}
 use Rattle.av_trace.specs.Reply.{answer_only}
@@ -22,6 +22,22 @@ is_of_pages (Munmap p a len) = true
 is_of_pages (Mprotect p a len prot) = true
 is_of_pages (Mremap p a old_len new_len mode) = true
 is_of_pages command = false
+
+-- whether a command reads or writes pages of a process
+abbrev pub is_access : Command → Bool
+is_access (Read p a n) = true
+is_access (Write p a bytes) = true
+is_access command = false
+
+-- whether a command is handed the device: it may read or write pages there, or send frames to slots
+abbrev pub has_device : Command → Bool
+has_device (Read p a n) = true
+has_device (Write p a bytes) = true
+has_device (Reclaim n) = true
+has_device (Age n) = true
+has_device (Complete n) = true
+has_device (Swapon k) = true
+has_device command = false
 
 -- what a command answers that filled this reply, or was not done
 abbrev pub reply_in : Reply → Result (Unit {0}) Refusal → Result Reply Refusal

@@ -14,9 +14,11 @@ mod map;
 mod mremap;
 mod page;
 mod process;
+mod reclaim;
 mod refusal;
 mod report;
 mod step;
+mod swap;
 mod tally;
 
 pub use kernel::Kernel;

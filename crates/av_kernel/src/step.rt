@@ -1,16 +1,19 @@
 //! Which command goes where, and what a refusal replies.
 
-ghost use Rattle.std.specs.Prelude.{◌≡◌, OnOk, false, true};
+ghost use Rattle.std.specs.Prelude.{◌≡◌, ◌≤◌, OnOk, false, length, true};
 ghost use Rattle.av_trace.specs.Command.{is_in_grammar};
 ghost use Rattle.av_trace.specs.Reply.{IsCleared};
-ghost use Rattle.av_plain.specs.Step.{uses_device};
+ghost use Rattle.av_swapdev.specs.Device.{most_areas};
 ghost use Rattle.av_plain.specs.Device.{IsSameDevice};
 ghost use Rattle.av_plain.specs.Transcript.{State};
 ghost use Rattle.av_mem.specs.Mem.{frame_count, Keeps, IsSteady, IsSteadyAt};
+ghost use Rattle.av_kernel.specs.Machine.{sizes_of};
 ghost use Rattle.av_kernel.specs.Step.{
   Does,
   DoesBeside,
   MemSteps,
+  has_device,
+  is_access,
   is_of_pages,
   reply_in,
   seen_by,
@@ -20,8 +23,10 @@ use crate::access::{read, write};
 use crate::map::{mmap, mprotect, munmap};
 use crate::mremap::mremap;
 use crate::process::{exit, fork, spawn};
+use crate::reclaim::{age, complete, reclaim};
 use crate::refusal::Refusal;
 use crate::report::{areas, entry, maps, rmap, stat};
+use crate::swap::{slot, swapon};
 use av_mem::Mem;
 use av_swapdev::SwapDev;
 use av_text::Bytes;
@@ -32,10 +37,12 @@ use std::mem::swap;
 /// Replies to a command, whatever the reply held. Memory may be wanting; then nothing is promised
 /// of the memory system but its frames' number, nor of the reply.
 ///
-/// Bytes that the reply showed give their memory to `spare`, and a read takes that of `spare`.
+/// `sizes` says how many pages each attached swap area has. Bytes that the reply showed give their
+/// memory to `spare`, and a read takes that of `spare`.
 pub fn perform<D: SwapDev>(
     mem: &mut Mem,
     dev: &mut D,
+    sizes: &[u32],
     spare: &mut Bytes,
     alloc: Global,
     command: &Command,
@@ -43,6 +50,8 @@ pub fn perform<D: SwapDev>(
 ) -> Result<(), AllocError>
     requires steady { IsSteadyAt (D.sizes dev.old) mem.old }
     requires grammar { is_in_grammar command.now ≡ true }
+    requires attached { D.sizes dev.old ≡ sizes_of sizes.now }
+    requires few { length sizes.now ≤ most_areas }
     ensures step { let d = seen_by D.sizes D.pages D.faults in (s : State)
         → Keeps (d dev.old) mem.old s → OnOk result
         (MemSteps (d dev.old) (d dev.new) mem.old mem.new s command.now reply.new) }
@@ -55,7 +64,7 @@ pub fn perform<D: SwapDev>(
         swap(shown, spare);
     }
     reply.clear();
-    match dispatch(mem, dev, spare, alloc, command, reply) {
+    match dispatch(mem, dev, sizes, spare, alloc, command, reply) {
         Ok(()) => Ok(()),
         Err(Refusal::Refused(error)) => {
             reply.clear();
@@ -70,6 +79,7 @@ pub fn perform<D: SwapDev>(
 fn dispatch<D: SwapDev>(
     mem: &mut Mem,
     dev: &mut D,
+    sizes: &[u32],
     spare: &mut Bytes,
     alloc: Global,
     command: &Command,
@@ -77,6 +87,8 @@ fn dispatch<D: SwapDev>(
 ) -> Result<(), Refusal>
     requires steady { IsSteadyAt (D.sizes dev.old) mem.old }
     requires grammar { is_in_grammar command.now ≡ true }
+    requires attached { D.sizes dev.old ≡ sizes_of sizes.now }
+    requires few { length sizes.now ≤ most_areas }
     requires cleared { IsCleared reply.old }
     ensures { let d = seen_by D.sizes D.pages D.faults in Does (d dev.old) (d dev.new)
         mem.old mem.new command.now (reply_in reply.new result) }
@@ -92,11 +104,39 @@ fn dispatch<D: SwapDev>(
             address,
             bytes,
         } => write(mem, dev, alloc, *process, *address, bytes.as_slice(), reply),
+        _ => swap_or_beside(mem, dev, sizes, alloc, command, reply),
+    }
+}
+
+/// Does a command that is no access: it moves pages to swap areas, turns one on, or isn't handed the
+/// device.
+fn swap_or_beside<D: SwapDev>(
+    mem: &mut Mem,
+    dev: &mut D,
+    sizes: &[u32],
+    alloc: Global,
+    command: &Command,
+    reply: &mut Reply,
+) -> Result<(), Refusal>
+    requires steady { IsSteadyAt (D.sizes dev.old) mem.old }
+    requires grammar { is_in_grammar command.now ≡ true }
+    requires no_access { is_access command.now ≡ false }
+    requires attached { D.sizes dev.old ≡ sizes_of sizes.now }
+    requires few { length sizes.now ≤ most_areas }
+    requires cleared { IsCleared reply.old }
+    ensures { let d = seen_by D.sizes D.pages D.faults in Does (d dev.old) (d dev.new)
+        mem.old mem.new command.now (reply_in reply.new result) }
+{
+    match command {
+        Command::Reclaim { frames } => reclaim(mem, dev, *frames, reply),
+        Command::Age { frames } => age(mem, dev, *frames, reply),
+        Command::Complete { slots } => complete(mem, dev, *slots, reply),
+        Command::Swapon { area } => swapon(mem, dev, sizes, alloc, *area, reply),
         _ => do_beside(mem, alloc, command, reply),
     }
 }
 
-/// Does a command that doesn't use the device.
+/// Does a command that isn't handed the device.
 fn do_beside(
     mem: &mut Mem,
     alloc: Global,
@@ -105,7 +145,7 @@ fn do_beside(
 ) -> Result<(), Refusal>
     requires steady { IsSteady mem.old }
     requires grammar { is_in_grammar command.now ≡ true }
-    requires beside { uses_device command.now ≡ false }
+    requires beside { has_device command.now ≡ false }
     requires cleared { IsCleared reply.old }
     ensures { DoesBeside mem.old mem.new command.now (reply_in reply.new result) }
 {
@@ -117,6 +157,7 @@ fn do_beside(
         Command::Areas { process } => areas(mem, alloc, *process, reply),
         Command::Rmap { process, address } => rmap(mem, alloc, *process, *address, reply),
         Command::Entry { process, address } => entry(mem, *process, *address, reply),
+        Command::Slot { area, page } => slot(mem, *area, *page, reply),
         Command::Stat => {
             stat(mem, reply);
             Ok(())

@@ -1,3 +1,4 @@
+pub mod Between
 pub mod Mem
 pub mod Steps
 pub mod Cache

@@ -1,15 +1,16 @@
 //! The commands of reclaim, and the search for a free frame, over the memory system and its device.
 
-ghost use Rattle.std.specs.Prelude.{◌≡◌, Bool, IfOk, None, OnOk, [], false};
+ghost use Rattle.std.specs.Prelude.{◌≡◌, IfOk, None, OnOk, []};
 ghost use Rattle.av_trace.specs.declared.reply.Answer.TheVariants.{Done};
-ghost use Rattle.av_plain.specs.Device.{as_told, device_by};
+ghost use Rattle.av_plain.specs.Device.{IsSameDevice, device_by};
 ghost use Rattle.av_plain.specs.Event.{note_events};
 ghost use Rattle.av_plain.specs.Fault.{sparing};
 ghost use Rattle.av_plain.specs.Pass.{Seeks};
 ghost use Rattle.av_plain.specs.Reclaim.{Ages, CompletesFirst, Reclaims};
-ghost use Rattle.av_evict.specs.Pass.{IsEnd};
-ghost use Rattle.av_mem.specs.Mem.{setting_by};
-ghost use Rattle.av_reclaim.specs.Commands.{FindsNext, HasAdded, IsServing};
+ghost use Rattle.av_evict.specs.Pass.{IsEnd, IsNext};
+ghost use Rattle.av_mem.specs.Between.{Does, IsBetween};
+ghost use Rattle.av_mem.specs.Mem.{frame_count, view};
+ghost use Rattle.av_reclaim.specs.Commands.{HasAdded};
 
 use crate::driver::Driver;
 use av_evict::SeekEnd;
@@ -19,21 +20,23 @@ use av_trace::Notes;
 use std::alloc::AllocError;
 
 /// Reclaims the last `count` frames of inactive, or all where there are fewer, and adds the notes
-/// of what became of each. Nothing is promised after want of memory.
+/// of what became of each. After want of memory it is the same device, and there are as many
+/// frames.
 pub fn reclaim<D: SwapDev>(
     mem: &mut Mem,
     dev: &mut D,
     count: u32,
     notes: &mut Notes,
 ) -> Result<(), AllocError>
-    requires { IsServing (as_told false
-        (device_by (D.sizes dev.old) (D.pages dev.old) (D.faults dev.old))) mem.old }
-    ensures { OnOk result ((told : Bool)
-        → let old = as_told told (device_by (D.sizes dev.old) (D.pages dev.old) (D.faults dev.old))
-        in HasAdded old
-        (as_told told (device_by (D.sizes dev.new) (D.pages dev.new) (D.faults dev.new)))
-        mem.old mem.new notes.old notes.new
-        (λ w l added. Reclaims (setting_by old mem.old) w l count (note_events added) Done [])) }
+    requires { IsBetween (D.sizes dev.old) mem.old }
+    ensures reclaims { OnOk result (Does
+        (device_by (D.sizes dev.old) (D.pages dev.old) (D.faults dev.old))
+        (device_by (D.sizes dev.new) (D.pages dev.new) (D.faults dev.new)) mem.old (λ d d' w r l.
+        HasAdded (λ m w l added. Reclaims m w l count (note_events added) Done [])
+        d d' mem.old mem.new w r l notes.old notes.new)) }
+    ensures same { IsSameDevice (device_by (D.sizes dev.old) (D.pages dev.old) (D.faults dev.old))
+        (device_by (D.sizes dev.new) (D.pages dev.new) (D.faults dev.new)) }
+    ensures count { frame_count mem.new ≡ frame_count mem.old }
 {
     let mut driver = Driver { mem, dev };
     av_evict::reclaim(&mut driver, count, notes)?;
@@ -41,20 +44,22 @@ pub fn reclaim<D: SwapDev>(
 }
 
 /// Moves the last `count` frames of active to inactive, or all where there are fewer, and adds a
-/// note of each. Nothing is promised after want of memory.
+/// note of each. After want of memory as `reclaim`.
 pub fn age<D: SwapDev>(
     mem: &mut Mem,
     dev: &mut D,
     count: u32,
     notes: &mut Notes,
 ) -> Result<(), AllocError>
-    requires { IsServing (as_told false
-        (device_by (D.sizes dev.old) (D.pages dev.old) (D.faults dev.old))) mem.old }
-    ensures { OnOk result ((told : Bool) → HasAdded
-        (as_told told (device_by (D.sizes dev.old) (D.pages dev.old) (D.faults dev.old)))
-        (as_told told (device_by (D.sizes dev.new) (D.pages dev.new) (D.faults dev.new)))
-        mem.old mem.new notes.old notes.new
-        (λ w l added. Ages l count (note_events added) Done [])) }
+    requires { IsBetween (D.sizes dev.old) mem.old }
+    ensures ages { OnOk result (Does
+        (device_by (D.sizes dev.old) (D.pages dev.old) (D.faults dev.old))
+        (device_by (D.sizes dev.new) (D.pages dev.new) (D.faults dev.new)) mem.old (λ d d' w r l.
+        HasAdded (λ m w l added. Ages l count (note_events added) Done [])
+        d d' mem.old mem.new w r l notes.old notes.new)) }
+    ensures same { IsSameDevice (device_by (D.sizes dev.old) (D.pages dev.old) (D.faults dev.old))
+        (device_by (D.sizes dev.new) (D.pages dev.new) (D.faults dev.new)) }
+    ensures count { frame_count mem.new ≡ frame_count mem.old }
 {
     let mut driver = Driver { mem, dev };
     av_evict::age(&mut driver, count, notes)?;
@@ -62,20 +67,22 @@ pub fn age<D: SwapDev>(
 }
 
 /// Completes the first `count` writes in flight, or all where there are fewer, and adds the notes
-/// of how each ended. Nothing is promised after want of memory.
+/// of how each ended. After want of memory as `reclaim`.
 pub fn complete<D: SwapDev>(
     mem: &mut Mem,
     dev: &mut D,
     count: u32,
     notes: &mut Notes,
 ) -> Result<(), AllocError>
-    requires { IsServing (as_told false
-        (device_by (D.sizes dev.old) (D.pages dev.old) (D.faults dev.old))) mem.old }
-    ensures { OnOk result ((told : Bool) → HasAdded
-        (as_told told (device_by (D.sizes dev.old) (D.pages dev.old) (D.faults dev.old)))
-        (as_told told (device_by (D.sizes dev.new) (D.pages dev.new) (D.faults dev.new)))
-        mem.old mem.new notes.old notes.new
-        (λ w l added. CompletesFirst l count (note_events added) Done [])) }
+    requires { IsBetween (D.sizes dev.old) mem.old }
+    ensures completes { OnOk result (Does
+        (device_by (D.sizes dev.old) (D.pages dev.old) (D.faults dev.old))
+        (device_by (D.sizes dev.new) (D.pages dev.new) (D.faults dev.new)) mem.old (λ d d' w r l.
+        HasAdded (λ m w l added. CompletesFirst l count (note_events added) Done [])
+        d d' mem.old mem.new w r l notes.old notes.new)) }
+    ensures same { IsSameDevice (device_by (D.sizes dev.old) (D.pages dev.old) (D.faults dev.old))
+        (device_by (D.sizes dev.new) (D.pages dev.new) (D.faults dev.new)) }
+    ensures count { frame_count mem.new ≡ frame_count mem.old }
 {
     let mut driver = Driver { mem, dev };
     av_evict::complete(&mut driver, count, notes)?;
@@ -83,23 +90,24 @@ pub fn complete<D: SwapDev>(
 }
 
 /// Finds a free frame, behind a direct pass exactly where none is free, and adds the notes of the
-/// pass, which leaves the pinned frame alone. Nothing is promised after want of memory.
+/// pass, which leaves the pinned frame alone. After want of memory as `reclaim`.
 pub fn seek<D: SwapDev>(
     mem: &mut Mem,
     dev: &mut D,
     pinned: Option<u32>,
     notes: &mut Notes,
 ) -> Result<SeekEnd, AllocError>
-    requires { IsServing (as_told false
-        (device_by (D.sizes dev.old) (D.pages dev.old) (D.faults dev.old))) mem.old }
-    ensures seeks { IfOk result (λ end. (told : Bool)
-        → let old = as_told told (device_by (D.sizes dev.old) (D.pages dev.old) (D.faults dev.old))
-        in HasAdded old
-        (as_told told (device_by (D.sizes dev.new) (D.pages dev.new) (D.faults dev.new)))
-        mem.old mem.new notes.old notes.new (λ w l added.
-        Seeks (setting_by old mem.old) (sparing w l pinned) l added
-        × IsEnd (setting_by old mem.old) None pinned end l added)) }
-    ensures next { IfOk result (λ end. FindsNext end mem.new) }
+    requires { IsBetween (D.sizes dev.old) mem.old }
+    ensures seeks { IfOk result (λ end. Does
+        (device_by (D.sizes dev.old) (D.pages dev.old) (D.faults dev.old))
+        (device_by (D.sizes dev.new) (D.pages dev.new) (D.faults dev.new)) mem.old (λ d d' w r l.
+        HasAdded (λ m w l added. Seeks m (sparing w l pinned) l added
+        × IsEnd m None pinned end l added)
+        d d' mem.old mem.new w r l notes.old notes.new)) }
+    ensures next { IfOk result (λ end. IsNext end (view mem.new).free) }
+    ensures same { IsSameDevice (device_by (D.sizes dev.old) (D.pages dev.old) (D.faults dev.old))
+        (device_by (D.sizes dev.new) (D.pages dev.new) (D.faults dev.new)) }
+    ensures count { frame_count mem.new ≡ frame_count mem.old }
 {
     let mut driver = Driver { mem, dev };
     let end = av_evict::seek(&mut driver, pinned, notes)?;

@@ -1,6 +1,6 @@
 use Rattle.std.proofs.Common.{◌≡◌, true, false, sym, ap, subst, ◌∙◌}
 use Rattle.av_frames.specs.Store.{shown, with_dirty}
-use Rattle.av_fault.specs.Between.{KeepsPlaces}
+use Rattle.av_mem.specs.Between.{KeepsPlaces}
 use Rattle.av_fault.proofs.UsingLaws.{Marked, marked-kept, marked-set, marked_by, written-done, written-parts}
 use Rattle.av_fault.proofs.using.write_own.Goals as goal
 use Rattle.av_fault.proofs.using.write_own.Goals.{then-not-settled, else-not-settled}

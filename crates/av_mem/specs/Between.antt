@@ -1,4 +1,4 @@
--- What stands between two events of an access, and what some events leave.
+-- What stands between two events of a command that changes no areas, and what some events leave.
 use Rattle.std.specs.Prelude.{◌≡◌, ℕ, Bool, List, Option, None}
 use Rattle.av_plain.specs.Ledger.{Ledger}
 use Rattle.av_plain.specs.Device.{Device, IsSameDevice, as_told, device_by}
@@ -11,7 +11,6 @@ use Rattle.av_plain.specs.Stands.{free_of}
 use Rattle.av_plain.specs.World.{World}
 use Rattle.av_mem.specs.declared.mem.Mem.{Mem}
 use Rattle.av_mem.specs.Mem.{frame_count, setting_by, view, Serves}
-use Rattle.av_mem.specs.Steps.{KeepsSwap}
 
 -- the memory system over this device stands for these, and the ledger is sound
 pub record KeepsBetween (d : Device) (k : Mem) (w : World) (r : Rmap) (l : Ledger) : Type 0 where
@@ -45,8 +44,3 @@ pub record HasDone (d d' : Device) (old new : Mem) (w : World) (r : Rmap) (l : L
   pub free : ChoosesAll (setting_by d old) None l events (free_of (view old)) (free_of (view new))
   pub same : IsSameDevice d d'
   pub count : frame_count new ≡ frame_count old
-
--- there are as many frames, and the same swap areas are on
-pub record KeepsPlaces (old new : Mem) : Type 0 where
-  pub count : frame_count new ≡ frame_count old
-  pub swap : KeepsSwap old new
