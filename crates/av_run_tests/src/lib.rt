@@ -10,3 +10,5 @@ mod fault;
 mod kernel;
 #[cfg(test)]
 mod replay;
+#[cfg(test)]
+mod swap;

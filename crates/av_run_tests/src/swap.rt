@@ -1,0 +1,127 @@
+//! Runs over a swap area in memory, some of whose calls fail. A machine's device is attached by its
+//! first call, and its header is read by the second.
+
+ghost use Rattle.std.specs.Prelude.{◌+◌, ◌≤◌};
+
+use av_io::{MemSink, MemSource};
+use av_replay::*;
+use av_swapdev::{MemDev, PAGE_LEN};
+use std::alloc::{AllocError, Global};
+use std::test::Fail;
+
+/// A run whose words name one swap area: how many frames and pages there are, which calls of the
+/// device fail, what the trace and its transcript are, and with which byte each page of the area
+/// behind the header begins in the end.
+#[derive(Clone, Copy)]
+struct Case {
+    frames: &'static str,
+    pages: u32,
+    failing: &'static [u64],
+    trace: &'static [u8],
+    text: &'static [u8],
+    first_bytes: &'static [u8],
+}
+
+const CASES: [Case; 3] = [
+    Case {
+        frames: "4",
+        pages: 8,
+        failing: &[2],
+        trace: b"swapon 0\nswapon 0\nswapon 0\n",
+        text: b"err EIO\non 7 0\nerr EBUSY\n",
+        first_bytes: &[0, 0, 0, 0, 0, 0, 0],
+    },
+    // A write fails, and the page is written again. A spoilt page of this device has each bit
+    // inverted.
+    Case {
+        frames: "4",
+        pages: 4,
+        failing: &[3],
+        trace: b"swapon 0\nspawn 1\nmmap 1 4096 rw-\nwrite 1 7fffffffe000 01\nreclaim 1\nage 1\n\
+reclaim 1\ncomplete 1\nread 1 7fffffffe000 1\nage 1\nreclaim 1\nage 1\nreclaim 1\ncomplete 1\n\
+reclaim 1\nread 1 7fffffffe000 1\n",
+        text: b"on 3 0\nok\nmap 7fffffffe000\nok\n new 1 7fffffffe000 0\nok\n keep 0 referenced\nok\n \
+age 0\nok\n put 0 0:1\n unmap 0\n start 0:1\n keep 0 started\nok\n fail 0:1\ndata 01\n map 1 \
+7fffffffe000 0\nok\nok\n keep 0 referenced\nok\n age 0\nok\n unmap 0\n start 0:1\n keep 0 \
+started\nok\n done 0:1\nok\n drop 0:1\ndata 01\n load 0:1 0\n map 1 7fffffffe000 0\n",
+        first_bytes: &[1, 0, 0],
+    },
+    // A pass in vain, one that frees the frame, and a read that fails behind it.
+    Case {
+        frames: "1",
+        pages: 4,
+        failing: &[3, 6],
+        trace: b"swapon 0\nspawn 1\nmmap 1 8192 rw-\nwrite 1 7fffffffd000 01\n\
+write 1 7fffffffe000 02\nread 1 7fffffffd000 1\nwrite 1 7fffffffe000 02\n\
+read 1 7fffffffd000 1\nread 1 7fffffffd000 1\n",
+        text: b"on 3 0\nok\nmap 7fffffffd000\nok\n new 1 7fffffffd000 0\n\
+oom 0 pinned=0 noslot=0 fault=1\n put 0 0:1\n unmap 0\n start 0:1\n fail 0:1\n\
+data 01\n map 1 7fffffffd000 0\n\
+ok\n unmap 0\n start 0:1\n done 0:1\n drop 0:1\n new 1 7fffffffe000 0\n\
+bus 0\n put 0 0:2\n unmap 0\n start 0:2\n done 0:2\n drop 0:2\n\
+data 01\n load 0:1 0\n map 1 7fffffffd000 0\n drop 0:1\n",
+        first_bytes: &[1, 2, 0],
+    },
+];
+
+/// Puts a number into a header.
+fn put(page: &mut [u8; PAGE_LEN], at: usize, number: u32)
+    requires { at + 4 ≤ 4096 }
+{
+    page[at..at + 4].copy_from_slice(&number.to_le_bytes());
+}
+
+/// The header of an area whose last page is this, without bad pages.
+fn header(last: u32) -> [u8; PAGE_LEN] {
+    let mut page = [0; PAGE_LEN];
+    page[PAGE_LEN - 10..].copy_from_slice(b"SWAPSPACE2");
+    put(&mut page, 1024, 1);
+    put(&mut page, 1028, last);
+    page
+}
+
+/// A device with one area of so many pages, at least one.
+fn device(alloc: Global, pages: u32, failing: &[u64]) -> Result<MemDev, AllocError> {
+    let mut area = vec![in alloc; header(pages.max(1) - 1)]?;
+    for _page in 1..pages {
+        area.push([0; PAGE_LEN])?;
+    }
+    Ok(MemDev::new(vec![in alloc; area]?, Vec::from_slice(alloc, failing)?))
+}
+
+/// Whether the area's header is as it was made, and each page behind it begins with its byte.
+fn holds(dev: &MemDev, case: &Case) -> bool {
+    if dev.page(0, 0) != Some(&header(case.pages.max(1) - 1)) {
+        return false;
+    }
+    let mut page = 0;
+    for byte in case.first_bytes {
+        page = (page + 1) % case.pages.max(1);
+        match dev.page(0, page) {
+            Some(bytes) if bytes[0] == *byte => {}
+            _ => return false,
+        }
+    }
+    true
+}
+
+/// Whether a run goes as the case says.
+fn goes_so(alloc: Global, case: &Case) -> Result<bool, AllocError> {
+    let mut words = Vec::new(alloc);
+    for word in ["run", case.frames, "swap"] {
+        words.push(String::from_str(alloc, word)?)?;
+    }
+    let mut source = MemSource::new(Vec::from_slice(alloc, case.trace)?, Vec::new(alloc));
+    let mut text = MemSink::new(alloc, Vec::new(alloc));
+    let mut dev = device(alloc, case.pages, case.failing)?;
+    let outcome = run(alloc, &words, &mut source, &mut text, &mut dev);
+    Ok(outcome.status == Status::Done && text.bytes() == case.text && holds(&dev, case))
+}
+
+#[test]
+fn runs_over_a_device_that_fails(rt: HostRuntime) -> Result<(), Fail> {
+    for case in &CASES {
+        assert!(rt; goes_so(rt.alloc(), case)?);
+    }
+    Ok(())
+}
