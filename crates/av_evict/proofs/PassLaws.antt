@@ -285,7 +285,7 @@ pub turning-at : (a b : SystemView) (n0 n1 : List Note) (pinned : Option ℕ) (t
 turning-at a b n0 n1 pinned turn f at t =
     let i = t at.0 at.1 at.2 at.3 in (
       after_notes at.0 i.gained,
-      subst (λ m. IsSound m (after_notes at.0 i.gained)) (sym i.goes.does.setting) i.goes.sound,
+      subst (λ m. IsSound m (after_notes at.0 i.gained)) (sym i.goes.does.stays.setting) i.goes.sound,
       i.goes.does.stands,
       turning-may a b n0 n1 pinned turn f at.0 at.1 i,
     )
@@ -299,7 +299,7 @@ pub turning-step : (a b c : SystemView) (n0 n1 n2 : List Note) (pinned : Option 
 turning-step a b c n0 n1 n2 pinned turn f next t gives after l sound stands landed =
     let i = t l sound stands landed in
     let l1 = after_notes l i.gained in
-    let s1 : IsSound b.setting l1 = subst (λ m. IsSound m l1) (sym i.goes.does.setting) i.goes.sound in
+    let s1 : IsSound b.setting l1 = subst (λ m. IsSound m l1) (sym i.goes.does.stays.setting) i.goes.sound in
     let may = turning-may a b n0 n1 pinned turn f l sound i in
     let x = gives l1 s1 i.goes.does.stands may in
     let r = turning-split a b n0 n1 pinned turn f l i in
@@ -311,15 +311,15 @@ turning-step a b c n0 n1 n2 pinned turn f next t gives after l sound stands land
       todo = r.0;
       split = i.split ∙ ap (λ y. i.done ++ y) r.1 ∙ sym (append_assoc i.done (f ∷ []) r.0);
       count = one_more i.done turn i.count;
-      first = after (after_notes l1 x.0) (subst (λ m. IsSound m (after_notes l1 x.0)) (sym x.3.does.setting) x.3.sound) x.3.does.stands i.done r.0
+      first = after (after_notes l1 x.0) (subst (λ m. IsSound m (after_notes l1 x.0)) (sym x.3.does.stays.setting) x.3.sound) x.3.does.stands i.done r.0
           ((λ j. reverse (stays.inactive j) ++ reverse (stays.active j)) ∙ r.2);
       gained = i.gained ++ x.0;
       added = x.1 ∙ ap (λ z. z ++ x.0) i.added ∙ append_assoc n0 i.gained x.0;
       goes = goes;
       vain = subst (λ fs. InVain a.setting a.closing l fs (i.gained ++ x.0)) (sym (unpinned-append pinned i.done (f ∷ [])))
           (vain-append a.setting a.closing l (unpinned pinned i.done) (unpinned pinned (f ∷ [])) i.gained x.0 i.vain
-          (subst (λ k. InVain a.setting k l1 (unpinned pinned (f ∷ [])) x.0) i.goes.does.closing
-          (subst (λ m. InVain m b.closing l1 (unpinned pinned (f ∷ [])) x.0) i.goes.does.setting x.2)));
+          (subst (λ k. InVain a.setting k l1 (unpinned pinned (f ∷ [])) x.0) i.goes.does.stays.closing
+          (subst (λ m. InVain m b.closing l1 (unpinned pinned (f ∷ [])) x.0) i.goes.does.stays.setting x.2)));
       stays = subst (Stays l) (sym same) (stays-then l l1 (after_notes l1 x.0) i.stays stays);
     }
   where
@@ -333,12 +333,12 @@ pub turning-freed : (a b c : SystemView) (n0 n1 n2 : List Note) (pinned : Option
 turning-freed a b c n0 n1 n2 pinned turn f t gives l sound stands landed =
     let i = t l sound stands landed in
     let l1 = after_notes l i.gained in
-    let s1 : IsSound b.setting l1 = subst (λ m. IsSound m l1) (sym i.goes.does.setting) i.goes.sound in
+    let s1 : IsSound b.setting l1 = subst (λ m. IsSound m l1) (sym i.goes.does.stays.setting) i.goes.sound in
     let may = turning-may a b n0 n1 pinned turn f l sound i in
     let x = gives l1 s1 i.goes.does.stands may in
     let r = first-is f i.todo i.first in
-    let frees : Frees a.setting a.closing f l1 x.0 = subst (λ k. Frees a.setting k f l1 x.0) i.goes.does.closing
-    (subst (λ m. Frees m b.closing f l1 x.0) i.goes.does.setting x.2.1) in
+    let frees : Frees a.setting a.closing f l1 x.0 = subst (λ k. Frees a.setting k f l1 x.0) i.goes.does.stays.closing
+    (subst (λ m. Frees m b.closing f l1 x.0) i.goes.does.stays.setting x.2.1) in
     let order : unpinned pinned (turn_order l) ≡ unpinned pinned i.done ++ f ∷ unpinned pinned r.0 =
     ap (unpinned pinned) (i.split ∙ ap (λ y. i.done ++ y) r.1) ∙ unpinned-append pinned i.done (f ∷ r.0)
     ∙ ap (λ b. unpinned pinned i.done ++ cond (not b) (f ∷ unpinned pinned r.0) (unpinned pinned r.0)) x.2.0 in

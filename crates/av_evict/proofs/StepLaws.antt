@@ -278,7 +278,7 @@ first-some s (t ∷ fs) h = (fs, ap (λ x. x ∷ fs) (some_is t s (sym h)))
 -- within a step the ledger is sound enough
 pub ended-loose : (a b : SystemView) (l : Ledger) (s : Slot) (failed : Bool) → IsSound a.setting l → Does a b l (end_note failed s ∷ []) →
     IsSoundBut b.setting any_slot (after_note (end_note failed s) l)
-ended-loose a b l s failed sound d = subst (λ m. IsSoundBut m any_slot (after_note (end_note failed s) l)) (sym d.setting)
+ended-loose a b l s failed sound d = subst (λ m. IsSoundBut m any_slot (after_note (end_note failed s) l)) (sym d.stays.setting)
     (loose a.setting _ _ (ended a.setting l failed s sound))
 
 -- and so it goes, whether the slot is an orphan then or not

@@ -15,7 +15,7 @@ use Rattle.av_plain.specs.Sound.{IsSound, IsSoundBut}
 use Rattle.av_plain.proofs.AreasLeft.{rmap_after_all-append}
 use Rattle.av_plain.proofs.Access.{after_notes-append, chooses-append, note_events-append, note_events-all}
 use Rattle.av_plain.proofs.Ledger.{how_many-append}
-use Rattle.av_evict.specs.System.{Adds, Always, Does, Gives, Goes, IsAt, Knows, Makes, SystemView, any_slot}
+use Rattle.av_evict.specs.System.{Adds, Always, Does, Gives, Goes, IsAt, Knows, Makes, Stays, SystemView, any_slot}
 
 -- within a step nothing is asked of uses
 pub loose : (m : Setting) (x : Slot → ℕ) (l : Ledger) → IsSoundBut m x l → IsSoundBut m any_slot l
@@ -65,31 +65,39 @@ claims-then c m w r l ns ms h =
 rose-then : (n k top a b c : ℕ) → min (a + n) top ≤ b → min (b + k) top ≤ c → min (a + (n + k)) top ≤ c
 rose-then n k top a b c h i = omega (arith, h, i)
 
-pub does-then : (a b c : SystemView) (l : Ledger) (ns ms : List Note) → Does a b l ns → Does b c (after_notes l ns) ms → Does a c l (ns ++ ms)
-does-then a b c l ns ms d e = record {
-  stands = subst c.stands (sym (after_notes-append l ns ms)) e.stands;
+pub stays_itself : (a : SystemView) → Stays a a
+stays_itself a = record { setting = refl; closing = refl; names = refl; first = refl; never_falls = omega arith }
+
+pub stays_then : {a b c : SystemView} → Stays a b → Stays b c → Stays a c
+stays_then d e = record {
   setting = e.setting ∙ d.setting;
   closing = e.closing ∙ d.closing;
   names = e.names ∙ d.names;
   first = e.first ∙ d.first;
+  never_falls = omega (arith, d.never_falls, e.never_falls);
+}
+
+pub does-then : (a b c : SystemView) (l : Ledger) (ns ms : List Note) → Does a b l ns → Does b c (after_notes l ns) ms → Does a c l (ns ++ ms)
+does-then a b c l ns ms d e = record {
+  stands = subst c.stands (sym (after_notes-append l ns ms)) e.stands;
+  stays = stays_then d.stays e.stays;
   chooses = subst (λ es. ChoosesAll a.setting a.closing l es a.free c.free) (sym (note_events-append ns ms))
       (chooses-append a.setting a.closing l (note_events ns) (note_events ms) a.free b.free c.free d.chooses
       (subst (λ l'. ChoosesAll a.setting a.closing l' (note_events ms) b.free c.free) (sym (note_events-all l ns))
-      (subst (λ m. ChoosesAll m a.closing (after_notes l ns) (note_events ms) b.free c.free) d.setting
-      (subst (λ k. ChoosesAll b.setting k (after_notes l ns) (note_events ms) b.free c.free) d.closing e.chooses))));
+      (subst (λ m. ChoosesAll m a.closing (after_notes l ns) (note_events ms) b.free c.free) d.stays.setting
+      (subst (λ k. ChoosesAll b.setting k (after_notes l ns) (note_events ms) b.free c.free) d.stays.closing e.chooses))));
   claims = λ w r h. claims-then c a.setting w r l ns ms
       (subst (λ m. c.claims (with_loads m (with_loads a.setting w l (note_events ns)) (after_notes l ns) (note_events ms))
-      (rmap_after_all (after_notes l ns) (note_events ms) (rmap_after_all l (note_events ns) r)) (after_notes (after_notes l ns) ms)) d.setting
+      (rmap_after_all (after_notes l ns) (note_events ms) (rmap_after_all l (note_events ns) r)) (after_notes (after_notes l ns) ms)) d.stays.setting
       (e.claims (with_loads a.setting w l (note_events ns)) (rmap_after_all l (note_events ns) r) (d.claims w r h)));
   faults = subst (λ n. RoseBy n a.faults c.faults) (sym (how_many-append is_fail ns ms))
       (rose-then (fails ns) (fails ms) (2 ^ 64 - 1) a.faults b.faults c.faults d.faults e.faults);
-  never_falls = omega (arith, d.never_falls, e.never_falls);
 }
 
 pub goes-then : (a b c : SystemView) (l : Ledger) (ns ms : List Note) → Goes a b l ns → Goes b c (after_notes l ns) ms → Goes a c l (ns ++ ms)
 goes-then a b c l ns ms d e = record {
   sound = subst (IsSound a.setting) (sym (after_notes-append l ns ms))
-      (subst (λ m. IsSound m (after_notes (after_notes l ns) ms)) d.does.setting e.sound);
+      (subst (λ m. IsSound m (after_notes (after_notes l ns) ms)) d.does.stays.setting e.sound);
   does = does-then a b c l ns ms d.does e.does;
 }
 
@@ -105,13 +113,9 @@ pub does-none : (a : SystemView) (l : Ledger) → a.stands l → Does a a l []
 does-none a l h = record {
   claims = λ w r c. subst (λ x. a.claims x r l) (sym (loads-none w (is_some a.setting.headers))) c;
   stands = h;
-  setting = refl;
-  closing = refl;
-  names = refl;
-  first = refl;
+  stays = stays_itself a;
   chooses = refl;
   faults = rose-none a.faults (2 ^ 64 - 1) a.faults a.faults refl (omega arith);
-  never_falls = omega arith;
 }
 
 -- ---- calls put together
@@ -143,7 +147,7 @@ gives-so a b n0 n1 R Q Q' gives more l sound stands ready =
       x.0,
       x.1,
       more l x.0 sound stands x.2 x.3
-          (subst (λ m. IsSoundBut m any_slot (after_notes l x.0)) (sym x.3.does.setting) (loose a.setting _ _ x.3.sound)),
+          (subst (λ m. IsSoundBut m any_slot (after_notes l x.0)) (sym x.3.does.stays.setting) (loose a.setting _ _ x.3.sound)),
       x.3,
     )
 
@@ -163,7 +167,7 @@ pub gives-then : (a b c : SystemView) (n0 n1 n2 : List Note) (R1 R2 : Ledger →
 gives-then a b c n0 n1 n2 R1 R2 Q1 Q2 Q first second ready both l sound stands r =
     let x = first l sound stands r in
     let l1 = after_notes l x.0 in
-    let s1 : IsSound b.setting l1 = subst (λ m. IsSound m l1) (sym x.3.does.setting) x.3.sound in
+    let s1 : IsSound b.setting l1 = subst (λ m. IsSound m l1) (sym x.3.does.stays.setting) x.3.sound in
     let y = second l1 s1 x.3.does.stands (ready l x.0 sound r x.2 x.3.sound) in
     (x.0 ++ y.0, y.1 ∙ ap (λ z. z ++ y.0) x.1 ∙ append_assoc n0 x.0 y.0, both l x.0 y.0 sound r x.2 y.2, goes-then a b c l x.0 y.0 x.3 y.3)
 
@@ -174,7 +178,7 @@ pub gives-at : (a b : SystemView) (n0 n1 : List Note) (R1 R2 : Ledger → Type 0
 gives-at a b n0 n1 R1 R2 Q1 at gives ready =
     let x = gives at.0 at.1 at.2 at.3 in (
       after_notes at.0 x.0,
-      subst (λ m. IsSound m (after_notes at.0 x.0)) (sym x.3.does.setting) x.3.sound,
+      subst (λ m. IsSound m (after_notes at.0 x.0)) (sym x.3.does.stays.setting) x.3.sound,
       x.3.does.stands,
       ready at.0 x.0 at.1 at.3 x.2 x.3.sound,
     )
@@ -201,14 +205,14 @@ pub midway-step : (a b c : SystemView) (n0 n1 n2 : List Note) (Rest Next Whole Q
 midway-step a b c n0 n1 n2 Rest Next Whole Q mid gives step l sound stands =
     let i = mid l sound stands in
     let l1 = after_notes l i.gained in
-    let s1 : IsSound b.setting l1 = subst (λ m. IsSound m l1) (sym i.goes.does.setting) i.goes.sound in
+    let s1 : IsSound b.setting l1 = subst (λ m. IsSound m l1) (sym i.goes.does.stays.setting) i.goes.sound in
     let g = gives l1 s1 i.goes.does.stands tt in
     record {
       gained = i.gained ++ g.0;
       added = g.1 ∙ ap (λ x. x ++ g.0) i.added ∙ append_assoc n0 i.gained g.0;
       goes = goes-then a b c l i.gained g.0 i.goes g.3;
       more = λ rest h. subst (Whole l) (sym (append_assoc i.gained g.0 rest))
-          (i.more (g.0 ++ rest) (step l1 g.0 rest i.goes.does.setting i.goes.does.closing s1 i.goes.does.stands g.2
+          (i.more (g.0 ++ rest) (step l1 g.0 rest i.goes.does.stays.setting i.goes.does.stays.closing s1 i.goes.does.stands g.2
           (subst (λ x. Next x rest) (after_notes-append l i.gained g.0) h)));
     }
 
@@ -220,7 +224,7 @@ midway-end a b n0 n1 Rest Whole Q mid none at l sound stands ready =
       i.gained,
       i.added,
       at l i.gained stands sound (subst (Whole l) (append-nil i.gained) (i.more [] (none (after_notes l i.gained)
-          (subst (λ m. IsSound m (after_notes l i.gained)) (sym i.goes.does.setting) i.goes.sound) i.goes.does.stands))),
+          (subst (λ m. IsSound m (after_notes l i.gained)) (sym i.goes.does.stays.setting) i.goes.sound) i.goes.does.stands))),
       i.goes,
     )
 
@@ -228,4 +232,4 @@ pub midway-at : (a b : SystemView) (n0 n1 : List Note) (Rest Whole : Ledger → 
     IsAt b Always
 midway-at a b n0 n1 Rest Whole at mid =
     let i = mid at.0 at.1 at.2 in
-    (after_notes at.0 i.gained, subst (λ m. IsSound m (after_notes at.0 i.gained)) (sym i.goes.does.setting) i.goes.sound, i.goes.does.stands, tt)
+    (after_notes at.0 i.gained, subst (λ m. IsSound m (after_notes at.0 i.gained)) (sym i.goes.does.stays.setting) i.goes.sound, i.goes.does.stands, tt)

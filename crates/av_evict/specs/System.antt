@@ -41,17 +41,21 @@ Knows k P = (l : Ledger) × IsSoundBut k.setting any_slot l × k.stands l × P l
 abbrev pub Tells : SystemView → (Ledger → Type 0) → Type 0
 Tells k P = (l : Ledger) → IsSoundBut k.setting any_slot l → k.stands l → P l
 
--- what the notes tell has happened to a ledger that it stood for. The memories are as they were,
--- but for what a load makes unclaimed; areas, anon_vmas and homes are what the notes make of them
-pub record Does (old new : SystemView) (l : Ledger) (notes : List Note) : Type 0 where
-  pub stands : new.stands (after_notes l notes)
+-- what no step changes, and a count of faults that never falls
+pub record Stays (old new : SystemView) : Type 0 where
   pub setting : new.setting ≡ old.setting
   pub closing : new.closing ≡ old.closing
   pub names : new.names ≡ old.names
   pub first : new.first ≡ old.first
+  pub never_falls : old.faults ≤ new.faults
+
+-- what the notes tell has happened to a ledger that it stood for. The memories are as they were,
+-- but for what a load makes unclaimed; areas, anon_vmas and homes are what the notes make of them
+pub record Does (old new : SystemView) (l : Ledger) (notes : List Note) : Type 0 where
+  pub stands : new.stands (after_notes l notes)
+  pub stays : Stays old new
   pub chooses : ChoosesAll old.setting old.closing l (note_events notes) old.free new.free
   pub faults : RoseBy (fails notes) old.faults new.faults
-  pub never_falls : old.faults ≤ new.faults
   pub claims : (w : World) (r : Rmap) → old.claims w r l
       → new.claims (with_loads old.setting w l (note_events notes))
       (rmap_after_all l (note_events notes) r) (after_notes l notes)

@@ -6,7 +6,7 @@ ghost use Rattle.av_plain.specs.Ledger.{slot_of};
 ghost use Rattle.av_plain.specs.Reclaim.{Outcome, Outcomes, from_tail, is_in_writeback as is_writeback};
 ghost use Rattle.av_evict.specs.Inactive.{GoesOut, IsSentIdle};
 ghost use Rattle.av_evict.specs.Steps.{IsUsed, spares};
-ghost use Rattle.av_evict.specs.System.{Always, Gives, IsAt, Tells};
+ghost use Rattle.av_evict.specs.System.{Always, Gives, IsAt, Stays, Tells};
 
 use crate::steps::{age_one, drop_slot, keep, send, start};
 use crate::system::System;
@@ -18,9 +18,10 @@ use std::alloc::AllocError;
 /// sent to its slot, and then its write begins, or it is free.
 pub fn reclaim<S: System>(system: &mut S, count: u32, notes: &mut Notes) -> Result<(), AllocError>
     requires { IsAt (S.view system.old false) Always }
-    ensures { OnOk result ((told : Bool) → let old = S.view system.old told in
+    ensures gives { OnOk result ((told : Bool) → let old = S.view system.old told in
         Gives old (S.view system.new told) notes.old notes.new Always (λ l added.
         Outcomes old.setting (spares old.closing None) l (from_tail count l.inactive) added)) }
+    ensures stays { (told : Bool) → Stays (S.view system.old told) (S.view system.new told) }
 {
     let turns = count.min(system.inactive_len());
     for _turn in 0..turns {
@@ -35,9 +36,10 @@ pub fn reclaim<S: System>(system: &mut S, count: u32, notes: &mut Notes) -> Resu
 // Reclaims a frame in use: the first test that holds says what becomes of it.
 fn reclaim_one<S: System>(system: &mut S, frame: u32, notes: &mut Notes) -> Result<(), AllocError>
     requires { IsAt (S.view system.old false) (IsUsed frame) }
-    ensures { OnOk result ((told : Bool) → let old = S.view system.old told in
+    ensures gives { OnOk result ((told : Bool) → let old = S.view system.old told in
         Gives old (S.view system.new told) notes.old notes.new (IsUsed frame) (λ l added.
         Outcome old.setting (spares old.closing None) l frame added)) }
+    ensures stays { (told : Bool) → Stays (S.view system.old told) (S.view system.new told) }
 {
     if is_in_writeback(system, frame) {
         keep(system, frame, Cause::Writeback, notes)?;
@@ -76,8 +78,9 @@ fn write_or_drop<S: System>(
     notes: &mut Notes,
 ) -> Result<(), AllocError>
     requires { IsAt (S.view system.old false) (IsSentIdle frame slot) }
-    ensures { OnOk result ((told : Bool) → Gives (S.view system.old told) (S.view system.new told)
-        notes.old notes.new (IsSentIdle frame slot) (GoesOut frame slot)) }
+    ensures gives { OnOk result ((told : Bool) → Gives (S.view system.old told)
+        (S.view system.new told) notes.old notes.new (IsSentIdle frame slot) (GoesOut frame slot)) }
+    ensures stays { (told : Bool) → Stays (S.view system.old told) (S.view system.new told) }
 {
     let dirty = system.is_dirty(frame);
     if dirty {
@@ -92,8 +95,10 @@ fn write_or_drop<S: System>(
 /// Moves the last `count` frames of active to inactive, or all where there are fewer.
 pub fn age<S: System>(system: &mut S, count: u32, notes: &mut Notes) -> Result<(), AllocError>
     requires { IsAt (S.view system.old false) Always }
-    ensures { OnOk result ((told : Bool) → Gives (S.view system.old told) (S.view system.new told)
-        notes.old notes.new Always (λ l added. added ≡ map Aged (from_tail count l.active))) }
+    ensures gives { OnOk result ((told : Bool) → Gives (S.view system.old told)
+        (S.view system.new told) notes.old notes.new Always
+        (λ l added. added ≡ map Aged (from_tail count l.active))) }
+    ensures stays { (told : Bool) → Stays (S.view system.old told) (S.view system.new told) }
 {
     let turns = count.min(system.active_len());
     for _turn in 0..turns {

@@ -6,8 +6,12 @@
 //! `Completes` or `Seeks`, and the system stands for the ledger after them, which is sound again.
 //! So it is whether the device's pages are told or not, and what is asked is asked of the system
 //! that doesn't tell them.
-//! Where a note finds no memory the call answers `AllocError`, and promises nothing.
-#![tactic(auto)]
+//! Where a note finds no memory the call answers `AllocError`, and promises of its ledgers nothing.
+//! What no step changes is as it was then too, and the count of faults has not fallen.
+#![tactic(
+    auto,
+    using(crate::proofs::SystemLaws::stays_itself, crate::proofs::SystemLaws::stays_then)
+)]
 
 mod flight;
 mod inactive;

@@ -6,7 +6,7 @@ ghost use Rattle.av_plain.specs.Ledger.{has_free as is_any_free};
 ghost use Rattle.av_plain.specs.Pass.{IsPass, Seeks, out_of as numbers};
 ghost use Rattle.av_evict.specs.Pass.{AreTurns, Counts, IsEnd, IsLanded, IsNext, IsPassed, turn_order};
 ghost use Rattle.av_evict.specs.Steps.{IsUsed, spares};
-ghost use Rattle.av_evict.specs.System.{Always, Gives, IsAt, Knows, Tells};
+ghost use Rattle.av_evict.specs.System.{Always, Gives, IsAt, Knows, Stays, Tells};
 
 use crate::flight::complete;
 use crate::system::System;
@@ -37,6 +37,7 @@ pub fn seek<S: System>(
         × IsEnd old.setting old.closing pinned end l added)) }
     ensures next { IfOk result (λ end. (told : Bool) →
         IsNext end (S.view system.new told).free.frames) }
+    ensures stays { (told : Bool) → Stays (S.view system.old told) (S.view system.new told) }
 {
     if let Some(frame) = system.free_frame() {
         return Ok(SeekEnd::Frame(frame));
@@ -59,6 +60,7 @@ fn direct<S: System>(
         × IsEnd old.setting old.closing pinned end l added)) }
     ensures next { IfOk result (λ end. (told : Bool) →
         IsNext end (S.view system.new told).free.frames) }
+    ensures stays { (told : Bool) → Stays (S.view system.old told) (S.view system.new told) }
 {
     pass(system, pinned, notes)?;
     match system.free_frame() {
@@ -70,9 +72,10 @@ fn direct<S: System>(
 // The pass itself.
 fn pass<S: System>(system: &mut S, pinned: Option<u32>, notes: &mut Notes) -> Result<(), AllocError>
     requires { IsAt (S.view system.old false) Always }
-    ensures { OnOk result ((told : Bool) → let old = S.view system.old told in
+    ensures gives { OnOk result ((told : Bool) → let old = S.view system.old told in
         Gives old (S.view system.new told) notes.old notes.new Always
         (IsPassed old.setting old.closing pinned)) }
+    ensures stays { (told : Bool) → Stays (S.view system.old told) (S.view system.new told) }
 {
     let flying = system.flight_len();
     complete(system, flying, notes)?;
@@ -134,9 +137,10 @@ fn turns<S: System>(
     notes: &mut Notes,
 ) -> Result<(), AllocError>
     requires { IsAt (S.view system.old false) IsLanded }
-    ensures { OnOk result ((told : Bool) → let old = S.view system.old told in
+    ensures gives { OnOk result ((told : Bool) → let old = S.view system.old told in
         Gives old (S.view system.new told) notes.old notes.new IsLanded
         (AreTurns old.setting old.closing pinned)) }
+    ensures stays { (told : Bool) → Stays (S.view system.old told) (S.view system.new told) }
 {
     let mut next = first_in_turn(system);
     let all = u64::from(system.inactive_len()) + u64::from(system.active_len());

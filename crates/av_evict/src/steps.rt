@@ -4,7 +4,7 @@ ghost use Rattle.std.specs.Prelude.{◌≡◌, ◌∷◌, [], OnOk, IfOk, Bool, 
 ghost use Rattle.av_trace.specs.declared.note.Note.TheVariants.{Aged, Dropped, Kept, Started};
 ghost use Rattle.av_plain.specs.Pass.{end_note as note_of};
 ghost use Rattle.av_evict.specs.Steps.{EndsFirst, GetsSlot, IsInCache, IsSent, IsUnmapped, IsUsed, MayDrop, MayStart};
-ghost use Rattle.av_evict.specs.System.{Adds, Always, Gives, IsAt};
+ghost use Rattle.av_evict.specs.System.{Adds, Always, Gives, IsAt, Stays};
 
 use crate::system::{System, WriteEnd};
 use av_base::Slot;
@@ -18,8 +18,9 @@ pub fn finish_first<S: System>(
     notes: &mut Notes,
 ) -> Result<Option<WriteEnd>, AllocError>
     requires { IsAt (S.view system.old false) Always }
-    ensures { IfOk result (λ end. (told : Bool) → Gives (S.view system.old told)
+    ensures gives { IfOk result (λ end. (told : Bool) → Gives (S.view system.old told)
         (S.view system.new told) notes.old notes.new Always (EndsFirst end)) }
+    ensures stays { (told : Bool) → Stays (S.view system.old told) (S.view system.new told) }
 {
     let Some(end) = system.finish() else {
         return Ok(None);
@@ -46,8 +47,9 @@ fn end_note(end: WriteEnd) -> Note
 /// Puts the write of a cached slot last in flight.
 pub fn start<S: System>(system: &mut S, slot: Slot, notes: &mut Notes) -> Result<(), AllocError>
     requires { IsAt (S.view system.old false) (MayStart slot) }
-    ensures { OnOk result ((told : Bool) → Gives (S.view system.old told) (S.view system.new told)
-        notes.old notes.new (MayStart slot) (Adds (Started slot ∷ []))) }
+    ensures gives { OnOk result ((told : Bool) → Gives (S.view system.old told)
+        (S.view system.new told) notes.old notes.new (MayStart slot) (Adds (Started slot ∷ []))) }
+    ensures stays { (told : Bool) → Stays (S.view system.old told) (S.view system.new told) }
 {
     system.start(slot);
     notes.push(Note::Started(slot))?;
@@ -57,8 +59,9 @@ pub fn start<S: System>(system: &mut S, slot: Slot, notes: &mut Notes) -> Result
 /// Takes a slot out of the cache.
 pub fn drop_slot<S: System>(system: &mut S, slot: Slot, notes: &mut Notes) -> Result<(), AllocError>
     requires { IsAt (S.view system.old false) (MayDrop slot) }
-    ensures { OnOk result ((told : Bool) → Gives (S.view system.old told) (S.view system.new told)
-        notes.old notes.new (MayDrop slot) (Adds (Dropped slot ∷ []))) }
+    ensures gives { OnOk result ((told : Bool) → Gives (S.view system.old told)
+        (S.view system.new told) notes.old notes.new (MayDrop slot) (Adds (Dropped slot ∷ []))) }
+    ensures stays { (told : Bool) → Stays (S.view system.old told) (S.view system.new told) }
 {
     system.drop_slot(slot);
     notes.push(Note::Dropped(slot))?;
@@ -73,9 +76,10 @@ pub fn send<S: System>(
     notes: &mut Notes,
 ) -> Result<Option<Slot>, AllocError>
     requires { IsAt (S.view system.old false) (IsUsed frame) }
-    ensures { IfOk result (λ slot. (told : Bool) → let old = S.view system.old told in
+    ensures gives { IfOk result (λ slot. (told : Bool) → let old = S.view system.old told in
         Gives old (S.view system.new told) notes.old notes.new (IsUsed frame)
         (IsSent old.setting old.closing frame slot)) }
+    ensures stays { (told : Bool) → Stays (S.view system.old told) (S.view system.new told) }
 {
     let Some(slot) = slot_for(system, frame, notes)? else {
         return Ok(None);
@@ -91,9 +95,10 @@ fn slot_for<S: System>(
     notes: &mut Notes,
 ) -> Result<Option<Slot>, AllocError>
     requires { IsAt (S.view system.old false) (IsUsed frame) }
-    ensures { IfOk result (λ slot. (told : Bool) → let old = S.view system.old told in
+    ensures gives { IfOk result (λ slot. (told : Bool) → let old = S.view system.old told in
         Gives old (S.view system.new told) notes.old notes.new (IsUsed frame)
         (GetsSlot old.setting old.closing frame slot)) }
+    ensures stays { (told : Bool) → Stays (S.view system.old told) (S.view system.new told) }
 {
     if let Some(slot) = system.slot(frame) {
         return Ok(Some(slot));
@@ -108,8 +113,9 @@ fn slot_for<S: System>(
 // Unmaps a cached frame where an entry names it.
 fn unmap<S: System>(system: &mut S, frame: u32, notes: &mut Notes) -> Result<(), AllocError>
     requires { IsAt (S.view system.old false) (IsInCache frame) }
-    ensures { OnOk result ((told : Bool) → Gives (S.view system.old told) (S.view system.new told)
-        notes.old notes.new (IsInCache frame) (IsUnmapped frame)) }
+    ensures gives { OnOk result ((told : Bool) → Gives (S.view system.old told)
+        (S.view system.new told) notes.old notes.new (IsInCache frame) (IsUnmapped frame)) }
+    ensures stays { (told : Bool) → Stays (S.view system.old told) (S.view system.new told) }
 {
     if system.is_mapped(frame) {
         system.unmap(frame)?;
@@ -126,8 +132,10 @@ pub fn keep<S: System>(
     notes: &mut Notes,
 ) -> Result<(), AllocError>
     requires { IsAt (S.view system.old false) (IsUsed frame) }
-    ensures { OnOk result ((told : Bool) → Gives (S.view system.old told) (S.view system.new told)
-        notes.old notes.new (IsUsed frame) (Adds (Kept frame cause ∷ []))) }
+    ensures gives { OnOk result ((told : Bool) → Gives (S.view system.old told)
+        (S.view system.new told) notes.old notes.new (IsUsed frame)
+        (Adds (Kept frame cause ∷ []))) }
+    ensures stays { (told : Bool) → Stays (S.view system.old told) (S.view system.new told) }
 {
     system.keep(frame, cause);
     notes.push(Note::Kept { frame, cause })?;
@@ -137,8 +145,9 @@ pub fn keep<S: System>(
 /// Moves a frame in use to the head of inactive.
 pub fn age_one<S: System>(system: &mut S, frame: u32, notes: &mut Notes) -> Result<(), AllocError>
     requires { IsAt (S.view system.old false) (IsUsed frame) }
-    ensures { OnOk result ((told : Bool) → Gives (S.view system.old told) (S.view system.new told)
-        notes.old notes.new (IsUsed frame) (Adds (Aged frame ∷ []))) }
+    ensures gives { OnOk result ((told : Bool) → Gives (S.view system.old told)
+        (S.view system.new told) notes.old notes.new (IsUsed frame) (Adds (Aged frame ∷ []))) }
+    ensures stays { (told : Bool) → Stays (S.view system.old told) (S.view system.new told) }
 {
     system.age(frame);
     notes.push(Note::Aged(frame))?;

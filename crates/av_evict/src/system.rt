@@ -7,7 +7,7 @@ ghost use Rattle.av_trace.specs.declared.note.Note.TheVariants.{Aged, Dropped, K
 ghost use Rattle.av_plain.specs.Ledger.{has_free, in_flight, is_free, is_orphan, is_stale, map_count, may_give, no_slot, slot_of};
 ghost use Rattle.av_plain.specs.Reclaim.{is_referenced};
 ghost use Rattle.av_evict.specs.Steps.{IsUsed, MayDrop, MayPut, MayStart, MayUnmap, notes_of_end, put_notes, slot_of_end};
-ghost use Rattle.av_evict.specs.System.{Always, Knows, Makes, SystemView, Tells};
+ghost use Rattle.av_evict.specs.System.{Always, Knows, Makes, Stays, SystemView, Tells};
 
 use av_base::Slot;
 use av_trace::Cause;
@@ -120,19 +120,22 @@ pub trait System {
             MayPut frame l → MatchOption result (no_slot old.setting old.closing l ≡ true)
             (λ s. may_give old.setting old.closing l s ≡ true)) }
         ensures puts { (told : Bool) → Makes (view self.old told) (view self.new told)
-            (MayPut frame) (put_notes frame result) };
+            (MayPut frame) (put_notes frame result) }
+        ensures stays { (told : Bool) → Stays (view self.old told) (view self.new told) };
 
     /// Each entry of a cached frame becomes its slot.
     fn unmap(&mut self, frame: u32) -> Result<(), AllocError>
         requires { Knows (view self.old false) (MayUnmap frame) }
-        ensures { OnOk result ((told : Bool) → Makes (view self.old told) (view self.new told)
-            (MayUnmap frame) (Unmapped frame ∷ [])) };
+        ensures makes { OnOk result ((told : Bool) → Makes (view self.old told) (view self.new told)
+            (MayUnmap frame) (Unmapped frame ∷ [])) }
+        ensures stays { (told : Bool) → Stays (view self.old told) (view self.new told) };
 
     /// Puts the write of a cached slot last in flight.
     fn start(&mut self, slot: Slot)
         requires { Knows (view self.old false) (MayStart slot) }
-        ensures { (told : Bool) → Makes (view self.old told) (view self.new told) (MayStart slot)
-            (Started slot ∷ []) };
+        ensures makes { (told : Bool) → Makes (view self.old told) (view self.new told)
+            (MayStart slot) (Started slot ∷ []) }
+        ensures stays { (told : Bool) → Stays (view self.old told) (view self.new told) };
 
     /// Ends the first write in flight. None exactly where none is in flight.
     fn finish(&mut self) -> Option<WriteEnd>
@@ -140,24 +143,28 @@ pub trait System {
         ensures first { (told : Bool) → Tells (view self.old told)
             (λ l. slot_of_end result ≡ slice_get l.flight 0) }
         ensures ends { (told : Bool) → Makes (view self.old told) (view self.new told) Always
-            (notes_of_end result) };
+            (notes_of_end result) }
+        ensures stays { (told : Bool) → Stays (view self.old told) (view self.new told) };
 
     /// Takes a slot out of the cache.
     fn drop_slot(&mut self, slot: Slot)
         requires { Knows (view self.old false) (MayDrop slot) }
-        ensures { (told : Bool) → Makes (view self.old told) (view self.new told) (MayDrop slot)
-            (Dropped slot ∷ []) };
+        ensures makes { (told : Bool) → Makes (view self.old told) (view self.new told)
+            (MayDrop slot) (Dropped slot ∷ []) }
+        ensures stays { (told : Bool) → Stays (view self.old told) (view self.new told) };
 
     /// Moves a frame in use to the head of the list that the cause names. A referenced one is not
     /// seen any more.
     fn keep(&mut self, frame: u32, cause: Cause)
         requires { Knows (view self.old false) (IsUsed frame) }
-        ensures { (told : Bool) → Makes (view self.old told) (view self.new told) (IsUsed frame)
-            (Kept frame cause ∷ []) };
+        ensures makes { (told : Bool) → Makes (view self.old told) (view self.new told)
+            (IsUsed frame) (Kept frame cause ∷ []) }
+        ensures stays { (told : Bool) → Stays (view self.old told) (view self.new told) };
 
     /// Moves a frame in use to the head of inactive. It is not seen any more.
     fn age(&mut self, frame: u32)
         requires { Knows (view self.old false) (IsUsed frame) }
-        ensures { (told : Bool) → Makes (view self.old told) (view self.new told) (IsUsed frame)
-            (Aged frame ∷ []) };
+        ensures makes { (told : Bool) → Makes (view self.old told) (view self.new told)
+            (IsUsed frame) (Aged frame ∷ []) }
+        ensures stays { (told : Bool) → Stays (view self.old told) (view self.new told) };
 }

@@ -4,7 +4,7 @@ ghost use Rattle.std.specs.Prelude.{◌≡◌, ◌∷◌, [], IfOk, Bool, false}
 ghost use Rattle.av_trace.specs.declared.note.Note.TheVariants.{Started};
 ghost use Rattle.av_plain.specs.Fault.{is_pinned as pins};
 ghost use Rattle.av_plain.specs.Pass.{end_note};
-ghost use Rattle.av_evict.specs.System.{Adds, Gives, IsAt};
+ghost use Rattle.av_evict.specs.System.{Adds, Gives, IsAt, Stays};
 ghost use Rattle.av_evict.specs.Turn.{IsCleaned, IsEvicted, IsSentTo, IsTurn, IsTurnUnlessPinned, MayTurn, MayWrite, has_failed as failed_in};
 
 use crate::steps::{drop_slot, finish_first, send, start};
@@ -21,9 +21,10 @@ pub fn turn_unless_pinned<S: System>(
     notes: &mut Notes,
 ) -> Result<bool, AllocError>
     requires { IsAt (S.view system.old false) (MayTurn frame) }
-    ensures { IfOk result (λ freed. (told : Bool) → let old = S.view system.old told in
+    ensures gives { IfOk result (λ freed. (told : Bool) → let old = S.view system.old told in
         Gives old (S.view system.new told) notes.old notes.new (MayTurn frame)
         (IsTurnUnlessPinned old.setting old.closing pinned frame freed)) }
+    ensures stays { (told : Bool) → Stays (S.view system.old told) (S.view system.new told) }
 {
     if is_pinned(pinned, frame) {
         return Ok(false);
@@ -45,9 +46,10 @@ pub fn is_pinned(pinned: Option<u32>, frame: u32) -> bool
 // A frame in use has its turn. Whether it is free then.
 fn turn<S: System>(system: &mut S, frame: u32, notes: &mut Notes) -> Result<bool, AllocError>
     requires { IsAt (S.view system.old false) (MayTurn frame) }
-    ensures { IfOk result (λ freed. (told : Bool) → let old = S.view system.old told in
+    ensures gives { IfOk result (λ freed. (told : Bool) → let old = S.view system.old told in
         Gives old (S.view system.new told) notes.old notes.new (MayTurn frame)
         (IsTurn old.setting old.closing frame freed)) }
+    ensures stays { (told : Bool) → Stays (S.view system.old told) (S.view system.new told) }
 {
     let Some(slot) = send(system, frame, notes)? else {
         return Ok(false);
@@ -65,8 +67,9 @@ fn evict<S: System>(
     notes: &mut Notes,
 ) -> Result<bool, AllocError>
     requires { IsAt (S.view system.old false) (IsSentTo frame slot) }
-    ensures { IfOk result (λ freed. (told : Bool) → Gives (S.view system.old told)
+    ensures gives { IfOk result (λ freed. (told : Bool) → Gives (S.view system.old told)
         (S.view system.new told) notes.old notes.new (IsSentTo frame slot) (IsEvicted slot freed)) }
+    ensures stays { (told : Bool) → Stays (S.view system.old told) (S.view system.new told) }
 {
     let failed = clean(system, frame, slot, notes)?;
     if failed {
@@ -84,9 +87,10 @@ fn clean<S: System>(
     notes: &mut Notes,
 ) -> Result<bool, AllocError>
     requires { IsAt (S.view system.old false) (IsSentTo frame slot) }
-    ensures { IfOk result (λ failed. (told : Bool) → Gives (S.view system.old told)
+    ensures gives { IfOk result (λ failed. (told : Bool) → Gives (S.view system.old told)
         (S.view system.new told) notes.old notes.new (IsSentTo frame slot)
         (IsCleaned slot failed)) }
+    ensures stays { (told : Bool) → Stays (S.view system.old told) (S.view system.new told) }
 {
     if !system.is_dirty(frame) {
         return Ok(false);
@@ -98,9 +102,10 @@ fn clean<S: System>(
 // Writes a slot's page at once. Whether that failed.
 fn write<S: System>(system: &mut S, slot: Slot, notes: &mut Notes) -> Result<bool, AllocError>
     requires { IsAt (S.view system.old false) (MayWrite slot) }
-    ensures { IfOk result (λ failed. (told : Bool) → Gives (S.view system.old told)
+    ensures gives { IfOk result (λ failed. (told : Bool) → Gives (S.view system.old told)
         (S.view system.new told) notes.old notes.new (MayWrite slot)
         (Adds (Started slot ∷ end_note failed slot ∷ []))) }
+    ensures stays { (told : Bool) → Stays (S.view system.old told) (S.view system.new told) }
 {
     start(system, slot, notes)?;
     let end = finish_first(system, notes)?;

@@ -1,9 +1,13 @@
 use Rattle.std.proofs.Common.{Bool, ◌-◌}
+use Rattle.av_evict.specs.System.{Stays}
 use Rattle.av_evict.proofs.TailLaws.{ReclaimsLeft}
 use Rattle.av_evict.proofs.SystemLaws.{IsMidway}
 use Rattle.av_evict.proofs.inactive.reclaim.Given as goal
 
 abbrev pub invariant-loop-turn : goal.invariant-loop-turn
-invariant-loop-turn g l = (told : Bool) → let k = g.S.System.view l.fn.system told in
-    IsMidway k (g.S.System.view l.system told) l.fn.notes l.notes (ReclaimsLeft k.setting k.closing (l.turns - l._turn))
-    (ReclaimsLeft k.setting k.closing l.turns)
+invariant-loop-turn g l = record {
+  midway : (told : Bool) → let k = g.S.System.view l.fn.system told in
+      IsMidway k (g.S.System.view l.system told) l.fn.notes l.notes (ReclaimsLeft k.setting k.closing (l.turns - l._turn))
+      (ReclaimsLeft k.setting k.closing l.turns);
+  stays : (told : Bool) → Stays (g.S.System.view l.fn.system told) (g.S.System.view l.system told);
+}

@@ -20,21 +20,21 @@ keep-requires g c =
     let f = c.args.frame in
     let s = c.args.slot in
     gives-at _ _ _ _ (IsSentIdle f s) (IsUsed f) (Adds (Started s ∷ [])) c.requires
-    (gives-as _ _ _ _ (MayStart s) (IsSentIdle f s) (Adds (Started s ∷ [])) (Adds (Started s ∷ [])) (c.in_ok-start.ensures false)
+    (gives-as _ _ _ _ (MayStart s) (IsSentIdle f s) (Adds (Started s ∷ [])) (Adds (Started s ∷ [])) (c.in_ok-start.ensures.gives false)
     (λ l sound stands at. idle-may_start l f s at) (λ l ns sound stands at is. is))
     (λ l ns sound at is after. idle-started l f s ns at is)
 
-pub returns-then-dirty : goal.returns-then-dirty
-returns-then-dirty g c = λ told.
+pub returns-then-dirty-clause-gives : goal.returns-then-dirty-clause-gives
+returns-then-dirty-clause-gives g c = λ told.
     let f = c.args.frame in
     let s = c.args.slot in
     gives-then _ _ _ _ _ _ (IsSentIdle f s) (IsUsed f) (λ l ns. (true ≡ is_stale l s) × (ns ≡ Started s ∷ [])) (Adds (Kept f WriteStarted ∷ []))
     (GoesOut f s)
     (gives-as _ _ _ _ (MayStart s) (IsSentIdle f s) (Adds (Started s ∷ [])) (λ l ns. (true ≡ is_stale l s) × (ns ≡ Started s ∷ []))
-    (c.in_ok-start.ensures told)
+    (c.in_ok-start.ensures.gives told)
     (λ l sound stands at. idle-may_start l f s at)
     (λ l ns sound stands at is. (sym c.if-dirty.true ∙ c.is_dirty-dirty.ensures told l (loose _ _ l sound) stands s at.cached, is)))
-    (c.in_ok-keep.ensures told)
+    (c.in_ok-keep.ensures.gives told)
     (λ l ns sound at is after. idle-started l f s ns at is.1)
     (λ l ns ms sound at is kept. begun-stale l f s ns ms is.0 is.1 kept)
 
@@ -48,12 +48,12 @@ drop_slot-requires g c =
           (sym c.if-dirty.false ∙ c.is_dirty-dirty.ensures false at.0 (loose _ _ at.0 at.1) at.2 c.args.slot at.3.cached),
     )
 
-pub returns : goal.returns
-returns g c = λ told.
+pub returns-clause-gives : goal.returns-clause-gives
+returns-clause-gives g c = λ told.
     let k = g.S.System.view c.args.system.now told in
     let f = c.args.frame in
     let s = c.args.slot in
-    gives-as _ _ _ _ (MayDrop s) (IsSentIdle f s) (Adds (Dropped s ∷ [])) (GoesOut f s) (c.in_ok-drop_slot.ensures told)
+    gives-as _ _ _ _ (MayDrop s) (IsSentIdle f s) (Adds (Dropped s ∷ [])) (GoesOut f s) (c.in_ok-drop_slot.ensures.gives told)
     (λ l sound stands at. idle-may_drop k.setting l f s sound at
     (sym c.if-dirty.false ∙ c.is_dirty-dirty.ensures told l (loose _ _ l sound) stands s at.cached))
     (λ l ns sound stands at is. begun-clean l f s ns

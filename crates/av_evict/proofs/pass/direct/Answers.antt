@@ -17,10 +17,10 @@ returns-in-Some-clause-pass g c = λ told.
     let f = c.in-Some.frame in
     gives-so _ _ _ _ Always (IsPassed k.setting k.closing p)
     (λ l ns. IsPass k.setting (spares k.closing p) l ns × IsEnd k.setting k.closing p (Frame f) l ns)
-    (c.in_ok-pass.ensures told)
+    (c.in_ok-pass.ensures.gives told)
     (λ l ns sound stands passed goes after. (
       passed.pass,
-      subst (λ m. (f < m.frames) × (is_free (after_notes l ns) f ≡ true)) goes.does.setting
+      subst (λ m. (f < m.frames) × (is_free (after_notes l ns) f ≡ true)) goes.does.stays.setting
           (c.in-Some.ensures.free told (after_notes l ns) after goes.does.stands),
     ))
 
@@ -32,14 +32,14 @@ returns-in-None-clause-pass g c = λ told.
     let out = c.out_of.result in
     gives-so _ _ _ _ Always (IsPassed k.setting k.closing p)
     (λ l ns. IsPass k.setting (spares k.closing p) l ns × IsEnd k.setting k.closing p (Out out) l ns)
-    (c.in_ok-pass.ensures told)
+    (c.in_ok-pass.ensures.gives told)
     (λ l ns sound stands passed goes after.
-    let none = subst (λ m. has_free m (after_notes l ns) ≡ false) goes.does.setting
+    let none = subst (λ m. has_free m (after_notes l ns) ≡ false) goes.does.stays.setting
     (c.in-None.ensures.free told (after_notes l ns) after goes.does.stands)
     in (
       passed.pass,
       vain-out k.setting k.closing p l ns out sound (passed.vain none) none
           (c.out_of.ensures told (after_notes l ns) after goes.does.stands
-          ∙ ap (λ m. out_of m p (spares new.closing p) (after_notes l ns)) goes.does.setting
-          ∙ ap (λ x. out_of k.setting p (spares x p) (after_notes l ns)) goes.does.closing),
+          ∙ ap (λ m. out_of m p (spares new.closing p) (after_notes l ns)) goes.does.stays.setting
+          ∙ ap (λ x. out_of k.setting p (spares x p) (after_notes l ns)) goes.does.stays.closing),
     ))

@@ -14,34 +14,34 @@ turns-requires g c =
     let k = g.S.System.view c.args.system.now false in
     let n = c.flight_len-flying.result in
     gives-at _ _ _ _ Always IsLanded (λ l ns. Completes l l.flight ns) c.requires
-    (gives-as _ _ _ _ Always Always (CompletesOf n) (λ l ns. Completes l l.flight ns) (c.in_ok-complete.ensures false) (λ l sound stands ready. tt)
+    (gives-as _ _ _ _ Always Always (CompletesOf n) (λ l ns. Completes l l.flight ns) (c.in_ok-complete.ensures.gives false) (λ l sound stands ready. tt)
     (λ l ns sound stands ready is. completes-all l n ns (c.flight_len-flying.ensures false l (loose _ _ l sound) stands) is))
     (λ l ns sound ready is after. completed-landed k.setting l ns sound is)
 
-pub returns-then-has_free : goal.returns-then-has_free
-returns-then-has_free g c = λ told.
+pub returns-then-has_free-clause-gives : goal.returns-then-has_free-clause-gives
+returns-then-has_free-clause-gives g c = λ told.
     let k = g.S.System.view c.args.system.now told in
     let n = c.flight_len-flying.result in
-    gives-so _ _ _ _ Always (CompletesOf n) (IsPassed k.setting k.closing c.args.pinned) (c.in_ok-complete.ensures told)
+    gives-so _ _ _ _ Always (CompletesOf n) (IsPassed k.setting k.closing c.args.pinned) (c.in_ok-complete.ensures.gives told)
     (λ l ns sound stands is goes after. passed-early k.setting k.closing c.args.pinned l ns
     (completes-all l n ns (c.flight_len-flying.ensures told l (loose _ _ l sound) stands) is)
-    (ap (λ m. has_free m (after_notes l ns)) (sym goes.does.setting) ∙ sym (c.has_free.ensures told (after_notes l ns) after goes.does.stands)
+    (ap (λ m. has_free m (after_notes l ns)) (sym goes.does.stays.setting) ∙ sym (c.has_free.ensures told (after_notes l ns) after goes.does.stands)
     ∙ c.if-has_free.true))
 
-pub returns : goal.returns
-returns g c = λ told.
+pub returns-clause-gives : goal.returns-clause-gives
+returns-clause-gives g c = λ told.
     let k = g.S.System.view c.args.system.now told in
     let n = c.flight_len-flying.result in
     let mid = g.S.System.view c.complete.new.system told in
     gives-then _ _ _ _ _ _ Always IsLanded (IsFlown k.setting k.closing mid.setting mid.closing)
     (AreTurns mid.setting mid.closing c.args.pinned) (IsPassed k.setting k.closing c.args.pinned)
-    (gives-so _ _ _ _ Always (CompletesOf n) (IsFlown k.setting k.closing mid.setting mid.closing) (c.in_ok-complete.ensures told)
+    (gives-so _ _ _ _ Always (CompletesOf n) (IsFlown k.setting k.closing mid.setting mid.closing) (c.in_ok-complete.ensures.gives told)
     (λ l ns sound stands is goes after. record {
       completes = completes-all l n ns (c.flight_len-flying.ensures told l (loose _ _ l sound) stands) is;
-      full = ap (λ m. has_free m (after_notes l ns)) (sym goes.does.setting) ∙ sym (c.has_free.ensures told (after_notes l ns) after goes.does.stands)
+      full = ap (λ m. has_free m (after_notes l ns)) (sym goes.does.stays.setting) ∙ sym (c.has_free.ensures told (after_notes l ns) after goes.does.stands)
           ∙ c.if-has_free.false;
-      setting = goes.does.setting;
-      closing_same = goes.does.closing;
-    })) (c.in_ok-turns.ensures told)
+      setting = goes.does.stays.setting;
+      closing_same = goes.does.stays.closing;
+    })) (c.in_ok-turns.ensures.gives told)
     (λ l ns sound ready flown after. completed-landed k.setting l ns sound flown.completes)
     (λ l ns ms sound ready flown turns. passed-then k.setting k.closing mid.setting mid.closing c.args.pinned l ns ms flown turns)

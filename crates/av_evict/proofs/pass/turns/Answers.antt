@@ -3,16 +3,19 @@ use Rattle.av_evict.specs.Steps.{IsUsed}
 use Rattle.av_evict.specs.Turn.{IsTurnUnlessPinned, MayTurn}
 use Rattle.av_evict.proofs.OrderLaws.{turn-count}
 use Rattle.av_evict.proofs.PassLaws.{but-stays, turning-at, turning-freed, turning-over, turning-start, turning-step, turning-vain}
-use Rattle.av_evict.proofs.SystemLaws.{at-knows, gives-at, loose}
+use Rattle.av_evict.proofs.SystemLaws.{at-knows, gives-at, loose, stays_itself, stays_then}
 use Rattle.av_evict.proofs.TailLaws.{first-no}
 use Rattle.av_evict.proofs.pass.turns.Goals as goal
 
 pub loop-turn-init : goal.loop-turn-init
-loop-turn-init g c = λ told. turning-start _ c.args.notes.now c.args.pinned _
-    (λ l sound stands. c.first_in_turn-next.ensures told l (loose _ _ l sound) stands)
+loop-turn-init g c = record {
+  midway = λ told. turning-start _ c.args.notes.now c.args.pinned _
+      (λ l sound stands. c.first_in_turn-next.ensures told l (loose _ _ l sound) stands);
+  stays = λ told. stays_itself _;
+}
 
 pub turn_unless_pinned-requires : goal.turn_unless_pinned-requires
-turn_unless_pinned-requires g c = turning-at _ _ _ _ c.args.pinned _ c.in-Some.frame c.requires (rw c.in-Some.is at (c.loop-turn.invariant false))
+turn_unless_pinned-requires g c = turning-at _ _ _ _ c.args.pinned _ c.in-Some.frame c.requires (rw c.in-Some.is at (c.loop-turn.invariant.midway false))
 
 pub next_in_turn-next-requires : goal.next_in_turn-next-requires
 next_in_turn-next-requires g c =
@@ -20,25 +23,28 @@ next_in_turn-next-requires g c =
     let k = g.S.System.view c.loop-turn.system false in
     at-knows (g.S.System.view c.turn_unless_pinned.new.system false) (IsUsed f) (gives-at _ _ _ _ (MayTurn f) (IsUsed f)
     (IsTurnUnlessPinned k.setting k.closing c.args.pinned f false)
-    (turning-at _ _ _ _ c.args.pinned _ f c.requires (rw c.in-Some.is at (c.loop-turn.invariant false)))
-    (rw c.if-freed.false at (c.in_ok-freed.ensures false))
+    (turning-at _ _ _ _ c.args.pinned _ f c.requires (rw c.in-Some.is at (c.loop-turn.invariant.midway false)))
+    (rw c.if-freed.false at (c.in_ok-freed.ensures.gives false))
     (λ l ns sound may turn after. (but-stays k.setting k.closing c.args.pinned l f ns sound may turn).used f may.used))
 
 pub loop-turn-preserved : goal.loop-turn-preserved
-loop-turn-preserved g c = λ told. turning-step _ _ _ _ _ _ c.args.pinned c.loop-turn._turn c.in-Some.frame _
-    (rw c.in-Some.is at (c.loop-turn.invariant told)) (rw c.if-freed.false at (c.in_ok-freed.ensures told))
-    (λ l sound stands. c.next_in_turn-next.ensures told l (loose _ _ l sound) stands)
+loop-turn-preserved g c = record {
+  midway = λ told. turning-step _ _ _ _ _ _ c.args.pinned c.loop-turn._turn c.in-Some.frame _
+      (rw c.in-Some.is at (c.loop-turn.invariant.midway told)) (rw c.if-freed.false at (c.in_ok-freed.ensures.gives told))
+      (λ l sound stands. c.next_in_turn-next.ensures told l (loose _ _ l sound) stands);
+  stays = λ told. stays_then (c.loop-turn.invariant.stays told) (c.in_ok-freed.ensures.stays told);
+}
 
-pub returns-then-freed : goal.returns-then-freed
-returns-then-freed g c = λ told. turning-freed _ _ _ _ _ _ c.args.pinned c.loop-turn._turn c.in-Some.frame
-    (rw c.in-Some.is at (c.loop-turn.invariant told)) (rw c.if-freed.true at (c.in_ok-freed.ensures told))
+pub returns-then-freed-clause-gives : goal.returns-then-freed-clause-gives
+returns-then-freed-clause-gives g c = λ told. turning-freed _ _ _ _ _ _ c.args.pinned c.loop-turn._turn c.in-Some.frame
+    (rw c.in-Some.is at (c.loop-turn.invariant.midway told)) (rw c.if-freed.true at (c.in_ok-freed.ensures.gives told))
 
-pub returns-in_default : goal.returns-in_default
-returns-in_default g c = λ told. turning-vain _ _ _ _ c.args.pinned c.loop-turn._turn None (rw c.in_default.is at (c.loop-turn.invariant told))
-    (λ l sound stands i. first-no i.todo i.first)
+pub returns-in_default-clause-gives : goal.returns-in_default-clause-gives
+returns-in_default-clause-gives g c = λ told. turning-vain _ _ _ _ c.args.pinned c.loop-turn._turn None
+    (rw c.in_default.is at (c.loop-turn.invariant.midway told)) (λ l sound stands i. first-no i.todo i.first)
 
-pub returns : goal.returns
-returns g c = λ told. turning-vain _ _ _ _ c.args.pinned c.loop-turn._turn c.loop-turn.next (c.loop-turn.invariant told)
+pub returns-clause-gives : goal.returns-clause-gives
+returns-clause-gives g c = λ told. turning-vain _ _ _ _ c.args.pinned c.loop-turn._turn c.loop-turn.next (c.loop-turn.invariant.midway told)
     (λ l sound stands i. turning-over _ _ _ _ c.args.pinned c.loop-turn._turn (c.from.result + c.from-2.result) c.loop-turn.next l i
     (turn-count l _ _ (c.from.ensures ∙ c.inactive_len.ensures told l (loose _ _ l sound) stands)
     (c.from-2.ensures ∙ c.active_len.ensures told l (loose _ _ l sound) stands)) c.loop-turn-test.false)

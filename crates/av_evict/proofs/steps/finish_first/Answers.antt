@@ -12,8 +12,8 @@ use Rattle.av_evict.proofs.steps.finish_first.Goals as goal
 pub finish-requires : goal.finish-requires
 finish-requires g c = at-knows (g.S.System.view c.args.system.now false) Always c.requires
 
-pub returns-in_default : goal.returns-in_default
-returns-in_default g c = λ told.
+pub returns-in_default-clause-gives : goal.returns-in_default-clause-gives
+returns-in_default-clause-gives g c = λ told.
     gives-as _ _ c.args.notes.now c.args.notes.now Always Always (Adds []) (EndsFirst None)
     (makes-gives _ _ _ _ Always [] (c.in_default.ensures.ends told) (sym (append-nil _)) (λ l sound stands ready. sound))
     (λ l sound stands ready. ready)
@@ -32,8 +32,8 @@ drop_slot-requires g c =
       orphan-may_drop _ s (sym (c.is_orphan.ensures false _ mid ends.stands) ∙ c.if-is_orphan.true),
     )
 
-pub returns-else-is_orphan : goal.returns-else-is_orphan
-returns-else-is_orphan g c = λ told l sound stands ready.
+pub returns-else-is_orphan-clause-gives : goal.returns-else-is_orphan-clause-gives
+returns-else-is_orphan-clause-gives g c = λ told l sound stands ready.
     let s = c.in-Some.end.slot in
     let failed = c.in-Some.end.failed in
     let ends = c.in-Some.ensures.ends told l (loose _ _ l sound) stands tt in
@@ -42,14 +42,14 @@ returns-else-is_orphan g c = λ told l sound stands ready.
     (c.in_ok-push.ensures.ok ∙ ap (λ n. c.args.notes.now ++ n ∷ []) c.end_note.ensures)
     (orphan-notes l s failed false (sym c.if-is_orphan.false ∙ c.is_orphan.ensures told _ mid ends.stands)) ends
 
-pub returns-in_ok-push-2 : goal.returns-in_ok-push-2
-returns-in_ok-push-2 g c = λ told l sound stands ready.
+pub returns-in_ok-push-2-clause-gives : goal.returns-in_ok-push-2-clause-gives
+returns-in_ok-push-2-clause-gives g c = λ told l sound stands ready.
     let s = c.in-Some.end.slot in
     let failed = c.in-Some.end.failed in
     let ends = c.in-Some.ensures.ends told l (loose _ _ l sound) stands tt in
     let mid = ended-loose _ _ l s failed sound ends in
     let orphan = sym (c.is_orphan.ensures told _ mid ends.stands) ∙ c.if-is_orphan.true in
-    let drops = c.drop_slot.ensures told _ mid ends.stands (orphan-may_drop _ s orphan) in
+    let drops = c.drop_slot.ensures.makes told _ mid ends.stands (orphan-may_drop _ s orphan) in
     ends-first _ _ c.args.notes.now _ l c.in-Some.end (end_note failed s ∷ Dropped s ∷ []) sound
     (c.in-Some.ensures.first told l (loose _ _ l sound) stands)
     (c.in_ok-push-2.ensures.ok ∙ ap (λ ns. ns ++ Dropped s ∷ []) (c.in_ok-push.ensures.ok ∙ ap (λ n. c.args.notes.now ++ n ∷ []) c.end_note.ensures)

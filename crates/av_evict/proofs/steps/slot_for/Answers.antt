@@ -15,8 +15,8 @@ put-requires g c =
     let know = loose _ _ at.0 at.1 in
     (at.0, know, at.2, used-may_put at.0 c.args.frame at.3 (sym c.in_default.is ∙ c.slot.ensures false at.0 know at.2))
 
-pub returns-in_default-put : goal.returns-in_default-put
-returns-in_default-put g c = λ told.
+pub returns-in_default-put-clause-gives : goal.returns-in_default-put-clause-gives
+returns-in_default-put-clause-gives g c = λ told.
     let k = g.S.System.view c.args.system.now told in
     let f = c.args.frame in
     gives-as _ _ c.args.notes.now c.args.notes.now (MayPut f) (IsUsed f) (Adds (put_notes f None)) (GetsSlot k.setting k.closing f None)
@@ -29,8 +29,8 @@ returns-in_default-put g c = λ told.
     subst (GetsSlot k.setting k.closing f None l) (sym is)
     (put-never k.setting k.closing l f out (c.in_default-put.ensures.slot told l know stands may)))
 
-pub returns : goal.returns
-returns g c = λ told.
+pub returns-clause-gives : goal.returns-clause-gives
+returns-clause-gives g c = λ told.
     let k = g.S.System.view c.args.system.now told in
     let f = c.args.frame in
     let s = c.in-Some-put.slot in

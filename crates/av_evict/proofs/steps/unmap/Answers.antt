@@ -16,11 +16,11 @@ unmap-requires g c =
     let know = loose _ _ at.0 at.1 in
     (at.0, know, at.2, mapped-unmap at.0 c.args.frame _ (c.is_mapped.ensures false at.0 know at.2) c.if-is_mapped.true at.3)
 
-pub returns-in_ok-push : goal.returns-in_ok-push
-returns-in_ok-push g c = λ told.
+pub returns-in_ok-push-clause-gives : goal.returns-in_ok-push-clause-gives
+returns-in_ok-push-clause-gives g c = λ told.
     let f = c.args.frame in
     gives-as _ _ _ _ (MayUnmap f) (IsInCache f) (Adds (Unmapped f ∷ [])) (IsUnmapped f)
-    (makes-gives _ _ _ _ (MayUnmap f) (Unmapped f ∷ []) (c.in_ok-unmap.ensures told) c.in_ok-push.ensures.ok
+    (makes-gives _ _ _ _ (MayUnmap f) (Unmapped f ∷ []) (c.in_ok-unmap.ensures.makes told) c.in_ok-push.ensures.ok
     (λ l sound stands may. unmap-sound _ l f sound may.cached))
     (λ l sound stands ready. mapped-unmap l f _ (c.is_mapped.ensures told l (loose _ _ l sound) stands) c.if-is_mapped.true ready)
     (λ l ns sound stands ready is. unmap-notes l f _ ns (c.is_mapped.ensures told l (loose _ _ l sound) stands)

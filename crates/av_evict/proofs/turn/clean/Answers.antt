@@ -13,18 +13,18 @@ is_dirty-requires g c = let at = c.requires in sent-below _ at.0 c.args.frame c.
 pub write-requires : goal.write-requires
 write-requires g c = let at = c.requires in (at.0, at.1, at.2, sent-may_write at.0 c.args.frame c.args.slot at.3)
 
-pub returns-then-not-is_dirty : goal.returns-then-not-is_dirty
-returns-then-not-is_dirty g c = λ told.
+pub returns-then-not-is_dirty-clause-gives : goal.returns-then-not-is_dirty-clause-gives
+returns-then-not-is_dirty-clause-gives g c = λ told.
     gives-none _ c.args.notes.now (IsSentTo c.args.frame c.args.slot) (IsCleaned c.args.slot false)
     (λ l sound stands at. cleaned-none l c.args.slot
     (sym c.if-not-is_dirty.true ∙ c.is_dirty.ensures told l (loose _ _ l sound) stands c.args.slot at.cached))
 
-pub returns : goal.returns
-returns g c = λ told.
+pub returns-clause-gives : goal.returns-clause-gives
+returns-clause-gives g c = λ told.
     let s = c.args.slot in
     let f = c.args.frame in
     let failed = c.in_ok-failed.failed in
-    gives-as _ _ _ _ (MayWrite s) (IsSentTo f s) (Adds (Started s ∷ end_note failed s ∷ [])) (IsCleaned s failed) (c.in_ok-failed.ensures told)
+    gives-as _ _ _ _ (MayWrite s) (IsSentTo f s) (Adds (Started s ∷ end_note failed s ∷ [])) (IsCleaned s failed) (c.in_ok-failed.ensures.gives told)
     (λ l sound stands at. sent-may_write l f s at)
     (λ l ns sound stands at is. cleaned-some l s failed ns
     (sym c.if-not-is_dirty.false ∙ c.is_dirty.ensures told l (loose _ _ l sound) stands s at.cached) is)

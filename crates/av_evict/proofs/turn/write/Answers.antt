@@ -15,17 +15,17 @@ pub finish_first-requires : goal.finish_first-requires
 finish_first-requires g c =
     let s = c.args.slot in
     gives-at _ _ _ _ (MayStart s) Always (Adds (Started s ∷ []))
-    (let at = c.requires in (at.0, at.1, at.2, write-may_start at.0 s at.3)) (c.in_ok-start.ensures false)
+    (let at = c.requires in (at.0, at.1, at.2, write-may_start at.0 s at.3)) (c.in_ok-start.ensures.gives false)
     (λ l ns sound ready is after. tt)
 
-pub returns : goal.returns
-returns g c = λ told.
+pub returns-clause-gives : goal.returns-clause-gives
+returns-clause-gives g c = λ told.
     let s = c.args.slot in
     let end = c.in_ok-end.end in
     let failed = c.has_failed.result in
     gives-then _ _ _ _ _ _ (MayWrite s) Always (Adds (Started s ∷ [])) (EndsFirst end) (Adds (Started s ∷ end_note failed s ∷ []))
-    (gives-as _ _ _ _ (MayStart s) (MayWrite s) (Adds (Started s ∷ [])) (Adds (Started s ∷ [])) (c.in_ok-start.ensures told)
+    (gives-as _ _ _ _ (MayStart s) (MayWrite s) (Adds (Started s ∷ [])) (Adds (Started s ∷ [])) (c.in_ok-start.ensures.gives told)
     (λ l sound stands may. write-may_start l s may) (λ l ns sound stands may is. is))
-    (c.in_ok-end.ensures told)
+    (c.in_ok-end.ensures.gives told)
     (λ l ns sound ready is after. tt)
     (λ l ns ms sound may is ends. write-both l s end failed ns ms may c.has_failed.ensures is ends)

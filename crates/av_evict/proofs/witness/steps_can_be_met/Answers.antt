@@ -32,10 +32,7 @@ met : (m : Setting) (closing : Option ℕ) (first : Option (ℕ → List ℕ)) (
     (rmap_after_all l (note_events (note ∷ [])) r) (after_note note l)) l (note ∷ [])
 met m closing first free faults w r l note next = record {
   stands = refl;
-  setting = refl;
-  closing = refl;
-  names = refl;
-  first = refl;
+  stays = record { setting = refl; closing = refl; names = refl; first = refl; never_falls = no-less (fails (note ∷ [])) faults };
   chooses = (
     free_after m closing free l note next,
     record { frames = (next.frames, next.first, refl); slots = (free.slots, next.slots, refl, next.slot, refl) },
@@ -43,7 +40,6 @@ met m closing first free faults w r l note next = record {
   );
   claims = λ v q is. (ap (λ x. with_loads m x l (note_events (note ∷ []))) is.0, ap (rmap_after_all l (note_events (note ∷ []))) is.1);
   faults = most (fails (note ∷ [])) faults (2 ^ 64 - 1);
-  never_falls = no-less (fails (note ∷ [])) faults;
 }
 
 -- in both
