@@ -1,61 +1,95 @@
 -- From what the loops promise of the system that they drive to what is promised of what was lent to it.
-use Rattle.std.proofs.Common.{◌≡◌, ℕ, ◌++◌, List, Option, None, refl, sym, ap, subst, ◌∙◌}
+use Rattle.std.proofs.Common.{◌≡◌, ℕ, List, Option, None, false, sym, ap, subst, ◌∙◌}
 use Rattle.av_trace.specs.declared.note.Note.{Note}
 use Rattle.av_plain.specs.Areas.{Rmap, rmap_after_all}
 use Rattle.av_plain.specs.Choice.{ChoosesAll}
-use Rattle.av_plain.specs.Device.{Device}
+use Rattle.av_plain.specs.Device.{Device, IsSameDevice, as_told, device_by}
 use Rattle.av_plain.specs.Event.{after_notes, note_events}
 use Rattle.av_plain.specs.Ledger.{Ledger, Setting}
 use Rattle.av_plain.specs.Load.{with_loads}
+use Rattle.av_plain.specs.Sound.{IsSound}
 use Rattle.av_plain.specs.Stands.{free_of}
 use Rattle.av_plain.specs.World.{World}
+use Rattle.av_plain.proofs.Access.{note_events-all}
 use Rattle.av_evict.specs.declared.pass.SeekEnd.{SeekEnd}
-use Rattle.av_evict.specs.System.{Always, Gives, Goes, IsAt}
-use Rattle.av_mem.specs.Mem.{Serves, setting_by, view}
+use Rattle.av_evict.specs.Pass.{IsNext}
+use Rattle.av_evict.specs.System.{Always, Gives, Goes, IsAt, Stays}
+use Rattle.av_mem.specs.Between.{HasDone, IsBetween, KeepsBetween}
+use Rattle.av_mem.specs.Mem.{Serves, frame_count, setting_by, view}
 use Rattle.av_mem.specs.declared.mem.Mem.{Mem}
-use Rattle.av_reclaim.specs.Commands.{FindsNext, HasAdded, HasDone, IsServing}
+use Rattle.av_mem.proofs.KeepsLaws.{keeps-serves, keeps-whenever, serves-keeps, state_by}
+use Rattle.av_reclaim.specs.Commands.{HasAdded}
 use Rattle.av_reclaim.specs.Driver.{closing_of, view_of}
+
+-- ---- what the loops ask
 
 -- no swap area is closing
 open-of : (d : Device) (k : Mem) (w : World) (r : Rmap) (l : Ledger) → Serves d None k w r l → Serves d (closing_of k) k w r l
 open-of d k w r l h = subst (λ c. Serves d c k w r l) (sym h.swap.closed) h
 
-pub is-at : (names : List ℕ) (d : Device) (k : Mem) → IsServing d k → IsAt (view_of names d k) Always
-is-at names d k h = (h.2, h.4, (h.0, h.1, open-of d k h.0 h.1 h.2 h.3), tt)
+-- it does not matter how often the device failed
+serves-whenever : (sizes : ℕ → Option ℕ) (n n' : ℕ) (k : Mem) (w : World) (r : Rmap) (l : Ledger) → KeepsBetween (device_by sizes None n) k w r l
+    → Serves (device_by sizes None n') None k w r l
+serves-whenever sizes n n' k w r l h = keeps-serves (device_by sizes None n') k (state_by k w r l)
+    (keeps-whenever sizes None n n' k (state_by k w r l) (serves-keeps (device_by sizes None n) k w r l h.sound h.serves))
+
+pub is-at : (names : List ℕ) (d : Device) (k : Mem) → IsBetween d.sizes k → IsAt (view_of names (as_told false d) k) Always
+is-at names d k h =
+    (h.3, h.4.sound, (h.1, h.2, open-of (as_told false d) k h.1 h.2 h.3 (serves-whenever d.sizes h.0 d.faults k h.1 h.2 h.3 h.4)), tt)
+
+-- ---- what they do
+
+-- the reference was kept, so what was lent is what the system made of it
+abbrev pub IsLent : List ℕ → List ℕ → Device → Device → Mem → Mem → Type 0
+IsLent names names' d₁ d' k₁ new = names' ≡ names → (d' ≡ d₁) × (new ≡ k₁)
+
+one-device : (names names' : List ℕ) (d d' : Device) (old new : Mem) → Stays (view_of names d old) (view_of names' d' new) → IsSameDevice d d'
+one-device names names' d d' old new stays =
+    record { sizes = ap (λ (m : Setting). m.sizes) stays.setting; first = stays.first; faults = stays.never_falls }
+
+-- by what stays, this is so of what was lent too
+module _ (names names' : List ℕ) (d d₁ : Device) (old k₁ : Mem) (stays : Stays (view_of names d old) (view_of names' d₁ k₁)) where
+  pub same-lent : (d' : Device) → (names' ≡ names → d' ≡ d₁) → IsSameDevice d d'
+  same-lent d' lent = subst (IsSameDevice d) (sym (lent stays.names)) (one-device names names' d d₁ old k₁ stays)
+
+  pub count-lent : (n : ℕ) → (names' ≡ names → n ≡ frame_count k₁) → n ≡ frame_count old
+  count-lent n lent = lent stays.names ∙ ap (λ (m : Setting). m.frames) stays.setting
+
+  pub next-lent : (end : SeekEnd) (free : List ℕ) → (names' ≡ names → free ≡ (view k₁).free) → IsNext end (view k₁).free → IsNext end free
+  next-lent end free lent next = subst (IsNext end) (sym (lent stays.names)) next
 
 -- what the system did
 done : (names names' : List ℕ) (d d' : Device) (old new : Mem) (w : World) (r : Rmap) (l : Ledger) (notes : List Note) → Serves d None old w r l
-    → Goes (view_of names d old) (view_of names' d' new) l notes → HasDone d d' old new w r l notes
+    → Goes (view_of names d old) (view_of names' d' new) l notes → HasDone d d' old new w r l (note_events notes)
 done names names' d d' old new w r l notes serves goes =
     let does = goes.does in
-    let open' : closing_of new ≡ None = does.closing ∙ serves.swap.closed in
+    let stays = does.stays in
+    let open' : closing_of new ≡ None = stays.closing ∙ serves.swap.closed in
+    let w' = with_loads (setting_by d old) w l (note_events notes) in
+    let r' = rmap_after_all l (note_events notes) r in
     record {
-      sound = goes.sound;
-      serves = subst (λ c. Serves d' c new (with_loads (setting_by d old) w l (note_events notes)) (rmap_after_all l (note_events notes) r) (after_notes l notes))
-          open' (does.claims w r (open-of d old w r l serves));
-      chooses = subst (λ c. ChoosesAll (setting_by d old) c l (note_events notes) (free_of (view old)) (free_of (view new))) serves.swap.closed does.chooses;
-      same = record { sizes = ap (λ (m : Setting). m.sizes) does.setting; first = does.first; faults = does.never_falls };
-      faults = does.faults;
+      between = subst (KeepsBetween d' new w' r') (sym (note_events-all l notes)) (record {
+        sound = subst (λ m. IsSound m (after_notes l notes)) (sym stays.setting) goes.sound;
+        serves = subst (λ c. Serves d' c new w' r' (after_notes l notes)) open' (does.claims w r (open-of d old w r l serves));
+      });
+      free = subst (λ c. ChoosesAll (setting_by d old) c l (note_events notes) (free_of (view old)) (free_of (view new))) serves.swap.closed does.chooses;
+      same = one-device names names' d d' old new stays;
+      count = ap (λ (m : Setting). m.frames) stays.setting;
     }
 
--- it kept the references, so what was lent to it is what it made of it
 pub added : (names names' : List ℕ) (d d₁ d' : Device) (old k₁ new : Mem) (before now : List Note) (Q : Option ℕ → Ledger → List Note → Type 0)
-    (P : World → Ledger → List Note → Type 0) → ((w : World) (l : Ledger) (notes : List Note) → Q None l notes → P w l notes)
-    → Gives (view_of names d old) (view_of names' d₁ k₁) before now Always (Q (closing_of old)) → (names' ≡ names → (d' ≡ d₁) × (new ≡ k₁))
-    → HasAdded d d' old new before now P
-added names names' d d₁ d' old k₁ new before now Q P asks gives lent = λ w r l serves sound.
-    let out = gives l sound (w, r, open-of d old w r l serves) tt in
-    let is = lent out.3.does.names in (
-      out.0,
-      out.1,
-      asks w l out.0 (subst (λ c. Q c l out.0) serves.swap.closed out.2),
-      subst (λ k. HasDone d d' old k w r l out.0) (sym is.1) (subst (λ x. HasDone d x old k₁ w r l out.0) (sym is.0)
-          (done names names' d d₁ old k₁ w r l out.0 serves out.3)),
-    )
-
--- so the frame that is taken next is the one that it found
-pub next-lent : (end : SeekEnd) (names names' : List ℕ) (d d₁ : Device) (old k₁ new : Mem) (before now : List Note) (Q : Ledger → List Note → Type 0)
-    → IsServing d old → Gives (view_of names d old) (view_of names' d₁ k₁) before now Always Q → FindsNext end k₁
-    → (names' ≡ names → new ≡ k₁) → FindsNext end new
-next-lent end names names' d d₁ old k₁ new before now Q some gives next lent = subst (FindsNext end)
-    (sym (lent (gives some.2 some.4 (some.0, some.1, open-of d old some.0 some.1 some.2 some.3) tt).3.does.names)) next
+    (Asked : Setting → World → Ledger → List Note → Type 0)
+    → ((w : World) (l : Ledger) (notes : List Note) → Q None l notes → Asked (setting_by d old) w l notes)
+    → Gives (view_of names d old) (view_of names' d₁ k₁) before now Always (Q (closing_of old)) → IsLent names names' d₁ d' k₁ new
+    → (w : World) (r : Rmap) (l : Ledger) → KeepsBetween d old w r l → HasAdded Asked d d' old new w r l before now
+added names names' d d₁ d' old k₁ new before now Q Asked asks gives lent w r l between =
+    let serves = between.serves in
+    let out = gives l between.sound (w, r, open-of d old w r l serves) tt in
+    let is = lent out.3.does.stays.names in
+    subst (λ k. HasAdded Asked d d' old k w r l before now) (sym is.1) (subst (λ x. HasAdded Asked d x old k₁ w r l before now) (sym is.0) (record {
+      added = out.0;
+      notes = out.1;
+      asked = asks w l out.0 (subst (λ c. Q c l out.0) serves.swap.closed out.2);
+      done = done names names' d d₁ old k₁ w r l out.0 serves out.3;
+      faults = out.3.does.faults;
+    }))

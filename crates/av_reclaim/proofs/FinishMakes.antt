@@ -1,13 +1,12 @@
 -- Writes that end.
-use Rattle.std.proofs.Common.{◌≡◌, ℕ, ◌+◌, ◌≤◌, ◌<◌, min, ◌^◌, ◌-◌, Bool, true, false, List, [], ◌∷◌, Option, Some, None, is_some, refl, sym, ap, subst, ◌∙◌, arith}
+use Rattle.std.proofs.Common.{◌≡◌, ℕ, ◌+◌, ◌≤◌, min, ◌^◌, ◌-◌, Bool, true, false, List, [], ◌∷◌, Option, Some, None, is_some, option_map, refl, sym, ap, subst, ◌∙◌, arith}
 use Rattle.std.specs.Prelude.{slice_get}
 use Rattle.av_base.specs.declared.slot.Slot.{Slot}
-use Rattle.av_io.specs.Count.{Rose}
 use Rattle.av_trace.specs.declared.note.Note.TheVariants.{Failed, Written}
 use Rattle.av_plain.specs.Choice.{ListsAll}
 use Rattle.av_plain.specs.Areas.{Rmap}
 use Rattle.av_plain.specs.Device.{Device, IsSameDevice, as_told}
-use Rattle.av_plain.specs.Ledger.{Ledger, frame_at}
+use Rattle.av_plain.specs.Ledger.{Ledger}
 use Rattle.av_plain.specs.Stands.{AnonsStand, AreasAre, AreasStand, View, free_of}
 use Rattle.av_plain.specs.Sound.{AreThere, AreasFit}
 use Rattle.av_plain.specs.World.{World}
@@ -20,15 +19,15 @@ use Rattle.av_swapcache.specs.declared.swap.Finished.{Finished}
 use Rattle.av_swapcache.specs.declared.swap.Finished.TheVariants.{Done as DoneAt, Failed as FailedAt}
 use Rattle.av_evict.specs.declared.system.WriteEnd.{WriteEnd}
 use Rattle.av_evict.specs.Steps.{notes_of_end, slot_of_end}
-use Rattle.av_evict.specs.System.{Always, Does, Makes, Tells, any_slot}
-use Rattle.av_mem.specs.Cache.{Ends, GoesFirst}
+use Rattle.av_evict.specs.System.{Always, Does, Makes, Stays, Tells, any_slot}
+use Rattle.av_mem.specs.Cache.{Ends}
 use Rattle.av_mem.specs.Mem.{Serves, held_by, setting_by, view}
 use Rattle.av_mem.specs.Steps.{KeepsParts}
 use Rattle.av_mem.specs.declared.mem.Mem.{Mem}
 use Rattle.av_mem.proofs.ServesLaws.{anons-fit, lists-fit, setting-stays, swap-fits, tables-fit}
 use Rattle.av_reclaim.specs.Driver.{closing_of, end_of, view_of}
-use Rattle.av_reclaim.proofs.OneNote.{one-does}
-use Rattle.av_reclaim.proofs.StepMakes.{by-view, itself, same-world, stands-still}
+use Rattle.av_reclaim.proofs.OneNote.{one-does, step-stays}
+use Rattle.av_reclaim.proofs.StepMakes.{by-view, itself, mem-stays, same-world, stands-still}
 
 abbrev pub ends_of : Option Finished → Option WriteEnd
 ends_of None = None
@@ -38,7 +37,8 @@ ends_of (Some r) = Some (end_of r)
 abbrev pub EndsOn : Option Finished → Mem → Mem → Device → Device → Type 0
 EndsOn r old new d d' = Ends r old new d.pages d'.pages d.faults d'.faults
 
-pub ends-told : (told : Bool) (r : Option Finished) (old new : Mem) (d d' : Device) → EndsOn r old new d d' → EndsOn r old new (as_told told d) (as_told told d')
+pub ends-told : (told : Bool) (r : Option Finished) (old new : Mem) (d d' : Device) → EndsOn r old new d d'
+    → EndsOn r old new (as_told told d) (as_told told d')
 ends-told true r old new d d' h = h
 ends-told false None old new d d' h = (h.0, h.1, refl, h.3)
 ends-told false (Some (DoneAt s f)) old new d d' h = (h.0, h.1, refl, h.3, h.4)
@@ -110,13 +110,9 @@ pub none-makes : (names : List ℕ) (d d' : Device) (old new : Mem) (Ready : Led
 none-makes names d d' old new Ready same is parts = λ l sound stood ready.
     subst (λ d'. Does (view_of names d old) (view_of names d' new) l []) (sym same) (record {
       stands = (stood.0, stood.1, serves-same d old new stood.0 stood.1 l is parts stood.2);
-      setting = setting-stays old new parts d d (itself d);
-      closing = parts.swap.closing;
-      names = refl;
-      first = refl;
+      stays = mem-stays names d old new parts;
       chooses = ap free_of is;
       faults = stands-still d.faults;
-      never_falls = omega arith;
       claims = λ w r c. subst (λ w'. Serves d (closing_of new) new w' r l) (sym (same-world (is_some (setting_by d old).headers) w))
           (serves-same d old new w r l is parts c);
     })
@@ -129,6 +125,13 @@ finish-makes names d d' old new None sizes more parts ends = none-makes names d 
     (λ i. record { sizes = sizes i; pages = ends.2 i; faults = ends.3 i }) ends.1 parts
 finish-makes names d d' old new (Some (DoneAt s f)) sizes more parts ends = done-makes names d d' old new sizes more parts s f ends
 finish-makes names d d' old new (Some (FailedAt s f)) sizes more parts ends = fail-makes names d d' old new sizes more parts s f ends
+
+-- it is one device
+finish-same : (d d' : Device) (old new : Mem) (r : Option Finished) → d'.sizes ≡ d.sizes → d.faults ≤ d'.faults → EndsOn r old new d d'
+    → IsSameDevice d d'
+finish-same d d' old new None sizes more ends = record { sizes = sizes; first = ap (option_map (λ told k. told k 0)) ends.2; faults = more }
+finish-same d d' old new (Some (DoneAt s f)) sizes more ends = written-same d d' s ends.0 ends.1.behind_header ends.2 sizes more
+finish-same d d' old new (Some (FailedAt s f)) sizes more ends = written-same d d' s ends.2.0 ends.1.behind_header ends.2.1 sizes more
 
 -- it is the first in flight
 pub finish-first : (d d' : Device) (closing : Option ℕ) (old new : Mem) (w : World) (r : Rmap) (l : Ledger) (o : Option Finished) → EndsOn o old new d d'
@@ -154,6 +157,12 @@ finish-told names d d' old new r end is sizes more parts ends told =
     subst (λ e. Makes (view_of names (as_told told d) old) (view_of names (as_told told d') new) Always (notes_of_end e)) (sym is)
     (finish-makes names (as_told told d) (as_told told d') old new r (sizes-told told d d' sizes) (faults-told told d d' more) parts
     (ends-told told r old new d d' ends))
+
+pub finish-stays : (names : List ℕ) (d d' : Device) (old new : Mem) (r : Option Finished) → d'.sizes ≡ d.sizes → d.faults ≤ d'.faults
+    → KeepsParts old new → EndsOn r old new d d' → (told : Bool)
+    → Stays (view_of names (as_told told d) old) (view_of names (as_told told d') new)
+finish-stays names d d' old new r sizes more parts ends told = step-stays names (as_told told d) (as_told told d') old new parts
+    (finish-same (as_told told d) (as_told told d') old new r (sizes-told told d d' sizes) (faults-told told d d' more) (ends-told told r old new d d' ends))
 
 pub first-told : (names : List ℕ) (d d' : Device) (old new : Mem) (r : Option Finished) (end : Option WriteEnd) → end ≡ ends_of r → EndsOn r old new d d'
     → (told : Bool) → Tells (view_of names (as_told told d) old) (λ l. slot_of_end end ≡ slice_get l.flight 0)

@@ -1,12 +1,11 @@
 -- A step with one note, by the law of the note.
-use Rattle.std.proofs.Common.{◌≡◌, ℕ, ◌≤◌, T, List, [], ◌∷◌, refl, sym, ap, subst}
-use Rattle.std.specs.FinMap.Entries.{is_sorted}
+use Rattle.std.proofs.Common.{◌≡◌, ℕ, List, [], ◌∷◌, refl, sym, subst}
 use Rattle.av_io.specs.Count.{RoseBy}
 use Rattle.av_trace.specs.declared.note.Note.{Note}
 use Rattle.av_plain.specs.Areas.{Rmap, rmap_after_note}
 use Rattle.av_plain.specs.Device.{Device, IsSameDevice}
 use Rattle.av_plain.specs.Event.{Noted, after_note, note_events}
-use Rattle.av_plain.specs.Ledger.{Ledger, key_cmp}
+use Rattle.av_plain.specs.Ledger.{Ledger}
 use Rattle.av_plain.specs.Load.{with_loads}
 use Rattle.av_plain.specs.Pass.{fails}
 use Rattle.av_plain.specs.Sound.{IsSoundBut}
@@ -14,7 +13,7 @@ use Rattle.av_plain.specs.World.{World}
 use Rattle.av_plain.proofs.FreeLists.{IsLawfulEvent}
 use Rattle.av_plain.proofs.Sound.Pages.{Brings}
 use Rattle.av_swap_laws.specs.Held.{Steps}
-use Rattle.av_evict.specs.System.{Does, any_slot}
+use Rattle.av_evict.specs.System.{Does, Stays, any_slot}
 use Rattle.av_mem.specs.Mem.{Serves, held_by, setting_by}
 use Rattle.av_mem.specs.Steps.{KeepsParts}
 use Rattle.av_mem.specs.declared.mem.Mem.{Mem}
@@ -43,17 +42,24 @@ abbrev pub StepsBy : Device → Device → Mem → Mem → Ledger → Note → T
 StepsBy d d' old new l note = (w : World) (r : Rmap) → Serves d (closing_of old) old w r l
     → Steps (setting_by d old) (closing_of old) (Noted note) (held_by d old w r l) (held_by d' new w (rmap_after_note l note r) (after_note note l))
 
+-- what no step changes
+pub step-stays : (names : List ℕ) (d d' : Device) (old new : Mem) → KeepsParts old new → IsSameDevice d d'
+    → Stays (view_of names d old) (view_of names d' new)
+step-stays names d d' old new parts same = record {
+  setting = setting-stays old new parts d d' same;
+  closing = parts.swap.closing;
+  names = refl;
+  first = same.first;
+  never_falls = same.faults;
+}
+
 pub one-does : (names : List ℕ) (d d' : Device) (old new : Mem) (l : Ledger) (note : Note) → StandsBy d old l → Owes d d' old new l note
     → StepsBy d d' old new l note → Does (view_of names d old) (view_of names d' new) l (note ∷ [])
 one-does names d d' old new l note stood owes law = record {
   stands = (stood.world, rmap_after_note l note stood.rmap, next stood.world stood.rmap stood.serves);
-  setting = setting-stays old new owes.parts d d' owes.same;
-  closing = owes.parts.swap.closing;
-  names = refl;
-  first = owes.same.first;
+  stays = step-stays names d d' old new owes.parts owes.same;
   chooses = (_, (law stood.world stood.rmap stood.serves).chosen, refl);
   faults = owes.faults;
-  never_falls = owes.same.faults;
   claims = λ w r c. subst (λ w'. Serves d' (closing_of new) new w' (rmap_after_note l note r) (after_note note l)) (sym (owes.loads w)) (next w r c);
 }
   where

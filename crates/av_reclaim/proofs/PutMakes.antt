@@ -19,7 +19,7 @@ use Rattle.av_plain.specs.Areas.{Rmap}
 use Rattle.av_plain.specs.Choice.{IsGiven, giving_swap_area}
 use Rattle.av_plain.specs.Device.{Device}
 use Rattle.av_plain.specs.Ledger.{Ledger, Setting, SwapArea, free_slots, has_free_slot, is_free_slot, is_open, may_give, no_slot}
-use Rattle.av_plain.specs.Sound.{IsSoundBut, holders, uses}
+use Rattle.av_plain.specs.Sound.{holders, uses}
 use Rattle.av_plain.specs.World.{World}
 use Rattle.av_plain.proofs.Clusters.{Gives, gives-one}
 use Rattle.av_plain.proofs.Ledger.Order.{both_first, both_second, find_below}
@@ -30,7 +30,7 @@ use Rattle.av_swapcache.specs.Swap.{GivesFirst, Shown, can_give, free_of, is_are
 use Rattle.av_swapcache.proofs.Views.{first_on, gives_first-is}
 use Rattle.av_evict.specs.Steps.{MayPut, put_notes}
 use Rattle.av_evict.specs.System.{Makes, Tells, any_slot}
-use Rattle.av_mem.specs.Cache.{HasPut, Puts}
+use Rattle.av_mem.specs.Cache.{Puts}
 use Rattle.av_mem.specs.Mem.{Serves, held_by, numbers_of, setting_by, view}
 use Rattle.av_mem.specs.Steps.{KeepsParts}
 use Rattle.av_mem.specs.declared.mem.Mem.{Mem}
@@ -140,8 +140,11 @@ module _ (d : Device) (k : Mem) (w : World) (r : Rmap) (l : Ledger) (h : Serves 
         ∙ gives_first-is k.swap most_areas s.area area (λ i j x y. h.swap.one_priority i ∙ sym (h.swap.one_priority j)))
 
     pub is-given : IsGiven m (closing_of k) l s (view k).slots (with_at s.area rest (view k).slots)
-    is-given = (first-gives, subst (λ o. IsSomeAnd o (λ t. (t.0 ≡ s.page) × (with_at s.area rest (view k).slots ≡ with_at s.area t.1 (view k).slots)))
-        (sym slot) (refl, refl))
+    is-given = (
+      first-gives,
+      subst (λ o. IsSomeAnd o (λ t. (t.0 ≡ s.page) × (with_at s.area rest (view k).slots ≡ with_at s.area t.1 (view k).slots)))
+          (sym slot) (refl, refl),
+    )
 
     pub may-be-given : may_give m (closing_of k) l s ≡ true
     may-be-given = all-three (is_free_slot m l s) (is_open (closing_of k) s.area) (has_free_slot m l s.area)

@@ -1,13 +1,12 @@
 -- What a memory system tells of a ledger that it serves.
-use Rattle.std.proofs.Common.{◌≡◌, ℕ, zero, suc, ◌+◌, ◌<◌, ◌≤◌, min, ◌⊎◌, inl, inr, T, Bool, true, false, cond, ◌==◌, ◌&&◌, ◌||◌, not, nat_lt, List, [], ◌∷◌, ◌++◌, length, map, filter, reverse, Option, Some, None, is_some, refl, sym, ap, subst, ◌∙◌, arith}
+use Rattle.std.proofs.Common.{◌≡◌, ℕ, zero, suc, ◌+◌, ◌<◌, ◌≤◌, min, ◌⊎◌, inl, inr, T, Bool, true, false, cond, ◌==◌, ◌&&◌, ◌||◌, nat_lt, List, [], ◌∷◌, ◌++◌, map, filter, reverse, Option, Some, None, refl, sym, ap, subst, ◌∙◌, arith}
 use Rattle.std.proofs.lemmas.Bool.Decides.{nat_tests}
 use Rattle.std.proofs.lemmas.Bool.{false≢true}
 use Rattle.std.proofs.lemmas.List.{append_assoc, append-nil, reverse-append}
-use Rattle.std.specs.FinMap.Entries.{find, is_sorted}
+use Rattle.std.specs.FinMap.Entries.{is_sorted}
 use Rattle.std.specs.List.{list_any, range_with_len}
 use Rattle.std.specs.Prelude.{MatchBool, MatchOption, slice_get}
 use Rattle.av_base.specs.Words.{how_many, is_in}
-use Rattle.av_base.specs.declared.slot.Slot.{Slot}
 use Rattle.av_frames.specs.Store.{first_of}
 use Rattle.av_lru.specs.Lists.{frame_before, last_of}
 use Rattle.av_pagetable.specs.declared.pte.Pte.{Pte}
@@ -17,9 +16,9 @@ use Rattle.av_rmap.specs.Walk.{names_seen as pte_seen}
 use Rattle.av_plain.specs.Areas.{Rmap}
 use Rattle.av_plain.specs.Choice.{ListsFree}
 use Rattle.av_plain.specs.Device.{Device}
-use Rattle.av_plain.specs.Ledger.{Entry, Key, Ledger, Setting, Zero as ZeroEntry, InFrame, InSlot, entry, has_free, is_free, key_cmp}
+use Rattle.av_plain.specs.Ledger.{Entry, Key, Ledger, Setting, has_free, is_free, key_cmp}
 use Rattle.av_plain.specs.Reclaim.{is_referenced, names_seen}
-use Rattle.av_plain.specs.Sound.{IsSoundBut, listings, uses}
+use Rattle.av_plain.specs.Sound.{IsSoundBut, uses}
 use Rattle.av_plain.specs.Stands.{entry_of}
 use Rattle.av_plain.specs.World.{World}
 use Rattle.av_plain.proofs.Ledger.{how_many-append, same_key, same_key-itself}
@@ -28,7 +27,7 @@ use Rattle.av_plain.proofs.Sound.Changes.{any-counts}
 use Rattle.av_plain.proofs.Sound.Counts.{same-itself, same-turned}
 use Rattle.av_swap_laws.proofs.From.{first-is}
 use Rattle.av_evict.specs.System.{any_slot}
-use Rattle.av_mem.specs.Mem.{Serves, plain, setting_by, view}
+use Rattle.av_mem.specs.Mem.{Serves, plain, setting_by}
 use Rattle.av_mem.specs.declared.mem.Mem.{Mem}
 
 -- ---- the first and the last of a list

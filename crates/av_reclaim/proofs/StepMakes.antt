@@ -13,12 +13,12 @@ use Rattle.av_trace.specs.declared.note.Note.TheVariants.{Aged, Dropped, Kept, S
 use Rattle.av_plain.specs.Areas.{Rmap}
 use Rattle.av_plain.specs.Device.{Device, IsSameDevice}
 use Rattle.av_plain.specs.Event.{Noted, after_note}
-use Rattle.av_plain.specs.Ledger.{Cached, Ledger, Setting, cached_by, frame_at, is_cached, map_count, same_slot, slot_entries, slot_of}
+use Rattle.av_plain.specs.Ledger.{Cached, Ledger, cached_by, frame_at, is_cached, map_count, same_slot, slot_entries, slot_of}
 use Rattle.av_plain.specs.Sound.{IsSoundBut}
 use Rattle.av_plain.specs.Stands.{View}
 use Rattle.av_plain.specs.World.{World}
 use Rattle.av_swap_laws.specs.Held.{Steps}
-use Rattle.av_swap_laws.specs.May.{AreOnce, MayLeave}
+use Rattle.av_swap_laws.specs.May.{MayLeave}
 use Rattle.av_swap_laws.specs.Steps.{view_drop, view_keep, view_start, view_to_head, view_unmap, view_unseen}
 use Rattle.av_swap_laws.proofs.Cache.{frame-slot, once-of, slot-frame}
 use Rattle.av_swap_laws.proofs.Few.{together-few}
@@ -26,12 +26,12 @@ use Rattle.av_swap_laws.proofs.From.{cached-in_range, cached-there}
 use Rattle.av_swap_laws.proofs.Whole.{age-steps, drop-steps, keep-steps, start-steps, unmap-steps}
 use Rattle.av_swapcache.specs.Swap.{IsUncached, shown}
 use Rattle.av_evict.specs.Steps.{IsUsed, MayDrop, MayStart, MayUnmap}
-use Rattle.av_evict.specs.System.{Does, Makes, any_slot}
+use Rattle.av_evict.specs.System.{Makes, Stays, any_slot}
 use Rattle.av_mem.specs.Mem.{Serves, held_by, setting_by, view}
 use Rattle.av_mem.specs.Steps.{KeepsParts}
 use Rattle.av_mem.specs.declared.mem.Mem.{Mem}
 use Rattle.av_reclaim.specs.Driver.{closing_of, view_of}
-use Rattle.av_reclaim.proofs.OneNote.{Owes, StandsBy, StepsBy, one-does}
+use Rattle.av_reclaim.proofs.OneNote.{one-does, step-stays}
 
 -- ---- words on a step
 
@@ -42,6 +42,10 @@ same-world false w = refl
 -- one device
 pub itself : (d : Device) → IsSameDevice d d
 itself d = record { sizes = refl; first = refl; faults = omega arith }
+
+-- a step of the memory system alone changes none of what stays
+pub mem-stays : (names : List ℕ) (d : Device) (old new : Mem) → KeepsParts old new → Stays (view_of names d old) (view_of names d new)
+mem-stays names d old new parts = step-stays names d d old new parts (itself d)
 
 pub stands-still : (a : ℕ) → min (a + 0) (2 ^ 64 - 1) ≤ a
 stands-still a = omega arith
@@ -63,7 +67,8 @@ frame-found s l = by l.cache
     by [] = refl
     by (c ∷ cs) = one (same_slot s c.slot) (by cs)
       where
-        one : (b : Bool) → is_some (option_map (λ (c : Cached). c.frame) (cached_by (λ c. same_slot s c.slot) cs)) ≡ list_any (λ (c : Cached). same_slot s c.slot) cs
+        one : (b : Bool)
+            → is_some (option_map (λ (c : Cached). c.frame) (cached_by (λ c. same_slot s c.slot) cs)) ≡ list_any (λ (c : Cached). same_slot s c.slot) cs
             → is_some (option_map (λ (c : Cached). c.frame) (cond b (Some c) (cached_by (λ c. same_slot s c.slot) cs)))
             ≡ (b || list_any (λ (c : Cached). same_slot s c.slot) cs)
         one true h = refl

@@ -1,14 +1,30 @@
-use Rattle.std.proofs.Common.{ap, map, ◌≡◌, [], refl, rules}
+use Rattle.std.proofs.Common.{[], ap, map, refl, rules, true, ◌≡◌}
 use Rattle.av_trace.specs.declared.note.Note.TheVariants.{Aged}
+use Rattle.av_trace.specs.declared.reply.Answer.TheVariants.{Done}
+use Rattle.av_plain.specs.Device.{device_by}
 use Rattle.av_plain.specs.Event.{note_events}
-use Rattle.av_plain.specs.Reclaim.{from_tail}
-use Rattle.av_reclaim.proofs.CommandLaws.{added, is-at}
+use Rattle.av_plain.specs.Reclaim.{Ages, from_tail}
+use Rattle.av_reclaim.proofs.CommandLaws.{added, count-lent, is-at, same-lent}
 use Rattle.av_reclaim.proofs.commands.age.Goals as goal
 
 pub age-requires : goal.age-requires
-age-requires g c = is-at [] _ _ c.requires
+age-requires g c = is-at [] (device_by (g.D.SwapDev.sizes c.args.dev.now) (g.D.SwapDev.pages c.args.dev.now) (g.D.SwapDev.faults c.args.dev.now))
+    c.args.mem.now c.requires
 
-pub returns : goal.returns
-returns g c = λ told. added _ _ _ _ _ _ _ _ _ _
+pub returns-clause-ages : goal.returns-clause-ages
+returns-clause-ages g c = λ told. added _ _ _ _ _ _ _ _ _ _
     (λ closing l notes. notes ≡ map Aged (from_tail c.args.count l.active))
-    _ (λ w l notes asked. (refl, ap note_events asked, refl)) (c.in_ok-age.ensures told) (λ e. (search rules, search rules))
+    (λ m w l added. Ages l c.args.count (note_events added) Done [])
+    (λ w l notes asked. (refl, ap note_events asked, refl)) (c.in_ok-age.ensures.gives told) (λ e. (search rules, search rules))
+
+pub returns-clause-same : goal.returns-clause-same
+returns-clause-same g c = same-lent _ _ _ _ _ _ (c.in_ok-age.ensures.stays true) _ (λ e. search rules)
+
+pub returns-clause-count : goal.returns-clause-count
+returns-clause-count g c = count-lent _ _ _ _ _ _ (c.in_ok-age.ensures.stays true) _ (λ e. search rules)
+
+pub returns-in_err-age-clause-same : goal.returns-in_err-age-clause-same
+returns-in_err-age-clause-same g c = same-lent _ _ _ _ _ _ (c.in_err-age.ensures.stays true) _ (λ e. search rules)
+
+pub returns-in_err-age-clause-count : goal.returns-in_err-age-clause-count
+returns-in_err-age-clause-count g c = count-lent _ _ _ _ _ _ (c.in_err-age.ensures.stays true) _ (λ e. search rules)

@@ -1,13 +1,31 @@
-use Rattle.std.proofs.Common.{[], refl, rules}
+use Rattle.std.proofs.Common.{[], refl, rules, true}
 use Rattle.std.specs.Prelude.{take}
+use Rattle.av_trace.specs.declared.reply.Answer.TheVariants.{Done}
+use Rattle.av_plain.specs.Device.{device_by}
+use Rattle.av_plain.specs.Event.{note_events}
 use Rattle.av_plain.specs.Pass.{Completes}
-use Rattle.av_reclaim.proofs.CommandLaws.{added, is-at}
+use Rattle.av_plain.specs.Reclaim.{CompletesFirst}
+use Rattle.av_reclaim.proofs.CommandLaws.{added, count-lent, is-at, same-lent}
 use Rattle.av_reclaim.proofs.commands.complete.Goals as goal
 
 pub complete-requires : goal.complete-requires
-complete-requires g c = is-at [] _ _ c.requires
+complete-requires g c = is-at [] (device_by (g.D.SwapDev.sizes c.args.dev.now) (g.D.SwapDev.pages c.args.dev.now) (g.D.SwapDev.faults c.args.dev.now))
+    c.args.mem.now c.requires
 
-pub returns : goal.returns
-returns g c = λ told. added _ _ _ _ _ _ _ _ _ _
+pub returns-clause-completes : goal.returns-clause-completes
+returns-clause-completes g c = λ told. added _ _ _ _ _ _ _ _ _ _
     (λ closing l notes. Completes l (take c.args.count l.flight) notes)
-    _ (λ w l notes asked. (notes, asked, refl, refl, refl)) (c.in_ok-complete.ensures told) (λ e. (search rules, search rules))
+    (λ m w l added. CompletesFirst l c.args.count (note_events added) Done [])
+    (λ w l notes asked. (notes, asked, refl, refl, refl)) (c.in_ok-complete.ensures.gives told) (λ e. (search rules, search rules))
+
+pub returns-clause-same : goal.returns-clause-same
+returns-clause-same g c = same-lent _ _ _ _ _ _ (c.in_ok-complete.ensures.stays true) _ (λ e. search rules)
+
+pub returns-clause-count : goal.returns-clause-count
+returns-clause-count g c = count-lent _ _ _ _ _ _ (c.in_ok-complete.ensures.stays true) _ (λ e. search rules)
+
+pub returns-in_err-complete-clause-same : goal.returns-in_err-complete-clause-same
+returns-in_err-complete-clause-same g c = same-lent _ _ _ _ _ _ (c.in_err-complete.ensures.stays true) _ (λ e. search rules)
+
+pub returns-in_err-complete-clause-count : goal.returns-in_err-complete-clause-count
+returns-in_err-complete-clause-count g c = count-lent _ _ _ _ _ _ (c.in_err-complete.ensures.stays true) _ (λ e. search rules)

@@ -1,22 +1,37 @@
-use Rattle.std.proofs.Common.{[], false, rules}
+use Rattle.std.proofs.Common.{None, [], rules, true}
 use Rattle.av_plain.specs.Device.{as_told, device_by}
+use Rattle.av_plain.specs.Fault.{sparing}
 use Rattle.av_plain.specs.Pass.{Seeks}
 use Rattle.av_evict.specs.Pass.{IsEnd}
 use Rattle.av_evict.specs.Steps.{spares}
 use Rattle.av_mem.specs.Mem.{setting_by}
-use Rattle.av_reclaim.proofs.CommandLaws.{added, is-at, next-lent}
+use Rattle.av_reclaim.proofs.CommandLaws.{added, count-lent, is-at, next-lent, same-lent}
 use Rattle.av_reclaim.proofs.commands.seek.Goals as goal
 
 pub seek-requires : goal.seek-requires
-seek-requires g c = is-at [] _ _ c.requires
+seek-requires g c = is-at [] (device_by (g.D.SwapDev.sizes c.args.dev.now) (g.D.SwapDev.pages c.args.dev.now) (g.D.SwapDev.faults c.args.dev.now))
+    c.args.mem.now c.requires
 
 pub returns-clause-seeks : goal.returns-clause-seeks
 returns-clause-seeks g c = λ told.
     let m = setting_by (as_told told (device_by (g.D.SwapDev.sizes c.args.dev.now) (g.D.SwapDev.pages c.args.dev.now)
     (g.D.SwapDev.faults c.args.dev.now))) c.args.mem.now in
     added _ _ _ _ _ _ _ _ _ _ (λ closing l notes. Seeks m (spares closing c.args.pinned) l notes × IsEnd m closing c.args.pinned c.in_ok-end.end l notes)
-    _ (λ w l notes asked. asked) (c.in_ok-end.ensures.seeks told) (λ e. (search rules, search rules))
+    (λ m w l added. Seeks m (sparing w l c.args.pinned) l added × IsEnd m None c.args.pinned c.in_ok-end.end l added)
+    (λ w l notes asked. asked) (c.in_ok-end.ensures.seeks told) (λ e. (search rules, search rules))
 
 pub returns-clause-next : goal.returns-clause-next
-returns-clause-next g c = next-lent c.in_ok-end.end _ _ _ _ _ _ _ _ _ _ c.requires (c.in_ok-end.ensures.seeks false) (record { next = c.in_ok-end.ensures.next false })
-    (λ e. search rules)
+returns-clause-next g c = next-lent _ _ _ _ _ _ (c.in_ok-end.ensures.stays true) c.in_ok-end.end _ (λ e. search rules)
+    (c.in_ok-end.ensures.next true)
+
+pub returns-clause-same : goal.returns-clause-same
+returns-clause-same g c = same-lent _ _ _ _ _ _ (c.in_ok-end.ensures.stays true) _ (λ e. search rules)
+
+pub returns-clause-count : goal.returns-clause-count
+returns-clause-count g c = count-lent _ _ _ _ _ _ (c.in_ok-end.ensures.stays true) _ (λ e. search rules)
+
+pub returns-in_err-end-clause-same : goal.returns-in_err-end-clause-same
+returns-in_err-end-clause-same g c = same-lent _ _ _ _ _ _ (c.in_err-end.ensures.stays true) _ (λ e. search rules)
+
+pub returns-in_err-end-clause-count : goal.returns-in_err-end-clause-count
+returns-in_err-end-clause-count g c = count-lent _ _ _ _ _ _ (c.in_err-end.ensures.stays true) _ (λ e. search rules)

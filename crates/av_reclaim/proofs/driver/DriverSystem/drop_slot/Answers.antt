@@ -1,4 +1,4 @@
-use Rattle.av_reclaim.proofs.StepMakes.{cached-there-too, drop-makes, in-use}
+use Rattle.av_reclaim.proofs.StepMakes.{cached-there-too, drop-makes, in-use, mem-stays}
 use Rattle.av_reclaim.proofs.driver.DriverSystem.drop_slot.Goals as goal
 
 pub drop_slot-requires-clause-cached : goal.drop_slot-requires-clause-cached
@@ -7,5 +7,8 @@ drop_slot-requires-clause-cached g c = cached-there-too _ _ _ _ _ _ c.args.slot 
 pub drop_slot-requires-clause-in_use : goal.drop_slot-requires-clause-in_use
 drop_slot-requires-clause-in_use g c = in-use _ _ _ _ _ _ c.args.slot c.requires.1 c.requires.2.2
 
-pub returns : goal.returns
-returns g c = λ told. drop-makes _ _ _ _ c.args.slot c.drop_slot.ensures.dropped c.drop_slot.ensures.parts
+pub returns-clause-makes : goal.returns-clause-makes
+returns-clause-makes g c = λ told. drop-makes _ _ _ _ c.args.slot c.drop_slot.ensures.dropped c.drop_slot.ensures.parts
+
+pub returns-clause-stays : goal.returns-clause-stays
+returns-clause-stays g c = λ told. mem-stays _ _ _ _ c.drop_slot.ensures.parts

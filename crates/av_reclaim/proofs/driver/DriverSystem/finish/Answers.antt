@@ -1,6 +1,6 @@
 use Rattle.std.proofs.Common.{None, Some, [], ap}
 use Rattle.av_plain.specs.Device.{device_by}
-use Rattle.av_reclaim.proofs.FinishMakes.{finish-told, first-told}
+use Rattle.av_reclaim.proofs.FinishMakes.{finish-stays, finish-told, first-told}
 use Rattle.av_reclaim.proofs.driver.DriverSystem.finish.Goals as goal
 
 pub returns-in_err-finished-clause-first : goal.returns-in_err-finished-clause-first
@@ -37,3 +37,21 @@ returns-clause-ends g c =
     let d' = device_by (g.D.SwapDev.sizes dev') (g.D.SwapDev.pages dev') (g.D.SwapDev.faults dev') in
     finish-told _ d d' c.args.self.now.mem.now c.finish.new.self (Some c.in_ok-finished.finished) _ (ap (λ e. Some e) c.end_of.ensures)
     c.in_ok-finished.ensures.same_sizes c.in_ok-finished.ensures.never_falls c.in_ok-finished.ensures.parts c.in_ok-finished.ensures.ends
+
+pub returns-in_err-finished-clause-stays : goal.returns-in_err-finished-clause-stays
+returns-in_err-finished-clause-stays g c =
+    let dev = c.args.self.now.dev.now in
+    let dev' = c.finish.new.dev in
+    let d = device_by (g.D.SwapDev.sizes dev) (g.D.SwapDev.pages dev) (g.D.SwapDev.faults dev) in
+    let d' = device_by (g.D.SwapDev.sizes dev') (g.D.SwapDev.pages dev') (g.D.SwapDev.faults dev') in
+    finish-stays _ d d' c.args.self.now.mem.now c.finish.new.self None c.in_err-finished.ensures.same_sizes c.in_err-finished.ensures.never_falls
+    c.in_err-finished.ensures.parts c.in_err-finished.ensures.ends
+
+pub returns-clause-stays : goal.returns-clause-stays
+returns-clause-stays g c =
+    let dev = c.args.self.now.dev.now in
+    let dev' = c.finish.new.dev in
+    let d = device_by (g.D.SwapDev.sizes dev) (g.D.SwapDev.pages dev) (g.D.SwapDev.faults dev) in
+    let d' = device_by (g.D.SwapDev.sizes dev') (g.D.SwapDev.pages dev') (g.D.SwapDev.faults dev') in
+    finish-stays _ d d' c.args.self.now.mem.now c.finish.new.self (Some c.in_ok-finished.finished) c.in_ok-finished.ensures.same_sizes
+    c.in_ok-finished.ensures.never_falls c.in_ok-finished.ensures.parts c.in_ok-finished.ensures.ends
