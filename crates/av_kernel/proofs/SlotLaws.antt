@@ -65,8 +65,8 @@ frame-found : (t : Slot) (cache : List Cached) → is_some (option_map (λ (c : 
 frame-found t [] = refl
 frame-found t (c ∷ cache) = by (same_slot t c.slot) (frame-found t cache)
   where
-    by : (b : Bool) → is_some (option_map (λ (c : Cached). c.frame) (cached_by (λ c. same_slot t c.slot) cache)) ≡ list_any (λ (c : Cached). same_slot t c.slot) cache
-        → is_some (option_map (λ (c : Cached). c.frame) (cond b (Some c) (cached_by (λ c. same_slot t c.slot) cache)))
+    by : (b : Bool) → is_some (option_map (λ (c : Cached). c.frame) (cached_by (λ c. same_slot t c.slot) cache))
+        ≡ list_any (λ (c : Cached). same_slot t c.slot) cache → is_some (option_map (λ (c : Cached). c.frame) (cond b (Some c) (cached_by (λ c. same_slot t c.slot) cache)))
         ≡ (b || list_any (λ (c : Cached). same_slot t c.slot) cache)
     by true h = refl
     by false h = h
@@ -124,14 +124,15 @@ module _ {d : Device} (k : Mem) (s : State) (area page : ℕ) (keeps : Keeps d k
   told-at : (told : ℕ → Option Layout) → headers_of d ≡ Some told → (header : Header) → header_at h area ≡ Some header
       → (layout : Layout) × (told area ≡ Some layout) × AgreesWith h area header layout
   told-at told tells header is =
-      let all = subst (λ (o : Option (ℕ → Option Layout)). IfSome o (λ told. (a : ℕ) → IfSome (header_at h a) (λ header. IsSomeAnd (told a) (AgreesWith h a header))))
-      tells keeps.swap.by_headers in
+      let all = subst (λ (o : Option (ℕ → Option Layout)). IfSome o (λ told. (a : ℕ)
+      → IfSome (header_at h a) (λ header. IsSomeAnd (told a) (AgreesWith h a header)))) tells keeps.swap.by_headers in
       some-and (AgreesWith h area header) (told area)
       (subst (λ (o : Option Header). IfSome o (λ header. IsSomeAnd (told area) (AgreesWith h area header))) is (all area))
 
   -- how many pages the area uses, by what is told
   abbrev used_by : Option (ℕ → Option Layout) → ℕ
-  used_by headers = option_map_or (λ (headers : ℕ → Option Layout). option_map_or (λ (h : Layout). h.pages) (headers area) 0) headers (unwrap_or (d.sizes area) 0)
+  used_by headers = option_map_or (λ (headers : ℕ → Option Layout). option_map_or (λ (h : Layout). h.pages) (headers area) 0) headers
+      (unwrap_or (d.sizes area) 0)
 
   used-told : (told : ℕ → Option Layout) → headers_of d ≡ Some told → (header : Header) → header_at h area ≡ Some header → used_by (headers_of d) ≡ header.pages
   used-told told tells header is = let at = told-at told tells header is in

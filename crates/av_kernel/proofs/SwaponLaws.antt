@@ -32,7 +32,7 @@ use Rattle.av_plain.specs.Ledger.{HasNumbers, is_header_slot, is_on}
 use Rattle.av_plain.specs.Refusal.{Refuses, refusal, tests}
 use Rattle.av_plain.specs.Stands.{Stands, View, free_of}
 use Rattle.av_plain.specs.Step.{Follows, causes}
-use Rattle.av_plain.specs.Swapon.{IsByHeader, header_answer, turn_on_events}
+use Rattle.av_plain.specs.Swapon.{IsByHeader, header_answer}
 use Rattle.av_plain.specs.Transcript.{IsStep, State, rmap_of}
 use Rattle.av_plain.proofs.Device.{setting-layouts}
 use Rattle.av_plain.proofs.FreeSteps.{step-lists}
@@ -267,7 +267,8 @@ module _ (d : Device) (k : Mem) (swap : SwapStore) (s : State) (area pages : ℕ
           ap (λ n. nat_lt page n && not (is_in page layout.bad)) (sym (ap (λ (h : Header). h.pages) came.5))
           ∙ ap (λ b. b && not (is_in page layout.bad)) (less page header.pages below)
           ∙ sym (ap (λ b. not (b && is_in page layout.bad)) (less page header.pages below))
-          ∙ sym (ap (λ b. not (cond b (nat_lt page header.pages && is_in page layout.bad) ((shown_swap k.swap).bad (record { area = area; page = page })))) (same area))
+          ∙ sym (ap (λ b. not (cond b (nat_lt page header.pages && is_in page layout.bad)
+          ((shown_swap k.swap).bad (record { area = area; page = page })))) (same area))
 
   other-agrees : (a : ℕ) (other : Header) (l : Layout) → (a == area) ≡ false → AgreesWith (shown_swap k.swap) a other l → AgreesWith shown_then a other l
   other-agrees a other l apart h = record {
@@ -285,7 +286,8 @@ module _ (d : Device) (k : Mem) (swap : SwapStore) (s : State) (area pages : ℕ
       layout_so a other (Some l) apart h = other-agrees a other l apart h
 
       header_so : (headers : ℕ → Option Layout) (a : ℕ) (o : Option Header) → (a == area) ≡ false
-          → IfSome o (λ other. IsSomeAnd (headers a) (AgreesWith (shown_swap k.swap) a other)) → IfSome o (λ other. IsSomeAnd (headers a) (AgreesWith shown_then a other))
+          → IfSome o (λ other. IsSomeAnd (headers a) (AgreesWith (shown_swap k.swap) a other))
+          → IfSome o (λ other. IsSomeAnd (headers a) (AgreesWith shown_then a other))
       header_so headers a None apart h = tt
       header_so headers a (Some other) apart h = layout_so a other (headers a) apart h
 
@@ -347,18 +349,20 @@ module _ (d : Device) (k : Mem) (swap : SwapStore) (s : State) (area pages : ℕ
 
 -- ---- by what came of it
 
--- where the area isn't turned on, it answers an error
-module _ (d : Device) (k : Mem) (swap : SwapStore) (s : State) (area pages : ℕ) (there : d.sizes area ≡ Some pages) (some : 0 < pages) (keeps : Keeps d k s) where
+module _ (d : Device) (k : Mem) (swap : SwapStore) (s : State) (area pages : ℕ) (there : d.sizes area ≡ Some pages) (some : 0 < pages)
+    (keeps : Keeps d k s) where
   -- page 0 can't be read, or is no header
-  not-on : (error : Errno) → is_shown_on (shown_swap k.swap) area ≡ false → shown_swap swap ≡ shown_swap k.swap → turn_on_events area (Refused error) ≡ []
-      → ((Refused error ≡ Refused Eio) ⊎ IsByHeader (headers_of d) area (Refused error)) → StepsBeside d k (with_swap k swap) s (Swapon area) (answer_only (Refused error))
-  not-on error off same none is = record {
+  not-on : (error : Errno) → is_shown_on (shown_swap k.swap) area ≡ false → shown_swap swap ≡ shown_swap k.swap
+      → ((Refused error ≡ Refused Eio) ⊎ IsByHeader (headers_of d) area (Refused error))
+      → StepsBeside d k (with_swap k swap) s (Swapon area) (answer_only (Refused error))
+  not-on error off same is = record {
     next = s;
     step = record {
       events = [];
       legal = record {
-        answer = subst (λ o. MatchOption o (Follows (setting_by d k) s.world s.ledger (Swapon area) [] (Refused error) []) (λ e. Refuses e [] (Refused error) []))
-            (sym (tests-are k s area keeps pages there some ∙ ap (λ b. cond b (Some Ebusy) None) off)) (is, sym none, refl);
+        answer = subst (λ o. MatchOption o (Follows (setting_by d k) s.world s.ledger (Swapon area) [] (Refused error) [])
+            (λ e. Refuses e [] (Refused error) []))
+            (sym (tests-are k s area keeps pages there some ∙ ap (λ b. cond b (Some Ebusy) None) off)) (is, refl, refl);
         notes = refl;
       };
       world = world_as (setting_by d k) s.world s.ledger [] (Swapon area) (Refused error) refl;
@@ -375,8 +379,8 @@ module _ (d : Device) (k : Mem) (swap : SwapStore) (s : State) (area pages : ℕ
   on-answered (IsOn header) h = turned-on d k swap s area pages there some keeps header h
   on-answered Busy h = let was = refused k s (Swapon area) Ebusy keeps (tests-are k s area keeps pages there some ∙ ap (λ b. cond b (Some Ebusy) None) h.0) in
       record { next = was.next; step = was.step; keeps = alike-keeps d k swap was.next h.1 was.keeps }
-  on-answered Io h = not-on Eio h.0 h.1 refl (inl refl)
-  on-answered (Bad fault) h = not-on Einval h.0 h.4 refl (inr (by d.pages h.2))
+  on-answered Io h = not-on Eio h.0 h.1 (inl refl)
+  on-answered (Bad fault) h = not-on Einval h.0 h.4 (inr (by d.pages h.2))
     where
       by : (told : Option (ℕ → ℕ → List ℕ)) → Holds told area 0 h.1 → IsByHeader (headers_of (device_by d.sizes told 0)) area (Refused Einval)
       by None holds = inl refl

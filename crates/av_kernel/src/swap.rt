@@ -46,7 +46,7 @@ pub fn swapon<D: SwapDev>(
     Ok(())
 }
 
-/// How many pages a swap area has. Refuses where it isn't attached, or has none; no such area is on.
+/// How many pages a swap area has. Refuses where it isn't attached, or has none.
 fn pages_of(sizes: &[u32], area: u8) -> Result<u32, Errno>
     ensures { MatchResult result
         (λ pages. (0 < pages) × (slice_get sizes.now area ≡ Some pages))
