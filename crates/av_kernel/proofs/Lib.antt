@@ -21,4 +21,6 @@ pub mod ReportAreas
 pub mod ReportEntry
 pub mod ReportWalk
 pub mod ReportStat
+pub mod SlotLaws
+pub mod SwaponLaws
 pub mod TallyCounts

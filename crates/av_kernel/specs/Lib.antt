@@ -1,4 +1,5 @@
 pub mod Step
+pub mod Swap
 pub mod Process
 pub mod Map
 pub mod Access

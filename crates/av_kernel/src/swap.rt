@@ -1,12 +1,15 @@
 //! Swap areas come on, and what is asked of their slots: `swapon` and `slot`.
 
-ghost use Rattle.std.specs.Prelude.{◌≡◌, ◌<◌, ◌≤◌, length};
+ghost use Rattle.std.specs.Prelude.{◌≡◌, ◌<◌, ◌≤◌, false, true, length, slice_get, unwrap_or, MatchResult, Some};
+ghost use Rattle.av_swapcache.specs.Swap.{IsPage, header_at, shown as shown_swap};
 ghost use Rattle.av_swapdev.specs.Device.{most_areas};
 ghost use Rattle.av_trace.specs.Reply.{IsCleared};
 ghost use Rattle.av_trace.specs.declared.command.Command.TheVariants as commands;
+ghost use Rattle.av_trace.specs.declared.reply.Errno.TheVariants as errors;
 ghost use Rattle.av_mem.specs.Mem.{IsSteady, IsSteadyAt};
 ghost use Rattle.av_kernel.specs.Machine.{sizes_of};
 ghost use Rattle.av_kernel.specs.Step.{Does, DoesBeside, reply_in, seen_by};
+ghost use Rattle.av_kernel.specs.Swap.{has_page, on_answer as answer_of_on, page_answer};
 
 use crate::answer::answer_with;
 use crate::refusal::Refusal;
@@ -37,33 +40,37 @@ pub fn swapon<D: SwapDev>(
     ensures { let d = seen_by D.sizes D.pages D.faults in Does (d dev.old) (d dev.new)
         mem.old mem.new (commands.Swapon area) (reply_in reply.new result) }
 {
-    let pages = pages_of(mem, sizes, area)?;
-    let answer = match mem.swap.swapon(alloc, area, pages, PRIORITY, dev)? {
+    let pages = pages_of(sizes, area)?;
+    let came = mem.swap.swapon(alloc, area, pages, PRIORITY, dev)?;
+    answer_with(reply, on_answer(came));
+    Ok(())
+}
+
+/// How many pages a swap area has. Refuses where it isn't attached, or has none.
+fn pages_of(sizes: &[u32], area: u8) -> Result<u32, Errno>
+    ensures { MatchResult result
+        (λ pages. (0 < pages) × (slice_get sizes.now area ≡ Some pages))
+        (λ error. (unwrap_or (slice_get sizes.now area) 0 ≡ 0) × (error ≡ errors.Einval)) }
+{
+    match sizes.get(area as usize) {
+        Some(pages) if *pages > 0 => Ok(*pages),
+        _ => Err(Errno::Einval),
+    }
+}
+
+/// What a `swapon` answers, by what came of it.
+fn on_answer(came: SwapOn) -> Answer
+    ensures { result ≡ answer_of_on came }
+{
+    match came {
         SwapOn::On(header) => Answer::On {
             slots: header.slots,
             bad: header.bad,
         },
+        SwapOn::Busy => Answer::Refused(Errno::Ebusy),
         SwapOn::Io => Answer::Refused(Errno::Eio),
         SwapOn::Bad(_) => Answer::Refused(Errno::Einval),
-        SwapOn::Busy => unreachable!(),
-    };
-    answer_with(reply, answer);
-    Ok(())
-}
-
-/// How many pages a swap area has that is off. Refuses where it isn't attached, is on, or has none.
-fn pages_of(mem: &Mem, sizes: &[u32], area: u8) -> Result<u32, Errno>
-{
-    let Some(pages) = sizes.get(area as usize) else {
-        return Err(Errno::Einval);
-    };
-    if mem.swap.is_on(area) {
-        return Err(Errno::Ebusy);
     }
-    if *pages == 0 {
-        return Err(Errno::Einval);
-    }
-    Ok(*pages)
 }
 
 /// Does a `slot`: how many entries name a slot, with the frame that caches it counted too, and
@@ -73,6 +80,7 @@ pub fn slot(mem: &Mem, area: u8, page: u32, reply: &mut Reply) -> Result<(), Ref
     requires cleared { IsCleared reply.old }
     ensures { DoesBeside mem.now mem.now (commands.Slot area page) (reply_in reply.new result) }
 {
+    mem.swap.keeps();
     check_slot(mem, area, page)?;
     answer_with(reply, slot_answer(mem, Slot { area, page }));
     Ok(())
@@ -80,6 +88,10 @@ pub fn slot(mem: &Mem, area: u8, page: u32, reply: &mut Reply) -> Result<(), Ref
 
 /// Refuses where the area is off, or the page is its header's or past its end.
 fn check_slot(mem: &Mem, area: u8, page: u32) -> Result<(), Errno>
+    ensures { MatchResult result
+        (λ _. has_page (header_at (shown_swap mem.now.swap) area) page ≡ true)
+        (λ error. (has_page (header_at (shown_swap mem.now.swap) area) page ≡ false)
+        × (error ≡ errors.Einval)) }
 {
     if !mem.swap.is_on(area) || page == 0 || page >= mem.swap.pages(area) {
         return Err(Errno::Einval);
@@ -89,6 +101,8 @@ fn check_slot(mem: &Mem, area: u8, page: u32) -> Result<(), Errno>
 
 /// What a page of a swap area that is on is.
 fn slot_answer(mem: &Mem, slot: Slot) -> Answer
+    requires { IsPage (shown_swap mem.now.swap) slot }
+    ensures { result ≡ page_answer (shown_swap mem.now.swap) slot }
 {
     if mem.swap.bad(slot) {
         return Answer::SlotBad(slot);
