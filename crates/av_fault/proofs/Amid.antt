@@ -1,18 +1,17 @@
 -- What an event of an access leaves of what stands, of views alone.
-use Rattle.std.proofs.Common.{◌≡◌, ℕ, Bool, true, false, T, List, [], ◌∷◌, Option, Some, None, is_some, IfSome, refl, sym, ap, subst, ◌∙◌}
+use Rattle.std.proofs.Common.{◌≡◌, T, [], ◌∷◌, None, IfSome, sym, ap, subst, ◌∙◌}
 use Rattle.std.specs.Prelude.{option_map}
 use Rattle.std.specs.FinMap.Entries.{is_sorted}
 use Rattle.av_vma.specs.Pages.{pages_in}
 use Rattle.av_vma.specs.declared.area.Area.{Area}
-use Rattle.av_trace.specs.declared.note.Note.{Note}
 use Rattle.av_plain.specs.Areas.{Anons, Areas, chain_by}
 use Rattle.av_plain.specs.Choice.{ListsAll}
 use Rattle.av_plain.specs.Event.{Event, Forked, Moved, Noted, TurnedOff, TurnedOn, Used, Zapped, after}
-use Rattle.av_plain.specs.Ledger.{Key, Ledger, Setting, key_cmp}
+use Rattle.av_plain.specs.Ledger.{Ledger, Setting, key_cmp}
 use Rattle.av_plain.specs.Load.{with_loads}
 use Rattle.av_plain.specs.Sound.{AreThere, AreasFit, AtPages, IsSound, IsTidy}
-use Rattle.av_plain.specs.Stands.{AnonsStand, AreasAre, AreasStand, View, free_of, kin_of}
-use Rattle.av_plain.specs.World.{World, pages}
+use Rattle.av_plain.specs.Stands.{AnonsStand, AreasAre, AreasStand, free_of, kin_of}
+use Rattle.av_plain.specs.World.{World}
 use Rattle.av_plain.proofs.FreeFrames.{IsHeld as IsNamed}
 use Rattle.av_plain.proofs.FreeLists.{IsLawfulEvent, lists-stay}
 use Rattle.av_plain.proofs.Sound.{map_count-loads, tidy-loads}
@@ -81,11 +80,11 @@ amid-after m h h' e of steps beside sound a =
       are = λ p page. ap (λ areas. pages_in (areas p) page) beside.view_areas ∙ a.are p page ∙ ap (λ (areas : Areas). areas p page) (sym beside.areas);
       anons = subst (λ (areas : Areas). AnonsStand h'.view areas h'.rmap.anons) (sym beside.areas)
           (subst (AnonsStand h'.view h.rmap.areas) (sym beside.anons) (record {
-        next = ap (λ (x : Anons). x.next) beside.view_anons ∙ a.anons.next;
-        kin = λ n. ap (λ (x : Anons). option_map kin_of (x.anon n)) beside.view_anons ∙ a.anons.kin n;
-        chains = λ p page. subst (λ (x : Anons). IfSome (h.rmap.areas p page) (λ (area : Area). chain_by x area.anon ≡ chain_by h.rmap.anons area.anon))
-            (sym beside.view_anons) (a.anons.chains p page);
-      }));
+            next = ap (λ (x : Anons). x.next) beside.view_anons ∙ a.anons.next;
+            kin = λ n. ap (λ (x : Anons). option_map kin_of (x.anon n)) beside.view_anons ∙ a.anons.kin n;
+            chains = λ p page. subst (λ (x : Anons). IfSome (h.rmap.areas p page) (λ (area : Area). chain_by x area.anon ≡ chain_by h.rmap.anons area.anon))
+                (sym beside.view_anons) (a.anons.chains p page);
+          }));
       tidy = subst IsTidy (sym beside.world) (tidy-loads m h.world h.ledger (e ∷ []) a.tidy);
       at_pages = subst (λ w. AtPages w h'.ledger) (sym beside.world) (subst (AtPages (with_loads m h.world h.ledger (e ∷ []))) (sym steps.ledger)
           (λ p page is. map_count-loads m h.world h.ledger (e ∷ []) p page ∙ made.at (λ q. a.at_pages q.0 q.1) (p, page) is));

@@ -1,35 +1,26 @@
 -- What stands between two events, of the memory system.
-use Rattle.std.proofs.Common.{◌≡◌, ℕ, ◌+◌, ◌≤◌, Bool, true, false, cond, not, nat_lt, ◌&&◌, ◌==◌, ◌<◌, List, [], ◌∷◌, ◌++◌, Option, Some, None, is_some, IfSome, IsSomeAnd, refl, sym, ap, subst, ◌∙◌, arith}
+use Rattle.std.proofs.Common.{◌≡◌, ℕ, ◌≤◌, Bool, true, false, not, nat_lt, ◌&&◌, ◌==◌, ◌<◌, List, Option, Some, None, is_some, IfSome, IsSomeAnd, refl, sym, ap, subst, ◌∙◌, arith}
 use Rattle.std.specs.FinMap.Entries.{find}
 use Rattle.std.specs.Ordering.{nat_cmp}
-use Rattle.std.specs.Prelude.{map, option_map, slice_index}
+use Rattle.std.specs.Prelude.{option_map, slice_index}
 use Rattle.av_base.specs.Page.{page_size}
 use Rattle.av_base.specs.declared.slot.Slot.{Slot}
-use Rattle.av_anon.specs.declared.anons.Anons.{Anons as AnonSet}
-use Rattle.av_io.specs.Count.{RoseBy}
-use Rattle.av_lru.specs.Lists.{Lists}
 use Rattle.av_spaces.specs.Kin.{AnonsFit}
 use Rattle.av_spaces.specs.Spaces.{AllSpaces}
 use Rattle.av_swapcache.specs.Swap.{Shown as ShownSwap, header_at, shown as shown_swap}
 use Rattle.av_swapdev.specs.declared.header.Header.{Header}
 use Rattle.av_swapdev.specs.Header.{Layout}
-use Rattle.av_plain.specs.Areas.{Rmap, rmap_after_all}
-use Rattle.av_plain.specs.Choice.{ChoosesAll, Free, ListsAll}
+use Rattle.av_plain.specs.Areas.{Rmap}
+use Rattle.av_plain.specs.Choice.{ListsAll}
 use Rattle.av_plain.specs.Device.{Device, IsSameDevice, as_told, device_by, headers_of, setting_of}
-use Rattle.av_plain.specs.Event.{Event, after, after_all}
-use Rattle.av_plain.specs.Ledger.{Entry, InFrame, InSlot, Ledger, Setting, Zero, entry, frame_at, SwapArea, is_free_slot, is_on, is_usable, may_be_slot, size_of, slot_count}
-use Rattle.av_plain.specs.Load.{after_load, after_loads, with_loads}
-use Rattle.av_plain.specs.Sound.{AreThere, AreasFit, IsSound, count, is_there}
-use Rattle.av_plain.specs.Stands.{BytesStand, HeadersStand, Holds, IsClean, IsKept, IsKeptAt, LedgerStands, View, free_of}
+use Rattle.av_plain.specs.Ledger.{Entry, InFrame, InSlot, Ledger, Setting, Zero, entry, frame_at, SwapArea, is_on, may_be_slot, size_of, slot_count}
+use Rattle.av_plain.specs.Sound.{count}
+use Rattle.av_plain.specs.Stands.{BytesStand, Holds, IsClean, IsKept, IsKeptAt, View}
 use Rattle.av_plain.specs.Transcript.{State, rmap_of}
 use Rattle.av_plain.specs.World.{Page, World, pages}
-use Rattle.av_plain.proofs.Access.{after_all-append, chooses-append}
-use Rattle.av_plain.proofs.AreasLeft.{rmap_after_all-append}
 use Rattle.av_plain.proofs.Device.{setting_same}
-use Rattle.av_pagetable.specs.Entries.{has}
-use Rattle.av_swap_laws.specs.Held.{Held, IsHeld}
 use Rattle.av_mem.specs.declared.mem.Mem.{Mem}
-use Rattle.av_mem.specs.Mem.{AgreesWith, AreByHeaders, HasLists, HasTables, IsSteadyAt, Keeps, Serves, SwapFits, frame_count, held_by, ranges_of, setting_by, view}
+use Rattle.av_mem.specs.Mem.{AgreesWith, AreByHeaders, HasLists, HasTables, IsSteadyAt, Keeps, SwapFits, frame_count, held_by, ranges_of, setting_by, view}
 use Rattle.av_mem.specs.Steps.{KeepsParts}
 use Rattle.av_mem.specs.Between.{IsBetween, KeepsBetween}
 use Rattle.av_fault.proofs.Amid.{Amid}
@@ -116,6 +107,10 @@ headers-same a b same = ap (λ (m : Setting). m.headers) (setting_same 0 a b sam
 
 pub same-still : (d : Device) → IsSameDevice d d
 same-still d = record { sizes = refl; first = refl; faults = omega arith }
+
+pub told-same : (told : Bool) (d d' : Device) → IsSameDevice d d' → IsSameDevice (as_told told d) (as_told told d')
+told-same true d d' same = same
+told-same false d d' same = record { sizes = same.sizes; first = refl; faults = same.faults }
 
 pub same-then : (a b c : Device) → IsSameDevice a b → IsSameDevice b c → IsSameDevice a c
 same-then a b c ab bc = record {

@@ -13,10 +13,10 @@ use Rattle.av_pagetable.specs.declared.pte.Pte.TheVariants.{Away, Empty, Here, Z
 use Rattle.av_pagetable.specs.Entries.{entry_at}
 use Rattle.av_spaces.specs.Kin.{chain_by, info_of}
 use Rattle.av_spaces.specs.Spaces.{pages_of}
-use Rattle.av_swapcache.specs.Swap.{IsUncached, shown as shown_swap}
+use Rattle.av_swapcache.specs.Swap.{HasAreas, IsUncached, shown as shown_swap}
 use Rattle.av_swapdev.specs.Device.{Holds as HoldsBytes}
 use Rattle.av_trace.specs.declared.note.Note.{Note}
-use Rattle.av_trace.specs.declared.note.Note.TheVariants.{Aged, Copied, Dropped, Failed, Kept, Loaded, Mapped, New, Put, Started, Unmapped, Written, Zeroed}
+use Rattle.av_trace.specs.declared.note.Note.TheVariants.{Loaded, Mapped}
 use Rattle.av_trace.specs.declared.reply.OutOf.{OutOf}
 use Rattle.av_vma.specs.Join.{index_of}
 use Rattle.av_vma.specs.Pages.{home_of}
@@ -34,7 +34,8 @@ use Rattle.av_plain.specs.Sound.{no_excuse, slots, uses}
 use Rattle.av_plain.specs.Stands.{Pte as Plain, View, entry_of, free_of, kin_of}
 use Rattle.av_plain.specs.World.{World}
 use Rattle.av_plain.proofs.Access.{after_notes-append, note_events-all, note_events-append}
-use Rattle.av_plain.proofs.Covered.Swap.{AllFit, Fits, fit-seeks}
+use Rattle.av_plain.proofs.Covered.Page.{fit-areas}
+use Rattle.av_plain.proofs.Covered.Swap.{fit-seeks}
 use Rattle.av_plain.proofs.Ledger.{entry-set, how_many-append, same_key-itself}
 use Rattle.av_plain.proofs.Ledger.NoSwap.{key_at-address, key_is}
 use Rattle.av_plain.proofs.Load.{without-loads}
@@ -54,7 +55,7 @@ use Rattle.av_swap_laws.proofs.Sound.{load-sound, map-sound}
 use Rattle.av_swap_laws.proofs.WholePages.{load-steps, map-steps}
 use Rattle.av_mem.specs.declared.mem.Mem.{Mem}
 use Rattle.av_mem.specs.Cache.{HasLoaded}
-use Rattle.av_mem.specs.Mem.{HasLists, anon_vma, frame_count, held_by, plain, setting_by, view}
+use Rattle.av_mem.specs.Mem.{HasLists, HasRoom, anon_vma, frame_count, held_by, plain, setting_by, view}
 use Rattle.av_mem.specs.Steps.{KeepsParts}
 use Rattle.av_mem.specs.Between.{Does, HasDone, IsBetween, KeepsBetween}
 use Rattle.av_fault.specs.Coming.{Comes, Fetches, HasCome, home_by, root_in}
@@ -134,27 +135,6 @@ module _ (d : Device) (k : Mem) (w : World) (r : Rmap) (l : Ledger) (h : KeepsBe
         by None None e kin = absurd kin
         by None (Some a) e kin = absurd (none-some (kin_of a) e)
         by (Some i) y e kin = refl
-
--- ---- notes that prepare no area
-
-note-areas : (l : Ledger) (r : Rmap) (note : Note) → Fits l note → (rmap_after_note l note r).areas ≡ r.areas
-note-areas l r (Zeroed p a) fits = refl
-note-areas l r (New p a f) fits = absurd fits
-note-areas l r (Copied p a f) fits = refl
-note-areas l r (Loaded t f) fits = refl
-note-areas l r (Mapped p a f) fits = refl
-note-areas l r (Put f t) fits = refl
-note-areas l r (Unmapped f) fits = refl
-note-areas l r (Started t) fits = refl
-note-areas l r (Written t) fits = refl
-note-areas l r (Failed t) fits = refl
-note-areas l r (Dropped t) fits = refl
-note-areas l r (Kept f cause) fits = refl
-note-areas l r (Aged f) fits = refl
-
-fit-areas : (l : Ledger) (r : Rmap) (notes : List Note) → AllFit l notes → (rmap_after_all l (note_events notes) r).areas ≡ r.areas
-fit-areas l r [] fit = refl
-fit-areas l r (note ∷ notes) fit = fit-areas (after_note note l) (rmap_after_note l note r) notes fit.1 ∙ note-areas l r note fit.0
 
 -- ---- notes that are no failed write
 
@@ -394,17 +374,19 @@ told-rose true n d d' rose = rose
 told-rose false n d d' rose = rose
 
 -- what the load asks for, whatever the device tells
-pub record IsToLoad (mid : Mem) (s : Slot) (home : Option (ℕ × ℕ)) : Type 0 where
+pub record IsToLoad (sizes : ℕ → Option ℕ) (mid : Mem) (s : Slot) (home : Option (ℕ × ℕ)) : Type 0 where
   pub anon : (x : ℕ × ℕ) → home ≡ Some x → IsSome (info_of mid.anons x.0)
   pub listed : HasLists mid
   pub named : 0 < (view mid).entries s
   pub absent : (view mid).find s ≡ None
   pub uncached : (f : ℕ) → is_in f (view mid).free ≡ true → IsUncached (shown_swap mid.swap) f
   pub finds : (view mid).free ≡ [] → ⊥
+  pub fits : HasRoom mid
+  pub areas : HasAreas sizes (shown_swap mid.swap)
 
 pub to-load : (d d1 : Device) (old mid : Mem) (q : Key) (s : Slot) (home : Option (ℕ × ℕ)) (before now : List Note) (found : Got) → IsBetween d.sizes old
     → entry_at old.tables q.0 q.1 ≡ Away s → home ≡ home_of q.1 (pages_of old.spaces.processes q.0 q.1) → (view old).find s ≡ None
-    → Does d d1 old (λ d d' w r l. HasSought d d' old mid w r l None before now found) → found ≡ Frame → IsToLoad mid s home
+    → Does d d1 old (λ d d' w r l. HasSought d d' old mid w r l None before now found) → found ≡ Frame → IsToLoad d1.sizes mid s home
 to-load d d1 old mid q s home before now found between there is absent does frame =
     let b = between-some d.sizes old d.faults between in
     let d0 = as_told false d in
@@ -417,6 +399,8 @@ to-load d d1 old mid q s home before now found between there is absent does fram
       absent = load-absent d0 d2 old mid b.0 b.1 b.2 q s home before now b.3 there is absent sought;
       uncached = load-uncached d0 d2 old mid b.0 b.1 b.2 q s home before now b.3 there is absent sought;
       finds = load-finds d0 d2 old mid b.0 b.1 b.2 q s home before now b.3 there is absent sought;
+      fits = sought.done.between.serves.swap.frames;
+      areas = sought.done.between.serves.swap.on_device;
     }
 
 -- ---- the entry names the frame then

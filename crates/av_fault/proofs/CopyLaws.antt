@@ -1,5 +1,5 @@
 -- A page gets a copy of its frame, and is written.
-use Rattle.std.proofs.Common.{◌≡◌, ℕ, ◌+◌, ◌<◌, ◌==◌, Bool, true, false, cond, ◌&&◌, IsSome, List, [], ◌∷◌, ◌++◌, Option, Some, None, is_some, refl, sym, ap, subst, ◌∙◌}
+use Rattle.std.proofs.Common.{◌≡◌, ℕ, ◌<◌, ◌==◌, Bool, true, false, cond, ◌&&◌, List, [], ◌∷◌, ◌++◌, Option, Some, None, is_some, refl, sym, ap, subst, ◌∙◌}
 use Rattle.std.proofs.lemmas.Bool.{false≢true}
 use Rattle.av_base.specs.Page.{address_of, page_of}
 use Rattle.av_pagetable.specs.declared.pte.Pte.{Pte}
@@ -7,7 +7,6 @@ use Rattle.av_pagetable.specs.declared.pte.Pte.TheVariants.{Away, Empty, Here, Z
 use Rattle.av_pagetable.specs.Entries.{entry_at}
 use Rattle.av_spaces.specs.Spaces.{pages_of}
 use Rattle.av_vma.specs.Pages.{home_of}
-use Rattle.av_vma.specs.declared.area.Area.{Area}
 use Rattle.av_trace.specs.declared.note.Note.{Note}
 use Rattle.av_trace.specs.declared.note.Note.TheVariants.{Copied}
 use Rattle.av_plain.specs.Areas.{Rmap, at_home, rmap_after_use}
@@ -15,10 +14,10 @@ use Rattle.av_plain.specs.Choice.{ListsFree}
 use Rattle.av_plain.specs.Device.{Device}
 use Rattle.av_plain.specs.Event.{Noted, Used, after_note, after_notes, after_use}
 use Rattle.av_plain.specs.Fault.{CopyOnWrite, IsMade, Ready as NoNeed, drop_at, drop_of_entry, drop_of_slot, is_shared, need, sparing}
-use Rattle.av_plain.specs.Ledger.{Entry, InFrame, Key, Ledger, Setting, entry, is_free, map_count, names_frame, slot_of}
+use Rattle.av_plain.specs.Ledger.{InFrame, Key, Ledger, Setting, entry, is_free, names_frame, slot_of}
 use Rattle.av_plain.specs.Pass.{TakesFor}
 use Rattle.av_plain.specs.Sound.{no_excuse}
-use Rattle.av_plain.specs.Stands.{Pte as Plain, View, entry_of}
+use Rattle.av_plain.specs.Stands.{View, entry_of}
 use Rattle.av_plain.specs.World.{World, pages}
 use Rattle.av_plain.proofs.Access.{after_notes-append, note_events-all}
 use Rattle.av_plain.proofs.Ledger.{entry-set, how_many-found, same_key-itself}
@@ -26,7 +25,6 @@ use Rattle.av_plain.proofs.Load.{without-loads}
 use Rattle.av_plain.proofs.Sound.Access.{shared-is, shared-stays, unused}
 use Rattle.av_plain.proofs.Sound.Counts.{same-itself}
 use Rattle.av_plain.proofs.Sound.Entries.{copied-kept}
-use Rattle.av_plain.proofs.Sound.Pass.{Passed}
 use Rattle.av_plain.proofs.Sound.Steps.{is_steady}
 use Rattle.av_swap_laws.specs.Held.{Held}
 use Rattle.av_swap_laws.specs.Steps.{view_copy, view_seen}

@@ -1,8 +1,8 @@
 -- Events that are done, one after the other.
-use Rattle.std.proofs.Common.{◌≡◌, ℕ, ◌+◌, ◌≤◌, Bool, true, false, cond, List, [], ◌∷◌, ◌++◌, Option, None, is_some, refl, sym, ap, subst, ◌∙◌, arith}
+use Rattle.std.proofs.Common.{◌≡◌, ℕ, ◌+◌, Bool, true, false, cond, List, [], ◌∷◌, ◌++◌, None, is_some, refl, sym, ap, subst, ◌∙◌, arith}
 use Rattle.av_io.specs.Count.{RoseBy}
 use Rattle.av_plain.specs.Areas.{Rmap, rmap_after_all}
-use Rattle.av_plain.specs.Choice.{ChoosesAll, Free}
+use Rattle.av_plain.specs.Choice.{ChoosesAll}
 use Rattle.av_plain.specs.Device.{Device, IsSameDevice}
 use Rattle.av_plain.specs.Event.{Event, after, after_all}
 use Rattle.av_plain.specs.Ledger.{Ledger, Setting}
@@ -11,7 +11,6 @@ use Rattle.av_plain.specs.Stands.{free_of}
 use Rattle.av_plain.specs.World.{World}
 use Rattle.av_plain.proofs.Access.{after_all-append, chooses-append}
 use Rattle.av_plain.proofs.AreasLeft.{rmap_after_all-append}
-use Rattle.av_swap_laws.specs.Held.{Held}
 use Rattle.av_mem.specs.declared.mem.Mem.{Mem}
 use Rattle.av_mem.specs.Mem.{frame_count, held_by, setting_by, view}
 use Rattle.av_mem.specs.Between.{HasDone, KeepsBetween}

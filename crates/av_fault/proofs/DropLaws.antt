@@ -1,10 +1,9 @@
 -- The slot of a frame is dropped where it is needed no more.
-use Rattle.std.proofs.Common.{◌≡◌, ℕ, ◌+◌, ◌-◌, ◌<◌, ◌==◌, Bool, true, false, cond, not, ◌&&◌, ◌||◌, nat_lt, IfSome, List, [], ◌∷◌, ◌++◌, Option, Some, None, is_none, is_some, refl, sym, ap, subst, ◌∙◌, arith}
+use Rattle.std.proofs.Common.{◌≡◌, ℕ, ◌<◌, ◌==◌, Bool, true, false, cond, not, ◌&&◌, nat_lt, List, [], ◌∷◌, ◌++◌, Option, Some, None, is_some, refl, sym, ap, ◌∙◌, arith}
 use Rattle.std.proofs.lemmas.Bool.Decides.{nat_tests}
-use Rattle.std.proofs.lemmas.Bool.{false≢true}
 use Rattle.std.proofs.lemmas.List.{append-nil}
 use Rattle.std.specs.List.{list_any}
-use Rattle.av_base.specs.Words.{how_many, is_in}
+use Rattle.av_base.specs.Words.{is_in}
 use Rattle.av_base.specs.declared.slot.Slot.{Slot}
 use Rattle.av_pagetable.specs.declared.pte.Pte.{Pte}
 use Rattle.av_pagetable.specs.declared.pte.Pte.TheVariants.{Away, Empty, Here, Zero as ZeroPte}
@@ -12,9 +11,9 @@ use Rattle.av_pagetable.specs.Entries.{entry_at}
 use Rattle.av_swapcache.specs.Swap.{is_flying, shown as shown_swap}
 use Rattle.av_trace.specs.declared.note.Note.{Note}
 use Rattle.av_trace.specs.declared.note.Note.TheVariants.{Dropped}
-use Rattle.av_plain.specs.Areas.{Anons, Rmap}
+use Rattle.av_plain.specs.Areas.{Rmap}
 use Rattle.av_plain.specs.Device.{Device}
-use Rattle.av_plain.specs.Event.{Noted, after_note, after_notes, if_some, off_cache, settle, when}
+use Rattle.av_plain.specs.Event.{Noted, after_note, after_notes, off_cache, when}
 use Rattle.av_plain.specs.Fault.{drop_of_slot, is_shared, is_unneeded}
 use Rattle.av_plain.specs.Ledger.{Entry, InFrame, InSlot, Ledger, Setting, Zero as ZeroEntry, frame_at, in_flight, is_full, map_count, same_slot, slot_entries, slot_of}
 use Rattle.av_plain.specs.Pass.{fails}
@@ -25,7 +24,6 @@ use Rattle.av_plain.proofs.Load.{without-loads}
 use Rattle.av_plain.proofs.Sound.Changes.{any-counts, drop-sound}
 use Rattle.av_plain.proofs.Sound.Counts.{same-itself}
 use Rattle.av_plain.proofs.Sound.Steps.{settle-cache, settle-entries}
-use Rattle.av_swap_laws.specs.Held.{Held}
 use Rattle.av_swap_laws.specs.Steps.{view_drop, view_freed, view_given_back, view_uncached}
 use Rattle.av_swap_laws.proofs.Cache.{once-of, slot-frame, slot_of-off}
 use Rattle.av_swap_laws.proofs.From.{cached-in_range, cached-there, unneeded-leaves}

@@ -1,5 +1,5 @@
 -- What stands says of the entry of a page, and of its place.
-use Rattle.std.proofs.Common.{◌≡◌, ℕ, Bool, true, false, Option, Some, None, is_some, IsSome, option_map, refl, sym, ap, ◌∙◌}
+use Rattle.std.proofs.Common.{◌≡◌, ℕ, true, Option, Some, None, is_some, IsSome, option_map, refl, sym, ap, ◌∙◌}
 use Rattle.std.proofs.lemmas.Bool.{false≢true}
 use Rattle.av_base.specs.Page.{address_of, page_of}
 use Rattle.av_pagetable.specs.declared.pte.Pte.{Pte}
@@ -9,11 +9,11 @@ use Rattle.av_vma.specs.declared.area.Area.{Area}
 use Rattle.av_plain.specs.Areas.{Rmap}
 use Rattle.av_plain.specs.Device.{Device}
 use Rattle.av_plain.specs.Ledger.{Key, Ledger, entry}
-use Rattle.av_plain.specs.Stands.{entry_of, prot_of}
+use Rattle.av_plain.specs.Stands.{entry_of}
 use Rattle.av_plain.specs.World.{World, pages}
 use Rattle.av_plain.proofs.Ledger.NoSwap.{key_at-address}
 use Rattle.av_mem.specs.declared.mem.Mem.{Mem}
-use Rattle.av_mem.specs.Mem.{plain, ranges_of}
+use Rattle.av_mem.specs.Mem.{plain}
 use Rattle.av_mem.proofs.MemLaws.{mapped_is, prot_on, prots_are}
 use Rattle.av_mem.specs.Between.{KeepsBetween}
 

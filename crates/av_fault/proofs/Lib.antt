@@ -1,5 +1,6 @@
 pub mod Amid
 pub mod Between
+pub mod CameLaws
 pub mod ComingLaws
 pub mod CopyLaws
 pub mod Done
@@ -10,7 +11,6 @@ pub mod MadeLaws
 pub mod MakingLaws
 pub mod NewLaws
 pub mod Prepared
-pub mod ComingLaws
 pub mod Run
 pub mod SeekLaws
 pub mod SharedLaws

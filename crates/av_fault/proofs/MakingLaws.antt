@@ -1,23 +1,20 @@
 -- A page gets the page of zeros, its first frame, or a copy.
-use Rattle.std.proofs.Common.{◌≡◌, ◌≢◌, ℕ, ◌+◌, ◌-◌, ◌<◌, ◌==◌, Bool, true, false, cond, ◌&&◌, ◌||◌, List, [], ◌∷◌, Option, Some, None, refl, sym, ap, subst, ◌∙◌, arith}
-use Rattle.std.proofs.lemmas.Bool.Decides.{nat_tests}
+use Rattle.std.proofs.Common.{◌≡◌, ℕ, ◌+◌, ◌-◌, ◌<◌, ◌==◌, Bool, true, false, cond, ◌&&◌, ◌||◌, List, ◌∷◌, Option, Some, refl, ap, subst, ◌∙◌, arith}
 use Rattle.av_base.specs.Words.{is_in, with_at}
 use Rattle.av_frames.specs.Store.{Shown as ShownFrames, shown as shown_frames, with_bytes, with_home, with_maps}
-use Rattle.av_lru.specs.Lists.{Lists, without_frame}
-use Rattle.av_pagetable.specs.declared.pte.Pte.{Pte}
+use Rattle.av_lru.specs.Lists.{without_frame}
 use Rattle.av_pagetable.specs.declared.pte.Pte.TheVariants.{Here}
-use Rattle.av_pagetable.specs.Entries.{ProcessTables, entry_at, with_entry}
+use Rattle.av_pagetable.specs.Entries.{entry_at, with_entry}
 use Rattle.av_swapcache.specs.Swap.{shown as shown_swap}
 use Rattle.av_plain.specs.Event.{without}
 use Rattle.av_plain.specs.Ledger.{InFrame}
 use Rattle.av_plain.specs.Stands.{Pte as Plain, View}
 use Rattle.av_plain.proofs.Sound.Counts.{same-is, same-itself}
 use Rattle.av_swap_laws.proofs.From.{without-turned}
-use Rattle.av_swap_laws.specs.Steps.{view_copy, view_new, view_seen, with_pte}
+use Rattle.av_swap_laws.specs.Steps.{view_new, view_seen, with_pte}
 use Rattle.av_mem.specs.declared.mem.Mem.{Mem}
-use Rattle.av_mem.specs.Mem.{plain, view, view_of_parts}
+use Rattle.av_mem.specs.Mem.{view, view_of_parts}
 use Rattle.av_mem.proofs.MemLaws.{plain_set}
-use Rattle.av_fault.specs.Making.{HasFree, IsTaken}
 
 -- ---- a frame is taken
 

@@ -1,7 +1,6 @@
 -- A page gets its first frame, of zeros, and is written.
-use Rattle.std.proofs.Common.{◌≡◌, ℕ, ◌+◌, ◌<◌, ◌==◌, Bool, true, false, cond, ◌&&◌, IsSome, IsSomeAnd, List, [], ◌∷◌, ◌++◌, Option, Some, None, is_some, refl, sym, ap, subst, ◌∙◌}
+use Rattle.std.proofs.Common.{◌≡◌, ℕ, ◌<◌, ◌==◌, true, false, cond, ◌&&◌, IsSome, IsSomeAnd, List, [], ◌∷◌, ◌++◌, Option, Some, None, is_some, refl, sym, ap, subst, ◌∙◌}
 use Rattle.av_base.specs.Page.{address_of, page_of}
-use Rattle.av_base.specs.Words.{with_at}
 use Rattle.av_anon.specs.declared.anons.Anons.{Anons as AnonSet}
 use Rattle.av_pagetable.specs.declared.pte.Pte.{Pte}
 use Rattle.av_pagetable.specs.declared.pte.Pte.TheVariants.{Away, Empty, Here, Zero as ZeroPte}
@@ -17,9 +16,8 @@ use Rattle.av_plain.specs.Areas.{Rmap, at_home, prepare_page, rmap_after_use}
 use Rattle.av_plain.specs.Choice.{ListsFree}
 use Rattle.av_plain.specs.Device.{Device}
 use Rattle.av_plain.specs.Event.{Noted, Used, after_note, after_notes, after_use}
-use Rattle.av_plain.specs.Fault.{IsMade, NewPage, drop_at, drop_of_entry, drop_of_slot, is_shared, need, sparing}
+use Rattle.av_plain.specs.Fault.{IsMade, NewPage, drop_at, drop_of_entry, drop_of_slot, need, sparing}
 use Rattle.av_plain.specs.Ledger.{Entry, InFrame, InSlot, IsBlank, Key, Ledger, Setting, Zero, entry, is_free, slot_of}
-use Rattle.av_plain.specs.Load.{with_loads}
 use Rattle.av_plain.specs.Pass.{TakesFor}
 use Rattle.av_plain.specs.Sound.{no_excuse}
 use Rattle.av_plain.specs.Stands.{View, entry_of}

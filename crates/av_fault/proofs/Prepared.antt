@@ -256,9 +256,9 @@ module _ (d : Device) (old : Mem) (w : World) (r : Rmap) (l : Ledger) (h : Keeps
     sound = h.sound;
     serves = record {
       held = subst (λ n. IsHeld (setting_by d old) (record (held_by d old w r l) {
-            view = record (view old) { processes = n; areas = areas_of spaces.processes; anons = anons_of spaces now };
-            rmap = prepare_page p page r;
-          })) (sym changed.number)
+        view = record (view old) { processes = n; areas = areas_of spaces.processes; anons = anons_of spaces now };
+        rmap = prepare_page p page r;
+      })) (sym changed.number)
           (prepared-held (setting_by d old) (held_by d old w r l) h.serves.held p page (areas_of spaces.processes) (anons_of spaces now) laid_before);
       areas = record {
         alive = λ q. lives_same q ∙ h.serves.areas.alive q;

@@ -1,6 +1,5 @@
 -- Events done one after the other, of views alone; and what they leave of the memory system.
-use Rattle.std.proofs.Common.{◌≡◌, ℕ, ◌++◌, List, [], ◌∷◌, Option, None, refl, sym, ap, subst, ◌∙◌}
-use Rattle.std.proofs.lemmas.List.{append_assoc}
+use Rattle.std.proofs.Common.{◌≡◌, ◌++◌, List, [], ◌∷◌, None, refl, sym, ap, subst, ◌∙◌}
 use Rattle.av_plain.specs.Areas.{Rmap, rmap_after_all}
 use Rattle.av_plain.specs.Choice.{ChoosesAll, Free}
 use Rattle.av_plain.specs.Device.{Device, IsSameDevice}
@@ -13,7 +12,7 @@ use Rattle.av_plain.specs.World.{World}
 use Rattle.av_plain.proofs.Access.{after_all-append, chooses-append}
 use Rattle.av_swap_laws.specs.Held.{Held, Steps}
 use Rattle.av_mem.specs.declared.mem.Mem.{Mem}
-use Rattle.av_mem.specs.Mem.{frame_count, held_by, setting_by, view}
+use Rattle.av_mem.specs.Mem.{frame_count, setting_by, view}
 use Rattle.av_mem.specs.Between.{HasDone}
 use Rattle.av_fault.proofs.Amid.{Amid, Beside, IsOfAccess, amid-after}
 use Rattle.av_fault.proofs.Between.{PartsFit}

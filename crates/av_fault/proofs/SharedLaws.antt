@@ -1,5 +1,5 @@
 -- Whether others use the frame of a page, too: as the kernel's parts answer it, and after a pass that leaves the frame alone.
-use Rattle.std.proofs.Common.{◌≡◌, ℕ, ◌+◌, ◌<◌, ◌≤◌, Bool, true, false, ◌||◌, nat_lt, Option, Some, None, refl, sym, ap, subst, ◌∙◌, arith}
+use Rattle.std.proofs.Common.{◌≡◌, ℕ, ◌<◌, Bool, true, false, ◌||◌, nat_lt, Option, Some, None, refl, ap, subst, ◌∙◌, arith}
 use Rattle.std.proofs.lemmas.Bool.Decides.{nat_tests}
 use Rattle.av_base.specs.declared.slot.Slot.{Slot}
 use Rattle.av_plain.specs.Areas.{Rmap}
@@ -11,7 +11,7 @@ use Rattle.av_plain.specs.World.{World}
 use Rattle.av_plain.proofs.Sound.Counts.{pair-frame, slot-is, slot_of-none, slot_of-some, two_slots}
 use Rattle.av_plain.proofs.Sound.Entries.{ByFrame, BySlot, IsSharedBy}
 use Rattle.av_mem.specs.declared.mem.Mem.{Mem}
-use Rattle.av_mem.specs.Mem.{frame_count, setting_by, view}
+use Rattle.av_mem.specs.Mem.{view}
 use Rattle.av_mem.specs.Between.{KeepsBetween}
 use Rattle.av_fault.specs.Using.{is_named_in, is_shared_in}
 

@@ -1,9 +1,8 @@
 -- What stands after a frame was sought.
-use Rattle.std.proofs.Common.{◌≡◌, ℕ, ◌<◌, ◌+◌, ◌==◌, Bool, true, false, cond, ◌&&◌, nat_lt, IsSome, IsTrue, List, [], ◌∷◌, ◌++◌, Option, Some, None, is_some, option_map, refl, sym, ap, subst, ◌∙◌, arith}
+use Rattle.std.proofs.Common.{◌≡◌, ℕ, ◌<◌, ◌==◌, Bool, true, false, cond, ◌&&◌, nat_lt, IsSome, IsTrue, List, Option, Some, None, is_some, refl, sym, ap, subst, ◌∙◌, arith}
 use Rattle.std.proofs.lemmas.Bool.Decides.{nat_tests}
 use Rattle.std.proofs.lemmas.Bool.{false≢true}
 use Rattle.av_base.specs.Words.{how_many, is_in}
-use Rattle.av_pagetable.specs.Entries.{has}
 use Rattle.av_spaces.specs.Spaces.{areas_of, pages_of}
 use Rattle.av_vma.specs.Pages.{pages_in}
 use Rattle.av_vma.specs.declared.area.Area.{Area}
@@ -13,9 +12,8 @@ use Rattle.av_plain.specs.Choice.{ListsFree}
 use Rattle.av_plain.specs.Device.{Device}
 use Rattle.av_plain.specs.Event.{after_all, after_notes, note_events}
 use Rattle.av_plain.specs.Fault.{sparing}
-use Rattle.av_plain.specs.Ledger.{Key, Ledger, Setting, entry, has_free, is_free, map_count}
+use Rattle.av_plain.specs.Ledger.{Key, Ledger, Setting, entry, has_free, is_free}
 use Rattle.av_plain.specs.Load.{with_loads}
-use Rattle.av_plain.specs.Sound.{uses}
 use Rattle.av_plain.specs.World.{World}
 use Rattle.av_plain.proofs.Access.{note_events-all}
 use Rattle.av_plain.proofs.Covered.Page.{fit-areas}
@@ -25,13 +23,12 @@ use Rattle.av_plain.proofs.Sound.Changes.{any-counts}
 use Rattle.av_plain.proofs.Sound.Pass.{Passed, seeks-kept}
 use Rattle.av_plain.proofs.Sound.Steps.{is_steady}
 use Rattle.av_mem.specs.declared.mem.Mem.{Mem}
-use Rattle.av_mem.specs.Mem.{frame_count, setting_by, view}
+use Rattle.av_mem.specs.Mem.{setting_by, view}
 use Rattle.av_mem.proofs.MemLaws.{alive_is}
 use Rattle.av_mem.specs.Between.{KeepsBetween}
 use Rattle.av_fault.specs.Making.{HasFree, IsMapped}
 use Rattle.av_fault.specs.Seek.{HasSought}
 use Rattle.av_fault.specs.declared.seek.Got.{Got}
-use Rattle.av_fault.specs.declared.seek.Got.TheVariants.{Frame}
 use Rattle.av_fault.proofs.Between.{setting-stays}
 use Rattle.av_fault.proofs.SeekLaws.{free-some}
 
@@ -56,6 +53,11 @@ free-unmapped d k w r l h f is =
     omega (arith, none, same)
 
 -- ---- after it
+
+-- a process with an area lives
+pub lives-by : (o : Option (List Area)) (page : ℕ) → IsSome (pages_in o page) → is_some o ≡ true
+lives-by None page some = absurd (false≢true some)
+lives-by (Some areas) page some = refl
 
 module _ (d d' : Device) (old mid : Mem) (w : World) (r : Rmap) (l : Ledger) (pinned : Option ℕ) (before now : List Note) (got : Got)
     (h : KeepsBetween d old w r l) (s : HasSought d d' old mid w r l pinned before now got) where
@@ -83,11 +85,6 @@ module _ (d d' : Device) (old mid : Mem) (w : World) (r : Rmap) (l : Ledger) (pi
 
   pub pages-sought : (p page : ℕ) → pages_of mid.spaces.processes p page ≡ pages_of old.spaces.processes p page
   pages-sought p page = s.done.between.serves.are p page ∙ ap (λ (on : ℕ → ℕ → Option Area). on p page) areas-sought ∙ sym (h.serves.are p page)
-
-  -- a process with an area lives
-  lives-by : (o : Option (List Area)) (page : ℕ) → IsSome (pages_in o page) → is_some o ≡ true
-  lives-by None page some = absurd (false≢true some)
-  lives-by (Some areas) page some = refl
 
   pub lives-sought : (k : Key) → IsMapped old k → is_some (areas_of mid.spaces.processes k.0) ≡ true
   lives-sought k mapped = lives-by (areas_of mid.spaces.processes k.0) k.1 (subst IsSome (sym (pages-sought k.0 k.1)) mapped.area)

@@ -1,5 +1,5 @@
 -- A frame is taken for a page and written: what comes behind the note, and the whole of it.
-use Rattle.std.proofs.Common.{◌≡◌, ℕ, ◌+◌, ◌≤◌, ◌==◌, Bool, true, false, cond, IsTrue, IfSome, List, [], ◌∷◌, ◌++◌, Option, Some, None, refl, sym, ap, subst, ◌∙◌, arith}
+use Rattle.std.proofs.Common.{◌≡◌, ℕ, ◌+◌, ◌==◌, Bool, true, false, cond, IfSome, List, [], ◌∷◌, ◌++◌, Option, Some, None, refl, sym, ap, subst, ◌∙◌, arith}
 use Rattle.std.proofs.lemmas.List.{append-nil, append_assoc}
 use Rattle.av_base.specs.Words.{with_at}
 use Rattle.av_base.specs.declared.slot.Slot.{Slot}
@@ -7,14 +7,14 @@ use Rattle.av_io.specs.Count.{RoseBy}
 use Rattle.av_trace.specs.declared.note.Note.{Note}
 use Rattle.av_trace.specs.declared.reply.OutOf.{OutOf}
 use Rattle.av_vma.specs.Pages.{home_of}
-use Rattle.av_plain.specs.Areas.{Rmap, at_home, rmap_after_all}
+use Rattle.av_plain.specs.Areas.{Rmap, at_home}
 use Rattle.av_plain.specs.Device.{Device}
-use Rattle.av_plain.specs.Event.{Event, Noted, Used, after_all, after_notes, after_use, note_events}
+use Rattle.av_plain.specs.Event.{Event, Noted, Used, after_notes, after_use, note_events}
 use Rattle.av_plain.specs.Fault.{FindsNone, IsMade, Need, drop_at, is_shared, need, pinned_by, sparing, wants_frame}
 use Rattle.av_plain.specs.Ledger.{InFrame, Key, Ledger, Setting, entry, slot_of}
 use Rattle.av_plain.specs.Pass.{Seeks, fails, is_fail, out_of}
 use Rattle.av_plain.specs.Sound.{no_excuse}
-use Rattle.av_plain.specs.Stands.{View, entry_of}
+use Rattle.av_plain.specs.Stands.{entry_of}
 use Rattle.av_plain.specs.World.{World}
 use Rattle.av_plain.proofs.Access.{note_events-append}
 use Rattle.av_plain.proofs.Ledger.{how_many-append}

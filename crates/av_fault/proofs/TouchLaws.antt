@@ -1,60 +1,52 @@
 -- A page is made ready: what its entry is and what was made of it are what the definitions ask for.
-use Rattle.std.proofs.Common.{◌≡◌, ◌⊎◌, inl, ℕ, ◌+◌, ◌<◌, ◌≤◌, ◌==◌, Bool, true, false, cond, not, ◌&&◌, ◌||◌, nat_lt, List, [], ◌∷◌, ◌++◌, Option, Some, None, is_some, refl, sym, ap, subst, ◌∙◌, arith}
+use Rattle.std.proofs.Common.{◌≡◌, inl, ℕ, ◌-◌, ◌^◌, ◌<◌, ◌≤◌, ◌==◌, Bool, true, false, cond, not, ◌&&◌, List, [], ◌∷◌, ◌++◌, Option, Some, None, is_some, refl, sym, ap, subst, ◌∙◌, arith}
 use Rattle.std.proofs.lemmas.Bool.Decides.{nat_tests}
 use Rattle.std.proofs.lemmas.Bool.{false≢true}
 use Rattle.std.proofs.lemmas.List.{append-nil}
+use Rattle.std.proofs.lemmas.Result.{IfOk-weaker}
 use Rattle.std.specs.Bool.{then_some}
-use Rattle.std.specs.FinMap.Entries.{find as find_number}
-use Rattle.std.specs.List.{find}
-use Rattle.std.specs.Ordering.{nat_cmp}
-use Rattle.std.specs.Prelude.{option_map}
+use Rattle.std.specs.Prelude.{Err, IfOk, IsSome, Ok, Result, option_map}
+use Rattle.std.specs.declared.alloc.AllocError.{AllocError}
+use Rattle.av_base.specs.Limits.{top_page}
+use Rattle.av_base.specs.Words.{within}
 use Rattle.av_base.specs.declared.slot.Slot.{Slot}
-use Rattle.av_io.specs.Count.{RoseBy}
-use Rattle.av_pagetable.specs.declared.pte.Pte.TheVariants.{Away, Here, Zero}
+use Rattle.av_pagetable.specs.declared.pte.Pte.{Pte}
+use Rattle.av_pagetable.specs.declared.pte.Pte.TheVariants.{Here, Zero}
 use Rattle.av_pagetable.specs.Entries.{entry_at}
 use Rattle.av_spaces.specs.Spaces.{Spaces, areas_of, pages_of}
 use Rattle.av_trace.specs.declared.note.Note.{Note}
 use Rattle.av_trace.specs.declared.note.Note.TheVariants.{Dropped}
-use Rattle.av_vma.specs.Join.{first_of}
-use Rattle.av_vma.specs.Pages.{has_page, pages_in}
+use Rattle.av_vma.specs.Join.{first_of, index_of, past_of}
+use Rattle.av_vma.specs.Pages.{AreLaid}
 use Rattle.av_vma.specs.declared.area.Area.{Area}
 use Rattle.av_plain.specs.Areas.{Rmap, rmap_after_all}
 use Rattle.av_plain.specs.Choice.{ChoosesAll, Free}
-use Rattle.av_plain.specs.Device.{Device, IsSameDevice, setting_of}
-use Rattle.av_plain.specs.Event.{Event, Used, after_all, after_notes, after_use, after_use_of, note_events, when}
-use Rattle.av_plain.specs.Fault.{ComesIn, CopyOnWrite, IsMade, Need, NewPage, Ready as ReadyNeed, Serves as ServesPage, Touches, ZeroPage, drop_at, drop_of_entry, drop_of_slot, is_allowed, is_shared, is_unneeded, need, permits, sparing, was_slot}
-use Rattle.av_plain.specs.Ledger.{Entry, InFrame, InSlot, IsBlank, Key, Ledger, Setting, SwapArea, Zero as ZeroEntry, entry, in_flight, is_full, is_on, is_usable, names_frame, size_of, slot_entries, slot_of}
+use Rattle.av_plain.specs.Device.{Device, IsSameDevice, as_told, setting_of}
+use Rattle.av_plain.specs.Event.{Used, after_all, after_notes, after_use, after_use_of, when}
+use Rattle.av_plain.specs.Fault.{ComesIn, CopyOnWrite, IsMade, Need, NewPage, Ready as ReadyNeed, Serves as ServesPage, Touches, ZeroPage, drop_at, drop_of_entry, drop_of_slot, is_allowed, is_shared, need, permits, sparing, was_slot}
+use Rattle.av_plain.specs.Ledger.{Entry, InFrame, InSlot, IsBlank, Key, Ledger, Setting, Zero as ZeroEntry, entry, in_flight, slot_entries, slot_of}
 use Rattle.av_plain.specs.Load.{with_loads}
-use Rattle.av_plain.specs.Pass.{fails}
-use Rattle.av_plain.specs.Report.{Range}
-use Rattle.av_plain.specs.Sound.{IsSound, is_there}
+use Rattle.av_plain.specs.Sound.{IsSound}
 use Rattle.av_plain.specs.Stands.{entry_of, free_of, prot_of}
 use Rattle.av_plain.specs.Transcript.{State, rmap_of}
-use Rattle.av_plain.specs.World.{Page, World, allows, pages}
-use Rattle.av_base.specs.declared.prot.Prot.{Prot}
+use Rattle.av_plain.specs.World.{Page, World, pages}
 use Rattle.av_plain.proofs.Device.{setting_same}
-use Rattle.av_plain.proofs.Ledger.{how_many-found}
-use Rattle.av_plain.proofs.Ledger.NoSwap.{no_slot}
 use Rattle.av_plain.proofs.Load.{without-loads}
-use Rattle.av_plain.proofs.Sound.Counts.{same-itself}
 use Rattle.av_swap_laws.proofs.Between.{blank-steps}
-use Rattle.av_swap_laws.proofs.Parts.{named-slot}
 use Rattle.av_mem.specs.declared.mem.Mem.{Mem}
-use Rattle.av_mem.specs.Mem.{Keeps, Serves, frame_count, held_by, plain, ranges_of, setting_by, view}
-use Rattle.av_mem.proofs.MemLaws.{prot_on, prots_are}
-use Rattle.av_mem.specs.Between.{HasDone, KeepsBetween}
-use Rattle.av_fault.specs.Fault.{HasTouched, IsReady, IsTouched, end_of, is_permitted, touch_events}
-use Rattle.av_fault.specs.Making.{HasMade, IsMadeBy, Makes}
-use Rattle.av_fault.specs.Using.{HasDroppedFull}
-use Rattle.av_fault.specs.declared.fault.Stop.{Stop}
+use Rattle.av_mem.specs.Mem.{IsSteadyAt, Keeps, Serves, frame_count, held_by, plain, ranges_of, setting_by, view}
+use Rattle.av_mem.proofs.MemLaws.{alive_is, prot_on, prots_are}
+use Rattle.av_mem.specs.Between.{Does, HasDone, KeepsBetween}
+use Rattle.av_fault.specs.Fault.{HasTouched, IsTouched, MakesReady, end_of, is_permitted, touch_events}
+use Rattle.av_fault.specs.Making.{HasMade, IsMadeBy, IsMapped, Makes}
 use Rattle.av_fault.specs.declared.fault.Stop.TheVariants.{Bus, Oom, Segv}
 use Rattle.av_fault.specs.declared.fault.Touched.{Touched}
 use Rattle.av_fault.specs.declared.fault.Touched.TheVariants.{Ready, Stopped, Zeros}
-use Rattle.av_fault.proofs.Between.{between-of, fit-stays, same-still, to-amid, to-fit}
-use Rattle.av_fault.proofs.ComingLaws.{entry-away}
-use Rattle.av_fault.proofs.Done.{done-none, done-then, rose-none}
+use Rattle.av_fault.proofs.Between.{between-of, fit-stays, same-still, to-amid, to-fit, told-same}
+use Rattle.av_fault.proofs.Done.{done-none, rose-none}
+use Rattle.av_fault.proofs.EntryLaws.{entry-is}
 use Rattle.av_fault.proofs.Run.{run-done, run-none, run-then}
-use Rattle.av_fault.proofs.SeekLaws.{no-swap}
+use Rattle.av_fault.proofs.SoughtLaws.{lives-by}
 use Rattle.av_fault.proofs.UsingLaws.{entry-here, parts-by}
 
 -- ---- areas
@@ -69,46 +61,27 @@ pub some-then : {A : Type 0} (b : Bool) (x : A) → is_some (then_some b x) ≡ 
 some-then true x = refl
 some-then false x = refl
 
--- the area that holds a page has it
-found-has : (page : ℕ) (area : Area) (areas : List Area) → find (λ a. has_page a page) areas ≡ Some area → has_page area page ≡ true
-found-has page area [] e = cc
-found-has page area (a ∷ areas) e = at (has_page a page) refl e (found-has page area areas)
-  where
-    at : (b : Bool) → has_page a page ≡ b → cond b (Some a) (find (λ a. has_page a page) areas) ≡ Some area
-        → (find (λ a. has_page a page) areas ≡ Some area → has_page area page ≡ true) → has_page area page ≡ true
-    at true h e rest = let same : a ≡ area = cc in subst (λ a. has_page a page ≡ true) same h
-    at false h e rest = rest e
+-- the area on a page begins at it or before
+lower : (a n x : ℕ) → within a n x ≡ true → a ≤ x
+lower a n x is = grind (arith, nat_tests)
 
--- so it begins at it or before
-pub first-here : (s : Spaces) (p page : ℕ) (area : Area) → pages_of s p page ≡ Some area → first_of area ≤ page
-first-here s p page area is = let has = by (areas_of s p) is in grind (arith, nat_tests, has)
-  where
-    by : (o : Option (List Area)) → pages_in o page ≡ Some area → has_page area page ≡ true
-    by None e = cc
-    by (Some areas) e = found-has page area areas e
+upper : (a past x : ℕ) → within a (past - a) x ≡ true → x < past
+upper a past x is = grind (arith, nat_tests)
+
+pub first-laid : (on : ℕ → Option Area) (page : ℕ) (area : Area) → AreLaid on → on page ≡ Some area → first_of area ≤ page
+first-laid on page area laid is = lower (first_of area) (past_of area - first_of area) page (laid.here page area is)
+
+-- and its linear index there is a number of 64 bits
+pub index-laid : (on : ℕ → Option Area) (page : ℕ) (area : Area) → AreLaid on → on page ≡ Some area → index_of area page < 2 ^ 64
+index-laid on page area laid is =
+    let first = first-laid on page area laid is in
+    let past = upper (first_of area) (past_of area) page (laid.here page area is) in
+    let small = (laid.whole page area is).small in
+    omega (arith, first, past, small)
 
 -- ---- what stands says of a page
 
 module _ (d : Device) (k : Mem) (w : World) (r : Rmap) (l : Ledger) (h : KeepsBetween d k w r l) where
-  -- no entry is a slot while no swap area is on
-  pub none-away : (q : Key) (s : Slot) → entry_at k.tables q.0 q.1 ≡ Away s → ⊥
-  none-away q s there =
-      let named = named-slot l q s (entry-away d k w r l h q s there) in
-      false≢true (sym (off (ap (λ (on : List (ℕ × SwapArea)). is_some (find_number nat_cmp s.area on)) (no-swap d k w r l h).on))
-          ∙ h.serves.there s (omega (arith, named)))
-    where
-      off : is_on l s.area ≡ false → is_there (setting_by d k) l s ≡ false
-      off e = ap (λ b. b && nat_lt 0 s.page && nat_lt s.page (size_of (setting_by d k) s.area) && is_usable (setting_by d k) s) e
-
-  -- nor has a frame one
-  pub none-cached : (f : ℕ) → slot_of l f ≡ None
-  none-cached f = no_slot l f (no-swap d k w r l h).cache
-
-  -- a frame that an entry names
-  pub named-here : (q : Key) (f : ℕ) (write seen : Bool) → entry_at k.tables q.0 q.1 ≡ Here f write seen → 0 < (view k).maps f
-  named-here q f write seen there = subst (λ n. 0 < n) (sym (h.serves.held.ledger.frames.maps f))
-      (how_many-found (names_frame f) q l.entries (InFrame f seen) (entry-here d k w r l h q f write seen there) (same-itself f))
-
   -- the memories allow what the areas permit
   pub allowed-as : (write : Bool) (q : Key) → is_allowed w write q ≡ is_permitted write (prot_of (ranges_of k.spaces.processes q.0) q.1)
   allowed-as write q = by (pages w q.0 q.1) ∙ ap (is_permitted write) (sym (h.serves.areas.covers q.0 q.1))
@@ -128,33 +101,33 @@ IsNoSlot (Some (InSlot s)) = ⊥
 
 module _ (m : Setting) (w : World) (l : Ledger) (write : Bool) (k : Key) where
   needs : (P : Need → Type 0) → P ReadyNeed → P ZeroPage → P NewPage → ((g : ℕ) → P (CopyOnWrite g)) → (o : Option Entry) → IsNoSlot o → P (need write l o)
-  needs P a b c e o no = by write o no
+  needs P a b c e o slotless = by write o slotless
     where
       shared : (g : ℕ) (x : Bool) → P (cond x (CopyOnWrite g) ReadyNeed)
       shared g true = e g
       shared g false = a
 
       by : (write : Bool) (o : Option Entry) → IsNoSlot o → P (need write l o)
-      by false None no = b
-      by true None no = c
-      by false (Some ZeroEntry) no = a
-      by true (Some ZeroEntry) no = c
-      by false (Some (InFrame g seen)) no = a
-      by true (Some (InFrame g seen)) no = shared g (is_shared l g)
-      by false (Some (InSlot s)) no = absurd no
-      by true (Some (InSlot s)) no = absurd no
+      by false None slotless = b
+      by true None slotless = c
+      by false (Some ZeroEntry) slotless = a
+      by true (Some ZeroEntry) slotless = c
+      by false (Some (InFrame g seen)) slotless = a
+      by true (Some (InFrame g seen)) slotless = shared g (is_shared l g)
+      by false (Some (InSlot s)) slotless = absurd slotless
+      by true (Some (InSlot s)) slotless = absurd slotless
 
   pub makes-touches : (added : List Note) (touched : Touched) → IsNoSlot (entry l k) → is_allowed w write k ≡ true → Makes m w l write false k added touched
       → Touches m w l write k added (end_of touched)
-  makes-touches added touched no allowed makes = by touched makes
+  makes-touches added touched slotless allowed makes = by touched makes
     where
       serves : IsMadeBy m w l write false k added → ServesPage m (sparing w) l write k added
       serves made = record {
         coming = [];
         making = made.making;
         whole = made.whole ∙ sym (ap (λ b. made.making ++ drop_at m write b (after_notes l made.making) k)
-            (needs (λ n. was_slot n ≡ false) refl refl refl (λ g. refl) (entry l k) no));
-        comes_in = needs (λ n. ComesIn m (sparing w) l k n []) refl refl refl (λ g. refl) (entry l k) no;
+            (needs (λ n. was_slot n ≡ false) refl refl refl (λ g. refl) (entry l k) slotless));
+        comes_in = needs (λ n. ComesIn m (sparing w) l k n []) refl refl refl (λ g. refl) (entry l k) slotless;
         made = made.made;
       }
 
@@ -168,15 +141,26 @@ module _ (m : Setting) (w : World) (l : Ledger) (write : Bool) (k : Key) where
 pub made-touched : (d d' : Device) (old new : Mem) (w : World) (r : Rmap) (l : Ledger) (write : Bool) (k : Key) (before now : List Note) (touched : Touched)
     → IsNoSlot (entry l k) → is_allowed w write k ≡ true → HasMade d d' old new w r l write false k before now touched
     → HasTouched d d' old new w r l write k before now touched
-made-touched d d' old new w r l write k before now touched no allowed made = record {
+made-touched d d' old new w r l write k before now touched slotless allowed made = record {
   added = made.added;
   notes = made.notes;
-  touches = makes-touches (setting_by d old) w l write k made.added touched no allowed made.makes;
+  touches = makes-touches (setting_by d old) w l write k made.added touched slotless allowed made.makes;
   ready = made.ready;
   done = made.done;
   faults = made.faults;
   failed = made.failed;
 }
+
+-- so it is of a page whose entry is this one, if memory was not wanting
+pub made-does : (d d' : Device) (old new : Mem) (write : Bool) (k : Key) (before now : List Note) (result : Result Touched AllocError) (e : Pte)
+    → entry_at old.tables k.0 k.1 ≡ e → IsNoSlot (entry_of (plain e)) → is_permitted write (prot_of (ranges_of old.spaces.processes k.0) k.1) ≡ true
+    → IfOk result (λ touched. Does d d' old (λ d d' w r l. HasMade d d' old new w r l write false k before now touched))
+    → IfOk result (λ touched. Does d d' old (λ d d' w r l. HasTouched d d' old new w r l write k before now touched))
+made-does d d' old new write k before now result e there slotless permitted = IfOk-weaker result _ _ (λ touched made told w r l h.
+    let d0 = as_told told d in
+    let at : entry l k ≡ entry_of (plain e) = entry-is d0 old w r l h k e there in
+    made-touched d0 (as_told told d') old new w r l write k before now touched (subst IsNoSlot (sym at) slotless)
+    (allowed-as d0 old w r l h write k ∙ permitted) (made told w r l h))
 
 -- ---- a read of what is there
 
@@ -239,38 +223,6 @@ zeros-touched d old w r l k notes h allowed there =
       failed = omega arith;
     })
 
--- ---- a page that came in
-
-fails-drop : (m : Setting) (write came : Bool) (l : Ledger) (o : Option Slot) → fails (drop_of_slot m write came l o) ≡ 0
-fails-drop m write came l None = refl
-fails-drop m write came l (Some s) = by (is_unneeded m write came l s)
-  where
-    by : (b : Bool) → fails (when b (Dropped s)) ≡ 0
-    by true = refl
-    by false = refl
-
-pub came-made : (d : Device) (old mid new : Mem) (w : World) (r : Rmap) (l : Ledger) (k : Key) (f : ℕ) (before now : List Note)
-    → KeepsBetween d old w r l → entry_at old.tables k.0 k.1 ≡ Here f false false → HasDroppedFull d old mid w r l f before now
-    → ((d : Device) (w : World) (r : Rmap) (l : Ledger) → KeepsBetween d mid w r l → HasDone d d mid new w r l (Used false k ∷ []))
-    → entry_at new.tables k.0 k.1 ≡ Here f false true → HasMade d d old new w r l false true k before now (Ready f)
-came-made d old mid new w r l k f before now h there dropped read here =
-    let m = setting_by d old in
-    let at : entry l k ≡ Some (InFrame f false) = entry-here d old w r l h k f false false there in
-    let done = done-then d d d old mid new w r l (note_events dropped.added) (Used false k ∷ []) dropped.done (read d _ _ _ dropped.done.between) in
-    record {
-      added = dropped.added;
-      notes = dropped.notes;
-      makes = record {
-        making = [];
-        made = subst (λ o. IsMade m (sparing w) l k (need false l o) []) (sym at) refl;
-        whole = dropped.drops ∙ sym (ap (drop_of_entry m false true l) at);
-      };
-      ready = (entry-here d new _ _ _ done.between k f false true here, λ is. absurd (false≢true is));
-      done = done;
-      faults = subst (λ n. RoseBy (n + 0) d.faults d.faults) (sym (ap fails dropped.drops ∙ fails-drop m false true l (slot_of l f))) (rose-none d.faults);
-      failed = omega arith;
-    }
-
 -- ---- the whole
 
 module _ (d d' : Device) (s : State) (old new : Mem) (write : Bool) (k : Key) (before now : List Note) (keeps : Keeps d old s) where
@@ -295,17 +247,53 @@ module _ (d d' : Device) (s : State) (old new : Mem) (write : Bool) (k : Key) (b
         failed = h.failed;
       }
 
-  -- the page is not mapped so
-  pub is-denied : old ≡ new → d ≡ d' → before ≡ now → is_permitted write (prot_of (ranges_of old.spaces.processes k.0) k.1) ≡ false
-      → HasTouched d d old old s.world (rmap_of s) s.ledger write k before before (Stopped Segv)
-  is-denied a b c refused =
-      let h = between-of d old s keeps in
-      record {
-        added = [];
-        notes = sym (append-nil before);
-        touches = (allowed-as d old s.world (rmap_of s) s.ledger h write k ∙ refused, refl);
-        ready = tt;
-        done = done-none d old s.world (rmap_of s) s.ledger h;
-        faults = rose-none d.faults;
-        failed = omega arith;
-      }
+-- the page is not mapped so
+denied-touched : (d : Device) (old : Mem) (w : World) (r : Rmap) (l : Ledger) (write : Bool) (k : Key) (notes : List Note) → KeepsBetween d old w r l
+    → is_permitted write (prot_of (ranges_of old.spaces.processes k.0) k.1) ≡ false → HasTouched d d old old w r l write k notes notes (Stopped Segv)
+denied-touched d old w r l write k notes h refused = record {
+  added = [];
+  notes = sym (append-nil notes);
+  touches = (allowed-as d old w r l h write k ∙ refused, refl);
+  ready = tt;
+  done = done-none d old w r l h;
+  faults = rose-none d.faults;
+  failed = omega arith;
+}
+
+pub is-denied : (d : Device) (old : Mem) (write : Bool) (k : Key) (notes : List Note) → is_permitted write (prot_of (ranges_of old.spaces.processes k.0) k.1) ≡ false
+    → MakesReady d d old old write k notes notes (Ok (Stopped Segv))
+is-denied d old write k notes refused = record {
+  step = λ s keeps. is-touched d d s old old write k notes notes keeps (Stopped Segv)
+      (denied-touched d old s.world (rmap_of s) s.ledger write k notes (between-of d old s keeps) refused);
+  same = same-still d;
+  count = refl;
+}
+
+-- it was touched, or memory was wanting
+pub is-ready : (told : Bool) (d d' : Device) (old new : Mem) (write : Bool) (k : Key) (before now : List Note) (result : Result Touched AllocError)
+    → IfOk result (λ touched. Does d d' old (λ d d' w r l. HasTouched d d' old new w r l write k before now touched))
+    → IsSameDevice d d' → frame_count new ≡ frame_count old → MakesReady (as_told told d) (as_told told d') old new write k before now result
+is-ready told d d' old new write k before now result done same count = record {
+  step = λ s keeps. by result done s keeps;
+  same = told-same told d d' same;
+  count = count;
+}
+  where
+    by : (result : Result Touched AllocError) → IfOk result (λ touched. Does d d' old (λ d d' w r l. HasTouched d d' old new w r l write k before now touched))
+        → (s : State) → Keeps (as_told told d) old s → IfOk result (IsTouched (as_told told d) (as_told told d') s new write k before now)
+    by (Ok touched) done s keeps = is-touched (as_told told d) (as_told told d') s old new write k before now keeps touched
+        (done told s.world (rmap_of s) s.ledger (between-of (as_told told d) old s keeps))
+    by (Err e) done s keeps = tt
+
+-- ---- what an access starts from
+
+-- a page with an area is mapped
+pub steady-mapped : (sizes : ℕ → Option ℕ) (k : Mem) (q : Key) (area : Area) → IsSteadyAt sizes k → pages_of k.spaces.processes q.0 q.1 ≡ Some area
+    → q.1 < top_page → IsMapped k q
+steady-mapped sizes k q area steady is below =
+    let some : IsSome (pages_of k.spaces.processes q.0 q.1) = subst IsSome (sym is) refl in
+    record {
+      table = steady.2.tables q.0 ∙ alive_is k.spaces.processes q.0 ∙ lives-by (areas_of k.spaces.processes q.0) q.1 some;
+      area = some;
+      below = below;
+    }

@@ -1,9 +1,6 @@
 -- A frame that a page has is read, or written in place; and its slot is dropped.
-use Rattle.std.proofs.Common.{◌≡◌, ℕ, ◌+◌, ◌-◌, ◌<◌, ◌≤◌, ◌==◌, Bool, true, false, cond, not, ◌&&◌, ◌||◌, nat_lt, List, [], ◌∷◌, ◌++◌, Option, Some, None, is_some, IfSome, IsSomeAnd, refl, sym, ap, subst, ◌∙◌, arith}
-use Rattle.std.proofs.lemmas.Bool.Decides.{nat_tests}
-use Rattle.std.proofs.lemmas.Bool.{false≢true}
-use Rattle.std.proofs.lemmas.List.{append-nil}
-use Rattle.av_base.specs.Words.{is_in, with_at}
+use Rattle.std.proofs.Common.{◌≡◌, ℕ, ◌<◌, ◌==◌, Bool, true, false, cond, ◌&&◌, [], ◌∷◌, Option, Some, None, is_some, IfSome, refl, sym, ap, subst, ◌∙◌, arith}
+use Rattle.av_base.specs.Words.{with_at}
 use Rattle.av_base.specs.declared.slot.Slot.{Slot}
 use Rattle.av_frames.specs.Store.{Shown as ShownFrames, shown as shown_frames, with_dirty, with_home}
 use Rattle.av_frames.specs.declared.Frames.{Frames}
@@ -13,29 +10,23 @@ use Rattle.av_pagetable.specs.Entries.{ProcessTables, entry_at, has, with_entry}
 use Rattle.av_spaces.specs.Spaces.{pages_of}
 use Rattle.av_swapcache.specs.Swap.{shown as shown_swap}
 use Rattle.av_vma.specs.Pages.{home_of}
-use Rattle.av_trace.specs.declared.note.Note.{Note}
-use Rattle.av_trace.specs.declared.note.Note.TheVariants.{Dropped}
-use Rattle.av_plain.specs.Areas.{Rmap, at_home, rmap_after_all, rmap_after_use}
+use Rattle.av_plain.specs.Areas.{Rmap, at_home, rmap_after_use}
 use Rattle.av_plain.specs.Device.{Device}
-use Rattle.av_plain.specs.Event.{Event, Noted, Used, after_note, after_use, after_use_of, if_some, note_events, set_entry, with_stale}
-use Rattle.av_plain.specs.Fault.{drop_of_slot, is_shared, is_unneeded}
-use Rattle.av_plain.specs.Ledger.{Entry, InFrame, Key, Ledger, Setting, entry, frame_at, in_flight, is_free, is_full, is_stale, map_count, names_frame, slot_entries, slot_of}
-use Rattle.av_plain.specs.Load.{with_loads}
-use Rattle.av_plain.specs.Stands.{BytesStand, Holds, IsKept, View, entry_of, free_of}
+use Rattle.av_plain.specs.Event.{Used, after_use, after_use_of, if_some, set_entry, with_stale}
+use Rattle.av_plain.specs.Fault.{is_shared}
+use Rattle.av_plain.specs.Ledger.{InFrame, Key, Ledger, Setting, entry, frame_at, is_stale, map_count, names_frame, slot_of}
+use Rattle.av_plain.specs.Stands.{IsKept, View, entry_of}
 use Rattle.av_plain.specs.World.{World, pages}
 use Rattle.av_plain.proofs.Load.{without-loads}
-use Rattle.av_plain.proofs.Ledger.Order.{keys_total}
-use Rattle.av_plain.proofs.Ledger.{how_many-found, same_key, same_key-is}
+use Rattle.av_plain.proofs.Ledger.{how_many-found, same_key-is}
 use Rattle.av_plain.proofs.Ledger.NoSwap.{key_is}
-use Rattle.av_plain.proofs.Sound.Changes.{after_use-kept, any-counts, drop-sound}
+use Rattle.av_plain.proofs.Sound.Changes.{after_use-kept}
 use Rattle.av_plain.proofs.Sound.Counts.{same-is, same-itself}
-use Rattle.av_plain.specs.Sound.{flights, no_excuse}
-use Rattle.av_swap_laws.specs.Held.{Held, IsHeld, Steps}
-use Rattle.av_swap_laws.specs.Steps.{view_drop, view_seen, view_written, with_pte}
-use Rattle.av_swap_laws.proofs.Cache.{once-of, slot-frame, slot_of-stale}
-use Rattle.av_swap_laws.proofs.From.{cached-in_range, cached-there, unneeded-leaves}
+use Rattle.av_plain.specs.Sound.{no_excuse}
+use Rattle.av_swap_laws.specs.Held.{Held, Steps}
+use Rattle.av_swap_laws.specs.Steps.{view_seen, view_written}
+use Rattle.av_swap_laws.proofs.Cache.{once-of, slot_of-stale}
 use Rattle.av_swap_laws.proofs.Parts.{clean-same, kept-moves}
-use Rattle.av_swap_laws.proofs.Whole.{drop-steps}
 use Rattle.av_swap_laws.proofs.WholePages.{read-steps, write-steps}
 use Rattle.av_mem.specs.declared.mem.Mem.{Mem}
 use Rattle.av_mem.specs.Mem.{frame_count, held_by, plain, setting_by, view, view_of_parts}
@@ -45,7 +36,7 @@ use Rattle.av_mem.specs.Between.{HasDone, KeepsBetween}
 use Rattle.av_fault.specs.Using.{IsHere}
 use Rattle.av_fault.proofs.Amid.{Amid}
 use Rattle.av_fault.proofs.Between.{fit-stays, same-still, to-amid, to-fit}
-use Rattle.av_fault.proofs.Run.{Run, run-done, run-none, run-then}
+use Rattle.av_fault.proofs.Run.{run-done, run-none, run-then}
 
 -- ---- an entry that is a frame
 

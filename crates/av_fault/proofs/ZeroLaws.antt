@@ -1,6 +1,5 @@
 -- A page gets the page of zeros, for a read.
-use Rattle.std.proofs.Common.{◌≡◌, ℕ, Bool, true, false, cond, List, [], ◌∷◌, ◌++◌, Option, Some, None, is_some, IsSome, refl, sym, ap, subst, ◌∙◌, arith}
-use Rattle.std.proofs.lemmas.List.{append-nil}
+use Rattle.std.proofs.Common.{◌≡◌, ℕ, true, false, cond, List, [], ◌∷◌, ◌++◌, Some, None, is_some, refl, sym, ap, subst, ◌∙◌, arith}
 use Rattle.av_base.specs.Page.{address_of, page_of}
 use Rattle.av_pagetable.specs.declared.pte.Pte.TheVariants.{Empty}
 use Rattle.av_pagetable.specs.Entries.{entry_at}
@@ -8,16 +7,14 @@ use Rattle.av_trace.specs.declared.note.Note.{Note}
 use Rattle.av_trace.specs.declared.note.Note.TheVariants.{Zeroed}
 use Rattle.av_plain.specs.Areas.{Rmap}
 use Rattle.av_plain.specs.Device.{Device}
-use Rattle.av_plain.specs.Event.{Noted, Used, after_note, after_use_of, set_entry}
+use Rattle.av_plain.specs.Event.{Noted, Used, after_note, after_use_of}
 use Rattle.av_plain.specs.Fault.{IsMade, drop_of_entry, need, sparing}
-use Rattle.av_plain.specs.Ledger.{Entry, IsBlank, Key, Ledger, Setting, Zero, entry}
+use Rattle.av_plain.specs.Ledger.{IsBlank, Key, Ledger, Setting, Zero, entry}
 use Rattle.av_plain.specs.Sound.{no_excuse}
 use Rattle.av_plain.specs.World.{World, pages}
 use Rattle.av_plain.proofs.Ledger.{entry-set, same_key-itself}
 use Rattle.av_plain.proofs.Load.{without-loads}
-use Rattle.av_plain.proofs.Sound.Changes.{after_use-kept}
 use Rattle.av_plain.proofs.Sound.Entries.{zeroed-kept}
-use Rattle.av_swap_laws.specs.Held.{Held}
 use Rattle.av_swap_laws.specs.Steps.{view_zero}
 use Rattle.av_swap_laws.proofs.Between.{blank-steps}
 use Rattle.av_swap_laws.proofs.WholePages.{zero-steps}

@@ -1,5 +1,5 @@
 -- How a page gets the page of zeros, a frame, or a copy of its frame.
-use Rattle.std.specs.Prelude.{◌≡◌, ℕ, ◌+◌, ◌≤◌, ◌<◌, Bool, true, false, List, [], ◌∷◌, ◌++◌, IsSome}
+use Rattle.std.specs.Prelude.{◌≡◌, ℕ, ◌+◌, ◌≤◌, ◌<◌, Bool, true, List, [], ◌∷◌, ◌++◌, IsSome}
 use Rattle.av_base.specs.Limits.{top_page}
 use Rattle.av_base.specs.Words.{is_in}
 use Rattle.av_io.specs.Count.{RoseBy}

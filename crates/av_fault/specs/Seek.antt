@@ -1,8 +1,7 @@
 -- A frame is sought: what comes before one is taken, and whether one is free then.
-use Rattle.std.specs.Prelude.{◌≡◌, ℕ, ◌-◌, ◌≤◌, false, IsTrue, List, ◌++◌, Option, Some, None}
+use Rattle.std.specs.Prelude.{◌≡◌, ℕ, ◌≤◌, false, IsTrue, List, ◌++◌, Option}
 use Rattle.av_io.specs.Count.{RoseBy}
 use Rattle.av_trace.specs.declared.note.Note.{Note}
-use Rattle.av_trace.specs.declared.reply.OutOf.{OutOf}
 use Rattle.av_plain.specs.Areas.{Rmap}
 use Rattle.av_plain.specs.Device.{Device}
 use Rattle.av_plain.specs.Event.{after_notes, note_events}
@@ -36,8 +35,3 @@ pub record HasSought (d d' : Device) (old new : Mem) (w : World) (r : Rmap) (l :
   pub faults : RoseBy (fails added) d.faults d'.faults
   pub failed : failed_of got ≤ fails added
   pub finds : Finds (setting_by d old) pinned (sparing w l pinned) (after_notes l added) got
-
--- the numbers where no frame is cached
-abbrev pub all_uncached : ℕ → Option ℕ → OutOf
-all_uncached frames None = record { pinned = 0; noslot = frames; fault = 0 }
-all_uncached frames (Some f) = record { pinned = 1; noslot = frames - 1; fault = 0 }

@@ -112,11 +112,7 @@ pub(crate) fn make_copy<D: SwapDev>(
 }
 
 /// Takes a frame of zeros for a page, with this home, to the head of inactive.
-fn take_zeros(
-    mem: &mut Mem,
-    key: (u16, u64),
-    home: Option<(u64, u64)>,
-) -> Result<u32, AllocError>
+fn take_zeros(mem: &mut Mem, key: (u16, u64), home: Option<(u64, u64)>) -> Result<u32, AllocError>
     requires mapped { IsMapped mem.old key }
     requires free { HasFree mem.old }
     ensures taken { IfOk result (λ f. IsTaken mem.old mem.new f (λ left.
@@ -149,8 +145,7 @@ fn take_copy(mem: &mut Mem, key: (u16, u64), from: u32, home: Option<(u64, u64)>
     let Some(frame) = mem.frames.take() else {
         unreachable!();
     };
-    mem.tables
-        .change(key.0, key.1, accessed_entry(frame, true));
+    mem.tables.change(key.0, key.1, accessed_entry(frame, true));
     mem.frames.copy(from, frame);
     mem.frames.map_down(from);
     mem.frames.map_up(frame);

@@ -168,8 +168,7 @@ fn write_own(
     ensures count { frame_count mem.new ≡ frame_count mem.old }
 {
     if !settled {
-        mem.tables
-            .change(key.0, key.1, accessed_entry(frame, true));
+        mem.tables.change(key.0, key.1, accessed_entry(frame, true));
     }
     mem.frames.set_home(frame, home);
     if cached {

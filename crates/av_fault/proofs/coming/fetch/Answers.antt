@@ -23,6 +23,16 @@ home_to_load-home-requires g c =
     (to-load _ _ c.args.mem.now c.seek.new.mem c.args.key c.args.slot c.args.home c.args.notes.now c.seek.new.notes c.in_ok-out.field-0
     c.requires.between c.requires.away c.requires.home (sym c.find.ensures.value ∙ c.in_default.is) c.in_ok-out.ensures.sought c.in_default-2.is).anon
 
+pub load-requires-clause-fits : goal.load-requires-clause-fits
+load-requires-clause-fits g c =
+    (to-load _ _ c.args.mem.now c.seek.new.mem c.args.key c.args.slot c.args.home c.args.notes.now c.seek.new.notes c.in_ok-out.field-0
+    c.requires.between c.requires.away c.requires.home (sym c.find.ensures.value ∙ c.in_default.is) c.in_ok-out.ensures.sought c.in_default-2.is).fits
+
+pub load-requires-clause-areas : goal.load-requires-clause-areas
+load-requires-clause-areas g c =
+    (to-load _ _ c.args.mem.now c.seek.new.mem c.args.key c.args.slot c.args.home c.args.notes.now c.seek.new.notes c.in_ok-out.field-0
+    c.requires.between c.requires.away c.requires.home (sym c.find.ensures.value ∙ c.in_default.is) c.in_ok-out.ensures.sought c.in_default-2.is).areas
+
 pub load-requires-clause-listed : goal.load-requires-clause-listed
 load-requires-clause-listed g c =
     (to-load _ _ c.args.mem.now c.seek.new.mem c.args.key c.args.slot c.args.home c.args.notes.now c.seek.new.notes c.in_ok-out.field-0

@@ -1,4 +1,4 @@
-use Rattle.std.proofs.Common.{false, None, Some, refl, sym, subst, ◌∙◌}
+use Rattle.std.proofs.Common.{◌<◌, false, None, Some, refl, sym, subst, ◌∙◌}
 use Rattle.av_plain.specs.Device.{as_told, device_by}
 use Rattle.av_plain.specs.Fault.{CopyOnWrite}
 use Rattle.av_fault.specs.Seek.{HasSought}
@@ -8,6 +8,7 @@ use Rattle.av_fault.proofs.CopyLaws.{copy-here, copy-made, copy-mapped, copy-nee
 use Rattle.av_fault.proofs.SharedLaws.{shared-in}
 use Rattle.av_fault.proofs.SoughtLaws.{free-sought}
 use Rattle.av_fault.proofs.TakenLaws.{out-made}
+use Rattle.av_fault.proofs.UsingLaws.{here-below}
 use Rattle.av_fault.proofs.making.make_copy.Goals as goal
 
 pub returns-in-Out-clause-made : goal.returns-in-Out-clause-made
@@ -49,6 +50,16 @@ take_copy-frame-requires-clause-free g c =
     let s = subst (HasSought d d' old c.seek.new.mem b.0 b.1 b.2 (Some c.args.from) c.args.notes.now c.seek.new.notes) c.in_default.is
     (c.in_ok-out.ensures.sought false b.0 b.1 b.2 b.3) in
     free-sought d d' old c.seek.new.mem b.0 b.1 b.2 (Some f) c.args.notes.now c.seek.new.notes Frame b.3 s s.finds
+
+pub take_copy-frame-requires-clause-in_range : goal.take_copy-frame-requires-clause-in_range
+take_copy-frame-requires-clause-in_range g c =
+    let sizes = g.D.SwapDev.sizes c.args.dev.now in
+    let faults = g.D.SwapDev.faults c.args.dev.now in
+    let old = c.args.mem.now in
+    let b = between-some sizes old faults c.requires.between in
+    let here = c.requires.here in
+    subst (λ n. c.args.from < n) (sym c.seek.ensures.count)
+    (here-below (device_by sizes None faults) old b.0 b.1 b.2 b.3 c.args.key c.args.from here.write here.seen here.there)
 
 pub take_copy-frame-requires-clause-mapped : goal.take_copy-frame-requires-clause-mapped
 take_copy-frame-requires-clause-mapped g c =

@@ -1,5 +1,5 @@
-use Rattle.std.proofs.Common.{◌≡◌, ◌+◌, ◌-◌, ◌<◌, ◌∷◌, refl, sym, ap, subst, ◌∙◌, arith}
-use Rattle.av_base.specs.Words.{is_in, with_at}
+use Rattle.std.proofs.Common.{◌≡◌, ◌+◌, ◌-◌, ◌<◌, refl, sym, ap, subst, ◌∙◌, arith}
+use Rattle.av_base.specs.Words.{with_at}
 use Rattle.av_frames.specs.Store.{Shown, shown, with_bytes, with_home, with_maps}
 use Rattle.av_pagetable.specs.Entries.{entry_at, with_entry}
 use Rattle.av_fault.proofs.MakingLaws.{copy-frames, copy-unmapped, first-listed, taken-view}

@@ -1,12 +1,15 @@
-use Rattle.std.proofs.Common.{◌∙◌, ap, is_some, sym}
-use Rattle.av_fault.proofs.SeekLaws.{sought-frame, sought-none}
+use Rattle.std.proofs.Common.{subst}
+use Rattle.av_fault.proofs.SeekLaws.{HasEnded, sought-frame, sought-out}
 use Rattle.av_fault.proofs.seek.seek.Goals as goal
 
-pub returns-then-is_some-clause-sought : goal.returns-then-is_some-clause-sought
-returns-then-is_some-clause-sought g c = λ told w r l h.
-    sought-frame _ c.args.mem.now w r l c.args.pinned c.args.notes.now h (ap is_some (sym c.first.ensures) ∙ sym c.is_some.ensures ∙ c.if-is_some.true)
+pub returns-in-Frame-clause-sought : goal.returns-in-Frame-clause-sought
+returns-in-Frame-clause-sought g c = λ told w r l h.
+    sought-frame _ _ c.args.mem.now c.seek.new.mem w r l c.args.pinned c.args.notes.now c.seek.new.notes c.in-Frame.field-0
+    (subst (HasEnded _ _ c.args.mem.now c.seek.new.mem w r l c.args.pinned c.args.notes.now c.seek.new.notes) c.in-Frame.is
+    (c.in_ok-seek.ensures.seeks told w r l h))
 
-pub returns-clause-sought : goal.returns-clause-sought
-returns-clause-sought g c = λ told w r l h.
-    sought-none _ c.args.mem.now w r l c.args.pinned c.args.notes.now h c.out_of.result
-    (ap is_some (sym c.first.ensures) ∙ sym c.is_some.ensures ∙ c.if-is_some.false) c.requires.pinned c.out_of.ensures
+pub returns-in-Out-clause-sought : goal.returns-in-Out-clause-sought
+returns-in-Out-clause-sought g c = λ told w r l h.
+    sought-out _ _ c.args.mem.now c.seek.new.mem w r l c.args.pinned c.args.notes.now c.seek.new.notes c.in-Out.out
+    (subst (HasEnded _ _ c.args.mem.now c.seek.new.mem w r l c.args.pinned c.args.notes.now c.seek.new.notes) c.in-Out.is
+    (c.in_ok-seek.ensures.seeks told w r l h))

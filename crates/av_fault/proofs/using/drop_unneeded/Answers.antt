@@ -1,5 +1,4 @@
-use Rattle.std.proofs.Common.{◌≡◌, ◌<◌, ◌==◌, not, ◌&&◌, true, false, IfSome, Some, is_some, refl, sym, ap, subst, ◌∙◌, arith}
-use Rattle.std.proofs.lemmas.Bool.Decides.{nat_tests}
+use Rattle.std.proofs.Common.{◌≡◌, ◌<◌, ◌==◌, not, ◌&&◌, false, IfSome, is_some, sym, ap, subst, ◌∙◌, arith}
 use Rattle.av_base.specs.Words.{is_in}
 use Rattle.av_swapcache.specs.Swap.{is_flying, shown}
 use Rattle.av_swap_laws.specs.Steps.{view_drop}
@@ -18,9 +17,10 @@ returns-then-in_flight-clause-dropped c = λ d w r l h.
     let s = c.in-Some.slot in
     needed-dropped d old w r l h c.args.frame c.args.notes.now s (sym c.slot.ensures ∙ c.in-Some.is)
     (elim c.then-in_flight.branch [
-      then-in_flight-via-then-in_flight w ↦ ap (λ b. not b && (view old).entries s == 0) (sym c.in_flight.ensures ∙ w.if-in_flight.true)
-    | then-in_flight-via-else-in_flight+then-entries-gt0 w ↦ not-both (not (is_flying (shown old.swap) s)) ((view old).entries s)
-        (subst (λ n. 0 < n) w.entries.ensures w.if-entries-gt0.true) ])
+      | then-in_flight-via-then-in_flight w ↦ ap (λ b. not b && (view old).entries s == 0) (sym c.in_flight.ensures ∙ w.if-in_flight.true)
+      | then-in_flight-via-else-in_flight+then-entries-gt0 w ↦ not-both (not (is_flying (shown old.swap) s)) ((view old).entries s)
+          (subst (λ n. 0 < n) w.entries.ensures w.if-entries-gt0.true)
+    ])
 
 pub drop_slot-requires-clause-cached : goal.drop_slot-requires-clause-cached
 drop_slot-requires-clause-cached c =

@@ -1,5 +1,4 @@
-use Rattle.std.proofs.Common.{◌∷◌, [], false, true, refl, ap, ◌∙◌}
-use Rattle.std.proofs.lemmas.Bool.{false≢true}
+use Rattle.std.proofs.Common.{false, true, ap, ◌∙◌}
 use Rattle.av_plain.specs.Areas.{rmap_after_all}
 use Rattle.av_plain.specs.Event.{after_all, note_events}
 use Rattle.av_plain.specs.Load.{with_loads}

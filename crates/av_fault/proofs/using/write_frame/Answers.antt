@@ -1,9 +1,11 @@
-use Rattle.std.proofs.Common.{◌≡◌, ◌∷◌, [], false, true, None, refl, sym, ap, subst, ◌∙◌}
+use Rattle.std.proofs.Common.{◌≡◌, ◌<◌, false, true, None, is_some, refl, sym, ap, subst, ◌∙◌}
 use Rattle.av_plain.specs.Areas.{rmap_after_all}
 use Rattle.av_plain.specs.Device.{as_told, device_by}
-use Rattle.av_plain.specs.Event.{after_all, note_events}
+use Rattle.av_plain.specs.Event.{after_all, after_notes, note_events}
 use Rattle.av_plain.specs.Fault.{is_shared}
+use Rattle.av_plain.specs.Ledger.{slot_of}
 use Rattle.av_plain.specs.Load.{with_loads}
+use Rattle.av_plain.proofs.Access.{note_events-all}
 use Rattle.av_mem.specs.Mem.{setting_by}
 use Rattle.av_fault.proofs.Between.{between-some}
 use Rattle.av_fault.proofs.DropLaws.{dropped-alone}
@@ -67,8 +69,9 @@ returns-clause-made g c = λ told w r l h came.
     let x = c.in_ok-cached.ensures.dropped d w r l h in
     let events = note_events x.added in
     let alone : is_shared l f ≡ false = elim c.else-not-settled.branch [
-      else-not-settled-via-then-not-settled+else-is_shared z ↦ sym (shared-in d old w r l h f) ∙ sym z.is_shared.ensures ∙ z.if-is_shared.false
-    | else-not-settled-via-else-not-settled z ↦ own-here d old w r l h key f here.write here.seen here.there (here.marked z.if-not-settled.false).0 ] in
+      | else-not-settled-via-then-not-settled+else-is_shared z ↦ sym (shared-in d old w r l h f) ∙ sym z.is_shared.ensures ∙ z.if-is_shared.false
+      | else-not-settled-via-else-not-settled z ↦ own-here d old w r l h key f here.write here.seen here.there (here.marked z.if-not-settled.false).0
+    ] in
     let alone_then : is_shared (after_all l events) f ≡ false = ap (λ y. is_shared y f) (note_events-all l x.added)
     ∙ subst (λ ns. is_shared (after_notes l ns) f ≡ false) (sym x.drops) (dropped-alone m l f h.sound alone) in
     used-made d old mid c.write_own.new.mem w r l key f here.seen true came c.args.notes.now c.drop_unneeded.new.notes x.added at x.drops
