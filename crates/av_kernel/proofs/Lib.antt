@@ -1,6 +1,7 @@
 pub mod Loads
 pub mod CacheLeft
 pub mod StepLaws
+pub mod ReclaimLaws
 pub mod ProcessLaws
 pub mod ForkLaws
 pub mod MapLaws

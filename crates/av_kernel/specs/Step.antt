@@ -1,13 +1,13 @@
 -- What one command does to the memory system.
 use Rattle.std.specs.Prelude.{◌≡◌, ℕ, Bool, false, true, List, Option, Some, None, Result, Ok, Err, IfSome, is_some}
 use Rattle.av_trace.specs.declared.command.Command.{Command}
-use Rattle.av_trace.specs.declared.command.Command.TheVariants.{Age, Complete, Mmap, Mprotect, Mremap, Munmap, Read, Reclaim, Swapon, Write}
+use Rattle.av_trace.specs.declared.command.Command.TheVariants.{Age, Mmap, Mprotect, Mremap, Munmap, Reclaim}
 use Rattle.av_trace.specs.declared.reply.Answer.TheVariants as answers
 use Rattle.av_trace.specs.declared.reply.Reply.{Reply}
 use Rattle.av_trace.specs.Reply.{answer_only}
 use Rattle.av_io.specs.Count.{RoseBy}
 use Rattle.av_plain.specs.Device.{Device, IsSameDevice, device_by}
-use Rattle.av_plain.specs.Step.{causes}
+use Rattle.av_plain.specs.Step.{causes, uses_device}
 use Rattle.av_plain.specs.Transcript.{State, IsStep}
 use Rattle.av_spaces.specs.Spaces.{areas_of}
 use Rattle.av_mem.specs.declared.mem.Mem.{Mem}
@@ -23,21 +23,11 @@ is_of_pages (Mprotect p a len prot) = true
 is_of_pages (Mremap p a old_len new_len mode) = true
 is_of_pages command = false
 
--- whether a command reads or writes pages of a process
-abbrev pub is_access : Command → Bool
-is_access (Read p a n) = true
-is_access (Write p a bytes) = true
-is_access command = false
-
--- whether a command is handed the device: it may read or write pages there, or send frames to slots
+-- whether a command is handed the device: it may use it, or moves frames towards their slots
 abbrev pub has_device : Command → Bool
-has_device (Read p a n) = true
-has_device (Write p a bytes) = true
 has_device (Reclaim n) = true
 has_device (Age n) = true
-has_device (Complete n) = true
-has_device (Swapon k) = true
-has_device command = false
+has_device command = uses_device command
 
 -- what a command answers that filled this reply, or was not done
 abbrev pub reply_in : Reply → Result (Unit {0}) Refusal → Result Reply Refusal

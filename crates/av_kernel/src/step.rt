@@ -13,7 +13,6 @@ ghost use Rattle.av_kernel.specs.Step.{
   DoesBeside,
   MemSteps,
   has_device,
-  is_access,
   is_of_pages,
   reply_in,
   seen_by,
@@ -104,30 +103,6 @@ fn dispatch<D: SwapDev>(
             address,
             bytes,
         } => write(mem, dev, alloc, *process, *address, bytes.as_slice(), reply),
-        _ => swap_or_beside(mem, dev, sizes, alloc, command, reply),
-    }
-}
-
-/// Does a command that is no access: it moves pages to swap areas, turns one on, or isn't handed the
-/// device.
-fn swap_or_beside<D: SwapDev>(
-    mem: &mut Mem,
-    dev: &mut D,
-    sizes: &[u32],
-    alloc: Global,
-    command: &Command,
-    reply: &mut Reply,
-) -> Result<(), Refusal>
-    requires steady { IsSteadyAt (D.sizes dev.old) mem.old }
-    requires grammar { is_in_grammar command.now ≡ true }
-    requires no_access { is_access command.now ≡ false }
-    requires attached { D.sizes dev.old ≡ sizes_of sizes.now }
-    requires few { length sizes.now ≤ most_areas }
-    requires cleared { IsCleared reply.old }
-    ensures { let d = seen_by D.sizes D.pages D.faults in Does (d dev.old) (d dev.new)
-        mem.old mem.new command.now (reply_in reply.new result) }
-{
-    match command {
         Command::Reclaim { frames } => reclaim(mem, dev, *frames, reply),
         Command::Age { frames } => age(mem, dev, *frames, reply),
         Command::Complete { slots } => complete(mem, dev, *slots, reply),
@@ -144,7 +119,6 @@ fn do_beside(
     reply: &mut Reply,
 ) -> Result<(), Refusal>
     requires steady { IsSteady mem.old }
-    requires grammar { is_in_grammar command.now ≡ true }
     requires beside { has_device command.now ≡ false }
     requires cleared { IsCleared reply.old }
     ensures { DoesBeside mem.old mem.new command.now (reply_in reply.new result) }
