@@ -17,8 +17,7 @@ use Rattle.av_plain.specs.Load.{with_loads}
 use Rattle.av_plain.specs.Pass.{fails}
 use Rattle.av_plain.specs.Refusal.{Refuses, refusal, tests}
 use Rattle.av_plain.specs.Report.{ShowsAreas}
-use Rattle.av_plain.specs.Stands.{free_of}
-use Rattle.av_plain.specs.Step.{Follows, causes, closing_swap_area, next}
+use Rattle.av_plain.specs.Step.{Follows, closing_swap_area, next}
 use Rattle.av_plain.specs.Transcript.{State, rmap_of}
 use Rattle.av_plain.specs.World.{World}
 use Rattle.av_plain.proofs.Access.{notes_of-note_events}
@@ -26,7 +25,7 @@ use Rattle.av_plain.proofs.Transcript.{is_fork, next-plain}
 use Rattle.av_mem.specs.declared.mem.Mem.{Mem}
 use Rattle.av_mem.specs.Between as between
 use Rattle.av_mem.specs.Between.{IsBetween, KeepsBetween}
-use Rattle.av_mem.specs.Mem.{IsSteadyAt, Keeps, frame_count, setting_by, view}
+use Rattle.av_mem.specs.Mem.{IsSteadyAt, Keeps, frame_count, setting_by}
 use Rattle.av_mem.proofs.KeepsLaws.{keeps-serves, keeps-whenever, serves-keeps, state_by}
 use Rattle.av_reclaim.specs.Commands.{HasAdded}
 use Rattle.av_kernel.specs.Step.{Does, MemSteps}
@@ -107,17 +106,27 @@ module _ (command : Command) (by : IsByNotes command) where
         let s = steady.1 in
         let keeps = keeps-whenever d.sizes None steady.0 d.faults old s steady.2 in
         let after = added-steps (as_told false d) (as_told false d') old new s before now keeps fresh
-            (h false s.world (rmap_of s) s.ledger (stands-between (as_told false d) old s keeps)) in
+        (h false s.world (rmap_of s) s.ledger (stands-between (as_told false d) old s keeps)) in
         (d'.faults, after.next, subst (λ sizes. Keeps (device_by sizes None d'.faults) new after.next) after.same.sizes after.keeps);
     same = same;
     count = count;
   }
 
   -- with the reply that was given these notes and its answer
-  pub does-noted : (d d' : Device) (old new : Mem) (reply reply' : Reply) (now : List Note) → IsCleared reply
+  does-noted : (d d' : Device) (old new : Mem) (reply reply' : Reply) (now : List Note) → IsCleared reply
       → reply' ≡ record reply { answer = Done; notes = now } → IsSameDevice d d' → frame_count new ≡ frame_count old
       → between.Does d d' old (λ d d' w r l. HasAdded (AsksNotes command) d d' old new w r l reply.notes now)
       → Does d d' old new command (Ok reply')
   does-noted d d' old new reply reply' now cleared is same count h = subst (λ r. Does d d' old new command (Ok r))
       (sym (is ∙ (λ i. record { answer = Done; notes = now; rows = cleared.rows i })))
       (does-added d d' old new reply.notes now cleared.notes same count h)
+
+-- a command that goes over so many frames or slots
+pub does-counted : (command : ℕ → Command) → ((n : ℕ) → IsByNotes (command n)) → (n count : ℕ) → count ≡ n → (d d' : Device) (old new : Mem)
+    (reply reply' : Reply) (now : List Note) → IsCleared reply → reply' ≡ record reply { answer = Done; notes = now } → IsSameDevice d d'
+    → frame_count new ≡ frame_count old
+    → between.Does d d' old (λ d d' w r l. HasAdded (AsksNotes (command count)) d d' old new w r l reply.notes now)
+    → Does d d' old new (command n) (Ok reply')
+does-counted command by n count so_many d d' old new reply reply' now cleared is same frames h =
+    subst (λ n. Does d d' old new (command n) (Ok reply')) so_many
+    (does-noted (command count) (by count) d d' old new reply reply' now cleared is same frames h)

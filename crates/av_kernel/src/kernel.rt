@@ -128,7 +128,15 @@ impl Kernel {
         if self.spent {
             return Err(AllocError);
         }
-        match perform(&mut self.mem, dev, &self.sizes, &mut self.spare, alloc, command, reply) {
+        match perform(
+            &mut self.mem,
+            dev,
+            &self.sizes,
+            &mut self.spare,
+            alloc,
+            command,
+            reply,
+        ) {
             Ok(()) => {
                 self.steps += 1;
                 self.tally.count(&reply.answer);

@@ -18,7 +18,7 @@ few-none = record {
 -- over a device that has areas of these sizes it is steady
 pub invariant_of-result : goal.invariant_of-result
 invariant_of-result c = record {
-  attached = subst (λ (sizes : List ℕ). length sizes ≤ most_areas) (sym c.in_ok-from_slice.ensures) c.requires;
+  attached = subst (λ (sizes : List ℕ). length sizes ≤ most_areas) (sym c.in_ok-from_slice.ensures.items) c.requires;
   few = subst (IsAtMost 0) (sym c.new-2.ensures) few-none;
   steady = λ _. (0, _, c.in_ok-new.ensures.keeps _);
 }
