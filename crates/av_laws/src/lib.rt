@@ -101,8 +101,9 @@ pub use unsound::{
     changed_ledgers_are_unsound, changed_memories_are_unsound, entries_of_one_memory_are_unsound,
 };
 pub use views::{
-    cached_views_stand, changed_cached_views_do_not_stand, changed_views_do_not_stand,
-    the_right_view_stands,
+    cached_views_stand, changed_anon_vmas_do_not_stand, changed_cached_views_do_not_stand,
+    changed_views_do_not_stand, the_right_view_stands, uncovered_slots_do_not_stand,
+    unreached_entries_do_not_stand,
 };
 
 /// A command that is refused changes neither the memories nor the ledger. An mprotect, which can
