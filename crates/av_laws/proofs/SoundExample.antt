@@ -1,10 +1,12 @@
 -- Sound states with swap in use: a page that is cached, and in writeback.
-use Rattle.std.proofs.Common.{IfSome, length, ◌≡◌, ℕ, ◌+◌, ◌<◌, ◌≤◌, min, Bool, true, false, cond, ◌&&◌, Option, Some, None, is_some, refl, sym, ap, subst, ◌∙◌, arith, ◌==◌, [], ◌∷◌, if◌then◌else◌}
+use Rattle.std.proofs.Common.{IfSome, List, length, ◌≡◌, ℕ, ◌+◌, ◌<◌, ◌≤◌, min, Bool, true, false, cond, ◌&&◌, Option, Some, None, is_some, refl, sym, ap, subst, ◌∙◌, arith, ◌==◌, [], ◌∷◌, if◌then◌else◌}
 use Rattle.std.proofs.lemmas.Bool.Decides.{nat_tests}
+use Rattle.std.specs.FinMap.Entries.{find}
+use Rattle.std.specs.List.{AllByRecursion}
 use Rattle.std.specs.Ordering.{nat_cmp, eq_by_cmp}
 use Rattle.av_base.specs.declared.slot.Slot.{Slot}
 use Rattle.av_plain.specs.World.{pages}
-use Rattle.av_plain.specs.Ledger.{Cached, SwapArea, size_of, slots_in_use, Ledger, Key, Entry, InSlot, entry, same_slot}
+use Rattle.av_plain.specs.Ledger.{Cached, SwapArea, size_of, slots_in_use, Ledger, Key, Entry, InSlot, entry, key_cmp, same_slot}
 use Rattle.av_base.specs.Words.{how_many}
 use Rattle.av_plain.specs.Sound.{AreasFit, is_there, AllSound, flights}
 use Rattle.av_laws.specs.Examples.{cached_out, with_swap, slot, in_writeback}
@@ -110,19 +112,22 @@ in_writeback-sound = cached_out-sound true false
 
 -- ---- two processes at the slot
 
+-- what holds of the key of each entry holds of each key that has one
+pub each-entry : (P : Key → Type 0) (es : List (Key × Entry)) → AllByRecursion (λ e. P e.0) es → (k : Key) → is_some (find key_cmp k es) ≡ true → P k
+each-entry P [] all k h = cc
+each-entry P (e ∷ es) all k h = by (each-entry P es all.1 k) (same_key k e.0) refl h
+  where
+    by : (is_some (find key_cmp k es) ≡ true → P k) → (b : Bool) → same_key k e.0 ≡ b → is_some (cond b (Some e.1) (find key_cmp k es)) ≡ true → P k
+    by rest true is there = subst P (sym (same_key-is k e.0 is)) all.0
+    by rest false is there = rest there
+
 module _ (flying stale : Bool) where
   abbrev two : Ledger
   two = (cached_state flying stale).ledger
 
   -- what holds of both keys holds of each that has an entry
   pub of_entry : (P : Key → Type 0) → P (1, 0x7fffffffe) → P (2, 0x7fffffffe) → (k : Key) → is_some (entry two k) ≡ true → P k
-  of_entry P first second k = by (same_key k (1, 0x7fffffffe)) (same_key k (2, 0x7fffffffe)) refl refl
-    where
-      by : (a b : Bool) → same_key k (1, 0x7fffffffe) ≡ a → same_key k (2, 0x7fffffffe) ≡ b
-          → is_some (cond a (Some (InSlot (slot 1))) (cond b (Some (InSlot (slot 1))) None)) ≡ true → P k
-      by true b is is' h = subst P (sym (same_key-is k (1, 0x7fffffffe) is)) first
-      by false true is is' h = subst P (sym (same_key-is k (2, 0x7fffffffe) is')) second
-      by false false is is' h = cc
+  of_entry P first second = each-entry P two.entries (first, (second, tt))
 
   two-page : (k : Key) (d : Entry) → entry two k ≡ Some d → k.1 ≡ 0x7fffffffe
   two-page k d at = of_entry (λ k. k.1 ≡ 0x7fffffffe) refl refl k (ap is_some at)

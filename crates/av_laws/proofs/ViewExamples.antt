@@ -319,19 +319,24 @@ two-made v = made (v == 0) (v == 1) refl refl
     made false false is is' h = absurd (never h)
 
 -- and of one root
-pub two-kin : (p page v : ℕ) → IsSomeAnd (fork_state.areas p page) (λ a. a.anon ≡ Some v) → IsSomeAnd (parent_and_child.anon v) (IsKin parent_and_child)
-two-kin = of_own (λ v. IsSomeAnd (parent_and_child.anon v) (IsKin parent_and_child))
-    (record { root = refl; members = λ u. of_root (u == 0) (u == 1) })
-    (record { root = refl; members = λ u. of_child (u == 0) (u == 1) })
+pub root-kin : IsKin parent_and_child root
+root-kin = record { root = refl; members = λ u. members (u == 0) (u == 1) }
   where
-    of_root : (a b : Bool) → (a || false) ≡ true → IsSomeAnd (cond a (Some root) (cond b (Some child) None)) (λ other. other.root ≡ 0)
-    of_root true b h = refl
-    of_root false b h = cc
+    members : (a b : Bool) → (a || false) ≡ true → IsSomeAnd (cond a (Some root) (cond b (Some child) None)) (λ other. other.root ≡ 0)
+    members true b h = refl
+    members false b h = cc
 
-    of_child : (a b : Bool) → (a || (b || false)) ≡ true → IsSomeAnd (cond a (Some root) (cond b (Some child) None)) (λ other. other.root ≡ 0)
-    of_child true b h = refl
-    of_child false true h = refl
-    of_child false false h = cc
+pub child-kin : IsKin parent_and_child child
+child-kin = record { root = refl; members = λ u. members (u == 0) (u == 1) }
+  where
+    members : (a b : Bool) → (a || (b || false)) ≡ true → IsSomeAnd (cond a (Some root) (cond b (Some child) None)) (λ other. other.root ≡ 0)
+    members true b h = refl
+    members false true h = refl
+    members false false h = cc
+
+pub two-kin : (p page v : ℕ) → IsSomeAnd (fork_state.areas p page) (λ a. a.anon ≡ Some v)
+    → IsSomeAnd (parent_and_child.anon v) (IsKin parent_and_child)
+two-kin = of_own (λ v. IsSomeAnd (parent_and_child.anon v) (IsKin parent_and_child)) root-kin child-kin
 
 -- no entry names a slot
 fork-slots : AreSlotsCovered fork_state.ledger (rmap_of fork_state)

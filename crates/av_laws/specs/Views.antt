@@ -1,6 +1,6 @@
--- Views of a kernel after a fork, when two processes have frame 0, and once that is cached at slot 1
--- and unmapped: the right ones, which stand for the states, and some that don't. Each of these is the
--- right one but for one thing.
+-- Views of a kernel after a fork, when two processes have frame 0, and once that is cached at slot
+-- 1 and unmapped: the right ones, which stand for the states, and some that don't. Each of these is
+-- the right one but for one thing.
 use Rattle.std.specs.Prelude.{ℕ, ◌-◌, Bool, false, ◌==◌, ◌&&◌, ◌||◌, if◌then◌else◌, List, [], ◌∷◌, ◌++◌, Some, None, option_map, replicate, codes}
 use Rattle.av_clusters.specs.Clusters.{Slots}
 use Rattle.av_plain.specs.Device.{Device, no_device}

@@ -79,7 +79,10 @@ pub use examples::{
     ranges_run, shared_examples_run, swap_examples_run,
 };
 pub use forks::{changed_forks_are_refused, forks_are_refused, forks_follow};
-pub use homes::{changed_homes_are_refused, homes_are_of_pages, homes_cover_entries, homes_follow};
+pub use homes::{
+    changed_homes_are_refused, homes_are_of_pages, homes_cover_entries, homes_cover_slots,
+    homes_follow, loaded_frames_are_at_home,
+};
 pub use lines::{answers_say, changed_lines_are_refused, lines_say, rows_say};
 pub use mremap::{
     changed_mremaps_are_refused, mremaps_are_refused, pages_move, pages_stay_or_find_a_place,
@@ -92,11 +95,19 @@ pub use pass_turns::{
     cached_frames_are_unmapped_and_written, changed_passes_are_refused, frames_have_their_turns,
     pages_are_lost_behind_a_pass, passes_end_with_a_free_frame,
 };
-pub use several::{all_areas_count, kept_frames_go_to_the_head, pages_are_at_their_own_slots};
+pub use several::{
+    all_areas_count, kept_frames_go_to_the_head, page_0_of_a_device_stays,
+    pages_are_at_their_own_slots,
+};
 pub use slots::{
     areas_are_turned_on_anew, slots_are_given_in_turn, slots_come_back, the_first_area_gives,
 };
 pub use swap_rows::{changed_swap_rows_are_refused, swap_rows_run};
+pub use swap_steps::{
+    areas_are_turned_on, frames_are_reclaimed_from_the_tail, full_is_asked_at_the_drop,
+    slots_are_emptied_in_turn, slots_are_told, the_first_writes_are_completed,
+    written_bytes_are_claimed,
+};
 pub use unsound::{
     changed_ledgers_are_unsound, changed_memories_are_unsound, entries_of_one_memory_are_unsound,
 };

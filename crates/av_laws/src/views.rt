@@ -86,8 +86,9 @@ pub fn changed_anon_vmas_do_not_stand()
     ensures other_chain { NotKin (one_anon 0 (0 ∷ 1 ∷ [])) (one_anon 0 (0 ∷ [])) }
 {}
 
-/// The right view of a cached page that two processes have stands for its state: where it is clean, the device has its
-/// bytes; where it is stale, or its write is in flight, the device may have others.
+/// The right view of a cached page that two processes have stands for its state: where it is clean,
+/// the device has its bytes; where it is stale, or its write is in flight, the device may have
+/// others.
 pub fn cached_views_stand()
     ensures clean { StandsFor (cached_view false false) 7 (cached_state false false) }
     ensures stale { StandsFor (cached_view false true) 9 (cached_state false true) }
@@ -125,10 +126,10 @@ pub fn changed_cached_views_do_not_stand()
         with_fewer_slots }
 {}
 
-/// A view of a cached page doesn't stand where one of the pages at its slot is in an area without an
-/// anon_vma; where its frame has no home, one at another index, or the own anon_vma of the child,
-/// from which the parent's page isn't reached; or where a chain has an anon_vma that isn't there, or
-/// one with another root.
+/// A view of a cached page doesn't stand where one of the pages at its slot is in an area without
+/// an anon_vma; where its frame has no home, one at another index, or the own anon_vma of the
+/// child, from which the parent's page isn't reached; or where a chain has an anon_vma that isn't
+/// there, or one with another root.
 pub fn uncovered_slots_do_not_stand()
     ensures bare_areas { NotOwned (λ p. area 0x7fffffffe 0x7ffffffff p) }
     ensures no_home { NotCovered no_homes }
