@@ -56,7 +56,7 @@ ghost use Rattle.av_text.specs.Number.{IsWide};
 ghost use Rattle.av_trace.specs.Reply.{IsReply};
 ghost use Rattle.av_io.specs.Count.{Rose, RoseBy};
 ghost use Rattle.av_laws.specs.Covered.{CoverBelow, CoverPages};
-ghost use Rattle.av_laws.specs.NeedsFrame.{NoneWantsFrame};
+ghost use Rattle.av_laws.specs.NeedsFrame.{AreInPlace, NoneWantsFrame};
 ghost use Rattle.av_plain.specs.Device.{AreLayouts, Device, HasNoDevice, setting_of};
 ghost use Rattle.av_laws.specs.ReadBack.{IsSmall, IsWideRow};
 ghost use Rattle.av_laws.specs.Determined.{
@@ -292,11 +292,11 @@ pub fn reads_in_memory_are_served()
         → IsLegal m w l (Read p a n) reply events → reply.answer ≡ Oom k out shown → ⊥ }
 {}
 
-/// Where no device is attached, a write whose pages need no frame, each of them having one for
-/// itself, is never out of memory.
+/// A write whose pages each have a frame for themselves is never out of memory: no other entry names
+/// it, and none names the slot at which it is cached.
 pub fn writes_in_place_are_served()
     ensures { (m : Setting) (w : World) (l : Ledger) (p a : ℕ) (bytes : List ℕ) (reply : Reply)
         (events : List Event) (k : ℕ) (out : OutOf) (shown : List ℕ)
-        → HasNoDevice m → AllSound m w l → NoneWantsFrame true l p a (length bytes)
+        → AllSound m w l → AreInPlace l p a (length bytes)
         → IsLegal m w l (Write p a bytes) reply events → reply.answer ≡ Oom k out shown → ⊥ }
 {}
