@@ -343,7 +343,7 @@ pub other_area-not : NotFor (record (cached_view false false) { on = fewer_slots
     (cached_state false false)
 other_area-not h = let e : ◌≡◌ {A = ℕ} 6 7 = ap slots_on h.parts.ledger.swap.on in omega (arith, e)
 
-pub other_header-not : NotFor (record (cached_view false false) { on = fewer_slots }) 7
+pub other_header-not : NotFor (record (cached_view false false) { on = fewer_slots; slots = (with_slots 7 [] 1 []).slots }) 7
     with_fewer_slots
 other_header-not h = let e : ◌≡◌ {A = ℕ} 6 7 = (h.parts.headers 0).slots in omega (arith, e)
 

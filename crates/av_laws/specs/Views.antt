@@ -175,6 +175,7 @@ abbrev pub with_fewer_slots : State
 with_fewer_slots =
     record (cached_state false false) {
       ledger = record (cached_state false false).ledger { on = fewer_slots };
+      free = with_slots 7 [] 1 (1 ∷ 2 ∷ 3 ∷ []);
     }
 
 -- a kernel that agrees with the state on the slots, of which so many were given, doesn't stand for

@@ -196,9 +196,9 @@ pub fn runs_list_free_slots()
 
 /// In a run of at most 2^24 commands each entry that names a frame is reached from the frame's
 /// home, through a chain alone. The pages whose entries name one slot have one root and one linear
-/// index, and where the slot is cached they are reached, too: so the frame that takes its page has a
-/// home that reaches them all. So it is after each command that finds it so in a sound state whose
-/// areas cover its pages.
+/// index, and where the slot is cached they are reached, too: so the frame that takes its page has
+/// a home that reaches them all. So it is after each command that finds it so in a sound state
+/// whose areas cover its pages.
 pub fn runs_cover_entries()
     ensures from_nothing { (m : Setting) (exchanges : List Exchange) (new : State)
         → length exchanges ≤ most_commands → IsRun m (at_first m) exchanges new
@@ -250,11 +250,10 @@ pub fn areas_has_one_answer()
 {}
 
 /// A legal reply to a command with values in range is one that is read back from its text: its
-/// numbers are of 64 bits, its bytes below 256, and its rows as many as it says. This is so where no
-/// device is attached, and where offsets, own anon_vmas and chains that the rows of `areas` say are
-/// of 64 bits, too. Legality says nothing of these, since it knows of memories and
-/// ledger alone: a step shows those of the state's areas, and in a run they are so, as the next law
-/// says.
+/// numbers are of 64 bits, its bytes below 256, and its rows as many as it says. This is so where
+/// no device is attached, and where offsets, own anon_vmas and chains that the rows of `areas` say
+/// are of 64 bits, too. Legality says nothing of these, since it knows of memories and ledger
+/// alone: a step shows those of the state's areas, and in a run they are so, as the next law says.
 pub fn replies_are_read_back()
     ensures { (m : Setting) (w : World) (l : Ledger) (command : Command) (reply : Reply)
         (events : List Event) → HasNoDevice m → AllSound m w l → IsSmall m w
@@ -292,8 +291,8 @@ pub fn reads_in_memory_are_served()
         → IsLegal m w l (Read p a n) reply events → reply.answer ≡ Oom k out shown → ⊥ }
 {}
 
-/// A write whose pages each have a frame for themselves is never out of memory: no other entry names
-/// it, and none names the slot at which it is cached.
+/// A write whose pages each have a frame for themselves is never out of memory: no other entry
+/// names it, and none names the slot at which it is cached.
 pub fn writes_in_place_are_served()
     ensures { (m : Setting) (w : World) (l : Ledger) (p a : ℕ) (bytes : List ℕ) (reply : Reply)
         (events : List Event) (k : ℕ) (out : OutOf) (shown : List ℕ)

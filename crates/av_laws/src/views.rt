@@ -122,7 +122,11 @@ pub fn changed_cached_views_do_not_stand()
         (cached_state false false) }
     ensures other_area { NotFor (record (cached_view false false) { on = fewer_slots }) 7
         (cached_state false false) }
-    ensures other_header { NotFor (record (cached_view false false) { on = fewer_slots }) 7
+    ensures other_header { NotFor
+        (record (cached_view false false) {
+          on = fewer_slots;
+          slots = (with_slots 7 [] 1 []).slots;
+        }) 7
         with_fewer_slots }
 {}
 
