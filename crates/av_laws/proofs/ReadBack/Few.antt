@@ -237,7 +237,8 @@ remap-new l p from n to k = by (to == from)
     by : (b : Bool) → prepared (cond b (range_zaps l p (from + k) (n - k)) ((target ++ tail) ++ Moved p (min n k) from to ∷ [])) ≤ 0
     by true = zaps-new l (keys_in l p (from + k) (n - k))
     by false = two-events (target ++ tail) (Moved p (min n k) from to ∷ [])
-        (two-events target tail (zaps-new l (keys_in l p to k)) (zaps-new (after_all l target) (keys_in (after_all l target) p (from + k) (n - k)))) (omega arith)
+        (two-events target tail (zaps-new l (keys_in l p to k))
+        (zaps-new (after_all l target) (keys_in (after_all l target) p (from + k) (n - k)))) (omega arith)
 
 maps-new : (s : Slot) (f : ℕ) (ks : List Key) → news (map (λ (k : Key). Mapped k.0 (address_of k.1) f) ks ++ Dropped s ∷ []) ≤ 0
 maps-new s f [] = omega arith
