@@ -1,5 +1,5 @@
 -- In a run the slots of each area are listed as the ledger has them: a page is taken where its slot is in use, and only slots are free.
-use Rattle.std.proofs.Common.{◌≡◌, List, [], ◌∷◌, refl, sym, subst}
+use Rattle.std.proofs.Common.{List, [], ◌∷◌, refl, sym, subst}
 use Rattle.av_plain.specs.Choice.{ListsSlots}
 use Rattle.av_plain.specs.Device.{AreLayouts}
 use Rattle.av_plain.specs.Ledger.{Setting}

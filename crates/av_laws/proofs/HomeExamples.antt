@@ -3,23 +3,27 @@ use Rattle.std.proofs.lemmas.Bool.{false≢true}
 use Rattle.std.proofs.lemmas.Option.{same_Some}
 use Rattle.std.proofs.lemmas.Bool.Decides.{nat_tests}
 use Rattle.std.proofs.Common.{◌≡◌, ℕ, Bool, true, false, ◌==◌, ◌||◌, List, [], ◌∷◌, Option, Some, None, cond, refl, subst, sym, ◌∙◌, arith, inl, inr, ◌⊎◌}
-use Rattle.std.specs.Prelude.{◌<◌, IfSome, IsSome, IsSomeAnd, if◌then◌else◌}
+use Rattle.std.specs.Prelude.{◌<◌, IfSome, IsSome, IsSomeAnd, if◌then◌else◌, is_some, option_map}
 use Rattle.av_trace.specs.declared.note.Note.TheVariants.{Copied, New}
 use Rattle.av_vma.specs.Pages.{has_page, pages_in}
 use Rattle.av_vma.specs.declared.area.Area.{Area}
 use Rattle.av_plain.specs.Access.{Whole}
-use Rattle.av_plain.specs.Areas.{Anons, AreLeft, Rmap, chain_by, none_on, rmap_after_all}
+use Rattle.av_base.specs.declared.slot.Slot.{Slot}
+use Rattle.av_plain.specs.Areas.{Anons, AreLeft, Homes, Rmap, chain_by, none_on, rmap_after_all}
 use Rattle.av_plain.specs.Event.{Event, Noted, Used, Zapped}
-use Rattle.av_plain.specs.Ledger.{Entry, Key, key_cmp, names_frame}
+use Rattle.av_plain.specs.Ledger.{Cached, Entry, Key, key_cmp, names_frame, names_slot, same_slot}
 use Rattle.av_plain.specs.Transcript.{Exchange, State, rmap_of}
 use Rattle.av_laws.specs.Areas.{child, family, one_root, root}
-use Rattle.av_laws.specs.Examples.{machine}
-use Rattle.av_laws.specs.Homes.{FourHomes, IsReachable, LeavesHomes, bare_child, child_alone, child_copy, child_exit, with_chain, child_new, child_read, child_write, homes_in, new_page, of_child, of_parent, with_child, with_home, with_number_to_come, bare_process}
+use Rattle.av_laws.specs.Examples.{machine, slot}
+use Rattle.av_laws.specs.Pairs.{cached_at}
+use Rattle.av_laws.proofs.SoundExample.{each-entry}
+use Rattle.av_laws.proofs.ViewExamples.{child-kin, root-kin}
+use Rattle.av_laws.specs.Homes.{CoversSlots, FourHomes, IsReachable, LeavesHomes, bare_child, child_alone, child_copy, child_exit, with_chain, child_new, child_read, child_write, homes_in, new_page, of_child, of_parent, with_child, with_home, with_number_to_come, bare_process, both_at_slot, both_cached, first_homes, with_another_root, with_other_index, with_two_roots}
 use Rattle.av_base.specs.Words.{is_in, with_at}
 use Rattle.av_plain.specs.Step.{closing_swap_area, IsLegal}
 use Rattle.std.specs.FinMap.Entries.{find}
 use Rattle.std.specs.List.{AllByRecursion}
-use Rattle.av_plain.specs.Covered.{IsReached}
+use Rattle.av_plain.specs.Covered.{IsKin, IsOfSlot, IsReached, IsRooted}
 use Rattle.av_plain.proofs.Transcript.{is_forked}
 use Rattle.av_plain.proofs.Ledger.{same_key, same_key-is}
 use Rattle.av_plain.proofs.Report.Areas.{asks_areas, shows-none}
@@ -266,3 +270,74 @@ out_of_own_chain-not h = false≢true (h.own 2 0x12 1 refl)
 
 pub number_to_come-not : IsReachable with_number_to_come → ⊥
 number_to_come-not h = let e = h.made 1 refl in omega (arith, e)
+
+-- ---- entries of slots
+
+-- the key of an entry at slot 1 is that of parent or child
+of_slot : (P : Key → Type 0) → P (1, 0x12) → P (2, 0x12) → (s : Slot) (k : Key) → IsOfSlot both_at_slot s k → P k
+of_slot P first second s k names = each-entry P both_at_slot.entries (first, (second, tt)) k (there (find key_cmp k both_at_slot.entries) names)
+  where
+    there : (o : Option Entry) → IsSomeAnd o (λ e. names_slot s e ≡ true) → is_some o ≡ true
+    there None h = absurd h
+    there (Some e) h = refl
+
+family-kin : (p page v : ℕ) → IsSomeAnd (with_child.areas p page) (λ area. area.anon ≡ Some v) → IsSomeAnd (family.anon v) (IsKin family)
+family-kin p page v = by (with_child.areas p page) (own_on page (p == 1) (p == 2))
+  where
+    by : (o : Option Area) → IfSome o (λ area. (area.anon ≡ Some 0) ⊎ (area.anon ≡ Some 1)) → IsSomeAnd o (λ area. area.anon ≡ Some v)
+        → IsSomeAnd (family.anon v) (IsKin family)
+    by None h g = absurd g
+    by (Some area) (inl h) g = subst (λ v. IsSomeAnd (family.anon v) (IsKin family)) (same_Some 0 v (sym h ∙ g)) root-kin
+    by (Some area) (inr h) g = subst (λ v. IsSomeAnd (family.anon v) (IsKin family)) (same_Some 1 v (sym h ∙ g)) child-kin
+
+both-rooted : (homes : Homes) (s : Slot) (k : Key) → IsOfSlot both_at_slot s k → IsRooted (record (rmap_of with_child) { homes = homes }) k (0, 0x22)
+both-rooted homes = of_slot (λ k. IsRooted (record (rmap_of with_child) { homes = homes }) k (0, 0x22)) (refl, refl) (refl, refl)
+
+pub slot_together-covered : CoversSlots both_cached with_child
+slot_together-covered = record {
+  kin = family-kin;
+  rooted = λ s k q is is'. ((0, 0x22), both-rooted first_homes s k is, both-rooted first_homes s q is');
+  cached = λ s k f at is. at_home k f (same_slot s (slot 1)) at (of_slot (λ k. IsReached (rmap_of with_child) k (0, 0x22)) (refl, refl) (refl, refl) s k is);
+}
+  where
+    at_home : (k : Key) (f : ℕ) (b : Bool) → option_map (λ (c : Cached). c.frame) (cond b (Some (cached_at 1 0 false)) None) ≡ Some f
+        → IsReached (rmap_of with_child) k (0, 0x22) → IsSomeAnd (first_homes f) (IsReached (rmap_of with_child) k)
+    at_home k f true at h = subst (λ f. IsSomeAnd (first_homes f) (IsReached (rmap_of with_child) k)) (same_Some 0 f at) h
+    at_home k f false at h = cc
+
+pub slot_uncached-covered : CoversSlots both_at_slot (with_home None)
+slot_uncached-covered = record {
+  kin = family-kin;
+  rooted = λ s k q is is'. ((0, 0x22), both-rooted (with_home None).homes s k is, both-rooted (with_home None).homes s q is');
+  cached = λ s k f at is. cc;
+}
+
+pub slot_unhomed-not : CoversSlots both_cached (with_home None) → ⊥
+slot_unhomed-not h = h.cached (slot 1) (1, 0x12) 0 refl refl
+
+pub slot_at_child-not : CoversSlots both_cached (with_home (Some (1, 0x22))) → ⊥
+slot_at_child-not h = false≢true (h.cached (slot 1) (1, 0x12) 0 refl refl).0
+
+-- a home at which both pages of slot 1 are rooted
+abbrev BothRooted : State → Type 0
+BothRooted s = (home : ℕ × ℕ) × IsRooted (rmap_of s) (1, 0x12) home × IsRooted (rmap_of s) (2, 0x12) home
+
+pub other_roots-not : CoversSlots both_at_slot with_two_roots → ⊥
+other_roots-not h =
+    let both : BothRooted with_two_roots = h.rooted (slot 1) (1, 0x12) (2, 0x12) refl refl in
+    let first : ◌≡◌ {A = ℕ} 0 both.0.0 = both.1.0 in
+    let second : ◌≡◌ {A = ℕ} 1 both.0.0 = both.2.0 in
+    omega (arith, first, second)
+
+pub other_indices-not : CoversSlots both_at_slot with_other_index → ⊥
+other_indices-not h =
+    let both : BothRooted with_other_index = h.rooted (slot 1) (1, 0x12) (2, 0x12) refl refl in
+    let first : ◌≡◌ {A = ℕ} 0x22 both.0.1 = both.1.1 in
+    let second : ◌≡◌ {A = ℕ} 0x32 both.0.1 = both.2.1 in
+    omega (arith, first, second)
+
+pub root_left_out-not : CoversSlots both_at_slot (with_chain (1 ∷ [])) → ⊥
+root_left_out-not h = false≢true (h.kin 2 0x12 1 refl).root
+
+pub member_of_another-not : CoversSlots both_at_slot with_another_root → ⊥
+member_of_another-not h = let e : ◌≡◌ {A = ℕ} 2 0 = (h.kin 2 0x12 1 refl).members 2 refl in omega (arith, e)

@@ -10,8 +10,8 @@ use Rattle.av_base.specs.Words.{how_many}
 use Rattle.av_clusters.specs.Clusters.{is_free as is_free_page, Slots, fresh, is_taken, page_at}
 use Rattle.av_plain.specs.Choice.{ListsAll, no_slots}
 use Rattle.av_plain.specs.Ledger.{Cached, free_slots, is_free_slot, is_on}
-use Rattle.av_laws.specs.Examples.{cached_out, machine, slot, when_given, with_slots, with_swap}
-use Rattle.av_laws.specs.Views.{fork_state}
+use Rattle.av_laws.specs.Examples.{machine, slot, when_given, with_slots, with_swap}
+use Rattle.av_laws.specs.Views.{cached_state, fork_state}
 
 -- ---- the frames
 
@@ -54,7 +54,7 @@ abbrev of_area : Bool → Slots
 of_area b = cond b (when_given 1 (fresh 8 [])) (no_slots 0)
 
 pub cached-listed : (flying stale : Bool)
-    → ListsAll (with_swap 4 8 7) (cached_out flying stale).ledger (cached_out flying stale).free
+    → ListsAll (with_swap 4 8 7) (cached_state flying stale).ledger (cached_state flying stale).free
 cached-listed flying stale = record {
   frames = λ f. three-listed f ∙ by f (f == 0);
   slots = record {
@@ -75,16 +75,16 @@ cached-listed flying stale = record {
 
     taken : (b : Bool) (page : ℕ)
         → is_taken (page_at (of_area b).pages page) ≡ nat_lt 0
-        ((cond (b && page == 1) 1 0 + 0) + (if (b && page == 1) || false then 1 else 0))
+        ((cond (b && page == 1) 1 0 + (cond (b && page == 1) 1 0 + 0)) + (if (b && page == 1) || false then 1 else 0))
     taken true page = one-taken page ∙ only (page == 1)
       where
-        only : (c : Bool) → c ≡ nat_lt 0 ((cond c 1 0 + 0) + (if c || false then 1 else 0))
+        only : (c : Bool) → c ≡ nat_lt 0 ((cond c 1 0 + (cond c 1 0 + 0)) + (if c || false then 1 else 0))
         only true = refl
         only false = refl
     taken false page = refl
 
     of_first : (page : ℕ) → is_free_page (page_at (of_area true).pages page) ≡ true
-        → is_free_slot (with_swap 4 8 7) (cached_out flying stale).ledger (slot page) ≡ true
+        → is_free_slot (with_swap 4 8 7) (cached_state flying stale).ledger (slot page) ≡ true
     of_first zero h = cc
     of_first (suc zero) h = cc
     of_first (suc (suc zero)) h = refl
@@ -97,36 +97,36 @@ cached-listed flying stale = record {
 
     free : (area : ℕ) (b : Bool) → (area == 0) ≡ b → (page : ℕ)
         → is_free_page (page_at (of_area b).pages page) ≡ true
-        → is_free_slot (with_swap 4 8 7) (cached_out flying stale).ledger
+        → is_free_slot (with_swap 4 8 7) (cached_state flying stale).ledger
         (record { area = area; page = page }) ≡ true
     free area true is page h =
         let e : area ≡ 0 = grind (arith, nat_tests, is) in
-        subst (λ k. is_free_slot (with_swap 4 8 7) (cached_out flying stale).ledger
+        subst (λ k. is_free_slot (with_swap 4 8 7) (cached_state flying stale).ledger
         (record { area = k; page = page }) ≡ true) (sym e) (of_first page h)
     free area false is page h = cc
 
     number : (k : ℕ) (b : Bool) → (k == 0) ≡ b
         → count_by is_free_page (of_area b).pages ≡ option_map_or
-        (λ area. free_slots (with_swap 4 8 7) (cached_out flying stale).ledger (k, area))
-        (find nat_cmp k (cached_out flying stale).ledger.on) 0
+        (λ area. free_slots (with_swap 4 8 7) (cached_state flying stale).ledger (k, area))
+        (find nat_cmp k (cached_state flying stale).ledger.on) 0
     number k b is = by b is
         ∙ ap (λ c. option_map_or
-        (λ area. free_slots (with_swap 4 8 7) (cached_out flying stale).ledger (k, area))
+        (λ area. free_slots (with_swap 4 8 7) (cached_state flying stale).ledger (k, area))
         (cond c (Some (record { slots = 7; bad = 0 })) None) 0) (sym is ∙ grind (arith, nat_tests))
       where
         by : (b : Bool) → (k == 0) ≡ b
             → count_by is_free_page (of_area b).pages ≡ option_map_or
-            (λ area. free_slots (with_swap 4 8 7) (cached_out flying stale).ledger (k, area))
+            (λ area. free_slots (with_swap 4 8 7) (cached_state flying stale).ledger (k, area))
             (cond b (Some (record { slots = 7; bad = 0 })) None) 0
         by true is =
             let e : k ≡ 0 = grind (arith, nat_tests, is) in
-            subst (λ k. 6 ≡ free_slots (with_swap 4 8 7) (cached_out flying stale).ledger
+            subst (λ k. 6 ≡ free_slots (with_swap 4 8 7) (cached_state flying stale).ledger
             (k, record { slots = 7; bad = 0 })) (sym e) refl
         by false is = refl
 
-    off : (k : ℕ) (b : Bool) → (k == 0) ≡ b → is_on (cached_out flying stale).ledger k ≡ false
+    off : (k : ℕ) (b : Bool) → (k == 0) ≡ b → is_on (cached_state flying stale).ledger k ≡ false
         → of_area b ≡ no_slots k
     off k true e is =
         let first : k ≡ 0 = grind (arith, nat_tests, e) in
-        absurd (true≢false (subst (λ k. is_on (cached_out flying stale).ledger k ≡ false) first is))
+        absurd (true≢false (subst (λ k. is_on (cached_state flying stale).ledger k ≡ false) first is))
     off k false e is = refl

@@ -1,6 +1,6 @@
 -- A read or a write of pages that want no frame is never out of memory.
 use Rattle.std.specs.List.{AllByRecursion, range_with_len}
-use Rattle.std.specs.FinMap.Entries.{is_sorted}
+use Rattle.std.specs.FinMap.Entries.{find, is_sorted}
 use Rattle.std.specs.Prelude.{IsTrue, MatchOption, T, length, nat_lt}
 use Rattle.std.proofs.Common.{◌≡◌, ◌⊎◌, inl, inr, ℕ, zero, suc, ◌+◌, ◌<◌, ◌≤◌, Bool, true, false, cond, not, ◌&&◌, ◌||◌, List, [], ◌∷◌, ◌++◌, map, option_map, Option, Some, None, refl, sym, ap, subst, ◌∙◌, arith, ◌==◌}
 use Rattle.std.proofs.lemmas.Bool.Decides.{nat_tests}
@@ -23,15 +23,16 @@ use Rattle.av_plain.specs.Refusal.{Refuses, refusal, tests}
 use Rattle.av_plain.specs.Sound.{slots}
 use Rattle.av_plain.specs.Step.{Follows, IsLegal}
 use Rattle.av_plain.proofs.Access.{after_all-append, after_notes-append, note_events-all}
-use Rattle.av_plain.specs.Device.{HasNoDevice}
-use Rattle.av_plain.specs.Sound.{AllSound}
-use Rattle.av_plain.proofs.Ledger.{entry-set, how_many-found, is_sorted-set, map_count-set, same_key, same_key-itself}
+use Rattle.av_plain.specs.Sound.{AllSound, IsSound, pairs}
+use Rattle.av_plain.proofs.Ledger.{entry-set, how_many-found, map_count-set, same_key, same_key-itself}
 use Rattle.av_plain.proofs.Ledger.Order.{weight}
 use Rattle.av_plain.proofs.Ledger.NoSwap.{key_at-address, key_is}
-use Rattle.av_plain.proofs.NoDevice.{HasNoSlots, in-areas, never, no-slots, without-device}
-use Rattle.av_plain.proofs.Sound.Counts.{frame_at-none, slot-is, slot-itself}
-use Rattle.av_plain.proofs.Sound.Steps.{settle-entries, slots-dropped}
-use Rattle.av_laws.specs.NeedsFrame.{NoneWantsFrame}
+use Rattle.av_plain.proofs.NoDevice.{never}
+use Rattle.av_plain.proofs.Sound.Counts.{frame_at-none, holders-off_cache, slot-is, slot-itself, slot_of-none, slot_of-some, two_slots}
+use Rattle.av_plain.proofs.Sound.Access.{page_events-kept, touches-kept}
+use Rattle.av_plain.proofs.Sound.Entries.{slot_entries-set}
+use Rattle.av_plain.proofs.Sound.Steps.{alike-with_stale, pairs-dropped, settle-entries, slots-dropped}
+use Rattle.av_laws.specs.NeedsFrame.{AreInPlace, IsInPlace, NoneWantsFrame}
 
 -- a page whose entry names a slot is cached
 abbrev Held : Ledger → Key → Type 0
@@ -290,92 +291,164 @@ read-served m w l p a n reply events k out shown none legal is = by (refusal (te
 
 -- ---- a write
 
--- the page's entry is a frame that it has for itself
-abbrev IsOwn : Ledger → Key → Type 0
-IsOwn l k = (f : ℕ) × (seen : Bool) × (entry l k ≡ Some (InFrame f seen)) × (is_shared l f ≡ false)
+-- the page's entry is a frame that it has for itself: no other entry names it, and none names a slot at which it is cached
+record IsOwn (l : Ledger) (k : Key) : Type 0 where
+  frame : ℕ
+  seen : Bool
+  is : entry l k ≡ Some (InFrame frame seen)
+  alone : map_count l frame ≤ 1
+  unnamed : (t : Slot) → 0 < pairs l t frame → slot_entries l t ≡ 0
+
+own-of : (m : Setting) (l : Ledger) (k : Key) → IsSound m l → IsInPlace l (entry l k) → IsOwn l k
+own-of m l k s h = by (entry l k) refl h
+  where
+    alone : (f : ℕ) (b : Bool) → (nat_lt 1 (map_count l f) || b) ≡ false → map_count l f ≤ 1
+    alone f b h = grind (arith, nat_tests, h)
+
+    second : (a b : Bool) → (a || b) ≡ false → b ≡ false
+    second true b h = cc
+    second false b h = h
+
+    unnamed : (f : ℕ) (o : Option Slot) → slot_of l f ≡ o → is_named l o ≡ false → (t : Slot) → 0 < pairs l t f → slot_entries l t ≡ 0
+    unnamed f None at h t pair = let none = slot_of-none f l.cache at in let few = holders-off_cache t f l.cache in absurd (omega (arith, none, few, pair))
+    unnamed f (Some s') at h t pair = of_slot (same_slot t s') refl
+      where
+        of_slot : (b : Bool) → same_slot t s' ≡ b → slot_entries l t ≡ 0
+        of_slot true is = ap (slot_entries l) (slot-is t s' is) ∙ grind (arith, nat_tests, h)
+        of_slot false is =
+            let first = slot_of-some f s' l.cache at in
+            let both = two_slots t s' f l.cache is in
+            let once = s.frames_once f in
+            absurd (omega (arith, first, both, once, pair))
+
+    by : (o : Option Entry) → entry l k ≡ o → IsInPlace l o → IsOwn l k
+    by None is h = absurd h
+    by (Some Zero) is h = absurd h
+    by (Some (InSlot t)) is h = absurd h
+    by (Some (InFrame f seen)) is h = record {
+      frame = f;
+      seen = seen;
+      is = is;
+      alone = alone f (is_named l (slot_of l f)) h;
+      unnamed = unnamed f (slot_of l f) refl (second (nat_lt 1 (map_count l f)) (is_named l (slot_of l f)) h);
+    }
+
+own-unshared : (l : Ledger) (k : Key) (own : IsOwn l k) → is_shared l own.frame ≡ false
+own-unshared l k own = neither (nat_lt 1 (map_count l own.frame)) (is_named l (slot_of l own.frame)) (grind (arith, nat_tests, own.alone))
+    (named (slot_of l own.frame) refl)
+  where
+    neither : (a b : Bool) → a ≡ false → b ≡ false → (a || b) ≡ false
+    neither true b h i = cc
+    neither false b h i = i
+
+    named : (o : Option Slot) → slot_of l own.frame ≡ o → is_named l o ≡ false
+    named None at = refl
+    named (Some t) at = let none = own.unnamed t (slot_of-some own.frame t l.cache at) in grind (arith, nat_tests, none)
 
 own-need : (l : Ledger) (k : Key) → IsOwn l k → need true l (entry l k) ≡ Ready
-own-need l k h = ap (need true l) h.2 ∙ ap (λ b. cond b (CopyOnWrite h.0) Ready) h.3
+own-need l k own = ap (need true l) own.is ∙ ap (λ b. cond b (CopyOnWrite own.frame) Ready) (own-unshared l k own)
 
--- without slots, a page whose write wants no frame has one for itself
-own-of : (l : Ledger) (k : Key) → HasNoSlots l → wants_frame (need true l (entry l k)) ≡ false
-    → IsOwn l k
-own-of l k none h = by (entry l k) refl h
-  where
-    frame : (f : ℕ) (seen b : Bool) → entry l k ≡ Some (InFrame f seen) → is_shared l f ≡ b
-        → wants_frame (cond b (CopyOnWrite f) Ready) ≡ false → IsOwn l k
-    frame f seen true is shared h = cc
-    frame f seen false is shared h = (f, seen, is, shared)
+-- ---- what a write leaves to the pages behind
 
-    by : (o : Option Entry) → entry l k ≡ o → wants_frame (need true l o) ≡ false → IsOwn l k
-    by None is h = cc
-    by (Some Zero) is h = cc
-    by (Some (InFrame f seen)) is h = frame f seen (is_shared l f) is refl h
-    by (Some (InSlot s)) is h =
-        let named = how_many-found (names_slot s) k l.entries (InSlot s) is (slot-itself s) in
-        let z = none.entries s in
-        absurd (omega (arith, named, z))
+-- the entries are the same, and nothing more is cached
+record IsLess (l l' : Ledger) : Type 0 where
+  entries : l'.entries ≡ l.entries
+  pairs_less : (t : Slot) (f : ℕ) → pairs l' t f ≤ pairs l t f
 
--- the page of a write stays as it is
-own-notes : (m : Setting) (sp : Sparing) (l : Ledger) (k : Key) (notes : List Note) → l.cache ≡ []
-    → IsOwn l k → Serves m sp l true k notes → notes ≡ []
-own-notes m sp l k notes empty own s =
-    s.whole ∙ (λ i. (coming i ++ making i) ++ drop_at m true (was_slot (need true l (entry l k)))
-    (after_notes l (coming i ++ making i)) k)
-    ∙ ap (λ o. drop_of_entry m true (was_slot (need true l (entry l k))) l o) own.2
-    ∙ ap (λ cs. drop_of_slot m true (was_slot (need true l (entry l k))) l
-    (option_map (λ (c : Cached). c.slot) (cached_by (λ c. own.0 == c.frame) cs))) empty
-  where
-    coming : s.coming ≡ []
-    coming = subst (λ n. ComesIn m sp l k n s.coming) (own-need l k own) s.comes_in
-
-    making : s.making ≡ []
-    making = subst (λ n. IsMade m sp l k n s.making) (own-need l k own)
-        (subst (λ c. IsMade m sp (after_notes l c) k
-        (need true (after_notes l c) (entry (after_notes l c) k)) s.making) coming s.made)
-
--- what stays for the pages behind
-record IsQuiet (l : Ledger) : Type 0 where
-  in_order : T (is_sorted key_cmp l.entries)
-  empty : l.cache ≡ []
-
-own-after : (l : Ledger) (k : Key) → IsQuiet l → (own : IsOwn l k)
-    → after_use true k l ≡ set_entry k (InFrame own.0 true) l
-own-after l k quiet own = ap (after_use_of true k l) own.2
-    ∙ ap (λ cs. if_some (option_map (λ (c : Cached). c.slot) (cached_by (λ c. own.0 == c.frame) cs))
-    (with_stale true) (set_entry k (InFrame own.0 true) l)) quiet.empty
-
-quiet-set : (l : Ledger) (k : Key) (e : Entry) → IsQuiet l → IsQuiet (set_entry k e l)
-quiet-set l k e quiet = record {
-  in_order = is_sorted-set k e l quiet.in_order;
-  empty = quiet.empty;
+own-less : (l l' : Ledger) (k : Key) → IsLess l l' → IsOwn l k → IsOwn l' k
+own-less l l' k less own = record {
+  frame = own.frame;
+  seen = own.seen;
+  is = ap (find key_cmp k) less.entries ∙ own.is;
+  alone = subst (λ es. how_many (λ (e : Key × Entry). names_frame own.frame e.1) es ≤ 1) (sym less.entries) own.alone;
+  unnamed = λ t pair. let few = less.pairs_less t own.frame in ap (how_many (λ (e : Key × Entry). names_slot t e.1)) less.entries
+      ∙ own.unnamed t (omega (arith, few, pair));
 }
 
-own-set : (l : Ledger) (k q : Key) → IsQuiet l → (own : IsOwn l k) → same_key q k ≡ false
-    → IsOwn l q → IsOwn (set_entry k (InFrame own.0 true) l) q
-own-set l k q quiet own other its = (
-  its.0,
-  its.1,
-  entry-set k (InFrame own.0 true) l q
-      ∙ ap (λ b. cond b (Some (InFrame own.0 true)) (entry l q)) other ∙ its.2,
-  ap (λ n. nat_lt 1 n || is_named (set_entry k (InFrame own.0 true) l) (slot_of l its.0)) counts
-      ∙ unshared (nat_lt 1 (map_count l its.0)) (is_named l (slot_of l its.0)) its.3,
-)
+same-less : (l : Ledger) → IsLess l l
+same-less l = record { entries = refl; pairs_less = λ t f. omega arith }
+
+drop-less : (m : Setting) (came : Bool) (l : Ledger) (k : Key) → IsLess l (after_notes l (drop_at m true came l k))
+drop-less m came l k = by (entry l k)
   where
-    counts : map_count (set_entry k (InFrame own.0 true) l) its.0 ≡ map_count l its.0
-    counts =
-        let a = map_count-set k (InFrame own.0 true) l its.0 quiet.in_order in
-        let b = ap (weight (names_frame its.0)) own.2 in
-        omega (arith, a, b)
+    less : (t r : Slot) (f : ℕ) (b : Bool) → pairs (after_note (Dropped t) l) r f ≡ cond b 0 (pairs l r f) → pairs (after_note (Dropped t) l) r f ≤ pairs l r f
+    less t r f true e = omega (arith, e)
+    less t r f false e = omega (arith, e)
 
-    none : is_named (set_entry k (InFrame own.0 true) l) (slot_of l its.0) ≡ false
-    none = ap (λ cs. is_named (set_entry k (InFrame own.0 true) l)
-        (option_map (λ (c : Cached). c.slot) (cached_by (λ c. its.0 == c.frame) cs))) quiet.empty
+    dropped : (t : Slot) (b : Bool) → IsLess l (after_notes l (when b (Dropped t)))
+    dropped t true = record {
+      entries = settle-entries (frame_at l t) (off_cache t l);
+      pairs_less = λ r f. less t r f (same_slot r t) (pairs-dropped l t r f);
+    }
+    dropped t false = same-less l
 
-    unshared : (a b : Bool) → (a || b) ≡ false
-        → (a || is_named (set_entry k (InFrame own.0 true) l) (slot_of l its.0)) ≡ false
-    unshared true b h = cc
-    unshared false b h = none
+    slot : (o : Option Slot) → IsLess l (after_notes l (drop_of_slot m true came l o))
+    slot None = same-less l
+    slot (Some t) = dropped t (is_unneeded m true came l t)
+
+    by : (o : Option Entry) → IsLess l (after_notes l (drop_of_entry m true came l o))
+    by None = same-less l
+    by (Some Zero) = same-less l
+    by (Some (InSlot t)) = same-less l
+    by (Some (InFrame f seen)) = slot (slot_of l f)
+
+own-set : (l : Ledger) (k q : Key) → T (is_sorted key_cmp l.entries) → (own : IsOwn l k) → same_key q k ≡ false → IsOwn l q
+    → IsOwn (set_entry k (InFrame own.frame true) l) q
+own-set l k q in_order own other its = record {
+  frame = its.frame;
+  seen = its.seen;
+  is = entry-set k (InFrame own.frame true) l q ∙ ap (λ b. cond b (Some (InFrame own.frame true)) (entry l q)) other ∙ its.is;
+  alone =
+      let a = map_count-set k (InFrame own.frame true) l its.frame in_order in
+      let b = ap (weight (names_frame its.frame)) own.is in
+      let c = its.alone in
+      omega (arith, a, b, c);
+  unnamed = λ t pair.
+      let a = slot_entries-set k (InFrame own.frame true) l t in_order in
+      let b = ap (weight (names_slot t)) own.is in
+      let c = its.unnamed t pair in
+      omega (arith, a, b, c);
+}
+
+own-used : (l : Ledger) (k q : Key) → T (is_sorted key_cmp l.entries) → IsOwn l k → same_key q k ≡ false → IsOwn l q → IsOwn (after_use true k l) q
+own-used l k q in_order own other its = subst (λ o. IsOwn (after_use_of true k l o) q) (sym own.is) (stale (slot_of l own.frame))
+  where
+    now : Ledger
+    now = set_entry k (InFrame own.frame true) l
+
+    stale : (o : Option Slot) → IsOwn (if_some o (with_stale true) now) q
+    stale None = own-set l k q in_order own other its
+    stale (Some t) =
+        let alike = alike-with_stale now true t in
+        own-less now (with_stale true t now) q
+        (record { entries = alike.entries; pairs_less = λ r f. let e = alike.pairs_same r f in omega (arith, e) })
+        (own-set l k q in_order own other its)
+
+serves-own : (m : Setting) (sp : Sparing) (l : Ledger) (k q : Key) (notes : List Note) → T (is_sorted key_cmp l.entries) → same_key q k ≡ false
+    → IsOwn l k → IsOwn l q → Serves m sp l true k notes → IsOwn (after_all l (page_events true k notes None)) q
+serves-own m sp l k q notes in_order other here own s =
+    let l2 = after_notes l drops in
+    let less = drop-less m came l k in
+    let used = own-used l2 k q (subst (λ es. T (is_sorted key_cmp es)) (sym less.entries) in_order) (own-less l l2 k less here) other
+    (own-less l l2 q less own) in
+    subst (λ x. IsOwn x q)
+    (sym (after_all-append l (note_events notes) (Used true k ∷ []) ∙ ap (after_use true k) (note_events-all l notes ∙ ap (after_notes l) whole))) used
+  where
+    came : Bool
+    came = was_slot (need true l (entry l k))
+
+    drops : List Note
+    drops = drop_at m true came l k
+
+    coming : s.coming ≡ []
+    coming = subst (λ n. ComesIn m sp l k n s.coming) (own-need l k here) s.comes_in
+
+    making : s.making ≡ []
+    making = subst (λ n. IsMade m sp l k n s.making) (own-need l k here)
+        (subst (λ c. IsMade m sp (after_notes l c) k (need true (after_notes l c) (entry (after_notes l c) k)) s.making) coming s.made)
+
+    whole : notes ≡ drops
+    whole = s.whole ∙ (λ i. (coming i ++ making i) ++ drop_at m true came (after_notes l (coming i ++ making i)) k)
 
 -- a page that is in place is never without a frame
 own-never-out : (m : Setting) (sp : Sparing) (l : Ledger) (k : Key) (notes : List Note)
@@ -396,30 +469,18 @@ own-never-out m sp l k notes out own r = nothing (by r.before)
         ∙ ap wants_frame (own-need l k own)) r.finds.wants
 
 writes-served : (m : Setting) (w : World) (p n from : ℕ) (l : Ledger) (events : List Event)
-    (end : End) → IsQuiet l → ((q : ℕ) → from ≤ q → q < from + n → IsOwn l (p, q))
+    (end : End) → IsSound m l → ((q : ℕ) → from ≤ q → q < from + n → IsOwn l (p, q))
     → Accesses m w l p (map (λ page. (true, page)) (range_with_len from n)) events end → EndsServed end
-writes-served m w p zero from l events end quiet own h = subst EndsServed (sym h.1) tt
-writes-served m w p (suc n) from l events end quiet own (inl h) =
-    writes-served m w p n (from + 1) now h.1 end
-    (subst IsQuiet (sym after) (quiet-set l (p, from) (InFrame first.0 true) quiet))
-    (λ q low high. subst (λ x. IsOwn x (p, q)) (sym after)
-    (own-set l (p, from) (p, q) quiet first (other q low)
-    (own q (omega (arith, low)) (omega (arith, high))))) h.4
+writes-served m w p zero from l events end s own h = subst EndsServed (sym h.1) tt
+writes-served m w p (suc n) from l events end s own (inl h) =
+    writes-served m w p n (from + 1) (after_all l (page_events true (p, from) h.0 None)) h.1 end
+    (page_events-kept m l true (p, from) h.0 None (touches-kept m w l true (p, from) h.0 None s h.2))
+    (λ q low high. serves-own m (sparing w) l (p, from) (p, q) h.0 s.in_order (other q low) (own from (omega arith) (omega arith))
+    (own q (omega (arith, low)) (omega (arith, high))) h.2.1) h.4
   where
-    first : IsOwn l (p, from)
-    first = own from (omega arith) (omega arith)
-
-    now : Ledger
-    now = after_all l (page_events true (p, from) h.0 None)
-
-    after : now ≡ set_entry (p, from) (InFrame first.0 true) l
-    after = ap (λ ns. after_all l (page_events true (p, from) ns None))
-        (own-notes m (sparing w) l (p, from) h.0 quiet.empty first h.2.1)
-        ∙ own-after l (p, from) quiet first
-
     other : (q : ℕ) → from + 1 ≤ q → same_key (p, q) (p, from) ≡ false
     other q low = key_is p q p from ∙ grind (arith, nat_tests, low)
-writes-served m w p (suc n) from l events end quiet own (inr h) = subst EndsServed (sym h.4)
+writes-served m w p (suc n) from l events end s own (inr h) = subst EndsServed (sym h.4)
     (by h.1 h.2)
   where
     by : (stop : Stop) → Touches m w l true (p, from) h.0 (Some stop) → IsServed stop
@@ -428,30 +489,26 @@ writes-served m w p (suc n) from l events end quiet own (inr h) = subst EndsServ
         (own from (omega arith) (omega arith)) t.1
     by Lost t = tt
 
-all-own : (l : Ledger) (p n from : ℕ) → HasNoSlots l
-    → AllByRecursion (λ (x : Bool × ℕ). wants_frame (need true l (entry l (p, x.1))) ≡ false)
-    (map (λ page. (true, page)) (range_with_len from n))
+all-own : (m : Setting) (l : Ledger) (p n from : ℕ) → IsSound m l
+    → AllByRecursion (λ (x : Bool × ℕ). IsInPlace l (entry l (p, x.1))) (map (λ page. (true, page)) (range_with_len from n))
     → (q : ℕ) → from ≤ q → q < from + n → IsOwn l (p, q)
-all-own l p zero from none all q low high = absurd (omega (arith, low, high))
-all-own l p (suc n) from none all q low high = by (from == q) refl
-    (all-own l p n (from + 1) none all.1 q)
+all-own m l p zero from s all q low high = absurd (omega (arith, low, high))
+all-own m l p (suc n) from s all q low high = by (from == q) refl
+    (all-own m l p n (from + 1) s all.1 q)
   where
     by : (b : Bool) → (from == q) ≡ b → (from + 1 ≤ q → q < (from + 1) + n → IsOwn l (p, q))
         → IsOwn l (p, q)
     by true is rest = let e : from ≡ q = grind (arith, nat_tests, is) in subst (λ x. IsOwn l (p, x))
-        e (own-of l (p, from) none all.0)
+        e (own-of m l (p, from) s all.0)
     by false is rest = rest (grind (arith, nat_tests, is, low)) (omega (arith, high))
 
 pub write-served : (m : Setting) (w : World) (l : Ledger) (p a : ℕ) (bytes : List ℕ) (reply : Reply)
-    (events : List Event) (k : ℕ) (out : OutOf) (shown : List ℕ) → HasNoDevice m → AllSound m w l
-    → NoneWantsFrame true l p a (length bytes) → IsLegal m w l (Write p a bytes) reply events
+    (events : List Event) (k : ℕ) (out : OutOf) (shown : List ℕ) → AllSound m w l
+    → AreInPlace l p a (length bytes) → IsLegal m w l (Write p a bytes) reply events
     → reply.answer ≡ Oom k out shown → ⊥
-write-served m w l p a bytes reply events k out shown device sound none legal is = by
+write-served m w l p a bytes reply events k out shown sound own legal is = by
     (refusal (tests m w l (Write p a bytes))) legal.answer
   where
-    slots : HasNoSlots l
-    slots = no-slots m l (without-device m l device) (in-areas m w l sound)
-
     n : ℕ
     n = cond (length bytes == 0) 0 (pages_of (place_in_page a + length bytes))
 
@@ -465,7 +522,6 @@ write-served m w l p a bytes reply events k out shown device sound none legal is
         → MatchOption o (Follows m w l (Write p a bytes) events reply.answer reply.rows)
         (λ error. Refuses error events reply.answer reply.rows) → ⊥
     by None h = answered h.0
-        (writes-served m w p n (page_of a) l events h.0
-        (record { in_order = sound.ledger.in_order; empty = slots.cache })
-        (all-own l p n (page_of a) slots none) h.1) (sym h.2 ∙ is)
+        (writes-served m w p n (page_of a) l events h.0 sound.ledger
+        (all-own m l p n (page_of a) sound.ledger own) h.1) (sym h.2 ∙ is)
     by (Some error) h = let e = sym h.0 ∙ is in cc

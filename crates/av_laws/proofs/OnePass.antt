@@ -10,7 +10,7 @@ use Rattle.av_swapdev.specs.Header.{Layout}
 use Rattle.av_trace.specs.declared.note.Note.{Note}
 use Rattle.av_trace.specs.declared.note.Note.TheVariants.{Zeroed, New, Copied, Loaded, Mapped, Put, Unmapped, Started, Written, Failed, Dropped, Kept, Aged}
 use Rattle.av_plain.specs.Ledger.{HasNumbers, Ledger, Setting, SwapArea, map_count, slot_of, has_free, size_of}
-use Rattle.av_plain.specs.Event.{Event, Forked, Moved, Noted, TurnedOff, TurnedOn, Used, Zapped, after, after_all, after_notes, when, note_events}
+use Rattle.av_plain.specs.Event.{Event, Forked, Moved, Noted, TurnedOff, TurnedOn, Used, Zapped, after, after_notes, when, note_events}
 use Rattle.av_plain.specs.Pass.{Spared, end_note, end_notes, Completes, is_fail, fails, IsSlotFor, is_stuck, is_dirty, turn_notes, stays_cached, Turns as TakesTurns, frames_in_turn, IsPass, Seeks, TakesFor}
 use Rattle.av_plain.specs.Choice.{AreFresh, AreaSlots, Chooses, ChoosesAll, ChoosesFrame, ChoosesSlot, Free, IsGiven, SwitchesArea, frame_in, frame_in_note, new_free, slot_in, with_given_back}
 use Rattle.av_laws.specs.Determined.{Tells}

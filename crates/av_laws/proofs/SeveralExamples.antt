@@ -8,7 +8,8 @@ use Rattle.av_plain.proofs.Ledger.NoSwap.{key_is}
 use Rattle.av_laws.specs.Examples.{page_with, paged_out, slot, with_byte}
 use Rattle.av_laws.specs.Several.{HoldWith, seven_at}
 use Rattle.av_laws.specs.Views.{cached_view}
-use Rattle.av_laws.proofs.SwapViewExamples.{same-bytes, same_number}
+use Rattle.av_laws.proofs.SwapViewExamples.{same-bytes}
+use Rattle.av_laws.proofs.ViewExamples.{same_number}
 
 abbrev view : View
 view = cached_view false false

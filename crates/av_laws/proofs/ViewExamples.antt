@@ -5,22 +5,23 @@ use Rattle.std.proofs.Common.{subst, ◌∙◌}
 use Rattle.std.proofs.lemmas.Bool.Decides.{nat_tests}
 use Rattle.av_base.specs.Words.{is_in}
 use Rattle.av_plain.specs.Device.{no_device}
-use Rattle.av_plain.specs.Ledger.{Entry, Key, entry, is_free, names_frame}
+use Rattle.av_plain.specs.Ledger.{Entry, Key, entry, is_free, names_frame, names_slot}
 use Rattle.av_plain.specs.Report.{Range, prot_in, AreApart}
 use Rattle.av_plain.specs.Sound.{AllSound}
 use Rattle.av_vma.specs.Pages.{has_page, pages_in}
 use Rattle.av_vma.specs.declared.area.Area.{Area}
 use Rattle.av_clusters.specs.Clusters.{fresh}
-use Rattle.av_plain.specs.Areas.{chain_by, no_anons, no_homes, none_on}
+use Rattle.av_plain.specs.Areas.{chain_by, no_homes, none_on}
 use Rattle.av_plain.specs.Choice.{Free, ListsFree}
 use Rattle.av_plain.specs.Stands.{Holds, IsKept, Pte, Stands, entry_of, prot_of, ranges_in}
 use Rattle.av_plain.specs.World.{Page, Process, lives, pages, process}
 use Rattle.av_laws.specs.Examples.{machine, page_with, read_write, with_byte}
 use Rattle.av_laws.specs.Views.{NotKin, NotLinked, NotReached, homes_with, one_anon, fork_state, parent_and_child, parents_home}
-use Rattle.av_laws.specs.Areas.{anons_of, child, root}
-use Rattle.av_plain.specs.Covered.{IsReached, IsRmapSound}
+use Rattle.av_laws.specs.Areas.{anons_of, child, family, root}
+use Rattle.av_plain.specs.Covered.{AreSlotsCovered, IsKin, IsOfSlot, IsReached, IsRmapSound}
 use Rattle.av_plain.specs.Transcript.{rmap_of}
-use Rattle.std.specs.Prelude.{IsSomeAnd}
+use Rattle.std.specs.Prelude.{IsSome, IsSomeAnd}
+use Rattle.av_base.specs.declared.slot.Slot.{Slot}
 use Rattle.av_laws.proofs.ListsExamples.{fork-listed}
 use Rattle.av_plain.proofs.Ledger.{same_key, same_key-is}
 use Rattle.av_plain.proofs.Ledger.NoSwap.{key_is}
@@ -105,8 +106,8 @@ root_in (Some k) = k.0
 pub other_next-not : NotKin (record (one_anon 0 (0 ∷ [])) { next = 2 }) (one_anon 0 (0 ∷ []))
 other_next-not h = let e : ◌≡◌ {A = ℕ} 2 1 = h.anons.next in omega (arith, e)
 
-pub one_too_many-not : NotKin (one_anon 0 (0 ∷ [])) (record no_anons { next = 1 })
-one_too_many-not h = never (sym (ap is_some (h.anons.kin 0)))
+pub one_too_many-not : NotKin family (record (one_anon 0 (0 ∷ [])) { next = 2 })
+one_too_many-not h = never (sym (ap is_some (h.anons.kin 1)))
 
 pub other_root-not : NotKin (one_anon 1 (0 ∷ [])) (one_anon 0 (0 ∷ []))
 other_root-not h = let e : ◌≡◌ {A = ℕ} 1 0 = ap root_in (h.anons.kin 0) in omega (arith, e)
@@ -199,10 +200,10 @@ forked-sound = record {
     listed false = refl
 
 -- two processes are found as two numbers are
-same_number : (p n : ℕ) → eq_by_cmp nat_cmp p n ≡ (p == n)
+pub same_number : (p n : ℕ) → eq_by_cmp nat_cmp p n ≡ (p == n)
 same_number p n = grind (arith, nat_tests)
 
-found : (p : ℕ) → process fork_state.world p ≡ cond (p == 1) (Some (with_byte 7)) (cond (p == 2) (Some (with_byte 7)) None)
+pub found : (p : ℕ) → process fork_state.world p ≡ cond (p == 1) (Some (with_byte 7)) (cond (p == 2) (Some (with_byte 7)) None)
 found p i = cond (same_number p 1 i) (Some (with_byte 7)) (cond (same_number p 2 i) (Some (with_byte 7)) None)
 
 in_range : (page : ℕ) → (nat_le 0x7fffffffe page && nat_lt page 0x7ffffffff) ≡ (page == 0x7fffffffe)
@@ -211,7 +212,7 @@ in_range page = grind (arith, nat_tests)
 abbrev one_range : List Range
 one_range = record { from = 0x7fffffffe; to = 0x7ffffffff; prot = read_write } ∷ []
 
-alive : (p : ℕ) → is_some (right.areas p) ≡ lives fork_state.world p
+pub alive : (p : ℕ) → is_some (right.areas p) ≡ lives fork_state.world p
 alive p = by (p == 1) (p == 2) ∙ ap is_some (sym (found p))
   where
     by : (a b : Bool) → is_some (if a || b then Some (topmost p ∷ []) else None) ≡ is_some
@@ -220,14 +221,14 @@ alive p = by (p == 1) (p == 2) ∙ ap is_some (sym (found p))
     by false true = refl
     by false false = refl
 
-apart : (p : ℕ) → IfSome (ranges_in (right.areas p)) AreApart
+pub apart : (p : ℕ) → IfSome (ranges_in (right.areas p)) AreApart
 apart p = by (p == 1 || p == 2)
   where
     by : (b : Bool) → IfSome (ranges_in (if b then Some (topmost p ∷ []) else None)) AreApart
     by true = omega arith
     by false = tt
 
-covers : (p page : ℕ)
+pub covers : (p page : ℕ)
     → prot_of (ranges_in (right.areas p)) page ≡ option_map (λ (q : Page). q.prot)
     (pages fork_state.world p page)
 covers p page = by (p == 1) (p == 2) ∙ ap (λ o. option_map (λ (q : Page). q.prot) (option_and_then (λ (q : Process). q page) o)) (sym (found p))
@@ -246,7 +247,7 @@ covers p page = by (p == 1) (p == 2) ∙ ap (λ o. option_map (λ (q : Page). q.
     by false false = refl
 
 -- each process has its own area
-areas : (p page : ℕ) → pages_in (right.areas p) page ≡ fork_state.areas p page
+pub areas : (p page : ℕ) → pages_in (right.areas p) page ≡ fork_state.areas p page
 areas p page = by (p == 1) (p == 2) refl refl
   where
     its : (n : ℕ) → (p == n) ≡ true
@@ -288,37 +289,79 @@ kept p page = subst (λ o. IsKept right no_device fork_state.ledger o (pages for
     by false true false q is = nothing q is
     by false false c q is = tt
 
+-- what holds of both anon_vmas holds of each area's own one
+pub of_own : (P : ℕ → Type 0) → P 0 → P 1 → (p page v : ℕ) → IsSomeAnd (fork_state.areas p page) (λ a. a.anon ≡ Some v) → P v
+of_own P first second p page v = by (p == 1) (p == 2)
+  where
+    number : {n v : ℕ} → Some n ≡ Some v → n ≡ v
+    number e = cc
+
+    its : (area : Area) (n : ℕ) → area.anon ≡ Some n → P n → IsSomeAnd (pages_in (Some (area ∷ [])) page) (λ a. a.anon ≡ Some v) → P v
+    its area n is holds = on (has_page area page)
+      where
+        on : (b : Bool) → IsSomeAnd (cond b (Some area) None) (λ a. a.anon ≡ Some v) → P v
+        on true h = subst P (number (sym is ∙ h)) holds
+        on false h = absurd h
+
+    by : (a b : Bool) → IsSomeAnd ((cond a (pages_in (Some (topmost 1 ∷ []))) (cond b (pages_in (Some (topmost 2 ∷ []))) none_on)) page)
+        (λ x. x.anon ≡ Some v) → P v
+    by true b = its (topmost 1) 0 refl first
+    by false true = its (topmost 2) 1 refl second
+    by false false = absurd
+
+-- both are below the next one
+pub two-made : (v : ℕ) → IsSome (parent_and_child.anon v) → v < 2
+two-made v = made (v == 0) (v == 1) refl refl
+  where
+    made : (a b : Bool) → (v == 0) ≡ a → (v == 1) ≡ b → is_some (cond a (Some root) (cond b (Some child) None)) ≡ true → v < 2
+    made true b is is' h = let e : v ≡ 0 = grind (arith, nat_tests, is) in omega (arith, e)
+    made false true is is' h = let e : v ≡ 1 = grind (arith, nat_tests, is') in omega (arith, e)
+    made false false is is' h = absurd (never h)
+
+-- and of one root
+pub root-kin : IsKin parent_and_child root
+root-kin = record { root = refl; members = λ u. members (u == 0) (u == 1) }
+  where
+    members : (a b : Bool) → (a || false) ≡ true → IsSomeAnd (cond a (Some root) (cond b (Some child) None)) (λ other. other.root ≡ 0)
+    members true b h = refl
+    members false b h = cc
+
+pub child-kin : IsKin parent_and_child child
+child-kin = record { root = refl; members = λ u. members (u == 0) (u == 1) }
+  where
+    members : (a b : Bool) → (a || (b || false)) ≡ true → IsSomeAnd (cond a (Some root) (cond b (Some child) None)) (λ other. other.root ≡ 0)
+    members true b h = refl
+    members false true h = refl
+    members false false h = cc
+
+pub two-kin : (p page v : ℕ) → IsSomeAnd (fork_state.areas p page) (λ a. a.anon ≡ Some v)
+    → IsSomeAnd (parent_and_child.anon v) (IsKin parent_and_child)
+two-kin = of_own (λ v. IsSomeAnd (parent_and_child.anon v) (IsKin parent_and_child)) root-kin child-kin
+
+-- no entry names a slot
+fork-slots : AreSlotsCovered fork_state.ledger (rmap_of fork_state)
+fork-slots = record {
+  kin = two-kin;
+  rooted = λ s k q names names'. absurd (none s k names);
+  cached = λ s k f at names. absurd (none s k names);
+}
+  where
+    none : (s : Slot) (k : Key) → IsOfSlot fork_state.ledger s k → ⊥
+    none s k = by (same_key k (1, 0x7fffffffe)) (same_key k (2, 0x7fffffffe))
+      where
+        by : (a b : Bool) → IsSomeAnd (cond a (Some (InFrame 0 true)) (cond b (Some (InFrame 0 false)) None)) (λ e. names_slot s e ≡ true) → ⊥
+        by true b h = never h
+        by false true h = never h
+        by false false h = h
+
 -- each entry is reached from the home of frame 0
 fork-reach : IsRmapSound fork_state.ledger (rmap_of fork_state)
 fork-reach = record {
-  made = λ v there. made v (v == 0) (v == 1) refl refl there;
-  own = λ p page v is. owns p page v (p == 1) (p == 2) refl refl is;
+  made = two-made;
+  own = of_own (λ v. is_in v (chain_by parent_and_child (Some v)) ≡ true) refl refl;
   covered = λ k f names. covers_at k f (same_key k (1, 0x7fffffffe)) (same_key k (2, 0x7fffffffe)) refl refl names;
 }
   where
-    made : (v : ℕ) (a b : Bool) → (v == 0) ≡ a → (v == 1) ≡ b → is_some (cond a (Some root) (cond b (Some child) None)) ≡ true → v < 2
-    made v true b is is' h = let e : v ≡ 0 = grind (arith, nat_tests, is) in omega (arith, e)
-    made v false true is is' h = let e : v ≡ 1 = grind (arith, nat_tests, is') in omega (arith, e)
-    made v false false is is' h = absurd (never h)
-
-    -- the own anon_vma of the one area that is there
-    its : (area : Area) (page v : ℕ) → IsSomeAnd (pages_in (Some (area ∷ [])) page) (λ a. a.anon ≡ Some v) → area.anon ≡ Some v
-    its area page v = by (has_page area page)
-      where
-        by : (b : Bool) → IsSomeAnd (cond b (Some area) None) (λ a. a.anon ≡ Some v) → area.anon ≡ Some v
-        by true h = h
-        by false h = absurd h
-
-    number : {n v : ℕ} → Some n ≡ Some v → v ≡ n
-    number e = cc
-
-    owns : (p page v : ℕ) (a b : Bool) → (p == 1) ≡ a → (p == 2) ≡ b →
-        IsSomeAnd ((cond a (pages_in (Some (topmost 1 ∷ []))) (cond b (pages_in (Some (topmost 2 ∷ []))) none_on)) page) (λ x. x.anon ≡ Some v)
-        → is_in v (chain_by parent_and_child (Some v)) ≡ true
-    owns p page v true b is is' h = subst (λ v. is_in v (chain_by parent_and_child (Some v)) ≡ true) (sym (number (its (topmost 1) page v h))) refl
-    owns p page v false true is is' h = subst (λ v. is_in v (chain_by parent_and_child (Some v)) ≡ true) (sym (number (its (topmost 2) page v h))) refl
-    owns p page v false false is is' h = absurd h
-
     reached : (k : Key) (f : ℕ) → (f == 0) ≡ true → IsReached (rmap_of fork_state) k (0, 0x7fffffffe) →
         IsSomeAnd (parents_home f) (IsReached (rmap_of fork_state) k)
     reached k f is h = let e : 0 ≡ f = grind (arith, nat_tests, is) in subst (λ f. IsSomeAnd (parents_home f) (IsReached (rmap_of fork_state) k)) e h
@@ -357,6 +400,7 @@ right-stands = record {
   anons = anons-same right fork_state.areas;
   homes = λ f. refl;
   reach = fork-reach;
+  slots = fork-slots;
 }
   where
     free : (f : ℕ) → f < 4 → is_in f (1 ∷ 2 ∷ 3 ∷ []) ≡ is_free fork_state.ledger f

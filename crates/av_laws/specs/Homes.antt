@@ -15,6 +15,8 @@
 --   what is covered (`IsReached`, `AreCovered`): together, alone, no_home, at_child, other_index,
 --     own_alone, bare
 --   what holds with it (`IsRmapSound`): together, alone, out_of_own_chain, number_to_come
+--   entries of slots (`AreSlotsCovered`): slot_together, slot_uncached, slot_unhomed,
+--     slot_at_child, other_roots, other_indices, root_left_out, member_of_another
 -- In a command a new frame or a copy gets its home by the note and again by the write that follows,
 -- so only by_events and prepared_first see a note that leaves it.
 use Rattle.std.specs.Prelude.{◌≡◌, ℕ, true, false, List, [], ◌∷◌, map, Option, Some, None}
@@ -26,12 +28,13 @@ use Rattle.av_trace.specs.declared.reply.Answer.TheVariants.{Data, Done}
 use Rattle.av_vma.specs.Pages.{pages_in}
 use Rattle.av_vma.specs.declared.area.Area.{Area}
 use Rattle.av_plain.specs.Areas.{Homes, Rmap, no_anons, no_areas, no_homes, rmap_after}
-use Rattle.av_plain.specs.Covered.{IsRmapSound}
+use Rattle.av_plain.specs.Covered.{AreSlotsCovered, IsRmapSound}
 use Rattle.av_plain.specs.Event.{Event, Noted, Used, Zapped, after}
 use Rattle.av_plain.specs.Ledger.{Entry, InFrame, InSlot, Key, Ledger, first_ledger}
 use Rattle.av_plain.specs.Transcript.{Exchange, IsStep, State, rmap_of}
-use Rattle.av_laws.specs.Areas.{anons_of, area, child, family, process_with, root, state_of, with_own}
+use Rattle.av_laws.specs.Areas.{alone, and_at, anons_of, area, child, family, process_with, root, state_of, two_roots, with_own}
 use Rattle.av_laws.specs.Examples.{machine, only_frames, read_write, says, slot}
+use Rattle.av_laws.specs.Pairs.{cached_at}
 
 -- ---- what a row claims
 
@@ -191,3 +194,36 @@ bare_child = record with_child {
 -- the child's anon_vma has a number that is yet to be given
 abbrev pub with_number_to_come : State
 with_number_to_come = record with_child { anons = record family { next = 1 } }
+
+-- ---- entries of slots
+
+-- page 0x12 of parent and child is at slot 1, once it was unmapped and its frame dropped
+abbrev pub both_at_slot : Ledger
+both_at_slot = record first_ledger {
+  entries = ((1, 0x12), InSlot (slot 1)) ∷ ((2, 0x12), InSlot (slot 1)) ∷ [];
+}
+
+-- or its frame is there still
+abbrev pub both_cached : Ledger
+both_cached = record both_at_slot { cache = cached_at 1 0 false ∷ []; inactive = 0 ∷ [] }
+
+-- with the areas, anon_vmas and homes of the state the entries of slots are covered
+abbrev pub CoversSlots : Ledger → State → Type 0
+CoversSlots l s = AreSlotsCovered l (rmap_of s)
+
+-- the child's own anon_vma is a root, too
+abbrev pub with_two_roots : State
+with_two_roots = record with_child { anons = two_roots }
+
+-- the linear indices of the child's area run on from 0x30
+abbrev pub with_other_index : State
+with_other_index = record with_child {
+  areas = with_at 1 (pages_in (Some (of_parent ∷ [])))
+      (with_at 2 (pages_in (Some (record of_child { pgoff = 0x30 } ∷ []))) no_areas);
+}
+
+-- the child's chain has a root that isn't its own
+abbrev pub with_another_root : State
+with_another_root = record with_child {
+  anons = and_at 2 (alone 2) 3 (with_chain (0 ∷ 2 ∷ 1 ∷ [])).anons;
+}

@@ -4,7 +4,8 @@
 --   what counts over all areas (`is_full`, `totals`): not_full, full, all_slots, all_free_slots
 --   which page of the device it is (`HoldsTold`, `IsClean`): page_at_its_slot, page_at_next_slot,
 --     clean_at_next_slot
-use Rattle.std.specs.Prelude.{ℕ, false, ◌==◌, if◌then◌else◌, List, [], ◌∷◌, Some, None, replicate}
+--   what stays of a device (`IsSameDevice`): other_slots, other_page_0
+use Rattle.std.specs.Prelude.{ℕ, false, ◌==◌, if◌then◌else◌, List, [], ◌∷◌, Some, None, drop, replicate}
 use Rattle.av_plain.specs.Device.{Device}
 use Rattle.av_plain.specs.Ledger.{InFrame, InSlot, Ledger, Setting, first_ledger}
 use Rattle.av_plain.specs.Stands.{BytesStand}
@@ -38,3 +39,9 @@ seven_at slot = record (swap_device 9) {
 -- with that device frames and device hold what the pages of the state claim
 abbrev pub HoldWith : ℕ → State → Type 0
 HoldWith slot s = BytesStand (cached_view false false) (seven_at slot) s.world s.ledger
+
+-- the first byte of page 0, of which the header says nothing, is another one
+abbrev pub with_other_page_0 : Device
+with_other_page_0 = record (swap_device 9) {
+  pages = Some (λ k page. if page == 0 then 1 ∷ drop 1 header_page else 9 ∷ replicate 4095 0);
+}

@@ -3,15 +3,22 @@
 --   why a frame is kept (`cause_of`, `is_referenced`): four_reclaimed
 --   what those before a frame left (`Outcomes`): four_reclaimed
 --   which frames, and in which order (`from_tail`): two_reclaimed, two_aged
+--   which writes end, and in which order (`CompletesFirst`): first_completed, both_completed,
+--     second_too
 --   how a clean frame leaves (`leave_notes`): clean_reclaimed
 --   the slots of an area that is turned off, in order (`Empties`, `map_notes`): two_emptied
 --   which area gives a slot while one is turned off (`closing_swap_area`, `sparing_area`):
 --     other_area_fills, other_area_gives
 --   what `slot` tests (`is_outside`, `is_off`, `is_usable`): bad_page, header_page, past_header,
 --     last_slot, off_area
+--   what `slot` tells where headers aren't told (`MayBeNoSlot`): used_counted, unused_bad,
+--     unused_outside, used_bad, used_outside
 --   what `swapon` tests, and a header (`header_answer`): no_device, no_pages, no_device_unread,
 --     no_pages_unread, unread_header, wrong_header, header
+--   what `swapon` tells where headers aren't told (`IsByHeader`): untold_header,
+--     untold_wrong_header, untold_without_slots
 --   whether swap is full (`Serves`, `is_full`): full_at_the_drop, half_full_at_the_drop
+--   whether a page came in (`is_unneeded`): found_when_full
 --   what is claimed after a write (`next_world`): written_after_load, around_unclaimed, around_told
 use Rattle.std.specs.Prelude.{◌≡◌, ℕ, true, false, ◌==◌, if◌then◌else◌, List, [], ◌∷◌, ◌++◌, Option, Some, None}
 use Rattle.av_trace.specs.declared.command.Command.{Command}
@@ -64,6 +71,22 @@ four_reclaimed =
 -- three frames are active
 abbrev pub three_active : Ledger
 three_active = record first_ledger { active = 2 ∷ 1 ∷ 0 ∷ [] }
+
+-- ---- complete
+
+-- the writes of slots 2 and 1 are in flight, in this order
+abbrev pub two_flying : Ledger
+two_flying = record first_ledger {
+  entries = ((1, 0x10), InFrame 0 true) ∷ ((1, 0x11), InFrame 1 true) ∷ [];
+  cache = cached_at 1 0 false ∷ cached_at 2 1 false ∷ [];
+  flight = slot 2 ∷ slot 1 ∷ [];
+  inactive = 1 ∷ 0 ∷ [];
+  on = one_area 2 0;
+}
+
+-- both have ended
+abbrev pub both_written : List Note
+both_written = Written (slot 2) ∷ Written (slot 1) ∷ []
 
 -- ---- swapoff
 
@@ -139,6 +162,15 @@ page_in = frame_freed ++ Loaded (slot 1) 0 ∷ Mapped 1 0x10000 0 ∷ []
 
 abbrev pub page_in_and_drop : List Note
 page_in_and_drop = page_in ++ Dropped (slot 1) ∷ []
+
+-- page 0x10 is in frame 0, which is cached at the one slot that there is: so swap is full
+abbrev pub found_when_full : Ledger
+found_when_full = record first_ledger {
+  entries = ((1, 0x10), InFrame 0 true) ∷ [];
+  cache = cached_at 1 0 false ∷ [];
+  inactive = 0 ∷ [];
+  on = one_area 1 0;
+}
 
 -- the page at slot 1 is written, so that it is loaded and the slot dropped
 abbrev pub out_and_written : List Event

@@ -1,18 +1,19 @@
--- Views of a kernel after a fork, when two processes have frame 0: the right one, which stands for
--- the state, and some that don't. Each of these is the right one but for one thing.
+-- Views of a kernel after a fork, when two processes have frame 0, and once that is cached at slot
+-- 1 and unmapped: the right ones, which stand for the states, and some that don't. Each of these is
+-- the right one but for one thing.
 use Rattle.std.specs.Prelude.{ℕ, ◌-◌, Bool, false, ◌==◌, ◌&&◌, ◌||◌, if◌then◌else◌, List, [], ◌∷◌, ◌++◌, Some, None, option_map, replicate, codes}
 use Rattle.av_clusters.specs.Clusters.{Slots}
 use Rattle.av_plain.specs.Device.{Device, no_device}
-use Rattle.av_plain.specs.Ledger.{SwapArea, entry, frame_at, map_count, slot_entries, slot_of}
+use Rattle.av_plain.specs.Ledger.{InSlot, SwapArea, entry, frame_at, map_count, slot_entries, slot_of}
 use Rattle.av_base.specs.Words.{with_at}
 use Rattle.av_vma.specs.Pages.{fresh_area, pages_in}
 use Rattle.av_vma.specs.declared.area.Area.{Area}
-use Rattle.av_plain.specs.Areas.{Anons, Areas, Homes, no_anons, no_areas, no_homes}
+use Rattle.av_plain.specs.Areas.{Anons, Areas, Homes, no_areas, no_homes}
 use Rattle.av_plain.specs.Choice.{no_slots}
 use Rattle.av_plain.specs.Stands.{Stands, View}
 use Rattle.av_plain.specs.Transcript.{State}
 use Rattle.av_laws.specs.Areas.{anons_of, child, root}
-use Rattle.av_laws.specs.Examples.{after_fork, cached_out, machine, only_frames, read_write, with_slots, with_swap}
+use Rattle.av_laws.specs.Examples.{after_fork, cached_out, machine, only_frames, read_write, slot, with_slots, with_swap}
 
 -- an area of a process with pages for reading and writing, as it was mapped
 abbrev pub area : ℕ → ℕ → ℕ → Area
@@ -134,23 +135,24 @@ swap_device b = record {
   faults = 0;
 }
 
--- the right view of a page that is cached at slot 1, whose write is in flight or not, and that is
--- stale or not
+-- the same two processes, once frame 0 is cached at slot 1 and unmapped: its write is in flight or
+-- not, and it is stale or not
+abbrev pub cached_state : Bool → Bool → State
+cached_state flying stale = record fork_state {
+  ledger = record (cached_out flying stale).ledger {
+    entries = ((1, 0x7fffffffe), InSlot (slot 1)) ∷ ((2, 0x7fffffffe), InSlot (slot 1)) ∷ [];
+  };
+  free = with_slots 8 [] 1 (1 ∷ 2 ∷ 3 ∷ []);
+}
+
+-- the right view of it
 abbrev pub cached_view : Bool → Bool → View
-cached_view flying stale = let l = (cached_out flying stale).ledger in record {
-  frames = 4;
-  bytes = λ f i. if f == 0 && i == 0 then 7 else 0;
+cached_view flying stale = let l = (cached_state flying stale).ledger in record right {
   maps = map_count l;
   slot = slot_of l;
   dirty = λ f. stale;
-  free = 1 ∷ 2 ∷ 3 ∷ [];
-  active = [];
   inactive = l.inactive;
   table = λ p page. option_map (λ e. record { entry = e; write = false }) (entry l (p, page));
-  processes = 1;
-  areas = λ p. if p == 1 then Some (area 0x7fffffffe 0x7ffffffff 1 ∷ []) else None;
-  anons = no_anons;
-  homes = no_homes;
   find = frame_at l;
   entries = slot_entries l;
   flight = l.flight;
@@ -171,8 +173,9 @@ fewer_slots = (0, record { slots = 6; bad = 0 }) ∷ []
 
 abbrev pub with_fewer_slots : State
 with_fewer_slots =
-    record (cached_out false false) {
-      ledger = record (cached_out false false).ledger { on = fewer_slots };
+    record (cached_state false false) {
+      ledger = record (cached_state false false).ledger { on = fewer_slots };
+      free = with_slots 7 [] 1 (1 ∷ 2 ∷ 3 ∷ []);
     }
 
 -- a kernel that agrees with the state on the slots, of which so many were given, doesn't stand for
@@ -180,12 +183,40 @@ with_fewer_slots =
 abbrev pub NotGiven : ℕ → Type 0
 NotGiven n =
     NotFor (record (cached_view false false) { slots = (with_slots 8 [] n []).slots }) 7
-    (record (cached_out false false) { free = with_slots 8 [] n (1 ∷ 2 ∷ 3 ∷ []) })
+    (record (cached_state false false) { free = with_slots 8 [] n (1 ∷ 2 ∷ 3 ∷ []) })
 
 -- nor one that agrees with the state on what is left of area 1, which is off
 abbrev pub NotOff : Slots → Type 0
 NotOff left = let slots = with_at 1 left (with_slots 8 [] 1 []).slots in
     NotFor (record (cached_view false false) { slots = slots }) 7
-    (record (cached_out false false) {
+    (record (cached_state false false) {
       free = record { frames = 1 ∷ 2 ∷ 3 ∷ []; slots = slots };
+    })
+
+-- ---- entries of slots
+
+-- a kernel and a state that agree on the home of frame 0, which caches slot 1, but not both entries
+-- of the slot are reached from it
+abbrev pub NotCovered : Homes → Type 0
+NotCovered homes =
+    NotFor (record (cached_view false false) { homes = homes }) 7
+    (record (cached_state false false) { homes = homes })
+
+-- nor do these anon_vmas, with a chain that isn't of one root, though they agree on them
+abbrev pub NotOfOneRoot : Anons → Type 0
+NotOfOneRoot anons =
+    NotFor (record (cached_view false false) { anons = anons }) 7
+    (record (cached_state false false) { anons = anons })
+
+-- nor these areas of the two processes, though they agree on them
+abbrev pub NotOwned : (ℕ → Area) → Type 0
+NotOwned areas =
+    NotFor
+    (record (cached_view false false) {
+      areas = λ p. if p == 1 || p == 2 then Some (areas p ∷ []) else None;
+    })
+    7
+    (record (cached_state false false) {
+      areas = with_at 1 (pages_in (Some (areas 1 ∷ [])))
+          (with_at 2 (pages_in (Some (areas 2 ∷ []))) no_areas);
     })

@@ -5,11 +5,14 @@ ghost use Rattle.std.specs.Prelude.{◌≡◌, [], ◌∷◌, Some, None};
 ghost use Rattle.av_vma.specs.Pages.{home_of};
 ghost use Rattle.av_plain.specs.Transcript.{rmap_of};
 ghost use Rattle.av_laws.specs.Homes.{
+  CoversSlots,
   LeadsHomes,
   IsReachable,
   LeavesHomes,
   NeverLeavesHomes,
   bare_child,
+  both_at_slot,
+  both_cached,
   by_events,
   child_alone,
   child_copy,
@@ -26,9 +29,12 @@ ghost use Rattle.av_laws.specs.Homes.{
   of_one_page,
   of_two_pages,
   prepared_first,
+  with_another_root,
   with_child,
   with_home,
   with_number_to_come,
+  with_other_index,
+  with_two_roots,
   bare_process,
 };
 
@@ -118,4 +124,20 @@ pub fn homes_cover_entries()
     ensures bare { IsReachable bare_child → ⊥ }
     ensures out_of_own_chain { IsReachable (with_chain (0 ∷ [])) → ⊥ }
     ensures number_to_come { IsReachable with_number_to_come → ⊥ }
+{}
+
+/// Where pages of parent and child are at one slot, their areas have one root, and the pages one
+/// linear index. While the slot is cached, the home of its frame at the parent's page covers both
+/// entries. No home does not, nor one with the child's own anon_vma. Refused, too, are areas with
+/// different roots, pages with different indices, a chain without its root, and one with a root
+/// that isn't its own.
+pub fn homes_cover_slots()
+    ensures slot_together { CoversSlots both_cached with_child }
+    ensures slot_uncached { CoversSlots both_at_slot (with_home None) }
+    ensures slot_unhomed { CoversSlots both_cached (with_home None) → ⊥ }
+    ensures slot_at_child { CoversSlots both_cached (with_home (Some (1, 0x22))) → ⊥ }
+    ensures other_roots { CoversSlots both_at_slot with_two_roots → ⊥ }
+    ensures other_indices { CoversSlots both_at_slot with_other_index → ⊥ }
+    ensures root_left_out { CoversSlots both_at_slot (with_chain (1 ∷ [])) → ⊥ }
+    ensures member_of_another { CoversSlots both_at_slot with_another_root → ⊥ }
 {}

@@ -56,7 +56,7 @@ ghost use Rattle.av_text.specs.Number.{IsWide};
 ghost use Rattle.av_trace.specs.Reply.{IsReply};
 ghost use Rattle.av_io.specs.Count.{Rose, RoseBy};
 ghost use Rattle.av_laws.specs.Covered.{CoverBelow, CoverPages};
-ghost use Rattle.av_laws.specs.NeedsFrame.{NoneWantsFrame};
+ghost use Rattle.av_laws.specs.NeedsFrame.{AreInPlace, NoneWantsFrame};
 ghost use Rattle.av_plain.specs.Device.{AreLayouts, Device, HasNoDevice, setting_of};
 ghost use Rattle.av_laws.specs.ReadBack.{IsSmall, IsWideRow};
 ghost use Rattle.av_laws.specs.Determined.{
@@ -79,7 +79,10 @@ pub use examples::{
     ranges_run, shared_examples_run, swap_examples_run,
 };
 pub use forks::{changed_forks_are_refused, forks_are_refused, forks_follow};
-pub use homes::{changed_homes_are_refused, homes_are_of_pages, homes_cover_entries, homes_follow};
+pub use homes::{
+    changed_homes_are_refused, homes_are_of_pages, homes_cover_entries, homes_cover_slots,
+    homes_follow, loaded_frames_are_at_home,
+};
 pub use lines::{answers_say, changed_lines_are_refused, lines_say, rows_say};
 pub use mremap::{
     changed_mremaps_are_refused, mremaps_are_refused, pages_move, pages_stay_or_find_a_place,
@@ -92,17 +95,26 @@ pub use pass_turns::{
     cached_frames_are_unmapped_and_written, changed_passes_are_refused, frames_have_their_turns,
     pages_are_lost_behind_a_pass, passes_end_with_a_free_frame,
 };
-pub use several::{all_areas_count, kept_frames_go_to_the_head, pages_are_at_their_own_slots};
+pub use several::{
+    all_areas_count, kept_frames_go_to_the_head, page_0_of_a_device_stays,
+    pages_are_at_their_own_slots,
+};
 pub use slots::{
     areas_are_turned_on_anew, slots_are_given_in_turn, slots_come_back, the_first_area_gives,
 };
 pub use swap_rows::{changed_swap_rows_are_refused, swap_rows_run};
+pub use swap_steps::{
+    areas_are_turned_on, frames_are_reclaimed_from_the_tail, full_is_asked_at_the_drop,
+    slots_are_emptied_in_turn, slots_are_told, the_first_writes_are_completed,
+    written_bytes_are_claimed,
+};
 pub use unsound::{
     changed_ledgers_are_unsound, changed_memories_are_unsound, entries_of_one_memory_are_unsound,
 };
 pub use views::{
-    cached_views_stand, changed_cached_views_do_not_stand, changed_views_do_not_stand,
-    the_right_view_stands,
+    cached_views_stand, changed_anon_vmas_do_not_stand, changed_cached_views_do_not_stand,
+    changed_views_do_not_stand, the_right_view_stands, uncovered_slots_do_not_stand,
+    unreached_entries_do_not_stand,
 };
 
 /// A command that is refused changes neither the memories nor the ledger. An mprotect, which can
@@ -184,9 +196,9 @@ pub fn runs_list_free_slots()
 
 /// In a run of at most 2^24 commands each entry that names a frame is reached from the frame's
 /// home, through a chain alone. The pages whose entries name one slot have one root and one linear
-/// index, and where the slot is cached they are reached, too: so the frame that takes its page has a
-/// home that reaches them all. So it is after each command that finds it so in a sound state whose
-/// areas cover its pages.
+/// index, and where the slot is cached they are reached, too: so the frame that takes its page has
+/// a home that reaches them all. So it is after each command that finds it so in a sound state
+/// whose areas cover its pages.
 pub fn runs_cover_entries()
     ensures from_nothing { (m : Setting) (exchanges : List Exchange) (new : State)
         → length exchanges ≤ most_commands → IsRun m (at_first m) exchanges new
@@ -238,11 +250,10 @@ pub fn areas_has_one_answer()
 {}
 
 /// A legal reply to a command with values in range is one that is read back from its text: its
-/// numbers are of 64 bits, its bytes below 256, and its rows as many as it says. This is so where no
-/// device is attached, and where offsets, own anon_vmas and chains that the rows of `areas` say are
-/// of 64 bits, too. Legality says nothing of these, since it knows of memories and
-/// ledger alone: a step shows those of the state's areas, and in a run they are so, as the next law
-/// says.
+/// numbers are of 64 bits, its bytes below 256, and its rows as many as it says. This is so where
+/// no device is attached, and where offsets, own anon_vmas and chains that the rows of `areas` say
+/// are of 64 bits, too. Legality says nothing of these, since it knows of memories and ledger
+/// alone: a step shows those of the state's areas, and in a run they are so, as the next law says.
 pub fn replies_are_read_back()
     ensures { (m : Setting) (w : World) (l : Ledger) (command : Command) (reply : Reply)
         (events : List Event) → HasNoDevice m → AllSound m w l → IsSmall m w
@@ -280,11 +291,11 @@ pub fn reads_in_memory_are_served()
         → IsLegal m w l (Read p a n) reply events → reply.answer ≡ Oom k out shown → ⊥ }
 {}
 
-/// Where no device is attached, a write whose pages need no frame, each of them having one for
-/// itself, is never out of memory.
+/// A write whose pages each have a frame for themselves is never out of memory: no other entry
+/// names it, and none names the slot at which it is cached.
 pub fn writes_in_place_are_served()
     ensures { (m : Setting) (w : World) (l : Ledger) (p a : ℕ) (bytes : List ℕ) (reply : Reply)
         (events : List Event) (k : ℕ) (out : OutOf) (shown : List ℕ)
-        → HasNoDevice m → AllSound m w l → NoneWantsFrame true l p a (length bytes)
+        → AllSound m w l → AreInPlace l p a (length bytes)
         → IsLegal m w l (Write p a bytes) reply events → reply.answer ≡ Oom k out shown → ⊥ }
 {}

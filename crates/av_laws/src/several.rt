@@ -4,12 +4,21 @@
 ghost use Rattle.std.specs.Prelude.{◌≡◌, [], ◌∷◌, true, false};
 ghost use Rattle.av_trace.specs.declared.note.Note.TheVariants.{Kept};
 ghost use Rattle.av_trace.specs.declared.note.Cause.TheVariants.{Referenced, WriteStarted};
+ghost use Rattle.av_plain.specs.Device.{IsSameDevice, headers_of};
 ghost use Rattle.av_plain.specs.Event.{after_note};
 ghost use Rattle.av_plain.specs.Ledger.{is_full};
 ghost use Rattle.av_plain.specs.Report.{totals};
 ghost use Rattle.av_laws.specs.Examples.{cached_out, paged_out};
-ghost use Rattle.av_laws.specs.Several.{HoldWith, one_free, two_untold, with_lists};
+ghost use Rattle.av_laws.specs.Several.{
+  HoldWith,
+  one_free,
+  seven_at,
+  two_untold,
+  with_lists,
+  with_other_page_0,
+};
 ghost use Rattle.av_laws.specs.Slots.{lower_in_use, two_swaps};
+ghost use Rattle.av_laws.specs.Views.{swap_device};
 
 /// A frame that was referenced goes to the head of active, one whose write started to the head of
 /// inactive.
@@ -35,4 +44,12 @@ pub fn pages_are_at_their_own_slots()
     ensures page_at_its_slot { HoldWith 1 (paged_out 7 []) }
     ensures page_at_next_slot { HoldWith 2 (paged_out 7 []) → ⊥ }
     ensures clean_at_next_slot { HoldWith 2 (cached_out false false) → ⊥ }
+{}
+
+/// A device that has other bytes at its slots is still the same one. It isn't where a byte of page
+/// 0 is another, though its header says the same.
+pub fn page_0_of_a_device_stays()
+    ensures other_slots { IsSameDevice (seven_at 1) (seven_at 2) }
+    ensures other_page_0 { IsSameDevice (swap_device 9) with_other_page_0 → ⊥ }
+    ensures same_header { headers_of with_other_page_0 ≡ headers_of (swap_device 9) }
 {}

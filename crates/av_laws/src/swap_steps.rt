@@ -3,13 +3,14 @@
 ghost use Rattle.std.specs.Prelude.{[], ◌∷◌, false, Some, None};
 ghost use Rattle.av_trace.specs.declared.command.Command.TheVariants.{
   Age,
+  Complete,
   Read,
   Reclaim,
   Slot as AsksSlot,
   Swapoff,
   Swapon,
 };
-ghost use Rattle.av_trace.specs.declared.note.Note.TheVariants.{Aged, Dropped, Unmapped};
+ghost use Rattle.av_trace.specs.declared.note.Note.TheVariants.{Aged, Dropped, Unmapped, Written};
 ghost use Rattle.av_trace.specs.declared.reply.Answer.TheVariants.{
   Data,
   Done,
@@ -20,7 +21,7 @@ ghost use Rattle.av_trace.specs.declared.reply.Answer.TheVariants.{
 };
 ghost use Rattle.av_trace.specs.declared.reply.Errno.TheVariants.{Einval, Eio};
 ghost use Rattle.av_plain.specs.Ledger.{InFrame, first_ledger};
-ghost use Rattle.av_laws.specs.Examples.{reply_with, slot, untold, with_swap};
+ghost use Rattle.av_laws.specs.Examples.{paged_out, reply_with, slot, untold, with_swap};
 ghost use Rattle.av_laws.specs.PassTurns.{all_readable, both_cached, one_frame_two_areas};
 ghost use Rattle.av_laws.specs.Slots.{lower_in_use};
 ghost use Rattle.av_laws.specs.SwapSteps.{
@@ -28,6 +29,8 @@ ghost use Rattle.av_laws.specs.SwapSteps.{
   MayCome,
   MayNotCome,
   OtherAreaGives,
+  both_written,
+  found_when_full,
   four_inactive,
   four_reclaimed,
   one_out,
@@ -38,6 +41,7 @@ ghost use Rattle.av_laws.specs.SwapSteps.{
   third_bad_on,
   three_active,
   two_emptied,
+  two_flying,
   two_kept,
   two_slots,
 };
@@ -58,6 +62,17 @@ pub fn frames_are_reclaimed_from_the_tail()
         (reply_with Done (Aged 0 ∷ Aged 1 ∷ [])) }
 {}
 
+/// The writes that are completed are the first in flight, in the order in which they began; where
+/// fewer are in flight, all of them.
+pub fn the_first_writes_are_completed()
+    ensures first_completed { MayCome (with_swap 4 3 2) [] two_flying (Complete 1)
+        (reply_with Done (Written (slot 2) ∷ [])) }
+    ensures both_completed { MayCome (with_swap 4 3 2) [] two_flying (Complete 5)
+        (reply_with Done both_written) }
+    ensures second_too { MayNotCome (with_swap 4 3 2) [] two_flying (Complete 1)
+        (reply_with Done both_written) }
+{}
+
 /// The slots of an area that is turned off are emptied, the least first, once the writes in flight
 /// have ended. Each page at a slot is mapped, by process and then address, to the frame that caches
 /// the slot or, where none does, one that takes its page. A frame that has to go for that goes to
@@ -71,7 +86,8 @@ pub fn slots_are_emptied_in_turn()
 {}
 
 /// `slot` tells a bad page and the count of a slot, and refuses page 0, a page past the header's
-/// and an area that is off.
+/// and an area that is off. Where headers aren't told, a page may be bad or past the header's, but
+/// not a slot in use.
 pub fn slots_are_told()
     ensures bad_page { MayCome third_bad [] third_bad_on (AsksSlot 0 3)
         (reply_with (SlotBad (slot 3)) []) }
@@ -83,10 +99,21 @@ pub fn slots_are_told()
         (reply_with (Refused Einval) []) }
     ensures off_area { MayCome third_bad [] first_ledger (AsksSlot 0 1)
         (reply_with (Refused Einval) []) }
+    ensures used_counted { MayCome untold [] (paged_out 7 []).ledger (AsksSlot 0 1)
+        (reply_with (SlotCount (slot 1) 1 None) []) }
+    ensures unused_bad { MayCome untold [] (paged_out 7 []).ledger (AsksSlot 0 2)
+        (reply_with (SlotBad (slot 2)) []) }
+    ensures unused_outside { MayCome untold [] (paged_out 7 []).ledger (AsksSlot 0 2)
+        (reply_with (Refused Einval) []) }
+    ensures used_bad { MayNotCome untold [] (paged_out 7 []).ledger (AsksSlot 0 1)
+        (reply_with (SlotBad (slot 1)) []) }
+    ensures used_outside { MayNotCome untold [] (paged_out 7 []).ledger (AsksSlot 0 1)
+        (reply_with (Refused Einval) []) }
 {}
 
 /// `swapon` refuses an area without a device, or without a page, before anything is read of it.
-/// Else its page 0 isn't read, or is no header, or is one and its numbers are told.
+/// Else its page 0 isn't read, or is no header, or is one and its numbers are told. Where headers
+/// aren't told, these may be any numbers, but for no slots.
 pub fn areas_are_turned_on()
     ensures no_device { MayCome third_bad [] first_ledger (Swapon 3)
         (reply_with (Refused Einval) []) }
@@ -101,16 +128,25 @@ pub fn areas_are_turned_on()
     ensures wrong_header { MayCome third_bad [] first_ledger (Swapon 2)
         (reply_with (Refused Einval) []) }
     ensures header { MayCome third_bad [] first_ledger (Swapon 0) (reply_with (On 6 1) []) }
+    ensures untold_header { MayCome untold [] first_ledger (Swapon 0) (reply_with (On 6 1) []) }
+    ensures untold_wrong_header { MayCome untold [] first_ledger (Swapon 0)
+        (reply_with (Refused Einval) []) }
+    ensures untold_without_slots { MayNotCome untold [] first_ledger (Swapon 0)
+        (reply_with (On 0 0) []) }
 {}
 
 /// A slot is dropped behind a load where swap is full then, though it wasn't before the page came
-/// in; and not where half of it is free then.
+/// in; and not where half of it is free then. A read that finds the page in its frame drops
+/// nothing, however full swap is.
 pub fn full_is_asked_at_the_drop()
     ensures full_at_the_drop { MayCome (with_swap 1 4 3) all_readable (one_out 3) (Read 1 0x10000 1)
         (reply_with (Data (0 ∷ [])) page_in_and_drop) }
     ensures half_full_at_the_drop { MayCome (with_swap 1 5 4) all_readable (one_out 4)
         (Read 1 0x10000 1)
         (reply_with (Data (0 ∷ [])) page_in) }
+    ensures found_when_full { MayCome (with_swap 1 2 1) all_readable found_when_full
+        (Read 1 0x10000 1)
+        (reply_with (Data (0 ∷ [])) []) }
 {}
 
 /// A page that is written is loaded first: so the bytes that were written are claimed, and around

@@ -1,23 +1,27 @@
 //! Views of a kernel that stand for a state, and such as don't.
 
 ghost use Rattle.std.specs.Prelude.{[], ◌∷◌, true, false, Some, None};
-ghost use Rattle.av_plain.specs.Areas.{no_anons, no_homes};
-ghost use Rattle.av_laws.specs.Areas.{anons_of, child, root};
+ghost use Rattle.av_plain.specs.Areas.{no_homes};
+ghost use Rattle.av_laws.specs.Areas.{alone, and_at, anons_of, child, family, root};
 ghost use Rattle.av_plain.specs.Device.{no_device};
 ghost use Rattle.av_plain.specs.Stands.{Stands};
-ghost use Rattle.av_laws.specs.Examples.{cached_out, machine, with_slots};
+ghost use Rattle.av_laws.specs.Examples.{machine, with_slots};
 ghost use Rattle.av_clusters.specs.Clusters.{fresh};
 ghost use Rattle.av_laws.specs.Views.{
+  NotCovered,
   NotFor,
   NotFree,
   NotGiven,
   NotKin,
   NotLinked,
+  NotOfOneRoot,
   NotOff,
+  NotOwned,
   NotReached,
   Refused,
   StandsFor,
   area,
+  cached_state,
   cached_view,
   fewer_slots,
   fork_state,
@@ -77,17 +81,18 @@ pub fn unreached_entries_do_not_stand()
 pub fn changed_anon_vmas_do_not_stand()
     ensures other_next { NotKin
         (record (one_anon 0 (0 ∷ [])) { next = 2 }) (one_anon 0 (0 ∷ [])) }
-    ensures one_too_many { NotKin (one_anon 0 (0 ∷ [])) (record no_anons { next = 1 }) }
+    ensures one_too_many { NotKin family (record (one_anon 0 (0 ∷ [])) { next = 2 }) }
     ensures other_root { NotKin (one_anon 1 (0 ∷ [])) (one_anon 0 (0 ∷ [])) }
     ensures other_chain { NotKin (one_anon 0 (0 ∷ 1 ∷ [])) (one_anon 0 (0 ∷ [])) }
 {}
 
-/// The right view of a cached page stands for its state: where it is clean, the device has its
-/// bytes; where it is stale, or its write is in flight, the device may have others.
+/// The right view of a cached page that two processes have stands for its state: where it is clean,
+/// the device has its bytes; where it is stale, or its write is in flight, the device may have
+/// others.
 pub fn cached_views_stand()
-    ensures clean { StandsFor (cached_view false false) 7 (cached_out false false) }
-    ensures stale { StandsFor (cached_view false true) 9 (cached_out false true) }
-    ensures flying { StandsFor (cached_view true false) 9 (cached_out true false) }
+    ensures clean { StandsFor (cached_view false false) 7 (cached_state false false) }
+    ensures stale { StandsFor (cached_view false true) 9 (cached_state false true) }
+    ensures flying { StandsFor (cached_view true false) 9 (cached_state true false) }
 {}
 
 /// A view of a cached page doesn't stand where the device has other bytes than a clean page; where
@@ -96,27 +101,46 @@ pub fn cached_views_stand()
 /// where an area that is off has pages left, though all are bad; where its entry is gone; or where
 /// an area is on with other numbers than those of its header.
 pub fn changed_cached_views_do_not_stand()
-    ensures not_written { NotFor (cached_view false false) 9 (cached_out false false) }
+    ensures not_written { NotFor (cached_view false false) 9 (cached_state false false) }
     ensures not_dirty { NotFor (record (cached_view false true) { dirty = λ f. false }) 9
-        (cached_out false true) }
+        (cached_state false true) }
     ensures no_slot { NotFor (record (cached_view false false) { slot = λ f. None }) 7
-        (cached_out false false) }
+        (cached_state false false) }
     ensures not_found { NotFor (record (cached_view false false) { find = λ s. None }) 7
-        (cached_out false false) }
+        (cached_state false false) }
     ensures not_named { NotFor (record (cached_view false false) { entries = λ s. 0 }) 7
-        (cached_out false false) }
+        (cached_state false false) }
     ensures not_flying { NotFor (record (cached_view true false) { flight = [] }) 9
-        (cached_out true false) }
+        (cached_state true false) }
     ensures given_back { NotFor
         (record (cached_view false false) { slots = (with_slots 8 [] 0 []).slots }) 7
-        (cached_out false false) }
+        (cached_state false false) }
     ensures none_given { NotGiven 0 }
     ensures another_given { NotGiven 2 }
     ensures left_over { NotOff (fresh 4 (1 ∷ 2 ∷ 3 ∷ [])) }
     ensures entry_gone { NotFor (record (cached_view false false) { table = λ p page. None }) 7
-        (cached_out false false) }
+        (cached_state false false) }
     ensures other_area { NotFor (record (cached_view false false) { on = fewer_slots }) 7
-        (cached_out false false) }
-    ensures other_header { NotFor (record (cached_view false false) { on = fewer_slots }) 7
+        (cached_state false false) }
+    ensures other_header { NotFor
+        (record (cached_view false false) {
+          on = fewer_slots;
+          slots = (with_slots 7 [] 1 []).slots;
+        }) 7
         with_fewer_slots }
+{}
+
+/// A view of a cached page doesn't stand where one of the pages at its slot is in an area without
+/// an anon_vma; where its frame has no home, one at another index, or the own anon_vma of the
+/// child, from which the parent's page isn't reached; or where a chain has an anon_vma that isn't
+/// there, or one with another root.
+pub fn uncovered_slots_do_not_stand()
+    ensures bare_areas { NotOwned (λ p. area 0x7fffffffe 0x7ffffffff p) }
+    ensures no_home { NotCovered no_homes }
+    ensures other_index { NotCovered (homes_with 0 0x7fffffffd) }
+    ensures at_the_child { NotCovered (homes_with 1 0x7fffffffe) }
+    ensures member_gone { NotOfOneRoot
+        (anons_of (Some root) (Some (record child { chain = 0 ∷ 2 ∷ 1 ∷ [] })) 3) }
+    ensures member_of_another { NotOfOneRoot (and_at 2 (alone 2) 3
+        (anons_of (Some root) (Some (record child { chain = 0 ∷ 2 ∷ 1 ∷ [] })) 3)) }
 {}

@@ -1,6 +1,6 @@
 -- A step makes few anon_vmas: one for each page that gets a frame, and one for each area of a parent.
 use Rattle.std.specs.List.{AllByRecursion, range_with_len}
-use Rattle.std.proofs.Common.{◌≡◌, ◌⊎◌, inl, inr, ℕ, zero, suc, ◌+◌, ◌*◌, ◌≤◌, Bool, true, false, cond, List, [], ◌∷◌, ◌++◌, length, map, take, Option, Some, None, append-nil, refl, sym, ap, subst, ◌∙◌, arith, ◌==◌, if◌then◌else◌}
+use Rattle.std.proofs.Common.{◌≡◌, ◌⊎◌, inl, inr, ℕ, zero, suc, ◌+◌, ◌-◌, ◌*◌, ◌≤◌, min, Bool, true, false, cond, List, [], ◌∷◌, ◌++◌, length, map, take, Option, Some, None, append-nil, refl, sym, ap, subst, ◌∙◌, arith, ◌==◌, if◌then◌else◌}
 use Rattle.std.specs.Prelude.{MatchOption}
 use Rattle.av_base.specs.Limits.{top_page}
 use Rattle.av_base.specs.Page.{address_of, page_of, pages_of, place_in_page}
@@ -13,7 +13,7 @@ use Rattle.av_trace.specs.declared.note.Note.{Note}
 use Rattle.av_trace.specs.declared.note.Note.TheVariants.{Aged, Copied, Dropped, Failed, Kept, Loaded, Mapped, New, Put, Started, Unmapped, Written, Zeroed}
 use Rattle.av_trace.specs.declared.place.Place.TheVariants.{Auto, At, Fixed, NoReplace}
 use Rattle.av_trace.specs.declared.reply.Errno.{Errno}
-use Rattle.av_trace.specs.declared.reply.Errno.TheVariants.{Ebusy, Einval}
+use Rattle.av_trace.specs.declared.reply.Answer.{Answer}
 use Rattle.av_trace.specs.declared.reply.OutOf.{OutOf}
 use Rattle.av_trace.specs.declared.reply.Reply.{Reply}
 use Rattle.av_vma.specs.Join.{first_of, past_of}
@@ -21,24 +21,24 @@ use Rattle.av_vma.specs.Pages.{AreLaid, makes_anon, pages_in}
 use Rattle.av_vma.specs.declared.area.Area.{Area}
 use Rattle.av_plain.specs.Access.{Accesses, End, pages_of_access}
 use Rattle.av_plain.specs.Areas.{Anons, Rmap, chain_length, none_on, prepare_page, rmap_after_all, with_root}
-use Rattle.av_plain.specs.Device.{HasNoDevice}
-use Rattle.av_plain.specs.Event.{Event, Used, after_all, after_notes, note_events, notes_of, when}
+use Rattle.av_plain.specs.Event.{Event, Moved, TurnedOn, Used, Zapped, after, after_all, after_notes, note_events, notes_of, when}
 use Rattle.av_plain.specs.Fault.{ComesIn, CopyOnWrite, Denied, IsMade, Lost, MapCached, Need, NewPage, Ready, RunsOut, Serves, Sparing, Starved, Stop, SwapIn, Touches, ZeroPage, drop_at, drop_of_entry, drop_of_slot, is_unneeded, need, pinned_by, sparing, was_slot}
 use Rattle.av_plain.specs.Fork.{AreForked, GoOver, GoesBy}
-use Rattle.av_plain.specs.Ledger.{Entry, InFrame, InSlot, Key, Ledger, Setting, Zero, entry, is_on, size_of, slot_of}
-use Rattle.av_plain.specs.Mremap.{events_to}
+use Rattle.av_plain.specs.Ledger.{Entry, InFrame, InSlot, Key, Ledger, Setting, Zero, entry, frame_at, is_orphan, keys_of_slot, slot_of, slots_in_use}
+use Rattle.av_plain.specs.Mremap.{events_to, range_zaps, remap_events}
 use Rattle.av_plain.specs.Pass.{Seeks, Spared, TakesFor}
 use Rattle.av_plain.specs.Refusal.{Refuses, refusal, tests}
 use Rattle.av_plain.specs.Report.{AreApart, range_of}
-use Rattle.av_plain.specs.Sound.{AllSound}
+use Rattle.av_plain.specs.Swapoff.{Close, Closed, Empties, EndsAt, IsEmptied, NoRoom, Unread, map_notes, sparing_area, turn_off_events}
+use Rattle.av_plain.specs.Swapon.{turn_on_events}
 use Rattle.av_plain.specs.Step.{Follows, IsLegal}
 use Rattle.av_plain.specs.Transcript.{IsStep, State, rmap_of}
 use Rattle.av_plain.specs.World.{World}
-use Rattle.av_plain.specs.Zap.{zaps_of}
+use Rattle.av_plain.specs.Zap.{keys_in, orphan_drop, slot_behind_key, zap_of, zaps_of}
 use Rattle.av_plain.proofs.Access.{notes_of-append, notes_of-note_events}
 use Rattle.av_plain.proofs.AreasLeft.{prepare_note, prepare_notes, rmap_after_all-notes}
 use Rattle.av_plain.proofs.Ledger.{how_many-append}
-use Rattle.av_plain.proofs.NoDevice.{in-areas, no-area, no-remap-notes, no-swapon, no-zap-notes, without-device}
+use Rattle.av_plain.proofs.Sound.Swap.Area.{turn-on-events}
 use Rattle.av_plain.proofs.Report.Areas.{all_from, on_first}
 use Rattle.av_plain.proofs.Sound.Pages.{AllBring, Brings, bring-completes, bring-seeks}
 use Rattle.av_plain.proofs.Sound.Swap.{bring-ages, bring-outcomes}
@@ -198,17 +198,100 @@ few-pages write a n h =
     by true = omega arith
     by false = omega (arith, h)
 
+-- ---- entries that go or move, and slots that are emptied
+
+-- the areas that events prepare
+abbrev prepared : List Event → ℕ
+prepared es = news (notes_of es)
+
+two-events : (a b : List Event) → prepared a ≤ 0 → prepared b ≤ 0 → prepared (a ++ b) ≤ 0
+two-events a b x y = same-new (notes_of (a ++ b)) (notes_of a ++ notes_of b) 0 (notes_of-append a b) (two-new (notes_of a) (notes_of b) 0 0 x y)
+
+note-events : (notes : List Note) → news notes ≤ 0 → prepared (note_events notes) ≤ 0
+note-events notes h = same-new (notes_of (note_events notes)) notes 0 (notes_of-note_events notes) h
+
+zap-new : (l : Ledger) (k : Key) → prepared (zap_of l k) ≤ 0
+zap-new l k = by (slot_behind_key l (entry l k))
+  where
+    one : (t : Slot) (b : Bool) → prepared (note_events (when b (Dropped t))) ≤ 0
+    one t true = omega arith
+    one t false = omega arith
+
+    by : (o : Option Slot) → prepared (Zapped k ∷ orphan_drop (after l (Zapped k)) o) ≤ 0
+    by None = omega arith
+    by (Some t) = one t (is_orphan (after l (Zapped k)) t)
+
+zaps-new : (l : Ledger) (ks : List Key) → prepared (zaps_of l ks) ≤ 0
+zaps-new l [] = omega arith
+zaps-new l (k ∷ ks) = two-events (zap_of l k) (zaps_of (after_all l (zap_of l k)) ks) (zap-new l k) (zaps-new (after_all l (zap_of l k)) ks)
+
+remap-new : (l : Ledger) (p from n to k : ℕ) → prepared (remap_events l p from n to k) ≤ 0
+remap-new l p from n to k = by (to == from)
+  where
+    target : List Event
+    target = range_zaps l p to k
+
+    tail : List Event
+    tail = range_zaps (after_all l target) p (from + k) (n - k)
+
+    by : (b : Bool) → prepared (cond b (range_zaps l p (from + k) (n - k)) ((target ++ tail) ++ Moved p (min n k) from to ∷ [])) ≤ 0
+    by true = zaps-new l (keys_in l p (from + k) (n - k))
+    by false = two-events (target ++ tail) (Moved p (min n k) from to ∷ [])
+        (two-events target tail (zaps-new l (keys_in l p to k))
+        (zaps-new (after_all l target) (keys_in (after_all l target) p (from + k) (n - k)))) (omega arith)
+
+maps-new : (s : Slot) (f : ℕ) (ks : List Key) → news (map (λ (k : Key). Mapped k.0 (address_of k.1) f) ks ++ Dropped s ∷ []) ≤ 0
+maps-new s f [] = omega arith
+maps-new s f (k ∷ ks) = let rest = maps-new s f ks in omega (arith, rest)
+
+emptied-new : (m : Setting) (sp : Spared) (l : Ledger) (s : Slot) (notes : List Note) → IsEmptied m sp l s notes → news notes ≤ 0
+emptied-new m sp l s notes h = same-new notes (h.fetched ++ map_notes (after_notes l h.fetched) s h.frame) 0 h.whole
+    (two-new h.fetched (map_notes (after_notes l h.fetched) s h.frame) 0 0 (by (frame_at l s) h.fetches)
+    (maps-new s h.frame (keys_of_slot (after_notes l h.fetched) s)))
+  where
+    by : (o : Option ℕ) → MatchOption o (TakesFor m sp l h.fetched (Loaded s) × (frame_at (after_notes l h.fetched) s ≡ Some h.frame))
+        (λ cached. (h.fetched ≡ []) × (h.frame ≡ cached)) → news h.fetched ≤ 0
+    by None takes = takes-new m sp l h.fetched (Loaded s) 0 (λ f. omega arith) takes.0
+    by (Some f) none = same-new h.fetched [] 0 none.0 (omega arith)
+
+ends-new : (m : Setting) (sp : Spared) (k : ℕ) (l : Ledger) (pages : List ℕ) (notes : List Note) (end : Close) → EndsAt m sp k l pages notes end
+    → news notes ≤ 0
+ends-new m sp k l [] notes end h = same-new notes [] 0 h.0 (omega arith)
+ends-new m sp k l (page ∷ pages) notes end h = let none = seeks-new m sp l notes h.1 in omega (arith, none)
+
+empties-new : (m : Setting) (sp : Spared) (k : ℕ) (l : Ledger) (pages : List ℕ) (notes : List Note) (end : Close) → Empties m sp k l pages notes end
+    → news notes ≤ 0
+empties-new m sp k l [] notes end h = ends-new m sp k l (slots_in_use m l k) notes end h
+empties-new m sp k l (page ∷ pages) notes end h = same-new notes (h.1 ++ h.2) 0 h.4
+    (two-new h.1 h.2 0 0 (emptied-new m sp l (record { area = k; page = page }) h.1 h.5) (empties-new m sp k (after_notes l h.1) pages h.2 end h.6))
+
+off-new : (k : ℕ) (end : Close) → prepared (turn_off_events k end) ≤ 0
+off-new k Closed = omega arith
+off-new k (NoRoom out) = omega arith
+off-new k Unread = omega arith
+
+on-new : (k : ℕ) (answer : Answer) → prepared (turn_on_events k answer) ≤ 0
+on-new k answer = by (turn-on-events k answer)
+  where
+    by : (turn_on_events k answer ≡ []) ⊎ ((slots : ℕ) × (bad : ℕ) × (turn_on_events k answer ≡ TurnedOn k slots bad ∷ []))
+        → prepared (turn_on_events k answer) ≤ 0
+    by (inl e) = same-new (notes_of (turn_on_events k answer)) [] 0 (ap notes_of e) (omega arith)
+    by (inr e) = same-new (notes_of (turn_on_events k answer)) [] 0 (ap notes_of e.2) (omega arith)
+
 -- ---- a legal reply
 
-legal-new : (m : Setting) (w : World) (l : Ledger) (command : Command) (reply : Reply) (es : List Event) → HasNoDevice m → AllSound m w l → IsInRange command
+legal-new : (m : Setting) (w : World) (l : Ledger) (command : Command) (reply : Reply) (es : List Event) → IsInRange command
     → IsLegal m w l command reply es → news (notes_of es) ≤ 8192
-legal-new m w l command reply es none sound fit legal = by (refusal (tests m w l command)) refl legal.answer
+legal-new m w l command reply es fit legal = by (refusal (tests m w l command)) legal.answer
   where
     quiet : (fs : List Event) → es ≡ fs → notes_of fs ≡ [] → news (notes_of es) ≤ 8192
     quiet fs e q = same-new (notes_of es) [] 8192 (ap notes_of e ∙ q) (omega arith)
 
+    quietly : (fs : List Event) → es ≡ fs → prepared fs ≤ 0 → news (notes_of es) ≤ 8192
+    quietly fs e few = same-new (notes_of es) (notes_of fs) 8192 (ap notes_of e) (omega (arith, few))
+
     these : (ks : List Key) → es ≡ zaps_of l ks → news (notes_of es) ≤ 8192
-    these ks e = quiet (zaps_of l ks) e (no-zap-notes m l ks (without-device m l none) (in-areas m w l sound))
+    these ks e = quietly (zaps_of l ks) e (zaps-new l ks)
 
     accessed : (p : ℕ) (write : Bool) (a n : ℕ) (end : End) → n ≤ 4096 → Accesses m w l p (pages_of_access write a n) es end → news (notes_of es) ≤ 8192
     accessed p write a n end few h =
@@ -219,41 +302,48 @@ legal-new m w l command reply es none sound fit legal = by (refusal (tests m w l
     noted notes e bring = let none = none-new notes bring in same-new (notes_of es) notes 8192 (ap notes_of e ∙ notes_of-note_events notes)
         (omega (arith, none))
 
-    follows : (command : Command) → IsInRange command → refusal (tests m w l command) ≡ None → Follows m w l command es reply.answer reply.rows →
+    follows : (command : Command) → IsInRange command → Follows m w l command es reply.answer reply.rows →
         news (notes_of es) ≤ 8192
-    follows (Spawn p) fit fine q = quiet [] q.1 refl
-    follows (Fork p c) fit fine q = quiet _ q.1 refl
-    follows (Exit p) fit fine q = these _ q.1
-    follows (Mmap p len prot Auto) fit fine q = quiet [] q.3 refl
-    follows (Mmap p len prot (At a)) fit fine q = quiet [] q.3 refl
-    follows (Mmap p len prot (Fixed a)) fit fine q = these _ q.3
-    follows (Mmap p len prot (NoReplace a)) fit fine q = quiet [] q.3 refl
-    follows (Munmap p a len) fit fine q = these _ q.1
-    follows (Mprotect p a len prot) fit fine q = quiet [] q.1 refl
-    follows (Mremap p a old new mode) fit fine q = moves q.0 q.3
+    follows (Spawn p) fit q = quiet [] q.1 refl
+    follows (Fork p c) fit q = quiet _ q.1 refl
+    follows (Exit p) fit q = these _ q.1
+    follows (Mmap p len prot Auto) fit q = quiet [] q.3 refl
+    follows (Mmap p len prot (At a)) fit q = quiet [] q.3 refl
+    follows (Mmap p len prot (Fixed a)) fit q = these _ q.3
+    follows (Mmap p len prot (NoReplace a)) fit q = quiet [] q.3 refl
+    follows (Munmap p a len) fit q = these _ q.1
+    follows (Mprotect p a len prot) fit q = quiet [] q.1 refl
+    follows (Mremap p a old new mode) fit q = moves q.0 q.3
       where
         moves : (to : Option ℕ) → es ≡ events_to l p (page_of a) (pages_of old) to (pages_of new) → news (notes_of es) ≤ 8192
         moves None e = quiet [] e refl
-        moves (Some to) e = quiet _ e (no-remap-notes m l p (page_of a) (pages_of old) to (pages_of new) (without-device m l none) (in-areas m w l sound))
-    follows (Read p a n) fit fine q = accessed p false a n q.0 fit.2.most q.2
-    follows (Write p a bytes) fit fine q = accessed p true a (length bytes) q.0 fit.2.0.most q.1
-    follows (Reclaim n) fit fine q = noted q.0 q.3 (bring-outcomes (λ k. false) m (sparing w l None) l (from_tail n l.inactive) q.0 q.1)
-    follows (Age n) fit fine q = noted (map Aged (from_tail n l.active)) q.1 (bring-ages (λ k. false) (from_tail n l.active))
-    follows (Complete n) fit fine q = noted q.0 q.3 (bring-completes (λ k. false) l (take n l.flight) q.0 q.1)
-    follows (Swapon k) fit fine q = absurd (no-swapon m k ((is_on l k, Ebusy) ∷ (size_of m k == 0, Einval) ∷ []) none fine)
-    follows (Swapoff k) fit fine q = absurd (no-area m l k [] none sound.areas_fit fine)
-    follows (Maps p) fit fine q = quiet [] q.2 refl
-    follows (AsksAreas p) fit fine q = quiet [] q.2 refl
-    follows (AsksRmap p a) fit fine q = quiet [] q.1 refl
-    follows (AsksEntry p a) fit fine q = quiet [] q.1 refl
-    follows (AsksSlot k page) fit fine q = quiet [] q.1 refl
-    follows Stat fit fine q = quiet [] q.1 refl
+        moves (Some to) e = quietly _ e (remap-new l p (page_of a) (pages_of old) to (pages_of new))
+    follows (Read p a n) fit q = accessed p false a n q.0 fit.2.most q.2
+    follows (Write p a bytes) fit q = accessed p true a (length bytes) q.0 fit.2.0.most q.1
+    follows (Reclaim n) fit q = noted q.0 q.3 (bring-outcomes (λ k. false) m (sparing w l None) l (from_tail n l.inactive) q.0 q.1)
+    follows (Age n) fit q = noted (map Aged (from_tail n l.active)) q.1 (bring-ages (λ k. false) (from_tail n l.active))
+    follows (Complete n) fit q = noted q.0 q.3 (bring-completes (λ k. false) l (take n l.flight) q.0 q.1)
+    follows (Swapon k) fit q = quietly (turn_on_events k reply.answer) q.1 (on-new k reply.answer)
+    follows (Swapoff k) fit q = quietly (note_events (q.done ++ q.notes) ++ turn_off_events k q.end) q.whole
+        (two-events (note_events (q.done ++ q.notes)) (turn_off_events k q.end)
+        (note-events (q.done ++ q.notes) (two-new q.done q.notes 0 0 (completed q.done (bring-completes (λ k. false) l l.flight q.done q.completes))
+        (empties-new m (sparing_area w k (after_notes l q.done)) k (after_notes l q.done) q.pages q.notes q.end q.empties)))
+        (off-new k q.end))
+      where
+        completed : (notes : List Note) → AllBring (λ k. false) notes → news notes ≤ 0
+        completed notes bring = let none = none-new notes bring in omega (arith, none)
+    follows (Maps p) fit q = quiet [] q.2 refl
+    follows (AsksAreas p) fit q = quiet [] q.2 refl
+    follows (AsksRmap p a) fit q = quiet [] q.1 refl
+    follows (AsksEntry p a) fit q = quiet [] q.1 refl
+    follows (AsksSlot k page) fit q = quiet [] q.1 refl
+    follows Stat fit q = quiet [] q.1 refl
 
-    by : (o : Option Errno) → refusal (tests m w l command) ≡ o → MatchOption o (Follows m w l command es reply.answer reply.rows)
+    by : (o : Option Errno) → MatchOption o (Follows m w l command es reply.answer reply.rows)
         (λ error. Refuses error es reply.answer reply.rows)
         → news (notes_of es) ≤ 8192
-    by None fine q = follows command fit fine q
-    by (Some error) fine q = quiet [] q.1 refl
+    by None q = follows command fit q
+    by (Some error) q = quiet [] q.1 refl
 
 -- ---- how many are made
 
@@ -307,10 +397,10 @@ fork-few p q r next laid (areas, rise, on, goes) =
     count (a ∷ areas) h high = let few = apart-few a areas h high in omega (arith, few)
 
 -- a step of a command of the grammar makes fewer than twice as many as a process may have pages
-pub step-few : (m : Setting) (most : ℕ) (old : State) (command : Command) (reply : Reply) (new : State) → HasNoDevice m → top_page ≤ most
-    → AllSound m old.world old.ledger → CoverBelow most old.world old.areas → IsInRange command → IsStep m old command reply new
+pub step-few : (m : Setting) (most : ℕ) (old : State) (command : Command) (reply : Reply) (new : State) → top_page ≤ most
+    → CoverBelow most old.world old.areas → IsInRange command → IsStep m old command reply new
     → new.anons.next ≤ old.anons.next + 2 * top_page
-step-few m most old command reply new none high sound covers fit step = by (next-cases later old.world command reply.answer (rmap_of new) step.rmap)
+step-few m most old command reply new high covers fit step = by (next-cases later old.world command reply.answer (rmap_of new) step.rmap)
   where
     later : Rmap
     later = rmap_after_all old.ledger step.events (rmap_of old)
@@ -320,7 +410,7 @@ step-few m most old command reply new none high sound covers fit step = by (next
         let same = ap (λ (a : Anons). a.next) (rmap_after_all-notes old.ledger step.events (rmap_of old) (rmap_of old)
         (record { areas = refl; anons = refl })).anons in
         let few = notes-few (notes_of step.events) (rmap_of old) in
-        let notes = legal-new m old.world old.ledger command reply step.events none sound fit step.legal in
+        let notes = legal-new m old.world old.ledger command reply step.events fit step.legal in
         omega (arith, same, few, notes)
 
     by : IsPlain later old.world command reply.answer (rmap_of new) ⊎ IsFork later command reply.answer (rmap_of new)

@@ -58,7 +58,7 @@ runs-back m most old (e ∷ es) new none high room sound small made covers few f
       (step-small m old h.0 e.command e.reply fit.0 small h.1)
       (step-makes m old e.command e.reply h.0 made h.1).made
       (step-covers m most old e.command e.reply h.0 high (omega arith) covers h.1)
-      (let more = step-few m most old e.command e.reply h.0 none high sound covers fit.0 h.1 in
+      (let more = step-few m most old e.command e.reply h.0 high covers fit.0 h.1 in
       omega (arith, few, more)) fit.1 h.2,
 )
 

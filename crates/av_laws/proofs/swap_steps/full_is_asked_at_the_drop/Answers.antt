@@ -5,6 +5,7 @@ use Rattle.av_plain.specs.Access.{Whole}
 use Rattle.av_plain.specs.Event.{Used, note_events}
 use Rattle.av_laws.specs.Examples.{slot}
 use Rattle.av_laws.specs.SwapSteps.{frame_freed, page_in, page_in_and_drop}
+use Rattle.av_laws.proofs.Accesses.{ready}
 use Rattle.av_laws.proofs.swap_steps.full_is_asked_at_the_drop.Goals as goal
 
 pub returns-clause-full_at_the_drop : goal.returns-clause-full_at_the_drop
@@ -87,6 +88,22 @@ returns-clause-half_full_at_the_drop c = (
         refl,
         (refl, refl),
       ),
+      (refl, (refl, tt), (omega arith, tt)),
+      refl,
+      refl,
+    );
+    notes = refl;
+  },
+)
+
+pub returns-clause-found_when_full : goal.returns-clause-found_when_full
+returns-clause-found_when_full c = (
+  Used false (1, 0x10) ∷ [],
+  record {
+    answer = (
+      Whole,
+      0 ∷ [],
+      inl ([], [], (refl, ready refl refl), refl, (refl, refl)),
       (refl, (refl, tt), (omega arith, tt)),
       refl,
       refl,
