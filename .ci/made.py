@@ -40,8 +40,10 @@ CARRIERS = {
     "av_laws": "refusals_change_nothing numbers_add_up replies_are_determined "
     "replies_of_runs_are_read_back runs_lay_areas runs_cover_entries",
     "av_swap_laws": "frames_are_put slots_are_loaded slots_are_dropped soundness_goes_on",
+    "av_evict": "System reclaim age complete seek",
     "av_spaces": "Spaces",
-    "av_mem": "Mem Keeps zap_range zap_all walk",
+    "av_mem": "Mem Keeps KeepsBetween zap_range zap_all walk",
+    "av_reclaim": "Driver reclaim age complete seek",
     "av_fork": "fork_areas fork_entries",
     "av_mremap": "remap_areas remap_entries",
     "av_fault": "touch",
