@@ -16,7 +16,7 @@ import subprocess
 import sys
 import tempfile
 
-from common import ROOT, replies_of, run
+from common import ROOT, replies_of, run, swapfile
 
 # pages of an area that are compared at most
 MOST_PAGES = 24
@@ -216,10 +216,12 @@ def random_lines(pick, live):
         yield f"exit {p}"
 
 
-def random_trace(seed, lines, swap=False):
-    """A trace of commands, most of them good, of processes that share pages."""
+def random_trace(seed, lines, swap=""):
+    """A trace of commands, most of them good, of processes that share pages. `swap` are the
+    commands of swap that may stand in it.
+    """
     pick, live = random.Random(seed), {1}
-    begin = ["swapon 0"] * swap + ["spawn 1", "mmap 1 53248 rw- fixed 20000"]
+    begin = ["swapon 0"] * bool(swap) + ["spawn 1", "mmap 1 53248 rw- fixed 20000"]
     yield from begin
     for _ in range(lines - len(begin)):
         line = pick.choice(list(random_lines(pick, live)))
@@ -227,7 +229,9 @@ def random_trace(seed, lines, swap=False):
             n = pick.randint(1, 4)
             line = pick.choice([f"reclaim {n}", f"reclaim {n}", f"age {n}", f"complete {n}"])
             if pick.random() < 0.05:
-                line = pick.choice(["swapoff 0", "swapon 0"])
+                line = pick.choice(["swapon 0", f"slot 0 {n}"])
+            if pick.random() < 0.02 and "swapoff" in swap:
+                line = "swapoff 0"
         yield line
         name, *words = line.split(" ")
         if name == "fork" and int(words[0]) in live:
@@ -236,18 +240,11 @@ def random_trace(seed, lines, swap=False):
             live.discard(int(words[0]))
 
 
-def swap_file(file, pages):
-    """A swap file of so many pages."""
-    first = bytearray(4096)
-    first[1024:1032] = (1).to_bytes(4, "little") + (pages - 1).to_bytes(4, "little")
-    first[4086:] = b"SWAPSPACE2"
-    with open(file, "wb") as it:
-        it.write(first)
-        it.truncate(pages * 4096)
-
-
-def has_swap(program):
-    return run(program, ["run", "1"], b"reclaim 1\n")[0] == 0
+def swap_of(program):
+    """The commands of swap that a program has."""
+    some = ("swapon 0", "swapoff 0", "reclaim 1", "age 1", "complete 1", "slot 0 1")
+    has = [it for it in some if run(program, ["run", "1"], f"{it}\n".encode())[0] == 0]
+    return " ".join(has) if "reclaim 1" in has else ""
 
 
 def page_of(program, words, trace):
@@ -266,7 +263,8 @@ def page_of(program, words, trace):
 def compare_random(program, seed, lines, generator=None):
     """What is wrong in the page of one random trace, and how many answers were compared."""
     pick = random.Random(seed)
-    words, swap = [str(pick.choice([2, 3, 4, 8, 16, 64]))], has_swap(program) and seed % 3 > 0
+    words = [str(pick.choice([2, 3, 4, 8, 16, 64]))]
+    swap = swap_of(program) if seed % 3 > 0 else ""
     if generator:
         made = subprocess.run(
             [*generator, str(seed), str(lines)], stdout=subprocess.PIPE, check=True
@@ -275,7 +273,7 @@ def compare_random(program, seed, lines, generator=None):
     else:
         trace = list(random_trace(seed, lines, swap))
     if swap:
-        swap_file("random.img", pick.choice([4, 8, 20]))
+        swapfile.make("random.img", pick.choice([4, 8, 20]))
         words.append("random.img")
     page = page_of(program, words, trace)
     if not page.startswith("<!DOCTYPE html>"):
