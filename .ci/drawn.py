@@ -221,8 +221,8 @@ def random_trace(seed, lines, swap=""):
     commands of swap that may stand in it.
     """
     pick, live = random.Random(seed), {1}
-    begin = ["swapon 0"] * bool(swap) + ["spawn 1", "mmap 1 53248 rw- fixed 20000"]
-    yield from begin
+    begin = ["spawn 1", "mmap 1 53248 rw- fixed 20000"]
+    yield from ["swapon 0"] * bool(swap) + begin
     for _ in range(lines - len(begin)):
         line = pick.choice(list(random_lines(pick, live)))
         if swap and pick.random() < 0.4:
@@ -236,8 +236,11 @@ def random_trace(seed, lines, swap=""):
         name, *words = line.split(" ")
         if name == "fork" and int(words[0]) in live:
             live.add(int(words[1]))
-        if name == "exit" and len(live) > 1:
+        if name == "exit":
             live.discard(int(words[0]))
+        if not live:
+            yield from begin
+            live.add(1)
 
 
 def swap_of(program):
