@@ -1,4 +1,5 @@
 """Swap files: the header that makes one, and the machine that the comments of a trace ask for."""
+import itertools
 import os
 import re
 import stat
@@ -52,9 +53,10 @@ def make(file: str, pages: int, bad: list[int] = ()) -> None:
 
 
 def pages_in(text: str) -> list[int]:
-    """The pages of `3, 5 and 8 to 11`."""
+    """The pages of `3, 5 and 8 to 11`. (Of more than a header has room for, the first ones.)"""
     pairs = re.findall(r"(\d+)(?: to (\d+))?", text)
-    return [it for first, last in pairs for it in range(int(first), int(last or first) + 1)]
+    pages = (it for first, last in pairs for it in range(int(first), int(last or first) + 1))
+    return list(itertools.islice(pages, MOST_BAD + 1))
 
 
 def asked_by(trace: str) -> list[tuple[str, int, list[int]]]:
@@ -65,6 +67,46 @@ def asked_by(trace: str) -> list[tuple[str, int, list[int]]]:
         (frames, int(pages or 0), pages_in(bad))
         for frames, pages, bad in MACHINE.findall(trace)
     ]
+
+
+def told_of(file: str) -> tuple[int, list[int]]:
+    """How many pages a swap file has by its header, and which are bad. Of one whose header isn't
+    that of `header` its size tells the pages.
+    """
+    try:
+        with open(file, "rb") as it:
+            page, size = it.read(PAGE), os.fstat(it.fileno()).st_size
+    except OSError:
+        return 0, []
+    if len(page) < PAGE or not page.endswith(SIGNATURE):
+        return size // PAGE, []
+    version, last, count = struct.unpack_from("<III", page, VERSION)
+    if version != 1 or count > MOST_BAD:
+        return size // PAGE, []
+    return last + 1, list(struct.unpack_from(f"<{count}I", page, BAD))
+
+
+def comment_for(frames: str, pages: int, bad: list[int]) -> str:
+    """The comment that asks for a machine, as `asked_by` reads it."""
+    text = f"# Run it with {frames} frame{'s' * (frames != '1')}"
+    if pages:
+        text += f" and a swap file of {pages} page{'s' * (pages != 1)}"
+    if pages and bad:
+        *some, last = ranges_of(bad)
+        text += f", of which {' and '.join([', '.join(some), last] if some else [last])} "
+        text += "is bad" if len(bad) == 1 else "are bad"
+    return f"{text}."
+
+
+def ranges_of(pages: list[int]) -> list[str]:
+    """Pages in words: `3`, or `8 to 11`."""
+    found = []
+    for page in sorted(set(pages)):
+        if found and found[-1][1] + 1 == page:
+            found[-1][1] = page
+        else:
+            found.append([page, page])
+    return [f"{first} to {last}" if first < last else f"{first}" for first, last in found]
 
 
 def words_for(trace: str, room: str) -> list[str]:
