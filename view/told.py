@@ -74,8 +74,8 @@ class Told:
         self.owners: dict[int, set[tuple[int, int]]] = {}
         self.frame_at: dict[str, int] = {}
         self.slot_of: dict[int, str] = {}
-        # frames with their list and place (the greatest place of a list is its head), slots in flight
-        # with theirs, and how many entries name a slot
+        # frames with their list and place (the greatest place of a list is its head), slots in
+        # flight with theirs, and how many entries name a slot
         self.lists: dict[int, tuple[int, int]] = {}
         self.flight: dict[str, int] = {}
         self.named: dict[str, int] = {}
