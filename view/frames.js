@@ -104,8 +104,10 @@ function listOf(title, cells, said) {
 }
 
 function slotCell(slot, text) {
-  const marks = `${change.slots.has(slot) ? " new" : ""}${text === "?" ? " dim" : ""}`;
-  const cell = make("span", `cell slot${marks}`, `${slot} ${text}`.trim());
+  // (one that nothing names is free)
+  const looks = {"?": " dim", "count 0": " none"}[text] || "";
+  const isNew = change.slots.has(slot) ? " new" : "";
+  const cell = make("span", `cell slot${isNew}${looks}`, `${slot} ${text}`.trim());
   cell.dataset.slot = slot;
   return cell;
 }
