@@ -30,6 +30,12 @@ function shown() {
     if (owners.length) found.push(`frame ${card.dataset.frame} ${owners.join(", ")}`);
   }
   for (const it of document.querySelectorAll("[data-link]")) found.push(`link ${it.dataset.link}`);
+  if (!at("swap").hidden) {
+    for (const title of document.querySelectorAll("#lists h3")) {
+      const cells = [...title.nextSibling.querySelectorAll(".cell")].map(it => it.textContent);
+      found.push(`${title.textContent}: ${cells.join(", ")}`);
+    }
+  }
   return found.sort().join("\n");
 }
 

@@ -11,6 +11,9 @@ import subprocess
 import sys
 
 ROOT = os.path.dirname(os.path.dirname(os.path.abspath(__file__)))
+sys.path.insert(0, f"{ROOT}/tools")
+
+import swapfile  # pylint: disable=wrong-import-position
 
 
 class Check:
@@ -77,13 +80,14 @@ def bytes_of(shown):
 
 class Session:
     """A session as the documents show it, in a block of code: `$ avsim run FRAMES`, lines behind
-    `> `, and each one's reply below it.
+    `> `, and each one's reply below it. Where a swap file is named, a `$ tools/make-swap` of it
+    stands before that, in the block or earlier in the document.
 
     A later block that begins with `> ` goes on with it.
     """
 
-    def __init__(self, frames, place):
-        self.frames, self.place, self.lines, self.text = frames, place, [], ""
+    def __init__(self, frames, place, swap=None):
+        self.frames, self.place, self.swap, self.lines, self.text = frames, place, swap, [], ""
 
     def trace(self):
         return "".join(f"{it}\n" for it in self.lines)
@@ -94,6 +98,18 @@ class Session:
                 self.lines.append(line[2:])
             else:
                 self.text += f"{line}\n"
+
+    def words(self, room):
+        """The words behind `run`. The swap file is made in a folder."""
+        if not self.swap:
+            return [self.frames]
+        file = os.path.join(room, "session.img")
+        ran = subprocess.run(
+            [f"{ROOT}/tools/make-swap", *self.swap.split(" "), file],
+            stdout=subprocess.DEVNULL,
+            check=False,
+        )
+        return [self.frames, file if ran.returncode == 0 else "no-such-swap-file"]
 
 
 def blocks_of(text):
@@ -112,14 +128,20 @@ def blocks_of(text):
 
 def sessions_of(file):
     """The sessions that a document shows."""
-    found = []
+    found, swaps = [], {}
     with open(f"{ROOT}/{file}", encoding="utf-8") as it:
         text = it.read()
     for number, block in blocks_of(text):
-        begins = re.fullmatch(r"\$ (?:\./)?avsim run (\d+)", block[0])
-        if begins:
-            found.append(Session(begins[1], f"{file}, line {number}"))
-            found[-1].add(block[1:])
-        elif block[0].startswith("> ") and found:
+        for at, line in enumerate(block):
+            made = re.fullmatch(r"\$ (?:\./)?tools/make-swap ([\d -]+) (\S+)", line)
+            begins = re.fullmatch(r"\$ (?:\./)?avsim run (\d+)(?: ([^<|\s]+))?", line)
+            if made:
+                swaps[made[2]] = made[1]
+            if begins:
+                swap = swaps.get(begins[2], "none") if begins[2] else None
+                found.append(Session(begins[1], f"{file}, line {number + at}", swap))
+                found[-1].add(block[at + 1 :])
+                break
+        if block[0].startswith("> ") and found:
             found[-1].add(block)
     return found

@@ -6,7 +6,8 @@ are); `compare` holds each step of a page against `areas`, `entry`, `rmap`, `slo
 
 Called as `.ci/drawn.py PROGRAM COUNT [GENERATOR..]` it compares the pages of COUNT random traces,
 with swap where the program has it. They are its own or, where a command is named that makes one,
-called with a seed and a number of lines, that command's; its first line then says `frames=N`.
+called with a seed and a number of lines, that command's. Its first line then says `frames=N` and,
+where there is a swap file, `swaps=PAGES` or, with bad pages, as `swaps=16b3+5-7`.
 """
 import json
 import os
@@ -16,10 +17,12 @@ import subprocess
 import sys
 import tempfile
 
-from common import ROOT, replies_of, run
+from common import ROOT, replies_of, run, swapfile
 
 # pages of an area that are compared at most
 MOST_PAGES = 24
+# steps of a page at which the order of the lists is compared, about
+LIST_PLACES = 12
 
 
 class Drawn:
@@ -27,7 +30,7 @@ class Drawn:
 
     def __init__(self):
         self.tables, self.dim, self.rows = {}, set(), {}
-        self.cached, self.counts, self.flight, self.active = {}, {}, set(), set()
+        self.cached, self.counts, self.flight, self.listed = {}, {}, {}, {}
         self.stat, self.lists = "", True
 
     def apply(self, ops):
@@ -80,14 +83,26 @@ class Drawn:
     def op_k(self, slot, text):
         self.counts[slot] = text
 
-    def op_l(self, frame, is_on):
-        (self.active.add if is_on else self.active.discard)(frame)
+    def op_l(self, frame, which, place):
+        self.listed.pop(frame, None)
+        if which:
+            self.listed[frame] = which, place
 
-    def op_w(self, slot, is_on):
-        (self.flight.add if is_on else self.flight.discard)(slot)
+    def op_w(self, slot, place):
+        self.flight.pop(slot, None)
+        if place:
+            self.flight[slot] = place
 
     def op_o(self, is_known):
         self.lists = is_known
+
+    def in_list(self, which):
+        """The frames of a list (1 inactive, 2 active), from the tail."""
+        found = [it for it, (of, _) in self.listed.items() if of == which]
+        return sorted(found, key=lambda it: self.listed[it][1])
+
+    def in_flight(self):
+        return sorted(self.flight, key=lambda it: self.flight[it])
 
     def op_s(self, text):
         self.stat = text
@@ -160,7 +175,8 @@ def numbers_wrong(drawn):
     if not drawn.dim:
         told["free"] = int(numbers["frames"]) - len(in_use)
     if drawn.lists:
-        told.update(active=len(drawn.active), flight=len(drawn.flight))
+        told.update(active=len(drawn.in_list(2)), inactive=len(drawn.in_list(1)))
+        told.update(flight=len(drawn.flight))
     return {key: (it, numbers[key]) for key, it in told.items() if int(numbers[key]) != it}
 
 
@@ -188,7 +204,53 @@ def compare(program, words, data):
     for (step, line, answer), reply in zip(wanted, given):
         if answer is not None and reply != f"{answer}\n":
             wrong.append(f"line {step['n']}, {step['c']}: {line}: drawn {answer!r}, is {reply!r}")
-    return wrong, len(wanted)
+    found, count = compare_lists(program, words, data)
+    return wrong + found, len(wanted) + count
+
+
+def order_in(notes, frame_at):
+    """The frames or slots in the order in which notes end their part: of `age 16384` and
+    `complete 16384` all, of `reclaim 16384` the frames.
+    """
+    for note in notes:
+        match note.split():
+            case ["age" | "keep", frame, *_]:
+                yield int(frame)
+            case ["drop", slot] if frame_at is not None:
+                yield frame_at[slot]
+            case ["put", frame, slot] if frame_at is not None:
+                frame_at[slot] = int(frame)
+            case ["done" | "fail", slot]:
+                yield slot
+
+
+def compare_lists(program, words, data):
+    """What is wrong in the order of the lists and of what is in flight, at some steps: commands
+    that go through all of them show it.
+    """
+    drawn, lines, wrong, count = Drawn(), [], [], 0
+    drawn.apply(data["base"])
+    if data["first"] > 1 or not any(it["c"].startswith("swapon") for it in data["steps"]):
+        return [], 0
+    every = max(len(data["steps"]) // LIST_PLACES, 1)
+    for at, step in enumerate(data["steps"], 1):
+        drawn.apply(step["o"])
+        lines.append(step["c"])
+        if at % every or not drawn.lists:
+            continue
+        for line, wanted in (
+            ("reclaim 16384", drawn.in_list(1)),
+            ("age 16384", drawn.in_list(2)),
+            ("complete 16384", drawn.in_flight()),
+        ):
+            trace = "".join(f"{it}\n" for it in [*lines, line]).encode()
+            reply = replies_of(run(program, ["run", *words], trace)[1])[-1]
+            frame_at = dict(drawn.cached) if line[0] == "r" else None
+            given = list(order_in(reply.split("\n")[1:-1], frame_at))
+            count += 1
+            if given != wanted:
+                wrong.append(f"line {step['n']}, {step['c']}: {line}: {wanted} drawn, is {given}")
+    return wrong, count
 
 
 def random_lines(pick, live):
@@ -216,38 +278,38 @@ def random_lines(pick, live):
         yield f"exit {p}"
 
 
-def random_trace(seed, lines, swap=False):
-    """A trace of commands, most of them good, of processes that share pages."""
+def random_trace(seed, lines, swap=""):
+    """A trace of commands, most of them good, of processes that share pages. `swap` are the
+    commands of swap that may stand in it.
+    """
     pick, live = random.Random(seed), {1}
-    begin = ["swapon 0"] * swap + ["spawn 1", "mmap 1 53248 rw- fixed 20000"]
-    yield from begin
+    begin = ["spawn 1", "mmap 1 53248 rw- fixed 20000"]
+    yield from ["swapon 0"] * bool(swap) + begin
     for _ in range(lines - len(begin)):
         line = pick.choice(list(random_lines(pick, live)))
         if swap and pick.random() < 0.4:
             n = pick.randint(1, 4)
             line = pick.choice([f"reclaim {n}", f"reclaim {n}", f"age {n}", f"complete {n}"])
             if pick.random() < 0.05:
-                line = pick.choice(["swapoff 0", "swapon 0"])
+                line = pick.choice(["swapon 0", f"slot 0 {n}"])
+            if pick.random() < 0.02 and "swapoff" in swap:
+                line = "swapoff 0"
         yield line
         name, *words = line.split(" ")
         if name == "fork" and int(words[0]) in live:
             live.add(int(words[1]))
-        if name == "exit" and len(live) > 1:
+        if name == "exit":
             live.discard(int(words[0]))
+        if not live:
+            yield from begin
+            live.add(1)
 
 
-def swap_file(file, pages):
-    """A swap file of so many pages."""
-    first = bytearray(4096)
-    first[1024:1032] = (1).to_bytes(4, "little") + (pages - 1).to_bytes(4, "little")
-    first[4086:] = b"SWAPSPACE2"
-    with open(file, "wb") as it:
-        it.write(first)
-        it.truncate(pages * 4096)
-
-
-def has_swap(program):
-    return run(program, ["run", "1"], b"reclaim 1\n")[0] == 0
+def swap_of(program):
+    """The commands of swap that a program has."""
+    some = ("swapon 0", "swapoff 0", "reclaim 1", "age 1", "complete 1", "slot 0 1")
+    has = [it for it in some if run(program, ["run", "1"], f"{it}\n".encode())[0] == 0]
+    return " ".join(has) if "reclaim 1" in has else ""
 
 
 def page_of(program, words, trace):
@@ -263,20 +325,40 @@ def page_of(program, words, trace):
     return ran.stdout.decode() or ran.stderr.decode()
 
 
+def swap_asked(text):
+    """The pages of the swap file that a generator names, with the bad ones; none without it."""
+    found = re.search(r"\bswaps=(\d+)(?:b([\d+-]+))?", text)
+    if not found:
+        return None
+    ends = [it.split("-") for it in (found[2] or "").split("+") if it]
+    bad = [page for it in ends for page in range(int(it[0]), int(it[-1]) + 1)]
+    return int(found[1]), bad
+
+
+def machine_of(program, seed, trace):
+    """The words behind `run` for a random trace, or one of a generator."""
+    pick = random.Random(seed)
+    frames = re.search(r"frames=(\d+)", trace[0])
+    words = [frames[1] if frames else str(pick.choice([2, 3, 4, 8, 16, 64]))]
+    swap = swap_asked(trace[0])
+    if not frames and seed % 3 > 0 and swap_of(program):
+        swap = pick.choice([4, 8, 20]), []
+    if swap:
+        swapfile.make("random.img", *swap)
+        words.append("random.img")
+    return words
+
+
 def compare_random(program, seed, lines, generator=None):
     """What is wrong in the page of one random trace, and how many answers were compared."""
-    pick = random.Random(seed)
-    words, swap = [str(pick.choice([2, 3, 4, 8, 16, 64]))], has_swap(program) and seed % 3 > 0
     if generator:
         made = subprocess.run(
             [*generator, str(seed), str(lines)], stdout=subprocess.PIPE, check=True
         ).stdout.decode()
-        trace, words = made.splitlines(), [re.search(r"frames=(\d+)", made)[1]]
+        trace = made.splitlines()
     else:
-        trace = list(random_trace(seed, lines, swap))
-    if swap:
-        swap_file("random.img", pick.choice([4, 8, 20]))
-        words.append("random.img")
+        trace = list(random_trace(seed, lines, swap_of(program) if seed % 3 > 0 else ""))
+    words = machine_of(program, seed, trace)
     page = page_of(program, words, trace)
     if not page.startswith("<!DOCTYPE html>"):
         return [page], 0

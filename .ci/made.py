@@ -28,7 +28,7 @@ CARRIERS = {
     "av_interval": "Spans search",
     "av_chain": "Links unlink_from each_link_stands_once",
     "av_anon": "Anons order kin",
-    "av_rmap": "walk walk_sorted walk_frame any_seen clear_seen",
+    "av_rmap": "walk walk_sorted walk_frame any_seen clear_seen unmap",
     "av_vmatree": "Tree",
     "av_merge": "map unmap modify move_range grow prepare fork unmap_all "
     "parts_are_changed_page_by_page",
@@ -40,8 +40,10 @@ CARRIERS = {
     "av_laws": "refusals_change_nothing numbers_add_up replies_are_determined "
     "replies_of_runs_are_read_back runs_lay_areas runs_cover_entries",
     "av_swap_laws": "frames_are_put slots_are_loaded slots_are_dropped soundness_goes_on",
+    "av_evict": "System reclaim age complete seek",
     "av_spaces": "Spaces",
-    "av_mem": "Mem Keeps zap_range zap_all walk",
+    "av_mem": "Mem Keeps KeepsBetween zap_range zap_all walk",
+    "av_reclaim": "Driver reclaim age complete seek",
     "av_fork": "fork_areas fork_entries",
     "av_mremap": "remap_areas remap_entries",
     "av_fault": "touch",

@@ -157,8 +157,13 @@ def of_kind(kind, word, form):
         of_decimal("a length", word, 0, 2**64 - 1)
     elif kind == "N" and form.name == "read":
         of_decimal("a number of bytes", word, 1, 4096)
-    elif kind in ("N", "K", "M"):
-        of_decimal("a number", word, 0, 2**64 - 1)
+    elif kind == "N":
+        what = "slots" if form.name == "complete" else "frames"
+        of_decimal(f"a number of {what}", word, 1, 16384)
+    elif kind == "K":
+        of_area(word)
+    elif kind == "M":
+        of_decimal("a page of a swap area", word, 0, 2**32 - 1)
     elif kind in ("A", "B"):
         of_address(word)
     elif kind == "HEX":
@@ -184,8 +189,23 @@ def of_decimal(what, word, least, most):
         raise Reason(f"{what} has no leading zero{see}")
     # (a number of very many digits is too great without being read)
     if len(word) > 20 or not least <= int(word) <= most:
-        bound = f"is {least} to {most}" if least else f"is at most {most}, below 2^64"
+        bound = f"is {least} to {most}"
+        if most > 2**16:
+            bound = f"is at most {most}, below 2^{most.bit_length()}"
         raise Reason(f"{what} {bound}{see}")
+
+
+def of_area(word):
+    """A swap area: its number, 0 to 7."""
+    if re.fullmatch("[0-9]+:[0-9]+", word):
+        raise Reason(f"area and page of a slot are two words: {printable(word)}", "slot")
+    if re.search("[/.]|[g-zG-Z_]", word):
+        raise Reason(
+            "a swap area has a number, and its file stands on the command line: "
+            f"{printable(word)}",
+            "Command line",
+        )
+    of_decimal("a swap area", word, 0, 7)
 
 
 def of_address(word):

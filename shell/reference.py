@@ -12,9 +12,7 @@ from program import Refused
 
 FILE = os.path.join(os.path.dirname(os.path.realpath(__file__)), "..", "docs", "REFERENCE.md")
 # commands that the program gets in a later version, as long as the reference has none of them
-LATER = (
-    "reclaim age complete swapon swapoff slot madvise mlock munlock merge compact".split()
-)
+LATER = ("swapoff", "madvise", "mlock", "munlock", "merge", "compact")
 
 
 class Form:
@@ -88,7 +86,7 @@ def lines_of(section, width):
         else:
             for row in rows:
                 row = row.lstrip("#").strip()
-                begin = "  " if row.startswith("- ") else ""
+                begin = " " * len(re.match(r"(- |\d+\. )?", row)[0])
                 yield from textwrap.wrap(plain(row), width, subsequent_indent=begin)
         yield ""
 

@@ -7,11 +7,15 @@ for `undo`, a new one is given the lines again: the same lines have the same rep
 import contextlib
 import errno
 import os
-import re
+import sys
 import tempfile
 
 from program import EarlyEnd, Judge, Live, Refused
 
+ROOT = os.path.dirname(os.path.dirname(os.path.realpath(__file__)))
+sys.path.append(f"{ROOT}/tools")
+
+from swapfile import asked_by, comment_for, told_of  # pylint: disable=wrong-import-position
 
 # bytes of a file that is loaded
 MOST_LOADED = 1 << 28
@@ -128,17 +132,22 @@ class Session:
             lines.pop()
         return self.do(*([it] for it in lines))
 
-    def frames_asked(self):
-        """How many frames the last comment that says it asks for, as `Run it with 4 frames.`"""
-        text = b"\n".join(self.lines())
-        found = re.findall(rb"^#.*\bRun it with (\d{1,9}) frames?\.", text, re.M)
-        return found[-1].decode() if found else None
+    def machine(self):
+        """The comment that asks for the machine of this session: its frames and its swap file."""
+        pages, bad = told_of(self.words[1]) if self.words[1:] else (0, [])
+        return comment_for(self.words[0], pages, bad)
+
+    def machine_asked(self):
+        """The comment of the last machine that a line asks for, as `Run it with 4 frames.`"""
+        text = b"\n".join(self.lines()).decode("utf-8", "replace")
+        found = asked_by(text)
+        return comment_for(*found[-1]) if found else None
 
     def save(self, name):
         """Writes the lines to a file. One that is there is replaced when all is written."""
         lines = self.lines()
-        head = f"# Run it with {self.words[0]} frame{'s' * (self.words[0] != '1')}.".encode()
-        if head not in lines:
+        head = self.machine().encode()
+        if self.machine_asked() != self.machine():
             lines = [head, *lines]
         data = b"".join(it + b"\n" for it in lines)
         try:

@@ -134,9 +134,10 @@ class Talk:
         for line, reply in zip(commands[-len(replies) :], replies):
             self.remember(line.decode("ascii"), reply)
         self.screen.own(f"loaded: {plural(len(replies), 'command')} of {words[0]}")
-        asked = self.session.frames_asked()
-        if asked and asked != self.session.words[0]:
-            self.screen.own(f"it is for {plural(int(asked), 'frame')}, and not for this machine")
+        asked = self.session.machine_asked()
+        if asked and asked != self.session.machine():
+            wanted = asked.removeprefix("# Run it with ").removesuffix(".")
+            self.screen.own(f"it is for {wanted}, and not for this machine")
 
     def help(self, words):
         """`help`, `help COMMAND`: what the reference says."""

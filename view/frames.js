@@ -104,27 +104,37 @@ function listOf(title, cells, said) {
 }
 
 function slotCell(slot, text) {
-  const marks = `${change.slots.has(slot) ? " new" : ""}${text === "?" ? " dim" : ""}`;
-  return make("span", `cell slot${marks}`, `${slot} ${text}`.trim());
+  // (one that nothing names is free)
+  const looks = {"?": " dim", "count 0": " none"}[text] || "";
+  const isNew = change.slots.has(slot) ? " new" : "";
+  const cell = make("span", `cell slot${isNew}${looks}`, `${slot} ${text}`.trim());
+  cell.dataset.slot = slot;
+  return cell;
 }
+
+// the lists, numbered as in view/told.py, head first; and what is in flight, the first to be
+// completed first
+const INACTIVE = 1, ACTIVE = 2;
+const framesIn = list => [...state.lists].filter(([, it]) => it.list === list)
+  .sort(([, a], [, b]) => b.place - a.place).map(([frame]) => frame);
+const inFlight = () => [...state.flight].sort(([, a], [, b]) => a - b).map(([slot]) => slot);
 
 function showSwap() {
   at("swap").hidden = !hasSwap();
   if (at("swap").hidden) return;
-  const used = [...usedFrames()].sort((a, b) => a - b);
   const [area, page] = [it => Number(it.split(":")[0]), it => Number(it.split(":")[1])];
   const slots = [...state.counts].sort(([a], [b]) => area(a) - area(b) || page(a) - page(b));
   // (those that changed come first where there are too many)
   const changedFirst = ([a], [b]) => change.slots.has(b) - change.slots.has(a);
   if (slots.length > MOST_CELLS) slots.sort(changedFirst);
   const known = state.listsKnown;
-  const frames = isActive => used.filter(it => state.active.has(it) === isActive).map(newFrameCell);
-  const count = known ? it => `${it.length}` : () => "which isn't known";
-  const flight = [...state.flight].map(it => slotCell(it, ""));
-  const lists = [frames(true), frames(false), flight].map(it => (known ? it : []));
+  const lists = [ACTIVE, INACTIVE].map(it => (known ? framesIn(it).map(newFrameCell) : []));
+  const flight = known ? inFlight().map(it => slotCell(it, "")) : [];
+  const title = (name, cells) => `${name}${known ? `: ${cells.length}` : ": not known"}`;
+  const none = known ? "none" : "?";
   at("lists").replaceChildren(
-    ...listOf(`active: ${count(lists[0])}`, lists[0], known ? "none" : "?"),
-    ...listOf(`inactive: ${count(lists[1])}`, lists[1], known ? "none" : "?"),
-    ...listOf("being written", lists[2], known ? "none" : "?"),
+    ...listOf(title("active, from the head", lists[0]), lists[0], none),
+    ...listOf(title("inactive, from the head", lists[1]), lists[1], none),
+    ...listOf(title("in flight, in order", flight), flight, none),
     ...listOf("slots", slots.map(([slot, text]) => slotCell(slot, text)), "none was named"));
 }

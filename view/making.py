@@ -245,7 +245,10 @@ def take(told: Told, ask: str, answer: str) -> bool:
     elif kind == "entry":
         return told.answer_entry(int(of[0]), page_of(int(of[1], 16)), answer)
     elif kind == "slot":
-        told.answer_slot(":".join(of), answer.split(" ", 2)[2] if is_there else "")
+        text = answer.split(" ", 2)[2] if is_there else ""
+        told.answer_slot(":".join(of), text)
+        known = told.slot_text(":".join(of))
+        return text in ("", "bad", known) or "?" in known
     elif is_there:
         told.answer_stat(answer[5:])
     return True
@@ -282,17 +285,15 @@ def follow(run: Run, progress: Progress):
         yield command, reply, told, same
 
 
-def lost_at(run: Run) -> list[int]:
-    """The steps of which not all that they did is told, from 0. (For a terminal, where nothing
-    is asked.)
-    """
-    told, found = Told(), []
-    for at, (command, reply) in enumerate(zip(run.commands, run.replies)):
+def told_at(run: Run):
+    """What is told up to each command. (For a terminal, where nothing is asked.)"""
+    told = Told()
+    for command, reply in zip(run.commands, run.replies):
         told.tell(command.line.split(" "), reply)
         told.ops.clear()
-        if told.lost:
-            found.append(at)
-    return found
+        # (nobody asks which list a frame is in, or what entries there are)
+        told.lists_known = told.lists_known and not told.lost
+        yield told
 
 
 def window_of(wanted: tuple[int, int] | None, count: int) -> tuple[int, int]:
@@ -330,7 +331,7 @@ def data_of(title: str, frames: int, run: Run, wanted: tuple[int, int] | None) -
         )
     if wrong:
         said.append(
-            f"from line {wrong} on the notes and `entry` tell entries apart: "
+            f"from line {wrong} on notes tell otherwise than `entry` or `slot` does: "
             "that is a fault, please tell"
         )
     if lost:

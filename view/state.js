@@ -13,7 +13,7 @@ const hex = page => (page ? page.toString(16) + "000" : "0");
 
 const state = {
   processes: new Map(), owners: new Map(), cached: new Map(), slots: new Map(),
-  counts: new Map(), active: new Set(), flight: new Set(), stat: "", listsKnown: true,
+  counts: new Map(), lists: new Map(), flight: new Map(), stat: "", listsKnown: true,
 };
 // what the step shown changed: entries, rows and processes as they were, and frames
 let change = null;
@@ -33,14 +33,6 @@ function setIn(map, key, value) {
   if (value === undefined) map.delete(key);
   else map.set(key, value);
   undo.push(() => (had ? map.set(key, old) : map.delete(key)));
-}
-
-function setMember(set, key, isIn) {
-  const was = set.has(key);
-  if (was === isIn) return;
-  if (isIn) set.add(key);
-  else set.delete(key);
-  undo.push(() => (was ? set.add(key) : set.delete(key)));
 }
 
 const frameOf = code => (code[0] === "f" || code[0] === "F" ? Number(code.slice(1)) : -1);
@@ -211,12 +203,12 @@ const operations = {
     setIn(state.counts, slot, text || undefined);
     change?.slots.add(slot);
   },
-  l: (frame, isOn) => {
-    setMember(state.active, frame, Boolean(isOn));
+  l: (frame, list, place) => {
+    setIn(state.lists, frame, list ? {list, place} : undefined);
     ownersChange(frame);
   },
-  w: (slot, isOn) => {
-    setMember(state.flight, slot, Boolean(isOn));
+  w: (slot, place) => {
+    setIn(state.flight, slot, place || undefined);
     change?.slots.add(slot);
   },
   o: isKnown => setField(state, "listsKnown", Boolean(isKnown)),

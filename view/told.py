@@ -3,8 +3,10 @@
 `Told` is no second model of memory. It takes what the program's own words say: a note names an
 entry and what it becomes. Three things are told by a command as a whole, and are copies that no
 note repeats: a fork gives the child its parent's entries, unseen; an `mremap` takes the entries
-along to the new range; what is unmapped or mapped anew has no entry. Whatever else a line may do
-is not known, and is said to be so.
+along to the new range; what is unmapped or mapped anew has no entry. A note also says where a
+frame goes in the lists, by the rule of its kind: `new`, `copy`, `load` and `age` to the head of
+inactive, `done` to its tail, `keep` to the head of the list that its cause names. Whatever else a
+line may do is not known, and is said to be so.
 
 An entry is kept as a code: `z` the page of zeros, `F7` frame 7 and seen, `f7` frame 7 and old,
 `s0:3` slot 0:3, `-` none, `?` not known. A page without a code has no entry, but of a process in
@@ -22,12 +24,14 @@ Each change is also an operation, a list that a page applies (view/state.js):
     a P [N] [ROW]   areas that begin at pages N are gone, and these rows of `areas` are there
     c S F           slot S is cached in frame F (-1: in none)
     k S TEXT        what `slot` says of S (none: nothing is drawn)
-    l F IS          frame F is in the active list, or isn't
-    w S IS          slot S is being written, or isn't
-    o IS            in which list each frame is, is known, or isn't
+    l F L N         frame F is in the list L (0 none, 1 inactive, 2 active) at the place N
+    w S N           the write of slot S is in flight at the place N (0: it isn't)
+    o IS            the lists and what is in flight are known, or aren't
     s TEXT          what `stat` says
 """
 
+# the lists
+INACTIVE, ACTIVE = 1, 2
 # commands that change nothing
 REPORTS = {"maps", "areas", "entry", "rmap", "slot", "stat"}
 # commands that notes tell all of, but for a seen bit
@@ -70,8 +74,12 @@ class Told:
         self.owners: dict[int, set[tuple[int, int]]] = {}
         self.frame_at: dict[str, int] = {}
         self.slot_of: dict[int, str] = {}
-        self.active: set[int] = set()
-        self.flight: dict[str, bool] = {}
+        # frames with their list and place (the greatest place of a list is its head), slots in
+        # flight with theirs, and how many entries name a slot
+        self.lists: dict[int, tuple[int, int]] = {}
+        self.flight: dict[str, int] = {}
+        self.named: dict[str, int] = {}
+        self.head = self.tail = self.last = 0
         self.counts: dict[str, str] = {}
         self.rows: dict[int, list[str]] = {}
         self.numbers, self.lists_known = "", True
@@ -87,6 +95,7 @@ class Told:
             self.owners.setdefault(frame, set()).add((process, page))
         elif code[:1] == "s":
             self.touched.add(code[1:])
+            self.named[code[1:]] = self.named.get(code[1:], 0) + 1
 
     def unlink(self, process: int, page: int, code: str) -> None:
         frame = frame_of(code)
@@ -100,16 +109,30 @@ class Told:
                 self.touched.add(self.slot_of[frame])
         elif code[:1] == "s":
             self.touched.add(code[1:])
+            self.named[code[1:]] -= 1
+            if not self.named[code[1:]]:
+                del self.named[code[1:]]
 
     def leave(self, frame: int) -> None:
         """A frame that nothing names any more is in no list."""
-        if frame not in self.owners and frame not in self.slot_of:
-            self.enlist(frame, False)
+        if frame not in self.owners and frame not in self.slot_of and frame in self.lists:
+            del self.lists[frame]
+            self.ops.append(["l", frame, 0, 0])
 
-    def enlist(self, frame: int, is_active: bool) -> None:
-        if is_active != (frame in self.active):
-            (self.active.add if is_active else self.active.discard)(frame)
-            self.ops.append(["l", frame, int(is_active)])
+    def enlist(self, frame: int, which: int, is_tail: bool = False) -> None:
+        """A frame goes to the head of a list, or to its tail."""
+        self.head, self.tail = self.head + (not is_tail), self.tail - is_tail
+        self.lists[frame] = which, self.tail if is_tail else self.head
+        self.ops.append(["l", frame, *self.lists[frame]])
+
+    def in_list(self, which: int) -> list[int]:
+        """The frames of a list, head first."""
+        found = [it for it, (of, _) in self.lists.items() if of == which]
+        return sorted(found, key=lambda it: -self.lists[it][1])
+
+    def in_flight(self) -> list[str]:
+        """The slots in flight, first the one that is completed first."""
+        return sorted(self.flight, key=lambda it: self.flight[it])
 
     def put(self, process: int, page: int, code: str) -> None:
         """The entry of a page is this."""
@@ -221,12 +244,12 @@ class Told:
 
     def fly(self, slot: str, is_on: bool) -> None:
         self.touched.add(slot)
-        if is_on != (slot in self.flight):
-            if is_on:
-                self.flight[slot] = True
-            else:
-                del self.flight[slot]
-            self.ops.append(["w", slot, int(is_on)])
+        if is_on:
+            self.last += 1
+            self.flight[slot] = self.last
+        elif self.flight.pop(slot, 0) == 0:
+            return
+        self.ops.append(["w", slot, self.flight.get(slot, 0)])
 
     def clear_seen(self, frame: int) -> None:
         for process, page in sorted(self.owners.get(frame, ())):
@@ -239,16 +262,16 @@ class Told:
     def keep(self, frame: int, cause: str) -> None:
         if cause == "referenced":
             self.clear_seen(frame)
-        self.enlist(frame, cause in ("referenced", "noslot"))
+        self.enlist(frame, ACTIVE if cause in ("referenced", "noslot") else INACTIVE)
 
     def age(self, frame: int) -> None:
         self.clear_seen(frame)
-        self.enlist(frame, False)
+        self.enlist(frame, INACTIVE)
 
     def done(self, slot: str) -> None:
         self.fly(slot, False)
         if slot in self.frame_at:
-            self.enlist(self.frame_at[slot], False)
+            self.enlist(self.frame_at[slot], INACTIVE, is_tail=True)
 
     def note(self, words: list[str]) -> bool:
         """What a note says; False where it can't be read."""
@@ -262,10 +285,14 @@ class Told:
             case ["zero", process, at]:
                 self.put(int(process), page_of(int(at, 16)), "z")
             case ["new" | "copy", process, at, frame]:
+                self.enlist(int(frame), INACTIVE)
                 self.put(int(process), page_of(int(at, 16)), f"F{frame}")
             case ["map", process, at, frame]:
                 self.put(int(process), page_of(int(at, 16)), f"f{frame}")
-            case ["load", slot, frame] | ["put", frame, slot]:
+            case ["load", slot, frame]:
+                self.enlist(int(frame), INACTIVE)
+                self.cache(slot, int(frame))
+            case ["put", frame, slot]:
                 self.cache(slot, int(frame))
             case ["unmap", frame] if int(frame) in self.slot_of:
                 self.unmap(int(frame))
@@ -348,9 +375,13 @@ class Told:
             self.numbers = text
             self.ops.append(["s", text])
         numbers = dict(it.split("=", 1) for it in text.split(" ") if "=" in it)
-        known = numbers.get("active") == str(len(self.active)) and numbers.get("flight") == str(
-            len(self.flight)
-        )
+        of = [which for which, _ in self.lists.values()]
+        told = {
+            "active": of.count(ACTIVE),
+            "inactive": of.count(INACTIVE),
+            "flight": len(self.flight),
+        }
+        known = all(numbers.get(key) == str(it) for key, it in told.items())
         if known != self.lists_known:
             self.lists_known = known
             self.ops.append(["o", int(known)])
@@ -368,8 +399,8 @@ class Told:
             ops += [["e", process, page, code] for page, code in sorted(table.items())]
         ops += [["c", slot, frame] for slot, frame in sorted(self.frame_at.items())]
         ops += [["k", slot, text] for slot, text in sorted(self.counts.items())]
-        ops += [["l", frame, 1] for frame in sorted(self.active)]
-        ops += [["w", slot, 1] for slot in self.flight]
+        ops += [["l", frame, *place] for frame, place in sorted(self.lists.items())]
+        ops += [["w", slot, place] for slot, place in self.flight.items()]
         ops += [] if self.lists_known else [["o", 0]]
         return ops + ([["s", self.numbers]] if self.numbers else [])
 
@@ -384,3 +415,17 @@ class Told:
             at = self.frame_at.get(code[1:], -1)
             return f"slot {code[1:]}" + (f" cached {at}" if at >= 0 else "")
         return {"-": "empty", "z": "zero"}.get(code, "?")
+
+    def slot_text(self, slot: str) -> str:
+        """What `slot` would answer of a slot that isn't bad, without its name; `?` where entries
+        aren't known.
+        """
+        frame = self.frame_at.get(slot, -1)
+        count = self.named.get(slot, 0) + (frame >= 0)
+        cached = f" cached {frame}" if frame >= 0 else ""
+        return f"count {'?' if self.dim else count}{cached}"
+
+    def slots(self) -> list[str]:
+        """The slots that an entry names, or the cache, as far as that is known."""
+        place = lambda it: [int(number) for number in it.split(":")]
+        return sorted({*self.named, *self.frame_at}, key=place)

@@ -8,59 +8,97 @@ pub const VERSION: &str = "avsim 0.1.0\n";
 
 /// The text of `--help`.
 pub const HELP: &str = "\
-avsim replays a trace of memory commands against a model of Linux private anonymous memory.
-It reads the trace from standard input and writes each command's reply to standard output.
+avsim - replays a trace of memory commands against a model of Linux private
+anonymous memory
 
-usage: avsim run FRAMES [SWAP]
-                            replay a trace on a machine with 1 to 16384 frames of 4096 bytes; SWAP
-                            is a file that is attached as swap area 0 (no command uses it yet)
-       avsim --help         print this text
-       avsim --version      print the version
+Synopsis
+  avsim run FRAMES [SWAP] < TRACE
+  avsim --help | --version
 
-A trace has one command a line. An empty line, or one that begins with #, says nothing.
+Description
+  A machine with FRAMES frames of memory does the commands of a trace, one a
+  line, from standard input. For each it writes one reply to standard output.
 
-  spawn P                   process P (1 to 32767) begins without memory
-  fork P Q                  process Q begins with the memory of P; both have the same frames,
-                            and a write to one of these gets a copy
-  exit P                    process P ends; what no other process has of its frames is free
-  mmap P LEN PROT           map LEN bytes, rounded up to pages, at the greatest address \
-where they fit;
-                            PROT is like rw-, r-- or ---; the line may end with one of
-         .. at A            at the page of A if they may go there, else as without it
-         .. fixed A         at A, in place of what is mapped there
-         .. noreplace A     at A, unless something is mapped there
-  munmap P A LEN            what is mapped in the range goes
-  mprotect P A LEN PROT     the range gets another protection
-  mremap P A OLD NEW        the OLD bytes at A, rounded up to pages, become NEW: pages go, or pages
-                            of zeros come behind them; the line may end with one of
-         .. maymove         they move to where they fit, if they can't grow where they are
-         .. fixed B         they move to B, in place of what is mapped there
-         .. dontunmap       they move to where they fit, and zeros stay at A; OLD is NEW
-         .. dontunmap B     as this, but to B, in place of what is mapped there
-  read P A N                read N bytes (1 to 4096) at the hexadecimal address A
-  write P A HEX             write the bytes of the hexadecimal digits HEX at A
-  maps P                    the longest runs of mapped pages with one protection
-  areas P                   the areas that its pages are of, with their own anon_vmas and chains
-  rmap P A                  process and page of each entry of the frame of the page at A
-  entry P A                 the page-table entry of the page at A: none, the page of zeros, a frame
-  stat                      how many frames there are, are free, are in use; how many processes live
+Command line
+  FRAMES                 1 to 16384 frames of 4096 bytes
+  SWAP                   a file that becomes swap area 0 with swapon 0; pages
+                         are written over what it has, but for the first one
 
-for example: printf 'spawn 1\\nmmap 1 4096 rw-\\nwrite 1 7fffffffe005 41\\n\
-read 1 7fffffffe004 3\\n' | avsim run 4
+Trace
+  A line that is empty or begins with # says nothing. Words are separated by
+  one space.
+  P, Q                   processes, 1 to 32767
+  A, B                   hexadecimal addresses
+  LEN, OLD, NEW          lengths in bytes, rounded up to pages
+  N                      1 to 4096 bytes, or 1 to 16384 frames or slots
+  HEX                    bytes, two hexadecimal digits for each, at most 4096
+  PROT                   rw-, r--, --- or another of the eight
+  K, M                   a swap area, 0 to 7, and a page of it
+
+Commands
+  spawn P                process P begins, without memory
+  fork P Q               process Q begins with the memory of P; both have the
+                         same frames, and a write to one of these gets a copy
+  exit P                 process P ends; what it alone had is free
+  mmap P LEN PROT        map pages of zeros at the greatest address where they
+                         fit; the line may end with one of
+    .. at A              at the page of A if they may go there, else as above
+    .. fixed A           at A, in place of what is mapped there
+    .. noreplace A       at A, unless something is mapped there
+  munmap P A LEN         what is mapped in the range goes
+  mprotect P A LEN PROT  the range gets another protection
+  mremap P A OLD NEW     the OLD bytes at A become NEW: pages go, or pages of
+                         zeros come behind; the line may end with one of
+    .. maymove           they move to where they fit, if they can't grow here
+    .. fixed B           they move to B, in place of what is mapped there
+    .. dontunmap         they move, and zeros stay at A; OLD is NEW
+    .. dontunmap B       as this, but to B
+  read P A N             read N bytes at A
+  write P A HEX          write the bytes HEX at A
+  maps P                 the longest runs of pages with one protection
+  areas P                the areas, with own anon_vmas and chains
+  rmap P A               process and page of each entry of the page's frame
+  entry P A              the page-table entry: none, zeros, a frame or a slot
+  stat                   how many frames, slots and processes there are
+  swapon K               turn swap area K on, by its header
+  slot K M               how many entries name a slot, and what caches it
+  reclaim N              send the last N inactive frames out, or keep them
+  age N                  move the last N active frames to the inactive list
+  complete N             end the first N writes that are in flight
+
+Replies
+  ok, map A, data HEX, on SLOTS BAD, err NAME, what a report shows; or byte k
+  is the first that wasn't served:
+  segv k                 its page isn't mapped, or the protection forbids it
+  oom k pinned= noslot= fault=
+                         no frame could be freed; the numbers say why
+  bus k                  the device didn't give its page
+  Then notes of what happened, each on a line that begins with a space:
+  zero P A               the page's entry is the page of zeros now
+  new P A f              it is frame f, zeroed
+  copy P A f             it is frame f, a copy of the frame that it was
+  load K:M f             frame f has the page of slot K:M, from the device
+  map P A f              the page's entry was a slot, and is its frame f now
+  put f K:M              frame f is cached at a free slot
+  unmap f                each entry of frame f is its slot now
+  start K:M              the write of a slot is in flight
+  done K:M, fail K:M     it ended well, or not
+  drop K:M               the slot is cached no longer
+  keep f CAUSE           reclaim kept frame f: referenced, writeback, noslot,
+                         or its write has just started
+  age f                  frame f is inactive now
+
+Example
+  printf 'spawn 1\\nmmap 1 4096 rw-\\nwrite 1 7fffffffe000 41\\n' | avsim run 4
 
 prints:      ok
              map 7fffffffe000
              ok
               new 1 7fffffffe000 0
-             data 004100
 
-A reply is followed by notes of what happened, each on a line that begins with a space:
-  zero P A                  the page's entry is the page of zeros now
-  new P A f                 it is frame f, zeroed
-  copy P A f                it is frame f, a copy of the frame that it was
-
-exit status: 0, or 2 usage, 3 a line that is no command, 4 a failed read, 5 a failed write,
-             6 out of memory, 7 too many lines, 8 a swap file that can't be opened
+Exit status
+  0, or 2 usage, 3 a line that is no command, 4 a failed read, 5 a failed
+  write, 6 out of memory, 7 too many lines, 8 a swap file that can't be opened
 ";
 
 /// The text that the words ask for, where they ask for one and nothing else.
