@@ -1,12 +1,14 @@
 //! The kernel: one command at a time over the memory system and its device.
 //!
-//! Each command is a function of the memory system, in the file of its topic; what each promises is
-//! one word, `Does`: an answer is a legal step of the definitions, whatever state the memory system
-//! stood for, and it stands for the next one, in which each entry of a frame is reached from the
-//! frame's home, and each of a cached slot from that of the frame that caches it. Swap areas may be
-//! on; the grammar has every command but `swapoff`. What only a fault of the device explains is
-//! within what the device failed. `Kernel` counts the replies, and after want of memory does
-//! nothing more. All of this is proved.
+//! Each command is a function of the memory system, in the file of its topic. What each promises is
+//! one of two words: `Does` of one that is handed the device, and `DoesBeside` of one that isn't,
+//! which does it beside any. An answer is a legal step of the definitions, with the exact frames
+//! and slots, whatever state the memory system stood for. It stands for the next one then, in which
+//! each entry of a frame, or of the slot that one caches, is reached from the frame's home. It is
+//! the same device after each command, with its sizes and, where it tells its pages, page 0 of each
+//! area; and what only its faults explain is within what it failed. `Kernel` counts the replies,
+//! and after want of memory does nothing more. All of this is proved, for every command of the
+//! grammar.
 #![tactic(auto)]
 
 mod access;

@@ -33,8 +33,8 @@ use av_trace::{Answer, Command, Reply};
 use std::alloc::{AllocError, Global};
 use std::mem::swap;
 
-/// Replies to a command, whatever the reply held. Memory may be wanting; then nothing is promised
-/// of the memory system but its frames' number, nor of the reply.
+/// Replies to a command, whatever the reply held. Memory may be wanting: then it is the same device
+/// and there are as many frames, and nothing else is promised, nor anything of the reply.
 ///
 /// `sizes` says how many pages each attached swap area has. Bytes that the reply showed give their
 /// memory to `spare`, and a read takes that of `spare`.

@@ -5,8 +5,7 @@
 //! that nothing is kept back where a read failed, what failed and how often, that the swap area
 //! that the words name is attached before all else, as which area, and why not, that only as many
 //! faults show as the device had then, and that the kernel handed back stands, with the device as
-//! it is in the end, for what the transcript leaves. No command uses the device yet. That memory
-//! suffices is only tested.
+//! it is in the end, for what the transcript leaves. That memory suffices is only tested.
 #![tactic(auto)]
 
 mod attach;

@@ -1,8 +1,9 @@
-//! Replays a trace on standard input, and writes its transcript to standard output.
+//! Replays a trace on standard input, over the swap file that the words name, if they name one, and
+//! writes its transcript to standard output.
 //!
 //! Proved: which text the words ask for, and by the status of a run the number with which the
 //! program ends and the failure that it prints. The texts themselves are only tested, and that they
-//! reach standard output and standard error.
+//! reach standard output and standard error, and what real swap files hold.
 #![tactic(auto)]
 
 ghost use Rattle.std.specs.Prelude.{IfOk};
