@@ -94,12 +94,12 @@ function hasSwap() {
   return ["active", "flight", "slots"].some(it => Number(stat[it])) || state.counts.size > 0;
 }
 
-function listOf(title, cells, said) {
+function listOf(title, things, cellOf, said) {
   const box = make("div", "cells");
-  const more = cells.length - MOST_CELLS;
-  box.append(...cells.slice(0, MOST_CELLS));
+  const more = things.length - MOST_CELLS;
+  box.append(...things.slice(0, MOST_CELLS).map(cellOf));
   if (more > 0) box.append(make("span", "soft", `and ${more} more`));
-  if (!cells.length) box.append(make("span", "soft", said));
+  if (!things.length) box.append(make("span", "soft", said));
   return [make("h3", "", title), box];
 }
 
@@ -128,13 +128,14 @@ function showSwap() {
   const changedFirst = ([a], [b]) => change.slots.has(b) - change.slots.has(a);
   if (slots.length > MOST_CELLS) slots.sort(changedFirst);
   const known = state.listsKnown;
-  const lists = [ACTIVE, INACTIVE].map(it => (known ? framesIn(it).map(newFrameCell) : []));
-  const flight = known ? inFlight().map(it => slotCell(it, "")) : [];
-  const title = (name, cells) => `${name}${known ? `: ${cells.length}` : ": not known"}`;
-  const none = known ? "none" : "?";
+  const list = (name, of, cellOf) => {
+    const things = known ? of() : [];
+    const count = known ? things.length : "not known";
+    return listOf(`${name}: ${count}`, things, cellOf, known ? "none" : "?");
+  };
   at("lists").replaceChildren(
-    ...listOf(title("active, from the head", lists[0]), lists[0], none),
-    ...listOf(title("inactive, from the head", lists[1]), lists[1], none),
-    ...listOf(title("in flight, in order", flight), flight, none),
-    ...listOf("slots", slots.map(([slot, text]) => slotCell(slot, text)), "none was named"));
+    ...list("active, from the head", () => framesIn(ACTIVE), newFrameCell),
+    ...list("inactive, from the head", () => framesIn(INACTIVE), newFrameCell),
+    ...list("in flight, in order", inFlight, slot => slotCell(slot, "")),
+    ...listOf("slots", slots, ([slot, text]) => slotCell(slot, text), "none was named"));
 }

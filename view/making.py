@@ -286,14 +286,16 @@ def follow(run: Run, progress: Progress):
 
 
 def told_at(run: Run):
-    """What is told up to each command. (For a terminal, where nothing is asked.)"""
+    """What is told up to each command, and whether that is more than before it. (For a terminal,
+    where nothing is asked.)
+    """
     told = Told()
     for command, reply in zip(run.commands, run.replies):
         told.tell(command.line.split(" "), reply)
-        told.ops.clear()
         # (nobody asks which list a frame is in, or what entries there are)
         told.lists_known = told.lists_known and not told.lost
-        yield told
+        yield told, bool(told.ops)
+        told.ops.clear()
 
 
 def window_of(wanted: tuple[int, int] | None, count: int) -> tuple[int, int]:

@@ -1,4 +1,5 @@
 """Commands and replies side by side, for a terminal, and behind them what is told of swap."""
+import itertools
 import textwrap
 
 import making
@@ -15,25 +16,35 @@ def row_pairs(left: list[str], right: list[str]):
         yield (it[at] if at < len(it) else "" for it in (left, right))
 
 
-def some_of(things: list, between: str = " ") -> str:
+def some_of(things, count: int, between: str = " ") -> str:
     """The first of some things, and how many more there are."""
-    text = between.join(map(str, things[:MOST_NAMED])) or "none"
-    more = len(things) - MOST_NAMED
-    return text + (f" and {more} more" if more > 0 else "")
+    some = [str(it) for it in itertools.islice(things, MOST_NAMED)]
+    more = f" and {count - len(some)} more" if count > len(some) else ""
+    return (between.join(some) or "none") + more
+
+
+def slots_of(told: Told) -> str:
+    """The slots that an entry or the cache names, as `slot` tells of them: where they are many,
+    those that the command has to do with.
+    """
+    place = lambda it: [int(number) for number in it.split(":")]
+    few = len(told.used) <= MOST_NAMED
+    chosen = sorted(told.used if few else told.touched & told.used, key=place)
+    texts = [f"{it} {told.slot_text(it)}" for it in chosen]
+    unknown = ["?"] if told.dim else []
+    return some_of(texts + unknown, len(told.used) + len(unknown), ", ")
 
 
 def swap_lines(told: Told) -> list[str]:
-    """The lists (head first), what is in flight (the first to be completed first), and the slots
-    that an entry or the cache names, as `slot` tells of them.
-    """
-    slots = [f"{it} {told.slot_text(it)}" for it in told.slots()]
-    lists = [told.in_list(ACTIVE), told.in_list(INACTIVE), told.in_flight()]
-    active, inactive, flight = map(some_of, lists) if told.lists_known else "???"
-    unknown = ["?"] if told.dim else []
+    """The lists (head first), what is in flight (the first to be completed first), and slots."""
+    lists = [told.lists[ACTIVE], told.lists[INACTIVE]]
+    texts = [some_of(reversed(it), len(it)) for it in lists]
+    texts.append(some_of(told.flight, len(told.flight)))
+    active, inactive, flight = texts if told.lists_known else "???"
     return [
         f"# active: {active}; inactive: {inactive}",
         f"# in flight: {flight}",
-        f"# slots: {some_of(slots + unknown, ', ')}",
+        f"# slots: {slots_of(told)}",
     ]
 
 
@@ -41,15 +52,16 @@ def side_by_side(run: making.Run, width: int):
     """Commands at the left, replies at the right, comments above them."""
     column = min(max([len(it.line) for it in run.commands] + [8]), width // 2 - 3)
     shown, is_of_swap = swap_lines(Told()), False
-    for command, reply, told in zip(run.commands, run.replies, making.told_at(run)):
+    for command, reply, (told, is_more) in zip(run.commands, run.replies, making.told_at(run)):
         for text in command.comment.split("\n") if command.comment else ():
             yield from textwrap.wrap(
                 text, width - 2, initial_indent="# ", subsequent_indent="# "
             ) or [""]
         lines = [reply[0], *(f" {it}" for it in reply[1:])]
         lines += ["(what else it changed isn't known here)"] if told.lost else []
-        is_of_swap = is_of_swap or command.line.split(" ")[0] in OF_SWAP
-        if is_of_swap:
+        is_first = not is_of_swap and command.line.split(" ")[0] in OF_SWAP
+        is_of_swap = is_of_swap or is_first
+        if is_first or is_of_swap and is_more:
             now = swap_lines(told)
             lines += [it for it in now if it not in shown]
             shown = now

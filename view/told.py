@@ -29,6 +29,7 @@ Each change is also an operation, a list that a page applies (view/state.js):
     o IS            the lists and what is in flight are known, or aren't
     s TEXT          what `stat` says
 """
+from collections import OrderedDict
 
 # the lists
 INACTIVE, ACTIVE = 1, 2
@@ -74,11 +75,13 @@ class Told:
         self.owners: dict[int, set[tuple[int, int]]] = {}
         self.frame_at: dict[str, int] = {}
         self.slot_of: dict[int, str] = {}
-        # frames with their list and place (the greatest place of a list is its head), slots in
-        # flight with theirs, and how many entries name a slot
-        self.lists: dict[int, tuple[int, int]] = {}
+        # the frames of each list with their places (tail first, so the greatest place is the
+        # head's), slots in flight with theirs, how many entries name a slot, and which slots an
+        # entry or the cache names
+        self.lists = {INACTIVE: OrderedDict(), ACTIVE: OrderedDict()}
         self.flight: dict[str, int] = {}
         self.named: dict[str, int] = {}
+        self.used: set[str] = set()
         self.head = self.tail = self.last = 0
         self.counts: dict[str, str] = {}
         self.rows: dict[int, list[str]] = {}
@@ -96,6 +99,7 @@ class Told:
         elif code[:1] == "s":
             self.touched.add(code[1:])
             self.named[code[1:]] = self.named.get(code[1:], 0) + 1
+            self.used.add(code[1:])
 
     def unlink(self, process: int, page: int, code: str) -> None:
         frame = frame_of(code)
@@ -112,27 +116,28 @@ class Told:
             self.named[code[1:]] -= 1
             if not self.named[code[1:]]:
                 del self.named[code[1:]]
+                self.leave_slot(code[1:])
 
     def leave(self, frame: int) -> None:
         """A frame that nothing names any more is in no list."""
-        if frame not in self.owners and frame not in self.slot_of and frame in self.lists:
-            del self.lists[frame]
+        if frame in self.owners or frame in self.slot_of:
+            return
+        if any([it.pop(frame, None) is not None for it in self.lists.values()]):
             self.ops.append(["l", frame, 0, 0])
+
+    def leave_slot(self, slot: str) -> None:
+        """A slot that nothing names any more is free."""
+        if slot not in self.named and slot not in self.frame_at:
+            self.used.discard(slot)
 
     def enlist(self, frame: int, which: int, is_tail: bool = False) -> None:
         """A frame goes to the head of a list, or to its tail."""
         self.head, self.tail = self.head + (not is_tail), self.tail - is_tail
-        self.lists[frame] = which, self.tail if is_tail else self.head
-        self.ops.append(["l", frame, *self.lists[frame]])
-
-    def in_list(self, which: int) -> list[int]:
-        """The frames of a list, head first."""
-        found = [it for it, (of, _) in self.lists.items() if of == which]
-        return sorted(found, key=lambda it: -self.lists[it][1])
-
-    def in_flight(self) -> list[str]:
-        """The slots in flight, first the one that is completed first."""
-        return sorted(self.flight, key=lambda it: self.flight[it])
+        for it in self.lists.values():
+            it.pop(frame, None)
+        self.lists[which][frame] = self.tail if is_tail else self.head
+        self.lists[which].move_to_end(frame, last=not is_tail)
+        self.ops.append(["l", frame, which, self.lists[which][frame]])
 
     def put(self, process: int, page: int, code: str) -> None:
         """The entry of a page is this."""
@@ -231,6 +236,7 @@ class Told:
     def cache(self, slot: str, frame: int) -> None:
         self.uncache(slot)
         self.frame_at[slot], self.slot_of[frame] = frame, slot
+        self.used.add(slot)
         self.touched.add(slot)
         self.ops.append(["c", slot, frame])
 
@@ -241,6 +247,7 @@ class Told:
             del self.slot_of[frame]
             self.ops.append(["c", slot, -1])
             self.leave(frame)
+            self.leave_slot(slot)
 
     def fly(self, slot: str, is_on: bool) -> None:
         self.touched.add(slot)
@@ -375,10 +382,9 @@ class Told:
             self.numbers = text
             self.ops.append(["s", text])
         numbers = dict(it.split("=", 1) for it in text.split(" ") if "=" in it)
-        of = [which for which, _ in self.lists.values()]
         told = {
-            "active": of.count(ACTIVE),
-            "inactive": of.count(INACTIVE),
+            "active": len(self.lists[ACTIVE]),
+            "inactive": len(self.lists[INACTIVE]),
             "flight": len(self.flight),
         }
         known = all(numbers.get(key) == str(it) for key, it in told.items())
@@ -399,7 +405,8 @@ class Told:
             ops += [["e", process, page, code] for page, code in sorted(table.items())]
         ops += [["c", slot, frame] for slot, frame in sorted(self.frame_at.items())]
         ops += [["k", slot, text] for slot, text in sorted(self.counts.items())]
-        ops += [["l", frame, *place] for frame, place in sorted(self.lists.items())]
+        for which, frames in self.lists.items():
+            ops += [["l", frame, which, place] for frame, place in frames.items()]
         ops += [["w", slot, place] for slot, place in self.flight.items()]
         ops += [] if self.lists_known else [["o", 0]]
         return ops + ([["s", self.numbers]] if self.numbers else [])
@@ -424,8 +431,3 @@ class Told:
         count = self.named.get(slot, 0) + (frame >= 0)
         cached = f" cached {frame}" if frame >= 0 else ""
         return f"count {'?' if self.dim else count}{cached}"
-
-    def slots(self) -> list[str]:
-        """The slots that an entry names, or the cache, as far as that is known."""
-        place = lambda it: [int(number) for number in it.split(":")]
-        return sorted({*self.named, *self.frame_at}, key=place)
