@@ -20,7 +20,7 @@ use Rattle.av_plain.specs.Transcript.{State, rmap_of}
 use Rattle.av_plain.specs.World.{Page, World, pages}
 use Rattle.av_plain.proofs.Device.{setting_same}
 use Rattle.av_mem.specs.declared.mem.Mem.{Mem}
-use Rattle.av_mem.specs.Mem.{AgreesWith, AreByHeaders, HasLists, HasTables, IsSteadyAt, Keeps, SwapFits, frame_count, held_by, ranges_of, setting_by, view}
+use Rattle.av_mem.specs.Mem.{AgreesWith, AreByHeaders, HasLists, HasTables, Keeps, SwapFits, frame_count, held_by, ranges_of, setting_by, view}
 use Rattle.av_mem.specs.Steps.{KeepsParts}
 use Rattle.av_mem.specs.Between.{IsBetween, KeepsBetween}
 use Rattle.av_fault.proofs.Amid.{Amid}
@@ -270,9 +270,6 @@ module _ (d : Device) (k : Mem) (w : World) (r : Rmap) (l : Ledger) (n : ℕ) (h
 pub between-some : (sizes : ℕ → Option ℕ) (k : Mem) (n : ℕ) → IsBetween sizes k
     → (w : World) × (r : Rmap) × (l : Ledger) × KeepsBetween (device_by sizes None n) k w r l
 between-some sizes k n h = (h.1, h.2, h.3, between-untold (device_by sizes None h.0) k h.1 h.2 h.3 n h.4)
-
-pub steady-between : (sizes : ℕ → Option ℕ) (k : Mem) → IsSteadyAt sizes k → IsBetween sizes k
-steady-between sizes k h = (h.0, h.1.world, rmap_of h.1, h.1.ledger, between-of (device_by sizes None h.0) k h.1 h.2)
 
 -- a device after a call that changes its faults at the most
 pub seen-same : (told : Bool) (d d' : Device) → d'.sizes ≡ d.sizes → d'.pages ≡ d.pages → d.faults ≤ d'.faults → IsSameDevice (as_told told d) (as_told told d')

@@ -268,21 +268,21 @@ pub dropped-alone : (m : Setting) (l : Ledger) (f : ℕ) → IsSound m l → is_
 dropped-alone m l f sound alone = by (slot_of l f) refl
   where
     uncached : (s : Slot) → slot_of l f ≡ Some s → slot_of (after_note (Dropped s) l) f ≡ None
-    uncached s at =
+    uncached s is =
         let once = once-of m no_excuse l sound in
         ap (λ cs. slot_of (record l { cache = cs }) f) (settle-cache (frame_at l s) (off_cache s l))
-        ∙ slot_of-off l once s f (slot-frame l once f s at) f ∙ ap (λ b. cond b None (slot_of l f)) (same-itself f)
+        ∙ slot_of-off l once s f (slot-frame l once f s is) f ∙ ap (λ b. cond b None (slot_of l f)) (same-itself f)
 
     same : (s : Slot) → map_count (after_note (Dropped s) l) f ≡ map_count l f
     same s = ap (λ es. map_count (record l { entries = es }) f) (settle-entries (frame_at l s) (off_cache s l))
 
     at_slot : (s : Slot) → slot_of l f ≡ Some s → (b : Bool) → is_shared (after_notes l (when b (Dropped s))) f ≡ false
-    at_slot s at true = shared-less l (after_note (Dropped s) l) f (same s) (uncached s at) alone
-    at_slot s at false = alone
+    at_slot s is true = shared-less l (after_note (Dropped s) l) f (same s) (uncached s is) alone
+    at_slot s is false = alone
 
     by : (o : Option Slot) → slot_of l f ≡ o → is_shared (after_notes l (drop_of_slot m true false l o)) f ≡ false
-    by None at = alone
-    by (Some s) at = at_slot s at (is_unneeded m true false l s)
+    by None is = alone
+    by (Some s) is = at_slot s is (is_unneeded m true false l s)
 
 -- no failure is told
 pub drops-unfailed : (m : Setting) (write came : Bool) (l : Ledger) (o : Option Slot) → fails (drop_of_slot m write came l o) ≡ 0

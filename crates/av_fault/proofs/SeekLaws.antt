@@ -1,5 +1,5 @@
 -- A frame is sought: whether one is free, and what the search of the crate below has found.
-use Rattle.std.proofs.Common.{◌≡◌, ℕ, zero, suc, ◌+◌, ◌<◌, ◌==◌, Bool, true, false, ◌||◌, List, [], ◌∷◌, Option, None, refl, sym, ap, subst, ◌∙◌, arith}
+use Rattle.std.proofs.Common.{◌≡◌, ℕ, zero, suc, ◌+◌, ◌<◌, ◌==◌, Bool, true, false, ◌||◌, List, [], Option, None, refl, sym, ap, ◌∙◌, arith}
 use Rattle.std.proofs.lemmas.Bool.{false≢true}
 use Rattle.std.specs.List.{list_any, range_with_len}
 use Rattle.av_trace.specs.declared.note.Note.{Note}
@@ -8,7 +8,6 @@ use Rattle.av_evict.specs.Pass.{IsEnd}
 use Rattle.av_evict.specs.declared.pass.SeekEnd.{SeekEnd}
 use Rattle.av_evict.specs.declared.pass.SeekEnd.TheVariants as ends
 use Rattle.av_plain.specs.Areas.{Rmap}
-use Rattle.av_plain.specs.Choice.{ListsFree}
 use Rattle.av_plain.specs.Device.{Device}
 use Rattle.av_plain.specs.Event.{after_notes}
 use Rattle.av_plain.specs.Fault.{sparing}
@@ -16,7 +15,6 @@ use Rattle.av_plain.specs.Ledger.{Ledger, Setting, has_free, is_free}
 use Rattle.av_plain.specs.Pass.{Seeks}
 use Rattle.av_plain.specs.World.{World}
 use Rattle.av_plain.proofs.Ledger.NoSwap.{has_free-some}
-use Rattle.av_swap_laws.proofs.From.{first-is}
 use Rattle.av_mem.specs.declared.mem.Mem.{Mem}
 use Rattle.av_mem.specs.Mem.{setting_by, view}
 use Rattle.av_mem.specs.Between.{KeepsBetween}
@@ -34,11 +32,6 @@ none-passes test a (suc n) h = ap (λ b. b || list_any test (range_with_len (a +
 module _ (d : Device) (k : Mem) (w : World) (r : Rmap) (l : Ledger) (h : KeepsBetween d k w r l) where
   abbrev m : Setting
   m = setting_by d k
-
-  pub free-first : (f : ℕ) (left : List ℕ) → (view k).free ≡ f ∷ left → has_free m l ≡ true
-  free-first f left is =
-      let first = first-is m l f left (subst (ListsFree m l) is h.serves.free.frames) in
-      has_free-some m l f first.below first.free
 
   pub free-none : (view k).free ≡ [] → has_free m l ≡ false
   free-none is = none-passes (is_free l) 0 m.frames (λ g under. sym (h.serves.held.ledger.frames.free g (omega (arith, under)))

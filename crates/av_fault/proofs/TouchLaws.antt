@@ -1,22 +1,21 @@
 -- A page is made ready: what its entry is and what was made of it are what the definitions ask for.
-use Rattle.std.proofs.Common.{◌≡◌, inl, ℕ, ◌-◌, ◌^◌, ◌<◌, ◌≤◌, ◌==◌, Bool, true, false, cond, not, ◌&&◌, List, [], ◌∷◌, ◌++◌, Option, Some, None, is_some, refl, sym, ap, subst, ◌∙◌, arith}
+use Rattle.std.proofs.Common.{◌≡◌, inl, ℕ, ◌-◌, ◌≤◌, ◌==◌, Bool, true, false, cond, not, ◌&&◌, List, [], ◌∷◌, ◌++◌, Option, Some, None, is_some, refl, sym, ap, subst, ◌∙◌, arith}
 use Rattle.std.proofs.lemmas.Bool.Decides.{nat_tests}
 use Rattle.std.proofs.lemmas.Bool.{false≢true}
 use Rattle.std.proofs.lemmas.List.{append-nil}
 use Rattle.std.proofs.lemmas.Result.{IfOk-weaker}
 use Rattle.std.specs.Bool.{then_some}
-use Rattle.std.specs.Prelude.{Err, IfOk, IsSome, Ok, Result, option_map}
+use Rattle.std.specs.Prelude.{Err, IfOk, Ok, Result, option_map}
 use Rattle.std.specs.declared.alloc.AllocError.{AllocError}
-use Rattle.av_base.specs.Limits.{top_page}
 use Rattle.av_base.specs.Words.{within}
 use Rattle.av_base.specs.declared.slot.Slot.{Slot}
 use Rattle.av_pagetable.specs.declared.pte.Pte.{Pte}
 use Rattle.av_pagetable.specs.declared.pte.Pte.TheVariants.{Here, Zero}
 use Rattle.av_pagetable.specs.Entries.{entry_at}
-use Rattle.av_spaces.specs.Spaces.{Spaces, areas_of, pages_of}
+use Rattle.av_spaces.specs.Spaces.{Spaces, pages_of}
 use Rattle.av_trace.specs.declared.note.Note.{Note}
 use Rattle.av_trace.specs.declared.note.Note.TheVariants.{Dropped}
-use Rattle.av_vma.specs.Join.{first_of, index_of, past_of}
+use Rattle.av_vma.specs.Join.{first_of, past_of}
 use Rattle.av_vma.specs.Pages.{AreLaid}
 use Rattle.av_vma.specs.declared.area.Area.{Area}
 use Rattle.av_plain.specs.Areas.{Rmap, rmap_after_all}
@@ -34,19 +33,18 @@ use Rattle.av_plain.proofs.Device.{setting_same}
 use Rattle.av_plain.proofs.Load.{without-loads}
 use Rattle.av_swap_laws.proofs.Between.{blank-steps}
 use Rattle.av_mem.specs.declared.mem.Mem.{Mem}
-use Rattle.av_mem.specs.Mem.{IsSteadyAt, Keeps, Serves, frame_count, held_by, plain, ranges_of, setting_by, view}
-use Rattle.av_mem.proofs.MemLaws.{alive_is, prot_on, prots_are}
+use Rattle.av_mem.specs.Mem.{Keeps, Serves, frame_count, held_by, plain, ranges_of, setting_by, view}
+use Rattle.av_mem.proofs.MemLaws.{prot_on, prots_are}
 use Rattle.av_mem.specs.Between.{Does, HasDone, KeepsBetween}
 use Rattle.av_fault.specs.Fault.{HasTouched, IsTouched, MakesReady, end_of, is_permitted, touch_events}
-use Rattle.av_fault.specs.Making.{HasMade, IsMadeBy, IsMapped, Makes}
+use Rattle.av_fault.specs.Making.{HasMade, IsMadeBy, Makes}
 use Rattle.av_fault.specs.declared.fault.Stop.TheVariants.{Bus, Oom, Segv}
 use Rattle.av_fault.specs.declared.fault.Touched.{Touched}
 use Rattle.av_fault.specs.declared.fault.Touched.TheVariants.{Ready, Stopped, Zeros}
 use Rattle.av_fault.proofs.Between.{between-of, fit-stays, same-still, to-amid, to-fit, told-same}
-use Rattle.av_fault.proofs.Done.{done-none, rose-none}
+use Rattle.av_fault.proofs.Done.{rose-none}
 use Rattle.av_fault.proofs.EntryLaws.{entry-is}
 use Rattle.av_fault.proofs.Run.{run-done, run-none, run-then}
-use Rattle.av_fault.proofs.SoughtLaws.{lives-by}
 use Rattle.av_fault.proofs.UsingLaws.{entry-here, parts-by}
 
 -- ---- areas
@@ -65,19 +63,8 @@ some-then false x = refl
 lower : (a n x : ℕ) → within a n x ≡ true → a ≤ x
 lower a n x is = grind (arith, nat_tests)
 
-upper : (a past x : ℕ) → within a (past - a) x ≡ true → x < past
-upper a past x is = grind (arith, nat_tests)
-
 pub first-laid : (on : ℕ → Option Area) (page : ℕ) (area : Area) → AreLaid on → on page ≡ Some area → first_of area ≤ page
 first-laid on page area laid is = lower (first_of area) (past_of area - first_of area) page (laid.here page area is)
-
--- and its linear index there is a number of 64 bits
-pub index-laid : (on : ℕ → Option Area) (page : ℕ) (area : Area) → AreLaid on → on page ≡ Some area → index_of area page < 2 ^ 64
-index-laid on page area laid is =
-    let first = first-laid on page area laid is in
-    let past = upper (first_of area) (past_of area) page (laid.here page area is) in
-    let small = (laid.whole page area is).small in
-    omega (arith, first, past, small)
 
 -- ---- what stands says of a page
 
@@ -247,28 +234,6 @@ module _ (d d' : Device) (s : State) (old new : Mem) (write : Bool) (k : Key) (b
         failed = h.failed;
       }
 
--- the page is not mapped so
-denied-touched : (d : Device) (old : Mem) (w : World) (r : Rmap) (l : Ledger) (write : Bool) (k : Key) (notes : List Note) → KeepsBetween d old w r l
-    → is_permitted write (prot_of (ranges_of old.spaces.processes k.0) k.1) ≡ false → HasTouched d d old old w r l write k notes notes (Stopped Segv)
-denied-touched d old w r l write k notes h refused = record {
-  added = [];
-  notes = sym (append-nil notes);
-  touches = (allowed-as d old w r l h write k ∙ refused, refl);
-  ready = tt;
-  done = done-none d old w r l h;
-  faults = rose-none d.faults;
-  failed = omega arith;
-}
-
-pub is-denied : (d : Device) (old : Mem) (write : Bool) (k : Key) (notes : List Note) → is_permitted write (prot_of (ranges_of old.spaces.processes k.0) k.1) ≡ false
-    → MakesReady d d old old write k notes notes (Ok (Stopped Segv))
-is-denied d old write k notes refused = record {
-  step = λ s keeps. is-touched d d s old old write k notes notes keeps (Stopped Segv)
-      (denied-touched d old s.world (rmap_of s) s.ledger write k notes (between-of d old s keeps) refused);
-  same = same-still d;
-  count = refl;
-}
-
 -- it was touched, or memory was wanting
 pub is-ready : (told : Bool) (d d' : Device) (old new : Mem) (write : Bool) (k : Key) (before now : List Note) (result : Result Touched AllocError)
     → IfOk result (λ touched. Does d d' old (λ d d' w r l. HasTouched d d' old new w r l write k before now touched))
@@ -284,16 +249,3 @@ is-ready told d d' old new write k before now result done same count = record {
     by (Ok touched) done s keeps = is-touched (as_told told d) (as_told told d') s old new write k before now keeps touched
         (done told s.world (rmap_of s) s.ledger (between-of (as_told told d) old s keeps))
     by (Err e) done s keeps = tt
-
--- ---- what an access starts from
-
--- a page with an area is mapped
-pub steady-mapped : (sizes : ℕ → Option ℕ) (k : Mem) (q : Key) (area : Area) → IsSteadyAt sizes k → pages_of k.spaces.processes q.0 q.1 ≡ Some area
-    → q.1 < top_page → IsMapped k q
-steady-mapped sizes k q area steady is below =
-    let some : IsSome (pages_of k.spaces.processes q.0 q.1) = subst IsSome (sym is) refl in
-    record {
-      table = steady.2.tables q.0 ∙ alive_is k.spaces.processes q.0 ∙ lives-by (areas_of k.spaces.processes q.0) q.1 some;
-      area = some;
-      below = below;
-    }

@@ -30,7 +30,7 @@ pub enum Stop {
     Segv,
     /// The page is on the device alone, and the device did not give it.
     Bus,
-    /// No frame is free.
+    /// A frame is wanted and none is free, and a direct pass freed none.
     Oom(OutOf),
 }
 
