@@ -38,8 +38,8 @@ pub record TakesNext (m : Setting) (closing : Option ℕ) (l : Ledger) (free : F
   pub slot : MatchOption (slot_in_note note) (slots ≡ free.slots)
       (λ s. IsGiven m closing l s free.slots slots)
 
--- then there is a system after it, whether its device tells its pages or not, and what is free in it
--- is the same in both
+-- then there is a system after it, whether its device tells its pages or not, and what is free in
+-- it is the same in both
 abbrev pub CanBeMet : Setting → Option ℕ → Option (ℕ → List ℕ) → Free → ℕ → World → Rmap → Ledger
     → Note → Type 0
 CanBeMet m closing first free faults w r l note =

@@ -88,8 +88,8 @@ pub record IsTouched (d d' : Device) (s : State) (new : Mem) (write : Bool) (k :
   pub faults : RoseBy (fails added + lost_by touched) d.faults d'.faults
   pub failed : failed_by touched ≤ fails added
 
--- whatever stood before: the page is made ready or not. It is the same device then, and there are as
--- many frames, also where memory was wanting
+-- whatever stood before: the page is made ready or not. It is the same device then, and there are
+-- as many frames, also where memory was wanting
 pub record MakesReady (d d' : Device) (old new : Mem) (write : Bool) (k : Key)
     (before now : List Note) (result : Result Touched AllocError) : Type 0 where
   pub step : (s : State) → Keeps d old s

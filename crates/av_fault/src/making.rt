@@ -116,7 +116,8 @@ fn take_zeros(mem: &mut Mem, key: (u16, u64), home: Option<(u64, u64)>) -> Resul
     requires mapped { IsMapped mem.old key }
     requires free { HasFree mem.old }
     ensures taken { IfOk result (λ f. IsTaken mem.old mem.new f (λ left.
-        view_seen key.0 key.1 f true (view_new key.0 key.1 f true left (λ i. 0) home (view mem.old)))) }
+        view_seen key.0 key.1 f true
+        (view_new key.0 key.1 f true left (λ i. 0) home (view mem.old)))) }
     ensures parts { OnOk result (KeepsParts mem.old mem.new) }
     ensures count { frame_count mem.new ≡ frame_count mem.old }
 {

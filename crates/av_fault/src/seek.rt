@@ -21,8 +21,8 @@ pub(crate) enum Got {
     Out(OutOf),
 }
 
-/// Seeks a frame that may be taken, behind a direct pass exactly where none is free. The pass leaves
-/// the pinned frame alone, and its notes are added.
+/// Seeks a frame that may be taken, behind a direct pass exactly where none is free. The pass
+/// leaves the pinned frame alone, and its notes are added.
 pub(crate) fn seek<D: SwapDev>(
     mem: &mut Mem,
     dev: &mut D,

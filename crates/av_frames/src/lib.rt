@@ -161,7 +161,7 @@ impl Frames {
         self.homes[frame as usize] = home;
     }
 
-    /// Whether the frame's bytes may differ from those in its slot. (For swap: not asked yet.)
+    /// Whether the frame's bytes may differ from those in its slot, where it is cached at one.
     pub fn dirty(&self, frame: u32) -> bool
         requires { frame < (shown self.now).count }
         ensures { result ≡ (shown self.now).dirty frame }
@@ -169,7 +169,7 @@ impl Frames {
         self.dirty[frame as usize]
     }
 
-    /// Sets whether they may differ. (For swap, as all that follows on slots.)
+    /// Sets whether they may differ.
     pub fn set_dirty(&mut self, frame: u32, dirty: bool)
         requires { frame < (shown self.old).count }
         ensures { shown self.new ≡ with_dirty frame dirty (shown self.old) }
@@ -248,7 +248,7 @@ impl Frames {
         self.bytes.put(frame as usize, [0; SIZE]);
     }
 
-    /// Makes a frame's bytes those of a page, as it was read from a device. (For swap.)
+    /// Makes a frame's bytes those of a page, as it was read from a device.
     pub fn load(&mut self, frame: u32, page: &[u8])
         requires in_range { frame < (shown self.old).count }
         requires long { length page.now ≡ page_size }

@@ -77,7 +77,7 @@ pub record Does (d d' : Device) (old new : Mem) (command : Command) (result : Re
   pub same : IsSameDevice d d'
   pub count : frame_count new ≡ frame_count old
 
--- ---- commands that don't use the device
+-- ---- commands that aren't handed the device
 
 -- beside this device, which stays as it is, a command's reply is a step, and the memory system
 -- stands for what it leaves
@@ -87,7 +87,7 @@ pub record StepsBeside (d : Device) (old new : Mem) (s : State) (command : Comma
   pub step : IsStep (setting_by d old) s command reply next
   pub keeps : Keeps d new next
 
--- what a command promises that doesn't use the device: it does so beside any
+-- what a command promises that isn't handed the device: it does so beside any
 pub record DoesBeside (old new : Mem) (command : Command) (result : Result Reply Refusal)
     : Type 0 where
   pub step : (d : Device) (s : State) → Keeps d old s

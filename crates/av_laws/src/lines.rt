@@ -27,7 +27,7 @@ pub fn changed_lines_are_refused()
         (Some (Mremap 1 0x10000 4096 4096 Plain)) → ⊥ }
 {}
 
-/// An entry's answer has the slot at which its frame is cached, which no command shows yet.
+/// An entry's answer has the slot at which its frame is cached.
 pub fn answers_say()
     ensures { answer_line (EntryFrame 5 false (Some (record { area = 3; page = 70 })))
         ≡ codes "frame 5 old cached 3:70" }

@@ -14,7 +14,7 @@ use Rattle.av_mem.specs.declared.mem.Mem.{Mem}
 abbrev pub reach : Mem → View
 reach k = view_with (area_of k.spaces.areas) (family k.anons) (spans_of k.anons) (entry_at k.tables)
 
--- each entry that names the frame is reached from its home; without a home none does. It is so where
--- areas stand under their numbers, which the areas themselves keep
+-- each entry that names the frame is reached from its home; without a home none does. It is so
+-- where areas stand under their numbers, which the areas themselves keep
 abbrev pub AreReached : Mem → ℕ → Type 0
 AreReached k f = AreNumbered k.spaces → IsCoveredFrom (reach k) f ((view k).homes f)

@@ -158,7 +158,8 @@ HasLedger d k l =
 abbrev pub IsOrderly : Mem → Type 0
 IsOrderly k = (d : Device) × (l : Ledger) × HasLedger d k l
 
--- the parts that steps change, with the device, the memories, the ledger, areas, anon_vmas and homes
+-- the parts that steps change, with the device, the memories, the ledger, areas, anon_vmas and
+-- homes
 abbrev pub held_by : Device → Mem → World → Rmap → Ledger → Held
 held_by d k w r l = record { view = view k; device = d; world = w; ledger = l; rmap = r }
 

@@ -1,15 +1,23 @@
-//! The memory system, the walk over it, and how its entries are taken away.
+//! The memory system: its single steps, the walk over it, and how its entries are taken away.
 //!
 //! `Mem` holds the frames with their two lists, the page tables, the areas, the anon_vmas and the
-//! swap areas; the kernel has one. What it stands for, over any device, is said by the definitions'
-//! `Stands` over its `view`. `zap_range` takes away the entries of a range of pages, frees the
-//! frames that nothing has any more, gives such slots back, and drops those that it leaves as
-//! orphans: proved for every ledger that the parts stand for.
+//! swap areas that are on; the kernel has one. What it stands for, over any device, is said by the
+//! definitions' `Stands` over its `view`; what it keeps beside that by `Keeps`; and what stands
+//! between two events of a command by `KeepsBetween`.
+//!
+//! Proved: each step of swap (a frame is put, unmapped, unseen, moved within or between the lists,
+//! a write begins or ends, a slot is dropped, a page is loaded and mapped) makes of the view
+//! exactly what av_swap_laws has a law of. `zap_range` and `zap_all` take away the entries of a
+//! range of pages or of a process, free the frames that nothing has any more, give such slots back,
+//! and drop those that they leave as orphans: for every ledger that the parts stand for. Without
+//! memory, which only a note takes there, they promise nothing of entries and counts; `unmap`
+//! changes nothing then.
 //!
 //! `walk` gives the entries of a frame: proved for every state that the memory system stands for,
 //! with the number of its steps. It is one call of av_rmap's `walk_frame`, which looks through the
 //! trait `Look` alone, no more often than it takes steps. Not proved: that nothing which holds a
-//! `Mem`, `walk` among it, asks the tables past that trait.
+//! `Mem`, `walk` among it, asks the tables past that trait; and how often `unmap`, `unsee` and
+//! `is_seen` look, whose steps nobody counts.
 #![tactic(auto)]
 
 mod cache;

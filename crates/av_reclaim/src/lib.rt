@@ -10,7 +10,7 @@
 //! notes tell. Where a note, or the count of a slot's entries, finds no memory a command answers
 //! `AllocError`: then it is the same device, and there are as many frames, and nothing else is
 //! promised, not even that the memory system still stands for anything. Not proved: how long a
-//! command takes. Tests of runs that reclaim are the kernel's.
+//! command takes. Runs that reclaim are tested in `av_run_tests`.
 #![tactic(auto)]
 
 mod commands;

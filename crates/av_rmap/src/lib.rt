@@ -9,7 +9,8 @@
 //! walk finds each of them once, and nothing else. It takes exactly as many steps as spans of the
 //! anon_vma hold the index (in chain order: as areas linked to it do), and no more looks than
 //! steps. `walk_frame` gives them in order, also of a frame that may have no home. In as many steps
-//! `clear_seen` takes the seen bit from each of them, and changes nothing else.
+//! `clear_seen` takes the seen bit from each of them, and `unmap` makes each of them a slot;
+//! neither changes anything else.
 //!
 //! `Stores` shows areas, anon_vmas and page tables as they are kept, and `StoresMut` lends the
 //! tables for writing. Not counted: how often a walk asks for the next span, by which it sees no

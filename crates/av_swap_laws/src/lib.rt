@@ -2,17 +2,18 @@
 //! function's contract is a law, proved of the definitions alone.
 //!
 //! A step is said as a function of views (`specs/Steps`): what the parts answer after it, by what
-//! they answered before. That equation is all that the code has to meet. Proved here is what comes
-//! of it: where the parts stood for a ledger, memories, devices, areas and homes (`IsHeld`), they
-//! stand for those after the event, and the frames and slots that the event takes and frees are the
-//! ones that the definitions choose (`Steps`). `specs/May` has what a step asks of the ledger. That
-//! soundness and the definitions' own tests give it is proved too, and so is that one step can be
-//! made after the other (`a_page_goes_out_and_comes_back`).
+//! they answered before. That equation is all that the code has to meet, and it is what the steps
+//! of av_mem promise. Proved here is what comes of it: where the parts stood for a ledger,
+//! memories, devices, areas and homes (`IsHeld`), they stand for those after the event, and the
+//! frames and slots that the event takes and frees are the ones that the definitions choose
+//! (`Steps`). `specs/May` has what a step asks of the ledger. That soundness and the definitions'
+//! own tests give it is proved too, and so is that one step can be made after the other
+//! (`a_page_goes_out_and_comes_back`).
 //!
 //! There are steps for each note, for a use of a page, for an entry that goes, that goes over to a
-//! child or that moves, and for a swap area that is turned on or off. What covers entries of frames
-//! and slots through a fork or another change of areas, and what keeps the lists of what is free
-//! right, is proved with the definitions.
+//! child or that moves, and for a swap area that is turned on or off (no command does the latter).
+//! What covers entries of frames and slots through a fork or another change of areas, and what
+//! keeps the lists of what is free right, is proved with the definitions.
 #![tactic(auto)]
 
 ghost use Rattle.std.specs.Prelude.{◌≡◌, ◌+◌, length, filter, not, if◌then◌else◌, option_map, ◌⊎◌, ◌++◌, ◌==◌, ◌&&◌, ◌≤◌, ◌<◌, ℕ, Bool, false, true, List, [], ◌∷◌, Option, Some, None, IfSome, IsSome, IsSomeAnd, T, slice_index};

@@ -1,5 +1,4 @@
-//! Devices with swap areas, and the header of a swap area. A layer for swap: no command calls it
-//! yet.
+//! Devices with swap areas, and the header of a swap area.
 //!
 //! Proved: what a call of a device reads and writes, which pages change and which stay, and that
 //! each failure is counted; of the device in memory also which calls fail, exactly; of the device

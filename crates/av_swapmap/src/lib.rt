@@ -1,5 +1,5 @@
-//! How many entries name each slot of a swap area, kept in bytes with continuation digits
-//! (Linux's `swap_map`). A layer for swap: no command calls it yet.
+//! How many entries name each slot of a swap area, kept in bytes with continuation digits (Linux's
+//! `swap_map`).
 //!
 //! Proved: each call changes one slot's count or bit, and nothing else; only a count that grows
 //! past one byte takes memory; byte and digits are worth the count. Tests stand in `av_tests`.
