@@ -1,17 +1,18 @@
 //! Runs over a swap area in memory, some of whose calls fail. A machine's device is attached by its
 //! first call, and its header is read by the second.
 
-ghost use Rattle.std.specs.Prelude.{◌+◌, ◌≤◌};
+ghost use Rattle.std.specs.Prelude.{◌+◌, ◌≤◌, IfOk};
+ghost use Rattle.av_replay.specs.Attach.{HasNone};
 
 use av_io::{MemSink, MemSource};
 use av_replay::*;
-use av_swapdev::{MemDev, PAGE_LEN};
+use av_swapdev::{MemDev, PAGE_LEN, SwapDev};
 use std::alloc::{AllocError, Global};
 use std::test::Fail;
 
 /// A run whose words name one swap area: how many frames and pages there are, which calls of the
 /// device fail, what the trace and its transcript are, and with which byte each page of the area
-/// behind the header begins in the end.
+/// begins in the end.
 #[derive(Clone, Copy)]
 struct Case {
     frames: &'static str,
@@ -29,7 +30,7 @@ const CASES: [Case; 3] = [
         failing: &[2],
         trace: b"swapon 0\nswapon 0\nswapon 0\n",
         text: b"err EIO\non 7 0\nerr EBUSY\n",
-        first_bytes: &[0, 0, 0, 0, 0, 0, 0],
+        first_bytes: &[0, 0, 0, 0, 0, 0, 0, 0],
     },
     // A write fails, and the page is written again. A spoilt page of this device has each bit
     // inverted.
@@ -44,7 +45,7 @@ reclaim 1\nread 1 7fffffffe000 1\n",
 ok\n keep 0 referenced\nok\n age 0\nok\n put 0 0:1\n unmap 0\n start 0:1\n keep 0 started\nok\n fail 0:1\ndata 01\n map 1 \
 7fffffffe000 0\nok\nok\n keep 0 referenced\nok\n age 0\nok\n unmap 0\n start 0:1\n keep 0 \
 started\nok\n done 0:1\nok\n drop 0:1\ndata 01\n load 0:1 0\n map 1 7fffffffe000 0\n",
-        first_bytes: &[1, 0, 0],
+        first_bytes: &[0, 1, 0, 0],
     },
     // A pass in vain, one that frees the frame, and a read that fails behind it.
     Case {
@@ -60,7 +61,7 @@ data 01\n map 1 7fffffffd000 0\n\
 ok\n unmap 0\n start 0:1\n done 0:1\n drop 0:1\n new 1 7fffffffe000 0\n\
 bus 0\n put 0 0:2\n unmap 0\n start 0:2\n done 0:2\n drop 0:2\n\
 data 01\n load 0:1 0\n map 1 7fffffffd000 0\n drop 0:1\n",
-        first_bytes: &[1, 2, 0],
+        first_bytes: &[0, 1, 2, 0],
     },
 ];
 
@@ -80,8 +81,10 @@ fn header(last: u32) -> [u8; PAGE_LEN] {
     page
 }
 
-/// A device with one area of so many pages, at least one.
-fn device(alloc: Global, pages: u32, failing: &[u64]) -> Result<MemDev, AllocError> {
+/// A device with one area of so many pages, at least one, which isn't attached yet.
+fn device(alloc: Global, pages: u32, failing: &[u64]) -> Result<MemDev, AllocError>
+    ensures { IfOk result (λ dev. HasNone (⟦<MemDev as SwapDev>⟧.sizes dev)) }
+{
     let mut area = vec![in alloc; header(pages.max(1) - 1)]?;
     for _page in 1..pages {
         area.push([0; PAGE_LEN])?;
@@ -94,15 +97,18 @@ fn holds(dev: &MemDev, case: &Case) -> bool {
     if dev.page(0, 0) != Some(&header(case.pages.max(1) - 1)) {
         return false;
     }
-    let mut page = 0;
-    for byte in case.first_bytes {
-        page = (page + 1) % case.pages.max(1);
-        match dev.page(0, page) {
-            Some(bytes) if bytes[0] == *byte => {}
-            _ => return false,
+    for page in 1..case.pages {
+        if first_byte(dev, page) != case.first_bytes.get(page as usize).copied() {
+            return false;
         }
     }
     true
+}
+
+/// The byte with which a page of the area begins, if it has the page.
+fn first_byte(dev: &MemDev, page: u32) -> Option<u8> {
+    let bytes = dev.page(0, page)?;
+    Some(bytes[0])
 }
 
 /// Whether a run goes as the case says.
