@@ -1,3 +1,4 @@
+pub mod BatchLemmas
 pub mod EntriesLemmas
 pub mod NodesLemmas
 pub mod SearchLemmas

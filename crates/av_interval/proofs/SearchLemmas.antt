@@ -29,7 +29,7 @@ pub top-cut : (l : List Span) (x : Span) (r : List Span) → top (l ++ x ∷ r) 
 top-cut [] x r = omega arith
 top-cut (y ∷ l) x r = let h = top-cut l x r in omega (arith, h)
 
-and_false : (b : Bool) → (b && false) ≡ false
+pub and_false : (b : Bool) → (b && false) ≡ false
 and_false true = refl
 and_false false = refl
 
@@ -99,15 +99,15 @@ all_front : (x : Span) (l m : List Span) → AllAfter x (l ++ m) → AllAfter x 
 all_front x [] m a = tt
 all_front x (y ∷ l) m a = (a.0, all_front x l m a.1)
 
-ordered_front : (l m : List Span) → IsOrdered (l ++ m) → IsOrdered l
+pub ordered_front : (l m : List Span) → IsOrdered (l ++ m) → IsOrdered l
 ordered_front [] m s = tt
 ordered_front (x ∷ l) m s = (all_front x l m s.0, ordered_front l m s.1)
 
-ordered_back : (l m : List Span) → IsOrdered (l ++ m) → IsOrdered m
+pub ordered_back : (l m : List Span) → IsOrdered (l ++ m) → IsOrdered m
 ordered_back [] m s = s
 ordered_back (x ∷ l) m s = ordered_back l m s.1
 
-all_middle : (y : Span) (l : List Span) (x : Span) (r : List Span) → AllAfter y (l ++ x ∷ r) → IsBefore y x
+pub all_middle : (y : Span) (l : List Span) (x : Span) (r : List Span) → AllAfter y (l ++ x ∷ r) → IsBefore y x
 all_middle y [] x r a = a.0
 all_middle y (z ∷ l) x r a = all_middle y l x r a.1
 
@@ -115,7 +115,7 @@ abbrev pub IsPast : Option (ℕ × ℕ) → Span → Type 0
 IsPast None x = Unit {0}
 IsPast (Some p) x = (p.0 < x.first) ⊎ ((p.0 ≡ x.first) × (p.1 < x.area))
 
-past_true : (a : Option (ℕ × ℕ)) (x : Span) → is_past a x ≡ true → IsPast a x
+pub past_true : (a : Option (ℕ × ℕ)) (x : Span) → is_past a x ≡ true → IsPast a x
 past_true None x e = tt
 past_true (Some p) x e =
     elim (ltb p.0 x.first) as (λ v. ltb p.0 x.first ≡ v → (v || (eqb p.0 x.first && ltb p.1 x.area)) ≡ true → IsPast (Some p) x) [
@@ -126,12 +126,12 @@ past_true (Some p) x e =
       ] refl f
     ] refl e
 
-true_past : (a : Option (ℕ × ℕ)) (x : Span) → IsPast a x → is_past a x ≡ true
+pub true_past : (a : Option (ℕ × ℕ)) (x : Span) → IsPast a x → is_past a x ≡ true
 true_past None x h = refl
 true_past (Some p) x (inl h) = rw (lt-ltb p.0 x.first h) refl
 true_past (Some p) x (inr h) = let e = h.0 in let k = h.1 in rw (le-ltb p.0 x.first (omega arith), eq-eqb p.0 x.first e, lt-ltb p.1 x.area k) refl
 
-past_on : (a : Option (ℕ × ℕ)) (x y : Span) → IsBefore x y → IsPast a x → IsPast a y
+pub past_on : (a : Option (ℕ × ℕ)) (x y : Span) → IsBefore x y → IsPast a x → IsPast a y
 past_on None x y b h = tt
 past_on (Some p) x y (inl b) (inl h) = inl (omega arith)
 past_on (Some p) x y (inl b) (inr h) = let e = h.0 in inl (omega arith)
@@ -143,7 +143,7 @@ past_right a i x [] s e = refl
 past_right a i x (y ∷ r) s e =
     rw (true_past a y (past_on a x y s.0 (past_true a x e))) (ap (cond (nat_le i y.last) (Some y)) (past_right a i x r s.1 e))
 
-not_past : (a : Option (ℕ × ℕ)) (x y : Span) → IsBefore y x → is_past a x ≡ false → is_past a y ≡ false
+pub not_past : (a : Option (ℕ × ℕ)) (x y : Span) → IsBefore y x → is_past a x ≡ false → is_past a y ≡ false
 not_past a x y b e =
     elim (is_past a y) as (λ v. is_past a y ≡ v → v ≡ false) [
       | true ↦ λ q. absurd (both_ways (is_past a x) e (true_past a x (past_on a y x b (past_true a y q))))
@@ -245,7 +245,7 @@ abbrev pub check : ℕ → Option Span → Option (ℕ × ℕ)
 check i None = None
 check i (Some x) = cond (nat_le x.first i) (Some (x.first, x.area)) None
 
-later_start : (x y : Span) (i : ℕ) → IsBefore x y → i < x.first → i < y.first
+pub later_start : (x y : Span) (i : ℕ) → IsBefore x y → i < x.first → i < y.first
 later_start x y i (inl b) h = omega arith
 later_start x y i (inr b) h = let e = b.0 in omega arith
 
@@ -287,11 +287,11 @@ none_remain a i (x ∷ xs) e = elim (is_past a x && overlaps i x) as (λ (b : Bo
       | false ↦ λ d. let h = none_remain a i xs d in omega arith
     ] e
 
-not_past_itself : (x : Span) → is_past (Some (x.first, x.area)) x ≡ false
+pub not_past_itself : (x : Span) → is_past (Some (x.first, x.area)) x ≡ false
 not_past_itself x = rw (le-ltb x.first x.first (omega arith), le-ltb x.area x.area (omega arith)) (and_false (eqb x.first x.first))
 
 -- what stands before the span that is found is not past it
-found_past : (a : Option (ℕ × ℕ)) (i : ℕ) (x : Span) (xs : List Span) (p : ℕ × ℕ) → AllAfter x xs → overlap_of a i xs ≡ Some p → is_past (Some p) x ≡ false
+pub found_past : (a : Option (ℕ × ℕ)) (i : ℕ) (x : Span) (xs : List Span) (p : ℕ × ℕ) → AllAfter x xs → overlap_of a i xs ≡ Some p → is_past (Some p) x ≡ false
 found_past a i x [] p s e = cc
 found_past a i x (y ∷ xs) p s e = elim (is_past a y && overlaps i y) as (λ (b : Bool). cond b (Some (y.first, y.area)) (overlap_of a i xs) ≡ Some p →
     is_past (Some p) x ≡ false) [
@@ -308,7 +308,7 @@ past_it : (i : ℕ) (x : Span) (xs : List Span) → AllAfter x xs → remaining 
 past_it i x [] s = refl
 past_it i x (y ∷ xs) s = rw (true_past (Some (x.first, x.area)) y s.0) (ap (λ n. cond {A = ℕ} (overlaps i y) 1 0 + n) (past_it i x xs s.1))
 
-first_true : (b c : Bool) → (b && c) ≡ true → b ≡ true
+pub first_true : (b c : Bool) → (b && c) ≡ true → b ≡ true
 first_true true c e = refl
 first_true false c e = e
 

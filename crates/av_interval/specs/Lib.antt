@@ -1,3 +1,4 @@
+pub mod Batch
 pub mod Nodes
 pub mod Roots
 pub mod Search

@@ -11,7 +11,7 @@ use crate::nodes::{Node, Nodes};
 use av_base::Steps;
 use std::sync::ledger::Ledger;
 
-fn comes_after(node: &Node, after: Option<(u64, u64)>) -> bool
+pub(crate) fn comes_after(node: &Node, after: Option<(u64, u64)>) -> bool
     ensures { result ≡ is_past after (span_of node.now) }
 {
     match after {
@@ -20,7 +20,7 @@ fn comes_after(node: &Node, after: Option<(u64, u64)>) -> bool
     }
 }
 
-fn child_that_reaches(child: Option<(u64, u64)>, index: u64) -> Option<u64>
+pub(crate) fn child_that_reaches(child: Option<(u64, u64)>, index: u64) -> Option<u64>
     ensures { result ≡ reaching_child index child }
 {
     match child {

@@ -1,13 +1,16 @@
-ghost use Rattle.std.specs.Prelude.{◌≡◌, ℕ, ◌+◌, ◌*◌, ◌^◌, ◌<◌, ◌≤◌, [], is_ok, length, IsSome, OnErr, if◌then◌else◌};
+ghost use Rattle.std.specs.Prelude.{◌≡◌, ℕ, ◌+◌, ◌*◌, ◌^◌, ◌<◌, ◌≤◌, [], is_ok, length, take, IsSome, OnErr, if◌then◌else◌};
 ghost use Rattle.av_arena.specs.Order.{entry_at, with_entry, without_key};
 ghost use Rattle.av_interval.specs.Spans.{IsNew, height_at, tree_of, triples};
 ghost use Rattle.av_interval.specs.Span.{triple};
 ghost use Rattle.av_interval.specs.Search.{overlap_of};
+ghost use Rattle.av_interval.specs.Batch.{overlaps_past};
+ghost use Rattle.arrayvec.specs.ArrayVec.{array_vec_len};
 ghost use Rattle.av_interval.specs.Roots.{len_of, top_of};
 ghost use Rattle.av_interval.specs.Nodes.{child_of};
 ghost use Rattle.av_base.specs.Words.{with_at};
 ghost use Rattle.av_interval.specs.Span.{key, key_of};
 
+use crate::batch::{BATCH, Batch, search_batch};
 use crate::nodes::{Node, Nodes};
 use crate::roots::{Root, Roots};
 use crate::search::search;
@@ -131,6 +134,26 @@ impl Spans {
         // What keeps the trees shallow is the value's own, which a look at a part of it opens.
         let _ = &self.arena;
         search(self, anon, index, after, steps)
+    }
+
+    /// First index and area of the next spans past `after` that overlap `index`, as many as a batch
+    /// has room for. It takes no memory.
+    pub fn overlaps<L: Ledger>(
+        &self,
+        anon: u64,
+        index: u64,
+        after: Option<(u64, u64)>,
+        steps: &mut Steps<L>,
+    ) -> Batch
+        ensures found { result.items ≡ take BATCH
+            (overlaps_past after index (triples self.now anon)) }
+        ensures cost { steps.new ≤ steps.old
+            + (array_vec_len result + 2) * height_at self.now anon }
+        ensures shallow { 2 ^ height_at self.now anon ≤ (length (triples self.now anon) + 1) *
+            (length (triples self.now anon) + 1) }
+    {
+        let _ = &self.roots;
+        search_batch(self, anon, index, after, steps)
     }
 
     /// How many spans an anon_vma has.

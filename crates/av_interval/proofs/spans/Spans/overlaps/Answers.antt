@@ -1,0 +1,9 @@
+use Rattle.std.proofs.Common.{subst}
+use Rattle.av_interval.specs.Spans.{Forest, IsForest, store_of, root_in, tree_of}
+use Rattle.av_interval.proofs.SpansLemmas.{shallow}
+use Rattle.av_interval.proofs.spans.Spans.overlaps.Goals as goal
+
+pub returns-clause-shallow : goal.returns-clause-shallow
+returns-clause-shallow g c =
+    let f = subst (λ (w : Forest). IsForest (store_of w) (root_in w)) c.self.view_is c.self.invariant in
+    shallow (tree_of c.args.self.now c.args.anon) (f.held c.args.anon).level
