@@ -9,6 +9,7 @@ use Rattle.av_pagetable.specs.Entries.{entry_at}
 use Rattle.av_plain.specs.Ledger.{InFrame, InSlot}
 use Rattle.av_plain.specs.Stands.{Pte as Plain, View}
 use Rattle.av_rmap.specs.Covered.{IsCoveredFrom}
+use Rattle.av_rmap.specs.Walk.{names_frame}
 use Rattle.av_rmap.specs.Seen.{unseen}
 use Rattle.av_rmap.specs.Unmap.{away}
 use Rattle.av_rmap.proofs.SeenLemmas.{unseen-other}
@@ -49,12 +50,12 @@ plain-unseen f (Away t) = refl
 -- ---- a frame without a home
 
 -- no entry names it
-pub unseen-none : (k : Mem) (f : ℕ) → (o : Option (ℕ × ℕ)) → o ≡ None → IsCoveredFrom (reach k) f o
+pub unseen-none : (k : Mem) (f : ℕ) → (o : Option (ℕ × ℕ)) → o ≡ None → IsCoveredFrom (reach k) (names_frame f) o
     → entry_at k.tables ≡ (λ p page. unseen f (entry_at k.tables p page))
 unseen-none k f (Some h) is reached = cc
 unseen-none k f None is reached = λ i p page. sym (unseen-other f (entry_at k.tables p page) (reached p page)) i
 
-pub away-none : (k : Mem) (f : ℕ) (s : Slot) → (o : Option (ℕ × ℕ)) → o ≡ None → IsCoveredFrom (reach k) f o
+pub away-none : (k : Mem) (f : ℕ) (s : Slot) → (o : Option (ℕ × ℕ)) → o ≡ None → IsCoveredFrom (reach k) (names_frame f) o
     → entry_at k.tables ≡ (λ p page. away f s (entry_at k.tables p page))
 away-none k f s (Some h) is reached = cc
 away-none k f s None is reached = λ i p page. sym (away-other f s (entry_at k.tables p page) (reached p page)) i

@@ -1,6 +1,6 @@
 -- What the memory system stands for between commands, and what it serves between two steps of one: the one gives the other. And neither says how often
 -- the device failed. The swap areas fit where they stay.
-use Rattle.std.proofs.Common.{◌≡◌, ℕ, ◌<◌, ◌≤◌, List, None, Option, Some, refl, sym, ap, subst, ◌∙◌}
+use Rattle.std.proofs.Common.{◌≡◌, ℕ, ◌≤◌, List, None, Option, Some, refl, sym, ap, subst, ◌∙◌}
 use Rattle.std.specs.FinMap.Entries.{find}
 use Rattle.std.specs.Ordering.{nat_cmp}
 use Rattle.std.specs.Prelude.{ℤ, Bool, not, IfSome, IsSomeAnd}
@@ -105,6 +105,31 @@ keeps-whenever sizes pages n n' k s h = let stands = h.stands in record {
   tables = h.tables;
   anons = h.anons;
   swap = fits-whenever sizes pages n n' None k h.swap;
+}
+
+-- so it is within a command
+pub serves-whenever : (sizes : ℕ → Option ℕ) (pages : Option (ℕ → ℕ → List ℕ)) (n n' : ℕ) (closing : Option ℕ) (k : Mem) (w : World) (r : Rmap) (l : Ledger)
+    → Serves (device_by sizes pages n) closing k w r l → Serves (device_by sizes pages n') closing k w r l
+serves-whenever sizes pages n n' closing k w r l h = record {
+  held = record {
+    ledger = h.held.ledger;
+    bytes = record { kept = h.held.bytes.kept; clean = h.held.bytes.clean };
+    headers = h.held.headers;
+    covered = h.held.covered;
+    homes = h.held.homes;
+  };
+  areas = h.areas;
+  are = h.are;
+  anons = h.anons;
+  tidy = h.tidy;
+  at_pages = h.at_pages;
+  there = h.there;
+  areas_fit = h.areas_fit;
+  free = h.free;
+  lists = h.lists;
+  tables = h.tables;
+  fit = h.fit;
+  swap = fits-whenever sizes pages n n' closing k h.swap;
 }
 
 -- ---- the swap areas

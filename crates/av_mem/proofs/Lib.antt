@@ -17,3 +17,5 @@ pub mod LetGoLaws
 pub mod Groups
 pub mod ZapLaws
 pub mod SwapSums
+pub mod HomeLaws
+pub mod ComingBack

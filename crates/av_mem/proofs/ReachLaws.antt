@@ -1,8 +1,9 @@
--- A frame's entries are reached from its home: of what is kept between commands, and of what is served within one.
+-- The entries of a frame and of its slot are reached from its home: of what is kept between commands, and of what is served within one.
 use Rattle.std.proofs.Common.{◌≡◌, ℕ, Bool, true, false, [], Option, Some, None, option_map, IfSome, IsSomeAnd, refl, sym, ap, subst, ◌∙◌}
 use Rattle.std.proofs.lemmas.Bool.{false≢true}
 use Rattle.std.specs.Option.{option_map_or}
 use Rattle.av_base.specs.Words.{is_in}
+use Rattle.av_base.specs.declared.slot.Slot.{Slot}
 use Rattle.av_vma.specs.declared.area.Area.{Area}
 use Rattle.av_vma.specs.Areas.{area_of}
 use Rattle.av_vma.specs.Join.{index_of}
@@ -17,30 +18,40 @@ use Rattle.av_spaces.specs.Spaces.{AreNumbered, IsNumber}
 use Rattle.av_spaces.specs.Kin as in_spaces
 use Rattle.av_spaces.specs.Kin.{AnonsFit, info_of}
 use Rattle.av_rmap.specs.Covered.{IsCoveredFrom, IsReached}
-use Rattle.av_rmap.specs.Walk.{names_frame}
+use Rattle.av_rmap.specs.Walk.{names_frame, names_slot}
 use Rattle.av_plain.specs.Areas.{AnonVma, Rmap, chain_by}
-use Rattle.av_plain.specs.Covered.{IsReached as IsReachedAt, IsRmapSound}
+use Rattle.av_plain.specs.Covered.{AreSlotsCovered, IsReached as IsReachedAt, IsRmapSound}
 use Rattle.av_plain.specs.Device.{Device}
-use Rattle.av_plain.specs.Ledger.{Entry, Key, Ledger, entry, names_frame as names}
+use Rattle.av_plain.specs.Ledger.{Entry, Key, Ledger, entry, frame_at, names_frame as names, names_slot as in_slot}
 use Rattle.av_plain.specs.Stands.{AnonsStand, AreasAre, HomesAre, entry_of}
 use Rattle.av_plain.specs.Transcript.{State, rmap_of}
 use Rattle.av_plain.specs.World.{World}
 use Rattle.av_plain.proofs.Ledger.Walk.{passes}
 use Rattle.av_mem.specs.declared.mem.Mem.{Mem}
-use Rattle.av_mem.specs.Chains.{AreReached, reach}
+use Rattle.av_mem.specs.Chains.{AreReached, AreSlotReached, reach}
 use Rattle.av_mem.specs.Mem.{Keeps, Serves, anon_vma, anons_of, plain, view}
 
-names-are : (f : ℕ) (t : Pte) → names_frame f t ≡ passes (names f) (entry_of (plain t))
-names-are f Empty = refl
-names-are f Zero = refl
-names-are f (Here g write seen) = refl
-names-are f (Away slot) = refl
+-- a test of the table's entries says what one of the ledger's does
+abbrev pub SaysAs : (Pte → Bool) → (Entry → Bool) → Type 0
+SaysAs test p = (t : Pte) → test t ≡ passes p (entry_of (plain t))
 
-passes-some : (f : ℕ) (o : Option Entry) → passes (names f) o ≡ true → IsSomeAnd o (λ e. names f e ≡ true)
-passes-some f None h = absurd (false≢true h)
-passes-some f (Some e) h = h
+pub frame-says : (f : ℕ) → SaysAs (names_frame f) (names f)
+frame-says f Empty = refl
+frame-says f Zero = refl
+frame-says f (Here g write seen) = refl
+frame-says f (Away slot) = refl
 
--- the entries are the ledger's, areas, anon_vmas and homes are these, there is chain order, and the entries of frames are covered
+pub slot-says : (s : Slot) → SaysAs (names_slot s) (in_slot s)
+slot-says s Empty = refl
+slot-says s Zero = refl
+slot-says s (Here g write seen) = refl
+slot-says s (Away slot) = refl
+
+passes-some : (p : Entry → Bool) (o : Option Entry) → passes p o ≡ true → IsSomeAnd o (λ e. p e ≡ true)
+passes-some p None h = absurd (false≢true h)
+passes-some p (Some e) h = h
+
+-- the entries are the ledger's, areas, anon_vmas and homes are these, there is chain order, and the entries of frames and slots are covered
 pub record Reaches (k : Mem) (r : Rmap) (l : Ledger) : Type 0 where
   pub entries : (p page : ℕ) → entry_of (plain (entry_at k.tables p page)) ≡ entry l (p, page)
   pub areas : AreasAre (view k) r.areas
@@ -48,6 +59,7 @@ pub record Reaches (k : Mem) (r : Rmap) (l : Ledger) : Type 0 where
   pub homes : HomesAre (view k) r.homes
   pub fit : AnonsFit k.spaces k.anons
   pub covered : IsRmapSound l r
+  pub slots : AreSlotsCovered l r
 
 pub reaches-kept : (d : Device) (k : Mem) (s : State) → Keeps d k s → Reaches k (rmap_of s) s.ledger
 reaches-kept d k s h = record {
@@ -57,6 +69,7 @@ reaches-kept d k s h = record {
   homes = h.stands.homes;
   fit = h.anons;
   covered = h.stands.reach;
+  slots = h.stands.slots;
 }
 
 pub reaches-served : (d : Device) (closing : Option ℕ) (k : Mem) (w : World) (r : Rmap) (l : Ledger) → Serves d closing k w r l → Reaches k r l
@@ -67,12 +80,13 @@ reaches-served d closing k w r l h = record {
   homes = h.held.homes;
   fit = h.fit;
   covered = h.held.covered.frames;
+  slots = h.held.covered.slots;
 }
 
 module _ (k : Mem) (r : Rmap) (l : Ledger) (h : Reaches k r l) where
-  -- an entry names the frame where the ledger's does
-  pub names-there : (f : ℕ) (q : Key) → names_frame f (entry_at k.tables q.0 q.1) ≡ passes (names f) (entry l q)
-  names-there f q = names-are f (entry_at k.tables q.0 q.1) ∙ ap (passes (names f)) (h.entries q.0 q.1)
+  -- an entry passes where the ledger's does
+  pub passes-there : (test : Pte → Bool) (p : Entry → Bool) → SaysAs test p → (q : Key) → test (entry_at k.tables q.0 q.1) ≡ passes p (entry l q)
+  passes-there test p says q = says (entry_at k.tables q.0 q.1) ∙ ap (passes p) (h.entries q.0 q.1)
 
   -- a link that the definitions say is one of the area's chain
   linked_is : (p page v n : ℕ) (A : Area) → IsNumber k.spaces p page A n → r.areas p page ≡ Some A
@@ -111,20 +125,28 @@ module _ (k : Mem) (r : Rmap) (l : Ledger) (h : Reaches k r l) where
             index = is.1;
           }
 
-  -- where an entry names the frame, the frame has a home from which it is reached
-  covers : (f : ℕ) (q : Key) → names_frame f (entry_at k.tables q.0 q.1) ≡ true → IsSomeAnd ((view k).homes f) (IsReachedAt r q)
-  covers f q named = subst (λ o. IsSomeAnd o (IsReachedAt r q)) (sym (h.homes f))
-      (h.covered.covered q f (passes-some f (entry l q) (sym (names-there f q) ∙ named)))
-
-  -- from its home each of the frame's entries is reached; without one it has none
-  pub are-reached : (f : ℕ) → AreReached k f
-  are-reached f numbered = by ((view k).homes f) refl
+  -- where each entry that passes is reached from the frame's home in the words of the definitions, it is so; without one none passes
+  reached-by : (test : Pte → Bool) (f : ℕ) → ((q : Key) → test (entry_at k.tables q.0 q.1) ≡ true → IsSomeAnd (r.homes f) (IsReachedAt r q))
+      → AreNumbered k.spaces → IsCoveredFrom (reach k) test ((view k).homes f)
+  reached-by test f covers numbered = by ((view k).homes f) refl
     where
-      unnamed : (view k).homes f ≡ None → (q : Key) (b : Bool) → names_frame f (entry_at k.tables q.0 q.1) ≡ b → b ≡ false
-      unnamed homeless q false e = refl
-      unnamed homeless q true e = absurd (subst (λ o. IsSomeAnd o (IsReachedAt r q)) homeless (covers f q e))
+      at_home : (q : Key) → test (entry_at k.tables q.0 q.1) ≡ true → IsSomeAnd ((view k).homes f) (IsReachedAt r q)
+      at_home q named = subst (λ o. IsSomeAnd o (IsReachedAt r q)) (sym (h.homes f)) (covers q named)
 
-      by : (o : Option (ℕ × ℕ)) → (view k).homes f ≡ o → IsCoveredFrom (reach k) f o
-      by None is = λ p page. unnamed is (p, page) (names_frame f (entry_at k.tables p page)) refl
+      unnamed : (view k).homes f ≡ None → (q : Key) (b : Bool) → test (entry_at k.tables q.0 q.1) ≡ b → b ≡ false
+      unnamed homeless q false e = refl
+      unnamed homeless q true e = absurd (subst (λ o. IsSomeAnd o (IsReachedAt r q)) homeless (at_home q e))
+
+      by : (o : Option (ℕ × ℕ)) → (view k).homes f ≡ o → IsCoveredFrom (reach k) test o
+      by None is = λ p page. unnamed is (p, page) (test (entry_at k.tables p page)) refl
       by (Some home) is = λ p page named. reached numbered home p page
-          (subst (λ o. IsSomeAnd o (IsReachedAt r (p, page))) is (covers f (p, page) named))
+          (subst (λ o. IsSomeAnd o (IsReachedAt r (p, page))) is (at_home (p, page) named))
+
+  pub are-reached : (f : ℕ) → AreReached k f
+  are-reached f = reached-by (names_frame f) f (λ q named.
+      h.covered.covered q f (passes-some (names f) (entry l q) (sym (passes-there (names_frame f) (names f) (frame-says f) q) ∙ named)))
+
+  -- where the frame caches the slot
+  pub slot-reached : (s : Slot) (f : ℕ) → frame_at l s ≡ Some f → AreSlotReached k s f
+  slot-reached s f cached = reached-by (names_slot s) f (λ q named.
+      h.slots.cached s q f cached (passes-some (in_slot s) (entry l q) (sym (passes-there (names_slot s) (in_slot s) (slot-says s) q) ∙ named)))

@@ -1,4 +1,4 @@
--- What a walk needs holds of whatever the memory system stands for, and what it finds is the ledger's walk.
+-- What a walk needs holds of whatever the memory system stands for, and what it finds are the ledger's keys of the frame, or of the slot.
 use Rattle.std.proofs.Common.{◌≡◌, ℕ, ◌<◌, ◌≤◌, Bool, true, false, cond, ◌||◌, T, List, [], ◌∷◌, length, map, filter, Option, Some, None, is_some, Result, Ok, Err, refl, sym, ap, ◌∙◌, arith}
 use Rattle.std.specs.Prelude.{IfOk, OnOk}
 use Rattle.std.proofs.lemmas.Bool.{false≢true}
@@ -7,9 +7,12 @@ use Rattle.std.specs.List.{AllByRecursion, list_any}
 use Rattle.std.specs.FinMap.Entries.{below_all, is_sorted}
 use Rattle.std.specs.Ordering.{is_lt}
 use Rattle.av_base.specs.Limits.{top_page}
+use Rattle.av_base.specs.Words.{how_many}
+use Rattle.av_base.specs.declared.slot.Slot.{Slot}
 use Rattle.av_chain.specs.Links.{one_if}
 use Rattle.av_vma.specs.declared.area.Area.{Area}
 use Rattle.av_vma.specs.Areas.{area_of}
+use Rattle.av_pagetable.specs.declared.pte.Pte.{Pte}
 use Rattle.av_pagetable.specs.Entries.{entry_at}
 use Rattle.av_anon.specs.Anons.{family}
 use Rattle.av_anon.specs.Spans.{spans_of}
@@ -17,24 +20,27 @@ use Rattle.av_spaces.specs.Spaces.{AllRising, AreNumbered, pages_of}
 use Rattle.av_spaces.proofs.Rising.{laid}
 use Rattle.av_rmap.specs.View.{AreApart, AreSpanned, View as Reach, view_with}
 use Rattle.av_rmap.specs.Sorted.{AreRising, IsBefore}
-use Rattle.av_rmap.specs.Walk.{AreItsEntries, Key, looks_from, names_frame, same_key}
+use Rattle.av_rmap.specs.Walk.{AreItsEntries, Key, looks_from, names_frame, names_slot, same_key}
 use Rattle.av_rmap.proofs.Counting.{keys-as-long}
 use Rattle.av_rmap.proofs.LinkedAreas.{spans-are-areas}
 use Rattle.av_rmap.proofs.SortedLemmas.{below-before, once-there, rising-same}
 use Rattle.av_plain.specs.Device.{Device}
-use Rattle.av_plain.specs.Ledger.{Entry, entry, key_cmp, names_frame as names, walk}
-use Rattle.av_plain.specs.World.{pages}
+use Rattle.av_plain.specs.Areas.{Rmap}
+use Rattle.av_plain.specs.Ledger.{Entry, Ledger, entry, key_cmp, keys_of_slot, names_frame as names, names_slot as in_slot, walk}
+use Rattle.av_plain.specs.Sound.{AtPages}
+use Rattle.av_plain.specs.Stands.{AreasStand}
+use Rattle.av_plain.specs.World.{World, pages}
 use Rattle.av_plain.specs.Transcript.{State, rmap_of}
 use Rattle.av_plain.proofs.Ledger.{same_key as same_key_by}
 use Rattle.av_plain.proofs.Ledger.NoSwap.{key_is}
 use Rattle.av_plain.proofs.Ledger.Order.{both_first, both_second}
-use Rattle.av_plain.proofs.Ledger.Walk.{all-walked, length-walk, passes, walk-has}
+use Rattle.av_plain.proofs.Ledger.Walk.{all-listed, keys-filter, length-keys, passes}
 use Rattle.av_mem.specs.declared.mem.Mem.{Mem}
-use Rattle.av_mem.specs.Mem.{Keeps, view}
+use Rattle.av_mem.specs.Mem.{Keeps, Serves, view}
 use Rattle.av_mem.specs.Chains.{AreReached, reach}
 use Rattle.av_mem.specs.Walk.{areas_at}
 use Rattle.av_mem.proofs.MemLaws.{mapped_is, taken_has}
-use Rattle.av_mem.proofs.ReachLaws.{Reaches, are-reached, names-there as names-there-by, reaches-kept}
+use Rattle.av_mem.proofs.ReachLaws.{Reaches, SaysAs, are-reached, frame-says, passes-there, reaches-kept, reaches-served, slot-says}
 
 -- ---- the walk of the ledger rises
 
@@ -69,6 +75,49 @@ any-same : (k : Key) (ks : List Key) → list_any (same_key k) ks ≡ list_any (
 any-same k [] = refl
 any-same k (j ∷ js) = ap (λ b. b || list_any (same_key k) js) (sym (key_is k.0 k.1 j.0 j.1)) ∙ ap (λ b. same_key_by k j || b) (any-same k js)
 
+-- ---- the entries that a walk finds
+
+-- the list of those that a test of the ledger's entries passes, by a test of the table's that says the same
+module _ (k : Mem) (r : Rmap) (l : Ledger) (h : Reaches k r l) (sorted : T (is_sorted key_cmp l.entries)) (test : Pte → Bool) (p : Entry → Bool)
+    (says : SaysAs test p) where
+  its : AreItsEntries (reach k) test (keys_of p l.entries)
+  its q = once-there q (keys_of p l.entries) (keys-rise p l.entries sorted)
+      ∙ ap one_if (any-same q (keys_of p l.entries) ∙ keys-filter p l.entries q sorted ∙ sym (passes-there k r l h test p says q))
+
+  -- no list of them is longer than how many pass
+  few : (n : ℕ) → n ≡ how_many (λ e. p e.1) l.entries → (keys : List Key) → AreItsEntries (reach k) test keys → length keys ≤ n
+  few n is keys also =
+      let same : length keys ≡ n = keys-as-long keys (keys_of p l.entries) (λ q. also q ∙ sym (its q)) ∙ length-keys p l.entries ∙ sym is in
+      omega (arith, same)
+
+  -- one that rises is that list
+  found : (keys : List Key) → AreItsEntries (reach k) test keys → AreRising keys → keys ≡ keys_of p l.entries
+  found keys also rising = rising-same keys (keys_of p l.entries) rising (keys-rise p l.entries sorted) (λ q. also q ∙ sym (its q))
+
+-- each that passes has a page below the top
+module _ (k : Mem) (w : World) (l : Ledger) (covers : AreasStand (view k) w) (at_pages : AtPages w l) (rising : AllRising k.spaces.processes) where
+  mapped_below : (q : Key) → is_some (entry l q) ≡ true → q.1 < top_page
+  mapped_below q is =
+      by (pages_of k.spaces.processes q.0 q.1) refl (taken_has k.spaces.processes q.0 q.1 ∙ ap is_some (covers.covers q.0 q.1)
+      ∙ mapped_is (pages w q.0 q.1) ∙ at_pages q.0 q.1 is)
+    where
+      by : (o : Option Area) → pages_of k.spaces.processes q.0 q.1 ≡ o → is_some o ≡ true → q.1 < top_page
+      by None e h = absurd (false≢true h)
+      by (Some area) e h =
+          let areas = laid k.spaces.processes q.0 rising in
+          let here = areas.here q.1 area e in
+          let whole = areas.whole q.1 area e in
+          let high = whole.high in
+          grind (arith, nat_tests, here, high)
+
+  below : (p : Entry → Bool) → T (is_sorted key_cmp l.entries) → AllByRecursion (λ (q : Key). q.1 < top_page) (keys_of p l.entries)
+  below p sorted = all-listed (λ q. q.1 < top_page) (keys_of p l.entries) (λ q is. mapped_below q
+      (there (entry l q) (sym (keys-filter p l.entries q sorted) ∙ is)))
+    where
+      there : (o : Option Entry) → passes p o ≡ true → is_some o ≡ true
+      there None h = absurd (false≢true h)
+      there (Some e) h = refl
+
 -- ---- the premises of a walk
 
 -- what a walk reads of the memory system, with these areas by number
@@ -86,52 +135,23 @@ module _ (d : Device) (k : Mem) (s : State) (keeps : Keeps d k s) where
   reaching : Reaches k (rmap_of s) s.ledger
   reaching = reaches-kept d k s keeps
 
-  names-there : (f : ℕ) (q : Key) → names_frame f (entry_at k.tables q.0 q.1) ≡ passes (names f) (entry s.ledger q)
-  names-there = names-there-by k (rmap_of s) s.ledger reaching
+  in_order : T (is_sorted key_cmp s.ledger.entries)
+  in_order = keeps.stands.sound.ledger.in_order
 
   -- from its home each of the frame's entries is reached; without one it has none
   pub covered : (f : ℕ) → AreReached k f
   covered = are-reached k (rmap_of s) s.ledger reaching
 
-  -- ---- what it finds
-
-  in_order : T (is_sorted key_cmp s.ledger.entries)
-  in_order = keeps.stands.sound.ledger.in_order
-
-  rises : (f : ℕ) → AreRising (walk s.ledger f)
-  rises f = keys-rise (names f) s.ledger.entries in_order
-
-  pub its : (f : ℕ) → AreItsEntries (reach k) f (walk s.ledger f)
-  its f q = once-there q (walk s.ledger f) (rises f)
-      ∙ ap one_if (any-same q (walk s.ledger f) ∙ walk-has s.ledger f q in_order ∙ sym (names-there f q))
-
   -- it finds no more than the frame's count
-  pub few : (f : ℕ) (keys : List Key) → AreItsEntries (reach k) f keys → length keys ≤ (view k).maps f
-  few f keys also =
-      let same : length keys ≡ (view k).maps f = keys-as-long keys (walk s.ledger f) (λ q. also q ∙ sym (its f q)) ∙ length-walk s.ledger f
-      ∙ sym (keeps.stands.parts.ledger.frames.maps f) in
-      omega (arith, same)
+  pub frame-few : (f : ℕ) (keys : List Key) → AreItsEntries (reach k) (names_frame f) keys → length keys ≤ (view k).maps f
+  frame-few f = few k (rmap_of s) s.ledger reaching in_order (names_frame f) (names f) (frame-says f) ((view k).maps f) (keeps.stands.parts.ledger.frames.maps f)
 
-  pub found : (f : ℕ) (keys : List Key) → AreItsEntries (reach k) f keys → AreRising keys → keys ≡ walk s.ledger f
-  found f keys also rising = rising-same keys (walk s.ledger f) rising (rises f) (λ q. also q ∙ sym (its f q))
+  pub frame-found : (f : ℕ) (keys : List Key) → AreItsEntries (reach k) (names_frame f) keys → AreRising keys → keys ≡ walk s.ledger f
+  frame-found f = found k (rmap_of s) s.ledger reaching in_order (names_frame f) (names f) (frame-says f)
 
   -- and each is at a page below the top
-  mapped_below : AllRising k.spaces.processes → (q : Key) → is_some (entry s.ledger q) ≡ true → q.1 < top_page
-  mapped_below rising q is =
-      by (pages_of k.spaces.processes q.0 q.1) refl (taken_has k.spaces.processes q.0 q.1 ∙ ap is_some (keeps.stands.parts.areas.covers q.0 q.1)
-      ∙ mapped_is (pages s.world q.0 q.1) ∙ keeps.stands.sound.at_pages q.0 q.1 is)
-    where
-      by : (o : Option Area) → pages_of k.spaces.processes q.0 q.1 ≡ o → is_some o ≡ true → q.1 < top_page
-      by None e h = absurd (false≢true h)
-      by (Some area) e h =
-          let areas = laid k.spaces.processes q.0 rising in
-          let here = areas.here q.1 area e in
-          let whole = areas.whole q.1 area e in
-          let high = whole.high in
-          grind (arith, nat_tests, here, high)
-
-  pub below : AllRising k.spaces.processes → (f : ℕ) → AllByRecursion (λ (q : Key). q.1 < top_page) (walk s.ledger f)
-  below rising f = all-walked (λ q. q.1 < top_page) s.ledger f in_order (mapped_below rising)
+  pub frame-below : AllRising k.spaces.processes → (f : ℕ) → AllByRecursion (λ (q : Key). q.1 < top_page) (walk s.ledger f)
+  frame-below rising f = below k s.world s.ledger keeps.stands.parts.areas keeps.stands.sound.at_pages rising (names f) in_order
 
   -- it looks once in each area that is linked and holds the index
   pub looks : (f : ℕ) → looks_from (reach k) ((view k).homes f) ≡ areas_at k ((view k).homes f)
@@ -140,6 +160,19 @@ module _ (d : Device) (k : Mem) (s : State) (keeps : Keeps d k s) where
       by : (o : Option (ℕ × ℕ)) → looks_from (reach k) o ≡ areas_at k o
       by None = refl
       by (Some home) = spans-are-areas (area_of k.spaces.areas) (family k.anons) (spans_of k.anons) home.0 home.1 keeps.anons.order
+
+-- so it is of the entries of a slot, within a command
+module _ (d : Device) (closing : Option ℕ) (k : Mem) (w : World) (r : Rmap) (l : Ledger) (sorted : T (is_sorted key_cmp l.entries))
+    (serves : Serves d closing k w r l) (s : Slot) where
+  pub slot-few : (keys : List Key) → AreItsEntries (reach k) (names_slot s) keys → length keys ≤ (view k).entries s
+  slot-few = few k r l (reaches-served d closing k w r l serves) sorted (names_slot s) (in_slot s) (slot-says s) ((view k).entries s)
+      (serves.held.ledger.swap.counts s)
+
+  pub slot-found : (keys : List Key) → AreItsEntries (reach k) (names_slot s) keys → AreRising keys → keys ≡ keys_of_slot l s
+  slot-found = found k r l (reaches-served d closing k w r l serves) sorted (names_slot s) (in_slot s) (slot-says s)
+
+  pub slot-below : AllRising k.spaces.processes → AllByRecursion (λ (q : Key). q.1 < top_page) (keys_of_slot l s)
+  slot-below rising = below k w l serves.areas serves.at_pages rising (in_slot s) sorted
 
 -- ---- results
 

@@ -35,12 +35,17 @@ abbrev pub Does : Device → Device → Mem → (Device → Device → World →
 Does d d' old IsSo = (told : Bool) (w : World) (r : Rmap) (l : Ledger)
     → KeepsBetween (as_told told d) old w r l → IsSo (as_told told d) (as_told told d') w r l
 
--- these events are done: what stands is what they leave, what became free or was taken is as
--- chosen, and it is the same device and machine
-pub record HasDone (d d' : Device) (old new : Mem) (w : World) (r : Rmap) (l : Ledger)
-    (events : List Event) : Type 0 where
+-- these events are done while this swap area, if any, was closing: what stands is what they leave,
+-- what became free or was taken is as chosen, and it is the same device and machine
+pub record HasDoneWhile (closing : Option ℕ) (d d' : Device) (old new : Mem) (w : World) (r : Rmap)
+    (l : Ledger) (events : List Event) : Type 0 where
   pub between : KeepsBetween d' new (with_loads (setting_by d old) w l events)
       (rmap_after_all l events r) (after_all l events)
-  pub free : ChoosesAll (setting_by d old) None l events (free_of (view old)) (free_of (view new))
+  pub free : ChoosesAll (setting_by d old) closing l events
+      (free_of (view old)) (free_of (view new))
   pub same : IsSameDevice d d'
   pub count : frame_count new ≡ frame_count old
+
+-- so it is in every other command: none was closing
+abbrev pub HasDone : Device → Device → Mem → Mem → World → Rmap → Ledger → List Event → Type 0
+HasDone d d' old new w r l events = HasDoneWhile None d d' old new w r l events

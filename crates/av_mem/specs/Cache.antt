@@ -1,5 +1,8 @@
 -- What steps of the swap cache do to the view, by what they answer.
-use Rattle.std.specs.Prelude.{◌≡◌, ℕ, ◌<◌, false, List, [], ◌∷◌, length, slice_index, Option, None, Some, Result, Ok, Err}
+use Rattle.std.specs.Option.{option_map_or}
+use Rattle.std.specs.Prelude.{◌≡◌, ℕ, ◌<◌, ◌==◌, if◌then◌else◌, false, List, [], ◌∷◌, length, slice_index, Option, None, Some, option_map, Result, Ok, Err}
+use Rattle.av_anon.specs.declared.infos.Info.{Info}
+use Rattle.av_spaces.specs.Kin.{info_of}
 use Rattle.av_base.specs.Page.{page_size}
 use Rattle.av_base.specs.Words.{is_in, with_at}
 use Rattle.av_base.specs.declared.slot.Slot.{Slot}
@@ -53,6 +56,16 @@ Ends (Some (Failed s f)) old new pages pages' faults faults' =
     × (view new ≡ view_fail f s (view old)) × Rose faults faults'
 
 -- ---- a page comes in
+
+-- the root of an anon_vma
+abbrev pub root_in : Mem → ℕ → ℕ
+root_in k v = option_map_or (λ (i : Info). i.root) (info_of k.anons v) v
+
+-- the home of a frame that takes the page of a slot: that of a page whose entry names the slot,
+-- where it is the only one, else with the root
+abbrev pub home_by : Mem → Slot → Option (ℕ × ℕ) → Option (ℕ × ℕ)
+home_by k s home = option_map
+    (λ (h : ℕ × ℕ). (if (view k).entries s == 1 then h.0 else root_in k h.0, h.1)) home
 
 -- the first free frame has the bytes of the slot's page, is cached there, and has this home
 pub record HasLoaded (old new : Mem) (pages : Option (ℕ → ℕ → List ℕ)) (f : ℕ) (s : Slot)

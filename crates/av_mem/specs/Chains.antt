@@ -1,10 +1,12 @@
--- What is reached of a frame's entries through its home.
+-- What is reached of the entries of a frame, and of its slot, through its home.
 use Rattle.std.specs.Prelude.{ℕ}
+use Rattle.av_base.specs.declared.slot.Slot.{Slot}
 use Rattle.av_anon.specs.Anons.{family}
 use Rattle.av_anon.specs.Spans.{spans_of}
 use Rattle.av_pagetable.specs.Entries.{entry_at}
 use Rattle.av_rmap.specs.Covered.{IsCoveredFrom}
 use Rattle.av_rmap.specs.View.{View, view_with}
+use Rattle.av_rmap.specs.Walk.{names_frame, names_slot}
 use Rattle.av_spaces.specs.Spaces.{AreNumbered}
 use Rattle.av_vma.specs.Areas.{area_of}
 use Rattle.av_mem.specs.Mem.{view}
@@ -17,4 +19,9 @@ reach k = view_with (area_of k.spaces.areas) (family k.anons) (spans_of k.anons)
 -- each entry that names the frame is reached from its home; without a home none does. It is so
 -- where areas stand under their numbers, which the areas themselves keep
 abbrev pub AreReached : Mem → ℕ → Type 0
-AreReached k f = AreNumbered k.spaces → IsCoveredFrom (reach k) f ((view k).homes f)
+AreReached k f = AreNumbered k.spaces → IsCoveredFrom (reach k) (names_frame f) ((view k).homes f)
+
+-- so is each that names the slot, which the frame caches
+abbrev pub AreSlotReached : Mem → Slot → ℕ → Type 0
+AreSlotReached k s f =
+    AreNumbered k.spaces → IsCoveredFrom (reach k) (names_slot s) ((view k).homes f)

@@ -1,6 +1,6 @@
 -- The memory system over a device: its view, put together from what its parts are seen as, and what
 -- it stands for.
-use Rattle.std.specs.Prelude.{◌≡◌, ℕ, ◌<◌, pos, not, false, List, [], length, map, Option, Some, None, IfSome, IsSomeAnd, is_some, option_map}
+use Rattle.std.specs.Prelude.{◌≡◌, ℕ, ◌<◌, pos, not, false, List, length, map, Option, Some, None, IfSome, IsSomeAnd, is_some, option_map}
 use Rattle.av_plain.specs.World.{World}
 use Rattle.av_plain.specs.Ledger.{Ledger, Setting, SwapArea, Zero as ZeroEntry, InFrame, InSlot, is_header_slot}
 use Rattle.av_plain.specs.Transcript.{State}

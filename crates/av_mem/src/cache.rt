@@ -1,11 +1,13 @@
 //! Steps of the swap cache, with frames, lists and the device.
 
-ghost use Rattle.std.specs.Prelude.{◌≡◌, ◌+◌, ◌-◌, ◌<◌, ◌≤◌, ◌^◌, ℕ, None, true, false, IfSome};
+ghost use Rattle.std.specs.Prelude.{◌≡◌, ◌+◌, ◌-◌, ◌<◌, ◌≤◌, ◌^◌, ℕ, None, true, false, IfSome, IsSome};
+ghost use Rattle.std.specs.Option.{ForSome};
 ghost use Rattle.av_base.specs.Words.{is_in};
 ghost use Rattle.av_pagetable.specs.Entries.{entry_at};
 ghost use Rattle.av_swap_laws.specs.Steps.{view_drop, view_map, view_start};
 ghost use Rattle.av_swapcache.specs.Swap.{HasAreas, IsUncached, is_cached, is_flying, shown as shown_swap};
-ghost use Rattle.av_mem.specs.Cache.{Ends, Loads, Puts};
+ghost use Rattle.av_spaces.specs.Kin.{info_of};
+ghost use Rattle.av_mem.specs.Cache.{Ends, Loads, Puts, home_by};
 ghost use Rattle.av_mem.specs.Mem.{HasLists, HasRoom, frame_count, view};
 ghost use Rattle.av_mem.specs.Steps.{KeepsParts};
 
@@ -84,6 +86,19 @@ impl Mem {
             self.frames.give(frame);
             self.lists.remove(frame);
         }
+    }
+
+    /// The home of a frame that takes the page of a slot: that of a page whose entry names the slot,
+    /// where it is the only one; else with the root of its anon_vma, from which all are reached.
+    pub fn home_to_load(&self, slot: Slot, home: Option<(u64, u64)>) -> Option<(u64, u64)>
+        requires { ForSome home (λ h. IsSome (info_of self.now.anons h.0)) }
+        ensures { result ≡ home_by self.now slot home }
+    {
+        let (own, index) = home?;
+        if self.swap.entries(slot) == 1 {
+            return home;
+        }
+        Some((self.anons.info(own).root, index))
     }
 
     /// Reads the page of a slot that an entry names from the device into the first free frame, and

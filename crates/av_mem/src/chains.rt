@@ -1,23 +1,26 @@
 //! Steps that go through a frame's home to its entries.
 
-ghost use Rattle.std.specs.Prelude.{◌≡◌, ◌<◌, ◌+◌, ◌^◌, ℕ, true, false, MatchBool, OnOk, OnErr};
+ghost use Rattle.std.specs.Prelude.{◌≡◌, ◌<◌, ◌≤◌, ◌+◌, ◌^◌, ℕ, true, false, length, List, IfOk, MatchBool, OnOk, OnErr};
 ghost use Rattle.av_pagetable.specs.Entries.{entry_at, has};
 ghost use Rattle.av_rmap.specs.Seen.{unseen};
 ghost use Rattle.av_rmap.specs.Unmap.{away};
-ghost use Rattle.av_rmap.specs.Walk.{Key, names_seen};
+ghost use Rattle.av_rmap.specs.Sorted.{AreRising};
+ghost use Rattle.av_rmap.specs.Walk.{AreItsEntries, Key, names_seen, names_slot};
 ghost use Rattle.av_spaces.specs.Kin.{AnonsFit};
+ghost use Rattle.av_spaces.specs.Spaces.{AllRising};
 ghost use Rattle.av_swap_laws.specs.Steps.{view_unmap, view_unseen};
 ghost use Rattle.av_swapcache.specs.Swap.{is_cached, shown as shown_swap};
-ghost use Rattle.av_mem.specs.Chains.{AreReached};
+ghost use Rattle.av_mem.specs.Chains.{AreReached, AreSlotReached, reach};
 ghost use Rattle.av_mem.specs.Mem.{frame_count, view};
 ghost use Rattle.av_mem.specs.Steps.{KeepsParts};
 
 use crate::mem::Mem;
 use av_base::{Slot, Steps};
 use av_rmap::seen::{any_seen, clear_seen};
+use av_rmap::sorted::walk_slot;
 use av_rmap::stores::{Stores, StoresMut};
 use av_rmap::unmap::unmap;
-use std::alloc::AllocError;
+use std::alloc::{AllocError, Global};
 use std::marker::Brand;
 use std::sync::ledger::{Blank, Ledger};
 
@@ -49,6 +52,66 @@ impl Mem {
         ensures parts { KeepsParts self.old self.new }
     {
         self.clear::<Brand>(frame, Blank::new(1));
+    }
+
+    /// Process and page of each entry that names a slot which the frame caches, once, by process and
+    /// then by page: they are found through the frame's home. `laid` is promised, not asked: areas
+    /// rise at all times, but callers don't see it.
+    pub fn namers(
+        &self,
+        alloc: Global,
+        slot: Slot,
+        frame: u32,
+    ) -> Result<Vec<(u16, u64)>, AllocError>
+        requires anons { AnonsFit self.now.spaces self.now.anons }
+        requires in_range { frame < frame_count self.now }
+        requires reached { AreSlotReached self.now slot frame }
+        requires count { (keys : List Key) → AreItsEntries (reach self.now) (names_slot slot) keys
+            → length keys ≤ (view self.now).entries slot }
+        ensures entries { IfOk result (λ keys.
+            AreItsEntries (reach self.now) (names_slot slot) keys.items) }
+        ensures rising { IfOk result (λ keys. AreRising keys.items) }
+        ensures laid { AllRising self.now.spaces.processes }
+    {
+        self.find_namers::<Brand>(alloc, slot, frame, Blank::new(1))
+    }
+
+    // The same. Nobody counts the looks.
+    fn find_namers<L: Ledger>(
+        &self,
+        alloc: Global,
+        slot: Slot,
+        frame: u32,
+        blank: Blank,
+    ) -> Result<Vec<(u16, u64)>, AllocError>
+        requires name { blank.name ≡ L.name }
+        requires parts { blank.parts ≡ L.parts }
+        requires some { 0 < blank.parts }
+        requires anons { AnonsFit self.now.spaces self.now.anons }
+        requires in_range { frame < frame_count self.now }
+        requires reached { AreSlotReached self.now slot frame }
+        requires count { (keys : List Key) → AreItsEntries (reach self.now) (names_slot slot) keys
+            → length keys ≤ (view self.now).entries slot }
+        ensures entries { IfOk result (λ keys.
+            AreItsEntries (reach self.now) (names_slot slot) keys.items) }
+        ensures rising { IfOk result (λ keys. AreRising keys.items) }
+        ensures laid { AllRising self.now.spaces.processes }
+    {
+        let areas = self.spaces.by_number();
+        let mut steps = Steps::<L>::open(blank);
+        let stores = Stores {
+            areas,
+            anons: &self.anons,
+            tables: &self.tables,
+        };
+        walk_slot(
+            alloc,
+            &stores,
+            slot,
+            self.frames.home(frame),
+            u64::from(self.swap.entries(slot)),
+            &mut steps,
+        )
     }
 
     /// Whether an entry that names a frame is seen.

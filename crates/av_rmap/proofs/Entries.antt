@@ -1,4 +1,4 @@
--- What a walk through the spans of the home's anon_vma finds: the frame's entries, each once.
+-- What a walk through the spans of the home's anon_vma finds: the entries that pass the test, each once.
 use Rattle.std.proofs.Common.{◌≡◌, ℕ, zero, suc, ◌+◌, ◌<◌, Bool, true, false, cond, ◌&&◌, List, [], ◌∷◌, ◌++◌, Option, Some, None, refl, sym, ap, subst, ◌∙◌, arith, inl, inr, ◌==◌, eq-eqb, ne_eqb}
 use Rattle.std.proofs.lemmas.Bool.{cases_eq}
 use Rattle.std.proofs.lemmas.Bool.Decides.{nat_tests}
@@ -127,13 +127,10 @@ walk-none view f i k each (x ∷ xs) =
     let h = each (view.areas x.area) in let rest = walk-none view f i k each xs in
     many-append (same_key k) (found_in view f i (view.areas x.area)) (walk_of view f i xs) ∙ omega (arith, h, rest)
 
--- the entries that pass the test, where each is reached from the home
-abbrev AreReached : View → (Pte → Bool) → ℕ × ℕ → Type 0
-AreReached view f home = (process page : ℕ) → f (view.entry process page) ≡ true → IsReached view home process page
-
-entries-are : (view : View) (f : Pte → Bool) (home : ℕ × ℕ) → AreSpanned view → AreApart view → AreReached view f home → (k : Key) →
-    how_many (same_key k) (walk_of view f home.1 (view.spans home.0)) ≡ one_if (f (view.entry k.0 k.1))
-entries-are view f home spanned apart covered k = is (f (view.entry k.0 k.1)) refl
+-- the walk finds the entries that pass the test, where each is reached from the home
+pub walk-is : (view : View) (f : Pte → Bool) (home : ℕ × ℕ) → AreSpanned view → AreApart view → IsCovered view f home →
+    AreItsEntries view f (walk_of view f home.1 (view.spans home.0))
+walk-is view f home spanned apart covered k = is (f (view.entry k.0 k.1)) refl
   where
     is : (b : Bool) → f (view.entry k.0 k.1) ≡ b → how_many (same_key k) (walk_of view f home.1 (view.spans home.0)) ≡ one_if (f (view.entry k.0 k.1))
     is true e =
@@ -141,10 +138,6 @@ entries-are view f home spanned apart covered k = is (f (view.entry k.0 k.1)) re
         walk-of view f home.1 k r.number (look-of view f home k apart e r) (view.spans home.0)
         ∙ one-span view home.0 r.number r.area spanned r.stands r.linked ∙ sym (ap one_if e)
     is false e = walk-none view f home.1 k (look-none view f home.1 k e) (view.spans home.0) ∙ sym (ap one_if e)
-
-pub walk-is : (view : View) (frame : ℕ) (home : ℕ × ℕ) → AreSpanned view → AreApart view → IsCovered view frame home →
-    AreItsEntries view frame (walk_of view (names_frame frame) home.1 (view.spans home.0))
-walk-is view frame home spanned apart covered = entries-are view (names_frame frame) home spanned apart covered
 
 -- what is seen names the frame
 seen-names : (frame : ℕ) (e : Pte) → names_seen frame e ≡ true → names_frame frame e ≡ true
@@ -158,14 +151,14 @@ seen-names frame (Here other write seen) h = first (frame == other) h
 seen-names frame (Away slot) h = cc
 
 -- where the looks find nothing seen, nothing is
-pub none-seen : (view : View) (frame : ℕ) (home : ℕ × ℕ) → AreSpanned view → AreApart view → IsCovered view frame home →
+pub none-seen : (view : View) (frame : ℕ) (home : ℕ × ℕ) → AreSpanned view → AreApart view → IsCovered view (names_frame frame) home →
     walk_of view (names_seen frame) home.1 (view.spans home.0) ≡ [] → (process page : ℕ) → names_seen frame (view.entry process page) ≡ false
 none-seen view frame home spanned apart covered empty process page = is (names_seen frame (view.entry process page)) refl
   where
     is : (b : Bool) → names_seen frame (view.entry process page) ≡ b → b ≡ false
     is false e = refl
     is true e =
-        let all = entries-are view (names_seen frame) home spanned apart (λ p x h. covered p x (seen-names frame (view.entry p x) h)) (process, page) in
+        let all = walk-is view (names_seen frame) home spanned apart (λ p x h. covered p x (seen-names frame (view.entry p x) h)) (process, page) in
         absurd (clash (sym (ap (how_many (same_key (process, page))) empty) ∙ all ∙ ap one_if e))
       where
         clash : ◌≡◌ {A = ℕ} 0 1 → ⊥

@@ -1,3 +1,4 @@
+pub mod AheadLemmas
 pub mod Counting
 pub mod Entries
 pub mod LinkedAreas

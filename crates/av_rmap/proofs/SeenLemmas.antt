@@ -105,13 +105,13 @@ pub record IsCleared (f : ℕ) (before now : View) (left : List Key) : Type 0 wh
   pub same : (p page : ℕ) → unseen f (now.entry p page) ≡ unseen f (before.entry p page)
   pub done : (k : Key) → how_many (same_key k) left ≡ 0 → now.entry k.0 k.1 ≡ unseen f (before.entry k.0 k.1)
 
-pub none-cleared : (f : ℕ) (view : View) (home : ℕ × ℕ) → AreSpanned view → AreApart view → IsCovered view f home →
+pub none-cleared : (f : ℕ) (view : View) (home : ℕ × ℕ) → AreSpanned view → AreApart view → IsCovered view (names_frame f) home →
     IsCleared f view view (walk_of view (names_frame f) home.1 (view.spans home.0))
 none-cleared f view home spanned apart covered = record {
   rest = refl;
   same = λ p page. refl;
   done = λ k none. sym (unseen-other f (view.entry k.0 k.1) (unnamed (names_frame f (view.entry k.0 k.1))
-      (sym none ∙ walk-is view f home spanned apart covered k)));
+      (sym none ∙ walk-is view (names_frame f) home spanned apart covered k)));
 }
   where
     unnamed : (b : Bool) → 0 ≡ one_if b → b ≡ false

@@ -11,8 +11,9 @@ use Rattle.av_arena.proofs.Order.{AllByRecursion-map}
 use Rattle.av_base.specs.Words.{how_many}
 use Rattle.av_rmap.specs.Sorted.{IsBefore, AreRising}
 use Rattle.av_chain.specs.Links.{one_if}
+use Rattle.av_pagetable.specs.declared.pte.Pte.{Pte}
 use Rattle.av_rmap.specs.View.{View}
-use Rattle.av_rmap.specs.Walk.{Key, AreItsEntries, names_frame, same_key}
+use Rattle.av_rmap.specs.Walk.{Key, AreItsEntries, same_key}
 
 -- what is counted is counted in any order
 as-sum : {X : Type 0} (test : X → Bool) (xs : List X) → how_many test xs ≡ sum_by (λ x. cond (test x) 1 0) xs
@@ -78,8 +79,8 @@ sorted-rise (k ∷ j ∷ ks) sorted once =
         two : {n : ℕ} → n ≡ 1 → n + (1 + how_many (same_key k) ks) ≤ 1 → ⊥
         two e h = absurd (omega (arith, e, h))
 
-pub at-most-once : (view : View) (frame : ℕ) (ks : List Key) → AreItsEntries view frame ks → (k : Key) → how_many (same_key k) ks ≤ 1
-at-most-once view frame ks its k = bound (names_frame frame (view.entry k.0 k.1)) (its k)
+pub at-most-once : (view : View) (f : Pte → Bool) (ks : List Key) → AreItsEntries view f ks → (k : Key) → how_many (same_key k) ks ≤ 1
+at-most-once view f ks its k = bound (f (view.entry k.0 k.1)) (its k)
   where
     bound : {n : ℕ} (b : Bool) → n ≡ one_if b → n ≤ 1
     bound true h = omega (arith, h)

@@ -1,7 +1,6 @@
 -- What unmapping, one look after the other, makes of the entries.
-use Rattle.std.proofs.Common.{◌≡◌, ℕ, ◌+◌, Bool, true, false, cond, not, ◌&&◌, ◌==◌, List, [], ◌∷◌, ◌++◌, Option, Some, None, IsSomeAnd, refl, sym, ap, subst, ◌∙◌, arith}
+use Rattle.std.proofs.Common.{◌≡◌, ℕ, ◌+◌, Bool, true, false, cond, ◌&&◌, ◌==◌, List, [], ◌∷◌, ◌++◌, Option, Some, None, IsSomeAnd, refl, sym, ap, subst, ◌∙◌, arith}
 use Rattle.std.proofs.lemmas.Bool.Decides.{nat_tests}
-use Rattle.std.proofs.lemmas.Bool.{eqb-true}
 use Rattle.av_base.specs.Words.{how_many}
 use Rattle.av_base.specs.declared.slot.Slot.{Slot}
 use Rattle.av_chain.specs.Links.{one_if}
@@ -82,13 +81,13 @@ pub record IsUnmapped (f : ℕ) (s : Slot) (before now : View) (left : List Key)
   pub same : (p page : ℕ) → away f s (now.entry p page) ≡ away f s (before.entry p page)
   pub done : (k : Key) → how_many (same_key k) left ≡ 0 → now.entry k.0 k.1 ≡ away f s (before.entry k.0 k.1)
 
-pub none-unmapped : (f : ℕ) (s : Slot) (view : View) (home : ℕ × ℕ) → AreSpanned view → AreApart view → IsCovered view f home →
+pub none-unmapped : (f : ℕ) (s : Slot) (view : View) (home : ℕ × ℕ) → AreSpanned view → AreApart view → IsCovered view (names_frame f) home →
     IsUnmapped f s view view (walk_of view (names_frame f) home.1 (view.spans home.0))
 none-unmapped f s view home spanned apart covered = record {
   rest = refl;
   same = λ p page. refl;
   done = λ k none. sym (away-other f s (view.entry k.0 k.1) (unnamed (names_frame f (view.entry k.0 k.1))
-      (sym none ∙ walk-is view f home spanned apart covered k)));
+      (sym none ∙ walk-is view (names_frame f) home spanned apart covered k)));
 }
   where
     unnamed : (b : Bool) → 0 ≡ one_if b → b ≡ false

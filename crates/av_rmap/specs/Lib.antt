@@ -1,3 +1,4 @@
+pub mod Ahead
 pub mod Covered
 pub mod Seen
 pub mod Sorted

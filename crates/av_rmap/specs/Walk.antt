@@ -1,6 +1,7 @@
--- The entries of a frame, and what one look finds.
+-- The entries of a frame or a slot, and what one look finds.
 use Rattle.std.specs.Prelude.{◌≡◌, ℕ, ◌+◌, ◌-◌, Bool, false, ◌&&◌, ◌==◌, if◌then◌else◌, List, [], ◌∷◌, Option, Some, None}
 use Rattle.av_base.specs.Words.{how_many, within}
+use Rattle.av_base.specs.declared.slot.Slot.{Slot}
 use Rattle.av_chain.specs.Links.{one_if}
 use Rattle.av_pagetable.specs.declared.pte.Pte.{Pte}
 use Rattle.av_pagetable.specs.declared.pte.Pte.TheVariants.{Empty, Zero, Here, Away}
@@ -8,6 +9,8 @@ use Rattle.av_vma.specs.declared.area.Area.{Area}
 use Rattle.av_vma.specs.Join.{first_of, past_of}
 use Rattle.av_interval.specs.Search.{overlaps}
 use Rattle.av_rmap.specs.View.{View}
+use Rattle.av_rmap.specs.declared.target.Target.{Target}
+use Rattle.av_rmap.specs.declared.target.Target.TheVariants as target
 
 -- a process and a page
 abbrev pub Key : Type 0
@@ -23,6 +26,18 @@ names_frame frame Zero = false
 names_frame frame (Here other write seen) = frame == other
 names_frame frame (Away slot) = false
 
+-- whether it names the slot
+abbrev pub names_slot : Slot → Pte → Bool
+names_slot slot Empty = false
+names_slot slot Zero = false
+names_slot slot (Here frame write seen) = false
+names_slot slot (Away other) = slot.area == other.area && slot.page == other.page
+
+-- whether it names what is searched for
+abbrev pub names : Target → Pte → Bool
+names (target.Frame frame) entry = names_frame frame entry
+names (target.Slot slot) entry = names_slot slot entry
+
 -- whether it names the frame and says that the page was accessed
 abbrev pub names_seen : ℕ → Pte → Bool
 names_seen frame Empty = false
@@ -30,10 +45,10 @@ names_seen frame Zero = false
 names_seen frame (Here other write seen) = frame == other && seen
 names_seen frame (Away slot) = false
 
--- the entries that name the frame, each once, in some order
-abbrev pub AreItsEntries : View → ℕ → List Key → Type 0
-AreItsEntries view frame keys = (k : Key)
-    → how_many (same_key k) keys ≡ one_if (names_frame frame (view.entry k.0 k.1))
+-- the entries that pass the test, each once, in some order
+abbrev pub AreItsEntries : View → (Pte → Bool) → List Key → Type 0
+AreItsEntries view passes keys = (k : Key)
+    → how_many (same_key k) keys ≡ one_if (passes (view.entry k.0 k.1))
 
 -- whether a page of the area has the linear index, and which
 abbrev pub holds : ℕ → Area → Bool

@@ -1,26 +1,30 @@
-//! Reverse mapping: from a page frame to the page-table entries that name it (Linux's rmap walk).
+//! Reverse mapping: from a page frame to the page-table entries that name it (Linux's rmap walk),
+//! or that name the slot which it caches.
 //!
 //! A walk begins at the frame's home, an anon_vma and a linear index. It asks which areas that are
 //! linked to the anon_vma hold the index, and looks at one entry in each, through the trait `Look`
 //! alone: a scan of a table would count. It takes no memory. The ledger is the trait's own: a look
 //! counts in the caller's steps, or can't be made.
 //!
-//! Proved: where spans go with links and each of the frame's entries is covered by the home, the
-//! walk finds each of them once, and nothing else. It takes exactly as many steps as spans of the
-//! anon_vma hold the index (in chain order: as areas linked to it do), and no more looks than
-//! steps. `walk_frame` gives them in order, also of a frame that may have no home. In as many steps
-//! `clear_seen` takes the seen bit from each of them, and `unmap` makes each of them a slot;
+//! Proved: where spans go with links and each of the entries is covered by the home, the walk finds
+//! each of them once, and nothing else. It takes exactly as many steps as spans of the anon_vma
+//! hold the index (in chain order: as areas linked to it do), and no more looks than steps.
+//! `walk_frame` and `walk_slot` give them in order, also where there may be no home. In as many
+//! steps `clear_seen` takes the seen bit from each of them, and `unmap` makes each of them a slot;
 //! neither changes anything else.
 //!
 //! `Stores` shows areas, anon_vmas and page tables as they are kept, and `StoresMut` lends the
-//! tables for writing. Not counted: how often a walk asks for the next span, by which it sees no
-//! entry, and how often an entry that was looked at is written (`change`).
+//! tables for writing. Overlaps are found a batch at a time (`Look::next`), in one way through the
+//! tree of spans. Not counted: how often a walk asks for the next batch, by which it sees no entry,
+//! and how often an entry that was looked at is written (`change`).
 #![tactic(auto)]
 
+mod ahead;
 pub mod covered;
 pub mod look;
 pub mod seen;
 pub mod sorted;
 pub mod stores;
+pub mod target;
 pub mod unmap;
 pub mod walk;

@@ -1,12 +1,14 @@
 // What a walk reads: spans, areas and page tables, and nothing else; and the one thing that is
 // written: an entry that is there.
-ghost use Rattle.std.specs.Prelude.{◌≡◌, ◌+◌, true, IfSome, IsSomeAnd};
+ghost use Rattle.std.specs.Prelude.{◌≡◌, ◌+◌, true, take, IfSome, IsSomeAnd};
+ghost use Rattle.av_interval.specs.Batch.{overlaps_past};
 ghost use Rattle.av_pagetable.specs.Entries.{with_entry};
-ghost use Rattle.av_interval.specs.Search.{overlap_of, IsOrdered};
+ghost use Rattle.av_interval.specs.Search.{IsOrdered};
 ghost use Rattle.av_rmap.specs.View.{View};
 ghost use Rattle.av_rmap.specs.Walk.{holds, page_at};
 
 use av_base::Steps;
+use av_interval::{BATCH, Batch};
 use av_pagetable::Pte;
 use std::sync::ledger::Ledger;
 
@@ -14,10 +16,11 @@ pub trait Look<L: Ledger> {
     // The areas with their chains, the spans of each anon_vma, and the entries.
     ghost view: { Self → View };
 
-    /// First index and area of the first span past `after` that overlaps `index`, of the areas that
-    /// are linked to an anon_vma.
-    fn next(&self, anon: u64, index: u64, after: Option<(u64, u64)>) -> Option<(u64, u64)>
-        ensures first { result ≡ overlap_of after index ((view self.now).spans anon) }
+    /// First index and area of the next spans past `after` that overlap `index`, of the areas that
+    /// are linked to an anon_vma: as many as a batch has room for.
+    fn next(&self, anon: u64, index: u64, after: Option<(u64, u64)>) -> Batch
+        ensures found { result.items ≡ take BATCH
+            (overlaps_past after index ((view self.now).spans anon)) }
         ensures ordered { IsOrdered ((view self.now).spans anon) };
 
     /// The process of an area that holds `index`, and its page there.

@@ -5,8 +5,9 @@ ghost use Rattle.av_interval.specs.Search.{overlaps};
 ghost use Rattle.av_rmap.specs.Covered.{IsCovered};
 ghost use Rattle.av_rmap.specs.Seen.{unseen_in, with_unseen};
 ghost use Rattle.av_rmap.specs.View.{AreApart, AreSpanned};
-ghost use Rattle.av_rmap.specs.Walk.{Key, holds, is_seen_in, names_seen};
+ghost use Rattle.av_rmap.specs.Walk.{Key, holds, is_seen_in, names_frame, names_seen};
 
+use crate::ahead::Ahead;
 use crate::look::{Look, LookMut};
 use av_base::Steps;
 use av_pagetable::Pte;
@@ -22,7 +23,7 @@ pub fn any_seen<K: Look<L>, L: Ledger>(
 ) -> bool
     requires spanned { AreSpanned (K.view look.now) }
     requires apart { AreApart (K.view look.now) }
-    requires covered { IsCovered (K.view look.now) frame home }
+    requires covered { IsCovered (K.view look.now) (names_frame frame) home }
     ensures seen { MatchBool result
         ((k : Key) × (names_seen frame ((K.view look.now).entry k.0 k.1) ≡ true))
         ((process page : ℕ) → names_seen frame ((K.view look.now).entry process page) ≡ false) }
@@ -30,8 +31,9 @@ pub fn any_seen<K: Look<L>, L: Ledger>(
         + how_many (overlaps home.1) ((K.view look.now).spans home.0) }
 {
     let (anon, index) = home;
+    let mut ahead = Ahead::new(look, anon, index);
     let mut after = None;
-    'looks: while let Some((first, area)) = look.next(anon, index, after) {
+    'looks: while let Some((first, area)) = ahead.next(look, anon, index, after) {
         if seen_in(look, frame, index, area, steps) {
             return true;
         }
@@ -74,15 +76,16 @@ pub fn clear_seen<K: LookMut<L>, L: Ledger>(
 )
     requires spanned { AreSpanned (K.view look.old) }
     requires apart { AreApart (K.view look.old) }
-    requires covered { IsCovered (K.view look.old) frame home }
+    requires covered { IsCovered (K.view look.old) (names_frame frame) home }
     ensures cleared { K.view look.new ≡ with_unseen frame (K.view look.old) }
     ensures kept { K.kept look.new ≡ K.kept look.old }
     ensures counted { steps.new ≡ steps.old
         + how_many (overlaps home.1) ((K.view look.old).spans home.0) }
 {
     let (anon, index) = home;
+    let mut ahead = Ahead::new(look, anon, index);
     let mut after = None;
-    'looks: while let Some((first, area)) = look.next(anon, index, after) {
+    'looks: while let Some((first, area)) = ahead.next(look, anon, index, after) {
         clear_in(look, frame, index, area, steps);
         after = Some((first, area));
     }

@@ -1,16 +1,16 @@
 // The stores of a memory system, as a walk reads them.
-ghost use Rattle.std.specs.Prelude.{◌≡◌, ℕ, Bool, ◌<◌};
+ghost use Rattle.std.specs.Prelude.{◌≡◌, ℕ, Bool, ◌<◌, take};
 ghost use Rattle.std.specs.Borrow.{GName};
 ghost use Rattle.av_pagetable.specs.Entries.{has};
-ghost use Rattle.av_interval.specs.Search.{overlap_of};
+ghost use Rattle.av_interval.specs.Batch.{overlaps_past};
 ghost use Rattle.av_interval.specs.Spans.{triples};
 ghost use Rattle.av_rmap.specs.Stores.{view_of, view_of_mut};
 
 use crate::look::{Look, LookMut};
 use av_anon::Anons;
 use av_base::{PAGE_SIZE, Steps};
-use av_interval::Spans;
 use av_interval::nodes::Nodes;
+use av_interval::{BATCH, Batch, Spans};
 use av_pagetable::{PageTable, Pte, Tables};
 use av_vma::Areas;
 use std::marker::Brand;
@@ -27,10 +27,10 @@ pub struct Stores<'a> {
 impl<'a, L: Ledger> Look<L> for Stores<'a> {
     ghost view = { view_of };
 
-    fn next(&self, anon: u64, index: u64, after: Option<(u64, u64)>) -> Option<(u64, u64)> {
+    fn next(&self, anon: u64, index: u64, after: Option<(u64, u64)>) -> Batch {
         let spans = self.anons.spans();
         let _ = Nodes::<L>::root(spans, anon);
-        overlap::<Brand>(spans, anon, index, after, Blank::new(1))
+        overlaps::<Brand>(spans, anon, index, after, Blank::new(1))
     }
 
     fn place(&self, area: u64, index: u64) -> (u16, u64) {
@@ -68,7 +68,7 @@ impl<'a> StoresMut<'a> {
 impl<'a, L: Ledger> Look<L> for StoresMut<'a> {
     ghost view = { view_of_mut };
 
-    fn next(&self, anon: u64, index: u64, after: Option<(u64, u64)>) -> Option<(u64, u64)> {
+    fn next(&self, anon: u64, index: u64, after: Option<(u64, u64)>) -> Batch {
         Look::<L>::next(&self.stores(), anon, index, after)
     }
 
@@ -92,19 +92,19 @@ impl<'a, L: Ledger> LookMut<L> for StoresMut<'a> {
     }
 }
 
-/// `Spans::overlap`, whose visits nobody counts.
-fn overlap<L: Ledger>(
+/// `Spans::overlaps`, whose visits nobody counts.
+fn overlaps<L: Ledger>(
     spans: &Spans,
     anon: u64,
     index: u64,
     after: Option<(u64, u64)>,
     blank: Blank,
-) -> Option<(u64, u64)>
+) -> Batch
     requires name { blank.name ≡ L.name }
     requires parts { blank.parts ≡ L.parts }
     requires some { 0 < blank.parts }
-    ensures { result ≡ overlap_of after index (triples spans.now anon) }
+    ensures { result.items ≡ take BATCH (overlaps_past after index (triples spans.now anon)) }
 {
     let mut visits = Steps::<L>::open(blank);
-    spans.overlap(anon, index, after, &mut visits)
+    spans.overlaps(anon, index, after, &mut visits)
 }

@@ -5,8 +5,9 @@ ghost use Rattle.av_interval.specs.Search.{overlaps};
 ghost use Rattle.av_rmap.specs.Covered.{IsCovered};
 ghost use Rattle.av_rmap.specs.Unmap.{away_in, with_away};
 ghost use Rattle.av_rmap.specs.View.{AreApart, AreSpanned};
-ghost use Rattle.av_rmap.specs.Walk.{holds};
+ghost use Rattle.av_rmap.specs.Walk.{holds, names_frame};
 
+use crate::ahead::Ahead;
 use crate::look::{Look, LookMut};
 use av_base::{Slot, Steps};
 use av_pagetable::Pte;
@@ -23,15 +24,16 @@ pub fn unmap<K: LookMut<L>, L: Ledger>(
 )
     requires spanned { AreSpanned (K.view look.old) }
     requires apart { AreApart (K.view look.old) }
-    requires covered { IsCovered (K.view look.old) frame home }
+    requires covered { IsCovered (K.view look.old) (names_frame frame) home }
     ensures unmapped { K.view look.new ≡ with_away frame slot (K.view look.old) }
     ensures kept { K.kept look.new ≡ K.kept look.old }
     ensures counted { steps.new ≡ steps.old
         + how_many (overlaps home.1) ((K.view look.old).spans home.0) }
 {
     let (anon, index) = home;
+    let mut ahead = Ahead::new(look, anon, index);
     let mut after = None;
-    'looks: while let Some((first, area)) = look.next(anon, index, after) {
+    'looks: while let Some((first, area)) = ahead.next(look, anon, index, after) {
         unmap_in(look, frame, slot, index, area, steps);
         after = Some((first, area));
     }

@@ -1,35 +1,19 @@
 -- The home of a frame that takes the page of a slot goes by any page whose entry names the slot.
-use Rattle.std.proofs.Common.{◌≡◌, ℕ, suc, ◌+◌, Bool, true, false, cond, ◌||◌, List, [], ◌∷◌, map, filter, length, Some, refl, sym, ap, subst, ◌∙◌, arith, ◌==◌, T}
+use Rattle.std.proofs.Common.{◌≡◌, ℕ, suc, Bool, true, false, cond, ◌||◌, List, [], ◌∷◌, length, Some, refl, sym, ap, subst, ◌∙◌, arith, ◌==◌, T}
 use Rattle.std.proofs.lemmas.Bool.Decides.{nat_tests}
 use Rattle.std.proofs.lemmas.Bool.{false≢true}
 use Rattle.std.specs.Prelude.{IsSomeAnd}
 use Rattle.std.specs.List.{list_any}
 use Rattle.std.specs.FinMap.Entries.{is_sorted}
-use Rattle.av_base.specs.Words.{how_many}
 use Rattle.av_base.specs.declared.slot.Slot.{Slot}
 use Rattle.av_vma.specs.Join.{index_of}
 use Rattle.av_vma.specs.Pages.{home_of}
 use Rattle.av_plain.specs.Areas.{Rmap, at_root, home_for, root_of}
 use Rattle.av_plain.specs.Covered.{AreSlotsCovered, IsOfSlot}
-use Rattle.av_plain.specs.Ledger.{Entry, Key, Ledger, key_cmp, keys_of_slot, names_slot, slot_entries}
+use Rattle.av_plain.specs.Ledger.{Key, Ledger, key_cmp, keys_of_slot, names_slot, slot_entries}
 use Rattle.av_plain.proofs.Covered.Slots.{Own, are-keys, at_area, home-is, keys-are, root-home, rooted-own}
 use Rattle.av_plain.proofs.Ledger.{same_key, same_key-is, same_key-itself}
-
--- as many keys are listed as entries name the slot
-as-many : (p : Entry → Bool) (es : List (Key × Entry)) → length (map (λ e. e.0) (filter (λ e. p e.1) es)) ≡ how_many (λ e. p e.1) es
-as-many p [] = refl
-as-many p (e ∷ es) = by (p e.1) (as-many p es)
-  where
-    one_more : (n m : ℕ) → n ≡ m → suc n ≡ 1 + m
-    one_more n m e = omega arith
-
-    same : (n m : ℕ) → n ≡ m → n ≡ 0 + m
-    same n m e = omega arith
-
-    by : (b : Bool) → length (map (λ e. e.0) (filter (λ e. p e.1) es)) ≡ how_many (λ e. p e.1) es
-        → length (map (λ e. e.0) (cond b (e ∷ filter (λ e. p e.1) es) (filter (λ e. p e.1) es))) ≡ cond b 1 0 + how_many (λ e. p e.1) es
-    by true rest = one_more _ _ rest
-    by false rest = same _ _ rest
+use Rattle.av_plain.proofs.Ledger.Walk.{length-keys}
 
 module _ (l : Ledger) (r : Rmap) (s : Slot) (k : Key) (sorted : T (is_sorted key_cmp l.entries)) (h : AreSlotsCovered l r)
     (names : IsOfSlot l s k) where
@@ -43,7 +27,7 @@ module _ (l : Ledger) (r : Rmap) (s : Slot) (k : Key) (sorted : T (is_sorted key
       root-home r q (rooted-own r q home.0 h.kin home.1) home.0 home.1 ∙ sym (root-home r k mine home.0 home.2)
 
   home-by : home_for r (keys_of_slot l s) ≡ Some (cond (slot_entries l s == 1) mine.own (root_of r.anons mine.own), index_of mine.area k.1)
-  home-by = by (keys_of_slot l s) (as-many (names_slot s) l.entries) (keys-are l s k sorted names) (λ q is. are-keys l s q sorted is)
+  home-by = by (keys_of_slot l s) (length-keys (names_slot s) l.entries) (keys-are l s k sorted names) (λ q is. are-keys l s q sorted is)
     where
       either : (b : Bool) → (b || false) ≡ true → b ≡ true
       either true e = refl

@@ -11,7 +11,7 @@
 //! (`a_page_goes_out_and_comes_back`).
 //!
 //! There are steps for each note, for a use of a page, for an entry that goes, that goes over to a
-//! child or that moves, and for a swap area that is turned on or off (no command does the latter).
+//! child or that moves, and for a swap area that is turned on or off.
 //! What covers entries of frames and slots through a fork or another change of areas, and what
 //! keeps the lists of what is free right, is proved with the definitions.
 #![tactic(auto)]

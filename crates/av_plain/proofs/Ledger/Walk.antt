@@ -35,8 +35,8 @@ keys-filter p (e ∷ es) q h =
 pub walk-has : (l : Ledger) (f : ℕ) (q : Key) → T (is_sorted key_cmp l.entries) → list_any (same_key q) (walk l f) ≡ passes (names_frame f) (entry l q)
 walk-has l f q h = keys-filter (names_frame f) l.entries q h
 
--- what holds of each key that has an entry holds of each of the walk
-all-listed : (P : Key → Type 0) (ks : List Key) → ((q : Key) → list_any (same_key q) ks ≡ true → P q) → AllByRecursion P ks
+-- what holds of each key that is listed holds of the list
+pub all-listed : (P : Key → Type 0) (ks : List Key) → ((q : Key) → list_any (same_key q) ks ≡ true → P q) → AllByRecursion P ks
 all-listed P [] each = tt
 all-listed P (k ∷ ks) each = (
   each k (ap (λ b. b || list_any (same_key k) ks) (same_key-itself k)),
@@ -47,6 +47,7 @@ all-listed P (k ∷ ks) each = (
     either true b h = refl
     either false b h = h
 
+-- what holds of each key that has an entry holds of each of the walk
 pub all-walked : (P : Key → Type 0) (l : Ledger) (f : ℕ) → T (is_sorted key_cmp l.entries) → ((q : Key) → is_some (entry l q) ≡ true → P q) →
     AllByRecursion P (walk l f)
 all-walked P l f sorted each = all-listed P (walk l f) (λ q is. each q (there (entry l q) (sym (walk-has l f q sorted) ∙ is)))
@@ -55,9 +56,14 @@ all-walked P l f sorted each = all-listed P (walk l f) (λ q is. each q (there (
     there None h = cc
     there (Some e) h = refl
 
--- the walk is as long as the count says
-pub length-walk : (l : Ledger) (f : ℕ) → length (walk l f) ≡ map_count l f
-length-walk l f = counted (names_frame f) l.entries
+-- as many keys are listed as entries pass
+pub length-keys : (p : Entry → Bool) (es : List (Key × Entry)) → length (map (λ e. e.0) (filter (λ e. p e.1) es)) ≡ how_many (λ e. p e.1) es
+length-keys p [] = refl
+length-keys p (e ∷ es) = elim (p e.1) as (λ b. length (map (λ e. e.0) (cond b (e ∷ filter (λ e. p e.1) es) (filter (λ e. p e.1) es))) ≡ cond
+    b 1 0 + how_many (λ e. p e.1) es) [
+      | true ↦ one_more _ _ (length-keys p es)
+      | false ↦ same _ _ (length-keys p es)
+    ]
   where
     one_more : (n m : ℕ) → n ≡ m → suc n ≡ 1 + m
     one_more n m e = omega arith
@@ -65,10 +71,6 @@ length-walk l f = counted (names_frame f) l.entries
     same : (n m : ℕ) → n ≡ m → n ≡ 0 + m
     same n m e = omega arith
 
-    counted : (p : Entry → Bool) (es : List (Key × Entry)) → length (map (λ e. e.0) (filter (λ e. p e.1) es)) ≡ how_many (λ e. p e.1) es
-    counted p [] = refl
-    counted p (e ∷ es) = elim (p e.1) as (λ b. length (map (λ e. e.0) (cond b (e ∷ filter (λ e. p e.1) es) (filter (λ e. p e.1) es))) ≡ cond
-        b 1 0 + how_many (λ e. p e.1) es) [
-          | true ↦ one_more _ _ (counted p es)
-          | false ↦ same _ _ (counted p es)
-        ]
+-- the walk is as long as the count says
+pub length-walk : (l : Ledger) (f : ℕ) → length (walk l f) ≡ map_count l f
+length-walk l f = length-keys (names_frame f) l.entries

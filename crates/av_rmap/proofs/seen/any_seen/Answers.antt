@@ -12,6 +12,7 @@ looks-init g c =
     let home = c.args.home in
     let all = rest-none (view.spans home.0) in
     record {
+      ahead = c.new-ahead.ensures;
       left = ap (walk_of view (names_seen c.args.frame) home.1) all;
       counted = ap (λ xs. c.args.steps.now + how_many (overlaps home.1) xs) all;
     }
@@ -54,6 +55,7 @@ looks-preserved g c =
     let none = unseen view c.args.frame i (view.areas c.in-Some.area) (sym c.seen_in.ensures.seen ∙ c.if-seen_in.false) in
     let count = t.count in let kept = c.looks.invariant.counted in let step = c.seen_in.ensures.counted in
     record {
+      ahead = rw c.in-Some.is at c.next.ensures.ahead;
       left = turn_nothing _ _ _ _ t.walk none c.looks.invariant.left;
       counted = omega (arith, count, kept, step);
     }
@@ -63,3 +65,6 @@ returns-clause-seen g c =
     let view = g.K.Look.view c.args.look.now in
     let none = (last view (names_seen c.args.frame) c.args.home c.looks.after c.requires.spanned (sym c.next.ensures.first ∙ c.in_default.is)).0 in
     none-seen view c.args.frame c.args.home c.requires.spanned c.requires.apart c.requires.covered (sym c.looks.invariant.left ∙ none)
+
+pub next-requires : goal.next-requires
+next-requires g c = c.looks.invariant.ahead

@@ -1,6 +1,7 @@
-use Rattle.std.proofs.Common.{◌≡◌, ℕ, ◌+◌, refl, sym, ap, subst, ◌∙◌, arith, true, IsSomeAnd}
+use Rattle.std.proofs.Common.{◌≡◌, ℕ, ◌+◌, refl, sym, ap, subst, ◌∙◌, arith, true, IsSomeAnd, Some}
 use Rattle.av_base.specs.Words.{how_many}
 use Rattle.av_interval.specs.Search.{overlaps}
+use Rattle.av_rmap.specs.Ahead.{IsAhead}
 use Rattle.av_rmap.specs.View.{View}
 use Rattle.av_rmap.specs.Walk.{holds, names_frame}
 use Rattle.av_rmap.proofs.Entries.{walk_of}
@@ -14,6 +15,7 @@ looks-init g c =
     let home = c.args.home in
     let all = rest-none (view.spans home.0) in
     record {
+      ahead = c.new-ahead.ensures;
       cleared = subst (λ xs. IsCleared c.args.frame view view (walk_of view (names_frame c.args.frame) home.1 xs)) (sym all)
           (none-cleared c.args.frame view home c.requires.spanned c.requires.apart c.requires.covered);
       kept = refl;
@@ -47,7 +49,9 @@ looks-preserved g c =
     let t = cleared-turn c.args.frame c.args.home before now _ c.looks.after (c.in-Some.first, c.in-Some.area) c.next.result c.requires.spanned h
     c.next.ensures.ordered c.next.ensures.first c.in-Some.is in
     let count = t.count in let kept = c.looks.invariant.counted in let step = c.clear_in.ensures.counted in
+    let spans = ap (λ (v : View). v.spans c.args.home.0) h.rest in
     record {
+      ahead = subst (IsAhead c.next.new.self (Some (c.in-Some.first, c.in-Some.area)) c.args.home.1) spans (rw c.in-Some.is at c.next.ensures.ahead);
       cleared = one-cleared c.args.frame c.args.home.1 before now (g.K.Look.view c.clear_in.new.look) _ _ c.in-Some.area h t.walk c.clear_in.ensures.cleared;
       kept = c.clear_in.ensures.kept ∙ c.looks.invariant.kept;
       counted = omega (arith, count, kept, step);
@@ -68,3 +72,8 @@ returns-clause-counted g c =
     let none = (cleared-last c.args.frame c.args.home before now _ c.looks.after c.next.result c.requires.spanned c.looks.invariant.cleared
     c.next.ensures.first c.in_default.is).1 in
     let kept = c.looks.invariant.counted in omega (arith, none, kept)
+
+pub next-requires : goal.next-requires
+next-requires g c =
+    let h = c.looks.invariant.cleared in
+    subst (IsAhead c.looks.ahead c.looks.after c.args.home.1) (sym (ap (λ (v : View). v.spans c.args.home.0) h.rest)) c.looks.invariant.ahead

@@ -2,6 +2,7 @@ use Rattle.std.proofs.Common.{◌≡◌, ◌+◌}
 use Rattle.av_base.specs.Words.{how_many}
 use Rattle.av_interval.specs.Search.{overlaps}
 use Rattle.av_rmap.specs.Walk.{names_frame}
+use Rattle.av_rmap.specs.Ahead.{IsAhead}
 use Rattle.av_rmap.proofs.Entries.{walk_of}
 use Rattle.av_rmap.proofs.Looks.{rest}
 use Rattle.av_rmap.proofs.SeenLemmas.{IsCleared}
@@ -13,6 +14,7 @@ invariant-looks g l =
     let before = g.K.Look.view l.fn.look in
     let all = before.spans l.anon in
     record {
+      ahead : IsAhead l.ahead l.after l.index all;
       cleared : IsCleared l.frame before (g.K.Look.view l.look) (walk_of before (names_frame l.frame) l.index (rest l.after all));
       kept : g.K.LookMut.kept l.look ≡ g.K.LookMut.kept l.fn.look;
       counted : l.steps + how_many (overlaps l.index) (rest l.after all)

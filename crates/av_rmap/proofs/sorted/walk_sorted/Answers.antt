@@ -1,6 +1,6 @@
 use Rattle.std.proofs.Common.{◌++◌, ap, ◌∙◌}
 use Rattle.av_base.specs.Words.{how_many}
-use Rattle.av_rmap.specs.Walk.{AreItsEntries, same_key}
+use Rattle.av_rmap.specs.Walk.{AreItsEntries, names, same_key}
 use Rattle.av_rmap.proofs.SortedLemmas.{many-in-any-order, sorted-rise, at-most-once}
 use Rattle.av_rmap.proofs.sorted.walk_sorted.Goals as goal
 
@@ -13,6 +13,6 @@ returns-clause-entries g c = λ k.
 pub returns-clause-rising : goal.returns-clause-rising
 returns-clause-rising g c =
     let view = g.K.Look.view c.args.look.now in
-    let its : AreItsEntries view c.args.frame c.sort_unstable.new.self.items = returns-clause-entries g c in
+    let its : AreItsEntries view (names c.args.target) c.sort_unstable.new.self.items = returns-clause-entries g c in
     sorted-rise c.sort_unstable.new.self.items c.sort_unstable.ensures.sorted
-    (at-most-once view c.args.frame c.sort_unstable.new.self.items its)
+    (at-most-once view (names c.args.target) c.sort_unstable.new.self.items its)

@@ -1,7 +1,8 @@
 use Rattle.std.proofs.Common.{◌≡◌, ◌+◌, ◌≤◌, ◌++◌, length, vec_len, vec_capacity}
 use Rattle.av_base.specs.Words.{how_many}
 use Rattle.av_interval.specs.Search.{overlaps}
-use Rattle.av_rmap.specs.Walk.{names_frame}
+use Rattle.av_rmap.specs.Walk.{names}
+use Rattle.av_rmap.specs.Ahead.{IsAhead}
 use Rattle.av_rmap.proofs.Entries.{walk_of}
 use Rattle.av_rmap.proofs.Looks.{rest}
 use Rattle.av_rmap.proofs.walk.walk.Given as goal
@@ -12,9 +13,10 @@ invariant-looks g l =
     let view = g.K.Look.view l.look in
     let all = view.spans l.anon in
     record {
-      found : l.into.items ++ walk_of view (names_frame l.frame) l.index (rest l.after all)
-          ≡ l.fn.into.items ++ walk_of view (names_frame l.frame) l.index all;
-      room : vec_len l.into + length (walk_of view (names_frame l.frame) l.index (rest l.after all)) ≤ vec_capacity l.into;
+      ahead : IsAhead l.ahead l.after l.index all;
+      found : l.into.items ++ walk_of view (names l.target) l.index (rest l.after all)
+          ≡ l.fn.into.items ++ walk_of view (names l.target) l.index all;
+      room : vec_len l.into + length (walk_of view (names l.target) l.index (rest l.after all)) ≤ vec_capacity l.into;
       counted : l.steps + how_many (overlaps l.index) (rest l.after all)
           ≡ l.fn.steps + how_many (overlaps l.index) all;
     }
