@@ -33,6 +33,7 @@ pub mod SlotExamples
 pub mod SwapViewExamples
 pub mod SeveralExamples
 pub mod TurnExamples
+pub mod SwapoffExamples
 pub mod ListsExamples
 pub mod AnonExamples
 pub mod RowExamples

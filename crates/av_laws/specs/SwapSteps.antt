@@ -7,6 +7,11 @@
 --     second_too
 --   how a clean frame leaves (`leave_notes`): clean_reclaimed
 --   the slots of an area that is turned off, in order (`Empties`, `map_notes`): two_emptied
+--   where a `swapoff` ends (`EndsAt`): left_named, cached_unread
+--   why it ends there (`end_at`): unread_behind_pass, starved_behind_pass, counted_behind_pass,
+--     unread_without_frame
+--   what a pass does to slots that are still to be emptied (`Empties`, `sparing_area`):
+--     unmapped_in_turn, cached_there_fails
 --   which area gives a slot while one is turned off (`closing_swap_area`, `sparing_area`):
 --     other_area_fills, other_area_gives
 --   what `slot` tests (`is_outside`, `is_off`, `is_usable`): bad_page, header_page, past_header,
@@ -20,13 +25,14 @@
 --   whether swap is full (`Serves`, `is_full`): full_at_the_drop, half_full_at_the_drop
 --   whether a page came in (`is_unneeded`): found_when_full
 --   what is claimed after a write (`next_world`): written_after_load, around_unclaimed, around_told
-use Rattle.std.specs.Prelude.{◌≡◌, ℕ, true, false, ◌==◌, if◌then◌else◌, List, [], ◌∷◌, ◌++◌, Option, Some, None}
+use Rattle.std.specs.Prelude.{◌≡◌, ℕ, Bool, true, false, ◌==◌, if◌then◌else◌, List, [], ◌∷◌, ◌++◌, Option, Some, None}
 use Rattle.av_trace.specs.declared.command.Command.{Command}
 use Rattle.av_trace.specs.declared.command.Command.TheVariants.{Swapoff, Write}
 use Rattle.av_trace.specs.declared.note.Cause.TheVariants.{Referenced, NoSlot, WriteStarted, Writeback}
 use Rattle.av_trace.specs.declared.note.Note.{Note}
-use Rattle.av_trace.specs.declared.note.Note.TheVariants.{Loaded, Mapped, Put, Unmapped, Started, Written, Dropped, Kept}
-use Rattle.av_trace.specs.declared.reply.Answer.TheVariants.{Done}
+use Rattle.av_trace.specs.declared.note.Note.TheVariants.{Loaded, Mapped, Put, Unmapped, Started, Written, Failed, Dropped, Kept}
+use Rattle.av_trace.specs.declared.reply.Answer.{Answer}
+use Rattle.av_trace.specs.declared.reply.Answer.TheVariants.{Done, NoFrame}
 use Rattle.av_trace.specs.declared.reply.Reply.{Reply}
 use Rattle.av_plain.specs.Event.{Event, Noted, TurnedOff, Used, note_events}
 use Rattle.av_plain.specs.Ledger.{InFrame, InSlot, Ledger, Setting, first_ledger}
@@ -102,12 +108,15 @@ two_slots = record first_ledger {
   on = one_area 2 0;
 }
 
--- the least slot comes first, and of its pages that of the first process, whatever their addresses;
+-- the least slot comes first, and of its pages that of the first process, whatever their addresses
+abbrev pub first_emptied : List Note
+first_emptied =
+    Written (slot 2) ∷ Loaded (slot 1) 1 ∷ Mapped 1 0x12000 1 ∷ Mapped 2 0x11000 1
+    ∷ Dropped (slot 1) ∷ []
+
 -- the other slot has its frame
 abbrev pub two_emptied : List Note
-two_emptied =
-    Written (slot 2) ∷ Loaded (slot 1) 1 ∷ Mapped 1 0x12000 1 ∷ Mapped 2 0x11000 1
-    ∷ Dropped (slot 1) ∷ Mapped 2 0x13000 0 ∷ Dropped (slot 2) ∷ []
+two_emptied = first_emptied ++ Mapped 2 0x13000 0 ∷ Dropped (slot 2) ∷ []
 
 -- the one frame goes to the other area, and then has the page of the slot
 abbrev pub to_other_area : List Note
@@ -118,11 +127,41 @@ to_other_area =
 abbrev pub other_area_fills : List Note
 other_area_fills = to_other_area ++ Loaded (slot 1) 0 ∷ Mapped 1 0x11000 0 ∷ Dropped (slot 1) ∷ []
 
--- so it is chosen, where one slot of the area that is turned off was given and others are free
+-- or its write fails, and it stays cached there
+abbrev pub counted_behind_pass : List Note
+counted_behind_pass =
+    Put 0 (slot_at 1 1) ∷ Unmapped 0 ∷ Started (slot_at 1 1) ∷ Failed (slot_at 1 1) ∷ []
+
+-- the other area is chosen, where one slot of the area that is turned off was given and others are
+-- free
 abbrev pub OtherAreaGives : Type 0
 OtherAreaGives = MayChoose one_frame_two_areas (closing_swap_area (Swapoff 0)) (lower_in_use 1)
     (note_events other_area_fills ++ TurnedOff 0 ∷ [])
     (record (lower_given 1) { frames = [] })
+
+-- slot 1 is on the device, and a page is at it; another page is in the one frame, which slot 2
+-- caches, stale or not
+abbrev pub cached_by_second : Bool → Ledger
+cached_by_second stale = record first_ledger {
+  entries = ((1, 0x10), InSlot (slot 1)) ∷ ((1, 0x11), InFrame 0 false) ∷ [];
+  cache = cached_at 2 0 stale ∷ [];
+  inactive = 0 ∷ [];
+  on = one_area 2 0;
+}
+
+-- a clean frame is free without a write, so it has the page of slot 1; but then a page is at slot 2
+-- that was not, and no other frame is there
+abbrev pub unmapped_in_turn : List Note
+unmapped_in_turn =
+    Unmapped 0 ∷ Dropped (slot 2) ∷ Loaded (slot 1) 0 ∷ Mapped 1 0x10000 0 ∷ Dropped (slot 1) ∷ []
+
+-- a stale one is written to its slot, though that is of the area that is turned off
+abbrev pub cached_there_fails : List Note
+cached_there_fails = Unmapped 0 ∷ Started (slot 2) ∷ Failed (slot 2) ∷ []
+
+-- there is no frame: so many are not cached, and so many are
+abbrev pub no_frame_of : ℕ → ℕ → Answer
+no_frame_of noslot fault = NoFrame (record { pinned = 0; noslot = noslot; fault = fault })
 
 -- ---- slot and swapon
 

@@ -1,6 +1,6 @@
 //! Worked steps of swap: single commands that meet several frames, slots or areas.
 
-ghost use Rattle.std.specs.Prelude.{[], ◌∷◌, false, Some, None};
+ghost use Rattle.std.specs.Prelude.{[], ◌∷◌, false, true, Some, None};
 ghost use Rattle.av_trace.specs.declared.command.Command.TheVariants.{
   Age,
   Complete,
@@ -30,9 +30,14 @@ ghost use Rattle.av_laws.specs.SwapSteps.{
   MayNotCome,
   OtherAreaGives,
   both_written,
+  cached_by_second,
+  cached_there_fails,
+  counted_behind_pass,
+  first_emptied,
   found_when_full,
   four_inactive,
   four_reclaimed,
+  no_frame_of,
   one_out,
   other_area_fills,
   page_in,
@@ -40,10 +45,12 @@ ghost use Rattle.av_laws.specs.SwapSteps.{
   third_bad,
   third_bad_on,
   three_active,
+  to_other_area,
   two_emptied,
   two_flying,
   two_kept,
   two_slots,
+  unmapped_in_turn,
 };
 
 /// Frames are reclaimed and aged from the tail, each by what those before it left. One whose write
@@ -76,13 +83,33 @@ pub fn the_first_writes_are_completed()
 /// The slots of an area that is turned off are emptied, the least first, once the writes in flight
 /// have ended. Each page at a slot is mapped, by process and then address, to the frame that caches
 /// the slot or, where none does, one that takes its page. A frame that has to go for that goes to
-/// another area.
+/// another area, or to the slot at which it is cached, though that is still to be emptied.
+///
+/// It ends at no slot but one that is in no frame: there none is free behind the pass, or one is
+/// and the device does not give the page.
 pub fn slots_are_emptied_in_turn()
     ensures two_emptied { MayCome (with_swap 4 3 2) [] two_slots (Swapoff 0)
         (reply_with Done two_emptied) }
     ensures other_area_fills { MayCome one_frame_two_areas [] (lower_in_use 1) (Swapoff 0)
         (reply_with Done other_area_fills) }
     ensures other_area_gives { OtherAreaGives }
+    ensures left_named { MayNotCome (with_swap 4 3 2) [] two_slots (Swapoff 0)
+        (reply_with Done first_emptied) }
+    ensures cached_unread { MayNotCome (with_swap 4 3 2) [] two_slots (Swapoff 0)
+        (reply_with (Refused Eio) first_emptied) }
+    ensures unread_behind_pass { MayCome one_frame_two_areas [] (lower_in_use 1) (Swapoff 0)
+        (reply_with (Refused Eio) to_other_area) }
+    ensures starved_behind_pass { MayNotCome one_frame_two_areas [] (lower_in_use 1) (Swapoff 0)
+        (reply_with (no_frame_of 1 0) to_other_area) }
+    ensures counted_behind_pass { MayCome one_frame_two_areas [] (lower_in_use 1) (Swapoff 0)
+        (reply_with (no_frame_of 0 1) counted_behind_pass) }
+    ensures unmapped_in_turn { MayCome (with_swap 1 3 2) [] (cached_by_second false) (Swapoff 0)
+        (reply_with (no_frame_of 1 0) unmapped_in_turn) }
+    ensures cached_there_fails { MayCome (with_swap 1 3 2) [] (cached_by_second true) (Swapoff 0)
+        (reply_with (no_frame_of 0 1) cached_there_fails) }
+    ensures unread_without_frame { MayNotCome (with_swap 1 3 2) [] (cached_by_second true)
+        (Swapoff 0)
+        (reply_with (Refused Eio) cached_there_fails) }
 {}
 
 /// `slot` tells a bad page and the count of a slot, and refuses page 0, a page past the header's

@@ -12,7 +12,7 @@ use Rattle.av_trace.specs.declared.command.Command.{Command}
 use Rattle.av_trace.specs.declared.command.Command.TheVariants as commands
 use Rattle.av_trace.specs.declared.place.Place.{Place}
 use Rattle.av_trace.specs.declared.mode.Mode.{Mode}
-use Rattle.av_trace.specs.Command.{is_in_grammar, IsAreaNumber, IsCommand, IsFrameCount, IsInRange, line_of, at_end, whole, no_words, fork_words, range_words, mmap_words, mprotect_words, mremap_words, read_words, write_words, CommandReader, fork_at, mmap_at, munmap_at, mprotect_at, mremap_at, read_at, write_at, area_at, frames_at, rmap_at, entry_of, slot_at, slot_words, readers, command_of}
+use Rattle.av_trace.specs.Command.{IsAreaNumber, IsFrameCount, IsInRange, line_of, at_end, whole, no_words, fork_words, range_words, mmap_words, mprotect_words, mremap_words, read_words, write_words, CommandReader, fork_at, mmap_at, munmap_at, mprotect_at, mremap_at, read_at, write_at, area_at, frames_at, rmap_at, entry_of, slot_at, slot_words, readers, command_of}
 use Rattle.av_text.specs.Hex.{hex, hex_text, IsData}
 use Rattle.av_text.specs.Number.{IsNumberIn, IsProcess, IsWide, process_at}
 use Rattle.av_trace.specs.Place.{IsPlace, place_words}
@@ -75,7 +75,7 @@ slots = reads_both swap_areas (reads_decimal 0 (2 ^ 32 - 1) (lit< tt))
 
 -- a reader gets the commands that have this name, from the rest of their lines
 abbrev IsReader : List ℕ × CommandReader → Type 0
-IsReader r = (bytes : List ℕ) (c : Command) → r.1 bytes ≡ Some c → IsCommand c × (r.0 ++ bytes ≡ line_of c)
+IsReader r = (bytes : List ℕ) (c : Command) → r.1 bytes ≡ Some c → IsInRange c × (r.0 ++ bytes ≡ line_of c)
 
 at_end-found : (c : Command) (bytes : List ℕ) (d : Command) → at_end c bytes ≡ Some d → (bytes ≡ []) × (c ≡ d)
 unfolding at_end
@@ -84,78 +84,81 @@ at_end-found c (b ∷ bytes) d e = absurd cc
 
 whole-found : {A : Type 0} {read : Reader A} {Fits : A → Type 0} {words : A → List (List ℕ)} {Rest : List ℕ → Type 0} → Reads read Fits words Rest →
     (name : List ℕ) (command : A → Command) →
-    ((x : A) → is_in_grammar (command x) ≡ true) → ((x : A) → Fits x → IsInRange (command x)) →
+    ((x : A) → Fits x → IsInRange (command x)) →
     ((x : A) → line name (words x) ≡ line_of (command x)) → IsReader (name, whole read command)
 unfolding whole
-whole-found {A = A} {words = words} reads name command has fits spelled bytes c e =
+whole-found {A = A} {words = words} reads name command fits spelled bytes c e =
     let x = bind_some {A = A × List ℕ} _ _ _ e in
     let is = reads.found bytes x.value x.first in
     let end = at_end-found (command x.value.0) x.value.1 c x.second in
     let text : name ++ bytes ≡ line_of (command x.value.0) =
     ap (λ (t : List ℕ). name ++ t) (is.0 ∙ ap (words_onto (words x.value.0)) end.0 ∙ append-nil (flat_map field (words x.value.0))) ∙ spelled x.value.0 in
-    subst (λ (d : Command). IsCommand d × (name ++ bytes ≡ line_of d)) end.1 ((has x.value.0, fits x.value.0 is.1), text)
+    subst (λ (d : Command). IsInRange d × (name ++ bytes ≡ line_of d)) end.1 (fits x.value.0 is.1, text)
 
 writes-found : IsReader (codes "write", write_at)
-writes-found = whole-found writes (codes "write") _ (λ _. refl) (λ x h. (h.0.0, h.0.1, h.1)) (λ _. refl)
+writes-found = whole-found writes (codes "write") _ (λ x h. (h.0.0, h.0.1, h.1)) (λ _. refl)
 
 reads-found : IsReader (codes "read", read_at)
-reads-found = whole-found reads (codes "read") _ (λ _. refl) (λ x h. (h.0.0, h.0.1, h.1)) (λ _. refl)
+reads-found = whole-found reads (codes "read") _ (λ x h. (h.0.0, h.0.1, h.1)) (λ _. refl)
 
 mmaps-found : IsReader (codes "mmap", mmap_at)
-mmaps-found = whole-found mmaps (codes "mmap") _ (λ _. refl) (λ x h. (h.0.0.0, h.0.0.1, h.1)) (λ _. refl)
+mmaps-found = whole-found mmaps (codes "mmap") _ (λ x h. (h.0.0.0, h.0.0.1, h.1)) (λ _. refl)
 
 ranges-found : IsReader (codes "munmap", munmap_at)
-ranges-found = whole-found ranges (codes "munmap") _ (λ _. refl) (λ x h. (h.0.0, h.0.1, h.1)) (λ _. refl)
+ranges-found = whole-found ranges (codes "munmap") _ (λ x h. (h.0.0, h.0.1, h.1)) (λ _. refl)
 
 mprotects-found : IsReader (codes "mprotect", mprotect_at)
-mprotects-found = whole-found mprotects (codes "mprotect") _ (λ _. refl) (λ x h. (h.0.0.0, h.0.0.1, h.0.1)) (λ _. refl)
+mprotects-found = whole-found mprotects (codes "mprotect") _ (λ x h. (h.0.0.0, h.0.0.1, h.0.1)) (λ _. refl)
 
 mremaps-found : IsReader (codes "mremap", mremap_at)
-mremaps-found = whole-found mremaps (codes "mremap") _ (λ _. refl) (λ x h. (h.0.0.0.0, h.0.0.0.1, h.0.0.1, h.0.1, h.1)) (λ _. refl)
+mremaps-found = whole-found mremaps (codes "mremap") _ (λ x h. (h.0.0.0.0, h.0.0.0.1, h.0.0.1, h.0.1, h.1)) (λ _. refl)
 
 spawns-found : IsReader (codes "spawn", whole process_at commands.Spawn)
-spawns-found = whole-found processes (codes "spawn") commands.Spawn (λ _. refl) (λ _ h. h) (λ _. refl)
+spawns-found = whole-found processes (codes "spawn") commands.Spawn (λ _ h. h) (λ _. refl)
 
 forks-found : IsReader (codes "fork", fork_at)
-forks-found = whole-found forks (codes "fork") _ (λ _. refl) (λ _ h. h) (λ _. refl)
+forks-found = whole-found forks (codes "fork") _ (λ _ h. h) (λ _. refl)
 
 exits-found : IsReader (codes "exit", whole process_at commands.Exit)
-exits-found = whole-found processes (codes "exit") commands.Exit (λ _. refl) (λ _ h. h) (λ _. refl)
+exits-found = whole-found processes (codes "exit") commands.Exit (λ _ h. h) (λ _. refl)
 
 reclaims-found : IsReader (codes "reclaim", whole frames_at commands.Reclaim)
-reclaims-found = whole-found counts (codes "reclaim") commands.Reclaim (λ _. refl) (λ _ h. h) (λ _. refl)
+reclaims-found = whole-found counts (codes "reclaim") commands.Reclaim (λ _ h. h) (λ _. refl)
 
 ages-found : IsReader (codes "age", whole frames_at commands.Age)
-ages-found = whole-found counts (codes "age") commands.Age (λ _. refl) (λ _ h. h) (λ _. refl)
+ages-found = whole-found counts (codes "age") commands.Age (λ _ h. h) (λ _. refl)
 
 completes-found : IsReader (codes "complete", whole frames_at commands.Complete)
-completes-found = whole-found counts (codes "complete") commands.Complete (λ _. refl) (λ _ h. h) (λ _. refl)
+completes-found = whole-found counts (codes "complete") commands.Complete (λ _ h. h) (λ _. refl)
 
 swapons-found : IsReader (codes "swapon", whole area_at commands.Swapon)
-swapons-found = whole-found swap_areas (codes "swapon") commands.Swapon (λ _. refl) (λ _ h. h) (λ _. refl)
+swapons-found = whole-found swap_areas (codes "swapon") commands.Swapon (λ _ h. h) (λ _. refl)
+
+swapoffs-found : IsReader (codes "swapoff", whole area_at commands.Swapoff)
+swapoffs-found = whole-found swap_areas (codes "swapoff") commands.Swapoff (λ _ h. h) (λ _. refl)
 
 maps-found : IsReader (codes "maps", whole process_at commands.Maps)
-maps-found = whole-found processes (codes "maps") commands.Maps (λ _. refl) (λ _ h. h) (λ _. refl)
+maps-found = whole-found processes (codes "maps") commands.Maps (λ _ h. h) (λ _. refl)
 
 areas-found : IsReader (codes "areas", whole process_at commands.Areas)
-areas-found = whole-found processes (codes "areas") commands.Areas (λ _. refl) (λ _ h. h) (λ _. refl)
+areas-found = whole-found processes (codes "areas") commands.Areas (λ _ h. h) (λ _. refl)
 
 rmaps-found : IsReader (codes "rmap", rmap_at)
-rmaps-found = whole-found entries (codes "rmap") _ (λ _. refl) (λ _ h. h) (λ _. refl)
+rmaps-found = whole-found entries (codes "rmap") _ (λ _ h. h) (λ _. refl)
 
 entries-found : IsReader (codes "entry", entry_of)
-entries-found = whole-found entries (codes "entry") _ (λ _. refl) (λ _ h. h) (λ _. refl)
+entries-found = whole-found entries (codes "entry") _ (λ _ h. h) (λ _. refl)
 
 slots-found : IsReader (codes "slot", slot_at)
-slots-found = whole-found slots (codes "slot") _ (λ _. refl) (λ _ h. h) (λ _. refl)
+slots-found = whole-found slots (codes "slot") _ (λ _ h. h) (λ _. refl)
 
 stats-found : IsReader (codes "stat", whole no_words (λ x. commands.Stat))
-stats-found = whole-found nothing (codes "stat") _ (λ _. refl) (λ _ _. tt) (λ _. refl)
+stats-found = whole-found nothing (codes "stat") _ (λ _ _. tt) (λ _. refl)
 
 each_reads : AllByRecursion IsReader readers
-each_reads = (writes-found, (reads-found, (spawns-found, (forks-found, (exits-found, (mmaps-found, (ranges-found, (mprotects-found, (mremaps-found, (reclaims-found, (ages-found, (completes-found, (swapons-found, (maps-found, (areas-found, (rmaps-found, (entries-found, (slots-found, (stats-found, tt)))))))))))))))))))
+each_reads = (writes-found, (reads-found, (spawns-found, (forks-found, (exits-found, (mmaps-found, (ranges-found, (mprotects-found, (mremaps-found, (reclaims-found, (ages-found, (completes-found, (swapons-found, (swapoffs-found, (maps-found, (areas-found, (rmaps-found, (entries-found, (slots-found, (stats-found, tt))))))))))))))))))))
 
-pub command_of-found : (bytes : List ℕ) (c : Command) → command_of bytes ≡ Some c → IsCommand c × (bytes ≡ line_of c)
+pub command_of-found : (bytes : List ℕ) (c : Command) → command_of bytes ≡ Some c → IsInRange c × (bytes ≡ line_of c)
 unfolding command_of
 command_of-found bytes c e =
     let reader = bind_some {A = CommandReader × List ℕ} _ _ _ e in
@@ -173,32 +176,29 @@ whole-again {A = A} {read = read} {words = words} reads end command x fits =
     let found : read (flat_map field (words x)) ≡ Some (x, []) = ap read (sym (append-nil (flat_map field (words x)))) ∙ reads.again x [] fits end in
     ap (λ (o : Option (A × List ℕ)). o >>= λ y. at_end (command y.0) y.1) found
 
-command_of-in-range : (c : Command) → is_in_grammar c ≡ true → IsInRange c → command_of (line_of c) ≡ Some c
+pub command_of-again : (c : Command) → IsInRange c → command_of (line_of c) ≡ Some c
 unfolding command_of after
-command_of-in-range (commands.Spawn p) has h = whole-again processes tt commands.Spawn p h
-command_of-in-range (commands.Fork p q) has h = whole-again forks tt _ (p, q) h
-command_of-in-range (commands.Exit p) has h = whole-again processes tt commands.Exit p h
-command_of-in-range (commands.Mmap p len prot place) has h = whole-again mmaps refl _ (((p, len), prot), place) (((h.0, h.1), tt), h.2)
-command_of-in-range (commands.Munmap p address len) has h = whole-again ranges tt _ ((p, address), len) ((h.0, h.1), h.2)
-command_of-in-range (commands.Mprotect p address len prot) has h = whole-again mprotects tt _ (((p, address), len), prot) (((h.0, h.1), h.2), tt)
-command_of-in-range (commands.Mremap p address old_len new_len mode) has h =
+command_of-again (commands.Spawn p) h = whole-again processes tt commands.Spawn p h
+command_of-again (commands.Fork p q) h = whole-again forks tt _ (p, q) h
+command_of-again (commands.Exit p) h = whole-again processes tt commands.Exit p h
+command_of-again (commands.Mmap p len prot place) h = whole-again mmaps refl _ (((p, len), prot), place) (((h.0, h.1), tt), h.2)
+command_of-again (commands.Munmap p address len) h = whole-again ranges tt _ ((p, address), len) ((h.0, h.1), h.2)
+command_of-again (commands.Mprotect p address len prot) h = whole-again mprotects tt _ (((p, address), len), prot) (((h.0, h.1), h.2), tt)
+command_of-again (commands.Mremap p address old_len new_len mode) h =
     whole-again mremaps refl _ ((((p, address), old_len), new_len), mode) ((((h.0, h.1), h.2), h.3), h.4)
-command_of-in-range (commands.Read p address len) has h = whole-again reads tt _ ((p, address), len) ((h.0, h.1), h.2)
-command_of-in-range (commands.Write p address bytes) has h = whole-again writes refl _ ((p, address), bytes) ((h.0, h.1), h.2)
-command_of-in-range (commands.Reclaim n) has h = whole-again counts tt commands.Reclaim n h
-command_of-in-range (commands.Age n) has h = whole-again counts tt commands.Age n h
-command_of-in-range (commands.Complete n) has h = whole-again counts tt commands.Complete n h
-command_of-in-range (commands.Swapon k) has h = whole-again swap_areas tt commands.Swapon k h
-command_of-in-range (commands.Swapoff k) has h = absurd (false≢true has)
-command_of-in-range (commands.Maps p) has h = whole-again processes tt commands.Maps p h
-command_of-in-range (commands.Areas p) has h = whole-again processes tt commands.Areas p h
-command_of-in-range (commands.Rmap p address) has h = whole-again entries tt _ (p, address) h
-command_of-in-range (commands.Entry p address) has h = whole-again entries tt _ (p, address) h
-command_of-in-range (commands.Slot k page) has h = whole-again slots tt _ (k, page) h
-command_of-in-range commands.Stat has h = whole-again nothing tt (λ x. commands.Stat) tt tt
-
-pub command_of-again : (c : Command) → IsCommand c → command_of (line_of c) ≡ Some c
-command_of-again c h = command_of-in-range c h.0 h.1
+command_of-again (commands.Read p address len) h = whole-again reads tt _ ((p, address), len) ((h.0, h.1), h.2)
+command_of-again (commands.Write p address bytes) h = whole-again writes refl _ ((p, address), bytes) ((h.0, h.1), h.2)
+command_of-again (commands.Reclaim n) h = whole-again counts tt commands.Reclaim n h
+command_of-again (commands.Age n) h = whole-again counts tt commands.Age n h
+command_of-again (commands.Complete n) h = whole-again counts tt commands.Complete n h
+command_of-again (commands.Swapon k) h = whole-again swap_areas tt commands.Swapon k h
+command_of-again (commands.Swapoff k) h = whole-again swap_areas tt commands.Swapoff k h
+command_of-again (commands.Maps p) h = whole-again processes tt commands.Maps p h
+command_of-again (commands.Areas p) h = whole-again processes tt commands.Areas p h
+command_of-again (commands.Rmap p address) h = whole-again entries tt _ (p, address) h
+command_of-again (commands.Entry p address) h = whole-again entries tt _ (p, address) h
+command_of-again (commands.Slot k page) h = whole-again slots tt _ (k, page) h
+command_of-again commands.Stat h = whole-again nothing tt (λ x. commands.Stat) tt tt
 
 -- ---- want of memory
 

@@ -1,5 +1,5 @@
 -- The lines that are commands. Each command has one line.
-use Rattle.std.specs.Prelude.{◌≡◌, ℕ, ◌-◌, ◌^◌, Bool, false, true, List, [], ◌∷◌, ◌++◌, codes, Option, Some, None}
+use Rattle.std.specs.Prelude.{◌≡◌, ℕ, ◌-◌, ◌^◌, List, [], ◌∷◌, ◌++◌, codes, Option, Some, None}
 use Rattle.std.specs.Fmt.{decimal}
 use Rattle.av_base.specs.Limits.{most_frames}
 use Rattle.av_base.specs.Page.{page_size}
@@ -47,15 +47,6 @@ IsInRange (commands.Rmap p address) = IsProcess p × IsWide address
 IsInRange (commands.Entry p address) = IsProcess p × IsWide address
 IsInRange (commands.Slot k page) = IsAreaNumber k × IsNumberIn 0 (2 ^ 32 - 1) page
 IsInRange commands.Stat = Unit {0}
-
--- whether the grammar has the command. One that it hasn't has a text and a meaning, and no line yet
-abbrev pub is_in_grammar : Command → Bool
-is_in_grammar (commands.Swapoff k) = false
-is_in_grammar c = true
-
--- a command of the grammar, with values in range
-abbrev pub IsCommand : Command → Type 0
-IsCommand c = (is_in_grammar c ≡ true) × IsInRange c
 
 -- the one line of a command
 abbrev pub line_of : Command → List ℕ
@@ -134,7 +125,7 @@ write_words bytes = both entry_at data_at bytes
 abbrev pub frames_at : Reader ℕ
 frames_at bytes = decimal_at 1 most_frames bytes
 
--- the word of `swapon`, and the first of `slot`: a swap area
+-- the word of `swapon` and `swapoff`, and the first of `slot`: a swap area
 abbrev pub area_at : Reader ℕ
 area_at bytes = decimal_at 0 7 bytes
 
@@ -197,13 +188,14 @@ range_readers =
     ∷ (codes "mremap", mremap_at)
     ∷ []
 
--- those that move pages to swap areas, and turn these on
+-- those that move pages to swap areas, and turn these on and off
 abbrev pub swap_readers : List (List ℕ × CommandReader)
 swap_readers =
     (codes "reclaim", whole frames_at commands.Reclaim)
     ∷ (codes "age", whole frames_at commands.Age)
     ∷ (codes "complete", whole frames_at commands.Complete)
     ∷ (codes "swapon", whole area_at commands.Swapon)
+    ∷ (codes "swapoff", whole area_at commands.Swapoff)
     ∷ []
 
 -- the reports
@@ -217,7 +209,7 @@ report_readers =
     ∷ (codes "stat", whole no_words (λ x. commands.Stat))
     ∷ []
 
--- all commands of the grammar
+-- all commands
 abbrev pub readers : List (List ℕ × CommandReader)
 readers = access_readers ++ process_readers ++ range_readers ++ swap_readers ++ report_readers
 

@@ -1,7 +1,7 @@
 //! What a line asks for.
 
 ghost use Rattle.std.specs.Prelude.{◌≡◌, ◌++◌, codes, option_map, IfOk, OnErr};
-ghost use Rattle.av_trace.specs.Command.{at_end, whole, no_words, fork_at, mmap_at, munmap_at, mprotect_at, mremap_at, read_at, write_at, area_at, frames_at, rmap_at, entry_of, slot_at, is_in_grammar, command_in, command_of, process_readers, range_readers, swap_readers, report_readers, range_words};
+ghost use Rattle.av_trace.specs.Command.{at_end, whole, no_words, fork_at, mmap_at, munmap_at, mprotect_at, mremap_at, read_at, write_at, area_at, frames_at, rmap_at, entry_of, slot_at, command_in, command_of, process_readers, range_readers, swap_readers, report_readers, range_words};
 ghost use Rattle.av_text.specs.Number.{process_at};
 ghost use Rattle.av_text.specs.Word.{BeginsWith};
 
@@ -18,7 +18,7 @@ use std::alloc::{AllocError, Global};
 /// What a line asks for, with the words of the line in order.
 ///
 /// Addresses and lengths are in bytes; each length but that of `Read` is rounded up to whole pages.
-/// Swap areas are 0 to 7. Of what `is_in_grammar` leaves out no line asks yet.
+/// Swap areas are 0 to 7.
 #[derive(Drop)]
 pub enum Command {
     Spawn {
@@ -99,16 +99,6 @@ pub enum Command {
         page: u32,
     },
     Stat,
-}
-
-impl Command {
-    /// Whether the grammar has the command. A line of `swapoff` is no command yet, and no kernel
-    /// answers it.
-    pub fn is_in_grammar(&self) -> bool
-        ensures { result ≡ is_in_grammar self.now }
-    {
-        !matches!(self, Command::Swapoff { .. })
-    }
 }
 
 /// The command, if nothing is left.
@@ -300,6 +290,14 @@ fn swapon(bytes: &[u8]) -> Option<Command>
 }
 
 #[tactic(auto, unfolding(crate::specs::Command::whole))]
+fn swapoff(bytes: &[u8]) -> Option<Command>
+    ensures { result ≡ whole area_at Command.Swapoff bytes.now }
+{
+    let (area, rest) = area(bytes)?;
+    end(Command::Swapoff { area }, rest)
+}
+
+#[tactic(auto, unfolding(crate::specs::Command::whole))]
 fn maps(bytes: &[u8]) -> Option<Command>
     ensures { result ≡ whole process_at Command.Maps bytes.now }
 {
@@ -386,6 +384,8 @@ fn swap_change_or_report(line: &[u8]) -> Option<Command>
         complete(rest)
     } else if let Some(rest) = after(line, b"swapon") {
         swapon(rest)
+    } else if let Some(rest) = after(line, b"swapoff") {
+        swapoff(rest)
     } else {
         report(line)
     }

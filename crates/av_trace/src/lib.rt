@@ -6,9 +6,6 @@
 //! `parse_line` fails only at a write, and `reply_text` may have added a part of the text.
 //!
 //! Only tested: nothing. Which reply a command has is no matter of this crate.
-//!
-//! The command `swapoff`, which no kernel answers yet, is declared, with the answer that it alone
-//! gives; it has no line.
 #![tactic(auto)]
 
 mod command;

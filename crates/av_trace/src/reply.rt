@@ -56,8 +56,6 @@ pub struct Totals {
 ///
 /// Where an access stops before its end, `served` counts the bytes before the stop, and `shown`
 /// are those of a read.
-///
-/// `NoFrame` is declared ahead of the command that gives it: `swapoff`.
 #[derive(Drop)]
 pub enum Answer {
     Done,
