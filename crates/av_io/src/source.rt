@@ -1,11 +1,16 @@
 //! Sources of bytes.
 
-ghost use Rattle.std.specs.Prelude.{Bool, false, ◌≡◌, ◌-◌, ◌≤◌, Some, None, length, drop, min, IfOk, OnErr, is_err};
+ghost use Rattle.std.specs.Prelude.{Bool, false, ◌≡◌, ◌-◌, ◌≤◌, Some, None, length, drop, min, IfOk, IfErr, OnErr, is_err, ◌≢◌};
+ghost use Rattle.std.specs.Io.{ReadsAtMost};
+ghost use Rattle.std.specs.IoError.{error_kind};
 ghost use Rattle.std.specs.Io.KnownBytes.{ReadConsumes};
 ghost use Rattle.av_io.specs.Source.{SourceView, Gives, GivesNothing};
 
 use crate::faults::{Failed, Faults};
-use std::io::Read;
+use std::io::{self, ErrorKind, Read};
+
+/// How often a read is tried that signals interrupt.
+const MOST_TRIES: u32 = 1 << 30;
 
 /// A source of bytes.
 pub trait Source {
@@ -86,8 +91,28 @@ impl Source for MemSource {
     }
 }
 
-/// A source over a reader, each of whose reads is one of the reader. What is left of it is not
-/// told.
+/// One read, which is tried again where a signal interrupts it. Each function ends, and so does
+/// this, by an error, where signals don't.
+fn read_again<R: Read>(reader: &mut R, into: &mut [u8]) -> io::Result<usize>
+    ensures bound { ReadsAtMost result into.new }
+    ensures bytes { ReadConsumes (R.remaining reader.old) (R.remaining reader.new) result into.new }
+    ensures again { IfErr result (λ e. error_kind e ≢ ErrorKind.Interrupted) }
+{
+    for turn in 0..MOST_TRIES {
+        match reader.read(into) {
+            Ok(given) => return Ok(given),
+            Err(error) => {
+                if error.kind() != ErrorKind::Interrupted {
+                    return Err(error);
+                }
+            }
+        }
+    }
+    Err(io::Error::from(ErrorKind::TimedOut))
+}
+
+/// A source over a reader, each of whose reads is one of the reader, but for those that a signal
+/// interrupts. What is left of it is not told.
 #[derive(Drop)]
 pub struct ReadSource<R: Read + Drop> {
     reader: R,
@@ -135,7 +160,7 @@ impl<R: Read + Drop> Source for ReadSource<R> {
             result into.new }
     {
         self.reads = self.reads.saturating_add(1);
-        let Ok(given) = self.reader.read(into) else {
+        let Ok(given) = read_again(&mut self.reader, into) else {
             self.faults = self.faults.saturating_add(1);
             return Err(Failed);
         };

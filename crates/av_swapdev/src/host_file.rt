@@ -79,10 +79,15 @@ impl<R: Files<File = File> + Drop> HostFiles<R> {
 }
 
 /// Opens a file to read and write it, and measures it.
+///
+/// A standard stream that is closed leaves its number to the next file that is opened, which would
+/// be read as the trace then, or have the transcript behind its end. A clone has none of these
+/// numbers.
 fn open<R: Files<File = File>>(files: &R, name: &str) -> io::Result<HostFile>
     ensures { IfOk result (λ f. (f.calls ≡ 0) × (f.faults ≡ 0)) }
 {
-    let mut file = OpenOptions::new().read(true).write(true).open(files, name)?;
+    let opened = OpenOptions::new().read(true).write(true).open(files, name)?;
+    let mut file = opened.try_clone()?;
     let len = file.seek(SeekFrom::End(0))?;
     Ok(HostFile {
         file,

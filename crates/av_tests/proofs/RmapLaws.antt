@@ -165,7 +165,7 @@ module _ (areas : ℕ → Option Area) (f : Family) (spans : ℕ → List Span) 
       by (inr (inr h)) (inr (inl k)) = absurd (pids (met parent child h.1 k.1))
       by (inr (inr h)) (inr (inr k)) = h.0 ∙ sym k.0
 
-  pub three_covered : IsCovered (view_with areas f spans entry) 7 (0, 11)
+  pub three_covered : IsCovered (view_with areas f spans entry) (names_frame 7) (0, 11)
   three_covered p page named = by (p == 2 && page == 11) (p == 1 && page == 11) refl refl (ap (names_frame 7) (sym (entries p page)) ∙ named)
     where
       first : (q o : ℕ) → (p == q && page == o) ≡ true → (p ≡ q) × (page ≡ o)
@@ -191,7 +191,7 @@ module _ (areas : ℕ → Option Area) (f : Family) (spans : ℕ → List Span) 
       by false false e d h = absurd (false≢true (sym (ap (λ x. names_frame 7 (cond x frame_7 (cond (p == 1 && page == 11) frame_7 Empty))) e
           ∙ ap (λ y. names_frame 7 (cond y frame_7 Empty)) d) ∙ h))
 
-  pub two_entries : AreItsEntries (view_with areas f spans entry) 7 ((1, 11) ∷ (2, 11) ∷ [])
+  pub two_entries : AreItsEntries (view_with areas f spans entry) (names_frame 7) ((1, 11) ∷ (2, 11) ∷ [])
   two_entries k = by (k.0 == 1 && k.1 == 11) (k.0 == 2 && k.1 == 11) refl refl ∙ sym (ap (λ e. one_if (names_frame 7 e)) (entries k.0 k.1))
     where
       both : (k.0 == 1 && k.1 == 11) ≡ true → (k.0 == 2 && k.1 == 11) ≡ true → ⊥
@@ -204,7 +204,7 @@ module _ (areas : ℕ → Option Area) (f : Family) (spans : ℕ → List Span) 
       by false true e d = refl
       by false false e d = refl
 
-  pub two_at_most : (keys : List Key) → AreItsEntries (view_with areas f spans entry) 7 keys → length keys ≤ 2
+  pub two_at_most : (keys : List Key) → AreItsEntries (view_with areas f spans entry) (names_frame 7) keys → length keys ≤ 2
   two_at_most keys its = let same : length keys ≡ 2 = keys-as-long keys ((1, 11) ∷ (2, 11) ∷ []) (λ k. its k ∙ sym (two_entries k)) in omega (arith, same)
 
   pub two_looks : f.users 0 ≡ a ∷ b ∷ c ∷ [] → how_many (overlaps 11) (spans 0) ≡ 2

@@ -88,6 +88,28 @@ fn faults_of_a_reader(rt: HostRuntime) {
     }
 }
 
+/// A reader whose first calls, so many, are interrupted by a signal. The others fill all.
+#[derive(Drop)]
+struct Interrupted {
+    left: u32,
+}
+
+impl Read for Interrupted {
+    fn read(&mut self, buf: &mut [u8]) -> io::Result<usize> {
+        if self.left > 0 {
+            self.left -= 1;
+            return Err(io::Error::from(ErrorKind::Interrupted));
+        }
+        Ok(buf.len())
+    }
+}
+
+#[test]
+fn a_read_that_signals_interrupt(rt: HostRuntime) {
+    let mut source = ReadSource::new(Interrupted { left: 1000 });
+    assert!(rt; gives(&mut source, Some(&[0, 0])));
+}
+
 #[test]
 fn faults_of_a_writer(rt: HostRuntime) -> Result<(), Fail> {
     let mut sink = WriteSink::new(rt.alloc(), Faulty { calls: 0 })?;

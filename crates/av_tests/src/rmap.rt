@@ -9,7 +9,7 @@ ghost use Rattle.av_pagetable.specs.Entries.{entry_at, has};
 ghost use Rattle.av_rmap.specs.Covered.{IsCovered};
 ghost use Rattle.av_rmap.specs.Stores.{view_of_mut};
 ghost use Rattle.av_rmap.specs.View.{AreApart, AreSpanned};
-ghost use Rattle.av_rmap.specs.Walk.{AreItsEntries, Key};
+ghost use Rattle.av_rmap.specs.Walk.{names_frame};
 ghost use Rattle.av_tests.specs.Rmap.{AreThree, shared_entries};
 ghost use Rattle.av_vma.specs.Areas.{area_of};
 
@@ -114,7 +114,7 @@ fn seen_and_then<K: LookMut<L>, L: Ledger>(
 ) -> (bool, bool)
     requires spanned { AreSpanned (K.view look.old) }
     requires apart { AreApart (K.view look.old) }
-    requires covered { IsCovered (K.view look.old) frame home }
+    requires covered { IsCovered (K.view look.old) (names_frame frame) home }
 {
     let before = any_seen(look, frame, home, steps);
     clear_seen(look, frame, home, steps);
@@ -131,7 +131,7 @@ fn seen_in_stores<L: Ledger>(
 ) -> (bool, bool)
     requires spanned { AreSpanned (view_of_mut stores.old) }
     requires apart { AreApart (view_of_mut stores.old) }
-    requires covered { IsCovered (view_of_mut stores.old) frame home }
+    requires covered { IsCovered (view_of_mut stores.old) (names_frame frame) home }
     requires name { blank.name ≡ L.name }
     requires parts { blank.parts ≡ L.parts }
     requires some { 0 < blank.parts }

@@ -36,6 +36,7 @@ fn counts_are_kept_as_linux_keeps_them(rt: HostRuntime) -> Result<(), AllocError
         (62, true, [0x7e, 0, 0, 0, 0, 0]),
         (63, false, [0x80, 0x01, 0, 0, 0, 0]),
         (66, false, [0x83, 0x01, 0, 0, 0, 0]),
+        (4096, false, [0x81, 0x41, 0, 0, 0, 0]),
         (8063, false, [0xbe, 0x7f, 0, 0, 0, 0]),
         (8064, false, [0x80, 0x80, 0x01, 0, 0, 0]),
         (0xffff_ffff, true, [0xc3, 0x84, 0x82, 0xc1, 0x20, 0]),
