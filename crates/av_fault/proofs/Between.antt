@@ -2,7 +2,7 @@
 use Rattle.std.proofs.Common.{◌≡◌, ℕ, ◌≤◌, Bool, true, false, not, nat_lt, ◌&&◌, ◌==◌, ◌<◌, List, Option, Some, None, is_some, IfSome, IsSomeAnd, refl, sym, ap, subst, ◌∙◌, arith}
 use Rattle.std.specs.FinMap.Entries.{find}
 use Rattle.std.specs.Ordering.{nat_cmp}
-use Rattle.std.specs.Prelude.{option_map, slice_index}
+use Rattle.std.specs.Prelude.{slice_index}
 use Rattle.av_base.specs.Page.{page_size}
 use Rattle.av_base.specs.declared.slot.Slot.{Slot}
 use Rattle.av_spaces.specs.Kin.{AnonsFit}
@@ -271,11 +271,7 @@ pub between-some : (sizes : ℕ → Option ℕ) (k : Mem) (n : ℕ) → IsBetwee
     → (w : World) × (r : Rmap) × (l : Ledger) × KeepsBetween (device_by sizes None n) k w r l
 between-some sizes k n h = (h.1, h.2, h.3, between-untold (device_by sizes None h.0) k h.1 h.2 h.3 n h.4)
 
--- a device after a call that changes its faults at the most
-pub seen-same : (told : Bool) (d d' : Device) → d'.sizes ≡ d.sizes → d'.pages ≡ d.pages → d.faults ≤ d'.faults → IsSameDevice (as_told told d) (as_told told d')
-seen-same true d d' sizes told faults = record { sizes = sizes; first = ap (option_map {U = ℕ → List ℕ} (λ (t : ℕ → ℕ → List ℕ) k. t k 0)) told; faults = faults }
-seen-same false d d' sizes told faults = record { sizes = sizes; first = refl; faults = faults }
-
+-- a device after a call that changes its faults at the most says as much
 pub seen-says : (told : Bool) (d d' : Device) → d'.pages ≡ d.pages → SaysAsMuch (as_told told d) (as_told told d')
 seen-says true d d' told IsSo is = subst (λ o. IfSome o IsSo) (sym told) is
 seen-says false d d' told IsSo is = tt

@@ -38,7 +38,7 @@ use Rattle.av_fault.specs.declared.fault.Stop.TheVariants.{Bus, Oom, Segv}
 use Rattle.av_fault.specs.declared.fault.Touched.{Touched}
 use Rattle.av_fault.specs.declared.fault.Touched.TheVariants.{Ready, Stopped, Zeros}
 use Rattle.av_fault.proofs.Between.{between-some, setting-stays}
-use Rattle.av_fault.proofs.ComingLaws.{entry-away}
+use Rattle.av_mem.proofs.HomeLaws.{entry-away}
 use Rattle.av_fault.proofs.Done.{done-then}
 use Rattle.av_fault.proofs.TouchLaws.{allowed-as}
 
@@ -225,7 +225,7 @@ is-in d d1 old mid k s home before amid f end between there is does ok =
     let d0 = as_told false d in
     let d2 = as_told false d1 in
     let came = subst (HasCome (λ m w l added came. Comes m w l k s added came) d0 d2 old mid b.0 b.1 b.2 before amid) ok (does false b.0 b.1 b.2 b.3) in
-    let at = entry-away d0 old b.0 b.1 b.2 b.3 k s there in
+    let at = entry-away d0 None old b.0 b.1 b.2 b.3.serves k s there in
     record {
       between = (d1.faults, _, _, _, came.done.between);
       is_home = is ∙ ap (home_of k.1) (sym (pages-come d0 d2 old mid b.0 b.1 b.2 k s before amid f at came b.3 k.0 k.1));
@@ -242,7 +242,7 @@ came-does d d' d'' old mid new write k s before amid now f end result there perm
     let d0 = as_told told d in
     let d1 = as_told told d' in
     let came = subst (HasCome (λ m w l added came. Comes m w l k s added came) d0 d1 old mid w r l before amid) ok (does told w r l h) in
-    came-touched d0 d1 old mid w r l k s before amid f (entry-away d0 old w r l h k s there) came (as_told told d'') new write now touched
+    came-touched d0 d1 old mid w r l k s before amid f (entry-away d0 None old w r l h.serves k s there) came (as_told told d'') new write now touched
     (allowed-as d0 old w r l h write k ∙ permitted) (made told _ _ _ came.done.between))
 
 pub stop-does : (d d' : Device) (old new : Mem) (write : Bool) (k : Key) (s : Slot) (before now : List Note) (stop : Stop) (end : Result ℕ Stop)
@@ -251,5 +251,5 @@ pub stop-does : (d d' : Device) (old new : Mem) (write : Bool) (k : Key) (s : Sl
     → Does d d' old (λ d d' w r l. HasTouched d d' old new w r l write k before now (Stopped stop))
 stop-does d d' old new write k s before now stop end there permitted does err = λ told w r l h.
     let d0 = as_told told d in
-    stop-touched d0 (as_told told d') old new w r l k s write before now stop (entry-away d0 old w r l h k s there) (allowed-as d0 old w r l h write k ∙ permitted)
+    stop-touched d0 (as_told told d') old new w r l k s write before now stop (entry-away d0 None old w r l h.serves k s there) (allowed-as d0 old w r l h write k ∙ permitted)
     (subst (HasCome (λ m w l added came. Comes m w l k s added came) d0 (as_told told d') old new w r l before now) err (does told w r l h))

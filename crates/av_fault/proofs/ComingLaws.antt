@@ -1,37 +1,32 @@
 -- A page comes in whose entry names a slot: the slot's page is in a frame, and the entry names that.
-use Rattle.std.proofs.Common.{◌≡◌, ℕ, ◌+◌, ◌-◌, ◌^◌, ◌<◌, ◌==◌, Bool, true, false, cond, List, [], ◌∷◌, ◌++◌, Option, Some, None, IfSome, is_some, refl, sym, ap, subst, ◌∙◌, arith}
+use Rattle.std.proofs.Common.{◌≡◌, ℕ, ◌+◌, ◌-◌, ◌^◌, ◌<◌, Bool, true, false, cond, List, [], ◌∷◌, ◌++◌, Option, Some, None, IfSome, is_some, refl, sym, ap, subst, ◌∙◌, arith}
 use Rattle.std.proofs.lemmas.List.{append-nil, append_assoc}
-use Rattle.std.specs.Option.{option_map_or}
-use Rattle.std.specs.Prelude.{IsSome, IsSomeAnd, MatchOption, Err, Ok, Result, option_map, slice_index}
+use Rattle.std.specs.Prelude.{IsSome, MatchOption, Err, Ok, Result, option_map, slice_index}
 use Rattle.av_base.specs.Page.{address_of, page_of, page_size}
 use Rattle.av_base.specs.Words.{is_in}
 use Rattle.av_base.specs.declared.slot.Slot.{Slot}
-use Rattle.av_anon.specs.declared.infos.Info.{Info}
 use Rattle.av_io.specs.Count.{Rose, RoseBy}
 use Rattle.av_pagetable.specs.declared.pte.Pte.{Pte}
 use Rattle.av_pagetable.specs.declared.pte.Pte.TheVariants.{Away, Empty, Here, Zero}
 use Rattle.av_pagetable.specs.Entries.{entry_at}
-use Rattle.av_spaces.specs.Kin.{chain_by, info_of}
+use Rattle.av_spaces.specs.Kin.{info_of}
 use Rattle.av_spaces.specs.Spaces.{pages_of}
 use Rattle.av_swapcache.specs.Swap.{HasAreas, IsUncached, shown as shown_swap}
-use Rattle.av_swapdev.specs.Device.{Holds as HoldsBytes}
 use Rattle.av_trace.specs.declared.note.Note.{Note}
 use Rattle.av_trace.specs.declared.note.Note.TheVariants.{Loaded, Mapped}
 use Rattle.av_trace.specs.declared.reply.OutOf.{OutOf}
-use Rattle.av_vma.specs.Join.{index_of}
 use Rattle.av_vma.specs.Pages.{home_of}
 use Rattle.av_vma.specs.declared.area.Area.{Area}
-use Rattle.av_plain.specs.Areas.{AnonVma, Rmap, home_for, rmap_after_all, rmap_after_note, root_of}
-use Rattle.av_plain.specs.Choice.{ChoosesAll, ListsFree}
-use Rattle.av_plain.specs.Covered.{IsKin}
+use Rattle.av_plain.specs.Areas.{Rmap, rmap_after_all, rmap_after_note}
+use Rattle.av_plain.specs.Choice.{ChoosesAll}
 use Rattle.av_plain.specs.Device.{Device, IsSameDevice, as_told}
 use Rattle.av_plain.specs.Event.{Event, Noted, after_all, after_note, after_notes, key_at, note_events, set_entry}
 use Rattle.av_plain.specs.Fault.{ComesIn, need_of_slot, sparing}
-use Rattle.av_plain.specs.Ledger.{InFrame, InSlot, Key, Ledger, Setting, entry, frame_at, has_free, is_free, keys_of_slot, map_count, names_slot, slot_entries}
+use Rattle.av_plain.specs.Ledger.{InFrame, InSlot, Key, Ledger, Setting, entry, frame_at, has_free, is_free}
 use Rattle.av_plain.specs.Load.{with_loads}
 use Rattle.av_plain.specs.Pass.{TakesFor, fails, is_fail}
-use Rattle.av_plain.specs.Sound.{no_excuse, slots, uses}
-use Rattle.av_plain.specs.Stands.{Pte as Plain, View, entry_of, free_of, kin_of}
+use Rattle.av_plain.specs.Sound.{no_excuse, slots}
+use Rattle.av_plain.specs.Stands.{Pte as Plain, View, entry_of, free_of}
 use Rattle.av_plain.specs.World.{World}
 use Rattle.av_plain.proofs.Access.{after_notes-append, note_events-all, note_events-append}
 use Rattle.av_plain.proofs.Covered.Page.{fit-areas}
@@ -40,25 +35,23 @@ use Rattle.av_plain.proofs.Ledger.{entry-set, how_many-append, same_key-itself}
 use Rattle.av_plain.proofs.Ledger.NoSwap.{key_at-address, key_is}
 use Rattle.av_plain.proofs.Load.{without-loads}
 use Rattle.av_plain.proofs.Sound.Access.{load-kept}
-use Rattle.av_plain.proofs.Sound.Counts.{frame_at-none, frame_at-some, pair-frame, slot-itself}
+use Rattle.av_plain.proofs.Sound.Counts.{frame_at-none, slot-itself}
 use Rattle.av_plain.proofs.Sound.Pass.{seeks-kept}
 use Rattle.av_plain.proofs.Sound.Steps.{is_steady}
 use Rattle.av_swap_laws.specs.Held.{Held}
-use Rattle.av_swap_laws.specs.Steps.{view_load, view_map}
-use Rattle.av_swap_laws.proofs.Cache.{frame-slot, frame_at-into, once-of, uncached-frame}
-use Rattle.av_swap_laws.proofs.Few.{together-few}
-use Rattle.av_swap_laws.proofs.From.{IsFirst, cached-in_range, first-is, uncached-may_load}
-use Rattle.av_swap_laws.proofs.Homes.{home-any}
-use Rattle.av_swap_laws.proofs.Load.{unslotted}
-use Rattle.av_swap_laws.proofs.Parts.{named-slot, none-some}
+use Rattle.av_swap_laws.specs.Steps.{view_map}
+use Rattle.av_swap_laws.proofs.Cache.{frame_at-into, uncached-frame}
+use Rattle.av_swap_laws.proofs.From.{IsFirst, uncached-may_load}
+use Rattle.av_swap_laws.proofs.Parts.{named-slot}
 use Rattle.av_swap_laws.proofs.Sound.{load-sound, map-sound}
-use Rattle.av_swap_laws.proofs.WholePages.{load-steps, map-steps}
 use Rattle.av_mem.specs.declared.mem.Mem.{Mem}
-use Rattle.av_mem.specs.Cache.{HasLoaded}
-use Rattle.av_mem.specs.Mem.{HasLists, HasRoom, anon_vma, frame_count, held_by, plain, setting_by, view}
+use Rattle.av_mem.specs.Cache.{HasLoaded, home_by}
+use Rattle.av_mem.specs.Mem.{HasLists, HasRoom, frame_count, held_by, plain, setting_by, view}
 use Rattle.av_mem.specs.Steps.{KeepsParts}
 use Rattle.av_mem.specs.Between.{Does, HasDone, IsBetween, KeepsBetween}
-use Rattle.av_fault.specs.Coming.{Comes, Fetches, HasCome, home_by, root_in}
+use Rattle.av_mem.proofs.ComingBack.{back-at, back-few, back-found, back-in_range, back-loaded, back-mapped, back-named, back-uncached, back-used, first-taken, seen-loaded, seen-mapped, view_loaded}
+use Rattle.av_mem.proofs.HomeLaws.{away-is, entry-away, home-there}
+use Rattle.av_fault.specs.Coming.{Comes, Fetches, HasCome}
 use Rattle.av_fault.specs.Seek.{HasSought}
 use Rattle.av_fault.specs.declared.fault.Stop.{Stop}
 use Rattle.av_fault.specs.declared.fault.Stop.TheVariants.{Bus, Oom}
@@ -69,72 +62,6 @@ use Rattle.av_fault.proofs.Between.{SaysAsMuch, between-some, bytes-move, fit-st
 use Rattle.av_fault.proofs.Done.{done-by, done-none, done-then, rose-none, rose-then}
 use Rattle.av_fault.proofs.Run.{run-done, run-none, run-then}
 use Rattle.av_fault.proofs.SeekLaws.{free-some}
-
--- ---- an entry that is a slot
-
-module _ (d : Device) (k : Mem) (w : World) (r : Rmap) (l : Ledger) (h : KeepsBetween d k w r l) (q : Key) (s : Slot) where
-  pub entry-away : entry_at k.tables q.0 q.1 ≡ Away s → entry l q ≡ Some (InSlot s)
-  entry-away there = sym (h.serves.held.ledger.tables.entries q.0 q.1) ∙ ap (λ e. entry_of (plain e)) there
-
-  pub away-is : entry l q ≡ Some (InSlot s) → entry_at k.tables q.0 q.1 ≡ Away s
-  away-is at = by (entry_at k.tables q.0 q.1) (h.serves.held.ledger.tables.entries q.0 q.1 ∙ at)
-    where
-      by : (e : Pte) → entry_of (plain e) ≡ Some (InSlot s) → e ≡ Away s
-      by Empty is = cc
-      by Zero is = cc
-      by (Here f write was) is = cc
-      by (Away t) is = cc
-
-  -- ---- the home of a frame that takes the slot's page
-
-  -- roots are as the definitions have them
-  root-is : (v : ℕ) → root_in k v ≡ root_of r.anons v
-  root-is v = by (info_of k.anons v) (r.anons.anon v) (h.serves.anons.kin v)
-    where
-      by : (x : Option Info) (y : Option AnonVma)
-          → option_map kin_of (option_map (anon_vma (chain_by k.spaces k.anons (Some v))) x) ≡ option_map kin_of y
-          → option_map_or (λ (i : Info). i.root) x v ≡ option_map_or (λ (a : AnonVma). a.root) y v
-      by None None e = refl
-      by None (Some a) e = ap (λ (o : Option (ℕ × ℕ)). option_map_or (λ (p : ℕ × ℕ). p.0) o v) e
-      by (Some i) None e = ap (λ (o : Option (ℕ × ℕ)). option_map_or (λ (p : ℕ × ℕ). p.0) o v) e
-      by (Some i) (Some a) e = ap (λ (o : Option (ℕ × ℕ)). option_map_or (λ (p : ℕ × ℕ). p.0) o v) e
-
-  module _ (at : entry l q ≡ Some (InSlot s)) (home : Option (ℕ × ℕ)) (is : home ≡ home_of q.1 (r.areas q.0 q.1)) where
-    pub home-law : home_by k s home ≡ home_for r (keys_of_slot l s)
-    home-law = ap (home_by k s) is ∙ sym (by (r.areas q.0 q.1) (home-any l r s q h.sound.in_order h.serves.held.covered.slots
-        (subst (λ o. IsSomeAnd o (λ e. names_slot s e ≡ true)) (sym at) (slot-itself s))))
-      where
-        owned : (area : Area) (o : Option ℕ)
-            → IsSomeAnd o (λ own. home_for r (keys_of_slot l s) ≡ Some (cond (slot_entries l s == 1) own (root_of r.anons own), index_of area q.1))
-            → home_for r (keys_of_slot l s) ≡ home_by k s (option_map (λ own. (own, index_of area q.1)) o)
-        owned area None x = absurd x
-        owned area (Some own) x = x ∙ (λ i. Some (cond (sym (h.serves.held.ledger.swap.counts s) i == 1) own (sym (root-is own) i), index_of area q.1))
-
-        by : (o : Option Area) → IsSomeAnd o (λ area. IsSomeAnd area.anon (λ own.
-            home_for r (keys_of_slot l s) ≡ Some (cond (slot_entries l s == 1) own (root_of r.anons own), index_of area q.1)))
-            → home_for r (keys_of_slot l s) ≡ home_by k s (home_of q.1 o)
-        by None x = absurd x
-        by (Some area) x = owned area area.anon x
-
-    -- the anon_vma of the page's area is there
-    pub home-there : (x : ℕ × ℕ) → home ≡ Some x → IsSome (info_of k.anons x.0)
-    home-there x e = by (info_of k.anons x.0) (r.anons.anon x.0) (h.serves.anons.kin x.0)
-        (h.serves.held.covered.slots.kin q.0 q.1 x.0 (area (r.areas q.0 q.1) (sym is ∙ e)))
-      where
-        own : (index : ℕ) (o : Option ℕ) → option_map (λ own. (own, index)) o ≡ Some x → o ≡ Some x.0
-        own index None e = absurd (none-some x e)
-        own index (Some v) e = ap (option_map (λ (p : ℕ × ℕ). p.0)) e
-
-        area : (o : Option Area) → home_of q.1 o ≡ Some x → IsSomeAnd o (λ area. area.anon ≡ Some x.0)
-        area None e = absurd (none-some x e)
-        area (Some a) e = own (index_of a q.1) a.anon e
-
-        by : (i : Option Info) (y : Option AnonVma)
-            → option_map kin_of (option_map (anon_vma (chain_by k.spaces k.anons (Some x.0))) i) ≡ option_map kin_of y
-            → IsSomeAnd y (IsKin r.anons) → IsSome i
-        by None None e kin = absurd kin
-        by None (Some a) e kin = absurd (none-some (kin_of a) e)
-        by (Some i) y e kin = refl
 
 -- ---- notes that are no failed write
 
@@ -207,7 +134,7 @@ module _ (d d1 : Device) (old mid : Mem) (w : World) (r : Rmap) (l : Ledger) (q 
   by_notes = note_events-all l sought.added
 
   at_first : entry l q ≡ Some (InSlot s)
-  at_first = entry-away d old w r l h q s there
+  at_first = entry-away d None old w r l h.serves q s there
 
   out_first : frame_at l s ≡ None
   out_first = sym (h.serves.held.ledger.swap.finds s) ∙ absent
@@ -228,19 +155,16 @@ module _ (d d1 : Device) (old mid : Mem) (w : World) (r : Rmap) (l : Ledger) (q 
   -- ---- what the load asks for
 
   pub load-home : (x : ℕ × ℕ) → home ≡ Some x → IsSome (info_of mid.anons x.0)
-  load-home = home-there d1 mid w1 r1 l1 between q s at_now home home_now
+  load-home = home-there d1 None mid w1 r1 l1 between.serves q s between.sound.in_order at_now home home_now
 
   pub load-named : 0 < (view mid).entries s
-  load-named = subst (λ n. 0 < n) (sym (between.serves.held.ledger.swap.counts s)) (named-slot l1 q s at_now)
+  load-named = back-named d1 None mid w1 r1 l1 no_excuse between.sound between.serves q s at_now
 
   pub load-absent : (view mid).find s ≡ None
   load-absent = between.serves.held.ledger.swap.finds s ∙ out_now
 
   pub load-uncached : (f : ℕ) → is_in f (view mid).free ≡ true → IsUncached (shown_swap mid.swap) f
-  load-uncached f free t found =
-      let cached : frame_at l1 t ≡ Some f = sym (between.serves.held.ledger.swap.finds t) ∙ found in
-      none-some t (sym (unslotted l1 f (sym (between.serves.held.ledger.frames.free f (cached-in_range m1 no_excuse l1 between.sound f t cached)) ∙ free))
-      ∙ frame-slot l1 (once-of m1 no_excuse l1 between.sound) f t cached)
+  load-uncached = back-uncached d1 None mid w1 r1 l1 no_excuse between.sound between.serves q s at_now
 
   -- a frame is free
   pub load-finds : (view mid).free ≡ [] → ⊥
@@ -301,28 +225,23 @@ module _ (d d1 : Device) (old mid : Mem) (w : World) (r : Rmap) (l : Ledger) (q 
     held_sought = held_by d1 mid w1 r1 l1
 
     first : IsFirst m1 l1 f load.left
-    first = first-is m1 l1 f load.left (subst (ListsFree m1 l1) load.first between.serves.free.frames)
+    first = first-taken d1 None mid w1 r1 l1 no_excuse between.sound between.serves q s at_now out_now home home_now new pages f homed is_home load got
 
-    abbrev view_loaded : View
-    view_loaded = view_load f s load.left (slice_index load.page) (home_for r1 (keys_of_slot l1 s)) (view mid)
-
-    seen_loaded : view new ≡ view_loaded
-    seen_loaded = load.loads ∙ ap (λ x. view_load f s load.left (slice_index load.page) x (view mid))
-        (is_home ∙ home-law d1 mid w1 r1 l1 between q s at_now home home_now)
+    abbrev view_now : View
+    view_now = view_loaded d1 None mid w1 r1 l1 no_excuse between.sound between.serves q s at_now out_now home home_now new pages f homed is_home load got
 
     loads : HasDone d1 d1 mid new w1 r1 l1 (load_event ∷ [])
     loads =
-        run-done d1 d1 mid new w1 (with_loads m1 w1 l1 (load_event ∷ [])) r1 (rmap_after_note l1 (Loaded s f) r1) l1 (after_note (Loaded s f) l1) (load_event ∷ []) held_sought view_loaded
+        run-done d1 d1 mid new w1 (with_loads m1 w1 l1 (load_event ∷ [])) r1 (rmap_after_note l1 (Loaded s f) r1) l1 (after_note (Loaded s f) l1) (load_event ∷ []) held_sought view_now
         (run-then m1 held_sought held_sought
-        (record { view = view_loaded; device = d1; world = with_loads m1 w1 l1 (load_event ∷ []); ledger = after_note (Loaded s f) l1; rmap = rmap_after_note l1 (Loaded s f) r1 })
+        (record { view = view_now; device = d1; world = with_loads m1 w1 l1 (load_event ∷ []); ledger = after_note (Loaded s f) l1; rmap = rmap_after_note l1 (Loaded s f) r1 })
         [] load_event (run-none m1 held_sought (to-amid d1 mid w1 r1 l1 between)) (named-slot l1 q s at_now, tt, tt)
-        (load-steps m1 None held_sought between.serves.held f s load.left (slice_index load.page) between.sound.in_order
-        (once-of m1 no_excuse l1 between.sound) (uncached-may_load m1 no_excuse l1 between.sound f s out_now first.free)
-        (record { sizes = refl; headers = refl }) load.first first.alone got)
+        (back-loaded d1 None mid w1 r1 l1 no_excuse between.sound between.serves q s at_now out_now home home_now new pages f homed is_home load got)
         (record { world = refl; view_areas = refl; view_anons = refl; areas = refl; anons = refl })
         (load-sound m1 no_excuse l1 between.sound f s (uncached-may_load m1 no_excuse l1 between.sound f s out_now first.free)
         (named-slot l1 q s at_now) first.below))
-        seen_loaded refl refl refl refl (same-still d1) parts.count (fit-stays d1 d1 mid new (same-still d1) parts (to-fit d1 mid w1 r1 l1 between))
+        (seen-loaded d1 None mid w1 r1 l1 no_excuse between.sound between.serves q s at_now out_now home home_now new pages f homed is_home load got)
+        refl refl refl refl (same-still d1) parts.count (fit-stays d1 d1 mid new (same-still d1) parts (to-fit d1 mid w1 r1 l1 between))
 
     abbrev added : List Note
     added = sought.added ++ Loaded s f ∷ []
@@ -354,21 +273,7 @@ module _ (d d1 : Device) (old mid : Mem) (w : World) (r : Rmap) (l : Ledger) (q 
       failed = omega arith;
     }
 
--- what the frame got is the device's page, where that is told
-pub got-told : (told : Bool) (d : Device) (s : Slot) (page : List ℕ) → HoldsBytes d.pages s.area s.page page
-    → IfSome (as_told told d).pages (λ kept. (i : ℕ) → i < page_size → slice_index page i ≡ slice_index (kept s.area s.page) i)
-got-told false d s page holds = tt
-got-told true d s page holds = by d.pages holds
-  where
-    by : (o : Option (ℕ → ℕ → List ℕ)) → HoldsBytes o s.area s.page page
-        → IfSome o (λ kept. (i : ℕ) → i < page_size → slice_index page i ≡ slice_index (kept s.area s.page) i)
-    by None holds = tt
-    by (Some kept) holds = λ i below. ap (λ bytes. slice_index bytes i) (sym holds)
-
--- a device is the same after a call that changes nothing of it
-pub told-still : (told : Bool) (d d' : Device) → d'.sizes ≡ d.sizes → d'.pages ≡ d.pages → d'.faults ≡ d.faults → as_told told d' ≡ as_told told d
-told-still told d d' sizes pages faults = λ i. as_told told (record { sizes = sizes i; pages = pages i; faults = faults i })
-
+-- what a device says of its faults, whether it tells its pages or not
 pub told-rose : (told : Bool) (n : ℕ) (d d' : Device) → RoseBy n d.faults d'.faults → RoseBy n (as_told told d).faults (as_told told d').faults
 told-rose true n d d' rose = rose
 told-rose false n d d' rose = rose
@@ -447,7 +352,7 @@ module _ (d d1 : Device) (old mid : Mem) (w : World) (r : Rmap) (l : Ledger) (q 
   fetched = came.done.between
 
   named_once : entry l q ≡ Some (InSlot s)
-  named_once = entry-away d old w r l h q s there
+  named_once = entry-away d None old w r l h.serves q s there
 
   is_there : IsThere lf q s f
   is_there = subst (λ x. IsThere x q s f) (sym (note_events-all l came.added)) (by (frame_at l s) refl came.comes)
@@ -461,29 +366,22 @@ module _ (d d1 : Device) (old mid : Mem) (w : World) (r : Rmap) (l : Ledger) (q 
       }
       by (Some g) is c = subst (λ ns. IsThere (after_notes l ns) q s f) (sym c.0) (record { at = named_once; cached = is ∙ ap Some (sym c.1) })
 
-  few : map_count lf f < 2 ^ 64 - 1
-  few =
-      let sum = together-few mf no_excuse wf lf f s fetched.sound fetched.serves.at_pages
-      (frame-slot lf (once-of mf no_excuse lf fetched.sound) f s is_there.cached) in
-      let most = fetched.serves.tidy.few in
-      omega (arith, sum, most)
-
   -- ---- what the map asks for
 
   pub map-in_range : f < frame_count mid
-  map-in_range = cached-in_range mf no_excuse lf fetched.sound f s is_there.cached
+  map-in_range = back-in_range d1 None mid wf rf lf no_excuse fetched.sound fetched.serves q s is_there.at f is_there.cached
 
   pub map-names : entry_at mid.tables q.0 q.1 ≡ Away s
-  map-names = away-is d1 mid wf rf lf fetched q s is_there.at
+  map-names = away-is d1 None mid wf rf lf fetched.serves q s is_there.at
 
   pub map-cached : (view mid).find s ≡ Some f
-  map-cached = fetched.serves.held.ledger.swap.finds s ∙ is_there.cached
+  map-cached = back-found d1 None mid wf rf lf no_excuse fetched.sound fetched.serves q s is_there.at f is_there.cached
 
   pub map-named : 0 < (view mid).entries s
-  map-named = subst (λ n. 0 < n) (sym (fetched.serves.held.ledger.swap.counts s)) (named-slot lf q s is_there.at)
+  map-named = back-named d1 None mid wf rf lf no_excuse fetched.sound fetched.serves q s is_there.at
 
   pub map-few : (view mid).maps f < 2 ^ 64 - 1
-  map-few = subst (λ n. n < 2 ^ 64 - 1) (sym (fetched.serves.held.ledger.frames.maps f)) few
+  map-few = back-few d1 None mid wf rf lf no_excuse fetched.sound fetched.serves q s is_there.at f is_there.cached
 
   -- ---- what it leaves
 
@@ -497,28 +395,18 @@ module _ (d d1 : Device) (old mid : Mem) (w : World) (r : Rmap) (l : Ledger) (q 
     abbrev view_mapped : View
     view_mapped = view_map q.0 (page_of (address_of q.1)) f s (view mid)
 
-    same_page : page_of (address_of q.1) ≡ q.1
-    same_page = ap (λ (k : Key). k.1) (key_at-address q)
-
     at_address : entry lf (key_at q.0 (address_of q.1)) ≡ Some (InSlot s)
-    at_address = ap (entry lf) (key_at-address q) ∙ is_there.at
-
-    used : 0 < uses lf f
-    used =
-        let pair = frame_at-some f s lf.cache is_there.cached in
-        let held = pair-frame s f lf.cache in
-        omega (arith, pair, held)
+    at_address = back-at d1 None mid wf rf lf no_excuse fetched.sound fetched.serves q s is_there.at f is_there.cached
 
     maps : HasDone d1 d1 mid new wf rf lf (Noted note ∷ [])
     maps = run-done d1 d1 mid new wf wf rf rf lf (after_note note lf) (Noted note ∷ []) held_fetched view_mapped
         (run-then mf held_fetched held_fetched (record held_fetched { view = view_mapped; ledger = after_note note lf }) [] (Noted note)
         (run-none mf held_fetched (to-amid d1 mid wf rf lf fetched))
-        (tt, used, fetched.serves.at_pages q.0 (page_of (address_of q.1)) (ap is_some at_address))
-        (map-steps mf None held_fetched fetched.serves.held q.0 (address_of q.1) f s fetched.sound.in_order (once-of mf no_excuse lf fetched.sound)
-        at_address is_there.cached)
+        (tt, back-used d1 None mid wf rf lf no_excuse fetched.sound fetched.serves q s is_there.at f is_there.cached, fetched.serves.at_pages q.0 (page_of (address_of q.1)) (ap is_some at_address))
+        (back-mapped d1 None mid wf rf lf no_excuse fetched.sound fetched.serves q s is_there.at f is_there.cached)
         (record { world = sym (without-loads mf wf lf (Noted note ∷ []) refl); view_areas = refl; view_anons = refl; areas = refl; anons = refl })
         (map-sound mf no_excuse lf fetched.sound q.0 (address_of q.1) f s at_address is_there.cached))
-        (now_seen ∙ ap (λ page. view_map q.0 page f s (view mid)) (sym same_page)) refl refl (sym (without-loads mf wf lf (Noted note ∷ []) refl)) refl
+        (seen-mapped d1 None mid wf rf lf no_excuse fetched.sound fetched.serves q s is_there.at f is_there.cached new now_seen) refl refl (sym (without-loads mf wf lf (Noted note ∷ []) refl)) refl
         (same-still d1) parts.count (fit-stays d1 d1 mid new (same-still d1) parts (to-fit d1 mid wf rf lf fetched))
 
     comes_in : ComesIn (setting_by d old) (sparing w) l q (need_of_slot s (frame_at l s)) (came.added ++ note ∷ [])

@@ -1,13 +1,11 @@
 -- A page is made ready: what its entry is and what was made of it are what the definitions ask for.
-use Rattle.std.proofs.Common.{◌≡◌, inl, ℕ, ◌-◌, ◌≤◌, ◌==◌, Bool, true, false, cond, not, ◌&&◌, List, [], ◌∷◌, ◌++◌, Option, Some, None, is_some, refl, sym, ap, subst, ◌∙◌, arith}
-use Rattle.std.proofs.lemmas.Bool.Decides.{nat_tests}
+use Rattle.std.proofs.Common.{◌≡◌, inl, ℕ, ◌-◌, ◌==◌, Bool, true, false, cond, not, ◌&&◌, List, [], ◌∷◌, ◌++◌, Option, Some, None, is_some, refl, sym, ap, subst, ◌∙◌, arith}
 use Rattle.std.proofs.lemmas.Bool.{false≢true}
 use Rattle.std.proofs.lemmas.List.{append-nil}
 use Rattle.std.proofs.lemmas.Result.{IfOk-weaker}
 use Rattle.std.specs.Bool.{then_some}
 use Rattle.std.specs.Prelude.{Err, IfOk, Ok, Result, option_map}
 use Rattle.std.specs.declared.alloc.AllocError.{AllocError}
-use Rattle.av_base.specs.Words.{within}
 use Rattle.av_base.specs.declared.slot.Slot.{Slot}
 use Rattle.av_pagetable.specs.declared.pte.Pte.{Pte}
 use Rattle.av_pagetable.specs.declared.pte.Pte.TheVariants.{Here, Zero}
@@ -15,8 +13,6 @@ use Rattle.av_pagetable.specs.Entries.{entry_at}
 use Rattle.av_spaces.specs.Spaces.{Spaces, pages_of}
 use Rattle.av_trace.specs.declared.note.Note.{Note}
 use Rattle.av_trace.specs.declared.note.Note.TheVariants.{Dropped}
-use Rattle.av_vma.specs.Join.{first_of, past_of}
-use Rattle.av_vma.specs.Pages.{AreLaid}
 use Rattle.av_vma.specs.declared.area.Area.{Area}
 use Rattle.av_plain.specs.Areas.{Rmap, rmap_after_all}
 use Rattle.av_plain.specs.Choice.{ChoosesAll, Free}
@@ -58,13 +54,6 @@ may-be s p page write o is = ap (λ x. is_permitted write (option_map prot_on x)
 pub some-then : {A : Type 0} (b : Bool) (x : A) → is_some (then_some b x) ≡ b
 some-then true x = refl
 some-then false x = refl
-
--- the area on a page begins at it or before
-lower : (a n x : ℕ) → within a n x ≡ true → a ≤ x
-lower a n x is = grind (arith, nat_tests)
-
-pub first-laid : (on : ℕ → Option Area) (page : ℕ) (area : Area) → AreLaid on → on page ≡ Some area → first_of area ≤ page
-first-laid on page area laid is = lower (first_of area) (past_of area - first_of area) page (laid.here page area is)
 
 -- ---- what stands says of a page
 

@@ -1,9 +1,6 @@
 -- How a page comes in whose entry names a slot.
-use Rattle.std.specs.Option.{option_map_or}
-use Rattle.std.specs.Prelude.{◌≡◌, ℕ, ◌+◌, ◌≤◌, ◌==◌, if◌then◌else◌, false, List, ◌++◌, Option, None, Some, option_map, Result, Ok, Err}
+use Rattle.std.specs.Prelude.{◌≡◌, ℕ, ◌+◌, ◌≤◌, false, List, ◌++◌, None, Some, Result, Ok, Err}
 use Rattle.av_base.specs.declared.slot.Slot.{Slot}
-use Rattle.av_anon.specs.declared.infos.Info.{Info}
-use Rattle.av_spaces.specs.Kin.{info_of}
 use Rattle.av_io.specs.Count.{RoseBy}
 use Rattle.av_trace.specs.declared.note.Note.{Note}
 use Rattle.av_plain.specs.Areas.{Rmap}
@@ -15,7 +12,7 @@ use Rattle.av_plain.specs.Pass.{Seeks, fails}
 use Rattle.av_plain.specs.Swapoff.{IsFetched}
 use Rattle.av_plain.specs.World.{World}
 use Rattle.av_mem.specs.declared.mem.Mem.{Mem}
-use Rattle.av_mem.specs.Mem.{setting_by, view}
+use Rattle.av_mem.specs.Mem.{setting_by}
 use Rattle.av_mem.specs.Between.{HasDone}
 use Rattle.av_fault.specs.Fault.{failed_by, lost_by}
 use Rattle.av_fault.specs.Seek.{Finds}
@@ -23,17 +20,6 @@ use Rattle.av_fault.specs.declared.fault.Stop.{Stop}
 use Rattle.av_fault.specs.declared.fault.Stop.TheVariants.{Bus, Oom, Segv}
 use Rattle.av_fault.specs.declared.fault.Touched.TheVariants.{Stopped}
 use Rattle.av_fault.specs.declared.seek.Got.TheVariants.{Frame, Out}
-
--- ---- the home of a frame that is loaded
-
--- the root of an anon_vma
-abbrev pub root_in : Mem → ℕ → ℕ
-root_in k v = option_map_or (λ (i : Info). i.root) (info_of k.anons v) v
-
--- the home of a page where it is the only one whose entry names the slot, else with the root
-abbrev pub home_by : Mem → Slot → Option (ℕ × ℕ) → Option (ℕ × ℕ)
-home_by k s home = option_map
-    (λ (h : ℕ × ℕ). (if (view k).entries s == 1 then h.0 else root_in k h.0, h.1)) home
 
 -- ---- what is added
 

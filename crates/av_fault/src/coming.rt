@@ -1,16 +1,14 @@
 //! A page comes in whose entry names a slot.
 
-ghost use Rattle.std.specs.Option.{ForSome};
-ghost use Rattle.std.specs.Prelude.{◌≡◌, false, IfOk, IsSome};
+ghost use Rattle.std.specs.Prelude.{◌≡◌, false, IfOk};
 ghost use Rattle.av_pagetable.specs.Entries.{entry_at};
 ghost use Rattle.av_pagetable.specs.declared.pte.Pte.TheVariants as Pte;
 ghost use Rattle.av_plain.specs.Device.{IsSameDevice, device_by};
-ghost use Rattle.av_spaces.specs.Kin.{info_of};
 ghost use Rattle.av_spaces.specs.Spaces.{pages_of};
 ghost use Rattle.av_vma.specs.Pages.{home_of};
 ghost use Rattle.av_mem.specs.Mem.{frame_count};
 ghost use Rattle.av_mem.specs.Between.{Does, IsBetween};
-ghost use Rattle.av_fault.specs.Coming.{Comes, Fetches, HasCome, home_by};
+ghost use Rattle.av_fault.specs.Coming.{Comes, Fetches, HasCome};
 
 use crate::fault::Stop;
 use crate::seek::{Got, seek};
@@ -85,7 +83,7 @@ fn fetch<D: SwapDev>(
     if let Got::Out(out) = seek(mem, dev, None, notes)? {
         return Ok(Err(Stop::Oom(out)));
     }
-    let home = home_to_load(mem, slot, home);
+    let home = mem.home_to_load(slot, home);
     match mem.load(slot, home, dev) {
         Some(Ok(frame)) => {
             notes.push(Note::Loaded { slot, frame })?;
@@ -94,17 +92,4 @@ fn fetch<D: SwapDev>(
         Some(Err(_)) => Ok(Err(Stop::Bus)),
         None => unreachable!(),
     }
-}
-
-/// The home of a frame that takes the page of a slot: that of the page that wants it, where that is
-/// the only one; else with the root of its anon_vma, from which all are reached.
-fn home_to_load(mem: &Mem, slot: Slot, home: Option<(u64, u64)>) -> Option<(u64, u64)>
-    requires { ForSome home (λ h. IsSome (info_of mem.now.anons h.0)) }
-    ensures { result ≡ home_by mem.now slot home }
-{
-    let (own, index) = home?;
-    if mem.swap.entries(slot) == 1 {
-        return home;
-    }
-    Some((mem.anons.info(own).root, index))
 }

@@ -24,4 +24,5 @@ pub mod ReportWalk
 pub mod ReportStat
 pub mod SlotLaws
 pub mod SwaponLaws
+pub mod SwapoffLaws
 pub mod TallyCounts

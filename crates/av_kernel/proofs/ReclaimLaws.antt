@@ -33,7 +33,7 @@ use Rattle.av_kernel.proofs.StepLaws.{left_alone, noted}
 
 -- ---- what stands between two events
 
-stands-between : (d : Device) (k : Mem) (s : State) → Keeps d k s → KeepsBetween d k s.world (rmap_of s) s.ledger
+pub stands-between : (d : Device) (k : Mem) (s : State) → Keeps d k s → KeepsBetween d k s.world (rmap_of s) s.ledger
 stands-between d k s keeps = record { sound = keeps.stands.sound.ledger; serves = keeps-serves d k s keeps }
 
 pub steady-between : (sizes : ℕ → Option ℕ) (k : Mem) → IsSteadyAt sizes k → IsBetween sizes k

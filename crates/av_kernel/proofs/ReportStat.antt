@@ -32,7 +32,7 @@ counts k processes = record {
 }
 
 -- it is what the ledger has
-counts-are : {d : Device} (k : Mem) (s : State) (processes : ℕ) → Keeps d k s → ((f : ℕ) → how_many (λ g. f == g) (view k).free ≤ 1) →
+pub counts-are : {d : Device} (k : Mem) (s : State) (processes : ℕ) → Keeps d k s → ((f : ℕ) → how_many (λ g. f == g) (view k).free ≤ 1) →
     ((f : ℕ) → is_in f (view k).free ≡ true → f < frame_count k) → processes ≡ length k.spaces.processes
     → counts k processes ≡ totals (setting_by d k) s.world s.ledger
 counts-are {d} k s processes keeps once below number =
@@ -50,14 +50,12 @@ counts-are {d} k s processes keeps once below number =
       processes = (number ∙ st.parts.areas.number) i;
     }
 
-pub stat-steps : {d : Device} (k : Mem) (s : State) (processes : ℕ) → Keeps d k s → ((f : ℕ) → how_many (λ g. f == g) (view k).free ≤ 1) →
-    ((f : ℕ) → is_in f (view k).free ≡ true → f < frame_count k) → processes ≡ length k.spaces.processes
-    → StepsBeside d k k s Stat (answer_only (Counted (counts k processes)))
-stat-steps {d} k s processes keeps once below number = record {
+pub stat-steps : {d : Device} (k : Mem) (s : State) → Keeps d k s → StepsBeside d k k s Stat (answer_only (Counted (totals (setting_by d k) s.world s.ledger)))
+stat-steps {d} k s keeps = record {
   next = s;
   step = record {
     events = [];
-    legal = record { answer = (ap Counted (counts-are k s processes keeps once below number), refl, refl); notes = refl };
+    legal = record { answer = (refl, refl, refl); notes = refl };
     world = world_as (setting_by d k) s.world s.ledger [] Stat Done refl;
     ledger = refl;
     free = refl;

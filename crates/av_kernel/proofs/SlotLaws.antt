@@ -27,6 +27,7 @@ use Rattle.av_plain.specs.Stands.{SwapStands}
 use Rattle.av_plain.specs.Step.{Follows}
 use Rattle.av_plain.specs.Transcript.{State}
 use Rattle.av_mem.specs.declared.mem.Mem.{Mem}
+use Rattle.av_swapoff.proofs.CloseLaws.{on-shown}
 use Rattle.av_mem.specs.Mem.{AgreesWith, Keeps, numbers_of, setting_by, view}
 use Rattle.av_kernel.specs.Step.{StepsBeside}
 use Rattle.av_kernel.specs.Swap.{has_page, page_answer}
@@ -38,24 +39,6 @@ use Rattle.av_kernel.proofs.Loads.{world_as}
 -- the numbers of a header that a ledger keeps
 abbrev pub area_of : Header → SwapArea
 area_of header = record { slots = header.slots; bad = header.bad }
-
-found-numbers : (a : ℕ) (on : List (ℕ × Header)) → find nat_cmp a (map numbers_of on) ≡ option_map area_of (find nat_cmp a on)
-found-numbers a [] = refl
-found-numbers a (e ∷ on) = by (is_eq (nat_cmp a e.0)) (found-numbers a on)
-  where
-    by : (b : Bool) → find nat_cmp a (map numbers_of on) ≡ option_map area_of (find nat_cmp a on)
-        → cond b (Some (area_of e.1)) (find nat_cmp a (map numbers_of on)) ≡ option_map area_of (cond b (Some e.1) (find nat_cmp a on))
-    by true h = refl
-    by false h = h
-
--- an area is on in the ledger exactly where it is shown to be
-pub on-shown : (k : Mem) (l : Ledger) → SwapStands (view k) l → (a : ℕ) → is_on l a ≡ is_some (header_at (shown_swap k.swap) a)
-on-shown k l h a = ap (λ on. is_some (find nat_cmp a on)) (sym h.on) ∙ ap is_some (found-numbers a (shown_swap k.swap).on)
-    ∙ any (header_at (shown_swap k.swap) a)
-  where
-    any : (o : Option Header) → is_some (option_map area_of o) ≡ is_some o
-    any None = refl
-    any (Some header) = refl
 
 -- ---- counts
 

@@ -48,7 +48,8 @@ use Rattle.av_kernel.specs.Swap.{on_answer}
 use Rattle.av_kernel.specs.declared.refusal.Refusal.{Refusal}
 use Rattle.av_kernel.specs.declared.refusal.Refusal.TheVariants as refusals
 use Rattle.av_kernel.proofs.Loads.{world_as}
-use Rattle.av_kernel.proofs.SlotLaws.{area_of, on-shown}
+use Rattle.av_swapoff.proofs.CloseLaws.{on-shown, with_swap}
+use Rattle.av_kernel.proofs.SlotLaws.{area_of}
 use Rattle.av_kernel.proofs.StepLaws.{is_number, refused, rmap_kept, same_itself}
 
 -- ---- the tests
@@ -113,9 +114,6 @@ told-header sizes told area pages page r there holds reads = ap (option_and_then
     ∙ ap (λ page. without_fault (header_of page pages)) holds ∙ ap without_fault reads
 
 -- ---- the memory system with other swap areas
-
-abbrev pub with_swap : Mem → SwapStore → Mem
-with_swap k swap = record k { swap = swap }
 
 -- where they are shown as before, it stands for what it did
 alike-keeps : (d : Device) (k : Mem) (swap : SwapStore) (s : State) → shown_swap swap ≡ shown_swap k.swap → Keeps d k s → Keeps d (with_swap k swap) s

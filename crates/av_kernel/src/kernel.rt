@@ -2,14 +2,15 @@
 
 ghost use Rattle.std.specs.Prelude.{◌≡◌, ◌<◌, ◌≤◌, ◌^◌, IfOk, OnOk, OnErr, length, true, false};
 ghost use Rattle.av_base.specs.Limits.{most_commands};
-ghost use Rattle.av_trace.specs.Command.{is_in_grammar};
 ghost use Rattle.av_plain.specs.Device.{Device, IsSameDevice, setting_of};
+ghost use Rattle.av_plain.specs.Report.{totals as totals_of};
 ghost use Rattle.av_plain.specs.Transcript.{State, at_first};
 ghost use Rattle.av_swapdev.specs.Device.{most_areas};
 ghost use Rattle.av_kernel.specs.Kernel.{Stands, Steps, Counts, IsNew, IsSpent};
 ghost use Rattle.av_kernel.specs.Machine.{sizes_of};
 ghost use Rattle.av_kernel.specs.Step.{seen_by};
 
+use crate::report::totals;
 use crate::step::perform;
 use crate::tally::Tally;
 use av_anon::Anons;
@@ -21,7 +22,7 @@ use av_spaces::Spaces;
 use av_swapcache::Swap;
 use av_swapdev::SwapDev;
 use av_text::Bytes;
-use av_trace::{Command, Reply};
+use av_trace::{Command, Reply, Totals};
 use std::alloc::{AllocError, Global};
 use std::marker::Model;
 
@@ -79,7 +80,7 @@ impl Kernel {
         })
     }
 
-    /// Does one command of the grammar. After want of memory the kernel is spent: then it does
+    /// Does one command. After want of memory the kernel is spent: then it does
     /// nothing more. The device has the swap areas with which the kernel was made.
     pub fn step<D: SwapDev>(
         &mut self,
@@ -88,7 +89,6 @@ impl Kernel {
         dev: &mut D,
     ) -> Result<Reply, AllocError>
         requires few { self.old.steps < most_commands }
-        requires grammar { is_in_grammar command.now ≡ true }
         requires attached { D.sizes dev.old ≡ sizes_of self.old.sizes }
         ensures stands { let d = seen_by D.sizes D.pages D.faults in (s : State)
             → Stands self.old (d dev.old) s → IfOk result
@@ -115,7 +115,6 @@ impl Kernel {
         reply: &mut Reply,
     ) -> Result<(), AllocError>
         requires few { self.old.steps < most_commands }
-        requires grammar { is_in_grammar command.now ≡ true }
         requires attached { D.sizes dev.old ≡ sizes_of self.old.sizes }
         ensures stands { let d = seen_by D.sizes D.pages D.faults in (s : State)
             → Stands self.old (d dev.old) s → OnOk result
@@ -203,6 +202,15 @@ impl Kernel {
         ensures { result ≡ self.now.tally }
     {
         self.tally
+    }
+
+    /// What `stat` would answer. It is no command, and nothing counts it.
+    pub fn totals(&self) -> Totals
+        requires unspent { self.now.spent ≡ false }
+        ensures { (d : Device) (s : State) → Stands self.now d s
+            → result ≡ totals_of (setting_of self.now.frames d) s.world s.ledger }
+    {
+        totals(&self.mem)
     }
 
     /// Whether memory was wanting within a command, so that nothing more is done.

@@ -7,8 +7,7 @@
 //! each entry of a frame, or of the slot that one caches, is reached from the frame's home. It is
 //! the same device after each command, with its sizes and, where it tells its pages, page 0 of each
 //! area; and what only its faults explain is within what it failed. `Kernel` counts the replies,
-//! and after want of memory does nothing more. All of this is proved, for every command of the
-//! grammar.
+//! and after want of memory does nothing more. All of this is proved, for every command.
 #![tactic(auto)]
 
 mod access;

@@ -6,9 +6,9 @@ ghost use Rattle.av_base.specs.Limits.{top_page};
 ghost use Rattle.av_spaces.specs.Kin.{AnonsFit};
 ghost use Rattle.av_spaces.specs.Spaces.{AreRising, areas_of, pages_of};
 ghost use Rattle.av_vma.specs.Join.{first_of};
-ghost use Rattle.av_plain.specs.Device.{Device};
+ghost use Rattle.av_plain.specs.Device.{Device, setting_of};
 ghost use Rattle.av_plain.specs.Ledger.{entry as entry_of, walk as walk_of};
-ghost use Rattle.av_plain.specs.Report.{area_row as row_of_area, entry_answer as answer_of_entry, key_row, range_of};
+ghost use Rattle.av_plain.specs.Report.{area_row as row_of_area, entry_answer as answer_of_entry, key_row, range_of, totals as totals_of};
 ghost use Rattle.av_plain.specs.Transcript.{State};
 ghost use Rattle.av_mem.specs.Mem.{IsSteady, Keeps, frame_count, view};
 ghost use Rattle.av_kernel.specs.Step.{DoesBeside, reply_in};
@@ -107,7 +107,16 @@ pub fn stat(mem: &Mem, reply: &mut Reply)
     requires cleared { IsCleared reply.old }
     ensures { DoesBeside mem.now mem.now commands.Stat (Ok reply.new) }
 {
-    let totals = Totals {
+    answer_with(reply, Answer::Counted(totals(mem)));
+}
+
+/// The numbers of `stat`.
+pub fn totals(mem: &Mem) -> Totals
+    requires { IsSteady mem.now }
+    ensures { (d : Device) (s : State) → Keeps d mem.now s
+        → result ≡ totals_of (setting_of (frame_count mem.now) d) s.world s.ledger }
+{
+    Totals {
         frames: u64::from(mem.frames.count()),
         free: u64::from(mem.frames.free()),
         active: u64::from(mem.lists.len(Which::Active)),
@@ -116,8 +125,7 @@ pub fn stat(mem: &Mem, reply: &mut Reply)
         slots: mem.swap.all_slots(),
         free_slots: mem.swap.all_free_slots(),
         processes: mem.spaces.count() as u64,
-    };
-    answer_with(reply, Answer::Counted(totals));
+    }
 }
 
 /// Fills in the longest runs of pages with one protection of these areas of one process.

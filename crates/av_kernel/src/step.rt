@@ -1,7 +1,6 @@
 //! Which command goes where, and what a refusal replies.
 
 ghost use Rattle.std.specs.Prelude.{◌≡◌, ◌≤◌, OnOk, false, length, true};
-ghost use Rattle.av_trace.specs.Command.{is_in_grammar};
 ghost use Rattle.av_trace.specs.Reply.{IsCleared};
 ghost use Rattle.av_swapdev.specs.Device.{most_areas};
 ghost use Rattle.av_plain.specs.Device.{IsSameDevice};
@@ -25,7 +24,7 @@ use crate::process::{exit, fork, spawn};
 use crate::reclaim::{age, complete, reclaim};
 use crate::refusal::Refusal;
 use crate::report::{areas, entry, maps, rmap, stat};
-use crate::swap::{slot, swapon};
+use crate::swap::{slot, swapoff, swapon};
 use av_mem::Mem;
 use av_swapdev::SwapDev;
 use av_text::Bytes;
@@ -48,7 +47,6 @@ pub fn perform<D: SwapDev>(
     reply: &mut Reply,
 ) -> Result<(), AllocError>
     requires steady { IsSteadyAt (D.sizes dev.old) mem.old }
-    requires grammar { is_in_grammar command.now ≡ true }
     requires attached { D.sizes dev.old ≡ sizes_of sizes.now }
     requires few { length sizes.now ≤ most_areas }
     ensures step { let d = seen_by D.sizes D.pages D.faults in (s : State)
@@ -85,7 +83,6 @@ fn dispatch<D: SwapDev>(
     reply: &mut Reply,
 ) -> Result<(), Refusal>
     requires steady { IsSteadyAt (D.sizes dev.old) mem.old }
-    requires grammar { is_in_grammar command.now ≡ true }
     requires attached { D.sizes dev.old ≡ sizes_of sizes.now }
     requires few { length sizes.now ≤ most_areas }
     requires cleared { IsCleared reply.old }
@@ -107,6 +104,7 @@ fn dispatch<D: SwapDev>(
         Command::Age { frames } => age(mem, dev, *frames, reply),
         Command::Complete { slots } => complete(mem, dev, *slots, reply),
         Command::Swapon { area } => swapon(mem, dev, sizes, alloc, *area, reply),
+        Command::Swapoff { area } => swapoff(mem, dev, alloc, *area, reply),
         _ => do_beside(mem, alloc, command, reply),
     }
 }

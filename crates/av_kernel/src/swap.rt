@@ -1,4 +1,5 @@
-//! Swap areas come on, and what is asked of their slots: `swapon` and `slot`.
+//! Swap areas come on and go off, and what is asked of their slots: `swapon`, `swapoff` and
+//! `slot`.
 
 ghost use Rattle.std.specs.Prelude.{◌≡◌, ◌<◌, ◌≤◌, false, true, length, slice_get, unwrap_or, MatchResult, Some};
 ghost use Rattle.av_swapcache.specs.Swap.{IsPage, header_at, shown as shown_swap};
@@ -6,6 +7,8 @@ ghost use Rattle.av_swapdev.specs.Device.{most_areas};
 ghost use Rattle.av_trace.specs.Reply.{IsCleared};
 ghost use Rattle.av_trace.specs.declared.command.Command.TheVariants as commands;
 ghost use Rattle.av_trace.specs.declared.reply.Errno.TheVariants as errors;
+ghost use Rattle.av_plain.specs.Swapoff.{close_answer};
+ghost use Rattle.av_swapoff.specs.Empty.{close_of};
 ghost use Rattle.av_mem.specs.Mem.{IsSteady, IsSteadyAt};
 ghost use Rattle.av_kernel.specs.Machine.{sizes_of};
 ghost use Rattle.av_kernel.specs.Step.{Does, DoesBeside, reply_in, seen_by};
@@ -17,6 +20,7 @@ use av_base::Slot;
 use av_mem::Mem;
 use av_swapcache::SwapOn;
 use av_swapdev::SwapDev;
+use av_swapoff::EmptyEnd;
 use av_trace::{Answer, Errno, Reply};
 use std::alloc::Global;
 
@@ -70,6 +74,39 @@ fn on_answer(came: SwapOn) -> Answer
         SwapOn::Busy => Answer::Refused(Errno::Ebusy),
         SwapOn::Io => Answer::Refused(Errno::Eio),
         SwapOn::Bad(_) => Answer::Refused(Errno::Einval),
+    }
+}
+
+/// Does a `swapoff`: each page in a slot of the area comes back to its entries, and the area is off
+/// then. It stays on where a page can't be had.
+pub fn swapoff<D: SwapDev>(
+    mem: &mut Mem,
+    dev: &mut D,
+    alloc: Global,
+    area: u8,
+    reply: &mut Reply,
+) -> Result<(), Refusal>
+    requires steady { IsSteadyAt (D.sizes dev.old) mem.old }
+    requires cleared { IsCleared reply.old }
+    ensures { let d = seen_by D.sizes D.pages D.faults in Does (d dev.old) (d dev.new)
+        mem.old mem.new (commands.Swapoff area) (reply_in reply.new result) }
+{
+    if !mem.swap.is_on(area) {
+        return Err(Refusal::Refused(Errno::Einval));
+    }
+    let end = av_swapoff::swapoff(alloc, mem, dev, area, &mut reply.notes)?;
+    answer_with(reply, end_answer(end));
+    Ok(())
+}
+
+/// What a `swapoff` answers, by how the emptying of the area ended.
+fn end_answer(end: EmptyEnd) -> Answer
+    ensures { result ≡ close_answer (close_of end) }
+{
+    match end {
+        EmptyEnd::Empty => Answer::Done,
+        EmptyEnd::NoFrame(out) => Answer::NoFrame(out),
+        EmptyEnd::NoPage => Answer::Refused(Errno::Eio),
     }
 }
 

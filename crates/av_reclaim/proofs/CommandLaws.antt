@@ -3,7 +3,7 @@ use Rattle.std.proofs.Common.{◌≡◌, ℕ, List, Option, None, false, sym, ap
 use Rattle.av_trace.specs.declared.note.Note.{Note}
 use Rattle.av_plain.specs.Areas.{Rmap, rmap_after_all}
 use Rattle.av_plain.specs.Choice.{ChoosesAll}
-use Rattle.av_plain.specs.Device.{Device, IsSameDevice, as_told, device_by}
+use Rattle.av_plain.specs.Device.{Device, IsSameDevice, as_told}
 use Rattle.av_plain.specs.Event.{after_notes, note_events}
 use Rattle.av_plain.specs.Ledger.{Ledger, Setting}
 use Rattle.av_plain.specs.Load.{with_loads}
@@ -17,7 +17,7 @@ use Rattle.av_evict.specs.System.{Always, Gives, Goes, IsAt, Stays}
 use Rattle.av_mem.specs.Between.{HasDone, IsBetween, KeepsBetween}
 use Rattle.av_mem.specs.Mem.{Serves, frame_count, setting_by, view}
 use Rattle.av_mem.specs.declared.mem.Mem.{Mem}
-use Rattle.av_mem.proofs.KeepsLaws.{keeps-serves, keeps-whenever, serves-keeps, state_by}
+use Rattle.av_mem.proofs.KeepsLaws.{serves-whenever}
 use Rattle.av_reclaim.specs.Commands.{HasAdded}
 use Rattle.av_reclaim.specs.Driver.{closing_of, view_of}
 
@@ -27,15 +27,9 @@ use Rattle.av_reclaim.specs.Driver.{closing_of, view_of}
 open-of : (d : Device) (k : Mem) (w : World) (r : Rmap) (l : Ledger) → Serves d None k w r l → Serves d (closing_of k) k w r l
 open-of d k w r l h = subst (λ c. Serves d c k w r l) (sym h.swap.closed) h
 
--- it does not matter how often the device failed
-serves-whenever : (sizes : ℕ → Option ℕ) (n n' : ℕ) (k : Mem) (w : World) (r : Rmap) (l : Ledger) → KeepsBetween (device_by sizes None n) k w r l
-    → Serves (device_by sizes None n') None k w r l
-serves-whenever sizes n n' k w r l h = keeps-serves (device_by sizes None n') k (state_by k w r l)
-    (keeps-whenever sizes None n n' k (state_by k w r l) (serves-keeps (device_by sizes None n) k w r l h.sound h.serves))
-
 pub is-at : (names : List ℕ) (d : Device) (k : Mem) → IsBetween d.sizes k → IsAt (view_of names (as_told false d) k) Always
 is-at names d k h =
-    (h.3, h.4.sound, (h.1, h.2, open-of (as_told false d) k h.1 h.2 h.3 (serves-whenever d.sizes h.0 d.faults k h.1 h.2 h.3 h.4)), tt)
+    (h.3, h.4.sound, (h.1, h.2, open-of (as_told false d) k h.1 h.2 h.3 (serves-whenever d.sizes None h.0 d.faults None k h.1 h.2 h.3 h.4.serves)), tt)
 
 -- ---- what they do
 

@@ -19,15 +19,15 @@ use Rattle.av_swapcache.specs.declared.swap.Finished.{Finished}
 use Rattle.av_swapcache.specs.declared.swap.Finished.TheVariants.{Done as DoneAt, Failed as FailedAt}
 use Rattle.av_evict.specs.declared.system.WriteEnd.{WriteEnd}
 use Rattle.av_evict.specs.Steps.{notes_of_end, slot_of_end}
-use Rattle.av_evict.specs.System.{Always, Does, Makes, Stays, Tells, any_slot}
+use Rattle.av_evict.specs.System.{Always, Makes, Stays, Tells, any_slot}
 use Rattle.av_mem.specs.Cache.{Ends}
 use Rattle.av_mem.specs.Mem.{Serves, held_by, setting_by, view}
 use Rattle.av_mem.specs.Steps.{KeepsParts}
 use Rattle.av_mem.specs.declared.mem.Mem.{Mem}
 use Rattle.av_mem.proofs.ServesLaws.{anons-fit, lists-fit, setting-stays, swap-fits, tables-fit}
 use Rattle.av_reclaim.specs.Driver.{closing_of, end_of, view_of}
-use Rattle.av_reclaim.proofs.OneNote.{one-does, step-stays}
-use Rattle.av_reclaim.proofs.StepMakes.{by-view, itself, mem-stays, same-world, stands-still}
+use Rattle.av_reclaim.proofs.OneNote.{one-still, step-stays}
+use Rattle.av_reclaim.proofs.StepMakes.{by-view, itself, same-world}
 
 abbrev pub ends_of : Option Finished → Option WriteEnd
 ends_of None = None
@@ -54,30 +54,28 @@ module _ (names : List ℕ) (d d' : Device) (old new : Mem) (sizes : d'.sizes �
   done-makes : (s : Slot) (f : ℕ) → EndsOn (Some (DoneAt s f)) old new d d'
       → Makes (view_of names d old) (view_of names d' new) Always (Written s ∷ [])
   done-makes s f ends = λ l sound stood ready. let page = ends.0 in let first = ends.1 in
-      one-does names d d' old new l (Written s) (record { sound = sound; world = stood.0; rmap = stood.1; serves = stood.2 }) (record {
+      one-still names d d' old new l (Written s) (record { sound = sound; world = stood.0; rmap = stood.1; serves = stood.2 }) (record {
         parts = parts;
         same = written-same d d' s page first.behind_header ends.2 sizes more;
         lawful = (tt, tt);
-        brings = λ w. tt;
+        brings = λ w r c. tt;
         still = tt;
-        loads = λ w. same-world (is_some (setting_by d old).headers) w;
         faults = still d.faults d'.faults ends.4;
-      }) (λ w r h. by-view d d' old new l (Written s) (view_done f s (view old)) w r ends.3
+      }) (λ w. same-world (is_some (setting_by d old).headers) w) (λ w r h. by-view d d' old new l (Written s) (view_done f s (view old)) w r ends.3
       (done-steps (setting_by d old) (closing_of old) (held_by d old w r l) h.held f s (once-of (setting_by d old) any_slot l sound)
       (sym (h.held.ledger.swap.finds s) ∙ first.frame) d' page ends.2 (λ i low. first.bytes i)))
 
   fail-makes : (s : Slot) (f : ℕ) → EndsOn (Some (FailedAt s f)) old new d d'
       → Makes (view_of names d old) (view_of names d' new) Always (Failed s ∷ [])
   fail-makes s f ends = λ l sound stood ready. let first = ends.1 in let spoiled = ends.2 in
-      one-does names d d' old new l (Failed s) (record { sound = sound; world = stood.0; rmap = stood.1; serves = stood.2 }) (record {
+      one-still names d d' old new l (Failed s) (record { sound = sound; world = stood.0; rmap = stood.1; serves = stood.2 }) (record {
         parts = parts;
         same = written-same d d' s spoiled.0 first.behind_header spoiled.1 sizes more;
         lawful = (tt, tt);
-        brings = λ w. tt;
+        brings = λ w r c. tt;
         still = tt;
-        loads = λ w. same-world (is_some (setting_by d old).headers) w;
         faults = ends.4;
-      }) (λ w r h. by-view d d' old new l (Failed s) (view_fail f s (view old)) w r ends.3
+      }) (λ w. same-world (is_some (setting_by d old).headers) w) (λ w r h. by-view d d' old new l (Failed s) (view_fail f s (view old)) w r ends.3
       (fail-steps (setting_by d old) (closing_of old) (held_by d old w r l) h.held f s (once-of (setting_by d old) any_slot l sound)
       (sym (h.held.ledger.swap.finds s) ∙ first.frame) d' spoiled.0 spoiled.1))
 
@@ -105,17 +103,26 @@ serves-same d old new w r l is parts h =
       swap = swap-fits old new parts d d (closing_of old) (itself d) h.swap;
     })
 
+-- nor does what the device does that only makes it fail oftener
+pub none-moved : (names : List ℕ) (d d' : Device) (old new : Mem) (Ready : Ledger → Type 0) → IsSameDevice d d'
+    → ((w : World) (r : Rmap) (l : Ledger) → Serves d (closing_of old) old w r l → Serves d' (closing_of old) old w r l)
+    → view new ≡ view old → KeepsParts old new → Makes (view_of names d old) (view_of names d' new) Ready []
+none-moved names d d' old new Ready same move is parts = λ l sound stood ready. record {
+  stands = (stood.0, stood.1, serves-same d' old new stood.0 stood.1 l is parts (move stood.0 stood.1 l stood.2));
+  stays = step-stays names d d' old new parts same;
+  chooses = ap free_of is;
+  faults = let more = same.faults in no_more d.faults d'.faults more;
+  claims = λ w r c. subst (λ w'. Serves d' (closing_of new) new w' r l) (sym (same-world (is_some (setting_by d old).headers) w))
+      (serves-same d' old new w r l is parts (move w r l c));
+}
+  where
+    no_more : (a b : ℕ) → a ≤ b → min (a + 0) (2 ^ 64 - 1) ≤ b
+    no_more a b more = omega (arith, more)
+
 pub none-makes : (names : List ℕ) (d d' : Device) (old new : Mem) (Ready : Ledger → Type 0) → d' ≡ d → view new ≡ view old → KeepsParts old new
     → Makes (view_of names d old) (view_of names d' new) Ready []
-none-makes names d d' old new Ready same is parts = λ l sound stood ready.
-    subst (λ d'. Does (view_of names d old) (view_of names d' new) l []) (sym same) (record {
-      stands = (stood.0, stood.1, serves-same d old new stood.0 stood.1 l is parts stood.2);
-      stays = mem-stays names d old new parts;
-      chooses = ap free_of is;
-      faults = stands-still d.faults;
-      claims = λ w r c. subst (λ w'. Serves d (closing_of new) new w' r l) (sym (same-world (is_some (setting_by d old).headers) w))
-          (serves-same d old new w r l is parts c);
-    })
+none-makes names d d' old new Ready same is parts = subst (λ d'. Makes (view_of names d old) (view_of names d' new) Ready []) (sym same)
+    (none-moved names d d old new Ready (itself d) (λ w r l c. c) is parts)
 
 -- ---- the first write in flight ends, if there is one
 

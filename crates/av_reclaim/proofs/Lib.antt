@@ -1,6 +1,6 @@
-mod OneNote
-mod StepMakes
-mod FinishMakes
+pub mod OneNote
+pub mod StepMakes
+pub mod FinishMakes
 mod PutMakes
-mod ReadLaws
+pub mod ReadLaws
 mod CommandLaws

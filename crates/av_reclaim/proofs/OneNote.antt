@@ -32,14 +32,23 @@ pub record Owes (d d' : Device) (old new : Mem) (l : Ledger) (note : Note) : Typ
   pub parts : KeepsParts old new
   pub same : IsSameDevice d d'
   pub lawful : IsLawfulEvent (setting_by d old) (closing_of old) l (Noted note)
-  pub brings : (w : World) → Brings (is_mapped w) note
+  pub brings : (w : World) (r : Rmap) → Serves d (closing_of old) old w r l → Brings (is_mapped w) note
   pub still : PreparesNone note
-  pub loads : (w : World) → with_loads (setting_by d old) w l (note_events (note ∷ [])) ≡ w
   pub faults : RoseBy (fails (note ∷ [])) d.faults d'.faults
 
--- the step of the law, which leaves the memories as they are
+-- the memories with the note
+abbrev pub world_with : Device → Mem → World → Ledger → Note → World
+world_with d k w l note = with_loads (setting_by d k) w l (note_events (note ∷ []))
+
+-- the step of the law
 abbrev pub StepsBy : Device → Device → Mem → Mem → Ledger → Note → Type 0
 StepsBy d d' old new l note = (w : World) (r : Rmap) → Serves d (closing_of old) old w r l
+    → Steps (setting_by d old) (closing_of old) (Noted note) (held_by d old w r l)
+    (held_by d' new (world_with d old w l note) (rmap_after_note l note r) (after_note note l))
+
+-- one that leaves the memories as they are
+abbrev pub StepsStill : Device → Device → Mem → Mem → Ledger → Note → Type 0
+StepsStill d d' old new l note = (w : World) (r : Rmap) → Serves d (closing_of old) old w r l
     → Steps (setting_by d old) (closing_of old) (Noted note) (held_by d old w r l) (held_by d' new w (rmap_after_note l note r) (after_note note l))
 
 -- what no step changes
@@ -56,15 +65,23 @@ step-stays names d d' old new parts same = record {
 pub one-does : (names : List ℕ) (d d' : Device) (old new : Mem) (l : Ledger) (note : Note) → StandsBy d old l → Owes d d' old new l note
     → StepsBy d d' old new l note → Does (view_of names d old) (view_of names d' new) l (note ∷ [])
 one-does names d d' old new l note stood owes law = record {
-  stands = (stood.world, rmap_after_note l note stood.rmap, next stood.world stood.rmap stood.serves);
+  stands = (world_with d old stood.world l note, rmap_after_note l note stood.rmap, next stood.world stood.rmap stood.serves);
   stays = step-stays names d d' old new owes.parts owes.same;
   chooses = (_, (law stood.world stood.rmap stood.serves).chosen, refl);
   faults = owes.faults;
-  claims = λ w r c. subst (λ w'. Serves d' (closing_of new) new w' (rmap_after_note l note r) (after_note note l)) (sym (owes.loads w)) (next w r c);
+  claims = next;
 }
   where
     next : (w : World) (r : Rmap) → Serves d (closing_of old) old w r l
-        → Serves d' (closing_of new) new w (rmap_after_note l note r) (after_note note l)
-    next w r c = subst (λ k. Serves d' k new w (rmap_after_note l note r) (after_note note l)) (sym owes.parts.swap.closing)
-        (serves-note old new d d' (closing_of old) w w r l note owes.parts owes.same stood.sound.in_order owes.lawful (owes.brings w) owes.still
-        (sym (owes.loads w)) c (law w r c))
+        → Serves d' (closing_of new) new (world_with d old w l note) (rmap_after_note l note r) (after_note note l)
+    next w r c = subst (λ k. Serves d' k new (world_with d old w l note) (rmap_after_note l note r) (after_note note l)) (sym owes.parts.swap.closing)
+        (serves-note old new d d' (closing_of old) w (world_with d old w l note) r l note owes.parts owes.same stood.sound.in_order owes.lawful
+        (owes.brings w r c) owes.still refl c (law w r c))
+
+-- where the note brings nothing that a page claims
+pub one-still : (names : List ℕ) (d d' : Device) (old new : Mem) (l : Ledger) (note : Note) → StandsBy d old l → Owes d d' old new l note
+    → ((w : World) → world_with d old w l note ≡ w) → StepsStill d d' old new l note
+    → Does (view_of names d old) (view_of names d' new) l (note ∷ [])
+one-still names d d' old new l note stood owes still law = one-does names d d' old new l note stood owes
+    (λ w r c. subst (λ w'. Steps (setting_by d old) (closing_of old) (Noted note) (held_by d old w r l)
+    (held_by d' new w' (rmap_after_note l note r) (after_note note l))) (sym (still w)) (law w r c))

@@ -36,7 +36,7 @@ use Rattle.av_mem.specs.Steps.{KeepsParts}
 use Rattle.av_mem.specs.declared.mem.Mem.{Mem}
 use Rattle.av_reclaim.specs.Driver.{closing_of, view_of}
 use Rattle.av_reclaim.proofs.FinishMakes.{none-makes}
-use Rattle.av_reclaim.proofs.OneNote.{one-does}
+use Rattle.av_reclaim.proofs.OneNote.{one-still}
 use Rattle.av_reclaim.proofs.StepMakes.{by-view, itself, same-world, stands-still}
 
 -- ---- each entry of a list with rising keys is found by its key
@@ -189,15 +189,14 @@ put-makes names d old new f (Some s) h parts = λ l sound stood may.
     let m = setting_by d old in
     let used : 0 < uses l f = used-by _ (holders l f) may.mapped in
     let gives = may-be-given d old stood.0 stood.1 l stood.2 s h.rest h.area h.slot in
-    one-does names d d old new l (Put f s) (record { sound = sound; world = stood.0; rmap = stood.1; serves = stood.2 }) (record {
+    one-still names d d old new l (Put f s) (record { sound = sound; world = stood.0; rmap = stood.1; serves = stood.2 }) (record {
       parts = parts;
       same = itself d;
       lawful = (gives, used);
-      brings = λ w. tt;
+      brings = λ w r c. tt;
       still = tt;
-      loads = λ w. same-world (is_some m.headers) w;
       faults = stands-still d.faults;
-    }) (λ w r serves. by-view d d old new l (Put f s) (view_put f s (with_at s.area h.rest (view old).slots) (view old)) w r h.puts
+    }) (λ w. same-world (is_some m.headers) w) (λ w r serves. by-view d d old new l (Put f s) (view_put f s (with_at s.area h.rest (view old).slots) (view old)) w r h.puts
     (put-steps m (closing_of old) (held_by d old w r l) serves.held f s (with_at s.area h.rest (view old).slots)
     (given-may_put m any_slot l sound (closing_of old) f s may.uncached gives used)
     (is-given d old w r l serves s h.rest h.area h.slot)))

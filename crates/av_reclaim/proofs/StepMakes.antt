@@ -31,7 +31,7 @@ use Rattle.av_mem.specs.Mem.{Serves, held_by, setting_by, view}
 use Rattle.av_mem.specs.Steps.{KeepsParts}
 use Rattle.av_mem.specs.declared.mem.Mem.{Mem}
 use Rattle.av_reclaim.specs.Driver.{closing_of, view_of}
-use Rattle.av_reclaim.proofs.OneNote.{one-does, step-stays}
+use Rattle.av_reclaim.proofs.OneNote.{one-still, step-stays}
 
 -- ---- words on a step
 
@@ -100,30 +100,28 @@ kept-at old new f cause (inr is) at = kept-as old new f cause WriteStarted is at
 
 pub keep-makes : (names : List ℕ) (d : Device) (old new : Mem) (f : ℕ) (cause : Cause) → view new ≡ view_keep f cause (view old) → KeepsParts old new
     → Makes (view_of names d old) (view_of names d new) (IsUsed f) (Kept f cause ∷ [])
-keep-makes names d old new f cause is parts = λ l sound stood may. one-does names d d old new l (Kept f cause)
+keep-makes names d old new f cause is parts = λ l sound stood may. one-still names d d old new l (Kept f cause)
     (record { sound = sound; world = stood.0; rmap = stood.1; serves = stood.2 }) (record {
       parts = parts;
       same = itself d;
       lawful = (tt, tt);
-      brings = λ w. tt;
+      brings = λ w r c. tt;
       still = tt;
-      loads = λ w. same-world (is_some (setting_by d old).headers) w;
       faults = stands-still d.faults;
-    }) (λ w r h. by-view d d old new l (Kept f cause) (view_keep f cause (view old)) w r is
+    }) (λ w. same-world (is_some (setting_by d old).headers) w) (λ w r h. by-view d d old new l (Kept f cause) (view_keep f cause (view old)) w r is
     (keep-steps (setting_by d old) (closing_of old) (held_by d old w r l) h.held f cause))
 
 pub age-makes : (names : List ℕ) (d : Device) (old new : Mem) (f : ℕ) → view new ≡ view_to_head f (view_unseen f (view old)) → KeepsParts old new
     → Makes (view_of names d old) (view_of names d new) (IsUsed f) (Aged f ∷ [])
-age-makes names d old new f is parts = λ l sound stood may. one-does names d d old new l (Aged f)
+age-makes names d old new f is parts = λ l sound stood may. one-still names d d old new l (Aged f)
     (record { sound = sound; world = stood.0; rmap = stood.1; serves = stood.2 }) (record {
       parts = parts;
       same = itself d;
       lawful = (tt, tt);
-      brings = λ w. tt;
+      brings = λ w r c. tt;
       still = tt;
-      loads = λ w. same-world (is_some (setting_by d old).headers) w;
       faults = stands-still d.faults;
-    }) (λ w r h. by-view d d old new l (Aged f) (view_to_head f (view_unseen f (view old))) w r is
+    }) (λ w. same-world (is_some (setting_by d old).headers) w) (λ w r h. by-view d d old new l (Aged f) (view_to_head f (view_unseen f (view old))) w r is
     (age-steps (setting_by d old) (closing_of old) (held_by d old w r l) h.held f))
 
 -- ---- a write begins
@@ -131,15 +129,14 @@ age-makes names d old new f is parts = λ l sound stood may. one-does names d d 
 pub start-makes : (names : List ℕ) (d : Device) (old new : Mem) (s : Slot) → IfSome ((view old).find s) (λ f. view new ≡ view_start f s (view old))
     → KeepsParts old new → Makes (view_of names d old) (view_of names d new) (MayStart s) (Started s ∷ [])
 start-makes names d old new s is parts = λ l sound stood may. let at = frame-of s l may.cached in
-    one-does names d d old new l (Started s) (record { sound = sound; world = stood.0; rmap = stood.1; serves = stood.2 }) (record {
+    one-still names d d old new l (Started s) (record { sound = sound; world = stood.0; rmap = stood.1; serves = stood.2 }) (record {
       parts = parts;
       same = itself d;
       lawful = (tt, tt);
-      brings = λ w. tt;
+      brings = λ w r c. tt;
       still = tt;
-      loads = λ w. same-world (is_some (setting_by d old).headers) w;
       faults = stands-still d.faults;
-    }) (λ w r h. by-view d d old new l (Started s) (view_start at.0 s (view old)) w r
+    }) (λ w. same-world (is_some (setting_by d old).headers) w) (λ w r h. by-view d d old new l (Started s) (view_start at.0 s (view old)) w r
     (subst (λ o. IfSome o (λ f. view new ≡ view_start f s (view old))) (h.held.ledger.swap.finds s ∙ at.1) is)
     (start-steps (setting_by d old) (closing_of old) (held_by d old w r l) h.held at.0 s (once-of (setting_by d old) any_slot l sound) at.1))
 
@@ -156,15 +153,14 @@ may-leave l s may = by (slot_entries l s == 0) refl
 pub drop-makes : (names : List ℕ) (d : Device) (old new : Mem) (s : Slot) → IfSome ((view old).find s) (λ f. view new ≡ view_drop f s (view old))
     → KeepsParts old new → Makes (view_of names d old) (view_of names d new) (MayDrop s) (Dropped s ∷ [])
 drop-makes names d old new s is parts = λ l sound stood may. let at = frame-of s l may.cached in
-    one-does names d d old new l (Dropped s) (record { sound = sound; world = stood.0; rmap = stood.1; serves = stood.2 }) (record {
+    one-still names d d old new l (Dropped s) (record { sound = sound; world = stood.0; rmap = stood.1; serves = stood.2 }) (record {
       parts = parts;
       same = itself d;
       lawful = (tt, tt);
-      brings = λ w. tt;
+      brings = λ w r c. tt;
       still = tt;
-      loads = λ w. same-world (is_some (setting_by d old).headers) w;
       faults = stands-still d.faults;
-    }) (λ w r h. by-view d d old new l (Dropped s) (view_drop at.0 s (view old)) w r
+    }) (λ w. same-world (is_some (setting_by d old).headers) w) (λ w r h. by-view d d old new l (Dropped s) (view_drop at.0 s (view old)) w r
     (subst (λ o. IfSome o (λ f. view new ≡ view_drop f s (view old))) (h.held.ledger.swap.finds s ∙ at.1) is)
     (drop-steps (setting_by d old) (closing_of old) (held_by d old w r l) h.held at.0 s (once-of (setting_by d old) any_slot l sound) at.1
     (cached-in_range (setting_by d old) any_slot l sound at.0 s at.1) (cached-there (setting_by d old) any_slot l sound at.0 s h.there at.1)
@@ -189,15 +185,14 @@ in-use d closing k w r l s sound h = by ((view k).find s) (sym (h.held.ledger.sw
 pub unmap-makes : (names : List ℕ) (d : Device) (old new : Mem) (f : ℕ) (s : Slot) → (view old).slot f ≡ Some s → view new ≡ view_unmap f s (view old)
     → KeepsParts old new → Makes (view_of names d old) (view_of names d new) (MayUnmap f) (Unmapped f ∷ [])
 unmap-makes names d old new f s at is parts = λ l sound stood may.
-    one-does names d d old new l (Unmapped f) (record { sound = sound; world = stood.0; rmap = stood.1; serves = stood.2 }) (record {
+    one-still names d d old new l (Unmapped f) (record { sound = sound; world = stood.0; rmap = stood.1; serves = stood.2 }) (record {
       parts = parts;
       same = itself d;
       lawful = (tt, tt);
-      brings = λ w. tt;
+      brings = λ w r c. tt;
       still = tt;
-      loads = λ w. same-world (is_some (setting_by d old).headers) w;
       faults = stands-still d.faults;
-    }) (λ w r h. by-view d d old new l (Unmapped f) (view_unmap f s (view old)) w r is
+    }) (λ w. same-world (is_some (setting_by d old).headers) w) (λ w r h. by-view d d old new l (Unmapped f) (view_unmap f s (view old)) w r is
     (unmap-steps (setting_by d old) (closing_of old) (held_by d old w r l) h.held f s (once-of (setting_by d old) any_slot l sound)
     (sym (h.held.ledger.frames.slots f) ∙ at)))
 

@@ -124,6 +124,10 @@ lives_is f m p = same (tree_at m p) ∙ ap is_some (sym (areas_are f m p))
     same None = refl
     same (Some spans) = refl
 
+-- and there is a tree for each 16-bit number at most
+pub number_below : (f : ℕ → Option Area) (ts : Trees) → length ts ≤ 2 ^ 16 → (p : ℕ) → is_some (areas_of (spaces_by f ts) p) ≡ true → p < 2 ^ 16
+number_below f ts few p alive = let below = place_there ts p (lives_is f ts p ∙ alive) in omega (arith, below, few)
+
 pub not_dead : (f : ℕ → Option Area) (m : Trees) (p : ℕ) → tree_at m p ≡ None → is_some (areas_of (spaces_by f m) p) ≡ true → ⊥
 not_dead f m p is alive = false≢true (ap is_some (sym is) ∙ lives_is f m p ∙ alive)
 

@@ -70,6 +70,14 @@ impl Spaces {
         self.alive
     }
 
+    /// What holds of the processes at any time: the numbers of those that live are below 2^16.
+    pub fn keeps(&self)
+        ensures { (p : ℕ) → is_some (areas_of self.now.processes p) ≡ true → p < 2 ^ 16 }
+    {
+        // The invariant is known once a field was read.
+        let _ = &self.trees;
+    }
+
     /// Whether a process lives.
     pub fn lives(&self, process: u16) -> bool
         ensures { result ≡ is_some (areas_of self.now.processes process) }

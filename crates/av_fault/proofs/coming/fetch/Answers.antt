@@ -2,10 +2,11 @@ use Rattle.std.proofs.Common.{◌∙◌, None, Some, subst, sym}
 use Rattle.std.specs.Prelude.{Ok}
 use Rattle.av_plain.specs.Device.{as_told, device_by}
 use Rattle.av_mem.specs.Cache.{Loads}
+use Rattle.av_mem.proofs.ComingBack.{got-told, seen-same, told-still}
 use Rattle.av_fault.specs.Coming.{Fetches, HasCome}
 use Rattle.av_fault.specs.Seek.{HasSought}
-use Rattle.av_fault.proofs.Between.{seen-same, seen-says}
-use Rattle.av_fault.proofs.ComingLaws.{come-cached, come-loaded, come-lost, come-out, got-told, to-load, told-rose, told-still}
+use Rattle.av_fault.proofs.Between.{seen-says}
+use Rattle.av_fault.proofs.ComingLaws.{come-cached, come-loaded, come-lost, come-out, to-load, told-rose}
 use Rattle.av_fault.proofs.coming.fetch.Goals as goal
 
 pub returns-in-Some-clause-fetched : goal.returns-in-Some-clause-fetched

@@ -2,7 +2,8 @@ use Rattle.std.proofs.Common.{false, true, subst, sym}
 use Rattle.av_plain.specs.Device.{as_told, device_by}
 use Rattle.av_plain.specs.Ledger.{Key}
 use Rattle.av_fault.specs.Fault.{MakesReady}
-use Rattle.av_fault.proofs.TouchLaws.{first-laid, is-ready}
+use Rattle.av_mem.proofs.HomeLaws.{first-laid}
+use Rattle.av_fault.proofs.TouchLaws.{is-ready}
 use Rattle.av_fault.proofs.fault.touch.Goals as goal
 
 pub home-home-requires-clause-first : goal.home-home-requires-clause-first

@@ -1,4 +1,4 @@
-use Rattle.std.proofs.Common.{subst, sym, ◌∙◌, refl}
+use Rattle.std.proofs.Common.{subst, sym, refl}
 use Rattle.av_trace.specs.declared.command.Command.TheVariants.{Stat}
 use Rattle.av_trace.specs.declared.reply.Answer.TheVariants.{Counted}
 use Rattle.av_trace.specs.declared.reply.Totals.{Totals}
@@ -14,15 +14,5 @@ returns c = record {
   step = λ d s keeps.
       let k = c.args.mem.now in
       answers c.args.reply.now c.answer_with.new.reply c.requires.cleared c.answer_with.ensures
-      (subst (λ (t : Totals). StepsBeside d k k s Stat (answer_only (Counted t))) (sym (λ i. record {
-        frames = (c.from.ensures ∙ c.count.ensures) i;
-        free = (c.from-2.ensures ∙ c.free.ensures.count) i;
-        active = (c.from-3.ensures ∙ c.len.ensures.count) i;
-        inactive = (c.from-4.ensures ∙ c.len-2.ensures.count) i;
-        flight = (c.from-5.ensures ∙ c.flight.ensures) i;
-        slots = c.all_slots.ensures.sum i;
-        free_slots = c.all_free_slots.ensures.sum i;
-        processes = c.count-2.result;
-      }))
-      (stat-steps k s c.count-2.result keeps c.free.ensures.once c.free.ensures.in_range c.count-2.ensures));
+      (subst (λ (t : Totals). StepsBeside d k k s Stat (answer_only (Counted t))) (sym (c.totals.ensures d s keeps)) (stat-steps k s keeps));
 }

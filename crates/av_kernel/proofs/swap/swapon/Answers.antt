@@ -6,7 +6,8 @@ use Rattle.av_plain.specs.Device.{device_by}
 use Rattle.av_kernel.specs.Step.{Does}
 use Rattle.av_kernel.specs.Swap.{on_answer}
 use Rattle.av_kernel.proofs.StepLaws.{only_answer}
-use Rattle.av_kernel.proofs.SwaponLaws.{refused-none-by, swapon-does, with_swap}
+use Rattle.av_swapoff.proofs.CloseLaws.{with_swap}
+use Rattle.av_kernel.proofs.SwaponLaws.{refused-none-by, swapon-does}
 use Rattle.av_kernel.proofs.swap.swapon.Goals as goal
 
 one_ok : {A E : Type 0} (r : Result A E) (x y : A) → r ≡ Ok x → r ≡ Ok y → x ≡ y

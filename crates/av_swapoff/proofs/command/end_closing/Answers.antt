@@ -1,0 +1,7 @@
+use Rattle.av_swapoff.proofs.CommandLaws.{has-emptied}
+use Rattle.av_swapoff.proofs.TurnsOffLaws.{has-turned-off, may-end}
+use Rattle.av_swapoff.proofs.UsersTold.{all-told}
+use Rattle.av_swapoff.proofs.command.end_closing.Goals as goal
+
+pub remove-requires-clause-unused : goal.remove-requires-clause-unused
+remove-requires-clause-unused c = c.requires.unused c.in-Empty.is

@@ -1,0 +1,12 @@
+use Rattle.std.proofs.Common.{[], ◌∷◌, Bool}
+use Rattle.av_plain.specs.Device.{as_told, device_by}
+use Rattle.av_swapoff.proofs.UsersTold.{all-told}
+use Rattle.av_swapoff.proofs.driver.DriverSlotSystem.users.Goals as goal
+
+pub returns-clause-users : goal.returns-clause-users
+returns-clause-users g c =
+    let driver = c.args.self.now in
+    let dev = driver.dev.now in
+    all-told (λ users. users.items) (driver.mem.ghost_name ∷ driver.dev.ghost_name ∷ [])
+    (λ (told : Bool). as_told told (device_by (g.D.SwapDev.sizes dev) (g.D.SwapDev.pages dev) (g.D.SwapDev.faults dev)))
+    driver.mem.now c.args.area c.users.result c.users.ensures.users

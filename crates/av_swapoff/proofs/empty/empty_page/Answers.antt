@@ -1,0 +1,20 @@
+use Rattle.std.proofs.Common.{sym, ◌∙◌}
+use Rattle.av_evict.proofs.SystemLaws.{gives-as, loose}
+use Rattle.av_swapoff.specs.Empty.{EmptiesPageBy, MayEmpty}
+use Rattle.av_swapoff.specs.Slot.{EmptiesBy, MayFetch}
+use Rattle.av_swapoff.proofs.EmptyLaws.{emptied-page, page-fetch}
+use Rattle.av_swapoff.proofs.empty.empty_page.Goals as goal
+
+pub returns-clause-gives : goal.returns-clause-gives
+returns-clause-gives g c = λ told.
+    let k = g.S.System.view c.args.system.now told in
+    let new = g.S.System.view c.empty_slot.new.system told in
+    let s = c.args.slot in
+    let u = c.in-Some.user in
+    let fetched = c.in_ok-fetched.fetched in
+    let end = c.end_by.result in
+    gives-as _ _ _ _ (MayFetch s u) (MayEmpty s c.args.user) (EmptiesBy k new s fetched) (EmptiesPageBy k new s end) (c.in_ok-fetched.ensures.gives told)
+    (λ l sound stands may. page-fetch l s c.args.user u c.in-Some.is
+    (sym c.if-not-is_in_use.false ∙ c.is_in_use.ensures told l (loose _ _ l sound) stands) may)
+    (λ l ns sound stands may did. emptied-page k new l s fetched end ns c.end_by.ensures
+    (page-fetch l s c.args.user u c.in-Some.is (sym c.if-not-is_in_use.false ∙ c.is_in_use.ensures told l (loose _ _ l sound) stands) may).used did)

@@ -1,0 +1,120 @@
+-- How a swap area that is closing is emptied, and why it isn't.
+use Rattle.std.specs.Prelude.{◌≡◌, ◌⊎◌, ℕ, ◌+◌, ◌<◌, ◌≤◌, List, [], ◌++◌, slice_get, Option, None, Some, IsSomeAnd}
+use Rattle.av_base.specs.declared.slot.Slot.{Slot}
+use Rattle.av_io.specs.Count.{RoseBy}
+use Rattle.av_trace.specs.declared.note.Note.{Note}
+use Rattle.av_plain.specs.Event.{after_notes}
+use Rattle.av_plain.specs.Ledger.{Key, Ledger, Setting, size_of, slot_count}
+use Rattle.av_plain.specs.Pass.{Completes, fails}
+use Rattle.av_plain.specs.Swapoff as plain
+use Rattle.av_plain.specs.Swapoff.{Close, Closed, NoRoom, Empties, IsEmptied}
+use Rattle.av_evict.specs.Steps.{spares}
+use Rattle.av_evict.specs.System.{SystemView}
+use Rattle.av_swapoff.specs.Slot.{Fetches}
+use Rattle.av_swapoff.specs.System.{IsUser, slot_at}
+use Rattle.av_swapoff.specs.declared.empty.EmptyEnd.{EmptyEnd}
+use Rattle.av_swapoff.specs.declared.empty.EmptyEnd.TheVariants.{Empty, NoFrame, NoPage}
+use Rattle.av_swapoff.specs.declared.slot.FetchEnd.{FetchEnd}
+use Rattle.av_swapoff.specs.declared.slot.FetchEnd.TheVariants as fetched
+
+-- ---- the end
+
+-- the end in the definitions' words
+abbrev pub close_of : EmptyEnd → Close
+close_of Empty = Closed
+close_of (NoFrame out) = NoRoom out
+close_of NoPage = plain.Unread
+
+-- how often the device failed beside the `fail` notes
+abbrev pub lost_by : EmptyEnd → ℕ
+lost_by Empty = 0
+lost_by (NoFrame out) = 0
+lost_by NoPage = 1
+
+-- how many frames the numbers call cached
+abbrev pub failed_by : EmptyEnd → ℕ
+failed_by Empty = 0
+failed_by (NoFrame out) = out.fault
+failed_by NoPage = 0
+
+-- ---- one page
+
+-- nothing is in flight; and where the slot is in use, this is a user of it
+pub record MayEmpty (s : Slot) (key : Option Key) (l : Ledger) : Type 0 where
+  pub landed : l.flight ≡ []
+  pub user : 0 < slot_count l s → IsSomeAnd key (IsUser l s)
+
+-- why the area can't be emptied, by what was done for a page
+abbrev pub end_of : FetchEnd → Option EmptyEnd
+end_of (fetched.In f) = None
+end_of (fetched.NoFrame out) = Some (NoFrame out)
+end_of fetched.Unread = Some NoPage
+
+-- that the slot can't be emptied, to this end
+abbrev pub IsStuck : Setting → Option ℕ → Slot → EmptyEnd → Ledger → List Note → Type 0
+IsStuck m closing s Empty l notes = ⊥
+IsStuck m closing s (NoFrame out) l notes = Fetches m closing s (fetched.NoFrame out) l notes
+IsStuck m closing s NoPage l notes = Fetches m closing s fetched.Unread l notes
+
+-- the slot is not in use, or it was emptied; or why it can't be
+abbrev pub EmptiesPage : Setting → Option ℕ → Slot → Option EmptyEnd → Ledger → List Note → Type 0
+EmptiesPage m closing s None l notes =
+    ((slot_count l s ≡ 0) × (notes ≡ []))
+    ⊎ ((0 < slot_count l s) × IsEmptied m (spares closing None) l s notes)
+EmptiesPage m closing s (Some end) l notes =
+    (0 < slot_count l s) × IsStuck m closing s end l notes
+
+-- how often the device failed beside the `fail` notes
+abbrev pub lost_of : Option EmptyEnd → ℕ
+lost_of None = 0
+lost_of (Some end) = lost_by end
+
+-- the same, and the device failed at least so often
+abbrev pub EmptiesPageBy : SystemView → SystemView → Slot → Option EmptyEnd → Ledger → List Note
+    → Type 0
+EmptiesPageBy old new s end l notes =
+    EmptiesPage old.setting old.closing s end l notes
+    × RoseBy (fails notes + lost_of end) old.faults new.faults
+
+-- ---- all pages
+
+-- nothing is in flight; and of each slot of the area that is in use, these have a user by page,
+-- and it is one of the area's pages, and not the first
+pub record MayEmptyEach (m : Setting) (area : ℕ) (users : List (Option Key)) (l : Ledger)
+    : Type 0 where
+  pub landed : l.flight ≡ []
+  pub there : (page : ℕ) → 0 < slot_count l (slot_at area page)
+      → IsSomeAnd (slice_get users page) (λ user. IsSomeAnd user (IsUser l (slot_at area page)))
+  pub within : (page : ℕ) → 0 < slot_count l (slot_at area page)
+      → (0 < page) × (page < size_of m area)
+
+-- the slots are emptied, each the least in use, to this end
+pub record EmptiesEach (m : Setting) (area : ℕ) (end : EmptyEnd) (l : Ledger) (notes : List Note)
+    : Type 0 where
+  pub pages : List ℕ
+  pub empties : Empties m (spares (Some area) None) area l pages notes (close_of end)
+  pub failed : failed_by end ≤ fails notes
+
+-- the same, and the device failed at least so often
+abbrev pub EmptiesEachBy : SystemView → SystemView → ℕ → EmptyEnd → Ledger → List Note → Type 0
+EmptiesEachBy old new area end l notes =
+    EmptiesEach old.setting area end l notes
+    × RoseBy (fails notes + lost_by end) old.faults new.faults
+
+-- all of flight is completed, and then the slots are emptied, each the least in use, to this end
+pub record EmptiesAll (m : Setting) (area : ℕ) (end : EmptyEnd) (l : Ledger) (notes : List Note)
+    : Type 0 where
+  pub done : List Note
+  pub pages : List ℕ
+  pub rest : List Note
+  pub whole : notes ≡ done ++ rest
+  pub completes : Completes l l.flight done
+  pub empties : Empties m (spares (Some area) None) area (after_notes l done) pages rest
+      (close_of end)
+  pub failed : failed_by end ≤ fails notes
+
+-- the same, and the device failed at least so often
+abbrev pub EmptiesAllBy : SystemView → SystemView → ℕ → EmptyEnd → Ledger → List Note → Type 0
+EmptiesAllBy old new area end l notes =
+    EmptiesAll old.setting area end l notes
+    × RoseBy (fails notes + lost_by end) old.faults new.faults

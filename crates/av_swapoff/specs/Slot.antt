@@ -1,0 +1,103 @@
+-- How a slot of a swap area that is closing is emptied.
+use Rattle.std.specs.Prelude.{◌≡◌, ℕ, ◌<◌, ◌≤◌, ◌+◌, Bool, true, false, List, [], ◌∷◌, map, Option, Some, None}
+use Rattle.std.specs.List.{list_any}
+use Rattle.std.specs.Ordering.{eq_by_cmp}
+use Rattle.av_base.specs.Page.{address_of}
+use Rattle.av_base.specs.declared.slot.Slot.{Slot}
+use Rattle.av_io.specs.Count.{RoseBy}
+use Rattle.av_trace.specs.declared.note.Note.{Note}
+use Rattle.av_trace.specs.declared.note.Note.TheVariants.{Loaded, Mapped}
+use Rattle.av_plain.specs.Event.{after_notes}
+use Rattle.av_plain.specs.Ledger.{InSlot, Key, Ledger, Setting, entry, frame_at, has_free, is_free, key_cmp, slot_count}
+use Rattle.av_plain.specs.Pass.{Seeks, fails, out_of}
+use Rattle.av_plain.specs.Swapoff.{IsEmptied, IsFetched, map_notes}
+use Rattle.av_evict.specs.Steps.{spares}
+use Rattle.av_evict.specs.System.{SystemView}
+use Rattle.av_swapoff.specs.System.{IsUser}
+use Rattle.av_swapoff.specs.declared.slot.FetchEnd.{FetchEnd}
+use Rattle.av_swapoff.specs.declared.slot.FetchEnd.TheVariants.{In, NoFrame, Unread}
+
+-- the frame that was free took the page, or the device did not give it
+abbrev pub IsLoaded : Setting → Slot → Option ℕ → Ledger → List Note → Type 0
+IsLoaded m s None l notes = notes ≡ []
+IsLoaded m s (Some f) l notes =
+    (f < m.frames) × (is_free l f ≡ true) × (notes ≡ Loaded s f ∷ [])
+
+-- nothing is in flight, the slot is in use, and the key is its user
+pub record MayFetch (s : Slot) (key : Key) (l : Ledger) : Type 0 where
+  pub landed : l.flight ≡ []
+  pub used : 0 < slot_count l s
+  pub user : IsUser l s key
+
+-- a page is not cached, and what comes before a frame is taken came
+pub record IsSought (m : Setting) (closing : Option ℕ) (s : Slot) (l : Ledger) (notes : List Note)
+    : Type 0 where
+  pub absent : frame_at l s ≡ None
+  pub seeks : Seeks m (spares closing None) l notes
+
+-- what was done for a slot's page: it is in this frame; or none was free, by these numbers, of
+-- which no more are called cached than there are `fail` notes; or one was, and the device did not
+-- give the page
+abbrev pub Fetches : Setting → Option ℕ → Slot → FetchEnd → Ledger → List Note → Type 0
+Fetches m closing s (In f) l notes = IsFetched m (spares closing None) l s f notes
+Fetches m closing s (NoFrame out) l notes =
+    IsSought m closing s l notes × (has_free m (after_notes l notes) ≡ false)
+    × (out ≡ out_of m None (spares closing None) (after_notes l notes)) × (out.fault ≤ fails notes)
+Fetches m closing s Unread l notes =
+    IsSought m closing s l notes × (has_free m (after_notes l notes) ≡ true)
+
+-- by what the device gave
+abbrev pub fetched_of : Option ℕ → FetchEnd
+fetched_of None = Unread
+fetched_of (Some f) = In f
+
+-- how often the device failed beside the `fail` notes
+abbrev pub unread_of : FetchEnd → ℕ
+unread_of (In f) = 0
+unread_of (NoFrame out) = 0
+unread_of Unread = 1
+
+-- the same, and the device failed at least so often
+abbrev pub FetchesBy : SystemView → SystemView → Slot → FetchEnd → Ledger → List Note → Type 0
+FetchesBy old new s fetched l notes =
+    Fetches old.setting old.closing s fetched l notes
+    × RoseBy (fails notes + unread_of fetched) old.faults new.faults
+
+-- the frame caches the slot, and nothing is in flight
+pub record IsIn (s : Slot) (f : ℕ) (l : Ledger) : Type 0 where
+  pub cached : frame_at l s ≡ Some f
+  pub landed : l.flight ≡ []
+
+-- each entry that names the slot becomes the frame, and the slot is dropped
+abbrev pub MapsBack : Slot → ℕ → Ledger → List Note → Type 0
+MapsBack s f l notes = notes ≡ map_notes l s f
+
+-- whether two keys are one
+abbrev pub same_key : Key → Key → Bool
+same_key q k = eq_by_cmp key_cmp q k
+
+-- the keys are apart
+abbrev pub AreApart : List Key → Type 0
+AreApart [] = Unit {0}
+AreApart (k ∷ ks) = (list_any (same_key k) ks ≡ false) × AreApart ks
+
+-- the entries of these keys, which are apart, name the slot, which the frame caches
+pub record MayMapAll (s : Slot) (f : ℕ) (keys : List Key) (l : Ledger) : Type 0 where
+  pub named : (k : Key) → list_any (same_key k) keys ≡ true → entry l k ≡ Some (InSlot s)
+  pub apart : AreApart keys
+  pub cached : frame_at l s ≡ Some f
+
+-- the notes of these
+abbrev pub mapped_notes : ℕ → List Key → List Note
+mapped_notes f keys = map (λ (k : Key). Mapped k.0 (address_of k.1) f) keys
+
+-- a slot was emptied, or why it can't be
+abbrev pub Empties : Setting → Option ℕ → Slot → FetchEnd → Ledger → List Note → Type 0
+Empties m closing s (In f) l notes = IsEmptied m (spares closing None) l s notes
+Empties m closing s (NoFrame out) l notes = Fetches m closing s (NoFrame out) l notes
+Empties m closing s Unread l notes = Fetches m closing s Unread l notes
+
+abbrev pub EmptiesBy : SystemView → SystemView → Slot → FetchEnd → Ledger → List Note → Type 0
+EmptiesBy old new s fetched l notes =
+    Empties old.setting old.closing s fetched l notes
+    × RoseBy (fails notes + unread_of fetched) old.faults new.faults

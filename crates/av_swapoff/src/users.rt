@@ -1,0 +1,123 @@
+//! Whose the slots of a swap area are, by one visit of the page tables.
+
+ghost use Rattle.std.specs.Prelude.{◌≡◌, ◌+◌, ◌*◌, ◌^◌, ◌<◌, ◌≤◌, ℕ, None, IfOk, length, replicate};
+ghost use Rattle.av_pagetable.specs.Table.{group_size, page_bound};
+ghost use Rattle.av_mem.specs.Entries.{HasAll, slot_behind};
+ghost use Rattle.av_mem.specs.Mem.{plain, view};
+ghost use Rattle.av_swapoff.specs.System.{slot_at};
+ghost use Rattle.av_swapoff.specs.Users.{AreWithin, HasUsers, IsUnused, IsWithin, Visits, with_user};
+
+use av_base::Slot;
+use av_mem::Mem;
+use av_pagetable::{GROUP, Pte};
+use std::alloc::{AllocError, Global};
+
+/// By page, process and page of an entry that names the slot of the area, or the frame that caches
+/// it; None where there is none.
+///
+/// Costs by the entries of all processes and the pages of the area.
+pub fn users(mem: &Mem, alloc: Global, area: u8) -> Result<Vec<Option<(u16, u64)>>, AllocError>
+    ensures few { IfOk result (λ users. length users.items < 2 ^ 32) }
+    ensures users { AreWithin (view mem.now)
+        → IfOk result (λ users. HasUsers (view mem.now) area users.items) }
+{
+    mem.spaces.keeps();
+    let mut users = no_users(alloc, pages_of(mem, area))?;
+    let mut next = 0;
+    while let Some(process) = mem.tables.process_from(next) {
+        visit_process(mem, area, process, &mut users);
+        let Some(following) = process.checked_add(1) else {
+            return Ok(users);
+        };
+        next = following;
+    }
+    Ok(users)
+}
+
+/// How many pages of an area may be slots in use: those that it has, 0 where it is off.
+fn pages_of(mem: &Mem, area: u8) -> u32
+    ensures { (page : ℕ) → result ≤ page → IsUnused (view mem.now) (slot_at area page) }
+{
+    mem.swap.keeps();
+    if mem.swap.is_on(area) {
+        mem.swap.pages(area)
+    } else {
+        0
+    }
+}
+
+/// No user of so many slots.
+fn no_users(alloc: Global, pages: u32) -> Result<Vec<Option<(u16, u64)>>, AllocError>
+    ensures { IfOk result (λ users. users.items ≡ replicate pages None) }
+{
+    let mut users = Vec::new(alloc);
+    users.resize(pages as usize, None)?;
+    Ok(users)
+}
+
+/// Adds the users among the pages of a process.
+fn visit_process(mem: &Mem, area: u8, process: u16, users: &mut [Option<(u16, u64)>])
+    ensures { AreWithin (view mem.now)
+        → Visits (view mem.now) area (λ key. key.0 ≡ process) users.old users.new }
+{
+    let mut number = 0;
+    while let Some(page) = mem.tables.next_from(process, number * GROUP as u64) {
+        let mut group = [Pte::Empty; GROUP];
+        mem.tables
+            .read_group(process, page / GROUP as u64, &mut group);
+        let first = page / GROUP as u64 * GROUP as u64;
+        visit_group(mem, area, &group, (process, first), users);
+        number = page / GROUP as u64 + 1;
+    }
+}
+
+/// Adds the users among the pages of a group, the first of which is that of the key.
+fn visit_group(
+    mem: &Mem,
+    area: u8,
+    group: &[Pte; GROUP],
+    first: (u16, u64),
+    users: &mut [Option<(u16, u64)>],
+)
+    requires within { first.1 + group_size ≤ page_bound }
+    requires there { HasAll (view mem.now).table first.0 first.1 group.now }
+    ensures { AreWithin (view mem.now) → Visits (view mem.now) area
+        (λ key. (key.0 ≡ first.0) × (first.1 ≤ key.1) × (key.1 < first.1 + group_size))
+        users.old users.new }
+{
+    for (i, entry) in group.iter().enumerate() {
+        let slot = slot_behind(mem, *entry);
+        add_user(users, area, slot, (first.0, first.1 + i as u64));
+    }
+}
+
+/// Adds the user of a slot, if that is one of the area.
+fn add_user(users: &mut [Option<(u16, u64)>], area: u8, slot: Option<Slot>, user: (u16, u64))
+    ensures { users.new ≡ with_user area slot user users.old }
+{
+    if let Some(slot) = slot {
+        if slot.area == area && (slot.page as usize) < users.len() {
+            users[slot.page as usize] = Some(user);
+        }
+    }
+}
+
+/// The slot that an entry names, or at which its frame is cached.
+fn slot_behind(mem: &Mem, entry: Pte) -> Option<Slot>
+    ensures { IsWithin (view mem.now) (plain entry)
+        → result ≡ slot_behind (view mem.now) (plain entry) }
+{
+    match entry {
+        Pte::Empty | Pte::Zero => None,
+        // A frame that an entry names is one of the machine's wherever a ledger stands. Nothing
+        // that stands is asked for here, so that is looked up.
+        Pte::Here { frame, .. } => {
+            if frame < mem.frames.count() {
+                mem.frames.slot(frame)
+            } else {
+                None
+            }
+        }
+        Pte::Away { slot } => Some(slot),
+    }
+}
