@@ -28,7 +28,7 @@ pub record Leaves (n : ℕ) (rest : List ℕ) (old new : PortsView) (kernel : Ma
   pub replays : Replays n old new run rest written
   pub left : IsHandedBack kernel new.device n run
 
-hands_if : (b : Bool) (P : Machine → Type 0) (kernel : Machine) → P kernel → IfSome (if b then Some kernel else None) P
+pub hands_if : (b : Bool) (P : Machine → Type 0) (kernel : Machine) → P kernel → IfSome (if b then Some kernel else None) P
 hands_if true P kernel left = left
 hands_if false P kernel left = tt
 

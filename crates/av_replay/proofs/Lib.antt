@@ -9,3 +9,11 @@ pub mod Runs
 pub mod Endings
 pub mod Traces
 pub mod Turns
+pub mod Templates
+pub mod Works
+pub mod Ranges
+pub mod Plain
+pub mod LoadFront
+pub mod LoadLines
+pub mod Loads
+pub mod Sums

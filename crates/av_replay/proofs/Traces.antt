@@ -24,14 +24,14 @@ lines_of-line [] more none = refl
 lines_of-line (b ∷ line) more none =
     lines_of-other b (line ++ 10 ∷ more) (All-head IsNoNewline b line none) ∙ ap (onto_first b) (lines_of-line line more (All-tail IsNoNewline b line none))
 
-lines_of-joined : (lines : List (List ℕ)) (more : List ℕ) → AllByRecursion IsLine lines → lines_of (all_lines lines ++ more) ≡ lines ++ lines_of more
+pub lines_of-joined : (lines : List (List ℕ)) (more : List ℕ) → AllByRecursion IsLine lines → lines_of (all_lines lines ++ more) ≡ lines ++ lines_of more
 lines_of-joined [] more all = refl
 lines_of-joined (line ∷ lines) more all =
     ap lines_of (append_assoc (line ++ 10 ∷ []) (all_lines lines) more ∙ append_assoc line (10 ∷ []) (all_lines lines ++ more))
     ∙ lines_of-line line (all_lines lines ++ more) all.0.one
     ∙ ap (λ (ls : List (List ℕ)). line ∷ ls) (lines_of-joined lines more all.1)
 
-lines_of-last : (line : List ℕ) → HasNoNewline line → 0 < length line → lines_of line ≡ line ∷ []
+pub lines_of-last : (line : List ℕ) → HasNoNewline line → 0 < length line → lines_of line ≡ line ∷ []
 lines_of-last [] none some = absurd (omega arith)
 lines_of-last (b ∷ []) none some = lines_of-other b [] (All-head IsNoNewline b [] none)
 lines_of-last (b ∷ d ∷ line) none some =
@@ -72,7 +72,7 @@ pub record Told (content taken : List ℕ) (left' : Option (List ℕ)) : Type 0 
   pub left_is : left' ≡ Some more
   pub parts : content ≡ taken ++ more
 
-told : (content taken : List ℕ) (left' : Option (List ℕ)) → Took (Some content) left' taken → Told content taken left'
+pub told : (content taken : List ℕ) (left' : Option (List ℕ)) → Took (Some content) left' taken → Told content taken left'
 told content taken None took = absurd cc
 told content taken (Some more) took = record { more = more; left_is = refl; parts = same_Some _ _ took }
 
@@ -92,7 +92,7 @@ first_good lines rest content more line others all e good are =
     member lines line others (subst (λ (ls : List (List ℕ)). All IsGood ls)
     (split lines rest content more all e ∙ ap (λ (ls : List (List ℕ)). lines ++ ls) are) good)
 
-ended_is_nil : (left' : Option (List ℕ)) (more : List ℕ) → left' ≡ Some more → HasEnded left' → more ≡ []
+pub ended_is_nil : (left' : Option (List ℕ)) (more : List ℕ) → left' ≡ Some more → HasEnded left' → more ≡ []
 ended_is_nil None more e ended = absurd cc
 ended_is_nil (Some rest) more e ended = sym (same_Some _ _ e) ∙ ended
 

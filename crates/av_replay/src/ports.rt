@@ -3,7 +3,6 @@
 ghost use Rattle.std.specs.Prelude.{◌≡◌, ◌<◌, IfOk, IfErr, OnOk, OnErr, true};
 ghost use Rattle.std.specs.Borrow.{GName};
 ghost use Rattle.av_base.specs.Limits.{most_commands};
-ghost use Rattle.av_trace.specs.Command.{is_in_grammar};
 ghost use Rattle.av_plain.specs.Transcript.{State};
 ghost use Rattle.av_kernel.specs.Kernel.{Counts, IsSpent, Stands, Steps};
 ghost use Rattle.av_io.specs.Source.{Gives, GivesNothing};
@@ -67,7 +66,6 @@ pub trait Ports {
         reply: &mut Reply,
     ) -> Result<(), AllocError>
         requires few { kernel.old.steps < most_commands }
-        requires grammar { is_in_grammar command.now ≡ true }
         requires attached { IsAttached (view self.old).device kernel.old }
         ensures stands { (s : State) → Stands kernel.old (view self.old).device s → OnOk result
             (Steps kernel.old kernel.new (view self.old).device (view self.new).device s

@@ -87,7 +87,7 @@ fn do_lines<P: Ports>(
 ///
 /// Where that flush alone fails, the status is `WriteFault`. There is none after a failed write,
 /// nor after a failed read: nothing was kept back when that was waited for.
-fn flush_last<P: Ports>(status: Status, ports: &mut P) -> Status
+pub fn flush_last<P: Ports>(status: Status, ports: &mut P) -> Status
     ensures last { FlushesLast status result (P.view ports.old).sink (P.view ports.new).sink }
     ensures only { OnlySink (P.view ports.old) (P.view ports.new) }
     ensures kept { P.kept ports.new ≡ P.kept ports.old }

@@ -13,13 +13,19 @@ anonymous memory
 
 Synopsis
   avsim run FRAMES [SWAP] < TRACE
+  avsim work SEED LINES FRAMES [SWAP]
   avsim --help | --version
+  avsim run --help | avsim work --help
 
 Description
   A machine with FRAMES frames of memory does the commands of a trace, one a
-  line, from standard input. For each it writes one reply to standard output.
+  line: with run those from standard input, for each of which it writes one
+  reply to standard output; with work a load that it makes from a number, for
+  which it writes a summary.
 
 Command line
+  SEED                   0 to 18446744073709551615; each number is a load
+  LINES                  1 to 1000000 lines, behind the first two or three
   FRAMES                 1 to 16384 frames of 4096 bytes
   SWAP                   a file that becomes swap area 0 with swapon 0; pages
                          are written over what it has, but for the first one
@@ -61,6 +67,7 @@ Commands
   entry P A              the page-table entry: none, zeros, a frame or a slot
   stat                   how many frames, slots and processes there are
   swapon K               turn swap area K on, by its header
+  swapoff K              bring the pages of swap area K back, and turn it off
   slot K M               how many entries name a slot, and what caches it
   reclaim N              send the last N inactive frames out, or keep them
   age N                  move the last N active frames to the inactive list
@@ -73,6 +80,9 @@ Replies
   oom k pinned= noslot= fault=
                          no frame could be freed; the numbers say why
   bus k                  the device didn't give its page
+  err ENOMEM pinned= noslot= fault=
+                         swapoff: no frame could be freed; what it brought
+                         back stays so
   Then notes of what happened, each on a line that begins with a space:
   zero P A               the page's entry is the page of zeros now
   new P A f              it is frame f, zeroed
@@ -101,6 +111,55 @@ Exit status
   write, 6 out of memory, 7 too many lines, 8 a swap file that can't be opened
 ";
 
+/// The text of `run --help`.
+pub const RUN_HELP: &str = "\
+avsim run - replays a trace from standard input
+
+Synopsis
+  avsim run FRAMES [SWAP] < TRACE
+
+  FRAMES                 1 to 16384 frames of 4096 bytes
+  SWAP                   a file that becomes swap area 0 with swapon 0; pages
+                         are written over what it has, but for the first one
+
+  For each command, one a line, it writes one reply to standard output, and
+  notes of what happened, each on a line that begins with a space. The commands
+  and replies are those of avsim --help.
+
+Example
+  printf 'spawn 1\\nmmap 1 4096 rw-\\n' | avsim run 4
+";
+
+/// The text of `work --help`.
+pub const WORK_HELP: &str = "\
+avsim work - does a load that is made from a number, and sums it up
+
+Synopsis
+  avsim work SEED LINES FRAMES [SWAP]
+
+  SEED                   0 to 18446744073709551615; each number is a load
+  LINES                  1 to 1000000 lines
+  FRAMES                 1 to 16384 frames of 4096 bytes
+  SWAP                   a file that becomes swap area 0; pages are written
+                         over what it has, but for the first one
+
+  The first lines turn the swap area on, if there is one, make process 1 and
+  map 16 pages at 10000000. Each further line is drawn: it reads or writes one
+  of these pages in a process of 1 to 8, forks or ends one, reclaims, ages or
+  completes, or maps, unmaps or protects a page. Nothing is read from standard
+  input, and no reply is written.
+
+Output
+  lines N                how many lines there were, the first ones too
+  ok N, map N, data N, on N, err N, segv N, bus N, oom N
+                         how many replies began so, each on a line
+  stat ..                what stat answers at the end
+  The same words always give the same output, unless the swap file fails.
+
+Example
+  avsim work 7 1000 64
+";
+
 /// The text that the words ask for, where they ask for one and nothing else.
 pub fn text_for(words: &[String]) -> Option<&'static str>
     ensures some { IfSome result (λ text. AskFor (map string_bytes words.now) text.now) }
@@ -109,6 +168,8 @@ pub fn text_for(words: &[String]) -> Option<&'static str>
     match words {
         [word] if word.as_str() == "--help" => Some(HELP),
         [word] if word.as_str() == "--version" => Some(VERSION),
+        [verb, word] if word.as_str() == "--help" && verb.as_str() == "run" => Some(RUN_HELP),
+        [verb, word] if word.as_str() == "--help" && verb.as_str() == "work" => Some(WORK_HELP),
         _ => None,
     }
 }

@@ -1,0 +1,17 @@
+use Rattle.std.proofs.Common.{Err, ap, refl}
+use Rattle.av_kernel.specs.Step.{seen_by}
+use Rattle.av_replay.proofs.Endings.{nothing_done}
+use Rattle.av_replay.proofs.over.run_over.Goals as goal
+
+-- memory was wanting for an area
+pub returns-in-Err-Memory-clause-replayed : goal.returns-in-Err-Memory-clause-replayed
+returns-in-Err-Memory-clause-replayed g c = λ other.
+    let some = c.in-Err-Memory.ensures.wanting (ap Err c.in-Err-Memory.field-0-is) in
+    record {
+      pages = some.0;
+      few = some.1;
+      all = λ not. absurd (not refl);
+      attached = seen_by g.D.SwapDev.sizes g.D.SwapDev.pages g.D.SwapDev.faults c.attach_all.new.dev;
+      attaches = some.2;
+      does = nothing_done c.args.frames _;
+    }

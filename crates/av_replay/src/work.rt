@@ -1,0 +1,150 @@
+//! The lines of `work` as a source, and where its transcript goes.
+
+ghost use Rattle.std.specs.Prelude.{◌≡◌, ◌≤◌, ◌++◌, [], ◌∷◌, false, Some, None, length, map, take};
+ghost use Rattle.av_trace.specs.Command.{line_of};
+ghost use Rattle.av_replay.specs.Replay.{all_lines};
+ghost use Rattle.av_replay.specs.Template.{IsDrawn, filled, left_of, no_draws};
+ghost use Rattle.av_replay.specs.Work.{first_commands, load_lines};
+
+use crate::draws::{Draws, draw_line};
+use crate::template::{fill, template_of};
+use av_io::{Failed, Sink, SinkErr, Source};
+
+/// The lines that come first, without and with a swap area.
+const FIRST: &[u8] = b"spawn 1\nmmap 1 65536 rw- fixed 10000000\n";
+
+const FIRST_WITH_SWAP: &[u8] = b"swapon 0\nspawn 1\nmmap 1 65536 rw- fixed 10000000\n";
+
+/// The lines that come first, over so many swap areas.
+fn first_lines(areas: usize) -> &'static [u8]
+    requires { areas ≤ 1 }
+    ensures { filled no_draws result.now ≡ all_lines (map line_of (first_commands areas)) }
+{
+    if areas == 0 { FIRST } else { FIRST_WITH_SWAP }
+}
+
+/// The lines of a load, each made when it is read. It never fails, and tells what is left.
+#[derive(Drop)]
+pub struct WorkSource {
+    /// What is left of a line, as its template.
+    rest: &'static [u8],
+    draws: Draws,
+    /// The number that the last draw made, and how many lines are still to be made of it.
+    number: u64,
+    lines: u32,
+    has_told_end: bool,
+    reads: u64,
+    ghost drawn: { IsDrawn draws },
+}
+
+impl WorkSource {
+    /// A load over so many swap areas, of so many lines from a seed on.
+    pub fn new(areas: usize, seed: u64, lines: u32) -> WorkSource
+        requires { areas ≤ 1 }
+        ensures { ⟦<WorkSource as Source>⟧.view result ≡ record {
+          left = Some (all_lines (load_lines areas seed lines));
+          has_told_end = false;
+          reads = 0;
+          faults = 0;
+        } }
+    {
+        WorkSource {
+            rest: first_lines(areas),
+            draws: Draws {
+                kind: 0,
+                process: 1,
+                page: 0,
+                value: 0,
+            },
+            number: seed,
+            lines,
+            has_told_end: false,
+            reads: 0,
+        }
+    }
+
+    /// Makes the next line, if there is one and nothing is left of the last.
+    fn make_line(&mut self)
+        ensures same { left_of self.new.draws self.new.rest.now self.new.lines self.new.number
+            ≡ left_of self.old.draws self.old.rest.now self.old.lines self.old.number }
+        ensures none { self.new.rest.now ≡ [] → self.new.lines ≡ 0 }
+        ensures reads { self.new.reads ≡ self.old.reads }
+        ensures told { self.new.has_told_end ≡ self.old.has_told_end }
+    {
+        if self.rest.is_empty() && self.lines > 0 {
+            let (draws, number) = draw_line(self.number);
+            self.rest = template_of(&draws);
+            self.draws = draws;
+            self.number = number;
+            self.lines -= 1;
+        }
+    }
+}
+
+/// Puts so many bytes of a template into the front of `into`.
+fn fill_front(draws: &Draws, template: &[u8], into: &mut [u8], count: usize)
+    requires drawn { IsDrawn draws.now }
+    requires there { count ≤ length template.now }
+    requires room { count ≤ length into.old }
+    ensures front { take count into.new ≡ filled draws.now (take count template.now) }
+    ensures len { length into.new ≡ length into.old }
+{
+    let mut at = 0;
+    while at < count {
+        into[at] = fill(draws, template[at]);
+        at += 1;
+    }
+}
+
+impl Source for WorkSource {
+    ghost view = { λ s. record {
+      left = Some (left_of s.draws s.rest.now s.lines s.number);
+      has_told_end = s.has_told_end;
+      reads = s.reads;
+      faults = 0;
+    } };
+
+    fn read(&mut self, into: &mut [u8]) -> Result<usize, Failed> {
+        self.reads = self.reads.saturating_add(1);
+        self.make_line();
+        let count = into.len().min(self.rest.len());
+        fill_front(&self.draws, self.rest, into, count);
+        self.rest = &self.rest[count..];
+        if !into.is_empty() {
+            self.has_told_end = count == 0;
+        }
+        Ok(count)
+    }
+}
+
+/// A sink that takes all, keeps nothing of it, and never fails. What it took is not told.
+#[derive(Drop)]
+pub struct NullSink {
+    flushes: u64,
+}
+
+impl NullSink {
+    /// A sink that was not flushed yet.
+    pub fn new() -> NullSink {
+        NullSink { flushes: 0 }
+    }
+}
+
+impl Sink for NullSink {
+    ghost view = { λ s. record {
+      held = None;
+      kept_back = [];
+      flushes = s.flushes;
+      faults = 0;
+      last_failed = false;
+    } };
+
+    fn write(&mut self, piece: &[u8]) -> Result<usize, SinkErr> {
+        Ok(piece.len())
+    }
+
+    fn flush(&mut self) -> Result<(), Failed> {
+        self.flushes = self.flushes.saturating_add(1);
+        Ok(())
+    }
+}
