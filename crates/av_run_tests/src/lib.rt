@@ -5,10 +5,22 @@
 #![tactic(auto)]
 
 #[cfg(test)]
+mod device;
+#[cfg(test)]
 mod fault;
 #[cfg(test)]
 mod kernel;
 #[cfg(test)]
+mod lines;
+#[cfg(test)]
+mod ports;
+#[cfg(test)]
 mod replay;
+#[cfg(test)]
+mod row;
+#[cfg(test)]
+mod rows;
+#[cfg(test)]
+mod storm;
 #[cfg(test)]
 mod swap;

@@ -42,7 +42,7 @@ const WHOLE: Case = Case {
     steps: Some(4),
 };
 
-const CASES: [Case; 8] = [
+const CASES: [Case; 11] = [
     WHOLE,
     Case {
         read_fails: 1,
@@ -90,6 +90,30 @@ const CASES: [Case; 8] = [
     Case {
         words: &["run", "4", "s"],
         dev_fails: 2,
+        ..WHOLE
+    },
+    // A load reads nothing: no read of it can fail.
+    Case {
+        words: &["work", "0", "1", "4"],
+        read_fails: 1,
+        text: b"lines 3\nok 1\nmap 2\ndata 0\non 0\nerr 0\nsegv 0\nbus 0\noom 0\n\
+stat frames=4 free=4 active=0 inactive=0 flight=0 slots=0 freeslots=0 procs=1\n",
+        steps: Some(3),
+        ..WHOLE
+    },
+    Case {
+        words: &["work", "0", "1", "4"],
+        write_fails: 1,
+        status: Status::WriteFault,
+        text: b"",
+        steps: Some(3),
+        ..WHOLE
+    },
+    Case {
+        words: &["work", "00", "1", "4"],
+        status: Status::Usage,
+        text: b"",
+        steps: None,
         ..WHOLE
     },
 ];

@@ -10,12 +10,12 @@ use av_swapdev::{MemDev, PAGE_LEN, SwapDev};
 use std::alloc::{AllocError, Global};
 use std::test::Fail;
 
-/// A run whose words name one swap area: how many frames and pages there are, which calls of the
-/// device fail, what the trace and its transcript are, and with which byte each page of the area
+/// A run whose words name one swap area: how many pages that has, which calls of the device fail,
+/// what the trace and its transcript or summary are, and with which byte each page of the area
 /// begins in the end.
 #[derive(Clone, Copy)]
 struct Case {
-    frames: &'static str,
+    words: &'static [&'static str],
     pages: u32,
     failing: &'static [u64],
     trace: &'static [u8],
@@ -23,9 +23,9 @@ struct Case {
     first_bytes: &'static [u8],
 }
 
-const CASES: [Case; 3] = [
+const CASES: [Case; 4] = [
     Case {
-        frames: "4",
+        words: &["run", "4", "swap"],
         pages: 8,
         failing: &[2],
         trace: b"swapon 0\nswapon 0\nswapon 0\n",
@@ -35,7 +35,7 @@ const CASES: [Case; 3] = [
     // A write fails, and the page is written again. A spoilt page of this device has each bit
     // inverted.
     Case {
-        frames: "4",
+        words: &["run", "4", "swap"],
         pages: 4,
         failing: &[3],
         trace: b"swapon 0\nspawn 1\nmmap 1 4096 rw-\nwrite 1 7fffffffe000 01\nreclaim 1\nage 1\n\
@@ -49,7 +49,7 @@ started\nok\n done 0:1\nok\n drop 0:1\ndata 01\n load 0:1 0\n map 1 7fffffffe000
     },
     // A pass in vain, one that frees the frame, and a read that fails behind it.
     Case {
-        frames: "1",
+        words: &["run", "1", "swap"],
         pages: 4,
         failing: &[3, 6],
         trace: b"swapon 0\nspawn 1\nmmap 1 8192 rw-\nwrite 1 7fffffffd000 01\n\
@@ -63,6 +63,16 @@ bus 0\n put 0 0:2\n unmap 0\n start 0:2\n done 0:2\n drop 0:2\n\
 data 01\n load 0:1 0\n map 1 7fffffffd000 0\n drop 0:1\n",
         first_bytes: &[0, 1, 2, 0],
     },
+    // A load of one line, which is drawn of 0: a page is mapped. The trace isn't read.
+    Case {
+        words: &["work", "0", "1", "4", "swap"],
+        pages: 8,
+        failing: &[],
+        trace: b"spawn 1\n",
+        text: b"lines 4\nok 1\nmap 2\ndata 0\non 1\nerr 0\nsegv 0\nbus 0\noom 0\n\
+stat frames=4 free=4 active=0 inactive=0 flight=0 slots=7 freeslots=7 procs=1\n",
+        first_bytes: &[0, 0, 0, 0, 0, 0, 0, 0],
+    },
 ];
 
 /// Puts a number into a header.
@@ -73,7 +83,7 @@ fn put(page: &mut [u8; PAGE_LEN], at: usize, number: u32)
 }
 
 /// The header of an area whose last page is this, without bad pages.
-fn header(last: u32) -> [u8; PAGE_LEN] {
+pub(crate) fn header(last: u32) -> [u8; PAGE_LEN] {
     let mut page = [0; PAGE_LEN];
     page[PAGE_LEN - 10..].copy_from_slice(b"SWAPSPACE2");
     put(&mut page, 1024, 1);
@@ -82,7 +92,7 @@ fn header(last: u32) -> [u8; PAGE_LEN] {
 }
 
 /// A device with one area of so many pages, at least one, which isn't attached yet.
-fn device(alloc: Global, pages: u32, failing: &[u64]) -> Result<MemDev, AllocError>
+pub(crate) fn device(alloc: Global, pages: u32, failing: &[u64]) -> Result<MemDev, AllocError>
     ensures { IfOk result (λ dev. HasNone (⟦<MemDev as SwapDev>⟧.sizes dev)) }
 {
     let mut area = vec![in alloc; header(pages.max(1) - 1)]?;
@@ -114,7 +124,7 @@ fn first_byte(dev: &MemDev, page: u32) -> Option<u8> {
 /// Whether a run goes as the case says.
 fn goes_so(alloc: Global, case: &Case) -> Result<bool, AllocError> {
     let mut words = Vec::new(alloc);
-    for word in ["run", case.frames, "swap"] {
+    for word in case.words {
         words.push(String::from_str(alloc, word)?)?;
     }
     let mut source = MemSource::new(Vec::from_slice(alloc, case.trace)?, Vec::new(alloc));
