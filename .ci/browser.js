@@ -32,7 +32,8 @@ function shown() {
   for (const it of document.querySelectorAll("[data-link]")) found.push(`link ${it.dataset.link}`);
   if (!at("swap").hidden) {
     for (const title of document.querySelectorAll("#lists h3")) {
-      const cells = [...title.nextSibling.querySelectorAll(".cell")].map(it => it.textContent);
+      const all = title.nextSibling.querySelectorAll(".cell:not(.gone)");
+      const cells = [...all].map(it => it.textContent);
       found.push(`${title.textContent}: ${cells.join(", ")}`);
     }
   }

@@ -32,8 +32,11 @@ class Drawn:
         self.tables, self.dim, self.rows = {}, set(), {}
         self.cached, self.counts, self.flight, self.listed = {}, {}, {}, {}
         self.stat, self.lists = "", True
+        # the slots of an area that the last operations turned off
+        self.off = set()
 
     def apply(self, ops):
+        self.off.clear()
         for name, *of in ops:
             getattr(self, f"op_{name}")(*of)
 
@@ -82,6 +85,9 @@ class Drawn:
 
     def op_k(self, slot, text):
         self.counts[slot] = text
+        if not text:
+            del self.counts[slot]
+            self.off.add(slot)
 
     def op_l(self, frame, which, place):
         self.listed.pop(frame, None)
@@ -157,7 +163,7 @@ class Drawn:
                 "\n".join([f"frame {frame} maps {len(owners)}", *rows]),
             )
         for slot, text in self.counts.items():
-            if text not in ("", "?"):
+            if text != "?":
                 yield f"slot {slot.replace(':', ' ')}", f"slot {slot} {text}"
         yield "stat", f"stat {self.stat}"
 
@@ -290,9 +296,9 @@ def random_trace(seed, lines, swap=""):
         if swap and pick.random() < 0.4:
             n = pick.randint(1, 4)
             line = pick.choice([f"reclaim {n}", f"reclaim {n}", f"age {n}", f"complete {n}"])
-            if pick.random() < 0.05:
-                line = pick.choice(["swapon 0", f"slot 0 {n}"])
-            if pick.random() < 0.02 and "swapoff" in swap:
+            if pick.random() < 0.08:
+                line = pick.choice(["swapon 0", "swapon 0", f"slot 0 {n}"])
+            if pick.random() < 0.04 and "swapoff" in swap:
                 line = "swapoff 0"
         yield line
         name, *words = line.split(" ")

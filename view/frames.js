@@ -91,7 +91,8 @@ function showStat() {
 
 function hasSwap() {
   const stat = Object.fromEntries(statNumbers());
-  return ["active", "flight", "slots"].some(it => Number(stat[it])) || state.counts.size > 0;
+  return ["active", "flight", "slots"].some(it => Number(stat[it]))
+    || state.counts.size > 0 || change.off.size > 0;
 }
 
 function listOf(title, things, cellOf, said) {
@@ -112,6 +113,13 @@ function slotCell(slot, text) {
   return cell;
 }
 
+// one of an area that has just gone off, as it was
+function goneSlotCell(slot) {
+  const cell = make("span", "cell gone", `was ${slot}`);
+  cell.title = change.off.get(slot);
+  return cell;
+}
+
 // the lists, numbered as in view/told.py, head first; and what is in flight, the first to be
 // completed first
 const INACTIVE = 1, ACTIVE = 2;
@@ -127,6 +135,8 @@ function showSwap() {
   // (those that changed come first where there are too many)
   const changedFirst = ([a], [b]) => change.slots.has(b) - change.slots.has(a);
   if (slots.length > MOST_CELLS) slots.sort(changedFirst);
+  const isGone = it => !state.counts.has(it) && change.off.get(it) !== "count 0";
+  const gone = [...change.off.keys()].filter(isGone);
   const known = state.listsKnown;
   const list = (name, of, cellOf) => {
     const things = known ? of() : [];
@@ -137,5 +147,6 @@ function showSwap() {
     ...list("active, from the head", () => framesIn(ACTIVE), newFrameCell),
     ...list("inactive, from the head", () => framesIn(INACTIVE), newFrameCell),
     ...list("in flight, in order", inFlight, slot => slotCell(slot, "")),
-    ...listOf("slots", slots, ([slot, text]) => slotCell(slot, text), "none was named"));
+    ...listOf("slots", [...slots, ...gone.map(it => [it])],
+      ([slot, text]) => (text ? slotCell(slot, text) : goneSlotCell(slot)), "none was named"));
 }

@@ -23,7 +23,7 @@ let undo = [];
 function newChange() {
   return {
     entries: new Map(), gone: new Map(), fresh: new Map(), died: new Map(), born: new Set(),
-    frames: new Map(), slots: new Set(),
+    frames: new Map(), slots: new Set(), off: new Map(),
   };
 }
 
@@ -200,6 +200,8 @@ const operations = {
   a: changeRows,
   c: cacheSlot,
   k: (slot, text) => {
+    // (the area of a slot without a text is off)
+    if (change && !text) change.off.set(slot, state.counts.get(slot));
     setIn(state.counts, slot, text || undefined);
     change?.slots.add(slot);
   },
