@@ -103,7 +103,9 @@ fn dispatch<D: SwapDev>(
         Command::Reclaim { frames } => reclaim(mem, dev, *frames, reply),
         Command::Age { frames } => age(mem, dev, *frames, reply),
         Command::Complete { slots } => complete(mem, dev, *slots, reply),
-        Command::Swapon { area } => swapon(mem, dev, sizes, alloc, *area, reply),
+        Command::Swapon { area, priority } => {
+            swapon(mem, dev, sizes, alloc, *area, *priority, reply)
+        }
         Command::Swapoff { area } => swapoff(mem, dev, alloc, *area, reply),
         _ => do_beside(mem, alloc, command, reply),
     }

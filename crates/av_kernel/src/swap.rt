@@ -8,6 +8,7 @@ ghost use Rattle.av_trace.specs.Reply.{IsCleared};
 ghost use Rattle.av_trace.specs.declared.command.Command.TheVariants as commands;
 ghost use Rattle.av_trace.specs.declared.reply.Errno.TheVariants as errors;
 ghost use Rattle.av_plain.specs.Swapoff.{close_answer};
+ghost use Rattle.av_plain.specs.Swapon.{priority_of as priority_asked};
 ghost use Rattle.av_swapoff.specs.Empty.{close_of};
 ghost use Rattle.av_mem.specs.Mem.{IsSteady, IsSteadyAt};
 ghost use Rattle.av_kernel.specs.Machine.{sizes_of};
@@ -24,17 +25,18 @@ use av_swapoff::EmptyEnd;
 use av_trace::{Answer, Errno, Reply};
 use std::alloc::Global;
 
-/// The priority of a swap area: all have the same.
-const PRIORITY: i32 = 0;
+/// The priority of a swap area for which none is asked: it is less than each that is.
+const NO_PRIORITY: i32 = -1;
 
-/// Does a `swapon`: the swap area is on then, with the slots of its header. `sizes` says how many
-/// pages each attached area has.
+/// Does a `swapon`: the swap area is on then, with the slots of its header and this priority.
+/// `sizes` says how many pages each attached area has.
 pub fn swapon<D: SwapDev>(
     mem: &mut Mem,
     dev: &mut D,
     sizes: &[u32],
     alloc: Global,
     area: u8,
+    priority: Option<u16>,
     reply: &mut Reply,
 ) -> Result<(), Refusal>
     requires steady { IsSteadyAt (D.sizes dev.old) mem.old }
@@ -42,12 +44,22 @@ pub fn swapon<D: SwapDev>(
     requires few { length sizes.now ≤ most_areas }
     requires cleared { IsCleared reply.old }
     ensures { let d = seen_by D.sizes D.pages D.faults in Does (d dev.old) (d dev.new)
-        mem.old mem.new (commands.Swapon area) (reply_in reply.new result) }
+        mem.old mem.new (commands.Swapon area priority) (reply_in reply.new result) }
 {
     let pages = pages_of(sizes, area)?;
-    let came = mem.swap.swapon(alloc, area, pages, PRIORITY, dev)?;
+    let came = mem.swap.swapon(alloc, area, pages, priority_of(priority), dev)?;
     answer_with(reply, on_answer(came));
     Ok(())
+}
+
+/// The priority of an area for which this one is asked, if any is.
+fn priority_of(asked: Option<u16>) -> i32
+    ensures { result ≡ priority_asked asked }
+{
+    match asked {
+        Some(priority) => i32::from(priority),
+        None => NO_PRIORITY,
+    }
 }
 
 /// How many pages a swap area has. Refuses where it isn't attached, or has none.

@@ -1,6 +1,6 @@
 -- The memory system over a device: its view, put together from what its parts are seen as, and what
 -- it stands for.
-use Rattle.std.specs.Prelude.{◌≡◌, ℕ, ◌<◌, pos, not, false, List, length, map, Option, Some, None, IfSome, IsSomeAnd, is_some, option_map}
+use Rattle.std.specs.Prelude.{◌≡◌, ℕ, ℤ, ◌<◌, not, false, List, length, map, Option, Some, None, IfSome, IsSomeAnd, is_some, option_map}
 use Rattle.av_plain.specs.World.{World}
 use Rattle.av_plain.specs.Ledger.{Ledger, Setting, SwapArea, Zero as ZeroEntry, InFrame, InSlot, is_header_slot}
 use Rattle.av_plain.specs.Transcript.{State}
@@ -47,9 +47,10 @@ anons_of s anons = record {
   anon = λ v. option_map (anon_vma (chain_by s anons (Some v))) (info_of anons v);
 }
 
--- the numbers of a header that a ledger keeps
-abbrev pub numbers_of : ℕ × Header → ℕ × SwapArea
-numbers_of a = (a.0, record { slots = a.1.slots; bad = a.1.bad })
+-- what a ledger keeps of an area that is on: numbers of its header, and its priority
+abbrev pub area_of : (ℕ → ℤ) → ℕ × Header → ℕ × SwapArea
+area_of priority a =
+    (a.0, record { slots = a.1.slots; bad = a.1.bad; priority = priority a.0 })
 
 -- the view of frames with their lists, entries, areas, anon_vmas and swap areas
 abbrev pub view_of_parts :
@@ -71,7 +72,7 @@ view_of_parts frames lists table spaces anons swap = record {
   find = swap.find;
   entries = swap.entries;
   flight = swap.flight;
-  on = map numbers_of swap.on;
+  on = map (area_of swap.priority) swap.on;
   slots = swap.slots;
 }
 
@@ -111,11 +112,10 @@ abbrev pub AreByHeaders : Option (ℕ → Option Layout) → ShownSwap → Type 
 AreByHeaders headers swap = IfSome headers (λ told. (k : ℕ) → IfSome (header_at swap k)
     (λ header. IsSomeAnd (told k) (AgreesWith swap k header)))
 
--- there is room in the swap cache for as many frames as there are; the swap areas that are on have
--- one priority, and their pages are on the device, by its headers; this one is closing, if any is
+-- there is room in the swap cache for as many frames as there are; the pages of the swap areas that
+-- are on are on the device, by its headers; this one is closing, if any is
 pub record SwapFits (d : Device) (closing : Option ℕ) (k : Mem) : Type 0 where
   pub frames : HasRoom k
-  pub one_priority : (a : ℕ) → (shown_swap k.swap).priority a ≡ pos 0
   pub closed : (shown_swap k.swap).closing ≡ closing
   pub on_device : HasAreas d.sizes (shown_swap k.swap)
   pub by_headers : AreByHeaders (headers_of d) (shown_swap k.swap)

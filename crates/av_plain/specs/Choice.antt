@@ -1,10 +1,10 @@
 -- What is taken: the first of the free frames, and the slot that the clusters of a swap area give,
 -- each in an order that follows the events. This is not part of what makes a reply legal.
 use Rattle.std.specs.FinMap.Entries.{find as find_area}
-use Rattle.std.specs.List.{find, range_with_len}
+use Rattle.std.specs.List.{find, list_all, range_with_len}
 use Rattle.std.specs.Option.{option_map_or}
 use Rattle.std.specs.Ordering.{nat_cmp}
-use Rattle.std.specs.Prelude.{◌≡◌, ◌≤◌, ℕ, min, ◌+◌, ◌-◌, not, ◌&&◌, ◌==◌, nat_lt, if◌then◌else◌, true, false, List, [], ◌∷◌, ◌++◌, filter, fold, count_by, option_map, Option, Some, None, IsSomeAnd, MatchOption}
+use Rattle.std.specs.Prelude.{◌≡◌, ◌≤◌, ℕ, min, ◌+◌, ◌-◌, Bool, not, ◌&&◌, ◌||◌, ◌==◌, nat_lt, int_le, if◌then◌else◌, true, false, List, [], ◌∷◌, ◌++◌, filter, fold, count_by, option_map, Option, Some, None, IsSomeAnd, MatchOption}
 use Rattle.av_base.specs.Words.{how_many, with_at}
 use Rattle.av_base.specs.declared.slot.Slot.{Slot}
 use Rattle.av_clusters.specs.Clusters.{Slots, fresh, take_slot, give_slot, is_free as is_free_page, is_taken, page_at}
@@ -64,11 +64,20 @@ abbrev pub slot_in : Event → Option Slot
 slot_in (Noted note) = slot_in_note note
 slot_in event = None
 
--- the swap area that gives a slot: the first that is on, is not closing and has a free one
+-- whether a swap area that is on can give a slot: it is not closing and has a free one
+abbrev pub can_give : Setting → Option ℕ → Ledger → ℕ × SwapArea → Bool
+can_give m closing l a = is_open closing a.0 && nat_lt 0 (free_slots m l a)
+
+-- and whether none of those that can has a greater priority
+abbrev pub gives_before_others : Setting → Option ℕ → Ledger → ℕ × SwapArea → Bool
+gives_before_others m closing l a =
+    can_give m closing l a
+    && list_all (λ b. not (can_give m closing l b) || int_le b.1.priority a.1.priority) l.on
+
+-- the swap area that gives a slot: the first of those with the greatest priority
 abbrev pub giving_swap_area : Setting → Option ℕ → Ledger → Option ℕ
 giving_swap_area m closing l =
-    option_map (λ a. a.0)
-    (find (λ (a : ℕ × SwapArea). is_open closing a.0 && nat_lt 0 (free_slots m l a)) l.on)
+    option_map (λ a. a.0) (find (gives_before_others m closing l) l.on)
 
 -- the slot is the one that the clusters of that area give
 abbrev pub IsGiven : Setting → Option ℕ → Ledger → Slot → AreaSlots → AreaSlots → Type 0
@@ -90,9 +99,8 @@ AreFresh m k area made =
 
 -- an area that is turned on has new clusters, and one that is turned off has none
 abbrev pub SwitchesArea : Setting → Event → AreaSlots → AreaSlots → Type 0
-SwitchesArea m (TurnedOn k slots bad) old new =
-    (made : Slots) × AreFresh m k (record { slots = slots; bad = bad }) made
-    × (new ≡ with_at k made old)
+SwitchesArea m (TurnedOn k area) old new =
+    (made : Slots) × AreFresh m k area made × (new ≡ with_at k made old)
 SwitchesArea m (TurnedOff k) old new = new ≡ with_at k (no_slots k) old
 SwitchesArea m event old new = new ≡ old
 

@@ -9,7 +9,7 @@ use Rattle.av_base.specs.declared.slot.Slot.{Slot}
 use Rattle.av_trace.specs.declared.note.Cause.TheVariants.{Writeback, Referenced, NoSlot, WriteStarted}
 use Rattle.av_trace.specs.declared.note.Note.{Note}
 use Rattle.av_trace.specs.declared.note.Note.TheVariants.{Zeroed, New, Copied, Loaded, Mapped, Put, Unmapped, Started, Written, Failed, Dropped, Kept, Aged}
-use Rattle.av_plain.specs.Ledger.{names_frame, key_cmp, same_slot, is_free, frame_at, InFrame, slot_of, Entry, Zero, entry, Cached, Key, Ledger, InSlot}
+use Rattle.av_plain.specs.Ledger.{names_frame, key_cmp, same_slot, is_free, frame_at, InFrame, slot_of, Entry, Zero, entry, Cached, Key, Ledger, SwapArea, InSlot}
 use Rattle.av_plain.specs.World.{process}
 
 -- a page that goes over at a fork, whole or as zeros
@@ -29,8 +29,8 @@ pub data Event : Type 0 where
   Forked : (parent child : ℕ) (pages : List Inherited) → Event
   -- the process's entries of the n pages from one page on go to another
   Moved : (process n from to : ℕ) → Event
-  TurnedOn : (area slots bad : ℕ) → Event
-  TurnedOff : (area : ℕ) → Event
+  TurnedOn : (number : ℕ) (area : SwapArea) → Event
+  TurnedOff : (number : ℕ) → Event
 
 -- ---- parts of a change
 
@@ -209,8 +209,7 @@ after l (Zapped k) = after_zap k l
 after l (Used write k) = after_use write k l
 after l (Forked p q pages) = after_fork p q pages l
 after l (Moved p n from to) = after_move p n from to l
-after l (TurnedOn k slots bad) =
-    record l { on = put nat_cmp k (record { slots = slots; bad = bad }) l.on }
+after l (TurnedOn k area) = record l { on = put nat_cmp k area l.on }
 after l (TurnedOff k) = record l { on = where_key nat_cmp (λ q. not (q == k)) l.on }
 
 -- and after several

@@ -4,7 +4,7 @@ use Rattle.std.specs.FinMap.Entries.{find}
 use Rattle.std.specs.List.{list_any, list_all, range_with_len}
 use Rattle.std.specs.Option.{option_map_or}
 use Rattle.std.specs.Ordering.{nat_cmp, ordering_then}
-use Rattle.std.specs.Prelude.{◌≡◌, ℕ, ◌+◌, ◌-◌, Bool, true, false, not, ◌&&◌, ◌==◌, if◌then◌else◌, List, [], ◌∷◌, map, filter, Option, Some, None, is_some, ◌||◌, length, nat_lt, sum_by, option_map, ◌*◌, is_none, unwrap_or}
+use Rattle.std.specs.Prelude.{◌≡◌, ℕ, ℤ, ◌+◌, ◌-◌, Bool, true, false, not, ◌&&◌, ◌==◌, if◌then◌else◌, List, [], ◌∷◌, map, filter, Option, Some, None, is_some, ◌||◌, length, nat_lt, sum_by, option_map, ◌*◌, is_none, unwrap_or}
 use Rattle.std.specs.declared.cmp.Ordering.{Ordering}
 use Rattle.av_swapdev.specs.Header.{Layout}
 use Rattle.av_base.specs.Words.{how_many, is_in}
@@ -41,10 +41,11 @@ pub record Cached : Type 0 where
   pub frame : ℕ
   pub stale : Bool
 
--- a swap area that is on: its usable slots and bad pages
+-- a swap area that is on: its usable slots and bad pages, and its priority
 pub record SwapArea : Type 0 where
   pub slots : ℕ
   pub bad : ℕ
+  pub priority : ℤ
 
 -- these are the numbers of a header
 pub record HasNumbers (area : SwapArea) (h : Layout) : Type 0 where

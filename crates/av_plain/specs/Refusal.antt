@@ -137,7 +137,7 @@ tests m w l (Write p a bytes) = no_process w p ∷ []
 tests m w l (Reclaim n) = []
 tests m w l (Age n) = []
 tests m w l (Complete n) = []
-tests m w l (Swapon k) =
+tests m w l (Swapon k priority) =
     (no_device_at m k, Einval) ∷ (is_on l k, Ebusy) ∷ (size_of m k == 0, Einval) ∷ []
 tests m w l (Swapoff k) = (is_off l k, Einval) ∷ []
 tests m w l (Maps p) = no_process w p ∷ []

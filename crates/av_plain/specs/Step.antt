@@ -63,7 +63,7 @@ abbrev pub uses_device : Command → Bool
 uses_device (Read p a n) = true
 uses_device (Write p a bytes) = true
 uses_device (Complete n) = true
-uses_device (Swapon k) = true
+uses_device (Swapon k priority) = true
 uses_device (Swapoff k) = true
 uses_device command = false
 
@@ -86,7 +86,7 @@ Follows m w l (Write p a bytes) events answer rows =
 Follows m w l (Reclaim n) events answer rows = Reclaims m w l n events answer rows
 Follows m w l (Age n) events answer rows = Ages l n events answer rows
 Follows m w l (Complete n) events answer rows = CompletesFirst l n events answer rows
-Follows m w l (Swapon k) events answer rows = TurnsOn m k events answer rows
+Follows m w l (Swapon k priority) events answer rows = TurnsOn m k priority events answer rows
 Follows m w l (Swapoff k) events answer rows = TurnsOff m w l k events answer rows
 Follows m w l (Maps p) events answer rows = ReportsRuns (pages w p) events answer rows
 Follows m w l (AsksAreas p) events answer rows = ReportsAreas (pages w p) events answer rows

@@ -1,5 +1,5 @@
 -- A swap area is turned on, as page 0 of its device says.
-use Rattle.std.specs.Prelude.{◌≡◌, ◌⊎◌, ℕ, ◌<◌, Bool, true, false, List, [], ◌∷◌, length, Option, Some, None}
+use Rattle.std.specs.Prelude.{◌≡◌, ◌⊎◌, ℕ, ℤ, pos, negsuc, ◌<◌, Bool, true, false, List, [], ◌∷◌, length, Option, Some, None}
 use Rattle.av_trace.specs.declared.command.Command.{Command}
 use Rattle.av_trace.specs.declared.command.Command.TheVariants.{Swapon as AsksOn}
 use Rattle.av_trace.specs.declared.reply.Answer.{Answer}
@@ -22,18 +22,24 @@ IsByHeader (Some headers) k answer = answer ≡ header_answer (headers k)
 IsByHeader None k answer = (answer ≡ Refused Einval)
     ⊎ ((slots : ℕ) × (bad : ℕ) × (0 < slots) × (answer ≡ On slots bad))
 
+-- the priority that is asked for, or that of an area for which none is: less than each other
+abbrev pub priority_of : Option ℕ → ℤ
+priority_of None = negsuc 0
+priority_of (Some n) = pos n
+
 -- the area is on where its numbers are answered
-abbrev pub turn_on_events : ℕ → Answer → List Event
-turn_on_events k (On slots bad) = TurnedOn k slots bad ∷ []
-turn_on_events k answer = []
+abbrev pub turn_on_events : ℕ → Option ℕ → Answer → List Event
+turn_on_events k priority (On slots bad) =
+    TurnedOn k (record { slots = slots; bad = bad; priority = priority_of priority }) ∷ []
+turn_on_events k priority answer = []
 
 -- swapon: page 0 can't be read, or its header is answered
-abbrev pub TurnsOn : Setting → ℕ → List Event → Answer → List Row → Type 0
-TurnsOn m k events answer rows =
+abbrev pub TurnsOn : Setting → ℕ → Option ℕ → List Event → Answer → List Row → Type 0
+TurnsOn m k priority events answer rows =
     ((answer ≡ Refused Eio) ⊎ IsByHeader m.headers k answer)
-    × (events ≡ turn_on_events k answer) × (rows ≡ [])
+    × (events ≡ turn_on_events k priority answer) × (rows ≡ [])
 
 -- the command that turns an area on
 abbrev pub is_swapon : Command → Bool
-is_swapon (AsksOn k) = true
+is_swapon (AsksOn k priority) = true
 is_swapon command = false

@@ -11,7 +11,7 @@ use Rattle.av_replay.specs.declared.words.Asked.TheVariants as asked
 
 -- so many swap areas may be named
 abbrev pub most_names : ℕ
-most_names = 1
+most_names = 8
 
 -- so many lines may be asked for
 abbrev pub most_load : ℕ

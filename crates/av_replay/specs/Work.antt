@@ -79,7 +79,7 @@ commands_from (suc n) x = command_of (draws_of x) ∷ commands_from n (after_lin
 -- the first commands: so many swap areas are turned on, and a process gets 16 pages
 abbrev pub first_commands : ℕ → List Command
 first_commands areas =
-    map commands.Swapon (range_with_len 0 areas)
+    map (λ k. commands.Swapon k None) (range_with_len 0 areas)
     ++ commands.Spawn 1
     ∷ commands.Mmap 1 65536 reads_and_writes (Fixed (address_of 0))
     ∷ []

@@ -11,7 +11,7 @@ use av_base::MOST_FRAMES;
 use av_text::number::number_in;
 
 /// So many swap areas may be named.
-const MOST_NAMES: usize = 1;
+const MOST_NAMES: usize = 8;
 
 /// So many lines may be made.
 const MOST_LINES: u64 = 1_000_000;

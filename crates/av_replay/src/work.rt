@@ -10,24 +10,27 @@ use crate::draws::{Draws, draw_line};
 use crate::template::{fill, template_of};
 use av_io::{Failed, Sink, SinkErr, Source};
 
-/// The lines that come first, without and with a swap area.
+/// The lines that turn on the swap areas, each of as many bytes as the first.
+const TURN_ON: &[u8] = b"swapon 0\nswapon 1\nswapon 2\nswapon 3\nswapon 4\nswapon 5\nswapon 6\nswapon 7\n";
+
+/// The lines that follow them.
 const FIRST: &[u8] = b"spawn 1\nmmap 1 65536 rw- fixed 10000000\n";
 
-const FIRST_WITH_SWAP: &[u8] = b"swapon 0\nspawn 1\nmmap 1 65536 rw- fixed 10000000\n";
-
-/// The lines that come first, over so many swap areas.
-fn first_lines(areas: usize) -> &'static [u8]
-    requires { areas ≤ 1 }
-    ensures { filled no_draws result.now ≡ all_lines (map line_of (first_commands areas)) }
+/// The lines that turn on the first so many swap areas.
+fn turn_on_lines(areas: usize) -> &'static [u8]
+    requires { areas ≤ most_names }
+    ensures { filled no_draws result.now ≡ all_lines (map line_of (turn_on_commands areas)) }
 {
-    if areas == 0 { FIRST } else { FIRST_WITH_SWAP }
+    &TURN_ON[..areas * b"swapon 0\n".len()]
 }
 
 /// The lines of a load, each made when it is read. It never fails, and tells what is left.
 #[derive(Drop)]
 pub struct WorkSource {
-    /// What is left of a line, as its template.
+    /// What is left of some lines, as their template.
     rest: &'static [u8],
+    /// Whether the lines behind those that turn on swap areas were begun.
+    is_begun: bool,
     draws: Draws,
     /// The number that the last draw made, and how many lines are still to be made of it.
     number: u64,
@@ -40,7 +43,7 @@ pub struct WorkSource {
 impl WorkSource {
     /// A load over so many swap areas, of so many lines from a seed on.
     pub fn new(areas: usize, seed: u64, lines: u32) -> WorkSource
-        requires { areas ≤ 1 }
+        requires { areas ≤ most_names }
         ensures { ⟦<WorkSource as Source>⟧.view result ≡ record {
           left = Some (all_lines (load_lines areas seed lines));
           has_told_end = false;
@@ -49,7 +52,8 @@ impl WorkSource {
         } }
     {
         WorkSource {
-            rest: first_lines(areas),
+            rest: turn_on_lines(areas),
+            is_begun: false,
             draws: Draws {
                 kind: 0,
                 process: 1,
@@ -71,7 +75,13 @@ impl WorkSource {
         ensures reads { self.new.reads ≡ self.old.reads }
         ensures told { self.new.has_told_end ≡ self.old.has_told_end }
     {
-        if self.rest.is_empty() && self.lines > 0 {
+        if !self.rest.is_empty() {
+            return;
+        }
+        if !self.is_begun {
+            self.rest = FIRST;
+            self.is_begun = true;
+        } else if self.lines > 0 {
             let (draws, number) = draw_line(self.number);
             self.rest = template_of(&draws);
             self.draws = draws;

@@ -313,9 +313,9 @@ pub fn areas_are_turned_on()
     ensures { (m : Setting) (closing : Option ℕ) (old : Held) → IsHeld m old → (k : ℕ)
         (area : SwapArea) (made : Slots) → AreFresh m k area made
         → IfSome m.headers (λ headers. IsSomeAnd (headers k) (HasNumbers area))
-        → Steps m closing (TurnedOn k area.slots area.bad) old (record old {
+        → Steps m closing (TurnedOn k area) old (record old {
           view = view_on k area made old.view;
-          ledger = after old.ledger (TurnedOn k area.slots area.bad);
+          ledger = after old.ledger (TurnedOn k area);
         }) }
 {}
 

@@ -14,6 +14,7 @@ use Rattle.av_text.specs.Hex.{hex, hex_text, IsData, data_at}
 use Rattle.av_text.specs.Prot.{prot_text, prot_at}
 use Rattle.av_trace.specs.Place.{IsPlace, place_words, place_at}
 use Rattle.av_trace.specs.Mode.{IsMode, mode_words, mode_at}
+use Rattle.av_trace.specs.Priority.{IsPriority, priority_words, priority_at}
 
 -- a swap area
 abbrev pub IsAreaNumber : ℕ → Type 0
@@ -39,7 +40,7 @@ IsInRange (commands.Write p address bytes) = IsProcess p × IsWide address × Is
 IsInRange (commands.Reclaim n) = IsFrameCount n
 IsInRange (commands.Age n) = IsFrameCount n
 IsInRange (commands.Complete n) = IsFrameCount n
-IsInRange (commands.Swapon k) = IsAreaNumber k
+IsInRange (commands.Swapon k priority) = IsAreaNumber k × IsPriority priority
 IsInRange (commands.Swapoff k) = IsAreaNumber k
 IsInRange (commands.Maps p) = IsProcess p
 IsInRange (commands.Areas p) = IsProcess p
@@ -69,7 +70,8 @@ line_of (commands.Write p address bytes) =
 line_of (commands.Reclaim n) = line (codes "reclaim") (decimal n ∷ [])
 line_of (commands.Age n) = line (codes "age") (decimal n ∷ [])
 line_of (commands.Complete n) = line (codes "complete") (decimal n ∷ [])
-line_of (commands.Swapon k) = line (codes "swapon") (decimal k ∷ [])
+line_of (commands.Swapon k priority) =
+    line (codes "swapon") (decimal k ∷ priority_words priority)
 line_of (commands.Swapoff k) = line (codes "swapoff") (decimal k ∷ [])
 line_of (commands.Maps p) = line (codes "maps") (decimal p ∷ [])
 line_of (commands.Areas p) = line (codes "areas") (decimal p ∷ [])
@@ -125,9 +127,13 @@ write_words bytes = both entry_at data_at bytes
 abbrev pub frames_at : Reader ℕ
 frames_at bytes = decimal_at 1 most_frames bytes
 
--- the word of `swapon` and `swapoff`, and the first of `slot`: a swap area
+-- the word of `swapoff`, and the first of `swapon` and `slot`: a swap area
 abbrev pub area_at : Reader ℕ
 area_at bytes = decimal_at 0 7 bytes
+
+-- the words of `swapon`
+abbrev pub swapon_words : Reader (ℕ × Option ℕ)
+swapon_words bytes = both area_at priority_at bytes
 
 -- the words of `slot`
 abbrev pub slot_words : Reader (ℕ × ℕ)
@@ -164,6 +170,9 @@ rmap_at = whole entry_at (λ x. commands.Rmap x.0 x.1)
 abbrev pub entry_of : CommandReader
 entry_of = whole entry_at (λ x. commands.Entry x.0 x.1)
 
+abbrev pub swapon_at : CommandReader
+swapon_at = whole swapon_words (λ x. commands.Swapon x.0 x.1)
+
 abbrev pub slot_at : CommandReader
 slot_at = whole slot_words (λ x. commands.Slot x.0 x.1)
 
@@ -194,7 +203,7 @@ swap_readers =
     (codes "reclaim", whole frames_at commands.Reclaim)
     ∷ (codes "age", whole frames_at commands.Age)
     ∷ (codes "complete", whole frames_at commands.Complete)
-    ∷ (codes "swapon", whole area_at commands.Swapon)
+    ∷ (codes "swapon", swapon_at)
     ∷ (codes "swapoff", whole area_at commands.Swapoff)
     ∷ []
 

@@ -1,12 +1,13 @@
 //! What a line asks for.
 
 ghost use Rattle.std.specs.Prelude.{◌≡◌, ◌++◌, codes, option_map, IfOk, OnErr};
-ghost use Rattle.av_trace.specs.Command.{at_end, whole, no_words, fork_at, mmap_at, munmap_at, mprotect_at, mremap_at, read_at, write_at, area_at, frames_at, rmap_at, entry_of, slot_at, command_in, command_of, process_readers, range_readers, swap_readers, report_readers, range_words};
+ghost use Rattle.av_trace.specs.Command.{at_end, whole, no_words, fork_at, mmap_at, munmap_at, mprotect_at, mremap_at, read_at, write_at, area_at, frames_at, rmap_at, entry_of, slot_at, swapon_at, command_in, command_of, process_readers, range_readers, swap_readers, report_readers, range_words};
 ghost use Rattle.av_text.specs.Number.{process_at};
 ghost use Rattle.av_text.specs.Word.{BeginsWith};
 
 use crate::mode::{Mode, mode_field};
 use crate::place::{Place, place_field};
+use crate::priority::priority_field;
 use av_base::{MOST_FRAMES, PAGE_SIZE, Prot};
 use av_text::Bytes;
 use av_text::hex::data_field;
@@ -76,6 +77,8 @@ pub enum Command {
     },
     Swapon {
         area: u8,
+        /// 0 to 32,767; none is less than each of these.
+        priority: Option<u16>,
     },
     Swapoff {
         area: u8,
@@ -283,10 +286,11 @@ fn area(bytes: &[u8]) -> Option<(u8, &[u8])>
 
 #[tactic(auto, unfolding(crate::specs::Command::whole))]
 fn swapon(bytes: &[u8]) -> Option<Command>
-    ensures { result ≡ whole area_at Command.Swapon bytes.now }
+    ensures { result ≡ swapon_at bytes.now }
 {
     let (area, rest) = area(bytes)?;
-    end(Command::Swapon { area }, rest)
+    let (priority, rest) = priority_field(rest)?;
+    end(Command::Swapon { area, priority }, rest)
 }
 
 #[tactic(auto, unfolding(crate::specs::Command::whole))]

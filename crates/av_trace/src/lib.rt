@@ -14,6 +14,7 @@ mod mode;
 mod note;
 mod place;
 mod print;
+mod priority;
 mod reply;
 mod row;
 
