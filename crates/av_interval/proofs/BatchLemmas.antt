@@ -46,13 +46,15 @@ later_cut i (x ∷ l) m = ap (λ b. not (nat_le x.first i) || b) (later_cut i l 
 
 over_above : (a : Option (ℕ × ℕ)) (i : ℕ) (xs : List Span) → top xs < i → overlaps_past a i xs ≡ []
 over_above a i [] h = refl
-over_above a i (x ∷ xs) h = rw (lt-leb i x.last (omega arith), and_false (nat_le x.first i), and_false (is_past a x)) (over_above a i xs (omega arith))
+over_above a i (x ∷ xs) h =
+    rw (lt-leb i x.last (omega arith), and_false (nat_le x.first i), and_false (is_past a x)) (over_above a i xs (omega arith))
 
 pub over_later : (a : Option (ℕ × ℕ)) (i : ℕ) (x : Span) (xs : List Span) → AllAfter x xs → i < x.first → overlaps_past a i xs ≡ []
 over_later a i x [] s h = refl
 over_later a i x (y ∷ xs) s h = rw (lt-leb y.first i (later_start x y i s.0 h), and_false (is_past a y)) (over_later a i x xs s.1 h)
 
-over_passed : (a : Option (ℕ × ℕ)) (i : ℕ) (l : List Span) (x : Span) (r : List Span) → IsOrdered (l ++ x ∷ r) → is_past a x ≡ false → overlaps_past a i l ≡ []
+over_passed : (a : Option (ℕ × ℕ)) (i : ℕ) (l : List Span) (x : Span) (r : List Span) → IsOrdered (l ++ x ∷ r) → is_past a x ≡ false
+    → overlaps_past a i l ≡ []
 over_passed a i [] x r s e = refl
 over_passed a i (y ∷ l) x r s e = rw (not_past a x y (all_middle y l x r s.0) e) (over_passed a i l x r s.1 e)
 
@@ -118,7 +120,8 @@ child_high isn b t (Some p) i a c e =
 child_whole : (isn : ℕ → Type 0) (b : ℕ → Tree) (t : Tree) (o : Option (ℕ × ℕ)) (i : ℕ) → IsChild isn b t o → IsWhole isn b t i (reaching_child i o)
 child_whole isn b t o i c =
     elim (reaching_child i o) as (λ n. reaching_child i o ≡ n → IsWhole isn b t i n) [
-      | None ↦ λ e. record { over = λ a. sym (child_high isn b t o i a c e); reached = λ n. absurd (n refl); passed = λ a. omega arith; later = omega arith }
+      | None ↦ λ e. record
+          { over = λ a. sym (child_high isn b t o i a c e); reached = λ n. absurd (n refl); passed = λ a. omega arith; later = omega arith }
       | Some n ↦ λ e. let f = child_some isn b t o i n c e in record {
         over = λ a. ap (λ u. overlaps_past a i (entries u)) f.is;
         reached = λ _. rw f.is f.reaches;
@@ -213,7 +216,8 @@ module _ (isn : ℕ → Type 0) (b : ℕ → Tree) (t : Tree) (v : Node) (s : Is
   over_right o p =
       let k = cut_of isn b t v s in
       ap (overlaps_past a i) k.is ∙ over_cut a i (entries k.l) (span_of v ∷ entries k.r)
-      ∙ ap (λ xs. xs ++ overlaps_past a i (span_of v ∷ entries k.r)) (over_passed a i (entries k.l) (span_of v) (entries k.r) (subst IsOrdered k.is o) p)
+      ∙ ap (λ xs. xs ++ overlaps_past a i (span_of v ∷ entries k.r))
+      (over_passed a i (entries k.l) (span_of v) (entries k.r) (subst IsOrdered k.is o) p)
       ∙ rw p (sym (r_whole.over a))
 
   pub over_left : IsOrdered (entries t) → i < v.first → overlaps_past a i (entries t) ≡ overlaps_past a i (within v.left)
@@ -227,16 +231,21 @@ module _ (isn : ℕ → Type 0) (b : ℕ → Tree) (t : Tree) (v : Node) (s : Is
       ) (append-nil (overlaps_past a i (within v.left)))
 
   pub over_both : is_past a (span_of v) ≡ true →
-      overlaps_past a i (entries t) ≡ overlaps_past a i (within v.left) ++ (overlaps_past None i (span_of v ∷ []) ++ overlaps_past a i (within v.right))
+      overlaps_past a i (entries t) ≡ overlaps_past a i (within v.left)
+      ++ (overlaps_past None i (span_of v ∷ []) ++ overlaps_past a i (within v.right))
   over_both p =
       let k = cut_of isn b t v s in
-      over_all ∙ ap (λ xs. overlaps_past a i (within v.left) ++ xs) (rw p (ap (λ r. cond (overlaps i (span_of v)) ((v.first, v.area) ∷ r) r) (sym (r_whole.over a))
+      over_all ∙ ap (λ xs. overlaps_past a i (within v.left) ++ xs)
+      (rw p (ap (λ r. cond (overlaps i (span_of v)) ((v.first, v.area) ∷ r) r) (sym (r_whole.over a))
       ∙ append_cond (overlaps i (span_of v)) (v.first, v.area) [] (overlaps_past a i (within v.right))))
 
-  passed_all : some_passed a (entries t) ≡ (some_passed a (entries (cut_of isn b t v s).l) || (not (is_past a (span_of v)) || some_passed a (entries (cut_of isn b t v s).r)))
+  passed_all : some_passed a
+      (entries t) ≡ (some_passed a
+      (entries (cut_of isn b t v s).l) || (not (is_past a (span_of v)) || some_passed a (entries (cut_of isn b t v s).r)))
   passed_all = let k = cut_of isn b t v s in ap (some_passed a) k.is ∙ passed_cut a (entries k.l) (span_of v ∷ entries k.r)
 
-  later_all : some_later i (entries t) ≡ (some_later i (entries (cut_of isn b t v s).l) || (not (nat_le v.first i) || some_later i (entries (cut_of isn b t v s).r)))
+  later_all : some_later i
+      (entries t) ≡ (some_later i (entries (cut_of isn b t v s).l) || (not (nat_le v.first i) || some_later i (entries (cut_of isn b t v s).r)))
   later_all = let k = cut_of isn b t v s in ap (some_later i) k.is ∙ later_cut i (entries k.l) (span_of v ∷ entries k.r)
 
   or_true : (c d : Bool) → (c || (true || d)) ≡ true
@@ -275,19 +284,22 @@ module _ (isn : ℕ → Type 0) (b : ℕ → Tree) (t : Tree) (v : Node) (s : Is
   pub edges_left : i < v.first → (edges a i (within v.left) ≤ edges a i (entries t)) × (1 ≤ edges a i (entries t))
   edges_left h =
       let k = cut_of isn b t v s in
-      let e : some_later i (entries t) ≡ true = later_all ∙ ap (λ c. some_later i (entries k.l) || (not c || some_later i (entries k.r))) (lt-leb v.first i h)
+      let e : some_later i (entries t) ≡ true = later_all
+      ∙ ap (λ c. some_later i (entries k.l) || (not c || some_later i (entries k.r))) (lt-leb v.first i h)
       ∙ or_true (some_later i (entries k.l)) (some_later i (entries k.r)) in
       let f : one (some_later i (entries t)) ≡ 1 = ap one e in
       let g = one_most (some_later i (within v.left)) in
       let m = passed_left in
       (omega (arith, f, g, m), omega (arith, f))
 
-  pub edges_both : IsOrdered (entries t) → is_past a (span_of v) ≡ true → v.first ≤ i → edges a i (within v.left) + edges a i (within v.right) ≤ edges a i (entries t)
+  pub edges_both : IsOrdered (entries t) → is_past a (span_of v) ≡ true → v.first ≤ i
+      → edges a i (within v.left) + edges a i (within v.right) ≤ edges a i (entries t)
   edges_both o p h =
       let k = cut_of isn b t v s in
       let q = subst IsOrdered k.is o in
       let x : one (some_later i (entries k.l)) ≡ 0 = ap one (none_later i (entries k.l) (span_of v) (entries k.r) q h) in
-      let y : one (some_passed a (entries k.r)) ≡ 0 = ap one (none_passed a (span_of v) (entries k.r) (ordered_back (entries k.l) (span_of v ∷ entries k.r) q).0 p) in
+      let y : one (some_passed a (entries k.r)) ≡ 0 =
+      ap one (none_passed a (span_of v) (entries k.r) (ordered_back (entries k.l) (span_of v ∷ entries k.r) q).0 p) in
       let z = l_whole.later in
       let w = r_whole.passed a in
       let m = passed_left in
@@ -298,11 +310,13 @@ module _ (isn : ℕ → Type 0) (b : ℕ → Tree) (t : Tree) (v : Node) (s : Is
   reached h = h (λ e. let k = cut_of isn b t v s in not_nil (entries k.l) (span_of v) (entries k.r) (sym k.is ∙ e))
 
   pub found_inside : IsReached i (entries t) → edges a i (entries t) ≡ 0 → 1 ≤ length (overlaps_past a i (entries t))
-  found_inside h e = inside a i (entries t) (λ d. let k = cut_of isn b t v s in not_nil (entries k.l) (span_of v) (entries k.r) (sym k.is ∙ d)) (reached h) e
+  found_inside h e = inside a i (entries t)
+      (λ d. let k = cut_of isn b t v s in not_nil (entries k.l) (span_of v) (entries k.r) (sym k.is ∙ d)) (reached h) e
 
 -- ---- one after the other
 
-over_past : (a : Option (ℕ × ℕ)) (i : ℕ) (x : Span) (xs : List Span) → AllAfter x xs → is_past a x ≡ true → overlaps_past a i xs ≡ overlaps_past None i xs
+over_past : (a : Option (ℕ × ℕ)) (i : ℕ) (x : Span) (xs : List Span) → AllAfter x xs → is_past a x ≡ true
+    → overlaps_past a i xs ≡ overlaps_past None i xs
 over_past a i x [] s e = refl
 over_past a i x (y ∷ xs) s e = rw (true_past a y (past_on a x y s.0 (past_true a x e)))
     (ap (λ r. cond (overlaps i y) ((y.first, y.area) ∷ r) r) (over_past a i x xs s.1 e))
@@ -314,7 +328,8 @@ over_it i x (y ∷ xs) s = rw (true_past (Some (x.first, x.area)) y s.0) (ap (λ
 -- where nothing is past the place, the first is none
 pub first_none : (a : Option (ℕ × ℕ)) (i : ℕ) (xs : List Span) → overlaps_past a i xs ≡ [] → overlap_of a i xs ≡ None
 first_none a i [] e = refl
-first_none a i (x ∷ xs) e = elim (is_past a x && overlaps i x) as (λ (b : Bool). cond b ((x.first, x.area) ∷ overlaps_past a i xs) (overlaps_past a i xs) ≡ [] →
+first_none a i (x ∷ xs) e =
+    elim (is_past a x && overlaps i x) as (λ (b : Bool). cond b ((x.first, x.area) ∷ overlaps_past a i xs) (overlaps_past a i xs) ≡ [] →
     cond b (Some (x.first, x.area)) (overlap_of a i xs) ≡ None) [
       | true ↦ λ d. cc
       | false ↦ λ d. first_none a i xs d

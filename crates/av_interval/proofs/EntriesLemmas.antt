@@ -31,10 +31,11 @@ there_new x [] = rw (eq-eqb (key x) (key x) refl) refl
 there_new x (y ∷ t) = elim (ltb (key x) (key y)) as (λ b. ltb (key x) (key y) ≡ b →
     IsSome (entry_at key (key x) (cond b (x ∷ y ∷ t) (y ∷ cond (ltb (key y) (key x)) (with_entry key x t) t)))) [
       | true ↦ λ e. rw (eq-eqb (key x) (key x) refl) refl
-      | false ↦ λ e. elim (ltb (key y) (key x)) as (λ b. ltb (key y) (key x) ≡ b → IsSome (entry_at key (key x) (y ∷ cond b (with_entry key x t) t))) [
-        | true ↦ λ d. there_next_one (key x) y (with_entry key x t) (there_new x t)
-        | false ↦ λ d. rw (eq-eqb (key y) (key x) (same_key (key x) (key y) e d)) refl
-      ] refl
+      | false ↦ λ e. elim (ltb (key y) (key x)) as
+          (λ b. ltb (key y) (key x) ≡ b → IsSome (entry_at key (key x) (y ∷ cond b (with_entry key x t) t))) [
+            | true ↦ λ d. there_next_one (key x) y (with_entry key x t) (there_new x t)
+            | false ↦ λ d. rw (eq-eqb (key y) (key x) (same_key (key x) (key y) e d)) refl
+          ] refl
     ] refl
   where
     there_next_one : (k : ℕ) (y : Span) (u : List Span) → IsSome (entry_at key k u) → IsSome (entry_at key k (y ∷ u))

@@ -14,14 +14,17 @@ use Rattle.av_interval.specs.declared.span.Span.{Span}
 pub below_is : (v : Forest) (k : Link ℕ) → IsHeld key 0 max last_of (store_of v) (Some k) → below v k.number ≡ tree_at (store_of v) (Some k)
 below_is v k h =
     let s = store_of v in
-    elim (s k.number) as (λ o. s k.number ≡ o → tree_or_leaf o (λ w. Fork k.number (tree_at s w.left) w.entry (tree_at s w.right)) ≡ tree_at s (Some k)) [
+    elim (s k.number) as
+    (λ o. s k.number ≡ o → tree_or_leaf o (λ w. Fork k.number (tree_at s w.left) w.entry (tree_at s w.right)) ≡ tree_at s (Some k)) [
       | None ↦ λ e. let u = rw e at (used key 0 max last_of max_laws s k h) in cc
       | Some w ↦ λ e. sym (opened key 0 max last_of max_laws s k w h e).tree
     ] refl
 
-pub child_is : (v : Forest) (k : Option (Link ℕ)) → IsHeld key 0 max last_of (store_of v) k → IsChild (IsNode v) (below v) (tree_at (store_of v) k) (child_of k)
+pub child_is : (v : Forest) (k : Option (Link ℕ)) → IsHeld key 0 max last_of (store_of v) k
+    → IsChild (IsNode v) (below v) (tree_at (store_of v) k) (child_of k)
 child_is v None h = none_tree key 0 max last_of max_laws (store_of v)
-child_is v (Some k) h = ((k, (refl, h)), below_is v k h, sym (held_sum key 0 max last_of max_laws (store_of v) (Some k) h), λ e. let d = rw e at h.link in cc)
+child_is v (Some k) h =
+    ((k, (refl, h)), below_is v k h, sym (held_sum key 0 max last_of max_laws (store_of v) (Some k) h), λ e. let d = rw e at h.link in cc)
 
 pub seen : (v : Forest) (n : ℕ) (w : Stored Span ℕ) → IsNode v n → store_of v n ≡ Some w →
     IsSeen (IsNode v) (below v) (below v n) (record {

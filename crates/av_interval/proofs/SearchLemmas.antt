@@ -20,7 +20,8 @@ two_cases : (b : Bool) (x : Span) (u v : Option Span) → cond b (Some x) (first
 two_cases true x u v = refl
 two_cases false x u v = refl
 
-pub reaching-cut : (a : Option (ℕ × ℕ)) (i : ℕ) (l m : List Span) → span_reaching a i (l ++ m) ≡ first_of_two (span_reaching a i l) (span_reaching a i m)
+pub reaching-cut : (a : Option (ℕ × ℕ)) (i : ℕ) (l m : List Span)
+    → span_reaching a i (l ++ m) ≡ first_of_two (span_reaching a i l) (span_reaching a i m)
 reaching-cut a i [] m = refl
 reaching-cut a i (x ∷ l) m = ap (cond (is_past a x && nat_le i x.last) (Some x)) (reaching-cut a i l m) ∙ two_cases (is_past a x && nat_le i x.last) x
     (span_reaching a i l) (span_reaching a i m)
@@ -138,7 +139,8 @@ past_on (Some p) x y (inl b) (inr h) = let e = h.0 in inl (omega arith)
 past_on (Some p) x y (inr b) (inl h) = let e = b.0 in inl (omega arith)
 past_on (Some p) x y (inr b) (inr h) = let e = b.0 in let d = h.0 in let u = b.1 in let v = h.1 in inr (omega arith, omega arith)
 
-pub past_right : (a : Option (ℕ × ℕ)) (i : ℕ) (x : Span) (r : List Span) → AllAfter x r → is_past a x ≡ true → span_reaching a i r ≡ span_reaching None i r
+pub past_right : (a : Option (ℕ × ℕ)) (i : ℕ) (x : Span) (r : List Span) → AllAfter x r → is_past a x ≡ true
+    → span_reaching a i r ≡ span_reaching None i r
 past_right a i x [] s e = refl
 past_right a i x (y ∷ r) s e =
     rw (true_past a y (past_on a x y s.0 (past_true a x e))) (ap (cond (nat_le i y.last) (Some y)) (past_right a i x r s.1 e))
@@ -253,7 +255,8 @@ starts_after : (a : Option (ℕ × ℕ)) (i : ℕ) (x : Span) (xs : List Span) �
 starts_after a i x [] s h = refl
 starts_after a i x (y ∷ xs) s h = rw (lt-leb y.first i (later_start x y i s.0 h), and_false (is_past a y)) (starts_after a i x xs s.1 h)
 
-overlap_cases : (P F L : Bool) (i : ℕ) (x : Span) (u : Option (ℕ × ℕ)) (w : Option Span) → nat_le x.first i ≡ F → u ≡ check i w → (F ≡ false → u ≡ None) →
+overlap_cases : (P F L : Bool) (i : ℕ) (x : Span) (u : Option (ℕ × ℕ)) (w : Option Span) → nat_le x.first i ≡ F → u ≡ check i w
+    → (F ≡ false → u ≡ None) →
     cond (P && (F && L)) (Some (x.first, x.area)) u ≡ check i (cond (P && L) (Some x) w)
 overlap_cases false F L i x u w f e n = e
 overlap_cases true true true i x u w f e n = rw f refl
@@ -291,7 +294,8 @@ pub not_past_itself : (x : Span) → is_past (Some (x.first, x.area)) x ≡ fals
 not_past_itself x = rw (le-ltb x.first x.first (omega arith), le-ltb x.area x.area (omega arith)) (and_false (eqb x.first x.first))
 
 -- what stands before the span that is found is not past it
-pub found_past : (a : Option (ℕ × ℕ)) (i : ℕ) (x : Span) (xs : List Span) (p : ℕ × ℕ) → AllAfter x xs → overlap_of a i xs ≡ Some p → is_past (Some p) x ≡ false
+pub found_past : (a : Option (ℕ × ℕ)) (i : ℕ) (x : Span) (xs : List Span) (p : ℕ × ℕ) → AllAfter x xs → overlap_of a i xs ≡ Some p
+    → is_past (Some p) x ≡ false
 found_past a i x [] p s e = cc
 found_past a i x (y ∷ xs) p s e = elim (is_past a y && overlaps i y) as (λ (b : Bool). cond b (Some (y.first, y.area)) (overlap_of a i xs) ≡ Some p →
     is_past (Some p) x ≡ false) [
@@ -302,7 +306,8 @@ found_past a i x (y ∷ xs) p s e = elim (is_past a y && overlaps i y) as (λ (b
 
 past_all : (a : Option (ℕ × ℕ)) (i : ℕ) (x : Span) (xs : List Span) → AllAfter x xs → is_past a x ≡ true → remaining a i xs ≡ how_many (overlaps i) xs
 past_all a i x [] s e = refl
-past_all a i x (y ∷ xs) s e = rw (true_past a y (past_on a x y s.0 (past_true a x e))) (ap (λ n. cond {A = ℕ} (overlaps i y) 1 0 + n) (past_all a i x xs s.1 e))
+past_all a i x (y ∷ xs) s e =
+    rw (true_past a y (past_on a x y s.0 (past_true a x e))) (ap (λ n. cond {A = ℕ} (overlaps i y) 1 0 + n) (past_all a i x xs s.1 e))
 
 past_it : (i : ℕ) (x : Span) (xs : List Span) → AllAfter x xs → remaining (Some (x.first, x.area)) i xs ≡ how_many (overlaps i) xs
 past_it i x [] s = refl

@@ -53,7 +53,8 @@ before_of x y p q h = elim (cases_order x.first y.first) [
   | inr (inr k) ↦ absurd (omega arith)
 ]
 
-all_after : (x : Span) (xs : List Span) → x.area < 2 ^ 64 → AllByRecursion (λ y. y.area < 2 ^ 64) xs → AllByRecursion (λ y. key x < key y) xs → AllAfter x xs
+all_after : (x : Span) (xs : List Span) → x.area < 2 ^ 64 → AllByRecursion (λ y. y.area < 2 ^ 64) xs → AllByRecursion (λ y. key x < key y) xs
+    → AllAfter x xs
 all_after x [] p q h = tt
 all_after x (y ∷ xs) p q h = (before_of x y p q.0 h.0, all_after x xs p q.1 h.1)
 
@@ -79,7 +80,11 @@ module _ (P : Span → Type 0) where
   all_with x (y ∷ t) p a =
       elim (ltb (key x) (key y)) as (λ b. AllByRecursion P (cond b (x ∷ y ∷ t) (y ∷ cond (ltb (key y) (key x)) (with_entry key x t) t))) [
         | true ↦ (p, a)
-        | false ↦ (a.0, elim (ltb (key y) (key x)) as (λ b. AllByRecursion P (cond b (with_entry key x t) t)) [ true ↦ all_with x t p a.1 | false ↦ a.1 ])
+        | false ↦ (
+          a.0,
+          elim (ltb (key y) (key x)) as (λ b. AllByRecursion P (cond b (with_entry key x t) t))
+              [ true ↦ all_with x t p a.1 | false ↦ a.1 ],
+        )
       ]
 
   pub all_without : (k : ℕ) (t : List Span) → AllByRecursion P t → AllByRecursion P (without_key key k t)
@@ -96,7 +101,10 @@ length_with x (y ∷ t) e = elim (eqb (key y) (key x)) as (λ b. eqb (key y) (ke
       | false ↦ λ q d. elim (cases_order (key x) (key y)) [
         | inl k ↦ absurd (eqb-false _ _ q (sym k))
         | inr (inl k) ↦ rw (Rattle.std.proofs.lemmas.Bool.lt-ltb (key x) (key y) k) (omega arith)
-        | inr (inr k) ↦ rw (Rattle.std.proofs.lemmas.Bool.le-ltb (key x) (key y) (omega arith), Rattle.std.proofs.lemmas.Bool.lt-ltb (key y) (key x) k)
+        | inr (inr k) ↦ rw (
+          Rattle.std.proofs.lemmas.Bool.le-ltb (key x) (key y) (omega arith),
+          Rattle.std.proofs.lemmas.Bool.lt-ltb (key y) (key x) k,
+        )
             (let h = length_with x t d in omega arith)
       ]
     ] refl e
@@ -159,7 +167,8 @@ module _ (s : Store) (r : ℕ → Option Root) (f : IsForest s r) (s' : Store) (
     ];
     held = by_cases (λ b p. IsHeld key 0 max last_of s' (top_of p)) (λ b e. c.held) (λ b n. (other b n).held);
     rising = by_cases (λ b p. IsRising key (entries (tree_at s' (top_of p)))) (λ b e. c.rising) (λ b n. rw (other b n).tree (f.rising b));
-    fits = by_cases (λ b p. AllByRecursion (λ x. x.area < 2 ^ 64) (entries (tree_at s' (top_of p)))) (λ b e. c.fits) (λ b n. rw (other b n).tree (f.fits b));
+    fits = by_cases (λ b p. AllByRecursion (λ x. x.area < 2 ^ 64) (entries (tree_at s' (top_of p)))) (λ b e. c.fits)
+        (λ b n. rw (other b n).tree (f.fits b));
     len = by_cases (λ b p. len_of p ≡ length (entries (tree_at s' (top_of p)))) (λ b e. c.len) (λ b n. rw (other b n).tree (f.len b));
     apart = λ b d j. by_cases (λ b p. (b ≡ d → ⊥) → count j (tree_at s' (top_of p)) + count j (tree_at s' (top_of (with_at a o r d))) ≤ 1)
         (λ b e. by_cases (λ d q. (b ≡ d → ⊥) → count j (tree_at s' (top_of o)) + count j (tree_at s' (top_of q)) ≤ 1)
@@ -171,10 +180,11 @@ module _ (s : Store) (r : ℕ → Option Root) (f : IsForest s r) (s' : Store) (
   }
 
   pub changed_trees : (b : ℕ) → tree_at s' (top_of (with_at a o r b)) ≡ with_at a (tree_at s' (top_of o)) (λ d. tree_at s (top_of (r d))) b
-  changed_trees b = elim (eqb b a) as (λ t. eqb b a ≡ t → tree_at s' (top_of (cond t o (r b))) ≡ cond t (tree_at s' (top_of o)) (tree_at s (top_of (r b)))) [
-    | true ↦ λ e. refl
-    | false ↦ λ e. (other b (λ q. eqb-false b a e (sym q))).tree
-  ] refl
+  changed_trees b = elim (eqb b a) as
+      (λ t. eqb b a ≡ t → tree_at s' (top_of (cond t o (r b))) ≡ cond t (tree_at s' (top_of o)) (tree_at s (top_of (r b)))) [
+        | true ↦ λ e. refl
+        | false ↦ λ e. (other b (λ q. eqb-false b a e (sym q))).tree
+      ] refl
 
 -- a store that is the same at each number
 pub record IsSameForest (s s' : Store) (r : ℕ → Option Root) : Type 0 where
@@ -232,7 +242,8 @@ pub record IsAdded (s : Store) (r : ℕ → Option Root) (s' : Store) (a : ℕ) 
   pub entries : entries (tree_at s' (Some k)) ≡ with_entry key x (entries (tree_at s (top_of (r a))))
   pub back : top_of (r a) ≡ None → (j : ℕ) → with_at n None s' j ≡ s j
 
-pub added : (s : Store) (r : ℕ → Option Root) → IsForest s r → (n : ℕ) (v : Stored Span ℕ) → s n ≡ None → (s' : Store) (a : ℕ) (x : Span) (k : Link ℕ) (l : ℕ) →
+pub added : (s : Store) (r : ℕ → Option Root) → IsForest s r → (n : ℕ) (v : Stored Span ℕ) → s n ≡ None
+    → (s' : Store) (a : ℕ) (x : Span) (k : Link ℕ) (l : ℕ) →
     l ≡ len_of (r a) + 1 → x.area < 2 ^ 64 → IsNew x.area (entries (tree_at s (top_of (r a)))) →
     IsPlaced key 0 max last_of (with_at n (Some v) s) s' (top_of (r a)) n x k → IsAdded s r s' a x k n l
 added s r f n v e s' a x k m q p new t =
@@ -268,13 +279,16 @@ added s r f n v e s' a x k m q p new t =
       back = λ gone j. elim (is_cases key 0 max last_of max_laws n j) [
         | inr d ↦ rw (eq-eqb j n (sym d)) (sym e ∙ ap s d)
         | inl d ↦
-            let z : count j (tree_at (with_at n (Some v) s) (top_of (r a))) ≡ 0 = rw (gone, none_tree key 0 max last_of max_laws (with_at n (Some v) s)) refl in
-            with_at_other key 0 max last_of max_laws n None s' j d ∙ (t.kept j (omega arith) ∙ with_at_other key 0 max last_of max_laws n (Some v) s j d)
+            let z : count j (tree_at (with_at n (Some v) s) (top_of (r a))) ≡ 0 =
+            rw (gone, none_tree key 0 max last_of max_laws (with_at n (Some v) s)) refl in
+            with_at_other key 0 max last_of max_laws n None s' j d
+            ∙ (t.kept j (omega arith) ∙ with_at_other key 0 max last_of max_laws n (Some v) s j d)
       ];
     }
 
 -- taking out
-pub has_key : (s : Store) (r : ℕ → Option Root) → IsForest s r → (a : ℕ) (x : Span) → IsSome (entry_at key (key x) (entries (tree_at s (top_of (r a))))) →
+pub has_key : (s : Store) (r : ℕ → Option Root) → IsForest s r → (a : ℕ) (x : Span)
+    → IsSome (entry_at key (key x) (entries (tree_at s (top_of (r a))))) →
     HasKey key 0 max last_of s (top_of (r a)) x
 has_key s r f a x h = record { held = f.held a; rising = f.rising a; there = h }
 
@@ -282,13 +296,15 @@ pub record IsRemoved (s : Store) (r : ℕ → Option Root) (s' : Store) (a m : �
   pub held : IsHeld key 0 max last_of (with_at n None s') k
   pub entries : entries (tree_at (with_at n None s') k) ≡ xs
   pub kept : (b j : ℕ) → (a ≡ b → ⊥) → 1 ≤ count j (tree_at s (top_of (r b))) → with_at n None s' j ≡ s j
-  pub whole : (j : ℕ) → IsSome (with_at n None s' j) → (1 ≤ count j (tree_at (with_at n None s') k)) ⊎ (IsSome (s j) × (count j (tree_at s (top_of (r a))) ≡ 0))
+  pub whole : (j : ℕ) → IsSome (with_at n None s' j)
+      → (1 ≤ count j (tree_at (with_at n None s') k)) ⊎ (IsSome (s j) × (count j (tree_at s (top_of (r a))) ≡ 0))
   pub apart : (b j : ℕ) → (a ≡ b → ⊥) → 1 ≤ count j (tree_at s (top_of (r b))) → count j (tree_at (with_at n None s') k) ≡ 0
 
 pub removed : (s : Store) (r : ℕ → Option Root) → IsForest s r → (s' : Store) (a m : ℕ) (xs : List Span) (n : ℕ) (k : Option (Link ℕ)) →
     IsWithout key 0 max last_of s s' (top_of (r a)) xs n k → IsRemoved s r s' a m xs n k
 removed s r f s' a m xs n k t =
-    let gone : count n (tree_at s' k) ≡ 0 = (let d = t.count n in let e = is_self key 0 max last_of max_laws n in let o = (f.held a).once n in omega arith) in
+    let gone : count n (tree_at s' k) ≡ 0 =
+    (let d = t.count n in let e = is_self key 0 max last_of max_laws n in let o = (f.held a).once n in omega arith) in
     let g = kept key 0 max last_of max_laws s' (with_at n None s') k t.held
     (λ j h. with_at_other key 0 max last_of max_laws n None s' j (is_not n j (tree_at s' k) gone h)) in
     record {
@@ -310,7 +326,8 @@ removed s r f s' a m xs n k t =
     }
 
 pub removed_change : (s : Store) (r : ℕ → Option Root) → IsForest s r → (s' : Store) (a m : ℕ) (x : Span) (n : ℕ) (o : Option Root) →
-    IsSome (entry_at key (key x) (entries (tree_at s (top_of (r a))))) → IsRemoved s r s' a m (without_key key (key x) (entries (tree_at s (top_of (r a))))) n
+    IsSome (entry_at key (key x) (entries (tree_at s (top_of (r a)))))
+    → IsRemoved s r s' a m (without_key key (key x) (entries (tree_at s (top_of (r a))))) n
     (top_of o) → len_of o + 1 ≡ len_of (r a) → IsChange s r (with_at n None s') a o
 removed_change s r f s' a m x n o there d e =
     let old = entries (tree_at s (top_of (r a))) in
@@ -333,27 +350,32 @@ pub done : (s : Store) (r : ℕ → Option Root) → IsForest s r → (s' : Stor
     IsChange s r s' a o → entries (tree_at s' (top_of o)) ≡ xs → r' ≡ with_at a o r → IsDone s r s' r' a xs
 done s r f s' r' a o xs c is e = subst (λ (q : ℕ → Option Root). IsDone s r s' q a xs) (sym e) (record {
   forest = changed s r f s' a o c;
-  triples = λ b. elim (eqb b a) as (λ t. eqb b a ≡ t → entries (tree_at s' (top_of (cond t o (r b)))) ≡ cond t xs (entries (tree_at s (top_of (r b))))) [
-    | true ↦ λ q. is
-    | false ↦ λ q. ap entries (other s r f s' a o c b (λ e. eqb-false b a q (sym e))).tree
-  ] refl;
+  triples = λ b. elim (eqb b a) as
+      (λ t. eqb b a ≡ t → entries (tree_at s' (top_of (cond t o (r b)))) ≡ cond t xs (entries (tree_at s (top_of (r b))))) [
+        | true ↦ λ q. is
+        | false ↦ λ q. ap entries (other s r f s' a o c b (λ e. eqb-false b a q (sym e))).tree
+      ] refl;
 })
 
 -- the same under the names that the code gives the parts
-pub placing : (s s1 : Store) (r : ℕ → Option Root) → IsForest s r → (n : ℕ) (v : Stored Span ℕ) → s n ≡ None → s1 ≡ with_at n (Some v) s → (a : ℕ) (x : Span) →
-    x.area < 2 ^ 64 → IsNew x.area (entries (tree_at s (top_of (r a)))) → (t : Option (Link ℕ)) → t ≡ top_of (r a) → IsPlaceFor key 0 max last_of s1 t n x
+pub placing : (s s1 : Store) (r : ℕ → Option Root) → IsForest s r → (n : ℕ) (v : Stored Span ℕ) → s n ≡ None → s1 ≡ with_at n (Some v) s
+    → (a : ℕ) (x : Span) →
+    x.area < 2 ^ 64 → IsNew x.area (entries (tree_at s (top_of (r a)))) → (t : Option (Link ℕ)) → t ≡ top_of (r a)
+    → IsPlaceFor key 0 max last_of s1 t n x
 placing s s1 r f n v e is a x p new t d = subst (λ (q : Option (Link ℕ)). IsPlaceFor key 0 max last_of s1 q n x) (sym d)
     (subst (λ (q : Store). IsPlaceFor key 0 max last_of q (top_of (r a)) n x) (sym is) (place_for s r f n v e a x p new))
 
 pub adding : (s s1 s' : Store) (r : ℕ → Option Root) → IsForest s r → (n : ℕ) (v : Stored Span ℕ) → s n ≡ None → s1 ≡ with_at n (Some v) s →
-    (a : ℕ) (x : Span) → x.area < 2 ^ 64 → IsNew x.area (entries (tree_at s (top_of (r a)))) → (t : Option (Link ℕ)) → t ≡ top_of (r a) → (k : Link ℕ) (l : ℕ) →
+    (a : ℕ) (x : Span) → x.area < 2 ^ 64 → IsNew x.area (entries (tree_at s (top_of (r a)))) → (t : Option (Link ℕ)) → t ≡ top_of (r a)
+    → (k : Link ℕ) (l : ℕ) →
     l ≡ len_of (r a) + 1 → IsPlaced key 0 max last_of s1 s' t n x k → IsAdded s r s' a x k n l
 adding s s1 s' r f n v e is a x p new t d k l q w =
     added s r f n v e s' a x k l q p new (subst (λ (g : Store). IsPlaced key 0 max last_of g s' (top_of (r a)) n x k) is
     (subst (λ (g : Option (Link ℕ)). IsPlaced key 0 max last_of s1 s' g n x k) d w))
 
 pub added_done : (s s1 s' : Store) (r r' : ℕ → Option Root) → IsForest s r → (n : ℕ) (v : Stored Span ℕ) → s n ≡ None → s1 ≡ with_at n (Some v) s →
-    (a : ℕ) (x : Span) → x.area < 2 ^ 64 → IsNew x.area (entries (tree_at s (top_of (r a)))) → (t : Option (Link ℕ)) → t ≡ top_of (r a) → (k : Link ℕ) (l : ℕ) →
+    (a : ℕ) (x : Span) → x.area < 2 ^ 64 → IsNew x.area (entries (tree_at s (top_of (r a)))) → (t : Option (Link ℕ)) → t ≡ top_of (r a)
+    → (k : Link ℕ) (l : ℕ) →
     l ≡ len_of (r a) + 1 → IsPlaced key 0 max last_of s1 s' t n x k → r' ≡ with_at a (Some (record { tree = k; len = l })) r →
     IsDone s r s' r' a (with_entry key x (entries (tree_at s (top_of (r a)))))
 added_done s s1 s' r r' f n v e is a x p new t d k l q w y =
@@ -361,8 +383,10 @@ added_done s s1 s' r r' f n v e is a x p new t d k l q w y =
     done s r f s' r' a (Some (record { tree = k; len = l })) _ m.change m.entries y
 
 -- the node is given back where the root finds no room
-pub added_back : (s s1 s' s'' : Store) (r r' : ℕ → Option Root) → IsForest s r → (n : ℕ) (v : Stored Span ℕ) → s n ≡ None → s1 ≡ with_at n (Some v) s →
-    (a : ℕ) (x : Span) → x.area < 2 ^ 64 → IsNew x.area (entries (tree_at s (top_of (r a)))) → (t : Option (Link ℕ)) → t ≡ top_of (r a) → (k : Link ℕ) →
+pub added_back : (s s1 s' s'' : Store) (r r' : ℕ → Option Root) → IsForest s r → (n : ℕ) (v : Stored Span ℕ) → s n ≡ None
+    → s1 ≡ with_at n (Some v) s →
+    (a : ℕ) (x : Span) → x.area < 2 ^ 64 → IsNew x.area (entries (tree_at s (top_of (r a)))) → (t : Option (Link ℕ)) → t ≡ top_of (r a)
+    → (k : Link ℕ) →
     IsPlaced key 0 max last_of s1 s' t n x k → r a ≡ None → s'' ≡ with_at n None s' → r' ≡ r →
     IsForest s'' r' × ((b : ℕ) → tree_at s'' (top_of (r' b)) ≡ tree_at s (top_of (r b)))
 added_back s s1 s' s'' r r' f n v e is a x p new t d k w z y g =
@@ -382,7 +406,8 @@ removed_done s s1 s' r r' f a x root ra there n k w y o ok len e =
     let xs = without_key key (key x) (entries (tree_at s (top_of (r a)))) in
     let w' : IsWithout key 0 max last_of s s1 (top_of (r a)) xs n k =
     subst (λ (g : Option (Link ℕ)). IsWithout key 0 max last_of s s1 g (without_key key (key x) (entries (tree_at s g))) n k) top w in
-    let d : IsRemoved s r s1 a 0 xs n (top_of o) = subst (λ (g : Option (Link ℕ)). IsRemoved s r s1 a 0 xs n g) (sym ok) (removed s r f s1 a 0 xs n k w') in
+    let d : IsRemoved s r s1 a 0 xs n (top_of o) =
+    subst (λ (g : Option (Link ℕ)). IsRemoved s r s1 a 0 xs n g) (sym ok) (removed s r f s1 a 0 xs n k w') in
     let c = removed_change s r f s1 a 0 x n o there d (len ∙ ap len_of (sym ra)) in
     subst (λ (g : Store). IsDone s r g r' a xs) (sym y) (done s r f (with_at n None s1) r' a o xs c d.entries e)
 
@@ -408,7 +433,8 @@ empty_forest s r z e =
 -- the count of a tree from which one is taken
 pub some_left : (s : Store) (r : ℕ → Option Root) → IsForest s r → (a k : ℕ) (root : Root) → r a ≡ Some root →
     IsSome (entry_at key k (entries (tree_at s (top_of (r a))))) → 1 ≤ root.len
-some_left s r f a k root e there = let h = length_without k (entries (tree_at s (top_of (r a)))) there in let l = f.len a in let d = ap len_of e in omega arith
+some_left s r f a k root e there = let h = length_without k (entries (tree_at s (top_of (r a)))) there in let l = f.len a in let d =
+    ap len_of e in omega arith
 
 pub one_left : (s s1 : Store) (r : ℕ → Option Root) → IsForest s r → (a k : ℕ) (root : Root) → r a ≡ Some root →
     IsSome (entry_at key k (entries (tree_at s (top_of (r a))))) → (n : ℕ) →
@@ -424,5 +450,6 @@ one_left s s1 r f a k root e there n w =
     let d = ap len_of e in
     omega arith
 
-pub root_held : (s : Store) (r : ℕ → Option Root) → IsForest s r → (a : ℕ) (root : Root) → r a ≡ Some root → IsHeld key 0 max last_of s (Some root.tree)
+pub root_held : (s : Store) (r : ℕ → Option Root) → IsForest s r → (a : ℕ) (root : Root) → r a ≡ Some root
+    → IsHeld key 0 max last_of s (Some root.tree)
 root_held s r f a root e = subst (IsHeld key 0 max last_of s) (ap top_of e) (f.held a)

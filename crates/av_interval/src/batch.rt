@@ -1,4 +1,5 @@
-// The next overlaps past a place, in one way through the tree.
+//! The next overlaps past a place, in one way through the tree.
+
 ghost use Rattle.std.specs.Prelude.{◌≡◌, ◌+◌, ◌*◌, ◌-◌, ◌<◌, ◌≤◌, [], ◌∷◌, ◌++◌, length, take};
 ghost use Rattle.arrayvec.specs.ArrayVec.{array_vec_len};
 ghost use Rattle.av_arena.specs.Tree.{entries, height};
@@ -33,7 +34,10 @@ fn add(node: &Node, index: u64, found: &mut Batch)
     found.push((node.first, node.area));
 }
 
-/// Adds the overlaps below `number` that are past `after`, as long as there is room.
+/// Adds the overlaps below `number`, if there is one, that are past `after`, as long as there is
+/// room.
+#[cycle(gather)]
+#[inline(always)]
 fn gather<N: Nodes<L>, L: Ledger>(
     nodes: &N,
     number: Option<u64>,
@@ -59,6 +63,31 @@ fn gather<N: Nodes<L>, L: Ledger>(
     let Some(number) = number else {
         return;
     };
+    gather_below(nodes, number, index, after, found, steps);
+}
+
+/// The same, where there is a node and room.
+#[cycle(gather)]
+fn gather_below<N: Nodes<L>, L: Ledger>(
+    nodes: &N,
+    number: u64,
+    index: u64,
+    after: &Option<(u64, u64)>,
+    found: &mut Batch,
+    steps: &mut Steps<L>,
+)
+    requires node { N.is_node nodes.now number }
+    requires ordered { IsOrdered (entries (N.below nodes.now number)) }
+    requires room { array_vec_len found.old < BATCH }
+    ensures found { found.new.items ≡ take BATCH (found.old.items
+        ++ overlaps_past after.now index (entries (N.below nodes.now number))) }
+    ensures cost { steps.new ≤ steps.old + (array_vec_len found.new - array_vec_len found.old + 2)
+        * height (N.below nodes.now number) }
+    ensures cost_inside { IsReached index (entries (N.below nodes.now number)) →
+        steps.new ≤ steps.old + (array_vec_len found.new - array_vec_len found.old
+        + edges after.now index (entries (N.below nodes.now number)))
+        * height (N.below nodes.now number) }
+{
     let node = nodes.visit(number, steps);
     let right = child_that_reaches(node.right, index);
     if !comes_after(&node, *after) {

@@ -1,4 +1,5 @@
-// Trees of spans, read node by node.
+//! Trees of spans, read node by node.
+
 ghost use Rattle.std.specs.Prelude.{◌≡◌, ℕ, ◌+◌, MatchOption};
 ghost use Rattle.av_interval.specs.Nodes.{Tree};
 ghost use Rattle.av_arena.specs.Tree.{Leaf, entries};

@@ -1,3 +1,5 @@
+//! Which anon_vmas have a tree, and its root.
+
 ghost use Rattle.std.specs.Prelude.{◌≡◌, ℕ, Some, None, IsSome, MatchResult};
 ghost use Rattle.av_interval.specs.Roots.{root_of};
 ghost use Rattle.av_base.specs.Words.{with_at};

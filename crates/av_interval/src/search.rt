@@ -1,5 +1,7 @@
-// The first overlap past a place.
-ghost use Rattle.std.specs.Prelude.{◌≡◌, ◌+◌, ◌*◌, ◌^◌, ◌<◌, ◌≤◌, length, IsTrue, IsSome, Some, None, is_some, MatchOption};
+//! The first overlap past a place.
+
+ghost use Rattle.std.specs.Prelude.{◌≡◌, ◌+◌, ◌*◌, ◌^◌, ◌<◌, ◌≤◌, length, IsTrue, IsSome, Some};
+ghost use Rattle.std.specs.Prelude.{None, is_some, MatchOption};
 ghost use Rattle.std.specs.Option.{option_map};
 ghost use Rattle.av_interval.specs.Span.{top};
 ghost use Rattle.av_arena.specs.Tree.{entries, height};

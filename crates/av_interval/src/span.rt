@@ -1,3 +1,5 @@
+//! What is kept in the trees: the linear indices of an area.
+
 ghost use Rattle.std.specs.Prelude.{max};
 ghost use Rattle.av_interval.specs.Span.{last_of, max_laws};
 ghost use Rattle.av_interval.specs.Span.{key};

@@ -1,4 +1,7 @@
-ghost use Rattle.std.specs.Prelude.{◌≡◌, ℕ, ◌+◌, ◌*◌, ◌^◌, ◌<◌, ◌≤◌, [], is_ok, length, take, IsSome, OnErr, if◌then◌else◌};
+//! The trees of all anon_vmas, with the calls that change them.
+
+ghost use Rattle.std.specs.Prelude.{◌≡◌, ℕ, ◌+◌, ◌*◌, ◌^◌, ◌<◌, ◌≤◌, [], is_ok, length, take};
+ghost use Rattle.std.specs.Prelude.{IsSome, OnErr, if◌then◌else◌};
 ghost use Rattle.av_arena.specs.Order.{entry_at, with_entry, without_key};
 ghost use Rattle.av_interval.specs.Spans.{IsNew, height_at, tree_of, triples};
 ghost use Rattle.av_interval.specs.Span.{triple};

@@ -46,7 +46,8 @@ pub none : (ahead : Ahead) (after : Option (ℕ × ℕ)) (index : ℕ) (spans : 
 none ahead after index spans h e l = first_none after index spans (h.next ∙ ap (λ xs. xs ++ h.others) e ∙ h.whole l)
 
 -- a new batch gives one, or nothing is left
-pub first_of_batch : (old new : Ahead) (after : Option (ℕ × ℕ)) (index : ℕ) (spans : List Span) (result : Option (ℕ × ℕ)) → IsAhead old after index spans →
+pub first_of_batch : (old new : Ahead) (after : Option (ℕ × ℕ)) (index : ℕ) (spans : List Span) (result : Option (ℕ × ℕ))
+    → IsAhead old after index spans →
     old.given ≡ 0 → IfNone result (drop old.given old.places.items ≡ []) →
     IfSome result (λ place. drop old.given old.places.items ≡ place ∷ drop new.given new.places.items) → new.places ≡ old.places →
     (result ≡ overlap_of after index spans) × IfSome result (λ place. IsAhead new (Some place) index spans)

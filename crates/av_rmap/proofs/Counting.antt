@@ -10,7 +10,8 @@ module _ {X : Type 0} (same : X → X → Bool) (itself : (x : X) → same x x �
   without_one k [] = []
   without_one k (j ∷ js) = cond (same k j) js (j ∷ without_one k js)
 
-  counted : (test : X → Bool) (k : X) (js : List X) → 0 < how_many (same k) js → how_many test js ≡ cond (test k) 1 0 + how_many test (without_one k js)
+  counted : (test : X → Bool) (k : X) (js : List X) → 0 < how_many (same k) js
+      → how_many test js ≡ cond (test k) 1 0 + how_many test (without_one k js)
   counted test k [] h = absurd (omega arith)
   counted test k (j ∷ js) h = is (same k j) refl h (counted test k js)
     where

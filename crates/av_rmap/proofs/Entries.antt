@@ -7,7 +7,7 @@ use Rattle.av_chain.specs.Links.{one_if}
 use Rattle.av_pagetable.specs.declared.pte.Pte.{Pte}
 use Rattle.av_pagetable.specs.declared.pte.Pte.TheVariants.{Empty, Zero, Here, Away}
 use Rattle.av_vma.specs.declared.area.Area.{Area}
-use Rattle.av_vma.specs.Join.{index_of}
+use Rattle.av_vma.specs.Index.{index_of}
 use Rattle.av_vma.specs.Pages.{has_page}
 use Rattle.av_interval.specs.declared.span.Span.{Span}
 use Rattle.av_anon.specs.Spans.{is_of}
@@ -52,7 +52,8 @@ pub record IsFound (view : View) (f : Pte → Bool) (area : Area) (k : Key) : Ty
   pub here : has_page area k.1 ≡ true
   pub named : f (view.entry k.0 k.1) ≡ true
 
-look-found : (view : View) (f : Pte → Bool) (i : ℕ) (k : Key) (area : Area) → 0 < how_many (same_key k) (found_in view f i (Some area)) → IsFound view f area k
+look-found : (view : View) (f : Pte → Bool) (i : ℕ) (k : Key) (area : Area) → 0 < how_many (same_key k) (found_in view f i (Some area))
+    → IsFound view f area k
 look-found view f i k area h = is (holds i area) (f (view.entry area.pid (page_at i area))) refl refl
   where
     one : Key
@@ -89,7 +90,8 @@ look-finds view f home k named r =
     ∙ ap (λ b. cond b 1 0 + 0) (is_key k (r.area.pid, page_at home.1 r.area) (sym r.of) (sym there.1))
 
 -- of a key of the frame, only the look in its own area finds it
-look-of : (view : View) (f : Pte → Bool) (home : ℕ × ℕ) (k : Key) → AreApart view → f (view.entry k.0 k.1) ≡ true → (r : IsReached view home k.0 k.1) →
+look-of : (view : View) (f : Pte → Bool) (home : ℕ × ℕ) (k : Key) → AreApart view → f (view.entry k.0 k.1) ≡ true
+    → (r : IsReached view home k.0 k.1) →
     (a : ℕ) → how_many (same_key k) (found_in view f home.1 (view.areas a)) ≡ cond (a == r.number) 1 0
 look-of view f home k apart named r a = elim (cases_eq a r.number) [
   | inl e ↦ ap (λ o. how_many (same_key k) (found_in view f home.1 o)) (ap view.areas e ∙ r.stands)
@@ -108,19 +110,22 @@ look-of view f home k apart named r a = elim (cases_eq a r.number) [
 look-none : (view : View) (f : Pte → Bool) (i : ℕ) (k : Key) → f (view.entry k.0 k.1) ≡ false → (o : Option Area) →
     how_many (same_key k) (found_in view f i o) ≡ 0
 look-none view f i k not_it None = refl
-look-none view f i k not_it (Some area) = not_more (how_many (same_key k) (found_in view f i (Some area))) (λ h. two (look-found view f i k area h).named)
+look-none view f i k not_it (Some area) =
+    not_more (how_many (same_key k) (found_in view f i (Some area))) (λ h. two (look-found view f i k area h).named)
   where
     two : f (view.entry k.0 k.1) ≡ true → ⊥
     two h = cc
 
-walk-of : (view : View) (f : Pte → Bool) (i : ℕ) (k : Key) (n : ℕ) → ((a : ℕ) → how_many (same_key k) (found_in view f i (view.areas a)) ≡ cond (a == n) 1 0) →
+walk-of : (view : View) (f : Pte → Bool) (i : ℕ) (k : Key) (n : ℕ)
+    → ((a : ℕ) → how_many (same_key k) (found_in view f i (view.areas a)) ≡ cond (a == n) 1 0) →
     (xs : List Span) → how_many (same_key k) (walk_of view f i xs) ≡ how_many (is_of n) xs
 walk-of view f i k n each [] = refl
 walk-of view f i k n each (x ∷ xs) =
     let h = each x.area in let rest = walk-of view f i k n each xs in
     many-append (same_key k) (found_in view f i (view.areas x.area)) (walk_of view f i xs) ∙ omega (arith, h, rest)
 
-walk-none : (view : View) (f : Pte → Bool) (i : ℕ) (k : Key) → ((o : Option Area) → how_many (same_key k) (found_in view f i o) ≡ 0) → (xs : List Span) →
+walk-none : (view : View) (f : Pte → Bool) (i : ℕ) (k : Key) → ((o : Option Area) → how_many (same_key k) (found_in view f i o) ≡ 0)
+    → (xs : List Span) →
     how_many (same_key k) (walk_of view f i xs) ≡ 0
 walk-none view f i k each [] = refl
 walk-none view f i k each (x ∷ xs) =

@@ -18,7 +18,8 @@ use Rattle.av_rmap.proofs.SpanLemmas.{AreSpans, are_spans, overlaps-holds, many-
 abbrev numbers_of : List Span → List ℕ
 numbers_of xs = map (λ (x : Span). x.area) xs
 
-by-area : (view : View) (i : ℕ) (xs : List Span) → AreSpans view xs → how_many (overlaps i) xs ≡ how_many (λ a. is_held i (view.areas a)) (numbers_of xs)
+by-area : (view : View) (i : ℕ) (xs : List Span) → AreSpans view xs
+    → how_many (overlaps i) xs ≡ how_many (λ a. is_held i (view.areas a)) (numbers_of xs)
 by-area view i [] all = refl
 by-area view i (x ∷ xs) all =
     let rest = by-area view i xs all.1 in
@@ -37,7 +38,8 @@ spans-are-areas areas f spans v i order =
     let view = view_with areas f spans (λ _ _. Empty) in
     let spanned : AreSpanned view = record { spanned = order.spanned; areas_fit = order.areas_fit } in
     by-area view i (spans v) (are_spans view v spanned)
-    ∙ numbers-as-many (λ a. is_held i (areas a)) (numbers_of (spans v)) (f.users v) (λ n. by-number n (spans v) ∙ each n ∙ sym (order.inverse.inverse n v))
+    ∙ numbers-as-many (λ a. is_held i (areas a)) (numbers_of (spans v)) (f.users v)
+    (λ n. by-number n (spans v) ∙ each n ∙ sym (order.inverse.inverse n v))
   where
     linked : (n : ℕ) (b : Bool) → is_in v (f.chain n) ≡ b → length (cond b (present n (areas n)) []) ≡ one_if b
     linked n false e = refl

@@ -48,7 +48,8 @@ key-after : (after : Option (ℕ × ℕ)) (i : ℕ) (k : ℕ × ℕ) (x : Span) 
 key-after after i k x [] all h = cc
 key-after after i k x (y ∷ ys) all h = is (λ h'. key-after after i k x ys all.1 h') (is_past after y && overlaps i y) refl
   where
-    is : (overlap_of after i ys ≡ Some k → is_past (Some k) x ≡ false) → (b : Bool) → (is_past after y && overlaps i y) ≡ b → is_past (Some k) x ≡ false
+    is : (overlap_of after i ys ≡ Some k → is_past (Some k) x ≡ false) → (b : Bool) → (is_past after y && overlaps i y) ≡ b
+        → is_past (Some k) x ≡ false
     is again true e =
         let key : (y.first, y.area) ≡ k = same (sym (ap (λ b. cond b (Some (y.first, y.area)) (overlap_of after i ys)) e) ∙ h) in
         subst (λ (j : ℕ × ℕ). is_past (Some j) x ≡ false) key (not_past_before x y all.0)
@@ -90,7 +91,8 @@ skip-count : (i : ℕ) (after : Option (ℕ × ℕ)) (x : Span) (xs : List Span)
     how_many (overlaps i) (rest after (x ∷ xs)) ≡ how_many (overlaps i) (rest after xs)
 skip-count i after x xs none = is (is_past after x) refl (overlaps i x) refl
   where
-    is : (b : Bool) → is_past after x ≡ b → (c : Bool) → overlaps i x ≡ c → how_many (overlaps i) (rest after (x ∷ xs)) ≡ how_many (overlaps i) (rest after xs)
+    is : (b : Bool) → is_past after x ≡ b → (c : Bool) → overlaps i x ≡ c
+        → how_many (overlaps i) (rest after (x ∷ xs)) ≡ how_many (overlaps i) (rest after xs)
     is false e c e' = ap (λ b. how_many (overlaps i) (cond b (x ∷ rest after xs) (rest after xs))) e
     is true e true e' = cc
     is true e false e' = ap (λ b. how_many (overlaps i) (cond b (x ∷ rest after xs) (rest after xs))) e
@@ -99,10 +101,12 @@ skip-count i after x xs none = is (is_past after x) refl (overlaps i x) refl
 next-found : (view : View) (f : Pte → Bool) (i : ℕ) (after : Option (ℕ × ℕ)) (k : ℕ × ℕ) (xs : List Span) → IsOrdered xs → AreSpans view xs →
     overlap_of after i xs ≡ Some k → Found view f i after k xs
 next-found view f i after k [] ordered spans h = cc
-next-found view f i after k (x ∷ xs) ordered spans h = is (λ h'. next-found view f i after k xs ordered.1 spans.1 h') (is_past after x) (overlaps i x) refl refl
+next-found view f i after k (x ∷ xs) ordered spans h =
+    is (λ h'. next-found view f i after k xs ordered.1 spans.1 h') (is_past after x) (overlaps i x) refl refl
   where
     -- where x is not what is found
-    skipped : (overlap_of after i xs ≡ Some k → Found view f i after k xs) → overlap_of after i xs ≡ Some k → (is_past after x && overlaps i x) ≡ false →
+    skipped : (overlap_of after i xs ≡ Some k → Found view f i after k xs) → overlap_of after i xs ≡ Some k
+        → (is_past after x && overlaps i x) ≡ false →
         Found view f i after k (x ∷ xs)
     skipped again h' none =
         let found = again h' in
@@ -112,13 +116,16 @@ next-found view f i after k (x ∷ xs) ordered spans h = is (λ h'. next-found v
           area = found.area;
           stands = found.stands;
           there = found.there;
-          walk = skip-walk view f i after x xs spans.0 none ∙ found.walk ∙ sym (ap (λ zs. found_in view f i (view.areas k.1) ++ walk_of view f i zs) later);
+          walk = skip-walk view f i after x xs spans.0 none ∙ found.walk
+              ∙ sym (ap (λ zs. found_in view f i (view.areas k.1) ++ walk_of view f i zs) later);
           count = skip-count i after x xs none ∙ found.count ∙ sym (ap (λ zs. 1 + how_many (overlaps i) zs) later);
         }
 
-    is : (overlap_of after i xs ≡ Some k → Found view f i after k xs) → (b c : Bool) → is_past after x ≡ b → overlaps i x ≡ c → Found view f i after k (x ∷ xs)
+    is : (overlap_of after i xs ≡ Some k → Found view f i after k xs) → (b c : Bool) → is_past after x ≡ b → overlaps i x ≡ c
+        → Found view f i after k (x ∷ xs)
     is again true true e e' =
-        let key : (x.first, x.area) ≡ k = same (sym (ap (λ b. cond b (Some (x.first, x.area)) (overlap_of after i xs)) (ap (λ b. b && overlaps i x) e ∙ e'))
+        let key : (x.first, x.area) ≡ k =
+        same (sym (ap (λ b. cond b (Some (x.first, x.area)) (overlap_of after i xs)) (ap (λ b. b && overlaps i x) e ∙ e'))
         ∙ h) in
         let here : rest after (x ∷ xs) ≡ x ∷ xs = ap (λ b. cond b (x ∷ rest after xs) (rest after xs)) e
         ∙ ap (λ zs. x ∷ zs) (rest-all after x xs ordered.0 e) in
@@ -131,7 +138,8 @@ next-found view f i after k (x ∷ xs) ordered spans h = is (λ h'. next-found v
           there = sym (overlaps-holds view x i spans.0) ∙ e';
           walk = ap (walk_of view f i) here ∙ ap (λ a. found_in view f i (view.areas a) ++ walk_of view f i xs) area
               ∙ sym (ap (λ zs. found_in view f i (view.areas k.1) ++ walk_of view f i zs) later);
-          count = ap (how_many (overlaps i)) here ∙ ap (λ t. cond t 1 0 + how_many (overlaps i) xs) e' ∙ sym (ap (λ zs. 1 + how_many (overlaps i) zs) later);
+          count = ap (how_many (overlaps i)) here ∙ ap (λ t. cond t 1 0 + how_many (overlaps i) xs) e'
+              ∙ sym (ap (λ zs. 1 + how_many (overlaps i) zs) later);
         }
       where
         same : {j : ℕ × ℕ} → Some j ≡ Some k → j ≡ k
@@ -141,9 +149,11 @@ next-found view f i after k (x ∷ xs) ordered spans h = is (λ h'. next-found v
         all_later [] all = refl
         all_later (y ∷ ys) all = ap (λ b. cond b (y ∷ rest (Some (x.first, x.area)) ys) (rest (Some (x.first, x.area)) ys)) (before-past x y all.0)
             ∙ ap (λ zs. y ∷ zs) (all_later ys all.1)
-    is again true false e e' = skipped again (sym (ap (λ b. cond b (Some (x.first, x.area)) (overlap_of after i xs)) (ap (λ b. b && overlaps i x) e ∙ e')) ∙ h)
+    is again true false e e' =
+        skipped again (sym (ap (λ b. cond b (Some (x.first, x.area)) (overlap_of after i xs)) (ap (λ b. b && overlaps i x) e ∙ e')) ∙ h)
         (ap (λ b. b && overlaps i x) e ∙ e')
-    is again false c e e' = skipped again (sym (ap (λ b. cond b (Some (x.first, x.area)) (overlap_of after i xs)) (ap (λ b. b && overlaps i x) e)) ∙ h)
+    is again false c e e' =
+        skipped again (sym (ap (λ b. cond b (Some (x.first, x.area)) (overlap_of after i xs)) (ap (λ b. b && overlaps i x) e)) ∙ h)
         (ap (λ b. b && overlaps i x) e)
 
 -- where `next` finds none, nothing is left
@@ -174,12 +184,14 @@ pub turn-holds : (view : View) (f : Pte → Bool) (i : ℕ) (after : Option (ℕ
 turn-holds view f i after k xs t = subst (λ (o : Option Area). IsSomeAnd o (λ a. holds i a ≡ true)) (sym t.stands) t.there
 
 -- the last turn finds no area, and nothing is left
-pub last : (view : View) (f : Pte → Bool) (home : ℕ × ℕ) (after : Option (ℕ × ℕ)) → AreSpanned view → overlap_of after home.1 (view.spans home.0) ≡ None →
+pub last : (view : View) (f : Pte → Bool) (home : ℕ × ℕ) (after : Option (ℕ × ℕ)) → AreSpanned view
+    → overlap_of after home.1 (view.spans home.0) ≡ None →
     (walk_of view f home.1 (rest after (view.spans home.0)) ≡ []) × (how_many (overlaps home.1) (rest after (view.spans home.0)) ≡ 0)
 last view f home after spanned none = next-none view f home.1 after (view.spans home.0) (are_spans view home.0 spanned) none
 
 -- what was found so far, what is left, and the whole, where the look found nothing
-pub turn_without : {X : Type 0} (items left later look whole : List X) → items ++ left ≡ whole → left ≡ look ++ later → [] ≡ look → items ++ later ≡ whole
+pub turn_without : {X : Type 0} (items left later look whole : List X) → items ++ left ≡ whole → left ≡ look ++ later → [] ≡ look
+    → items ++ later ≡ whole
 turn_without items left later look whole h e none = ap (λ ks. items ++ ks) (sym (e ∙ ap (λ ks. ks ++ later) (sym none))) ∙ h
 
 -- and where it found one
@@ -204,9 +216,11 @@ unseen view frame i None e = refl
 unseen view frame i (Some area) e = ap (λ b. cond b ((area.pid, page_at i area) ∷ []) []) e
 
 -- and one that finds it
-pub seen-there : (view : View) (frame i : ℕ) (o : Option Area) → is_seen_in view frame i o ≡ true → (k : Key) × (names_seen frame (view.entry k.0 k.1) ≡ true)
+pub seen-there : (view : View) (frame i : ℕ) (o : Option Area) → is_seen_in view frame i o ≡ true
+    → (k : Key) × (names_seen frame (view.entry k.0 k.1) ≡ true)
 seen-there view frame i None e = cc
-seen-there view frame i (Some area) e = ((area.pid, page_at i area), second (holds i area) (names_seen frame (view.entry area.pid (page_at i area))) e)
+seen-there view frame i (Some area) e =
+    ((area.pid, page_at i area), second (holds i area) (names_seen frame (view.entry area.pid (page_at i area))) e)
   where
     second : (b c : Bool) → (b && c) ≡ true → c ≡ true
     second true c h = h

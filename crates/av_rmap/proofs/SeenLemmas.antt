@@ -85,8 +85,12 @@ pub look-stays : (f i : ℕ) (o : Option Area) (view : View) (place : Key) → I
 look-stays f i None view place at h = absurd at
 look-stays f i (Some area) view place at h =
     let page = page_at i area in
-    let it : unseen f (view.entry area.pid page) ≡ view.entry area.pid page = subst (λ (k : Key). unseen f (view.entry k.0 k.1) ≡ view.entry k.0 k.1) at h in
-    λ n. record view { entry = λ q o. (sym (same-entry area.pid page view.entry q o) ∙ ap (λ e. with_entry area.pid page e view.entry q o) (sym it)) n }
+    let it : unseen f (view.entry area.pid page) ≡ view.entry area.pid page =
+    subst (λ (k : Key). unseen f (view.entry k.0 k.1) ≡ view.entry k.0 k.1) at h in
+    λ n. record view {
+      entry =
+          λ q o. (sym (same-entry area.pid page view.entry q o) ∙ ap (λ e. with_entry area.pid page e view.entry q o) (sym it)) n;
+    }
 
 -- where it was changed
 pub look-clears : (f i : ℕ) (o : Option Area) (view new : View) (place : Key) (e : Pte) → IsSomeAnd o (λ area. place ≡ (area.pid, page_at i area)) →
@@ -119,7 +123,8 @@ none-cleared f view home spanned apart covered = record {
     unnamed true e = absurd (omega (arith, e))
 
 pub all-cleared : (f : ℕ) (before now : View) (left : List Key) → IsCleared f before now left → left ≡ [] → now ≡ with_unseen f before
-all-cleared f before now left h none = h.rest ∙ (λ i. record before { entry = λ p page. h.done (p, page) (ap (how_many (same_key (p, page))) none) i })
+all-cleared f before now left h none = h.rest
+    ∙ (λ i. record before { entry = λ p page. h.done (p, page) (ap (how_many (same_key (p, page))) none) i })
 
 pub one-cleared : (f i : ℕ) (before now new : View) (left later : List Key) (a : ℕ) → IsCleared f before now left →
     left ≡ found_in before (names_frame f) i (before.areas a) ++ later
@@ -158,7 +163,8 @@ one-cleared f i before now new left later a h e is = by (before.areas a) refl
         same_at p o true e = unseen-twice f (now.entry A.pid (page_at i A)) ∙ h.same A.pid (page_at i A)
             ∙ ap (λ (k : Key). unseen f (before.entry k.0 k.1)) (is_it p o e)
 
-        look-other : (k : Key) → same_key k (A.pid, page_at i A) ≡ false → (b : Bool) → how_many (same_key k) (cond b ((A.pid, page_at i A) ∷ []) []) ≡ 0
+        look-other : (k : Key) → same_key k (A.pid, page_at i A) ≡ false → (b : Bool)
+            → how_many (same_key k) (cond b ((A.pid, page_at i A) ∷ []) []) ≡ 0
         look-other k e false = refl
         look-other k e true = ap (λ b. cond b 1 0 + 0) e
 
@@ -181,9 +187,11 @@ cleared-turn frame home before now left after k next spanned h ordered is some =
     turn before (names_frame frame) home after k spanned (subst IsOrdered spans ordered) (sym (ap (overlap_of after home.1) spans) ∙ sym is ∙ some)
 
 -- the last turn finds no area
-pub cleared-last : (frame : ℕ) (home : ℕ × ℕ) (before now : View) (left : List Key) (after : Option (ℕ × ℕ)) (next : Option (ℕ × ℕ)) → AreSpanned before →
+pub cleared-last : (frame : ℕ) (home : ℕ × ℕ) (before now : View) (left : List Key) (after : Option (ℕ × ℕ)) (next : Option (ℕ × ℕ))
+    → AreSpanned before →
     IsCleared frame before now left
     → next ≡ overlap_of after home.1 (now.spans home.0) → next ≡ None
-    → (walk_of before (names_frame frame) home.1 (rest after (before.spans home.0)) ≡ []) × (how_many (overlaps home.1) (rest after (before.spans home.0)) ≡ 0)
+    → (walk_of before (names_frame frame) home.1 (rest after (before.spans home.0)) ≡ [])
+    × (how_many (overlaps home.1) (rest after (before.spans home.0)) ≡ 0)
 cleared-last frame home before now left after next spanned h is none =
     last before (names_frame frame) home after spanned (sym (ap (λ (v : View). overlap_of after home.1 (v.spans home.0)) h.rest) ∙ sym is ∙ none)

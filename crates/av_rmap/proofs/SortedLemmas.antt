@@ -163,7 +163,8 @@ rising-same (k ∷ ks) (j ∷ js) rising also same =
     λ i. first i ∷ rest i
   where
     -- the first of one isn't before all of the other
-    before-none : (i h : Key) (is hs : List Key) → AreRising (h ∷ hs) → IsBefore i h → how_many (same_key i) (i ∷ is) ≡ how_many (same_key i) (h ∷ hs) → ⊥
+    before-none : (i h : Key) (is hs : List Key) → AreRising (h ∷ hs) → IsBefore i h
+        → how_many (same_key i) (i ∷ is) ≡ how_many (same_key i) (h ∷ hs) → ⊥
     before-none i h is hs rises before e =
         let none = none-after i (h ∷ hs) (before, AllByRecursion-map (IsBefore h) (IsBefore i) (λ g b. before-on i h g before b) hs rises.0) in
         let one = ap (λ b. cond {A = ℕ} b 1 0) (same-itself i) in

@@ -34,7 +34,8 @@ all-by P [] each = tt
 all-by P (x ∷ xs) each = (here, all-by P xs (λ n. tail (is_of n x) n (each n)))
   where
     here : P x
-    here = (subst (λ b. AllByRecursion P (cond b (x ∷ filter (is_of x.area) xs) (filter (is_of x.area) xs))) (eq-eqb x.area x.area refl) (each x.area)).0
+    here = (subst (λ b. AllByRecursion P (cond b (x ∷ filter (is_of x.area) xs) (filter (is_of x.area) xs))) (eq-eqb x.area x.area refl)
+        (each x.area)).0
 
     tail : (b : Bool) (n : ℕ) → AllByRecursion P (cond b (x ∷ filter (is_of n) xs) (filter (is_of n) xs)) → AllByRecursion P (filter (is_of n) xs)
     tail true n all = all.1

@@ -61,11 +61,16 @@ pub look-stays : (f : ℕ) (s : Slot) (i : ℕ) (o : Option Area) (view : View) 
 look-stays f s i None view place at h = absurd at
 look-stays f s i (Some area) view place at h =
     let page = page_at i area in
-    let it : away f s (view.entry area.pid page) ≡ view.entry area.pid page = subst (λ (k : Key). away f s (view.entry k.0 k.1) ≡ view.entry k.0 k.1) at h in
-    λ n. record view { entry = λ q o. (sym (same-entry area.pid page view.entry q o) ∙ ap (λ e. with_entry area.pid page e view.entry q o) (sym it)) n }
+    let it : away f s (view.entry area.pid page) ≡ view.entry area.pid page =
+    subst (λ (k : Key). away f s (view.entry k.0 k.1) ≡ view.entry k.0 k.1) at h in
+    λ n. record view {
+      entry =
+          λ q o. (sym (same-entry area.pid page view.entry q o) ∙ ap (λ e. with_entry area.pid page e view.entry q o) (sym it)) n;
+    }
 
 -- where it was changed
-pub look-unmaps : (f : ℕ) (s : Slot) (i : ℕ) (o : Option Area) (view new : View) (place : Key) (e : Pte) → IsSomeAnd o (λ area. place ≡ (area.pid, page_at i area)) →
+pub look-unmaps : (f : ℕ) (s : Slot) (i : ℕ) (o : Option Area) (view new : View) (place : Key) (e : Pte)
+    → IsSomeAnd o (λ area. place ≡ (area.pid, page_at i area)) →
     away f s (view.entry place.0 place.1) ≡ e
     → new ≡ record view { entry = with_entry place.0 place.1 e view.entry } → new ≡ away_in f s i o view
 look-unmaps f s i None view new place e at h is = absurd at
@@ -95,7 +100,8 @@ none-unmapped f s view home spanned apart covered = record {
     unnamed true e = absurd (omega (arith, e))
 
 pub all-unmapped : (f : ℕ) (s : Slot) (before now : View) (left : List Key) → IsUnmapped f s before now left → left ≡ [] → now ≡ with_away f s before
-all-unmapped f s before now left h none = h.rest ∙ (λ i. record before { entry = λ p page. h.done (p, page) (ap (how_many (same_key (p, page))) none) i })
+all-unmapped f s before now left h none = h.rest
+    ∙ (λ i. record before { entry = λ p page. h.done (p, page) (ap (how_many (same_key (p, page))) none) i })
 
 pub one-unmapped : (f : ℕ) (s : Slot) (i : ℕ) (before now new : View) (left later : List Key) (a : ℕ) → IsUnmapped f s before now left →
     left ≡ found_in before (names_frame f) i (before.areas a) ++ later
@@ -134,7 +140,8 @@ one-unmapped f s i before now new left later a h e is = by (before.areas a) refl
         same_at p o true e = away-twice f s (now.entry A.pid (page_at i A)) ∙ h.same A.pid (page_at i A)
             ∙ ap (λ (k : Key). away f s (before.entry k.0 k.1)) (is_it p o e)
 
-        look-other : (k : Key) → same_key k (A.pid, page_at i A) ≡ false → (b : Bool) → how_many (same_key k) (cond b ((A.pid, page_at i A) ∷ []) []) ≡ 0
+        look-other : (k : Key) → same_key k (A.pid, page_at i A) ≡ false → (b : Bool)
+            → how_many (same_key k) (cond b ((A.pid, page_at i A) ∷ []) []) ≡ 0
         look-other k e false = refl
         look-other k e true = ap (λ b. cond b 1 0 + 0) e
 
@@ -148,7 +155,8 @@ one-unmapped f s i before now new left later a h e is = by (before.areas a) refl
 
 -- ---- one turn of the loop
 
-pub unmapped-turn : (frame : ℕ) (s : Slot) (home : ℕ × ℕ) (before now : View) (left : List Key) (after : Option (ℕ × ℕ)) (k : ℕ × ℕ) (next : Option (ℕ × ℕ)) →
+pub unmapped-turn : (frame : ℕ) (s : Slot) (home : ℕ × ℕ) (before now : View) (left : List Key) (after : Option (ℕ × ℕ)) (k : ℕ × ℕ)
+    (next : Option (ℕ × ℕ)) →
     AreSpanned before → IsUnmapped frame s before now left
     → IsOrdered (now.spans home.0) → next ≡ overlap_of after home.1 (now.spans home.0) → next ≡ Some k →
     Found before (names_frame frame) home.1 after k (before.spans home.0)
@@ -157,9 +165,11 @@ unmapped-turn frame s home before now left after k next spanned h ordered is som
     turn before (names_frame frame) home after k spanned (subst IsOrdered spans ordered) (sym (ap (overlap_of after home.1) spans) ∙ sym is ∙ some)
 
 -- the last turn finds no area
-pub unmapped-last : (frame : ℕ) (s : Slot) (home : ℕ × ℕ) (before now : View) (left : List Key) (after : Option (ℕ × ℕ)) (next : Option (ℕ × ℕ)) → AreSpanned before →
+pub unmapped-last : (frame : ℕ) (s : Slot) (home : ℕ × ℕ) (before now : View) (left : List Key) (after : Option (ℕ × ℕ)) (next : Option (ℕ × ℕ))
+    → AreSpanned before →
     IsUnmapped frame s before now left
     → next ≡ overlap_of after home.1 (now.spans home.0) → next ≡ None
-    → (walk_of before (names_frame frame) home.1 (rest after (before.spans home.0)) ≡ []) × (how_many (overlaps home.1) (rest after (before.spans home.0)) ≡ 0)
+    → (walk_of before (names_frame frame) home.1 (rest after (before.spans home.0)) ≡ [])
+    × (how_many (overlaps home.1) (rest after (before.spans home.0)) ≡ 0)
 unmapped-last frame s home before now left after next spanned h is none =
     last before (names_frame frame) home after spanned (sym (ap (λ (v : View). overlap_of after home.1 (v.spans home.0)) h.rest) ∙ sym is ∙ none)

@@ -2,6 +2,7 @@
 use Rattle.std.specs.Prelude.{◌≡◌, ℕ, ◌<◌, ◌++◌, length, drop, Option, List, []}
 use Rattle.av_interval.specs.Batch.{overlaps_past}
 use Rattle.av_interval.specs.Search.{IsOrdered}
+use Rattle.av_interval.specs.declared.batch.TheConstants.{BATCH}
 use Rattle.av_interval.specs.declared.span.Span.{Span}
 use Rattle.av_rmap.specs.declared.ahead.Ahead.{Ahead}
 
@@ -12,4 +13,4 @@ pub record IsAhead (ahead : Ahead) (after : Option (ℕ × ℕ)) (index : ℕ) (
   pub ordered : IsOrdered spans
   pub others : List (ℕ × ℕ)
   pub next : overlaps_past after index spans ≡ drop ahead.given ahead.places.items ++ others
-  pub whole : length ahead.places.items < 16 → others ≡ []
+  pub whole : length ahead.places.items < BATCH → others ≡ []

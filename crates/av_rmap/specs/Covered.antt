@@ -3,7 +3,7 @@ use Rattle.std.specs.Prelude.{◌≡◌, ℕ, Bool, true, false, Option, Some, N
 use Rattle.av_base.specs.Words.{is_in}
 use Rattle.av_pagetable.specs.declared.pte.Pte.{Pte}
 use Rattle.av_vma.specs.declared.area.Area.{Area}
-use Rattle.av_vma.specs.Join.{index_of}
+use Rattle.av_vma.specs.Index.{index_of}
 use Rattle.av_vma.specs.Pages.{has_page}
 use Rattle.av_rmap.specs.View.{View}
 

@@ -6,7 +6,7 @@ use Rattle.av_chain.specs.Links.{one_if}
 use Rattle.av_pagetable.specs.declared.pte.Pte.{Pte}
 use Rattle.av_pagetable.specs.declared.pte.Pte.TheVariants.{Empty, Zero, Here, Away}
 use Rattle.av_vma.specs.declared.area.Area.{Area}
-use Rattle.av_vma.specs.Join.{first_of, past_of}
+use Rattle.av_vma.specs.Index.{first_of, past_of}
 use Rattle.av_interval.specs.Search.{overlaps}
 use Rattle.av_rmap.specs.View.{View}
 use Rattle.av_rmap.specs.declared.target.Target.{Target}

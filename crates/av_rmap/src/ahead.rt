@@ -1,4 +1,5 @@
-// The overlaps of a walk, one at a time, found a batch at a time.
+//! The overlaps of a walk, one at a time, found a batch at a time.
+
 ghost use Rattle.std.specs.Prelude.{◌≡◌, [], ◌∷◌, drop, Some, IfSome, IfNone};
 ghost use Rattle.av_interval.specs.Search.{overlap_of, IsOrdered};
 ghost use Rattle.av_rmap.specs.Ahead.{IsAhead};
@@ -46,9 +47,25 @@ impl Ahead {
         if !self.places.is_full() {
             return None;
         }
+        self.refill(look, anon, index, after);
+        self.give()
+    }
+
+    /// The batch past `after`. Apart from `next`, which would clear the room of a batch each time
+    /// that it is called.
+    #[inline(never)]
+    fn refill<K: Look<L>, L: Ledger>(
+        &mut self,
+        look: &K,
+        anon: u64,
+        index: u64,
+        after: Option<(u64, u64)>,
+    )
+        ensures ahead { IsAhead self.new after index ((K.view look.now).spans anon) }
+        ensures none_given { self.new.given ≡ 0 }
+    {
         self.places = look.next(anon, index, after);
         self.given = 0;
-        self.give()
     }
 
     /// The next place of the batch.

@@ -1,4 +1,5 @@
-// What a walk needs, by what the layers below keep.
+//! What a walk needs, by what the layers below keep.
+
 ghost use Rattle.std.specs.Prelude.{◌≡◌, ℕ, List, Option};
 ghost use Rattle.av_anon.specs.Anons.{Family};
 ghost use Rattle.av_anon.specs.Order.{IsInOrder};

@@ -1,5 +1,6 @@
-// What a walk reads: spans, areas and page tables, and nothing else; and the one thing that is
-// written: an entry that is there.
+//! What a walk reads: spans, areas and page tables, and nothing else; and the one thing that is
+//! written: an entry that is there.
+
 ghost use Rattle.std.specs.Prelude.{◌≡◌, ◌+◌, true, take, IfSome, IsSomeAnd};
 ghost use Rattle.av_interval.specs.Batch.{overlaps_past};
 ghost use Rattle.av_pagetable.specs.Entries.{with_entry};

@@ -1,4 +1,5 @@
-// Whether a frame was accessed, found through its home, and that it is taken as not accessed.
+//! Whether a frame was accessed, found through its home, and that it is taken as not accessed.
+
 ghost use Rattle.std.specs.Prelude.{◌≡◌, ℕ, ◌+◌, ◌≤◌, true, false, IsSomeAnd, MatchBool};
 ghost use Rattle.av_base.specs.Words.{how_many};
 ghost use Rattle.av_interval.specs.Search.{overlaps};

@@ -1,4 +1,5 @@
-// The stores of a memory system, as a walk reads them.
+//! The stores of a memory system, as a walk reads them.
+
 ghost use Rattle.std.specs.Prelude.{◌≡◌, ℕ, Bool, ◌<◌, take};
 ghost use Rattle.std.specs.Borrow.{GName};
 ghost use Rattle.av_pagetable.specs.Entries.{has};

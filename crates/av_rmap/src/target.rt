@@ -1,4 +1,5 @@
-// What a walk searches for: the entries that name a frame, or a slot.
+//! What a walk searches for: the entries that name a frame, or a slot.
+
 ghost use Rattle.std.specs.Prelude.{◌≡◌};
 ghost use Rattle.av_rmap.specs.Walk.{names};
 

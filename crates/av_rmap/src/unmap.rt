@@ -1,4 +1,5 @@
-// The entries of a frame that goes to its slot: each names the slot in the place of the frame.
+//! The entries of a frame that goes to its slot: each names the slot in the place of the frame.
+
 ghost use Rattle.std.specs.Prelude.{◌≡◌, ◌+◌, true, IsSomeAnd};
 ghost use Rattle.av_base.specs.Words.{how_many};
 ghost use Rattle.av_interval.specs.Search.{overlaps};

@@ -1,5 +1,7 @@
-// The entries of a frame or of a slot, found through a home.
-ghost use Rattle.std.specs.Prelude.{◌≡◌, ℕ, ◌+◌, ◌≤◌, ◌++◌, Bool, true, List, length, vec_len, vec_capacity, IsSomeAnd};
+//! The entries of a frame or of a slot, found through a home.
+
+ghost use Rattle.std.specs.Prelude.{◌≡◌, ℕ, ◌+◌, ◌≤◌, ◌++◌, Bool, true, List, length, vec_len};
+ghost use Rattle.std.specs.Prelude.{vec_capacity, IsSomeAnd};
 ghost use Rattle.av_base.specs.Words.{how_many};
 ghost use Rattle.av_interval.specs.Search.{overlaps};
 ghost use Rattle.av_pagetable.specs.declared.pte.Pte.{Pte as Entry};
@@ -13,8 +15,8 @@ use crate::target::Target;
 use av_base::Steps;
 use std::sync::ledger::Ledger;
 
-/// Appends the process and page of each entry that names the target, once. `home` is the frame's, or
-/// that of the frame which caches the slot: an anon_vma and a linear index. It takes no memory.
+/// Appends the process and page of each entry that names the target, once. `home` is the frame's,
+/// or that of the frame which caches the slot: an anon_vma and a linear index. It takes no memory.
 ///
 /// It takes as many steps as spans of the anon_vma hold the index, and each look is one.
 pub fn walk<K: Look<L>, L: Ledger>(

@@ -67,7 +67,8 @@ returns-then-index-node-clause-first g t c =
     let v = c.visit-node.result in
     let p : is_past c.args.after (span_of v) ≡ true = search rules in
     let none : c.first_past-found.result ≡ None = search rules in
-    let e = ap (λ n. span_reaching c.args.after i (entries (tree_at (N.below s) n))) (sym c.child_that_reaches-2.ensures) ∙ sym c.first_past-found.ensures.first
+    let e = ap (λ n. span_reaching c.args.after i (entries (tree_at (N.below s) n))) (sym c.child_that_reaches-2.ensures)
+    ∙ sym c.first_past-found.ensures.first
     ∙ ap (option_map span_of) none in
     sym (seen_here (N.is_node s) (N.below s) _ v c.visit-node.ensures.seen c.args.after i e p c.if-index-node.true)
     ∙ ap (λ n. span_reaching c.args.after i (entries (tree_at (N.below s) n))) (sym c.in-Some.is)
@@ -85,7 +86,8 @@ returns-in-Some-child_that_reaches-clause-first g t c =
     ∙ ap (option_map span_of) none in
     let ord = subst (λ n. IsOrdered (entries (tree_at (N.below s) n))) c.in-Some.is c.requires.ordered in
     let seen = c.visit-node.ensures.seen in
-    let later = seen_later (N.is_node s) (N.below s) _ v seen a i e p c.if-index-node.false (later_ordered (N.is_node s) (N.below s) _ v seen a i ord p) in
+    let later = seen_later (N.is_node s) (N.below s) _ v seen a i e p c.if-index-node.false
+    (later_ordered (N.is_node s) (N.below s) _ v seen a i ord p) in
     let whole = ap (λ n. span_reaching a i (entries (tree_at (N.below s) n))) c.in-Some.is in
     let d : reaching_child i v.right ≡ Some c.in-Some-child_that_reaches.right = search rules in
     sym (whole ∙ later ∙ ap (λ n. span_reaching None i (entries (tree_at (N.below s) n))) d ∙ c.first_reaching.ensures.first)
@@ -103,7 +105,8 @@ returns-in-None-clause-first g t c =
     ∙ ap (option_map span_of) none in
     let ord = subst (λ n. IsOrdered (entries (tree_at (N.below s) n))) c.in-Some.is c.requires.ordered in
     let seen = c.visit-node.ensures.seen in
-    let later = seen_later (N.is_node s) (N.below s) _ v seen a i e p c.if-index-node.false (later_ordered (N.is_node s) (N.below s) _ v seen a i ord p) in
+    let later = seen_later (N.is_node s) (N.below s) _ v seen a i e p c.if-index-node.false
+    (later_ordered (N.is_node s) (N.below s) _ v seen a i ord p) in
     let whole = ap (λ n. span_reaching a i (entries (tree_at (N.below s) n))) c.in-Some.is in
     let d : reaching_child i v.right ≡ None = search rules in
     sym (whole ∙ later ∙ ap (λ n. span_reaching None i (entries (tree_at (N.below s) n))) d)

@@ -35,7 +35,8 @@ unreachable-requires g t c =
     let d : reaching_child i v.right ≡ None = search rules in
     let low : v.last < i = c.if-index-node.false in
     some_below i (entries (N.below s c.args.number)) (omega arith) c.requires.reaches
-    (seen_later (N.is_node s) (N.below s) _ v c.visit-node.ensures.seen None i (ap (λ n. span_reaching None i (entries (tree_at (N.below s) n))) e) refl low
+    (seen_later (N.is_node s) (N.below s) _ v c.visit-node.ensures.seen None i
+    (ap (λ n. span_reaching None i (entries (tree_at (N.below s) n))) e) refl low
     refl ∙ ap (λ n. span_reaching None i (entries (tree_at (N.below s) n))) d)
 
 pub returns-clause-first : goal.returns-clause-first
@@ -46,7 +47,8 @@ returns-clause-first g t c =
     let v = c.visit-node.result in
     let e : reaching_child i v.left ≡ None = search rules in
     let d : reaching_child i v.right ≡ Some c.in-Some-child_that_reaches.right = search rules in
-    seen_later (N.is_node s) (N.below s) _ v c.visit-node.ensures.seen None i (ap (λ n. span_reaching None i (entries (tree_at (N.below s) n))) e) refl
+    seen_later (N.is_node s) (N.below s) _ v c.visit-node.ensures.seen None i
+    (ap (λ n. span_reaching None i (entries (tree_at (N.below s) n))) e) refl
     c.if-index-node.false refl ∙ ap (λ n. span_reaching None i (entries (tree_at (N.below s) n))) d
     ∙ c.first_reaching-in-Some-child_that_reaches.ensures.first
 

@@ -11,7 +11,8 @@ use Rattle.av_interval.proofs.search.search.Goals as goal
 
 -- the node that is found, and the overlap
 found : (g : Over) (c : After-first_past g) →
-    check c.args.index (option_map span_of c.first_past.result) ≡ overlap_of c.args.after c.args.index (entries (g.N.Nodes.tree c.args.nodes.now c.args.anon))
+    check c.args.index (option_map span_of c.first_past.result) ≡ overlap_of c.args.after c.args.index
+    (entries (g.N.Nodes.tree c.args.nodes.now c.args.anon))
 found g c =
     let N = g.N.Nodes in
     let s = c.args.nodes.now in

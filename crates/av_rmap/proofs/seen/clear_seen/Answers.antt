@@ -52,7 +52,8 @@ looks-preserved g c =
     let spans = ap (λ (v : View). v.spans c.args.home.0) h.rest in
     record {
       ahead = subst (IsAhead c.next.new.self (Some (c.in-Some.first, c.in-Some.area)) c.args.home.1) spans (rw c.in-Some.is at c.next.ensures.ahead);
-      cleared = one-cleared c.args.frame c.args.home.1 before now (g.K.Look.view c.clear_in.new.look) _ _ c.in-Some.area h t.walk c.clear_in.ensures.cleared;
+      cleared = one-cleared c.args.frame c.args.home.1 before now (g.K.Look.view c.clear_in.new.look) _ _ c.in-Some.area h t.walk
+          c.clear_in.ensures.cleared;
       kept = c.clear_in.ensures.kept ∙ c.looks.invariant.kept;
       counted = omega (arith, count, kept, step);
     }

@@ -37,7 +37,8 @@ pub looks-smaller : goal.looks-smaller
 looks-smaller g c =
     let before = g.K.Look.view c.args.look.now in
     let now = g.K.Look.view c.looks.look in
-    let t = unmapped-turn c.args.frame c.args.slot c.args.home before now _ c.looks.after (c.in-Some.first, c.in-Some.area) c.next.result c.requires.spanned
+    let t = unmapped-turn c.args.frame c.args.slot c.args.home before now _ c.looks.after (c.in-Some.first, c.in-Some.area) c.next.result
+    c.requires.spanned
     c.looks.invariant.unmapped c.next.ensures.ordered c.next.ensures.first c.in-Some.is in
     let count = t.count in omega (arith, count)
 
@@ -46,13 +47,15 @@ looks-preserved g c =
     let before = g.K.Look.view c.args.look.now in
     let now = g.K.Look.view c.looks.look in
     let h = c.looks.invariant.unmapped in
-    let t = unmapped-turn c.args.frame c.args.slot c.args.home before now _ c.looks.after (c.in-Some.first, c.in-Some.area) c.next.result c.requires.spanned h
+    let t = unmapped-turn c.args.frame c.args.slot c.args.home before now _ c.looks.after (c.in-Some.first, c.in-Some.area) c.next.result
+    c.requires.spanned h
     c.next.ensures.ordered c.next.ensures.first c.in-Some.is in
     let count = t.count in let kept = c.looks.invariant.counted in let step = c.unmap_in.ensures.counted in
     let spans = ap (λ (v : View). v.spans c.args.home.0) h.rest in
     record {
       ahead = subst (IsAhead c.next.new.self (Some (c.in-Some.first, c.in-Some.area)) c.args.home.1) spans (rw c.in-Some.is at c.next.ensures.ahead);
-      unmapped = one-unmapped c.args.frame c.args.slot c.args.home.1 before now (g.K.Look.view c.unmap_in.new.look) _ _ c.in-Some.area h t.walk c.unmap_in.ensures.unmapped;
+      unmapped = one-unmapped c.args.frame c.args.slot c.args.home.1 before now (g.K.Look.view c.unmap_in.new.look) _ _ c.in-Some.area h t.walk
+          c.unmap_in.ensures.unmapped;
       kept = c.unmap_in.ensures.kept ∙ c.looks.invariant.kept;
       counted = omega (arith, count, kept, step);
     }
@@ -62,14 +65,16 @@ returns-clause-unmapped g c =
     let before = g.K.Look.view c.args.look.now in
     let now = g.K.Look.view c.looks.look in
     let h = c.looks.invariant.unmapped in
-    all-unmapped c.args.frame c.args.slot before now _ h (unmapped-last c.args.frame c.args.slot c.args.home before now _ c.looks.after c.next.result c.requires.spanned h
+    all-unmapped c.args.frame c.args.slot before now _ h
+    (unmapped-last c.args.frame c.args.slot c.args.home before now _ c.looks.after c.next.result c.requires.spanned h
     c.next.ensures.first c.in_default.is).0
 
 pub returns-clause-counted : goal.returns-clause-counted
 returns-clause-counted g c =
     let before = g.K.Look.view c.args.look.now in
     let now = g.K.Look.view c.looks.look in
-    let none = (unmapped-last c.args.frame c.args.slot c.args.home before now _ c.looks.after c.next.result c.requires.spanned c.looks.invariant.unmapped
+    let none = (unmapped-last c.args.frame c.args.slot c.args.home before now _ c.looks.after c.next.result c.requires.spanned
+    c.looks.invariant.unmapped
     c.next.ensures.first c.in_default.is).1 in
     let kept = c.looks.invariant.counted in omega (arith, none, kept)
 

@@ -12,7 +12,8 @@ use Rattle.av_interval.proofs.spans.Spans.add.Goals.{After-free, In-Ok-put}
 use Rattle.av_interval.proofs.spans.Spans.add.Goals as goal
 
 pub returns-in-Err-clause-spans : goal.returns-in-Err-clause-spans
-returns-in-Err-clause-spans c = λ a. subst (λ (w : Forest). entries (tree_at (store_of c.add.new.self) (top_of (root_of c.self.inside.roots a))) ≡ triples w a)
+returns-in-Err-clause-spans c =
+    λ a. subst (λ (w : Forest). entries (tree_at (store_of c.add.new.self) (top_of (root_of c.self.inside.roots a))) ≡ triples w a)
     c.self.view_is (ap (λ s. entries (tree_at s (top_of (root_of c.self.inside.roots a)))) c.in-Err.ensures.kept)
 
 pub returns-in-Err-clause-kept : goal.returns-in-Err-clause-kept

@@ -31,7 +31,8 @@ module _ (c : In-Some) where
   at = sym c.get.ensures ∙ c.in-Some.is
 
   there : IsSome (entry_at key (key x) (entries (tree_at s (top_of (r c.args.anon)))))
-  there = subst (λ (w : Forest). IsSome (entry_at key (key_of c.args.first c.args.area) (triples w c.args.anon))) (sym c.self.view_is) c.requires.there
+  there = subst (λ (w : Forest). IsSome (entry_at key (key_of c.args.first c.args.area) (triples w c.args.anon))) (sym c.self.view_is)
+      c.requires.there
 
 pub remove-number-requires-clause-there : goal.remove-number-requires-clause-there
 remove-number-requires-clause-there c =
@@ -67,7 +68,8 @@ last c =
     let x : Span = triple c.args.first c.args.first c.args.area in
     let root = c.in-Some.root in
     let at : r c.args.anon ≡ Some root = sym c.get.ensures ∙ c.in-Some.is in
-    let there = subst (λ (w : Forest). IsSome (entry_at key (key_of c.args.first c.args.area) (triples w c.args.anon))) (sym c.self.view_is) c.requires.there in
+    let there = subst (λ (w : Forest). IsSome (entry_at key (key_of c.args.first c.args.area) (triples w c.args.anon))) (sym c.self.view_is)
+    c.requires.there in
     let out = c.remove-number in
     let w = out.ensures.removed in
     removed_done s (store_of out.new.arena) (store_of c.free.new.self) r (root_of c.remove.new.self) c.self.invariant c.args.anon x root at there
@@ -95,7 +97,8 @@ others c =
     let x : Span = triple c.args.first c.args.first c.args.area in
     let root = c.in-Some.root in
     let at : r c.args.anon ≡ Some root = sym c.get.ensures ∙ c.in-Some.is in
-    let there = subst (λ (w : Forest). IsSome (entry_at key (key_of c.args.first c.args.area) (triples w c.args.anon))) (sym c.self.view_is) c.requires.there in
+    let there = subst (λ (w : Forest). IsSome (entry_at key (key_of c.args.first c.args.area) (triples w c.args.anon))) (sym c.self.view_is)
+    c.requires.there in
     let out = c.remove-number in
     let w = out.ensures.removed in
     removed_done s (store_of out.new.arena) (store_of c.free.new.self) r (root_of c.change.new.self) c.self.invariant c.args.anon x root at there

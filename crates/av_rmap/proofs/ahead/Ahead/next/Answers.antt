@@ -1,10 +1,11 @@
-use Rattle.std.proofs.Common.{rules, ◌<◌, length, refl, sym, ap, arith}
-use Rattle.av_rmap.proofs.AheadLemmas.{found, given, none, first_of_batch}
+use Rattle.std.proofs.Common.{rules, ◌<◌, length, sym, ap, arith}
+use Rattle.av_rmap.proofs.AheadLemmas.{given, none, first_of_batch}
 use Rattle.av_rmap.proofs.ahead.Ahead.next.Goals as goal
 
 pub returns-in-Some-clause-first : goal.returns-in-Some-clause-first
 returns-in-Some-clause-first g c =
-    sym (given c.args.self.now c.give.new.self c.args.after c.args.index ((g.K.Look.view c.args.look.now).spans c.args.anon) c.in-Some.place c.requires
+    sym (given c.args.self.now c.give.new.self c.args.after c.args.index ((g.K.Look.view c.args.look.now).spans c.args.anon)
+    c.in-Some.place c.requires
     (rw c.in-Some.is at c.give.ensures.some) c.give.ensures.kept).0
 
 pub returns-in-Some-clause-ahead : goal.returns-in-Some-clause-ahead
@@ -23,12 +24,12 @@ pub returns-clause-first : goal.returns-clause-first
 returns-clause-first g c =
     let spans = (g.K.Look.view c.args.look.now).spans c.args.anon in
     (first_of_batch _ c.give-2.new.self c.args.after c.args.index spans c.give-2.result
-    (found _ c.args.after c.args.index spans refl c.next-self.ensures.ordered c.next-self.ensures.found) refl
+    c.refill.ensures.ahead c.refill.ensures.none_given
     c.give-2.ensures.none c.give-2.ensures.some c.give-2.ensures.kept).0
 
 pub returns-clause-ahead : goal.returns-clause-ahead
 returns-clause-ahead g c =
     let spans = (g.K.Look.view c.args.look.now).spans c.args.anon in
     (first_of_batch _ c.give-2.new.self c.args.after c.args.index spans c.give-2.result
-    (found _ c.args.after c.args.index spans refl c.next-self.ensures.ordered c.next-self.ensures.found) refl
+    c.refill.ensures.ahead c.refill.ensures.none_given
     c.give-2.ensures.none c.give-2.ensures.some c.give-2.ensures.kept).1

@@ -8,4 +8,5 @@ pub place-requires : goal.place-requires
 place-requires g c = subst (λ (v : View). IsSomeAnd (v.areas c.args.area) (λ a. holds c.args.index a ≡ true)) (sym c.stores.ensures) c.requires
 
 pub returns : goal.returns
-returns g c = subst (λ (v : View). IfSome (v.areas c.args.area) (λ a. c.place.result ≡ (a.pid, page_at c.args.index a))) c.stores.ensures c.place.ensures
+returns g c = subst (λ (v : View). IfSome (v.areas c.args.area) (λ a. c.place.result ≡ (a.pid, page_at c.args.index a))) c.stores.ensures
+    c.place.ensures
