@@ -22,7 +22,8 @@ sized-at (p ∷ pages) n (suc area) =
 sized : (pages : List ℕ) (n : ℕ) → with_at (length pages) (Some n) (sizes_of pages) ≡ sizes_of (pages ++ n ∷ [])
 sized pages n = λ i area. sized-at pages n area i
 
-small-push : (pages : List ℕ) (n : ℕ) → AllByRecursion (λ n. n ≤ most_pages) pages → n ≤ most_pages → AllByRecursion (λ n. n ≤ most_pages) (pages ++ n ∷ [])
+small-push : (pages : List ℕ) (n : ℕ) → AllByRecursion (λ n. n ≤ most_pages) pages → n ≤ most_pages
+    → AllByRecursion (λ n. n ≤ most_pages) (pages ++ n ∷ [])
 small-push [] n all few = (few, tt)
 small-push (p ∷ pages) n all few = (all.0, small-push pages n all.1 few)
 
@@ -32,11 +33,11 @@ still_told area (Some pages) new h = ap is_some h.1
 
 -- an area more
 pub attached_more : (pages : List ℕ) (n area : ℕ) (old mid new : Device) → area ≡ length pages → Attaches pages old mid →
-    new.sizes ≡ with_at area (Some n) mid.sizes → n ≤ most_pages → IsRenewed area mid.pages new.pages → new.faults ≡ mid.faults →
+    new.sizes ≡ with_at area (Some n) mid.sizes → n ≤ most_pages → IsRenewed area mid.pages new.pages → new.failures ≡ mid.failures →
     Attaches (pages ++ n ∷ []) old new
-attached_more pages n area old mid new is had sizes few renewed faults = record {
+attached_more pages n area old mid new is had sizes few renewed failures = record {
   small = small-push pages n had.small few;
   sizes = sizes ∙ (λ i. with_at (is i) (Some n) (had.sizes i)) ∙ sized pages n;
   told = still_told area mid.pages new.pages renewed ∙ had.told;
-  faults = faults ∙ had.faults;
+  failures = failures ∙ had.failures;
 }

@@ -29,7 +29,8 @@ module _ (old new : PortsView) where
   memory_at errors.Memory number fails e = fails
 
   -- it could not be found out whether more lines come
-  pub unread_at : (error : RunErr) (number : ℕ) (ahead : List ℕ) → ahead ≡ [] → IsUnread error old new → Finished (status_at error number) ahead old new
+  pub unread_at : (error : RunErr) (number : ℕ) (ahead : List ℕ) → ahead ≡ [] → IsUnread error old new
+      → Finished (status_at error number) ahead old new
   unread_at errors.Read number ahead none unread = (none, unread)
   unread_at errors.Write number ahead none unread = (none, unread.0, unread.1)
   unread_at errors.BadLine number ahead none unread = absurd unread

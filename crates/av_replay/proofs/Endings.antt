@@ -19,7 +19,7 @@ use Rattle.av_replay.specs.Turn.{texts, Commands, IsEnding, TakesLine, Waits, Cu
 use Rattle.av_replay.specs.Replay.{most_lines, all_lines, Transcribes, Run, done_lines, Replays, IsHandedBack, StopsAt, MayGoOn, IsCutOff, Ends, status_at, Headline, can_go_on, kernel_at, FailsOnlyAt, FailsUntold, IsFlushed, Replayed, FlushesLast}
 use Rattle.av_replay.proofs.Bytes.{Took-none, Took-ahead, Gained-none, rose_none, rose_on}
 use Rattle.av_replay.proofs.Times.{device_same, device_then, failed_since, read_fault_since, flushed_none, handed_on, only_sink}
-use Rattle.av_replay.proofs.Runs.{Past, whole, SoFar, longer, next_answers, read_more, wrote_more, device_more, faults_more, legal_more, kernel_more, texts_more, all_push, Transcribes-push, joined-push}
+use Rattle.av_replay.proofs.Runs.{Past, whole, SoFar, longer, next_answers, read_more, wrote_more, device_more, failures_more, legal_more, kernel_more, texts_more, all_push, Transcribes-push, joined-push}
 
 -- ---- what the end of a turn leaves
 
@@ -56,7 +56,8 @@ begun_of ahead rest now new reads = record {
 }
 
 -- no line was done in the turn
-pub waited : (n : ℕ) (past : Past) (ahead rest : List ℕ) (old now new : PortsView) (k : Machine) → SoFar n past ahead old now k → length past.lines ≤ most_lines →
+pub waited : (n : ℕ) (past : Past) (ahead rest : List ℕ) (old now new : PortsView) (k : Machine) → SoFar n past ahead old now k
+    → length past.lines ≤ most_lines →
     Begins ahead rest now new → Replays n old new (whole past) rest (texts past.transcript)
 waited n past ahead rest old now new k so_far few reads = record {
   read = Took-ahead old.source.left new.source.left (all_lines past.lines) rest
@@ -67,7 +68,7 @@ waited n past ahead rest old now new k so_far few reads = record {
   last = tt;
   commands = subst (λ (lines : List (List ℕ)). Transcribes lines past.transcript) (sym (append-nil past.lines)) so_far.commands;
   legal = so_far.legal;
-  faults = rose_on (causes_of past.transcript) old.device.faults now.device.faults new.device.faults so_far.faults reads.device.faults;
+  failures = rose_on (causes_of past.transcript) old.device.failures now.device.failures new.device.failures so_far.failures reads.device.failures;
   wrote = subst (λ (h : Option (List ℕ)). Gained old.sink.held h (texts past.transcript)) (sym reads.held) so_far.wrote;
   device = device_then old.device now.device new.device so_far.device reads.device;
 }
@@ -106,7 +107,7 @@ module _ (n : ℕ) (past : Past) (ahead : List ℕ) (old now new : PortsView) (k
           commands = subst (λ (ls : List (List ℕ)). Transcribes ls (past.transcript ++ option_to_list a.did)) (sym (append-nil lines))
               (Transcribes-push past.lines past.transcript line a.did so_far.commands a.commands);
           legal = legal_more n past ahead old now new k k' line (10 ∷ []) rest text written so_far takes;
-          faults = faults_more n past ahead old now new k k' line (10 ∷ []) rest text written so_far takes;
+          failures = failures_more n past ahead old now new k k' line (10 ∷ []) rest text written so_far takes;
           wrote = wrote_more n past ahead old now new k k' line (10 ∷ []) rest text written so_far takes;
           device = device_more n past ahead old now new k k' line (10 ∷ []) rest text written so_far takes;
         };
@@ -130,7 +131,7 @@ module _ (n : ℕ) (past : Past) (ahead : List ℕ) (old now new : PortsView) (k
           last = (takes.is_line, some, none, end);
           commands = Transcribes-push past.lines past.transcript line a.did so_far.commands a.commands;
           legal = legal_more n past ahead old now new k k' line [] rest text written so_far takes;
-          faults = faults_more n past ahead old now new k k' line [] rest text written so_far takes;
+          failures = failures_more n past ahead old now new k k' line [] rest text written so_far takes;
           wrote = wrote_more n past ahead old now new k k' line [] rest text written so_far takes;
           device = device_more n past ahead old now new k k' line [] rest text written so_far takes;
         };
@@ -159,7 +160,8 @@ all_done n past ahead rest old now new k k' so_far few finds =
     headline n statuses.Done rest old new k' _ _ (stops n past ahead rest old now new k k' so_far few finds.waits) ((finds.none, finds.end), refl)
 
 pub done : (n : ℕ) (past : Past) (ahead rest : List ℕ) (old now new : PortsView) (k k' : Machine) → SoFar n past ahead old now k →
-    length past.lines < most_lines → FindsEnd ahead rest now new k k' ⊎ DoesNext ahead rest now new k k' [] → Headline n statuses.Done old new (Some k')
+    length past.lines < most_lines → FindsEnd ahead rest now new k k' ⊎ DoesNext ahead rest now new k k' []
+    → Headline n statuses.Done old new (Some k')
 done n past ahead rest old now new k k' so_far few (inl finds) = all_done n past ahead rest old now new k k' so_far (omega arith) finds
 done n past ahead rest old now new k k' so_far few (inr does) = last_done n past ahead rest old now new k k' so_far few does
 
@@ -175,7 +177,8 @@ pub record Cuts (n : ℕ) (old new : PortsView) (kernel : Machine) : Type 0 wher
 
 -- a text that is cut is that of some reply
 cut_at : (run : Run) (before : List (List ℕ)) (line : List ℕ) (es : List Exchange) (did : Option Exchange) (text : List ℕ) (n : ℕ) →
-    done_lines run ≡ before ++ line ∷ [] → run.transcript ≡ es ++ option_to_list did → Commands line did → text ≡ texts (option_to_list did) → n < length text →
+    done_lines run ≡ before ++ line ∷ [] → run.transcript ≡ es ++ option_to_list did → Commands line did → text ≡ texts (option_to_list did)
+    → n < length text →
     IsCutOff run (texts es ++ take n text)
 cut_at run before line es None text n lines transcript commands said short = absurd (omega (arith, ap length said))
 cut_at run before line es (Some e) text n lines transcript commands said short =
@@ -194,7 +197,8 @@ cut_at run before line es (Some e) text n lines transcript commands said short =
     }
 
 cuts_at : (n : ℕ) (past : Past) (ahead : List ℕ) (old now new : PortsView) (k k' : Machine) (line ending rest text : List ℕ) (size : ℕ) →
-    SoFar n past ahead old now k → length past.lines < most_lines → size < length text → TakesLine ahead now new k k' line ending rest text (take size text) →
+    SoFar n past ahead old now k → length past.lines < most_lines → size < length text
+    → TakesLine ahead now new k k' line ending rest text (take size text) →
     IsEnding line ending rest new.source → Cuts n old new k'
 cuts_at n past ahead old now new k k' line ending rest text size so_far few short takes (inl newline) =
     let takes' : TakesLine ahead now new k k' line (10 ∷ []) rest text (take size text) =
@@ -221,7 +225,8 @@ cuts_at n past ahead old now new k k' line ending rest text size so_far few shor
       cut = cut_at run past.lines line past.transcript a.did text size refl refl a.commands a.said short;
     }
 
-pub cuts : (n : ℕ) (past : Past) (ahead : List ℕ) (old now new : PortsView) (k k' : Machine) → SoFar n past ahead old now k → length past.lines < most_lines →
+pub cuts : (n : ℕ) (past : Past) (ahead : List ℕ) (old now new : PortsView) (k k' : Machine) → SoFar n past ahead old now k
+    → length past.lines < most_lines →
     CutsShort ahead now new k k' → Cuts n old new k'
 cuts n past ahead old now new k k' so_far few cut = cuts_at n past ahead old now new k k' cut.line cut.ending cut.rest cut.text cut.size so_far few
     cut.short cut.takes cut.takes.ends
@@ -251,7 +256,8 @@ read_fault n past ahead rest old now new k k' so_far few may waits part failed =
       read_fault_since old.source now.source new.source so_far.unfailed.source so_far.stays_open failed,
     )
 
-memory : (n : ℕ) (past : Past) (ahead rest : List ℕ) (old now new : PortsView) (k k' : Machine) → SoFar n past ahead old now k → length past.lines < most_lines →
+memory : (n : ℕ) (past : Past) (ahead rest : List ℕ) (old now new : PortsView) (k k' : Machine) → SoFar n past ahead old now k
+    → length past.lines < most_lines →
     Begins ahead rest now new ⊎ CutsShort ahead now new k k' → Headline n statuses.Memory old new None
 memory n past ahead rest old now new k k' so_far few (inl reads) = record {
   run = whole past;
@@ -275,11 +281,13 @@ write_fault n past ahead rest old now new k k' so_far few (inl cut) failed =
 write_fault n past ahead rest old now new k k' so_far few (inr unflushed) failed =
     kept_back n past ahead rest old now new k k' so_far (omega arith) (may_go_on past rest few) unflushed failed
 
-pub halts : (n : ℕ) (past : Past) (ahead rest : List ℕ) (old now new : PortsView) (k k' : Machine) (error : RunErr) (number : ℕ) → SoFar n past ahead old now k →
+pub halts : (n : ℕ) (past : Past) (ahead rest : List ℕ) (old now new : PortsView) (k k' : Machine) (error : RunErr) (number : ℕ)
+    → SoFar n past ahead old now k →
     number ≡ length past.lines + 1 → number ≤ most_lines → Halts error ahead rest now new k k' →
     Headline n (status_at error number) old new (kernel_at (status_at error number) k')
 halts n past ahead rest old now new k k' errors.BadLine number so_far count few h =
-    headline n (statuses.BadLine number) rest old new k' _ _ (stops n past ahead rest old now new k k' so_far (omega arith) h.0) ((refl, count, few, h.1), refl)
+    headline n (statuses.BadLine number) rest old new k' _ _ (stops n past ahead rest old now new k k' so_far (omega arith) h.0)
+    ((refl, count, few, h.1), refl)
 halts n past ahead rest old now new k k' errors.Read number so_far count few h =
     read_fault n past ahead rest old now new k k' so_far (omega arith) (may_go_on past rest (omega arith)) h.0 h.1 h.2
 halts n past ahead rest old now new k k' errors.Write number so_far count few h =
@@ -331,7 +339,7 @@ nothing_done n ports = record {
       commands = refl;
       last = tt;
       legal = refl;
-      faults = rose_none ports.device.faults;
+      failures = rose_none ports.device.failures;
       wrote = Gained-none ports.sink.held;
       device = device_same ports.device;
     };
@@ -362,7 +370,8 @@ module _ (n : ℕ) (old now : PortsView) (kernel : Machine) (sink : SinkView) wh
   abbrev new : PortsView
   new = record now { sink = sink }
 
-  replays_flush : (run : Run) (rest written : List ℕ) → sink.held ≡ now.sink.held → Replays n old now run rest written → Replays n old new run rest written
+  replays_flush : (run : Run) (rest written : List ℕ) → sink.held ≡ now.sink.held → Replays n old now run rest written
+      → Replays n old new run rest written
   replays_flush run rest written held r = record {
     read = r.read;
     near = r.near;
@@ -371,7 +380,7 @@ module _ (n : ℕ) (old now : PortsView) (kernel : Machine) (sink : SinkView) wh
     last = r.last;
     commands = r.commands;
     legal = r.legal;
-    faults = r.faults;
+    failures = r.failures;
     wrote = subst (λ (h : Option (List ℕ)). Gained old.sink.held h written) (sym held) r.wrote;
     device = r.device;
   }
@@ -425,7 +434,8 @@ module _ (n : ℕ) (old now : PortsView) (kernel : Machine) (sink : SinkView) wh
     at_memory : (h : Headline n statuses.Memory old now None) → HandsOn now.sink sink ⊎ KeepsBack now.sink sink →
         Replayed n statuses.Memory old new None
     at_memory h (inl hands_on) =
-        served statuses.Memory hands_on h h.ends (was.source, inl (hands_on.unfailed ∙ was.sink)) (inr (inl (handed_on old now sink flushed hands_on)))
+        served statuses.Memory hands_on h h.ends (was.source, inl (hands_on.unfailed ∙ was.sink))
+        (inr (inl (handed_on old now sink flushed hands_on)))
     at_memory h (inr keeps) = record {
       headline = ends_so statuses.Memory h keeps.held h.ends;
       unfailed = (was.source, inr (fails_untold keeps));
@@ -433,10 +443,12 @@ module _ (n : ℕ) (old now : PortsView) (kernel : Machine) (sink : SinkView) wh
     }
 
   -- no flush came
-  same_sink : (status : Status) → sink ≡ now.sink → Replayed n status old now (kernel_at status kernel) → Replayed n status old new (kernel_at status kernel)
+  same_sink : (status : Status) → sink ≡ now.sink → Replayed n status old now (kernel_at status kernel)
+      → Replayed n status old new (kernel_at status kernel)
   same_sink status e r = subst (λ (s : SinkView). Replayed n status old (record now { sink = s }) (kernel_at status kernel)) (sym e) r
 
-  named : (status last : Status) → last ≡ status → Replayed n status old new (kernel_at status kernel) → Replayed n last old new (kernel_at last kernel)
+  named : (status last : Status) → last ≡ status → Replayed n status old new (kernel_at status kernel)
+      → Replayed n last old new (kernel_at last kernel)
   named status last e r = subst (λ (s : Status). Replayed n s old new (kernel_at s kernel)) (sym e) r
 
   replayed : (status last : Status) → FlushesLast status last now.sink sink → Headline n status old now (kernel_at status kernel) →
@@ -449,7 +461,8 @@ module _ (n : ℕ) (old now : PortsView) (kernel : Machine) (sink : SinkView) wh
   replayed (statuses.BadLine number) last (inl f) h was memory so none = named (statuses.BadLine number) last f.0
       (served was so (statuses.BadLine number) f.1 h h.ends (unfailed was so f.1) (handed_on old now sink so f.1))
   replayed (statuses.BadLine number) last (inr f) h was memory so none =
-      named statuses.WriteFault last f.0 (unflushed was so (statuses.BadLine number) h.run h.rest h.written h.replays h.handed_back h.ends.0 h.ends.1 f.1)
+      named statuses.WriteFault last f.0
+      (unflushed was so (statuses.BadLine number) h.run h.rest h.written h.replays h.handed_back h.ends.0 h.ends.1 f.1)
   replayed statuses.TooMany last (inl f) h was memory so none =
       named statuses.TooMany last f.0 (served was so statuses.TooMany f.1 h h.ends (unfailed was so f.1) (handed_on old now sink so f.1))
   replayed statuses.TooMany last (inr f) h was memory so none =

@@ -16,21 +16,27 @@ none_up_to size most bytes le within nowhere =
     nowhere i (omega arith) lt' (eq-eqb _ 10 (get_or-take most bytes i 0 (omega arith) ∙ sym (get_or-take size bytes i 0 lt') ∙ e)))
 
 pub found : (bytes : List ℕ) (most size : ℕ) → most ≤ length bytes → most ≤ 8449 →
-    NoneBefore (Passes (is_byte 10) (take most bytes)) 0 (length (take most bytes)) size → Passes (is_byte 10) (take most bytes) size → HasLine size bytes
+    NoneBefore (Passes (is_byte 10) (take most bytes)) 0 (length (take most bytes)) size → Passes (is_byte 10) (take most bytes) size
+    → HasLine size bytes
 found bytes most size within short before passes =
     let len : length (take most bytes) ≡ most = length-take-le most bytes within in
     let lt : size < most = omega (arith, before.high, len) in
     let is_newline : get_or bytes size 0 ≡ 10 = sym (get_or-take most bytes size 0 lt) ∙ eqb-true _ 10 passes in
     let next : suc size ≡ size + 1 = omega arith in
     record {
-      line = record { one = none_up_to size most bytes (omega arith) within before.before; short = omega (arith, length-take-le size bytes (omega arith)) };
+      line = record {
+        one = none_up_to size most bytes (omega arith) within before.before;
+        short =
+            omega (arith, length-take-le size bytes (omega arith));
+      };
       within = omega arith;
       newline = sym (take-append-drop size bytes) ∙ ap (λ (l : List ℕ). take size bytes ++ l)
           (drop-cons bytes size 0 (omega arith) ∙ ap (λ (k : ℕ). get_or bytes size 0 ∷ drop k bytes) next
           ∙ ap (λ (b : ℕ). b ∷ drop (size + 1) bytes) is_newline);
     }
 
-pub too_long : (bytes : List ℕ) (most : ℕ) → most ≤ length bytes → most ≡ 8449 → Nowhere (Passes (is_byte 10) (take most bytes)) 0 (length (take most bytes)) →
+pub too_long : (bytes : List ℕ) (most : ℕ) → most ≤ length bytes → most ≡ 8449
+    → Nowhere (Passes (is_byte 10) (take most bytes)) 0 (length (take most bytes)) →
     IsTooLong bytes
 too_long bytes most within is nowhere =
     let len : length (take most bytes) ≡ most = length-take-le most bytes within in

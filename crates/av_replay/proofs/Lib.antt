@@ -4,7 +4,6 @@ pub mod Calls
 pub mod Times
 pub mod Front
 pub mod Finding
-pub mod WordList
 pub mod Runs
 pub mod Endings
 pub mod Traces

@@ -19,7 +19,8 @@ pub record Front (load done : List (List ℕ)) (rest : List ℕ) (left' : Option
   pub are : load ≡ done ++ others
   pub all : rest ≡ [] → HasEnded left' → others ≡ []
 
-pub front : (load lines : List (List ℕ)) (last : Option (List ℕ)) (rest : List ℕ) (left' : Option (List ℕ)) → AllByRecursion IsLine load → AllByRecursion IsLine lines →
+pub front : (load lines : List (List ℕ)) (last : Option (List ℕ)) (rest : List ℕ) (left' : Option (List ℕ)) → AllByRecursion IsLine load
+    → AllByRecursion IsLine lines →
     Took (Some (all_lines load)) left' (all_lines lines ++ (unwrap_or last [] ++ rest)) →
     IfSome last (λ line. IsLine line × (0 < length line) × (rest ≡ []) × HasEnded left') → Front load (lines ++ option_to_list last) rest left'
 front load lines None rest left' every all took ended =
@@ -33,10 +34,13 @@ front load lines None rest left' every all took ended =
 front load lines (Some line) rest left' every all took last =
     let t = told (all_lines load) (all_lines lines ++ (line ++ rest)) left' took in
     let more = ended_is_nil left' t.more t.left_is last.3 in
-    let text : (line ++ rest) ++ t.more ≡ line = ap (λ (r : List ℕ). (line ++ r) ++ t.more) last.2 ∙ ap (λ (m : List ℕ). (line ++ []) ++ m) more ∙ append-nil (line ++ []) ∙ append-nil line in
+    let text : (line ++ rest) ++ t.more ≡ line = ap (λ (r : List ℕ). (line ++ r) ++ t.more) last.2 ∙ ap (λ (m : List ℕ). (line ++ []) ++ m) more
+    ∙ append-nil (line ++ []) ∙ append-nil line in
     record {
       others = [];
-      are = same load every ∙ ap lines_of (t.parts ∙ append_assoc (all_lines lines) (line ++ rest) t.more ∙ ap (λ (r : List ℕ). all_lines lines ++ r) text)
-          ∙ lines_of-joined lines line all ∙ ap (λ (ls : List (List ℕ)). lines ++ ls) (lines_of-last line last.0.one last.1) ∙ sym (append-nil (lines ++ line ∷ []));
+      are = same load every
+          ∙ ap lines_of (t.parts ∙ append_assoc (all_lines lines) (line ++ rest) t.more ∙ ap (λ (r : List ℕ). all_lines lines ++ r) text)
+          ∙ lines_of-joined lines line all ∙ ap (λ (ls : List (List ℕ)). lines ++ ls) (lines_of-last line last.0.one last.1)
+          ∙ sym (append-nil (lines ++ line ∷ []));
       all = λ none end. refl;
     }

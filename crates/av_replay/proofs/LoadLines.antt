@@ -1,8 +1,9 @@
 -- Each line of a load is a good one, and how many there are.
-use Rattle.std.proofs.Common.{◌≡◌, ℕ, suc, zero, ◌+◌, ◌≤◌, List, [], ◌∷◌, map, length, refl, ap, subst, arith, length-append}
+use Rattle.std.proofs.Common.{◌≡◌, ℕ, suc, zero, ◌+◌, ◌<◌, ◌≤◌, List, [], ◌∷◌, ◌++◌, map, length, refl, ap, subst, arith, length-append}
 use Rattle.std.specs.Prelude.{All, codes, Some}
 use Rattle.std.specs.Fmt.{digits}
 use Rattle.std.specs.List.{AllByRecursion, range_with_len}
+use Rattle.std.proofs.lemmas.Fmt.{decimal_digit}
 use Rattle.std.proofs.lemmas.List.{length-map}
 use Rattle.std.proofs.lemmas.List.Elements.{All-cons, All-nil}
 use Rattle.std.proofs.lemmas.List.FromFn.{length-map-range_with_len}
@@ -12,10 +13,10 @@ use Rattle.av_trace.specs.declared.command.Command.TheVariants as commands
 use Rattle.av_trace.specs.declared.place.Place.TheVariants.{Fixed}
 use Rattle.av_replay.specs.Line.{IsLine}
 use Rattle.av_replay.specs.Replay.{all_lines}
-use Rattle.av_replay.specs.Template.{IsDrawn, no_draws}
+use Rattle.av_replay.specs.Template.{IsDrawn, filled, no_draws}
 use Rattle.av_replay.specs.Trace.{IsGood, IsTrace, lines_of}
-use Rattle.av_replay.specs.Words.{most_load, most_names}
-use Rattle.av_replay.specs.Work.{address_of, after_line, commands_from, draws_of, first_commands, load, load_lines, reads_and_writes}
+use Rattle.av_words.specs.Words.{most_load, most_names}
+use Rattle.av_replay.specs.Work.{address_of, after_line, commands_from, draws_of, first_commands, first_process, load, load_lines, reads_and_writes, turn_on, turn_on_commands}
 use Rattle.av_replay.proofs.LoadFront.{same}
 use Rattle.av_replay.proofs.Plain.{IsShort, is-short, short}
 use Rattle.av_replay.proofs.Ranges.{drawn-in-range}
@@ -33,15 +34,18 @@ unfolding commands_from
 good-drawn zero x = tt
 good-drawn (suc n) x = (good _ (drawn-in-range x) (is-short (draws_of x) (drawn x) (draws_of x).kind (drawn x).kind), good-drawn n (after_line x))
 
-swapon-good : IsGood (line_of (commands.Swapon 0))
-unfolding digits
-swapon-good =
-    good (commands.Swapon 0) (record { least = omega arith; most = omega arith }) (short no_draws (codes "swapon 0") (commands.Swapon 0) refl refl (omega arith))
+turn-on-good : (area : ℕ) → area < most_names → IsGood (line_of (turn_on area))
+turn-on-good area few =
+    let draws = record no_draws { process = area } in
+    let is : filled draws (codes "swapon P") ≡ line_of (turn_on area) = rw (decimal_digit area (omega (arith, few))) refl in
+    good (turn_on area) (record { least = omega arith; most = omega (arith, few) }, tt)
+    (short draws (codes "swapon P") (turn_on area) is refl (omega arith))
 
 spawn-good : IsGood (line_of (commands.Spawn 1))
 unfolding digits
 spawn-good =
-    good (commands.Spawn 1) (record { least = omega arith; most = omega arith }) (short no_draws (codes "spawn 1") (commands.Spawn 1) refl refl (omega arith))
+    good (commands.Spawn 1) (record { least = omega arith; most = omega arith })
+    (short no_draws (codes "spawn 1") (commands.Spawn 1) refl refl (omega arith))
 
 mmap-good : IsGood (line_of (commands.Mmap 1 65536 reads_and_writes (Fixed (address_of 0))))
 unfolding digits
@@ -50,10 +54,15 @@ mmap-good =
     good c (record { least = omega arith; most = omega arith }, omega arith, omega arith)
     (short no_draws (codes "mmap 1 65536 rw- fixed 10000000") c refl refl (omega arith))
 
+good-turns : (a n : ℕ) (first drawn : List Command) → a + n ≤ most_names → AllByRecursion IsGood (map line_of (first ++ drawn)) →
+    AllByRecursion IsGood (map line_of (map turn_on (range_with_len a n) ++ first ++ drawn))
+good-turns a zero first drawn few others = others
+good-turns a (suc n) first drawn few others =
+    (turn-on-good a (omega (arith, few)), good-turns (a + 1) n first drawn (omega (arith, few)) others)
+
 good-load : (areas seed lines : ℕ) → areas ≤ most_names → AllByRecursion IsGood (load_lines areas seed lines)
-good-load zero seed lines few = (spawn-good, (mmap-good, good-drawn lines seed))
-good-load (suc zero) seed lines few = (swapon-good, (spawn-good, (mmap-good, good-drawn lines seed)))
-good-load (suc (suc areas)) seed lines few = absurd (omega (arith, few))
+good-load areas seed lines few =
+    good-turns 0 areas first_process (commands_from lines seed) (omega (arith, few)) (spawn-good, (mmap-good, good-drawn lines seed))
 
 are-lines : (lines : List (List ℕ)) → AllByRecursion IsGood lines → AllByRecursion IsLine lines
 are-lines [] all = tt
@@ -78,8 +87,8 @@ load-count areas seed lines =
       length-map (load areas seed lines) line_of,
       length-append first drawn,
       drawn-count lines seed,
-      length-append (map commands.Swapon (range_with_len 0 areas)) (commands.Spawn 1 ∷ commands.Mmap 1 65536 reads_and_writes (Fixed (address_of 0)) ∷ []),
-      length-map-range_with_len commands.Swapon 0 areas,
+      length-append (turn_on_commands areas) first_process,
+      length-map-range_with_len turn_on 0 areas,
     )
 
 -- ---- the whole

@@ -12,13 +12,13 @@ use Rattle.av_kernel.specs.Kernel.{Stands}
 use Rattle.av_kernel.specs.Machine.{Machine}
 use Rattle.av_replay.specs.declared.status.Status.{Status}
 use Rattle.av_replay.specs.declared.status.Status.TheVariants as statuses
-use Rattle.av_replay.specs.Attach.{IsOver, ReplaysOver, WorksOver}
+use Rattle.av_replay.specs.Over.{RunsOverAreas, ReplaysOver, WorksOver}
 use Rattle.av_replay.specs.Line.{IsLine}
 use Rattle.av_replay.specs.Ports.{IsAtEnd, PortsView}
 use Rattle.av_replay.specs.Replay.{Ends, Headline, IsHandedBack, Run, all_lines, can_go_on, kernel_at}
-use Rattle.av_replay.specs.Summary.{SumsUp, Works, summary_of, summary_text}
+use Rattle.av_replay.specs.Summary.{EndsWork, SumsUp, Works, summary_of, summary_text}
 use Rattle.av_replay.specs.Trace.{IsDoneOrMemory}
-use Rattle.av_replay.specs.Words.{most_load, most_names}
+use Rattle.av_words.specs.Words.{most_load, most_names}
 use Rattle.av_replay.specs.Work.{load_lines}
 use Rattle.av_replay.proofs.Endings.{hands_if}
 use Rattle.av_replay.proofs.LoadFront.{front}
@@ -45,8 +45,8 @@ unrisen : (a b : ℕ) → a ≡ 0 → b ≡ 0 → b ≡ one_more a → ⊥
 unrisen a b none still rose = omega (arith, none, still, rose)
 
 pub loaded : (n areas seed lines : ℕ) (status : Status) (old new : PortsView) (kernel : Option Machine) → areas ≤ most_names → lines ≤ most_load →
-    old.source.left ≡ Some (all_lines (load_lines areas seed lines)) → old.source.faults ≡ 0 → new.source.faults ≡ 0 → old.sink.faults ≡ 0 →
-    new.sink.faults ≡ 0 → Headline n status old new kernel → Loaded n (load_lines areas seed lines) status old.device new.device kernel
+    old.source.left ≡ Some (all_lines (load_lines areas seed lines)) → old.source.failures ≡ 0 → new.source.failures ≡ 0 → old.sink.failures ≡ 0 →
+    new.sink.failures ≡ 0 → Headline n status old new kernel → Loaded n (load_lines areas seed lines) status old.device new.device kernel
 loaded n areas seed lines status old new kernel few short left source source' sink sink' h =
     let ls = load_lines areas seed lines in
     let r = h.replays in
@@ -56,10 +56,10 @@ loaded n areas seed lines status old new kernel few short left source source' si
     record {
       run = h.run;
       others = f.others;
-      works = record { done = f.are; commands = r.commands; legal = r.legal; faults = r.faults; device = r.device };
+      works = record { done = f.are; commands = r.commands; legal = r.legal; failures = r.failures; device = r.device };
       ends = complete n status old new kernel h (all_lines ls) left (is-trace areas seed lines few short)
-          (λ rose. unrisen old.source.faults new.source.faults source source' rose)
-          (λ failed. unrisen old.sink.faults new.sink.faults sink sink' failed.faults);
+          (λ rose. unrisen old.source.failures new.source.failures source source' rose)
+          (λ failed. unrisen old.sink.failures new.sink.failures sink sink' failed.failures);
       all = λ done.
           let ends = subst (λ (s : Status). Ends s old new h.run h.rest h.written) done h.ends in
           f.all ends.0.0 ends.0.1.ended;
@@ -71,17 +71,19 @@ done-is-no-memory status done memory =
     let e : statuses.Done ≡ statuses.Memory = sym done ∙ memory in absurd cc
 
 -- the same over the areas that the words name
-pub loaded-over : (n count seed lines : ℕ) (status : Status) (old new : PortsView) (kernel : Option Machine) → count ≤ most_names → lines ≤ most_load →
-    old.source.left ≡ Some (all_lines (load_lines count seed lines)) → old.source.faults ≡ 0 → new.source.faults ≡ 0 → old.sink.faults ≡ 0 →
-    new.sink.faults ≡ 0 → ReplaysOver n count status old new kernel →
-    IsOver count status old.device (λ attached. Loaded n (load_lines count seed lines) status attached new.device kernel)
+pub loaded-over : (n count seed lines : ℕ) (status : Status) (old new : PortsView) (kernel : Option Machine) → count ≤ most_names
+    → lines ≤ most_load →
+    old.source.left ≡ Some (all_lines (load_lines count seed lines)) → old.source.failures ≡ 0 → new.source.failures ≡ 0 → old.sink.failures ≡ 0 →
+    new.sink.failures ≡ 0 → ReplaysOver n count status old new kernel →
+    RunsOverAreas count status old.device (λ attached. Loaded n (load_lines count seed lines) status attached new.device kernel)
 loaded-over n count seed lines status old new kernel few short left source source' sink sink' over = record {
   pages = over.pages;
   few = over.few;
   all = over.all;
   attached = over.attached;
   attaches = over.attaches;
-  does = loaded n count seed lines status (record old { device = over.attached }) new kernel few short left source source' sink sink' over.does.headline;
+  does = loaded n count seed lines status (record old { device = over.attached }) new kernel few short left source source' sink sink'
+      over.does.headline;
 }
 
 -- where there is a kernel to go on with every line was done
@@ -98,8 +100,9 @@ pub stopped : (status : Status) → false ≡ can_go_on status → status ≢ st
 stopped status stops done = absurd (false≢true (stops ∙ ap can_go_on done))
 
 -- memory was wanting before every line was done, and nothing is written
-pub wanting : (n count seed lines : ℕ) (status : Status) (sink : SinkView) (device device' : Device) (kernel : Option Machine) → status ≢ statuses.Done →
-    IsOver count status device (λ attached. Loaded n (load_lines count seed lines) status attached device' kernel) →
+pub wanting : (n count seed lines : ℕ) (status : Status) (sink : SinkView) (device device' : Device) (kernel : Option Machine)
+    → status ≢ statuses.Done →
+    RunsOverAreas count status device (λ attached. Loaded n (load_lines count seed lines) status attached device' kernel) →
     WorksOver seed lines n count status sink sink device device' kernel
 wanting n count seed lines status sink device device' kernel not over = record {
   pages = over.pages;
@@ -116,10 +119,16 @@ wanting n count seed lines status sink device device' kernel not over = record {
   };
 }
 
+-- every line was done, and this summary of them written
+ends-work : (last : Status) (old new : SinkView) (others : List (List ℕ)) (text : List ℕ) → others ≡ [] → SumsUp last old new text →
+    EndsWork last old new others text
+ends-work last old new others text none (inl memory) = inl memory
+ends-work last old new others text none (inr ends) = inr (none, ends)
+
 -- every line was done, and then this summary was written
 pub summed : (n count seed lines total : ℕ) (status last : Status) (old new : SinkView) (device device' device'' : Device) (kernel : Machine) →
     status ≡ statuses.Done → total ≡ count + 2 + lines → device'' ≡ device' →
-    IsOver count status device (λ attached. Loaded n (load_lines count seed lines) status attached device' (Some kernel)) →
+    RunsOverAreas count status device (λ attached. Loaded n (load_lines count seed lines) status attached device' (Some kernel)) →
     ((s : State) → Stands kernel device' s →
     SumsUp last old new (summary_text total kernel.tally (totals (setting_of kernel.frames device') s.world s.ledger))) →
     WorksOver seed lines n count last old new device device'' (kernel_at last kernel)
@@ -128,7 +137,8 @@ summed n count seed lines total status last old new device device' device'' kern
     let run = over.does.run in
     let left = over.does.handed_back in
     let all : total ≡ length ls = many ∙ sym (load-count count seed lines) in
-    let is : summary_text total kernel.tally (totals (setting_of kernel.frames device') run.state.world run.state.ledger) ≡ summary_of n device' ls run =
+    let is : summary_text total kernel.tally (totals (setting_of kernel.frames device') run.state.world run.state.ledger) ≡ summary_of n
+    device' ls run =
     λ i. summary_text (all i) (left.tally i) (totals (setting_of (left.frames i) device') run.state.world run.state.ledger) in
     subst (λ (d : Device). WorksOver seed lines n count last old new device d (kernel_at last kernel)) (sym same) (record {
       pages = over.pages;
@@ -140,7 +150,8 @@ summed n count seed lines total status last old new device device' device'' kern
         run = run;
         others = over.does.others;
         works = over.does.works;
-        ends = inr (over.does.all done, subst (λ (text : List ℕ). SumsUp last old new text) is (sums run.state left.stands));
+        ends = ends-work last old new over.does.others _ (over.does.all done)
+            (subst (λ (text : List ℕ). SumsUp last old new text) is (sums run.state left.stands));
         handed_back = hands_if (can_go_on last) (λ k. IsHandedBack k device' n run) kernel left;
       };
     })

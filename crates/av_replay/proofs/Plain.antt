@@ -32,7 +32,8 @@ all-plain d (b ∷ t) e =
 abbrev pub IsShort : Command → Type 0
 IsShort c = All (λ b. b ≢ 10) (line_of c) × (length (line_of c) ≤ 8448)
 
-pub short : (d : Draws) (t : List ℕ) (c : Command) → filled d t ≡ line_of c → list_all (λ (b : ℕ). not (b == 10)) t ≡ true → length (filled d t) ≤ 8448 → IsShort c
+pub short : (d : Draws) (t : List ℕ) (c : Command) → filled d t ≡ line_of c → list_all (λ (b : ℕ). not (b == 10)) t ≡ true
+    → length (filled d t) ≤ 8448 → IsShort c
 short d t c is plain few = (subst (λ line. All (λ b. b ≢ 10) line) is (all-plain d t plain), subst (λ (line : List ℕ). length line ≤ 8448) is few)
 
 either : (b : Bool) (c e : Command) → IsShort c → IsShort e → IsShort (if b then c else e)
@@ -47,20 +48,46 @@ module _ (d : Draws) (drawn : IsDrawn d) where
   mprotect false left right = right
 
   pub is-short : (kind : ℕ) → kind < 16 → IsShort (command_by kind d.process (address_of d.page) d.value)
-  is-short zero few = short d (codes "write P 1000G000 HL") (commands.Write d.process (address_of d.page) (d.value ∷ [])) (write-line d drawn) refl (omega arith)
-  is-short (suc zero) few = short d (codes "write P 1000G000 HL") (commands.Write d.process (address_of d.page) (d.value ∷ [])) (write-line d drawn) refl (omega arith)
-  is-short (suc (suc zero)) few = short d (codes "write P 1000G000 HL") (commands.Write d.process (address_of d.page) (d.value ∷ [])) (write-line d drawn) refl (omega arith)
-  is-short (suc (suc (suc zero))) few = short d (codes "write P 1000G000 HL") (commands.Write d.process (address_of d.page) (d.value ∷ [])) (write-line d drawn) refl (omega arith)
-  is-short (suc (suc (suc (suc zero)))) few = short d (codes "write P 1000G000 HL") (commands.Write d.process (address_of d.page) (d.value ∷ [])) (write-line d drawn) refl (omega arith)
-  is-short (suc (suc (suc (suc (suc zero))))) few = short d (codes "read P 1000G000 1") (commands.Read d.process (address_of d.page) 1) (read-line d drawn) refl (omega arith)
-  is-short (suc (suc (suc (suc (suc (suc zero)))))) few = short d (codes "read P 1000G000 1") (commands.Read d.process (address_of d.page) 1) (read-line d drawn) refl (omega arith)
-  is-short (suc (suc (suc (suc (suc (suc (suc zero))))))) few = short d (codes "read P 1000G000 1") (commands.Read d.process (address_of d.page) 1) (read-line d drawn) refl (omega arith)
-  is-short (suc (suc (suc (suc (suc (suc (suc (suc zero)))))))) few = short d (codes "read P 1000G000 1") (commands.Read d.process (address_of d.page) 1) (read-line d drawn) refl (omega arith)
-  is-short (suc (suc (suc (suc (suc (suc (suc (suc (suc zero))))))))) few = short d (codes "fork P Q") (commands.Fork d.process (1 + d.value % 8)) (fork-line d drawn) refl (omega arith)
-  is-short (suc (suc (suc (suc (suc (suc (suc (suc (suc (suc zero)))))))))) few = either _ (commands.Read 1 (address_of d.page) 1) (commands.Exit d.process) (short (record d { process = 1 }) (codes "read P 1000G000 1") (commands.Read 1 (address_of d.page) 1) (read-line (record d { process = 1 }) (record { kind = drawn.kind; least = omega arith; most = omega arith; page = drawn.page; value = drawn.value })) refl (omega arith)) (short d (codes "exit P") (commands.Exit d.process) (exit-line d drawn) refl (omega arith))
-  is-short (suc (suc (suc (suc (suc (suc (suc (suc (suc (suc (suc zero))))))))))) few = short d (codes "reclaim N") (commands.Reclaim (1 + d.value % 4)) (reclaim-line d drawn) refl (omega arith)
-  is-short (suc (suc (suc (suc (suc (suc (suc (suc (suc (suc (suc (suc zero)))))))))))) few = short d (codes "age N") (commands.Age (1 + d.value % 4)) (age-line d drawn) refl (omega arith)
-  is-short (suc (suc (suc (suc (suc (suc (suc (suc (suc (suc (suc (suc (suc zero))))))))))))) few = short d (codes "complete N") (commands.Complete (1 + d.value % 4)) (complete-line d drawn) refl (omega arith)
-  is-short (suc (suc (suc (suc (suc (suc (suc (suc (suc (suc (suc (suc (suc (suc zero)))))))))))))) few = mprotect _ (short d (codes "mprotect P 1000G000 4096 r--") (commands.Mprotect d.process (address_of d.page) 4096 reads_only) (mprotect-read-line d drawn) refl (omega arith)) (short d (codes "mprotect P 1000G000 4096 rw-") (commands.Mprotect d.process (address_of d.page) 4096 reads_and_writes) (mprotect-write-line d drawn) refl (omega arith))
-  is-short (suc (suc (suc (suc (suc (suc (suc (suc (suc (suc (suc (suc (suc (suc (suc zero))))))))))))))) few = either _ (commands.Munmap d.process (address_of d.page) 4096) (commands.Mmap d.process 4096 reads_and_writes (Fixed (address_of d.page))) (short d (codes "munmap P 1000G000 4096") (commands.Munmap d.process (address_of d.page) 4096) (munmap-line d drawn) refl (omega arith)) (short d (codes "mmap P 4096 rw- fixed 1000G000") (commands.Mmap d.process 4096 reads_and_writes (Fixed (address_of d.page))) (mmap-line d drawn) refl (omega arith))
+  is-short zero few = short d (codes "write P 1000G000 HL") (commands.Write d.process (address_of d.page) (d.value ∷ [])) (write-line d drawn)
+      refl (omega arith)
+  is-short (suc zero) few =
+      short d (codes "write P 1000G000 HL") (commands.Write d.process (address_of d.page) (d.value ∷ [])) (write-line d drawn) refl (omega arith)
+  is-short (suc (suc zero)) few =
+      short d (codes "write P 1000G000 HL") (commands.Write d.process (address_of d.page) (d.value ∷ [])) (write-line d drawn) refl (omega arith)
+  is-short (suc (suc (suc zero))) few =
+      short d (codes "write P 1000G000 HL") (commands.Write d.process (address_of d.page) (d.value ∷ [])) (write-line d drawn) refl (omega arith)
+  is-short (suc (suc (suc (suc zero)))) few =
+      short d (codes "write P 1000G000 HL") (commands.Write d.process (address_of d.page) (d.value ∷ [])) (write-line d drawn) refl (omega arith)
+  is-short (suc (suc (suc (suc (suc zero))))) few =
+      short d (codes "read P 1000G000 1") (commands.Read d.process (address_of d.page) 1) (read-line d drawn) refl (omega arith)
+  is-short (suc (suc (suc (suc (suc (suc zero)))))) few =
+      short d (codes "read P 1000G000 1") (commands.Read d.process (address_of d.page) 1) (read-line d drawn) refl (omega arith)
+  is-short (suc (suc (suc (suc (suc (suc (suc zero))))))) few =
+      short d (codes "read P 1000G000 1") (commands.Read d.process (address_of d.page) 1) (read-line d drawn) refl (omega arith)
+  is-short (suc (suc (suc (suc (suc (suc (suc (suc zero)))))))) few =
+      short d (codes "read P 1000G000 1") (commands.Read d.process (address_of d.page) 1) (read-line d drawn) refl (omega arith)
+  is-short (suc (suc (suc (suc (suc (suc (suc (suc (suc zero))))))))) few =
+      short d (codes "fork P Q") (commands.Fork d.process (1 + d.value % 8)) (fork-line d drawn) refl (omega arith)
+  is-short (suc (suc (suc (suc (suc (suc (suc (suc (suc (suc zero)))))))))) few =
+      either _ (commands.Read 1 (address_of d.page) 1) (commands.Exit d.process)
+      (short (record d { process = 1 }) (codes "read P 1000G000 1") (commands.Read 1 (address_of d.page) 1)
+      (read-line (record d { process = 1 })
+      (record { kind = drawn.kind; least = omega arith; most = omega arith; page = drawn.page; value = drawn.value })) refl (omega arith))
+      (short d (codes "exit P") (commands.Exit d.process) (exit-line d drawn) refl (omega arith))
+  is-short (suc (suc (suc (suc (suc (suc (suc (suc (suc (suc (suc zero))))))))))) few =
+      short d (codes "reclaim N") (commands.Reclaim (1 + d.value % 4)) (reclaim-line d drawn) refl (omega arith)
+  is-short (suc (suc (suc (suc (suc (suc (suc (suc (suc (suc (suc (suc zero)))))))))))) few =
+      short d (codes "age N") (commands.Age (1 + d.value % 4)) (age-line d drawn) refl (omega arith)
+  is-short (suc (suc (suc (suc (suc (suc (suc (suc (suc (suc (suc (suc (suc zero))))))))))))) few =
+      short d (codes "complete N") (commands.Complete (1 + d.value % 4)) (complete-line d drawn) refl (omega arith)
+  is-short (suc (suc (suc (suc (suc (suc (suc (suc (suc (suc (suc (suc (suc (suc zero)))))))))))))) few =
+      mprotect _ (short d (codes "mprotect P 1000G000 4096 r--") (commands.Mprotect d.process (address_of d.page) 4096 reads_only)
+      (mprotect-read-line d drawn) refl (omega arith))
+      (short d (codes "mprotect P 1000G000 4096 rw-") (commands.Mprotect d.process (address_of d.page) 4096 reads_and_writes)
+      (mprotect-write-line d drawn) refl (omega arith))
+  is-short (suc (suc (suc (suc (suc (suc (suc (suc (suc (suc (suc (suc (suc (suc (suc zero))))))))))))))) few =
+      either _ (commands.Munmap d.process (address_of d.page) 4096) (commands.Mmap d.process 4096 reads_and_writes (Fixed (address_of d.page)))
+      (short d (codes "munmap P 1000G000 4096") (commands.Munmap d.process (address_of d.page) 4096) (munmap-line d drawn) refl (omega arith))
+      (short d (codes "mmap P 4096 rw- fixed 1000G000") (commands.Mmap d.process 4096 reads_and_writes (Fixed (address_of d.page)))
+      (mmap-line d drawn) refl (omega arith))
   is-short (suc (suc (suc (suc (suc (suc (suc (suc (suc (suc (suc (suc (suc (suc (suc (suc n)))))))))))))))) few = absurd (omega (arith, few))

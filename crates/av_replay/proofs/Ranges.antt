@@ -45,14 +45,18 @@ module _ (p page v : ℕ) (least : 1 ≤ p) (most : p ≤ 8) (pages : page < 16)
   in-range (suc (suc (suc (suc (suc (suc (suc zero))))))) few = (process, wide, one)
   in-range (suc (suc (suc (suc (suc (suc (suc (suc zero)))))))) few = (process, wide, one)
   in-range (suc (suc (suc (suc (suc (suc (suc (suc (suc zero))))))))) few = (process, child)
-  in-range (suc (suc (suc (suc (suc (suc (suc (suc (suc (suc zero)))))))))) few = either _ (commands.Read 1 (address_of page) 1) (commands.Exit p) (first, wide, one) process
+  in-range (suc (suc (suc (suc (suc (suc (suc (suc (suc (suc zero)))))))))) few =
+      either _ (commands.Read 1 (address_of page) 1) (commands.Exit p) (first, wide, one) process
   in-range (suc (suc (suc (suc (suc (suc (suc (suc (suc (suc (suc zero))))))))))) few = count v
   in-range (suc (suc (suc (suc (suc (suc (suc (suc (suc (suc (suc (suc zero)))))))))))) few = count v
   in-range (suc (suc (suc (suc (suc (suc (suc (suc (suc (suc (suc (suc (suc zero))))))))))))) few = count v
   in-range (suc (suc (suc (suc (suc (suc (suc (suc (suc (suc (suc (suc (suc (suc zero)))))))))))))) few = (process, wide, page-long)
-  in-range (suc (suc (suc (suc (suc (suc (suc (suc (suc (suc (suc (suc (suc (suc (suc zero))))))))))))))) few = either _ (commands.Munmap p (address_of page) 4096) (commands.Mmap p 4096 reads_and_writes (Fixed (address_of page))) (process, wide, page-long) (process, page-long, wide)
+  in-range (suc (suc (suc (suc (suc (suc (suc (suc (suc (suc (suc (suc (suc (suc (suc zero))))))))))))))) few =
+      either _ (commands.Munmap p (address_of page) 4096) (commands.Mmap p 4096 reads_and_writes (Fixed (address_of page))) (process, wide, page-long)
+      (process, page-long, wide)
   in-range (suc (suc (suc (suc (suc (suc (suc (suc (suc (suc (suc (suc (suc (suc (suc (suc n)))))))))))))))) few = absurd (omega (arith, few))
 
 -- whatever the number that they are drawn of
 pub drawn-in-range : (x : ℕ) → IsInRange (command_of (draws_of x))
-drawn-in-range x = let d = draws_of x in in-range d.process d.page d.value (omega arith) (omega arith) (omega arith) (omega arith) d.kind (omega arith)
+drawn-in-range x = let d = draws_of x in
+    in-range d.process d.page d.value (omega arith) (omega arith) (omega arith) (omega arith) d.kind (omega arith)

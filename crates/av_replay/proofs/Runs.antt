@@ -29,7 +29,8 @@ pub all_push : (P : List ℕ → Type 0) (lines : List (List ℕ)) (line : List 
 all_push P [] line all p = (p, tt)
 all_push P (x ∷ lines) line all p = (all.0, all_push P lines line all.1 p)
 
-pub Transcribes-push : (lines : List (List ℕ)) (es : List Exchange) (line : List ℕ) (did : Option Exchange) → Transcribes lines es → Commands line did →
+pub Transcribes-push : (lines : List (List ℕ)) (es : List Exchange) (line : List ℕ) (did : Option Exchange) → Transcribes lines es
+    → Commands line did →
     Transcribes (lines ++ line ∷ []) (es ++ option_to_list did)
 Transcribes-push [] es line did e commands =
     (did, [], ap (λ (t : List Exchange). t ++ option_to_list did) e ∙ sym (append-nil (option_to_list did)), commands, refl)
@@ -71,7 +72,7 @@ pub record SoFar (n : ℕ) (past : Past) (ahead : List ℕ) (old now : PortsView
   pub lines : AllByRecursion IsLine past.lines
   pub commands : Transcribes past.lines past.transcript
   pub legal : IsRun (setting_of n old.device) (at_first (setting_of n old.device)) past.transcript past.state
-  pub faults : RoseBy (causes_of past.transcript) old.device.faults now.device.faults
+  pub failures : RoseBy (causes_of past.transcript) old.device.failures now.device.failures
   pub wrote : Gained old.sink.held now.sink.held (texts past.transcript)
   pub kernel_left : IsHandedBack kernel now.device n (whole past)
   pub device : IsSameDevice old.device now.device
@@ -84,12 +85,13 @@ no_past m = record { lines = []; transcript = []; state = at_first m }
 pub starts : (ahead : List ℕ) (now : PortsView) (kernel : Machine) → ahead ≡ [] → IsAtStart kernel now.device →
     SoFar kernel.frames (no_past (setting_of kernel.frames now.device)) ahead now now kernel
 starts ahead now kernel none start = record {
-  read = Took-none now.source.left ∙ ap (in_front []) (Took-none now.source.left ∙ ap (λ (bytes : List ℕ). in_front bytes now.source.left) (sym none));
+  read = Took-none now.source.left
+      ∙ ap (in_front []) (Took-none now.source.left ∙ ap (λ (bytes : List ℕ). in_front bytes now.source.left) (sym none));
   near = omega (arith, ap length none);
   lines = tt;
   commands = refl;
   legal = refl;
-  faults = rose_none now.device.faults;
+  failures = rose_none now.device.failures;
   wrote = Gained-none now.sink.held;
   kernel_left = record {
     stands = start.stands;
@@ -125,18 +127,19 @@ module _ (n : ℕ) (past : Past) (ahead : List ℕ) (old now new : PortsView) (k
   pub device_more : IsSameDevice old.device new.device
   device_more = device_then old.device now.device new.device so_far.device takes.device
 
-  pub legal_more : IsRun (setting_of n old.device) (at_first (setting_of n old.device)) (past.transcript ++ option_to_list next_answers.did) next_answers.next
+  pub legal_more : IsRun (setting_of n old.device) (at_first (setting_of n old.device)) (past.transcript ++ option_to_list next_answers.did)
+      next_answers.next
   legal_more = IsRun-append (setting_of n old.device) (at_first (setting_of n old.device)) past.state next_answers.next past.transcript
       (option_to_list next_answers.did) so_far.legal
       (subst (λ (m : Setting). IsRun m past.state (option_to_list next_answers.did) next_answers.next)
       (ap (λ k. setting_of k now.device) so_far.kernel_left.frames ∙ setting_same n old.device now.device so_far.device) next_answers.run)
 
-  -- what only faults explain, with those of the line
-  pub faults_more : RoseBy (causes_of (past.transcript ++ option_to_list next_answers.did)) old.device.faults new.device.faults
-  faults_more = subst (λ c. RoseBy c old.device.faults new.device.faults)
+  -- what only failures explain, with those of the line
+  pub failures_more : RoseBy (causes_of (past.transcript ++ option_to_list next_answers.did)) old.device.failures new.device.failures
+  failures_more = subst (λ c. RoseBy c old.device.failures new.device.failures)
       (sym (sum_by-append (λ (e : Exchange). causes e.reply) past.transcript (option_to_list next_answers.did)))
-      (rose_then (causes_of past.transcript) (causes_of (option_to_list next_answers.did)) old.device.faults now.device.faults new.device.faults
-      so_far.faults next_answers.faults)
+      (rose_then (causes_of past.transcript) (causes_of (option_to_list next_answers.did)) old.device.failures now.device.failures new.device.failures
+      so_far.failures next_answers.failures)
 
   -- the kernel after the line
   pub kernel_more : (lines : List (List ℕ)) (last : Option (List ℕ)) →
@@ -149,7 +152,8 @@ module _ (n : ℕ) (past : Past) (ahead : List ℕ) (old now new : PortsView) (k
         stands = a.stands;
         frames = a.counts.frames ∙ kept.frames;
         steps = omega (arith, a.counts.steps, kept.steps, length-append past.transcript (option_to_list a.did));
-        tally = a.counts.tally ∙ ap (tally_of (option_to_list a.did)) kept.tally ∙ sym (tally_of-append past.transcript (option_to_list a.did) none_counted);
+        tally = a.counts.tally ∙ ap (tally_of (option_to_list a.did)) kept.tally
+            ∙ sym (tally_of-append past.transcript (option_to_list a.did) none_counted);
         unspent = a.counts.spent kept.unspent;
         attached = takes.device.sizes ∙ kept.attached ∙ ap sizes_of (sym a.counts.sizes);
       }
@@ -159,7 +163,8 @@ module _ (n : ℕ) (past : Past) (ahead : List ℕ) (old now new : PortsView) (k
   texts_more = ap (λ (t : List ℕ). texts past.transcript ++ t) next_answers.said
       ∙ sym (flat_map-append (λ (e : Exchange). text_of e.reply) past.transcript (option_to_list next_answers.did))
 
-pub goes_on : (n : ℕ) (past : Past) (ahead rest : List ℕ) (old now new : PortsView) (k k' : Machine) (line text : List ℕ) (so_far : SoFar n past ahead old now k)
+pub goes_on : (n : ℕ) (past : Past) (ahead rest : List ℕ) (old now new : PortsView) (k k' : Machine) (line text : List ℕ)
+    (so_far : SoFar n past ahead old now k)
     (takes : TakesLine ahead now new k k' line (10 ∷ []) rest text text) (unfailed : AreUnfailed now new)
     (stays_open : StaysOpen now.source new.source) →
     SoFar n (longer past line (next_answers n past ahead old now new k k' line (10 ∷ []) rest text text so_far takes).did
@@ -173,7 +178,7 @@ goes_on n past ahead rest old now new k k' line text so_far takes unfailed stays
       lines = all_push IsLine past.lines line so_far.lines takes.is_line;
       commands = Transcribes-push past.lines past.transcript line a.did so_far.commands a.commands;
       legal = legal_more n past ahead old now new k k' line (10 ∷ []) rest text text so_far takes;
-      faults = faults_more n past ahead old now new k k' line (10 ∷ []) rest text text so_far takes;
+      failures = failures_more n past ahead old now new k k' line (10 ∷ []) rest text text so_far takes;
       wrote = subst (Gained old.sink.held new.sink.held) (texts_more n past ahead old now new k k' line (10 ∷ []) rest text text so_far takes)
           (wrote_more n past ahead old now new k k' line (10 ∷ []) rest text text so_far takes);
       kernel_left = kernel_more n past ahead old now new k k' line (10 ∷ []) rest text text so_far takes (past.lines ++ line ∷ []) None;

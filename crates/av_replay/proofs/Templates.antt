@@ -127,10 +127,12 @@ module _ (d : Draws) (drawn : IsDrawn d) where
   pub mprotect-read : filled d (codes "mprotect P 1000G000 4096 r--\n") ≡ whole (commands.Mprotect d.process (address_of d.page) 4096 reads_only)
   mprotect-read = ap newline mprotect-read-line
 
-  pub mprotect-write-line : filled d (codes "mprotect P 1000G000 4096 rw-") ≡ line_of (commands.Mprotect d.process (address_of d.page) 4096 reads_and_writes)
+  pub mprotect-write-line : filled d (codes "mprotect P 1000G000 4096 rw-") ≡ line_of
+      (commands.Mprotect d.process (address_of d.page) 4096 reads_and_writes)
   mprotect-write-line = rw (process-digit, page-digits, page-size) refl
 
-  pub mprotect-write : filled d (codes "mprotect P 1000G000 4096 rw-\n") ≡ whole (commands.Mprotect d.process (address_of d.page) 4096 reads_and_writes)
+  pub mprotect-write : filled d (codes "mprotect P 1000G000 4096 rw-\n") ≡ whole
+      (commands.Mprotect d.process (address_of d.page) 4096 reads_and_writes)
   mprotect-write = ap newline mprotect-write-line
 
   pub munmap-line : filled d (codes "munmap P 1000G000 4096") ≡ line_of (commands.Munmap d.process (address_of d.page) 4096)
@@ -139,10 +141,12 @@ module _ (d : Draws) (drawn : IsDrawn d) where
   pub munmap-is : filled d (codes "munmap P 1000G000 4096\n") ≡ whole (commands.Munmap d.process (address_of d.page) 4096)
   munmap-is = ap newline munmap-line
 
-  pub mmap-line : filled d (codes "mmap P 4096 rw- fixed 1000G000") ≡ line_of (commands.Mmap d.process 4096 reads_and_writes (Fixed (address_of d.page)))
+  pub mmap-line : filled d (codes "mmap P 4096 rw- fixed 1000G000") ≡ line_of
+      (commands.Mmap d.process 4096 reads_and_writes (Fixed (address_of d.page)))
   mmap-line = rw (process-digit, page-digits, page-size) refl
 
-  pub mmap-is : filled d (codes "mmap P 4096 rw- fixed 1000G000\n") ≡ whole (commands.Mmap d.process 4096 reads_and_writes (Fixed (address_of d.page)))
+  pub mmap-is : filled d (codes "mmap P 4096 rw- fixed 1000G000\n") ≡ whole
+      (commands.Mmap d.process 4096 reads_and_writes (Fixed (address_of d.page)))
   mmap-is = ap newline mmap-line
 
   -- a line of this kind

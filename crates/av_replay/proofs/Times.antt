@@ -10,16 +10,17 @@ use Rattle.av_replay.specs.Replay.{IsHandedOn}
 -- ---- a device
 
 pub device_same : (a : Device) → IsSameDevice a a
-device_same a = record { sizes = refl; first = refl; faults = omega arith }
+device_same a = record { sizes = refl; first = refl; failures = omega arith }
 
 pub device_then : (a b c : Device) → IsSameDevice a b → IsSameDevice b c → IsSameDevice a c
-device_then a b c p q = record { sizes = q.sizes ∙ p.sizes; first = q.first ∙ p.first; faults = omega (arith, p.faults, q.faults) }
+device_then a b c p q = record { sizes = q.sizes ∙ p.sizes; first = q.first ∙ p.first; failures = omega (arith, p.failures, q.failures) }
 
 -- ---- where only the sink changed
 
 pub only_sink : (old new : PortsView) → OnlySink old new → new ≡ record old { sink = new.sink }
 only_sink old new only =
-    ap (λ (s : SourceView). record new { source = s }) only.source ∙ ap (λ (d : Device). record { source = old.source; sink = new.sink; device = d }) only.device
+    ap (λ (s : SourceView). record new { source = s }) only.source
+    ∙ ap (λ (d : Device). record { source = old.source; sink = new.sink; device = d }) only.device
 
 pub only_sink_then : (a b c : PortsView) → OnlySink a b → OnlySink b c → OnlySink a c
 only_sink_then a b c p q = record { source = q.source ∙ p.source; device = q.device ∙ p.device }
@@ -29,12 +30,12 @@ only_sink_then a b c p q = record { source = q.source ∙ p.source; device = q.d
 pub unfailed_then : (a b c : PortsView) → AreUnfailed a b → AreUnfailed b c → AreUnfailed a c
 unfailed_then a b c p q = record { source = q.source ∙ p.source; sink = q.sink ∙ p.sink }
 
-pub failed_since : (a b c : SinkView) → b.faults ≡ a.faults → HasFailed b c → HasFailed a c
-failed_since a b c same failed = record { faults = failed.faults ∙ ap one_more same; told = failed.told }
+pub failed_since : (a b c : SinkView) → b.failures ≡ a.failures → HasFailed b c → HasFailed a c
+failed_since a b c same failed = record { failures = failed.failures ∙ ap one_more same; told = failed.told }
 
-pub read_fault_since : (a b c : SourceView) → b.faults ≡ a.faults → StaysOpen a b → IsReadFault b c → IsReadFault a c
+pub read_fault_since : (a b c : SourceView) → b.failures ≡ a.failures → StaysOpen a b → IsReadFault b c → IsReadFault a c
 read_fault_since a b c same open_then failed = record {
-  faults = failed.faults ∙ ap one_more same;
+  failures = failed.failures ∙ ap one_more same;
   stays_open = λ untold. failed.stays_open (open_then untold);
 }
 

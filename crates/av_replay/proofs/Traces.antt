@@ -22,9 +22,11 @@ lines_of-other b bytes ne = cond-false _ _ _ (ne_eqb b 10 ne)
 lines_of-line : (line more : List ℕ) → HasNoNewline line → lines_of (line ++ 10 ∷ more) ≡ line ∷ lines_of more
 lines_of-line [] more none = refl
 lines_of-line (b ∷ line) more none =
-    lines_of-other b (line ++ 10 ∷ more) (All-head IsNoNewline b line none) ∙ ap (onto_first b) (lines_of-line line more (All-tail IsNoNewline b line none))
+    lines_of-other b (line ++ 10 ∷ more) (All-head IsNoNewline b line none)
+    ∙ ap (onto_first b) (lines_of-line line more (All-tail IsNoNewline b line none))
 
-pub lines_of-joined : (lines : List (List ℕ)) (more : List ℕ) → AllByRecursion IsLine lines → lines_of (all_lines lines ++ more) ≡ lines ++ lines_of more
+pub lines_of-joined : (lines : List (List ℕ)) (more : List ℕ) → AllByRecursion IsLine lines
+    → lines_of (all_lines lines ++ more) ≡ lines ++ lines_of more
 lines_of-joined [] more all = refl
 lines_of-joined (line ∷ lines) more all =
     ap lines_of (append_assoc (line ++ 10 ∷ []) (all_lines lines) more ∙ append_assoc line (10 ∷ []) (all_lines lines ++ more))
@@ -54,7 +56,8 @@ starts_long [] more none some = absurd (omega arith)
 starts_long (b ∷ []) more none some = rw (lines_of-other b more (All-head IsNoNewline b [] none)) (first_onto b (lines_of more))
 starts_long (b ∷ d ∷ bytes) more none some =
     let f = starts_long (d ∷ bytes) more (All-tail IsNoNewline b (d ∷ bytes) none) (omega arith) in
-    let are : lines_of (b ∷ d ∷ (bytes ++ more)) ≡ (b ∷ f.line) ∷ f.others = lines_of-other b (d ∷ (bytes ++ more)) (All-head IsNoNewline b (d ∷ bytes) none)
+    let are : lines_of (b ∷ d ∷ (bytes ++ more)) ≡ (b ∷ f.line) ∷ f.others =
+    lines_of-other b (d ∷ (bytes ++ more)) (All-head IsNoNewline b (d ∷ bytes) none)
     ∙ ap (onto_first b) f.are in
     record { line = b ∷ f.line; others = f.others; are = are; long = omega (arith, f.long) }
 
@@ -137,12 +140,13 @@ read_is left left' content taken rest last e none took =
     subst (λ (l : Option (List ℕ)). Took l left' (taken ++ rest)) e
     (subst (λ (o : Option (List ℕ)). Took left left' (taken ++ (unwrap_or o [] ++ rest))) none took)
 
-pub complete : (n : ℕ) (status : Status) (old new : PortsView) (kernel : Option Machine) → Headline n status old new kernel → IsComplete status old new
+pub complete : (n : ℕ) (status : Status) (old new : PortsView) (kernel : Option Machine) → Headline n status old new kernel
+    → IsComplete status old new
 complete n statuses.Done old new kernel h content e trace no_read no_write = inl refl
 complete n statuses.Memory old new kernel h content e trace no_read no_write = inr refl
 complete n statuses.Usage old new kernel h content e trace no_read no_write = absurd h.ends.0
 complete n statuses.AttachFault old new kernel h content e trace no_read no_write = absurd h.ends.0
-complete n statuses.ReadFault old new kernel h content e trace no_read no_write = absurd (no_read h.ends.2.faults)
+complete n statuses.ReadFault old new kernel h content e trace no_read no_write = absurd (no_read h.ends.2.failures)
 complete n statuses.WriteFault old new kernel h content e trace no_read no_write = absurd (no_write h.ends.1)
 complete n (statuses.BadLine number) old new kernel h content e trace no_read no_write =
     let stops = h.ends.0 in

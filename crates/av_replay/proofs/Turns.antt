@@ -28,7 +28,8 @@ ends_line line ahead source has whole =
     let front = take line.size ahead in
     record {
       is_line = has.line;
-      parts = has.newline ∙ sym (append_assoc front (10 ∷ []) (drop (line.size + 1) ahead)) ∙ ap (λ (k : ℕ). (front ++ 10 ∷ []) ++ drop k ahead) (sym whole);
+      parts = has.newline ∙ sym (append_assoc front (10 ∷ []) (drop (line.size + 1) ahead))
+          ∙ ap (λ (k : ℕ). (front ++ 10 ∷ []) ++ drop k ahead) (sym whole);
       ends = inl refl;
       next = inl (drop (line.size + 1) ahead, has.newline);
     }
@@ -47,13 +48,15 @@ ends_last line ahead source is_line size some whole end =
       next = inr (sym all, long, end);
     }
 
-module _ (ahead mid : List ℕ) (old now new : PortsView) (k k' : Machine) (line : Line) (reads : ReadsOn ahead mid old now) (leaves : LeavesSource now new) where
+module _ (ahead mid : List ℕ) (old now new : PortsView) (k k' : Machine) (line : Line) (reads : ReadsOn ahead mid old now)
+    (leaves : LeavesSource now new) where
   -- the line is done, and this was written
   takes : (ending text written : List ℕ) → EndsBy line mid ending new.source → DoesLine (take line.size mid) now.device new.device k k' text →
       Writes now.sink new.sink written → TakesLine ahead old new k k' (take line.size mid) ending (drop line.whole mid) text written
   takes ending text written by does writes = record {
     is_line = by.is_line;
-    took = sym reads.same ∙ ap (λ (s : SourceView). in_front mid s.left) (sym leaves.source) ∙ ap (λ (l : List ℕ). in_front l new.source.left) by.parts
+    took = sym reads.same ∙ ap (λ (s : SourceView). in_front mid s.left) (sym leaves.source)
+        ∙ ap (λ (l : List ℕ). in_front l new.source.left) by.parts
         ∙ in_front-then (take line.size mid ++ ending) (drop line.whole mid) new.source.left;
     ends = by.ends;
     near = omega (arith, length-drop line.whole mid, reads.near);
@@ -83,7 +86,8 @@ module _ (ahead mid : List ℕ) (old now new : PortsView) (k k' : Machine) (line
 
   halts_by : (ending : List ℕ) (error : RunErr) → AreUnfailed old now → EndsBy line mid ending new.source →
       IsNotAnswered error (take line.size mid) now new k k' → Halts error ahead mid old new k k'
-  halts_by ending errors.BadLine was by not = (record { reads = subst (ReadsOn ahead mid old) (sym not.2) reads; kernel = not.1 }, inr (take line.size mid, by.is_line, not.0, by.next))
+  halts_by ending errors.BadLine was by not =
+      (record { reads = subst (ReadsOn ahead mid old) (sym not.2) reads; kernel = not.1 }, inr (take line.size mid, by.is_line, not.0, by.next))
   halts_by ending errors.Memory was by (inl same) = inl (begins same)
   halts_by ending errors.Memory was by (inr cut) = inr (cuts ending by cut)
   halts_by ending errors.Write was by not = (inl (cuts ending by not.0), failed_since old.sink now.sink new.sink was.sink not.1)

@@ -1,18 +1,9 @@
--- The swap areas of a run: what is attached before anything is read, and what a run over it says.
-use Rattle.std.specs.Prelude.{◌≡◌, ◌≢◌, ℕ, ◌≤◌, List, length, Option, None, is_some}
+-- Attaching the swap areas that the words name, before anything is read.
+use Rattle.std.specs.Prelude.{◌≡◌, ℕ, ◌≤◌, List, Option, None, is_some}
 use Rattle.std.specs.List.{AllByRecursion}
 use Rattle.av_swapdev.specs.Device.{most_pages}
 use Rattle.av_plain.specs.Device.{Device}
-use Rattle.av_kernel.specs.Machine.{Machine, sizes_of}
-use Rattle.av_replay.specs.declared.status.Status.{Status}
-use Rattle.av_replay.specs.declared.status.Status.TheVariants as statuses
-use Rattle.av_replay.specs.declared.words.Asked.{Asked}
-use Rattle.av_replay.specs.declared.words.Asked.TheVariants as asked
-use Rattle.av_io.specs.Sink.{SinkView}
-use Rattle.av_replay.specs.Ports.{PortsView}
-use Rattle.av_replay.specs.Replay.{Replayed}
-use Rattle.av_replay.specs.Work.{load_lines}
-use Rattle.av_replay.specs.Summary.{Worked}
+use Rattle.av_kernel.specs.Machine.{sizes_of}
 
 -- no swap area is attached
 abbrev pub HasNone : (ℕ → Option ℕ) → Type 0
@@ -24,37 +15,4 @@ pub record Attaches (pages : List ℕ) (old new : Device) : Type 0 where
   pub small : AllByRecursion (λ n. n ≤ most_pages) pages
   pub sizes : new.sizes ≡ sizes_of pages
   pub told : is_some new.pages ≡ is_some old.pages
-  pub faults : new.faults ≡ old.faults
-
--- What a run says whose words name so many swap areas: they were attached, all of them unless
--- memory was wanting for it, and then it did this over the device as it was then.
-pub record IsOver (count : ℕ) (status : Status) (old : Device) (Does : Device → Type 0)
-    : Type 0 where
-  pub pages : List ℕ
-  pub few : length pages ≤ count
-  pub all : status ≢ statuses.Memory → length pages ≡ count
-  pub attached : Device
-  pub attaches : Attaches pages old attached
-  pub does : Does attached
-
--- it replayed the trace of its source
-abbrev pub ReplaysOver :
-    ℕ → ℕ → Status → PortsView → PortsView → Option Machine → Type 0
-ReplaysOver frames count status old new kernel = IsOver count status old.device
-    (λ attached. Replayed frames status (record old { device = attached }) new kernel)
-
--- it did a load of so many lines from a seed on, and read nothing
-abbrev pub WorksOver :
-    ℕ → ℕ → ℕ → ℕ → Status → SinkView → SinkView → Device → Device → Option Machine → Type 0
-WorksOver seed lines frames count status old new device device' kernel =
-    IsOver count status device (λ attached.
-    Worked frames (load_lines count seed lines) status old new attached device' kernel)
-
--- it did what the words ask for
-abbrev pub DoesOver :
-    Asked → ℕ → Status → PortsView → PortsView → Option Machine → Type 0
-DoesOver (asked.Run frames) count status old new kernel =
-    ReplaysOver frames count status old new kernel
-DoesOver (asked.Work seed lines frames) count status old new kernel =
-    (new.source ≡ old.source)
-    × WorksOver seed lines frames count status old.sink new.sink old.device new.device kernel
+  pub failures : new.failures ≡ old.failures

@@ -65,8 +65,8 @@ StopsReading error ahead old new = IsLine ahead × IsUnread error old new
 
 -- nothing failed but what the error tells of
 abbrev pub FailsBy : RunErr → PortsView → PortsView → Type 0
-FailsBy errors.Read old new = new.sink.faults ≡ old.sink.faults
-FailsBy errors.Write old new = new.source.faults ≡ old.source.faults
+FailsBy errors.Read old new = new.sink.failures ≡ old.sink.failures
+FailsBy errors.Write old new = new.source.failures ≡ old.source.failures
 FailsBy error old new = AreUnfailed old new
 
 -- nothing failed but what the result tells of

@@ -12,20 +12,20 @@ pub record PortsView : Type 0 where
   pub sink : SinkView
   pub device : Device
 
--- these of a source, a sink and a device, whose sizes, pages and faults are told apart
+-- these of a source, a sink and a device, whose sizes, pages and failures are told apart
 abbrev pub side_by_side : SourceView → SinkView → (ℕ → Option ℕ) → Option (ℕ → ℕ → List ℕ) → ℕ
     → PortsView
-side_by_side source sink sizes pages faults = record {
+side_by_side source sink sizes pages failures = record {
   source = source;
   sink = sink;
-  device = device_by sizes pages faults;
+  device = device_by sizes pages failures;
 }
 
 -- a source, a sink and a device, by what is told of each
 abbrev pub ports_by : {S K D : Type 0} → (S → SourceView) → (K → SinkView) → (D → ℕ → Option ℕ)
     → (D → Option (ℕ → ℕ → List ℕ)) → (D → ℕ) → S → K → D → PortsView
-ports_by source sink sizes pages faults s k d =
-    side_by_side (source s) (sink k) (sizes d) (pages d) (faults d)
+ports_by source sink sizes pages failures s k d =
+    side_by_side (source s) (sink k) (sizes d) (pages d) (failures d)
 
 -- nothing changed but the source
 pub record OnlySource (old new : PortsView) : Type 0 where
@@ -73,7 +73,7 @@ StaysOpen old new = old.has_told_end ≡ false → new.has_told_end ≡ false
 
 -- the source failed, and had not told its end, unless it had before
 pub record IsReadFault (old new : SourceView) : Type 0 where
-  pub faults : new.faults ≡ one_more old.faults
+  pub failures : new.failures ≡ one_more old.failures
   pub stays_open : StaysOpen old new
 
 -- nothing was done of what was read, though more may have been read
@@ -92,8 +92,8 @@ pub record Begins (ahead ahead' : List ℕ) (old new : PortsView) : Type 0 where
 
 -- from one time to a later one neither the source nor the sink failed
 pub record AreUnfailed (old new : PortsView) : Type 0 where
-  pub source : new.source.faults ≡ old.source.faults
-  pub sink : new.sink.faults ≡ old.sink.faults
+  pub source : new.source.failures ≡ old.source.failures
+  pub sink : new.sink.failures ≡ old.sink.failures
 
 -- the input has ended, and the source told so
 pub record IsAtEnd (source : SourceView) : Type 0 where

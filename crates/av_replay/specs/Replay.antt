@@ -51,7 +51,7 @@ done_lines run = run.lines ++ option_to_list run.last
 -- The lines are what was read, up to these further bytes, which are no more than one read gives.
 -- Their transcript is legal, each frame and slot chosen exactly and the areas by the rules, from
 -- the empty state on. What was written is this. A last line without newline stands at the end of
--- the input. What only faults of the device explain is within what it failed.
+-- the input. What only failures of the device explain is within what it failed.
 pub record Replays (frames : ℕ) (old new : PortsView) (run : Run) (rest written : List ℕ)
     : Type 0 where
   pub read : Took old.source.left new.source.left
@@ -64,7 +64,7 @@ pub record Replays (frames : ℕ) (old new : PortsView) (run : Run) (rest writte
   pub commands : Transcribes (done_lines run) run.transcript
   pub legal : let m = setting_of frames old.device in
       IsRun m (at_first m) run.transcript run.state
-  pub faults : RoseBy (causes_of run.transcript) old.device.faults new.device.faults
+  pub failures : RoseBy (causes_of run.transcript) old.device.failures new.device.failures
   pub wrote : Gained old.sink.held new.sink.held written
   pub device : IsSameDevice old.device new.device
 
@@ -181,11 +181,11 @@ FailsUntold old new = (new.held ≡ None) × HasFailed old new
 -- Nothing failed but what the status tells of. Where memory is wanting, the last flush may have
 -- failed, too, if the sink doesn't tell what it holds.
 abbrev pub FailsOnlyAt : Status → PortsView → PortsView → Type 0
-FailsOnlyAt statuses.ReadFault old new = new.sink.faults ≡ old.sink.faults
-FailsOnlyAt statuses.WriteFault old new = new.source.faults ≡ old.source.faults
+FailsOnlyAt statuses.ReadFault old new = new.sink.failures ≡ old.sink.failures
+FailsOnlyAt statuses.WriteFault old new = new.source.failures ≡ old.source.failures
 FailsOnlyAt statuses.Memory old new =
-    (new.source.faults ≡ old.source.faults)
-    × ((new.sink.faults ≡ old.sink.faults) ⊎ FailsUntold old.sink new.sink)
+    (new.source.failures ≡ old.source.failures)
+    × ((new.sink.failures ≡ old.sink.failures) ⊎ FailsUntold old.sink new.sink)
 FailsOnlyAt status old new = AreUnfailed old new
 
 -- nothing is kept back, after a flush for each read, and so many more

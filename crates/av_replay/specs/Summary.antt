@@ -1,5 +1,5 @@
 -- The summary of `work`, and what a load leaves.
-use Rattle.std.specs.Prelude.{◌≡◌, ℕ, ◌<◌, List, [], ◌∷◌, ◌++◌, ◌⊎◌, codes, length, take, Option, None, IfSome}
+use Rattle.std.specs.Prelude.{◌≡◌, ℕ, ◌<◌, List, [], ◌∷◌, ◌++◌, ◌⊎◌, codes, length, take, Option, IfSome}
 use Rattle.std.specs.Fmt.{decimal}
 use Rattle.av_text.specs.Word.{line}
 use Rattle.av_trace.specs.Print.{text_of, whole_line}
@@ -52,13 +52,13 @@ summary_of frames device lines run =
 
 -- Of these lines some were done, and the others not. The transcript of those that were is legal,
 -- each frame and slot chosen exactly and the areas by the rules, from the empty state on. What only
--- faults of the device explain is within what it failed.
+-- failures of the device explain is within what it failed.
 pub record Works (frames : ℕ) (lines : List (List ℕ)) (old new : Device) (run : Run)
     (others : List (List ℕ)) : Type 0 where
   pub done : lines ≡ done_lines run ++ others
   pub commands : Transcribes (done_lines run) run.transcript
   pub legal : let m = setting_of frames old in IsRun m (at_first m) run.transcript run.state
-  pub faults : RoseBy (causes_of run.transcript) old.faults new.faults
+  pub failures : RoseBy (causes_of run.transcript) old.failures new.failures
   pub device : IsSameDevice old new
 
 -- a text was cut short
@@ -70,18 +70,18 @@ WritesFront old new text =
 pub record HandsOnAll (old new : SinkView) : Type 0 where
   pub none_kept : new.kept_back ≡ []
   pub flushes : new.flushes ≡ one_more old.flushes
-  pub unfailed : new.faults ≡ old.faults
+  pub unfailed : new.failures ≡ old.failures
 
--- How a text was written, by the status: whole; cut short by the sink, or whole and kept back by a
--- sink that doesn't tell what it holds; or cut short for want of memory, where the flush may have
--- failed, too.
+-- How a text was written, by the status: whole; cut short by the sink; or cut short for want of
+-- memory, where the flush may have failed, too. (Of a sink that doesn't tell what it holds this
+-- doesn't say how much it took: it may have kept back the whole text.)
 abbrev pub EndsText : Status → SinkView → SinkView → List ℕ → Type 0
 EndsText statuses.Done old new text = Gained old.held new.held text × HandsOnAll old new
 EndsText statuses.WriteFault old new text =
-    (WritesFront old new text ⊎ (new.held ≡ None)) × (new.flushes ≡ old.flushes)
-    × HasFailed old new
+    WritesFront old new text × (new.flushes ≡ old.flushes) × HasFailed old new
 EndsText statuses.Memory old new text =
-    WritesFront old new text × (HandsOnAll old new ⊎ FailsUntold old new)
+    WritesFront old new text
+    × (HandsOnAll old new ⊎ (FailsUntold old new × (new.flushes ≡ old.flushes)))
 EndsText status old new text = ⊥
 
 -- a text was written so, or memory was wanting for it before anything was written
@@ -89,10 +89,10 @@ abbrev pub SumsUp : Status → SinkView → SinkView → List ℕ → Type 0
 SumsUp status old new text =
     ((status ≡ statuses.Memory) × (new ≡ old)) ⊎ EndsText status old new text
 
--- memory was wanting before every line was done, or the summary of all lines was written
+-- memory was wanting before anything was written, or every line was done and their summary written
 abbrev pub EndsWork : Status → SinkView → SinkView → List (List ℕ) → List ℕ → Type 0
 EndsWork status old new others text =
-    ((status ≡ statuses.Memory) × (new ≡ old)) ⊎ ((others ≡ []) × SumsUp status old new text)
+    ((status ≡ statuses.Memory) × (new ≡ old)) ⊎ ((others ≡ []) × EndsText status old new text)
 
 -- What a run says of a load of these lines that was begun: which were done, what was written, and
 -- what the kernel handed back stands for, whose counts those of the summary are.

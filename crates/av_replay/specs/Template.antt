@@ -1,10 +1,10 @@
 -- Texts of lines in which capital letters stand for digits that draws give.
-use Rattle.std.specs.Prelude.{ℕ, ◌+◌, ◌/◌, ◌%◌, ◌<◌, ◌≤◌, ◌==◌, if◌then◌else◌, false, List, ◌++◌, map}
+use Rattle.std.specs.Prelude.{ℕ, ◌+◌, ◌/◌, ◌%◌, ◌<◌, ◌≤◌, ◌==◌, if◌then◌else◌, Bool, false, List, ◌++◌, map}
 use Rattle.std.specs.Fmt.{digit_glyph}
 use Rattle.av_trace.specs.Command.{line_of}
 use Rattle.av_replay.specs.declared.draws.Draws.{Draws}
 use Rattle.av_replay.specs.Replay.{all_lines}
-use Rattle.av_replay.specs.Work.{commands_from}
+use Rattle.av_replay.specs.Work.{commands_left}
 
 -- each of the draws is within its bounds
 pub record IsDrawn (d : Draws) : Type 0 where
@@ -34,6 +34,7 @@ glyph d letter =
 abbrev pub filled : Draws → List ℕ → List ℕ
 filled d template = map (glyph d) template
 
--- what is left of a load: the rest of a line, and so many lines from a number on
-abbrev pub left_of : Draws → List ℕ → ℕ → ℕ → List ℕ
-left_of d rest lines x = filled d rest ++ all_lines (map line_of (commands_from lines x))
+-- what is left of a load: the rest of some lines, and those of what is still to be commanded
+abbrev pub left_of : Draws → List ℕ → Bool → ℕ → ℕ → List ℕ
+left_of d rest is_begun lines x =
+    filled d rest ++ all_lines (map line_of (commands_left is_begun lines x))

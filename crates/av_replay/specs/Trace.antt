@@ -39,5 +39,5 @@ IsDoneOrMemory status = (status ≡ statuses.Done) ⊎ (status ≡ statuses.Memo
 -- a trace of good lines is done, or memory ran out, where neither source nor sink failed
 abbrev pub IsComplete : Status → PortsView → PortsView → Type 0
 IsComplete status old new = (content : List ℕ) → old.source.left ≡ Some content → IsTrace content
-    → (new.source.faults ≡ one_more old.source.faults → ⊥) → (HasFailed old.sink new.sink → ⊥)
+    → (new.source.failures ≡ one_more old.source.failures → ⊥) → (HasFailed old.sink new.sink → ⊥)
     → IsDoneOrMemory status

@@ -58,7 +58,7 @@ pub record Answers (line : List ℕ) (device device' : Device) (s : State) (old 
   pub said : text ≡ texts (option_to_list did)
   pub stands : Stands new device' next
   pub counts : Counted old new (option_to_list did)
-  pub faults : RoseBy (causes_of (option_to_list did)) device.faults device'.faults
+  pub failures : RoseBy (causes_of (option_to_list did)) device.failures device'.failures
 
 -- the kernel does a line, and this is the text of the reply
 pub record DoesLine (line : List ℕ) (device device' : Device) (old new : Machine) (text : List ℕ)

@@ -1,5 +1,5 @@
 -- The lines of `work`: a load of any size, made from a number.
-use Rattle.std.specs.Prelude.{ℕ, suc, zero, ◌+◌, ◌*◌, ◌/◌, ◌%◌, ◌^◌, ◌==◌, nat_le, nat_lt, if◌then◌else◌, true, false, List, [], ◌∷◌, ◌++◌, map}
+use Rattle.std.specs.Prelude.{ℕ, suc, zero, ◌+◌, ◌*◌, ◌/◌, ◌%◌, ◌^◌, ◌==◌, nat_le, nat_lt, if◌then◌else◌, Bool, true, false, List, [], ◌∷◌, ◌++◌, map, None}
 use Rattle.std.specs.List.{range_with_len}
 use Rattle.av_base.specs.declared.prot.Prot.{Prot}
 use Rattle.av_trace.specs.Command.{line_of}
@@ -76,13 +76,30 @@ unfoldable pub commands_from : ℕ → ℕ → List Command
 commands_from zero x = []
 commands_from (suc n) x = command_of (draws_of x) ∷ commands_from n (after_line x)
 
--- the first commands: so many swap areas are turned on, and a process gets 16 pages
-abbrev pub first_commands : ℕ → List Command
-first_commands areas =
-    map (λ k. commands.Swapon k None) (range_with_len 0 areas)
-    ++ commands.Spawn 1
+-- a swap area is turned on, without a priority
+abbrev pub turn_on : ℕ → Command
+turn_on area = commands.Swapon area None
+
+-- so many are, the first ones
+abbrev pub turn_on_commands : ℕ → List Command
+turn_on_commands areas = map turn_on (range_with_len 0 areas)
+
+-- the first process begins, and gets 16 pages
+abbrev pub first_process : List Command
+first_process =
+    commands.Spawn 1
     ∷ commands.Mmap 1 65536 reads_and_writes (Fixed (address_of 0))
     ∷ []
+
+-- the first commands
+abbrev pub first_commands : ℕ → List Command
+first_commands areas = turn_on_commands areas ++ first_process
+
+-- what is still to be commanded: the first process, unless it was begun, and so many lines from a
+-- number on
+abbrev pub commands_left : Bool → ℕ → ℕ → List Command
+commands_left false lines x = first_process ++ commands_from lines x
+commands_left true lines x = commands_from lines x
 
 -- a load over so many swap areas, of so many lines from a number on
 abbrev pub load : ℕ → ℕ → ℕ → List Command

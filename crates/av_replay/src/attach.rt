@@ -13,19 +13,20 @@ use std::alloc::Global;
 /// each has.
 pub fn attach_all<D: SwapDev>(
     alloc: Global,
-    names: &[String],
+    names: &[&str],
     dev: &mut D,
 ) -> Result<Vec<u32>, AttachErr>
     requires few { length names.now ≤ most_areas }
     requires none { HasNone (D.sizes dev.old) }
     ensures all { IfOk result (λ pages. (length pages.items ≡ length names.now)
-        × Attaches pages.items (seen_by D.sizes D.pages D.faults dev.old)
-        (seen_by D.sizes D.pages D.faults dev.new)) }
-    ensures cause { IsErrOf result AttachErr.Failed → Rose (D.faults dev.old) (D.faults dev.new) }
+        × Attaches pages.items (seen_by D.sizes D.pages D.failures dev.old)
+        (seen_by D.sizes D.pages D.failures dev.new)) }
+    ensures cause { IsErrOf result AttachErr.Failed →
+        Rose (D.failures dev.old) (D.failures dev.new) }
     ensures wanting { IsErrOf result AttachErr.Memory → (pages : List ℕ)
         × (length pages ≤ length names.now)
-        × Attaches pages (seen_by D.sizes D.pages D.faults dev.old)
-        (seen_by D.sizes D.pages D.faults dev.new) }
+        × Attaches pages (seen_by D.sizes D.pages D.failures dev.old)
+        (seen_by D.sizes D.pages D.failures dev.new) }
 {
     let mut pages = Vec::new(alloc);
     for (area, name) in names.iter().enumerate() {

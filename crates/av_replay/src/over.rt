@@ -5,7 +5,8 @@ ghost use Rattle.av_io.specs.Count.{Rose};
 ghost use Rattle.av_swapdev.specs.Device.{most_areas};
 ghost use Rattle.av_kernel.specs.Machine.{sizes_of};
 ghost use Rattle.av_kernel.specs.Step.{seen_by};
-ghost use Rattle.av_replay.specs.Attach.{HasNone, ReplaysOver};
+ghost use Rattle.av_replay.specs.Attach.{HasNone};
+ghost use Rattle.av_replay.specs.Over.{ReplaysOver};
 ghost use Rattle.av_replay.specs.Ports.{ports_by};
 ghost use Rattle.av_replay.specs.Replay.{IsAtStart, Replayed, can_go_on, kernel_at};
 
@@ -27,8 +28,8 @@ fn replay_over<S: Source, K: Sink, D: SwapDev>(
     sink: &mut K,
     dev: &mut D,
 ) -> Status
-    requires { IsAtStart kernel.old (seen_by D.sizes D.pages D.faults dev.old) }
-    ensures { let at = ports_by S.view K.view D.sizes D.pages D.faults in
+    requires { IsAtStart kernel.old (seen_by D.sizes D.pages D.failures dev.old) }
+    ensures { let at = ports_by S.view K.view D.sizes D.pages D.failures in
         Replayed kernel.old.frames result (at source.old sink.old dev.old)
         (at source.new sink.new dev.new) (kernel_at result kernel.new) }
 {
@@ -48,7 +49,7 @@ fn run_trace<S: Source, K: Sink, D: SwapDev>(
 ) -> Outcome
     requires few { length pages.now ≤ most_areas }
     requires attached { D.sizes dev.old ≡ sizes_of pages.now }
-    ensures replayed { let at = ports_by S.view K.view D.sizes D.pages D.faults in
+    ensures replayed { let at = ports_by S.view K.view D.sizes D.pages D.failures in
         Replayed frames result.status (at source.old sink.old dev.old)
         (at source.new sink.new dev.new) result.kernel }
     ensures kernel { is_some result.kernel ≡ can_go_on result.status }
@@ -67,18 +68,19 @@ fn run_trace<S: Source, K: Sink, D: SwapDev>(
 pub fn run_over<S: Source, K: Sink, D: SwapDev>(
     alloc: Global,
     frames: u32,
-    names: &[String],
+    names: &[&str],
     source: &mut S,
     sink: &mut K,
     dev: &mut D,
 ) -> Outcome
     requires few { length names.now ≤ most_areas }
     requires none { HasNone (D.sizes dev.old) }
-    ensures replayed { let at = ports_by S.view K.view D.sizes D.pages D.faults in
+    ensures replayed { let at = ports_by S.view K.view D.sizes D.pages D.failures in
         result.status ≢ Status.AttachFault → ReplaysOver frames (length names.now) result.status
         (at source.old sink.old dev.old) (at source.new sink.new dev.new) result.kernel }
     ensures begun { result.status ≢ Status.Usage }
-    ensures fault { result.status ≡ Status.AttachFault → Rose (D.faults dev.old) (D.faults dev.new)
+    ensures fault { result.status ≡ Status.AttachFault →
+        Rose (D.failures dev.old) (D.failures dev.new)
         × (source.new ≡ source.old) × (sink.new ≡ sink.old) }
     ensures kernel { is_some result.kernel ≡ can_go_on result.status }
 {

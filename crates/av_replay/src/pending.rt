@@ -1,6 +1,7 @@
 //! What was read of the source and is not yet done.
 
-ghost use Rattle.std.specs.Prelude.{◌≡◌, ◌+◌, ◌-◌, ◌<◌, ◌≤◌, [], false, length, take, drop, IfOk, OnOk, OnErr};
+ghost use Rattle.std.specs.Prelude.{◌≡◌, ◌+◌, ◌-◌, ◌<◌, ◌≤◌, [], false, length, take, drop, IfOk};
+ghost use Rattle.std.specs.Prelude.{OnOk, OnErr};
 ghost use Rattle.av_io.specs.Count.{one_more};
 ghost use Rattle.av_io.specs.Source.{Took, GivesNothing};
 ghost use Rattle.av_replay.specs.Ports.{room, IsAtEnd, OnlySource, undone};
@@ -59,7 +60,7 @@ fn read_behind<P: Ports>(ports: &mut P, bytes: &mut [u8], kept: usize) -> Result
     ensures stays_open { IfOk result
         (λ n. 0 < n → (P.view ports.new).source.has_told_end ≡ false) }
     ensures unfailed { OnOk result
-        ((P.view ports.new).source.faults ≡ (P.view ports.old).source.faults) }
+        ((P.view ports.new).source.failures ≡ (P.view ports.old).source.failures) }
     ensures err { OnErr result (GivesNothing (P.view ports.old).source (P.view ports.new).source) }
     ensures only { OnlySource (P.view ports.old) (P.view ports.new) }
     ensures kept { P.kept ports.new ≡ P.kept ports.old }
@@ -110,12 +111,12 @@ impl Pending {
         ensures stays_open { IfOk result
             (λ n. 0 < n → (P.view ports.new).source.has_told_end ≡ false) }
         ensures unfailed { OnOk result
-            ((P.view ports.new).source.faults ≡ (P.view ports.old).source.faults) }
+            ((P.view ports.new).source.failures ≡ (P.view ports.old).source.failures) }
         ensures untold { OnErr result
             ((P.view ports.new).source.has_told_end ≡ (P.view ports.old).source.has_told_end) }
         ensures failed { OnErr result (self.new ≡ self.old) }
         ensures cause { OnErr result
-            ((P.view ports.new).source.faults ≡ one_more (P.view ports.old).source.faults) }
+            ((P.view ports.new).source.failures ≡ one_more (P.view ports.old).source.failures) }
         ensures only { OnlySource (P.view ports.old) (P.view ports.new) }
         ensures kept { P.kept ports.new ≡ P.kept ports.old }
     {

@@ -86,7 +86,7 @@ pub struct LentPorts<'s, 'k, 'd, S, K, D> {
 }
 
 impl<'s, 'k, 'd, S: Source, K: Sink, D: SwapDev> Ports for LentPorts<'s, 'k, 'd, S, K, D> {
-    ghost view = { λ ports. ports_by S.view K.view D.sizes D.pages D.faults
+    ghost view = { λ ports. ports_by S.view K.view D.sizes D.pages D.failures
         ports.source.now ports.sink.now ports.dev.now };
 
     ghost Kept = { GName × GName × GName };

@@ -87,9 +87,9 @@ pub fn answer_line<P: Ports>(
     ensures writes { OnOk result
         (Writes (P.view ports.old).sink (P.view ports.new).sink scratch.new.text) }
     ensures unfailed { OnOk result
-        ((P.view ports.new).sink.faults ≡ (P.view ports.old).sink.faults) }
+        ((P.view ports.new).sink.failures ≡ (P.view ports.old).sink.failures) }
     ensures memory { IfErr result (λ e. e ≡ RunErr.Memory
-        → (P.view ports.new).sink.faults ≡ (P.view ports.old).sink.faults) }
+        → (P.view ports.new).sink.failures ≡ (P.view ports.old).sink.failures) }
     ensures flushes { (P.view ports.new).sink.flushes ≡ (P.view ports.old).sink.flushes }
     ensures err { IfErr result (λ e. IsNotAnswered e line.now (P.view ports.old)
         (P.view ports.new) kernel.old kernel.new) }

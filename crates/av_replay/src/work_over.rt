@@ -7,14 +7,16 @@ ghost use Rattle.av_plain.specs.Report.{totals as totals_of};
 ghost use Rattle.av_plain.specs.Transcript.{State};
 ghost use Rattle.av_kernel.specs.Kernel.{Stands};
 ghost use Rattle.av_kernel.specs.Step.{seen_by};
-ghost use Rattle.av_replay.specs.Attach.{HasNone, WorksOver};
+ghost use Rattle.av_replay.specs.Attach.{HasNone};
+ghost use Rattle.av_replay.specs.Over.{WorksOver};
 ghost use Rattle.av_replay.specs.Replay.{can_go_on};
 ghost use Rattle.av_replay.specs.Summary.{SumsUp, summary_text};
-ghost use Rattle.av_replay.specs.Words.{most_load, most_names};
+ghost use Rattle.av_words.specs.Words.{most_load, most_names};
 
 use crate::outcome::{Outcome, hand_back};
 use crate::over::run_over;
 use crate::ports::LentPorts;
+use crate::progress::Progress;
 use crate::status::Status;
 use crate::summary::sum_up;
 use crate::work::{NullSink, WorkSource};
@@ -33,39 +35,41 @@ fn sum_up_over<S: Source, K: Sink, D: SwapDev>(
     dev: &mut D,
 ) -> Status
     requires unspent { kernel.now.spent ≡ false }
-    ensures sums { let d = seen_by D.sizes D.pages D.faults dev.old in (s : State)
+    ensures sums { let d = seen_by D.sizes D.pages D.failures dev.old in (s : State)
         → Stands kernel.now d s → SumsUp result (K.view sink.old) (K.view sink.new)
         (summary_text lines kernel.now.tally (totals_of
         (setting_of kernel.now.frames d) s.world s.ledger)) }
-    ensures same { let d = seen_by D.sizes D.pages D.faults in d dev.new ≡ d dev.old }
+    ensures same { let d = seen_by D.sizes D.pages D.failures in d dev.new ≡ d dev.old }
 {
     let mut ports = LentPorts { source, sink, dev };
     sum_up(alloc, lines, kernel, &mut ports)
 }
 
 /// Attaches the swap areas of these names, runs a load of so many lines from a seed on over them,
-/// and writes its summary.
-pub fn work_over<K: Sink, D: SwapDev>(
+/// and writes its summary. Each line that is made is told.
+pub fn work_over<K: Sink, D: SwapDev, P: Progress>(
     alloc: Global,
     seed: u64,
     lines: u32,
     frames: u32,
-    names: &[String],
+    names: &[&str],
     sink: &mut K,
     dev: &mut D,
+    progress: &mut P,
 ) -> Outcome
     requires few { length names.now ≤ most_names }
     requires lines { lines ≤ most_load }
     requires none { HasNone (D.sizes dev.old) }
-    ensures worked { let d = seen_by D.sizes D.pages D.faults in
+    ensures worked { let d = seen_by D.sizes D.pages D.failures in
         result.status ≢ Status.AttachFault → WorksOver seed lines frames (length names.now)
         result.status (K.view sink.old) (K.view sink.new) (d dev.old) (d dev.new) result.kernel }
     ensures begun { result.status ≢ Status.Usage }
-    ensures fault { result.status ≡ Status.AttachFault → Rose (D.faults dev.old) (D.faults dev.new)
+    ensures fault { result.status ≡ Status.AttachFault →
+        Rose (D.failures dev.old) (D.failures dev.new)
         × (sink.new ≡ sink.old) }
     ensures kernel { is_some result.kernel ≡ can_go_on result.status }
 {
-    let mut source = WorkSource::new(names.len(), seed, lines);
+    let mut source = WorkSource::new(names.len(), seed, lines, progress);
     let mut unkept = NullSink::new();
     let Outcome { status, kernel } = run_over(alloc, frames, names, &mut source, &mut unkept, dev);
     // Its lines are commands, and neither source nor sink fails: so where there is a kernel to go

@@ -1,2 +1,3 @@
 pub mod Failure
 pub mod Help
+pub mod Meter

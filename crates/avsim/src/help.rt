@@ -12,23 +12,24 @@ avsim - replays a trace of memory commands against a model of Linux private
 anonymous memory
 
 Synopsis
-  avsim run FRAMES [SWAP] < TRACE
-  avsim work SEED LINES FRAMES [SWAP]
+  avsim run FRAMES [SWAP..] < TRACE
+  avsim work SEED LINES FRAMES [SWAP..]
   avsim --help | --version
   avsim run --help | avsim work --help
 
 Description
   A machine with FRAMES frames of memory does the commands of a trace, one a
-  line: with run those from standard input, for each of which it writes one
-  reply to standard output; with work a load that it makes from a number, for
-  which it writes a summary.
+  line. With run they come from standard input, and for each it writes one reply
+  to standard output. With work they are a load that it makes from a number, and
+  it writes a summary of the replies.
 
 Command line
   SEED                   0 to 18446744073709551615; each number is a load
-  LINES                  1 to 1000000 lines, behind the first two or three
+  LINES                  1 to 1000000 lines, behind the first ones
   FRAMES                 1 to 16384 frames of 4096 bytes
-  SWAP                   a file that becomes swap area 0 with swapon 0; pages
-                         are written over what it has, but for the first one
+  SWAP..                 up to eight files, which are swap areas 0, 1, .. in
+                         their order; pages are written over what they have,
+                         but for the first one of each
 
 Trace
   A line that is empty or begins with # says nothing. Words are separated by
@@ -36,7 +37,8 @@ Trace
   P, Q                   processes, 1 to 32767
   A, B                   hexadecimal addresses
   LEN, OLD, NEW          lengths in bytes, rounded up to pages
-  N                      1 to 4096 bytes, or 1 to 16384 frames or slots
+  N                      1 to 4096 bytes, 1 to 16384 frames or slots, or a
+                         priority, 0 to 32767
   HEX                    bytes, two hexadecimal digits for each, at most 4096
   PROT                   rw-, r--, --- or another of the eight
   K, M                   a swap area, 0 to 7, and a page of it
@@ -66,7 +68,10 @@ Commands
   rmap P A               process and page of each entry of the page's frame
   entry P A              the page-table entry: none, zeros, a frame or a slot
   stat                   how many frames, slots and processes there are
-  swapon K               turn swap area K on, by its header
+  swapon K               turn swap area K on, by its header; the line may end
+                         with
+    .. prio N            the greatest priority gives slots first, and of equal
+                         ones the least K; without prio it is -1
   swapoff K              bring the pages of swap area K back, and turn it off
   slot K M               how many entries name a slot, and what caches it
   reclaim N              send the last N inactive frames out, or keep them
@@ -116,11 +121,12 @@ pub const RUN_HELP: &str = "\
 avsim run - replays a trace from standard input
 
 Synopsis
-  avsim run FRAMES [SWAP] < TRACE
+  avsim run FRAMES [SWAP..] < TRACE
 
   FRAMES                 1 to 16384 frames of 4096 bytes
-  SWAP                   a file that becomes swap area 0 with swapon 0; pages
-                         are written over what it has, but for the first one
+  SWAP..                 up to eight files, which are swap areas 0, 1, .. in
+                         their order, off until a swapon; pages are written
+                         over what they have, but for the first one of each
 
   For each command, one a line, it writes one reply to standard output, and
   notes of what happened, each on a line that begins with a space. The commands
@@ -135,26 +141,29 @@ pub const WORK_HELP: &str = "\
 avsim work - does a load that is made from a number, and sums it up
 
 Synopsis
-  avsim work SEED LINES FRAMES [SWAP]
+  avsim work SEED LINES FRAMES [SWAP..]
 
   SEED                   0 to 18446744073709551615; each number is a load
   LINES                  1 to 1000000 lines
   FRAMES                 1 to 16384 frames of 4096 bytes
-  SWAP                   a file that becomes swap area 0; pages are written
-                         over what it has, but for the first one
+  SWAP..                 up to eight files, which are swap areas 0, 1, .. in
+                         their order; pages are written over what they have,
+                         but for the first one of each
 
-  The first lines turn the swap area on, if there is one, make process 1 and
-  map 16 pages at 10000000. Each further line is drawn: it reads or writes one
-  of these pages in a process of 1 to 8, forks or ends one, reclaims, ages or
-  completes, or maps, unmaps or protects a page. Nothing is read from standard
-  input, and no reply is written.
+  The first lines turn each swap area on, make process 1 and map 16 pages at
+  10000000. Each further line is drawn: it reads or writes one of these pages in
+  a process of 1 to 8, forks or ends one, reclaims, ages or completes, or maps,
+  unmaps or protects a page. Nothing is read from standard input, and no reply
+  is written. Where standard error is a terminal it shows how many hundredths of
+  100000 lines or more are made.
 
 Output
   lines N                how many lines there were, the first ones too
   ok N, map N, data N, on N, err N, segv N, bus N, oom N
                          how many replies began so, each on a line
   stat ..                what stat answers at the end
-  The same words always give the same output, unless the swap file fails.
+  The same words give the same output over swap files of the same sizes and
+  headers, unless one of them fails.
 
 Example
   avsim work 7 1000 64

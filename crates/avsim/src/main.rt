@@ -1,9 +1,10 @@
-//! Replays a trace on standard input, over the swap file that the words name, if they name one, and
-//! writes its transcript to standard output.
+//! Replays a trace on standard input, over the swap files that the words name, if any, and writes
+//! its transcript to standard output.
 //!
-//! Proved: which text the words ask for, and by the status of a run the number with which the
-//! program ends and the failure that it prints. The texts themselves are only tested, and that they
-//! reach standard output and standard error, and what real swap files hold.
+//! Proved: which text the words ask for, by the status of a run the number with which the program
+//! ends and the failure that it prints, and at which lines of a load how many hundredths are due.
+//! The texts themselves are only tested, and that they reach standard output and standard error,
+//! and what real swap files hold.
 #![tactic(auto)]
 
 ghost use Rattle.std.specs.Prelude.{IfOk};
@@ -11,9 +12,11 @@ ghost use Rattle.av_replay.specs.Attach.{HasNone};
 
 mod failure;
 mod help;
+mod meter;
 
 use crate::failure::{Failure, exit_number};
 use crate::help::text_for;
+use crate::meter::Meter;
 use av_io::{ReadSource, WriteSink};
 use av_replay::{Status, run};
 use av_swapdev::{FileDev, HostFiles, SwapDev};
@@ -71,7 +74,18 @@ fn run_program(rt: &HostRuntime) -> Status {
     let Ok(mut dev) = host_dev(rt) else {
         return Status::Memory;
     };
-    run(rt.alloc(), &words, &mut source, &mut sink, &mut dev).into_status()
+    let mut meter = Meter::new(rt);
+    let outcome = run(
+        rt.alloc(),
+        &words,
+        &mut source,
+        &mut sink,
+        &mut dev,
+        &mut meter,
+    );
+    // Where memory was wanting the load wasn't made to its end.
+    meter.clear();
+    outcome.into_status()
 }
 
 fn main(rt: HostRuntime) -> ExitCode {

@@ -16,13 +16,14 @@ returns-then-is_err-clause-wanting g c = λ wanting. (
 
 pub loop-area-preserved : goal.loop-area-preserved
 loop-area-preserved g c =
-    let old = seen_by g.D.SwapDev.sizes g.D.SwapDev.pages g.D.SwapDev.faults c.args.dev.now in
-    let new = seen_by g.D.SwapDev.sizes g.D.SwapDev.pages g.D.SwapDev.faults c.attach.new.self in
+    let old = seen_by g.D.SwapDev.sizes g.D.SwapDev.pages g.D.SwapDev.failures c.args.dev.now in
+    let new = seen_by g.D.SwapDev.sizes g.D.SwapDev.pages g.D.SwapDev.failures c.attach.new.self in
     let items : c.push.new.self.items ≡ c.loop-area.pages.items ++ c.in_ok-size.size ∷ [] = c.push.ensures.items
     ∙ ap (λ b. if b then c.loop-area.pages.items ++ c.in_ok-size.size ∷ [] else c.loop-area.pages.items) c.if-is_err.ensures.negation in
     record {
       many = omega (arith, ap length items, length-append c.loop-area.pages.items (c.in_ok-size.size ∷ []), c.loop-area.invariant.many);
       attaches = subst (λ pages. Attaches pages old new) (sym items)
-          (attached_more c.loop-area.pages.items c.in_ok-size.size c.loop-area.area _ _ _ (sym c.loop-area.invariant.many) c.loop-area.invariant.attaches
+          (attached_more c.loop-area.pages.items c.in_ok-size.size c.loop-area.area _ _ _ (sym c.loop-area.invariant.many)
+          c.loop-area.invariant.attaches
           c.in_ok-size.ensures.size c.in_ok-size.ensures.most c.in_ok-size.ensures.renewed c.in_ok-size.ensures.unfailed);
     }

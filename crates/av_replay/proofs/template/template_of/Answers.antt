@@ -41,14 +41,16 @@ pub returns-in-14 : goal.returns-in-14
 returns-in-14 c =
     let d = c.args.draws.now in
     mprotect-read d c.requires
-    ∙ ap (λ (prot : Prot). whole (commands.Mprotect d.process (address_of d.page) 4096 prot)) (sym (cond-true _ _ _ (eq-eqb (d.value % 2) 0 c.if-draws-eq0.true)))
+    ∙ ap (λ (prot : Prot). whole (commands.Mprotect d.process (address_of d.page) 4096 prot))
+    (sym (cond-true _ _ _ (eq-eqb (d.value % 2) 0 c.if-draws-eq0.true)))
     ∙ by-kind d c.requires 14 c.in-14.is
 
 pub returns-in-14-2 : goal.returns-in-14-2
 returns-in-14-2 c =
     let d = c.args.draws.now in
     mprotect-write d c.requires
-    ∙ ap (λ (prot : Prot). whole (commands.Mprotect d.process (address_of d.page) 4096 prot)) (sym (cond-false _ _ _ (ne_eqb (d.value % 2) 0 c.if-draws-eq0.false)))
+    ∙ ap (λ (prot : Prot). whole (commands.Mprotect d.process (address_of d.page) 4096 prot))
+    (sym (cond-false _ _ _ (ne_eqb (d.value % 2) 0 c.if-draws-eq0.false)))
     ∙ by-kind d c.requires 14 c.in-14.is
 
 pub returns-in-0-to-4 : goal.returns-in-0-to-4
@@ -59,7 +61,8 @@ returns-in-0-to-4 c =
 pub returns-in-5-to-8 : goal.returns-in-5-to-8
 returns-in-5-to-8 c =
     let d = c.args.draws.now in
-    read-is d c.requires ∙ ap whole (sym (read-kind d.kind d.process (address_of d.page) d.value (omega (arith, c.in-5-to-8)) (omega (arith, c.in-5-to-8))))
+    read-is d c.requires
+    ∙ ap whole (sym (read-kind d.kind d.process (address_of d.page) d.value (omega (arith, c.in-5-to-8)) (omega (arith, c.in-5-to-8))))
 
 pub returns-in_default : goal.returns-in_default
 returns-in_default c =

@@ -15,7 +15,7 @@ returns-clause-ok g c =
             run = (steps.next, steps.step, refl);
             said = rw (append-nil, c.in_ok-reply_text.ensures, c.clear.ensures) refl;
             stands = steps.stands;
-            faults = let within = steps.faults in omega (arith, within);
+            failures = let within = steps.failures in omega (arith, within);
             counts = record {
               steps = counted.steps;
               tally = counted.tally;

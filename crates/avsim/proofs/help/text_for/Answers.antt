@@ -9,7 +9,8 @@ one [] a n p = absurd (omega arith)
 one (x ∷ []) a n p = cc
 one (x ∷ y ∷ xs) a n p = absurd (omega arith)
 
-only : {X : Type 0} (bytes : X → List ℕ) (xs : List X) (a : X) (word : List ℕ) → length xs ≡ 1 → a ≡ get_or xs 0 a → bytes a ≡ word → map bytes xs ≡ word ∷ []
+only : {X : Type 0} (bytes : X → List ℕ) (xs : List X) (a : X) (word : List ℕ) → length xs ≡ 1 → a ≡ get_or xs 0 a → bytes a ≡ word
+    → map bytes xs ≡ word ∷ []
 only bytes xs a word n p is = rw (one xs a n p, is) refl
 
 -- a list of two
@@ -25,7 +26,8 @@ both bytes xs a b u v n p q e f = rw (two xs a b n p q, e, f) refl
 
 pub returns-in-len1-clause-some : goal.returns-in-len1-clause-some
 returns-in-len1-clause-some c =
-    let word : string_bytes c.word-item.result ≡ codes "--help" = sym c.as_str.ensures.value ∙ (bytes_eq-Decides c.as_str.result.now (codes "--help")).0
+    let word : string_bytes c.word-item.result ≡ codes "--help" = sym c.as_str.ensures.value
+    ∙ (bytes_eq-Decides c.as_str.result.now (codes "--help")).0
     (sym c.eq.ensures ∙ c.if-eq.true) in
     inl (only string_bytes c.args.words.now c.word-item.result (codes "--help") (omega arith) c.word-item.is word, refl)
 
@@ -59,4 +61,8 @@ returns-in-len2-2-clause-some c =
     let text = c.as_str-then-words-lt3-2 in
     let word : string_bytes item.result ≡ codes "--help" = sym text.ensures.value ∙ (bytes_eq-Decides text.result.now (codes "--help")).0
     (sym c.eq-then-words-lt3-2.ensures ∙ c.if-eq-5.true) in
-    inr (inr (inr (both string_bytes c.args.words.now first.result item.result (codes "work") (codes "--help") (omega arith) first.is item.is verb word, refl)))
+    inr (inr (inr (
+      both string_bytes c.args.words.now first.result item.result (codes "work") (codes "--help") (omega arith) first.is item.is
+          verb word,
+      refl,
+    )))

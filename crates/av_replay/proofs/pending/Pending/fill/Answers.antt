@@ -7,7 +7,8 @@ pub returns-clause-undone : goal.returns-clause-undone
 returns-clause-undone g c =
     let k = c.self.inside.end - c.self.inside.start in
     let new = c.read_behind.new.bytes in
-    let was : take k c.deref_mut.result.now ≡ c.args.self.now = ap (take k) c.deref_mut.ensures.value ∙ c.move_to_front.ensures.moved ∙ c.self.view_is in
+    let was : take k c.deref_mut.result.now ≡ c.args.self.now = ap (take k) c.deref_mut.ensures.value ∙ c.move_to_front.ensures.moved
+    ∙ c.self.view_is in
     let items = with_items_is c.move_to_front.new.bytes new (omega (arith, c.read_behind.auto.bytes, c.deref_mut.ensures.len)) in
     let size : k + c.in_ok-count.count - 0 ≡ k + c.in_ok-count.count = omega arith in
     let more = filled k c.in_ok-count.count c.deref_mut.result.now new c.args.self.now (g.P.Ports.view c.args.ports.now).source.left

@@ -1,13 +1,16 @@
 use Rattle.std.proofs.Common.{sym, ◌∙◌}
-use Rattle.av_replay.proofs.Works.{next-line, no-bytes, not-empty}
+use Rattle.av_replay.proofs.Works.{next-line, no-bytes, process-begins}
 use Rattle.av_replay.proofs.work.WorkSource.make_line.Goals as goal
 
+pub returns-then-not-self-clause-same : goal.returns-then-not-self-clause-same
+returns-then-not-self-clause-same g c =
+    let s = c.args.self.now in
+    process-begins s.lines s.number s.draws s.rest.now s.is_begun c.if-not-self.true
+    (no-bytes s.rest.now (sym c.is_empty.ensures ∙ c.if-not-is_empty.false))
+
 pub returns-then-self-gt0-clause-same : goal.returns-then-self-gt0-clause-same
-returns-then-self-gt0-clause-same c =
+returns-then-self-gt0-clause-same g c =
     let s = c.args.self.now in
     let drawn = c.draw_line-number.ensures in
-    next-line s.lines s.number _ _ _ s.draws s.rest.now c.if-self-gt0.true drawn.draws drawn.number c.template_of-self.ensures
-    (no-bytes s.rest.now (sym c.is_empty.ensures ∙ c.if-is_empty.true))
-
-pub returns-then-self-gt0-clause-none : goal.returns-then-self-gt0-clause-none
-returns-then-self-gt0-clause-none c = λ none. absurd (not-empty c.draw_line-number.result.0 _ _ none c.template_of-self.ensures)
+    next-line s.lines s.number _ _ _ s.draws s.rest.now s.is_begun c.if-not-self.false c.if-self-gt0.true drawn.draws drawn.number
+    c.template_of-self.ensures (no-bytes s.rest.now (sym c.is_empty.ensures ∙ c.if-not-is_empty.false))

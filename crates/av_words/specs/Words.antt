@@ -4,10 +4,8 @@ use Rattle.std.specs.List.{list_all}
 use Rattle.std.specs.Fmt.{decimal}
 use Rattle.av_base.specs.Limits.{most_frames}
 use Rattle.av_text.specs.Number.{IsNumberIn}
-use Rattle.av_replay.specs.declared.status.Status.{Status}
-use Rattle.av_replay.specs.declared.status.Status.TheVariants.{Usage}
-use Rattle.av_replay.specs.declared.words.Asked.{Asked}
-use Rattle.av_replay.specs.declared.words.Asked.TheVariants as asked
+use Rattle.av_words.specs.declared.words.Asked.{Asked}
+use Rattle.av_words.specs.declared.words.Asked.TheVariants as asked
 
 -- so many swap areas may be named
 abbrev pub most_names : ℕ
@@ -49,8 +47,3 @@ pub record IsForm (words : List (List ℕ)) (asked : Asked) (names : List (List 
 -- the words are of no form
 abbrev pub HasNoForm : List (List ℕ) → Type 0
 HasNoForm words = (asked : Asked) (names : List (List ℕ)) → IsForm words asked names → ⊥
-
--- the status is a usage error exactly where the words are of no form
-pub record RefusesWords (status : Status) (words : List (List ℕ)) : Type 0 where
-  pub only : status ≡ Usage → HasNoForm words
-  pub always : HasNoForm words → status ≡ Usage
