@@ -1,15 +1,15 @@
 -- Which slots are chosen at several events, computed.
-use Rattle.std.proofs.Common.{◌≡◌, ℕ, ◌+◌, ◌≤◌, length, Bool, true, false, ◌&&◌, ◌==◌, List, [], ◌∷◌, Option, Some, None, is_none, refl, ap, arith}
+use Rattle.std.proofs.Common.{◌≡◌, ℕ, ◌+◌, ◌≤◌, length, Bool, true, false, ◌&&◌, ◌==◌, List, [], ◌∷◌, ◌++◌, Option, Some, None, refl, sym, ap, arith}
 use Rattle.std.proofs.lemmas.Bool.Decides.{nat_tests}
-use Rattle.std.specs.Prelude.{min, IsSomeAnd, MatchOption, count_by}
+use Rattle.std.specs.Prelude.{min, if◌then◌else◌, IsSomeAnd, MatchOption, count_by, option_and_then}
 use Rattle.av_base.specs.Words.{with_at}
 use Rattle.av_base.specs.declared.slot.Slot.{Slot}
 use Rattle.av_clusters.specs.Clusters.{Slots, fresh, is_free as is_free_page, take_slot}
 use Rattle.av_swapdev.specs.Device.{most_pages}
 use Rattle.av_swapdev.specs.Header.{Layout}
-use Rattle.av_plain.specs.Choice.{AreaSlots, ChoosesAll, ChoosesSlot, IsGiven, SwitchesArea, giving_swap_area, no_slots, slot_in, with_given_back}
-use Rattle.av_plain.specs.Event.{Event, Forked, Moved, Noted, TurnedOff, TurnedOn, Used, Zapped, after}
-use Rattle.av_plain.specs.Ledger.{HasNumbers, Ledger, Setting, size_of}
+use Rattle.av_plain.specs.Choice.{AreaSlots, ChoosesAll, ChoosesSlot, Free, IsGiven, SwitchesArea, frame_in, giving_swap_area, new_free, no_slots, slot_in, with_given_back}
+use Rattle.av_plain.specs.Event.{Event, Forked, EntriesMoved, Noted, TurnedOff, TurnedOn, Used, Zapped, after}
+use Rattle.av_plain.specs.Ledger.{HasNumbers, Ledger, Setting, SwapArea, size_of}
 use Rattle.av_plain.proofs.Choice.{ChoosesFrames}
 
 -- ---- the slots, computed
@@ -38,8 +38,8 @@ switched m (Noted note) slots = slots
 switched m (Zapped k) slots = slots
 switched m (Used write k) slots = slots
 switched m (Forked p c pages) slots = slots
-switched m (Moved p n from to) slots = slots
-switched m (TurnedOn k n bad) slots = with_at k (fresh_of (header_in m.headers k)) slots
+switched m (EntriesMoved p n from to) slots = slots
+switched m (TurnedOn k area) slots = with_at k (fresh_of (header_in m.headers k)) slots
 switched m (TurnedOff k) slots = with_at k (no_slots k) slots
 
 -- the slots after an event
@@ -51,10 +51,10 @@ abbrev pub slots_after_all : Setting → Ledger → List Event → AreaSlots →
 slots_after_all m l [] slots = slots
 slots_after_all m l (e ∷ es) slots = slots_after_all m (after l e) es (slots_after m l e slots)
 
--- whether these are the numbers of the header
-abbrev has_numbers : ℕ → ℕ → Option Layout → Bool
-has_numbers n bad None = false
-has_numbers n bad (Some h) = (n == h.slots) && (bad == length h.bad)
+-- whether the area has the numbers of the header
+abbrev has_numbers : SwapArea → Option Layout → Bool
+has_numbers area None = false
+has_numbers area (Some h) = (area.slots == h.slots) && (area.bad == length h.bad)
 
 -- whether an event turns no area on but by its header
 abbrev may_switch : Setting → Event → Bool
@@ -62,19 +62,9 @@ may_switch m (Noted note) = true
 may_switch m (Zapped k) = true
 may_switch m (Used write k) = true
 may_switch m (Forked p c pages) = true
-may_switch m (Moved p n from to) = true
-may_switch m (TurnedOn k n bad) = has_numbers n bad (header_in m.headers k)
+may_switch m (EntriesMoved p n from to) = true
+may_switch m (TurnedOn k area) = has_numbers area (header_in m.headers k)
 may_switch m (TurnedOff k) = true
-
--- whether it turns none at all
-abbrev pub turns_none : Event → Bool
-turns_none (Noted note) = true
-turns_none (Zapped k) = true
-turns_none (Used write k) = true
-turns_none (Forked p c pages) = true
-turns_none (Moved p n from to) = true
-turns_none (TurnedOn k slots bad) = false
-turns_none (TurnedOff k) = false
 
 abbrev is_number : ℕ → Option ℕ → Bool
 is_number k None = false
@@ -99,39 +89,9 @@ gives_all m closing l [] slots = true
 gives_all m closing l (e ∷ es) slots = gives m closing l e slots
     && gives_all m closing (after l e) es (slots_after m l e slots)
 
--- whether events take no slot and turn no area
-abbrev pub take_none : List Event → Bool
-take_none [] = true
-take_none (e ∷ es) = (turns_none e && is_none (slot_in e)) && take_none es
-
 both : (a b : Bool) → (a && b) ≡ true → (a ≡ true) × (b ≡ true)
 both true b h = (refl, h)
 both false b h = cc
-
-pub none-given : (m : Setting) (closing : Option ℕ) (l : Ledger) (es : List Event)
-    (slots : AreaSlots) → take_none es ≡ true → gives_all m closing l es slots ≡ true
-none-given m closing l [] slots h = refl
-none-given m closing l (e ∷ es) slots h =
-    let parts = both (turns_none e && is_none (slot_in e)) (take_none es) h in
-    let first = both (turns_none e) (is_none (slot_in e)) parts.0 in
-    by (may_switch m e) (slot_in e) (may e first.0) first.1
-    (gives_all m closing (after l e) es (slots_after m l e slots))
-    (none-given m closing (after l e) es (slots_after m l e slots) parts.1)
-  where
-    may : (e : Event) → turns_none e ≡ true → may_switch m e ≡ true
-    may (Noted note) h = refl
-    may (Zapped k) h = refl
-    may (Used write k) h = refl
-    may (Forked p c pages) h = refl
-    may (Moved p n from to) h = refl
-    may (TurnedOn k slots bad) h = cc
-    may (TurnedOff k) h = cc
-
-    by : (b : Bool) (o : Option Slot) → b ≡ true → is_none o ≡ true → (c : Bool) → c ≡ true
-        → ((b && gives_slot m closing l o (switched m e slots)) && c) ≡ true
-    by true None h i c rest = rest
-    by true (Some s) h i c rest = cc
-    by false o h i c rest = cc
 
 -- an area that is turned on so has the clusters of its header
 turned : (m : Setting) (e : Event) (slots : AreaSlots) → may_switch m e ≡ true
@@ -140,28 +100,25 @@ turned m (Noted note) slots h = refl
 turned m (Zapped k) slots h = refl
 turned m (Used write k) slots h = refl
 turned m (Forked p c pages) slots h = refl
-turned m (Moved p n from to) slots h = refl
-turned m (TurnedOn k n bad) slots h =
-    (fresh_of (header_in m.headers k), told m.headers h, refl)
+turned m (EntriesMoved p n from to) slots h = refl
+turned m (TurnedOn k area) slots h = (fresh_of (header_in m.headers k), told m.headers h, refl)
   where
-    by : (o : Option Layout) → has_numbers n bad o ≡ true
-        → IsSomeAnd o (λ (h : Layout). HasNumbers (record { slots = n; bad = bad }) h
-        × (fresh_of o ≡ fresh h.pages h.bad))
+    by : (o : Option Layout) → has_numbers area o ≡ true
+        → IsSomeAnd o (λ (h : Layout). HasNumbers area h × (fresh_of o ≡ fresh h.pages h.bad))
     by None h = cc
     by (Some layout) h =
-        let parts = both (n == layout.slots) (bad == length layout.bad) h in
-        let slots : n ≡ layout.slots = grind (arith, nat_tests, parts.0) in
-        let bad_pages : bad ≡ length layout.bad = grind (arith, nat_tests, parts.1) in
+        let parts = both (area.slots == layout.slots) (area.bad == length layout.bad) h in
+        let slots : area.slots ≡ layout.slots = grind (arith, nat_tests, parts.0) in
+        let bad_pages : area.bad ≡ length layout.bad = grind (arith, nat_tests, parts.1) in
         (record { slots = slots; bad = bad_pages }, refl)
 
-    told : (o : Option (ℕ → Option Layout)) → has_numbers n bad (header_in o k) ≡ true
+    told : (o : Option (ℕ → Option Layout)) → has_numbers area (header_in o k) ≡ true
         → MatchOption o
-        ((pages : ℕ) × (named : List ℕ) × (pages ≤ min (size_of m k) most_pages) × (1 + n + bad ≡ pages)
+        ((pages : ℕ) × (named : List ℕ) × (pages ≤ min (size_of m k) most_pages) × (1 + area.slots + area.bad ≡ pages)
         × (fresh_of (header_in o k) ≡ fresh pages named)
-        × (count_by is_free_page (fresh_of (header_in o k)).pages ≡ n))
+        × (count_by is_free_page (fresh_of (header_in o k)).pages ≡ area.slots))
         (λ headers. IsSomeAnd (headers k)
-        (λ (h : Layout). HasNumbers (record { slots = n; bad = bad }) h
-        × (fresh_of (header_in o k) ≡ fresh h.pages h.bad)))
+        (λ (h : Layout). HasNumbers area h × (fresh_of (header_in o k) ≡ fresh h.pages h.bad)))
     told None h = cc
     told (Some headers) h = by (headers k) h
 turned m (TurnedOff k) slots h = refl
@@ -206,3 +163,48 @@ all-chosen m closing l (e ∷ es) free left slots h g =
       record { frames = h.1; slots = slot-chosen m closing l e slots parts.0 },
       all-chosen m closing (after l e) es h.0 left (slots_after m l e slots) h.2 parts.1,
     )
+
+-- ---- frames that are chosen, computed
+
+abbrev take_first : Option ℕ → List ℕ → Option (List ℕ)
+take_first None free = Some free
+take_first (Some f) [] = None
+take_first (Some f) (g ∷ free) = if f == g then Some free else None
+
+abbrev choose : Setting → Ledger → List Event → List ℕ → Option (List ℕ)
+choose m l [] free = Some free
+choose m l (e ∷ es) free = option_and_then (λ rest. choose m (after l e) es (new_free m l (after l e) ++ rest)) (take_first (frame_in e) free)
+
+pub chosen-by : (m : Setting) (l : Ledger) (es : List Event) (free left : List ℕ)
+    → choose m l es free ≡ Some left → ChoosesFrames m l es free left
+chosen-by m l [] free left h = inner (sym h)
+  where
+    inner : {x y : List ℕ} → Some x ≡ Some y → x ≡ y
+    inner e = cc
+chosen-by m l (e ∷ es) free left h =
+    by (take_first (frame_in e) free) refl h (λ rest i. chosen-by m (after l e) es (new_free m l (after l e) ++ rest) left i)
+  where
+    first : (o : Option ℕ) (free rest : List ℕ) → take_first o free ≡ Some rest → MatchOption o (free ≡ rest) (λ f. free ≡ f ∷ rest)
+    first None free rest h = inner h
+      where
+        inner : {x y : List ℕ} → Some x ≡ Some y → x ≡ y
+        inner e = cc
+    first (Some f) [] rest h = cc
+    first (Some f) (g ∷ free) rest h = same (f == g) refl h
+      where
+        same : (b : Bool) → (f == g) ≡ b → (if b then Some free else None) ≡ Some rest → (g ∷ free) ≡ f ∷ rest
+        same true is h = let e : f ≡ g = grind (arith, nat_tests, is) in let r : free ≡ rest = cc in λ i. sym e i ∷ r i
+        same false is h = cc
+
+    by : (o : Option (List ℕ)) → take_first (frame_in e) free ≡ o →
+        option_and_then (λ rest. choose m (after l e) es (new_free m l (after l e) ++ rest)) o ≡ Some left
+        → ((rest : List ℕ) → choose m (after l e) es (new_free m l (after l e) ++ rest) ≡ Some left
+        → ChoosesFrames m (after l e) es (new_free m l (after l e) ++ rest) left)
+        → ChoosesFrames m l (e ∷ es) free left
+    by None is h again = cc
+    by (Some rest) is h again = (new_free m l (after l e) ++ rest, (rest, first (frame_in e) free rest is, refl), again rest h)
+
+-- events that may come, by the frames that are free after them
+pub may : (m : Setting) (closing : Option ℕ) (l : Ledger) (es : List Event) (free : Free) (left : List ℕ) → choose m l es free.frames ≡ Some left →
+    gives_all m closing l es free.slots ≡ true → (after : Free) × ChoosesAll m closing l es free after
+may m closing l es free left h g = (_, all-chosen m closing l es free.frames left free.slots (chosen-by m l es free.frames left h) g)

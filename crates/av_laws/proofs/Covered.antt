@@ -24,7 +24,8 @@ use Rattle.av_trace.specs.declared.reply.Reply.{Reply}
 use Rattle.av_trace.specs.declared.row.Row.{Row}
 use Rattle.av_vma.specs.Gap.{IsGap, IsRoom}
 use Rattle.av_vma.specs.Indices.{AreIndicesBelow}
-use Rattle.av_vma.specs.Join.{index_of, past_of, same_prot}
+use Rattle.av_vma.specs.Index.{index_of, past_of}
+use Rattle.av_vma.specs.Join.{same_prot}
 use Rattle.av_vma.specs.Pages.{AreLaid, Lengths, Pages, after_map, after_prepare, after_unmap, alters_at, split_at, fresh_area, has_page, IsWhole, joined_at, loan_beside, page_changed, pages_changed, part_changed, to_prot, with_anon, with_area, with_effect, with_effect_on, without_range}
 use Rattle.av_vma.specs.declared.area.Area.{Area}
 use Rattle.av_plain.specs.Access.{after_write, first_bytes}
@@ -178,7 +179,8 @@ module _ (most : ℕ) (enough : top_page ≤ most) where
   covers_stored w on p a [] c = c
   covers_stored w on p a (b ∷ bytes) c = record {
     laid = c.laid;
-    prots = λ q page. c.prots q page ∙ sym (ap prot_of (pages-set w p (with_bytes (pages w p) a (b ∷ bytes)) q page) ∙ at q page (eq_by_cmp nat_cmp q p) refl);
+    prots = λ q page. c.prots q page
+        ∙ sym (ap prot_of (pages-set w p (with_bytes (pages w p) a (b ∷ bytes)) q page) ∙ at q page (eq_by_cmp nat_cmp q p) refl);
     low = c.low;
   }
     where
@@ -249,7 +251,8 @@ module _ (most : ℕ) (enough : top_page ≤ most) where
   same_width : (from n : ℕ) → (from + n) - from ≡ n
   same_width from n = omega arith
 
-  emptied-prots : (from past : ℕ) (on : Pages) (page : ℕ) → prots (without_range from past on) page ≡ cond (within from (past - from) page) None (prots on page)
+  emptied-prots : (from past : ℕ) (on : Pages) (page : ℕ)
+      → prots (without_range from past on) page ≡ cond (within from (past - from) page) None (prots on page)
   emptied-prots from past on page = by (within from (past - from) page)
     where
       by : (b : Bool) → option_map area_prot (cond b None (on page)) ≡ cond b None (prots on page)
@@ -379,7 +382,8 @@ module _ (most : ℕ) (enough : top_page ≤ most) where
       parts true false c h = cc
       parts false b c h = cc
 
-      by : (b : Bool) → is_room q n (page_of a) ≡ b → MatchBool b (Some page ≡ Some (page_of a)) (IsGap (is_mapped q) n (Some page)) → Room q on page n
+      by : (b : Bool) → is_room q n (page_of a) ≡ b → MatchBool b (Some page ≡ Some (page_of a)) (IsGap (is_mapped q) n (Some page))
+          → Room q on page n
       by true is e =
           let room = parts (nat_le low_page (page_of a)) (nat_le (page_of a + n) top_page) (meets q (page_of a) n) is in
           let low = room.0 in let high = room.1 in
@@ -459,7 +463,8 @@ module _ (most : ℕ) (enough : top_page ≤ most) where
         by false is = still (page == x) refl is
 
     prots_pages : (from n : ℕ) (on : Pages) → AreLaid on → (page : ℕ)
-        → prots (pages_changed long (to_prot prot) from n on) page ≡ cond (within from n page) (option_map (λ _. prot) (prots on page)) (prots on page)
+        → prots (pages_changed long (to_prot prot) from n on) page ≡ cond (within from n page) (option_map (λ _. prot) (prots on page))
+        (prots on page)
     prots_pages from zero on laid page = out (within from 0 page) (grind (arith, nat_tests))
       where
         out : (b : Bool) → b ≡ false → prots on page ≡ cond b (option_map (λ _. prot) (prots on page)) (prots on page)
@@ -471,7 +476,8 @@ module _ (most : ℕ) (enough : top_page ≤ most) where
         ∙ by (page == from) (within (from + 1) n page) (within from (suc n) page) (prots on page) (grind (arith, nat_tests))
       where
         by : (e r' r : Bool) (x : Option Prot) → r ≡ (e || r')
-            → cond r' (option_map (λ _. prot) (cond e (option_map (λ _. prot) x) x)) (cond e (option_map (λ _. prot) x) x) ≡ cond r (option_map (λ _. prot) x) x
+            → cond r' (option_map (λ _. prot) (cond e (option_map (λ _. prot) x) x)) (cond e (option_map (λ _. prot) x) x) ≡ cond r
+            (option_map (λ _. prot) x) x
         by true true true None i = refl
         by true true true (Some y) i = refl
         by true false true x i = refl
@@ -481,7 +487,8 @@ module _ (most : ℕ) (enough : top_page ≤ most) where
         by false false true x i = cc
         by false false false x i = refl
 
-    covers_changed : (q : Process) (on : Pages) (from n : ℕ) → Covers q on → Covers (with_prot_on q from n prot) (pages_changed long (to_prot prot) from n on)
+    covers_changed : (q : Process) (on : Pages) (from n : ℕ) → Covers q on
+        → Covers (with_prot_on q from n prot) (pages_changed long (to_prot prot) from n on)
     covers_changed q on from n c = record {
       laid = laid_pages_changed long (to_prot prot) from n on c.laid;
       same = λ page. prots_pages from n on c.laid page ∙ by page (within from n page);
@@ -524,7 +531,8 @@ module _ (most : ℕ) (enough : top_page ≤ most) where
       to_now : (on' : Pages) (page : ℕ) → now ≡ w → Room (pages w p) on' page (pages_of len) → Room (pages now p) on' page (pages_of len)
       to_now on' page e r = subst (λ x. Room (pages x p) on' page (pages_of len)) (sym e) r
 
-      room : (place : Place) (page : ℕ) → refusal (place_tests (pages w p) (pages_of len) place) ≡ None → Goes (pages w p) (pages_of len) place (Some page)
+      room : (place : Place) (page : ℕ) → refusal (place_tests (pages w p) (pages_of len) place) ≡ None
+          → Goes (pages w p) (pages_of len) place (Some page)
           → es ≡ zaps_for_place l p (pages_of len) place → Room (pages now p) (with_room (pages_of len) place (on p)) page (pages_of len)
       room Auto page none goes e = to_now (on p) page (same e) (room_gap (pages w p) (on p) (pages_of len) page (of_before (same e))
           (some len tests_pass.0) goes)
@@ -540,7 +548,8 @@ module _ (most : ℕ) (enough : top_page ≤ most) where
 
   covers-follows : (m : Setting) (w now : World) (l : Ledger) (long : Lengths) (on : Areas) (command : Command) (es : List Event) (answer : Answer)
       (rows : List Row)
-      → ((p q : ℕ) → command ≡ Fork p q → answer ≡ Done → ⊥) → ((p a old new b : ℕ) (mode : Mode) → command ≡ Mremap p a old new mode → answer ≡ MapAt b → ⊥)
+      → ((p q : ℕ) → command ≡ Fork p q → answer ≡ Done → ⊥)
+      → ((p a old new b : ℕ) (mode : Mode) → command ≡ Mremap p a old new mode → answer ≡ MapAt b → ⊥)
       → (es ≡ [] → now ≡ w) → Low now on → refusal (tests m w l command) ≡ None → Follows m w l command es answer rows
       → Low (next now command answer) (next_areas long on w command answer)
   covers-follows m w now l long on (Spawn p) es answer rows other unmoved same c none h = subst
@@ -559,7 +568,8 @@ module _ (most : ℕ) (enough : top_page ≤ most) where
           → Low (next now (Mmap p len prot place) answer) (next_areas long on w (Mmap p len prot place) answer)
       at None goes e = subst (λ x. Low (next now (Mmap p len prot place) x) (next_areas long on w (Mmap p len prot place) x)) (sym e) c
       at (Some page) goes e = subst (λ x. Low (next now (Mmap p len prot place) x) (next_areas long on w (Mmap p len prot place) x)) (sym e)
-          (covers_set now on p _ _ c (covers_mapped long p (pages now p) (with_room (pages_of len) place (on p)) (page_of (address_of page)) (pages_of len) prot
+          (covers_set now on p _ _ c
+          (covers_mapped long p (pages now p) (with_room (pages_of len) place (on p)) (page_of (address_of page)) (pages_of len) prot
           (subst (λ f. Room (pages now p) (with_room (pages_of len) place (on p)) f (pages_of len)) (sym (back page))
           (mmap-room m w now l on p len prot place es page same c none goes h.3))))
   covers-follows m w now l long on (Munmap p a len) es answer rows other unmoved same c none h = subst
@@ -569,7 +579,8 @@ module _ (most : ℕ) (enough : top_page ≤ most) where
       (λ x. Low (next now (Mprotect p a len prot) x) (next_areas long on w (Mprotect p a len prot) x)) (sym h.0)
       (subst (λ now. Low now on → Low (next now (Mprotect p a len prot)
       (if pages_to_hole (pages w p) (page_of a) (pages_of len) == pages_of len then Done else Refused Enomem))
-      (next_areas long on w (Mprotect p a len prot) (if pages_to_hole (pages w p) (page_of a) (pages_of len) == pages_of len then Done else Refused Enomem)))
+      (next_areas long on w (Mprotect p a len prot)
+      (if pages_to_hole (pages w p) (page_of a) (pages_of len) == pages_of len then Done else Refused Enomem)))
       (sym (same h.1)) (λ c. at c (pages_to_hole (pages w p) (page_of a) (pages_of len) == pages_of len) refl) c)
     where
       after_change : (n : ℕ) → Low w on → Low (set_process w p (with_prot_on (pages w p) (page_of a) n prot))
@@ -590,15 +601,17 @@ module _ (most : ℕ) (enough : top_page ≤ most) where
           by false = after_change (pages_to_hole (pages w p) (page_of a) (pages_of len)) c
   covers-follows m w now l long on (Mremap p a old new mode) es answer rows other unmoved same c none h = by h.0 h.2
     where
-      by : (to : Option ℕ) → IsMapAt answer to → Low (next now (Mremap p a old new mode) answer) (next_areas long on w (Mremap p a old new mode) answer)
+      by : (to : Option ℕ) → IsMapAt answer to
+          → Low (next now (Mremap p a old new mode) answer) (next_areas long on w (Mremap p a old new mode) answer)
       by None e = subst (λ x. Low (next now (Mremap p a old new mode) x) (next_areas long on w (Mremap p a old new mode) x)) (sym e) c
       by (Some to) e = absurd (unmoved p a old new (address_of to) mode refl e)
   covers-follows m w now l long on (Read p a n) es answer rows other unmoved same c none h = c
-  covers-follows m w now l long on (Write p a bytes) es answer rows other unmoved same c none h = covers_stored now on p a (first_bytes answer bytes) c
+  covers-follows m w now l long on (Write p a bytes) es answer rows other unmoved same c none h =
+      covers_stored now on p a (first_bytes answer bytes) c
   covers-follows m w now l long on (Reclaim n) es answer rows other unmoved same c none h = c
   covers-follows m w now l long on (Age n) es answer rows other unmoved same c none h = c
   covers-follows m w now l long on (Complete n) es answer rows other unmoved same c none h = c
-  covers-follows m w now l long on (Swapon k) es answer rows other unmoved same c none h = c
+  covers-follows m w now l long on (Swapon k priority) es answer rows other unmoved same c none h = c
   covers-follows m w now l long on (Swapoff k) es answer rows other unmoved same c none h = c
   covers-follows m w now l long on (Maps p) es answer rows other unmoved same c none h = c
   covers-follows m w now l long on (AsksAreas p) es answer rows other unmoved same c none h = c
@@ -640,7 +653,8 @@ module _ (most : ℕ) (enough : top_page ≤ most) where
       child_laid = record {
         whole = λ page a is. let b = of page a is in subst IsWhole b.2 (as_whole b.0 (child.own page) ((c.laid p).whole page b.0 b.1));
         here = λ page a is. let b = of page a is in subst (λ a. has_page a page ≡ true) b.2 ((c.laid p).here page b.0 b.1);
-        all = λ page other a is has. let b = of page a is in sym (child.one page other b.0 b.1 (subst (λ a. has_page a other ≡ true) (sym b.2) has)) ∙ is;
+        all = λ page other a is has. let b = of page a is in
+            sym (child.one page other b.0 b.1 (subst (λ a. has_page a other ≡ true) (sym b.2) has)) ∙ is;
       }
 
       laid : (k : ℕ) (b : Bool) → (k == q) ≡ b → AreLaid (next.areas k)
@@ -654,7 +668,8 @@ module _ (most : ℕ) (enough : top_page ≤ most) where
           subst (λ a. index_of a (past_of a) ≤ most) b.2 (c.low p page b.0 b.1)
       low k false e page a is = c.low k page a (sym (child.others k page e) ∙ is)
 
-      child_prots : (page : ℕ) (o : Option Area) → r.areas p page ≡ o → option_map area_prot (next.areas q page) ≡ option_map area_prot (r.areas p page)
+      child_prots : (page : ℕ) (o : Option Area) → r.areas p page ≡ o
+          → option_map area_prot (next.areas q page) ≡ option_map area_prot (r.areas p page)
       child_prots page None e = ap (option_map area_prot) (child.none page e) ∙ sym (ap (option_map area_prot) e)
       child_prots page (Some b) e = ap (option_map area_prot) (child.here page b e) ∙ sym (ap (option_map area_prot) e)
 
@@ -680,7 +695,8 @@ module _ (most : ℕ) (enough : top_page ≤ most) where
           (covers_prepared old.world old.ledger h.events (rmap_of old) c)
 
       by : ((p q : ℕ) → command ≡ Fork p q → reply.answer ≡ Done → ⊥) → (o : Option Errno) → refusal (tests m old.world old.ledger command) ≡ o
-          → MatchOption o (Follows m old.world old.ledger command h.events reply.answer reply.rows) (λ error. Refuses error h.events reply.answer reply.rows)
+          → MatchOption o (Follows m old.world old.ledger command h.events reply.answer reply.rows)
+          (λ error. Refuses error h.events reply.answer reply.rows)
           → Low (next_world m old.world old.ledger h.events command reply.answer)
           (next_areas (chain_length (rmap_after_all old.ledger h.events (rmap_of old)).anons)
           (rmap_after_all old.ledger h.events (rmap_of old)).areas old.world command reply.answer)
@@ -707,7 +723,8 @@ module _ (most : ℕ) (enough : top_page ≤ most) where
 low-more : (a b : ℕ) (w : World) (on : Areas) → a ≤ b → (x : top_page ≤ a) → (y : top_page ≤ b) → Low a x w on → Low b y w on
 low-more a b w on less x y c = record { laid = c.laid; prots = c.prots; low = λ p. indices_more a b (on p) less (c.low p) }
 
-covers_remapped : (m : Setting) (w : World) (l : Ledger) (long : Lengths) (on : Areas) (p a old new to most : ℕ) (mode : Mode) (high : top_page ≤ most)
+covers_remapped : (m : Setting) (w : World) (l : Ledger) (long : Lengths) (on : Areas) (p a old new to most : ℕ) (mode : Mode)
+    (high : top_page ≤ most)
     (higher : top_page ≤ most + top_page)
     → most + top_page ≤ 2 ^ 60 → Low most high w on → refusal (tests m w l (Mremap p a old new mode)) ≡ None
     → MovesTo (pages w p) (page_of a) (pages_of old) (pages_of new) mode (Some to)
@@ -718,7 +735,8 @@ covers_remapped m w l long on p a old new to most mode high higher fits c none g
     (set_process w p (process_after_mremap (page_of a) (pages_of old) b (pages_of new) left (pages w p)))
     (with_at p (after_mremap long p (page_of a) (pages_of old) b (pages_of new) left (on p)) on)) (sym back)
     (covers_set (most + top_page) higher w on p (process_after_mremap (page_of a) (pages_of old) to (pages_of new) left (pages w p))
-    (after_mremap long p (page_of a) (pages_of old) to (pages_of new) left (on p)) (low-more most (most + top_page) w on (omega arith) high higher c) there)
+    (after_mremap long p (page_of a) (pages_of old) to (pages_of new) left (on p))
+    (low-more most (most + top_page) w on (omega arith) high higher c) there)
   where
     left : Option Prot
     left = prot_left mode (pages w p) (page_of a)
@@ -792,10 +810,12 @@ remap-step m most high higher old p a old_len new_len b mode reply new fits done
         subst (λ x. Low (most + top_page) higher x new.areas) (sym (h.world ∙ (λ i. next (loaded i) command (e i))))
         (subst (Low (most + top_page) higher (next old.world command (MapAt (address_of to))))
         (sym (areas ∙ ap (next_areas (chain_length later.anons) later.areas old.world command) e))
-        (covers_remapped m old.world old.ledger (chain_length later.anons) later.areas p a old_len new_len to most mode high higher fits still none goes))
+        (covers_remapped m old.world old.ledger (chain_length later.anons) later.areas p a old_len new_len to most mode high higher fits
+        still none goes))
 
     by : (o : Option Errno) → refusal (tests m old.world old.ledger command) ≡ o
-        → MatchOption o (Follows m old.world old.ledger command h.events reply.answer reply.rows) (λ error. Refuses error h.events reply.answer reply.rows)
+        → MatchOption o (Follows m old.world old.ledger command h.events reply.answer reply.rows)
+        (λ error. Refuses error h.events reply.answer reply.rows)
         → Low (most + top_page) higher new.world new.areas
     by None is x = follows is x.0 x.1 x.2 x.3
     by (Some error) is x = absurd (let both = sym done ∙ x.0 in cc)
@@ -807,7 +827,8 @@ low-step : (m : Setting) (most : ℕ) (high : top_page ≤ most) (higher : top_p
     → most + top_page ≤ 2 ^ 60 → Low most high old.world old.areas → IsStep m old command reply new → Low (most + top_page) higher new.world new.areas
 low-step m most high higher old command reply new fits c h = by (remapped-cases command reply.answer)
   where
-    by : IsRemapped command reply.answer ⊎ ((p a old_len new_len b : ℕ) (mode : Mode) → command ≡ Mremap p a old_len new_len mode → reply.answer ≡ MapAt b → ⊥)
+    by : IsRemapped command reply.answer
+        ⊎ ((p a old_len new_len b : ℕ) (mode : Mode) → command ≡ Mremap p a old_len new_len mode → reply.answer ≡ MapAt b → ⊥)
         → Low (most + top_page) higher new.world new.areas
     by (inl r) = remap-step m most high higher old r.p r.a r.old_len r.new_len r.b r.mode reply new fits r.answer_is c
         (subst (λ command. IsStep m old command reply new) r.command_is h)
@@ -825,7 +846,8 @@ pub later-laid : (m : Setting) (most : ℕ) (old : State) (es : List Event) → 
     → (p : ℕ) → AreLaid ((rmap_after_all old.ledger es (rmap_of old)).areas p)
 later-laid m most old es high c p = (covers_prepared most high old.world old.ledger es (rmap_of old) (to_low most high old.world old.areas c)).laid p
 
-pub step-covers : (m : Setting) (most : ℕ) (old : State) (command : Command) (reply : Reply) (new : State) → top_page ≤ most → most + top_page ≤ 2 ^ 60
+pub step-covers : (m : Setting) (most : ℕ) (old : State) (command : Command) (reply : Reply) (new : State) → top_page ≤ most
+    → most + top_page ≤ 2 ^ 60
     → CoverBelow most old.world old.areas → IsStep m old command reply new → CoverBelow (most + top_page) new.world new.areas
 step-covers m most old command reply new high fits c h =
     let higher : top_page ≤ most + top_page = omega arith in

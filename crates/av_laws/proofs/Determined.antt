@@ -71,7 +71,8 @@ served-chosen m closing l write k notes later free free' h =
     (first.0, parts.0, first.1, parts.1, parts.2)
 
 -- the notes of such a page are among those of the access
-served-notes : (write : Bool) (k : Key) (notes : List Note) (later : List Event) → notes_of (page_events write k notes None ++ later) ≡ notes ++ notes_of later
+served-notes : (write : Bool) (k : Key) (notes : List Note) (later : List Event)
+    → notes_of (page_events write k notes None ++ later) ≡ notes ++ notes_of later
 served-notes write k notes later =
     notes_of-append (page_events write k notes None) later
     ∙ ap (λ ns. ns ++ notes_of later) (notes_of-append (note_events notes) (Used write k ∷ []) ∙ append-nil (notes_of (note_events notes))
@@ -174,7 +175,8 @@ end_page (Stopped page stop) whole = page
 served-allowed : (m : Setting) (w : World) (l : Ledger) (write : Bool) (p from n : ℕ) (es : List Event) (end : End) →
     Accesses m w l p (map (λ page. (write, page)) (range_with_len from n)) es end
     → (page : ℕ) → from ≤ page → page < end_page end (from + n) → is_allowed w write (p, page) ≡ true
-served-allowed m w l write p from zero es end h page low high = absurd (let e = subst (λ e. page < end_page e (from + 0)) h.1 high in omega (arith, e, low))
+served-allowed m w l write p from zero es end h page low high =
+    absurd (let e = subst (λ e. page < end_page e (from + 0)) h.1 high in omega (arith, e, low))
 served-allowed m w l write p from (suc n) es end (inl h) page low high =
     by (from == page) refl (λ above. served-allowed m w (after_all l (page_events write (p, from) h.0 None)) write p
     (from + 1) n h.1 end h.4 page above (later end high))
@@ -226,7 +228,8 @@ served-claimed : (m : Setting) (w : World) (l : Ledger) (write : Bool) (p a n : 
     Accesses m w l p (pages_of_access write a n) es end
     → (i : ℕ) → i < bytes_served a n end → is_some (byte_at (pages w p) (a + i)) ≡ true
 served-claimed m w l write p a n es end claimed h i below =
-    byte-claimed w write p (a + i) claimed (served-allowed m w l write p (page_of a) (if n == 0 then 0 else pages_of (a % 4096 + n)) es end h (page_of (a + i))
+    byte-claimed w write p (a + i) claimed
+    (served-allowed m w l write p (page_of a) (if n == 0 then 0 else pages_of (a % 4096 + n)) es end h (page_of (a + i))
     (rising a i) (inside end below))
   where
     rising : (a i : ℕ) → a / 4096 ≤ (a + i) / 4096
@@ -287,7 +290,8 @@ stop-kept Denied k shown h = refl
 stop-kept (Starved out) k shown h = refl
 stop-kept Lost k shown h = absurd (omega (arith, h))
 
-read-kept : (a : ℕ) (end : End) (shown : List ℕ) (answer : Answer) → answer ≡ read_answer a end shown → fault_answers answer ≡ 0 → is_lost_end end ≡ false
+read-kept : (a : ℕ) (end : End) (shown : List ℕ) (answer : Answer) → answer ≡ read_answer a end shown → fault_answers answer ≡ 0
+    → is_lost_end end ≡ false
 read-kept a Whole shown answer h none = refl
 read-kept a (Stopped page stop) shown answer h none = stop-kept stop (bytes_before a page) shown (ap fault_answers (sym h) ∙ none)
 
@@ -381,9 +385,9 @@ follows-one m w l on anons (Age n) es fs answer answer' rows rows' closing free 
     x y c d h g s t = record { events = h.1 ∙ sym g.1; answers = h.0 ∙ sym g.0; reports = h.2 ∙ sym g.2 }
 follows-one m w l on anons (Complete n) es fs answer answer' rows rows' closing free a b told claimed kept kept'
     x y c d h g s t = record { events = complete-one l n es fs answer answer' rows rows' h g x y; answers = h.2 ∙ sym g.2; reports = h.4 ∙ sym g.4 }
-follows-one m w l on anons (Swapon k) es fs answer answer' rows rows' closing free a b told claimed kept kept'
-    x y c d h g s t = let same = turns-on-one m k es fs answer answer' rows rows' told h g kept kept' in
-    record { events = h.1 ∙ ap (turn_on_events k) same ∙ sym g.1; answers = same; reports = h.2 ∙ sym g.2 }
+follows-one m w l on anons (Swapon k priority) es fs answer answer' rows rows' closing free a b told claimed kept kept'
+    x y c d h g s t = let same = turns-on-one m k priority es fs answer answer' rows rows' told h g kept kept' in
+    record { events = h.1 ∙ ap (turn_on_events k priority) same ∙ sym g.1; answers = same; reports = h.2 ∙ sym g.2 }
 follows-one m w l on anons (Swapoff k) es fs answer answer' rows rows' closing free a b told claimed kept kept'
     x y c d h g s t = let same = turns-off-one m closing told w l k es fs answer answer' rows rows' free a b h g kept kept' x y c d in
     record { events = same.0; answers = same.1; reports = h.no_rows ∙ sym g.no_rows }
@@ -444,7 +448,8 @@ step-one m old new new' command reply reply' told claimed kept kept' h g =
     new'.free told (subst (λ es. ChoosesAll m closing old.ledger es old.free new.free)
     same.events h.free) g.free in
     let now = rmap_after_all old.ledger g.events (rmap_of old) in
-    let mine : IsRmapNext now old.world command reply'.answer (rmap_of new) = subst (λ a. IsRmapNext now old.world command a (rmap_of new)) same.answers
+    let mine : IsRmapNext now old.world command reply'.answer (rmap_of new) =
+    subst (λ a. IsRmapNext now old.world command a (rmap_of new)) same.answers
     (subst (λ es. IsRmapNext (rmap_after_all old.ledger es (rmap_of old)) old.world command reply.answer (rmap_of new)) same.events h.rmap) in
     let rmap = next-one now old.world command reply'.answer (rmap_of new) (rmap_of new') mine g.rmap in (
       (λ i. record { answer = same.answers i; notes = notes i; rows = same.reports i }),
@@ -479,7 +484,8 @@ claimed-ended w p claimed q page = subst Claims (sym (pages-ended w p q page)) (
 
 claimed-stored : (w : World) (p a : ℕ) (bytes : List ℕ) → IsClaimed w → IsClaimed (after_write w p a bytes)
 claimed-stored w p a [] claimed = claimed
-claimed-stored w p a (b ∷ bytes) claimed = claimed-set w p (with_bytes (pages w p) a (b ∷ bytes)) claimed (λ page. over page (pages w p page) (claimed p page))
+claimed-stored w p a (b ∷ bytes) claimed =
+    claimed-set w p (with_bytes (pages w p) a (b ∷ bytes)) claimed (λ page. over page (pages w p page) (claimed p page))
   where
     either : (c : Bool) (x : ℕ) (o : Option ℕ) → is_some o ≡ true → is_some (if c then Some x else o) ≡ true
     either true x o h = refl
@@ -503,9 +509,11 @@ claimed-protected w p from n prot claimed = claimed-set w p (with_prot_on (pages
     by true (Some q) h = h
     by false o h = h
 
-claimed-follows : (m : Setting) (w : World) (l : Ledger) (command : Command) (es : List Event) (answer : Answer) (rows : List Row) → Tells m → IsClaimed w →
+claimed-follows : (m : Setting) (w : World) (l : Ledger) (command : Command) (es : List Event) (answer : Answer) (rows : List Row) → Tells m
+    → IsClaimed w →
     Follows m w l command es answer rows → IsClaimed (next_world m w l es command answer)
-claimed-follows m w l command es answer rows told claimed h = subst (λ v. IsClaimed (next v command answer)) (sym (loads-told m w l es told)) (by command h)
+claimed-follows m w l command es answer rows told claimed h =
+    subst (λ v. IsClaimed (next v command answer)) (sym (loads-told m w l es told)) (by command h)
   where
     by : (command : Command) → Follows m w l command es answer rows → IsClaimed (next w command answer)
     by (Spawn p) h = subst (λ x. IsClaimed (next w (Spawn p) x)) (sym h.0) (claimed-set w p no_pages claimed (λ page. tt))
@@ -575,7 +583,7 @@ claimed-follows m w l command es answer rows told claimed h = subst (λ v. IsCla
     by (Reclaim n) h = claimed
     by (Age n) h = claimed
     by (Complete n) h = claimed
-    by (Swapon k) h = claimed
+    by (Swapon k priority) h = claimed
     by (Swapoff k) h = claimed
     by (Maps p) h = claimed
     by (AsksAreas p) h = claimed
@@ -591,10 +599,12 @@ claimed-refused m w l command es error told claimed is = subst IsClaimed
 
 claimed-step : (m : Setting) (old new : State) (command : Command) (reply : Reply) → Tells m → IsClaimed old.world →
     IsStep m old command reply new → IsClaimed new.world
-claimed-step m old new command reply told claimed h = subst IsClaimed (sym h.world) (by (refusal (tests m old.world old.ledger command)) refl h.legal.answer)
+claimed-step m old new command reply told claimed h =
+    subst IsClaimed (sym h.world) (by (refusal (tests m old.world old.ledger command)) refl h.legal.answer)
   where
     by : (o : Option Errno) → refusal (tests m old.world old.ledger command) ≡ o →
-        MatchOption o (Follows m old.world old.ledger command h.events reply.answer reply.rows) (λ error. Refuses error h.events reply.answer reply.rows) →
+        MatchOption o (Follows m old.world old.ledger command h.events reply.answer reply.rows)
+        (λ error. Refuses error h.events reply.answer reply.rows) →
         IsClaimed (next_world m old.world old.ledger h.events command reply.answer)
     by None e x = claimed-follows m old.world old.ledger command h.events reply.answer reply.rows told claimed x
     by (Some error) e x = subst (λ a. IsClaimed (next_world m old.world old.ledger h.events command a)) (sym x.0)

@@ -77,7 +77,8 @@ no_earlier a c rs others h i alike = by (nat_le c.from a.from) refl
         absurd (none-some (sym (below-first c others a.from i less) ∙ sym (alike a.from) ∙ in-first a rs a.from (omega arith) long))
 
 -- nor does it end earlier
-no_sooner : (a c : Range) (rs others : List Range) → AreLongest (a ∷ rs) → a.from ≡ c.from → a.prot ≡ c.prot → Alike (a ∷ rs) (c ∷ others) → c.to ≤ a.to
+no_sooner : (a c : Range) (rs others : List Range) → AreLongest (a ∷ rs) → a.from ≡ c.from → a.prot ≡ c.prot
+    → Alike (a ∷ rs) (c ∷ others) → c.to ≤ a.to
 no_sooner a c rs others h start kind alike = by (nat_le c.to a.to) refl
   where
     by : (t : Bool) → nat_le c.to a.to ≡ t → c.to ≤ a.to
@@ -111,7 +112,8 @@ runs-same (a ∷ rs) (c ∷ others) h i alike =
     let low' = no_earlier c a others rs i h back in
     let start : a.from ≡ c.from = omega (arith, low, low') in
     let long = not-empty a rs h in let long' = not-empty c others i in
-    let kind : a.prot ≡ c.prot = of_some (sym (in-first a rs a.from (omega arith) long) ∙ alike a.from ∙ in-first c others a.from (omega (arith, start))
+    let kind : a.prot ≡ c.prot =
+    of_some (sym (in-first a rs a.from (omega arith) long) ∙ alike a.from ∙ in-first c others a.from (omega (arith, start))
     (omega (arith, start, long'))) in
     let high = no_sooner a c rs others h start kind alike in
     let high' = no_sooner c a others rs i (sym start) (sym kind) back in

@@ -110,7 +110,8 @@ held-drop m came l k q h = by (entry l k)
 
 -- ---- a page comes in, and is made
 
-comes-held : (m : Setting) (sp : Sparing) (l : Ledger) (k q : Key) (n : Need) (notes : List Note) → same_key q k ≡ false → IsHeld n → ComesIn m sp l k n notes →
+comes-held : (m : Setting) (sp : Sparing) (l : Ledger) (k q : Key) (n : Need) (notes : List Note) → same_key q k ≡ false → IsHeld n
+    → ComesIn m sp l k n notes →
     Held l q → Held (after_notes l notes) q
 comes-held m sp l k q Ready notes other n c h = subst (λ ns. Held (after_notes l ns) q) (sym c) h
 comes-held m sp l k q ZeroPage notes other n c h = subst (λ ns. Held (after_notes l ns) q) (sym c) h
@@ -218,7 +219,8 @@ abbrev EndsServed : End → Type 0
 EndsServed Whole = Unit {0}
 EndsServed (Stopped page stop) = IsServed stop
 
-accesses-served : (m : Setting) (w : World) (p n from : ℕ) (l : Ledger) (events : List Event) (end : End) → ((q : ℕ) → from ≤ q → q < from + n → Held l (p, q))
+accesses-served : (m : Setting) (w : World) (p n from : ℕ) (l : Ledger) (events : List Event) (end : End)
+    → ((q : ℕ) → from ≤ q → q < from + n → Held l (p, q))
     → Accesses m w l p (map (λ page. (false, page)) (range_with_len from n)) events end → EndsServed end
 accesses-served m w p zero from l events end held h = subst EndsServed (sym h.1) tt
 accesses-served m w p (suc n) from l events end held (inl h) =
@@ -246,7 +248,8 @@ no_frame l s none = by l.cache none
     by (c ∷ cs) h = first (same_slot s c.slot) h (by cs)
       where
         first : (b : Bool) → cond b 1 0 + how_many (λ (c : Cached). same_slot s c.slot) cs ≡ 0 →
-            (how_many (λ (c : Cached). same_slot s c.slot) cs ≡ 0 → option_map (λ (c : Cached). c.frame) (cached_by (λ c. same_slot s c.slot) cs) ≡ None)
+            (how_many (λ (c : Cached). same_slot s c.slot) cs ≡ 0
+            → option_map (λ (c : Cached). c.frame) (cached_by (λ c. same_slot s c.slot) cs) ≡ None)
             → option_map (λ (c : Cached). c.frame) (cond b (Some c) (cached_by (λ c. same_slot s c.slot) cs)) ≡ None
         first true h rest = absurd (omega (arith, h))
         first false h rest = rest (omega (arith, h))
@@ -269,7 +272,8 @@ all-held l p (suc n) from all q low high = by (from == q) refl (all-held l p n (
     here s is = slot s (frame_at l s) refl (ap (λ o. wants_frame (need false l o)) (sym is) ∙ all.0)
 
     by : (b : Bool) → (from == q) ≡ b → (from + 1 ≤ q → q < (from + 1) + n → Held l (p, q)) → Held l (p, q)
-    by true is rest = let e : from ≡ q = grind (arith, nat_tests, is) in subst (λ x. (s : Slot) → entry l (p, x) ≡ Some (InSlot s) → 0 < slots l s) e here
+    by true is rest = let e : from ≡ q = grind (arith, nat_tests, is) in
+        subst (λ x. (s : Slot) → entry l (p, x) ≡ Some (InSlot s) → 0 < slots l s) e here
     by false is rest = rest (grind (arith, nat_tests, is, low)) (omega (arith, high))
 
 pub read-served : (m : Setting) (w : World) (l : Ledger) (p a n : ℕ) (reply : Reply)
@@ -310,7 +314,8 @@ own-of m l k s h = by (entry l k) refl h
     second false b h = h
 
     unnamed : (f : ℕ) (o : Option Slot) → slot_of l f ≡ o → is_named l o ≡ false → (t : Slot) → 0 < pairs l t f → slot_entries l t ≡ 0
-    unnamed f None at h t pair = let none = slot_of-none f l.cache at in let few = holders-off_cache t f l.cache in absurd (omega (arith, none, few, pair))
+    unnamed f None at h t pair = let none = slot_of-none f l.cache at in let few = holders-off_cache t f l.cache in
+        absurd (omega (arith, none, few, pair))
     unnamed f (Some s') at h t pair = of_slot (same_slot t s') refl
       where
         of_slot : (b : Bool) → same_slot t s' ≡ b → slot_entries l t ≡ 0
@@ -371,7 +376,8 @@ same-less l = record { entries = refl; pairs_less = λ t f. omega arith }
 drop-less : (m : Setting) (came : Bool) (l : Ledger) (k : Key) → IsLess l (after_notes l (drop_at m true came l k))
 drop-less m came l k = by (entry l k)
   where
-    less : (t r : Slot) (f : ℕ) (b : Bool) → pairs (after_note (Dropped t) l) r f ≡ cond b 0 (pairs l r f) → pairs (after_note (Dropped t) l) r f ≤ pairs l r f
+    less : (t r : Slot) (f : ℕ) (b : Bool) → pairs (after_note (Dropped t) l) r f ≡ cond b 0 (pairs l r f)
+        → pairs (after_note (Dropped t) l) r f ≤ pairs l r f
     less t r f true e = omega (arith, e)
     less t r f false e = omega (arith, e)
 
@@ -432,7 +438,8 @@ serves-own m sp l k q notes in_order other here own s =
     let used = own-used l2 k q (subst (λ es. T (is_sorted key_cmp es)) (sym less.entries) in_order) (own-less l l2 k less here) other
     (own-less l l2 q less own) in
     subst (λ x. IsOwn x q)
-    (sym (after_all-append l (note_events notes) (Used true k ∷ []) ∙ ap (after_use true k) (note_events-all l notes ∙ ap (after_notes l) whole))) used
+    (sym (after_all-append l (note_events notes) (Used true k ∷ [])
+    ∙ ap (after_use true k) (note_events-all l notes ∙ ap (after_notes l) whole))) used
   where
     came : Bool
     came = was_slot (need true l (entry l k))

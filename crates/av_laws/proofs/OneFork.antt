@@ -22,7 +22,8 @@ reused-one r chain (Some v) (Some w) h g = let under = h.2 w g.0 g.1 in let over
 goes-one : (own : Option ℕ) (q : ℕ) (area : Area) (r x y : Rmap) → GoesBy own q area r x → GoesBy own q area r y → x ≡ y
 goes-one None q area r x y h g = h ∙ sym g
 goes-one (Some own) q area r x y h g = h.2
-    ∙ ap (λ reused. record (with_child_area q (record area { anon = Some (own_of_child r.anons reused) }) r) { anons = with_child own reused r.anons })
+    ∙ ap (λ reused. record (with_child_area q (record area { anon = Some (own_of_child r.anons reused) }) r)
+    { anons = with_child own reused r.anons })
     (reused-one r (chain_by r.anons (Some own)) h.0 g.0 h.1 g.1)
     ∙ sym g.2
 

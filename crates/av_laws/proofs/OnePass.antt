@@ -10,7 +10,7 @@ use Rattle.av_swapdev.specs.Header.{Layout}
 use Rattle.av_trace.specs.declared.note.Note.{Note}
 use Rattle.av_trace.specs.declared.note.Note.TheVariants.{Zeroed, New, Copied, Loaded, Mapped, Put, Unmapped, Started, Written, Failed, Dropped, Kept, Aged}
 use Rattle.av_plain.specs.Ledger.{HasNumbers, Ledger, Setting, SwapArea, map_count, slot_of, has_free, size_of}
-use Rattle.av_plain.specs.Event.{Event, Forked, Moved, Noted, TurnedOff, TurnedOn, Used, Zapped, after, after_notes, when, note_events}
+use Rattle.av_plain.specs.Event.{Event, Forked, EntriesMoved, Noted, TurnedOff, TurnedOn, Used, Zapped, after, after_notes, when, note_events}
 use Rattle.av_plain.specs.Pass.{Spared, end_note, end_notes, Completes, is_fail, fails, IsSlotFor, is_stuck, is_dirty, turn_notes, stays_cached, Turns as TakesTurns, frames_in_turn, IsPass, Seeks, TakesFor}
 use Rattle.av_plain.specs.Choice.{AreFresh, AreaSlots, Chooses, ChoosesAll, ChoosesFrame, ChoosesSlot, Free, IsGiven, SwitchesArea, frame_in, frame_in_note, new_free, slot_in, with_given_back}
 use Rattle.av_laws.specs.Determined.{Tells}
@@ -109,10 +109,9 @@ turns-same m (Noted note) old a b told h g = h ∙ sym g
 turns-same m (Zapped k) old a b told h g = h ∙ sym g
 turns-same m (Used write k) old a b told h g = h ∙ sym g
 turns-same m (Forked p c pages) old a b told h g = h ∙ sym g
-turns-same m (Moved p n from to) old a b told h g = h ∙ sym g
-turns-same m (TurnedOn k slots bad) old a b told h g =
-    h.2 ∙ ap (λ made. with_at k made old)
-    (fresh-same m k (record { slots = slots; bad = bad }) h.0 g.0 told h.1 g.1) ∙ sym g.2
+turns-same m (EntriesMoved p n from to) old a b told h g = h ∙ sym g
+turns-same m (TurnedOn k area) old a b told h g =
+    h.2 ∙ ap (λ made. with_at k made old) (fresh-same m k area h.0 g.0 told h.1 g.1) ∙ sym g.2
 turns-same m (TurnedOff k) old a b told h g = h ∙ sym g
 
 -- what is left when a slot is given
@@ -236,7 +235,8 @@ completes-one l (t ∷ ts) a b c d x y =
     let y' = done-append (end_notes l t false) d.1
     (subst (λ v. AreDone (end_notes l t v ++ d.1)) g ys) in
     let same = completes-one (after_notes l (end_notes l t false)) ts c.1 d.1
-    (subst (λ v. Completes (after_notes l (end_notes l t v)) ts c.1) f c.3) (subst (λ v. Completes (after_notes l (end_notes l t v)) ts d.1) g d.3) x'.1 y'.1 in
+    (subst (λ v. Completes (after_notes l (end_notes l t v)) ts c.1) f c.3)
+    (subst (λ v. Completes (after_notes l (end_notes l t v)) ts d.1) g d.3) x'.1 y'.1 in
     c.2 ∙ (λ i. end_notes l t (f i) ++ c.1) ∙ ap (λ r. end_notes l t false ++ r) same ∙ sym (λ i. end_notes l t (g i) ++ d.1) ∙ sym d.2
 
 -- ---- turns

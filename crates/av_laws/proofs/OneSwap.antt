@@ -40,7 +40,8 @@ outcomes-one m closing told sp l free (f ∷ fs) a b h g x y =
     let here = by (cause_of m sp l f) h.3 g.3 x' y' in
     let mids = left-one m closing l h.0 g.0 free xs.0 ys.0 told here xs.2 ys.2 in
     let there = subst (λ ns. Outcomes m sp (after_notes l ns) fs g.1) (sym here) g.4 in
-    let given = subst (λ mid. Given m closing (after_notes l h.0) mid g.1) mids (subst (λ ns. Given m closing (after_notes l ns) ys.0 g.1) (sym here) ys.3) in
+    let given = subst (λ mid. Given m closing (after_notes l h.0) mid g.1) mids
+    (subst (λ ns. Given m closing (after_notes l ns) ys.0 g.1) (sym here) ys.3) in
     let rest = outcomes-one m closing told sp (after_notes l h.0) xs.0 fs h.1 g.1 h.4 there xs.3 given in
     h.2 ∙ (λ i. here i ++ rest i) ∙ sym g.2
   where
@@ -76,9 +77,10 @@ complete-one l n es fs answer answer' rows rows' h g x y = h.3 ∙ ap note_event
 
 -- ---- swapon and slot
 
-pub turns-on-one : (m : Setting) (k : ℕ) (es fs : List Event) (answer answer' : Answer) (rows rows' : List Row) → Tells m → TurnsOn m k es answer rows →
-    TurnsOn m k fs answer' rows' → fault_answers answer ≡ 0 → fault_answers answer' ≡ 0 → answer ≡ answer'
-turns-on-one m k es fs answer answer' rows rows' told h g kept kept' =
+pub turns-on-one : (m : Setting) (k : ℕ) (priority : Option ℕ) (es fs : List Event) (answer answer' : Answer) (rows rows' : List Row) → Tells m →
+    TurnsOn m k priority es answer rows → TurnsOn m k priority fs answer' rows' → fault_answers answer ≡ 0 → fault_answers answer' ≡ 0
+    → answer ≡ answer'
+turns-on-one m k priority es fs answer answer' rows rows' told h g kept kept' =
     by m.headers told (read answer h.0 kept) (read answer' g.0 kept')
   where
     read : (answer : Answer) → (answer ≡ Refused Eio) ⊎ IsByHeader m.headers k answer → fault_answers answer ≡ 0 → IsByHeader m.headers k answer
@@ -148,7 +150,8 @@ never-both m closing told sp k l free page pages a b rest end read h g x y = by 
     by None e q =
         let taken = q.0 in
         let xs = given-parts m closing l free a rest x in
-        let fs = given-parts m closing l free h.fetched (map_notes (after_notes l h.fetched) s h.frame) (given-is m closing l free a _ h.whole xs.1) in
+        let fs = given-parts m closing l free h.fetched (map_notes (after_notes l h.fetched) s h.frame)
+        (given-is m closing l free a _ h.whole xs.1) in
         let ts = given-parts m closing l free taken.sought (Loaded s taken.frame ∷ []) (given-is m closing l free h.fetched _ taken.whole fs.1) in
         let same = seeks-one m closing told sp l free taken.sought b taken.seeks g.1 ts.1 y in
         let free_there = ap (λ ns. has_free m (after_notes l ns)) (sym same)
@@ -183,7 +186,8 @@ empties-one m closing told sp k l free (p ∷ ps) (q ∷ qs) a b end end' r r' h
     (subst (λ page. IsEmptied m sp l (record { area = k; page = page }) g.1) page g.5) xs.1 ys.1 in
     let mids = left-one m closing l h.1 g.1 free xs.0 ys.0 told here xs.2 ys.2 in
     let there = subst (λ ns. Empties m sp k (after_notes l ns) qs g.2 end') (sym here) g.6 in
-    let given = subst (λ mid. Given m closing (after_notes l h.1) mid g.2) mids (subst (λ ns. Given m closing (after_notes l ns) ys.0 g.2) (sym here) ys.3) in
+    let given = subst (λ mid. Given m closing (after_notes l h.1) mid g.2) mids
+    (subst (λ ns. Given m closing (after_notes l ns) ys.0 g.2) (sym here) ys.3) in
     let rest = empties-one m closing told sp k (after_notes l h.1) xs.0 ps qs h.2 g.2 end end' r r' h.6 there xs.3 given in
     (h.4 ∙ (λ i. here i ++ rest.0 i) ∙ sym g.4, rest.1)
   where
@@ -191,7 +195,8 @@ empties-one m closing told sp k l free (p ∷ ps) (q ∷ qs) a b end end' r r' h
     first e = cc
 
 -- the notes of a swapoff
-off-given : (m : Setting) (closing : Option ℕ) (w : World) (l : Ledger) (k : ℕ) (es : List Event) (answer : Answer) (rows : List Row) (free left : Free)
+off-given : (m : Setting) (closing : Option ℕ) (w : World) (l : Ledger) (k : ℕ) (es : List Event) (answer : Answer) (rows : List Row)
+    (free left : Free)
     (h : TurnsOff m w l k es answer rows) → AreDone (notes_of es) → ChoosesAll m closing l es free left → Given m closing l free (h.done ++ h.notes)
 off-given m closing w l k es answer rows free left h x c =
     let parts = chosen-first m closing l (note_events (h.done ++ h.notes)) (turn_off_events k h.end) free left
@@ -200,7 +205,8 @@ off-given m closing w l k es answer rows free left h x c =
     (subst AreDone (ap notes_of h.whole ∙ notes_of-append (note_events (h.done ++ h.notes)) (turn_off_events k h.end)) x) in
     record { done = subst AreDone (notes_of-note_events (h.done ++ h.notes)) ns.0; left = parts.0; chosen = parts.1 }
 
-pub turns-off-one : (m : Setting) (closing : Option ℕ) (told : Tells m) (w : World) (l : Ledger) (k : ℕ) (es fs : List Event) (answer answer' : Answer)
+pub turns-off-one : (m : Setting) (closing : Option ℕ) (told : Tells m) (w : World) (l : Ledger) (k : ℕ) (es fs : List Event)
+    (answer answer' : Answer)
     (rows rows' : List Row) (free a b : Free) → TurnsOff m w l k es answer rows → TurnsOff m w l k fs answer' rows' → fault_answers answer ≡ 0 →
     fault_answers answer' ≡ 0 → AreDone (notes_of es) → AreDone (notes_of fs) → ChoosesAll m closing l es free a → ChoosesAll m closing l fs free b →
     (es ≡ fs) × (answer ≡ answer')
@@ -213,7 +219,8 @@ turns-off-one m closing told w l k es fs answer answer' rows rows' free a b h g 
     let there = subst (λ ns. let now = after_notes l ns in Empties m (sparing_area w k now) k now g.pages g.notes g.end) (sym done) g.empties in
     let given = subst (λ mid. Given m closing now mid g.notes) mids (subst (λ ns. Given m closing (after_notes l ns) ys.0 g.notes) (sym done) ys.3) in
     let rest = empties-one m closing told (sparing_area w k now) k now xs.0 h.pages g.pages h.notes g.notes h.end g.end
-    (read-by h.end (ap fault_answers (sym h.answered) ∙ kept)) (read-by g.end (ap fault_answers (sym g.answered) ∙ kept')) h.empties there xs.3 given in (
+    (read-by h.end (ap fault_answers (sym h.answered) ∙ kept)) (read-by g.end (ap fault_answers (sym g.answered) ∙ kept')) h.empties there
+    xs.3 given in (
       h.whole ∙ (λ i. note_events (done i ++ rest.0 i) ++ turn_off_events k (rest.1 i)) ∙ sym g.whole,
       h.answered ∙ ap close_answer rest.1 ∙ sym g.answered,
     )

@@ -59,7 +59,8 @@ none-above : (g a n : ℕ) → g < a → how_many (λ f. g == f) (range_with_len
 none-above g a zero h = refl
 none-above g a (suc n) h = by (g == a) refl (none-above g (a + 1) n (omega (arith, h)))
   where
-    by : (b : Bool) → (g == a) ≡ b → how_many (λ f. g == f) (range_with_len (a + 1) n) ≡ 0 → cond b 1 0 + how_many (λ f. g == f) (range_with_len (a + 1) n) ≡ 0
+    by : (b : Bool) → (g == a) ≡ b → how_many (λ f. g == f) (range_with_len (a + 1) n) ≡ 0
+        → cond b 1 0 + how_many (λ f. g == f) (range_with_len (a + 1) n) ≡ 0
     by true is rest = absurd (grind (arith, nat_tests, is, h))
     by false is rest = omega (arith, rest)
 
@@ -260,7 +261,7 @@ follows-add m w l (Write p a bytes) events answer rows s h = subst (AnswerAdds m
 follows-add m w l (Reclaim n) events answer rows s h = subst (AnswerAdds m) (sym h.2) tt
 follows-add m w l (Age n) events answer rows s h = subst (AnswerAdds m) (sym h.0) tt
 follows-add m w l (Complete n) events answer rows s h = subst (AnswerAdds m) (sym h.2) tt
-follows-add m w l (Swapon k) events answer rows s h = swapon-adds m k answer h.0
+follows-add m w l (Swapon k priority) events answer rows s h = swapon-adds m k answer h.0
 follows-add m w l (Swapoff k) events answer rows s h = subst (AnswerAdds m) (sym h.answered) (close-adds m h.end
     (empties-add m w k (after_notes l h.done) (after_notes l h.done) h.pages h.notes h.end h.empties))
 follows-add m w l (Maps p) events answer rows s h = subst (AnswerAdds m) (sym h.0) tt
@@ -274,12 +275,14 @@ legal-numbers : (m : Setting) (w : World) (l : Ledger) (command : Command) (repl
     IsLegal m w l command reply events → AnswerAdds m reply.answer
 legal-numbers m w l command reply events s legal = by (refusal (tests m w l command)) legal.answer
   where
-    by : (o : Option Errno) → MatchOption o (Follows m w l command events reply.answer reply.rows) (λ error. Refuses error events reply.answer reply.rows) →
+    by : (o : Option Errno)
+        → MatchOption o (Follows m w l command events reply.answer reply.rows) (λ error. Refuses error events reply.answer reply.rows) →
         AnswerAdds m reply.answer
     by None h = follows-add m w l command events reply.answer reply.rows s.ledger h
     by (Some error) h = subst (AnswerAdds m) (sym h.0) tt
 
-pub legal-adds : (m : Setting) (w : World) (l : Ledger) (command : Command) (reply : Reply) (events : List Event) (k : ℕ) (out : OutOf) (shown : List ℕ)
+pub legal-adds : (m : Setting) (w : World) (l : Ledger) (command : Command) (reply : Reply) (events : List Event) (k : ℕ) (out : OutOf)
+    (shown : List ℕ)
     → AllSound m w l → IsLegal m w l command reply events → reply.answer ≡ Oom k out shown → out.pinned + out.noslot + out.fault ≡ m.frames
 legal-adds m w l command reply events k out shown s legal is = subst (AnswerAdds m) is (legal-numbers m w l command reply events s legal)
 

@@ -130,7 +130,8 @@ StopsIn P (Stopped page stop) = P page
 stops-in : (P : ℕ → Type 0) (m : Setting) (w : World) (l : Ledger) (p : ℕ) (pages : List (Bool × ℕ)) (events : List Event) (end : End) →
     AllByRecursion (λ (x : Bool × ℕ). P x.1) pages → Accesses m w l p pages events end → StopsIn P end
 stops-in P m w l p [] events end all h = subst (StopsIn P) (sym h.1) tt
-stops-in P m w l p (page ∷ rest) events end all (inl h) = stops-in P m w (after_all l (page_events page.0 (p, page.1) h.0 None)) p rest h.1 end all.1 h.4
+stops-in P m w l p (page ∷ rest) events end all (inl h) =
+    stops-in P m w (after_all l (page_events page.0 (p, page.1) h.0 None)) p rest h.1 end all.1 h.4
 stops-in P m w l p (page ∷ rest) events end all (inr h) = subst (StopsIn P) (sym h.4) all.0
 
 all-pages : (P : ℕ → Type 0) (write : Bool) (from n : ℕ) → ((page : ℕ) → page < from + n → P page) →
@@ -214,7 +215,8 @@ longest-apart (a ∷ b ∷ rs) h = (h.0, h.1, longest-apart (b ∷ rs) h.3)
 runs-wide : (rs : List Range) → AreApart rs → NoneAbove rs → AllByRecursion IsRun (map row_of rs)
 runs-wide [] h none = tt
 runs-wide (a ∷ []) h none = (run-wide a h (first-below a [] h none), tt)
-runs-wide (a ∷ b ∷ rs) h none = let low = first-below a (b ∷ rs) h.0 none in (run-wide a h.0 low, runs-wide (b ∷ rs) h.2 (rest-below a (b ∷ rs) low none))
+runs-wide (a ∷ b ∷ rs) h none = let low = first-below a (b ∷ rs) h.0 none in
+    (run-wide a h.0 low, runs-wide (b ∷ rs) h.2 (rest-below a (b ∷ rs) low none))
 
 few-runs : (a : Range) (rs : List Range) → AreApart (a ∷ rs) → NoneAbove (a ∷ rs) → a.from + length (map row_of (a ∷ rs)) ≤ top_page
 few-runs a [] h none = let low = first-below a [] h none in omega (arith, low, h)
@@ -278,7 +280,8 @@ place-below q n page (Fixed a) wide h = at_page page a wide (inner h)
 place-below q n page (NoReplace a) wide h = at_page page a wide (inner h)
 
 -- so is the address to which an mremap goes
-remap-below : (q : Process) (a n m page : ℕ) (mode : Mode) → IsWide a → IsMode mode → MovesTo q (page_of a) n m mode (Some page) → IsWide (address_of page)
+remap-below : (q : Process) (a n m page : ℕ) (mode : Mode) → IsWide a → IsMode mode → MovesTo q (page_of a) n m mode (Some page)
+    → IsWide (address_of page)
 remap-below q a n m page Plain wide fits h = by (may_stay q (page_of a) n m) h
   where
     by : (b : Bool) → Some page ≡ cond b (Some (page_of a)) None → IsWide (address_of page)
@@ -377,7 +380,8 @@ follows-fit m w l (Fork p q) events answer rows none s small fit fine out wide h
     fits-by events (Forked p q (inheritance l p) ∷ []) answer Done rows [] h.1 h.0 h.2 (tt, (tt, refl))
 follows-fit m w l (Exit p) events answer rows none s small fit fine out wide h =
     fits-by events (zaps_of l (keys_of_process l p)) answer Done rows [] h.1 h.0 h.2
-    (fits-notes (zaps_of l (keys_of_process l p)) Done [] (no-zap-notes m l (keys_of_process l p) (without-device m l none) (in-areas m w l s)) tt (tt, refl))
+    (fits-notes (zaps_of l (keys_of_process l p)) Done []
+    (no-zap-notes m l (keys_of_process l p) (without-device m l none) (in-areas m w l s)) tt (tt, refl))
 follows-fit m w l (Mmap p len prot place) events answer rows none s small fit fine out wide h = by h.0 h.1 h.2
   where
     quiet : (place : Place) → notes_of (zaps_for_place l p (pages_of len) place) ≡ []
@@ -409,7 +413,8 @@ follows-fit m w l (Mremap p a old new mode) events answer rows none s small fit 
 
     by : (to : Option ℕ) → MovesTo (pages w p) (page_of a) (pages_of old) (pages_of new) mode to → IsMapAt answer to → events ≡ these to
         → Fits events answer rows
-    by None goes e es = fits-by events (these None) answer (Refused Enomem) rows [] es e h.4 (fits-notes (these None) (Refused Enomem) [] refl tt (tt, refl))
+    by None goes e es = fits-by events (these None) answer (Refused Enomem) rows [] es e h.4
+        (fits-notes (these None) (Refused Enomem) [] refl tt (tt, refl))
     by (Some page) goes e es = fits-by events (these (Some page)) answer (MapAt (address_of page)) rows [] es e h.4
         (fits-notes (these (Some page)) (MapAt (address_of page)) []
         (no-remap-notes m l p (page_of a) (pages_of old) page (pages_of new) (without-device m l none) (in-areas m w l s))
@@ -423,7 +428,8 @@ follows-fit m w l (Write p a bytes) events answer rows none s small fit fine out
     let plain = accesses-plain IsNote m w p (λ page note is. plain-note m p page small.frames fit.0.most (small.below p page is) note) l
     (pages_of_access true a (length bytes)) events h.0 (without-device m l none) (in-areas m w l s) h.1 in
     fits-by events events answer (write_answer a h.0) rows [] refl h.2 h.3
-    (write-fits a h.0 (notes_of events) (access-stops m w l true p a (length bytes) events h.0 fit.2.0.most h.1) plain.notes (subst CausesFit h.2 out))
+    (write-fits a h.0 (notes_of events) (access-stops m w l true p a (length bytes) events h.0 fit.2.0.most h.1) plain.notes
+    (subst CausesFit h.2 out))
 follows-fit m w l (Reclaim n) events answer rows none s small fit fine out wide h =
     fits-by events (note_events h.0) answer Done rows [] h.3 h.2 h.4 (
       tt,
@@ -446,7 +452,7 @@ follows-fit m w l (Complete n) events answer rows none s small fit fine out wide
     fits-by events (note_events h.0) answer Done rows [] h.3 h.2 h.4
     (fits-notes (note_events h.0) Done [] (notes_of-note_events h.0 ∙ nothing-completes l n l.flight h.0
     (no-slots m l (without-device m l none) (in-areas m w l s)).flight h.1) tt (tt, refl))
-follows-fit m w l (Swapon k) events answer rows none s small fit fine out wide h =
+follows-fit m w l (Swapon k priority) events answer rows none s small fit fine out wide h =
     absurd (no-swapon m k ((is_on l k, Ebusy) ∷ (size_of m k == 0, Einval) ∷ []) none fine)
 follows-fit m w l (Swapoff k) events answer rows none s small fit fine out wide h = absurd (no-area m l k [] none s.areas_fit fine)
 follows-fit m w l (Maps p) events answer rows none s small fit fine out wide h =
@@ -465,7 +471,8 @@ follows-fit m w l (AsksRmap p a) events answer rows none s small fit fine out wi
     fits-by events [] answer (walk_answer l e) rows (walk_rows l e) h.1 h.0 h.2 (walk-fits m w l (p, page_of a) s small e refl)
 follows-fit m w l (AsksEntry p a) events answer rows none s small fit fine out wide h =
     fits-by events [] answer (entry_answer l (entry l (p, page_of a))) rows [] h.1 h.0 h.2
-    (entry-fits m l (p, page_of a) none s.ledger (no-slots m l (without-device m l none) (in-areas m w l s)) small.frames (entry l (p, page_of a)) refl)
+    (entry-fits m l (p, page_of a) none s.ledger (no-slots m l (without-device m l none) (in-areas m w l s)) small.frames
+    (entry l (p, page_of a)) refl)
 follows-fit m w l (AsksSlot k page) events answer rows none s small fit fine out wide h =
     absurd (no-area m l k ((is_outside m (record { area = k; page = page }), Einval) ∷ []) none s.areas_fit fine)
 follows-fit m w l Stat events answer rows none s small fit fine out wide h = fits-by events [] answer (Counted (totals m w l)) rows [] h.1 h.0 h.2 (
@@ -491,7 +498,8 @@ follows-fit m w l Stat events answer rows none s small fit fine out wide h = fit
     sums : length (free_frames m l) + length l.active + length l.inactive ≡ m.frames
     sums = frames-add m l s.ledger
 
-pub legal-reads_back : (m : Setting) (w : World) (l : Ledger) (command : Command) (reply : Reply) (events : List Event) → HasNoDevice m → AllSound m w l →
+pub legal-reads_back : (m : Setting) (w : World) (l : Ledger) (command : Command) (reply : Reply) (events : List Event) → HasNoDevice m
+    → AllSound m w l →
     IsSmall m w → IsInRange command → AskedWide command reply.rows → IsLegal m w l command reply events → IsReply reply
 legal-reads_back m w l command reply events none s small fit wide legal =
     let f = by (refusal (tests m w l command)) refl legal.answer in

@@ -25,7 +25,7 @@ use Rattle.av_trace.specs.declared.reply.Errno.TheVariants.{Enomem}
 use Rattle.av_trace.specs.declared.reply.Reply.{Reply}
 use Rattle.av_plain.specs.Areas.{AreNext, Rmap, areas_to_hole, chain_length, next_areas, rmap_after_all, with_room}
 use Rattle.av_plain.specs.Covered.{AreSlotsCovered, IsRmapSound}
-use Rattle.av_plain.specs.Event.{Event, Forked, Moved, after_all}
+use Rattle.av_plain.specs.Event.{Event, Forked, EntriesMoved, after_all}
 use Rattle.av_plain.specs.Fork.{AreForked, IsRmapNext, inheritance}
 use Rattle.av_plain.specs.Ledger.{Ledger, Setting, entry}
 use Rattle.av_plain.specs.Load.{with_loads}
@@ -75,7 +75,8 @@ module _ (m : Setting) (most : ℕ) (high : top_page ≤ most) (fits : most + to
   before = record { in_order = s.ledger.in_order; once = s.ledger.slots_once; sound = sound; slots = slots }
 
   -- a step whose events leave areas, anon_vmas and homes, by what was answered
-  quiet : (command : Command) → is_fork command ≡ false → (h : IsStep m old command reply new) → (es : List Event) → h.events ≡ es → rmap_after_all l es r ≡ r
+  quiet : (command : Command) → is_fork command ≡ false → (h : IsStep m old command reply new) → (es : List Event) → h.events ≡ es
+      → rmap_after_all l es r ≡ r
       → (answer : Answer) → reply.answer ≡ answer
       → (AreNext r old.world command answer (rmap_of new) → AtPages (next (with_loads m old.world l h.events) command answer) (after_all l es)
       → Reach (after_all l es) (rmap_of new)) → IsCovered new
@@ -94,7 +95,8 @@ module _ (m : Setting) (most : ℕ) (high : top_page ≤ most) (fits : most + to
           (subst (λ w. AtPages w new.ledger) h.world s'.at_pages))
 
   -- nothing happens, and the areas stay
-  still : (command : Command) → is_fork command ≡ false → (h : IsStep m old command reply new) → h.events ≡ [] → (answer : Answer) → reply.answer ≡ answer
+  still : (command : Command) → is_fork command ≡ false → (h : IsStep m old command reply new) → h.events ≡ [] → (answer : Answer)
+      → reply.answer ≡ answer
       → next_areas (chain_length r.anons) r.areas old.world command answer ≡ r.areas → IsCovered new
   still command other h is answer answered same = quiet command other h [] is refl answer answered
       (λ n at. reach-left l r (rmap_of new) (n.areas ∙ same) n.anons n.homes before)
@@ -107,7 +109,8 @@ module _ (m : Setting) (most : ℕ) (high : top_page ≤ most) (fits : most + to
 
   ended : (p : ℕ) (h : IsStep m old (Exit p) reply new) → reply.answer ≡ Done → h.events ≡ zaps_of l (keys_of_process l p) → IsCovered new
   ended p h done is = quiet (Exit p) refl h (zaps_of l (keys_of_process l p)) is (rmap_after_all-zaps l (keys_of_process l p) l r) Done done
-      (λ n at. exit-reach (with_loads m old.world l h.events) (after_all l (zaps_of l (keys_of_process l p))) r (rmap_of new) p n.areas at n.anons n.homes
+      (λ n at. exit-reach (with_loads m old.world l h.events) (after_all l (zaps_of l (keys_of_process l p))) r (rmap_of new) p n.areas at
+      n.anons n.homes
       (zaps-reach l r (keys_of_process l p) before))
 
   unmapped : (p a len : ℕ) (h : IsStep m old (Munmap p a len) reply new) → reply.answer ≡ Done
@@ -115,10 +118,12 @@ module _ (m : Setting) (most : ℕ) (high : top_page ≤ most) (fits : most + to
   unmapped p a len h done is =
       let ks = keys_in l p (page_of a) (pages_of len) in
       quiet (Munmap p a len) refl h (zaps_of l ks) is (rmap_after_all-zaps l ks l r) Done done
-      (λ n at. unmap-reach (with_loads m old.world l h.events) (after_all l (zaps_of l ks)) r (rmap_of new) p (page_of a) (pages_of len) (c.cover.laid p)
+      (λ n at. unmap-reach (with_loads m old.world l h.events) (after_all l (zaps_of l ks)) r (rmap_of new) p (page_of a) (pages_of len)
+      (c.cover.laid p)
       n.areas at n.anons n.homes (zaps-reach l r ks before))
 
-  protected : (p a len : ℕ) (prot : Prot) (h : IsStep m old (Mprotect p a len prot) reply new) → refusal (tests m old.world l (Mprotect p a len prot)) ≡ None
+  protected : (p a len : ℕ) (prot : Prot) (h : IsStep m old (Mprotect p a len prot) reply new)
+      → refusal (tests m old.world l (Mprotect p a len prot)) ≡ None
       → reply.answer ≡ (if pages_to_hole (pages old.world p) (page_of a) (pages_of len) == pages_of len then Done else Refused Enomem) → h.events ≡ []
       → IsCovered new
   protected p a len prot h none answered is = by (pages_to_hole (pages old.world p) (page_of a) (pages_of len) == pages_of len) answered
@@ -132,10 +137,12 @@ module _ (m : Setting) (most : ℕ) (high : top_page ≤ most) (fits : most + to
         where
           wrapped : AreNext r old.world (Mprotect p a len prot) (Refused Enomem) (rmap_of new) → (b : Bool) → wraps a len ≡ b → Reach l (rmap_of new)
           wrapped n true e = reach-left l r (rmap_of new) (n.areas ∙ ap (λ b. if b then r.areas
-              else with_at p (areas_to_hole (chain_length r.anons) old.world p (page_of a) (pages_of len) prot (r.areas p)) r.areas) e) n.anons n.homes before
+              else with_at p (areas_to_hole (chain_length r.anons) old.world p (page_of a) (pages_of len) prot (r.areas p)) r.areas) e)
+              n.anons n.homes before
           wrapped n false e = protect-reach l r (rmap_of new) old.world p (page_of a) (pages_of len) prot (c.cover.laid p)
               (n.areas ∙ ap (λ b. if b then r.areas
-              else with_at p (areas_to_hole (chain_length r.anons) old.world p (page_of a) (pages_of len) prot (r.areas p)) r.areas) e) n.anons n.homes before
+              else with_at p (areas_to_hole (chain_length r.anons) old.world p (page_of a) (pages_of len) prot (r.areas p)) r.areas) e)
+              n.anons n.homes before
 
   -- ---- a mapping
 
@@ -165,7 +172,8 @@ module _ (m : Setting) (most : ℕ) (high : top_page ≤ most) (fits : most + to
   place-keeps p n (Fixed a) page home there is = by (within (page_of a) n page) refl
     where
       gone : within (page_of a) n page ≡ true → entry (after_all l (zaps_of l (keys_in l p (page_of a) n))) (p, page) ≡ None
-      gone e = entry-range l p (page_of a) n p page ∙ ap (λ b. cond b None (entry l (p, page))) (inside (p == p) (within (page_of a) n page) (itself p) e)
+      gone e = entry-range l p (page_of a) n p page
+          ∙ ap (λ b. cond b None (entry l (p, page))) (inside (p == p) (within (page_of a) n page) (itself p) e)
         where
           itself : (p : ℕ) → (p == p) ≡ true
           itself p = grind (arith, nat_tests)
@@ -187,12 +195,14 @@ module _ (m : Setting) (most : ℕ) (high : top_page ≤ most) (fits : most + to
       → h.events ≡ zaps_for_place l p (pages_of len) place → IsCovered new
   mapped p len prot place h none None goes e is = quiet (Mmap p len prot place) refl h (zaps_for_place l p (pages_of len) place) is
       (place-silent p (pages_of len) place) (Refused Enomem) e
-      (λ n at. reach-left (after_all l (zaps_for_place l p (pages_of len) place)) r (rmap_of new) n.areas n.anons n.homes (place-reach p (pages_of len) place))
+      (λ n at. reach-left (after_all l (zaps_for_place l p (pages_of len) place)) r (rmap_of new) n.areas n.anons n.homes
+      (place-reach p (pages_of len) place))
   mapped p len prot place h none (Some page) goes e is = quiet (Mmap p len prot place) refl h (zaps_for_place l p (pages_of len) place) is
       (place-silent p (pages_of len) place) (MapAt (address_of page)) e
       (λ n at. map-reach (after_all l (zaps_for_place l p (pages_of len) place)) r (rmap_of new) p page (page + pages_of len) prot
       (with_room (pages_of len) place (r.areas p)) room.laid some free (place-adds p (pages_of len) place) (place-keeps p (pages_of len) place)
-      (subst (λ f. (rmap_of new).areas ≡ with_at p (after_map (chain_length r.anons) p f (f + pages_of len) prot (with_room (pages_of len) place (r.areas p)))
+      (subst (λ f. (rmap_of new).areas ≡ with_at p
+      (after_map (chain_length r.anons) p f (f + pages_of len) prot (with_room (pages_of len) place (r.areas p)))
       r.areas) (back page) n.areas) n.anons n.homes (place-reach p (pages_of len) place))
     where
       back : (page : ℕ) → page_of (address_of page) ≡ page
@@ -223,10 +233,12 @@ module _ (m : Setting) (most : ℕ) (high : top_page ≤ most) (fits : most + to
       tail = range_zaps (after_all l (range_zaps l p to k)) p (from + k) (n - k)
 
       by : (b : Bool) → rmap_after_all l (if b then range_zaps l p (from + k) (n - k)
-          else range_zaps l p to k ++ range_zaps (after_all l (range_zaps l p to k)) p (from + k) (n - k) ++ Moved p (min n k) from to ∷ []) r ≡ r
+          else range_zaps l p to k ++ range_zaps (after_all l (range_zaps l p to k)) p (from + k) (n - k)
+          ++ EntriesMoved p (min n k) from to ∷ []) r ≡ r
       by true = rmap_after_all-zaps l (keys_in l p (from + k) (n - k)) l r
-      by false = rmap_after_all-append l (target ++ tail) (Moved p (min n k) from to ∷ []) r ∙ rmap_after_all-append l target tail r
-          ∙ rmap_after_all-zaps (after_all l target) (keys_in (after_all l target) p (from + k) (n - k)) (after_all l target) (rmap_after_all l target r)
+      by false = rmap_after_all-append l (target ++ tail) (EntriesMoved p (min n k) from to ∷ []) r ∙ rmap_after_all-append l target tail r
+          ∙ rmap_after_all-zaps (after_all l target) (keys_in (after_all l target) p (from + k) (n - k)) (after_all l target)
+          (rmap_after_all l target r)
           ∙ rmap_after_all-zaps l (keys_in l p to k) l r
 
   remapped : (p a old_len new_len : ℕ) (mode : Mode) (h : IsStep m old (Mremap p a old_len new_len mode) reply new)
@@ -296,7 +308,8 @@ module _ (m : Setting) (most : ℕ) (high : top_page ≤ most) (fits : most + to
   lies : Lies old.world r
   lies = record { laid = c.cover.laid; there = λ k is. by (r.areas k.0 k.1) (pages old.world k.0 k.1) (c.cover.prots k.0 k.1) is }
     where
-      by : (o : Option Area) (x : Option Page) → option_map (λ (area : Area). area.prot) o ≡ option_map (λ (q : Page). q.prot) x → is_some x ≡ true → IsSome o
+      by : (o : Option Area) (x : Option Page) → option_map (λ (area : Area). area.prot) o ≡ option_map (λ (q : Page). q.prot) x
+          → is_some x ≡ true → IsSome o
       by None None e is = absurd (false≢true is)
       by None (Some x) e is = cc
       by (Some a) x e is = refl
@@ -315,7 +328,7 @@ module _ (m : Setting) (most : ℕ) (high : top_page ≤ most) (fits : most + to
   follows (Reclaim n) h none f = step-covered m old (Reclaim n) reply new refl s h sound slots
   follows (Age n) h none f = step-covered m old (Age n) reply new refl s h sound slots
   follows (Complete n) h none f = step-covered m old (Complete n) reply new refl s h sound slots
-  follows (Swapon k) h none f = step-covered m old (Swapon k) reply new refl s h sound slots
+  follows (Swapon k priority) h none f = step-covered m old (Swapon k priority) reply new refl s h sound slots
   follows (Swapoff k) h none f = step-covered m old (Swapoff k) reply new refl s h sound slots
   follows (Maps p) h none f = still (Maps p) refl h f.2 reply.answer refl refl
   follows (AsksAreas p) h none f = still (AsksAreas p) refl h f.2 reply.answer refl refl

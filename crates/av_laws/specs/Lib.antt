@@ -8,7 +8,6 @@ pub mod NeedsFrame
 pub mod Views
 pub mod Areas
 pub mod Slots
-pub mod SwapRows
 pub mod SwapSteps
 pub mod Several
 pub mod Covered

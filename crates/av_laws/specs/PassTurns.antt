@@ -6,6 +6,7 @@
 --     clean_passed_over
 --   which slot a frame gets (`IsSlotFor`, `may_give`): slot_while_closing
 --   when the pass ends (`Turns`, `IsPass`): past_failure, freed_by_completion
+--   which writes end before it (`IsPass`): all_completed
 --   `bus` behind a pass (`IsLost`, `causes`): lost_behind_pass, lost_and_failed
 -- Frames 0 and 1 are all that there are, and where it isn't said otherwise both are cached, clean,
 -- and named by no entry: so the one whose turn comes first is dropped at once.
@@ -17,8 +18,7 @@ use Rattle.av_trace.specs.declared.reply.Reply.{Reply}
 use Rattle.av_plain.specs.Ledger.{Entry, InFrame, InSlot, Ledger, Setting, Zero, first_ledger}
 use Rattle.av_plain.specs.Pass.{IsPass, Spared}
 use Rattle.av_plain.specs.World.{World, zeros}
-use Rattle.av_laws.specs.Examples.{read_only, reply_with, slot}
-use Rattle.av_laws.specs.Pairs.{cached_at, one_area}
+use Rattle.av_laws.specs.Examples.{cached_at, one_area, read_only, reply_with, slot}
 use Rattle.av_laws.specs.Slots.{slot_at, two_swaps}
 
 -- no frame is left alone, but that swap area, if any, which is closing
@@ -65,6 +65,11 @@ to_lower_area = let s = slot_at 0 2 in Put 0 s ∷ Unmapped 0 ∷ Started s ∷ 
 -- nothing names frame 0 but its slot, whose write is in flight
 abbrev pub orphan_in_flight : Ledger
 orphan_in_flight = record (both_cached false Zero [] (1 ∷ 0 ∷ [])) { flight = slot 1 ∷ [] }
+
+-- both writes are in flight
+abbrev pub both_in_flight : Ledger
+both_in_flight =
+    record (both_cached false (InSlot (slot 1)) [] (1 ∷ 0 ∷ [])) { flight = slot 1 ∷ slot 2 ∷ [] }
 
 -- a process that may read each page
 abbrev pub all_readable : World

@@ -2,27 +2,26 @@
 -- device. Which example would fail if a definition were wrong:
 --   where a frame goes in its list (`to_active`, `after_note`): to_active_head, started_to_head
 --   what counts over all areas (`is_full`, `totals`): not_full, full, all_slots, all_free_slots
---   which page of the device it is (`HoldsTold`, `IsClean`): page_at_its_slot, page_at_next_slot,
---     clean_at_next_slot
---   what stays of a device (`IsSameDevice`): other_slots, other_page_0
+--   which page of the device it is (`HoldsTold`, `IsClean`): page_at_next_slot, clean_at_next_slot
+--   what stays of a device (`IsSameDevice`): other_slots, other_page_0 (with same_header)
 use Rattle.std.specs.Prelude.{ℕ, false, ◌==◌, if◌then◌else◌, List, [], ◌∷◌, Some, None, drop, replicate}
 use Rattle.av_plain.specs.Device.{Device}
-use Rattle.av_plain.specs.Ledger.{InFrame, InSlot, Ledger, Setting, first_ledger}
+use Rattle.av_plain.specs.Ledger.{InSlot, Ledger, Setting, first_ledger}
 use Rattle.av_plain.specs.Stands.{BytesStand}
 use Rattle.av_plain.specs.Transcript.{State}
-use Rattle.av_laws.specs.Examples.{ledger_with}
+use Rattle.av_laws.specs.Examples.{swap_area}
 use Rattle.av_laws.specs.Slots.{slot_at, two_swaps}
 use Rattle.av_laws.specs.Views.{cached_view, header_page, swap_device}
 
 -- these are the lists, and no frame is cached
 abbrev pub with_lists : List ℕ → List ℕ → Ledger
-with_lists active inactive = ledger_with (InFrame 5 false) [] [] active inactive
+with_lists active inactive = record first_ledger { active = active; inactive = inactive }
 
 -- one slot of each of two areas is in use; the lower one has another, the upper one has none
 abbrev pub one_free : Ledger
 one_free = record first_ledger {
   entries = ((1, 0x10), InSlot (slot_at 0 1)) ∷ ((1, 0x11), InSlot (slot_at 1 1)) ∷ [];
-  on = (0, record { slots = 2; bad = 0 }) ∷ (1, record { slots = 1; bad = 6 }) ∷ [];
+  on = (0, swap_area 2 0) ∷ (1, swap_area 1 6) ∷ [];
 }
 
 -- the device doesn't tell which pages are bad

@@ -8,47 +8,40 @@
 --   how a clean frame leaves (`leave_notes`): clean_reclaimed
 --   the slots of an area that is turned off, in order (`Empties`, `map_notes`): two_emptied
 --   where a `swapoff` ends (`EndsAt`): left_named, cached_unread
---   why it ends there (`end_at`): unread_behind_pass, starved_behind_pass, counted_behind_pass,
---     unread_without_frame
+--   why it ends there (`end_at`, `close_answer`): unread_behind_pass, starved_behind_pass,
+--     counted_behind_pass, unread_without_frame, unread_is_told
 --   what a pass does to slots that are still to be emptied (`Empties`, `sparing_area`):
 --     unmapped_in_turn, cached_there_fails
 --   which area gives a slot while one is turned off (`closing_swap_area`, `sparing_area`):
 --     other_area_fills, other_area_gives
 --   what `slot` tests (`is_outside`, `is_off`, `is_usable`): bad_page, header_page, past_header,
 --     last_slot, off_area
+--   the count of a slot that is cached, and its frame (`count_answer`): cached_counted
 --   what `slot` tells where headers aren't told (`MayBeNoSlot`): used_counted, unused_bad,
 --     unused_outside, used_bad, used_outside
 --   what `swapon` tests, and a header (`header_answer`): no_device, no_pages, no_device_unread,
 --     no_pages_unread, unread_header, wrong_header, header
+--   which area is on then, and whose header it is (`turn_on_events`, `TurnsOn`): second_area
 --   what `swapon` tells where headers aren't told (`IsByHeader`): untold_header,
 --     untold_wrong_header, untold_without_slots
 --   whether swap is full (`Serves`, `is_full`): full_at_the_drop, half_full_at_the_drop
 --   whether a page came in (`is_unneeded`): found_when_full
 --   what is claimed after a write (`next_world`): written_after_load, around_unclaimed, around_told
 use Rattle.std.specs.Prelude.{◌≡◌, ℕ, Bool, true, false, ◌==◌, if◌then◌else◌, List, [], ◌∷◌, ◌++◌, Option, Some, None}
-use Rattle.av_trace.specs.declared.command.Command.{Command}
 use Rattle.av_trace.specs.declared.command.Command.TheVariants.{Swapoff, Write}
 use Rattle.av_trace.specs.declared.note.Cause.TheVariants.{Referenced, NoSlot, WriteStarted, Writeback}
 use Rattle.av_trace.specs.declared.note.Note.{Note}
 use Rattle.av_trace.specs.declared.note.Note.TheVariants.{Loaded, Mapped, Put, Unmapped, Started, Written, Failed, Dropped, Kept}
-use Rattle.av_trace.specs.declared.reply.Answer.{Answer}
-use Rattle.av_trace.specs.declared.reply.Answer.TheVariants.{Done, NoFrame}
-use Rattle.av_trace.specs.declared.reply.Reply.{Reply}
+use Rattle.av_trace.specs.declared.reply.Answer.TheVariants.{Done}
+use Rattle.av_trace.specs.declared.reply.OutOf.{OutOf}
 use Rattle.av_plain.specs.Event.{Event, Noted, TurnedOff, Used, note_events}
-use Rattle.av_plain.specs.Ledger.{InFrame, InSlot, Ledger, Setting, first_ledger}
-use Rattle.av_plain.specs.Step.{IsLegal, closing_swap_area, next_world}
-use Rattle.av_plain.specs.World.{World, byte_at, pages}
-use Rattle.av_laws.specs.Examples.{paged_out, slot}
-use Rattle.av_laws.specs.Pairs.{cached_at, one_area}
+use Rattle.av_plain.specs.Ledger.{InFrame, InSlot, Ledger, Setting, first_ledger, slots_in_use}
+use Rattle.av_plain.specs.Step.{closing_swap_area, next_world}
+use Rattle.av_plain.specs.Swapoff.{Close, EndsAt, sparing_area}
+use Rattle.av_plain.specs.World.{byte_at, pages}
+use Rattle.av_laws.specs.Examples.{cached_at, one_area, paged_out, slot}
 use Rattle.av_laws.specs.PassTurns.{one_frame_two_areas}
 use Rattle.av_laws.specs.Slots.{MayChoose, lower_given, lower_in_use, slot_at}
-
--- the reply may come to the command; or it may not
-abbrev pub MayCome : Setting → World → Ledger → Command → Reply → Type 0
-MayCome m w l command reply = (events : List Event) × IsLegal m w l command reply events
-
-abbrev pub MayNotCome : Setting → World → Ledger → Command → Reply → Type 0
-MayNotCome m w l command reply = MayCome m w l command reply → ⊥
 
 -- ---- reclaim and age
 
@@ -139,6 +132,10 @@ OtherAreaGives = MayChoose one_frame_two_areas (closing_swap_area (Swapoff 0)) (
     (note_events other_area_fills ++ TurnedOff 0 ∷ [])
     (record (lower_given 1) { frames = [] })
 
+-- where slots of area 0 are still in use, it may end with these notes
+abbrev pub Ends : Setting → Ledger → List Note → Close → Type 0
+Ends m l notes end = EndsAt m (sparing_area [] 0 l) 0 l (slots_in_use m l 0) notes end
+
 -- slot 1 is on the device, and a page is at it; another page is in the one frame, which slot 2
 -- caches, stale or not
 abbrev pub cached_by_second : Bool → Ledger
@@ -160,8 +157,8 @@ abbrev pub cached_there_fails : List Note
 cached_there_fails = Unmapped 0 ∷ Started (slot 2) ∷ Failed (slot 2) ∷ []
 
 -- there is no frame: so many are not cached, and so many are
-abbrev pub no_frame_of : ℕ → ℕ → Answer
-no_frame_of noslot fault = NoFrame (record { pinned = 0; noslot = noslot; fault = fault })
+abbrev pub numbers : ℕ → ℕ → OutOf
+numbers noslot fault = record { pinned = 0; noslot = noslot; fault = fault }
 
 -- ---- slot and swapon
 

@@ -1,6 +1,6 @@
 -- Views of a kernel after a fork, when two processes have frame 0, and once that is cached at slot
--- 1 and unmapped: the right ones, which stand for the states, and some that don't. Each of these is
--- the right one but for one thing.
+-- 1 and unmapped: some that don't stand for the states. Each is the right one but for one thing,
+-- which one clause of `Stands` refuses. (That a kernel can stand for a state its own crates show.)
 use Rattle.std.specs.Prelude.{ℕ, ◌-◌, Bool, false, ◌==◌, ◌&&◌, ◌||◌, if◌then◌else◌, List, [], ◌∷◌, ◌++◌, Some, None, option_map, replicate, codes}
 use Rattle.av_clusters.specs.Clusters.{Slots}
 use Rattle.av_plain.specs.Device.{Device, no_device}
@@ -13,7 +13,7 @@ use Rattle.av_plain.specs.Choice.{no_slots}
 use Rattle.av_plain.specs.Stands.{Stands, View}
 use Rattle.av_plain.specs.Transcript.{State}
 use Rattle.av_laws.specs.Areas.{anons_of, child, root}
-use Rattle.av_laws.specs.Examples.{after_fork, cached_out, machine, only_frames, read_write, slot, with_slots, with_swap}
+use Rattle.av_laws.specs.Examples.{after_fork, cached_out, machine, one_area, only_frames, read_write, slot, with_slots, with_swap}
 
 -- an area of a process with pages for reading and writing, as it was mapped
 abbrev pub area : ℕ → ℕ → ℕ → Area
@@ -84,18 +84,11 @@ NotFree frames =
 
 -- ---- homes
 
--- a kernel and a state that agree on the home of frame 0, but not all of its entries are reached
--- from it
-abbrev pub NotReached : Homes → Type 0
-NotReached homes =
-    Stands (machine 4) (record right { homes = homes }) no_device
-    (record fork_state { homes = homes }) → ⊥
-
--- nor do these anon_vmas, though they agree on them
-abbrev pub NotLinked : Anons → Type 0
-NotLinked anons =
-    Stands (machine 4) (record right { anons = anons }) no_device
-    (record fork_state { anons = anons }) → ⊥
+-- a kernel and a state that agree on no home of frame 0: none of its entries is reached from it
+abbrev pub NotReached : Type 0
+NotReached =
+    Stands (machine 4) (record right { homes = no_homes }) no_device
+    (record fork_state { homes = no_homes }) → ⊥
 
 -- ---- anon_vmas
 
@@ -132,7 +125,7 @@ abbrev pub swap_device : ℕ → Device
 swap_device b = record {
   sizes = λ k. if k == 0 then Some 8 else None;
   pages = Some (λ k page. if page == 0 then header_page else b ∷ replicate 4095 0);
-  faults = 0;
+  failures = 0;
 }
 
 -- the same two processes, once frame 0 is cached at slot 1 and unmapped: its write is in flight or
@@ -169,7 +162,7 @@ NotFor v b s = StandsFor v b s → ⊥
 
 -- the area is said to have fewer slots than its header says
 abbrev pub fewer_slots : List (ℕ × SwapArea)
-fewer_slots = (0, record { slots = 6; bad = 0 }) ∷ []
+fewer_slots = one_area 6 0
 
 abbrev pub with_fewer_slots : State
 with_fewer_slots =
@@ -195,28 +188,9 @@ NotOff left = let slots = with_at 1 left (with_slots 8 [] 1 []).slots in
 
 -- ---- entries of slots
 
--- a kernel and a state that agree on the home of frame 0, which caches slot 1, but not both entries
--- of the slot are reached from it
-abbrev pub NotCovered : Homes → Type 0
-NotCovered homes =
-    NotFor (record (cached_view false false) { homes = homes }) 7
-    (record (cached_state false false) { homes = homes })
-
--- nor do these anon_vmas, with a chain that isn't of one root, though they agree on them
-abbrev pub NotOfOneRoot : Anons → Type 0
-NotOfOneRoot anons =
-    NotFor (record (cached_view false false) { anons = anons }) 7
-    (record (cached_state false false) { anons = anons })
-
--- nor these areas of the two processes, though they agree on them
-abbrev pub NotOwned : (ℕ → Area) → Type 0
-NotOwned areas =
-    NotFor
-    (record (cached_view false false) {
-      areas = λ p. if p == 1 || p == 2 then Some (areas p ∷ []) else None;
-    })
-    7
-    (record (cached_state false false) {
-      areas = with_at 1 (pages_in (Some (areas 1 ∷ [])))
-          (with_at 2 (pages_in (Some (areas 2 ∷ []))) no_areas);
-    })
+-- a kernel and a state that agree on no home of frame 0, which caches slot 1: no entry of the slot
+-- is reached from it
+abbrev pub NotCovered : Type 0
+NotCovered =
+    NotFor (record (cached_view false false) { homes = no_homes }) 7
+    (record (cached_state false false) { homes = no_homes })

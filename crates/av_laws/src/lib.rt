@@ -1,10 +1,11 @@
 //! What follows from the definitions of `av_plain`, beside what the kernel needs of them: replies
 //! are determined, numbers add up, a refusal changes nothing, a reply is read back from its text,
-//! what is free is listed, areas cover what is mapped; and worked examples: legal ones and such as
-//! may not be, turns in a pass, single steps of swap, several of a kind that differ, what lines,
-//! answers and rows say, slots that are given, areas, anon_vmas and homes that come of commands,
-//! forks, pages that move, sound states and unsound ones, views that stand for a state and such as
-//! don't.
+//! what is free is listed, areas cover what is mapped; and worked examples of the definitions. Each
+//! stands for a wrong version of one, which breaks it; where a law of this crate breaks with that
+//! version there is no example. They are single commands, turns in a pass, single steps of swap,
+//! several of a kind that differ, what lines, answers and rows say, slots that are given, areas,
+//! anon_vmas and homes that come of commands, forks, pages that move, states that aren't sound, and
+//! views that don't stand for a state.
 //!
 //! No function does anything. Each one's contract is a law, proved of the definitions alone.
 #![tactic(auto)]
@@ -19,17 +20,18 @@ mod pairs;
 mod pass_turns;
 mod several;
 mod slots;
-mod swap_rows;
 mod swap_steps;
 mod unsound;
 mod views;
 
-ghost use Rattle.std.specs.Prelude.{◌≡◌, ◌⊎◌, ℕ, ◌+◌, ◌^◌, ◌<◌, ◌≤◌, false, true, length, List, [], Some};
+ghost use Rattle.std.specs.Prelude.{◌≡◌, ◌⊎◌, ℕ, ◌+◌, ◌^◌, ◌<◌, ◌≤◌, false, true, length, List, []};
+ghost use Rattle.std.specs.Prelude.{Some};
 ghost use Rattle.av_base.specs.Limits.{top_page, most_commands, most_indices};
 ghost use Rattle.std.specs.List.{AllByRecursion};
 ghost use Rattle.av_base.specs.declared.prot.Prot.{Prot};
 ghost use Rattle.av_trace.specs.declared.command.Command.{Command};
-ghost use Rattle.av_trace.specs.declared.command.Command.TheVariants.{Mprotect, Read, Swapoff, Write};
+ghost use Rattle.av_trace.specs.declared.command.Command.TheVariants.{Mprotect, Read, Swapoff};
+ghost use Rattle.av_trace.specs.declared.command.Command.TheVariants.{Write};
 ghost use Rattle.av_trace.specs.declared.reply.Errno.{Errno};
 ghost use Rattle.av_trace.specs.declared.reply.OutOf.{OutOf};
 ghost use Rattle.av_trace.specs.declared.reply.Answer.TheVariants.{NoFrame, Refused, Oom};
@@ -40,14 +42,15 @@ ghost use Rattle.av_plain.specs.Ledger.{Ledger, Setting};
 ghost use Rattle.av_plain.specs.Event.{Event, after_all};
 ghost use Rattle.av_plain.specs.Areas.{Anons};
 ghost use Rattle.av_plain.specs.Report.{AreMaps, AreRowsOf, totals};
-ghost use Rattle.av_vma.specs.Join.{index_of, past_of};
+ghost use Rattle.av_vma.specs.Index.{index_of, past_of};
 ghost use Rattle.av_vma.specs.Pages.{Pages};
 ghost use Rattle.av_vma.specs.declared.area.Area.{Area};
 ghost use Rattle.av_plain.specs.Step.{IsLegal, causes, next_world};
 ghost use Rattle.av_plain.specs.Refusal.{may_end_midway};
 ghost use Rattle.av_plain.specs.Load.{with_loads};
 ghost use Rattle.av_plain.specs.Map.{StopsAtHole};
-ghost use Rattle.av_plain.specs.Transcript.{Exchange, State, IsStep, IsRun, at_first, causes_of, rmap_of};
+ghost use Rattle.av_plain.specs.Transcript.{Exchange, State, IsStep, IsRun, at_first, causes_of};
+ghost use Rattle.av_plain.specs.Transcript.{rmap_of};
 ghost use Rattle.av_plain.specs.Sound.{AllSound};
 ghost use Rattle.av_plain.specs.Covered.{AreSlotsCovered, IsRmapSound};
 ghost use Rattle.av_plain.specs.Choice.{ListsFree, ListsSlots};
@@ -67,29 +70,19 @@ ghost use Rattle.av_laws.specs.Determined.{
   SameCommands,
 };
 
-pub use areas::{
-    anon_vmas_are_left, areas_are_shown, areas_follow, changed_anon_vmas_are_refused,
-    changed_areas_are_refused, changed_prepares_are_refused, changed_rows_are_refused,
-    changed_splits_are_refused, first_frames_prepare, split_areas_are_shown,
-};
+pub use areas::{anon_vmas_are_left, areas_are_shown, areas_follow, first_frames_prepare};
 pub use examples::{
-    a_page_in_writeback_is_sound, changed_exits_and_reports_are_refused,
-    changed_ranges_are_refused, changed_replies_are_refused, changed_replies_of_swap_are_refused,
-    changed_runs_are_refused, exits_and_reports_run, first_examples_run, ledgers_follow,
-    ranges_run, shared_examples_run, swap_examples_run,
+    accesses_stop, commands_are_refused, entries_go, frames_are_chosen, mappings_have_room,
+    memories_follow, pages_are_served, reports_show,
 };
-pub use forks::{changed_forks_are_refused, forks_are_refused, forks_follow};
-pub use homes::{
-    changed_homes_are_refused, homes_are_of_pages, homes_cover_entries, homes_cover_slots,
-    homes_follow, loaded_frames_are_at_home,
-};
-pub use lines::{answers_say, changed_lines_are_refused, lines_say, rows_say};
+pub use forks::forks_follow;
+pub use homes::{homes_are_of_pages, homes_cover_entries, homes_cover_slots, homes_follow};
+pub use lines::{answers_say, lines_say, rows_say};
 pub use mremap::{
-    changed_mremaps_are_refused, mremaps_are_refused, pages_move, pages_stay_or_find_a_place,
+    areas_grow, areas_move, memories_move, mremaps_are_refused, pages_stay_or_find_a_place,
 };
 pub use pairs::{
-    changed_pairs_are_refused, faults_are_counted, ledgers_of_two_follow, loads_make_unclaimed,
-    passes_run, two_pages_run,
+    bad_pages_are_not_given, failures_are_counted, ledgers_follow, loads_make_unclaimed,
 };
 pub use pass_turns::{
     cached_frames_are_unmapped_and_written, changed_passes_are_refused, frames_have_their_turns,
@@ -100,9 +93,9 @@ pub use several::{
     pages_are_at_their_own_slots,
 };
 pub use slots::{
-    areas_are_turned_on_anew, slots_are_given_in_turn, slots_come_back, the_first_area_gives,
+    areas_are_turned_on_anew, priorities_decide, slots_are_given_in_turn, slots_come_back,
+    the_first_area_gives,
 };
-pub use swap_rows::{changed_swap_rows_are_refused, swap_rows_run};
 pub use swap_steps::{
     areas_are_turned_on, frames_are_reclaimed_from_the_tail, full_is_asked_at_the_drop,
     slots_are_emptied_in_turn, slots_are_told, the_first_writes_are_completed,
@@ -112,8 +105,7 @@ pub use unsound::{
     changed_ledgers_are_unsound, changed_memories_are_unsound, entries_of_one_memory_are_unsound,
 };
 pub use views::{
-    cached_views_stand, changed_anon_vmas_do_not_stand, changed_cached_views_do_not_stand,
-    changed_views_do_not_stand, the_right_view_stands, uncovered_slots_do_not_stand,
+    changed_anon_vmas_do_not_stand, changed_cached_views_do_not_stand, changed_views_do_not_stand,
     unreached_entries_do_not_stand,
 };
 
@@ -272,9 +264,9 @@ pub fn replies_of_runs_are_read_back()
         → AllByRecursion (λ (e : Exchange). IsReply e.reply) exchanges }
 {}
 
-/// Where what only faults explain in a transcript is within what a count rose by, and the count did
-/// not rise, no fault shows in any reply: so the transcript is determined by its commands.
-pub fn faults_are_within()
+/// Where what only failures explain in a transcript is within what a count rose by, and the count
+/// did not rise, no fault shows in any reply: so the transcript is determined by its commands.
+pub fn failures_are_within()
     ensures none { (exchanges : List Exchange) (before now : ℕ)
         → RoseBy (causes_of exchanges) before now → (Rose before now → ⊥)
         → AllByRecursion (λ (e : Exchange). causes e.reply ≡ 0) exchanges }

@@ -1,5 +1,5 @@
-//! Worked examples for lines: what one says and doesn't say, what an entry's answer is, and what
-//! the row of an area is.
+//! Worked examples for lines: what one says (and nothing else, since a line has one meaning), what
+//! an entry's answer is, and what the row of an area is.
 
 ghost use Rattle.std.specs.Prelude.{◌≡◌, [], ◌∷◌, false, Some, codes};
 ghost use Rattle.av_trace.specs.declared.command.Command.TheVariants.{Fork, Mremap};
@@ -18,15 +18,6 @@ pub fn lines_say()
         (Some (Mremap 1 0x10000 4096 8192 Plain)) }
 {}
 
-/// So with the two in each other's place, or with one for both, the line says another command.
-pub fn changed_lines_are_refused()
-    ensures child_first { Says (codes "fork 1 2") (Some (Fork 2 1)) → ⊥ }
-    ensures new_first { Says (codes "mremap 1 10000 4096 8192")
-        (Some (Mremap 1 0x10000 8192 4096 Plain)) → ⊥ }
-    ensures old_twice { Says (codes "mremap 1 10000 4096 8192")
-        (Some (Mremap 1 0x10000 4096 4096 Plain)) → ⊥ }
-{}
-
 /// An entry's answer has the slot at which its frame is cached.
 pub fn answers_say()
     ensures { answer_line (EntryFrame 5 false (Some (record { area = 3; page = 70 })))
@@ -35,8 +26,6 @@ pub fn answers_say()
 
 /// An area's row has addresses and offset in hexadecimal digits, its anon_vmas in decimal ones.
 pub fn rows_say()
-    ensures decimal { row_line (Area 0x10000 0x11000 read_write 16 (Some 10) (9 ∷ 10 ∷ []))
+    ensures { row_line (Area 0x10000 0x11000 read_write 16 (Some 10) (9 ∷ 10 ∷ []))
         ≡ codes "10000-11000 rw- off=10 own=10 chain=9,10" }
-    ensures own_in_hex { row_line (Area 0x10000 0x11000 read_write 16 (Some 10) (9 ∷ 10 ∷ []))
-        ≡ codes "10000-11000 rw- off=10 own=a chain=9,10" → ⊥ }
 {}

@@ -11,12 +11,12 @@ ghost use Rattle.av_trace.specs.declared.note.Note.TheVariants.{
 ghost use Rattle.av_plain.specs.Event.{note_events};
 ghost use Rattle.av_plain.specs.Ledger.{InFrame, InSlot};
 ghost use Rattle.av_plain.specs.Step.{IsLegal, causes};
-ghost use Rattle.av_laws.specs.Examples.{slot, with_swap};
-ghost use Rattle.av_laws.specs.Pairs.{bad_first, full};
+ghost use Rattle.av_laws.specs.Examples.{bad_first, full, slot, with_swap};
 ghost use Rattle.av_laws.specs.PassTurns.{
   Passes,
   all_readable,
   both_cached,
+  both_in_flight,
   failure_first,
   last_cached,
   lost_reply,
@@ -55,6 +55,8 @@ pub fn passes_end_with_a_free_frame()
     ensures past_failure { Passes (with_swap 2 8 7) None (last_cached 7) failure_first }
     ensures freed_by_completion { Passes (with_swap 2 8 7) None orphan_in_flight
         (Written (slot 1) ∷ Dropped (slot 1) ∷ []) }
+    ensures all_completed { Passes (with_swap 2 8 7) None both_in_flight
+        (Written (slot 1) ∷ Written (slot 2) ∷ Dropped (slot 2) ∷ []) }
     ensures none_while_closing { Passes bad_first (Some 0) full.ledger [] }
 {}
 

@@ -38,10 +38,9 @@ pub fn all_areas_count()
     ensures all_free_slots { (totals two_swaps [] (lower_in_use 2)).free_slots ≡ 7 }
 {}
 
-/// The device holds a page at its own slot, and not at another one; and so where its frame is
-/// cached and clean.
+/// The device doesn't hold a page at another slot than its own; and so where its frame is cached
+/// and clean.
 pub fn pages_are_at_their_own_slots()
-    ensures page_at_its_slot { HoldWith 1 (paged_out 7 []) }
     ensures page_at_next_slot { HoldWith 2 (paged_out 7 []) → ⊥ }
     ensures clean_at_next_slot { HoldWith 2 (cached_out false false) → ⊥ }
 {}

@@ -1,10 +1,9 @@
 //! Worked steps of swap: single commands that meet several frames, slots or areas.
 
-ghost use Rattle.std.specs.Prelude.{[], ◌∷◌, false, true, Some, None};
+ghost use Rattle.std.specs.Prelude.{◌≡◌, [], ◌∷◌, false, true, Some, None};
 ghost use Rattle.av_trace.specs.declared.command.Command.TheVariants.{
   Age,
   Complete,
-  Read,
   Reclaim,
   Slot as AsksSlot,
   Swapoff,
@@ -12,22 +11,35 @@ ghost use Rattle.av_trace.specs.declared.command.Command.TheVariants.{
 };
 ghost use Rattle.av_trace.specs.declared.note.Note.TheVariants.{Aged, Dropped, Unmapped, Written};
 ghost use Rattle.av_trace.specs.declared.reply.Answer.TheVariants.{
-  Data,
   Done,
+  NoFrame,
   On,
   Refused,
   SlotBad,
   SlotCount,
 };
 ghost use Rattle.av_trace.specs.declared.reply.Errno.TheVariants.{Einval, Eio};
-ghost use Rattle.av_plain.specs.Ledger.{InFrame, first_ledger};
-ghost use Rattle.av_laws.specs.Examples.{paged_out, reply_with, slot, untold, with_swap};
-ghost use Rattle.av_laws.specs.PassTurns.{all_readable, both_cached, one_frame_two_areas};
-ghost use Rattle.av_laws.specs.Slots.{lower_in_use};
-ghost use Rattle.av_laws.specs.SwapSteps.{
-  ClaimsAfterWrite,
+ghost use Rattle.av_plain.specs.Event.{TurnedOn, after_notes};
+ghost use Rattle.av_plain.specs.Fault.{Touches};
+ghost use Rattle.av_plain.specs.Ledger.{InFrame, first_ledger, is_full};
+ghost use Rattle.av_plain.specs.Step.{IsLegal, closing_swap_area};
+ghost use Rattle.av_plain.specs.Swapoff.{Closed, NoRoom, Unread, close_answer, sparing_area};
+ghost use Rattle.av_laws.specs.Examples.{
   MayCome,
   MayNotCome,
+  cached_out,
+  paged_out,
+  reply_with,
+  slot,
+  swap_area,
+  untold,
+  with_swap,
+};
+ghost use Rattle.av_laws.specs.PassTurns.{all_readable, both_cached, one_frame_two_areas};
+ghost use Rattle.av_laws.specs.Slots.{lower_in_use, two_swaps};
+ghost use Rattle.av_laws.specs.SwapSteps.{
+  ClaimsAfterWrite,
+  Ends,
   OtherAreaGives,
   both_written,
   cached_by_second,
@@ -37,7 +49,7 @@ ghost use Rattle.av_laws.specs.SwapSteps.{
   found_when_full,
   four_inactive,
   four_reclaimed,
-  no_frame_of,
+  numbers,
   one_out,
   other_area_fills,
   page_in,
@@ -93,23 +105,24 @@ pub fn slots_are_emptied_in_turn()
     ensures other_area_fills { MayCome one_frame_two_areas [] (lower_in_use 1) (Swapoff 0)
         (reply_with Done other_area_fills) }
     ensures other_area_gives { OtherAreaGives }
-    ensures left_named { MayNotCome (with_swap 4 3 2) [] two_slots (Swapoff 0)
-        (reply_with Done first_emptied) }
-    ensures cached_unread { MayNotCome (with_swap 4 3 2) [] two_slots (Swapoff 0)
-        (reply_with (Refused Eio) first_emptied) }
-    ensures unread_behind_pass { MayCome one_frame_two_areas [] (lower_in_use 1) (Swapoff 0)
-        (reply_with (Refused Eio) to_other_area) }
-    ensures starved_behind_pass { MayNotCome one_frame_two_areas [] (lower_in_use 1) (Swapoff 0)
-        (reply_with (no_frame_of 1 0) to_other_area) }
-    ensures counted_behind_pass { MayCome one_frame_two_areas [] (lower_in_use 1) (Swapoff 0)
-        (reply_with (no_frame_of 0 1) counted_behind_pass) }
+    ensures second_closes { closing_swap_area (Swapoff 1) ≡ Some 1 }
+    ensures second_is_spared { (sparing_area [] 1 first_ledger).closing ≡ Some 1 }
+    ensures left_named { Ends (with_swap 4 3 2) (after_notes two_slots first_emptied) [] Closed
+        → ⊥ }
+    ensures cached_unread { Ends (with_swap 4 3 2) (after_notes two_slots first_emptied) [] Unread
+        → ⊥ }
+    ensures unread_behind_pass { Ends one_frame_two_areas (lower_in_use 1) to_other_area Unread }
+    ensures starved_behind_pass { Ends one_frame_two_areas (lower_in_use 1) to_other_area
+        (NoRoom (numbers 1 0)) → ⊥ }
+    ensures counted_behind_pass { Ends one_frame_two_areas (lower_in_use 1) counted_behind_pass
+        (NoRoom (numbers 0 1)) }
     ensures unmapped_in_turn { MayCome (with_swap 1 3 2) [] (cached_by_second false) (Swapoff 0)
-        (reply_with (no_frame_of 1 0) unmapped_in_turn) }
-    ensures cached_there_fails { MayCome (with_swap 1 3 2) [] (cached_by_second true) (Swapoff 0)
-        (reply_with (no_frame_of 0 1) cached_there_fails) }
-    ensures unread_without_frame { MayNotCome (with_swap 1 3 2) [] (cached_by_second true)
-        (Swapoff 0)
-        (reply_with (Refused Eio) cached_there_fails) }
+        (reply_with (NoFrame (numbers 1 0)) unmapped_in_turn) }
+    ensures cached_there_fails { Ends (with_swap 1 3 2) (cached_by_second true) cached_there_fails
+        (NoRoom (numbers 0 1)) }
+    ensures unread_without_frame { Ends (with_swap 1 3 2) (cached_by_second true)
+        cached_there_fails Unread → ⊥ }
+    ensures unread_is_told { close_answer Unread ≡ Refused Eio }
 {}
 
 /// `slot` tells a bad page and the count of a slot, and refuses page 0, a page past the header's
@@ -128,6 +141,9 @@ pub fn slots_are_told()
         (reply_with (Refused Einval) []) }
     ensures used_counted { MayCome untold [] (paged_out 7 []).ledger (AsksSlot 0 1)
         (reply_with (SlotCount (slot 1) 1 None) []) }
+    ensures cached_counted { MayCome (with_swap 4 8 7) [] (cached_out false false).ledger
+        (AsksSlot 0 1)
+        (reply_with (SlotCount (slot 1) 2 (Some 0)) []) }
     ensures unused_bad { MayCome untold [] (paged_out 7 []).ledger (AsksSlot 0 2)
         (reply_with (SlotBad (slot 2)) []) }
     ensures unused_outside { MayCome untold [] (paged_out 7 []).ledger (AsksSlot 0 2)
@@ -139,26 +155,31 @@ pub fn slots_are_told()
 {}
 
 /// `swapon` refuses an area without a device, or without a page, before anything is read of it.
-/// Else its page 0 isn't read, or is no header, or is one and its numbers are told. Where headers
-/// aren't told, these may be any numbers, but for no slots.
+/// Else its page 0 isn't read, or is no header, or is one and its numbers are told: those of the
+/// area that is asked for, and this one is on. Where headers aren't told, these may be any numbers,
+/// but for no slots.
 pub fn areas_are_turned_on()
-    ensures no_device { MayCome third_bad [] first_ledger (Swapon 3)
+    ensures no_device { MayCome third_bad [] first_ledger (Swapon 3 None)
         (reply_with (Refused Einval) []) }
-    ensures no_pages { MayCome third_bad [] first_ledger (Swapon 1)
+    ensures no_pages { MayCome third_bad [] first_ledger (Swapon 1 None)
         (reply_with (Refused Einval) []) }
-    ensures no_device_unread { MayNotCome third_bad [] first_ledger (Swapon 3)
+    ensures no_device_unread { MayNotCome third_bad [] first_ledger (Swapon 3 None)
         (reply_with (Refused Eio) []) }
-    ensures no_pages_unread { MayNotCome third_bad [] first_ledger (Swapon 1)
+    ensures no_pages_unread { MayNotCome third_bad [] first_ledger (Swapon 1 None)
         (reply_with (Refused Eio) []) }
-    ensures unread_header { MayCome third_bad [] first_ledger (Swapon 0)
+    ensures unread_header { MayCome third_bad [] first_ledger (Swapon 0 None)
         (reply_with (Refused Eio) []) }
-    ensures wrong_header { MayCome third_bad [] first_ledger (Swapon 2)
+    ensures wrong_header { MayCome third_bad [] first_ledger (Swapon 2 None)
         (reply_with (Refused Einval) []) }
-    ensures header { MayCome third_bad [] first_ledger (Swapon 0) (reply_with (On 6 1) []) }
-    ensures untold_header { MayCome untold [] first_ledger (Swapon 0) (reply_with (On 6 1) []) }
-    ensures untold_wrong_header { MayCome untold [] first_ledger (Swapon 0)
+    ensures header { MayCome third_bad [] first_ledger (Swapon 0 None) (reply_with (On 6 1) []) }
+    ensures second_area { IsLegal two_swaps [] first_ledger (Swapon 1 None)
+        (reply_with (On 7 0) [])
+        (TurnedOn 1 (swap_area 7 0) ∷ []) }
+    ensures untold_header { MayCome untold [] first_ledger (Swapon 0 None)
+        (reply_with (On 6 1) []) }
+    ensures untold_wrong_header { MayCome untold [] first_ledger (Swapon 0 None)
         (reply_with (Refused Einval) []) }
-    ensures untold_without_slots { MayNotCome untold [] first_ledger (Swapon 0)
+    ensures untold_without_slots { MayNotCome untold [] first_ledger (Swapon 0 None)
         (reply_with (On 0 0) []) }
 {}
 
@@ -166,14 +187,12 @@ pub fn areas_are_turned_on()
 /// in; and not where half of it is free then. A read that finds the page in its frame drops
 /// nothing, however full swap is.
 pub fn full_is_asked_at_the_drop()
-    ensures full_at_the_drop { MayCome (with_swap 1 4 3) all_readable (one_out 3) (Read 1 0x10000 1)
-        (reply_with (Data (0 ∷ [])) page_in_and_drop) }
-    ensures half_full_at_the_drop { MayCome (with_swap 1 5 4) all_readable (one_out 4)
-        (Read 1 0x10000 1)
-        (reply_with (Data (0 ∷ [])) page_in) }
-    ensures found_when_full { MayCome (with_swap 1 2 1) all_readable found_when_full
-        (Read 1 0x10000 1)
-        (reply_with (Data (0 ∷ [])) []) }
+    ensures full_at_the_drop { Touches (with_swap 1 4 3) all_readable (one_out 3) false (1, 0x10)
+        page_in_and_drop None }
+    ensures half_full_at_the_drop { is_full (with_swap 1 5 4) (after_notes (one_out 4) page_in)
+        ≡ false }
+    ensures found_when_full { Touches (with_swap 1 2 1) all_readable found_when_full false (1, 0x10)
+        [] None }
 {}
 
 /// A page that is written is loaded first: so the bytes that were written are claimed, and around

@@ -9,7 +9,8 @@ use Rattle.av_base.specs.Page.{address_of, page_of, pages_of}
 use Rattle.av_base.specs.Words.{is_in, with_at, within}
 use Rattle.av_base.specs.declared.prot.Prot.{Prot}
 use Rattle.av_vma.specs.declared.area.Area.{Area}
-use Rattle.av_vma.specs.Join.{first_of, is_reusable, past_of}
+use Rattle.av_vma.specs.Index.{first_of, past_of}
+use Rattle.av_vma.specs.Join.{can_lend}
 use Rattle.av_vma.specs.Pages.{AreLaid, Effect, Lengths, Pages, after_join, after_map, after_unmap, alters_at, split_at, do_join, fresh_area, has_page, join_of, joined_around, joined_at, loan_beside, loan_of, makes_anon, page_changed, pages_changed, pages_in, part_changed, part_of, to_prot, with_anon, with_area, with_effect, with_effect_on, without_range}
 use Rattle.av_text.specs.Number.{IsWide}
 use Rattle.av_trace.specs.declared.command.Command.{Command}
@@ -90,9 +91,11 @@ without-below n from past on h page = by (within from (past - from) page)
     by false = h page
 
 unmap-below : (n from past : ℕ) (on : Pages) → OwnBelow n on → OwnBelow n (after_unmap from past on)
-unmap-below n from past on h = without-below n from past (split_at past (split_at from on)) (split-below n past (split_at from on) (split-below n from on h))
+unmap-below n from past on h =
+    without-below n from past (split_at past (split_at from on)) (split-below n past (split_at from on) (split-below n from on h))
 
-join-below : (n : ℕ) (len : Lengths) (left right : Option Area) (page : ℕ) (now : Option Area) → AreaBelow n left → AreaBelow n right → AreaBelow n now
+join-below : (n : ℕ) (len : Lengths) (left right : Option Area) (page : ℕ) (now : Option Area) → AreaBelow n left → AreaBelow n right
+    → AreaBelow n now
     → AreaBelow n (after_join len left right page now)
 join-below n len None right page now l r h = h
 join-below n len (Some a) None page now l r h = h
@@ -134,12 +137,14 @@ page-below n len effect page on h = by (alters_at effect (on page))
 
     by : (b : Bool) → OwnBelow n (if b then part_changed len page (page + 1) effect on else on)
     by true = around-below n len page (page + 1) (with_effect_on page (page + 1) effect (split_at (page + 1) (split_at page on)))
-        (effect-below n page (page + 1) effect (split_at (page + 1) (split_at page on)) (split-below n (page + 1) (split_at page on) (split-below n page on h)))
+        (effect-below n page (page + 1) effect (split_at (page + 1) (split_at page on))
+        (split-below n (page + 1) (split_at page on) (split-below n page on h)))
     by false = h
 
 pages-below : (n : ℕ) (len : Lengths) (effect : Effect) (from k : ℕ) (on : Pages) → OwnBelow n on → OwnBelow n (pages_changed len effect from k on)
 pages-below n len effect from zero on h = h
-pages-below n len effect from (suc k) on h = pages-below n len effect (from + 1) k (page_changed len effect from on) (page-below n len effect from on h)
+pages-below n len effect from (suc k) on h =
+    pages-below n len effect (from + 1) k (page_changed len effect from on) (page-below n len effect from on h)
 
 room-below : (n k : ℕ) (place : Place) (on : Pages) → OwnBelow n on → OwnBelow n (with_room k place on)
 room-below n k Auto on h = h
@@ -188,12 +193,14 @@ resize-below n len from k m on h = by (nat_lt m k) (nat_lt k m)
     grow None is = h
     grow (Some a) is = around-below n len (first_of a) (from + m) (grown_to (from + m) (Some a) on) (grown-below n (from + m) (Some a) on is h)
 
-    by : (b c : Bool) → OwnBelow n (if b then after_unmap (from + m) (from + k) on else (if c then after_grow len (from + m) (on (from + k - 1)) on else on))
+    by : (b c : Bool) → OwnBelow n
+        (if b then after_unmap (from + m) (from + k) on else (if c then after_grow len (from + m) (on (from + k - 1)) on else on))
     by true c = unmap-below n (from + m) (from + k) on h
     by false true = grow (on (from + k - 1)) (h (from + k - 1))
     by false false = h
 
-again-below : (n : ℕ) (len : Lengths) (p from past : ℕ) (left : Option Prot) (on : Pages) → OwnBelow n on → OwnBelow n (with_old_range len p from past left on)
+again-below : (n : ℕ) (len : Lengths) (p from past : ℕ) (left : Option Prot) (on : Pages) → OwnBelow n on
+    → OwnBelow n (with_old_range len p from past left on)
 again-below n len p from past None on h = h
 again-below n len p from past (Some prot) on h = map-below n len p from past prot on h
 
@@ -201,7 +208,8 @@ remap-below : (n : ℕ) (len : Lengths) (p from k to m : ℕ) (left : Option Pro
     → OwnBelow n (after_mremap len p from k to m left on)
 remap-below n len p from k to m left on h = by (to == from)
   where
-    by : (b : Bool) → OwnBelow n (if b then after_resize len from k m on else with_old_range len p from (from + k) left (after_move len from k to m on))
+    by : (b : Bool) → OwnBelow n
+        (if b then after_resize len from k m on else with_old_range len p from (from + k) left (after_move len from k to m on))
     by true = resize-below n len from k m on h
     by false = again-below n len p from (from + k) left (after_move len from k to m on) (move-below n len from k to m on h)
 
@@ -211,7 +219,8 @@ next-below n long on w (Spawn p) Done h = set-below n p none_on on (λ page. tt)
 next-below n long on w (Exit p) Done h = set-below n p none_on on (λ page. tt) h
 next-below n long on w (Mmap p len prot place) (MapAt a) h =
     set-below n p (after_map long p (page_of a) (page_of a + pages_of len) prot (with_room (pages_of len) place (on p))) on
-    (map-below n long p (page_of a) (page_of a + pages_of len) prot (with_room (pages_of len) place (on p)) (room-below n (pages_of len) place (on p) (h p))) h
+    (map-below n long p (page_of a) (page_of a + pages_of len) prot (with_room (pages_of len) place (on p))
+    (room-below n (pages_of len) place (on p) (h p))) h
 next-below n long on w (Munmap p a len) Done h =
     set-below n p (after_unmap (page_of a) (page_of a + pages_of len) (on p)) on (unmap-below n (page_of a) (page_of a + pages_of len) (on p) (h p)) h
 next-below n long on w (Mprotect p a len prot) Done h =
@@ -251,7 +260,7 @@ pub record Makes (old new : Rmap) : Type 0 where
 
 loan-below : (n : ℕ) (len : Lengths) (area : Area) (near : Option Area) → AreaBelow n near → IsBelow n (loan_of len area near)
 loan-below n len area None h = tt
-loan-below n len area (Some near) h = by (is_reusable area near (len near.anon))
+loan-below n len area (Some near) h = by (can_lend area near (len near.anon))
   where
     by : (b : Bool) → IsBelow n (if b then near.anon else None)
     by true = h
@@ -272,7 +281,8 @@ page-made p page r h = by (on page) (h.owns p page)
     same : Makes r (record { areas = with_at p (r.areas p) r.areas; anons = r.anons; homes = r.homes })
     same = record { made = record { owns = set-below r.anons.next p (r.areas p) r.areas (h.owns p) h.owns; chains = h.chains }; more = omega arith }
 
-    root-chains : (v : ℕ) (b : Bool) → (v == r.anons.next) ≡ b → ChainBelow (suc r.anons.next) (if b then Some (root_anon r.anons.next) else r.anons.anon v)
+    root-chains : (v : ℕ) (b : Bool) → (v == r.anons.next) ≡ b
+        → ChainBelow (suc r.anons.next) (if b then Some (root_anon r.anons.next) else r.anons.anon v)
     root-chains v true is = (omega arith, tt)
     root-chains v false is = more_chain r.anons.next (suc r.anons.next) (r.anons.anon v) (omega arith) (h.chains v)
 
@@ -349,7 +359,8 @@ all-made l (e ∷ es) r h =
 
 -- ---- a step
 
-left-below : (anons left : Anons) (on : Areas) (n : ℕ) → AreLeft anons on left → ((v : ℕ) → ChainBelow n (anons.anon v)) → (v : ℕ) → ChainBelow n (left.anon v)
+left-below : (anons left : Anons) (on : Areas) (n : ℕ) → AreLeft anons on left → ((v : ℕ) → ChainBelow n (anons.anon v)) → (v : ℕ)
+    → ChainBelow n (left.anon v)
 left-below anons left on n is h v = by (left.anon v) refl
   where
     by : (o : Option AnonVma) → left.anon v ≡ o → ChainBelow n o
@@ -364,7 +375,8 @@ chain-below anons n (Some v) h = by (anons.anon v) (h v)
     by None h = tt
     by (Some x) h = h
 
-plain-makes : (r later next : Rmap) (w : World) (command : Command) (answer : Answer) → Makes r later → AreNext later w command answer next → Makes r next
+plain-makes : (r later next : Rmap) (w : World) (command : Command) (answer : Answer) → Makes r later
+    → AreNext later w command answer next → Makes r next
 plain-makes r later next w command answer makes is =
     let more = makes.more in
     let same = is.anons.next in
@@ -458,7 +470,8 @@ over-makes q (area ∷ areas) r next h (mid, first, later) =
 fork-makes : (p q : ℕ) (r next : Rmap) → AreMade r → AreForked p q r next → Makes r next
 fork-makes p q r next h (areas, rise, on, goes) =
     let start = record r { areas = with_at q none_on r.areas } in
-    let all = over-makes q areas start next (record { owns = set-below r.anons.next q none_on r.areas (λ page. tt) h.owns; chains = h.chains }) goes in
+    let all = over-makes q areas start next
+    (record { owns = set-below r.anons.next q none_on r.areas (λ page. tt) h.owns; chains = h.chains }) goes in
     record { made = all.made; more = all.more }
 
 -- made after one that made some
@@ -475,11 +488,13 @@ step-makes m old command reply new h step = by (next-cases later old.world comma
     makes : Makes (rmap_of old) later
     makes = all-made old.ledger step.events (rmap_of old) h
 
-    by : IsPlain later old.world command reply.answer (rmap_of new) ⊎ IsFork later command reply.answer (rmap_of new) → Makes (rmap_of old) (rmap_of new)
+    by : IsPlain later old.world command reply.answer (rmap_of new) ⊎ IsFork later command reply.answer (rmap_of new)
+        → Makes (rmap_of old) (rmap_of new)
     by (inl plain) = plain-makes (rmap_of old) later (rmap_of new) old.world command reply.answer makes plain.is
     by (inr fork) = makes-then (rmap_of old) later (rmap_of new) makes (fork-makes fork.parent fork.child later (rmap_of new) makes.made fork.forked)
 
-pub run-makes : (m : Setting) (old : State) (es : List Exchange) (new : State) → AreMade (rmap_of old) → IsRun m old es new → old.anons.next ≤ new.anons.next
+pub run-makes : (m : Setting) (old : State) (es : List Exchange) (new : State) → AreMade (rmap_of old) → IsRun m old es new
+    → old.anons.next ≤ new.anons.next
 run-makes m old [] new h run = let same : new.anons.next ≡ old.anons.next = ap (λ (s : State). s.anons.next) run in omega (arith, same)
 run-makes m old (e ∷ es) new h run =
     let one = step-makes m old e.command e.reply run.0 h run.1 in
@@ -505,9 +520,11 @@ rows-wide r p rows h laid wide is =
     one a on = (
       let small = (laid.whole (first_of a) a on).small in omega (arith, small),
       own-wide r.anons.next a.anon wide (subst (AreaBelow r.anons.next) on (h.owns p (first_of a))),
-      all_from (λ v. v < r.anons.next) IsWide (λ v lt. omega (arith, wide, lt)) (chain_by r.anons a.anon) (chain-below r.anons r.anons.next a.anon h.chains),
+      all_from (λ v. v < r.anons.next) IsWide (λ v lt. omega (arith, wide, lt)) (chain_by r.anons a.anon)
+          (chain-below r.anons r.anons.next a.anon h.chains),
     )
 
-    each : (areas : List Area) → AllByRecursion (λ (a : Area). r.areas p (first_of a) ≡ Some a) areas → AllByRecursion IsWideRow (map (area_row r.anons) areas)
+    each : (areas : List Area) → AllByRecursion (λ (a : Area). r.areas p (first_of a) ≡ Some a) areas
+        → AllByRecursion IsWideRow (map (area_row r.anons) areas)
     each [] on = tt
     each (a ∷ areas) on = (one a on.0, each areas on.1)

@@ -16,15 +16,15 @@ use Rattle.av_trace.specs.declared.reply.Errno.{Errno}
 use Rattle.av_trace.specs.declared.reply.Answer.{Answer}
 use Rattle.av_trace.specs.declared.reply.OutOf.{OutOf}
 use Rattle.av_trace.specs.declared.reply.Reply.{Reply}
-use Rattle.av_vma.specs.Join.{first_of, past_of}
+use Rattle.av_vma.specs.Index.{first_of, past_of}
 use Rattle.av_vma.specs.Pages.{AreLaid, makes_anon, pages_in}
 use Rattle.av_vma.specs.declared.area.Area.{Area}
 use Rattle.av_plain.specs.Access.{Accesses, End, pages_of_access}
 use Rattle.av_plain.specs.Areas.{Anons, Rmap, chain_length, none_on, prepare_page, rmap_after_all, with_root}
-use Rattle.av_plain.specs.Event.{Event, Moved, TurnedOn, Used, Zapped, after, after_all, after_notes, note_events, notes_of, when}
+use Rattle.av_plain.specs.Event.{Event, EntriesMoved, TurnedOn, Used, Zapped, after, after_all, after_notes, note_events, notes_of, when}
 use Rattle.av_plain.specs.Fault.{ComesIn, CopyOnWrite, Denied, IsMade, Lost, MapCached, Need, NewPage, Ready, RunsOut, Serves, Sparing, Starved, Stop, SwapIn, Touches, ZeroPage, drop_at, drop_of_entry, drop_of_slot, is_unneeded, need, pinned_by, sparing, was_slot}
 use Rattle.av_plain.specs.Fork.{AreForked, GoOver, GoesBy}
-use Rattle.av_plain.specs.Ledger.{Entry, InFrame, InSlot, Key, Ledger, Setting, Zero, entry, frame_at, is_orphan, keys_of_slot, slot_of, slots_in_use}
+use Rattle.av_plain.specs.Ledger.{Entry, InFrame, InSlot, Key, Ledger, Setting, SwapArea, Zero, entry, frame_at, is_orphan, keys_of_slot, slot_of, slots_in_use}
 use Rattle.av_plain.specs.Mremap.{events_to, range_zaps, remap_events}
 use Rattle.av_plain.specs.Pass.{Seeks, Spared, TakesFor}
 use Rattle.av_plain.specs.Refusal.{Refuses, refusal, tests}
@@ -234,9 +234,9 @@ remap-new l p from n to k = by (to == from)
     tail : List Event
     tail = range_zaps (after_all l target) p (from + k) (n - k)
 
-    by : (b : Bool) → prepared (cond b (range_zaps l p (from + k) (n - k)) ((target ++ tail) ++ Moved p (min n k) from to ∷ [])) ≤ 0
+    by : (b : Bool) → prepared (cond b (range_zaps l p (from + k) (n - k)) ((target ++ tail) ++ EntriesMoved p (min n k) from to ∷ [])) ≤ 0
     by true = zaps-new l (keys_in l p (from + k) (n - k))
-    by false = two-events (target ++ tail) (Moved p (min n k) from to ∷ [])
+    by false = two-events (target ++ tail) (EntriesMoved p (min n k) from to ∷ [])
         (two-events target tail (zaps-new l (keys_in l p to k))
         (zaps-new (after_all l target) (keys_in (after_all l target) p (from + k) (n - k)))) (omega arith)
 
@@ -270,13 +270,13 @@ off-new k Closed = omega arith
 off-new k (NoRoom out) = omega arith
 off-new k Unread = omega arith
 
-on-new : (k : ℕ) (answer : Answer) → prepared (turn_on_events k answer) ≤ 0
-on-new k answer = by (turn-on-events k answer)
+on-new : (k : ℕ) (priority : Option ℕ) (answer : Answer) → prepared (turn_on_events k priority answer) ≤ 0
+on-new k priority answer = by (turn-on-events k priority answer)
   where
-    by : (turn_on_events k answer ≡ []) ⊎ ((slots : ℕ) × (bad : ℕ) × (turn_on_events k answer ≡ TurnedOn k slots bad ∷ []))
-        → prepared (turn_on_events k answer) ≤ 0
-    by (inl e) = same-new (notes_of (turn_on_events k answer)) [] 0 (ap notes_of e) (omega arith)
-    by (inr e) = same-new (notes_of (turn_on_events k answer)) [] 0 (ap notes_of e.2) (omega arith)
+    by : (turn_on_events k priority answer ≡ []) ⊎ ((area : SwapArea) × (turn_on_events k priority answer ≡ TurnedOn k area ∷ []))
+        → prepared (turn_on_events k priority answer) ≤ 0
+    by (inl e) = same-new (notes_of (turn_on_events k priority answer)) [] 0 (ap notes_of e) (omega arith)
+    by (inr e) = same-new (notes_of (turn_on_events k priority answer)) [] 0 (ap notes_of e.1) (omega arith)
 
 -- ---- a legal reply
 
@@ -293,7 +293,8 @@ legal-new m w l command reply es fit legal = by (refusal (tests m w l command)) 
     these : (ks : List Key) → es ≡ zaps_of l ks → news (notes_of es) ≤ 8192
     these ks e = quietly (zaps_of l ks) e (zaps-new l ks)
 
-    accessed : (p : ℕ) (write : Bool) (a n : ℕ) (end : End) → n ≤ 4096 → Accesses m w l p (pages_of_access write a n) es end → news (notes_of es) ≤ 8192
+    accessed : (p : ℕ) (write : Bool) (a n : ℕ) (end : End) → n ≤ 4096 → Accesses m w l p (pages_of_access write a n) es end
+        → news (notes_of es) ≤ 8192
     accessed p write a n end few h =
         let here = accesses-new m w l p (pages_of_access write a n) es end h in
         let short = few-pages write a n few in omega (arith, here, short)
@@ -323,7 +324,7 @@ legal-new m w l command reply es fit legal = by (refusal (tests m w l command)) 
     follows (Reclaim n) fit q = noted q.0 q.3 (bring-outcomes (λ k. false) m (sparing w l None) l (from_tail n l.inactive) q.0 q.1)
     follows (Age n) fit q = noted (map Aged (from_tail n l.active)) q.1 (bring-ages (λ k. false) (from_tail n l.active))
     follows (Complete n) fit q = noted q.0 q.3 (bring-completes (λ k. false) l (take n l.flight) q.0 q.1)
-    follows (Swapon k) fit q = quietly (turn_on_events k reply.answer) q.1 (on-new k reply.answer)
+    follows (Swapon k priority) fit q = quietly (turn_on_events k priority reply.answer) q.1 (on-new k priority reply.answer)
     follows (Swapoff k) fit q = quietly (note_events (q.done ++ q.notes) ++ turn_off_events k q.end) q.whole
         (two-events (note_events (q.done ++ q.notes)) (turn_off_events k q.end)
         (note-events (q.done ++ q.notes) (two-new q.done q.notes 0 0 (completed q.done (bring-completes (λ k. false) l l.flight q.done q.completes))

@@ -211,14 +211,16 @@ module _ (w : World) (p a old new : ℕ) (mode : Mode) (to : ℕ) (may : MayRema
 
           place : (b c : Bool) → (to == from) ≡ b → nat_lt n m ≡ c → page < top_page
           place false c e f = let high = highest w p a old new mode to may goes (inl e) in let b = ends in omega (arith, high, b)
-          place true true e f = let high = highest w p a old new mode to may goes (inr (grind (arith, nat_tests, f))) in let b = ends in omega (arith, high, b)
+          place true true e f = let high = highest w p a old new mode to may goes (inr (grind (arith, nat_tests, f))) in let b = ends in
+              omega (arith, high, b)
           place true false e f =
               let same : to ≡ from = grind (arith, nat_tests, e) in
               let more : m ≤ n = grind (arith, nat_tests, f) in
               let b = ends in
               let inside : nat_lt (page - to) n ≡ true = (let less : page - to < n = omega (arith, b, more) in grind (arith, nat_tests, less)) in
               let here : from + (page - to) ≡ page = omega (arith, b, same) in
-              (below p page (ap (λ x. is_some (q x)) (sym here) ∙ ap (λ b. is_some (cond b (q (from + (page - to))) (option_map zeros (prot_at q from))))
+              (below p page (ap (λ x. is_some (q x)) (sym here)
+              ∙ ap (λ b. is_some (cond b (q (from + (page - to))) (option_map zeros (prot_at q from))))
               (sym inside) ∙ h)).0
 
       by : (i j : Bool) → within to m page ≡ i → within from n page ≡ j
@@ -314,7 +316,7 @@ below-follows m w now l (Write p a bytes) es answer rows fit same below none h =
 below-follows m w now l (Reclaim n) es answer rows fit same below none h = below
 below-follows m w now l (Age n) es answer rows fit same below none h = below
 below-follows m w now l (Complete n) es answer rows fit same below none h = below
-below-follows m w now l (Swapon k) es answer rows fit same below none h = below
+below-follows m w now l (Swapon k priority) es answer rows fit same below none h = below
 below-follows m w now l (Swapoff k) es answer rows fit same below none h = below
 below-follows m w now l (Maps p) es answer rows fit same below none h = below
 below-follows m w now l (AsksAreas p) es answer rows fit same below none h = below

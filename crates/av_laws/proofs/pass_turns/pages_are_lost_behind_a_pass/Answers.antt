@@ -33,6 +33,3 @@ returns-clause-lost_behind_pass c = record {
   );
   notes = refl;
 }
-
-pub returns-clause-lost_and_failed : goal.returns-clause-lost_and_failed
-returns-clause-lost_and_failed c = refl

@@ -3,9 +3,6 @@ use Rattle.std.proofs.Common.{arith, ap}
 use Rattle.av_swapdev.specs.Header.{number_at}
 use Rattle.av_laws.proofs.several.page_0_of_a_device_stays.Goals as goal
 
-pub returns-clause-other_slots : goal.returns-clause-other_slots
-returns-clause-other_slots c = record { sizes = refl; first = refl; faults = omega arith }
-
 -- the first byte of page 0
 first_byte : Option (ℕ → List ℕ) → ℕ
 first_byte None = 0

@@ -1,11 +1,7 @@
 use Rattle.std.specs.Prelude.{◌≡◌, ℕ, refl}
 use Rattle.std.proofs.Common.{arith}
 use Rattle.av_laws.specs.Examples.{slot}
-use Rattle.av_laws.proofs.SeveralExamples.{page_at_its_slot-holds}
 use Rattle.av_laws.proofs.several.pages_are_at_their_own_slots.Goals as goal
-
-pub returns-clause-page_at_its_slot : goal.returns-clause-page_at_its_slot
-returns-clause-page_at_its_slot c = page_at_its_slot-holds
 
 pub returns-clause-page_at_next_slot : goal.returns-clause-page_at_next_slot
 returns-clause-page_at_next_slot c h = let e : ◌≡◌ {A = ℕ} 9 7 = h.kept 1 0x7fffffffe 0 (omega arith) in omega (arith, e)

@@ -1,6 +1,6 @@
 use Rattle.std.specs.Prelude.{[], ◌∷◌, refl}
 use Rattle.av_trace.specs.declared.note.Cause.TheVariants.{Referenced, NoSlot, WriteStarted, Writeback}
-use Rattle.av_trace.specs.declared.note.Note.TheVariants.{Aged, Dropped, Kept, Put, Started, Unmapped}
+use Rattle.av_trace.specs.declared.note.Note.TheVariants.{Dropped, Kept, Put, Started, Unmapped}
 use Rattle.av_plain.specs.Event.{note_events}
 use Rattle.av_laws.specs.Examples.{slot}
 use Rattle.av_laws.specs.SwapSteps.{four_reclaimed, two_kept}
@@ -67,10 +67,4 @@ returns-clause-clean_reclaimed c = (
     );
     notes = refl;
   },
-)
-
-pub returns-clause-two_aged : goal.returns-clause-two_aged
-returns-clause-two_aged c = (
-  note_events (Aged 0 ∷ Aged 1 ∷ []),
-  record { answer = (refl, refl, refl); notes = refl },
 )

@@ -1,16 +1,13 @@
-use Rattle.std.specs.Prelude.{[], ◌∷◌, ◌++◌, false, true, refl}
+use Rattle.std.specs.Prelude.{[], ◌∷◌, ◌++◌, false, true, Some, refl}
 use Rattle.std.proofs.Common.{arith}
-use Rattle.av_trace.specs.declared.command.Command.TheVariants.{Swapoff}
 use Rattle.av_trace.specs.declared.note.Note.TheVariants.{Dropped, Loaded, Mapped, Unmapped, Written}
 use Rattle.av_plain.specs.Event.{TurnedOff, note_events}
-use Rattle.av_plain.specs.Step.{closing_swap_area}
-use Rattle.av_plain.specs.Swapoff.{Closed, NoRoom, Unread}
+use Rattle.av_plain.specs.Swapoff.{Closed, NoRoom}
 use Rattle.av_laws.specs.Examples.{slot}
 use Rattle.av_laws.specs.PassTurns.{one_frame_two_areas}
 use Rattle.av_laws.specs.Slots.{lower_given, lower_in_use, slot_at}
-use Rattle.av_laws.specs.SwapSteps.{cached_there_fails, counted_behind_pass, other_area_fills, to_other_area, two_emptied, unmapped_in_turn}
-use Rattle.av_laws.proofs.Choice.{all-chosen}
-use Rattle.av_laws.proofs.SwapoffExamples.{cached_unread-never, left_named-never, starved_behind_pass-never, unread_without_frame-never}
+use Rattle.av_laws.specs.SwapSteps.{counted_behind_pass, other_area_fills, to_other_area, two_emptied, unmapped_in_turn}
+use Rattle.av_laws.proofs.Choice.{may}
 use Rattle.av_laws.proofs.swap_steps.slots_are_emptied_in_turn.Goals as goal
 
 pub returns-clause-two_emptied : goal.returns-clause-two_emptied
@@ -99,82 +96,16 @@ returns-clause-other_area_fills c = (
 )
 
 pub returns-clause-other_area_gives : goal.returns-clause-other_area_gives
-returns-clause-other_area_gives c = (
-  _,
-  all-chosen one_frame_two_areas (closing_swap_area (Swapoff 0)) (lower_in_use 1) (note_events other_area_fills ++ TurnedOff 0 ∷ [])
-      [] [] (lower_given 1).slots (
-        [],
-        ([], refl, refl),
-        (
-          [],
-          ([], refl, refl),
-          (
-            [],
-            ([], refl, refl),
-            (
-              [],
-              ([], refl, refl),
-              (
-                0 ∷ [],
-                ([], refl, refl),
-                (
-                  [],
-                  ([], refl, refl),
-                  ([], ([], refl, refl), ([], ([], refl, refl), ([], ([], refl, refl), refl))),
-                ),
-              ),
-            ),
-          ),
-        ),
-      ) refl,
-)
-
-pub returns-clause-left_named : goal.returns-clause-left_named
-returns-clause-left_named c = left_named-never
-
-pub returns-clause-cached_unread : goal.returns-clause-cached_unread
-returns-clause-cached_unread c = cached_unread-never
+returns-clause-other_area_gives c =
+    may one_frame_two_areas (Some 0) (lower_in_use 1) (note_events other_area_fills ++ TurnedOff 0 ∷ [])
+    (record (lower_given 1) { frames = [] }) [] refl
+    refl
 
 pub returns-clause-unread_behind_pass : goal.returns-clause-unread_behind_pass
-returns-clause-unread_behind_pass c = (
-  note_events to_other_area,
-  record {
-    answer = record {
-      done = [];
-      pages = [];
-      notes = to_other_area;
-      end = Unread;
-      completes = refl;
-      empties = (refl, ([], to_other_area, refl, refl, (slot_at 1 1, false, refl, refl)), refl);
-      whole = refl;
-      answered = refl;
-      no_rows = refl;
-    };
-    notes = refl;
-  },
-)
-
-pub returns-clause-starved_behind_pass : goal.returns-clause-starved_behind_pass
-returns-clause-starved_behind_pass c = starved_behind_pass-never
+returns-clause-unread_behind_pass c = (refl, ([], to_other_area, refl, refl, (slot_at 1 1, false, refl, refl)), refl)
 
 pub returns-clause-counted_behind_pass : goal.returns-clause-counted_behind_pass
-returns-clause-counted_behind_pass c = (
-  note_events counted_behind_pass,
-  record {
-    answer = record {
-      done = [];
-      pages = [];
-      notes = counted_behind_pass;
-      end = NoRoom (record { pinned = 0; noslot = 0; fault = 1 });
-      completes = refl;
-      empties = (refl, ([], counted_behind_pass, refl, refl, (slot_at 1 1, true, refl, ([], refl, refl))), refl);
-      whole = refl;
-      answered = refl;
-      no_rows = refl;
-    };
-    notes = refl;
-  },
-)
+returns-clause-counted_behind_pass c = (refl, ([], counted_behind_pass, refl, refl, (slot_at 1 1, true, refl, ([], refl, refl))), refl)
 
 pub returns-clause-unmapped_in_turn : goal.returns-clause-unmapped_in_turn
 returns-clause-unmapped_in_turn c = (
@@ -217,25 +148,3 @@ returns-clause-unmapped_in_turn c = (
     notes = refl;
   },
 )
-
-pub returns-clause-cached_there_fails : goal.returns-clause-cached_there_fails
-returns-clause-cached_there_fails c = (
-  note_events cached_there_fails,
-  record {
-    answer = record {
-      done = [];
-      pages = [];
-      notes = cached_there_fails;
-      end = NoRoom (record { pinned = 0; noslot = 0; fault = 1 });
-      completes = refl;
-      empties = (refl, ([], cached_there_fails, refl, refl, (slot 2, true, refl, ([], refl, refl))), refl);
-      whole = refl;
-      answered = refl;
-      no_rows = refl;
-    };
-    notes = refl;
-  },
-)
-
-pub returns-clause-unread_without_frame : goal.returns-clause-unread_without_frame
-returns-clause-unread_without_frame c = unread_without_frame-never

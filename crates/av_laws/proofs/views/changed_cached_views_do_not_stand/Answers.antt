@@ -1,41 +1,39 @@
-use Rattle.av_laws.proofs.SwapViewExamples.{left_over-not, none_given-not, another_given-not, not_written-not, not_dirty-not, no_slot-not, not_found-not, not_named-not, not_flying-not, given_back-not, entry_gone-not, other_area-not, other_header-not}
+use Rattle.std.specs.Prelude.{◌≡◌, ℕ, is_some, length, refl}
+use Rattle.std.proofs.Common.{arith, sym, ap}
+use Rattle.av_clusters.specs.Clusters.{Slots}
+use Rattle.av_plain.specs.Choice.{Free}
+use Rattle.av_plain.proofs.NoDevice.{never}
+use Rattle.av_laws.specs.Examples.{slot}
 use Rattle.av_laws.proofs.views.changed_cached_views_do_not_stand.Goals as goal
 
 pub returns-clause-not_written : goal.returns-clause-not_written
-returns-clause-not_written c = not_written-not
+returns-clause-not_written c h = let e : ◌≡◌ {A = ℕ} 9 7 = h.parts.bytes.clean (slot 1) refl refl 0
+    (omega arith) in omega (arith, e)
 
 pub returns-clause-not_dirty : goal.returns-clause-not_dirty
-returns-clause-not_dirty c = not_dirty-not
+returns-clause-not_dirty c h = never (h.parts.ledger.frames.dirty 0)
 
 pub returns-clause-no_slot : goal.returns-clause-no_slot
-returns-clause-no_slot c = no_slot-not
+returns-clause-no_slot c h = never (ap is_some (h.parts.ledger.frames.slots 0))
 
 pub returns-clause-not_found : goal.returns-clause-not_found
-returns-clause-not_found c = not_found-not
+returns-clause-not_found c h = never (ap is_some (h.parts.ledger.swap.finds (slot 1)))
 
 pub returns-clause-not_named : goal.returns-clause-not_named
-returns-clause-not_named c = not_named-not
-
-pub returns-clause-not_flying : goal.returns-clause-not_flying
-returns-clause-not_flying c = not_flying-not
+returns-clause-not_named c h = let e : ◌≡◌ {A = ℕ} 0 2 = h.parts.ledger.swap.counts (slot 1) in omega (arith, e)
 
 pub returns-clause-given_back : goal.returns-clause-given_back
-returns-clause-given_back c = given_back-not
+returns-clause-given_back c h = let e : ◌≡◌ {A = ℕ} 0 2 = ap (λ (f : Free). (f.slots 0).cursor) h.free in omega
+    (arith, e)
 
 pub returns-clause-none_given : goal.returns-clause-none_given
-returns-clause-none_given c = none_given-not
+returns-clause-none_given c h = never (h.lists.slots.taken (slot 1))
 
 pub returns-clause-another_given : goal.returns-clause-another_given
-returns-clause-another_given c = another_given-not
+returns-clause-another_given c h = never (sym (h.lists.slots.taken (slot 2)))
 
 pub returns-clause-left_over : goal.returns-clause-left_over
-returns-clause-left_over c = left_over-not
-
-pub returns-clause-entry_gone : goal.returns-clause-entry_gone
-returns-clause-entry_gone c = entry_gone-not
-
-pub returns-clause-other_area : goal.returns-clause-other_area
-returns-clause-other_area c = other_area-not
+returns-clause-left_over c h = let e : ◌≡◌ {A = ℕ} 4 0 = ap (λ (s : Slots). length s.pages) (h.lists.slots.off 1 refl) in omega (arith, e)
 
 pub returns-clause-other_header : goal.returns-clause-other_header
-returns-clause-other_header c = other_header-not
+returns-clause-other_header c h = let e : ◌≡◌ {A = ℕ} 6 7 = (h.parts.headers 0).slots in omega (arith, e)

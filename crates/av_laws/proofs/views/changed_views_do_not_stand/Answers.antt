@@ -1,53 +1,63 @@
-use Rattle.av_laws.proofs.ViewExamples.{free_twice-not, free_left_out-not, free_in_use-not, no_such_frame-not, other_byte-not, write_bit-not, no_entry-not, other_count-not, other_order-not, made_active-not, area_too_long-not, area_twice-not, areas_of_nobody-not, too_few_processes-not, slots_of_none-not, area_of_another-not, other_offset-not}
+use Rattle.std.specs.Prelude.{◌≡◌, ℕ, true, List, [], ◌∷◌, Option, Some, None, is_some, length, refl}
+use Rattle.std.proofs.Common.{arith, sym, ap, ◌≤◌}
+use Rattle.av_vma.specs.declared.area.Area.{Area}
+use Rattle.av_plain.specs.Choice.{Free, ListsFree}
+use Rattle.av_plain.specs.Ledger.{InFrame}
+use Rattle.av_plain.proofs.NoDevice.{never}
+use Rattle.av_laws.specs.Examples.{machine}
+use Rattle.av_laws.specs.Views.{NotFree, fork_state}
 use Rattle.av_laws.proofs.views.changed_views_do_not_stand.Goals as goal
 
+pid_of : Option Area → ℕ
+pid_of None = 0
+pid_of (Some area) = area.pid
+
+offset_of : Option Area → ℕ
+offset_of None = 0
+offset_of (Some area) = area.pgoff
+
+-- a list that is not the one of the ledger
+not_free : (frames : List ℕ) → (ListsFree (machine 4) fork_state.ledger frames → ⊥) → NotFree frames
+not_free frames differ h = differ h.lists.frames
+
 pub returns-clause-other_byte : goal.returns-clause-other_byte
-returns-clause-other_byte c = other_byte-not
+returns-clause-other_byte c h = let e : ◌≡◌ {A = ℕ} 0 7 = h.parts.bytes.kept 1 0x7fffffffe 0 (omega arith) in omega (arith, e)
 
 pub returns-clause-write_bit : goal.returns-clause-write_bit
-returns-clause-write_bit c = write_bit-not
+returns-clause-write_bit c h =
+    never (sym (h.parts.ledger.tables.write_bits 1 0x7fffffffe (record { entry = InFrame 0 true; write = true }) 0 refl refl refl))
 
 pub returns-clause-no_entry : goal.returns-clause-no_entry
-returns-clause-no_entry c = no_entry-not
+returns-clause-no_entry c h = never (ap is_some (h.parts.ledger.tables.entries 1 0x7fffffffe))
 
 pub returns-clause-other_count : goal.returns-clause-other_count
-returns-clause-other_count c = other_count-not
-
-pub returns-clause-other_order : goal.returns-clause-other_order
-returns-clause-other_order c = other_order-not
-
-pub returns-clause-made_active : goal.returns-clause-made_active
-returns-clause-made_active c = made_active-not
-
-pub returns-clause-area_too_long : goal.returns-clause-area_too_long
-returns-clause-area_too_long c = area_too_long-not
-
-pub returns-clause-area_twice : goal.returns-clause-area_twice
-returns-clause-area_twice c = area_twice-not
-
-pub returns-clause-areas_of_nobody : goal.returns-clause-areas_of_nobody
-returns-clause-areas_of_nobody c = areas_of_nobody-not
-
-pub returns-clause-too_few_processes : goal.returns-clause-too_few_processes
-returns-clause-too_few_processes c = too_few_processes-not
+returns-clause-other_count c h = let e : ◌≡◌ {A = ℕ} 1 2 = h.parts.ledger.frames.maps 0 in omega (arith, e)
 
 pub returns-clause-free_twice : goal.returns-clause-free_twice
-returns-clause-free_twice c = free_twice-not
-
-pub returns-clause-free_left_out : goal.returns-clause-free_left_out
-returns-clause-free_left_out c = free_left_out-not
-
-pub returns-clause-free_in_use : goal.returns-clause-free_in_use
-returns-clause-free_in_use c = free_in_use-not
+returns-clause-free_twice c = not_free (1 ∷ 2 ∷ 3 ∷ 3 ∷ []) (λ h. let e : ◌≡◌ {A = ℕ} 2 1 = h 3 in omega (arith, e))
 
 pub returns-clause-no_such_frame : goal.returns-clause-no_such_frame
-returns-clause-no_such_frame c = no_such_frame-not
+returns-clause-no_such_frame c = not_free (1 ∷ 2 ∷ 3 ∷ 4 ∷ []) (λ h. let e : ◌≡◌ {A = ℕ} 1 0 = h 4 in omega (arith, e))
 
 pub returns-clause-slots_of_none : goal.returns-clause-slots_of_none
-returns-clause-slots_of_none c = slots_of_none-not
+returns-clause-slots_of_none c h = let e : ◌≡◌ {A = ℕ} 8 0 = ap (λ (f : Free). length (f.slots 0).pages)
+    h.free in omega (arith, e)
+
+pub returns-clause-area_too_long : goal.returns-clause-area_too_long
+returns-clause-area_too_long c h = never (sym (ap is_some (h.parts.areas.covers 1 0x7fffffffd)))
+
+pub returns-clause-area_twice : goal.returns-clause-area_twice
+returns-clause-area_twice c h = let e : 0x7ffffffff ≤ 0x7fffffffe = (h.parts.areas.apart 1).1 in omega (arith, e)
 
 pub returns-clause-area_of_another : goal.returns-clause-area_of_another
-returns-clause-area_of_another c = area_of_another-not
+unfolding pid_of
+returns-clause-area_of_another c h = let e : ◌≡◌ {A = ℕ} 1 2 = ap pid_of (h.areas 2 0x7fffffffe) in omega
+    (arith, e)
 
 pub returns-clause-other_offset : goal.returns-clause-other_offset
-returns-clause-other_offset c = other_offset-not
+unfolding offset_of
+returns-clause-other_offset c h = let e : ◌≡◌ {A = ℕ} 0 0x7fffffffe = ap offset_of
+    (h.areas 1 0x7fffffffe) in omega (arith, e)
+
+pub returns-clause-areas_of_nobody : goal.returns-clause-areas_of_nobody
+returns-clause-areas_of_nobody c h = never (sym (h.parts.areas.alive 3))
