@@ -2,7 +2,7 @@
 
 ghost use Rattle.std.specs.Prelude.{◌≡◌, None, length};
 
-use crate::row::{Changes, Ended, Row, lines_of, replies_of, run_row};
+use crate::row::{Ended, Row, lines_of, replies_of, run_row};
 use crate::rows::*;
 use crate::swap::{device, header};
 use av_io::{Failed, MemSink, MemSource};
@@ -42,19 +42,18 @@ fn goes_so(
 /// Whether a row goes as it says where no call of the device fails, where its first one does, and
 /// where each of the others does.
 fn goes_at_each_call(alloc: Global, row: &Row) -> Result<bool, AllocError> {
-    let whole = Ended::after(Status::Done, row.turns.len());
+    let replies = replies_of(alloc, row, "")?;
+    let whole = Ended::after(Status::Done, replies.len());
     let none = Ended {
         status: Status::AttachFault,
         steps: None,
     };
-    if !goes_so(alloc, row, 0, whole, &replies_of(alloc, row, &[])?.bytes)?
-        || !goes_so(alloc, row, 1, none, b"")?
-    {
+    if !goes_so(alloc, row, 0, whole, &replies.bytes)? || !goes_so(alloc, row, 1, none, b"")? {
         return Ok(false);
     }
-    for fault in row.faults {
-        let text = replies_of(alloc, row, fault.changes)?;
-        if !goes_so(alloc, row, fault.call, whole, &text.bytes)? {
+    for failure in row.failures {
+        let text = replies_of(alloc, row, failure.changes)?;
+        if !goes_so(alloc, row, failure.call, whole, &text.bytes)? {
             return Ok(false);
         }
     }
@@ -90,7 +89,7 @@ impl SwapDev for ScrambleDev {
 
     ghost pages = { λ _. None };
 
-    ghost faults = { λ d. ⟦<MemDev as SwapDev>⟧.faults d.honest };
+    ghost failures = { λ d. ⟦<MemDev as SwapDev>⟧.failures d.honest };
 
     fn attach(&mut self, area: u8, name: &str) -> Result<u32, AttachErr> {
         self.honest.attach(area, name)
@@ -119,10 +118,7 @@ fn goes_over_lies(alloc: Global, row: &Row) -> Result<bool, AllocError> {
     };
     let ended = run_row(alloc, row, &mut source, &mut sink, &mut dev)?;
     let text = replies_of(alloc, row, row.lies)?;
-    Ok(
-        ended == Ended::after(Status::Done, row.turns.len())
-            && sink.bytes() == text.bytes.as_slice(),
-    )
+    Ok(ended == Ended::after(Status::Done, text.len()) && sink.bytes() == text.bytes.as_slice())
 }
 
 #[test]

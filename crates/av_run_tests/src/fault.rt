@@ -1,3 +1,5 @@
+//! A fault at a page that is not mapped.
+
 use av_fault::*;
 use av_mem::Mem;
 use av_swapdev::MemDev;

@@ -1,3 +1,5 @@
+//! A kernel that is driven command by command, and its tally of replies.
+
 ghost use Rattle.std.specs.Prelude.{◌≡◌};
 ghost use Rattle.av_kernel.specs.Machine.{sizes_of};
 

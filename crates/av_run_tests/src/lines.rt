@@ -10,7 +10,7 @@ use std::test::Fail;
 const FIRST: &str = "spawn 1\n";
 
 /// Second lines, each with its reply if it is a command of the grammar.
-const LINES: [(&str, Option<&str>); 68] = [
+const LINES: [(&str, Option<&str>); 72] = [
     ("read 1 ffffffffffffffff 2\n", Some("segv 0\n")),
     ("read 1 0 1\n", Some("segv 0\n")),
     ("read 1 00 1\n", None),
@@ -61,6 +61,10 @@ const LINES: [(&str, Option<&str>); 68] = [
     ("swapon 7\n", Some("err EINVAL\n")),
     ("swapon 8\n", None),
     ("swapon 00\n", None),
+    ("swapon 7 prio 0\n", Some("err EINVAL\n")),
+    ("swapon 7 prio 32767\n", Some("err EINVAL\n")),
+    ("swapon 7 prio 32768\n", None),
+    ("swapon 7 prio 00\n", None),
     ("swapoff 7\n", Some("err EINVAL\n")),
     ("swapoff 8\n", None),
     ("slot 7 4294967295\n", Some("err EINVAL\n")),
@@ -161,7 +165,14 @@ fn ends_so(alloc: Global, trace: Vec<u8>, status: Status, text: &[u8]) -> Result
     let mut source = MemSource::new(trace, Vec::new(alloc));
     let mut sink = MemSink::new(alloc, Vec::new(alloc));
     let mut dev = device(alloc, 0, &[])?;
-    let outcome = run(alloc, &words, &mut source, &mut sink, &mut dev);
+    let outcome = run(
+        alloc,
+        &words,
+        &mut source,
+        &mut sink,
+        &mut dev,
+        &mut NoProgress,
+    );
     Ok(outcome.status == status && sink.bytes() == text)
 }
 

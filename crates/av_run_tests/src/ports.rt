@@ -105,7 +105,7 @@ fn writes_so(
 /// Whether a row's run ends as it has to at each call of the source that fails: the lines done are
 /// those whose newline was taken before.
 fn goes_at_each_read(alloc: Global, ends: &Ends<'_>) -> Result<bool, AllocError> {
-    let all = ends.row.turns.len();
+    let all = ends.lines.len();
     // A first call gives everything, and the second one tells the end.
     if !reads_so(alloc, ends, false, 1, Status::ReadFault, 0)?
         || !reads_so(alloc, ends, false, 2, Status::ReadFault, all)?
@@ -132,8 +132,8 @@ fn goes_at_each_read(alloc: Global, ends: &Ends<'_>) -> Result<bool, AllocError>
 /// Whether a row's run ends as it has to at each call of the sink that fails: the line whose text
 /// failed is the last one done.
 fn goes_at_each_write(alloc: Global, ends: &Ends<'_>) -> Result<bool, AllocError> {
-    let whole = Ended::after(Status::Done, ends.row.turns.len());
-    for done in 0..ends.row.turns.len() {
+    let whole = Ended::after(Status::Done, ends.lines.len());
+    for done in 0..ends.lines.len() {
         let wanted = Ended::after(Status::WriteFault, done.saturating_add(1));
         if !writes_so(
             alloc,
@@ -168,7 +168,7 @@ fn goes_at_each_write(alloc: Global, ends: &Ends<'_>) -> Result<bool, AllocError
 /// Whether a row's run ends as it has to at each call of its source and of its sink that fails.
 fn goes_at_each_call(alloc: Global, row: &Row) -> Result<bool, AllocError> {
     let lines = lines_of(alloc, row)?;
-    let replies = replies_of(alloc, row, &[])?;
+    let replies = replies_of(alloc, row, "")?;
     let ends = Ends {
         row,
         lines: &lines,

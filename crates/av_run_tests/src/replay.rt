@@ -1,3 +1,5 @@
+//! How runs end: by their words, their lines, and the call of a port that fails.
+
 use av_io::{MemSink, MemSource};
 use av_replay::*;
 use av_swapdev::MemDev;
@@ -66,7 +68,7 @@ const CASES: [Case; 11] = [
         ..WHOLE
     },
     Case {
-        words: &["run", "4", "s", "t"],
+        words: &["run", "4", "a", "b", "c", "d", "e", "f", "g", "h", "i"],
         status: Status::Usage,
         text: b"",
         steps: None,
@@ -128,7 +130,14 @@ fn run_on(alloc: Global, case: &Case) -> Result<Ran, AllocError> {
     let mut source = MemSource::new(trace, vec![in alloc; case.read_fails]?);
     let mut text = MemSink::new(alloc, vec![in alloc; case.write_fails]?);
     let mut dev = MemDev::new(Vec::new(alloc), vec![in alloc; case.dev_fails]?);
-    let outcome = run(alloc, &words, &mut source, &mut text, &mut dev);
+    let outcome = run(
+        alloc,
+        &words,
+        &mut source,
+        &mut text,
+        &mut dev,
+        &mut NoProgress,
+    );
     Ok(Ran { text, outcome })
 }
 

@@ -6,29 +6,29 @@ ghost use Rattle.av_replay.specs.Attach.{HasNone};
 use av_io::{Sink, Source};
 use av_replay::*;
 use av_swapdev::SwapDev;
+use av_text::Bytes;
+use av_text::number::add_decimal;
 use std::alloc::{AllocError, Global};
-
-/// Replies that are others, each with the number of its line from 0.
-pub type Changes = &'static [(usize, &'static str)];
 
 /// What changes where one call of the device fails. The first call attaches the area, and the
 /// second reads its header.
 #[derive(Clone, Copy)]
-pub struct Fault {
+pub struct Failure {
     pub call: u64,
-    pub changes: Changes,
+    pub changes: &'static str,
 }
 
-/// A run on so many frames, over a swap area with so many pages where there are any: each line with
-/// its reply; what changes for each call of the device that fails; and what changes over a device
-/// that gives back other pages than it was given.
+/// A run on so many frames, over a swap area with so many pages where there are any: each line
+/// behind `> `, with the reply below it; what changes for each call of the device that fails; and
+/// what changes over a device that gives back other pages than it was given. What changes has the
+/// number of a line, from 0, in the place of the line.
 #[derive(Clone, Copy)]
 pub struct Row {
     pub frames: &'static str,
     pub pages: u32,
-    pub turns: &'static [(&'static str, &'static str)],
-    pub faults: &'static [Fault],
-    pub lies: Changes,
+    pub turns: &'static str,
+    pub failures: &'static [Failure],
+    pub lies: &'static str,
 }
 
 /// Texts one behind the other, and where each of them ends.
@@ -47,11 +47,34 @@ impl Texts {
         }
     }
 
+    /// How many texts there are.
+    pub fn len(&self) -> usize {
+        self.ends.len()
+    }
+
     /// One text more.
-    pub fn add(&mut self, text: &str) -> Result<(), AllocError> {
-        self.bytes.extend_from_slice(text.as_bytes())?;
+    fn add(&mut self, text: &[u8]) -> Result<(), AllocError> {
+        self.bytes.extend_from_slice(text)?;
         self.ends.push(self.bytes.len())?;
         Ok(())
+    }
+
+    /// The last text goes on with a line.
+    fn add_line(&mut self, line: &str) -> Result<(), AllocError> {
+        self.bytes.extend_from_slice(line.as_bytes())?;
+        self.bytes.push(b'\n')?;
+        if let Some(end) = self.ends.last_mut() {
+            *end = self.bytes.len();
+        }
+        Ok(())
+    }
+
+    /// The text of this number.
+    fn get(&self, number: usize) -> &[u8] {
+        let start = self.first(number).len();
+        self.first(number.saturating_add(1))
+            .get(start..)
+            .unwrap_or(&[])
     }
 
     /// The first so many bytes.
@@ -81,30 +104,64 @@ impl Texts {
     }
 }
 
-/// The lines of a row.
-pub fn lines_of(alloc: Global, row: &Row) -> Result<Texts, AllocError> {
-    let mut lines = Texts::new(alloc);
-    for (line, _reply) in row.turns {
-        lines.add(line)?;
-    }
-    Ok(lines)
+/// What stands behind each `> ` of a text, and below it.
+#[derive(Drop)]
+struct Turns {
+    heads: Texts,
+    replies: Texts,
 }
 
-/// What is changed in the reply to this line.
-fn changed(changes: Changes, line: usize) -> Option<&'static str> {
-    for (number, reply) in changes {
-        if *number == line {
-            return Some(reply);
+impl Turns {
+    /// Those of a text.
+    fn of(alloc: Global, text: &str) -> Result<Turns, AllocError> {
+        let mut heads = Texts::new(alloc);
+        let mut replies = Texts::new(alloc);
+        for line in text.lines() {
+            match line.strip_prefix("> ") {
+                Some(head) => {
+                    heads.add(b"")?;
+                    heads.add_line(head)?;
+                    replies.add(b"")?;
+                }
+                None => replies.add_line(line)?,
+            }
         }
+        Ok(Turns { heads, replies })
     }
-    None
+
+    /// The reply below this head, if it is one.
+    fn reply_to(&self, head: &[u8]) -> Option<&[u8]> {
+        for number in 0..self.heads.len() {
+            if self.heads.get(number) == head {
+                return Some(self.replies.get(number));
+            }
+        }
+        None
+    }
+}
+
+/// The lines of a row.
+pub fn lines_of(alloc: Global, row: &Row) -> Result<Texts, AllocError> {
+    Ok(Turns::of(alloc, row.turns)?.heads)
+}
+
+/// A number as a head.
+fn head_of(alloc: Global, number: usize) -> Result<Vec<u8>, AllocError> {
+    let mut digits = Bytes::new(alloc);
+    add_decimal(&mut digits, number as u64)?;
+    let mut head = Vec::from_slice(alloc, digits.as_slice())?;
+    head.push(b'\n')?;
+    Ok(head)
 }
 
 /// The replies of a row, with these changes.
-pub fn replies_of(alloc: Global, row: &Row, changes: Changes) -> Result<Texts, AllocError> {
+pub fn replies_of(alloc: Global, row: &Row, changes: &str) -> Result<Texts, AllocError> {
+    let own = Turns::of(alloc, row.turns)?.replies;
+    let changed = Turns::of(alloc, changes)?;
     let mut replies = Texts::new(alloc);
-    for (number, (_line, reply)) in row.turns.iter().enumerate() {
-        replies.add(changed(changes, number).unwrap_or(reply))?;
+    for number in 0..own.len() {
+        let head = head_of(alloc, number)?;
+        replies.add(changed.reply_to(head.as_slice()).unwrap_or(own.get(number)))?;
     }
     Ok(replies)
 }
@@ -142,7 +199,7 @@ pub fn run_row<S: Source, K: Sink, D: SwapDev>(
     if row.pages > 0 {
         words.push(String::from_str(alloc, "swap")?)?;
     }
-    let outcome = run(alloc, &words, source, sink, dev);
+    let outcome = run(alloc, &words, source, sink, dev, &mut NoProgress);
     let steps = match &outcome.kernel {
         Some(kernel) => Some(kernel.steps_done()),
         None => None,

@@ -38,7 +38,7 @@ fn add_fork(
 /// entry of each process then.
 fn goes(alloc: Global, row: &Row) -> Result<bool, AllocError> {
     let mut lines = lines_of(alloc, row)?.bytes;
-    let mut replies = replies_of(alloc, row, &[])?.bytes;
+    let mut replies = replies_of(alloc, row, "")?.bytes;
     for child in 2..MOST_ALIVE + 2 {
         add_fork(alloc, child, &mut lines, &mut replies)?;
     }
@@ -51,7 +51,14 @@ fn goes(alloc: Global, row: &Row) -> Result<bool, AllocError> {
     for word in ["run", row.frames, "swap"] {
         words.push(String::from_str(alloc, word)?)?;
     }
-    let outcome = run(alloc, &words, &mut source, &mut sink, &mut dev);
+    let outcome = run(
+        alloc,
+        &words,
+        &mut source,
+        &mut sink,
+        &mut dev,
+        &mut NoProgress,
+    );
     let Some(kernel) = &outcome.kernel else {
         return Ok(false);
     };

@@ -130,7 +130,14 @@ fn goes_so(alloc: Global, case: &Case) -> Result<bool, AllocError> {
     let mut source = MemSource::new(Vec::from_slice(alloc, case.trace)?, Vec::new(alloc));
     let mut text = MemSink::new(alloc, Vec::new(alloc));
     let mut dev = device(alloc, case.pages, case.failing)?;
-    let outcome = run(alloc, &words, &mut source, &mut text, &mut dev);
+    let outcome = run(
+        alloc,
+        &words,
+        &mut source,
+        &mut text,
+        &mut dev,
+        &mut NoProgress,
+    );
     Ok(outcome.status == Status::Done && text.bytes() == case.text && holds(&dev, case))
 }
 

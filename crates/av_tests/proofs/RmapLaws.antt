@@ -14,7 +14,7 @@ use Rattle.av_rmap.specs.View.{AreApart, view_with}
 use Rattle.av_rmap.specs.Walk.{AreItsEntries, Key, is_held, names_frame}
 use Rattle.av_rmap.proofs.Counting.{keys-as-long}
 use Rattle.av_rmap.proofs.LinkedAreas.{spans-are-areas}
-use Rattle.av_vma.specs.Join.{index_of}
+use Rattle.av_vma.specs.Index.{index_of}
 use Rattle.av_vma.specs.Pages.{has_page}
 use Rattle.av_vma.specs.declared.area.Area.{Area}
 use Rattle.av_interval.specs.declared.span.Span.{Span}
@@ -56,7 +56,8 @@ no_loan areas chain id = by (areas id)
     by (Some A) = refl
 
 -- the first area is the one user
-pub one_user : (f f' : Family) (id : ℕ) (loan : Option ℕ) → loan ≡ None → f.next ≡ 0 → f.users 0 ≡ [] → f' ≡ after_prepare id loan f → f'.users 0 ≡ id ∷ []
+pub one_user : (f f' : Family) (id : ℕ) (loan : Option ℕ) → loan ≡ None → f.next ≡ 0 → f.users 0 ≡ [] → f' ≡ after_prepare id loan f
+    → f'.users 0 ≡ id ∷ []
 one_user f f' id loan none first unused is =
     ap (λ (g : Family). g.users 0) (is ∙ ap (λ o. after_prepare id o f) none)
     ∙ ap (λ n. cond (0 == n || false) (f.users 0 ++ id ∷ []) (f.users 0)) first
@@ -110,21 +111,24 @@ put_only id A B old new n put is = by (n == id) refl (sym (put n) ∙ is)
     by false e h = inr h
 
 pub are_three : (none one two three : ℕ → Option Area) (a b c : ℕ) → ((n : ℕ) → none n ≡ None) → ((n : ℕ) → one n ≡ with_at a (Some parent) none n)
-    → one b ≡ None → ((n : ℕ) → two n ≡ with_at b (Some child) one n) → two c ≡ None → ((n : ℕ) → three n ≡ with_at c (Some other) two n) → AreThree three a b c
+    → one b ≡ None → ((n : ℕ) → two n ≡ with_at b (Some child) one n) → two c ≡ None → ((n : ℕ) → three n ≡ with_at c (Some other) two n)
+    → AreThree three a b c
 are_three none one two three a b c nothing put-a free-b put-b free-c put-c = record {
   first = put_other c other parent two three a free-c put-c (put_other b child parent one two a free-b put-b (put_here a parent none one put-a));
   second = put_other c other child two three b free-c put-c (put_here b child one two put-b);
   third = put_here c other two three put-c;
-  only = λ n A is. elim (put_only c other A two three n put-c is) as (λ _. ((n ≡ c) × (A ≡ other)) ⊎ (((n ≡ b) × (A ≡ child)) ⊎ ((n ≡ a) × (A ≡ parent)))) [
-    | inl h ↦ inl h
-    | inr h ↦ elim (put_only b child A one two n put-b h) as (λ _. ((n ≡ c) × (A ≡ other)) ⊎ (((n ≡ b) × (A ≡ child)) ⊎ ((n ≡ a) × (A ≡ parent)))) [
-      | inl h ↦ inr (inl h)
-      | inr h ↦ elim (put_only a parent A none one n put-a h) as (λ _. ((n ≡ c) × (A ≡ other)) ⊎ (((n ≡ b) × (A ≡ child)) ⊎ ((n ≡ a) × (A ≡ parent)))) [
-        | inl h ↦ inr (inr h)
-        | inr h ↦ absurd (clash A (sym (nothing n) ∙ h))
-      ]
-    ]
-  ];
+  only = λ n A is. elim (put_only c other A two three n put-c is) as
+      (λ _. ((n ≡ c) × (A ≡ other)) ⊎ (((n ≡ b) × (A ≡ child)) ⊎ ((n ≡ a) × (A ≡ parent)))) [
+        | inl h ↦ inl h
+        | inr h ↦ elim (put_only b child A one two n put-b h) as (λ _. ((n ≡ c) × (A ≡ other)) ⊎ (((n ≡ b) × (A ≡ child)) ⊎ ((n ≡ a) × (A ≡ parent)))) [
+          | inl h ↦ inr (inl h)
+          | inr h ↦ elim (put_only a parent A none one n put-a h) as
+              (λ _. ((n ≡ c) × (A ≡ other)) ⊎ (((n ≡ b) × (A ≡ child)) ⊎ ((n ≡ a) × (A ≡ parent)))) [
+                | inl h ↦ inr (inr h)
+                | inr h ↦ absurd (clash A (sym (nothing n) ∙ h))
+              ]
+        ]
+      ];
 }
   where
     clash : (A : Area) → None ≡ Some A → ⊥
@@ -195,7 +199,8 @@ module _ (areas : ℕ → Option Area) (f : Family) (spans : ℕ → List Span) 
   two_entries k = by (k.0 == 1 && k.1 == 11) (k.0 == 2 && k.1 == 11) refl refl ∙ sym (ap (λ e. one_if (names_frame 7 e)) (entries k.0 k.1))
     where
       both : (k.0 == 1 && k.1 == 11) ≡ true → (k.0 == 2 && k.1 == 11) ≡ true → ⊥
-      both e d = let one : k.0 ≡ 1 = grind (arith, nat_tests, e) in let two : k.0 ≡ 2 = grind (arith, nat_tests, d) in absurd (omega (arith, one, two))
+      both e d = let one : k.0 ≡ 1 = grind (arith, nat_tests, e) in let two : k.0 ≡ 2 = grind (arith, nat_tests, d) in
+          absurd (omega (arith, one, two))
 
       by : (x y : Bool) → (k.0 == 1 && k.1 == 11) ≡ x → (k.0 == 2 && k.1 == 11) ≡ y →
           cond x 1 0 + (cond y 1 0 + 0) ≡ one_if (names_frame 7 (cond y frame_7 (cond x frame_7 Empty)))
@@ -205,7 +210,8 @@ module _ (areas : ℕ → Option Area) (f : Family) (spans : ℕ → List Span) 
       by false false e d = refl
 
   pub two_at_most : (keys : List Key) → AreItsEntries (view_with areas f spans entry) (names_frame 7) keys → length keys ≤ 2
-  two_at_most keys its = let same : length keys ≡ 2 = keys-as-long keys ((1, 11) ∷ (2, 11) ∷ []) (λ k. its k ∙ sym (two_entries k)) in omega (arith, same)
+  two_at_most keys its = let same : length keys ≡ 2 = keys-as-long keys ((1, 11) ∷ (2, 11) ∷ []) (λ k. its k ∙ sym (two_entries k)) in
+      omega (arith, same)
 
   pub two_looks : f.users 0 ≡ a ∷ b ∷ c ∷ [] → how_many (overlaps 11) (spans 0) ≡ 2
   two_looks users = spans-are-areas areas f spans 0 11 order ∙ ap (how_many (λ n. is_held 11 (areas n))) users

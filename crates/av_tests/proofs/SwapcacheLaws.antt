@@ -19,7 +19,8 @@ pub spare_kept : (f : ℕ) (h now : Shown) → now.find ≡ h.find → IsUncache
 spare_kept f h now e spare t is = spare t (sym (λ i. e i t) ∙ is)
 
 -- another frame caches a slot, or none does
-pub spare_changed : (f : ℕ) (x : Option ℕ) (s : Slot) (h now : Shown) → now.find ≡ with_slot s x h.find → (x ≡ Some f → ⊥) → IsUncached h f → IsUncached now f
+pub spare_changed : (f : ℕ) (x : Option ℕ) (s : Slot) (h now : Shown) → now.find ≡ with_slot s x h.find → (x ≡ Some f → ⊥) → IsUncached h f
+    → IsUncached now f
 spare_changed f x s h now e other spare t is = by (same_slot t s) (sym (λ i. e i t) ∙ is)
   where
     by : (b : Bool) → cond b x (h.find t) ≡ Some f → ⊥
@@ -37,7 +38,8 @@ spare_put s h now e none = spare_changed 1 (Some 0) s h now e other (λ t is. ne
     never e = cc
 
 -- no slot is in use where none was
-pub unused_when_idle : (sizes : ℕ → Option ℕ) (h now : Shown) → IsIdle sizes h → now.find ≡ h.find → now.entries ≡ h.entries → (s : Slot) → count_of now s ≡ 0
+pub unused_when_idle : (sizes : ℕ → Option ℕ) (h now : Shown) → IsIdle sizes h → now.find ≡ h.find → now.entries ≡ h.entries → (s : Slot)
+    → count_of now s ≡ 0
 unused_when_idle sizes h now idle f e s = λ i. unnamed i + cond (is_some (nowhere i)) 1 0
   where
     unnamed : now.entries s ≡ 0
@@ -63,17 +65,20 @@ on_find told k pages priority Busy h now a = λ i. (a.1 i).find
 on_find told k pages priority Io h now a = λ i. (a.1 i).find
 on_find told k pages priority (Bad fault) h now a = λ i. (a.4 i).find
 
-on_entries : (told : Option (ℕ → ℕ → List ℕ)) (k pages : ℕ) (priority : ℤ) (answer : SwapOn) (h now : Shown) → Answers told k pages priority answer h now
+on_entries : (told : Option (ℕ → ℕ → List ℕ)) (k pages : ℕ) (priority : ℤ) (answer : SwapOn) (h now : Shown)
+    → Answers told k pages priority answer h now
     → now.entries ≡ h.entries
 on_entries told k pages priority (On header) h now a = λ i. (a.8 i).entries
 on_entries told k pages priority Busy h now a = λ i. (a.1 i).entries
 on_entries told k pages priority Io h now a = λ i. (a.1 i).entries
 on_entries told k pages priority (Bad fault) h now a = λ i. (a.4 i).entries
 
-pub on_idle : (told : Option (ℕ → ℕ → List ℕ)) (sizes after : ℕ → Option ℕ) (k pages : ℕ) (priority : ℤ) (answer : SwapOn) (h now : Shown) (n : ℕ) → h ≡ fresh n
+pub on_idle : (told : Option (ℕ → ℕ → List ℕ)) (sizes after : ℕ → Option ℕ) (k pages : ℕ) (priority : ℤ) (answer : SwapOn) (h now : Shown)
+    (n : ℕ) → h ≡ fresh n
     → after ≡ sizes → sizes k ≡ Some pages → Answers told k pages priority answer h now → IsIdle after now
 on_idle told sizes after k pages priority answer h now n e same there a = record {
-  areas = subst (λ x. HasAreas x now) (sym same) (on_areas told sizes k pages priority answer h now (subst (λ x. HasAreas sizes x) (sym e) (λ j. tt)) there a);
+  areas = subst (λ x. HasAreas x now) (sym same)
+      (on_areas told sizes k pages priority answer h now (subst (λ x. HasAreas sizes x) (sym e) (λ j. tt)) there a);
   uncached = λ s. (λ i. on_find told k pages priority answer h now a i s) ∙ (λ i. (e i).find s);
   unnamed = λ s. (λ i. on_entries told k pages priority answer h now a i s) ∙ (λ i. (e i).entries s);
 }

@@ -1,3 +1,5 @@
+//! A tree of entries that sums up whether one is marked: their order, and the sum as they change.
+
 ghost use Rattle.std.specs.Prelude.{◌≡◌, [], ◌∷◌, false, true, ◌||◌, OnOk};
 ghost use Rattle.av_arena.specs.Any.{any_laws};
 

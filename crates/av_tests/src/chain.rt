@@ -1,3 +1,5 @@
+//! Links of areas and anon_vmas: an area leaves all of its own, and a refused link is made later.
+
 ghost use Rattle.std.specs.Prelude.{◌≡◌, ◌<◌};
 
 use av_base::Steps;
@@ -6,7 +8,7 @@ use std::alloc::{AllocError, Global};
 use std::marker::Brand;
 use std::sync::ledger::{Blank, Ledger};
 
-// Takes an area out, in steps that a new ledger counts.
+/// Takes an area out, in steps that a new ledger counts.
 fn unlink_by<L: Ledger>(links: &mut Links, area: u64, blank: Blank)
     requires name { blank.name ≡ L.name }
     requires parts { blank.parts ≡ L.parts }
@@ -16,12 +18,14 @@ fn unlink_by<L: Ledger>(links: &mut Links, area: u64, blank: Blank)
     links.unlink_all(area, &mut steps);
 }
 
+/// Takes an area out, in steps that nobody looks at.
 fn unlink(links: &mut Links, area: u64, blank: Blank)
     requires { 0 < blank.parts }
 {
     unlink_by::<Brand>(links, area, blank);
 }
 
+/// Links an area to an anon_vma, unless it is linked already.
 fn link(links: &mut Links, area: u64, anon: u64) -> Result<(), AllocError> {
     if links.has(area, anon) {
         return Ok(());
@@ -71,8 +75,8 @@ fn an_area_leaves_its_lists(rt: HostRuntime) -> Result<(), AllocError> {
     Ok(())
 }
 
-// With memory refused once, at any allocation, nothing is half done: the link is made the second
-// time.
+/// With memory refused once, at any allocation, nothing is half done: the link is made the second
+/// time.
 #[test]
 fn a_refused_link_can_be_made_again(rt: HostRuntime) -> Result<(), AllocError> {
     let mut links = Links::new(rt.alloc());

@@ -1,3 +1,5 @@
+//! The order in which the slots of an area are given, cluster by cluster.
+
 use av_clusters::Clusters;
 use std::alloc::AllocError;
 

@@ -1,3 +1,5 @@
+//! Frames: which one is taken next, the bytes of one, and what else is kept of it.
+
 use av_base::{PAGE_SIZE, Slot};
 use av_frames::Frames;
 use std::alloc::AllocError;

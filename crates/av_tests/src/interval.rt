@@ -1,3 +1,5 @@
+//! Searches among a thousand spans, with as many steps as they take.
+
 ghost use Rattle.std.specs.Prelude.{◌≡◌, ◌<◌};
 
 use av_base::Steps;

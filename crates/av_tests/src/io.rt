@@ -1,3 +1,5 @@
+//! Sources and sinks, in memory and over readers and writers that fail or are interrupted.
+
 ghost use Rattle.std.specs.Prelude.{◌≤◌, IfOk};
 
 use crate::paths::path_of_test;
@@ -80,7 +82,7 @@ impl Write for Faulty {
 }
 
 #[test]
-fn faults_of_a_reader(rt: HostRuntime) {
+fn failures_of_a_reader(rt: HostRuntime) {
     let mut source = ReadSource::new(Faulty { calls: 0 });
     let rows: [Option<&[u8]>; 3] = [Some(&[0, 0]), None, Some(&[])];
     for wanted in rows {
@@ -111,7 +113,7 @@ fn a_read_that_signals_interrupt(rt: HostRuntime) {
 }
 
 #[test]
-fn faults_of_a_writer(rt: HostRuntime) -> Result<(), Fail> {
+fn failures_of_a_writer(rt: HostRuntime) -> Result<(), Fail> {
     let mut sink = WriteSink::new(rt.alloc(), Faulty { calls: 0 })?;
     for works in [true, false, false, true] {
         assert!(rt; takes(&mut sink, b"ab"));

@@ -1,3 +1,5 @@
+//! Frames join the two lists, and move in them.
+
 ghost use Rattle.std.specs.Prelude.{◌≡◌, ◌≤◌, [], vec_capacity};
 
 use av_lru::{Lru, Which};

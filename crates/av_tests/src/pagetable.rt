@@ -1,7 +1,10 @@
+//! Entries of processes, and tables that are given back when no entry is left in them.
+
 use av_base::Slot;
 use av_pagetable::{MapTable, PageTable, Pte, RadixTable, Table, Tables};
 use std::alloc::AllocError;
 
+/// An entry whose page is at a slot.
 const AWAY: Pte = Pte::Away {
     slot: Slot { area: 0, page: 7 },
 };
@@ -74,7 +77,7 @@ fn processes_come_and_go(rt: HostRuntime) -> Result<(), AllocError> {
     assert!(rt; tables.process_from(0) == Some(4));
     assert!(rt; tables.process_from(5) == Some(9));
     assert!(rt; tables.process_from(10) == None);
-    tables.end(9);
+    tables.exit(9);
     assert!(rt; tables.process_from(5) == None && tables.of(9).is_none());
     if let Some(table) = tables.of_mut(4) {
         table.set(1, Pte::Zero)?;

@@ -1,3 +1,5 @@
+//! Names for the files of tests.
+
 use std::env;
 use std::path::PathBuf;
 use std::test::Fail;

@@ -1,4 +1,7 @@
-ghost use Rattle.std.specs.Prelude.{◌≡◌, ℕ, ◌+◌, ◌<◌, ◌≤◌, ◌++◌, List, [], ◌∷◌, false, length, None, Some, IfOk, OnOk};
+//! A walk finds the entries of two processes that share a frame, and their seen bits are cleared.
+
+ghost use Rattle.std.specs.Prelude.{◌≡◌, ℕ, ◌+◌, ◌<◌, ◌≤◌, ◌++◌, List, [], ◌∷◌, false, length};
+ghost use Rattle.std.specs.Prelude.{None, Some, IfOk, OnOk};
 ghost use Rattle.av_anon.specs.Anons.{family, nobody, own_of};
 ghost use Rattle.av_anon.specs.Order.{IsArea};
 ghost use Rattle.av_anon.specs.Spans.{spans_of};
@@ -54,6 +57,7 @@ const OTHER: Area = Area {
     ..PARENT
 };
 
+/// An entry that names frame 7.
 const FRAME_7: Pte = Pte::Here {
     frame: 7,
     write: false,

@@ -1,3 +1,5 @@
+//! A frame goes out to a slot and comes back; an area goes on, is closed, and goes off.
+
 ghost use Rattle.std.specs.Prelude.{◌≡◌, ℕ, Some, true, IfSome, IfOk};
 ghost use Rattle.av_swapcache.specs.Swap.{HasAreas, IsUncached, fresh, shown};
 ghost use Rattle.av_tests.specs.Swapcache.{AreKept, IsIdle, Serves};

@@ -1,3 +1,5 @@
+//! Headers and their faults; devices in memory, over files in memory, and over files of the host.
+
 ghost use Rattle.std.specs.Prelude.{◌≡◌, ◌+◌, ◌<◌, ◌≤◌, if◌then◌else◌, Some, true, false, length};
 ghost use Rattle.av_io.specs.Count.{one_more};
 
@@ -162,7 +164,7 @@ fn bytes_of_test(alloc: Global) -> Result<Vec<u8>, AllocError> {
 struct MemFile {
     bytes: Vec<u8>,
     calls: u64,
-    faults: u64,
+    failures: u64,
     failing: u64,
     len: u64,
 }
@@ -173,15 +175,15 @@ impl MemFile {
         ensures within { result ≡ false → place + count ≤ length self.old.bytes.items }
         ensures same { (self.new.bytes ≡ self.old.bytes) × (self.new.len ≡ self.old.len) }
         ensures calls { self.new.calls ≡ one_more self.old.calls }
-        ensures faults { self.new.faults ≡
-            (if result then one_more self.old.faults else self.old.faults) }
+        ensures failures { self.new.failures ≡
+            (if result then one_more self.old.failures else self.old.failures) }
     {
         self.calls = self.calls.saturating_add(1);
         let held = self.bytes.len() as u64;
         if self.calls != self.failing && place <= held && count as u64 <= held - place {
             return false;
         }
-        self.faults = self.faults.saturating_add(1);
+        self.failures = self.failures.saturating_add(1);
         true
     }
 }
@@ -191,7 +193,7 @@ impl SwapFile for MemFile {
       bytes = Some f.bytes.items;
       len = f.len;
       calls = f.calls;
-      faults = f.faults;
+      failures = f.failures;
     } };
 
     fn len(&self) -> u64 {
@@ -223,7 +225,7 @@ struct MemFiles {
     bytes: Vec<u8>,
     failing: u64,
     calls: u64,
-    faults: u64,
+    failures: u64,
     shortages: u64,
 }
 
@@ -233,14 +235,14 @@ impl SwapFiles for MemFiles {
     ghost view = { λ h. record {
       named = Some (λ _. h.bytes.items);
       calls = h.calls;
-      faults = h.faults;
+      failures = h.failures;
       shortages = h.shortages;
     } };
 
     fn open(&mut self, name: &str) -> Result<MemFile, AttachErr> {
         self.calls = self.calls.saturating_add(1);
         if name.is_empty() {
-            self.faults = self.faults.saturating_add(1);
+            self.failures = self.failures.saturating_add(1);
             return Err(AttachErr::Failed);
         }
         let Ok(bytes) = self.bytes.clone() else {
@@ -251,7 +253,7 @@ impl SwapFiles for MemFiles {
             len: bytes.len() as u64,
             bytes,
             calls: 0,
-            faults: 0,
+            failures: 0,
             failing: self.failing,
         })
     }
@@ -282,7 +284,7 @@ fn files_in_memory(rt: HostRuntime) -> Result<(), Fail> {
         bytes: bytes_of_test(rt.alloc())?,
         failing: 4,
         calls: 0,
-        faults: 0,
+        failures: 0,
         shortages: 0,
     };
     let mut device = FileDev::new(rt.alloc(), files)?;

@@ -1,3 +1,5 @@
+//! A slot's count as Linux keeps it: a byte, and digits beside it.
+
 ghost use Rattle.std.specs.Prelude.{◌≡◌, ◌<◌, IfOk};
 ghost use Rattle.av_swapmap.specs.Counts.{shown};
 

@@ -1,3 +1,5 @@
+//! The bytes that a line stores.
+
 use av_text::Bytes;
 use av_trace::*;
 use std::alloc::Global;

@@ -1,7 +1,10 @@
+//! Areas are kept by number.
+
 use av_base::Prot;
 use av_vma::*;
 use std::test::Fail;
 
+/// An area of this process.
 fn area(pid: u16) -> Area {
     Area {
         pid,

@@ -1,3 +1,5 @@
+//! The tree of one process's areas: what is found at a page or beside it, and where a gap is.
+
 use av_vmatree::*;
 use std::test::Fail;
 

@@ -15,7 +15,8 @@ there_next : (i j : ℕ) (old : List Span) → ((j : ℕ) → j < i → IsSome (
     IsSome (entry_at key (key_of (10 * j) j) (with_entry key (triple (10 * i) (10 * i + 4) i) old))
 there_next i j old f h = elim (cases_lt j i) [
   | inl k ↦ there_with (key_of (10 * j) j) (triple (10 * i) (10 * i + 4) i) old (f j k)
-  | inr k ↦ let e : i ≡ j = omega arith in subst (λ m. IsSome (entry_at key (key_of (10 * m) m) (with_entry key (triple (10 * i) (10 * i + 4) i) old))) e
+  | inr k ↦ let e : i ≡ j = omega arith in
+      subst (λ m. IsSome (entry_at key (key_of (10 * m) m) (with_entry key (triple (10 * i) (10 * i + 4) i) old))) e
       (there_new (triple (10 * i) (10 * i + 4) i) old)
 ]
 

@@ -15,7 +15,8 @@ returns-clause-order c =
     let mid = area_of c.add.new.self in
     let loan = loan_to mid f.chain id None None in
     let order : IsInOrder mid f (spans_of c.args.anons.now) =
-    bare_comes (area_of c.args.areas.now) mid f (spans_of c.args.anons.now) id c.args.area c.requires.order c.in_ok-id.ensures.unused c.in_ok-id.ensures.added
+    bare_comes (area_of c.args.areas.now) mid f (spans_of c.args.anons.now) id c.args.area c.requires.order c.in_ok-id.ensures.unused
+    c.in_ok-id.ensures.added
     c.requires.bare c.requires.fits in
     order_by (area_of c.prepare.new.areas) (give_own id (Some (own_after_prepare loan f)) mid) (family c.prepare.new.self) (after_prepare id loan f)
     (spans_of c.prepare.new.self)

@@ -19,7 +19,8 @@ returns-clause-order c =
     let mid = area_of c.add.new.self in
     let own = own_of (mid c.args.like) in
     let order : IsInOrder mid f (spans_of c.args.anons.now) =
-    bare_comes (area_of c.args.areas.now) mid f (spans_of c.args.anons.now) id c.args.area c.requires.order c.in_ok-id.ensures.unused c.in_ok-id.ensures.added
+    bare_comes (area_of c.args.areas.now) mid f (spans_of c.args.anons.now) id c.args.area c.requires.order c.in_ok-id.ensures.unused
+    c.in_ok-id.ensures.added
     c.requires.bare c.requires.fits in
     order_by (area_of c.clone_chain.new.areas) (gets_own id own mid) (family c.clone_chain.new.self) (after_clone own c.args.like id f)
     (spans_of c.clone_chain.new.self)
@@ -33,5 +34,6 @@ returns-clause-users c =
     let f = family c.args.anons.now in
     let mid = area_of c.add.new.self in
     one_more_user f (family c.clone_chain.new.self) c.args.like c.in_ok-id.id (own_of (mid c.args.like))
-    (other_number (area_of c.args.areas.now) mid c.args.area c.args.like c.in_ok-id.id c.in_ok-id.ensures.unused c.in_ok-id.ensures.added c.requires.own)
+    (other_number (area_of c.args.areas.now) mid c.args.area c.args.like c.in_ok-id.id c.in_ok-id.ensures.unused c.in_ok-id.ensures.added
+    c.requires.own)
     ((c.requires.order.chains c.args.like).own_in 0 c.requires.own) c.in_ok-clone_chain.ensures.family
