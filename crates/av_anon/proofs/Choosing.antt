@@ -4,7 +4,7 @@ use Rattle.std.specs.Prelude.{nat_lt}
 use Rattle.std.proofs.lemmas.Bool.{eqb-true, eq-eqb}
 use Rattle.av_base.specs.Words.{is_in}
 use Rattle.av_vma.specs.declared.area.Area.{Area}
-use Rattle.av_vma.specs.Join.{is_reusable}
+use Rattle.av_vma.specs.Join.{can_lend}
 use Rattle.av_anon.specs.declared.infos.Info.{Info}
 use Rattle.av_anon.specs.Anons.{Family, IsRising, own_of}
 use Rattle.av_anon.specs.Fork.{child_chain, child_family, is_idle, member_to_reuse}
@@ -32,10 +32,11 @@ one_node areas chain area (Some n) v h = by_area (areas n) refl h
     by_test true o h = (refl, h)
     by_test false o h = absurd (none_some h)
 
-    by_area : (o : Option Area) → areas n ≡ o → loan_by (length (chain n)) area o ≡ Some v → (m : ℕ) × (own_of (areas m) ≡ Some v) × (length (chain m) ≡ 1)
+    by_area : (o : Option Area) → areas n ≡ o → loan_by (length (chain n)) area o ≡ Some v
+        → (m : ℕ) × (own_of (areas m) ≡ Some v) × (length (chain m) ≡ 1)
     by_area None e h = absurd (none_some h)
     by_area (Some other) e h =
-        let both = by_test (is_reusable area other (length (chain n))) other.anon h in
+        let both = by_test (can_lend area other (length (chain n))) other.anon h in
         (n, ap own_of e ∙ both.1, one (length (chain n)) _ both.0)
 
 pub one_node_near : (areas : ℕ → Option Area) (chain : ℕ → List ℕ) (area : Area) (before after : Option ℕ) (v : ℕ)
@@ -57,7 +58,8 @@ pub child_family_chain : (reuse : Option ℕ) (own : ℕ) (f : Family) → (chil
 child_family_chain None own f = refl
 child_family_chain (Some v) own f = refl
 
-pub child_rising : (reuse : Option ℕ) (next : ℕ) (xs : List ℕ) → IsRising xs → ((v : ℕ) → is_in v xs ≡ true → v < next) → IsRising (child_chain reuse next xs)
+pub child_rising : (reuse : Option ℕ) (next : ℕ) (xs : List ℕ) → IsRising xs → ((v : ℕ) → is_in v xs ≡ true → v < next)
+    → IsRising (child_chain reuse next xs)
 child_rising None next xs rising below = rising_more xs next rising below
 child_rising (Some v) next xs rising below = rising
 

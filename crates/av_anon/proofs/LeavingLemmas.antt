@@ -84,7 +84,8 @@ module _ (a v : ℕ) (users : ℕ → List ℕ) (gone : List ℕ) (info now : �
           let none : now v ≡ None = now_v ∙ ap (option_map (without_children (how_many (falls v) gone))) e in
           ap (λ o. without_anon_of o v now w) none ∙ elim (cases_eq w v) [
             | inl h ↦ ap now h ∙ none ∙ sym (at_v h)
-            | inr ne ↦ now_is w ∙ none_less (is_in w gone && has_no_other a users w) (how_many (falls w) gone) (info w) ∙ after_other w false (fall None e) ne
+            | inr ne ↦ now_is w ∙ none_less (is_in w gone && has_no_other a users w) (how_many (falls w) gone) (info w)
+                ∙ after_other w false (fall None e) ne
           ]
       by_info (Some i) e =
           let n = how_many (falls v) gone in

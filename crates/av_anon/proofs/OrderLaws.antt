@@ -109,7 +109,8 @@ clone_by areas f spans spans' src dst A o is none (Some own) e g = clone_keeps a
 pub order-clone : (areas : ℕ → Option Area) (f : Family) (spans spans' : ℕ → List Span) (src dst : ℕ) (A : Area)
     → IsInOrder areas f spans → areas dst ≡ Some A → A.anon ≡ None
     → let own = own_of (areas src) in
-    GoWithLinks (gets_own dst own areas) (after_clone own src dst f).chain spans' → IsInOrder (gets_own dst own areas) (after_clone own src dst f) spans'
+    GoWithLinks (gets_own dst own areas) (after_clone own src dst f).chain spans'
+    → IsInOrder (gets_own dst own areas) (after_clone own src dst f) spans'
 order-clone areas f spans spans' src dst A o is none = clone_by areas f spans spans' src dst A o is none (own_of (areas src)) refl
 
 module _ (areas : ℕ → Option Area) (f : Family) (spans spans' : ℕ
@@ -143,7 +144,8 @@ order-fork areas f spans spans' src dst A o is none = fork_by areas f spans span
 
 -- ---- unlink
 
-module _ (areas : ℕ → Option Area) (f : Family) (spans spans' : ℕ → List Span) (a : ℕ) (A : Area) (o : IsInOrder areas f spans) (is : areas a ≡ Some A) where
+module _ (areas : ℕ → Option Area) (f : Family) (spans spans' : ℕ → List Span) (a : ℕ) (A : Area) (o : IsInOrder areas f spans)
+    (is : areas a ≡ Some A) where
   -- an area without anon_vma keeps none
   same_own : A.anon ≡ None → (b : ℕ) → own_of (give_own a None areas b) ≡ own_of (areas b)
   same_own none b = elim (cases_eq b a) [
@@ -175,9 +177,11 @@ module _ (areas : ℕ → Option Area) (f : Family) (spans spans' : ℕ → List
     ];
   }
 
-pub order-unlink : (areas : ℕ → Option Area) (f : Family) (spans spans' : ℕ → List Span) (area : ℕ) (A : Area) → IsInOrder areas f spans → areas area ≡ Some A
+pub order-unlink : (areas : ℕ → Option Area) (f : Family) (spans spans' : ℕ → List Span) (area : ℕ) (A : Area) → IsInOrder areas f spans
+    → areas area ≡ Some A
     → let own = own_of (areas area) in
-    GoWithLinks (give_own area None areas) (after_unlink own area f).chain spans' → IsInOrder (give_own area None areas) (after_unlink own area f) spans'
+    GoWithLinks (give_own area None areas) (after_unlink own area f).chain spans'
+    → IsInOrder (give_own area None areas) (after_unlink own area f) spans'
 order-unlink areas f spans spans' a A o is =
     subst (λ m. GoWithLinks (give_own a None areas) (after_unlink m a f).chain spans'
     → IsInOrder (give_own a None areas) (after_unlink m a f) spans') (sym (ap own_of is)) (unlink_by areas f spans spans' a A o is A.anon refl)

@@ -56,12 +56,14 @@ how_many-but t t' a (x ∷ xs) same h = by (t a) refl (how_many-but t t' a xs sa
           omega (arith, rest, eq, other)
     ]
     by false e rest = elim (cases_eq x a) [
-      | inl i ↦ let none : flag (t x) ≡ 0 = ap flag (ap t i ∙ e) in let none' : flag (t' x) ≡ 0 = ap flag (ap t' i ∙ h) in omega (arith, rest, none, none')
+      | inl i ↦ let none : flag (t x) ≡ 0 = ap flag (ap t i ∙ e) in let none' : flag (t' x) ≡ 0 = ap flag (ap t' i ∙ h) in
+          omega (arith, rest, none, none')
       | inr ne ↦ let eq : flag (t x) ≡ flag (t' x) = ap flag (same x ne) in omega (arith, rest, eq)
     ]
 
 -- a test split in two
-how_many-split : (t t1 t2 : ℕ → Bool) (xs : List ℕ) → ((w : ℕ) → flag (t w) ≡ flag (t1 w) + flag (t2 w)) → how_many t xs ≡ how_many t1 xs + how_many t2 xs
+how_many-split : (t t1 t2 : ℕ → Bool) (xs : List ℕ) → ((w : ℕ) → flag (t w) ≡ flag (t1 w) + flag (t2 w))
+    → how_many t xs ≡ how_many t1 xs + how_many t2 xs
 how_many-split t t1 t2 [] h = refl
 how_many-split t t1 t2 (x ∷ xs) h = let here = h x in let rest = how_many-split t t1 t2 xs h in omega (arith, here, rest)
 
@@ -70,10 +72,12 @@ how_many-point t x zero lt = absurd (omega arith)
 how_many-point t x (suc n) lt =
     let test : ℕ → Bool = λ w. (w == x) && t w in
     let e : 0 + n ≡ n = omega arith in
-    ap (how_many test) (numbers_more 0 n) ∙ how_many-more test (range_with_len 0 n) (0 + n) ∙ ap (λ m. how_many test (range_with_len 0 n) + flag (test m)) e
+    ap (how_many test) (numbers_more 0 n) ∙ how_many-more test (range_with_len 0 n) (0 + n)
+    ∙ ap (λ m. how_many test (range_with_len 0 n) + flag (test m)) e
     ∙ elim (cases_eq n x) [
       | inl i ↦
-          let none : how_many test (range_with_len 0 n) ≡ 0 = how_many-below test (λ _. false) 0 n (λ w lt'. ap (λ b. b && t w) (ne_eqb w x (λ h. absurd
+          let none : how_many test (range_with_len 0 n) ≡ 0 =
+          how_many-below test (λ _. false) 0 n (λ w lt'. ap (λ b. b && t w) (ne_eqb w x (λ h. absurd
           (omega arith)))) ∙ nothing (range_with_len 0 n) in
           let here : flag (test n) ≡ flag (t x) = ap (λ b. flag (b && t n)) (eq-eqb n x i) ∙ ap (λ m. flag (t m)) i in
           omega (arith, none, here)
@@ -123,7 +127,8 @@ members-counted t (x ∷ xs) n rising below =
 
 child_same : (v : ℕ) (info : ℕ → Option Info) (u w : ℕ) → is_child u (with_info v less_active info w) ≡ is_child u (info w)
 child_same v info u w = elim (cases_eq w v) [
-  | inl e ↦ ap (λ b. is_child u (cond b (option_map less_active (info v)) (info w))) (eq-eqb w v e) ∙ same (info v) ∙ ap (λ m. is_child u (info m)) (sym e)
+  | inl e ↦ ap (λ b. is_child u (cond b (option_map less_active (info v)) (info w))) (eq-eqb w v e) ∙ same (info v)
+      ∙ ap (λ m. is_child u (info m)) (sym e)
   | inr ne ↦ ap (is_child u) (with_at-other v (option_map less_active (info v)) info w ne)
 ]
   where
@@ -171,10 +176,12 @@ module _ (areas : ℕ → Option Area) (f : Family) (spans : ℕ
 
   -- what is kept of one before, but for the own one's count
   before : (u : ℕ) (i : Info) → f.info u ≡ Some i
-      → (j : Info) × (info0 u ≡ Some j) × (j.root ≡ i.root) × (j.parent ≡ i.parent) × (j.children ≡ i.children) × (j.active ≡ i.active - flag (own == u))
+      → (j : Info) × (info0 u ≡ Some j) × (j.root ≡ i.root) × (j.parent ≡ i.parent) × (j.children ≡ i.children)
+      × (j.active ≡ i.active - flag (own == u))
   before u i e = elim (cases_eq u own) [
     | inl h ↦
-        let one : i.active - 1 ≡ i.active - flag (own == u) = (let f1 : flag (own == u) ≡ 1 = ap flag (eq-eqb own u (sym h)) in omega (arith, f1)) in (
+        let one : i.active - 1 ≡ i.active - flag (own == u) =
+        (let f1 : flag (own == u) ≡ 1 = ap flag (eq-eqb own u (sym h)) in omega (arith, f1)) in (
           less_active i,
           ap (λ b. cond b (option_map less_active (f.info own)) (f.info u)) (eq-eqb u own h)
               ∙ ap (λ w. option_map less_active (f.info w)) (sym h) ∙ ap (option_map less_active) e,
@@ -184,7 +191,8 @@ module _ (areas : ℕ → Option Area) (f : Family) (spans : ℕ
           one,
         )
     | inr ne ↦
-        let none : i.active ≡ i.active - flag (own == u) = (let f0 : flag (own == u) ≡ 0 = ap flag (ne_eqb own u (λ h. ne (sym h))) in omega (arith, f0)) in
+        let none : i.active ≡ i.active - flag (own == u) =
+        (let f0 : flag (own == u) ≡ 0 = ap flag (ne_eqb own u (λ h. ne (sym h))) in omega (arith, f0)) in
         (i, with_at-other own (option_map less_active (f.info own)) f.info u ne ∙ e, refl, refl, refl, none)
   ]
 
@@ -259,12 +267,14 @@ module _ (areas : ℕ → Option Area) (f : Family) (spans : ℕ
   own_in : is_in own (f.chain a) ≡ true
   own_in = (o.chains a).own_in own (ap own_of isA ∙ is_own)
 
-  children_left : (u : ℕ) → how_many (λ w. is_child u (f.info w)) (range_with_len 0 f.next) ≡ how_many (λ w. is_child u (info' w)) (range_with_len 0 f.next)
+  children_left : (u : ℕ)
+      → how_many (λ w. is_child u (f.info w)) (range_with_len 0 f.next) ≡ how_many (λ w. is_child u (info' w)) (range_with_len 0 f.next)
       + n_of u
   children_left u =
       how_many-split (λ w. is_child u (f.info w)) (λ w. is_child u (info' w)) (λ w. is_in w (f.chain a) && falls u w) (range_with_len 0 f.next) (λ w.
       ap flag (sym (child_same own f.info u w)) ∙ parts (is_in w (f.chain a)) (has_no_other a f.users w) (n_of w) (info0 w))
-      ∙ ap (λ k. how_many (λ w. is_child u (info' w)) (range_with_len 0 f.next) + k) (sym (members-counted (falls u) (f.chain a) f.next (o.chains a).rising
+      ∙ ap (λ k. how_many (λ w. is_child u (info' w)) (range_with_len 0 f.next) + k)
+      (sym (members-counted (falls u) (f.chain a) f.next (o.chains a).rising
       (o.chains a).made))
     where
       parts : (x y : Bool) (n : ℕ) (m : Option Info)
@@ -276,7 +286,8 @@ module _ (areas : ℕ → Option Area) (f : Family) (spans : ℕ
       parts false y n None = omega arith
       parts false y n (Some i) = omega arith
 
-  active_left : (u : ℕ) → how_many (λ b. owns u (own_of (areas b))) (f.users u) ≡ how_many (λ b. owns u (own_of (areas' b))) (users' u) + flag (own == u)
+  active_left : (u : ℕ)
+      → how_many (λ b. owns u (own_of (areas b))) (f.users u) ≡ how_many (λ b. owns u (own_of (areas' b))) (users' u) + flag (own == u)
   active_left u =
       let t : ℕ → Bool = λ b. owns u (own_of (areas b)) in
       let t' : ℕ → Bool = λ b. owns u (own_of (areas' b)) in
@@ -339,12 +350,14 @@ module _ (areas : ℕ → Option Area) (f : Family) (spans : ℕ
         | inr ne ↦ in_without a b (f.users u) ne ∙ o.inverse.inverse b u ∙ sym (ap (λ c. one_if (is_in u c)) (with_at-other a [] f.chain b ne))
       ];
       once = λ b u. elim (cases_eq b a) [
-        | inl e ↦ subst (λ c. how_many (λ w. u == w) c ≡ one_if (is_in u c)) (sym (ap (λ m. with_at a [] f.chain m) e ∙ with_at-here a [] f.chain)) refl
+        | inl e ↦ subst (λ c. how_many (λ w. u == w) c ≡ one_if (is_in u c))
+            (sym (ap (λ m. with_at a [] f.chain m) e ∙ with_at-here a [] f.chain)) refl
         | inr ne ↦ subst (λ c. how_many (λ w. u == w) c ≡ one_if (is_in u c)) (sym (with_at-other a [] f.chain b ne)) (o.inverse.once b u)
       ];
     };
     below = λ u h. let i = some_of (info' u) h in o.below u (was u (there0 u (stays u i.0 i.1) h));
-    linked = λ u h gone'. let i = some_of (info' u) h in still u (is_in u (f.chain a)) refl (stays u i.0 i.1) (was u (there0 u (stays u i.0 i.1) h)) gone';
+    linked = λ u h gone'. let i = some_of (info' u) h in
+        still u (is_in u (f.chain a)) refl (stays u i.0 i.1) (was u (there0 u (stays u i.0 i.1) h)) gone';
     spanned = spanned;
     areas_fit = λ b B e. elim (cases_eq b a) [
       | inl h ↦

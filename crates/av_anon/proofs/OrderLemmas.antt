@@ -68,7 +68,8 @@ chain_kept_on info info' next next' own chain same le k = record {
   rising = k.rising;
   parents = λ u j h e. subst (λ p. is_in p chain ≡ true) (sym (ap (λ (i : Info). i.parent) (is u h j e)
       ∙ (new u h).3)) (k.parents u (old u h).0 h (old u h).1);
-  roots = λ u j h e. subst (λ p. is_in p chain ≡ true) (sym (ap (λ (i : Info). i.root) (is u h j e) ∙ (new u h).2)) (k.roots u (old u h).0 h (old u h).1);
+  roots = λ u j h e. subst (λ p. is_in p chain ≡ true) (sym (ap (λ (i : Info). i.root) (is u h j e) ∙ (new u h).2))
+      (k.roots u (old u h).0 h (old u h).1);
   one_root = λ u w i j h h' e e'.
       ap (λ (i : Info). i.root) (is u h i e) ∙ (new u h).2 ∙ k.one_root u w (old u h).0 (old w h').0 h h' (old u h).1 (old w h').1
       ∙ sym (ap (λ (i : Info). i.root) (is w h' j e') ∙ (new w h').2);
@@ -78,7 +79,8 @@ chain_kept_on info info' next next' own chain same le k = record {
     old u h = some_of (info u) (k.there u h)
 
     new : (u : ℕ) (h : is_in u chain ≡ true)
-        → (j : Info) × (info' u ≡ Some j) × (j.root ≡ (some_of (info u) (k.there u h)).0.root) × (j.parent ≡ (some_of (info u) (k.there u h)).0.parent)
+        → (j : Info) × (info' u ≡ Some j) × (j.root ≡ (some_of (info u) (k.there u h)).0.root)
+        × (j.parent ≡ (some_of (info u) (k.there u h)).0.parent)
     new u h = same u (some_of (info u) (k.there u h)).0 h (some_of (info u) (k.there u h)).1
 
     is : (u : ℕ) (h : is_in u chain ≡ true) (j : Info) → info' u ≡ Some j
@@ -96,7 +98,8 @@ numbers_more a zero = let e : a ≡ a + 0 = omega arith in ap (λ k. k ∷ []) e
 numbers_more a (suc n) = let e : (a + 1) + n ≡ a + suc n = omega arith in ap (λ xs. a ∷ xs)
     (numbers_more (a + 1) n ∙ ap (λ k. range_with_len (a + 1) n ++ k ∷ []) e)
 
-pub how_many-below : (t t' : ℕ → Bool) (a n : ℕ) → ((w : ℕ) → w < a + n → t w ≡ t' w) → how_many t (range_with_len a n) ≡ how_many t' (range_with_len a n)
+pub how_many-below : (t t' : ℕ → Bool) (a n : ℕ) → ((w : ℕ) → w < a + n → t w ≡ t' w)
+    → how_many t (range_with_len a n) ≡ how_many t' (range_with_len a n)
 how_many-below t t' a zero h = refl
 how_many-below t t' a (suc n) h =
     ap (λ b. cond b 1 0 + how_many t (range_with_len (a + 1) n)) (h a (omega arith))
@@ -109,7 +112,8 @@ or_parts true b h = absurd (no h)
     no : true ≡ false → ⊥
     no e = cc
 
-pub how_many-others : (t t' : ℕ → Bool) (a : ℕ) (xs : List ℕ) → is_in a xs ≡ false → ((b : ℕ) → (b ≡ a → ⊥) → t b ≡ t' b) → how_many t xs ≡ how_many t' xs
+pub how_many-others : (t t' : ℕ → Bool) (a : ℕ) (xs : List ℕ) → is_in a xs ≡ false → ((b : ℕ) → (b ≡ a → ⊥) → t b ≡ t' b)
+    → how_many t xs ≡ how_many t' xs
 how_many-others t t' a [] absent h = refl
 how_many-others t t' a (x ∷ xs) absent h =
     let parts = or_parts (a == x) (is_in a xs) absent in
@@ -189,7 +193,8 @@ module _ (areas : ℕ → Option Area) (f : Family) (spans : ℕ
             ∙ ap (λ k. k + cond (v == u) 1 0) same
         by false h =
             let other : (v == u) ≡ false = ne_eqb v u (λ e. no (sym v_in ∙ ap (λ w. is_in w vs) e ∙ h)) in
-            let plus : how_many (λ b. owns u (own_of (areas b))) (f.users u) ≡ how_many (λ b. owns u (own_of (areas b))) (f.users u) + 0 = omega arith in
+            let plus : how_many (λ b. owns u (own_of (areas b))) (f.users u) ≡ how_many (λ b. owns u (own_of (areas b))) (f.users u) +
+            0 = omega arith in
             same ∙ plus ∙ sym (ap (λ t. how_many (λ b. owns u (own_of (areas b))) (f.users u) + cond t 1 0) other)
 
     module _ (rising : IsRising vs) where

@@ -40,7 +40,8 @@ in_before u n xs h = list_any-append (λ y. u == y) xs (n ∷ []) ∙ or_left (i
 
 child_same : (v : ℕ) (info : ℕ → Option Info) (u w : ℕ) → is_child u (with_info v more_children info w) ≡ is_child u (info w)
 child_same v info u w = elim (cases_eq w v) [
-  | inl e ↦ ap (λ b. is_child u (cond b (option_map more_children (info v)) (info w))) (eq-eqb w v e) ∙ same (info v) ∙ ap (λ m. is_child u (info m)) (sym e)
+  | inl e ↦ ap (λ b. is_child u (cond b (option_map more_children (info v)) (info w))) (eq-eqb w v e) ∙ same (info v)
+      ∙ ap (λ m. is_child u (info m)) (sym e)
   | inr ne ↦ ap (is_child u) (with_at-other v (option_map more_children (info v)) info w ne)
 ]
   where
@@ -72,7 +73,8 @@ module _ (areas : ℕ → Option Area) (f : Family) (spans : ℕ → List Span) 
       (o.chains b.0).made j.parent ((o.chains b.0).parents w j b.1 e)
 
   childless : how_many (λ w. is_child f.next (f.info w)) (range_with_len 0 f.next) ≡ 0
-  childless = how_many-below (λ w. is_child f.next (f.info w)) (λ _. false) 0 f.next (λ w lt. by w (f.info w) refl) ∙ none_counted (range_with_len 0 f.next)
+  childless = how_many-below (λ w. is_child f.next (f.info w)) (λ _. false) 0 f.next (λ w lt. by w (f.info w) refl)
+      ∙ none_counted (range_with_len 0 f.next)
     where
       by : (w : ℕ) (m : Option Info) → f.info w ≡ m → is_child f.next m ≡ false
       by w None e = refl
@@ -221,7 +223,8 @@ module _ (areas : ℕ → Option Area) (f : Family) (spans : ℕ → List Span) 
         → GoWithLinks (give_own a (Some f.next) areas) (with_at a (f.chain src ++ f.next ∷ []) f.chain) spans'
         → IsInOrder (give_own a (Some f.next) areas) (with_links a (f.chain src ++ f.next ∷ []) (new_child I.root own f)) spans'
     child_keeps src own I spans' is own_is spanned =
-        made_keeps (with_info own more_children f.info) (record { root = I.root; parent = own; children = 0; active = 1 }) (f.chain src ++ f.next ∷ []) spans'
+        made_keeps (with_info own more_children f.info) (record { root = I.root; parent = own; children = 0; active = 1 })
+        (f.chain src ++ f.next ∷ []) spans'
         (λ u w. child_same own f.info u w) x1 back refl (sym (ap flag (ne_eqb own f.next (λ e. absurd
         (let lt = own_below in omega arith))))) others mine spanned
       where

@@ -23,7 +23,8 @@ same_some e = cc
 -- a change of one anon_vma that leaves its parent leaves who is whose child
 child_same : (v : ℕ) (info : ℕ → Option Info) (u w : ℕ) → is_child u (with_info v more_active info w) ≡ is_child u (info w)
 child_same v info u w = elim (cases_eq w v) [
-  | inl e ↦ ap (λ b. is_child u (cond b (option_map more_active (info v)) (info w))) (eq-eqb w v e) ∙ same (info v) ∙ ap (λ m. is_child u (info m)) (sym e)
+  | inl e ↦ ap (λ b. is_child u (cond b (option_map more_active (info v)) (info w))) (eq-eqb w v e) ∙ same (info v)
+      ∙ ap (λ m. is_child u (info m)) (sym e)
   | inr ne ↦ ap (is_child u) (with_at-other v (option_map more_active (info v)) info w ne)
 ]
   where
@@ -57,9 +58,11 @@ module _ (areas : ℕ → Option Area) (f : Family) (spans : ℕ
       v_in : is_in v vs ≡ true
       v_in = mine.own_in v refl
 
-      children : (u : ℕ) → how_many (λ w. is_child u (with_info v more_active f.info w)) (range_with_len 0 f.next) ≡ how_many (λ w. is_child u (f.info w))
+      children : (u : ℕ) → how_many (λ w. is_child u (with_info v more_active f.info w)) (range_with_len 0 f.next) ≡ how_many
+          (λ w. is_child u (f.info w))
           (range_with_len 0 f.next)
-      children u = how_many-below (λ w. is_child u (with_info v more_active f.info w)) (λ w. is_child u (f.info w)) 0 f.next (λ w lt. child_same v f.info u w)
+      children u = how_many-below (λ w. is_child u (with_info v more_active f.info w)) (λ w. is_child u (f.info w)) 0 f.next
+          (λ w lt. child_same v f.info u w)
 
       counted : (u : ℕ) (i : Info) → with_info v more_active f.info u ≡ Some i
           → IsCounted (give_own a (Some v) areas) (with_links a vs
@@ -79,7 +82,8 @@ module _ (areas : ℕ → Option Area) (f : Family) (spans : ℕ
                 }
             | inr ne ↦
                 let is : i ≡ m.0 = same_some (sym e ∙ with_at-other v (option_map more_active (f.info v)) f.info u ne ∙ m.1) in
-                let plus : how_many (λ b. owns u (own_of (areas b))) (f.users u) ≡ how_many (λ b. owns u (own_of (areas b))) (f.users u) + 0 = omega arith in
+                let plus : how_many (λ b. owns u (own_of (areas b))) (f.users u) ≡ how_many (λ b. owns u (own_of (areas b))) (f.users u) +
+                0 = omega arith in
                 record {
                   children = ap (λ (j : Info). j.children) is ∙ c.children ∙ sym (children u);
                   active = ap (λ (j : Info). j.active) is ∙ c.active ∙ plus
@@ -93,7 +97,8 @@ module _ (areas : ℕ → Option Area) (f : Family) (spans : ℕ
       → GoWithLinks (give_own a (Some own) areas) (with_at a (f.chain src) f.chain) spans'
       → IsInOrder (give_own a (Some own) areas) (with_links a (f.chain src) (with_active_area own f)) spans'
   clone_keeps src own spans' is spanned =
-      raised_keeps own (f.chain src) spans' (subst (λ w. IsChain f.info f.next w (f.chain src)) is (o.chains src)) (λ b h. o.alike b src own h is) spanned
+      raised_keeps own (f.chain src) spans' (subst (λ w. IsChain f.info f.next w (f.chain src)) is (o.chains src))
+      (λ b h. o.alike b src own h is) spanned
 
   -- the chain of another area, and an inactive member of it as own
   pub reuse_keeps : (src v : ℕ) (i : Info) (spans' : ℕ → List Span) → is_in v (f.chain src) ≡ true → f.info v ≡ Some i → i.active ≡ 0

@@ -50,7 +50,8 @@ found_of a (x ∷ xs) y ys h = elim (cases_eq x.area a) [
   | inl e ↦
       let is : x ≡ y = heads (sym (ap (λ b. cond b (x ∷ filter (is_of a) xs) (filter (is_of a) xs)) (eq-eqb x.area a e)) ∙ h) in
       subst IsSome (sym (ap (λ b. cond b (Some x) (entry_at key (key y) xs)) (eq-eqb (key x) (key y) (ap key is)))) refl
-  | inr ne ↦ later (key x == key y) (found_of a xs y ys (sym (ap (λ b. cond b (x ∷ filter (is_of a) xs) (filter (is_of a) xs)) (ne_eqb x.area a ne)) ∙ h))
+  | inr ne ↦ later (key x == key y)
+      (found_of a xs y ys (sym (ap (λ b. cond b (x ∷ filter (is_of a) xs) (filter (is_of a) xs)) (ne_eqb x.area a ne)) ∙ h))
 ]
   where
     later : (b : Bool) → IsSome (entry_at key (key y) xs) → IsSome (cond b (Some x) (entry_at key (key y) xs))
@@ -59,7 +60,8 @@ found_of a (x ∷ xs) y ys h = elim (cases_eq x.area a) [
 
 -- ---- one is put in
 
-pub with_other : (number : ℕ) (x : Span) (xs : List Span) → (x.area ≡ number → ⊥) → filter (is_of number) (with_entry key x xs) ≡ filter (is_of number) xs
+pub with_other : (number : ℕ) (x : Span) (xs : List Span) → (x.area ≡ number → ⊥)
+    → filter (is_of number) (with_entry key x xs) ≡ filter (is_of number) xs
 with_other number x [] ne = ap (λ b. cond b (x ∷ []) []) (ne_eqb x.area number ne)
 with_other number x (y ∷ t) ne = first (ltb (key x) (key y)) (with_other number x t ne)
   where
@@ -90,7 +92,8 @@ with_new x (y ∷ t) fit fits new = first (ltb (key x) (key y)) refl (with_new x
         ∙ ap (λ zs. x ∷ zs) (new_none x.area (y ∷ t) new)
     first false h r =
         ap (λ b. filter (is_of x.area) (y ∷ cond b (with_entry key x t) t)) (later h)
-        ∙ ap (λ b. cond b (y ∷ filter (is_of x.area) (with_entry key x t)) (filter (is_of x.area) (with_entry key x t))) (ne_eqb y.area x.area new.0) ∙ r
+        ∙ ap (λ b. cond b (y ∷ filter (is_of x.area) (with_entry key x t)) (filter (is_of x.area) (with_entry key x t)))
+        (ne_eqb y.area x.area new.0) ∙ r
 
 pub with_fits : (x : Span) (xs : List Span) → x.area < 2 ^ 64 → Fits xs → Fits (with_entry key x xs)
 with_fits x [] fit fits = (fit, tt)

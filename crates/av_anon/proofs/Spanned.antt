@@ -39,7 +39,8 @@ module _ (areas : ℕ → Option Area) (chain : ℕ → List ℕ) (spans : ℕ �
 
       unowned : (n : ℕ) → present n (give_own a own areas n) ≡ present n (areas n)
       unowned n = elim (cases_eq n a) [
-        | inl e ↦ ap (λ b. present n (cond b (with_own own (areas a)) (areas n))) (eq-eqb n a e) ∙ same n (areas a) ∙ ap (λ m. present n (areas m)) (sym e)
+        | inl e ↦ ap (λ b. present n (cond b (with_own own (areas a)) (areas n))) (eq-eqb n a e) ∙ same n (areas a)
+            ∙ ap (λ m. present n (areas m)) (sym e)
         | inr ne ↦ ap (present n) (with_at-other a (with_own own (areas a)) areas n ne)
       ]
 

@@ -53,7 +53,8 @@ each_more change old now new ps x absent now_is new_is v = elim (cases_eq v x) [
       let at_x : now x ≡ old x = now_is x ∙ ap (λ b. cond b (change (old x)) (old x)) absent in
       new_is v ∙ ap (λ b. cond b (change (now x)) (now v)) (eq-eqb v x e) ∙ ap change at_x ∙ ap (λ w. change (old w)) (sym e)
       ∙ sym (ap (λ b. cond b (change (old v)) (old v)) (in_more v x ps e))
-  | inr ne ↦ new_is v ∙ with_at-other x (change (now x)) now v ne ∙ now_is v ∙ sym (ap (λ b. cond b (change (old v)) (old v)) (in_as_before v x ps ne))
+  | inr ne ↦ new_is v ∙ with_at-other x (change (now x)) now v ne ∙ now_is v
+      ∙ sym (ap (λ b. cond b (change (old v)) (old v)) (in_as_before v x ps ne))
 ]
 
 -- ---- rising lists
@@ -68,7 +69,8 @@ absent_before [] k rising lt = absurd (omega arith)
 absent_before (x ∷ xs) zero rising lt = refl
 absent_before (x ∷ xs) (suc k) rising lt =
     let above = all_at x xs k rising.0 (omega arith) in
-    ap (λ b. b || is_in (get_or xs k 0) (take k xs)) (ne_eqb (get_or xs k 0) x (λ e. absurd (omega arith))) ∙ absent_before xs k rising.1 (omega arith)
+    ap (λ b. b || is_in (get_or xs k 0) (take k xs)) (ne_eqb (get_or xs k 0) x (λ e. absurd (omega arith)))
+    ∙ absent_before xs k rising.1 (omega arith)
 
 pub in_list : (xs : List ℕ) (k : ℕ) → k < length xs → is_in (get_or xs k 0) xs ≡ true
 in_list [] k lt = absurd (omega arith)
@@ -100,8 +102,10 @@ in_mid (p ∷ ps) x xs = or_right (x == p) (in_mid ps x xs)
 -- a number above all members may come last
 pub rising_more : (xs : List ℕ) (n : ℕ) → IsRising xs → ((v : ℕ) → is_in v xs ≡ true → v < n) → IsRising (xs ++ n ∷ [])
 rising_more [] n rising below = (tt, tt)
-rising_more (x ∷ xs) n rising below =
-    (all_more x xs n rising.0 (below x (ap (λ b. b || is_in x xs) (eq-eqb x x refl))), rising_more xs n rising.1 (λ v h. below v (or_right (v == x) h)))
+rising_more (x ∷ xs) n rising below = (
+  all_more x xs n rising.0 (below x (ap (λ b. b || is_in x xs) (eq-eqb x x refl))),
+  rising_more xs n rising.1 (λ v h. below v (or_right (v == x) h)),
+)
   where
     or_right : (a : Bool) {b : Bool} → b ≡ true → (a || b) ≡ true
     or_right true h = refl

@@ -4,7 +4,7 @@ use Rattle.av_base.specs.Words.{how_many, is_in}
 use Rattle.std.specs.List.{range_with_len}
 use Rattle.av_chain.specs.Links.{AreMutual}
 use Rattle.av_vma.specs.declared.area.Area.{Area}
-use Rattle.av_vma.specs.Join.{first_of, past_of, index_of}
+use Rattle.av_vma.specs.Index.{first_of, past_of, index_of}
 use Rattle.av_interval.specs.declared.span.Span.{Span}
 use Rattle.av_anon.specs.declared.infos.Info.{Info}
 use Rattle.av_anon.specs.Anons.{Family, IsRising, own_of}

@@ -2,13 +2,13 @@
 use Rattle.std.specs.Prelude.{ℕ, List, [], ◌∷◌, length, if◌then◌else◌, Option, Some, None, IsSome, option_and_then}
 use Rattle.std.specs.Option.{option_or}
 use Rattle.av_vma.specs.declared.area.Area.{Area}
-use Rattle.av_vma.specs.Join.{is_reusable}
+use Rattle.av_vma.specs.Join.{can_lend}
 use Rattle.av_anon.specs.Anons.{Family, with_links, new_root, with_active_area}
 
 -- that of a neighbour, if there is one whose anon_vma it may take
 abbrev pub loan_by : ℕ → Area → Option Area → Option ℕ
 loan_by len area None = None
-loan_by len area (Some near) = if is_reusable area near len then near.anon else None
+loan_by len area (Some near) = if can_lend area near len then near.anon else None
 
 abbrev pub loan : (ℕ → Option Area) → (ℕ → List ℕ) → Area → Option ℕ → Option ℕ
 loan areas chain area None = None

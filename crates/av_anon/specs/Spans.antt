@@ -4,7 +4,7 @@ use Rattle.av_base.specs.Words.{is_in}
 use Rattle.av_arena.specs.Order.{with_entry, without_key}
 use Rattle.std.specs.List.{AllByRecursion}
 use Rattle.av_vma.specs.declared.area.Area.{Area}
-use Rattle.av_vma.specs.Join.{past_of, index_of}
+use Rattle.av_vma.specs.Index.{past_of, index_of}
 use Rattle.av_interval.specs.declared.span.Span.{Span}
 use Rattle.av_interval.specs.Span.{key}
 use Rattle.av_interval.specs.Spans.{triples}

@@ -1,7 +1,9 @@
 //! What is kept of each anon_vma, by its number.
-ghost use Rattle.std.specs.Prelude.{◌≡◌, ℕ, ◌+◌, ◌-◌, ◌<◌, Some, None, IsSome, MatchResult, OnOk, OnErr, option_map};
+ghost use Rattle.std.specs.Prelude.{◌≡◌, ℕ, ◌+◌, ◌-◌, ◌<◌, Some, None, IsSome, MatchResult, OnOk};
+ghost use Rattle.std.specs.Prelude.{OnErr, option_map};
 ghost use Rattle.av_base.specs.Words.{with_at};
-ghost use Rattle.av_anon.specs.Infos.{info_in, with_info, more_active, less_active, more_children, less_children};
+ghost use Rattle.av_anon.specs.Infos.{info_in, with_info, more_active, less_active, more_children};
+ghost use Rattle.av_anon.specs.Infos.{less_children};
 
 use std::alloc::{AllocError, Global};
 use std::collections::BTreeMap;

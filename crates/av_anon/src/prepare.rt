@@ -8,7 +8,8 @@ ghost use Rattle.av_vma.specs.declared.area.Area.{Area};
 ghost use Rattle.av_anon.specs.Anons.{family, give_own, with_links, new_root, own_of, IsRising};
 ghost use Rattle.av_anon.specs.Infos.{info_in};
 ghost use Rattle.av_anon.specs.Order.{IsArea, IsInOrder};
-ghost use Rattle.av_anon.specs.Prepare.{loan, loan_near, loan_to, after_prepare, family_after_prepare, own_after_prepare, MayStand};
+ghost use Rattle.av_anon.specs.Prepare.{loan, loan_near, loan_to, after_prepare};
+ghost use Rattle.av_anon.specs.Prepare.{family_after_prepare, own_after_prepare, MayStand};
 ghost use Rattle.av_anon.specs.Spans.{span_at, spans_of, spans_with, GoWithLinks};
 
 use crate::anons::Anons;
@@ -17,7 +18,7 @@ use crate::links::link_each;
 use crate::spans::span_each;
 use av_base::PAGE_SIZE;
 use av_chain::Links;
-use av_vma::{Area, AreaId, Areas, index, reusable};
+use av_vma::{Area, AreaId, Areas, can_lend, index};
 use std::alloc::AllocError;
 
 impl Anons {
@@ -151,7 +152,7 @@ fn lent_from(links: &Links, areas: &Areas, area: &Area, near: Option<AreaId>) ->
         return None;
     };
     let other = areas.get(number);
-    if reusable(area, &other, links.len(number)) {
+    if can_lend(area, &other, links.len(number)) {
         other.anon
     } else {
         None

@@ -73,7 +73,8 @@ module _ {T S : Type 0} (key : T → ℕ) (unit : S) (op : S → S → S) (of : 
     | inr e ↦ absurd (let d : count j t ≡ 0 = ap (λ i. count i t) (sym e) ∙ z in omega arith)
   ]
 
-  pub place_new : (s t : Store T S) (k : Option (Link S)) → IsPart key unit op of s k → (n : ℕ) (v : Stored T S) → s n ≡ None → t ≡ with_at n (Some v) s →
+  pub place_new : (s t : Store T S) (k : Option (Link S)) → IsPart key unit op of s k → (n : ℕ) (v : Stored T S) → s n ≡ None
+      → t ≡ with_at n (Some v) s →
       (x : T) → entry_at key (key x) (entries (tree_at s k)) ≡ None → IsPlaceFor key unit op of t k n x
   place_new s t k p n v e at x other =
       let z = not_used s k p.held n e in
@@ -87,7 +88,8 @@ module _ {T S : Type 0} (key : T → ℕ) (unit : S) (op : S → S → S) (of : 
         other = rw g.tree other;
       })
 
-  pub inserted : (s t u : Store T S) (k : Option (Link S)) → IsAvl key unit op of s k → (n : ℕ) (v : Stored T S) → s n ≡ None → t ≡ with_at n (Some v) s →
+  pub inserted : (s t u : Store T S) (k : Option (Link S)) → IsAvl key unit op of s k → (n : ℕ) (v : Stored T S) → s n ≡ None
+      → t ≡ with_at n (Some v) s →
       (x : T) (k' : Link S) → IsPlaced key unit op of t u k n x k' →
       IsAvl key unit op of u (Some k') × (entries (tree_at u (Some k')) ≡ with_entry key x (entries (tree_at s k)))
   inserted s t u k p n v e at x k' w =
@@ -97,7 +99,8 @@ module _ {T S : Type 0} (key : T → ℕ) (unit : S) (op : S → S → S) (of : 
       let d : entries (tree_at u (Some k')) ≡ with_entry key x (entries (tree_at s k)) =
       w.entries ∙ ap (λ q. with_entry key x (entries q)) (ap (λ (q : Store T S). tree_at q k) at ∙ g.tree) in
       let all : (j : ℕ) → IsSome (t j) → 1 ≤ is n j + count j (tree_at t k) =
-      subst (λ (q : Store T S). (j : ℕ) → IsSome (q j) → 1 ≤ is n j + count j (tree_at q k)) (sym at) (λ j i. elim (is_cases key unit op of laws n j) [
+      subst (λ (q : Store T S). (j : ℕ) → IsSome (q j) → 1 ≤ is n j + count j (tree_at q k)) (sym at)
+      (λ j i. elim (is_cases key unit op of laws n j) [
         | inl o ↦ let h = p.1 j (subst IsSome (with_at_other key unit op of laws n (Some v) s j o) i) in rw g.tree (omega arith)
         | inr o ↦ let h : is n j ≡ 1 = subst (λ m. is n m ≡ 1) o (is_self key unit op of laws n) in omega arith
       ]) in (
@@ -109,7 +112,8 @@ module _ {T S : Type 0} (key : T → ℕ) (unit : S) (op : S → S → S) (of : 
         d,
       )
 
-  pub split_new : (s t : Store T S) (k : Option (Link S)) → IsPart key unit op of s k → (n : ℕ) (v : Stored T S) → s n ≡ None → t ≡ with_at n (Some v) s →
+  pub split_new : (s t : Store T S) (k : Option (Link S)) → IsPart key unit op of s k → (n : ℕ) (v : Stored T S) → s n ≡ None
+      → t ≡ with_at n (Some v) s →
       (x y : T) → IsSome (entry_at key (key x) (entries (tree_at s k))) → key x < key y → NoneBetween key (key x) (key y) (entries (tree_at s k)) →
       IsSplitFor key unit op of t k n x y
   split_new s t k p n v e at x y there after next =
@@ -124,7 +128,8 @@ module _ {T S : Type 0} (key : T → ℕ) (unit : S) (op : S → S → S) (of : 
         next = rw g.tree next;
       })
 
-  pub parted : (s t u : Store T S) (k : Option (Link S)) → IsAvl key unit op of s k → (n : ℕ) (v : Stored T S) → s n ≡ None → t ≡ with_at n (Some v) s →
+  pub parted : (s t u : Store T S) (k : Option (Link S)) → IsAvl key unit op of s k → (n : ℕ) (v : Stored T S) → s n ≡ None
+      → t ≡ with_at n (Some v) s →
       (x y : T) (k' : Link S) → IsSplit key unit op of t u k n x y k' →
       IsAvl key unit op of u (Some k') × (entries (tree_at u (Some k')) ≡ with_two key x y (entries (tree_at s k)))
   parted s t u k p n v e at x y k' w =
@@ -134,7 +139,8 @@ module _ {T S : Type 0} (key : T → ℕ) (unit : S) (op : S → S → S) (of : 
       let d : entries (tree_at u (Some k')) ≡ with_two key x y (entries (tree_at s k)) =
       w.entries ∙ ap (λ q. with_two key x y (entries q)) (ap (λ (q : Store T S). tree_at q k) at ∙ g.tree) in
       let all : (j : ℕ) → IsSome (t j) → 1 ≤ is n j + count j (tree_at t k) =
-      subst (λ (q : Store T S). (j : ℕ) → IsSome (q j) → 1 ≤ is n j + count j (tree_at q k)) (sym at) (λ j i. elim (is_cases key unit op of laws n j) [
+      subst (λ (q : Store T S). (j : ℕ) → IsSome (q j) → 1 ≤ is n j + count j (tree_at q k)) (sym at)
+      (λ j i. elim (is_cases key unit op of laws n j) [
         | inl o ↦ let h = p.1 j (subst IsSome (with_at_other key unit op of laws n (Some v) s j o) i) in rw g.tree (omega arith)
         | inr o ↦ let h : is n j ≡ 1 = subst (λ m. is n m ≡ 1) o (is_self key unit op of laws n) in omega arith
       ]) in
@@ -145,7 +151,8 @@ module _ {T S : Type 0} (key : T → ℕ) (unit : S) (op : S → S → S) (of : 
   freed_as : (s t u : Store T S) (k : Option (Link S)) → IsAvl key unit op of s k → (xs : List T) → IsRising key xs → (n : ℕ) (k' : Option (Link S)) →
       IsWithout key unit op of s t k xs n k' → u ≡ with_at n None t → IsAvl key unit op of u k' × (entries (tree_at u k') ≡ xs)
   freed_as s t u k p xs up n k' w at =
-      let gone : count n (tree_at t k') ≡ 0 = (let d = w.count n in let e = is_self key unit op of laws n in let o = p.0.held.once n in omega arith) in
+      let gone : count n (tree_at t k') ≡ 0 =
+      (let d = w.count n in let e = is_self key unit op of laws n in let o = p.0.held.once n in omega arith) in
       let g = kept key unit op of laws t (with_at n None t) k' w.held
       (λ j h. with_at_other key unit op of laws n None t j (is_not n j (tree_at t k') gone h)) in
       let P : Store T S → Type 0 = λ q. IsAvl key unit op of q k' × (entries (tree_at q k') ≡ xs) in
@@ -168,7 +175,8 @@ module _ {T S : Type 0} (key : T → ℕ) (unit : S) (op : S → S → S) (of : 
   joined_freed s t u k p x y z n k' w at = freed_as s t u k p _ (rising_with key z _
       (rising_without key (key x) _ (rising_without key (key y) (entries (tree_at s k)) p.0.rising))) n (Some k') w at
 
-  pub join_for : (s : Store T S) (k : Option (Link S)) → IsPart key unit op of s k → (x y z : T) → IsSome (entry_at key (key x) (entries (tree_at s k))) →
+  pub join_for : (s : Store T S) (k : Option (Link S)) → IsPart key unit op of s k → (x y z : T)
+      → IsSome (entry_at key (key x) (entries (tree_at s k))) →
       IsSome (entry_at key (key y) (entries (tree_at s k))) → key x < key y → NoneWithin key (key x) (key y) (entries (tree_at s k)) → key z ≡ key x →
       IsJoinFor key unit op of s k x y z
   join_for s k p x y z there too after next same = record {

@@ -157,7 +157,8 @@ module _ {T S : Type 0} (key : T → ℕ) (unit : S) (op : S → S → S) (of : 
         entries = rw (ka.tree, kb.tree) is_xs;
         count = λ j. rw (ka.tree, kb.tree) (co j);
         kept = λ j z. there j (let d = co j in omega arith) ∙ keep j z;
-        used = λ j i. subst (λ (q : Store T S). IsSome (q j)) (sym at) (used_cases key unit op of laws (Rattle.std.proofs.Common.eqb j n) w (t j) (stay j i));
+        used = λ j i. subst (λ (q : Store T S). IsSome (q j)) (sym at)
+            (used_cases key unit op of laws (Rattle.std.proofs.Common.eqb j n) w (t j) (stay j i));
       }
 
   -- a side of a node is another tree
@@ -194,7 +195,8 @@ module _ {T S : Type 0} (key : T → ℕ) (unit : S) (op : S → S → S) (of : 
   changed_right : {Put : Type 0} (s t u : Store T S) (k : Link S) (v : Stored T S) (new : Option (Link S)) (b : Bool) (xs : List T) (f g : ℕ → ℕ)
       (lower higher : ℕ) →
       IsOpened key unit op of s k v → IsTree key unit op of s t new xs f g → ((j : ℕ) → is k.number j + (f j + count j (tree_at s v.left)) ≤ 1) →
-      u ≡ with_at k.number (side_put Right new (t k.number)) t → height_of v.right ≤ height_of new + lower → height_of new ≤ height_of v.right + higher →
+      u ≡ with_at k.number (side_put Right new (t k.number)) t → height_of v.right ≤ height_of new + lower
+      → height_of new ≤ height_of v.right + higher →
       lower + higher ≤ 1 → (b ≡ false → t k.number ≡ Some v → v.right ≡ new) →
       (b ≡ true → t k.number ≡ Some v → v.right ≡ new → ⊥) → IsChanged key unit op of s u k b (entries (tree_at s v.left) ++ v.entry ∷ xs)
       (λ j. is k.number j + (f j + count j (tree_at s v.left))) g lower higher Put
@@ -222,7 +224,8 @@ module _ {T S : Type 0} (key : T → ℕ) (unit : S) (op : S → S → S) (of : 
         other = λ d e. absurd (differs d here (ap (λ (i : Stored T S). i.right) (same_node u n v w (e ∙ o.root.stored) above.stored)));
       }
 
-  changed : {Put : Type 0} (side : Side) (s t u : Store T S) (k : Link S) (v : Stored T S) (new : Option (Link S)) (b : Bool) (xs : List T) (f g : ℕ → ℕ)
+  changed : {Put : Type 0} (side : Side) (s t u : Store T S) (k : Link S) (v : Stored T S) (new : Option (Link S)) (b : Bool)
+      (xs : List T) (f g : ℕ → ℕ)
       (lower higher : ℕ) →
       IsOpened key unit op of s k v → IsTree key unit op of s t new xs f g → ((j : ℕ) → is k.number j + (f j + count_at s (on_other side v) j) ≤ 1) →
       u ≡ with_at k.number (side_put side new (t k.number)) t → height_of (on_side side v) ≤ height_of new + lower →
@@ -269,7 +272,8 @@ module _ {T S : Type 0} (key : T → ℕ) (unit : S) (op : S → S → S) (of : 
 
   -- what a change makes is said otherwise
   pub rechanged : {Put : Type 0} (s t : Store T S) (k : Link S) (b : Bool) (xs ys : List T) (f f' g : ℕ → ℕ) (lower higher : ℕ) →
-      IsChanged key unit op of s t k b xs f g lower higher Put → xs ≡ ys → ((j : ℕ) → f j ≡ f' j) → IsChanged key unit op of s t k b ys f' g lower higher Put
+      IsChanged key unit op of s t k b xs f g lower higher Put → xs ≡ ys → ((j : ℕ) → f j ≡ f' j)
+      → IsChanged key unit op of s t k b ys f' g lower higher Put
   rechanged s t k b xs ys f f' g lower higher c e p = record {
     node = c.node;
     above = record {
@@ -339,7 +343,8 @@ module _ {T S : Type 0} (key : T → ℕ) (unit : S) (op : S → S → S) (of : 
   child_cases side v n None e d = cc
   child_cases side v n (Some m) e d = record { link = m; number = cc; is = e }
 
-  pub child : (side : Side) (s : Store T S) (n : ℕ) (v : Stored T S) (below : ℕ) → s n ≡ Some v → child_number side (s n) ≡ Some below → IsChild side v below
+  pub child : (side : Side) (s : Store T S) (n : ℕ) (v : Stored T S) (below : ℕ) → s n ≡ Some v → child_number side (s n) ≡ Some below
+      → IsChild side v below
   child side s n v below e d = child_cases side v below (on_side side v) refl (rw e at d)
 
   pub no_child : (side : Side) (s : Store T S) (n : ℕ) (v : Stored T S) → s n ≡ Some v → child_number side (s n) ≡ None → on_side side v ≡ None
@@ -373,7 +378,8 @@ module _ {T S : Type 0} (key : T → ℕ) (unit : S) (op : S → S → S) (of : 
     pub falls : height_below (s below) < height_below (s n)
 
   -- what a change asks of a side, and makes of it, is what it asks and makes of the whole
-  pub record GoesDown (Asked : Option (Link S) → Type 0) (list : List T → List T) (numbers : (ℕ → ℕ) → ℕ → ℕ) (side : Side) (s : Store T S) (k : Link S)
+  pub record GoesDown (Asked : Option (Link S) → Type 0) (list : List T → List T) (numbers : (ℕ → ℕ) → ℕ → ℕ) (side : Side)
+      (s : Store T S) (k : Link S)
       (v : Stored T S) : Type 0 where
     pub opened : IsOpened key unit op of s k v
     pub asked : Asked (on_side side v)
@@ -384,7 +390,8 @@ module _ {T S : Type 0} (key : T → ℕ) (unit : S) (op : S → S → S) (of : 
 module _ {T S : Type 0} (key : T → ℕ) (unit : S) (op : S → S → S) (of : T → S) (laws : MonoidLaws unit op) (Asked : Option (Link S) → Type 0)
     (list : List T → List T) (numbers : (ℕ → ℕ) → ℕ → ℕ) (gone : ℕ → ℕ) (lower higher : ℕ) where
   -- a side has become another tree
-  pub put_below : {Put : Type 0} (side : Side) (s t u : Store T S) (k : Link S) (v : Stored T S) (new : Option (Link S)) (b : Bool) → lower + higher ≤ 1 →
+  pub put_below : {Put : Type 0} (side : Side) (s t u : Store T S) (k : Link S) (v : Stored T S) (new : Option (Link S)) (b : Bool)
+      → lower + higher ≤ 1 →
       GoesDown key unit op of laws Asked list numbers side s k v →
       IsTree key unit op of s t new (list (entries_at s (on_side side v))) (numbers (count_at s (on_side side v))) gone →
       u ≡ with_at k.number (side_put side new (t k.number)) t → height_of (on_side side v) ≤ height_of new + lower →
@@ -393,7 +400,8 @@ module _ {T S : Type 0} (key : T → ℕ) (unit : S) (op : S → S → S) (of : 
       IsChanged key unit op of s u k b (list (entries_at s (Some k))) (numbers (count_at s (Some k))) gone lower higher Put
   put_below side s t u k v new b few p tree put low high stays differs =
       rechanged key unit op of laws s u k b _ _ _ _ gone lower higher
-      (changed key unit op of laws side s t u k v new b _ _ gone lower higher p.opened tree (λ j. let c = p.count j in let i = p.once j in omega arith) put
+      (changed key unit op of laws side s t u k v new b _ _ gone lower higher p.opened tree
+      (λ j. let c = p.count j in let i = p.once j in omega arith) put
       low high few stays differs) p.entries p.count
 
   -- where the node that is above stands, while its side changes
@@ -447,14 +455,16 @@ module _ {T S : Type 0} (key : T → ℕ) (unit : S) (op : S → S → S) (of : 
       (m : IsChild key unit op of laws side v below) →
       GoesDown key unit op of laws Asked list numbers side s k v → IsDoneBelow key unit op of Asked list numbers gone lower higher Own s t below c →
       (st : IsSideSettled key unit op of side t u k.number below b) →
-      IsDone key unit op of laws s st.between m.link st.link (list (entries_at s (on_side side v))) (numbers (count_at s (on_side side v))) gone lower higher
+      IsDone key unit op of laws s st.between m.link st.link (list (entries_at s (on_side side v))) (numbers (count_at s (on_side side v)))
+      gone lower higher
   done_settle side s t u k v below c b m p done st =
       done_settled key unit op of laws s t st.between m.link st.link c _ _ gone lower higher (done_child side s t k v below c m p done)
       (subst (λ i. IsSettled key unit op of t st.between i st.link) (sym m.number) st.settled)
 
   step_same : {Own Put : Type 0} (side : Side) (s t : Store T S) (k : Link S) (v : Stored T S) (below : ℕ) (c : Bool) → lower + higher ≤ 1 →
       (m : IsChild key unit op of laws side v below) →
-      GoesDown key unit op of laws Asked list numbers side s k v → IsDoneBelow key unit op of Asked list numbers gone lower higher Own s t below c → c ≡ false →
+      GoesDown key unit op of laws Asked list numbers side s k v
+      → IsDoneBelow key unit op of Asked list numbers gone lower higher Own s t below c → c ≡ false →
       IsChanged key unit op of s t k false (list (entries_at s (Some k))) (numbers (count_at s (Some k))) gone lower higher Put
   step_same side s t k v below c few m p done z =
       let held = rw m.is at (held_side key unit op of laws side s k v p.opened) in
@@ -476,7 +486,8 @@ module _ {T S : Type 0} (key : T → ℕ) (unit : S) (op : S → S → S) (of : 
       put_below side s st.between u k v (Some st.link) b few p d.tree st.put (omega arith) (omega arith) (λ z i. st.stays z v i)
       (λ z i. st.differs z v i (ap number_of m.is ∙ ap Some m.number))
 
-  pub step : {Own : Type 0} (Put : Type 0) (side : Side) (s t : Store T S) (n : ℕ) (v : Stored T S) (below : ℕ) (c : Bool) → lower + higher ≤ 1 → s n ≡ Some v →
+  pub step : {Own : Type 0} (Put : Type 0) (side : Side) (s t : Store T S) (n : ℕ) (v : Stored T S) (below : ℕ) (c : Bool) → lower + higher ≤ 1
+      → s n ≡ Some v →
       child_number side (s n) ≡ Some below →
       ((k : Link S) → k.number ≡ n → Asked (Some k) → GoesDown key unit op of laws Asked list numbers side s k v) → IsAskedBelow Asked n →
       IsDoneBelow key unit op of Asked list numbers gone lower higher Own s t below c → IsStepped Put side s t n below c
@@ -488,7 +499,8 @@ module _ {T S : Type 0} (key : T → ℕ) (unit : S) (op : S → S → S) (of : 
       let l = lower_side key unit op of laws side s b.link v p.opened in
       let low = b.low in
       let at : (u : Store T S) (b' : Bool) (k : Link S) → k.number ≡ n → IsSideSettled key unit op of side t u n below b' →
-      IsSideSettled key unit op of side t u k.number below b' = λ u b' k q st. subst (λ i. IsSideSettled key unit op of side t u i below b') (sym q) st in
+      IsSideSettled key unit op of side t u k.number below b' =
+      λ u b' k q st. subst (λ i. IsSideSettled key unit op of side t u i below b') (sym q) st in
       record {
         ready = subst (IsUnsettled key unit op of 2 t) m.number (unsettled key unit op of laws s t m.link c _ _ gone lower higher ch (omega arith));
         used = subst (λ i. IsSome (t i)) b.number (ch.above.used b.link.number p.opened.used);
@@ -520,7 +532,8 @@ pub asked_below : {S : Type 0} (Asked : Option (Link S) → Type 0) (o : Option 
 asked_below Asked o k e a low = record { link = k; number = refl; asked = subst Asked e a; low = let h = ap height_of e in omega arith }
 
 module _ {T S : Type 0} (key : T → ℕ) (unit : S) (op : S → S → S) (of : T → S) (laws : MonoidLaws unit op) where
-  key_side : (side : Side) (s : Store T S) (k : Link S) (v : Stored T S) (x : T) → HasKey key unit op of s (Some k) x → IsOpened key unit op of s k v →
+  key_side : (side : Side) (s : Store T S) (k : Link S) (v : Stored T S) (x : T) → HasKey key unit op of s (Some k) x
+      → IsOpened key unit op of s k v →
       AreOn key side x x v.entry → HasKey key unit op of s (on_side side v) x
   key_side Left s k v x h o on = key_left key unit op of laws s k v x h o on
   key_side Right s k v x h o on = key_right key unit op of laws s k v x h o on
@@ -538,7 +551,8 @@ module _ {T S : Type 0} (key : T → ℕ) (unit : S) (op : S → S → S) (of : 
   fresh_at s k v m o z j = rw o.tree (fresh_once key unit op of laws s k v m o z j)
 
   -- replacing
-  replaced_is : (side : Side) (s : Store T S) (k : Link S) (v : Stored T S) (x : T) → HasKey key unit op of s (Some k) x → IsOpened key unit op of s k v →
+  replaced_is : (side : Side) (s : Store T S) (k : Link S) (v : Stored T S) (x : T) → HasKey key unit op of s (Some k) x
+      → IsOpened key unit op of s k v →
       AreOn key side x x v.entry → in_order side (with_entry key x (without_key key (key x) (entries_at s (on_side side v)))) v.entry
       (entries_at s (on_other side v)) ≡ with_entry key x (without_key key (key x) (entries_at s (Some k)))
   replaced_is Left s k v x h o lt =
@@ -568,10 +582,12 @@ module _ {T S : Type 0} (key : T → ℕ) (unit : S) (op : S → S → S) (of : 
     once = once_at s k v o;
   }
 
-  pub replaced_further : (side : Side) (s : Store T S) (n below : ℕ) (x : T) → HasKeyBelow key unit op of s n x → child_number side (s n) ≡ Some below →
+  pub replaced_further : (side : Side) (s : Store T S) (n below : ℕ) (x : T) → HasKeyBelow key unit op of s n x
+      → child_number side (s n) ≡ Some below →
       IsBeside key unit op of s n x x (Some side) → IsFurther key unit op of laws (λ l. HasKey key unit op of s l x) s n below
   replaced_further side s n below x b d on = let w = node_at key unit op of laws s n b.link b.number b.asked.held in
-      further key unit op of laws (λ l. HasKey key unit op of s l x) (λ xs. with_entry key x (without_key key (key x) xs)) (λ f. f) none 0 0 side s n w.node
+      further key unit op of laws (λ l. HasKey key unit op of s l x) (λ xs. with_entry key x (without_key key (key x) xs)) (λ f. f) none 0 0
+      side s n w.node
       below w.stored d
       (replaced_down side s n w.node x w.stored (on w.node w.stored)) b
 
@@ -591,12 +607,14 @@ module _ {T S : Type 0} (key : T → ℕ) (unit : S) (op : S → S → S) (of : 
   pub replaced_never : (side : Side) (s : Store T S) (n : ℕ) (x : T) → HasKeyBelow key unit op of s n x → child_number side (s n) ≡ None →
       IsBeside key unit op of s n x x (Some side) → ⊥
   replaced_never side s n x b d on = let w = node_at key unit op of laws s n b.link b.number b.asked.held in
-      never key unit op of laws (λ l. HasKey key unit op of s l x) (λ xs. with_entry key x (without_key key (key x) xs)) (λ f. f) none 0 0 side s n w.node
+      never key unit op of laws (λ l. HasKey key unit op of s l x) (λ xs. with_entry key x (without_key key (key x) xs)) (λ f. f) none 0 0
+      side s n w.node
       w.stored d
       (replaced_down side s n w.node x w.stored (on w.node w.stored)) b (λ h. no_key key unit op of laws s x h)
 
   -- the node itself has the key
-  replaced_node : (s u : Store T S) (n : ℕ) (v : Stored T S) (x : T) → IsBetween key unit op of s n x x → s n ≡ Some v → key x ≡ key v.entry → u ≡ with_at n
+  replaced_node : (s u : Store T S) (n : ℕ) (v : Stored T S) (x : T) → IsBetween key unit op of s n x x → s n ≡ Some v → key x ≡ key v.entry
+      → u ≡ with_at n
       (entry_put x (s n)) s →
       IsReplacedBelow key unit op of s u n x true
   replaced_node s u n v x between e same at k p h =
@@ -629,7 +647,8 @@ module _ {T S : Type 0} (key : T → ℕ) (unit : S) (op : S → S → S) (of : 
   -- putting in
   placed_is : (side : Side) (s : Store T S) (k : Link S) (v : Stored T S) (m : ℕ) (x : T) → IsPlaceFor key unit op of s (Some k) m x →
       IsOpened key unit op of s k v → AreOn key side x x v.entry →
-      in_order side (with_entry key x (entries_at s (on_side side v))) v.entry (entries_at s (on_other side v)) ≡ with_entry key x (entries_at s (Some k))
+      in_order side (with_entry key x (entries_at s (on_side side v))) v.entry (entries_at s (on_other side v)) ≡ with_entry key x
+      (entries_at s (Some k))
   placed_is Left s k v m x h o lt = sym (with_left key x v.entry (entries (tree_at s v.left)) (entries (tree_at s v.right)) lt) ∙ rw o.tree refl
   placed_is Right s k v m x h o lt =
       let a = entries (tree_at s v.left) in
@@ -642,12 +661,14 @@ module _ {T S : Type 0} (key : T → ℕ) (unit : S) (op : S → S → S) (of : 
   place_side Left s k v m x h o lt = place_left key unit op of laws s k v m x h o lt
   place_side Right s k v m x h o lt = place_right key unit op of laws s k v m x h o (omega arith)
 
-  on_placed : (side : Side) (s : Store T S) (n : ℕ) (k : Link S) (v : Stored T S) (m : ℕ) (x : T) → s n ≡ Some v → IsSideFor key unit op of s n x side →
+  on_placed : (side : Side) (s : Store T S) (n : ℕ) (k : Link S) (v : Stored T S) (m : ℕ) (x : T) → s n ≡ Some v
+      → IsSideFor key unit op of s n x side →
       IsPlaceFor key unit op of s (Some k) m x → IsOpened key unit op of s k v → AreOn key side x x v.entry
   on_placed Left s n k v m x e for h o = for v e
   on_placed Right s n k v m x e for h o = later key unit op of laws s k v m x h o (for v e)
 
-  pub placed_down : (side : Side) (s : Store T S) (n m : ℕ) (v : Stored T S) (x : T) → s n ≡ Some v → IsSideFor key unit op of s n x side → (k : Link S) →
+  pub placed_down : (side : Side) (s : Store T S) (n m : ℕ) (v : Stored T S) (x : T) → s n ≡ Some v → IsSideFor key unit op of s n x side
+      → (k : Link S) →
       k.number ≡ n → IsPlaceFor key unit op of s (Some k) m x →
       GoesDown key unit op of laws (λ l. IsPlaceFor key unit op of s l m x) (with_entry key x) (λ f j. is m j + f j) side s k v
   placed_down side s n m v x e for k p h =
@@ -665,7 +686,8 @@ module _ {T S : Type 0} (key : T → ℕ) (unit : S) (op : S → S → S) (of : 
       child_number side (s n) ≡ Some below →
       IsSideFor key unit op of s n x side → IsFurther key unit op of laws (λ l. IsPlaceFor key unit op of s l m x) s n below
   placed_further side s n below m x b d for = let w = node_at key unit op of laws s n b.link b.number b.asked.held in
-      further key unit op of laws (λ l. IsPlaceFor key unit op of s l m x) (with_entry key x) (λ f j. is m j + f j) none 0 1 side s n w.node below w.stored d
+      further key unit op of laws (λ l. IsPlaceFor key unit op of s l m x) (with_entry key x) (λ f j. is m j + f j) none 0 1 side s n w.node
+      below w.stored d
       (placed_down side s n m w.node x w.stored for) b
 
   abbrev pub IsPlaceStep : Side → Store T S → Store T S → ℕ → ℕ → ℕ → T → Bool → Type 0
@@ -699,7 +721,8 @@ module _ {T S : Type 0} (key : T → ℕ) (unit : S) (op : S → S → S) (of : 
       (λ _ _ e. let d : None ≡ Some hung.link = sym no ∙ e in cc)
 
   -- taking out
-  removed_is : (side : Side) (s : Store T S) (k : Link S) (v : Stored T S) (x : T) → HasKey key unit op of s (Some k) x → IsOpened key unit op of s k v →
+  removed_is : (side : Side) (s : Store T S) (k : Link S) (v : Stored T S) (x : T) → HasKey key unit op of s (Some k) x
+      → IsOpened key unit op of s k v →
       AreOn key side x x v.entry →
       in_order side (without_key key (key x) (entries_at s (on_side side v))) v.entry (entries_at s (on_other side v)) ≡ without_key key (key x)
       (entries_at s (Some k))
@@ -733,8 +756,10 @@ module _ {T S : Type 0} (key : T → ℕ) (unit : S) (op : S → S → S) (of : 
         once = once_at s k v o;
       }
 
-  pub removed_further : (side : Side) (s : Store T S) (n below : ℕ) (x : T) → HasKeyBelow key unit op of s n x → child_number side (s n) ≡ Some below →
-      IsAt key unit op of s n x false → IsSideFor key unit op of s n x side → IsFurther key unit op of laws (λ l. HasKey key unit op of s l x) s n below
+  pub removed_further : (side : Side) (s : Store T S) (n below : ℕ) (x : T) → HasKeyBelow key unit op of s n x
+      → child_number side (s n) ≡ Some below →
+      IsAt key unit op of s n x false → IsSideFor key unit op of s n x side
+      → IsFurther key unit op of laws (λ l. HasKey key unit op of s l x) s n below
   removed_further side s n below x b d other for = let w = node_at key unit op of laws s n b.link b.number b.asked.held in
       further key unit op of laws (λ l. HasKey key unit op of s l x) (without_key key (key x)) (λ f. f) none 1 0 side s n w.node below w.stored d
       (removed_down side s n w.node x w.stored other for) b
@@ -748,7 +773,8 @@ module _ {T S : Type 0} (key : T → ℕ) (unit : S) (op : S → S → S) (of : 
       IsAt key unit op of s n x false → IsSideFor key unit op of s n x side → IsRemovedBelow key unit op of s t below x out c →
       IsRemoveStep side s t n below x out c
   removed_step side s t n below x out c b d other for done = let w = node_at key unit op of laws s n b.link b.number b.asked.held in
-      step key unit op of laws (λ l. HasKey key unit op of s l x) (without_key key (key x)) (λ f. f) (is out) 1 0 ⊥ side s t n w.node below c (omega arith)
+      step key unit op of laws (λ l. HasKey key unit op of s l x) (without_key key (key x)) (λ f. f) (is out) 1 0 ⊥ side s t n w.node below
+      c (omega arith)
       w.stored d
       (removed_down side s n w.node x w.stored other for) b done
 
@@ -794,12 +820,15 @@ module _ {T S : Type 0} (key : T → ℕ) (unit : S) (op : S → S → S) (of : 
       let same = (at v e).0 refl in
       let w = removed_last key unit op of laws s k v x h o (omega arith) (omega arith) last in
       let zero : height_of v.right ≡ 0 = ap height_of last in
-      let high = o.height in
-      (subst (λ i. IsWithout key unit op of s s (Some k) (without_key key (key x) (entries (tree_at s (Some k)))) i v.left) p w, (omega arith, omega arith))
+      let high = o.height in (
+        subst (λ i. IsWithout key unit op of s s (Some k) (without_key key (key x) (entries (tree_at s (Some k)))) i v.left) p w,
+        (omega arith, omega arith),
+      )
 
   pub taken_middle : (s t u : Store T S) (n : ℕ) (v : Stored T S) (x : T) (m : Link S) (first : ℕ) (y : T) (rest : Option (Link S)) (k' : Link S) →
       s n ≡ Some v → IsAt key unit op of s n x true → v.right ≡ Some m → IsPopped key unit op of s t m first y rest → height_of rest ≤ m.height →
-      m.height ≤ height_of rest + 1 → IsJoined key unit op of t u first v.left y rest k' → IsHeightAfter (height_of v.left) (height_of rest) k'.height →
+      m.height ≤ height_of rest + 1 → IsJoined key unit op of t u first v.left y rest k'
+      → IsHeightAfter (height_of v.left) (height_of rest) k'.height →
       IsTaken key unit op of s u n x (Some k')
   taken_middle s t u n v x m first y rest k' e at is_m popped low high joined after k p h =
       let o = opened_at key unit op of laws s n k v p h.held e in
@@ -808,8 +837,10 @@ module _ {T S : Type 0} (key : T → ℕ) (unit : S) (op : S → S → S) (of : 
       let right : height_of v.right ≡ m.height = ap height_of is_m in
       let q = settles_right (height_of v.left) (height_of v.right) (height_of rest) k'.height k.height 1 0 o.level o.height (omega arith)
       (omega arith) (omega arith) after in
-      let a = q.0 in let b = q.1 in
-      (subst (λ i. IsWithout key unit op of s u (Some k) (without_key key (key x) (entries (tree_at s (Some k)))) i (Some k')) p w, (omega arith, omega arith))
+      let a = q.0 in let b = q.1 in (
+        subst (λ i. IsWithout key unit op of s u (Some k) (without_key key (key x) (entries (tree_at s (Some k)))) i (Some k')) p w,
+        (omega arith, omega arith),
+      )
 
   -- splitting
   next_at : (x y : T) (a : List T) (w : T) (b : List T) → NoneBetween key (key x) (key y) (a ++ w ∷ b) → (key w ≤ key x) ⊎ (key y < key w)
@@ -817,7 +848,8 @@ module _ {T S : Type 0} (key : T → ℕ) (unit : S) (op : S → S → S) (of : 
 
   split_is : (side : Side) (s : Store T S) (k : Link S) (v : Stored T S) (m : ℕ) (x y : T) → IsSplitFor key unit op of s (Some k) m x y →
       IsOpened key unit op of s k v → AreOn key side x x v.entry →
-      in_order side (with_two key x y (entries_at s (on_side side v))) v.entry (entries_at s (on_other side v)) ≡ with_two key x y (entries_at s (Some k))
+      in_order side (with_two key x y (entries_at s (on_side side v))) v.entry (entries_at s (on_other side v)) ≡ with_two key x y
+      (entries_at s (Some k))
   split_is Left s k v m x y h o lt =
       let a = entries (tree_at s v.left) in
       let b = entries (tree_at s v.right) in
@@ -876,7 +908,8 @@ module _ {T S : Type 0} (key : T → ℕ) (unit : S) (op : S → S → S) (of : 
       child_number side (s n) ≡ Some below →
       IsBeside key unit op of s n x x (Some side) → IsFurther key unit op of laws (λ l. IsSplitFor key unit op of s l m x y) s n below
   split_further side s n below m x y b d on = let w = node_at key unit op of laws s n b.link b.number b.asked.has.held in
-      further key unit op of laws (λ l. IsSplitFor key unit op of s l m x y) (with_two key x y) (λ f j. is m j + f j) none 0 1 side s n w.node below w.stored d
+      further key unit op of laws (λ l. IsSplitFor key unit op of s l m x y) (with_two key x y) (λ f j. is m j + f j) none 0 1 side s n w.node
+      below w.stored d
       (split_down side s n m w.node x y w.stored (on w.node w.stored)) b
 
   abbrev pub IsSplitStep : Side → Store T S → Store T S → ℕ → ℕ → ℕ → T → T → Bool → Type 0
@@ -893,10 +926,12 @@ module _ {T S : Type 0} (key : T → ℕ) (unit : S) (op : S → S → S) (of : 
       (omega arith) w.stored d
       (split_down side s n m w.node x y w.stored (on w.node w.stored)) b done
 
-  pub split_never : (side : Side) (s : Store T S) (n : ℕ) (m : ℕ) (x y : T) → IsSplitBelowFor key unit op of s n m x y → child_number side (s n) ≡ None →
+  pub split_never : (side : Side) (s : Store T S) (n : ℕ) (m : ℕ) (x y : T) → IsSplitBelowFor key unit op of s n m x y
+      → child_number side (s n) ≡ None →
       IsBeside key unit op of s n x x (Some side) → ⊥
   split_never side s n m x y b d on = let w = node_at key unit op of laws s n b.link b.number b.asked.has.held in
-      never key unit op of laws (λ l. IsSplitFor key unit op of s l m x y) (with_two key x y) (λ f j. is m j + f j) none 0 1 side s n w.node w.stored d
+      never key unit op of laws (λ l. IsSplitFor key unit op of s l m x y) (with_two key x y) (λ f j. is m j + f j) none 0 1 side s n
+      w.node w.stored d
       (split_down side s n m w.node x y w.stored (on w.node w.stored)) b (λ h. no_key key unit op of laws s x h.has)
 
   -- the link of a node whose entry is another one
@@ -905,11 +940,13 @@ module _ {T S : Type 0} (key : T → ℕ) (unit : S) (op : S → S → S) (of : 
     number : link.number ≡ k.number
     done : IsDone key unit op of laws s t k link xs f none 0 0
 
-  retold : {Put : Type 0} (s t : Store T S) (k : Link S) (xs : List T) (f : ℕ → ℕ) → IsChanged key unit op of s t k true xs f none 0 0 Put → IsRetold s t k xs f
+  retold : {Put : Type 0} (s t : Store T S) (k : Link S) (xs : List T) (f : ℕ → ℕ) → IsChanged key unit op of s t k true xs f none 0 0 Put
+      → IsRetold s t k xs f
   retold s t k xs f c =
       let v = c.node in
       let l0 = c.level.0 in let l1 = c.level.1 in
-      let level : DifferByAtMost 1 (height_of v.left) (height_of v.right) = level_of (height_of v.left) (height_of v.right) k.height c.level c.settles in
+      let level : DifferByAtMost 1 (height_of v.left) (height_of v.right) =
+      level_of (height_of v.left) (height_of v.right) k.height c.level c.settles in
       let m' : Link S = record {
         number = k.number;
         height = max (height_of v.left) (height_of v.right) + 1;
@@ -929,7 +966,8 @@ module _ {T S : Type 0} (key : T → ℕ) (unit : S) (op : S → S → S) (of : 
       }
 
   split_place : (s t : Store T S) (n m : ℕ) (x y : T) (k m' : Link S) → IsSplitFor key unit op of s (Some k) m x y →
-      IsDone key unit op of laws s t k m' (with_entry key x (without_key key (key x) (entries (tree_at s (Some k))))) (λ j. count j (tree_at s (Some k)))
+      IsDone key unit op of laws s t k m' (with_entry key x (without_key key (key x) (entries (tree_at s (Some k)))))
+      (λ j. count j (tree_at s (Some k)))
       none 0 0 →
       IsPlaceFor key unit op of t (Some m') m y
   split_place s t n m x y k m' h d =

@@ -35,7 +35,8 @@ module _ {T S : Type 0} where
 
   pub side_keeps : (side : Side) (s t : Store T S) (n : ℕ) (l : Option (Link S)) → t ≡ with_at n (side_put side l (s n)) s → KeepsEntries s t
   side_keeps side s t n l e j =
-      entry_at n (side_put side l (s n)) s t e j ∙ with_own n (entry_of (side_put side l (s n))) (λ i. entry_of (s i)) (sym (entry_side side l (s n))) j
+      entry_at n (side_put side l (s n)) s t e j
+      ∙ with_own n (entry_of (side_put side l (s n))) (λ i. entry_of (s i)) (sym (entry_side side l (s n))) j
 
   -- a node gets the entry that it has
   pub put_own : (s t : Store T S) (n : ℕ) (x : T) → PutsEntry s t n x → entry_of (s n) ≡ Some x → KeepsEntries s t

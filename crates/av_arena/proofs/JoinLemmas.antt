@@ -19,7 +19,8 @@ use Rattle.av_arena.proofs.TreeLemmas.{key_left, key_right}
 -- lists
 module _ {A : Type 0} (key : A → ℕ) where
   swap_cases : (a b : ℕ) (y : A) (t u v w : List A) → (a ≡ b → ⊥) → (p q : Bool) → eqb (key y) a ≡ p → eqb (key y) b ≡ q → u ≡ without_key key b t →
-      v ≡ without_key key a t → without_key key a u ≡ without_key key b v → without_key key a (cond q t (y ∷ u)) ≡ without_key key b (cond p t (y ∷ v))
+      v ≡ without_key key a t → without_key key a u ≡ without_key key b v
+      → without_key key a (cond q t (y ∷ u)) ≡ without_key key b (cond p t (y ∷ v))
   swap_cases a b y t u v w apart true true e f g h i = absurd (apart (sym (eqb-true (key y) a e) ∙ eqb-true (key y) b f))
   swap_cases a b y t u v w apart true false e f g h i = rw (e) g
   swap_cases a b y t u v w apart false true e f g h i = sym (rw (f) h)
@@ -31,7 +32,8 @@ module _ {A : Type 0} (key : A → ℕ) where
   without_swap a b apart (y ∷ t) = swap_cases a b y t (without_key key b t) (without_key key a t) t apart (eqb (key y) a) (eqb (key y) b) refl refl
       refl refl (without_swap a b apart t)
 
-  gone_cases : (k : ℕ) (y : A) (t u : List A) (b : Bool) → eqb (key y) k ≡ b → AllByRecursion (λ z. key y < key z) t → AllByRecursion (λ z. key z ≡ k → ⊥) u →
+  gone_cases : (k : ℕ) (y : A) (t u : List A) (b : Bool) → eqb (key y) k ≡ b → AllByRecursion (λ z. key y < key z) t
+      → AllByRecursion (λ z. key z ≡ k → ⊥) u →
       AllByRecursion (λ z. key z ≡ k → ⊥) (cond b t (y ∷ u))
   gone_cases k y t u true e up a = let same = eqb-true (key y) k e in AllByRecursion-map (λ z. key y < key z) (λ z. key z ≡ k → ⊥)
       (λ z p q. absurd (omega arith)) t up
@@ -71,7 +73,8 @@ module _ {A : Type 0} (key : A → ℕ) where
       ∙ (ap (with_entry key z) (without_middle key (key x) w l r at up') ∙ with_between key z w l r zw up'))
 
   -- the root is the upper one, and the lower one goes
-  pub joined_upper : (x y z w : A) (xs l r : List A) → IsRising key xs → key x < key y → NoneWithin key (key x) (key y) xs → key z ≡ key x → key w ≡ key y →
+  pub joined_upper : (x y z w : A) (xs l r : List A) → IsRising key xs → key x < key y → NoneWithin key (key x) (key y) xs → key z ≡ key x
+      → key w ≡ key y →
       l ++ w ∷ r ≡ without_key key (key x) xs → l ++ z ∷ r ≡ with_joined key x y z xs
   joined_upper x y z w xs l r up after next same at e =
       let up' : IsRising key (l ++ w ∷ r) = rw e (rising_without key (key x) xs up) in
@@ -80,7 +83,8 @@ module _ {A : Type 0} (key : A → ℕ) where
       rw e (all_without key (λ o. (key o ≤ key x) ⊎ (key y ≤ key o)) (key x) xs next) in
       let below : AllByRecursion (λ o. key o ≤ key x) l = all_both (λ o. (key o ≤ key x) ⊎ (key y ≤ key o)) (λ o. key o < key w) (λ o. key o ≤ key x)
       (λ o p q. elim p [ inl i ↦ i | inr i ↦ absurd (omega arith) ]) l (AllByRecursion-front _ l (w ∷ r) near) (all_lower l w r up') in
-      let lower : AllByRecursion (λ o. key o < key z) l = all_both (λ o. key o ≤ key x) (λ o. key o ≡ key x → ⊥) (λ o. key o < key z) (λ o p q. omega arith)
+      let lower : AllByRecursion (λ o. key o < key z) l =
+      all_both (λ o. key o ≤ key x) (λ o. key o ≡ key x → ⊥) (λ o. key o < key z) (λ o p q. omega arith)
       l below
       (AllByRecursion-front _ l (w ∷ r) others) in
       let up'' : IsRising key (l ++ z ∷ r) = rising_put l w z r up' (omega arith) lower in
@@ -102,7 +106,8 @@ module _ {A : Type 0} (key : A → ℕ) where
       let a = without_right key (key y) v l r (omega arith) up in
       let up' : IsRising key (l ++ v ∷ without_key key (key y) r) = subst (IsRising key) a (rising_without key (key y) _ up) in
       let b = without_right key (key x) v l (without_key key (key y) r) lt up' in
-      let up'' : IsRising key (l ++ v ∷ without_key key (key x) (without_key key (key y) r)) = subst (IsRising key) b (rising_without key (key x) _ up') in
+      let up'' : IsRising key (l ++ v ∷ without_key key (key x) (without_key key (key y) r)) =
+      subst (IsRising key) b (rising_without key (key x) _ up') in
       ap (λ t. with_entry key z (without_key key (key x) t)) a ∙ (ap (with_entry key z) b ∙ with_right key z v l _ (omega arith) up'')
 
 module _ {T S : Type 0} (key : T → ℕ) (unit : S) (op : S → S → S) (of : T → S) (laws : MonoidLaws unit op) where
@@ -160,7 +165,8 @@ module _ {T S : Type 0} (key : T → ℕ) (unit : S) (op : S → S → S) (of : 
     once = once_at key unit op of laws s k v o;
   }
 
-  pub join_further : (side : Side) (s : Store T S) (n below : ℕ) (x y z : T) → IsJoinBelowFor key unit op of s n x y z → child_number side (s n) ≡ Some below →
+  pub join_further : (side : Side) (s : Store T S) (n below : ℕ) (x y z : T) → IsJoinBelowFor key unit op of s n x y z
+      → child_number side (s n) ≡ Some below →
       IsBeside key unit op of s n x y (Some side) → IsFurther key unit op of laws (λ l. IsJoinFor key unit op of s l x y z) s n below
   join_further side s n below x y z b d on = let w = node_at key unit op of laws s n b.link b.number b.asked.has.held in
       further key unit op of laws (λ l. IsJoinFor key unit op of s l x y z) (with_joined key x y z) (λ f. f) none 1 0 side s n w.node below w.stored d
@@ -218,7 +224,8 @@ module _ {T S : Type 0} (key : T → ℕ) (unit : S) (op : S → S → S) (of : 
   join_lower_goes s t u n out v x y z c e meets lt below stays at k p h =
       let o = opened_at key unit op of laws s n k v p h.has.held e in
       let le = (meets v e).1 in
-      let mid = all_middle (λ w. (key w ≤ key x) ⊎ (key y ≤ key w)) (entries (tree_at s v.left)) v.entry (entries (tree_at s v.right)) (rw o.tree at h.next) in
+      let mid = all_middle (λ w. (key w ≤ key x) ⊎ (key y ≤ key w)) (entries (tree_at s v.left)) v.entry (entries (tree_at s v.right))
+      (rw o.tree at h.next) in
       let is_y : key v.entry ≡ key y = elim mid [ inl i ↦ absurd (omega arith) | inr i ↦ omega arith ] in
       put_at_root s t u n out k v x y z c _ meets p e stays at (below k p h.has)
       (λ l r d. joined_upper key x y z v.entry _ l r h.has.rising h.after h.next h.same is_y d)
@@ -229,7 +236,8 @@ module _ {T S : Type 0} (key : T → ℕ) (unit : S) (op : S → S → S) (of : 
   join_upper_goes s t u n out v x y z c e meets le below stays at k p h =
       let ge = (meets v e).0 in
       let is_x : key v.entry ≡ key x = omega arith in
-      put_at_root s t u n out k v x y z c _ meets p e stays at (below k p h.too) (λ l r d. joined_lower key x y z v.entry _ l r h.has.rising h.same is_x d)
+      put_at_root s t u n out k v x y z c _ meets p e stays at (below k p h.too)
+      (λ l r d. joined_lower key x y z v.entry _ l r h.has.rising h.same is_x d)
 
   -- what is asked where the root is one of the two
   pub join_lower_has : (s : Store T S) (n : ℕ) (x y z : T) → IsJoinBelowFor key unit op of s n x y z → HasKeyBelow key unit op of s n x

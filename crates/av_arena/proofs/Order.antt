@@ -54,7 +54,11 @@ module _ {A : Type 0} (key : A → ℕ) where
   all_with P x (y ∷ t) p a =
       elim (ltb (key x) (key y)) as (λ b. AllByRecursion P (cond b (x ∷ y ∷ t) (y ∷ cond (ltb (key y) (key x)) (with_entry key x t) t))) [
         | true ↦ (p, a)
-        | false ↦ (a.0, elim (ltb (key y) (key x)) as (λ b. AllByRecursion P (cond b (with_entry key x t) t)) [ true ↦ all_with P x t p a.1 | false ↦ a.1 ])
+        | false ↦ (
+          a.0,
+          elim (ltb (key y) (key x)) as (λ b. AllByRecursion P (cond b (with_entry key x t) t))
+              [ true ↦ all_with P x t p a.1 | false ↦ a.1 ],
+        )
       ]
 
   rising_with_cases : (x y : A) (t : List A) (a b : Bool) → ltb (key x) (key y) ≡ a → ltb (key y) (key x) ≡ b → IsRising key (y ∷ t) →
@@ -69,7 +73,8 @@ module _ {A : Type 0} (key : A → ℕ) where
   rising_with x [] s = (tt, tt)
   rising_with x (y ∷ t) s = rising_with_cases x y t (ltb (key x) (key y)) (ltb (key y) (key x)) refl refl s (rising_with x t s.1)
 
-  length_with_cases : (a b : Bool) (x y : A) (t u : List A) → length u ≤ length t + 1 → length (cond a (x ∷ y ∷ t) (y ∷ cond b u t)) ≤ length (y ∷ t) + 1
+  length_with_cases : (a b : Bool) (x y : A) (t u : List A) → length u ≤ length t + 1
+      → length (cond a (x ∷ y ∷ t) (y ∷ cond b u t)) ≤ length (y ∷ t) + 1
   length_with_cases true b x y t u h = omega arith
   length_with_cases false true x y t u h = omega arith
   length_with_cases false false x y t u h = omega arith
@@ -104,7 +109,8 @@ module _ {A : Type 0} (key : A → ℕ) where
       with_later x y (t ++ k ∷ r) (omega arith) ∙ ap (λ z. y ∷ z) (with_middle x k t r p s.1)
 
   -- taking out
-  without_other : (k : ℕ) (y : A) (t : List A) (b : Bool) → eqb (key y) k ≡ b → (P : List A → Type 0) → (key y ≡ k → P t) → (P (y ∷ without_key key k t)) →
+  without_other : (k : ℕ) (y : A) (t : List A) (b : Bool) → eqb (key y) k ≡ b → (P : List A → Type 0) → (key y ≡ k → P t)
+      → (P (y ∷ without_key key k t)) →
       P (cond b t (y ∷ without_key key k t))
   without_other k y t true e P same other = same (eqb-true (key y) k e)
   without_other k y t false e P same other = other
@@ -131,11 +137,13 @@ module _ {A : Type 0} (key : A → ℕ) where
   without_cases_append true y t u m v e = refl
   without_cases_append false y t u m v e = ap (λ z. y ∷ z) e
 
-  pub without_left : (k : ℕ) (m : A) (l r : List A) → k < key m → IsRising key (l ++ m ∷ r) → without_key key k (l ++ m ∷ r) ≡ without_key key k l ++ m ∷ r
+  pub without_left : (k : ℕ) (m : A) (l r : List A) → k < key m → IsRising key (l ++ m ∷ r)
+      → without_key key k (l ++ m ∷ r) ≡ without_key key k l ++ m ∷ r
   without_left k m [] r p s = without_none k (m ∷ r) (p, AllByRecursion-map (λ z. key m < key z) (λ z. k < key z) (λ z q. omega arith) r s.0)
   without_left k m (y ∷ t) r p s = without_cases_append (eqb (key y) k) y t (without_key key k t) (m ∷ r) _ (without_left k m t r p s.1)
 
-  pub without_right : (k : ℕ) (m : A) (l r : List A) → key m < k → IsRising key (l ++ m ∷ r) → without_key key k (l ++ m ∷ r) ≡ l ++ m ∷ without_key key k r
+  pub without_right : (k : ℕ) (m : A) (l r : List A) → key m < k → IsRising key (l ++ m ∷ r)
+      → without_key key k (l ++ m ∷ r) ≡ l ++ m ∷ without_key key k r
   without_right k m [] r p s = rw (ne_eqb (key m) k (omega arith))
   without_right k m (y ∷ t) r p s =
       let q : key y < key m = all_middle (λ z. key y < key z) t m r s.0 in
@@ -173,11 +181,13 @@ module _ {A : Type 0} (key : A → ℕ) where
       rw (ne_eqb (key y) k (omega arith)) (at_right k m t r p s.1)
 
   -- the parts of a rotation, under the names that the code gives them
-  pub right_part : (l x : List A) (j : A) (y : List A) (k : A) (z a : List A) (e : A) (c : List A) → IsRising key (l ++ k ∷ z) → l ≡ x ++ j ∷ y → a ≡ y →
+  pub right_part : (l x : List A) (j : A) (y : List A) (k : A) (z a : List A) (e : A) (c : List A) → IsRising key (l ++ k ∷ z)
+      → l ≡ x ++ j ∷ y → a ≡ y →
       e ≡ k → c ≡ z → IsRising key (a ++ e ∷ c)
   right_part l x j y k z a e c s is p q r = rw (p, q, r) (rising_inner_right x j y k z (rw is at s))
 
-  pub left_part : (x : List A) (j : A) (y : List A) (k : A) (r z a : List A) (e : A) (c : List A) → IsRising key (x ++ j ∷ r) → r ≡ y ++ k ∷ z → a ≡ x → e ≡ j →
+  pub left_part : (x : List A) (j : A) (y : List A) (k : A) (r z a : List A) (e : A) (c : List A) → IsRising key (x ++ j ∷ r) → r ≡ y ++ k ∷ z
+      → a ≡ x → e ≡ j →
       c ≡ y → IsRising key (a ++ e ∷ c)
   left_part x j y k r z a e c s is p q t = rw (p, q, t) (rising_inner_left x j y k z (rw is at s))
 

@@ -56,7 +56,8 @@ module _ {T S : Type 0} (key : T → ℕ) (unit : S) (op : S → S → S) (of : 
   unfolding tree_at
   tree_is s t st = levels_is (height_of (link_of key unit op of t)) s t st (rw (height_link t) (omega arith))
 
-  pub stored_kept : (s s' : Store T S) (t : Tree T) → ((j : ℕ) → 1 ≤ count j t → s' j ≡ s j) → IsStored key unit op of s t → IsStored key unit op of s' t
+  pub stored_kept : (s s' : Store T S) (t : Tree T) → ((j : ℕ) → 1 ≤ count j t → s' j ≡ s j) → IsStored key unit op of s t
+      → IsStored key unit op of s' t
   stored_kept s s' Leaf keep st = tt
   stored_kept s s' (Fork n l x r) keep st =
       let e = is_self n in
@@ -78,7 +79,8 @@ module _ {T S : Type 0} (key : T → ℕ) (unit : S) (op : S → S → S) (of : 
 
   held_part : (s : Store T S) (t : Tree T) → IsStored key unit op of s t → ((j : ℕ) → count j t ≤ 1) → IsLevel t →
       IsHeld key unit op of s (link_of key unit op of t)
-  held_part s t st o lv = let e = tree_is s t st in record { stored = rw e st; link = ap (link_of key unit op of) e; once = λ j. rw e (o j); level = rw e lv }
+  held_part s t st o lv = let e = tree_is s t st in
+      record { stored = rw e st; link = ap (link_of key unit op of) e; once = λ j. rw e (o j); level = rw e lv }
 
   opened_node : (s : Store T S) (n : ℕ) (l : Tree T) (x : T) (r : Tree T) (k : Link S) → IsStored key unit op of s (Fork n l x r) →
       ((j : ℕ) → count j (Fork n l x r) ≤ 1) → IsLevel (Fork n l x r) →
@@ -178,7 +180,8 @@ module _ {T S : Type 0} (key : T → ℕ) (unit : S) (op : S → S → S) (of : 
       (used_cases (eqb m n) (record { left = a; entry = x; right = b }) (s m) h)
 
   -- a tree that takes the place of a node above its sides, said of trees
-  joined_as : (s s' : Store T S) (n : ℕ) (a : Option (Link S)) (x : T) (b : Option (Link S)) (k : Link S) (t l r : Tree T) → IsHeld key unit op of s' (Some k) →
+  joined_as : (s s' : Store T S) (n : ℕ) (a : Option (Link S)) (x : T) (b : Option (Link S)) (k : Link S) (t l r : Tree T)
+      → IsHeld key unit op of s' (Some k) →
       tree_at s' (Some k) ≡ t → tree_at s a ≡ l → tree_at s b ≡ r → entries t ≡ entries l ++ x ∷ entries r →
       ((j : ℕ) → count j t ≡ is n j + (count j l + count j r)) → ((j : ℕ) → count j t ≡ 0 → s' j ≡ s j) → ((j : ℕ) → IsSome (s j) → IsSome (s' j)) →
       IsJoined key unit op of s s' n a x b k
@@ -231,7 +234,8 @@ module _ {T S : Type 0} (key : T → ℕ) (unit : S) (op : S → S → S) (of : 
 
   -- a side as high as the one before is put in its place
   pub left_set : (s s' : Store T S) (k : Link S) (own left : Option (Link S)) (x : T) (right : Option (Link S)) (sum : S) →
-      IsRoot key unit op of s k own x right → IsSpot key unit op of s k.number left right → s' ≡ with_at k.number (side_put Left left (s k.number)) s →
+      IsRoot key unit op of s k own x right → IsSpot key unit op of s k.number left right
+      → s' ≡ with_at k.number (side_put Left left (s k.number)) s →
       height_of own ≡ height_of left → sum ≡ op (sum_of unit left) (op (of x) (sum_of unit right)) →
       IsJoined key unit op of s s' k.number left x right (record { number = k.number; height = k.height; sum = sum })
   left_set s s' k own left x right sum root spot e h p =
@@ -294,7 +298,8 @@ module _ {T S : Type 0} (key : T → ℕ) (unit : S) (op : S → S → S) (of : 
       let h = shut s s' n v.right x right low one o.right spot.right p (λ j. let c = once j in omega arith) in
       let ka = kept s s' v.left o.left (λ j c. unset s s' n v.right x right low one j (let d = once j in omega arith)) in
       let w = shut s' s'' m v.left v.entry (Some low) k two ka.held h.held q (λ j. rw (ka.tree, h.tree) (let c = once j in omega arith)) in
-      joined_as s s'' n (Some left) x right k (Fork m a v.entry (Fork n b x r)) (Fork m a v.entry b) r w.held (w.tree ∙ rw (ka.tree, h.tree) refl) o.tree refl
+      joined_as s s'' n (Some left) x right k (Fork m a v.entry (Fork n b x r)) (Fork m a v.entry b) r w.held
+      (w.tree ∙ rw (ka.tree, h.tree) refl) o.tree refl
       (sym (append_assoc (entries a) (v.entry ∷ entries b) (x ∷ entries r))) (λ j. omega arith)
       (λ j z. unset s' s'' m v.left v.entry (Some low) k two j (omega arith) ∙ unset s s' n v.right x right low one j (omega arith))
       (λ j u. still_used s' s'' m v.left v.entry (Some low) k two j (still_used s s' n v.right x right low one j u))
@@ -312,7 +317,8 @@ module _ {T S : Type 0} (key : T → ℕ) (unit : S) (op : S → S → S) (of : 
       let h = shut s s' n left x v.left low one spot.left o.left p (λ j. let c = once j in omega arith) in
       let kb = kept s s' v.right o.right (λ j c. unset s s' n left x v.left low one j (let d = once j in omega arith)) in
       let w = shut s' s'' m (Some low) v.entry v.right k two h.held kb.held q (λ j. rw (kb.tree, h.tree) (let c = once j in omega arith)) in
-      joined_as s s'' n left x (Some right) k (Fork m (Fork n l x a) v.entry b) l (Fork m a v.entry b) w.held (w.tree ∙ rw (kb.tree, h.tree) refl) refl o.tree
+      joined_as s s'' n left x (Some right) k (Fork m (Fork n l x a) v.entry b) l (Fork m a v.entry b) w.held
+      (w.tree ∙ rw (kb.tree, h.tree) refl) refl o.tree
       (append_assoc (entries l) (x ∷ entries a) (v.entry ∷ entries b)) (λ j. omega arith)
       (λ j z. unset s' s'' m (Some low) v.entry v.right k two j (omega arith) ∙ unset s s' n left x v.left low one j (omega arith))
       (λ j u. still_used s' s'' m (Some low) v.entry v.right k two j (still_used s s' n left x v.left low one j u))
@@ -325,11 +331,13 @@ module _ {T S : Type 0} (key : T → ℕ) (unit : S) (op : S → S → S) (of : 
     kept : (j : ℕ) → is n j + (is m j + is o j) ≡ 0 → s' j ≡ s j
     used : (j : ℕ) → IsSome (s j) → IsSome (s' j)
 
-  three : (s t u w : Store T S) (n m o : ℕ) (a : Option (Link S)) (x : T) (b : Option (Link S)) (y : T) (c : Option (Link S)) (z : T) (d : Option (Link S))
+  three : (s t u w : Store T S) (n m o : ℕ) (a : Option (Link S)) (x : T) (b : Option (Link S)) (y : T) (c : Option (Link S)) (z : T)
+      (d : Option (Link S))
       (low high k : Link S) → IsHeld key unit op of s a → IsHeld key unit op of s b → IsHeld key unit op of s c → IsHeld key unit op of s d →
       IsSet key unit op of s t n a x b low → IsSet key unit op of t u o c z d high → IsSet key unit op of u w m (Some low) y (Some high) k →
       DifferByAtMost 1 (height_of a) (height_of b) → DifferByAtMost 1 (height_of c) (height_of d) → DifferByAtMost 1 low.height high.height →
-      ((j : ℕ) → (is n j + (is m j + is o j)) + ((count j (tree_at s a) + count j (tree_at s b)) + (count j (tree_at s c) + count j (tree_at s d))) ≤ 1) →
+      ((j : ℕ) → (is n j + (is m j + is o j)) +
+      ((count j (tree_at s a) + count j (tree_at s b)) + (count j (tree_at s c) + count j (tree_at s d))) ≤ 1) →
       IsThree s w n m o a x b y c z d k
   three s t u w n m o a x b y c z d low high k ha hb hc hd one two last p q r once =
       let f = shut s t n a x b low one ha hb p (λ j. let e = once j in omega arith) in
@@ -347,11 +355,14 @@ module _ {T S : Type 0} (key : T → ℕ) (unit : S) (op : S → S → S) (of : 
             ∙ (unset t u o c z d high two j (omega arith) ∙ unset s t n a x b low one j (omega arith));
       }
 
-  pub turned_left_right : (s t u w : Store T S) (n : ℕ) (left : Link S) (x : T) (right : Option (Link S)) (v : Stored T S) (mid : Link S) (i : Stored T S)
+  pub turned_left_right : (s t u w : Store T S) (n : ℕ) (left : Link S) (x : T) (right : Option (Link S)) (v : Stored T S) (mid : Link S)
+      (i : Stored T S)
       (low high k : Link S) → IsSpot key unit op of s n (Some left) right → IsOpened key unit op of s left v → v.right ≡ Some mid →
-      IsOpened key unit op of s mid i → IsSet key unit op of s t left.number v.left v.entry i.left low → IsSet key unit op of t u n i.right x right high →
+      IsOpened key unit op of s mid i → IsSet key unit op of s t left.number v.left v.entry i.left low
+      → IsSet key unit op of t u n i.right x right high →
       IsSet key unit op of u w mid.number (Some low) i.entry (Some high) k → DifferByAtMost 1 (height_of v.left) (height_of i.left) →
-      DifferByAtMost 1 (height_of i.right) (height_of right) → DifferByAtMost 1 low.height high.height → IsJoined key unit op of s w n (Some left) x right k
+      DifferByAtMost 1 (height_of i.right) (height_of right) → DifferByAtMost 1 low.height high.height
+      → IsJoined key unit op of s w n (Some left) x right k
   turned_left_right s t u w n left x right v mid i low high k spot o e oi one two last p q r =
       let a = tree_at s v.left in
       let b = tree_at s i.left in
@@ -361,17 +372,21 @@ module _ {T S : Type 0} (key : T → ℕ) (unit : S) (op : S → S → S) (of : 
       o.tree ∙ ap (λ g. Fork left.number a v.entry g) (ap (tree_at s) e ∙ oi.tree) in
       let once : (j : ℕ) → is n j + ((is left.number j + (count j a + (is mid.number j + (count j b + count j c)))) + count j d) ≤ 1 =
       λ j. rw eq at (spot.once j) in
-      let h = three s t u w left.number mid.number n v.left v.entry i.left i.entry i.right x right low high k o.left oi.left oi.right spot.right one two last p
+      let h = three s t u w left.number mid.number n v.left v.entry i.left i.entry i.right x right low high k o.left oi.left oi.right
+      spot.right one two last p
       q r (λ j. let g = once j in omega arith) in
       joined_as s w n (Some left) x right k (Fork mid.number (Fork left.number a v.entry b) i.entry (Fork n c x d))
       (Fork left.number a v.entry (Fork mid.number b i.entry c)) d h.held h.tree eq refl
       (simp append_assoc) (λ j. omega arith) (λ j z. h.kept j (omega arith)) h.used
 
-  pub turned_right_left : (s t u w : Store T S) (n : ℕ) (left : Option (Link S)) (x : T) (right : Link S) (v : Stored T S) (mid : Link S) (i : Stored T S)
+  pub turned_right_left : (s t u w : Store T S) (n : ℕ) (left : Option (Link S)) (x : T) (right : Link S) (v : Stored T S) (mid : Link S)
+      (i : Stored T S)
       (low high k : Link S) → IsSpot key unit op of s n left (Some right) → IsOpened key unit op of s right v → v.left ≡ Some mid →
-      IsOpened key unit op of s mid i → IsSet key unit op of s t n left x i.left low → IsSet key unit op of t u right.number i.right v.entry v.right high →
+      IsOpened key unit op of s mid i → IsSet key unit op of s t n left x i.left low
+      → IsSet key unit op of t u right.number i.right v.entry v.right high →
       IsSet key unit op of u w mid.number (Some low) i.entry (Some high) k → DifferByAtMost 1 (height_of left) (height_of i.left) →
-      DifferByAtMost 1 (height_of i.right) (height_of v.right) → DifferByAtMost 1 low.height high.height → IsJoined key unit op of s w n left x (Some right) k
+      DifferByAtMost 1 (height_of i.right) (height_of v.right) → DifferByAtMost 1 low.height high.height
+      → IsJoined key unit op of s w n left x (Some right) k
   turned_right_left s t u w n left x right v mid i low high k spot o e oi one two last p q r =
       let a = tree_at s left in
       let b = tree_at s i.left in
@@ -381,7 +396,8 @@ module _ {T S : Type 0} (key : T → ℕ) (unit : S) (op : S → S → S) (of : 
       o.tree ∙ ap (λ g. Fork right.number g v.entry d) (ap (tree_at s) e ∙ oi.tree) in
       let once : (j : ℕ) → is n j + (count j a + (is right.number j + ((is mid.number j + (count j b + count j c)) + count j d))) ≤ 1 =
       λ j. rw eq at (spot.once j) in
-      let h = three s t u w n mid.number right.number left x i.left i.entry i.right v.entry v.right low high k spot.left oi.left oi.right o.right one two last p
+      let h = three s t u w n mid.number right.number left x i.left i.entry i.right v.entry v.right low high k spot.left oi.left oi.right
+      o.right one two last p
       q r (λ j. let g = once j in omega arith) in
       joined_as s w n left x (Some right) k (Fork mid.number (Fork n a x b) i.entry (Fork right.number c v.entry d)) a
       (Fork right.number (Fork mid.number b i.entry c) v.entry d) h.held h.tree refl eq
@@ -398,13 +414,15 @@ module _ {T S : Type 0} (key : T → ℕ) (unit : S) (op : S → S → S) (of : 
   }
 
   -- a node that is in use afterwards is the new tree's, or gone, or one of the others
-  pub in_use_cases : (s s' : Store T S) (k : Option (Link S)) (xs : List T) (f g : ℕ → ℕ) → IsTree key unit op of s s' k xs f g → (j : ℕ) → IsSome (s' j) →
+  pub in_use_cases : (s s' : Store T S) (k : Option (Link S)) (xs : List T) (f g : ℕ → ℕ) → IsTree key unit op of s s' k xs f g → (j : ℕ)
+      → IsSome (s' j) →
       (1 ≤ count j (tree_at s' k) + g j) ⊎ (IsSome (s j) × (f j ≡ 0))
   in_use_cases s s' k xs f g t j u =
       let c = t.count j in
       elim (cases_lt 0 (f j)) [ inl h ↦ inl (omega arith) | inr h ↦ let z : f j ≡ 0 = omega arith in inr (subst IsSome (t.kept j z) u, z) ]
 
-  pub in_use : (s s' : Store T S) (k : Option (Link S)) (xs : List T) (f g : ℕ → ℕ) → IsTree key unit op of s s' k xs f g → ((j : ℕ) → IsSome (s j) → 1 ≤ f j) →
+  pub in_use : (s s' : Store T S) (k : Option (Link S)) (xs : List T) (f g : ℕ → ℕ) → IsTree key unit op of s s' k xs f g
+      → ((j : ℕ) → IsSome (s j) → 1 ≤ f j) →
       (j : ℕ) → IsSome (s' j) → 1 ≤ count j (tree_at s' k) + g j
   in_use s s' k xs f g t all j u = elim (in_use_cases s s' k xs f g t j u) [ inl h ↦ h | inr h ↦ let e = all j h.0 in let z = h.1 in omega arith ]
 
@@ -437,7 +455,8 @@ module _ {T S : Type 0} (key : T → ℕ) (unit : S) (op : S → S → S) (of : 
       }
 
   -- putting in
-  pub fresh_once : (s : Store T S) (k : Link S) (v : Stored T S) (n : ℕ) → IsOpened key unit op of s k v → count n (tree_at s (Some k)) ≡ 0 → (j : ℕ) →
+  pub fresh_once : (s : Store T S) (k : Link S) (v : Stored T S) (n : ℕ) → IsOpened key unit op of s k v
+      → count n (tree_at s (Some k)) ≡ 0 → (j : ℕ) →
       is n j + (is k.number j + (count j (tree_at s v.left) + count j (tree_at s v.right))) ≤ 1
   fresh_once s k v n o z j = elim (is_cases n j) [
     | inl e ↦ let c = o.once j in omega arith
@@ -446,7 +465,8 @@ module _ {T S : Type 0} (key : T → ℕ) (unit : S) (op : S → S → S) (of : 
         let d = is_at_most n j in omega arith
   ]
 
-  pub place_left : (s : Store T S) (k : Link S) (v : Stored T S) (n : ℕ) (x : T) → IsPlaceFor key unit op of s (Some k) n x → IsOpened key unit op of s k v →
+  pub place_left : (s : Store T S) (k : Link S) (v : Stored T S) (n : ℕ) (x : T) → IsPlaceFor key unit op of s (Some k) n x
+      → IsOpened key unit op of s k v →
       key x < key v.entry → IsPlaceFor key unit op of s v.left n x
   place_left s k v n x p o h =
       let up : IsRising key (entries (tree_at s v.left) ++ v.entry ∷ entries (tree_at s v.right)) = rw o.tree at p.rising in
@@ -465,14 +485,16 @@ module _ {T S : Type 0} (key : T → ℕ) (unit : S) (op : S → S → S) (of : 
   above m y (z ∷ l) r s e q = elim (eqb (key z) (key y)) as (λ b. cond b (Some z) (entry_at key (key y) (l ++ m ∷ r)) ≡ None →
       ⊥) [ true ↦ λ d. cc | false ↦ λ d. above m y l r s.1 d q ] e
 
-  pub later : (s : Store T S) (k : Link S) (v : Stored T S) (n : ℕ) (x : T) → IsPlaceFor key unit op of s (Some k) n x → IsOpened key unit op of s k v →
+  pub later : (s : Store T S) (k : Link S) (v : Stored T S) (n : ℕ) (x : T) → IsPlaceFor key unit op of s (Some k) n x
+      → IsOpened key unit op of s k v →
       key v.entry ≤ key x → key v.entry < key x
   later s k v n x p o h =
       let up : IsRising key (entries (tree_at s v.left) ++ v.entry ∷ entries (tree_at s v.right)) = rw o.tree at p.rising in
       let not : key v.entry ≡ key x → ⊥ = above v.entry x (entries (tree_at s v.left)) (entries (tree_at s v.right)) up (rw o.tree at p.other) in
       omega arith
 
-  pub place_right : (s : Store T S) (k : Link S) (v : Stored T S) (n : ℕ) (x : T) → IsPlaceFor key unit op of s (Some k) n x → IsOpened key unit op of s k v →
+  pub place_right : (s : Store T S) (k : Link S) (v : Stored T S) (n : ℕ) (x : T) → IsPlaceFor key unit op of s (Some k) n x
+      → IsOpened key unit op of s k v →
       key v.entry ≤ key x → IsPlaceFor key unit op of s v.right n x
   place_right s k v n x p o le =
       let h = later s k v n x p o le in
@@ -490,7 +512,8 @@ module _ {T S : Type 0} (key : T → ℕ) (unit : S) (op : S → S → S) (of : 
   unfolding tree_at
   none_tree s = refl
 
-  pub placed_first : (s s' : Store T S) (n : ℕ) (x : T) (k : Link S) → IsPlaceFor key unit op of s None n x → IsSet key unit op of s s' n None x None k →
+  pub placed_first : (s s' : Store T S) (n : ℕ) (x : T) (k : Link S) → IsPlaceFor key unit op of s None n x
+      → IsSet key unit op of s s' n None x None k →
       IsPlaced key unit op of s s' None n x k
   placed_first s s' n x k p set =
       let e = none_tree s in
@@ -549,7 +572,8 @@ module _ {T S : Type 0} (key : T → ℕ) (unit : S) (op : S → S → S) (of : 
   popped_later s s' s'' k m v n x rest k' o e p w =
       let t : tree_at s (Some k) ≡ Fork k.number (tree_at s (Some m)) v.entry (tree_at s v.right) =
       o.tree ∙ ap (λ g. Fork k.number (tree_at s g) v.entry (tree_at s v.right)) e in
-      let u = whole_left s s' s'' k.number rest v.right v.entry k' _ (λ j. count j (tree_at s (Some m))) (is n) p.rest o.right (popped_once s k m v o e) w in
+      let u = whole_left s s' s'' k.number rest v.right v.entry k' _ (λ j. count j (tree_at s (Some m))) (is n) p.rest o.right
+      (popped_once s k m v o e) w in
       record {
         rest = retree s s'' (Some k') _ _ _ _ _ _ u (sym u.entries) (λ j. rw t refl) (λ j. refl);
         entries = ap entries t ∙ rw (p.entries, u.entries) refl;
@@ -561,7 +585,12 @@ module _ {T S : Type 0} (key : T → ℕ) (unit : S) (op : S → S → S) (of : 
       let a = entries (tree_at s v.left) in
       let b = entries (tree_at s v.right) in
       let up : IsRising key (a ++ v.entry ∷ b) = rw o.tree at p.rising in
-      record { held = o.left; rising = rising_front key a (v.entry ∷ b) up; there = subst IsSome (at_left key (key x) v.entry a b h up) (rw o.tree at p.there) }
+      record {
+        held = o.left;
+        rising = rising_front key a (v.entry ∷ b) up;
+        there =
+            subst IsSome (at_left key (key x) v.entry a b h up) (rw o.tree at p.there);
+      }
 
   pub key_right : (s : Store T S) (k : Link S) (v : Stored T S) (x : T) → HasKey key unit op of s (Some k) x → IsOpened key unit op of s k v →
       key v.entry < key x → HasKey key unit op of s v.right x
@@ -569,7 +598,12 @@ module _ {T S : Type 0} (key : T → ℕ) (unit : S) (op : S → S → S) (of : 
       let a = entries (tree_at s v.left) in
       let b = entries (tree_at s v.right) in
       let up : IsRising key (a ++ v.entry ∷ b) = rw o.tree at p.rising in
-      record { held = o.right; rising = rising_back key a v.entry b up; there = subst IsSome (at_right key (key x) v.entry a b h up) (rw o.tree at p.there) }
+      record {
+        held = o.right;
+        rising = rising_back key a v.entry b up;
+        there =
+            subst IsSome (at_right key (key x) v.entry a b h up) (rw o.tree at p.there);
+      }
 
   pub removed_last : (s : Store T S) (k : Link S) (v : Stored T S) (x : T) → HasKey key unit op of s (Some k) x → IsOpened key unit op of s k v →
       key x ≤ key v.entry → key v.entry ≤ key x → v.right ≡ None → IsWithout key unit op of s s (Some k)
@@ -587,7 +621,8 @@ module _ {T S : Type 0} (key : T → ℕ) (unit : S) (op : S → S → S) (of : 
         used = λ j u. u;
       }
 
-  pub removed_middle_ready : (s s' : Store T S) (k m : Link S) (v : Stored T S) (n : ℕ) (y : T) (rest : Option (Link S)) → IsOpened key unit op of s k v →
+  pub removed_middle_ready : (s s' : Store T S) (k m : Link S) (v : Stored T S) (n : ℕ) (y : T) (rest : Option (Link S))
+      → IsOpened key unit op of s k v →
       v.right ≡ Some m → IsPopped key unit op of s s' m n y rest → IsSpot key unit op of s' n v.left rest
   removed_middle_ready s s' k m v n y rest o e p =
       let held : IsHeld key unit op of s (Some m) = rw e at o.right in
@@ -618,6 +653,7 @@ module _ {T S : Type 0} (key : T → ℕ) (unit : S) (op : S → S → S) (of : 
         held = w.held;
         entries = w.entries ∙ (rw (ka.tree, ← q.entries) refl ∙ (sym (without_middle key (key x) v.entry a b (omega arith) up) ∙ rw t refl));
         count = λ j. rw t (let c = w.count j in let d = q.rest.count j in let f = ap (count j) ka.tree in omega arith);
-        kept = λ j z. let y = rw t at z in let d = q.rest.count j in let f = ap (count j) ka.tree in w.kept j (omega arith) ∙ q.rest.kept j (omega arith);
+        kept = λ j z. let y = rw t at z in let d = q.rest.count j in let f = ap (count j) ka.tree in w.kept j (omega arith)
+            ∙ q.rest.kept j (omega arith);
         used = λ j u. w.used j (q.rest.used j u);
       }

@@ -1,3 +1,5 @@
+//! The nodes of all trees, in one keyed store.
+
 ghost use Rattle.std.specs.Prelude.{◌≡◌, ℕ, Some, None, IfOk, OnErr, IsSome};
 ghost use Rattle.av_arena.specs.Arena.{entry_put, side_put, store_of};
 ghost use Rattle.av_base.specs.Words.{with_at};

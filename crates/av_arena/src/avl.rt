@@ -1,5 +1,9 @@
-ghost use Rattle.std.specs.Prelude.{◌≡◌, ◌+◌, ◌^◌, ◌<◌, [], None, is_ok, length, IsSome, MatchOption, OnOk, ◌++◌, if◌then◌else◌};
-ghost use Rattle.av_arena.specs.Order.{NoneBetween, NoneWithin, entry_at, with_entry, with_joined, with_two, without_key};
+//! An ordered set of entries as a balanced tree that owns its nodes.
+
+ghost use Rattle.std.specs.Prelude.{◌≡◌, ◌+◌, ◌^◌, ◌<◌, [], None, is_ok, length, IsSome};
+ghost use Rattle.std.specs.Prelude.{MatchOption, OnOk, ◌++◌, if◌then◌else◌};
+ghost use Rattle.av_arena.specs.Order.{NoneBetween, NoneWithin, entry_at, with_entry, with_joined};
+ghost use Rattle.av_arena.specs.Order.{with_two, without_key};
 ghost use Rattle.av_arena.specs.Avl.{IsLonger, IsParts};
 ghost use Rattle.av_arena.specs.Monoid.{total};
 

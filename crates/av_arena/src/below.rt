@@ -1,13 +1,19 @@
-// Changes of the tree below a node.
-//
-// They go by the numbers of nodes, which are read where they lie, and answer whether the node is
-// stored otherwise afterwards: where it is not, nothing above is looked at.
-//
-// A step to either side is one function, in line and called with a constant, so that no side is
-// kept over the call below.
+//! Changes of the tree below a node.
+//!
+//! They go by the numbers of nodes, which are read where they lie, and answer whether the node is
+//! stored otherwise afterwards: where it is not, nothing above is looked at.
+//!
+//! A step to either side is one function, in line and called with a constant, so that no side is
+//! kept over the call below.
+
 ghost use Rattle.std.specs.Prelude.{◌≡◌, true, false, IsSome, None, Some};
 ghost use Rattle.av_arena.specs.Arena.{KeepsEntries, PutsEntry, store_of};
-ghost use Rattle.av_arena.specs.Below.{HasKeyBelow, IsAt, IsBeside, IsBetween, IsHung, IsJoinBelowFor, IsJoinedBelow, IsLevelAt, IsPlaceBelow, IsPlacedBelow, IsRemovedBelow, IsReplacedBelow, IsSettled, IsSideFor, IsSideSettled, IsSideTaken, IsSplitBelow, IsSplitBelowFor, IsTaken, IsTold, IsUnsettled, HasSide, child_number, number_of};
+ghost use Rattle.av_arena.specs.Below.{HasKeyBelow, IsAt, IsBeside, IsBetween, IsHung};
+ghost use Rattle.av_arena.specs.Below.{IsJoinBelowFor, IsJoinedBelow, IsLevelAt, IsPlaceBelow};
+ghost use Rattle.av_arena.specs.Below.{IsPlacedBelow, IsRemovedBelow, IsReplacedBelow, IsSettled};
+ghost use Rattle.av_arena.specs.Below.{IsSideFor, IsSideSettled, IsSideTaken, IsSplitBelow};
+ghost use Rattle.av_arena.specs.Below.{IsSplitBelowFor, IsTaken, IsTold, IsUnsettled, HasSide};
+ghost use Rattle.av_arena.specs.Below.{child_number, number_of};
 
 use crate::arena::Arena;
 use crate::entry::Entry;

@@ -1,3 +1,5 @@
+//! What a tree is of: entries in order, with a summary of each row of them.
+
 ghost use Rattle.std.specs.Prelude.{◌≡◌, ℕ, nat_lt, true};
 ghost use Rattle.av_arena.specs.Monoid.{MonoidLaws};
 

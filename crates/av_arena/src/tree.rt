@@ -1,6 +1,11 @@
+//! The root of a tree: opened, put together again, and turned where its sides are not level.
+
 ghost use Rattle.std.specs.Prelude.{◌≡◌, ◌+◌, ◌^◌, ◌<◌, ◌≤◌, max, true, Some, IsSome};
 ghost use Rattle.av_arena.specs.Order.{without_key};
-ghost use Rattle.av_arena.specs.Tree.{DifferByAtMost, IsHeightAfter, HasKey, IsHeld, IsJoined, IsOpened, IsPlaceFor, IsPlaced, IsPopped, IsReplaced, IsRoot, IsRootAfter, IsSet, IsSpot, IsWithout, sum_of, height_of, tree_at, entries};
+ghost use Rattle.av_arena.specs.Tree.{DifferByAtMost, IsHeightAfter, HasKey, IsHeld, IsJoined};
+ghost use Rattle.av_arena.specs.Tree.{IsOpened, IsPlaceFor, IsPlaced, IsPopped, IsReplaced, IsRoot};
+ghost use Rattle.av_arena.specs.Tree.{IsRootAfter, IsSet, IsSpot, IsWithout, sum_of, height_of};
+ghost use Rattle.av_arena.specs.Tree.{tree_at, entries};
 ghost use Rattle.av_arena.specs.Arena.{KeepsEntries, PutsEntry, entry_of, store_of};
 ghost use Rattle.av_arena.specs.Below.{IsAt, IsJoinFor, IsJoinedAt, IsSplit, IsSplitFor};
 

@@ -1,3 +1,5 @@
+//! How many processes, frames and pages there may be.
+
 /// The lowest page that can be mapped.
 pub const LOW_PAGE: u64 = 16;
 

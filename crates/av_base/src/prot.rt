@@ -1,3 +1,5 @@
+//! The protection of a page.
+
 ghost use Rattle.std.specs.Prelude.{◌≡◌, ◌||◌};
 
 /// What a process may do with a page, as `mmap` and `mprotect` set it.

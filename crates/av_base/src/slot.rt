@@ -1,3 +1,5 @@
+//! The name of a slot.
+
 /// A page-sized slot of a swap area: the area's number, and the page of its device.
 #[derive(Clone, Copy, Drop, Debug, PartialEq, Eq)]
 pub struct Slot {

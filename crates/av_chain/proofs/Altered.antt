@@ -92,7 +92,8 @@ altered_append p f [] ys = refl
 altered_append p f (x ∷ xs) ys = λ i. cond (same_ptr p x.0) (x.0, f x.1) x ∷ altered_append p f xs ys i
 
 -- the node that is stored is the old one, changed
-pub stored_altered : (p : Ptr) (f : Node → Node) (bs : List Block) (m : Node) → IsApart bs → found p bs ≡ Some m → with_node p (f m) bs ≡ node_changed p f bs
+pub stored_altered : (p : Ptr) (f : Node → Node) (bs : List Block) (m : Node) → IsApart bs → found p bs ≡ Some m
+    → with_node p (f m) bs ≡ node_changed p f bs
 stored_altered p f [] m d e = cc
 stored_altered p f (b ∷ bs) m d e = (elim (same_ptr p b.0) as (λ y. same_ptr p b.0 ≡ y → cond y (Some b.1) (found p bs) ≡ Some m
     → cond y (b.0, f m) b ∷ with_node p (f m) bs ≡ cond y (b.0, f b.1) b ∷ node_changed p f bs) [

@@ -34,7 +34,8 @@ pub stored_fresh : (p : Ptr) (n : Node) (bs : List Block) → IsFresh p bs → w
 stored_fresh p n [] f = refl
 stored_fresh p n (b ∷ bs) f = λ i. cond (f.0 i) (b.0, n) b ∷ stored_fresh p n bs f.1 i
 
-all_push : (P : Ptr → Type 0) (bs : List Block) (b : Block) → AllByRecursion P (map place_of bs) → P b.0 → AllByRecursion P (map place_of (bs ++ b ∷ []))
+all_push : (P : Ptr → Type 0) (bs : List Block) (b : Block) → AllByRecursion P (map place_of bs) → P b.0
+    → AllByRecursion P (map place_of (bs ++ b ∷ []))
 all_push P [] b a h = (h, tt)
 all_push P (c ∷ bs) b a h = (a.0, all_push P bs b a.1 h)
 
@@ -43,7 +44,8 @@ unfolding IsDistinct
 apart_push [] b f d = (tt, tt)
 apart_push (c ∷ bs) b f d = (all_push (λ q. same_ptr c.0 q ≡ false) bs b d.0 (same_ptr_symm c.0 b.0 ∙ f.0), apart_push bs b f.1 d.1)
 
-pub all_removed : (P : Ptr → Type 0) (p : Ptr) (bs : List Block) → AllByRecursion P (map place_of bs) → AllByRecursion P (map place_of (without_node p bs))
+pub all_removed : (P : Ptr → Type 0) (p : Ptr) (bs : List Block) → AllByRecursion P (map place_of bs)
+    → AllByRecursion P (map place_of (without_node p bs))
 all_removed P p [] a = tt
 all_removed P p (b ∷ bs) a = elim (same_ptr p b.0) as (λ y. AllByRecursion P (map place_of (cond y (without_node p bs) (b ∷ without_node p bs)))) [
   | true ↦ all_removed P p bs a.1

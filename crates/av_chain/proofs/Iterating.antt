@@ -44,7 +44,8 @@ module _ (anon : ℕ) (p : Place) (bs : List Block) (d : IsApart bs) (there : ha
 
     pub users_there : Reaches n.in_anon.after (row Anon anon bs)
     users_there = subst (λ cs. Reaches n.in_anon.after cs) (sym cut.2)
-        (subst (λ o. Reaches o (cut.0 ++ (p.ptr, n) ∷ cut.1)) (sym after_is) (reaches_past (first_or None cut.1) cut.0 (p.ptr, n) cut.1 (first_reaches cut.1)))
+        (subst (λ o. Reaches o (cut.0 ++ (p.ptr, n) ∷ cut.1)) (sym after_is)
+        (reaches_past (first_or None cut.1) cut.0 (p.ptr, n) cut.1 (first_reaches cut.1)))
 
     pub users_step : users_left anon (Some p) bs ≡ n.area ∷ users_left anon n.in_anon.after bs
     users_step =
@@ -52,7 +53,8 @@ module _ (anon : ℕ) (p : Place) (bs : List Block) (d : IsApart bs) (there : ha
         let now : from_place (Some p) r ≡ (p.ptr, n) ∷ cut.1 = ap (from_place (Some p)) cut.2 ∙ from_mid cut.0 (p.ptr, n) cut.1 apart_cut in
         let split : r ≡ (cut.0 ++ (p.ptr, n) ∷ []) ++ cut.1 = cut.2 ∙ sym (append_assoc cut.0 ((p.ptr, n) ∷ []) cut.1) in
         let apart = subst IsApart split (apart_row Anon anon bs d) in
-        let next : from_place n.in_anon.after r ≡ cut.1 = (λ i. from_place (after_is i) (split i)) ∙ from_first (cut.0 ++ (p.ptr, n) ∷ []) cut.1 apart in
+        let next : from_place n.in_anon.after r ≡ cut.1 = (λ i. from_place (after_is i) (split i))
+        ∙ from_first (cut.0 ++ (p.ptr, n) ∷ []) cut.1 apart in
         ap areas_of now ∙ sym (ap (λ cs. n.area ∷ areas_of cs) next)
 
 pub shorter : (s t : List ℕ) (x : ℕ) → s ≡ x ∷ t → length t < length s

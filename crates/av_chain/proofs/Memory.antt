@@ -43,7 +43,8 @@ module _ {M : Type 1} {𝓤 : Ura M} {𝓛 : Logic 𝓤} {K : Type 0} {Γ : List
 
   pub word_made : K → (c : Ptr) → Step K 𝓛 (‵ (Word.own_val (c, tt) (word c ∷ [])) ∷ Γ) G Γ G
   word_made t c = step (λ s.
-      nothing t $ feq_i t (List Val) (ptr_val c ∷ []) (ptr_val c ∷ []) refl $ fjoin t $ feq_i t (List Val) (word c ∷ []) (word c ∷ []) refl $ fjoin t $
+      nothing t $ feq_i t (List Val) (ptr_val c ∷ []) (ptr_val c ∷ []) refl $ fjoin t $ feq_i t (List Val) (word c ∷ []) (word c ∷ [])
+      refl $ fjoin t $
       fpack t (Valss (RawPtr ∷ [])) (within one_field (c, tt) (word c ∷ [])) (ptr_val c ∷ [], tt) $ s)
 
 -- the node at a place is there
@@ -61,7 +62,8 @@ module _ {M : Type 1} {𝓤 : Ura M} (𝓛 : Logic 𝓤) where
       ent 𝓤 (sem 𝓛 (blocks_lent (b ∷ bs) κ)) (sem 𝓛 (lent_at T p n κ))) [
         | true ↦ λ at h.
             let is : b.1 ≡ n = cc in
-            subst (λ (q : Ptr × Node). ent 𝓤 (sem 𝓛 (blocks_lent (b ∷ bs) κ)) (sem 𝓛 (lent_at T q.0 q.1 κ))) (λ i. (sym (same_ptr_eq p b.0 at) i, is i))
+            subst (λ (q : Ptr × Node). ent 𝓤 (sem 𝓛 (blocks_lent (b ∷ bs) κ)) (sem 𝓛 (lent_at T q.0 q.1 κ)))
+            (λ i. (sym (same_ptr_eq p b.0 at) i, is i))
             (fst∗ 𝓤 (sem 𝓛 (lent_at T b.0 b.1 κ)) (sem 𝓛 (blocks_lent bs κ)))
         | false ↦ λ _ h. via 𝓤 (sem 𝓛 (blocks_lent bs κ)) (snd∗ 𝓤 (sem 𝓛 (lent_at T b.0 b.1 κ)) (sem 𝓛 (blocks_lent bs κ))) (seen_at κ p bs n h)
       ]) refl e

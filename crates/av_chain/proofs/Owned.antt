@@ -77,10 +77,12 @@ module _ {M : Type 1} {𝓤 : Ura M} (𝓛 : Logic 𝓤) where
       ent 𝓤 (sem 𝓛 (blocks_own bs)) (sep 𝓤 (sem 𝓛 (block_owns (p, n))) (sem 𝓛 (blocks_own (without_node p bs))))
   own_cut p [] n e = cc
   own_cut p (b ∷ bs) n e = (elim (same_ptr p b.0) as (λ y. same_ptr p b.0 ≡ y → cond y (Some b.1) (found p bs) ≡ Some n
-      → ent 𝓤 (sem 𝓛 (blocks_own (b ∷ bs))) (sep 𝓤 (sem 𝓛 (block_owns (p, n))) (sem 𝓛 (blocks_own (cond y (without_node p bs) (b ∷ without_node p bs)))))) [
+      → ent 𝓤 (sem 𝓛 (blocks_own (b ∷ bs)))
+      (sep 𝓤 (sem 𝓛 (block_owns (p, n))) (sem 𝓛 (blocks_own (cond y (without_node p bs) (b ∷ without_node p bs)))))) [
         | true ↦ λ at h.
             let is : b.1 ≡ n = cc in
-            qed 𝓛 (‵ (blocks_own (b ∷ bs)) ∷ []) ∵ fsplit ! $ rewrite ! 0 (λ (c : Block). ‵ (block_owns c)) (λ i. (sym (same_ptr_eq p b.0 at) i, is i)) refl $
+            qed 𝓛 (‵ (blocks_own (b ∷ bs)) ∷ []) ∵ fsplit ! $ rewrite ! 0 (λ (c : Block). ‵ (block_owns c))
+            (λ i. (sym (same_ptr_eq p b.0 at) i, is i)) refl $
             move ! (1 ∷ []) $ use1 𝓛 (‵ (blocks_own (without_node p bs))) (own_others p bs) $ move ! (1 ∷ 0 ∷ []) $ done !
         | false ↦ λ at h. qed 𝓛 (‵ (blocks_own (b ∷ bs)) ∷ []) ∵ fsplit ! $ move ! (1 ∷ []) $
             use1 𝓛 (‵ (block_owns (p, n)) ⊛ ‵ (blocks_own (without_node p bs))) (own_cut p bs n h) $ split ! $ move ! (2 ∷ 1 ∷ []) $
@@ -99,6 +101,7 @@ module _ {M : Type 1} {𝓤 : Ura M} (𝓛 : Logic 𝓤) where
             qed 𝓛 (‵ (block_owns (p, m)) ∷ ‵ (blocks_own (without_node p bs)) ∷ []) ∵ rewrite ! 0 (λ (q : Ptr). ‵ (block_owns (q, m)))
             (same_ptr_eq p b.0 at) refl $
             rewrite ! 1 (λ (cs : List Block). ‵ (blocks_own cs)) (removed_fresh p bs f ∙ sym (stored_fresh p m bs f)) refl $ fjoin ! $ done !
-        | false ↦ λ at h. qed 𝓛 (‵ (block_owns (p, m)) ∷ ‵ (blocks_own (b ∷ without_node p bs)) ∷ []) ∵ move ! (1 ∷ []) $ fsplit ! $ move ! (2 ∷ 1 ∷ []) $
+        | false ↦ λ at h. qed 𝓛 (‵ (block_owns (p, m)) ∷ ‵ (blocks_own (b ∷ without_node p bs)) ∷ []) ∵ move ! (1 ∷ []) $ fsplit ! $ move
+            ! (2 ∷ 1 ∷ []) $
             use2 𝓛 (‵ (blocks_own (with_node p m bs))) (own_glue p bs n m (apart_tail b bs d) h) $ move ! (1 ∷ 0 ∷ []) $ fjoin ! $ done !
       ]) refl e

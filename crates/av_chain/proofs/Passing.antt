@@ -44,7 +44,8 @@ anons_append (x ∷ xs) ys = ap (λ vs. x.1.anon ∷ vs) (anons_append xs ys)
 found_past : (xs : List Block) (y : Block) (ys : List Block) → IsApart (xs ++ y ∷ ys) → found y.0 (xs ++ y ∷ ys) ≡ Some y.1
 found_past [] y ys d = ap (λ t. cond t (Some y.1) (found y.0 ys)) (same_ptr_refl y.0)
 found_past (x ∷ xs) y ys d =
-    ap (λ t. cond t (Some x.1) (found y.0 (xs ++ y ∷ ys))) (fresh_differs x.0 y.0 (xs ++ y ∷ ys) (apart_head x (xs ++ y ∷ ys) d) (has_past y.0 xs y ys))
+    ap (λ t. cond t (Some x.1) (found y.0 (xs ++ y ∷ ys)))
+    (fresh_differs x.0 y.0 (xs ++ y ∷ ys) (apart_head x (xs ++ y ∷ ys) d) (has_past y.0 xs y ys))
     ∙ found_past xs y ys (apart_tail x (xs ++ y ∷ ys) d)
 
 pub found_has : (p : Ptr) (bs : List Block) (n : Node) → found p bs ≡ Some n → has_place p bs ≡ true
@@ -67,7 +68,8 @@ found_out w k p (b ∷ bs) n d e = (elim (k == key_of w b.1) as (λ y. found p (
           ∙ found_out w k p bs n (apart_tail b bs d) h
     ]) e
 
-pub found_in_row : (w : Way) (k : ℕ) (bs xs : List Block) (y : Block) (ys : List Block) → IsApart bs → row w k bs ≡ xs ++ y ∷ ys → found y.0 bs ≡ Some y.1
+pub found_in_row : (w : Way) (k : ℕ) (bs xs : List Block) (y : Block) (ys : List Block) → IsApart bs → row w k bs ≡ xs ++ y ∷ ys
+    → found y.0 bs ≡ Some y.1
 found_in_row w k bs xs y ys d e =
     found_out w k y.0 bs y.1 d (ap (found y.0) e ∙ found_past xs y ys (subst IsApart e (apart_row w k bs d)))
 
@@ -149,7 +151,8 @@ pub is_in_past : (v : ℕ) (xs : List Block) (b : Block) (ys : List Block) → b
 is_in_past v [] b ys e = ap (λ y. y || is_in v (anons_of ys)) (ap (λ u. v == u) e ∙ same_number v)
 is_in_past v (x ∷ xs) b ys e = or_right (v == x.1.anon) (is_in v (anons_of (xs ++ b ∷ ys))) (is_in_past v xs b ys e)
 
-pub is_in_not : (v : ℕ) (xs : List Block) (b : Block) → (v == b.1.anon) ≡ false → is_in v (anons_of xs) ≡ false → is_in v (anons_of (xs ++ b ∷ [])) ≡ false
+pub is_in_not : (v : ℕ) (xs : List Block) (b : Block) → (v == b.1.anon) ≡ false → is_in v (anons_of xs) ≡ false
+    → is_in v (anons_of (xs ++ b ∷ [])) ≡ false
 is_in_not v xs b e n = ap (is_in v) (anons_append xs (b ∷ [])) ∙ is_in_append v (anons_of xs) (b.1.anon ∷ []) ∙ (λ i. n i || (e i || false))
 
 -- the one after an anon_vma that none before it is
@@ -157,7 +160,8 @@ after_past : (v : ℕ) (xs : List Block) (b : Block) (ys : List Block) → b.1.a
     after_in v (anons_of (xs ++ b ∷ ys)) ≡ first_in (anons_of ys)
 after_past v [] b ys e n = ap (λ y. cond y (first_in (anons_of ys)) (after_in v (anons_of ys))) (ap (λ u. v == u) e ∙ same_number v)
 after_past v (x ∷ xs) b ys e n =
-    ap (λ y. cond y (first_in (anons_of (xs ++ b ∷ ys))) (after_in v (anons_of (xs ++ b ∷ ys)))) (or_false (v == x.1.anon) (is_in v (anons_of xs)) n).0
+    ap (λ y. cond y (first_in (anons_of (xs ++ b ∷ ys))) (after_in v (anons_of (xs ++ b ∷ ys))))
+    (or_false (v == x.1.anon) (is_in v (anons_of xs)) n).0
     ∙ after_past v xs b ys e (or_false (v == x.1.anon) (is_in v (anons_of xs)) n).1
 
 -- ---- a link that was found

@@ -31,13 +31,15 @@ first_altered : (p : Ptr) (f : Node → Node) (after : Option Place) (bs : List 
 first_altered p f after [] = refl
 first_altered p f after (b ∷ bs) = ap (λ q. Some q) (at_cond (same_ptr p b.0) f b)
 
-pub first_changed : (o : Option Place) (f : Node → Node) (after : Option Place) (bs : List Block) → first_or after (place_changed o f bs) ≡ first_or after bs
+pub first_changed : (o : Option Place) (f : Node → Node) (after : Option Place) (bs : List Block)
+    → first_or after (place_changed o f bs) ≡ first_or after bs
 first_changed None f after bs = refl
 first_changed (Some p) f after bs = first_altered p.ptr f after bs
 
 last_altered : (p : Ptr) (f : Node → Node) (before : Option Place) (bs : List Block) → last_from before (node_changed p f bs) ≡ last_from before bs
 last_altered p f before [] = refl
-last_altered p f before (b ∷ bs) = ap (λ q. last_from (Some q) (node_changed p f bs)) (at_cond (same_ptr p b.0) f b) ∙ last_altered p f (Some (at_block b)) bs
+last_altered p f before (b ∷ bs) = ap (λ q. last_from (Some q) (node_changed p f bs)) (at_cond (same_ptr p b.0) f b)
+    ∙ last_altered p f (Some (at_block b)) bs
 
 pub last_changed : (o : Option Place) (f : Node → Node) (before : Option Place) (bs : List Block) →
     last_from before (place_changed o f bs) ≡ last_from before bs
@@ -135,11 +137,13 @@ module _ (w : Way) where
       let same = sides_cond f h (same_ptr p b.0) b in (
         ap (λ (s : Sides). s.before) same ∙ r.0,
         ap (λ (s : Sides). s.after) same ∙ r.1 ∙ sym (first_altered p f after bs),
-        subst (λ q. IsRun w (Some q) (node_changed p f bs) after) (sym (at_cond (same_ptr p b.0) f b)) (run_altered p f h (Some (at_block b)) after bs r.2),
+        subst (λ q. IsRun w (Some q) (node_changed p f bs) after) (sym (at_cond (same_ptr p b.0) f b))
+            (run_altered p f h (Some (at_block b)) after bs r.2),
       )
 
   -- what changes no neighbours in this list
-  pub run_other : (o : Option Place) (f : Node → Node) → ((n : Node) → sides_of w (f n) ≡ sides_of w n) → (before after : Option Place) (bs : List Block) →
+  pub run_other : (o : Option Place) (f : Node → Node) → ((n : Node) → sides_of w (f n) ≡ sides_of w n)
+      → (before after : Option Place) (bs : List Block) →
       IsRun w before bs after → IsRun w before (place_changed o f bs) after
   run_other None f h before after bs r = r
   run_other (Some p) f h before after bs r = run_altered p.ptr f h before after bs r
@@ -216,7 +220,8 @@ head_out (x ∷ xs) (y ∷ ys) b s eb ea =
     let long = length_with xs (y ∷ ys) b in
     let less : suc (length (xs ++ b ∷ y ∷ ys)) - 1 ≡ suc (length (xs ++ y ∷ ys)) = omega arith in
     (λ i. head_beside s h ((eb ∙ end_last (at_block x) xs) i) (ea i))
-    ∙ (λ i. Some (record { first = at_block x; last = (end_append (at_block x) xs b (y ∷ ys) ∙ sym (end_append (at_block x) xs y ys)) i; count = less i }))
+    ∙ (λ i. Some (record
+    { first = at_block x; last = (end_append (at_block x) xs b (y ∷ ys) ∙ sym (end_append (at_block x) xs y ys)) i; count = less i }))
 
 -- ---- a node leaves
 
@@ -268,7 +273,8 @@ module _ (w : Way) (xs : List Block) (b : Block) (ys : List Block) (d : IsApart 
 
   pub run_out : (s : Sides) → s.before ≡ B → s.after ≡ A → IsRun w None (xs ++ b ∷ ys) None
       → IsRun w None (without_node b.0 (leads_back w s.after s.before (leads_on w s.before s.after (xs ++ b ∷ ys)))) None
-      × (head_without s (head_of (xs ++ b ∷ ys)) ≡ head_of (without_node b.0 (leads_back w s.after s.before (leads_on w s.before s.after (xs ++ b ∷ ys)))))
+      × (head_without s (head_of (xs ++ b ∷ ys)) ≡ head_of
+      (without_node b.0 (leads_back w s.after s.before (leads_on w s.before s.after (xs ++ b ∷ ys)))))
   run_out s eb ea r =
       let is : without_node b.0 (leads_back w s.after s.before (leads_on w s.before s.after (xs ++ b ∷ ys))) ≡ xs' ++ ys' =
       (λ i. without_node b.0 (leads_back w (ea i) (eb i) (leads_on w (eb i) (ea i) (xs ++ b ∷ ys)))) ∙ gone in

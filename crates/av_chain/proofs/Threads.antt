@@ -73,7 +73,8 @@ module _ (w : Way) where
         ∙ (λ i. cond (k == key_of w b.1) (c ∷ row_altered p f h bs i) (row_altered p f h bs i))
         ∙ sym (cond_lift (node_changed p f) (k == key_of w b.1) (b ∷ row w k bs) (row w k bs))
 
-    row_changed : (o : Option Place) (f : Node → Node) → Keeps w f → (bs : List Block) → row w k (place_changed o f bs) ≡ place_changed o f (row w k bs)
+    row_changed : (o : Option Place) (f : Node → Node) → Keeps w f → (bs : List Block)
+        → row w k (place_changed o f bs) ≡ place_changed o f (row w k bs)
     row_changed None f h bs = refl
     row_changed (Some p) f h bs = row_altered p.ptr f h bs
 
@@ -146,7 +147,8 @@ module _ (w : Way) where
 
   -- ---- what changes no neighbours in these lists
 
-  pub thread_other : (heads : ℕ → Option Head) (bs : List Block) (o : Option Place) (f : Node → Node) → Keeps w f → KeepsSides w f → IsThreaded w heads bs →
+  pub thread_other : (heads : ℕ → Option Head) (bs : List Block) (o : Option Place) (f : Node → Node) → Keeps w f → KeepsSides w f
+      → IsThreaded w heads bs →
       IsThreaded w heads (place_changed o f bs)
   thread_other heads bs o f h s t = record {
     run = λ k. subst (λ cs. IsRun w None cs None) (sym (row_changed k o f h bs)) (run_other w o f s None None (row w k bs) (t.run k));
@@ -185,13 +187,15 @@ module _ (w : Way) where
         (changed_avoids f o (b ∷ []) (reaches_avoids o (row w k bs) (b ∷ []) apart_here reached))
 
     elsewhere : (j : ℕ) → (j == k) ≡ false → row w j (place_changed o f (bs ++ b ∷ [])) ≡ row w j bs
-    elsewhere j other = row_joined j ∙ ap (λ y. place_changed o f (row w j bs ++ cond y (b ∷ []) [])) other ∙ ap (place_changed o f) (append-nil (row w j bs))
+    elsewhere j other = row_joined j ∙ ap (λ y. place_changed o f (row w j bs ++ cond y (b ∷ []) [])) other
+        ∙ ap (place_changed o f) (append-nil (row w j bs))
         ∙ changed_avoids f o (row w j bs) (row_avoids k j other o bs (apart_front bs (b ∷ []) d) reached)
 
     run_here : IsRun w None (place_changed o f (row w k bs) ++ b ∷ []) None
     run_here =
         let r = row w k bs in
-        let on : IsRun w None (place_changed o f r) (Some (at_block b)) = subst (λ q. IsRun w None (place_changed q f r) (Some (at_block b))) (sym last_is)
+        let on : IsRun w None (place_changed o f r) (Some (at_block b)) =
+        subst (λ q. IsRun w None (place_changed q f r) (Some (at_block b))) (sym last_is)
         (run_on w None None (Some (at_block b)) r (apart_row k bs (apart_front bs (b ∷ []) d)) (t.run k)) in
         run_join w None None (place_changed o f r) (b ∷ []) on (
           ap (λ (q : Sides). q.before) s ∙ last_is ∙ sym (last_changed o f None r),
@@ -212,7 +216,8 @@ module _ (w : Way) where
           (λ e. subst (λ m. IsRun w None (row w m (place_changed o f (bs ++ b ∷ []))) None) (number_eq k j e)
           (subst (λ cs. IsRun w None cs None) (sym here) run_here))
           (λ e. subst (λ cs. IsRun w None cs None) (sym (elsewhere j e)) (t.run j));
-      head = λ j. either (cond (j == k) (Some (head_with (at_block b) (heads k))) (heads j) ≡ head_of (row w j (place_changed o f (bs ++ b ∷ [])))) (j == k)
+      head = λ j. either (cond (j == k) (Some (head_with (at_block b) (heads k))) (heads j) ≡ head_of
+          (row w j (place_changed o f (bs ++ b ∷ [])))) (j == k)
           (λ e. ap (λ y. cond y (Some (head_with (at_block b) (heads k))) (heads j)) e ∙ head_here ∙ ap head_of (sym here)
           ∙ ap (λ m. head_of (row w m (place_changed o f (bs ++ b ∷ [])))) (number_eq k j e))
           (λ e. ap (λ y. cond y (Some (head_with (at_block b) (heads k))) (heads j)) e ∙ t.head j ∙ ap head_of (sym (elsewhere j e)));
@@ -226,7 +231,8 @@ module _ (w : Way) where
       found p (row w (key_of w n) (b ∷ bs)) ≡ Some n) [
         | true ↦ λ at h.
             let is : b.1 ≡ n = cc in
-            ap (λ y. found p (cond y (b ∷ row w (key_of w n) bs) (row w (key_of w n) bs))) (ap (λ m. key_of w n == key_of w m) is ∙ same_number (key_of w n))
+            ap (λ y. found p (cond y (b ∷ row w (key_of w n) bs) (row w (key_of w n) bs)))
+            (ap (λ m. key_of w n == key_of w m) is ∙ same_number (key_of w n))
             ∙ ap (λ y. cond y (Some b.1) (found p (row w (key_of w n) bs))) at ∙ h
         | false ↦ λ at h.
             let rest = found_row p bs n h in
@@ -245,7 +251,8 @@ module _ (w : Way) where
         | false ↦ λ at h. let rest = split_at p r n h in (b ∷ rest.0, rest.1, ap (λ cs. b ∷ cs) rest.2)
       ]) refl e
 
-  module _ (heads : ℕ → Option Head) (bs : List Block) (p : Ptr) (n : Node) (d : IsApart bs) (t : IsThreaded w heads bs) (e : found p bs ≡ Some n) where
+  module _ (heads : ℕ → Option Head) (bs : List Block) (p : Ptr) (n : Node) (d : IsApart bs) (t : IsThreaded w heads bs)
+      (e : found p bs ≡ Some n) where
     abbrev gone : List Block → List Block
     gone cs = without_node p (leads_back w (sides_of w n).after (sides_of w n).before (leads_on w (sides_of w n).before (sides_of w n).after cs))
 
@@ -271,11 +278,13 @@ module _ (w : Way) where
 
     pub before_reaches : Reaches (sides_of w n).before (row w (key_of w n) bs)
     before_reaches = subst (Reaches (sides_of w n).before) (sym cut.2)
-        (subst (λ q. Reaches q (cut.0 ++ (p, n) ∷ cut.1)) (sym sides_are.0) (reaches_front (last_from None cut.0) cut.0 ((p, n) ∷ cut.1) (end_reaches cut.0)))
+        (subst (λ q. Reaches q (cut.0 ++ (p, n) ∷ cut.1)) (sym sides_are.0)
+        (reaches_front (last_from None cut.0) cut.0 ((p, n) ∷ cut.1) (end_reaches cut.0)))
 
     pub after_reaches : Reaches (sides_of w n).after (row w (key_of w n) bs)
     after_reaches = subst (Reaches (sides_of w n).after) (sym cut.2)
-        (subst (λ q. Reaches q (cut.0 ++ (p, n) ∷ cut.1)) (sym sides_are.1) (reaches_past (first_or None cut.1) cut.0 (p, n) cut.1 (first_reaches cut.1)))
+        (subst (λ q. Reaches q (cut.0 ++ (p, n) ∷ cut.1)) (sym sides_are.1)
+        (reaches_past (first_or None cut.1) cut.0 (p, n) cut.1 (first_reaches cut.1)))
 
     gone_elsewhere : (j : ℕ) → (j == key_of w n) ≡ false → gone (row w j bs) ≡ row w j bs
     gone_elsewhere j other =
@@ -299,5 +308,6 @@ module _ (w : Way) where
               ∙ out.1 ∙ ap (λ cs. head_of (gone cs))
               (sym cut.2) ∙ ap head_of (sym (row_gone k))
               ∙ ap (λ m. head_of (row w m (gone bs))) (number_eq k j is))
-              (λ other. ap (λ y. cond y (head_without s (heads k)) (heads j)) other ∙ t.head j ∙ ap head_of (sym (row_gone j ∙ gone_elsewhere j other)));
+              (λ other. ap (λ y. cond y (head_without s (heads k)) (heads j)) other ∙ t.head j
+              ∙ ap head_of (sym (row_gone j ∙ gone_elsewhere j other)));
         }

@@ -91,9 +91,12 @@ without_none x (y ∷ ys) e =
 
 pub without_twice : (x : ℕ) (ys : List ℕ) → without x (without x ys) ≡ without x ys
 without_twice x [] = refl
-without_twice x (y ∷ ys) = either (without x (cond (x == y) (without x ys) (y ∷ without x ys)) ≡ cond (x == y) (without x ys) (y ∷ without x ys)) (x == y)
-    (λ e. ap (λ t. without x (cond t (without x ys) (y ∷ without x ys))) e ∙ without_twice x ys ∙ sym (ap (λ t. cond t (without x ys) (y ∷ without x ys)) e))
-    (λ e. ap (λ t. without x (cond t (without x ys) (y ∷ without x ys))) e ∙ ap (λ t. cond t (without x (without x ys)) (y ∷ without x (without x ys))) e
+without_twice x (y ∷ ys) =
+    either (without x (cond (x == y) (without x ys) (y ∷ without x ys)) ≡ cond (x == y) (without x ys) (y ∷ without x ys)) (x == y)
+    (λ e. ap (λ t. without x (cond t (without x ys) (y ∷ without x ys))) e ∙ without_twice x ys
+    ∙ sym (ap (λ t. cond t (without x ys) (y ∷ without x ys)) e))
+    (λ e. ap (λ t. without x (cond t (without x ys) (y ∷ without x ys))) e
+    ∙ ap (λ t. cond t (without x (without x ys)) (y ∷ without x (without x ys))) e
     ∙ ap (λ zs. y ∷ zs) (without_twice x ys) ∙ sym (ap (λ t. cond t (without x ys) (y ∷ without x ys)) e))
 
 popped_chain : (a : ℕ) (ls : List Link) (b : ℕ) → chain_of (without_first a ls) b ≡ with_at a (rest_in (chain_of ls a)) (chain_of ls) b
@@ -107,7 +110,8 @@ popped_chain a (l ∷ ls) b =
     (λ f. sym (ap (λ y. cond y (chain_of ls a) (cond (b == l.0) (l.1 ∷ chain_of ls b) (chain_of ls b))) f
     ∙ ap (λ y. cond y (l.1 ∷ chain_of ls b) (chain_of ls b)) (ap (λ k. b == k) (number_eq l.0 a e) ∙ f))) in
     ap (λ y. chain_of (cond y ls (l ∷ without_first a ls)) b) e ∙ goal
-    ∙ sym (ap (λ y. cond (b == a) (rest_in (cond y (l.1 ∷ chain_of ls a) (chain_of ls a))) (cond (b == l.0) (l.1 ∷ chain_of ls b) (chain_of ls b))) e))
+    ∙ sym (ap (λ y. cond (b == a) (rest_in (cond y (l.1 ∷ chain_of ls a) (chain_of ls a)))
+    (cond (b == l.0) (l.1 ∷ chain_of ls b) (chain_of ls b))) e))
     (λ e.
     let goal : cond (b == l.0) (l.1 ∷ chain_of (without_first a ls) b) (chain_of (without_first a ls) b) ≡ cond (b == a) (rest_in (chain_of ls a))
     (cond (b == l.0) (l.1 ∷ chain_of ls b) (chain_of ls b)) =
@@ -117,11 +121,14 @@ popped_chain a (l ∷ ls) b =
     ∙ popped_chain a ls b
     ∙ ap (λ y. cond y (rest_in (chain_of ls a)) (chain_of ls b)) f
     ∙ sym (ap (λ y. cond y (rest_in (chain_of ls a)) (cond (b == l.0) (l.1 ∷ chain_of ls b) (chain_of ls b))) f))
-    (λ f. let rest : chain_of (without_first a ls) b ≡ chain_of ls b = popped_chain a ls b ∙ ap (λ y. cond y (rest_in (chain_of ls a)) (chain_of ls b)) f in
-    (λ i. cond (b == l.0) (l.1 ∷ rest i) (rest i)) ∙ sym (ap (λ y. cond y (rest_in (chain_of ls a)) (cond (b == l.0) (l.1 ∷ chain_of ls b) (chain_of ls b))) f))
+    (λ f. let rest : chain_of (without_first a ls) b ≡ chain_of ls b = popped_chain a ls b
+    ∙ ap (λ y. cond y (rest_in (chain_of ls a)) (chain_of ls b)) f in
+    (λ i. cond (b == l.0) (l.1 ∷ rest i) (rest i))
+    ∙ sym (ap (λ y. cond y (rest_in (chain_of ls a)) (cond (b == l.0) (l.1 ∷ chain_of ls b) (chain_of ls b))) f))
     in
     ap (λ y. chain_of (cond y ls (l ∷ without_first a ls)) b) e ∙ goal
-    ∙ sym (ap (λ y. cond (b == a) (rest_in (cond y (l.1 ∷ chain_of ls a) (chain_of ls a))) (cond (b == l.0) (l.1 ∷ chain_of ls b) (chain_of ls b))) e))
+    ∙ sym (ap (λ y. cond (b == a) (rest_in (cond y (l.1 ∷ chain_of ls a) (chain_of ls a)))
+    (cond (b == l.0) (l.1 ∷ chain_of ls b) (chain_of ls b))) e))
 
 pub chain_popped : (a : ℕ) (ls : List Link) → chain_of (without_first a ls) ≡ with_at a (rest_in (chain_of ls a)) (chain_of ls)
 chain_popped a ls = λ i b. popped_chain a ls b i
@@ -142,10 +149,12 @@ passed_by a (Some v) l ls u e = either (cond (u == l.1) (l.0 ∷ with_at v (with
     ∙ (λ i. cond (v == l.1) (sym past i) (without a (users_of ls v))) ∙ sym (cond_lift (without a) (v == l.1) (l.0 ∷ users_of ls v) (users_of ls v))
     ∙ sym (ap (λ y. cond y (without a (users_of (l ∷ ls) v)) (users_of (l ∷ ls) u)) f))
     (λ f.
-    let here : with_at v (without a (users_of ls v)) (users_of ls) u ≡ users_of ls u = ap (λ y. cond y (without a (users_of ls v)) (users_of ls u)) f in
+    let here : with_at v (without a (users_of ls v)) (users_of ls) u ≡ users_of ls u =
+    ap (λ y. cond y (without a (users_of ls v)) (users_of ls u)) f in
     (λ i. cond (u == l.1) (l.0 ∷ here i) (here i)) ∙ sym (ap (λ y. cond y (without a (users_of (l ∷ ls) v)) (users_of (l ∷ ls) u)) f))
 
-popped_users : (a : ℕ) (ls : List Link) → AreOnce ls → (u : ℕ) → users_of (without_first a ls) u ≡ left_by a (first_in (chain_of ls a)) (users_of ls) u
+popped_users : (a : ℕ) (ls : List Link) → AreOnce ls → (u : ℕ)
+    → users_of (without_first a ls) u ≡ left_by a (first_in (chain_of ls a)) (users_of ls) u
 popped_users a [] o u = refl
 popped_users a (l ∷ ls) o u =
     either (users_of (without_first a (l ∷ ls)) u ≡ left_by a (first_in (chain_of (l ∷ ls) a)) (users_of (l ∷ ls)) u) (a == l.0)
@@ -155,11 +164,13 @@ popped_users a (l ∷ ls) o u =
     either (users_of ls u ≡ with_at l.1 (without a (users_of (l ∷ ls) l.1)) (users_of (l ∷ ls)) u) (u == l.1)
     (λ f.
     let mine : users_of (l ∷ ls) l.1 ≡ l.0 ∷ users_of ls l.1 = ap (λ y. cond y (l.0 ∷ users_of ls l.1) (users_of ls l.1)) (same_number l.1) in
-    let gone : without a (l.0 ∷ users_of ls l.1) ≡ users_of ls l.1 = ap (λ y. cond y (without a (users_of ls l.1)) (l.0 ∷ without a (users_of ls l.1))) e
+    let gone : without a (l.0 ∷ users_of ls l.1) ≡ users_of ls l.1 =
+    ap (λ y. cond y (without a (users_of ls l.1)) (l.0 ∷ without a (users_of ls l.1))) e
     ∙ without_none a (users_of ls l.1) absent in
     ap (users_of ls) (sym (number_eq l.1 u f)) ∙ sym (ap (without a) mine ∙ gone)
     ∙ sym (ap (λ y. cond y (without a (users_of (l ∷ ls) l.1)) (users_of (l ∷ ls) u)) f))
-    (λ f. sym (ap (λ y. cond y (without a (users_of (l ∷ ls) l.1)) (users_of (l ∷ ls) u)) f ∙ ap (λ y. cond y (l.0 ∷ users_of ls u) (users_of ls u)) f)) in
+    (λ f. sym (ap (λ y. cond y (without a (users_of (l ∷ ls) l.1)) (users_of (l ∷ ls) u)) f
+    ∙ ap (λ y. cond y (l.0 ∷ users_of ls u) (users_of ls u)) f)) in
     ap (λ y. users_of (cond y ls (l ∷ without_first a ls)) u) e ∙ goal
     ∙ sym (ap (λ y. left_by a (first_in (cond y (l.1 ∷ chain_of ls a) (chain_of ls a))) (users_of (l ∷ ls)) u) e))
     (λ e.
@@ -172,7 +183,8 @@ users_popped a ls o = λ i u. popped_users a ls o u i
 
 -- an area that is linked to none of the others leaves them alone
 pub left_all : (ls : List Link) (a v : ℕ) → left_by_all a (chain_of ls a) (users_of ls) v ≡ without a (users_of ls v)
-left_all ls a v = either (cond (is_in v (chain_of ls a)) (without a (users_of ls v)) (users_of ls v) ≡ without a (users_of ls v)) (is_in v (chain_of ls a))
+left_all ls a v = either (cond (is_in v (chain_of ls a)) (without a (users_of ls v)) (users_of ls v) ≡ without a (users_of ls v))
+    (is_in v (chain_of ls a))
     (λ e. ap (λ y. cond y (without a (users_of ls v)) (users_of ls v)) e)
     (λ e. ap (λ y. cond y (without a (users_of ls v)) (users_of ls v)) e ∙ sym (without_none a (users_of ls v) (sym (dual ls a v) ∙ e)))
 
@@ -199,16 +211,19 @@ or_anyway true = refl
 or_anyway false = refl
 
 pub left_one_more : (a : ℕ) (gone : List ℕ) (v : ℕ) (f : ℕ → List ℕ) → left_by a (Some v) (left_by_all a gone f) ≡ left_by_all a (gone ++ v ∷ []) f
-left_one_more a gone v f = λ i u. (either (with_at v (without a (left_by_all a gone f v)) (left_by_all a gone f) u ≡ left_by_all a (gone ++ v ∷ []) f u)
+left_one_more a gone v f =
+    λ i u. (either (with_at v (without a (left_by_all a gone f v)) (left_by_all a gone f) u ≡ left_by_all a (gone ++ v ∷ []) f u)
     (u == v)
     (λ e.
     let mine : without a (left_by_all a gone f v) ≡ without a (f v) = cond_lift (without a) (is_in v gone) (without a (f v)) (f v)
     ∙ (λ j. cond (is_in v gone) (without_twice a (f v) j) (without a (f v))) ∙ cond_same (is_in v gone) (without a (f v)) in
-    let there : is_in u (gone ++ v ∷ []) ≡ true = is_in_append u gone (v ∷ []) ∙ ap (λ y. is_in u gone || (y || false)) e ∙ or_anyway (is_in u gone) in
+    let there : is_in u (gone ++ v ∷ []) ≡ true = is_in_append u gone (v ∷ []) ∙ ap (λ y. is_in u gone || (y || false)) e
+    ∙ or_anyway (is_in u gone) in
     ap (λ y. cond y (without a (left_by_all a gone f v)) (left_by_all a gone f u)) e ∙ mine ∙ ap (λ k. without a (f k)) (number_eq v u e)
     ∙ sym (ap (λ y. cond y (without a (f u)) (f u)) there))
     (λ e.
-    let same : is_in u (gone ++ v ∷ []) ≡ is_in u gone = is_in_append u gone (v ∷ []) ∙ ap (λ y. is_in u gone || (y || false)) e ∙ or_nothing (is_in u gone) in
+    let same : is_in u (gone ++ v ∷ []) ≡ is_in u gone = is_in_append u gone (v ∷ []) ∙ ap (λ y. is_in u gone || (y || false)) e
+    ∙ or_nothing (is_in u gone) in
     ap (λ y. cond y (without a (left_by_all a gone f v)) (left_by_all a gone f u)) e ∙ sym (ap (λ y. cond y (without a (f u)) (f u)) same))) i
 
 pub first_none : (xs : List ℕ) → None ≡ first_in xs → xs ≡ []

@@ -19,13 +19,18 @@ use Rattle.av_chain.proofs.Threads.{Keeps, KeepsSides, keeps_after, keeps_before
 
 -- ---- heads that are the same
 
-thread_heads : (w : Way) (heads heads' : ℕ → Option Head) (bs : List Block) → ((k : ℕ) → heads' k ≡ heads k) → IsThreaded w heads bs → IsThreaded w heads' bs
+thread_heads : (w : Way) (heads heads' : ℕ → Option Head) (bs : List Block) → ((k : ℕ) → heads' k ≡ heads k) → IsThreaded w heads bs
+    → IsThreaded w heads' bs
 thread_heads w heads heads' bs e t = record { run = t.run; head = λ k. e k ∙ t.head k }
 
 pub whole_heads : (areas areas' anons anons' : ℕ → Option Head) (bs : List Block) → ((k : ℕ) → areas' k ≡ areas k) → ((k : ℕ) → anons' k ≡ anons k) →
     AreThreaded areas anons bs → AreThreaded areas' anons' bs
 whole_heads areas areas' anons anons' bs ea ev t =
-    record { areas_lead = thread_heads Area areas areas' bs ea t.areas_lead; anons_lead = thread_heads Anon anons anons' bs ev t.anons_lead; once = t.once }
+    record {
+      areas_lead = thread_heads Area areas areas' bs ea t.areas_lead;
+      anons_lead = thread_heads Anon anons anons' bs ev t.anons_lead;
+      once = t.once;
+    }
 
 -- ---- the links stay
 
@@ -84,7 +89,8 @@ is_in_append x [] ys = refl
 is_in_append x (y ∷ xs) ys = ap (λ z. (x == y) || z) (is_in_append x xs ys) ∙ or_assoc (x == y) (is_in x xs) (is_in x ys)
 
 number_sym : (x y : ℕ) → (y == x) ≡ false → (x == y) ≡ false
-number_sym x y e = either ((x == y) ≡ false) (x == y) (λ h. let clash = sym (ap (λ z. y == z) (sym (number_eq y x h)) ∙ same_number y) ∙ e in cc) (λ h. h)
+number_sym x y e = either ((x == y) ≡ false) (x == y)
+    (λ h. let clash = sym (ap (λ z. y == z) (sym (number_eq y x h)) ∙ same_number y) ∙ e in cc) (λ h. h)
 
 single : (u b a v : ℕ) → (a ≡ b → (v == u) ≡ false) → is_in u (chain_of ((a, v) ∷ []) b) ≡ false
 single u b a v h = either (is_in u (cond (b == a) (v ∷ []) []) ≡ false) (b == a)
@@ -108,7 +114,8 @@ once_push (l ∷ ls) a v o n =
       once_push ls a v o.1 (not_later (a == l.0) l.1 v (chain_of ls a) n),
     )
 
-fewer : (p : Ptr) (bs : List Block) (a v : ℕ) → is_in v (chain_of (links_of bs) a) ≡ false → is_in v (chain_of (links_of (without_node p bs)) a) ≡ false
+fewer : (p : Ptr) (bs : List Block) (a v : ℕ) → is_in v (chain_of (links_of bs) a) ≡ false
+    → is_in v (chain_of (links_of (without_node p bs)) a) ≡ false
 fewer p [] a v n = n
 fewer p (b ∷ bs) a v n =
     let rest = fewer p bs a v (not_later (a == b.1.area) b.1.anon v (chain_of (links_of bs) a) n) in
@@ -149,11 +156,13 @@ module _ (areas anons : ℕ → Option Head) (bs : List Block) (p : Ptr) (area a
   module _ (d : IsApart (bs ++ b ∷ [])) where
     area_reaches : Reaches (last_of (areas area)) bs
     area_reaches = reaches_row Area area (last_of (areas area)) bs
-        (subst (λ o. Reaches o (row Area area bs)) (sym (ap last_of (t.areas_lead.head area) ∙ last_head (row Area area bs))) (end_reaches (row Area area bs)))
+        (subst (λ o. Reaches o (row Area area bs)) (sym (ap last_of (t.areas_lead.head area) ∙ last_head (row Area area bs)))
+        (end_reaches (row Area area bs)))
 
     anon_reaches : Reaches (last_of (anons anon)) bs
     anon_reaches = reaches_row Anon anon (last_of (anons anon)) bs
-        (subst (λ o. Reaches o (row Anon anon bs)) (sym (ap last_of (t.anons_lead.head anon) ∙ last_head (row Anon anon bs))) (end_reaches (row Anon anon bs)))
+        (subst (λ o. Reaches o (row Anon anon bs)) (sym (ap last_of (t.anons_lead.head anon) ∙ last_head (row Anon anon bs)))
+        (end_reaches (row Anon anon bs)))
 
     pub first_join : Reaches (last_of (areas area)) (bs ++ b ∷ [])
     first_join = reaches_front (last_of (areas area)) bs (b ∷ []) area_reaches
@@ -177,7 +186,8 @@ module _ (areas anons : ℕ → Option Head) (bs : List Block) (p : Ptr) (area a
     links_made = links_on Anon (last_of (anons anon)) at bs1 ∙ links_on Area (last_of (areas area)) at (bs ++ b ∷ []) ∙ links_append bs (b ∷ [])
 
     pub whole_made : is_in anon (chain_of (links_of bs) area) ≡ false
-        → AreThreaded (with_at area (Some (head_with (at_block b) (areas area))) areas) (with_at anon (Some (head_with (at_block b) (anons anon))) anons) bs2
+        → AreThreaded (with_at area (Some (head_with (at_block b) (areas area))) areas)
+        (with_at anon (Some (head_with (at_block b) (anons anon))) anons) bs2
     whole_made n = record {
       areas_lead = thread_other Area (with_at area (Some (head_with (at_block b) (areas area))) areas) bs1 (last_of (anons anon)) (with_after Anon at)
           (keeps_after Area Anon at) (λ m. refl) (thread_grow Area areas bs b d t.areas_lead refl);
@@ -232,7 +242,8 @@ head_there : (h : Option Head) (bs : List Block) (q : Ptr) → h ≡ head_of bs 
 head_there h [] q e f = cc
 head_there h (c ∷ bs) q e f = subst IsSome (sym e) refl
 
-module _ (areas anons : ℕ → Option Head) (bs : List Block) (p : Ptr) (n : Node) (d : IsApart bs) (t : AreThreaded areas anons bs) (e : found p bs ≡ Some n)
+module _ (areas anons : ℕ → Option Head) (bs : List Block) (p : Ptr) (n : Node) (d : IsApart bs) (t : AreThreaded areas anons bs)
+    (e : found p bs ≡ Some n)
   where
     abbrev sa : Sides
     sa = n.in_area
@@ -277,14 +288,17 @@ module _ (areas anons : ℕ → Option Head) (bs : List Block) (p : Ptr) (n : No
 
     pub still_there : has_place p bs ≡ true → has_place p cs2 ≡ true
     still_there h =
-        has_changed (with_before Anon sv.before) p sv.after (leads_on Anon sv.before sv.after cs1) ∙ has_changed (with_after Anon sv.after) p sv.before cs1
+        has_changed (with_before Anon sv.before) p sv.after (leads_on Anon sv.before sv.after cs1)
+        ∙ has_changed (with_after Anon sv.after) p sv.before cs1
         ∙ has_changed (with_before Area sa.before) p sa.after cs0 ∙ has_changed (with_after Area sa.after) p sa.before bs ∙ h
 
     -- the anon_vma's list may be changed before or after the node is taken out
-    anon_past : (xs : List Block) → without_node p (leads_back Anon sv.after sv.before (leads_on Anon sv.before sv.after xs)) ≡ leads_back Anon sv.after
+    anon_past : (xs : List Block)
+        → without_node p (leads_back Anon sv.after sv.before (leads_on Anon sv.before sv.after xs)) ≡ leads_back Anon sv.after
         sv.before
         (leads_on Anon sv.before sv.after (without_node p xs))
-    anon_past xs = removed_changed (with_before Anon sv.before) p sv.after (leads_on Anon sv.before sv.after xs) ∙ ap (leads_back Anon sv.after sv.before)
+    anon_past xs = removed_changed (with_before Anon sv.before) p sv.after (leads_on Anon sv.before sv.after xs)
+        ∙ ap (leads_back Anon sv.after sv.before)
         (removed_changed (with_after Anon sv.after) p sv.before xs)
 
     area_past : without_node p cs1 ≡ leads_back Area sa.after sa.before (leads_on Area sa.before sa.after (without_node p bs))

@@ -2,7 +2,8 @@
 ghost use Rattle.std.specs.Prelude.{◌≡◌, List, [], ◌∷◌, ◌++◌, Some, true};
 ghost use Rattle.std.specs.Coded.{prop_coded};
 ghost use denote.RawPtr.{Ptr};
-ghost use Rattle.av_chain.specs.Nodes.{Block, IsApart, IsApart-prop, found, has_place, with_node, without_node};
+ghost use Rattle.av_chain.specs.Nodes.{Block, IsApart, IsApart-prop, found, has_place, with_node};
+ghost use Rattle.av_chain.specs.Nodes.{without_node};
 ghost use Rattle.av_chain.specs.Ownership.{blocks_own, blocks_lent};
 
 use crate::node::{Node, Place};

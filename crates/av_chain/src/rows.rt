@@ -1,7 +1,8 @@
 //! Lists of nodes. A node lies in two at once, and leaves both in constant time.
 ghost use Rattle.std.specs.Prelude.{◌≡◌, ℕ, ◌-◌, ◌<◌, ◌^◌, Some, IfSome, IsSome, nat_eq};
 ghost use Rattle.std.specs.HashMap.{get, spare};
-ghost use Rattle.av_chain.specs.Rows.{leads_on, leads_back, Reaches, last_of, head_with, head_without, after_join, after_part, HaveHead};
+ghost use Rattle.av_chain.specs.Rows.{leads_on, leads_back, Reaches, last_of, head_with};
+ghost use Rattle.av_chain.specs.Rows.{head_without, after_join, after_part, HaveHead};
 
 use crate::node::{Head, Node, Place, Sides, Way};
 use crate::nodes::Nodes;

@@ -7,8 +7,8 @@ use Rattle.std.proofs.lemmas.List.{get_or_past, get_or-replicate, length-replica
 use Rattle.std.proofs.lemmas.List.Folds.{list_any_more}
 use Rattle.std.proofs.lemmas.List.FromFn.{fill_by_all, get_or-map-range_with_len, length-map-range_with_len, filter_of_map_range_with_len_more, map-range_with_len_more}
 use Rattle.std.proofs.lemmas.List.Sums.{sum_by-cons}
-use Rattle.av_clusters.specs.declared.Page.{Page}
-use Rattle.av_clusters.specs.declared.Page.TheVariants.{Unusable, Free}
+use Rattle.av_clusters.specs.declared.clusters.Page.{Page}
+use Rattle.av_clusters.specs.declared.clusters.Page.TheVariants.{Unusable, Free}
 use Rattle.av_clusters.specs.Clusters.{IsWhole, itself, is_free, is_taken, page_at, lowest, has_free, start_of, end_of, at_first, pages_of, clusters_of}
 use Rattle.av_clusters.proofs.Pages.{found}
 use Rattle.av_clusters.proofs.Whole.{flag_below}
@@ -19,12 +19,14 @@ use Rattle.av_clusters.proofs.Whole.{flag_below}
 pub set_aside : (pages : List Page) (b p : ℕ) → page_at (set pages b Unusable) p ≡ cond (p == b) Unusable (page_at pages p)
 set_aside pages b p = by (p == b) refl (cases_lt b (length pages))
   where
-    by : (t : Bool) → (p == b) ≡ t → (b < length pages) ⊎ (length pages ≤ b) → page_at (set pages b Unusable) p ≡ cond (p == b) Unusable (page_at pages p)
+    by : (t : Bool) → (p == b) ≡ t → (b < length pages) ⊎ (length pages ≤ b)
+        → page_at (set pages b Unusable) p ≡ cond (p == b) Unusable (page_at pages p)
     by true e (inl below) = let is : p ≡ b = grind (arith, nat_tests) in
         ap (page_at (set pages b Unusable)) is ∙ get_or-set_same pages b Unusable Unusable below ∙ sym (ap (λ t. cond t Unusable (page_at pages p)) e)
     by true e (inr past) =
         let is : p ≡ b = grind (arith, nat_tests) in
-        ap (page_at (set pages b Unusable)) is ∙ get_or_past (set pages b Unusable) b Unusable (subst (λ n. n ≤ b) (sym (length-set pages b Unusable)) past)
+        ap (page_at (set pages b Unusable)) is
+        ∙ get_or_past (set pages b Unusable) b Unusable (subst (λ n. n ≤ b) (sym (length-set pages b Unusable)) past)
         ∙ sym (ap (λ t. cond t Unusable (page_at pages p)) e)
     by false e _ = let apart : p ≢ b = grind (arith, nat_tests) in
         get_or-set_other pages b p Unusable Unusable apart ∙ sym (ap (λ t. cond t Unusable (page_at pages p)) e)
@@ -187,7 +189,8 @@ unmarked zero c = refl
 unmarked (suc m) zero = refl
 unmarked (suc m) (suc c) = unmarked m c
 
-pub whole_fresh : (n : ℕ) (bad : List ℕ) (len room : ℕ) → n < 2 ^ 32 → len ≡ length (clusters_of (pages_of n bad)) → length (pages_of n bad) / 256 + 1 ≤ room
+pub whole_fresh : (n : ℕ) (bad : List ℕ) (len room : ℕ) → n < 2 ^ 32 → len ≡ length (clusters_of (pages_of n bad))
+    → length (pages_of n bad) / 256 + 1 ≤ room
     → IsWhole (pages_of n bad) (count_by is_free (pages_of n bad)) (clusters_of (pages_of n bad)) len room
     (map (λ c. not (has_free (pages_of n bad) c)) (range_with_len 0 (length (pages_of n bad) / 256 + 1)))
     (replicate (length (pages_of n bad) / 256 + 1) false) None 0

@@ -8,8 +8,8 @@ use Rattle.std.proofs.lemmas.List.Folds.{list_any_at}
 use Rattle.std.proofs.lemmas.List.Quantifiers.{position-Some}
 use Rattle.std.proofs.lemmas.List.Sums.{fails_before_first, sum_by-cons}
 use Rattle.std.specs.List.{position_or_len}
-use Rattle.av_clusters.specs.declared.Page.{Page}
-use Rattle.av_clusters.specs.declared.Page.TheVariants.{Unusable, Free, Taken}
+use Rattle.av_clusters.specs.declared.clusters.Page.{Page}
+use Rattle.av_clusters.specs.declared.clusters.Page.TheVariants.{Unusable, Free, Taken}
 use Rattle.av_clusters.specs.Clusters.{is_free, is_taken, page_at, pages_between, lowest, has_taken, start_of, end_of, AreFull}
 
 -- the end may lie past the area's
@@ -65,8 +65,12 @@ found pages from to p h = by (position is_free (pages_between from to pages)) re
         let inside : i < to - from = short i s.0 in
         let low : from ≤ p = omega (arith, is) in
         let high : p < to = omega (arith, is, inside) in
-        let place : p - from ≡ i = omega (arith, is) in
-        (low, high, sym (ap is_free (at_between pages from to p low high)) ∙ ap (λ j. is_free (get_or (pages_between from to pages) j Unusable)) place ∙ s.1)
+        let place : p - from ≡ i = omega (arith, is) in (
+          low,
+          high,
+          sym (ap is_free (at_between pages from to p low high))
+              ∙ ap (λ j. is_free (get_or (pages_between from to pages) j Unusable)) place ∙ s.1,
+        )
 
 -- and where there is none, no page there is free
 all_fail : (xs : List Page) (i : ℕ) → position is_free xs ≡ None → is_free (get_or xs i Unusable) ≡ false
@@ -106,7 +110,8 @@ none_taken pages c p h e = by (cases_Bool (is_taken (page_at pages p)))
         (taken_below (pages_between (start_of c) (end_of c) pages) (p - start_of c) here) here))
 
 -- what a call answered, at other names of its arguments
-pub answered : (pages pages' : List Page) (from from' to to' : ℕ) (r s : Option ℕ) → pages' ≡ pages → from' ≡ from → to' ≡ to → r ≡ lowest pages' from' to' →
+pub answered : (pages pages' : List Page) (from from' to to' : ℕ) (r s : Option ℕ) → pages' ≡ pages → from' ≡ from → to' ≡ to
+    → r ≡ lowest pages' from' to' →
     r ≡ s → lowest pages from to ≡ s
 answered pages pages' from from' to to' r s a b d e f = sym (e ∙ (λ k. lowest (a k) (b k) (d k))) ∙ f
 
@@ -114,7 +119,8 @@ answered pages pages' from from' to to' r s a b d e f = sym (e ∙ (λ k. lowest
 pub least : (pages : List Page) (from to p k : ℕ) → lowest pages from to ≡ Some p → from ≤ k → k < p → is_free (page_at pages k) ≡ false
 least pages from to p k h low high = by (position is_free (pages_between from to pages)) refl h
   where
-    by : (r : Option ℕ) → position is_free (pages_between from to pages) ≡ r → option_map (λ i. from + i) r ≡ Some p → is_free (page_at pages k) ≡ false
+    by : (r : Option ℕ) → position is_free (pages_between from to pages) ≡ r → option_map (λ i. from + i) r ≡ Some p
+        → is_free (page_at pages k) ≡ false
     by None e g = absurd (let never : None ≡ Some p = g in cc)
     by (Some i) e g =
         let s = position-Some is_free (pages_between from to pages) i Unusable e in
@@ -159,7 +165,8 @@ lowest_of_all pages c (Some p) e some before = by (lowest pages 0 (length pages)
 -- a marked cluster has none, and one that has none may be marked
 pub none_marked : (pages : List Page) (marks : List Bool) (c : ℕ) → AreFull pages marks → get_or marks c false ≡ true →
     lowest pages (start_of c) (end_of c) ≡ None
-none_marked pages marks c full is = none_is pages (start_of c) (end_of c) (λ q low high. full q (ap (λ d. get_or marks d false) (inside q low high) ∙ is))
+none_marked pages marks c full is =
+    none_is pages (start_of c) (end_of c) (λ q low high. full q (ap (λ d. get_or marks d false) (inside q low high) ∙ is))
   where
     inside : (q : ℕ) → 256 * c ≤ q → q < 256 * c + 256 → q / 256 ≡ c
     inside q a b = omega (arith, a, b)

@@ -5,8 +5,8 @@ use Rattle.std.proofs.lemmas.Bool.{cases_lt, cases_eq, cases_Bool, false≢true}
 use Rattle.std.proofs.lemmas.Bool.Decides.{nat_tests}
 use Rattle.std.proofs.lemmas.List.{get_or_past}
 use Rattle.std.proofs.lemmas.List.Sums.{sum_by-set, sum_by-cons, sum_by_push, count_by-le-length}
-use Rattle.av_clusters.specs.declared.Page.{Page}
-use Rattle.av_clusters.specs.declared.Page.TheVariants.{Unusable, Free, Taken}
+use Rattle.av_clusters.specs.declared.clusters.Page.{Page}
+use Rattle.av_clusters.specs.declared.clusters.Page.TheVariants.{Unusable, Free, Taken}
 use Rattle.av_clusters.specs.Clusters.{IsWhole, Fills, itself, is_free, is_taken, page_at, lowest, has_taken, start_of, end_of, unless, AreFull, Takes, Returns, Slots, after_fill, give_slot, in_current, in_next, with_free_cluster}
 use Rattle.av_clusters.proofs.Pages.{found, none_free, none_taken, free_below, taken_below, taken_not_free, was_free}
 
@@ -19,7 +19,8 @@ sum_more : (m n k : ℕ) → k ≡ 0 → m + k ≡ n + 1 → m ≡ n + 1
 sum_more m n k a b = omega (arith, a, b)
 
 pub one_fewer : (pages : List Page) (p : ℕ) → is_free (page_at pages p) ≡ true → count_by is_free (set pages p Taken) + 1 ≡ count_by is_free pages
-one_fewer pages p free = sum_fewer _ _ _ (ap (λ b. cond b 1 0) free) (sum_by-set (λ x. cond (is_free x) 1 0) pages p Taken Unusable (free_below pages p free))
+one_fewer pages p free =
+    sum_fewer _ _ _ (ap (λ b. cond b 1 0) free) (sum_by-set (λ x. cond (is_free x) 1 0) pages p Taken Unusable (free_below pages p free))
 
 pub one_more : (pages : List Page) (p : ℕ) → is_taken (page_at pages p) ≡ true → count_by is_free (set pages p Free) ≡ count_by is_free pages + 1
 one_more pages p taken = sum_more _ _ _ (ap (λ b. cond b 1 0) (taken_not_free (page_at pages p) taken))
@@ -96,7 +97,8 @@ one_of true n h = absurd (omega (arith, h))
 one_of false n h = (refl, omega (arith, h))
 
 front : (c : ℕ) (rest : List ℕ) (b : Bool) → count_by (λ d. c == d) (c ∷ rest) ≡ cond b 0 1 → (b ≡ false) × (count_by (λ d. c == d) rest ≡ 0)
-front c rest b h = one_of b _ (sym (ap (λ t. cond t 1 0 + count_by (λ d. c == d) rest) (same_is c)) ∙ sym (sum_by-cons (λ d. cond (c == d) 1 0) c rest) ∙ h)
+front c rest b h = one_of b _
+    (sym (ap (λ t. cond t 1 0 + count_by (λ d. c == d) rest) (same_is c)) ∙ sym (sum_by-cons (λ d. cond (c == d) 1 0) c rest) ∙ h)
 
 once_taken : (c : ℕ) (rest : List ℕ) (flags : List Bool) → ((d : ℕ) → count_by (λ e. d == e) (c ∷ rest) ≡ cond (get_or flags d true) 0 1) → (d : ℕ) →
     count_by (λ e. d == e) rest ≡ cond (get_or (set flags c true) d true) 0 1
@@ -125,13 +127,15 @@ once_given c frees flags below busy once d = by (cases_eq d c)
 
 total_taken : (c : ℕ) (rest : List ℕ) (flags : List Bool) → get_or flags c true ≡ false → suc (length rest) + count_by itself flags ≡ length flags →
     length rest + count_by itself (set flags c true) ≡ length (set flags c true)
-total_taken c rest flags h t = sum (length rest) _ _ _ _ (ap (λ b. cond b 1 0) h) (sum_by-set (λ b. cond b 1 0) flags c true true (flag_below flags c h)) t
+total_taken c rest flags h t =
+    sum (length rest) _ _ _ _ (ap (λ b. cond b 1 0) h) (sum_by-set (λ b. cond b 1 0) flags c true true (flag_below flags c h)) t
     ∙ sym (length-set flags c true)
   where
     sum : (r m n k l : ℕ) → k ≡ 0 → m + k ≡ n + 1 → suc r + n ≡ l → r + m ≡ l
     sum r m n k l a b e = omega (arith, a, b, e)
 
-total_given : (c : ℕ) (frees : List ℕ) (flags : List Bool) → c < length flags → get_or flags c true ≡ true → length frees + count_by itself flags ≡ length flags
+total_given : (c : ℕ) (frees : List ℕ) (flags : List Bool) → c < length flags → get_or flags c true ≡ true
+    → length frees + count_by itself flags ≡ length flags
     → length (frees ++ c ∷ []) + count_by itself (set flags c false) ≡ length (set flags c false)
 total_given c frees flags below h t = sum (length frees) _ _ _ _ _ (length-append frees (c ∷ [])) (ap (λ b. cond b 1 0) h)
     (sum_by-set (λ b. cond b 1 0) flags c false true below) t ∙ sym (length-set flags c false)
@@ -175,7 +179,8 @@ held_given : (pages : List Page) (flags flags' : List Bool) (p : ℕ) → p < le
 held_given pages flags flags' p below held kept q t = by (cases_eq q p)
   where
     by : (q ≡ p) ⊎ (q ≡ p → ⊥) → get_or flags' (q / 256) true ≡ true
-    by (inl e) = absurd (false≢true (sym (ap (λ n. is_taken (page_at (set pages p Free) n)) e ∙ ap is_taken (get_or-set_same pages p Free Unusable below)) ∙ t))
+    by (inl e) = absurd (false≢true
+        (sym (ap (λ n. is_taken (page_at (set pages p Free) n)) e ∙ ap is_taken (get_or-set_same pages p Free Unusable below)) ∙ t))
     by (inr n) = kept q t (held q (sym (ap is_taken (get_or-set_other pages p q Free Unusable n)) ∙ t))
 
 fit_given : (pages : List Page) (flags flags' : List Bool) (p : ℕ) → p < length pages → Fit pages flags →
@@ -205,7 +210,8 @@ full_given : (pages : List Page) (marks : List Bool) (p : ℕ) → p / 256 < len
 full_given pages marks p below full q is = by (cases_eq (q / 256) (p / 256))
   where
     by : (q / 256 ≡ p / 256) ⊎ (q / 256 ≡ p / 256 → ⊥) → is_free (page_at (set pages p Free) q) ≡ false
-    by (inl e) = absurd (false≢true (sym (ap (λ c. get_or (set marks (p / 256) false) c false) e ∙ get_or-set_same marks (p / 256) false false below) ∙ is))
+    by (inl e) = absurd (false≢true
+        (sym (ap (λ c. get_or (set marks (p / 256) false) c false) e ∙ get_or-set_same marks (p / 256) false false below) ∙ is))
     by (inr n) =
         ap is_free (get_or-set_other pages p q Free Unusable (λ e. n (ap (λ m. m / 256) e)))
         ∙ full q (sym (get_or-set_other marks (p / 256) (q / 256) false false n) ∙ is)
@@ -239,13 +245,15 @@ module _ (pages : List Page) (left : ℕ) (frees : List ℕ) (n room : ℕ) (fla
       minus : (l m k : ℕ) → l ≡ k → m + 1 ≡ k → l - 1 ≡ m
       minus l m k a b = omega (arith, a, b)
 
-  whole_given : (p : ℕ) (frees' : List ℕ) (n' room' : ℕ) (flags' : List Bool) (filled' : Option ℕ) → IsWhole pages left frees n room flags marks filled mark →
+  whole_given : (p : ℕ) (frees' : List ℕ) (n' room' : ℕ) (flags' : List Bool) (filled' : Option ℕ)
+      → IsWhole pages left frees n room flags marks filled mark →
       is_taken (page_at pages p) ≡ true
       → ((q : ℕ) → is_taken (page_at (set pages p Free) q) ≡ true → get_or flags (q / 256) true ≡ true → get_or flags' (q / 256) true ≡ true)
       → ((d : ℕ) → get_or flags' d true ≡ false → (get_or flags d true ≡ false) ⊎ (p / 256 ≡ d)) → length flags' ≡ length flags →
       n' ≡ length frees' → room' ≡ room
       → length frees' + count_by itself flags' ≡ length flags' → ((d : ℕ) → count_by (λ e. d == e) frees' ≡ cond (get_or flags' d true) 0 1)
-      → Fills flags' (length pages) mark filled' → IsWhole (set pages p Free) (left + 1) frees' n' room' flags' (set marks (p / 256) false) filled' mark
+      → Fills flags' (length pages) mark filled'
+      → IsWhole (set pages p Free) (left + 1) frees' n' room' flags' (set marks (p / 256) false) filled' mark
   whole_given p frees' n' room' flags' filled' w taken kept fewer long len same total once fills =
       let count = length-set pages p Free in
       let below = taken_below pages p taken in
@@ -293,7 +301,8 @@ module _ (pages : List Page) (left : ℕ) (frees : List ℕ) (n room : ℕ) (fla
       let start : start_of c ≤ p + 1 = above _ at.1 f.0 in
       let end : p + 1 ≤ end_of c = next _ _ f.1 in
       let last : p + 1 ≤ length pages = next _ _ below in
-      whole_taken p frees n room flags marks filled (p + 1) w f.2 (λ d h. h) (ap (λ m. get_or flags m true) inside ∙ at.0) refl w.len refl w.total w.once
+      whole_taken p frees n room flags marks filled (p + 1) w f.2 (λ d h. h) (ap (λ m. get_or flags m true) inside ∙ at.0) refl w.len
+      refl w.total w.once
       (subst (Fills flags (length pages) (p + 1)) (sym is) (at.0, start, end, last)) w.full w.marked
     where
       cluster_is : (m : ℕ) → 256 * c ≤ m → m ≤ p → p < 256 * c + 256 → p / 256 ≡ c
@@ -305,7 +314,8 @@ module _ (pages : List Page) (left : ℕ) (frees : List ℕ) (n room : ℕ) (fla
       next : (q m : ℕ) → q < m → q + 1 ≤ m
       next q m a = omega (arith, a)
 
-  pub whole_anywhere : (p : ℕ) (marks' : List Bool) → IsWhole pages left frees n room flags marks filled mark → frees ≡ [] → is_free (page_at pages p) ≡ true →
+  pub whole_anywhere : (p : ℕ) (marks' : List Bool) → IsWhole pages left frees n room flags marks filled mark → frees ≡ []
+      → is_free (page_at pages p) ≡ true →
       AreFull pages marks' → length marks' ≡ length marks → IsWhole (set pages p Taken) (left - 1) frees n room flags marks' filled mark
   whole_anywhere p marks' w none free full long = whole_taken p frees n room flags marks' filled mark w free (λ d h. h)
       (by (cases_Bool (get_or flags (p / 256) true))) refl w.len refl w.total w.once w.fills full (long ∙ w.marked)
@@ -379,7 +389,8 @@ module _ (pages : List Page) (left : ℕ) (frees : List ℕ) (n room : ℕ) (fla
       sum : (m k c : ℕ) → m + c ≡ k + 0 → c ≡ 1 → length frees + k ≡ length flags → n ≡ length frees → length flags ≤ room → n < room
       sum m k c a b d e f = omega (arith, a, b, d, e, f)
 
-  pub whole_emptied : (p n' room' : ℕ) (filled' : Option ℕ) → IsWhole pages left frees n room flags marks filled mark → is_taken (page_at pages p) ≡ true →
+  pub whole_emptied : (p n' room' : ℕ) (filled' : Option ℕ) → IsWhole pages left frees n room flags marks filled mark
+      → is_taken (page_at pages p) ≡ true →
       has_taken (set pages p Free) (p / 256) ≡ false
       → n' ≡ n + 1 → room' ≡ room → Fills (set flags (p / 256) false) (length pages) mark filled' →
       IsWhole (set pages p Free) (left + 1) (frees ++ (p / 256) ∷ []) n' room' (set flags (p / 256) false) (set marks (p / 256) false) filled' mark
@@ -392,7 +403,8 @@ module _ (pages : List Page) (left : ℕ) (frees : List ℕ) (n room : ℕ) (fla
     where
       kept : (q : ℕ) → is_taken (page_at (set pages p Free) q) ≡ true → get_or flags (q / 256) true ≡ true →
           get_or (set flags (p / 256) false) (q / 256) true ≡ true
-      kept q t h = get_or-set_other flags (p / 256) (q / 256) false true (λ e. false≢true (sym (none_taken (set pages p Free) (p / 256) q none e) ∙ t)) ∙ h
+      kept q t h = get_or-set_other flags (p / 256) (q / 256) false true
+          (λ e. false≢true (sym (none_taken (set pages p Free) (p / 256) q none e) ∙ t)) ∙ h
 
       fewer : (d : ℕ) → get_or (set flags (p / 256) false) d true ≡ false → (get_or flags d true ≡ false) ⊎ (p / 256 ≡ d)
       fewer d low = by (cases_eq d (p / 256))
@@ -421,7 +433,8 @@ one_shorter frees c n n' is e f = sum _ (e ∙ ap length is) f
     sum : (m : ℕ) → n ≡ suc m → n' + 1 ≡ n → n' ≡ m
     sum m a b = omega (arith, a, b)
 
-pub one_popped : (frees new out : List ℕ) (c n n' : ℕ) → frees ≡ c ∷ drop 1 frees → frees ≡ out ++ new → new ≡ drop 1 frees → n' + length out ≡ n → n' + 1 ≡ n
+pub one_popped : (frees new out : List ℕ) (c n n' : ℕ) → frees ≡ c ∷ drop 1 frees → frees ≡ out ++ new → new ≡ drop 1 frees
+    → n' + length out ≡ n → n' + 1 ≡ n
 one_popped frees new out c n n' is e f g = sum _ _ _ _ (ap length is) (ap length e ∙ length-append out new) (ap length f) g
   where
     sum : (m k l o : ℕ) → m ≡ suc k → m ≡ o + l → l ≡ k → n' + o ≡ n → n' + 1 ≡ n

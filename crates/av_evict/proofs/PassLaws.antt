@@ -311,7 +311,8 @@ turning-step a b c n0 n1 n2 pinned turn f next t gives after l sound stands land
       todo = r.0;
       split = i.split ∙ ap (λ y. i.done ++ y) r.1 ∙ sym (append_assoc i.done (f ∷ []) r.0);
       count = one_more i.done turn i.count;
-      first = after (after_notes l1 x.0) (subst (λ m. IsSound m (after_notes l1 x.0)) (sym x.3.does.stays.setting) x.3.sound) x.3.does.stands i.done r.0
+      first = after (after_notes l1 x.0) (subst (λ m. IsSound m (after_notes l1 x.0)) (sym x.3.does.stays.setting) x.3.sound)
+          x.3.does.stands i.done r.0
           ((λ j. reverse (stays.inactive j) ++ reverse (stays.active j)) ∙ r.2);
       gained = i.gained ++ x.0;
       added = x.1 ∙ ap (λ z. z ++ x.0) i.added ∙ append_assoc n0 i.gained x.0;

@@ -90,8 +90,8 @@ does-then a b c l ns ms d e = record {
       (subst (λ m. c.claims (with_loads m (with_loads a.setting w l (note_events ns)) (after_notes l ns) (note_events ms))
       (rmap_after_all (after_notes l ns) (note_events ms) (rmap_after_all l (note_events ns) r)) (after_notes (after_notes l ns) ms)) d.stays.setting
       (e.claims (with_loads a.setting w l (note_events ns)) (rmap_after_all l (note_events ns) r) (d.claims w r h)));
-  faults = subst (λ n. RoseBy n a.faults c.faults) (sym (how_many-append is_fail ns ms))
-      (rose-then (fails ns) (fails ms) (2 ^ 64 - 1) a.faults b.faults c.faults d.faults e.faults);
+  failures = subst (λ n. RoseBy n a.failures c.failures) (sym (how_many-append is_fail ns ms))
+      (rose-then (fails ns) (fails ms) (2 ^ 64 - 1) a.failures b.failures c.failures d.failures e.failures);
 }
 
 pub goes-then : (a b c : SystemView) (l : Ledger) (ns ms : List Note) → Goes a b l ns → Goes b c (after_notes l ns) ms → Goes a c l (ns ++ ms)
@@ -115,7 +115,7 @@ does-none a l h = record {
   stands = h;
   stays = stays_itself a;
   chooses = refl;
-  faults = rose-none a.faults (2 ^ 64 - 1) a.faults a.faults refl (omega arith);
+  failures = rose-none a.failures (2 ^ 64 - 1) a.failures a.failures refl (omega arith);
 }
 
 -- ---- calls put together
@@ -158,13 +158,13 @@ gives-none a n R Q q l sound stands ready =
     ([], sym (append-nil n), q l sound stands ready, record { sound = sound; does = does-none a l stands })
 
 -- one call after another
-pub gives-then : (a b c : SystemView) (n0 n1 n2 : List Note) (R1 R2 : Ledger → Type 0) (Q1 Q2 Q : Ledger → List Note → Type 0) →
-    Gives a b n0 n1 R1 Q1 →
-    Gives b c n1 n2 R2 Q2 →
-    ((l : Ledger) (ns : List Note) → IsSound a.setting l → R1 l → Q1 l ns → IsSound a.setting (after_notes l ns) → R2 (after_notes l ns)) →
-    ((l : Ledger) (ns ms : List Note) → IsSound a.setting l → R1 l → Q1 l ns → Q2 (after_notes l ns) ms → Q l (ns ++ ms)) →
-    Gives a c n0 n2 R1 Q
-gives-then a b c n0 n1 n2 R1 R2 Q1 Q2 Q first second ready both l sound stands r =
+pub gives-then : (a b c : SystemView) (n0 n1 n2 : List Note) (R R' : Ledger → Type 0) (Q Q' Whole : Ledger → List Note → Type 0) →
+    Gives a b n0 n1 R Q →
+    Gives b c n1 n2 R' Q' →
+    ((l : Ledger) (ns : List Note) → IsSound a.setting l → R l → Q l ns → IsSound a.setting (after_notes l ns) → R' (after_notes l ns)) →
+    ((l : Ledger) (ns ms : List Note) → IsSound a.setting l → R l → Q l ns → Q' (after_notes l ns) ms → Whole l (ns ++ ms)) →
+    Gives a c n0 n2 R Whole
+gives-then a b c n0 n1 n2 R R' Q Q' Whole first second ready both l sound stands r =
     let x = first l sound stands r in
     let l1 = after_notes l x.0 in
     let s1 : IsSound b.setting l1 = subst (λ m. IsSound m l1) (sym x.3.does.stays.setting) x.3.sound in
@@ -172,10 +172,10 @@ gives-then a b c n0 n1 n2 R1 R2 Q1 Q2 Q first second ready both l sound stands r
     (x.0 ++ y.0, y.1 ∙ ap (λ z. z ++ y.0) x.1 ∙ append_assoc n0 x.0 y.0, both l x.0 y.0 sound r x.2 y.2, goes-then a b c l x.0 y.0 x.3 y.3)
 
 -- and the second may be made
-pub gives-at : (a b : SystemView) (n0 n1 : List Note) (R1 R2 : Ledger → Type 0) (Q1 : Ledger → List Note → Type 0) → IsAt a R1 →
-    Gives a b n0 n1 R1 Q1 →
-    ((l : Ledger) (ns : List Note) → IsSound a.setting l → R1 l → Q1 l ns → IsSound a.setting (after_notes l ns) → R2 (after_notes l ns)) → IsAt b R2
-gives-at a b n0 n1 R1 R2 Q1 at gives ready =
+pub gives-at : (a b : SystemView) (n0 n1 : List Note) (R R' : Ledger → Type 0) (Q : Ledger → List Note → Type 0) → IsAt a R →
+    Gives a b n0 n1 R Q →
+    ((l : Ledger) (ns : List Note) → IsSound a.setting l → R l → Q l ns → IsSound a.setting (after_notes l ns) → R' (after_notes l ns)) → IsAt b R'
+gives-at a b n0 n1 R R' Q at gives ready =
     let x = gives at.0 at.1 at.2 at.3 in (
       after_notes at.0 x.0,
       subst (λ m. IsSound m (after_notes at.0 x.0)) (sym x.3.does.stays.setting) x.3.sound,
@@ -231,5 +231,9 @@ midway-end a b n0 n1 Rest Whole Q mid none at l sound stands ready =
 pub midway-at : (a b : SystemView) (n0 n1 : List Note) (Rest Whole : Ledger → List Note → Type 0) → IsAt a Always → IsMidway a b n0 n1 Rest Whole →
     IsAt b Always
 midway-at a b n0 n1 Rest Whole at mid =
-    let i = mid at.0 at.1 at.2 in
-    (after_notes at.0 i.gained, subst (λ m. IsSound m (after_notes at.0 i.gained)) (sym i.goes.does.stays.setting) i.goes.sound, i.goes.does.stands, tt)
+    let i = mid at.0 at.1 at.2 in (
+      after_notes at.0 i.gained,
+      subst (λ m. IsSound m (after_notes at.0 i.gained)) (sym i.goes.does.stays.setting) i.goes.sound,
+      i.goes.does.stands,
+      tt,
+    )

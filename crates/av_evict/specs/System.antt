@@ -21,7 +21,7 @@ pub record SystemView : Type 1 where
   -- page 0 of each swap area, where its device tells its pages
   pub first : Option (ℕ → List ℕ)
   -- how often its device failed
-  pub faults : ℕ
+  pub failures : ℕ
   -- the ghost names of the references that it holds
   pub names : List ℕ
   -- the ledgers that it stands for, which agree in all that it can tell
@@ -41,13 +41,13 @@ Knows k P = (l : Ledger) × IsSoundBut k.setting any_slot l × k.stands l × P l
 abbrev pub Tells : SystemView → (Ledger → Type 0) → Type 0
 Tells k P = (l : Ledger) → IsSoundBut k.setting any_slot l → k.stands l → P l
 
--- what no step changes, and a count of faults that never falls
+-- what no step changes, and a count of failures that never falls
 pub record Stays (old new : SystemView) : Type 0 where
   pub setting : new.setting ≡ old.setting
   pub closing : new.closing ≡ old.closing
   pub names : new.names ≡ old.names
   pub first : new.first ≡ old.first
-  pub never_falls : old.faults ≤ new.faults
+  pub never_falls : old.failures ≤ new.failures
 
 -- what the notes tell has happened to a ledger that it stood for. The memories are as they were,
 -- but for what a load makes unclaimed; areas, anon_vmas and homes are what the notes make of them
@@ -55,7 +55,7 @@ pub record Does (old new : SystemView) (l : Ledger) (notes : List Note) : Type 0
   pub stands : new.stands (after_notes l notes)
   pub stays : Stays old new
   pub chooses : ChoosesAll old.setting old.closing l (note_events notes) old.free new.free
-  pub faults : RoseBy (fails notes) old.faults new.faults
+  pub failures : RoseBy (fails notes) old.failures new.failures
   pub claims : (w : World) (r : Rmap) → old.claims w r l
       → new.claims (with_loads old.setting w l (note_events notes))
       (rmap_after_all l (note_events notes) r) (after_notes l notes)

@@ -17,12 +17,12 @@ setting_told false m = record m { headers = None }
 -- homes
 abbrev pub only_view : Setting → Option ℕ → Option (ℕ → List ℕ) → Free → ℕ → World → Rmap → Ledger
     → SystemView
-only_view m closing first free faults w r l = record {
+only_view m closing first free failures w r l = record {
   setting = m;
   closing = closing;
   free = free;
   first = first;
-  faults = faults;
+  failures = failures;
   names = [];
   stands = λ x. x ≡ l;
   claims = λ v q x. (v ≡ w) × (q ≡ r);
@@ -42,8 +42,8 @@ pub record TakesNext (m : Setting) (closing : Option ℕ) (l : Ledger) (free : F
 -- it is the same in both
 abbrev pub CanBeMet : Setting → Option ℕ → Option (ℕ → List ℕ) → Free → ℕ → World → Rmap → Ledger
     → Note → Type 0
-CanBeMet m closing first free faults w r l note =
-    (free' : Free) × (faults' : ℕ) × (w' : Bool → World) × (r' : Rmap) × ((told : Bool) →
+CanBeMet m closing first free failures w r l note =
+    (free' : Free) × (failures' : ℕ) × (w' : Bool → World) × (r' : Rmap) × ((told : Bool) →
     let now = setting_told told m in let page = if told then first else None in
-    Does (only_view now closing page free faults w r l)
-    (only_view now closing page free' faults' (w' told) r' (after_note note l)) l (note ∷ []))
+    Does (only_view now closing page free failures w r l)
+    (only_view now closing page free' failures' (w' told) r' (after_note note l)) l (note ∷ []))

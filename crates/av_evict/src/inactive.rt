@@ -3,7 +3,8 @@
 ghost use Rattle.std.specs.Prelude.{◌≡◌, ◌<◌, OnOk, None, map, Bool, false};
 ghost use Rattle.av_trace.specs.declared.note.Note.TheVariants.{Aged};
 ghost use Rattle.av_plain.specs.Ledger.{slot_of};
-ghost use Rattle.av_plain.specs.Reclaim.{Outcome, Outcomes, from_tail, is_in_writeback as is_writeback};
+ghost use Rattle.av_plain.specs.Reclaim.{Outcome, Outcomes, from_tail};
+ghost use Rattle.av_plain.specs.Reclaim.{is_in_writeback as is_writeback};
 ghost use Rattle.av_evict.specs.Inactive.{GoesOut, IsSentIdle};
 ghost use Rattle.av_evict.specs.Steps.{IsUsed, spares};
 ghost use Rattle.av_evict.specs.System.{Always, Gives, IsAt, Stays, Tells};

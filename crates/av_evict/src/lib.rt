@@ -7,7 +7,7 @@
 //! So it is whether the device's pages are told or not, and what is asked is asked of the system
 //! that doesn't tell them.
 //! Where a note finds no memory the call answers `AllocError`, and promises of its ledgers nothing.
-//! What no step changes is as it was then too, and the count of faults has not fallen.
+//! What no step changes is as it was then too, and the count of failures has not fallen.
 #![tactic(auto, using(crate::proofs::SystemLaws::stays_itself, crate::proofs::SystemLaws::stays_then))]
 
 mod flight;

@@ -1,10 +1,12 @@
 //! The search for a free frame: where none is free, a direct pass, in which the frames in use have
 //! their turns.
 
-ghost use Rattle.std.specs.Prelude.{◌≡◌, ◌<◌, ◌∷◌, ◌++◌, ◌≤◌, ◌+◌, ℕ, List, slice_get, IfOk, OnOk, Bool, false};
+ghost use Rattle.std.specs.Prelude.{◌≡◌, ◌<◌, ◌∷◌, ◌++◌, ◌≤◌, ◌+◌, ℕ, List, slice_get, IfOk, OnOk};
+ghost use Rattle.std.specs.Prelude.{Bool, false};
 ghost use Rattle.av_plain.specs.Ledger.{has_free as is_any_free};
 ghost use Rattle.av_plain.specs.Pass.{IsPass, Seeks, out_of as numbers};
-ghost use Rattle.av_evict.specs.Pass.{AreTurns, Counts, IsEnd, IsLanded, IsNext, IsPassed, turn_order};
+ghost use Rattle.av_evict.specs.Pass.{AreTurns, Counts, IsEnd, IsLanded, IsNext, IsPassed};
+ghost use Rattle.av_evict.specs.Pass.{turn_order};
 ghost use Rattle.av_evict.specs.Steps.{IsUsed, spares};
 ghost use Rattle.av_evict.specs.System.{Always, Gives, IsAt, Knows, Stays, Tells};
 

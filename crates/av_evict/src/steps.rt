@@ -3,7 +3,8 @@
 ghost use Rattle.std.specs.Prelude.{◌≡◌, ◌∷◌, [], OnOk, IfOk, Bool, false};
 ghost use Rattle.av_trace.specs.declared.note.Note.TheVariants.{Aged, Dropped, Kept, Started};
 ghost use Rattle.av_plain.specs.Pass.{end_note as note_of};
-ghost use Rattle.av_evict.specs.Steps.{EndsFirst, GetsSlot, IsInCache, IsSent, IsUnmapped, IsUsed, MayDrop, MayStart};
+ghost use Rattle.av_evict.specs.Steps.{EndsFirst, GetsSlot, IsInCache, IsSent, IsUnmapped, IsUsed};
+ghost use Rattle.av_evict.specs.Steps.{MayDrop, MayStart};
 ghost use Rattle.av_evict.specs.System.{Adds, Always, Gives, IsAt, Stays};
 
 use crate::system::{System, WriteEnd};

@@ -1,12 +1,16 @@
 //! A memory system in single steps, each known by what it does to the ledger.
 
-ghost use Rattle.std.specs.Prelude.{◌≡◌, ◌<◌, ◌∷◌, ◌++◌, [], length, ℕ, List, not, ◌==◌, reverse, slice_get, OnOk, Some, MatchOption, false, true, Bool};
+ghost use Rattle.std.specs.Prelude.{◌≡◌, ◌<◌, ◌∷◌, ◌++◌, [], length, ℕ, List, not, ◌==◌, reverse};
+ghost use Rattle.std.specs.Prelude.{slice_get, OnOk, Some, MatchOption, false, true, Bool};
 ghost use Rattle.av_base.specs.Words.{is_in};
 ghost use Rattle.av_base.specs.declared.slot.Slot.{Slot};
-ghost use Rattle.av_trace.specs.declared.note.Note.TheVariants.{Aged, Dropped, Kept, Started, Unmapped};
-ghost use Rattle.av_plain.specs.Ledger.{has_free, in_flight, is_free, is_orphan, is_stale, map_count, may_give, no_slot, slot_of};
+ghost use Rattle.av_trace.specs.declared.note.Note.TheVariants.{Aged, Dropped, Kept, Started};
+ghost use Rattle.av_trace.specs.declared.note.Note.TheVariants.{Unmapped};
+ghost use Rattle.av_plain.specs.Ledger.{has_free, in_flight, is_free, is_orphan, is_stale};
+ghost use Rattle.av_plain.specs.Ledger.{map_count, may_give, no_slot, slot_of};
 ghost use Rattle.av_plain.specs.Reclaim.{is_referenced};
-ghost use Rattle.av_evict.specs.Steps.{IsUsed, MayDrop, MayPut, MayStart, MayUnmap, notes_of_end, put_notes, slot_of_end};
+ghost use Rattle.av_evict.specs.Steps.{IsUsed, MayDrop, MayPut, MayStart, MayUnmap, notes_of_end};
+ghost use Rattle.av_evict.specs.Steps.{put_notes, slot_of_end};
 ghost use Rattle.av_evict.specs.System.{Always, Knows, Makes, Stays, SystemView, Tells};
 
 use av_base::Slot;

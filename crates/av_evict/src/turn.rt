@@ -5,7 +5,8 @@ ghost use Rattle.av_trace.specs.declared.note.Note.TheVariants.{Started};
 ghost use Rattle.av_plain.specs.Fault.{is_pinned as pins};
 ghost use Rattle.av_plain.specs.Pass.{end_note};
 ghost use Rattle.av_evict.specs.System.{Adds, Gives, IsAt, Stays};
-ghost use Rattle.av_evict.specs.Turn.{IsCleaned, IsEvicted, IsSentTo, IsTurn, IsTurnUnlessPinned, MayTurn, MayWrite, has_failed as failed_in};
+ghost use Rattle.av_evict.specs.Turn.{IsCleaned, IsEvicted, IsSentTo, IsTurn, IsTurnUnlessPinned};
+ghost use Rattle.av_evict.specs.Turn.{MayTurn, MayWrite, has_failed as failed_in};
 
 use crate::steps::{drop_slot, finish_first, send, start};
 use crate::system::{System, WriteEnd};

@@ -12,6 +12,6 @@ ghost use Rattle.av_evict.specs.Witness.{CanBeMet, TakesNext};
 /// takes the frame or slot that comes next, or none, there is a system that has done it.
 pub fn steps_can_be_met()
     ensures { (m : Setting) (closing : Option ℕ) (first : Option (ℕ → List ℕ)) (free : Free)
-        (faults : ℕ) (w : World) (r : Rmap) (l : Ledger) (note : Note)
-        → TakesNext m closing l free note → CanBeMet m closing first free faults w r l note }
+        (failures : ℕ) (w : World) (r : Rmap) (l : Ledger) (note : Note)
+        → TakesNext m closing l free note → CanBeMet m closing first free failures w r l note }
 {}

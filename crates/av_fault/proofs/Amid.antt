@@ -6,7 +6,7 @@ use Rattle.av_vma.specs.Pages.{pages_in}
 use Rattle.av_vma.specs.declared.area.Area.{Area}
 use Rattle.av_plain.specs.Areas.{Anons, Areas, chain_by}
 use Rattle.av_plain.specs.Choice.{ListsAll}
-use Rattle.av_plain.specs.Event.{Event, Forked, Moved, Noted, TurnedOff, TurnedOn, Used, Zapped, after}
+use Rattle.av_plain.specs.Event.{Event, Forked, EntriesMoved, Noted, TurnedOff, TurnedOn, Used, Zapped, after}
 use Rattle.av_plain.specs.Ledger.{Ledger, Setting, key_cmp}
 use Rattle.av_plain.specs.Load.{with_loads}
 use Rattle.av_plain.specs.Sound.{AreThere, AreasFit, AtPages, IsSound, IsTidy}
@@ -38,8 +38,8 @@ IsOfAccess m w l (Noted note) = IsLawful m None l note × IsNamed l note × Brin
 IsOfAccess m w l (Used write k) = Unit {0}
 IsOfAccess m w l (Zapped k) = ⊥
 IsOfAccess m w l (Forked p q es) = ⊥
-IsOfAccess m w l (Moved p n from to) = ⊥
-IsOfAccess m w l (TurnedOn k slots bad) = ⊥
+IsOfAccess m w l (EntriesMoved p n from to) = ⊥
+IsOfAccess m w l (TurnedOn k area) = ⊥
 IsOfAccess m w l (TurnedOff k) = ⊥
 
 -- what a lawful event does to the ledger
@@ -57,8 +57,8 @@ ensues m w l (Noted note) sorted h = record {
 ensues m w l (Used write k) sorted h = record { lawful = tt; no_new = used-no_new m l write k sorted; at = used-at w l write k }
 ensues m w l (Zapped k) sorted h = absurd h
 ensues m w l (Forked p q es) sorted h = absurd h
-ensues m w l (Moved p n from to) sorted h = absurd h
-ensues m w l (TurnedOn k slots bad) sorted h = absurd h
+ensues m w l (EntriesMoved p n from to) sorted h = absurd h
+ensues m w l (TurnedOn k area) sorted h = absurd h
 ensues m w l (TurnedOff k) sorted h = absurd h
 
 -- the areas and anon_vmas stay, and the memories are as the event leaves them
@@ -69,7 +69,8 @@ pub record Beside (m : Setting) (h h' : Held) (e : Event) : Type 0 where
   pub areas : h'.rmap.areas ≡ h.rmap.areas
   pub anons : h'.rmap.anons ≡ h.rmap.anons
 
-pub amid-after : (m : Setting) (h h' : Held) (e : Event) → IsOfAccess m h.world h.ledger e → Steps m None e h h' → Beside m h h' e → IsSound m h'.ledger →
+pub amid-after : (m : Setting) (h h' : Held) (e : Event) → IsOfAccess m h.world h.ledger e → Steps m None e h h' → Beside m h h' e
+    → IsSound m h'.ledger →
     Amid m h → Amid m h'
 amid-after m h h' e of steps beside sound a =
     let made = ensues m h.world h.ledger e a.sound.in_order of in
@@ -77,12 +78,14 @@ amid-after m h h' e of steps beside sound a =
       sound = sound;
       held = steps.held;
       areas = steps.areas a.areas;
-      are = λ p page. ap (λ areas. pages_in (areas p) page) beside.view_areas ∙ a.are p page ∙ ap (λ (areas : Areas). areas p page) (sym beside.areas);
+      are = λ p page. ap (λ areas. pages_in (areas p) page) beside.view_areas ∙ a.are p page
+          ∙ ap (λ (areas : Areas). areas p page) (sym beside.areas);
       anons = subst (λ (areas : Areas). AnonsStand h'.view areas h'.rmap.anons) (sym beside.areas)
           (subst (AnonsStand h'.view h.rmap.areas) (sym beside.anons) (record {
             next = ap (λ (x : Anons). x.next) beside.view_anons ∙ a.anons.next;
             kin = λ n. ap (λ (x : Anons). option_map kin_of (x.anon n)) beside.view_anons ∙ a.anons.kin n;
-            chains = λ p page. subst (λ (x : Anons). IfSome (h.rmap.areas p page) (λ (area : Area). chain_by x area.anon ≡ chain_by h.rmap.anons area.anon))
+            chains = λ p page. subst
+                (λ (x : Anons). IfSome (h.rmap.areas p page) (λ (area : Area). chain_by x area.anon ≡ chain_by h.rmap.anons area.anon))
                 (sym beside.view_anons) (a.anons.chains p page);
           }));
       tidy = subst IsTidy (sym beside.world) (tidy-loads m h.world h.ledger (e ∷ []) a.tidy);

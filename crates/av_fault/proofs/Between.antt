@@ -106,17 +106,17 @@ headers-same : (a b : Device) → IsSameDevice a b → headers_of b ≡ headers_
 headers-same a b same = ap (λ (m : Setting). m.headers) (setting_same 0 a b same)
 
 pub same-still : (d : Device) → IsSameDevice d d
-same-still d = record { sizes = refl; first = refl; faults = omega arith }
+same-still d = record { sizes = refl; first = refl; failures = omega arith }
 
 pub told-same : (told : Bool) (d d' : Device) → IsSameDevice d d' → IsSameDevice (as_told told d) (as_told told d')
 told-same true d d' same = same
-told-same false d d' same = record { sizes = same.sizes; first = refl; faults = same.faults }
+told-same false d d' same = record { sizes = same.sizes; first = refl; failures = same.failures }
 
 pub same-then : (a b c : Device) → IsSameDevice a b → IsSameDevice b c → IsSameDevice a c
 same-then a b c ab bc = record {
   sizes = bc.sizes ∙ ab.sizes;
   first = bc.first ∙ ab.first;
-  faults = let x = ab.faults in let y = bc.faults in omega (arith, x, y);
+  failures = let x = ab.failures in let y = bc.failures in omega (arith, x, y);
 }
 
 pub setting-stays : (d d' : Device) (old new : Mem) → IsSameDevice d d' → frame_count new ≡ frame_count old → setting_by d' new ≡ setting_by d old
@@ -149,7 +149,6 @@ fit-stays d d' old new same parts h = record {
   fit = subst (λ (s : AllSpaces). AnonsFit s new.anons) (sym parts.spaces) (subst (AnonsFit old.spaces) (sym parts.anons) h.fit);
   swap = record {
     frames = parts.swap.frames ∙ h.swap.frames ∙ sym parts.count;
-    one_priority = λ a. ap (λ f. f a) parts.swap.priority ∙ h.swap.one_priority a;
     closed = parts.swap.closing ∙ h.swap.closed;
     on_device = λ a. subst (λ (on : List (ℕ × Header)). IfSome (find nat_cmp a on) (λ (x : Header). IsSomeAnd (d'.sizes a) (λ n. x.pages ≤ n)))
         (sym parts.swap.on)
@@ -188,7 +187,8 @@ bytes-move v d d' w l move h = record {
     clean s (Some f) c = move (λ told. (i : ℕ) → i < page_size → slice_index (told s.area s.page) i ≡ v.bytes f i) c
 
 -- less is a slot, where headers are told
-usable : (o : Option (ℕ → Option Layout)) (a b c e : Bool) (s : Slot) → (a && b && c && e && may_be_slot s o) ≡ true → (a && b && c && e && true) ≡ true
+usable : (o : Option (ℕ → Option Layout)) (a b c e : Bool) (s : Slot) → (a && b && c && e && may_be_slot s o) ≡ true
+    → (a && b && c && e && true) ≡ true
 usable o true true true true s is = refl
 usable o true true true false s is = cc
 usable o true true false e s is = cc
@@ -254,7 +254,6 @@ module _ (d : Device) (k : Mem) (w : World) (r : Rmap) (l : Ledger) (n : ℕ) (h
       fit = h.serves.fit;
       swap = record {
         frames = h.serves.swap.frames;
-        one_priority = h.serves.swap.one_priority;
         closed = h.serves.swap.closed;
         on_device = h.serves.swap.on_device;
         by_headers = tt;
@@ -266,12 +265,12 @@ module _ (d : Device) (k : Mem) (w : World) (r : Rmap) (l : Ledger) (n : ℕ) (h
       unsaid None = tt
       unsaid (Some area) = tt
 
--- the count of faults is nothing that is stood for
+-- the count of failures is nothing that is stood for
 pub between-some : (sizes : ℕ → Option ℕ) (k : Mem) (n : ℕ) → IsBetween sizes k
     → (w : World) × (r : Rmap) × (l : Ledger) × KeepsBetween (device_by sizes None n) k w r l
 between-some sizes k n h = (h.1, h.2, h.3, between-untold (device_by sizes None h.0) k h.1 h.2 h.3 n h.4)
 
--- a device after a call that changes its faults at the most says as much
+-- a device after a call that changes its failures at the most says as much
 pub seen-says : (told : Bool) (d d' : Device) → d'.pages ≡ d.pages → SaysAsMuch (as_told told d) (as_told told d')
 seen-says true d d' told IsSo is = subst (λ o. IfSome o IsSo) (sym told) is
 seen-says false d d' told IsSo is = tt

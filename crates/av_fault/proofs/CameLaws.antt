@@ -93,7 +93,8 @@ module _ (d d' : Device) (old mid : Mem) (w : World) (r : Rmap) (l : Ledger) (k 
   areas-more : (notes : List Note) (note : Note) → ((l : Ledger) (r : Rmap) → (rmap_after_note l note r).areas ≡ r.areas)
       → (rmap_after_all l (note_events (notes ++ note ∷ [])) r).areas ≡ (rmap_after_all l (note_events notes) r).areas
   areas-more notes note still =
-      ap (λ (x : Rmap). x.areas) (ap (λ es. rmap_after_all l es r) (note_events-append notes (note ∷ [])) ∙ rmap_after_all-append l (note_events notes) (Noted note ∷ []) r)
+      ap (λ (x : Rmap). x.areas)
+      (ap (λ es. rmap_after_all l es r) (note_events-append notes (note ∷ [])) ∙ rmap_after_all-append l (note_events notes) (Noted note ∷ []) r)
       ∙ still (after_all l (note_events notes)) (rmap_after_all l (note_events notes) r)
 
   areas-come : rmap_come.areas ≡ r.areas
@@ -129,7 +130,8 @@ module _ (d d' : Device) (old mid : Mem) (w : World) (r : Rmap) (l : Ledger) (k 
     serves x = record {
       coming = came.added;
       making = x.making;
-      whole = ap (λ ns. came.added ++ ns) x.whole ∙ sym (append_assoc came.added x.making (drop_at m write true (after_notes ledger_noted x.making) k))
+      whole = ap (λ ns. came.added ++ ns) x.whole
+          ∙ sym (append_assoc came.added x.making (drop_at m write true (after_notes ledger_noted x.making) k))
           ∙ (λ i. came.added ++ x.making ++ drop_at m write (sym was i) (sym (after_notes-append l came.added x.making) i) k);
       comes_in = comes_in write;
       made = x.made;
@@ -161,8 +163,8 @@ module _ (d d' : Device) (old mid : Mem) (w : World) (r : Rmap) (l : Ledger) (k 
     pub came-touched : HasTouched d d'' old new w r l write k before now touched
     came-touched =
         let both = how_many-append is_fail came.added made.added in
-        let first = came.faults in
-        let second = made.faults in
+        let first = came.failures in
+        let second = made.failures in
         let failed = made.failed in
         record {
           added = added;
@@ -172,13 +174,14 @@ module _ (d d' : Device) (old mid : Mem) (w : World) (r : Rmap) (l : Ledger) (k 
               (sym (after_all-append l come_events (touch_events write k made.added touched)) ∙ ap (after_all l) (events-are touched)) made.ready;
           done = subst (HasDone d d'' old new w r l) (events-are touched)
               (done-then d d' d'' old mid new w r l come_events (touch_events write k made.added touched) came.done made.done);
-          faults = omega (arith, both, first, second);
+          failures = omega (arith, both, first, second);
           failed = omega (arith, both, failed);
         }
 
 -- ---- it could not come in
 
-pub stop-touched : (d d' : Device) (old new : Mem) (w : World) (r : Rmap) (l : Ledger) (k : Key) (s : Slot) (write : Bool) (before now : List Note) (stop : Stop)
+pub stop-touched : (d d' : Device) (old new : Mem) (w : World) (r : Rmap) (l : Ledger) (k : Key) (s : Slot) (write : Bool)
+    (before now : List Note) (stop : Stop)
     → entry l k ≡ Some (InSlot s) → is_allowed w write k ≡ true
     → HasCome (λ m w l added came. Comes m w l k s added came) d d' old new w r l before now (Err stop)
     → HasTouched d d' old new w r l write k before now (Stopped stop)
@@ -188,14 +191,15 @@ stop-touched d d' old new w r l k s write before now stop at allowed came = reco
   touches = by stop came.comes;
   ready = tt;
   done = came.done;
-  faults = came.faults;
+  failures = came.failures;
   failed = came.failed;
 }
   where
     absent : frame_at l s ≡ None → need write l (entry l k) ≡ SwapIn s
     absent none = needs-slot write l k s at ∙ ap (need_of_slot s) none
 
-    by : (stop : Stop) → Comes (setting_by d old) w l k s came.added (Err stop) → Touches (setting_by d old) w l write k came.added (end_of (Stopped stop))
+    by : (stop : Stop) → Comes (setting_by d old) w l k s came.added (Err stop)
+        → Touches (setting_by d old) w l write k came.added (end_of (Stopped stop))
     by Segv c = absurd c
     by Bus c = (allowed, record { slot = s; absent = absent c.0; seeks = c.1; frame = c.2 })
     by (Oom out) c = (
@@ -216,25 +220,29 @@ pub record IsIn (sizes : ℕ → Option ℕ) (mid : Mem) (k : Key) (home : Optio
   pub between : IsBetween sizes mid
   pub is_home : home ≡ home_of k.1 (pages_of mid.spaces.processes k.0 k.1)
 
-pub is-in : (d d1 : Device) (old mid : Mem) (k : Key) (s : Slot) (home : Option (ℕ × ℕ)) (before amid : List Note) (f : ℕ) (end : Result ℕ Stop) → IsBetween d.sizes old
+pub is-in : (d d1 : Device) (old mid : Mem) (k : Key) (s : Slot) (home : Option (ℕ × ℕ)) (before amid : List Note) (f : ℕ) (end : Result ℕ Stop)
+    → IsBetween d.sizes old
     → entry_at old.tables k.0 k.1 ≡ Away s → home ≡ home_of k.1 (pages_of old.spaces.processes k.0 k.1)
     → Does d d1 old (λ d d' w r l. HasCome (λ m w l added came. Comes m w l k s added came) d d' old mid w r l before amid end) → end ≡ Ok f
     → IsIn d1.sizes mid k home
 is-in d d1 old mid k s home before amid f end between there is does ok =
-    let b = between-some d.sizes old d.faults between in
+    let b = between-some d.sizes old d.failures between in
     let d0 = as_told false d in
     let d2 = as_told false d1 in
-    let came = subst (HasCome (λ m w l added came. Comes m w l k s added came) d0 d2 old mid b.0 b.1 b.2 before amid) ok (does false b.0 b.1 b.2 b.3) in
+    let came = subst (HasCome (λ m w l added came. Comes m w l k s added came) d0 d2 old mid b.0 b.1 b.2 before amid) ok
+    (does false b.0 b.1 b.2 b.3) in
     let at = entry-away d0 None old b.0 b.1 b.2 b.3.serves k s there in
     record {
-      between = (d1.faults, _, _, _, came.done.between);
+      between = (d1.failures, _, _, _, came.done.between);
       is_home = is ∙ ap (home_of k.1) (sym (pages-come d0 d2 old mid b.0 b.1 b.2 k s before amid f at came b.3 k.0 k.1));
     }
 
 -- ---- the whole, if memory was not wanting
 
-pub came-does : (d d' d'' : Device) (old mid new : Mem) (write : Bool) (k : Key) (s : Slot) (before amid now : List Note) (f : ℕ) (end : Result ℕ Stop)
-    (result : Result Touched AllocError) → entry_at old.tables k.0 k.1 ≡ Away s → is_permitted write (prot_of (ranges_of old.spaces.processes k.0) k.1) ≡ true
+pub came-does : (d d' d'' : Device) (old mid new : Mem) (write : Bool) (k : Key) (s : Slot) (before amid now : List Note) (f : ℕ)
+    (end : Result ℕ Stop)
+    (result : Result Touched AllocError) → entry_at old.tables k.0 k.1 ≡ Away s
+    → is_permitted write (prot_of (ranges_of old.spaces.processes k.0) k.1) ≡ true
     → Does d d' old (λ d d' w r l. HasCome (λ m w l added came. Comes m w l k s added came) d d' old mid w r l before amid end) → end ≡ Ok f
     → IfOk result (λ touched. Does d' d'' mid (λ d' d'' w r l. HasMade d' d'' mid new w r l write true k amid now touched))
     → IfOk result (λ touched. Does d d'' old (λ d d'' w r l. HasTouched d d'' old new w r l write k before now touched))
@@ -251,5 +259,6 @@ pub stop-does : (d d' : Device) (old new : Mem) (write : Bool) (k : Key) (s : Sl
     → Does d d' old (λ d d' w r l. HasTouched d d' old new w r l write k before now (Stopped stop))
 stop-does d d' old new write k s before now stop end there permitted does err = λ told w r l h.
     let d0 = as_told told d in
-    stop-touched d0 (as_told told d') old new w r l k s write before now stop (entry-away d0 None old w r l h.serves k s there) (allowed-as d0 old w r l h write k ∙ permitted)
+    stop-touched d0 (as_told told d') old new w r l k s write before now stop (entry-away d0 None old w r l h.serves k s there)
+    (allowed-as d0 old w r l h write k ∙ permitted)
     (subst (HasCome (λ m w l added came. Comes m w l k s added came) d0 (as_told told d') old new w r l before now) err (does told w r l h))

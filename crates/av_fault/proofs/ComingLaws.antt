@@ -82,7 +82,7 @@ come-cached d k w r l s f notes h cached = record {
       (TakesFor (setting_by d k) (sparing w l None) l [] (Loaded s) × (frame_at l s ≡ Some f)) (λ cached. (◌≡◌ {A = List Note} [] []) × (f ≡ cached)))
       (sym cached ∙ h.serves.held.ledger.swap.finds s) (refl, refl);
   done = done-none d k w r l h;
-  faults = rose-none d.faults;
+  failures = rose-none d.failures;
   failed = omega arith;
 }
 
@@ -97,7 +97,7 @@ come-out d d1 old mid w r l s out before now h absent sought = record {
   notes = sought.notes;
   comes = (sym (h.serves.held.ledger.swap.finds s) ∙ absent, sought.seeks, sought.finds);
   done = sought.done;
-  faults = subst (λ n. RoseBy n d.faults d1.faults) (plus_zero (fails sought.added)) sought.faults;
+  failures = subst (λ n. RoseBy n d.failures d1.failures) (plus_zero (fails sought.added)) sought.failures;
   failed = sought.failed;
 }
   where
@@ -142,15 +142,18 @@ module _ (d d1 : Device) (old mid : Mem) (w : World) (r : Rmap) (l : Ledger) (q 
   -- the entry names the slot still, and that is not cached yet
   at_now : entry l1 q ≡ Some (InSlot s)
   at_now = ap (λ x. entry x q) by_notes
-      ∙ (seeks-kept m (sparing w l None) l sought.added h.sound sought.seeks).keeps.steady q (ap (is_steady (sparing w l None).frame) at_first) ∙ at_first
+      ∙ (seeks-kept m (sparing w l None) l sought.added h.sound sought.seeks).keeps.steady q
+      (ap (is_steady (sparing w l None).frame) at_first) ∙ at_first
 
   out_now : frame_at l1 s ≡ None
   out_now = uncached-frame s l1 (ap (λ x. slots x s) by_notes
-      ∙ (seeks-kept m (sparing w l None) l sought.added h.sound sought.seeks).keeps.absent s (frame_at-none s l.cache out_first) (named-slot l q s at_first))
+      ∙ (seeks-kept m (sparing w l None) l sought.added h.sound sought.seeks).keeps.absent s (frame_at-none s l.cache out_first)
+      (named-slot l q s at_first))
 
   home_now : home ≡ home_of q.1 (r1.areas q.0 q.1)
   home_now = is ∙ ap (home_of q.1) (h.serves.are q.0 q.1)
-      ∙ sym (ap (λ (on : ℕ → ℕ → Option Area). home_of q.1 (on q.0 q.1)) (fit-areas l r sought.added (fit-seeks m (sparing w l None) l sought.added sought.seeks)))
+      ∙ sym (ap (λ (on : ℕ → ℕ → Option Area). home_of q.1 (on q.0 q.1))
+      (fit-areas l r sought.added (fit-seeks m (sparing w l None) l sought.added sought.seeks)))
 
   -- ---- what the load asks for
 
@@ -173,7 +176,8 @@ module _ (d d1 : Device) (old mid : Mem) (w : World) (r : Rmap) (l : Ledger) (q 
 
   -- ---- the device did not give the page
 
-  module _ (d2 : Device) (new : Mem) (same : IsSameDevice d1 d2) (says : SaysAsMuch d1 d2) (seen : view new ≡ view mid) (parts : KeepsParts mid new) where
+  module _ (d2 : Device) (new : Mem) (same : IsSameDevice d1 d2) (says : SaysAsMuch d1 d2) (seen : view new ≡ view mid)
+      (parts : KeepsParts mid new) where
     moved : Amid m1 (held_by d2 new w1 r1 l1)
     moved =
         let a = to-amid d1 mid w1 r1 l1 between in
@@ -197,19 +201,20 @@ module _ (d d1 : Device) (old mid : Mem) (w : World) (r : Rmap) (l : Ledger) (q 
         })
 
     lost-done : HasDone d d2 old new w r l sought_events
-    lost-done = done-by d d2 old new w w1 r r1 l l1 sought_events refl refl refl (same-then d d1 d2 sought.done.same same) (parts.count ∙ sought.done.count)
+    lost-done = done-by d d2 old new w w1 r r1 l l1 sought_events refl refl refl (same-then d d1 d2 sought.done.same same)
+        (parts.count ∙ sought.done.count)
         (subst (λ m. Amid m (held_by d2 new w1 r1 l1)) (setting-stays d d1 old mid sought.done.same sought.done.count) moved)
         (fit-stays d1 d2 mid new same parts (to-fit d1 mid w1 r1 l1 between))
         (subst (λ (v : View). ChoosesAll m None l sought_events (free_of (view old)) (free_of v)) (sym seen) sought.done.free)
 
-    pub come-lost : Rose d1.faults d2.faults
+    pub come-lost : Rose d1.failures d2.failures
         → HasCome (λ m w l added came. Fetches m w l s added came) d d2 old new w r l before now (Err Bus)
     come-lost rose = record {
       added = sought.added;
       notes = sought.notes;
       comes = (out_first, sought.seeks, sought.finds);
       done = lost-done;
-      faults = rose-then (fails sought.added) 1 d.faults d1.faults d2.faults sought.faults rose;
+      failures = rose-then (fails sought.added) 1 d.failures d1.failures d2.failures sought.failures rose;
       failed = omega arith;
     }
 
@@ -225,16 +230,26 @@ module _ (d d1 : Device) (old mid : Mem) (w : World) (r : Rmap) (l : Ledger) (q 
     held_sought = held_by d1 mid w1 r1 l1
 
     first : IsFirst m1 l1 f load.left
-    first = first-taken d1 None mid w1 r1 l1 no_excuse between.sound between.serves q s at_now out_now home home_now new pages f homed is_home load got
+    first = first-taken d1 None mid w1 r1 l1 no_excuse between.sound between.serves q s at_now out_now home home_now new pages f homed
+        is_home load got
 
     abbrev view_now : View
-    view_now = view_loaded d1 None mid w1 r1 l1 no_excuse between.sound between.serves q s at_now out_now home home_now new pages f homed is_home load got
+    view_now = view_loaded d1 None mid w1 r1 l1 no_excuse between.sound between.serves q s at_now out_now home home_now new pages f homed
+        is_home load got
 
     loads : HasDone d1 d1 mid new w1 r1 l1 (load_event ∷ [])
     loads =
-        run-done d1 d1 mid new w1 (with_loads m1 w1 l1 (load_event ∷ [])) r1 (rmap_after_note l1 (Loaded s f) r1) l1 (after_note (Loaded s f) l1) (load_event ∷ []) held_sought view_now
+        run-done d1 d1 mid new w1 (with_loads m1 w1 l1 (load_event ∷ [])) r1 (rmap_after_note l1 (Loaded s f) r1) l1 (after_note (Loaded s f) l1)
+        (load_event ∷ []) held_sought view_now
         (run-then m1 held_sought held_sought
-        (record { view = view_now; device = d1; world = with_loads m1 w1 l1 (load_event ∷ []); ledger = after_note (Loaded s f) l1; rmap = rmap_after_note l1 (Loaded s f) r1 })
+        (record {
+          view = view_now;
+          device = d1;
+          world = with_loads m1 w1 l1 (load_event ∷ []);
+          ledger = after_note (Loaded s f) l1;
+          rmap =
+              rmap_after_note l1 (Loaded s f) r1;
+        })
         [] load_event (run-none m1 held_sought (to-amid d1 mid w1 r1 l1 between)) (named-slot l1 q s at_now, tt, tt)
         (back-loaded d1 None mid w1 r1 l1 no_excuse between.sound between.serves q s at_now out_now home home_now new pages f homed is_home load got)
         (record { world = refl; view_areas = refl; view_anons = refl; areas = refl; anons = refl })
@@ -269,12 +284,13 @@ module _ (d d1 : Device) (old mid : Mem) (w : World) (r : Rmap) (l : Ledger) (q 
           (λ cached. (added ≡ []) × (f ≡ cached))) (sym out_first) (takes, cached_now);
       done = subst (HasDone d d1 old new w r l) (sym (note_events-append sought.added (Loaded s f ∷ [])))
           (done-then d d1 d1 old mid new w r l sought_events (load_event ∷ []) sought.done loads);
-      faults = subst (λ n. RoseBy n d.faults d1.faults) (no-fault (Loaded s f) refl sought.added) sought.faults;
+      failures = subst (λ n. RoseBy n d.failures d1.failures) (no-fault (Loaded s f) refl sought.added) sought.failures;
       failed = omega arith;
     }
 
--- what a device says of its faults, whether it tells its pages or not
-pub told-rose : (told : Bool) (n : ℕ) (d d' : Device) → RoseBy n d.faults d'.faults → RoseBy n (as_told told d).faults (as_told told d').faults
+-- what a device says of its failures, whether it tells its pages or not
+pub told-rose : (told : Bool) (n : ℕ) (d d' : Device) → RoseBy n d.failures d'.failures
+    → RoseBy n (as_told told d).failures (as_told told d').failures
 told-rose true n d d' rose = rose
 told-rose false n d d' rose = rose
 
@@ -289,11 +305,12 @@ pub record IsToLoad (sizes : ℕ → Option ℕ) (mid : Mem) (s : Slot) (home : 
   pub fits : HasRoom mid
   pub areas : HasAreas sizes (shown_swap mid.swap)
 
-pub to-load : (d d1 : Device) (old mid : Mem) (q : Key) (s : Slot) (home : Option (ℕ × ℕ)) (before now : List Note) (found : Got) → IsBetween d.sizes old
+pub to-load : (d d1 : Device) (old mid : Mem) (q : Key) (s : Slot) (home : Option (ℕ × ℕ)) (before now : List Note) (found : Got)
+    → IsBetween d.sizes old
     → entry_at old.tables q.0 q.1 ≡ Away s → home ≡ home_of q.1 (pages_of old.spaces.processes q.0 q.1) → (view old).find s ≡ None
     → Does d d1 old (λ d d' w r l. HasSought d d' old mid w r l None before now found) → found ≡ Frame → IsToLoad d1.sizes mid s home
 to-load d d1 old mid q s home before now found between there is absent does frame =
-    let b = between-some d.sizes old d.faults between in
+    let b = between-some d.sizes old d.failures between in
     let d0 = as_told false d in
     let d2 = as_told false d1 in
     let sought = subst (HasSought d0 d2 old mid b.0 b.1 b.2 None before now) frame (does false b.0 b.1 b.2 b.3) in
@@ -321,9 +338,11 @@ here-is k p page f is = by (entry_at k.tables p page) is
     by (Here g write was) is = let x = ap entry_of is in let y = ap (option_map (λ (e : Plain). e.write)) is in cc
     by (Away t) is = let x = ap entry_of is in cc
 
-pub map-here : (mid new : Mem) (q : Key) (s : Slot) (f : ℕ) → view new ≡ view_map q.0 q.1 f s (view mid) → entry_at new.tables q.0 q.1 ≡ Here f false false
+pub map-here : (mid new : Mem) (q : Key) (s : Slot) (f : ℕ) → view new ≡ view_map q.0 q.1 f s (view mid)
+    → entry_at new.tables q.0 q.1 ≡ Here f false false
 map-here mid new q s f now = here-is new q.0 q.1 f (ap (λ (v : View). v.table q.0 q.1) now
-    ∙ ap (λ b. cond b (Some (record { entry = InFrame f false; write = false })) ((view mid).table q.0 q.1)) (sym (key_is q.0 q.1 q.0 q.1) ∙ same_key-itself q))
+    ∙ ap (λ b. cond b (Some (record { entry = InFrame f false; write = false })) ((view mid).table q.0 q.1))
+    (sym (key_is q.0 q.1 q.0 q.1) ∙ same_key-itself q))
 
 -- the page's entry names its slot still, and the frame caches that
 pub record IsThere (l : Ledger) (q : Key) (s : Slot) (f : ℕ) : Type 0 where
@@ -401,12 +420,16 @@ module _ (d d1 : Device) (old mid : Mem) (w : World) (r : Rmap) (l : Ledger) (q 
     maps : HasDone d1 d1 mid new wf rf lf (Noted note ∷ [])
     maps = run-done d1 d1 mid new wf wf rf rf lf (after_note note lf) (Noted note ∷ []) held_fetched view_mapped
         (run-then mf held_fetched held_fetched (record held_fetched { view = view_mapped; ledger = after_note note lf }) [] (Noted note)
-        (run-none mf held_fetched (to-amid d1 mid wf rf lf fetched))
-        (tt, back-used d1 None mid wf rf lf no_excuse fetched.sound fetched.serves q s is_there.at f is_there.cached, fetched.serves.at_pages q.0 (page_of (address_of q.1)) (ap is_some at_address))
+        (run-none mf held_fetched (to-amid d1 mid wf rf lf fetched)) (
+          tt,
+          back-used d1 None mid wf rf lf no_excuse fetched.sound fetched.serves q s is_there.at f is_there.cached,
+          fetched.serves.at_pages q.0 (page_of (address_of q.1)) (ap is_some at_address),
+        )
         (back-mapped d1 None mid wf rf lf no_excuse fetched.sound fetched.serves q s is_there.at f is_there.cached)
         (record { world = sym (without-loads mf wf lf (Noted note ∷ []) refl); view_areas = refl; view_anons = refl; areas = refl; anons = refl })
         (map-sound mf no_excuse lf fetched.sound q.0 (address_of q.1) f s at_address is_there.cached))
-        (seen-mapped d1 None mid wf rf lf no_excuse fetched.sound fetched.serves q s is_there.at f is_there.cached new now_seen) refl refl (sym (without-loads mf wf lf (Noted note ∷ []) refl)) refl
+        (seen-mapped d1 None mid wf rf lf no_excuse fetched.sound fetched.serves q s is_there.at f is_there.cached new now_seen) refl refl
+        (sym (without-loads mf wf lf (Noted note ∷ []) refl)) refl
         (same-still d1) parts.count (fit-stays d1 d1 mid new (same-still d1) parts (to-fit d1 mid wf rf lf fetched))
 
     comes_in : ComesIn (setting_by d old) (sparing w) l q (need_of_slot s (frame_at l s)) (came.added ++ note ∷ [])
@@ -433,7 +456,7 @@ module _ (d d1 : Device) (old mid : Mem) (w : World) (r : Rmap) (l : Ledger) (q 
       comes = (comes_in, in_frame);
       done = subst (HasDone d d1 old new w r l) (sym (note_events-append came.added (note ∷ [])))
           (done-then d d1 d1 old mid new w r l fetched_events (Noted note ∷ []) came.done maps);
-      faults = subst (λ n. RoseBy n d.faults d1.faults) (minus_zero _ ∙ no-fault note refl came.added) came.faults;
+      failures = subst (λ n. RoseBy n d.failures d1.failures) (minus_zero _ ∙ no-fault note refl came.added) came.failures;
       failed = omega arith;
     }
       where
@@ -449,7 +472,7 @@ come-stopped d d1 old mid w r l q s before now stop came = record {
   notes = came.notes;
   comes = came.comes;
   done = came.done;
-  faults = came.faults;
+  failures = came.failures;
   failed = came.failed;
 }
 
@@ -466,10 +489,11 @@ pub to-map : (d d1 : Device) (old mid : Mem) (q : Key) (s : Slot) (before now : 
     → Does d d1 old (λ d d' w r l. HasCome (λ m w l added came. Fetches m w l s added came) d d' old mid w r l before now end) → end ≡ Ok f
     → IsToMap mid q s f
 to-map d d1 old mid q s before now f end between there does is =
-    let b = between-some d.sizes old d.faults between in
+    let b = between-some d.sizes old d.failures between in
     let d0 = as_told false d in
     let d2 = as_told false d1 in
-    let came = subst (HasCome (λ m w l added came. Fetches m w l s added came) d0 d2 old mid b.0 b.1 b.2 before now) is (does false b.0 b.1 b.2 b.3) in
+    let came = subst (HasCome (λ m w l added came. Fetches m w l s added came) d0 d2 old mid b.0 b.1 b.2 before now) is
+    (does false b.0 b.1 b.2 b.3) in
     record {
       in_range = map-in_range d0 d2 old mid b.0 b.1 b.2 q s before now b.3 there f came;
       names = map-names d0 d2 old mid b.0 b.1 b.2 q s before now b.3 there f came;

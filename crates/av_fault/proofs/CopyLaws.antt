@@ -102,7 +102,8 @@ module _ (m : Setting) (h : Held) (amid : Amid m h) (p a f g : ℕ) (left : List
 
 -- ---- of the memory system
 
-module _ (d : Device) (mid new : Mem) (w : World) (r : Rmap) (l : Ledger) (p f g : ℕ) (left : List ℕ) (first : (view mid).free ≡ f ∷ left) (seen : Bool)
+module _ (d : Device) (mid new : Mem) (w : World) (r : Rmap) (l : Ledger) (p f g : ℕ) (left : List ℕ)
+    (first : (view mid).free ≡ f ∷ left) (seen : Bool)
     (h : KeepsBetween d mid w r l) (shared : is_shared l g ≡ true) (parts : KeepsParts mid new) where
   -- at the page of an address
   abbrev CopyDone : ℕ → ℕ → Type 0
@@ -172,10 +173,12 @@ module _ (d d' : Device) (old mid : Mem) (w : World) (r : Rmap) (l : Ledger) (be
       (shared-by m (after_notes l s.added) g p.sound (shared-stays (sparing w l (Some g)).frame l (after_notes l s.added) g (same-itself g) p.keeps
       (how_many-found (names_frame g) k l.entries (InFrame g here.seen) at (same-itself g)) (shared-is l g shared)))
 
-module _ (d d' : Device) (old mid new : Mem) (w : World) (r : Rmap) (l : Ledger) (before mids now : List Note) (k : Key) (f g : ℕ) (came settled : Bool)
+module _ (d d' : Device) (old mid new : Mem) (w : World) (r : Rmap) (l : Ledger) (before mids now : List Note) (k : Key) (f g : ℕ)
+    (came settled : Bool)
     (h : KeepsBetween d old w r l) (s : HasSought d d' old mid w r l (Some g) before mids Frame) (here : IsHere old k g settled)
     (shared : is_shared l g ≡ true) (home : Option (ℕ × ℕ)) (home_is : home ≡ home_of k.1 (pages_of old.spaces.processes k.0 k.1))
-    (taken : IsTaken mid new f (λ left. view_seen k.0 k.1 f true (view_copy k.0 k.1 g f true left home (view mid)))) (parts : KeepsParts mid new) where
+    (taken : IsTaken mid new f (λ left. view_seen k.0 k.1 f true (view_copy k.0 k.1 g f true left home (view mid))))
+    (parts : KeepsParts mid new) where
   abbrev note : Note
   note = Copied k.0 (address_of k.1) f
 

@@ -27,7 +27,8 @@ pub loads-append : (m : Setting) (w : World) (l : Ledger) (es fs : List Event)
     → with_loads m w l (es ++ fs) ≡ with_loads m (with_loads m w l es) (after_all l es) fs
 loads-append m w l es fs = by (is_some m.headers)
   where
-    by : (b : Bool) → cond b w (after_loads w l (es ++ fs)) ≡ cond b (cond b w (after_loads w l es)) (after_loads (cond b w (after_loads w l es)) (after_all l es) fs)
+    by : (b : Bool) → cond b w (after_loads w l (es ++ fs)) ≡ cond b (cond b w (after_loads w l es))
+        (after_loads (cond b w (after_loads w l es)) (after_all l es) fs)
     by true = refl
     by false = after-loads-append w l es fs
 
@@ -71,9 +72,11 @@ module _ (d d' d'' : Device) (old mid new : Mem) (w : World) (r : Rmap) (l : Led
   done-then b = record {
     between =
         subst (λ x. KeepsBetween d'' new x (rmap_after_all l (es ++ fs) r) (after_all l (es ++ fs)))
-        (ap (λ m. with_loads m (with_loads (setting_by d old) w l es) (after_all l es) fs) same-setting ∙ sym (loads-append (setting_by d old) w l es fs))
+        (ap (λ m. with_loads m (with_loads (setting_by d old) w l es) (after_all l es) fs) same-setting
+        ∙ sym (loads-append (setting_by d old) w l es fs))
         (subst (λ x. KeepsBetween d'' new (world_after fs) x (after_all l (es ++ fs))) (sym (rmap_after_all-append l es fs r))
-        (subst (KeepsBetween d'' new (world_after fs) (rmap_after_all (after_all l es) fs (rmap_after_all l es r))) (sym (after_all-append l es fs)) b.between));
+        (subst (KeepsBetween d'' new (world_after fs) (rmap_after_all (after_all l es) fs (rmap_after_all l es r)))
+        (sym (after_all-append l es fs)) b.between));
     free = chooses-append (setting_by d old) None l es fs (free_of (view old)) (free_of (view mid)) (free_of (view new)) a.free
         (subst (λ m. ChoosesAll m None (after_all l es) fs (free_of (view mid)) (free_of (view new))) same-setting b.free);
     same = same-then d d' d'' a.same b.same;
@@ -83,7 +86,7 @@ module _ (d d' d'' : Device) (old mid new : Mem) (w : World) (r : Rmap) (l : Led
       world_after : List Event → World
       world_after fs = with_loads (setting_by d' mid) (with_loads (setting_by d old) w l es) (after_all l es) fs
 
--- ---- counts of faults
+-- ---- counts of failures
 
 pub rose-none : (n : ℕ) → RoseBy 0 n n
 rose-none n = omega arith

@@ -180,7 +180,8 @@ module _ (d : Device) (k : Mem) (w : World) (r : Rmap) (l : Ledger) (h : KeepsBe
 
 -- ---- a slot is dropped
 
-module _ (d : Device) (old : Mem) (w : World) (r : Rmap) (l : Ledger) (h : KeepsBetween d old w r l) (f : ℕ) (s : Slot) (cached : (view old).slot f ≡ Some s) where
+module _ (d : Device) (old : Mem) (w : World) (r : Rmap) (l : Ledger) (h : KeepsBetween d old w r l) (f : ℕ) (s : Slot)
+    (cached : (view old).slot f ≡ Some s) where
   at : slot_of l f ≡ Some s
   at = sym (h.serves.held.ledger.frames.slots f) ∙ cached
 
@@ -230,7 +231,8 @@ module _ (d : Device) (old : Mem) (w : World) (r : Rmap) (l : Ledger) (h : Keeps
         let x = held_by d old w r l in
         run-done d d old new w w r r l l' (Noted (Dropped s) ∷ []) x v
         (run-then setting x x (record x { view = v; ledger = l' }) [] (Noted (Dropped s)) (run-none setting x (to-amid d old w r l h)) (tt, tt, tt)
-        (drop-steps setting None x h.serves.held f s (once-of setting no_excuse l h.sound) there (cached-in_range setting no_excuse l h.sound f s there)
+        (drop-steps setting None x h.serves.held f s (once-of setting no_excuse l h.sound) there
+        (cached-in_range setting no_excuse l h.sound f s there)
         (cached-there setting no_excuse l h.sound f s h.serves.there there) (unneeded-leaves setting true false l s unneeded))
         (record {
           world = sym (without-loads setting w l (Noted (Dropped s) ∷ []) refl);

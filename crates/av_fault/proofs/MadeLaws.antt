@@ -21,14 +21,16 @@ use Rattle.av_fault.proofs.Done.{done-then}
 use Rattle.av_fault.proofs.DropLaws.{drops-unfailed}
 use Rattle.av_fault.proofs.UsingLaws.{entry-here, own-here}
 
-module _ (d : Device) (old mid new : Mem) (w : World) (r : Rmap) (l : Ledger) (k : Key) (f : ℕ) (seen write came : Bool) (before after added : List Note)
+module _ (d : Device) (old mid new : Mem) (w : World) (r : Rmap) (l : Ledger) (k : Key) (f : ℕ) (seen write came : Bool)
+    (before after added : List Note)
     (at : entry l k ≡ Some (InFrame f seen)) (drops : added ≡ drop_of_slot (setting_by d old) write came l (slot_of l f))
     (done : HasDone d d old mid w r l (note_events added)) where
   unfailed : fails added + 0 ≡ 0
   unfailed = let none = ap fails drops ∙ drops-unfailed (setting_by d old) write came l (slot_of l f) in omega (arith, none)
 
   pub used-made : after ≡ before ++ added → need write l (entry l k) ≡ NoNeed
-      → HasDone d d mid new (with_loads (setting_by d old) w l (note_events added)) (rmap_after_all l (note_events added) r) (after_all l (note_events added))
+      → HasDone d d mid new (with_loads (setting_by d old) w l (note_events added)) (rmap_after_all l (note_events added) r)
+      (after_all l (note_events added))
       (Used write k ∷ [])
       → (bit : Bool) → entry_at new.tables k.0 k.1 ≡ Here f bit true → (write ≡ true → bit ≡ true)
       → HasMade d d old new w r l write came k before after (Ready f)
@@ -50,7 +52,7 @@ module _ (d : Device) (old mid new : Mem) (w : World) (r : Rmap) (l : Ledger) (k
           λ written. own-here d new w' r' l' whole.between k f bit true there (own written),
         );
         done = whole;
-        faults = subst (λ n. RoseBy n d.faults d.faults) (sym unfailed) (omega arith);
+        failures = subst (λ n. RoseBy n d.failures d.failures) (sym unfailed) (omega arith);
         failed = omega arith;
       }
 
@@ -58,5 +60,6 @@ module _ (d : Device) (old mid new : Mem) (w : World) (r : Rmap) (l : Ledger) (k
 pub read-needs : (l : Ledger) (k : Key) (f : ℕ) (seen : Bool) → entry l k ≡ Some (InFrame f seen) → need false l (entry l k) ≡ NoNeed
 read-needs l k f seen at = ap (need false l) at
 
-pub write-needs : (l : Ledger) (k : Key) (f : ℕ) (seen : Bool) → entry l k ≡ Some (InFrame f seen) → is_shared l f ≡ false → need true l (entry l k) ≡ NoNeed
+pub write-needs : (l : Ledger) (k : Key) (f : ℕ) (seen : Bool) → entry l k ≡ Some (InFrame f seen) → is_shared l f ≡ false
+    → need true l (entry l k) ≡ NoNeed
 write-needs l k f seen at alone = ap (need true l) at ∙ ap (λ b. cond b (CopyOnWrite f) NoNeed) alone

@@ -91,8 +91,15 @@ module _ (m : Setting) (h : Held) (amid : Amid m h) (p a f : ℕ) (left : List �
 
   run : Run m h made (Noted (New p a f) ∷ [])
   run = run-then m h h made [] (Noted (New p a f)) (run-none m h amid) (tt, tt, mapped)
-      (new-steps m None h amid.held p a f left true amid.sound.in_order (once-of m no_excuse h.ledger amid.sound) is_first.free first is_first.alone blank owns)
-      (record { world = sym (without-loads m h.world h.ledger (Noted (New p a f) ∷ []) refl); view_areas = refl; view_anons = refl; areas = refl; anons = refl })
+      (new-steps m None h amid.held p a f left true amid.sound.in_order (once-of m no_excuse h.ledger amid.sound) is_first.free first
+      is_first.alone blank owns)
+      (record {
+        world = sym (without-loads m h.world h.ledger (Noted (New p a f) ∷ []) refl);
+        view_areas = refl;
+        view_anons = refl;
+        areas = refl;
+        anons = refl;
+      })
       (new-kept m no_excuse h.ledger q f amid.sound blank is_first.below (unused h.ledger f is_first.free))
 
   both : (p == p && page_of a == page_of a) ≡ true
@@ -173,7 +180,8 @@ module _ (d d' : Device) (old mid new : Mem) (w : World) (r : Rmap) (l : Ledger)
   mapped_now = mapped-sought d d' old mid w r l None before mids Frame h s k mapped
 
   stands : KeepsBetween d' with_area w1 (prepare_page k.0 k.1 r1) l1
-  stands = prepared d' mid w1 r1 l1 s.done.between spaces anons k.0 k.1 changed made (lives-sought d d' old mid w r l None before mids Frame h s k mapped)
+  stands = prepared d' mid w1 r1 l1 s.done.between spaces anons k.0 k.1 changed made
+      (lives-sought d d' old mid w r l None before mids Frame h s k mapped)
 
   -- the area is there still, and so are the frames that are free
   pub mapped-taken : IsMapped with_area k

@@ -14,7 +14,8 @@ use Rattle.av_spaces.specs.Kin.{AnonsPrepare, IsOwnedIn, info_of, made_for}
 use Rattle.av_spaces.specs.Spaces.{AllSpaces, AreThese, IsChanged, areas_of, pages_of as areas_on}
 use Rattle.av_spaces.proofs.Kin.{stay_same}
 use Rattle.av_spaces.proofs.Rising.{laid}
-use Rattle.av_vma.specs.Join.{first_of, is_reusable, past_of}
+use Rattle.av_vma.specs.Index.{first_of, past_of}
+use Rattle.av_vma.specs.Join.{can_lend}
 use Rattle.av_vma.specs.Pages.{AreLaid, Lengths, Pages, after_prepare, has_page, loan_beside, loan_of, makes_anon, pages_in, with_anon, with_area}
 use Rattle.av_vma.specs.declared.area.Area.{Area}
 use Rattle.av_plain.specs.Areas.{AnonVma, Anons, Rmap, chain_by, chain_length, prepare_page, with_root}
@@ -35,12 +36,13 @@ use Rattle.av_mem.specs.Between.{KeepsBetween}
 
 -- ---- by lengths that are alike
 
-lent_alike : (len len' : Lengths) (on : Pages) (area : Area) (page : ℕ) → AreAlike len len' on → loan_of len area (on page) ≡ loan_of len' area (on page)
+lent_alike : (len len' : Lengths) (on : Pages) (area : Area) (page : ℕ) → AreAlike len len' on
+    → loan_of len area (on page) ≡ loan_of len' area (on page)
 lent_alike len len' on area page h = by (on page) refl
   where
     by : (o : Option Area) → on page ≡ o → loan_of len area o ≡ loan_of len' area o
     by None e = refl
-    by (Some near) e = let same = h.same page near e in λ i. cond (is_reusable area near (same i)) near.anon None
+    by (Some near) e = let same = h.same page near e in λ i. cond (can_lend area near (same i)) near.anon None
 
 near_alike : (len len' : Lengths) (on : Pages) (area : Area) → AreAlike len len' on → loan_beside len on area ≡ loan_beside len' on area
 near_alike len len' on area h =
@@ -116,7 +118,8 @@ module _ (d : Device) (old : Mem) (s : State) (keeps : Keeps d old s) (spaces : 
   there_now : (v : ℕ) → IsOwnedIn spaces v → IsSome (info_of now v)
   there_now v h = made.fit.linked v (h.0, h.1, with_chain (areas_on spaces.processes h.0 h.1) h.2)
     where
-      with_chain : (x : Option Area) → IsSomeAnd x (λ area. area.anon ≡ Some v) → IsSomeAnd x (λ area. is_in v (in_spaces.chain_by spaces now area.anon) ≡ true)
+      with_chain : (x : Option Area) → IsSomeAnd x (λ area. area.anon ≡ Some v)
+          → IsSomeAnd x (λ area. is_in v (in_spaces.chain_by spaces now area.anon) ≡ true)
       with_chain None is = is
       with_chain (Some A) is = ap (λ own. is_in v (in_spaces.chain_by spaces now own)) is ∙ made.fit.own v h
 
@@ -162,7 +165,8 @@ module _ (d : Device) (old : Mem) (s : State) (keeps : Keeps d old s) (spaces : 
   chain_by_case : (v : ℕ) (b : Bool) → (IsOwnedIn spaces v → (b && v == old.anons.next) ≡ false → IsOwnedIn old.spaces v) → IsOwnedIn spaces v
       → cond (b && v == old.anons.next) (v ∷ []) (in_spaces.chain_by old.spaces old.anons (Some v)) ≡ chain_by (anons_by b) (Some v)
   chain_by_case v false was h = old_chain v (was h refl)
-  chain_by_case v true was h = ap (λ c. cond c (v ∷ []) (in_spaces.chain_by old.spaces old.anons (Some v))) (same_number v) ∙ by (v == s.anons.next) refl
+  chain_by_case v true was h = ap (λ c. cond c (v ∷ []) (in_spaces.chain_by old.spaces old.anons (Some v))) (same_number v)
+      ∙ by (v == s.anons.next) refl
     where
       by : (c : Bool) → (v == s.anons.next) ≡ c → cond c (v ∷ []) (in_spaces.chain_by old.spaces old.anons (Some v))
           ≡ option_map_or (λ (w : AnonVma). w.chain) (cond c (Some (record { root = s.anons.next; parent = s.anons.next; chain = s.anons.next ∷ [] }))
@@ -172,12 +176,14 @@ module _ (d : Device) (old : Mem) (s : State) (keeps : Keeps d old s) (spaces : 
 
   pub anons_prepared : (new : Mem) → new.spaces ≡ spaces → new.anons ≡ now → AnonsStand (view new) (prepare_page p page (rmap_of s)).areas
       (prepare_page p page (rmap_of s)).anons
-  anons_prepared new same_spaces same_anons = subst (λ b. AnonsStand (view new) (prepare_page p page (rmap_of s)).areas (anons_by b)) made_is (record {
-    next = ap (λ (a : AnonSet). a.next) same_anons ∙ made.next ∙ next_by (made_for old.spaces old.anons p page);
-    kin = λ n. ap (λ (a : Anons). option_map kin_of (a.anon n)) anons_are ∙ shown_kin (in_spaces.chain_by spaces now (Some n)) (info_of now n) ∙ made.kin n
-        ∙ kin_by n (made_for old.spaces old.anons p page);
-    chains = λ q o. chain_at q o ((prepare_page p page (rmap_of s)).areas q o) refl;
-  })
+  anons_prepared new same_spaces same_anons =
+      subst (λ b. AnonsStand (view new) (prepare_page p page (rmap_of s)).areas (anons_by b)) made_is (record {
+        next = ap (λ (a : AnonSet). a.next) same_anons ∙ made.next ∙ next_by (made_for old.spaces old.anons p page);
+        kin = λ n. ap (λ (a : Anons). option_map kin_of (a.anon n)) anons_are
+            ∙ shown_kin (in_spaces.chain_by spaces now (Some n)) (info_of now n) ∙ made.kin n
+            ∙ kin_by n (made_for old.spaces old.anons p page);
+        chains = λ q o. chain_at q o ((prepare_page p page (rmap_of s)).areas q o) refl;
+      })
     where
       anons_are : anons_of new.spaces new.anons ≡ anons_of spaces now
       anons_are = λ i. anons_of (same_spaces i) (same_anons i)
@@ -187,7 +193,8 @@ module _ (d : Device) (old : Mem) (s : State) (keeps : Keeps d old s) (spaces : 
       own_chain A q o is None e = refl
       own_chain A q o is (Some v) e =
           let owned = owned_at v q o A is e in
-          shown_chain spaces now v (there_now v owned) ∙ made.chains v owned ∙ chain_by_case v (made_for old.spaces old.anons p page) (made.owned v) owned
+          shown_chain spaces now v (there_now v owned) ∙ made.chains v owned
+          ∙ chain_by_case v (made_for old.spaces old.anons p page) (made.owned v) owned
 
       chain_at : (q o : ℕ) (x : Option Area) → (prepare_page p page (rmap_of s)).areas q o ≡ x →
           IfSome x (λ area. chain_by (view new).anons area.anon ≡ chain_by (anons_by (made_for old.spaces old.anons p page)) area.anon)
@@ -278,7 +285,6 @@ module _ (d : Device) (old : Mem) (w : World) (r : Rmap) (l : Ledger) (h : Keeps
       fit = made.fit;
       swap = record {
         frames = h.serves.swap.frames;
-        one_priority = h.serves.swap.one_priority;
         closed = h.serves.swap.closed;
         on_device = h.serves.swap.on_device;
         by_headers = h.serves.swap.by_headers;

@@ -28,7 +28,8 @@ pub run-none : (m : Setting) (h : Held) → Amid m h → Run m h h []
 run-none m h a = record { amid = a; chosen = refl; ledger = refl }
 
 -- one more
-pub run-then : (m : Setting) (h h1 h2 : Held) (events : List Event) (e : Event) → Run m h h1 events → IsOfAccess m h1.world h1.ledger e → Steps m None e h1 h2 →
+pub run-then : (m : Setting) (h h1 h2 : Held) (events : List Event) (e : Event) → Run m h h1 events → IsOfAccess m h1.world h1.ledger e
+    → Steps m None e h1 h2 →
     Beside m h1 h2 e → IsSound m h2.ledger → Run m h h2 (events ++ e ∷ [])
 run-then m h h1 h2 events e run of steps beside sound = record {
   amid = amid-after m h1 h2 e of steps beside sound run.amid;

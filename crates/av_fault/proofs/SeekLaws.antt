@@ -53,7 +53,7 @@ module _ (d d' : Device) (old new : Mem) (w : World) (r : Rmap) (l : Ledger) (pi
     notes = h.notes;
     seeks = h.asked.0;
     done = h.done;
-    faults = h.faults;
+    failures = h.failures;
     failed = omega arith;
     finds = has_free-some (setting_by d old) (after_notes l h.added) f h.asked.1.0 h.asked.1.1;
   }
@@ -64,7 +64,7 @@ module _ (d d' : Device) (old new : Mem) (w : World) (r : Rmap) (l : Ledger) (pi
     notes = h.notes;
     seeks = h.asked.0;
     done = h.done;
-    faults = h.faults;
+    failures = h.failures;
     failed = h.asked.1.failed;
     finds = (h.asked.1.none, h.asked.1.numbers);
   }

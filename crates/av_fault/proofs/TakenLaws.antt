@@ -47,7 +47,8 @@ home-twice f home homes = λ i g. by (g == f) (homes g) i
 
 -- ---- the use behind the note
 
-module _ (m : Setting) (h h1 : Held) (note : Note) (q : Key) (f : ℕ) (run : Run m h h1 (Noted note ∷ [])) (at : entry h1.ledger q ≡ Some (InFrame f false))
+module _ (m : Setting) (h h1 : Held) (note : Note) (q : Key) (f : ℕ) (run : Run m h h1 (Noted note ∷ []))
+    (at : entry h1.ledger q ≡ Some (InFrame f false))
     (none : slot_of h1.ledger f ≡ None) (alone : is_shared h1.ledger f ≡ false)
     (homes : with_at f (home_of q.1 (h1.rmap.areas q.0 q.1)) h1.view.homes ≡ h1.view.homes) (rmap : at_home f q h1.rmap ≡ h1.rmap) where
   abbrev used : Held
@@ -59,9 +60,11 @@ module _ (m : Setting) (h h1 : Held) (note : Note) (q : Key) (f : ℕ) (run : Ru
   pub used-run : Run m h used events
   used-run = subst (λ x. Run m h (record used { rmap = x }) events) rmap
       (subst (λ x. Run m h (record used { view = record (view_seen q.0 q.1 f true h1.view) { homes = x }; rmap = at_home f q h1.rmap }) events) homes
-      (run-then m h h1 (record used { view = view_own q.0 q.1 f (home_of q.1 (h1.rmap.areas q.0 q.1)) h1.view.dirty h1.view; rmap = at_home f q h1.rmap })
+      (run-then m h h1 (record used
+      { view = view_own q.0 q.1 f (home_of q.1 (h1.rmap.areas q.0 q.1)) h1.view.dirty h1.view; rmap = at_home f q h1.rmap })
       (Noted note ∷ []) (Used true q) run tt
-      (own-steps m h1 run.amid q f false at alone h1.view.dirty (λ g e. refl) (subst (λ o. IfSome o (λ (s : Slot). h1.view.dirty f ≡ true)) (sym none) tt))
+      (own-steps m h1 run.amid q f false at alone h1.view.dirty (λ g e. refl)
+      (subst (λ o. IfSome o (λ (s : Slot). h1.view.dirty f ≡ true)) (sym none) tt))
       (record {
         world = sym (without-loads m h1.world h1.ledger (Used true q ∷ []) refl);
         view_areas = refl;
@@ -97,9 +100,11 @@ module _ (d d' : Device) (old mid new : Mem) (w : World) (r : Rmap) (l : Ledger)
   fails-are : fails (note ∷ []) ≡ 0 → fails added + 0 ≡ fails s.added
   fails-are none = let e = how_many-append is_fail s.added (note ∷ []) in omega (arith, e, none)
 
-  pub taken-made : HasDone d' d' mid new mid_world mid_rmap mid_ledger (Noted note ∷ Used true k ∷ []) → now ≡ mids ++ note ∷ [] → fails (note ∷ []) ≡ 0
+  pub taken-made : HasDone d' d' mid new mid_world mid_rmap mid_ledger (Noted note ∷ Used true k ∷ []) → now ≡ mids ++ note ∷ []
+      → fails (note ∷ []) ≡ 0
       → IsMade m (sparing w) l k (need true l (entry l k)) added → drop_at m true came (after_notes l added) k ≡ []
-      → (view new).table k.0 k.1 ≡ Some (record { entry = InFrame f true; write = true }) → HasMade d d' old new w r l true came k before now (Ready f)
+      → (view new).table k.0 k.1 ≡ Some (record { entry = InFrame f true; write = true })
+      → HasMade d d' old new w r l true came k before now (Ready f)
   taken-made done notes unfailed made undropped there =
       let whole = subst (HasDone d d' old new w r l) events-are
       (done-then d d' d' old mid new w r l (note_events s.added) (Noted note ∷ Used true k ∷ []) s.done done) in
@@ -113,7 +118,7 @@ module _ (d d' : Device) (old mid new : Mem) (w : World) (r : Rmap) (l : Ledger)
           λ written. tables.write_bits k.0 k.1 (record { entry = InFrame f true; write = true }) f there refl (same-itself f),
         );
         done = whole;
-        faults = subst (λ n. RoseBy n d.faults d'.faults) (sym (fails-are unfailed)) s.faults;
+        failures = subst (λ n. RoseBy n d.failures d'.failures) (sym (fails-are unfailed)) s.failures;
         failed = omega arith;
       }
 
@@ -136,7 +141,7 @@ module _ (d d' : Device) (old mid : Mem) (w : World) (r : Rmap) (l : Ledger) (pi
         });
         ready = tt;
         done = s.done;
-        faults = subst (λ n. RoseBy n d.faults d'.faults) (plus_none (fails s.added)) s.faults;
+        failures = subst (λ n. RoseBy n d.failures d'.failures) (plus_none (fails s.added)) s.failures;
         failed = s.failed;
       }
     where

@@ -76,7 +76,8 @@ IsNoSlot (Some (InFrame f seen)) = Unit {0}
 IsNoSlot (Some (InSlot s)) = ⊥
 
 module _ (m : Setting) (w : World) (l : Ledger) (write : Bool) (k : Key) where
-  needs : (P : Need → Type 0) → P ReadyNeed → P ZeroPage → P NewPage → ((g : ℕ) → P (CopyOnWrite g)) → (o : Option Entry) → IsNoSlot o → P (need write l o)
+  needs : (P : Need → Type 0) → P ReadyNeed → P ZeroPage → P NewPage → ((g : ℕ) → P (CopyOnWrite g)) → (o : Option Entry) → IsNoSlot o
+      → P (need write l o)
   needs P a b c e o slotless = by write o slotless
     where
       shared : (g : ℕ) (x : Bool) → P (cond x (CopyOnWrite g) ReadyNeed)
@@ -93,7 +94,8 @@ module _ (m : Setting) (w : World) (l : Ledger) (write : Bool) (k : Key) where
       by false (Some (InSlot s)) slotless = absurd slotless
       by true (Some (InSlot s)) slotless = absurd slotless
 
-  pub makes-touches : (added : List Note) (touched : Touched) → IsNoSlot (entry l k) → is_allowed w write k ≡ true → Makes m w l write false k added touched
+  pub makes-touches : (added : List Note) (touched : Touched) → IsNoSlot (entry l k) → is_allowed w write k ≡ true
+      → Makes m w l write false k added touched
       → Touches m w l write k added (end_of touched)
   makes-touches added touched slotless allowed makes = by touched makes
     where
@@ -114,7 +116,8 @@ module _ (m : Setting) (w : World) (l : Ledger) (write : Bool) (k : Key) where
       by (Stopped Bus) made = absurd made
       by (Stopped (Oom out)) finds = (allowed, record { coming = []; sought = added; whole = refl; before = inl refl; finds = finds })
 
-pub made-touched : (d d' : Device) (old new : Mem) (w : World) (r : Rmap) (l : Ledger) (write : Bool) (k : Key) (before now : List Note) (touched : Touched)
+pub made-touched : (d d' : Device) (old new : Mem) (w : World) (r : Rmap) (l : Ledger) (write : Bool) (k : Key) (before now : List Note)
+    (touched : Touched)
     → IsNoSlot (entry l k) → is_allowed w write k ≡ true → HasMade d d' old new w r l write false k before now touched
     → HasTouched d d' old new w r l write k before now touched
 made-touched d d' old new w r l write k before now touched slotless allowed made = record {
@@ -123,7 +126,7 @@ made-touched d d' old new w r l write k before now touched slotless allowed made
   touches = makes-touches (setting_by d old) w l write k made.added touched slotless allowed made.makes;
   ready = made.ready;
   done = made.done;
-  faults = made.faults;
+  failures = made.failures;
   failed = made.failed;
 }
 
@@ -167,7 +170,7 @@ read-touched d old new w r l k f write seen notes h allowed there done here =
       };
       ready = (entry-here d new _ _ _ done.between k f write true here, λ is. absurd (false≢true is));
       done = done;
-      faults = rose-none d.faults;
+      failures = rose-none d.failures;
       failed = omega arith;
     })
 
@@ -195,7 +198,7 @@ zeros-touched d old w r l k notes h allowed there =
           h.sound)
           refl refl refl (sym (without-loads m w l (Used false k ∷ []) refl)) refl (same-still d) refl
           (fit-stays d d old old (same-still d) (parts-by old old refl refl refl refl refl refl) (to-fit d old w r l h));
-      faults = rose-none d.faults;
+      failures = rose-none d.failures;
       failed = omega arith;
     })
 
@@ -219,7 +222,7 @@ module _ (d d' : Device) (s : State) (old new : Mem) (write : Bool) (k : Key) (b
           free = subst (λ m. ChoosesAll m None s.ledger events s.free (free_of (view new))) same
               (subst (λ (x : Free). ChoosesAll (setting_by d old) None s.ledger events x (free_of (view new))) keeps.stands.free h.done.free);
         };
-        faults = h.faults;
+        failures = h.failures;
         failed = h.failed;
       }
 
@@ -233,7 +236,8 @@ is-ready told d d' old new write k before now result done same count = record {
   count = count;
 }
   where
-    by : (result : Result Touched AllocError) → IfOk result (λ touched. Does d d' old (λ d d' w r l. HasTouched d d' old new w r l write k before now touched))
+    by : (result : Result Touched AllocError)
+        → IfOk result (λ touched. Does d d' old (λ d d' w r l. HasTouched d d' old new w r l write k before now touched))
         → (s : State) → Keeps (as_told told d) old s → IfOk result (IsTouched (as_told told d) (as_told told d') s new write k before now)
     by (Ok touched) done s keeps = is-touched (as_told told d) (as_told told d') s old new write k before now keeps touched
         (done told s.world (rmap_of s) s.ledger (between-of (as_told told d) old s keeps))

@@ -3,7 +3,7 @@ use Rattle.std.proofs.Common.{◌≡◌, ℕ, ◌<◌, ◌==◌, Bool, true, fal
 use Rattle.av_base.specs.Words.{with_at}
 use Rattle.av_base.specs.declared.slot.Slot.{Slot}
 use Rattle.av_frames.specs.Store.{Shown as ShownFrames, shown as shown_frames, with_dirty, with_home}
-use Rattle.av_frames.specs.declared.Frames.{Frames}
+use Rattle.av_frames.specs.declared.frames.Frames.{Frames}
 use Rattle.av_pagetable.specs.declared.pte.Pte.{Pte}
 use Rattle.av_pagetable.specs.declared.pte.Pte.TheVariants.{Here}
 use Rattle.av_pagetable.specs.Entries.{ProcessTables, entry_at, has, with_entry}
@@ -47,7 +47,8 @@ module _ (d : Device) (k : Mem) (w : World) (r : Rmap) (l : Ledger) (h : KeepsBe
 
   -- the write bit says that a write need not copy
   pub own-here : write ≡ true → is_shared l f ≡ false
-  own-here own = h.serves.held.ledger.tables.write_bits q.0 q.1 (record { entry = InFrame f seen; write = write }) f (ap plain there) own (same-itself f)
+  own-here own = h.serves.held.ledger.tables.write_bits q.0 q.1 (record { entry = InFrame f seen; write = write }) f (ap plain there) own
+      (same-itself f)
 
   named : 0 < map_count l f
   named = how_many-found (names_frame f) q l.entries (InFrame f seen) entry-here (same-itself f)
@@ -64,7 +65,8 @@ pub seen-again : (p page f : ℕ) (write : Bool) (v : View) → v.table p page �
     v ≡ view_seen p page f write v
 seen-again p page f write v is = λ i. record v { table = λ q o. point q o (q == p && o == page) refl i }
   where
-    point : (q o : ℕ) (b : Bool) → (q == p && o == page) ≡ b → v.table q o ≡ cond b (Some (record { entry = InFrame f true; write = write })) (v.table q o)
+    point : (q o : ℕ) (b : Bool) → (q == p && o == page) ≡ b
+        → v.table q o ≡ cond b (Some (record { entry = InFrame f true; write = write })) (v.table q o)
     point q o true e = let same : ◌≡◌ {A = Key} (q, o) (p, page) = same_key-is (q, o) (p, page) (key_is q o p page ∙ e) in
         ap (λ (k : Key). v.table k.0 k.1) same ∙ is
     point q o false e = refl
@@ -103,7 +105,8 @@ module _ (d : Device) (old new : Mem) (w : World) (r : Rmap) (l : Ledger) (h : K
   abbrev here : Held
   here = held_by d old w r l
 
-  pub read-done : (q : Key) (f : ℕ) (write seen : Bool) → entry_at old.tables q.0 q.1 ≡ Here f write seen → view new ≡ view_seen q.0 q.1 f write (view old) →
+  pub read-done : (q : Key) (f : ℕ) (write seen : Bool) → entry_at old.tables q.0 q.1 ≡ Here f write seen
+      → view new ≡ view_seen q.0 q.1 f write (view old) →
       KeepsParts old new → HasDone d d old new w r l (Used false q ∷ [])
   read-done q f write seen there now parts =
       let a = to-amid d old w r l h in
@@ -119,7 +122,8 @@ module _ (d : Device) (old new : Mem) (w : World) (r : Rmap) (l : Ledger) (h : K
 
 -- ---- a write in place
 
-slot_of-used : (l : Ledger) (q : Key) (f : ℕ) (seen : Bool) → entry l q ≡ Some (InFrame f seen) → (g : ℕ) → slot_of (after_use true q l) g ≡ slot_of l g
+slot_of-used : (l : Ledger) (q : Key) (f : ℕ) (seen : Bool) → entry l q ≡ Some (InFrame f seen) → (g : ℕ)
+    → slot_of (after_use true q l) g ≡ slot_of l g
 slot_of-used l q f seen at g = ap (λ o. slot_of (after_use_of true q l o) g) at ∙ by (slot_of l f)
   where
     by : (o : Option Slot) → slot_of (if_some o (with_stale true) (set_entry q (InFrame f true) l)) g ≡ slot_of l g
@@ -130,8 +134,10 @@ slot_of-used l q f seen at g = ap (λ o. slot_of (after_use_of true q l o) g) at
 abbrev pub view_own : ℕ → ℕ → ℕ → Option (ℕ × ℕ) → (ℕ → Bool) → View → View
 view_own p page f home dirty v = record (view_seen p page f true v) { homes = with_at f home v.homes; dirty = dirty }
 
-module _ (m : Setting) (h : Held) (a : Amid m h) (q : Key) (f : ℕ) (seen : Bool) (at : entry h.ledger q ≡ Some (InFrame f seen)) (alone : is_shared h.ledger f ≡ false)
-    (dirty : ℕ → Bool) (others : (g : ℕ) → (g == f) ≡ false → dirty g ≡ h.view.dirty g) (own : IfSome (slot_of h.ledger f) (λ s. dirty f ≡ true)) where
+module _ (m : Setting) (h : Held) (a : Amid m h) (q : Key) (f : ℕ) (seen : Bool) (at : entry h.ledger q ≡ Some (InFrame f seen))
+    (alone : is_shared h.ledger f ≡ false)
+    (dirty : ℕ → Bool) (others : (g : ℕ) → (g == f) ≡ false → dirty g ≡ h.view.dirty g)
+    (own : IfSome (slot_of h.ledger f) (λ s. dirty f ≡ true)) where
   abbrev l' : Ledger
   l' = after_use true q h.ledger
 
@@ -171,10 +177,12 @@ module _ (m : Setting) (h : Held) (a : Amid m h) (q : Key) (f : ℕ) (seen : Boo
       other None e i = tt
       other (Some s) e i = others g e ∙ i
 
-      by : (b : Bool) → (g == f) ≡ b → (o : Option Slot) → slot_of l' g ≡ o → IfSome (slot_of l' g) (λ s. cond b true (h.view.dirty g) ≡ is_stale l' s)
+      by : (b : Bool) → (g == f) ≡ b → (o : Option Slot) → slot_of l' g ≡ o
+          → IfSome (slot_of l' g) (λ s. cond b true (h.view.dirty g) ≡ is_stale l' s)
           → IfSome (slot_of l' g) (λ s. dirty g ≡ is_stale l' s)
       by true e o is i = subst (λ x. IfSome (slot_of l' x) (λ s. dirty x ≡ is_stale l' s)) (sym (same-is g f e))
-          (at_own (slot_of l' f) (sym (slot_of-used h.ledger q f seen at f)) (subst (λ x. IfSome (slot_of l' x) (λ s. true ≡ is_stale l' s)) (same-is g f e) i))
+          (at_own (slot_of l' f) (sym (slot_of-used h.ledger q f seen at f))
+          (subst (λ x. IfSome (slot_of l' x) (λ s. true ≡ is_stale l' s)) (same-is g f e) i))
       by false e o is i = other (slot_of l' g) e i
 
   pub own-steps : Steps m None (Used true q) h by_code
@@ -188,7 +196,8 @@ module _ (m : Setting) (h : Held) (a : Amid m h) (q : Key) (f : ℕ) (seen : Boo
         swap = let x = steps.held.ledger.swap in record { finds = x.finds; counts = x.counts; flight = x.flight; on = x.on };
       };
       bytes = record {
-        kept = λ p page. kept-moves by_law.view by_code.view h.device h.device l' l' (entry l' (p, page)) (pages h.world p page) same_bytes (λ t is. refl)
+        kept = λ p page. kept-moves by_law.view by_code.view h.device h.device l' l' (entry l' (p, page)) (pages h.world p page)
+            same_bytes (λ t is. refl)
             (λ t is none told. told) (steps.held.bytes.kept p page);
         clean = λ t stale flying. clean-same by_law.view by_code.view h.device t (frame_at l' t) (frame_at l' t) same_bytes refl
             (steps.held.bytes.clean t stale flying);

@@ -31,7 +31,8 @@ use Rattle.av_fault.proofs.Run.{run-done, run-none, run-then}
 
 -- the entry after the note
 zero-there : (p a : ℕ) (l : Ledger) → entry (after_note (Zeroed p a) l) (p, page_of a) ≡ Some Zero
-zero-there p a l = entry-set (p, page_of a) Zero l (p, page_of a) ∙ ap (λ b. cond b (Some Zero) (entry l (p, page_of a))) (same_key-itself (p, page_of a))
+zero-there p a l = entry-set (p, page_of a) Zero l (p, page_of a)
+    ∙ ap (λ b. cond b (Some Zero) (entry l (p, page_of a))) (same_key-itself (p, page_of a))
 
 module _ (d : Device) (old new : Mem) (w : World) (r : Rmap) (l : Ledger) (h : KeepsBetween d old w r l) (parts : KeepsParts old new) (p : ℕ) where
   abbrev m : Setting
@@ -52,13 +53,20 @@ module _ (d : Device) (old new : Mem) (w : World) (r : Rmap) (l : Ledger) (h : K
       run-done d d old new w w r r l l' (Noted (Zeroed p a) ∷ Used false (p, page_of a) ∷ []) here v
       (run-then m here zeroed zeroed (Noted (Zeroed p a) ∷ []) (Used false (p, page_of a)) run tt
       (blank-steps m None zeroed run.amid.held p (page_of a) (subst IsBlank (sym (zero-there p a l)) tt))
-      (record { world = sym (without-loads m w l' (Used false (p, page_of a) ∷ []) refl); view_areas = refl; view_anons = refl; areas = refl; anons = refl })
+      (record {
+        world = sym (without-loads m w l' (Used false (p, page_of a) ∷ []) refl);
+        view_areas = refl;
+        view_anons = refl;
+        areas = refl;
+        anons = refl;
+      })
       run.amid.sound)
       now refl refl (sym (without-loads m w l (Noted (Zeroed p a) ∷ Used false (p, page_of a) ∷ []) refl)) refl (same-still d) parts.count
       (fit-stays d d old new (same-still d) parts (to-fit d old w r l h))
 
 -- what the page has then
-pub zero-made : (d : Device) (old new : Mem) (w : World) (r : Rmap) (l : Ledger) (k : Key) (before now : List Note) → KeepsBetween d old w r l → KeepsParts old new
+pub zero-made : (d : Device) (old new : Mem) (w : World) (r : Rmap) (l : Ledger) (k : Key) (before now : List Note) → KeepsBetween d old w r l
+    → KeepsParts old new
     → IsMapped old k → entry_at old.tables k.0 k.1 ≡ Empty → view new ≡ view_zero k.0 k.1 (view old)
     → now ≡ before ++ Zeroed k.0 (address_of k.1) ∷ [] → HasMade d d old new w r l false false k before now Zeros
 zero-made d old new w r l k before now h parts mapped empty seen notes =
@@ -77,8 +85,9 @@ zero-made d old new w r l k before now h parts mapped empty seen notes =
       };
       ready = (ap (λ o. entry (after_use_of false k (after_note note l) o) k) here ∙ here, refl);
       done = subst (λ page. entry l (k.0, page) ≡ None → is_some (pages w k.0 page) ≡ true → view new ≡ view_zero k.0 page (view old)
-          → HasDone d d old new w r l (Noted note ∷ Used false (k.0, page) ∷ [])) (page-back k.1) (zero-done d old new w r l h parts k.0 (address_of k.1))
+          → HasDone d d old new w r l (Noted note ∷ Used false (k.0, page) ∷ [])) (page-back k.1)
+          (zero-done d old new w r l h parts k.0 (address_of k.1))
           none (mapped-is d old w r l h k mapped.area) seen;
-      faults = rose-none d.faults;
+      failures = rose-none d.failures;
       failed = omega arith;
     }

@@ -63,5 +63,5 @@ pub record HasCome (IsSo : Setting → World → Ledger → List Note → Result
   pub notes : now ≡ before ++ added
   pub comes : IsSo (setting_by d old) w l added came
   pub done : HasDone d d' old new w r l (note_events added)
-  pub faults : RoseBy (fails added + lost_at came) d.faults d'.faults
+  pub failures : RoseBy (fails added + lost_at came) d.failures d'.failures
   pub failed : failed_at came ≤ fails added

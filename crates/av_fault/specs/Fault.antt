@@ -6,7 +6,7 @@ use Rattle.av_trace.specs.declared.note.Note.{Note}
 use Rattle.av_plain.specs.Ledger.{Ledger, Key, Zero, InFrame, entry}
 use Rattle.av_plain.specs.Device.{Device, IsSameDevice}
 use Rattle.av_plain.specs.Event.{Event, after_all}
-use Rattle.av_plain.specs.Fault as faults
+use Rattle.av_plain.specs.Fault as served
 use Rattle.av_plain.specs.Fault.{Touches, Denied, Lost, Starved, is_shared}
 use Rattle.av_plain.specs.Access.{page_events}
 use Rattle.av_plain.specs.Choice.{ChoosesAll}
@@ -29,12 +29,12 @@ use Rattle.av_fault.specs.declared.fault.Touched.TheVariants.{Ready, Zeros, Stop
 -- ---- the page is made ready
 
 -- why a page is not served, in the definitions' words
-abbrev pub stop_of : Stop → faults.Stop
+abbrev pub stop_of : Stop → served.Stop
 stop_of Segv = Denied
 stop_of Bus = Lost
 stop_of (Oom out) = Starved out
 
-abbrev pub end_of : Touched → Option faults.Stop
+abbrev pub end_of : Touched → Option served.Stop
 end_of (Ready f) = None
 end_of Zeros = None
 end_of (Stopped stop) = Some (stop_of stop)
@@ -85,7 +85,7 @@ pub record IsTouched (d d' : Device) (s : State) (new : Mem) (write : Bool) (k :
   pub touches : Touches (setting_by d new) s.world s.ledger write k added (end_of touched)
   pub ready : IsReady write (after_all s.ledger (touch_events write k added touched)) k touched
   pub served : IsServed d d' s new (touch_events write k added touched)
-  pub faults : RoseBy (fails added + lost_by touched) d.faults d'.faults
+  pub failures : RoseBy (fails added + lost_by touched) d.failures d'.failures
   pub failed : failed_by touched ≤ fails added
 
 -- whatever stood before: the page is made ready or not. It is the same device then, and there are
@@ -112,5 +112,5 @@ pub record HasTouched (d d' : Device) (old new : Mem) (w : World) (r : Rmap) (l 
   pub touches : Touches (setting_by d old) w l write k added (end_of touched)
   pub ready : IsReady write (after_all l (touch_events write k added touched)) k touched
   pub done : HasDone d d' old new w r l (touch_events write k added touched)
-  pub faults : RoseBy (fails added + lost_by touched) d.faults d'.faults
+  pub failures : RoseBy (fails added + lost_by touched) d.failures d'.failures
   pub failed : failed_by touched ≤ fails added

@@ -51,7 +51,7 @@ pub record HasMade (d d' : Device) (old new : Mem) (w : World) (r : Rmap) (l : L
   pub makes : Makes (setting_by d old) w l write came k added touched
   pub ready : IsReady write (after_all l (touch_events write k added touched)) k touched
   pub done : HasDone d d' old new w r l (touch_events write k added touched)
-  pub faults : RoseBy (fails added + lost_by touched) d.faults d'.faults
+  pub failures : RoseBy (fails added + lost_by touched) d.failures d'.failures
   pub failed : failed_by touched ≤ fails added
 
 -- ---- the parts

@@ -32,6 +32,6 @@ pub record HasSought (d d' : Device) (old new : Mem) (w : World) (r : Rmap) (l :
   pub notes : now ≡ before ++ added
   pub seeks : Seeks (setting_by d old) (sparing w l pinned) l added
   pub done : HasDone d d' old new w r l (note_events added)
-  pub faults : RoseBy (fails added) d.faults d'.faults
+  pub failures : RoseBy (fails added) d.failures d'.failures
   pub failed : failed_of got ≤ fails added
   pub finds : Finds (setting_by d old) pinned (sparing w l pinned) (after_notes l added) got

@@ -31,11 +31,11 @@ pub(crate) fn seek<D: SwapDev>(
 ) -> Result<Got, AllocError>
     requires between { IsBetween (D.sizes dev.old) mem.old }
     ensures sought { IfOk result (λ got. Does
-        (device_by (D.sizes dev.old) (D.pages dev.old) (D.faults dev.old))
-        (device_by (D.sizes dev.new) (D.pages dev.new) (D.faults dev.new)) mem.old
+        (device_by (D.sizes dev.old) (D.pages dev.old) (D.failures dev.old))
+        (device_by (D.sizes dev.new) (D.pages dev.new) (D.failures dev.new)) mem.old
         (λ d d' w r l. HasSought d d' mem.old mem.new w r l pinned notes.old notes.new got)) }
-    ensures same { IsSameDevice (device_by (D.sizes dev.old) (D.pages dev.old) (D.faults dev.old))
-        (device_by (D.sizes dev.new) (D.pages dev.new) (D.faults dev.new)) }
+    ensures same { IsSameDevice (device_by (D.sizes dev.old) (D.pages dev.old) (D.failures dev.old))
+        (device_by (D.sizes dev.new) (D.pages dev.new) (D.failures dev.new)) }
     ensures count { frame_count mem.new ≡ frame_count mem.old }
 {
     match av_reclaim::seek(mem, dev, pinned, notes)? {

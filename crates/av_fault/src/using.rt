@@ -73,12 +73,12 @@ pub(crate) fn write_frame<D: SwapDev>(
     requires here { IsHere mem.old key frame settled }
     requires home { home ≡ home_of key.1 (pages_of mem.old.spaces.processes key.0 key.1) }
     ensures made { IfOk result (λ touched. Does
-        (device_by (D.sizes dev.old) (D.pages dev.old) (D.faults dev.old))
-        (device_by (D.sizes dev.new) (D.pages dev.new) (D.faults dev.new)) mem.old (λ d d' w r l.
+        (device_by (D.sizes dev.old) (D.pages dev.old) (D.failures dev.old))
+        (device_by (D.sizes dev.new) (D.pages dev.new) (D.failures dev.new)) mem.old (λ d d' w r l.
         (came : Bool)
         → HasMade d d' mem.old mem.new w r l true came key notes.old notes.new touched)) }
-    ensures same { IsSameDevice (device_by (D.sizes dev.old) (D.pages dev.old) (D.faults dev.old))
-        (device_by (D.sizes dev.new) (D.pages dev.new) (D.faults dev.new)) }
+    ensures same { IsSameDevice (device_by (D.sizes dev.old) (D.pages dev.old) (D.failures dev.old))
+        (device_by (D.sizes dev.new) (D.pages dev.new) (D.failures dev.new)) }
     ensures count { frame_count mem.new ≡ frame_count mem.old }
 {
     if !settled && is_shared(mem, frame) {

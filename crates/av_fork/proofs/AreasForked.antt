@@ -4,7 +4,7 @@ use Rattle.std.proofs.lemmas.Bool.{cases_lt, eqb-true}
 use Rattle.std.proofs.lemmas.Bool.Decides.{nat_tests}
 use Rattle.std.proofs.lemmas.List.{take_all, take_more}
 use Rattle.av_vma.specs.declared.area.Area.{Area}
-use Rattle.av_vma.specs.Join.{first_of}
+use Rattle.av_vma.specs.Index.{first_of}
 use Rattle.av_vma.specs.Pages.{has_page, pages_in, with_area}
 use Rattle.av_vma.proofs.Laid.{has_from}
 use Rattle.av_anon.specs.declared.anons.Anons.{Anons as AnonSet}
@@ -50,7 +50,8 @@ last_over (b ∷ areas) area page apart = by (has_page b page) refl
     out false e = refl
 
     by : (c : Bool) → has_page b page ≡ c → pages_in (Some (areas ++ area ∷ [])) page ≡ with_area area (pages_in (Some areas)) page
-        → cond c (Some b) (pages_in (Some (areas ++ area ∷ [])) page) ≡ cond (has_page area page) (Some area) (cond c (Some b) (pages_in (Some areas) page))
+        → cond c (Some b) (pages_in (Some (areas ++ area ∷ [])) page) ≡ cond (has_page area page) (Some area)
+        (cond c (Some b) (pages_in (Some areas) page))
     by true is rest = out (has_page area page) (sym (not_later b (areas ++ area ∷ []) page apart is) ∙ rest)
     by false is rest = rest
 
@@ -83,7 +84,8 @@ record Reaches (old : AllSpaces) (anons : AnonSet) (child : ℕ) (first : Rmap) 
   shows : (spaces : Spaces) → IsSpawned old.processes spaces child (areas_in_child child areas (kin_now old anons))
       → Shows spaces (kin_after areas (kin_now old anons)) next
 
-module _ (d : Device) (old : Mem) (s : State) (keeps : Keeps d old s) (parent child : ℕ) (areas : List Area) (there : areas_of old.spaces.processes parent ≡ Some areas)
+module _ (d : Device) (old : Mem) (s : State) (keeps : Keeps d old s) (parent child : ℕ) (areas : List Area)
+    (there : areas_of old.spaces.processes parent ≡ Some areas)
     (dead : areas_of old.spaces.processes child ≡ None) (turn : GoInTurn old.spaces old.anons child areas) where
   abbrev k : Lineage
   k = kin_now old.spaces old.anons
@@ -169,7 +171,8 @@ module _ (d : Device) (old : Mem) (s : State) (keeps : Keeps d old s) (parent ch
     x_owns v own = (
       parent,
       first_of x,
-      subst (λ o. IsSomeAnd o (λ area. area.anon ≡ Some v)) (sym (ap (λ o. pages_in o (first_of x)) (parent_keeps mid.processes _ f.spawned) ∙ inside)) own,
+      subst (λ o. IsSomeAnd o (λ area. area.anon ≡ Some v))
+          (sym (ap (λ o. pages_in o (first_of x)) (parent_keeps mid.processes _ f.spawned) ∙ inside)) own,
     )
 
     on : GoesOn (kin_now mid a) child x h.next x.anon
@@ -177,7 +180,8 @@ module _ (d : Device) (old : Mem) (s : State) (keeps : Keeps d old s) (parent ch
 
     -- the child has one area more
     one_more : (spaces : Spaces) → IsSpawned old.spaces.processes spaces child (areas_in_child child (done ++ x ∷ []) k)
-        → (p page : ℕ) → areas_on spaces p page ≡ (with_child_area child (record x { anon = own_in_child x.anon (kin_now mid a) }) h.next).areas p page
+        → (p page : ℕ) → areas_on spaces p
+        page ≡ (with_child_area child (record x { anon = own_in_child x.anon (kin_now mid a) }) h.next).areas p page
     one_more spaces spawned p page = by (p == child) refl
       where
         list : areas_in_child child (done ++ x ∷ []) k ≡ areas_in_child child done k ++ area_in_child child (kin_now mid a) x ∷ []
@@ -193,8 +197,10 @@ module _ (d : Device) (old : Mem) (s : State) (keeps : Keeps d old s) (parent ch
             ∙ ap (λ o. cond (has_page x page) (Some (area_in_child child (kin_now mid a) x)) o)
             (ap (λ o. pages_in o page) (sym (child_has mid.processes _ f.spawned)) ∙ shows_now.areas child page)
         by false e =
-            ap (λ o. pages_in o page) (spawned.areas p ∙ ap (λ b. cond b (Some (areas_in_child child (done ++ x ∷ []) k)) (areas_of old.spaces.processes p)) e)
-            ∙ sym (ap (λ o. pages_in o page) (f.spawned.areas p ∙ ap (λ b. cond b (Some (areas_in_child child done k)) (areas_of old.spaces.processes p)) e))
+            ap (λ o. pages_in o page)
+            (spawned.areas p ∙ ap (λ b. cond b (Some (areas_in_child child (done ++ x ∷ []) k)) (areas_of old.spaces.processes p)) e)
+            ∙ sym (ap (λ o. pages_in o page)
+            (f.spawned.areas p ∙ ap (λ b. cond b (Some (areas_in_child child done k)) (areas_of old.spaces.processes p)) e))
             ∙ shows_now.areas p page
 
     reaches_more : Reaches old.spaces old.anons child first (done ++ x ∷ [])
@@ -218,7 +224,8 @@ module _ (d : Device) (old : Mem) (s : State) (keeps : Keeps d old s) (parent ch
           let e : n + 1 ≡ suc n = omega arith in
           subst (Reaches old.spaces old.anons child first) (sym (take_more areas n none inside) ∙ ap (λ n. take n areas) e)
           (reaches_more (take n areas) (get_or areas n none) (on_first areas n apart inside) m.0 m.1 m.2 h)
-      by (inr outside) h = subst (Reaches old.spaces old.anons child first) (take_all n areas outside ∙ sym (take_all (suc n) areas (omega (arith, outside)))) h
+      by (inr outside) h =
+          subst (Reaches old.spaces old.anons child first) (take_all n areas outside ∙ sym (take_all (suc n) areas (omega (arith, outside)))) h
 
   all_reach : Reaches old.spaces old.anons child first areas
   all_reach = subst (Reaches old.spaces old.anons child first) (take_all (length areas) areas (omega arith)) (reaches (length areas))
@@ -240,7 +247,8 @@ module _ (d : Device) (old : Mem) (s : State) (keeps : Keeps d old s) (parent ch
       chains = λ p page. chain_at p page (next.areas p page) refl (shows.chains p page);
     }
       where
-        by : (n : ℕ) (o : Option Info) → option_map kin_of (option_map (anon_vma (in_spaces.chain_by new.spaces new.anons (Some n))) o) ≡ option_map kin_in o
+        by : (n : ℕ) (o : Option Info)
+            → option_map kin_of (option_map (anon_vma (in_spaces.chain_by new.spaces new.anons (Some n))) o) ≡ option_map kin_in o
         by n None = refl
         by n (Some i) = refl
 
@@ -295,5 +303,6 @@ ledger_beside d old spaces anons l h = let parts = h.parts in let of = parts.fra
 }
 
 -- so it stays where these do
-pub ledger_stays : (d : Device) (old new : Mem) (l : Ledger) → new ≡ record old { spaces = new.spaces; anons = new.anons } → HasLedger d old l → HasLedger d new l
+pub ledger_stays : (d : Device) (old new : Mem) (l : Ledger) → new ≡ record old { spaces = new.spaces; anons = new.anons } → HasLedger d old l
+    → HasLedger d new l
 ledger_stays d old new l rest h = subst (λ (k : Mem). HasLedger d k l) (sym rest) (ledger_beside d old new.spaces new.anons l h)

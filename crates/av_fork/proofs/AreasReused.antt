@@ -72,7 +72,8 @@ above x (y ∷ ys) all w there = by (w == y) refl there (above x ys all.1 w)
 
 lowest : (test : ℕ → Bool) (xs : List ℕ) (v : ℕ) → IsRising xs → find test xs ≡ Some v → (w : ℕ) → is_in w xs ≡ true → test w ≡ true → v ≤ w
 lowest test [] v rising h w there passes = absurd (false≢true there)
-lowest test (x ∷ xs) v rising h w there passes = by (test x) refl (w == x) refl there (λ later in_rest. lowest test xs v rising.1 later w in_rest passes)
+lowest test (x ∷ xs) v rising h w there passes =
+    by (test x) refl (w == x) refl there (λ later in_rest. lowest test xs v rising.1 later w in_rest passes)
   where
     by : (b : Bool) → test x ≡ b → (c : Bool) → (w == x) ≡ c → (c || is_in w xs) ≡ true → (find test xs ≡ Some v → is_in w xs ≡ true → v ≤ w) → v ≤ w
     by true is true e there rest = let first = head_passes test x xs v is h in let same = eqb-true w x e in omega (arith, first, same)
@@ -164,7 +165,8 @@ module _ (mid : AllSpaces) (a : AnonSet) (fit : AnonsFit mid a) (r : Rmap) (show
         below_at (Some anon) e = other anon.root i.root (sym (ap root_by e)) below
 
     idle_is : IsIdle r v → (nat_lt i.children 2 && (i.active == 0 && not (i.root == v))) ≡ true
-    idle_is idle = all (nat_lt i.children 2) (i.active == 0) (not (i.root == v)) few (none i.active active_is.0) (below_at (r.anons.anon v) kin_is idle.below)
+    idle_is idle = all (nat_lt i.children 2) (i.active == 0) (not (i.root == v)) few (none i.active active_is.0)
+        (below_at (r.anons.anon v) kin_is idle.below)
       where
         all : (a b c : Bool) → a ≡ true → b ≡ true → c ≡ true → (a && (b && c)) ≡ true
         all true true c p q s = s
@@ -181,7 +183,8 @@ module _ (mid : AllSpaces) (a : AnonSet) (fit : AnonsFit mid a) (r : Rmap) (show
         other : (n m : ℕ) → n ≡ m → (n ≡ v → ⊥) → not (m == v) ≡ true
         other n m e h = grind (arith, nat_tests)
 
-        below_at : (o : Option AnonVma) → Some (i.root, i.parent) ≡ option_map kin_of o → IsSomeAnd o (λ anon. anon.root ≡ v → ⊥) → not (i.root == v) ≡ true
+        below_at : (o : Option AnonVma) → Some (i.root, i.parent) ≡ option_map kin_of o → IsSomeAnd o (λ anon. anon.root ≡ v → ⊥)
+            → not (i.root == v) ≡ true
         below_at None e h = absurd h
         below_at (Some anon) e h = other anon.root i.root (sym (ap root_by e)) h
 

@@ -50,7 +50,8 @@ kin_same info at change same v = by (v == at) refl
 pub record GoesOn (k : Lineage) (child : ℕ) (area : Area) (r : Rmap) (own : Option ℕ) : Type 0 where
   pub next : Rmap
   pub goes : GoesBy own child area r next
-  pub shows : (spaces : Spaces) → ((p page : ℕ) → areas_on spaces p page ≡ (with_child_area child (record area { anon = own_in_child own k }) r).areas p page)
+  pub shows : (spaces : Spaces)
+      → ((p page : ℕ) → areas_on spaces p page ≡ (with_child_area child (record area { anon = own_in_child own k }) r).areas p page)
       → Shows spaces (kin_with own k) next
 
 module _ (mid : AllSpaces) (a : AnonSet) (fit : AnonsFit mid a) (r : Rmap) (shows : Shows mid.processes (kin_now mid a) r) (child : ℕ) (area : Area)
@@ -152,7 +153,8 @@ module _ (mid : AllSpaces) (a : AnonSet) (fit : AnonsFit mid a) (r : Rmap) (show
           chain = chain_by r.anons (Some own);
         })
 
-        at : (i : Option Info) (o : Option AnonVma) → IsSome i → option_map kin_in i ≡ option_map kin_of o → option_map kin_of o ≡ option_map kin_of (again o)
+        at : (i : Option Info) (o : Option AnonVma) → IsSome i → option_map kin_in i ≡ option_map kin_of o
+            → option_map kin_of o ≡ option_map kin_of (again o)
         at None o some e = absurd (false≢true some)
         at (Some i) None some e = absurd cc
         at (Some i) (Some anon) some e = refl

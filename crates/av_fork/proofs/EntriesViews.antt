@@ -27,7 +27,7 @@ use Rattle.av_mem.specs.Mem.{HasLedger, frame_count, plain, setting_by, view}
 use Rattle.av_mem.specs.Steps.{KeepsParts}
 use Rattle.av_mem.proofs.Groups.{IsGroupFrom, group_from}
 use Rattle.av_mem.proofs.LetGoLaws.{ledger-same}
-use Rattle.av_fork.specs.Entries.{HasForked, HasRoomFor, IsInUse, after_count_up, after_count_ups, entry_passes, with_more}
+use Rattle.av_fork.specs.Entries.{HasForkedEntries, HasRoomFor, IsInUse, after_count_up, after_count_ups, entry_passes, with_more}
 use Rattle.av_fork.proofs.EntriesCounts.{first-few, first-more, tally-group, tally-on}
 use Rattle.av_fork.proofs.EntriesLedger.{forked-stands, more, more-few}
 
@@ -279,7 +279,7 @@ module _ (old : Mem) (p q : ℕ) where
 
       -- where the child has none from there on, all has gone over
       pub all-seen : ((o : ℕ) → entry_at old.tables q o ≡ Empty) → KeepsParts old now → entry_at now.tables ≡ fork_tables p q (entry_at old.tables)
-          → ((o : ℕ) → n ≤ o → entry_at now.tables q o ≡ Empty) → HasForked d old now l p q
+          → ((o : ℕ) → n ≤ o → entry_at now.tables q o ≡ Empty) → HasForkedEntries d old now l p q
       all-seen empty parts tables none = record {
         stands = ledger-same d old now (view now) (child_ledger p q l) parts (record {
           sound = forked-kept (setting_by d old) l p q h.sound unnamed;

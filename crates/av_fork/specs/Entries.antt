@@ -55,7 +55,7 @@ after_count_ups group v = with_more
 -- ---- the fork
 
 -- the child has inherited each entry of the parent: nothing is taken, and nothing becomes free
-pub record HasForked (d : Device) (old new : Mem) (l : Ledger) (p q : ℕ) : Type 0 where
+pub record HasForkedEntries (d : Device) (old new : Mem) (l : Ledger) (p q : ℕ) : Type 0 where
   pub stands : HasLedger d new (after l (Forked p q (inheritance l p)))
   pub free : Chooses (setting_by d old) None l (Forked p q (inheritance l p))
       (free_of (view old)) (free_of (view new))

@@ -3,7 +3,8 @@
 ghost use Rattle.std.specs.Prelude.{◌≡◌, ℕ, ◌<◌, ◌≤◌, true, slice_index_or, MatchResult, OnOk};
 ghost use Rattle.av_base.specs.Limits.{most_processes};
 ghost use Rattle.av_base.specs.declared.slot.Slot.{Slot};
-ghost use Rattle.av_fork.specs.Entries.{after_count_up, after_count_ups, HasForked, HasRoomFor, IsInUse};
+ghost use Rattle.av_fork.specs.Entries.{after_count_up, after_count_ups, HasForkedEntries};
+ghost use Rattle.av_fork.specs.Entries.{HasRoomFor, IsInUse};
 ghost use Rattle.av_pagetable.specs.Entries.{entry_at, has};
 ghost use Rattle.av_pagetable.specs.Table.{group_size};
 ghost use Rattle.av_pagetable.specs.declared.pte.Pte.TheVariants as Pte;
@@ -26,7 +27,7 @@ pub fn fork_entries(mem: &mut Mem, alloc: Global, parent: u16, child: u16) -> Re
     requires there { has mem.old.tables child ≡ true }
     requires empty { (page : ℕ) → entry_at mem.old.tables child page ≡ Pte.Empty }
     ensures forks { (d : Device) (l : Ledger) → HasLedger d mem.old l →
-        OnOk result (HasForked d mem.old mem.new l parent child) }
+        OnOk result (HasForkedEntries d mem.old mem.new l parent child) }
     ensures free { free_of (view mem.new) ≡ free_of (view mem.old) }
     ensures rest { KeepsRest mem.old mem.new }
 {

@@ -61,7 +61,8 @@ pub laid : (pages : List (List ℕ)) (f : ℕ) (page : List ℕ) (new : ℕ → 
     → ◌≡◌ {A = ℕ → ℕ → ℕ} (λ g i. get_or (get_or (slice_set pages f page) g []) i 0) (with_at f new (λ g i. get_or (get_or pages g []) i 0))
 laid pages f page new below same = λ k g i. point g i (g == f) refl k
   where
-    point : (g i : ℕ) (b : Bool) → (g == f) ≡ b → get_or (get_or (slice_set pages f page) g []) i 0 ≡ cond (g == f) new (λ j. get_or (get_or pages g []) j 0) i
+    point : (g i : ℕ) (b : Bool) → (g == f) ≡ b
+        → get_or (get_or (slice_set pages f page) g []) i 0 ≡ cond (g == f) new (λ j. get_or (get_or pages g []) j 0) i
     point g i true e = let is : g ≡ f = grind (arith, nat_tests) in
         ap (λ x. get_or (get_or (slice_set pages f page) x []) i 0) is ∙ ap (λ x. get_or x i 0) (get_or-set_same pages f page [] below) ∙ same i
         ∙ sym (ap (λ b. cond b new (λ j. get_or (get_or pages g []) j 0) i) e)
@@ -77,7 +78,8 @@ zeros zero i = refl
 zeros (suc n) zero = refl
 zeros (suc n) (suc i) = zeros n i
 
-module _ (frees : List ℕ) (n room : ℕ) (pages : List (List ℕ)) (flags : List Bool) (counts : List ℕ) (owners : List (Option (ℕ × ℕ))) (marks : List Bool)
+module _ (frees : List ℕ) (n room : ℕ) (pages : List (List ℕ)) (flags : List Bool) (counts : List ℕ) (owners : List (Option (ℕ × ℕ)))
+    (marks : List Bool)
     (places : List (Option Slot)) where
   pub front_used : (f : ℕ) (rest : List ℕ) → IsWhole frees n room pages flags counts owners marks places → frees ≡ f ∷ rest
       → (get_or flags f true ≡ false) × (f < length pages) × (is_in f rest ≡ false)
@@ -115,7 +117,8 @@ module _ (frees : List ℕ) (n room : ℕ) (pages : List (List ℕ)) (flags : Li
           subst (λ x. how_many (λ y. x == y) rest ≡ cond (get_or (slice_set flags f true) x true) 0 1) same
           (none ∙ sym (ap (λ b. cond b 0 1) (get_or-set_same flags f true true below)))
       others g false e none below h = let ne : g ≡ f → ⊥ = grind (arith, nat_tests) in
-          sym (ap (λ b. cond b 1 0 + how_many (λ x. g == x) rest) e ∙ zero_plus _) ∙ h ∙ sym (ap (λ b. cond b 0 1) (get_or-set_other flags f g true true ne))
+          sym (ap (λ b. cond b 1 0 + how_many (λ x. g == x) rest) e ∙ zero_plus _) ∙ h
+          ∙ sym (ap (λ b. cond b 0 1) (get_or-set_other flags f g true true ne))
 
   pub is_used : (f : ℕ) → IsWhole frees n room pages flags counts owners marks places → is_in f frees ≡ false → get_or flags f true ≡ true
   is_used f w h = used_is _ (sym (none_in f frees h) ∙ w.once f)
@@ -161,7 +164,8 @@ module _ (frees : List ℕ) (n room : ℕ) (pages : List (List ℕ)) (flags : Li
           (ap (λ t. cond t 1 0 + how_many (λ y. f == y) frees) (same_is f) ∙ ap (λ m. 1 + m) (none_in f frees h)
           ∙ sym (ap (λ b. cond b 0 1) (get_or-set_same flags f false true below')))
       others g false e below' = let ne : g ≡ f → ⊥ = grind (arith, nat_tests) in
-          ap (λ t. cond t 1 0 + how_many (λ y. g == y) frees) e ∙ zero_plus _ ∙ w.once g ∙ sym (ap (λ b. cond b 0 1) (get_or-set_other flags f g false true ne))
+          ap (λ t. cond t 1 0 + how_many (λ y. g == y) frees) e ∙ zero_plus _ ∙ w.once g
+          ∙ sym (ap (λ b. cond b 0 1) (get_or-set_other flags f g false true ne))
 
   pub free_is : (f : ℕ) → IsWhole frees n room pages flags counts owners marks places → f < length pages → (b : Bool) →
       b ≡ get_or flags f b → not b ≡ is_in f frees
@@ -184,7 +188,8 @@ module _ (frees : List ℕ) (n room : ℕ) (pages : List (List ℕ)) (flags : Li
       fits m p a b d = omega arith
 
 -- the free list has no frame twice, and no number that isn't a frame
-pub once_free : (frees : List ℕ) (frees_len frees_room : ℕ) (pages : List (List ℕ)) (flags : List Bool) (counts : List ℕ) (owners : List (Option (ℕ × ℕ)))
+pub once_free : (frees : List ℕ) (frees_len frees_room : ℕ) (pages : List (List ℕ)) (flags : List Bool) (counts : List ℕ)
+    (owners : List (Option (ℕ × ℕ)))
     (marks : List Bool) (places : List (Option Slot))
     → IsWhole frees frees_len frees_room pages flags counts owners marks places → (f : ℕ) → how_many (λ g. f == g) frees ≤ 1
 once_free frees frees_len frees_room pages flags counts owners marks places h f = by (get_or flags f true) _ (h.once f)
@@ -193,7 +198,8 @@ once_free frees frees_len frees_room pages flags counts owners marks places h f 
     by true n e = omega (arith, e)
     by false n e = omega (arith, e)
 
-pub in_range_free : (frees : List ℕ) (frees_len frees_room : ℕ) (pages : List (List ℕ)) (flags : List Bool) (counts : List ℕ) (owners : List (Option (ℕ × ℕ)))
+pub in_range_free : (frees : List ℕ) (frees_len frees_room : ℕ) (pages : List (List ℕ)) (flags : List Bool) (counts : List ℕ)
+    (owners : List (Option (ℕ × ℕ)))
     (marks : List Bool) (places : List (Option Slot))
     → IsWhole frees frees_len frees_room pages flags counts owners marks places → (f : ℕ) → is_in f frees ≡ true → f < length pages
 in_range_free frees frees_len frees_room pages flags counts owners marks places h f inside = by (get_or flags f true) refl (h.once f)

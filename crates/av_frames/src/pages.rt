@@ -1,4 +1,8 @@
-ghost use Rattle.std.specs.Prelude.{◌≡◌, ℕ, ◌+◌, ◌-◌, ◌<◌, ◌≤◌, ◌++◌, [], length, replicate, slice_index, slice_index_or, slice_set, IfOk, vec_len, vec_capacity};
+//! The bytes of the frames, which take memory when they are first written.
+
+ghost use Rattle.std.specs.Prelude.{◌≡◌, ℕ, ◌+◌, ◌-◌, ◌<◌, ◌≤◌, ◌++◌, [], length, replicate};
+ghost use Rattle.std.specs.Prelude.{slice_index, slice_index_or, slice_set, IfOk, vec_len};
+ghost use Rattle.std.specs.Prelude.{vec_capacity};
 ghost use Rattle.av_base.specs.Page.{page_size};
 ghost use Rattle.av_frames.specs.Pages.{zeros, WritesOver};
 ghost use Rattle.av_frames.specs.Store.{overlaid};

@@ -1,4 +1,4 @@
 pub mod Count
-pub mod Faults
+pub mod Failures
 pub mod Source
 pub mod Sink

@@ -10,7 +10,7 @@ pub record SinkView : Type 0 where
   pub held : Option (List ℕ)
   pub kept_back : List ℕ
   pub flushes : ℕ
-  pub faults : ℕ
+  pub failures : ℕ
   pub last_failed : Bool
 
 -- these bytes were added at the end of what was held
@@ -23,12 +23,12 @@ pub record Takes (old new : SinkView) (n : ℕ) (piece : List ℕ) : Type 0 wher
   pub some : 0 < length piece → 0 < n
   pub bytes : Gained old.held new.held (take n piece)
   pub flushes : new.flushes ≡ old.flushes
-  pub unfailed : new.faults ≡ old.faults
+  pub unfailed : new.failures ≡ old.failures
   pub served : new.last_failed ≡ false
 
 -- the call failed, and that was counted
 pub record HasFailed (old new : SinkView) : Type 0 where
-  pub faults : new.faults ≡ one_more old.faults
+  pub failures : new.failures ≡ one_more old.failures
   pub told : new.last_failed ≡ true
 
 -- a write added nothing: the sink failed, or memory ran out
@@ -36,14 +36,14 @@ pub record TakesNothing (old new : SinkView) (error : SinkErr) : Type 0 where
   pub held : new.held ≡ old.held
   pub flushes : new.flushes ≡ old.flushes
   pub failed : error ≡ Failed → HasFailed old new
-  pub memory : error ≡ Memory → (new.faults ≡ old.faults) × (new.last_failed ≡ false)
+  pub memory : error ≡ Memory → (new.failures ≡ old.failures) × (new.last_failed ≡ false)
 
 -- a flush handed on all that was kept back
 pub record HandsOn (old new : SinkView) : Type 0 where
   pub held : new.held ≡ old.held
   pub all : new.kept_back ≡ []
   pub flushes : new.flushes ≡ one_more old.flushes
-  pub unfailed : new.faults ≡ old.faults
+  pub unfailed : new.failures ≡ old.failures
   pub served : new.last_failed ≡ false
 
 -- a flush failed. A sink that tells what it holds doesn't fail so.

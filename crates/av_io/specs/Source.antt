@@ -8,7 +8,7 @@ pub record SourceView : Type 0 where
   pub left : Option (List ℕ)
   pub has_told_end : Bool
   pub reads : ℕ
-  pub faults : ℕ
+  pub failures : ℕ
 
 -- with these bytes in front, where what follows is told
 abbrev pub in_front : List ℕ → Option (List ℕ) → Option (List ℕ)
@@ -31,11 +31,11 @@ pub record Gives (old new : SourceView) (n : ℕ) (into : List ℕ) : Type 0 whe
   pub told : 0 < length into → new.has_told_end ≡ (n == 0)
   pub no_room : length into ≡ 0 → new.has_told_end ≡ old.has_told_end
   pub reads : new.reads ≡ one_more old.reads
-  pub unfailed : new.faults ≡ old.faults
+  pub unfailed : new.failures ≡ old.failures
 
 -- a read took nothing, and that was counted
 pub record GivesNothing (old new : SourceView) : Type 0 where
   pub left : new.left ≡ old.left
   pub untold : new.has_told_end ≡ old.has_told_end
   pub reads : new.reads ≡ one_more old.reads
-  pub faults : new.faults ≡ one_more old.faults
+  pub failures : new.failures ≡ one_more old.failures

@@ -14,10 +14,10 @@
 //! without asking, or tries again where nothing was taken, meets the clauses.
 #![tactic(auto)]
 
-mod faults;
+mod failures;
 mod sink;
 mod source;
 
-pub use faults::{Failed, Faults};
+pub use failures::{Failed, Failures};
 pub use sink::{MemSink, Sink, SinkErr, WriteSink};
 pub use source::{MemSource, ReadSource, Source};

@@ -5,10 +5,10 @@ ghost use Rattle.std.specs.Prelude.{vec_capacity, IfOk, IfErr, OnOk, OnErr};
 ghost use Rattle.std.specs.Io.Buffered.{writer_buffer, writer_contents, writer_inner};
 ghost use Rattle.std.specs.Io.KnownBytes.{Keeps, WriteAppends};
 ghost use Rattle.std.specs.IoError.{error_kind};
-ghost use Rattle.av_io.specs.Faults.{IsFresh, IsNextCall};
+ghost use Rattle.av_io.specs.Failures.{IsFresh, IsNextCall};
 ghost use Rattle.av_io.specs.Sink.{SinkView, Takes, TakesNothing, HandsOn, KeepsBack, is_fault};
 
-use crate::faults::{Failed, Faults};
+use crate::failures::{Failed, Failures};
 use std::alloc::Global;
 use std::io::{self, BufWriter, ErrorKind, Write};
 
@@ -43,7 +43,7 @@ pub trait Sink {
 pub struct MemSink {
     bytes: Vec<u8>,
     flushes: u64,
-    faults: Faults,
+    failures: Failures,
     last_failed: bool,
 }
 
@@ -54,15 +54,15 @@ impl MemSink {
           held = Some [];
           kept_back = [];
           flushes = 0;
-          faults = 0;
+          failures = 0;
           last_failed = false;
         } }
-        ensures calls { IsFresh result.faults failing }
+        ensures calls { IsFresh result.failures failing }
     {
         MemSink {
             bytes: Vec::new(alloc),
             flushes: 0,
-            faults: Faults::new(failing),
+            failures: Failures::new(failing),
             last_failed: false,
         }
     }
@@ -80,7 +80,7 @@ impl Sink for MemSink {
       held = Some s.bytes.items;
       kept_back = [];
       flushes = s.flushes;
-      faults = s.faults.count;
+      failures = s.failures.count;
       last_failed = s.last_failed;
     } };
 
@@ -91,12 +91,12 @@ impl Sink for MemSink {
             (⟦<MemSink as Sink>⟧.view self.new) n piece.now) }
         ensures err { IfErr result (λ e. TakesNothing (⟦<MemSink as Sink>⟧.view self.old)
             (⟦<MemSink as Sink>⟧.view self.new) e) }
-        ensures calls { IsNextCall self.old.faults self.new.faults (is_fault result) }
+        ensures calls { IsNextCall self.old.failures self.new.failures (is_fault result) }
         ensures whole { IfOk result (λ n. n ≡ length piece.now) }
         ensures memory { IfErr result (λ e. e ≡ SinkErr.Memory
             → vec_capacity self.old.bytes < vec_len self.old.bytes + length piece.now) }
     {
-        self.last_failed = self.faults.next_fails();
+        self.last_failed = self.failures.next_fails();
         if self.last_failed {
             return Err(SinkErr::Failed);
         }
@@ -112,7 +112,7 @@ impl Sink for MemSink {
             (⟦<MemSink as Sink>⟧.view self.new)) }
         ensures err { OnErr result (KeepsBack (⟦<MemSink as Sink>⟧.view self.old)
             (⟦<MemSink as Sink>⟧.view self.new)) }
-        ensures calls { self.new.faults ≡ self.old.faults }
+        ensures calls { self.new.failures ≡ self.old.failures }
     {
         self.flushes = self.flushes.saturating_add(1);
         self.last_failed = false;
@@ -126,7 +126,7 @@ impl Sink for MemSink {
 pub struct WriteSink<W: Write + Drop> {
     writer: BufWriter<W>,
     flushes: u64,
-    faults: u64,
+    failures: u64,
     last_failed: bool,
 }
 
@@ -137,7 +137,7 @@ impl<W: Write + Drop> WriteSink<W> {
           held = None;
           kept_back = [];
           flushes = 0;
-          faults = 0;
+          failures = 0;
           last_failed = false;
         }) }
         ensures writer { IfOk result (λ s. writer_inner s.writer ≡ writer) }
@@ -146,7 +146,7 @@ impl<W: Write + Drop> WriteSink<W> {
         Ok(WriteSink {
             writer: BufWriter::with_capacity(alloc, ROOM, writer)?,
             flushes: 0,
-            faults: 0,
+            failures: 0,
             last_failed: false,
         })
     }
@@ -157,7 +157,7 @@ impl<W: Write + Drop> Sink for WriteSink<W> {
       held = None;
       kept_back = writer_buffer s.writer;
       flushes = s.flushes;
-      faults = s.faults;
+      failures = s.failures;
       last_failed = s.last_failed;
     } };
 
@@ -179,7 +179,7 @@ impl<W: Write + Drop> Sink for WriteSink<W> {
             }
             _ => {
                 self.last_failed = true;
-                self.faults = self.faults.saturating_add(1);
+                self.failures = self.failures.saturating_add(1);
                 Err(SinkErr::Failed)
             }
         }
@@ -196,7 +196,7 @@ impl<W: Write + Drop> Sink for WriteSink<W> {
     {
         self.last_failed = self.writer.flush().is_err();
         if self.last_failed {
-            self.faults = self.faults.saturating_add(1);
+            self.failures = self.failures.saturating_add(1);
             return Err(Failed);
         }
         self.flushes = self.flushes.saturating_add(1);

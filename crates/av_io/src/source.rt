@@ -1,12 +1,13 @@
 //! Sources of bytes.
 
-ghost use Rattle.std.specs.Prelude.{Bool, false, ◌≡◌, ◌-◌, ◌≤◌, Some, None, length, drop, min, IfOk, IfErr, OnErr, is_err, ◌≢◌};
+ghost use Rattle.std.specs.Prelude.{Bool, false, ◌≡◌, ◌-◌, ◌≤◌, Some, None, length, drop, min};
+ghost use Rattle.std.specs.Prelude.{IfOk, IfErr, OnErr, is_err, ◌≢◌};
 ghost use Rattle.std.specs.Io.{ReadsAtMost};
 ghost use Rattle.std.specs.IoError.{error_kind};
 ghost use Rattle.std.specs.Io.KnownBytes.{ReadConsumes};
 ghost use Rattle.av_io.specs.Source.{SourceView, Gives, GivesNothing};
 
-use crate::faults::{Failed, Faults};
+use crate::failures::{Failed, Failures};
 use std::io::{self, ErrorKind, Read};
 
 /// How often a read is tried that signals interrupt.
@@ -31,12 +32,12 @@ pub struct MemSource {
     bytes: Vec<u8>,
     at: usize,
     has_told_end: bool,
-    faults: Faults,
+    failures: Failures,
     ghost within: { at ≤ length bytes.items },
 }
 
 impl MemSource {
-    ghost use Rattle.av_io.specs.Faults.{IsFresh};
+    ghost use Rattle.av_io.specs.Failures.{IsFresh};
 
     /// A source of these bytes, which fails at the calls of these numbers, from 1.
     pub fn new(bytes: Vec<u8>, failing: Vec<u64>) -> MemSource
@@ -44,27 +45,27 @@ impl MemSource {
           left = Some bytes.items;
           has_told_end = false;
           reads = 0;
-          faults = 0;
+          failures = 0;
         } }
-        ensures calls { IsFresh result.faults failing }
+        ensures calls { IsFresh result.failures failing }
     {
         MemSource {
             bytes,
             at: 0,
             has_told_end: false,
-            faults: Faults::new(failing),
+            failures: Failures::new(failing),
         }
     }
 }
 
 impl Source for MemSource {
-    ghost use Rattle.av_io.specs.Faults.{IsNextCall};
+    ghost use Rattle.av_io.specs.Failures.{IsNextCall};
 
     ghost view = { λ s. record {
       left = Some (drop s.at s.bytes.items);
       has_told_end = s.has_told_end;
-      reads = s.faults.calls;
-      faults = s.faults.count;
+      reads = s.failures.calls;
+      failures = s.failures.count;
     } };
 
     /// Beside what the trait says: exactly the calls that are listed fail, and any other gives as
@@ -74,11 +75,11 @@ impl Source for MemSource {
             (⟦<MemSource as Source>⟧.view self.new) n into.new) }
         ensures err { OnErr result (GivesNothing (⟦<MemSource as Source>⟧.view self.old)
             (⟦<MemSource as Source>⟧.view self.new)) }
-        ensures calls { IsNextCall self.old.faults self.new.faults (is_err result) }
+        ensures calls { IsNextCall self.old.failures self.new.failures (is_err result) }
         ensures most { IfOk result (λ n. n ≡ min (length into.old)
             (length self.old.bytes.items - self.old.at)) }
     {
-        if self.faults.next_fails() {
+        if self.failures.next_fails() {
             return Err(Failed);
         }
         let count = into.len().min(self.bytes.len() - self.at);
@@ -118,7 +119,7 @@ pub struct ReadSource<R: Read + Drop> {
     reader: R,
     has_told_end: bool,
     reads: u64,
-    faults: u64,
+    failures: u64,
 }
 
 impl<R: Read + Drop> ReadSource<R> {
@@ -128,7 +129,7 @@ impl<R: Read + Drop> ReadSource<R> {
           left = None;
           has_told_end = false;
           reads = 0;
-          faults = 0;
+          failures = 0;
         } }
         ensures reader { result.reader ≡ reader }
     {
@@ -136,7 +137,7 @@ impl<R: Read + Drop> ReadSource<R> {
             reader,
             has_told_end: false,
             reads: 0,
-            faults: 0,
+            failures: 0,
         }
     }
 }
@@ -146,7 +147,7 @@ impl<R: Read + Drop> Source for ReadSource<R> {
       left = None;
       has_told_end = s.has_told_end;
       reads = s.reads;
-      faults = s.faults;
+      failures = s.failures;
     } };
 
     /// Beside what the trait says: what is given are the next bytes of the reader, where those are
@@ -161,7 +162,7 @@ impl<R: Read + Drop> Source for ReadSource<R> {
     {
         self.reads = self.reads.saturating_add(1);
         let Ok(given) = read_again(&mut self.reader, into) else {
-            self.faults = self.faults.saturating_add(1);
+            self.failures = self.failures.saturating_add(1);
             return Err(Failed);
         };
         if !into.is_empty() {

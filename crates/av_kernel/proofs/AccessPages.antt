@@ -66,4 +66,5 @@ touched-more write a k n page at is small less begins =
     (ap (range_with_len (a / 4096)) split ∙ numbers-append (a / 4096) (touches a k) (suc (touches a n - (touches a k + 1)))
     ∙ ap (λ b. range_with_len (a / 4096) (touches a k) ++ b ∷ range_with_len (b + 1) (touches a n - (touches a k + 1)))
     (sym (pages_before a k page at is small begins)))
-    ∙ map-append (λ page. (write, page)) (range_with_len (a / 4096) (touches a k)) (page ∷ range_with_len (page + 1) (touches a n - (touches a k + 1)))
+    ∙ map-append (λ page. (write, page)) (range_with_len (a / 4096) (touches a k))
+    (page ∷ range_with_len (page + 1) (touches a n - (touches a k + 1)))

@@ -18,7 +18,7 @@ use Rattle.av_plain.specs.Load.{is_of_slot, with_loads, without_bytes}
 use Rattle.av_plain.specs.Sound.{IsSound}
 use Rattle.av_plain.specs.Event.{Event, Used, after_all, notes_of, note_events}
 use Rattle.av_plain.specs.Access.{Accesses, End, Whole, Stopped, page_events, pages_of_access, after_write, Reads}
-use Rattle.av_plain.specs.Fault as faults
+use Rattle.av_plain.specs.Fault as served
 use Rattle.av_plain.specs.Fault.{Touches, is_allowed, permits}
 use Rattle.av_plain.specs.Choice.{ChoosesAll, Free}
 use Rattle.av_plain.specs.Areas.{Rmap, rmap_after_all}
@@ -87,14 +87,14 @@ page-lives w false p page at ys end h = h
 -- ---- what is there of the memory system
 
 -- over some device that doesn't tell its pages there is a state in which the process lives
-pub record Lives (sizes : ℕ → Option ℕ) (faults : ℕ) (k : Mem) (p : ℕ) : Type 0 where
+pub record Lives (sizes : ℕ → Option ℕ) (failures : ℕ) (k : Mem) (p : ℕ) : Type 0 where
   pub state : State
-  pub keeps : Keeps (device_by sizes None faults) k state
+  pub keeps : Keeps (device_by sizes None failures) k state
   pub lives : lives state.world p ≡ true
 
 -- however often it failed
-pub steady-lives : (sizes : ℕ → Option ℕ) (faults : ℕ) (k : Mem) (p : ℕ) → IsSteadyFor sizes p k → Lives sizes faults k p
-steady-lives sizes faults k p steady = let h = steady.0 in let keeps = keeps-whenever sizes None h.0 faults k h.1 h.2 in
+pub steady-lives : (sizes : ℕ → Option ℕ) (failures : ℕ) (k : Mem) (p : ℕ) → IsSteadyFor sizes p k → Lives sizes failures k p
+steady-lives sizes failures k p steady = let h = steady.0 in let keeps = keeps-whenever sizes None h.0 failures k h.1 h.2 in
     record { state = h.1; keeps = keeps; lives = sym (lives_is _ k h.1 keeps p) ∙ steady.1 }
 
 -- so it is after a page
@@ -113,7 +113,7 @@ page-steady sizes sizes' n n' s new write p page at ys before now end alive h = 
 
 -- ---- what happens at one page
 
-pub notes-happening : (write : Bool) (k : ℕ × ℕ) (added : List Note) (end : Option faults.Stop) → notes_of (page_events write k added end) ≡ added
+pub notes-happening : (write : Bool) (k : ℕ × ℕ) (added : List Note) (end : Option served.Stop) → notes_of (page_events write k added end) ≡ added
 notes-happening write k added None = notes_of-append (note_events added) (Used write k ∷ []) ∙ append-nil _ ∙ notes_of-note_events added
 notes-happening write k added (Some stop) = notes_of-note_events added
 
@@ -123,12 +123,12 @@ one_served : (m : Setting) (w : World) (l : Ledger) (write : Bool) (p page : ℕ
 one_served m w l write p page added h = inl (added, [], h, sym (append-nil _), (refl, refl))
 
 -- a page that stops an access of it and more
-one_stopped : (m : Setting) (w : World) (l : Ledger) (write : Bool) (p page : ℕ) (rest : List (Bool × ℕ)) (added : List Note) (stop : faults.Stop) →
+one_stopped : (m : Setting) (w : World) (l : Ledger) (write : Bool) (p page : ℕ) (rest : List (Bool × ℕ)) (added : List Note) (stop : served.Stop) →
     Touches m w l write (p, page) added (Some stop)
     → Accesses m w l p ((write, page) ∷ rest) (page_events write (p, page) added (Some stop)) (Stopped page stop)
 one_stopped m w l write p page rest added stop h = inr (added, stop, h, refl, refl)
 
--- ---- what only faults explain
+-- ---- what only failures explain
 
 rose-both : (m n k a b c : ℕ) → RoseBy m a b → RoseBy n b c → k ≤ m + n → RoseBy k a c
 rose-both m n k a b c h g few = omega (arith, h, g, few)
@@ -153,7 +153,7 @@ record Behind (a k page at : ℕ) : Type 0 where
 module _ {d d' : Device} (s : State) (mid new : Mem) (write : Bool) (p a k page at : ℕ) (xs ys : List ℕ) (before now after : List Note)
     (same : frame_count new ≡ frame_count mid) (behind : Behind a k page at) (h : IsAccess d d' s mid write p a k xs before now None k)
     (long : write ≡ true → length xs ≡ k) where
-  notes-both : (end : Option faults.Stop) (added : List Note) → after ≡ now ++ added →
+  notes-both : (end : Option served.Stop) (added : List Note) → after ≡ now ++ added →
       after ≡ before ++ notes_of (h.events ++ page_events write (p, page) added end)
   notes-both end added is = is ∙ ap (λ ns. ns ++ added) h.notes ∙ append_assoc before (notes_of h.events) added
       ∙ ap (λ ns. before ++ ns) (ap (λ ns. notes_of h.events ++ ns) (sym (notes-happening write (p, page) added end))
@@ -228,12 +228,12 @@ module _ {d d' : Device} (s : State) (mid new : Mem) (write : Bool) (p a k page 
     device-same : IsSameDevice d d''
     device-same = same_then d d' d'' h.same g.same
 
-    faults-both : RoseBy (causes_of_access (notes_of (h.events ++ page_events write (p, page) g.added (option_map stop_of end))) end) d.faults
-        d''.faults
-    faults-both = subst (λ ns. RoseBy (causes_of_access ns end) d.faults d''.faults)
+    failures-both : RoseBy (causes_of_access (notes_of (h.events ++ page_events write (p, page) g.added (option_map stop_of end))) end) d.failures
+        d''.failures
+    failures-both = subst (λ ns. RoseBy (causes_of_access ns end) d.failures d''.failures)
         (sym (notes_of-append h.events (page_events write (p, page) g.added (option_map stop_of end))
         ∙ ap (λ ns. notes_of h.events ++ ns) (notes-happening write (p, page) g.added (option_map stop_of end))))
-        (causes-append (notes_of h.events) g.added end d.faults d'.faults d''.faults h.faults g.faults)
+        (causes-append (notes_of h.events) g.added end d.failures d'.failures d''.failures h.failures g.failures)
 
   -- by m bytes of the page
   goes_on : {d'' : Device} (m : ℕ) → at + m ≤ 4096 → 1 ≤ m → IsPageStep d' d'' h.next new write p page at ys now after None
@@ -254,7 +254,7 @@ module _ {d d' : Device} (s : State) (mid new : Mem) (write : Bool) (p a k page 
     rmap = rmap-both _ _ g.rmap;
     keeps = g.keeps;
     same = device-same None g;
-    faults = faults-both None g;
+    failures = failures-both None g;
   }
 
   -- or stops there
@@ -277,7 +277,7 @@ module _ {d d' : Device} (s : State) (mid new : Mem) (write : Bool) (p a k page 
     rmap = rmap-both _ _ g.rmap;
     keeps = g.keeps;
     same = device-same (Some stop) g;
-    faults = faults-both (Some stop) g;
+    failures = failures-both (Some stop) g;
   }
     where
       served : (k : ℕ) → 4096 * page + at ≡ a + k → (1 ≤ k → at ≡ 0) → k ≡ 4096 * page - a

@@ -82,7 +82,7 @@ module _ {d : Device} (s : State) (old new : Mem) (p a : ℕ) (before notes : Li
 
   read-done : {d' : Device} (n : ℕ) (shown : List ℕ) (answer : Answer) → IsRead d d' s new p a n before notes None k shown
       → answer ≡ answers.Data shown
-      → RoseBy (causes (record { answer = answer; notes = notes; rows = rows })) d.faults d'.faults
+      → RoseBy (causes (record { answer = answer; notes = notes; rows = rows })) d.failures d'.failures
       → MemSteps d d' old new s (Read p a n) (record { answer = answer; notes = notes; rows = rows })
   read-done n shown answer read is rose = let h = read.access in record {
     next = h.next;
@@ -109,12 +109,12 @@ module _ {d : Device} (s : State) (old new : Mem) (p a : ℕ) (before notes : Li
     };
     keeps = h.keeps;
     same = h.same;
-    faults = rose;
+    failures = rose;
   }
 
   read-stopped : {d' : Device} (n : ℕ) (shown : List ℕ) (answer : Answer) (stop : Stop) → IsRead d d' s new p a n before notes (Some stop) k shown →
       answer ≡ answer_of stop k shown
-      → RoseBy (causes (record { answer = answer; notes = notes; rows = rows })) d.faults d'.faults
+      → RoseBy (causes (record { answer = answer; notes = notes; rows = rows })) d.failures d'.failures
       → MemSteps d d' old new s (Read p a n) (record { answer = answer; notes = notes; rows = rows })
   read-stopped n shown answer stop read is rose = let h = read.access in record {
     next = h.next;
@@ -141,12 +141,12 @@ module _ {d : Device} (s : State) (old new : Mem) (p a : ℕ) (before notes : Li
     };
     keeps = h.keeps;
     same = h.same;
-    faults = rose;
+    failures = rose;
   }
 
   write-done : {d' : Device} (bytes : List ℕ) (answer : Answer) → IsAccess d d' s new true p a (length bytes) (take k bytes) before notes None k
       → answer ≡ answers.Done
-      → RoseBy (causes (record { answer = answer; notes = notes; rows = rows })) d.faults d'.faults
+      → RoseBy (causes (record { answer = answer; notes = notes; rows = rows })) d.failures d'.failures
       → MemSteps d d' old new s (Write p a bytes) (record { answer = answer; notes = notes; rows = rows })
   write-done bytes answer h is rose = record {
     next = h.next;
@@ -171,13 +171,13 @@ module _ {d : Device} (s : State) (old new : Mem) (p a : ℕ) (before notes : Li
     };
     keeps = h.keeps;
     same = h.same;
-    faults = rose;
+    failures = rose;
   }
 
   write-stopped : {d' : Device} (bytes : List ℕ) (answer : Answer) (stop : Stop) → IsAccess d d' s new true p a (length bytes)
       (take k bytes) before notes (Some stop) k →
       answer ≡ answer_of stop k []
-      → RoseBy (causes (record { answer = answer; notes = notes; rows = rows })) d.faults d'.faults
+      → RoseBy (causes (record { answer = answer; notes = notes; rows = rows })) d.failures d'.failures
       → MemSteps d d' old new s (Write p a bytes) (record { answer = answer; notes = notes; rows = rows })
   write-stopped bytes answer stop h is rose = record {
     next = h.next;
@@ -203,7 +203,7 @@ module _ {d : Device} (s : State) (old new : Mem) (p a : ℕ) (before notes : Li
     };
     keeps = h.keeps;
     same = h.same;
-    faults = rose;
+    failures = rose;
   }
 
   -- ---- by how it ended
@@ -211,9 +211,9 @@ module _ {d : Device} (s : State) (old new : Mem) (p a : ℕ) (before notes : Li
   rose-ended : (d' : Device) (stop : Option Stop) (whole answer : Answer) (shown : List ℕ) (events : List Event) → failed_frames whole ≡ 0
       → fault_answers whole ≡ 0 →
       answer ≡ answer_at stop whole k shown → notes ≡ before ++ notes_of events → RoseBy
-      (causes_of_access (notes_of events) stop) d.faults d'.faults →
-      RoseBy (causes (record { answer = answer; notes = notes; rows = rows })) d.faults d'.faults
-  rose-ended d' stop whole answer shown events one two is all = subst (λ n. RoseBy n d.faults d'.faults) (sym ((λ i. causes (record {
+      (causes_of_access (notes_of events) stop) d.failures d'.failures →
+      RoseBy (causes (record { answer = answer; notes = notes; rows = rows })) d.failures d'.failures
+  rose-ended d' stop whole answer shown events one two is all = subst (λ n. RoseBy n d.failures d'.failures) (sym ((λ i. causes (record {
     answer = is i;
     notes = alone events all i;
     rows = rows;
@@ -231,10 +231,10 @@ module _ {d : Device} (s : State) (old new : Mem) (p a : ℕ) (before notes : Li
       answer ≡ answer_at stop (answers.Data shown) k shown → MemSteps d d' old new s (Read p a n)
       (record { answer = answer; notes = notes; rows = rows })
   read-ended {d'} n shown answer stop h is = by stop h is
-      (rose-ended d' stop (answers.Data shown) answer shown h.access.events refl refl is h.access.notes h.access.faults)
+      (rose-ended d' stop (answers.Data shown) answer shown h.access.events refl refl is h.access.notes h.access.failures)
     where
       by : (stop : Option Stop) → IsRead d d' s new p a n before notes stop k shown → answer ≡ answer_at stop (answers.Data shown) k shown →
-          RoseBy (causes (record { answer = answer; notes = notes; rows = rows })) d.faults d'.faults
+          RoseBy (causes (record { answer = answer; notes = notes; rows = rows })) d.failures d'.failures
           → MemSteps d d' old new s (Read p a n) (record { answer = answer; notes = notes; rows = rows })
       by None h is rose = read-done n shown answer h is rose
       by (Some stop) h is rose = read-stopped n shown answer stop h is rose
@@ -243,11 +243,11 @@ module _ {d : Device} (s : State) (old new : Mem) (p a : ℕ) (before notes : Li
       (take k bytes) before notes stop k →
       answer ≡ answer_at stop answers.Done k []
       → MemSteps d d' old new s (Write p a bytes) (record { answer = answer; notes = notes; rows = rows })
-  write-ended {d'} bytes answer stop h is = by stop h is (rose-ended d' stop answers.Done answer [] h.events refl refl is h.notes h.faults)
+  write-ended {d'} bytes answer stop h is = by stop h is (rose-ended d' stop answers.Done answer [] h.events refl refl is h.notes h.failures)
     where
       by : (stop : Option Stop) → IsAccess d d' s new true p a (length bytes) (take k bytes) before notes stop k
           → answer ≡ answer_at stop answers.Done k [] →
-          RoseBy (causes (record { answer = answer; notes = notes; rows = rows })) d.faults d'.faults
+          RoseBy (causes (record { answer = answer; notes = notes; rows = rows })) d.failures d'.failures
           → MemSteps d d' old new s (Write p a bytes) (record { answer = answer; notes = notes; rows = rows })
       by None h is rose = write-done bytes answer h is rose
       by (Some stop) h is rose = write-stopped bytes answer stop h is rose

@@ -38,7 +38,7 @@ use Rattle.av_mem.proofs.MemLaws.{alive_is, lives_is, all_apart, prot_on, prots_
 use Rattle.av_anon.specs.declared.anons.Anons.{Anons as AnonSet}
 use Rattle.av_spaces.specs.Spaces.{AllSpaces, areas_of}
 use Rattle.av_fork.specs.Areas.{HasFork}
-use Rattle.av_fork.specs.Entries.{HasForked}
+use Rattle.av_fork.specs.Entries.{HasForkedEntries}
 use Rattle.av_kernel.specs.Process.{new_tests}
 use Rattle.av_kernel.specs.Step.{StepsBeside}
 use Rattle.av_kernel.proofs.StepLaws.{is_number, moved_on, stays_orderly, stepped, swap_alike}
@@ -50,7 +50,8 @@ use Rattle.av_kernel.proofs.Loads.{world_as}
 
 pub fork_is : {d : Device} (k : Mem) (s : State) (p q : ℕ) → Keeps d k s → is_some (areas_of k.spaces.processes p) ≡ true
     → refusal (tests (setting_by d k) s.world s.ledger (Fork p q)) ≡ refusal (new_tests k.spaces.processes q)
-fork_is {d} k s p q keeps alive = ap (λ b. cond (not b) (Some Esrch) (new_refusal s.world q)) (sym (lives_is d k s keeps p) ∙ alive) ∙ new_is k s q keeps
+fork_is {d} k s p q keeps alive = ap (λ b. cond (not b) (Some Esrch) (new_refusal s.world q)) (sym (lives_is d k s keeps p) ∙ alive)
+    ∙ new_is k s q keeps
 
 -- ---- entries
 
@@ -71,7 +72,8 @@ slots_few {d} k s keeps slot =
     omega (arith, same, named, few)
 
 -- the parts stand for the ledger still, once the areas went over and the child has a table
-pub still_orderly : (d : Device) (old gone : Mem) (tables : ProcessTables) (l : Ledger) → gone ≡ record old { spaces = gone.spaces; anons = gone.anons } →
+pub still_orderly : (d : Device) (old gone : Mem) (tables : ProcessTables) (l : Ledger)
+    → gone ≡ record old { spaces = gone.spaces; anons = gone.anons } →
     entry_at tables ≡ entry_at gone.tables → HasLedger d old l → HasLedger d (record gone { tables = tables }) l
 still_orderly d old gone tables l rest entries h =
     subst (λ (k : Mem). HasLedger d (record k { tables = tables }) l) (sym rest)
@@ -90,7 +92,7 @@ has_table k tables q processes = ap (λ (h : ℕ → Bool). h q) processes ∙ a
 module _ {d : Device} (old mid : Mem) (tables : ProcessTables) (spaces : AllSpaces) (anons : AnonSet) (s : State) (p q : ℕ) (keeps : Keeps d old s)
     (alive : is_some (areas_of old.spaces.processes p) ≡ true) (may : refusal (new_tests old.spaces.processes q) ≡ None)
     (shown : HasFork old (moved_on old old.tables spaces anons) p q s)
-    (processes : has tables ≡ with_at q true (has old.tables)) (given : HasForked d (moved_on old tables spaces anons) mid s.ledger p q)
+    (processes : has tables ≡ with_at q true (has old.tables)) (given : HasForkedEntries d (moved_on old tables spaces anons) mid s.ledger p q)
     (rest : KeepsRest (moved_on old tables spaces anons) mid) where
   abbrev new : Mem
   new = moved_on mid mid.tables spaces anons
@@ -160,7 +162,8 @@ module _ {d : Device} (old mid : Mem) (tables : ProcessTables) (spaces : AllSpac
   prot_now k page = by (k == q) refl
     where
       was : (k : ℕ) → option_map prot_on (s.areas k page) ≡ option_map (λ (x : Page). x.prot) (pages s.world k page)
-      was k = ap (option_map prot_on) (sym (keeps.stands.areas k page)) ∙ sym (prots_are old.spaces.processes k page) ∙ keeps.stands.parts.areas.covers k page
+      was k = ap (option_map prot_on) (sym (keeps.stands.areas k page)) ∙ sym (prots_are old.spaces.processes k page)
+          ∙ keeps.stands.parts.areas.covers k page
 
       of_child : (o : Option Area) → s.areas p page ≡ o → option_map prot_on (shown.next.areas q page) ≡ option_map prot_on o
       of_child None is = ap (option_map prot_on) (child.none page is)
@@ -190,7 +193,8 @@ module _ {d : Device} (old mid : Mem) (tables : ProcessTables) (spaces : AllSpac
       lives_as k false = keeps.stands.parts.areas.alive k
 
   tables_now : HasTables new
-  tables_now k = ap (λ (h : ℕ → Bool). h k) (rest.parts.processes ∙ processes) ∙ by (k == q) ∙ sym (alive_is spaces.processes k ∙ ap is_some (shown.spawned.areas k))
+  tables_now k = ap (λ (h : ℕ → Bool). h k) (rest.parts.processes ∙ processes) ∙ by (k == q)
+      ∙ sym (alive_is spaces.processes k ∙ ap is_some (shown.spawned.areas k))
     where
       by : (b : Bool) → cond b true (has old.tables k) ≡ is_some (cond b (Some shown.these) (areas_of old.spaces.processes k))
       by true = refl
@@ -215,7 +219,8 @@ module _ {d : Device} (old mid : Mem) (tables : ProcessTables) (spaces : AllSpac
 
   steps : StepsBeside d old new s (Fork p q) (answer_only Done)
   steps = stepped old new s next (Fork p q) (answer_only Done) keeps fork-step rest.parts.count
-      (swap_alike (moved_on old tables spaces anons) mid old new refl refl rest.parts.swap) (stays_orderly d mid mid.tables spaces anons l refl given.stands)
+      (swap_alike (moved_on old tables spaces anons) mid old new refl refl rest.parts.swap)
+      (stays_orderly d mid mid.tables spaces anons l refl given.stands)
       refl shown.areas anons_now homes_now covered_now shown.fit areas_now tables_now bytes_now
 
   forks : StepsBeside d old mid s (Fork p q) (answer_only Done)
@@ -226,11 +231,11 @@ module _ {d : Device} (old mid : Mem) (tables : ProcessTables) (spaces : AllSpac
 pub fork-steps : {d : Device} (old gone mid : Mem) (tables : ProcessTables) (s : State) (p q : ℕ) (keeps : Keeps d old s)
     → is_some (areas_of old.spaces.processes p) ≡ true → refusal (new_tests old.spaces.processes q) ≡ None
     → gone ≡ record old { spaces = gone.spaces; anons = gone.anons } → HasFork old gone p q s → has tables ≡ with_at q true (has gone.tables)
-    → HasForked d (record gone { tables = tables }) mid s.ledger p q → KeepsRest (record gone { tables = tables }) mid →
+    → HasForkedEntries d (record gone { tables = tables }) mid s.ledger p q → KeepsRest (record gone { tables = tables }) mid →
     StepsBeside d old mid s (Fork p q) (answer_only Done)
 fork-steps {d} old gone mid tables s p q keeps alive may same shown processes given rest =
     forks old mid tables gone.spaces gone.anons s p q keeps alive may
     (subst (λ (g : Mem). HasFork old g p q s) same shown)
     (processes ∙ ap (λ (g : Mem). with_at q true (has g.tables)) same)
-    (subst (λ (g : Mem). HasForked d (record g { tables = tables }) mid s.ledger p q) same given)
+    (subst (λ (g : Mem). HasForkedEntries d (record g { tables = tables }) mid s.ledger p q) same given)
     (subst (λ (g : Mem). KeepsRest (record g { tables = tables }) mid) same rest)

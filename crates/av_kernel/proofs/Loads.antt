@@ -19,7 +19,7 @@ use Rattle.av_trace.specs.declared.place.Place.TheVariants.{Auto, At, Fixed, NoR
 use Rattle.av_trace.specs.declared.reply.Answer.{Answer}
 use Rattle.av_trace.specs.declared.reply.OutOf.{OutOf}
 use Rattle.av_plain.specs.Access.{after_write, page_events}
-use Rattle.av_plain.specs.Event.{Event, Forked, Moved, Noted, TurnedOff, TurnedOn, Used, Zapped, after, after_all, after_note, after_notes, note_events, when}
+use Rattle.av_plain.specs.Event.{Event, Forked, EntriesMoved, Noted, TurnedOff, TurnedOn, Used, Zapped, after, after_all, after_note, after_notes, note_events, when}
 use Rattle.av_plain.specs.Fault.{ComesIn, CopyOnWrite, Denied, IsMade, Lost, MapCached, Need, NewPage, Ready, RunsOut, Serves, Sparing, Starved, Stop, SwapIn, Touches, ZeroPage, drop_at, drop_of_entry, drop_of_slot, is_shared, need, need_of_slot, pinned_by, sparing, was_slot}
 use Rattle.av_plain.specs.Ledger.{Entry, InFrame, InSlot, Ledger, Setting, Zero, entry, frame_at, has_free, is_orphan, map_count, slot_of}
 use Rattle.av_plain.specs.Load.{after_load, after_loads, is_of_slot, with_loads, without_bytes, without_claims}
@@ -71,8 +71,8 @@ load_or_none (Noted (Aged f)) = inl (refl, λ l w. refl)
 load_or_none (Zapped k) = inl (refl, λ l w. refl)
 load_or_none (Used b k) = inl (refl, λ l w. refl)
 load_or_none (Forked a b c) = inl (refl, λ l w. refl)
-load_or_none (Moved a b c d) = inl (refl, λ l w. refl)
-load_or_none (TurnedOn a b c) = inl (refl, λ l w. refl)
+load_or_none (EntriesMoved a b c d) = inl (refl, λ l w. refl)
+load_or_none (TurnedOn a b) = inl (refl, λ l w. refl)
 load_or_none (TurnedOff a) = inl (refl, λ l w. refl)
 
 -- ---- several

@@ -72,10 +72,12 @@ use Rattle.std.specs.List.{list_all}
 -- a page is taken exactly where it is mapped
 
 pub taken_is : {d : Device} (k : Mem) (s : State) (p : ℕ) → Keeps d k s → IsProcess k.spaces.processes p (pages s.world p)
-taken_is {d} k s p keeps page = taken_has k.spaces.processes p page ∙ ap is_some (keeps.stands.parts.areas.covers p page) ∙ mapped_is (pages s.world p page)
+taken_is {d} k s p keeps page = taken_has k.spaces.processes p page ∙ ap is_some (keeps.stands.parts.areas.covers p page)
+    ∙ mapped_is (pages s.world p page)
 
 -- a place suits the pages of a process, whatever the kernel stands for
-pub suits : (k : Mem) → IsSteady k → (p n page : ℕ) (place : Place) → ((q : Process) → IsProcess k.spaces.processes p q → IsPlaced q n place (Ok page)) →
+pub suits : (k : Mem) → IsSteady k → (p n page : ℕ) (place : Place)
+    → ((q : Process) → IsProcess k.spaces.processes p q → IsPlaced q n place (Ok page)) →
     IsSuited k.spaces.processes p n page place
 suits k steady p n page place placed =
     let same = taken_is k steady.1 p steady.2 in
@@ -132,7 +134,8 @@ unplaced s p q page = by (q == p) refl
 areas_so : {d : Device} (old new : Mem) (s : State) (p : ℕ) (change : Pages → Pages) → Keeps d old s →
     GetsAreas old.spaces.processes new.spaces.processes p (change (areas_on old.spaces.processes p)) →
     AreasAre (view new) (with_at p (change (s.areas p)) s.areas)
-areas_so {d} old new s p change keeps h q page = h q page ∙ (λ i. with_at p (change (λ o. keeps.stands.areas p o i)) (λ r o. keeps.stands.areas r o i) q page)
+areas_so {d} old new s p change keeps h q page = h q page
+    ∙ (λ i. with_at p (change (λ o. keeps.stands.areas p o i)) (λ r o. keeps.stands.areas r o i) q page)
 
 -- ---- the pages of a range go
 
@@ -156,8 +159,10 @@ are_unmapped {d} old mid spaces anons p page n l before notes t rest gone areas 
   taken = subst (λ x. HasZapped d old (moved_on mid mid.tables spaces anons) l (zaps_of l (keys_in l p page x)) before notes)
       (let size : page + n - page ≡ n = omega arith in size)
       (record { stands = stays_orderly d mid mid.tables spaces anons _ refl t.stands; notes = t.notes; free = t.free });
-  spaces = subst (λ (x : AllSpaces). GetsProts x.processes spaces.processes p (set_on page n None (prot_of (ranges_of x.processes p)))) rest.parts.spaces gone;
-  areas = subst (λ (x : AllSpaces). GetsAreas x.processes spaces.processes p (after_unmap page (page + n) (areas_on x.processes p))) rest.parts.spaces areas;
+  spaces = subst (λ (x : AllSpaces). GetsProts x.processes spaces.processes p (set_on page n None (prot_of (ranges_of x.processes p))))
+      rest.parts.spaces gone;
+  areas = subst (λ (x : AllSpaces). GetsAreas x.processes spaces.processes p (after_unmap page (page + n) (areas_on x.processes p)))
+      rest.parts.spaces areas;
   anons = subst (λ (x : AllSpaces). AnonsStay x old.anons spaces anons) rest.parts.spaces
       (subst (λ a. AnonsStay mid.spaces a spaces anons) rest.parts.anons anons_stay);
   processes = rest.parts.processes;
@@ -192,7 +197,8 @@ left_alone d k steady p page n l notes stands alive free = record {
     none None e = refl
     none (Some x) e = cc
 
-    by : (o : ℕ) (b : Bool) → within page n o ≡ b → prot_of (ranges_of k.spaces.processes p) o ≡ cond b None (prot_of (ranges_of k.spaces.processes p) o)
+    by : (o : ℕ) (b : Bool) → within page n o ≡ b
+        → prot_of (ranges_of k.spaces.processes p) o ≡ cond b None (prot_of (ranges_of k.spaces.processes p) o)
     by o true e =
         let low : page ≤ o = grind (arith, nat_tests, e) in
         let high : o < page + n = grind (arith, nat_tests, e) in
@@ -241,8 +247,10 @@ place-cached m l p n (NoReplace a) sound = cached-itself l
 
 -- ---- the pages of a range are replaced
 
-module _ {d : Device} (old new : Mem) (s : State) (command : Command) (reply : Reply) (p page n : ℕ) (o : Option Page) (on : Pages) (events : List Event)
-    (before notes : List Note) (keeps : Keeps d old s) (alive : is_some (ranges_of old.spaces.processes p) ≡ true) (same_count : frame_count new ≡ frame_count old)
+module _ {d : Device} (old new : Mem) (s : State) (command : Command) (reply : Reply) (p page n : ℕ) (o : Option Page) (on : Pages)
+    (events : List Event)
+    (before notes : List Note) (keeps : Keeps d old s) (alive : is_some (ranges_of old.spaces.processes p) ≡ true)
+    (same_count : frame_count new ≡ frame_count old)
     (taken : HasZapped d old new s.ledger events before notes) (cached : KeepsCached s.ledger (after_all s.ledger events))
     (reach : Reach (after_all s.ledger events) (rmap_of s)) (swap : KeepsSwap old new) (entries : (q at : ℕ) →
     entry (after_all s.ledger events) (q, at) ≡ cond (q == p && within page n at) None (entry s.ledger (q, at)))
@@ -252,11 +260,13 @@ module _ {d : Device} (old new : Mem) (s : State) (command : Command) (reply : R
     (processes : has new.tables ≡ has old.tables) (bytes : (view new).bytes ≡ (view old).bytes)
     (homes : (view new).homes ≡ (view old).homes) (home_stay : HomesStay old.spaces.processes new.spaces.processes p page n)
     (silent : rmap_after_all s.ledger events (rmap_of s) ≡ rmap_of s) where
-  covered : (at : ℕ) → set_on page n (option_map (λ (x : Page). x.prot) o) (prot_of (ranges_of old.spaces.processes p)) at ≡ option_map (λ (x : Page). x.prot)
+  covered : (at : ℕ) → set_on page n (option_map (λ (x : Page). x.prot) o) (prot_of (ranges_of old.spaces.processes p)) at ≡ option_map
+      (λ (x : Page). x.prot)
       (with_pages (pages s.world p) page n (λ _. o) at)
   covered at = by (within page n at)
     where
-      by : (b : Bool) → cond b (option_map (λ (x : Page). x.prot) o) (prot_of (ranges_of old.spaces.processes p) at) ≡ option_map (λ (x : Page). x.prot)
+      by : (b : Bool) → cond b (option_map (λ (x : Page). x.prot) o) (prot_of (ranges_of old.spaces.processes p) at) ≡ option_map
+          (λ (x : Page). x.prot)
           (cond b o (pages s.world p at))
       by true = refl
       by false = keeps.stands.parts.areas.covers p at
@@ -293,7 +303,8 @@ module _ {d : Device} (old new : Mem) (s : State) (command : Command) (reply : R
 
   pub replaced-steps : is_fork command ≡ false → closing_swap_area command ≡ None
       → IsLegal (setting_by d old) s.world s.ledger command reply events
-      → list_all loads_nothing events ≡ true → set_process s.world p (with_pages (pages s.world p) page n (λ _. o)) ≡ next s.world command reply.answer
+      → list_all loads_nothing events ≡ true
+      → set_process s.world p (with_pages (pages s.world p) page n (λ _. o)) ≡ next s.world command reply.answer
       → with_at p on s.areas ≡ next_areas (chain_length s.anons) s.areas s.world command reply.answer
       → ShowsAreas s.areas s.anons command reply.answer reply.rows → StepsBeside d old new s command reply
   replaced-steps plain open_all legal loads world areas_next shows =
@@ -308,7 +319,8 @@ module _ {d : Device} (old new : Mem) (s : State) (command : Command) (reply : R
         free = subst (λ closing. ChoosesAll (setting_by d old) closing s.ledger events s.free (free_of (view new))) (sym open_all)
             (subst (λ free. ChoosesAll (setting_by d old) None s.ledger events free (free_of (view new))) keeps.stands.free taken.free);
         rmap =
-            subst (λ r. IsRmapNext r s.world command reply.answer (rmap_of (state_after s p now on (after_all s.ledger events) (free_of (view new)) new.anons)))
+            subst (λ r. IsRmapNext r s.world command reply.answer
+            (rmap_of (state_after s p now on (after_all s.ledger events) (free_of (view new)) new.anons)))
             (sym silent) (next-plain (rmap_of s) s.world command reply.answer _ plain
             (record { areas = areas_next; anons = are_left d old s keeps new.spaces new.anons stay (with_at p on s.areas) areas; homes = refl }));
         shows = shows;
@@ -328,14 +340,17 @@ lived {d} k s p keeps alive rest = ap (λ b. cond (not b) (Some Esrch) rest) (sy
 
 pub munmap-refused : {d : Device} (k : Mem) (s : State) (p a len : ℕ) → Keeps d k s → is_some (areas_of k.spaces.processes p) ≡ true →
     (not (is_on_page a) || len == 0 || nat_lt top (a + len)) ≡ true → refusal (tests (setting_by d k) s.world s.ledger (Munmap p a len)) ≡ Some Einval
-munmap-refused {d} k s p a len keeps alive none = lived k s p keeps alive (cond (not (is_on_page a) || len == 0 || nat_lt top (a + len)) (Some Einval) None)
+munmap-refused {d} k s p a len keeps alive none =
+    lived k s p keeps alive (cond (not (is_on_page a) || len == 0 || nat_lt top (a + len)) (Some Einval) None)
     ∙ ap (λ b. cond b (Some Einval) None) none
 
-pub mprotect-refused : {d : Device} (k : Mem) (s : State) (p a len : ℕ) (prot : Prot) (error : Errno) → Keeps d k s → is_some (areas_of k.spaces.processes p) ≡ true →
+pub mprotect-refused : {d : Device} (k : Mem) (s : State) (p a len : ℕ) (prot : Prot) (error : Errno) → Keeps d k s
+    → is_some (areas_of k.spaces.processes p) ≡ true →
     refusal (protect_tests a len) ≡ Some error → refusal (tests (setting_by d k) s.world s.ledger (Mprotect p a len prot)) ≡ Some error
 mprotect-refused {d} k s p a len prot error keeps alive is = lived k s p keeps alive (refusal (protect_tests a len)) ∙ is
 
-module _ {d : Device} (k : Mem) (s : State) (p len : ℕ) (prot : Prot) (place : Place) (keeps : Keeps d k s) (alive : is_some (areas_of k.spaces.processes p) ≡ true) where
+module _ {d : Device} (k : Mem) (s : State) (p len : ℕ) (prot : Prot) (place : Place) (keeps : Keeps d k s)
+    (alive : is_some (areas_of k.spaces.processes p) ≡ true) where
   pub mmap-tests-first : (len == 0) ≡ true → refusal (tests (setting_by d k) s.world s.ledger (Mmap p len prot place)) ≡ Some Einval
   mmap-tests-first none = lived k s p keeps alive _ ∙ ap (λ b. cond b (Some Einval)
       (cond (is_too_long len) (Some Enomem) (refusal (place_tests (pages s.world p) (pages_of len) place)))) none
@@ -351,7 +366,8 @@ module _ {d : Device} (k : Mem) (s : State) (p len : ℕ) (prot : Prot) (place :
 module _ {d : Device} (old new : Mem) (s : State) (p a len : ℕ) (keeps : Keeps d old s) (alive : is_some (ranges_of old.spaces.processes p) ≡ true)
     (valid : (not (is_on_page a) || len == 0 || nat_lt top (a + len)) ≡ false)
     (same_count : frame_count new ≡ frame_count old) (before notes : List Note)
-    (unmapped : AreUnmapped d old new p (page_of a) (pages_of len) (after_unmap (page_of a) (page_of a + pages_of len) (areas_on old.spaces.processes p)) s.ledger
+    (unmapped : AreUnmapped d old new p (page_of a) (pages_of len)
+    (after_unmap (page_of a) (page_of a + pages_of len) (areas_on old.spaces.processes p)) s.ledger
     (zaps_of s.ledger (keys_in s.ledger p (page_of a) (pages_of len))) before notes) where
   abbrev munmap_events : List Event
   munmap_events = zaps_of s.ledger (keys_in s.ledger p (page_of a) (pages_of len))
@@ -380,7 +396,8 @@ module _ {d : Device} (old new : Mem) (s : State) (p a len : ℕ) (keeps : Keeps
 
 -- ---- mmap
 
-module _ {d : Device} (old : Mem) (s : State) (p len : ℕ) (prot : Prot) (place : Place) (keeps : Keeps d old s) (alive : is_some (ranges_of old.spaces.processes p) ≡ true)
+module _ {d : Device} (old : Mem) (s : State) (p len : ℕ) (prot : Prot) (place : Place) (keeps : Keeps d old s)
+    (alive : is_some (ranges_of old.spaces.processes p) ≡ true)
     (some : (len == 0) ≡ false) (fits : is_too_long len ≡ false) where
   -- the tests of its place are left
   mmap-tests : refusal (tests (setting_by d old) s.world s.ledger (Mmap p len prot place)) ≡ refusal
@@ -448,13 +465,15 @@ module _ {d : Device} (old : Mem) (s : State) (p len : ℕ) (prot : Prot) (place
       (clear : AreToUnmap (is_taken old.spaces.processes p) page (pages_of len) place)
       (same_count : frame_count mid ≡ frame_count old) (before notes : List Note) (unmapped : AreUnmapped d old mid p page (pages_of len)
       (with_room (pages_of len) place (areas_on old.spaces.processes p)) s.ledger (zaps_for_place s.ledger p (pages_of len) place) before notes)
-      (given : GetsProts mid.spaces.processes spaces.processes p (set_on page (pages_of len) (Some prot) (prot_of (ranges_of mid.spaces.processes p))))
+      (given : GetsProts mid.spaces.processes spaces.processes p
+      (set_on page (pages_of len) (Some prot) (prot_of (ranges_of mid.spaces.processes p))))
       (areas : GetsAreas mid.spaces.processes spaces.processes p (after_map (lengths mid.spaces.areas mid.anons) p page (page + pages_of len) prot
       (areas_on mid.spaces.processes p)))
       (stay : AnonsStay mid.spaces mid.anons spaces anons) (given_homes : HomesStay mid.spaces.processes spaces.processes p page (pages_of len)) where
     alike : (q : ℕ) → after_map (lengths mid.spaces.areas mid.anons) p page (page + pages_of len) prot (areas_on mid.spaces.processes p) q ≡ after_map
         (chain_length s.anons) p page (page + pages_of len) prot (areas_on mid.spaces.processes p) q
-    alike = map_alike (lengths mid.spaces.areas mid.anons) (chain_length s.anons) p page (page + pages_of len) prot (areas_on mid.spaces.processes p) refl
+    alike = map_alike (lengths mid.spaces.areas mid.anons) (chain_length s.anons) p page (page + pages_of len) prot
+        (areas_on mid.spaces.processes p) refl
         (lengths_alike d old s keeps mid.spaces mid.anons unmapped.anons p)
 
     pub mmap-steps : StepsBeside d old (moved_on mid mid.tables spaces anons) s (Mmap p len prot place)
@@ -473,8 +492,10 @@ module _ {d : Device} (old : Mem) (s : State) (p len : ℕ) (prot : Prot) (place
         (twice_changed old.spaces.processes mid.spaces.processes spaces.processes p page (pages_of len) None (Some prot) unmapped.spaces given)
         (areas_so old (moved_on mid mid.tables spaces anons) s p (λ on. after_map (chain_length s.anons) p page (page + pages_of len) prot
         (with_room (pages_of len) place on)) keeps
-        (twice_placed old.spaces.processes mid.spaces.processes spaces.processes p (after_map (chain_length s.anons) p page (page + pages_of len) prot)
-        (with_room (pages_of len) place (areas_on old.spaces.processes p)) unmapped.areas (re_areas mid.spaces.processes spaces.processes p _ _ alike areas)))
+        (twice_placed old.spaces.processes mid.spaces.processes spaces.processes p
+        (after_map (chain_length s.anons) p page (page + pages_of len) prot)
+        (with_room (pages_of len) place (areas_on old.spaces.processes p)) unmapped.areas
+        (re_areas mid.spaces.processes spaces.processes p _ _ alike areas)))
         (stay_both old.spaces mid.spaces spaces old.anons mid.anons anons unmapped.anons stay) unmapped.processes unmapped.bytes unmapped.homes
         (λ at home outside is. given_homes at home outside (unmapped.stay at home outside is))
         (place-silent s.ledger p (pages_of len) place (rmap_of s))
@@ -539,12 +560,14 @@ module _ {d : Device} (old : Mem) (spaces : AllSpaces) (anons : AnonSet) (s : St
       there None e = cc
       there (Some x) e = refl
 
-      by : (b : Bool) → within (page_of a) (reached - page_of a) page ≡ b → cond b (Some prot) (prot_of (ranges_of old.spaces.processes p) page) ≡ option_map
+      by : (b : Bool) → within (page_of a) (reached - page_of a) page ≡ b
+          → cond b (Some prot) (prot_of (ranges_of old.spaces.processes p) page) ≡ option_map
           (λ (x : Page). x.prot) (cond b (option_map (with_prot prot) (pages s.world p page)) (pages s.world p page))
       by true e =
           let low : page_of a ≤ page = grind (arith, nat_tests, e) in
           let high : page < page_of a + (reached - page_of a) = grind (arith, nat_tests, e) in
-          there (pages s.world p page) (sym (taken_is old s p keeps page) ∙ reaches.all page low (let least = reaches.lowest in omega (arith, high, least)))
+          there (pages s.world p page)
+          (sym (taken_is old s p keeps page) ∙ reaches.all page low (let least = reaches.lowest in omega (arith, high, least)))
       by false e = keeps.stands.parts.areas.covers p page
 
   kept-protected : (page : ℕ) → IsKept (view old) d s.ledger (entry s.ledger (p, page))
@@ -591,7 +614,8 @@ module _ {d : Device} (old : Mem) (spaces : AllSpaces) (anons : AnonSet) (s : St
           ∙ changed_alike page ∙ (λ i. pages_changed (chain_length s.anons) (to_prot prot) (page_of a) (reached - page_of a)
           (λ o. keeps.stands.areas p o i) page)
 
-  protected-steps : (answer : Answer) → answer ≡ (cond (pages_to_hole (pages s.world p) (page_of a) (pages_of len) == pages_of len) Done (Refused Enomem))
+  protected-steps : (answer : Answer)
+      → answer ≡ (cond (pages_to_hole (pages s.world p) (page_of a) (pages_of len) == pages_of len) Done (Refused Enomem))
       → set_process s.world p (with_prot_on (pages s.world p) (page_of a) (reached - page_of a) prot) ≡ next s.world (Mprotect p a len prot) answer
       → with_at p (pages_changed (chain_length s.anons) (to_prot prot) (page_of a) (reached - page_of a) (s.areas p)) s.areas ≡ next_areas
       (chain_length s.anons) s.areas s.world (Mprotect p a len prot) answer
@@ -603,7 +627,8 @@ module _ {d : Device} (old : Mem) (spaces : AllSpaces) (anons : AnonSet) (s : St
       (re_areas old.spaces.processes spaces.processes p _ _ changed_alike areas) in
       changed old new s (Mprotect p a len prot) (answer_only answer) p now
       (pages_changed (chain_length s.anons) (to_prot prot) (page_of a) (reached - page_of a) (s.areas p)) s.ledger keeps stay refl
-      (swap_alike old old old new refl refl (swap_itself old)) (stays_orderly d old old.tables spaces anons s.ledger refl (orderly old s keeps)) refl refl
+      (swap_alike old old old new refl refl (swap_itself old))
+      (stays_orderly d old old.tables spaces anons s.ledger refl (orderly old s keeps)) refl refl
       (λ q page other. refl) (cached-itself s.ledger) kept-protected (reach_of old s keeps) (λ page home there is. home_protected page home is)
       (record {
         events = [];
@@ -626,7 +651,8 @@ module _ {d : Device} (old : Mem) (spaces : AllSpaces) (anons : AnonSet) (s : St
       alive given covered-protected refl)
 
   -- all pages were mapped
-  pub mprotect-steps : page_of a + pages_of len ≤ reached → StepsBeside d old (moved_on old old.tables spaces anons) s (Mprotect p a len prot) (answer_only Done)
+  pub mprotect-steps : page_of a + pages_of len ≤ reached
+      → StepsBeside d old (moved_on old old.tables spaces anons) s (Mprotect p a len prot) (answer_only Done)
   mprotect-steps whole =
       let high = reaches.highest in
       let size : reached - page_of a ≡ pages_of len = omega (arith, whole, high) in

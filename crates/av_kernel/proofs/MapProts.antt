@@ -79,7 +79,8 @@ prots_protected on from to past prot new reached is page =
     there (Some area) h = refl
 
     by : (b : Bool) → within from (past - from) page ≡ b
-        → option_map prot_mapped (cond b (option_map (mapping_with (to_prot prot)) (mapping on page)) (mapping on page)) ≡ cond b (Some prot) (prots_on on page)
+        → option_map prot_mapped (cond b (option_map (mapping_with (to_prot prot)) (mapping on page)) (mapping on page)) ≡ cond b (Some prot)
+        (prots_on on page)
     by true e = there (on page) (reached.all page (lower from (past - from) page e) (upper from past page e))
     by false e = sym (prots_mapped on page)
 
@@ -95,7 +96,8 @@ prots_placed len p on from n prot new laid some low high free is page =
     ap (option_map (mapping_in page)) (is page)
     ∙ around_maps len from (from + n) (with_area fresh on) (laid_fresh p from (from + n) prot on (omega arith) room laid) page
     ∙ placed_maps fresh on page
-    ∙ ap (λ b. cond b (Some (mapping_in page fresh)) (mapping on page)) (fresh_has p from (from + n) prot page ∙ ap (λ k. within from k page) (many from n))
+    ∙ ap (λ b. cond b (Some (mapping_in page fresh)) (mapping on page))
+    (fresh_has p from (from + n) prot page ∙ ap (λ k. within from k page) (many from n))
     )
     ∙ elim (within from n page) as (λ b. option_map prot_mapped (cond b (Some (mapping_in page fresh)) (mapping on page)) ≡ cond b
     (Some prot) (prots_on on page)) [
@@ -135,12 +137,14 @@ as_ranges s p from n page prot = ap (cond (within from n page) prot) (sym (prots
 
 pub unmapped-prots : (s t : Spaces) (p from n : ℕ) → IsChanged s t p (AreThese (after_unmap from (from + n) (pages_of s p))) →
     GetsProts s t p (set_on from n None (prot_of (ranges_of s p)))
-unmapped-prots s t p from n h = has_prots s t p (AreThese (after_unmap from (from + n) (pages_of s p))) (set_on from n None (prot_of (ranges_of s p))) h
+unmapped-prots s t p from n h =
+    has_prots s t p (AreThese (after_unmap from (from + n) (pages_of s p))) (set_on from n None (prot_of (ranges_of s p))) h
     (λ page. prots_split (pages_of s p) from n (pages_of t p) (laid s p h.were_rising) h.pages page ∙ as_ranges s p from n page None)
 
 pub mapped-prots : (len : Lengths) (s t : Spaces) (p from n : ℕ) (prot : Prot) → 1 ≤ n → low_page ≤ from → from + n ≤ top_page →
     IsFree (is_taken s p) from (from + n)
-    → IsChanged s t p (AreThese (after_map len p from (from + n) prot (pages_of s p))) → GetsProts s t p (set_on from n (Some prot) (prot_of (ranges_of s p)))
+    → IsChanged s t p (AreThese (after_map len p from (from + n) prot (pages_of s p)))
+    → GetsProts s t p (set_on from n (Some prot) (prot_of (ranges_of s p)))
 mapped-prots len s t p from n prot some low high free h = has_prots s t p (AreThese (after_map len p from (from + n) prot (pages_of s p)))
     (set_on from n (Some prot) (prot_of (ranges_of s p))) h
     (λ page. prots_placed len p (pages_of s p) from n prot (pages_of t p) (laid s p h.were_rising) some low high free h.pages page
@@ -150,7 +154,8 @@ pub protected-prots : (len : Lengths) (s t : Spaces) (p from to past : ℕ) (pro
     IsChanged s t p (AreThese (pages_changed len (to_prot prot) from (past - from) (pages_of s p))) →
     IsRemapped from past (to_prot prot) (pages_of s p) (pages_of t p)
     → GetsProts s t p (set_on from (past - from) (Some prot) (prot_of (ranges_of s p)))
-protected-prots len s t p from to past prot reached h remap = has_prots s t p (AreThese (pages_changed len (to_prot prot) from (past - from) (pages_of s p)))
+protected-prots len s t p from to past prot reached h remap =
+    has_prots s t p (AreThese (pages_changed len (to_prot prot) from (past - from) (pages_of s p)))
     (set_on from (past - from) (Some prot) (prot_of (ranges_of s p))) h
     (λ page. prots_protected (pages_of s p) from to past prot (pages_of t p) reached remap page ∙ as_ranges s p from (past - from) page (Some prot))
 

@@ -128,7 +128,8 @@ module _ {old : Mem} {p a olen nlen n m : ℕ} {mode : Mode} {to : ℕ} (go : Go
   steps_by {d} s keeps before notes small gone new same remap done rest =
       let left = prot_left mode (pages s.world p) from in
       let long = chain_length s.anons in
-      of_pages (λ n m. StepsBeside d old new s (Mremap p a olen nlen mode) (noted (MapAt (address_of to)) (notes_of (remap_events s.ledger p from n to m))))
+      of_pages (λ n m. StepsBeside d old new s (Mremap p a olen nlen mode)
+      (noted (MapAt (address_of to)) (notes_of (remap_events s.ledger p from n to m))))
       (remaps keeps (may_by go.passes s keeps) to go.passes.alive (goes_by s keeps) go.passes.laid
       (both_are (λ n m. StaySmall old.spaces.processes p from n m) go.as_old go.as_new small) gone.spaces gone.anons
       (subst (λ g. HasRemap old g p (after_mremap long p from (pages_of olen) to (pages_of nlen) left (s.areas p))) same

@@ -16,7 +16,7 @@ use Rattle.av_trace.specs.declared.reply.Reply.{Reply}
 use Rattle.av_trace.specs.declared.reply.Answer.{Answer}
 use Rattle.av_trace.specs.declared.reply.Answer.TheVariants.{MapAt}
 use Rattle.av_vma.specs.declared.area.Area.{Area}
-use Rattle.av_vma.specs.Join.{index_of}
+use Rattle.av_vma.specs.Index.{index_of}
 use Rattle.av_vma.specs.Mremap.{IsGrowth, IsMove}
 use Rattle.av_vma.specs.Pages.{AreLaid, Pages}
 use Rattle.av_vma.proofs.Laid.{has_parts}
@@ -27,7 +27,7 @@ use Rattle.av_spaces.specs.Spaces.{AllSpaces, areas_of, is_taken, pages_of as ar
 use Rattle.av_plain.specs.Device.{Device}
 use Rattle.av_plain.specs.Areas.{chain_length, rmap_after_all}
 use Rattle.av_plain.specs.Choice.{ChoosesAll}
-use Rattle.av_plain.specs.Event.{Event, Moved, after_all, notes_of}
+use Rattle.av_plain.specs.Event.{Event, EntriesMoved, after_all, notes_of}
 use Rattle.av_plain.specs.Fork.{IsRmapNext}
 use Rattle.av_plain.specs.Ledger.{Entry, Ledger, entry, key_cmp}
 use Rattle.av_plain.specs.Mremap.{MovesTo, after_mremap, have_one_prot, is_in_place, prot_at, prot_left, range_zaps, remap_events, process_after_mremap}
@@ -64,7 +64,8 @@ use Rattle.av_kernel.proofs.StepLaws.{is_number, moved_on, noted, stays_orderly,
 use Rattle.av_kernel.proofs.Loads.{world_as}
 use Rattle.av_plain.proofs.Load.{events_to-load_nothing}
 
-module _ {d : Device} {old : Mem} {s : State} (keeps : Keeps d old s) {p a olen nlen : ℕ} {mode : Mode} (may : MayRemap s.world p a olen nlen mode) (to : ℕ)
+module _ {d : Device} {old : Mem} {s : State} (keeps : Keeps d old s) {p a olen nlen : ℕ} {mode : Mode}
+    (may : MayRemap s.world p a olen nlen mode) (to : ℕ)
     (alive : is_some (areas_of old.spaces.processes p) ≡ true)
     (goes : MovesTo (pages s.world p) (page_of a) (pages_of olen) (pages_of nlen) mode (Some to))
     (laid : AreLaid (areas_on old.spaces.processes p)) where
@@ -143,7 +144,8 @@ module _ {d : Device} {old : Mem} {s : State} (keeps : Keeps d old s) {p a olen 
 
   module _ (small : StaySmall old.spaces.processes p from n m) where
     -- linear indices stay small
-    small_on : ((to == from) ≡ false) ⊎ (n < m) → IsSomeAnd (on (from + min n m - 1)) (λ area. index_of area (from + min n m - 1) + (m - min n m) < 2 ^ 60)
+    small_on : ((to == from) ≡ false) ⊎ (n < m)
+        → IsSomeAnd (on (from + min n m - 1)) (λ area. index_of area (from + min n m - 1) + (m - min n m) < 2 ^ 60)
     small_on which = elim (cases_lt n m) [
       | inl more ↦
           let least : n ≡ min n m = omega (arith, more) in
@@ -254,10 +256,12 @@ module _ {d : Device} {old : Mem} {s : State} (keeps : Keeps d old s) {p a olen 
           target = then_target s.ledger p from n to m
 
           by : (b : Bool) → rmap_after_all s.ledger (cond b (range_zaps s.ledger p (from + m) (n - m))
-              ((range_zaps s.ledger p to m ++ range_zaps target p (from + m) (n - m)) ++ Moved p (min n m) from to ∷ [])) (rmap_of s) ≡ rmap_of s
+              ((range_zaps s.ledger p to m ++ range_zaps target p (from + m) (n - m)) ++ EntriesMoved p (min n m) from to ∷ []))
+              (rmap_of s) ≡ rmap_of s
           by true = rmap_after_all-zaps s.ledger (keys_in s.ledger p (from + m) (n - m)) s.ledger (rmap_of s)
           by false =
-              rmap_after_all-append s.ledger (range_zaps s.ledger p to m ++ range_zaps target p (from + m) (n - m)) (Moved p (min n m) from to ∷ []) (rmap_of s)
+              rmap_after_all-append s.ledger (range_zaps s.ledger p to m ++ range_zaps target p (from + m) (n - m))
+              (EntriesMoved p (min n m) from to ∷ []) (rmap_of s)
               ∙ rmap_after_all-append s.ledger (range_zaps s.ledger p to m) (range_zaps target p (from + m) (n - m)) (rmap_of s)
               ∙ rmap_after_all-zaps target (keys_in target p (from + m) (n - m)) (after_all s.ledger (range_zaps s.ledger p to m))
               (rmap_after_all s.ledger (range_zaps s.ledger p to m) (rmap_of s))
@@ -270,7 +274,8 @@ module _ {d : Device} {old : Mem} {s : State} (keeps : Keeps d old s) {p a olen 
       page_now k page = pages-set s.world p now k page ∙ ap (λ b. cond b (now page) (pages s.world k page)) (at_number k p)
 
       -- the areas have the protections of the pages
-      prot_now : (k page : ℕ) → option_map area_prot (next.areas k page) ≡ option_map (λ (x : Page). x.prot) (cond (k == p) (now page) (pages s.world k page))
+      prot_now : (k page : ℕ)
+          → option_map area_prot (next.areas k page) ≡ option_map (λ (x : Page). x.prot) (cond (k == p) (now page) (pages s.world k page))
       prot_now k page = by (k == p) refl
         where
           by : (b : Bool) → (k == p) ≡ b → option_map area_prot ((cond b now_on (s.areas k)) page)
@@ -318,14 +323,16 @@ module _ {d : Device} {old : Mem} {s : State} (keeps : Keeps d old s) {p a olen 
       no_entry : (page : ℕ) → is_some (on page) ≡ false → entry s.ledger (p, page) ≡ None
       no_entry page free = by (entry s.ledger (p, page)) refl
         where
-          unmapped : (o : Option Area) (x : Option Page) → is_some o ≡ false → option_map area_prot o ≡ option_map (λ (x : Page). x.prot) x → is_some x ≡ false
+          unmapped : (o : Option Area) (x : Option Page) → is_some o ≡ false → option_map area_prot o ≡ option_map (λ (x : Page). x.prot) x
+              → is_some x ≡ false
           unmapped None None h e = refl
           unmapped None (Some x) h e = cc
           unmapped (Some area) x h e = cc
 
           by : (e : Option Entry) → entry s.ledger (p, page) ≡ e → e ≡ None
           by None is = refl
-          by (Some e) is = absurd (false≢true (sym (unmapped (on page) (q page) free (same_prots page)) ∙ keeps.stands.sound.at_pages p page (ap is_some is)))
+          by (Some e) is = absurd
+              (false≢true (sym (unmapped (on page) (q page) free (same_prots page)) ∙ keeps.stands.sound.at_pages p page (ap is_some is)))
 
       in_order : T (is_sorted key_cmp s.ledger.entries)
       in_order = keeps.stands.sound.ledger.in_order
@@ -340,14 +347,17 @@ module _ {d : Device} {old : Mem} {s : State} (keeps : Keeps d old s) {p a olen 
             emptied page (prot_at q from) (grew s.ledger p from n to m in_order there (becomes_on.moves there).apart page e g)
             (from_zeros q from n to m left page e g)
         kept_there there false true k e f g =
-            emptied page left (has_left s.ledger p from n to m in_order there (becomes_on.moves there).apart page e f) (from_left q from n to m left page e f)
+            emptied page left (has_left s.ledger p from n to m in_order there (becomes_on.moves there).apart page e f)
+            (from_left q from n to m left page e f)
         kept_there there false false k e f g =
-            carried page page (stays s.ledger p from n to m in_order there (becomes_on.moves there).apart page e f) (from_itself q from n to m left page e f)
+            carried page page (stays s.ledger p from n to m in_order there (becomes_on.moves there).apart page e f)
+            (from_itself q from n to m left page e f)
 
         kept_here : (to == from) ≡ true → (i j k : Bool) → within to m page ≡ i → within from n page ≡ j → nat_lt (page - to) n ≡ k
             → IsKeptAt page
         kept_here here true j true e f g =
-            carried page page (here_stays s.ledger p from n to m in_order here page (not_past e)) (from_old q from n to m left page e g ∙ ap q (back e))
+            carried page page (here_stays s.ledger p from n to m in_order here page (not_past e))
+            (from_old q from n to m left page e g ∙ ap q (back e))
           where
             back : within to m page ≡ true → from + (page - to) ≡ page
             back e = let b = range_bounds to m page e in let same = is_number to from here in omega arith

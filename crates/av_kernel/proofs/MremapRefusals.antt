@@ -74,7 +74,8 @@ module _ (old : Mem) (p a olen nlen : ℕ) (mode : Mode) where
       keeps = keeps;
     }
 
-    pub no_room_does : (error : Errno) → ((q : Process) → HaveProtsOf (areas_on old.spaces.processes p) q → refusal (mremap_tests q a olen nlen mode) ≡ None)
+    pub no_room_does : (error : Errno)
+        → ((q : Process) → HaveProtsOf (areas_on old.spaces.processes p) q → refusal (mremap_tests q a olen nlen mode) ≡ None)
         → ((q : Process) → HaveProtsOf (areas_on old.spaces.processes p) q → IsTarget q (page_of a) (pages_of olen) (pages_of nlen) mode (Err error))
         → DoesBeside old old command (Err (refusals.Refused error))
     no_room_does error passed none = record {

@@ -36,7 +36,7 @@ use Rattle.av_kernel.specs.Access.{causes_of_access}
 use Rattle.av_kernel.specs.Page.{IsPageRead, IsPageStep, ShowsPiece, world_after}
 use Rattle.av_kernel.proofs.PageWritten.{MayWrite, areas-now, at_pages-now, held-now, stored, stored_is, tidy-now, used_twice}
 
--- ---- what only faults explain
+-- ---- what only failures explain
 
 rose-less : (m n a b : ℕ) → m ≤ n → RoseBy n a b → RoseBy m a b
 rose-less m n a b less h = omega (arith, less, h)
@@ -78,7 +78,7 @@ module _ {d d' : Device} (s : State) (p page at : ℕ) (piece : List ℕ) (befor
   unwritten : (new : Mem) (write : Bool) (added : List Note) (end : Option Stop) → now ≡ before ++ added
       → Touches (setting_by d new) s.world s.ledger write (p, page) added (option_map stop_of end)
       → IsServed d d' s new (page_events write (p, page) added (option_map stop_of end))
-      → ((w : World) → w ≡ world_after write p page at piece end w) → RoseBy (causes_of_access added end) d.faults d'.faults
+      → ((w : World) → w ≡ world_after write p page at piece end w) → RoseBy (causes_of_access added end) d.failures d'.failures
       → IsPageStep d d' s new write p page at piece before now end
   unwritten new write added end notes touches served stored rose =
       let events = page_events write (p, page) added (option_map stop_of end) in
@@ -95,14 +95,14 @@ module _ {d d' : Device} (s : State) (p page at : ℕ) (piece : List ℕ) (befor
         keeps = serves-keeps d' new w (rmap_after_all s.ledger events (rmap_of s)) (after_all s.ledger events)
             (subst (λ m. IsSound m (after_all s.ledger events)) (sym (setting_same (frame_count new) d d' same)) served.sound) served.serves;
         same = same;
-        faults = rose;
+        failures = rose;
       }
 
   -- it was not served
   pub stopped : (new : Mem) (write : Bool) (stop : Stop) → IsTouched d d' s new write (p, page) before now (Stopped stop)
       → IsPageStep d d' s new write p page at piece before now (Some stop)
   stopped new write stop t = unwritten new write t.added (Some stop) t.notes t.touches t.served (still write)
-      (rose-stopped t.added stop d.faults d'.faults t.failed t.faults)
+      (rose-stopped t.added stop d.failures d'.failures t.failed t.failures)
     where
       still : (write : Bool) (w : World) → w ≡ world_after write p page at piece (Some stop) w
       still true w = refl
@@ -115,11 +115,12 @@ loaded d s new p page added = with_loads (setting_by d new) s.world s.ledger (pa
 -- it was served to a read, which shows what the page claims then
 pub read_served : {d d' : Device} (s : State) (new : Mem) (p page at n : ℕ) (before now : List Note) (shown shown' : List ℕ) → IsSameDevice d d'
     → (added : List Note) → now ≡ before ++ added → Touches (setting_by d new) s.world s.ledger false (p, page) added None
-    → IsServed d d' s new (page_events false (p, page) added None) → RoseBy (fails added + 0) d.faults d'.faults
+    → IsServed d d' s new (page_events false (p, page) added None) → RoseBy (fails added + 0) d.failures d'.failures
     → ShowsPiece (loaded d s new p page added) p page at n shown shown' None → IsPageRead d d' s new p page at n before now shown shown' None
 unfolding unwritten
-read_served {d} {d'} s new p page at n before now shown shown' same added notes touches served faults shows = record {
-  step = unwritten s p page at [] before now same new false added None notes touches served (λ w. refl) (rose-served added d.faults d'.faults faults);
+read_served {d} {d'} s new p page at n before now shown shown' same added notes touches served failures shows = record {
+  step = unwritten s p page at [] before now same new false added None notes touches served (λ w. refl)
+      (rose-served added d.failures d'.failures failures);
   shows = shows;
 }
 
@@ -211,14 +212,13 @@ module _ {d d' : Device} (s : State) (p page at : ℕ) (piece : List ℕ) (befor
           fit = serves.fit;
           swap = record {
             frames = stands.room;
-            one_priority = serves.swap.one_priority;
             closed = serves.swap.closed;
             on_device = serves.swap.on_device;
             by_headers = serves.swap.by_headers;
           };
         });
         same = same;
-        faults = rose-served t.added d.faults d'.faults t.faults;
+        failures = rose-served t.added d.failures d'.failures t.failures;
       }
     where
       used_is : after_all s.ledger (page_events true (p, page) t.added None) ≡ after_use true (p, page) (after_notes s.ledger t.added)

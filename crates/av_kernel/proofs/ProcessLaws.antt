@@ -146,7 +146,8 @@ module _ {d : Device} (old : Mem) (tables : ProcessTables) (spaces : AllSpaces) 
         ∙ sym (length-set_new s.world p no_pages keeps.stands.sound.world.in_order dead_before);
     apart = all_apart spaces.processes spawned.rising;
     covers = λ q page. ap (λ o. prot_of o page) (ranges_spawned old.spaces.processes spaces.processes p spawned q) ∙ by q page (q == p)
-        ∙ sym (ap (option_map (λ (x : Page). x.prot)) (pages-set s.world p no_pages q page ∙ ap (λ b. cond b None (pages s.world q page)) (at_number q p)));
+        ∙ sym (ap (option_map (λ (x : Page). x.prot))
+        (pages-set s.world p no_pages q page ∙ ap (λ b. cond b None (pages s.world q page)) (at_number q p)));
   }
     where
       by : (q page : ℕ) (b : Bool) → prot_of (cond b (Some []) (ranges_of old.spaces.processes q)) page ≡ option_map (λ (x : Page). x.prot)
@@ -155,7 +156,8 @@ module _ {d : Device} (old : Mem) (tables : ProcessTables) (spaces : AllSpaces) 
       by q page false = keeps.stands.parts.areas.covers q page
 
   spawn-tables : HasTables (moved_on old tables spaces old.anons)
-  spawn-tables q = ap (λ (h : ℕ → Bool). h q) processes ∙ by (q == p) ∙ sym (ap is_some (ranges_spawned old.spaces.processes spaces.processes p spawned q))
+  spawn-tables q = ap (λ (h : ℕ → Bool). h q) processes ∙ by (q == p)
+      ∙ sym (ap is_some (ranges_spawned old.spaces.processes spaces.processes p spawned q))
     where
       by : (b : Bool) → cond b true (has old.tables q) ≡ is_some (cond b (Some []) (ranges_of old.spaces.processes q))
       by true = refl
@@ -167,7 +169,8 @@ module _ {d : Device} (old : Mem) (tables : ProcessTables) (spaces : AllSpaces) 
 
   pub spawned-steps : StepsBeside d old (moved_on old tables spaces old.anons) s (Spawn p) (answer_only Done)
   spawned-steps = changed old (moved_on old tables spaces old.anons) s (Spawn p) (answer_only Done) p no_pages none_on s.ledger keeps stay refl
-      (swap_alike old old old (moved_on old tables spaces old.anons) refl refl (swap_itself old)) (stays_orderly d old tables spaces old.anons s.ledger entries (orderly old s keeps))
+      (swap_alike old old old (moved_on old tables spaces old.anons) refl refl (swap_itself old))
+      (stays_orderly d old tables spaces old.anons s.ledger entries (orderly old s keeps))
       refl refl
       (λ q page other. refl) (cached-itself s.ledger) (λ page. kept-nothing d (view old) s.ledger (entry s.ledger (p, page))) (reach_of old s keeps)
       (λ page home there is. absurd (no_entry page there)) spawn-step spawn-on spawn-areas spawn-tables
@@ -271,7 +274,8 @@ module _ {d : Device} (old mid : Mem) (tables : ProcessTables) (spaces : AllSpac
     world = world_as (setting_by d old) s.world s.ledger events (Exit p) Done (zaps-load_nothing s.ledger (keys_of_process s.ledger p));
     ledger = refl;
     free = subst (λ free. ChoosesAll (setting_by d old) None s.ledger events free (free_of (view mid))) keeps.stands.free taken.free;
-    rmap = subst (λ r. AreNext r s.world (Exit p) Done (rmap_of next)) (sym (rmap_after_all-zaps s.ledger (keys_of_process s.ledger p) s.ledger (rmap_of s)))
+    rmap = subst (λ r. AreNext r s.world (Exit p) Done (rmap_of next))
+        (sym (rmap_after_all-zaps s.ledger (keys_of_process s.ledger p) s.ledger (rmap_of s)))
         (record { areas = refl; anons = are_left d old s keeps spaces anons stay (with_at p none_on s.areas) exit-on; homes = refl });
     shows = tt;
   }
@@ -334,7 +338,8 @@ module _ {d : Device} (old mid : Mem) (tables : ProcessTables) (spaces : AllSpac
           (keeps.stands.parts.bytes.kept q page)
 
   has_now : HasTables new
-  has_now q = ap (λ (h : ℕ → Bool). h q) processes ∙ has_as q (q == p) ∙ sym (ap is_some (ranges_ended mid.spaces.processes spaces.processes p ended q))
+  has_now q = ap (λ (h : ℕ → Bool). h q) processes ∙ has_as q (q == p)
+      ∙ sym (ap is_some (ranges_ended mid.spaces.processes spaces.processes p ended q))
     where
       has_as : (q : ℕ) (b : Bool) → cond b false (has mid.tables q) ≡ is_some (cond b None (ranges_of mid.spaces.processes q))
       has_as q true = refl
@@ -348,7 +353,14 @@ module _ {d : Device} (old mid : Mem) (tables : ProcessTables) (spaces : AllSpac
     parts =
         let had = taken.stands.parts in
         record {
-          frames = record { frames = had.frames.frames; maps = had.frames.maps; slots = had.frames.slots; dirty = had.frames.dirty; free = had.frames.free };
+          frames = record {
+            frames = had.frames.frames;
+            maps = had.frames.maps;
+            slots = had.frames.slots;
+            dirty = had.frames.dirty;
+            free =
+                had.frames.free;
+          };
           lists = record { active = had.lists.active; inactive = had.lists.inactive };
           tables = tables_now;
           swap = record { finds = had.swap.finds; counts = had.swap.counts; flight = had.swap.flight; on = had.swap.on };
@@ -367,7 +379,8 @@ module _ {d : Device} (old mid : Mem) (tables : ProcessTables) (spaces : AllSpac
       by false e = is
 
   pub exit-steps : StepsBeside d old new s (Exit p) reply
-  exit-steps = stepped old new s next (Exit p) reply keeps exit-step rest.parts.count (swap_alike old mid old new refl refl rest.parts.swap) stands_now refl
+  exit-steps = stepped old new s next (Exit p) reply keeps exit-step rest.parts.count (swap_alike old mid old new refl refl rest.parts.swap)
+      stands_now refl
       exit-on (anons_stand d old s keeps spaces anons stay (with_at p none_on s.areas) exit-on new refl refl)
       (λ f. ap (λ h. h f) rest.homes ∙ keeps.stands.homes f)
       (reach_after old s keeps spaces anons stay l (with_at p none_on s.areas) exit-on homes_stay

@@ -54,7 +54,7 @@ pub record IsByNotes (command : Command) : Type 0 where
 abbrev pub AsksNotes : Command → Setting → World → Ledger → List Note → Type 0
 AsksNotes command m w l added = Follows m w l command (note_events added) Done []
 
--- the notes alone tell of faults
+-- the notes alone tell of failures
 rose-noted : (n a b : ℕ) → RoseBy n a b → RoseBy (max n 0 + 0) a b
 rose-noted n a b h = omega (arith, h)
 
@@ -93,7 +93,7 @@ module _ (command : Command) (by : IsByNotes command) where
         };
         keeps = kept;
         same = h.done.same;
-        faults = rose-noted (fails now) d.faults d'.faults (subst (λ ns. RoseBy (fails ns) d.faults d'.faults) (sym notes) h.faults);
+        failures = rose-noted (fails now) d.failures d'.failures (subst (λ ns. RoseBy (fails ns) d.failures d'.failures) (sym notes) h.failures);
       }
 
   -- so it does, whatever stood
@@ -104,10 +104,10 @@ module _ (command : Command) (by : IsByNotes command) where
     step = λ s keeps. added-steps d d' old new s before now keeps fresh (h true s.world (rmap_of s) s.ledger (stands-between d old s keeps));
     steady = λ steady.
         let s = steady.1 in
-        let keeps = keeps-whenever d.sizes None steady.0 d.faults old s steady.2 in
+        let keeps = keeps-whenever d.sizes None steady.0 d.failures old s steady.2 in
         let after = added-steps (as_told false d) (as_told false d') old new s before now keeps fresh
         (h false s.world (rmap_of s) s.ledger (stands-between (as_told false d) old s keeps)) in
-        (d'.faults, after.next, subst (λ sizes. Keeps (device_by sizes None d'.faults) new after.next) after.same.sizes after.keeps);
+        (d'.failures, after.next, subst (λ sizes. Keeps (device_by sizes None d'.failures) new after.next) after.same.sizes after.keeps);
     same = same;
     count = count;
   }

@@ -6,7 +6,7 @@ use Rattle.std.specs.Option.{option_map_or}
 use Rattle.av_base.specs.Words.{is_in}
 use Rattle.av_anon.specs.declared.anons.Anons.{Anons as AnonSet}
 use Rattle.av_vma.specs.declared.area.Area.{Area}
-use Rattle.av_vma.specs.Join.{first_of}
+use Rattle.av_vma.specs.Index.{first_of}
 use Rattle.av_vma.specs.Pages.{IsWhole, pages_in}
 use Rattle.av_trace.specs.declared.command.Command.TheVariants.{Areas as AsksAreas}
 use Rattle.av_trace.specs.declared.reply.Answer.TheVariants.{AreaList}
@@ -85,7 +85,8 @@ module _ {d : Device} (k : Mem) (s : State) (p : ℕ) (areas : List Area) (keeps
   on page = ap (λ o. pages_in o page) (sym are) ∙ keeps.stands.areas p page
 
   chains : AllByRecursion (λ (area : Area). chain_by (view k).anons area.anon ≡ chain_by s.anons area.anon) areas
-  chains = all_from (λ (a : Area). pages_in (Some areas) (first_of a) ≡ Some a) (λ (a : Area). chain_by (view k).anons a.anon ≡ chain_by s.anons a.anon)
+  chains = all_from (λ (a : Area). pages_in (Some areas) (first_of a) ≡ Some a)
+      (λ (a : Area). chain_by (view k).anons a.anon ≡ chain_by s.anons a.anon)
       (λ a here. subst (λ o. IfSome o (λ area. chain_by (view k).anons area.anon ≡ chain_by s.anons area.anon)) (sym (on (first_of a)) ∙ here)
       (keeps.stands.anons.chains p (first_of a)))
       areas (on_pages p areas rising)

@@ -33,15 +33,18 @@ use Rattle.av_kernel.proofs.Loads.{world_as}
 pub frame_below : (k : Mem) (p page f : ℕ) (write seen : Bool) → IsSteady k → entry_at k.tables p page ≡ Here f write seen → f < frame_count k
 frame_below k p page f write seen steady is =
     let l = steady.1.ledger in
-    let named : entry l (p, page) ≡ Some (InFrame f seen) = sym (steady.2.stands.parts.ledger.tables.entries p page) ∙ ap (λ t. entry_of (plain t)) is in
+    let named : entry l (p, page) ≡ Some (InFrame f seen) = sym (steady.2.stands.parts.ledger.tables.entries p page)
+    ∙ ap (λ t. entry_of (plain t)) is in
     let some = how_many-found (names_frame f) (p, page) l.entries (InFrame f seen) named (same-itself f) in
     steady.2.stands.sound.ledger.in_range f (omega (arith, some))
 
 -- ---- which pages are mapped
 -- a page is of an area exactly where it is mapped
 
-pub area_there : {d : Device} (k : Mem) (s : State) → Keeps d k s → (p page : ℕ) → is_some (pages_of k.spaces.processes p page) ≡ is_mapped (pages s.world p) page
-area_there {d} k s keeps p page = taken_has k.spaces.processes p page ∙ ap is_some (keeps.stands.parts.areas.covers p page) ∙ mapped_is (pages s.world p page)
+pub area_there : {d : Device} (k : Mem) (s : State) → Keeps d k s → (p page : ℕ)
+    → is_some (pages_of k.spaces.processes p page) ≡ is_mapped (pages s.world p) page
+area_there {d} k s keeps p page = taken_has k.spaces.processes p page ∙ ap is_some (keeps.stands.parts.areas.covers p page)
+    ∙ mapped_is (pages s.world p page)
 
 -- the two tests of a page
 abbrev pub by_tests : Bool → Bool → Option Errno

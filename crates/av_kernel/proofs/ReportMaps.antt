@@ -21,7 +21,8 @@ use Rattle.av_kernel.specs.Step.{StepsBeside}
 use Rattle.av_kernel.proofs.StepLaws.{areas_kept}
 use Rattle.av_kernel.proofs.Loads.{world_as}
 
-module _ {d : Device} (k : Mem) (s : State) (p : ℕ) (areas : List Area) (rows : List Row) (keeps : Keeps d k s) (alive : is_some (areas_of k.spaces.processes p) ≡ true)
+module _ {d : Device} (k : Mem) (s : State) (p : ℕ) (areas : List Area) (rows : List Row) (keeps : Keeps d k s)
+    (alive : is_some (areas_of k.spaces.processes p) ≡ true)
     (are : areas_of k.spaces.processes p ≡ Some areas) (runs : AreRuns (map range_of areas) rows) where
   allowed : refusal (tests (setting_by d k) s.world s.ledger (Maps p)) ≡ None
   allowed = ap (λ b. cond (not b) (Some Esrch) None) (sym (lives_is d k s keeps p) ∙ alive)

@@ -6,7 +6,7 @@ use Rattle.std.proofs.lemmas.List.{append_assoc}
 use Rattle.std.specs.Prelude.{map}
 use Rattle.av_base.specs.declared.prot.Prot.{Prot}
 use Rattle.av_vma.specs.declared.area.Area.{Area}
-use Rattle.av_vma.specs.Join.{first_of, past_of}
+use Rattle.av_vma.specs.Index.{first_of, past_of}
 use Rattle.av_vma.specs.Pages.{IsWhole}
 use Rattle.av_spaces.specs.Spaces.{IsOwn, AreRising}
 use Rattle.av_trace.specs.declared.row.Row.{Row}
@@ -133,7 +133,8 @@ rising_rest p (suc i) (a ∷ areas) h = rising_rest p i areas (own_rest p a area
 -- with the areas to come, these rows and this run make all the rows
 abbrev pub IsLeft : List Row → Area → List Area → List Row → Type 0
 IsLeft rows run areas all =
-    (from : ℕ) × (to : ℕ) × (run.start ≡ 4096 * from) × (run.end ≡ 4096 * to) × (rows ++ joined_rows (range from to run.prot) (map range_of areas) ≡ all)
+    (from : ℕ) × (to : ℕ) × (run.start ≡ 4096 * from) × (run.end ≡ 4096 * to)
+    × (rows ++ joined_rows (range from to run.prot) (map range_of areas) ≡ all)
 
 pub left-first : (p : ℕ) (a : Area) (areas : List Area) → AreRising p (a ∷ areas) → IsLeft [] a areas (all_rows (map range_of (a ∷ areas)))
 left-first p a areas h = let whole = (own_first p a areas h).whole in (first_of a, past_of a, whole.start, whole.end, refl)

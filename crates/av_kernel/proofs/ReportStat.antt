@@ -50,7 +50,8 @@ counts-are {d} k s processes keeps once below number =
       processes = (number ∙ st.parts.areas.number) i;
     }
 
-pub stat-steps : {d : Device} (k : Mem) (s : State) → Keeps d k s → StepsBeside d k k s Stat (answer_only (Counted (totals (setting_by d k) s.world s.ledger)))
+pub stat-steps : {d : Device} (k : Mem) (s : State) → Keeps d k s
+    → StepsBeside d k k s Stat (answer_only (Counted (totals (setting_by d k) s.world s.ledger)))
 stat-steps {d} k s keeps = record {
   next = s;
   step = record {

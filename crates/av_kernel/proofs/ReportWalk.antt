@@ -60,7 +60,8 @@ module _ {d : Device} (k : Mem) (s : State) (p a : ℕ) (keeps : Keeps d k s) (a
       ∙ ap (shown s.ledger) (keeps.stands.parts.ledger.tables.entries p (page_of a)))) shown-steps
 
 -- where the table has no frame there is no walk
-pub none-shown : (l : Ledger) (t : Pte) → (t ≡ Empty) ⊎ ((t ≡ Zero) ⊎ ((slot : Slot) × (t ≡ Away slot))) → answer_only NoWalk ≡ shown l (entry_of (plain t))
+pub none-shown : (l : Ledger) (t : Pte) → (t ≡ Empty) ⊎ ((t ≡ Zero) ⊎ ((slot : Slot) × (t ≡ Away slot)))
+    → answer_only NoWalk ≡ shown l (entry_of (plain t))
 none-shown l t (inl e) = ap (λ t. shown l (entry_of (plain t))) (sym e)
 none-shown l t (inr (inl e)) = ap (λ t. shown l (entry_of (plain t))) (sym e)
 none-shown l t (inr (inr e)) = ap (λ t. shown l (entry_of (plain t))) (sym e.1)

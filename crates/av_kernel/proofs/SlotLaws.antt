@@ -1,15 +1,14 @@
 -- What is shown of a slot is what the ledger has of it; so the reply of `slot` is a step.
-use Rattle.std.proofs.Common.{◌≡◌, ℕ, ◌+◌, ◌<◌, ◌≤◌, ◌==◌, Bool, true, false, cond, not, ◌&&◌, ◌||◌, List, [], ◌∷◌, map, Option, Some, None, is_some, option_map, ◌⊎◌, inl, inr, refl, sym, ap, subst, ◌∙◌, arith}
+use Rattle.std.proofs.Common.{◌≡◌, ℕ, ◌+◌, ◌<◌, ◌≤◌, ◌==◌, Bool, true, false, cond, not, ◌&&◌, ◌||◌, List, [], ◌∷◌, Option, Some, None, is_some, option_map, ◌⊎◌, inl, inr, refl, sym, ap, subst, ◌∙◌, arith}
 use Rattle.std.proofs.lemmas.Bool.Decides.{nat_tests}
 use Rattle.std.specs.FinMap.Entries.{find}
 use Rattle.std.specs.List.{list_any}
 use Rattle.std.specs.Option.{option_map_or}
-use Rattle.std.specs.Ordering.{is_eq, nat_cmp}
 use Rattle.std.specs.Prelude.{IfSome, IsSomeAnd, MatchOption, nat_le, nat_lt, unwrap_or}
 use Rattle.av_base.specs.declared.slot.Slot.{Slot}
 use Rattle.av_clusters.specs.Clusters.{is_taken, page_at}
-use Rattle.av_clusters.specs.declared.Page.{Page}
-use Rattle.av_clusters.specs.declared.Page.TheVariants.{Unusable, Free, Taken}
+use Rattle.av_clusters.specs.declared.clusters.Page.{Page}
+use Rattle.av_clusters.specs.declared.clusters.Page.TheVariants.{Unusable, Free, Taken}
 use Rattle.av_swapcache.specs.Area.{is_slot}
 use Rattle.av_swapcache.specs.Swap.{IsFit, Shown as ShownSwap, count_of, header_at, shown as shown_swap}
 use Rattle.av_swapdev.specs.Header.{Layout}
@@ -20,7 +19,7 @@ use Rattle.av_trace.specs.declared.reply.Errno.{Errno}
 use Rattle.av_trace.specs.declared.reply.Errno.TheVariants.{Einval}
 use Rattle.av_trace.specs.Reply.{answer_only}
 use Rattle.av_plain.specs.Device.{Device, headers_of}
-use Rattle.av_plain.specs.Ledger.{Cached, Ledger, SwapArea, cached_by, is_header_slot, is_on, may_be_slot, same_slot, slot_count}
+use Rattle.av_plain.specs.Ledger.{Cached, Ledger, cached_by, is_header_slot, is_on, may_be_slot, same_slot, slot_count}
 use Rattle.av_plain.specs.Refusal.{Refuses, is_outside, refusal, tests}
 use Rattle.av_plain.specs.Report.{MayBeNoSlot, count_answer, slot_answer}
 use Rattle.av_plain.specs.Stands.{SwapStands}
@@ -28,17 +27,11 @@ use Rattle.av_plain.specs.Step.{Follows}
 use Rattle.av_plain.specs.Transcript.{State}
 use Rattle.av_mem.specs.declared.mem.Mem.{Mem}
 use Rattle.av_swapoff.proofs.CloseLaws.{on-shown}
-use Rattle.av_mem.specs.Mem.{AgreesWith, Keeps, numbers_of, setting_by, view}
+use Rattle.av_mem.specs.Mem.{AgreesWith, Keeps, setting_by, view}
 use Rattle.av_kernel.specs.Step.{StepsBeside}
 use Rattle.av_kernel.specs.Swap.{has_page, page_answer}
 use Rattle.av_kernel.proofs.StepLaws.{refused, rmap_kept}
 use Rattle.av_kernel.proofs.Loads.{world_as}
-
--- ---- which areas are on
-
--- the numbers of a header that a ledger keeps
-abbrev pub area_of : Header → SwapArea
-area_of header = record { slots = header.slots; bad = header.bad }
 
 -- ---- counts
 
@@ -49,7 +42,8 @@ frame-found t [] = refl
 frame-found t (c ∷ cache) = by (same_slot t c.slot) (frame-found t cache)
   where
     by : (b : Bool) → is_some (option_map (λ (c : Cached). c.frame) (cached_by (λ c. same_slot t c.slot) cache))
-        ≡ list_any (λ (c : Cached). same_slot t c.slot) cache → is_some (option_map (λ (c : Cached). c.frame) (cond b (Some c) (cached_by (λ c. same_slot t c.slot) cache)))
+        ≡ list_any (λ (c : Cached). same_slot t c.slot) cache
+        → is_some (option_map (λ (c : Cached). c.frame) (cond b (Some c) (cached_by (λ c. same_slot t c.slot) cache)))
         ≡ (b || list_any (λ (c : Cached). same_slot t c.slot) cache)
     by true h = refl
     by false h = h
@@ -117,12 +111,14 @@ module _ {d : Device} (k : Mem) (s : State) (area page : ℕ) (keeps : Keeps d k
   used_by headers = option_map_or (λ (headers : ℕ → Option Layout). option_map_or (λ (h : Layout). h.pages) (headers area) 0) headers
       (unwrap_or (d.sizes area) 0)
 
-  used-told : (told : ℕ → Option Layout) → headers_of d ≡ Some told → (header : Header) → header_at h area ≡ Some header → used_by (headers_of d) ≡ header.pages
+  used-told : (told : ℕ → Option Layout) → headers_of d ≡ Some told → (header : Header) → header_at h area ≡ Some header
+      → used_by (headers_of d) ≡ header.pages
   used-told told tells header is = let at = told-at told tells header is in
       ap used_by tells ∙ ap (λ (o : Option Layout). option_map_or (λ (h : Layout). h.pages) o 0) at.1 ∙ sym at.2.pages
 
   -- it uses no fewer than are shown
-  used-all : (o : Option (ℕ → Option Layout)) → headers_of d ≡ o → (header : Header) → header_at h area ≡ Some header → header.pages ≤ used_by (headers_of d)
+  used-all : (o : Option (ℕ → Option Layout)) → headers_of d ≡ o → (header : Header) → header_at h area ≡ Some header
+      → header.pages ≤ used_by (headers_of d)
   used-all (Some told) tells header is = subst (λ n. header.pages ≤ n) (sym (used-told told tells header is)) (omega arith)
   used-all None tells header is = subst (λ n. header.pages ≤ n) (sym (ap used_by tells)) (sized (d.sizes area)
       (subst (λ (o : Option Header). IfSome o (λ (a : Header). IsSomeAnd (d.sizes area) (λ n. a.pages ≤ n))) is (keeps.swap.on_device area)))
@@ -150,7 +146,8 @@ module _ {d : Device} (k : Mem) (s : State) (area page : ℕ) (keeps : Keeps d k
         answer = subst (λ o. MatchOption o (Follows (setting_by d k) s.world s.ledger (AsksSlot area page) [] (Refused Einval) [])
             (λ e. Refuses e [] (Refused Einval) []))
             (sym (λ i. by_tests (on-at (Some header) is i) (inside i))) (
-              subst (λ (o : Option (ℕ → Option Layout)). MatchOption o ((Refused Einval ≡ count_answer s.ledger t) ⊎ MayBeNoSlot s.ledger t (Refused Einval))
+              subst (λ (o : Option (ℕ → Option Layout)). MatchOption o
+                  ((Refused Einval ≡ count_answer s.ledger t) ⊎ MayBeNoSlot s.ledger t (Refused Einval))
                   (λ headers. Refused Einval ≡ slot_answer (setting_by d k) s.ledger t)) (sym untold) (inr (unused, inr refl)),
               refl,
               refl,
@@ -188,7 +185,8 @@ module _ {d : Device} (k : Mem) (s : State) (area page : ℕ) (keeps : Keeps d k
           ((ap (λ n. page == 0 || nat_le n page) (used-told told tells header is) ∙ outside-is page header.pages ∙ ap not none) i))
       on None tells header is none = untold tells header is none (is_outside (setting_by d k) t) refl
 
-      by : (o : Option Header) → header_at h area ≡ o → has_page o page ≡ false → StepsBeside d k k s (AsksSlot area page) (answer_only (Refused Einval))
+      by : (o : Option Header) → header_at h area ≡ o → has_page o page ≡ false
+          → StepsBeside d k k s (AsksSlot area page) (answer_only (Refused Einval))
       by None is none = refuse (ap (λ b. by_tests b (is_outside (setting_by d k) t)) (on-at None is))
       by (Some header) is none = on (headers_of d) refl header is none
 
@@ -220,7 +218,8 @@ module _ {d : Device} (k : Mem) (s : State) (area page : ℕ) (keeps : Keeps d k
   pub slot-steps : has_page (header_at h area) page ≡ true → StepsBeside d k k s (AsksSlot area page) (answer_only (page_answer h t))
   slot-steps there = by (header_at h area) refl there
     where
-      by : (o : Option Header) → header_at h area ≡ o → has_page o page ≡ true → StepsBeside d k k s (AsksSlot area page) (answer_only (page_answer h t))
+      by : (o : Option Header) → header_at h area ≡ o → has_page o page ≡ true
+          → StepsBeside d k k s (AsksSlot area page) (answer_only (page_answer h t))
       by None is there = cc
       by (Some header) is there = record {
         next = s;

@@ -4,7 +4,7 @@ use Rattle.std.proofs.lemmas.Bool.Decides.{nat_tests}
 use Rattle.std.proofs.lemmas.Bool.{false≢true}
 use Rattle.std.specs.Ordering.{nat_cmp, eq_by_cmp}
 use Rattle.std.specs.FinMap.Entries.{find}
-use Rattle.std.specs.Prelude.{IfSome, IsSomeAnd, List, MatchOption, IsErr, IsErrAnd, map}
+use Rattle.std.specs.Prelude.{IfSome, IsSomeAnd, List, MatchOption, IsErr, IsErrAnd}
 use Rattle.av_base.specs.declared.prot.Prot.{Prot}
 use Rattle.av_trace.specs.declared.command.Command.{Command}
 use Rattle.av_trace.specs.declared.reply.Errno.{Errno}
@@ -46,7 +46,7 @@ use Rattle.av_mem.specs.declared.mem.Mem.{Mem}
 use Rattle.av_spaces.specs.Spaces.{AllSpaces, areas_of, pages_of as areas_on}
 use Rattle.av_plain.proofs.Transcript.{is_fork, next-plain}
 use Rattle.av_kernel.specs.Map.{GetsProts}
-use Rattle.av_mem.specs.Mem.{anon_vma, ranges_of, setting_by, plain, view, frame_count, numbers_of, HasTables, IsSteady, Keeps, HasLedger, IsSteadyAt}
+use Rattle.av_mem.specs.Mem.{anon_vma, ranges_of, setting_by, plain, view, frame_count, HasTables, IsSteady, Keeps, HasLedger, IsSteadyAt}
 use Rattle.av_mem.specs.Steps.{KeepsSwap}
 use Rattle.av_swapcache.specs.Swap.{shown as shown_swap}
 use Rattle.av_kernel.specs.declared.refusal.Refusal.{Refusal}
@@ -59,6 +59,7 @@ use Rattle.av_plain.proofs.Faultless.{unused-causes}
 use Rattle.av_kernel.proofs.Loads.{world_as}
 use Rattle.av_mem.proofs.KeepsLaws.{fits-kept}
 use Rattle.av_mem.proofs.MemLaws.{alive_is, lives_is}
+use Rattle.av_mem.proofs.SwapAreas.{areas-kept}
 use Rattle.av_kernel.proofs.CacheLeft.{KeepsCached, bytes-left}
 
 at_number : (q p : ℕ) → eq_by_cmp nat_cmp q p ≡ (q == p)
@@ -98,7 +99,8 @@ areas_kept {d} k s command answer keeps stay = record { areas = sym stay; anons 
 pub rmap_kept : {d : Device} (k : Mem) (s : State) (command : Command) (answer : Answer) → is_fork command ≡ false → Keeps d k s →
     next_areas (chain_length s.anons) s.areas s.world command answer ≡ s.areas
     → IsRmapNext (rmap_of s) s.world command answer (rmap_of s)
-rmap_kept {d} k s command answer plain keeps stay = next-plain (rmap_of s) s.world command answer (rmap_of s) plain (areas_kept k s command answer keeps stay)
+rmap_kept {d} k s command answer plain keeps stay =
+    next-plain (rmap_of s) s.world command answer (rmap_of s) plain (areas_kept k s command answer keeps stay)
 
 -- ---- a refusal
 
@@ -142,7 +144,8 @@ wants-by old new command reply (Ok done) is same = absurd is.1
 wants-by old new command reply (Err e) is same = subst (λ e. DoesBeside old new command (Err e)) (sym is.1) (wants old new command same)
 
 pub refuses-by : (old new : Mem) (command : Command) (error : Errno) (reply : Reply) (r : Result (Unit {0}) Refusal) →
-    IsErr r × IsErrAnd r (λ e. e ≡ refusals.Refused error) → DoesBeside old new command (Err (refusals.Refused error)) → DoesBeside old new command (reply_in reply r)
+    IsErr r × IsErrAnd r (λ e. e ≡ refusals.Refused error) → DoesBeside old new command (Err (refusals.Refused error))
+    → DoesBeside old new command (reply_in reply r)
 refuses-by old new command error reply (Ok done) is does = absurd is.1
 refuses-by old new command error reply (Err e) is does = subst (λ e. DoesBeside old new command (Err e)) (sym is.1) does
 
@@ -156,10 +159,10 @@ refuses-as old new command error reply r x is same does = refuses-by old new com
 
 -- a device that stays as it is
 pub same_itself : (d : Device) → IsSameDevice d d
-same_itself d = record { sizes = refl; first = refl; faults = omega arith }
+same_itself d = record { sizes = refl; first = refl; failures = omega arith }
 
 pub same_then : (a b c : Device) → IsSameDevice a b → IsSameDevice b c → IsSameDevice a c
-same_then a b c p q = record { sizes = q.sizes ∙ p.sizes; first = q.first ∙ p.first; faults = omega (arith, p.faults, q.faults) }
+same_then a b c p q = record { sizes = q.sizes ∙ p.sizes; first = q.first ∙ p.first; failures = omega (arith, p.failures, q.failures) }
 
 pub none_rose : (n count : ℕ) → n ≡ 0 → RoseBy n count count
 none_rose n count none = omega (arith, none)
@@ -182,7 +185,7 @@ beside old new command result unused does d = record {
     step = h.step;
     keeps = h.keeps;
     same = same_itself d;
-    faults = none_rose (causes reply) d.faults
+    failures = none_rose (causes reply) d.failures
         (unused-causes (setting_by d old) s.world s.ledger command reply h.step.events unused h.step.legal);
   }) (does.step d s keeps);
   steady = λ steady. let untold = device_by d.sizes None steady.0 in
@@ -203,7 +206,7 @@ refused-over k command error mild is d = record {
     step = h.step;
     keeps = h.keeps;
     same = same_itself d;
-    faults = none_rose (causes (answer_only (Refused error))) d.faults (ap (λ n. max (fails []) 0 + n) mild);
+    failures = none_rose (causes (answer_only (Refused error))) d.failures (ap (λ n. max (fails []) 0 + n) mild);
   };
   steady = λ steady. steady;
   same = same_itself d;
@@ -280,38 +283,41 @@ reach_of {d} k s keeps = record {
   slots = keeps.stands.slots;
 }
 
-pub stepped : {d : Device} (old new : Mem) (s next : State) (command : Command) (reply : Reply) → Keeps d old s → IsStep (setting_by d old) s command reply next →
+pub stepped : {d : Device} (old new : Mem) (s next : State) (command : Command) (reply : Reply) → Keeps d old s
+    → IsStep (setting_by d old) s command reply next →
     frame_count new ≡ frame_count old → KeepsSwap old new → HasLedger d new next.ledger → free_of (view new) ≡ next.free
-    → AreasAre (view new) next.areas → AnonsStand (view new) next.areas next.anons → HomesAre (view new) next.homes → AllCovered next.ledger (rmap_of next) →
+    → AreasAre (view new) next.areas → AnonsStand (view new) next.areas next.anons → HomesAre (view new) next.homes
+    → AllCovered next.ledger (rmap_of next) →
     AnonsFit new.spaces new.anons → AreasStand (view new) next.world → HasTables new → BytesStand (view new) d next.world next.ledger
     → StepsBeside d old new s command reply
-stepped {d} old new s next command reply keeps step same_count swap stands free areas_now anons_now homes_now covered fit areas tables bytes = record {
-  next = next;
-  step = step;
-  keeps = record {
-    stands = record {
-      over = record { sizes = refl; headers = refl };
-      sound = subst (λ n. AllSound (setting_of n d) next.world next.ledger) (sym same_count)
-          (step-sound (setting_by d old) s command reply next keeps.stands.sound step);
-      parts = record { ledger = stands.parts; areas = areas; bytes = bytes; headers = headers };
-      free = free;
-      lists = subst (λ n. ListsAll (setting_of n d) next.ledger next.free) (sym same_count)
-          (step-lists (setting_by d old) s command reply next (setting-layouts (frame_count old) d) keeps.stands.sound keeps.stands.lists step);
-      areas = areas_now;
-      anons = anons_now;
-      homes = homes_now;
-      reach = covered.frames;
-      slots = covered.slots;
-    };
-    lists = stands.lists;
-    tables = tables;
-    anons = fit;
-    swap = fits-kept d None old new swap same_count keeps.swap;
-  };
-}
+stepped {d} old new s next command reply keeps step same_count swap stands free areas_now anons_now homes_now covered fit areas tables
+    bytes = record {
+      next = next;
+      step = step;
+      keeps = record {
+        stands = record {
+          over = record { sizes = refl; headers = refl };
+          sound = subst (λ n. AllSound (setting_of n d) next.world next.ledger) (sym same_count)
+              (step-sound (setting_by d old) s command reply next keeps.stands.sound step);
+          parts = record { ledger = stands.parts; areas = areas; bytes = bytes; headers = headers };
+          free = free;
+          lists = subst (λ n. ListsAll (setting_of n d) next.ledger next.free) (sym same_count)
+              (step-lists (setting_by d old) s command reply next (setting-layouts (frame_count old) d) keeps.stands.sound keeps.stands.lists step);
+          areas = areas_now;
+          anons = anons_now;
+          homes = homes_now;
+          reach = covered.frames;
+          slots = covered.slots;
+        };
+        lists = stands.lists;
+        tables = tables;
+        anons = fit;
+        swap = fits-kept d None old new swap same_count keeps.swap;
+      };
+    }
   where
     same_on : next.ledger.on ≡ s.ledger.on
-    same_on = sym stands.parts.swap.on ∙ ap (map numbers_of) swap.on ∙ keeps.stands.parts.ledger.swap.on
+    same_on = sym stands.parts.swap.on ∙ areas-kept old new swap ∙ keeps.stands.parts.ledger.swap.on
 
     headers : HeadersStand (setting_by d new) next.ledger
     headers k = subst (λ (on : List (ℕ × SwapArea)). IfSome (find nat_cmp k on)
@@ -320,7 +326,8 @@ stepped {d} old new s next command reply keeps step same_count swap stands free 
 -- ---- what reverse mapping goes by, after areas changed
 
 -- each page with an entry keeps the home that frames have from it
-pub reach_after : {d : Device} (old : Mem) (s : State) → Keeps d old s → (spaces : AllSpaces) (anons : AnonSet) → AnonsStay old.spaces old.anons spaces anons →
+pub reach_after : {d : Device} (old : Mem) (s : State) → Keeps d old s → (spaces : AllSpaces) (anons : AnonSet)
+    → AnonsStay old.spaces old.anons spaces anons →
     (l : Ledger) (on : Areas) → ((q page : ℕ) → areas_on spaces.processes q page ≡ on q page)
     → ((k : Key) (home : ℕ × ℕ) → is_some (entry l k) ≡ true → home_of k.1 (s.areas k.0 k.1) ≡ Some home → home_of k.1 (on k.0 k.1) ≡ Some home)
     → Reach l (rmap_of s) → AllCovered l (record { areas = on; anons = left_of anons s.anons; homes = s.homes })
@@ -363,7 +370,8 @@ module _ {d : Device} (old new : Mem) (s : State) (command : Command) (reply : R
       by true e = subst (λ n. IsKept (view old) d s.ledger (entry l (n, page)) (now page)) (sym (is_number q p e)) (kept page)
       by false e = subst (λ x. IsKept (view old) d s.ledger x (pages s.world q page)) (sym (others q page e)) (keeps.stands.parts.bytes.kept q page)
 
-  home-all : (k : Key) (h : ℕ × ℕ) → is_some (entry l k) ≡ true → home_of k.1 (s.areas k.0 k.1) ≡ Some h → home_of k.1 ((with_at p on s.areas) k.0 k.1) ≡ Some h
+  home-all : (k : Key) (h : ℕ × ℕ) → is_some (entry l k) ≡ true → home_of k.1 (s.areas k.0 k.1) ≡ Some h
+      → home_of k.1 ((with_at p on s.areas) k.0 k.1) ≡ Some h
   home-all k h there is = by (k.0 == p) refl
     where
       by : (b : Bool) → (k.0 == p) ≡ b → home_of k.1 ((cond b on (s.areas k.0)) k.1) ≡ Some h
@@ -372,17 +380,20 @@ module _ {d : Device} (old new : Mem) (s : State) (command : Command) (reply : R
       by false e = is
 
   pub changed : IsStep (setting_by d old) s command reply (state_after s p now on l (free_of (view new)) new.anons) →
-      AreasAre (view new) (with_at p on s.areas) → AreasStand (view new) (set_process s.world p now) → HasTables new → StepsBeside d old new s command reply
+      AreasAre (view new) (with_at p on s.areas) → AreasStand (view new) (set_process s.world p now) → HasTables new
+      → StepsBeside d old new s command reply
   changed step areas_now areas tables = stepped old new s (state_after s p now on l (free_of (view new)) new.anons) command reply keeps
       step same_count swap stands refl areas_now
-      (anons_stand d old s keeps new.spaces new.anons stay (with_at p on s.areas) areas_now new refl refl) (λ f. ap (λ h. h f) homes ∙ keeps.stands.homes f)
+      (anons_stand d old s keeps new.spaces new.anons stay (with_at p on s.areas) areas_now new refl refl)
+      (λ f. ap (λ h. h f) homes ∙ keeps.stands.homes f)
       (reach_after old s keeps new.spaces new.anons stay l (with_at p on s.areas) areas_now home-all reach) stay.fit areas tables
       (bytes-left d (view old) (view new) s.world (set_process s.world p now) s.ledger l bytes cached keeps.stands.parts.bytes kept-all)
 
 -- the areas of a process that lives have changed
 module _ {d : Device} (old new : Mem) (s : State) (p : ℕ) (now : Process) (prots : ℕ → Option Prot) (keeps : Keeps d old s)
     (alive : is_some (ranges_of old.spaces.processes p) ≡ true)
-    (spaces : GetsProts old.spaces.processes new.spaces.processes p prots) (is : (page : ℕ) → prots page ≡ option_map (λ (x : Page). x.prot) (now page)) where
+    (spaces : GetsProts old.spaces.processes new.spaces.processes p prots)
+    (is : (page : ℕ) → prots page ≡ option_map (λ (x : Page). x.prot) (now page)) where
   lives_as : (q : ℕ) → is_some (ranges_of new.spaces.processes q) ≡ is_some (ranges_of old.spaces.processes q)
   lives_as q = by (q == p) refl
     where
@@ -396,12 +407,14 @@ module _ {d : Device} (old new : Mem) (s : State) (p : ℕ) (now : Process) (pro
 
   pub areas_changed : AreasStand (view new) (set_process s.world p now)
   areas_changed = record {
-    alive = λ q. sym (alive_is new.spaces.processes q) ∙ lives_as q ∙ alive_is old.spaces.processes q ∙ keeps.stands.parts.areas.alive q ∙ by q (q == p) refl
+    alive = λ q. sym (alive_is new.spaces.processes q) ∙ lives_as q ∙ alive_is old.spaces.processes q ∙ keeps.stands.parts.areas.alive q
+        ∙ by q (q == p) refl
         ∙ sym (lives-set s.world p now q ∙ ap (λ b. cond b true (lives s.world q)) (at_number q p));
     number = spaces.number ∙ keeps.stands.parts.areas.number ∙ sym (length-set_old s.world p now keeps.stands.sound.world.in_order lives_now);
     apart = spaces.apart;
     covers = λ q page. covers_at q page (q == p) refl
-        ∙ sym (ap (option_map (λ (x : Page). x.prot)) (pages-set s.world p now q page ∙ ap (λ b. cond b (now page) (pages s.world q page)) (at_number q p)));
+        ∙ sym (ap (option_map (λ (x : Page). x.prot))
+        (pages-set s.world p now q page ∙ ap (λ b. cond b (now page) (pages s.world q page)) (at_number q p)));
   }
     where
       lives_now : lives s.world p ≡ true
@@ -438,7 +451,8 @@ swap_alike old new before now was is h = record {
   priority = ap (λ s. (shown_swap s).priority) is ∙ h.priority ∙ sym (ap (λ s. (shown_swap s).priority) was);
 }
 
-pub stays_orderly : (d : Device) (old : Mem) (tables : ProcessTables) (spaces : AllSpaces) (anons : AnonSet) (l : Ledger) → entry_at tables ≡ entry_at old.tables →
+pub stays_orderly : (d : Device) (old : Mem) (tables : ProcessTables) (spaces : AllSpaces) (anons : AnonSet) (l : Ledger)
+    → entry_at tables ≡ entry_at old.tables →
     HasLedger d old l → HasLedger d (moved_on old tables spaces anons) l
 stays_orderly d old tables spaces anons l entries h = record {
   sound = h.sound;
@@ -446,7 +460,14 @@ stays_orderly d old tables spaces anons l entries h = record {
   parts =
       let had = h.parts in
       record {
-        frames = record { frames = had.frames.frames; maps = had.frames.maps; slots = had.frames.slots; dirty = had.frames.dirty; free = had.frames.free };
+        frames = record {
+          frames = had.frames.frames;
+          maps = had.frames.maps;
+          slots = had.frames.slots;
+          dirty = had.frames.dirty;
+          free =
+              had.frames.free;
+        };
         lists = record { active = had.lists.active; inactive = had.lists.inactive };
         tables = record {
           entries = λ q page. ap (λ (t : ℕ → ℕ → Pte). entry_of (plain (t q page))) entries ∙ had.tables.entries q page;

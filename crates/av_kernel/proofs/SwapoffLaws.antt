@@ -64,14 +64,15 @@ shows-none area on anons NoPage = tt
 -- the area that goes off has no note
 notes-are : (area : ℕ) (added : List Note) (end : EmptyEnd) → notes_of (swapoff_events area added end) ≡ added
 notes-are area added end = notes_of-append (note_events added) (turn_off_events area (close_of end))
-    ∙ ap (λ ns. ns ++ notes_of (turn_off_events area (close_of end))) (notes_of-note_events added) ∙ ap (λ ns. added ++ ns) (none end) ∙ append-nil added
+    ∙ ap (λ ns. ns ++ notes_of (turn_off_events area (close_of end))) (notes_of-note_events added) ∙ ap (λ ns. added ++ ns) (none end)
+    ∙ append-nil added
   where
     none : (end : EmptyEnd) → notes_of (turn_off_events area (close_of end)) ≡ []
     none Empty = refl
     none (NoFrame out) = refl
     none NoPage = refl
 
--- what only faults explain
+-- what only failures explain
 rose-by : (end : EmptyEnd) (notes : List Note) (a b : ℕ) → failed_by end ≤ fails notes → RoseBy (fails notes + lost_by end) a b
     → RoseBy (causes (noted (answer_by end) notes)) a b
 rose-by Empty notes a b failed h = omega (arith, h)
@@ -89,7 +90,8 @@ tested d k s area b keeps on = ap (λ b. cond (not b) (Some Einval) None) (on-sh
     by false = refl
 
 -- an area that is off is refused
-pub swapoff-refused : (k : Mem) (area : ℕ) → is_shown_on (shown_swap k.swap) area ≡ false → (d : Device) → Does d d k k (Swapoff area) (Err (refusals.Refused Einval))
+pub swapoff-refused : (k : Mem) (area : ℕ) → is_shown_on (shown_swap k.swap) area ≡ false → (d : Device)
+    → Does d d k k (Swapoff area) (Err (refusals.Refused Einval))
 swapoff-refused k area off d = refused-over k (Swapoff area) Einval refl (λ d s keeps. tested d k s area false keeps off) d
 
 -- ---- the step
@@ -128,12 +130,13 @@ module _ (area : ℕ) where
         };
         keeps = kept;
         same = h.done.same;
-        faults = subst (λ ns. RoseBy (causes (noted (answer_by end) ns)) d.faults d'.faults) (sym notes)
-            (rose-by end h.added d.faults d'.faults h.failed h.faults);
+        failures = subst (λ ns. RoseBy (causes (noted (answer_by end) ns)) d.failures d'.failures) (sym notes)
+            (rose-by end h.added d.failures d'.failures h.failed h.failures);
       }
 
   -- so it does, whatever stood
-  turned-does : (d d' : Device) (old new : Mem) (before now : List Note) (end : EmptyEnd) → before ≡ [] → is_shown_on (shown_swap old.swap) area ≡ true
+  turned-does : (d d' : Device) (old new : Mem) (before now : List Note) (end : EmptyEnd) → before ≡ []
+      → is_shown_on (shown_swap old.swap) area ≡ true
       → IsSameDevice d d' → frame_count new ≡ frame_count old
       → between.Does d d' old (λ d d' w r l. HasTurnedOff d d' old new w r l area before now end)
       → Does d d' old new (Swapoff area) (Ok (noted (answer_by end) now))
@@ -141,10 +144,10 @@ module _ (area : ℕ) where
     step = λ s keeps. turned-steps d d' old new s before now end keeps fresh on (h true s.world (rmap_of s) s.ledger (stands-between d old s keeps));
     steady = λ steady.
         let s = steady.1 in
-        let keeps = keeps-whenever d.sizes None steady.0 d.faults old s steady.2 in
+        let keeps = keeps-whenever d.sizes None steady.0 d.failures old s steady.2 in
         let after = turned-steps (as_told false d) (as_told false d') old new s before now end keeps fresh on
         (h false s.world (rmap_of s) s.ledger (stands-between (as_told false d) old s keeps)) in
-        (d'.faults, after.next, subst (λ sizes. Keeps (device_by sizes None d'.faults) new after.next) after.same.sizes after.keeps);
+        (d'.failures, after.next, subst (λ sizes. Keeps (device_by sizes None d'.failures) new after.next) after.same.sizes after.keeps);
     same = same;
     count = count;
   }

@@ -5,7 +5,7 @@ use Rattle.std.proofs.lemmas.Cmp.{nat_cmp_total}
 use Rattle.std.specs.Cmp.{unsigned_tied}
 use Rattle.std.specs.FinMap.Entries.{find-put}
 use Rattle.std.specs.Ordering.{nat_cmp}
-use Rattle.std.specs.Prelude.{pos, IfSome, IsErr, IsErrAnd, IsSomeAnd, MatchOption, count_by, is_none, nat_lt, option_and_then, unwrap_or}
+use Rattle.std.specs.Prelude.{ℤ, IfSome, IsErr, IsErrAnd, IsSomeAnd, MatchOption, count_by, is_none, nat_lt, option_and_then, unwrap_or}
 use Rattle.av_base.specs.Words.{is_in}
 use Rattle.av_clusters.specs.Clusters.{Slots, fresh, is_free}
 use Rattle.av_io.specs.Count.{Rose, RoseBy}
@@ -13,7 +13,7 @@ use Rattle.av_swapcache.specs.Calls.{Answers}
 use Rattle.av_swapcache.specs.Swap.{HasAreas, Shown as ShownSwap, Store as SwapStore, after_on, header_at, is_on as is_shown_on, shown as shown_swap}
 use Rattle.av_swapcache.specs.declared.swap.SwapOn.{SwapOn}
 use Rattle.av_swapcache.specs.declared.swap.SwapOn.TheVariants.{On as IsOn, Busy, Io, Bad}
-use Rattle.av_swapcache.proofs.Views.{areas_on, put-map}
+use Rattle.av_swapcache.proofs.Views.{areas_on}
 use Rattle.av_swapdev.specs.Device.{Holds, most_pages}
 use Rattle.av_swapdev.specs.Header.{Layout, header_of}
 use Rattle.av_swapdev.specs.declared.header.Header.{Header}
@@ -28,11 +28,11 @@ use Rattle.av_trace.specs.Reply.{answer_only}
 use Rattle.av_plain.specs.Choice.{AreFresh, Chooses, Free}
 use Rattle.av_plain.specs.Device.{Device, IsSameDevice, device_by, headers_of, without_fault}
 use Rattle.av_plain.specs.Event.{Event, TurnedOn, after}
-use Rattle.av_plain.specs.Ledger.{HasNumbers, is_header_slot, is_on}
+use Rattle.av_plain.specs.Ledger.{HasNumbers, SwapArea, is_header_slot, is_on}
 use Rattle.av_plain.specs.Refusal.{Refuses, refusal, tests}
 use Rattle.av_plain.specs.Stands.{Stands, View, free_of}
 use Rattle.av_plain.specs.Step.{Follows, causes}
-use Rattle.av_plain.specs.Swapon.{IsByHeader, header_answer}
+use Rattle.av_plain.specs.Swapon.{IsByHeader, header_answer, priority_of}
 use Rattle.av_plain.specs.Transcript.{IsStep, State, rmap_of}
 use Rattle.av_plain.proofs.Device.{setting-layouts}
 use Rattle.av_plain.proofs.FreeSteps.{step-lists}
@@ -41,15 +41,15 @@ use Rattle.av_swap_laws.specs.Held.{Steps}
 use Rattle.av_swap_laws.specs.Steps.{view_on}
 use Rattle.av_swap_laws.proofs.Whole.{on-steps}
 use Rattle.av_mem.specs.declared.mem.Mem.{Mem}
-use Rattle.av_mem.specs.Mem.{AgreesWith, AreByHeaders, Keeps, SwapFits, frame_count, held_by, numbers_of, setting_by, view}
+use Rattle.av_mem.specs.Mem.{AgreesWith, AreByHeaders, Keeps, SwapFits, area_of, frame_count, held_by, setting_by, view}
 use Rattle.av_mem.proofs.KeepsLaws.{keeps-serves, keeps-whenever, state_by}
+use Rattle.av_mem.proofs.SwapAreas.{areas-on}
 use Rattle.av_kernel.specs.Step.{Does, StepsBeside, reply_in}
 use Rattle.av_kernel.specs.Swap.{on_answer}
 use Rattle.av_kernel.specs.declared.refusal.Refusal.{Refusal}
 use Rattle.av_kernel.specs.declared.refusal.Refusal.TheVariants as refusals
 use Rattle.av_kernel.proofs.Loads.{world_as}
 use Rattle.av_swapoff.proofs.CloseLaws.{on-shown, with_swap}
-use Rattle.av_kernel.proofs.SlotLaws.{area_of}
 use Rattle.av_kernel.proofs.StepLaws.{is_number, refused, rmap_kept, same_itself}
 
 -- ---- the tests
@@ -58,10 +58,10 @@ use Rattle.av_kernel.proofs.StepLaws.{is_number, refused, rmap_kept, same_itself
 abbrev by_tests : Option ℕ → Bool → Option Errno
 by_tests size on = cond (is_none size) (Some Einval) (cond on (Some Ebusy) (cond (unwrap_or size 0 == 0) (Some Einval) None))
 
-module _ {d : Device} (k : Mem) (s : State) (area : ℕ) (keeps : Keeps d k s) where
+module _ {d : Device} (k : Mem) (s : State) (area : ℕ) (priority : Option ℕ) (keeps : Keeps d k s) where
   -- an area that is attached and has pages is refused where it is on
   tests-are : (pages : ℕ) → d.sizes area ≡ Some pages → 0 < pages →
-      refusal (tests (setting_by d k) s.world s.ledger (Swapon area)) ≡ cond (is_shown_on (shown_swap k.swap) area) (Some Ebusy) None
+      refusal (tests (setting_by d k) s.world s.ledger (Swapon area priority)) ≡ cond (is_shown_on (shown_swap k.swap) area) (Some Ebusy) None
   tests-are pages there some = (λ i. by_tests (there i) (on-shown k s.ledger keeps.stands.parts.ledger.swap area i))
       ∙ ap (λ b. cond (is_shown_on (shown_swap k.swap) area) (Some Ebusy) (cond b (Some Einval) None)) (positive pages some)
     where
@@ -69,7 +69,7 @@ module _ {d : Device} (k : Mem) (s : State) (area : ℕ) (keeps : Keeps d k s) w
       positive n some = grind (arith, nat_tests, some)
 
   -- any other is off, and refused
-  none-refused : unwrap_or (d.sizes area) 0 ≡ 0 → refusal (tests (setting_by d k) s.world s.ledger (Swapon area)) ≡ Some Einval
+  none-refused : unwrap_or (d.sizes area) 0 ≡ 0 → refusal (tests (setting_by d k) s.world s.ledger (Swapon area priority)) ≡ Some Einval
   none-refused none = ap (by_tests (d.sizes area)) (off (is_on s.ledger area) refl) ∙ by (d.sizes area) none
     where
       off : (b : Bool) → is_on s.ledger area ≡ b → b ≡ false
@@ -81,14 +81,15 @@ module _ {d : Device} (k : Mem) (s : State) (area : ℕ) (keeps : Keeps d k s) w
       by (Some n) none = ap (λ n. cond (n == 0) (Some Einval) None) none
 
 -- so it is over any device with such sizes, which isn't asked
-pub refused-none : (k : Mem) (area : ℕ) (d : Device) → unwrap_or (d.sizes area) 0 ≡ 0 → Does d d k k (Swapon area) (Err (refusals.Refused Einval))
-refused-none k area d none = record {
-  step = λ s keeps. let h = refused k s (Swapon area) Einval keeps (none-refused k s area keeps none) in record {
+pub refused-none : (k : Mem) (area : ℕ) (priority : Option ℕ) (d : Device) → unwrap_or (d.sizes area) 0 ≡ 0
+    → Does d d k k (Swapon area priority) (Err (refusals.Refused Einval))
+refused-none k area priority d none = record {
+  step = λ s keeps. let h = refused k s (Swapon area priority) Einval keeps (none-refused k s area priority keeps none) in record {
     next = h.next;
     step = h.step;
     keeps = h.keeps;
     same = same_itself d;
-    faults = still d.faults;
+    failures = still d.failures;
   };
   steady = λ steady. steady;
   same = same_itself d;
@@ -99,11 +100,12 @@ refused-none k area d none = record {
     still n = omega arith
 
 -- as `?` hands it out
-pub refused-none-by : (k : Mem) (area : ℕ) (d : Device) (error : Errno) (reply : Reply) (r : Result (Unit {0}) Refusal) →
-    IsErr r × IsErrAnd r (λ e. e ≡ refusals.Refused error) → error ≡ Einval → unwrap_or (d.sizes area) 0 ≡ 0 → Does d d k k (Swapon area) (reply_in reply r)
-refused-none-by k area d error reply (Ok done) is same none = absurd is.1
-refused-none-by k area d error reply (Err e) is same none =
-    subst (λ e. Does d d k k (Swapon area) (Err e)) (sym (is.1 ∙ ap refusals.Refused same)) (refused-none k area d none)
+pub refused-none-by : (k : Mem) (area : ℕ) (priority : Option ℕ) (d : Device) (error : Errno) (reply : Reply) (r : Result (Unit {0}) Refusal) →
+    IsErr r × IsErrAnd r (λ e. e ≡ refusals.Refused error) → error ≡ Einval → unwrap_or (d.sizes area) 0 ≡ 0
+    → Does d d k k (Swapon area priority) (reply_in reply r)
+refused-none-by k area priority d error reply (Ok done) is same none = absurd is.1
+refused-none-by k area priority d error reply (Err e) is same none =
+    subst (λ e. Does d d k k (Swapon area priority) (Err e)) (sym (is.1 ∙ ap refusals.Refused same)) (refused-none k area priority d none)
 
 -- ---- the header
 
@@ -122,7 +124,7 @@ alike-keeps d k swap s same keeps = record {
     find = h.find;
     entries = h.entries;
     flight = h.flight;
-    on = map numbers_of h.on;
+    on = map (area_of h.priority) h.on;
     slots = h.slots;
   }) d s) (sym same) keeps.stands;
   lists = keeps.lists;
@@ -130,7 +132,6 @@ alike-keeps d k swap s same keeps = record {
   anons = keeps.anons;
   swap = record {
     frames = ap (λ (h : ShownSwap). h.frames) same ∙ keeps.swap.frames;
-    one_priority = λ a. ap (λ (h : ShownSwap). h.priority a) same ∙ keeps.swap.one_priority a;
     closed = ap (λ (h : ShownSwap). h.closing) same ∙ keeps.swap.closed;
     on_device = subst (HasAreas d.sizes) (sym same) keeps.swap.on_device;
     by_headers = subst (AreByHeaders (headers_of d)) (sym same) keeps.swap.by_headers;
@@ -139,8 +140,9 @@ alike-keeps d k swap s same keeps = record {
 
 -- ---- an area comes on
 
-module _ (d : Device) (k : Mem) (swap : SwapStore) (s : State) (area pages : ℕ) (there : d.sizes area ≡ Some pages) (some : 0 < pages) (keeps : Keeps d k s)
-    (header : Header) (came : Answers d.pages area pages (pos 0) (IsOn header) (shown_swap k.swap) (shown_swap swap)) where
+module _ (d : Device) (k : Mem) (swap : SwapStore) (s : State) (area pages : ℕ) (priority : Option ℕ)
+    (there : d.sizes area ≡ Some pages) (some : 0 < pages) (keeps : Keeps d k s) (header : Header)
+    (came : Answers d.pages area pages (priority_of priority) (IsOn header) (shown_swap k.swap) (shown_swap swap)) where
   abbrev layout : Layout
   layout = came.3
 
@@ -150,27 +152,32 @@ module _ (d : Device) (k : Mem) (swap : SwapStore) (s : State) (area pages : ℕ
   abbrev new : Mem
   new = with_swap k swap
 
-  abbrev on_event : Event
-  on_event = TurnedOn area header.slots header.bad
+  -- what a ledger keeps of it
+  abbrev kept : SwapArea
+  kept = record { slots = header.slots; bad = header.bad; priority = priority_of priority }
 
-  numbers : HasNumbers (area_of header) layout
+  abbrev on_event : Event
+  on_event = TurnedOn area kept
+
+  numbers : HasNumbers kept layout
   numbers = record { slots = ap (λ (h : Header). h.slots) came.5; bad = ap (λ (h : Header). h.bad) came.5 }
 
   -- where pages are told, the area has this header
   told-area : IfSome (headers_of d) (λ headers. headers area ≡ Some layout)
   told-area = by d.pages came.2
     where
-      by : (told : Option (ℕ → ℕ → List ℕ)) → Holds told area 0 came.1 → IfSome (headers_of (device_by d.sizes told 0)) (λ headers. headers area ≡ Some layout)
+      by : (told : Option (ℕ → ℕ → List ℕ)) → Holds told area 0 came.1
+          → IfSome (headers_of (device_by d.sizes told 0)) (λ headers. headers area ≡ Some layout)
       by None holds = tt
       by (Some told) holds = told-header d.sizes told area pages came.1 (Ok layout) there holds came.4
 
-  right : IfSome (headers_of d) (λ headers. IsSomeAnd (headers area) (HasNumbers (area_of header)))
+  right : IfSome (headers_of d) (λ headers. IsSomeAnd (headers area) (HasNumbers kept))
   right = by (headers_of d) told-area
     where
       by : (o : Option (ℕ → Option Layout)) → IfSome o (λ headers. headers area ≡ Some layout)
-          → IfSome o (λ headers. IsSomeAnd (headers area) (HasNumbers (area_of header)))
+          → IfSome o (λ headers. IsSomeAnd (headers area) (HasNumbers kept))
       by None told = tt
-      by (Some headers) told = subst (λ o. IsSomeAnd o (HasNumbers (area_of header))) (sym told) numbers
+      by (Some headers) told = subst (λ o. IsSomeAnd o (HasNumbers kept)) (sym told) numbers
 
   by-header : IsByHeader (headers_of d) area (On header.slots header.bad)
   by-header = by (headers_of d) told-area
@@ -179,14 +186,14 @@ module _ (d : Device) (k : Mem) (swap : SwapStore) (s : State) (area pages : ℕ
       by None told = inr (header.slots, header.bad, came.6.some, refl)
       by (Some headers) told = ap (λ (h : Header). On h.slots h.bad) came.5 ∙ ap header_answer (sym told)
 
-  fresh-made : AreFresh (setting_by d k) area (area_of header) made
+  fresh-made : AreFresh (setting_by d k) area kept made
   fresh-made = by (headers_of d) told-area
     where
       within : (n : ℕ) → n ≡ pages → header.pages ≤ min n most_pages
       within n is = let adds = came.6 in omega (arith, adds.fits, adds.most, is)
 
       by : (o : Option (ℕ → Option Layout)) → IfSome o (λ headers. headers area ≡ Some layout)
-          → AreFresh (record { frames = frame_count k; sizes = d.sizes; headers = o }) area (area_of header) made
+          → AreFresh (record { frames = frame_count k; sizes = d.sizes; headers = o }) area kept made
       by None told = (
         header.pages,
         layout.bad,
@@ -195,24 +202,27 @@ module _ (d : Device) (k : Mem) (swap : SwapStore) (s : State) (area pages : ℕ
         refl,
         ap (λ (h : Header). count_by is_free (fresh h.pages layout.bad).pages) came.5 ∙ came.7,
       )
-      by (Some headers) told = subst (λ o. IsSomeAnd o (λ (h : Layout). HasNumbers (area_of header) h × (made ≡ fresh h.pages h.bad))) (sym told)
+      by (Some headers) told = subst (λ o. IsSomeAnd o (λ (h : Layout). HasNumbers kept h × (made ≡ fresh h.pages h.bad))) (sym told)
           (numbers, ap (λ (h : Header). fresh h.pages layout.bad) came.5)
 
   -- ---- what stands then
 
-  view-is : view new ≡ view_on area (area_of header) made (view k)
+  view-is : view new ≡ view_on area kept made (view k)
   view-is = ap (λ (h : ShownSwap). record (view k) {
     find = h.find;
     entries = h.entries;
     flight = h.flight;
-    on = map numbers_of h.on;
+    on = map (area_of h.priority) h.on;
     slots = h.slots;
-  }) came.8 ∙ (λ i. record (view_on area (area_of header) made (view k)) { on = put-map area_of area header (shown_swap k.swap).on i })
+  }) came.8 ∙ (λ i. record (view_on area kept made (view k)) {
+    on = areas-on (shown_swap k.swap).priority area (priority_of priority) header (shown_swap k.swap).on came.0 i;
+  })
 
-  on-step : Steps (setting_by d k) None on_event (held_by d k s.world (rmap_of s) s.ledger) (held_by d new s.world (rmap_of s) (after s.ledger on_event))
+  on-step : Steps (setting_by d k) None on_event (held_by d k s.world (rmap_of s) s.ledger)
+      (held_by d new s.world (rmap_of s) (after s.ledger on_event))
   on-step = subst (λ (v : View). Steps (setting_by d k) None on_event (held_by d k s.world (rmap_of s) s.ledger)
       (record { view = v; device = d; world = s.world; ledger = after s.ledger on_event; rmap = rmap_of s })) (sym view-is)
-      (on-steps (setting_by d k) None (held_by d k s.world (rmap_of s) s.ledger) (keeps-serves d k s keeps).held area (area_of header) made fresh-made right)
+      (on-steps (setting_by d k) None (held_by d k s.world (rmap_of s) s.ledger) (keeps-serves d k s keeps).held area kept made fresh-made right)
 
   abbrev next : State
   next = state_by new s.world (rmap_of s) (after s.ledger on_event)
@@ -220,30 +230,30 @@ module _ (d : Device) (k : Mem) (swap : SwapStore) (s : State) (area pages : ℕ
   abbrev answer : Answer
   answer = On header.slots header.bad
 
-  is-step : IsStep (setting_by d k) s (Swapon area) (answer_only answer) next
+  is-step : IsStep (setting_by d k) s (Swapon area priority) (answer_only answer) next
   is-step = record {
     events = on_event ∷ [];
     legal = record {
-      answer = subst (λ o. MatchOption o (Follows (setting_by d k) s.world s.ledger (Swapon area) (on_event ∷ []) answer [])
+      answer = subst (λ o. MatchOption o (Follows (setting_by d k) s.world s.ledger (Swapon area priority) (on_event ∷ []) answer [])
           (λ e. Refuses e (on_event ∷ []) answer []))
-          (sym (tests-are k s area keeps pages there some ∙ ap (λ b. cond b (Some Ebusy) None) came.0)) (inr by-header, refl, refl);
+          (sym (tests-are k s area priority keeps pages there some ∙ ap (λ b. cond b (Some Ebusy) None) came.0)) (inr by-header, refl, refl);
       notes = refl;
     };
-    world = world_as (setting_by d k) s.world s.ledger (on_event ∷ []) (Swapon area) answer refl;
+    world = world_as (setting_by d k) s.world s.ledger (on_event ∷ []) (Swapon area priority) answer refl;
     ledger = refl;
     free = (
       free_of (view new),
       subst (λ (free : Free). Chooses (setting_by d k) None s.ledger on_event free (free_of (view new))) keeps.stands.free on-step.chosen,
       refl,
     );
-    rmap = rmap_kept k s (Swapon area) answer refl keeps refl;
+    rmap = rmap_kept k s (Swapon area priority) answer refl keeps refl;
     shows = tt;
   }
 
   -- ---- the areas fit
 
   abbrev shown_then : ShownSwap
-  shown_then = after_on area header (pos 0) layout.bad (shown_swap k.swap)
+  shown_then = after_on area header (priority_of priority) layout.bad (shown_swap k.swap)
 
   -- this area is found with its header, any other as before
   found-at : (a : ℕ) → header_at shown_then a ≡ cond (a == area) (Some header) (header_at (shown_swap k.swap) a)
@@ -268,11 +278,13 @@ module _ (d : Device) (k : Mem) (swap : SwapStore) (s : State) (area pages : ℕ
           ∙ sym (ap (λ b. not (cond b (nat_lt page header.pages && is_in page layout.bad)
           ((shown_swap k.swap).bad (record { area = area; page = page })))) (same area))
 
-  other-agrees : (a : ℕ) (other : Header) (l : Layout) → (a == area) ≡ false → AgreesWith (shown_swap k.swap) a other l → AgreesWith shown_then a other l
+  other-agrees : (a : ℕ) (other : Header) (l : Layout) → (a == area) ≡ false → AgreesWith (shown_swap k.swap) a other l
+      → AgreesWith shown_then a other l
   other-agrees a other l apart h = record {
     pages = h.pages;
     slots = λ page below. h.slots page below
-        ∙ sym (ap (λ b. not (cond b (nat_lt page header.pages && is_in page layout.bad) ((shown_swap k.swap).bad (record { area = a; page = page })))) apart);
+        ∙ sym (ap (λ b. not (cond b (nat_lt page header.pages && is_in page layout.bad)
+        ((shown_swap k.swap).bad (record { area = a; page = page })))) apart);
   }
 
   headers-then : AreByHeaders (headers_of d) shown_then
@@ -296,7 +308,8 @@ module _ (d : Device) (k : Mem) (swap : SwapStore) (s : State) (area pages : ℕ
           (subst (λ o. IsSomeAnd o (AgreesWith shown_then area header)) (sym told) new-agrees)
       at headers told a false apart h = header_so headers a (header_at (shown_swap k.swap) a) apart h
 
-      by : (o : Option (ℕ → Option Layout)) → IfSome o (λ headers. headers area ≡ Some layout) → AreByHeaders o (shown_swap k.swap) → AreByHeaders o shown_then
+      by : (o : Option (ℕ → Option Layout)) → IfSome o (λ headers. headers area ≡ Some layout) → AreByHeaders o (shown_swap k.swap)
+          → AreByHeaders o shown_then
       by None told h = tt
       by (Some headers) told h = λ a. subst (λ o. IfSome o (λ other. IsSomeAnd (headers a) (AgreesWith shown_then a other))) (sym (found-at a))
           (at headers told a (a == area) refl (h a))
@@ -304,25 +317,20 @@ module _ (d : Device) (k : Mem) (swap : SwapStore) (s : State) (area pages : ℕ
   on-fits : SwapFits d None new
   on-fits = record {
     frames = ap (λ (h : ShownSwap). h.frames) came.8 ∙ keeps.swap.frames;
-    one_priority = λ a. ap (λ (h : ShownSwap). h.priority a) came.8 ∙ none_more a (a == area);
     closed = ap (λ (h : ShownSwap). h.closing) came.8 ∙ keeps.swap.closed;
     on_device = subst (HasAreas d.sizes) (sym came.8)
-        (areas_on d.sizes (shown_swap k.swap) area pages header (pos 0) layout.bad keeps.swap.on_device there came.6.fits);
+        (areas_on d.sizes (shown_swap k.swap) area pages header (priority_of priority) layout.bad keeps.swap.on_device there came.6.fits);
     by_headers = subst (AreByHeaders (headers_of d)) (sym came.8) headers-then;
   }
-    where
-      none_more : (a : ℕ) (b : Bool) → cond b (pos 0) ((shown_swap k.swap).priority a) ≡ pos 0
-      none_more a true = refl
-      none_more a false = keeps.swap.one_priority a
 
-  turned-on : StepsBeside d k new s (Swapon area) (answer_only answer)
+  turned-on : StepsBeside d k new s (Swapon area priority) (answer_only answer)
   turned-on = record {
     next = next;
     step = is-step;
     keeps = record {
       stands = record {
         over = record { sizes = refl; headers = refl };
-        sound = step-sound (setting_by d k) s (Swapon area) (answer_only answer) next keeps.stands.sound is-step;
+        sound = step-sound (setting_by d k) s (Swapon area priority) (answer_only answer) next keeps.stands.sound is-step;
         parts = record {
           ledger = on-step.held.ledger;
           areas = on-step.areas keeps.stands.parts.areas;
@@ -330,7 +338,7 @@ module _ (d : Device) (k : Mem) (swap : SwapStore) (s : State) (area pages : ℕ
           headers = on-step.held.headers;
         };
         free = refl;
-        lists = step-lists (setting_by d k) s (Swapon area) (answer_only answer) next (setting-layouts (frame_count k) d) keeps.stands.sound
+        lists = step-lists (setting_by d k) s (Swapon area priority) (answer_only answer) next (setting-layouts (frame_count k) d) keeps.stands.sound
             keeps.stands.lists is-step;
         areas = keeps.stands.areas;
         anons = record { next = keeps.stands.anons.next; kin = keeps.stands.anons.kin; chains = keeps.stands.anons.chains };
@@ -347,35 +355,38 @@ module _ (d : Device) (k : Mem) (swap : SwapStore) (s : State) (area pages : ℕ
 
 -- ---- by what came of it
 
-module _ (d : Device) (k : Mem) (swap : SwapStore) (s : State) (area pages : ℕ) (there : d.sizes area ≡ Some pages) (some : 0 < pages)
+module _ (d : Device) (k : Mem) (swap : SwapStore) (s : State) (area pages : ℕ) (priority : Option ℕ) (there : d.sizes area ≡ Some pages)
+    (some : 0 < pages)
     (keeps : Keeps d k s) where
   -- page 0 can't be read, or is no header
   not-on : (error : Errno) → is_shown_on (shown_swap k.swap) area ≡ false → shown_swap swap ≡ shown_swap k.swap
       → ((Refused error ≡ Refused Eio) ⊎ IsByHeader (headers_of d) area (Refused error))
-      → StepsBeside d k (with_swap k swap) s (Swapon area) (answer_only (Refused error))
+      → StepsBeside d k (with_swap k swap) s (Swapon area priority) (answer_only (Refused error))
   not-on error off same is = record {
     next = s;
     step = record {
       events = [];
       legal = record {
-        answer = subst (λ o. MatchOption o (Follows (setting_by d k) s.world s.ledger (Swapon area) [] (Refused error) [])
+        answer = subst (λ o. MatchOption o (Follows (setting_by d k) s.world s.ledger (Swapon area priority) [] (Refused error) [])
             (λ e. Refuses e [] (Refused error) []))
-            (sym (tests-are k s area keeps pages there some ∙ ap (λ b. cond b (Some Ebusy) None) off)) (is, refl, refl);
+            (sym (tests-are k s area priority keeps pages there some ∙ ap (λ b. cond b (Some Ebusy) None) off)) (is, refl, refl);
         notes = refl;
       };
-      world = world_as (setting_by d k) s.world s.ledger [] (Swapon area) (Refused error) refl;
+      world = world_as (setting_by d k) s.world s.ledger [] (Swapon area priority) (Refused error) refl;
       ledger = refl;
       free = refl;
-      rmap = rmap_kept k s (Swapon area) (Refused error) refl keeps refl;
+      rmap = rmap_kept k s (Swapon area priority) (Refused error) refl keeps refl;
       shows = tt;
     };
     keeps = alike-keeps d k swap s same keeps;
   }
 
-  pub on-answered : (came : SwapOn) → Answers d.pages area pages (pos 0) came (shown_swap k.swap) (shown_swap swap)
-      → StepsBeside d k (with_swap k swap) s (Swapon area) (answer_only (on_answer came))
-  on-answered (IsOn header) h = turned-on d k swap s area pages there some keeps header h
-  on-answered Busy h = let was = refused k s (Swapon area) Ebusy keeps (tests-are k s area keeps pages there some ∙ ap (λ b. cond b (Some Ebusy) None) h.0) in
+  pub on-answered : (came : SwapOn) → Answers d.pages area pages (priority_of priority) came (shown_swap k.swap) (shown_swap swap)
+      → StepsBeside d k (with_swap k swap) s (Swapon area priority) (answer_only (on_answer came))
+  on-answered (IsOn header) h = turned-on d k swap s area pages priority there some keeps header h
+  on-answered Busy h =
+      let busy = tests-are k s area priority keeps pages there some ∙ ap (λ b. cond b (Some Ebusy) None) h.0 in
+      let was = refused k s (Swapon area priority) Ebusy keeps busy in
       record { next = was.next; step = was.step; keeps = alike-keeps d k swap was.next h.1 was.keeps }
   on-answered Io h = not-on Eio h.0 h.1 (inl refl)
   on-answered (Bad fault) h = not-on Einval h.0 h.4 (inr (by d.pages h.2))
@@ -387,14 +398,15 @@ module _ (d : Device) (k : Mem) (swap : SwapStore) (s : State) (area pages : ℕ
 -- ---- over a device at two times
 
 -- the same came of it where pages aren't told
-untold : (told : Option (ℕ → ℕ → List ℕ)) (area pages : ℕ) (came : SwapOn) (was now : ShownSwap) → Answers told area pages (pos 0) came was now
-    → Answers None area pages (pos 0) came was now
-untold told area pages (IsOn header) was now h = (h.0, h.1, tt, h.3, h.4, h.5, h.6, h.7, h.8)
-untold told area pages Busy was now h = h
-untold told area pages Io was now h = h
-untold told area pages (Bad fault) was now h = (h.0, h.1, tt, h.3, h.4)
+untold : (told : Option (ℕ → ℕ → List ℕ)) (area pages : ℕ) (priority : ℤ) (came : SwapOn) (was now : ShownSwap)
+    → Answers told area pages priority came was now
+    → Answers None area pages priority came was now
+untold told area pages priority (IsOn header) was now h = (h.0, h.1, tt, h.3, h.4, h.5, h.6, h.7, h.8)
+untold told area pages priority Busy was now h = h
+untold told area pages priority Io was now h = h
+untold told area pages priority (Bad fault) was now h = (h.0, h.1, tt, h.3, h.4)
 
--- an error of the device is answered where its count of faults rose
+-- an error of the device is answered where its count of failures rose
 rose : (came : SwapOn) (n n' : ℕ) → (came ≡ Io → Rose n n') → ((came ≡ Io → ⊥) → n' ≡ n) → RoseBy (causes (answer_only (on_answer came))) n n'
 rose came n n' cause unfailed = by came cause unfailed
   where
@@ -413,23 +425,24 @@ first_page told a = told a 0
 module _ (sizes sizes' : ℕ → Option ℕ) (told told' : Option (ℕ → ℕ → List ℕ)) (n n' : ℕ) (same_sizes : sizes' ≡ sizes) (same_pages : told' ≡ told)
     (never_falls : n ≤ n') where
   pub one-device : IsSameDevice (device_by sizes told n) (device_by sizes' told' n')
-  one-device = record { sizes = same_sizes; first = ap (λ (o : Option (ℕ → ℕ → List ℕ)). option_map first_page o) same_pages; faults = never_falls }
+  one-device = record { sizes = same_sizes; first = ap (λ (o : Option (ℕ → ℕ → List ℕ)). option_map first_page o) same_pages; failures = never_falls }
 
-  pub swapon-does : (k : Mem) (swap : SwapStore) (area pages : ℕ) → sizes area ≡ Some pages → 0 < pages → (came : SwapOn)
-      → Answers told area pages (pos 0) came (shown_swap k.swap) (shown_swap swap) → (came ≡ Io → Rose n n') → ((came ≡ Io → ⊥) → n' ≡ n)
-      → Does (device_by sizes told n) (device_by sizes' told' n') k (with_swap k swap) (Swapon area) (Ok (answer_only (on_answer came)))
-  swapon-does k swap area pages there some came h cause unfailed = record {
-    step = λ s keeps. let did = on-answered (device_by sizes told n) k swap s area pages there some keeps came h in record {
+  pub swapon-does : (k : Mem) (swap : SwapStore) (area pages : ℕ) (priority : Option ℕ) → sizes area ≡ Some pages → 0 < pages → (came : SwapOn)
+      → Answers told area pages (priority_of priority) came (shown_swap k.swap) (shown_swap swap) → (came ≡ Io → Rose n n')
+      → ((came ≡ Io → ⊥) → n' ≡ n)
+      → Does (device_by sizes told n) (device_by sizes' told' n') k (with_swap k swap) (Swapon area priority) (Ok (answer_only (on_answer came)))
+  swapon-does k swap area pages priority there some came h cause unfailed = record {
+    step = λ s keeps. let did = on-answered (device_by sizes told n) k swap s area pages priority there some keeps came h in record {
       next = did.next;
       step = did.step;
       keeps = subst (λ (sizes : ℕ → Option ℕ). Keeps (device_by sizes told' n') (with_swap k swap) did.next) (sym same_sizes)
           (subst (λ (told : Option (ℕ → ℕ → List ℕ)). Keeps (device_by sizes told n') (with_swap k swap) did.next) (sym same_pages)
           (keeps-whenever sizes told n n' (with_swap k swap) did.next did.keeps));
       same = one-device;
-      faults = rose came n n' cause unfailed;
+      failures = rose came n n' cause unfailed;
     };
-    steady = λ steady. let did = on-answered (device_by sizes None steady.0) k swap steady.1 area pages there some steady.2 came
-        (untold told area pages came (shown_swap k.swap) (shown_swap swap) h) in
+    steady = λ steady. let did = on-answered (device_by sizes None steady.0) k swap steady.1 area pages priority there some steady.2 came
+        (untold told area pages (priority_of priority) came (shown_swap k.swap) (shown_swap swap) h) in
         (steady.0, did.next, did.keeps);
     same = one-device;
     count = refl;

@@ -34,8 +34,8 @@ abbrev pub answer_at : Option Stop → Answer → ℕ → List ℕ → Answer
 answer_at None whole k shown = whole
 answer_at (Some stop) whole k shown = answer_of stop k shown
 
--- by how much the device's count of faults has risen at the least, where an access has these notes
--- and ends so
+-- by how much the device's count of failures has risen at the least, where an access has these
+-- notes and ends so
 abbrev pub causes_of_access : List Note → Option Stop → ℕ
 causes_of_access notes stop =
     causes (record { answer = answer_at stop answers.Done 0 []; notes = notes; rows = [] })
@@ -77,7 +77,7 @@ pub record IsAccess (d d' : Device) (s : State) (new : Mem) (write : Bool) (p a 
   pub rmap : rmap_of next ≡ rmap_after_all s.ledger events (rmap_of s)
   pub keeps : Keeps d' new next
   pub same : IsSameDevice d d'
-  pub faults : RoseBy (causes_of_access (notes_of events) stop) d.faults d'.faults
+  pub failures : RoseBy (causes_of_access (notes_of events) stop) d.failures d'.failures
 
 -- a read of n bytes, which shows the k that were served as they are after all its loads
 pub record IsRead (d d' : Device) (s : State) (new : Mem) (p a n : ℕ) (before now : List Note)

@@ -16,7 +16,7 @@ abbrev pub Stands : Machine → Device → State → Type 0
 Stands k device s = Keeps device k.mem s
 
 -- a command's reply is a step over the device as it was; it is the same device then, and kernel and
--- device stand for what the step leaves; what only faults of the device explain is within what it
+-- device stand for what the step leaves; what only failures of the device explain is within what it
 -- failed
 pub record Steps (old new : Machine) (device device' : Device) (s : State) (command : Command)
     (reply : Reply) : Type 0 where
@@ -24,7 +24,7 @@ pub record Steps (old new : Machine) (device device' : Device) (s : State) (comm
   pub step : IsStep (setting_of old.frames device) s command reply next
   pub same : IsSameDevice device device'
   pub stands : Stands new device' next
-  pub faults : RoseBy (causes reply) device.faults device'.faults
+  pub failures : RoseBy (causes reply) device.failures device'.failures
 
 -- so many frames, swap areas with so many pages each, and no command yet
 pub record IsNew (n : ℕ) (pages : List ℕ) (k : Machine) : Type 0 where

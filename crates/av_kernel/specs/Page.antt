@@ -45,7 +45,7 @@ pub record IsPageStep (d d' : Device) (s : State) (new : Mem) (write : Bool) (p 
       (rmap_of s)
   pub keeps : Keeps d' new next
   pub same : IsSameDevice d d'
-  pub faults : RoseBy (causes_of_access added end) d.faults d'.faults
+  pub failures : RoseBy (causes_of_access added end) d.failures d'.failures
 
 -- what a read of n bytes shows of a page that was served
 abbrev pub ShowsPiece : World → ℕ → ℕ → ℕ → ℕ → List ℕ → List ℕ → Option Stop → Type 0

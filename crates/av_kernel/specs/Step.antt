@@ -45,7 +45,7 @@ reply_of (Err Memory) = None
 -- a device by what is told of one
 abbrev pub seen_by : {D : Type 0} → (D → ℕ → Option ℕ) → (D → Option (ℕ → ℕ → List ℕ)) → (D → ℕ)
     → D → Device
-seen_by sizes pages faults d = device_by (sizes d) (pages d) (faults d)
+seen_by sizes pages failures d = device_by (sizes d) (pages d) (failures d)
 
 -- over some device with these sizes the memory system stands for something, in which the process
 -- lives
@@ -55,7 +55,7 @@ IsSteadyFor sizes p k = IsSteadyAt sizes k × (is_some (areas_of k.spaces.proces
 -- ---- commands
 
 -- a command's reply is a step over the device as it was; it is the same device then, and with it
--- the memory system stands for what the step leaves; what only faults of the device explain is
+-- the memory system stands for what the step leaves; what only failures of the device explain is
 -- within what it failed
 pub record MemSteps (d d' : Device) (old new : Mem) (s : State) (command : Command) (reply : Reply)
     : Type 0 where
@@ -63,7 +63,7 @@ pub record MemSteps (d d' : Device) (old new : Mem) (s : State) (command : Comma
   pub step : IsStep (setting_by d old) s command reply next
   pub keeps : Keeps d' new next
   pub same : IsSameDevice d d'
-  pub faults : RoseBy (causes reply) d.faults d'.faults
+  pub failures : RoseBy (causes reply) d.failures d'.failures
 
 -- What every command promises, over the device as it was and as it is: whatever the memory system
 -- stood for, the reply is a step, and it stands for what that leaves; and where it stood for

@@ -90,12 +90,12 @@ impl Kernel {
     ) -> Result<Reply, AllocError>
         requires few { self.old.steps < most_commands }
         requires attached { D.sizes dev.old ≡ sizes_of self.old.sizes }
-        ensures stands { let d = seen_by D.sizes D.pages D.faults in (s : State)
+        ensures stands { let d = seen_by D.sizes D.pages D.failures in (s : State)
             → Stands self.old (d dev.old) s → IfOk result
             (Steps self.old self.new (d dev.old) (d dev.new) s command.now) }
         ensures counts { IfOk result (Counts self.old self.new) }
         ensures spent { OnErr result (IsSpent self.old self.new) }
-        ensures same { let d = seen_by D.sizes D.pages D.faults in
+        ensures same { let d = seen_by D.sizes D.pages D.failures in
             IsSameDevice (d dev.old) (d dev.new) }
     {
         let mut reply = Reply::new(alloc);
@@ -116,12 +116,12 @@ impl Kernel {
     ) -> Result<(), AllocError>
         requires few { self.old.steps < most_commands }
         requires attached { D.sizes dev.old ≡ sizes_of self.old.sizes }
-        ensures stands { let d = seen_by D.sizes D.pages D.faults in (s : State)
+        ensures stands { let d = seen_by D.sizes D.pages D.failures in (s : State)
             → Stands self.old (d dev.old) s → OnOk result
             (Steps self.old self.new (d dev.old) (d dev.new) s command.now reply.new) }
         ensures counts { OnOk result (Counts self.old self.new reply.new) }
         ensures spent { OnErr result (IsSpent self.old self.new) }
-        ensures same { let d = seen_by D.sizes D.pages D.faults in
+        ensures same { let d = seen_by D.sizes D.pages D.failures in
             IsSameDevice (d dev.old) (d dev.new) }
     {
         if self.spent {

@@ -92,8 +92,8 @@ pub fn exit(mem: &mut Mem, process: u16, reply: &mut Reply) -> Result<(), Refusa
 {
     check_lives(mem, process)?;
     zap_all(mem, process, &mut reply.notes)?;
-    mem.tables.end(process);
-    mem.spaces.end(&mut mem.anons, process);
+    mem.tables.exit(process);
+    mem.spaces.exit(&mut mem.anons, process);
     answer_with(reply, Answer::Done);
     Ok(())
 }

@@ -1,14 +1,16 @@
 //! Reports: `maps`, `areas`, `rmap`, `entry` and `stat`. They change nothing.
 
-ghost use Rattle.std.specs.Prelude.{◌≡◌, ℕ, ◌<◌, [], true, false, is_some, map, MatchResult, Some, Ok, IfOk, OnOk};
+ghost use Rattle.std.specs.Prelude.{◌≡◌, ℕ, ◌<◌, [], true, false, is_some, map, MatchResult, Some};
+ghost use Rattle.std.specs.Prelude.{Ok, IfOk, OnOk};
 ghost use Rattle.std.specs.List.{AllByRecursion};
 ghost use Rattle.av_base.specs.Limits.{top_page};
 ghost use Rattle.av_spaces.specs.Kin.{AnonsFit};
 ghost use Rattle.av_spaces.specs.Spaces.{AreRising, areas_of, pages_of};
-ghost use Rattle.av_vma.specs.Join.{first_of};
+ghost use Rattle.av_vma.specs.Index.{first_of};
 ghost use Rattle.av_plain.specs.Device.{Device, setting_of};
 ghost use Rattle.av_plain.specs.Ledger.{entry as entry_of, walk as walk_of};
-ghost use Rattle.av_plain.specs.Report.{area_row as row_of_area, entry_answer as answer_of_entry, key_row, range_of, totals as totals_of};
+ghost use Rattle.av_plain.specs.Report.{area_row as row_of_area, entry_answer as answer_of_entry};
+ghost use Rattle.av_plain.specs.Report.{key_row, range_of, totals as totals_of};
 ghost use Rattle.av_plain.specs.Transcript.{State};
 ghost use Rattle.av_mem.specs.Mem.{IsSteady, Keeps, frame_count, view};
 ghost use Rattle.av_kernel.specs.Step.{DoesBeside, reply_in};

@@ -49,11 +49,11 @@ pub fn perform<D: SwapDev>(
     requires steady { IsSteadyAt (D.sizes dev.old) mem.old }
     requires attached { D.sizes dev.old ≡ sizes_of sizes.now }
     requires few { length sizes.now ≤ most_areas }
-    ensures step { let d = seen_by D.sizes D.pages D.faults in (s : State)
+    ensures step { let d = seen_by D.sizes D.pages D.failures in (s : State)
         → Keeps (d dev.old) mem.old s → OnOk result
         (MemSteps (d dev.old) (d dev.new) mem.old mem.new s command.now reply.new) }
     ensures steady { OnOk result (IsSteadyAt (D.sizes dev.old) mem.new) }
-    ensures same { let d = seen_by D.sizes D.pages D.faults in
+    ensures same { let d = seen_by D.sizes D.pages D.failures in
         IsSameDevice (d dev.old) (d dev.new) }
     ensures count { frame_count mem.new ≡ frame_count mem.old }
 {
@@ -86,7 +86,7 @@ fn dispatch<D: SwapDev>(
     requires attached { D.sizes dev.old ≡ sizes_of sizes.now }
     requires few { length sizes.now ≤ most_areas }
     requires cleared { IsCleared reply.old }
-    ensures { let d = seen_by D.sizes D.pages D.faults in Does (d dev.old) (d dev.new)
+    ensures { let d = seen_by D.sizes D.pages D.failures in Does (d dev.old) (d dev.new)
         mem.old mem.new command.now (reply_in reply.new result) }
 {
     match command {

@@ -1,7 +1,8 @@
 //! Swap areas come on and go off, and what is asked of their slots: `swapon`, `swapoff` and
 //! `slot`.
 
-ghost use Rattle.std.specs.Prelude.{◌≡◌, ◌<◌, ◌≤◌, false, true, length, slice_get, unwrap_or, MatchResult, Some};
+ghost use Rattle.std.specs.Prelude.{◌≡◌, ◌<◌, ◌≤◌, false, true, length, slice_get, unwrap_or};
+ghost use Rattle.std.specs.Prelude.{MatchResult, Some};
 ghost use Rattle.av_swapcache.specs.Swap.{IsPage, header_at, shown as shown_swap};
 ghost use Rattle.av_swapdev.specs.Device.{most_areas};
 ghost use Rattle.av_trace.specs.Reply.{IsCleared};
@@ -43,16 +44,18 @@ pub fn swapon<D: SwapDev>(
     requires attached { D.sizes dev.old ≡ sizes_of sizes.now }
     requires few { length sizes.now ≤ most_areas }
     requires cleared { IsCleared reply.old }
-    ensures { let d = seen_by D.sizes D.pages D.faults in Does (d dev.old) (d dev.new)
+    ensures { let d = seen_by D.sizes D.pages D.failures in Does (d dev.old) (d dev.new)
         mem.old mem.new (commands.Swapon area priority) (reply_in reply.new result) }
 {
     let pages = pages_of(sizes, area)?;
-    let came = mem.swap.swapon(alloc, area, pages, priority_of(priority), dev)?;
+    let came = mem
+        .swap
+        .swapon(alloc, area, pages, priority_of(priority), dev)?;
     answer_with(reply, on_answer(came));
     Ok(())
 }
 
-/// The priority of an area for which this one is asked, if any is.
+/// The priority of an area, by the one that is asked for.
 fn priority_of(asked: Option<u16>) -> i32
     ensures { result ≡ priority_asked asked }
 {
@@ -100,7 +103,7 @@ pub fn swapoff<D: SwapDev>(
 ) -> Result<(), Refusal>
     requires steady { IsSteadyAt (D.sizes dev.old) mem.old }
     requires cleared { IsCleared reply.old }
-    ensures { let d = seen_by D.sizes D.pages D.faults in Does (d dev.old) (d dev.new)
+    ensures { let d = seen_by D.sizes D.pages D.failures in Does (d dev.old) (d dev.new)
         mem.old mem.new (commands.Swapoff area) (reply_in reply.new result) }
 {
     if !mem.swap.is_on(area) {

@@ -2,7 +2,7 @@
 use Rattle.std.proofs.Common.{◌≡◌, ◌≢◌, ◌⊎◌, ℕ, zero, suc, ◌+◌, ◌<◌, cond, List, [], ◌∷◌, ◌++◌, length, Option, Some, None, refl, sym, ap, ◌∙◌, subst, inl, inr, arith, eq-eqb, ne_eqb, lt-ltb, le-ltb, nat_lt, ◌≤◌}
 use Rattle.std.proofs.lemmas.Bool.{cases_eq, cond-true, cond-false, not_from_true, not_from_false}
 use Rattle.std.proofs.lemmas.Option.{none-some}
-use Rattle.av_lru.specs.declared.Which.{Which}
+use Rattle.av_lru.specs.declared.lists.Which.{Which}
 use Rattle.av_lru.specs.Lists.{without, last_of, frame_before}
 use Rattle.av_lru.specs.Links.{IsIn, AreApart, Joins, Inserts, walk, IsPath, IsRing}
 
@@ -228,13 +228,15 @@ module _ (next prev next' prev' : ℕ → ℕ) where
       ]
 
   -- a frame joins at the end
-  IsPath-push : (from : ℕ) (fs : List ℕ) (to f : ℕ) → IsPath next prev from fs to → AreApart fs → ¬ IsIn from fs → ¬ IsIn to fs → ¬ IsIn f fs → from ≢ f →
+  IsPath-push : (from : ℕ) (fs : List ℕ) (to f : ℕ) → IsPath next prev from fs to → AreApart fs → ¬ IsIn from fs → ¬ IsIn to fs
+      → ¬ IsIn f fs → from ≢ f →
       Inserts next prev next' prev' (prev to) f to → IsPath next' prev' from (fs ++ f ∷ []) to
   IsPath-push from [] to f path apart from_off to_off absent other splices =
       (ap next' (sym path.1) ∙ splices.into, splices.back_out ∙ path.1, (splices.out, splices.back_into))
   IsPath-push from (g ∷ gs) to f path apart from_off to_off absent other splices =
       let new : g ≢ f = λ same. absent (inl same) in (
-        splices.nexts from (not_on g gs from _ (λ end. from_off (inl (sym end))) (λ later. from_off (inr later)) (prev_end_on next prev g gs to path.2)) other
+        splices.nexts from (not_on g gs from _ (λ end. from_off (inl (sym end))) (λ later. from_off (inr later))
+            (prev_end_on next prev g gs to path.2)) other
             ∙ path.0,
         splices.prevs g (λ end. to_off (inl end)) new ∙ path.1,
         IsPath-push g gs to f path.2 apart.1 apart.0 (λ later. to_off (inr later)) (λ later. absent (inr later)) new splices,

@@ -5,9 +5,9 @@ use Rattle.std.proofs.lemmas.Bool.{cond-true, cond-false}
 use Rattle.std.proofs.lemmas.Option.{none-some}
 use Rattle.std.proofs.lemmas.List.{length-replicate}
 use Rattle.std.proofs.lemmas.List.Folds.{sum_by-replicate}
-use Rattle.av_lru.specs.declared.Which.{Which}
-use Rattle.av_lru.specs.declared.Which.TheVariants.{Active, Inactive}
-use Rattle.av_lru.specs.declared.Lengths.{Lengths}
+use Rattle.av_lru.specs.declared.lists.Which.{Which}
+use Rattle.av_lru.specs.declared.lists.Which.TheVariants.{Active, Inactive}
+use Rattle.av_lru.specs.declared.lists.Lengths.{Lengths}
 use Rattle.av_lru.specs.Lists.{Lists, list_of, with_list, without, without_frame, last_of, frame_before, place_in, IsApart}
 use Rattle.av_base.specs.Words.{is_in}
 use Rattle.av_lru.specs.Links.{head_of, len_of, with_len, Joins, Inserts, lists_of, place_of, IsWhole, is_off, IsIn, IsRing, walk, after_links}
@@ -66,7 +66,8 @@ module _ (links back : List ℕ) (places : List (Option Which)) (lens : Lengths)
           (subst (λ (l : Lengths). Shows links' back' (slice_set places f (Some w)) l
           (with_list w (f ∷ list_of w (lists_of links (length places) lens)) (lists_of links (length places) lens))) (sym lengths)
           (front links back places lens whole w f below free links' back' next prev
-          (subst (λ m. Inserts (slice_index links) (slice_index back) (slice_index links') (slice_index back') (head_of (length places) w) f m) first_is
+          (subst (λ m. Inserts (slice_index links) (slice_index back) (slice_index links') (slice_index back')
+          (head_of (length places) w) f m) first_is
           (subst (λ m. Inserts (slice_index links) (slice_index back) (slice_index links') (slice_index back') m f first) head_is splices))))
 
     module _ (last : ℕ) (reads : Reads back h last) where
@@ -89,7 +90,8 @@ module _ (links back : List ℕ) (places : List (Option Which)) (lens : Lengths)
           (subst (λ (l : Lengths). Shows links' back' (slice_set places f (Some w)) l
           (with_list w (list_of w (lists_of links (length places) lens) ++ f ∷ []) (lists_of links (length places) lens))) (sym lengths)
           (push links back places lens whole w f below free links' back' next prev
-          (subst (λ m. Inserts (slice_index links) (slice_index back) (slice_index links') (slice_index back') m f (head_of (length places) w)) last_is
+          (subst (λ m. Inserts (slice_index links) (slice_index back) (slice_index links') (slice_index back') m f
+          (head_of (length places) w)) last_is
           (subst (λ m. Inserts (slice_index links) (slice_index back) (slice_index links') (slice_index back') last f m) head_is splices))))
 
   -- ---- a frame leaves
@@ -110,7 +112,8 @@ module _ (links back : List ℕ) (places : List (Option Which)) (lens : Lengths)
           let b = whole.next in omega (arith, a, b)
 
       pub after_in : slice_index links f < length back
-      after_in = let a = on_below links back places lens whole w _ (after_on links back places lens whole w f was) in let b = whole.prev in omega (arith, a, b)
+      after_in = let a = on_below links back places lens whole w _ (after_on links back places lens whole w f was) in let b = whole.prev in
+          omega (arith, a, b)
 
       pub is_some : 0 < len_of w lens
       is_some = some links back places lens whole w f was
@@ -122,7 +125,8 @@ module _ (links back : List ℕ) (places : List (Option Which)) (lens : Lengths)
           → Shows links' back' (slice_set places f None) lens' (without_frame f ls)
       left links' back' lens' next prev nexts prevs lengths =
           subst (λ (v : Lists). Shows links' back' (slice_set places f None) lens' (without_frame f v)) seen
-          (subst (λ (l : Lengths). Shows links' back' (slice_set places f None) l (without_frame f (lists_of links (length places) lens))) (sym lengths)
+          (subst (λ (l : Lengths). Shows links' back' (slice_set places f None) l
+          (without_frame f (lists_of links (length places) lens))) (sym lengths)
           (leaves links back places lens whole w f was links' back' next prev nexts prevs))
 
   -- ---- what is read
@@ -133,7 +137,8 @@ module _ (links back : List ℕ) (places : List (Option Which)) (lens : Lengths)
   pub listed_in : (f : ℕ) → (is_in f ls.active ≡ true) ⊎ (is_in f ls.inactive ≡ true) → f < length places
   listed_in f h = by (subst (λ (v : Lists). (is_in f v.active ≡ true) ⊎ (is_in f v.inactive ≡ true)) (sym seen) h)
     where
-      by : (is_in f (lists_of links (length places) lens).active ≡ true) ⊎ (is_in f (lists_of links (length places) lens).inactive ≡ true) → f < length places
+      by : (is_in f (lists_of links (length places) lens).active ≡ true) ⊎ (is_in f (lists_of links (length places) lens).inactive ≡ true)
+          → f < length places
       by (inl a) = placed_below links back places lens f Active ((ring links back places lens whole Active).placed f (in_found f _ a))
       by (inr b) = placed_below links back places lens f Inactive ((ring links back places lens whole Inactive).placed f (in_found f _ b))
 
@@ -150,7 +155,8 @@ module _ (links back : List ℕ) (places : List (Option Which)) (lens : Lengths)
       (λ f there. placed_below links back places lens f w ((ring links back places lens whole w).placed f there))
       (frame_past (length places) _ (head_past (length places) w)))
 
-  pub before_is : (w : Which) (f n at : ℕ) (found : Option ℕ) → n ≡ length places → Reads back f at → found ≡ frame_at n at → is_in f (list_of w ls) ≡ true →
+  pub before_is : (w : Which) (f n at : ℕ) (found : Option ℕ) → n ≡ length places → Reads back f at → found ≡ frame_at n at
+      → is_in f (list_of w ls) ≡ true →
       found ≡ frame_before None f (list_of w ls)
   before_is w f n at found count reads is inside =
       let there : IsIn f (list_of w (lists_of links (length places) lens)) =
@@ -216,10 +222,12 @@ module _ (links back : List ℕ) (places : List (Option Which)) (lens : Lengths)
     on_way : (i : ℕ) → i < steps → after_links (slice_index back) (suc i) h < length places
     on_way i less = subst (λ m. after_links (slice_index back) (suc i) m < length places) (sym head_at)
         (placed_below links back places lens _ w ((ring links back places lens whole w).placed _
-        (back_in (slice_index links) (slice_index back) _ _ _ i (ring links back places lens whole w).linked (let a = len_at in omega (arith, less, is, a)))))
+        (back_in (slice_index links) (slice_index back) _ _ _ i (ring links back places lens whole w).linked
+        (let a = len_at in omega (arith, less, is, a)))))
 
     pub way_within : (i : ℕ) → i < steps → after_links (slice_index back) i h < length back
-    way_within zero less = let a = subst (λ m. m < length places + 2) (sym head_at) (head_below (length places) w) in let b = whole.prev in omega (arith, a, b)
+    way_within zero less = let a = subst (λ m. m < length places + 2) (sym head_at) (head_below (length places) w) in let b = whole.prev in
+        omega (arith, a, b)
     way_within (suc i) less = let a = on_way i (omega (arith, less)) in let b = whole.prev in omega (arith, a, b)
 
     pub way_small : (i : ℕ) → i < steps → after_links (slice_index back) (i + 1) h < 2 ^ 32
@@ -245,7 +253,8 @@ pub empty : (links back : List ℕ) (places : List (Option Which)) (n : ℕ) →
     → places ≡ replicate n None
     → Shows links back places (record { active = 0; inactive = 0 }) (record { frames = n; active = []; inactive = [] })
 empty links back places n few next prev is =
-    subst (λ (ps : List (Option Which)). Shows links back ps (record { active = 0; inactive = 0 }) (record { frames = n; active = []; inactive = [] })) (sym is)
+    subst (λ (ps : List (Option Which)). Shows links back ps (record { active = 0; inactive = 0 })
+    (record { frames = n; active = []; inactive = [] })) (sym is)
     (shows links back (replicate n None) (record { active = 0; inactive = 0 }) (record { frames = n; active = []; inactive = [] }) n
     (length-replicate n None) refl few next.0 prev.0 total rings lengths)
   where
@@ -259,7 +268,8 @@ empty links back places n few next prev is =
 
     rings : (v : Which) → IsRing (slice_index links) (slice_index back) (place_of (replicate n None)) v (head_of n v)
         (list_of v (record { frames = n; active = []; inactive = [] }))
-    rings Active = record { linked = (next.1, prev.1); apart = tt; placed = λ f there. absurd there; listed = λ f h. none-some Active (sym (none_at n f) ∙ h) }
+    rings Active = record
+        { linked = (next.1, prev.1); apart = tt; placed = λ f there. absurd there; listed = λ f h. none-some Active (sym (none_at n f) ∙ h) }
     rings Inactive = record {
       linked = (next.2, prev.2);
       apart = tt;

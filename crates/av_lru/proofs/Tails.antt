@@ -15,7 +15,8 @@ walk-suc next (suc n) from =
     ap (λ xs. next from ∷ xs) (walk-suc next n (next from) ∙ ap (λ x. walk next n (next from) ++ x ∷ []) (after_next next (suc n) from))
 
 -- one step more
-pub grown : (old now new : List ℕ) (next : ℕ → ℕ) (n m from at x : ℕ) → m ≡ n + 1 → now ≡ old ++ walk next n from → at ≡ after_links next n from → x ≡ next at →
+pub grown : (old now new : List ℕ) (next : ℕ → ℕ) (n m from at x : ℕ) → m ≡ n + 1 → now ≡ old ++ walk next n from → at ≡ after_links next n from
+    → x ≡ next at →
     new ≡ now ++ x ∷ [] → new ≡ old ++ walk next m from
 grown old now new next n m from at x more so_far here is pushed =
     pushed ∙ ap (λ xs. xs ++ x ∷ []) so_far ∙ append_assoc old (walk next n from) (x ∷ [])
@@ -49,7 +50,8 @@ module _ (next prev : ℕ → ℕ) where
   back_in from (f ∷ fs) to i path h =
       elim (cases_lt i (length fs)) [
         | inl below ↦ inr (back_in f fs to i path.2 below)
-        | inr past ↦ inl (sym (ap (λ k. after_links prev (suc k) to) (let e : i ≡ length fs = omega (arith, h, past) in e) ∙ after_path f fs to path.2))
+        | inr past ↦ inl (sym
+            (ap (λ k. after_links prev (suc k) to) (let e : i ≡ length fs = omega (arith, h, past) in e) ∙ after_path f fs to path.2))
       ]
 
   -- the last frames, from the end on
@@ -64,6 +66,7 @@ module _ (next prev : ℕ → ℕ) where
         | inr all ↦
             ap (λ k. walk prev k to) (let e : steps ≡ length fs = omega (arith, is, all) in e)
             ∙ back_path from fs to path
-            ∙ sym (take_all count (reverse fs) (subst (λ m. m ≤ count) (sym (ap length (sym (back_path from fs to path)) ∙ length-walk prev (length fs) to))
+            ∙ sym (take_all count (reverse fs)
+            (subst (λ m. m ≤ count) (sym (ap length (sym (back_path from fs to path)) ∙ length-walk prev (length fs) to))
             all))
       ]

@@ -5,9 +5,9 @@ use Rattle.std.proofs.lemmas.Bool.{cases_eq, cases_lt, false≢true}
 use Rattle.std.proofs.lemmas.List.{get_or_past}
 use Rattle.std.proofs.lemmas.List.Sums.{sum_by-set}
 use Rattle.std.proofs.lemmas.Option.{none-some, same_Some}
-use Rattle.av_lru.specs.declared.Which.{Which}
-use Rattle.av_lru.specs.declared.Which.TheVariants.{Active, Inactive}
-use Rattle.av_lru.specs.declared.Lengths.{Lengths}
+use Rattle.av_lru.specs.declared.lists.Which.{Which}
+use Rattle.av_lru.specs.declared.lists.Which.TheVariants.{Active, Inactive}
+use Rattle.av_lru.specs.declared.lists.Lengths.{Lengths}
 use Rattle.av_lru.specs.Lists.{Lists, list_of, with_list, without, without_frame, IsApart}
 use Rattle.av_base.specs.Words.{is_in}
 use Rattle.av_lru.specs.Links.{head_of, len_of, with_len, is_off, IsIn, AreApart, Joins, Inserts, walk, frames_of, lists_of, IsPath, IsRing, place_of, IsWhole}
@@ -133,7 +133,8 @@ shows links back places lens ls n size frames few next prev total rings lengths 
     next = next ∙ ap (λ m. m + 2) (sym size);
     prev = prev ∙ ap (λ m. m + 2) (sym size);
     total = total ∙ sym size;
-    rings = λ v. subst (λ m. IsRing (slice_index links) (slice_index back) (place_of places) v (head_of m v) (frames_of links (len_of v lens) (head_of m v)))
+    rings = λ v. subst (λ m. IsRing (slice_index links) (slice_index back) (place_of places) v (head_of m v)
+        (frames_of links (len_of v lens) (head_of m v)))
         (sym size)
         (subst (IsRing (slice_index links) (slice_index back) (place_of places) v (head_of n v)) (sym (is v)) (rings v));
   };
@@ -264,11 +265,13 @@ module _ (links back : List ℕ) (places : List (Option Which)) (lens : Lengths)
             (length-set places f (Some w)) (frames_same w fs seen_lists) whole.few (next ∙ whole.next) (prev ∙ whole.prev)
             (total_join w _ count_join)
             (λ v. elim (same_or v w) [
-              | inl same ↦ subst (λ u. IsRing (slice_index links') (slice_index back') (place_of (slice_set places f (Some w))) u (head_of (length places) u)
+              | inl same ↦ subst (λ u. IsRing (slice_index links') (slice_index back') (place_of (slice_set places f (Some w))) u
+                  (head_of (length places) u)
                   (list_of u (with_list w fs seen_lists))) (sym same)
                   (subst (IsRing (slice_index links') (slice_index back') (place_of (slice_set places f (Some w))) w (head_of (length places) w))
                   (sym (list_same w fs seen_lists)) changed)
-              | inr ne ↦ subst (IsRing (slice_index links') (slice_index back') (place_of (slice_set places f (Some w))) v (head_of (length places) v))
+              | inr ne ↦ subst (IsRing (slice_index links') (slice_index back') (place_of (slice_set places f (Some w))) v
+                  (head_of (length places) v))
                   (sym (list_other v w fs seen_lists ne))
                   (IsRing-kept (slice_index links) (slice_index back) (slice_index links') (slice_index back') (place_of places)
                   (place_of (slice_set places f (Some w))) v (head_of (length places) v) (heads_none v) (list_of v seen_lists) (ring v)
@@ -288,16 +291,19 @@ module _ (links back : List ℕ) (places : List (Option Which)) (lens : Lengths)
 
         pub front : Inserts (slice_index links) (slice_index back) (slice_index links') (slice_index back') (head_of (length places) w) f
             (slice_index links (head_of (length places) w))
-            → Shows links' back' (slice_set places f (Some w)) (with_len w (len_of w lens + 1) lens) (with_list w (f ∷ list_of w seen_lists) seen_lists)
+            → Shows links' back' (slice_set places f (Some w)) (with_len w (len_of w lens + 1) lens)
+            (with_list w (f ∷ list_of w seen_lists) seen_lists)
         front splices = joins _ _ _ splices (inl refl) (first_on w)
             (IsRing-front (slice_index links) (slice_index back) (slice_index links') (slice_index back') (place_of places)
             (place_of (slice_set places f (Some w))) w (head_of (length places) w) (heads_none w) (list_of w seen_lists) f (ring w)
             (off_ring f below free w _ (inl refl)) free splices place_here place_other)
             (let len = length-listed w in omega (arith, len))
 
-        pub push : Inserts (slice_index links) (slice_index back) (slice_index links') (slice_index back') (slice_index back (head_of (length places) w)) f
+        pub push : Inserts (slice_index links) (slice_index back) (slice_index links') (slice_index back')
+            (slice_index back (head_of (length places) w)) f
             (head_of (length places) w)
-            → Shows links' back' (slice_set places f (Some w)) (with_len w (len_of w lens + 1) lens) (with_list w (list_of w seen_lists ++ f ∷ []) seen_lists)
+            → Shows links' back' (slice_set places f (Some w)) (with_len w (len_of w lens + 1) lens)
+            (with_list w (list_of w seen_lists ++ f ∷ []) seen_lists)
         push splices = joins _ _ _ splices (last_on w) (inl refl)
             (IsRing-push (slice_index links) (slice_index back) (slice_index links') (slice_index back') (place_of places)
             (place_of (slice_set places f (Some w))) w (head_of (length places) w) (heads_none w) (list_of w seen_lists) f (ring w)
@@ -356,7 +362,8 @@ module _ (links back : List ℕ) (places : List (Option Which)) (lens : Lengths)
           (λ v. subst (IsRing (slice_index links') (slice_index back') (place_of (slice_set places f None)) v (head_of (length places) v))
           (sym (list_taken v f seen_lists))
           (elim (same_or v w) [
-            | inl same ↦ subst (λ u. IsRing (slice_index links') (slice_index back') (place_of (slice_set places f None)) u (head_of (length places) u)
+            | inl same ↦ subst (λ u. IsRing (slice_index links') (slice_index back') (place_of (slice_set places f None)) u
+                (head_of (length places) u)
                 (without f (list_of u seen_lists))) (sym same)
                 (IsRing-skip (slice_index links) (slice_index back) (slice_index links') (slice_index back') (place_of places)
                 (place_of (slice_set places f None)) w (head_of (length places) w) (heads_none w) (list_of w seen_lists) f

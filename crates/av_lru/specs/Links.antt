@@ -2,9 +2,9 @@
 -- is its number, and the heads stand behind the frames.
 use Rattle.std.specs.Prelude.{◌≡◌, ◌≢◌, ◌⊎◌, ℕ, zero, suc, ◌+◌, ◌<◌, ◌^◌, Bool, true, false, List, [], ◌∷◌, length, Option, Some, None, count_by, slice_index, slice_index_or}
 use Rattle.av_lru.specs.Lists.{Lists}
-use Rattle.av_lru.specs.declared.Lengths.{Lengths}
-use Rattle.av_lru.specs.declared.Which.{Which}
-use Rattle.av_lru.specs.declared.Which.TheVariants.{Active, Inactive}
+use Rattle.av_lru.specs.declared.lists.Lengths.{Lengths}
+use Rattle.av_lru.specs.declared.lists.Which.{Which}
+use Rattle.av_lru.specs.declared.lists.Which.TheVariants.{Active, Inactive}
 
 -- the place of a list's head, behind so many frames
 abbrev pub head_of : ℕ → Which → ℕ

@@ -41,12 +41,14 @@ if_there b v = cond b v None
 abbrev pub left_of : AnonSet → Anons → Anons
 left_of now anons = record { next = anons.next; anon = λ v. if_there (is_some (info_of now v)) (anons.anon v) }
 
-module _ (d : Device) (old : Mem) (s : State) (keeps : Keeps d old s) (spaces : AllSpaces) (now : AnonSet) (stay : AnonsStay old.spaces old.anons spaces now) where
+module _ (d : Device) (old : Mem) (s : State) (keeps : Keeps d old s) (spaces : AllSpaces) (now : AnonSet)
+    (stay : AnonsStay old.spaces old.anons spaces now) where
   -- an own anon_vma is there, and was
   there_now : (v : ℕ) → IsOwnedIn spaces v → IsSome (info_of now v)
   there_now v h = stay.fit.linked v (h.0, h.1, with_chain (areas_on spaces.processes h.0 h.1) h.2)
     where
-      with_chain : (o : Option Area) → IsSomeAnd o (λ area. area.anon ≡ Some v) → IsSomeAnd o (λ area. is_in v (in_spaces.chain_by spaces now area.anon) ≡ true)
+      with_chain : (o : Option Area) → IsSomeAnd o (λ area. area.anon ≡ Some v)
+          → IsSomeAnd o (λ area. is_in v (in_spaces.chain_by spaces now area.anon) ≡ true)
       with_chain None is = is
       with_chain (Some A) is = ap (λ own. is_in v (in_spaces.chain_by spaces now own)) is ∙ stay.fit.own v h
 
@@ -67,13 +69,15 @@ module _ (d : Device) (old : Mem) (s : State) (keeps : Keeps d old s) (spaces : 
       ∙ at (s.areas was.0 was.1) (keeps.stands.anons.chains was.0 was.1)
       (subst (λ o. IsSomeAnd o (λ area. area.anon ≡ Some v)) (keeps.stands.areas was.0 was.1) was.2)
     where
-      at : (o : Option Area) → IfSome o (λ area. chain_by (view old).anons area.anon ≡ chain_by s.anons area.anon) → IsSomeAnd o (λ area. area.anon ≡ Some v)
+      at : (o : Option Area) → IfSome o (λ area. chain_by (view old).anons area.anon ≡ chain_by s.anons area.anon)
+          → IsSomeAnd o (λ area. area.anon ≡ Some v)
           → chain_by (anons_of old.spaces old.anons) (Some v) ≡ chain_by s.anons (Some v)
       at None c is = absurd is
       at (Some A) c is = subst (λ own. chain_by (anons_of old.spaces old.anons) own ≡ chain_by s.anons own) is c
 
   -- so is that of each area
-  pub area_chain : (p page : ℕ) (A : Area) → areas_on spaces.processes p page ≡ Some A → in_spaces.chain_by spaces now A.anon ≡ chain_by s.anons A.anon
+  pub area_chain : (p page : ℕ) (A : Area) → areas_on spaces.processes p page ≡ Some A
+      → in_spaces.chain_by spaces now A.anon ≡ chain_by s.anons A.anon
   area_chain p page A is = by A.anon refl
     where
       by : (own : Option ℕ) → A.anon ≡ own → in_spaces.chain_by spaces now own ≡ chain_by s.anons own
@@ -108,7 +112,8 @@ module _ (d : Device) (old : Mem) (s : State) (keeps : Keeps d old s) (spaces : 
               (by (areas_on spaces.processes h.0 h.1) refl h.2),
         )
           where
-            by : (o : Option Area) → areas_on spaces.processes h.0 h.1 ≡ o → IsSomeAnd o (λ area. is_in v (in_spaces.chain_by spaces now area.anon) ≡ true) →
+            by : (o : Option Area) → areas_on spaces.processes h.0 h.1 ≡ o
+                → IsSomeAnd o (λ area. is_in v (in_spaces.chain_by spaces now area.anon) ≡ true) →
                 IsSomeAnd o (λ area. is_in v (chain_by s.anons area.anon) ≡ true)
             by None e is = is
             by (Some A) e is = sym (ap (is_in v) (area_chain h.0 h.1 A e)) ∙ is
@@ -146,7 +151,8 @@ module _ (d : Device) (old : Mem) (s : State) (keeps : Keeps d old s) (spaces : 
         same_kin n i (Some was) h = λ k. Some (h.root k, h.parent k)
 
         kin_at : (n : ℕ) (o : Option Info) → info_of now n ≡ o → IfSome o (λ i. IsSomeAnd (info_of old.anons n) (λ was. IsSameKin was i))
-            → option_map kin_of (option_map (anon_vma (in_spaces.chain_by spaces now (Some n))) o) ≡ option_map kin_of (if_there (is_some o) (s.anons.anon n))
+            → option_map kin_of (option_map (anon_vma (in_spaces.chain_by spaces now (Some n))) o) ≡ option_map kin_of
+            (if_there (is_some o) (s.anons.anon n))
         kin_at n None e h = refl
         kin_at n (Some i) e h = same_kin n i (info_of old.anons n) h ∙ keeps.stands.anons.kin n
 

@@ -27,7 +27,8 @@ start-view old new s same lists swap (Some f) frames = view-by old new (with_dir
     (record (shown_swap old.swap) { flight = (shown_swap old.swap).flight ++ s ∷ [] }) same frames lists swap
 
 pub put-view : (old new : Mem) (f : ℕ) → SameRest old new → new.lists ≡ old.lists → (o : Option Slot) → MatchOption o
-    (((k : ℕ) → can_give (shown_swap old.swap) k ≡ false) × (shown_swap new.swap ≡ shown_swap old.swap) × (shown_frames new.frames ≡ shown_frames old.frames))
+    (((k : ℕ) → can_give (shown_swap old.swap) k ≡ false) × (shown_swap new.swap ≡ shown_swap old.swap)
+    × (shown_frames new.frames ≡ shown_frames old.frames))
     (λ s. IsPut f s (shown_swap old.swap) (shown_swap new.swap) (shown_frames old.frames) (shown_frames new.frames))
     → Puts o old new f
 put-view old new f same lists None h = (h.0, view-by old new (shown_frames old.frames) old.lists (shown_swap old.swap) same h.2 lists h.1)
@@ -43,7 +44,7 @@ put-view old new f same lists (Some s) h = record {
 
 -- the parts that a write changes
 abbrev pub parts_of : Mem → Option (ℕ → ℕ → List ℕ) → ℕ → Parts
-parts_of k pages faults = record { swap = shown_swap k.swap; frames = shown_frames k.frames; pages = pages; faults = faults }
+parts_of k pages failures = record { swap = shown_swap k.swap; frames = shown_frames k.frames; pages = pages; failures = failures }
 
 -- each slot in flight stands there once
 abbrev pub IsOnce : Mem → Type 0
@@ -67,13 +68,14 @@ flight-is old new s f page h once =
     sym (ap (without_slot s) h.first ∙ flight-first s new.flight (subst (λ flight. how_many (same_slot s) flight ≤ 1) h.first (once s)))
 
 -- a frame that was written goes to the tail
-pub ends-written : (old new : Mem) (s : Slot) (f : ℕ) (pages pages' : Option (ℕ → ℕ → List ℕ)) (faults faults' : ℕ) → SameRest old new → IsOnce old
+pub ends-written : (old new : Mem) (s : Slot) (f : ℕ) (pages pages' : Option (ℕ → ℕ → List ℕ)) (failures failures' : ℕ)
+    → SameRest old new → IsOnce old
     → new.lists ≡ record (without_frame f old.lists) { inactive = (without_frame f old.lists).inactive ++ f ∷ [] }
-    → (r : Finished) → r ≡ Done s f → Finishes (Some r) (parts_of old pages faults) (parts_of new pages' faults')
-    → Ends (Some (Done s f)) old new pages pages' faults faults'
-ends-written old new s f pages pages' faults faults' same once lists r is h =
-    let h : Finishes (Some (Done s f)) (parts_of old pages faults) (parts_of new pages' faults') =
-    subst (λ x. Finishes (Some x) (parts_of old pages faults) (parts_of new pages' faults')) is h in
+    → (r : Finished) → r ≡ Done s f → Finishes (Some r) (parts_of old pages failures) (parts_of new pages' failures')
+    → Ends (Some (Done s f)) old new pages pages' failures failures'
+ends-written old new s f pages pages' failures failures' same once lists r is h =
+    let h : Finishes (Some (Done s f)) (parts_of old pages failures) (parts_of new pages' failures') =
+    subst (λ x. Finishes (Some x) (parts_of old pages failures) (parts_of new pages' failures')) is h in
     let first = h.1 in (
       h.0,
       first-is old (shown_swap new.swap) s f h.0 first,
@@ -87,12 +89,12 @@ ends-written old new s f pages pages' faults faults' same once lists r is h =
     )
 
 -- one that was not is dirty
-pub ends-failed : (old new : Mem) (s : Slot) (f : ℕ) (pages pages' : Option (ℕ → ℕ → List ℕ)) (faults faults' : ℕ) → SameRest old new → IsOnce old
-    → new.lists ≡ old.lists → (r : Finished) → r ≡ Failed s f → Finishes (Some r) (parts_of old pages faults) (parts_of new pages' faults')
-    → Ends (Some (Failed s f)) old new pages pages' faults faults'
-ends-failed old new s f pages pages' faults faults' same once lists r is h =
-    let h : Finishes (Some (Failed s f)) (parts_of old pages faults) (parts_of new pages' faults') =
-    subst (λ x. Finishes (Some x) (parts_of old pages faults) (parts_of new pages' faults')) is h in
+pub ends-failed : (old new : Mem) (s : Slot) (f : ℕ) (pages pages' : Option (ℕ → ℕ → List ℕ)) (failures failures' : ℕ) → SameRest old new → IsOnce old
+    → new.lists ≡ old.lists → (r : Finished) → r ≡ Failed s f → Finishes (Some r) (parts_of old pages failures) (parts_of new pages' failures')
+    → Ends (Some (Failed s f)) old new pages pages' failures failures'
+ends-failed old new s f pages pages' failures failures' same once lists r is h =
+    let h : Finishes (Some (Failed s f)) (parts_of old pages failures) (parts_of new pages' failures') =
+    subst (λ x. Finishes (Some x) (parts_of old pages failures) (parts_of new pages' failures')) is h in
     let first = h.1 in (
       h.0,
       first-is old (shown_swap new.swap) s f h.0 first,

@@ -44,13 +44,15 @@ got-told true d s page holds = by d.pages holds
     by (Some kept) holds = λ i below. ap (λ bytes. slice_index bytes i) (sym holds)
 
 -- after a call that changes nothing of it but how often it failed
-pub seen-same : (told : Bool) (d d' : Device) → d'.sizes ≡ d.sizes → d'.pages ≡ d.pages → d.faults ≤ d'.faults → IsSameDevice (as_told told d) (as_told told d')
-seen-same true d d' sizes told faults = record { sizes = sizes; first = ap (option_map {U = ℕ → List ℕ} (λ (t : ℕ → ℕ → List ℕ) k. t k 0)) told; faults = faults }
-seen-same false d d' sizes told faults = record { sizes = sizes; first = refl; faults = faults }
+pub seen-same : (told : Bool) (d d' : Device) → d'.sizes ≡ d.sizes → d'.pages ≡ d.pages → d.failures ≤ d'.failures
+    → IsSameDevice (as_told told d) (as_told told d')
+seen-same true d d' sizes told failures =
+    record { sizes = sizes; first = ap (option_map {U = ℕ → List ℕ} (λ (t : ℕ → ℕ → List ℕ) k. t k 0)) told; failures = failures }
+seen-same false d d' sizes told failures = record { sizes = sizes; first = refl; failures = failures }
 
 -- and after one that does not change that
-pub told-still : (told : Bool) (d d' : Device) → d'.sizes ≡ d.sizes → d'.pages ≡ d.pages → d'.faults ≡ d.faults → as_told told d' ≡ as_told told d
-told-still told d d' sizes pages faults = λ i. as_told told (record { sizes = sizes i; pages = pages i; faults = faults i })
+pub told-still : (told : Bool) (d d' : Device) → d'.sizes ≡ d.sizes → d'.pages ≡ d.pages → d'.failures ≡ d.failures → as_told told d' ≡ as_told told d
+told-still told d d' sizes pages failures = λ i. as_told told (record { sizes = sizes i; pages = pages i; failures = failures i })
 
 module _ (d : Device) (closing : Option ℕ) (k : Mem) (w : World) (r : Rmap) (l : Ledger) (x : Slot → ℕ) (sound : IsSoundBut (setting_by d k) x l)
     (h : Serves d closing k w r l) (q : Key) (s : Slot) (at : entry l q ≡ Some (InSlot s)) where
@@ -71,7 +73,8 @@ module _ (d : Device) (closing : Option ℕ) (k : Mem) (w : World) (r : Rmap) (l
       none-some t (sym (unslotted l f (sym (h.held.ledger.frames.free f (cached-in_range m x l sound f t cached)) ∙ free))
       ∙ frame-slot l (once-of m x l sound) f t cached)
 
-  module _ (out : frame_at l s ≡ None) (home : Option (ℕ × ℕ)) (is : home ≡ home_of q.1 (r.areas q.0 q.1)) (new : Mem) (pages : Option (ℕ → ℕ → List ℕ))
+  module _ (out : frame_at l s ≡ None) (home : Option (ℕ × ℕ)) (is : home ≡ home_of q.1 (r.areas q.0 q.1)) (new : Mem)
+      (pages : Option (ℕ → ℕ → List ℕ))
       (f : ℕ) (homed : Option (ℕ × ℕ)) (is_home : homed ≡ home_by k s home) (load : HasLoaded k new pages f s homed)
       (got : IfSome d.pages (λ told. (i : ℕ) → i < page_size → slice_index load.page i ≡ slice_index (told s.area s.page) i)) where
     pub first-taken : IsFirst m l f load.left

@@ -76,7 +76,8 @@ module _ (F : ShownFrames) (L : Lists) (table : ℕ → ℕ → Option Plain) (s
       ∙ ap (λ b. dropped f s (view_of_parts F L table spaces anons h) b (h.entries s == 0)) (sym kept)
 
   pub drop-freed : (F.maps f == 0) ≡ true
-      → view_of_parts (record (with_frame_slot f None F) { free = f ∷ F.free }) (without_frame f L) table spaces anons (given_back s (with_find s None h))
+      → view_of_parts (record (with_frame_slot f None F) { free = f ∷ F.free }) (without_frame f L) table spaces anons
+      (given_back s (with_find s None h))
       ≡ view_drop f s (view_of_parts F L table spaces anons h)
   drop-freed gone = back-at (record (with_frame_slot f None F) { free = f ∷ F.free }) (without_frame f L)
       ∙ ap (λ L'. with_slots table spaces anons h s (record (with_frame_slot f None F) { free = f ∷ F.free }) L' (cond (h.entries s == 0)
@@ -99,12 +100,14 @@ not-zero n h = by (n == 0) refl
     by true e = let is : n ≡ 0 = grind (arith, nat_tests, e) in absurd (h is)
     by false e = refl
 
-pub kept-view : (old new : Mem) (s : Slot) (f : ℕ) → SameRest old new → new.lists ≡ old.lists → shown_swap new.swap ≡ given_back s (with_find s None (shown_swap old.swap))
+pub kept-view : (old new : Mem) (s : Slot) (f : ℕ) → SameRest old new → new.lists ≡ old.lists
+    → shown_swap new.swap ≡ given_back s (with_find s None (shown_swap old.swap))
     → (o : Option ℕ) → o ≡ Some f → IfSome o (λ f. shown_frames new.frames ≡ with_frame_slot f None (shown_frames old.frames))
     → ((shown_frames new.frames).maps f == 0) ≡ false → IfSome o (λ f. view new ≡ view_drop f s (view old))
 kept-view old new s f same lists swap None is frames kept = no-some f is
 kept-view old new s f same lists swap (Some g) is frames kept =
-    view-by old new (with_frame_slot g None (shown_frames old.frames)) old.lists (given_back s (with_find s None (shown_swap old.swap))) same frames lists swap
+    view-by old new (with_frame_slot g None (shown_frames old.frames)) old.lists (given_back s (with_find s None (shown_swap old.swap))) same
+    frames lists swap
     ∙ drop-kept (shown_frames old.frames) old.lists (table_of old) old.spaces old.anons (shown_swap old.swap) g s
     (sym (ap (λ (F : ShownFrames). F.maps g == 0) frames) ∙ ap (λ f. (shown_frames new.frames).maps f == 0) (same-some g f is) ∙ kept)
 
@@ -115,7 +118,8 @@ pub freed-view : (old new : Mem) (mid : ShownFrames) (s : Slot) (f : ℕ) → Sa
 freed-view old new mid s f same lists swap frames None is between gone = no-some f is
 freed-view old new mid s f same lists swap frames (Some g) is between gone =
     let one : f ≡ g = sym (same-some g f is) in
-    view-by old new (record (with_frame_slot g None (shown_frames old.frames)) { free = g ∷ (shown_frames old.frames).free }) (without_frame g old.lists)
+    view-by old new (record (with_frame_slot g None (shown_frames old.frames)) { free = g ∷ (shown_frames old.frames).free })
+    (without_frame g old.lists)
     (given_back s (with_find s None (shown_swap old.swap))) same
     (frames ∙ (λ i. record (between i) { free = one i ∷ (between i).free })) (lists ∙ ap (λ f. without_frame f old.lists) one) swap
     ∙ drop-freed (shown_frames old.frames) old.lists (table_of old) old.spaces old.anons (shown_swap old.swap) g s

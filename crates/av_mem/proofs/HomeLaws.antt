@@ -9,7 +9,7 @@ use Rattle.av_pagetable.specs.declared.pte.Pte.{Pte}
 use Rattle.av_pagetable.specs.declared.pte.Pte.TheVariants.{Away, Empty, Here, Zero}
 use Rattle.av_pagetable.specs.Entries.{entry_at}
 use Rattle.av_spaces.specs.Kin.{chain_by, info_of}
-use Rattle.av_vma.specs.Join.{first_of, index_of}
+use Rattle.av_vma.specs.Index.{first_of, index_of}
 use Rattle.av_vma.specs.Pages.{AreLaid, Pages, home_of}
 use Rattle.av_vma.specs.declared.area.Area.{Area}
 use Rattle.av_vma.proofs.Laid.{has_parts}

@@ -1,9 +1,10 @@
--- What the memory system stands for between commands, and what it serves between two steps of one: the one gives the other. And neither says how often
+-- What the memory system stands for between commands, and what it serves between two steps of one:
+-- the one gives the other. And neither says how often
 -- the device failed. The swap areas fit where they stay.
 use Rattle.std.proofs.Common.{◌≡◌, ℕ, ◌≤◌, List, None, Option, Some, refl, sym, ap, subst, ◌∙◌}
 use Rattle.std.specs.FinMap.Entries.{find}
 use Rattle.std.specs.Ordering.{nat_cmp}
-use Rattle.std.specs.Prelude.{ℤ, Bool, not, IfSome, IsSomeAnd}
+use Rattle.std.specs.Prelude.{Bool, not, IfSome, IsSomeAnd}
 use Rattle.av_base.specs.declared.slot.Slot.{Slot}
 use Rattle.av_swapcache.specs.Swap.{shown as shown_swap}
 use Rattle.av_swapdev.specs.Header.{Layout}
@@ -75,7 +76,6 @@ fits-whenever : (sizes : ℕ → Option ℕ) (pages : Option (ℕ → ℕ → Li
     → SwapFits (device_by sizes pages n) closing k → SwapFits (device_by sizes pages n') closing k
 fits-whenever sizes pages n n' closing k h = record {
   frames = h.frames;
-  one_priority = h.one_priority;
   closed = h.closed;
   on_device = h.on_device;
   by_headers = h.by_headers;
@@ -108,7 +108,8 @@ keeps-whenever sizes pages n n' k s h = let stands = h.stands in record {
 }
 
 -- so it is within a command
-pub serves-whenever : (sizes : ℕ → Option ℕ) (pages : Option (ℕ → ℕ → List ℕ)) (n n' : ℕ) (closing : Option ℕ) (k : Mem) (w : World) (r : Rmap) (l : Ledger)
+pub serves-whenever : (sizes : ℕ → Option ℕ) (pages : Option (ℕ → ℕ → List ℕ)) (n n' : ℕ) (closing : Option ℕ) (k : Mem) (w : World)
+    (r : Rmap) (l : Ledger)
     → Serves (device_by sizes pages n) closing k w r l → Serves (device_by sizes pages n') closing k w r l
 serves-whenever sizes pages n n' closing k w r l h = record {
   held = record {
@@ -139,13 +140,14 @@ pub fits-kept : (d : Device) (closing : Option ℕ) (old new : Mem) → KeepsSwa
     → SwapFits d closing new
 fits-kept d closing old new swap count h = record {
   frames = swap.frames ∙ h.frames ∙ sym count;
-  one_priority = λ k. ap (λ (f : ℕ → ℤ). f k) swap.priority ∙ h.one_priority k;
   closed = swap.closing ∙ h.closed;
-  on_device = λ k. subst (λ (on : List (ℕ × Header)). IfSome (find nat_cmp k on) (λ a. IsSomeAnd (d.sizes k) (λ n. a.pages ≤ n))) (sym swap.on) (h.on_device k);
+  on_device = λ k. subst (λ (on : List (ℕ × Header)). IfSome (find nat_cmp k on) (λ a. IsSomeAnd (d.sizes k) (λ n. a.pages ≤ n))) (sym swap.on)
+      (h.on_device k);
   by_headers = told (headers_of d) h.by_headers;
 }
   where
-    agrees : (k : ℕ) (header : Header) (layout : Layout) → AgreesWith (shown_swap old.swap) k header layout → AgreesWith (shown_swap new.swap) k header layout
+    agrees : (k : ℕ) (header : Header) (layout : Layout) → AgreesWith (shown_swap old.swap) k header layout
+        → AgreesWith (shown_swap new.swap) k header layout
     agrees k header layout a = record {
       pages = a.pages;
       slots = λ page below. a.slots page below ∙ ap (λ (bad : Slot → Bool). not (bad (record { area = k; page = page }))) (sym swap.bad);

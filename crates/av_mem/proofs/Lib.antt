@@ -16,6 +16,7 @@ pub mod EntryGoes
 pub mod LetGoLaws
 pub mod Groups
 pub mod ZapLaws
+pub mod SwapAreas
 pub mod SwapSums
 pub mod HomeLaws
 pub mod ComingBack

@@ -15,7 +15,7 @@ use Rattle.av_plain.proofs.Sound.Counts.{same-itself}
 use Rattle.av_swap_laws.specs.Steps.{view_map}
 use Rattle.av_swapcache.specs.Calls.{IsLoaded}
 use Rattle.av_swapcache.specs.Swap.{Shown as ShownSwap, count_of, given_back, same_slot, shown as shown_swap, with_entries, with_find}
-use Rattle.av_io.specs.declared.faults.Failed.{Failed}
+use Rattle.av_io.specs.declared.failures.Failed.{Failed}
 use Rattle.av_mem.specs.Cache.{HasLoaded, Loads}
 use Rattle.av_mem.specs.Mem.{view, view_of_parts}
 use Rattle.av_mem.specs.declared.mem.Mem.{Mem}
@@ -38,18 +38,19 @@ same-frames old new rest frames = ap (λ (k : Mem). view k) rest
     ∙ ap (λ (F : ShownFrames). view_of_parts F old.lists (table_of old) old.spaces old.anons (shown_swap old.swap)) frames
 
 -- without a free frame all is as it was
-pub loads-none : (old new : Mem) (pages : Option (ℕ → ℕ → List ℕ)) (s : Slot) (home : Option (ℕ × ℕ)) (faults : ℕ) (r : Option (Result ℕ Failed))
+pub loads-none : (old new : Mem) (pages : Option (ℕ → ℕ → List ℕ)) (s : Slot) (home : Option (ℕ × ℕ)) (failures : ℕ) (r : Option (Result ℕ Failed))
     → r ≡ None → old.frames.free ≡ [] → new ≡ record old { frames = new.frames } → shown_frames new.frames ≡ shown_frames old.frames
-    → Loads r old new pages s home faults faults
-loads-none old new pages s home faults r none empty rest frames =
-    subst (λ r. Loads r old new pages s home faults faults) (sym none) (empty, same-frames old new rest frames, refl)
+    → Loads r old new pages s home failures failures
+loads-none old new pages s home failures r none empty rest frames =
+    subst (λ r. Loads r old new pages s home failures failures) (sym none) (empty, same-frames old new rest frames, refl)
 
 -- with the bytes of a page, cached, and at home
 abbrev loaded_frames : ℕ → Slot → List ℕ → List ℕ → Option (ℕ × ℕ) → ShownFrames → ShownFrames
 loaded_frames f s left page home F =
     with_home f home (with_dirty f false (with_frame_slot f (Some s) (with_bytes f (slice_index page) (record F { free = left }))))
 
-pub loaded-view : (old new : Mem) (taken loaded : Store) (f : ℕ) (s : Slot) (home : Option (ℕ × ℕ)) (pages : Option (ℕ → ℕ → List ℕ)) → SameRest old new
+pub loaded-view : (old new : Mem) (taken loaded : Store) (f : ℕ) (s : Slot) (home : Option (ℕ × ℕ)) (pages : Option (ℕ → ℕ → List ℕ))
+    → SameRest old new
     → old.frames.free ≡ f ∷ taken.free → is_in f taken.free ≡ false → shown_frames taken ≡ record (shown_frames old.frames) { free = taken.free }
     → IsLoaded pages s f (shown_swap old.swap) (shown_swap new.swap) (shown_frames taken) (shown_frames loaded)
     → shown_frames new.frames ≡ with_home f home (shown_frames loaded)

@@ -8,7 +8,7 @@ use Rattle.av_base.specs.declared.slot.Slot.{Slot}
 use Rattle.av_base.specs.declared.prot.Prot.{Prot}
 use Rattle.av_base.specs.Words.{is_in, within}
 use Rattle.av_vma.specs.declared.area.Area.{Area}
-use Rattle.av_vma.specs.Join.{first_of, past_of}
+use Rattle.av_vma.specs.Index.{first_of, past_of}
 use Rattle.av_vma.specs.Pages.{has_page, pages_in}
 use Rattle.av_lru.specs.Lists.{Lists}
 use Rattle.av_frames.specs.Store.{Store, Shown, shown, fresh as fresh_frames}
@@ -39,7 +39,7 @@ use Rattle.av_mem.specs.declared.mem.Mem.{Mem}
 use Rattle.av_swapcache.specs.Swap.{Store as SwapStore, Shown as ShownSwap, fresh as fresh_swap, header_at, shown as shown_swap}
 use Rattle.av_swapdev.specs.Header.{Layout}
 use Rattle.av_swapdev.specs.declared.header.Header.{Header}
-use Rattle.av_mem.specs.Mem.{AreByHeaders, anon_vma, numbers_of, plain, view_of_parts, view, ranges_of, Keeps}
+use Rattle.av_mem.specs.Mem.{AreByHeaders, anon_vma, area_of as swap_area_of, plain, view_of_parts, view, ranges_of, Keeps}
 
 -- ---- the areas, seen as ranges
 
@@ -122,7 +122,8 @@ plain_set old new p page e is = λ k q o. (ap (λ f. plain (f q o)) is ∙ pushe
     pushed false e x = refl
 
 -- an entry has been set
-pub entry_put_in : (old new : Mem) (p page : ℕ) (e : Pte) → entry_at new.tables ≡ with_entry p page e (entry_at old.tables) → new.frames ≡ old.frames →
+pub entry_put_in : (old new : Mem) (p page : ℕ) (e : Pte) → entry_at new.tables ≡ with_entry p page e (entry_at old.tables)
+    → new.frames ≡ old.frames →
     new.lists ≡ old.lists → new.spaces ≡ old.spaces → new.anons ≡ old.anons → new.swap ≡ old.swap
     → view new ≡ record (view old) { table = with_entry p page (plain e) (view old).table }
 entry_put_in old new p page e is frames lists spaces anons swap = λ i. view_of_parts (shown (frames i)) (lists i)
@@ -157,7 +158,8 @@ none_used l s none unnamed =
     ap (λ b. slot_entries l s + cond b 1 0) cached ∙ (let n : slot_entries l s + 0 ≡ 0 = omega (arith, unnamed) in n)
 
 -- where no frame caches a slot, its page is kept as it was
-pub slot_kept : (d : Device) (v v' : View) (s : Slot) (p : Option Page) (o o' : Option ℕ) → o ≡ None → o' ≡ None → IsKeptAt v d s p o → IsKeptAt v' d s p o'
+pub slot_kept : (d : Device) (v v' : View) (s : Slot) (p : Option Page) (o o' : Option ℕ) → o ≡ None → o' ≡ None → IsKeptAt v d s p o
+    → IsKeptAt v' d s p o'
 slot_kept d v v' s p None None e e' h = h
 slot_kept d v v' s p None (Some f) e e' h = absurd (clash (sym e'))
 slot_kept d v v' s p (Some f) o' e e' h = absurd (clash (sym e))
@@ -188,7 +190,8 @@ kept-nothing d v l (Some (InSlot s)) = at (frame_at l s)
 abbrev frames_free : List ℕ → Free
 frames_free frames = record { frames = frames; slots = no_slots }
 
-pub fresh-keeps : (d : Device) (frames : Store) (lists : Lists) (tables : ProcessTables) (spaces : AllSpaces) (anons : AnonSet) (swap : SwapStore) (n : ℕ)
+pub fresh-keeps : (d : Device) (frames : Store) (lists : Lists) (tables : ProcessTables) (spaces : AllSpaces) (anons : AnonSet)
+    (swap : SwapStore) (n : ℕ)
     → shown frames ≡ fresh_frames n → lists ≡ record { frames = n; active = []; inactive = [] }
     → ((p : ℕ) → has tables p ≡ false) → spaces.processes ≡ []
     → ((number : ℕ) → area_of spaces.areas number ≡ None) → family anons ≡ nobody → ((v : ℕ) → spans_of anons v ≡ []) → shown_swap swap ≡ fresh_swap n
@@ -216,7 +219,7 @@ fresh-keeps d frames lists tables spaces anons swap n is unlisted none empty unu
           finds = λ s. ap (λ (h : ShownSwap). h.find s) blank;
           counts = λ s. ap (λ (h : ShownSwap). h.entries s) blank;
           flight = ap (λ (h : ShownSwap). h.flight) blank;
-          on = ap (λ (h : ShownSwap). map numbers_of h.on) blank;
+          on = ap (λ (h : ShownSwap). map (swap_area_of h.priority) h.on) blank;
         };
       };
       areas = record {
@@ -251,7 +254,6 @@ fresh-keeps d frames lists tables spaces anons swap n is unlisted none empty unu
   };
   swap = record {
     frames = ap (λ (h : ShownSwap). h.frames) blank ∙ sym (ap (λ (s : Shown). s.count) is);
-    one_priority = λ a. ap (λ (h : ShownSwap). h.priority a) blank;
     closed = ap (λ (h : ShownSwap). h.closing) blank;
     on_device = λ a. subst (λ (h : ShownSwap). IfSome (header_at h a) (λ (x : Header). IsSomeAnd (d.sizes a) (λ n. x.pages ≤ n))) (sym blank) tt;
     by_headers = subst (AreByHeaders (headers_of d)) (sym blank) (unmade (headers_of d));

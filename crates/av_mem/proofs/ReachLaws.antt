@@ -6,7 +6,7 @@ use Rattle.av_base.specs.Words.{is_in}
 use Rattle.av_base.specs.declared.slot.Slot.{Slot}
 use Rattle.av_vma.specs.declared.area.Area.{Area}
 use Rattle.av_vma.specs.Areas.{area_of}
-use Rattle.av_vma.specs.Join.{index_of}
+use Rattle.av_vma.specs.Index.{index_of}
 use Rattle.av_pagetable.specs.declared.pte.Pte.{Pte}
 use Rattle.av_pagetable.specs.declared.pte.Pte.TheVariants.{Empty, Zero, Here, Away}
 use Rattle.av_pagetable.specs.Entries.{entry_at}
@@ -92,7 +92,8 @@ module _ (k : Mem) (r : Rmap) (l : Ledger) (h : Reaches k r l) where
   linked_is : (p page v n : ℕ) (A : Area) → IsNumber k.spaces p page A n → r.areas p page ≡ Some A
       → is_in v (chain_by r.anons A.anon) ≡ true → is_in v ((family k.anons).chain n) ≡ true
   linked_is p page v n A is on linked = of_own A.anon refl (ap (is_in v)
-      (subst (λ o. IfSome o (λ (area : Area). chain_by (anons_of k.spaces k.anons) area.anon ≡ chain_by r.anons area.anon)) on (h.anons.chains p page))
+      (subst (λ o. IfSome o (λ (area : Area). chain_by (anons_of k.spaces k.anons) area.anon ≡ chain_by r.anons area.anon)) on
+      (h.anons.chains p page))
       ∙ linked)
     where
       of_info : (own : ℕ) (o : Option Info) → is_in v (option_map_or (λ (x : AnonVma). x.chain)
@@ -110,7 +111,8 @@ module _ (k : Mem) (r : Rmap) (l : Ledger) (h : Reaches k r l) where
   reached : AreNumbered k.spaces → (home : ℕ × ℕ) (p page : ℕ) → IsReachedAt r (p, page) home → IsReached (reach k) home p page
   reached numbered home p page is = by (r.areas p page) refl is
     where
-      by : (o : Option Area) → r.areas p page ≡ o → IsSomeAnd o (λ area. (is_in home.0 (chain_by r.anons area.anon) ≡ true) × (index_of area page ≡ home.1))
+      by : (o : Option Area) → r.areas p page ≡ o
+          → IsSomeAnd o (λ area. (is_in home.0 (chain_by r.anons area.anon) ≡ true) × (index_of area page ≡ home.1))
           → IsReached (reach k) home p page
       by None on is = absurd is
       by (Some A) on is =

@@ -36,7 +36,8 @@ use Rattle.av_mem.specs.declared.mem.Mem.{Mem}
 
 -- the same headers
 pub same-headers : (d d' : Device) → IsSameDevice d d' → headers_of d' ≡ headers_of d
-same-headers d d' same = λ i. option_map (λ (first : ℕ → _) k. option_and_then (λ n. without_fault (header_of (first k) n)) (same.sizes i k)) (same.first i)
+same-headers d d' same =
+    λ i. option_map (λ (first : ℕ → _) k. option_and_then (λ n. without_fault (header_of (first k) n)) (same.sizes i k)) (same.first i)
 
 -- and so the same setting
 pub same-setting : (frames : ℕ) (d d' : Device) → IsSameDevice d d' → setting_of frames d' ≡ setting_of frames d
@@ -55,12 +56,15 @@ module _ (old new : Mem) (parts : KeepsParts old new) where
   lists-fit h = parts.lists ∙ h ∙ sym parts.count
 
   pub tables-fit : HasTables old → HasTables new
-  tables-fit h = λ p. ap (λ (has : ℕ → Bool). has p) parts.processes ∙ h p ∙ ap (λ (s : AllSpaces). is_some (ranges_of s.processes p)) (sym parts.spaces)
+  tables-fit h = λ p. ap (λ (has : ℕ → Bool). has p) parts.processes ∙ h p
+      ∙ ap (λ (s : AllSpaces). is_some (ranges_of s.processes p)) (sym parts.spaces)
 
   pub anons-fit : AnonsFit old.spaces old.anons → AnonsFit new.spaces new.anons
-  anons-fit h = subst (λ (s : AllSpaces). AnonsFit s new.anons) (sym parts.spaces) (subst (λ (a : AnonSet). AnonsFit old.spaces a) (sym parts.anons) h)
+  anons-fit h = subst (λ (s : AllSpaces). AnonsFit s new.anons) (sym parts.spaces)
+      (subst (λ (a : AnonSet). AnonsFit old.spaces a) (sym parts.anons) h)
 
-  agrees : (k : ℕ) (header : Header) (layout : Layout) → AgreesWith (shown_swap old.swap) k header layout → AgreesWith (shown_swap new.swap) k header layout
+  agrees : (k : ℕ) (header : Header) (layout : Layout) → AgreesWith (shown_swap old.swap) k header layout
+      → AgreesWith (shown_swap new.swap) k header layout
   agrees k header layout h = record {
     pages = h.pages;
     slots = λ page below. h.slots page below ∙ ap (λ (bad : Slot → Bool). not (bad (record { area = k; page = page }))) (sym parts.swap.bad);
@@ -69,7 +73,8 @@ module _ (old new : Mem) (parts : KeepsParts old new) where
   by-headers : (headers : Option (ℕ → Option Layout)) → AreByHeaders headers (shown_swap old.swap) → AreByHeaders headers (shown_swap new.swap)
   by-headers None h = tt
   by-headers (Some told) h = λ k. subst (λ (on : List (ℕ × Header)). IfSome (find nat_cmp k on)
-      (λ header. IsSomeAnd (told k) (AgreesWith (shown_swap new.swap) k header))) (sym parts.swap.on) (if_some (find nat_cmp k (shown_swap old.swap).on) k (h k))
+      (λ header. IsSomeAnd (told k) (AgreesWith (shown_swap new.swap) k header))) (sym parts.swap.on)
+      (if_some (find nat_cmp k (shown_swap old.swap).on) k (h k))
     where
       told_so : (k : ℕ) (header : Header) (o : Option Layout) → IsSomeAnd o (AgreesWith (shown_swap old.swap) k header)
           → IsSomeAnd o (AgreesWith (shown_swap new.swap) k header)
@@ -84,12 +89,12 @@ module _ (old new : Mem) (parts : KeepsParts old new) where
   pub swap-fits : (d d' : Device) (closing : Option ℕ) → IsSameDevice d d' → SwapFits d closing old → SwapFits d' closing new
   swap-fits d d' closing same h = record {
     frames = parts.swap.frames ∙ h.frames ∙ sym parts.count;
-    one_priority = λ a. ap (λ (f : ℕ → _). f a) parts.swap.priority ∙ h.one_priority a;
     closed = parts.swap.closing ∙ h.closed;
     on_device = λ a. subst (λ (on : List (ℕ × Header)). IfSome (find nat_cmp a on) (λ (x : Header). IsSomeAnd (d'.sizes a) (λ n. x.pages ≤ n)))
         (sym parts.swap.on) (subst (λ (sizes : ℕ → Option ℕ). IfSome (find nat_cmp a (shown_swap old.swap).on) (λ (x : Header). IsSomeAnd (sizes a)
         (λ n. x.pages ≤ n))) (sym same.sizes) (h.on_device a));
-    by_headers = by-headers (headers_of d') (subst (λ headers. AreByHeaders headers (shown_swap old.swap)) (sym (same-headers d d' same)) h.by_headers);
+    by_headers = by-headers (headers_of d')
+        (subst (λ headers. AreByHeaders headers (shown_swap old.swap)) (sym (same-headers d d' same)) h.by_headers);
   }
 
   -- one setting

@@ -22,7 +22,8 @@ pub record SameRest (old new : Mem) : Type 0 where
 
 pub view-by : (old new : Mem) (F : ShownFrames) (L : Lists) (h : ShownSwap) → SameRest old new → shown_frames new.frames ≡ F → new.lists ≡ L
     → shown_swap new.swap ≡ h → view new ≡ view_of_parts F L (table_of old) old.spaces old.anons h
-view-by old new F L h same frames lists swap = λ i. view_of_parts (frames i) (lists i) (λ p page. plain (entry_at (same.tables i) p page)) (same.spaces i)
+view-by old new F L h same frames lists swap =
+    λ i. view_of_parts (frames i) (lists i) (λ p page. plain (entry_at (same.tables i) p page)) (same.spaces i)
     (same.anons i) (swap i)
 
 -- both lists

@@ -7,6 +7,7 @@ use Rattle.std.specs.FinMap.Entries.{below_all, find, is_sorted}
 use Rattle.std.specs.List.{AllByRecursion, sum_by}
 use Rattle.std.specs.Option.{option_map_or}
 use Rattle.std.specs.Ordering.{is_eq, nat_cmp}
+use Rattle.std.specs.Prelude.{ℤ}
 use Rattle.av_swapcache.specs.Swap.{all_free, all_slots, free_of as free_slots_of, shown as shown_swap}
 use Rattle.av_swapdev.specs.declared.header.Header.{Header}
 use Rattle.av_plain.specs.Choice.{ListsAll}
@@ -15,21 +16,24 @@ use Rattle.av_plain.specs.Sound.{AreasFit}
 use Rattle.av_plain.specs.Stands.{SwapStands, free_of}
 use Rattle.av_plain.proofs.Ledger.Order.{both_first, both_second, find_below}
 use Rattle.av_mem.specs.declared.mem.Mem.{Mem}
-use Rattle.av_mem.specs.Mem.{numbers_of, view}
+use Rattle.av_mem.specs.Mem.{area_of, view}
 
 -- ---- lists of areas
 
-slots-summed : (on : List (ℕ × Header)) → sum_by (λ (a : ℕ × Header). a.1.slots) on ≡ sum_by (λ (a : ℕ × SwapArea). a.1.slots) (map numbers_of on)
-slots-summed [] = refl
-slots-summed (a ∷ on) = sum_by-cons (λ (b : ℕ × Header). b.1.slots) a on ∙ ap (λ n. a.1.slots + n) (slots-summed on)
-    ∙ sym (sum_by-cons (λ (b : ℕ × SwapArea). b.1.slots) (numbers_of a) (map numbers_of on))
+module _ (priority : ℕ → ℤ) where
+  slots-summed : (on : List (ℕ × Header)) → sum_by (λ (a : ℕ × Header). a.1.slots) on
+      ≡ sum_by (λ (a : ℕ × SwapArea). a.1.slots) (map (area_of priority) on)
+  slots-summed [] = refl
+  slots-summed (a ∷ on) = sum_by-cons (λ (b : ℕ × Header). b.1.slots) a on ∙ ap (λ n. a.1.slots + n) (slots-summed on)
+      ∙ sym (sum_by-cons (λ (b : ℕ × SwapArea). b.1.slots) (area_of priority a) (map (area_of priority) on))
 
--- a number of each area, by its number alone
-summed-as : (free : ℕ → ℕ) (count : ℕ × SwapArea → ℕ) (on : List (ℕ × Header)) → AllByRecursion (λ a. free a.0 ≡ count a) (map numbers_of on)
-    → sum_by (λ (a : ℕ × Header). free a.0) on ≡ sum_by count (map numbers_of on)
-summed-as free count [] h = refl
-summed-as free count (a ∷ on) h = sum_by-cons (λ (b : ℕ × Header). free b.0) a on ∙ (λ i. h.0 i + summed-as free count on h.1 i)
-    ∙ sym (sum_by-cons count (numbers_of a) (map numbers_of on))
+  -- a number of each area, by its number alone
+  summed-as : (free : ℕ → ℕ) (count : ℕ × SwapArea → ℕ) (on : List (ℕ × Header))
+      → AllByRecursion (λ a. free a.0 ≡ count a) (map (area_of priority) on)
+      → sum_by (λ (a : ℕ × Header). free a.0) on ≡ sum_by count (map (area_of priority) on)
+  summed-as free count [] h = refl
+  summed-as free count (a ∷ on) h = sum_by-cons (λ (b : ℕ × Header). free b.0) a on ∙ (λ i. h.0 i + summed-as free count on h.1 i)
+      ∙ sym (sum_by-cons count (area_of priority a) (map (area_of priority) on))
 
 -- where areas rise, each is found by its number
 all-found : (free : ℕ → ℕ) (count : ℕ × SwapArea → ℕ) (on : List (ℕ × SwapArea)) → T (is_sorted nat_cmp on)
@@ -59,13 +63,17 @@ all-found free count (a ∷ on) rising h = (
 -- ---- the memory system's
 
 pub all-slots : (k : Mem) (l : Ledger) → SwapStands (view k) l → all_slots (shown_swap k.swap) ≡ sum_by (λ (a : ℕ × SwapArea). a.1.slots) l.on
-all-slots k l h = slots-summed (shown_swap k.swap).on ∙ ap (sum_by (λ (a : ℕ × SwapArea). a.1.slots)) h.on
+all-slots k l h = slots-summed (shown_swap k.swap).priority (shown_swap k.swap).on ∙ ap (sum_by (λ (a : ℕ × SwapArea). a.1.slots)) h.on
+
+-- as many slots of each area are free as its ledger has free
+pub each-free : (m : Setting) (k : Mem) (l : Ledger) → AreasFit m l → ListsAll m l (free_of (view k))
+    → AllByRecursion (λ a. free_slots_of (shown_swap k.swap) a.0 ≡ free_slots m l a) l.on
+each-free m k l fits lists = all-found (free_slots_of (shown_swap k.swap)) (free_slots m l) l.on fits.rising
+    (λ j area is. lists.slots.number j ∙ ap (λ o. option_map_or (λ area. free_slots m l (j, area)) o 0) is)
 
 pub all-free : (m : Setting) (k : Mem) (l : Ledger) → SwapStands (view k) l → AreasFit m l → ListsAll m l (free_of (view k))
     → all_free (shown_swap k.swap) ≡ sum_by (free_slots m l) l.on
 all-free m k l h fits lists =
-    summed-as (free_slots_of (shown_swap k.swap)) (free_slots m l) (shown_swap k.swap).on
-    (subst (AllByRecursion (λ a. free_slots_of (shown_swap k.swap) a.0 ≡ free_slots m l a)) (sym h.on)
-    (all-found (free_slots_of (shown_swap k.swap)) (free_slots m l) l.on fits.rising
-    (λ j area is. lists.slots.number j ∙ ap (λ o. option_map_or (λ area. free_slots m l (j, area)) o 0) is)))
+    summed-as (shown_swap k.swap).priority (free_slots_of (shown_swap k.swap)) (free_slots m l) (shown_swap k.swap).on
+    (subst (AllByRecursion (λ a. free_slots_of (shown_swap k.swap) a.0 ≡ free_slots m l a)) (sym h.on) (each-free m k l fits lists))
     ∙ ap (sum_by (free_slots m l)) h.on

@@ -144,7 +144,8 @@ module _ (d : Device) (k : Mem) (s : State) (keeps : Keeps d k s) where
 
   -- it finds no more than the frame's count
   pub frame-few : (f : ℕ) (keys : List Key) → AreItsEntries (reach k) (names_frame f) keys → length keys ≤ (view k).maps f
-  frame-few f = few k (rmap_of s) s.ledger reaching in_order (names_frame f) (names f) (frame-says f) ((view k).maps f) (keeps.stands.parts.ledger.frames.maps f)
+  frame-few f = few k (rmap_of s) s.ledger reaching in_order (names_frame f) (names f) (frame-says f) ((view k).maps f)
+      (keeps.stands.parts.ledger.frames.maps f)
 
   pub frame-found : (f : ℕ) (keys : List Key) → AreItsEntries (reach k) (names_frame f) keys → AreRising keys → keys ≡ walk s.ledger f
   frame-found f = found k (rmap_of s) s.ledger reaching in_order (names_frame f) (names f) (frame-says f)

@@ -8,7 +8,7 @@ use Rattle.av_base.specs.Words.{is_in, with_at}
 use Rattle.av_base.specs.declared.slot.Slot.{Slot}
 use Rattle.av_clusters.specs.Clusters.{Slots, take_slot}
 use Rattle.av_io.specs.Count.{Rose}
-use Rattle.av_io.specs.declared.faults.Failed.{Failed as DeviceFailed}
+use Rattle.av_io.specs.declared.failures.Failed.{Failed as DeviceFailed}
 use Rattle.av_swapdev.specs.Device.{Holds, IsSpoiled, IsWritten, most_areas}
 use Rattle.av_swap_laws.specs.Steps.{view_done, view_fail, view_load, view_put}
 use Rattle.av_swapcache.specs.Swap.{GivesFirst, can_give, count_of, shown}
@@ -43,17 +43,18 @@ pub record GoesFirst (old : Mem) (s : Slot) (f : ℕ) (page : List ℕ) : Type 0
   pub long : length page ≡ page_size
   pub bytes : (i : ℕ) → slice_index page i ≡ (view old).bytes f i
 
--- its write has ended, well or not, on a device with these pages and faults; or none was in flight
+-- its write has ended, well or not, on a device with these pages and failures; or none was in
+-- flight
 abbrev pub Ends : Option Finished → Mem → Mem → Option (ℕ → ℕ → List ℕ)
     → Option (ℕ → ℕ → List ℕ) → ℕ → ℕ → Type 0
-Ends None old new pages pages' faults faults' =
-    ((view old).flight ≡ []) × (view new ≡ view old) × (pages' ≡ pages) × (faults' ≡ faults)
-Ends (Some (Done s f)) old new pages pages' faults faults' =
+Ends None old new pages pages' failures failures' =
+    ((view old).flight ≡ []) × (view new ≡ view old) × (pages' ≡ pages) × (failures' ≡ failures)
+Ends (Some (Done s f)) old new pages pages' failures failures' =
     (page : List ℕ) × GoesFirst old s f page × IsWritten s.area s.page page pages pages'
-    × (view new ≡ view_done f s (view old)) × (faults' ≡ faults)
-Ends (Some (Failed s f)) old new pages pages' faults faults' =
+    × (view new ≡ view_done f s (view old)) × (failures' ≡ failures)
+Ends (Some (Failed s f)) old new pages pages' failures failures' =
     (page : List ℕ) × GoesFirst old s f page × IsSpoiled s.area s.page pages pages'
-    × (view new ≡ view_fail f s (view old)) × Rose faults faults'
+    × (view new ≡ view_fail f s (view old)) × Rose failures failures'
 
 -- ---- a page comes in
 
@@ -78,12 +79,12 @@ pub record HasLoaded (old new : Mem) (pages : Option (ℕ → ℕ → List ℕ))
   pub once : is_in f left ≡ false
   pub loads : view new ≡ view_load f s left (slice_index page) home (view old)
 
--- or no frame is free, or the device failed, and has these faults
+-- or no frame is free, or the device failed, and has these failures
 abbrev pub Loads : Option (Result ℕ DeviceFailed) → Mem → Mem → Option (ℕ → ℕ → List ℕ) → Slot
     → Option (ℕ × ℕ) → ℕ → ℕ → Type 0
-Loads None old new pages s home faults faults' =
-    ((view old).free ≡ []) × (view new ≡ view old) × (faults' ≡ faults)
-Loads (Some (Err e)) old new pages s home faults faults' =
-    ((view old).free ≡ [] → ⊥) × (view new ≡ view old) × Rose faults faults'
-Loads (Some (Ok f)) old new pages s home faults faults' =
-    HasLoaded old new pages f s home × (faults' ≡ faults)
+Loads None old new pages s home failures failures' =
+    ((view old).free ≡ []) × (view new ≡ view old) × (failures' ≡ failures)
+Loads (Some (Err e)) old new pages s home failures failures' =
+    ((view old).free ≡ [] → ⊥) × (view new ≡ view old) × Rose failures failures'
+Loads (Some (Ok f)) old new pages s home failures failures' =
+    HasLoaded old new pages f s home × (failures' ≡ failures)

@@ -1,11 +1,13 @@
 //! Steps of the swap cache, with frames, lists and the device.
 
-ghost use Rattle.std.specs.Prelude.{◌≡◌, ◌+◌, ◌-◌, ◌<◌, ◌≤◌, ◌^◌, ℕ, None, true, false, IfSome, IsSome};
+ghost use Rattle.std.specs.Prelude.{◌≡◌, ◌+◌, ◌-◌, ◌<◌, ◌≤◌, ◌^◌, ℕ, None, true, false, IfSome};
+ghost use Rattle.std.specs.Prelude.{IsSome};
 ghost use Rattle.std.specs.Option.{ForSome};
 ghost use Rattle.av_base.specs.Words.{is_in};
 ghost use Rattle.av_pagetable.specs.Entries.{entry_at};
 ghost use Rattle.av_swap_laws.specs.Steps.{view_drop, view_map, view_start};
-ghost use Rattle.av_swapcache.specs.Swap.{HasAreas, IsUncached, is_cached, is_flying, shown as shown_swap};
+ghost use Rattle.av_swapcache.specs.Swap.{HasAreas, IsUncached, is_cached, is_flying};
+ghost use Rattle.av_swapcache.specs.Swap.{shown as shown_swap};
 ghost use Rattle.av_spaces.specs.Kin.{info_of};
 ghost use Rattle.av_mem.specs.Cache.{Ends, Loads, Puts, home_by};
 ghost use Rattle.av_mem.specs.Mem.{HasLists, HasRoom, frame_count, view};
@@ -49,9 +51,9 @@ impl Mem {
         requires listed { HasLists self.old }
         requires areas { HasAreas (D.sizes dev.old) (shown_swap self.old.swap) }
         ensures ends { Ends result self.old self.new (D.pages dev.old) (D.pages dev.new)
-            (D.faults dev.old) (D.faults dev.new) }
+            (D.failures dev.old) (D.failures dev.new) }
         ensures same_sizes { D.sizes dev.new ≡ D.sizes dev.old }
-        ensures never_falls { D.faults dev.old ≤ D.faults dev.new }
+        ensures never_falls { D.failures dev.old ≤ D.failures dev.new }
         ensures parts { KeepsParts self.old self.new }
     {
         self.swap.keeps();
@@ -88,8 +90,9 @@ impl Mem {
         }
     }
 
-    /// The home of a frame that takes the page of a slot: that of a page whose entry names the slot,
-    /// where it is the only one; else with the root of its anon_vma, from which all are reached.
+    /// The home of a frame that takes the page of a slot: that of a page whose entry names the
+    /// slot, where it is the only one; else with the root of its anon_vma, from which all are
+    /// reached.
     pub fn home_to_load(&self, slot: Slot, home: Option<(u64, u64)>) -> Option<(u64, u64)>
         requires { ForSome home (λ h. IsSome (info_of self.now.anons h.0)) }
         ensures { result ≡ home_by self.now slot home }
@@ -118,10 +121,10 @@ impl Mem {
             → IsUncached (shown_swap self.old.swap) f }
         requires areas { HasAreas (D.sizes dev.old) (shown_swap self.old.swap) }
         ensures loads { Loads result self.old self.new (D.pages dev.old) slot home
-            (D.faults dev.old) (D.faults dev.new) }
+            (D.failures dev.old) (D.failures dev.new) }
         ensures same_pages { D.pages dev.new ≡ D.pages dev.old }
         ensures same_sizes { D.sizes dev.new ≡ D.sizes dev.old }
-        ensures never_falls { D.faults dev.old ≤ D.faults dev.new }
+        ensures never_falls { D.failures dev.old ≤ D.failures dev.new }
         ensures parts { KeepsParts self.old self.new }
     {
         let frame = self.frames.take()?;

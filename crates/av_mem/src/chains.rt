@@ -1,6 +1,7 @@
 //! Steps that go through a frame's home to its entries.
 
-ghost use Rattle.std.specs.Prelude.{◌≡◌, ◌<◌, ◌≤◌, ◌+◌, ◌^◌, ℕ, true, false, length, List, IfOk, MatchBool, OnOk, OnErr};
+ghost use Rattle.std.specs.Prelude.{◌≡◌, ◌<◌, ◌≤◌, ◌+◌, ◌^◌, ℕ, true, false, length, List, IfOk};
+ghost use Rattle.std.specs.Prelude.{MatchBool, OnOk, OnErr};
 ghost use Rattle.av_pagetable.specs.Entries.{entry_at, has};
 ghost use Rattle.av_rmap.specs.Seen.{unseen};
 ghost use Rattle.av_rmap.specs.Unmap.{away};
@@ -54,9 +55,9 @@ impl Mem {
         self.clear::<Brand>(frame, Blank::new(1));
     }
 
-    /// Process and page of each entry that names a slot which the frame caches, once, by process and
-    /// then by page: they are found through the frame's home. `laid` is promised, not asked: areas
-    /// rise at all times, but callers don't see it.
+    /// Process and page of each entry that names a slot which the frame caches, once, by process
+    /// and then by page: they are found through the frame's home. `laid` is promised, not asked:
+    /// areas rise at all times, but callers don't see it.
     pub fn namers(
         &self,
         alloc: Global,

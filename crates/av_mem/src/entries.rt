@@ -5,7 +5,8 @@ ghost use Rattle.std.specs.Prelude.{◌≡◌, ℕ, IfSome, OnOk, false};
 ghost use Rattle.av_base.specs.Words.{is_in};
 ghost use Rattle.av_plain.specs.Device.{Device};
 ghost use Rattle.av_plain.specs.Ledger.{Ledger};
-ghost use Rattle.av_mem.specs.Entries.{is_orphan, slot_behind, view_less, DropsOrphan, HasEntry, HasLedgerBy, LetsGo, Table};
+ghost use Rattle.av_mem.specs.Entries.{is_orphan, slot_behind, view_less, DropsOrphan, HasEntry};
+ghost use Rattle.av_mem.specs.Entries.{HasLedgerBy, LetsGo, Table};
 ghost use Rattle.av_mem.specs.Mem.{HasLists, HasRoom, plain, view};
 ghost use Rattle.av_mem.specs.Steps.{KeepsRest};
 

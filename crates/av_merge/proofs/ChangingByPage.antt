@@ -6,7 +6,8 @@ use Rattle.std.proofs.lemmas.Bool.Decides.{nat_tests}
 use Rattle.std.specs.Option.{option_or}
 use Rattle.av_vma.specs.declared.area.Area.{Area}
 use Rattle.av_base.specs.declared.prot.Prot.{Prot}
-use Rattle.av_vma.specs.Join.{first_of, past_of, index_of, same_prot, share_anon}
+use Rattle.av_vma.specs.Index.{first_of, past_of, index_of}
+use Rattle.av_vma.specs.Join.{same_prot, share_anon}
 use Rattle.av_base.specs.Words.{within}
 use Rattle.av_vma.specs.Pages.{AreLaid, Pages, Effect, with_effect, alters, alters_at, has_page, part_of, split_at, with_effect_on, join_of, do_join, after_join, joined_at, part_changed, page_changed, pages_changed, IsWhole, Lengths}
 use Rattle.av_vma.proofs.Split.{laid_split}
@@ -45,7 +46,8 @@ shares len None = refl
 shares len (Some n) = eq-eqb n n refl
 
 -- what two areas that share an anon_vma have together shares with the second, and is the same with it once more
-still_shares : (len : Lengths) (a b : Option ℕ) → share_anon a (len a) b (len b) ≡ true → share_anon (option_or a b) (len (option_or a b)) b (len b) ≡ true
+still_shares : (len : Lengths) (a b : Option ℕ) → share_anon a (len a) b (len b) ≡ true
+    → share_anon (option_or a b) (len (option_or a b)) b (len b) ≡ true
 still_shares len None b h = shares len b
 still_shares len (Some a) b h = h
 
@@ -223,7 +225,8 @@ module _ (len : Lengths) (effect : Effect) (on : Pages) (laid : AreLaid on) (a :
     wider_out q out =
         let beyond : first_of x ≤ q → q < b + 1 → ⊥ = λ first last. both_ways (has_page (ended (b + 1) x) q) out (has_ended (b + 1) x q first last) in
         let first = g.low in
-        let not_here : within b ((b + 1) - b) q ≡ false = false_from_ne_true (within b ((b + 1) - b) q) (λ h. let k : b ≤ q = grind (arith, nat_tests) in
+        let not_here : within b ((b + 1) - b) q ≡ false =
+        false_from_ne_true (within b ((b + 1) - b) q) (λ h. let k : b ≤ q = grind (arith, nat_tests) in
         let m : q < b + 1 = grind (arith, nat_tests) in beyond (omega arith) m) in
         let not_grown : has_page (ended b x) q ≡ false = false_from_ne_true (has_page (ended b x) q) (λ h. let k = ended_has b x q h in
         let n = k.1 in beyond k.0 (omega arith)) in
@@ -307,13 +310,14 @@ module _ (len : Lengths) (effect : Effect) (on : Pages) (laid : AreLaid on) (a :
 
   -- the pages of the part alone
   alone : (b : ℕ) → a < b → b ≤ past_of area → (q : ℕ) → first_pages b q ≡ grown part b q
-  alone b ab high q = elim (has_page (ended b part) q) as (λ h. has_page (ended b part) q ≡ h → first_pages b q ≡ cond h (Some (ended b part)) (rest b q)) [
-    | true ↦ λ h.
-        let k = ended_has b part q h in
-        let from : 4096 * a / 4096 ≤ q = k.0 in
-        part_here b q high (omega arith) k.1
-    | false ↦ λ h. others_here b q (λ from less. both_ways (has_page (ended b part) q) h (has_ended b part q (omega arith) less))
-  ] refl
+  alone b ab high q = elim (has_page (ended b part) q) as
+      (λ h. has_page (ended b part) q ≡ h → first_pages b q ≡ cond h (Some (ended b part)) (rest b q)) [
+        | true ↦ λ h.
+            let k = ended_has b part q h in
+            let from : 4096 * a / 4096 ≤ q = k.0 in
+            part_here b q high (omega arith) k.1
+        | false ↦ λ h. others_here b q (λ from less. both_ways (has_page (ended b part) q) h (has_ended b part q (omega arith) less))
+      ] refl
 
   do_share : (l r : Area) → do_join len l r ≡ true → share_anon l.anon (len l.anon) r.anon (len r.anon) ≡ true
   do_share l r e = (and_parts (l.end == r.start && same_prot l.prot r.prot && (l.flags == r.flags) && (index_of l (past_of l) == r.pgoff))

@@ -4,7 +4,8 @@ use Rattle.std.specs.Prelude.{option_and_then}
 use Rattle.std.proofs.lemmas.Bool.{and_from, eq-eqb, false_from_ne_true, false≢true, lt-ltb, le-ltb}
 use Rattle.std.proofs.lemmas.Option.{same_Some}
 use Rattle.av_vma.specs.declared.area.Area.{Area}
-use Rattle.av_vma.specs.Join.{first_of, past_of, same_prot}
+use Rattle.av_vma.specs.Index.{first_of, past_of}
+use Rattle.av_vma.specs.Join.{same_prot}
 use Rattle.av_base.specs.Words.{within, with_at}
 use Rattle.av_vmatree.specs.declared.span.Span.{Span}
 use Rattle.av_vmatree.specs.Spans.{area_at, span_of}
@@ -112,10 +113,15 @@ module _ (len : Lengths) (p from past number : ℕ) (effect : Effect) (area : Ar
   pub changed_stays : Stays p areas changed spans''
   changed_stays =
       stays_trans p areas two changed spans'' spans'' stays
-      (record { areas = changed_stands; others = change_others p number on.span (with_effect effect area) two changed spans'' stays.areas there is now })
+      (record {
+        areas = changed_stands;
+        others =
+            change_others p number on.span (with_effect effect area) two changed spans'' stays.areas there is now;
+      })
 
   -- the part's area is that of its pages alone, and has the effect
-  changed_pages : (page : ℕ) → pages_by changed spans'' page ≡ with_effect_on from past effect (split_at past (split_at from (pages_by areas spans))) page
+  changed_pages : (page : ℕ)
+      → pages_by changed spans'' page ≡ with_effect_on from past effect (split_at past (split_at from (pages_by areas spans))) page
   changed_pages page =
       change_pages p number on.span (with_effect effect area) two changed spans'' stays.areas there is now page
       ∙ ap (λ b. cond b (Some (with_effect effect area)) (pages_by two spans'' page)) bounds
@@ -194,7 +200,8 @@ module _ (len : Lengths) (p from past number : ℕ) (effect : Effect) (area : Ar
 
   pub part_pages : {T E : Type 0} (len' : Lengths) → AreAlike len len' (pages_by changed spans'') → (r : Result T E) (new : Pages) →
       OnOk r ((page : ℕ) → new page ≡ joined_around len from past (pages_by changed spans'') page) →
-      OnOk r ((page : ℕ) → new page ≡ joined_around len' from past (with_effect_on from past effect (split_at past (split_at from (pages_by areas spans))))
+      OnOk r ((page : ℕ) → new page ≡ joined_around len' from past
+      (with_effect_on from past effect (split_at past (split_at from (pages_by areas spans))))
       page)
   part_pages len' alike (Ok x) new h = λ page. h page ∙ around_alike len len' from past (pages_by changed spans'') alike page
       ∙ (λ i. joined_around len' from past (λ q. changed_pages q i) page)
@@ -202,7 +209,8 @@ module _ (len : Lengths) (p from past number : ℕ) (effect : Effect) (area : Ar
 
   pub part_mapping : {T E : Type 0} (r : Result T E) (new : Pages) →
       OnOk r ((page : ℕ) → new page ≡ joined_around len from past (pages_by changed spans'') page) →
-      OnOk r ((page : ℕ) → mapping new page ≡ cond (within from (past - from) page) (option_map (mapping_with effect) (mapping (pages_by areas spans) page))
+      OnOk r ((page : ℕ) → mapping new page ≡ cond (within from (past - from) page)
+      (option_map (mapping_with effect) (mapping (pages_by areas spans) page))
       (mapping (pages_by areas spans) page))
   part_mapping (Ok x) new h = λ page. part_maps_to len from past effect (pages_by areas spans) (pages_by changed spans'') new
       laid laid_after changed_pages h page

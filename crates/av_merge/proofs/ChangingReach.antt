@@ -4,7 +4,8 @@ use Rattle.std.specs.Prelude.{option_and_then, IsSome}
 use Rattle.std.proofs.lemmas.Bool.{cases_lt, and_parts, not-false, cond-false, eqb-true}
 use Rattle.std.proofs.lemmas.Bool.Decides.{nat_tests}
 use Rattle.av_vma.specs.declared.area.Area.{Area}
-use Rattle.av_vma.specs.Join.{past_of, same_prot}
+use Rattle.av_vma.specs.Index.{past_of}
+use Rattle.av_vma.specs.Join.{same_prot}
 use Rattle.av_base.specs.Words.{within}
 use Rattle.av_vmatree.specs.declared.span.Span.{Span}
 use Rattle.av_vmatree.specs.Spans.{area_at, is_page_taken}
@@ -171,7 +172,8 @@ module _ (len : Lengths) (p from page to : ℕ) (effect : Effect) (old new : ℕ
         changed q
         ∙ elim (within page (past - page) q) as (λ b. within page (past - page) q ≡ b →
         cond b (option_map (mapping_with effect) (mapping (pages_by new spans) q)) (mapping (pages_by new spans) q) ≡ cond
-        (cond b true (within from (page - from) q)) (option_map (mapping_with effect) (mapping (pages_by old before) q)) (mapping (pages_by old before) q)) [
+        (cond b true (within from (page - from) q)) (option_map (mapping_with effect) (mapping (pages_by old before) q))
+        (mapping (pages_by old before) q)) [
           | true ↦ λ h. ap (option_map (mapping_with effect)) (done.pages q
               ∙ ap (λ b. cond b (option_map (mapping_with effect) (mapping (pages_by old before) q)) (mapping (pages_by old before) q))
               (apart from page past q h))
@@ -198,7 +200,8 @@ module _ (len : Lengths) (p from page to : ℕ) (effect : Effect) (old new : ℕ
 
     pub same_already : IsRemapped page past effect (pages_by new spans) (pages_by new spans)
     same_already q = elim (within page (past - page) q) as (λ b. within page (past - page) q ≡ b →
-        mapping (pages_by new spans) q ≡ cond b (option_map (mapping_with effect) (mapping (pages_by new spans) q)) (mapping (pages_by new spans) q)) [
+        mapping (pages_by new spans) q ≡ cond b (option_map (mapping_with effect) (mapping (pages_by new spans) q))
+        (mapping (pages_by new spans) q)) [
           | true ↦ λ h.
               let low : page ≤ q = grind (arith, nat_tests) in
               let high : q < past = grind (arith, nat_tests) in
@@ -215,7 +218,8 @@ module _ (len : Lengths) (p from page to : ℕ) (effect : Effect) (old new : ℕ
         (λ q low high. ap (alters_at effect) (there_too q low (omega arith)) ∙ same))
 
   -- a part of an area that was changed at once was changed page by page
-  pub part_exact : (past : ℕ) (area : Area) → pages_by new spans page ≡ Some area → page < past → past ≤ past_of area → (b : Bool) → b ≡ alters effect area →
+  pub part_exact : (past : ℕ) (area : Area) → pages_by new spans page ≡ Some area → page < past → past ≤ past_of area → (b : Bool)
+      → b ≡ alters effect area →
       b ≡ true → (next : Pages) → ((q : ℕ) → next q ≡ part_changed len page past effect (pages_by new spans) q) →
       next ≡ pages_changed len effect page (past - page) (pages_by new spans)
   part_exact past area here less far b is does next pages =

@@ -33,7 +33,8 @@ IsOwnedOr areas f v found = ((b : ℕ) × (own_of (areas b) ≡ Some v)) ⊎ (op
 owner_or_none : (areas : ℕ → Option Area) (f : Family) (v : ℕ) → ((b : ℕ) × (own_of (areas b) ≡ Some v)) ⊎ (chain_by areas f v ≡ [])
 owner_or_none areas f v = of_all (f.users v)
   where
-    by_first : (x : ℕ) (found : Option ℕ) (t : Bool) → owns v (own_of (areas x)) ≡ t → IsOwnedOr areas f v found → IsOwnedOr areas f v (cond t (Some x) found)
+    by_first : (x : ℕ) (found : Option ℕ) (t : Bool) → owns v (own_of (areas x)) ≡ t → IsOwnedOr areas f v found
+        → IsOwnedOr areas f v (cond t (Some x) found)
     by_first x found true e rest = inl (x, owns-is v (own_of (areas x)) e)
     by_first x found false e rest = rest
 
@@ -42,7 +43,8 @@ owner_or_none areas f v = of_all (f.users v)
     of_all (x ∷ xs) = by_first x (find (λ a. owns v (own_of (areas a))) xs) (owns v (own_of (areas x))) refl (of_all xs)
 
 -- where the same areas have it, with the chains that they had, its chain stays
-chain_stays : (areas areas' : ℕ → Option Area) (f f' : Family) (spans spans' : ℕ → List Span) (v : ℕ) → IsInOrder areas f spans → IsInOrder areas' f' spans'
+chain_stays : (areas areas' : ℕ → Option Area) (f f' : Family) (spans spans' : ℕ → List Span) (v : ℕ) → IsInOrder areas f spans
+    → IsInOrder areas' f' spans'
     → ((b : ℕ) → own_of (areas' b) ≡ Some v → (own_of (areas b) ≡ Some v) × (f'.chain b ≡ f.chain b))
     → ((b : ℕ) → own_of (areas b) ≡ Some v → own_of (areas' b) ≡ Some v) → chain_by areas' f' v ≡ chain_by areas f v
 chain_stays areas areas' f f' spans spans' v o o' was stays = elim (owner_or_none areas f v) [
@@ -120,7 +122,8 @@ module _ (areas mid : ℕ → Option Area) (f : Family) (spans : ℕ → List Sp
     was_by = was ∙ ap (λ x. after_fork (own_of x) src dst f) src_is
 
     pub areas_forked : (k : ℕ) → new k ≡ with_at dst (Some (area_in_child child (kin_at areas f) A)) areas k
-    areas_forked k = now_by k ∙ given (own_after_fork A.anon src f) k ∙ ap (λ own. with_at dst (Some (record bare { anon = own })) areas k) (own_is A.anon refl)
+    areas_forked k = now_by k ∙ given (own_after_fork A.anon src f) k
+        ∙ ap (λ own. with_at dst (Some (record bare { anon = own })) areas k) (own_is A.anon refl)
 
     -- another area keeps its own anon_vma
     own_other : (b : ℕ) → b ≢ dst → own_of (new b) ≡ own_of (areas b)
@@ -154,7 +157,8 @@ module _ (areas mid : ℕ → Option Area) (f : Family) (spans : ℕ → List Sp
           | inl h ↦
               ap (chain_by new f') h ∙ chain_by-is new f' spans' dst u order_forked own
               ∙ ap (λ c. c dst) links ∙ with_at-here dst (child_chain reuse f.next (k.chain x)) f.chain
-              ∙ sym (ap (λ m. with_at u (child_chain reuse f.next (k.chain x)) k.chain m) h ∙ with_at-here u (child_chain reuse f.next (k.chain x)) k.chain)
+              ∙ sym (ap (λ m. with_at u (child_chain reuse f.next (k.chain x)) k.chain m) h
+              ∙ with_at-here u (child_chain reuse f.next (k.chain x)) k.chain)
           | inr ne ↦
               chain_other v (λ h. ne (same_Some v u (sym h ∙ own)))
               (λ b apart. ap (λ c. c b) links ∙ with_at-other dst (child_chain reuse f.next (k.chain x)) f.chain b apart)
@@ -169,7 +173,8 @@ module _ (areas mid : ℕ → Option Area) (f : Family) (spans : ℕ → List Sp
         let chain_is = chain_by-is areas f spans src x o (ap own_of is ∙ e) in
         let reuse = member_to_reuse f.info (k.chain x) in
         let same : f' ≡ with_links dst (child_chain reuse f.next (k.chain x)) (child_family reuse x f) =
-        was ∙ ap (λ c. with_links dst (child_chain (member_to_reuse f.info c) f.next c) (child_family (member_to_reuse f.info c) x f)) (sym chain_is) in
+        was ∙ ap (λ c. with_links dst (child_chain (member_to_reuse f.info c) f.next c) (child_family (member_to_reuse f.info c) x f))
+        (sym chain_is) in
         (ap (λ (m : Family). m.next) same ∙ next_is reuse x f, ap (λ (m : Family). m.info) same ∙ info_is reuse x areas f)
 
     pub kin_forked : kin_at new f' ≡ kin_with A.anon (kin_at areas f)

@@ -4,7 +4,7 @@ use Rattle.std.specs.Prelude.{option_and_then}
 use Rattle.std.proofs.lemmas.Bool.{eq-eqb, ne_eqb, both_ways}
 use Rattle.std.proofs.lemmas.Option.{none-some, same_Some}
 use Rattle.av_vma.specs.declared.area.Area.{Area}
-use Rattle.av_vma.specs.Join.{first_of, past_of}
+use Rattle.av_vma.specs.Index.{first_of, past_of}
 use Rattle.std.specs.Option.{option_or}
 use Rattle.av_vma.specs.Join.{are_mergeable}
 use Rattle.av_interval.specs.declared.span.Span as interval
@@ -180,7 +180,8 @@ module _ (len : Lengths) (p l r at : ℕ) (lower upper : Area) (areas : ℕ → 
             (with_at l (Some (record lower { anon = option_or lower.anon upper.anon })) areas k)) (ne_eqb k r not_right)
             ∙ ap (λ b. cond b (Some (record lower { anon = option_or lower.anon upper.anon })) (areas k)) (ne_eqb k l not_left))
 
-    pub join_pages : (page : ℕ) → with_area (join_of lower upper) (pages_by (with_at l None areas') spans') page ≡ joined_at len at (pages_by areas spans) page
+    pub join_pages : (page : ℕ)
+        → with_area (join_of lower upper) (pages_by (with_at l None areas') spans') page ≡ joined_at len at (pages_by areas spans) page
     join_pages page =
         elim (has_page (join_of lower upper) page) as (λ b. has_page (join_of lower upper) page ≡ b →
         cond b (Some (join_of lower upper)) (pages_by (with_at l None areas') spans' page) ≡ cond b (Some (join_of lower upper))
@@ -214,7 +215,8 @@ module _ (len : Lengths) (p l r at : ℕ) (lower upper : Area) (areas : ℕ → 
         spans spans' stays_given (record {
           areas = take_stands p r on_right.span (with_at l (Some (record lower { anon = option_or lower.anon upper.anon })) areas) areas' spans spans'
               stays_given.areas right_span now kept spans_now pages_now;
-          others = take_others p r on_right.span (with_at l (Some (record lower { anon = option_or lower.anon upper.anon })) areas) areas' spans spans'
+          others = take_others p r on_right.span (with_at l (Some (record lower { anon = option_or lower.anon upper.anon })) areas)
+              areas' spans spans'
               stays_given.areas right_span now kept spans_now pages_now;
         })
 
@@ -222,7 +224,8 @@ module _ (len : Lengths) (p l r at : ℕ) (lower upper : Area) (areas : ℕ → 
     right_taken = subst (λ q. AreAreasOf q areas' spans') (sym on_left.is.process) stays_taken.areas
 
     pub join_stays : (new : ℕ → Option Area) (spans'' : List Span) → Stays lower.pid areas' new spans'' → Stays p areas new spans''
-    join_stays new spans'' h = stays_trans p areas areas' new spans' spans'' stays_taken (subst (λ q. Stays q areas' new spans'') on_left.is.process h)
+    join_stays new spans'' h =
+        stays_trans p areas areas' new spans' spans'' stays_taken (subst (λ q. Stays q areas' new spans'') on_left.is.process h)
 
 -- what the areas are once the lower one has the anon_vma that either had, and the upper one is out
 pub joined_now : (areas one two' : ℕ → Option Area) (l r : ℕ) (lower upper : Area) → areas l ≡ Some lower → areas r ≡ Some upper
@@ -236,7 +239,8 @@ joined_now areas one two' l r lower upper low up first second k =
 -- the test of two areas, by how long their chains are found to be
 pub test_is : (areas : ℕ → Option Area) (f : Family) (spans : ℕ → List interval.Span) (l r : ℕ) (lower upper : Area) (m n : ℕ) (b : Bool) →
     IsInOrder areas f spans → areas l ≡ Some lower → areas r ≡ Some upper
-    → m ≡ cond (is_some lower.anon) (length (f.chain l)) 0 → n ≡ cond (is_some upper.anon) (length (f.chain r)) 0 → b ≡ are_mergeable lower m upper n →
+    → m ≡ cond (is_some lower.anon) (length (f.chain l)) 0 → n ≡ cond (is_some upper.anon) (length (f.chain r)) 0
+    → b ≡ are_mergeable lower m upper n →
     do_join (length_by areas f) lower upper ≡ b
 test_is areas f spans l r lower upper m n b o low up first second is =
     let m' : length_by areas f lower.anon ≡ m = sym (first ∙ length_is areas f spans l lower o low) in
@@ -256,7 +260,8 @@ apart_stay len at l r areas spans lower upper left right low up out page =
 -- ---- a boundary that is left as it is
 
 -- where the areas on its two sides don't join, trying a boundary changes nothing
-pub not_joined : (len : Lengths) (at : ℕ) (on : Pages) → ((left right : Area) → on (at - 1) ≡ Some left → on at ≡ Some right → do_join len left right ≡ true →
+pub not_joined : (len : Lengths) (at : ℕ) (on : Pages)
+    → ((left right : Area) → on (at - 1) ≡ Some left → on at ≡ Some right → do_join len left right ≡ true →
     ⊥) → (page : ℕ) → on page ≡ joined_at len at on page
 not_joined len at on apart page = elim (tried_is len at page on) [
   | inl t ↦ absurd (apart t.left t.right t.before t.after t.joins)
@@ -305,7 +310,8 @@ left_side spans at s good some e ends =
     let side = k.side in
     at_span spans s.area s (at - 1) good.apart k.there (omega arith) (omega arith)
 
-pub right_side : (spans : List Span) (at : ℕ) (s : Span) → AreSpans spans → first_from spans at ≡ Some s → s.from ≡ at → area_at spans at ≡ Some s.area
+pub right_side : (spans : List Span) (at : ℕ) (s : Span) → AreSpans spans → first_from spans at ≡ Some s → s.from ≡ at
+    → area_at spans at ≡ Some s.area
 right_side spans at s good e begins =
     let k = from_is spans at s good.distinct e in
     let wide : s.from < s.to = all_found (λ t. t.from < t.to) s.area spans s (all_wide spans good.apart) k.there in

@@ -51,7 +51,8 @@ module _ (areas areas' : ℕ → Option Area) (f : Family) (spans : ℕ → List
   })
 
   module _ (f' : Family) (spans' : ℕ → List Span) (spanned : GoWithLinks areas' f'.chain spans') where
-    by_equations : (g : ℕ → Option Area) (h : Family) → ((k : ℕ) → areas' k ≡ g k) → f' ≡ h → (GoWithLinks g h.chain spans' → KeepsKin areas g f h spans') →
+    by_equations : (g : ℕ → Option Area) (h : Family) → ((k : ℕ) → areas' k ≡ g k) → f' ≡ h
+        → (GoWithLinks g h.chain spans' → KeepsKin areas g f h spans') →
         KeepsKin areas areas' f f' spans'
     by_equations g h now is k =
         let same : areas' ≡ g = λ i k. now k i in

@@ -26,7 +26,8 @@ pub record AreAlike (len len' : Lengths) (on : Pages) : Type 0 where
   pub same : (page : ℕ) (area : Area) → on page ≡ Some area → len area.anon ≡ len' area.anon
 
 -- after calls that kept kin, the areas that stand have chains as long as before
-pub alike_after : (areas areas' : ℕ → Option Area) (f f' : Family) (spans spans' : ℕ → List interval.Span) (tree : List Span) → IsInOrder areas f spans →
+pub alike_after : (areas areas' : ℕ → Option Area) (f f' : Family) (spans spans' : ℕ → List interval.Span) (tree : List Span)
+    → IsInOrder areas f spans →
     KeepsKin areas areas' f f' spans' → AreAlike (length_by areas' f') (length_by areas f) (pages_by areas' tree)
 alike_after areas areas' f f' spans spans' tree o k = record { same = λ page area e. numbers area (area_at tree page) e }
   where
@@ -55,7 +56,8 @@ alike_joined len len' other at on h = record {
 }
 
 -- a boundary is tried with the same outcome
-pub joined_alike : (len len' : Lengths) (at : ℕ) (on : Pages) → AreAlike len len' on → (page : ℕ) → joined_at len at on page ≡ joined_at len' at on page
+pub joined_alike : (len len' : Lengths) (at : ℕ) (on : Pages) → AreAlike len len' on → (page : ℕ)
+    → joined_at len at on page ≡ joined_at len' at on page
 joined_alike len len' at on h page = go (on (at - 1)) (on at) refl refl
   where
     go : (a b : Option Area) → on (at - 1) ≡ a → on at ≡ b → after_join len a b page (on page) ≡ after_join len' a b page (on page)
@@ -109,7 +111,8 @@ alike_effect len len' from past effect on h = record { same = λ page area e. go
     each page area (Some other) e e' = subst (λ o. len o ≡ len' o) (ap (λ (a : Area). a.anon) (same_Some (with_effect effect other) area e'))
         (h.same page other e)
 
-    go : (page : ℕ) (area : Area) (b : Bool) → cond b (option_map (with_effect effect) (on page)) (on page) ≡ Some area → len area.anon ≡ len' area.anon
+    go : (page : ℕ) (area : Area) (b : Bool) → cond b (option_map (with_effect effect) (on page)) (on page) ≡ Some area
+        → len area.anon ≡ len' area.anon
     go page area true e = each page area (on page) refl e
     go page area false e = h.same page area e
 
@@ -130,7 +133,8 @@ alike_part len len' other from past effect on h =
     alike_joined len len' other past (joined_at other from now) (alike_joined len len' other from now
     (alike_effect len len' from past effect cut (alike_split len len' past (split_at from on) (alike_split len len' from on h))))
 
-alike_page : (len len' other : Lengths) (effect : Effect) (page : ℕ) (on : Pages) → AreAlike len len' on → AreAlike len len' (page_changed other effect page on)
+alike_page : (len len' other : Lengths) (effect : Effect) (page : ℕ) (on : Pages) → AreAlike len len' on
+    → AreAlike len len' (page_changed other effect page on)
 alike_page len len' other effect page on h = go (alters_at effect (on page))
   where
     go : (b : Bool) → AreAlike len len' (cond b (part_changed other page (page + 1) effect on) on)

@@ -71,7 +71,8 @@ module _ (areas one two : ℕ → Option Area) (f f' : Family) (spans spans' : �
     (spanned : GoWithLinks one f'.chain spans') (last : (k : ℕ) → two k ≡ with_at n (Some area) one k) where
   -- an area gets other bounds
   pub resized_keeps : IsWhole area → IsSomeAnd (areas n) (λ old. area ≡ with_bounds area.start area.end area.pgoff old)
-      → ((k : ℕ) → one k ≡ with_at n (option_map (with_bounds area.start area.end area.pgoff) (areas n)) areas k) → f' ≡ f → KeepsKin areas two f f' spans'
+      → ((k : ℕ) → one k ≡ with_at n (option_map (with_bounds area.start area.end area.pgoff) (areas n)) areas k) → f' ≡ f
+      → KeepsKin areas two f f' spans'
   resized_keeps whole was now is =
       let b = before areas n area was in
       let here : one n ≡ Some area = now n ∙ with_at-here n (option_map (with_bounds area.start area.end area.pgoff) (areas n)) areas
@@ -81,7 +82,8 @@ module _ (areas one two : ℕ → Option Area) (f f' : Family) (spans spans' : �
 
   -- an area gets the chain of another
   pub linked_keeps : (other : ℕ) → areas n ≡ Some (record area { anon = None }) → own_of (areas other) ≡ area.anon
-      → ((k : ℕ) → one k ≡ gets_own n (own_of (areas other)) areas k) → f' ≡ after_clone (own_of (areas other)) other n f → KeepsKin areas two f f' spans'
+      → ((k : ℕ) → one k ≡ gets_own n (own_of (areas other)) areas k) → f' ≡ after_clone (own_of (areas other)) other n f
+      → KeepsKin areas two f f' spans'
   linked_keeps other there own now is =
       keeps_same areas one two f f' spans' (λ k. last k ∙ with_at-same n (Some area) one (now n ∙ here (own_of (areas other)) own) k)
       (keeps_clone areas one f spans n o f' spans' spanned other (record area { anon = None }) there refl now is)
@@ -91,10 +93,12 @@ module _ (areas one two : ℕ → Option Area) (f f' : Family) (spans spans' : �
       here (Some v) e = with_at-here n (with_own (Some v) (areas n)) areas ∙ ap (with_own (Some v)) there ∙ (λ i. Some (record area { anon = e i }))
 
 -- a part of an area comes without anon_vma
-pub bare_part : (areas areas' : ℕ → Option Area) (f : Family) (spans : ℕ → List Span) (n : ℕ) (area : Area) → IsInOrder areas f spans → areas n ≡ None →
+pub bare_part : (areas areas' : ℕ → Option Area) (f : Family) (spans : ℕ → List Span) (n : ℕ) (area : Area) → IsInOrder areas f spans
+    → areas n ≡ None →
     IsWhole area → ((k : ℕ) → areas' k ≡ with_at n (Some (record area { anon = None })) areas k) → KeepsKin areas areas' f f spans
 bare_part areas areas' f spans n area o unused w now =
-    let bare : IsWhole (record area { anon = None }) = record { start = w.start; end = w.end; some = w.some; low = w.low; high = w.high; small = w.small } in
+    let bare : IsWhole (record area { anon = None }) =
+    record { start = w.start; end = w.end; some = w.some; low = w.low; high = w.high; small = w.small } in
     keeps_bare areas areas' f spans n o (Some (record area { anon = None })) (ap own_of unused) refl
     (λ A e. subst IsWhole (same_Some (record area { anon = None }) A e) bare) now
 
@@ -112,4 +116,5 @@ whole_fresh p from past prot some low high = record {
 pub added : (old new : List (Option Area)) (anons : Anons) (area : Area) (n : ℕ) → AreInOrder old anons → area_of old n ≡ None →
     IsWhole (record area { anon = None }) → ((k : ℕ) → area_of new k ≡ with_at n (Some (record area { anon = None })) (area_of old) k) →
     StayKin old anons new anons
-added old new anons area n o unused w now = bare_part (area_of old) (area_of new) (family anons) (spans_of anons) n (record area { anon = None }) o unused w now
+added old new anons area n o unused w now =
+    bare_part (area_of old) (area_of new) (family anons) (spans_of anons) n (record area { anon = None }) o unused w now

@@ -7,7 +7,7 @@ use Rattle.av_base.specs.Limits.{low_page, top_page}
 use Rattle.av_base.specs.Words.{with_at, within}
 use Rattle.av_interval.specs.declared.span.Span as interval
 use Rattle.av_vma.specs.declared.area.Area.{Area}
-use Rattle.av_vma.specs.Join.{first_of, past_of}
+use Rattle.av_vma.specs.Index.{first_of, past_of}
 use Rattle.av_vma.specs.Mremap.{IsGrowth, IsMove, after_grow, after_move, grown_to, joined_over, moved_area, moved_range}
 use Rattle.av_vma.specs.Pages.{AreLaid, IsWhole, Lengths, Pages, has_page, joined_around, joined_at, with_area, without_range}
 use Rattle.av_vma.proofs.Mremap.{IsLast, carried, ends_there, filled, filled_mapped, filled_upper, growing, joined_some, joined_starts, last_there, moved_more, out_of_range, shortened, shortened_free, shortened_lower, shortened_mapped, shortened_moves, shortened_upper, skipped, starts_past, whole_elsewhere, with_end}

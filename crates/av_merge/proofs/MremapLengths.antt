@@ -1,7 +1,7 @@
 -- Where areas move or grow it does not matter which of two lengths of chains is asked, where they say the same of the areas that there are.
 use Rattle.std.proofs.Common.{◌≡◌, ℕ, suc, Option, Some, None, refl, sym, ap, subst, ◌∙◌}
 use Rattle.av_vma.specs.declared.area.Area.{Area}
-use Rattle.av_vma.specs.Join.{first_of}
+use Rattle.av_vma.specs.Index.{first_of}
 use Rattle.av_vma.specs.Mremap.{after_grow, after_move, grown_to}
 use Rattle.av_vma.specs.Pages.{Lengths, Pages}
 use Rattle.av_vma.proofs.Owns.{AddsNoOwn, HasOwn, full, owns_full, owns_grown}
@@ -11,7 +11,8 @@ use Rattle.av_merge.proofs.Lengths.{AreAlike, around_alike, over_alike}
 alike_owns : (len len' : Lengths) (on now : Pages) → len None ≡ len' None → AreAlike len len' on → AddsNoOwn on now → AreAlike len len' now
 alike_owns len len' on now none alike adds = record { same = λ page area is. by page area is area.anon refl }
   where
-    at : (own : ℕ) (o : Option Area) → ((area : Area) → o ≡ Some area → len area.anon ≡ len' area.anon) → HasOwn own o → len (Some own) ≡ len' (Some own)
+    at : (own : ℕ) (o : Option Area) → ((area : Area) → o ≡ Some area → len area.anon ≡ len' area.anon) → HasOwn own o
+        → len (Some own) ≡ len' (Some own)
     at own None same has = absurd has
     at own (Some area) same has = ap len (sym has) ∙ same area refl ∙ ap len' has
 
@@ -28,7 +29,8 @@ module _ (len len' : Lengths) (on : Pages) (none : len None ≡ len' None) (alik
       by : (o : Option Area) → on last ≡ o → after_grow len past o on page ≡ after_grow len' past o on page
       by None is = refl
       by (Some area) is = around_alike len len' (first_of area) past (grown_to past (Some area) on)
-          (alike_owns len len' on (grown_to past (Some area) on) none alike (subst (λ o. AddsNoOwn on (grown_to past o on)) is (owns_grown past last on))) page
+          (alike_owns len len' on (grown_to past (Some area) on) none alike
+          (subst (λ o. AddsNoOwn on (grown_to past o on)) is (owns_grown past last on))) page
 
   pub move_alike : (from n to m page : ℕ) → after_move len from n to m on page ≡ after_move len' from n to m on page
   move_alike from n to m =

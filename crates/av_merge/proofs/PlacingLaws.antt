@@ -6,7 +6,7 @@ use Rattle.std.proofs.lemmas.Grind.{common_steps}
 use Rattle.std.proofs.lemmas.Bool.{eqb-true, both_ways}
 use Rattle.av_vma.specs.declared.area.Area.{Area}
 use Rattle.av_vma.specs.Areas.{area_of}
-use Rattle.av_vma.specs.Join.{first_of, past_of}
+use Rattle.av_vma.specs.Index.{first_of, past_of}
 use Rattle.av_base.specs.Words.{within, with_at}
 use Rattle.av_vmatree.specs.declared.span.Span.{Span}
 use Rattle.av_vmatree.specs.Spans.{without_area, AreApart, AreDistinct, AreSpans, area_at, holds, span_of, is_page_taken, unless_area}
@@ -83,7 +83,8 @@ pub record IsIn (p : ℕ) (areas : ℕ → Option Area) (number : ℕ) (s : Span
   pub area_is : areas number ≡ Some area
   pub is : IsAreaOf p s area
 
-pub area_in : (p : ℕ) (areas : ℕ → Option Area) (spans : List Span) (n : ℕ) (s : Span) → AreAreasOf p areas spans → span_of spans n ≡ Some s → IsIn p areas n s
+pub area_in : (p : ℕ) (areas : ℕ → Option Area) (spans : List Span) (n : ℕ) (s : Span) → AreAreasOf p areas spans → span_of spans n ≡ Some s
+    → IsIn p areas n s
 area_in p areas spans n s stands e = each (areas n) refl (of_some (λ s. IsSomeAnd (areas n) (IsAreaOf p s)) (span_of spans n) s e (stands.used n))
   where
     each : (o : Option Area) → areas n ≡ o → IsSomeAnd o (IsAreaOf p s) → IsIn p areas n s
@@ -104,7 +105,8 @@ span_at spans page n distinct e = each (span_of spans n) refl (of_some (λ n. Is
     each None e h = absurd h
     each (Some s) e h = record { span = s; span_is = e; holds = h }
 
-pub is_on : (p : ℕ) (areas : ℕ → Option Area) (spans : List Span) (page : ℕ) (area : Area) → AreAreasOf p areas spans → pages_by areas spans page ≡ Some area →
+pub is_on : (p : ℕ) (areas : ℕ → Option Area) (spans : List Span) (page : ℕ) (area : Area) → AreAreasOf p areas spans
+    → pages_by areas spans page ≡ Some area →
     IsOn p areas spans page area
 is_on p areas spans page area stands e = each (area_at spans page) refl e
   where
@@ -125,14 +127,16 @@ is_on p areas spans page area stands e = each (area_at spans page) refl e
         }
 
 -- the number of a page's area is in use
-pub used_at : (p : ℕ) (areas : ℕ → Option Area) (spans : List Span) (page n : ℕ) → AreAreasOf p areas spans → area_at spans page ≡ Some n → IsSome (areas n)
+pub used_at : (p : ℕ) (areas : ℕ → Option Area) (spans : List Span) (page n : ℕ) → AreAreasOf p areas spans → area_at spans page ≡ Some n
+    → IsSome (areas n)
 used_at p areas spans page n stands at =
     let s = span_at spans page n stands.spans_are.distinct at in
     let i = area_in p areas spans n s.span stands s.span_is in
     subst IsSome (sym i.area_is) refl
 
 -- and its area is whole
-pub whole_at : (p : ℕ) (areas : ℕ → Option Area) (spans : List Span) (page n : ℕ) (area : Area) → AreAreasOf p areas spans → area_at spans page ≡ Some n →
+pub whole_at : (p : ℕ) (areas : ℕ → Option Area) (spans : List Span) (page n : ℕ) (area : Area) → AreAreasOf p areas spans
+    → area_at spans page ≡ Some n →
     areas n ≡ Some area → IsWhole area
 whole_at p areas spans page n area stands at is = (is_on p areas spans page area stands (ap (option_and_then areas) at ∙ is)).is.whole
 
@@ -182,7 +186,8 @@ pub stays_trans : (p : ℕ) (a b c : ℕ → Option Area) (before after : List S
 stays_trans p a b c before after h k = record { areas = k.areas; others = others_trans p a b c h.others k.others }
 
 -- so in the values of `Areas` and `Tree`
-pub stays_then : (old mid new : List (Option Area)) (before between after : List Span) → StayOfOne old before mid between → StayOfOne mid between new after
+pub stays_then : (old mid new : List (Option Area)) (before between after : List Span) → StayOfOne old before mid between
+    → StayOfOne mid between new after
     → StayOfOne old before new after
 stays_then old mid new before between after h k p stands =
     let one = h p stands in
@@ -204,7 +209,8 @@ differ : (f : ℕ → Option Area) (n k : ℕ) (area : Area) → f n ≡ None �
 differ f n k area none some same = let e : f n ≡ f k = ap f (sym same) in cc
 
 -- where a number has another area, or none, the pages of its span have that
-pages_changed : (p n : ℕ) (s : Span) (areas : ℕ → Option Area) (spans : List Span) (x : Option Area) → AreAreasOf p areas spans → span_of spans n ≡ Some s →
+pages_changed : (p n : ℕ) (s : Span) (areas : ℕ → Option Area) (spans : List Span) (x : Option Area) → AreAreasOf p areas spans
+    → span_of spans n ≡ Some s →
     (page : ℕ) → pages_by (with_at n x areas) spans page ≡ cond (holds s page) x (pages_by areas spans page)
 pages_changed p n s areas spans x stands there page = elim (holds s page) as (λ b. holds s page ≡ b →
     pages_by (with_at n x areas) spans page ≡ cond b x (pages_by areas spans page)) [
@@ -239,7 +245,8 @@ module _ (p n : ℕ) (s : Span) (area : Area) (areas areas' : ℕ → Option Are
   pub put_pages : (page : ℕ) → pages_by areas' spans' page ≡ with_area area (pages_by areas spans) page
   put_pages page =
       ap (option_and_then areas') (pages_now page ∙ ap (λ b. cond b (Some n) (area_at spans page)) (holds_is p s area page is))
-      ∙ elim (has_page area page) as (λ b. option_and_then areas' (cond b (Some n) (area_at spans page)) ≡ cond b (Some area) (pages_by areas spans page)) [
+      ∙ elim (has_page area page) as
+      (λ b. option_and_then areas' (cond b (Some n) (area_at spans page)) ≡ cond b (Some area) (pages_by areas spans page)) [
         | true ↦ now n ∙ self n (Some area) areas
         | false ↦ each (area_at spans page) refl
       ]
@@ -258,12 +265,14 @@ module _ (p n m : ℕ) (s t : Span) (lower upper : Area) (areas areas' : ℕ →
     (unused : areas m ≡ None)
     (is_lower : IsAreaOf p s lower) (is_upper : IsAreaOf p t upper)
     (now : (k : ℕ) → areas' k ≡ with_at n (Some lower) (with_at m (Some upper) areas) k)
-    (pages_now : (page : ℕ) → area_at spans' page ≡ cond (holds t page) (Some m) (cond (holds s page) (Some n) (unless_area n (area_at spans page)))) where
+    (pages_now : (page : ℕ)
+    → area_at spans' page ≡ cond (holds t page) (Some m) (cond (holds s page) (Some n) (unless_area n (area_at spans page)))) where
   -- the number that is in use is not the new one
   apart : m ≢ n
   apart same = each (span_of spans n) there (stands.used n)
     where
-      each : (o : Option Span) → IsSomeAnd o (λ u. (u.from ≡ first_of lower) × (u.to ≡ past_of upper)) → IfSome o (λ u. IsSomeAnd (areas n) (IsAreaOf p u)) → ⊥
+      each : (o : Option Span) → IsSomeAnd o (λ u. (u.from ≡ first_of lower) × (u.to ≡ past_of upper))
+          → IfSome o (λ u. IsSomeAnd (areas n) (IsAreaOf p u)) → ⊥
       each None some used = absurd some
       each (Some u) some used = subst (λ o. IsSomeAnd o (IsAreaOf p u)) (ap areas (sym same) ∙ unused) used
 
@@ -272,10 +281,12 @@ module _ (p n m : ℕ) (s t : Span) (lower upper : Area) (areas areas' : ℕ →
       ap (option_and_then areas') (pages_now page
       ∙ ap (λ b. cond b (Some m) (cond (holds s page) (Some n) (unless_area n (area_at spans page)))) (holds_is p t upper page is_upper)
       ∙ ap (λ b. cond (has_page upper page) (Some m) (cond b (Some n) (unless_area n (area_at spans page)))) (holds_is p s lower page is_lower))
-      ∙ elim (has_page upper page) as (λ b. option_and_then areas' (cond b (Some m) (cond (has_page lower page) (Some n) (unless_area n (area_at spans page))))
+      ∙ elim (has_page upper page) as
+      (λ b. option_and_then areas' (cond b (Some m) (cond (has_page lower page) (Some n) (unless_area n (area_at spans page))))
       ≡ cond b (Some upper) (with_area lower (pages_by (with_at n None areas) spans) page)) [
         | true ↦ now m ∙ other_at n m (Some lower) (with_at m (Some upper) areas) apart ∙ self m (Some upper) areas
-        | false ↦ elim (has_page lower page) as (λ b. option_and_then areas' (cond b (Some n) (unless_area n (area_at spans page))) ≡ cond b (Some lower)
+        | false ↦ elim (has_page lower page) as
+            (λ b. option_and_then areas' (cond b (Some n) (unless_area n (area_at spans page))) ≡ cond b (Some lower)
             (pages_by (with_at n None areas) spans page)) [
               | true ↦ now n ∙ self n (Some lower) (with_at m (Some upper) areas)
               | false ↦ each (area_at spans page) refl
@@ -312,7 +323,8 @@ module _ (p n : ℕ) (s : Span) (areas areas' : ℕ → Option Area) (spans span
   take_pages page = grind (arith, common_steps)
 
 -- without its area, a number's pages have none; the others stay
-pub pages_without : (p n : ℕ) (s : Span) (areas : ℕ → Option Area) (spans : List Span) → AreAreasOf p areas spans → span_of spans n ≡ Some s → (page : ℕ) →
+pub pages_without : (p n : ℕ) (s : Span) (areas : ℕ → Option Area) (spans : List Span) → AreAreasOf p areas spans
+    → span_of spans n ≡ Some s → (page : ℕ) →
     pages_by (with_at n None areas) spans page ≡ cond (holds s page) None (pages_by areas spans page)
 pages_without p n s areas spans stands there page = pages_changed p n s areas spans None stands there page
 

@@ -1,7 +1,7 @@
 -- What splitting and joining keep: how each page is mapped, and that each area is on all of its pages.
 use Rattle.std.proofs.Common.{◌≡◌, ℕ, ◌-◌, ◌≤◌, inl, inr, Bool, true, false, cond, List, Option, Some, None, option_map, refl, sym, ap, ◌∙◌}
 use Rattle.av_vma.specs.declared.area.Area.{Area}
-use Rattle.av_vma.specs.Join.{first_of}
+use Rattle.av_vma.specs.Index.{first_of}
 use Rattle.av_base.specs.Words.{within}
 use Rattle.av_vmatree.specs.declared.span.Span.{Span}
 use Rattle.av_vma.specs.Pages.{AreLaid, Effect, IsWhole, Lengths, Pages, split_at, do_join, has_page, join_of, joined_around, joined_at, part_of, with_area, with_effect, with_effect_on, without_range}

@@ -7,7 +7,8 @@ use Rattle.std.proofs.lemmas.Option.{same_Some}
 use Rattle.av_base.specs.Words.{with_at}
 use Rattle.av_interval.specs.declared.span.Span.{Span}
 use Rattle.av_vma.specs.declared.area.Area.{Area}
-use Rattle.av_vma.specs.Join.{first_of, is_reusable, past_of}
+use Rattle.av_vma.specs.Index.{first_of, past_of}
+use Rattle.av_vma.specs.Join.{can_lend}
 use Rattle.av_vma.specs.Pages.{Lengths, Pages, after_prepare, loan_of, loan_beside, makes_anon, with_anon, with_area}
 use Rattle.av_vmatree.specs.declared.span.Span as tree
 use Rattle.av_vmatree.specs.Spans.{area_at}
@@ -51,10 +52,10 @@ module _ (areas : ℕ → Option Area) (f : Family) (spans : ℕ → List Span) 
       none false false = refl
 
       by_own : (n : ℕ) (near : Area) → areas n ≡ Some near → (own : Option ℕ) → near.anon ≡ own
-          → cond (is_reusable A near (length (f.chain n))) own None ≡ cond (is_reusable A near (length_by areas f own)) own None
-      by_own n near is None e = none (is_reusable A near (length (f.chain n))) (is_reusable A near 0)
+          → cond (can_lend A near (length (f.chain n))) own None ≡ cond (can_lend A near (length_by areas f own)) own None
+      by_own n near is None e = none (can_lend A near (length (f.chain n))) (can_lend A near 0)
       by_own n near is (Some v) e =
-          ap (λ (xs : List ℕ). cond (is_reusable A near (length xs)) (Some v) None) (sym (chain_by-is areas f spans n v o (ap own_of is ∙ e)))
+          ap (λ (xs : List ℕ). cond (can_lend A near (length xs)) (Some v) None) (sym (chain_by-is areas f spans n v o (ap own_of is ∙ e)))
 
       by_area : (n : ℕ) (x : Option Area) → areas n ≡ x → loan_by (length (f.chain n)) A x ≡ loan_of (length_by areas f) A x
       by_area n None e = refl
@@ -133,7 +134,8 @@ module _ (areas : ℕ → Option Area) (f : Family) (spans : ℕ → List Span) 
         root : Info
         root = record { root = f.next; parent = f.next; children = 1; active = 1 }
 
-        kin : (v : ℕ) (t : Bool) → (v == f.next) ≡ t → option_map kin_in (cond t (Some root) (f.info v)) ≡ cond t (Some (v, v)) (option_map kin_in (f.info v))
+        kin : (v : ℕ) (t : Bool) → (v == f.next) ≡ t
+            → option_map kin_in (cond t (Some root) (f.info v)) ≡ cond t (Some (v, v)) (option_map kin_in (f.info v))
         kin v true e = ap (λ w. Some (w, w)) (sym (eqb-true v f.next e))
         kin v false e = refl
 
@@ -201,7 +203,8 @@ module _ (p n page : ℕ) (areas areas' : ℕ → Option Area) (f f' : Family) (
       ∙ sym (ap (λ loan_of. not (is_some loan_of)) loan_is)
 
   pub prepare_kin : f' ≡ by_number.after_prepare n (loan_to areas f.chain n before after) f
-      → ((k : ℕ) → areas' k ≡ give_own n (Some (own_after_prepare (loan_to areas f.chain n before after) f)) areas k) → GoWithLinks areas' f'.chain spans'
+      → ((k : ℕ) → areas' k ≡ give_own n (Some (own_after_prepare (loan_to areas f.chain n before after) f)) areas k)
+      → GoWithLinks areas' f'.chain spans'
       → PreparesKin areas areas' f f' spans' makes
   prepare_kin was now goes =
       let loan : Option ℕ = loan_to areas f.chain n before after in
@@ -211,7 +214,8 @@ module _ (p n page : ℕ) (areas areas' : ℕ → Option Area) (f f' : Family) (
       let there : GoWithLinks g f'.chain spans' = subst (λ a. GoWithLinks a f'.chain spans') same goes in
       let spanned : GoWithLinks g h.chain spans' = subst (λ (m : Family). GoWithLinks g m.chain spans') was there in
       let order : IsInOrder g h spans' = order-prepare areas f spans spans' n A before after o is none spanned in
-      let near : loan_near areas f.chain A before after ≡ loan = sym (ap (option_and_then (λ (a : Area). loan_near areas f.chain a before after)) is) in
+      let near : loan_near areas f.chain A before after ≡ loan =
+      sym (ap (option_and_then (λ (a : Area). loan_near areas f.chain a before after)) is) in
       let kin : PreparesKin areas g f h spans' (not (is_some loan)) = by_loan areas f spans n A o is spans' before after loan near order in
       subst (λ a. PreparesKin areas a f f' spans' makes) (sym same)
       (subst (λ m. PreparesKin areas g f m spans' makes) (sym was)

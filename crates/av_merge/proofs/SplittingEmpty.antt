@@ -94,7 +94,8 @@ none_fewer : (at n : ℕ) (spans spans' : List Span) → ((k : ℕ) → span_of 
 none_fewer at n spans spans' now none k = subst (λ o. IfSome o (λ s. s.from < at → s.to ≤ at)) (sym (now k))
     (elim (k == n) as (λ b. IfSome (cond b None (span_of spans k)) (λ s. s.from < at → s.to ≤ at)) [ true ↦ tt | false ↦ none k ])
 
-module _ (from to : ℕ) (old : ℕ → Option Area) (before : List Span) (areas : ℕ → Option Area) (spans : List Span) (p : ℕ) (first : AreAreasOf p old before)
+module _ (from to : ℕ) (old : ℕ → Option Area) (before : List Span) (areas : ℕ → Option Area) (spans : List Span) (p : ℕ)
+    (first : AreAreasOf p old before)
     (so_far : AreTaken from to old before areas spans) where
   -- each area begins above page 0
   lowest : (k : ℕ) (t : Span) → span_of spans k ≡ Some t → 0 < t.from
@@ -108,7 +109,8 @@ module _ (from to : ℕ) (old : ℕ → Option Area) (before : List Span) (areas
   pub all_taken : ((k : ℕ) (t : Span) → span_of spans k ≡ Some t → from - 1 < t.from → to ≤ t.from) → (page : ℕ) →
       pages_by areas spans page ≡ without_range from to (pages_by old before) page
   all_taken none page = elim (within from (to - from) page) as (λ b. within from (to - from) page ≡ b →
-      cond b None (pages_by areas spans page) ≡ cond b None (pages_by old before page) → pages_by areas spans page ≡ cond b None (pages_by old before page)) [
+      cond b None (pages_by areas spans page) ≡ cond b None (pages_by old before page)
+      → pages_by areas spans page ≡ cond b None (pages_by old before page)) [
         | true ↦ λ h _. each (within_parts from (to - from) page h) (pages_by areas spans page) refl
         | false ↦ λ _ e. e
       ] refl (so_far.pages page)
@@ -167,7 +169,8 @@ module _ (from to : ℕ) (old : ℕ → Option Area) (before : List Span) (areas
           let end = past high in
           both_ways _ out (within_from from (to - from) page (omega arith) (omega arith))))
 
-pub next_area : (p : ℕ) (areas : ℕ → Option Area) (spans : List Span) (page n : ℕ) (next : IsNext spans page n) (area : Area) → AreAreasOf p areas spans →
+pub next_area : (p : ℕ) (areas : ℕ → Option Area) (spans : List Span) (page n : ℕ) (next : IsNext spans page n) (area : Area)
+    → AreAreasOf p areas spans →
     areas n ≡ Some area → IsAreaOf p next.span area
 next_area p areas spans page n next area stands e =
     let i = area_in p areas spans n next.span stands next.there in
@@ -185,7 +188,8 @@ all_empty p areas (s ∷ spans) on stands empty =
     let in_range = stands.spans_are.within.0 in
     let low = in_range.0 in
     let high = in_range.1 in
-    let here : pages_by areas (s ∷ spans) s.from ≡ Some i.area = on_span p areas (s ∷ spans) s.area s i.area s.from stands there i.area_is (omega arith) wide in
+    let here : pages_by areas (s ∷ spans) s.from ≡ Some i.area =
+    on_span p areas (s ∷ spans) s.area s i.area s.from stands there i.area_is (omega arith) wide in
     let none : without_range low_page top_page on s.from ≡ None = ap (λ b. cond b None (on s.from))
     (within_from low_page (top_page - low_page) s.from low (omega arith)) in
     let clash : Some i.area ≡ None = sym here ∙ empty s.from ∙ none in

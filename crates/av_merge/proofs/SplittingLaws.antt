@@ -4,7 +4,7 @@ use Rattle.std.specs.Prelude.{option_and_then}
 use Rattle.std.proofs.lemmas.Option.{same_Some}
 use Rattle.std.proofs.lemmas.Bool.{both_ways, false_from_ne_true, ltb-true, ltb-false, cases_lt, lt-ltb, le-ltb}
 use Rattle.av_vma.specs.declared.area.Area.{Area}
-use Rattle.av_vma.specs.Join.{first_of, index_of, past_of}
+use Rattle.av_vma.specs.Index.{first_of, index_of, past_of}
 use Rattle.av_base.specs.Words.{within, with_at}
 use Rattle.av_vmatree.specs.declared.span.Span.{Span}
 use Rattle.av_vmatree.specs.Spans.{AreApart, area_at, last_below, span_of, unless_area}
@@ -69,7 +69,8 @@ abbrev pub without : Area → Pages → Pages
 without area on page = if has_page area page then None else on page
 
 -- where parts of an area are put in its place, the pages between them go
-module _ (on : Pages) (from to : ℕ) (area : Area) (are : AreLaid on) (there : on from ≡ Some area) (below : first_of area < from) (forward : from ≤ to)
+module _ (on : Pages) (from to : ℕ) (area : Area) (are : AreLaid on) (there : on from ≡ Some area) (below : first_of area < from)
+    (forward : from ≤ to)
     (inside : to < past_of area) (page : ℕ) where
   upper_part : to ≤ page → part_of to page (part_of from page area) ≡ upper_of to area
   upper_part above =
@@ -117,7 +118,8 @@ module _ (on : Pages) (from to : ℕ) (area : Area) (are : AreLaid on) (there : 
         )
   ] refl
     where
-      swapped : (o : Option Area) → on page ≡ o → has_page area page ≡ false → option_map (part_of from page) (option_map (part_of to page) o) ≡ option_map
+      swapped : (o : Option Area) → on page ≡ o → has_page area page ≡ false
+          → option_map (part_of from page) (option_map (part_of to page) o) ≡ option_map
           (part_of to page) (option_map (part_of from page) o)
       swapped o e out =
           ap (option_map (part_of from page)) (sym (other_stays to (omega arith) inside out o e))
@@ -134,7 +136,8 @@ module _ (on : Pages) (from to : ℕ) (area : Area) (are : AreLaid on) (there : 
             let high : page < past_of area = (has_parts (upper_of to area) page h).1 in
             let at_page : to ≤ page = (let e = page_of to in omega arith) in
             let here : on page ≡ Some area = are.all from page area there (has_from area page (omega arith) high) in
-            let out : within from (to - from) page ≡ false = false_from_ne_true _ (λ h. let k = (within_parts from (to - from) page h).1 in omega arith) in
+            let out : within from (to - from) page ≡ false =
+            false_from_ne_true _ (λ h. let k = (within_parts from (to - from) page h).1 in omega arith) in
             rw (out, here) (ap Some (sym (upper_part at_page)))
         | false ↦ λ h. elim (has_page (lower_of from area) page) as (λ b. has_page (lower_of from area) page ≡ b →
             cond b (Some (lower_of from area)) (without area on page) ≡ after_unmap from to on page) [
@@ -185,7 +188,8 @@ pub crossed : (p n from to : ℕ) (areas : ℕ → Option Area) (spans : List Sp
     IsSomeAnd (span_of spans n) (λ s. (s.from < from) × (to < s.to)) → areas n ≡ Some area → IsCrossed p n from to spans area
 crossed p n from to areas spans area stands inside used = each (span_of spans n) refl inside (stands.used n)
   where
-    each : (o : Option Span) → span_of spans n ≡ o → IsSomeAnd o (λ s. (s.from < from) × (to < s.to)) → IfSome o (λ s. IsSomeAnd (areas n) (IsAreaOf p s)) →
+    each : (o : Option Span) → span_of spans n ≡ o → IsSomeAnd o (λ s. (s.from < from) × (to < s.to))
+        → IfSome o (λ s. IsSomeAnd (areas n) (IsAreaOf p s)) →
         IsCrossed p n from to spans area
     each None e h k = absurd h
     each (Some s) e h k =
@@ -196,21 +200,26 @@ crossed p n from to areas spans area stands inside used = each (span_of spans n)
         let last = is.to in
         record { span = s; there = e; is = is; low = omega arith; high = omega arith }
 
-module _ (p n from to : ℕ) (areas : ℕ → Option Area) (spans : List Span) (area : Area) (stands : AreAreasOf p areas spans) (used : areas n ≡ Some area)
+module _ (p n from to : ℕ) (areas : ℕ → Option Area) (spans : List Span) (area : Area) (stands : AreAreasOf p areas spans)
+    (used : areas n ≡ Some area)
     (forward : from ≤ to) (c : IsCrossed p n from to spans area) where
   pub parts_ends : IsSomeAnd (span_of spans n) (λ s. (s.from ≡ first_of (lower_of from area)) × (s.to ≡ past_of (upper_of to area)))
-  parts_ends = subst (λ o. IsSomeAnd o (λ s. (s.from ≡ first_of (lower_of from area)) × (s.to ≡ past_of (upper_of to area)))) (sym c.there) (c.is.from, c.is.to)
+  parts_ends = subst (λ o. IsSomeAnd o (λ s. (s.from ≡ first_of (lower_of from area)) × (s.to ≡ past_of (upper_of to area)))) (sym c.there)
+      (c.is.from, c.is.to)
 
   rest_is : (page : ℕ) → pages_by (with_at n None areas) spans page ≡ without area (pages_by areas spans) page
-  rest_is page = pages_without p n c.span areas spans stands c.there page ∙ ap (λ b. cond b None (pages_by areas spans page)) (holds_is p c.span area page c.is)
+  rest_is page = pages_without p n c.span areas spans stands c.there page
+      ∙ ap (λ b. cond b None (pages_by areas spans page)) (holds_is p c.span area page c.is)
 
   -- the two parts have been put
   pub split_pages : (areas' : ℕ → Option Area) (spans' : List Span) →
-      ((page : ℕ) → pages_by areas' spans' page ≡ with_area (upper_of to area) (with_area (lower_of from area) (pages_by (with_at n None areas) spans)) page) →
+      ((page : ℕ) → pages_by areas' spans' page ≡ with_area (upper_of to area)
+      (with_area (lower_of from area) (pages_by (with_at n None areas) spans)) page) →
       (page : ℕ) → pages_by areas' spans' page ≡ after_unmap from to (pages_by areas spans) page
   split_pages areas' spans' pages' page =
       pages' page
-      ∙ ap (λ o. cond (has_page (upper_of to area) page) (Some (upper_of to area)) (cond (has_page (lower_of from area) page) (Some (lower_of from area)) o))
+      ∙ ap (λ o. cond (has_page (upper_of to area) page) (Some (upper_of to area))
+      (cond (has_page (lower_of from area) page) (Some (lower_of from area)) o))
       (rest_is page)
       ∙ cut_through (pages_by areas spans) from to area (laid_of p areas spans stands)
       (on_span p areas spans n c.span area from stands c.there used (let e = c.is.from in let low = c.low in omega arith) (let e = c.is.to in
@@ -333,7 +342,8 @@ found_inside p n at areas spans area f below =
     subst (λ o. IsSomeAnd o (λ s. (s.from < at) × (at < s.to))) (sym f.span_is) (omega arith, omega arith)
 
 -- an area that begins with a page isn't split there
-pub begins_uncut : (on : Pages) (at : ℕ) (area : Area) → AreLaid on → on at ≡ Some area → at ≤ first_of area → (page : ℕ) → on page ≡ split_at at on page
+pub begins_uncut : (on : Pages) (at : ℕ) (area : Area) → AreLaid on → on at ≡ Some area → at ≤ first_of area → (page : ℕ)
+    → on page ≡ split_at at on page
 begins_uncut on at area laid here first = uncut on at laid (λ other e. subst (λ a. at ≤ first_of a) (same_Some area other (sym here ∙ e)) first)
 
 -- nor is one that ends before it
@@ -344,7 +354,8 @@ ends_uncut on at area laid some before past = uncut on at laid (λ other e. elim
   | inl below ↦
       let k = has_parts other at (laid.here at other e) in
       let high = k.1 in
-      let same : area ≡ other = same_Some area other (sym before ∙ laid.all at (at - 1) other e (has_from other (at - 1) (omega arith) (omega arith))) in
+      let same : area ≡ other =
+      same_Some area other (sym before ∙ laid.all at (at - 1) other e (has_from other (at - 1) (omega arith) (omega arith))) in
       let far : at < past_of area = subst (λ a. at < past_of a) (sym same) high in
       absurd (omega arith)
 ])
@@ -354,9 +365,11 @@ pub has_before : (p n at : ℕ) (areas : ℕ → Option Area) (spans : List Span
     IsSomeAnd (span_of spans n) (λ s. (s.from < at) × (at ≤ s.to)) → areas n ≡ Some area → (0 < at) × (pages_by areas spans (at - 1) ≡ Some area)
 has_before p n at areas spans area stands inside used = each (span_of spans n) refl inside
   where
-    each : (o : Option Span) → span_of spans n ≡ o → IsSomeAnd o (λ s. (s.from < at) × (at ≤ s.to)) → (0 < at) × (pages_by areas spans (at - 1) ≡ Some area)
+    each : (o : Option Span) → span_of spans n ≡ o → IsSomeAnd o (λ s. (s.from < at) × (at ≤ s.to))
+        → (0 < at) × (pages_by areas spans (at - 1) ≡ Some area)
     each None e h = absurd h
-    each (Some s) e h = let low = h.0 in let high = h.1 in (omega arith, on_span p areas spans n s area (at - 1) stands e used (omega arith) (omega arith))
+    each (Some s) e h = let low = h.0 in let high = h.1 in
+        (omega arith, on_span p areas spans n s area (at - 1) stands e used (omega arith) (omega arith))
 
 -- what begins with a page, after a split there, goes as far as what was on the page
 pub goes_to : (p n from past : ℕ) (on : Pages) (areas : ℕ → Option Area) (spans : List Span) → AreAreasOf p areas spans → from < past →
@@ -364,7 +377,8 @@ pub goes_to : (p n from past : ℕ) (on : Pages) (areas : ℕ → Option Area) (
     IsSomeAnd (span_of spans n) (λ s. (s.from < past) × (past ≤ s.to))
 goes_to p n from past on areas spans stands some at is far = each (on from) refl far
   where
-    each : (o : Option Area) → on from ≡ o → IsSomeAnd o (λ area. past ≤ past_of area) → IsSomeAnd (span_of spans n) (λ s. (s.from < past) × (past ≤ s.to))
+    each : (o : Option Area) → on from ≡ o → IsSomeAnd o (λ area. past ≤ past_of area)
+        → IsSomeAnd (span_of spans n) (λ s. (s.from < past) × (past ≤ s.to))
     each None e h = absurd h
     each (Some area) e h =
         let part = record area { start = max area.start (4096 * from); pgoff = area.pgoff + (from - first_of area) } in

@@ -3,7 +3,7 @@ use Rattle.std.specs.Prelude.{◌≡◌, ℕ, suc, List, Option, Some, None}
 use Rattle.av_base.specs.Words.{with_at}
 use Rattle.av_vma.specs.declared.area.Area.{Area}
 use Rattle.av_vma.specs.Areas.{area_of}
-use Rattle.av_vma.specs.Join.{first_of, past_of}
+use Rattle.av_vma.specs.Index.{first_of, past_of}
 use Rattle.av_vmatree.specs.declared.span.Span.{Span}
 use Rattle.av_vmatree.specs.Spans.{span, with_span}
 use Rattle.av_anon.specs.declared.anons.Anons.{Anons}

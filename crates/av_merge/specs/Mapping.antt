@@ -3,7 +3,7 @@ use Rattle.std.specs.Prelude.{◌≡◌, ℕ, ◌-◌, if◌then◌else◌, Opti
 use Rattle.av_base.specs.declared.prot.Prot.{Prot}
 use Rattle.av_vma.specs.declared.area.Area.{Area}
 use Rattle.av_base.specs.Words.{within}
-use Rattle.av_vma.specs.Join.{index_of}
+use Rattle.av_vma.specs.Index.{index_of}
 use Rattle.av_vma.specs.Pages.{Pages, Effect}
 
 -- the protection and flags of a page's area, and the page's linear index; not its own anon_vma,

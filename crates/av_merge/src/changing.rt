@@ -1,16 +1,18 @@
 //! New areas, and areas that are changed; each is joined with its neighbours where they go on in
 //! each other.
 
-ghost use Rattle.std.specs.Prelude.{◌≡◌, ℕ, ◌-◌, ◌*◌, ◌+◌, ◌<◌, ◌≤◌, ◌⊎◌, Some, true, false, if◌then◌else◌, option_map, IsSomeAnd, IfSome, OnOk, IfOk};
+ghost use Rattle.std.specs.Prelude.{◌≡◌, ℕ, ◌-◌, ◌*◌, ◌+◌, ◌<◌, ◌≤◌, ◌⊎◌, Some, true, false};
+ghost use Rattle.std.specs.Prelude.{if◌then◌else◌, option_map, IsSomeAnd, IfSome, OnOk, IfOk};
 ghost use Rattle.av_vma.specs.Areas.{area_of};
 ghost use Rattle.av_base.specs.Limits.{low_page, top_page};
-ghost use Rattle.av_vma.specs.Join.{past_of};
+ghost use Rattle.av_vma.specs.Index.{past_of};
 ghost use Rattle.av_base.specs.Words.{within};
 ghost use Rattle.av_vmatree.specs.Spans.{IsFree, area_at, is_page_taken};
 ghost use Rattle.av_merge.specs.Changing.{effect_of};
 ghost use Rattle.av_merge.specs.Mapping.{IsRemapped};
 ghost use Rattle.av_merge.specs.Pages.{GoesTo, pages_by};
-ghost use Rattle.av_vma.specs.Pages.{alters, fresh_area, joined_around, pages_changed, part_changed, with_area, with_effect, after_map};
+ghost use Rattle.av_vma.specs.Pages.{alters, fresh_area, joined_around, pages_changed};
+ghost use Rattle.av_vma.specs.Pages.{part_changed, with_area, with_effect, after_map};
 ghost use Rattle.av_merge.specs.Kin.{AreInOrder, StayKin, lengths};
 ghost use Rattle.av_merge.specs.Process.{AreAreasOf, Stays, AreOfOne, StayOfOne, Becomes};
 

@@ -2,7 +2,7 @@
 
 ghost use Rattle.std.specs.Prelude.{ℕ, IfSome, IsSomeAnd, OnOk};
 ghost use Rattle.av_vma.specs.Areas.{area_of};
-ghost use Rattle.av_vma.specs.Join.{first_of, past_of};
+ghost use Rattle.av_vma.specs.Index.{first_of, past_of};
 ghost use Rattle.av_vma.specs.Pages.{IsWhole};
 ghost use Rattle.av_vmatree.specs.Spans.{IsFree, is_page_taken};
 ghost use Rattle.av_merge.specs.Forking.{IsForkedTo};

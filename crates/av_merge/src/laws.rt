@@ -1,12 +1,15 @@
 //! What the definitions say of how pages are mapped. No function does anything: each one's contract
 //! is a law.
 
-ghost use Rattle.std.specs.Prelude.{◌≡◌, ℕ, suc, ◌+◌, ◌-◌, ◌≤◌, true, List, Option, Some, None, if◌then◌else◌};
-ghost use Rattle.av_vma.specs.Join.{past_of};
+ghost use Rattle.std.specs.Prelude.{◌≡◌, ℕ, suc, ◌+◌, ◌-◌, ◌≤◌, true, List, Option, Some, None};
+ghost use Rattle.std.specs.Prelude.{if◌then◌else◌};
+ghost use Rattle.av_vma.specs.Index.{past_of};
 ghost use Rattle.av_vma.specs.declared.area.Area.{Area};
 ghost use Rattle.av_base.specs.Words.{within};
 ghost use Rattle.av_vmatree.specs.declared.span.Span.{Span};
-ghost use Rattle.av_vma.specs.Pages.{AreLaid, Lengths, Pages, Effect, alters, split_at, without_range, joined_around, part_changed, pages_changed, after_unmap};
+ghost use Rattle.av_vma.specs.Pages.{AreLaid, Lengths, Pages, Effect, alters, split_at};
+ghost use Rattle.av_vma.specs.Pages.{without_range, joined_around, part_changed, pages_changed};
+ghost use Rattle.av_vma.specs.Pages.{after_unmap};
 ghost use Rattle.av_merge.specs.Mapping.{mapping};
 ghost use Rattle.av_merge.specs.Pages.{pages_by};
 ghost use Rattle.av_merge.specs.Process.{AreAreasOf};

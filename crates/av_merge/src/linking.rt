@@ -3,7 +3,8 @@
 //! Where want of memory leaves an anon_vma without the span of an area, `put` and `put_parts`
 //! change the areas all the same, so that they and the tree go together; `share` leaves all areas.
 
-ghost use Rattle.std.specs.Prelude.{◌≡◌, ◌≢◌, ℕ, ◌<◌, Some, None, is_some, IsSome, IsSomeAnd, OnErr, OnOk, length, if◌then◌else◌};
+ghost use Rattle.std.specs.Prelude.{◌≡◌, ◌≢◌, ℕ, ◌<◌, Some, None, is_some, IsSome, IsSomeAnd};
+ghost use Rattle.std.specs.Prelude.{OnErr, OnOk, length, if◌then◌else◌};
 ghost use Rattle.std.specs.Option.{option_or};
 ghost use Rattle.av_base.specs.Words.{with_at};
 ghost use Rattle.av_vma.specs.Areas.{area_of};

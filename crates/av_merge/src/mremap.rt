@@ -1,16 +1,19 @@
 //! Moves and growth: pages stand at another place with their areas, and an area becomes longer
 //! (Linux's `move_vma` and `vma_expand`).
 
-ghost use Rattle.std.specs.Prelude.{◌≡◌, ℕ, suc, ◌+◌, ◌-◌, ◌^◌, ◌<◌, ◌≤◌, ◌⊎◌, min, true, Some, IsSomeAnd, OnOk, IfOk};
+ghost use Rattle.std.specs.Prelude.{◌≡◌, ℕ, suc, ◌+◌, ◌-◌, ◌^◌, ◌<◌, ◌≤◌, ◌⊎◌, min, true, Some};
+ghost use Rattle.std.specs.Prelude.{IsSomeAnd, OnOk, IfOk};
 ghost use Rattle.av_base.specs.Limits.{low_page, top_page, most_indices};
 ghost use Rattle.av_vma.specs.Areas.{area_of};
-ghost use Rattle.av_vma.specs.Join.{first_of, past_of};
-ghost use Rattle.av_vma.specs.Mremap.{IsGrowth, IsMove, after_grow, after_move, grown_to, joined_over, moved_area, moved_range};
+ghost use Rattle.av_vma.specs.Index.{first_of, past_of};
+ghost use Rattle.av_vma.specs.Mremap.{IsGrowth, IsMove, after_grow, after_move, grown_to};
+ghost use Rattle.av_vma.specs.Mremap.{joined_over, moved_area, moved_range};
 ghost use Rattle.av_vma.specs.Pages.{after_unmap, split_at, with_area, without_range};
 ghost use Rattle.av_vmatree.specs.Spans.{IsFree, area_at, is_page_taken};
 ghost use Rattle.av_merge.specs.Kin.{AreInOrder, StayKin, lengths};
 ghost use Rattle.av_merge.specs.Pages.{pages_by};
-ghost use Rattle.av_merge.specs.Process.{AreAreasOf, NoneCrosses, Stays, AreOfOne, StayOfOne, Becomes};
+ghost use Rattle.av_merge.specs.Process.{AreAreasOf, NoneCrosses, Stays, AreOfOne, StayOfOne};
+ghost use Rattle.av_merge.specs.Process.{Becomes};
 
 use crate::joining::{join_at, join_ends};
 use crate::linking::take;

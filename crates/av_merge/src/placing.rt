@@ -1,10 +1,12 @@
 //! One area is put, or another is put in its place.
 
-ghost use Rattle.std.specs.Prelude.{◌≡◌, ℕ, ◌-◌, ◌<◌, ◌≤◌, Some, None, IsSomeAnd, OnOk, IfOk, if◌then◌else◌};
+ghost use Rattle.std.specs.Prelude.{◌≡◌, ℕ, ◌-◌, ◌<◌, ◌≤◌, Some, None, IsSomeAnd, OnOk, IfOk};
+ghost use Rattle.std.specs.Prelude.{if◌then◌else◌};
 ghost use Rattle.av_vma.specs.Areas.{area_of};
-ghost use Rattle.av_vma.specs.Join.{first_of, past_of};
+ghost use Rattle.av_vma.specs.Index.{first_of, past_of};
 ghost use Rattle.av_base.specs.Words.{with_at};
-ghost use Rattle.av_vmatree.specs.Spans.{AreSpans, IsFree, area_at, span, span_of, is_page_taken, unless_area, with_span, without_area};
+ghost use Rattle.av_vmatree.specs.Spans.{AreSpans, IsFree, area_at, span, span_of, is_page_taken};
+ghost use Rattle.av_vmatree.specs.Spans.{unless_area, with_span, without_area};
 ghost use Rattle.av_merge.specs.Pages.{beginning_at, ending_at, pages_by};
 ghost use Rattle.av_vma.specs.Pages.{has_page, with_area, IsWhole};
 ghost use Rattle.av_anon.specs.Resize.{with_bounds};

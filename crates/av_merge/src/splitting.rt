@@ -2,12 +2,13 @@
 
 ghost use Rattle.std.specs.Prelude.{◌≡◌, ℕ, ◌<◌, ◌≤◌, [], Some, IsSomeAnd, OnOk, IfOk};
 ghost use Rattle.av_vma.specs.Areas.{area_of};
-ghost use Rattle.av_vma.specs.Join.{past_of};
+ghost use Rattle.av_vma.specs.Index.{past_of};
 ghost use Rattle.av_vmatree.specs.Spans.{area_at, last_below, span_of};
 ghost use Rattle.av_merge.specs.Pages.{pages_by};
 ghost use Rattle.av_vma.specs.Pages.{split_at, without_range, after_unmap};
 ghost use Rattle.av_merge.specs.Kin.{AreInOrder, StayKin};
-ghost use Rattle.av_merge.specs.Process.{AreAreasOf, NoneCrosses, Stays, AreOfOne, StayOfOne, Becomes};
+ghost use Rattle.av_merge.specs.Process.{AreAreasOf, NoneCrosses, Stays, AreOfOne, StayOfOne};
+ghost use Rattle.av_merge.specs.Process.{Becomes};
 
 use crate::linking::take;
 use crate::placing::put_apart;

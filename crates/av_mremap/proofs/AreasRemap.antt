@@ -60,7 +60,8 @@ module _ (old : Mem) (spaces : AllSpaces) (anons : AnonSet) (p : ℕ) (alive : i
       areas : (q page : ℕ) (b : Bool) → (q == p) ≡ b → pages_of spaces.processes q page ≡ with_at p on (pages_of old.spaces.processes) q page
       areas q page true e = ap (λ n. pages_of spaces.processes n page) (equal q p e) ∙ h.pages page
           ∙ ap (λ b. (cond b on (pages_of old.spaces.processes q)) page) (sym e)
-      areas q page false e = ap (λ a. pages_in a page) (h.others q (other q p e)) ∙ ap (λ b. (cond b on (pages_of old.spaces.processes q)) page) (sym e)
+      areas q page false e = ap (λ a. pages_in a page) (h.others q (other q p e))
+          ∙ ap (λ b. (cond b on (pages_of old.spaces.processes q)) page) (sym e)
 
       lives : (q : ℕ) (b : Bool) → (q == p) ≡ b → is_some (areas_of spaces.processes q) ≡ is_some (areas_of old.spaces.processes q)
       lives q true e = ap (λ n. is_some (areas_of spaces.processes n)) (equal q p e) ∙ h.alive
@@ -147,7 +148,8 @@ module _ (d : Device) (old : Mem) (s : State) (keeps : Keeps d old s) (p : ℕ) 
 
     -- which of the two the areas become
     elsewhere : (left : Option Prot) → (to == from) ≡ false → (page : ℕ)
-        → with_old_range len p from (from + n) left (after_move len from n to m (s.areas p)) page ≡ after_mremap len p from n to m left (s.areas p) page
+        → with_old_range len p from (from + n) left (after_move len from n to m (s.areas p)) page ≡ after_mremap len p from n to m left
+        (s.areas p) page
     elsewhere left e page = ap (λ b. (cond b (after_resize len from n m (s.areas p))
         (with_old_range len p from (from + n) left (after_move len from n to m (s.areas p)))) page) (sym e)
 

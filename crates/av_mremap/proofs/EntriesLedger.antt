@@ -8,7 +8,7 @@ use Rattle.av_pagetable.specs.Entries.{entry_at}
 use Rattle.av_pagetable.specs.declared.pte.Pte.{Pte}
 use Rattle.av_pagetable.specs.declared.pte.Pte.TheVariants.{Empty}
 use Rattle.av_plain.specs.Device.{Device}
-use Rattle.av_plain.specs.Event.{Moved, after, after_move}
+use Rattle.av_plain.specs.Event.{EntriesMoved, after, after_move}
 use Rattle.av_plain.specs.Ledger.{Entry, Ledger, Setting, entry}
 use Rattle.av_plain.specs.Stands.{Pte as Plain, View, entry_of, free_of}
 use Rattle.av_plain.proofs.Event.{put_all-only}
@@ -20,7 +20,7 @@ use Rattle.av_swap_laws.proofs.Move.{moved-chosen, moved-stands}
 use Rattle.av_swapcache.specs.Swap.{shown as shown_swap}
 use Rattle.av_mem.specs.declared.mem.Mem.{Mem}
 use Rattle.av_mem.specs.Mem.{HasLedger, SoundLedger, plain, setting_by, view, view_of_parts}
-use Rattle.av_mremap.specs.Entries.{HasMoved, moved_entries}
+use Rattle.av_mremap.specs.Entries.{HasMovedEntries, moved_entries}
 
 -- ---- the parts
 
@@ -74,7 +74,8 @@ module _ (m : Setting) (listed room : ℕ) (v : View) (l : Ledger) (p n from to 
       clash : {t : Plain} → None ≡ Some t → ⊥
       clash e = cc
 
-      by : (a b : Bool) → cond a (v.table p (from + (o - to))) (cond b None (v.table q o)) ≡ Some t → (r : ℕ) × (other : ℕ) × (v.table r other ≡ Some t)
+      by : (a b : Bool) → cond a (v.table p (from + (o - to))) (cond b None (v.table q o)) ≡ Some t
+          → (r : ℕ) × (other : ℕ) × (v.table r other ≡ Some t)
       by true b is = (p, from + (o - to), is)
       by false true is = absurd (clash is)
       by false false is = (q, o, is)
@@ -111,9 +112,9 @@ module _ (d : Device) (old new : Mem) (p n from to : ℕ) (bare : (o : ℕ) → 
   abbrev m : Setting
   m = setting_by d old
 
-  pub has_moved : HasMoved d old new l p n from to
-  has_moved = subst (λ (k : Mem). HasMoved d old k l p n from to) (sym rest) (record {
-    stands = subst (λ v. SoundLedger m old.lists.frames (shown_swap old.swap).frames v (after l (Moved p n from to))) (sym seen_so)
+  pub has_moved : HasMovedEntries d old new l p n from to
+  has_moved = subst (λ (k : Mem). HasMovedEntries d old k l p n from to) (sym rest) (record {
+    stands = subst (λ v. SoundLedger m old.lists.frames (shown_swap old.swap).frames v (after l (EntriesMoved p n from to))) (sym seen_so)
         (stands_now m old.lists.frames (shown_swap old.swap).frames (view old) l p n from to stands none_at);
     free = moved-chosen m None l p n from to (free_of (view old))
         (alike m old.lists.frames (shown_swap old.swap).frames (view old) l p n from to stands none_at);

@@ -9,7 +9,7 @@ use Rattle.std.proofs.lemmas.List.{append-nil, append_assoc}
 use Rattle.av_trace.specs.declared.note.Note.{Note}
 use Rattle.av_plain.specs.Choice.{Chooses, ChoosesAll}
 use Rattle.av_plain.specs.Device.{Device, setting_of}
-use Rattle.av_plain.specs.Event.{Event, Moved, after_all, notes_of}
+use Rattle.av_plain.specs.Event.{Event, EntriesMoved, after_all, notes_of}
 use Rattle.av_plain.specs.Ledger.{Ledger, entry}
 use Rattle.av_plain.specs.Mremap.{range_zaps, remap_events}
 use Rattle.av_plain.specs.Stands.{entry_of, free_of}
@@ -19,7 +19,7 @@ use Rattle.av_plain.proofs.Mremap.{after-elsewhere, target_free, then_tail, then
 use Rattle.av_mem.specs.declared.mem.Mem.{Mem}
 use Rattle.av_mem.specs.Mem.{HasLedger, frame_count, plain, setting_by, view}
 use Rattle.av_mem.specs.Zap.{HasZapped}
-use Rattle.av_mremap.specs.Entries.{HasMoved, HasRemapped}
+use Rattle.av_mremap.specs.Entries.{HasMovedEntries, HasRemapped}
 
 -- a place where the ledger has no entry is empty
 pub no_entry : (d : Device) (k : Mem) (l : Ledger) (p page : ℕ) → HasLedger d k l → entry l (p, page) ≡ None → entry_at k.tables p page ≡ Empty
@@ -44,7 +44,7 @@ in_place d old new l p from n to m before now here t =
   where
     is : remap_events l p from n to m ≡ range_zaps l p (from + m) (n - m)
     is = ap (λ b. cond b (range_zaps l p (from + m) (n - m))
-        ((range_zaps l p to m ++ range_zaps (then_target l p from n to m) p (from + m) (n - m)) ++ Moved p (min n m) from to ∷ [])) here
+        ((range_zaps l p to m ++ range_zaps (then_target l p from n to m) p (from + m) (n - m)) ++ EntriesMoved p (min n m) from to ∷ [])) here
 
 module _ (d : Device) (old mid gone : Mem) (l : Ledger) (p from n to m : ℕ) (before between now : List Note)
     (first : HasZapped d old mid l (range_zaps l p to m) before between)
@@ -55,7 +55,7 @@ module _ (d : Device) (old mid gone : Mem) (l : Ledger) (p from n to m : ℕ) (b
 
   -- elsewhere the rest has moved, too
   module _ (new : Mem) (counts : frame_count mid ≡ frame_count old) (counts' : frame_count gone ≡ frame_count old)
-      (third : HasMoved d gone new (then_tail l p from n to m) p (min n m) from to) where
+      (third : HasMovedEntries d gone new (then_tail l p from n to m) p (min n m) from to) where
     abbrev target : List Event
     target = range_zaps l p to m
 
@@ -63,7 +63,7 @@ module _ (d : Device) (old mid gone : Mem) (l : Ledger) (p from n to m : ℕ) (b
     tail = range_zaps (then_target l p from n to m) p (from + m) (n - m)
 
     abbrev last : List Event
-    last = Moved p (min n m) from to ∷ []
+    last = EntriesMoved p (min n m) from to ∷ []
 
     both : after_all l (target ++ tail) ≡ then_tail l p from n to m
     both = after_all-append l target tail
@@ -76,10 +76,12 @@ module _ (d : Device) (old mid gone : Mem) (l : Ledger) (p from n to m : ℕ) (b
     chosen : ChoosesAll (setting_by d old) None l ((target ++ tail) ++ last) (free_of (view old)) (free_of (view new))
     chosen = chooses-append (setting_by d old) None l (target ++ tail) last (free_of (view old)) (free_of (view gone)) (free_of (view new))
         (chooses-append (setting_by d old) None l target tail (free_of (view old)) (free_of (view mid)) (free_of (view gone)) first.free
-        (subst (λ c. ChoosesAll (setting_of c d) None (then_target l p from n to m) tail (free_of (view mid)) (free_of (view gone))) counts second.free)) (
+        (subst (λ c. ChoosesAll (setting_of c d) None (then_target l p from n to m) tail (free_of (view mid)) (free_of (view gone))) counts
+        second.free)) (
           free_of (view new),
-          subst (λ x. Chooses (setting_by d old) None x (Moved p (min n m) from to) (free_of (view gone)) (free_of (view new))) (sym both)
-              (subst (λ c. Chooses (setting_of c d) None (then_tail l p from n to m) (Moved p (min n m) from to) (free_of (view gone)) (free_of (view new)))
+          subst (λ x. Chooses (setting_by d old) None x (EntriesMoved p (min n m) from to) (free_of (view gone)) (free_of (view new))) (sym both)
+              (subst (λ c. Chooses (setting_of c d) None (then_tail l p from n to m) (EntriesMoved p (min n m) from to) (free_of (view gone))
+              (free_of (view new)))
               counts' third.free),
           refl,
         )

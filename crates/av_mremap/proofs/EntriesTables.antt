@@ -39,7 +39,8 @@ pub record IsMoving (old now : ℕ → ℕ → Pte) (p n from to next : ℕ) : T
 itself : (n : ℕ) → (n == n) ≡ true
 itself n = grind (arith, nat_tests)
 
-module _ (old : ℕ → ℕ → Pte) (p n from to : ℕ) (apart : (to + n ≤ from) ⊎ (from + n ≤ to)) (bare : (o : ℕ) → within to n o ≡ true → old p o ≡ Empty) where
+module _ (old : ℕ → ℕ → Pte) (p n from to : ℕ) (apart : (to + n ≤ from) ⊎ (from + n ≤ to))
+    (bare : (o : ℕ) → within to n o ≡ true → old p o ≡ Empty) where
   abbrev after_some : ℕ → ℕ → ℕ → Pte
   after_some k = moved_entries Empty p k from to old
 
@@ -98,7 +99,8 @@ module _ (old : ℕ → ℕ → Pte) (p n from to : ℕ) (apart : (to + n ≤ fr
       by false e = on_other Empty p k from to old q o e ∙ sym (on_other Empty p m from to old q o e)
 
   -- one page more
-  step : (k : ℕ) → k < n → (q o : ℕ) → with_entry p (to + k) (old p (from + k)) (with_entry p (from + k) Empty (after_some k)) q o ≡ after_some (k + 1) q o
+  step : (k : ℕ) → k < n → (q o : ℕ)
+      → with_entry p (to + k) (old p (from + k)) (with_entry p (from + k) Empty (after_some k)) q o ≡ after_some (k + 1) q o
   step k few q o = by (q == p) (o == to + k) (o == from + k) refl refl refl
     where
       back : (o == to + k) ≡ true → from + k ≡ from + (o - to)
@@ -217,4 +219,5 @@ module _ (old : ℕ → ℕ → Pte) (p n from to : ℕ) (apart : (to + n ≤ fr
             sym (left o at (omega arith)) ∙ first.least o at less
 
         before : now ≡ after_some (page - from)
-        before = m.moved ∙ (λ i q o. skip (next - from) (page - from) (let f = first.from_there in omega arith) (let h = few in omega arith) empty q o i)
+        before = m.moved ∙ (λ i q o. skip (next - from) (page - from) (let f = first.from_there in omega arith)
+            (let h = few in omega arith) empty q o i)

@@ -4,7 +4,7 @@ use Rattle.av_base.specs.Words.{within}
 use Rattle.av_trace.specs.declared.note.Note.{Note}
 use Rattle.av_plain.specs.Choice.{Chooses, ChoosesAll}
 use Rattle.av_plain.specs.Device.{Device}
-use Rattle.av_plain.specs.Event.{Event, Moved, after, after_all, notes_of}
+use Rattle.av_plain.specs.Event.{Event, EntriesMoved, after, after_all, notes_of}
 use Rattle.av_plain.specs.Ledger.{Ledger}
 use Rattle.av_plain.specs.Stands.{free_of}
 use Rattle.av_mem.specs.declared.mem.Mem.{Mem}
@@ -19,9 +19,10 @@ moved_entries nothing p n from to f q page =
     else f q page
 
 -- the entries have moved: nothing is taken, and nothing becomes free
-pub record HasMoved (d : Device) (old new : Mem) (l : Ledger) (p n from to : ℕ) : Type 0 where
-  pub stands : HasLedger d new (after l (Moved p n from to))
-  pub free : Chooses (setting_by d old) None l (Moved p n from to)
+pub record HasMovedEntries (d : Device) (old new : Mem) (l : Ledger) (p n from to : ℕ)
+    : Type 0 where
+  pub stands : HasLedger d new (after l (EntriesMoved p n from to))
+  pub free : Chooses (setting_by d old) None l (EntriesMoved p n from to)
       (free_of (view old)) (free_of (view new))
 
 -- these events of an mremap have happened, with their notes, and what is free follows them

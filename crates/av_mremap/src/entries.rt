@@ -2,7 +2,7 @@
 
 ghost use Rattle.std.specs.Prelude.{◌≡◌, ℕ, ◌+◌, ◌^◌, ◌<◌, ◌≤◌, ◌⊎◌, true, OnOk};
 ghost use Rattle.av_base.specs.Words.{within};
-ghost use Rattle.av_mremap.specs.Entries.{moved_entries, HasMoved, HasRemapped};
+ghost use Rattle.av_mremap.specs.Entries.{moved_entries, HasMovedEntries, HasRemapped};
 ghost use Rattle.av_pagetable.specs.Entries.{entry_at, has};
 ghost use Rattle.av_pagetable.specs.Table.{page_bound};
 ghost use Rattle.av_pagetable.specs.declared.pte.Pte.TheVariants as Pte;
@@ -73,7 +73,7 @@ fn move_entries(
     requires bare { (page : ℕ) → within to pages page ≡ true →
         entry_at mem.old.tables process page ≡ Pte.Empty }
     ensures moves { (d : Device) (l : Ledger) → HasLedger d mem.old l →
-        OnOk result (HasMoved d mem.old mem.new l process pages from to) }
+        OnOk result (HasMovedEntries d mem.old mem.new l process pages from to) }
     ensures entries { OnOk result (entry_at mem.new.tables
         ≡ moved_entries Pte.Empty process pages from to (entry_at mem.old.tables)) }
     ensures stay { mem.new ≡ record mem.old { tables = mem.new.tables } }

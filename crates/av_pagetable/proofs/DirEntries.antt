@@ -80,7 +80,8 @@ join F F' span p e others here = λ i q. point q i
       | inr other ↦
           elim (cases_eq (q / span) (p / span)) [
             | inl part ↦
-                ap (λ j. F' j (q % span)) part ∙ here (q % span) ∙ with_at_other (p % span) (q % span) e (F (p / span)) (λ m. other (page_from p q span part m))
+                ap (λ j. F' j (q % span)) part ∙ here (q % span)
+                ∙ with_at_other (p % span) (q % span) e (F (p / span)) (λ m. other (page_from p q span part m))
                 ∙ ap (λ j. F j (q % span)) (sym part)
             | inr part ↦ others (q / span) (q % span) part
           ]
@@ -98,10 +99,12 @@ no_part {C = C} parts n none = ap (cond (nat_lt n 512) (lookup (nat_eq n) parts)
     by true = none
     by false = refl
 
-pub same_part : {C : Type 0} (parts parts' : List (ℕ × C)) (n : ℕ) → lookup (nat_eq n) parts' ≡ lookup (nat_eq n) parts → part_of parts' n ≡ part_of parts n
+pub same_part : {C : Type 0} (parts parts' : List (ℕ × C)) (n : ℕ) → lookup (nat_eq n) parts' ≡ lookup (nat_eq n) parts
+    → part_of parts' n ≡ part_of parts n
 same_part parts parts' n is = ap (λ o. cond (nat_lt n 512) o None) is
 
-module _ {C : Type 0} (at : C → ℕ → Pte) (span : ℕ) (parts : List (ℕ × C)) (good : AreParts at span parts) (k : ℕ) (p : ℕ × C) (within : k < length parts)
+module _ {C : Type 0} (at : C → ℕ → Pte) (span : ℕ) (parts : List (ℕ × C)) (good : AreParts at span parts) (k : ℕ) (p : ℕ × C)
+    (within : k < length parts)
     (is : p ≡ get_or parts k p) where
   low : p.0 < 512
   low = let h = good.below k p within in omega (arith, h, ap (λ part. part.0) is)
@@ -145,7 +148,8 @@ module _ {C : Type 0} (at : C → ℕ → Pte) (span : ℕ) (parts : List (ℕ �
       entries at span (remove parts k) ≡ with_at page Empty (entries at span parts)
   dropped page c here now none =
       join (λ j. in_part at (part_of parts j)) (λ j. in_part at (part_of (remove parts k) j)) span page Empty
-      (λ j r other. ap (λ o. in_part at o r) (same_part parts (remove parts k) j (remove_others at span parts good k p within is j (λ e. other (e ∙ here)))))
+      (λ j r other. ap (λ o. in_part at o r)
+      (same_part parts (remove parts k) j (remove_others at span parts good k p within is j (λ e. other (e ∙ here)))))
       (λ r. subst (λ n. in_part at (part_of (remove parts k) n) r ≡ with_at (page % span) Empty (in_part at (part_of parts n)) r) here
       (ap (λ o. in_part at o r) (no_part (remove parts k) p.0 (remove_here at span parts good k p within is))
       ∙ sym (none r) ∙ (λ i. now i r) ∙ ap (λ o. with_at (page % span) Empty (in_part at o) r) (sym there)))
@@ -204,7 +208,8 @@ module _ {C : Type 0} (at : C → ℕ → Pte) (span : ℕ) (parts : List (ℕ �
   above : (m n : ℕ) (p : ℕ × C) → m < length parts → p ≡ get_or parts m p → n < p.0 → AllWithin (λ part. n < part.0) parts m (length parts)
   above m n p within is h i d low high = elim (cases_eq i m) [
     | inl e ↦ let at_m = ap (λ i. (get_or parts i d).0) e ∙ ap (λ part. part.0) (get_or_default parts m d p within ∙ sym is) in omega (arith, at_m, h)
-    | inr ne ↦ let lt = good.rising m i d (omega (arith, low, ne)) high in let at_m = ap (λ part. part.0) (get_or_default parts m d p within ∙ sym is) in
+    | inr ne ↦ let lt = good.rising m i d (omega (arith, low, ne)) high in let at_m =
+        ap (λ part. part.0) (get_or_default parts m d p within ∙ sym is) in
         omega (arith, lt, at_m, h)
   ]
 
@@ -215,7 +220,8 @@ module _ {C : Type 0} (at : C → ℕ → Pte) (span : ℕ) (parts : List (ℕ �
       ap (λ o. in_part at o (x % span)) (no_part parts (x / span) (gap parts k (x / span) within (λ i d low high. let lt = lower i d low high in
       omega (arith, lt, later)) higher))
 
-  pub not_later : (page k : ℕ) (p : ℕ × C) → k < length parts → p ≡ get_or parts k p → p.0 ≡ page / span → ((q : ℕ) → page % span ≤ q → at p.1 q ≡ Empty)
+  pub not_later : (page k : ℕ) (p : ℕ × C) → k < length parts → p ≡ get_or parts k p → p.0 ≡ page / span
+      → ((q : ℕ) → page % span ≤ q → at p.1 q ≡ Empty)
       → (x : ℕ) → page ≤ x → AllWithin (λ part. x / span < part.0) parts (k + 1) (length parts) → entries at span parts x ≡ Empty
   not_later page k p within is here none x from higher = elim (cases_eq (x / span) p.0) [
     | inl same ↦ entry_there at span parts good k p within is x (sym same) ∙ none (x % span) (later_there page x span from (sym here ∙ sym same))
@@ -227,7 +233,8 @@ module _ {C : Type 0} (at : C → ℕ → Pte) (span : ℕ) (parts : List (ℕ �
       lower differs i d high = elim (cases_eq i k) [
         | inl e ↦ let at_k = ap (λ i. (get_or parts i d).0) e ∙ ap (λ part. part.0) (get_or_default parts k d p within ∙ sym is) in
             omega (arith, at_k, here, later_part page x span some from, differs)
-        | inr ne ↦ let lt = good.rising i k d (omega (arith, high, ne)) within in let at_k = ap (λ part. part.0) (get_or_default parts k d p within ∙ sym is) in
+        | inr ne ↦ let lt = good.rising i k d (omega (arith, high, ne)) within in let at_k =
+            ap (λ part. part.0) (get_or_default parts k d p within ∙ sym is) in
             omega (arith, lt, at_k, here, later_part page x span some from)
       ]
 
@@ -276,7 +283,8 @@ module _ {C : Type 0} (at : C → ℕ → Pte) (span : ℕ) (parts : List (ℕ �
       AllWithin (λ part. page / span < part.0) parts k (length parts)
       → MatchOption r ((q : ℕ) → 0 ≤ q → entries_at at parts k q ≡ Empty) (λ found. IsFirstIn at span parts k 0 found)
       → MatchOption r ((q : ℕ) → page ≤ q → entries at span parts q ≡ Empty) (λ found. IsFirst (entries at span parts) page (span * 512) found)
-  after_gap page k r within lower higher = from_place page k r (not_there page k within lower) (λ p within' is'. let lt = higher k p (omega arith) within' in
+  after_gap page k r within lower higher =
+      from_place page k r (not_there page k within lower) (λ p within' is'. let lt = higher k p (omega arith) within' in
       starts_past page p.0 span some (omega (arith, lt, ap (λ part. part.0) is')))
 
   -- the first part has the first of all
@@ -294,7 +302,8 @@ some_entry {C = C} at span parts good more none = elim (slice_get_cases parts 0)
   | inr (past, is) ↦ omega (arith, past, more)
 ]
 
-pub no_entries : {C : Type 0} (at : C → ℕ → Pte) (span : ℕ) (parts : List (ℕ × C)) → length parts ≡ 0 → (page : ℕ) → entries at span parts page ≡ Empty
+pub no_entries : {C : Type 0} (at : C → ℕ → Pte) (span : ℕ) (parts : List (ℕ × C)) → length parts ≡ 0 → (page : ℕ)
+    → entries at span parts page ≡ Empty
 no_entries at span [] none page = ap (λ o. in_part at o (page % span)) (no_part [] (page / span) refl)
 no_entries at span (p ∷ ps) none page = absurd (omega (arith, none))
 
@@ -304,7 +313,8 @@ pub some_written : {C : Type 0} (at : C → ℕ → Pte) (span r : ℕ) (e : Pte
 some_written at span r e f c' under some now none = some (sym (with_at_same r e f) ∙ ap (λ f. f r) (sym now) ∙ none r under)
 
 -- after a write that may have found no memory
-pub some_either : {C A E : Type 0} (at : C → ℕ → Pte) (span r : ℕ) (e : Pte) (c c' : C) (result : Result A E) → HasSome span (at c) → r < span → (e ≡ Empty → ⊥)
+pub some_either : {C A E : Type 0} (at : C → ℕ → Pte) (span r : ℕ) (e : Pte) (c c' : C) (result : Result A E) → HasSome span (at c) → r < span
+    → (e ≡ Empty → ⊥)
     → MatchResult result (λ _. at c' ≡ with_at r e (at c)) (λ _. at c' ≡ at c) → HasSome span (at c')
 some_either at span r e c c' (Ok x) had under some now = some_written at span r e (at c) c' under some now
 some_either at span r e c c' (Err x) had under some now = λ none. had (λ q low. ap (λ f. f q) (sym now) ∙ none q low)
@@ -322,8 +332,10 @@ pub part_absent : {C : Type 0} (parts : List (ℕ × C)) (k n : ℕ) → k ≤ l
 part_absent parts k n within lower higher = sym (no_part parts n (gap parts k n within lower higher))
 
 -- where a part would stand, its pages have no entry
-pub absent : {C : Type 0} (at : C → ℕ → Pte) (span : ℕ) (parts : List (ℕ × C)) (k n page : ℕ) → k ≤ length parts → AllWithin (λ part. part.0 < n) parts 0 k →
+pub absent : {C : Type 0} (at : C → ℕ → Pte) (span : ℕ) (parts : List (ℕ × C)) (k n page : ℕ) → k ≤ length parts
+    → AllWithin (λ part. part.0 < n) parts 0 k →
     AllWithin (λ part. n < part.0) parts k (length parts)
     → n ≡ page / span → entries at span parts page ≡ Empty
-absent at span parts k n page within lower higher here = ap (λ n. in_part at (part_of parts n) (page % span)) (sym here) ∙ ap (λ o. in_part at o (page % span))
+absent at span parts k n page within lower higher here = ap (λ n. in_part at (part_of parts n) (page % span)) (sym here)
+    ∙ ap (λ o. in_part at o (page % span))
     (no_part parts n (gap parts k n within lower higher))

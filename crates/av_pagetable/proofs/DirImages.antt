@@ -89,7 +89,8 @@ module _ {C : Type 0} (at : C → ℕ → Pte) (span : ℕ) (f : Pte → Pte) (o
 
   pub good_image : ((e : Pte) → f e ≡ Empty → e ≡ Empty) → AreParts at span olds → AreParts at span news
   good_image still good = record {
-    rising = λ i j d lt high. let one = (images i d (omega (arith, lt, high, len))).number in let two = (images j d (omega (arith, high, len))).number in
+    rising = λ i j d lt high. let one = (images i d (omega (arith, lt, high, len))).number in let two =
+        (images j d (omega (arith, high, len))).number in
         let old = good.rising i j d lt (omega (arith, high, len)) in omega (arith, one, two, old);
     below = λ i d high. let one = (images i d (omega (arith, high, len))).number in let old = good.below i d (omega (arith, high, len)) in
         omega (arith, one, old);

@@ -43,7 +43,8 @@ set_around (y ∷ ys) zero x h = refl
 set_around (y ∷ ys) (suc k) x h = ap (λ l. y ∷ l) (set_around ys k x (omega (arith, h)))
 
 pub set_removed : {X : Type 0} (xs : List X) (k : ℕ) (x : X) → remove (slice_set xs k x) k ≡ remove xs k
-set_removed xs k x = ap (λ l. l ++ drop (suc k) (slice_set xs k x)) (take-set xs k x) ∙ ap (λ l. take k xs ++ l) (drop-set-lt (suc k) xs k x (omega arith))
+set_removed xs k x = ap (λ l. l ++ drop (suc k) (slice_set xs k x)) (take-set xs k x)
+    ∙ ap (λ l. take k xs ++ l) (drop-set-lt (suc k) xs k x (omega arith))
 
 -- ---- look-ups
 -- another part than the one that is looked for may be left out
@@ -59,7 +60,8 @@ passed (x ∷ xs) ys (suc k) n h apart =
     ap (λ b. cond b (Some x.1) (lookup (nat_eq n) (take k xs ++ ys))) (differ n x.0 (λ e. apart 0 x (omega arith) (omega arith) (sym e)))
     ∙ passed xs ys k n (omega (arith, h)) (λ i d low high. apart (suc i) d (omega arith) (omega (arith, high)))
 
-missed : {C : Type 0} (parts : List (ℕ × C)) (k n : ℕ) → AllWithin (λ part. part.0 ≢ n) parts k (length parts) → lookup (nat_eq n) (drop k parts) ≡ None
+missed : {C : Type 0} (parts : List (ℕ × C)) (k n : ℕ) → AllWithin (λ part. part.0 ≢ n) parts k (length parts)
+    → lookup (nat_eq n) (drop k parts) ≡ None
 missed [] zero n apart = refl
 missed [] (suc k) n apart = refl
 missed (x ∷ xs) zero n apart =
@@ -68,7 +70,8 @@ missed (x ∷ xs) zero n apart =
 missed (x ∷ xs) (suc k) n apart = missed xs k n (λ i d low high. apart (suc i) d (omega (arith, low)) (omega (arith, high)))
 
 -- ---- at a part that is there
-module _ {C : Type 0} (at : C → ℕ → Pte) (span : ℕ) (parts : List (ℕ × C)) (good : AreParts at span parts) (k : ℕ) (p : ℕ × C) (within : k < length parts)
+module _ {C : Type 0} (at : C → ℕ → Pte) (span : ℕ) (parts : List (ℕ × C)) (good : AreParts at span parts) (k : ℕ) (p : ℕ × C)
+    (within : k < length parts)
     (is : p ≡ get_or parts k p) where
   at_k : (d : ℕ × C) → get_or parts k d ≡ p
   at_k d = get_or_default parts k d p within ∙ sym is
@@ -116,7 +119,8 @@ module _ {C : Type 0} (at : C → ℕ → Pte) (span : ℕ) (parts : List (ℕ �
   set_good w number some = record {
     rising = λ i j d lt high. let one = same_number w number i d in let two = same_number w number j d in
         let old = good.rising i j d lt (omega (arith, high, length-set parts k w)) in omega (arith, one, two, old);
-    below = λ i d high. let one = same_number w number i d in let old = good.below i d (omega (arith, high, length-set parts k w)) in omega (arith, one, old);
+    below = λ i d high. let one = same_number w number i d in let old = good.below i d (omega (arith, high, length-set parts k w)) in
+        omega (arith, one, old);
     full = All-set (λ part. HasSome span (at part.1)) parts k w some good.full;
   }
 
@@ -143,13 +147,15 @@ gap parts k n within lower higher =
     ∙ passed parts (drop k parts) k n within (λ i d low high e. let lt = lower i d low high in omega (arith, lt, e))
     ∙ missed parts k n (λ i d low high e. let lt = higher i d low high in omega (arith, lt, e))
 
-module _ {C : Type 0} (at : C → ℕ → Pte) (span : ℕ) (parts : List (ℕ × C)) (good : AreParts at span parts) (k : ℕ) (w : ℕ × C) (within : k ≤ length parts)
+module _ {C : Type 0} (at : C → ℕ → Pte) (span : ℕ) (parts : List (ℕ × C)) (good : AreParts at span parts) (k : ℕ) (w : ℕ × C)
+    (within : k ≤ length parts)
     (lower : AllWithin (λ part. part.0 < w.0) parts 0 k) (higher : AllWithin (λ part. w.0 < part.0) parts k (length parts)) where
   none_before : AllWithin (λ part. part.0 ≢ w.0) parts 0 k
   none_before i d low high e = let lt = lower i d low high in omega (arith, lt, e)
 
   pub insert_here : lookup (nat_eq w.0) (insert parts k w) ≡ Some w.1
-  insert_here = passed parts (w ∷ drop k parts) k w.0 within none_before ∙ ap (λ b. cond b (Some w.1) (lookup (nat_eq w.0) (drop k parts))) (same w.0 w.0 refl)
+  insert_here = passed parts (w ∷ drop k parts) k w.0 within none_before
+      ∙ ap (λ b. cond b (Some w.1) (lookup (nat_eq w.0) (drop k parts))) (same w.0 w.0 refl)
 
   pub insert_others : (n : ℕ) → n ≢ w.0 → lookup (nat_eq n) (insert parts k w) ≡ lookup (nat_eq n) parts
   insert_others n other = skipped (take k parts) (drop k parts) w n other ∙ ap (lookup (nat_eq n)) (take-append-drop k parts)
@@ -165,7 +171,8 @@ module _ {C : Type 0} (at : C → ℕ → Pte) (span : ℕ) (parts : List (ℕ �
     ]
   ]
 
-  number_at : (i : ℕ) (d : ℕ × C) → (i < k → (get_or (insert parts k w) i d).0 ≡ (get_or parts i d).0) × (i ≡ k → (get_or (insert parts k w) i d).0 ≡ w.0)
+  number_at : (i : ℕ) (d : ℕ × C)
+      → (i < k → (get_or (insert parts k w) i d).0 ≡ (get_or parts i d).0) × (i ≡ k → (get_or (insert parts k w) i d).0 ≡ w.0)
       × (k < i → (get_or (insert parts k w) i d).0 ≡ (get_or parts (i - 1) d).0)
   number_at i d = (
     (λ lt. ap (λ part. part.0) (get_or-insert_below parts k w d i lt within)),
@@ -218,12 +225,16 @@ rise a b n le = by (nat_cmp a n) (nat_cmp b n) (ranks a n) (ranks b n)
 rank : (a n : ℕ) (o : Ordering) → nat_cmp a n ≡ o → MatchOrdering o (a < n) (a ≡ n) (n < a)
 rank a n o is = subst (λ o. MatchOrdering o (a < n) (a ≡ n) (n < a)) is (ranks a n)
 
-pub searched : {C : Type 0} (parts : List (ℕ × C)) (n : ℕ) (r : Result ℕ ℕ) → AllPairs (λ part later. part.0 < later.0) parts → IsSearchInRange r (length parts)
+pub searched : {C : Type 0} (parts : List (ℕ × C)) (n : ℕ) (r : Result ℕ ℕ) → AllPairs (λ part later. part.0 < later.0) parts
+    → IsSearchInRange r (length parts)
     → IsBinarySearchResult (λ part. nat_cmp part.0 n) parts r → IsPlace n parts r
 searched {C = C} parts n (Ok k) up range at = (range, λ d. rank (get_or parts k d).0 n Equal (at d))
 searched {C = C} parts n (Err k) up range parted =
-    let both = parted (λ i j d le high. rise (get_or parts i d).0 (get_or parts j d).0 n (no_lower i j d le high)) in
-    (range, λ i d low high. rank (get_or parts i d).0 n Less (both.0 i d low high), λ i d low high. rank (get_or parts i d).0 n Greater (both.1 i d low high))
+    let both = parted (λ i j d le high. rise (get_or parts i d).0 (get_or parts j d).0 n (no_lower i j d le high)) in (
+      range,
+      λ i d low high. rank (get_or parts i d).0 n Less (both.0 i d low high),
+      λ i d low high. rank (get_or parts i d).0 n Greater (both.1 i d low high),
+    )
   where
     no_lower : (i j : ℕ) (d : ℕ × C) → i ≤ j → j < length parts → (get_or parts i d).0 ≤ (get_or parts j d).0
     no_lower i j d le high = elim (cases_eq i j) [
@@ -234,7 +245,8 @@ searched {C = C} parts n (Err k) up range parted =
 -- the parts are at most 512
 pub few : {C : Type 0} (at : C → ℕ → Pte) (span : ℕ) (parts : List (ℕ × C)) → AreParts at span parts → length parts ≤ 512
 few at span [] good = omega arith
-few {C = C} at span (p ∷ ps) good = let high = number (length ps) (omega arith) in let low = good.below (length ps) p (omega arith) in omega (arith, high, low)
+few {C = C} at span (p ∷ ps) good = let high = number (length ps) (omega arith) in let low = good.below (length ps) p (omega arith) in
+    omega (arith, high, low)
   where
     number : (i : ℕ) → i < length (p ∷ ps) → i ≤ (get_or (p ∷ ps) i p).0
     number zero h = omega arith

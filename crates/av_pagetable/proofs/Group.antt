@@ -49,14 +49,16 @@ module _ (parts : List (ℕ × Pte)) (good : AreParts alone 1 parts) (first : �
 
   -- numbers rise by one a place at least
   steps : (k n : ℕ) (d : ℕ × Pte) → k + n < length parts → (get_or parts k d).0 + n ≤ (get_or parts (k + n) d).0
-  steps k zero d within = let same : (get_or parts (k + 0) d).0 ≡ (get_or parts k d).0 = ap (λ i. (get_or parts i d).0) (omega arith) in omega (arith, same)
+  steps k zero d within = let same : (get_or parts (k + 0) d).0 ≡ (get_or parts k d).0 = ap (λ i. (get_or parts i d).0) (omega arith) in
+      omega (arith, same)
   steps k (suc n) d within =
       let before = steps k n d (omega (arith, within)) in
       let lt = good.rising (k + n) (k + suc n) d (omega arith) within in
       omega (arith, before, lt)
 
   -- where as many parts stand from a place on as a group has pages, and the last is of its last page, each page has its part
-  module _ (k : ℕ) (from : IsPlaceFrom first parts k) (many : k + 63 < length parts) (last : HoldsAt (λ part. part.0 ≡ first + 63) parts (k + 63)) where
+  module _ (k : ℕ) (from : IsPlaceFrom first parts k) (many : k + 63 < length parts)
+      (last : HoldsAt (λ part. part.0 ≡ first + 63) parts (k + 63)) where
     number_there : (i : ℕ) → i < 64 → (d : ℕ × Pte) → (get_or parts (k + i) d).0 ≡ first + i
     number_there i under d =
         let least = from.higher k d (omega arith) (omega (arith, many)) in
@@ -71,7 +73,8 @@ module _ (parts : List (ℕ × Pte)) (good : AreParts alone 1 parts) (first : �
         let p = get_or parts (k + i) (0, Empty) in
         let within : k + i < length parts = omega (arith, many, under) in
         let page : first + i ≡ p.0 * 1 + 0 = omega (arith, number_there i under (0, Empty)) in
-        ap (entries alone 1 parts) page ∙ entries_there alone 1 parts good (k + i) p within (get_or_default parts (k + i) (0, Empty) p within) 0 (omega arith)
+        ap (entries alone 1 parts) page
+        ∙ entries_there alone 1 parts good (k + i) p within (get_or_default parts (k + i) (0, Empty) p within) 0 (omega arith)
 
   -- at the start no part of a lower number is left, and the group has no entry
   pub at_start : (k : ℕ) (group : List Pte) (rest : List (ℕ × Pte)) → IsPlaceFrom first parts k
@@ -157,7 +160,8 @@ module _ (parts : List (ℕ × Pte)) (good : AreParts alone 1 parts) (first : �
             higher = λ i d low high. let lt = good.rising w.place i d (omega (arith, low)) high in let n = number d in omega (arith, lt, n);
             done = λ i small low. elim (cases_eq (first + i) p.0) [
               | inl e ↦ let same : i ≡ k = omega (arith, e, is) in
-                  ap (λ i. get_or (slice_set group k p.1) i Empty) same ∙ get_or-set_same group k p.1 Empty (omega (arith, under, long)) ∙ sym (here i e)
+                  ap (λ i. get_or (slice_set group k p.1) i Empty) same ∙ get_or-set_same group k p.1 Empty (omega (arith, under, long))
+                  ∙ sym (here i e)
               | inr ne ↦ get_or-set_other group k i p.1 Empty (λ e. ne (omega (arith, e, is, past, from)))
                   ∙ whole p.0 from_here i small (omega (arith, low, ne))
             ];

@@ -115,7 +115,8 @@ joined f f' g span bound k size t vs values adds some is part rest = record {
       | inl here ↦
           let under = mod_below page span adds.some in
           let found = part.all (page % span) under (λ none. there (adds.new page here ∙ none)) in
-          let unit : page / size ≡ k * t + page % span / size = ap (λ p. p / size) (sym (whole page span)) ∙ in_units (page / span) (page % span) size t span
+          let unit : page / size ≡ k * t + page % span / size = ap (λ p. p / size) (sym (whole page span))
+          ∙ in_units (page / span) (page % span) size t span
           some is ∙ ap (λ d. d * t + page % span / size) here in
           (found.0, omega (arith, found.1, len), first found.0 found.1 ∙ ap (λ v. k * t + v) found.2 ∙ sym unit)
       | inr other ↦
@@ -124,7 +125,8 @@ joined f f' g span bound k size t vs values adds some is part rest = record {
           (length vs + found.0, omega (arith, found.1, len), later (length vs + found.0) (omega arith) ∙ ap (λ i. get_or values i 0) at ∙ found.2)
     ]
 
-pub joined_all : (f f' g : ℕ → Pte) (span bound k : ℕ) (sizes : List ℕ) (n m : ℕ) → Adds f f' g span bound k → AllDivide span sizes → AreHeld g span sizes n →
+pub joined_all : (f f' g : ℕ → Pte) (span bound k : ℕ) (sizes : List ℕ) (n m : ℕ) → Adds f f' g span bound k → AllDivide span sizes
+    → AreHeld g span sizes n →
     AreHeld f bound sizes m → AreHeld f' bound sizes (m + n)
 joined_all f f' g span bound k [] n m adds divide part rest = omega (arith, part, rest)
 joined_all f f' g span bound k (size ∷ sizes) n m adds (some, (t, is), divide) (vs, one, (a, part, n_is)) (values, two, (b, rest, m_is)) = (
@@ -190,7 +192,8 @@ next_adds {C = C} at span parts k p good some within is = record {
   within = fits;
   new = λ page here. ap (λ l. in_part at (part_of l (page / span)) (page % span)) one_more
       ∙ ap (λ n. in_part at (part_of (take k parts ++ p ∷ []) n) (page % span)) here
-      ∙ ap (λ o. in_part at o (page % span)) (part_is (take k parts ++ p ∷ []) p.0 (Some p.1) low (first_found at span parts good k p within is [] p refl));
+      ∙ ap (λ o. in_part at o (page % span))
+      (part_is (take k parts ++ p ∷ []) p.0 (Some p.1) low (first_found at span parts good k p within is [] p refl));
   none = λ page here. ap (λ n. in_part at (part_of (take k parts) n) (page % span)) here ∙ ap (λ o. in_part at o (page % span))
       (no_part (take k parts) p.0 (not_before at span parts good k p within is));
   old = λ page other. ap (λ l. in_part at (part_of l (page / span)) (page % span)) one_more

@@ -45,7 +45,8 @@ module _ (n i : ℕ) (under : i < 512) where
       let page : n * 512 + i ≡ n / 262144 * 134217728 + (n % 262144 * 512 + i) = omega (arith, div-add-mod' n 262144) in
       ap (in_top top) page ∙ there in_upper 134217728 top (n / 262144) (n % 262144 * 512 + i) (omega (arith, low, under))
 
-  by_middle : (upper : Upper) → in_upper upper (n % 262144 * 512 + i) ≡ in_part in_middle (part_of upper (n % 262144 / 512)) (n % 262144 % 512 * 512 + i)
+  by_middle : (upper : Upper)
+      → in_upper upper (n % 262144 * 512 + i) ≡ in_part in_middle (part_of upper (n % 262144 / 512)) (n % 262144 % 512 * 512 + i)
   by_middle upper =
       let low = mod_below (n % 262144) 512 (omega arith) in
       let page : n % 262144 * 512 + i ≡ n % 262144 / 512 * 262144 + (n % 262144 % 512 * 512 + i) = omega (arith, div-add-mod' (n % 262144) 512) in
@@ -63,7 +64,8 @@ module _ (n i : ℕ) (under : i < 512) where
       by_upper top ∙ ap (λ o. in_part in_upper o (n % 262144 * 512 + i)) (sym u)
       ∙ by_middle upper ∙ ap (λ o. in_part in_middle o (n % 262144 % 512 * 512 + i)) (sym none)
 
-  pub in_table : (top : Top) (upper : Upper) (middle : Middle) → Some upper ≡ part_of top (n / 262144) → Some middle ≡ part_of upper (n % 262144 / 512)
+  pub in_table : (top : Top) (upper : Upper) (middle : Middle) → Some upper ≡ part_of top (n / 262144)
+      → Some middle ≡ part_of upper (n % 262144 / 512)
       → in_top top (n * 512 + i) ≡ in_part in_last (part_of middle.tables (n % 262144 % 512)) i
   in_table top upper middle u m =
       by_upper top ∙ ap (λ o. in_part in_upper o (n % 262144 * 512 + i)) (sym u)
@@ -71,7 +73,9 @@ module _ (n i : ℕ) (under : i < 512) where
       ∙ by_last middle
 
 pub leaf_cases : {X : Type 0} (now : X → Last) (r : Option X) (n : ℕ) (top : Top) (upper : Upper) (middle : Middle)
-    → Some upper ≡ part_of top (n / 262144) → Some middle ≡ part_of upper (n % 262144 / 512) → option_map now r ≡ part_of middle.tables (n % 262144 % 512)
-    → MatchOption r ((i : ℕ) → i < 512 → in_top top (n * 512 + i) ≡ Empty) (λ leaf. (i : ℕ) → i < 512 → in_top top (n * 512 + i) ≡ in_last (now leaf) i)
+    → Some upper ≡ part_of top (n / 262144) → Some middle ≡ part_of upper (n % 262144 / 512)
+    → option_map now r ≡ part_of middle.tables (n % 262144 % 512)
+    → MatchOption r ((i : ℕ) → i < 512 → in_top top (n * 512 + i) ≡ Empty)
+    (λ leaf. (i : ℕ) → i < 512 → in_top top (n * 512 + i) ≡ in_last (now leaf) i)
 leaf_cases now None n top upper middle u m is = λ i under. in_table n i under top upper middle u m ∙ ap (λ o. in_part in_last o i) (sym is)
 leaf_cases now (Some x) n top upper middle u m is = λ i under. in_table n i under top upper middle u m ∙ ap (λ o. in_part in_last o i) (sym is)

@@ -14,7 +14,8 @@ pub record IsPassed (f : Pte → Pte) (source rest table : ℕ → Pte) (next : 
 module _ (f : Pte → Pte) (none : f Empty ≡ Empty) (source rest table : ℕ → Pte) (next : ℕ) (t : IsPassed f source rest table next) where
   -- where the source has none there is none
   pub one_passed : (table' : ℕ → Pte) (page : ℕ) → next ≤ page → table' ≡ with_at page (f (source page)) table
-      → ((q : ℕ) → next ≤ q → q < page → source q ≡ Empty) → ((q : ℕ) → next ≤ q → q < page → rest q ≡ Empty) → IsPassed f source rest table' (page + 1)
+      → ((q : ℕ) → next ≤ q → q < page → source q ≡ Empty) → ((q : ℕ) → next ≤ q → q < page → rest q ≡ Empty)
+      → IsPassed f source rest table' (page + 1)
   one_passed table' page from is least empty = record {
     before = λ q low. elim (cases_eq q page) [
       | inl e ↦ ap table' e ∙ ap (λ g. g page) is ∙ with_at_same page (f (source page)) table ∙ ap (λ q. f (source q)) (sym e)
@@ -23,7 +24,8 @@ module _ (f : Pte → Pte) (none : f Empty ≡ Empty) (source rest table : ℕ �
         | inr ge ↦ t.after q ge ∙ empty q ge (omega (arith, low, ne)) ∙ sym none ∙ ap f (sym (least q ge (omega (arith, low, ne))))
       ]
     ];
-    after = λ q high. ap (λ g. g q) is ∙ with_at_other page q (f (source page)) table (λ e. omega (arith, e, high)) ∙ t.after q (omega (arith, from, high));
+    after = λ q high. ap (λ g. g q) is ∙ with_at_other page q (f (source page)) table (λ e. omega (arith, e, high))
+        ∙ t.after q (omega (arith, from, high));
   }
 
   pub all_passed : ((q : ℕ) → next ≤ q → source q ≡ Empty) → ((q : ℕ) → next ≤ q → rest q ≡ Empty) → table ≡ (λ page. f (source page))

@@ -1,4 +1,7 @@
-ghost use Rattle.std.specs.Prelude.{◌≡◌, ℕ, ◌+◌, ◌<◌, ◌≤◌, length, slice_index_or, HoldsAt, IfOk, MatchBool};
+//! An upper table of a page table, over any table below it.
+
+ghost use Rattle.std.specs.Prelude.{◌≡◌, ℕ, ◌+◌, ◌<◌, ◌≤◌, length, slice_index_or, HoldsAt, IfOk};
+ghost use Rattle.std.specs.Prelude.{MatchBool};
 ghost use Rattle.av_base.specs.Words.{with_at};
 ghost use Rattle.av_pagetable.specs.Table.{group_size, page_bound};
 ghost use Rattle.av_pagetable.specs.Dir.{IsFullGroup, no_entry};
@@ -164,7 +167,8 @@ impl<C: Level> Level for Dir<C> {
 }
 
 impl<C: Level> Dir<C> {
-    ghost use Rattle.std.specs.Prelude.{◌≡◌, ℕ, ◌+◌, ◌*◌, ◌<◌, ◌≤◌, [], MatchOption, length, option_map};
+    ghost use Rattle.std.specs.Prelude.{◌≡◌, ℕ, ◌+◌, ◌*◌, ◌<◌, ◌≤◌, [], MatchOption, length};
+    ghost use Rattle.std.specs.Prelude.{option_map};
     ghost use Rattle.av_pagetable.specs.Table.{page_bound};
     ghost use Rattle.av_pagetable.specs.Dir.{part_of, entries, entries_at, IsPlace, IsFirstIn};
     ghost use Rattle.av_pagetable.specs.Held.{AreHeld};

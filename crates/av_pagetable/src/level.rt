@@ -1,11 +1,15 @@
+//! What a level of a page table is to the one above it.
+
 use crate::pte::Pte;
 use std::alloc::{AllocError, Global};
 
 /// A part of a page table: a function from page to entry, its pages counted from 0.
 pub trait Level: Drop {
-    ghost use Rattle.std.specs.Prelude.{◌≡◌, ℕ, ◌<◌, ◌≤◌, ◌*◌, List, MatchBool, MatchOption, MatchResult, IfOk};
+    ghost use Rattle.std.specs.Prelude.{◌≡◌, ℕ, ◌<◌, ◌≤◌, ◌*◌, List, MatchBool, MatchOption};
+    ghost use Rattle.std.specs.Prelude.{MatchResult, IfOk};
     ghost use Rattle.av_base.specs.Words.{with_at};
-    ghost use Rattle.av_pagetable.specs.Table.{IsFirst, HasSome, child_entry, page_bound, read_only};
+    ghost use Rattle.av_pagetable.specs.Table.{IsFirst, HasSome, child_entry, page_bound};
+    ghost use Rattle.av_pagetable.specs.Table.{read_only};
     ghost use Rattle.av_pagetable.specs.Held.{AreHeld, AllDivide};
     ghost use Rattle.av_pagetable.specs.declared.pte.Pte.{Pte};
 

@@ -1,3 +1,5 @@
+//! The third level of a page table.
+
 use crate::dir::Dir;
 use crate::level::Level;
 use crate::pte::Pte;

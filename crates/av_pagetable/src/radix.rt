@@ -1,3 +1,5 @@
+//! The last level of a page table, and the four levels together.
+
 use crate::dir::Dir;
 use crate::level::Level;
 use crate::middle::Middle;

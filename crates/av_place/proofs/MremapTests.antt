@@ -13,7 +13,8 @@ use Rattle.av_trace.specs.declared.mode.Mode.TheVariants.{DontUnmap, MayMove}
 use Rattle.av_trace.specs.declared.reply.Errno.{Errno}
 use Rattle.av_trace.specs.declared.reply.Errno.TheVariants.{Enomem}
 use Rattle.av_vma.specs.Gap.{IsGap}
-use Rattle.av_vma.specs.Join.{past_of, same_prot}
+use Rattle.av_vma.specs.Index.{past_of}
+use Rattle.av_vma.specs.Join.{same_prot}
 use Rattle.av_vma.specs.Pages.{AreLaid, Pages}
 use Rattle.av_vma.proofs.Join.{prot_is}
 use Rattle.av_vma.proofs.Laid.{has_from, has_parts}
@@ -41,7 +42,8 @@ same_itself prot = by prot.read prot.write prot.execute
     by false false false = refl
 
 -- where each page has it
-pub have_prot-all : (q : Process) (prot : Prot) (from n : ℕ) → ((o : ℕ) → from ≤ o → o < from + n → prot_at q o ≡ Some prot) → have_prot q prot from n ≡ true
+pub have_prot-all : (q : Process) (prot : Prot) (from n : ℕ) → ((o : ℕ) → from ≤ o → o < from + n → prot_at q o ≡ Some prot)
+    → have_prot q prot from n ≡ true
 have_prot-all q prot from zero h = refl
 have_prot-all q prot from (suc n) h =
     ap (λ b. b && have_prot q prot (from + 1) n) (of_page (q from) (h from (omega arith) (omega arith)))
@@ -52,7 +54,8 @@ have_prot-all q prot from (suc n) h =
     of_page (Some x) e = let same : x.prot ≡ prot = cc in ap (λ p. same_prot p prot) same ∙ same_itself prot
 
 -- where one has not
-pub have_prot-no : (q : Process) (prot : Prot) (from n o : ℕ) → from ≤ o → o < from + n → (prot_at q o ≡ Some prot → ⊥) → have_prot q prot from n ≡ false
+pub have_prot-no : (q : Process) (prot : Prot) (from n o : ℕ) → from ≤ o → o < from + n → (prot_at q o ≡ Some prot → ⊥)
+    → have_prot q prot from n ≡ false
 have_prot-no q prot from n o low high lacks = by (have_prot q prot from n) refl
   where
     by : (b : Bool) → have_prot q prot from n ≡ b → b ≡ false
@@ -70,7 +73,8 @@ mapped_as s p q same page = by (pages_of s p page) (q page) (same page)
     by (Some area) (Some x) e = refl
 
 -- where the first page is mapped
-module _ (s : Spaces) (p : ℕ) (q : Process) (from n : ℕ) (area : Area) (same : HaveProtsOf (pages_of s p) q) (there : pages_of s p from ≡ Some area) where
+module _ (s : Spaces) (p : ℕ) (q : Process) (from n : ℕ) (area : Area) (same : HaveProtsOf (pages_of s p) q)
+    (there : pages_of s p from ≡ Some area) where
   first_is : Some area.prot ≡ prot_at q from
   first_is = ap (option_map (λ (area : Area). area.prot)) (sym there) ∙ same from
 
@@ -105,7 +109,8 @@ equal_same a b = by (beq a.read b.read) (beq a.write b.write) (beq a.execute b.e
     by true y z = refl
     by false y z = refl
 
-pub not_with : (s : Spaces) (p : ℕ) (q : Process) (page : ℕ) (area : Area) (prot : Prot) → HaveProtsOf (pages_of s p) q → Some area ≡ pages_of s p page
+pub not_with : (s : Spaces) (p : ℕ) (q : Process) (page : ℕ) (area : Area) (prot : Prot) → HaveProtsOf (pages_of s p) q
+    → Some area ≡ pages_of s p page
     → not (equal_prots area.prot prot) ≡ true → prot_at q page ≡ Some prot → ⊥
 not_with s p q page area prot same there other is =
     let both : area.prot ≡ prot = some_is (ap (option_map (λ (area : Area). area.prot)) there ∙ same page ∙ is) in
@@ -119,7 +124,8 @@ with_prot area prot h = ap Some (prot_is area.prot prot (sym (equal_same area.pr
     turned false h = cc
 
 -- an area is on all pages up to its end
-pub covers : (on : Pages) → AreLaid on → (area : Area) (page : ℕ) → on page ≡ Some area → (o : ℕ) → page ≤ o → o < past_of area → prots on o ≡ Some area.prot
+pub covers : (on : Pages) → AreLaid on → (area : Area) (page : ℕ) → on page ≡ Some area → (o : ℕ) → page ≤ o → o < past_of area
+    → prots on o ≡ Some area.prot
 covers on laid area page is o low high =
     let first = (has_parts area page (laid.here page area is)).0 in
     ap (option_map area_prot) (laid.all page o area is (has_from area o (omega (arith, first, low)) high))

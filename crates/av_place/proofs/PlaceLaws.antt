@@ -68,7 +68,8 @@ module _ (s : Spaces) (p : ℕ) (q : Process) (same : IsProcess s p q) (n page :
   room_by b within free met = by (nat_le low_page page) (nat_le (page + n) top_page) within
       ∙ ap (λ c. nat_le low_page page && nat_le (page + n) top_page && not c) (sym (either b free met))
     where
-      either : (b : Bool) → (b ≡ true → IsFree (is_taken s p) page (page + n)) → (b ≡ false → IsMet (is_taken s p) page (page + n)) → meets q page n ≡ not b
+      either : (b : Bool) → (b ≡ true → IsFree (is_taken s p) page (page + n)) → (b ≡ false → IsMet (is_taken s p) page (page + n))
+          → meets q page n ≡ not b
       either true free met = free_meets (free refl)
       either false free met = met_meets (met refl)
 

@@ -1,6 +1,7 @@
 //! What `mremap` refuses, and where its pages go.
 
-ghost use Rattle.std.specs.Prelude.{◌≡◌, ℕ, ◌+◌, ◌-◌, ◌^◌, ◌<◌, ◌≤◌, ◌==◌, true, false, not, is_some, if◌then◌else◌, None, Some, MatchResult, OnErr, OnOk};
+ghost use Rattle.std.specs.Prelude.{◌≡◌, ℕ, ◌+◌, ◌-◌, ◌^◌, ◌<◌, ◌≤◌, ◌==◌, true, false, not};
+ghost use Rattle.std.specs.Prelude.{is_some, if◌then◌else◌, None, Some, MatchResult, OnErr, OnOk};
 ghost use Rattle.av_base.specs.Limits.{top_page};
 ghost use Rattle.av_base.specs.Page.{is_on_page};
 ghost use Rattle.av_place.specs.Mremap.{GrowTooFar, IsTarget, StaySmall};

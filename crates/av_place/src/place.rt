@@ -1,6 +1,7 @@
 //! Where `mmap` puts pages, and the tests of addresses and lengths.
 
-ghost use Rattle.std.specs.Prelude.{◌≡◌, ℕ, ◌+◌, ◌^◌, ◌<◌, ◌≤◌, ◌&&◌, ◌||◌, ◌==◌, nat_le, nat_lt, true, false, not, [], ◌∷◌, None, Some, is_some, MatchResult};
+ghost use Rattle.std.specs.Prelude.{◌≡◌, ℕ, ◌+◌, ◌^◌, ◌<◌, ◌≤◌, ◌&&◌, ◌||◌, ◌==◌, nat_le, nat_lt};
+ghost use Rattle.std.specs.Prelude.{true, false, not, [], ◌∷◌, None, Some, is_some, MatchResult};
 ghost use Rattle.av_base.specs.Limits.{low_page, top_page};
 ghost use Rattle.av_vma.specs.Gap.{IsGap};
 ghost use Rattle.av_plain.specs.World.{Process};

@@ -51,7 +51,8 @@ accesses-keep P m w p each l (page ∷ rest) events end s (inl h) =
     let here = page_events page.0 (p, page.1) h.0 None in
     subst (λ es. P (after_all l es)) (sym h.3) (subst P (sym (after_all-append l here h.1))
     (accesses-keep P m w p each (after_all l here) rest h.1 end (each l page.0 page.1 h.0 None s h.2) h.4))
-accesses-keep P m w p each l (page ∷ rest) events end s (inr h) = subst (λ es. P (after_all l es)) (sym h.3) (each l page.0 page.1 h.0 (Some h.1) s h.2)
+accesses-keep P m w p each l (page ∷ rest) events end s (inr h) =
+    subst (λ es. P (after_all l es)) (sym h.3) (each l page.0 page.1 h.0 (Some h.1) s h.2)
 
 -- an access of p sees both memories alike: pages may be touched alike, and a pass leaves the same alone
 pub record SeenAlike (w w' : World) (p : ℕ) : Type 0 where
@@ -59,12 +60,14 @@ pub record SeenAlike (w w' : World) (p : ℕ) : Type 0 where
   pub spares : sparing w ≡ sparing w'
 
 -- as long as a pass doesn't look at the memories
-pub alike-by-allowed : (w w' : World) (p : ℕ) → ((write : Bool) (page : ℕ) → is_allowed w write (p, page) ≡ is_allowed w' write (p, page)) → SeenAlike w w' p
+pub alike-by-allowed : (w w' : World) (p : ℕ) → ((write : Bool) (page : ℕ) → is_allowed w write (p, page) ≡ is_allowed w' write (p, page))
+    → SeenAlike w w' p
 alike-by-allowed w w' p h = record { allowed = h; spares = refl }
 
 pub touches-alike : (m : Setting) (w w' : World) (l : Ledger) (write : Bool) (p page : ℕ) (notes : List Note) (end : Option Stop) → SeenAlike w w' p
     → Touches m w' l write (p, page) notes end → Touches m w l write (p, page) notes end
-touches-alike m w w' l write p page notes None same h = (same.allowed write page ∙ h.0, subst (λ sp. Serves m sp l write (p, page) notes) (sym same.spares) h.1)
+touches-alike m w w' l write p page notes None same h =
+    (same.allowed write page ∙ h.0, subst (λ sp. Serves m sp l write (p, page) notes) (sym same.spares) h.1)
 touches-alike m w w' l write p page notes (Some Denied) same h = (same.allowed write page ∙ h.0, h.1)
 touches-alike m w w' l write p page notes (Some (Starved out)) same h =
     (same.allowed write page ∙ h.0, subst (λ sp. RunsOut m sp l write (p, page) notes out) (sym same.spares) h.1)
@@ -84,7 +87,8 @@ accesses-alike m w w' l p (page ∷ pages) events end same (inl h) =
       h.3,
       accesses-alike m w w' (after_all l (page_events page.0 (p, page.1) h.0 None)) p pages h.1 end same h.4,
     )
-accesses-alike m w w' l p (page ∷ pages) events end same (inr h) = inr (h.0, h.1, touches-alike m w w' l page.0 p page.1 h.0 (Some h.1) same h.2, h.3, h.4)
+accesses-alike m w w' l p (page ∷ pages) events end same (inr h) =
+    inr (h.0, h.1, touches-alike m w w' l page.0 p page.1 h.0 (Some h.1) same h.2, h.3, h.4)
 
 not_whole : (page : ℕ) (stop : Stop) → Whole ≡ Stopped page stop → ⊥
 not_whole page stop e = cc

@@ -9,7 +9,7 @@ use Rattle.av_vma.specs.declared.area.Area.{Area}
 use Rattle.av_plain.specs.Stands.{AnonsStand, View}
 use Rattle.av_plain.specs.Areas.{AnonVma, Anons, AreLeft, Areas, Homes, IsLinked, Rmap, chain_length, chain_by, no_anons, prepare_page, rmap_after, rmap_after_all, rmap_after_note, rmap_after_use, with_root}
 use Rattle.av_base.specs.declared.slot.Slot.{Slot}
-use Rattle.av_plain.specs.Event.{Event, Noted, Zapped, Used, Forked, Moved, TurnedOn, TurnedOff, after, after_all, note_events, notes_of, when}
+use Rattle.av_plain.specs.Event.{Event, Noted, Zapped, Used, Forked, EntriesMoved, TurnedOn, TurnedOff, after, after_all, note_events, notes_of, when}
 use Rattle.av_plain.specs.Ledger.{Entry, InFrame, InSlot, Key, Ledger, Zero, entry, is_orphan}
 use Rattle.av_plain.specs.Zap.{orphan_drop, slot_behind_key, zap_of, zaps_of}
 use Rattle.av_trace.specs.declared.note.Note.{Note}
@@ -70,7 +70,8 @@ rmap_after_all-zaps l (k ∷ ks) m r =
 
 -- what each page that is prepared keeps, and each frame's coming home, all events keep
 pub rmap_after_all-keeps : (P : Rmap → Type 0) → ((p page : ℕ) (r : Rmap) → P r → P (prepare_page p page r))
-    → ((homes : Homes) (r : Rmap) → P r → P (record r { homes = homes })) → (l : Ledger) (es : List Event) (r : Rmap) → P r → P (rmap_after_all l es r)
+    → ((homes : Homes) (r : Rmap) → P r → P (record r { homes = homes })) → (l : Ledger) (es : List Event) (r : Rmap) → P r
+    → P (rmap_after_all l es r)
 rmap_after_all-keeps P keeps homes l [] r h = h
 rmap_after_all-keeps P keeps homes l (e ∷ es) r h = rmap_after_all-keeps P keeps homes (after l e) es (rmap_after l e r) (event e)
   where
@@ -101,8 +102,8 @@ rmap_after_all-keeps P keeps homes l (e ∷ es) r h = rmap_after_all-keeps P kee
     event (Zapped k) = h
     event (Used write k) = through write k (entry l k)
     event (Forked p q pages) = h
-    event (Moved p n from to) = h
-    event (TurnedOn k slots bad) = h
+    event (EntriesMoved p n from to) = h
+    event (TurnedOn k area) = h
     event (TurnedOff k) = h
 
 -- the areas and the anon_vmas go by the notes alone
@@ -126,7 +127,8 @@ same_prepared p page r r' h =
     λ homes i. prepare_page p page (record { areas = h.areas i; anons = h.anons i; homes = homes }) in
     record { areas = ap (λ (x : Rmap). x.areas) (both r.homes); anons = ap (λ (x : Rmap). x.anons) (both r.homes) }
 
-pub rmap_after_all-notes : (l : Ledger) (es : List Event) (r r' : Rmap) → AreSame r r' → AreSame (rmap_after_all l es r) (prepare_notes (notes_of es) r')
+pub rmap_after_all-notes : (l : Ledger) (es : List Event) (r r' : Rmap) → AreSame r r'
+    → AreSame (rmap_after_all l es r) (prepare_notes (notes_of es) r')
 rmap_after_all-notes l [] r r' h = h
 rmap_after_all-notes l (Noted n ∷ es) r r' h = rmap_after_all-notes (after l (Noted n)) es (rmap_after_note l n r) (prepare_note n r') (note n)
   where
@@ -155,8 +157,8 @@ rmap_after_all-notes l (Used write k ∷ es) r r' h = rmap_after_all-notes (afte
     through true (Some (InSlot s)) = h
     through false o = h
 rmap_after_all-notes l (Forked p q pages ∷ es) r r' h = rmap_after_all-notes (after l (Forked p q pages)) es r r' h
-rmap_after_all-notes l (Moved p n from to ∷ es) r r' h = rmap_after_all-notes (after l (Moved p n from to)) es r r' h
-rmap_after_all-notes l (TurnedOn k slots bad ∷ es) r r' h = rmap_after_all-notes (after l (TurnedOn k slots bad)) es r r' h
+rmap_after_all-notes l (EntriesMoved p n from to ∷ es) r r' h = rmap_after_all-notes (after l (EntriesMoved p n from to)) es r r' h
+rmap_after_all-notes l (TurnedOn k area ∷ es) r r' h = rmap_after_all-notes (after l (TurnedOn k area)) es r r' h
 rmap_after_all-notes l (TurnedOff k ∷ es) r r' h = rmap_after_all-notes (after l (TurnedOff k)) es r r' h
 
 -- ---- numbers that were given

@@ -1,4 +1,5 @@
 -- Which frames an event makes free, and so the order of the free ones after it.
+pub mod Giving
 use Rattle.std.proofs.Common.{◌≡◌, ℕ, zero, suc, ◌+◌, ◌-◌, ◌<◌, ◌≤◌, Bool, true, false, cond, not, ◌&&◌, T, List, [], ◌∷◌, ◌++◌, filter, Option, Some, None, refl, sym, ap, subst, ◌∙◌, arith, ◌==◌, nat_lt}
 use Rattle.std.proofs.lemmas.Bool.Decides.{nat_tests}
 use Rattle.std.specs.Prelude.{MatchOption, fold, unwrap_or}
@@ -70,7 +71,8 @@ new_free-none m l l' more = none-passes (λ f. is_free l' f && not (is_free l f)
     by false b n n' h i less = refl
 
 -- one does whose last use has gone, where the others keep theirs
-pub new_free-one : (m : Setting) (l l' : Ledger) (f : ℕ) → f < m.frames → 0 < uses l f → uses l' f ≡ 0 → ((g : ℕ) → (g == f) ≡ false → uses l g ≤ uses l' g) →
+pub new_free-one : (m : Setting) (l l' : Ledger) (f : ℕ) → f < m.frames → 0 < uses l f → uses l' f ≡ 0
+    → ((g : ℕ) → (g == f) ≡ false → uses l g ≤ uses l' g) →
     new_free m l l' ≡ f ∷ []
 new_free-one m l l' f below had gone others = one-passes (λ f. is_free l' f && not (is_free l f)) f 0 m.frames (omega arith) (omega (arith, below))
     (here (is_free l' f) (is_free l f) (uses l f) (uses l' f) (free-is l' f) (free-is l f) had gone)
@@ -136,7 +138,8 @@ chooses-taken m closing l e f rest slots kept takes none = record {
 -- an entry is set where there was none that names a frame, or one of the same frame
 pub new_free-set : (m : Setting) (k : Key) (e : Entry) (l : Ledger) → T (is_sorted key_cmp l.entries) →
     ((f : ℕ) → weight (names_frame f) (entry l k) ≤ cond (names_frame f e) 1 0) → new_free m l (set_entry k e l) ≡ []
-new_free-set m k e l h less = new_free-none m l (set_entry k e l) (λ f below. let a = map_count-set k e l f h in let b = less f in omega (arith, a, b))
+new_free-set m k e l h less =
+    new_free-none m l (set_entry k e l) (λ f below. let a = map_count-set k e l f h in let b = less f in omega (arith, a, b))
 
 -- ---- an entry is taken away
 
@@ -152,7 +155,8 @@ pub new_free-zap_none : (m : Setting) (k : Key) (l : Ledger) → T (is_sorted ke
 new_free-zap_none m k l h none = new_free-none m l (after_zap k l) (λ f below. let a = zap-uses k l f h in let b = none f in omega (arith, a, b))
 
 -- its frame has another use
-pub new_free-zap_more : (m : Setting) (k : Key) (l : Ledger) (f : ℕ) (seen : Bool) → T (is_sorted key_cmp l.entries) → entry l k ≡ Some (InFrame f seen) →
+pub new_free-zap_more : (m : Setting) (k : Key) (l : Ledger) (f : ℕ) (seen : Bool) → T (is_sorted key_cmp l.entries)
+    → entry l k ≡ Some (InFrame f seen) →
     1 < uses l f → new_free m l (after_zap k l) ≡ []
 new_free-zap_more m k l f seen h at more = empty
   where
@@ -171,7 +175,8 @@ new_free-zap_more m k l f seen h at more = empty
         (λ is. subst (λ y. 1 < uses l y) (sym (same-is g f is)) more) (same-uses g) (free-is (after_zap k l) g) (free-is l g))
 
 -- it was the last use of its frame
-pub new_free-zap_last : (m : Setting) (k : Key) (l : Ledger) (f : ℕ) (seen : Bool) → T (is_sorted key_cmp l.entries) → entry l k ≡ Some (InFrame f seen) →
+pub new_free-zap_last : (m : Setting) (k : Key) (l : Ledger) (f : ℕ) (seen : Bool) → T (is_sorted key_cmp l.entries)
+    → entry l k ≡ Some (InFrame f seen) →
     f < m.frames → uses l f ≡ 1 → new_free m l (after_zap k l) ≡ f ∷ []
 new_free-zap_last m k l f seen h at below one = new_free-one m l (after_zap k l) f below (omega (arith, one))
     (let a = same-uses f in let b = flag_is (f == f) (same-itself f) in omega (arith, a, b, one))

@@ -4,8 +4,8 @@ use Rattle.std.proofs.lemmas.Bool.{false≢true}
 use Rattle.std.proofs.lemmas.Bool.Decides.{nat_tests}
 use Rattle.std.specs.Prelude.{IfSome, fold, if◌then◌else◌, option_map, ◌||◌, ◌/◌}
 use Rattle.std.specs.List.{range_with_len}
-use Rattle.av_clusters.specs.declared.Page.{Page}
-use Rattle.av_clusters.specs.declared.Page.TheVariants.{Unusable, Free, Taken}
+use Rattle.av_clusters.specs.declared.clusters.Page.{Page}
+use Rattle.av_clusters.specs.declared.clusters.Page.TheVariants.{Unusable, Free, Taken}
 use Rattle.av_clusters.specs.Clusters.{Slots, after_fill, after_take, anywhere, cluster_size, end_of, first_some, give_slot, has_taken, in_current, in_next, is_free, is_taken, lowest, page_at, start_of, take_slot, with_free_cluster}
 use Rattle.av_clusters.proofs.Pages.{found, taken_below}
 use Rattle.av_clusters.proofs.Whole.{one_more}

@@ -15,7 +15,8 @@ use Rattle.std.specs.Prelude.{IsSome, IsSomeAnd, unwrap_or}
 use Rattle.std.specs.Option.{option_map_or, option_or}
 use Rattle.av_base.specs.Words.{is_in, with_at}
 use Rattle.av_vma.specs.declared.area.Area.{Area}
-use Rattle.av_vma.specs.Join.{first_of, index_of, is_reusable, past_of}
+use Rattle.av_vma.specs.Index.{first_of, index_of, past_of}
+use Rattle.av_vma.specs.Join.{can_lend}
 use Rattle.av_vma.specs.Pages.{AreLaid, Lengths, Pages, after_prepare, has_page, home_of, loan_beside, loan_of, makes_anon, with_anon, with_area}
 use Rattle.av_plain.specs.Areas.{AnonVma, Anons, AreLeft, Rmap, at_home, chain_length, chain_by, prepare_page, root_of, with_root}
 use Rattle.av_plain.specs.Covered.{AreSlotsCovered, IsKin, IsReached, IsRmapSound, IsRooted}
@@ -45,14 +46,16 @@ chain_there anons (Some w) v h = (w, refl, by (anons.anon w) h)
     by (Some x) h = refl
 
 -- it is the same once a root was made
-chain_rooted : (anons : Anons) (b : Bool) (own : Option ℕ) (v : ℕ) → ((w : ℕ) → IsSome (anons.anon w) → w < anons.next) → is_in v (chain_by anons own) ≡ true
+chain_rooted : (anons : Anons) (b : Bool) (own : Option ℕ) (v : ℕ) → ((w : ℕ) → IsSome (anons.anon w) → w < anons.next)
+    → is_in v (chain_by anons own) ≡ true
     → chain_by (cond b (with_root anons) anons) own ≡ chain_by anons own
 chain_rooted anons false own v made h = refl
 chain_rooted anons true own v made h = let w = chain_there anons own v h in
     subst (λ o. chain_by (with_root anons) o ≡ chain_by anons o) (sym w.1) (other w.0 (made w.0 w.2) (w.0 == anons.next) refl)
   where
     other : (w : ℕ) → w < anons.next → (c : Bool) → (w == anons.next) ≡ c
-        → option_map_or (λ (x : AnonVma). x.chain) (cond c (Some (record { root = anons.next; parent = anons.next; chain = anons.next ∷ [] })) (anons.anon w))
+        → option_map_or (λ (x : AnonVma). x.chain)
+        (cond c (Some (record { root = anons.next; parent = anons.next; chain = anons.next ∷ [] })) (anons.anon w))
         [] ≡ option_map_or (λ (x : AnonVma). x.chain) (anons.anon w) []
     other w less true is = absurd (let e : w ≡ anons.next = grind (arith, nat_tests, is) in omega (arith, less, e))
     other w less false is = refl
@@ -125,7 +128,8 @@ sound-given l l' r k f owns here others alone h = record { made = h.made; own = 
     itself : (n : ℕ) → (n == n) ≡ true
     itself n = grind (arith, nat_tests)
 
-    by : (q : Key) (g : ℕ) → Names l' q g → (c : Bool) → same_key q k ≡ c → IsSomeAnd (with_at f (home_of k.1 (r.areas k.0 k.1)) r.homes g) (IsReached r q)
+    by : (q : Key) (g : ℕ) → Names l' q g → (c : Bool) → same_key q k ≡ c
+        → IsSomeAnd (with_at f (home_of k.1 (r.areas k.0 k.1)) r.homes g) (IsReached r q)
     by q g names true is =
         let same : q ≡ k = same_key-is q k is in
         let frame : g ≡ f = here g (subst (λ q. Names l' q g) same names) in
@@ -172,7 +176,8 @@ pub alone-by : (l : Ledger) (k : Key) (f : ℕ) → T (is_sorted key_cmp l.entri
     same_key q k ≡ false → Names l q f → ⊥
 alone-by l k f sorted few here q other there = by (entry l k) (entry l q) refl refl here there
   where
-    by : (x y : Option Entry) → entry l k ≡ x → entry l q ≡ y → IsSomeAnd x (λ e. names_frame f e ≡ true) → IsSomeAnd y (λ e. names_frame f e ≡ true) → ⊥
+    by : (x y : Option Entry) → entry l k ≡ x → entry l q ≡ y → IsSomeAnd x (λ e. names_frame f e ≡ true)
+        → IsSomeAnd y (λ e. names_frame f e ≡ true) → ⊥
     by None y e g h i = absurd h
     by (Some a) None e g h i = absurd i
     by (Some a) (Some b) e g h i = false≢true (sym other ∙ only_one l f k q a b sorted few e h g i)
@@ -188,13 +193,16 @@ unnamed-by l f none q names = by (entry l q) refl names
 -- ---- the areas change
 
 -- a home is at an area's own anon_vma
-pub home_parts : (page : ℕ) (x : Option Area) (h : ℕ × ℕ) → home_of page x ≡ Some h → IsSomeAnd x (λ area. (area.anon ≡ Some h.0) × (index_of area page ≡ h.1))
+pub home_parts : (page : ℕ) (x : Option Area) (h : ℕ × ℕ) → home_of page x ≡ Some h
+    → IsSomeAnd x (λ area. (area.anon ≡ Some h.0) × (index_of area page ≡ h.1))
 home_parts page None h is = cc
 home_parts page (Some area) h is = by area.anon refl is
   where
-    by : (own : Option ℕ) → area.anon ≡ own → option_map (λ v. (v, index_of area page)) own ≡ Some h → (area.anon ≡ Some h.0) × (index_of area page ≡ h.1)
+    by : (own : Option ℕ) → area.anon ≡ own → option_map (λ v. (v, index_of area page)) own ≡ Some h
+        → (area.anon ≡ Some h.0) × (index_of area page ≡ h.1)
     by None e is = cc
-    by (Some v) e is = let both : ◌≡◌ {A = ℕ × ℕ} (v, index_of area page) h = cc in (e ∙ ap (λ (x : ℕ × ℕ). Some x.0) both, ap (λ (x : ℕ × ℕ). x.1) both)
+    by (Some v) e is = let both : ◌≡◌ {A = ℕ × ℕ} (v, index_of area page) h = cc in
+        (e ∙ ap (λ (x : ℕ × ℕ). Some x.0) both, ap (λ (x : ℕ × ℕ). x.1) both)
 
 -- an entry that names the frame came from a page that named it, and whose home the entry's page has now
 pub record Carries (l : Ledger) (r next : Rmap) (k : Key) (f : ℕ) : Type 0 where
@@ -202,7 +210,8 @@ pub record Carries (l : Ledger) (r next : Rmap) (k : Key) (f : ℕ) : Type 0 whe
   pub names : Names l was f
   pub home : (h : ℕ × ℕ) → home_of was.1 (r.areas was.0 was.1) ≡ Some h → home_of k.1 (next.areas k.0 k.1) ≡ Some h
 
--- the areas become others: each entry that names a frame carries its page's home with it, no area has an own anon_vma that none had, and of the anon_vmas is
+-- the areas become others: each entry that names a frame carries its page's home with it, no area
+-- has an own anon_vma that none had, and of the anon_vmas is
 -- left what is linked
 pub sound-carried : (l l' : Ledger) (r next : Rmap) → ((k : Key) (f : ℕ) → Names l' k f → Carries l r next k f)
     → ((p page v : ℕ) → Owns next p page v → (q : ℕ) × (other : ℕ) × Owns r q other v)
@@ -245,7 +254,8 @@ sound-carried l l' r next carries owns left homes h = record {
         there v None e is in_own = is
         there v (Some a) e now in_own = (
           subst (λ o. is_in home.0 (chain_by next.anons o) ≡ true) (sym now.0)
-              (subst (λ c. is_in home.0 c ≡ true) (sym (same_chain k.0 k.1 v (subst (λ x. IsSomeAnd x (λ a. a.anon ≡ Some v)) (sym e) now.0))) in_own),
+              (subst (λ c. is_in home.0 c ≡ true)
+              (sym (same_chain k.0 k.1 v (subst (λ x. IsSomeAnd x (λ a. a.anon ≡ Some v)) (sym e) now.0))) in_own),
           now.1 ∙ is.1,
         )
 
@@ -266,7 +276,7 @@ sound-next l l' r next fewer kept = sound-carried l l' r next
 -- what a neighbour lends is its own
 lent_own : (len : Lengths) (area : Area) (x : Option Area) (w : ℕ) → loan_of len area x ≡ Some w → IsSomeAnd x (λ near. near.anon ≡ Some w)
 lent_own len area None w is = cc
-lent_own len area (Some near) w is = by (is_reusable area near (len near.anon)) is
+lent_own len area (Some near) w is = by (can_lend area near (len near.anon)) is
   where
     by : (b : Bool) → cond b near.anon None ≡ Some w → near.anon ≡ Some w
     by true e = e
@@ -296,7 +306,8 @@ prepared-stays len next page on at a laid is own = by (on page) refl
             absurd (false≢true (sym none ∙ subst (λ (o : Option Area). option_map_or (λ (x : Area). is_some x.anon) o true ≡ true) same own))
         over false h none = is
 
-        bare : (c : Bool) → is_some b.anon ≡ c → cond c on (with_area (record b { anon = Some (unwrap_or (loan_beside len on b) next) }) on) at ≡ Some a
+        bare : (c : Bool) → is_some b.anon ≡ c
+            → cond c on (with_area (record b { anon = Some (unwrap_or (loan_beside len on b) next) }) on) at ≡ Some a
         bare true h = is
         bare false h = over (has_page b at) refl h
 
@@ -314,7 +325,8 @@ prepared-own len next page on laid there = by (on page) refl there
         over true h = refl
         over false h = absurd (false≢true h)
 
-        bare : (c : Bool) → is_some b.anon ≡ c → IsSomeAnd (cond c on (with_area (record b { anon = Some (unwrap_or (loan_beside len on b) next) }) on) page)
+        bare : (c : Bool) → is_some b.anon ≡ c
+            → IsSomeAnd (cond c on (with_area (record b { anon = Some (unwrap_or (loan_beside len on b) next) }) on) page)
             (λ a. IsSome a.anon)
         bare true h = subst (λ o. IsSomeAnd o (λ a. IsSome a.anon)) (sym e) h
         bare false h = over (has_page b page) (laid.here page b e)
@@ -333,13 +345,15 @@ prepared-owns len next page on at v is = by (on page) refl is
     by None e is = inl is
     by (Some b) e is = bare (is_some b.anon) refl is
       where
-        over : (has : Bool) → is_some b.anon ≡ false → IsSomeAnd (cond has (Some (record b { anon = Some (unwrap_or (loan_beside len on b) next) })) (on at))
+        over : (has : Bool) → is_some b.anon ≡ false
+            → IsSomeAnd (cond has (Some (record b { anon = Some (unwrap_or (loan_beside len on b) next) })) (on at))
             (λ a. a.anon ≡ Some v)
             → HadOrGot len next page on at v
         over true none is = let same : v ≡ unwrap_or (loan_beside len on b) next = cc in inr (b, e, none, same)
         over false none is = inl is
 
-        bare : (c : Bool) → is_some b.anon ≡ c → IsSomeAnd (cond c on (with_area (record b { anon = Some (unwrap_or (loan_beside len on b) next) }) on) at)
+        bare : (c : Bool) → is_some b.anon ≡ c
+            → IsSomeAnd (cond c on (with_area (record b { anon = Some (unwrap_or (loan_beside len on b) next) }) on) at)
             (λ a. a.anon ≡ Some v)
             → HadOrGot len next page on at v
         bare true h is = inl is
@@ -366,7 +380,8 @@ module _ (l : Ledger) (p page : ℕ) (r : Rmap) (laid : AreLaid (r.areas p)) (h 
   made_now false v is = h.made v is
   made_now true v is = root (v == r.anons.next) refl is
     where
-      root : (c : Bool) → (v == r.anons.next) ≡ c → IsSome (cond c (Some (record { root = r.anons.next; parent = r.anons.next; chain = r.anons.next ∷ [] }))
+      root : (c : Bool) → (v == r.anons.next) ≡ c
+          → IsSome (cond c (Some (record { root = r.anons.next; parent = r.anons.next; chain = r.anons.next ∷ [] }))
           (r.anons.anon v)) → v < suc r.anons.next
       root true e is = let same : v ≡ r.anons.next = grind (arith, nat_tests, e) in omega (arith, same)
       root false e is = let less = h.made v is in omega (arith, less)
@@ -387,7 +402,8 @@ module _ (l : Ledger) (p page : ℕ) (r : Rmap) (laid : AreLaid (r.areas p)) (h 
       makes o e = ap (makes_anon len on) is ∙ ap (λ x. not x && not (is_some (loan_beside len on b))) none ∙ ap (λ o. not (is_some o)) e
 
       root : (c : Bool) → c ≡ true → option_map_or (λ (x : AnonVma). x.chain)
-          (cond c (Some (record { root = r.anons.next; parent = r.anons.next; chain = r.anons.next ∷ [] })) (r.anons.anon r.anons.next)) [] ≡ r.anons.next ∷ []
+          (cond c (Some (record { root = r.anons.next; parent = r.anons.next; chain = r.anons.next ∷ [] })) (r.anons.anon r.anons.next))
+          [] ≡ r.anons.next ∷ []
       root true e = refl
       root false e = cc
 
@@ -462,7 +478,8 @@ module _ (l : Ledger) (p page : ℕ) (r : Rmap) (laid : AreLaid (r.areas p)) (h 
     where
       by : (b : Bool) → (cond b (with_root r.anons) r.anons).anon v ≡ r.anons.anon v
       by false = refl
-      by true = ap (λ c. cond c (Some (record { root = r.anons.next; parent = r.anons.next; chain = r.anons.next ∷ [] })) (r.anons.anon v)) (not_next v there)
+      by true = ap (λ c. cond c (Some (record { root = r.anons.next; parent = r.anons.next; chain = r.anons.next ∷ [] })) (r.anons.anon v))
+          (not_next v there)
 
   some_of : {A : Type 0} (P : A → Type 0) (o : Option A) → IsSomeAnd o P → IsSome o
   some_of P None is = absurd is
@@ -481,7 +498,8 @@ module _ (l : Ledger) (p page : ℕ) (r : Rmap) (laid : AreLaid (r.areas p)) (h 
 
   -- a root is its own kin
   root_kin : roots ≡ true → IsSomeAnd (now_anons.anon r.anons.next) (IsKin now_anons)
-  root_kin made = subst (λ b. IsSomeAnd ((cond b (with_root r.anons) r.anons).anon r.anons.next) (IsKin (cond b (with_root r.anons) r.anons))) (sym made)
+  root_kin made = subst
+      (λ b. IsSomeAnd ((cond b (with_root r.anons) r.anons).anon r.anons.next) (IsKin (cond b (with_root r.anons) r.anons))) (sym made)
       (by (r.anons.next == r.anons.next) itself)
     where
       one : AnonVma
@@ -491,7 +509,8 @@ module _ (l : Ledger) (p page : ℕ) (r : Rmap) (laid : AreLaid (r.areas p)) (h 
       itself = grind (arith, nat_tests)
 
       member : (u : ℕ) (b : Bool) → (u == r.anons.next) ≡ b → (b || false) ≡ true →
-          IsSomeAnd (cond (u == r.anons.next) (Some (record { root = r.anons.next; parent = r.anons.next; chain = r.anons.next ∷ [] })) (r.anons.anon u))
+          IsSomeAnd (cond (u == r.anons.next) (Some (record { root = r.anons.next; parent = r.anons.next; chain = r.anons.next ∷ [] }))
+          (r.anons.anon u))
           (λ (other : AnonVma). other.root ≡ r.anons.next)
       member u true e among = subst (λ c. IsSomeAnd (cond c (Some (record { root = r.anons.next; parent = r.anons.next; chain = r.anons.next ∷ [] }))
           (r.anons.anon u)) (λ (other : AnonVma). other.root ≡ r.anons.next)) (sym e) refl
@@ -503,7 +522,8 @@ module _ (l : Ledger) (p page : ℕ) (r : Rmap) (laid : AreLaid (r.areas p)) (h 
       by true e = record { root = ap (λ b. b || false) itself; members = λ u among. member u (u == r.anons.next) refl among }
       by false e = absurd (false≢true e)
 
-  kin_got : AreSlotsCovered l r → (q other v : ℕ) → IsSomeAnd (now_areas q other) (λ a. a.anon ≡ Some v) → IsSomeAnd (now_anons.anon v) (IsKin now_anons)
+  kin_got : AreSlotsCovered l r → (q other v : ℕ) → IsSomeAnd (now_areas q other) (λ a. a.anon ≡ Some v)
+      → IsSomeAnd (now_anons.anon v) (IsKin now_anons)
   kin_got slots q other v = by (q == p)
     where
       makes : (b : Area) → on page ≡ Some b → is_some b.anon ≡ false → (o : Option ℕ) → loan_beside len on b ≡ o → roots ≡ not (is_some o)
@@ -533,13 +553,15 @@ module _ (l : Ledger) (p page : ℕ) (r : Rmap) (laid : AreLaid (r.areas p)) (h 
           index_of a k.1 ≡ home.1 → IsRooted (prepare_page p page r) k home
       of_area a e None f is same = absurd is
       of_area a e (Some own) f is same =
-          let there = some_of (IsKin r.anons) (r.anons.anon own) (slots.kin k.0 k.1 own (subst (λ x. IsSomeAnd x (λ a. a.anon ≡ Some own)) (sym e) f)) in
+          let there = some_of (IsKin r.anons) (r.anons.anon own)
+          (slots.kin k.0 k.1 own (subst (λ x. IsSomeAnd x (λ a. a.anon ≡ Some own)) (sym e) f)) in
           subst (λ x. IsSomeAnd x (λ a. IsSomeAnd a.anon (λ own. root_of now_anons own ≡ home.0) × (index_of a k.1 ≡ home.1)))
           (sym (stays k.0 k.1 a e (subst IsSome (sym f) refl)))
           (subst (λ x. IsSomeAnd x (λ own. root_of now_anons own ≡ home.0)) (sym f) (root_now own there ∙ is), same)
 
       at : (o : Option Area) → r.areas k.0 k.1 ≡ o
-          → IsSomeAnd o (λ a. IsSomeAnd a.anon (λ own. root_of r.anons own ≡ home.0) × (index_of a k.1 ≡ home.1)) → IsRooted (prepare_page p page r) k home
+          → IsSomeAnd o (λ a. IsSomeAnd a.anon (λ own. root_of r.anons own ≡ home.0) × (index_of a k.1 ≡ home.1))
+          → IsRooted (prepare_page p page r) k home
       at None e is = absurd is
       at (Some a) e is = of_area a e a.anon refl is.0 is.1
 

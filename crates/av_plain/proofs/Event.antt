@@ -73,7 +73,8 @@ map_count-unmap f s l = how_many-map (λ e. names_frame f e.1) (λ e. (e.0, to_s
 
 pub slot_entries-unmap : (f : ℕ) (s : Slot) (l : Ledger) → same_slot s s ≡ true →
     slot_entries (change_entries f (λ _. InSlot s) l) s ≡ slot_entries l s + map_count l f
-slot_entries-unmap f s l itself = how_many-map (λ e. names_slot s e.1) (λ e. (e.0, to_slot f s e.1)) l.entries ∙ how_many-or _ _ _ l.entries (λ e. moved e.1)
+slot_entries-unmap f s l itself = how_many-map (λ e. names_slot s e.1) (λ e. (e.0, to_slot f s e.1)) l.entries
+    ∙ how_many-or _ _ _ l.entries (λ e. moved e.1)
   where
     moved : (e : Entry) → cond (names_slot s (to_slot f s e)) 1 0 ≡ cond (names_slot s e) 1 0 + cond (names_frame f e) 1 0
     moved Zero = refl
@@ -89,7 +90,8 @@ slot_entries-unmap f s l itself = how_many-map (λ e. names_slot s e.1) (λ e. (
 abbrev pub to_unseen : ℕ → Entry → Entry
 to_unseen f e = if names_frame f e then without_seen e else e
 
-pub unseen-by : (f : ℕ) (p : Entry → Bool) → ((g : ℕ) (seen now : Bool) → p (InFrame g seen) ≡ p (InFrame g now)) → (e : Entry) → p (to_unseen f e) ≡ p e
+pub unseen-by : (f : ℕ) (p : Entry → Bool) → ((g : ℕ) (seen now : Bool) → p (InFrame g seen) ≡ p (InFrame g now)) → (e : Entry)
+    → p (to_unseen f e) ≡ p e
 unseen-by f p h Zero = refl
 unseen-by f p h (InFrame g seen) = elim (f == g) as (λ b. p (if b then without_seen (InFrame g seen) else InFrame g seen) ≡ p (InFrame g seen)) [
   | true ↦ h g false seen
@@ -186,7 +188,8 @@ module _ {K X : Type 0} {R : K → K → Ordering} (o : IsTotalOrder R) where
         | Greater ↦ λ at found.
             let lower : R e.0 k ≡ Less = o.antisymm e.0 k ∙ ap ordering_reverse at in
             let first_fails : p e.0 ≡ false = not_least (p e.0) (λ yields. least e.0 lower yields) in
-            let rest = keys_from_least p k v es same (both_second _ _ h) found passes (λ q low yields. later q (R q e.0) (find R q es) (least q low yields)) in
+            let rest = keys_from_least p k v es same (both_second _ _ h) found passes
+            (λ q low yields. later q (R q e.0) (find R q es) (least q low yields)) in
             ap (λ b. cond b (e.0 ∷ filter p (map (λ e. e.0) es)) (filter p (map (λ e. e.0) es))) first_fails ∙ rest
             ∙ ap (λ b. k ∷ cond b (e.0 ∷ filter p (map (λ e. e.0) (where_key R (λ q. not (eq_by_cmp R k q)) es)))
             (filter p (map (λ e. e.0) (where_key R (λ q. not (eq_by_cmp R k q)) es)))) (sym first_fails)

@@ -16,14 +16,14 @@ use Rattle.av_trace.specs.declared.note.Note.TheVariants.{Aged, Dropped, Kept, P
 use Rattle.av_trace.specs.declared.reply.Answer.{Answer}
 use Rattle.av_trace.specs.declared.reply.Answer.TheVariants.{Done, Refused, SlotBad}
 use Rattle.av_trace.specs.declared.reply.Errno.{Errno}
-use Rattle.av_trace.specs.declared.reply.Errno.TheVariants.{Einval, Enomem, Eperm}
+use Rattle.av_trace.specs.declared.reply.Errno.TheVariants.{Enomem, Eperm}
 use Rattle.av_trace.specs.declared.reply.Reply.{Reply}
 use Rattle.av_trace.specs.declared.row.Row.{Row}
-use Rattle.av_plain.specs.Event.{Event, Moved, Zapped, after, after_all, after_notes, note_events, notes_of, when}
+use Rattle.av_plain.specs.Event.{Event, EntriesMoved, Zapped, after, after_all, after_notes, note_events, notes_of, when}
 use Rattle.av_plain.specs.Fault.{sparing}
 use Rattle.av_plain.specs.Ledger.{Entry, InFrame, InSlot, Key, Ledger, Setting, Zero, entry, is_orphan, is_usable, map_count, slot_of}
 use Rattle.av_plain.specs.Map.{zaps_for_place}
-use Rattle.av_plain.specs.Mremap.{events_to, range_zaps, remap_events}
+use Rattle.av_plain.specs.Mremap.{events_to, range_zaps}
 use Rattle.av_plain.specs.Pass.{IsSlotFor, Spared, fails, is_dirty, is_fail}
 use Rattle.av_plain.specs.Place.{IsMapAt}
 use Rattle.av_plain.specs.Reclaim.{Outcomes, cause_of, from_tail, leave_notes}
@@ -97,11 +97,13 @@ remap-faultless l p from n None k = refl
 remap-faultless l p from n (Some to) k = by (to == from)
   where
     by : (b : Bool) → fails (notes_of (cond b (range_zaps l p (from + k) (n - k))
-        ((range_zaps l p to k ++ range_zaps (after_all l (range_zaps l p to k)) p (from + k) (n - k)) ++ Moved p (min n k) from to ∷ []))) ≡ 0
+        ((range_zaps l p to k ++ range_zaps (after_all l (range_zaps l p to k)) p (from + k) (n - k)) ++ EntriesMoved p (min n k) from to ∷ []))) ≡ 0
     by true = zaps-faultless l (keys_in l p (from + k) (n - k))
-    by false = both-events (range_zaps l p to k ++ range_zaps (after_all l (range_zaps l p to k)) p (from + k) (n - k)) (Moved p (min n k) from to ∷ [])
+    by false = both-events (range_zaps l p to k ++ range_zaps (after_all l (range_zaps l p to k)) p (from + k) (n - k))
+        (EntriesMoved p (min n k) from to ∷ [])
         (both-events (range_zaps l p to k) (range_zaps (after_all l (range_zaps l p to k)) p (from + k) (n - k))
-        (zaps-faultless l (keys_in l p to k)) (zaps-faultless (after_all l (range_zaps l p to k)) (keys_in (after_all l (range_zaps l p to k)) p (from + k) (n - k)))) refl
+        (zaps-faultless l (keys_in l p to k))
+        (zaps-faultless (after_all l (range_zaps l p to k)) (keys_in (after_all l (range_zaps l p to k)) p (from + k) (n - k)))) refl
 
 -- ---- answers
 
@@ -139,7 +141,8 @@ slot-faultless m l s answer = by m.headers (is_usable m s)
 leave-faultless : (l : Ledger) (f : ℕ) (t : Slot) → fails (leave_notes l f t) ≡ 0
 leave-faultless l f t = by (is_none (slot_of l f)) (not (map_count l f == 0)) (is_dirty l f t)
   where
-    by : (a b c : Bool) → fails ((when a (Put f t) ++ when b (Unmapped f)) ++ (if c then Started t ∷ Kept f WriteStarted ∷ [] else Dropped t ∷ [])) ≡ 0
+    by : (a b c : Bool) → fails
+        ((when a (Put f t) ++ when b (Unmapped f)) ++ (if c then Started t ∷ Kept f WriteStarted ∷ [] else Dropped t ∷ [])) ≡ 0
     by true true true = refl
     by true true false = refl
     by true false true = refl
@@ -203,11 +206,12 @@ unused-follows m w l (Reclaim n) events answer rows un h = record {
   answered = is-faultless answer _ h.2 (record { told = refl; failed = refl });
 }
 unused-follows m w l (Age n) events answer rows un h = record {
-  notes = ap (λ es. fails (notes_of es)) h.1 ∙ ap fails (notes_of-note_events (map Aged (from_tail n l.active))) ∙ ages-faultless (from_tail n l.active);
+  notes = ap (λ es. fails (notes_of es)) h.1 ∙ ap fails (notes_of-note_events (map Aged (from_tail n l.active)))
+      ∙ ages-faultless (from_tail n l.active);
   answered = is-faultless answer _ h.0 (record { told = refl; failed = refl });
 }
 unused-follows m w l (Complete n) events answer rows un h = cc
-unused-follows m w l (Swapon k) events answer rows un h = cc
+unused-follows m w l (Swapon k priority) events answer rows un h = cc
 unused-follows m w l (Swapoff k) events answer rows un h = cc
 unused-follows m w l (Maps p) events answer rows un h =
     record { notes = ap (λ es. fails (notes_of es)) h.2; answered = is-faultless answer _ h.0 (record { told = refl; failed = refl }) }
@@ -255,7 +259,7 @@ tests-mild m w l (Write p a bytes) = (refl, tt)
 tests-mild m w l (Reclaim n) = tt
 tests-mild m w l (Age n) = tt
 tests-mild m w l (Complete n) = tt
-tests-mild m w l (Swapon k) = (refl, (refl, (refl, tt)))
+tests-mild m w l (Swapon k priority) = (refl, (refl, (refl, tt)))
 tests-mild m w l (Swapoff k) = (refl, tt)
 tests-mild m w l (Maps p) = (refl, tt)
 tests-mild m w l (AsksAreas p) = (refl, tt)

@@ -30,7 +30,8 @@ abbrev pages_with : ℕ → List (Key × Entry) → List Inherited
 pages_with p es = map (λ (k : Key). record { page = k.1; as_zeros = false }) (filter (λ k. k.0 == p) (map (λ e. e.0) es))
 
 -- each entry of p goes over
-all_go : (p : ℕ) (pages : List Inherited) (es : List (Key × Entry)) → ((page : ℕ) → is_inherited (pages_with p es) page ≡ true → is_inherited pages page ≡ true)
+all_go : (p : ℕ) (pages : List Inherited) (es : List (Key × Entry))
+    → ((page : ℕ) → is_inherited (pages_with p es) page ≡ true → is_inherited pages page ≡ true)
     → where_key key_cmp (λ k. k.0 == p && is_inherited pages k.1) es ≡ where_key key_cmp (λ k. k.0 == p) es
 all_go p pages [] h = refl
 all_go p pages (e ∷ es) h = by (e.0.0 == p) refl (all_go p pages es)
@@ -67,7 +68,8 @@ all_go p pages (e ∷ es) h = by (e.0.0 == p) refl (all_go p pages es)
         ∙ ap (λ b. cond b (e ∷ rest es) (rest es)) (sym is)
 
 pub forked-is : (p q : ℕ) (l : Ledger) → child_ledger p q l ≡ put_all (copies p q l.entries) l
-forked-is p q l = ap (λ es. put_all (map (λ (e : Key × Entry). ((q, e.0.1), without_seen e.1)) es) l) (all_go p (inheritance l p) l.entries (λ page i. i))
+forked-is p q l = ap (λ es. put_all (map (λ (e : Key × Entry). ((q, e.0.1), without_seen e.1)) es) l)
+    (all_go p (inheritance l p) l.entries (λ page i. i))
 
 -- ---- what is found
 
@@ -81,12 +83,14 @@ both : (a b : Bool) → T a → T b → T (a && b)
 both true b p q = q
 both false b p q = p
 
-below_copies : (p q : ℕ) (x : Key) (es : List (Key × Entry)) → (x.0 == p) ≡ true → T (below_all key_cmp x es) → T (below_all key_cmp (q, x.1) (copies p q es))
+below_copies : (p q : ℕ) (x : Key) (es : List (Key × Entry)) → (x.0 == p) ≡ true → T (below_all key_cmp x es)
+    → T (below_all key_cmp (q, x.1) (copies p q es))
 below_copies p q x [] at h = tt
 below_copies p q x (e ∷ es) at h =
     elim (e.0.0 == p) as (λ b. (e.0.0 == p) ≡ b → T (below_all key_cmp (q, x.1)
     (map (λ e. ((q, e.0.1), without_seen e.1)) (cond b (e ∷ where_key key_cmp (λ k. k.0 == p) es) (where_key key_cmp (λ k. k.0 == p) es))))) [
-      | true ↦ λ is. both _ _ (less_is _ (lower x.0 e.0.0 x.1 e.0.1 at is (is_less _ (both_first _ _ h)))) (below_copies p q x es at (both_second _ _ h))
+      | true ↦ λ is. both _ _ (less_is _ (lower x.0 e.0.0 x.1 e.0.1 at is (is_less _ (both_first _ _ h))))
+          (below_copies p q x es at (both_second _ _ h))
       | false ↦ λ is. below_copies p q x es at (both_second _ _ h)
     ] refl
   where
@@ -178,7 +182,8 @@ module _ (p q : ℕ) (l : Ledger) (sorted : T (is_sorted key_cmp l.entries)) (no
   pub record Grows (t : Entry → Bool) : Type 0 where
     pub more : ℕ
     pub few : more ≤ how_many (λ (e : Key × Entry). t e.1) l.entries
-    pub count : how_many (λ (e : Key × Entry). t e.1) (put_all (copies p q l.entries) l).entries ≡ how_many (λ (e : Key × Entry). t e.1) l.entries + more
+    pub count : how_many (λ (e : Key × Entry). t e.1) (put_all (copies p q l.entries) l).entries ≡ how_many (λ (e : Key × Entry). t e.1)
+        l.entries + more
 
   grows : (t : Entry → Bool) → ((e : Entry) → t (without_seen e) ≡ t e) → Grows t
   grows t same = record {

@@ -17,10 +17,10 @@ use Rattle.av_trace.specs.declared.note.Note.{Note}
 use Rattle.av_trace.specs.declared.note.Note.TheVariants.{Aged, Copied, Dropped, Failed, Kept, Loaded, Mapped, New, Put, Started, Unmapped, Written, Zeroed}
 use Rattle.av_plain.specs.Access.{Accesses, End, page_events, pages_of_access}
 use Rattle.av_plain.specs.Choice.{ChoosesAll, Free, ListsFree, frame_in, frame_in_note, new_free}
-use Rattle.av_plain.specs.Event.{Event, Forked, Moved, TurnedOff, TurnedOn, Used, after, after_all, after_move, after_note, after_notes, after_use, after_use_of, after_zap, change_entries, if_some, key_at, note_events, off_cache, put_all, set_entry, when, with_stale}
+use Rattle.av_plain.specs.Event.{Event, Forked, EntriesMoved, TurnedOff, TurnedOn, Used, after, after_all, after_move, after_note, after_notes, after_use, after_use_of, after_zap, change_entries, if_some, key_at, note_events, off_cache, put_all, set_entry, when, with_stale}
 use Rattle.av_plain.specs.Fault.{ComesIn, CopyOnWrite, Denied, IsMade, Lost, MapCached, Need, NewPage, Ready, RunsOut, Serves, Sparing, Starved, Stop, SwapIn, Touches, ZeroPage, drop_at, drop_of_entry, drop_of_slot, is_shared, is_unneeded, need, need_of_slot, pinned_by, sparing, was_slot}
 use Rattle.av_plain.specs.Fork.{inheritance}
-use Rattle.av_plain.specs.Ledger.{Cached, Entry, InFrame, InSlot, Key, Ledger, Setting, Zero, entry, first_ledger, frame_at, has_free, is_free, is_orphan, key_cmp, keys_of_slot, map_count, names_frame, slot_of, slots_in_use}
+use Rattle.av_plain.specs.Ledger.{Cached, Entry, InFrame, InSlot, Key, Ledger, Setting, SwapArea, Zero, entry, first_ledger, frame_at, has_free, is_free, is_orphan, key_cmp, keys_of_slot, map_count, names_frame, slot_of, slots_in_use}
 use Rattle.av_plain.specs.Pass.{Completes, IsPass, IsSlotFor, Seeks, Spared, TakesFor, Turns, end_note, end_notes, frames_in_turn, is_dirty, is_stuck, stays_cached, turn_notes, unmap_notes}
 use Rattle.av_plain.specs.Refusal.{Refuses, refusal, tests}
 use Rattle.av_plain.specs.Sound.{AllSound, IsSound, count, flights, holders, uses}
@@ -130,7 +130,8 @@ lists-event m l l' taken free rest first steady h g =
     left None e = ap (how_many (λ x. g == x)) e ∙ omega arith
     left (Some f) e = ap (how_many (λ x. g == x)) e
 
-    by : (v u n t : Bool) (all new nums old k : ℕ) (count count' : ℕ) → v ≡ (count' == 0) → u ≡ (count == 0) → all ≡ new + k → new ≡ cond (v && not u) nums 0 →
+    by : (v u n t : Bool) (all new nums old k : ℕ) (count count' : ℕ) → v ≡ (count' == 0) → u ≡ (count == 0) → all ≡ new + k
+        → new ≡ cond (v && not u) nums 0 →
         nums ≡ cond n 1 0 → old ≡ cond ((count == 0) && n) 1 0 → old ≡ cond t 1 0 + k
         → (count ≡ 0 → t ≡ false → count' ≡ 0) → (t ≡ true → 0 < count') → all ≡ cond ((count' == 0) && n) 1 0
     by v u n true all new nums old k count count' hv hu a b c d e stays used =
@@ -172,7 +173,8 @@ AreHeld l (note ∷ notes) = IsHeld l note × AreHeld (after_note note l) notes
 set-steady : (l l' : Ledger) (k : Key) (f : ℕ) (seen : Bool) → T (is_sorted key_cmp l.entries) →
     ((g : ℕ) → uses l' g ≡ uses (set_entry k (InFrame f seen) l) g) → Steady l l' (Some f)
 set-steady l l' k f seen sorted same = record {
-  stays = λ g gone other. let e = same g in let a = map_count-set k (InFrame f seen) l g sorted in let b = flag (g == f) other in omega (arith, gone, e, a, b);
+  stays = λ g gone other. let e = same g in let a = map_count-set k (InFrame f seen) l g sorted in let b = flag (g == f) other in
+      omega (arith, gone, e, a, b);
   taken_used = λ g is. let e = same g in let n = how_many-found (names_frame g) k (set_entry k (InFrame f seen) l).entries (InFrame f seen)
       (entry-set k (InFrame f seen) l k ∙ ap (λ b. cond b (Some (InFrame f seen)) (entry l k)) (same_key-itself k)) is in omega (arith, e, n);
 }
@@ -253,7 +255,8 @@ held-is l a b e h = subst (AreHeld l) (sym e) h
 
 held-completes : (l : Ledger) (ts : List Slot) (notes : List Note) → Completes l ts notes → AreHeld l notes
 held-completes l [] notes c = held-is l notes [] c tt
-held-completes l (t ∷ ts) notes c = held-is l notes _ c.2 (held-append l (end_notes l t c.0) c.1 (one l c.0 (is_orphan (after_note (end_note c.0 t) l) t))
+held-completes l (t ∷ ts) notes c =
+    held-is l notes _ c.2 (held-append l (end_notes l t c.0) c.1 (one l c.0 (is_orphan (after_note (end_note c.0 t) l) t))
     (held-completes (after_notes l (end_notes l t c.0)) ts c.1 c.3))
   where
     one : (l : Ledger) (failed b : Bool) → AreHeld l (end_note failed t ∷ when b (Dropped t))
@@ -284,13 +287,15 @@ held-turn l f t failed in_use = held-append l (unmap_notes l f t) _ (held-unmap 
     writes l true = (tt, (ends (after_note (Started t) l) failed, tt))
     writes l false = tt
 
-held-turns : (m : Setting) (sp : Spared) (l : Ledger) (fs : List ℕ) (notes : List Note) → IsSound m l → ((r : Slot) → flights l r ≡ 0) → AreReady l fs →
+held-turns : (m : Setting) (sp : Spared) (l : Ledger) (fs : List ℕ) (notes : List Note) → IsSound m l → ((r : Slot) → flights l r ≡ 0)
+    → AreReady l fs →
     Turns m sp l fs notes → AreHeld l notes
 held-turns m sp l [] notes s grounded ready r = held-is l notes [] r tt
 held-turns m sp l (f ∷ fs) notes s grounded ready r = stuck (λ l' ns s' g' r' t'. held-turns m sp l' fs ns s' g' r' t') (is_stuck m sp l f) r
   where
     stuck : ((l' : Ledger) (ns : List Note) → IsSound m l' → ((r : Slot) → flights l' r ≡ 0) → AreReady l' fs → Turns m sp l' fs ns → AreHeld l' ns)
-        → (b : Bool) → MatchBool b (Turns m sp l fs notes) ((t : Slot) × (failed : Bool) × IsSlotFor m sp l f t × MatchBool (stays_cached l f t failed)
+        → (b : Bool) → MatchBool b (Turns m sp l fs notes)
+        ((t : Slot) × (failed : Bool) × IsSlotFor m sp l f t × MatchBool (stays_cached l f t failed)
         ((rest : List Note) × (notes ≡ turn_notes l f t failed ++ rest) × Turns m sp (after_notes l (turn_notes l f t failed)) fs rest)
         (notes ≡ turn_notes l f t failed ++ Dropped t ∷ [])) → AreHeld l notes
     stuck again true r = again l notes s grounded (ready-rest l l f fs (λ g other. refl) ready) r
@@ -299,7 +304,8 @@ held-turns m sp l (f ∷ fs) notes s grounded ready r = stuck (λ l' ns s' g' r'
         here : TurnKept m l f r.0 (after_notes l (turn_notes l f r.0 r.1))
         here = turn-kept m sp l f r.0 r.1 s grounded r.2 (ready-first l f fs ready)
 
-        goes : (b : Bool) → MatchBool b ((rest : List Note) × (notes ≡ turn_notes l f r.0 r.1 ++ rest) × Turns m sp (after_notes l (turn_notes l f r.0 r.1)) fs
+        goes : (b : Bool) → MatchBool b
+            ((rest : List Note) × (notes ≡ turn_notes l f r.0 r.1 ++ rest) × Turns m sp (after_notes l (turn_notes l f r.0 r.1)) fs
             rest) (notes ≡ turn_notes l f r.0 r.1 ++ Dropped r.0 ∷ []) → AreHeld l notes
         goes true q = held-is l notes _ q.1 (held-append l (turn_notes l f r.0 r.1) q.0 (held-turn l f r.0 r.1 (ready-first l f fs ready))
             (again (after_notes l (turn_notes l f r.0 r.1)) q.0 here.sound here.grounded
@@ -325,7 +331,8 @@ held-seeks m sp l notes s r = by (has_free m l) r
 
 -- ---- a page
 
-held-takes : (m : Setting) (sp : Spared) (l : Ledger) (notes : List Note) (note : ℕ → Note) → IsSound m l → ((l : Ledger) (f : ℕ) → IsHeld l (note f)) →
+held-takes : (m : Setting) (sp : Spared) (l : Ledger) (notes : List Note) (note : ℕ → Note) → IsSound m l
+    → ((l : Ledger) (f : ℕ) → IsHeld l (note f)) →
     TakesFor m sp l notes note → AreHeld l notes
 held-takes m sp l notes note s h t = held-is l notes _ t.whole (held-append l t.sought (note t.frame ∷ []) (held-seeks m sp l t.sought s t.seeks)
     (h (after_notes l t.sought) t.frame, tt))
@@ -359,7 +366,8 @@ held-comes m sp l write k notes s h = by write (entry l k) h
     by false (Some (InSlot t)) q = slot_in t (frame_at l t) refl q
     by true (Some (InSlot t)) q = slot_in t (frame_at l t) refl q
 
-held-made : (m : Setting) (sp : Sparing) (l : Ledger) (k : Key) (n : Need) (notes : List Note) → IsSound m l → IsMade m sp l k n notes → AreHeld l notes
+held-made : (m : Setting) (sp : Sparing) (l : Ledger) (k : Key) (n : Need) (notes : List Note) → IsSound m l → IsMade m sp l k n notes
+    → AreHeld l notes
 held-made m sp l k Ready notes s q = held-is l notes [] q tt
 held-made m sp l k ZeroPage notes s q = held-is l notes _ q (tt, tt)
 held-made m sp l k NewPage notes s q = held-takes m (sp l None) l notes (New k.0 (address_of k.1)) s (λ l f. tt) q
@@ -424,7 +432,8 @@ used-steady l write k sorted = by write (entry l k) refl
     stale : (f : ℕ) (was : Bool) → entry l k ≡ Some (InFrame f was) → (o : Option Slot) →
         Steady l (if_some o (with_stale true) (set_entry k (InFrame f true) l)) None
     stale f was here None = fewer-steady l _ (seen f was here)
-    stale f was here (Some t) = fewer-steady l _ (λ g gone. alike-uses (set_entry k (InFrame f true) l) (with_stale true t (set_entry k (InFrame f true) l))
+    stale f was here (Some t) =
+        fewer-steady l _ (λ g gone. alike-uses (set_entry k (InFrame f true) l) (with_stale true t (set_entry k (InFrame f true) l))
         (alike-with_stale (set_entry k (InFrame f true) l) true t) g ∙ seen f was here g gone)
 
     by : (write : Bool) (o : Option Entry) → entry l k ≡ o → Steady l (after_use_of write k l o) None
@@ -448,7 +457,8 @@ page-lists m w l write k notes None free free' s q c h =
     (note_events-all l notes) p.2 in
     subst (λ x. Lists m x free') (sym (after_all-append l (note_events notes) (Used write k ∷ []) ∙ ap (after_use write k) (note_events-all l notes)))
     (subst (Lists m (after_use write k now)) (sym (last.2 ∙ last.1.2))
-    (lists-event m now (after_use write k now) None p.0 last.1.0 last.1.1 (used-steady now write k (touches-kept m w l write k notes None s q).in_order) first))
+    (lists-event m now (after_use write k now) None p.0 last.1.0 last.1.1
+    (used-steady now write k (touches-kept m w l write k notes None s q).in_order) first))
 
 accesses-lists : (m : Setting) (w : World) (l : Ledger) (p : ℕ) (ps : List (Bool × ℕ))
     (es : List Event) (end : End) (free free' : List ℕ) → IsSound m l → Accesses m w l p ps es end
@@ -510,7 +520,8 @@ zaps-lists m l (k ∷ ks) free free' s c h =
 -- no frame comes into use
 pub fork-steady : (m : Setting) (l : Ledger) (p q : ℕ) → IsSound m l → ((page : ℕ) → entry l (q, page) ≡ None) → Steady l (child_ledger p q l) None
 fork-steady m l p q s none = subst (λ l'. Steady l l' None) (sym (forked-is p q l ∙ put_all-only (copies p q l.entries) l))
-    (fewer-steady l (record l { entries = (put_all (copies p q l.entries) l).entries }) (λ g gone. let a = (frames-grow p q l s.in_order none g).count in
+    (fewer-steady l (record l { entries = (put_all (copies p q l.entries) l).entries })
+    (λ g gone. let a = (frames-grow p q l s.in_order none g).count in
     let b = (frames-grow p q l s.in_order none g).few in omega (arith, gone, a, b)))
 
 fork-lists : (m : Setting) (l : Ledger) (p q : ℕ) (free free' : List ℕ) → IsSound m l → ((page : ℕ) → entry l (q, page) ≡ None)
@@ -548,7 +559,7 @@ remap-lists m l p from n to k free free' s c h = by (to == from) c
     tail_zaps = range_zaps target p (from + k) (n - k)
 
     move : List Event
-    move = Moved p (min n k) from to ∷ []
+    move = EntriesMoved p (min n k) from to ∷ []
 
     by : (b : Bool) → ChoosesFrames m l (cond b (range_zaps l p (from + k) (n - k)) ((target_zaps ++ tail_zaps) ++ move)) free free'
         → Lists m (after_all l (cond b (range_zaps l p (from + k) (n - k)) ((target_zaps ++ tail_zaps) ++ move))) free'
@@ -583,7 +594,8 @@ held-outcomes m sp l (f ∷ fs) notes s ready h =
     held-is l notes (h.0 ++ h.1) h.2 (held-append l h.0 h.1 (by (cause_of m sp l f) in_use h.3)
     (held-outcomes m sp (after_notes l h.0) fs h.1 here.sound (ready-rest l (after_notes l h.0) f fs here.others ready) h.4))
   where
-    by : (o : Option Cause) → 0 < uses l f → MatchOption o ((t : Slot) × IsSlotFor m sp l f t × (h.0 ≡ leave_notes l f t)) (λ cause. h.0 ≡ Kept f cause ∷ []) →
+    by : (o : Option Cause) → 0 < uses l f
+        → MatchOption o ((t : Slot) × IsSlotFor m sp l f t × (h.0 ≡ leave_notes l f t)) (λ cause. h.0 ≡ Kept f cause ∷ []) →
         AreHeld l h.0
     by None in_use q = held-is l h.0 (leave_notes l f q.0) q.2 (held-leave l f q.0 in_use)
     by (Some cause) in_use q = held-is l h.0 (Kept f cause ∷ []) q (tt, tt)
@@ -598,10 +610,12 @@ held-maps : (l : Ledger) (f : ℕ) (t : Slot) (ks : List Key) → 0 < holders l 
 held-maps l f t [] held = (tt, tt)
 held-maps l f t (k ∷ ks) held = (omega (arith, held), held-maps (after_note (Mapped k.0 (address_of k.1) f) l) f t ks held)
 
-held-fetched : (m : Setting) (sp : Spared) (l : Ledger) (t : Slot) (f : ℕ) (notes : List Note) → IsSound m l → IsFetched m sp l t f notes → AreHeld l notes
+held-fetched : (m : Setting) (sp : Spared) (l : Ledger) (t : Slot) (f : ℕ) (notes : List Note) → IsSound m l → IsFetched m sp l t f notes
+    → AreHeld l notes
 held-fetched m sp l t f notes s h = by (frame_at l t) h
   where
-    by : (o : Option ℕ) → MatchOption o (TakesFor m sp l notes (Loaded t) × (frame_at (after_notes l notes) t ≡ Some f)) (λ g. (notes ≡ []) × (f ≡ g)) →
+    by : (o : Option ℕ) → MatchOption o (TakesFor m sp l notes (Loaded t) × (frame_at (after_notes l notes) t ≡ Some f))
+        (λ g. (notes ≡ []) × (f ≡ g)) →
         AreHeld l notes
     by None q = held-takes m sp l notes (Loaded t) s (λ l f. tt) q.0
     by (Some g) q = held-is l notes [] q.0 tt
@@ -628,7 +642,8 @@ held-empties m w sp k l (page ∷ pages) notes end e h =
     (held-empties m w sp k (after_notes l h.1) pages h.2 end (emptied-hold m w sp l (record { area = k; page = page }) h.1 e used h.5) h.6))
 
 -- areas that are turned on or off leave frames alone
-switch-lists : (m : Setting) (l l' : Ledger) (e : Event) (free free' : List ℕ) → after l e ≡ l' → frame_in e ≡ None → ((g : ℕ) → uses l' g ≡ uses l g) →
+switch-lists : (m : Setting) (l l' : Ledger) (e : Event) (free free' : List ℕ) → after l e ≡ l' → frame_in e ≡ None
+    → ((g : ℕ) → uses l' g ≡ uses l g) →
     ChoosesFrames m l (e ∷ []) free free' → Lists m l free → Lists m l' free'
 switch-lists m l l' e free free' is none same c h = subst (λ x. Lists m x free') is
     (subst (Lists m (after l e)) (sym (c.2 ∙ c.1.2)) (lists-event m l (after l e) None free c.1.0
@@ -666,11 +681,11 @@ legal-lists m w l command reply es free free' sound legal c h = by (refusal (tes
     noted notes e held = subst (λ es. Lists m (after_all l es) free') (sym e) (subst (λ x. Lists m x free') (sym (note_events-all l notes))
         (notes-lists m l notes free free' s.in_order held (subst (λ es. ChoosesFrames m l es free free') e c) h))
 
-    turns_on : (k : ℕ) → es ≡ turn_on_events k reply.answer → (turn_on_events k reply.answer ≡ [])
-        ⊎ ((slots : ℕ) × (bad : ℕ) × (turn_on_events k reply.answer ≡ TurnedOn k slots bad ∷ [])) → Lists m (after_all l es) free'
-    turns_on k e (inl i) = none (e ∙ i)
-    turns_on k e (inr (slots, bad, i)) = subst (λ es. Lists m (after_all l es) free') (sym (e ∙ i))
-        (switch-lists m l (after l (TurnedOn k slots bad)) (TurnedOn k slots bad) free free' refl refl (λ g. refl)
+    turns_on : (k : ℕ) (priority : Option ℕ) → es ≡ turn_on_events k priority reply.answer → (turn_on_events k priority reply.answer ≡ [])
+        ⊎ ((area : SwapArea) × (turn_on_events k priority reply.answer ≡ TurnedOn k area ∷ [])) → Lists m (after_all l es) free'
+    turns_on k priority e (inl i) = none (e ∙ i)
+    turns_on k priority e (inr (area, i)) = subst (λ es. Lists m (after_all l es) free') (sym (e ∙ i))
+        (switch-lists m l (after l (TurnedOn k area)) (TurnedOn k area) free free' refl refl (λ g. refl)
         (subst (λ es. ChoosesFrames m l es free free') (e ∙ i) c) h)
 
     closes : (l' : Ledger) (k : ℕ) (end : Close) (mid : List ℕ) → ChoosesFrames m l' (turn_off_events k end) mid free' → Lists m l' mid →
@@ -686,7 +701,8 @@ legal-lists m w l command reply es free free' sound legal c h = by (refusal (tes
         let empty = done-empty m w l q.done sound q.completes in
         let held = held-append l q.done q.notes (held-completes l l.flight q.done q.completes)
         (held-empties m w (sparing_area w k now) k now q.pages q.notes q.end empty q.empties) in
-        let both = frames-first m l (note_events notes) (turn_off_events k q.end) free free' (subst (λ es. ChoosesFrames m l es free free') q.whole c) in
+        let both = frames-first m l (note_events notes) (turn_off_events k q.end) free free'
+        (subst (λ es. ChoosesFrames m l es free free') q.whole c) in
         let first = notes-lists m l notes free both.0 s.in_order held both.1 h in
         let same = note_events-all l notes in
         subst (λ es. Lists m (after_all l es) free') (sym q.whole)
@@ -694,7 +710,8 @@ legal-lists m w l command reply es free free' sound legal c h = by (refusal (tes
         ∙ ap (λ x. after_all x (turn_off_events k q.end)) same))
         (closes (after_notes l notes) k q.end both.0 (subst (λ x. ChoosesFrames m x (turn_off_events k q.end) both.0 free') same both.2) first))
 
-    follows : (command : Command) → refusal (tests m w l command) ≡ None → Follows m w l command es reply.answer reply.rows → Lists m (after_all l es) free'
+    follows : (command : Command) → refusal (tests m w l command) ≡ None → Follows m w l command es reply.answer reply.rows
+        → Lists m (after_all l es) free'
     follows (Spawn p) fine q = none q.1
     follows (Fork p c) fine q = forks p c (may-fork m w l p c fine).child q.1
     follows (Exit p) fine q = these (keys_of_process l p) q.1
@@ -710,7 +727,7 @@ legal-lists m w l command reply es free free' sound legal c h = by (refusal (tes
     follows (AsksReclaim n) fine q = noted q.0 q.3 (held-outcomes m (sparing w l None) l (from_tail n l.inactive) q.0 s (inactive-ready m l n s) q.1)
     follows (Age n) fine q = noted (map Aged (from_tail n l.active)) q.1 (held-ages l (from_tail n l.active))
     follows (Complete n) fine q = noted q.0 q.3 (held-completes l (take n l.flight) q.0 q.1)
-    follows (Swapon k) fine q = turns_on k q.1 (turn-on-events k reply.answer)
+    follows (Swapon k priority) fine q = turns_on k priority q.1 (turn-on-events k priority reply.answer)
     follows (Swapoff k) fine q = turns_off k q
     follows (Maps p) fine q = none q.2
     follows (AsksAreas p) fine q = none q.2

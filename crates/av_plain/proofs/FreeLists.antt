@@ -4,7 +4,7 @@ use Rattle.std.specs.FinMap.Entries.{is_sorted}
 use Rattle.av_base.specs.Words.{within}
 use Rattle.av_plain.specs.Choice.{Chooses, Free, ListsAll, frame_in, slot_in_note}
 use Rattle.av_plain.specs.Device.{AreLayouts}
-use Rattle.av_plain.specs.Event.{Event, Forked, Moved, Noted, TurnedOff, TurnedOn, Used, Zapped, after, after_move, after_note, after_use, after_zap}
+use Rattle.av_plain.specs.Event.{Event, Forked, EntriesMoved, Noted, TurnedOff, TurnedOn, Used, Zapped, after, after_move, after_note, after_use, after_zap}
 use Rattle.av_plain.specs.Fork.{inheritance}
 use Rattle.av_plain.specs.Ledger.{Ledger, Setting, entry, is_on, key_cmp, size_of, slots_in_use}
 use Rattle.av_plain.specs.Sound.{AreThere, AreasFit, IsSound}
@@ -24,9 +24,9 @@ IsLawfulEvent m closing l (Noted note) = IsLawful m closing l note × IsHeld l n
 IsLawfulEvent m closing l (Used write k) = Unit {0}
 IsLawfulEvent m closing l (Zapped k) = Unit {0}
 IsLawfulEvent m closing l (Forked p q entries) = IsSound m l × (entries ≡ inheritance l p) × ((page : ℕ) → entry l (q, page) ≡ None)
-IsLawfulEvent m closing l (Moved p n from to) = IsSound m l
+IsLawfulEvent m closing l (EntriesMoved p n from to) = IsSound m l
     × ((page : ℕ) → within to n page ≡ true → within from n page ≡ false → entry l (p, page) ≡ None)
-IsLawfulEvent m closing l (TurnedOn k slots bad) = AreLayouts m × (is_on l k ≡ false)
+IsLawfulEvent m closing l (TurnedOn k area) = AreLayouts m × (is_on l k ≡ false)
 IsLawfulEvent m closing l (TurnedOff k) = slots_in_use m l k ≡ []
 
 -- the uses of frames
@@ -37,8 +37,8 @@ event-steady m closing l (Used write k) sorted lawful = used-steady l write k so
 event-steady m closing l (Zapped k) sorted lawful = zap-steady l k sorted
 event-steady m closing l (Forked p q entries) sorted lawful = subst (λ es. Steady l (after l (Forked p q es)) None) (sym lawful.1)
     (fork-steady m l p q lawful.0 lawful.2)
-event-steady m closing l (Moved p n from to) sorted lawful = move-steady m l p n from to lawful.0 lawful.1
-event-steady m closing l (TurnedOn k slots bad) sorted lawful = fewer-steady l (after l (TurnedOn k slots bad)) (λ g gone. gone)
+event-steady m closing l (EntriesMoved p n from to) sorted lawful = move-steady m l p n from to lawful.0 lawful.1
+event-steady m closing l (TurnedOn k area) sorted lawful = fewer-steady l (after l (TurnedOn k area)) (λ g gone. gone)
 event-steady m closing l (TurnedOff k) sorted lawful = fewer-steady l (after l (TurnedOff k)) (λ g gone. gone)
 
 -- the slots of areas
@@ -53,10 +53,10 @@ event-tracks m closing l (Zapped k) free free' sorted lawful c h =
 event-tracks m closing l (Forked p q entries) free free' sorted lawful c h =
     subst (λ es. Chooses m closing l (Forked p q es) free free' → TracksSlots m (after l (Forked p q es)) free'.slots) (sym lawful.1)
     (λ c. brings-tracks m closing l (child_ledger p q l) None free.slots free'.slots c.slots (fork-brings m l p q lawful.0 lawful.2) h) c
-event-tracks m closing l (Moved p n from to) free free' sorted lawful c h =
+event-tracks m closing l (EntriesMoved p n from to) free free' sorted lawful c h =
     brings-tracks m closing l (after_move p n from to l) None free.slots free'.slots c.slots (move-brings m l p n from to lawful.0 lawful.1) h
-event-tracks m closing l (TurnedOn k slots bad) free free' sorted lawful c h =
-    turned-on-tracks m closing l k slots bad free.slots free'.slots lawful.0 lawful.1 c.slots h
+event-tracks m closing l (TurnedOn k area) free free' sorted lawful c h =
+    turned-on-tracks m closing l k area free.slots free'.slots lawful.0 lawful.1 c.slots h
 event-tracks m closing l (TurnedOff k) free free' sorted lawful c h = turned-off-tracks m closing l k free.slots free'.slots lawful c.slots h
 
 -- both
@@ -73,7 +73,7 @@ lists-stay m closing l e free free' sorted lawful there fits c h = record {
 
 -- an area that is turned on has pages
 abbrev pub HasPages : Setting → Event → Type 0
-HasPages m (TurnedOn k slots bad) = 0 < size_of m k
+HasPages m (TurnedOn k area) = 0 < size_of m k
 HasPages m e = Unit {0}
 
 -- slots in use are there after each event, and no area has more of them than slots
@@ -90,6 +90,6 @@ areas-stay m closing l e sorted lawful pages there fits = by e lawful pages
     by (Zapped k) lawful pages = same (after_zap k l) (no_new-taken m k l sorted)
     by (Forked p q entries) lawful pages = subst (λ es. AreThere m (after l (Forked p q es)) × AreasFit m (after l (Forked p q es))) (sym lawful.1)
         (same (child_ledger p q l) (forked-no_new m l p q lawful.0 lawful.2))
-    by (Moved p n from to) lawful pages = same (after_move p n from to l) (moved-no_new m l p n from to lawful.0 lawful.1)
-    by (TurnedOn k slots bad) lawful pages = (there-on m l k slots bad there fits lawful.1, fit-on m l k slots bad there fits lawful.1 pages)
+    by (EntriesMoved p n from to) lawful pages = same (after_move p n from to l) (moved-no_new m l p n from to lawful.0 lawful.1)
+    by (TurnedOn k area) lawful pages = (there-on m l k area there fits lawful.1, fit-on m l k area there fits lawful.1 pages)
     by (TurnedOff k) lawful pages = (there-off m l k there fits lawful, fit-off m l k there fits lawful)

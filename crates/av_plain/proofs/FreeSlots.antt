@@ -9,8 +9,8 @@ use Rattle.std.specs.Prelude.{IsSomeAnd, MatchOption}
 use Rattle.std.specs.FinMap.Entries.{find, is_sorted}
 use Rattle.av_base.specs.Words.{with_at, within}
 use Rattle.av_base.specs.declared.slot.Slot.{Slot}
-use Rattle.av_clusters.specs.declared.Page.{Page}
-use Rattle.av_clusters.specs.declared.Page.TheVariants.{Free as FreePage, Taken, Unusable}
+use Rattle.av_clusters.specs.declared.clusters.Page.{Page}
+use Rattle.av_clusters.specs.declared.clusters.Page.TheVariants.{Free as FreePage, Taken, Unusable}
 use Rattle.av_clusters.specs.Clusters.{Slots, is_free as is_free_page, is_taken, give_slot, page_at, take_slot}
 use Rattle.av_clusters.proofs.Pages.{free_below}
 use Rattle.av_clusters.proofs.Whole.{one_fewer}
@@ -577,33 +577,31 @@ alike : (k : ℕ) → eq_by_cmp nat_cmp k k ≡ true
 alike k = grind (arith, nat_tests)
 
 -- an area is turned on
-pub turned-on-tracks : (m : Setting) (closing : Option ℕ) (l : Ledger) (k slots bad : ℕ) (old new : AreaSlots) → AreLayouts m → is_on l k ≡ false
-    → ChoosesSlot m closing l (TurnedOn k slots bad) old new → TracksSlots m l old → TracksSlots m (after l (TurnedOn k slots bad)) new
-turned-on-tracks m closing l k slots bad old new layouts off c tracks =
-    let is = fresh-is m k slots bad c.2.0 (layouts k) c.2.1 in
+pub turned-on-tracks : (m : Setting) (closing : Option ℕ) (l : Ledger) (k : ℕ) (area : SwapArea) (old new : AreaSlots) → AreLayouts m
+    → is_on l k ≡ false → ChoosesSlot m closing l (TurnedOn k area) old new → TracksSlots m l old → TracksSlots m (after l (TurnedOn k area)) new
+turned-on-tracks m closing l k area old new layouts off c tracks =
+    let is = fresh-is m k area c.2.0 (layouts k) c.2.1 in
     let unused = λ (page : ℕ). off-unused m l tracks.there k page off in
-    switch-tracks m l (after l (TurnedOn k slots bad)) k c.2.0 old new
-    (λ j. ap (λ (n : AreaSlots). n j) c.4 ∙ ap (fold give_slot (c.1 j)) (none-back m l (after l (TurnedOn k slots bad)) j (λ t. refl))
+    switch-tracks m l (after l (TurnedOn k area)) k c.2.0 old new
+    (λ j. ap (λ (n : AreaSlots). n j) c.4 ∙ ap (fold give_slot (c.1 j)) (none-back m l (after l (TurnedOn k area)) j (λ t. refl))
     ∙ ap (λ (n : AreaSlots). n j) (c.3 ∙ c.2.2))
-    (λ t. refl) (λ j other. found-on l k slots bad j ∙ ap (λ b. cond b (Some (record { slots = slots; bad = bad })) (find nat_cmp j l.on))
-    (apart j k other))
+    (λ t. refl) (λ j other. found-on l k area j ∙ ap (λ b. cond b (Some area) (find nat_cmp j l.on)) (apart j k other))
     unused (none-left (λ page. is_used l (record { area = k; page = page })) (range_with_len 1 (size_of m k - 1)) unused) is.untaken
     (λ page h. there page (is.free page h))
-    (is.count ∙ ap slots_on (sym (found-on l k slots bad k ∙ ap (λ b. cond b (Some (record { slots = slots; bad = bad })) (find nat_cmp k l.on))
-    (alike k))))
+    (is.count ∙ ap slots_on (sym (found-on l k area k ∙ ap (λ b. cond b (Some area) (find nat_cmp k l.on)) (alike k))))
     (λ h. absurd (false≢true (sym h ∙ on_now)))
     tracks
   where
-    on_now : is_on (after l (TurnedOn k slots bad)) k ≡ true
-    on_now = ap is_some (found-on l k slots bad k) ∙ by (eq_by_cmp nat_cmp k k) (alike k)
+    on_now : is_on (after l (TurnedOn k area)) k ≡ true
+    on_now = ap is_some (found-on l k area k) ∙ by (eq_by_cmp nat_cmp k k) (alike k)
       where
-        by : (b : Bool) → b ≡ true → is_some (cond b (Some (record { slots = slots; bad = bad })) (find nat_cmp k l.on)) ≡ true
+        by : (b : Bool) → b ≡ true → is_some (cond b (Some area) (find nat_cmp k l.on)) ≡ true
         by true e = refl
         by false e = cc
 
     there : (page : ℕ) → (nat_lt 0 page && nat_lt page (size_of m k) && is_usable m (record { area = k; page = page })) ≡ true
-        → is_there m (after l (TurnedOn k slots bad)) (record { area = k; page = page }) ≡ true
-    there page h = by (is_on (after l (TurnedOn k slots bad)) k) (nat_lt 0 page) (nat_lt page (size_of m k))
+        → is_there m (after l (TurnedOn k area)) (record { area = k; page = page }) ≡ true
+    there page h = by (is_on (after l (TurnedOn k area)) k) (nat_lt 0 page) (nat_lt page (size_of m k))
         (is_usable m (record { area = k; page = page })) on_now h
       where
         by : (a b c d : Bool) → a ≡ true → (b && c && d) ≡ true → (a && b && c && d) ≡ true

@@ -21,12 +21,12 @@ use Rattle.av_trace.specs.declared.note.Note.{Note}
 use Rattle.av_trace.specs.declared.note.Note.TheVariants.{Aged, Dropped}
 use Rattle.av_plain.specs.Access.{Accesses, End, page_events, pages_of_access}
 use Rattle.av_plain.specs.Choice.{ChoosesAll, Free, ListsAll, ListsSlots}
-use Rattle.av_plain.specs.Event.{Event, Forked, Moved, TurnedOff, TurnedOn, Used, Zapped, after, after_all, after_move, after_notes, after_use, after_zap, note_events, when}
+use Rattle.av_plain.specs.Event.{Event, Forked, EntriesMoved, TurnedOff, TurnedOn, Used, Zapped, after, after_all, after_move, after_notes, after_use, after_zap, note_events, when}
 use Rattle.av_plain.specs.Fault.{Stop, Touches}
 use Rattle.av_plain.specs.Fork.{inheritance}
-use Rattle.av_plain.specs.Ledger.{Key, Ledger, Setting, entry, is_on, is_orphan, size_of, slots_in_use}
+use Rattle.av_plain.specs.Ledger.{Key, Ledger, Setting, SwapArea, entry, is_on, is_orphan, size_of, slots_in_use}
 use Rattle.av_plain.specs.Refusal.{Refuses, no_device_at, refusal, tests}
-use Rattle.av_plain.specs.Sound.{AllSound, IsSound, slots}
+use Rattle.av_plain.specs.Sound.{AllSound, IsSound}
 use Rattle.av_plain.specs.Step.{Follows, IsLegal, closing_swap_area}
 use Rattle.av_plain.specs.Transcript.{IsStep, State}
 use Rattle.av_plain.specs.World.{World, lives}
@@ -138,7 +138,7 @@ remap-tracks m l p from n to k free free' s c h = by (to == from) c
     tail_zaps = range_zaps target p (from + k) (n - k)
 
     move : List Event
-    move = Moved p (min n k) from to ∷ []
+    move = EntriesMoved p (min n k) from to ∷ []
 
     by : (b : Bool) → ChoosesAll m None l (cond b (range_zaps l p (from + k) (n - k)) ((target_zaps ++ tail_zaps) ++ move)) free free'
         → TracksSlots m (after_all l (cond b (range_zaps l p (from + k) (n - k)) ((target_zaps ++ tail_zaps) ++ move))) free'.slots
@@ -153,7 +153,8 @@ remap-tracks m l p from n to k free free' s c h = by (to == from) c
         subst (λ x. TracksSlots m x free'.slots) (sym (after_all-append l (target_zaps ++ tail_zaps) move ∙ ap (after_move p (min n k) from to)
         (after_all-append l target_zaps tail_zaps)))
         (subst (λ (f : Free). TracksSlots m (after_move p (min n k) from to tail) f.slots) (sym last.2)
-        (event-tracks m None tail (Moved p (min n k) from to) two.0 last.0 kept.in_order (kept, free_target m l p from n to k s) last.1 second))
+        (event-tracks m None tail (EntriesMoved p (min n k) from to) two.0 last.0 kept.in_order (kept, free_target m l p from n to k s)
+        last.1 second))
 
 -- ---- a step
 
@@ -198,12 +199,12 @@ legal-tracks m w l command reply es free free' sound layouts legal chosen h = by
     switched : (e : Event) → IsLawfulEvent m None l e → ChoosesAll m None l (e ∷ []) free free' → TracksSlots m (after l e) free'.slots
     switched e lawful c = subst (λ (f : Free). TracksSlots m (after l e) f.slots) (sym c.2) (event-tracks m None l e free c.0 s.in_order lawful c.1 h)
 
-    turns_on : (k : ℕ) → is_on l k ≡ false → TurnsOn m k es reply.answer reply.rows
-        → (turn_on_events k reply.answer ≡ []) ⊎ ((slots : ℕ) × (bad : ℕ) × (turn_on_events k reply.answer ≡ TurnedOn k slots bad ∷ []))
+    turns_on : (k : ℕ) (priority : Option ℕ) → is_on l k ≡ false → TurnsOn m k priority es reply.answer reply.rows
+        → (turn_on_events k priority reply.answer ≡ []) ⊎ ((area : SwapArea) × (turn_on_events k priority reply.answer ≡ TurnedOn k area ∷ []))
         → ChoosesAll m None l es free free' → TracksSlots m (after_all l es) free'.slots
-    turns_on k off q (inl i) c = none None (q.1 ∙ i) c
-    turns_on k off q (inr (slots, bad, i)) c = subst (λ es. TracksSlots m (after_all l es) free'.slots) (sym (q.1 ∙ i))
-        (switched (TurnedOn k slots bad) (layouts, off) (subst (λ es. ChoosesAll m None l es free free') (q.1 ∙ i) c))
+    turns_on k priority off q (inl i) c = none None (q.1 ∙ i) c
+    turns_on k priority off q (inr (area, i)) c = subst (λ es. TracksSlots m (after_all l es) free'.slots) (sym (q.1 ∙ i))
+        (switched (TurnedOn k area) (layouts, off) (subst (λ es. ChoosesAll m None l es free free') (q.1 ∙ i) c))
 
     closes : (l' : Ledger) (k : ℕ) (end : Close) (mid : Free) → AllSound m w l' → (end ≡ Closed → slots_in_use m l' k ≡ [])
         → ChoosesAll m (Some k) l' (turn_off_events k end) mid free' → TracksSlots m l' mid.slots
@@ -252,7 +253,8 @@ legal-tracks m w l command reply es free free' sound layouts legal chosen h = by
     follows (Reclaim n) fine q c = noted None q.0 q.3 (lawful-outcomes m (sparing w l None) l (from_tail n l.inactive) q.0 q.1) c
     follows (Age n) fine q c = noted None (map Aged (from_tail n l.active)) q.1 (lawful-ages m l (from_tail n l.active)) c
     follows (Complete n) fine q c = noted None q.0 q.3 (lawful-completes m (sparing w l None) l (take n l.flight) q.0 q.1) c
-    follows (Swapon k) fine q c = turns_on k (second (no_device_at m k) (is_on l k) (size_of m k == 0) fine) q (turn-on-events k reply.answer) c
+    follows (Swapon k priority) fine q c =
+        turns_on k priority (second (no_device_at m k) (is_on l k) (size_of m k == 0) fine) q (turn-on-events k priority reply.answer) c
     follows (Swapoff k) fine q c = turns_off k q c
     follows (Maps p) fine q c = none None q.2 c
     follows (AsksAreas p) fine q c = none None q.2 c

@@ -9,12 +9,12 @@ use Rattle.av_base.specs.Words.{is_in}
 use Rattle.av_clusters.proofs.Fresh.{length-pages_of}
 use Rattle.av_clusters.proofs.Pages.{free_below, taken_below}
 use Rattle.av_clusters.specs.Clusters.{Slots, at_first, fresh, is_free, is_taken, page_at, pages_of}
-use Rattle.av_clusters.specs.declared.Page.TheVariants.{Free, Unusable}
+use Rattle.av_clusters.specs.declared.clusters.Page.TheVariants.{Free, Unusable}
 use Rattle.av_swapdev.specs.Device.{most_pages}
 use Rattle.av_swapdev.specs.Header.{Layout, slots_of}
 use Rattle.av_plain.specs.Choice.{AreFresh}
 use Rattle.av_plain.specs.Device.{IsLayout}
-use Rattle.av_plain.specs.Ledger.{HasNumbers, Setting, is_header_slot, is_usable, may_be_slot, size_of}
+use Rattle.av_plain.specs.Ledger.{HasNumbers, Setting, SwapArea, is_header_slot, is_usable, may_be_slot, size_of}
 
 -- ---- the pages of an area at first
 
@@ -92,10 +92,10 @@ pub record IsFresh (m : Setting) (k slots : ℕ) (made : Slots) : Type 0 where
   pub count : count_by is_free made.pages ≡ slots
 
 -- the headers of a setting are layouts of its areas
-pub fresh-is : (m : Setting) (k slots bad : ℕ) (made : Slots)
+pub fresh-is : (m : Setting) (k : ℕ) (area : SwapArea) (made : Slots)
     → IfSome m.headers (λ headers. IfSome (headers k) (IsLayout (size_of m k)))
-    → AreFresh m k (record { slots = slots; bad = bad }) made → IsFresh m k slots made
-fresh-is m k slots bad made layouts h = by m.headers refl layouts h
+    → AreFresh m k area made → IsFresh m k area.slots made
+fresh-is m k area made layouts h = by m.headers refl layouts h
   where
     inside : (n : ℕ) (bads : List ℕ) (page : ℕ) → n ≤ min (size_of m k) most_pages → IsFreePage n bads page → (u : Bool) → u ≡ true
         → (nat_lt 0 page && nat_lt page (size_of m k) && u) ≡ true
@@ -113,8 +113,8 @@ fresh-is m k slots bad made layouts h = by m.headers refl layouts h
 
     made-of : (n : ℕ) (bads : List ℕ) → made ≡ fresh n bads → n ≤ min (size_of m k) most_pages
         → ((page : ℕ) → IsFreePage n bads page → is_usable m (record { area = k; page = page }) ≡ true)
-        → count_by is_free (pages_of n bads) ≡ slots → IsFresh m k slots made
-    made-of n bads is fits usable count = subst (IsFresh m k slots) (sym is) (record {
+        → count_by is_free (pages_of n bads) ≡ area.slots → IsFresh m k area.slots made
+    made-of n bads is fits usable count = subst (IsFresh m k area.slots) (sym is) (record {
       untaken = none-taken n bads;
       free = λ page h. let f = free-page n bads page h in inside n bads page fits f (is_usable m (record { area = k; page = page })) (usable page f);
       count = count;
@@ -132,7 +132,7 @@ fresh-is m k slots bad made layouts h = by m.headers refl layouts h
         both false b x y = cc
 
     layout : (headers : ℕ → Option Layout) → m.headers ≡ Some headers → (o : Option Layout) → headers k ≡ o → IfSome o (IsLayout (size_of m k))
-        → IsSomeAnd o (λ (h : Layout). HasNumbers (record { slots = slots; bad = bad }) h × (made ≡ fresh h.pages h.bad)) → IsFresh m k slots made
+        → IsSomeAnd o (λ (h : Layout). HasNumbers area h × (made ≡ fresh h.pages h.bad)) → IsFresh m k area.slots made
     layout headers told None e is h = absurd h
     layout headers told (Some h) e is q = made-of h.pages h.bad q.1 is.fits
         (λ page f. ap (may_be_slot (record { area = k; page = page })) told ∙ ap (is_header_slot (record { area = k; page = page })) e
@@ -140,10 +140,10 @@ fresh-is m k slots bad made layouts h = by m.headers refl layouts h
         (count-free h.pages h.bad ∙ sym is.slots ∙ sym q.0.slots)
 
     by : (o : Option (ℕ → Option Layout)) → m.headers ≡ o → IfSome o (λ headers. IfSome (headers k) (IsLayout (size_of m k)))
-        → MatchOption o ((pages : ℕ) × (bads : List ℕ) × (pages ≤ min (size_of m k) most_pages) × (1 + slots + bad ≡ pages)
-        × (made ≡ fresh pages bads) × (count_by is_free made.pages ≡ slots))
-        (λ headers. IsSomeAnd (headers k) (λ (h : Layout). HasNumbers (record { slots = slots; bad = bad }) h × (made ≡ fresh h.pages h.bad)))
-        → IsFresh m k slots made
+        → MatchOption o ((pages : ℕ) × (bads : List ℕ) × (pages ≤ min (size_of m k) most_pages) × (1 + area.slots + area.bad ≡ pages)
+        × (made ≡ fresh pages bads) × (count_by is_free made.pages ≡ area.slots))
+        (λ headers. IsSomeAnd (headers k) (λ (h : Layout). HasNumbers area h × (made ≡ fresh h.pages h.bad)))
+        → IsFresh m k area.slots made
     by None told is h = made-of h.0 h.1 h.4 h.2 (λ page f. ap (may_be_slot (record { area = k; page = page })) told)
         (ap (λ (t : Slots). count_by is_free t.pages) (sym h.4) ∙ h.5)
     by (Some headers) told is h = layout headers told (headers k) refl is h

@@ -38,7 +38,8 @@ pub is_sorted-set : (k : Key) (e : Entry) (l : Ledger) → T (is_sorted key_cmp 
 is_sorted-set k e l h = is_sorted-put key_cmp keys_total k e l.entries h
 
 -- what a key has is counted
-pub how_many-found : (p : Entry → Bool) (k : Key) (es : List (Key × Entry)) (e : Entry) → find key_cmp k es ≡ Some e → p e ≡ true → 0 < how_many (λ x. p x.1) es
+pub how_many-found : (p : Entry → Bool) (k : Key) (es : List (Key × Entry)) (e : Entry) → find key_cmp k es ≡ Some e → p e ≡ true
+    → 0 < how_many (λ x. p x.1) es
 how_many-found p k [] e h t = cc
 how_many-found p k (x ∷ es) e h t =
     elim (same_key k x.0) as (λ b. cond b (Some x.1) (find key_cmp k es) ≡ Some e → 0 < cond (p x.1) 1 0 + how_many (λ y. p y.1) es) [
@@ -69,7 +70,8 @@ how_many-append p (x ∷ xs) ys = let rest = how_many-append p xs ys in rw rest 
 
 pub without-none : (f : ℕ) (fs : List ℕ) → how_many (λ g. f == g) fs ≡ 0 → without f fs ≡ fs
 without-none f [] h = refl
-without-none f (g ∷ fs) h = elim (f == g) as (λ b. cond b 1 0 + how_many (λ g. f == g) fs ≡ 0 → cond (not b) (g ∷ without f fs) (without f fs) ≡ g ∷ fs) [
-  | true ↦ λ e. absurd (omega (arith, e))
-  | false ↦ λ e. ap (λ gs. g ∷ gs) (without-none f fs (omega (arith, e)))
-] h
+without-none f (g ∷ fs) h =
+    elim (f == g) as (λ b. cond b 1 0 + how_many (λ g. f == g) fs ≡ 0 → cond (not b) (g ∷ without f fs) (without f fs) ≡ g ∷ fs) [
+      | true ↦ λ e. absurd (omega (arith, e))
+      | false ↦ λ e. ap (λ gs. g ∷ gs) (without-none f fs (omega (arith, e)))
+    ] h

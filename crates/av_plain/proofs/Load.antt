@@ -3,7 +3,7 @@ use Rattle.std.proofs.Common.{◌≡◌, ℕ, ◌+◌, ◌-◌, min, Bool, true,
 use Rattle.std.specs.List.{list_all}
 use Rattle.av_base.specs.declared.slot.Slot.{Slot}
 use Rattle.av_trace.specs.declared.note.Note.TheVariants.{Aged, Copied, Dropped, Failed, Kept, Loaded, Mapped, New, Put, Started, Unmapped, Written, Zeroed}
-use Rattle.av_plain.specs.Event.{Event, Forked, Moved, Noted, TurnedOff, TurnedOn, Used, Zapped, after, after_all, note_events, when}
+use Rattle.av_plain.specs.Event.{Event, Forked, EntriesMoved, Noted, TurnedOff, TurnedOn, Used, Zapped, after, after_all, note_events, when}
 use Rattle.av_plain.specs.Ledger.{Key, Ledger, Setting, entry, is_orphan}
 use Rattle.av_plain.specs.Load.{after_load, after_loads, with_loads}
 use Rattle.av_plain.specs.Mremap.{events_to, range_zaps, remap_events}
@@ -33,8 +33,8 @@ load-nothing l (Noted (Aged f)) w h = refl
 load-nothing l (Zapped k) w h = refl
 load-nothing l (Used b k) w h = refl
 load-nothing l (Forked a b c) w h = refl
-load-nothing l (Moved a b c d) w h = refl
-load-nothing l (TurnedOn a b c) w h = refl
+load-nothing l (EntriesMoved a b c d) w h = refl
+load-nothing l (TurnedOn a b) w h = refl
 load-nothing l (TurnedOff a) w h = refl
 
 both : (a b : Bool) → (a && b) ≡ true → (a ≡ true) × (b ≡ true)
@@ -85,9 +85,10 @@ remap-load_nothing l p from n to k = by (to == from)
     target = then_target l p from n to k
 
     by : (b : Bool) → list_all loads_nothing
-        (cond b (range_zaps l p (from + k) (n - k)) ((range_zaps l p to k ++ range_zaps target p (from + k) (n - k)) ++ Moved p (min n k) from to ∷ [])) ≡ true
+        (cond b (range_zaps l p (from + k) (n - k))
+        ((range_zaps l p to k ++ range_zaps target p (from + k) (n - k)) ++ EntriesMoved p (min n k) from to ∷ [])) ≡ true
     by true = zaps-load_nothing l (keys_in l p (from + k) (n - k))
-    by false = none-append (range_zaps l p to k ++ range_zaps target p (from + k) (n - k)) (Moved p (min n k) from to ∷ [])
+    by false = none-append (range_zaps l p to k ++ range_zaps target p (from + k) (n - k)) (EntriesMoved p (min n k) from to ∷ [])
         (none-append (range_zaps l p to k) (range_zaps target p (from + k) (n - k))
         (zaps-load_nothing l (keys_in l p to k)) (zaps-load_nothing target (keys_in target p (from + k) (n - k)))) refl
 

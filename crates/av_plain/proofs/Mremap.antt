@@ -10,7 +10,7 @@ use Rattle.std.specs.Ordering.{is_eq, is_lt}
 use Rattle.std.specs.declared.cmp.Ordering.TheVariants.{Less}
 use Rattle.std.specs.FinMap.Entries.{find, where_key, is_sorted, below_all, find-where_key, is_sorted-where_key}
 use Rattle.av_base.specs.Words.{within}
-use Rattle.av_plain.specs.Event.{Moved, after_all, after_move}
+use Rattle.av_plain.specs.Event.{EntriesMoved, after_all, after_move}
 use Rattle.av_plain.specs.Ledger.{Entry, Key, Ledger, entry, key_cmp}
 use Rattle.av_plain.specs.Mremap.{range_zaps, remap_events}
 use Rattle.av_plain.specs.Zap.{keys_in, zap_of, zaps_of}
@@ -54,7 +54,8 @@ module _ (p n from to : ℕ) where
     where
       by : (b : Bool) → in_range p from n e.0 ≡ b → T (below_all key_cmp (p, x.1 - from + to) (shifted es))
           → T (below_all key_cmp (p, x.1 - from + to) (map shift_entry (cond b (e ∷ range_of p from n es) (range_of p from n es))))
-      by true is rest = both _ _ (less_is (p, x.1 - from + to) (p, e.0.1 - from + to) (lower x.0 e.0.0 x.1 e.0.1 at is (is_less _ (both_first _ _ h)))) rest
+      by true is rest = both _ _
+          (less_is (p, x.1 - from + to) (p, e.0.1 - from + to) (lower x.0 e.0.0 x.1 e.0.1 at is (is_less _ (both_first _ _ h)))) rest
       by false is rest = rest
 
   pub is_sorted-shifted : (es : List (Key × Entry)) → T (is_sorted key_cmp es) → T (is_sorted key_cmp (shifted es))
@@ -99,10 +100,12 @@ module _ (p n from to : ℕ) where
       by true is rest = (λ i. cond (keys k.0 k.1 e.0.0 e.0.1 is i) (Some e.1) (rest i))
           ∙ joined (in_range p to n k) (same_key (p, k.1 - to + from) e.0) (find key_cmp (p, k.1 - to + from) es)
       by false is rest = rest
-          ∙ other (in_range p to n k) (same_key (p, k.1 - to + from) e.0) (find key_cmp (p, k.1 - to + from) es) (λ a b. apart k.0 k.1 e.0.0 e.0.1 is a b)
+          ∙ other (in_range p to n k) (same_key (p, k.1 - to + from) e.0) (find key_cmp (p, k.1 - to + from) es)
+          (λ a b. apart k.0 k.1 e.0.0 e.0.1 is a b)
 
   -- none is lost, and none is there twice
-  pub count-shifted : (t : Entry → Bool) (es : List (Key × Entry)) → entries_with t (others_of p from n es) + entries_with t (shifted es) ≡ entries_with t es
+  pub count-shifted : (t : Entry → Bool) (es : List (Key × Entry))
+      → entries_with t (others_of p from n es) + entries_with t (shifted es) ≡ entries_with t es
   count-shifted t [] = refl
   count-shifted t (e ∷ es) = by (in_range p from n e.0) (count-shifted t es)
     where
@@ -151,7 +154,8 @@ module _ (l : Ledger) (p n from to : ℕ) (sorted : T (is_sorted key_cmp l.entri
 
     -- so nothing is put over another entry
     pub fresh : (k : Key) (e : Entry) → find key_cmp k (shifted p n from to l.entries) ≡ Some e → find key_cmp k (others_of p from n l.entries) ≡ None
-    fresh k e at = left_none k ∙ no_entry k (k.0 == p) (within to n k.1) (within from n k.1) refl refl refl e (sym (find-shifted p n from to k l.entries) ∙ at)
+    fresh k e at = left_none k
+        ∙ no_entry k (k.0 == p) (within to n k.1) (within from n k.1) refl refl refl e (sym (find-shifted p n from to k l.entries) ∙ at)
 
     or_none : (o : Option Entry) → option_or o None ≡ o
     or_none None = refl
@@ -198,12 +202,12 @@ module _ (l : Ledger) (p from n to k : ℕ) where
 
   pub after-in_place : (to == from) ≡ true → after_all l (remap_events l p from n to k) ≡ after_all l (range_zaps l p (from + k) (n - k))
   after-in_place here = ap (λ b. after_all l (cond b (range_zaps l p (from + k) (n - k))
-      ((range_zaps l p to k ++ range_zaps then_target p (from + k) (n - k)) ++ Moved p (min n k) from to ∷ []))) here
+      ((range_zaps l p to k ++ range_zaps then_target p (from + k) (n - k)) ++ EntriesMoved p (min n k) from to ∷ []))) here
 
   pub after-elsewhere : (to == from) ≡ false → after_all l (remap_events l p from n to k) ≡ after_move p (min n k) from to then_tail
   after-elsewhere there = ap (λ b. after_all l (cond b (range_zaps l p (from + k) (n - k))
-      ((range_zaps l p to k ++ range_zaps then_target p (from + k) (n - k)) ++ Moved p (min n k) from to ∷ []))) there
-      ∙ after_all-append l (range_zaps l p to k ++ range_zaps then_target p (from + k) (n - k)) (Moved p (min n k) from to ∷ [])
+      ((range_zaps l p to k ++ range_zaps then_target p (from + k) (n - k)) ++ EntriesMoved p (min n k) from to ∷ []))) there
+      ∙ after_all-append l (range_zaps l p to k ++ range_zaps then_target p (from + k) (n - k)) (EntriesMoved p (min n k) from to ∷ [])
       ∙ ap (after_move p (min n k) from to) (after_all-append l (range_zaps l p to k) (range_zaps then_target p (from + k) (n - k)))
 
   -- neither range has entries then, and all others stay
@@ -254,7 +258,8 @@ module _ (l : Ledger) (p from n to k : ℕ) where
       whole h i = grind (arith, nat_tests, h, i)
 
       by : (was : ℕ) → in_range p (from + k) (n - k) (r, was) ≡ false → in_range p to k (r, was) ≡ false
-          → ((r == p) ≡ true) × (within to (min n k) page ≡ true) × (was ≡ page - to + from) ⊎ (in_range p from (min n k) (r, page) ≡ false) × (was ≡ page)
+          → ((r == p) ≡ true) × (within to (min n k) page ≡ true) × (was ≡ page - to + from)
+          ⊎ (in_range p from (min n k) (r, page) ≡ false) × (was ≡ page)
           → ((r == p) ≡ true) × (within to (min n k) page ≡ true) × (was ≡ page - to + from)
           ⊎ (in_range p from n (r, page) ≡ false) × (in_range p to k (r, page) ≡ false) × (was ≡ page)
       by was tail target (inl m) = inl m

@@ -1,8 +1,9 @@
--- Where no swap area that is on has a page no slot is in use: a page has at most one note, and is never lost. So it is without a device, and where no area
+-- Where no swap area that is on has a page no slot is in use: a page has at most one note, and is
+-- never lost. So it is without a device, and where no area
 -- is on.
 use Rattle.std.specs.List.{AllByRecursion, range_with_len}
 use Rattle.std.specs.Prelude.{MatchBool, MatchOption, IsTrue, unwrap_or}
-use Rattle.std.proofs.Common.{◌≡◌, ◌⊎◌, inl, inr, ℕ, zero, suc, ◌+◌, ◌-◌, ◌<◌, min, Bool, true, false, cond, not, ◌&&◌, List, [], ◌∷◌, ◌++◌, map, take, Option, Some, None, is_none, is_some, refl, sym, ap, subst, ◌∙◌, arith, ◌==◌, nat_lt, append-nil}
+use Rattle.std.proofs.Common.{◌≡◌, ◌⊎◌, inl, inr, ℕ, zero, suc, ◌+◌, ◌-◌, ◌<◌, min, Bool, true, false, cond, not, ◌&&◌, List, [], ◌∷◌, ◌++◌, take, Option, Some, None, is_none, is_some, refl, sym, ap, subst, ◌∙◌, arith, ◌==◌, nat_lt, append-nil}
 use Rattle.std.proofs.lemmas.Bool.Decides.{nat_tests}
 use Rattle.av_base.specs.Page.{address_of}
 use Rattle.av_base.specs.Words.{how_many}
@@ -12,15 +13,15 @@ use Rattle.av_trace.specs.declared.reply.OutOf.{OutOf}
 use Rattle.av_trace.specs.declared.note.Note.TheVariants.{Aged, Copied, Dropped, Failed, Kept, Loaded, Mapped, New, Put, Started, Unmapped, Written, Zeroed}
 use Rattle.av_plain.specs.Device.{HasNoDevice}
 use Rattle.av_plain.specs.World.{Page, World, pages}
-use Rattle.av_plain.specs.Ledger.{has_free_slot, is_open, slot_count, Cached, Entry, InFrame, InSlot, Key, Ledger, Setting, Zero, entry, frame_at, has_free, is_on, is_orphan, is_usable, map_count, may_give, names_slot, same_slot, size_of, slot_entries, slot_of, SwapArea}
-use Rattle.av_plain.specs.Event.{Event, Moved, Used, after_all, after_note, after_notes, after_use, after_use_of, change_entries, if_some, note_events, notes_of, off_cache, off_flight, set_entry, to_inactive_tail, when, with_stale}
-use Rattle.av_plain.specs.Pass.{Completes, IsPass, IsSlotFor, Seeks, Spared, Turns, frames_in_turn, is_dirty, is_stuck, stays_cached, turn_notes}
+use Rattle.av_plain.specs.Ledger.{has_free_slot, is_open, slot_count, Cached, Entry, InFrame, InSlot, Key, Ledger, Setting, Zero, entry, frame_at, has_free, is_on, is_orphan, is_usable, may_give, names_slot, same_slot, size_of, slot_entries, slot_of, SwapArea}
+use Rattle.av_plain.specs.Event.{Event, EntriesMoved, Used, after_all, after_note, after_notes, after_use, after_use_of, change_entries, if_some, note_events, notes_of, off_cache, off_flight, set_entry, to_inactive_tail, when, with_stale}
+use Rattle.av_plain.specs.Pass.{Completes, IsPass, IsSlotFor, Seeks, Spared, Turns, frames_in_turn, is_stuck, stays_cached, turn_notes}
 use Rattle.av_plain.specs.Fault.{drop_of_slot, ComesIn, CopyOnWrite, Denied, IsMade, Lost, MapCached, Need, NewPage, Ready, RunsOut, Serves, Sparing, Starved, Stop, SwapIn, Touches, ZeroPage, drop_at, drop_of_entry, is_shared, need, permits, pinned_by, sparing, was_slot}
 use Rattle.av_plain.specs.Access.{Accesses, End, Stopped, Whole, page_events}
 use Rattle.av_plain.specs.Sound.{AreasFit, count, flights, is_there, slots}
 use Rattle.av_plain.proofs.Event.{slot_entries-unseen}
 use Rattle.av_plain.proofs.Faultless.{Faultless, IsFaultless, faultless-causes, is-faultless, no-fails, unused-follows}
-use Rattle.av_plain.proofs.Ledger.{how_many-append, how_many-found}
+use Rattle.av_plain.proofs.Ledger.{how_many-found}
 use Rattle.av_plain.proofs.Ledger.NoSwap.{no_slot}
 use Rattle.av_plain.proofs.Access.{after_all-append, note_events-all, notes_of-append, notes_of-note_events}
 use Rattle.av_plain.proofs.Sound.Counts.{slot-itself}
@@ -28,36 +29,27 @@ use Rattle.av_plain.proofs.Sound.There.{InAreas, accesses-in, settle-on}
 use Rattle.std.specs.FinMap.Entries.{find, is_sorted}
 use Rattle.std.specs.Ordering.{eq_by_cmp, nat_cmp}
 use Rattle.std.specs.Prelude.{if◌then◌else◌, length, T}
-use Rattle.av_base.specs.Page.{page_of, pages_of}
 use Rattle.av_trace.specs.declared.command.Command.{Command}
 use Rattle.av_trace.specs.declared.command.Command.TheVariants.{Spawn, Fork, Exit, Mmap, Mremap, Munmap, Mprotect, Read, Write, Reclaim, Age, Complete, Swapon, Swapoff, Maps, Areas as AsksAreas, Rmap as AsksRmap, Entry as AsksEntry, Slot as AsksSlot, Stat}
-use Rattle.av_trace.specs.declared.place.Place.{Place}
-use Rattle.av_trace.specs.declared.place.Place.TheVariants.{Auto, At, Fixed, NoReplace}
-use Rattle.av_trace.specs.declared.reply.Errno.{Errno}
-use Rattle.av_trace.specs.declared.reply.Errno.TheVariants.{Ebusy, Einval, Enomem, Eperm}
+use Rattle.av_trace.specs.declared.reply.Errno.TheVariants.{Ebusy, Einval}
 use Rattle.av_trace.specs.declared.reply.Reply.{Reply}
 use Rattle.av_trace.specs.declared.row.Row.{Row}
 use Rattle.av_trace.specs.declared.reply.Answer.{Answer}
-use Rattle.av_trace.specs.declared.reply.Answer.TheVariants.{Done, Refused}
 use Rattle.av_plain.specs.Access.{bytes_before, pages_of_access, read_answer, stop_answer, write_answer}
 use Rattle.av_plain.specs.Ledger.{key_cmp}
 use Rattle.av_plain.specs.Event.{after_zap}
-use Rattle.av_plain.specs.Map.{zaps_for_place}
-use Rattle.av_plain.specs.Mremap.{events_to, range_zaps, remap_events}
+use Rattle.av_plain.specs.Mremap.{range_zaps, remap_events}
 use Rattle.av_plain.proofs.Mremap.{then_target}
 use Rattle.av_plain.proofs.Sound.Zap.{zaps-in}
 use Rattle.av_plain.specs.Pass.{fails, how_many_others, is_fail}
-use Rattle.av_plain.specs.Place.{IsMapAt}
-use Rattle.av_plain.specs.Reclaim.{Outcome, Outcomes, cause_of, from_tail, leave_notes}
+use Rattle.av_plain.specs.Reclaim.{Outcome, cause_of, leave_notes}
 use Rattle.av_trace.specs.declared.note.Cause.{Cause}
 use Rattle.av_trace.specs.declared.note.Cause.TheVariants.{NoSlot, Referenced, WriteStarted, Writeback}
-use Rattle.av_plain.specs.Refusal.{Refuses, Tests, is_off, is_outside, no_device_at, refusal, tests}
-use Rattle.av_plain.specs.Report.{entry_answer, walk_answer}
+use Rattle.av_plain.specs.Refusal.{Tests, is_off, is_outside, no_device_at, refusal, tests}
 use Rattle.av_plain.specs.Sound.{AllSound}
 use Rattle.av_plain.specs.Swapon.{is_swapon}
-use Rattle.av_plain.specs.Step.{Follows, IsLegal, causes, failed_frames, fault_answers}
-use Rattle.av_plain.specs.World.{pages_to_hole}
-use Rattle.av_plain.specs.Zap.{keys_in, keys_of_process, orphan_drop, slot_behind_key, zap_of, zaps_of}
+use Rattle.av_plain.specs.Step.{Follows, IsLegal, causes}
+use Rattle.av_plain.specs.Zap.{keys_in, orphan_drop, slot_behind_key, zap_of, zaps_of}
 use Rattle.av_plain.proofs.Zap.{in_order-after_zap, same_swap-after_zap, slot_entries-after_zap, zap_of-alone}
 
 -- nothing is cached or in flight, and no entry names a slot
@@ -98,7 +90,8 @@ not-there : (m : Setting) (l : Ledger) (s : Slot) → HasNoArea m l → is_there
 not-there m l s none h = by (is_on l s.area) (nat_lt 0 s.page) (nat_lt s.page (size_of m s.area)) (is_usable m s) (positive s.page (size_of m s.area))
     (none s.area) h
   where
-    by : (a b c d : Bool) → (c ≡ true → nat_lt 0 (size_of m s.area) ≡ true) → (a && nat_lt 0 (size_of m s.area)) ≡ false → (a && b && c && d) ≡ true → ⊥
+    by : (a b c d : Bool) → (c ≡ true → nat_lt 0 (size_of m s.area) ≡ true) → (a && nat_lt 0 (size_of m s.area)) ≡ false
+        → (a && b && c && d) ≡ true → ⊥
     by true true true true f e h = never (sym e ∙ f refl)
     by true true true false f e h = never h
     by true true false d f e h = never h
@@ -148,7 +141,8 @@ ungiven m closing l s none h = by (is_on l s.area) (nat_lt 0 s.page) (nat_lt s.p
     by true false c d e f g pos is h = never h
     by false b c d e f g pos is h = never h
 
-turns-nothing : (m : Setting) (sp : Spared) (l : Ledger) (fs : List ℕ) (notes : List Note) → HasNoArea m l → l.cache ≡ [] → Turns m sp l fs notes → notes ≡ []
+turns-nothing : (m : Setting) (sp : Spared) (l : Ledger) (fs : List ℕ) (notes : List Note) → HasNoArea m l → l.cache ≡ []
+    → Turns m sp l fs notes → notes ≡ []
 turns-nothing m sp l [] notes none cache h = h
 turns-nothing m sp l (f ∷ fs) notes none cache h = by (is_stuck m sp l f) (turns-nothing m sp l fs notes none cache) h
   where
@@ -245,7 +239,8 @@ made-plain : (m : Setting) (sp : Sparing) (l : Ledger) (k : Key) (n : Need) (not
 made-plain m sp l k Ready notes none q h = subst (ArePlainAt m k) (sym h) tt
 made-plain m sp l k ZeroPage notes none q h = subst (ArePlainAt m k) (sym h) ((refl, refl), tt)
 made-plain m sp l k NewPage notes none q h =
-    subst (ArePlainAt m k) (sym (h.whole ∙ ap (λ ns. ns ++ New k.0 (address_of k.1) h.frame ∷ []) (seeks-nothing m (sp l None) l h.sought none q h.seeks)))
+    subst (ArePlainAt m k)
+    (sym (h.whole ∙ ap (λ ns. ns ++ New k.0 (address_of k.1) h.frame ∷ []) (seeks-nothing m (sp l None) l h.sought none q h.seeks)))
     ((refl, refl, h.in_range), tt)
 made-plain m sp l k (CopyOnWrite g) notes none q h =
     subst (ArePlainAt m k) (sym (h.whole ∙ ap (λ ns. ns ++ Copied k.0 (address_of k.1) h.frame ∷ [])
@@ -315,7 +310,8 @@ serves-plain m sp l write k notes none q h =
     ∙ ap (λ ns. h.making ++ ns) (nothing-dropped m write (was_slot (need write l (entry l k))) now k clean) ∙ append-nil h.making in
     subst (ArePlainAt m k) (sym all) plain
 
-runs_out-nothing : (m : Setting) (sp : Sparing) (l : Ledger) (write : Bool) (k : Key) (notes : List Note) {out : OutOf} → HasNoArea m l → HasNoSlots l →
+runs_out-nothing : (m : Setting) (sp : Sparing) (l : Ledger) (write : Bool) (k : Key) (notes : List Note) {out : OutOf} → HasNoArea m l
+    → HasNoSlots l →
     RunsOut m sp l write k notes out → notes ≡ []
 runs_out-nothing m sp l write k notes none q h =
     let e = before h.before in
@@ -328,7 +324,8 @@ runs_out-nothing m sp l write k notes none q h =
     before (inr c) = nothing-comes m sp l k (need write l (entry l k)) h.coming (plain-need l write k q) c
 
 -- and its numbers are those of frames that aren't cached
-starved-uncached : (m : Setting) (sp : Sparing) (l : Ledger) (write : Bool) (k : Key) (notes : List Note) {out : OutOf} → HasNoArea m l → HasNoSlots l →
+starved-uncached : (m : Setting) (sp : Sparing) (l : Ledger) (write : Bool) (k : Key) (notes : List Note) {out : OutOf} → HasNoArea m l
+    → HasNoSlots l →
     RunsOut m sp l write k notes out → out.fault ≡ 0
 starved-uncached m sp l write k notes none q h =
     let e = coming_none h.before in
@@ -349,7 +346,8 @@ pub record PlainPage (m : Setting) (w : World) (k : Key) (notes : List Note) (st
   pub mapped : (notes ≡ []) ⊎ (is_some (pages w k.0 k.1) ≡ true)
   pub kept : IsKept stop
 
-pub touches-plain : (m : Setting) (w : World) (l : Ledger) (write : Bool) (k : Key) (notes : List Note) (stop : Option Stop) → HasNoArea m l → HasNoSlots l →
+pub touches-plain : (m : Setting) (w : World) (l : Ledger) (write : Bool) (k : Key) (notes : List Note) (stop : Option Stop) → HasNoArea m l
+    → HasNoSlots l →
     Touches m w l write k notes stop → PlainPage m w k notes stop
 touches-plain m w l write k notes stop none q = by stop
   where
@@ -418,7 +416,8 @@ on-use l write k = by write (entry l k)
     by true (Some (InFrame f seen)) = stale f (slot_of l f)
 
 on-page : (l : Ledger) (write : Bool) (k : Key) (notes : List Note) → (after_all l (page_events write k notes None)).on ≡ l.on
-on-page l write k notes = ap (λ (l : Ledger). l.on) (after_all-append l (note_events notes) (Used write k ∷ []) ∙ ap (after_use write k) (note_events-all l notes))
+on-page l write k notes =
+    ap (λ (l : Ledger). l.on) (after_all-append l (note_events notes) (Used write k ∷ []) ∙ ap (after_use write k) (note_events-all l notes))
     ∙ on-use (after_notes l notes) write k ∙ on-notes l notes
 
 on-zap : (l : Ledger) (k : Key) → (after_all l (zap_of l k)).on ≡ l.on
@@ -515,7 +514,8 @@ zaps-quiet l (k ∷ ks) q =
     ∙ ap (λ es. notes_of es ++ notes_of (zaps_of (after_all l es) ks)) alone ∙ zaps-quiet (after_zap k l) ks quiet
 
 pub no-zap-notes : (m : Setting) (l : Ledger) (ks : List Key) → HasNoArea m l → InAreas m l → notes_of (zaps_of l ks) ≡ []
-no-zap-notes m l ks none s = let q = no-slots m l none s in zaps-quiet l ks (record { cache = q.cache; entries = q.entries; in_order = s.sound.in_order })
+no-zap-notes m l ks none s = let q = no-slots m l none s in
+    zaps-quiet l ks (record { cache = q.cache; entries = q.entries; in_order = s.sound.in_order })
 
 -- nor has an mremap
 pub no-remap-notes : (m : Setting) (l : Ledger) (p from n to k : ℕ) → HasNoArea m l → InAreas m l → notes_of (remap_events l p from n to k) ≡ []
@@ -532,9 +532,9 @@ no-remap-notes m l p from n to k none s = by (to == from)
         (area-stays m l target (on-zaps l (keys_in l p to k)) none) (zaps-in m l (keys_in l p to k) s)
 
     by : (b : Bool) → notes_of (cond b (range_zaps l p (from + k) (n - k))
-        ((range_zaps l p to k ++ range_zaps target p (from + k) (n - k)) ++ Moved p (min n k) from to ∷ [])) ≡ []
+        ((range_zaps l p to k ++ range_zaps target p (from + k) (n - k)) ++ EntriesMoved p (min n k) from to ∷ [])) ≡ []
     by true = no-zap-notes m l (keys_in l p (from + k) (n - k)) none s
-    by false = notes_of-append (range_zaps l p to k ++ range_zaps target p (from + k) (n - k)) (Moved p (min n k) from to ∷ [])
+    by false = notes_of-append (range_zaps l p to k ++ range_zaps target p (from + k) (n - k)) (EntriesMoved p (min n k) from to ∷ [])
         ∙ ap (λ ns. ns ++ []) (notes_of-append (range_zaps l p to k) (range_zaps target p (from + k) (n - k)) ∙ (λ i. quiet i ++ tail_quiet i))
 
 -- ---- a command
@@ -594,7 +594,7 @@ kept-bare l f Referenced h = record { cache = h.cache; flight = h.flight; entrie
 -- ---- commands on swap areas
 
 abbrev pub is_of_area : Command → Bool
-is_of_area (Swapon k) = true
+is_of_area (Swapon k priority) = true
 is_of_area (Swapoff k) = true
 is_of_area (AsksSlot k page) = true
 is_of_area command = false
@@ -627,8 +627,10 @@ no-area m l k rest none fits fine = by (is_on l k) (fits.attached k) fine
     by true has h = let sized = has refl in let empty : size_of m k ≡ 0 = ap (λ o. unwrap_or o 0) (none k) in omega (arith, sized, empty)
     by false has h = cc
 
-follows-faultless : (m : Setting) (w : World) (l : Ledger) (command : Command) (events : List Event) (answer : Answer) (rows : List Row) → HasNoArea m l →
-    (is_of_area command ≡ true → refusal (tests m w l command) ≡ None → ⊥) → InAreas m l → refusal (tests m w l command) ≡ None → Follows m w l command events answer rows → Faultless events answer
+follows-faultless : (m : Setting) (w : World) (l : Ledger) (command : Command) (events : List Event) (answer : Answer) (rows : List Row)
+    → HasNoArea m l →
+    (is_of_area command ≡ true → refusal (tests m w l command) ≡ None → ⊥) → InAreas m l → refusal (tests m w l command) ≡ None
+    → Follows m w l command events answer rows → Faultless events answer
 follows-faultless m w l (Read p a n) events answer rows none refused s fine h =
     let plain = accesses-plain (λ note. is_fail note ≡ false) m w p (λ page note is. plain-fails m (p, page) note) l
     (pages_of_access false a n) events h.0 none s h.2 in
@@ -647,7 +649,7 @@ follows-faultless m w l (Complete n) events answer rows none refused s fine h =
     by zero ts e c = c
     by (suc n) [] e c = c
     by (suc n) (t ∷ ts) e c = cc
-follows-faultless m w l (Swapon k) events answer rows none refused s fine h = absurd (refused refl fine)
+follows-faultless m w l (Swapon k priority) events answer rows none refused s fine h = absurd (refused refl fine)
 follows-faultless m w l (Swapoff k) events answer rows none refused s fine h = absurd (refused refl fine)
 follows-faultless m w l command events answer rows none refused s fine h = unused-follows m w l command events answer rows refl h
 
@@ -666,7 +668,7 @@ pub no-causes : (m : Setting) (w : World) (l : Ledger) (command : Command) (repl
 no-causes m w l command reply events none s legal = areas-causes m w l command reply events (without-device m l none) (refused command) s legal
   where
     refused : (command : Command) → is_of_area command ≡ true → refusal (tests m w l command) ≡ None → ⊥
-    refused (Swapon k) of fine = no-swapon m k ((is_on l k, Ebusy) ∷ (size_of m k == 0, Einval) ∷ []) none fine
+    refused (Swapon k priority) of fine = no-swapon m k ((is_on l k, Ebusy) ∷ (size_of m k == 0, Einval) ∷ []) none fine
     refused (Swapoff k) of fine = no-area m l k [] none s.areas_fit fine
     refused (AsksSlot k page) of fine = no-area m l k ((is_outside m (record { area = k; page = page }), Einval) ∷ []) none s.areas_fit fine
     refused (Spawn p) of fine = never of
@@ -688,7 +690,8 @@ no-causes m w l command reply events none s legal = areas-causes m w l command r
     refused Stat of fine = never of
 
 -- where no area is on, each but one that turns an area on
-pub no-causes-off : (m : Setting) (w : World) (l : Ledger) (command : Command) (reply : Reply) (events : List Event) → l.on ≡ [] → is_swapon command ≡ false →
+pub no-causes-off : (m : Setting) (w : World) (l : Ledger) (command : Command) (reply : Reply) (events : List Event) → l.on ≡ []
+    → is_swapon command ≡ false →
     AllSound m w l → IsLegal m w l command reply events → causes reply ≡ 0
 no-causes-off m w l command reply events off other s legal = areas-causes m w l command reply events (all-off m l off) (refused command other) s legal
   where
@@ -700,9 +703,10 @@ no-causes-off m w l command reply events off other s legal = areas-causes m w l 
     first-refuses false rest is h = never is
 
     refused : (command : Command) → is_swapon command ≡ false → is_of_area command ≡ true → refusal (tests m w l command) ≡ None → ⊥
-    refused (Swapon k) other of fine = never (sym other)
+    refused (Swapon k priority) other of fine = never (sym other)
     refused (Swapoff k) other of fine = first-refuses (is_off l k) [] (is_off_now k) fine
-    refused (AsksSlot k page) other of fine = first-refuses (is_off l k) ((is_outside m (record { area = k; page = page }), Einval) ∷ []) (is_off_now k) fine
+    refused (AsksSlot k page) other of fine =
+        first-refuses (is_off l k) ((is_outside m (record { area = k; page = page }), Einval) ∷ []) (is_off_now k) fine
     refused (Spawn p) other of fine = never of
     refused (Fork p q) other of fine = never of
     refused (Exit p) other of fine = never of

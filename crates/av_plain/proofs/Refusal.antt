@@ -98,7 +98,8 @@ may-remap m w l p a old new mode is =
 pub first-mapped : (q : Process) (from n k : ℕ) (mode : Mode) → lacks_pages q from n k mode ≡ false → is_some (q from) ≡ true
 first-mapped q from n k mode h = by (is_in_place mode n k) (q from) h
   where
-    by : (b : Bool) (o : Option Page) → not (cond b (is_some o) (option_map_or (λ (x : Page). have_prot q x.prot from n) o false)) ≡ false → is_some o ≡ true
+    by : (b : Bool) (o : Option Page) → not (cond b (is_some o) (option_map_or (λ (x : Page). have_prot q x.prot from n) o false)) ≡ false
+        → is_some o ≡ true
     by true None h = cc
     by false None h = cc
     by b (Some x) h = refl
@@ -127,7 +128,7 @@ refused-next m w now l (Write p a bytes) error is = refl
 refused-next m w now l (Reclaim n) error is = refl
 refused-next m w now l (Age n) error is = refl
 refused-next m w now l (Complete n) error is = refl
-refused-next m w now l (Swapon k) error is = refl
+refused-next m w now l (Swapon k priority) error is = refl
 refused-next m w now l (Swapoff k) error is = refl
 refused-next m w now l (Maps p) error is = refl
 refused-next m w now l (AsksAreas p) error is = refl
@@ -160,7 +161,7 @@ refused-areas m w l long on (Write p a bytes) error is = refl
 refused-areas m w l long on (Reclaim n) error is = refl
 refused-areas m w l long on (Age n) error is = refl
 refused-areas m w l long on (Complete n) error is = refl
-refused-areas m w l long on (Swapon k) error is = refl
+refused-areas m w l long on (Swapon k priority) error is = refl
 refused-areas m w l long on (Swapoff k) error is = refl
 refused-areas m w l long on (Maps p) error is = refl
 refused-areas m w l long on (AsksAreas p) error is = refl
@@ -231,7 +232,7 @@ follows-refused m w now l (Write p a bytes) events error rows other h = absurd (
 follows-refused m w now l (Reclaim n) events error rows other h = absurd (no-refusal refl h.2)
 follows-refused m w now l (Age n) events error rows other h = absurd (no-refusal refl h.0)
 follows-refused m w now l (Complete n) events error rows other h = absurd (no-refusal refl h.2)
-follows-refused m w now l (Swapon k) events error rows other h = (h.1, refl)
+follows-refused m w now l (Swapon k priority) events error rows other h = (h.1, refl)
 follows-refused m w now l (Swapoff k) events error rows other h = cc
 follows-refused m w now l (Maps p) events error rows other h = cc
 follows-refused m w now l (AsksAreas p) events error rows other h = cc
@@ -259,7 +260,8 @@ pub refused-nothing : (m : Setting) (w : World) (l : Ledger) (command : Command)
     may_end_midway command ≡ false → IsLegal m w l command reply events → reply.answer ≡ Refused error
     → (next_world m w l events command reply.answer ≡ w) × (after_all l events ≡ l)
 refused-nothing m w l command reply events error other legal is =
-    let both = refused-by m w l command reply events error ((events ≡ []) × (next (with_loads m w l events) command (Refused error) ≡ with_loads m w l events))
+    let both = refused-by m w l command reply events error
+    ((events ≡ []) × (next (with_loads m w l events) command (Refused error) ≡ with_loads m w l events))
     legal is
     (λ e none. (none, refused-next m w (with_loads m w l events) l command error e))
     (λ e h. follows-refused m w (with_loads m w l events) l command events error reply.rows other h) in
@@ -295,10 +297,12 @@ refused-mprotect m w l p a len prot reply events error legal is = refused-by m w
     short k n most false e h = ((let same : error ≡ Enomem = cc in same), grind (arith, nat_tests, e, most))
 
     stopped : refusal (tests m w l (Mprotect p a len prot)) ≡ None →
-        Refused error ≡ (if pages_to_hole (pages w p) (page_of a) (pages_of len) == pages_of len then Done else Refused Enomem) → with_loads m w l events ≡ w
+        Refused error ≡ (if pages_to_hole (pages w p) (page_of a) (pages_of len) == pages_of len then Done else Refused Enomem)
+        → with_loads m w l events ≡ w
         → StopsAtHole w p a len prot error (next_world m w l events (Mprotect p a len prot) reply.answer)
     stopped e h none =
-        let hole = short (pages_to_hole (pages w p) (page_of a) (pages_of len)) (pages_of len) (pages_to_hole-most (pages w p) (page_of a) (pages_of len))
+        let hole = short (pages_to_hole (pages w p) (page_of a) (pages_of len)) (pages_of len)
+        (pages_to_hole-most (pages w p) (page_of a) (pages_of len))
         (pages_to_hole (pages w p) (page_of a) (pages_of len) == pages_of len) refl h in
         let reach = in_reach (lives w p) (is_on_page a) (wraps a len) e in
         record {

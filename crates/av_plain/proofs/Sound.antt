@@ -39,7 +39,7 @@ use Rattle.av_base.specs.Words.{within}
 use Rattle.av_base.specs.declared.prot.Prot.{Prot}
 use Rattle.av_base.specs.declared.slot.Slot.{Slot}
 use Rattle.av_plain.specs.Access.{Accesses, End, after_write, first_bytes, pages_of_access}
-use Rattle.av_plain.specs.Event.{Event, Forked, Moved, Noted, TurnedOff, TurnedOn, Used, Zapped, after, after_all, without_seen}
+use Rattle.av_plain.specs.Event.{Event, Forked, EntriesMoved, Noted, TurnedOff, TurnedOn, Used, Zapped, after, after_all, without_seen}
 use Rattle.av_plain.specs.Ledger.{Entry, Ledger, Setting, entry, first_ledger, is_on, size_of}
 use Rattle.av_plain.specs.Load.{after_load, after_loads, is_of_slot, with_loads, without_bytes, without_claims}
 use Rattle.av_plain.specs.Map.{with_prot_to_hole, zaps_for_place}
@@ -69,7 +69,8 @@ use Rattle.av_plain.proofs.Zap.{entry-range, in_range}
 
 -- ---- loads from a device that doesn't tell its pages leave what is mapped, and the processes
 
-told-same : {A : Type 0} (g : World → A) (l : Ledger) (e : Event) (w : World) → ((s : Slot) → g (without_claims l s w) ≡ g w) → g (after_load l e w) ≡ g w
+told-same : {A : Type 0} (g : World → A) (l : Ledger) (e : Event) (w : World) → ((s : Slot) → g (without_claims l s w) ≡ g w)
+    → g (after_load l e w) ≡ g w
 told-same g l (Noted (Loaded s f)) w h = h s
 told-same g l (Noted (Zeroed q a)) w h = refl
 told-same g l (Noted (New q a f)) w h = refl
@@ -86,8 +87,8 @@ told-same g l (Noted (Aged f)) w h = refl
 told-same g l (Zapped k) w h = refl
 told-same g l (Used b k) w h = refl
 told-same g l (Forked a b c) w h = refl
-told-same g l (Moved a b c d) w h = refl
-told-same g l (TurnedOn a b c) w h = refl
+told-same g l (EntriesMoved a b c d) w h = refl
+told-same g l (TurnedOn a b) w h = refl
 told-same g l (TurnedOff a) w h = refl
 
 forgotten-same : {A : Type 0} (g : World → A) (w : World) (l : Ledger) (es : List Event) →
@@ -98,7 +99,8 @@ forgotten-same g w l (e ∷ es) h = forgotten-same g (after_load l e w) (after l
 -- whatever an unclaiming leaves as it is, loads do
 pub loads-same : {A : Type 0} (g : World → A) (m : Setting) (w : World) (l : Ledger) (es : List Event) →
     ((l : Ledger) (s : Slot) (w : World) → g (without_claims l s w) ≡ g w) → g (with_loads m w l es) ≡ g w
-loads-same g m w l es h = elim (is_some m.headers) as (λ b. g (if b then w else after_loads w l es) ≡ g w) [ true ↦ refl | false ↦ forgotten-same g w l es h ]
+loads-same g m w l es h =
+    elim (is_some m.headers) as (λ b. g (if b then w else after_loads w l es) ≡ g w) [ true ↦ refl | false ↦ forgotten-same g w l es h ]
 
 unclaimed-pages : (p page : ℕ) (l : Ledger) (s : Slot) (w : World) → is_some (pages (without_claims l s w) p page) ≡ is_some (pages w p page)
 unclaimed-pages p page l s [] = refl
@@ -118,7 +120,8 @@ unclaimed-pages p page l s (e ∷ w) =
 unclaimed-lives : (p : ℕ) (l : Ledger) (s : Slot) (w : World) → lives (without_claims l s w) p ≡ lives w p
 unclaimed-lives p l s [] = refl
 unclaimed-lives p l s (e ∷ w) =
-    elim (eq_by_cmp nat_cmp p e.0) as (λ b. is_some (cond b (Some (λ page. if is_of_slot s (entry l (e.0, page)) then option_map without_bytes (e.1 page)
+    elim (eq_by_cmp nat_cmp p e.0) as
+    (λ b. is_some (cond b (Some (λ page. if is_of_slot s (entry l (e.0, page)) then option_map without_bytes (e.1 page)
     else e.1 page)) (find nat_cmp p (without_claims l s w))) ≡ is_some (cond b (Some e.1) (find nat_cmp p w))) [
       | true ↦ refl
       | false ↦ unclaimed-lives p l s w
@@ -167,7 +170,8 @@ cmp-is : (q p : ℕ) → eq_by_cmp nat_cmp q p ≡ true → q ≡ p
 cmp-is q p h = grind (arith, nat_tests, h)
 
 at-changed : (w : World) (l : Ledger) (p : ℕ) (new : Process) → ((page : ℕ) → is_some (entry l (p, page)) ≡ true → is_some (new page) ≡ true)
-    → ((q page : ℕ) → eq_by_cmp nat_cmp q p ≡ false → is_some (entry l (q, page)) ≡ true → is_some (pages w q page) ≡ true) → AtPages (set_process w p new) l
+    → ((q page : ℕ) → eq_by_cmp nat_cmp q p ≡ false → is_some (entry l (q, page)) ≡ true → is_some (pages w q page) ≡ true)
+    → AtPages (set_process w p new) l
 at-changed w l p new here there q page h = by (eq_by_cmp nat_cmp q p) refl (pages-set w p new q page)
   where
     by : (b : Bool) → eq_by_cmp nat_cmp q p ≡ b → pages (set_process w p new) q page ≡ cond b (new page) (pages w q page) →
@@ -192,7 +196,8 @@ no_entries w l p at_pages dead page = by (entry l (p, page)) refl
     by (Some e) is = absurd (unmapped (process w p) dead (at_pages p page (ap is_some is)))
 
 -- one more process
-tidy-new : (w : World) (p : ℕ) (new : Process) → IsTidy w → lives w p ≡ false → nat_le most_processes (length w) ≡ false → IsTidy (set_process w p new)
+tidy-new : (w : World) (p : ℕ) (new : Process) → IsTidy w → lives w p ≡ false → nat_le most_processes (length w) ≡ false
+    → IsTidy (set_process w p new)
 tidy-new w p new tidy dead room = record {
   in_order = is_sorted-set w p new tidy.in_order;
   few = subst (λ n. n ≤ most_processes) (sym (length-set_new w p new tidy.in_order dead)) (grind (arith, nat_tests, room));
@@ -290,16 +295,19 @@ range-sound m w w' l p from n new s s' alive = after_zap-sound m w (set_process 
     by page true e h = cc
     by page false e h = h
 
-stored-sound : (m : Setting) (w : World) (l : Ledger) (p a : ℕ) (bytes : List ℕ) → AllSound m w l → lives w p ≡ true → AllSound m (after_write w p a bytes) l
+stored-sound : (m : Setting) (w : World) (l : Ledger) (p a : ℕ) (bytes : List ℕ) → AllSound m w l → lives w p ≡ true
+    → AllSound m (after_write w p a bytes) l
 stored-sound m w l p a [] s alive = s
-stored-sound m w l p a (b ∷ bytes) s alive = changed-sound m w l p (with_bytes (pages w p) a (b ∷ bytes)) s alive (λ page h. kept _ (pages w p page) h)
+stored-sound m w l p a (b ∷ bytes) s alive =
+    changed-sound m w l p (with_bytes (pages w p) a (b ∷ bytes)) s alive (λ page h. kept _ (pages w p page) h)
   where
     kept : (f : Page → Page) (o : Option Page) → is_some o ≡ true → is_some (option_map f o) ≡ true
     kept f None h = cc
     kept f (Some x) h = refl
 
 -- n pages become k, and those that go or move have their entries go or move
-remap-sound : (m : Setting) (w w' : World) (l : Ledger) (p from n to k : ℕ) (left : Option Prot) → AllSound m w l → AllSound m w' l → lives w' p ≡ true
+remap-sound : (m : Setting) (w w' : World) (l : Ledger) (p from n to k : ℕ) (left : Option Prot) → AllSound m w l → AllSound m w' l
+    → lives w' p ≡ true
     → is_some (pages w' p from) ≡ true
     → AllSound m (set_process w' p (process_after_mremap from n to k left (pages w' p))) (after_all l (remap_events l p from n to k))
 remap-sound m w w' l p from n to k left s s' alive first = record {
@@ -335,7 +343,8 @@ alive : (b : Bool) (o : Option Errno) → cond (not b) (Some Esrch) o ≡ None �
 alive true o h = refl
 alive false o h = cc
 
-pub follows-sound : (m : Setting) (w : World) (l : Ledger) (command : Command) (events : List Event) (answer : Answer) (rows : List Row) → AllSound m w l →
+pub follows-sound : (m : Setting) (w : World) (l : Ledger) (command : Command) (events : List Event) (answer : Answer) (rows : List Row)
+    → AllSound m w l →
     refusal (tests m w l command) ≡ None
     → Follows m w l command events answer rows → AllSound m (next_world m w l events command answer) (after_all l events)
 follows-sound m w l (Spawn p) events answer rows s fine h =
@@ -383,7 +392,8 @@ follows-sound m w l (Mmap p len prot place) events answer rows s fine h = by h.0
 
     added : (page : ℕ) (es : List Event) → es ≡ [] → AllSound m (set_process here p (zeroed page)) (after_all l es)
     added page es none = unchanged m (set_process here p (zeroed page)) l es none
-        (changed-sound m here l p (zeroed page) loaded living (λ q i. inside (within (page_of (address_of page)) (pages_of len) q) (pages here p q) i))
+        (changed-sound m here l p (zeroed page) loaded living
+        (λ q i. inside (within (page_of (address_of page)) (pages_of len) q) (pages here p q) i))
 
     back : (page : ℕ) → page_of (address_of page) ≡ page
     back page = omega arith
@@ -408,13 +418,16 @@ follows-sound m w l (Mmap p len prot place) events answer rows s fine h = by h.0
     refused (NoReplace a) goes e = cc
     refused (Fixed a) goes e = cc
 
-    by : (to : Option ℕ) → IsMapAt answer to → (place : Place) → Goes (pages w p) (pages_of len) place to → events ≡ zaps_for_place l p (pages_of len) place →
+    by : (to : Option ℕ) → IsMapAt answer to → (place : Place) → Goes (pages w p) (pages_of len) place to
+        → events ≡ zaps_for_place l p (pages_of len) place →
         AllSound m (next here (Mmap p len prot place) answer) (after_all l events)
     by None e place goes es = subst (λ a. AllSound m (next here (Mmap p len prot place) a) (after_all l events)) (sym e) (refused place goes es)
-    by (Some page) e place goes es = subst (λ a. AllSound m (next here (Mmap p len prot place) a) (after_all l events)) (sym e) (placed page place goes es)
+    by (Some page) e place goes es =
+        subst (λ a. AllSound m (next here (Mmap p len prot place) a) (after_all l events)) (sym e) (placed page place goes es)
 follows-sound m w l (Munmap p a len) events answer rows s fine h =
     subst (λ x. AllSound m (next (with_loads m w l events) (Munmap p a len) x) (after_all l events)) (sym h.0)
-    (subst (λ es. AllSound m (set_process (with_loads m w l events) p (with_pages (pages (with_loads m w l events) p) (page_of a) (pages_of len) no_pages))
+    (subst (λ es. AllSound m
+    (set_process (with_loads m w l events) p (with_pages (pages (with_loads m w l events) p) (page_of a) (pages_of len) no_pages))
     (after_all l es)) (sym h.1)
     (range-sound m w (with_loads m w l events) l p (page_of a) (pages_of len) no_pages s (loads-sound m w l l events s)
     (lives-loads m w l events p ∙ alive (lives w p) _ fine)))
@@ -466,7 +479,8 @@ follows-sound m w l (AsksMremap p a old new mode) events answer rows s fine h = 
 
     by : (to : Option ℕ) → IsMapAt answer to → events ≡ events_to l p (page_of a) (pages_of old) to (pages_of new)
         → AllSound m (next here (AsksMremap p a old new mode) answer) (after_all l events)
-    by None e es = subst (λ x. AllSound m (next here (AsksMremap p a old new mode) x) (after_all l events)) (sym e) (unchanged m here l events es loaded)
+    by None e es = subst (λ x. AllSound m (next here (AsksMremap p a old new mode) x) (after_all l events)) (sym e)
+        (unchanged m here l events es loaded)
     by (Some to) e es = subst (λ x. AllSound m (next here (AsksMremap p a old new mode) x) (after_all l events)) (sym e)
         (subst (λ es. AllSound m (set_process here p (process_after_mremap (page_of a) (pages_of old) (page_of (address_of to))
         (pages_of new) left (pages here p)))
@@ -480,11 +494,13 @@ follows-sound m w l (Write p a bytes) events answer rows s fine h =
     stored-sound m (with_loads m w l events) (after_all l events) p a (first_bytes answer bytes)
     (loads-sound m w l (after_all l events) events (accesses-sound m w l p (pages_of_access true a (length bytes)) events h.0 s h.1))
     (lives-loads m w l events p ∙ alive (lives w p) _ fine)
-follows-sound m w l (AsksReclaim n) events answer rows s fine h = loads-sound m w l (after_all l events) events (reclaim-sound m w l n events answer rows s h)
+follows-sound m w l (AsksReclaim n) events answer rows s fine h =
+    loads-sound m w l (after_all l events) events (reclaim-sound m w l n events answer rows s h)
 follows-sound m w l (Age n) events answer rows s fine h = loads-sound m w l (after_all l events) events (age-sound m w l n events answer rows s h)
-follows-sound m w l (Complete n) events answer rows s fine h = loads-sound m w l (after_all l events) events (complete-sound m w l n events answer rows s h)
-follows-sound m w l (Swapon k) events answer rows s fine h = loads-sound m w l (after_all l events) events
-    (turn-on-sound m w l k events answer rows s (second (no_device_at m k) (is_on l k) (size_of m k == 0) fine)
+follows-sound m w l (Complete n) events answer rows s fine h =
+    loads-sound m w l (after_all l events) events (complete-sound m w l n events answer rows s h)
+follows-sound m w l (Swapon k priority) events answer rows s fine h = loads-sound m w l (after_all l events) events
+    (turn-on-sound m w l k priority events answer rows s (second (no_device_at m k) (is_on l k) (size_of m k == 0) fine)
     (third (no_device_at m k) (is_on l k) (size_of m k) fine) h)
   where
     second : (a b c : Bool) → cond a (Some Einval) (cond b (Some Ebusy) (cond c (Some Einval) None)) ≡ None → b ≡ false
@@ -497,7 +513,8 @@ follows-sound m w l (Swapon k) events answer rows s fine h = loads-sound m w l (
     third false true n h = cc
     third false false zero h = cc
     third false false (suc n) h = omega arith
-follows-sound m w l (Swapoff k) events answer rows s fine h = loads-sound m w l (after_all l events) events (turn-off-sound m w l k events answer rows s h)
+follows-sound m w l (Swapoff k) events answer rows s fine h =
+    loads-sound m w l (after_all l events) events (turn-off-sound m w l k events answer rows s h)
 follows-sound m w l (Maps p) events answer rows s fine h = loads-sound m w l (after_all l events) events (unchanged m w l events h.2 s)
 follows-sound m w l (AsksAreas p) events answer rows s fine h = loads-sound m w l (after_all l events) events (unchanged m w l events h.2 s)
 follows-sound m w l (AsksRmap p a) events answer rows s fine h = loads-sound m w l (after_all l events) events (unchanged m w l events h.1 s)
@@ -505,7 +522,8 @@ follows-sound m w l (AsksEntry p a) events answer rows s fine h = loads-sound m 
 follows-sound m w l (AsksSlot k page) events answer rows s fine h = loads-sound m w l (after_all l events) events (unchanged m w l events h.1 s)
 follows-sound m w l Stat events answer rows s fine h = loads-sound m w l (after_all l events) events (unchanged m w l events h.1 s)
 
-refused-sound : (m : Setting) (w : World) (l : Ledger) (command : Command) (error : Errno) (events : List Event) → refusal (tests m w l command) ≡ Some error →
+refused-sound : (m : Setting) (w : World) (l : Ledger) (command : Command) (error : Errno) (events : List Event)
+    → refusal (tests m w l command) ≡ Some error →
     events ≡ [] → AllSound m w l
     → AllSound m (next_world m w l events command (Refused error)) (after_all l events)
 refused-sound m w l command error events is none s =
@@ -547,10 +565,12 @@ pub transcript-sound : (m : Setting) (w : World) (l : Ledger) (es : List Exchang
     IsLegalFrom m w l es w' l' → AllSound m w' l'
 transcript-sound m w l [] w' l' s h = subst (λ x. AllSound m x l') (sym h.0) (subst (AllSound m w) (sym h.1) s)
 transcript-sound m w l (e ∷ es) w' l' s h =
-    transcript-sound m (next_world m w l h.0 e.command e.reply.answer) (after_all l h.0) es w' l' (soundness-stays m w l e.command e.reply h.0 s h.1) h.2
+    transcript-sound m (next_world m w l h.0 e.command e.reply.answer) (after_all l h.0) es w' l'
+    (soundness-stays m w l e.command e.reply h.0 s h.1) h.2
 
 -- a run is a legal transcript
-pub run-legal : (m : Setting) (old : State) (es : List Exchange) (new : State) → IsRun m old es new → IsLegalFrom m old.world old.ledger es new.world new.ledger
+pub run-legal : (m : Setting) (old : State) (es : List Exchange) (new : State) → IsRun m old es new
+    → IsLegalFrom m old.world old.ledger es new.world new.ledger
 run-legal m old [] new h = (ap (λ (s : State). s.world) h, ap (λ (s : State). s.ledger) h)
 run-legal m old (e ∷ es) new h =
     let rest = run-legal m h.0 es new h.2 in (
@@ -563,7 +583,8 @@ run-legal m old (e ∷ es) new h =
 pub step-sound : (m : Setting) (old : State) (command : Command) (reply : Reply) (new : State) → AllSound m old.world old.ledger →
     IsStep m old command reply new → AllSound m new.world new.ledger
 step-sound m old command reply new s h =
-    subst (λ w. AllSound m w new.ledger) (sym h.world) (subst (AllSound m (next_world m old.world old.ledger h.events command reply.answer)) (sym h.ledger)
+    subst (λ w. AllSound m w new.ledger) (sym h.world)
+    (subst (AllSound m (next_world m old.world old.ledger h.events command reply.answer)) (sym h.ledger)
     (soundness-stays m old.world old.ledger command reply h.events s h.legal))
 
 pub run-sound : (m : Setting) (es : List Exchange) (new : State) → IsRun m (at_first m) es new → AllSound m new.world new.ledger

@@ -39,7 +39,8 @@ is_fork (Fork p q) = true
 is_fork command = false
 
 -- after any other command they are those that the areas leave
-pub next-plain : (now : Rmap) (w : World) (command : Command) (answer : Answer) (next : Rmap) → is_fork command ≡ false → AreNext now w command answer next →
+pub next-plain : (now : Rmap) (w : World) (command : Command) (answer : Answer) (next : Rmap) → is_fork command ≡ false
+    → AreNext now w command answer next →
     IsRmapNext now w command answer next
 next-plain now w command Done next other h = done command other h
   where
@@ -60,7 +61,8 @@ next-unforked now w command Done next other h = next-plain now w command Done ne
 next-unforked now w command answer next other h = h
 
 -- and no others
-pub plain-next : (now : Rmap) (w : World) (command : Command) (answer : Answer) (next : Rmap) → is_fork command ≡ false → IsRmapNext now w command answer next →
+pub plain-next : (now : Rmap) (w : World) (command : Command) (answer : Answer) (next : Rmap) → is_fork command ≡ false
+    → IsRmapNext now w command answer next →
     AreNext now w command answer next
 plain-next now w command Done next other h = done command other h
   where

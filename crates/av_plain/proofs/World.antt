@@ -14,7 +14,8 @@ pub lives-set : (w : World) (p : ℕ) (m : Process) (q : ℕ) → lives (set_pro
 lives-set w p m q = ap is_some (process-set w p m q)
     ∙ elim (eq_by_cmp nat_cmp q p) as (λ b. is_some (cond b (Some m) (process w q)) ≡ cond b true (lives w q)) [ true ↦ refl | false ↦ refl ]
 
-pub pages-set : (w : World) (p : ℕ) (m : Process) (q page : ℕ) → pages (set_process w p m) q page ≡ cond (eq_by_cmp nat_cmp q p) (m page) (pages w q page)
+pub pages-set : (w : World) (p : ℕ) (m : Process) (q page : ℕ)
+    → pages (set_process w p m) q page ≡ cond (eq_by_cmp nat_cmp q p) (m page) (pages w q page)
 pages-set w p m q page = ap (option_and_then (λ (n : Process). n page)) (process-set w p m q)
     ∙ elim (eq_by_cmp nat_cmp q p) as (λ b. option_and_then (λ (n : Process). n page) (cond b (Some m) (process w q)) ≡ cond b (m page)
     (pages w q page)) [ true ↦ refl | false ↦ refl ]

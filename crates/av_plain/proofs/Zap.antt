@@ -33,7 +33,8 @@ after_zap-is k l = ap (λ (test : Key → Bool). settle_entry (entry l k) (recor
     (λ i q. sym (test_same k q) i)
 
 pub entry-leaving : (k q : Key) (l : Ledger) → entry (leaving k l) q ≡ cond (same_key k q) None (entry l q)
-entry-leaving k q l = find-where_key key_cmp (λ x. not (same_key k x)) q (λ x t. ap (λ y. not (same_key k y)) (sym (same_key-is q x (ap is_eq t)))) l.entries
+entry-leaving k q l =
+    find-where_key key_cmp (λ x. not (same_key k x)) q (λ x t. ap (λ y. not (same_key k y)) (sym (same_key-is q x (ap is_eq t)))) l.entries
     ∙ turned (same_key k q) (entry l q)
   where
     turned : (b : Bool) (o : Option Entry) → cond (not b) o None ≡ cond b None o
@@ -81,7 +82,8 @@ entry-after_zap k l q = ap (find key_cmp q) (entries-after_zap k l) ∙ entry-le
 
 pub map_count-after_zap : (k : Key) (l : Ledger) (f : ℕ) → T (is_sorted key_cmp l.entries) →
     map_count l f ≡ map_count (after_zap k l) f + weight (names_frame f) (entry l k)
-map_count-after_zap k l f h = map_count-leaving k l f h ∙ ap (λ es. how_many (λ (e : Key × Entry). names_frame f e.1) es + weight (names_frame f) (entry l k))
+map_count-after_zap k l f h = map_count-leaving k l f h
+    ∙ ap (λ es. how_many (λ (e : Key × Entry). names_frame f e.1) es + weight (names_frame f) (entry l k))
     (sym (entries-after_zap k l))
 
 pub slot_entries-after_zap : (k : Key) (l : Ledger) (s : Slot) → T (is_sorted key_cmp l.entries) →
@@ -151,7 +153,8 @@ abbrev pub keys_that : (Key → Bool) → Ledger → List Key
 keys_that test l = filter test (map (λ (e : Key × Entry). e.0) l.entries)
 
 -- two tests that agree on the keys with entries pass the same ones
-pub same-keys : (test other : Key → Bool) (l : Ledger) → ((k : Key) → is_some (entry l k) ≡ true → test k ≡ other k) → keys_that test l ≡ keys_that other l
+pub same-keys : (test other : Key → Bool) (l : Ledger) → ((k : Key) → is_some (entry l k) ≡ true → test k ≡ other k)
+    → keys_that test l ≡ keys_that other l
 same-keys test other l h = same l.entries h
   where
     here : (e : Key × Entry) (es : List (Key × Entry)) → is_some (find key_cmp e.0 (e ∷ es)) ≡ true
@@ -205,7 +208,8 @@ listed-that test l q = passing (map (λ (e : Key × Entry). e.0) l.entries) ∙ 
 
     passing : (ks : List Key) → list_any (same_key q) (filter test ks) ≡ (test q && list_any (same_key q) ks)
     passing [] = none (test q)
-    passing (k ∷ ks) = front (test k) ∙ ap (λ x. test k && same_key q k || x) (passing ks) ∙ merged (test k) (same_key q k) (test q) (list_any (same_key q) ks)
+    passing (k ∷ ks) = front (test k) ∙ ap (λ x. test k && same_key q k || x) (passing ks)
+        ∙ merged (test k) (same_key q k) (test q) (list_any (same_key q) ks)
         (λ is. ap test (sym (same_key-is q k is)))
       where
         front : (b : Bool) → list_any (same_key q) (cond b (k ∷ filter test ks) (filter test ks))
@@ -253,7 +257,8 @@ exit-least l p page e sorted is least = zaps_of-least (λ k. k.0 == p) l (p, pag
 pub entry-ended : (l : Ledger) (p page : ℕ) → entry (after_all l (zaps_of l (keys_of_process l p))) (p, page) ≡ None
 entry-ended l p page = entry-that (λ k. k.0 == p) l (p, page) ∙ ap (λ b. cond b None (entry l (p, page))) (same-itself p)
 
-pub entry-others : (l : Ledger) (p q page : ℕ) → (q == p) ≡ false → entry (after_all l (zaps_of l (keys_of_process l p))) (q, page) ≡ entry l (q, page)
+pub entry-others : (l : Ledger) (p q page : ℕ) → (q == p) ≡ false
+    → entry (after_all l (zaps_of l (keys_of_process l p))) (q, page) ≡ entry l (q, page)
 entry-others l p q page other = entry-that (λ k. k.0 == p) l (q, page) ∙ ap (λ b. cond b None (entry l (q, page))) other
 
 -- ---- the entries of a range
@@ -266,7 +271,8 @@ in_range p from n k = k.0 == p && within from n k.1
 pub keys_in-is : (l : Ledger) (p from n : ℕ) → keys_in l p from n ≡ keys_that (in_range p from n) l
 keys_in-is l p from n = both (map (λ (e : Key × Entry). e.0) l.entries)
   where
-    either : (k : Key) (ks fs : List Key) (a : Bool) → filter (λ k. within from n k.1) ks ≡ fs → filter (λ k. within from n k.1) (cond a (k ∷ ks) ks) ≡ cond
+    either : (k : Key) (ks fs : List Key) (a : Bool) → filter (λ k. within from n k.1) ks ≡ fs
+        → filter (λ k. within from n k.1) (cond a (k ∷ ks) ks) ≡ cond
         (a && within from n k.1) (k ∷ fs) fs
     either k ks fs true h = ap (λ x. cond (within from n k.1) (k ∷ x) x) h
     either k ks fs false h = h
@@ -294,11 +300,13 @@ pub range-empty : (l : Ledger) (p from n : ℕ) → ((page : ℕ) → within fro
 range-empty l p from n none = keys_in-is l p from n ∙ none_that (in_range p from n) l (λ k t. let is = in_range-is p from n k t in
     subst (λ x. entry l (x, k.1) ≡ None) (sym is.0) (none k.1 is.1))
 
-pub range-done : (l : Ledger) (p from n : ℕ) → ((page : ℕ) → within from n page ≡ true → entry l (p, page) ≡ None) → zaps_of l (keys_in l p from n) ≡ []
+pub range-done : (l : Ledger) (p from n : ℕ) → ((page : ℕ) → within from n page ≡ true → entry l (p, page) ≡ None)
+    → zaps_of l (keys_in l p from n) ≡ []
 range-done l p from n none = ap (zaps_of l) (range-empty l p from n none)
 
 -- the entry of its least page goes first
-pub range-least : (l : Ledger) (p from n page : ℕ) (e : Entry) → T (is_sorted key_cmp l.entries) → entry l (p, page) ≡ Some e → within from n page ≡ true →
+pub range-least : (l : Ledger) (p from n page : ℕ) (e : Entry) → T (is_sorted key_cmp l.entries) → entry l (p, page) ≡ Some e
+    → within from n page ≡ true →
     ((q : ℕ) → from ≤ q → q < page → entry l (p, q) ≡ None)
     → zaps_of l (keys_in l p from n) ≡ (let now = after_all l (zap_of l (p, page)) in zap_of l (p, page) ++ zaps_of now (keys_in now p from n))
 range-least l p from n page e sorted is inside least =
@@ -319,7 +327,8 @@ range-least l p from n page e sorted is inside least =
 -- afterwards it has none, and the other entries stay
 pub entry-range : (l : Ledger) (p from n q page : ℕ) → entry (after_all l (zaps_of l (keys_in l p from n))) (q, page) ≡ cond
     (q == p && within from n page) None (entry l (q, page))
-entry-range l p from n q page = ap (λ ks. entry (after_all l (zaps_of l ks)) (q, page)) (keys_in-is l p from n) ∙ entry-that (in_range p from n) l (q, page)
+entry-range l p from n q page = ap (λ ks. entry (after_all l (zaps_of l ks)) (q, page)) (keys_in-is l p from n)
+    ∙ entry-that (in_range p from n) l (q, page)
 
 -- where its first k pages have no entry, a range begins behind them
 pub range-behind : (l : Ledger) (p from n k : ℕ) → k ≤ n → ((page : ℕ) → from ≤ page → page < from + k → entry l (p, page) ≡ None) →

@@ -4,7 +4,7 @@ use Rattle.std.specs.FinMap.Entries.{find as find_area}
 use Rattle.std.specs.List.{find, list_all, range_with_len}
 use Rattle.std.specs.Option.{option_map_or}
 use Rattle.std.specs.Ordering.{nat_cmp}
-use Rattle.std.specs.Prelude.{◌≡◌, ◌≤◌, ℕ, min, ◌+◌, ◌-◌, Bool, not, ◌&&◌, ◌||◌, ◌==◌, nat_lt, int_le, if◌then◌else◌, true, false, List, [], ◌∷◌, ◌++◌, filter, fold, count_by, option_map, Option, Some, None, IsSomeAnd, MatchOption}
+use Rattle.std.specs.Prelude.{◌≡◌, ◌<◌, ◌≤◌, ◌<ℤ◌, ◌≤ℤ◌, ℕ, min, ◌+◌, ◌-◌, Bool, not, ◌&&◌, ◌||◌, ◌==◌, nat_lt, int_le, if◌then◌else◌, true, false, List, [], ◌∷◌, ◌++◌, filter, fold, count_by, option_map, Option, Some, None, IsSomeAnd, MatchOption}
 use Rattle.av_base.specs.Words.{how_many, with_at}
 use Rattle.av_base.specs.declared.slot.Slot.{Slot}
 use Rattle.av_clusters.specs.Clusters.{Slots, fresh, take_slot, give_slot, is_free as is_free_page, is_taken, page_at}
@@ -69,15 +69,26 @@ abbrev pub can_give : Setting → Option ℕ → Ledger → ℕ × SwapArea → 
 can_give m closing l a = is_open closing a.0 && nat_lt 0 (free_slots m l a)
 
 -- and whether none of those that can has a greater priority
-abbrev pub gives_before_others : Setting → Option ℕ → Ledger → ℕ × SwapArea → Bool
-gives_before_others m closing l a =
+abbrev pub has_greatest_priority : Setting → Option ℕ → Ledger → ℕ × SwapArea → Bool
+has_greatest_priority m closing l a =
     can_give m closing l a
     && list_all (λ b. not (can_give m closing l b) || int_le b.1.priority a.1.priority) l.on
 
 -- the swap area that gives a slot: the first of those with the greatest priority
 abbrev pub giving_swap_area : Setting → Option ℕ → Ledger → Option ℕ
 giving_swap_area m closing l =
-    option_map (λ a. a.0) (find (gives_before_others m closing l) l.on)
+    option_map (λ a. a.0) (find (has_greatest_priority m closing l) l.on)
+
+-- what that says, in plain sentences: the area is on and can give a slot. None that can has a
+-- greater priority, and none of a lesser number that can has as great a one
+pub record GivesFirst (m : Setting) (closing : Option ℕ) (l : Ledger) (k : ℕ) : Type 0 where
+  pub area : SwapArea
+  pub is_on : find_area nat_cmp k l.on ≡ Some area
+  pub gives : can_give m closing l (k, area) ≡ true
+  pub greatest : (j : ℕ) (other : SwapArea) → find_area nat_cmp j l.on ≡ Some other
+      → can_give m closing l (j, other) ≡ true → other.priority ≤ℤ area.priority
+  pub least : (j : ℕ) (other : SwapArea) → j < k → find_area nat_cmp j l.on ≡ Some other
+      → can_give m closing l (j, other) ≡ true → other.priority <ℤ area.priority
 
 -- the slot is the one that the clusters of that area give
 abbrev pub IsGiven : Setting → Option ℕ → Ledger → Slot → AreaSlots → AreaSlots → Type 0

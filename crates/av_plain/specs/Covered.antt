@@ -2,7 +2,7 @@
 use Rattle.std.specs.Prelude.{◌≡◌, ◌<◌, ℕ, true, Some, IsSome, IsSomeAnd}
 use Rattle.av_base.specs.declared.slot.Slot.{Slot}
 use Rattle.av_base.specs.Words.{is_in}
-use Rattle.av_vma.specs.Join.{index_of}
+use Rattle.av_vma.specs.Index.{index_of}
 use Rattle.av_plain.specs.Areas.{AnonVma, Anons, Rmap, chain_by, root_of}
 use Rattle.av_plain.specs.Ledger.{Key, Ledger, entry, frame_at, names_frame, names_slot}
 

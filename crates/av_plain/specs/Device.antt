@@ -10,11 +10,11 @@ use Rattle.av_plain.specs.Ledger.{Setting, size_of}
 pub record Device : Type 0 where
   pub sizes : ℕ → Option ℕ
   pub pages : Option (ℕ → ℕ → List ℕ)
-  pub faults : ℕ
+  pub failures : ℕ
 
 -- a device by what a contract sees of one
 abbrev pub device_by : (ℕ → Option ℕ) → Option (ℕ → ℕ → List ℕ) → ℕ → Device
-device_by sizes pages faults = record { sizes = sizes; pages = pages; faults = faults }
+device_by sizes pages failures = record { sizes = sizes; pages = pages; failures = failures }
 
 -- the device, or one just like it that doesn't tell its pages
 abbrev pub as_told : Bool → Device → Device
@@ -23,7 +23,7 @@ as_told false d = record d { pages = None }
 
 -- the device that has no swap area, and so never fails
 abbrev pub no_device : Device
-no_device = record { sizes = λ k. None; pages = Some (λ k page. []); faults = 0 }
+no_device = record { sizes = λ k. None; pages = Some (λ k page. []); failures = 0 }
 
 -- what a header says, if it has no fault
 abbrev pub without_fault : Result Layout HeaderErr → Option Layout
@@ -45,11 +45,11 @@ abbrev pub setting_of : ℕ → Device → Setting
 setting_of frames d = record { frames = frames; sizes = d.sizes; headers = headers_of d }
 
 -- one device at two times: its swap areas have the sizes that they had, and page 0 of each, where
--- pages are told, is as it was; its count of faults never falls
+-- pages are told, is as it was; its count of failures never falls
 pub record IsSameDevice (old new : Device) : Type 0 where
   pub sizes : new.sizes ≡ old.sizes
   pub first : first_pages new ≡ first_pages old
-  pub faults : old.faults ≤ new.faults
+  pub failures : old.failures ≤ new.failures
 
 -- no swap area is attached
 abbrev pub HasNoDevice : Setting → Type 0

@@ -28,7 +28,7 @@ pub data Event : Type 0 where
   -- the second process gets these pages of the first one
   Forked : (parent child : ℕ) (pages : List Inherited) → Event
   -- the process's entries of the n pages from one page on go to another
-  Moved : (process n from to : ℕ) → Event
+  EntriesMoved : (process n from to : ℕ) → Event
   TurnedOn : (number : ℕ) (area : SwapArea) → Event
   TurnedOff : (number : ℕ) → Event
 
@@ -208,7 +208,7 @@ after l (Noted note) = after_note note l
 after l (Zapped k) = after_zap k l
 after l (Used write k) = after_use write k l
 after l (Forked p q pages) = after_fork p q pages l
-after l (Moved p n from to) = after_move p n from to l
+after l (EntriesMoved p n from to) = after_move p n from to l
 after l (TurnedOn k area) = record l { on = put nat_cmp k area l.on }
 after l (TurnedOff k) = record l { on = where_key nat_cmp (λ q. not (q == k)) l.on }
 

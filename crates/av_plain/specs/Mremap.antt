@@ -13,7 +13,7 @@ use Rattle.av_vma.specs.Gap.{IsGap}
 use Rattle.av_vma.specs.Join.{same_prot}
 use Rattle.av_vma.specs.Mremap.{after_move, after_resize}
 use Rattle.av_vma.specs.Pages.{Lengths, Pages, after_map}
-use Rattle.av_plain.specs.Event.{Event, Moved, after_all}
+use Rattle.av_plain.specs.Event.{Event, EntriesMoved, after_all}
 use Rattle.av_plain.specs.Ledger.{Ledger}
 use Rattle.av_plain.specs.Place.{IsMapAt}
 use Rattle.av_plain.specs.World.{Page, Process, is_mapped, meets, zeros}
@@ -90,7 +90,7 @@ remap_events l p from n to m =
     if to == from then range_zaps l p (from + m) (n - m)
     else (let target = range_zaps l p to m in
     let tail = range_zaps (after_all l target) p (from + m) (n - m) in
-    target ++ tail ++ Moved p (min n m) from to ∷ [])
+    target ++ tail ++ EntriesMoved p (min n m) from to ∷ [])
 
 -- nothing happens where there is no room
 abbrev pub events_to : Ledger → ℕ → ℕ → ℕ → Option ℕ → ℕ → List Event

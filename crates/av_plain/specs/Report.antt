@@ -13,7 +13,7 @@ use Rattle.av_trace.specs.declared.row.Row.{Row}
 use Rattle.av_trace.specs.declared.row.Row.TheVariants.{Run, Area as AreaRow, Entry as EntryRow}
 use Rattle.av_trace.specs.declared.reply.Totals.{Totals}
 use Rattle.av_vma.specs.declared.area.Area.{Area}
-use Rattle.av_vma.specs.Join.{first_of, past_of}
+use Rattle.av_vma.specs.Index.{first_of, past_of}
 use Rattle.av_vma.specs.Pages.{Pages, pages_in}
 use Rattle.av_plain.specs.Areas.{Anons, Areas, chain_by}
 use Rattle.av_plain.specs.World.{World, Process, Page}

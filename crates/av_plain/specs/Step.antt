@@ -122,6 +122,6 @@ fault_answers (Bus k shown) = 1
 fault_answers (Refused Eio) = 1
 fault_answers answer = 0
 
--- by how much the device's count of faults has risen, at the least
+-- by how much the device's count of failures has risen, at the least
 abbrev pub causes : Reply → ℕ
 causes reply = max (fails reply.notes) (failed_frames reply.answer) + fault_answers reply.answer

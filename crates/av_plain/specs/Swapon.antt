@@ -22,7 +22,7 @@ IsByHeader (Some headers) k answer = answer ≡ header_answer (headers k)
 IsByHeader None k answer = (answer ≡ Refused Einval)
     ⊎ ((slots : ℕ) × (bad : ℕ) × (0 < slots) × (answer ≡ On slots bad))
 
--- the priority that is asked for, or that of an area for which none is: less than each other
+-- the priority that is asked for, or -1 where none is
 abbrev pub priority_of : Option ℕ → ℤ
 priority_of None = negsuc 0
 priority_of (Some n) = pos n

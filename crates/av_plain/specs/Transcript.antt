@@ -71,8 +71,8 @@ abbrev pub IsRun : Setting → State → List Exchange → State → Type 0
 IsRun m old [] new = new ≡ old
 IsRun m old (e ∷ es) new = (mid : State) × IsStep m old e.command e.reply mid × IsRun m mid es new
 
--- ---- faults
+-- ---- failures
 
--- by how much the device's count of faults rose in a transcript, at the least
+-- by how much the device's count of failures rose in a transcript, at the least
 abbrev pub causes_of : List Exchange → ℕ
 causes_of exchanges = sum_by (λ (e : Exchange). causes e.reply) exchanges

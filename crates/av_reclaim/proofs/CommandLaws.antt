@@ -23,13 +23,22 @@ use Rattle.av_reclaim.specs.Driver.{closing_of, view_of}
 
 -- ---- what the loops ask
 
--- no swap area is closing
-open-of : (d : Device) (k : Mem) (w : World) (r : Rmap) (l : Ledger) → Serves d None k w r l → Serves d (closing_of k) k w r l
-open-of d k w r l h = subst (λ c. Serves d c k w r l) (sym h.swap.closed) h
+-- the area that is closing, if any is, is the system's
+pub closing-so : (d : Device) (closing : Option ℕ) (k : Mem) (w : World) (r : Rmap) (l : Ledger) → Serves d closing k w r l
+    → Serves d (closing_of k) k w r l
+closing-so d closing k w r l h = subst (λ c. Serves d c k w r l) (sym h.swap.closed) h
 
 pub is-at : (names : List ℕ) (d : Device) (k : Mem) → IsBetween d.sizes k → IsAt (view_of names (as_told false d) k) Always
-is-at names d k h =
-    (h.3, h.4.sound, (h.1, h.2, open-of (as_told false d) k h.1 h.2 h.3 (serves-whenever d.sizes None h.0 d.faults None k h.1 h.2 h.3 h.4.serves)), tt)
+is-at names d k h = (
+  h.3,
+  h.4.sound,
+  (
+    h.1,
+    h.2,
+    closing-so (as_told false d) None k h.1 h.2 h.3 (serves-whenever d.sizes None h.0 d.failures None k h.1 h.2 h.3 h.4.serves),
+  ),
+  tt,
+)
 
 -- ---- what they do
 
@@ -37,9 +46,9 @@ is-at names d k h =
 abbrev pub IsLent : List ℕ → List ℕ → Device → Device → Mem → Mem → Type 0
 IsLent names names' d₁ d' k₁ new = names' ≡ names → (d' ≡ d₁) × (new ≡ k₁)
 
-one-device : (names names' : List ℕ) (d d' : Device) (old new : Mem) → Stays (view_of names d old) (view_of names' d' new) → IsSameDevice d d'
+pub one-device : (names names' : List ℕ) (d d' : Device) (old new : Mem) → Stays (view_of names d old) (view_of names' d' new) → IsSameDevice d d'
 one-device names names' d d' old new stays =
-    record { sizes = ap (λ (m : Setting). m.sizes) stays.setting; first = stays.first; faults = stays.never_falls }
+    record { sizes = ap (λ (m : Setting). m.sizes) stays.setting; first = stays.first; failures = stays.never_falls }
 
 -- by what stays, this is so of what was lent too
 module _ (names names' : List ℕ) (d d₁ : Device) (old k₁ : Mem) (stays : Stays (view_of names d old) (view_of names' d₁ k₁)) where
@@ -64,9 +73,10 @@ done names names' d d' old new w r l notes serves goes =
     record {
       between = subst (KeepsBetween d' new w' r') (sym (note_events-all l notes)) (record {
         sound = subst (λ m. IsSound m (after_notes l notes)) (sym stays.setting) goes.sound;
-        serves = subst (λ c. Serves d' c new w' r' (after_notes l notes)) open' (does.claims w r (open-of d old w r l serves));
+        serves = subst (λ c. Serves d' c new w' r' (after_notes l notes)) open' (does.claims w r (closing-so d None old w r l serves));
       });
-      free = subst (λ c. ChoosesAll (setting_by d old) c l (note_events notes) (free_of (view old)) (free_of (view new))) serves.swap.closed does.chooses;
+      free = subst (λ c. ChoosesAll (setting_by d old) c l (note_events notes) (free_of (view old)) (free_of (view new)))
+          serves.swap.closed does.chooses;
       same = one-device names names' d d' old new stays;
       count = ap (λ (m : Setting). m.frames) stays.setting;
     }
@@ -78,12 +88,12 @@ pub added : (names names' : List ℕ) (d d₁ d' : Device) (old k₁ new : Mem) 
     → (w : World) (r : Rmap) (l : Ledger) → KeepsBetween d old w r l → HasAdded Asked d d' old new w r l before now
 added names names' d d₁ d' old k₁ new before now Q Asked asks gives lent w r l between =
     let serves = between.serves in
-    let out = gives l between.sound (w, r, open-of d old w r l serves) tt in
+    let out = gives l between.sound (w, r, closing-so d None old w r l serves) tt in
     let is = lent out.3.does.stays.names in
     subst (λ k. HasAdded Asked d d' old k w r l before now) (sym is.1) (subst (λ x. HasAdded Asked d x old k₁ w r l before now) (sym is.0) (record {
       added = out.0;
       notes = out.1;
       asked = asks w l out.0 (subst (λ c. Q c l out.0) serves.swap.closed out.2);
       done = done names names' d d₁ old k₁ w r l out.0 serves out.3;
-      faults = out.3.does.faults;
+      failures = out.3.does.failures;
     }))

@@ -35,7 +35,7 @@ ends_of (Some r) = Some (end_of r)
 
 -- a write ends on a device like another, whether it tells its pages or not
 abbrev pub EndsOn : Option Finished → Mem → Mem → Device → Device → Type 0
-EndsOn r old new d d' = Ends r old new d.pages d'.pages d.faults d'.faults
+EndsOn r old new d d' = Ends r old new d.pages d'.pages d.failures d'.failures
 
 pub ends-told : (told : Bool) (r : Option Finished) (old new : Mem) (d d' : Device) → EndsOn r old new d d'
     → EndsOn r old new (as_told told d) (as_told told d')
@@ -50,7 +50,8 @@ still a b e = omega (arith, e)
 no-less : (a b : ℕ) → b ≡ a → a ≤ b
 no-less a b e = omega (arith, e)
 
-module _ (names : List ℕ) (d d' : Device) (old new : Mem) (sizes : d'.sizes ≡ d.sizes) (more : d.faults ≤ d'.faults) (parts : KeepsParts old new) where
+module _ (names : List ℕ) (d d' : Device) (old new : Mem) (sizes : d'.sizes ≡ d.sizes) (more : d.failures ≤ d'.failures)
+    (parts : KeepsParts old new) where
   done-makes : (s : Slot) (f : ℕ) → EndsOn (Some (DoneAt s f)) old new d d'
       → Makes (view_of names d old) (view_of names d' new) Always (Written s ∷ [])
   done-makes s f ends = λ l sound stood ready. let page = ends.0 in let first = ends.1 in
@@ -60,7 +61,7 @@ module _ (names : List ℕ) (d d' : Device) (old new : Mem) (sizes : d'.sizes �
         lawful = (tt, tt);
         brings = λ w r c. tt;
         still = tt;
-        faults = still d.faults d'.faults ends.4;
+        failures = still d.failures d'.failures ends.4;
       }) (λ w. same-world (is_some (setting_by d old).headers) w) (λ w r h. by-view d d' old new l (Written s) (view_done f s (view old)) w r ends.3
       (done-steps (setting_by d old) (closing_of old) (held_by d old w r l) h.held f s (once-of (setting_by d old) any_slot l sound)
       (sym (h.held.ledger.swap.finds s) ∙ first.frame) d' page ends.2 (λ i low. first.bytes i)))
@@ -74,7 +75,7 @@ module _ (names : List ℕ) (d d' : Device) (old new : Mem) (sizes : d'.sizes �
         lawful = (tt, tt);
         brings = λ w r c. tt;
         still = tt;
-        faults = ends.4;
+        failures = ends.4;
       }) (λ w. same-world (is_some (setting_by d old).headers) w) (λ w r h. by-view d d' old new l (Failed s) (view_fail f s (view old)) w r ends.3
       (fail-steps (setting_by d old) (closing_of old) (held_by d old w r l) h.held f s (once-of (setting_by d old) any_slot l sound)
       (sym (h.held.ledger.swap.finds s) ∙ first.frame) d' spoiled.0 spoiled.1))
@@ -111,7 +112,7 @@ none-moved names d d' old new Ready same move is parts = λ l sound stood ready.
   stands = (stood.0, stood.1, serves-same d' old new stood.0 stood.1 l is parts (move stood.0 stood.1 l stood.2));
   stays = step-stays names d d' old new parts same;
   chooses = ap free_of is;
-  faults = let more = same.faults in no_more d.faults d'.faults more;
+  failures = let more = same.failures in no_more d.failures d'.failures more;
   claims = λ w r c. subst (λ w'. Serves d' (closing_of new) new w' r l) (sym (same-world (is_some (setting_by d old).headers) w))
       (serves-same d' old new w r l is parts (move w r l c));
 }
@@ -126,26 +127,30 @@ none-makes names d d' old new Ready same is parts = subst (λ d'. Makes (view_of
 
 -- ---- the first write in flight ends, if there is one
 
-pub finish-makes : (names : List ℕ) (d d' : Device) (old new : Mem) (r : Option Finished) → d'.sizes ≡ d.sizes → d.faults ≤ d'.faults → KeepsParts old new
+pub finish-makes : (names : List ℕ) (d d' : Device) (old new : Mem) (r : Option Finished) → d'.sizes ≡ d.sizes → d.failures ≤ d'.failures
+    → KeepsParts old new
     → EndsOn r old new d d' → Makes (view_of names d old) (view_of names d' new) Always (notes_of_end (ends_of r))
 finish-makes names d d' old new None sizes more parts ends = none-makes names d d' old new Always
-    (λ i. record { sizes = sizes i; pages = ends.2 i; faults = ends.3 i }) ends.1 parts
+    (λ i. record { sizes = sizes i; pages = ends.2 i; failures = ends.3 i }) ends.1 parts
 finish-makes names d d' old new (Some (DoneAt s f)) sizes more parts ends = done-makes names d d' old new sizes more parts s f ends
 finish-makes names d d' old new (Some (FailedAt s f)) sizes more parts ends = fail-makes names d d' old new sizes more parts s f ends
 
 -- it is one device
-finish-same : (d d' : Device) (old new : Mem) (r : Option Finished) → d'.sizes ≡ d.sizes → d.faults ≤ d'.faults → EndsOn r old new d d'
+finish-same : (d d' : Device) (old new : Mem) (r : Option Finished) → d'.sizes ≡ d.sizes → d.failures ≤ d'.failures → EndsOn r old new d d'
     → IsSameDevice d d'
-finish-same d d' old new None sizes more ends = record { sizes = sizes; first = ap (option_map (λ told k. told k 0)) ends.2; faults = more }
+finish-same d d' old new None sizes more ends = record { sizes = sizes; first = ap (option_map (λ told k. told k 0)) ends.2; failures = more }
 finish-same d d' old new (Some (DoneAt s f)) sizes more ends = written-same d d' s ends.0 ends.1.behind_header ends.2 sizes more
 finish-same d d' old new (Some (FailedAt s f)) sizes more ends = written-same d d' s ends.2.0 ends.1.behind_header ends.2.1 sizes more
 
 -- it is the first in flight
-pub finish-first : (d d' : Device) (closing : Option ℕ) (old new : Mem) (w : World) (r : Rmap) (l : Ledger) (o : Option Finished) → EndsOn o old new d d'
+pub finish-first : (d d' : Device) (closing : Option ℕ) (old new : Mem) (w : World) (r : Rmap) (l : Ledger) (o : Option Finished)
+    → EndsOn o old new d d'
     → Serves d closing old w r l → slot_of_end (ends_of o) ≡ slice_get l.flight 0
 finish-first d d' closing old new w r l None ends h = ap (λ (s : List Slot). slice_get s 0) (sym ends.0 ∙ h.held.ledger.swap.flight)
-finish-first d d' closing old new w r l (Some (DoneAt s f)) ends h = ap (λ (s : List Slot). slice_get s 0) (sym ends.1.first ∙ h.held.ledger.swap.flight)
-finish-first d d' closing old new w r l (Some (FailedAt s f)) ends h = ap (λ (s : List Slot). slice_get s 0) (sym ends.1.first ∙ h.held.ledger.swap.flight)
+finish-first d d' closing old new w r l (Some (DoneAt s f)) ends h =
+    ap (λ (s : List Slot). slice_get s 0) (sym ends.1.first ∙ h.held.ledger.swap.flight)
+finish-first d d' closing old new w r l (Some (FailedAt s f)) ends h =
+    ap (λ (s : List Slot). slice_get s 0) (sym ends.1.first ∙ h.held.ledger.swap.flight)
 
 -- ---- for both readings of the device
 
@@ -153,25 +158,28 @@ sizes-told : (told : Bool) (d d' : Device) → d'.sizes ≡ d.sizes → (as_told
 sizes-told true d d' h = h
 sizes-told false d d' h = h
 
-faults-told : (told : Bool) (d d' : Device) → d.faults ≤ d'.faults → (as_told told d).faults ≤ (as_told told d').faults
-faults-told true d d' h = h
-faults-told false d d' h = h
+failures-told : (told : Bool) (d d' : Device) → d.failures ≤ d'.failures → (as_told told d).failures ≤ (as_told told d').failures
+failures-told true d d' h = h
+failures-told false d d' h = h
 
-pub finish-told : (names : List ℕ) (d d' : Device) (old new : Mem) (r : Option Finished) (end : Option WriteEnd) → end ≡ ends_of r → d'.sizes ≡ d.sizes
-    → d.faults ≤ d'.faults → KeepsParts old new → EndsOn r old new d d'
+pub finish-told : (names : List ℕ) (d d' : Device) (old new : Mem) (r : Option Finished) (end : Option WriteEnd) → end ≡ ends_of r
+    → d'.sizes ≡ d.sizes
+    → d.failures ≤ d'.failures → KeepsParts old new → EndsOn r old new d d'
     → (told : Bool) → Makes (view_of names (as_told told d) old) (view_of names (as_told told d') new) Always (notes_of_end end)
 finish-told names d d' old new r end is sizes more parts ends told =
     subst (λ e. Makes (view_of names (as_told told d) old) (view_of names (as_told told d') new) Always (notes_of_end e)) (sym is)
-    (finish-makes names (as_told told d) (as_told told d') old new r (sizes-told told d d' sizes) (faults-told told d d' more) parts
+    (finish-makes names (as_told told d) (as_told told d') old new r (sizes-told told d d' sizes) (failures-told told d d' more) parts
     (ends-told told r old new d d' ends))
 
-pub finish-stays : (names : List ℕ) (d d' : Device) (old new : Mem) (r : Option Finished) → d'.sizes ≡ d.sizes → d.faults ≤ d'.faults
+pub finish-stays : (names : List ℕ) (d d' : Device) (old new : Mem) (r : Option Finished) → d'.sizes ≡ d.sizes → d.failures ≤ d'.failures
     → KeepsParts old new → EndsOn r old new d d' → (told : Bool)
     → Stays (view_of names (as_told told d) old) (view_of names (as_told told d') new)
 finish-stays names d d' old new r sizes more parts ends told = step-stays names (as_told told d) (as_told told d') old new parts
-    (finish-same (as_told told d) (as_told told d') old new r (sizes-told told d d' sizes) (faults-told told d d' more) (ends-told told r old new d d' ends))
+    (finish-same (as_told told d) (as_told told d') old new r (sizes-told told d d' sizes) (failures-told told d d' more)
+    (ends-told told r old new d d' ends))
 
-pub first-told : (names : List ℕ) (d d' : Device) (old new : Mem) (r : Option Finished) (end : Option WriteEnd) → end ≡ ends_of r → EndsOn r old new d d'
+pub first-told : (names : List ℕ) (d d' : Device) (old new : Mem) (r : Option Finished) (end : Option WriteEnd) → end ≡ ends_of r
+    → EndsOn r old new d d'
     → (told : Bool) → Tells (view_of names (as_told told d) old) (λ l. slot_of_end end ≡ slice_get l.flight 0)
 first-told names d d' old new r end is ends told = λ l sound stood. ap slot_of_end is
     ∙ finish-first (as_told told d) (as_told told d') (closing_of old) old new stood.0 stood.1 l r (ends-told told r old new d d' ends) stood.2

@@ -3,4 +3,4 @@ pub mod StepMakes
 pub mod FinishMakes
 mod PutMakes
 pub mod ReadLaws
-mod CommandLaws
+pub mod CommandLaws

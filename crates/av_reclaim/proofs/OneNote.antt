@@ -34,7 +34,7 @@ pub record Owes (d d' : Device) (old new : Mem) (l : Ledger) (note : Note) : Typ
   pub lawful : IsLawfulEvent (setting_by d old) (closing_of old) l (Noted note)
   pub brings : (w : World) (r : Rmap) → Serves d (closing_of old) old w r l → Brings (is_mapped w) note
   pub still : PreparesNone note
-  pub faults : RoseBy (fails (note ∷ [])) d.faults d'.faults
+  pub failures : RoseBy (fails (note ∷ [])) d.failures d'.failures
 
 -- the memories with the note
 abbrev pub world_with : Device → Mem → World → Ledger → Note → World
@@ -59,7 +59,7 @@ step-stays names d d' old new parts same = record {
   closing = parts.swap.closing;
   names = refl;
   first = same.first;
-  never_falls = same.faults;
+  never_falls = same.failures;
 }
 
 pub one-does : (names : List ℕ) (d d' : Device) (old new : Mem) (l : Ledger) (note : Note) → StandsBy d old l → Owes d d' old new l note
@@ -68,7 +68,7 @@ one-does names d d' old new l note stood owes law = record {
   stands = (world_with d old stood.world l note, rmap_after_note l note stood.rmap, next stood.world stood.rmap stood.serves);
   stays = step-stays names d d' old new owes.parts owes.same;
   chooses = (_, (law stood.world stood.rmap stood.serves).chosen, refl);
-  faults = owes.faults;
+  failures = owes.failures;
   claims = next;
 }
   where

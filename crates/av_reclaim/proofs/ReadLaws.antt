@@ -117,7 +117,8 @@ module _ (d : Device) (closing : Option ℕ) (k : Mem) (w : World) (r : Rmap) (l
           absurd (omega (arith, a, i, e, used))
 
   -- the frame before one in its list
-  pub before-inactive : (f : ℕ) (o : Option ℕ) → (is_in f k.lists.inactive ≡ true → o ≡ frame_before None f k.lists.inactive) → (ahead behind : List ℕ)
+  pub before-inactive : (f : ℕ) (o : Option ℕ) → (is_in f k.lists.inactive ≡ true → o ≡ frame_before None f k.lists.inactive)
+      → (ahead behind : List ℕ)
       → l.inactive ≡ ahead ++ f ∷ behind → o ≡ slice_get (reverse ahead) 0
   before-inactive f o is ahead behind there =
       let same : k.lists.inactive ≡ ahead ++ f ∷ behind = h.held.ledger.lists.inactive ∙ there in
@@ -153,7 +154,8 @@ none-free m l lists = all-false 0 m.frames (λ f below. by (is_free l f) (nat_lt
 
 pub free-first : (m : Setting) (l : Ledger) (free : List ℕ) (o : Option ℕ) → o ≡ first_of free → ListsFree m l free
     → MatchOption o (has_free m l ≡ false) (λ f. (f < m.frames) × (is_free l f ≡ true))
-free-first m l [] o is lists = subst (λ o. MatchOption o (has_free m l ≡ false) (λ f. (f < m.frames) × (is_free l f ≡ true))) (sym is) (none-free m l lists)
+free-first m l [] o is lists =
+    subst (λ o. MatchOption o (has_free m l ≡ false) (λ f. (f < m.frames) × (is_free l f ≡ true))) (sym is) (none-free m l lists)
 free-first m l (f ∷ left) o is lists =
     let first = first-is m l f left lists in
     subst (λ o. MatchOption o (has_free m l ≡ false) (λ f. (f < m.frames) × (is_free l f ≡ true))) (sym is) (first.below, first.free)
@@ -170,7 +172,8 @@ seen-as f (Away s) = refl
 abbrev keys_passing : (Entry → Bool) → List (Key × Entry) → List Key
 keys_passing p es = map (λ e. e.0) (filter (λ e. p e.1) es)
 
-some-listed : (p : Entry → Bool) (es : List (Key × Entry)) (q : Key) → list_any (same_key q) (keys_passing p es) ≡ true → list_any (λ e. p e.1) es ≡ true
+some-listed : (p : Entry → Bool) (es : List (Key × Entry)) (q : Key) → list_any (same_key q) (keys_passing p es) ≡ true
+    → list_any (λ e. p e.1) es ≡ true
 some-listed p [] q h = h
 some-listed p (e ∷ es) q h = by (p e.1) h (some-listed p es q)
   where
@@ -185,7 +188,8 @@ none-listed p [] h = refl
 none-listed p (e ∷ es) h = by (p e.1) h (none-listed p es)
   where
     by : (b : Bool) → ((q : Key) → list_any (same_key q) (map (λ e. e.0) (cond b (e ∷ filter (λ e. p e.1) es) (filter (λ e. p e.1) es))) ≡ false)
-        → (((q : Key) → list_any (same_key q) (keys_passing p es) ≡ false) → list_any (λ e. p e.1) es ≡ false) → (b || list_any (λ e. p e.1) es) ≡ false
+        → (((q : Key) → list_any (same_key q) (keys_passing p es) ≡ false) → list_any (λ e. p e.1) es ≡ false)
+        → (b || list_any (λ e. p e.1) es) ≡ false
     by true h more = absurd (false≢true (sym (h e.0) ∙ ap (λ b. b || list_any (same_key e.0) (keys_passing p es)) (same_key-itself e.0)))
     by false h more = more h
 
@@ -195,6 +199,7 @@ pub seen-is : (d : Device) (closing : Option ℕ) (k : Mem) (w : World) (r : Rma
     → b ≡ is_referenced l f
 seen-is d closing k w r l f sorted h true some =
     sym (some-listed (names_seen f) l.entries some.0 (keys-filter (names_seen f) l.entries some.0 sorted
-    ∙ sym (ap (passes (names_seen f)) (h.held.ledger.tables.entries some.0.0 some.0.1)) ∙ sym (seen-as f (entry_at k.tables some.0.0 some.0.1)) ∙ some.1))
+    ∙ sym (ap (passes (names_seen f)) (h.held.ledger.tables.entries some.0.0 some.0.1))
+    ∙ sym (seen-as f (entry_at k.tables some.0.0 some.0.1)) ∙ some.1))
 seen-is d closing k w r l f sorted h false none = sym (none-listed (names_seen f) l.entries (λ q. keys-filter (names_seen f) l.entries q sorted
     ∙ sym (ap (passes (names_seen f)) (h.held.ledger.tables.entries q.0 q.1)) ∙ sym (seen-as f (entry_at k.tables q.0 q.1)) ∙ none q.0 q.1))

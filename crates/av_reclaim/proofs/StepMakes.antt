@@ -41,7 +41,7 @@ same-world false w = refl
 
 -- one device
 pub itself : (d : Device) → IsSameDevice d d
-itself d = record { sizes = refl; first = refl; faults = omega arith }
+itself d = record { sizes = refl; first = refl; failures = omega arith }
 
 -- a step of the memory system alone changes none of what stays
 pub mem-stays : (names : List ℕ) (d : Device) (old new : Mem) → KeepsParts old new → Stays (view_of names d old) (view_of names d new)
@@ -68,7 +68,8 @@ frame-found s l = by l.cache
     by (c ∷ cs) = one (same_slot s c.slot) (by cs)
       where
         one : (b : Bool)
-            → is_some (option_map (λ (c : Cached). c.frame) (cached_by (λ c. same_slot s c.slot) cs)) ≡ list_any (λ (c : Cached). same_slot s c.slot) cs
+            → is_some (option_map (λ (c : Cached). c.frame) (cached_by (λ c. same_slot s c.slot) cs)) ≡ list_any
+            (λ (c : Cached). same_slot s c.slot) cs
             → is_some (option_map (λ (c : Cached). c.frame) (cond b (Some c) (cached_by (λ c. same_slot s c.slot) cs)))
             ≡ (b || list_any (λ (c : Cached). same_slot s c.slot) cs)
         one true h = refl
@@ -89,7 +90,8 @@ cached-there-too d closing k w r l s h cached = ap is_some (h.held.ledger.swap.f
 -- ---- kept, or aged
 
 -- for this cause
-pub kept-as : (old new : Mem) (f : ℕ) (cause this : Cause) → cause ≡ this → view new ≡ view_keep f this (view old) → view new ≡ view_keep f cause (view old)
+pub kept-as : (old new : Mem) (f : ℕ) (cause this : Cause) → cause ≡ this → view new ≡ view_keep f this (view old)
+    → view new ≡ view_keep f cause (view old)
 kept-as old new f cause this is at = at ∙ ap (λ c. view_keep f c (view old)) (sym is)
 
 -- for one of two that it is at the head of inactive
@@ -107,7 +109,7 @@ keep-makes names d old new f cause is parts = λ l sound stood may. one-still na
       lawful = (tt, tt);
       brings = λ w r c. tt;
       still = tt;
-      faults = stands-still d.faults;
+      failures = stands-still d.failures;
     }) (λ w. same-world (is_some (setting_by d old).headers) w) (λ w r h. by-view d d old new l (Kept f cause) (view_keep f cause (view old)) w r is
     (keep-steps (setting_by d old) (closing_of old) (held_by d old w r l) h.held f cause))
 
@@ -120,8 +122,9 @@ age-makes names d old new f is parts = λ l sound stood may. one-still names d d
       lawful = (tt, tt);
       brings = λ w r c. tt;
       still = tt;
-      faults = stands-still d.faults;
-    }) (λ w. same-world (is_some (setting_by d old).headers) w) (λ w r h. by-view d d old new l (Aged f) (view_to_head f (view_unseen f (view old))) w r is
+      failures = stands-still d.failures;
+    }) (λ w. same-world (is_some (setting_by d old).headers) w)
+    (λ w r h. by-view d d old new l (Aged f) (view_to_head f (view_unseen f (view old))) w r is
     (age-steps (setting_by d old) (closing_of old) (held_by d old w r l) h.held f))
 
 -- ---- a write begins
@@ -135,7 +138,7 @@ start-makes names d old new s is parts = λ l sound stood may. let at = frame-of
       lawful = (tt, tt);
       brings = λ w r c. tt;
       still = tt;
-      faults = stands-still d.faults;
+      failures = stands-still d.failures;
     }) (λ w. same-world (is_some (setting_by d old).headers) w) (λ w r h. by-view d d old new l (Started s) (view_start at.0 s (view old)) w r
     (subst (λ o. IfSome o (λ f. view new ≡ view_start f s (view old))) (h.held.ledger.swap.finds s ∙ at.1) is)
     (start-steps (setting_by d old) (closing_of old) (held_by d old w r l) h.held at.0 s (once-of (setting_by d old) any_slot l sound) at.1))
@@ -159,7 +162,7 @@ drop-makes names d old new s is parts = λ l sound stood may. let at = frame-of 
       lawful = (tt, tt);
       brings = λ w r c. tt;
       still = tt;
-      faults = stands-still d.faults;
+      failures = stands-still d.failures;
     }) (λ w. same-world (is_some (setting_by d old).headers) w) (λ w r h. by-view d d old new l (Dropped s) (view_drop at.0 s (view old)) w r
     (subst (λ o. IfSome o (λ f. view new ≡ view_drop f s (view old))) (h.held.ledger.swap.finds s ∙ at.1) is)
     (drop-steps (setting_by d old) (closing_of old) (held_by d old w r l) h.held at.0 s (once-of (setting_by d old) any_slot l sound) at.1
@@ -191,19 +194,21 @@ unmap-makes names d old new f s at is parts = λ l sound stood may.
       lawful = (tt, tt);
       brings = λ w r c. tt;
       still = tt;
-      faults = stands-still d.faults;
+      failures = stands-still d.failures;
     }) (λ w. same-world (is_some (setting_by d old).headers) w) (λ w r h. by-view d d old new l (Unmapped f) (view_unmap f s (view old)) w r is
     (unmap-steps (setting_by d old) (closing_of old) (held_by d old w r l) h.held f s (once-of (setting_by d old) any_slot l sound)
     (sym (h.held.ledger.frames.slots f) ∙ at)))
 
 -- the frame that the swap cache has at a slot
-pub slot-cached : (d : Device) (closing : Option ℕ) (k : Mem) (w : World) (r : Rmap) (l : Ledger) (f : ℕ) (s : Slot) → IsSoundBut (setting_by d k) any_slot l
+pub slot-cached : (d : Device) (closing : Option ℕ) (k : Mem) (w : World) (r : Rmap) (l : Ledger) (f : ℕ) (s : Slot)
+    → IsSoundBut (setting_by d k) any_slot l
     → Serves d closing k w r l → (view k).slot f ≡ Some s → is_some ((view k).find s) ≡ true
 slot-cached d closing k w r l f s sound h at = ap is_some (h.held.ledger.swap.finds s
     ∙ slot-frame l (once-of (setting_by d k) any_slot l sound) f s (sym (h.held.ledger.frames.slots f) ∙ at))
 
 -- counts have room for all entries of the frame
-pub names-few : (d : Device) (closing : Option ℕ) (k : Mem) (w : World) (r : Rmap) (l : Ledger) (f : ℕ) (s : Slot) → IsSoundBut (setting_by d k) any_slot l
+pub names-few : (d : Device) (closing : Option ℕ) (k : Mem) (w : World) (r : Rmap) (l : Ledger) (f : ℕ) (s : Slot)
+    → IsSoundBut (setting_by d k) any_slot l
     → Serves d closing k w r l → (view k).slot f ≡ Some s → (view k).entries s + (view k).maps f < 2 ^ 32
 names-few d closing k w r l f s sound h at =
     let few = together-few (setting_by d k) any_slot w l f s sound h.at_pages (sym (h.held.ledger.frames.slots f) ∙ at) in

@@ -21,4 +21,4 @@ pub record HasAdded (Asked : Setting → World → Ledger → List Note → Type
   pub notes : now ≡ before ++ added
   pub asked : Asked (setting_by d old) w l added
   pub done : HasDone d d' old new w r l (note_events added)
-  pub faults : RoseBy (fails added) d.faults d'.faults
+  pub failures : RoseBy (fails added) d.failures d'.failures

@@ -22,7 +22,7 @@ pub struct Driver<'a, D: SwapDev> {
 
 impl<'a, D: SwapDev> System for Driver<'a, D> {
     ghost view = { λ s told. view_of (s.mem.ghost_name ∷ s.dev.ghost_name ∷ []) (as_told told
-        (device_by (D.sizes s.dev.now) (D.pages s.dev.now) (D.faults s.dev.now))) s.mem.now };
+        (device_by (D.sizes s.dev.now) (D.pages s.dev.now) (D.failures s.dev.now))) s.mem.now };
 
     fn frames(&self) -> u32 {
         self.mem.frames.count()

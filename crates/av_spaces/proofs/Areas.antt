@@ -104,11 +104,13 @@ rising_all f p (s ∷ []) n h = by (f s.area) n.0
     by (Some a) x = own p s a x
 rising_all f p (s ∷ t ∷ spans) n h = by (f s.area) n.0 (f t.area) n.1.0 (rising_all f p (t ∷ spans) n.1 h.2)
   where
-    by : (o : Option Area) → IsSomeAnd o (IsAreaOf p s) → (o' : Option Area) → IsSomeAnd o' (IsAreaOf p t) → AreRising p (cons_option o' (areas_by f spans)) →
+    by : (o : Option Area) → IsSomeAnd o (IsAreaOf p s) → (o' : Option Area) → IsSomeAnd o' (IsAreaOf p t)
+        → AreRising p (cons_option o' (areas_by f spans)) →
         AreRising p (cons_option o (cons_option o' (areas_by f spans)))
     by None x o' y rest = absurd x
     by (Some a) x None y rest = absurd y
-    by (Some a) x (Some b) y rest = (own p s a x, (let ends = x.to in let begins = y.from in let apart = h.1.0 in omega (arith, ends, begins, apart)), rest)
+    by (Some a) x (Some b) y rest =
+        (own p s a x, (let ends = x.to in let begins = y.from in let apart = h.1.0 in omega (arith, ends, begins, apart)), rest)
 
 pub rising_of : (f : ℕ → Option Area) (p : ℕ) (spans : List Span) → AreAreasOf p f spans → AreRising p (areas_by f spans)
 rising_of f p spans areas = rising_all f p spans (numbered f p spans areas) areas.spans_are.apart
@@ -121,4 +123,5 @@ none = record { from = 0; to = 0; area = 0 }
 -- one more of the areas that are still to come
 pub one_more : (f : ℕ → Option Area) (list all : List Area) (s : Span) (area : Area) (spans : List Span) → f s.area ≡ Some area →
     list ++ areas_by f (s ∷ spans) ≡ all → (list ++ area ∷ []) ++ areas_by f spans ≡ all
-one_more f list all s area spans is h = append_assoc list (area ∷ []) (areas_by f spans) ∙ ap (λ o. list ++ cons_option o (areas_by f spans)) (sym is) ∙ h
+one_more f list all s area spans is h = append_assoc list (area ∷ []) (areas_by f spans)
+    ∙ ap (λ o. list ++ cons_option o (areas_by f spans)) (sym is) ∙ h

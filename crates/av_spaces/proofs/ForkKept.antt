@@ -85,7 +85,8 @@ record IsKept (s : AllSpaces) (old : Anons) (k : Lineage) : Type 0 where
   kin : (v : ℕ) → IfSome (info_of old v) (IsKin (k.info v))
   chains : (v : ℕ) → IsOwnedIn s v → k.chain v ≡ chain_by s old (Some v)
 
-module _ (s : AllSpaces) (old : Anons) (child : ℕ) (areas : List Area) (dead : areas_of s.processes child ≡ None) (turn : GoInTurn s old child areas) where
+module _ (s : AllSpaces) (old : Anons) (child : ℕ) (areas : List Area) (dead : areas_of s.processes child ≡ None)
+    (turn : GoInTurn s old child areas) where
   -- what an area had as its own it has
   owned_still : (mid : AllSpaces) (these : List Area) → IsSpawned s.processes mid.processes child these → (v : ℕ) → IsOwnedIn s v → IsOwnedIn mid v
   owned_still mid these spawned v owned = elim (cases_eq owned.0 child) [
@@ -98,7 +99,8 @@ module _ (s : AllSpaces) (old : Anons) (child : ℕ) (areas : List Area) (dead :
     )
   ]
 
-  kept_step : (mid : AllSpaces) (a : Anons) (done : List Area) (area : Area) → IsForked s old mid a child done → IsKept s old (kin_after done (kin_of s old))
+  kept_step : (mid : AllSpaces) (a : Anons) (done : List Area) (area : Area) → IsForked s old mid a child done
+      → IsKept s old (kin_after done (kin_of s old))
       → IsKept s old (kin_after (done ++ area ∷ []) (kin_of s old))
   kept_step mid a done area f h = subst (IsKept s old) (ap (kin_with area.anon) f.kin ∙ sym (kin_after-more done area (kin_of s old))) (record {
     kin = λ v. by v (info_of old v) (now.kin v);
@@ -136,11 +138,13 @@ module _ (s : AllSpaces) (old : Anons) (child : ℕ) (areas : List Area) (dead :
   pub kept : (s' : AllSpaces) (new : Anons) → IsForked s old s' new child areas → AreKept s old s' new
   kept s' new f =
       let all : IsKept s old (kin_of s' new) =
-      subst (IsKept s old) (ap (λ l. kin_after l (kin_of s old)) (take_all (length areas) areas (omega arith)) ∙ sym f.kin) (kept_at (length areas)) in
+      subst (IsKept s old) (ap (λ l. kin_after l (kin_of s old)) (take_all (length areas) areas (omega arith)) ∙ sym f.kin)
+      (kept_at (length areas)) in
       record { kin = all.kin; chains = all.chains }
 
 -- by the parent's areas
-pub kept_by : (s : AllSpaces) (old : Anons) (s' : AllSpaces) (new : Anons) (child : ℕ) (parent : Option (List Area)) → areas_of s.processes child ≡ None
+pub kept_by : (s : AllSpaces) (old : Anons) (s' : AllSpaces) (new : Anons) (child : ℕ) (parent : Option (List Area))
+    → areas_of s.processes child ≡ None
     → IsSomeAnd parent (IsForked s old s' new child) → IsSomeAnd parent (GoInTurn s old child) → AreKept s old s' new
 kept_by s old s' new child None dead f turn = absurd f
 kept_by s old s' new child (Some areas) dead f turn = kept s old child areas dead turn s' new f

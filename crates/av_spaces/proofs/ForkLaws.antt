@@ -9,7 +9,7 @@ use Rattle.std.specs.List.{cons_option, AllByRecursion}
 use Rattle.av_base.specs.Words.{with_at}
 use Rattle.av_vma.specs.declared.area.Area.{Area}
 use Rattle.av_vma.specs.Areas.{area_of}
-use Rattle.av_vma.specs.Join.{first_of, past_of}
+use Rattle.av_vma.specs.Index.{first_of, past_of}
 use Rattle.av_vma.specs.Pages.{IsWhole}
 use Rattle.av_vmatree.specs.declared.span.Span.{Span}
 use Rattle.av_vmatree.specs.Spans.{AreApart, IsFree, is_page_taken, span, with_span}
@@ -35,7 +35,8 @@ AreBelow spans later = AllByRecursion (λ s. AllByRecursion (λ t. s.to ≤ t.fr
 pub record IsForking (child : ℕ) (old areas : List (Option Area)) (tree : List Span) (before anons : Anons) (spans : List Span) (i : ℕ) : Type 0 where
   pub done : HasForked child old before (take i spans) areas tree anons
   pub below : AreBelow tree (drop i spans)
-  pub between : (n : ℕ) → n ≤ i → (mid : List (Option Area)) × (tree : List Span) × (anons : Anons) × HasForked child old before (take n spans) mid tree anons
+  pub between : (n : ℕ) → n ≤ i
+      → (mid : List (Option Area)) × (tree : List Span) × (anons : Anons) × HasForked child old before (take n spans) mid tree anons
 
 -- at first
 pub forks_none : (child : ℕ) (old : List (Option Area)) (before : Anons) (tree spans : List Span) → AreInOrder old before →
@@ -44,7 +45,8 @@ pub forks_none : (child : ℕ) (old : List (Option Area)) (before : Anons) (tree
 forks_none child old before tree spans order none empty = record {
   done = first;
   below = subst (λ t. AreBelow t spans) (sym empty) tt;
-  between = λ n less. let e : 0 ≡ n = omega arith in (old, tree, before, subst (λ n. HasForked child old before (take n spans) old tree before) e first);
+  between = λ n less. let e : 0 ≡ n = omega arith in
+      (old, tree, before, subst (λ n. HasForked child old before (take n spans) old tree before) e first);
 }
   where
     first : HasForked child old before [] old tree before
@@ -105,7 +107,8 @@ all_as P Q (s ∷ spans) as_q all = (as_q s all.0, all_as P Q spans as_q all.1)
 -- spans that end before another's first page begin before it
 begin_below : (spans : List Span) (from : ℕ) → AreApart spans → AllByRecursion (λ s. s.to ≤ from) spans → AllByRecursion (λ s. s.from < from) spans
 begin_below [] from apart below = tt
-begin_below (s ∷ spans) from apart below = ((let some = apart.0 in let end = below.0 in omega (arith, some, end)), begin_below spans from apart.2 below.1)
+begin_below (s ∷ spans) from apart below =
+    ((let some = apart.0 in let end = below.0 in omega (arith, some, end)), begin_below spans from apart.2 below.1)
 
 apart_rest : (i : ℕ) (spans : List Span) → AreApart spans → AreApart (drop i spans)
 apart_rest zero spans h = h
@@ -134,7 +137,8 @@ pub record IsNext (p : ℕ) (old areas : ℕ → Option Area) (s : Span) : Type 
   pub now : areas s.area ≡ Some area
   pub is : IsAreaOf p s area
 
-module _ (child p : ℕ) (old areas : List (Option Area)) (tree : List Span) (before anons : Anons) (spans : List Span) (i : ℕ) (inside : i < length spans)
+module _ (child p : ℕ) (old areas : List (Option Area)) (tree : List Span) (before anons : Anons) (spans : List Span) (i : ℕ)
+    (inside : i < length spans)
     (parent : AreAreasOf p (area_of old) spans) (none : HasNone child (area_of old)) (h : IsForking child old areas tree before anons spans i) where
   abbrev s : Span
   s = slice_index_or spans i (record { from = 0; to = 0; area = 0 })
@@ -175,7 +179,8 @@ module _ (child p : ℕ) (old areas : List (Option Area)) (tree : List Span) (be
       (subst (λ from. IsFree (is_page_taken tree) from (past_of n.area)) n.is.from (free_above tree s.from (past_of n.area) ends_below))
 
   module _ (new : List (Option Area)) (after : List Span) (anons' : Anons) (stands : Stays child (area_of areas) (area_of new) after) where
-    forks_as : (area : Area) (number : ℕ) → area_of old s.area ≡ Some area → IsAreaOf p s area → IsForkedTo child area areas tree anons new after anons' number
+    forks_as : (area : Area) (number : ℕ) → area_of old s.area ≡ Some area → IsAreaOf p s area
+        → IsForkedTo child area areas tree anons new after anons' number
         → IsForking child old new after before anons' spans (i + 1)
     forks_as area number was is g =
         let k = kin_by old before in
@@ -189,7 +194,8 @@ module _ (child p : ℕ) (old areas : List (Option Area)) (tree : List Span) (be
         let kept = areas_kept (area_of areas) (area_of new) child number (Some made) tree
         (numbered (area_of areas) child tree h.done.stands.areas) g.unused g.areas in
         let list : areas_by (area_of new) after ≡ areas_by (area_of areas) tree ++ made ∷ [] =
-        ap (areas_by (area_of new)) last ∙ filter_map-append (λ (t : Span). area_of new t.area) tree (x ∷ []) ∙ (λ j. kept j ++ cons_option (here j) []) in
+        ap (areas_by (area_of new)) last ∙ filter_map-append (λ (t : Span). area_of new t.area) tree (x ∷ [])
+        ∙ (λ j. kept j ++ cons_option (here j) []) in
         let more : areas_by (area_of old) (take (i + 1) spans) ≡ earlier ++ area ∷ [] =
         ap (areas_by (area_of old)) (take_more spans i (record { from = 0; to = 0; area = 0 }) inside)
         ∙ filter_map-append (λ (t : Span). area_of old t.area) (take i spans) (s ∷ []) ∙ ap (λ o. earlier ++ cons_option o []) was in
@@ -205,7 +211,8 @@ module _ (child p : ℕ) (old areas : List (Option Area)) (tree : List Span) (be
           done = now;
           below = subst (λ l. AreBelow l left) (sym last)
               (all_more (λ t. AllByRecursion (λ u. t.to ≤ u.from) left) tree x
-              (all_as (λ t. AllByRecursion (λ u. t.to ≤ u.from) (s ∷ left)) (λ t. AllByRecursion (λ u. t.to ≤ u.from) left) tree (λ t both. both.1) below)
+              (all_as (λ t. AllByRecursion (λ u. t.to ≤ u.from) (s ∷ left)) (λ t. AllByRecursion (λ u. t.to ≤ u.from) left) tree
+              (λ t both. both.1) below)
               (subst (λ to. AllByRecursion (λ u. to ≤ u.from) left) is.to apart.1));
           between = λ n less. elim (cases_lt i n) [
             | inl late ↦ let e : i + 1 ≡ n = omega (arith, late, less) in
@@ -222,7 +229,8 @@ module _ (child p : ℕ) (old areas : List (Option Area)) (tree : List Span) (be
         forks_as n.area g.0 n.was n.is g.1
 
 -- at last
-module _ (child : ℕ) (old areas : List (Option Area)) (tree : List Span) (before anons : Anons) (spans : List Span) (i : ℕ) (outside : length spans ≤ i)
+module _ (child : ℕ) (old areas : List (Option Area)) (tree : List Span) (before anons : Anons) (spans : List Span) (i : ℕ)
+    (outside : length spans ≤ i)
     (h : IsForking child old areas tree before anons spans i) where
   pub forks_all : HasForked child old before spans areas tree anons
   forks_all = subst (λ l. HasForked child old before l areas tree anons) (take_all i spans outside) h.done
@@ -255,10 +263,12 @@ module _ (child parent : ℕ) (old : List (Option Area)) (before mid : Trees) (a
         (spawns (area_of old) (area_of new) before mid child tree (spaces_by (area_of old) before) trees refl dead (λ _. h.stands) grown place);
     kin = h.kin;
     fit = fit_in new (slice_set mid child (Some tree)) a'
-        (trees_spawned (area_of old) (area_of new) before mid child tree (spaces_by (area_of old) before) trees refl dead (λ _. h.stands) grown place) h.order;
+        (trees_spawned (area_of old) (area_of new) before mid child tree (spaces_by (area_of old) before) trees refl dead (λ _. h.stands) grown
+        place) h.order;
   }
 
-  pub forked : (new : List (Option Area)) (tree : List Span) (a' : Anons) (s : AllSpaces) → all_spaces old before ≡ s → areas_of s.processes child ≡ None
+  pub forked : (new : List (Option Area)) (tree : List Span) (a' : Anons) (s : AllSpaces) → all_spaces old before ≡ s
+      → areas_of s.processes child ≡ None
       → HasForked child old a spans new tree a'
       → IsSomeAnd (areas_of s.processes parent) (IsForked s a (all_spaces new (slice_set mid child (Some tree))) a' child)
   forked new tree a' s view dead h =
@@ -273,7 +283,8 @@ module _ (child parent : ℕ) (old : List (Option Area)) (before mid : Trees) (a
       subst (λ (s : AllSpaces). areas_of s.processes child ≡ None → IsSomeAnd (areas_of s.processes parent) (GoInTurn s a child)) view
       (λ dead. subst (λ o. IsSomeAnd o (GoInTurn (all_spaces old before) a child)) (sym there) (λ n.
       let m = h n in
-      let first = areas_by-take (area_of old) parent n spans (numbered (area_of old) parent spans (tree_of (area_of old) before parent spans trees was)) in (
+      let first = areas_by-take (area_of old) parent n spans
+      (numbered (area_of old) parent spans (tree_of (area_of old) before parent spans trees was)) in (
         all_spaces m.0 (slice_set mid child (Some m.1)),
         m.2,
         subst (IsForked (all_spaces old before) a (all_spaces m.0 (slice_set mid child (Some m.1))) m.2 child) first

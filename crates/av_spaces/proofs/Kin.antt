@@ -41,7 +41,8 @@ page_of_area f ts b A trees is = by (tree_at ts A.pid) refl (trees A.pid)
         → (page : ℕ) × (pages_of (spaces_by f ts) A.pid page ≡ Some A)
     by None at none = absurd (subst (λ o. IfSome o (λ area. area.pid ≢ A.pid)) is (none b) refl)
     by (Some spans) at areas =
-        let s = some_is (span_of spans b) (subst (λ o. IfSome o (λ area. area.pid ≡ A.pid → is_some (span_of spans b) ≡ true)) is (areas.all b) refl) in
+        let s = some_is (span_of spans b)
+        (subst (λ o. IfSome o (λ area. area.pid ≡ A.pid → is_some (span_of spans b) ≡ true)) is (areas.all b) refl) in
         let there = area_in A.pid f spans b s.0 areas s.1 in
         let whole = there.is.whole.some in
         let from = there.is.from in
@@ -114,7 +115,8 @@ passes_once : (test : ℕ → Bool) (b : ℕ) (xs : List ℕ) → how_many (λ c
 passes_once test b [] once h = absurd (omega (arith, once))
 passes_once test b (x ∷ xs) once h = by (b == x) refl once (passes_once test b xs)
   where
-    by : (t : Bool) → (b == x) ≡ t → cond t 1 0 + how_many (λ c. b == c) xs ≡ 1 → (how_many (λ c. b == c) xs ≡ 1 → test b ≡ true → 1 ≤ how_many test xs)
+    by : (t : Bool) → (b == x) ≡ t → cond t 1 0 + how_many (λ c. b == c) xs ≡ 1
+        → (how_many (λ c. b == c) xs ≡ 1 → test b ≡ true → 1 ≤ how_many test xs)
         → 1 ≤ cond (test x) 1 0 + how_many test xs
     by true e once rest = let here : cond (test x) 1 0 ≡ 1 = ap one_if (ap test (sym (eqb-true b x e)) ∙ h) in omega (arith, here)
     by false e once rest = let later = rest (omega (arith, once)) h in omega (arith, later)
@@ -145,7 +147,8 @@ module _ (areas : List (Option Area)) (ts : Trees) (a : Anons) (trees : AreTrees
   pub there_linked : (v : ℕ) → IsLinkedIn (all_spaces areas ts) a v → IsSome (info_of a v)
   there_linked v h = by (pages_of (spaces_by (area_of areas) ts) h.0 h.1) refl h.2
     where
-      of_own : (A : Area) (b : ℕ) → area_of areas b ≡ Some A → (own : Option ℕ) → A.anon ≡ own → is_in v (chain_by (all_spaces areas ts) a own) ≡ true →
+      of_own : (A : Area) (b : ℕ) → area_of areas b ≡ Some A → (own : Option ℕ) → A.anon ≡ own
+          → is_in v (chain_by (all_spaces areas ts) a own) ≡ true →
           IsSome (info_of a v)
       of_own A b at None is member = absurd (false≢true member)
       of_own A b at (Some own) is member = (order.chains b).there v
@@ -171,7 +174,8 @@ module _ (areas : List (Option Area)) (ts : Trees) (a : Anons) (trees : AreTrees
                 owned_there areas ts b.0 v trees (owns-is v (own_of (area_of areas b.0)) b.1),
             λ owned.
                 let b = owner_there areas ts v trees owned in
-                let once : how_many (λ c. b.0 == c) ((family a).users v) ≡ 1 = order.inverse.inverse b.0 v ∙ ap one_if ((order.chains b.0).own_in v b.1) in
+                let once : how_many (λ c. b.0 == c) ((family a).users v) ≡ 1 = order.inverse.inverse b.0 v
+                ∙ ap one_if ((order.chains b.0).own_in v b.1) in
                 subst (λ n. 1 ≤ n) (sym counted) (passes_once test b.0 ((family a).users v) once (ap (owns v) b.1 ∙ eq-eqb v v refl)),
           )
 
@@ -241,11 +245,13 @@ anons_stay_by old new before after a a' s view trees trees' order h =
     subst (λ (s : AllSpaces). AnonsStay s a (all_spaces new after) a') view
     (anons_stay old new before after a a' trees trees' (order_in old before s a view order) h)
 
-pub anons_prepare_by : (old new : List (Option Area)) (ts : Trees) (a a' : Anons) (p page : ℕ) (spans : List Span) (s : AllSpaces) → all_spaces old ts ≡ s
+pub anons_prepare_by : (old new : List (Option Area)) (ts : Trees) (a a' : Anons) (p page : ℕ) (spans : List Span) (s : AllSpaces)
+    → all_spaces old ts ≡ s
     → AreTrees (area_of old) ts → AreTrees (area_of new) ts → tree_at ts p ≡ Some spans → PrepareKin old spans a new a' page
     → AnonsPrepare s a (all_spaces new ts) a' p page
 anons_prepare_by old new ts a a' p page spans s view trees trees' was prepared =
-    subst (λ (s : AllSpaces). AnonsPrepare s a (all_spaces new ts) a' p page) view (anons_prepare old new ts a a' p page spans trees trees' was prepared)
+    subst (λ (s : AllSpaces). AnonsPrepare s a (all_spaces new ts) a' p page) view
+    (anons_prepare old new ts a a' p page spans trees trees' was prepared)
 
 -- ---- the chain of a page's area
 
@@ -289,7 +295,8 @@ stay_both s s' s'' a a' a'' h g = record {
     last i j None k h = absurd h
     last i j (Some was) k h = record { root = k.root ∙ h.root; parent = k.parent ∙ h.parent }
 
-    both : (o now mid : Option Info) → IfSome now (λ i. IsSomeAnd mid (λ was. IsSameKin was i)) → IfSome mid (λ i. IsSomeAnd o (λ was. IsSameKin was i))
+    both : (o now mid : Option Info) → IfSome now (λ i. IsSomeAnd mid (λ was. IsSameKin was i))
+        → IfSome mid (λ i. IsSomeAnd o (λ was. IsSameKin was i))
         → IfSome now (λ i. IsSomeAnd o (λ was. IsSameKin was i))
     both o None mid g h = tt
     both o (Some i) None g h = absurd g

@@ -39,15 +39,18 @@ module _ {old : List (Option Area)} {ts out : Trees} {n : ℕ} {s : AllSpaces} {
 
   -- and has the pages of the process
   pub pages_out : (IsSo : Pages → Type 0) → IsSo (pages_of s.processes p) → IsSo (pages_by (area_of old) before)
-  pages_out IsSo so = subst IsSo (λ i page. pages_there (area_of old) ts p before s.processes h.sound.trees (sym h.was) (processes_are h.view) page i) so
+  pages_out IsSo so = subst IsSo
+      (λ i page. pages_there (area_of old) ts p before s.processes h.sound.trees (sym h.was) (processes_are h.view) page i) so
 
   pub taken_out : is_page_taken before ≡ is_taken s.processes p
   taken_out = taken_as (area_of old) ts p before s.processes h.sound.trees (sym h.was) (processes_are h.view)
 
-  module _ (new : List (Option Area)) (after : List Span) (stays : AreAreasOf p (area_of old) before → Stays p (area_of old) (area_of new) after) where
+  module _ (new : List (Option Area)) (after : List Span)
+      (stays : AreAreasOf p (area_of old) before → Stays p (area_of old) (area_of new) after) where
     -- another tree can be put there
     pub place_out : p < length out
-    place_out = subst (λ (ts : Trees). p < length ts) (sym h.gone) (place_still (area_of old) (area_of new) ts p before after h.sound.trees h.was stays)
+    place_out = subst (λ (ts : Trees). p < length ts) (sym h.gone)
+        (place_still (area_of old) (area_of new) ts p before after h.sound.trees h.was stays)
 
     module _ (back : Trees) (put : back ≡ slice_set out p (Some after)) where
       both : back ≡ slice_set (slice_set ts p None) p (Some after)

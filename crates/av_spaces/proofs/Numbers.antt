@@ -38,7 +38,8 @@ module _ (areas : List (Option Area)) (ts : Trees) (trees : AreTrees (area_of ar
   tree_has : (p page n : ℕ) (A : Area) (spans : List Span) → AreAreasOf p (area_of areas) spans → IsNumber (all_spaces areas ts) p page A n
       → area_at spans page ≡ Some n
   tree_has p page n A spans has is =
-      let s = some_is (span_of spans n) (subst (λ o. IfSome o (λ area. area.pid ≡ p → is_some (span_of spans n) ≡ true)) is.at (has.all n) is.process) in
+      let s = some_is (span_of spans n)
+      (subst (λ o. IfSome o (λ area. area.pid ≡ p → is_some (span_of spans n) ≡ true)) is.at (has.all n) is.process) in
       let there = area_in p (area_of areas) spans n s.0 has s.1 in
       let same : there.area ≡ A = same_area (sym there.area_is ∙ is.at) in
       let here = holds_parts s.0 page (holds_is p s.0 there.area page there.is ∙ ap (λ area. has_page area page) same ∙ is.here) in

@@ -3,7 +3,7 @@ use Rattle.std.proofs.Common.{◌≡◌, ℕ, ◌≤◌, Bool, true, false, cond
 use Rattle.std.proofs.lemmas.Bool.{false_from_ne_true}
 use Rattle.std.proofs.lemmas.Option.{none-some, same_Some}
 use Rattle.av_vma.specs.declared.area.Area.{Area}
-use Rattle.av_vma.specs.Join.{first_of, past_of}
+use Rattle.av_vma.specs.Index.{first_of, past_of}
 use Rattle.av_vma.specs.Pages.{AreLaid, has_page, pages_in}
 use Rattle.av_vma.proofs.Laid.{has_parts}
 use Rattle.av_spaces.specs.Spaces.{Spaces, IsOwn, AreRising, AllRising, areas_of, pages_of}
@@ -36,15 +36,18 @@ past_first : (p : ℕ) (a : Area) (areas : List Area) (page : ℕ) (area : Area)
 past_first p a [] page area h is = cc
 past_first p a (b ∷ areas) page area h is = by (past_first p b areas page area h.2) (has_page b page) is
   where
-    by : (pages_in (Some areas) page ≡ Some area → past_of b ≤ first_of area) → (c : Bool) → cond c (Some b) (pages_in (Some areas) page) ≡ Some area →
+    by : (pages_in (Some areas) page ≡ Some area → past_of b ≤ first_of area) → (c : Bool)
+        → cond c (Some b) (pages_in (Some areas) page) ≡ Some area →
         past_of a ≤ first_of area
     by later true is = subst (λ (x : Area). past_of a ≤ first_of x) (same_Some b area is) h.1
-    by later false is = let after = later is in let some = (first_own p b areas h.2).whole.some in let apart = h.1 in omega (arith, after, some, apart)
+    by later false is = let after = later is in let some = (first_own p b areas h.2).whole.some in let apart = h.1 in
+        omega (arith, after, some, apart)
 
 all_pages : (p : ℕ) (areas : List Area) (page other : ℕ) (area : Area) → AreRising p areas → pages_in (Some areas) page ≡ Some area →
     has_page area other ≡ true → pages_in (Some areas) other ≡ Some area
 all_pages p [] page other area h is has = cc
-all_pages p (a ∷ areas) page other area h is has = by (λ is. all_pages p areas page other area (rest_rising p a areas h) is has) (has_page a page) refl is
+all_pages p (a ∷ areas) page other area h is has =
+    by (λ is. all_pages p areas page other area (rest_rising p a areas h) is has) (has_page a page) refl is
   where
     by : (pages_in (Some areas) page ≡ Some area → pages_in (Some areas) other ≡ Some area) → (b : Bool) → has_page a page ≡ b →
         cond b (Some a) (pages_in (Some areas) page) ≡ Some area → cond (has_page a other) (Some a) (pages_in (Some areas) other) ≡ Some area

@@ -141,7 +141,8 @@ pub tree_of : (f : ℕ → Option Area) (m : Trees) (p : ℕ) (spans : List Span
 tree_of f m p spans trees is = subst (λ o. MatchOption o (HasNone p f) (AreAreasOf p f)) is (trees p)
 
 -- a page has the area that its process's tree says
-pub pages_there : (f : ℕ → Option Area) (m : Trees) (p : ℕ) (spans : List Span) (s : Spaces) → AreTrees f m → Some spans ≡ tree_at m p → spaces_by f m ≡ s →
+pub pages_there : (f : ℕ → Option Area) (m : Trees) (p : ℕ) (spans : List Span) (s : Spaces) → AreTrees f m → Some spans ≡ tree_at m p
+    → spaces_by f m ≡ s →
     (page : ℕ) → pages_of s p page ≡ pages_by f spans page
 pages_there f m p spans s trees is view page =
     ap (λ s. pages_of s p page) (sym view)
@@ -149,11 +150,13 @@ pages_there f m p spans s trees is view page =
     ∙ pages_are f p spans (numbered f p spans (tree_of f m p spans trees (sym is))) page
 
 -- and none where it doesn't live
-pub none_dead : (f : ℕ → Option Area) (m : Trees) (p : ℕ) (s : Spaces) → None ≡ tree_at m p → spaces_by f m ≡ s → (page : ℕ) → None ≡ pages_of s p page
+pub none_dead : (f : ℕ → Option Area) (m : Trees) (p : ℕ) (s : Spaces) → None ≡ tree_at m p → spaces_by f m ≡ s → (page : ℕ)
+    → None ≡ pages_of s p page
 none_dead f m p s is view page = sym (ap (λ s. pages_of s p page) (sym view) ∙ ap (λ o. pages_in o page)
     (areas_are f m p ∙ ap (option_map (areas_by f)) (sym is)))
 
-taken_at : (f : ℕ → Option Area) (p : ℕ) (spans : List Span) → AreAreasOf p f spans → (page : ℕ) → is_some (pages_by f spans page) ≡ is_page_taken spans page
+taken_at : (f : ℕ → Option Area) (p : ℕ) (spans : List Span) → AreAreasOf p f spans → (page : ℕ)
+    → is_some (pages_by f spans page) ≡ is_page_taken spans page
 taken_at f p spans areas page = by (area_at spans page) refl
   where
     by : (o : Option ℕ) → area_at spans page ≡ o → is_some (option_and_then f o) ≡ is_some o
@@ -161,7 +164,8 @@ taken_at f p spans areas page = by (area_at spans page) refl
     by (Some n) at = ap is_some (held_by f p spans page n areas at).area_is
 
 -- the pages that are taken are those that the tree holds
-pub taken_as : (f : ℕ → Option Area) (m : Trees) (p : ℕ) (spans : List Span) (s : Spaces) → AreTrees f m → Some spans ≡ tree_at m p → spaces_by f m ≡ s →
+pub taken_as : (f : ℕ → Option Area) (m : Trees) (p : ℕ) (spans : List Span) (s : Spaces) → AreTrees f m → Some spans ≡ tree_at m p
+    → spaces_by f m ≡ s →
     is_page_taken spans ≡ is_taken s p
 taken_as f m p spans s trees is view = λ i page. sym (ap is_some (pages_there f m p spans s trees is view page)
     ∙ taken_at f p spans (tree_of f m p spans trees (sym is)) page) i
@@ -219,8 +223,10 @@ module _ (f f' : ℕ → Option Area) (p : ℕ) (others : KeepsOthers p f f') wh
     where
       each : (n : ℕ) (o : Option Area) → f' n ≡ o → IfSome o (λ area. area.pid ≢ q)
       each n None is = tt
-      each n (Some area) is = λ same. subst (λ o. IfSome o (λ area. area.pid ≢ q)) (others.none_comes n area (λ here. apart (sym same ∙ here)) is) (none n) same
-  kept q apart (Some spans) areas = record { spans_are = areas.spans_are; used = λ n. used n (span_of spans n) (areas.used n); all = λ n. each n (f' n) refl }
+      each n (Some area) is =
+          λ same. subst (λ o. IfSome o (λ area. area.pid ≢ q)) (others.none_comes n area (λ here. apart (sym same ∙ here)) is) (none n) same
+  kept q apart (Some spans) areas =
+      record { spans_are = areas.spans_are; used = λ n. used n (span_of spans n) (areas.used n); all = λ n. each n (f' n) refl }
     where
       used : (n : ℕ) (o : Option Span) → IfSome o (λ s. IsSomeAnd (f n) (IsAreaOf q s)) → IfSome o (λ s. IsSomeAnd (f' n) (IsAreaOf q s))
       used n None h = tt
@@ -251,7 +257,8 @@ module _ (f f' : ℕ → Option Area) (p : ℕ) (others : KeepsOthers p f f') wh
     areas_now_are : (q : ℕ) → areas_of (spaces_by f' new) q ≡ cond (q == p) (option_map (areas_by f') after) (areas_of (spaces_by f old) q)
     areas_now_are q = areas_are f' new q ∙ ap (option_map (areas_by f')) (now q) ∙ by (q == p) refl
       where
-        each : q ≢ p → (o : Option (List Span)) → MatchOption o (HasNone q f) (AreAreasOf q f) → option_map (areas_by f') o ≡ option_map (areas_by f) o
+        each : q ≢ p → (o : Option (List Span)) → MatchOption o (HasNone q f) (AreAreasOf q f)
+            → option_map (areas_by f') o ≡ option_map (areas_by f) o
         each apart None h = refl
         each apart (Some spans) h = ap Some (areas_stay q apart spans (numbered f q spans h))
 
@@ -278,7 +285,8 @@ module _ (f f' : ℕ → Option Area) (p : ℕ) (others : KeepsOthers p f f') wh
       rising = all_rising f' new trees_changed;
     }
 
-    pub changed : (spans : List Span) → after ≡ Some spans → how_many is_some new ≡ how_many is_some old → (IsSo : Pages → Type 0) → IsSo (pages_by f' spans)
+    pub changed : (spans : List Span) → after ≡ Some spans → how_many is_some new ≡ how_many is_some old → (IsSo : Pages → Type 0)
+        → IsSo (pages_by f' spans)
         → IsChanged (spaces_by f old) (spaces_by f' new) p IsSo
     changed spans is number IsSo so = record {
       others = λ q apart. areas_now_are q ∙ ap (λ b. cond b (option_map (areas_by f') after) (areas_of (spaces_by f old) q)) (other q apart);
@@ -294,7 +302,8 @@ module _ (f f' : ℕ → Option Area) (p : ℕ) (others : KeepsOthers p f f') wh
         other q apart = grind (arith, nat_tests)
 
         here : areas_of (spaces_by f' new) p ≡ Some (areas_by f' spans)
-        here = areas_now_are p ∙ ap (λ b. cond b (option_map (areas_by f') after) (areas_of (spaces_by f old) p)) (itself p) ∙ ap (option_map (areas_by f')) is
+        here = areas_now_are p ∙ ap (λ b. cond b (option_map (areas_by f') after) (areas_of (spaces_by f old) p)) (itself p)
+            ∙ ap (option_map (areas_by f')) is
 
 -- ---- a process without areas
 
@@ -370,7 +379,8 @@ module _ (f f' : ℕ → Option Area) (old : Trees) (p : ℕ) (before after : Li
   stays_now = stays (tree_of f old p before trees was)
 
   pub trees_left : AreTrees f' (slice_set old p None)
-  trees_left = trees_changed f f' p stays_now.others old (slice_set old p None) None trees (none_left f' p (subst (AreAreasOf p f') empty stays_now.areas))
+  trees_left = trees_changed f f' p stays_now.others old (slice_set old p None) None trees
+      (none_left f' p (subst (AreAreasOf p f') empty stays_now.areas))
       (tree_set old p None place)
 
   pub count_left : how_many is_some (slice_set old p None) + 1 ≡ how_many is_some old
@@ -410,7 +420,8 @@ module _ (f f' : ℕ → Option Area) (old : Trees) (p : ℕ) (before after : Li
 
   pub count_lent : how_many is_some (slice_set (slice_set old p None) p (Some after)) ≡ how_many is_some old
   count_lent = counted _ _ _ _ _ (count_set (slice_set old p None) p (Some after) place_still)
-      (ap one_if (tree_set old p None held_place p ∙ ap (λ b. cond b None (tree_at old p)) (itself p))) (count_set old p None held_place) (ap one_if was)
+      (ap one_if (tree_set old p None held_place p ∙ ap (λ b. cond b None (tree_at old p)) (itself p))) (count_set old p None held_place)
+      (ap one_if was)
     where
       counted : (n w m v k : ℕ) → n + w ≡ m + 1 → w ≡ 0 → m + v ≡ k + 0 → v ≡ 1 → n ≡ k
       counted n w m v k a b c d = omega arith
@@ -420,7 +431,8 @@ module _ (f f' : ℕ → Option Area) (old : Trees) (p : ℕ) (before after : Li
       IsChanged s (spaces_by f' (slice_set (slice_set old p None) p (Some after))) p (IsSo (pages_of s p))
   changes s is IsSo so =
       subst (λ (t : Spaces). IsChanged t (spaces_by f' (slice_set (slice_set old p None) p (Some after))) p (IsSo (pages_of s p))) is
-      (changed f f' p (stays areas_before).others old (slice_set (slice_set old p None) p (Some after)) (Some after) trees (stays areas_before).areas lent_now
+      (changed f f' p (stays areas_before).others old (slice_set (slice_set old p None) p (Some after)) (Some after) trees
+      (stays areas_before).areas lent_now
       after refl count_lent (IsSo (pages_of s p))
       (subst (λ (on : Pages). IsSo on (pages_by f' after)) (λ i page. sym (pages_there f old p before s trees (sym was) is page) i) so))
 

@@ -1,6 +1,8 @@
 //! The areas of every process that lives.
 
-ghost use Rattle.std.specs.Prelude.{◌≡◌, ℕ, ◌+◌, ◌-◌, ◌^◌, ◌<◌, ◌≤◌, [], Some, None, true, false, is_some, option_map, slice_set, length, IsSome, IsSomeAnd, OnOk, OnErr, IfOk, IfSome};
+ghost use Rattle.std.specs.Prelude.{◌≡◌, ℕ, ◌+◌, ◌-◌, ◌^◌, ◌<◌, ◌≤◌, [], Some, None, true, false};
+ghost use Rattle.std.specs.Prelude.{is_some, option_map, slice_set, length, IsSome, IsSomeAnd};
+ghost use Rattle.std.specs.Prelude.{OnOk, OnErr, IfOk, IfSome};
 ghost use Rattle.av_vma.specs.Areas.{area_of};
 ghost use Rattle.av_base.specs.Limits.{low_page, top_page};
 ghost use Rattle.av_vma.specs.Gap.{IsGap};
@@ -12,9 +14,11 @@ ghost use Rattle.av_anon.specs.declared.anons.Anons.{Anons};
 ghost use Rattle.av_merge.specs.Kin.{lengths};
 ghost use Rattle.av_spaces.specs.Fork.{AreKept, GoInTurn, IsForked};
 ghost use Rattle.av_spaces.specs.Kin.{AnonsPrepare, AnonsStay, InOrder, chain_at};
-ghost use Rattle.av_spaces.specs.Spaces.{areas_of, pages_of, is_taken, AllRising, AreNumbered, AreThese, AreRising, IsSpawned, IsChanged, IsEnded};
+ghost use Rattle.av_spaces.specs.Spaces.{areas_of, pages_of, is_taken, AllRising, AreNumbered};
+ghost use Rattle.av_spaces.specs.Spaces.{AreThese, AreRising, IsSpawned, IsChanged, IsEnded};
 ghost use Rattle.av_vma.specs.Mremap.{IsGrowth, IsMove, after_grow, after_move};
-ghost use Rattle.av_vma.specs.Pages.{AreLaid, IsWhole, after_map, after_prepare, after_unmap, home_of, pages_changed, to_prot};
+ghost use Rattle.av_vma.specs.Pages.{AreLaid, IsWhole, after_map, after_prepare, after_unmap};
+ghost use Rattle.av_vma.specs.Pages.{home_of, pages_changed, to_prot};
 ghost use Rattle.av_spaces.specs.Trees.{areas_by, tree_at, IsGrown};
 
 use crate::fork::fork_each;
@@ -348,7 +352,7 @@ impl Spaces {
     }
 
     /// Takes away a process that lives, with its areas.
-    pub fn end(&mut self, anons: &mut Anons, process: u16)
+    pub fn exit(&mut self, anons: &mut Anons, process: u16)
         requires order { InOrder self.old anons.old }
         requires lives { is_some (areas_of self.old.processes process) ≡ true }
         ensures areas { IsEnded self.old.processes self.new.processes process }

@@ -6,7 +6,7 @@ use Rattle.std.specs.Prelude.{IsSomeAnd}
 use Rattle.std.specs.List.{list_any}
 use Rattle.std.specs.FinMap.Entries.{is_sorted}
 use Rattle.av_base.specs.declared.slot.Slot.{Slot}
-use Rattle.av_vma.specs.Join.{index_of}
+use Rattle.av_vma.specs.Index.{index_of}
 use Rattle.av_vma.specs.Pages.{home_of}
 use Rattle.av_plain.specs.Areas.{Rmap, at_root, home_for, root_of}
 use Rattle.av_plain.specs.Covered.{AreSlotsCovered, IsOfSlot}

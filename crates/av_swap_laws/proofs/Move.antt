@@ -4,7 +4,7 @@ use Rattle.std.specs.Prelude.{IfSome}
 use Rattle.av_base.specs.declared.slot.Slot.{Slot}
 use Rattle.av_plain.specs.Choice.{Chooses, Free}
 use Rattle.av_plain.specs.Device.{Device}
-use Rattle.av_plain.specs.Event.{Moved, after_move}
+use Rattle.av_plain.specs.Event.{EntriesMoved, after_move}
 use Rattle.av_plain.specs.Ledger.{Entry, InFrame, InSlot, Ledger, Setting, Zero, entry, frame_at, in_flight, is_stale, slot_of}
 use Rattle.av_plain.specs.Sound.{holders, slots}
 use Rattle.av_plain.specs.Stands.{BytesStand, Holds, IsKept, IsKeptAt, LedgerStands, Pte, View, entry_of}
@@ -69,8 +69,8 @@ module _ (m : Setting) (v : View) (l l' : Ledger) (alike : IsAlike l l') where
 
 -- a move takes and frees nothing
 pub moved-chosen : (m : Setting) (closing : Option ℕ) (l : Ledger) (p n from to : ℕ) (free : Free) → IsAlike l (after_move p n from to l)
-    → Chooses m closing l (Moved p n from to) free free
-moved-chosen m closing l p n from to free alike = chooses-nothing m closing l (Moved p n from to) free (record {
+    → Chooses m closing l (EntriesMoved p n from to) free free
+moved-chosen m closing l p n from to free alike = chooses-nothing m closing l (EntriesMoved p n from to) free (record {
   frames = λ g had. let a = alike.maps g in let b = ap (λ cs. holders (record l { cache = cs }) g) alike.cache in omega (arith, a, b, had);
   slots = λ s had. let a = alike.names s in let b = ap (λ cs. slots (record l { cache = cs }) s) alike.cache in omega (arith, a, b, had);
 }) refl refl refl

@@ -15,17 +15,14 @@ use Rattle.av_plain.proofs.Sound.Swap.Area.{found-off, found-on}
 use Rattle.av_swap_laws.specs.Steps.{view_off, view_on}
 use Rattle.av_swap_laws.proofs.Free.{frames-none, given-none}
 
-abbrev area_of : ℕ → ℕ → SwapArea
-area_of slots bad = record { slots = slots; bad = bad }
-
 -- ---- on
 
-module _ (m : Setting) (l : Ledger) (k slots bad : ℕ) where
+module _ (m : Setting) (l : Ledger) (k : ℕ) (area : SwapArea) where
   abbrev on : Ledger
-  on = after l (TurnedOn k slots bad)
+  on = after l (TurnedOn k area)
 
   pub on-stands : (v : View) (made : Slots) → LedgerStands m v l
-      → LedgerStands m (view_on k (area_of slots bad) made v) (after l (TurnedOn k slots bad))
+      → LedgerStands m (view_on k area made v) (after l (TurnedOn k area))
   on-stands v made h = record {
     frames = record { frames = h.frames.frames; maps = h.frames.maps; slots = h.frames.slots; dirty = h.frames.dirty; free = h.frames.free };
     lists = record { active = h.lists.active; inactive = h.lists.inactive };
@@ -34,40 +31,40 @@ module _ (m : Setting) (l : Ledger) (k slots bad : ℕ) where
       finds = h.swap.finds;
       counts = h.swap.counts;
       flight = h.swap.flight;
-      on = ap (put nat_cmp k (area_of slots bad)) h.swap.on;
+      on = ap (put nat_cmp k area) h.swap.on;
     };
   }
 
   pub on-bytes : (v : View) (made : Slots) (d : Device) (w : World) → BytesStand v d w l
-      → BytesStand (view_on k (area_of slots bad) made v) d w (after l (TurnedOn k slots bad))
+      → BytesStand (view_on k area made v) d w (after l (TurnedOn k area))
   on-bytes v made d w h = record { kept = h.kept; clean = h.clean }
 
   -- its numbers are those of its header, where that is told
-  pub on-headers : IfSome m.headers (λ headers. IsSomeAnd (headers k) (HasNumbers (area_of slots bad))) → HeadersStand m l
-      → HeadersStand m (after l (TurnedOn k slots bad))
+  pub on-headers : IfSome m.headers (λ headers. IsSomeAnd (headers k) (HasNumbers area)) → HeadersStand m l
+      → HeadersStand m (after l (TurnedOn k area))
   on-headers right h j = subst (λ o. IfSome o (λ area. IfSome m.headers (λ headers. IsSomeAnd (headers j) (HasNumbers area))))
-      (sym (found-on l k slots bad j))
+      (sym (found-on l k area j))
       (by (eq_by_cmp nat_cmp j k) refl)
     where
       number : eq_by_cmp nat_cmp j k ≡ true → j ≡ k
       number e = grind (arith, nat_tests, e)
 
       by : (b : Bool) → eq_by_cmp nat_cmp j k ≡ b
-          → IfSome (cond b (Some (area_of slots bad)) (find nat_cmp j l.on))
+          → IfSome (cond b (Some area) (find nat_cmp j l.on))
           (λ area. IfSome m.headers (λ headers. IsSomeAnd (headers j) (HasNumbers area)))
-      by true e = subst (λ j. IfSome m.headers (λ headers. IsSomeAnd (headers j) (HasNumbers (area_of slots bad)))) (sym (number e)) right
+      by true e = subst (λ j. IfSome m.headers (λ headers. IsSomeAnd (headers j) (HasNumbers area))) (sym (number e)) right
       by false e = h j
 
-  pub on-chosen : (closing : Option ℕ) (v : View) (made : Slots) → AreFresh m k (area_of slots bad) made
-      → Chooses m closing l (TurnedOn k slots bad) (free_of v) (free_of (view_on k (area_of slots bad) made v))
+  pub on-chosen : (closing : Option ℕ) (v : View) (made : Slots) → AreFresh m k area made
+      → Chooses m closing l (TurnedOn k area) (free_of v) (free_of (view_on k area made v))
   on-chosen closing v made fresh = record {
     frames = (v.free, refl, ap (λ fs. fs ++ v.free) (sym (frames-none m l on (λ g h. h))));
     slots = (
-      (view_on k (area_of slots bad) made v).slots,
-      (view_on k (area_of slots bad) made v).slots,
+      (view_on k area made v).slots,
+      (view_on k area made v).slots,
       (made, fresh, refl),
       refl,
-      sym (given-none m l on (view_on k (area_of slots bad) made v).slots (λ t h. h)),
+      sym (given-none m l on (view_on k area made v).slots (λ t h. h)),
     );
   }
 

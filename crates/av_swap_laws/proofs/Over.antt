@@ -39,8 +39,8 @@ module _ (old new : Device) (s : Slot) (bytes : List ℕ) (low : 0 < s.page) (wr
       by None = refl
       by (Some told) = λ i. Some (λ k. first-same told k i)
 
-  pub written-same : old.faults ≤ new.faults → IsSameDevice old new
-  written-same more = record { sizes = sizes; first = firsts; faults = more }
+  pub written-same : old.failures ≤ new.failures → IsSameDevice old new
+  written-same more = record { sizes = sizes; first = firsts; failures = more }
 
   pub written-over : (m : Setting) → IsOver m old → IsOver m new
   written-over m h = record {

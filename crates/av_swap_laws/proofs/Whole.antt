@@ -202,21 +202,21 @@ module _ (m : Setting) (closing : Option ℕ) (old : Held) (h : IsHeld m old) wh
 
   pub on-steps : (k : ℕ) (area : SwapArea) (made : Slots) → AreFresh m k area made
       → IfSome m.headers (λ headers. IsSomeAnd (headers k) (HasNumbers area))
-      → Steps m closing (TurnedOn k area.slots area.bad) old (record old {
+      → Steps m closing (TurnedOn k area) old (record old {
         view = view_on k area made v;
-        ledger = after l (TurnedOn k area.slots area.bad);
+        ledger = after l (TurnedOn k area);
       })
   on-steps k area made fresh right = record {
     ledger = refl;
     held = record {
-      ledger = on-stands m l k area.slots area.bad v made h.ledger;
-      bytes = on-bytes m l k area.slots area.bad v made old.device old.world h.bytes;
-      headers = on-headers m l k area.slots area.bad right h.headers;
-      covered = alike-covered l old.rmap h.covered (after l (TurnedOn k area.slots area.bad)) refl refl;
+      ledger = on-stands m l k area v made h.ledger;
+      bytes = on-bytes m l k area v made old.device old.world h.bytes;
+      headers = on-headers m l k area right h.headers;
+      covered = alike-covered l old.rmap h.covered (after l (TurnedOn k area)) refl refl;
       homes = h.homes;
     };
     areas = areas-as (view_on k area made v) v old.world (record { areas = refl; processes = refl });
-    chosen = on-chosen m l k area.slots area.bad closing v made fresh;
+    chosen = on-chosen m l k area closing v made fresh;
   }
 
   pub off-steps : (k : ℕ) → Steps m closing (TurnedOff k) old (record old { view = view_off k v; ledger = after l (TurnedOff k) })

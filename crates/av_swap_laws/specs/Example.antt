@@ -16,6 +16,7 @@ use Rattle.av_plain.specs.Device.{Device}
 use Rattle.av_plain.specs.Event.{Noted}
 use Rattle.av_plain.specs.Ledger.{Entry, InFrame, Ledger, Setting, entry, first_ledger, frame_at, map_count, slot_entries, slot_of}
 use Rattle.av_plain.specs.Stands.{Pte, View}
+use Rattle.av_plain.specs.Swapon.{priority_of}
 use Rattle.av_plain.specs.World.{World, zeros}
 use Rattle.av_swap_laws.specs.Held.{Held, IsHeld, Steps}
 
@@ -28,7 +29,7 @@ small = record {
 }
 
 abbrev pub untold : Device
-untold = record { sizes = small.sizes; pages = None; faults = 0 }
+untold = record { sizes = small.sizes; pages = None; failures = 0 }
 
 -- the process and its page
 abbrev pub read_write : Prot
@@ -48,7 +49,7 @@ abbrev pub in_frame : Ledger
 in_frame = record first_ledger {
   entries = ((1, the_page), InFrame 0 true) ∷ [];
   inactive = 0 ∷ [];
-  on = (0, record { slots = 7; bad = 0 }) ∷ [];
+  on = (0, record { slots = 7; bad = 0; priority = priority_of None }) ∷ [];
 }
 
 -- its area has the anon_vma 0, which is a root, and the frame is at home there

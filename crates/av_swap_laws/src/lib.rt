@@ -16,7 +16,10 @@
 //! keeps the lists of what is free right, is proved with the definitions.
 #![tactic(auto)]
 
-ghost use Rattle.std.specs.Prelude.{◌≡◌, ◌+◌, length, filter, not, if◌then◌else◌, option_map, ◌⊎◌, ◌++◌, ◌==◌, ◌&&◌, ◌≤◌, ◌<◌, ℕ, Bool, false, true, List, [], ◌∷◌, Option, Some, None, IfSome, IsSome, IsSomeAnd, T, slice_index};
+ghost use Rattle.std.specs.Prelude.{◌≡◌, ◌+◌, length, filter, not, if◌then◌else◌, option_map, ◌⊎◌};
+ghost use Rattle.std.specs.Prelude.{◌++◌, ◌==◌, ◌&&◌, ◌≤◌, ◌<◌, ℕ, Bool, false, true, List, []};
+ghost use Rattle.std.specs.Prelude.{◌∷◌, Option, Some, None, IfSome, IsSome, IsSomeAnd, T};
+ghost use Rattle.std.specs.Prelude.{slice_index};
 ghost use Rattle.std.specs.FinMap.Entries.{is_sorted};
 ghost use Rattle.std.specs.List.{list_any};
 ghost use Rattle.std.specs.Ordering.{eq_by_cmp};
@@ -25,7 +28,7 @@ ghost use Rattle.av_base.specs.Words.{how_many, is_in, with_at};
 ghost use Rattle.av_base.specs.declared.slot.Slot.{Slot};
 ghost use Rattle.av_clusters.specs.Clusters.{Slots};
 ghost use Rattle.av_swapdev.specs.Device.{IsWritten};
-ghost use Rattle.av_vma.specs.Join.{index_of};
+ghost use Rattle.av_vma.specs.Index.{index_of};
 ghost use Rattle.av_vma.specs.Pages.{AreLaid, home_of};
 ghost use Rattle.av_vma.specs.declared.area.Area.{Area};
 ghost use Rattle.av_trace.specs.declared.note.Cause.{Cause};
@@ -44,17 +47,26 @@ ghost use Rattle.av_trace.specs.declared.note.Note.TheVariants.{
   Written,
   Zeroed,
 };
-ghost use Rattle.av_plain.specs.Areas.{Anons, Rmap, at_home, home_for, prepare_page, rmap_after_note, root_of};
+ghost use Rattle.av_plain.specs.Areas.{Anons, Rmap, at_home, home_for, prepare_page};
+ghost use Rattle.av_plain.specs.Areas.{rmap_after_note, root_of};
 ghost use Rattle.av_plain.specs.Choice.{AreFresh, AreaSlots, Chooses, IsGiven, ListsFree};
 ghost use Rattle.av_plain.specs.Covered.{AreSlotsCovered, IsOfSlot};
 ghost use Rattle.av_plain.specs.Device.{Device, IsSameDevice};
-ghost use Rattle.av_plain.specs.Event.{Forked, Moved, Noted, TurnedOff, TurnedOn, Used, Zapped, after, after_note, after_use, set_entry, without, without_seen};
+ghost use Rattle.av_plain.specs.Event.{Forked, EntriesMoved, Noted, TurnedOff, TurnedOn, Used};
+ghost use Rattle.av_plain.specs.Event.{Zapped, after, after_note, after_use, set_entry, without};
+ghost use Rattle.av_plain.specs.Event.{without_seen};
 ghost use Rattle.av_plain.specs.Fault.{is_shared, is_unneeded};
 ghost use Rattle.av_plain.specs.Fork.{inheritance};
-ghost use Rattle.av_plain.specs.Ledger.{Entry, HasNumbers, InFrame, InSlot, IsBlank, Key, Ledger, Setting, SwapArea, entry, frame_at, in_flight, is_free, is_orphan, is_stale, key_cmp, keys_of_slot, map_count, may_give, names_frame, names_slot, same_slot, slot_entries, slot_of, walk};
+ghost use Rattle.av_plain.specs.Ledger.{Entry, HasNumbers, InFrame, InSlot, IsBlank, Key, Ledger};
+ghost use Rattle.av_plain.specs.Ledger.{Setting, SwapArea, entry, frame_at, in_flight, is_free};
+ghost use Rattle.av_plain.specs.Ledger.{is_orphan, is_stale, key_cmp, keys_of_slot, map_count};
+ghost use Rattle.av_plain.specs.Ledger.{may_give, names_frame, names_slot, same_slot, slot_entries};
+ghost use Rattle.av_plain.specs.Ledger.{slot_of, walk};
 ghost use Rattle.av_plain.specs.Load.{with_loads};
-ghost use Rattle.av_plain.specs.Sound.{AtPages, IsSoundBut, count, flights, is_there, listings, uses};
-ghost use Rattle.av_plain.specs.Stands.{AreasStand, BytesStand, Holds, IsOver, LedgerStands, Pte, View, entry_of, free_of};
+ghost use Rattle.av_plain.specs.Sound.{AtPages, IsSoundBut, count, flights, is_there, listings};
+ghost use Rattle.av_plain.specs.Sound.{uses};
+ghost use Rattle.av_plain.specs.Stands.{AreasStand, BytesStand, Holds, IsOver, LedgerStands, Pte};
+ghost use Rattle.av_plain.specs.Stands.{View, entry_of, free_of};
 ghost use Rattle.av_plain.specs.World.{World, pages, set_process};
 ghost use Rattle.av_swap_laws.specs.Example.{GoesOutAndComesBack};
 ghost use Rattle.av_swap_laws.specs.Held.{Held, IsHeld, Steps};
@@ -353,18 +365,19 @@ pub fn forks_hold_bytes()
 pub fn entries_move()
     ensures { (m : Setting) (closing : Option ℕ) (v : View) (d : Device) (w later : World)
         (l : Ledger) (p n from to : ℕ) (table : ℕ → ℕ → Option Pte)
-        → IsAlike l (after l (Moved p n from to)) → LedgerStands m v l → BytesStand v d w l
-        → ((q page : ℕ) → entry_of (table q page) ≡ entry (after l (Moved p n from to)) (q, page))
+        → IsAlike l (after l (EntriesMoved p n from to)) → LedgerStands m v l → BytesStand v d w l
+        → ((q page : ℕ) → entry_of (table q page)
+        ≡ entry (after l (EntriesMoved p n from to)) (q, page))
         → ((q page : ℕ) (t : Pte) → table q page ≡ Some t
         → (r : ℕ) × (other : ℕ) × (v.table r other ≡ Some t))
         → ((q page : ℕ) → ((r : ℕ) × (other : ℕ)
-        × (entry (after l (Moved p n from to)) (q, page) ≡ entry l (r, other))
+        × (entry (after l (EntriesMoved p n from to)) (q, page) ≡ entry l (r, other))
         × (pages later q page ≡ pages w r other))
-        ⊎ ((entry (after l (Moved p n from to)) (q, page) ≡ None)
+        ⊎ ((entry (after l (EntriesMoved p n from to)) (q, page) ≡ None)
         × Holds (pages later q page) (λ _. 0)))
-        → LedgerStands m (record v { table = table }) (after l (Moved p n from to))
-        × BytesStand (record v { table = table }) d later (after l (Moved p n from to))
-        × Chooses m closing l (Moved p n from to) (free_of v) (free_of v) }
+        → LedgerStands m (record v { table = table }) (after l (EntriesMoved p n from to))
+        × BytesStand (record v { table = table }) d later (after l (EntriesMoved p n from to))
+        × Chooses m closing l (EntriesMoved p n from to) (free_of v) (free_of v) }
 {}
 
 /// What stands for some memories stands for those with fewer pages, as before entries go.
@@ -421,7 +434,7 @@ pub fn a_page_goes_out_and_comes_back()
 pub fn writes_leave_headers()
     ensures { (old new : Device) (s : Slot) (bytes : List ℕ) → 0 < s.page
         → IsWritten s.area s.page bytes old.pages new.pages → new.sizes ≡ old.sizes
-        → (old.faults ≤ new.faults → IsSameDevice old new)
+        → (old.failures ≤ new.failures → IsSameDevice old new)
         × ((m : Setting) → IsOver m old → IsOver m new) }
 {}
 

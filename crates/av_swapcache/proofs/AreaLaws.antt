@@ -6,8 +6,8 @@ use Rattle.std.proofs.lemmas.List.Sums.{sum_by-cons}
 use Rattle.av_swapdev.specs.declared.header.Header.{Header}
 use Rattle.std.specs.Prelude.{IsSomeAnd, MatchResult, Result, Ok, Err}
 use Rattle.av_base.specs.Words.{with_at}
-use Rattle.av_clusters.specs.declared.Page.{Page}
-use Rattle.av_clusters.specs.declared.Page.TheVariants.{Unusable, Free, Taken}
+use Rattle.av_clusters.specs.declared.clusters.Page.{Page}
+use Rattle.av_clusters.specs.declared.clusters.Page.TheVariants.{Unusable, Free, Taken}
 use Rattle.av_clusters.specs.Clusters.{Slots, is_free, is_taken, page_at, take_slot}
 use Rattle.av_swapmap.specs.Counts.{Store as Counts, Shown as ShownCounts, shown as shown_counts, with_cached, with_count}
 use Rattle.av_swapcache.specs.Area.{AreaStore, IsArea, IsKept, after_count, area_shown, count_in, counted, frame_at, given_back, is_slot, uses_in, with_entries, with_frame}
@@ -46,7 +46,8 @@ count_alike p q d (x ∷ xs) (y ∷ ys) e h =
     ∙ sym (sum_by-cons (λ z. cond (q z) 1 0) y ys)
 
 -- one page's slot, count, flag and frame have changed
-pub record Changes (p n : ℕ) (t : Page) (x : Option ℕ) (old new : ShownCounts) (all all' : List Page) (frames frames' : List (Option ℕ)) : Type 0 where
+pub record Changes (p n : ℕ) (t : Page) (x : Option ℕ) (old new : ShownCounts) (all all' : List Page)
+    (frames frames' : List (Option ℕ)) : Type 0 where
   pub many : new.pages ≡ old.pages
   pub bad : (q : ℕ) → new.bad q ≡ old.bad q
   pub cached : (q : ℕ) → new.cached q ≡ with_at p (is_some x) old.cached q
@@ -57,7 +58,8 @@ pub record Changes (p n : ℕ) (t : Page) (x : Option ℕ) (old new : ShownCount
   pub frame : (q : ℕ) → frame_at frames' q ≡ with_at p x (frame_at frames) q
 
 module _ (header : Header) (p n : ℕ) (t : Page) (x : Option ℕ) (old new : ShownCounts) (all all' : List Page) (frames frames' : List (Option ℕ)) where
-  pub whole_changed : IsArea header old all frames → Changes p n t x old new all all' frames frames' → is_slot (page_at all p) ≡ true → is_slot t ≡ true →
+  pub whole_changed : IsArea header old all frames → Changes p n t x old new all all' frames frames' → is_slot (page_at all p) ≡ true
+      → is_slot t ≡ true →
       is_taken t ≡ ltb 0 (n + cond (is_some x) 1 0)
       → IsArea header new all' frames'
   whole_changed w c was is now = record {
@@ -226,7 +228,8 @@ module _ (header : Header) (p : ℕ) (old new : ShownCounts) (all : List Page) (
   named_is_used h = omega (arith, h)
 
   -- and of one that is free
-  pub free_is : IsArea header old all frames → page_at all p ≡ Free → (0 < p) × (p < header.pages) × (old.bad p ≡ false) × (p < length all) × (p < length frames)
+  pub free_is : IsArea header old all frames → page_at all p ≡ Free
+      → (0 < p) × (p < header.pages) × (old.bad p ≡ false) × (p < length all) × (p < length frames)
   free_is w free =
       let s = slot_is header old all frames p w (ap is_slot free) in
       let a = w.pages in
@@ -241,7 +244,8 @@ module _ (header : Header) (p : ℕ) (old new : ShownCounts) (all : List Page) (
       none : (m : ℕ) → ltb 0 m ≡ false → m ≡ 0
       none m h = grind (arith, nat_tests)
 
-  pub cache_stays : (f : ℕ) → IsArea header old all frames → 0 < uses_in old p → new ≡ with_cached p true old → IsArea header new all (set frames p (Some f))
+  pub cache_stays : (f : ℕ) → IsArea header old all frames → 0 < uses_in old p → new ≡ with_cached p true old
+      → IsArea header new all (set frames p (Some f))
   cache_stays f w used e =
       let u = used_is w used in
       let slot : is_slot (page_at all p) ≡ true = ap is_slot u.0 in
@@ -251,7 +255,8 @@ module _ (header : Header) (p : ℕ) (old new : ShownCounts) (all : List Page) (
       one_more : (n : ℕ) → ltb 0 (n + 1) ≡ true
       one_more n = grind (arith, nat_tests)
 
-  pub put_stays : (f : ℕ) (all' : List Page) → IsArea header old all frames → page_at all p ≡ Free → all' ≡ set all p Taken → new ≡ with_cached p true old
+  pub put_stays : (f : ℕ) (all' : List Page) → IsArea header old all frames → page_at all p ≡ Free → all' ≡ set all p Taken
+      → new ≡ with_cached p true old
       → IsArea header new all' (set frames p (Some f))
   put_stays f all' w free taken e =
       let slot : is_slot (page_at all p) ≡ true = ap is_slot free in
@@ -261,7 +266,8 @@ module _ (header : Header) (p : ℕ) (old new : ShownCounts) (all : List Page) (
       let low = s.1 in
       whole_changed header p (old.count p) Taken (Some f) old new all all' frames (set frames p (Some f)) w
       (page_changes p (old.count p) Taken (Some f) old new all all' frames (set frames p (Some f))
-      (flag_changes p (Some f) true old new all frames refl e (omega (arith, b, low))) taken (omega (arith, a, low))) slot refl (sym (one_more (old.count p)))
+      (flag_changes p (Some f) true old new all frames refl e (omega (arith, b, low))) taken (omega (arith, a, low))) slot refl
+      (sym (one_more (old.count p)))
     where
       one_more : (n : ℕ) → ltb 0 (n + 1) ≡ true
       one_more n = grind (arith, nat_tests)
@@ -293,7 +299,8 @@ module _ (header : Header) (p : ℕ) (old new : ShownCounts) (all : List Page) (
       more a b h = omega (arith, h)
 
   pub up_either : {E : Type 0} (n : ℕ) (r : Result (Unit {0}) E) → IsArea header old all frames → 0 < uses_in old p →
-      MatchResult r (λ _. new ≡ with_count p (old.count p + n) old) (λ _. (old.count p < 63) × (63 ≤ old.count p + n) × (new ≡ old)) → IsArea header new all frames
+      MatchResult r (λ _. new ≡ with_count p (old.count p + n) old) (λ _. (old.count p < 63) × (63 ≤ old.count p + n) × (new ≡ old))
+      → IsArea header new all frames
   up_either n (Ok u) w used e = up_stays n w used e
   up_either n (Err x) w used e = subst (λ h. IsArea header h all frames) (sym e.2) w
 
@@ -326,12 +333,15 @@ module _ (a : AreaStore) (counts : Counts) (p : ℕ) where
       area_shown now ≡ record (with_frame p (Some f) (area_shown a)) { slots = now.slots }
       → IsSomeAnd (take_slot v.slots) (λ t. (t.0 ≡ p) × (area_shown now ≡ record (with_frame p (Some f) (area_shown v)) { slots = t.1 }))
   gave v now f same taken e =
-      subst (λ (w : AreaStore). IsSomeAnd (take_slot w.slots) (λ t. (t.0 ≡ p) × (area_shown now ≡ record (with_frame p (Some f) (area_shown w)) { slots = t.1 })))
+      subst (λ (w : AreaStore). IsSomeAnd (take_slot w.slots)
+      (λ t. (t.0 ≡ p) × (area_shown now ≡ record (with_frame p (Some f) (area_shown w)) { slots = t.1 })))
       same
-      (subst (λ o. IsSomeAnd o (λ t. (t.0 ≡ p) × (area_shown now ≡ record (with_frame p (Some f) (area_shown a)) { slots = t.1 }))) (sym taken) (refl, e))
+      (subst (λ o. IsSomeAnd o (λ t. (t.0 ≡ p) × (area_shown now ≡ record (with_frame p (Some f) (area_shown a)) { slots = t.1 })))
+      (sym taken) (refl, e))
 
   pub shown_uncached : (slots : Slots) → IsArea a.header (shown_counts a.counts) a.slots.pages a.cache →
-      shown_counts counts ≡ with_cached p false (shown_counts a.counts) → p < length a.cache → slots ≡ after_count p (uses_in (shown_counts counts) p) a.slots
+      shown_counts counts ≡ with_cached p false (shown_counts a.counts) → p < length a.cache
+      → slots ≡ after_count p (uses_in (shown_counts counts) p) a.slots
       → area_shown (record a { counts = counts; slots = slots; cache = set a.cache p None }) ≡ given_back p (with_frame p None (area_shown a))
   shown_uncached slots w e below is = λ k. record (area_shown a) {
     find = at-set a.cache p None None below k;
@@ -373,7 +383,8 @@ module _ (a : AreaStore) (counts : Counts) (p : ℕ) where
 
 -- what is counted and what is cached is used
 module _ (a : AreaStore) (p : ℕ) where
-  pub count_is_used : IsArea a.header (shown_counts a.counts) a.slots.pages a.cache → 0 < count_in (area_shown a) p → 0 < uses_in (shown_counts a.counts) p
+  pub count_is_used : IsArea a.header (shown_counts a.counts) a.slots.pages a.cache → 0 < count_in (area_shown a) p
+      → 0 < uses_in (shown_counts a.counts) p
   count_is_used w h = subst (λ m. 0 < m) (sym (uses_are a.header (shown_counts a.counts) a.slots.pages a.cache p w)) h
 
   pub cached_is_used : IsArea a.header (shown_counts a.counts) a.slots.pages a.cache → is_some (frame_at a.cache p) ≡ true

@@ -20,7 +20,8 @@ kept_more areas n old now k less = by (cases_lt k n)
     by (inl b) = old k b
     by (inr b) = let is : n ≡ k = omega (arith, less, b) in subst (λ m. IsKeptOn (get_or areas m None)) is now
 
-module _ (s : Store) (ql qr : ℕ) (w : IsWhole (length s.areas) (frame_in s.areas) s.flight ql qr s.writing) (kept : AreKept s.areas (length s.areas)) where
+module _ (s : Store) (ql qr : ℕ) (w : IsWhole (length s.areas) (frame_in s.areas) s.flight ql qr s.writing)
+    (kept : AreKept s.areas (length s.areas)) where
   any : (k : ℕ) → IsKeptOn (get_or s.areas k None)
   any k = by (cases_lt k (length s.areas))
     where
@@ -32,7 +33,8 @@ module _ (s : Store) (ql qr : ℕ) (w : IsWhole (length s.areas) (frame_in s.are
   at_most_one true m e = omega (arith, e)
   at_most_one false m e = omega (arith, e)
 
-  flies : (s' : Slot) (o : Option ℕ) → list_any (same_slot s') s.flight ≡ is_writing s.writing o → list_any (same_slot s') s.flight ≡ true → is_some o ≡ true
+  flies : (s' : Slot) (o : Option ℕ) → list_any (same_slot s') s.flight ≡ is_writing s.writing o → list_any (same_slot s') s.flight ≡ true
+      → is_some o ≡ true
   flies s' None e h = absurd (false≢true (sym e ∙ h))
   flies s' (Some f) e h = refl
 
@@ -42,7 +44,8 @@ module _ (s : Store) (ql qr : ℕ) (w : IsWhole (length s.areas) (frame_in s.are
     usable = λ t. subst (λ (o : Option Header). IfSome o (λ (a : Header). is_slot (page_at (slots_in (area_at s.areas t.area)).pages t.page)
         ≡ (ltb 0 t.page && ltb t.page a.pages && not (bad_in (area_at s.areas t.area) t.page)))) (sym (header-at s t.area))
         (uses t.page (get_or s.areas t.area None) (any t.area));
-    number = λ k. subst (λ (o : Option Header). IfSome o (λ (a : Header). count_by is_slot (slots_in (area_at s.areas k)).pages ≡ a.slots)) (sym (header-at s k))
+    number = λ k. subst (λ (o : Option Header). IfSome o (λ (a : Header). count_by is_slot (slots_in (area_at s.areas k)).pages ≡ a.slots))
+        (sym (header-at s k))
         (counts (get_or s.areas k None) (any k));
     off = λ k e. none (get_or s.areas k None) (sym (header-at s k) ∙ e);
     in_range = w.in_range;
@@ -73,6 +76,7 @@ module _ (s : Store) (ql qr : ℕ) (w : IsWhole (length s.areas) (frame_in s.are
           never : ◌≡◌ {A = Option Header} (Some a.header) None → ⊥
           never e = cc
 
-pub fits_now : (s v : Store) (ql qr : ℕ) → s ≡ v → IsWhole (length s.areas) (frame_in s.areas) s.flight ql qr s.writing → AreKept s.areas (length s.areas)
+pub fits_now : (s v : Store) (ql qr : ℕ) → s ≡ v → IsWhole (length s.areas) (frame_in s.areas) s.flight ql qr s.writing
+    → AreKept s.areas (length s.areas)
     → IsFit (shown v)
 fits_now s v ql qr same w kept = subst (λ (x : Store). IsFit (shown x)) same (fits s ql qr w kept)

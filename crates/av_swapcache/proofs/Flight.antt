@@ -100,7 +100,8 @@ module _ (n : ℕ) (find : Slot → Option ℕ) (q : List Slot) (ql qr : ℕ) (f
       one t u g false true a b h k = absurd (free t (sym (at t false a) ∙ h ∙ ap Some (sym (some_same (sym (at u true b) ∙ k)))))
       one t u g false false a b h k = w.apart t u g (sym (at t false a) ∙ h) (sym (at u false b) ∙ k)
 
-      flies : (t : Slot) (b : Bool) → same_slot t s ≡ b → ◌≡◌ {A = ℕ} (cond (is_writing flags (find t)) 1 0) (cond (is_writing flags (with_slot s (Some f) find t)) 1 0)
+      flies : (t : Slot) (b : Bool) → same_slot t s ≡ b
+          → ◌≡◌ {A = ℕ} (cond (is_writing flags (find t)) 1 0) (cond (is_writing flags (with_slot s (Some f) find t)) 1 0)
       flies t true e = ap (λ o. cond (is_writing flags o) 1 0) (ap find (slot-is t s e) ∙ none)
           ∙ sym (ap (λ o. cond (is_writing flags o) 1 0) (at t true e) ∙ ap (λ b. cond b 1 0) (not_owned f w free))
       flies t false e = sym (ap (λ o. cond (is_writing flags o) 1 0) (at t false e))
@@ -141,7 +142,8 @@ module _ (n : ℕ) (find : Slot → Option ℕ) (q : List Slot) (ql qr : ℕ) (f
       was t g true e h = absurd (no_some (sym (at t true e) ∙ h))
       was t g false e h = sym (at t false e) ∙ h
 
-      flies : (t : Slot) (b : Bool) → same_slot t s ≡ b → ◌≡◌ {A = ℕ} (cond (is_writing flags (find t)) 1 0) (cond (is_writing flags (with_slot s None find t)) 1 0)
+      flies : (t : Slot) (b : Bool) → same_slot t s ≡ b
+          → ◌≡◌ {A = ℕ} (cond (is_writing flags (find t)) 1 0) (cond (is_writing flags (with_slot s None find t)) 1 0)
       flies t true e = ap (λ o. cond (is_writing flags o) 1 0) (ap find (slot-is t s e) ∙ is) ∙ ap (λ b. cond b 1 0) (unflagged s f w is none)
           ∙ sym (ap (λ o. cond (is_writing flags o) 1 0) (at t true e))
       flies t false e = sym (ap (λ o. cond (is_writing flags o) 1 0) (at t false e))
@@ -183,7 +185,8 @@ module _ (n : ℕ) (find : Slot → Option ℕ) (q : List Slot) (ql qr : ℕ) (f
     len = grown ql ql' _ more w.len (length-append q (s ∷ []));
     room = fits _ (length-set flags f true) w.room same;
     few = subst (λ m. m < 2 ^ 32) (sym (length-set flags f true)) w.few;
-    total = sum _ _ _ (flags-set flags f true (w.in_range s f is)) (ap (λ b. cond b 1 0) (unflagged s f w is none)) w.total (length-append q (s ∷ []));
+    total = sum _ _ _ (flags-set flags f true (w.in_range s f is)) (ap (λ b. cond b 1 0) (unflagged s f w is none)) w.total
+        (length-append q (s ∷ []));
     in_range = λ t g e. subst (λ m. g < m) (sym (length-set flags f true)) (w.in_range t g e);
     apart = w.apart;
     flying = λ t. many-append (same_slot t) q s ∙ ap (λ m. m + cond (same_slot t s) 1 0) (w.flying t)
@@ -205,7 +208,8 @@ module _ (n : ℕ) (find : Slot → Option ℕ) (q : List Slot) (ql qr : ℕ) (f
       flies t true e = ap (λ b. cond (is_writing flags (find t)) 1 0 + cond b 1 0) e
           ∙ ap (λ b. cond b 1 0 + 1) (ap (λ o. is_writing flags o) (ap find (slot-is t s e) ∙ is) ∙ unflagged s f w is none)
           ∙ sym (ap (λ b. cond b 1 0) (flag_at s t f true w is true e))
-      flies t false e = ap (λ b. cond (is_writing flags (find t)) 1 0 + cond b 1 0) e ∙ plus_zero _ ∙ sym (ap (λ b. cond b 1 0) (flag_at s t f true w is false e))
+      flies t false e = ap (λ b. cond (is_writing flags (find t)) 1 0 + cond b 1 0) e ∙ plus_zero _
+          ∙ sym (ap (λ b. cond b 1 0) (flag_at s t f true w is false e))
         where
           plus_zero : (m : ℕ) → m + 0 ≡ m
           plus_zero m = omega arith
@@ -230,7 +234,8 @@ module _ (n : ℕ) (find : Slot → Option ℕ) (q : List Slot) (ql qr : ℕ) (f
   -- and has a flag
   first_flag : (s : Slot) (f : ℕ) (rest : List Slot) → IsWhole n find q ql qr flags → q ≡ s ∷ rest → find s ≡ Some f →
       (get_or flags f false ≡ true) × (how_many (same_slot s) rest ≡ 0)
-  first_flag s f rest w e is = by (get_or flags f false) (sym (ap (how_many (same_slot s)) e) ∙ w.flying s ∙ ap (λ o. cond (is_writing flags o) 1 0) is)
+  first_flag s f rest w e is =
+      by (get_or flags f false) (sym (ap (how_many (same_slot s)) e) ∙ w.flying s ∙ ap (λ o. cond (is_writing flags o) 1 0) is)
       (ap (λ b. cond b 1 0) (slot-itself s))
     where
       by : (b : Bool) → cond (same_slot s s) 1 0 + how_many (same_slot s) rest ≡ cond b 1 0 → ◌≡◌ {A = ℕ} (cond (same_slot s s) 1 0) 1
@@ -261,7 +266,8 @@ module _ (n : ℕ) (find : Slot → Option ℕ) (q : List Slot) (ql qr : ℕ) (f
       sum : (m c l : ℕ) → m + c ≡ how_many itself flags + 0 → c ≡ 1 → length q ≡ how_many itself flags → length q ≡ suc l → l ≡ m
       sum m c l x y z u = omega arith
 
-      flies : (t : Slot) (b : Bool) → same_slot t s ≡ b → cond (same_slot t s) 1 0 + how_many (same_slot t) rest ≡ cond (is_writing flags (find t)) 1 0
+      flies : (t : Slot) (b : Bool) → same_slot t s ≡ b
+          → cond (same_slot t s) 1 0 + how_many (same_slot t) rest ≡ cond (is_writing flags (find t)) 1 0
           → how_many (same_slot t) rest ≡ cond (is_writing (set flags f false) (find t)) 1 0
       flies t true a h = ap (λ u. how_many (same_slot u) rest) (slot-is t s a) ∙ (first_flag s f rest w e is).1
           ∙ sym (ap (λ b. cond b 1 0) (flag_at s t f false w is true a))

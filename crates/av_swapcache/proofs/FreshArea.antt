@@ -6,8 +6,8 @@ use Rattle.std.proofs.lemmas.Bool.Decides.{nat_tests}
 use Rattle.std.proofs.lemmas.List.{get_or_past, get_or-replicate, length-replicate}
 use Rattle.std.proofs.lemmas.List.FromFn.{get_or-map-range_with_len}
 use Rattle.std.proofs.lemmas.List.Sums.{sum_by-cons}
-use Rattle.av_clusters.specs.declared.Page.{Page}
-use Rattle.av_clusters.specs.declared.Page.TheVariants.{Unusable, Free}
+use Rattle.av_clusters.specs.declared.clusters.Page.{Page}
+use Rattle.av_clusters.specs.declared.clusters.Page.TheVariants.{Unusable, Free}
 use Rattle.av_clusters.specs.Clusters.{Slots, fresh as fresh_slots, at_first, is_free, is_taken, page_at, pages_of}
 use Rattle.av_clusters.proofs.Fresh.{length-pages_of}
 use Rattle.av_swapmap.specs.Counts.{Store as Counts, Shown as ShownCounts, shown as shown_counts, fresh as fresh_counts}
@@ -25,7 +25,8 @@ page_at-pages_of n bad p = by (cases_lt p n)
     by (inl b) = let e : 0 + p ≡ p = omega arith in let t : ltb p n ≡ true = grind (arith, nat_tests) in
         get_or-map-range_with_len (at_first bad) 0 n p p Unusable b e ∙ sym (ap (λ t. cond t (at_first bad p) Unusable) t)
     by (inr b) = let t : ltb p n ≡ false = grind (arith, nat_tests) in
-        get_or_past (pages_of n bad) p Unusable (subst (λ m. m ≤ p) (sym (length-pages_of n bad)) b) ∙ sym (ap (λ t. cond t (at_first bad p) Unusable) t)
+        get_or_past (pages_of n bad) p Unusable (subst (λ m. m ≤ p) (sym (length-pages_of n bad)) b)
+        ∙ sym (ap (λ t. cond t (at_first bad p) Unusable) t)
 
 pub frame_at-replicate : (n p : ℕ) → frame_at (replicate n None) p ≡ None
 frame_at-replicate n p = by (cases_lt p n)
@@ -57,7 +58,8 @@ first_page p = by (p == 0) refl
 zero_plus : (n : ℕ) → 0 + n ≡ n
 zero_plus n = omega arith
 
-pub whole_fresh : (header : Header) (bad : List ℕ) (counts : ShownCounts) (all : List Page) (frames : List (Option ℕ)) → counts ≡ fresh_counts header.pages bad →
+pub whole_fresh : (header : Header) (bad : List ℕ) (counts : ShownCounts) (all : List Page) (frames : List (Option ℕ))
+    → counts ≡ fresh_counts header.pages bad →
     all ≡ pages_of header.pages bad → frames ≡ replicate header.pages None → count_by is_free (pages_of header.pages bad) ≡ header.slots
     → IsArea header counts all frames
 whole_fresh header bad counts all frames c a f free = record {
@@ -71,7 +73,8 @@ whole_fresh header bad counts all frames c a f free = record {
       ∙ ap (λ b. b && ltb p header.pages && not (ltb p header.pages && list_any (λ x. p == x) bad)) (sym (first_page p))
       ∙ sym (λ k. ltb 0 p && ltb p header.pages && not ((c k).bad p));
   number = ap (count_by is_slot) a ∙ count_alike is_slot is_free Unusable (pages_of header.pages bad) (pages_of header.pages bad) refl
-      (λ p. ap (λ t. is_free (page_at (pages_of header.pages bad) p) || t) (untaken p) ∙ or_false (is_free (page_at (pages_of header.pages bad) p))) ∙ free;
+      (λ p. ap (λ t. is_free (page_at (pages_of header.pages bad) p) || t) (untaken p)
+      ∙ or_false (is_free (page_at (pages_of header.pages bad) p))) ∙ free;
 }
   where
     untaken : (p : ℕ) → is_taken (page_at (pages_of header.pages bad) p) ≡ false
@@ -82,7 +85,8 @@ whole_fresh header bad counts all frames c a f free = record {
     or_false false = refl
 
 pub shown_fresh : (header : Header) (kept priority : ℤ) (bad : List ℕ) (counts : Counts) (slots : Slots) (frames : List (Option ℕ)) →
-    shown_counts counts ≡ fresh_counts header.pages bad → slots ≡ fresh_slots header.pages bad → frames ≡ replicate header.pages None → kept ≡ priority
+    shown_counts counts ≡ fresh_counts header.pages bad → slots ≡ fresh_slots header.pages bad → frames ≡ replicate header.pages None
+    → kept ≡ priority
     → area_shown (record { header = header; priority = kept; counts = counts; slots = slots; cache = frames }) ≡ fresh_area header priority bad
 shown_fresh header kept priority bad counts slots frames c t f same = λ k. record (fresh_area header priority bad) {
   priority = same k;
@@ -98,7 +102,8 @@ shown_fresh header kept priority bad counts slots frames c t f same = λ k. reco
 none_among : (test : ℕ → Bool) (a n x : ℕ) → x < a → list_any (λ y. x == y) (filter test (range_with_len a n)) ≡ false
 none_among test a zero x h = refl
 none_among test a (suc n) x h = let ne : (x == a) ≡ false = grind (arith, nat_tests) in
-    elim (test a) as (λ t. list_any (λ y. x == y) (cond t (a ∷ filter test (range_with_len (a + 1) n)) (filter test (range_with_len (a + 1) n))) ≡ false) [
+    elim (test a) as (λ t. list_any (λ y. x == y)
+    (cond t (a ∷ filter test (range_with_len (a + 1) n)) (filter test (range_with_len (a + 1) n))) ≡ false) [
       | true ↦ ap (λ b. b || list_any (λ y. x == y) (filter test (range_with_len (a + 1) n))) ne ∙ none_among test (a + 1) n x (omega (arith, h))
       | false ↦ none_among test (a + 1) n x (omega (arith, h))
     ]
@@ -107,7 +112,8 @@ among : (test : ℕ → Bool) (a n x : ℕ) → a ≤ x → x < a + n → list_a
 among test a zero x low high = absurd (omega (arith, low, high))
 among test a (suc n) x low high = by (x == a) refl (test a) refl (λ ne. among test (a + 1) n x (omega (arith, low, ne)) (omega (arith, high)))
   where
-    by : (b : Bool) → (x == a) ≡ b → (t : Bool) → test a ≡ t → ((x ≡ a → ⊥) → list_any (λ y. x == y) (filter test (range_with_len (a + 1) n)) ≡ test x)
+    by : (b : Bool) → (x == a) ≡ b → (t : Bool) → test a ≡ t
+        → ((x ≡ a → ⊥) → list_any (λ y. x == y) (filter test (range_with_len (a + 1) n)) ≡ test x)
         → list_any (λ y. x == y) (cond (test a) (a ∷ filter test (range_with_len (a + 1) n)) (filter test (range_with_len (a + 1) n))) ≡ test x
     by true e true t later = let is : x ≡ a = grind (arith, nat_tests) in
         ap (λ t. list_any (λ y. x == y) (cond t (a ∷ filter test (range_with_len (a + 1) n)) (filter test (range_with_len (a + 1) n)))) t
@@ -149,7 +155,8 @@ free_at_first (suc n) named h =
 
     each : (x : ℕ) → 1 ≤ x → x < 1 + n → is_free (at_first (bad_of (suc n) named) x) ≡ not (list_any (λ y. x == y) named)
     each x low high = let z : (x == 0) ≡ false = grind (arith, nat_tests) in
-        ap (λ z. is_free (cond (z || list_any (λ y. x == y) (bad_of (suc n) named)) Unusable Free)) z ∙ free (list_any (λ y. x == y) (bad_of (suc n) named))
+        ap (λ z. is_free (cond (z || list_any (λ y. x == y) (bad_of (suc n) named)) Unusable Free)) z
+        ∙ free (list_any (λ y. x == y) (bad_of (suc n) named))
         ∙ ap not (ap (λ m. list_any (λ y. x == y) (filter (λ m. list_any (λ y. m == y) named) (range_with_len 1 m))) (sym less)
         ∙ among (λ m. list_any (λ y. m == y) named) 1 n x low high)
       where

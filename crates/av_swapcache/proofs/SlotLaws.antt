@@ -65,7 +65,8 @@ module _ {X : Type 0} (read : Option AreaShown → ℕ → X) (at : ℕ → Opti
       → (λ (t : Slot). read (with_at k b at t.area) t.page) ≡ with_slot (record { area = k; page = p }) x (λ (t : Slot). read (at t.area) t.page)
   slots_one p x e = λ i t. by t (t.area == k) refl i
     where
-      by : (t : Slot) (c : Bool) → (t.area == k) ≡ c → read (cond (t.area == k) b (at t.area)) t.page ≡ cond (t.area == k && t.page == p) x (read (at t.area) t.page)
+      by : (t : Slot) (c : Bool) → (t.area == k) ≡ c
+          → read (cond (t.area == k) b (at t.area)) t.page ≡ cond (t.area == k && t.page == p) x (read (at t.area) t.page)
       by t true h = let is : t.area ≡ k = grind (arith, nat_tests) in
           ap (λ c. read (cond c b (at t.area)) t.page) h ∙ (λ i. e i t.page) ∙ sym (ap (λ j. cond (t.page == p) x (read (at j) t.page)) is)
           ∙ sym (ap (λ c. cond (c && t.page == p) x (read (at t.area) t.page)) h)

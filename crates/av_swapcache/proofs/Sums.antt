@@ -17,10 +17,12 @@ pub record Counts (f : AreaShown → ℕ) (n i : ℕ) (areas : List (Option Area
   pub sum : n ≡ sum_on f (take i areas)
   pub fits : n ≤ 2 ^ 32 * i
 
-pub counts_more : (f : AreaShown → ℕ) (n i m : ℕ) (areas : List (Option AreaStore)) (item : Option AreaStore) → n ≡ sum_on f (take i areas) → n ≤ 2 ^ 32 * i →
+pub counts_more : (f : AreaShown → ℕ) (n i m : ℕ) (areas : List (Option AreaStore)) (item : Option AreaStore) → n ≡ sum_on f (take i areas)
+    → n ≤ 2 ^ 32 * i →
     item ≡ get_or areas i item → i < length areas → m ≡ number_on f item → m < 2 ^ 32 → Counts f (n + m) (i + 1) areas
 counts_more f n i m areas item sum fits is below more small = record {
-  sum = together _ sum (more ∙ ap (number_on f) (is ∙ any_default areas i item None below)) ∙ sym (sum_on-append f (take i areas) (get_or areas i None))
+  sum = together _ sum (more ∙ ap (number_on f) (is ∙ any_default areas i item None below))
+      ∙ sym (sum_on-append f (take i areas) (get_or areas i None))
       ∙ sym (ap (sum_on f) (take_more areas i None below));
   fits = omega (arith, fits, small);
 }
@@ -28,11 +30,13 @@ counts_more f n i m areas item sum fits is below more small = record {
     together : (x : ℕ) {a b : ℕ} → a ≡ x → b ≡ number_on f (get_or areas i None) → a + b ≡ x + number_on f (get_or areas i None)
     together x e h = λ k. e k + h k
 
-pub all_counted : (f : AreaShown → ℕ) (n i : ℕ) (areas : List (Option AreaStore)) → n ≡ sum_on f (take i areas) → length areas ≤ i → n ≡ sum_on f areas
+pub all_counted : (f : AreaShown → ℕ) (n i : ℕ) (areas : List (Option AreaStore)) → n ≡ sum_on f (take i areas) → length areas ≤ i
+    → n ≡ sum_on f areas
 all_counted f n i areas sum all = sum ∙ ap (sum_on f) (take_all i areas all)
 
 -- the sums over the list of those that are on
-slots-on : (n : ℕ) (areas : List (Option AreaStore)) → sum_by (λ (a : ℕ × Header). a.1.slots) (on_from n areas) ≡ sum_on (λ (a : AreaShown). a.header.slots) areas
+slots-on : (n : ℕ) (areas : List (Option AreaStore))
+    → sum_by (λ (a : ℕ × Header). a.1.slots) (on_from n areas) ≡ sum_on (λ (a : AreaShown). a.header.slots) areas
 slots-on n [] = refl
 slots-on n (None ∷ areas) = slots-on (n + 1) areas ∙ sym (zero_plus _)
   where
@@ -41,7 +45,8 @@ slots-on n (None ∷ areas) = slots-on (n + 1) areas ∙ sym (zero_plus _)
 slots-on n (Some a ∷ areas) = sum_by-cons (λ (b : ℕ × Header). b.1.slots) (n, a.header) (on_from (n + 1) areas)
     ∙ ap (λ m. a.header.slots + m) (slots-on (n + 1) areas)
 
-free-on : (free : ℕ → ℕ) (n : ℕ) (areas : List (Option AreaStore)) → ((i : ℕ) → free (n + i) ≡ number_on (λ (a : AreaShown). free_in a.slots) (get_or areas i None))
+free-on : (free : ℕ → ℕ) (n : ℕ) (areas : List (Option AreaStore))
+    → ((i : ℕ) → free (n + i) ≡ number_on (λ (a : AreaShown). free_in a.slots) (get_or areas i None))
     → sum_by (λ (a : ℕ × Header). free a.0) (on_from n areas) ≡ sum_on (λ (a : AreaShown). free_in a.slots) areas
 free-on free n [] h = refl
 free-on free n (None ∷ areas) h = free-on free (n + 1) areas (λ i. ap free (later i) ∙ h (suc i)) ∙ sym (zero_plus _)

@@ -21,7 +21,8 @@ pub header-at : (s : Store) (k : ℕ) → header_at (shown s) k ≡ option_map (
 header-at s k = find-on 0 k k s.areas (zero_plus k)
 
 pub off_is : (s : Store) (k : ℕ) → None ≡ get_or s.areas k None → is_on (shown s) k ≡ true → ⊥
-off_is s k h on = false≢true (ap (λ (o : Option AreaStore). is_some (option_map (λ (a : AreaStore). a.header) o)) h ∙ sym (ap is_some (header-at s k)) ∙ on)
+off_is s k h on = false≢true
+    (ap (λ (o : Option AreaStore). is_some (option_map (λ (a : AreaStore). a.header) o)) h ∙ sym (ap is_some (header-at s k)) ∙ on)
 
 -- ---- one area has changed
 
@@ -33,14 +34,16 @@ module _ (areas : List (Option AreaStore)) (k : ℕ) (a b : AreaStore) where
   was_at h = ap (option_map area_shown) h
 
   -- what is read of slots and areas
-  pub slots_kept : {X : Type 0} (read : Option AreaShown → ℕ → X) → get_or areas k None ≡ Some a → read (Some (area_shown b)) ≡ read (Some (area_shown a))
+  pub slots_kept : {X : Type 0} (read : Option AreaShown → ℕ → X) → get_or areas k None ≡ Some a
+      → read (Some (area_shown b)) ≡ read (Some (area_shown a))
       → ◌≡◌ {A = Slot → X} (λ (t : Slot). read (area_at (set areas k (Some b)) t.area) t.page) (λ (t : Slot). read (area_at areas t.area) t.page)
   slots_kept read h e = (λ i t. read (now_at h i t.area) t.page)
       ∙ slots_same read (area_at areas) k (Some (area_shown b)) (e ∙ sym (ap read (was_at h)))
 
   pub slots_changed : {X : Type 0} (read : Option AreaShown → ℕ → X) (p : ℕ) (x : X) → get_or areas k None ≡ Some a →
       read (Some (area_shown b)) ≡ with_at p x (read (Some (area_shown a)))
-      → (λ (t : Slot). read (area_at (set areas k (Some b)) t.area) t.page) ≡ with_slot (at_page k p) x (λ (t : Slot). read (area_at areas t.area) t.page)
+      → (λ (t : Slot). read (area_at (set areas k (Some b)) t.area) t.page) ≡ with_slot (at_page k p) x
+      (λ (t : Slot). read (area_at areas t.area) t.page)
   slots_changed read p x h e = (λ i t. read (now_at h i t.area) t.page)
       ∙ slots_one read (area_at areas) k (Some (area_shown b)) p x (e ∙ sym (ap (λ o. with_at p x (read o)) (was_at h)))
 

@@ -63,11 +63,13 @@ some_is f (Some x) = refl
 -- ---- after an area has changed
 
 -- what is shown, where the change of the area is known
-pub after : (s v : Store) (areas : List (Option AreaStore)) (k : ℕ) (b : AreaStore) (change : Shown → Shown) → s ≡ v → areas ≡ set s.areas k (Some b) →
+pub after : (s v : Store) (areas : List (Option AreaStore)) (k : ℕ) (b : AreaStore) (change : Shown → Shown) → s ≡ v
+    → areas ≡ set s.areas k (Some b) →
     shown (with_one s k b) ≡ change (shown s) → shown (record s { areas = areas }) ≡ change (shown v)
 after s v areas k b change same back e = ap (λ l. shown (record s { areas = l })) back ∙ e ∙ ap (λ w. change (shown w)) same
 
-resized : (n n' : ℕ) (find : Slot → Option ℕ) (q : List Slot) (ql qr : ℕ) (flags : List Bool) → n' ≡ n → IsWhole n find q ql qr flags → IsWhole n' find q ql qr flags
+resized : (n n' : ℕ) (find : Slot → Option ℕ) (q : List Slot) (ql qr : ℕ) (flags : List Bool) → n' ≡ n → IsWhole n find q ql qr flags
+    → IsWhole n' find q ql qr flags
 resized n n' find q ql qr flags e w = subst (λ m. IsWhole m find q ql qr flags) (sym e) w
 
 module _ (s : Store) (areas : List (Option AreaStore)) (k : ℕ) (a b : AreaStore) (ql qr : ℕ) (h : Some a ≡ get_or s.areas k None)
@@ -75,7 +77,8 @@ module _ (s : Store) (areas : List (Option AreaStore)) (k : ℕ) (a b : AreaStor
   replaced : (find : Slot → Option ℕ) → frame_in (set s.areas k (Some b)) ≡ find → IsWhole (length s.areas) find s.flight ql qr s.writing
       → IsWhole (length areas) (frame_in areas) s.flight ql qr s.writing
   replaced find e kept = subst (λ l. IsWhole (length l) (frame_in l) s.flight ql qr s.writing) (sym back)
-      (resized (length s.areas) (length (set s.areas k (Some b))) (frame_in (set s.areas k (Some b))) s.flight ql qr s.writing (length-set s.areas k (Some b))
+      (resized (length s.areas) (length (set s.areas k (Some b))) (frame_in (set s.areas k (Some b))) s.flight ql qr s.writing
+      (length-set s.areas k (Some b))
       (whole_same (length s.areas) find s.flight ql qr s.writing (frame_in (set s.areas k (Some b))) e kept))
 
   pub kept_whole : (area_shown b).find ≡ (area_shown a).find → IsWhole (length areas) (frame_in areas) s.flight ql qr s.writing
@@ -105,7 +108,8 @@ module _ (s v : Store) (areas : List (Option AreaStore)) (k p n : ℕ) (a b : Ar
   pub up_shown : {E : Type 0} (r : Result (Unit {0}) E)
       → MatchResult r (λ _. area_shown b ≡ area_with_entries p ((area_shown a).entries p + n) (area_shown a)) (λ _. area_shown b ≡ area_shown a)
       → MatchResult r
-      (λ _. shown (record s { areas = areas }) ≡ with_entries (record { area = k; page = p }) ((shown v).entries (record { area = k; page = p }) + n) (shown v))
+      (λ _. shown (record s { areas = areas }) ≡ with_entries (record { area = k; page = p })
+      ((shown v).entries (record { area = k; page = p }) + n) (shown v))
       (λ _. shown (record s { areas = areas }) ≡ shown v)
   up_shown (Ok x) e = after s v areas k b
       (λ w. with_entries (record { area = k; page = p }) (w.entries (record { area = k; page = p }) + n) w) same back
@@ -125,7 +129,8 @@ pub down_shown : (s v : Store) (areas : List (Option AreaStore)) (k p n : ℕ) (
     → shown (record s { areas = areas }) ≡ given_back (record { area = k; page = p })
     (with_entries (record { area = k; page = p }) ((shown v).entries (record { area = k; page = p }) - n) (shown v))
 down_shown s v areas k p n a b same h back e = after s v areas k b
-    (λ w. given_back (record { area = k; page = p }) (with_entries (record { area = k; page = p }) (w.entries (record { area = k; page = p }) - n) w)) same back
+    (λ w. given_back (record { area = k; page = p })
+    (with_entries (record { area = k; page = p }) (w.entries (record { area = k; page = p }) - n) w)) same back
     (shown_unnamed s k a b (sym h) p ((shown s).entries (record { area = k; page = p }) - n)
     (e ∙ ap (λ m. area_given_back p (area_with_entries p (m - n) (area_shown a))) (area_is s k a b (sym h) (λ o. entries_in o p))))
 
@@ -163,7 +168,8 @@ pub gives_is_on : (s v : Store) (k : ℕ) → s ≡ v → can_give (shown v) k �
 gives_is_on s v k same gives off = false≢true (sym (ap (λ (w : Store). can_give (shown w) k) (sym same)
     ∙ ap (λ o. ltb 0 (free_in (slots_in (option_map area_shown o))) && not (is_closing (shown s) k)) (sym off)) ∙ gives)
 
-pub gives_some : (s v : Store) (k : ℕ) (a : AreaStore) → s ≡ v → can_give (shown v) k ≡ true → Some a ≡ get_or s.areas k None → 0 < free_in (area_shown a).slots
+pub gives_some : (s v : Store) (k : ℕ) (a : AreaStore) → s ≡ v → can_give (shown v) k ≡ true → Some a ≡ get_or s.areas k None
+    → 0 < free_in (area_shown a).slots
 gives_some s v k a same gives on = by (not (is_closing (shown s) k)) (free_in a.slots) (sym (ap (λ (w : Store). can_give (shown w) k) (sym same)
     ∙ ap (λ o. ltb 0 (free_in (slots_in (option_map area_shown o))) && not (is_closing (shown s) k)) (sym on)) ∙ gives)
   where
@@ -211,7 +217,8 @@ none_set : (n : ℕ) → how_many itself (replicate n false) ≡ 0
 none_set zero = refl
 none_set (suc n) = let rest = none_set n in omega (arith, rest)
 
-pub fresh_whole : (areas : List (Option AreaStore)) (ql qr n : ℕ) (q : List Slot) (flags : List Bool) → areas ≡ replicate 8 None → q ≡ [] → ql ≡ 0 → n ≤ qr →
+pub fresh_whole : (areas : List (Option AreaStore)) (ql qr n : ℕ) (q : List Slot) (flags : List Bool) → areas ≡ replicate 8 None → q ≡ []
+    → ql ≡ 0 → n ≤ qr →
     n < 2 ^ 32 → flags ≡ replicate n false → IsWhole (length areas) (frame_in areas) q ql qr flags
 fresh_whole areas ql qr n q flags a e l room few f = record {
   eight = ap length a;
@@ -250,7 +257,8 @@ pub was_first : (s v : Store) (t : Slot) (f : ℕ) (page : List ℕ) (rest : Lis
     → IsFirst t f page (shown v) (shown (record s { flight = rest; writing = set s.writing f false })) was
 was_first s v t f page rest was same e h is long bytes = record {
   first = ap (λ (w : Store). w.flight) (sym same) ∙ e;
-  swap = (λ i. record (shown s) { frames = length-set s.writing f false i; flight = rest }) ∙ ap (λ (w : Store). record (shown w) { flight = rest }) same;
+  swap = (λ i. record (shown s) { frames = length-set s.writing f false i; flight = rest })
+      ∙ ap (λ (w : Store). record (shown w) { flight = rest }) same;
   cached = ap (λ (w : Store). frame_in w.areas t) (sym same) ∙ sym h;
   behind_header = behind_header s t.area t.page is;
   long = long;
@@ -281,7 +289,8 @@ module _ (s v : Store) (k : ℕ) (same : s ≡ v) (on : is_on (shown v) k ≡ tr
 
   pub off_whole : (ql qr : ℕ) → IsWhole (length s.areas) (frame_in s.areas) s.flight ql qr s.writing
       → IsWhole (length (set s.areas k None)) (frame_in (set s.areas k None)) s.flight ql qr s.writing
-  off_whole ql qr w = resized (length s.areas) (length (set s.areas k None)) (frame_in (set s.areas k None)) s.flight ql qr s.writing (length-set s.areas k None)
+  off_whole ql qr w = resized (length s.areas) (length (set s.areas k None)) (frame_in (set s.areas k None)) s.flight ql qr s.writing
+      (length-set s.areas k None)
       (whole_same (length s.areas) (frame_in s.areas) s.flight ql qr s.writing (frame_in (set s.areas k None)) frames_same w)
 
   pub off_shown : shown (record s { areas = set s.areas k None; closing = None }) ≡ after_off k (shown v)
@@ -347,10 +356,12 @@ pub both : {A B : Type 0} → A → B → A × B
 both a b = (a, b)
 
 -- a slot that an entry names has a count
-pub named_count : (s v : Store) (k p : ℕ) (a : AreaStore) → s ≡ v → Some a ≡ get_or s.areas k None → 0 < (shown v).entries (record { area = k; page = p })
+pub named_count : (s v : Store) (k p : ℕ) (a : AreaStore) → s ≡ v → Some a ≡ get_or s.areas k None
+    → 0 < (shown v).entries (record { area = k; page = p })
     → 0 < count_in (area_shown a) p
 named_count s v k p a same h named = more (subst (λ m. 0 < m)
-    (ap (λ (w : Store). (shown w).entries (record { area = k; page = p })) (sym same) ∙ sym (ap (λ (o : Option AreaStore). entries_in (option_map area_shown o) p) h)) named)
+    (ap (λ (w : Store). (shown w).entries (record { area = k; page = p })) (sym same)
+    ∙ sym (ap (λ (o : Option AreaStore). entries_in (option_map area_shown o) p) h)) named)
   where
     more : 0 < (area_shown a).entries p → 0 < (area_shown a).entries p + cond (is_some ((area_shown a).find p)) 1 0
     more e = omega (arith, e)
@@ -407,29 +418,35 @@ named_in (Some order) page device layout e =
     wrong false e = slots ((layout_of (area_pages order page) (all_named order page)).slots == 0) e
 
     many : (b : Bool) → cond b (Err TooManyBad) (cond (list_any (is_out (last_page order page)) (all_named order page)) (Err BadPage)
-        (with_slots (layout_of (area_pages order page) (all_named order page)))) ≡ Ok layout → layout ≡ layout_of (area_pages order page) (all_named order page)
+        (with_slots (layout_of (area_pages order page) (all_named order page)))) ≡ Ok layout
+        → layout ≡ layout_of (area_pages order page) (all_named order page)
     many true e = absurd (never TooManyBad e)
     many false e = wrong (list_any (is_out (last_page order page)) (all_named order page)) e
 
     short : (b : Bool) → cond b (Err Short) (cond (ltb 637 (bad_count order page)) (Err TooManyBad)
         (cond (list_any (is_out (last_page order page)) (all_named order page)) (Err BadPage)
-        (with_slots (layout_of (area_pages order page) (all_named order page))))) ≡ Ok layout → layout ≡ layout_of (area_pages order page) (all_named order page)
+        (with_slots (layout_of (area_pages order page) (all_named order page))))) ≡ Ok layout
+        → layout ≡ layout_of (area_pages order page) (all_named order page)
     short true e = absurd (never Short e)
     short false e = many (ltb 637 (bad_count order page)) e
 
-    last : (b : Bool) → cond b (Err LastPage) (cond (ltb device (area_pages order page)) (Err Short) (cond (ltb 637 (bad_count order page)) (Err TooManyBad)
+    last : (b : Bool) → cond b (Err LastPage)
+        (cond (ltb device (area_pages order page)) (Err Short) (cond (ltb 637 (bad_count order page)) (Err TooManyBad)
         (cond (list_any (is_out (last_page order page)) (all_named order page)) (Err BadPage)
-        (with_slots (layout_of (area_pages order page) (all_named order page)))))) ≡ Ok layout → layout ≡ layout_of (area_pages order page) (all_named order page)
+        (with_slots (layout_of (area_pages order page) (all_named order page)))))) ≡ Ok layout
+        → layout ≡ layout_of (area_pages order page) (all_named order page)
     last true e = absurd (never LastPage e)
     last false e = short (ltb device (area_pages order page)) e
 
-layout_is : (page : List ℕ) (device : ℕ) (layout : Layout) → header_of page device ≡ Ok layout → (n : ℕ) × (named : List ℕ) × (layout ≡ layout_of n named)
+layout_is : (page : List ℕ) (device : ℕ) (layout : Layout) → header_of page device ≡ Ok layout
+    → (n : ℕ) × (named : List ℕ) × (layout ≡ layout_of n named)
 layout_is page device layout e = by (ends_with nat_eq page (codes "SWAPSPACE2")) e
   where
     never : ◌≡◌ {A = Result Layout HeaderErr} (Err Signature) (Ok layout) → ⊥
     never e = cc
 
-    by : (b : Bool) → cond b (read_by (order_of page) page device) (Err Signature) ≡ Ok layout → (n : ℕ) × (named : List ℕ) × (layout ≡ layout_of n named)
+    by : (b : Bool) → cond b (read_by (order_of page) page device) (Err Signature) ≡ Ok layout
+        → (n : ℕ) × (named : List ℕ) × (layout ≡ layout_of n named)
     by true e = named_in (order_of page) page device layout e
     by false e = absurd (never e)
 
@@ -455,13 +472,15 @@ same_area header kept priority listed bad_list p b = λ i. fresh_area header (p 
 pub unused_is : (s v : Store) (k p : ℕ) (a : AreaStore) → s ≡ v → Some a ≡ get_or s.areas k None → count_in (area_shown a) p ≡ 0
     → (frame_in s.areas (record { area = k; page = p }) ≡ None) × (count_of (shown v) (record { area = k; page = p }) ≡ 0)
 unused_is s v k p a same h e = (
-  sym (ap (λ (o : Option AreaStore). find_in (option_map area_shown o) p) h) ∙ (nothing_counts ((area_shown a).entries p) ((area_shown a).find p) e).0,
+  sym (ap (λ (o : Option AreaStore). find_in (option_map area_shown o) p) h)
+      ∙ (nothing_counts ((area_shown a).entries p) ((area_shown a).find p) e).0,
   ap (λ (w : Store). count_of (shown w) (record { area = k; page = p })) (sym same)
       ∙ sym (ap (λ (o : Option AreaStore). counted (entries_in (option_map area_shown o) p) (find_in (option_map area_shown o) p)) h) ∙ e,
 )
 
 -- and so by the bad pages that are listed
-pub slots_listed : (page : List ℕ) (device : ℕ) (layout : Layout) (header : Header) (listed : List ℕ) → header_of page device ≡ Ok layout → header ≡ in_numbers layout →
+pub slots_listed : (page : List ℕ) (device : ℕ) (layout : Layout) (header : Header) (listed : List ℕ) → header_of page device ≡ Ok layout
+    → header ≡ in_numbers layout →
     AddsUp header device → listed ≡ layout.bad → count_by is_free (pages_of header.pages listed) ≡ header.slots
 slots_listed page device layout header listed e h adds is =
     (λ k. count_by is_free (pages_of (h k).pages (is k))) ∙ slots_are page device layout header e h adds

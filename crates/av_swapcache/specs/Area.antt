@@ -2,7 +2,7 @@
 -- slot the frame that caches it and how many entries name it.
 use Rattle.std.specs.Prelude.{◌≡◌, ◌<◌, ℕ, ℤ, ◌+◌, Bool, false, not, ◌&&◌, ◌||◌, nat_lt, if◌then◌else◌, List, length, slice_index_or, Option, None, is_some, count_by}
 use Rattle.av_base.specs.Words.{is_in, with_at}
-use Rattle.av_clusters.specs.declared.Page.{Page}
+use Rattle.av_clusters.specs.declared.clusters.Page.{Page}
 use Rattle.av_clusters.specs.Clusters.{Slots, fresh, give_slot, is_free, is_taken, page_at}
 use Rattle.av_swapdev.specs.declared.header.Header.{Header}
 use Rattle.av_swapmap.specs.Counts.{Store as Counts, Shown as ShownCounts, shown as shown_counts}

@@ -57,12 +57,12 @@ pub record IsFirst (s : Slot) (f : ℕ) (page : List ℕ) (old new : Shown) (was
   pub bytes : (i : ℕ) → slice_index page i ≡ was.bytes f i
 
 -- what a write changes: the swap areas, the frames, the device's pages, where they are told, and
--- its faults
+-- its failures
 pub record Parts : Type 0 where
   pub swap : Shown
   pub frames : ShownFrames
   pub pages : Option (ℕ → ℕ → List ℕ)
-  pub faults : ℕ
+  pub failures : ℕ
 
 -- nothing was in flight, or the first slot was written from the frame that caches it, or not
 abbrev pub Finishes : Option Finished → Parts → Parts → Type 0
@@ -70,8 +70,8 @@ Finishes None old new = (old.swap.flight ≡ []) × (new ≡ old)
 Finishes (Some (Done s f)) old new =
     (page : List ℕ) × IsFirst s f page old.swap new.swap old.frames
     × IsWritten s.area s.page page old.pages new.pages × (new.frames ≡ old.frames)
-    × (new.faults ≡ old.faults)
+    × (new.failures ≡ old.failures)
 Finishes (Some (Failed s f)) old new =
     (page : List ℕ) × IsFirst s f page old.swap new.swap old.frames
     × IsSpoiled s.area s.page old.pages new.pages
-    × (new.frames ≡ with_dirty f true old.frames) × Rose old.faults new.faults
+    × (new.frames ≡ with_dirty f true old.frames) × Rose old.failures new.failures

@@ -174,18 +174,18 @@ is_closing h k = is_area k h.closing
 abbrev pub can_give : Shown → ℕ → Bool
 can_give h k = nat_lt 0 (free_of h k) && not (is_closing h k)
 
--- of the areas below n this one gives, and none that gives goes before it: none has a greater
--- priority, or that priority and a lesser number
+-- this area, below n, gives, and none that gives goes before it: none has a greater priority, or
+-- that priority and a lesser number
 pub record GivesFirst (h : Shown) (n k : ℕ) : Type 0 where
   pub below : k < n
   pub gives : can_give h k ≡ true
-  pub greatest : (j : ℕ) → j < n → can_give h j ≡ true → h.priority j ≤ℤ h.priority k
+  pub greatest : (j : ℕ) → can_give h j ≡ true → h.priority j ≤ℤ h.priority k
   pub least : (j : ℕ) → j < k → can_give h j ≡ true → h.priority j <ℤ h.priority k
 
 -- whether an area has a greater priority than another, if there is one
-abbrev pub goes_before : Shown → ℕ → Option ℕ → Bool
-goes_before h k None = true
-goes_before h k (Some j) = int_lt (h.priority j) (h.priority k)
+abbrev pub outranks : Shown → ℕ → Option ℕ → Bool
+outranks h k None = true
+outranks h k (Some j) = int_lt (h.priority j) (h.priority k)
 
 -- how many slots of the areas that are on are free, and how many there are
 abbrev pub all_free : Shown → ℕ

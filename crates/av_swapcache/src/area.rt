@@ -1,10 +1,14 @@
 //! One swap area that is on.
 
-ghost use Rattle.std.specs.Prelude.{◌≡◌, ℕ, count_by, ◌+◌, ◌-◌, ◌<◌, ◌≤◌, ◌^◌, replicate, IfOk, IfSome, IsSomeAnd, MatchResult, Some, None, is_some, nat_lt, slice_set, if◌then◌else◌, true, false};
+ghost use Rattle.std.specs.Prelude.{◌≡◌, ℕ, count_by, ◌+◌, ◌-◌, ◌<◌, ◌≤◌, ◌^◌, replicate, IfOk};
+ghost use Rattle.std.specs.Prelude.{IfSome, IsSomeAnd, MatchResult, Some, None, is_some, nat_lt};
+ghost use Rattle.std.specs.Prelude.{slice_set, if◌then◌else◌, true, false};
 ghost use Rattle.av_clusters.specs.Clusters.{is_free, is_taken, page_at, pages_of, take_slot};
-ghost use Rattle.av_clusters.specs.declared.Page.TheVariants.{Free};
+ghost use Rattle.av_clusters.specs.declared.clusters.Page.TheVariants.{Free};
 ghost use Rattle.av_swapmap.specs.Counts.{shown as shown_counts};
-ghost use Rattle.av_swapcache.specs.Area.{area_shown, fresh_area, with_frame, with_entries, given_back, count_in, free_in, after_count, uses_in, IsKept, IsSlot};
+ghost use Rattle.av_swapcache.specs.Area.{area_shown, fresh_area, with_frame, with_entries};
+ghost use Rattle.av_swapcache.specs.Area.{given_back, count_in, free_in, after_count, uses_in};
+ghost use Rattle.av_swapcache.specs.Area.{IsKept, IsSlot};
 
 use av_clusters::Clusters;
 use av_swapdev::Header;

@@ -1,9 +1,11 @@
 //! The swap areas by number.
 
 ghost use Rattle.std.specs.Borrow.{LendsSo, sem};
-ghost use Rattle.std.specs.Prelude.{◌≡◌, ◌≤◌, ◌^◌, length, IfOk, IfSome, None, OnSome, Some, option_map, replicate, slice_index_or, slice_set};
+ghost use Rattle.std.specs.Prelude.{◌≡◌, ◌≤◌, ◌^◌, length, IfOk, IfSome, None, OnSome, Some};
+ghost use Rattle.std.specs.Prelude.{option_map, replicate, slice_index_or, slice_set};
 ghost use Rattle.av_swapcache.specs.Area.{free_in};
-ghost use Rattle.av_swapcache.specs.Swap.{AreKept, IsKeptOn, IsSlotIn, area_at, frame_in, number_on, sum_on};
+ghost use Rattle.av_swapcache.specs.Swap.{AreKept, IsKeptOn, IsSlotIn, area_at, frame_in};
+ghost use Rattle.av_swapcache.specs.Swap.{number_on, sum_on};
 ghost use Rattle.av_swapdev.specs.Device.{most_areas};
 ghost use Rattle.av_swapcache.specs.contracts.area.Area.{the_row as area_row};
 ghost use Rattle.av_swapcache.specs.contracts.areas.Areas.{the_row};

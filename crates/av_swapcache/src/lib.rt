@@ -2,8 +2,8 @@
 //! which frame caches a slot, which slots are in flight, how many entries name each slot, and which
 //! slot is given next. The frames themselves are `av_frames`'.
 //!
-//! There may be eight areas, each with a priority; the kernel gives all the same one. While an area
-//! is emptied for a swapoff it is closing, and gives no slot.
+//! There may be eight areas, each with a priority: of those that can give a slot, the one with the
+//! greatest does. While an area is emptied for a swapoff it is closing, and gives no slot.
 //!
 //! Proved: each call changes what it says of the slots, the flight and the areas, and nothing else;
 //! a slot is taken exactly where something names it, and given back as soon as nothing does; bad

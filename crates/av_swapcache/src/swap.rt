@@ -1,11 +1,18 @@
 //! The swap areas that are on and the swap cache: one struct, whose calls go through frames and
 //! device (Linux's `mm/swapfile.c` and `mm/swap_state.c`).
 
-ghost use Rattle.std.specs.Prelude.{◌≡◌, ℕ, ◌+◌, ◌-◌, ◌<◌, ◌≤◌, ◌^◌, ◌∷◌, ◌++◌, [], nat_lt, length, replicate, IfOk, IfSome, IsSomeAnd, MatchOption, MatchResult, OnOk, OnErr, Ok, Some, None, true, false};
-ghost use Rattle.av_frames.specs.Store.{shown as frames_shown, with_dirty, with_slot as with_frame_slot};
+ghost use Rattle.std.specs.Prelude.{◌≡◌, ℕ, ◌+◌, ◌-◌, ◌<◌, ◌≤◌, ◌^◌, ◌∷◌, ◌++◌, [], nat_lt, length};
+ghost use Rattle.std.specs.Prelude.{replicate, IfOk, IfSome, IsSomeAnd, MatchOption, MatchResult};
+ghost use Rattle.std.specs.Prelude.{OnOk, OnErr, Ok, Some, None, true, false};
+ghost use Rattle.av_frames.specs.Store.{shown as frames_shown, with_dirty};
+ghost use Rattle.av_frames.specs.Store.{with_slot as with_frame_slot};
 ghost use Rattle.av_io.specs.Count.{Rose};
 ghost use Rattle.av_swapcache.specs.Calls.{Answers, Finishes, IsLoaded, IsPut};
-ghost use Rattle.av_swapcache.specs.Swap.{shown, fresh, all_free, all_slots, IsFit, GivesFirst, HasAreas, IsPage, IsUncached, can_give, count_of, is_cached, is_flying, is_full, is_on, header_at, free_of, goes_before, is_closing, with_closing, with_entries, with_find, given_back, after_off};
+ghost use Rattle.av_swapcache.specs.Swap.{shown, fresh, all_free, all_slots, IsFit, GivesFirst};
+ghost use Rattle.av_swapcache.specs.Swap.{HasAreas, IsPage, IsUncached, can_give, count_of};
+ghost use Rattle.av_swapcache.specs.Swap.{is_cached, is_flying, is_full, is_on, header_at, free_of};
+ghost use Rattle.av_swapcache.specs.Swap.{outranks, is_closing, with_closing, with_entries};
+ghost use Rattle.av_swapcache.specs.Swap.{with_find, given_back, after_off};
 ghost use Rattle.av_swapdev.specs.Device.{most_areas};
 
 use crate::area::Area;
@@ -107,9 +114,9 @@ impl Swap {
             (λ _. shown self.new ≡ shown self.old) }
         ensures same_pages { D.pages dev.new ≡ D.pages dev.old }
         ensures same_sizes { D.sizes dev.new ≡ D.sizes dev.old }
-        ensures never_falls { D.faults dev.old ≤ D.faults dev.new }
-        ensures cause { result ≡ Ok SwapOn.Io → Rose (D.faults dev.old) (D.faults dev.new) }
-        ensures unfailed { (result ≡ Ok SwapOn.Io → ⊥) → D.faults dev.new ≡ D.faults dev.old }
+        ensures never_falls { D.failures dev.old ≤ D.failures dev.new }
+        ensures cause { result ≡ Ok SwapOn.Io → Rose (D.failures dev.old) (D.failures dev.new) }
+        ensures unfailed { (result ≡ Ok SwapOn.Io → ⊥) → D.failures dev.new ≡ D.failures dev.old }
     {
         if self.is_on(area) {
             return Ok(SwapOn::Busy);
@@ -189,9 +196,9 @@ impl Swap {
             × (frames_shown frames.new ≡ frames_shown frames.old)) }
         ensures same_pages { D.pages dev.new ≡ D.pages dev.old }
         ensures same_sizes { D.sizes dev.new ≡ D.sizes dev.old }
-        ensures never_falls { D.faults dev.old ≤ D.faults dev.new }
-        ensures cause { OnErr result (Rose (D.faults dev.old) (D.faults dev.new)) }
-        ensures unfailed { OnOk result (D.faults dev.new ≡ D.faults dev.old) }
+        ensures never_falls { D.failures dev.old ≤ D.failures dev.new }
+        ensures cause { OnErr result (Rose (D.failures dev.old) (D.failures dev.new)) }
+        ensures unfailed { OnOk result (D.failures dev.new ≡ D.failures dev.old) }
     {
         let Some(area) = self.areas.of_mut(slot.area) else {
             unreachable!();
@@ -256,16 +263,16 @@ impl Swap {
               swap = shown self.old;
               frames = frames_shown frames.old;
               pages = D.pages dev.old;
-              faults = D.faults dev.old;
+              failures = D.failures dev.old;
             })
             (record {
               swap = shown self.new;
               frames = frames_shown frames.new;
               pages = D.pages dev.new;
-              faults = D.faults dev.new;
+              failures = D.failures dev.new;
             }) }
         ensures same_sizes { D.sizes dev.new ≡ D.sizes dev.old }
-        ensures never_falls { D.faults dev.old ≤ D.faults dev.new }
+        ensures never_falls { D.failures dev.old ≤ D.failures dev.new }
     {
         let slot = self.flight.pop_front()?;
         let Some(frame) = self.areas.find(slot) else {
@@ -486,7 +493,7 @@ impl Swap {
         let _ = &self.areas;
         let mut first = None;
         for area in 0..AREAS {
-            if self.can_give(area) && self.goes_before(area, first) {
+            if self.can_give(area) && self.outranks(area, first) {
                 first = Some(area);
             }
         }
@@ -511,8 +518,8 @@ impl Swap {
     }
 
     /// Whether an area has a greater priority than another, if there is one.
-    fn goes_before(&self, area: u8, other: Option<u8>) -> bool
-        ensures { result ≡ goes_before (shown self.now) area other }
+    fn outranks(&self, area: u8, other: Option<u8>) -> bool
+        ensures { result ≡ outranks (shown self.now) area other }
     {
         match other {
             Some(other) => self.priority(area) > self.priority(other),

@@ -48,7 +48,8 @@ module _ (areas : List (Vec (List ℕ) Global)) (area page : ℕ) (pages : Vec (
       ap (λ (l : List (List (List ℕ))). get_or l a []) (map-set (λ (v : Vec (List ℕ) Global). v.items) areas area (with_item pages page bytes))
       ∙ get_set (map (λ (v : Vec (List ℕ) Global). v.items) areas) area a (set pages.items page bytes) [] (grind (arith, common_steps))
 
-  pub pages_written : page < length (area_in areas area) → pages_in (set areas area (with_item pages page bytes)) ≡ with_page area page bytes (pages_in areas)
+  pub pages_written : page < length (area_in areas area)
+      → pages_in (set areas area (with_item pages page bytes)) ≡ with_page area page bytes (pages_in areas)
   pages_written within = λ i a p. (ap (λ (l : List (List ℕ)). get_or l p []) (area_written a) ∙ split a p (eqb a area)) i
     where
       split : (a p : ℕ) (b : Bool) → get_or (cond b (set pages.items page bytes) (area_in areas a)) p [] ≡ cond b
@@ -81,7 +82,8 @@ module _ (areas : List (Vec (List ℕ) Global)) (area page : ℕ) (pages : Vec (
       IsInverted (pages_in areas area page) (pages_in (set areas area (with_item pages page bytes)) area page)
   page_inverted old is_old within inverted = λ k below.
       ap (λ (new : List ℕ). slice_index new k) (page_written within) ∙ inverted k below
-      ∙ ap (λ (l : List ℕ). 255 - slice_index l k) (is_old ∙ get_or_default pages.items page old [] long ∙ ap (λ (l : List (List ℕ)). get_or l page []) own)
+      ∙ ap (λ (l : List ℕ). 255 - slice_index l k)
+      (is_old ∙ get_or_default pages.items page old [] long ∙ ap (λ (l : List (List ℕ)). get_or l page []) own)
     where
       long : page < length pages.items
       long = let same : length pages.items ≡ length (area_in areas area) = ap length own in omega (arith, same, within)

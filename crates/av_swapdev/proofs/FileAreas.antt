@@ -27,7 +27,8 @@ module _ {F : Type 0} (view : F → FileView) (areas : List (Option (Attached F)
   within : area < length areas
   within = elim (cases_lt area (length areas)) [
     | inl lt ↦ lt
-    | inr ge ↦ absurd (subst (λ (o : Option (Attached F)). IsSomeAnd (option_map (λ a. a.pages) o) (λ n. page < n)) (get_or_past areas area None ge) has)
+    | inr ge ↦ absurd (subst (λ (o : Option (Attached F)). IsSomeAnd (option_map (λ a. a.pages) o) (λ n. page < n))
+        (get_or_past areas area None ge) has)
   ]
 
   old_there : get_or areas area None ≡ Some was

@@ -42,7 +42,8 @@ read_in_ok order page device header e =
     record {
       pages = sym (ap (λ (h : Header). h.pages) same);
       few = few (bad_count order page) behind_many.0;
-      adds_up = sums (area_pages order page) layout.slots (length layout.bad) device header (last_page order page) same refl all behind_slots.0 behind_short.0;
+      adds_up = sums (area_pages order page) layout.slots (length layout.bad) device header (last_page order page) same refl all behind_slots.0
+          behind_short.0;
     }
   where
     of_ok : (a : Layout) (b : Header) → answer_of (Ok a) ≡ Ok b → in_numbers a ≡ b
@@ -68,7 +69,8 @@ read_ok : (page : List ℕ) (device : ℕ) (header : Header) → answer_of (head
     (order : Order) × (order_of page ≡ Some order) × IsRead order page device header
 read_ok page device header e = signed (ends_with eqb page (codes "SWAPSPACE2")) e
   where
-    by : (found : Option Order) → answer_of (read_by found page device) ≡ Ok header → (order : Order) × (found ≡ Some order) × IsRead order page device header
+    by : (found : Option Order) → answer_of (read_by found page device) ≡ Ok header
+        → (order : Order) × (found ≡ Some order) × IsRead order page device header
     by None h = absurd (cc)
     by (Some order) h = (order, refl, read_in_ok order page device header h)
 
@@ -125,7 +127,8 @@ bad_is order page header device layout found of_page ok =
     ap (λ (l : Layout). l.bad) (layout_is order page device layout found ok) ∙ ap (λ (n : ℕ). bad_of n (all_named order page))
     (sym (header_is order page header found of_page).0)
 
-pub is_in_bad : (m : ℕ) (order : Order) (page : List ℕ) (header : Header) (device : ℕ) (layout : Layout) → order_of page ≡ Some order → IsHeaderOf page header →
+pub is_in_bad : (m : ℕ) (order : Order) (page : List ℕ) (header : Header) (device : ℕ) (layout : Layout) → order_of page ≡ Some order
+    → IsHeaderOf page header →
     header_of page device ≡ Ok layout → is_in m layout.bad ≡ (within 1 (header.pages - 1) m && is_in m (all_named order page))
 is_in_bad m order page header device layout found of_page ok =
     ap (is_in m) (bad_is order page header device layout found of_page ok) ∙ in_bad header.pages (all_named order page) m
@@ -193,4 +196,5 @@ module _ (order : Order) (page : List ℕ) (device last pages count bad : ℕ)
       let slots_are : length (slots_of pages (numbers_at order page 0 count)) ≡ pages - 1 - bad = omega arith in
       let numbers : in_numbers (layout_of pages (numbers_at order page 0 count)) ≡ record { pages = pages; slots = pages - 1 - bad; bad = bad } =
       λ i. record { pages = pages; slots = slots_are i; bad = sym bad_is i } in
-      sym (read ∙ some_slots (layout_of pages (numbers_at order page 0 count)) (λ none. some (sym slots_are ∙ none)) ∙ ap (λ (h : Header). Ok h) numbers)
+      sym (read ∙ some_slots (layout_of pages (numbers_at order page 0 count)) (λ none. some (sym slots_are ∙ none))
+      ∙ ap (λ (h : Header). Ok h) numbers)

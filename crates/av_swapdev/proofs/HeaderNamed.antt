@@ -37,11 +37,13 @@ bad_next pages b ns = split (within 1 (pages - 1) b) refl
     kept : List ℕ
     kept = filter (within 1 (pages - 1)) ns
 
-    counted : (again : Bool) → length (cond again (unique_keys eqb kept) (b ∷ unique_keys eqb kept)) ≡ cond (not again) 1 0 + length (unique_keys eqb kept)
+    counted : (again : Bool)
+        → length (cond again (unique_keys eqb kept) (b ∷ unique_keys eqb kept)) ≡ cond (not again) 1 0 + length (unique_keys eqb kept)
     counted true = omega arith
     counted false = omega arith
 
-    split : (behind : Bool) → within 1 (pages - 1) b ≡ behind → length (unique_keys eqb (cond behind (b ∷ kept) kept)) ≡ cond (behind && not (is_in b ns))
+    split : (behind : Bool) → within 1 (pages - 1) b ≡ behind
+        → length (unique_keys eqb (cond behind (b ∷ kept) kept)) ≡ cond (behind && not (is_in b ns))
         1 0 + length (unique_keys eqb kept)
     split true e = counted (is_in b kept) ∙ ap (λ t. cond (not t) 1 0 + length (unique_keys eqb kept))
         (in_filter (within 1 (pages - 1)) b ns ∙ ap (λ t. is_in b ns && t) e ∙ and_true (is_in b ns))
@@ -52,7 +54,8 @@ bad_next pages b ns = split (within 1 (pages - 1) b) refl
     split false e = omega arith
 
 -- a loop has passed a number, and the test did not hold of it
-pub any_passed : (p : ℕ → Bool) (f : ℕ → ℕ) (i n : ℕ) (whole : Bool) → i < n → p (f i) ≡ false → list_any p (map f (range_with_len i (n - i))) ≡ whole →
+pub any_passed : (p : ℕ → Bool) (f : ℕ → ℕ) (i n : ℕ) (whole : Bool) → i < n → p (f i) ≡ false
+    → list_any p (map f (range_with_len i (n - i))) ≡ whole →
     list_any p (map f (range_with_len (i + 1) (n - (i + 1)))) ≡ whole
 any_passed p f i n whole h fails so = sym (any_next p f i n h ∙ ap (λ b. b || list_any p (map f (range_with_len (i + 1) (n - (i + 1))))) fails) ∙ so
 
@@ -90,7 +93,8 @@ mark_passed f i n m b marked whole h is_b so =
     swap false false r = refl
 
 -- the numbers that pass a test, up to a number and from it on: the same once the number is passed
-pub number_passed : (p : ℕ → Bool) (found whole : List ℕ) (m n : ℕ) (test : Bool) → m < n → p m ≡ test → found ++ filter p (range_with_len m (n - m)) ≡ whole
+pub number_passed : (p : ℕ → Bool) (found whole : List ℕ) (m n : ℕ) (test : Bool) → m < n → p m ≡ test
+    → found ++ filter p (range_with_len m (n - m)) ≡ whole
     → cond test (found ++ m ∷ []) found ++ filter p (range_with_len (m + 1) (n - (m + 1))) ≡ whole
 number_passed p found whole m n test h is so =
     joined test ∙ sym (ap (λ (r : List ℕ). found ++ r) (ap (filter p) (range_next m n h) ∙ ap (λ (t : Bool). cond t (m ∷ rest) rest) is)) ∙ so
@@ -103,7 +107,8 @@ number_passed p found whole m n test h is so =
     joined false = refl
 
 -- two tests that agree on the numbers of a range leave the same of it
-pub filter_same : (p q : ℕ → Bool) (a n : ℕ) → ((m : ℕ) → a ≤ m → m < a + n → p m ≡ q m) → filter p (range_with_len a n) ≡ filter q (range_with_len a n)
+pub filter_same : (p q : ℕ → Bool) (a n : ℕ) → ((m : ℕ) → a ≤ m → m < a + n → p m ≡ q m)
+    → filter p (range_with_len a n) ≡ filter q (range_with_len a n)
 filter_same p q a zero same = refl
 filter_same p q a (suc n) same =
     ap (λ (t : Bool). cond t (a ∷ filter p (range_with_len (a + 1) n)) (filter p (range_with_len (a + 1) n))) (same a (omega arith) (omega arith))

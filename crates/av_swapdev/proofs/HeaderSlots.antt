@@ -50,7 +50,8 @@ module _ (pages : ℕ) (ns : List ℕ) where
   in_bad q = in_filter (λ m. is_in m ns) q (behind_header pages) ∙ ap (λ t. t && is_in q ns) (in_range q 1 (pages - 1))
 
   pub length-bad : length (distinct_of pages ns) ≡ length (bad_of pages ns)
-  length-bad = sym (length-from_keys nat_eq_equiv (bad_of pages ns) (filter (within 1 (pages - 1)) ns) (distinct (λ m. is_in m ns) 1 (pages - 1)) among)
+  length-bad = sym (length-from_keys nat_eq_equiv (bad_of pages ns) (filter (within 1 (pages - 1)) ns)
+      (distinct (λ m. is_in m ns) 1 (pages - 1)) among)
     where
       among : (q : ℕ) → is_in q (bad_of pages ns) ≡ is_in q (filter (within 1 (pages - 1)) ns)
       among q = in_bad q ∙ commuted (within 1 (pages - 1) q) (is_in q ns) ∙ sym (in_filter (within 1 (pages - 1)) q ns)

@@ -14,21 +14,21 @@ pub record FileView : Type 0 where
   pub bytes : Option (List ℕ)
   pub len : ℕ
   pub calls : ℕ
-  pub faults : ℕ
+  pub failures : ℕ
 
 -- what the file of each name holds, where that is told; how often one was opened, how often that
 -- failed, and how often memory was wanting for it
 pub record FilesView : Type 0 where
   pub named : Option (List ℕ → List ℕ)
   pub calls : ℕ
-  pub faults : ℕ
+  pub failures : ℕ
   pub shortages : ℕ
 
 -- after a file was opened, with this answer
 abbrev pub after_open : {F : Type 0} → Result F AttachErr → FilesView → FilesView
 after_open (Ok file) files = record files { calls = one_more files.calls }
 after_open (Err Failed) files =
-    record files { calls = one_more files.calls; faults = one_more files.faults }
+    record files { calls = one_more files.calls; failures = one_more files.failures }
 after_open (Err Memory) files =
     record files { calls = one_more files.calls; shortages = one_more files.shortages }
 
@@ -37,14 +37,14 @@ pub record Opens (files : FilesView) (name : List ℕ) (file : FileView) : Type 
   pub bytes : IfSome files.named (λ held. file.bytes ≡ Some (held name))
   pub len : IfSome file.bytes (λ held. file.len ≡ length held)
   pub calls : file.calls ≡ 0
-  pub faults : file.faults ≡ 0
+  pub failures : file.failures ≡ 0
 
 -- after a call that went well, and after one that failed
 abbrev pub after_call : FileView → FileView
 after_call file = record file { calls = one_more file.calls }
 
 abbrev pub after_fault : FileView → FileView
-after_fault file = record file { calls = one_more file.calls; faults = one_more file.faults }
+after_fault file = record file { calls = one_more file.calls; failures = one_more file.failures }
 
 -- what a file holds, with these bytes from a place on
 abbrev pub with_bytes : ℕ → List ℕ → List ℕ → List ℕ
@@ -71,7 +71,7 @@ pub record StoresPart (old new : FileView) (place : ℕ) (piece : List ℕ) : Ty
 
 -- where there is no file, nothing is told and nothing called
 abbrev pub no_file : FileView
-no_file = record { bytes = None; len = 0; calls = 0; faults = 0 }
+no_file = record { bytes = None; len = 0; calls = 0; failures = 0 }
 
 -- what is told of the file that is attached as an area
 abbrev pub file_at : {F : Type 0} → (F → FileView) → List (Option (Attached F)) → ℕ → FileView

@@ -1,10 +1,12 @@
 //! A device with swap areas.
 
-ghost use Rattle.std.specs.Prelude.{◌≡◌, ℕ, ◌<◌, ◌≤◌, List, Option, Some, length, IfOk, OnOk, OnErr, IsErrOf};
+ghost use Rattle.std.specs.Prelude.{◌≡◌, ℕ, ◌<◌, ◌≤◌, List, Option, Some, length, IfOk, OnOk};
+ghost use Rattle.std.specs.Prelude.{OnErr, IsErrOf};
 ghost use Rattle.av_base.specs.Page.{page_size};
 ghost use Rattle.av_base.specs.Words.{with_at};
 ghost use Rattle.av_io.specs.Count.{Rose};
-ghost use Rattle.av_swapdev.specs.Device.{HasPage, Holds, IsWritten, IsSpoiled, IsRenewed, most_areas, most_pages};
+ghost use Rattle.av_swapdev.specs.Device.{HasPage, Holds, IsWritten, IsSpoiled, IsRenewed};
+ghost use Rattle.av_swapdev.specs.Device.{most_areas, most_pages};
 
 use av_base::PAGE_SIZE;
 use av_io::Failed;
@@ -32,7 +34,7 @@ pub trait SwapDev {
     ghost pages: { Self → Option (ℕ → ℕ → List ℕ) };
 
     /// How often a call failed.
-    ghost faults: { Self → ℕ };
+    ghost failures: { Self → ℕ };
 
     /// Attaches what has this name as an area, and says how many of its pages are used: 1,048,576
     /// at most.
@@ -43,11 +45,12 @@ pub trait SwapDev {
         ensures renewed { OnOk result (IsRenewed area (pages self.old) (pages self.new)) }
         ensures same_sizes { OnErr result (sizes self.new ≡ sizes self.old) }
         ensures same_pages { OnErr result (pages self.new ≡ pages self.old) }
-        ensures never_falls { faults self.old ≤ faults self.new }
-        ensures cause { IsErrOf result AttachErr.Failed → Rose (faults self.old) (faults self.new) }
-        ensures unfailed { OnOk result (faults self.new ≡ faults self.old) }
+        ensures never_falls { failures self.old ≤ failures self.new }
+        ensures cause { IsErrOf result AttachErr.Failed →
+            Rose (failures self.old) (failures self.new) }
+        ensures unfailed { OnOk result (failures self.new ≡ failures self.old) }
         ensures unfailed_memory { IsErrOf result AttachErr.Memory
-            → faults self.new ≡ faults self.old };
+            → failures self.new ≡ failures self.old };
 
     /// Reads a page. After an error `into` has any bytes.
     fn read(&mut self, area: u8, page: u32, into: &mut [u8]) -> Result<(), Failed>
@@ -56,9 +59,9 @@ pub trait SwapDev {
         ensures bytes { OnOk result (Holds (pages self.old) area page into.new) }
         ensures same_pages { pages self.new ≡ pages self.old }
         ensures same_sizes { sizes self.new ≡ sizes self.old }
-        ensures never_falls { faults self.old ≤ faults self.new }
-        ensures cause { OnErr result (Rose (faults self.old) (faults self.new)) }
-        ensures unfailed { OnOk result (faults self.new ≡ faults self.old) };
+        ensures never_falls { failures self.old ≤ failures self.new }
+        ensures cause { OnErr result (Rose (failures self.old) (failures self.new)) }
+        ensures unfailed { OnOk result (failures self.new ≡ failures self.old) };
 
     /// Writes a page. After an error it holds any bytes.
     fn write(&mut self, area: u8, page: u32, from: &[u8]) -> Result<(), Failed>
@@ -68,7 +71,7 @@ pub trait SwapDev {
             (pages self.new)) }
         ensures spoiled { OnErr result (IsSpoiled area page (pages self.old) (pages self.new)) }
         ensures same_sizes { sizes self.new ≡ sizes self.old }
-        ensures never_falls { faults self.old ≤ faults self.new }
-        ensures cause { OnErr result (Rose (faults self.old) (faults self.new)) }
-        ensures unfailed { OnOk result (faults self.new ≡ faults self.old) };
+        ensures never_falls { failures self.old ≤ failures self.new }
+        ensures cause { OnErr result (Rose (failures self.old) (failures self.new)) }
+        ensures unfailed { OnOk result (failures self.new ≡ failures self.old) };
 }

@@ -1,7 +1,8 @@
 //! Files that serve as swap areas.
 
 ghost use Rattle.std.specs.Prelude.{◌≡◌, IfOk, OnOk, OnErr};
-ghost use Rattle.av_swapdev.specs.File.{FileView, FilesView, Opens, Reads, Stores, StoresPart, after_open, after_fault};
+ghost use Rattle.av_swapdev.specs.File.{FileView, FilesView, Opens, Reads, Stores, StoresPart};
+ghost use Rattle.av_swapdev.specs.File.{after_open, after_fault};
 
 use crate::device::AttachErr;
 use av_io::Failed;

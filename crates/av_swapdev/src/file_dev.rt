@@ -1,11 +1,14 @@
 //! A device over files.
 
-ghost use Rattle.std.specs.Prelude.{◌≡◌, ◌*◌, ◌≤◌, ◌<◌, ℕ, None, Some, length, replicate, vec_len, IfOk, OnOk, OnErr, IsErrOf};
+ghost use Rattle.std.specs.Prelude.{◌≡◌, ◌*◌, ◌≤◌, ◌<◌, ℕ, None, Some, length, replicate, vec_len};
+ghost use Rattle.std.specs.Prelude.{IfOk, OnOk, OnErr, IsErrOf};
 ghost use Rattle.av_base.specs.Page.{page_size};
 ghost use Rattle.av_base.specs.Words.{with_at};
 ghost use Rattle.av_io.specs.Count.{Rose, one_more};
-ghost use Rattle.av_swapdev.specs.Device.{HasPage, Holds, IsRenewed, IsSpoiled, IsWritten, most_areas, most_pages};
-ghost use Rattle.av_swapdev.specs.File.{Opens, Reads, SameBut, Stores, StoresPart, after_open, after_fault, file_at, pages_of, sizes_of};
+ghost use Rattle.av_swapdev.specs.Device.{HasPage, Holds, IsRenewed, IsSpoiled, IsWritten};
+ghost use Rattle.av_swapdev.specs.Device.{most_areas, most_pages};
+ghost use Rattle.av_swapdev.specs.File.{Opens, Reads, SameBut, Stores, StoresPart, after_open};
+ghost use Rattle.av_swapdev.specs.File.{after_fault, file_at, pages_of, sizes_of};
 
 use crate::device::{AttachErr, MOST_PAGES, SwapDev};
 use crate::file::{SwapFile, SwapFiles};
@@ -25,7 +28,7 @@ struct Attached<F> {
 pub struct FileDev<H: SwapFiles + Drop> {
     files: H,
     areas: Vec<Option<Attached<H::File>>>,
-    faults: u64,
+    failures: u64,
     ghost eight: { vec_len areas ≡ 8 },
 }
 
@@ -34,13 +37,13 @@ impl<H: SwapFiles + Drop> FileDev<H> {
     pub fn new(alloc: Global, files: H) -> Result<FileDev<H>, AllocError>
         ensures sizes { IfOk result (λ d. (area : ℕ)
             → ⟦<FileDev<H> as SwapDev>⟧.sizes d area ≡ None) }
-        ensures faults { IfOk result (λ d. ⟦<FileDev<H> as SwapDev>⟧.faults d ≡ 0) }
+        ensures failures { IfOk result (λ d. ⟦<FileDev<H> as SwapDev>⟧.failures d ≡ 0) }
         ensures files { IfOk result (λ d. d.files ≡ files) }
     {
         Ok(FileDev {
             files,
             areas: no_areas(alloc)?,
-            faults: 0,
+            failures: 0,
         })
     }
 }
@@ -64,11 +67,11 @@ fn pages_of(len: u64) -> u32
 }
 
 /// One more fault.
-fn count(faults: &mut u64)
-    ensures once { faults.new ≡ one_more faults.old }
-    ensures never_falls { faults.old ≤ faults.new }
+fn count(failures: &mut u64)
+    ensures once { failures.new ≡ one_more failures.old }
+    ensures never_falls { failures.old ≤ failures.new }
 {
-    *faults = faults.saturating_add(1);
+    *failures = failures.saturating_add(1);
 }
 
 /// Where a page begins in its file.
@@ -109,7 +112,7 @@ impl<H: SwapFiles + Drop> SwapDev for FileDev<H> {
 
     ghost pages = { λ _. None };
 
-    ghost faults = { λ d. d.faults };
+    ghost failures = { λ d. d.failures };
 
     fn attach(&mut self, area: u8, name: &str) -> Result<u32, AttachErr>
         requires { area < most_areas }
@@ -122,15 +125,15 @@ impl<H: SwapFiles + Drop> SwapDev for FileDev<H> {
             ⟦<FileDev<H> as SwapDev>⟧.sizes self.old) }
         ensures same_pages { OnErr result (⟦<FileDev<H> as SwapDev>⟧.pages self.new ≡
             ⟦<FileDev<H> as SwapDev>⟧.pages self.old) }
-        ensures never_falls { ⟦<FileDev<H> as SwapDev>⟧.faults self.old
-            ≤ ⟦<FileDev<H> as SwapDev>⟧.faults self.new }
-        ensures cause { IsErrOf result AttachErr.Failed → Rose (⟦<FileDev<H> as SwapDev>⟧.faults
-            self.old) (⟦<FileDev<H> as SwapDev>⟧.faults self.new) }
-        ensures unfailed { OnOk result (⟦<FileDev<H> as SwapDev>⟧.faults self.new
-            ≡ ⟦<FileDev<H> as SwapDev>⟧.faults self.old) }
+        ensures never_falls { ⟦<FileDev<H> as SwapDev>⟧.failures self.old
+            ≤ ⟦<FileDev<H> as SwapDev>⟧.failures self.new }
+        ensures cause { IsErrOf result AttachErr.Failed → Rose (⟦<FileDev<H> as SwapDev>⟧.failures
+            self.old) (⟦<FileDev<H> as SwapDev>⟧.failures self.new) }
+        ensures unfailed { OnOk result (⟦<FileDev<H> as SwapDev>⟧.failures self.new
+            ≡ ⟦<FileDev<H> as SwapDev>⟧.failures self.old) }
         ensures unfailed_memory { IsErrOf result AttachErr.Memory
-            → ⟦<FileDev<H> as SwapDev>⟧.faults self.new
-            ≡ ⟦<FileDev<H> as SwapDev>⟧.faults self.old }
+            → ⟦<FileDev<H> as SwapDev>⟧.failures self.new
+            ≡ ⟦<FileDev<H> as SwapDev>⟧.failures self.old }
         // Beside what the trait says: one file is opened, whose answer this is; it is the area's
         // file then, with as many pages as its bytes fill.
         ensures answer { H.view self.new.files ≡ after_open result (H.view self.old.files) }
@@ -142,7 +145,7 @@ impl<H: SwapFiles + Drop> SwapDev for FileDev<H> {
             (file_at H.File.view self.new.areas.items) }
         ensures same_files { OnErr result (self.new.areas ≡ self.old.areas) }
         ensures once { IsErrOf result AttachErr.Failed
-            → self.new.faults ≡ one_more self.old.faults }
+            → self.new.failures ≡ one_more self.old.failures }
     {
         match self.files.open(name) {
             Ok(file) => {
@@ -151,7 +154,7 @@ impl<H: SwapFiles + Drop> SwapDev for FileDev<H> {
                 Ok(pages)
             }
             Err(AttachErr::Failed) => {
-                count(&mut self.faults);
+                count(&mut self.failures);
                 Err(AttachErr::Failed)
             }
             Err(AttachErr::Memory) => Err(AttachErr::Memory),
@@ -167,12 +170,12 @@ impl<H: SwapFiles + Drop> SwapDev for FileDev<H> {
             ≡ ⟦<FileDev<H> as SwapDev>⟧.pages self.old }
         ensures same_sizes { ⟦<FileDev<H> as SwapDev>⟧.sizes self.new
             ≡ ⟦<FileDev<H> as SwapDev>⟧.sizes self.old }
-        ensures never_falls { ⟦<FileDev<H> as SwapDev>⟧.faults self.old
-            ≤ ⟦<FileDev<H> as SwapDev>⟧.faults self.new }
-        ensures cause { OnErr result (Rose (⟦<FileDev<H> as SwapDev>⟧.faults self.old)
-            (⟦<FileDev<H> as SwapDev>⟧.faults self.new)) }
-        ensures unfailed { OnOk result (⟦<FileDev<H> as SwapDev>⟧.faults self.new
-            ≡ ⟦<FileDev<H> as SwapDev>⟧.faults self.old) }
+        ensures never_falls { ⟦<FileDev<H> as SwapDev>⟧.failures self.old
+            ≤ ⟦<FileDev<H> as SwapDev>⟧.failures self.new }
+        ensures cause { OnErr result (Rose (⟦<FileDev<H> as SwapDev>⟧.failures self.old)
+            (⟦<FileDev<H> as SwapDev>⟧.failures self.new)) }
+        ensures unfailed { OnOk result (⟦<FileDev<H> as SwapDev>⟧.failures self.new
+            ≡ ⟦<FileDev<H> as SwapDev>⟧.failures self.old) }
         // Beside what the trait says: the area's file is read once, where the page begins in it,
         // and this is its answer; each other file is left alone.
         ensures file { OnOk result (Reads (file_at H.File.view self.old.areas.items area)
@@ -182,13 +185,13 @@ impl<H: SwapFiles + Drop> SwapDev for FileDev<H> {
         ensures others { SameBut area (file_at H.File.view self.old.areas.items)
             (file_at H.File.view self.new.areas.items) }
         ensures same_files { self.new.files ≡ self.old.files }
-        ensures once { OnErr result (self.new.faults ≡ one_more self.old.faults) }
+        ensures once { OnErr result (self.new.failures ≡ one_more self.old.failures) }
     {
         let Some(attached) = &mut self.areas[area as usize] else {
             unreachable!();
         };
         if read_page(attached, page, into).is_err() {
-            count(&mut self.faults);
+            count(&mut self.failures);
             return Err(Failed);
         }
         Ok(())
@@ -203,12 +206,12 @@ impl<H: SwapFiles + Drop> SwapDev for FileDev<H> {
             self.old) (⟦<FileDev<H> as SwapDev>⟧.pages self.new)) }
         ensures same_sizes { ⟦<FileDev<H> as SwapDev>⟧.sizes self.new
             ≡ ⟦<FileDev<H> as SwapDev>⟧.sizes self.old }
-        ensures never_falls { ⟦<FileDev<H> as SwapDev>⟧.faults self.old
-            ≤ ⟦<FileDev<H> as SwapDev>⟧.faults self.new }
-        ensures cause { OnErr result (Rose (⟦<FileDev<H> as SwapDev>⟧.faults self.old)
-            (⟦<FileDev<H> as SwapDev>⟧.faults self.new)) }
-        ensures unfailed { OnOk result (⟦<FileDev<H> as SwapDev>⟧.faults self.new
-            ≡ ⟦<FileDev<H> as SwapDev>⟧.faults self.old) }
+        ensures never_falls { ⟦<FileDev<H> as SwapDev>⟧.failures self.old
+            ≤ ⟦<FileDev<H> as SwapDev>⟧.failures self.new }
+        ensures cause { OnErr result (Rose (⟦<FileDev<H> as SwapDev>⟧.failures self.old)
+            (⟦<FileDev<H> as SwapDev>⟧.failures self.new)) }
+        ensures unfailed { OnOk result (⟦<FileDev<H> as SwapDev>⟧.failures self.new
+            ≡ ⟦<FileDev<H> as SwapDev>⟧.failures self.old) }
         // Beside what the trait says: the area's file is written once, where the page begins in it,
         // and this is its answer; each other file is left alone.
         ensures file { OnOk result (Stores (file_at H.File.view self.old.areas.items area)
@@ -218,13 +221,13 @@ impl<H: SwapFiles + Drop> SwapDev for FileDev<H> {
         ensures others { SameBut area (file_at H.File.view self.old.areas.items)
             (file_at H.File.view self.new.areas.items) }
         ensures same_files { self.new.files ≡ self.old.files }
-        ensures once { OnErr result (self.new.faults ≡ one_more self.old.faults) }
+        ensures once { OnErr result (self.new.failures ≡ one_more self.old.failures) }
     {
         let Some(attached) = &mut self.areas[area as usize] else {
             unreachable!();
         };
         if write_page(attached, page, from).is_err() {
-            count(&mut self.faults);
+            count(&mut self.failures);
             return Err(Failed);
         }
         Ok(())

@@ -1,11 +1,14 @@
 //! The header of a swap area, as `mkswap` writes it to page 0.
 
-ghost use Rattle.std.specs.Prelude.{◌≡◌, ℕ, ◌+◌, ◌-◌, ◌*◌, ◌<◌, ◌≤◌, false, length, slice_index_or, IfOk, Ok};
+ghost use Rattle.std.specs.Prelude.{◌≡◌, ℕ, ◌+◌, ◌-◌, ◌*◌, ◌<◌, ◌≤◌, false, length, slice_index_or};
+ghost use Rattle.std.specs.Prelude.{IfOk, Ok};
 ghost use Rattle.std.specs.List.{list_any};
 ghost use Rattle.av_base.specs.Page.{page_size};
 ghost use Rattle.av_base.specs.Words.{is_in, within};
 ghost use Rattle.av_swapdev.specs.Device.{most_pages};
-ghost use Rattle.av_swapdev.specs.Header.{Layout, first_bad, most_bad, number_at, order_of, numbers_at, all_named, bad_of, slots_of, is_out, read_in, header_of, answer_of, IsHeaderOf, AddsUp};
+ghost use Rattle.av_swapdev.specs.Header.{Layout, first_bad, most_bad, number_at, order_of};
+ghost use Rattle.av_swapdev.specs.Header.{numbers_at, all_named, bad_of, slots_of, is_out, read_in};
+ghost use Rattle.av_swapdev.specs.Header.{header_of, answer_of, IsHeaderOf, AddsUp};
 
 use crate::device::MOST_PAGES;
 use byteorder::{BigEndian, ByteOrder, LittleEndian};

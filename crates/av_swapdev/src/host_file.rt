@@ -16,7 +16,7 @@ pub struct HostFile {
     file: File,
     len: u64,
     calls: u64,
-    faults: u64,
+    failures: u64,
 }
 
 impl SwapFile for HostFile {
@@ -24,7 +24,7 @@ impl SwapFile for HostFile {
       bytes = None;
       len = f.len;
       calls = f.calls;
-      faults = f.faults;
+      failures = f.failures;
     } };
 
     fn len(&self) -> u64 {
@@ -34,7 +34,7 @@ impl SwapFile for HostFile {
     fn read_at(&mut self, place: u64, into: &mut [u8]) -> Result<(), Failed> {
         self.calls = self.calls.saturating_add(1);
         if self.file.read_exact_at(into, place).is_err() {
-            self.faults = self.faults.saturating_add(1);
+            self.failures = self.failures.saturating_add(1);
             return Err(Failed);
         }
         Ok(())
@@ -43,7 +43,7 @@ impl SwapFile for HostFile {
     fn write_at(&mut self, place: u64, piece: &[u8]) -> Result<(), Failed> {
         self.calls = self.calls.saturating_add(1);
         if self.file.write_all_at(piece, place).is_err() {
-            self.faults = self.faults.saturating_add(1);
+            self.failures = self.failures.saturating_add(1);
             return Err(Failed);
         }
         Ok(())
@@ -55,7 +55,7 @@ impl SwapFile for HostFile {
 pub struct HostFiles<R: Files<File = File> + Drop> {
     files: R,
     calls: u64,
-    faults: u64,
+    failures: u64,
     shortages: u64,
 }
 
@@ -65,14 +65,14 @@ impl<R: Files<File = File> + Drop> HostFiles<R> {
         ensures { ⟦<HostFiles<R> as SwapFiles>⟧.view result ≡ record {
           named = None;
           calls = 0;
-          faults = 0;
+          failures = 0;
           shortages = 0;
         } }
     {
         HostFiles {
             files,
             calls: 0,
-            faults: 0,
+            failures: 0,
             shortages: 0,
         }
     }
@@ -84,7 +84,7 @@ impl<R: Files<File = File> + Drop> HostFiles<R> {
 /// be read as the trace then, or have the transcript behind its end. A clone has none of these
 /// numbers.
 fn open<R: Files<File = File>>(files: &R, name: &str) -> io::Result<HostFile>
-    ensures { IfOk result (λ f. (f.calls ≡ 0) × (f.faults ≡ 0)) }
+    ensures { IfOk result (λ f. (f.calls ≡ 0) × (f.failures ≡ 0)) }
 {
     let opened = OpenOptions::new().read(true).write(true).open(files, name)?;
     let mut file = opened.try_clone()?;
@@ -93,7 +93,7 @@ fn open<R: Files<File = File>>(files: &R, name: &str) -> io::Result<HostFile>
         file,
         len,
         calls: 0,
-        faults: 0,
+        failures: 0,
     })
 }
 
@@ -103,7 +103,7 @@ impl<R: Files<File = File> + Drop> SwapFiles for HostFiles<R> {
     ghost view = { λ h. record {
       named = None;
       calls = h.calls;
-      faults = h.faults;
+      failures = h.failures;
       shortages = h.shortages;
     } };
 
@@ -116,7 +116,7 @@ impl<R: Files<File = File> + Drop> SwapFiles for HostFiles<R> {
                 Err(AttachErr::Memory)
             }
             Err(_) => {
-                self.faults = self.faults.saturating_add(1);
+                self.failures = self.failures.saturating_add(1);
                 Err(AttachErr::Failed)
             }
         }

@@ -1,21 +1,25 @@
 //! A device in memory, which fails at the calls that a list names.
 
-ghost use Rattle.std.specs.Prelude.{◌≡◌, ℕ, ◌-◌, ◌<◌, ◌≤◌, false, map, min, length, slice_index, slice_index_or, if◌then◌else◌, Some, None, MatchOption, IfOk, OnOk, OnErr, IsErrOf, is_err};
+ghost use Rattle.std.specs.Prelude.{◌≡◌, ℕ, ◌-◌, ◌<◌, ◌≤◌, false, map, min, length, slice_index};
+ghost use Rattle.std.specs.Prelude.{slice_index_or, if◌then◌else◌, Some, None, MatchOption, IfOk};
+ghost use Rattle.std.specs.Prelude.{OnOk, OnErr, IsErrOf, is_err};
 ghost use Rattle.av_base.specs.Page.{page_size};
 ghost use Rattle.av_base.specs.Words.{with_at};
 ghost use Rattle.av_io.specs.Count.{Rose};
-ghost use Rattle.av_io.specs.Faults.{IsFresh, IsNextCall};
-ghost use Rattle.av_swapdev.specs.Device.{with_page, most_areas, most_pages, HasPage, Holds, IsInverted, IsRenewed, IsSpoiled, IsWritten, area_in, size_in, sizes_in, pages_in};
+ghost use Rattle.av_io.specs.Failures.{IsFresh, IsNextCall};
+ghost use Rattle.av_swapdev.specs.Device.{with_page, most_areas, most_pages, HasPage, Holds};
+ghost use Rattle.av_swapdev.specs.Device.{IsInverted, IsRenewed, IsSpoiled, IsWritten, area_in};
+ghost use Rattle.av_swapdev.specs.Device.{size_in, sizes_in, pages_in};
 
 use crate::device::{AttachErr, MOST_PAGES, PAGE_LEN, SwapDev};
-use av_io::{Failed, Faults};
+use av_io::{Failed, Failures};
 
 /// A device in memory, which tells what its pages hold.
 #[derive(Drop)]
 pub struct MemDev {
     areas: Vec<Vec<[u8; PAGE_LEN]>>,
     attached: [bool; 8],
-    faults: Faults,
+    failures: Failures,
 }
 
 impl MemDev {
@@ -24,13 +28,13 @@ impl MemDev {
     pub fn new(areas: Vec<Vec<[u8; PAGE_LEN]>>, failing: Vec<u64>) -> MemDev
         ensures pages { ⟦<MemDev as SwapDev>⟧.pages result ≡ Some (pages_in areas.items) }
         ensures sizes { (area : ℕ) → ⟦<MemDev as SwapDev>⟧.sizes result area ≡ None }
-        ensures faults { ⟦<MemDev as SwapDev>⟧.faults result ≡ 0 }
-        ensures calls { IsFresh result.faults failing }
+        ensures failures { ⟦<MemDev as SwapDev>⟧.failures result ≡ 0 }
+        ensures calls { IsFresh result.failures failing }
     {
         MemDev {
             areas,
             attached: [false; 8],
-            faults: Faults::new(failing),
+            failures: Failures::new(failing),
         }
     }
 
@@ -76,7 +80,7 @@ impl SwapDev for MemDev {
 
     ghost pages = { λ d. Some (pages_in d.areas.items) };
 
-    ghost faults = { λ d. d.faults.count };
+    ghost failures = { λ d. d.failures.count };
 
     /// The name is not looked at. An area that is not in the list has no page.
     fn attach(&mut self, area: u8, _name: &str) -> Result<u32, AttachErr>
@@ -90,22 +94,23 @@ impl SwapDev for MemDev {
             ⟦<MemDev as SwapDev>⟧.sizes self.old) }
         ensures same_pages { OnErr result (⟦<MemDev as SwapDev>⟧.pages self.new ≡
             ⟦<MemDev as SwapDev>⟧.pages self.old) }
-        ensures never_falls { ⟦<MemDev as SwapDev>⟧.faults self.old ≤ ⟦<MemDev as SwapDev>⟧.faults
+        ensures never_falls { ⟦<MemDev as SwapDev>⟧.failures self.old
+            ≤ ⟦<MemDev as SwapDev>⟧.failures
             self.new }
-        ensures cause { OnErr result (Rose (⟦<MemDev as SwapDev>⟧.faults self.old)
-            (⟦<MemDev as SwapDev>⟧.faults self.new)) }
-        ensures unfailed { OnOk result (⟦<MemDev as SwapDev>⟧.faults self.new
-            ≡ ⟦<MemDev as SwapDev>⟧.faults self.old) }
+        ensures cause { OnErr result (Rose (⟦<MemDev as SwapDev>⟧.failures self.old)
+            (⟦<MemDev as SwapDev>⟧.failures self.new)) }
+        ensures unfailed { OnOk result (⟦<MemDev as SwapDev>⟧.failures self.new
+            ≡ ⟦<MemDev as SwapDev>⟧.failures self.old) }
         ensures unfailed_memory { IsErrOf result AttachErr.Memory
-            → ⟦<MemDev as SwapDev>⟧.faults self.new ≡ ⟦<MemDev as SwapDev>⟧.faults self.old }
+            → ⟦<MemDev as SwapDev>⟧.failures self.new ≡ ⟦<MemDev as SwapDev>⟧.failures self.old }
         // Beside what the trait says: exactly the calls that are listed fail, and none for memory;
         // all pages of the area are used, and they stay.
-        ensures calls { IsNextCall self.old.faults self.new.faults (is_err result) }
+        ensures calls { IsNextCall self.old.failures self.new.failures (is_err result) }
         ensures failed { OnErr result (IsErrOf result AttachErr.Failed) }
         ensures all { IfOk result (λ n. n ≡ size_in self.old.areas.items area) }
         ensures kept { ⟦<MemDev as SwapDev>⟧.pages self.new ≡ ⟦<MemDev as SwapDev>⟧.pages self.old }
     {
-        if self.faults.next_fails() {
+        if self.failures.next_fails() {
             return Err(AttachErr::Failed);
         }
         self.attached[area as usize] = true;
@@ -121,16 +126,17 @@ impl SwapDev for MemDev {
             self.old }
         ensures same_sizes { ⟦<MemDev as SwapDev>⟧.sizes self.new ≡ ⟦<MemDev as SwapDev>⟧.sizes
             self.old }
-        ensures never_falls { ⟦<MemDev as SwapDev>⟧.faults self.old ≤ ⟦<MemDev as SwapDev>⟧.faults
+        ensures never_falls { ⟦<MemDev as SwapDev>⟧.failures self.old
+            ≤ ⟦<MemDev as SwapDev>⟧.failures
             self.new }
-        ensures cause { OnErr result (Rose (⟦<MemDev as SwapDev>⟧.faults self.old)
-            (⟦<MemDev as SwapDev>⟧.faults self.new)) }
-        ensures unfailed { OnOk result (⟦<MemDev as SwapDev>⟧.faults self.new
-            ≡ ⟦<MemDev as SwapDev>⟧.faults self.old) }
+        ensures cause { OnErr result (Rose (⟦<MemDev as SwapDev>⟧.failures self.old)
+            (⟦<MemDev as SwapDev>⟧.failures self.new)) }
+        ensures unfailed { OnOk result (⟦<MemDev as SwapDev>⟧.failures self.new
+            ≡ ⟦<MemDev as SwapDev>⟧.failures self.old) }
         // Beside what the trait says: exactly the calls that are listed fail.
-        ensures calls { IsNextCall self.old.faults self.new.faults (is_err result) }
+        ensures calls { IsNextCall self.old.failures self.new.failures (is_err result) }
     {
-        if self.faults.next_fails() {
+        if self.failures.next_fails() {
             return Err(Failed);
         }
         into.copy_from_slice(&self.areas[area as usize][page as usize]);
@@ -146,20 +152,21 @@ impl SwapDev for MemDev {
             (⟦<MemDev as SwapDev>⟧.pages self.new)) }
         ensures same_sizes { ⟦<MemDev as SwapDev>⟧.sizes self.new ≡ ⟦<MemDev as SwapDev>⟧.sizes
             self.old }
-        ensures never_falls { ⟦<MemDev as SwapDev>⟧.faults self.old ≤ ⟦<MemDev as SwapDev>⟧.faults
+        ensures never_falls { ⟦<MemDev as SwapDev>⟧.failures self.old
+            ≤ ⟦<MemDev as SwapDev>⟧.failures
             self.new }
-        ensures cause { OnErr result (Rose (⟦<MemDev as SwapDev>⟧.faults self.old)
-            (⟦<MemDev as SwapDev>⟧.faults self.new)) }
-        ensures unfailed { OnOk result (⟦<MemDev as SwapDev>⟧.faults self.new
-            ≡ ⟦<MemDev as SwapDev>⟧.faults self.old) }
+        ensures cause { OnErr result (Rose (⟦<MemDev as SwapDev>⟧.failures self.old)
+            (⟦<MemDev as SwapDev>⟧.failures self.new)) }
+        ensures unfailed { OnOk result (⟦<MemDev as SwapDev>⟧.failures self.new
+            ≡ ⟦<MemDev as SwapDev>⟧.failures self.old) }
         // Beside what the trait says: exactly the calls that are listed fail, and then each bit of
         // the page is inverted.
-        ensures calls { IsNextCall self.old.faults self.new.faults (is_err result) }
+        ensures calls { IsNextCall self.old.failures self.new.failures (is_err result) }
         ensures inverted { OnErr result (IsInverted (pages_in self.old.areas.items area page)
             (pages_in self.new.areas.items area page)) }
     {
         let bytes = &mut self.areas[area as usize][page as usize];
-        if self.faults.next_fails() {
+        if self.failures.next_fails() {
             invert(bytes);
             return Err(Failed);
         }

@@ -12,7 +12,8 @@ four_digits m h = omega arith
 
 pub value_is : (n : ℕ) → n < 2 ^ 32 → value_of (digit_of n 1 ∷ digit_of n 2 ∷ digit_of n 3 ∷ digit_of n 4 ∷ []) ≡ n / 63
 value_is n h =
-    rw (plain_digit (n / 63 / 1), plain_digit (n / 63 / 128), plain_digit (n / 63 / 16384), plain_digit (n / 63 / 2097152)) (four_digits (n / 63) (omega arith))
+    rw (plain_digit (n / 63 / 1), plain_digit (n / 63 / 128), plain_digit (n / 63 / 16384), plain_digit (n / 63 / 2097152))
+    (four_digits (n / 63) (omega arith))
 
 first_byte : (n : ℕ) (b c : Bool) → n < 63 → (n + cond b 0 128 + cond c 64 0) % 64 ≡ n
 first_byte n b c h = elim b as (λ b. (n + cond b 0 128 + cond c 64 0) % 64 ≡ n) [
@@ -57,14 +58,16 @@ small n h = omega arith
 pub count_is : (n : ℕ) (c : Bool) → n < 2 ^ 32 → count_of (byte_of n c) (further_of n) ≡ n
 count_is n c h = split (ltb n 63) refl
   where
-    split : (b : Bool) → ltb n 63 ≡ b → count_of (byte_of n c) (cond b None (Some (digit_of n 1 ∷ digit_of n 2 ∷ digit_of n 3 ∷ digit_of n 4 ∷ []))) ≡ n
+    split : (b : Bool) → ltb n 63 ≡ b
+        → count_of (byte_of n c) (cond b None (Some (digit_of n 1 ∷ digit_of n 2 ∷ digit_of n 3 ∷ digit_of n 4 ∷ []))) ≡ n
     split true e = let low : n < 63 = grind (arith, nat_tests) in byte_first n c ∙ small n low
     split false e = ap (λ x. x + 63 * value_of (digit_of n 1 ∷ digit_of n 2 ∷ digit_of n 3 ∷ digit_of n 4 ∷ [])) (byte_first n c)
         ∙ ap (λ x. n % 63 + 63 * x) (value_is n h) ∙ whole n
 
 -- the digits' worth, whether or not they are kept
 pub worth_is : (n : ℕ) (c : Bool) → n < 2 ^ 32 → byte_of n c % 64 + 63 * value_of (digit_of n 1 ∷ digit_of n 2 ∷ digit_of n 3 ∷ digit_of n 4 ∷ []) ≡ n
-worth_is n c h = ap (λ x. x + 63 * value_of (digit_of n 1 ∷ digit_of n 2 ∷ digit_of n 3 ∷ digit_of n 4 ∷ [])) (first_byte (n % 63) (ltb n 63) c (under n))
+worth_is n c h = ap (λ x. x + 63 * value_of (digit_of n 1 ∷ digit_of n 2 ∷ digit_of n 3 ∷ digit_of n 4 ∷ []))
+    (first_byte (n % 63) (ltb n 63) c (under n))
     ∙ ap (λ x. n % 63 + 63 * x) (value_is n h) ∙ whole n
 
 pub never_bad : (n : ℕ) (c : Bool) → byte_of n c ≡ 63 → ⊥

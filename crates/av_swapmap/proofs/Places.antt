@@ -42,5 +42,7 @@ kept_is b i ds slot one four = split (count_of b (Some ds)) (ltb (count_of b (So
         ap (λ xs. get_or xs (i - 1) 0) all ∙ place n i one four
 
 -- the same of a lookup
-pub kept_at : (b i : ℕ) (ds : List ℕ) (m : Option (List ℕ)) → Some ds ≡ m → IsSlot b m → 1 ≤ i → i ≤ 4 → get_or ds (i - 1) 0 ≡ digit_of (count_of b m) i
-kept_at b i ds m is slot one four = subst (λ m. get_or ds (i - 1) 0 ≡ digit_of (count_of b m) i) is (kept_is b i ds (subst (IsSlot b) (sym is) slot) one four)
+pub kept_at : (b i : ℕ) (ds : List ℕ) (m : Option (List ℕ)) → Some ds ≡ m → IsSlot b m → 1 ≤ i → i ≤ 4
+    → get_or ds (i - 1) 0 ≡ digit_of (count_of b m) i
+kept_at b i ds m is slot one four =
+    subst (λ m. get_or ds (i - 1) 0 ≡ digit_of (count_of b m) i) is (kept_is b i ds (subst (IsSlot b) (sym is) slot) one four)

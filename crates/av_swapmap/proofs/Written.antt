@@ -47,7 +47,8 @@ module _ (all : List ℕ) (old new : List (ℕ × List ℕ)) (page n : ℕ) (c :
   -- any word on a slot, after the write
   word_at : {X : Type 0} (f : ℕ → Option (List ℕ) → X) (q : ℕ) → f (get_or (slice_set all page (byte_of n c)) q 0) (more_at new q) ≡ with_at page
       (f (byte_of n c) (further_of n)) (λ p. f (get_or all p 0) (more_at old p)) q
-  word_at f q = ap (λ x. f x (more_at new q)) (at_set all page (byte_of n c) below q) ∙ ap (λ y. f (with_at page (byte_of n c) (λ p. get_or all p 0) q) y)
+  word_at f q = ap (λ x. f x (more_at new q)) (at_set all page (byte_of n c) below q)
+      ∙ ap (λ y. f (with_at page (byte_of n c) (λ p. get_or all p 0) q) y)
       (now q) ∙ pick (q == page)
     where
       pick : (b : Bool) → f (cond b (byte_of n c) (get_or all q 0)) (cond b (further_of n) (more_at old q)) ≡ cond b (f (byte_of n c) (further_of n))
@@ -96,7 +97,8 @@ digits_stay s page n w is q = point (q == page) refl
     point false e = refl
 
 -- a bad slot isn't named and isn't cached
-pub bad_unnamed : (s : Store) (page : ℕ) → IsWhole s.bytes s.more → (shown s).bad page ≡ true → ((shown s).count page ≡ 0) × ((shown s).cached page ≡ false)
+pub bad_unnamed : (s : Store) (page : ℕ) → IsWhole s.bytes s.more → (shown s).bad page ≡ true
+    → ((shown s).count page ≡ 0) × ((shown s).cached page ≡ false)
 bad_unnamed s page w e =
     let is : get_or s.bytes page 0 ≡ 63 = grind (arith, nat_tests) in (
       ap (count_of (get_or s.bytes page 0)) ((w.slots page).bad_has_none e) ∙ ap (λ b. cond b 0 (get_or s.bytes page 0 % 64)) e,
@@ -112,7 +114,8 @@ named_good s page n w some positive = split (get_or s.bytes page 0 == 63) refl
     split false e = e
 
 -- what a call that writes one slot leaves, where its value before is t
-module _ (s t : Store) (view_is : s ≡ t) (w : IsWhole s.bytes s.more) (page n b : ℕ) (c : Bool) (new : List (ℕ × List ℕ)) (below : page < (shown t).pages)
+module _ (s t : Store) (view_is : s ≡ t) (w : IsWhole s.bytes s.more) (page n b : ℕ) (c : Bool) (new : List (ℕ × List ℕ))
+    (below : page < (shown t).pages)
     (fits : n < 2 ^ 32) (b_is : b ≡ byte_of n c) (now : (q : ℕ) → more_at new q ≡ with_at page (further_of n) (more_at s.more) q) where
   below_s : page < length s.bytes
   below_s = subst (λ (v : Store). page < length v.bytes) (sym view_is) below

@@ -1,4 +1,7 @@
-ghost use Rattle.std.specs.Prelude.{◌≡◌, ℕ, ◌+◌, ◌-◌, ◌<◌, ◌≤◌, ◌^◌, MatchResult, IfOk, None, true, false, length, slice_index, ◌&&◌, nat_lt, if◌then◌else◌};
+//! The counts of an area's slots, with their continuation (Linux's `swap_map`).
+
+ghost use Rattle.std.specs.Prelude.{◌≡◌, ℕ, ◌+◌, ◌-◌, ◌<◌, ◌≤◌, ◌^◌, MatchResult, IfOk, None, true};
+ghost use Rattle.std.specs.Prelude.{false, length, slice_index, ◌&&◌, nat_lt, if◌then◌else◌};
 ghost use Rattle.av_swapmap.specs.Counts.{shown, fresh, with_count, with_cached, byte_at};
 ghost use Rattle.av_base.specs.Words.{with_at, is_in};
 ghost use Rattle.av_swapmap.specs.Digits.{digit_of, further_of};

@@ -1,7 +1,9 @@
-// A count as digits: the first to base 63, which leaves the byte 63 for bad slots, and the others
-// to base 128.
+//! A count as digits: the first to base 63, which leaves the byte 63 for bad slots, and the others
+//! to base 128.
+
 ghost use Rattle.std.specs.Prelude.{◌≡◌, ℕ, ◌+◌, ◌*◌, ◌<◌, ◌≤◌, ◌^◌, ◌%◌, Bool, ◌∷◌, [], length};
-ghost use Rattle.av_swapmap.specs.Digits.{digit_of, byte_of, first_of, cached_of, value_of, with_more};
+ghost use Rattle.av_swapmap.specs.Digits.{digit_of, byte_of, first_of, cached_of, value_of};
+ghost use Rattle.av_swapmap.specs.Digits.{with_more};
 
 /// The byte of a bad slot.
 pub(crate) const BAD: u8 = 0x3f;

@@ -4,7 +4,7 @@ use Rattle.std.specs.Prelude.{Ok, Err, Result, slice_index}
 use Rattle.std.proofs.lemmas.Bool.{false≢true}
 use Rattle.av_base.specs.Page.{address_of, page_of, page_size}
 use Rattle.av_base.specs.declared.slot.Slot.{Slot}
-use Rattle.av_io.specs.declared.faults.Failed.{Failed}
+use Rattle.av_io.specs.declared.failures.Failed.{Failed}
 use Rattle.av_spaces.specs.Spaces.{pages_of}
 use Rattle.av_swapcache.specs.Area.{counted}
 use Rattle.av_trace.specs.declared.note.Note.TheVariants.{Loaded, Mapped}
@@ -46,13 +46,15 @@ counts-as d closing k w r l s h = (λ i. counted (h.held.ledger.swap.counts s i)
 pub map-makes : (names : List ℕ) (d : Device) (old new : Mem) (q : Key) (s : Slot) (f : ℕ) → view new ≡ view_map q.0 q.1 f s (view old)
     → KeepsParts old new → Makes (view_of names d old) (view_of names d new) (MayMap s f q) (Mapped q.0 (address_of q.1) f ∷ [])
 map-makes names d old new q s f is parts = λ l sound stood may.
-    one-still names d d old new l (Mapped q.0 (address_of q.1) f) (record { sound = sound; world = stood.0; rmap = stood.1; serves = stood.2 }) (record {
+    one-still names d d old new l (Mapped q.0 (address_of q.1) f)
+    (record { sound = sound; world = stood.0; rmap = stood.1; serves = stood.2 }) (record {
       parts = parts;
       same = itself d;
       lawful = (tt, back-used d (closing_of old) old stood.0 stood.1 l any_slot sound stood.2 q s may.named f may.cached);
-      brings = λ w r c. c.at_pages q.0 (page_of (address_of q.1)) (ap is_some (back-at d (closing_of old) old w r l any_slot sound c q s may.named f may.cached));
+      brings = λ w r c. c.at_pages q.0 (page_of (address_of q.1))
+          (ap is_some (back-at d (closing_of old) old w r l any_slot sound c q s may.named f may.cached));
       still = tt;
-      faults = stands-still d.faults;
+      failures = stands-still d.failures;
     }) (λ w. same-world (is_some (setting_by d old).headers) w) (λ w r h. by-view d d old new l (Mapped q.0 (address_of q.1) f)
     (view_map q.0 (page_of (address_of q.1)) f s (view old)) w r
     (seen-mapped d (closing_of old) old w r l any_slot sound h q s may.named f may.cached new is)
@@ -61,7 +63,8 @@ map-makes names d old new q s f is parts = λ l sound stood may.
 -- ---- a page is loaded
 
 -- the home of a page, in the words of the definitions
-pub at-home : (d : Device) (closing : Option ℕ) (k : Mem) (w : World) (r : Rmap) (l : Ledger) (q : Key) (home : Option (ℕ × ℕ)) → Serves d closing k w r l
+pub at-home : (d : Device) (closing : Option ℕ) (k : Mem) (w : World) (r : Rmap) (l : Ledger) (q : Key) (home : Option (ℕ × ℕ))
+    → Serves d closing k w r l
     → home ≡ home_of q.1 (pages_of k.spaces.processes q.0 q.1) → home ≡ home_of q.1 (r.areas q.0 q.1)
 at-home d closing k w r l q home h is = is ∙ ap (home_of q.1) (h.are q.0 q.1)
 
@@ -72,7 +75,8 @@ load-frame names d old new pages s f homed load = λ l sound stood.
     let first = first-is (setting_by d old) l f load.left (subst (ListsFree (setting_by d old) l) load.first stood.2.free.frames) in
     (first.below, first.free)
 
-loaded-makes : (names : List ℕ) (d : Device) (old new : Mem) (q : Key) (s : Slot) (f : ℕ) (home homed : Option (ℕ × ℕ)) (pages : Option (ℕ → ℕ → List ℕ))
+loaded-makes : (names : List ℕ) (d : Device) (old new : Mem) (q : Key) (s : Slot) (f : ℕ) (home homed : Option (ℕ × ℕ))
+    (pages : Option (ℕ → ℕ → List ℕ))
     → home ≡ home_of q.1 (pages_of old.spaces.processes q.0 q.1) → homed ≡ home_by old s home → (load : HasLoaded old new pages f s homed)
     → IfSome d.pages (λ told. (i : ℕ) → i < page_size → slice_index load.page i ≡ slice_index (told s.area s.page) i) → KeepsParts old new
     → Makes (view_of names d old) (view_of names d new) (MayLoad (setting_by d old) s q) (Loaded s f ∷ [])
@@ -83,14 +87,15 @@ loaded-makes names d old new q s f home homed pages at is load got parts = λ l 
       lawful = (named-slot l q s may.named, tt);
       brings = λ w r c. tt;
       still = tt;
-      faults = stands-still d.faults;
+      failures = stands-still d.failures;
     }) (λ w r h. subst (λ (v : View). Steps (setting_by d old) (closing_of old) (Noted (Loaded s f)) (held_by d old w r l) (record {
       view = v;
       device = d;
       world = world_with d old w l (Loaded s f);
       ledger = after_note (Loaded s f) l;
       rmap = rmap_after_note l (Loaded s f) r;
-    })) (sym (seen-loaded d (closing_of old) old w r l any_slot sound h q s may.named may.absent home (at-home d (closing_of old) old w r l q home h at)
+    })) (sym (seen-loaded d (closing_of old) old w r l any_slot sound h q s may.named may.absent home
+    (at-home d (closing_of old) old w r l q home h at)
     new pages f homed is load got))
     (back-loaded d (closing_of old) old w r l any_slot sound h q s may.named may.absent home (at-home d (closing_of old) old w r l q home h at)
     new pages f homed is load got))
@@ -102,24 +107,28 @@ frame_of (Some (Err e)) = None
 frame_of (Some (Ok f)) = Some f
 
 -- with the device afterwards, which says of its pages what it said
-module _ (names : List ℕ) (told : Bool) (d d' : Device) (sizes : d'.sizes ≡ d.sizes) (pages : d'.pages ≡ d.pages) (more : d.faults ≤ d'.faults) where
+module _ (names : List ℕ) (told : Bool) (d d' : Device) (sizes : d'.sizes ≡ d.sizes) (pages : d'.pages ≡ d.pages)
+    (more : d.failures ≤ d'.failures) where
   same_told : IsSameDevice (as_told told d) (as_told told d')
   same_told = seen-same told d d' sizes pages more
 
   -- it stands for as much, however often it failed
-  moved : (k : Mem) (w : World) (r : Rmap) (l : Ledger) → Serves (as_told told d) (closing_of k) k w r l → Serves (as_told told d') (closing_of k) k w r l
+  moved : (k : Mem) (w : World) (r : Rmap) (l : Ledger) → Serves (as_told told d) (closing_of k) k w r l
+      → Serves (as_told told d') (closing_of k) k w r l
   moved k w r l h = by told h
     where
       by : (told : Bool) → Serves (as_told told d) (closing_of k) k w r l → Serves (as_told told d') (closing_of k) k w r l
-      by true h = subst (λ d'. Serves d' (closing_of k) k w r l) (λ i. record { sizes = sym sizes i; pages = sym pages i; faults = d'.faults })
-          (serves-whenever d.sizes d.pages d.faults d'.faults (closing_of k) k w r l h)
-      by false h = subst (λ d'. Serves d' (closing_of k) k w r l) (λ i. record { sizes = sym sizes i; pages = None; faults = d'.faults })
-          (serves-whenever d.sizes None d.faults d'.faults (closing_of k) k w r l h)
+      by true h = subst (λ d'. Serves d' (closing_of k) k w r l) (λ i. record { sizes = sym sizes i; pages = sym pages i; failures = d'.failures })
+          (serves-whenever d.sizes d.pages d.failures d'.failures (closing_of k) k w r l h)
+      by false h = subst (λ d'. Serves d' (closing_of k) k w r l) (λ i. record { sizes = sym sizes i; pages = None; failures = d'.failures })
+          (serves-whenever d.sizes None d.failures d'.failures (closing_of k) k w r l h)
 
   load-by : (old new : Mem) (q : Key) (s : Slot) (home homed : Option (ℕ × ℕ)) (o : Option (Result ℕ Failed))
-      → home ≡ home_of q.1 (pages_of old.spaces.processes q.0 q.1) → homed ≡ home_by old s home → Loads o old new d.pages s homed d.faults d'.faults
+      → home ≡ home_of q.1 (pages_of old.spaces.processes q.0 q.1) → homed ≡ home_by old s home
+      → Loads o old new d.pages s homed d.failures d'.failures
       → KeepsParts old new
-      → Makes (view_of names (as_told told d) old) (view_of names (as_told told d') new) (MayLoad (setting_by (as_told told d) old) s q) (load_notes s (frame_of o))
+      → Makes (view_of names (as_told told d) old) (view_of names (as_told told d') new) (MayLoad (setting_by (as_told told d) old) s q)
+      (load_notes s (frame_of o))
   load-by old new q s home homed None at is loads parts = none-moved names (as_told told d) (as_told told d') old new
       (MayLoad (setting_by (as_told told d) old) s q) same_told (moved old) loads.1 parts
   load-by old new q s home homed (Some (Err e)) at is loads parts = none-moved names (as_told told d) (as_told told d') old new
@@ -132,10 +141,12 @@ module _ (names : List ℕ) (told : Bool) (d d' : Device) (sizes : d'.sizes ≡ 
   -- whatever it answered
   pub load-makes : (old new : Mem) (q : Key) (s : Slot) (home homed : Option (ℕ × ℕ)) (o : Option (Result ℕ Failed)) (result : Option ℕ)
       → result ≡ frame_of o → home ≡ home_of q.1 (pages_of old.spaces.processes q.0 q.1) → homed ≡ home_by old s home
-      → Loads o old new d.pages s homed d.faults d'.faults → KeepsParts old new
-      → Makes (view_of names (as_told told d) old) (view_of names (as_told told d') new) (MayLoad (setting_by (as_told told d) old) s q) (load_notes s result)
+      → Loads o old new d.pages s homed d.failures d'.failures → KeepsParts old new
+      → Makes (view_of names (as_told told d) old) (view_of names (as_told told d') new) (MayLoad (setting_by (as_told told d) old) s q)
+      (load_notes s result)
   load-makes old new q s home homed o result answers at is loads parts =
-      subst (λ x. Makes (view_of names (as_told told d) old) (view_of names (as_told told d') new) (MayLoad (setting_by (as_told told d) old) s q) (load_notes s x))
+      subst (λ x. Makes (view_of names (as_told told d) old) (view_of names (as_told told d') new) (MayLoad (setting_by (as_told told d) old) s q)
+      (load_notes s x))
       (sym answers) (load-by old new q s home homed o at is loads parts)
 
 -- a frame is free

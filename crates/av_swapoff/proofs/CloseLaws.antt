@@ -3,11 +3,11 @@ use Rattle.std.proofs.Common.{◌≡◌, ℕ, ◌+◌, ◌<◌, ◌≤◌, Bool,
 use Rattle.std.proofs.lemmas.Bool.Decides.{nat_tests}
 use Rattle.std.specs.FinMap.Entries.{find, find-where_key, is_sorted, where_key}
 use Rattle.std.specs.Ordering.{is_eq, nat_cmp}
-use Rattle.std.specs.Prelude.{pos}
+use Rattle.std.specs.Prelude.{ℤ, pos}
 use Rattle.std.specs.declared.cmp.Ordering.TheVariants.{Equal}
 use Rattle.av_base.specs.declared.slot.Slot.{Slot}
 use Rattle.av_swapcache.specs.Swap.{HasAreas, Shown as ShownSwap, Store as SwapStore, after_off, header_at, is_on as is_shown_on, shown as shown_swap, with_closing}
-use Rattle.av_swapcache.proofs.Views.{areas_off, where_key-map}
+use Rattle.av_swapcache.proofs.Views.{areas_off}
 use Rattle.av_swapdev.specs.Header.{Layout}
 use Rattle.av_swapdev.specs.declared.header.Header.{Header}
 use Rattle.av_plain.specs.Areas.{Rmap}
@@ -22,8 +22,9 @@ use Rattle.av_plain.proofs.Sound.Swap.Area.{fit-off, there-off}
 use Rattle.av_swap_laws.specs.Held.{IsHeld, Steps}
 use Rattle.av_swap_laws.specs.Steps.{view_off}
 use Rattle.av_swap_laws.proofs.Whole.{off-steps}
-use Rattle.av_mem.specs.Mem.{AgreesWith, AreByHeaders, Serves, SwapFits, held_by, numbers_of, setting_by, view}
+use Rattle.av_mem.specs.Mem.{AgreesWith, AreByHeaders, Serves, SwapFits, area_of, held_by, setting_by, view}
 use Rattle.av_mem.specs.declared.mem.Mem.{Mem}
+use Rattle.av_mem.proofs.SwapAreas.{areas-off}
 
 -- the memory system with other swap areas
 abbrev pub with_swap : Mem → SwapStore → Mem
@@ -31,7 +32,7 @@ with_swap k swap = record k { swap = swap }
 
 -- its view, by what these show
 abbrev view_by : Mem → ShownSwap → View
-view_by k h = record (view k) { find = h.find; entries = h.entries; flight = h.flight; on = map numbers_of h.on; slots = h.slots }
+view_by k h = record (view k) { find = h.find; entries = h.entries; flight = h.flight; on = map (area_of h.priority) h.on; slots = h.slots }
 
 -- ---- the area that is closing is another
 
@@ -39,7 +40,8 @@ module _ (k : Mem) (swap : SwapStore) (c : Option ℕ) (same : shown_swap swap �
   pub view-closing : view (with_swap k swap) ≡ view k
   view-closing = ap (view_by k) same
 
-  pub serves-closing : (d : Device) (before : Option ℕ) (w : World) (r : Rmap) (l : Ledger) → Serves d before k w r l → Serves d c (with_swap k swap) w r l
+  pub serves-closing : (d : Device) (before : Option ℕ) (w : World) (r : Rmap) (l : Ledger) → Serves d before k w r l
+      → Serves d c (with_swap k swap) w r l
   serves-closing d before w r l h = record {
     held = subst (λ (v : View). IsHeld (setting_by d k) (record { view = v; device = d; world = w; ledger = l; rmap = r })) (sym view-closing) h.held;
     areas = subst (λ (v : View). AreasStand v w) (sym view-closing) h.areas;
@@ -55,9 +57,9 @@ module _ (k : Mem) (swap : SwapStore) (c : Option ℕ) (same : shown_swap swap �
     fit = h.fit;
     swap = record {
       frames = ap (λ (s : ShownSwap). s.frames) same ∙ h.swap.frames;
-      one_priority = λ a. ap (λ (s : ShownSwap). s.priority a) same ∙ h.swap.one_priority a;
       closed = ap (λ (s : ShownSwap). s.closing) same;
-      on_device = λ a. subst (λ (s : ShownSwap). IfSome (header_at s a) (λ (x : Header). IsSomeAnd (d.sizes a) (λ n. x.pages ≤ n))) (sym same) (h.swap.on_device a);
+      on_device = λ a. subst (λ (s : ShownSwap). IfSome (header_at s a) (λ (x : Header). IsSomeAnd (d.sizes a) (λ n. x.pages ≤ n))) (sym same)
+          (h.swap.on_device a);
       by_headers = subst (AreByHeaders (headers_of d)) (sym same) (headers-closing (headers_of d) h.swap.by_headers);
     };
   }
@@ -67,7 +69,8 @@ module _ (k : Mem) (swap : SwapStore) (c : Option ℕ) (same : shown_swap swap �
       layout_so a header None h = h
       layout_so a header (Some layout) h = record { pages = h.pages; slots = h.slots }
 
-      header_so : (told : ℕ → Option Layout) (a : ℕ) (o : Option Header) → IfSome o (λ header. IsSomeAnd (told a) (AgreesWith (shown_swap k.swap) a header))
+      header_so : (told : ℕ → Option Layout) (a : ℕ) (o : Option Header)
+          → IfSome o (λ header. IsSomeAnd (told a) (AgreesWith (shown_swap k.swap) a header))
           → IfSome o (λ header. IsSomeAnd (told a) (AgreesWith (with_closing c (shown_swap k.swap)) a header))
       header_so told a None h = tt
       header_so told a (Some header) h = layout_so a header (told a) h
@@ -109,19 +112,17 @@ module _ (h : ShownSwap) (area : ℕ) where
       at a false is None by = tt
       at a false is (Some header) by = layout_so a header (told a) is by
 
-module _ (d : Device) (k : Mem) (swap : SwapStore) (area : ℕ) (same : shown_swap swap ≡ after_off area (shown_swap k.swap)) (w : World) (r : Rmap) (l : Ledger)
+module _ (d : Device) (k : Mem) (swap : SwapStore) (area : ℕ) (same : shown_swap swap ≡ after_off area (shown_swap k.swap)) (w : World)
+    (r : Rmap) (l : Ledger)
     (closing : Option ℕ) (h : Serves d closing k w r l) where
   view-off : view (with_swap k swap) ≡ view_off area (view k)
-  view-off = ap (view_by k) same ∙ (λ i. record (view_off area (view k)) { on = where_key-map (λ (x : Header). (numbers_of (area, x)).1) (λ q. not (q == area)) (shown_swap k.swap).on i })
+  view-off = ap (view_by k) same
+      ∙ (λ i. record (view_off area (view k)) { on = areas-off (shown_swap k.swap).priority area (pos 0) (shown_swap k.swap).on i })
 
   pub step-off : Steps (setting_by d k) closing (TurnedOff area) (held_by d k w r l) (held_by d (with_swap k swap) w r (after l (TurnedOff area)))
   step-off = subst (λ (v : View). Steps (setting_by d k) closing (TurnedOff area) (held_by d k w r l)
       (record { view = v; device = d; world = w; ledger = after l (TurnedOff area); rmap = r })) (sym view-off)
       (off-steps (setting_by d k) closing (held_by d k w r l) h.held area)
-
-  none_more : (a : ℕ) (b : Bool) → cond b (pos 0) ((shown_swap k.swap).priority a) ≡ pos 0
-  none_more a true = refl
-  none_more a false = h.swap.one_priority a
 
   pub serves-off : T (is_sorted key_cmp l.entries) → slots_in_use (setting_by d k) l area ≡ []
       → Serves d None (with_swap k swap) w r (after l (TurnedOff area))
@@ -134,14 +135,14 @@ module _ (d : Device) (k : Mem) (swap : SwapStore) (area : ℕ) (same : shown_sw
     at_pages = h.at_pages;
     there = there-off (setting_by d k) l area h.there h.areas_fit none;
     areas_fit = fit-off (setting_by d k) l area h.there h.areas_fit none;
-    free = lists-stay (setting_by d k) closing l (TurnedOff area) (free_of (view k)) (free_of (view (with_swap k swap))) sorted none h.there h.areas_fit
+    free = lists-stay (setting_by d k) closing l (TurnedOff area) (free_of (view k)) (free_of (view (with_swap k swap))) sorted none
+        h.there h.areas_fit
         step-off.chosen h.free;
     lists = h.lists;
     tables = h.tables;
     fit = h.fit;
     swap = record {
       frames = ap (λ (s : ShownSwap). s.frames) same ∙ h.swap.frames;
-      one_priority = λ a. ap (λ (s : ShownSwap). s.priority a) same ∙ none_more a (a == area);
       closed = ap (λ (s : ShownSwap). s.closing) same;
       on_device = subst (HasAreas d.sizes) (sym same) (areas_off d.sizes (shown_swap k.swap) area h.swap.on_device);
       by_headers = subst (AreByHeaders (headers_of d)) (sym same) (headers-off (shown_swap k.swap) area (headers_of d) h.swap.by_headers);
@@ -150,15 +151,16 @@ module _ (d : Device) (k : Mem) (swap : SwapStore) (area : ℕ) (same : shown_sw
 
 -- ---- which areas are on
 
-found-numbers : (a : ℕ) (on : List (ℕ × Header)) → is_some (find nat_cmp a (map numbers_of on)) ≡ is_some (find nat_cmp a on)
-found-numbers a [] = refl
-found-numbers a (e ∷ on) = by (is_eq (nat_cmp a e.0)) (found-numbers a on)
+found-as : (priority : ℕ → ℤ) (a : ℕ) (on : List (ℕ × Header)) → is_some (find nat_cmp a (map (area_of priority) on)) ≡ is_some (find nat_cmp a on)
+found-as priority a [] = refl
+found-as priority a (e ∷ on) = by (is_eq (nat_cmp a e.0)) (found-as priority a on)
   where
-    by : (b : Bool) → is_some (find nat_cmp a (map numbers_of on)) ≡ is_some (find nat_cmp a on)
-        → is_some (cond b (Some (numbers_of e).1) (find nat_cmp a (map numbers_of on))) ≡ is_some (cond b (Some e.1) (find nat_cmp a on))
+    by : (b : Bool) → is_some (find nat_cmp a (map (area_of priority) on)) ≡ is_some (find nat_cmp a on)
+        → is_some (cond b (Some (area_of priority e).1) (find nat_cmp a (map (area_of priority) on))) ≡ is_some
+        (cond b (Some e.1) (find nat_cmp a on))
     by true h = refl
     by false h = h
 
 -- an area is on in the ledger exactly where it is shown to be
 pub on-shown : (k : Mem) (l : Ledger) → SwapStands (view k) l → (a : ℕ) → is_on l a ≡ is_shown_on (shown_swap k.swap) a
-on-shown k l h a = ap (λ on. is_some (find nat_cmp a on)) (sym h.on) ∙ found-numbers a (shown_swap k.swap).on
+on-shown k l h a = ap (λ on. is_some (find nat_cmp a on)) (sym h.on) ∙ found-as (shown_swap k.swap).priority a (shown_swap k.swap).on

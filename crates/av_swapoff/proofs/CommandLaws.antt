@@ -3,43 +3,24 @@ use Rattle.std.proofs.Common.{◌≡◌, ℕ, List, Some, sym, ap, subst, ◌∙
 use Rattle.av_trace.specs.declared.note.Note.{Note}
 use Rattle.av_plain.specs.Areas.{Rmap, rmap_after_all}
 use Rattle.av_plain.specs.Choice.{ChoosesAll}
-use Rattle.av_plain.specs.Device.{Device, IsSameDevice}
+use Rattle.av_plain.specs.Device.{Device}
 use Rattle.av_plain.specs.Event.{after_notes, note_events}
 use Rattle.av_plain.specs.Ledger.{Ledger, Setting}
 use Rattle.av_plain.specs.Load.{with_loads}
 use Rattle.av_plain.specs.Sound.{IsSound}
 use Rattle.av_plain.specs.Stands.{free_of}
 use Rattle.av_plain.specs.World.{World}
-use Rattle.av_evict.specs.System.{Always, Gives, IsAt, Stays}
+use Rattle.av_evict.specs.System.{Always, Gives, IsAt}
 use Rattle.av_mem.specs.Mem.{Serves, frame_count, setting_by, view}
 use Rattle.av_mem.specs.declared.mem.Mem.{Mem}
 use Rattle.av_reclaim.specs.Driver.{closing_of, view_of}
+use Rattle.av_reclaim.proofs.CommandLaws.{IsLent, closing-so, one-device}
 use Rattle.av_swapoff.specs.Command.{HasEmptied, IsClosingOver, KeepsClosing}
 use Rattle.av_swapoff.specs.Empty.{EmptiesAllBy}
 use Rattle.av_swapoff.specs.declared.empty.EmptyEnd.{EmptyEnd}
 
--- the reference was kept, so what was lent is what the system made of it
-abbrev pub IsLent : List ℕ → List ℕ → Device → Device → Mem → Mem → Type 0
-IsLent names names' d₁ d' k₁ new = names' ≡ names → (d' ≡ d₁) × (new ≡ k₁)
-
-one-device : (names names' : List ℕ) (d d' : Device) (old new : Mem) → Stays (view_of names d old) (view_of names' d' new) → IsSameDevice d d'
-one-device names names' d d' old new stays =
-    record { sizes = ap (λ (m : Setting). m.sizes) stays.setting; first = stays.first; faults = stays.never_falls }
-
--- by what stays, this is so of what was lent too
-module _ (names names' : List ℕ) (d d₁ : Device) (old k₁ : Mem) (stays : Stays (view_of names d old) (view_of names' d₁ k₁)) where
-  pub same-lent : (d' : Device) → (names' ≡ names → d' ≡ d₁) → IsSameDevice d d'
-  same-lent d' lent = subst (IsSameDevice d) (sym (lent stays.names)) (one-device names names' d d₁ old k₁ stays)
-
-  pub count-lent : (n : ℕ) → (names' ≡ names → n ≡ frame_count k₁) → n ≡ frame_count old
-  count-lent n lent = lent stays.names ∙ ap (λ (m : Setting). m.frames) stays.setting
-
--- the area that is closing is the system's
-closing-so : (d : Device) (area : ℕ) (k : Mem) (w : World) (r : Rmap) (l : Ledger) → Serves d (Some area) k w r l → Serves d (closing_of k) k w r l
-closing-so d area k w r l h = subst (λ c. Serves d c k w r l) (sym h.swap.closed) h
-
 pub is-at : (names : List ℕ) (d : Device) (area : ℕ) (k : Mem) → IsClosingOver d area k → IsAt (view_of names d k) Always
-is-at names d area k h = (h.2, h.3.sound, (h.0, h.1, closing-so d area k h.0 h.1 h.2 h.3.serves), tt)
+is-at names d area k h = (h.2, h.3.sound, (h.0, h.1, closing-so d (Some area) k h.0 h.1 h.2 h.3.serves), tt)
 
 pub has-emptied : (names names' : List ℕ) (d d₁ d' : Device) (old k₁ new : Mem) (area : ℕ) (before now : List Note) (end : EmptyEnd)
     → Gives (view_of names d old) (view_of names' d₁ k₁) before now Always (EmptiesAllBy (view_of names d old) (view_of names' d₁ k₁) area end)
@@ -47,7 +28,7 @@ pub has-emptied : (names names' : List ℕ) (d d₁ d' : Device) (old k₁ new :
     → HasEmptied d d' old new w r l area before now end
 has-emptied names names' d d₁ d' old k₁ new area before now end gives lent w r l keeps =
     let serves = keeps.serves in
-    let out = gives l keeps.sound (w, r, closing-so d area old w r l serves) tt in
+    let out = gives l keeps.sound (w, r, closing-so d (Some area) old w r l serves) tt in
     let does = out.3.does in
     let stays = does.stays in
     let is = lent stays.names in
@@ -61,10 +42,11 @@ has-emptied names names' d d₁ d' old k₁ new area before now end gives lent w
       empties = out.2.0;
       closing = record {
         sound = subst (λ m. IsSound m (after_notes l out.0)) (sym stays.setting) out.3.sound;
-        serves = subst (λ c. Serves d₁ c k₁ w' r' (after_notes l out.0)) closing' (does.claims w r (closing-so d area old w r l serves));
+        serves = subst (λ c. Serves d₁ c k₁ w' r' (after_notes l out.0)) closing' (does.claims w r (closing-so d (Some area) old w r l serves));
       };
-      free = subst (λ c. ChoosesAll (setting_by d old) c l (note_events out.0) (free_of (view old)) (free_of (view k₁))) serves.swap.closed does.chooses;
+      free = subst (λ c. ChoosesAll (setting_by d old) c l (note_events out.0) (free_of (view old)) (free_of (view k₁)))
+          serves.swap.closed does.chooses;
       same = one-device names names' d d₁ old k₁ stays;
       count = ap (λ (m : Setting). m.frames) stays.setting;
-      faults = out.2.1;
+      failures = out.2.1;
     }))

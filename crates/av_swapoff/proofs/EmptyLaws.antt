@@ -29,12 +29,11 @@ use Rattle.av_evict.specs.Steps.{spares}
 use Rattle.av_evict.specs.System.{Gives, Goes, SystemView}
 use Rattle.av_evict.proofs.SeekLaws.{completed-landed}
 use Rattle.av_evict.proofs.SystemLaws.{goes-then}
-use Rattle.av_swapoff.specs.Empty.{EmptiesAllBy, EmptiesEach, EmptiesEachBy, EmptiesPage, EmptiesPageBy, IsStuck, MayEmpty, MayEmptyEach, close_of, end_of, failed_by, lost_by}
-use Rattle.av_swapoff.specs.Slot.{EmptiesBy, IsIn, MayFetch, mapped_notes}
+use Rattle.av_swapoff.specs.Empty.{EmptiesAllBy, EmptiesEach, EmptiesEachBy, EmptiesPage, EmptiesPageBy, EmptiesSlotBy, IsStuck, MayEmpty, MayEmptyEach, close_of, failed_by, lost_by}
+use Rattle.av_swapoff.specs.Slot.{IsIn, MayFetch, mapped_notes}
 use Rattle.av_swapoff.specs.System.{AreUsers, IsUser, MayLoad, slot_at}
 use Rattle.av_swapoff.specs.declared.empty.EmptyEnd.{EmptyEnd}
 use Rattle.av_swapoff.specs.declared.empty.EmptyEnd.TheVariants.{Empty, NoFrame, NoPage}
-use Rattle.av_swapoff.specs.declared.slot.FetchEnd.{FetchEnd}
 use Rattle.av_swapoff.specs.declared.slot.FetchEnd.TheVariants as fetched
 use Rattle.av_swapoff.proofs.SlotLaws.{AllMapped, fetched-in, load-sound, mapped-keys, rose-both, rose-plain, sought-may_load}
 use Rattle.av_swapoff.proofs.UserLaws.{IsKeyOf, Steady, SteadyBut, dropped-other, key-user, keys-length, steady-loaded, steady-seeks, used-user, user-key}
@@ -195,7 +194,8 @@ module _ (m : Setting) (k : ℕ) (l : Ledger) (s : Slot) (u : Key) (ns : List No
   none_named : slot_entries (after_notes (after_notes l b.fetched) (mapped_notes b.frame (keys_of_slot (after_notes l b.fetched) s))) s ≡ 0
   none_named = let e = all.fewer in let n = keys-length (after_notes l b.fetched) s in omega (arith, e, n)
 
-  same : after_notes l ns ≡ after_note (Dropped s) (after_notes (after_notes l b.fetched) (mapped_notes b.frame (keys_of_slot (after_notes l b.fetched) s)))
+  same : after_notes l ns ≡ after_note (Dropped s)
+      (after_notes (after_notes l b.fetched) (mapped_notes b.frame (keys_of_slot (after_notes l b.fetched) s)))
   same = ap (after_notes l) b.whole ∙ after_notes-append l b.fetched (map_notes (after_notes l b.fetched) s b.frame)
       ∙ after_notes-append (after_notes l b.fetched) (mapped_notes b.frame (keys_of_slot (after_notes l b.fetched) s)) (Dropped s ∷ [])
 
@@ -237,8 +237,11 @@ first-of p page a (suc n) low high none is = by (a == page) refl
         )
     by false e rest =
         let more : a < page = (let d : (a ≡ page → ⊥) = grind (arith, nat_tests, e) in grind (arith, nat_tests, d, low)) in
-        let later = rest (omega (arith, more)) in
-        (later.0, ap (λ b. cond b (a ∷ filter p (range_with_len (a + 1) n)) (filter p (range_with_len (a + 1) n))) (none a (omega arith) more) ∙ later.1)
+        let later = rest (omega (arith, more)) in (
+          later.0,
+          ap (λ b. cond b (a ∷ filter p (range_with_len (a + 1) n)) (filter p (range_with_len (a + 1) n)))
+              (none a (omega arith) more) ∙ later.1,
+        )
 
 none-of : (p : ℕ → Bool) (a n : ℕ) → ((q : ℕ) → p q ≡ false) → filter p (range_with_len a n) ≡ []
 none-of p a zero none = refl
@@ -284,7 +287,8 @@ still-may m area page users l l' s s' gone idle landed steady may = record {
 }
   where
     was : (q : ℕ) → 0 < slot_count l' (slot_at area q) → 0 < slot_count l (slot_at area q)
-    was q used = positive _ (λ z. let e = zero-count l' (slot_at area q) (idle (slot_at area q) refl (count-zero l (slot_at area q) z)) in omega (arith, e, used))
+    was q used = positive _
+        (λ z. let e = zero-count l' (slot_at area q) (idle (slot_at area q) refl (count-zero l (slot_at area q) z)) in omega (arith, e, used))
 
     there : (q : ℕ) → 0 < slot_count l' (slot_at area q) → (b : Bool) → same_slot (slot_at area q) (slot_at area page) ≡ b →
         IsSomeAnd (slice_get users q) (λ user. IsSomeAnd user (IsUser l' (slot_at area q)))
@@ -342,7 +346,8 @@ emptied-slot m area page users user l ns sound may at none (inr h) = by user (at
         let first = first-in_use m area page l none h.0 (may.within page h.0) in
         record {
           none = none-more area page l (after_notes l ns) k.idle none gone;
-          may = still-may m area page users l (after_notes l ns) sound (bring-sound m area l s u ns sound fetch h.1) gone k.idle k.landed k.steady may;
+          may = still-may m area page users l (after_notes l ns) sound (bring-sound m area l s u ns sound fetch h.1) gone k.idle
+              k.landed k.steady may;
           more = λ end pages rest e. (page ∷ pages, (first.0, ns, rest, first.1, refl, h.1, e));
         }
 
@@ -418,7 +423,11 @@ stuck-ends m area page end l ns others stuck is = subst (λ ps. EndsAt m (spares
       h.0.seeks,
       ap NoRoom h.2 ∙ full (out_of m None (spares (Some area) None) (after_notes l ns)) (has_free m (after_notes l ns)) h.1,
     )
-    by NoPage h = (h.0.absent, h.0.seeks, free (NoRoom (out_of m None (spares (Some area) None) (after_notes l ns))) (has_free m (after_notes l ns)) h.1)
+    by NoPage h = (
+      h.0.absent,
+      h.0.seeks,
+      free (NoRoom (out_of m None (spares (Some area) None) (after_notes l ns))) (has_free m (after_notes l ns)) h.1,
+    )
 
 stuck-failed : (m : Setting) (s : Slot) (k : Option ℕ) (end : EmptyEnd) (l : Ledger) (ns : List Note) → IsStuck m k s end l ns →
     failed_by end ≤ fails ns
@@ -451,7 +460,7 @@ emptying-stop a b c n0 n1 n2 area page users user end is closing t gives l sound
           empties = whole.1;
           failed = more-fails i.gained x.0 (failed_by end) (stuck-failed a.setting (slot_at area page) (Some area) end l1 x.0 did.1);
         },
-        rose-both i.gained x.0 (lost_by end) a.faults b.faults c.faults i.goes.does.faults x.2.1,
+        rose-both i.gained x.0 (lost_by end) a.failures b.failures c.failures i.goes.does.failures x.2.1,
       ),
       goes-then a b c l i.gained x.0 i.goes x.3,
     )
@@ -471,14 +480,15 @@ emptying-end a b n0 n1 area page users t over l sound stands may =
           empties = subst (λ z. plain.Empties a.setting (spares (Some area) None) area l whole.0 z plain.Closed) (append-nil i.gained) whole.1;
           failed = omega arith;
         },
-        rose-plain (fails i.gained) a.faults b.faults i.goes.does.faults,
+        rose-plain (fails i.gained) a.failures b.failures i.goes.does.failures,
       ),
       i.goes,
     )
   where
     ends : (l : Ledger) → NoneBelow area page l → MayEmptyEach a.setting area users l →
         plain.Empties a.setting (spares (Some area) None) area l [] [] plain.Closed
-    ends l none may = subst (λ ps. EndsAt a.setting (spares (Some area) None) area l ps [] plain.Closed) (sym (none-in_use a.setting area l unused)) (refl, refl)
+    ends l none may = subst (λ ps. EndsAt a.setting (spares (Some area) None) area l ps [] plain.Closed)
+        (sym (none-in_use a.setting area l unused)) (refl, refl)
       where
         unused : (q : ℕ) → slot_count l (slot_at area q) ≡ 0
         unused q = by (slot_count l (slot_at area q)) refl
@@ -510,14 +520,10 @@ page-fetch l s found u is h may =
     let used : 0 < slot_count l s = grind (arith, nat_tests, h) in
     record { landed = may.landed; used = used; user = subst (λ o. IsSomeAnd o (IsUser l s)) is (may.user used) }
 
-pub emptied-page : (a b : SystemView) (l : Ledger) (s : Slot) (got : FetchEnd) (end : Option EmptyEnd) (ns : List Note) → end ≡ end_of got →
-    0 < slot_count l s → EmptiesBy a b s got l ns → EmptiesPageBy a b s end l ns
-emptied-page a b l s got end ns is used did = subst (λ x. EmptiesPageBy a b s x l ns) (sym is) (by got did)
-  where
-    by : (x : FetchEnd) → EmptiesBy a b s x l ns → EmptiesPageBy a b s (end_of x) l ns
-    by (fetched.In f) h = (inr (used, h.0), h.1)
-    by (fetched.NoFrame out) h = ((used, h.0), h.1)
-    by fetched.Unread h = ((used, h.0), h.1)
+pub emptied-page : (a b : SystemView) (l : Ledger) (s : Slot) (end : Option EmptyEnd) (ns : List Note) → 0 < slot_count l s →
+    EmptiesSlotBy a b s end l ns → EmptiesPageBy a b s end l ns
+emptied-page a b l s None ns used did = (inr (used, did.0), did.1)
+emptied-page a b l s (Some end) ns used did = ((used, did.0), did.1)
 
 -- ---- the whole
 
@@ -525,7 +531,7 @@ pub record IsCompleted (a b : SystemView) (area : ℕ) (users : List (Option Key
   pub completes : Completes l l.flight ns
   pub may : MayEmptyEach b.setting area users (after_notes l ns)
   pub same : b.setting ≡ a.setting
-  pub rose : RoseBy (fails ns) a.faults b.faults
+  pub rose : RoseBy (fails ns) a.failures b.failures
 
 pub emptied-all : (a b c : SystemView) (area : ℕ) (users : List (Option Key)) (end : EmptyEnd) (l : Ledger) (ns ms : List Note) →
     IsCompleted a b area users l ns → EmptiesEachBy b c area end (after_notes l ns) ms → EmptiesAllBy a c area end l (ns ++ ms)
@@ -540,7 +546,7 @@ emptied-all a b c area users end l ns ms done rest =
         empties = each.empties;
         failed = more-fails ns ms (failed_by end) each.failed;
       },
-      rose-both ns ms (lost_by end) a.faults b.faults c.faults done.rose rest.1,
+      rose-both ns ms (lost_by end) a.failures b.failures c.failures done.rose rest.1,
     )
 
 -- the users, as they are found
@@ -561,5 +567,5 @@ completed a b area users l ns sound completes goes are = record {
   may = users-may b.setting area users (after_notes l ns) (subst (λ m. IsSound m (after_notes l ns)) (sym goes.does.stays.setting) goes.sound)
       (completed-landed a.setting l ns sound completes) are;
   same = goes.does.stays.setting;
-  rose = goes.does.faults;
+  rose = goes.does.failures;
 }

@@ -15,7 +15,7 @@ use Rattle.av_plain.specs.Event.{after_note, after_notes, set_entry}
 use Rattle.av_plain.specs.Ledger.{Cached, Entry, InFrame, InSlot, Key, Ledger, Setting, Zero, cached_by, entry, frame_at, has_free, is_cached, is_free, key_cmp, keys_of_slot, names_slot, same_slot, slot_count, slot_entries}
 use Rattle.av_plain.specs.Pass.{TakesFor, fails, is_fail}
 use Rattle.av_plain.specs.Sound.{IsSound, no_excuse, slots}
-use Rattle.av_plain.specs.Swapoff.{IsFetched}
+use Rattle.av_plain.specs.Swapoff.{IsEmptied, IsFetched}
 use Rattle.av_plain.proofs.Access.{after_notes-append}
 use Rattle.av_plain.proofs.Ledger.{entry-set, how_many-append, how_many-found, same_key-is, same_key-itself}
 use Rattle.av_plain.proofs.Ledger.NoSwap.{key_at-address}
@@ -30,10 +30,10 @@ use Rattle.av_evict.specs.System.{Adds, Gives, Goes, IsAt, SystemView}
 use Rattle.av_evict.proofs.PassLaws.{none-flies}
 use Rattle.av_evict.proofs.StepLaws.{pair-cached}
 use Rattle.av_evict.proofs.SystemLaws.{does-none, goes-then}
-use Rattle.av_swapoff.specs.Slot.{AreApart, Empties, Fetches, FetchesBy, IsIn, IsLoaded, IsSought, MapsBack, MayFetch, MayMapAll, fetched_of, mapped_notes, same_key, unread_of}
+use Rattle.av_swapoff.specs.Slot.{AreApart, Fetches, FetchesBy, IsIn, IsLoaded, IsSought, MapsBack, MayFetch, MayMapAll, fetched_of, mapped_notes, same_key, unread_of}
 use Rattle.av_swapoff.specs.System.{MayLoad, MayMap}
 use Rattle.av_swapoff.specs.declared.slot.FetchEnd.{FetchEnd}
-use Rattle.av_swapoff.specs.declared.slot.FetchEnd.TheVariants.{In, Unread}
+use Rattle.av_swapoff.specs.declared.slot.FetchEnd.TheVariants.{Unread}
 use Rattle.av_swapoff.proofs.UserLaws.{IsBehind, IsKeyOf, Steady, keys-length, steady-mapped, steady-seeks, user-key}
 
 -- ---- one entry
@@ -285,7 +285,8 @@ loaded-frame l s f = by (same_slot s s) (slot-itself s)
 
 fetched-both : (m : Setting) (closing : Option ℕ) (l : Ledger) (s : Slot) (loaded : Option ℕ) (ns ms : List Note) → IsSought m closing s l ns →
     has_free m (after_notes l ns) ≡ true → IsLoaded m s loaded (after_notes l ns) ms → Fetches m closing s (fetched_of loaded) l (ns ++ ms)
-fetched-both m closing l s None ns ms sought free is = subst (Fetches m closing s Unread l) (sym (ap (λ x. ns ++ x) is ∙ append-nil ns)) (sought, free)
+fetched-both m closing l s None ns ms sought free is =
+    subst (Fetches m closing s Unread l) (sym (ap (λ x. ns ++ x) is ∙ append-nil ns)) (sought, free)
 fetched-both m closing l s (Some f) ns ms sought free is = by (frame_at l s) sought.absent
   where
     after : after_notes l (ns ++ ms) ≡ after_note (Loaded s f) (after_notes l ns)
@@ -312,13 +313,15 @@ fetched-in m closing l s k f ns sound may fetches = by (frame_at l s) refl fetch
     by (Some g) is h = subst (λ x. IsIn s f (after_notes l x)) (sym h.0) (record { cached = is ∙ ap Some (sym h.1); landed = may.landed })
     by None is h = record {
       cached = h.1;
-      landed = ap (λ x. (after_notes l x).flight) h.0.whole ∙ ap (λ (x : Ledger). x.flight) (after_notes-append l h.0.sought (Loaded s h.0.frame ∷ []))
-          ∙ none-flies _ ((seeks-kept m (spares closing None) l h.0.sought sound h.0.seeks).calm (λ r. ap (how_many (same_slot r)) may.landed)).grounded;
+      landed = ap (λ x. (after_notes l x).flight) h.0.whole
+          ∙ ap (λ (x : Ledger). x.flight) (after_notes-append l h.0.sought (Loaded s h.0.frame ∷ []))
+          ∙ none-flies _ ((seeks-kept m (spares closing None) l h.0.sought sound h.0.seeks).calm
+          (λ r. ap (how_many (same_slot r)) may.landed)).grounded;
     }
 
 pub emptied-both : (m : Setting) (closing : Option ℕ) (l : Ledger) (s : Slot) (f : ℕ) (ns ms : List Note) →
     IsFetched m (spares closing None) l s f ns →
-    MapsBack s f (after_notes l ns) ms → Empties m closing s (In f) l (ns ++ ms)
+    MapsBack s f (after_notes l ns) ms → IsEmptied m (spares closing None) l s (ns ++ ms)
 emptied-both m closing l s f ns ms fetches back = record { fetched = ns; frame = f; fetches = fetches; whole = ap (λ x. ns ++ x) back }
 
 -- ---- how often the device failed
@@ -335,7 +338,7 @@ pub record Missing (old now : SystemView) (s : Slot) (l : Ledger) (ns : List Not
   pub sought : IsSought old.setting old.closing s l ns
   pub free : has_free old.setting (after_notes l ns) ≡ true
   pub same : now.setting ≡ old.setting
-  pub rose : RoseBy (fails ns) old.faults now.faults
+  pub rose : RoseBy (fails ns) old.failures now.failures
 
 pub missing-may_load : (a b : SystemView) (l : Ledger) (s : Slot) (k : Key) (ns : List Note) → IsSound a.setting l → MayFetch s k l →
     Missing a b s l ns →
@@ -346,24 +349,24 @@ missing-may_load a b l s k ns sound may miss = subst (λ x. MayLoad x s k (after
 -- the page is asked of the device
 pub record IsLoadedBy (old new : SystemView) (s : Slot) (loaded : Option ℕ) (l : Ledger) (ns : List Note) : Type 0 where
   pub is : IsLoaded old.setting s loaded l ns
-  pub rose : RoseBy (fails ns) old.faults new.faults
+  pub rose : RoseBy (fails ns) old.failures new.failures
 
 pub fetched-missing : (a b c : SystemView) (l : Ledger) (s : Slot) (loaded : Option ℕ) (fetched : FetchEnd) (ns ms : List Note) →
     fetched ≡ fetched_of loaded →
-    (loaded ≡ None → Rose b.faults c.faults) → Missing a b s l ns → IsLoadedBy b c s loaded (after_notes l ns) ms →
+    (loaded ≡ None → Rose b.failures c.failures) → Missing a b s l ns → IsLoadedBy b c s loaded (after_notes l ns) ms →
     FetchesBy a c s fetched l (ns ++ ms)
 fetched-missing a b c l s loaded fetched ns ms is cause miss by = subst (λ x. FetchesBy a c s x l (ns ++ ms)) (sym is) (
   fetched-both a.setting a.closing l s loaded ns ms miss.sought miss.free has,
-  rose-both ns ms (unread_of (fetched_of loaded)) a.faults b.faults c.faults miss.rose (last loaded has cause),
+  rose-both ns ms (unread_of (fetched_of loaded)) a.failures b.failures c.failures miss.rose (last loaded has cause),
 )
   where
     has : IsLoaded a.setting s loaded (after_notes l ns) ms
     has = subst (λ m. IsLoaded m s loaded (after_notes l ns) ms) miss.same by.is
 
-    last : (o : Option ℕ) → IsLoaded a.setting s o (after_notes l ns) ms → (o ≡ None → Rose b.faults c.faults) →
-        RoseBy (fails ms + unread_of (fetched_of o)) b.faults c.faults
-    last (Some f) h r = rose-plain (fails ms) b.faults c.faults by.rose
-    last None h r = subst (λ x. RoseBy (fails x + 1) b.faults c.faults) (sym h) (one b.faults c.faults (r refl))
+    last : (o : Option ℕ) → IsLoaded a.setting s o (after_notes l ns) ms → (o ≡ None → Rose b.failures c.failures) →
+        RoseBy (fails ms + unread_of (fetched_of o)) b.failures c.failures
+    last (Some f) h r = rose-plain (fails ms) b.failures c.failures by.rose
+    last None h r = subst (λ x. RoseBy (fails x + 1) b.failures c.failures) (sym h) (one b.failures c.failures (r refl))
       where
         one : (a b : ℕ) → RoseBy 1 a b → RoseBy (0 + 1) a b
         one a b h = omega (arith, h)

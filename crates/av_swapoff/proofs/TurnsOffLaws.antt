@@ -34,6 +34,7 @@ use Rattle.av_mem.proofs.ServesLaws.{same-setting}
 use Rattle.av_mem.proofs.KeepsLaws.{serves-whenever}
 use Rattle.av_swapoff.specs.Command.{HasEmptied, HasTurnedOff, IsClosingOver, KeepsClosing, after_closing, swapoff_events}
 use Rattle.av_swapoff.specs.Empty.{close_of}
+use Rattle.av_reclaim.proofs.StepMakes.{frame-found}
 use Rattle.av_swapoff.specs.declared.empty.EmptyEnd.{EmptyEnd}
 use Rattle.av_swapoff.specs.declared.empty.EmptyEnd.TheVariants.{Empty, NoFrame, NoPage}
 use Rattle.av_swapoff.proofs.CloseLaws.{on-shown, serves-closing, serves-off, step-off, view-closing, with_swap}
@@ -70,23 +71,6 @@ on-notes : (l : Ledger) (notes : List Note) → (after_notes l notes).on ≡ l.o
 on-notes l [] = refl
 on-notes l (note ∷ notes) = on-notes (after_note note l) notes ∙ on-note l note
 
--- ---- a slot that is cached has a frame
-
-pub frame-found : (s : Slot) (l : Ledger) → is_some (frame_at l s) ≡ is_cached l s
-frame-found s l = by l.cache
-  where
-    by : (cs : List Cached) → is_some (option_map (λ (c : Cached). c.frame) (cached_by (λ c. same_slot s c.slot) cs))
-        ≡ list_any (λ (c : Cached). same_slot s c.slot) cs
-    by [] = refl
-    by (c ∷ cs) = one (same_slot s c.slot) (by cs)
-      where
-        one : (b : Bool) → is_some (option_map (λ (c : Cached). c.frame) (cached_by (λ c. same_slot s c.slot) cs))
-            ≡ list_any (λ (c : Cached). same_slot s c.slot) cs
-            → is_some (option_map (λ (c : Cached). c.frame) (cond b (Some c) (cached_by (λ c. same_slot s c.slot) cs)))
-            ≡ (b || list_any (λ (c : Cached). same_slot s c.slot) cs)
-        one true rest = refl
-        one false rest = rest
-
 -- ---- an area that goes off makes no page unclaimed
 
 loads-off : (m : Setting) (w : World) (l : Ledger) (es : List Event) (area : ℕ) → with_loads m w l (es ++ TurnedOff area ∷ []) ≡ with_loads m w l es
@@ -116,7 +100,7 @@ closing-over d k swap area close h = (
   h.2,
   h.3,
   closing-of (as_told false d) k swap area close h.1 h.2 h.3
-      (record { sound = h.4.sound; serves = serves-whenever d.sizes None h.0 d.faults None k h.1 h.2 h.3 h.4.serves }),
+      (record { sound = h.4.sound; serves = serves-whenever d.sizes None h.0 d.failures None k h.1 h.2 h.3 h.4.serves }),
 )
 
 -- ---- when an area has been emptied
@@ -204,7 +188,8 @@ module _ (d d' : Device) (k k' : Mem) (w : World) (r : Rmap) (l : Ledger) (area 
   stays-on swap same = subst (Done swap) (sym (append-nil (note_events h.added))) (
     subst (λ x. Serves d' None (with_swap k' swap) w' r' x) (sym (note_events-all l h.added)) (serves-closing k' swap None same d' (Some area) w' r'
         (after_notes l h.added) h.closing.serves),
-    subst (λ (v : View). ChoosesAll (setting_by d k) (Some area) l (note_events h.added) (free_of (view k)) (free_of v)) (sym (view-closing k' swap None same))
+    subst (λ (v : View). ChoosesAll (setting_by d k) (Some area) l (note_events h.added) (free_of (view k)) (free_of v))
+        (sym (view-closing k' swap None same))
         h.free,
   )
     where
@@ -222,7 +207,8 @@ module _ (d d' : Device) (k k' : Mem) (w : World) (r : Rmap) (l : Ledger) (area 
         (subst (λ x. Serves d' None (with_swap k' swap) w' x (after_all l all)) (sym (rmap_after_all-append l es (TurnedOff area ∷ []) r))
         (subst (λ x. Serves d' None (with_swap k' swap) w' r' x) (sym ledger)
         (serves-off d' k' swap area same w' r' (after_notes l h.added) (Some area) h.closing.serves h.closing.sound.in_order (none-in-use closed)))),
-    chooses-append (setting_by d k) (Some area) l es (TurnedOff area ∷ []) (free_of (view k)) (free_of (view k')) (free_of (view (with_swap k' swap))) h.free
+    chooses-append (setting_by d k) (Some area) l es (TurnedOff area ∷ []) (free_of (view k)) (free_of (view k'))
+        (free_of (view (with_swap k' swap))) h.free
         (subst (λ x. ChoosesAll (setting_by d k) (Some area) x (TurnedOff area ∷ []) (free_of (view k')) (free_of (view (with_swap k' swap))))
         (sym (note_events-all l h.added)) (free_of (view (with_swap k' swap)), chosen, refl)),
   )
@@ -243,7 +229,8 @@ module _ (d d' : Device) (k k' : Mem) (w : World) (r : Rmap) (l : Ledger) (area 
       ledger = after_all-append l (note_events h.added) (TurnedOff area ∷ []) ∙ ap (λ x. after x (TurnedOff area)) (note_events-all l h.added)
 
       chosen : Chooses (setting_by d k) (Some area) (after_notes l h.added) (TurnedOff area) (free_of (view k')) (free_of (view (with_swap k' swap)))
-      chosen = subst (λ m. Chooses m (Some area) (after_notes l h.added) (TurnedOff area) (free_of (view k')) (free_of (view (with_swap k' swap)))) setting-stays
+      chosen = subst (λ m. Chooses m (Some area) (after_notes l h.added) (TurnedOff area) (free_of (view k'))
+          (free_of (view (with_swap k' swap)))) setting-stays
           (step-off d' k' swap area same w' r' (after_notes l h.added) (Some area) h.closing.serves).chosen
 
   ends : (swap : SwapStore) → shown_swap swap ≡ after_closing area end (shown_swap k'.swap) → Done swap (swapoff_events area h.added end)
@@ -268,12 +255,13 @@ has-turned-off d d' old k' swap0 swap area before now end close finish w r l bet
       turns_off = turned-off d d' (with_swap old swap0) k' w r l area before now end keeps h;
       done = record {
         between = record { sound = sound-then d d' (with_swap old swap0) k' w r l area before now end keeps h; serves = done.0 };
-        free = subst (λ (v : View). ChoosesAll (setting_by d old) (Some area) l (swapoff_events area h.added end) (free_of v) (free_of (view (with_swap k' swap))))
+        free = subst (λ (v : View). ChoosesAll (setting_by d old) (Some area) l (swapoff_events area h.added end) (free_of v)
+            (free_of (view (with_swap k' swap))))
             (view-closing old swap0 (Some area) close) done.1;
         same = h.same;
         count = h.count;
       };
-      faults = h.faults;
+      failures = h.failures;
       failed = h.empties.failed;
     }
 

@@ -4,7 +4,7 @@ use Rattle.std.proofs.lemmas.Bool.{false≢true}
 use Rattle.std.proofs.lemmas.Bool.Decides.{nat_tests}
 use Rattle.std.specs.Prelude.{IfSome, IsSomeAnd}
 use Rattle.av_base.specs.declared.slot.Slot.{Slot}
-use Rattle.av_clusters.specs.declared.Page.{Page}
+use Rattle.av_clusters.specs.declared.clusters.Page.{Page}
 use Rattle.av_clusters.specs.Clusters.{Slots, is_free, is_taken, page_at}
 use Rattle.av_swapdev.specs.declared.header.Header.{Header}
 use Rattle.av_swapcache.specs.Area.{counted, is_slot}
@@ -45,7 +45,8 @@ far-away page n far = grind (arith, nat_tests, far)
 -- past the pages of an area that is on
 pub unused-past : (k : Mem) (area pages page : ℕ) → IsFit (shown_swap k.swap)
     → IsSomeAnd (header_at (shown_swap k.swap) area) (λ (h : Header). pages ≡ h.pages) → pages ≤ page → IsUnused (view k) (slot_at area page)
-unused-past k area pages page fit has far = unused k s (not-taken h s fit (second (is_free here) (is_taken here) (by (header_at h area) has (fit.usable s))))
+unused-past k area pages page fit has far =
+    unused k s (not-taken h s fit (second (is_free here) (is_taken here) (by (header_at h area) has (fit.usable s))))
   where
     h : Shown
     h = shown_swap k.swap
@@ -63,7 +64,8 @@ unused-past k area pages page fit has far = unused k s (not-taken h s fit (secon
         ∙ middle (nat_lt 0 page) (nat_lt page a.pages) (not (h.bad s)) (far-away page a.pages (omega (arith, has, far)))
 
 -- in one that is off
-pub unused-off : (k : Mem) (area page : ℕ) → IsFit (shown_swap k.swap) → is_on (shown_swap k.swap) area ≡ false → IsUnused (view k) (slot_at area page)
+pub unused-off : (k : Mem) (area page : ℕ) → IsFit (shown_swap k.swap) → is_on (shown_swap k.swap) area ≡ false
+    → IsUnused (view k) (slot_at area page)
 unused-off k area page fit off = unused k s
     (not-taken h s fit (ap (λ (slots : Slots). is_taken (page_at slots.pages page)) (fit.off area (by (header_at h area) off))))
   where

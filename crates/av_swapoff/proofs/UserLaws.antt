@@ -185,7 +185,8 @@ steady-unmap_notes m sp l f t sound for used s k is = by (slot_of l f) refl for
   where
     by : (o : Option Slot) → slot_of l f ≡ o → MatchOption o (IsTrue (may_give m sp.closing l t)) (λ r. t ≡ r) →
         IsKeyOf (after_notes l (when (is_none (slot_of l f)) (Put f t) ++ when (not (map_count l f == 0)) (Unmapped f))) s k
-    by (Some r) at same = subst (λ o. IsKeyOf (after_notes l (when (is_none o) (Put f t) ++ when (not (map_count l f == 0)) (Unmapped f))) s k) (sym at)
+    by (Some r) at same =
+        subst (λ o. IsKeyOf (after_notes l (when (is_none o) (Put f t) ++ when (not (map_count l f == 0)) (Unmapped f))) s k) (sym at)
         (steady-when m l f t (not (map_count l f == 0)) sound (at ∙ ap Some (sym same)) s k is)
     by None at may = subst (λ o. IsKeyOf (after_notes l (when (is_none o) (Put f t) ++ when (not (map_count l f == 0)) (Unmapped f))) s k) (sym at)
         (steady-when m (into_cache t f true l) f t (not (map_count l f == 0)) put (first (f == f) (same-itself f)) s k (steady-put l t f s k is))
@@ -206,7 +207,8 @@ turn-alike : (l : Ledger) (f : ℕ) (t : Slot) (failed : Bool) → Alike (after_
 turn-alike l f t failed = subst (Alike (after_notes l (unmap_notes l f t)))
     (sym (after_notes-append l (unmap_notes l f t) (cond (is_dirty l f t) (Started t ∷ end_note failed t ∷ []) []))) (by (is_dirty l f t))
   where
-    by : (d : Bool) → Alike (after_notes l (unmap_notes l f t)) (after_notes (after_notes l (unmap_notes l f t)) (cond d (Started t ∷ end_note failed t ∷ []) []))
+    by : (d : Bool) → Alike (after_notes l (unmap_notes l f t))
+        (after_notes (after_notes l (unmap_notes l f t)) (cond d (Started t ∷ end_note failed t ∷ []) []))
     by false = record { entries = refl; slots_same = λ r. refl; holders_same = λ g. refl; pairs_same = λ r g. refl }
     by true = let l1 = after_notes l (unmap_notes l f t) in
         alike-then l1 (after_note (Started t) l1) _ (alike-started l1 t) (alike-end_note (after_note (Started t) l1) failed t)
@@ -240,7 +242,8 @@ module _ (m : Setting) (l : Ledger) (f : ℕ) (t : Slot) (failed : Bool) (sp : S
       here = turn-kept m sp l f t failed sound grounded for used
 
       unmapped : map_count (after_notes l (turn_notes l f t failed)) f ≡ 0
-      unmapped = ap (λ es. map_count (record l { entries = es }) f) ((turn-alike l f t failed).entries) ∙ (unmap_notes-kept m sp l f t sound for used).none
+      unmapped = ap (λ es. map_count (record l { entries = es }) f) ((turn-alike l f t failed).entries)
+          ∙ (unmap_notes-kept m sp l f t sound for used).none
 
       alone : (g : ℕ) → 0 < map_count (after_notes l (turn_notes l f t failed)) g → pairs (after_notes l (turn_notes l f t failed)) t g ≡ 0
       alone g some = by (g == f) refl
@@ -273,7 +276,8 @@ steady-turns m sp l (f ∷ fs) ns sound grounded ready turns =
     stuck again true r = again l ns sound grounded (ready-rest l l f fs (λ g other. refl) ready) r
     stuck again false r = goes (stays_cached l f r.0 r.1) r.3
       where
-        goes : (b : Bool) → MatchBool b ((rest : List Note) × (ns ≡ turn_notes l f r.0 r.1 ++ rest) × Turns m sp (after_notes l (turn_notes l f r.0 r.1)) fs
+        goes : (b : Bool) → MatchBool b
+            ((rest : List Note) × (ns ≡ turn_notes l f r.0 r.1 ++ rest) × Turns m sp (after_notes l (turn_notes l f r.0 r.1)) fs
             rest) (ns ≡ turn_notes l f r.0 r.1 ++ Dropped r.0 ∷ []) → Steady l (after_notes l ns)
         goes true q s k is =
             let here = turn-kept m sp l f r.0 r.1 sound grounded r.2 (ready-first l f fs ready) in
@@ -293,14 +297,16 @@ steady-seeks m sp l ns sound landed seeks = by (has_free m l) seeks
     by : (b : Bool) → MatchBool b (ns ≡ []) (IsPass m sp l ns) → Steady l (after_notes l ns)
     by true q s k is = subst (λ x. IsKeyOf (after_notes l x) s k) (sym q) is
     by false q s k is = subst (λ x. IsKeyOf (after_notes l x) s k) (sym (q.2 ∙ ap (λ x. x ++ q.1) none)) (goes (has_free m l)
-        (subst (λ x. let now = after_notes l x in MatchBool (has_free m now) (q.1 ≡ []) (Turns m sp now (frames_in_turn sp now) q.1)) none q.4) s k is)
+        (subst (λ x. let now = after_notes l x in MatchBool (has_free m now) (q.1 ≡ []) (Turns m sp now (frames_in_turn sp now) q.1))
+        none q.4) s k is)
       where
         none : q.0 ≡ []
         none = subst (λ fs. Completes l fs q.0) landed q.3
 
         goes : (b : Bool) → MatchBool b (q.1 ≡ []) (Turns m sp l (frames_in_turn sp l) q.1) → Steady l (after_notes l q.1)
         goes true e = λ s k is. subst (λ x. IsKeyOf (after_notes l x) s k) (sym e) is
-        goes false turns = steady-turns m sp l (frames_in_turn sp l) q.1 sound (λ r. ap (how_many (same_slot r)) landed) (all-ready m sp l sound) turns
+        goes false turns = steady-turns m sp l (frames_in_turn sp l) q.1 sound (λ r. ap (how_many (same_slot r)) landed)
+            (all-ready m sp l sound) turns
 
 -- ---- an entry of a cached slot becomes the frame
 
@@ -310,4 +316,5 @@ steady-mapped l t f q at pair s k is = subst (λ o. IsSomeAnd o (IsBehind l s)) 
   where
     by : (b : Bool) → same_key k q ≡ b → IsSomeAnd (cond b (Some (InFrame f false)) (entry l k)) (IsBehind l s)
     by false e = is
-    by true e = subst (λ x. 0 < pairs l x f) (sym (slot-is s t (subst (λ o. IsSomeAnd o (IsBehind l s)) (ap (entry l) (same_key-is k q e) ∙ at) is))) pair
+    by true e = subst (λ x. 0 < pairs l x f)
+        (sym (slot-is s t (subst (λ o. IsSomeAnd o (IsBehind l s)) (ap (entry l) (same_key-is k q e) ∙ at) is))) pair

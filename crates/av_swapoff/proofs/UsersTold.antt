@@ -26,7 +26,7 @@ use Rattle.av_mem.specs.Entries.{slot_behind, slot_behind_entry}
 use Rattle.av_mem.specs.Mem.{Serves, plain, setting_by, view}
 use Rattle.av_mem.specs.declared.mem.Mem.{Mem}
 use Rattle.av_reclaim.specs.Driver.{closing_of, view_of}
-use Rattle.av_swapoff.proofs.TurnsOffLaws.{frame-found}
+use Rattle.av_reclaim.proofs.StepMakes.{frame-found}
 use Rattle.av_swapoff.specs.System.{AreUsers, IsUser, slot_at}
 use Rattle.av_swapoff.specs.Users.{AreWithin, HasUsers, IsEntryWithin, IsUnused, IsWithin, Uses, user_at}
 use Rattle.av_swapoff.proofs.VisitLaws.{no-entry, no-table}
@@ -51,7 +51,8 @@ module _ (d : Device) (closing : Option ℕ) (k : Mem) (w : World) (r : Rmap) (l
       by (Some t) is = sym (behind-is t.entry) ∙ is
 
   uses-it : (s : Slot) (q : Key) → IsUser l s q → Uses (view k) s q
-  uses-it s q user = by ((view k).table q.0 q.1) (subst (λ o. IsSomeAnd o (λ e. behind l e ≡ Some s)) (sym (h.held.ledger.tables.entries q.0 q.1)) user)
+  uses-it s q user = by ((view k).table q.0 q.1)
+      (subst (λ o. IsSomeAnd o (λ e. behind l e ≡ Some s)) (sym (h.held.ledger.tables.entries q.0 q.1)) user)
     where
       by : (o : Option Plain) → IsSomeAnd (entry_of o) (λ e. behind l e ≡ Some s) → slot_behind (view k) o ≡ Some s
       by None is = absurd is
@@ -88,7 +89,8 @@ module _ (d : Device) (closing : Option ℕ) (k : Mem) (w : World) (r : Rmap) (l
     where
       named : (e : Entry) → entry l (p, page) ≡ Some e → IsEntryWithin (view k) e
       named Zero at = tt
-      named (InFrame f seen) at = sound.in_range f (let some = how_many-found (names_frame f) (p, page) l.entries (InFrame f seen) at (same-itself f) in omega (arith, some))
+      named (InFrame f seen) at =
+          sound.in_range f (let some = how_many-found (names_frame f) (p, page) l.entries (InFrame f seen) at (same-itself f) in omega (arith, some))
       named (InSlot s) at = tt
 
       by : (o : Option Plain) → entry_of o ≡ entry l (p, page) → IsWithin (view k) o

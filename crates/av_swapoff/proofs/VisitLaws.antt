@@ -105,7 +105,8 @@ module _ (v : View) (area : ℕ) where
           was old page q (inl same) at =
               let it : k ≡ q = same-key q (sym here ∙ ap (user_at (set users s.page (Some k))) (sym same) ∙ at) in
               ap (λ (q : Key). slot_behind v (v.table q.0 q.1)) (sym it) ∙ sym is
-              ∙ ap (λ s. Some s) (at-page area s (both (s.area == area) (nat_lt s.page (length users)) holds).0) ∙ ap (λ n. Some (slot_at area n)) (sym same)
+              ∙ ap (λ s. Some s) (at-page area s (both (s.area == area) (nat_lt s.page (length users)) holds).0)
+              ∙ ap (λ n. Some (slot_at area n)) (sym same)
           was old page q (inr other) at = old page q (sym (there page other) ∙ at)
 
   -- ---- several visits
@@ -190,7 +191,8 @@ module _ (k : Mem) (area : ℕ) where
   InGroup process from q = (q.0 ≡ process) × (from ≤ q.1) × (q.1 < from + 64)
 
   pub group-split : (process number page : ℕ) → IsFirst (entry_at k.tables process) (number * 64) page_bound page → (slot : ℕ) (q : Key)
-      → Before process ((page / 64 + 1) * 64) q → Uses (view k) (slot_at area slot) q → Before process (number * 64) q ⊎ InGroup process (page / 64 * 64) q
+      → Before process ((page / 64 + 1) * 64) q → Uses (view k) (slot_at area slot) q
+      → Before process (number * 64) q ⊎ InGroup process (page / 64 * 64) q
   group-split process number page first slot q here uses = by (cases_lt q.1 (number * 64)) (cases_lt q.1 (page / 64 * 64))
     where
       at : IsGroupFrom number page 64
@@ -238,7 +240,8 @@ module _ (k : Mem) (area : ℕ) where
       so-long : length users ≡ pages
       so-long = visits.long ∙ none-long pages start fresh
 
-      by : (page : ℕ) (q : Key) → page < length users → is_some ((view k).areas q.0) ≡ true → Uses (view k) (slot_at area page) q → (q.0 < n) ⊎ (n ≤ q.0)
+      by : (page : ℕ) (q : Key) → page < length users → is_some ((view k).areas q.0) ≡ true → Uses (view k) (slot_at area page) q
+          → (q.0 < n) ⊎ (n ≤ q.0)
           → is_some (user_at users page) ≡ true
       by page q below lives uses (inl low) = visits.finds page q (subst (λ m. page < m) visits.long below) low uses
       by page q below lives uses (inr high) = absurd (none-there page q (no-table k q (none q.0 high lives)) uses)

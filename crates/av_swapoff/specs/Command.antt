@@ -53,7 +53,7 @@ pub record HasEmptied (d d' : Device) (old new : Mem) (w : World) (r : Rmap) (l 
       (free_of (view old)) (free_of (view new))
   pub same : IsSameDevice d d'
   pub count : frame_count new ≡ frame_count old
-  pub faults : RoseBy (fails added + lost_by end) d.faults d'.faults
+  pub failures : RoseBy (fails added + lost_by end) d.failures d'.failures
 
 -- ---- it goes off, or not
 
@@ -76,5 +76,5 @@ pub record HasTurnedOff (d d' : Device) (old new : Mem) (w : World) (r : Rmap) (
   pub turns_off : TurnsOff (setting_by d old) w l area (swapoff_events area added end)
       (close_answer (close_of end)) []
   pub done : HasDoneWhile (Some area) d d' old new w r l (swapoff_events area added end)
-  pub faults : RoseBy (fails added + lost_by end) d.faults d'.faults
+  pub failures : RoseBy (fails added + lost_by end) d.failures d'.failures
   pub failed : failed_by end ≤ fails added

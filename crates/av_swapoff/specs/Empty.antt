@@ -14,7 +14,6 @@ use Rattle.av_swapoff.specs.Slot.{Fetches}
 use Rattle.av_swapoff.specs.System.{IsUser, slot_at}
 use Rattle.av_swapoff.specs.declared.empty.EmptyEnd.{EmptyEnd}
 use Rattle.av_swapoff.specs.declared.empty.EmptyEnd.TheVariants.{Empty, NoFrame, NoPage}
-use Rattle.av_swapoff.specs.declared.slot.FetchEnd.{FetchEnd}
 use Rattle.av_swapoff.specs.declared.slot.FetchEnd.TheVariants as fetched
 
 -- ---- the end
@@ -37,24 +36,37 @@ failed_by Empty = 0
 failed_by (NoFrame out) = out.fault
 failed_by NoPage = 0
 
--- ---- one page
-
--- nothing is in flight; and where the slot is in use, this is a user of it
-pub record MayEmpty (s : Slot) (key : Option Key) (l : Ledger) : Type 0 where
-  pub landed : l.flight ≡ []
-  pub user : 0 < slot_count l s → IsSomeAnd key (IsUser l s)
-
--- why the area can't be emptied, by what was done for a page
-abbrev pub end_of : FetchEnd → Option EmptyEnd
-end_of (fetched.In f) = None
-end_of (fetched.NoFrame out) = Some (NoFrame out)
-end_of fetched.Unread = Some NoPage
+-- ---- one slot
 
 -- that the slot can't be emptied, to this end
 abbrev pub IsStuck : Setting → Option ℕ → Slot → EmptyEnd → Ledger → List Note → Type 0
 IsStuck m closing s Empty l notes = ⊥
 IsStuck m closing s (NoFrame out) l notes = Fetches m closing s (fetched.NoFrame out) l notes
 IsStuck m closing s NoPage l notes = Fetches m closing s fetched.Unread l notes
+
+-- a slot in use was emptied, or why it can't be
+abbrev pub EmptiesSlot : Setting → Option ℕ → Slot → Option EmptyEnd → Ledger → List Note → Type 0
+EmptiesSlot m closing s None l notes = IsEmptied m (spares closing None) l s notes
+EmptiesSlot m closing s (Some end) l notes = IsStuck m closing s end l notes
+
+-- how often the device failed beside the `fail` notes
+abbrev pub lost_of : Option EmptyEnd → ℕ
+lost_of None = 0
+lost_of (Some end) = lost_by end
+
+-- the same, and the device failed at least so often
+abbrev pub EmptiesSlotBy : SystemView → SystemView → Slot → Option EmptyEnd → Ledger → List Note
+    → Type 0
+EmptiesSlotBy old new s end l notes =
+    EmptiesSlot old.setting old.closing s end l notes
+    × RoseBy (fails notes + lost_of end) old.failures new.failures
+
+-- ---- one page
+
+-- nothing is in flight; and where the slot is in use, this is a user of it
+pub record MayEmpty (s : Slot) (key : Option Key) (l : Ledger) : Type 0 where
+  pub landed : l.flight ≡ []
+  pub user : 0 < slot_count l s → IsSomeAnd key (IsUser l s)
 
 -- the slot is not in use, or it was emptied; or why it can't be
 abbrev pub EmptiesPage : Setting → Option ℕ → Slot → Option EmptyEnd → Ledger → List Note → Type 0
@@ -64,17 +76,12 @@ EmptiesPage m closing s None l notes =
 EmptiesPage m closing s (Some end) l notes =
     (0 < slot_count l s) × IsStuck m closing s end l notes
 
--- how often the device failed beside the `fail` notes
-abbrev pub lost_of : Option EmptyEnd → ℕ
-lost_of None = 0
-lost_of (Some end) = lost_by end
-
 -- the same, and the device failed at least so often
 abbrev pub EmptiesPageBy : SystemView → SystemView → Slot → Option EmptyEnd → Ledger → List Note
     → Type 0
 EmptiesPageBy old new s end l notes =
     EmptiesPage old.setting old.closing s end l notes
-    × RoseBy (fails notes + lost_of end) old.faults new.faults
+    × RoseBy (fails notes + lost_of end) old.failures new.failures
 
 -- ---- all pages
 
@@ -99,7 +106,7 @@ pub record EmptiesEach (m : Setting) (area : ℕ) (end : EmptyEnd) (l : Ledger) 
 abbrev pub EmptiesEachBy : SystemView → SystemView → ℕ → EmptyEnd → Ledger → List Note → Type 0
 EmptiesEachBy old new area end l notes =
     EmptiesEach old.setting area end l notes
-    × RoseBy (fails notes + lost_by end) old.faults new.faults
+    × RoseBy (fails notes + lost_by end) old.failures new.failures
 
 -- all of flight is completed, and then the slots are emptied, each the least in use, to this end
 pub record EmptiesAll (m : Setting) (area : ℕ) (end : EmptyEnd) (l : Ledger) (notes : List Note)
@@ -117,4 +124,4 @@ pub record EmptiesAll (m : Setting) (area : ℕ) (end : EmptyEnd) (l : Ledger) (
 abbrev pub EmptiesAllBy : SystemView → SystemView → ℕ → EmptyEnd → Ledger → List Note → Type 0
 EmptiesAllBy old new area end l notes =
     EmptiesAll old.setting area end l notes
-    × RoseBy (fails notes + lost_by end) old.faults new.faults
+    × RoseBy (fails notes + lost_by end) old.failures new.failures

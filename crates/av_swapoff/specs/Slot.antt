@@ -10,7 +10,7 @@ use Rattle.av_trace.specs.declared.note.Note.TheVariants.{Loaded, Mapped}
 use Rattle.av_plain.specs.Event.{after_notes}
 use Rattle.av_plain.specs.Ledger.{InSlot, Key, Ledger, Setting, entry, frame_at, has_free, is_free, key_cmp, slot_count}
 use Rattle.av_plain.specs.Pass.{Seeks, fails, out_of}
-use Rattle.av_plain.specs.Swapoff.{IsEmptied, IsFetched, map_notes}
+use Rattle.av_plain.specs.Swapoff.{IsFetched, map_notes}
 use Rattle.av_evict.specs.Steps.{spares}
 use Rattle.av_evict.specs.System.{SystemView}
 use Rattle.av_swapoff.specs.System.{IsUser}
@@ -61,7 +61,7 @@ unread_of Unread = 1
 abbrev pub FetchesBy : SystemView → SystemView → Slot → FetchEnd → Ledger → List Note → Type 0
 FetchesBy old new s fetched l notes =
     Fetches old.setting old.closing s fetched l notes
-    × RoseBy (fails notes + unread_of fetched) old.faults new.faults
+    × RoseBy (fails notes + unread_of fetched) old.failures new.failures
 
 -- the frame caches the slot, and nothing is in flight
 pub record IsIn (s : Slot) (f : ℕ) (l : Ledger) : Type 0 where
@@ -90,14 +90,3 @@ pub record MayMapAll (s : Slot) (f : ℕ) (keys : List Key) (l : Ledger) : Type 
 -- the notes of these
 abbrev pub mapped_notes : ℕ → List Key → List Note
 mapped_notes f keys = map (λ (k : Key). Mapped k.0 (address_of k.1) f) keys
-
--- a slot was emptied, or why it can't be
-abbrev pub Empties : Setting → Option ℕ → Slot → FetchEnd → Ledger → List Note → Type 0
-Empties m closing s (In f) l notes = IsEmptied m (spares closing None) l s notes
-Empties m closing s (NoFrame out) l notes = Fetches m closing s (NoFrame out) l notes
-Empties m closing s Unread l notes = Fetches m closing s Unread l notes
-
-abbrev pub EmptiesBy : SystemView → SystemView → Slot → FetchEnd → Ledger → List Note → Type 0
-EmptiesBy old new s fetched l notes =
-    Empties old.setting old.closing s fetched l notes
-    × RoseBy (fails notes + unread_of fetched) old.faults new.faults

@@ -2,9 +2,10 @@
 
 ghost use Rattle.std.specs.Prelude.{◌≡◌, ◌<◌, ◌^◌, length, IfOk, Some, Bool, false};
 ghost use Rattle.av_evict.specs.System.{Always, Gives, IsAt, Stays};
-ghost use Rattle.av_swapoff.specs.Empty.{EmptiesAllBy, EmptiesEachBy, EmptiesPageBy, MayEmpty, MayEmptyEach, end_of};
+ghost use Rattle.av_swapoff.specs.Empty.{EmptiesAllBy, EmptiesEachBy, EmptiesPageBy, MayEmpty};
+ghost use Rattle.av_swapoff.specs.Empty.{MayEmptyEach};
 
-use crate::slot::{FetchEnd, empty_slot};
+use crate::slot::empty_slot;
 use crate::system::SlotSystem;
 use av_base::Slot;
 use av_evict::complete;
@@ -96,17 +97,6 @@ fn empty_page<S: SlotSystem>(
     let Some(user) = user else {
         return Ok(None);
     };
-    let fetched = empty_slot(alloc, system, slot, user, notes)?;
-    Ok(end_by(fetched))
-}
-
-// Why the area cannot be emptied, by what was done for a page.
-fn end_by(fetched: FetchEnd) -> Option<EmptyEnd>
-    ensures { result ≡ end_of fetched }
-{
-    match fetched {
-        FetchEnd::In(_) => None,
-        FetchEnd::NoFrame(out) => Some(EmptyEnd::NoFrame(out)),
-        FetchEnd::Unread => Some(EmptyEnd::NoPage),
-    }
+    let stuck = empty_slot(alloc, system, slot, user, notes)?;
+    Ok(stuck)
 }

@@ -4,8 +4,11 @@ ghost use Rattle.std.specs.List.{AllByRecursion};
 ghost use Rattle.std.specs.Prelude.{◌≡◌, ◌<◌, IfOk, OnOk, Bool, false};
 ghost use Rattle.av_base.specs.Limits.{top_page};
 ghost use Rattle.av_evict.specs.System.{Adds, Gives, IsAt, Stays};
-ghost use Rattle.av_swapoff.specs.Slot.{EmptiesBy, FetchesBy, IsIn, MapsBack, MayFetch, MayMapAll, fetched_of, mapped_notes};
+ghost use Rattle.av_swapoff.specs.Empty.{EmptiesSlotBy};
+ghost use Rattle.av_swapoff.specs.Slot.{FetchesBy, IsIn, MapsBack, MayFetch, MayMapAll, fetched_of};
+ghost use Rattle.av_swapoff.specs.Slot.{mapped_notes};
 
+use crate::empty::EmptyEnd;
 use crate::steps::{load, map};
 use crate::system::SlotSystem;
 use av_base::Slot;
@@ -15,7 +18,7 @@ use std::alloc::{AllocError, Global};
 
 /// What was done for the page of a slot.
 #[derive(Clone, Copy, Drop, Debug, PartialEq, Eq)]
-pub enum FetchEnd {
+enum FetchEnd {
     /// It is in this frame, which caches it.
     In(u32),
     /// No frame could be had for it, and why.
@@ -25,28 +28,28 @@ pub enum FetchEnd {
 }
 
 /// Empties a slot in use: its page is fetched, each entry that names it becomes the frame, and it
-/// is dropped. `user` is a user of it.
+/// is dropped. `user` is a user of it. Tells why it cannot, where the page can't be had.
 pub fn empty_slot<S: SlotSystem>(
     alloc: Global,
     system: &mut S,
     slot: Slot,
     user: (u16, u64),
     notes: &mut Notes,
-) -> Result<FetchEnd, AllocError>
+) -> Result<Option<EmptyEnd>, AllocError>
     requires { IsAt (S.view system.old false) (MayFetch slot user) }
-    ensures gives { IfOk result (λ fetched. (told : Bool) → let old = S.view system.old told in
+    ensures gives { IfOk result (λ end. (told : Bool) → let old = S.view system.old told in
         let new = S.view system.new told in
-        Gives old new notes.old notes.new (MayFetch slot user) (EmptiesBy old new slot fetched)) }
+        Gives old new notes.old notes.new (MayFetch slot user) (EmptiesSlotBy old new slot end)) }
     ensures stays { (told : Bool) → Stays (S.view system.old told) (S.view system.new told) }
 {
     let fetched = fetch(system, slot, user, notes)?;
     match fetched {
         FetchEnd::In(frame) => {
             map_back(alloc, system, slot, frame, notes)?;
-            Ok(FetchEnd::In(frame))
+            Ok(None)
         }
-        FetchEnd::NoFrame(out) => Ok(FetchEnd::NoFrame(out)),
-        FetchEnd::Unread => Ok(FetchEnd::Unread),
+        FetchEnd::NoFrame(out) => Ok(Some(EmptyEnd::NoFrame(out))),
+        FetchEnd::Unread => Ok(Some(EmptyEnd::NoPage)),
     }
 }
 

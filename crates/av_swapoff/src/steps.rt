@@ -51,7 +51,7 @@ pub fn load<S: SlotSystem>(
         Gives old (S.view system.new told) notes.old notes.new (MayLoad old.setting slot user)
         (IsLoaded old.setting slot frame)) }
     ensures cause { IfOk result (λ frame. frame ≡ None → (told : Bool) →
-        Rose (S.view system.old told).faults (S.view system.new told).faults) }
+        Rose (S.view system.old told).failures (S.view system.new told).failures) }
     ensures stays { (told : Bool) → Stays (S.view system.old told) (S.view system.new told) }
 {
     let Some(frame) = system.load(slot, user) else {

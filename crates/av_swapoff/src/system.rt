@@ -1,6 +1,7 @@
 //! A memory system that can also bring the pages of slots back to their entries.
 
-ghost use Rattle.std.specs.Prelude.{◌≡◌, ◌∷◌, ◌<◌, ◌^◌, [], length, nat_lt, None, IfOk, IfSome, Bool, true, false};
+ghost use Rattle.std.specs.Prelude.{◌≡◌, ◌∷◌, ◌<◌, ◌^◌, [], length, nat_lt, None, IfOk, IfSome};
+ghost use Rattle.std.specs.Prelude.{Bool, true, false};
 ghost use Rattle.std.specs.List.{AllByRecursion};
 ghost use Rattle.av_base.specs.Limits.{top_page};
 ghost use Rattle.av_base.specs.Page.{address_of};
@@ -57,6 +58,6 @@ pub trait SlotSystem: System {
             Makes old (Self.view self.new told) (MayLoad old.setting slot user)
             (load_notes slot result) }
         ensures cause { result ≡ None → (told : Bool) →
-            Rose (Self.view self.old told).faults (Self.view self.new told).faults }
+            Rose (Self.view self.old told).failures (Self.view self.new told).failures }
         ensures stays { (told : Bool) → Stays (Self.view self.old told) (Self.view self.new told) };
 }

@@ -5,7 +5,8 @@ ghost use Rattle.av_pagetable.specs.Table.{group_size, page_bound};
 ghost use Rattle.av_mem.specs.Entries.{HasAll, slot_behind};
 ghost use Rattle.av_mem.specs.Mem.{plain, view};
 ghost use Rattle.av_swapoff.specs.System.{slot_at};
-ghost use Rattle.av_swapoff.specs.Users.{AreWithin, HasUsers, IsUnused, IsWithin, Visits, with_user};
+ghost use Rattle.av_swapoff.specs.Users.{AreWithin, HasUsers, IsUnused, IsWithin, Visits};
+ghost use Rattle.av_swapoff.specs.Users.{with_user};
 
 use av_base::Slot;
 use av_mem::Mem;

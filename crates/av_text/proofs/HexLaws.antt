@@ -100,7 +100,8 @@ stored = record {
       subst (λ (y : List ℕ × List ℕ). (bytes ≡ words_onto (one_word hex_text y.0) y.1) × IsData y.0) same (whole, is.1);
   again = λ bytes rest is end.
       let text : words_onto (one_word hex_text bytes) rest ≡ (32 ∷ []) ++ hex_text bytes =
-      word_onto (hex_text bytes) rest ∙ ap (λ (t : List ℕ). 32 ∷ (hex_text bytes ++ t)) end ∙ ap (λ (t : List ℕ). 32 ∷ t) (append-nil (hex_text bytes)) in
+      word_onto (hex_text bytes) rest ∙ ap (λ (t : List ℕ). 32 ∷ (hex_text bytes ++ t)) end
+      ∙ ap (λ (t : List ℕ). 32 ∷ t) (append-nil (hex_text bytes)) in
       rw (text, after-again (32 ∷ []) (hex_text bytes), data_of-again bytes is, end) refl;
   ends = λ rest end. subst IsRest (sym end) tt;
 }
@@ -136,10 +137,12 @@ unfolding pairs_of
 no_digits h l rest found f = ap (with_front found) (cond-false _ _ _ f)
 
 -- the next pair, of which the digits are worth v and w
-pub told_next : (word found : List ℕ) (spelled spelled' : Bool) (i v w : ℕ) → i < length found → 2 * i + 1 < length word → v ≡ worth (get_or word (2 * i) 0) →
+pub told_next : (word found : List ℕ) (spelled spelled' : Bool) (i v w : ℕ) → i < length found → 2 * i + 1 < length word
+    → v ≡ worth (get_or word (2 * i) 0) →
     w ≡ worth (get_or word (2 * i + 1) 0) →
     spelled' ≡ ((spelled && ltb v 16) && ltb w 16) → Told word found spelled i → Told word (set found i (16 * (v % 16) + w % 16)) spelled' (i + 1)
-told_next word found false spelled' i v w lt within high low is t = subst (λ (s : Bool). Told word (set found i (16 * (v % 16) + w % 16)) s (i + 1)) (sym is) t
+told_next word found false spelled' i v w lt within high low is t =
+    subst (λ (s : Bool). Told word (set found i (16 * (v % 16) + w % 16)) s (i + 1)) (sym is) t
 told_next word found true spelled' i v w lt within high low is t =
     let h : ℕ = get_or word (2 * i) 0 in
     let l : ℕ = get_or word (2 * i + 1) 0 in
@@ -147,7 +150,8 @@ told_next word found true spelled' i v w lt within high low is t =
     let same : spelled' ≡ is_pair h l = is ∙ (λ j. ltb (high j) 16 && ltb (low j) 16) in
     let next : 2 * i + 1 + 1 ≡ 2 * (i + 1) = omega arith in
     let parts : drop (2 * i) word ≡ h ∷ l ∷ drop (2 * (i + 1)) word =
-    drop_more word (2 * i) 0 (omega arith) ∙ ap (λ (t : List ℕ). h ∷ t) (drop_more word (2 * i + 1) 0 within ∙ ap (λ (k : ℕ). l ∷ drop k word) next) in
+    drop_more word (2 * i) 0 (omega arith)
+    ∙ ap (λ (t : List ℕ). h ∷ t) (drop_more word (2 * i + 1) 0 within ∙ ap (λ (k : ℕ). l ∷ drop k word) next) in
     let so_far : pairs_of word ≡ with_front (take i found) (pairs_of (h ∷ l ∷ drop (2 * (i + 1)) word)) = t
     ∙ ap (λ (w : List ℕ). with_front (take i found) (pairs_of w)) parts in
     elim (cases_Bool (is_pair h l)) [
@@ -156,7 +160,8 @@ told_next word found true spelled' i v w lt within high low is t =
           let first = ltb-true (worth h) 16 both.0 in
           let second = ltb-true (worth l) 16 both.1 in
           let byte : b ≡ pair h l = omega arith in
-          let front : take (i + 1) (set found i b) ≡ take i found ++ pair h l ∷ [] = take_more_set found i b lt ∙ ap (λ (x : ℕ). take i found ++ x ∷ []) byte in
+          let front : take (i + 1) (set found i b) ≡ take i found ++ pair h l ∷ [] = take_more_set found i b lt
+          ∙ ap (λ (x : ℕ). take i found ++ x ∷ []) byte in
           so_far ∙ two_digits h l (drop (2 * (i + 1)) word) (take i found) p
           ∙ ap (λ (f : List ℕ). with_front f (pairs_of (drop (2 * (i + 1)) word))) (sym front)
           ∙ sym (cond-true spelled' _ _ (same ∙ p))

@@ -147,7 +147,8 @@ onto-append base (suc k) n acc =
     elim (cases_eq (n / base) 0) [
       | inl z ↦ onto-last base k n acc z ∙ ap (λ (t : List ℕ). t ++ acc) (sym (onto-last base k n [] z))
       | inr z ↦
-          onto-more base k n acc z ∙ onto-append base k (n / base) (glyph base n ∷ acc) ∙ sym (append_assoc (onto base k (n / base) []) (glyph base n ∷ []) acc)
+          onto-more base k n acc z ∙ onto-append base k (n / base) (glyph base n ∷ acc)
+          ∙ sym (append_assoc (onto base k (n / base) []) (glyph base n ∷ []) acc)
           ∙ ap (λ (t : List ℕ). t ++ acc) (sym (onto-more base k n [] z ∙ onto-append base k (n / base) (glyph base n ∷ [])))
     ]
 
@@ -157,7 +158,8 @@ halved base k n b h = omega (arith, pow-suc 2 k, b.half n)
 -- more steps than digits change nothing
 onto-fuel : (base j k n : ℕ) → IsBase base → n < 2 ^ suc j → n < 2 ^ suc k → onto base (suc j) n [] ≡ onto base (suc k) n []
 onto-fuel base zero k n b p q = let z : n / base ≡ 0 = omega (arith, b.half n) in onto-last base zero n [] z ∙ sym (onto-last base k n [] z)
-onto-fuel base (suc j) zero n b p q = let z : n / base ≡ 0 = omega (arith, b.half n) in onto-last base (suc j) n [] z ∙ sym (onto-last base zero n [] z)
+onto-fuel base (suc j) zero n b p q = let z : n / base ≡ 0 = omega (arith, b.half n) in onto-last base (suc j) n [] z
+    ∙ sym (onto-last base zero n [] z)
 onto-fuel base (suc j) (suc k) n b p q =
     elim (cases_eq (n / base) 0) [
       | inl z ↦ onto-last base (suc j) n [] z ∙ sym (onto-last base (suc k) n [] z)
@@ -179,7 +181,8 @@ spell-more base n b large small =
     ∙ ap (λ (t : List ℕ). t ++ glyph base n ∷ []) (onto-fuel base 62 63 (n / base) b (omega (arith, b.half n)) (omega (arith, b.half n)))
 
 -- one more digit
-spell-push : (base n c : ℕ) → IsBase base → 0 < n → worth c < base → n * base + worth c < 2 ^ 64 → spell base (n * base + worth c) ≡ spell base n ++ c ∷ []
+spell-push : (base n c : ℕ) → IsBase base → 0 < n → worth c < base → n * base + worth c < 2 ^ 64
+    → spell base (n * base + worth c) ≡ spell base n ++ c ∷ []
 spell-push base n c b some digit small =
     let front = b.front n (worth c) digit in
     let last : glyph base (n * base + worth c) ≡ c = ap (digit_glyph false) (b.last n (worth c) digit) ∙ worth-found c (omega (arith, b.most)) in
@@ -343,7 +346,8 @@ starts-again base n rest b small h =
           ap (λ (s : List ℕ). starts_number base (s ++ rest)) text ∙ starts-zero base rest b h (glyph_is_digit base 0 b (omega (arith, b.some)))
       | inr ne ↦
           ap (λ (s : List ℕ). starts_number base (s ++ rest)) r.parts
-          ∙ starts-some base (digit_glyph false r.first) (r.others ++ rest) (glyph_is_digit base r.first b r.digit) (λ e. ne (r.plain (glyph_zero r.first e)))
+          ∙ starts-some base (digit_glyph false r.first) (r.others ++ rest) (glyph_is_digit base r.first b r.digit)
+          (λ e. ne (r.plain (glyph_zero r.first e)))
     ]
 
 stops : (base n : ℕ) (rest : List ℕ) → IsBase base → IsRest rest → digits_from base n rest ≡ Some (n, rest)
@@ -434,7 +438,8 @@ in-again low high n word small within is =
 pub in-none : (low high n : ℕ) (word : List ℕ) → high < 2 ^ 64 → IsNumberIn low high n → word ≡ decimal n → None ≡ number_from 10 word → ⊥
 in-none low high n word small within is none = let again = in-again low high n word small within is in cc
 
-pub in-same : (low high n m : ℕ) (word rest : List ℕ) → high < 2 ^ 64 → IsNumberIn low high n → word ≡ decimal n → Some (m, rest) ≡ number_from 10 word →
+pub in-same : (low high n m : ℕ) (word rest : List ℕ) → high < 2 ^ 64 → IsNumberIn low high n → word ≡ decimal n
+    → Some (m, rest) ≡ number_from 10 word →
     (m ≡ n) × (rest ≡ [])
 in-same low high n m word rest small within is e =
     let same : (m, rest) ≡ (n, []) = same_Some _ _ (e ∙ in-again low high n word small within is) in
@@ -457,7 +462,8 @@ unfolding digits_from
 at_too_large base n [] h digit large = absurd (omega arith)
 at_too_large base n (d ∷ rest) h digit large = cond-true _ _ _ (lt-ltb _ _ digit) ∙ cond-false _ _ _ (le-ltb _ _ large)
 
-pub at_digit : (base n m : ℕ) (rest : List ℕ) → 1 ≤ length rest → worth (get_or rest 0 0) < base → m ≡ n * base + worth (get_or rest 0 0) → m < 2 ^ 64 →
+pub at_digit : (base n m : ℕ) (rest : List ℕ) → 1 ≤ length rest → worth (get_or rest 0 0) < base
+    → m ≡ n * base + worth (get_or rest 0 0) → m < 2 ^ 64 →
     digits_from base m (take (length rest - 1) (drop 1 rest)) ≡ digits_from base n rest
 unfolding digits_from
 at_digit base n m [] h digit is small = absurd (omega arith)

@@ -61,8 +61,10 @@ pub record IsNamed {A : Type 0} (Fits : List ℕ × A → Type 0) (bytes : List 
   pub is : bytes ≡ name ++ x.1
   pub fits : Fits (name, x.0)
 
-first_of-found : {A : Type 0} (Fits : List ℕ × A → Type 0) (name bytes : List ℕ) (a : A) (o : Option (List ℕ)) (others : Option (A × List ℕ)) (x : A × List ℕ) →
-    ((rest : List ℕ) → o ≡ Some rest → bytes ≡ name ++ rest) → Fits (name, a) → (others ≡ Some x → IsNamed Fits bytes x) → first_of a o others ≡ Some x →
+first_of-found : {A : Type 0} (Fits : List ℕ × A → Type 0) (name bytes : List ℕ) (a : A) (o : Option (List ℕ)) (others : Option (A × List ℕ))
+    (x : A × List ℕ) →
+    ((rest : List ℕ) → o ≡ Some rest → bytes ≡ name ++ rest) → Fits (name, a) → (others ≡ Some x → IsNamed Fits bytes x)
+    → first_of a o others ≡ Some x →
     IsNamed Fits bytes x
 first_of-found Fits name bytes a None others x is fits next e = next e
 first_of-found Fits name bytes a (Some rest) others x is fits next e =
@@ -73,7 +75,8 @@ pub named-found : {A : Type 0} (Fits : List ℕ × A → Type 0) (xs : List (Lis
     IsNamed Fits bytes x
 named-found Fits [] bytes x all e = absurd cc
 named-found Fits (y ∷ ys) bytes x all e =
-    first_of-found Fits y.0 bytes y.1 (after y.0 bytes) (by_name ys bytes) x (λ rest. after-found y.0 bytes rest) all.0 (named-found Fits ys bytes x all.1) e
+    first_of-found Fits y.0 bytes y.1 (after y.0 bytes) (by_name ys bytes) x (λ rest. after-found y.0 bytes rest) all.0
+    (named-found Fits ys bytes x all.1) e
 
 -- ---- readers
 

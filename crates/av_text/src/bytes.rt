@@ -1,6 +1,7 @@
 //! A list of bytes, which contracts see as the list.
 
-ghost use Rattle.std.specs.Prelude.{◌≡◌, ℕ, ◌%◌, List, [], ◌++◌, if◌then◌else◌, length, Some, None, IfOk, OnOk, OnErr};
+ghost use Rattle.std.specs.Prelude.{◌≡◌, ℕ, ◌%◌, List, [], ◌++◌, if◌then◌else◌, length, Some, None};
+ghost use Rattle.std.specs.Prelude.{IfOk, OnOk, OnErr};
 ghost use Rattle.av_text.specs.Hex.{hex_text, pairs_of};
 
 use crate::hex::{decode, encode};

@@ -1,6 +1,7 @@
 //! Addresses and bytes in lower-case hexadecimal digits.
 
-ghost use Rattle.std.specs.Prelude.{◌≡◌, [], ◌+◌, ◌*◌, ◌<◌, ◌++◌, ◌&&◌, nat_lt, false, if◌then◌else◌, length, take, option_map, Some, None, IfOk};
+ghost use Rattle.std.specs.Prelude.{◌≡◌, [], ◌+◌, ◌*◌, ◌<◌, ◌++◌, ◌&&◌, nat_lt, false};
+ghost use Rattle.std.specs.Prelude.{if◌then◌else◌, length, take, option_map, Some, None, IfOk};
 ghost use Rattle.std.specs.Fmt.{digit_glyph};
 ghost use Rattle.av_text.specs.Hex.{hex as digits_of, hex_text, pairs_of, data_of, data_at};
 ghost use Rattle.av_text.specs.Word.{Adds, field};

@@ -2,7 +2,9 @@
 
 ghost use Rattle.std.specs.Prelude.{◌≡◌, ℕ, ◌<◌, ◌≤◌, option_map, IfSome, IfNone};
 ghost use Rattle.std.specs.Fmt.{decimal as digits_of};
-ghost use Rattle.av_text.specs.Number.{IsNumberIn, worth, starts_number, digits_from, number_from, number_at, decimal_at, process_at, len_at, address_at, entry_at};
+ghost use Rattle.av_text.specs.Number.{IsNumberIn, worth, starts_number, digits_from, number_from};
+ghost use Rattle.av_text.specs.Number.{number_at, decimal_at, process_at, len_at, address_at};
+ghost use Rattle.av_text.specs.Number.{entry_at};
 ghost use Rattle.av_text.specs.Word.{Adds, field};
 
 use crate::bytes::Bytes;

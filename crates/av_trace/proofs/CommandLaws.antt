@@ -1,9 +1,8 @@
 -- Each command: what is read is in range and on its line, and what is in range is read from its line.
-use Rattle.std.proofs.Common.{◌≡◌, ℕ, true, List, [], ◌∷◌, ◌++◌, append-nil, Option, Some, refl, sym, ap, subst, ◌∙◌, lit<}
+use Rattle.std.proofs.Common.{◌≡◌, ℕ, List, [], ◌∷◌, ◌++◌, append-nil, Option, Some, refl, sym, ap, subst, ◌∙◌, lit<}
 use Rattle.std.specs.Prelude.{◌-◌, ◌^◌, codes, Result, Ok, Err, OnErr}
 use Rattle.std.specs.List.{flat_map, AllByRecursion}
 use Rattle.std.specs.Fmt.{decimal}
-use Rattle.std.proofs.lemmas.Bool.{false≢true}
 use Rattle.std.proofs.lemmas.Option.{same_Some}
 use Rattle.av_base.specs.Limits.{most_frames}
 use Rattle.av_base.specs.Page.{page_size}
@@ -12,17 +11,19 @@ use Rattle.av_trace.specs.declared.command.Command.{Command}
 use Rattle.av_trace.specs.declared.command.Command.TheVariants as commands
 use Rattle.av_trace.specs.declared.place.Place.{Place}
 use Rattle.av_trace.specs.declared.mode.Mode.{Mode}
-use Rattle.av_trace.specs.Command.{IsAreaNumber, IsFrameCount, IsInRange, line_of, at_end, whole, no_words, fork_words, range_words, mmap_words, mprotect_words, mremap_words, read_words, write_words, CommandReader, fork_at, mmap_at, munmap_at, mprotect_at, mremap_at, read_at, write_at, area_at, frames_at, rmap_at, entry_of, slot_at, slot_words, readers, command_of}
+use Rattle.av_trace.specs.Command.{IsAreaNumber, IsFrameCount, IsInRange, line_of, at_end, whole, no_words, fork_words, range_words, mmap_words, mprotect_words, mremap_words, read_words, write_words, CommandReader, fork_at, mmap_at, munmap_at, mprotect_at, mremap_at, read_at, write_at, area_at, frames_at, rmap_at, entry_of, swapon_words, swapon_at, slot_at, slot_words, readers, command_of}
 use Rattle.av_text.specs.Hex.{hex, hex_text, IsData}
 use Rattle.av_text.specs.Number.{IsNumberIn, IsProcess, IsWide, process_at}
 use Rattle.av_trace.specs.Place.{IsPlace, place_words}
 use Rattle.av_trace.specs.Mode.{IsMode, mode_words}
+use Rattle.av_trace.specs.Priority.{IsPriority, priority_words}
 use Rattle.av_text.specs.Prot.{prot_text}
 use Rattle.av_text.specs.Word.{field, line, ◌>>=◌, BeginsWith, Reader, after}
 use Rattle.av_text.proofs.HexLaws.{stored}
 use Rattle.av_text.proofs.NumberLaws.{processes, lengths, entries, reads_decimal}
 use Rattle.av_trace.proofs.ModeLaws.{last_mode}
 use Rattle.av_trace.proofs.PlaceLaws.{last_place}
+use Rattle.av_trace.proofs.PriorityLaws.{last_priority}
 use Rattle.av_text.proofs.ProtLaws.{prots}
 use Rattle.av_text.proofs.WordLaws.{bind_some, after-found, named-found, IsEnd, IsRest, words_onto, Reads, reads_both}
 
@@ -50,7 +51,8 @@ mprotects : Reads mprotect_words (λ (x : ((ℕ × ℕ) × ℕ) × Prot). ((IsPr
     (λ (x : ((ℕ × ℕ) × ℕ) × Prot). decimal x.0.0.0 ∷ hex x.0.0.1 ∷ decimal x.0.1 ∷ prot_text x.1 ∷ []) IsRest
 mprotects = reads_both ranges prots
 
-mremaps : Reads mremap_words (λ (x : (((ℕ × ℕ) × ℕ) × ℕ) × Mode). (((IsProcess x.0.0.0.0 × IsWide x.0.0.0.1) × IsWide x.0.0.1) × IsWide x.0.1) × IsMode x.1)
+mremaps : Reads mremap_words
+    (λ (x : (((ℕ × ℕ) × ℕ) × ℕ) × Mode). (((IsProcess x.0.0.0.0 × IsWide x.0.0.0.1) × IsWide x.0.0.1) × IsWide x.0.1) × IsMode x.1)
     (λ (x : (((ℕ × ℕ) × ℕ) × ℕ) × Mode). decimal x.0.0.0.0 ∷ hex x.0.0.0.1 ∷ decimal x.0.0.1 ∷ decimal x.0.1 ∷ mode_words x.1) IsEnd
 mremaps = reads_both (reads_both ranges lengths) last_mode
 
@@ -67,6 +69,9 @@ counts = reads_decimal 1 most_frames (lit< tt)
 
 swap_areas : Reads area_at IsAreaNumber (λ (k : ℕ). decimal k ∷ []) IsRest
 swap_areas = reads_decimal 0 7 (lit< tt)
+
+swapons : Reads swapon_words (λ (x : ℕ × Option ℕ). IsAreaNumber x.0 × IsPriority x.1) (λ (x : ℕ × Option ℕ). decimal x.0 ∷ priority_words x.1) IsEnd
+swapons = reads_both swap_areas last_priority
 
 slots : Reads slot_words (λ (x : ℕ × ℕ). IsAreaNumber x.0 × IsNumberIn 0 (2 ^ 32 - 1) x.1) (λ (x : ℕ × ℕ). decimal x.0 ∷ decimal x.1 ∷ []) IsRest
 slots = reads_both swap_areas (reads_decimal 0 (2 ^ 32 - 1) (lit< tt))
@@ -92,7 +97,8 @@ whole-found {A = A} {words = words} reads name command fits spelled bytes c e =
     let is = reads.found bytes x.value x.first in
     let end = at_end-found (command x.value.0) x.value.1 c x.second in
     let text : name ++ bytes ≡ line_of (command x.value.0) =
-    ap (λ (t : List ℕ). name ++ t) (is.0 ∙ ap (words_onto (words x.value.0)) end.0 ∙ append-nil (flat_map field (words x.value.0))) ∙ spelled x.value.0 in
+    ap (λ (t : List ℕ). name ++ t) (is.0 ∙ ap (words_onto (words x.value.0)) end.0 ∙ append-nil (flat_map field (words x.value.0)))
+    ∙ spelled x.value.0 in
     subst (λ (d : Command). IsInRange d × (name ++ bytes ≡ line_of d)) end.1 (fits x.value.0 is.1, text)
 
 writes-found : IsReader (codes "write", write_at)
@@ -131,8 +137,8 @@ ages-found = whole-found counts (codes "age") commands.Age (λ _ h. h) (λ _. re
 completes-found : IsReader (codes "complete", whole frames_at commands.Complete)
 completes-found = whole-found counts (codes "complete") commands.Complete (λ _ h. h) (λ _. refl)
 
-swapons-found : IsReader (codes "swapon", whole area_at commands.Swapon)
-swapons-found = whole-found swap_areas (codes "swapon") commands.Swapon (λ _ h. h) (λ _. refl)
+swapons-found : IsReader (codes "swapon", swapon_at)
+swapons-found = whole-found swapons (codes "swapon") _ (λ _ h. h) (λ _. refl)
 
 swapoffs-found : IsReader (codes "swapoff", whole area_at commands.Swapoff)
 swapoffs-found = whole-found swap_areas (codes "swapoff") commands.Swapoff (λ _ h. h) (λ _. refl)
@@ -156,7 +162,46 @@ stats-found : IsReader (codes "stat", whole no_words (λ x. commands.Stat))
 stats-found = whole-found nothing (codes "stat") _ (λ _ _. tt) (λ _. refl)
 
 each_reads : AllByRecursion IsReader readers
-each_reads = (writes-found, (reads-found, (spawns-found, (forks-found, (exits-found, (mmaps-found, (ranges-found, (mprotects-found, (mremaps-found, (reclaims-found, (ages-found, (completes-found, (swapons-found, (swapoffs-found, (maps-found, (areas-found, (rmaps-found, (entries-found, (slots-found, (stats-found, tt))))))))))))))))))))
+each_reads = (
+  writes-found,
+  (
+    reads-found,
+    (
+      spawns-found,
+      (
+        forks-found,
+        (
+          exits-found,
+          (
+            mmaps-found,
+            (
+              ranges-found,
+              (
+                mprotects-found,
+                (
+                  mremaps-found,
+                  (
+                    reclaims-found,
+                    (
+                      ages-found,
+                      (
+                        completes-found,
+                        (
+                          swapons-found,
+                          (swapoffs-found, (maps-found, (areas-found, (rmaps-found, (entries-found, (slots-found, (stats-found, tt))))))),
+                        ),
+                      ),
+                    ),
+                  ),
+                ),
+              ),
+            ),
+          ),
+        ),
+      ),
+    ),
+  ),
+)
 
 pub command_of-found : (bytes : List ℕ) (c : Command) → command_of bytes ≡ Some c → IsInRange c × (bytes ≡ line_of c)
 unfolding command_of
@@ -168,7 +213,8 @@ command_of-found bytes c e =
 
 -- ---- what is read again
 
-whole-again : {A : Type 0} {read : Reader A} {Fits : A → Type 0} {words : A → List (List ℕ)} {Rest : List ℕ → Type 0} → Reads read Fits words Rest → Rest [] →
+whole-again : {A : Type 0} {read : Reader A} {Fits : A → Type 0} {words : A → List (List ℕ)} {Rest : List ℕ → Type 0}
+    → Reads read Fits words Rest → Rest [] →
     (command : A → Command) → (x : A) → Fits x →
     whole read command (flat_map field (words x)) ≡ Some (command x)
 unfolding whole at_end
@@ -191,7 +237,7 @@ command_of-again (commands.Write p address bytes) h = whole-again writes refl _ 
 command_of-again (commands.Reclaim n) h = whole-again counts tt commands.Reclaim n h
 command_of-again (commands.Age n) h = whole-again counts tt commands.Age n h
 command_of-again (commands.Complete n) h = whole-again counts tt commands.Complete n h
-command_of-again (commands.Swapon k) h = whole-again swap_areas tt commands.Swapon k h
+command_of-again (commands.Swapon k priority) h = whole-again swapons refl _ (k, priority) h
 command_of-again (commands.Swapoff k) h = whole-again swap_areas tt commands.Swapoff k h
 command_of-again (commands.Maps p) h = whole-again processes tt commands.Maps p h
 command_of-again (commands.Areas p) h = whole-again processes tt commands.Areas p h

@@ -1,5 +1,6 @@
 pub mod PlaceLaws
 pub mod ModeLaws
+pub mod PriorityLaws
 pub mod CommandLaws
 pub mod LineLaws
 pub mod Split

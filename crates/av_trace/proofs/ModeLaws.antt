@@ -19,7 +19,8 @@ IsName name = (bytes : List ℕ) (x : Mode × List ℕ) → name.1 bytes ≡ Som
     (name.0 ++ bytes ≡ words_onto (mode_words x.0) x.1) × IsMode x.0
 
 maymove_is : IsName (codes " maymove", maymove_at)
-maymove_is bytes x e = subst (λ (y : Mode × List ℕ). (codes " maymove" ++ bytes ≡ words_onto (mode_words y.0) y.1) × IsMode y.0) (same_Some _ _ e) (refl, tt)
+maymove_is bytes x e =
+    subst (λ (y : Mode × List ℕ). (codes " maymove" ++ bytes ≡ words_onto (mode_words y.0) y.1) × IsMode y.0) (same_Some _ _ e) (refl, tt)
 
 fixed_is : IsName (codes " fixed", fixed_at)
 fixed_is bytes x e =

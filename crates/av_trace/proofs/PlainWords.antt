@@ -24,7 +24,8 @@ use Rattle.av_trace.proofs.Split.{lacks, lacks-cons, lacks-append, split, split-
 -- ---- numbers
 
 -- a number has no byte that is no digit
-lacks-spell : (k base c n : ℕ) → IsBase base → ((d : ℕ) → d < base → digit_glyph false d ≡ c → ⊥) → n < 2 ^ suc k → IsWide n → lacks c (spell base n) ≡ true
+lacks-spell : (k base c n : ℕ) → IsBase base → ((d : ℕ) → d < base → digit_glyph false d ≡ c → ⊥) → n < 2 ^ suc k → IsWide n
+    → lacks c (spell base n) ≡ true
 lacks-spell zero base c n b other h small =
     let lt : n < base = omega (arith, b.some) in
     ap (lacks c) (spell-digit base n b lt) ∙ lacks-cons c (digit_glyph false n) [] (other n lt) refl
@@ -212,7 +213,8 @@ beside [] w = None
 beside (x ∷ xs) w = if bytes_eq w x.0 then Some x.1 else beside xs w
 
 -- a number after its label, which is known by computing
-pub labelled-named : (label : List ℕ) {n : ℕ} → lacks 32 label ≡ true → lacks 10 label ≡ true → IsWide n → Names (labelled_of label) (labelled label n) n
+pub labelled-named : (label : List ℕ) {n : ℕ} → lacks 32 label ≡ true → lacks 10 label ≡ true → IsWide n
+    → Names (labelled_of label) (labelled label n) n
 labelled-named label {n = n} space newline small = record {
   plain = plain-labelled label n
       (plain_name label space newline) small;
@@ -290,4 +292,5 @@ line_is name {words = words} space newline read = record {
 -- a line that begins with a word like the others
 pub line_from : {A : Type 0} {read : LineReader A} {name : List ℕ} {words : List (List ℕ)} {x : A} → AreRead read (name ∷ words) x →
     IsLineOf read (line name words) x
-line_from {name = name} {words = words} r = record { name = name; words = words; is = refl; plain = r.plain.0; all_plain = r.plain.1; again = r.again }
+line_from {name = name} {words = words} r =
+    record { name = name; words = words; is = refl; plain = r.plain.0; all_plain = r.plain.1; again = r.again }

@@ -45,7 +45,8 @@ only_notes : (ns ms : List Note) (rs qs : List Row) → AllByRecursion IsNote ns
 only_notes ns ms rs qs all others none none' e =
     let left : notes_text ns ≡ notes_text ns ++ rows_text rs = sym (append-nil (notes_text ns))
     ∙ ap (λ (r : List Row). notes_text ns ++ rows_text r) (sym none) in
-    let right : notes_text ms ++ rows_text qs ≡ notes_text ms = ap (λ (r : List Row). notes_text ms ++ rows_text r) none' ∙ append-nil (notes_text ms) in
+    let right : notes_text ms ++ rows_text qs ≡ notes_text ms = ap (λ (r : List Row). notes_text ms ++ rows_text r) none'
+    ∙ append-nil (notes_text ms) in
     (same_lines note_of note_line IsNote note_line-is ns ms all others (left ∙ e ∙ right), none ∙ sym none')
 
 -- or rows of one kind
@@ -70,7 +71,8 @@ same_reply a b h k e =
     let right = answer_line-is b.answer k.answer in
     let whole = sym (append_assoc (whole_line (answer_line a.answer)) (notes_text a.notes) (rows_text a.rows)) ∙ e
     ∙ append_assoc (whole_line (answer_line b.answer)) (notes_text b.notes) (rows_text b.rows) in
-    let parts = first_line (answer_line a.answer) (answer_line b.answer) (notes_text a.notes ++ rows_text a.rows) (notes_text b.notes ++ rows_text b.rows)
+    let parts = first_line (answer_line a.answer) (answer_line b.answer) (notes_text a.notes ++ rows_text a.rows)
+    (notes_text b.notes ++ rows_text b.rows)
     (no_newline left) (no_newline right) whole in
     let answer = one_line left right parts.0 in
     let follows = subst (λ (x : Answer). Follow x b.notes b.rows) (sym answer) k.rest in

@@ -202,7 +202,8 @@ no_frame out h =
     record { plain = r.plain; again = r.again }
 
 -- an entry of a slot
-entry_slot : (slot : Slot) (frame : Option ℕ) → IfThere IsWide frame → AreRead (slot_at slot) (cached_words decimal frame) (answers.EntrySlot slot frame)
+entry_slot : (slot : Slot) (frame : Option ℕ) → IfThere IsWide frame
+    → AreRead (slot_at slot) (cached_words decimal frame) (answers.EntrySlot slot frame)
 entry_slot slot None h = record { plain = tt; again = refl }
 entry_slot slot (Some frame) h = name_word (codes "cached") refl refl (word _ (number-named h) no_word)
 

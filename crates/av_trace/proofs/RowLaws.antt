@@ -30,7 +30,8 @@ run_line-is (rows.Entry p address) h = absurd h
 abbrev behind : {A : Type 0} → List ℕ → (List ℕ → Option A) → List ℕ → Option A
 behind label read w = read (drop (length label) w)
 
-behind-named : (label : List ℕ) {A : Type 0} {read : List ℕ → Option A} {w : List ℕ} {x : A} → lacks 32 label ≡ true → lacks 10 label ≡ true → Names read w x
+behind-named : (label : List ℕ) {A : Type 0} {read : List ℕ → Option A} {w : List ℕ} {x : A} → lacks 32 label ≡ true → lacks 10 label ≡ true
+    → Names read w x
     → Names (behind label read) (label ++ w) x
 behind-named label {read = read} {w = w} space newline named = record {
   plain = record { space = lacks-append 32 label w space named.plain.space; newline = lacks-append 10 label w newline named.plain.newline };

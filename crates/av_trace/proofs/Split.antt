@@ -72,7 +72,8 @@ split-line name (w ∷ words) plain all =
 pub lacks-line : (name : List ℕ) (words : List (List ℕ)) → IsPlain name → AllByRecursion IsPlain words → lacks 10 (line name words) ≡ true
 lacks-line name [] plain all = ap (lacks 10) (append-nil name) ∙ plain.newline
 lacks-line name (w ∷ words) plain all =
-    lacks-append 10 name (field (w ++ flat_map field words)) plain.newline (lacks-cons 10 32 (line w words) (omega arith) (lacks-line w words all.0 all.1))
+    lacks-append 10 name (field (w ++ flat_map field words)) plain.newline
+    (lacks-cons 10 32 (line w words) (omega arith) (lacks-line w words all.0 all.1))
 
 -- a first line, and the rest
 pub first_line : (s s' t t' : List ℕ) → lacks 10 s ≡ true → lacks 10 s' ≡ true → whole_line s ++ t ≡ whole_line s' ++ t' → (s ≡ s') × (t ≡ t')

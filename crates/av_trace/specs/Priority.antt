@@ -5,13 +5,13 @@ use Rattle.av_text.specs.Word.{◌>>=◌, Reader, after}
 use Rattle.av_text.specs.Number.{IsNumberIn, decimal_at}
 
 -- the greatest that can be named
-abbrev pub most_priority : ℕ
-most_priority = 32767
+abbrev pub greatest_priority : ℕ
+greatest_priority = 32767
 
 -- none, or one in range
 abbrev pub IsPriority : Option ℕ → Type 0
 IsPriority None = Unit {0}
-IsPriority (Some n) = IsNumberIn 0 most_priority n
+IsPriority (Some n) = IsNumberIn 0 greatest_priority n
 
 -- its words, or nothing
 abbrev pub priority_words : Option ℕ → List (List ℕ)
@@ -25,5 +25,5 @@ unfoldable pub priority_at : Reader (Option ℕ)
 priority_at [] = Some (None, [])
 priority_at (b ∷ bytes) = do
   rest ← after (codes " prio") (b ∷ bytes)
-  priority ← decimal_at 0 most_priority rest
+  priority ← decimal_at 0 greatest_priority rest
   Some (Some priority.0, priority.1)

@@ -1,7 +1,11 @@
 //! What a line asks for.
 
 ghost use Rattle.std.specs.Prelude.{◌≡◌, ◌++◌, codes, option_map, IfOk, OnErr};
-ghost use Rattle.av_trace.specs.Command.{at_end, whole, no_words, fork_at, mmap_at, munmap_at, mprotect_at, mremap_at, read_at, write_at, area_at, frames_at, rmap_at, entry_of, slot_at, swapon_at, command_in, command_of, process_readers, range_readers, swap_readers, report_readers, range_words};
+ghost use Rattle.av_trace.specs.Command.{at_end, whole, no_words, fork_at, mmap_at, munmap_at};
+ghost use Rattle.av_trace.specs.Command.{mprotect_at, mremap_at, read_at, write_at, area_at};
+ghost use Rattle.av_trace.specs.Command.{frames_at, rmap_at, entry_of, slot_at, swapon_at};
+ghost use Rattle.av_trace.specs.Command.{command_in, command_of, process_readers, range_readers};
+ghost use Rattle.av_trace.specs.Command.{swap_readers, report_readers, range_words};
 ghost use Rattle.av_text.specs.Number.{process_at};
 ghost use Rattle.av_text.specs.Word.{BeginsWith};
 
@@ -284,7 +288,7 @@ fn area(bytes: &[u8]) -> Option<(u8, &[u8])>
     Some((area as u8, rest))
 }
 
-#[tactic(auto, unfolding(crate::specs::Command::whole))]
+#[tactic(auto, unfolding(crate::specs::Command::whole, av_text::specs::Word::both))]
 fn swapon(bytes: &[u8]) -> Option<Command>
     ensures { result ≡ swapon_at bytes.now }
 {

@@ -7,7 +7,7 @@ use av_text::number::decimal;
 use av_text::word::after;
 
 /// The greatest priority that can be named.
-const MOST_PRIORITY: u64 = 32_767;
+const GREATEST_PRIORITY: u64 = 32_767;
 
 /// A priority at the end of a line, if one is named, and the rest.
 #[tactic(auto, unfolding(crate::specs::Priority::priority_at))]
@@ -17,6 +17,6 @@ pub fn priority_field(bytes: &[u8]) -> Option<(Option<u16>, &[u8])>
     if bytes.is_empty() {
         return Some((None, bytes));
     }
-    let (priority, rest) = decimal(after(bytes, b" prio")?, 0, MOST_PRIORITY)?;
+    let (priority, rest) = decimal(after(bytes, b" prio")?, 0, GREATEST_PRIORITY)?;
     Some((Some(priority as u16), rest))
 }

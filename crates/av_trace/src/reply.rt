@@ -4,7 +4,9 @@ ghost use Rattle.std.specs.Prelude.{◌≡◌, ◌∷◌};
 ghost use Rattle.std.specs.List.{flat_map};
 ghost use Rattle.std.specs.Fmt.{decimal as digits_of};
 ghost use Rattle.av_trace.specs.Note.{slot_text};
-ghost use Rattle.av_trace.specs.Reply.{answer_only, errno_name, labelled as labelled_text, shown_words, out_words, cached_words, total_words, answer_line as line_of_answer};
+ghost use Rattle.av_trace.specs.Reply.{answer_only, errno_name, labelled as labelled_text};
+ghost use Rattle.av_trace.specs.Reply.{shown_words, out_words, cached_words, total_words};
+ghost use Rattle.av_trace.specs.Reply.{answer_line as line_of_answer};
 ghost use Rattle.av_text.specs.Word.{Adds, field, line};
 
 use crate::note::{Notes, add_slot, number_line, slot_line};

@@ -8,7 +8,7 @@ use Rattle.av_base.specs.Words.{within}
 use Rattle.av_base.specs.declared.prot.Prot.{Prot}
 use Rattle.av_vma.specs.declared.area.Area.{Area}
 use Rattle.av_vma.specs.Gap.{IsRoom}
-use Rattle.av_vma.specs.Join.{index_of}
+use Rattle.av_vma.specs.Index.{index_of}
 use Rattle.av_vma.specs.Pages.{AreLaid, Effect, Lengths, Pages, after_map, after_prepare, after_unmap, alters_at, split_at, fresh_area, has_page, home_of, join_of, joined_around, joined_at, loan_beside, page_changed, pages_changed, part_changed, part_of, with_anon, with_area, with_effect, with_effect_on}
 use Rattle.av_vma.proofs.Split.{laid_split, laid_part, part_index, part_own}
 use Rattle.av_vma.proofs.Join.{join_index, join_own, laid_joined, laid_page_changed, joined_pages, tried_is}
@@ -119,7 +119,8 @@ homes_mapped len p from past prot on laid some room =
 -- ---- change
 
 -- another protection and other flags leave each page its home
-homes_effect : (from past : ℕ) (effect : Effect) (on : Pages) (page : ℕ) → home_of page (with_effect_on from past effect on page) ≡ home_of page (on page)
+homes_effect : (from past : ℕ) (effect : Effect) (on : Pages) (page : ℕ)
+    → home_of page (with_effect_on from past effect on page) ≡ home_of page (on page)
 homes_effect from past effect on page = by (within from (past - from) page)
   where
     each : (o : Option Area) → home_of page (option_map (with_effect effect) o) ≡ home_of page o
@@ -170,7 +171,8 @@ module _ (len : Lengths) (next at : ℕ) (on : Pages) (laid : AreLaid on) where
       gets area there none own false has = is
 
       each : (area : Area) → on at ≡ Some area → (o : Option ℕ) → area.anon ≡ o
-          → home_of page ((cond (is_some o) on (with_area (record area { anon = Some (unwrap_or (loan_beside len on area) next) }) on)) page) ≡ Some home
+          → home_of page ((cond (is_some o) on (with_area (record area { anon = Some (unwrap_or (loan_beside len on area) next) }) on))
+          page) ≡ Some home
       each area there None none = gets area there none (Some (unwrap_or (loan_beside len on area) next)) (has_page area page) refl
       each area there (Some own) some = is
 
@@ -179,7 +181,8 @@ module _ (len : Lengths) (next at : ℕ) (on : Pages) (laid : AreLaid on) where
       by (Some area) there = each area there area.anon refl
 
   -- and the page has one
-  pub home_prepared : (area : Area) → on at ≡ Some area → home_of at (after_prepare len next at on at) ≡ Some (own_after len next on area, index_of area at)
+  pub home_prepared : (area : Area) → on at ≡ Some area
+      → home_of at (after_prepare len next at on at) ≡ Some (own_after len next on area, index_of area at)
   home_prepared area there = ap (λ o. home_of at (with_anon len next o on at)) there ∙ each area.anon refl
     where
       given : (own : ℕ) (b : Bool) → has_page area at ≡ b

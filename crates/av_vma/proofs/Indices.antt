@@ -9,7 +9,7 @@ use Rattle.av_base.specs.declared.prot.Prot.{Prot}
 use Rattle.av_vma.specs.declared.area.Area.{Area}
 use Rattle.av_vma.specs.Gap.{IsRoom}
 use Rattle.av_vma.specs.Indices.{AreIndicesBelow}
-use Rattle.av_vma.specs.Join.{first_of, index_of, past_of}
+use Rattle.av_vma.specs.Index.{first_of, index_of, past_of}
 use Rattle.av_vma.specs.Mremap.{IsGrowth, IsMove, after_grow, after_move, after_resize, grown_to, joined_over, moved_range}
 use Rattle.av_vma.specs.Pages.{AreLaid, Effect, IsWhole, Lengths, Pages, after_map, after_prepare, after_unmap, alters_at, split_at, fresh_area, has_page, join_of, joined_around, joined_at, loan_beside, page_changed, pages_changed, part_changed, part_of, with_anon, with_area, with_effect, with_effect_on, without_range}
 use Rattle.av_vma.proofs.Split.{laid_split, laid_part, laid_unmapped}
@@ -63,7 +63,8 @@ indices_splits : (most from past : ℕ) (on : Pages) → AreLaid on → AreIndic
 indices_splits most from past on laid h = indices_split most past (split_at from on) (laid_split from on laid) (indices_split most from on laid h)
 
 pub indices_unmapped : (most from past : ℕ) (on : Pages) → AreLaid on → AreIndicesBelow most on → AreIndicesBelow most (after_unmap from past on)
-indices_unmapped most from past on laid h = indices_emptied most from past (split_at past (split_at from on)) (indices_splits most from past on laid h)
+indices_unmapped most from past on laid h =
+    indices_emptied most from past (split_at past (split_at from on)) (indices_splits most from past on laid h)
 
 -- ---- an area on pages
 
@@ -94,24 +95,29 @@ module _ (len : Lengths) where
         subst (λ (a : Area). index_of a (past_of a) ≤ most) (same_Some (join_of t.left t.right) area (sym t.is ∙ is)) less
   ]
 
-  pub indices_around : (most from past : ℕ) (on : Pages) → AreLaid on → AreIndicesBelow most on → AreIndicesBelow most (joined_around len from past on)
-  indices_around most from past on laid h = indices_joined most past (joined_at len from on) (laid_joined len from on laid) (indices_joined most from on laid h)
+  pub indices_around : (most from past : ℕ) (on : Pages) → AreLaid on → AreIndicesBelow most on
+      → AreIndicesBelow most (joined_around len from past on)
+  indices_around most from past on laid h =
+      indices_joined most past (joined_at len from on) (laid_joined len from on laid) (indices_joined most from on laid h)
 
   pub indices_over : (most at n : ℕ) (on : Pages) → AreLaid on → AreIndicesBelow most on → AreIndicesBelow most (joined_over len at n on)
   indices_over most at zero on laid h = λ page area is. h page area is
-  indices_over most at (suc n) on laid h = indices_over most (suc at) n (joined_at len at on) (laid_joined len at on laid) (indices_joined most at on laid h)
+  indices_over most at (suc n) on laid h =
+      indices_over most (suc at) n (joined_at len at on) (laid_joined len at on laid) (indices_joined most at on laid h)
 
 -- ---- map, change and prepare
 
 module _ (len : Lengths) where
-  pub indices_mapped : (most p from past : ℕ) (prot : Prot) (on : Pages) → AreLaid on → from < past → IsRoom (has_area on) (past - from) from → top_page ≤ most
+  pub indices_mapped : (most p from past : ℕ) (prot : Prot) (on : Pages) → AreLaid on → from < past → IsRoom (has_area on) (past - from) from
+      → top_page ≤ most
       → AreIndicesBelow most on → AreIndicesBelow most (after_map len p from past prot on)
   indices_mapped most p from past prot on laid some room high h =
       let fresh = fresh_area p from past prot in
       indices_around len most from past (with_area fresh on) (laid_fresh p from past prot on some room laid)
       (indices_placed most fresh on (let highest = room.highest in omega arith) h)
 
-  indices_effect : (most from past : ℕ) (effect : Effect) (on : Pages) → AreIndicesBelow most on → AreIndicesBelow most (with_effect_on from past effect on)
+  indices_effect : (most from past : ℕ) (effect : Effect) (on : Pages) → AreIndicesBelow most on
+      → AreIndicesBelow most (with_effect_on from past effect on)
   indices_effect most from past effect on h page area is = by (within from (past - from) page) (on page) refl is
     where
       by : (b : Bool) (o : Option Area) → on page ≡ o → cond b (option_map (with_effect effect) o) o ≡ Some area → index_of area (past_of area) ≤ most
@@ -136,7 +142,8 @@ module _ (len : Lengths) where
             (indices_effect most at (at + 1) effect (split_at (at + 1) (split_at at on)) (indices_splits most at (at + 1) on laid h))
         by false = h
 
-    pub indices_changed : (most from n : ℕ) (on : Pages) → AreLaid on → AreIndicesBelow most on → AreIndicesBelow most (pages_changed len effect from n on)
+    pub indices_changed : (most from n : ℕ) (on : Pages) → AreLaid on → AreIndicesBelow most on
+        → AreIndicesBelow most (pages_changed len effect from n on)
     indices_changed most from zero on laid h = λ page area is. h page area is
     indices_changed most from (suc n) on laid h = indices_changed most (from + 1) n (page_changed len effect from on)
         (laid_page_changed len effect from on laid) (indices_page_changed most from on laid h)
@@ -164,7 +171,8 @@ indices_carried most from n k to on r high h page area is = elim (which from n k
       let least = m.least in
       let below = m.most in
       let w = inside from n k to on r (from + (page - to)) m.was m.there (omega arith) (omega arith) in
-      subst (λ (a : Area). index_of a (past_of a) ≤ most) m.is (by m.was m.was.anon w.first w.past w.whole.some (h (from + (page - to)) m.was m.there))
+      subst (λ (a : Area). index_of a (past_of a) ≤ most) m.is
+      (by m.was m.was.anon w.first w.past w.whole.some (h (from + (page - to)) m.was m.there))
 ]
   where
     by : (was : Area) (own : Option ℕ) → from ≤ first_of was → past_of was ≤ from + k → first_of was < past_of was → index_of was (past_of was) ≤ most
@@ -174,7 +182,8 @@ indices_carried most from n k to on r high h page area is = elim (which from n k
     by was (Some own) first past some low = omega (arith, first, past, some, low)
 
 -- only what an area grows by raises them
-longer_below : (most past : ℕ) (area : Area) → past_of area ≤ past → past ≤ top_page → first_of area < past_of area → index_of area (past_of area) ≤ most
+longer_below : (most past : ℕ) (area : Area) → past_of area ≤ past → past ≤ top_page → first_of area < past_of area
+    → index_of area (past_of area) ≤ most
     → index_of (with_end past area) (past_of (with_end past area)) ≤ most + top_page
 longer_below most past area more high some low = omega (arith, more, high, some, low)
 
@@ -203,7 +212,8 @@ module _ (len : Lengths) (most : ℕ) (high : top_page ≤ most) where
       gone_over = carried from n to m on laid move
 
       pieces_low : AreIndicesBelow most (parts from n to m on laid move)
-      pieces_low = indices_split most (from + n) (split_at (from + min n m) (split_at from clear)) (laid_split (from + min n m) (split_at from clear) laid_once)
+      pieces_low = indices_split most (from + n) (split_at (from + min n m) (split_at from clear))
+          (laid_split (from + min n m) (split_at from clear) laid_once)
           (indices_split most (from + min n m) (split_at from clear) laid_once
           (indices_split most from clear laid_clear (indices_unmapped most to (to + m) on laid h)))
 
@@ -227,7 +237,8 @@ module _ (len : Lengths) (most : ℕ) (high : top_page ≤ most) where
   pub indices_after_grow : (last past : ℕ) (on : Pages) (laid : AreLaid on) (g : IsGrowth last past on) → AreIndicesBelow most on
       → AreIndicesBelow (most + top_page) (after_grow len past (on last) on)
   indices_after_grow last past on laid g h = subst (λ o. AreIndicesBelow (most + top_page) (after_grow len past o on)) (sym one.is)
-      (indices_around len (most + top_page) (first_of one.area) past (with_area (with_end past one.area) on) (laid_growth last past on laid g one.area one.is)
+      (indices_around len (most + top_page) (first_of one.area) past (with_area (with_end past one.area) on)
+      (laid_growth last past on laid g one.area one.is)
       (indices_placed (most + top_page) (with_end past one.area) on
       (longer_below most past one.area is_more g.high (laid.whole last one.area one.is).some (h last one.area one.is)) (more on h)))
     where
@@ -237,12 +248,14 @@ module _ (len : Lengths) (most : ℕ) (high : top_page ≤ most) where
       is_more : past_of one.area ≤ past
       is_more = let ends = ends_there last past on laid g one.area one.is in let more = g.more in omega arith
 
-  pub indices_after_resize : (from n m : ℕ) (on : Pages) (laid : AreLaid on) → (n < m → IsGrowth (from + n - 1) (from + m) on) → AreIndicesBelow most on
+  pub indices_after_resize : (from n m : ℕ) (on : Pages) (laid : AreLaid on) → (n < m → IsGrowth (from + n - 1) (from + m) on)
+      → AreIndicesBelow most on
       → AreIndicesBelow (most + top_page) (after_resize len from n m on)
   indices_after_resize from n m on laid growth h = by (nat_lt m n) (nat_lt n m) refl
     where
       by : (b c : Bool) → nat_lt n m ≡ c
-          → AreIndicesBelow (most + top_page) (cond b (after_unmap (from + m) (from + n) on) (cond c (after_grow len (from + m) (on (from + n - 1)) on) on))
+          → AreIndicesBelow (most + top_page)
+          (cond b (after_unmap (from + m) (from + n) on) (cond c (after_grow len (from + m) (on (from + n - 1)) on) on))
       by true c is = more (after_unmap (from + m) (from + n) on) (indices_unmapped most (from + m) (from + n) on laid h)
       by false true is = indices_after_grow (from + n - 1) (from + m) on laid (growth (ltb-true n m is)) h
       by false false is = more on h

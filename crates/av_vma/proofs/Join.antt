@@ -1,4 +1,5 @@
--- What is known of two areas that join; areas stay whole and on all of their pages through joins, and through what ends with joins, however long chains are.
+-- What is known of two areas that join; areas stay whole and on all of their pages through joins,
+-- and through what ends with joins, however long chains are.
 use Rattle.std.proofs.Common.{◌≡◌, ℕ, zero, suc, ◌+◌, ◌-◌, ◌<◌, ◌≤◌, ◌⊎◌, inl, inr, Bool, true, false, cond, ◌&&◌, ◌==◌, Option, Some, None, refl, sym, ap, subst, ◌∙◌, arith}
 use Rattle.std.proofs.Math.Bool.{beq}
 use Rattle.std.proofs.lemmas.Bool.{and_parts, and_from, eqb-true, cases_lt, cases_Bool, cond-true, cond-false, false≢true, both_ways, false_from_ne_true}
@@ -7,7 +8,8 @@ use Rattle.std.specs.Option.{option_or}
 use Rattle.av_base.specs.declared.prot.Prot.{Prot}
 use Rattle.av_vma.specs.declared.area.Area.{Area}
 use Rattle.av_vma.specs.Gap.{IsRoom}
-use Rattle.av_vma.specs.Join.{first_of, past_of, index_of, same_prot, share_anon}
+use Rattle.av_vma.specs.Index.{first_of, past_of, index_of}
+use Rattle.av_vma.specs.Join.{same_prot, share_anon}
 use Rattle.av_vma.specs.Pages.{AreLaid, Effect, IsWhole, Lengths, Pages, after_join, after_map, alters_at, do_join, fresh_area, has_page, join_of, joined_around, joined_at, page_changed, pages_changed, part_changed, with_area}
 use Rattle.av_vma.proofs.Split.{laid_part}
 use Rattle.av_vma.proofs.Laid.{has_area, has_from, has_parts, laid_fresh}
@@ -59,7 +61,8 @@ module _ (len : Lengths) where
 
   -- the two as one have the anon_vma of the second, if that has one
   pub join_own : (left right : Area) (own : ℕ) → do_join len left right ≡ true → right.anon ≡ Some own → (join_of left right).anon ≡ Some own
-  join_own left right own e is = by left.anon (subst (λ o. share_anon left.anon (len left.anon) o (len right.anon) ≡ true) is (join_is left right e).share)
+  join_own left right own e is =
+      by left.anon (subst (λ o. share_anon left.anon (len left.anon) o (len right.anon) ≡ true) is (join_is left right e).share)
     where
       by : (o : Option ℕ) → share_anon o (len o) (Some own) (len right.anon) ≡ true → option_or o right.anon ≡ Some own
       by None share = is
@@ -124,20 +127,23 @@ module _ (len : Lengths) where
   -- or what was there
   pub record IsLeft (at page : ℕ) (on : Pages) : Type 0 where
     pub is : joined_at len at on page ≡ on page
-    pub apart : (left right : Area) → on (at - 1) ≡ Some left → on at ≡ Some right → do_join len left right ≡ true → has_page (join_of left right) page ≡ false
+    pub apart : (left right : Area) → on (at - 1) ≡ Some left → on at ≡ Some right → do_join len left right ≡ true
+        → has_page (join_of left right) page ≡ false
 
   pub tried_is : (at page : ℕ) (on : Pages) → IsTried at page on ⊎ IsLeft at page on
   tried_is at page on = go (on (at - 1)) (on at) refl refl
     where
       go : (a b : Option Area) → on (at - 1) ≡ a → on at ≡ b → IsTried at page on ⊎ IsLeft at page on
-      go None b e f = inr (record { is = λ i. after_join len (e i) (f i) page (on page); apart = λ left right g h j. absurd (none-some left (sym e ∙ g)) })
+      go None b e f = inr (record
+          { is = λ i. after_join len (e i) (f i) page (on page); apart = λ left right g h j. absurd (none-some left (sym e ∙ g)) })
       go (Some left) None e f = inr (record {
         is = λ i. after_join len (e i) (f i) page (on page);
         apart = λ left' right' g h j. absurd (none-some right' (sym f ∙ h));
       })
       go (Some left) (Some right) e f =
           let meets = do_join len left right && has_page (join_of left right) page in
-          let now : joined_at len at on page ≡ after_join len (Some left) (Some right) page (on page) = λ i. after_join len (e i) (f i) page (on page) in
+          let now : joined_at len at on page ≡ after_join len (Some left) (Some right) page (on page) =
+          λ i. after_join len (e i) (f i) page (on page) in
           elim (cases_Bool meets) [
             | inl met ↦
                 let both = and_parts (do_join len left right) (has_page (join_of left right) page) met in
@@ -158,7 +164,8 @@ module _ (len : Lengths) where
                   let joins : do_join len left right ≡ true = sym (λ i. do_join len (l i) (r i)) ∙ j in
                   false_from_ne_true (has_page (join_of left' right') page)
                   (λ there. both_ways meets unmet
-                  (and_from (do_join len left right) (has_page (join_of left right) page) joins (sym (λ i. has_page (join_of (l i) (r i)) page) ∙ there)));
+                  (and_from (do_join len left right) (has_page (join_of left right) page) joins
+                  (sym (λ i. has_page (join_of (l i) (r i)) page) ∙ there)));
             })
           ]
 

@@ -8,7 +8,7 @@ use Rattle.av_base.specs.Words.{within}
 use Rattle.av_base.specs.declared.prot.Prot.{Prot}
 use Rattle.av_vma.specs.declared.area.Area.{Area}
 use Rattle.av_vma.specs.Gap.{IsRoom}
-use Rattle.av_vma.specs.Join.{first_of, past_of}
+use Rattle.av_vma.specs.Index.{first_of, past_of}
 use Rattle.av_vma.specs.Pages.{AreLaid, IsWhole, Lengths, Pages, after_prepare, fresh_area, has_page, loan_beside, with_anon, with_area}
 
 -- ---- the pages of an area

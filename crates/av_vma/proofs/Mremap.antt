@@ -1,4 +1,5 @@
--- Areas stay whole and on all of their pages where pages move and areas grow; and a boundary within an area, or beside a free page, may be tried or not.
+-- Areas stay whole and on all of their pages where pages move and areas grow; and a boundary within
+-- an area, or beside a free page, may be tried or not.
 use Rattle.std.proofs.Common.{◌≡◌, ℕ, zero, suc, ◌+◌, ◌-◌, ◌*◌, ◌/◌, ◌^◌, ◌<◌, ◌≤◌, ◌⊎◌, inl, inr, min, Bool, true, false, cond, ◌||◌, Option, Some, None, is_some, nat_lt, option_map, IsSomeAnd, refl, sym, ap, subst, ◌∙◌, arith}
 use Rattle.std.proofs.lemmas.Bool.{both_ways, cases_lt, false_from_ne_true, ltb-true, ltb-false, lt-ltb, le-ltb, false≢true}
 use Rattle.std.proofs.lemmas.Bool.Decides.{nat_tests}
@@ -6,7 +7,7 @@ use Rattle.std.proofs.lemmas.Option.{none-some, same_Some}
 use Rattle.av_base.specs.Limits.{low_page, top_page}
 use Rattle.av_base.specs.Words.{within}
 use Rattle.av_vma.specs.declared.area.Area.{Area}
-use Rattle.av_vma.specs.Join.{first_of, index_of, past_of}
+use Rattle.av_vma.specs.Index.{first_of, index_of, past_of}
 use Rattle.av_vma.specs.Mremap.{IsGrowth, IsMove, after_grow, after_move, after_resize, grown_to, joined_over, moved_area, moved_range}
 use Rattle.av_vma.specs.Pages.{AreLaid, IsWhole, Lengths, Pages, after_unmap, split_at, do_join, has_page, joined_at, part_of, with_area, without_range}
 use Rattle.av_vma.proofs.Split.{Splits, split_at_splits, laid_split, laid_unmapped, part_index, still_splits}

@@ -5,7 +5,7 @@ use Rattle.std.proofs.lemmas.Option.{none-some}
 use Rattle.av_base.specs.Limits.{top_page}
 use Rattle.av_base.specs.Words.{within}
 use Rattle.av_vma.specs.declared.area.Area.{Area}
-use Rattle.av_vma.specs.Join.{first_of, index_of, past_of}
+use Rattle.av_vma.specs.Index.{first_of, index_of, past_of}
 use Rattle.av_vma.specs.Mremap.{IsGrowth, IsMove, after_grow, after_move, after_resize, grown_to, joined_over, moved_area, moved_range}
 use Rattle.av_vma.specs.Pages.{AreLaid, Lengths, Pages, after_unmap, split_at, has_page, home_of, joined_around, joined_at, with_area, without_range}
 use Rattle.av_vma.proofs.Split.{laid_split, laid_unmapped}
@@ -34,7 +34,8 @@ module _ (len : Lengths) where
 
   pub none_over : (at n : ℕ) (on : Pages) → AreLaid on → (page : ℕ) → on page ≡ None → joined_over len at n on page ≡ None
   none_over at zero on laid page none = none
-  none_over at (suc n) on laid page none = none_over (suc at) n (joined_at len at on) (laid_joined len at on laid) page (none_joined at on laid page none)
+  none_over at (suc n) on laid page none =
+      none_over (suc at) n (joined_at len at on) (laid_joined len at on laid) page (none_joined at on laid page none)
 
 -- ---- pages move
 
@@ -70,7 +71,8 @@ module _ (from n k to : ℕ) (on : Pages) (r : IsReady from n k to on) where
           home_carried page area home w.first least (has_parts area (from + (page - to)) (r.laid.here (from + (page - to)) area e)).0 is
 
   -- and one of neither range keeps its home
-  pub home_beside : (page : ℕ) → within to k page ≡ false → within from (from + n - from) page ≡ false → HomeGoes on page (moved_range from n k to on) page
+  pub home_beside : (page : ℕ) → within to k page ≡ false → within from (from + n - from) page ≡ false
+      → HomeGoes on page (moved_range from n k to on) page
   home_beside page out gone home is = ap (home_of page) (elsewhere from n k to on r page out gone) ∙ is
 
   -- nothing is left where the range stood
@@ -82,7 +84,8 @@ module _ (from n k to : ℕ) (on : Pages) (r : IsReady from n k to on) where
 
 -- ---- an area grows
 
-module _ (page past : ℕ) (area : Area) (on : Pages) (laid : AreLaid on) (is : on page ≡ Some area) (more : past_of area ≤ past) (high : past ≤ top_page)
+module _ (page past : ℕ) (area : Area) (on : Pages) (laid : AreLaid on) (is : on page ≡ Some area) (more : past_of area ≤ past)
+    (high : past ≤ top_page)
     (free : (other : ℕ) → past_of area ≤ other → other < past → on other ≡ None) (small : area.pgoff + (past - first_of area) ≤ 2 ^ 60) where
   -- a page that it had keeps its home, and so do all others
   pub homes_grown : KeepsHomes on (with_area (with_end past area) on)
@@ -161,7 +164,8 @@ module _ (len : Lengths) (from n m : ℕ) (on : Pages) (laid : AreLaid on) (grow
       width = omega arith
 
       by : (b c : Bool) → nat_lt m n ≡ b → nat_lt n m ≡ c
-          → home_of page ((cond b (after_unmap (from + m) (from + n) on) (cond c (after_grow len (from + m) (on (from + n - 1)) on) on)) page) ≡ Some home
+          → home_of page ((cond b (after_unmap (from + m) (from + n) on) (cond c (after_grow len (from + m) (on (from + n - 1)) on) on))
+          page) ≡ Some home
       by true c e f = homes_unmapped (from + m) (from + n) on laid page (ap (λ k. within (from + m) k page) width ∙ stays) ∙ is
       by false true e f = homes_after_grow len (from + n - 1) (from + m) on laid (growth (ltb-true n m f)) page home is
       by false false e f = is
@@ -240,7 +244,8 @@ module _ (len : Lengths) (from n to m : ℕ) (on : Pages) (laid : AreLaid on) (m
   -- and one of neither range keeps its home
   pub home_not_moved : (page : ℕ) → within to m page ≡ false → within from n page ≡ false → HomeGoes on page (after_move len from n to m on) page
   home_not_moved page out gone home is = homes_last page home
-      (home_beside from n stay to pieces pieces_ready page (less page out) (ap (λ k. within from k page) width ∙ gone) home (home_pieces page out ∙ is))
+      (home_beside from n stay to pieces pieces_ready page (less page out) (ap (λ k. within from k page) width ∙ gone) home
+      (home_pieces page out ∙ is))
     where
       width : from + n - from ≡ n
       width = omega arith

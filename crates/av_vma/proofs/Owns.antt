@@ -6,7 +6,7 @@ use Rattle.av_base.specs.Page.{address_of}
 use Rattle.av_base.specs.Words.{within}
 use Rattle.av_base.specs.declared.prot.Prot.{Prot}
 use Rattle.av_vma.specs.declared.area.Area.{Area}
-use Rattle.av_vma.specs.Join.{first_of}
+use Rattle.av_vma.specs.Index.{first_of}
 use Rattle.av_vma.specs.Mremap.{after_grow, after_move, after_resize, grown_to, joined_over, moved_area, moved_range}
 use Rattle.av_vma.specs.Pages.{Effect, Lengths, Pages, after_map, after_unmap, alters_at, split_at, fresh_area, has_page, joined_around, joined_at, page_changed, pages_changed, part_changed, part_of, with_area, with_effect, with_effect_on, without_range}
 use Rattle.av_vma.proofs.Split.{part_own}
@@ -37,7 +37,8 @@ owns_split at on page own has = (page, by (on page) has)
     by (Some area) has = sym (part_own at page area) ∙ has
 
 owns_splits : (from past : ℕ) (on : Pages) → AddsNoOwn on (split_at past (split_at from on))
-owns_splits from past on = adds_neither on (split_at from on) (split_at past (split_at from on)) (owns_split from on) (owns_split past (split_at from on))
+owns_splits from past on =
+    adds_neither on (split_at from on) (split_at past (split_at from on)) (owns_split from on) (owns_split past (split_at from on))
 
 owns_emptied : (from past : ℕ) (on : Pages) → AddsNoOwn on (without_range from past on)
 owns_emptied from past on page own has = (page, by (within from (past - from) page) has)

@@ -5,7 +5,7 @@ use Rattle.av_base.specs.Words.{within}
 use Rattle.av_base.specs.declared.prot.Prot.{Prot}
 use Rattle.av_vma.specs.declared.area.Area.{Area}
 use Rattle.av_vma.specs.Gap.{IsRoom}
-use Rattle.av_vma.specs.Join.{first_of, index_of, past_of}
+use Rattle.av_vma.specs.Index.{first_of, index_of, past_of}
 use Rattle.av_vma.specs.Mremap.{IsGrowth, IsMove, after_grow, after_move, grown_to, joined_over, moved_area}
 use Rattle.av_vma.specs.Pages.{AreLaid, Lengths, Pages, after_map, after_unmap, split_at, fresh_area, has_page, joined_around, joined_at, part_of, with_area}
 use Rattle.av_vma.proofs.Split.{of_part}
@@ -30,7 +30,8 @@ prots_split at on page = by (on page)
     by None = refl
     by (Some area) = ap Some (of_part at page area area_prot refl refl)
 
-pub prots_unmapped : (from past : ℕ) (on : Pages) (page : ℕ) → within from (past - from) page ≡ false → prots (after_unmap from past on) page ≡ prots on page
+pub prots_unmapped : (from past : ℕ) (on : Pages) (page : ℕ) → within from (past - from) page ≡ false
+    → prots (after_unmap from past on) page ≡ prots on page
 prots_unmapped from past on page stays = ap (λ b. option_map area_prot (cond b None (split_at past (split_at from on) page))) stays
     ∙ prots_split past (split_at from on) page ∙ prots_split from on page
 
@@ -115,7 +116,8 @@ module _ (len : Lengths) (last past : ℕ) (on : Pages) (laid : AreLaid on) (g :
 
   grown : (page : ℕ) → prots (after_grow len past (on last) on) page ≡ prots (with_area (with_end past grows.area) on) page
   grown page = ap (λ o. prots (after_grow len past o on) page) grows.is
-      ∙ prots_around len (first_of grows.area) past (with_area (with_end past grows.area) on) (laid_growth last past on laid g grows.area grows.is) page
+      ∙ prots_around len (first_of grows.area) past (with_area (with_end past grows.area) on)
+      (laid_growth last past on laid g grows.area grows.is) page
 
   pub prots_grown : (page : ℕ) → last < page → page < past → prots (after_grow len past (on last) on) page ≡ prots on last
   prots_grown page low high = grown page ∙ prots_longer last past grows.area on laid grows.is page (let end = ends in omega arith) high
@@ -168,7 +170,8 @@ module _ (len : Lengths) (from n to m : ℕ) (on : Pages) (laid : AreLaid on) (m
   at_new : (page : ℕ) → to ≤ page → page < to + stay → prots gone_over page ≡ prots on (from + (page - to))
   at_new page least most = ap (option_map area_prot) (at_target from n stay to pieces (ready from n to m on laid move) page least most)
       ∙ same (pieces (from + (page - to)))
-      ∙ prots_pieces (from + (page - to)) (out_of_range to m (from + (page - to)) (λ low high. elim move.apart [ inl e ↦ omega arith | inr e ↦ omega arith ]))
+      ∙ prots_pieces (from + (page - to))
+      (out_of_range to m (from + (page - to)) (λ low high. elim move.apart [ inl e ↦ omega arith | inr e ↦ omega arith ]))
     where
       same : (o : Option Area) → option_map area_prot (option_map (moved_area from to) o) ≡ option_map area_prot o
       same None = refl
@@ -184,7 +187,8 @@ module _ (len : Lengths) (from n to m : ℕ) (on : Pages) (laid : AreLaid on) (m
       ∙ prots_longer (to + stay - 1) (to + m) last.area gone_over (laid_carried from n to m on laid move) last.is page
       (let end = last.so.ends in omega arith) high
       ∙ sym (ap (option_map area_prot) last.is)
-      ∙ at_new (to + stay - 1) (let some = move.some in let more = move.more in omega arith) (let some = move.some in let more = move.more in omega arith)
+      ∙ at_new (to + stay - 1) (let some = move.some in let more = move.more in omega arith)
+      (let some = move.some in let more = move.more in omega arith)
       ∙ ap (prots on) back
     where
       back : from + (to + stay - 1 - to) ≡ from + stay - 1

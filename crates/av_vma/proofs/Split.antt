@@ -5,7 +5,7 @@ use Rattle.std.proofs.lemmas.Bool.Decides.{nat_tests}
 use Rattle.std.proofs.lemmas.Option.{none-some, same_Some}
 use Rattle.av_base.specs.Words.{within}
 use Rattle.av_vma.specs.declared.area.Area.{Area}
-use Rattle.av_vma.specs.Join.{first_of, index_of, past_of}
+use Rattle.av_vma.specs.Index.{first_of, index_of, past_of}
 use Rattle.av_vma.specs.Pages.{AreLaid, Effect, IsWhole, Pages, after_unmap, split_at, has_page, part_of, with_effect, with_effect_on, without_range}
 use Rattle.av_vma.proofs.Laid.{has_from, has_parts}
 
@@ -183,7 +183,8 @@ module _ (from past : ℕ) (on : Pages) (laid : AreLaid on) (low : Splits from o
 
       here_of : (page : ℕ) (o : Option Area) → on page ≡ o → (a : Area) → option_map (with_effect effect) o ≡ Some a → has_page a page ≡ true
       here_of page None is a e = absurd (none-some a e)
-      here_of page (Some area) is a e = subst (λ (x : Area). has_page x page ≡ true) (same_Some (with_effect effect area) a e) (laid.here page area is)
+      here_of page (Some area) is a e =
+          subst (λ (x : Area). has_page x page ≡ true) (same_Some (with_effect effect area) a e) (laid.here page area is)
 
       by_here : (page : ℕ) (a : Area) (b : Bool) → cond b (option_map (with_effect effect) (on page)) (on page) ≡ Some a → has_page a page ≡ true
       by_here page a true e = here_of page (on page) refl a e
@@ -199,7 +200,8 @@ module _ (from past : ℕ) (on : Pages) (laid : AreLaid on) (low : Splits from o
           ∙ ap (option_map (with_effect effect)) (laid.all page other area at there) ∙ e
 
       by_all : (page other : ℕ) (a : Area) (b : Bool) → within from (past - from) page ≡ b
-          → cond b (option_map (with_effect effect) (on page)) (on page) ≡ Some a → has_page a other ≡ true → with_effect_on from past effect on other ≡ Some a
+          → cond b (option_map (with_effect effect) (on page)) (on page) ≡ Some a → has_page a other ≡ true
+          → with_effect_on from past effect on other ≡ Some a
       by_all page other a true is e h = all_of page other (on page) refl a is e h
       by_all page other a false is e h = ap (λ b. cond b (option_map (with_effect effect) (on other)) (on other))
           (sym (same_side page other a e h) ∙ is) ∙ laid.all page other a e h

@@ -1,7 +1,7 @@
 -- How high the linear indices of areas go. Only an area that grows raises them.
 use Rattle.std.specs.Prelude.{◌≡◌, ◌≤◌, ℕ, Some}
 use Rattle.av_vma.specs.declared.area.Area.{Area}
-use Rattle.av_vma.specs.Join.{index_of, past_of}
+use Rattle.av_vma.specs.Index.{index_of, past_of}
 use Rattle.av_vma.specs.Pages.{Pages}
 
 -- the linear indices of all areas are below this number

@@ -1,20 +1,9 @@
--- The linear index of a page, and when two areas are one.
-use Rattle.std.specs.Prelude.{ℕ, ◌+◌, ◌-◌, Bool, true, ◌&&◌, ◌||◌, ◌==◌, Option, Some, None}
+-- When two areas are one, and when one lends the other its anon_vma.
+use Rattle.std.specs.Prelude.{ℕ, Bool, true, ◌&&◌, ◌||◌, ◌==◌, Option, Some, None}
 use Rattle.std.proofs.Math.Bool.{beq}
-use Rattle.av_base.specs.Page.{page_of}
 use Rattle.av_base.specs.declared.prot.Prot.{Prot}
 use Rattle.av_vma.specs.declared.area.Area.{Area}
-
--- the first page of an area, and the first one past it
-abbrev pub first_of : Area → ℕ
-first_of area = page_of area.start
-
-abbrev pub past_of : Area → ℕ
-past_of area = page_of area.end
-
--- the linear index of a page: it runs on from the area's offset
-abbrev pub index_of : Area → ℕ → ℕ
-index_of area page = (page - first_of area) + area.pgoff
+use Rattle.av_vma.specs.Index.{index_of, past_of}
 
 -- one protection
 abbrev pub same_prot : Prot → Prot → Bool
@@ -42,6 +31,6 @@ do_run_on left right = (right.start == left.end) && (right.pgoff == index_of lef
 
 -- an area may take the anon_vma of a neighbour: its chain has one node, the flags are equal,
 -- the two adjoin and the offsets run on
-abbrev pub is_reusable : Area → Area → ℕ → Bool
-is_reusable area near near_len =
+abbrev pub can_lend : Area → Area → ℕ → Bool
+can_lend area near near_len =
     (near_len == 1) && ((area.flags == near.flags) && (do_run_on area near || do_run_on near area))

@@ -1,5 +1,6 @@
 pub mod Areas
 pub mod Gap
+pub mod Index
 pub mod Indices
 pub mod Join
 pub mod Mremap

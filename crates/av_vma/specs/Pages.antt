@@ -8,7 +8,8 @@ use Rattle.av_base.specs.Page.{address_of}
 use Rattle.av_base.specs.Words.{within}
 use Rattle.av_base.specs.declared.prot.Prot.{Prot}
 use Rattle.av_vma.specs.declared.area.Area.{Area}
-use Rattle.av_vma.specs.Join.{are_mergeable, first_of, index_of, is_reusable, past_of, same_prot}
+use Rattle.av_vma.specs.Index.{first_of, index_of, past_of}
+use Rattle.av_vma.specs.Join.{are_mergeable, can_lend, same_prot}
 
 -- the area that holds each page
 abbrev pub Pages : Type 0
@@ -174,7 +175,7 @@ pages_changed len effect from (suc n) on =
 -- the anon_vma that an area may take from one beside it, if there is one
 abbrev pub loan_of : Lengths → Area → Option Area → Option ℕ
 loan_of len area None = None
-loan_of len area (Some near) = if is_reusable area near (len near.anon) then near.anon else None
+loan_of len area (Some near) = if can_lend area near (len near.anon) then near.anon else None
 
 -- the area after it lends first, else the one before
 abbrev pub loan_beside : Lengths → Pages → Area → Option ℕ

@@ -1,5 +1,8 @@
+//! One area.
+
 ghost use Rattle.std.specs.Prelude.{◌≡◌, ◌*◌, ◌<◌, ◌≤◌, ◌^◌, ◌||◌, IsSome, Some};
-ghost use Rattle.av_vma.specs.Join.{are_mergeable, do_run_on, first_of, index_of, is_reusable, past_of, share_anon};
+ghost use Rattle.av_vma.specs.Index.{first_of, index_of, past_of};
+ghost use Rattle.av_vma.specs.Join.{are_mergeable, do_run_on, can_lend, share_anon};
 ghost use Rattle.av_vma.specs.Pages.{home_of};
 
 use av_base::{PAGE_SIZE, Prot};
@@ -65,12 +68,12 @@ pub fn mergeable(left: &Area, left_len: u64, right: &Area, right_len: u64) -> bo
 ///
 /// They adjoin, the offsets run on, the flags are equal, and the neighbour's chain has one node:
 /// its length is `near_len`.
-pub fn reusable(area: &Area, near: &Area, near_len: u64) -> bool
+pub fn can_lend(area: &Area, near: &Area, near_len: u64) -> bool
     requires forward { first_of area.now ≤ past_of area.now }
     requires small { index_of area.now (past_of area.now) < 2 ^ 64 }
     requires near_forward { first_of near.now ≤ past_of near.now }
     requires near_small { index_of near.now (past_of near.now) < 2 ^ 64 }
-    ensures { result ≡ is_reusable area.now near.now near_len }
+    ensures { result ≡ can_lend area.now near.now near_len }
 {
     near_len == 1 && area.flags == near.flags && (runs_on(area, near) || runs_on(near, area))
 }

@@ -1,3 +1,5 @@
+//! The areas of all processes, by number.
+
 ghost use Rattle.std.specs.Prelude.{◌≡◌, ℕ, Some, None, IfOk, OnErr, IsSome};
 ghost use Rattle.av_vma.specs.Areas.{area_of};
 ghost use Rattle.av_base.specs.Words.{with_at};

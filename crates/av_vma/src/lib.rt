@@ -9,5 +9,5 @@
 mod area;
 mod areas;
 
-pub use area::{Area, home, index, mergeable, reusable};
+pub use area::{Area, can_lend, home, index, mergeable};
 pub use areas::{AreaId, Areas};

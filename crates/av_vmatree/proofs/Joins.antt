@@ -22,8 +22,10 @@ joined_here s o at xs good there before some high free =
     subst (λ l. IsEnded s (without_area o xs) (with_span s (without_key start_of s.from l))) (sym r.spans) e
 
 pub joined : (s : Span) (o at : ℕ) (l u : Span) (d xs new : List Span) → l.from ≡ s.from → u.from ≡ at → d ≡ xs → AreSpans d →
-    IsSomeAnd (span_of xs o) (λ a. a.from ≡ at) → IsSomeAnd (span_of (without_area o xs) s.area) (λ a. a.from ≡ s.from) → s.from < s.to → s.to ≤ top_page →
-    IsFree (is_page_taken (without_area s.area (without_area o xs))) s.from s.to → new ≡ with_joined start_of l u s d → IsEnded s (without_area o xs) new
+    IsSomeAnd (span_of xs o) (λ a. a.from ≡ at) → IsSomeAnd (span_of (without_area o xs) s.area) (λ a. a.from ≡ s.from) → s.from < s.to
+    → s.to ≤ top_page →
+    IsFree (is_page_taken (without_area s.area (without_area o xs))) s.from s.to → new ≡ with_joined start_of l u s d
+    → IsEnded s (without_area o xs) new
 joined s o at l u d xs new a b is good there before some high free e =
     let h = joined_here s o at xs (subst AreSpans is good) there before some high free in
     subst (IsEnded s (without_area o xs)) (sym (e ∙ (ap (with_joined start_of l u s) is ∙ rw (a, b) refl))) h
@@ -41,7 +43,8 @@ before_there n o at from xs good there before =
     before_cases n o from (eqb n o) (span_of xs n) (subst (λ a. IsSomeAnd a (λ t. t.from ≡ from)) (r.areas n) here)
 
 -- what holds of a key and of all others holds of all
-all_back : (P : Span → Type 0) (k : ℕ) (t : List Span) → ((y : Span) → y.from ≡ k → P y) → AllByRecursion P (without_key start_of k t) → AllByRecursion P t
+all_back : (P : Span → Type 0) (k : ℕ) (t : List Span) → ((y : Span) → y.from ≡ k → P y) → AllByRecursion P (without_key start_of k t)
+    → AllByRecursion P t
 all_back P k [] f a = tt
 all_back P k (y ∷ t) f a =
     elim (eqb y.from k) as (λ v. eqb y.from k ≡ v → AllByRecursion P (cond v t (y ∷ without_key start_of k t)) → AllByRecursion P (y ∷ t)) [
@@ -57,7 +60,8 @@ spread from at to (y ∷ zs) low high apart clear = let wide = apart.0 in
 
 -- no span begins between two that are joined
 pub neighbours : (n o from at to : ℕ) (xs : List Span) → AreSpans xs → IsSomeAnd (span_of xs o) (λ a. a.from ≡ at) →
-    IsSomeAnd (span_of (without_area o xs) n) (λ a. a.from ≡ from) → from < at → at < to → IsFree (is_page_taken (without_area n (without_area o xs))) from to →
+    IsSomeAnd (span_of (without_area o xs) n) (λ a. a.from ≡ from) → from < at → at < to
+    → IsFree (is_page_taken (without_area n (without_area o xs))) from to →
     NoneWithin start_of from at xs
 neighbours n o from at to xs good there before low high free =
     let r = removed_here o at xs good there in

@@ -28,7 +28,8 @@ below_is (b ∷ xs) page s d e = go (λ r is. below_is xs page r d.1 is) (last_b
   where
     here : option_or None (cond (ltb b.from page) (Some b) None) ≡ Some s → IsThere (b ∷ xs) s (λ t. t.from < page)
     here e = elim (ltb b.from page) as (λ v. ltb b.from page ≡ v → cond v (Some b) None ≡ Some s → IsThere (b ∷ xs) s (λ t. t.from < page)) [
-      | true ↦ λ h e. subst (λ t. IsThere (b ∷ xs) t (λ t. t.from < page)) (same_Some b s e) (record { there = first_span b xs; side = ltb-true _ _ h })
+      | true ↦ λ h e. subst (λ t. IsThere (b ∷ xs) t (λ t. t.from < page)) (same_Some b s e)
+          (record { there = first_span b xs; side = ltb-true _ _ h })
       | false ↦ λ h e. absurd (none-some s e)
     ] refl e
 
@@ -43,12 +44,14 @@ pub from_is : (spans : List Span) (page : ℕ) (s : Span) → AreDistinct spans 
 from_is [] page s d e = absurd (none-some s e)
 from_is (b ∷ xs) page s d e = elim (leb page b.from) as (λ v. leb page b.from ≡ v → cond v (Some b) (first_from xs page) ≡ Some s →
     IsThere (b ∷ xs) s (λ t. page ≤ t.from)) [
-      | true ↦ λ h e. subst (λ t. IsThere (b ∷ xs) t (λ t. page ≤ t.from)) (same_Some b s e) (record { there = first_span b xs; side = leb-true _ _ h })
+      | true ↦ λ h e. subst (λ t. IsThere (b ∷ xs) t (λ t. page ≤ t.from)) (same_Some b s e)
+          (record { there = first_span b xs; side = leb-true _ _ h })
       | false ↦ λ h e. let k = from_is xs page s d.1 e in record { there = later_span b xs s.area s d k.there; side = k.side }
     ] refl e
 
 -- a span of a row is its first or a later one
-pub in_row : (P : Type 0) (s : Span) (spans : List Span) (k : ℕ) (t : Span) → span_of (s ∷ spans) k ≡ Some t → (s ≡ t → P) → (span_of spans k ≡ Some t → P) → P
+pub in_row : (P : Type 0) (s : Span) (spans : List Span) (k : ℕ) (t : Span) → span_of (s ∷ spans) k ≡ Some t → (s ≡ t → P)
+    → (span_of spans k ≡ Some t → P) → P
 in_row P s spans k t e first later = elim (eqb k s.area) as (λ b. cond b (Some s) (span_of spans k) ≡ Some t → P) [
   | true ↦ λ e. first (same_Some s t e)
   | false ↦ λ e. later e
@@ -77,7 +80,8 @@ below_must (b ∷ xs) n page s apart e low high = in_row (last_below (b ∷ xs) 
     (λ later. rw (below_must xs n page s apart.2 later low high) refl)
 
 -- a span that begins with a page is the first that begins there or above
-pub from_must : (spans : List Span) (n page : ℕ) (s : Span) → AreApart spans → span_of spans n ≡ Some s → s.from ≡ page → first_from spans page ≡ Some s
+pub from_must : (spans : List Span) (n page : ℕ) (s : Span) → AreApart spans → span_of spans n ≡ Some s → s.from ≡ page
+    → first_from spans page ≡ Some s
 from_must [] n page s apart e is = absurd (none-some s e)
 from_must (b ∷ xs) n page s apart e is = in_row (first_from (b ∷ xs) page ≡ Some s) b xs n s e
     (λ same. subst (λ (t : Span). t.from ≡ page → first_from (b ∷ xs) page ≡ Some t) same (λ is. rw (le-leb page b.from (omega arith)) refl) is)

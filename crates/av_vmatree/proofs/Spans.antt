@@ -54,7 +54,8 @@ head_clear s xs p n one some free = elim (cases_lt p s.to) [
 -- pages that are not taken are of no span
 pub clear_from_free : (p n : ℕ) (xs : List Span) → 1 ≤ n → AreApart xs → IsFree (is_page_taken xs) p (p + n) → AreClear xs p n
 clear_from_free p n [] one apart free = tt
-clear_from_free p n (s ∷ xs) one apart free = (head_clear s xs p n one apart.0 free, clear_from_free p n xs one apart.2 (tail_free s xs p (p + n) free))
+clear_from_free p n (s ∷ xs) one apart free =
+    (head_clear s xs p n one apart.0 free, clear_from_free p n xs one apart.2 (tail_free s xs p (p + n) free))
 
 -- pages of no span are not taken
 pub free_from_clear : (p n : ℕ) (xs : List Span) → AreClear xs p n → IsFree (is_page_taken xs) p (p + n)
@@ -85,21 +86,27 @@ all_with P a [] p s = (p, tt)
 all_with P a (b ∷ xs) p s =
     elim (ltb a.from b.from) as (λ v. AllByRecursion P (cond v (a ∷ b ∷ xs) (b ∷ cond (ltb b.from a.from) (with_entry start_of a xs) xs))) [
       | true ↦ (p, s)
-      | false ↦ (s.0, elim (ltb b.from a.from) as (λ v. AllByRecursion P (cond v (with_entry start_of a xs) xs)) [ true ↦ all_with P a xs p s.1 | false ↦ s.1 ])
+      | false ↦ (
+        s.0,
+        elim (ltb b.from a.from) as (λ v. AllByRecursion P (cond v (with_entry start_of a xs) xs))
+            [ true ↦ all_with P a xs p s.1 | false ↦ s.1 ],
+      )
     ]
 
 pub within_with : (lo hi : ℕ) (a : Span) (xs : List Span) → lo ≤ a.from → a.to ≤ hi → IsWithin lo hi xs → IsWithin lo hi (with_entry start_of a xs)
 within_with lo hi a xs p q w = all_with (λ b. (lo ≤ b.from) × (b.to ≤ hi)) a xs (p, q) w
 
 -- an area on free pages before one is before all later ones
-later_all : (a b : Span) (xs : List Span) → a.to ≤ b.from → b.from < b.to → AllByRecursion (λ c. b.to ≤ c.from) xs → AllByRecursion (λ c. a.to ≤ c.from) xs
+later_all : (a b : Span) (xs : List Span) → a.to ≤ b.from → b.from < b.to → AllByRecursion (λ c. b.to ≤ c.from) xs
+    → AllByRecursion (λ c. a.to ≤ c.from) xs
 later_all a b [] p some s = tt
 later_all a b (c ∷ xs) p some s = let h = s.0 in (omega (arith, p, some, h), later_all a b xs p some s.1)
 
 pub apart_with : (a : Span) (xs : List Span) → a.from < a.to → AreApart xs → AreClear xs a.from (a.to - a.from) → AreApart (with_entry start_of a xs)
 apart_with a [] some s f = (some, tt, tt)
 apart_with a (b ∷ xs) some s f =
-    elim (ltb a.from b.from) as (λ v. ltb a.from b.from ≡ v → AreApart (cond v (a ∷ b ∷ xs) (b ∷ cond (ltb b.from a.from) (with_entry start_of a xs) xs))) [
+    elim (ltb a.from b.from) as
+    (λ v. ltb a.from b.from ≡ v → AreApart (cond v (a ∷ b ∷ xs) (b ∷ cond (ltb b.from a.from) (with_entry start_of a xs) xs))) [
       | true ↦ λ e. let less : a.from < b.from = ltb-true _ _ e in let wide : b.from < b.to = s.0 in
           let before : a.to ≤ b.from = elim f.0 [ inl h ↦ omega arith | inr h ↦ omega arith ] in
           (some, (before, later_all a b xs before s.0 s.1), s)
@@ -150,7 +157,8 @@ at_right p d l a r is s h = rw is (go l (rw is at s))
   where
     go : (l : List Span) → AreApart (l ++ a ∷ r) → area_at r p ≡ area_at (l ++ a ∷ r) p
     go [] s = sym (skip p a r h)
-    go (b ∷ l) s = let k = middle_after b l a r s.1 in let wide = wide_at l a r s.2 in go l s.2 ∙ sym (skip p b (l ++ a ∷ r) (omega (arith, k, wide, h)))
+    go (b ∷ l) s = let k = middle_after b l a r s.1 in let wide = wide_at l a r s.2 in go l s.2
+        ∙ sym (skip p b (l ++ a ∷ r) (omega (arith, k, wide, h)))
 
 pub at_here : (p : ℕ) (d l : List Span) (a : Span) (r : List Span) → d ≡ l ++ a ∷ r → AreApart d → a.from ≤ p → p < a.to → Some a.area ≡ area_at d p
 at_here p d l a r is s h k = rw is (go l (rw is at s))
@@ -173,7 +181,8 @@ held (b ∷ xs) p d =
       | false ↦ λ e. within_some (area_at xs p) _ _ later (held xs p d.1)
     ] refl
   where
-    later : (n : ℕ) → IsSomeAnd (span_of xs n) (λ s. holds s p ≡ true) → IsSomeAnd (cond (eqb n b.area) (Some b) (span_of xs n)) (λ s. holds s p ≡ true)
+    later : (n : ℕ) → IsSomeAnd (span_of xs n) (λ s. holds s p ≡ true)
+        → IsSomeAnd (cond (eqb n b.area) (Some b) (span_of xs n)) (λ s. holds s p ≡ true)
     later n h = elim (eqb n b.area) as (λ v. eqb n b.area ≡ v → IsSomeAnd (cond v (Some b) (span_of xs n)) (λ s. holds s p ≡ true)) [
       | true ↦ λ e. absurd (subst (λ o. IsSomeAnd o (λ s. holds s p ≡ true)) (ap (span_of xs) (eqb-true _ _ e) ∙ d.0) h)
       | false ↦ λ e. h
@@ -186,7 +195,8 @@ swap_tests true false x y z not = refl
 swap_tests false b x y z not = refl
 
 -- a span on free pages is after those that begin at or below it
-past : (a b : Span) → b.from < b.to → a.from < a.to → (b.to ≤ a.from) ⊎ (a.from + (a.to - a.from) ≤ b.from) → ltb a.from b.from ≡ false → b.to ≤ a.from
+past : (a b : Span) → b.from < b.to → a.from < a.to → (b.to ≤ a.from) ⊎ (a.from + (a.to - a.from) ≤ b.from) → ltb a.from b.from ≡ false
+    → b.to ≤ a.from
 past a b wide some clear e = let more : b.from ≤ a.from = ltb-false _ _ e in elim clear [ inl h ↦ h | inr h ↦ absurd (omega arith) ]
 
 other_here : (a b : Span) (xs : List Span) → span_of (b ∷ xs) a.area ≡ None → a.area ≡ b.area → ⊥
@@ -200,7 +210,8 @@ pub at_with : (a : Span) (xs : List Span) (p : ℕ) → a.from < a.to → AreApa
     area_at (with_span a xs) p ≡ cond (holds a p) (Some a.area) (area_at xs p)
 at_with a [] p some s f = refl
 at_with a (b ∷ xs) p some s f =
-    elim (ltb a.from b.from) as (λ v. ltb a.from b.from ≡ v → area_at (cond v (a ∷ b ∷ xs) (b ∷ cond (ltb b.from a.from) (with_span a xs) xs)) p ≡ cond
+    elim (ltb a.from b.from) as
+    (λ v. ltb a.from b.from ≡ v → area_at (cond v (a ∷ b ∷ xs) (b ∷ cond (ltb b.from a.from) (with_span a xs) xs)) p ≡ cond
     (holds a p) (Some a.area) (area_at (b ∷ xs) p)) [
       | true ↦ λ e. refl
       | false ↦ λ e.
@@ -215,7 +226,8 @@ pub span_with : (a : Span) (xs : List Span) (n : ℕ) → a.from < a.to → AreA
     span_of (with_span a xs) n ≡ with_at a.area (Some a) (span_of xs) n
 span_with a [] n some s f new = refl
 span_with a (b ∷ xs) n some s f new =
-    elim (ltb a.from b.from) as (λ v. ltb a.from b.from ≡ v → span_of (cond v (a ∷ b ∷ xs) (b ∷ cond (ltb b.from a.from) (with_span a xs) xs)) n ≡ with_at
+    elim (ltb a.from b.from) as
+    (λ v. ltb a.from b.from ≡ v → span_of (cond v (a ∷ b ∷ xs) (b ∷ cond (ltb b.from a.from) (with_span a xs) xs)) n ≡ with_at
     a.area (Some a) (span_of (b ∷ xs)) n) [
       | true ↦ λ e. refl
       | false ↦ λ e.
@@ -250,7 +262,8 @@ pub record IsInserted (a : Span) (xs new : List Span) : Type 0 where
   pub areas : (n : ℕ) → span_of new n ≡ with_at a.area (Some a) (span_of xs) n
   pub pages : (p : ℕ) → area_at new p ≡ cond (holds a p) (Some a.area) (area_at xs p)
 
-pub inserted : (a : Span) (xs : List Span) → AreSpans xs → a.from < a.to → low_page ≤ a.from → a.to ≤ top_page → IsFree (is_page_taken xs) a.from a.to →
+pub inserted : (a : Span) (xs : List Span) → AreSpans xs → a.from < a.to → low_page ≤ a.from → a.to ≤ top_page
+    → IsFree (is_page_taken xs) a.from a.to →
     span_of xs a.area ≡ None → IsInserted a xs (with_span a xs)
 inserted a xs good some low high free new =
     let clear : AreClear xs a.from (a.to - a.from) = clear_from_free a.from (a.to - a.from) xs (omega arith) good.apart
@@ -300,7 +313,8 @@ pub apart_right : (l : List Span) (a : Span) (r : List Span) → AreApart (l ++ 
 apart_right [] a r s = s.2
 apart_right (b ∷ l) a r s = apart_right l a r s.2
 
-pub inserted_span : (a : Span) (d xs new : List Span) → d ≡ xs → new ≡ with_span a d → AreSpans d → a.from < a.to → low_page ≤ a.from → a.to ≤ top_page →
+pub inserted_span : (a : Span) (d xs new : List Span) → d ≡ xs → new ≡ with_span a d → AreSpans d → a.from < a.to → low_page ≤ a.from
+    → a.to ≤ top_page →
     IsFree (is_page_taken xs) a.from a.to → span_of xs a.area ≡ None → IsInserted a xs new
 inserted_span a d xs new is e good some low high free other =
     subst (IsInserted a xs) (sym (e ∙ ap (with_span a) is)) (inserted a xs (subst AreSpans is good) some low high free other)
@@ -361,10 +375,11 @@ at_without n (b ∷ xs) p s d =
             let wide : b.from < b.to = s.0 in omega arith) s.1)
         | false ↦ λ h. unless_none n xs p (ap (span_of xs) (sym (eqb-true b.area n e)) ∙ d.0)
       ] refl
-      | false ↦ λ e. elim (holds b p) as (λ v. cond v (Some b.area) (area_at (without_area n xs) p) ≡ unless_area n (cond v (Some b.area) (area_at xs p))) [
-        | true ↦ rw e refl
-        | false ↦ at_without n xs p s.2 d.1
-      ]
+      | false ↦ λ e. elim (holds b p) as
+          (λ v. cond v (Some b.area) (area_at (without_area n xs) p) ≡ unless_area n (cond v (Some b.area) (area_at xs p))) [
+            | true ↦ rw e refl
+            | false ↦ at_without n xs p s.2 d.1
+          ]
     ] refl
 
 pub all_found : (P : Span → Type 0) (n : ℕ) (xs : List Span) (a : Span) → AllByRecursion P xs → span_of xs n ≡ Some a → P a
@@ -379,7 +394,8 @@ all_found P n (b ∷ xs) a all found =
 without_start : (n : ℕ) (xs : List Span) (a : Span) → AreApart xs → span_of xs n ≡ Some a → without_key start_of a.from xs ≡ without_area n xs
 without_start n [] a s found = refl
 without_start n (b ∷ xs) a s found =
-    elim (eqb n b.area) as (λ v. eqb n b.area ≡ v → cond v (Some b) (span_of xs n) ≡ Some a → without_key start_of a.from (b ∷ xs) ≡ without_area n (b ∷ xs)) [
+    elim (eqb n b.area) as
+    (λ v. eqb n b.area ≡ v → cond v (Some b) (span_of xs n) ≡ Some a → without_key start_of a.from (b ∷ xs) ≡ without_area n (b ∷ xs)) [
       | true ↦ λ e found. let same : b ≡ a = cc in rw (eq-eqb b.from a.from (ap start_of same), eq-eqb b.area n (sym (eqb-true n b.area e))) refl
       | false ↦ λ e found.
           let later : b.to ≤ a.from = all_found (λ t. b.to ≤ t.from) n xs a s.1 found in
@@ -438,7 +454,8 @@ with_at_twice false x y z = refl
 pub low_there : (n first : ℕ) (found : Option Span) (xs : List Span) → AreSpans xs → span_of xs n ≡ found →
     IsSomeAnd found (λ a. a.from ≡ first) → low_page ≤ first
 low_there n first None xs good is there = absurd there
-low_there n first (Some a) xs good is there = subst (λ k. low_page ≤ k) there (all_found (λ b. (low_page ≤ b.from) × (b.to ≤ top_page)) n xs a good.within is).0
+low_there n first (Some a) xs good is there =
+    subst (λ k. low_page ≤ k) there (all_found (λ b. (low_page ≤ b.from) × (b.to ≤ top_page)) n xs a good.within is).0
 
 pub ended_here : (s : Span) (xs : List Span) → AreSpans xs → IsSomeAnd (span_of xs s.area) (λ a. a.from ≡ s.from) → s.from < s.to → s.to ≤ top_page →
     IsFree (is_page_taken (without_area s.area xs)) s.from s.to → IsEnded s xs (with_span s (without_key start_of s.from xs))
@@ -455,10 +472,12 @@ ended_here s xs good there some high free =
       pages = λ p. h.pages p ∙ ap (cond (holds s p) (Some s.area)) (left.pages p);
     }
 
-pub ended : (s : Span) (d xs new : List Span) → d ≡ xs → AreSpans d → IsSomeAnd (span_of xs s.area) (λ a. a.from ≡ s.from) → s.from < s.to → s.to ≤ top_page →
+pub ended : (s : Span) (d xs new : List Span) → d ≡ xs → AreSpans d → IsSomeAnd (span_of xs s.area) (λ a. a.from ≡ s.from) → s.from < s.to
+    → s.to ≤ top_page →
     IsFree (is_page_taken (without_area s.area xs)) s.from s.to → new ≡ with_span s (without_key start_of s.from d) → IsEnded s xs new
 ended s d xs new is good there some high free e =
-    subst (IsEnded s xs) (sym (e ∙ ap (λ l. with_span s (without_key start_of s.from l)) is)) (ended_here s xs (subst AreSpans is good) there some high free)
+    subst (IsEnded s xs) (sym (e ∙ ap (λ l. with_span s (without_key start_of s.from l)) is))
+    (ended_here s xs (subst AreSpans is good) there some high free)
 
 -- a span of an area is an entry with the key of its start
 pub entry_there : (n first : ℕ) (xs : List Span) → IsSomeAnd (span_of xs n) (λ a. a.from ≡ first) → IsSome (entry_at start_of first xs)
@@ -468,7 +487,8 @@ entry_there n first (b ∷ xs) there =
       | true ↦ λ e. refl
       | false ↦ λ e.
           let rest : IsSomeAnd (span_of xs n) (λ a. a.from ≡ first) =
-          elim (eqb n b.area) as (λ v. IsSomeAnd (cond v (Some b) (span_of xs n)) (λ a. a.from ≡ first) → IsSomeAnd (span_of xs n) (λ a. a.from ≡ first)) [
+          elim (eqb n b.area) as
+          (λ v. IsSomeAnd (cond v (Some b) (span_of xs n)) (λ a. a.from ≡ first) → IsSomeAnd (span_of xs n) (λ a. a.from ≡ first)) [
             | true ↦ λ h. absurd (eqb-false b.from first e h)
             | false ↦ λ h. h
           ] there in
@@ -486,7 +506,8 @@ option_or_some None y n = refl
 
 before_cut : (p : ℕ) (l m : List Span) → area_before (l ++ m) p ≡ option_or (area_before m p) (area_before l p)
 before_cut p [] m = elim (area_before m p) as (λ o. o ≡ option_or o None) [ Some x ↦ refl | None ↦ refl ]
-before_cut p (b ∷ l) m = ap (λ o. option_or o (cond (leb b.to p) (Some b.area) None)) (before_cut p l m) ∙ option_or_assoc (area_before m p) (area_before l p) _
+before_cut p (b ∷ l) m = ap (λ o. option_or o (cond (leb b.to p) (Some b.area) None)) (before_cut p l m)
+    ∙ option_or_assoc (area_before m p) (area_before l p) _
 
 before_none : (p : ℕ) (a : Span) (xs : List Span) → p < a.to → AllByRecursion (λ b. a.to ≤ b.from) xs → AreApart xs → area_before xs p ≡ None
 before_none p a [] h later s = refl
@@ -498,7 +519,13 @@ before_none p a (b ∷ xs) h later s =
 pub before_right : (p : ℕ) (d l : List Span) (a : Span) (r : List Span) (near : Option ℕ) → d ≡ l ++ a ∷ r → a.to ≤ p →
     option_or (area_before r p) (Some a.area) ≡ option_or (area_before d p) near
 before_right p d l a r near is h =
-    rw (is, before_cut p l (a ∷ r), le-leb a.to p h, option_or_some (area_before r p) (area_before l p) a.area, option_or_some (area_before r p) near a.area)
+    rw (
+      is,
+      before_cut p l (a ∷ r),
+      le-leb a.to p h,
+      option_or_some (area_before r p) (area_before l p) a.area,
+      option_or_some (area_before r p) near a.area,
+    )
     refl
 
 pub before_left : (p : ℕ) (d l : List Span) (a : Span) (r : List Span) (near : Option ℕ) → d ≡ l ++ a ∷ r → AreApart d → p < a.to →

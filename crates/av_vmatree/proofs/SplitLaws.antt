@@ -21,7 +21,8 @@ own_at n (b ∷ xs) s p apart found low high =
     elim (eqb n b.area) as (λ v. eqb n b.area ≡ v → cond v (Some b) (span_of xs n) ≡ Some s → area_at (b ∷ xs) p ≡ Some n) [
       | true ↦ λ e f.
           let same : b ≡ s = cc in
-          let h : holds b p ≡ true = holds_here b p (subst (λ (t : Span). t.from ≤ p) (sym same) low) (subst (λ (t : Span). p < t.to) (sym same) high) in
+          let h : holds b p ≡ true =
+          holds_here b p (subst (λ (t : Span). t.from ≤ p) (sym same) low) (subst (λ (t : Span). p < t.to) (sym same) high) in
           rw h (ap Some (sym (eqb-true n b.area e)))
       | false ↦ λ e f.
           let later : b.to ≤ s.from = all_found (λ t. b.to ≤ t.from) n xs s apart.1 f in
@@ -48,7 +49,8 @@ pub record IsCut (l u : Span) (xs new : List Span) : Type 0 where
   pub areas : (k : ℕ) → span_of new k ≡ with_at u.area (Some u) (with_at l.area (Some l) (span_of xs)) k
   pub pages : (p : ℕ) → area_at new p ≡ cond (holds u p) (Some u.area) (cond (holds l p) (Some l.area) (unless_area l.area (area_at xs p)))
 
-cut_found : (l u s : Span) (xs : List Span) → AreSpans xs → span_of xs l.area ≡ Some s → s.from ≡ l.from → l.to ≤ u.from → s.to ≡ u.to → l.from < l.to →
+cut_found : (l u s : Span) (xs : List Span) → AreSpans xs → span_of xs l.area ≡ Some s → s.from ≡ l.from → l.to ≤ u.from → s.to ≡ u.to
+    → l.from < l.to →
     u.from < u.to → span_of xs u.area ≡ None → IsCut l u xs (with_two start_of l u xs)
 cut_found l u s xs good found a b c some more other =
     let n = l.area in
@@ -64,7 +66,8 @@ cut_found l u s xs good found a b c some more other =
     let ys = with_span l (without_key start_of l.from xs) in
     let apart : u.area ≡ n → ⊥ = λ same. (let d : span_of xs n ≡ None = subst (λ i. span_of xs i ≡ None) same other in cc) in
     let new : span_of ys u.area ≡ None = e.areas u.area ∙ rw (ne_eqb u.area n apart) other in
-    let free' : IsFree (is_page_taken ys) u.from u.to = λ p low high. rw (e.pages p, holds_above l p (omega arith)) (none_own p (omega arith) (omega arith)) in
+    let free' : IsFree (is_page_taken ys) u.from u.to =
+    λ p low high. rw (e.pages p, holds_above l p (omega arith)) (none_own p (omega arith) (omega arith)) in
     let i = inserted u ys e.good more (omega arith) (omega arith) free' new in
     record {
       good = i.good;
@@ -73,13 +76,16 @@ cut_found l u s xs good found a b c some more other =
       pages = λ p. i.pages p ∙ ap (cond (holds u p) (Some u.area)) (e.pages p);
     }
 
-cut_cases : (l u : Span) (o : Option Span) (xs : List Span) → AreSpans xs → span_of xs l.area ≡ o → IsSomeAnd o (λ s. (s.from ≡ l.from) × (s.to ≡ u.to)) →
+cut_cases : (l u : Span) (o : Option Span) (xs : List Span) → AreSpans xs → span_of xs l.area ≡ o
+    → IsSomeAnd o (λ s. (s.from ≡ l.from) × (s.to ≡ u.to)) →
     l.to ≤ u.from → l.from < l.to → u.from < u.to → span_of xs u.area ≡ None → IsCut l u xs (with_two start_of l u xs)
 cut_cases l u None xs good found there b some more other = absurd there
 cut_cases l u (Some s) xs good found there b some more other = cut_found l u s xs good found there.0 b there.1 some more other
 
-pub cut_if : {E : Type 0} (r : Result Unit E) (l u : Span) (d xs new : List Span) → d ≡ xs → new ≡ cond (is_ok r) (with_two start_of l u d) d → AreSpans d →
-    HasSpan xs l.area l.from u.to → l.to ≤ u.from → l.from < l.to → u.from < u.to → span_of xs u.area ≡ None → OnOk r (IsCut l u xs new) × AreSpans new
+pub cut_if : {E : Type 0} (r : Result Unit E) (l u : Span) (d xs new : List Span) → d ≡ xs
+    → new ≡ cond (is_ok r) (with_two start_of l u d) d → AreSpans d →
+    HasSpan xs l.area l.from u.to → l.to ≤ u.from → l.from < l.to → u.from < u.to → span_of xs u.area ≡ None
+    → OnOk r (IsCut l u xs new) × AreSpans new
 cut_if (Ok _) l u d xs new is e good there b some more other =
     let h = subst (IsCut l u xs) (sym (e ∙ ap (with_two start_of l u) is))
     (cut_cases l u (span_of xs l.area) xs (subst AreSpans is good) refl there b some more other) in
@@ -98,7 +104,8 @@ from_there n from to (Some s) h = h.0
 pub begins : (xs : List Span) (n from to : ℕ) → HasSpan xs n from to → IsSomeAnd (span_of xs n) (λ s. s.from ≡ from)
 begins xs n from to h = from_there n from to (span_of xs n) h
 
-next_cases : (n from at to : ℕ) (o : Option Span) (xs : List Span) → AreApart xs → span_of xs n ≡ o → IsSomeAnd o (λ s. (s.from ≡ from) × (s.to ≡ to)) →
+next_cases : (n from at to : ℕ) (o : Option Span) (xs : List Span) → AreApart xs → span_of xs n ≡ o
+    → IsSomeAnd o (λ s. (s.from ≡ from) × (s.to ≡ to)) →
     at < to → NoneBetween start_of from at xs
 next_cases n from at to None xs apart found h less = absurd h
 next_cases n from at to (Some s) xs apart found h less =

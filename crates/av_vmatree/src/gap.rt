@@ -1,3 +1,5 @@
+//! The search for a gap.
+
 ghost use Rattle.std.specs.Prelude.{◌≡◌, ◌≤◌};
 ghost use Rattle.av_vma.specs.Gap.{IsGap};
 ghost use Rattle.av_vmatree.specs.Extent.{last_between, fits};

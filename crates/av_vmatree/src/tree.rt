@@ -1,8 +1,13 @@
-ghost use Rattle.std.specs.Prelude.{◌≡◌, ℕ, ◌-◌, ◌<◌, ◌≤◌, ◌++◌, [], Some, None, true, false, is_ok, IfSome, IsSomeAnd, OnOk, if◌then◌else◌};
+//! The areas of one process in a tree, by their pages.
+
+ghost use Rattle.std.specs.Prelude.{◌≡◌, ℕ, ◌-◌, ◌<◌, ◌≤◌, ◌++◌, [], Some, None, true, false};
+ghost use Rattle.std.specs.Prelude.{is_ok, IfSome, IsSomeAnd, OnOk, if◌then◌else◌};
 ghost use Rattle.av_base.specs.Limits.{low_page, top_page};
 ghost use Rattle.av_vma.specs.Gap.{IsGap};
 ghost use Rattle.av_base.specs.Words.{within, with_at};
-ghost use Rattle.av_vmatree.specs.Spans.{AreSpans, IsFree, IsMet, area_after, area_at, area_before, first_from, holds, last_below, span, span_of, is_page_taken, unless_area, with_span, without_area};
+ghost use Rattle.av_vmatree.specs.Spans.{AreSpans, IsFree, IsMet, area_after, area_at, area_before};
+ghost use Rattle.av_vmatree.specs.Spans.{first_from, holds, last_below, span, span_of};
+ghost use Rattle.av_vmatree.specs.Spans.{is_page_taken, unless_area, with_span, without_area};
 
 use crate::gap::gap_in;
 use crate::span::Span;

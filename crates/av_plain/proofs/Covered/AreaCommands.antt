@@ -73,7 +73,8 @@ exit-reach w l r next p areas at = one-reach l r next p none_on areas (none-adds
 pub unmap-reach : (w : World) (l : Ledger) (r next : Rmap) (p from n : ℕ) → AreLaid (r.areas p) →
     next.areas ≡ with_at p (after_unmap from (from + n) (r.areas p)) r.areas → AtPages (set_process w p (with_pages (pages w p) from n no_pages)) l →
     AreLeft r.anons next.areas next.anons → next.homes ≡ r.homes → Reach l r → Reach l next
-unmap-reach w l r next p from n laid areas at = one-reach l r next p (after_unmap from (from + n) (r.areas p)) areas (owns_unmapped from (from + n) (r.areas p))
+unmap-reach w l r next p from n laid areas at =
+    one-reach l r next p (after_unmap from (from + n) (r.areas p)) areas (owns_unmapped from (from + n) (r.areas p))
     (λ page h there is. by page h (within from n page) refl there is)
   where
     now : Process
@@ -99,9 +100,11 @@ protect-reach l r next w p from n prot laid areas = one-reach l r next p (areas_
 pub map-reach : (l : Ledger) (r next : Rmap) (p from past : ℕ) (prot : Prot) (room : Pages) → AreLaid room → from < past →
     IsRoom (has_area room) (past - from) from → AddsNoOwn (r.areas p) room
     → ((page : ℕ) (h : ℕ × ℕ) → is_some (entry l (p, page)) ≡ true → home_of page (r.areas p page) ≡ Some h → home_of page (room page) ≡ Some h)
-    → next.areas ≡ with_at p (after_map (chain_length r.anons) p from past prot room) r.areas → AreLeft r.anons next.areas next.anons → next.homes ≡ r.homes →
+    → next.areas ≡ with_at p (after_map (chain_length r.anons) p from past prot room) r.areas → AreLeft r.anons next.areas next.anons
+    → next.homes ≡ r.homes →
     Reach l r → Reach l next
 map-reach l r next p from past prot room laid some free adds keeps areas =
     one-reach l r next p (after_map (chain_length r.anons) p from past prot room) areas
-    (adds_neither (r.areas p) room (after_map (chain_length r.anons) p from past prot room) adds (owns_mapped (chain_length r.anons) p from past prot room))
+    (adds_neither (r.areas p) room (after_map (chain_length r.anons) p from past prot room) adds
+    (owns_mapped (chain_length r.anons) p from past prot room))
     (λ page h there is. homes_mapped (chain_length r.anons) p from past prot room laid some free page h (keeps page h there is))

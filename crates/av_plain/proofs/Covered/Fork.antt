@@ -7,7 +7,7 @@ use Rattle.std.specs.Option.{option_map_or, option_or}
 use Rattle.std.specs.Prelude.{IfSome, IsSome, IsSomeAnd}
 use Rattle.av_base.specs.Words.{is_in}
 use Rattle.av_vma.specs.declared.area.Area.{Area}
-use Rattle.av_vma.specs.Join.{index_of}
+use Rattle.av_vma.specs.Index.{index_of}
 use Rattle.av_vma.specs.Pages.{has_page, pages_in, with_area}
 use Rattle.av_plain.specs.Areas.{AnonVma, Anons, Rmap, chain_by, none_on}
 use Rattle.av_plain.specs.Covered.{IsReached, IsRmapSound}
@@ -66,7 +66,8 @@ keeps_with q area r own anons h g = record {
   chain = g.chain;
   chains = record { made = g.made; own = λ p page v is. owned p page v (p == q) refl is };
   all = λ page w has on v among. subst (λ o. is_in v (chain_by anons o) ≡ true)
-      (inner (sym (with_own-child q area own anons r page ∙ ap (λ b. cond b (Some (in_child q area own)) (r.areas q page)) has) ∙ on)) (g.all v among);
+      (inner (sym (with_own-child q area own anons r page ∙ ap (λ b. cond b (Some (in_child q area own)) (r.areas q page)) has) ∙ on))
+      (g.all v among);
 }
   where
     inner : {a b : Option ℕ} → Some (in_child q area a) ≡ Some (in_child q area b) → a ≡ b
@@ -80,7 +81,8 @@ keeps_with q area r own anons h g = record {
     owned p page v false e is = was p page v is
     owned p page v true e is = on (has_page area page) is
       where
-        on : (c : Bool) → IsSomeAnd (cond c (Some (in_child q area own)) (r.areas q page)) (λ a. a.anon ≡ Some v) → is_in v (chain_by anons (Some v)) ≡ true
+        on : (c : Bool) → IsSomeAnd (cond c (Some (in_child q area own)) (r.areas q page)) (λ a. a.anon ≡ Some v)
+            → is_in v (chain_by anons (Some v)) ≡ true
         on true is = g.mine v is
         on false is = was q page v is
 
@@ -175,7 +177,8 @@ keeps q area r next h goes = by area.anon refl goes
       where
         never : {v : ℕ} → area.anon ≡ None → area.anon ≡ Some v → ⊥
         never a b = cc
-    by (Some w) is goes = subst (Keeps q area r) (sym goes.2) (keeps_with q area r (Some (own_of_child r.anons goes.0)) (with_child w goes.0 r.anons) h
+    by (Some w) is goes =
+        subst (Keeps q area r) (sym goes.2) (keeps_with q area r (Some (own_of_child r.anons goes.0)) (with_child w goes.0 r.anons) h
         (through w goes.0 is goes.1))
 
 -- ---- the areas in turn
@@ -225,11 +228,13 @@ module _ (p q : ℕ) (apart : (p == q) ≡ false) where
       holds w k all page a own true has is there v among =
           let one : a ≡ area = cc in
           let none = not_later area areas page rise has in
-          let on_mid : mid.areas q page ≡ Some (in_child q area own) = sym (w.left q page (inr none)) ∙ there ∙ ap (λ a. Some (in_child q a own)) one in
+          let on_mid : mid.areas q page ≡ Some (in_child q area own) = sym (w.left q page (inr none)) ∙ there
+          ∙ ap (λ a. Some (in_child q a own)) one in
           chain_holds mid next q page (in_child q area own) on_mid (λ u owns. all.chain q page u (inr none) owns) v
           (k.all page own has on_mid v (subst (λ (a : Area). is_in v (chain_by r.anons a.anon) ≡ true) one among))
       holds w k all page a own false has is there v among =
-          all.all page a own is there v (chain_holds r mid p page a (on page a (passed area areas page has ∙ is)) (λ u owns. k.chain p page u owns) v among)
+          all.all page a own is there v
+          (chain_holds r mid p page a (on page a (passed area areas page has ∙ is)) (λ u owns. k.chain p page u owns) v among)
 
 -- ---- the whole
 
@@ -252,7 +257,8 @@ module _ (p q : ℕ) (r next : Rmap) (apart : (p == q) ≡ false) (forks : AreFo
   pub fork-stays : (k : Key) → (k.0 == q) ≡ false → (home : ℕ × ℕ) → IsReached r k home → IsReached next k home
   fork-stays k other home is = at (r.areas k.0 k.1) refl is
     where
-      at : (o : Option Area) → r.areas k.0 k.1 ≡ o → IsSomeAnd o (λ area. (is_in home.0 (chain_by r.anons area.anon) ≡ true) × (index_of area k.1 ≡ home.1)) →
+      at : (o : Option Area) → r.areas k.0 k.1 ≡ o
+          → IsSomeAnd o (λ area. (is_in home.0 (chain_by r.anons area.anon) ≡ true) × (index_of area k.1 ≡ home.1)) →
           IsReached next k home
       at None e is = absurd is
       at (Some area) e is = subst (λ x. IsSomeAnd x (λ area. (is_in home.0 (chain_by next.anons area.anon) ≡ true) × (index_of area k.1 ≡ home.1)))
@@ -266,7 +272,8 @@ module _ (p q : ℕ) (r next : Rmap) (apart : (p == q) ≡ false) (forks : AreFo
   pub fork-goes_over : (page : ℕ) (home : ℕ × ℕ) → IsReached r (p, page) home → IsReached next (q, page) home
   fork-goes_over page home is = at (r.areas p page) refl is
     where
-      at : (o : Option Area) → r.areas p page ≡ o → IsSomeAnd o (λ area. (is_in home.0 (chain_by r.anons area.anon) ≡ true) × (index_of area page ≡ home.1)) →
+      at : (o : Option Area) → r.areas p page ≡ o
+          → IsSomeAnd o (λ area. (is_in home.0 (chain_by r.anons area.anon) ≡ true) × (index_of area page ≡ home.1)) →
           IsReached next (q, page) home
       at None e is = absurd is
       at (Some area) e is = subst (λ x. IsSomeAnd x (λ area. (is_in home.0 (chain_by next.anons area.anon) ≡ true) × (index_of area page ≡ home.1)))
@@ -274,7 +281,8 @@ module _ (p q : ℕ) (r next : Rmap) (apart : (p == q) ≡ false) (forks : AreFo
           (fork-keeps.all page area (child.own page) (forks.2 page ∙ e) (child.here page area e) home.0 is.0, is.1)
 
 -- the entries that go over are reached from the homes of their frames
-pub sound-forked : (l : Ledger) (p q : ℕ) (r next : Rmap) → T (is_sorted key_cmp l.entries) → (p == q) ≡ false → ((page : ℕ) → entry l (q, page) ≡ None)
+pub sound-forked : (l : Ledger) (p q : ℕ) (r next : Rmap) → T (is_sorted key_cmp l.entries) → (p == q) ≡ false
+    → ((page : ℕ) → entry l (q, page) ≡ None)
     → AreForked p q r next → IsRmapSound l r → IsRmapSound (child_ledger p q l) next
 sound-forked l p q r next sorted apart none forks h = record {
   made = (fork-keeps p q r next apart forks chains).chains.made;
@@ -295,7 +303,8 @@ sound-forked l p q r next sorted apart none forks h = record {
         by None is = is
         by (Some home) is = there home is
 
-    reached : (k : Key) (f : ℕ) (b : Bool) → (k.0 == q) ≡ b → IsSomeAnd (option_or (cond b (option_map without_seen (entry l (p, k.1))) None) (entry l k))
+    reached : (k : Key) (f : ℕ) (b : Bool) → (k.0 == q) ≡ b
+        → IsSomeAnd (option_or (cond b (option_map without_seen (entry l (p, k.1))) None) (entry l k))
         (λ e. names_frame f e ≡ true)
         → IsSomeAnd (next.homes f) (IsReached next k)
     reached k f false is names = at_home k k f (fork-stays p q r next apart forks chains k is) (h.covered k f names)

@@ -11,7 +11,7 @@ use Rattle.av_vma.specs.Pages.{AreLaid, Pages, home_of}
 use Rattle.av_vma.proofs.Mremap.{in_range as range_bounds}
 use Rattle.av_plain.specs.Areas.{AreLeft, Areas, Rmap, chain_length}
 use Rattle.av_plain.specs.Covered.{AreSlotsCovered, IsRmapSound}
-use Rattle.av_plain.specs.Event.{Event, Moved, after_all, after_move, after_note, after_zap, entries_where, note_events, off_cache, when}
+use Rattle.av_plain.specs.Event.{Event, EntriesMoved, after_all, after_move, after_note, after_zap, entries_where, note_events, off_cache, when}
 use Rattle.av_plain.specs.Ledger.{Cached, Entry, Key, Ledger, cached_by, entry, frame_at, is_orphan, key_cmp, names_frame, names_slot, same_slot}
 use Rattle.av_plain.specs.Mremap.{after_mremap, range_zaps, remap_events}
 use Rattle.av_plain.specs.Zap.{keys_in, orphan_drop, slot_behind_key, zap_of, zaps_of}
@@ -85,20 +85,22 @@ fewer-remap l p from n to m t f = by (to == from)
         (record x { entries = entries_where (λ k. not (k.0 == p && within from (min n m) k.1)) x })))
 
     by : (b : Bool) → frame_at (after_all l (if b then range_zaps l p (from + m) (n - m)
-        else range_zaps l p to m ++ range_zaps (after_all l (range_zaps l p to m)) p (from + m) (n - m) ++ Moved p (min n m) from to ∷ [])) t ≡ Some f
+        else range_zaps l p to m ++ range_zaps (after_all l (range_zaps l p to m)) p (from + m) (n - m)
+        ++ EntriesMoved p (min n m) from to ∷ [])) t ≡ Some f
         → frame_at l t ≡ Some f
     by true at = fewer-zaps l (keys_in l p (from + m) (n - m)) t f at
     by false at =
         let l1 = after_all l target in
         let l2 = after_all l1 tail in
         fewer-zaps l (keys_in l p to m) t f (fewer-zaps l1 (keys_in l1 p (from + m) (n - m)) t f (moved l2 t f
-        (subst (λ x. frame_at x t ≡ Some f) (after_all-append l (target ++ tail) (Moved p (min n m) from to ∷ [])
+        (subst (λ x. frame_at x t ≡ Some f) (after_all-append l (target ++ tail) (EntriesMoved p (min n m) from to ∷ [])
         ∙ ap (after_move p (min n m) from to) (after_all-append l target tail)) at)))
 
 -- ---- each entry has its home
 
 module _ (l : Ledger) (p from n to k : ℕ) (left : Option Prot) (r next : Rmap) (sorted : T (is_sorted key_cmp l.entries)) (laid : AreLaid (r.areas p))
-    (may : IsRemap from n to k (r.areas p)) (is : next.areas ≡ with_at p (after_mremap (chain_length r.anons) p from n to k left (r.areas p)) r.areas) where
+    (may : IsRemap from n to k (r.areas p))
+    (is : next.areas ≡ with_at p (after_mremap (chain_length r.anons) p from n to k left (r.areas p)) r.areas) where
   abbrev on : Pages
   on = r.areas p
 
@@ -126,7 +128,8 @@ module _ (l : Ledger) (p from n to k : ℕ) (left : Option Prot) (r next : Rmap)
   carry P q was page e of_p at names goes = record {
     was = (q, was);
     names = named P (q, was) e at names;
-    home = λ home had. ap (λ (x : Pages). home_of page (x page)) (at_p q of_p) ∙ goes home (ap (λ x. home_of was (r.areas x was)) (sym (same q of_p)) ∙ had);
+    home = λ home had. ap (λ (x : Pages). home_of page (x page)) (at_p q of_p)
+        ∙ goes home (ap (λ x. home_of was (r.areas x was)) (sym (same q of_p)) ∙ had);
   }
 
   -- a page of another process stays
@@ -168,7 +171,8 @@ module _ (l : Ledger) (p from n to k : ℕ) (left : Option Prot) (r next : Rmap)
       stays : (b : Bool) → (q == p) ≡ b → in_range p from n (q, page) ≡ false → in_range p to k (q, page) ≡ false → entry l (q, page) ≡ Some e
           → Came l r next P (q, page)
       stays true of_p gone out had = carry P q page page e of_p had names
-          (home_outside (chain_length r.anons) p from n to k left on laid may apart page (of_range to k q page of_p out) (of_range from n q page of_p gone))
+          (home_outside (chain_length r.anons) p from n to k left on laid may apart page (of_range to k q page of_p out)
+          (of_range from n q page of_p gone))
       stays false other gone out had = stay P q page e other had names
 
       by : (was : ℕ) → entry l (q, was) ≡ Some e
@@ -203,6 +207,8 @@ module _ (l : Ledger) (p from n to k : ℕ) (left : Option Prot) (r next : Rmap)
   sound-remapped = sound-carried l later r next (λ key f names.
       let c = came (λ e. names_frame f e ≡ true) key names in record { was = c.was; names = c.names; home = c.home }) owns
 
-  pub slots-remapped : AreLeft r.anons next.areas next.anons → next.homes ≡ r.homes → IsRmapSound l r → AreSlotsCovered l r → AreSlotsCovered later next
+  pub slots-remapped : AreLeft r.anons next.areas next.anons → next.homes ≡ r.homes → IsRmapSound l r → AreSlotsCovered l r
+      → AreSlotsCovered later next
   slots-remapped = slots-carried l later r next (λ t key names.
-      let c = came (λ e. names_slot t e ≡ true) key names in record { was = c.was; names = c.names; home = c.home }) (fewer-remap l p from n to k) owns
+      let c = came (λ e. names_slot t e ≡ true) key names in record { was = c.was; names = c.names; home = c.home })
+      (fewer-remap l p from n to k) owns

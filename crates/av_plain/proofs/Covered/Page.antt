@@ -122,7 +122,8 @@ given-reach w l r k f owns free h = record {
   reach = record {
     in_order = is_sorted-set k (InFrame f false) l h.reach.in_order;
     once = h.reach.once;
-    sound = sound-put l given r k f false (λ q. entry-set k (InFrame f false) l q) owns (λ q other names. free-unnamed l f free q names) h.reach.sound;
+    sound = sound-put l given r k f false (λ q. entry-set k (InFrame f false) l q) owns
+        (λ q other names. free-unnamed l f free q names) h.reach.sound;
     slots = slots-homed given r f k (λ t q at names. free-uncached l f free t at)
         (slots-lists (set_entry k (InFrame f false) l) given r refl refl (slots-set l r k (InFrame f false) (λ t. refl) h.reach.slots));
   };
@@ -135,7 +136,8 @@ given-reach w l r k f owns free h = record {
 new-reach : (w : World) (l : Ledger) (r : Rmap) (k : Key) (f : ℕ) → is_some (pages w k.0 k.1) ≡ true → is_free l f ≡ true → ReachAt w l r →
     ReachAt w (after_note (New k.0 (address_of k.1) f) l) (rmap_after_note l (New k.0 (address_of k.1) f) r)
 new-reach w l r k f mapped free h =
-    subst (λ (q : Key). ReachAt w (to_inactive_head f (set_entry q (InFrame f false) l)) (at_home f q (prepare_page q.0 q.1 r))) (sym (key_at-address k))
+    subst (λ (q : Key). ReachAt w (to_inactive_head f (set_entry q (InFrame f false) l)) (at_home f q (prepare_page q.0 q.1 r)))
+    (sym (key_at-address k))
     (given-reach w l (prepare_page k.0 k.1 r) k f (owns-prepared l k.0 k.1 r (h.lies.laid k.0) h.reach.sound (h.lies.there k mapped)) free prepared)
   where
     prepared : ReachAt w l (prepare_page k.0 k.1 r)
@@ -222,7 +224,8 @@ AloneAt l k = (f : ℕ) → Names l k f → Alone l f
 
 -- a frame that a write needn't copy
 unshared-alone : (m : Setting) (l : Ledger) (f : ℕ) → IsSound m l → is_shared l f ≡ false → Alone l f
-unshared-alone m l f s h = record { few = few (nat_lt 1 (map_count l f)) refl h; unslotted = λ t q at names. by t q at names (slot_of l f) refl (second _ _ h) }
+unshared-alone m l f s h =
+    record { few = few (nat_lt 1 (map_count l f)) refl h; unslotted = λ t q at names. by t q at names (slot_of l f) refl (second _ _ h) }
   where
     second : (a b : Bool) → (a || b) ≡ false → b ≡ false
     second true b h = cc
@@ -253,7 +256,8 @@ unshared-alone m l f s h = record { few = few (nat_lt 1 (map_count l f)) refl h;
 -- one that was free
 fresh-alone : (l : Ledger) (k : Key) (f : ℕ) → T (is_sorted key_cmp l.entries) → is_free l f ≡ true →
     AloneAt (to_inactive_head f (set_entry k (InFrame f false) l)) k
-fresh-alone l k f sorted free g names = subst (Alone (to_inactive_head f (set_entry k (InFrame f false) l))) (sym (mine (same_key k k) (same_key-itself k)
+fresh-alone l k f sorted free g names =
+    subst (Alone (to_inactive_head f (set_entry k (InFrame f false) l))) (sym (mine (same_key k k) (same_key-itself k)
     (subst (λ o. IsSomeAnd o (λ e. names_frame g e ≡ true)) (entry-set k (InFrame f false) l k) names))) (record {
       few = let c = map_count-set k (InFrame f false) l f sorted in let u = unused l f free in let e = ap {B = ℕ} (λ b. cond b 1 0) (same-itself f) in
           omega (arith, c, u, e);
@@ -289,12 +293,14 @@ record Made (w : World) (l : Ledger) (r : Rmap) (write : Bool) (k : Key) (notes 
   reach : NotesReach w l r notes
   alone : write ≡ true → AloneAt (after_notes l notes) k
 
-made-none : (w : World) (l : Ledger) (r : Rmap) (write : Bool) (k : Key) (notes : List Note) → notes ≡ [] → ReachAt w l r → (write ≡ true → AloneAt l k) →
+made-none : (w : World) (l : Ledger) (r : Rmap) (write : Bool) (k : Key) (notes : List Note) → notes ≡ [] → ReachAt w l r
+    → (write ≡ true → AloneAt l k) →
     Made w l r write k notes
 made-none w l r write k notes e h alone = subst (Made w l r write k) (sym e) (record { reach = h; alone = alone })
 
 -- a frame is taken and becomes the page's
-made-taken : (m : Setting) (w : World) (sp : Spared) (l : Ledger) (r : Rmap) (write : Bool) (k : Key) (notes : List Note) (note : ℕ → Note) → ReachAt w l r →
+made-taken : (m : Setting) (w : World) (sp : Spared) (l : Ledger) (r : Rmap) (write : Bool) (k : Key) (notes : List Note) (note : ℕ → Note)
+    → ReachAt w l r →
     (takes : TakesFor m sp l notes note)
     → ((l' : Ledger) (r' : Rmap) → r'.areas ≡ r.areas → ReachAt w l' r' → is_free l' takes.frame ≡ true →
     ReachAt w (after_note (note takes.frame) l') (rmap_after_note l' (note takes.frame) r'))
@@ -318,7 +324,8 @@ made-taken m w sp l r write k notes note h takes gives is = subst (Made w l r wr
     sought : NotesReach w l r takes.sought
     sought = fit-reach w l r takes.sought fit h
 
-made-reach : (m : Setting) (w : World) (sp : Sparing) (l : Ledger) (r : Rmap) (write : Bool) (k : Key) (notes : List Note) → is_some (pages w k.0 k.1) ≡ true →
+made-reach : (m : Setting) (w : World) (sp : Sparing) (l : Ledger) (r : Rmap) (write : Bool) (k : Key) (notes : List Note)
+    → is_some (pages w k.0 k.1) ≡ true →
     IsSound m l → ReachAt w l r → IsMade m sp l k (need write l (entry l k)) notes → Made w l r write k notes
 made-reach m w sp l r write k notes mapped s h made = by write (entry l k) refl made
   where
@@ -341,7 +348,8 @@ made-reach m w sp l r write k notes mapped s h made = by write (entry l k) refl 
     own g seen at apart f names = subst (Alone l) (sym (same-is f g (subst (λ o. IsSomeAnd o (λ e. names_frame f e ≡ true)) at names)))
         (unshared-alone m l g s apart)
 
-    maybe : (g : ℕ) (seen : Bool) → entry l k ≡ Some (InFrame g seen) → (b : Bool) → is_shared l g ≡ b → IsMade m sp l k (cond b (CopyOnWrite g) Ready) notes →
+    maybe : (g : ℕ) (seen : Bool) → entry l k ≡ Some (InFrame g seen) → (b : Bool) → is_shared l g ≡ b
+        → IsMade m sp l k (cond b (CopyOnWrite g) Ready) notes →
         Made w l r true k notes
     maybe g seen at true is q = copy true g seen at q
     maybe g seen at false is q = made-none w l r true k notes q h (λ _. own g seen at is)
@@ -395,7 +403,8 @@ use-reach w l r write k alone h = by write (entry l k) refl alone
         once = h.reach.once;
         sound = sound-put l (set_entry k (InFrame f true) l) r k f true (λ q. entry-set k (InFrame f true) l q)
             (covered-owns l r k f h.reach.sound (named f seen at)) (alone-by l k f h.reach.in_order a.few (named f seen at)) h.reach.sound;
-        slots = slots-homed (set_entry k (InFrame f true) l) r f k (λ t q is names. a.unslotted t q is (set-fewer l k (InFrame f true) (λ u. refl) t q names))
+        slots = slots-homed (set_entry k (InFrame f true) l) r f k
+            (λ t q is names. a.unslotted t q is (set-fewer l k (InFrame f true) (λ u. refl) t q names))
             (slots-set l r k (InFrame f true) (λ t. refl) h.reach.slots);
       };
       lies = record { laid = h.lies.laid; there = h.lies.there };
@@ -405,7 +414,8 @@ use-reach w l r write k alone h = by write (entry l k) refl alone
     stale None l' r' h' = h'
     stale (Some t) l' r' h' = record { reach = reach-stale l' r' true t h'.reach; lies = h'.lies }
 
-    by : (write : Bool) (o : Option Entry) → entry l k ≡ o → (write ≡ true → AloneAt l k) → ReachAt w (after_use_of write k l o) (rmap_after_use write k o r)
+    by : (write : Bool) (o : Option Entry) → entry l k ≡ o → (write ≡ true → AloneAt l k)
+        → ReachAt w (after_use_of write k l o) (rmap_after_use write k o r)
     by false None is a = h
     by true None is a = h
     by false (Some Zero) is a = h
@@ -414,7 +424,8 @@ use-reach w l r write k alone h = by write (entry l k) refl alone
     by true (Some (InSlot t)) is a = h
     by false (Some (InFrame f seen)) is a = set-reach w l r k (InFrame f true)
         (λ g e. subst (λ o. IsSomeAnd o (λ x. names_frame g x ≡ true)) (sym is) e) (λ t. refl) h
-    by true (Some (InFrame f seen)) is a = stale (slot_of l f) (set_entry k (InFrame f true) l) (at_home f k r) (written f seen is (a refl f (named f seen is)))
+    by true (Some (InFrame f seen)) is a =
+        stale (slot_of l f) (set_entry k (InFrame f true) l) (at_home f k r) (written f seen is (a refl f (named f seen is)))
 
 -- ---- a page
 
@@ -474,7 +485,8 @@ ReachesAt w l r events = ReachAt w (after_all l events) (rmap_after_all l events
 noted-at : (w : World) (l : Ledger) (r : Rmap) (notes : List Note) → NotesReach w l r notes → ReachesAt w l r (note_events notes)
 noted-at w l r notes h = subst (λ x. ReachAt w x (rmap_after_all l (note_events notes) r)) (sym (note_events-all l notes)) h
 
-reaches-append : (w : World) (l : Ledger) (r : Rmap) (a b : List Event) → ReachesAt w (after_all l a) (rmap_after_all l a r) b → ReachesAt w l r (a ++ b)
+reaches-append : (w : World) (l : Ledger) (r : Rmap) (a b : List Event) → ReachesAt w (after_all l a) (rmap_after_all l a r) b
+    → ReachesAt w l r (a ++ b)
 reaches-append w l r a b h = subst (λ x. ReachAt w x (rmap_after_all l (a ++ b) r)) (sym (after_all-append l a b))
     (subst (ReachAt w (after_all (after_all l a) b)) (sym (rmap_after_all-append l a b r)) h)
 
@@ -482,7 +494,8 @@ pub page-reach : (m : Setting) (w : World) (l : Ledger) (r : Rmap) (write : Bool
     ReachAt w l r → Touches m w l write k notes end → ReachesAt w l r (page_events write k notes end)
 page-reach m w l r write k notes None s h t =
     let v = serves-made m w (sparing w) l r write k notes (allowed-mapped w write k t.0) s h t.1 in
-    reaches-append w l r (note_events notes) (Used write k ∷ []) (use-reach w (after_all l (note_events notes)) (rmap_after_all l (note_events notes) r) write k
+    reaches-append w l r (note_events notes) (Used write k ∷ [])
+    (use-reach w (after_all l (note_events notes)) (rmap_after_all l (note_events notes) r) write k
     (λ e. subst (λ x. AloneAt x k) (sym (note_events-all l notes)) (v.alone e)) (noted-at w l r notes v.reach))
 page-reach m w l r write k notes (Some Denied) s h t = noted-at w l r notes (fit-reach w l r notes (fit-is l notes [] t.1 tt) h)
 page-reach m w l r write k notes (Some (Starved out)) s h t =
@@ -490,7 +503,8 @@ page-reach m w l r write k notes (Some (Starved out)) s h t =
 page-reach m w l r write k notes (Some Lost) s h t =
     noted-at w l r notes (fit-reach w l r notes (fit-seeks m (sparing w l None) l notes t.1.seeks) h)
 
-pub accesses-reach : (m : Setting) (w : World) (l : Ledger) (r : Rmap) (p : ℕ) (pages : List (Bool × ℕ)) (events : List Event) (end : End) → IsSound m l →
+pub accesses-reach : (m : Setting) (w : World) (l : Ledger) (r : Rmap) (p : ℕ) (pages : List (Bool × ℕ)) (events : List Event) (end : End)
+    → IsSound m l →
     ReachAt w l r → Accesses m w l p pages events end → ReachesAt w l r events
 accesses-reach m w l r p [] events end s h t = subst (ReachesAt w l r) (sym t.0) h
 accesses-reach m w l r p (page ∷ rest) events end s h (inl t) =

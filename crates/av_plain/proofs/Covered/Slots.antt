@@ -8,7 +8,7 @@ use Rattle.std.specs.Prelude.{IsSomeAnd, if◌then◌else◌}
 use Rattle.av_base.specs.Words.{is_in, with_at}
 use Rattle.av_base.specs.declared.slot.Slot.{Slot}
 use Rattle.av_vma.specs.declared.area.Area.{Area}
-use Rattle.av_vma.specs.Join.{index_of}
+use Rattle.av_vma.specs.Index.{index_of}
 use Rattle.av_vma.specs.Pages.{home_of}
 use Rattle.av_trace.specs.declared.note.Note.TheVariants.{Dropped, Loaded}
 use Rattle.av_plain.specs.Areas.{AnonVma, Anons, AreLeft, Homes, Rmap, at_home, at_root, chain_by, home_for, rmap_after_note, root_of}
@@ -51,7 +51,8 @@ own-of r k area own kin is_area is_own =
 pub reached-own : (r : Rmap) (k : Key) (home : ℕ × ℕ) → HasKin r → IsReached r k home → Own r k
 reached-own r k home h is = by (r.areas k.0 k.1) refl is
   where
-    by : (o : Option Area) → r.areas k.0 k.1 ≡ o → IsSomeAnd o (λ area. (is_in home.0 (chain_by r.anons area.anon) ≡ true) × (index_of area k.1 ≡ home.1)) →
+    by : (o : Option Area) → r.areas k.0 k.1 ≡ o
+        → IsSomeAnd o (λ area. (is_in home.0 (chain_by r.anons area.anon) ≡ true) × (index_of area k.1 ≡ home.1)) →
         Own r k
     by None e is = absurd is
     by (Some area) e is = let own = chain_there r.anons area.anon home.0 is.0 in own-of r k area own.0 h e own.1
@@ -59,7 +60,8 @@ reached-own r k home h is = by (r.areas k.0 k.1) refl is
 pub rooted-own : (r : Rmap) (k : Key) (home : ℕ × ℕ) → HasKin r → IsRooted r k home → Own r k
 rooted-own r k home h is = by (r.areas k.0 k.1) refl is
   where
-    of_area : (area : Area) → r.areas k.0 k.1 ≡ Some area → (o : Option ℕ) → area.anon ≡ o → IsSomeAnd o (λ own. root_of r.anons own ≡ home.0) → Own r k
+    of_area : (area : Area) → r.areas k.0 k.1 ≡ Some area → (o : Option ℕ) → area.anon ≡ o
+        → IsSomeAnd o (λ own. root_of r.anons own ≡ home.0) → Own r k
     of_area area e None f is = absurd is
     of_area area e (Some own) f is = own-of r k area own h e f
 
@@ -174,7 +176,8 @@ are-keys l s k sorted is = by (entry l k) (sym (keys-filter (names_slot s) l.ent
     by (Some e) is = is
 
 -- its home reaches each of them
-home_for-reached : (l : Ledger) (r : Rmap) (s : Slot) (k : Key) → T (is_sorted key_cmp l.entries) → IsRmapSound l r → AreSlotsCovered l r → IsOfSlot l s k →
+home_for-reached : (l : Ledger) (r : Rmap) (s : Slot) (k : Key) → T (is_sorted key_cmp l.entries) → IsRmapSound l r → AreSlotsCovered l r
+    → IsOfSlot l s k →
     IsSomeAnd (home_for r (keys_of_slot l s)) (IsReached r k)
 home_for-reached l r s k sorted sound h is = by (keys_of_slot l s) (λ q. are-keys l s q sorted) (keys-are l s k sorted is)
   where
@@ -188,7 +191,8 @@ home_for-reached l r s k sorted sound h is = by (keys_of_slot l s) (λ q. are-ke
     by : (ks : List Key) → ((q : Key) → list_any (same_key q) ks ≡ true → IsOfSlot l s q) → list_any (same_key k) ks ≡ true →
         IsSomeAnd (home_for r ks) (IsReached r k)
     by [] of t = absurd (false≢true t)
-    by (q ∷ []) of t = subst (λ q. IsSomeAnd (home_of q.1 (r.areas q.0 q.1)) (IsReached r k)) (alone q (same_key k q) refl t) (own-reached r k mine l sound)
+    by (q ∷ []) of t = subst (λ q. IsSomeAnd (home_of q.1 (r.areas q.0 q.1)) (IsReached r k)) (alone q (same_key k q) refl t)
+        (own-reached r k mine l sound)
     by (q ∷ q' ∷ qs) of t =
         let first = of q (ap (λ b. b || list_any (same_key q) (q' ∷ qs)) (same_key-itself q)) in
         let home = h.rooted s q k first is in
@@ -260,7 +264,8 @@ slots-set l r k e none = slots-same l (set_entry k e l) r (set-fewer l k e none)
 
 pub slots-put : (l : Ledger) (r : Rmap) (s : Slot) (f : ℕ) (stale : Bool) → slot_entries l s ≡ 0 → AreSlotsCovered l r →
     AreSlotsCovered (into_cache s f stale l) r
-slots-put l r s f stale none = slots-fewer l (into_cache s f stale l) r r.homes (λ t k names. names) (λ t k g at names. by t k g (same_slot t s) refl at names)
+slots-put l r s f stale none =
+    slots-fewer l (into_cache s f stale l) r r.homes (λ t k names. names) (λ t k g at names. by t k g (same_slot t s) refl at names)
   where
     unnamed : (t : Slot) (k : Key) → same_slot t s ≡ true → IsOfSlot l t k → ⊥
     unnamed t k is names = one (entry l k) refl (subst (λ t. IsOfSlot l t k) (slot-is t s is) names)
@@ -289,7 +294,8 @@ frame_at-off s t (c ∷ cs) = by (same_slot s c.slot) refl (same_slot t c.slot) 
     by : (a : Bool) → same_slot s c.slot ≡ a → (b : Bool) → same_slot t c.slot ≡ b → (d : Bool) → same_slot t s ≡ d
         → option_map (λ (c : Cached). c.frame) (cached_by (λ c. same_slot t c.slot) (filter (λ (c : Cached). not (same_slot s c.slot)) cs))
         ≡ cond d None (option_map (λ (c : Cached). c.frame) (cached_by (λ c. same_slot t c.slot) cs))
-        → option_map (λ (c : Cached). c.frame) (cached_by (λ c. same_slot t c.slot) (cond (not a) (c ∷ filter (λ (c : Cached). not (same_slot s c.slot)) cs)
+        → option_map (λ (c : Cached). c.frame)
+        (cached_by (λ c. same_slot t c.slot) (cond (not a) (c ∷ filter (λ (c : Cached). not (same_slot s c.slot)) cs)
         (filter (λ (c : Cached). not (same_slot s c.slot)) cs)))
         ≡ cond d None (option_map (λ (c : Cached). c.frame) (cond b (Some c) (cached_by (λ c. same_slot t c.slot) cs)))
     by true e b f true g rest = rest
@@ -342,7 +348,8 @@ frame_at-stale stale s t l = each l.cache
     ]
 
     frame-same : (c : Cached) → (if same_slot s c.slot then record c { stale = stale } else c).frame ≡ c.frame
-    frame-same c = elim (same_slot s c.slot) as (λ (b : Bool). (if b then record c { stale = stale } else c).frame ≡ c.frame) [ true ↦ refl | false ↦ refl ]
+    frame-same c = elim (same_slot s c.slot) as (λ (b : Bool). (if b then record c { stale = stale } else c).frame ≡ c.frame)
+        [ true ↦ refl | false ↦ refl ]
 
     each : (cs : List Cached) → option_map (λ (c : Cached). c.frame) (cached_by (λ c. same_slot t c.slot)
         (map (λ (c : Cached). if same_slot s c.slot then record c { stale = stale } else c) cs))
@@ -371,18 +378,23 @@ slots-tail l r (Some f) h = slots-lists l (to_inactive_tail f l) r refl refl h
 -- ---- seen bits are cleared
 
 -- entries are changed, and each names only what it named
-of_changed : (P Q : Entry → Type 0) (c : Entry → Entry) → ((e : Entry) → P (c e) → Q e) → (o : Option Entry) → IsSomeAnd (option_map c o) P → IsSomeAnd o Q
+of_changed : (P Q : Entry → Type 0) (c : Entry → Entry) → ((e : Entry) → P (c e) → Q e) → (o : Option Entry) → IsSomeAnd (option_map c o) P
+    → IsSomeAnd o Q
 of_changed P Q c h None is = is
 of_changed P Q c h (Some e) is = h e is
 
 pub slots-unseen : (l : Ledger) (r : Rmap) (f : ℕ) → AreSlotsCovered l r → AreSlotsCovered (change_entries f without_seen l) r
-slots-unseen l r f = slots-same l (change_entries f without_seen l) r (λ s k names. of_changed (λ e. names_slot s e ≡ true) (λ e. names_slot s e ≡ true)
-    (to_unseen f) (λ e is. sym (unseen-by f (names_slot s) (λ g seen now. refl) e) ∙ is) (entry l k) (subst (λ o. IsSomeAnd o (λ e. names_slot s e ≡ true)) (entry-unseen f l k) names))
+slots-unseen l r f =
+    slots-same l (change_entries f without_seen l) r (λ s k names. of_changed (λ e. names_slot s e ≡ true) (λ e. names_slot s e ≡ true)
+    (to_unseen f) (λ e is. sym (unseen-by f (names_slot s) (λ g seen now. refl) e) ∙ is) (entry l k)
+    (subst (λ o. IsSomeAnd o (λ e. names_slot s e ≡ true)) (entry-unseen f l k) names))
     (λ s. refl)
 
 pub sound-unseen : (l : Ledger) (r : Rmap) (f : ℕ) → IsRmapSound l r → IsRmapSound (change_entries f without_seen l) r
-sound-unseen l r f = sound-fewer l (change_entries f without_seen l) r (λ k g names. of_changed (λ e. names_frame g e ≡ true) (λ e. names_frame g e ≡ true)
-    (to_unseen f) (λ e is. sym (unseen-by f (names_frame g) (λ i seen now. refl) e) ∙ is) (entry l k) (subst (λ o. IsSomeAnd o (λ e. names_frame g e ≡ true)) (entry-unseen f l k) names))
+sound-unseen l r f =
+    sound-fewer l (change_entries f without_seen l) r (λ k g names. of_changed (λ e. names_frame g e ≡ true) (λ e. names_frame g e ≡ true)
+    (to_unseen f) (λ e is. sym (unseen-by f (names_frame g) (λ i seen now. refl) e) ∙ is) (entry l k)
+    (subst (λ o. IsSomeAnd o (λ e. names_frame g e ≡ true)) (entry-unseen f l k) names))
 
 -- ---- entries of a cached frame become its slot
 
@@ -440,7 +452,8 @@ slots-unmapped l r f t at sound h = record {
     inner : {a b : ℕ} → Some a ≡ Some b → a ≡ b
     inner e = cc
 
-    cached : (s : Slot) (k : Key) (g : ℕ) (b : Bool) → same_slot s t ≡ b → frame_at l s ≡ Some g → WasNamed l t f s k → IsSomeAnd (r.homes g) (IsReached r k)
+    cached : (s : Slot) (k : Key) (g : ℕ) (b : Bool) → same_slot s t ≡ b → frame_at l s ≡ Some g → WasNamed l t f s k
+        → IsSomeAnd (r.homes g) (IsReached r k)
     cached s k g false is there a = h.cached s k g there (a.slot is)
     cached s k g true is there a =
         let same : f ≡ g = inner (sym at ∙ ap (frame_at l) (sym (slot-is s t is)) ∙ there) in
@@ -463,7 +476,8 @@ sound-unmapped l r f t = sound-fewer l (change_entries f (λ _. InSlot t) l) r
 -- ---- a frame comes home
 
 -- a frame that is at home anew caches no slot that an entry names
-pub slots-homed : (l : Ledger) (r : Rmap) (f : ℕ) (k : Key) → ((s : Slot) (q : Key) → frame_at l s ≡ Some f → IsOfSlot l s q → ⊥) → AreSlotsCovered l r →
+pub slots-homed : (l : Ledger) (r : Rmap) (f : ℕ) (k : Key) → ((s : Slot) (q : Key) → frame_at l s ≡ Some f → IsOfSlot l s q → ⊥)
+    → AreSlotsCovered l r →
     AreSlotsCovered l (at_home f k r)
 slots-homed l r f k free = slots-fewer l l r (with_at f (home_of k.1 (r.areas k.0 k.1)) r.homes) (λ s q names. names)
     (λ s q g at names. (at, by s q g (g == f) refl at names))
@@ -494,7 +508,8 @@ slots-carried l l' r next carries frames owns left homes sound h = record {
       (home.0, rooted k a.was home.0 a.home home.1, rooted q b.was home.0 b.home home.2);
   cached = λ s k f at names.
       let a = carries s k names in
-      subst (λ (hs : Homes). IsSomeAnd (hs f) (IsReached next k)) (sym homes) (reached k a.was (r.homes f) a.home (h.cached s a.was f (frames s f at) a.names));
+      subst (λ (hs : Homes). IsSomeAnd (hs f) (IsReached next k)) (sym homes)
+      (reached k a.was (r.homes f) a.home (h.cached s a.was f (frames s f at) a.names));
 }
   where
     -- what an own anon_vma was
@@ -520,15 +535,18 @@ slots-carried l l' r next carries frames owns left homes sound h = record {
         by (Some a) e kin = record {
           root = kin.root;
           members = λ u among. subst (λ x. IsSomeAnd x (λ (other : AnonVma). other.root ≡ a.root))
-              (sym (linked p page v u is (subst (λ x. is_in u (option_map_or (λ (b : AnonVma). b.chain) x []) ≡ true) (sym e) among))) (kin.members u among);
+              (sym (linked p page v u is (subst (λ x. is_in u (option_map_or (λ (b : AnonVma). b.chain) x []) ≡ true) (sym e) among)))
+              (kin.members u among);
         }
 
     -- the area that an entry has now, from the one that it had
-    now-area : (k was : Key) (o : Own r was) → ((x : ℕ × ℕ) → home_of was.1 (r.areas was.0 was.1) ≡ Some x → home_of k.1 (next.areas k.0 k.1) ≡ Some x) →
+    now-area : (k was : Key) (o : Own r was)
+        → ((x : ℕ × ℕ) → home_of was.1 (r.areas was.0 was.1) ≡ Some x → home_of k.1 (next.areas k.0 k.1) ≡ Some x) →
         IsSomeAnd (next.areas k.0 k.1) (λ area. (area.anon ≡ Some o.own) × (index_of area k.1 ≡ index_of o.area was.1))
     now-area k was o home = home_parts k.1 (next.areas k.0 k.1) (o.own, index_of o.area was.1) (home (o.own, index_of o.area was.1) (home-is r was o))
 
-    owned : (k was : Key) (o : Own r was) → IsSomeAnd (next.areas k.0 k.1) (λ area. (area.anon ≡ Some o.own) × (index_of area k.1 ≡ index_of o.area was.1)) →
+    owned : (k was : Key) (o : Own r was)
+        → IsSomeAnd (next.areas k.0 k.1) (λ area. (area.anon ≡ Some o.own) × (index_of area k.1 ≡ index_of o.area was.1)) →
         Owns next k.0 k.1 o.own
     owned k was o is = by (next.areas k.0 k.1) is
       where
@@ -544,7 +562,8 @@ slots-carried l l' r next carries frames owns left homes sound h = record {
         let now = now-area k was o goes in
         let here = of_area r was o (λ area. IsSomeAnd area.anon (λ own. root_of r.anons own ≡ home.0) × (index_of area was.1 ≡ home.1)) is in
         let root = subst (λ x. IsSomeAnd x (λ own. root_of r.anons own ≡ home.0)) o.is_own here.0 in
-        by o (next.areas k.0 k.1) now (ap (λ x. option_map_or (λ (a : AnonVma). a.root) x o.own) (itself k.0 k.1 o.own (owned k was o now)) ∙ root) here.1
+        by o (next.areas k.0 k.1) now
+        (ap (λ x. option_map_or (λ (a : AnonVma). a.root) x o.own) (itself k.0 k.1 o.own (owned k was o now)) ∙ root) here.1
       where
         by : (o : Own r was) (x : Option Area) → IsSomeAnd x (λ area. (area.anon ≡ Some o.own) × (index_of area k.1 ≡ index_of o.area was.1))
             → root_of next.anons o.own ≡ home.0 → index_of o.area was.1 ≡ home.1
@@ -552,7 +571,8 @@ slots-carried l l' r next carries frames owns left homes sound h = record {
         by o None is root index = is
         by o (Some area) is root index = (subst (λ x. IsSomeAnd x (λ own. root_of next.anons own ≡ home.0)) (sym is.0) root, is.1 ∙ index)
 
-    reached : (k was : Key) (x : Option (ℕ × ℕ)) → ((y : ℕ × ℕ) → home_of was.1 (r.areas was.0 was.1) ≡ Some y → home_of k.1 (next.areas k.0 k.1) ≡ Some y) →
+    reached : (k was : Key) (x : Option (ℕ × ℕ))
+        → ((y : ℕ × ℕ) → home_of was.1 (r.areas was.0 was.1) ≡ Some y → home_of k.1 (next.areas k.0 k.1) ≡ Some y) →
         IsSomeAnd x (IsReached r was) → IsSomeAnd x (IsReached next k)
     reached k was None goes is = is
     reached k was (Some home) goes is =
@@ -561,7 +581,8 @@ slots-carried l l' r next carries frames owns left homes sound h = record {
         let here = of_area r was o (λ area. (is_in home.0 (chain_by r.anons area.anon) ≡ true) × (index_of area was.1 ≡ home.1)) is in
         let among = subst (λ x. is_in home.0 (chain_by r.anons x) ≡ true) o.is_own here.0 in
         by o (next.areas k.0 k.1) now
-        (subst (λ x. is_in home.0 (option_map_or (λ (a : AnonVma). a.chain) x []) ≡ true) (sym (itself k.0 k.1 o.own (owned k was o now))) among) here.1
+        (subst (λ x. is_in home.0 (option_map_or (λ (a : AnonVma). a.chain) x []) ≡ true)
+        (sym (itself k.0 k.1 o.own (owned k was o now))) among) here.1
       where
         by : (o : Own r was) (x : Option Area) → IsSomeAnd x (λ area. (area.anon ≡ Some o.own) × (index_of area k.1 ≡ index_of o.area was.1))
             → is_in home.0 (chain_by next.anons (Some o.own)) ≡ true → index_of o.area was.1 ≡ home.1

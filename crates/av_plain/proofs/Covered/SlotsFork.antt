@@ -8,7 +8,7 @@ use Rattle.std.specs.Prelude.{IfSome, IsSome, IsSomeAnd}
 use Rattle.av_base.specs.Words.{is_in}
 use Rattle.av_base.specs.declared.slot.Slot.{Slot}
 use Rattle.av_vma.specs.declared.area.Area.{Area}
-use Rattle.av_vma.specs.Join.{first_of, index_of}
+use Rattle.av_vma.specs.Index.{first_of, index_of}
 use Rattle.av_vma.specs.Pages.{has_page, pages_in, with_area}
 use Rattle.av_plain.specs.Areas.{AnonVma, Anons, Rmap, chain_by, root_of}
 use Rattle.av_plain.specs.Covered.{AreSlotsCovered, IsKin, IsOfSlot, IsReached, IsRmapSound, IsRooted}
@@ -78,7 +78,8 @@ gets_new : (r : Rmap) (own : ℕ) → HasChains r → HasKin r → HasAnon r own
 gets_new r own chains kin has = record {
   roots = roots;
   others = λ p page v owns. by v (IsSomeAnd-kin v (kin p page v owns));
-  mine = λ v e. let one : r.anons.next ≡ v = cc in subst (λ v. IsSomeAnd ((with_child own None r.anons).anon v) (IsKin (with_child own None r.anons))) one mine;
+  mine = λ v e. let one : r.anons.next ≡ v = cc in
+      subst (λ v. IsSomeAnd ((with_child own None r.anons).anon v) (IsKin (with_child own None r.anons))) one mine;
 }
   where
     made : AnonVma
@@ -88,11 +89,13 @@ gets_new r own chains kin has = record {
     not_next v there = let less = chains.made v there in grind (arith, nat_tests, less)
 
     old : (v : ℕ) → IsSome (r.anons.anon v) → (with_child own None r.anons).anon v ≡ r.anons.anon v
-    old v there = ap (λ b. cond b (Some (record { root = root_of r.anons own; parent = own; chain = chain_by r.anons (Some own) ++ r.anons.next ∷ [] }))
+    old v there = ap (λ b. cond b
+        (Some (record { root = root_of r.anons own; parent = own; chain = chain_by r.anons (Some own) ++ r.anons.next ∷ [] }))
         (r.anons.anon v)) (not_next v there)
 
     roots : KeepsRoots r.anons (with_child own None r.anons)
-    roots u root is = subst (λ x. IsSomeAnd x (λ (a : AnonVma). a.root ≡ root)) (sym (old u (some_of (λ (a : AnonVma). a.root ≡ root) (r.anons.anon u) is))) is
+    roots u root is = subst (λ x. IsSomeAnd x (λ (a : AnonVma). a.root ≡ root))
+        (sym (old u (some_of (λ (a : AnonVma). a.root ≡ root) (r.anons.anon u) is))) is
 
     IsSomeAnd-kin : (v : ℕ) → IsSomeAnd (r.anons.anon v) (IsKin r.anons) → HasAnon r v
     IsSomeAnd-kin v is = has-anon r v is
@@ -121,7 +124,8 @@ gets_new r own chains kin has = record {
     mine : IsSomeAnd ((with_child own None r.anons).anon r.anons.next) (IsKin (with_child own None r.anons))
     mine = subst (λ x. IsSomeAnd x (IsKin (with_child own None r.anons))) (sym new-is) (record {
       root = in_front (root_of r.anons own) (chain_by r.anons (Some own)) (r.anons.next ∷ [])
-          (subst (λ x. is_in x (chain_by r.anons (Some own)) ≡ true) (sym root-same) (subst (λ c. is_in has.anon.root c ≡ true) (sym chain-same) has.kin.root));
+          (subst (λ x. is_in x (chain_by r.anons (Some own)) ≡ true) (sym root-same)
+          (subst (λ c. is_in has.anon.root c ≡ true) (sym chain-same) has.kin.root));
       members = λ u among. member u (last_or u r.anons.next (chain_by r.anons (Some own)) among);
     })
 
@@ -130,7 +134,8 @@ gets_reused : (r : Rmap) (own v : ℕ) → HasKin r → HasAnon r own → is_in 
 gets_reused r own v kin has among idle = record {
   roots = roots;
   others = λ p page w owns. other p page w owns (w == v) refl (has-anon r w (kin p page w owns));
-  mine = λ w e. let one : v ≡ w = cc in subst (λ w. IsSomeAnd ((with_child own (Some v) r.anons).anon w) (IsKin (with_child own (Some v) r.anons))) one mine;
+  mine = λ w e. let one : v ≡ w = cc in
+      subst (λ w. IsSomeAnd ((with_child own (Some v) r.anons).anon w) (IsKin (with_child own (Some v) r.anons))) one mine;
 }
   where
     again : AnonVma
@@ -281,7 +286,8 @@ record Came (l : Ledger) (r next : Rmap) (s : Slot) (k : Key) : Type 0 where
   names : IsOfSlot l s was
   goes : (home : ℕ × ℕ) → IsReached r was home → IsReached next k home
 
-pub slots-forked : (l : Ledger) (p q : ℕ) (r next : Rmap) → T (is_sorted key_cmp l.entries) → (p == q) ≡ false → ((page : ℕ) → entry l (q, page) ≡ None)
+pub slots-forked : (l : Ledger) (p q : ℕ) (r next : Rmap) → T (is_sorted key_cmp l.entries) → (p == q) ≡ false
+    → ((page : ℕ) → entry l (q, page) ≡ None)
     → AreForked p q r next → IsRmapSound l r → AreSlotsCovered l r → AreSlotsCovered (child_ledger p q l) next
 slots-forked l p q r next sorted apart none forks sound h = record {
   kin = left.kin;

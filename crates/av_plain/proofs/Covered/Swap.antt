@@ -56,7 +56,8 @@ cached_at l f t once is = by (frame_at l t) refl
       where
         same : (b : Bool) → (f == g) ≡ b → frame_at l t ≡ Some f
         same true eq = e ∙ ap Some (sym (same-is f g eq))
-        same false eq = absurd (let a = frame_at-some g t l.cache e in let b = two_frames t f g l.cache eq in let q = pair in omega (arith, a, b, once, q))
+        same false eq = absurd
+            (let a = frame_at-some g t l.cache e in let b = two_frames t f g l.cache eq in let q = pair in omega (arith, a, b, once, q))
 
 -- no entry names a frame that is free, and no slot is cached at it
 pub free-unnamed : (l : Ledger) (f : ℕ) → is_free l f ≡ true → (k : Key) → Names l k f → ⊥
@@ -66,7 +67,8 @@ pub free-uncached : (l : Ledger) (f : ℕ) → is_free l f ≡ true → (t : Slo
 free-uncached l f free t at =
     let u = unused l f free in let p = frame_at-some f t l.cache at in let q = pair-frame t f l.cache in omega (arith, u, p, q)
 
-once-in : (l : Ledger) (t : Slot) (f : ℕ) (stale : Bool) → slots l t ≡ 0 → ((s : Slot) → slots l s ≤ 1) → (s : Slot) → slots (into_cache t f stale l) s ≤ 1
+once-in : (l : Ledger) (t : Slot) (f : ℕ) (stale : Bool) → slots l t ≡ 0 → ((s : Slot) → slots l s ≤ 1) → (s : Slot)
+    → slots (into_cache t f stale l) s ≤ 1
 once-in l t f stale none once s = by (same_slot s t) refl
   where
     by : (b : Bool) → same_slot s t ≡ b → cond b 1 0 + slots l s ≤ 1
@@ -148,7 +150,8 @@ reach-note l r (Unmapped f) fits h = by (slot_of l f) refl
     by : (o : Option Slot) → slot_of l f ≡ o → Reach (if_some o (λ s. change_entries f (λ _. InSlot s)) l) r
     by None is = h
     by (Some t) is = record {
-      in_order = subst (λ o. T (is_sorted key_cmp (if_some o (λ s. change_entries f (λ _. InSlot s)) l).entries)) is (sorted-note l (Unmapped f) h.in_order);
+      in_order = subst (λ o. T (is_sorted key_cmp (if_some o (λ s. change_entries f (λ _. InSlot s)) l).entries)) is
+          (sorted-note l (Unmapped f) h.in_order);
       once = h.once;
       sound = sound-unmapped l r f t h.sound;
       slots = slots-unmapped l r f t (cached_at l f t (h.once t) is) h.sound h.slots;
@@ -242,7 +245,8 @@ fit-turns m sp l (f ∷ fs) notes r = stuck (λ l' ns q. fit-turns m sp l' fs ns
     stuck again true r = again l notes r
     stuck again false r = goes (stays_cached l f r.0 r.1) r.3
       where
-        goes : (b : Bool) → MatchBool b ((rest : List Note) × (notes ≡ turn_notes l f r.0 r.1 ++ rest) × Turns m sp (after_notes l (turn_notes l f r.0 r.1)) fs
+        goes : (b : Bool) → MatchBool b
+            ((rest : List Note) × (notes ≡ turn_notes l f r.0 r.1 ++ rest) × Turns m sp (after_notes l (turn_notes l f r.0 r.1)) fs
             rest) (notes ≡ turn_notes l f r.0 r.1 ++ Dropped r.0 ∷ []) → AllFit l notes
         goes true q = fit-is l notes (turn_notes l f r.0 r.1 ++ q.0) q.1
             (fit-append l (turn_notes l f r.0 r.1) q.0 (fit-turn m sp l f r.0 r.1 r.2)

@@ -19,7 +19,7 @@ use Rattle.av_plain.specs.Covered.{AreSlotsCovered, IsRmapSound}
 use Rattle.av_plain.specs.Event.{Event, TurnedOff, TurnedOn, after_all, after_note, after_notes, key_at, note_events}
 use Rattle.av_plain.specs.Fault.{sparing}
 use Rattle.av_plain.specs.Fork.{IsRmapNext}
-use Rattle.av_plain.specs.Ledger.{Key, Ledger, Setting, entry, frame_at, keys_of_slot, slot_entries, slots_in_use}
+use Rattle.av_plain.specs.Ledger.{Key, Ledger, Setting, SwapArea, entry, frame_at, keys_of_slot, slot_entries, slots_in_use}
 use Rattle.av_plain.specs.Pass.{Spared, TakesFor}
 use Rattle.av_plain.specs.Reclaim.{Ages, CompletesFirst, Reclaims, from_tail}
 use Rattle.av_plain.specs.Refusal.{Refuses, refusal, tests}
@@ -44,7 +44,8 @@ use Rattle.av_plain.proofs.Transcript.{plain-next}
 
 -- ---- a slot is emptied
 
-fit-maps : (l : Ledger) (t : Slot) (f : ℕ) (ks : List Key) → frame_at l t ≡ Some f → ((k : Key) → list_any (same_key k) ks ≡ true → Waits t f (entry l k)) →
+fit-maps : (l : Ledger) (t : Slot) (f : ℕ) (ks : List Key) → frame_at l t ≡ Some f
+    → ((k : Key) → list_any (same_key k) ks ≡ true → Waits t f (entry l k)) →
     AllFit l (map_all ks f ++ Dropped t ∷ [])
 fit-maps l t f [] at waits = (tt, tt)
 fit-maps l t f (k ∷ ks) at waits = (
@@ -53,7 +54,8 @@ fit-maps l t f (k ∷ ks) at waits = (
       (waits q (or_right (same_key q k) (list_any (same_key q) ks) h))),
 )
 
-fit-fetched : (m : Setting) (sp : Spared) (l : Ledger) (t : Slot) (f : ℕ) (notes : List Note) → IsSound m l → 0 < count l t → IsFetched m sp l t f notes →
+fit-fetched : (m : Setting) (sp : Spared) (l : Ledger) (t : Slot) (f : ℕ) (notes : List Note) → IsSound m l → 0 < count l t
+    → IsFetched m sp l t f notes →
     AllFit l notes
 fit-fetched m sp l t f notes s used h = by (frame_at l t) refl h
   where
@@ -75,7 +77,8 @@ fetched-at m sp l t f notes h = by (frame_at l t) refl h
     by (Some g) is q = subst (λ ns. frame_at (after_notes l ns) t ≡ Some f) (sym q.0) (is ∙ ap Some (sym q.1))
     by None is q = q.1
 
-fit-emptied : (m : Setting) (w : World) (sp : Spared) (l : Ledger) (t : Slot) (notes : List Note) → Empty m w l → 0 < count l t → IsEmptied m sp l t notes →
+fit-emptied : (m : Setting) (w : World) (sp : Spared) (l : Ledger) (t : Slot) (notes : List Note) → Empty m w l → 0 < count l t
+    → IsEmptied m sp l t notes →
     AllFit l notes
 fit-emptied m w sp l t notes e used h =
     let l1 = after_notes l h.fetched in
@@ -104,7 +107,8 @@ abbrev pub Reaches : Ledger → Rmap → List Event → Type 0
 Reaches l r events = Reach (after_all l events) (rmap_after_all l events r)
 
 noted-reach : (l : Ledger) (r : Rmap) (notes : List Note) → AllFit l notes → Reach l r → Reaches l r (note_events notes)
-noted-reach l r notes fit h = subst (λ x. Reach x (rmap_after_all l (note_events notes) r)) (sym (note_events-all l notes)) (reach-notes l r notes fit h)
+noted-reach l r notes fit h =
+    subst (λ x. Reach x (rmap_after_all l (note_events notes) r)) (sym (note_events-all l notes)) (reach-notes l r notes fit h)
 
 reclaim-reach : (m : Setting) (w : World) (l : Ledger) (r : Rmap) (n : ℕ) (events : List Event) (answer : Answer) (rows : List Row) → Reach l r →
     Reclaims m w l n events answer rows → Reaches l r events
@@ -116,20 +120,22 @@ age-reach : (l : Ledger) (r : Rmap) (n : ℕ) (events : List Event) (answer : An
 age-reach l r n events answer rows s h =
     subst (Reaches l r) (sym h.1) (noted-reach l r (map Aged (from_tail n l.active)) (fit-ages l (from_tail n l.active)) s)
 
-complete-reach : (l : Ledger) (r : Rmap) (n : ℕ) (events : List Event) (answer : Answer) (rows : List Row) → Reach l r → CompletesFirst l n events answer rows →
+complete-reach : (l : Ledger) (r : Rmap) (n : ℕ) (events : List Event) (answer : Answer) (rows : List Row) → Reach l r
+    → CompletesFirst l n events answer rows →
     Reaches l r events
 complete-reach l r n events answer rows s h = subst (Reaches l r) (sym h.3) (noted-reach l r h.0 (fit-completes l (take n l.flight) h.0 h.1) s)
 
-turn-on-reach : (m : Setting) (l : Ledger) (r : Rmap) (k : ℕ) (events : List Event) (answer : Answer) (rows : List Row) → Reach l r →
-    TurnsOn m k events answer rows → Reaches l r events
-turn-on-reach m l r k events answer rows s h = subst (Reaches l r) (sym h.1) (by (turn-on-events k answer))
+turn-on-reach : (m : Setting) (l : Ledger) (r : Rmap) (k : ℕ) (priority : Option ℕ) (events : List Event) (answer : Answer)
+    (rows : List Row) → Reach l r → TurnsOn m k priority events answer rows → Reaches l r events
+turn-on-reach m l r k priority events answer rows s h = subst (Reaches l r) (sym h.1) (by (turn-on-events k priority answer))
   where
-    by : (turn_on_events k answer ≡ []) ⊎ ((slots : ℕ) × (bad : ℕ) × (turn_on_events k answer ≡ TurnedOn k slots bad ∷ [])) →
-        Reaches l r (turn_on_events k answer)
+    by : (turn_on_events k priority answer ≡ []) ⊎ ((area : SwapArea) × (turn_on_events k priority answer ≡ TurnedOn k area ∷ [])) →
+        Reaches l r (turn_on_events k priority answer)
     by (inl e) = subst (Reaches l r) (sym e) s
-    by (inr (slots, bad, e)) = subst (Reaches l r) (sym e) (reach-alike l (after_all l (TurnedOn k slots bad ∷ [])) r refl refl s)
+    by (inr (area, e)) = subst (Reaches l r) (sym e) (reach-alike l (after_all l (TurnedOn k area ∷ [])) r refl refl s)
 
-turn-off-reach : (m : Setting) (w : World) (l : Ledger) (r : Rmap) (k : ℕ) (events : List Event) (answer : Answer) (rows : List Row) → AllSound m w l →
+turn-off-reach : (m : Setting) (w : World) (l : Ledger) (r : Rmap) (k : ℕ) (events : List Event) (answer : Answer) (rows : List Row)
+    → AllSound m w l →
     Reach l r → TurnsOff m w l k events answer rows → Reaches l r events
 turn-off-reach m w l r k events answer rows s h t = subst (Reaches l r) (sym t.whole)
     (subst (λ x. Reach x (rmap_after_all l (note_events all ++ turn_off_events k t.end) r))
@@ -149,7 +155,8 @@ turn-off-reach m w l r k events answer rows s h t = subst (Reaches l r) (sym t.w
         (done-empty m w l t.done s t.completes) t.empties)) h
 
     ends : (end : Close) → Reach (after_all (after_all l (note_events (t.done ++ t.notes))) (turn_off_events k end))
-        (rmap_after_all (after_all l (note_events (t.done ++ t.notes))) (turn_off_events k end) (rmap_after_all l (note_events (t.done ++ t.notes)) r))
+        (rmap_after_all (after_all l (note_events (t.done ++ t.notes))) (turn_off_events k end)
+        (rmap_after_all l (note_events (t.done ++ t.notes)) r))
     ends Closed = let l' = after_all l (note_events (t.done ++ t.notes)) in
         reach-alike l' (after_all l' (TurnedOff k ∷ [])) (rmap_after_all l (note_events (t.done ++ t.notes)) r) refl refl before
     ends (NoRoom out) = before
@@ -161,7 +168,7 @@ abbrev pub moves_swap : Command → Bool
 moves_swap (Reclaim n) = true
 moves_swap (Age n) = true
 moves_swap (Complete n) = true
-moves_swap (Swapon k) = true
+moves_swap (Swapon k priority) = true
 moves_swap (Swapoff k) = true
 moves_swap command = false
 
@@ -170,36 +177,41 @@ follows-reach : (m : Setting) (w : World) (l : Ledger) (r : Rmap) (command : Com
 follows-reach m w l r (Reclaim n) events answer rows is s h f = reclaim-reach m w l r n events answer rows h f
 follows-reach m w l r (Age n) events answer rows is s h f = age-reach l r n events answer rows h f
 follows-reach m w l r (Complete n) events answer rows is s h f = complete-reach l r n events answer rows h f
-follows-reach m w l r (Swapon k) events answer rows is s h f = turn-on-reach m l r k events answer rows h f
+follows-reach m w l r (Swapon k priority) events answer rows is s h f = turn-on-reach m l r k priority events answer rows h f
 follows-reach m w l r (Swapoff k) events answer rows is s h f = turn-off-reach m w l r k events answer rows s h f
 follows-reach m w l r command events answer rows is s h f = cc
 
-pub legal-reach : (m : Setting) (w : World) (l : Ledger) (r : Rmap) (command : Command) (reply : Reply) (events : List Event) → moves_swap command ≡ true →
+pub legal-reach : (m : Setting) (w : World) (l : Ledger) (r : Rmap) (command : Command) (reply : Reply) (events : List Event)
+    → moves_swap command ≡ true →
     AllSound m w l → Reach l r → IsLegal m w l command reply events → Reaches l r events
 legal-reach m w l r command reply events is s h legal = by (refusal (tests m w l command)) legal.answer
   where
-    by : (o : Option Errno) → MatchOption o (Follows m w l command events reply.answer reply.rows) (λ error. Refuses error events reply.answer reply.rows) →
+    by : (o : Option Errno)
+        → MatchOption o (Follows m w l command events reply.answer reply.rows) (λ error. Refuses error events reply.answer reply.rows) →
         Reaches l r events
     by None f = follows-reach m w l r command events reply.answer reply.rows is s h f
     by (Some error) f = subst (Reaches l r) (sym f.1) h
 
 -- the areas stay, and with them what is linked to an own anon_vma
-pub reach-left : (l : Ledger) (r next : Rmap) → next.areas ≡ r.areas → AreLeft r.anons next.areas next.anons → next.homes ≡ r.homes → Reach l r → Reach l next
+pub reach-left : (l : Ledger) (r next : Rmap) → next.areas ≡ r.areas → AreLeft r.anons next.areas next.anons → next.homes ≡ r.homes
+    → Reach l r → Reach l next
 reach-left l r next areas = next-reach l r next (λ k x there is. ap (λ on. home_of k.1 (on k.0 k.1)) areas ∙ is)
     (λ p page v is. (p, page, subst (λ on. IsSomeAnd (on p page) (λ area. area.anon ≡ Some v)) areas is))
 
-next-still : (now : Rmap) (w : World) (command : Command) (answer : Answer) (next : Rmap) → moves_swap command ≡ true → IsRmapNext now w command answer next →
+next-still : (now : Rmap) (w : World) (command : Command) (answer : Answer) (next : Rmap) → moves_swap command ≡ true
+    → IsRmapNext now w command answer next →
     (next.areas ≡ now.areas) × AreLeft now.anons next.areas next.anons × (next.homes ≡ now.homes)
 next-still now w (Reclaim n) answer next is h = let a = plain-next now w (Reclaim n) answer next refl h in (a.areas, a.anons, a.homes)
 next-still now w (Age n) answer next is h = let a = plain-next now w (Age n) answer next refl h in (a.areas, a.anons, a.homes)
 next-still now w (Complete n) answer next is h = let a = plain-next now w (Complete n) answer next refl h in (a.areas, a.anons, a.homes)
-next-still now w (Swapon k) answer next is h = let a = plain-next now w (Swapon k) answer next refl h in (a.areas, a.anons, a.homes)
+next-still now w (Swapon k priority) answer next is h = let a = plain-next now w (Swapon k priority) answer next refl h in (a.areas, a.anons, a.homes)
 next-still now w (Swapoff k) answer next is h = let a = plain-next now w (Swapoff k) answer next refl h in (a.areas, a.anons, a.homes)
 next-still now w command answer next is h = cc
 
 -- a step of these commands keeps frames and slots covered
 pub step-covered : (m : Setting) (old : State) (command : Command) (reply : Reply) (new : State) → moves_swap command ≡ true →
-    AllSound m old.world old.ledger → IsStep m old command reply new → IsRmapSound old.ledger (rmap_of old) → AreSlotsCovered old.ledger (rmap_of old) →
+    AllSound m old.world old.ledger → IsStep m old command reply new → IsRmapSound old.ledger (rmap_of old)
+    → AreSlotsCovered old.ledger (rmap_of old) →
     IsRmapSound new.ledger (rmap_of new) × AreSlotsCovered new.ledger (rmap_of new)
 step-covered m old command reply new is s step sound slots = (all.sound, all.slots)
   where
@@ -213,7 +225,8 @@ step-covered m old command reply new is s step sound slots = (all.sound, all.slo
     still = next-still now old.world command reply.answer (rmap_of new) is step.rmap
 
     all : Reach new.ledger (rmap_of new)
-    all = subst (λ l. Reach l (rmap_of new)) (sym step.ledger) (reach-left (after_all old.ledger step.events) now (rmap_of new) still.0 still.1 still.2
+    all = subst (λ l. Reach l (rmap_of new)) (sym step.ledger)
+        (reach-left (after_all old.ledger step.events) now (rmap_of new) still.0 still.1 still.2
         (legal-reach m old.world old.ledger (rmap_of old) command reply step.events is s before step.legal))
 
 -- ---- reads and writes
@@ -251,12 +264,14 @@ access-covered m old command reply new is s lies step sound slots = (all.sound, 
 
     by : (o : Option Errno) → MatchOption o (Follows m old.world old.ledger command step.events reply.answer reply.rows)
         (λ error. Refuses error step.events reply.answer reply.rows) → Reaches old.ledger (rmap_of old) step.events
-    by None f = access-reach m old.world old.ledger (rmap_of old) command step.events reply.answer reply.rows is s (record { reach = before; lies = lies }) f
+    by None f = access-reach m old.world old.ledger (rmap_of old) command step.events reply.answer reply.rows is s
+        (record { reach = before; lies = lies }) f
     by (Some error) f = subst (Reaches old.ledger (rmap_of old)) (sym f.1) before
 
     still : ((rmap_of new).areas ≡ now.areas) × AreLeft now.anons (rmap_of new).areas (rmap_of new).anons × ((rmap_of new).homes ≡ now.homes)
     still = access-still now old.world command reply.answer (rmap_of new) is step.rmap
 
     all : Reach new.ledger (rmap_of new)
-    all = subst (λ l. Reach l (rmap_of new)) (sym step.ledger) (reach-left (after_all old.ledger step.events) now (rmap_of new) still.0 still.1 still.2
+    all = subst (λ l. Reach l (rmap_of new)) (sym step.ledger)
+        (reach-left (after_all old.ledger step.events) now (rmap_of new) still.0 still.1 still.2
         (by (refusal (tests m old.world old.ledger command)) step.legal.answer))

@@ -60,7 +60,8 @@ zaps-reach l r (k ∷ ks) h = subst (λ x. Reach x r) (sym (after_all-append l (
 
 -- ---- areas become others
 
--- each page with an entry keeps the home that frames have from it, no area has an own anon_vma that none had, and of the anon_vmas is left what is linked
+-- each page with an entry keeps the home that frames have from it, no area has an own anon_vma that
+-- none had, and of the anon_vmas is left what is linked
 pub next-reach : (l : Ledger) (r next : Rmap)
     → ((k : Key) (h : ℕ × ℕ) → is_some (entry l k) ≡ true → home_of k.1 (r.areas k.0 k.1) ≡ Some h → home_of k.1 (next.areas k.0 k.1) ≡ Some h)
     → ((p page v : ℕ) → Owns next p page v → (q : ℕ) × (other : ℕ) × Owns r q other v)

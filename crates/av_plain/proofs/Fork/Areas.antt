@@ -80,7 +80,8 @@ none_of area areas page is = by (has_page area page) is
     by true e = cc
     by false e = (refl, e)
 
-pub first_left : (q : ℕ) (area : Area) (areas : List Area) (r next : Rmap) → LeavesArea q area r next → (p page : ℕ) → IsLeft q (area ∷ areas) p page →
+pub first_left : (q : ℕ) (area : Area) (areas : List Area) (r next : Rmap) → LeavesArea q area r next → (p page : ℕ)
+    → IsLeft q (area ∷ areas) p page →
     next.areas p page ≡ r.areas p page
 first_left q area areas r next w p page (inl other) = w.others p page other
 first_left q area areas r next w p page (inr none) = by (p == q) refl
@@ -98,7 +99,8 @@ pub not_later : (area : Area) (areas : List Area) (page : ℕ) → AreApart (map
     pages_in (Some areas) page ≡ None
 not_later area areas page rise has = none_later area areas page rise (has_parts area page has).1
 
-pub not_first : (area : Area) (areas : List Area) (page : ℕ) (a : Area) → AreApart (map range_of (area ∷ areas)) → pages_in (Some areas) page ≡ Some a →
+pub not_first : (area : Area) (areas : List Area) (page : ℕ) (a : Area) → AreApart (map range_of (area ∷ areas))
+    → pages_in (Some areas) page ≡ Some a →
     has_page area page ≡ false
 not_first area areas page a rise is = by (has_page area page) refl
   where
@@ -115,7 +117,8 @@ pub record LeavesAreas (q : ℕ) (areas : List Area) (r next : Rmap) : Type 0 wh
   pub left : (p page : ℕ) → IsLeft q areas p page → next.areas p page ≡ r.areas p page
   pub own : ℕ → Option ℕ
   pub here : (page : ℕ) (area : Area) → pages_in (Some areas) page ≡ Some area → next.areas q page ≡ Some (in_child q area (own page))
-  pub one : (page other : ℕ) (area : Area) → pages_in (Some areas) page ≡ Some area → has_page area other ≡ true → next.areas q page ≡ next.areas q other
+  pub one : (page other : ℕ) (area : Area) → pages_in (Some areas) page ≡ Some area → has_page area other ≡ true
+      → next.areas q page ≡ next.areas q other
 
 pub areas-leave : (q : ℕ) (areas : List Area) (r next : Rmap) → AreApart (map range_of areas) → GoOver q areas r next → LeavesAreas q areas r next
 areas-leave q [] r next rise goes = subst (LeavesAreas q [] r) (sym goes)

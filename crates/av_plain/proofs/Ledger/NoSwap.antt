@@ -35,7 +35,8 @@ pub some_of : (test : ℕ → Bool) (a n f : ℕ) → a ≤ f → f < a + n → 
 some_of test a zero f low high is = absurd (omega (arith, low, high))
 some_of test a (suc n) f low high is = elim (test a) as (λ b. test a ≡ b → (b || list_any test (range_with_len (a + 1) n)) ≡ true) [
   | true ↦ λ _. refl
-  | false ↦ λ e. some_of test (a + 1) n f (let ne : a ≢ f = λ same. false≢true (sym e ∙ ap test same ∙ is) in omega (arith, low, ne)) (omega (arith, high)) is
+  | false ↦ λ e. some_of test (a + 1) n f (let ne : a ≢ f = λ same. false≢true (sym e ∙ ap test same ∙ is) in omega (arith, low, ne))
+      (omega (arith, high)) is
 ] refl
 
 pub none_of : (test : ℕ → Bool) (a n f : ℕ) → a ≤ f → f < a + n → list_any test (range_with_len a n) ≡ false → test f ≡ false

@@ -1,7 +1,8 @@
 -- Laws of entries in order: what a key finds, and how many entries pass a test, after a change.
-use Rattle.std.proofs.Common.{◌≡◌, ℕ, ◌+◌, Bool, true, false, cond, not, ◌&&◌, T, List, [], ◌∷◌, Option, Some, None, refl, sym, ap, subst, ◌∙◌, arith, Ordering}
+use Rattle.std.proofs.Common.{◌≡◌, ℕ, ◌+◌, ◌<◌, Bool, true, false, cond, not, ◌&&◌, T, List, [], ◌∷◌, Option, Some, None, refl, sym, ap, subst, ◌∙◌, arith, Ordering}
 use Rattle.std.specs.declared.cmp.Ordering.TheVariants.{Less, Equal, Greater}
-use Rattle.std.specs.Ordering.{is_lt, is_eq, eq_by_cmp}
+use Rattle.std.proofs.lemmas.Bool.Decides.{nat_tests}
+use Rattle.std.specs.Ordering.{is_lt, is_eq, eq_by_cmp, nat_cmp}
 use Rattle.std.specs.Cmp.{IsTotalOrder, nat_cmp_total}
 use Rattle.std.proofs.lemmas.Cmp.{on_total, then_total}
 use Rattle.std.specs.FinMap.Entries.{find, put, where_key, below_all, is_sorted, by_order}
@@ -28,6 +29,18 @@ pub is_less : (o : Ordering) → T (is_lt o) → o ≡ Less
 is_less Less h = refl
 is_less Equal h = absurd h
 is_less Greater h = absurd h
+
+-- what is found lies behind all that a number is below
+pub found-above : {X : Type 0} (x k : ℕ) (es : List (ℕ × X)) (a : X) → T (below_all nat_cmp x es) → find nat_cmp k es ≡ Some a → x < k
+found-above x k [] a below is = cc
+found-above {X} x k (e ∷ es) a below is =
+    by (is_lt (nat_cmp x e.0)) (eq_by_cmp nat_cmp k e.0) refl refl below is (λ b i. found-above x k es a b i)
+  where
+    by : (c b : Bool) → is_lt (nat_cmp x e.0) ≡ c → eq_by_cmp nat_cmp k e.0 ≡ b → T (c && below_all nat_cmp x es)
+        → cond b (Some e.1) (find nat_cmp k es) ≡ Some a → (T (below_all nat_cmp x es) → find nat_cmp k es ≡ Some a → x < k) → x < k
+    by true true less same b i rest = grind (arith, nat_tests, less, same)
+    by true false less same b i rest = rest b i
+    by false b' less same b i rest = absurd b
 
 added : (v e n : ℕ) → (v + (e + n)) + 0 ≡ (e + n) + v
 added v e n = omega arith

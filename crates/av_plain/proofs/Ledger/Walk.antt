@@ -20,7 +20,8 @@ keys-filter p (e ∷ es) q h =
     elim (same_key q e.0) as (λ b. same_key q e.0 ≡ b → list_any (same_key q)
     (map (λ e. e.0) (cond (p e.1) (e ∷ filter (λ e. p e.1) es) (filter (λ e. p e.1) es))) ≡ passes p (cond b (Some e.1) (find key_cmp q es))) [
       | true ↦ λ is.
-          let none : find key_cmp q es ≡ None = ap (λ k. find key_cmp k es) (same_key-is q e.0 is) ∙ find_below keys_total p e.0 es (both_first _ _ h) in
+          let none : find key_cmp q es ≡ None = ap (λ k. find key_cmp k es) (same_key-is q e.0 is)
+          ∙ find_below keys_total p e.0 es (both_first _ _ h) in
           elim (p e.1) as (λ b. list_any (same_key q) (map (λ e. e.0) (cond b (e ∷ filter (λ e. p e.1) es) (filter (λ e. p e.1) es))) ≡ b) [
             | true ↦ ap (λ b. b || list_any (same_key q) (map (λ e. e.0) (filter (λ e. p e.1) es))) is
             | false ↦ rest ∙ ap (passes p) none
@@ -32,7 +33,8 @@ keys-filter p (e ∷ es) q h =
           ]
     ] refl
 
-pub walk-has : (l : Ledger) (f : ℕ) (q : Key) → T (is_sorted key_cmp l.entries) → list_any (same_key q) (walk l f) ≡ passes (names_frame f) (entry l q)
+pub walk-has : (l : Ledger) (f : ℕ) (q : Key) → T (is_sorted key_cmp l.entries)
+    → list_any (same_key q) (walk l f) ≡ passes (names_frame f) (entry l q)
 walk-has l f q h = keys-filter (names_frame f) l.entries q h
 
 -- what holds of each key that is listed holds of the list

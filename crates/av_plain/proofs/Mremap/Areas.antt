@@ -1,4 +1,5 @@
--- The areas after an mremap: they stay whole and on all of their pages, no area has an own anon_vma that none had, and pages that stay or move keep their
+-- The areas after an mremap: they stay whole and on all of their pages, no area has an own anon_vma
+-- that none had, and pages that stay or move keep their
 -- homes.
 use Rattle.std.proofs.Common.{◌≡◌, ℕ, ◌+◌, ◌-◌, ◌<◌, ◌≤◌, min, Bool, true, false, cond, Option, Some, None, is_some, refl, sym, ap, subst, arith, ◌==◌}
 use Rattle.av_base.specs.Limits.{low_page, top_page}
@@ -79,7 +80,8 @@ module _ (long : Lengths) (p from n to k : ℕ) (on : Pages) (laid : AreLaid on)
   indices_again most high h (Some prot) = indices_mapped long (most + top_page) p from (from + n) prot then laid_then nonempty room (omega arith)
       (indices_after_move long most high from n to k on laid move h)
 
-  home_again : (left : Option Prot) (page page' : ℕ) → HomeGoes on page then page' → HomeGoes on page (with_old_range long p from (from + n) left then) page'
+  home_again : (left : Option Prot) (page page' : ℕ) → HomeGoes on page then page'
+      → HomeGoes on page (with_old_range long p from (from + n) left then) page'
   home_again None page page' goes home is = goes home is
   home_again (Some prot) page page' goes home is = homes_mapped long p from (from + n) prot then laid_then nonempty room page' home (goes home is)
 
@@ -93,7 +95,8 @@ module _ (long : Lengths) (p from n to k : ℕ) (left : Option Prot) (on : Pages
   in_place here = ap (λ b. cond b (after_resize long from n k on) (with_old_range long p from (from + n) left (after_move long from n to k on))) here
 
   elsewhere : (to == from) ≡ false → next ≡ with_old_range long p from (from + n) left (after_move long from n to k on)
-  elsewhere there = ap (λ b. cond b (after_resize long from n k on) (with_old_range long p from (from + n) left (after_move long from n to k on))) there
+  elsewhere there = ap
+      (λ b. cond b (after_resize long from n k on) (with_old_range long p from (from + n) left (after_move long from n to k on))) there
 
   pub laid_remapped : AreLaid next
   laid_remapped = by (to == from) refl
@@ -114,7 +117,8 @@ module _ (long : Lengths) (p from n to k : ℕ) (left : Option Prot) (on : Pages
   indices_remapped most high h = by (to == from) refl
     where
       by : (b : Bool) → (to == from) ≡ b → AreIndicesBelow (most + top_page) next
-      by true here = subst (AreIndicesBelow (most + top_page)) (sym (in_place here)) (indices_after_resize long most high from n k on laid (may.grows here) h)
+      by true here = subst (AreIndicesBelow (most + top_page)) (sym (in_place here))
+          (indices_after_resize long most high from n k on laid (may.grows here) h)
       by false there = subst (AreIndicesBelow (most + top_page)) (sym (elsewhere there))
           (indices_again long p from n to k on laid (may.moves there) most high h left)
 
@@ -131,4 +135,5 @@ module _ (long : Lengths) (p from n to k : ℕ) (left : Option Prot) (on : Pages
 
   pub home_outside : (to == from) ≡ false → (page : ℕ) → within to k page ≡ false → within from n page ≡ false → HomeGoes on page next page
   home_outside there page out gone = subst (λ x. HomeGoes on page x page) (sym (elsewhere there))
-      (home_again long p from n to k on laid (may.moves there) left page page (home_not_moved long from n to k on laid (may.moves there) page out gone))
+      (home_again long p from n to k on laid (may.moves there) left page page
+      (home_not_moved long from n to k on laid (may.moves there) page out gone))

@@ -9,7 +9,7 @@ use Rattle.av_base.specs.declared.prot.Prot.{Prot}
 use Rattle.av_trace.specs.declared.mode.Mode.{Mode}
 use Rattle.av_vma.specs.declared.area.Area.{Area}
 use Rattle.av_vma.specs.Indices.{AreIndicesBelow}
-use Rattle.av_vma.specs.Join.{index_of}
+use Rattle.av_vma.specs.Index.{index_of}
 use Rattle.av_vma.specs.Mremap.{IsMove, after_grow, after_move, after_resize}
 use Rattle.av_vma.specs.Pages.{AreLaid, Lengths, Pages, after_map, after_unmap, split_at}
 use Rattle.av_vma.proofs.Laid.{has_parts}
@@ -36,13 +36,16 @@ module _ (q : Process) (from n to m : ℕ) (left : Option Prot) (page : ℕ) whe
   outside = cond (within from n page) (option_map zeros left) (q page)
 
   pub from_old : within to m page ≡ true → nat_lt (page - to) n ≡ true → now ≡ q (from + (page - to))
-  from_old i j = ap (λ b. cond b (cond (nat_lt (page - to) n) (q (from + (page - to))) grown) outside) i ∙ ap (λ b. cond b (q (from + (page - to))) grown) j
+  from_old i j = ap (λ b. cond b (cond (nat_lt (page - to) n) (q (from + (page - to))) grown) outside) i
+      ∙ ap (λ b. cond b (q (from + (page - to))) grown) j
 
   pub from_zeros : within to m page ≡ true → nat_lt (page - to) n ≡ false → now ≡ grown
-  from_zeros i j = ap (λ b. cond b (cond (nat_lt (page - to) n) (q (from + (page - to))) grown) outside) i ∙ ap (λ b. cond b (q (from + (page - to))) grown) j
+  from_zeros i j = ap (λ b. cond b (cond (nat_lt (page - to) n) (q (from + (page - to))) grown) outside) i
+      ∙ ap (λ b. cond b (q (from + (page - to))) grown) j
 
   pub from_left : within to m page ≡ false → within from n page ≡ true → now ≡ option_map zeros left
-  from_left i j = ap (λ b. cond b (cond (nat_lt (page - to) n) (q (from + (page - to))) grown) outside) i ∙ ap (λ b. cond b (option_map zeros left) (q page)) j
+  from_left i j = ap (λ b. cond b (cond (nat_lt (page - to) n) (q (from + (page - to))) grown) outside) i
+      ∙ ap (λ b. cond b (option_map zeros left) (q page)) j
 
   pub from_itself : within to m page ≡ false → within from n page ≡ false → now ≡ q page
   from_itself i j = ap (λ b. cond b (cond (nat_lt (page - to) n) (q (from + (page - to))) grown) outside) i
@@ -76,7 +79,8 @@ small-enough w p a old new mode to most may goes on laid same low fits which =
 
     by : (o : Option Area) → on (page_of a + min (pages_of old) (pages_of new) - 1) ≡ o
         → option_map area_prot o ≡ Some (uniform-where w p a old new mode to may goes which).prot
-        → IsSomeAnd o (λ area. index_of area (page_of a + min (pages_of old) (pages_of new) - 1) + (pages_of new - min (pages_of old) (pages_of new)) < 2 ^ 60)
+        → IsSomeAnd o (λ area. index_of area (page_of a + min (pages_of old) (pages_of new) - 1) +
+        (pages_of new - min (pages_of old) (pages_of new)) < 2 ^ 60)
     by None e h = cc
     by (Some area) e h =
         let last = page_of a + min (pages_of old) (pages_of new) - 1 in
@@ -142,7 +146,8 @@ module _ (w : World) (p a old new : ℕ) (mode : Mode) (to : ℕ) (may : MayRema
     still page shorter longer = by (nat_lt m n) (nat_lt n m) refl
       where
         by : (b c : Bool) → nat_lt n m ≡ c
-            → prots (cond b (after_unmap (from + m) (from + n) on) (cond c (after_grow long (from + m) (on (from + n - 1)) on) on)) page ≡ prots on page
+            → prots (cond b (after_unmap (from + m) (from + n) on) (cond c (after_grow long (from + m) (on (from + n - 1)) on) on))
+            page ≡ prots on page
         by true c h = prots_unmapped (from + m) (from + n) on page (out_of_range (from + m) (from + n - (from + m)) page
             (λ low high. shorter low (omega (arith, low, high))))
         by false true h = prots_not_grown long (from + n - 1) (from + m) on laid (becomes.grows here (ltb-true n m h)) page
@@ -156,7 +161,8 @@ module _ (w : World) (p a old new : ℕ) (mode : Mode) (to : ℕ) (may : MayRema
         more = omega (arith, low, high)
 
         by : (b c : Bool) → nat_lt m n ≡ b → nat_lt n m ≡ c
-            → prots (cond b (after_unmap (from + m) (from + n) on) (cond c (after_grow long (from + m) (on (from + n - 1)) on) on)) page ≡ prot_at q from
+            → prots (cond b (after_unmap (from + m) (from + n) on) (cond c (after_grow long (from + m) (on (from + n - 1)) on) on))
+            page ≡ prot_at q from
         by true c e h = absurd (let less = ltb-true m n e in let x = more in omega (arith, less, x))
         by false true e h = prots_grown long (from + n - 1) (from + m) on laid (becomes.grows here (ltb-true n m h)) page
             (let s = some w p a old new mode to may goes in omega (arith, s, low)) high ∙ last_alike (inr more)
@@ -166,7 +172,8 @@ module _ (w : World) (p a old new : ℕ) (mode : Mode) (to : ℕ) (may : MayRema
     shorter page low high = by (nat_lt m n) refl
       where
         by : (b : Bool) → nat_lt m n ≡ b
-            → prots (cond b (after_unmap (from + m) (from + n) on) (cond (nat_lt n m) (after_grow long (from + m) (on (from + n - 1)) on) on)) page ≡ None
+            → prots (cond b (after_unmap (from + m) (from + n) on)
+            (cond (nat_lt n m) (after_grow long (from + m) (on (from + n - 1)) on) on)) page ≡ None
         by true e = ap (λ c. option_map area_prot (cond c None (split_at (from + n) (split_at (from + m) on) page)))
             (is_in_range (from + m) (from + n - (from + m)) page low (omega (arith, low, high)))
         by false e = absurd (let more = ltb-false m n e in omega (arith, more, low, high))

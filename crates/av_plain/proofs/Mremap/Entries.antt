@@ -46,7 +46,8 @@ module _ (l : Ledger) (p from n to m : ℕ) (sorted : T (is_sorted key_cmp l.ent
 
   at_there : (to == from) ≡ false → (k page : ℕ) → entry later (k, page)
       ≡ either (in_range p to (min n m) (k, page)) (in_range p from (min n m) (k, page)) k page
-  at_there there k page = ap (λ x. entry x (k, page)) (after-elsewhere l p from n to m there) ∙ entry-moved kept p (min n m) from to kept_sorted (k, page)
+  at_there there k page = ap (λ x. entry x (k, page)) (after-elsewhere l p from n to m there)
+      ∙ entry-moved kept p (min n m) from to kept_sorted (k, page)
 
   -- other processes keep theirs
   pub of_others : (k page : ℕ) → (k == p) ≡ false → entry later (k, page) ≡ entry l (k, page)
@@ -102,7 +103,8 @@ module _ (l : Ledger) (p from n to m : ℕ) (sorted : T (is_sorted key_cmp l.ent
         turned : (x : ℕ) → x + from ≡ from + x
         turned x = omega arith
 
-        clash : (to + m ≤ from) ⊎ (from + n ≤ to) → (to ≤ page) × (page < to + m) → page - to < n → to ≤ page - to + from → page - to + from < to + m → ⊥
+        clash : (to + m ≤ from) ⊎ (from + n ≤ to) → (to ≤ page) × (page < to + m) → page - to < n → to ≤ page - to + from
+            → page - to + from < to + m → ⊥
         clash (inl e) b few low high = omega (arith, e, b, few, low, high)
         clash (inr e) b few low high = omega (arith, e, b, few, low, high)
 
@@ -114,7 +116,8 @@ module _ (l : Ledger) (p from n to m : ℕ) (sorted : T (is_sorted key_cmp l.ent
         ∙ none_either (within from (min n m) page) (entry kept (p, page)) (none_target page h)
 
     pub left : (page : ℕ) → within to m page ≡ false → within from n page ≡ true → entry later (p, page) ≡ None
-    left page h i = now_is page false (within from (min n m) page) (out_of_range to (min n m) page outside) refl ∙ by (within from (min n m) page) refl
+    left page h i = now_is page false (within from (min n m) page) (out_of_range to (min n m) page outside) refl
+        ∙ by (within from (min n m) page) refl
       where
         outside : to ≤ page → page < to + min n m → ⊥
         outside low high = both_ways (within to m page) h (is_in_range to m page low (omega (arith, high)))

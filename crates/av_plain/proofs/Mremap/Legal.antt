@@ -11,7 +11,7 @@ use Rattle.av_trace.specs.declared.mode.Mode.{Mode}
 use Rattle.av_trace.specs.declared.mode.Mode.TheVariants.{DontUnmap, Fixed, MayMove, Plain}
 use Rattle.av_vma.specs.declared.area.Area.{Area}
 use Rattle.av_vma.specs.Gap.{IsGap, IsRoom}
-use Rattle.av_vma.specs.Join.{index_of}
+use Rattle.av_vma.specs.Index.{index_of}
 use Rattle.av_vma.specs.Mremap.{IsGrowth, IsMove}
 use Rattle.av_vma.specs.Pages.{Pages}
 use Rattle.av_vma.proofs.Join.{prot_is}
@@ -25,7 +25,8 @@ use Rattle.av_plain.proofs.World.Ranges.{meets-none}
 -- ---- one protection
 
 -- a page of a range that has a protection is mapped with it
-pub have_prot-each : (q : Process) (prot : Prot) (from n page : ℕ) → have_prot q prot from n ≡ true → from ≤ page → page < from + n → prot_at q page ≡ Some prot
+pub have_prot-each : (q : Process) (prot : Prot) (from n page : ℕ) → have_prot q prot from n ≡ true → from ≤ page → page < from + n
+    → prot_at q page ≡ Some prot
 have_prot-each q prot from zero page h low high = absurd (omega (arith, low, high))
 have_prot-each q prot from (suc n) page h low high = elim (cases_lt from page) [
   | inl above ↦ have_prot-each q prot (from + 1) n page (both (has_prot prot (q from)) (have_prot q prot (from + 1) n) h).1 (omega (arith, above))
@@ -118,7 +119,8 @@ module _ (w : World) (p a old new : ℕ) (mode : Mode) (to : ℕ) (may : MayRema
 
   -- neither range is empty
   pub some : (1 ≤ n) × (1 ≤ m)
-  some = let h = by (old == 0) (new == 0) (overflows old) (overflows new) (leaves_old mode && not (old == new)) may.lengths in (least old h.0, least new h.1)
+  some = let h = by (old == 0) (new == 0) (overflows old) (overflows new) (leaves_old mode && not (old == new)) may.lengths in
+      (least old h.0, least new h.1)
     where
       by : (b c d e f : Bool) → (b || c || d || e || f) ≡ false → (b ≡ false) × (c ≡ false)
       by true c d e f h = cc
@@ -182,7 +184,8 @@ module _ (w : World) (p a old new : ℕ) (mode : Mode) (to : ℕ) (may : MayRema
     | inl one ↦ elim (cases_lt to (from + n)) [
       | inr above ↦ inr above
       | inl two ↦ elim (cases_lt from to) [
-        | inl higher ↦ absurd (false≢true (sym (room.free to (omega arith) (let s = some.1 in omega (arith, s))) ∙ all to (omega (arith, higher)) two))
+        | inl higher ↦ absurd
+            (false≢true (sym (room.free to (omega arith) (let s = some.1 in omega (arith, s))) ∙ all to (omega (arith, higher)) two))
         | inr lower ↦ absurd (false≢true (sym (room.free from lower one) ∙ first))
       ]
     ]

@@ -11,7 +11,7 @@ use Rattle.av_trace.specs.declared.reply.Errno.{Errno}
 use Rattle.av_trace.specs.declared.row.Row.{Row}
 use Rattle.av_trace.specs.declared.row.Row.TheVariants.{Run}
 use Rattle.av_vma.specs.declared.area.Area.{Area}
-use Rattle.av_vma.specs.Join.{first_of, past_of}
+use Rattle.av_vma.specs.Index.{first_of, past_of}
 use Rattle.av_vma.specs.Pages.{IsWhole, has_page, pages_in}
 use Rattle.av_plain.specs.Areas.{Anons, Areas}
 use Rattle.av_plain.specs.Report.{AreApart, Range, ShowsAreas, area_row, range_of, row_of, run_of}
@@ -29,7 +29,8 @@ shows-none areas anons (AsksAreas p) answer rows other = cc
 shows-none areas anons command answer rows other = tt
 
 -- nor does a refusal
-pub shows-refused : (areas : Areas) (anons : Anons) (command : Command) (error : Errno) (rows : List Row) → ShowsAreas areas anons command (Refused error) rows
+pub shows-refused : (areas : Areas) (anons : Anons) (command : Command) (error : Errno) (rows : List Row)
+    → ShowsAreas areas anons command (Refused error) rows
 shows-refused areas anons (AsksAreas p) error rows = tt
 shows-refused areas anons command error rows = tt
 
@@ -51,7 +52,8 @@ pub rest_apart : (r : Range) (rs : List Range) → AreApart (r ∷ rs) → AreAp
 rest_apart r [] h = tt
 rest_apart r (s ∷ rs) h = h.2
 
-pub all_both : {A : Type 0} (P Q R : A → Type 0) → ((x : A) → P x → Q x → R x) → (xs : List A) → AllByRecursion P xs → AllByRecursion Q xs → AllByRecursion R xs
+pub all_both : {A : Type 0} (P Q R : A → Type 0) → ((x : A) → P x → Q x → R x) → (xs : List A) → AllByRecursion P xs → AllByRecursion Q xs
+    → AllByRecursion R xs
 all_both P Q R f [] p q = tt
 all_both P Q R f (x ∷ xs) p q = (f x p.0 q.0, all_both P Q R f xs p.1 q.1)
 
@@ -100,13 +102,15 @@ none_under [] page h = refl
 none_under (a ∷ areas) page h = passed a areas page (before_area a page h.0) ∙ none_under areas page h.1
 
 -- so none is before the first one, and of the later ones none is before its end
-pub none_before : (a : Area) (areas : List Area) (page : ℕ) → AreApart (map range_of (a ∷ areas)) → page < first_of a → pages_in (Some (a ∷ areas)) page ≡ None
+pub none_before : (a : Area) (areas : List Area) (page : ℕ) → AreApart (map range_of (a ∷ areas)) → page < first_of a
+    → pages_in (Some (a ∷ areas)) page ≡ None
 none_before a areas page h before =
     passed a areas page (before_area a page before)
     ∙ none_under areas page (all_from (λ (b : Area). past_of a ≤ first_of b) (λ (b : Area). page < first_of b)
     (λ b le. let some = some_pages (range_of a) (map range_of areas) h in omega (arith, some, le, before)) areas (behind a areas h))
 
-pub none_later : (a : Area) (areas : List Area) (page : ℕ) → AreApart (map range_of (a ∷ areas)) → page < past_of a → pages_in (Some areas) page ≡ None
+pub none_later : (a : Area) (areas : List Area) (page : ℕ) → AreApart (map range_of (a ∷ areas)) → page < past_of a
+    → pages_in (Some areas) page ≡ None
 none_later a areas page h before =
     none_under areas page (all_from (λ (b : Area). past_of a ≤ first_of b) (λ (b : Area). page < first_of b)
     (λ b le. omega (arith, le, before)) areas (behind a areas h))

@@ -28,7 +28,8 @@ module _ (same : Prot → Prot → Bool) where
   front-run a b (c ∷ ranges) less next apart h = by (b.to == c.from && same b.prot c.prot) (front-run a (grown b c) ranges less next apart) h
     where
       by : (t : Bool) → (AreLongest (joined (grown b c) ranges) → AreLongest (a ∷ joined (grown b c) ranges))
-          → AreLongest (cond t (joined (grown b c) ranges) (b ∷ joined c ranges)) → AreLongest (a ∷ cond t (joined (grown b c) ranges) (b ∷ joined c ranges))
+          → AreLongest (cond t (joined (grown b c) ranges) (b ∷ joined c ranges))
+          → AreLongest (a ∷ cond t (joined (grown b c) ranges) (b ∷ joined c ranges))
       by true more h = more h
       by false more h = (less, next, apart, h)
 
@@ -40,7 +41,8 @@ module _ (same : Prot → Prot → Bool) where
   module _ (is : (p q : Prot) → same p q ≡ true → p ≡ q) (itself : (p : Prot) → same p p ≡ true) where
     pub longest : (a : Range) (ranges : List Range) → AreApart (a ∷ ranges) → AreLongest (joined a ranges)
     longest a [] h = h
-    longest a (b ∷ ranges) h = by (a.to == b.from && same a.prot b.prot) refl (longest (grown a b) ranges (apart-grown a b ranges h)) (longest b ranges h.2)
+    longest a (b ∷ ranges) h =
+        by (a.to == b.from && same a.prot b.prot) refl (longest (grown a b) ranges (apart-grown a b ranges h)) (longest b ranges h.2)
       where
         both : (x y : ℕ) (t : Bool) → (x == y && t) ≡ false → x ≡ y → t ≡ true → ⊥
         both x y t e i j = grind (arith, nat_tests, e, i, j)

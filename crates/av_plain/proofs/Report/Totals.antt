@@ -49,7 +49,8 @@ sum-once x a (suc n) low high = by (a == x) refl (λ more. sum-once x (a + 1) n 
     by false is later = let more : a + 1 ≤ x = grind (arith, nat_tests, is, low) in let rest = later more in omega (arith, rest)
 
 -- how often each number stands in a list, summed up, is the list's length, where all are below n
-pub sum-length : (n : ℕ) (fs : List ℕ) → ((f : ℕ) → 0 < how_many (λ g. f == g) fs → f < n) → sum_of (λ f. how_many (λ g. f == g) fs) (range_with_len 0 n) ≡
+pub sum-length : (n : ℕ) (fs : List ℕ) → ((f : ℕ) → 0 < how_many (λ g. f == g) fs → f < n)
+    → sum_of (λ f. how_many (λ g. f == g) fs) (range_with_len 0 n) ≡
     length fs
 sum-length n [] below = sum-none (range_with_len 0 n)
 sum-length n (x ∷ fs) below =
@@ -69,10 +70,11 @@ sum-length n (x ∷ fs) below =
 
 sum-counts : (test : ℕ → Bool) (fs : List ℕ) → sum_of (λ f. cond (test f) 1 0) fs ≡ length (filter test fs)
 sum-counts test [] = refl
-sum-counts test (f ∷ fs) = elim (test f) as (λ b. cond b 1 0 + sum_of (λ f. cond (test f) 1 0) fs ≡ length (cond b (f ∷ filter test fs) (filter test fs))) [
-  | true ↦ one_more _ _ (sum-counts test fs)
-  | false ↦ zero_plus _ _ (sum-counts test fs)
-]
+sum-counts test (f ∷ fs) =
+    elim (test f) as (λ b. cond b 1 0 + sum_of (λ f. cond (test f) 1 0) fs ≡ length (cond b (f ∷ filter test fs) (filter test fs))) [
+      | true ↦ one_more _ _ (sum-counts test fs)
+      | false ↦ zero_plus _ _ (sum-counts test fs)
+    ]
   where
     one_more : (a b : ℕ) → a ≡ b → 1 + a ≡ suc b
     one_more a b h = omega (arith, h)

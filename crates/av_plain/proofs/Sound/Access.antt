@@ -46,7 +46,8 @@ load-kept m sp l t notes s out named takes =
     subst (λ ns. LoadKept m l t (after_notes l ns)) (sym takes.whole)
     (subst (LoadKept m l t) (sym (after_notes-append l takes.sought (Loaded t takes.frame ∷ [])))
     (record {
-      sound = loaded-kept m no_excuse l1 t takes.frame passed.sound (passed.keeps.absent t (frame_at-none t l.cache out) named) (let a = passed.keeps.more t in
+      sound = loaded-kept m no_excuse l1 t takes.frame passed.sound (passed.keeps.absent t (frame_at-none t l.cache out) named)
+          (let a = passed.keeps.more t in
           omega (arith, a, named)) takes.in_range (unused l1 takes.frame takes.free);
       steady = λ k r h. passed.keeps.steady k (ap (is_steady (sp l None).frame) h) ∙ h;
     }))
@@ -68,7 +69,8 @@ comes-kept m sp l write k notes s h = by write (entry l k) refl h
     slot t at None out q =
         let named = how_many-found (names_slot t) k l.entries (InSlot t) at (slot-itself t) in
         let load = load-kept m sp l t q.0 s out named q.2 in
-        subst (λ ns. IsSound m (after_notes l ns)) (sym q.4) (subst (IsSound m) (sym (after_notes-append l q.0 (Mapped k.0 (address_of k.1) q.1 ∷ [])))
+        subst (λ ns. IsSound m (after_notes l ns)) (sym q.4)
+        (subst (IsSound m) (sym (after_notes-append l q.0 (Mapped k.0 (address_of k.1) q.1 ∷ [])))
         (map-kept m (after_notes l q.0) k q.1 t load.sound (load.steady k t at) q.3))
     slot t at (Some f) is q = subst (λ ns. IsSound m (after_notes l ns)) (sym q) (map-kept m l k f t s at is)
 
@@ -96,7 +98,8 @@ shared-is l g h = by (nat_lt 1 (map_count l g)) refl (slot_of l g) refl h
     by false is (Some t) at h = BySlot t (slot_of-some g t l.cache at) (grind (arith, nat_tests, h))
 
 -- what shares the frame does so after a pass that leaves the frame alone
-pub shared-stays : (spared : ℕ → Bool) (l l' : Ledger) (g : ℕ) → spared g ≡ true → Keeps spared l l' → 0 < map_count l g → IsSharedBy l g → IsSharedBy l' g
+pub shared-stays : (spared : ℕ → Bool) (l l' : Ledger) (g : ℕ) → spared g ≡ true → Keeps spared l l' → 0 < map_count l g → IsSharedBy l g
+    → IsSharedBy l' g
 shared-stays spared l l' g alone keeps in_use (ByFrame two) = ByFrame (let e = keeps.mapped_same g alone in omega (arith, e, two))
 shared-stays spared l l' g alone keeps in_use (BySlot t pair named) =
     BySlot t (keeps.pairs_kept t g alone in_use pair) (let a = keeps.more t in omega (arith, a, named))
@@ -138,7 +141,8 @@ made-kept m sp l write k notes pins s h = by write (entry l k) refl h
         (copied-kept m no_excuse l1 k takes.frame g seen passed.sound same (shared-stays (sp l (Some g)).frame l l1 g alone passed.keeps found shared)
         takes.in_range (unused l1 takes.frame takes.free))))
 
-    maybe : (g : ℕ) (seen : Bool) → entry l k ≡ Some (InFrame g seen) → (b : Bool) → is_shared l g ≡ b → IsMade m sp l k (cond b (CopyOnWrite g) Ready) notes →
+    maybe : (g : ℕ) (seen : Bool) → entry l k ≡ Some (InFrame g seen) → (b : Bool) → is_shared l g ≡ b
+        → IsMade m sp l k (cond b (CopyOnWrite g) Ready) notes →
         IsSound m (after_notes l notes)
     maybe g seen at true is q = split g seen at (shared-is l g is) q
     maybe g seen at false is q = none q
@@ -188,7 +192,8 @@ drop_at-kept m l write came k s = by (entry l k)
     by (Some (InSlot t)) = s
 
 -- ---- a page
-pub serves-kept : (m : Setting) (sp : Sparing) (l : Ledger) (write : Bool) (k : Key) (notes : List Note) → Pins sp → IsSound m l → Serves m sp l write k notes →
+pub serves-kept : (m : Setting) (sp : Sparing) (l : Ledger) (write : Bool) (k : Key) (notes : List Note) → Pins sp → IsSound m l
+    → Serves m sp l write k notes →
     IsSound m (after_notes l notes)
 serves-kept m sp l write k notes pins s h =
     let l1 = after_notes l h.coming in
@@ -220,11 +225,13 @@ touches-kept m w l write k notes (Some Lost) s h = (seeks-kept m (sparing w l No
 
 pub page_events-kept : (m : Setting) (l : Ledger) (write : Bool) (k : Key) (notes : List Note) (end : Option Stop) → IsSound m (after_notes l notes) →
     IsSound m (after_all l (page_events write k notes end))
-page_events-kept m l write k notes None s = subst (IsSound m) (sym (after_all-append l (note_events notes) (Used write k ∷ []) ∙ ap (after_use write k)
+page_events-kept m l write k notes None s =
+    subst (IsSound m) (sym (after_all-append l (note_events notes) (Used write k ∷ []) ∙ ap (after_use write k)
     (note_events-all l notes))) (after_use-kept m no_excuse (after_notes l notes) write k s)
 page_events-kept m l write k notes (Some stop) s = subst (IsSound m) (sym (note_events-all l notes)) s
 
 pub accesses-kept : (m : Setting) (w : World) (l : Ledger) (p : ℕ) (pages : List (Bool × ℕ)) (events : List Event) (end : End) → IsSound m l →
     Accesses m w l p pages events end → IsSound m (after_all l events)
 accesses-kept m w l p pages events end s h = accesses-keep (IsSound m) m w p
-    (λ l write page notes end s t. page_events-kept m l write (p, page) notes end (touches-kept m w l write (p, page) notes end s t)) l pages events end s h
+    (λ l write page notes end s t. page_events-kept m l write (p, page) notes end (touches-kept m w l write (p, page) notes end s t)) l
+    pages events end s h

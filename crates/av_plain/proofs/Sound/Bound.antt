@@ -33,7 +33,8 @@ found-later e es q d sorted at = by (same_key q e.0) refl
 
 -- a key that the front has, the rest has not
 not-later : (e : Key × Entry) (es : Entries) (q : Key) (d : Entry) → T (is_sorted key_cmp (e ∷ es)) → find key_cmp q es ≡ Some d → q ≡ e.0 → ⊥
-not-later e es q d sorted at same = never (find_below keys_total (λ _. true) e.0 es (both_first _ _ sorted)) (ap (λ k. find key_cmp k es) (sym same) ∙ at)
+not-later e es q d sorted at same =
+    never (find_below keys_total (λ _. true) e.0 es (both_first _ _ sorted)) (ap (λ k. find key_cmp k es) (sym same) ∙ at)
   where
     never : {o : Option Entry} → o ≡ None → o ≡ Some d → ⊥
     never a b = cc

@@ -101,7 +101,8 @@ put-kept m x l t f s absent unnamed out in_use = record {
         slot true c g r is found h = let z = ap (slot_entries l) (slot-is r t is) ∙ unnamed in absurd (omega (arith, z, found))
         slot false c g r is found h = grind (arith, nat_tests, h)
 
-    names_too : (k q : Key) (d e : Entry) → entry l k ≡ Some d → entry l q ≡ Some e → name_one (into_cache t f true l) d e ≡ true → name_one l d e ≡ true
+    names_too : (k q : Key) (d e : Entry) → entry l k ≡ Some d → entry l q ≡ Some e → name_one (into_cache t f true l) d e ≡ true
+        → name_one l d e ≡ true
     names_too k q Zero e if_some at' h = h
     names_too k q (InFrame g seen) Zero if_some at' h = h
     names_too k q (InFrame g seen) (InFrame j seen') if_some at' h = h
@@ -119,7 +120,8 @@ back c (Some d) d' h = (d, refl, cc)
 pub frames_left : (t : Slot) (f : ℕ) (l : Ledger) (j : ℕ) (b : Bool) → (j == f) ≡ b →
     map_count (change_entries f (λ _. InSlot t) l) j ≡ cond b 0 (map_count l j)
 frames_left t f l j true is = ap (map_count (change_entries f (λ _. InSlot t) l)) (same-is j f is) ∙ map_count-unmap f t l
-frames_left t f l j false is = how_many-map (λ e. names_frame j e.1) (λ e. (e.0, to_slot f t e.1)) l.entries ∙ how_many-same _ _ l.entries (λ e. each e.1)
+frames_left t f l j false is = how_many-map (λ e. names_frame j e.1) (λ e. (e.0, to_slot f t e.1)) l.entries
+    ∙ how_many-same _ _ l.entries (λ e. each e.1)
   where
     each : (e : Entry) → names_frame j (to_slot f t e) ≡ names_frame j e
     each Zero = refl
@@ -179,12 +181,15 @@ unmapped-kept m x l t f s pair =
     below true n n' h e p = omega (arith, e, p)
     below false n n' h e p = omega (arith, e, p)
 
-    same_use : (b : Bool) (j : ℕ) → (j == f) ≡ b → (n : ℕ) → n ≡ cond b 0 (map_count l j) → min 1 (map_count l j + holders l j) ≡ min 1 (n + holders l j)
-    same_use true j is n h = let held = subst (λ y. 0 < holders l y) (sym (same-is j f is)) (let p = pair-frame t f l.cache in omega (arith, p, pair)) in
+    same_use : (b : Bool) (j : ℕ) → (j == f) ≡ b → (n : ℕ) → n ≡ cond b 0 (map_count l j)
+        → min 1 (map_count l j + holders l j) ≡ min 1 (n + holders l j)
+    same_use true j is n h = let held =
+        subst (λ y. 0 < holders l y) (sym (same-is j f is)) (let p = pair-frame t f l.cache in omega (arith, p, pair)) in
         omega (arith, held, h)
     same_use false j is n h = omega (arith, h)
 
-    still : (r : Slot) (j : ℕ) → 0 < pairs l r j → (b : Bool) → (j == f) ≡ b → (c : Bool) → same_slot r t ≡ c → (n e : ℕ) → n ≡ cond b 0 (map_count l j) →
+    still : (r : Slot) (j : ℕ) → 0 < pairs l r j → (b : Bool) → (j == f) ≡ b → (c : Bool) → same_slot r t ≡ c → (n e : ℕ)
+        → n ≡ cond b 0 (map_count l j) →
         e ≡ slot_entries l r + cond c (map_count l f) 0 → 0 < flights l r + e + n + x r
     still r j h true is true is' n e me se = let u = s.used r j h in let v = ap (map_count l) (same-is j f is) in omega (arith, u, v, se, me)
     still r j h true is false is' n e me se = let two = two_slots r t f l.cache is' in let once = s.frames_once f in
@@ -203,7 +208,8 @@ unmapped-kept m x l t f s pair =
         ◌≡◌ {A = Bool} false true) [ true ↦ λ e. e | false ↦ λ e. e ] h
     names_too (InFrame g seen) (InFrame j seen') h = both (f == g) (f == j) refl refl h
       where
-        both : (b c : Bool) → (f == g) ≡ b → (f == j) ≡ c → name_one l (cond b (InSlot t) (InFrame g seen)) (cond c (InSlot t) (InFrame j seen')) ≡ true →
+        both : (b c : Bool) → (f == g) ≡ b → (f == j) ≡ c
+            → name_one l (cond b (InSlot t) (InFrame g seen)) (cond c (InSlot t) (InFrame j seen')) ≡ true →
             (g == j) ≡ true
         both true true is is' h = grind (arith, nat_tests)
         both true false is is' h = let pos : 0 < pairs l t j = grind (arith, nat_tests, h) in let two = two_frames t f j l.cache is' in
@@ -213,5 +219,6 @@ unmapped-kept m x l t f s pair =
         both false false is is' h = h
     names_too (InFrame g seen) (InSlot r) h = frame_slot g seen r (f == g) refl h
     names_too (InSlot r) Zero h = h
-    names_too (InSlot r) (InFrame g seen) h = frame_slot g seen r (f == g) refl (name_one-turned l (cond (f == g) (InSlot t) (InFrame g seen)) (InSlot r) ∙ h)
+    names_too (InSlot r) (InFrame g seen) h =
+        frame_slot g seen r (f == g) refl (name_one-turned l (cond (f == g) (InSlot t) (InFrame g seen)) (InSlot r) ∙ h)
     names_too (InSlot r) (InSlot q) h = h

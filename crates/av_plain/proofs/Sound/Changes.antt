@@ -41,7 +41,8 @@ free-is l f = by (slot_of l f) refl
         let q = pair-frame t f l.cache in omega (arith, p, q))
 
 -- fewer pairs: fewer entries name one memory
-pub name_one-less : (l l' : Ledger) → ((t : Slot) (g : ℕ) → 0 < pairs l' t g → 0 < pairs l t g) → (d e : Entry) → name_one l' d e ≡ true → name_one l d e ≡ true
+pub name_one-less : (l l' : Ledger) → ((t : Slot) (g : ℕ) → 0 < pairs l' t g → 0 < pairs l t g) → (d e : Entry) → name_one l' d e ≡ true
+    → name_one l d e ≡ true
 name_one-less l l' less Zero e h = h
 name_one-less l l' less (InFrame f seen) Zero h = h
 name_one-less l l' less (InFrame f seen) (InFrame g seen') h = h
@@ -107,7 +108,8 @@ loaded-kept m x l t f s absent named below free = record {
         frame true false g r is found h = grind (arith, nat_tests, h)
         frame false false g r is found h = grind (arith, nat_tests, h)
 
-    names_too : (k q : Key) (d e : Entry) → entry l k ≡ Some d → entry l q ≡ Some e → name_one (to_inactive_head f (into_cache t f false l)) d e ≡ true →
+    names_too : (k q : Key) (d e : Entry) → entry l k ≡ Some d → entry l q ≡ Some e
+        → name_one (to_inactive_head f (into_cache t f false l)) d e ≡ true →
         name_one l d e ≡ true
     names_too k q Zero e if_some at' h = h
     names_too k q (InFrame g seen) Zero if_some at' h = h
@@ -240,7 +242,8 @@ dropped-kept m x l t s off_flight = by (frame_at l t) refl
       in_range = λ g h. s.in_range g (let a = ho g in omega (arith, a, h));
       flying = λ r. fits r (same_slot r t) refl _ (sl r);
       used = λ r g h. left r g (same_slot r t) refl _ (pa r g) h;
-      one = λ p a b d e if_some at' related. s.one p a b d e if_some at' (name_one-less l (off_cache t l) (λ r g h. let a = less (same_slot r t) _ _ (pa r g) in
+      one = λ p a b d e if_some at' related. s.one p a b d e if_some at'
+          (name_one-less l (off_cache t l) (λ r g h. let a = less (same_slot r t) _ _ (pa r g) in
           omega (arith, a, h)) d e related);
     }
       where
@@ -269,7 +272,8 @@ dropped-kept m x l t s off_flight = by (frame_at l t) refl
         (s.listed f ∙ (let p = frame_at-some f t l.cache is in let q = pair-frame t f l.cache in omega (arith, p, q)))
       where
         same : (g : ℕ) → (g == f) ≡ false → min 1 (uses l g) ≡ min 1 (uses (off_cache t l) g)
-        same g other = let a = ho g in let p = frame_at-some f t l.cache is in let two = two_frames t g f l.cache other in let once = s.slots_once t in
+        same g other = let a = ho g in let p = frame_at-some f t l.cache is in let two = two_frames t g f l.cache other in let once =
+            s.slots_once t in
             ap (λ n. min 1 (map_count l g + n)) (omega (arith, a, p, two, once))
 
 -- a slot that isn't in flight is dropped

@@ -87,12 +87,14 @@ listings-off_lists f g l = (λ i. count-without-list f g l.active i + count-with
 -- ---- the cache
 
 -- what a slot that goes leaves
-pub slots-off_cache : (s t : Slot) (cs : List Cached) → how_many (λ (c : Cached). same_slot t c.slot) (filter (λ (c : Cached). not (same_slot s c.slot)) cs)
+pub slots-off_cache : (s t : Slot) (cs : List Cached)
+    → how_many (λ (c : Cached). same_slot t c.slot) (filter (λ (c : Cached). not (same_slot s c.slot)) cs)
     ≡ cond (same_slot t s) 0 (how_many (λ (c : Cached). same_slot t c.slot) cs)
 slots-off_cache s t [] = elim (same_slot t s) as (λ b. ◌≡◌ {A = ℕ} 0 (cond b 0 0)) [ true ↦ refl | false ↦ refl ]
 slots-off_cache s t (c ∷ cs) = let rest = slots-off_cache s t cs in
     elim (same_slot s c.slot) as (λ b. same_slot s c.slot ≡ b → how_many (λ (c : Cached). same_slot t c.slot)
-    (cond (not b) (c ∷ filter (λ (c : Cached). not (same_slot s c.slot)) cs) (filter (λ (c : Cached). not (same_slot s c.slot)) cs)) ≡ cond (same_slot t s) 0
+    (cond (not b) (c ∷ filter (λ (c : Cached). not (same_slot s c.slot)) cs) (filter (λ (c : Cached). not (same_slot s c.slot)) cs)) ≡ cond
+    (same_slot t s) 0
     (cond (same_slot t c.slot) 1 0 + how_many (λ (c : Cached). same_slot t c.slot) cs)) [
       | true ↦ λ is. rest ∙ gone (same_slot t s) (same_slot t c.slot) _ (ap (same_slot t) (slot-is s c.slot is))
       | false ↦ λ is. ap (λ n. cond (same_slot t c.slot) 1 0 + n) rest ∙ other (same_slot t s) (same_slot t c.slot) _ (λ a b. apart a b is)
@@ -116,7 +118,8 @@ pub pairs-off_cache : (s t : Slot) (f : ℕ) (cs : List Cached) → how_many (λ
 pairs-off_cache s t f [] = elim (same_slot t s) as (λ b. ◌≡◌ {A = ℕ} 0 (cond b 0 0)) [ true ↦ refl | false ↦ refl ]
 pairs-off_cache s t f (c ∷ cs) = let rest = pairs-off_cache s t f cs in
     elim (same_slot s c.slot) as (λ b. same_slot s c.slot ≡ b → how_many (λ (c : Cached). same_slot t c.slot && f == c.frame)
-    (cond (not b) (c ∷ filter (λ (c : Cached). not (same_slot s c.slot)) cs) (filter (λ (c : Cached). not (same_slot s c.slot)) cs)) ≡ cond (same_slot t s) 0
+    (cond (not b) (c ∷ filter (λ (c : Cached). not (same_slot s c.slot)) cs) (filter (λ (c : Cached). not (same_slot s c.slot)) cs)) ≡ cond
+    (same_slot t s) 0
     (cond (same_slot t c.slot && f == c.frame) 1 0 + how_many (λ (c : Cached). same_slot t c.slot && f == c.frame) cs)) [
       | true ↦ λ is. rest ∙ gone (same_slot t s) (same_slot t c.slot) (f == c.frame) _ (ap (same_slot t) (slot-is s c.slot is))
       | false ↦ λ is. ap (λ n. cond (same_slot t c.slot && f == c.frame) 1 0 + n) rest ∙ other (same_slot t s) (same_slot t c.slot)
@@ -136,7 +139,8 @@ pairs-off_cache s t f (c ∷ cs) = let rest = pairs-off_cache s t f cs in
     apart : same_slot t s ≡ true → same_slot t c.slot ≡ true → same_slot s c.slot ≡ false → ⊥
     apart a b d = grind (arith, nat_tests)
 
-pub holders-off_cache : (s : Slot) (f : ℕ) (cs : List Cached) → how_many (λ (c : Cached). f == c.frame) (filter (λ (c : Cached). not (same_slot s c.slot)) cs)
+pub holders-off_cache : (s : Slot) (f : ℕ) (cs : List Cached)
+    → how_many (λ (c : Cached). f == c.frame) (filter (λ (c : Cached). not (same_slot s c.slot)) cs)
     + how_many (λ (c : Cached). same_slot s c.slot && f == c.frame) cs ≡ how_many (λ (c : Cached). f == c.frame) cs
 holders-off_cache s f [] = refl
 holders-off_cache s f (c ∷ cs) = let rest = holders-off_cache s f cs in
@@ -161,7 +165,8 @@ zero_plus n h = omega arith
 pub slot_of-none : (f : ℕ) (cs : List Cached) → option_map (λ (c : Cached). c.slot) (cached_by (λ c. f == c.frame) cs) ≡ None →
     how_many (λ (c : Cached). f == c.frame) cs ≡ 0
 slot_of-none f [] h = refl
-slot_of-none f (c ∷ cs) h = elim (f == c.frame) as (λ b. option_map (λ (c : Cached). c.slot) (cond b (Some c) (cached_by (λ c. f == c.frame) cs)) ≡ None →
+slot_of-none f (c ∷ cs) h =
+    elim (f == c.frame) as (λ b. option_map (λ (c : Cached). c.slot) (cond b (Some c) (cached_by (λ c. f == c.frame) cs)) ≡ None →
     cond b 1 0 + how_many (λ (c : Cached). f == c.frame) cs ≡ 0) [
       | true ↦ λ e. cc
       | false ↦ λ e. zero_plus _ (slot_of-none f cs e)
@@ -170,7 +175,8 @@ slot_of-none f (c ∷ cs) h = elim (f == c.frame) as (λ b. option_map (λ (c : 
 pub slot_of-some : (f : ℕ) (s : Slot) (cs : List Cached) → option_map (λ (c : Cached). c.slot) (cached_by (λ c. f == c.frame) cs) ≡ Some s →
     0 < how_many (λ (c : Cached). same_slot s c.slot && f == c.frame) cs
 slot_of-some f s [] h = cc
-slot_of-some f s (c ∷ cs) h = elim (f == c.frame) as (λ b. option_map (λ (c : Cached). c.slot) (cond b (Some c) (cached_by (λ c. f == c.frame) cs)) ≡ Some s →
+slot_of-some f s (c ∷ cs) h =
+    elim (f == c.frame) as (λ b. option_map (λ (c : Cached). c.slot) (cond b (Some c) (cached_by (λ c. f == c.frame) cs)) ≡ Some s →
     0 < cond (same_slot s c.slot && b) 1 0 + how_many (λ (c : Cached). same_slot s c.slot && f == c.frame) cs) [
       | true ↦ λ e. let is : c.slot ≡ s = cc in counted (same_slot s c.slot) _ (ap (same_slot s) is ∙ slot-itself s)
       | false ↦ λ e. more _ _ (slot_of-some f s cs e)
@@ -186,7 +192,8 @@ slot_of-some f s (c ∷ cs) h = elim (f == c.frame) as (λ b. option_map (λ (c 
 pub frame_at-none : (s : Slot) (cs : List Cached) → option_map (λ (c : Cached). c.frame) (cached_by (λ c. same_slot s c.slot) cs) ≡ None →
     how_many (λ (c : Cached). same_slot s c.slot) cs ≡ 0
 frame_at-none s [] h = refl
-frame_at-none s (c ∷ cs) h = elim (same_slot s c.slot) as (λ b. option_map (λ (c : Cached). c.frame) (cond b (Some c) (cached_by (λ c. same_slot s c.slot) cs))
+frame_at-none s (c ∷ cs) h =
+    elim (same_slot s c.slot) as (λ b. option_map (λ (c : Cached). c.frame) (cond b (Some c) (cached_by (λ c. same_slot s c.slot) cs))
     ≡ None → cond b 1 0 + how_many (λ (c : Cached). same_slot s c.slot) cs ≡ 0) [
       | true ↦ λ e. cc
       | false ↦ λ e. zero_plus _ (frame_at-none s cs e)
@@ -232,10 +239,12 @@ pair-frame s f (c ∷ cs) = let rest = pair-frame s f cs in both (same_slot s c.
     both false false n m h = omega arith
 
 -- two slots at one frame
-pub two_slots : (s t : Slot) (f : ℕ) (cs : List Cached) → same_slot s t ≡ false → how_many (λ (c : Cached). same_slot s c.slot && f == c.frame) cs + how_many
+pub two_slots : (s t : Slot) (f : ℕ) (cs : List Cached) → same_slot s t ≡ false
+    → how_many (λ (c : Cached). same_slot s c.slot && f == c.frame) cs + how_many
     (λ (c : Cached). same_slot t c.slot && f == c.frame) cs ≤ how_many (λ (c : Cached). f == c.frame) cs
 two_slots s t f [] h = omega arith
-two_slots s t f (c ∷ cs) h = let rest = two_slots s t f cs h in each (same_slot s c.slot) (same_slot t c.slot) (f == c.frame) _ _ _ (λ a b. apart a b) rest
+two_slots s t f (c ∷ cs) h = let rest = two_slots s t f cs h in
+    each (same_slot s c.slot) (same_slot t c.slot) (f == c.frame) _ _ _ (λ a b. apart a b) rest
   where
     apart : same_slot s c.slot ≡ true → same_slot t c.slot ≡ true → ⊥
     apart a b = grind (arith, nat_tests, h)
@@ -250,10 +259,12 @@ two_slots s t f (c ∷ cs) h = let rest = two_slots s t f cs h in each (same_slo
     each false false false n m k h i = omega arith
 
 -- two frames at one slot
-pub two_frames : (s : Slot) (f g : ℕ) (cs : List Cached) → (f == g) ≡ false → how_many (λ (c : Cached). same_slot s c.slot && f == c.frame) cs + how_many
+pub two_frames : (s : Slot) (f g : ℕ) (cs : List Cached) → (f == g) ≡ false
+    → how_many (λ (c : Cached). same_slot s c.slot && f == c.frame) cs + how_many
     (λ (c : Cached). same_slot s c.slot && g == c.frame) cs ≤ how_many (λ (c : Cached). same_slot s c.slot) cs
 two_frames s f g [] h = omega arith
-two_frames s f g (c ∷ cs) h = let rest = two_frames s f g cs h in each (same_slot s c.slot) (f == c.frame) (g == c.frame) _ _ _ (λ a b. apart a b) rest
+two_frames s f g (c ∷ cs) h = let rest = two_frames s f g cs h in
+    each (same_slot s c.slot) (f == c.frame) (g == c.frame) _ _ _ (λ a b. apart a b) rest
   where
     apart : (f == c.frame) ≡ true → (g == c.frame) ≡ true → ⊥
     apart a b = grind (arith, nat_tests, h)

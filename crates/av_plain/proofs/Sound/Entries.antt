@@ -93,7 +93,8 @@ zeroed-kept m x l k s blank =
 
 -- ---- a frame that was free
 
-pub in_range_of : (b : Bool) (g frames m1 m0 h : ℕ) → (b ≡ true → g < frames) → m1 ≤ m0 + cond b 1 0 → (0 < m0 + h → g < frames) → 0 < m1 + h → g < frames
+pub in_range_of : (b : Bool) (g frames m1 m0 h : ℕ) → (b ≡ true → g < frames) → m1 ≤ m0 + cond b 1 0 → (0 < m0 + h → g < frames)
+    → 0 < m1 + h → g < frames
 in_range_of true g frames m1 m0 h here more there is = here refl
 in_range_of false g frames m1 m0 h here more there is = there (omega arith)
 
@@ -102,11 +103,13 @@ listed_of true n u u' h here other = let p = here refl in omega (arith, p)
 listed_of false n u u' h here other = h ∙ sym (other refl)
 
 -- no entry names the memory of a frame that is free
-pub none_named : (l : Ledger) (f : ℕ) (seen : Bool) (q : Key) (e : Entry) → uses l f ≡ 0 → entry l q ≡ Some e → name_one l (InFrame f seen) e ≡ true → ⊥
+pub none_named : (l : Ledger) (f : ℕ) (seen : Bool) (q : Key) (e : Entry) → uses l f ≡ 0 → entry l q ≡ Some e
+    → name_one l (InFrame f seen) e ≡ true → ⊥
 none_named l f seen q Zero free at related = cc
 none_named l f seen q (InFrame g seen') free at related = let found = how_many-found (names_frame f) q l.entries (InFrame g seen') at related in
     omega (arith, found, free)
-none_named l f seen q (InSlot s) free at related = let pair = pair-frame s f l.cache in let pos : 0 < pairs l s f = grind (arith, nat_tests, related) in
+none_named l f seen q (InSlot s) free at related = let pair = pair-frame s f l.cache in let pos : 0 < pairs l s f =
+    grind (arith, nat_tests, related) in
     omega (arith, pair, pos, free)
 
 pub new-kept : (m : Setting) (x : Slot → ℕ) (l : Ledger) (k : Key) (f : ℕ) → IsSoundBut m x l → IsBlank (entry l k) → f < m.frames → uses l f ≡ 0
@@ -155,7 +158,8 @@ copied-kept m x l k f g seen s at shared below free =
           (λ is. subst (λ n. n < m.frames) (sym (same-is j f is)) below) (omega (arith, a)) (s.in_range j) h;
       listed = λ j. listings-to_head f j l ∙ listed_of (j == f) (listings l j) (uses l j) (map_count (set_entry k new l) j + holders l j) (s.listed j)
           (λ is. let a = me j in let c = flag _ _ is in
-          let ne : cond (j == g) 1 0 ≤ map_count l j = old j (j == g) refl in let ze = ap (uses l) (same-is j f is) ∙ free in omega (arith, a, c, ne, ze))
+          let ne : cond (j == g) 1 0 ≤ map_count l j = old j (j == g) refl in let ze = ap (uses l) (same-is j f is) ∙ free in
+          omega (arith, a, c, ne, ze))
           (λ is. let a = me j in let c = flag _ _ is in left j (j == g) refl (map_count (set_entry k new l) j) (omega (arith, a, c)));
       flying = s.flying;
       used = λ t j h. let a = me j in let b = se t in still t j h (j == g) refl (map_count (set_entry k new l) j)
@@ -168,7 +172,8 @@ copied-kept m x l k f g seen s at shared below free =
     old j false is = omega arith
 
     -- the old frame has another use
-    left : (j : ℕ) (b : Bool) → (j == g) ≡ b → (n : ℕ) → n + cond b 1 0 ≡ map_count l j → min 1 (n + holders l j) ≡ min 1 (map_count l j + holders l j)
+    left : (j : ℕ) (b : Bool) → (j == g) ≡ b → (n : ℕ) → n + cond b 1 0 ≡ map_count l j
+        → min 1 (n + holders l j) ≡ min 1 (map_count l j + holders l j)
     left j true is n h = more shared
       where
         here : j ≡ g
@@ -176,7 +181,8 @@ copied-kept m x l k f g seen s at shared below free =
 
         more : IsSharedBy l g → min 1 (n + holders l j) ≡ min 1 (map_count l j + holders l j)
         more (ByFrame two) = let two' = subst (λ y. 1 < map_count l y) (sym here) two in omega (arith, two', h)
-        more (BySlot t pair named) = let pair' = subst (λ y. 0 < pairs l t y) (sym here) pair in let p = pair-frame t j l.cache in omega (arith, pair', p, h)
+        more (BySlot t pair named) = let pair' = subst (λ y. 0 < pairs l t y) (sym here) pair in let p = pair-frame t j l.cache in
+            omega (arith, pair', p, h)
     left j false is n h = ap (λ i. min 1 (i + holders l j)) (omega (arith, h))
 
     still : (t : Slot) (j : ℕ) → 0 < pairs l t j → (b : Bool) → (j == g) ≡ b → (n e : ℕ) → e ≡ slot_entries l t → map_count l j ≤ n + cond b 1 0 →
@@ -192,13 +198,15 @@ copied-kept m x l k f g seen s at shared below free =
           where
             by : (b : Bool) → same_slot t r ≡ b → 0 < flights l t + e + n + x t
             by true i = let n' = subst (λ y. 0 < slot_entries l y) (sym (slot-is t r i)) named in omega (arith, n', same)
-            by false i = let pair' = subst (λ y. 0 < pairs l r y) (sym here) pair in let p = two_slots t r j l.cache i in let once = s.frames_once j in
+            by false i = let pair' = subst (λ y. 0 < pairs l r y) (sym here) pair in let p = two_slots t r j l.cache i in let once =
+                s.frames_once j in
                 absurd (omega (arith, pair', p, h, once))
     still t j h false is n e same more = let u = s.used t j h in omega (arith, u, same, more)
 
 -- ---- an entry that named a slot names the frame that caches it
 
-pub mapped-kept : (m : Setting) (x : Slot → ℕ) (l : Ledger) (k : Key) (f : ℕ) (t : Slot) → IsSoundBut m x l → entry l k ≡ Some (InSlot t) → 0 < pairs l t f →
+pub mapped-kept : (m : Setting) (x : Slot → ℕ) (l : Ledger) (k : Key) (f : ℕ) (t : Slot) → IsSoundBut m x l → entry l k ≡ Some (InSlot t)
+    → 0 < pairs l t f →
     IsSoundBut m x (set_entry k (InFrame f false) l)
 mapped-kept m x l k f t s at pair =
     let new = InFrame f false in
@@ -222,12 +230,15 @@ mapped-kept m x l k f t s at pair =
     plus_zero : (n : ℕ) → n + 0 ≡ n
     plus_zero n = omega arith
 
-    same_use : (j : ℕ) (b : Bool) → (j == f) ≡ b → (n : ℕ) → n ≡ map_count l j + cond b 1 0 → min 1 (map_count l j + holders l j) ≡ min 1 (n + holders l j)
-    same_use j true is n h = let held = subst (λ y. 0 < holders l y) (sym (same-is j f is)) (let p = pair-frame t f l.cache in omega (arith, p, pair)) in
+    same_use : (j : ℕ) (b : Bool) → (j == f) ≡ b → (n : ℕ) → n ≡ map_count l j + cond b 1 0
+        → min 1 (map_count l j + holders l j) ≡ min 1 (n + holders l j)
+    same_use j true is n h = let held =
+        subst (λ y. 0 < holders l y) (sym (same-is j f is)) (let p = pair-frame t f l.cache in omega (arith, p, pair)) in
         omega (arith, held, h)
     same_use j false is n h = omega (arith, h)
 
-    still : (r : Slot) (j : ℕ) → 0 < pairs l r j → (b : Bool) → same_slot r t ≡ b → (c : Bool) → (j == f) ≡ c → (e n : ℕ) → e + cond b 1 0 ≡ slot_entries l r →
+    still : (r : Slot) (j : ℕ) → 0 < pairs l r j → (b : Bool) → same_slot r t ≡ b → (c : Bool) → (j == f) ≡ c → (e n : ℕ)
+        → e + cond b 1 0 ≡ slot_entries l r →
         n ≡ map_count l j + cond c 1 0 → 0 < flights l r + e + n + x r
     still r j h b is true is' e n se me = omega (arith, me)
     still r j h true is false is' e n se me =

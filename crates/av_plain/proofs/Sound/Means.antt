@@ -37,9 +37,11 @@ distinct (c ∷ cs) h i = (
   distinct cs (λ s. let a = h s in omega (arith, a)) (λ f. let a = i f in omega (arith, a)),
 )
 
-in_range_all : (cs : List Cached) (n : ℕ) → ((f : ℕ) → 0 < how_many (λ (c : Cached). f == c.frame) cs → f < n) → AllByRecursion (λ (c : Cached). c.frame < n) cs
+in_range_all : (cs : List Cached) (n : ℕ) → ((f : ℕ) → 0 < how_many (λ (c : Cached). f == c.frame) cs → f < n)
+    → AllByRecursion (λ (c : Cached). c.frame < n) cs
 in_range_all [] n h = tt
-in_range_all (c ∷ cs) n h = (h c.frame (let b = flag _ _ (same-itself c.frame) in omega (arith, b)), in_range_all cs n (λ f i. h f (omega (arith, i))))
+in_range_all (c ∷ cs) n h =
+    (h c.frame (let b = flag _ _ (same-itself c.frame) in omega (arith, b)), in_range_all cs n (λ f i. h f (omega (arith, i))))
 
 pub says : (m : Setting) (w : World) (l : Ledger) → AllSound m w l → SaysSound m w l
 says m w l all = let s = all.ledger in record {
@@ -72,7 +74,8 @@ says m w l all = let s = all.ledger in record {
     not_orphan t None at = ap (λ o. is_unmapped l o && not (in_flight l t) && slot_entries l t == 0) at
     not_orphan t (Some f) at =
         let u = all.ledger.used t f (frame_at-some f t l.cache at) in
-        ap (λ o. is_unmapped l o && not (in_flight l t) && slot_entries l t == 0) at ∙ ap (λ y. (map_count l f == 0) && not y && slot_entries l t == 0)
+        ap (λ o. is_unmapped l o && not (in_flight l t) && slot_entries l t == 0) at
+        ∙ ap (λ y. (map_count l f == 0) && not y && slot_entries l t == 0)
         (any-counts (same_slot t) l.flight) ∙ none (map_count l f) (flights l t) (slot_entries l t) u
       where
         none : (a b c : ℕ) → 0 < b + c + a + 0 → ((a == 0) && not (nat_lt 0 b) && c == 0) ≡ false

@@ -98,7 +98,8 @@ module _ (m : Setting) (l : Ledger) (p from n to k : ℕ) (s : IsSound m l) wher
   tail-no_new = no_new-then m l (then_target l p from n to k) (then_tail l p from n to k) (zaps_of-no_new m l (keys_in l p to k) s)
       (zaps_of-no_new m (then_target l p from n to k) (keys_in (then_target l p from n to k) p (from + k) (n - k)) target-kept)
 
-  pub free_target : (page : ℕ) → within to (min n k) page ≡ true → within from (min n k) page ≡ false → entry (then_tail l p from n to k) (p, page) ≡ None
+  pub free_target : (page : ℕ) → within to (min n k) page ≡ true → within from (min n k) page ≡ false
+      → entry (then_tail l p from n to k) (p, page) ≡ None
   free_target page inside _ = target_free l p from n to k page inside
 
   pub remap-kept : IsSound m (after_all l (remap_events l p from n to k))
@@ -131,7 +132,8 @@ module _ (q : Process) (from n to k : ℕ) (left : Option Prot) (first : is_some
 
   -- a page that keeps or gets an entry
   pub remapped-some : (page : ℕ) → (within to k page ≡ true → nat_lt (page - to) n ≡ true → is_some (q (from + (page - to))) ≡ true)
-      → (within to k page ≡ false → (within from n page ≡ false) × (is_some (q page) ≡ true)) → is_some (process_after_mremap from n to k left q page) ≡ true
+      → (within to k page ≡ false → (within from n page ≡ false) × (is_some (q page) ≡ true))
+      → is_some (process_after_mremap from n to k left q page) ≡ true
   remapped-some page moves stays = by (within to k page) refl
     where
       inside : (b : Bool) → nat_lt (page - to) n ≡ b → within to k page ≡ true

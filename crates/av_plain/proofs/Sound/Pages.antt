@@ -150,7 +150,8 @@ module _ (test : Key → Bool) where
       stuck again true r = again l notes r
       stuck again false r = goes (stays_cached l f r.0 r.1) r.3
         where
-          goes : (b : Bool) → MatchBool b ((rest : List Note) × (notes ≡ turn_notes l f r.0 r.1 ++ rest) × Turns m sp (after_notes l (turn_notes l f r.0 r.1))
+          goes : (b : Bool) → MatchBool b
+              ((rest : List Note) × (notes ≡ turn_notes l f r.0 r.1 ++ rest) × Turns m sp (after_notes l (turn_notes l f r.0 r.1))
               fs rest) (notes ≡ turn_notes l f r.0 r.1 ++ Dropped r.0 ∷ []) → AllBring test notes
           goes true q = bring-is notes _ q.1 (bring-append (turn_notes l f r.0 r.1) q.0 (bring-turn l f r.0 r.1)
               (again (after_notes l (turn_notes l f r.0 r.1)) q.0 q.2))
@@ -180,7 +181,8 @@ module _ (test : Key → Bool) where
     at_key = ap test (key_at-address k) ∙ here
 
     bring-comes : (m : Setting) (sp : Sparing) (l : Ledger) (n : Need) (notes : List Note) → ComesIn m sp l k n notes → AllBring test notes
-    bring-comes m sp l (SwapIn s) notes q = bring-is notes _ q.4 (bring-append q.0 _ (bring-takes m (sp l None) l q.0 (Loaded s) (λ f. tt) q.2) (at_key, tt))
+    bring-comes m sp l (SwapIn s) notes q =
+        bring-is notes _ q.4 (bring-append q.0 _ (bring-takes m (sp l None) l q.0 (Loaded s) (λ f. tt) q.2) (at_key, tt))
     bring-comes m sp l (MapCached f) notes q = bring-is notes _ q (at_key, tt)
     bring-comes m sp l Ready notes q = bring-is notes [] q tt
     bring-comes m sp l ZeroPage notes q = bring-is notes [] q tt
@@ -240,7 +242,8 @@ pub touches-bring : (m : Setting) (w : World) (l : Ledger) (write : Bool) (k : K
     Touches m w l write k notes end → AllBring (at_page w) notes
 touches-bring m w l write k notes None h = bring-serves (at_page w) k (allowed-there w write k h.0) m (sparing w) l write notes h.1
 touches-bring m w l write k notes (Some Denied) h = bring-is (at_page w) notes [] h.1 tt
-touches-bring m w l write k notes (Some (Starved out)) h = bring-runs_out (at_page w) k (allowed-there w write k h.0) m (sparing w) l write notes out h.1
+touches-bring m w l write k notes (Some (Starved out)) h =
+    bring-runs_out (at_page w) k (allowed-there w write k h.0) m (sparing w) l write notes out h.1
 touches-bring m w l write k notes (Some Lost) h = bring-seeks (at_page w) m (sparing w l None) l notes h.1.seeks
 
 pub used-at : (w : World) (l : Ledger) (write : Bool) (k : Key) → AllAt (at_page w) l → AllAt (at_page w) (after_use write k l)
@@ -260,7 +263,8 @@ used-at w l write k all = by write (entry l k) refl
     by false (Some (InFrame f seen)) is = set_here f seen is
     by true (Some (InFrame f seen)) is = stale (slot_of l f) _ (set_here f seen is)
 
-pub page_events-at : (w : World) (l : Ledger) (write : Bool) (k : Key) (notes : List Note) (end : Option Stop) → AllAt (at_page w) (after_notes l notes) →
+pub page_events-at : (w : World) (l : Ledger) (write : Bool) (k : Key) (notes : List Note) (end : Option Stop)
+    → AllAt (at_page w) (after_notes l notes) →
     AllAt (at_page w) (after_all l (page_events write k notes end))
 page_events-at w l write k notes None s = subst (AllAt (at_page w))
     (sym (after_all-append l (note_events notes) (Used write k ∷ []) ∙ ap (after_use write k) (note_events-all l notes)))

@@ -85,7 +85,8 @@ named-sound m l t s named = record {
   one = s.one;
 }
   where
-    by : (r : Slot) (b : Bool) → same_slot r t ≡ b → (n : ℕ) → 0 < flights l r + slot_entries l r + n + cond b 1 0 → 0 < flights l r + slot_entries l r + n + 0
+    by : (r : Slot) (b : Bool) → same_slot r t ≡ b → (n : ℕ) → 0 < flights l r + slot_entries l r + n + cond b 1 0
+        → 0 < flights l r + slot_entries l r + n + 0
     by r true is n h = let k = subst (λ y. 0 < slot_entries l y) (sym (slot-is r t is)) named in omega (arith, k)
     by r false is n h = h
 
@@ -127,7 +128,8 @@ turn-kept m sp l f t failed s grounded for in_use =
           pair = (let e = a.pairs_same t f in let p = u.pair in omega (arith, e, p));
           others = λ g other. alike-uses l1 l3 a g ∙ u.others g other;
           keeps = λ spared apart. keeps-then spared l l1 l3 (u.keeps spared apart) (keeps-alike spared l1 l3 a);
-          counts = λ r h. let c = u.counts r h in let e = a.slots_same r in let d = ap (λ es. slot_entries (record l1 { entries = es }) r) a.entries in
+          counts = λ r h. let c = u.counts r h in let e = a.slots_same r in let d =
+              ap (λ es. slot_entries (record l1 { entries = es }) r) a.entries in
               omega (arith, c, e, d);
           named = subst (λ es. 0 < slot_entries (record l1 { entries = es }) t) (sym a.entries) named;
         }
@@ -159,14 +161,17 @@ less_out spared f fs out g h = let z = out g h in omega (arith, z)
 
 -- what the rest of the frames keeps, from any ledger on
 abbrev pub Again : Setting → Spared → List ℕ → Type 0
-Again m sp fs = (l' : Ledger) (ns : List Note) → IsSound m l' → ((r : Slot) → flights l' r ≡ 0) → AreReady l' fs → LeavesOut sp.frame fs → Turns m sp l' fs ns →
+Again m sp fs = (l' : Ledger) (ns : List Note) → IsSound m l' → ((r : Slot) → flights l' r ≡ 0) → AreReady l' fs → LeavesOut sp.frame fs
+    → Turns m sp l' fs ns →
     Passed m sp.frame l' (after_notes l' ns)
 
-pub turns-kept : (m : Setting) (sp : Spared) (l : Ledger) (fs : List ℕ) (notes : List Note) → IsSound m l → ((r : Slot) → flights l r ≡ 0) → AreReady l fs →
+pub turns-kept : (m : Setting) (sp : Spared) (l : Ledger) (fs : List ℕ) (notes : List Note) → IsSound m l → ((r : Slot) → flights l r ≡ 0)
+    → AreReady l fs →
     LeavesOut sp.frame fs → Turns m sp l fs notes → Passed m sp.frame l (after_notes l notes)
 turns-kept m sp l [] notes s grounded ready out r = subst (λ ns. Passed m sp.frame l (after_notes l ns)) (sym r)
     (record { sound = s; keeps = keeps-alike sp.frame l l (alike-by l l refl refl); calm = λ g. record { grounded = g; counts = λ r h. h } })
-turns-kept m sp l (f ∷ fs) notes s grounded ready out r = stuck (λ l' ns s' g' r' o' t'. turns-kept m sp l' fs ns s' g' r' o' t') (is_stuck m sp l f) r
+turns-kept m sp l (f ∷ fs) notes s grounded ready out r =
+    stuck (λ l' ns s' g' r' o' t'. turns-kept m sp l' fs ns s' g' r' o' t') (is_stuck m sp l f) r
   where
     stuck : Again m sp fs → (b : Bool) → MatchBool b (Turns m sp l fs notes)
         ((t : Slot) × (failed : Bool) × IsSlotFor m sp l f t × MatchBool (stays_cached l f t failed)
@@ -182,7 +187,8 @@ turns-kept m sp l (f ∷ fs) notes s grounded ready out r = stuck (λ l' ns s' g
         apart : sp.frame f ≡ false
         apart = not_first sp.frame f fs out
 
-        goes : (b : Bool) → MatchBool b ((rest : List Note) × (notes ≡ turn_notes l f r.0 r.1 ++ rest) × Turns m sp (after_notes l (turn_notes l f r.0 r.1)) fs
+        goes : (b : Bool) → MatchBool b
+            ((rest : List Note) × (notes ≡ turn_notes l f r.0 r.1 ++ rest) × Turns m sp (after_notes l (turn_notes l f r.0 r.1)) fs
             rest) (notes ≡ turn_notes l f r.0 r.1 ++ Dropped r.0 ∷ []) → Passed m sp.frame l (after_notes l notes)
         goes true q =
             let l1 = after_notes l (turn_notes l f r.0 r.1) in
@@ -192,7 +198,11 @@ turns-kept m sp l (f ∷ fs) notes s grounded ready out r = stuck (λ l' ns s' g
             (record {
               sound = later.sound;
               keeps = keeps-then sp.frame l l1 _ (here.keeps sp.frame apart) later.keeps;
-              calm = λ z. record { grounded = (later.calm here.grounded).grounded; counts = λ x h. (later.calm here.grounded).counts x (here.counts x h) };
+              calm = λ z. record {
+                grounded = (later.calm here.grounded).grounded;
+                counts =
+                    λ x h. (later.calm here.grounded).counts x (here.counts x h);
+              };
             }))
         goes false q =
             let l1 = after_notes l (turn_notes l f r.0 r.1) in
@@ -201,11 +211,13 @@ turns-kept m sp l (f ∷ fs) notes s grounded ready out r = stuck (λ l' ns s' g
             (record {
               sound = drop-sound m l1 r.0 here.sound (here.grounded r.0);
               keeps = keeps-then sp.frame l l1 _ (here.keeps sp.frame apart)
-                  (keeps-dropped sp.frame l1 r.0 (λ g h i. let two = two_frames r.0 g f l1.cache (other g h) in let once = here.sound.slots_once r.0 in
+                  (keeps-dropped sp.frame l1 r.0
+                  (λ g h i. let two = two_frames r.0 g f l1.cache (other g h) in let once = here.sound.slots_once r.0 in
                   let p = here.pair in omega (arith, two, once, p)));
               calm = λ z. record {
                 grounded = λ x. ap (how_many (same_slot x)) (settle-flight (frame_at l1 r.0) (off_cache r.0 l1)) ∙ here.grounded x;
-                counts = λ x h. let e = ap (λ es. slot_entries (record l1 { entries = es }) x) (settle-entries (frame_at l1 r.0) (off_cache r.0 l1)) in
+                counts = λ x h. let e =
+                    ap (λ es. slot_entries (record l1 { entries = es }) x) (settle-entries (frame_at l1 r.0) (off_cache r.0 l1)) in
                     let c = slots-dropped l1 r.0 x in let k = here.counts x h in dropped x (same_slot x r.0) refl _ _ c e k;
               };
             }))
@@ -228,7 +240,8 @@ pub count-filter : (q : ℕ → Bool) (g : ℕ) (fs : List ℕ) → how_many (λ
 count-filter q g [] = elim (q g) as (λ b. ◌≡◌ {A = ℕ} 0 (cond b 0 0)) [ true ↦ refl | false ↦ refl ]
 count-filter q g (f ∷ fs) = by (q f) refl (g == f) refl (q g) refl (count-filter q g fs)
   where
-    by : (a : Bool) → q f ≡ a → (b : Bool) → (g == f) ≡ b → (c : Bool) → q g ≡ c → how_many (λ y. g == y) (filter q fs) ≡ cond c (how_many (λ y. g == y) fs) 0
+    by : (a : Bool) → q f ≡ a → (b : Bool) → (g == f) ≡ b → (c : Bool) → q g ≡ c
+        → how_many (λ y. g == y) (filter q fs) ≡ cond c (how_many (λ y. g == y) fs) 0
         → how_many (λ y. g == y) (cond a (f ∷ filter q fs) (filter q fs)) ≡ cond c (cond b 1 0 + how_many (λ y. g == y) fs) 0
     by true at b same true is h = (λ i. cond (same i) 1 0 + h i)
     by true at true same false is h = let e = sym at ∙ ap q (sym (same-is g f same)) ∙ is in cc
@@ -254,7 +267,8 @@ all-ready m sp l s g =
     let e = less_filter (λ f. not (sp.frame f)) g (reverse l.inactive ++ reverse l.active) in
     omega (arith, a, b, c, d, e)
 
-pub pass-kept : (m : Setting) (sp : Spared) (l : Ledger) (notes : List Note) → IsSound m l → IsPass m sp l notes → Passed m sp.frame l (after_notes l notes)
+pub pass-kept : (m : Setting) (sp : Spared) (l : Ledger) (notes : List Note) → IsSound m l → IsPass m sp l notes
+    → Passed m sp.frame l (after_notes l notes)
 pass-kept m sp l notes s r =
     subst (λ ns. Passed m sp.frame l (after_notes l ns)) (sym r.2)
     (subst (Passed m sp.frame l) (sym (after_notes-append l r.0 r.1)) (goes (has_free m (after_notes l r.0)) r.4))
@@ -277,7 +291,8 @@ pass-kept m sp l notes s r =
       where
         by : (ts : List Slot) → l.flight ≡ ts → Completes l ts r.0 → after_notes l r.0 ≡ l
         by [] is c = ap (after_notes l) c
-        by (t ∷ ts) is c = let z = g t in let e = ap (how_many (same_slot t)) is in let i = flag _ _ (slot-itself t) in absurd (omega (arith, z, e, i))
+        by (t ∷ ts) is c = let z = g t in let e = ap (how_many (same_slot t)) is in let i = flag _ _ (slot-itself t) in
+            absurd (omega (arith, z, e, i))
 
     counted : ((x : Slot) → flights l x ≡ 0) → (x : Slot) → 0 < slots l x + slot_entries l x →
         0 < slots (after_notes l r.0) x + slot_entries (after_notes l r.0) x
@@ -295,7 +310,8 @@ pass-kept m sp l notes s r =
           };
         })
     goes false q =
-        let later = turns-kept m sp (after_notes l r.0) (frames_in_turn sp (after_notes l r.0)) r.1 done.sound (all_landed m l (after_notes l r.0) done) ready
+        let later = turns-kept m sp (after_notes l r.0) (frames_in_turn sp (after_notes l r.0)) r.1 done.sound
+        (all_landed m l (after_notes l r.0) done) ready
         (out (reverse (after_notes l r.0).inactive ++ reverse (after_notes l r.0).active)) q in
         record {
           sound = later.sound;
@@ -304,7 +320,8 @@ pass-kept m sp l notes s r =
               record { grounded = c.grounded; counts = λ x h. c.counts x (counted g x h) };
         }
 
-pub seeks-kept : (m : Setting) (sp : Spared) (l : Ledger) (notes : List Note) → IsSound m l → Seeks m sp l notes → Passed m sp.frame l (after_notes l notes)
+pub seeks-kept : (m : Setting) (sp : Spared) (l : Ledger) (notes : List Note) → IsSound m l → Seeks m sp l notes
+    → Passed m sp.frame l (after_notes l notes)
 seeks-kept m sp l notes s r = by (has_free m l) r
   where
     by : (b : Bool) → MatchBool b (notes ≡ []) (IsPass m sp l notes) → Passed m sp.frame l (after_notes l notes)

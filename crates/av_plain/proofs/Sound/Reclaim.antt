@@ -99,12 +99,14 @@ kept-kept m l f Writeback s in_use = record { sound = head-kept m no_excuse l f 
 kept-kept m l f WriteStarted s in_use = record { sound = head-kept m no_excuse l f s in_use; others = λ g other. refl }
 kept-kept m l f NoSlot s in_use = record { sound = active-kept m no_excuse l f s in_use; others = λ g other. refl }
 kept-kept m l f Referenced s in_use = record {
-  sound = active-kept m no_excuse (change_entries f without_seen l) f (unseen-kept m no_excuse l f s) (let e = uses-unseen f l f in omega (arith, e, in_use));
+  sound = active-kept m no_excuse (change_entries f without_seen l) f (unseen-kept m no_excuse l f s)
+      (let e = uses-unseen f l f in omega (arith, e, in_use));
   others = λ g other. uses-unseen f l g;
 }
 
 -- the slot that a frame goes to isn't in flight
-not_flying : (m : Setting) (sp : Spared) (l : Ledger) (f : ℕ) (t : Slot) → IsSound m l → IsSlotFor m sp l f t → is_in_writeback l (slot_of l f) ≡ false →
+not_flying : (m : Setting) (sp : Spared) (l : Ledger) (f : ℕ) (t : Slot) → IsSound m l → IsSlotFor m sp l f t
+    → is_in_writeback l (slot_of l f) ≡ false →
     flights l t ≡ 0
 not_flying m sp l f t s for idle = by (slot_of l f) for idle
   where
@@ -115,10 +117,12 @@ not_flying m sp l f t s for idle = by (slot_of l f) for idle
     by None may h = let n = (given-nowhere m sp.closing l t may).uncached in let g = s.flying t in omega (arith, n, g)
     by (Some r) same h = zero_is (flights l t) (sym (any-counts (same_slot t) l.flight) ∙ ap (in_flight l) same ∙ h)
 
-pub leave-kept : (m : Setting) (sp : Spared) (l : Ledger) (f : ℕ) (t : Slot) → IsSound m l → IsSlotFor m sp l f t → is_in_writeback l (slot_of l f) ≡ false →
+pub leave-kept : (m : Setting) (sp : Spared) (l : Ledger) (f : ℕ) (t : Slot) → IsSound m l → IsSlotFor m sp l f t
+    → is_in_writeback l (slot_of l f) ≡ false →
     0 < uses l f → OutcomeKept m l f (after_notes l (leave_notes l f t))
 leave-kept m sp l f t s for idle in_use = subst (OutcomeKept m l f)
-    (sym (after_notes-append l (unmap_notes l f t) (cond (is_dirty l f t) (Started t ∷ Kept f WriteStarted ∷ []) (Dropped t ∷ [])))) (goes (is_dirty l f t))
+    (sym (after_notes-append l (unmap_notes l f t) (cond (is_dirty l f t) (Started t ∷ Kept f WriteStarted ∷ []) (Dropped t ∷ []))))
+    (goes (is_dirty l f t))
   where
     u : UnmapKept m l f t (after_notes l (unmap_notes l f t))
     u = unmap_notes-kept m sp l f t s for in_use
@@ -132,7 +136,8 @@ leave-kept m sp l f t s for idle in_use = subst (OutcomeKept m l f)
     cached : 0 < slots (after_notes l (unmap_notes l f t)) t
     cached = let p = pair-slot t f (after_notes l (unmap_notes l f t)).cache in let q = u.pair in omega (arith, p, q)
 
-    goes : (d : Bool) → OutcomeKept m l f (after_notes (after_notes l (unmap_notes l f t)) (cond d (Started t ∷ Kept f WriteStarted ∷ []) (Dropped t ∷ [])))
+    goes : (d : Bool) → OutcomeKept m l f
+        (after_notes (after_notes l (unmap_notes l f t)) (cond d (Started t ∷ Kept f WriteStarted ∷ []) (Dropped t ∷ [])))
     goes true =
         let l1 = after_notes l (unmap_notes l f t) in
         let a = alike-started l1 t in
@@ -165,7 +170,8 @@ outcome-kept m sp l f notes s in_use h = by (cause_of m sp l f) refl h
     by None is q = subst (λ ns. OutcomeKept m l f (after_notes l ns)) (sym q.2) (leave-kept m sp l f q.0 s q.1 (idle_of m sp l f is) in_use)
     by (Some cause) is q = subst (λ ns. OutcomeKept m l f (after_notes l ns)) (sym q) (kept-kept m l f cause s in_use)
 
-pub outcomes-kept : (m : Setting) (sp : Spared) (l : Ledger) (fs : List ℕ) (notes : List Note) → IsSound m l → AreReady l fs → Outcomes m sp l fs notes →
+pub outcomes-kept : (m : Setting) (sp : Spared) (l : Ledger) (fs : List ℕ) (notes : List Note) → IsSound m l → AreReady l fs
+    → Outcomes m sp l fs notes →
     IsSound m (after_notes l notes)
 outcomes-kept m sp l [] notes s ready h = subst (λ ns. IsSound m (after_notes l ns)) (sym h) s
 outcomes-kept m sp l (f ∷ fs) notes s ready h =

@@ -169,7 +169,8 @@ keeps-dropped spared l t apart = record {
     gone true n k e z = e
     gone false n k e z = e ∙ z
 
-    stays_cached : (b : Bool) (r : Slot) (g : ℕ) → same_slot r t ≡ b → (n : ℕ) → n ≡ cond b 0 (pairs l r g) → pairs l t g ≡ 0 → 0 < pairs l r g → 0 < n
+    stays_cached : (b : Bool) (r : Slot) (g : ℕ) → same_slot r t ≡ b → (n : ℕ) → n ≡ cond b 0 (pairs l r g) → pairs l t g ≡ 0
+        → 0 < pairs l r g → 0 < n
     stays_cached true r g is n e z h = let h' = subst (λ y. 0 < pairs l y g) (slot-is r t is) h in absurd (omega (arith, z, h'))
     stays_cached false r g is n e z h = omega (arith, e, h)
 
@@ -206,7 +207,8 @@ end_notes-kept m l t failed s =
     by_keeps spared s1 true is = keeps-dropped spared (after_note (end_note failed t) l) t
         (λ g h i. orphan_pairs m (after_note (end_note failed t) l) t g s1.slots_once is i)
       where
-        orphan_pairs : (m : Setting) (l : Ledger) (t : Slot) (g : ℕ) → ((r : Slot) → slots l r ≤ 1) → is_orphan l t ≡ true → 0 < map_count l g → pairs l t g ≡ 0
+        orphan_pairs : (m : Setting) (l : Ledger) (t : Slot) (g : ℕ) → ((r : Slot) → slots l r ≤ 1) → is_orphan l t ≡ true → 0 < map_count l g
+            → pairs l t g ≡ 0
         orphan_pairs m l t g once is h = at_frame (frame_at l t) refl (first_true (is_unmapped l (frame_at l t)) _ _ is)
           where
             first_true : (a b c : Bool) → (a && b && c) ≡ true → a ≡ true
@@ -223,7 +225,8 @@ end_notes-kept m l t failed s =
                 each : (b : Bool) → (g == f) ≡ b → pairs l t g ≡ 0
                 each true e = let z : map_count l f ≡ 0 = grind (arith, nat_tests, un') in let y = ap (map_count l) (same-is g f e) in
                     absurd (omega (arith, z, y, h))
-                each false e = let p = frame_at-some f t l.cache if_some in let two = two_frames t g f l.cache e in let o = once t in omega (arith, p, two, o)
+                each false e = let p = frame_at-some f t l.cache if_some in let two = two_frames t g f l.cache e in let o = once t in
+                    omega (arith, p, two, o)
     by_keeps spared s1 false is = keeps-alike spared _ _ (alike-by _ _ refl refl)
 
 pub record Completed (m : Setting) (l : Ledger) (ts : List Slot) (l' : Ledger) : Type 0 where
@@ -243,7 +246,8 @@ completes-kept m l (t ∷ ts) notes s c =
     (subst (Completed m l (t ∷ ts)) (sym (after_notes-append l (end_notes l t failed) c.1))
     (record {
       sound = rest.sound;
-      flown = λ r. rest.flown r ∙ ap (cond (list_any (same_slot r) ts) 0) (here.flown r) ∙ either (same_slot r t) (list_any (same_slot r) ts) (flights l r);
+      flown = λ r. rest.flown r ∙ ap (cond (list_any (same_slot r) ts) 0) (here.flown r)
+          ∙ either (same_slot r t) (list_any (same_slot r) ts) (flights l r);
       keeps = λ spared. keeps-then spared l _ _ (here.keeps spared) (rest.keeps spared);
     }))
   where
@@ -272,7 +276,8 @@ pub record IsNowhere (l : Ledger) (t : Slot) : Type 0 where
 
 pub given-nowhere : (m : Setting) (closing : Option ℕ) (l : Ledger) (t : Slot) → may_give m closing l t ≡ true → IsNowhere l t
 given-nowhere m closing l t h =
-    let zero : (slot_count l t == 0) ≡ true = fourth (is_on l t.area) (nat_lt 0 t.page) (nat_lt t.page (size_of m t.area)) (slot_count l t == 0) (is_usable m t)
+    let zero : (slot_count l t == 0) ≡ true =
+    fourth (is_on l t.area) (nat_lt 0 t.page) (nat_lt t.page (size_of m t.area)) (slot_count l t == 0) (is_usable m t)
     (is_open closing t.area) (has_free_slot m l t.area) h in
     record {
       uncached = none (slots l t) (slot_entries l t) (ap (λ b. slot_entries l t + cond b 1 0 == 0)
@@ -357,9 +362,11 @@ unmap_notes-kept m sp l f t s for in_use = by (slot_of l f) refl for
   where
     by : (o : Option Slot) → slot_of l f ≡ o → MatchOption o (IsTrue (may_give m sp.closing l t)) (λ r. t ≡ r) →
         UnmapKept m l f t (after_notes l (when (is_none (slot_of l f)) (Put f t) ++ when (not (map_count l f == 0)) (Unmapped f)))
-    by (Some r) is same = subst (UnmapKept m l f t) (sym (ap (λ o. after_notes l (when (is_none o) (Put f t) ++ when (not (map_count l f == 0)) (Unmapped f)))
+    by (Some r) is same =
+        subst (UnmapKept m l f t) (sym (ap (λ o. after_notes l (when (is_none o) (Put f t) ++ when (not (map_count l f == 0)) (Unmapped f)))
         is)) (unmap_any m l f t s (is ∙ ap Some (sym same)) (map_count l f == 0) refl)
-    by None is may = subst (UnmapKept m l f t) (sym (ap (λ o. after_notes l (when (is_none o) (Put f t) ++ when (not (map_count l f == 0)) (Unmapped f))) is))
+    by None is may = subst (UnmapKept m l f t)
+        (sym (ap (λ o. after_notes l (when (is_none o) (Put f t) ++ when (not (map_count l f == 0)) (Unmapped f))) is))
         put_first
       where
         out : holders l f ≡ 0

@@ -1,7 +1,7 @@
 -- Soundness after the commands that move pages to swap areas and back.
 pub mod Area
 pub mod Empty
-use Rattle.std.proofs.Common.{◌≡◌, ℕ, Bool, true, false, cond, not, List, [], ◌∷◌, ◌++◌, map, take, Option, Some, None, is_none, is_some, refl, sym, subst, ◌==◌}
+use Rattle.std.proofs.Common.{◌≡◌, ℕ, Bool, true, false, cond, not, List, [], ◌∷◌, ◌++◌, map, take, Option, Some, None, is_none, sym, subst, ◌==◌}
 use Rattle.std.specs.Prelude.{MatchOption}
 use Rattle.av_base.specs.declared.slot.Slot.{Slot}
 use Rattle.av_trace.specs.declared.note.Cause.{Cause}
@@ -18,7 +18,7 @@ use Rattle.av_plain.specs.Reclaim.{Ages, CompletesFirst, Outcome, Outcomes, Recl
 use Rattle.av_plain.specs.Sound.{AllSound, AreThere, AreasFit, IsSound}
 use Rattle.av_plain.specs.World.{World}
 use Rattle.av_plain.proofs.Access.{note_events-all}
-use Rattle.av_plain.proofs.Sound.Pages.{AllAt, AllBring, Brings, at_page, bring-append, bring-completes, bring-is, bring-when, notes-at}
+use Rattle.av_plain.proofs.Sound.Pages.{AllAt, AllBring, at_page, bring-append, bring-completes, bring-is, bring-when, notes-at}
 use Rattle.av_plain.proofs.Sound.Reclaim.{active-ready, ages-kept, inactive-ready, outcomes-kept}
 use Rattle.av_plain.proofs.Sound.Steps.{completes-kept}
 use Rattle.av_plain.proofs.Sound.There.{AreLawful, fits-notes, lawful-append, lawful-completes, lawful-is, lawful-unmap, there-notes}
@@ -53,7 +53,8 @@ notes-hold m w closing l notes h sound brings lawful = record {
 }
 
 -- and so for a command whose events are notes
-pub noted-sound : (m : Setting) (w : World) (l : Ledger) (notes : List Note) (events : List Event) → AllSound m w l → Holds m w (after_notes l notes) →
+pub noted-sound : (m : Setting) (w : World) (l : Ledger) (notes : List Note) (events : List Event) → AllSound m w l
+    → Holds m w (after_notes l notes) →
     events ≡ note_events notes → AllSound m w (after_all l events)
 noted-sound m w l notes events s h e = subst (λ es. AllSound m w (after_all l es)) (sym e)
     (subst (AllSound m w) (sym (note_events-all l notes)) (to-sound m w l (after_notes l notes) s h))
@@ -72,7 +73,8 @@ bring-leave test l f t = bring-append test (unmap_notes l f t) (cond (is_dirty l
     by true = (tt, (tt, tt))
     by false = (tt, tt)
 
-bring-outcome : (test : Key → Bool) (m : Setting) (sp : Spared) (l : Ledger) (f : ℕ) (notes : List Note) → Outcome m sp l f notes → AllBring test notes
+bring-outcome : (test : Key → Bool) (m : Setting) (sp : Spared) (l : Ledger) (f : ℕ) (notes : List Note) → Outcome m sp l f notes
+    → AllBring test notes
 bring-outcome test m sp l f notes h = by (cause_of m sp l f) h
   where
     by : (o : Option Cause) → MatchOption o ((t : Slot) × IsSlotFor m sp l f t × (notes ≡ leave_notes l f t)) (λ cause. notes ≡ Kept f cause ∷ []) →
@@ -87,7 +89,8 @@ bring-outcomes test m sp l (f ∷ fs) notes h = bring-is test notes (h.0 ++ h.1)
     (bring-append test h.0 h.1 (bring-outcome test m sp l f h.0 h.3) (bring-outcomes test m sp (after_notes l h.0) fs h.1 h.4))
 
 lawful-leave : (m : Setting) (sp : Spared) (l : Ledger) (f : ℕ) (t : Slot) → IsSlotFor m sp l f t → AreLawful m sp.closing l (leave_notes l f t)
-lawful-leave m sp l f t for = lawful-append m sp.closing l (unmap_notes l f t) (cond (is_dirty l f t) (Started t ∷ Kept f WriteStarted ∷ []) (Dropped t ∷ []))
+lawful-leave m sp l f t for =
+    lawful-append m sp.closing l (unmap_notes l f t) (cond (is_dirty l f t) (Started t ∷ Kept f WriteStarted ∷ []) (Dropped t ∷ []))
     (lawful-unmap m sp l f t for) (by (after_notes l (unmap_notes l f t)) (is_dirty l f t))
   where
     by : (l' : Ledger) (b : Bool) → AreLawful m sp.closing l' (cond b (Started t ∷ Kept f WriteStarted ∷ []) (Dropped t ∷ []))
@@ -102,7 +105,8 @@ lawful-outcome m sp l f notes h = by (cause_of m sp l f) h
     by None q = lawful-is m sp.closing l notes (leave_notes l f q.0) q.2 (lawful-leave m sp l f q.0 q.1)
     by (Some cause) q = lawful-is m sp.closing l notes (Kept f cause ∷ []) q (tt, tt)
 
-pub lawful-outcomes : (m : Setting) (sp : Spared) (l : Ledger) (fs : List ℕ) (notes : List Note) → Outcomes m sp l fs notes → AreLawful m sp.closing l notes
+pub lawful-outcomes : (m : Setting) (sp : Spared) (l : Ledger) (fs : List ℕ) (notes : List Note) → Outcomes m sp l fs notes
+    → AreLawful m sp.closing l notes
 lawful-outcomes m sp l [] notes h = lawful-is m sp.closing l notes [] h tt
 lawful-outcomes m sp l (f ∷ fs) notes h = lawful-is m sp.closing l notes (h.0 ++ h.1) h.2
     (lawful-append m sp.closing l h.0 h.1 (lawful-outcome m sp l f h.0 h.3) (lawful-outcomes m sp (after_notes l h.0) fs h.1 h.4))

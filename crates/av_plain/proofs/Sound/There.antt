@@ -49,7 +49,8 @@ counted-slot l s = by (is_cached l s) (slots l s) (slot_entries l s) (any-counts
     by true n e h = grind (arith, nat_tests, h)
     by false n e h = grind (arith, nat_tests, h)
 
-fewer-pass : (p q : ℕ → Bool) (a n : ℕ) → ((x : ℕ) → p x ≡ true → q x ≡ true) → length (filter p (range_with_len a n)) ≤ length (filter q (range_with_len a n))
+fewer-pass : (p q : ℕ → Bool) (a n : ℕ) → ((x : ℕ) → p x ≡ true → q x ≡ true)
+    → length (filter p (range_with_len a n)) ≤ length (filter q (range_with_len a n))
 fewer-pass p q a zero h = omega arith
 fewer-pass p q a (suc n) h = by (p a) (q a) refl refl (fewer-pass p q (a + 1) n h)
   where
@@ -80,13 +81,15 @@ one-more-passes : (p q : ℕ → Bool) (t a n : ℕ) → ((x : ℕ) → p x ≡ 
 one-more-passes p q t a zero h = omega arith
 one-more-passes p q t a (suc n) h = at (a == t) refl (one-more-passes p q t (a + 1) n h)
   where
-    more : (b c : Bool) (k k' : ℕ) (xs ys : List ℕ) → length xs ≡ k → length ys ≡ k' → k ≤ k' → length (cond b (a ∷ xs) xs) ≤ 1 + length (cond c (a ∷ ys) ys)
+    more : (b c : Bool) (k k' : ℕ) (xs ys : List ℕ) → length xs ≡ k → length ys ≡ k' → k ≤ k'
+        → length (cond b (a ∷ xs) xs) ≤ 1 + length (cond c (a ∷ ys) ys)
     more true true k k' xs ys e f less = omega (arith, e, f, less)
     more true false k k' xs ys e f less = omega (arith, e, f, less)
     more false true k k' xs ys e f less = omega (arith, e, f, less)
     more false false k k' xs ys e f less = omega (arith, e, f, less)
 
-    by : (b c : Bool) → p a ≡ b → q a ≡ c → (a == t) ≡ false → length (filter p (range_with_len (a + 1) n)) ≤ 1 + length (filter q (range_with_len (a + 1) n))
+    by : (b c : Bool) → p a ≡ b → q a ≡ c → (a == t) ≡ false
+        → length (filter p (range_with_len (a + 1) n)) ≤ 1 + length (filter q (range_with_len (a + 1) n))
         → length (cond b (a ∷ filter p (range_with_len (a + 1) n)) (filter p (range_with_len (a + 1) n))) ≤ 1 + length
         (cond c (a ∷ filter q (range_with_len (a + 1) n)) (filter q (range_with_len (a + 1) n)))
     by true true is is' other k = omega (arith, k)
@@ -105,7 +108,8 @@ fits-less : (m : Setting) (l l' : Ledger) → l'.on ≡ l.on → ((s : Slot) →
 fits-less m l l' on h f = record {
   rising = subst (λ o. T (is_sorted nat_cmp o)) (sym on) f.rising;
   attached = λ k is. f.attached k (ap (λ o. is_some (find nat_cmp k o)) (sym on) ∙ is);
-  fit = λ k. subst (λ o. IfSome (find nat_cmp k o) (λ area. length (slots_in_use m l' k) ≤ area.slots)) (sym on) (by k (find nat_cmp k l.on) (f.fit k));
+  fit = λ k. subst (λ o. IfSome (find nat_cmp k o) (λ area. length (slots_in_use m l' k) ≤ area.slots)) (sym on)
+      (by k (find nat_cmp k l.on) (f.fit k));
 }
   where
     fewer : (k : ℕ) → length (slots_in_use m l' k) ≤ length (slots_in_use m l k)
@@ -144,7 +148,8 @@ fits-put m l f t free fits = record {
     is-positive n e = grind (arith, nat_tests, e)
 
     others : (s : Slot) → same_slot s t ≡ false → nat_lt 0 (slot_count (after_note (Put f t) l) s) ≡ true → nat_lt 0 (slot_count l s) ≡ true
-    others s apart is = counted-slot l s ∙ is-positive _ (same (same_slot s t) apart (positive _ (sym (counted-slot (after_note (Put f t) l) s) ∙ is)))
+    others s apart is = counted-slot l s
+        ∙ is-positive _ (same (same_slot s t) apart (positive _ (sym (counted-slot (after_note (Put f t) l) s) ∙ is)))
       where
         same : (b : Bool) → b ≡ false → 0 < (cond b 1 0 + slots l s) + slot_entries l s → 0 < count l s
         same true e i = cc
@@ -165,14 +170,16 @@ fits-put m l f t free fits = record {
         (λ page is. others (record { area = k; page = page }) (ap (λ b. b && page == t.page) other) is)
 
     by : (k : ℕ) (b : Bool) → (k == t.area) ≡ b → (o : Option SwapArea) → find nat_cmp k l.on ≡ o →
-        IfSome o (λ area. length (slots_in_use m l k) ≤ area.slots) → IfSome o (λ area. length (slots_in_use m (after_note (Put f t) l) k) ≤ area.slots)
+        IfSome o (λ area. length (slots_in_use m l k) ≤ area.slots)
+        → IfSome o (λ area. length (slots_in_use m (after_note (Put f t) l) k) ≤ area.slots)
     by k b is None at i = tt
     by k false is (Some area) at i = let e = still k is in omega (arith, i, e)
     by k true is (Some area) at i =
         let e = more k in
         let same = same-is k t.area is in
         let room : nat_lt 0 (area.slots - length (slots_in_use m l k)) ≡ true =
-        ap (λ o. option_map_or (λ (a : SwapArea). nat_lt 0 (a.slots - length (slots_in_use m l k))) o false) (sym at) ∙ ap (has_free_slot m l) same ∙ free in
+        ap (λ o. option_map_or (λ (a : SwapArea). nat_lt 0 (a.slots - length (slots_in_use m l k))) o false) (sym at)
+        ∙ ap (has_free_slot m l) same ∙ free in
         some area.slots (length (slots_in_use m l k)) _ room e
       where
         some : (s n k : ℕ) → nat_lt 0 (s - n) ≡ true → k ≤ 1 + n → k ≤ s
@@ -204,7 +211,8 @@ pub lawful-no_new : (m : Setting) (closing : Option ℕ) (l : Ledger) (note : No
 lawful-no_new m closing l note sorted lawful = go note lawful
   where
     fewer : (k : Key) (e : Entry) → ((s : Slot) → names_slot s e ≡ false) → NoNew m l (set_entry k e l)
-    fewer k e none = less m l (set_entry k e l) refl (λ s h. let a = slot_entries-set k e l s sorted in let z = flag _ _ (none s) in omega (arith, a, z, h))
+    fewer k e none = less m l (set_entry k e l) refl
+        (λ s h. let a = slot_entries-set k e l s sorted in let z = flag _ _ (none s) in omega (arith, a, z, h))
 
     alike : (l' : Ledger) → l'.on ≡ l.on → Alike l l' → NoNew m l l'
     alike l' on a = less m l l' on (λ s i. let c = a.slots_same s in let e = ap (λ es. slot_entries (record l { entries = es }) s) a.entries in
@@ -217,9 +225,17 @@ lawful-no_new m closing l note sorted lawful = go note lawful
     go : (note : Note) → IsLawful m closing l note → NoNew m l (after_note note l)
     go (Zeroed p a) h = fewer (key_at p a) Zero (λ s. refl)
     go (New p a f) h = let r = fewer (key_at p a) (InFrame f false) (λ s. refl) in
-        record { on_same = r.on_same; fits = λ x. record { rising = (r.fits x).rising; attached = (r.fits x).attached; fit = (r.fits x).fit }; came = r.came }
+        record {
+          on_same = r.on_same;
+          fits = λ x. record { rising = (r.fits x).rising; attached = (r.fits x).attached; fit = (r.fits x).fit };
+          came = r.came;
+        }
     go (Copied p a f) h = let r = fewer (key_at p a) (InFrame f false) (λ s. refl) in
-        record { on_same = r.on_same; fits = λ x. record { rising = (r.fits x).rising; attached = (r.fits x).attached; fit = (r.fits x).fit }; came = r.came }
+        record {
+          on_same = r.on_same;
+          fits = λ x. record { rising = (r.fits x).rising; attached = (r.fits x).attached; fit = (r.fits x).fit };
+          came = r.came;
+        }
     go (Mapped p a f) h = fewer (key_at p a) (InFrame f false) (λ s. refl)
     go (Loaded t f) h = less m l (after_note (Loaded t f) l) refl (λ s i. by s (same_slot s t) refl i)
       where
@@ -258,7 +274,8 @@ lawful-no_new m closing l note sorted lawful = go note lawful
         by None is = less m l l refl (λ s i. i)
         by (Some t) is = less m l (change_entries f (λ _. InSlot t) l) refl (λ s i. more s (same_slot s t) refl (slots_more t f l s) i)
           where
-            more : (s : Slot) (b : Bool) → same_slot s t ≡ b → {n : ℕ} → n ≡ slot_entries l s + cond b (map_count l f) 0 → 0 < slots l s + n → 0 < count l s
+            more : (s : Slot) (b : Bool) → same_slot s t ≡ b → {n : ℕ} → n ≡ slot_entries l s + cond b (map_count l f) 0 → 0 < slots l s + n
+                → 0 < count l s
             more s true e a i = let p = slot_of-some f t l.cache is in let q = pair-slot t f l.cache in
                 let c = subst (λ y. 0 < slots l y) (sym (slot-is s t e)) (omega (arith, p, q)) in omega (arith, c)
             more s false e a i = omega (arith, a, i)
@@ -302,7 +319,8 @@ sorted-note l (Kept f Referenced) h = subst T (sym (is_sorted-map key_cmp (to_un
 sorted-note l (Kept f NoSlot) h = h
 sorted-note l (Aged f) h = subst T (sym (is_sorted-map key_cmp (to_unseen f) l.entries)) h
 
-pub all_lawful-no_new : (m : Setting) (closing : Option ℕ) (l : Ledger) (notes : List Note) → T (is_sorted key_cmp l.entries) → AreLawful m closing l notes →
+pub all_lawful-no_new : (m : Setting) (closing : Option ℕ) (l : Ledger) (notes : List Note) → T (is_sorted key_cmp l.entries)
+    → AreLawful m closing l notes →
     NoNew m l (after_notes l notes)
 all_lawful-no_new m closing l [] sorted h = less m l l refl (λ s i. i)
 all_lawful-no_new m closing l (note ∷ notes) sorted h =
@@ -311,7 +329,8 @@ all_lawful-no_new m closing l (note ∷ notes) sorted h =
 
 -- ---- the notes of a pass are lawful
 
-pub lawful-append : (m : Setting) (closing : Option ℕ) (l : Ledger) (a b : List Note) → AreLawful m closing l a → AreLawful m closing (after_notes l a) b →
+pub lawful-append : (m : Setting) (closing : Option ℕ) (l : Ledger) (a b : List Note) → AreLawful m closing l a
+    → AreLawful m closing (after_notes l a) b →
     AreLawful m closing l (a ++ b)
 lawful-append m closing l [] b x y = y
 lawful-append m closing l (note ∷ a) b x y = (x.0, lawful-append m closing (after_note note l) a b x.1 y)
@@ -327,7 +346,8 @@ lawful-end : (m : Setting) (sp : Spared) (l : Ledger) (failed : Bool) (t : Slot)
 lawful-end m sp l true t = tt
 lawful-end m sp l false t = tt
 
-pub lawful-completes : (m : Setting) (sp : Spared) (l : Ledger) (ts : List Slot) (notes : List Note) → Completes l ts notes → AreLawful m sp.closing l notes
+pub lawful-completes : (m : Setting) (sp : Spared) (l : Ledger) (ts : List Slot) (notes : List Note) → Completes l ts notes
+    → AreLawful m sp.closing l notes
 lawful-completes m sp l [] notes c = lawful-is m sp.closing l notes [] c tt
 lawful-completes m sp l (t ∷ ts) notes c = lawful-is m sp.closing l notes (end_notes l t c.0 ++ c.1) c.2
     (lawful-append m sp.closing l (end_notes l t c.0) c.1 (
@@ -350,7 +370,8 @@ lawful-unmap m sp l f t for = lawful-append m sp.closing l (when (is_none (slot_
 
 lawful-turn : (m : Setting) (sp : Spared) (l : Ledger) (f : ℕ) (t : Slot) (failed : Bool) → IsSlotFor m sp l f t →
     AreLawful m sp.closing l (turn_notes l f t failed)
-lawful-turn m sp l f t failed for = lawful-append m sp.closing l (unmap_notes l f t) (if is_dirty l f t then Started t ∷ end_note failed t ∷ [] else [])
+lawful-turn m sp l f t failed for =
+    lawful-append m sp.closing l (unmap_notes l f t) (if is_dirty l f t then Started t ∷ end_note failed t ∷ [] else [])
     (lawful-unmap m sp l f t for) (by (after_notes l (unmap_notes l f t)) (is_dirty l f t))
   where
     by : (l' : Ledger) (b : Bool) → AreLawful m sp.closing l' (if b then Started t ∷ end_note failed t ∷ [] else [])
@@ -372,7 +393,8 @@ lawful-turns m sp l (f ∷ fs) notes r = stuck (λ l' ns q. lawful-turns m sp l'
     stuck again true r = again l notes r
     stuck again false r = goes (stays_cached l f r.0 r.1) r.3
       where
-        goes : (b : Bool) → MatchBool b ((rest : List Note) × (notes ≡ turn_notes l f r.0 r.1 ++ rest) × Turns m sp (after_notes l (turn_notes l f r.0 r.1)) fs
+        goes : (b : Bool) → MatchBool b
+            ((rest : List Note) × (notes ≡ turn_notes l f r.0 r.1 ++ rest) × Turns m sp (after_notes l (turn_notes l f r.0 r.1)) fs
             rest) (notes ≡ turn_notes l f r.0 r.1 ++ Dropped r.0 ∷ []) → AreLawful m sp.closing l notes
         goes true q = lawful-is m sp.closing l notes (turn_notes l f r.0 r.1 ++ q.0) q.1
             (lawful-append m sp.closing l (turn_notes l f r.0 r.1) q.0 (lawful-turn m sp l f r.0 r.1 r.2)
@@ -418,7 +440,8 @@ lawful-takes m sp l notes note takes h = lawful-is m sp.closing l notes _ takes.
     (lawful-append m sp.closing l takes.sought (note takes.frame ∷ []) (lawful-seeks m sp l takes.sought takes.seeks) (h, tt))
 
 -- and so where no area is closing
-lawful-opens : (m : Setting) (sp : Sparing) (pinned : Option ℕ) (l : Ledger) (notes : List Note) → Opens sp → AreLawful m (sp l pinned).closing l notes →
+lawful-opens : (m : Setting) (sp : Sparing) (pinned : Option ℕ) (l : Ledger) (notes : List Note) → Opens sp
+    → AreLawful m (sp l pinned).closing l notes →
     AreLawful m None l notes
 lawful-opens m sp pinned l notes none h = subst (λ c. AreLawful m c l notes) (none l pinned) h
 
@@ -509,8 +532,10 @@ lawful-touches m w l write k notes (Some (Starved out)) s q = lawful-runs_out m 
 lawful-touches m w l write k notes (Some Lost) s q = lawful-seeks m (sparing w l None) l notes q.1.seeks
 
 slots-marked : (l : Ledger) (t r : Slot) → slots (with_stale true t l) r ≡ slots l r
-slots-marked l t r = how_many-map (λ (c : Cached). same_slot r c.slot) (λ (c : Cached). if same_slot t c.slot then record c { stale = true } else c) l.cache
-    ∙ how_many-same _ _ l.cache (λ c. elim (same_slot t c.slot) as (λ (v : Bool). same_slot r (if v then record c { stale = true } else c).slot ≡ same_slot r
+slots-marked l t r =
+    how_many-map (λ (c : Cached). same_slot r c.slot) (λ (c : Cached). if same_slot t c.slot then record c { stale = true } else c) l.cache
+    ∙ how_many-same _ _ l.cache
+    (λ c. elim (same_slot t c.slot) as (λ (v : Bool). same_slot r (if v then record c { stale = true } else c).slot ≡ same_slot r
     c.slot) [ true ↦ refl | false ↦ refl ])
 
 pub used-no_new : (m : Setting) (l : Ledger) (write : Bool) (k : Key) → T (is_sorted key_cmp l.entries) → NoNew m l (after_use write k l)
@@ -537,8 +562,10 @@ touches-no_new : (m : Setting) (w : World) (l : Ledger) (write : Bool) (k : Key)
 touches-no_new m w l write k notes end s t = by end (all_lawful-no_new m None l notes s.in_order (lawful-touches m w l write k notes end s t))
     (touches-kept m w l write k notes end s t)
   where
-    by : (end : Option Stop) → NoNew m l (after_notes l notes) → IsSound m (after_notes l notes) → NoNew m l (after_all l (page_events write k notes end))
-    by None n s' = subst (NoNew m l) (sym (after_all-append l (note_events notes) (Used write k ∷ []) ∙ ap (after_use write k) (note_events-all l notes)))
+    by : (end : Option Stop) → NoNew m l (after_notes l notes) → IsSound m (after_notes l notes)
+        → NoNew m l (after_all l (page_events write k notes end))
+    by None n s' = subst (NoNew m l)
+        (sym (after_all-append l (note_events notes) (Used write k ∷ []) ∙ ap (after_use write k) (note_events-all l notes)))
         (no_new-then m l (after_notes l notes) (after_use write k (after_notes l notes)) n (used-no_new m (after_notes l notes) write k s'.in_order))
     by (Some stop) n s' = subst (NoNew m l) (sym (note_events-all l notes)) n
 

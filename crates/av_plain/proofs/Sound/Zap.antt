@@ -40,7 +40,8 @@ module _ (m : Setting) (l : Ledger) (k : Key) (s : IsSound m l) where
     frames_once = s.frames_once;
     in_range = λ g h. s.in_range g (let a = mapped-less g in omega (arith, a, h));
     flying = s.flying;
-    used = λ r g h. let u = s.used r g h in let a = mapped-less g in let b = slot_entries-leaving k l r s.in_order in left r g h (entry l k) _ _ _ _ u a b;
+    used = λ r g h. let u = s.used r g h in let a = mapped-less g in let b = slot_entries-leaving k l r s.in_order in
+        left r g h (entry l k) _ _ _ _ u a b;
     one = λ p a b d e at at' related. s.one p a b d e
         (stays_there (same_key k (p, a)) (entry l (p, a)) d (sym (entry-leaving k (p, a) l) ∙ at))
         (stays_there (same_key k (p, b)) (entry l (p, b)) e (sym (entry-leaving k (p, b) l) ∙ at')) related;
@@ -160,7 +161,8 @@ length-ended (e ∷ w) p = elim (e.0 == p) as (λ b. length (cond (not b) (e ∷
 ]
 
 pub zaps_of-at : (w : World) (l : Ledger) (ks : List Key) → AtPages w l → AtPages w (after_all l (zaps_of l ks))
-zaps_of-at w l ks all q page h = all q page (was (list_any (same_key (q, page)) ks) (entry l (q, page)) (sym (ap is_some (entry-zaps_of l ks (q, page))) ∙ h))
+zaps_of-at w l ks all q page h =
+    all q page (was (list_any (same_key (q, page)) ks) (entry l (q, page)) (sym (ap is_some (entry-zaps_of l ks (q, page))) ∙ h))
   where
     was : (b : Bool) (o : Option Entry) → is_some (cond b None o) ≡ true → is_some o ≡ true
     was true o h = cc
@@ -177,7 +179,8 @@ ended-at w l p none there q page h = by (q == p) refl
     by false is = ap is_some (pages-ended w p q page) ∙ ap (λ b. is_some (cond b None (pages w q page))) is ∙ there q page h
 
 -- entries that go leave a sound ledger, and so with memories in which the rest are at mapped pages
-pub after_zap-sound : (m : Setting) (w w' : World) (l : Ledger) (ks : List Key) → AllSound m w l → IsTidy w' → AtPages w' (after_all l (zaps_of l ks)) →
+pub after_zap-sound : (m : Setting) (w w' : World) (l : Ledger) (ks : List Key) → AllSound m w l → IsTidy w'
+    → AtPages w' (after_all l (zaps_of l ks)) →
     AllSound m w' (after_all l (zaps_of l ks))
 after_zap-sound m w w' l ks s tidy at = record {
   world = tidy;

@@ -59,9 +59,11 @@ meets-some q from zero some = cc
 meets-some q from (suc n) some = by (is_mapped q from) refl some (meets-some q (from + 1) n)
   where
     widened : (page : ℕ) → IsMet q (from + 1) n page → IsMet q from (suc n) page
-    widened page h = record { lowest = (let low = h.lowest in omega (arith, low)); highest = (let high = h.highest in omega (arith, high)); mapped = h.mapped }
+    widened page h = record
+        { lowest = (let low = h.lowest in omega (arith, low)); highest = (let high = h.highest in omega (arith, high)); mapped = h.mapped }
 
-    by : (b : Bool) → is_mapped q from ≡ b → (b || meets q (from + 1) n) ≡ true → (meets q (from + 1) n ≡ true → (page : ℕ) × IsMet q (from + 1) n page) →
+    by : (b : Bool) → is_mapped q from ≡ b → (b || meets q (from + 1) n) ≡ true
+        → (meets q (from + 1) n ≡ true → (page : ℕ) × IsMet q (from + 1) n page) →
         (page : ℕ) × IsMet q from (suc n) page
     by true e h rest = (from, record { lowest = omega arith; highest = omega arith; mapped = e })
     by false e h rest = let met = rest h in (met.0, widened met.0 met.1)
@@ -105,7 +107,8 @@ pages_to_hole-hole q from (suc n) short = by (is_mapped q from) refl short (page
         (pages_to_hole q (from + 1) n < n → is_mapped q (from + 1 + pages_to_hole q (from + 1) n) ≡ false)
         → is_mapped q (from + cond b (pages_to_hole q (from + 1) n + 1) 0) ≡ false
     by false e h rest = ap (is_mapped q) (let same : from + 0 ≡ from = omega arith in same) ∙ e
-    by true e h rest = ap (is_mapped q) (let same : from + (pages_to_hole q (from + 1) n + 1) ≡ from + 1 + pages_to_hole q (from + 1) n = omega arith in
+    by true e h rest = ap (is_mapped q)
+        (let same : from + (pages_to_hole q (from + 1) n + 1) ≡ from + 1 + pages_to_hole q (from + 1) n = omega arith in
         same) ∙ rest (omega (arith, h))
 
 -- so many pages of n are mapped, and then there are no more, or one that isn't
@@ -137,8 +140,10 @@ is-pages_to_hole q from n k h = by (nat_lt (pages_to_hole q from n) k) (nat_lt k
     by false false e f = grind (arith, nat_tests, e, f)
 
 -- all n are mapped
-pub all-pages_to_hole : (q : Process) (from n : ℕ) → ((page : ℕ) → from ≤ page → page < from + n → is_mapped q page ≡ true) → pages_to_hole q from n ≡ n
-all-pages_to_hole q from n mapped = is-pages_to_hole q from n n (record { most = omega arith; mapped = mapped; ends = λ less. absurd (omega (arith, less)) })
+pub all-pages_to_hole : (q : Process) (from n : ℕ) → ((page : ℕ) → from ≤ page → page < from + n → is_mapped q page ≡ true)
+    → pages_to_hole q from n ≡ n
+all-pages_to_hole q from n mapped =
+    is-pages_to_hole q from n n (record { most = omega arith; mapped = mapped; ends = λ less. absurd (omega (arith, less)) })
 
 -- ---- whether there is room
 

@@ -6,12 +6,14 @@ use Rattle.av_plain.specs.World.{Process, Page, with_bytes}
 use Rattle.av_base.specs.Words.{within}
 
 at_byte : (a x : ℕ) (xs ys : List ℕ) (b : Option ℕ)
-    → cond (within (a + length xs) (length ys) x) (Some (get_or ys (x - (a + length xs)) 0)) (cond (within a (length xs) x) (Some (get_or xs (x - a) 0)) b)
+    → cond (within (a + length xs) (length ys) x) (Some (get_or ys (x - (a + length xs)) 0))
+    (cond (within a (length xs) x) (Some (get_or xs (x - a) 0)) b)
     ≡ cond (within a (length (xs ++ ys)) x) (Some (get_or (xs ++ ys) (x - a) 0)) b
 at_byte a x xs ys b = by_tests (within (a + length xs) (length ys) x) refl (within a (length xs) x) refl
   where
     by_tests : (s : Bool) → within (a + length xs) (length ys) x ≡ s → (t : Bool) → within a (length xs) x ≡ t
-        → cond (within (a + length xs) (length ys) x) (Some (get_or ys (x - (a + length xs)) 0)) (cond (within a (length xs) x) (Some (get_or xs (x - a) 0)) b)
+        → cond (within (a + length xs) (length ys) x) (Some (get_or ys (x - (a + length xs)) 0))
+        (cond (within a (length xs) x) (Some (get_or xs (x - a) 0)) b)
         ≡ cond (within a (length (xs ++ ys)) x) (Some (get_or (xs ++ ys) (x - a) 0)) b
     by_tests true e t d =
         let low : a + length xs ≤ x = grind (arith, nat_tests) in
@@ -37,7 +39,8 @@ at_byte a x xs ys b = by_tests (within (a + length xs) (length ys) x) refl (with
         inside : (a n x : ℕ) → a ≤ x → x < a + n → within a n x ≡ true
         inside a n x low high = grind (arith, nat_tests)
     by_tests false e false d = (λ i. cond (e i) (Some (get_or ys (x - (a + length xs)) 0)) (cond (d i) (Some (get_or xs (x - a) 0)) b))
-        ∙ ap (λ s. cond s (Some (get_or (xs ++ ys) (x - a) 0)) b) (sym (ap (λ n. within a n x) (length-append xs ys) ∙ outside a (length xs) (length ys) x e d))
+        ∙ ap (λ s. cond s (Some (get_or (xs ++ ys) (x - a) 0)) b)
+        (sym (ap (λ n. within a n x) (length-append xs ys) ∙ outside a (length xs) (length ys) x e d))
       where
         outside : (a n k x : ℕ) → within (a + n) k x ≡ false → within a n x ≡ false → within a (n + k) x ≡ false
         outside a n k x e d = grind (arith, nat_tests)

@@ -24,7 +24,9 @@ returns-then-may_be_reused c =
     let info = info_in c.args.infos.now in
     let lt : k < length xs = omega arith in
     let idle : is_idle x (info x) ≡ true = sym c.may_be_reused.ensures ∙ c.if-may_be_reused.true in
-    sym (c.loop-anon.invariant ∙ ap (member_to_reuse info) (drop-cons xs k 0 lt) ∙ ap (λ b. cond b (Some x) (member_to_reuse info (drop (suc k) xs))) idle)
+    sym (c.loop-anon.invariant ∙ ap (member_to_reuse info) (drop-cons xs k 0 lt)
+    ∙ ap (λ b. cond b (Some x) (member_to_reuse info (drop (suc k) xs))) idle)
 
 pub returns : goal.returns
-returns c = sym (c.loop-anon.invariant ∙ ap (member_to_reuse (info_in c.args.infos.now)) (drop_all c.args.anons.now c.loop-anon.anon-index (omega arith)))
+returns c = sym (c.loop-anon.invariant
+    ∙ ap (member_to_reuse (info_in c.args.infos.now)) (drop_all c.args.anons.now c.loop-anon.anon-index (omega arith)))

@@ -74,7 +74,8 @@ loop-anon-preserved g c =
       left,
       (λ w. ap (λ f. f w) c.destroy_unused.ensures
           ∙ one_left a v users gone info (info_in c.loop-anon.infos) absent c.loop-anon.invariant.4 (is_empty (users_of c.pop.new.self v)) alone w),
-      each_more (without_key key k) old (triples c.loop-anon.spans) (triples c.remove.new.self) gone v absent c.loop-anon.invariant.5 c.remove.ensures,
+      each_more (without_key key k) old (triples c.loop-anon.spans) (triples c.remove.new.self) gone v absent c.loop-anon.invariant.5
+          c.remove.ensures,
       omega (arith, one, so_far, long),
     )
 

@@ -20,7 +20,8 @@ placed_on-placed_below-requires g t c κs within =
     let m = g.T.Entry in
     let s = store_of c.args.arena.now in
     let at : child_number c.args.side (s c.args.number) ≡ Some c.in-Some.child = sym c.child_of.ensures ∙ c.in-Some.is in
-    let f = placed_further m.key m.unit m.op m.of g.met.T.Entry.laws c.args.side s c.args.number c.in-Some.child c.args.new c.args.entry.now c.requires.place
+    let f = placed_further m.key m.unit m.op m.of g.met.T.Entry.laws c.args.side s c.args.number c.in-Some.child c.args.new c.args.entry.now
+    c.requires.place
     at c.requires.side in
     search (rules, f.asked, f.falls)
 
@@ -31,7 +32,8 @@ stepped : (g : Over) (t : ℕ) (c : placed_on-After-placed_below g t) → let m 
     c.args.new c.args.entry.now c.placed_below.result
 stepped g t c =
     let m = g.T.Entry in
-    placed_step m.key m.unit m.op m.of g.met.T.Entry.laws c.args.side _ _ c.args.number c.in-Some.child c.args.new c.args.entry.now c.placed_below.result
+    placed_step m.key m.unit m.op m.of g.met.T.Entry.laws c.args.side _ _ c.args.number c.in-Some.child c.args.new c.args.entry.now
+    c.placed_below.result
     c.requires.place
     (sym c.child_of.ensures ∙ c.in-Some.is) c.requires.side c.placed_below.ensures.placed
 
@@ -46,7 +48,8 @@ pub placed_on-settle_side-requires-clause-used : goal.placed_on-settle_side-requ
 placed_on-settle_side-requires-clause-used g t c = (stepped g t (goal.at.placed_on-settle_side-requires-clause-used g t c).After-placed_below).used
 
 pub placed_on-returns-clause-placed : goal.placed_on-returns-clause-placed
-placed_on-returns-clause-placed g t c = (stepped g t (goal.at.placed_on-returns-clause-placed g t c).After-placed_below).settled _ _ c.settle_side.ensures.settled
+placed_on-returns-clause-placed g t c =
+    (stepped g t (goal.at.placed_on-returns-clause-placed g t c).After-placed_below).settled _ _ c.settle_side.ensures.settled
 
 pub placed_on-returns-clause-put : goal.placed_on-returns-clause-put
 placed_on-returns-clause-put g t c = puts_keeps _ _ _ c.args.new _ c.placed_below.ensures.put c.settle_side.ensures.kept

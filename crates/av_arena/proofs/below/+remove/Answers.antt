@@ -28,7 +28,8 @@ removed_on-unreachable-requires g t c =
     let m = g.T.Entry in
     let s = store_of c.args.arena.now in
     let at : child_number c.args.side (s c.args.number) ≡ None = sym c.child_of.ensures ∙ search rules in
-    removed_never m.key m.unit m.op m.of g.met.T.Entry.laws c.args.side s c.args.number c.args.like.now c.requires.there at c.requires.other c.requires.side
+    removed_never m.key m.unit m.op m.of g.met.T.Entry.laws c.args.side s c.args.number c.args.like.now c.requires.there at c.requires.other
+    c.requires.side
 
 pub removed_on-removed_below-out-requires : goal.removed_on-removed_below-out-requires
 removed_on-removed_below-out-requires g t c κs within =
@@ -37,13 +38,15 @@ removed_on-removed_below-out-requires g t c κs within =
     let at : child_number c.args.side (s c.args.number) ≡ Some c.in-Some.child = sym c.child_of.ensures ∙ c.in-Some.is in
     let f = removed_further m.key m.unit m.op m.of g.met.T.Entry.laws c.args.side s c.args.number c.in-Some.child c.args.like.now c.requires.there at
     c.requires.other c.requires.side in
-    let o : IsAt m.key m.unit m.op m.of s c.in-Some.child c.args.like.now false = subst (IsAt m.key m.unit m.op m.of s c.in-Some.child c.args.like.now)
+    let o : IsAt m.key m.unit m.op m.of s c.in-Some.child c.args.like.now false =
+    subst (IsAt m.key m.unit m.op m.of s c.in-Some.child c.args.like.now)
     c.if-is_at.false c.is_at.ensures in
     search (rules, f.asked, f.falls, o)
 
 -- what follows of the call below
 stepped : (g : Over) (t : ℕ) (c : removed_on-After-removed_below-out g t) → let m = g.T.Entry in
-    IsRemoveStep m.key m.unit m.op m.of g.met.T.Entry.laws c.args.side (store_of c.args.arena.now) (store_of c.removed_below-out.new.arena) c.args.number
+    IsRemoveStep m.key m.unit m.op m.of g.met.T.Entry.laws c.args.side (store_of c.args.arena.now)
+    (store_of c.removed_below-out.new.arena) c.args.number
     c.in-Some.child
     c.args.like.now c.removed_below-out.result.0 c.removed_below-out.result.1
 stepped g t c =
@@ -57,10 +60,12 @@ removed_on-returns-then-not-changed-clause-removed g t c =
     (stepped g t (goal.at.removed_on-returns-then-not-changed-clause-removed g t c).After-removed_below-out).same (search rules)
 
 pub removed_on-settle_side-requires-clause-child : goal.removed_on-settle_side-requires-clause-child
-removed_on-settle_side-requires-clause-child g t c = (stepped g t (goal.at.removed_on-settle_side-requires-clause-child g t c).After-removed_below-out).ready
+removed_on-settle_side-requires-clause-child g t c =
+    (stepped g t (goal.at.removed_on-settle_side-requires-clause-child g t c).After-removed_below-out).ready
 
 pub removed_on-settle_side-requires-clause-used : goal.removed_on-settle_side-requires-clause-used
-removed_on-settle_side-requires-clause-used g t c = (stepped g t (goal.at.removed_on-settle_side-requires-clause-used g t c).After-removed_below-out).used
+removed_on-settle_side-requires-clause-used g t c =
+    (stepped g t (goal.at.removed_on-settle_side-requires-clause-used g t c).After-removed_below-out).used
 
 pub removed_on-returns-clause-removed : goal.removed_on-returns-clause-removed
 removed_on-returns-clause-removed g t c =

@@ -11,14 +11,16 @@ pub replaced_below-replaced_on-requires : goal.replaced_below-replaced_on-requir
 replaced_below-replaced_on-requires g t c κs within =
     let m = g.T.Entry in
     let is : c.side_beside.result ≡ Some Left = search rules in
-    let on = subst (IsBeside m.key m.unit m.op m.of (store_of c.args.arena.now) c.args.number c.args.entry.now c.args.entry.now) is c.side_beside.ensures in
+    let on = subst (IsBeside m.key m.unit m.op m.of (store_of c.args.arena.now) c.args.number c.args.entry.now c.args.entry.now) is
+    c.side_beside.ensures in
     search (rules, on)
 
 pub replaced_below-replaced_on-requires-in-Some-Right : goal.replaced_below-replaced_on-requires-in-Some-Right
 replaced_below-replaced_on-requires-in-Some-Right g t c κs within =
     let m = g.T.Entry in
     let is : c.side_beside.result ≡ Some Right = search rules in
-    let on = subst (IsBeside m.key m.unit m.op m.of (store_of c.args.arena.now) c.args.number c.args.entry.now c.args.entry.now) is c.side_beside.ensures in
+    let on = subst (IsBeside m.key m.unit m.op m.of (store_of c.args.arena.now) c.args.number c.args.entry.now c.args.entry.now) is
+    c.side_beside.ensures in
     search (rules, on)
 
 pub replaced_below-returns-in-None : goal.replaced_below-returns-in-None
@@ -48,7 +50,8 @@ replaced_on-replaced_below-requires g t c κs within =
 
 -- what follows of the call below
 stepped : (g : Over) (t : ℕ) (c : replaced_on-After-replaced_below g t) → let m = g.T.Entry in
-    IsReplaceStep m.key m.unit m.op m.of g.met.T.Entry.laws c.args.side (store_of c.args.arena.now) (store_of c.replaced_below.new.arena) c.args.number
+    IsReplaceStep m.key m.unit m.op m.of g.met.T.Entry.laws c.args.side (store_of c.args.arena.now)
+    (store_of c.replaced_below.new.arena) c.args.number
     c.in-Some.child
     c.args.entry.now c.replaced_below.result
 stepped g t c =
@@ -62,10 +65,12 @@ replaced_on-returns-then-not-replaced_below g t c =
     (stepped g t (goal.at.replaced_on-returns-then-not-replaced_below g t c).After-replaced_below).same (search rules)
 
 pub replaced_on-settle_side-requires-clause-child : goal.replaced_on-settle_side-requires-clause-child
-replaced_on-settle_side-requires-clause-child g t c = (stepped g t (goal.at.replaced_on-settle_side-requires-clause-child g t c).After-replaced_below).ready
+replaced_on-settle_side-requires-clause-child g t c =
+    (stepped g t (goal.at.replaced_on-settle_side-requires-clause-child g t c).After-replaced_below).ready
 
 pub replaced_on-settle_side-requires-clause-used : goal.replaced_on-settle_side-requires-clause-used
-replaced_on-settle_side-requires-clause-used g t c = (stepped g t (goal.at.replaced_on-settle_side-requires-clause-used g t c).After-replaced_below).used
+replaced_on-settle_side-requires-clause-used g t c =
+    (stepped g t (goal.at.replaced_on-settle_side-requires-clause-used g t c).After-replaced_below).used
 
 pub replaced_on-returns : goal.replaced_on-returns
 replaced_on-returns g t c = (stepped g t (goal.at.replaced_on-returns g t c).After-replaced_below).settled _ _ c.settle_side.ensures.settled

@@ -11,14 +11,16 @@ pub split_below-split_on-requires : goal.split_below-split_on-requires
 split_below-split_on-requires g t c κs within =
     let m = g.T.Entry in
     let is : c.side_beside.result ≡ Some Left = search rules in
-    let on = subst (IsBeside m.key m.unit m.op m.of (store_of c.args.arena.now) c.args.number c.args.lower.now c.args.lower.now) is c.side_beside.ensures in
+    let on = subst (IsBeside m.key m.unit m.op m.of (store_of c.args.arena.now) c.args.number c.args.lower.now c.args.lower.now) is
+    c.side_beside.ensures in
     search (rules, on)
 
 pub split_below-split_on-requires-in-Some-Right : goal.split_below-split_on-requires-in-Some-Right
 split_below-split_on-requires-in-Some-Right g t c κs within =
     let m = g.T.Entry in
     let is : c.side_beside.result ≡ Some Right = search rules in
-    let on = subst (IsBeside m.key m.unit m.op m.of (store_of c.args.arena.now) c.args.number c.args.lower.now c.args.lower.now) is c.side_beside.ensures in
+    let on = subst (IsBeside m.key m.unit m.op m.of (store_of c.args.arena.now) c.args.number c.args.lower.now c.args.lower.now) is
+    c.side_beside.ensures in
     search (rules, on)
 
 pub split_below-placed_below-requires : goal.split_below-placed_below-requires
@@ -59,7 +61,8 @@ split_on-split_below-requires g t c κs within =
     let m = g.T.Entry in
     let s = store_of c.args.arena.now in
     let at : child_number c.args.side (s c.args.number) ≡ Some c.in-Some.child = sym c.child_of.ensures ∙ c.in-Some.is in
-    let f = split_further m.key m.unit m.op m.of g.met.T.Entry.laws c.args.side s c.args.number c.in-Some.child c.args.new c.args.lower.now c.args.upper.now
+    let f = split_further m.key m.unit m.op m.of g.met.T.Entry.laws c.args.side s c.args.number c.in-Some.child c.args.new c.args.lower.now
+    c.args.upper.now
     c.requires.split at c.requires.side in
     search (rules, f.asked, f.falls)
 
@@ -75,7 +78,8 @@ stepped g t c =
     (sym c.child_of.ensures ∙ c.in-Some.is) c.requires.side c.split_below.ensures
 
 pub split_on-returns-then-not-split_below : goal.split_on-returns-then-not-split_below
-split_on-returns-then-not-split_below g t c = (stepped g t (goal.at.split_on-returns-then-not-split_below g t c).After-split_below).same (search rules)
+split_on-returns-then-not-split_below g t c =
+    (stepped g t (goal.at.split_on-returns-then-not-split_below g t c).After-split_below).same (search rules)
 
 pub split_on-settle_side-requires-clause-child : goal.split_on-settle_side-requires-clause-child
 split_on-settle_side-requires-clause-child g t c = (stepped g t (goal.at.split_on-settle_side-requires-clause-child g t c).After-split_below).ready

@@ -8,16 +8,20 @@ pub returns-then-is_before : goal.returns-then-is_before
 returns-then-is_before g c =
     let m = g.T.Entry in
     let r = c.removed_below-out in
-    join_lower_goes m.key m.unit m.op m.of g.met.T.Entry.laws (store_of c.args.arena.now) (store_of r.new.arena) (store_of c.set_entry.new.self) c.args.number
-    r.result.0 c.look.result.now c.args.lower.now c.args.upper.now c.args.joined.now r.result.1 c.look.ensures c.requires.meets (ltb-true _ _ (search rules))
+    join_lower_goes m.key m.unit m.op m.of g.met.T.Entry.laws (store_of c.args.arena.now) (store_of r.new.arena)
+    (store_of c.set_entry.new.self) c.args.number
+    r.result.0 c.look.result.now c.args.lower.now c.args.upper.now c.args.joined.now r.result.1 c.look.ensures c.requires.meets
+    (ltb-true _ _ (search rules))
     r.ensures.removed (r.ensures.kept c.args.number) c.set_entry.ensures
 
 pub returns : goal.returns
 returns g c =
     let m = g.T.Entry in
     let r = c.removed_below-out-2 in
-    join_upper_goes m.key m.unit m.op m.of g.met.T.Entry.laws (store_of c.args.arena.now) (store_of r.new.arena) (store_of c.set_entry-2.new.self) c.args.number
-    r.result.0 c.look.result.now c.args.lower.now c.args.upper.now c.args.joined.now r.result.1 c.look.ensures c.requires.meets (ltb-false _ _ (search rules))
+    join_upper_goes m.key m.unit m.op m.of g.met.T.Entry.laws (store_of c.args.arena.now) (store_of r.new.arena)
+    (store_of c.set_entry-2.new.self) c.args.number
+    r.result.0 c.look.result.now c.args.lower.now c.args.upper.now c.args.joined.now r.result.1 c.look.ensures c.requires.meets
+    (ltb-false _ _ (search rules))
     r.ensures.removed (r.ensures.kept c.args.number) c.set_entry-2.ensures
 
 pub removed_below-out-requires-clause-there : goal.removed_below-out-requires-clause-there

@@ -25,7 +25,8 @@ pub returns-clause-settled : goal.returns-clause-settled
 returns-clause-settled g c =
     let m = g.T.Entry in
     let s = store_of c.args.arena.now in
-    other_side m.key m.unit m.op m.of g.met.T.Entry.laws c.args.side s s (store_of c.set_side.new.self) c.args.number c.args.child c.link_at-link.result
+    other_side m.key m.unit m.op m.of g.met.T.Entry.laws c.args.side s s (store_of c.set_side.new.self) c.args.number c.args.child
+    c.link_at-link.result
     (told_settled m.key m.unit m.op m.of g.met.T.Entry.laws s c.args.child c.link_at-link.result c.requires.child c.link_at-link.ensures
     (λ v e. (c.is_level.ensures v e).0 (search rules)))
     c.set_side.ensures (λ v e _ d. both_ways _ c.if-has_side.false ((c.has_side.ensures v e).1 d))

@@ -70,8 +70,10 @@ pub returns-clause-taken : goal.returns-clause-taken
 returns-clause-taken g c =
     let m = g.T.Entry in
     let p = c.pop_first-first in
-    taken_middle m.key m.unit m.op m.of g.met.T.Entry.laws (store_of c.args.arena.now) (store_of p.new.arena) (store_of c.balance-whole.new.arena) c.args.number
-    c.get-node.result c.args.like.now c.in-Some.right p.result.0 p.result.1 p.result.2 c.balance-whole.result c.get-node.ensures c.requires.same c.in-Some.is
+    taken_middle m.key m.unit m.op m.of g.met.T.Entry.laws (store_of c.args.arena.now) (store_of p.new.arena)
+    (store_of c.balance-whole.new.arena) c.args.number
+    c.get-node.result c.args.like.now c.in-Some.right p.result.0 p.result.1 p.result.2 c.balance-whole.result c.get-node.ensures
+    c.requires.same c.in-Some.is
     p.ensures.popped p.ensures.not_higher p.ensures.at_most_one_lower c.balance-whole.ensures.joined c.balance-whole.ensures.height
 
 pub returns-in_default-clause-kept : goal.returns-in_default-clause-kept

@@ -8,11 +8,13 @@ use Rattle.av_arena.proofs.tree.+pop_first.Goals as goal
 pub with_left-whole-requires-clause-spot : goal.with_left-whole-requires-clause-spot
 with_left-whole-requires-clause-spot g t c =
     let m = g.T.Entry in
-    popped_ready m.key m.unit m.op m.of g.met.T.Entry.laws (store_of c.args.arena.now) (store_of c.pop_first-number.new.arena) c.args.tree c.in-Some.left
+    popped_ready m.key m.unit m.op m.of g.met.T.Entry.laws (store_of c.args.arena.now) (store_of c.pop_first-number.new.arena)
+    c.args.tree c.in-Some.left
     c.open-node.result _ _ c.pop_first-number.result.2 c.open-node.ensures c.in-Some.is c.pop_first-number.ensures.popped
 
 pub returns-in_default-clause-popped : goal.returns-in_default-clause-popped
-returns-in_default-clause-popped g t c = let m = g.T.Entry in popped_first m.key m.unit m.op m.of g.met.T.Entry.laws (store_of c.args.arena.now) c.args.tree
+returns-in_default-clause-popped g t c = let m = g.T.Entry in
+    popped_first m.key m.unit m.op m.of g.met.T.Entry.laws (store_of c.args.arena.now) c.args.tree
     c.open-node.result c.open-node.ensures (search rules)
 
 pub returns-clause-popped : goal.returns-clause-popped
@@ -20,12 +22,14 @@ returns-clause-popped g t c =
     let m = g.T.Entry in
     popped_later m.key m.unit m.op m.of g.met.T.Entry.laws (store_of c.args.arena.now) (store_of c.pop_first-number.new.arena)
     (store_of c.with_left-whole.new.arena) c.args.tree c.in-Some.left c.open-node.result c.pop_first-number.result.0 c.pop_first-number.result.1
-    c.pop_first-number.result.2 c.with_left-whole.result c.open-node.ensures c.in-Some.is c.pop_first-number.ensures.popped c.with_left-whole.ensures.joined
+    c.pop_first-number.result.2 c.with_left-whole.result c.open-node.ensures c.in-Some.is c.pop_first-number.ensures.popped
+    c.with_left-whole.ensures.joined
 
 pub with_left-whole-requires-clause-root : goal.with_left-whole-requires-clause-root
 with_left-whole-requires-clause-root g t c =
     let m = g.T.Entry in
-    popped_root m.key m.unit m.op m.of g.met.T.Entry.laws (store_of c.args.arena.now) (store_of c.pop_first-number.new.arena) c.args.tree c.in-Some.left
+    popped_root m.key m.unit m.op m.of g.met.T.Entry.laws (store_of c.args.arena.now) (store_of c.pop_first-number.new.arena)
+    c.args.tree c.in-Some.left
     c.open-node.result _ _ c.pop_first-number.result.2 c.open-node.ensures c.in-Some.is c.pop_first-number.ensures.popped
 
 pub with_left-whole-requires-clause-level : goal.with_left-whole-requires-clause-level

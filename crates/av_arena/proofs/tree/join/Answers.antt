@@ -11,13 +11,15 @@ use Rattle.av_arena.proofs.tree.join.Goals as goal
 pub joined_below-number-requires : goal.joined_below-number-requires
 joined_below-number-requires g c =
     let m = g.T.Entry in
-    asked_below (λ k. IsJoinFor m.key m.unit m.op m.of (store_of c.args.arena.now) k c.args.lower c.args.upper c.args.joined) _ _ c.in-Some.is c.requires.join
+    asked_below (λ k. IsJoinFor m.key m.unit m.op m.of (store_of c.args.arena.now) k c.args.lower c.args.upper c.args.joined) _ _ c.in-Some.is
+    c.requires.join
     c.requires.low
 
 -- what follows of the call below the root
 after_call : (g : Over) (c : After-joined_below-number g) → let m = g.T.Entry in let s = store_of c.args.arena.now in
     IsCalled m.key m.unit m.op m.of g.met.T.Entry.laws (λ k. IsJoinFor m.key m.unit m.op m.of s k c.args.lower c.args.upper c.args.joined)
-    (with_joined m.key c.args.lower c.args.upper c.args.joined) (λ f. f) (is c.joined_below-number.result.0) 1 0 s (store_of c.joined_below-number.new.arena)
+    (with_joined m.key c.args.lower c.args.upper c.args.joined) (λ f. f) (is c.joined_below-number.result.0) 1 0 s
+    (store_of c.joined_below-number.new.arena)
     c.args.tree c.in-Some.tree c.joined_below-number.result.1
 after_call g c =
     let m = g.T.Entry in

@@ -17,7 +17,8 @@ returns-then-height-clause-joined g c =
     c.close-low.ensures.set c.close.ensures.set (omega arith, omega arith) (omega arith, omega arith)
 
 pub close-after-requires-clause-used : goal.close-after-requires-clause-used
-close-after-requires-clause-used g c = let m = g.T.Entry in still_used m.key m.unit m.op m.of g.met.T.Entry.laws _ _ _ _ _ _ _ c.close-before.ensures.set
+close-after-requires-clause-used g c = let m = g.T.Entry in
+    still_used m.key m.unit m.op m.of g.met.T.Entry.laws _ _ _ _ _ _ _ c.close-before.ensures.set
     c.args.right.number c.open-side.ensures.used
 
 pub close-requires-2-clause-used : goal.close-requires-2-clause-used
@@ -29,8 +30,10 @@ pub returns-clause-joined : goal.returns-clause-joined
 returns-clause-joined g c =
     let m = g.T.Entry in
     turned_right_left m.key m.unit m.op m.of g.met.T.Entry.laws (store_of c.args.arena.now) (store_of c.close-before.new.arena)
-    (store_of c.close-after.new.arena) (store_of c.close-2.new.arena) c.args.number c.args.left c.args.entry c.args.right c.open-side.result c.in-Some.middle
-    c.open-inner.result c.close-before.result c.close-after.result c.close-2.result c.requires.spot c.open-side.ensures c.in-Some.is c.open-inner.ensures
+    (store_of c.close-after.new.arena) (store_of c.close-2.new.arena) c.args.number c.args.left c.args.entry c.args.right c.open-side.result
+    c.in-Some.middle
+    c.open-inner.result c.close-before.result c.close-after.result c.close-2.result c.requires.spot c.open-side.ensures c.in-Some.is
+    c.open-inner.ensures
     c.close-before.ensures.set c.close-after.ensures.set c.close-2.ensures.set (search rules) (search rules) (search rules)
 
 pub returns-then-height-clause-other : goal.returns-then-height-clause-other
@@ -77,7 +80,8 @@ pub returns-then-height-clause-put : goal.returns-then-height-clause-put
 returns-then-height-clause-put g c =
     let m = g.T.Entry in
     puts_other _ _ _ c.args.number c.args.right.number _ _ c.close-low.ensures.put
-    (other_right m.key m.unit m.op m.of g.met.T.Entry.laws _ _ _ _ _ c.requires.spot c.open-side.ensures) (ap entry_of c.open-side.ensures.root.stored)
+    (other_right m.key m.unit m.op m.of g.met.T.Entry.laws _ _ _ _ _ c.requires.spot c.open-side.ensures)
+    (ap entry_of c.open-side.ensures.root.stored)
     c.close.ensures.put
 
 pub returns-clause-put : goal.returns-clause-put
@@ -85,7 +89,8 @@ returns-clause-put g c =
     let m = g.T.Entry in
     puts_other _ _ _ c.args.number c.in-Some.middle.number _ _
     (puts_other _ _ _ c.args.number c.args.right.number _ _ c.close-before.ensures.put
-    (other_right m.key m.unit m.op m.of g.met.T.Entry.laws _ _ _ _ _ c.requires.spot c.open-side.ensures) (ap entry_of c.open-side.ensures.root.stored)
+    (other_right m.key m.unit m.op m.of g.met.T.Entry.laws _ _ _ _ _ c.requires.spot c.open-side.ensures)
+    (ap entry_of c.open-side.ensures.root.stored)
     c.close-after.ensures.put)
     (other_right_left m.key m.unit m.op m.of g.met.T.Entry.laws _ _ _ _ _ _ _ c.requires.spot c.open-side.ensures c.in-Some.is c.open-inner.ensures)
     (ap entry_of c.open-inner.ensures.root.stored) c.close-2.ensures.put

@@ -16,7 +16,8 @@ returns-in_default-clause-placed g c =
     let e : c.args.tree ≡ None = search rules in
     let p = subst (λ k. IsPlaceFor m.key m.unit m.op m.of s k c.args.number c.args.entry) e c.requires.place in
     subst (λ k. IsPlaced m.key m.unit m.op m.of s (store_of c.close.new.arena) k c.args.number c.args.entry c.close.result) (sym e)
-    (placed_first m.key m.unit m.op m.of g.met.T.Entry.laws s (store_of c.close.new.arena) c.args.number c.args.entry c.close.result p c.close.ensures.set)
+    (placed_first m.key m.unit m.op m.of g.met.T.Entry.laws s (store_of c.close.new.arena) c.args.number c.args.entry c.close.result p
+    c.close.ensures.set)
 
 pub placed_below-requires : goal.placed_below-requires
 placed_below-requires g c =
@@ -26,13 +27,15 @@ placed_below-requires g c =
 
 -- what follows of the call below the root
 after_call : (g : Over) (c : After-placed_below g) → let m = g.T.Entry in let s = store_of c.args.arena.now in
-    IsCalled m.key m.unit m.op m.of g.met.T.Entry.laws (λ k. IsPlaceFor m.key m.unit m.op m.of s k c.args.number c.args.entry) (with_entry m.key c.args.entry)
+    IsCalled m.key m.unit m.op m.of g.met.T.Entry.laws (λ k. IsPlaceFor m.key m.unit m.op m.of s k c.args.number c.args.entry)
+    (with_entry m.key c.args.entry)
     (λ f j. is c.args.number j + f j) none 0 1 s (store_of c.placed_below.new.arena)
     c.args.tree c.in-Some.tree c.placed_below.result
 after_call g c =
     let m = g.T.Entry in
     let s = store_of c.args.arena.now in
-    called m.key m.unit m.op m.of g.met.T.Entry.laws (λ k. IsPlaceFor m.key m.unit m.op m.of s k c.args.number c.args.entry) (with_entry m.key c.args.entry)
+    called m.key m.unit m.op m.of g.met.T.Entry.laws (λ k. IsPlaceFor m.key m.unit m.op m.of s k c.args.number c.args.entry)
+    (with_entry m.key c.args.entry)
     (λ f j. is c.args.number j + f j) none 0 1 s _ _ _ _
     c.in-Some.is c.requires.place c.requires.place.held c.requires.low c.placed_below.ensures.placed
 

@@ -21,7 +21,8 @@ returns-then-is_at-clause-removed g c =
     let k = c.in-Some.tree in
     let p = subst (λ o. HasKey m.key m.unit m.op m.of s o c.args.like) c.in-Some.is c.requires.there in
     let w = c.take-rest.ensures.taken k refl p in
-    subst (λ o. IsWithout m.key m.unit m.op m.of s (store_of c.take-rest.new.arena) o (without_key m.key (m.key c.args.like) (entries_at s o)) k.number
+    subst (λ o. IsWithout m.key m.unit m.op m.of s (store_of c.take-rest.new.arena) o
+    (without_key m.key (m.key c.args.like) (entries_at s o)) k.number
     c.take-rest.result) (sym c.in-Some.is) w.0
 
 pub returns-then-is_at-clause-not_higher : goal.returns-then-is_at-clause-not_higher
@@ -49,13 +50,15 @@ removed_below-number-requires-clause-there g c =
 
 -- what follows of the call below the root
 after_call : (g : Over) (c : After-removed_below-number g) → let m = g.T.Entry in let s = store_of c.args.arena.now in
-    IsCalled m.key m.unit m.op m.of g.met.T.Entry.laws (λ k. HasKey m.key m.unit m.op m.of s k c.args.like) (without_key m.key (m.key c.args.like)) (λ f. f)
+    IsCalled m.key m.unit m.op m.of g.met.T.Entry.laws (λ k. HasKey m.key m.unit m.op m.of s k c.args.like)
+    (without_key m.key (m.key c.args.like)) (λ f. f)
     (is c.removed_below-number.result.0) 1 0 s (store_of c.removed_below-number.new.arena)
     c.args.tree c.in-Some.tree c.removed_below-number.result.1
 after_call g c =
     let m = g.T.Entry in
     let s = store_of c.args.arena.now in
-    called m.key m.unit m.op m.of g.met.T.Entry.laws (λ k. HasKey m.key m.unit m.op m.of s k c.args.like) (without_key m.key (m.key c.args.like)) (λ f. f)
+    called m.key m.unit m.op m.of g.met.T.Entry.laws (λ k. HasKey m.key m.unit m.op m.of s k c.args.like)
+    (without_key m.key (m.key c.args.like)) (λ f. f)
     (is c.removed_below-number.result.0) 1 0 s _ _ _ _
     c.in-Some.is c.requires.there c.requires.there.held c.requires.low c.removed_below-number.ensures.removed
 
@@ -67,7 +70,8 @@ pub settle-whole-requires : goal.settle-whole-requires
 settle-whole-requires g c = (after_call g (goal.at.settle-whole-requires g c).After-removed_below-number).ready
 
 pub returns-clause-removed : goal.returns-clause-removed
-returns-clause-removed g c = ((after_call g (goal.at.returns-clause-removed g c).After-removed_below-number).settled _ _ c.settle-whole.ensures.settled).tree
+returns-clause-removed g c =
+    ((after_call g (goal.at.returns-clause-removed g c).After-removed_below-number).settled _ _ c.settle-whole.ensures.settled).tree
 
 pub returns-clause-not_higher : goal.returns-clause-not_higher
 returns-clause-not_higher g c =

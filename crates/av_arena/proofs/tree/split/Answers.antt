@@ -11,7 +11,8 @@ use Rattle.av_arena.proofs.tree.split.Goals as goal
 pub split_below-requires : goal.split_below-requires
 split_below-requires g c =
     let m = g.T.Entry in
-    asked_below (λ k. IsSplitFor m.key m.unit m.op m.of (store_of c.args.arena.now) k c.args.new c.args.lower c.args.upper) _ _ c.in-Some.is c.requires.split
+    asked_below (λ k. IsSplitFor m.key m.unit m.op m.of (store_of c.args.arena.now) k c.args.new c.args.lower c.args.upper) _ _ c.in-Some.is
+    c.requires.split
     c.requires.low
 
 -- what follows of the call below the root

@@ -24,7 +24,8 @@ returns-clause-joined g c =
     let m = g.T.Entry in
     let s = store_of c.args.arena.now in
     let v = c.get-node.result in
-    let e = node_is m.key m.unit m.op m.of g.met.T.Entry.laws s c.args.tree c.args.own c.args.entry c.args.right v c.requires.root c.get-node.ensures in
+    let e = node_is m.key m.unit m.op m.of g.met.T.Entry.laws s c.args.tree c.args.own c.args.entry c.args.right v c.requires.root
+    c.get-node.ensures in
     let high : height_of v.left ≡ height_of c.args.left = search rules in
     let own : height_of c.args.own ≡ height_of c.args.left = sym (ap (λ (w : Stored g.row.T.Denot g.row.T-Sum.Denot). height_of w.left) e) ∙ high in
     let sum : c.join_sums-total.result ≡ m.op (sum_of m.unit c.args.left) (m.op (m.of v.entry) (sum_of m.unit v.right)) = search rules in

@@ -18,7 +18,8 @@ loop-anon-preserved g c =
     let so_far = c.loop-anon.invariant.4 in
     let long = length-append gone (v ∷ []) in (
       gone ++ v ∷ [],
-      c.loop-anon.invariant.1 ∙ ap (λ vs. gone ++ vs) (first ∙ ap (λ vs. v ∷ vs) (sym here)) ∙ sym (append_assoc gone (v ∷ []) (chain c.pop.new.self a)),
+      c.loop-anon.invariant.1 ∙ ap (λ vs. gone ++ vs) (first ∙ ap (λ vs. v ∷ vs) (sym here))
+          ∙ sym (append_assoc gone (v ∷ []) (chain c.pop.new.self a)),
       c.pop.ensures.chain ∙ ap (λ f. with_at a (rest_in (chain c.loop-anon.ring a)) f) c.loop-anon.invariant.2
           ∙ with_at_twice a (rest_in (chain c.loop-anon.ring a)) (chain c.loop-anon.ring a) (chain c.args.ring.now)
           ∙ ap (λ vs. with_at a vs (chain c.args.ring.now)) (sym here),

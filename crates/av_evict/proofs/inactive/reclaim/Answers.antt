@@ -30,7 +30,8 @@ loop-turn-preserved g c = record {
       (λ l ns. (Some f ≡ slice_get (reverse l.inactive) 0) × Outcome b.setting (spares b.closing None) l f ns)
       (c.loop-turn.invariant.midway told)
       (gives-as _ _ _ _ (IsUsed f) Always (λ l ns. Outcome b.setting (spares b.closing None) l f ns)
-      (λ l ns. (Some f ≡ slice_get (reverse l.inactive) 0) × Outcome b.setting (spares b.closing None) l f ns) (c.in_ok-reclaim_one.ensures.gives told)
+      (λ l ns. (Some f ≡ slice_get (reverse l.inactive) 0) × Outcome b.setting (spares b.closing None) l f ns)
+      (c.in_ok-reclaim_one.ensures.gives told)
       (λ l sound stands ready. inactive-used _ l f sound (c.in-Some.ensures told l (loose _ _ l sound) stands))
       (λ l ns sound stands ready is. (c.in-Some.ensures told l (loose _ _ l sound) stands, is)))
       (λ l ns rest same closed sound stands q h. subst (λ x. ReclaimsLeft k.setting k.closing x l (ns ++ rest)) one_more

@@ -14,7 +14,8 @@ turns-requires g c =
     let k = g.S.System.view c.args.system.now false in
     let n = c.flight_len-flying.result in
     gives-at _ _ _ _ Always IsLanded (λ l ns. Completes l l.flight ns) c.requires
-    (gives-as _ _ _ _ Always Always (CompletesOf n) (λ l ns. Completes l l.flight ns) (c.in_ok-complete.ensures.gives false) (λ l sound stands ready. tt)
+    (gives-as _ _ _ _ Always Always (CompletesOf n) (λ l ns. Completes l l.flight ns) (c.in_ok-complete.ensures.gives false)
+    (λ l sound stands ready. tt)
     (λ l ns sound stands ready is. completes-all l n ns (c.flight_len-flying.ensures false l (loose _ _ l sound) stands) is))
     (λ l ns sound ready is after. completed-landed k.setting l ns sound is)
 
@@ -38,7 +39,8 @@ returns-clause-gives g c = λ told.
     (gives-so _ _ _ _ Always (CompletesOf n) (IsFlown k.setting k.closing mid.setting mid.closing) (c.in_ok-complete.ensures.gives told)
     (λ l ns sound stands is goes after. record {
       completes = completes-all l n ns (c.flight_len-flying.ensures told l (loose _ _ l sound) stands) is;
-      full = ap (λ m. has_free m (after_notes l ns)) (sym goes.does.stays.setting) ∙ sym (c.has_free.ensures told (after_notes l ns) after goes.does.stands)
+      full = ap (λ m. has_free m (after_notes l ns)) (sym goes.does.stays.setting)
+          ∙ sym (c.has_free.ensures told (after_notes l ns) after goes.does.stands)
           ∙ c.if-has_free.false;
       setting = goes.does.stays.setting;
       closing_same = goes.does.stays.closing;

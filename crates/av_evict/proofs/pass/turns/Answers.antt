@@ -15,7 +15,8 @@ loop-turn-init g c = record {
 }
 
 pub turn_unless_pinned-requires : goal.turn_unless_pinned-requires
-turn_unless_pinned-requires g c = turning-at _ _ _ _ c.args.pinned _ c.in-Some.frame c.requires (rw c.in-Some.is at (c.loop-turn.invariant.midway false))
+turn_unless_pinned-requires g c =
+    turning-at _ _ _ _ c.args.pinned _ c.in-Some.frame c.requires (rw c.in-Some.is at (c.loop-turn.invariant.midway false))
 
 pub next_in_turn-next-requires : goal.next_in_turn-next-requires
 next_in_turn-next-requires g c =

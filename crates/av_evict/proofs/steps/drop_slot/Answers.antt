@@ -6,5 +6,6 @@ use Rattle.av_evict.proofs.StepLaws.{drop-may}
 use Rattle.av_evict.proofs.steps.drop_slot.Goals as goal
 
 pub returns-clause-gives : goal.returns-clause-gives
-returns-clause-gives g c = λ told. makes-gives _ _ _ _ (MayDrop c.args.slot) (Dropped c.args.slot ∷ []) (c.drop_slot.ensures.makes told) c.in_ok-push.ensures.ok
+returns-clause-gives g c =
+    λ told. makes-gives _ _ _ _ (MayDrop c.args.slot) (Dropped c.args.slot ∷ []) (c.drop_slot.ensures.makes told) c.in_ok-push.ensures.ok
     (λ l sound stands may. drop-may _ l c.args.slot sound may)

@@ -6,5 +6,6 @@ use Rattle.av_evict.proofs.StepLaws.{start-sound}
 use Rattle.av_evict.proofs.steps.start.Goals as goal
 
 pub returns-clause-gives : goal.returns-clause-gives
-returns-clause-gives g c = λ told. makes-gives _ _ _ _ (MayStart c.args.slot) (Started c.args.slot ∷ []) (c.start.ensures.makes told) c.in_ok-push.ensures.ok
+returns-clause-gives g c =
+    λ told. makes-gives _ _ _ _ (MayStart c.args.slot) (Started c.args.slot ∷ []) (c.start.ensures.makes told) c.in_ok-push.ensures.ok
     (λ l sound stands may. start-sound _ l c.args.slot sound may)

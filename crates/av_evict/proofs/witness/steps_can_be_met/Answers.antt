@@ -25,40 +25,41 @@ free_after m closing free l note next = record {
 }
 
 -- in one reading
-met : (m : Setting) (closing : Option ℕ) (first : Option (ℕ → List ℕ)) (free : Free) (faults : ℕ) (w : World) (r : Rmap) (l : Ledger) (note : Note) →
+met : (m : Setting) (closing : Option ℕ) (first : Option (ℕ → List ℕ)) (free : Free) (failures : ℕ) (w : World) (r : Rmap) (l : Ledger)
+    (note : Note) →
     (next : TakesNext m closing l free note) →
-    Does (only_view m closing first free faults w r l)
-    (only_view m closing first (free_after m closing free l note next) (faults + fails (note ∷ [])) (with_loads m w l (note_events (note ∷ [])))
+    Does (only_view m closing first free failures w r l)
+    (only_view m closing first (free_after m closing free l note next) (failures + fails (note ∷ [])) (with_loads m w l (note_events (note ∷ [])))
     (rmap_after_all l (note_events (note ∷ [])) r) (after_note note l)) l (note ∷ [])
-met m closing first free faults w r l note next = record {
+met m closing first free failures w r l note next = record {
   stands = refl;
-  stays = record { setting = refl; closing = refl; names = refl; first = refl; never_falls = no-less (fails (note ∷ [])) faults };
+  stays = record { setting = refl; closing = refl; names = refl; first = refl; never_falls = no-less (fails (note ∷ [])) failures };
   chooses = (
     free_after m closing free l note next,
     record { frames = (next.frames, next.first, refl); slots = (free.slots, next.slots, refl, next.slot, refl) },
     refl,
   );
   claims = λ v q is. (ap (λ x. with_loads m x l (note_events (note ∷ []))) is.0, ap (rmap_after_all l (note_events (note ∷ []))) is.1);
-  faults = most (fails (note ∷ [])) faults (2 ^ 64 - 1);
+  failures = most (fails (note ∷ [])) failures (2 ^ 64 - 1);
 }
 
 -- in both
-met_told : (m : Setting) (closing : Option ℕ) (first : Option (ℕ → List ℕ)) (free : Free) (faults : ℕ) (w : World) (r : Rmap) (l : Ledger)
+met_told : (m : Setting) (closing : Option ℕ) (first : Option (ℕ → List ℕ)) (free : Free) (failures : ℕ) (w : World) (r : Rmap) (l : Ledger)
     (note : Note) →
     (next : TakesNext m closing l free note) → (told : Bool) →
-    Does (only_view (setting_told told m) closing (if told then first else None) free faults w r l)
-    (only_view (setting_told told m) closing (if told then first else None) (free_after m closing free l note next) (faults + fails (note ∷ []))
+    Does (only_view (setting_told told m) closing (if told then first else None) free failures w r l)
+    (only_view (setting_told told m) closing (if told then first else None) (free_after m closing free l note next) (failures + fails (note ∷ []))
     (with_loads (setting_told told m) w l (note_events (note ∷ []))) (rmap_after_all l (note_events (note ∷ [])) r) (after_note note l))
     l (note ∷ [])
-met_told m closing first free faults w r l note next true = met m closing first free faults w r l note next
-met_told m closing first free faults w r l note next false = met (setting_told false m) closing None free faults w r l note
+met_told m closing first free failures w r l note next true = met m closing first free failures w r l note next
+met_told m closing first free failures w r l note next false = met (setting_told false m) closing None free failures w r l note
     (record { frames = next.frames; slots = next.slots; first = next.first; slot = next.slot })
 
 pub returns : goal.returns
-returns c = λ m closing first free faults w r l note next. (
+returns c = λ m closing first free failures w r l note next. (
   free_after m closing free l note next,
-  faults + fails (note ∷ []),
+  failures + fails (note ∷ []),
   λ told. with_loads (setting_told told m) w l (note_events (note ∷ [])),
   rmap_after_all l (note_events (note ∷ [])) r,
-  met_told m closing first free faults w r l note next,
+  met_told m closing first free failures w r l note next,
 )

@@ -31,7 +31,8 @@ map-requires-clause-few g c =
 pub returns-in_ok-push-in-Ok-clause-come : goal.returns-in_ok-push-in-Ok-clause-come
 returns-in_ok-push-in-Ok-clause-come g c = λ told w r l h.
     come-mapped _ _ c.args.mem.now c.fetch.new.mem w r l c.args.key c.args.slot c.args.notes.now c.fetch.new.notes h c.requires.away c.in-Ok.frame
-    (subst (HasCome (λ m w l added came. Fetches m w l c.args.slot added came) _ _ c.args.mem.now c.fetch.new.mem w r l c.args.notes.now c.fetch.new.notes)
+    (subst (HasCome (λ m w l added came. Fetches m w l c.args.slot added came) _ _ c.args.mem.now c.fetch.new.mem w r l c.args.notes.now
+    c.fetch.new.notes)
     c.in-Ok.is (c.in_ok-frame.ensures.fetched told w r l h))
     c.map.new.self c.map.ensures.mapped c.map.ensures.parts c.push.new.self c.in_ok-push-in-Ok.ensures.ok
 
@@ -41,5 +42,6 @@ returns-in_ok-push-in-Ok-clause-here g c = map-here c.fetch.new.mem c.map.new.se
 pub returns-in-Err-clause-come : goal.returns-in-Err-clause-come
 returns-in-Err-clause-come g c = λ told w r l h.
     come-stopped _ _ c.args.mem.now c.fetch.new.mem w r l c.args.key c.args.slot c.args.notes.now c.fetch.new.notes c.in-Err.stop
-    (subst (HasCome (λ m w l added came. Fetches m w l c.args.slot added came) _ _ c.args.mem.now c.fetch.new.mem w r l c.args.notes.now c.fetch.new.notes)
+    (subst (HasCome (λ m w l added came. Fetches m w l c.args.slot added came) _ _ c.args.mem.now c.fetch.new.mem w r l c.args.notes.now
+    c.fetch.new.notes)
     c.in-Err.is (c.in_ok-frame.ensures.fetched told w r l h))

@@ -17,7 +17,8 @@ pub returns-in-Out-clause-fetched : goal.returns-in-Out-clause-fetched
 returns-in-Out-clause-fetched g c = λ told w r l h.
     come-out _ _ c.args.mem.now c.seek.new.mem w r l c.args.slot c.in-Out.out c.args.notes.now c.seek.new.notes h
     (sym c.find.ensures.value ∙ c.in_default.is)
-    (subst (HasSought _ _ c.args.mem.now c.seek.new.mem w r l None c.args.notes.now c.seek.new.notes) c.in-Out.is (c.in_ok-out.ensures.sought told w r l h))
+    (subst (HasSought _ _ c.args.mem.now c.seek.new.mem w r l None c.args.notes.now c.seek.new.notes) c.in-Out.is
+    (c.in_ok-out.ensures.sought told w r l h))
 
 pub home_to_load-home-requires : goal.home_to_load-home-requires
 home_to_load-home-requires g c =
@@ -32,56 +33,65 @@ load-requires-clause-fits g c =
 pub load-requires-clause-areas : goal.load-requires-clause-areas
 load-requires-clause-areas g c =
     (to-load _ _ c.args.mem.now c.seek.new.mem c.args.key c.args.slot c.args.home c.args.notes.now c.seek.new.notes c.in_ok-out.field-0
-    c.requires.between c.requires.away c.requires.home (sym c.find.ensures.value ∙ c.in_default.is) c.in_ok-out.ensures.sought c.in_default-2.is).areas
+    c.requires.between c.requires.away c.requires.home (sym c.find.ensures.value ∙ c.in_default.is) c.in_ok-out.ensures.sought
+    c.in_default-2.is).areas
 
 pub load-requires-clause-listed : goal.load-requires-clause-listed
 load-requires-clause-listed g c =
     (to-load _ _ c.args.mem.now c.seek.new.mem c.args.key c.args.slot c.args.home c.args.notes.now c.seek.new.notes c.in_ok-out.field-0
-    c.requires.between c.requires.away c.requires.home (sym c.find.ensures.value ∙ c.in_default.is) c.in_ok-out.ensures.sought c.in_default-2.is).listed
+    c.requires.between c.requires.away c.requires.home (sym c.find.ensures.value ∙ c.in_default.is) c.in_ok-out.ensures.sought
+    c.in_default-2.is).listed
 
 pub load-requires-clause-named : goal.load-requires-clause-named
 load-requires-clause-named g c =
     (to-load _ _ c.args.mem.now c.seek.new.mem c.args.key c.args.slot c.args.home c.args.notes.now c.seek.new.notes c.in_ok-out.field-0
-    c.requires.between c.requires.away c.requires.home (sym c.find.ensures.value ∙ c.in_default.is) c.in_ok-out.ensures.sought c.in_default-2.is).named
+    c.requires.between c.requires.away c.requires.home (sym c.find.ensures.value ∙ c.in_default.is) c.in_ok-out.ensures.sought
+    c.in_default-2.is).named
 
 pub load-requires-clause-absent : goal.load-requires-clause-absent
 load-requires-clause-absent g c =
     (to-load _ _ c.args.mem.now c.seek.new.mem c.args.key c.args.slot c.args.home c.args.notes.now c.seek.new.notes c.in_ok-out.field-0
-    c.requires.between c.requires.away c.requires.home (sym c.find.ensures.value ∙ c.in_default.is) c.in_ok-out.ensures.sought c.in_default-2.is).absent
+    c.requires.between c.requires.away c.requires.home (sym c.find.ensures.value ∙ c.in_default.is) c.in_ok-out.ensures.sought
+    c.in_default-2.is).absent
 
 pub load-requires-clause-uncached : goal.load-requires-clause-uncached
 load-requires-clause-uncached g c =
     (to-load _ _ c.args.mem.now c.seek.new.mem c.args.key c.args.slot c.args.home c.args.notes.now c.seek.new.notes c.in_ok-out.field-0
-    c.requires.between c.requires.away c.requires.home (sym c.find.ensures.value ∙ c.in_default.is) c.in_ok-out.ensures.sought c.in_default-2.is).uncached
+    c.requires.between c.requires.away c.requires.home (sym c.find.ensures.value ∙ c.in_default.is) c.in_ok-out.ensures.sought
+    c.in_default-2.is).uncached
 
 pub unreachable-requires : goal.unreachable-requires
 unreachable-requires g c =
     (to-load _ _ c.args.mem.now c.seek.new.mem c.args.key c.args.slot c.args.home c.args.notes.now c.seek.new.notes c.in_ok-out.field-0
-    c.requires.between c.requires.away c.requires.home (sym c.find.ensures.value ∙ c.in_default.is) c.in_ok-out.ensures.sought c.in_default-2.is).finds c.in-None.ensures.loads.0
+    c.requires.between c.requires.away c.requires.home (sym c.find.ensures.value ∙ c.in_default.is) c.in_ok-out.ensures.sought
+    c.in_default-2.is).finds c.in-None.ensures.loads.0
 
 pub returns-in_ok-push-in-Some-Ok-clause-fetched : goal.returns-in_ok-push-in-Some-Ok-clause-fetched
 returns-in_ok-push-in-Some-Ok-clause-fetched g c = λ told w r l h.
-    let d0 = device_by (g.D.SwapDev.sizes c.args.dev.now) (g.D.SwapDev.pages c.args.dev.now) (g.D.SwapDev.faults c.args.dev.now) in
-    let d1 = device_by (g.D.SwapDev.sizes c.seek.new.dev) (g.D.SwapDev.pages c.seek.new.dev) (g.D.SwapDev.faults c.seek.new.dev) in
-    let d2 = device_by (g.D.SwapDev.sizes c.load.new.dev) (g.D.SwapDev.pages c.load.new.dev) (g.D.SwapDev.faults c.load.new.dev) in
+    let d0 = device_by (g.D.SwapDev.sizes c.args.dev.now) (g.D.SwapDev.pages c.args.dev.now) (g.D.SwapDev.failures c.args.dev.now) in
+    let d1 = device_by (g.D.SwapDev.sizes c.seek.new.dev) (g.D.SwapDev.pages c.seek.new.dev) (g.D.SwapDev.failures c.seek.new.dev) in
+    let d2 = device_by (g.D.SwapDev.sizes c.load.new.dev) (g.D.SwapDev.pages c.load.new.dev) (g.D.SwapDev.failures c.load.new.dev) in
     let load = subst (λ x. Loads (Some x) c.seek.new.mem c.load.new.self (g.D.SwapDev.pages c.seek.new.dev) c.args.slot c.home_to_load-home.result
-    (g.D.SwapDev.faults c.seek.new.dev) (g.D.SwapDev.faults c.load.new.dev)) c.in-Some-Ok.field-0-is c.in-Some-Ok.ensures.loads in
+    (g.D.SwapDev.failures c.seek.new.dev) (g.D.SwapDev.failures c.load.new.dev)) c.in-Some-Ok.field-0-is c.in-Some-Ok.ensures.loads in
     subst (λ d. HasCome (λ m w l added came. Fetches m w l c.args.slot added came) (as_told told d0) d c.args.mem.now c.load.new.self w r l
     c.args.notes.now c.push.new.self (Ok c.in-Some-Ok.frame)) (sym (told-still told d1 d2 c.load.ensures.same_sizes c.load.ensures.same_pages load.1))
     (come-loaded (as_told told d0) (as_told told d1) c.args.mem.now c.seek.new.mem w r l c.args.key c.args.slot c.args.home c.args.notes.now
     c.seek.new.notes h c.requires.away c.requires.home (sym c.find.ensures.value ∙ c.in_default.is)
-    (subst (HasSought _ (as_told told d1) c.args.mem.now c.seek.new.mem w r l None c.args.notes.now c.seek.new.notes) c.in_default-2.is (c.in_ok-out.ensures.sought told w r l h))
-    c.load.new.self (g.D.SwapDev.pages c.seek.new.dev) c.in-Some-Ok.frame c.home_to_load-home.result c.home_to_load-home.ensures load.0 c.load.ensures.parts
+    (subst (HasSought _ (as_told told d1) c.args.mem.now c.seek.new.mem w r l None c.args.notes.now c.seek.new.notes) c.in_default-2.is
+    (c.in_ok-out.ensures.sought told w r l h))
+    c.load.new.self (g.D.SwapDev.pages c.seek.new.dev) c.in-Some-Ok.frame c.home_to_load-home.result c.home_to_load-home.ensures load.0
+    c.load.ensures.parts
     (got-told told d1 c.args.slot load.0.page load.0.holds) c.push.new.self c.in_ok-push-in-Some-Ok.ensures.ok)
 
 pub returns-in-Some-Err-clause-fetched : goal.returns-in-Some-Err-clause-fetched
 returns-in-Some-Err-clause-fetched g c = λ told w r l h.
-    let d1 = device_by (g.D.SwapDev.sizes c.seek.new.dev) (g.D.SwapDev.pages c.seek.new.dev) (g.D.SwapDev.faults c.seek.new.dev) in
-    let d2 = device_by (g.D.SwapDev.sizes c.load.new.dev) (g.D.SwapDev.pages c.load.new.dev) (g.D.SwapDev.faults c.load.new.dev) in
+    let d1 = device_by (g.D.SwapDev.sizes c.seek.new.dev) (g.D.SwapDev.pages c.seek.new.dev) (g.D.SwapDev.failures c.seek.new.dev) in
+    let d2 = device_by (g.D.SwapDev.sizes c.load.new.dev) (g.D.SwapDev.pages c.load.new.dev) (g.D.SwapDev.failures c.load.new.dev) in
     let load = subst (λ x. Loads (Some x) c.seek.new.mem c.load.new.self (g.D.SwapDev.pages c.seek.new.dev) c.args.slot c.home_to_load-home.result
-    (g.D.SwapDev.faults c.seek.new.dev) (g.D.SwapDev.faults c.load.new.dev)) c.in-Some-Err.field-0-is c.in-Some-Err.ensures.loads in
+    (g.D.SwapDev.failures c.seek.new.dev) (g.D.SwapDev.failures c.load.new.dev)) c.in-Some-Err.field-0-is c.in-Some-Err.ensures.loads in
     come-lost _ (as_told told d1) c.args.mem.now c.seek.new.mem w r l c.args.key c.args.slot c.args.home c.args.notes.now
     c.seek.new.notes h c.requires.away c.requires.home (sym c.find.ensures.value ∙ c.in_default.is)
-    (subst (HasSought _ (as_told told d1) c.args.mem.now c.seek.new.mem w r l None c.args.notes.now c.seek.new.notes) c.in_default-2.is (c.in_ok-out.ensures.sought told w r l h))
+    (subst (HasSought _ (as_told told d1) c.args.mem.now c.seek.new.mem w r l None c.args.notes.now c.seek.new.notes) c.in_default-2.is
+    (c.in_ok-out.ensures.sought told w r l h))
     (as_told told d2) c.load.new.self (seen-same told d1 d2 c.load.ensures.same_sizes c.load.ensures.same_pages c.load.ensures.never_falls)
     (seen-says told d1 d2 c.load.ensures.same_pages) load.1 c.load.ensures.parts (told-rose told 1 d1 d2 load.2)

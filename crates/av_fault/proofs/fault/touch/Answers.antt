@@ -13,11 +13,13 @@ home-home-requires-clause-first g c =
 pub returns-then-write : goal.returns-then-write
 returns-then-write g c = record {
   ready = λ told.
-      let d = device_by (g.D.SwapDev.sizes c.args.dev.now) (g.D.SwapDev.pages c.args.dev.now) (g.D.SwapDev.faults c.args.dev.now) in
-      let d1 = device_by (g.D.SwapDev.sizes c.touch_to_write.new.dev) (g.D.SwapDev.pages c.touch_to_write.new.dev) (g.D.SwapDev.faults c.touch_to_write.new.dev) in
+      let d = device_by (g.D.SwapDev.sizes c.args.dev.now) (g.D.SwapDev.pages c.args.dev.now) (g.D.SwapDev.failures c.args.dev.now) in
+      let d1 = device_by (g.D.SwapDev.sizes c.touch_to_write.new.dev) (g.D.SwapDev.pages c.touch_to_write.new.dev)
+      (g.D.SwapDev.failures c.touch_to_write.new.dev) in
       let key : Key = (c.args.process, c.args.page) in
       let done = c.touch_to_write in
-      subst (λ b. MakesReady (as_told told d) (as_told told d1) c.args.mem.now done.new.mem b key c.args.notes.now done.new.notes done.result) (sym c.if-write.true)
+      subst (λ b. MakesReady (as_told told d) (as_told told d1) c.args.mem.now done.new.mem b key c.args.notes.now done.new.notes done.result)
+      (sym c.if-write.true)
       (is-ready told d d1 c.args.mem.now done.new.mem true key c.args.notes.now done.new.notes done.result done.ensures.touched done.ensures.same
       done.ensures.count);
 }
@@ -25,11 +27,13 @@ returns-then-write g c = record {
 pub returns-else-write : goal.returns-else-write
 returns-else-write g c = record {
   ready = λ told.
-      let d = device_by (g.D.SwapDev.sizes c.args.dev.now) (g.D.SwapDev.pages c.args.dev.now) (g.D.SwapDev.faults c.args.dev.now) in
-      let d1 = device_by (g.D.SwapDev.sizes c.touch_to_read.new.dev) (g.D.SwapDev.pages c.touch_to_read.new.dev) (g.D.SwapDev.faults c.touch_to_read.new.dev) in
+      let d = device_by (g.D.SwapDev.sizes c.args.dev.now) (g.D.SwapDev.pages c.args.dev.now) (g.D.SwapDev.failures c.args.dev.now) in
+      let d1 = device_by (g.D.SwapDev.sizes c.touch_to_read.new.dev) (g.D.SwapDev.pages c.touch_to_read.new.dev)
+      (g.D.SwapDev.failures c.touch_to_read.new.dev) in
       let key : Key = (c.args.process, c.args.page) in
       let done = c.touch_to_read in
-      subst (λ b. MakesReady (as_told told d) (as_told told d1) c.args.mem.now done.new.mem b key c.args.notes.now done.new.notes done.result) (sym c.if-write.false)
+      subst (λ b. MakesReady (as_told told d) (as_told told d1) c.args.mem.now done.new.mem b key c.args.notes.now done.new.notes done.result)
+      (sym c.if-write.false)
       (is-ready told d d1 c.args.mem.now done.new.mem false key c.args.notes.now done.new.notes done.result done.ensures.touched done.ensures.same
       done.ensures.count);
 }

@@ -8,7 +8,7 @@ use Rattle.av_fault.proofs.fault.touch_to_read.Goals as goal
 
 pub returns-in-Empty-clause-touched : goal.returns-in-Empty-clause-touched
 returns-in-Empty-clause-touched g c =
-    let d = device_by (g.D.SwapDev.sizes c.args.dev.now) (g.D.SwapDev.pages c.args.dev.now) (g.D.SwapDev.faults c.args.dev.now) in
+    let d = device_by (g.D.SwapDev.sizes c.args.dev.now) (g.D.SwapDev.pages c.args.dev.now) (g.D.SwapDev.failures c.args.dev.now) in
     made-does d d c.args.mem.now c.make_zero.new.mem false c.args.key c.args.notes.now c.make_zero.new.notes c.make_zero.result Empty
     (sym c.get.ensures ∙ c.in-Empty.is) tt c.requires.permitted
     (IfOk-weaker c.make_zero.result _ _ (λ touched made told. made (as_told told d)) c.make_zero.ensures.made)
@@ -27,13 +27,15 @@ returns-in-Here-clause-touched g c = λ told w r l h.
 pub read_in-requires-clause-between : goal.read_in-requires-clause-between
 read_in-requires-clause-between g c =
     let x = is-in _ _ c.args.mem.now c.come_in.new.mem c.args.key c.in-Away.slot c.args.home c.args.notes.now c.come_in.new.notes c.in-Ok.frame
-    c.in_ok-frame-in-Away.field-0 c.requires.between (sym c.get.ensures ∙ c.in-Away.is) c.requires.home c.in_ok-frame-in-Away.ensures.come c.in-Ok.is in
+    c.in_ok-frame-in-Away.field-0 c.requires.between (sym c.get.ensures ∙ c.in-Away.is) c.requires.home
+    c.in_ok-frame-in-Away.ensures.come c.in-Ok.is in
     (_, x.between.1, x.between.2, x.between.3, x.between.4)
 
 pub returns-in-Ok-clause-touched : goal.returns-in-Ok-clause-touched
 returns-in-Ok-clause-touched g c =
-    let d1 = device_by (g.D.SwapDev.sizes c.come_in.new.dev) (g.D.SwapDev.pages c.come_in.new.dev) (g.D.SwapDev.faults c.come_in.new.dev) in
-    came-does _ d1 d1 c.args.mem.now c.come_in.new.mem c.read_in.new.mem false c.args.key c.in-Away.slot c.args.notes.now c.come_in.new.notes c.read_in.new.notes
+    let d1 = device_by (g.D.SwapDev.sizes c.come_in.new.dev) (g.D.SwapDev.pages c.come_in.new.dev) (g.D.SwapDev.failures c.come_in.new.dev) in
+    came-does _ d1 d1 c.args.mem.now c.come_in.new.mem c.read_in.new.mem false c.args.key c.in-Away.slot c.args.notes.now c.come_in.new.notes
+    c.read_in.new.notes
     c.in-Ok.frame c.in_ok-frame-in-Away.field-0 c.read_in.result (sym c.get.ensures ∙ c.in-Away.is) c.requires.permitted
     c.in_ok-frame-in-Away.ensures.come c.in-Ok.is
     (IfOk-weaker c.read_in.result _ _ (λ touched made told. made (as_told told d1)) c.read_in.ensures.made)

@@ -9,7 +9,8 @@ use Rattle.av_fault.proofs.fault.touch_to_write.Goals as goal
 
 pub returns-in-Empty-clause-touched : goal.returns-in-Empty-clause-touched
 returns-in-Empty-clause-touched g c =
-    made-does _ _ c.args.mem.now c.make_new.new.mem true c.args.key c.args.notes.now c.make_new.new.notes c.make_new.result c.get.result (sym c.get.ensures)
+    made-does _ _ c.args.mem.now c.make_new.new.mem true c.args.key c.args.notes.now c.make_new.new.notes c.make_new.result c.get.result
+    (sym c.get.ensures)
     (elim c.in-Empty.is [
       | inl x ↦ subst (λ e. IsNoSlot (entry_of (plain e))) (sym x) tt
       | inr x ↦ subst (λ e. IsNoSlot (entry_of (plain e))) (sym x) tt
@@ -25,12 +26,14 @@ returns-after-write-clause-touched g c =
 pub write_frame-requires-in-Ok-clause-between : goal.write_frame-requires-in-Ok-clause-between
 write_frame-requires-in-Ok-clause-between g c =
     (is-in _ _ c.args.mem.now c.come_in.new.mem c.args.key c.in-Away.slot c.args.home c.args.notes.now c.come_in.new.notes c.in-Ok.frame
-    c.in_ok-frame-in-Away.field-0 c.requires.between (sym c.get.ensures ∙ c.in-Away.is) c.requires.home c.in_ok-frame-in-Away.ensures.come c.in-Ok.is).between
+    c.in_ok-frame-in-Away.field-0 c.requires.between (sym c.get.ensures ∙ c.in-Away.is) c.requires.home c.in_ok-frame-in-Away.ensures.come
+    c.in-Ok.is).between
 
 pub write_frame-requires-in-Ok-clause-home : goal.write_frame-requires-in-Ok-clause-home
 write_frame-requires-in-Ok-clause-home g c =
     (is-in _ _ c.args.mem.now c.come_in.new.mem c.args.key c.in-Away.slot c.args.home c.args.notes.now c.come_in.new.notes c.in-Ok.frame
-    c.in_ok-frame-in-Away.field-0 c.requires.between (sym c.get.ensures ∙ c.in-Away.is) c.requires.home c.in_ok-frame-in-Away.ensures.come c.in-Ok.is).is_home
+    c.in_ok-frame-in-Away.field-0 c.requires.between (sym c.get.ensures ∙ c.in-Away.is) c.requires.home c.in_ok-frame-in-Away.ensures.come
+    c.in-Ok.is).is_home
 
 pub returns-in-Ok-clause-touched : goal.returns-in-Ok-clause-touched
 returns-in-Ok-clause-touched g c =

@@ -39,7 +39,8 @@ returns-clause-taken c =
     record {
       left = left;
       first = t.0;
-      view = taken-view old (record old { frames = c.set_home.new.self; lists = c.to_inactive_head.new.self; tables = c.change.new.self }) key.0 key.1 f left (s.bytes g) (with_at f 1 (with_at g (s.maps g - 1) s.maps)) c.args.home
+      view = taken-view old (record old { frames = c.set_home.new.self; lists = c.to_inactive_head.new.self; tables = c.change.new.self }) key.0 key.1
+          f left (s.bytes g) (with_at f 1 (with_at g (s.maps g - 1) s.maps)) c.args.home
           (copy-frames s f g left c.requires.mapped none (shown c.set_home.new.self) c.args.home
           (c.set_home.ensures ∙ ap (with_home f c.args.home) (c.map_up.ensures ∙ ap (λ (s : Shown). with_maps f (s.maps f + 1) s)
           (c.map_down.ensures ∙ ap (λ (s : Shown). with_maps g (s.maps g - 1) s)

@@ -24,7 +24,8 @@ returns-clause-taken c =
     record {
       left = left;
       first = t.0;
-      view = taken-view old (record old { frames = c.set_home.new.self; lists = c.to_inactive_head.new.self; tables = c.set.new.self }) key.0 key.1 f left (λ i. 0) (with_at f 1 (shown old.frames).maps) c.args.home
+      view = taken-view old (record old { frames = c.set_home.new.self; lists = c.to_inactive_head.new.self; tables = c.set.new.self }) key.0 key.1 f
+          left (λ i. 0) (with_at f 1 (shown old.frames).maps) c.args.home
           (zeros-frames (shown old.frames) (shown c.set_home.new.self) f left c.args.home none
           (c.set_home.ensures ∙ ap (with_home f c.args.home) (c.map_up.ensures ∙ ap (λ (s : Shown). with_maps f (s.maps f + 1) s)
           (c.zero.ensures ∙ ap (with_bytes f (λ i. 0)) t.3))))

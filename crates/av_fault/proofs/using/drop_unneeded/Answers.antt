@@ -53,7 +53,8 @@ returns-clause-dropped c = λ d w r l h.
     has-dropped d old w r l h c.args.frame s at c.drop_slot.new.self c.drop_slot.ensures.parts
     (subst (λ o. IfSome o (λ f. view c.drop_slot.new.self ≡ view_drop f s (view old))) (drop-find d old w r l h c.args.frame s at)
     c.drop_slot.ensures.dropped)
-    (sym c.in_flight.ensures ∙ c.if-in_flight.false) (sym c.entries.ensures ∙ omega (arith, c.if-entries-gt0.false)) c.args.notes.now c.push.new.self c.in_ok-push.ensures.ok
+    (sym c.in_flight.ensures ∙ c.if-in_flight.false) (sym c.entries.ensures ∙ omega (arith, c.if-entries-gt0.false)) c.args.notes.now c.push.new.self
+    c.in_ok-push.ensures.ok
 
 pub returns-clause-entries : goal.returns-clause-entries
 returns-clause-entries c =

@@ -12,7 +12,8 @@ returns-then-not-seen-clause-read c = λ d w r l h.
     let new = record old { tables = c.change.new.self } in
     read-done d old new w r l h c.args.key c.args.frame c.args.write c.args.seen c.requires
     (entry_put_in old new c.args.key.0 c.args.key.1 (Here c.args.frame c.args.write true)
-    (subst (λ e. entry_at c.change.new.self ≡ with_entry c.args.key.0 c.args.key.1 e (entry_at old.tables)) c.accessed_entry.ensures c.change.ensures.sets)
+    (subst (λ e. entry_at c.change.new.self ≡ with_entry c.args.key.0 c.args.key.1 e (entry_at old.tables)) c.accessed_entry.ensures
+    c.change.ensures.sets)
     refl refl refl refl refl)
     (parts-by old new refl refl c.change.ensures.processes refl refl refl)
 
@@ -25,5 +26,6 @@ pub returns-else-not-seen-clause-read : goal.returns-else-not-seen-clause-read
 returns-else-not-seen-clause-read c = λ d w r l h.
     let k = c.args.mem.now in
     read-done d k k w r l h c.args.key c.args.frame c.args.write c.args.seen c.requires
-    (seen-again c.args.key.0 c.args.key.1 c.args.frame c.args.write (view k) (ap plain (c.requires ∙ ap (Here c.args.frame c.args.write) c.if-not-seen.false)))
+    (seen-again c.args.key.0 c.args.key.1 c.args.frame c.args.write (view k)
+    (ap plain (c.requires ∙ ap (Here c.args.frame c.args.write) c.if-not-seen.false)))
     (parts-by k k refl refl refl refl refl refl)

@@ -22,7 +22,8 @@ returns-clause-made c = λ d w r l h.
     let at = entry-here d old w r l h c.args.key c.args.frame false false c.requires.here in
     let x = c.in_ok-drop_where_full.ensures.dropped d w r l h in
     let events = note_events x.added in
-    used-made d old mid c.read_frame.new.mem w r l c.args.key c.args.frame false false true c.args.notes.now c.drop_where_full.new.notes x.added at x.drops
+    used-made d old mid c.read_frame.new.mem w r l c.args.key c.args.frame false false true c.args.notes.now c.drop_where_full.new.notes
+    x.added at x.drops
     x.done x.notes (read-needs l c.args.key c.args.frame false at)
     (c.read_frame.ensures.read d (with_loads (setting_by d old) w l events) (rmap_after_all l events r) (after_all l events) x.done.between)
     false c.read_frame.ensures.here (λ is. is)

@@ -12,7 +12,8 @@ returns-then-cached-clause-written c = λ d w r l h alone still.
     let here = c.requires.here in
     let marked : Marked old c.if-not-settled.mem key.0 key.1 f = elim c.if-not-settled.branch [
       | then-not-settled w ↦ subst (λ k. Marked old k key.0 key.1 f) (sym w.mem-is)
-          (marked-set old w.change.new.self key.0 key.1 f w.accessed_entry.result w.accessed_entry.ensures w.change.ensures.sets w.change.ensures.processes)
+          (marked-set old w.change.new.self key.0 key.1 f w.accessed_entry.result w.accessed_entry.ensures w.change.ensures.sets
+          w.change.ensures.processes)
       | else-not-settled w ↦ subst (λ k. Marked old k key.0 key.1 f) (sym w.mem-is)
           (let is = here.marked w.if-not-settled.false in marked-kept old key.0 key.1 f here.write here.seen here.there is.0 is.1)
     ] in
@@ -29,7 +30,8 @@ returns-then-cached-clause-here c =
     let here = c.requires.here in
     let marked : Marked old c.if-not-settled.mem key.0 key.1 f = elim c.if-not-settled.branch [
       | then-not-settled w ↦ subst (λ k. Marked old k key.0 key.1 f) (sym w.mem-is)
-          (marked-set old w.change.new.self key.0 key.1 f w.accessed_entry.result w.accessed_entry.ensures w.change.ensures.sets w.change.ensures.processes)
+          (marked-set old w.change.new.self key.0 key.1 f w.accessed_entry.result w.accessed_entry.ensures w.change.ensures.sets
+          w.change.ensures.processes)
       | else-not-settled w ↦ subst (λ k. Marked old k key.0 key.1 f) (sym w.mem-is)
           (let is = here.marked w.if-not-settled.false in marked-kept old key.0 key.1 f here.write here.seen here.there is.0 is.1)
     ] in
@@ -43,7 +45,8 @@ returns-else-cached-clause-written c = λ d w r l h alone still.
     let here = c.requires.here in
     let marked : Marked old c.if-not-settled.mem key.0 key.1 f = elim c.if-not-settled.branch [
       | then-not-settled w ↦ subst (λ k. Marked old k key.0 key.1 f) (sym w.mem-is)
-          (marked-set old w.change.new.self key.0 key.1 f w.accessed_entry.result w.accessed_entry.ensures w.change.ensures.sets w.change.ensures.processes)
+          (marked-set old w.change.new.self key.0 key.1 f w.accessed_entry.result w.accessed_entry.ensures w.change.ensures.sets
+          w.change.ensures.processes)
       | else-not-settled w ↦ subst (λ k. Marked old k key.0 key.1 f) (sym w.mem-is)
           (let is = here.marked w.if-not-settled.false in marked-kept old key.0 key.1 f here.write here.seen here.there is.0 is.1)
     ] in
@@ -60,7 +63,8 @@ returns-else-cached-clause-here c =
     let here = c.requires.here in
     let marked : Marked old c.if-not-settled.mem key.0 key.1 f = elim c.if-not-settled.branch [
       | then-not-settled w ↦ subst (λ k. Marked old k key.0 key.1 f) (sym w.mem-is)
-          (marked-set old w.change.new.self key.0 key.1 f w.accessed_entry.result w.accessed_entry.ensures w.change.ensures.sets w.change.ensures.processes)
+          (marked-set old w.change.new.self key.0 key.1 f w.accessed_entry.result w.accessed_entry.ensures w.change.ensures.sets
+          w.change.ensures.processes)
       | else-not-settled w ↦ subst (λ k. Marked old k key.0 key.1 f) (sym w.mem-is)
           (let is = here.marked w.if-not-settled.false in marked-kept old key.0 key.1 f here.write here.seen here.there is.0 is.1)
     ] in

@@ -29,3 +29,6 @@ loop-entry-preserved c =
       tables = c.in_ok-count_up.ensures.tables ∙ v.tables;
       rest = rest-then v.rest c.in_ok-count_up.ensures.rest;
     }
+
+pub returns-in_err-count_up-clause-rest : goal.returns-in_err-count_up-clause-rest
+returns-in_err-count_up-clause-rest c = rest-then c.loop-entry.invariant.rest c.in_err-count_up.ensures.rest

@@ -67,3 +67,6 @@ returns-clause-forks c = λ d l stands.
     let h = all-seen a.mem.now a.parent a.child d l stands c.loop-page.mem (c.loop-page.number * 64) v.view c.requires.empty v.rest.parts v.tables
     c.in_default.ensures in
     record { stands = h.stands; free = h.free }
+
+pub returns-in_err-count_up_each-clause-rest : goal.returns-in_err-count_up_each-clause-rest
+returns-in_err-count_up_each-clause-rest c = rest-then c.loop-page.invariant.rest c.in_err-count_up_each.ensures.rest

@@ -8,7 +8,8 @@ loop-preserved c =
     let old = c.args.pages.now in
     let from : length old.items ≤ c.loop.counter = omega (arith, c.loop.auto.counter, c.len-counter.ensures, old.ok.0) in
     record {
-      items = c.push_reserved.ensures.items ∙ one_more old.items c.loop.pages.items zeros (length old.items) c.loop.counter from c.loop.invariant.items;
+      items = c.push_reserved.ensures.items
+          ∙ one_more old.items c.loop.pages.items zeros (length old.items) c.loop.counter from c.loop.invariant.items;
       ends = omega (arith, c.loop-test.true);
       len = omega (arith, c.push_reserved.ensures.len, c.loop.invariant.len);
       capacity = c.push_reserved.ensures.capacity ∙ c.loop.invariant.capacity;

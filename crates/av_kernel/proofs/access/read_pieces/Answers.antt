@@ -41,7 +41,7 @@ loop-done-preserved g c =
 pub returns-clause-access : goal.returns-clause-access
 returns-clause-access g c = λ s keeps.
     let all : c.loop-done.done ≡ c.args.len = omega (arith, c.loop-done.invariant.within, c.loop-done-test.false) in
-    subst (λ n. IsRead (seen_by g.D.SwapDev.sizes g.D.SwapDev.pages g.D.SwapDev.faults c.args.dev.now)
-    (seen_by g.D.SwapDev.sizes g.D.SwapDev.pages g.D.SwapDev.faults c.loop-done.dev) s c.loop-done.mem c.args.process c.args.address n
+    subst (λ n. IsRead (seen_by g.D.SwapDev.sizes g.D.SwapDev.pages g.D.SwapDev.failures c.args.dev.now)
+    (seen_by g.D.SwapDev.sizes g.D.SwapDev.pages g.D.SwapDev.failures c.loop-done.dev) s c.loop-done.mem c.args.process c.args.address n
     c.args.notes.now
     c.loop-done.notes None c.loop-done.done c.loop-done.shown) all (c.loop-done.invariant.access s keeps)

@@ -88,12 +88,15 @@ returns-in_err-page c = refuses-by c.args.mem.now c.args.mem.now (Mmap c.args.pr
     })
 
 pub returns-in_err-make_room : goal.returns-in_err-make_room
-returns-in_err-make_room c = wants-by c.args.mem.now c.make_room.new.mem (Mmap c.args.process c.args.len c.args.prot c.args.place) (record c.args.reply.now { notes = c.make_room.new.notes })
+returns-in_err-make_room c =
+    wants-by c.args.mem.now c.make_room.new.mem (Mmap c.args.process c.args.len c.args.prot c.args.place)
+    (record c.args.reply.now { notes = c.make_room.new.notes })
     c.from_residual-in_err-make_room.result c.from_residual-in_err-make_room.ensures c.make_room.ensures.count
 
 pub returns-in_err-map : goal.returns-in_err-map
 returns-in_err-map c = wants-by c.args.mem.now (record c.make_room.new.mem { spaces = c.map.new.self; anons = c.map.new.anons })
-    (Mmap c.args.process c.args.len c.args.prot c.args.place) (record c.args.reply.now { notes = c.make_room.new.notes }) c.from_residual-in_err-map.result
+    (Mmap c.args.process c.args.len c.args.prot c.args.place) (record c.args.reply.now { notes = c.make_room.new.notes })
+    c.from_residual-in_err-map.result
     c.from_residual-in_err-map.ensures c.make_room.ensures.count
 
 pub returns : goal.returns
@@ -104,19 +107,23 @@ returns c = record {
       let mid = c.make_room.new.mem in
       let page = c.in_ok-page.page in
       let size = c.div_ceil-pages.ensures ∙ rounded_up c.args.len in
-      let suit = (suits c.args.mem.now c.requires.steady c.args.process c.div_ceil-pages.result c.in_ok-page.page c.args.place c.in_ok-page.ensures) in
+      let suit = (suits c.args.mem.now c.requires.steady c.args.process c.div_ceil-pages.result c.in_ok-page.page c.args.place
+      c.in_ok-page.ensures) in
       let before = c.args.reply.now.notes in
       let notes = c.make_room.new.notes in
       let unmapped = c.in_ok-make_room.ensures.unmapped d s.ledger (orderly k s keeps) in
-      let sized = subst (λ n. AreUnmapped d k mid c.args.process page n (with_room n c.args.place (plain_pages k.spaces.processes c.args.process)) s.ledger
+      let sized = subst (λ n. AreUnmapped d k mid c.args.process page n
+      (with_room n c.args.place (plain_pages k.spaces.processes c.args.process)) s.ledger
       (zaps_for_place s.ledger c.args.process n c.args.place) before notes) size unmapped in
       let placed = subst (λ n. IsPlaced (pages s.world c.args.process) n c.args.place (Ok page)) size
       (c.in_ok-page.ensures (pages s.world c.args.process) (taken_is k s c.args.process keeps)) in
       let free = unmapped_free k mid c.args.process page c.div_ceil-pages.result _ s.ledger _ before notes unmapped in
-      let prots = mapped-prots (lengths mid.spaces.areas mid.anons) mid.spaces.processes c.map.new.self.processes c.args.process page c.div_ceil-pages.result
+      let prots = mapped-prots (lengths mid.spaces.areas mid.anons) mid.spaces.processes c.map.new.self.processes c.args.process page
+      c.div_ceil-pages.result
       c.args.prot (some_pages c.args.len c.div_ceil-pages.result c.if-len-eq0.false c.div_ceil-pages.ensures) suit.lowest suit.highest
       free c.in_ok-map.ensures.areas in
-      let homes = mapped-homes (lengths mid.spaces.areas mid.anons) mid.spaces.processes c.map.new.self.processes c.args.process page c.div_ceil-pages.result
+      let homes = mapped-homes (lengths mid.spaces.areas mid.anons) mid.spaces.processes c.map.new.self.processes c.args.process page
+      c.div_ceil-pages.result
       c.args.prot (some_pages c.args.len c.div_ceil-pages.result c.if-len-eq0.false c.div_ceil-pages.ensures) suit.lowest suit.highest
       free c.in_ok-map.ensures.areas in
       answers-noted c.args.reply.now c.answer_with.new.reply notes _ c.requires.cleared c.answer_with.ensures sized.taken.notes
@@ -127,7 +134,8 @@ returns c = record {
       (subst (λ n. GetsProts mid.spaces.processes c.map.new.self.processes c.args.process
       (set_on page n (Some c.args.prot) (prot_of (ranges_of mid.spaces.processes c.args.process)))) size prots)
       (subst (λ n. GetsAreas mid.spaces.processes c.map.new.self.processes c.args.process
-      (after_map (lengths mid.spaces.areas mid.anons) c.args.process page (page + n) c.args.prot (plain_pages mid.spaces.processes c.args.process))) size
+      (after_map (lengths mid.spaces.areas mid.anons) c.args.process page (page + n) c.args.prot
+      (plain_pages mid.spaces.processes c.args.process))) size
       (gets_areas mid.spaces.processes c.map.new.self.processes c.args.process _ c.in_ok-map.ensures.areas)) c.in_ok-map.ensures.anons
       (subst (λ n. HomesStay mid.spaces.processes c.map.new.self.processes c.args.process page n) size homes));
 }

@@ -12,7 +12,8 @@ use Rattle.av_kernel.proofs.map.mprotect.Goals as goal
 
 pub returns-in_err-check_lives : goal.returns-in_err-check_lives
 returns-in_err-check_lives c =
-    refuses-as c.args.mem.now c.args.mem.now (Mprotect c.args.process c.args.address c.args.len c.args.prot) Esrch c.args.reply.now c.from_residual.result
+    refuses-as c.args.mem.now c.args.mem.now (Mprotect c.args.process c.args.address c.args.len c.args.prot) Esrch c.args.reply.now
+    c.from_residual.result
     c.in_err-check_lives.field-0.0 c.from_residual.ensures c.in_err-check_lives.ensures.1
     (refuses c.args.mem.now (Mprotect c.args.process c.args.address c.args.len c.args.prot) Esrch
     (λ d s keeps. dead_first c.args.mem.now s c.args.process _ keeps c.in_err-check_lives.ensures.0))
@@ -41,10 +42,12 @@ returns c = record {
       (mprotect-steps k c.protect.new.self c.protect.new.anons s c.args.process c.args.address c.args.len reached c.args.prot keeps
       (ranges_there k c.args.process c.in_ok-check_lives.ensures) c.in_ok-check_protect.ensures
       (subst (λ n. GoesTo (is_taken k.spaces.processes c.args.process) page (page + n) reached) size c.in_ok-reached.ensures.reached)
-      (protected-prots (lengths k.spaces.areas k.anons) k.spaces.processes c.protect.new.self.processes c.args.process page (page + c.div_ceil-pages.result)
+      (protected-prots (lengths k.spaces.areas k.anons) k.spaces.processes c.protect.new.self.processes c.args.process page
+      (page + c.div_ceil-pages.result)
       reached c.args.prot c.in_ok-reached.ensures.reached c.in_ok-reached.ensures.ok c.in_ok-reached.ensures.mapping)
       (gets_areas k.spaces.processes c.protect.new.self.processes c.args.process _ c.in_ok-reached.ensures.ok) c.in_ok-reached.ensures.anons
-      (protected-homes (lengths k.spaces.areas k.anons) k.spaces.processes c.protect.new.self.processes c.args.process page (reached - page) c.args.prot
+      (protected-homes (lengths k.spaces.areas k.anons) k.spaces.processes c.protect.new.self.processes c.args.process page
+      (reached - page) c.args.prot
       c.in_ok-reached.ensures.ok) (subst (λ n. page + n ≤ reached) size c.if-reached-past.false));
 }
 
@@ -59,10 +62,12 @@ returns-then-reached-past c = record {
       mprotect-stops k c.protect.new.self c.protect.new.anons s c.args.process c.args.address c.args.len reached c.args.prot keeps
       (ranges_there k c.args.process c.in_ok-check_lives.ensures) c.in_ok-check_protect.ensures
       (subst (λ n. GoesTo (is_taken k.spaces.processes c.args.process) page (page + n) reached) size c.in_ok-reached.ensures.reached)
-      (protected-prots (lengths k.spaces.areas k.anons) k.spaces.processes c.protect.new.self.processes c.args.process page (page + c.div_ceil-pages.result)
+      (protected-prots (lengths k.spaces.areas k.anons) k.spaces.processes c.protect.new.self.processes c.args.process page
+      (page + c.div_ceil-pages.result)
       reached c.args.prot c.in_ok-reached.ensures.reached c.in_ok-reached.ensures.ok c.in_ok-reached.ensures.mapping)
       (gets_areas k.spaces.processes c.protect.new.self.processes c.args.process _ c.in_ok-reached.ensures.ok) c.in_ok-reached.ensures.anons
-      (protected-homes (lengths k.spaces.areas k.anons) k.spaces.processes c.protect.new.self.processes c.args.process page (reached - page) c.args.prot
+      (protected-homes (lengths k.spaces.areas k.anons) k.spaces.processes c.protect.new.self.processes c.args.process page
+      (reached - page) c.args.prot
       c.in_ok-reached.ensures.ok) (subst (λ n. reached < page + n) size c.if-reached-past.true);
 }
 

@@ -41,6 +41,7 @@ returns c = record {
       (zaps_of s.ledger (keys_in s.ledger c.args.process page n)) before notes) (c.div_ceil-pages.ensures ∙ rounded_up c.args.len)
       (c.in_ok-unmap_pages.ensures.unmapped d s.ledger (orderly k s keeps)) in
       answers-noted c.args.reply.now c.answer_with.new.reply notes _ c.requires.cleared c.answer_with.ensures unmapped.taken.notes
-      (munmap-steps k c.unmap_pages.new.mem s c.args.process c.args.address c.args.len keeps (ranges_there k c.args.process c.in_ok-check_lives.ensures)
+      (munmap-steps k c.unmap_pages.new.mem s c.args.process c.args.address c.args.len keeps
+      (ranges_there k c.args.process c.in_ok-check_lives.ensures)
       (sym c.is_no_range.ensures ∙ c.if-is_no_range.false) c.unmap_pages.ensures.count before notes unmapped);
 }

@@ -19,4 +19,5 @@ returns-clause-unmapped c = λ d l stands.
     c.args.notes.now c.zap_range.new.notes (t.zapped d l stands) t.rest
     (unmapped-prots mid.spaces.processes c.unmap.new.self.processes c.args.process c.args.page c.args.pages gone)
     (gets_areas mid.spaces.processes c.unmap.new.self.processes c.args.process _ gone) stay
-    (unmapped-homes mid.spaces.processes c.unmap.new.self.processes c.args.process c.args.page c.args.pages gone)) c.unmap.ensures.areas c.unmap.ensures.anons
+    (unmapped-homes mid.spaces.processes c.unmap.new.self.processes c.args.process c.args.page c.args.pages gone)) c.unmap.ensures.areas
+    c.unmap.ensures.anons

@@ -106,7 +106,8 @@ pub returns-in_err-remap_areas : goal.returns-in_err-remap_areas
 returns-in_err-remap_areas c =
     let a = c.args in
     wants-by a.mem.now c.remap_areas.new.mem (Mremap a.process a.address a.old_len a.new_len a.mode) a.reply.now
-    c.from_residual-in_err-remap_areas.result c.from_residual-in_err-remap_areas.ensures (ap (λ (k : Mem). (shown k.frames).count) c.remap_areas.ensures.rest)
+    c.from_residual-in_err-remap_areas.result c.from_residual-in_err-remap_areas.ensures
+    (ap (λ (k : Mem). (shown k.frames).count) c.remap_areas.ensures.rest)
 
 -- ---- entries
 
@@ -124,11 +125,13 @@ pub remap_entries-requires-clause-there : goal.remap_entries-requires-clause-the
 remap_entries-requires-clause-there c =
     let a = c.args in
     let s = c.requires.steady in
-    ap (λ (k : Mem). has k.tables a.process) c.remap_areas.ensures.rest ∙ s.2.tables a.process ∙ ranges_there a.mem.now a.process c.in_ok-check_lives.ensures
+    ap (λ (k : Mem). has k.tables a.process) c.remap_areas.ensures.rest ∙ s.2.tables a.process
+    ∙ ranges_there a.mem.now a.process c.in_ok-check_lives.ensures
 
 pub remap_entries-requires-clause-old_range : goal.remap_entries-requires-clause-old_range
 remap_entries-requires-clause-old_range c = λ there.
-    let high = high_by (goes (goal.at.remap_entries-requires-clause-old_range c).In_ok-to) c.requires.steady c.in_ok-check_indices.ensures.small there in
+    let high = high_by (goes (goal.at.remap_entries-requires-clause-old_range c).In_ok-to) c.requires.steady
+    c.in_ok-check_indices.ensures.small there in
     omega arith
 
 pub remap_entries-requires-clause-new_range : goal.remap_entries-requires-clause-new_range
@@ -144,7 +147,8 @@ remap_entries-requires-clause-apart c = λ there.
 pub returns-in_err-remap_entries : goal.returns-in_err-remap_entries
 returns-in_err-remap_entries c =
     let a = c.args in
-    wants-by a.mem.now c.remap_entries.new.mem (Mremap a.process a.address a.old_len a.new_len a.mode) (record a.reply.now { notes = c.remap_entries.new.notes })
+    wants-by a.mem.now c.remap_entries.new.mem (Mremap a.process a.address a.old_len a.new_len a.mode)
+    (record a.reply.now { notes = c.remap_entries.new.notes })
     c.from_residual-in_err-remap_entries.result c.from_residual-in_err-remap_entries.ensures
     (c.remap_entries.ensures.rest.parts.count ∙ ap (λ (k : Mem). (shown k.frames).count) c.remap_areas.ensures.rest)
 
@@ -170,6 +174,7 @@ returns c = record {
       (steps_by (goes (goal.at.returns c).In_ok-to) s keeps a.reply.now.notes notes c.in_ok-check_indices.ensures.small gone c.remap_entries.new.mem
       c.remap_areas.ensures.rest
       (subst (λ left. HasRemap a.mem.now gone a.process (after_mremap (chain_length s.anons) a.process (a.address / 4096)
-      c.div_ceil-pages.result c.in_ok-to.to c.div_ceil-new_pages.result left (s.areas a.process))) left (c.in_ok-remap_areas.ensures.remaps d s keeps))
+      c.div_ceil-pages.result c.in_ok-to.to c.div_ceil-new_pages.result left (s.areas a.process))) left
+      (c.in_ok-remap_areas.ensures.remaps d s keeps))
       done c.remap_entries.ensures.rest);
 }

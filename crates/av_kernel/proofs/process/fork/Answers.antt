@@ -14,7 +14,8 @@ use Rattle.av_kernel.proofs.process.fork.Goals as goal
 
 pub returns-in_err-check_lives : goal.returns-in_err-check_lives
 returns-in_err-check_lives c =
-    refuses-as c.args.mem.now c.args.mem.now (Fork c.args.parent c.args.child) Esrch c.args.reply.now c.from_residual.result c.in_err-check_lives.field-0.0
+    refuses-as c.args.mem.now c.args.mem.now (Fork c.args.parent c.args.child) Esrch c.args.reply.now c.from_residual.result
+    c.in_err-check_lives.field-0.0
     c.from_residual.ensures c.in_err-check_lives.ensures.1
     (refuses c.args.mem.now (Fork c.args.parent c.args.child) Esrch
     (λ d s keeps. dead_first c.args.mem.now s c.args.parent _ keeps c.in_err-check_lives.ensures.0))
@@ -31,10 +32,12 @@ fork_areas-requires-clause-dead c = absent c.args.mem.now.spaces.processes c.arg
 
 pub returns-in_err-fork_areas : goal.returns-in_err-fork_areas
 returns-in_err-fork_areas c = wants-by c.args.mem.now c.fork_areas.new.mem (Fork c.args.parent c.args.child) c.args.reply.now
-    c.from_residual-in_err-fork_areas.result c.from_residual-in_err-fork_areas.ensures (ap (λ (k : Mem). (shown k.frames).count) c.fork_areas.ensures.rest)
+    c.from_residual-in_err-fork_areas.result c.from_residual-in_err-fork_areas.ensures
+    (ap (λ (k : Mem). (shown k.frames).count) c.fork_areas.ensures.rest)
 
 pub spawn-requires : goal.spawn-requires
-spawn-requires c = ap (λ (k : Mem). has k.tables c.args.child) c.fork_areas.ensures.rest ∙ no_table c.args.mem.now c.requires.steady.1 c.args.child c.requires.steady.2
+spawn-requires c = ap (λ (k : Mem). has k.tables c.args.child) c.fork_areas.ensures.rest
+    ∙ no_table c.args.mem.now c.requires.steady.1 c.args.child c.requires.steady.2
     (absent c.args.mem.now.spaces.processes c.args.child c.in_ok-check_new.ensures)
 
 pub returns-in_err-spawn : goal.returns-in_err-spawn
@@ -66,13 +69,15 @@ pub fork_entries-requires-clause-empty : goal.fork_entries-requires-clause-empty
 fork_entries-requires-clause-empty c page =
     ap (λ t. t c.args.child page) c.in_ok-spawn.ensures.entries
     ∙ none_there c.fork_areas.new.mem.tables c.args.child page
-    (ap (λ (k : Mem). has k.tables c.args.child) c.fork_areas.ensures.rest ∙ no_table c.args.mem.now c.requires.steady.1 c.args.child c.requires.steady.2
+    (ap (λ (k : Mem). has k.tables c.args.child) c.fork_areas.ensures.rest
+    ∙ no_table c.args.mem.now c.requires.steady.1 c.args.child c.requires.steady.2
     (absent c.args.mem.now.spaces.processes c.args.child c.in_ok-check_new.ensures))
 
 pub returns-in_err-fork_entries : goal.returns-in_err-fork_entries
 returns-in_err-fork_entries c =
     wants-by c.args.mem.now c.fork_entries.new.mem (Fork c.args.parent c.args.child) c.args.reply.now c.from_residual-in_err-fork_entries.result
-    c.from_residual-in_err-fork_entries.ensures (c.fork_entries.ensures.rest.parts.count ∙ ap (λ (k : Mem). (shown k.frames).count) c.fork_areas.ensures.rest)
+    c.from_residual-in_err-fork_entries.ensures
+    (c.fork_entries.ensures.rest.parts.count ∙ ap (λ (k : Mem). (shown k.frames).count) c.fork_areas.ensures.rest)
 
 pub returns : goal.returns
 returns c = record {
@@ -82,7 +87,8 @@ returns c = record {
       let gone = c.fork_areas.new.mem in
       let areas = c.fork_areas.ensures in
       answers c.args.reply.now c.answer_with.new.reply c.requires.cleared c.answer_with.ensures
-      (fork-steps k gone c.fork_entries.new.mem c.spawn.new.self s c.args.parent c.args.child keeps c.in_ok-check_lives.ensures c.in_ok-check_new.ensures
+      (fork-steps k gone c.fork_entries.new.mem c.spawn.new.self s c.args.parent c.args.child keeps c.in_ok-check_lives.ensures
+      c.in_ok-check_new.ensures
       areas.rest (c.in_ok-fork_areas.ensures.forks d s keeps)
       c.in_ok-spawn.ensures.processes (c.in_ok-fork_entries.ensures.forks d s.ledger
       (still_orderly d k gone c.spawn.new.self s.ledger areas.rest c.in_ok-spawn.ensures.entries (orderly k s keeps)))

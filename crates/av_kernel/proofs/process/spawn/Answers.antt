@@ -6,7 +6,8 @@ use Rattle.av_kernel.proofs.process.spawn.Goals as goal
 
 pub returns-in_err-check_new : goal.returns-in_err-check_new
 returns-in_err-check_new c =
-    refuses-by c.args.mem.now c.args.mem.now (Spawn c.args.process) c.in_err-check_new.field-0.0 c.args.reply.now c.from_residual.result c.from_residual.ensures
+    refuses-by c.args.mem.now c.args.mem.now (Spawn c.args.process) c.in_err-check_new.field-0.0 c.args.reply.now c.from_residual.result
+    c.from_residual.ensures
     (refuses c.args.mem.now (Spawn c.args.process) c.in_err-check_new.field-0.0
     (λ d s keeps. new_is c.args.mem.now s c.args.process keeps ∙ c.in_err-check_new.ensures))
 
@@ -22,7 +23,8 @@ returns-in_err-spawn c = wants-by c.args.mem.now (record c.args.mem.now { tables
     c.from_residual-in_err-spawn.result c.from_residual-in_err-spawn.ensures refl
 
 pub returns-in_err-spawn-2 : goal.returns-in_err-spawn-2
-returns-in_err-spawn-2 c = wants-by c.args.mem.now (moved_on c.args.mem.now c.spawn.new.self c.spawn-2.new.self c.args.mem.now.anons) (Spawn c.args.process)
+returns-in_err-spawn-2 c =
+    wants-by c.args.mem.now (moved_on c.args.mem.now c.spawn.new.self c.spawn-2.new.self c.args.mem.now.anons) (Spawn c.args.process)
     c.args.reply.now c.from_residual-in_err-spawn-2.result c.from_residual-in_err-spawn-2.ensures refl
 
 pub returns : goal.returns

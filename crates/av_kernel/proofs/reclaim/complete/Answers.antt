@@ -14,5 +14,6 @@ returns g c = does-counted (λ n. Complete n)
     c.requires.cleared c.answer_with.ensures c.complete.ensures.same c.complete.ensures.count c.in_ok-complete.ensures.completes
 
 pub returns-in_err-complete : goal.returns-in_err-complete
-returns-in_err-complete g c = wants-over _ _ c.args.mem.now c.complete.new.mem (Complete c.args.slots) _ c.from_residual.result c.from_residual.ensures
+returns-in_err-complete g c =
+    wants-over _ _ c.args.mem.now c.complete.new.mem (Complete c.args.slots) _ c.from_residual.result c.from_residual.ensures
     c.complete.ensures.same c.complete.ensures.count

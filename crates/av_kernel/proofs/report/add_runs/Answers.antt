@@ -20,7 +20,8 @@ loop-next-init c =
     let whole = c.in-Some.ensures.cases.0 in
     let rising = subst (AreRising c.requires.rising.0) whole c.requires.rising.1 in
     subst (λ (rows : List Row). IsLeft rows first rest (all_rows (map range_of c.args.areas.now))) (sym c.requires.none)
-    (subst (λ (areas : List Area). IsLeft [] first rest (all_rows (map range_of areas))) (sym whole) (left-first c.requires.rising.0 first rest rising))
+    (subst (λ (areas : List Area). IsLeft [] first rest (all_rows (map range_of areas))) (sym whole)
+    (left-first c.requires.rising.0 first rest rising))
 
 pub loop-next-preserved : goal.loop-next-preserved
 loop-next-preserved c =

@@ -1,6 +1,6 @@
 use Rattle.std.proofs.Common.{◌≡◌, ◌∙◌, ap, sym}
 use Rattle.av_trace.specs.declared.row.Row.TheVariants as row
-use Rattle.av_vma.specs.Join.{first_of}
+use Rattle.av_vma.specs.Index.{first_of}
 use Rattle.av_plain.specs.Areas.{chain_by}
 use Rattle.av_mem.specs.Mem.{anons_of}
 use Rattle.av_kernel.proofs.ReportAreas.{own_chain}
@@ -15,6 +15,7 @@ returns c =
       | in-Some+in_ok-chain-in-Some w ↦
           ap (λ chain. chain.items) w.chain-is ∙ w.in_ok-chain-in-Some.ensures
           ∙ own_chain mem.spaces mem.anons c.args.process (first_of area) area c.requires.fit c.requires.area
-      | in-None w ↦ ap (λ chain. chain.items) w.chain-is ∙ w.new-chain.ensures.items ∙ ap (chain_by (anons_of mem.spaces mem.anons)) (sym w.in-None.is)
+      | in-None w ↦ ap (λ chain. chain.items) w.chain-is ∙ w.new-chain.ensures.items
+          ∙ ap (chain_by (anons_of mem.spaces mem.anons)) (sym w.in-None.is)
     ] in
     λ i. row.Area area.start area.end area.prot area.pgoff area.anon ((c.from_vec.ensures ∙ chain) i)

@@ -14,7 +14,8 @@ returns-in_err-check_lives c =
 
 pub returns-in_err-check_mapped : goal.returns-in_err-check_mapped
 returns-in_err-check_mapped c =
-    refuses-as c.args.mem.now c.args.mem.now (AsksEntry c.args.process c.args.address) Efault c.args.reply.now c.from_residual-in_err-check_mapped.result
+    refuses-as c.args.mem.now c.args.mem.now (AsksEntry c.args.process c.args.address) Efault c.args.reply.now
+    c.from_residual-in_err-check_mapped.result
     c.in_err-check_mapped.field-0.0 c.from_residual-in_err-check_mapped.ensures c.in_err-check_mapped.ensures.1
     (refuses c.args.mem.now (AsksEntry c.args.process c.args.address) Efault
     (λ d s keeps. unmapped_next c.args.mem.now s c.args.process c.args.address keeps c.in_ok-check_lives.ensures c.in_err-check_mapped.ensures.0))

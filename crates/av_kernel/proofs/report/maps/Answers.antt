@@ -16,7 +16,8 @@ pub returns-in_err-check_lives : goal.returns-in_err-check_lives
 returns-in_err-check_lives c =
     refuses-as c.args.mem.now c.args.mem.now (Maps c.args.process) Esrch c.args.reply.now c.from_residual.result c.in_err-check_lives.field-0.0
     c.from_residual.ensures c.in_err-check_lives.ensures.1
-    (refuses c.args.mem.now (Maps c.args.process) Esrch (λ d s keeps. dead_first c.args.mem.now s c.args.process _ keeps c.in_err-check_lives.ensures.0))
+    (refuses c.args.mem.now (Maps c.args.process) Esrch
+    (λ d s keeps. dead_first c.args.mem.now s c.args.process _ keeps c.in_err-check_lives.ensures.0))
 
 pub returns-in_err-areas : goal.returns-in_err-areas
 returns-in_err-areas c = wants-by c.args.mem.now c.args.mem.now (Maps c.args.process) c.args.reply.now c.from_residual-in_err-areas.result

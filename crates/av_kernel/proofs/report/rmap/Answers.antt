@@ -18,13 +18,15 @@ returns-in_err-check_lives c =
 
 pub returns-in_err-check_mapped : goal.returns-in_err-check_mapped
 returns-in_err-check_mapped c =
-    refuses-as c.args.mem.now c.args.mem.now (AsksRmap c.args.process c.args.address) Efault c.args.reply.now c.from_residual-in_err-check_mapped.result
+    refuses-as c.args.mem.now c.args.mem.now (AsksRmap c.args.process c.args.address) Efault c.args.reply.now
+    c.from_residual-in_err-check_mapped.result
     c.in_err-check_mapped.field-0.0 c.from_residual-in_err-check_mapped.ensures c.in_err-check_mapped.ensures.1
     (refuses c.args.mem.now (AsksRmap c.args.process c.args.address) Efault
     (λ d s keeps. unmapped_next c.args.mem.now s c.args.process c.args.address keeps c.in_ok-check_lives.ensures c.in_err-check_mapped.ensures.0))
 
 pub show_walk-requires-clause-in_range : goal.show_walk-requires-clause-in_range
-show_walk-requires-clause-in_range c = frame_below c.args.mem.now c.args.process (page_of c.args.address) c.in-Here.frame c.in-Here.write c.in-Here.seen
+show_walk-requires-clause-in_range c =
+    frame_below c.args.mem.now c.args.process (page_of c.args.address) c.in-Here.frame c.in-Here.write c.in-Here.seen
     c.requires.steady (sym c.get.ensures ∙ c.in-Here.is)
 
 pub returns-in_ok-show_walk-in-Here : goal.returns-in_ok-show_walk-in-Here
@@ -42,5 +44,6 @@ returns-in-Empty c = record {
   step = λ d s keeps.
       walk-steps c.args.mem.now s c.args.process c.args.address keeps c.in_ok-check_lives.ensures c.in_ok-check_mapped.ensures c.get.result
       c.answer_with.new.reply
-      (sym c.get.ensures) (c.answer_with.ensures ∙ only_answer c.args.reply.now NoWalk c.requires.cleared ∙ none-shown s.ledger c.get.result c.in-Empty.is);
+      (sym c.get.ensures) (c.answer_with.ensures ∙ only_answer c.args.reply.now NoWalk c.requires.cleared
+      ∙ none-shown s.ledger c.get.result c.in-Empty.is);
 }

@@ -1,4 +1,4 @@
-use Rattle.std.proofs.Common.{◌≡◌, ℕ, List, true, false, refl}
+use Rattle.std.proofs.Common.{◌≡◌, ℕ, List, Option, true, false, refl}
 use Rattle.av_trace.specs.declared.command.Command.{Command}
 use Rattle.av_trace.specs.declared.command.Command.TheVariants.{Age, Complete, Read, Reclaim, Swapoff, Swapon, Write}
 use Rattle.av_plain.specs.Step.{uses_device}
@@ -15,13 +15,13 @@ unused command is = is
 -- no other command is handed the device
 left : (command : Command) → ((p a n : ℕ) → command ≡ Read p a n → ⊥) → ((p a : ℕ) (bytes : List ℕ) → command ≡ Write p a bytes → ⊥) →
     ((n : ℕ) → command ≡ Reclaim n → ⊥) → ((n : ℕ) → command ≡ Age n → ⊥) → ((n : ℕ) → command ≡ Complete n → ⊥) →
-    ((k : ℕ) → command ≡ Swapon k → ⊥) → ((k : ℕ) → command ≡ Swapoff k → ⊥) → has_device command ≡ false
+    ((k : ℕ) (priority : Option ℕ) → command ≡ Swapon k priority → ⊥) → ((k : ℕ) → command ≡ Swapoff k → ⊥) → has_device command ≡ false
 left (Read p a n) no_read no_write no_reclaim no_age no_complete no_swapon no_swapoff = absurd (no_read p a n refl)
 left (Write p a bytes) no_read no_write no_reclaim no_age no_complete no_swapon no_swapoff = absurd (no_write p a bytes refl)
 left (Reclaim n) no_read no_write no_reclaim no_age no_complete no_swapon no_swapoff = absurd (no_reclaim n refl)
 left (Age n) no_read no_write no_reclaim no_age no_complete no_swapon no_swapoff = absurd (no_age n refl)
 left (Complete n) no_read no_write no_reclaim no_age no_complete no_swapon no_swapoff = absurd (no_complete n refl)
-left (Swapon k) no_read no_write no_reclaim no_age no_complete no_swapon no_swapoff = absurd (no_swapon k refl)
+left (Swapon k priority) no_read no_write no_reclaim no_age no_complete no_swapon no_swapoff = absurd (no_swapon k priority refl)
 left (Swapoff k) no_read no_write no_reclaim no_age no_complete no_swapon no_swapoff = absurd (no_swapoff k refl)
 left command no_read no_write no_reclaim no_age no_complete no_swapon no_swapoff = refl
 

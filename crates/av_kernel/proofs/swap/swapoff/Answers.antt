@@ -9,8 +9,10 @@ pub swapoff-requires-clause-between : goal.swapoff-requires-clause-between
 swapoff-requires-clause-between g c = steady-between (g.D.SwapDev.sizes c.args.dev.now) c.args.mem.now c.requires.steady
 
 pub returns : goal.returns
-returns g c = swapoff-does c.args.area _ _ c.args.mem.now c.swapoff.new.mem c.args.reply.now c.answer_with.new.reply c.swapoff.new.notes c.in_ok-end.end _
-    c.requires.cleared c.answer_with.ensures c.end_answer.ensures (sym c.is_on.ensures ∙ c.if-not-is_on.false) c.swapoff.ensures.same c.swapoff.ensures.count
+returns g c = swapoff-does c.args.area _ _ c.args.mem.now c.swapoff.new.mem c.args.reply.now c.answer_with.new.reply c.swapoff.new.notes
+    c.in_ok-end.end _
+    c.requires.cleared c.answer_with.ensures c.end_answer.ensures (sym c.is_on.ensures ∙ c.if-not-is_on.false) c.swapoff.ensures.same
+    c.swapoff.ensures.count
     c.in_ok-end.ensures.turned
 
 pub returns-in_err-end : goal.returns-in_err-end

@@ -17,7 +17,8 @@ walk_frame-requires-clause-apart g c = let s = c.requires.steady in
 
 pub walk_frame-requires-clause-covered : goal.walk_frame-requires-clause-covered
 walk_frame-requires-clause-covered g c = let s = c.requires.steady in
-    subst (λ (areas : List (Option Area)). IsCoveredFrom (reach_by c.args.mem.now areas) (names_frame c.args.frame) c.home.result) (sym c.by_number.ensures.areas)
+    subst (λ (areas : List (Option Area)). IsCoveredFrom (reach_by c.args.mem.now areas) (names_frame c.args.frame) c.home.result)
+    (sym c.by_number.ensures.areas)
     (subst (IsCoveredFrom (reach_by c.args.mem.now c.args.mem.now.spaces.areas) (names_frame c.args.frame)) (sym c.home.ensures)
     (covered s.0 c.args.mem.now s.1 s.2 c.args.frame c.by_number.ensures.numbered))
 
@@ -29,15 +30,18 @@ walk_frame-requires-clause-count g c = let s = c.requires.steady in
 
 pub returns-clause-keys : goal.returns-clause-keys
 returns-clause-keys g c = λ d s keeps.
-    if_both c.walk_frame.result (λ keys. AreItsEntries (reach_by c.args.mem.now c.by_number.result.now) (names_frame c.args.frame) keys.items) (λ keys. AreRising keys.items)
+    if_both c.walk_frame.result (λ keys. AreItsEntries (reach_by c.args.mem.now c.by_number.result.now) (names_frame c.args.frame) keys.items)
+    (λ keys. AreRising keys.items)
     (λ keys. keys.items ≡ walk_of s.ledger c.args.frame) (λ keys its rising. frame-found d c.args.mem.now s keeps c.args.frame keys.items its rising)
     c.walk_frame.ensures.entries c.walk_frame.ensures.rising
 
 pub returns-clause-below : goal.returns-clause-below
 returns-clause-below g c = let s = c.requires.steady in
-    if_both c.walk_frame.result (λ keys. AreItsEntries (reach_by c.args.mem.now c.by_number.result.now) (names_frame c.args.frame) keys.items) (λ keys. AreRising keys.items)
+    if_both c.walk_frame.result (λ keys. AreItsEntries (reach_by c.args.mem.now c.by_number.result.now) (names_frame c.args.frame) keys.items)
+    (λ keys. AreRising keys.items)
     (λ keys. AllByRecursion (λ (key : ℕ × ℕ). key.1 < top_page) keys.items)
-    (λ keys its rising. subst (AllByRecursion (λ (key : ℕ × ℕ). key.1 < top_page)) (sym (frame-found s.0 c.args.mem.now s.1 s.2 c.args.frame keys.items its rising))
+    (λ keys its rising. subst (AllByRecursion (λ (key : ℕ × ℕ). key.1 < top_page))
+    (sym (frame-found s.0 c.args.mem.now s.1 s.2 c.args.frame keys.items its rising))
     (frame-below s.0 c.args.mem.now s.1 s.2 c.by_number.ensures.rising c.args.frame))
     c.walk_frame.ensures.entries c.walk_frame.ensures.rising
 
@@ -45,5 +49,6 @@ pub returns-clause-counted : goal.returns-clause-counted
 returns-clause-counted g c =
     let s = c.requires.steady in
     let l = looks s.0 c.args.mem.now s.1 s.2 c.args.frame in
-    on_ok c.walk_frame.result (λ counted. counted ∙ ap (λ h. c.args.steps.now + looks_from (reach_by c.args.mem.now c.args.mem.now.spaces.areas) h) c.home.ensures
+    on_ok c.walk_frame.result
+    (λ counted. counted ∙ ap (λ h. c.args.steps.now + looks_from (reach_by c.args.mem.now c.args.mem.now.spaces.areas) h) c.home.ensures
     ∙ ap (λ n. c.args.steps.now + n) l) c.walk_frame.ensures.counted

@@ -27,7 +27,8 @@ pub returns-clause-kin : goal.returns-clause-kin
 returns-clause-kin c = on_ok_weaker c.join_beside.result
     (λ last. kin_then c.args.areas.now c.add.new.areas c.join_beside.new.areas c.args.anons.now c.args.anons.now c.join_beside.new.anons
     (added c.args.areas.now c.add.new.areas c.args.anons.now (fresh_area c.args.process c.args.from c.args.to c.args.prot) c.in_ok-number.number
-    c.requires.order c.in_ok-number.ensures.unused (whole_fresh c.args.process c.args.from c.args.to c.args.prot c.requires.some c.requires.low c.requires.high)
+    c.requires.order c.in_ok-number.ensures.unused
+    (whole_fresh c.args.process c.args.from c.args.to c.args.prot c.requires.some c.requires.low c.requires.high)
     c.in_ok-number.ensures.areas) last)
     c.join_beside.ensures.kin
 
@@ -39,7 +40,8 @@ returns-clause-pages c = on_ok_weaker c.join_beside.result
     (alike_after (area_of c.args.areas.now) (area_of c.add.new.areas) (family c.args.anons.now) (family c.args.anons.now) (spans_of c.args.anons.now)
     (spans_of c.args.anons.now) c.add.new.tree c.requires.order
     (added c.args.areas.now c.add.new.areas c.args.anons.now (fresh_area c.args.process c.args.from c.args.to c.args.prot) c.in_ok-number.number
-    c.requires.order c.in_ok-number.ensures.unused (whole_fresh c.args.process c.args.from c.args.to c.args.prot c.requires.some c.requires.low c.requires.high)
+    c.requires.order c.in_ok-number.ensures.unused
+    (whole_fresh c.args.process c.args.from c.args.to c.args.prot c.requires.some c.requires.low c.requires.high)
     c.in_ok-number.ensures.areas))
     c.in_ok-number.ensures.pages last)
     c.join_beside.ensures.pages
@@ -47,7 +49,8 @@ returns-clause-pages c = on_ok_weaker c.join_beside.result
 pub join_beside-requires-clause-order : goal.join_beside-requires-clause-order
 join_beside-requires-clause-order c =
     (added c.args.areas.now c.add.new.areas c.args.anons.now (fresh_area c.args.process c.args.from c.args.to c.args.prot) c.in_ok-number.number
-    c.requires.order c.in_ok-number.ensures.unused (whole_fresh c.args.process c.args.from c.args.to c.args.prot c.requires.some c.requires.low c.requires.high)
+    c.requires.order c.in_ok-number.ensures.unused
+    (whole_fresh c.args.process c.args.from c.args.to c.args.prot c.requires.some c.requires.low c.requires.high)
     c.in_ok-number.ensures.areas).order
 
 pub join_beside-requires-clause-stands : goal.join_beside-requires-clause-stands
@@ -84,7 +87,8 @@ pub join_beside-requires-clause-above : goal.join_beside-requires-clause-above
 join_beside-requires-clause-above c =
     let a = c.args in
     let some = c.requires.some in
-    let out : within a.from (a.to - a.from) a.to ≡ false = rw (le-leb a.from a.to (omega arith), le-ltb a.to (a.from + (a.to - a.from)) (omega arith)) refl in
+    let out : within a.from (a.to - a.from) a.to ≡ false =
+    rw (le-leb a.from a.to (omega arith), le-ltb a.to (a.from + (a.to - a.from)) (omega arith)) refl in
     c.in_ok-number.ensures.number a.to
     ∙ ap (λ b. cond b (Some c.in_ok-number.number) (area_at a.tree.now a.to)) (fresh_has a.process a.from a.to a.prot a.to ∙ out)
     ∙ sym c.beside-below.ensures.above

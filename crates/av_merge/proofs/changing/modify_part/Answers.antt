@@ -41,7 +41,8 @@ join_part-requires-clause-some c =
 pub join_part-requires-clause-below : goal.join_part-requires-clause-below
 join_part-requires-clause-below c = λ below.
     let p = c.requires.stands.0 in
-    differs_below (lengths c.change.new.self c.split_out.new.anons) p c.args.from c.args.past c.in_ok-number.number (effect_of c.args.change) c.get-part.result
+    differs_below (lengths c.change.new.self c.split_out.new.anons) p c.args.from c.args.past c.in_ok-number.number (effect_of c.args.change)
+    c.get-part.result
     (area_of c.args.areas.now) (area_of c.split_out.new.areas) (area_of c.change.new.self) c.args.tree.now c.split_out.new.tree
     c.requires.some c.requires.inside c.requires.stands.1 (c.split_out.ensures.stands p c.requires.stands.1) c.in_ok-number.ensures.pages
     c.in_ok-number.ensures.part c.get-part.ensures (λ k. c.change.ensures k
@@ -54,7 +55,8 @@ join_part-requires-clause-below c = λ below.
 pub join_part-requires-clause-above : goal.join_part-requires-clause-above
 join_part-requires-clause-above c = λ above.
     let p = c.requires.stands.0 in
-    differs_above (lengths c.change.new.self c.split_out.new.anons) p c.args.from c.args.past c.in_ok-number.number (effect_of c.args.change) c.get-part.result
+    differs_above (lengths c.change.new.self c.split_out.new.anons) p c.args.from c.args.past c.in_ok-number.number (effect_of c.args.change)
+    c.get-part.result
     (area_of c.args.areas.now) (area_of c.split_out.new.areas) (area_of c.change.new.self) c.args.tree.now c.split_out.new.tree
     c.requires.some c.requires.inside c.requires.stands.1 (c.split_out.ensures.stands p c.requires.stands.1) c.in_ok-number.ensures.pages
     c.in_ok-number.ensures.part c.get-part.ensures (λ k. c.change.ensures k
@@ -66,27 +68,34 @@ join_part-requires-clause-above c = λ above.
 
 pub returns-clause-stands : goal.returns-clause-stands
 returns-clause-stands c = λ p stands.
-    let changed = changed_stays (lengths c.change.new.self c.split_out.new.anons) p c.args.from c.args.past c.in_ok-number.number (effect_of c.args.change)
+    let changed = changed_stays (lengths c.change.new.self c.split_out.new.anons) p c.args.from c.args.past c.in_ok-number.number
+    (effect_of c.args.change)
     c.get-part.result (area_of c.args.areas.now) (area_of c.split_out.new.areas) (area_of c.change.new.self) c.args.tree.now c.split_out.new.tree
-    c.requires.some c.requires.inside stands (c.split_out.ensures.stands p stands) c.in_ok-number.ensures.pages c.in_ok-number.ensures.part c.get-part.ensures
+    c.requires.some c.requires.inside stands (c.split_out.ensures.stands p stands) c.in_ok-number.ensures.pages c.in_ok-number.ensures.part
+    c.get-part.ensures
     (λ k. c.change.ensures k ∙ ap (λ (a : Area). with_at c.in_ok-number.number (Some a) (area_of c.split_out.new.areas) k) c.apply.ensures) in
-    stays_trans p (area_of c.args.areas.now) (area_of c.change.new.self) (area_of c.join_part.new.areas) c.split_out.new.tree c.join_part.new.tree changed
+    stays_trans p (area_of c.args.areas.now) (area_of c.change.new.self) (area_of c.join_part.new.areas) c.split_out.new.tree
+    c.join_part.new.tree changed
     (c.join_part.ensures.stands p changed.areas)
 
 pub returns-clause-pages : goal.returns-clause-pages
 returns-clause-pages c =
     let p = c.requires.stands.0 in
-    part_pages (lengths c.change.new.self c.split_out.new.anons) p c.args.from c.args.past c.in_ok-number.number (effect_of c.args.change) c.get-part.result
+    part_pages (lengths c.change.new.self c.split_out.new.anons) p c.args.from c.args.past c.in_ok-number.number (effect_of c.args.change)
+    c.get-part.result
     (area_of c.args.areas.now) (area_of c.split_out.new.areas) (area_of c.change.new.self) c.args.tree.now c.split_out.new.tree
     c.requires.some c.requires.inside c.requires.stands.1 (c.split_out.ensures.stands p c.requires.stands.1) c.in_ok-number.ensures.pages
     c.in_ok-number.ensures.part c.get-part.ensures (λ k. c.change.ensures k
     ∙ ap (λ (a : Area). with_at c.in_ok-number.number (Some a) (area_of c.split_out.new.areas) k) c.apply.ensures)
     (lengths c.args.areas.now c.args.anons.now)
-    (alike_after (area_of c.args.areas.now) (area_of c.change.new.self) (family c.args.anons.now) (family c.split_out.new.anons) (spans_of c.args.anons.now)
+    (alike_after (area_of c.args.areas.now) (area_of c.change.new.self) (family c.args.anons.now) (family c.split_out.new.anons)
+    (spans_of c.args.anons.now)
     (spans_of c.split_out.new.anons) c.split_out.new.tree c.requires.order
-    (keeps_trans (area_of c.args.areas.now) (area_of c.split_out.new.areas) (area_of c.change.new.self) (family c.args.anons.now) (family c.split_out.new.anons)
+    (keeps_trans (area_of c.args.areas.now) (area_of c.split_out.new.areas) (area_of c.change.new.self) (family c.args.anons.now)
+    (family c.split_out.new.anons)
     (family c.split_out.new.anons) (spans_of c.split_out.new.anons) (spans_of c.split_out.new.anons) c.in_ok-number.ensures.kin
-    (changed_kin (lengths c.change.new.self c.split_out.new.anons) p c.args.from c.args.past c.in_ok-number.number (effect_of c.args.change) c.get-part.result
+    (changed_kin (lengths c.change.new.self c.split_out.new.anons) p c.args.from c.args.past c.in_ok-number.number (effect_of c.args.change)
+    c.get-part.result
     (area_of c.args.areas.now) (area_of c.split_out.new.areas) (area_of c.change.new.self) c.args.tree.now c.split_out.new.tree
     c.requires.some c.requires.inside c.requires.stands.1 (c.split_out.ensures.stands p c.requires.stands.1) c.in_ok-number.ensures.pages
     c.in_ok-number.ensures.part c.get-part.ensures (λ k. c.change.ensures k
@@ -97,7 +106,8 @@ returns-clause-pages c =
 pub returns-clause-mapping : goal.returns-clause-mapping
 returns-clause-mapping c =
     let p = c.requires.stands.0 in
-    part_mapping (lengths c.change.new.self c.split_out.new.anons) p c.args.from c.args.past c.in_ok-number.number (effect_of c.args.change) c.get-part.result
+    part_mapping (lengths c.change.new.self c.split_out.new.anons) p c.args.from c.args.past c.in_ok-number.number (effect_of c.args.change)
+    c.get-part.result
     (area_of c.args.areas.now) (area_of c.split_out.new.areas) (area_of c.change.new.self) c.args.tree.now c.split_out.new.tree
     c.requires.some c.requires.inside c.requires.stands.1 (c.split_out.ensures.stands p c.requires.stands.1) c.in_ok-number.ensures.pages
     c.in_ok-number.ensures.part c.get-part.ensures (λ k. c.change.ensures k
@@ -107,9 +117,11 @@ returns-clause-mapping c =
 pub join_part-requires-clause-order : goal.join_part-requires-clause-order
 join_part-requires-clause-order c =
     let p = c.requires.stands.0 in
-    (keeps_trans (area_of c.args.areas.now) (area_of c.split_out.new.areas) (area_of c.change.new.self) (family c.args.anons.now) (family c.split_out.new.anons)
+    (keeps_trans (area_of c.args.areas.now) (area_of c.split_out.new.areas) (area_of c.change.new.self) (family c.args.anons.now)
+    (family c.split_out.new.anons)
     (family c.split_out.new.anons) (spans_of c.split_out.new.anons) (spans_of c.split_out.new.anons) c.in_ok-number.ensures.kin
-    (changed_kin (lengths c.change.new.self c.split_out.new.anons) p c.args.from c.args.past c.in_ok-number.number (effect_of c.args.change) c.get-part.result
+    (changed_kin (lengths c.change.new.self c.split_out.new.anons) p c.args.from c.args.past c.in_ok-number.number (effect_of c.args.change)
+    c.get-part.result
     (area_of c.args.areas.now) (area_of c.split_out.new.areas) (area_of c.change.new.self) c.args.tree.now c.split_out.new.tree
     c.requires.some c.requires.inside c.requires.stands.1 (c.split_out.ensures.stands p c.requires.stands.1) c.in_ok-number.ensures.pages
     c.in_ok-number.ensures.part c.get-part.ensures (λ k. c.change.ensures k
@@ -121,9 +133,11 @@ returns-clause-kin c =
     let p = c.requires.stands.0 in
     on_ok_weaker c.join_part.result (λ last. kin_then c.args.areas.now c.change.new.self c.join_part.new.areas c.args.anons.now
     c.split_out.new.anons c.join_part.new.anons
-    (keeps_trans (area_of c.args.areas.now) (area_of c.split_out.new.areas) (area_of c.change.new.self) (family c.args.anons.now) (family c.split_out.new.anons)
+    (keeps_trans (area_of c.args.areas.now) (area_of c.split_out.new.areas) (area_of c.change.new.self) (family c.args.anons.now)
+    (family c.split_out.new.anons)
     (family c.split_out.new.anons) (spans_of c.split_out.new.anons) (spans_of c.split_out.new.anons) c.in_ok-number.ensures.kin
-    (changed_kin (lengths c.change.new.self c.split_out.new.anons) p c.args.from c.args.past c.in_ok-number.number (effect_of c.args.change) c.get-part.result
+    (changed_kin (lengths c.change.new.self c.split_out.new.anons) p c.args.from c.args.past c.in_ok-number.number (effect_of c.args.change)
+    c.get-part.result
     (area_of c.args.areas.now) (area_of c.split_out.new.areas) (area_of c.change.new.self) c.args.tree.now c.split_out.new.tree
     c.requires.some c.requires.inside c.requires.stands.1 (c.split_out.ensures.stands p c.requires.stands.1) c.in_ok-number.ensures.pages
     c.in_ok-number.ensures.part c.get-part.ensures (λ k. c.change.ensures k

@@ -5,7 +5,7 @@ use Rattle.av_anon.specs.Spans.{spans_of}
 use Rattle.av_base.specs.Words.{with_at}
 use Rattle.av_vma.specs.declared.area.Area.{Area}
 use Rattle.av_vma.specs.Areas.{area_of}
-use Rattle.av_vma.specs.Join.{first_of, past_of}
+use Rattle.av_vma.specs.Index.{first_of, past_of}
 use Rattle.av_vmatree.specs.Spans.{IsFree, area_at, span_of, is_page_taken, unless_area, without_area}
 use Rattle.av_merge.specs.Pages.{pages_by}
 use Rattle.av_vma.specs.Pages.{has_page, with_area, do_join, join_of, IsWhole}
@@ -23,7 +23,8 @@ replace_both-requires-clause-other c =
     let lower = c.get-lower.result in
     let upper = c.get-upper.result in
     let len = lengths c.args.areas.now c.args.anons.now in
-    let joins : do_join len lower upper ≡ true = test_is areas (family c.args.anons.now) (spans_of c.args.anons.now) c.args.left c.args.right lower upper
+    let joins : do_join len lower upper ≡ true =
+    test_is areas (family c.args.anons.now) (spans_of c.args.anons.now) c.args.left c.args.right lower upper
     c.chain_len-left_len.result c.chain_len-right_len.result c.mergeable.result
     c.requires.order c.get-lower.ensures c.get-upper.ensures c.chain_len-left_len.ensures c.chain_len-right_len.ensures c.mergeable.ensures
     ∙ c.if-not-mergeable.false in
@@ -36,7 +37,8 @@ replace_both-requires-clause-lower c =
     let lower = c.get-lower.result in
     let upper = c.get-upper.result in
     let len = lengths c.args.areas.now c.args.anons.now in
-    let joins : do_join len lower upper ≡ true = test_is areas (family c.args.anons.now) (spans_of c.args.anons.now) c.args.left c.args.right lower upper
+    let joins : do_join len lower upper ≡ true =
+    test_is areas (family c.args.anons.now) (spans_of c.args.anons.now) c.args.left c.args.right lower upper
     c.chain_len-left_len.result c.chain_len-right_len.result c.mergeable.result
     c.requires.order c.get-lower.ensures c.get-upper.ensures c.chain_len-left_len.ensures c.chain_len-right_len.ensures c.mergeable.ensures
     ∙ c.if-not-mergeable.false in
@@ -50,7 +52,8 @@ replace_both-requires-clause-upper c =
     let lower = c.get-lower.result in
     let upper = c.get-upper.result in
     let len = lengths c.args.areas.now c.args.anons.now in
-    let joins : do_join len lower upper ≡ true = test_is areas (family c.args.anons.now) (spans_of c.args.anons.now) c.args.left c.args.right lower upper
+    let joins : do_join len lower upper ≡ true =
+    test_is areas (family c.args.anons.now) (spans_of c.args.anons.now) c.args.left c.args.right lower upper
     c.chain_len-left_len.result c.chain_len-right_len.result c.mergeable.result
     c.requires.order c.get-lower.ensures c.get-upper.ensures c.chain_len-left_len.ensures c.chain_len-right_len.ensures c.mergeable.ensures
     ∙ c.if-not-mergeable.false in
@@ -64,7 +67,8 @@ replace_both-requires-clause-there c =
     let lower = c.get-lower.result in
     let upper = c.get-upper.result in
     let len = lengths c.args.areas.now c.args.anons.now in
-    let joins : do_join len lower upper ≡ true = test_is areas (family c.args.anons.now) (spans_of c.args.anons.now) c.args.left c.args.right lower upper
+    let joins : do_join len lower upper ≡ true =
+    test_is areas (family c.args.anons.now) (spans_of c.args.anons.now) c.args.left c.args.right lower upper
     c.chain_len-left_len.result c.chain_len-right_len.result c.mergeable.result
     c.requires.order c.get-lower.ensures c.get-upper.ensures c.chain_len-left_len.ensures c.chain_len-right_len.ensures c.mergeable.ensures
     ∙ c.if-not-mergeable.false in
@@ -73,7 +77,8 @@ replace_both-requires-clause-there c =
     c.requires.above c.get-lower.ensures c.get-upper.ensures joins) in
     let now = joined_now areas (area_of c.share.new.areas) (area_of c.take.new.areas) c.args.left c.args.right lower upper c.get-lower.ensures
     c.get-upper.ensures c.in_ok-share.ensures.areas c.take.ensures.areas in
-    subst (λ (a : Area). IsSomeAnd (span_of (without_area c.args.right c.args.tree.now) c.args.left) (λ s. s.from ≡ first_of a)) (sym c.join_of.ensures)
+    subst (λ (a : Area). IsSomeAnd (span_of (without_area c.args.right c.args.tree.now) c.args.left) (λ s. s.from ≡ first_of a))
+    (sym c.join_of.ensures)
     (left_from len c.requires.stands.0 c.args.left c.args.right c.args.at lower upper areas c.args.tree.now
     c.requires.stands.1 c.requires.below c.requires.above c.get-lower.ensures c.get-upper.ensures joins
     (area_of c.take.new.areas) (without_area c.args.right c.args.tree.now) now gone.good gone.areas gone.pages)
@@ -84,7 +89,8 @@ replace_both-requires-clause-whole c =
     let lower = c.get-lower.result in
     let upper = c.get-upper.result in
     let len = lengths c.args.areas.now c.args.anons.now in
-    let joins : do_join len lower upper ≡ true = test_is areas (family c.args.anons.now) (spans_of c.args.anons.now) c.args.left c.args.right lower upper
+    let joins : do_join len lower upper ≡ true =
+    test_is areas (family c.args.anons.now) (spans_of c.args.anons.now) c.args.left c.args.right lower upper
     c.chain_len-left_len.result c.chain_len-right_len.result c.mergeable.result
     c.requires.order c.get-lower.ensures c.get-upper.ensures c.chain_len-left_len.ensures c.chain_len-right_len.ensures c.mergeable.ensures
     ∙ c.if-not-mergeable.false in
@@ -98,7 +104,8 @@ replace_both-requires-clause-free c =
     let lower = c.get-lower.result in
     let upper = c.get-upper.result in
     let len = lengths c.args.areas.now c.args.anons.now in
-    let joins : do_join len lower upper ≡ true = test_is areas (family c.args.anons.now) (spans_of c.args.anons.now) c.args.left c.args.right lower upper
+    let joins : do_join len lower upper ≡ true =
+    test_is areas (family c.args.anons.now) (spans_of c.args.anons.now) c.args.left c.args.right lower upper
     c.chain_len-left_len.result c.chain_len-right_len.result c.mergeable.result
     c.requires.order c.get-lower.ensures c.get-upper.ensures c.chain_len-left_len.ensures c.chain_len-right_len.ensures c.mergeable.ensures
     ∙ c.if-not-mergeable.false in
@@ -119,7 +126,8 @@ returns-clause-stands c =
     let lower = c.get-lower.result in
     let upper = c.get-upper.result in
     let len = lengths c.args.areas.now c.args.anons.now in
-    let joins : do_join len lower upper ≡ true = test_is areas (family c.args.anons.now) (spans_of c.args.anons.now) c.args.left c.args.right lower upper
+    let joins : do_join len lower upper ≡ true =
+    test_is areas (family c.args.anons.now) (spans_of c.args.anons.now) c.args.left c.args.right lower upper
     c.chain_len-left_len.result c.chain_len-right_len.result c.mergeable.result
     c.requires.order c.get-lower.ensures c.get-upper.ensures c.chain_len-left_len.ensures c.chain_len-right_len.ensures c.mergeable.ensures
     ∙ c.if-not-mergeable.false in
@@ -142,7 +150,8 @@ returns-in_err-replace_both-clause-stands c =
     let lower = c.get-lower.result in
     let upper = c.get-upper.result in
     let len = lengths c.args.areas.now c.args.anons.now in
-    let joins : do_join len lower upper ≡ true = test_is areas (family c.args.anons.now) (spans_of c.args.anons.now) c.args.left c.args.right lower upper
+    let joins : do_join len lower upper ≡ true =
+    test_is areas (family c.args.anons.now) (spans_of c.args.anons.now) c.args.left c.args.right lower upper
     c.chain_len-left_len.result c.chain_len-right_len.result c.mergeable.result
     c.requires.order c.get-lower.ensures c.get-upper.ensures c.chain_len-left_len.ensures c.chain_len-right_len.ensures c.mergeable.ensures
     ∙ c.if-not-mergeable.false in
@@ -165,7 +174,8 @@ returns-clause-pages c =
     let lower = c.get-lower.result in
     let upper = c.get-upper.result in
     let len = lengths c.args.areas.now c.args.anons.now in
-    let joins : do_join len lower upper ≡ true = test_is areas (family c.args.anons.now) (spans_of c.args.anons.now) c.args.left c.args.right lower upper
+    let joins : do_join len lower upper ≡ true =
+    test_is areas (family c.args.anons.now) (spans_of c.args.anons.now) c.args.left c.args.right lower upper
     c.chain_len-left_len.result c.chain_len-right_len.result c.mergeable.result
     c.requires.order c.get-lower.ensures c.get-upper.ensures c.chain_len-left_len.ensures c.chain_len-right_len.ensures c.mergeable.ensures
     ∙ c.if-not-mergeable.false in
@@ -196,13 +206,15 @@ get-upper-requires c = record {
 
 pub mergeable-requires-clause-forward : goal.mergeable-requires-clause-forward
 mergeable-requires-clause-forward c =
-    let w = (whole_at c.requires.stands.0 (area_of c.args.areas.now) c.args.tree.now (c.args.at - 1) c.args.left c.get-lower.result c.requires.stands.1
+    let w = (whole_at c.requires.stands.0 (area_of c.args.areas.now) c.args.tree.now (c.args.at - 1) c.args.left c.get-lower.result
+    c.requires.stands.1
     c.requires.below c.get-lower.ensures).some in
     omega arith
 
 pub mergeable-requires-clause-small : goal.mergeable-requires-clause-small
 mergeable-requires-clause-small c =
-    let w = (whole_at c.requires.stands.0 (area_of c.args.areas.now) c.args.tree.now (c.args.at - 1) c.args.left c.get-lower.result c.requires.stands.1
+    let w = (whole_at c.requires.stands.0 (area_of c.args.areas.now) c.args.tree.now (c.args.at - 1) c.args.left c.get-lower.result
+    c.requires.stands.1
     c.requires.below c.get-lower.ensures).small in
     omega arith
 
@@ -212,7 +224,8 @@ replace_both-requires-clause-stands c =
     let lower = c.get-lower.result in
     let upper = c.get-upper.result in
     let len = lengths c.args.areas.now c.args.anons.now in
-    let joins : do_join len lower upper ≡ true = test_is areas (family c.args.anons.now) (spans_of c.args.anons.now) c.args.left c.args.right lower upper
+    let joins : do_join len lower upper ≡ true =
+    test_is areas (family c.args.anons.now) (spans_of c.args.anons.now) c.args.left c.args.right lower upper
     c.chain_len-left_len.result c.chain_len-right_len.result c.mergeable.result
     c.requires.order c.get-lower.ensures c.get-upper.ensures c.chain_len-left_len.ensures c.chain_len-right_len.ensures c.mergeable.ensures
     ∙ c.if-not-mergeable.false in
@@ -228,9 +241,11 @@ replace_both-requires-clause-stands c =
 
 pub returns-then-not-mergeable-clause-pages : goal.returns-then-not-mergeable-clause-pages
 returns-then-not-mergeable-clause-pages c =
-    apart_stay (lengths c.args.areas.now c.args.anons.now) c.args.at c.args.left c.args.right (area_of c.args.areas.now) c.args.tree.now c.get-lower.result
+    apart_stay (lengths c.args.areas.now c.args.anons.now) c.args.at c.args.left c.args.right (area_of c.args.areas.now) c.args.tree.now
+    c.get-lower.result
     c.get-upper.result c.requires.below c.requires.above c.get-lower.ensures c.get-upper.ensures
-    (test_is (area_of c.args.areas.now) (family c.args.anons.now) (spans_of c.args.anons.now) c.args.left c.args.right c.get-lower.result c.get-upper.result
+    (test_is (area_of c.args.areas.now) (family c.args.anons.now) (spans_of c.args.anons.now) c.args.left c.args.right c.get-lower.result
+    c.get-upper.result
     c.chain_len-left_len.result c.chain_len-right_len.result c.mergeable.result
     c.requires.order c.get-lower.ensures c.get-upper.ensures c.chain_len-left_len.ensures c.chain_len-right_len.ensures c.mergeable.ensures
     ∙ c.if-not-mergeable.true)
@@ -241,7 +256,8 @@ replace_both-requires-clause-was c =
     let lower = c.get-lower.result in
     let upper = c.get-upper.result in
     let len = lengths c.args.areas.now c.args.anons.now in
-    let joins : do_join len lower upper ≡ true = test_is areas (family c.args.anons.now) (spans_of c.args.anons.now) c.args.left c.args.right lower upper
+    let joins : do_join len lower upper ≡ true =
+    test_is areas (family c.args.anons.now) (spans_of c.args.anons.now) c.args.left c.args.right lower upper
     c.chain_len-left_len.result c.chain_len-right_len.result c.mergeable.result
     c.requires.order c.get-lower.ensures c.get-upper.ensures c.chain_len-left_len.ensures c.chain_len-right_len.ensures c.mergeable.ensures
     ∙ c.if-not-mergeable.false in
@@ -267,12 +283,14 @@ returns-clause-number c =
     let lower = c.get-lower.result in
     let upper = c.get-upper.result in
     let len = lengths c.args.areas.now c.args.anons.now in
-    let joins : do_join len lower upper ≡ true = test_is areas (family c.args.anons.now) (spans_of c.args.anons.now) c.args.left c.args.right lower upper
+    let joins : do_join len lower upper ≡ true =
+    test_is areas (family c.args.anons.now) (spans_of c.args.anons.now) c.args.left c.args.right lower upper
     c.chain_len-left_len.result c.chain_len-right_len.result c.mergeable.result
     c.requires.order c.get-lower.ensures c.get-upper.ensures c.chain_len-left_len.ensures c.chain_len-right_len.ensures c.mergeable.ensures
     ∙ c.if-not-mergeable.false in
     λ page e. c.replace_both.ensures.number page
-    ∙ ap (λ (a : Area). cond (has_page a page) (Some c.args.left) (unless_area c.args.left (area_at (without_area c.args.right c.args.tree.now) page)))
+    ∙ ap (λ (a : Area). cond (has_page a page) (Some c.args.left)
+    (unless_area c.args.left (area_at (without_area c.args.right c.args.tree.now) page)))
     c.join_of.ensures
     ∙ rw (upper_goes len c.requires.stands.0 c.args.left c.args.right c.args.at lower upper areas c.args.tree.now c.requires.stands.1 c.requires.below
     c.requires.above c.get-lower.ensures c.get-upper.ensures joins page e) refl
@@ -283,7 +301,8 @@ returns-clause-others c =
     let lower = c.get-lower.result in
     let upper = c.get-upper.result in
     let len = lengths c.args.areas.now c.args.anons.now in
-    let joins : do_join len lower upper ≡ true = test_is areas (family c.args.anons.now) (spans_of c.args.anons.now) c.args.left c.args.right lower upper
+    let joins : do_join len lower upper ≡ true =
+    test_is areas (family c.args.anons.now) (spans_of c.args.anons.now) c.args.left c.args.right lower upper
     c.chain_len-left_len.result c.chain_len-right_len.result c.mergeable.result
     c.requires.order c.get-lower.ensures c.get-upper.ensures c.chain_len-left_len.ensures c.chain_len-right_len.ensures c.mergeable.ensures
     ∙ c.if-not-mergeable.false in
@@ -291,7 +310,8 @@ returns-clause-others c =
     (right_from len c.requires.stands.0 c.args.left c.args.right c.args.at lower upper areas c.args.tree.now c.requires.stands.1 c.requires.below
     c.requires.above c.get-lower.ensures c.get-upper.ensures joins) in
     λ page apart. c.replace_both.ensures.number page
-    ∙ ap (λ (a : Area). cond (has_page a page) (Some c.args.left) (unless_area c.args.left (area_at (without_area c.args.right c.args.tree.now) page)))
+    ∙ ap (λ (a : Area). cond (has_page a page) (Some c.args.left)
+    (unless_area c.args.left (area_at (without_area c.args.right c.args.tree.now) page)))
     c.join_of.ensures
     ∙ ap (λ a. cond (has_page (join_of lower upper) page) (Some c.args.left) (unless_area c.args.left a)) (gone.pages page)
     ∙ others_stay len c.requires.stands.0 c.args.left c.args.right c.args.at lower upper areas c.args.tree.now c.requires.stands.1 c.requires.below

@@ -17,7 +17,8 @@ join_above-requires-clause-stands c =
 pub returns-clause-stands : goal.returns-clause-stands
 returns-clause-stands c = λ p stands.
     let one = c.join_below.ensures.stands p stands in
-    stays_trans p (area_of c.args.areas.now) (area_of c.join_below.new.areas) (area_of c.join_above.new.areas) c.join_below.new.tree c.join_above.new.tree one
+    stays_trans p (area_of c.args.areas.now) (area_of c.join_below.new.areas) (area_of c.join_above.new.areas) c.join_below.new.tree
+    c.join_above.new.tree one
     (c.join_above.ensures.stands p one.areas)
 
 pub returns-clause-pages : goal.returns-clause-pages

@@ -25,7 +25,8 @@ returns-clause-pages c = on_ok_weaker c.join_at-2.result
     (λ last. joined_later (lengths c.args.areas.now c.args.anons.now) (lengths c.join_at.new.areas c.join_at.new.anons) c.args.past
     (pages_by (area_of c.join_at.new.areas) c.join_at.new.tree) _
     (pages_by (area_of c.join_at-2.new.areas) c.join_at-2.new.tree)
-    (alike_after (area_of c.args.areas.now) (area_of c.join_at.new.areas) (family c.args.anons.now) (family c.join_at.new.anons) (spans_of c.args.anons.now)
+    (alike_after (area_of c.args.areas.now) (area_of c.join_at.new.areas) (family c.args.anons.now) (family c.join_at.new.anons)
+    (spans_of c.args.anons.now)
     (spans_of c.join_at.new.anons) c.join_at.new.tree c.requires.order c.in_ok-join_at.ensures.kin)
     c.in_ok-join_at.ensures.pages last)
     c.join_at-2.ensures.pages

@@ -38,6 +38,7 @@ returns-clause-pages c = on_ok_weaker c.join_unless-2.result
 
 pub returns-clause-kin : goal.returns-clause-kin
 returns-clause-kin c = on_ok_weaker c.join_unless-2.result
-    (λ last. kin_then c.args.areas.now c.join_unless.new.areas c.join_unless-2.new.areas c.args.anons.now c.join_unless.new.anons c.join_unless-2.new.anons
+    (λ last. kin_then c.args.areas.now c.join_unless.new.areas c.join_unless-2.new.areas c.args.anons.now c.join_unless.new.anons
+    c.join_unless-2.new.anons
     c.in_ok-join_unless.ensures.kin last)
     c.join_unless-2.ensures.kin

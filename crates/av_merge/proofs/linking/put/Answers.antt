@@ -9,5 +9,6 @@ returns-clause-kin c =
     ok_both c.resize-result.result c.resize-result.ensures.areas c.resize-result.ensures.spans (λ now spanned.
     resized_keeps (area_of c.args.areas.now) (area_of c.resize-result.new.areas) (area_of c.change-2.new.self) (family c.args.anons.now)
     (family c.resize-result.new.self)
-    (spans_of c.args.anons.now) (spans_of c.resize-result.new.self) c.args.number c.args.area c.requires.order spanned c.change-2.ensures c.requires.whole
+    (spans_of c.args.anons.now) (spans_of c.resize-result.new.self) c.args.number c.args.area c.requires.order spanned c.change-2.ensures
+    c.requires.whole
     c.requires.was now c.resize-result.ensures.family)

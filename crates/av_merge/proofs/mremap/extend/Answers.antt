@@ -1,7 +1,7 @@
 use Rattle.std.proofs.Common.{◌≤◌, ap, sym, ◌∙◌}
 use Rattle.std.specs.Prelude.{option_and_then}
 use Rattle.av_vma.specs.Areas.{area_of}
-use Rattle.av_vma.specs.Join.{past_of}
+use Rattle.av_vma.specs.Index.{past_of}
 use Rattle.av_vmatree.specs.Spans.{IsFree, is_page_taken}
 use Rattle.av_merge.proofs.MremapLaws.{grown_free, grown_on}
 use Rattle.av_merge.proofs.PlacingLaws.{of_some_and}

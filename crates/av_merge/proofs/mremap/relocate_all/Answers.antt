@@ -21,7 +21,8 @@ unreachable-requires c =
     let r = c.requires in
     false≢true (ap is_some c.in_default.ensures.area
     ∙ relocated_more r.stands.0 a.from a.past a.to c.loop-page.page 0 (area_of a.areas.now) a.tree.now
-    (area_of c.loop-page.areas) c.loop-page.tree r.stands.1 r.high r.apart r.upper r.mapped r.free c.loop-page.invariant.relocated c.loop-page-test.true)
+    (area_of c.loop-page.areas) c.loop-page.tree r.stands.1 r.high r.apart r.upper r.mapped r.free c.loop-page.invariant.relocated
+    c.loop-page-test.true)
 
 pub get-area-requires : goal.get-area-requires
 get-area-requires c =
@@ -39,7 +40,8 @@ relocate-requires-clause-there c =
     let a = c.args in
     let r = c.requires in
     next_there r.stands.0 a.from a.past a.to c.loop-page.page c.in-Some.number (area_of a.areas.now) a.tree.now
-    (area_of c.loop-page.areas) c.loop-page.tree r.stands.1 r.high r.apart r.upper r.mapped r.free c.loop-page.invariant.relocated c.loop-page-test.true
+    (area_of c.loop-page.areas) c.loop-page.tree r.stands.1 r.high r.apart r.upper r.mapped r.free c.loop-page.invariant.relocated
+    c.loop-page-test.true
     c.get-area.result (sym c.in-Some.ensures.area) c.get-area.ensures
 
 pub relocate-requires-clause-high : goal.relocate-requires-clause-high
@@ -47,7 +49,8 @@ relocate-requires-clause-high c =
     let a = c.args in
     let r = c.requires in
     next_high r.stands.0 a.from a.past a.to c.loop-page.page c.in-Some.number (area_of a.areas.now) a.tree.now
-    (area_of c.loop-page.areas) c.loop-page.tree r.stands.1 r.high r.apart r.upper r.mapped r.free c.loop-page.invariant.relocated c.loop-page-test.true
+    (area_of c.loop-page.areas) c.loop-page.tree r.stands.1 r.high r.apart r.upper r.mapped r.free c.loop-page.invariant.relocated
+    c.loop-page-test.true
     c.get-area.result (sym c.in-Some.ensures.area) c.get-area.ensures
 
 pub relocate-requires-clause-free : goal.relocate-requires-clause-free
@@ -55,7 +58,8 @@ relocate-requires-clause-free c =
     let a = c.args in
     let r = c.requires in
     next_free r.stands.0 a.from a.past a.to c.loop-page.page c.in-Some.number (area_of a.areas.now) a.tree.now
-    (area_of c.loop-page.areas) c.loop-page.tree r.stands.1 r.high r.apart r.upper r.mapped r.free c.loop-page.invariant.relocated c.loop-page-test.true
+    (area_of c.loop-page.areas) c.loop-page.tree r.stands.1 r.high r.apart r.upper r.mapped r.free c.loop-page.invariant.relocated
+    c.loop-page-test.true
     c.get-area.result (sym c.in-Some.ensures.area) c.get-area.ensures
 
 pub returns-in_err-relocate-clause-stands : goal.returns-in_err-relocate-clause-stands
@@ -70,7 +74,8 @@ loop-page-preserved c =
     let r = c.requires in
     record {
       relocated = relocated_next r.stands.0 a.from a.past a.to c.loop-page.page c.in-Some.number (area_of a.areas.now) a.tree.now
-          (area_of c.loop-page.areas) c.loop-page.tree r.stands.1 r.high r.apart r.upper r.mapped r.free c.loop-page.invariant.relocated c.loop-page-test.true
+          (area_of c.loop-page.areas) c.loop-page.tree r.stands.1 r.high r.apart r.upper r.mapped r.free c.loop-page.invariant.relocated
+          c.loop-page-test.true
           c.get-area.result (sym c.in-Some.ensures.area) c.get-area.ensures
           (area_of c.relocate.new.areas) c.relocate.new.tree c.relocate.ensures.stands c.in_ok-relocate.ensures.pages;
       kin = kin_then a.areas.now c.loop-page.areas c.relocate.new.areas a.anons.now c.loop-page.anons c.relocate.new.anons

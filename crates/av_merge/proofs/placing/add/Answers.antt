@@ -1,6 +1,6 @@
 use Rattle.std.proofs.Common.{refl}
 use Rattle.av_vma.specs.Areas.{area_of}
-use Rattle.av_vma.specs.Join.{first_of, past_of}
+use Rattle.av_vma.specs.Index.{first_of, past_of}
 use Rattle.av_vmatree.specs.Spans.{span}
 use Rattle.av_merge.proofs.PlacingLaws.{put_pages}
 use Rattle.av_merge.proofs.placing.add.Goals as goal

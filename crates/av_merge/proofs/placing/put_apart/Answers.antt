@@ -24,7 +24,13 @@ returns-in_ok-put_parts-in-Ok-clause-pages c =
     let spans = c.args.tree.now in
     apart_pages lower.pid n new.above s t lower upper (area_of c.args.areas.now) (area_of c.put_parts.new.areas) spans c.split.new.self
     r.stands r.there new.ensures.unused
-    (record { process = refl; whole = r.whole_lower; from = ap (λ (s : Span). s.from) c.place_of.ensures; to = ap (λ (s : Span). s.to) c.place_of.ensures })
+    (record {
+      process = refl;
+      whole = r.whole_lower;
+      from = ap (λ (s : Span). s.from) c.place_of.ensures;
+      to =
+          ap (λ (s : Span). s.to) c.place_of.ensures;
+    })
     (record {
       process = r.same_process;
       whole = r.whole_upper;
@@ -33,11 +39,13 @@ returns-in_ok-put_parts-in-Ok-clause-pages c =
     })
     (both_parts (area_of c.args.areas.now) (area_of c.add.new.self) (area_of c.put_parts.new.areas) n new.above (Some lower)
     (Some (record upper { anon = None })) (Some upper) new.ensures.added c.put_parts.ensures.areas)
-    (λ page. e.pages page ∙ (λ i. cond (holds t page) (Some (high i)) (cond (holds s page) (Some (low i)) (unless_area (low i) (area_at spans page)))))
+    (λ page. e.pages page
+    ∙ (λ i. cond (holds t page) (Some (high i)) (cond (holds s page) (Some (low i)) (unless_area (low i) (area_at spans page)))))
 
 pub put_parts-requires-clause-order : goal.put_parts-requires-clause-order
 put_parts-requires-clause-order c =
-    (bare_part (area_of c.args.areas.now) (area_of c.add.new.self) (family c.args.anons.now) (spans_of c.args.anons.now) c.in_ok-above.above c.args.upper
+    (bare_part (area_of c.args.areas.now) (area_of c.add.new.self) (family c.args.anons.now) (spans_of c.args.anons.now)
+    c.in_ok-above.above c.args.upper
     c.requires.order c.in_ok-above.ensures.unused c.requires.whole_upper c.in_ok-above.ensures.added).order
 
 pub returns-in_ok-put_parts-in-Ok-clause-kin : goal.returns-in_ok-put_parts-in-Ok-clause-kin

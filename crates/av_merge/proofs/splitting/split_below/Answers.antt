@@ -23,7 +23,8 @@ returns-in-Some-clause-none_crosses c =
     let after = area_of c.split.new.areas in
     let spans = c.split.new.tree in
     let stays = c.split.ensures.stands p c.requires.stands.1 in
-    on_ok_weaker c.split.result (λ pages. none_from p c.args.at after spans stays.areas (λ area e. split_starts on c.args.at area (sym (pages c.args.at) ∙ e)))
+    on_ok_weaker c.split.result
+    (λ pages. none_from p c.args.at after spans stays.areas (λ area e. split_starts on c.args.at area (sym (pages c.args.at) ∙ e)))
     c.split.ensures.pages
 
 -- none crosses where the last area below ends at the page or before it

@@ -23,4 +23,5 @@ returns-else-get-at-clause-pages c =
     let areas = area_of c.args.areas.now in
     let spans = c.args.tree.now in
     begins_uncut (pages_by areas spans) c.args.at c.get.result (laid_of c.requires.stands.0 areas spans c.requires.stands.1)
-    (found c.requires.stands.0 c.args.area c.args.at areas spans c.get.result c.requires.stands.1 c.requires.there c.get.ensures).here c.if-get-at.false
+    (found c.requires.stands.0 c.args.area c.args.at areas spans c.get.result c.requires.stands.1 c.requires.there c.get.ensures).here
+    c.if-get-at.false

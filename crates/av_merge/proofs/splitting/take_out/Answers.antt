@@ -2,7 +2,7 @@ use Rattle.std.proofs.Common.{◌≡◌, ℕ, ◌-◌, ◌<◌, ◌≤◌, Optio
 use Rattle.std.specs.Prelude.{IsSome, IsSomeAnd}
 use Rattle.av_vma.specs.declared.area.Area.{Area}
 use Rattle.av_vma.specs.Areas.{area_of}
-use Rattle.av_vma.specs.Join.{first_of}
+use Rattle.av_vma.specs.Index.{first_of}
 use Rattle.av_vmatree.specs.declared.span.Span.{Span}
 use Rattle.av_vmatree.specs.Spans.{area_after, span_of}
 use Rattle.av_merge.specs.Process.{AreAreasOf}
@@ -21,7 +21,8 @@ used : (p from n : ℕ) (areas : ℕ → Option Area) (spans : List Span) → Ar
 used p from n areas spans stands next = let i = area_in p areas spans n next.span stands next.there in subst (λ o. IsSome o) (sym i.area_is) refl
 
 -- an area that begins past the range ends it
-past : (p from to n : ℕ) (areas : ℕ → Option Area) (spans : List Span) (area : Area) (stands : AreAreasOf p areas spans) (next : IsNext spans (from - 1) n) →
+past : (p from to n : ℕ) (areas : ℕ → Option Area) (spans : List Span) (area : Area) (stands : AreAreasOf p areas spans)
+    (next : IsNext spans (from - 1) n) →
     areas n ≡ Some area → to ≤ first_of area → (k : ℕ) (t : Span) → span_of spans k ≡ Some t → from - 1 < t.from → to ≤ t.from
 past p from to n areas spans area stands next is end k t e above =
     let least = next.least k t e above in
@@ -30,9 +31,11 @@ past p from to n areas spans area stands next is end k t e above =
 
 within_range : (p from to n : ℕ) (areas : ℕ → Option Area) (spans : List Span) (area : Area) (stands : AreAreasOf p areas spans)
     (next : IsNext spans (from - 1) n) → areas n ≡ Some area → first_of area < to → next.span.from < to
-within_range p from to n areas spans area stands next is low = let first = (next_area p areas spans (from - 1) n next area stands is).from in omega arith
+within_range p from to n areas spans area stands next is low = let first =
+    (next_area p areas spans (from - 1) n next area stands is).from in omega arith
 
-none_above : (from below : ℕ) (spans : List Span) → below ≡ from - 1 → None ≡ area_after spans below → (to k : ℕ) (t : Span) → span_of spans k ≡ Some t →
+none_above : (from below : ℕ) (spans : List Span) → below ≡ from - 1 → None ≡ area_after spans below → (to k : ℕ) (t : Span)
+    → span_of spans k ≡ Some t →
     from - 1 < t.from → to ≤ t.from
 none_above from below spans is none to k t there above = let low = no_next spans below (sym none) k t there in absurd (omega arith)
 
@@ -52,7 +55,8 @@ remove-requires c =
     c.saturating_sub.ensures c.in-Some.ensures in
     record {
       there = subst (λ o. IsSomeAnd o (λ s. s.from ≡ first_of c.get-start.result)) (sym n.there)
-          (next_area p (area_of c.loop-area.areas) c.loop-area.tree (c.args.from - 1) c.in-Some.area n c.get-start.result stands c.get-start.ensures).from;
+          (next_area p (area_of c.loop-area.areas) c.loop-area.tree (c.args.from - 1) c.in-Some.area n c.get-start.result stands
+          c.get-start.ensures).from;
     }
 
 pub loop-area-smaller : goal.loop-area-smaller

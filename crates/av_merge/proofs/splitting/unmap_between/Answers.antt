@@ -25,7 +25,8 @@ take_out-requires-clause-lower c =
     let p = c.requires.stands.0 in
     let first = c.split_below.ensures.stands p c.requires.stands.1 in
     let second = c.split_before.ensures.stands p first.areas in
-    none_after p c.args.to c.args.from (area_of c.split_below.new.areas) (area_of c.split_before.new.areas) c.split_below.new.tree c.split_before.new.tree
+    none_after p c.args.to c.args.from (area_of c.split_below.new.areas) (area_of c.split_before.new.areas) c.split_below.new.tree
+    c.split_before.new.tree
     first.areas second.areas c.in_ok-split_below.ensures.none_crosses c.in_ok-split_before.ensures.pages
 
 pub returns-clause-stands : goal.returns-clause-stands

@@ -7,7 +7,8 @@ pub returns-then-new_pages-pages-clause-resizes : goal.returns-then-new_pages-pa
 returns-then-new_pages-pages-clause-resizes c = λ d s keeps.
     let a = c.args in
     ok_both c.unmap.result c.unmap.ensures.areas c.unmap.ensures.anons (λ areas stay.
-    has_shrunk d a.mem.now s keeps a.process c.requires.lives c.unmap.new.self c.unmap.new.anons stay a.from a.pages a.new_pages c.if-new_pages-pages.true areas)
+    has_shrunk d a.mem.now s keeps a.process c.requires.lives c.unmap.new.self c.unmap.new.anons stay a.from a.pages a.new_pages
+    c.if-new_pages-pages.true areas)
 
 pub overflow_sub-last : goal.overflow_sub-last
 overflow_sub-last c = omega (arith, c.requires.some)
@@ -16,7 +17,8 @@ pub returns-then-pages-new_pages-clause-resizes : goal.returns-then-pages-new_pa
 returns-then-pages-new_pages-clause-resizes c = λ d s keeps.
     let a = c.args in
     ok_both c.grow.result c.grow.ensures.areas c.grow.ensures.anons (λ areas stay.
-    has_grown d a.mem.now s keeps a.process c.requires.lives c.grow.new.self c.grow.new.anons stay a.from a.pages a.new_pages c.if-pages-new_pages.true areas)
+    has_grown d a.mem.now s keeps a.process c.requires.lives c.grow.new.self c.grow.new.anons stay a.from a.pages a.new_pages
+    c.if-pages-new_pages.true areas)
 
 pub returns-clause-resizes : goal.returns-clause-resizes
 returns-clause-resizes c = λ d s keeps.

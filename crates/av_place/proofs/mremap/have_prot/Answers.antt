@@ -19,7 +19,8 @@ returns-then-ne c = λ q same.
     let low = c.loop-page.invariant.low in
     let high = c.loop-page-test.true in
     sym (have_prot-no q a.prot a.from (a.past - a.from) c.loop-page.page low (omega (arith, high, low))
-    (not_with a.spaces.now.processes a.process q c.loop-page.page c.in-Some.area a.prot same c.in-Some.ensures.area (sym c.ne.ensures ∙ c.if-ne.true)))
+    (not_with a.spaces.now.processes a.process q c.loop-page.page c.in-Some.area a.prot same c.in-Some.ensures.area
+    (sym c.ne.ensures ∙ c.if-ne.true)))
 
 pub loop-page-smaller : goal.loop-page-smaller
 loop-page-smaller c =
@@ -37,7 +38,8 @@ loop-page-preserved c =
       low = omega (arith, ends, low);
       each = λ o least most. elim (cases_lt o page) [
         | inl before ↦ c.loop-page.invariant.each o least before
-        | inr after ↦ covers (pages_of a.spaces.now.processes a.process) c.in-Some.ensures.laid c.in-Some.area page (sym c.in-Some.ensures.area) o after most
+        | inr after ↦ covers (pages_of a.spaces.now.processes a.process) c.in-Some.ensures.laid c.in-Some.area page
+            (sym c.in-Some.ensures.area) o after most
             ∙ with_prot c.in-Some.area a.prot (sym c.ne.ensures ∙ c.if-ne.false)
       ];
     }
@@ -47,4 +49,5 @@ returns c = λ q same.
     let a = c.args in
     let past = c.loop-page-test.false in
     let forward = c.requires.forward in
-    sym (have_prot-all q a.prot a.from (a.past - a.from) (λ o low high. sym (same o) ∙ c.loop-page.invariant.each o low (omega (arith, high, past, forward))))
+    sym (have_prot-all q a.prot a.from (a.past - a.from)
+    (λ o low high. sym (same o) ∙ c.loop-page.invariant.each o low (omega (arith, high, past, forward))))

@@ -13,7 +13,7 @@ use Rattle.av_trace.specs.declared.row.Row.{Row}
 use Rattle.av_plain.specs.Event.{Event, TurnedOff, TurnedOn, after, after_all}
 use Rattle.av_plain.specs.Ledger.{Ledger, Setting, SwapArea, is_on, is_usable, size_of, slot_count, slots_in_use}
 use Rattle.av_plain.specs.Sound.{AllSound, AreThere, AreasFit, count, is_there}
-use Rattle.av_plain.specs.Swapon.{TurnsOn, turn_on_events}
+use Rattle.av_plain.specs.Swapon.{TurnsOn, priority_of, turn_on_events}
 use Rattle.av_plain.specs.World.{World}
 use Rattle.av_plain.proofs.Sound.There.{counted-slot}
 
@@ -99,45 +99,45 @@ used-elsewhere m l k s there none used = by (s.area == k) refl
 
 -- ---- an area is turned on
 
-pub found-on : (l : Ledger) (k slots bad j : ℕ) → find nat_cmp j (after l (TurnedOn k slots bad)).on
-    ≡ cond (eq_by_cmp nat_cmp j k) (Some (record { slots = slots; bad = bad })) (find nat_cmp j l.on)
-found-on l k slots bad j = find-put nat_cmp nat_cmp_total j k (record { slots = slots; bad = bad }) l.on
+pub found-on : (l : Ledger) (k : ℕ) (area : SwapArea) (j : ℕ) → find nat_cmp j (after l (TurnedOn k area)).on
+    ≡ cond (eq_by_cmp nat_cmp j k) (Some area) (find nat_cmp j l.on)
+found-on l k area j = find-put nat_cmp nat_cmp_total j k area l.on
 
-module _ (m : Setting) (l : Ledger) (k slots bad : ℕ) (there : AreThere m l) (fits : AreasFit m l) (off : is_on l k ≡ false) where
+module _ (m : Setting) (l : Ledger) (k : ℕ) (area : SwapArea) (there : AreThere m l) (fits : AreasFit m l) (off : is_on l k ≡ false) where
   abbrev pub now_on : Ledger
-  now_on = after l (TurnedOn k slots bad)
+  now_on = after l (TurnedOn k area)
 
   pub there-on : AreThere m now_on
-  there-on t used = by (eq_by_cmp nat_cmp t.area k) (find nat_cmp t.area l.on) (found-on l k slots bad t.area) (there t used)
+  there-on t used = by (eq_by_cmp nat_cmp t.area k) (find nat_cmp t.area l.on) (found-on l k area t.area) (there t used)
     where
-      by : (b : Bool) (o : Option SwapArea) → find nat_cmp t.area now_on.on ≡ cond b (Some (record { slots = slots; bad = bad })) o →
+      by : (b : Bool) (o : Option SwapArea) → find nat_cmp t.area now_on.on ≡ cond b (Some area) o →
           (is_some o && nat_lt 0 t.page && nat_lt t.page (size_of m t.area) && is_usable m t) ≡ true → is_there m now_on t ≡ true
-      by true (Some area) e h = ap (λ x. is_some x && nat_lt 0 t.page && nat_lt t.page (size_of m t.area) && is_usable m t) e ∙ h
+      by true (Some old) e h = ap (λ x. is_some x && nat_lt 0 t.page && nat_lt t.page (size_of m t.area) && is_usable m t) e ∙ h
       by false o e h = ap (λ x. is_some x && nat_lt 0 t.page && nat_lt t.page (size_of m t.area) && is_usable m t) e ∙ h
       by true None e h = cc
 
   pub fit-on : 0 < size_of m k → AreasFit m now_on
   fit-on has = record {
-    rising = is_sorted-put nat_cmp nat_cmp_total k (record { slots = slots; bad = bad }) l.on fits.rising;
-    attached = λ j is. attached_at j (eq_by_cmp nat_cmp j k) refl (sym (ap is_some (found-on l k slots bad j)) ∙ is);
-    fit = λ j. subst (λ o. IfSome o (λ area. length (slots_in_use m l j) ≤ area.slots)) (sym (found-on l k slots bad j))
+    rising = is_sorted-put nat_cmp nat_cmp_total k area l.on fits.rising;
+    attached = λ j is. attached_at j (eq_by_cmp nat_cmp j k) refl (sym (ap is_some (found-on l k area j)) ∙ is);
+    fit = λ j. subst (λ o. IfSome o (λ area. length (slots_in_use m l j) ≤ area.slots)) (sym (found-on l k area j))
         (by j (eq_by_cmp nat_cmp j k) refl (find nat_cmp j l.on) (fits.fit j));
   }
     where
       attached_at : (j : ℕ) (b : Bool) → eq_by_cmp nat_cmp j k ≡ b →
-          is_some (cond b (Some (record { slots = slots; bad = bad })) (find nat_cmp j l.on)) ≡ true → 0 < size_of m j
+          is_some (cond b (Some area) (find nat_cmp j l.on)) ≡ true → 0 < size_of m j
       attached_at j true same is = let e : k ≡ j = grind (arith, nat_tests, same) in subst (λ n. 0 < size_of m n) e has
       attached_at j false other is = fits.attached j is
 
       by : (j : ℕ) (b : Bool) → eq_by_cmp nat_cmp j k ≡ b → (o : Option SwapArea) → IfSome o (λ area. length (slots_in_use m l j) ≤ area.slots) →
-          IfSome (cond b (Some (record { slots = slots; bad = bad })) o) (λ area. length (slots_in_use m l j) ≤ area.slots)
+          IfSome (cond b (Some area) o) (λ area. length (slots_in_use m l j) ≤ area.slots)
       by j true is o h =
           let same : j ≡ k = grind (arith, nat_tests, is) in
           let none = ap length (ap (slots_in_use m l) same ∙ off-unused m l k there off) in omega (arith, none)
       by j false is o h = h
 
-module _ (m : Setting) (w : World) (l : Ledger) (k slots bad : ℕ) (s : AllSound m w l) (off : is_on l k ≡ false) where
-  pub turned-on-sound : 0 < size_of m k → AllSound m w (after l (TurnedOn k slots bad))
+module _ (m : Setting) (w : World) (l : Ledger) (k : ℕ) (area : SwapArea) (s : AllSound m w l) (off : is_on l k ≡ false) where
+  pub turned-on-sound : 0 < size_of m k → AllSound m w (after l (TurnedOn k area))
   turned-on-sound has = record {
     world = s.world;
     ledger = record {
@@ -151,42 +151,43 @@ module _ (m : Setting) (w : World) (l : Ledger) (k slots bad : ℕ) (s : AllSoun
       one = s.ledger.one;
     };
     at_pages = s.at_pages;
-    in_areas = there-on m l k slots bad s.in_areas s.areas_fit off;
-    areas_fit = fit-on m l k slots bad s.in_areas s.areas_fit off has;
+    in_areas = there-on m l k area s.in_areas s.areas_fit off;
+    areas_fit = fit-on m l k area s.in_areas s.areas_fit off has;
   }
 
 -- nothing happens, or the area is turned on
-pub turn-on-events : (k : ℕ) (answer : Answer) → (turn_on_events k answer ≡ [])
-    ⊎ ((slots : ℕ) × (bad : ℕ) × (turn_on_events k answer ≡ TurnedOn k slots bad ∷ []))
-turn-on-events k (On slots bad) = inr (slots, bad, refl)
-turn-on-events k Done = inl refl
-turn-on-events k (MapAt a) = inl refl
-turn-on-events k (Data bytes) = inl refl
-turn-on-events k (Refused error) = inl refl
-turn-on-events k (Segv n shown) = inl refl
-turn-on-events k (Bus n shown) = inl refl
-turn-on-events k (Oom n out shown) = inl refl
-turn-on-events k (NoFrame out) = inl refl
-turn-on-events k (Runs n) = inl refl
-turn-on-events k (AreaList n) = inl refl
-turn-on-events k (Walk f n) = inl refl
-turn-on-events k NoWalk = inl refl
-turn-on-events k EntryEmpty = inl refl
-turn-on-events k EntryZero = inl refl
-turn-on-events k (EntryFrame f seen slot) = inl refl
-turn-on-events k (EntrySlot slot f) = inl refl
-turn-on-events k (SlotBad slot) = inl refl
-turn-on-events k (SlotCount slot n f) = inl refl
-turn-on-events k (Counted totals) = inl refl
+pub turn-on-events : (k : ℕ) (priority : Option ℕ) (answer : Answer) → (turn_on_events k priority answer ≡ [])
+    ⊎ ((area : SwapArea) × (turn_on_events k priority answer ≡ TurnedOn k area ∷ []))
+turn-on-events k priority (On slots bad) = inr (record { slots = slots; bad = bad; priority = priority_of priority }, refl)
+turn-on-events k priority Done = inl refl
+turn-on-events k priority (MapAt a) = inl refl
+turn-on-events k priority (Data bytes) = inl refl
+turn-on-events k priority (Refused error) = inl refl
+turn-on-events k priority (Segv n shown) = inl refl
+turn-on-events k priority (Bus n shown) = inl refl
+turn-on-events k priority (Oom n out shown) = inl refl
+turn-on-events k priority (NoFrame out) = inl refl
+turn-on-events k priority (Runs n) = inl refl
+turn-on-events k priority (AreaList n) = inl refl
+turn-on-events k priority (Walk f n) = inl refl
+turn-on-events k priority NoWalk = inl refl
+turn-on-events k priority EntryEmpty = inl refl
+turn-on-events k priority EntryZero = inl refl
+turn-on-events k priority (EntryFrame f seen slot) = inl refl
+turn-on-events k priority (EntrySlot slot f) = inl refl
+turn-on-events k priority (SlotBad slot) = inl refl
+turn-on-events k priority (SlotCount slot n f) = inl refl
+turn-on-events k priority (Counted totals) = inl refl
 
-pub turn-on-sound : (m : Setting) (w : World) (l : Ledger) (k : ℕ) (events : List Event) (answer : Answer) (rows : List Row) → AllSound m w l →
-    is_on l k ≡ false → 0 < size_of m k → TurnsOn m k events answer rows → AllSound m w (after_all l events)
-turn-on-sound m w l k events answer rows s off has h = subst (λ es. AllSound m w (after_all l es)) (sym h.1) (by (turn-on-events k answer))
+pub turn-on-sound : (m : Setting) (w : World) (l : Ledger) (k : ℕ) (priority : Option ℕ) (events : List Event) (answer : Answer) (rows : List Row) →
+    AllSound m w l → is_on l k ≡ false → 0 < size_of m k → TurnsOn m k priority events answer rows → AllSound m w (after_all l events)
+turn-on-sound m w l k priority events answer rows s off has h =
+    subst (λ es. AllSound m w (after_all l es)) (sym h.1) (by (turn-on-events k priority answer))
   where
-    by : (turn_on_events k answer ≡ []) ⊎ ((slots : ℕ) × (bad : ℕ) × (turn_on_events k answer ≡ TurnedOn k slots bad ∷ [])) →
-        AllSound m w (after_all l (turn_on_events k answer))
+    by : (turn_on_events k priority answer ≡ []) ⊎ ((area : SwapArea) × (turn_on_events k priority answer ≡ TurnedOn k area ∷ [])) →
+        AllSound m w (after_all l (turn_on_events k priority answer))
     by (inl e) = subst (λ es. AllSound m w (after_all l es)) (sym e) s
-    by (inr (slots, bad, e)) = subst (λ es. AllSound m w (after_all l es)) (sym e) (turned-on-sound m w l k slots bad s off has)
+    by (inr (area, e)) = subst (λ es. AllSound m w (after_all l es)) (sym e) (turned-on-sound m w l k area s off has)
 
 -- ---- an area is turned off
 

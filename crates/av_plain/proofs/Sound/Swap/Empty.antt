@@ -103,14 +103,16 @@ keys-wait l t f k sorted h = by (entry l k) (sym (keys-filter (names_slot t) l.e
     by (Some (InSlot r)) e = sym (slot-is t r e)
 
 -- what holds of the keys of a slot's entries
-bring-maps : (test : Key → Bool) (f : ℕ) (ks : List Key) → ((k : Key) → list_any (same_key k) ks ≡ true → test k ≡ true) → AllBring test (map_all ks f)
+bring-maps : (test : Key → Bool) (f : ℕ) (ks : List Key) → ((k : Key) → list_any (same_key k) ks ≡ true → test k ≡ true)
+    → AllBring test (map_all ks f)
 bring-maps test f [] h = tt
 bring-maps test f (k ∷ ks) h = (
   ap test (key_at-address k) ∙ h k (ap (λ b. b || list_any (same_key k) ks) (same_key-itself k)),
   bring-maps test f ks (λ q is. h q (or_right (same_key q k) (list_any (same_key q) ks) is)),
 )
 
-lawful-maps : (m : Setting) (closing : Option ℕ) (l : Ledger) (f : ℕ) (t : Slot) (ks : List Key) → AreLawful m closing l (map_all ks f ++ Dropped t ∷ [])
+lawful-maps : (m : Setting) (closing : Option ℕ) (l : Ledger) (f : ℕ) (t : Slot) (ks : List Key)
+    → AreLawful m closing l (map_all ks f ++ Dropped t ∷ [])
 lawful-maps m closing l f t [] = (tt, tt)
 lawful-maps m closing l f t (k ∷ ks) = (tt, lawful-maps m closing (after_note (Mapped k.0 (address_of k.1) f) l) f t ks)
 
@@ -164,7 +166,8 @@ fetched-hold m w sp l t f notes e used h = by (frame_at l t) refl h
     by None is q = record {
       empty = record {
         holds = notes-hold m w sp.closing l notes e.holds load.sound (bring-takes (at_page w) m sp l notes (Loaded t) (λ g. tt) q.0)
-            (lawful-takes m sp l notes (Loaded t) q.0 (let k = (seeks-kept m sp l q.0.sought e.holds.sound q.0.seeks).keeps.more t in omega (arith, k, named)));
+            (lawful-takes m sp l notes (Loaded t) q.0
+            (let k = (seeks-kept m sp l q.0.sought e.holds.sound q.0.seeks).keeps.more t in omega (arith, k, named)));
         landed = λ r. ap (λ x. flights x r) split ∙ calm.grounded r;
       };
       pair = frame_at-some f t (after_notes l notes).cache q.1;
@@ -226,7 +229,8 @@ pub record Emptied (m : Setting) (w : World) (k : ℕ) (end : Close) (l' : Ledge
   pub holds : Holds m w l'
   pub none : end ≡ Closed → slots_in_use m l' k ≡ []
 
-ends-hold : (m : Setting) (w : World) (sp : Spared) (k : ℕ) (l : Ledger) (pages : List ℕ) (notes : List Note) (end : Close) → slots_in_use m l k ≡ pages →
+ends-hold : (m : Setting) (w : World) (sp : Spared) (k : ℕ) (l : Ledger) (pages : List ℕ) (notes : List Note) (end : Close)
+    → slots_in_use m l k ≡ pages →
     Empty m w l → EndsAt m sp k l pages notes end → Emptied m w k end (after_notes l notes)
 ends-hold m w sp k l [] notes end is e h = subst (λ ns. Emptied m w k end (after_notes l ns)) (sym h.0) (record { holds = e.holds; none = λ _. is })
 ends-hold m w sp k l (page ∷ pages) notes end is e h = record {
@@ -263,7 +267,8 @@ lawful-empties m w sp k l (page ∷ pages) notes end e h =
 -- ---- the command
 
 -- all of flight is completed first
-pub done-empty : (m : Setting) (w : World) (l : Ledger) (done : List Note) → AllSound m w l → Completes l l.flight done → Empty m w (after_notes l done)
+pub done-empty : (m : Setting) (w : World) (l : Ledger) (done : List Note) → AllSound m w l → Completes l l.flight done
+    → Empty m w (after_notes l done)
 done-empty m w l done s completes = record {
   holds = completes-hold m w l l.flight done (of-sound m w l s) completes;
   landed = all_landed m l (after_notes l done) (completes-kept m l l.flight done s.ledger completes);
@@ -273,7 +278,8 @@ pub turn-off-sound : (m : Setting) (w : World) (l : Ledger) (k : ℕ) (events : 
     TurnsOff m w l k events answer rows → AllSound m w (after_all l events)
 turn-off-sound m w l k events answer rows s h = subst (λ es. AllSound m w (after_all l es)) (sym h.whole)
     (subst (AllSound m w) (sym (after_all-append l (note_events (h.done ++ h.notes)) (turn_off_events k h.end)))
-    (subst (λ x. AllSound m w (after_all x (turn_off_events k h.end))) (sym (note_events-all l (h.done ++ h.notes) ∙ after_notes-append l h.done h.notes))
+    (subst (λ x. AllSound m w (after_all x (turn_off_events k h.end)))
+    (sym (note_events-all l (h.done ++ h.notes) ∙ after_notes-append l h.done h.notes))
     (switched h.end refl)))
   where
     emptied : Emptied m w k h.end (after_notes (after_notes l h.done) h.notes)

@@ -9,7 +9,8 @@ use Rattle.av_reclaim.proofs.CommandLaws.{added, count-lent, is-at, same-lent}
 use Rattle.av_reclaim.proofs.commands.complete.Goals as goal
 
 pub complete-requires : goal.complete-requires
-complete-requires g c = is-at [] (device_by (g.D.SwapDev.sizes c.args.dev.now) (g.D.SwapDev.pages c.args.dev.now) (g.D.SwapDev.faults c.args.dev.now))
+complete-requires g c =
+    is-at [] (device_by (g.D.SwapDev.sizes c.args.dev.now) (g.D.SwapDev.pages c.args.dev.now) (g.D.SwapDev.failures c.args.dev.now))
     c.args.mem.now c.requires
 
 pub returns-clause-completes : goal.returns-clause-completes

@@ -9,13 +9,14 @@ use Rattle.av_reclaim.proofs.CommandLaws.{added, count-lent, is-at, same-lent}
 use Rattle.av_reclaim.proofs.commands.reclaim.Goals as goal
 
 pub reclaim-requires : goal.reclaim-requires
-reclaim-requires g c = is-at [] (device_by (g.D.SwapDev.sizes c.args.dev.now) (g.D.SwapDev.pages c.args.dev.now) (g.D.SwapDev.faults c.args.dev.now))
+reclaim-requires g c =
+    is-at [] (device_by (g.D.SwapDev.sizes c.args.dev.now) (g.D.SwapDev.pages c.args.dev.now) (g.D.SwapDev.failures c.args.dev.now))
     c.args.mem.now c.requires
 
 pub returns-clause-reclaims : goal.returns-clause-reclaims
 returns-clause-reclaims g c = λ told. added _ _ _ _ _ _ _ _ _ _
     (λ closing l notes. Outcomes (setting_by (as_told told (device_by (g.D.SwapDev.sizes c.args.dev.now) (g.D.SwapDev.pages c.args.dev.now)
-    (g.D.SwapDev.faults c.args.dev.now))) c.args.mem.now) (spares closing None) l (from_tail c.args.count l.inactive) notes)
+    (g.D.SwapDev.failures c.args.dev.now))) c.args.mem.now) (spares closing None) l (from_tail c.args.count l.inactive) notes)
     (λ m w l added. Reclaims m w l c.args.count (note_events added) Done [])
     (λ w l notes asked. (notes, asked, refl, refl, refl)) (c.in_ok-reclaim.ensures.gives told) (λ e. (search rules, search rules))
 

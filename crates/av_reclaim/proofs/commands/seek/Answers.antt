@@ -9,14 +9,15 @@ use Rattle.av_reclaim.proofs.CommandLaws.{added, count-lent, is-at, next-lent, s
 use Rattle.av_reclaim.proofs.commands.seek.Goals as goal
 
 pub seek-requires : goal.seek-requires
-seek-requires g c = is-at [] (device_by (g.D.SwapDev.sizes c.args.dev.now) (g.D.SwapDev.pages c.args.dev.now) (g.D.SwapDev.faults c.args.dev.now))
+seek-requires g c = is-at [] (device_by (g.D.SwapDev.sizes c.args.dev.now) (g.D.SwapDev.pages c.args.dev.now) (g.D.SwapDev.failures c.args.dev.now))
     c.args.mem.now c.requires
 
 pub returns-clause-seeks : goal.returns-clause-seeks
 returns-clause-seeks g c = λ told.
     let m = setting_by (as_told told (device_by (g.D.SwapDev.sizes c.args.dev.now) (g.D.SwapDev.pages c.args.dev.now)
-    (g.D.SwapDev.faults c.args.dev.now))) c.args.mem.now in
-    added _ _ _ _ _ _ _ _ _ _ (λ closing l notes. Seeks m (spares closing c.args.pinned) l notes × IsEnd m closing c.args.pinned c.in_ok-end.end l notes)
+    (g.D.SwapDev.failures c.args.dev.now))) c.args.mem.now in
+    added _ _ _ _ _ _ _ _ _ _
+    (λ closing l notes. Seeks m (spares closing c.args.pinned) l notes × IsEnd m closing c.args.pinned c.in_ok-end.end l notes)
     (λ m w l added. Seeks m (sparing w l c.args.pinned) l added × IsEnd m None c.args.pinned c.in_ok-end.end l added)
     (λ w l notes asked. asked) (c.in_ok-end.ensures.seeks told) (λ e. (search rules, search rules))
 

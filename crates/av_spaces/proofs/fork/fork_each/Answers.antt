@@ -3,7 +3,8 @@ use Rattle.av_spaces.proofs.ForkLaws.{forks_all, forks_in_turn, forks_more, fork
 use Rattle.av_spaces.proofs.fork.fork_each.Goals as goal
 
 pub loop-span-init : goal.loop-span-init
-loop-span-init c = forks_none c.args.child c.args.areas.now c.args.anons.now c.args.tree.now c.args.spans.now c.requires.order c.requires.none c.requires.empty
+loop-span-init c = forks_none c.args.child c.args.areas.now c.args.anons.now c.args.tree.now c.args.spans.now c.requires.order c.requires.none
+    c.requires.empty
 
 pub fork-requires-clause-whole : goal.fork-requires-clause-whole
 fork-requires-clause-whole c =

@@ -18,7 +18,8 @@ loop-m-preserved c =
     let n = c.args.header.now.pages in
     let inside : m < length marks = omega (arith, c.in_ok-marks.ensures.len, c.loop-m-test.true) in
     let is : p m ≡ c.index.result.now = sym (c.index.ensures ∙ get_or_default marks m c.index.result.now false inside) in
-    let passed = λ (t : Bool) (e : c.index.result.now ≡ t). number_passed p c.loop-m.bad.items _ m n t c.loop-m-test.true (is ∙ e) c.loop-m.invariant in
+    let passed = λ (t : Bool) (e : c.index.result.now ≡ t). number_passed p c.loop-m.bad.items _ m n t c.loop-m-test.true (is ∙ e)
+    c.loop-m.invariant in
     elim c.if-index.branch [
       | then-index+in_ok-push w ↦ ap (λ (l : List ℕ). l ++ filter p (range_with_len (m + 1) (n - (m + 1))))
           (ap (λ (v : Vec ℕ Global). v.items) w.bad-is ∙ w.in_ok-push.ensures.items) ∙ passed true w.if-index.true

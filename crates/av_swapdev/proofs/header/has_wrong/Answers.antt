@@ -5,6 +5,8 @@ use Rattle.av_swapdev.proofs.header.has_wrong.Goals as goal
 
 pub loop-place-preserved : goal.loop-place-preserved
 loop-place-preserved c =
-    let inside = sym (ap (is_out c.args.last) c.bad_at-bad.ensures) ∙ is_inside c.args.last c.bad_at-bad.result c.if-bad-eq0.false c.if-bad-last.false in
-    any_passed (is_out c.args.last) (λ (i : ℕ). number_at c.args.order c.args.page.now (1536 + 4 * i)) c.loop-place.place c.args.count _ c.loop-place-test.true
+    let inside = sym (ap (is_out c.args.last) c.bad_at-bad.ensures)
+    ∙ is_inside c.args.last c.bad_at-bad.result c.if-bad-eq0.false c.if-bad-last.false in
+    any_passed (is_out c.args.last) (λ (i : ℕ). number_at c.args.order c.args.page.now (1536 + 4 * i)) c.loop-place.place c.args.count _
+    c.loop-place-test.true
     inside c.loop-place.invariant

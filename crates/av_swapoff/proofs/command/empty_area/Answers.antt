@@ -1,6 +1,7 @@
 use Rattle.std.proofs.Common.{[], rules, true, false}
 use Rattle.av_plain.specs.Device.{as_told, device_by}
-use Rattle.av_swapoff.proofs.CommandLaws.{count-lent, has-emptied, is-at, same-lent}
+use Rattle.av_reclaim.proofs.CommandLaws.{count-lent, same-lent}
+use Rattle.av_swapoff.proofs.CommandLaws.{has-emptied, is-at}
 use Rattle.av_swapoff.proofs.command.empty_area.Goals as goal
 
 pub empty-requires-clause-sound : goal.empty-requires-clause-sound

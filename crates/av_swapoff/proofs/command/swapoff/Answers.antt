@@ -11,13 +11,14 @@ close-requires-clause-none_closing g c = c.requires.between.4.serves.swap.closed
 pub empty_area-requires : goal.empty_area-requires
 empty_area-requires g c =
     let dev = c.args.dev.now in
-    closing-over (device_by (g.D.SwapDev.sizes dev) (g.D.SwapDev.pages dev) (g.D.SwapDev.faults dev)) c.args.mem.now c.close.new.self c.args.area
+    closing-over (device_by (g.D.SwapDev.sizes dev) (g.D.SwapDev.pages dev) (g.D.SwapDev.failures dev)) c.args.mem.now c.close.new.self c.args.area
     c.close.ensures c.requires.between
 
 pub end_closing-requires : goal.end_closing-requires
 end_closing-requires g c =
     let dev = c.args.dev.now in
-    let o = closing-over (device_by (g.D.SwapDev.sizes dev) (g.D.SwapDev.pages dev) (g.D.SwapDev.faults dev)) c.args.mem.now c.close.new.self c.args.area
+    let o = closing-over (device_by (g.D.SwapDev.sizes dev) (g.D.SwapDev.pages dev) (g.D.SwapDev.failures dev)) c.args.mem.now
+    c.close.new.self c.args.area
     c.close.ensures c.requires.between in
     let may = may-end _ _ (with_swap c.args.mem.now c.close.new.self) c.empty_area.new.mem c.args.area _ _ c.in_ok-end.end
     (ap (λ (h : ShownSwap). is_on h c.args.area) c.close.ensures ∙ c.requires.on) o (c.in_ok-end.ensures.emptied false o.0 o.1 o.2 o.3) in
@@ -27,8 +28,8 @@ pub returns-clause-turned : goal.returns-clause-turned
 returns-clause-turned g c = λ told w r l between.
     let dev = c.args.dev.now in
     let new = c.empty_area.new.dev in
-    let d : Device = device_by (g.D.SwapDev.sizes dev) (g.D.SwapDev.pages dev) (g.D.SwapDev.faults dev) in
-    let d' : Device = device_by (g.D.SwapDev.sizes new) (g.D.SwapDev.pages new) (g.D.SwapDev.faults new) in
+    let d : Device = device_by (g.D.SwapDev.sizes dev) (g.D.SwapDev.pages dev) (g.D.SwapDev.failures dev) in
+    let d' : Device = device_by (g.D.SwapDev.sizes new) (g.D.SwapDev.pages new) (g.D.SwapDev.failures new) in
     let k = c.args.mem.now in
     has-turned-off (as_told told d) (as_told told d') k c.empty_area.new.mem c.close.new.self c.end_closing.new.swap c.args.area c.args.notes.now
     c.empty_area.new.notes c.in_ok-end.end c.close.ensures c.end_closing.ensures w r l between

@@ -33,7 +33,8 @@ returns-clause-gives g c = λ told.
     let area = c.args.area in
     let us = c.deref.result.now in
     let end = c.in_ok-end.end in
-    gives-then _ _ _ _ _ _ Always (MayEmptyEach mid.setting area us) (IsCompleted k mid area us) (EmptiesEachBy mid new area end) (EmptiesAllBy k new area end)
+    gives-then _ _ _ _ _ _ Always (MayEmptyEach mid.setting area us) (IsCompleted k mid area us) (EmptiesEachBy mid new area end)
+    (EmptiesAllBy k new area end)
     (gives-so _ _ _ _ Always (CompletesOf n) (IsCompleted k mid area us) (c.in_ok-complete.ensures.gives told)
     (λ l ns sound stands is goes after. completed k mid area us l ns sound
     (completes-all l n ns (c.flight_len-flying.ensures told l (loose _ _ l sound) stands) is) goes

@@ -1,7 +1,7 @@
 use Rattle.std.proofs.Common.{sym, ◌∙◌}
 use Rattle.av_evict.proofs.SystemLaws.{gives-as, loose}
-use Rattle.av_swapoff.specs.Empty.{EmptiesPageBy, MayEmpty}
-use Rattle.av_swapoff.specs.Slot.{EmptiesBy, MayFetch}
+use Rattle.av_swapoff.specs.Empty.{EmptiesPageBy, EmptiesSlotBy, MayEmpty}
+use Rattle.av_swapoff.specs.Slot.{MayFetch}
 use Rattle.av_swapoff.proofs.EmptyLaws.{emptied-page, page-fetch}
 use Rattle.av_swapoff.proofs.empty.empty_page.Goals as goal
 
@@ -11,10 +11,10 @@ returns-clause-gives g c = λ told.
     let new = g.S.System.view c.empty_slot.new.system told in
     let s = c.args.slot in
     let u = c.in-Some.user in
-    let fetched = c.in_ok-fetched.fetched in
-    let end = c.end_by.result in
-    gives-as _ _ _ _ (MayFetch s u) (MayEmpty s c.args.user) (EmptiesBy k new s fetched) (EmptiesPageBy k new s end) (c.in_ok-fetched.ensures.gives told)
+    let end = c.in_ok-stuck.stuck in
+    gives-as _ _ _ _ (MayFetch s u) (MayEmpty s c.args.user) (EmptiesSlotBy k new s end) (EmptiesPageBy k new s end)
+    (c.in_ok-stuck.ensures.gives told)
     (λ l sound stands may. page-fetch l s c.args.user u c.in-Some.is
     (sym c.if-not-is_in_use.false ∙ c.is_in_use.ensures told l (loose _ _ l sound) stands) may)
-    (λ l ns sound stands may did. emptied-page k new l s fetched end ns c.end_by.ensures
+    (λ l ns sound stands may did. emptied-page k new l s end ns
     (page-fetch l s c.args.user u c.in-Some.is (sym c.if-not-is_in_use.false ∙ c.is_in_use.ensures told l (loose _ _ l sound) stands) may).used did)

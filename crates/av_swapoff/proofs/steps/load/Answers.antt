@@ -27,6 +27,7 @@ returns-clause-gives g c = λ told.
     let f = c.in-Some.frame in
     gives-as _ _ _ _ (MayLoad k.setting s u) (MayLoad k.setting s u) (Adds (Loaded s f ∷ [])) (IsLoaded k.setting s (Some f))
     (makes-gives _ _ _ _ (MayLoad k.setting s u) (Loaded s f ∷ []) (c.in-Some.ensures.loads told) c.in_ok-push.ensures.ok
-    (λ l sound stands may. let fits = c.in-Some.ensures.frame told l (loose _ _ l sound) stands may in load-sound k.setting l s u f sound may fits.0 fits.1))
+    (λ l sound stands may. let fits = c.in-Some.ensures.frame told l (loose _ _ l sound) stands may in
+    load-sound k.setting l s u f sound may fits.0 fits.1))
     (λ l sound stands may. may)
     (λ l ns sound stands may is. let fits = c.in-Some.ensures.frame told l (loose _ _ l sound) stands may in (fits.0, fits.1, is))

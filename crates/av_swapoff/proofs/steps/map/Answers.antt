@@ -12,5 +12,6 @@ map-requires g c = at-knows (g.S.System.view c.args.system.now false) (MayMap c.
 pub returns-clause-gives : goal.returns-clause-gives
 returns-clause-gives g c = λ told.
     let k = c.args.key in
-    makes-gives _ _ _ _ (MayMap c.args.slot c.args.frame k) (Mapped k.0 (address_of k.1) c.args.frame ∷ []) (c.map.ensures.makes told) c.in_ok-push.ensures.ok
+    makes-gives _ _ _ _ (MayMap c.args.slot c.args.frame k) (Mapped k.0 (address_of k.1) c.args.frame ∷ []) (c.map.ensures.makes told)
+    c.in_ok-push.ensures.ok
     (λ l sound stands may. map-sound _ l c.args.slot c.args.frame k sound may)

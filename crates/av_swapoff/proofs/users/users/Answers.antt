@@ -52,17 +52,21 @@ returns-in_default-checked_add-clause-users c = λ within.
     let start = c.in_ok-users.users.items in
     let now = c.loop-process.users.items in
     let new = c.visit_process.new.users in
-    let visited = subst (λ (us : List (Option Key)). Visits (view k) c.args.area (λ (q : Key). q.0 ≡ c.in-Some.process) us new) c.deref_mut.ensures.value
+    let visited = subst (λ (us : List (Option Key)). Visits (view k) c.args.area (λ (q : Key). q.0 ≡ c.in-Some.process) us new)
+    c.deref_mut.ensures.value
     (c.visit_process.ensures within) in
     subst (λ (us : List (Option Key)). HasUsers (view k) c.args.area us)
     (sym (all-written c.loop-process.users.len now new (omega (arith, c.loop-process.users.ok.0)) visited.long))
     (found-all k c.args.area c.pages_of.result (c.in-Some.process + 1) start new c.in_ok-users.ensures c.pages_of.ensures
-    (visits-then (view k) c.args.area (λ (q : Key). q.0 < c.loop-process.next) (λ (q : Key). q.0 ≡ c.in-Some.process) (λ (q : Key). q.0 < c.in-Some.process + 1)
-    start now new (process-split k c.args.area c.loop-process.next c.in-Some.process c.in-Some.ensures) (c.loop-process.invariant.visits within) visited)
+    (visits-then (view k) c.args.area (λ (q : Key). q.0 < c.loop-process.next) (λ (q : Key). q.0 ≡ c.in-Some.process)
+    (λ (q : Key). q.0 < c.in-Some.process + 1)
+    start now new (process-split k c.args.area c.loop-process.next c.in-Some.process c.in-Some.ensures)
+    (c.loop-process.invariant.visits within) visited)
     (λ p high lives. absurd (let few = c.keeps.ensures p lives in let most = c.in_default-checked_add.ensures in omega (arith, high, few, most))))
 
 pub returns-clause-users : goal.returns-clause-users
 returns-clause-users c = λ within.
     let k = c.args.mem.now in
-    found-all k c.args.area c.pages_of.result c.loop-process.next c.in_ok-users.users.items c.loop-process.users.items c.in_ok-users.ensures c.pages_of.ensures
+    found-all k c.args.area c.pages_of.result c.loop-process.next c.in_ok-users.users.items c.loop-process.users.items c.in_ok-users.ensures
+    c.pages_of.ensures
     (c.loop-process.invariant.visits within) (λ p high lives. c.in_default.ensures p high (c.keeps.ensures p lives))

@@ -28,8 +28,10 @@ loop-page-preserved c =
     record {
       within = at.within;
       visits = λ within. visits-then (view k) c.args.area (Before k c.args.area c.args.process (c.loop-page.number * 64))
-          (InGroup k c.args.area c.args.process (c.in-Some.page / 64 * 64)) (Before k c.args.area c.args.process ((c.in-Some.page / 64 + 1) * 64)) _ _ _
-          (group-split k c.args.area c.args.process c.loop-page.number c.in-Some.page c.in-Some.ensures) (c.loop-page.invariant.visits within) (c.visit_group.ensures within);
+          (InGroup k c.args.area c.args.process (c.in-Some.page / 64 * 64))
+          (Before k c.args.area c.args.process ((c.in-Some.page / 64 + 1) * 64)) _ _ _
+          (group-split k c.args.area c.args.process c.loop-page.number c.in-Some.page c.in-Some.ensures) (c.loop-page.invariant.visits within)
+          (c.visit_group.ensures within);
     }
 
 pub returns : goal.returns

@@ -20,7 +20,8 @@ pub returns-in_err-value : goal.returns-in_err-value
 returns-in_err-value c =
     let d : ℕ = worth (get_or c.loop-rest.rest.now 0 0) in
     let large : 2 ^ 64 ≤ c.loop-rest.value * c.args.base + d =
-    sum_large c.loop-rest.value c.args.base c.from.result c.in_ok-checked_mul.field-0 c.from-in-len1-up.result d (search rules) c.in_ok-checked_mul.ensures.1
+    sum_large c.loop-rest.value c.args.base c.from.result c.in_ok-checked_mul.field-0 c.from-in-len1-up.result d (search rules)
+    c.in_ok-checked_mul.ensures.1
     (search rules) c.in_err-value.ensures in
     let none : digits_from c.args.base 0 c.args.bytes.now ≡ None =
     sym c.loop-rest.invariant ∙ at_too_large c.args.base c.loop-rest.value c.loop-rest.rest.now c.in-len1-up.len_at_least (omega arith) large in

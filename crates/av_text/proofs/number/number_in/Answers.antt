@@ -5,7 +5,8 @@ use Rattle.av_text.proofs.number.number_in.Goals.{else-is_empty-via-then-is_empt
 
 pub returns-in_err-n-clause-none : goal.returns-in_err-n-clause-none
 returns-in_err-n-clause-none c =
-    rw c.from_residual.ensures (λ n within is. in-none c.args.low c.args.high n c.args.word.now (omega arith) within is (rw c.in_err-n.was at c.number.ensures))
+    rw c.from_residual.ensures
+    (λ n within is. in-none c.args.low c.args.high n c.args.word.now (omega arith) within is (rw c.in_err-n.was at c.number.ensures))
 
 pub returns-then-n-high-clause-found : goal.returns-then-n-high-clause-found
 returns-then-n-high-clause-found c =

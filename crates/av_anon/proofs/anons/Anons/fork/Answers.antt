@@ -45,7 +45,8 @@ returns-clause-spans c =
     let empty = (c.requires.order.chains dst).none c.requires.none in
     let same : chain_of c.own_for_child.new.self.links ≡ f.chain = ap (λ g. g.chain) c.in_ok-anon.ensures.family
     ∙ child_family_chain (member_to_reuse f.info c.in_ok-chain.chain.items) c.in-Some.own f in
-    given-spans areas areas' f.chain (chain_of c.link_area.new.self.links) (spans_of c.args.self.now) c.requires.order.spanned dst this c.get-this.ensures fit
+    given-spans areas areas' f.chain (chain_of c.link_area.new.self.links) (spans_of c.args.self.now) c.requires.order.spanned dst this
+    c.get-this.ensures fit
     (Some c.in_ok-anon.anon) xs (spans_of c.link_area.new.self) empty
     (λ v. c.in_ok-link_area.ensures.spans v ∙ ap (λ s. spans_with xs (span_at dst this) (triples s) v) c.own_for_child.ensures.spans)
     (ap (λ g. g.chain) c.in_ok-link_area.ensures.family ∙ ap (with_at dst xs) same)

@@ -40,7 +40,8 @@ returns-clause-spans c =
     let fit : a < 2 ^ 64 = omega arith in
     let empty = (c.requires.order.chains a).none c.requires.none in
     let same : chain_of c.own_from.new.self.links ≡ f.chain = ap (λ g. g.chain) c.in_ok-anon.ensures.family ∙ kin_chain c.lent_anon-loan.result f in
-    given-spans areas areas' f.chain (chain_of c.link_area.new.self.links) (spans_of c.args.self.now) c.requires.order.spanned a this c.get-this.ensures fit
+    given-spans areas areas' f.chain (chain_of c.link_area.new.self.links) (spans_of c.args.self.now) c.requires.order.spanned a this
+    c.get-this.ensures fit
     (Some v) (v ∷ []) (spans_of c.link_area.new.self) empty
     (λ w. c.in_ok-link_area.ensures.spans w ∙ ap (λ s. spans_with (v ∷ []) (span_at a this) (triples s) w) c.own_from.ensures.spans)
     (ap (λ g. g.chain) c.in_ok-link_area.ensures.family ∙ ap (with_at a (v ∷ [])) same)

@@ -4,7 +4,7 @@ use Rattle.av_chain.specs.Links.{chain_of}
 use Rattle.av_interval.specs.Span.{key_of, triple}
 use Rattle.av_interval.specs.Spans.{triples}
 use Rattle.av_vma.specs.Areas.{area_of}
-use Rattle.av_vma.specs.Join.{index_of, past_of}
+use Rattle.av_vma.specs.Index.{index_of, past_of}
 use Rattle.av_vma.specs.declared.area.Area.{Area}
 use Rattle.av_anon.specs.Resize.{with_bounds}
 use Rattle.av_anon.specs.Spans.{span_at, spans_of, spans_with, spans_without}

@@ -36,6 +36,7 @@ returns g c =
     let m = g.T.Entry in
     record {
       entries = (inserted m.key m.unit m.op m.of g.met.T.Entry.laws (store_of c.self.inside.arena) (store_of c.add.new.self)
-          (store_of c.place-root.new.arena) c.self.inside.root c.self.invariant c.in-Ok.number _ c.in-Ok.ensures.unused c.in-Ok.ensures.added c.args.entry
+          (store_of c.place-root.new.arena) c.self.inside.root c.self.invariant c.in-Ok.number _ c.in-Ok.ensures.unused
+          c.in-Ok.ensures.added c.args.entry
           c.place-root.result c.place-root.ensures.placed).1 ∙ ap (λ v. with_entry m.key c.args.entry v) c.self.view_is;
     }

@@ -21,7 +21,8 @@ free-requires g c =
 pub invariant_of-self : goal.invariant_of-self
 invariant_of-self g c =
     let m = g.T.Entry in
-    (joined_freed m.key m.unit m.op m.of g.met.T.Entry.laws (store_of c.self.inside.arena) (store_of c.join-number.new.arena) (store_of c.free.new.self)
+    (joined_freed m.key m.unit m.op m.of g.met.T.Entry.laws (store_of c.self.inside.arena) (store_of c.join-number.new.arena)
+    (store_of c.free.new.self)
     c.self.inside.root c.self.invariant c.args.lower c.args.upper c.args.joined c.join-number.result.0 c.join-number.result.1
     c.join-number.ensures c.free.ensures).0
 
@@ -30,7 +31,8 @@ returns g c =
     let m = g.T.Entry in
     record {
       entries = (joined_freed m.key m.unit m.op m.of g.met.T.Entry.laws (store_of c.self.inside.arena) (store_of c.join-number.new.arena)
-          (store_of c.free.new.self) c.self.inside.root c.self.invariant c.args.lower c.args.upper c.args.joined c.join-number.result.0 c.join-number.result.1
+          (store_of c.free.new.self) c.self.inside.root c.self.invariant c.args.lower c.args.upper c.args.joined c.join-number.result.0
+          c.join-number.result.1
           c.join-number.ensures c.free.ensures).1 ∙ ap (λ v. with_joined m.key c.args.lower c.args.upper c.args.joined v) c.self.view_is;
     }
 

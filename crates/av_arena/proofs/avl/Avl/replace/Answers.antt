@@ -13,14 +13,16 @@ replace-root-requires-clause-low g c =
 pub invariant_of-self : goal.invariant_of-self
 invariant_of-self g c =
     let m = g.T.Entry in
-    (replaced m.key m.unit m.op m.of g.met.T.Entry.laws (store_of c.self.inside.arena) (store_of c.replace-root.new.arena) c.self.inside.root c.self.invariant
+    (replaced m.key m.unit m.op m.of g.met.T.Entry.laws (store_of c.self.inside.arena) (store_of c.replace-root.new.arena) c.self.inside.root
+    c.self.invariant
     c.args.entry c.replace-root.result c.replace-root.ensures.replaced).0
 
 pub returns : goal.returns
 returns g c =
     let m = g.T.Entry in
     record {
-      entries = (replaced m.key m.unit m.op m.of g.met.T.Entry.laws (store_of c.self.inside.arena) (store_of c.replace-root.new.arena) c.self.inside.root
+      entries = (replaced m.key m.unit m.op m.of g.met.T.Entry.laws (store_of c.self.inside.arena) (store_of c.replace-root.new.arena)
+          c.self.inside.root
           c.self.invariant c.args.entry c.replace-root.result c.replace-root.ensures.replaced).1
           ∙ ap (λ v. with_entry m.key c.args.entry (without_key m.key (m.key c.args.entry) v)) c.self.view_is;
     }

@@ -38,6 +38,7 @@ returns g c =
     let m = g.T.Entry in
     record {
       entries = (parted m.key m.unit m.op m.of g.met.T.Entry.laws (store_of c.self.inside.arena) (store_of c.add.new.self)
-          (store_of c.split-root.new.arena) c.self.inside.root c.self.invariant c.in-Ok.number _ c.in-Ok.ensures.unused c.in-Ok.ensures.added c.args.lower
+          (store_of c.split-root.new.arena) c.self.inside.root c.self.invariant c.in-Ok.number _ c.in-Ok.ensures.unused
+          c.in-Ok.ensures.added c.args.lower
           c.args.upper c.split-root.result c.split-root.ensures).1 ∙ ap (λ v. with_two m.key c.args.lower c.args.upper v) c.self.view_is;
     }

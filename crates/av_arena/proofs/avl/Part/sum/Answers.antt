@@ -7,5 +7,6 @@ use Rattle.av_arena.proofs.avl.Part.sum.Goals as goal
 pub returns : goal.returns
 returns g c =
     let m = g.T.Entry in
-    c.sum.ensures ∙ sym (held_sum m.key m.unit m.op m.of g.met.T.Entry.laws (store_of c.self.inside.arena.now) c.self.inside.tree c.self.invariant.held)
+    c.sum.ensures ∙ sym (held_sum m.key m.unit m.op m.of g.met.T.Entry.laws (store_of c.self.inside.arena.now) c.self.inside.tree
+    c.self.invariant.held)
     ∙ ap (λ v. total m.unit m.op m.of v) c.self.view_is

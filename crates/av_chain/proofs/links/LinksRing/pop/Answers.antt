@@ -10,7 +10,8 @@ use Rattle.av_chain.proofs.links.LinksRing.pop.Goals as goal
 pub returns-in_err-place-clause-first : goal.returns-in_err-place-clause-first
 returns-in_err-place-clause-first g c =
     let bs = c.self.inside.lists.nodes.blocks in
-    c.from_residual.ensures ∙ ap (λ o. anon_there o bs) (sym c.in_err-place.was ∙ c.first.ensures) ∙ first_link c.args.area bs c.self.inside.lists.nodes.apart
+    c.from_residual.ensures ∙ ap (λ o. anon_there o bs) (sym c.in_err-place.was ∙ c.first.ensures)
+    ∙ first_link c.args.area bs c.self.inside.lists.nodes.apart
     ∙ ap (λ ls. first_in (chain_of ls c.args.area)) c.self.view_is
 
 pub returns-in_err-place-clause-chain : goal.returns-in_err-place-clause-chain
@@ -19,7 +20,8 @@ returns-in_err-place-clause-chain g c =
     let none : None ≡ first_in (chain_of c.args.self.now c.args.area) = ap (λ o. anon_there o bs) (sym c.in_err-place.was ∙ c.first.ensures)
     ∙ first_link c.args.area bs c.self.inside.lists.nodes.apart ∙ ap (λ ls. first_in (chain_of ls c.args.area)) c.self.view_is in
     let empty = first_none (chain_of c.args.self.now c.args.area) none in
-    sym (with_at_same c.args.area (chain_of c.args.self.now)) ∙ ap (λ vs. with_at c.args.area vs (chain_of c.args.self.now)) (empty ∙ sym (ap rest_in empty))
+    sym (with_at_same c.args.area (chain_of c.args.self.now))
+    ∙ ap (λ vs. with_at c.args.area vs (chain_of c.args.self.now)) (empty ∙ sym (ap rest_in empty))
 
 pub returns-in_err-place-clause-users : goal.returns-in_err-place-clause-users
 returns-in_err-place-clause-users g c =
@@ -43,7 +45,8 @@ returns-clause-chain g c =
     let bs = c.self.inside.lists.nodes.blocks in
     let is = c.take_out.ensures.links ∙ first_removed c.args.area bs c.in_ok-place.place c.self.inside.lists.nodes.apart
     (sym c.in_ok-place.was ∙ c.first.ensures) in
-    ap chain_of is ∙ chain_popped c.args.area (links_of bs) ∙ ap (λ ls. with_at c.args.area (rest_in (chain_of ls c.args.area)) (chain_of ls)) c.self.view_is
+    ap chain_of is ∙ chain_popped c.args.area (links_of bs)
+    ∙ ap (λ ls. with_at c.args.area (rest_in (chain_of ls c.args.area)) (chain_of ls)) c.self.view_is
 
 pub returns-clause-users : goal.returns-clause-users
 returns-clause-users g c =

@@ -10,7 +10,8 @@ pub loop-step-init : goal.loop-step-init
 loop-step-init c = (past_start Area c.args.area c.args.self.now.nodes.blocks c.first-at.result c.first-at.ensures, refl)
 
 pub get-node-requires : goal.get-node-requires
-get-node-requires c = past_has Area c.args.area c.args.self.now.nodes.blocks c.loop-step.at c.loop-step._step c.loop-step.invariant.0 c.in_ok-place.place
+get-node-requires c =
+    past_has Area c.args.area c.args.self.now.nodes.blocks c.loop-step.at c.loop-step._step c.loop-step.invariant.0 c.in_ok-place.place
     c.in_ok-place.was c.args.self.now.nodes.apart
 
 pub returns-then-node-anon-clause-variant : goal.returns-then-node-anon-clause-variant
@@ -45,6 +46,7 @@ loop-step-preserved c =
 pub returns-clause-variant : goal.returns-clause-variant
 returns-clause-variant c =
     let bs = c.args.self.now.nodes.blocks in
-    let all : length (row Area c.args.area bs) ≤ c.loop-step._step = subst (λ n. n ≤ c.loop-step._step) c.len-step-end.ensures c.loop-step-test.false in
+    let all : length (row Area c.args.area bs) ≤ c.loop-step._step =
+    subst (λ n. n ≤ c.loop-step._step) c.len-step-end.ensures c.loop-step-test.false in
     sym (ap (is_in c.args.anon) (chain_row bs c.args.area ∙ ap anons_of
     (past_all Area c.args.area bs c.loop-step.at c.loop-step._step c.loop-step.invariant.0 all)) ∙ c.loop-step.invariant.1)

@@ -4,10 +4,12 @@ use Rattle.av_chain.proofs.Passing.{chain_row, link_has, link_next_reaches, link
 use Rattle.av_chain.proofs.lists.Lists.next.Goals as goal
 
 pub get-requires : goal.get-requires
-get-requires c = link_has c.args.area c.args.anon c.in_ok-place.place.ptr c.args.self.now.nodes.blocks c.args.self.now.nodes.apart c.in_ok-place.ensures.place
+get-requires c = link_has c.args.area c.args.anon c.in_ok-place.place.ptr c.args.self.now.nodes.blocks c.args.self.now.nodes.apart
+    c.in_ok-place.ensures.place
 
 pub anon_at-requires : goal.anon_at-requires
-anon_at-requires c = link_next_reaches c.args.area c.args.anon c.in_ok-place.place.ptr c.args.self.now.nodes.blocks c.get.result.now c.args.self.now.nodes.apart
+anon_at-requires c =
+    link_next_reaches c.args.area c.args.anon c.in_ok-place.place.ptr c.args.self.now.nodes.blocks c.get.result.now c.args.self.now.nodes.apart
     c.in_ok-place.ensures.place c.get.ensures (c.requires.kept.areas_lead.run c.args.area)
 
 pub returns : goal.returns

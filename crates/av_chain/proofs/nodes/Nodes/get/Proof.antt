@@ -56,7 +56,8 @@ stayed = (stay_dropped _ _, (stay_dropped _ _, tt))
 abbrev Out : Lft → denote.RattleType.RattleType
 Out κ = ShrRef (named 0) κ T
 
-module _ {M : Type 1} {𝓤 : Ura M} (𝓛 : Logic 𝓤) (at_mem : Memory → SProp 𝓤) (run : Routine → Fun 𝓤) (C : Calls 𝓤 𝓛.H) (Λ : Loops 𝓤 𝓛.H) (κ : Lft) (q : Share)
+module _ {M : Type 1} {𝓤 : Ura M} (𝓛 : Logic 𝓤) (at_mem : Memory → SProp 𝓤) (run : Routine → Fun 𝓤) (C : Calls 𝓤 𝓛.H) (Λ : Loops 𝓤 𝓛.H)
+    (κ : Lft) (q : Share)
     (rb ro : ℕ) (d : Ns.Denot) (at : Pl.Denot) (us0 us1 : List Val) where
   open 𝓛 use {H, A}
 

@@ -56,9 +56,13 @@ abbrev function : Fn
 function = code.function
 
 abbrev stayed : Stays (F.ended).signature.params (F.ended).kept
-stayed = (stay_ref (0 ∷ []) tt (plain (λ _. Ns)), (stay_dropped (plain (λ _. Pl)) (F.ended).kept.1.0, (stay_dropped (plain (λ _. T)) (F.ended).kept.1.1.0, tt)))
+stayed = (
+  stay_ref (0 ∷ []) tt (plain (λ _. Ns)),
+  (stay_dropped (plain (λ _. Pl)) (F.ended).kept.1.0, (stay_dropped (plain (λ _. T)) (F.ended).kept.1.1.0, tt)),
+)
 
-module _ {M : Type 1} {𝓤 : Ura M} (𝓛 : Logic 𝓤) (at_mem : Memory → SProp 𝓤) (run : Routine → Fun 𝓤) (C : Calls 𝓤 𝓛.H) (Λ : Loops 𝓤 𝓛.H) (κ : Lft) (q : Share)
+module _ {M : Type 1} {𝓤 : Ura M} (𝓛 : Logic 𝓤) (at_mem : Memory → SProp 𝓤) (run : Routine → Fun 𝓤) (C : Calls 𝓤 𝓛.H) (Λ : Loops 𝓤 𝓛.H)
+    (κ : Lft) (q : Share)
     (rb ro : ℕ) (γ : GName) (d : Ns.Denot) (at : Pl.Denot) (node : T.Denot) (us0 us1 us2 : List Val) where
   open 𝓛 use {H, A}
 
@@ -77,7 +81,8 @@ module _ {M : Type 1} {𝓤 : Ura M} (𝓛 : Logic 𝓤) (at_mem : Memory → SP
   exits passed new g0 =
       qed 𝓛 (‵ (fobs γ (Ns.coded.code new)) ∷ ‵ (fbor κ (Borrowed (mem Ns) rb ro γ)) ∷ ‵ (flft κ q) ∷ ‵ (unit.own_val tt (vunit ∷ [])) ∷ []) ∵
       suffices ! _ (ends_at 𝓛 F.ended stayed (F.clauses 𝓛 at_mem run) bound vunit tt (new, (tt, (tt, tt))) (tt, (tt, (tt, tt)))) $ says ! g0 $
-      nothing ! $ move ! (3 ∷ 0 ∷ []) $ join ! $ frame ! $ feq_i ! (List Val) us0 (vptr rb ro ∷ []) passed $ fjoin3 ! $ nothing ! $ nothing ! $ fjoin ! $
+      nothing ! $ move ! (3 ∷ 0 ∷ []) $ join ! $ frame ! $ feq_i ! (List Val) us0 (vptr rb ro ∷ []) passed $ fjoin3 ! $ nothing ! $
+      nothing ! $ fjoin ! $
       nothing ! $ fjoin ! $ move ! (1 ∷ 0 ∷ []) $ fjoin ! $ done !
 
   abbrev Had : Val → List (Item 𝓤)
@@ -95,7 +100,8 @@ module _ {M : Type 1} {𝓤 : Ura M} (𝓛 : Logic 𝓤) (at_mem : Memory → SP
       opens ! tt Ns {h = d} rb ro (λ vs. move ! (1 ∷ []) $ fsplit ! $ move ! (1 ∷ []) $
       use1 𝓛 (‵ (block_owns (at.ptr, n)) ⊛ ‵ (blocks_own (without_node at.ptr d.blocks))) (own_cut 𝓛 at.ptr d.blocks n there.1) $ split ! $
       in_a_block ! at.ptr (λ p. block_owns (p, n)) (block_none 𝓛 n) (λ b o ep. fsplit ! $
-      use1 𝓛 (some (λ (w : Val). ‵ (fat full_share (τ E) b o w) ⊛ ‵ (own E n (w ∷ [])))) (part_out 𝓛 (R E) refl full_share n b o) $ pick ! (λ w. split ! $
+      use1 𝓛 (some (λ (w : Val). ‵ (fat full_share (τ E) b o w) ⊛ ‵ (own E n (w ∷ [])))) (part_out 𝓛 (R E) refl full_share n b o) $ pick !
+      (λ w. split ! $
       -- [the node's cell; what the old node owns; the token; the others; the mark; its cell; the open borrow; obs; auth; what the new node owns]
       take_at ! 2 $ rewrite ! 0 (λ (p : Ptr). ‵ (fat full_share (layout Pl) (l 2) 0 (word p))) ep refl $ give_at ! 2 $
       first ! $ blocks ! $ assigns_last ! (of_opd ! (get ! refl)) (from ! (fld ! refl (hop ! (look_in_at ! 2 (sub ! 0 refl (whole !))) (stop !))))
@@ -128,7 +134,10 @@ set_spec 𝓤 𝓛 𝓜 𝓡 wired =
     entered 𝓤 𝓛.H (triple_of 𝓛 F.signature (F.spec 𝓛 𝓜.mem 𝓡.returns)) 𝓣.C 𝓣.Λ #self function (code.unfolded 𝓤 𝓛.H 𝓜 𝓡 wired)
     (walk_Meets 𝓛 F.ended stayed (
       Goes-ref 𝓛 1 0 tt (plain (λ _. Ns)),
-      (Goes-dropped 𝓛 1 (plain (λ _. Pl)) (F.ended).kept.1.0 (λ κs x f. refl), (Goes-dropped 𝓛 1 (plain (λ _. T)) (F.ended).kept.1.1.0 (λ κs x f. refl), tt)),
+      (
+        Goes-dropped 𝓛 1 (plain (λ _. Pl)) (F.ended).kept.1.0 (λ κs x f. refl),
+        (Goes-dropped 𝓛 1 (plain (λ _. T)) (F.ended).kept.1.1.0 (λ κs x f. refl), tt),
+      ),
     )
     (F.clauses 𝓛 𝓜.mem 𝓡.returns) (WpFn 𝓤 𝓛.H 𝓣.C 𝓣.Λ function) (WpFn-mono 𝓤 𝓛.H 𝓛.laws 𝓣 function)
     (λ z. needs 𝓤 (has_place z.0.3.1.0.ptr z.0.3.0.now.blocks ≡ true) _

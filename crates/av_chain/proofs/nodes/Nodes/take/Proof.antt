@@ -68,7 +68,8 @@ stayed = (
   ),
 )
 
-module _ {M : Type 1} {𝓤 : Ura M} (𝓛 : Logic 𝓤) (at_mem : Memory → SProp 𝓤) (run : Routine → Fun 𝓤) (C : Calls 𝓤 𝓛.H) (Λ : Loops 𝓤 𝓛.H) (κ : Lft) (q : Share)
+module _ {M : Type 1} {𝓤 : Ura M} (𝓛 : Logic 𝓤) (at_mem : Memory → SProp 𝓤) (run : Routine → Fun 𝓤) (C : Calls 𝓤 𝓛.H) (Λ : Loops 𝓤 𝓛.H)
+    (κ : Lft) (q : Share)
     (rb ro : ℕ) (γ : GName) (d : Ns.Denot) (a : Heap.the_row.Denot) (at : Pl.Denot) (us0 us1 us2 : List Val) where
   open 𝓛 use {H, A}
 
@@ -86,7 +87,8 @@ module _ {M : Type 1} {𝓤 : Ura M} (𝓛 : Logic 𝓤) (at_mem : Memory → SP
   exits passed r v new g0 =
       qed 𝓛 (‵ (fobs γ (Ns.coded.code new)) ∷ ‵ (fbor κ (Borrowed (mem Ns) rb ro γ)) ∷ ‵ (flft κ q) ∷ ‵ (Pr.own_val r (v ∷ [])) ∷ []) ∵
       suffices ! _ (ends_at 𝓛 F.ended stayed (F.clauses 𝓛 at_mem run) bound v r (new, (tt, (tt, tt))) (tt, (tt, (tt, tt)))) $ says ! g0 $
-      nothing ! $ move ! (3 ∷ 0 ∷ []) $ join ! $ frame ! $ feq_i ! (List Val) us0 (vptr rb ro ∷ []) passed $ fjoin3 ! $ nothing ! $ nothing ! $ fjoin ! $
+      nothing ! $ move ! (3 ∷ 0 ∷ []) $ join ! $ frame ! $ feq_i ! (List Val) us0 (vptr rb ro ∷ []) passed $ fjoin3 ! $ nothing ! $
+      nothing ! $ fjoin ! $
       nothing ! $ fjoin ! $ move ! (1 ∷ 0 ∷ []) $ fjoin ! $ done !
 
   abbrev Had : Val → List (Item 𝓤)
@@ -117,7 +119,8 @@ module _ {M : Type 1} {𝓤 : Ura M} (𝓛 : Logic 𝓤) (at_mem : Memory → SP
   entry : has_place at.ptr d.blocks ≡ true → ent 𝓤 (on_entry 𝓛 F.signature (κ, tt) (q, tt) (self, (a, (at, tt))) (us0, (us1, (us2, tt))))
       (WpFn 𝓤 H C Λ function (us0 ++ (us1 ++ (us2 ++ []))) Post)
   entry asked =
-      qed 𝓛 ((‵ (flft κ q) ⊛ ‵ ftrue) ∷ ‵ (owns (MutRef (named 0) κ Ns ∷ Heap.the_row ∷ Pl ∷ []) (self, (a, (at, tt))) (us0, (us1, (us2, tt)))) ∷ []) ∵
+      qed 𝓛 ((‵ (flft κ q) ⊛ ‵ ftrue) ∷ ‵
+      (owns (MutRef (named 0) κ Ns ∷ Heap.the_row ∷ Pl ∷ []) (self, (a, (at, tt))) (us0, (us1, (us2, tt)))) ∷ []) ∵
       split ! $ move ! (2 ∷ []) $ fsplit ! $ fsplit3 ! $ feq_l ! (λ e0. move ! (2 ∷ []) $ fsplit ! $ handle_tells E.al ! a us1
       (λ hv e1 fa. move ! (1 ∷ []) $ fsplit ! $ word_had ! at.ptr us2 (λ e2. keep ! (2 ∷ 3 ∷ 4 ∷ 1 ∷ []) $
       by ! (subst (λ (ws : List Val × List Val × List Val). ent 𝓤 (⋆ 𝓛 (Had hv)) (WpFn 𝓤 H C Λ function (ws.0 ++ (ws.1 ++ (ws.2 ++ []))) Post))

@@ -4,7 +4,8 @@ use Rattle.std.proofs.lemmas.Grind.{common_steps}
 use Rattle.av_io.proofs.source.MemSourceSource.read.Goals as goal
 
 -- what was read is the front of what was left
-read_front : (at n : ℕ) (bytes x rest : List ℕ) → x ≡ take n (drop at bytes) → length x ≡ n → drop at bytes ≡ take n (x ++ rest) ++ drop (at + n) bytes
+read_front : (at n : ℕ) (bytes x rest : List ℕ) → x ≡ take n (drop at bytes) → length x ≡ n
+    → drop at bytes ≡ take n (x ++ rest) ++ drop (at + n) bytes
 read_front at n bytes x rest e len =
     let parts = take-append-drop n (drop at bytes) in
     sym parts ∙ ap (λ (t : List ℕ). t ++ drop n (drop at bytes)) (sym e ∙ sym (take_at x rest n len))

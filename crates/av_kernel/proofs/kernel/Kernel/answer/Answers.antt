@@ -30,7 +30,7 @@ invariant_of-self g c =
 
 pub returns-in-Ok-clause-stands : goal.returns-in-Ok-clause-stands
 returns-in-Ok-clause-stands g c = λ s stands.
-    let d = seen_by g.D.SwapDev.sizes g.D.SwapDev.pages g.D.SwapDev.faults c.args.dev.now in
+    let d = seen_by g.D.SwapDev.sizes g.D.SwapDev.pages g.D.SwapDev.failures c.args.dev.now in
     let keeps = subst (λ (k : Machine). Keeps d k.mem s) (sym c.self.view_is) stands in
     let after = c.in-Ok.ensures.step s keeps in
     record {
@@ -38,5 +38,5 @@ returns-in-Ok-clause-stands g c = λ s stands.
       step = subst (λ (k : Machine). IsStep (setting_of k.frames d) s c.args.command.now c.perform.new.reply after.next) c.self.view_is after.step;
       same = after.same;
       stands = after.keeps;
-      faults = after.faults;
+      failures = after.failures;
     }

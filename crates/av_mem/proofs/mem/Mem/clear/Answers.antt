@@ -7,4 +7,5 @@ pub returns-in-Some-clause-entries : goal.returns-in-Some-clause-entries
 returns-in-Some-clause-entries g c = ap (λ (v : View). v.entry) c.clear_seen.ensures.cleared
 
 pub returns-in_default-clause-entries : goal.returns-in_default-clause-entries
-returns-in_default-clause-entries g c = unseen-none c.args.self.now c.args.frame _ (sym c.home.ensures ∙ c.in_default.is) (c.requires.reached c.by_number-areas.ensures.numbered)
+returns-in_default-clause-entries g c =
+    unseen-none c.args.self.now c.args.frame _ (sym c.home.ensures ∙ c.in_default.is) (c.requires.reached c.by_number-areas.ensures.numbered)

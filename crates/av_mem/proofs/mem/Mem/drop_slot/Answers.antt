@@ -18,4 +18,5 @@ returns-else-maps-eq0-clause-dropped c =
     let new : Mem = record old { frames = c.drop_ref.new.frames; swap = c.drop_ref.new.self } in
     kept-view old new c.args.slot c.in-Some.frame
     (record { tables = refl; spaces = refl; anons = refl }) refl c.drop_ref.ensures.swap _
-    (sym c.find.ensures.value ∙ c.in-Some.is) c.drop_ref.ensures.frame (ap (λ n. n == 0) (sym c.maps.ensures) ∙ not-zero c.maps.result c.if-maps-eq0.false)
+    (sym c.find.ensures.value ∙ c.in-Some.is) c.drop_ref.ensures.frame
+    (ap (λ n. n == 0) (sym c.maps.ensures) ∙ not-zero c.maps.result c.if-maps-eq0.false)

@@ -14,5 +14,6 @@ pub returns-in-Some-Failed-clause-ends : goal.returns-in-Some-Failed-clause-ends
 returns-in-Some-Failed-clause-ends g c =
     let old : Mem = c.args.self.now in
     let new : Mem = record old { frames = c.finish.new.frames; swap = c.finish.new.self } in
-    ends-failed old new c.in-Some-Failed.slot c.in-Some-Failed.frame _ _ _ _ (record { tables = refl; spaces = refl; anons = refl }) c.keeps.ensures.once
+    ends-failed old new c.in-Some-Failed.slot c.in-Some-Failed.frame _ _ _ _ (record { tables = refl; spaces = refl; anons = refl })
+    c.keeps.ensures.once
     refl c.in-Some-Failed.field-0 c.in-Some-Failed.field-0-is c.in-Some-Failed.ensures.finishes

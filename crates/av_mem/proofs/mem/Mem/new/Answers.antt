@@ -2,6 +2,7 @@ use Rattle.av_mem.proofs.MemLaws.{fresh-keeps}
 use Rattle.av_mem.proofs.mem.Mem.new.Goals as goal
 
 pub returns-clause-keeps : goal.returns-clause-keeps
-returns-clause-keeps c = λ d. fresh-keeps d c.in_ok-new.field-0 c.in_ok-new-2.field-0 c.new-3.result c.new-4.result c.new-5.result c.in_ok-new-3.field-0 c.args.frames
+returns-clause-keeps c =
+    λ d. fresh-keeps d c.in_ok-new.field-0 c.in_ok-new-2.field-0 c.new-3.result c.new-4.result c.new-5.result c.in_ok-new-3.field-0 c.args.frames
     c.in_ok-new.ensures c.in_ok-new-2.ensures c.new-3.ensures.processes
     c.new-4.ensures.processes c.new-4.ensures.areas c.new-5.ensures.family c.new-5.ensures.spans c.in_ok-new-3.ensures

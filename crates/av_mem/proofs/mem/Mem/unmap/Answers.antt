@@ -11,5 +11,6 @@ returns-clause-unmapped c =
     let mid : Mem = c.send_away.new.self in
     let new : Mem = record mid { frames = c.clear_maps.new.self } in
     away-view old between mid new c.args.frame c.args.slot refl
-    (c.in_ok-entry_up.ensures ∙ ap (λ (n : ℕ). with_entries c.args.slot ((shown_swap old.swap).entries c.args.slot + n) (shown_swap old.swap)) c.maps-count.ensures)
+    (c.in_ok-entry_up.ensures
+    ∙ ap (λ (n : ℕ). with_entries c.args.slot ((shown_swap old.swap).entries c.args.slot + n) (shown_swap old.swap)) c.maps-count.ensures)
     c.send_away.ensures.rest c.send_away.ensures.entries refl c.clear_maps.ensures

@@ -55,7 +55,11 @@ loop-part-init c =
 pub overflow_sub-i : goal.overflow_sub-i
 overflow_sub-i c =
     let good : AreParts alone 1 c.args.self.now = subst (λ v. AreParts alone 1 v) c.self.view_is c.self.invariant in
-    omega (arith, c.from.ensures, no_less c.args.self.now good c.args.first _ _ c.loop-part.invariant.gathered c.in-Some.part.now _ c.in-Some.ensures.steps)
+    omega (
+      arith,
+      c.from.ensures,
+      no_less c.args.self.now good c.args.first _ _ c.loop-part.invariant.gathered c.in-Some.part.now _ c.in-Some.ensures.steps,
+    )
 
 pub returns-then-i : goal.returns-then-i
 returns-then-i c =

@@ -42,8 +42,10 @@ loop-place-preserved g c =
     let before = subst (λ v. AreHeld (entries C.at C.span (take j v)) (C.span * 512) C.own c.loop-place.total)
     (sym c.self.view_is) c.loop-place.invariant.held in
     record {
-      held = subst (λ v. AreHeld (entries C.at C.span (take (j + 1) v)) (C.span * 512) C.own (c.loop-place.total + c.held-total.result)) c.self.view_is
-          (joined_all (entries C.at C.span (take j d.parts.items)) (entries C.at C.span (take (j + 1) d.parts.items)) (C.at p.1) C.span (C.span * 512) p.0 C.own
+      held = subst (λ v. AreHeld (entries C.at C.span (take (j + 1) v)) (C.span * 512) C.own
+          (c.loop-place.total + c.held-total.result)) c.self.view_is
+          (joined_all (entries C.at C.span (take j d.parts.items)) (entries C.at C.span (take (j + 1) d.parts.items)) (C.at p.1) C.span
+          (C.span * 512) p.0 C.own
           c.held-total.result c.loop-place.total adds c.span-span.ensures.whole (c.held-total.ensures.counts some) before);
       few = omega (arith, c.loop-place.invariant.few, c.held-total.ensures.few);
     }
@@ -64,6 +66,7 @@ returns g c =
     ) in
     record {
       few = few_all j c.loop-place.total C.span c.span-span.ensures.some small c.loop-place.invariant.few;
-      counts = subst (λ v. AreHeld (entries C.at C.span v) (C.span * 512) C.own c.loop-place.total) (take_all j c.args.self.now (rw (← c.self.view_is) all))
+      counts = subst (λ v. AreHeld (entries C.at C.span v) (C.span * 512) C.own c.loop-place.total)
+          (take_all j c.args.self.now (rw (← c.self.view_is) all))
           c.loop-place.invariant.held;
     }

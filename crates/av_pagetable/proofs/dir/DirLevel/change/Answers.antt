@@ -44,7 +44,8 @@ returns-in-Err g c =
     let within : k ≤ length d.parts.items = rw c.self.view_is c.in-Err.ensures.0 in
     let lower : AllWithin (λ part. part.0 < n) d.parts.items 0 k = rw c.self.view_is c.in-Err.ensures.1 in
     let higher : AllWithin (λ part. n < part.0) d.parts.items k (length d.parts.items) = rw c.self.view_is c.in-Err.ensures.2 in
-    let none = ap (λ v. entries C.at C.span v c.args.page) (sym c.self.view_is) ∙ absent C.at C.span d.parts.items k n c.args.page within lower higher here in
+    let none = ap (λ v. entries C.at C.span v c.args.page) (sym c.self.view_is)
+    ∙ absent C.at C.span d.parts.items k n c.args.page within lower higher here in
     absurd (c.requires.there none)
 
 pub change-requires-clause-there : goal.change-requires-clause-there
@@ -56,5 +57,6 @@ change-requires-clause-there g c =
     let is = c.index_mut-part.ensures.value in
     let within : k < length d.parts.items = rw c.self.view_is c.in-Ok.ensures.0 in
     let here : p.0 ≡ c.args.page / C.span = ap (λ part. part.0) is ∙ rw (c.self.view_is, ← c.span-span.ensures.is) (c.in-Ok.ensures.1 p) in
-    λ none. c.requires.there (ap (λ v. entries C.at C.span v c.args.page) (sym c.self.view_is) ∙ entry_there C.at C.span d.parts.items c.self.invariant k p
+    λ none. c.requires.there
+    (ap (λ v. entries C.at C.span v c.args.page) (sym c.self.view_is) ∙ entry_there C.at C.span d.parts.items c.self.invariant k p
     within is c.args.page here ∙ ap (λ s. C.at p.1 (c.args.page % s)) (sym c.span-span.ensures.is) ∙ none)

@@ -35,7 +35,8 @@ returns-in-None g c =
     let within : k < length d.parts.items = rw c.self.view_is c.in-Ok.ensures.0 in
     let number : HoldsAt (λ part. part.0 ≡ c.args.page / C.span) d.parts.items k = rw (c.self.view_is, ← c.span-span.ensures.is) c.in-Ok.ensures.1 in
     let none : (q : ℕ) → c.args.page % C.span ≤ q → entries_at C.at d.parts.items k q ≡ Empty =
-    subst (λ s. (q : ℕ) → c.args.page % s ≤ q → entries_at C.at d.parts.items k q ≡ Empty) c.span-span.ensures.is (rw c.self.view_is c.in-None.ensures) in
+    subst (λ s. (q : ℕ) → c.args.page % s ≤ q → entries_at C.at d.parts.items k q ≡ Empty) c.span-span.ensures.is
+    (rw c.self.view_is c.in-None.ensures) in
     let next : MatchOption c.first_in.result ((q : ℕ) → 0 ≤ q → entries_at C.at d.parts.items (k + 1) q ≡ Empty)
     (λ found. IsFirstIn C.at C.span d.parts.items (k + 1) 0 found) = rw c.self.view_is c.first_in.ensures in
     subst (λ v. MatchOption c.first_in.result ((q : ℕ) → c.args.page ≤ q → entries C.at C.span v q ≡ Empty)
@@ -48,7 +49,8 @@ returns-in-Err g c =
     let C = g.C.Level in
     let k = c.in-Err.place in
     let within : k ≤ length d.parts.items = rw c.self.view_is c.in-Err.ensures.0 in
-    let lower : AllWithin (λ part. part.0 < c.args.page / C.span) d.parts.items 0 k = rw (c.self.view_is, ← c.span-span.ensures.is) c.in-Err.ensures.1 in
+    let lower : AllWithin (λ part. part.0 < c.args.page / C.span) d.parts.items 0 k =
+    rw (c.self.view_is, ← c.span-span.ensures.is) c.in-Err.ensures.1 in
     let higher : AllWithin (λ part. c.args.page / C.span < part.0) d.parts.items k (length d.parts.items) =
     rw (c.self.view_is, ← c.span-span.ensures.is) c.in-Err.ensures.2 in
     let next : MatchOption c.first_in-in-Err.result ((q : ℕ) → 0 ≤ q → entries_at C.at d.parts.items k q ≡ Empty)

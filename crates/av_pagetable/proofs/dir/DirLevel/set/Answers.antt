@@ -34,7 +34,8 @@ returns-in-Ok g c =
     let here : p.0 ≡ c.args.page / C.span = ap (λ part. part.0) is ∙ rw (c.self.view_is, ← c.span-span.ensures.is) (c.in-Ok.ensures.1 p) in
     let under : c.args.page % c.span-span.result < C.span = rw c.span-span.ensures.is (mod_below c.args.page C.span c.span-span.ensures.some) in
     both_ways c.set.result _ _ _ _ c.set.ensures
-    (λ now. written C.at C.span d.parts.items c.self.invariant k p within is c.args.page c.args.entry c.set.new.self here (rw (← c.span-span.ensures.is) now)
+    (λ now. written C.at C.span d.parts.items c.self.invariant k p within is c.args.page c.args.entry c.set.new.self here
+    (rw (← c.span-span.ensures.is) now)
     ∙ ap (λ v. with_at c.args.page c.args.entry (entries C.at C.span v)) c.self.view_is)
     (λ now. stays C.at C.span d.parts.items c.self.invariant k p within is c.set.new.self now ∙ ap (entries C.at C.span) c.self.view_is)
 

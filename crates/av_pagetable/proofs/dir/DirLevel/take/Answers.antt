@@ -52,7 +52,8 @@ returns-then-is_empty-clause-gives g c =
     let here : p.0 ≡ c.args.page / C.span = ap (λ part. part.0) is ∙ rw (c.self.view_is, ← c.span-span.ensures.is) (c.in-Ok.ensures.1 p) in
     let under : c.args.page % c.span-span.result < C.span = rw c.span-span.ensures.is (mod_below c.args.page C.span c.span-span.ensures.some) in
     c.take-entry.ensures.gives ∙ ap (λ s. C.at p.1 (c.args.page % s)) c.span-span.ensures.is
-    ∙ sym (entry_there C.at C.span d.parts.items c.self.invariant k p within is c.args.page here) ∙ ap (λ v. entries C.at C.span v c.args.page) c.self.view_is
+    ∙ sym (entry_there C.at C.span d.parts.items c.self.invariant k p within is c.args.page here)
+    ∙ ap (λ v. entries C.at C.span v c.args.page) c.self.view_is
 
 pub returns-else-is_empty-clause-gives : goal.returns-else-is_empty-clause-gives
 returns-else-is_empty-clause-gives g c =
@@ -65,7 +66,8 @@ returns-else-is_empty-clause-gives g c =
     let here : p.0 ≡ c.args.page / C.span = ap (λ part. part.0) is ∙ rw (c.self.view_is, ← c.span-span.ensures.is) (c.in-Ok.ensures.1 p) in
     let under : c.args.page % c.span-span.result < C.span = rw c.span-span.ensures.is (mod_below c.args.page C.span c.span-span.ensures.some) in
     c.take-entry.ensures.gives ∙ ap (λ s. C.at p.1 (c.args.page % s)) c.span-span.ensures.is
-    ∙ sym (entry_there C.at C.span d.parts.items c.self.invariant k p within is c.args.page here) ∙ ap (λ v. entries C.at C.span v c.args.page) c.self.view_is
+    ∙ sym (entry_there C.at C.span d.parts.items c.self.invariant k p within is c.args.page here)
+    ∙ ap (λ v. entries C.at C.span v c.args.page) c.self.view_is
 
 pub returns-then-is_empty-clause-takes : goal.returns-then-is_empty-clause-takes
 returns-then-is_empty-clause-takes g c =
@@ -78,7 +80,8 @@ returns-then-is_empty-clause-takes g c =
     let here : p.0 ≡ c.args.page / C.span = ap (λ part. part.0) is ∙ rw (c.self.view_is, ← c.span-span.ensures.is) (c.in-Ok.ensures.1 p) in
     let under : c.args.page % c.span-span.result < C.span = rw c.span-span.ensures.is (mod_below c.args.page C.span c.span-span.ensures.some) in
     let same : c.match-remove.self ≡ c.remove.new.self.items = search rules in
-    ap (entries C.at C.span) (same ∙ removed_from c.remove.result _ _ c.remove.ensures.items (c.remove.ensures.succeeds p (omega (arith, within, d.parts.ok.0)))
+    ap (entries C.at C.span)
+    (same ∙ removed_from c.remove.result _ _ c.remove.ensures.items (c.remove.ensures.succeeds p (omega (arith, within, d.parts.ok.0)))
     ∙ set_removed d.parts.items k (p.0, c.take-entry.new.self))
     ∙ dropped C.at C.span d.parts.items c.self.invariant k p within is c.args.page c.take-entry.new.self here
     (rw (← c.span-span.ensures.is) c.take-entry.ensures.takes) c.if-is_empty.ensures
@@ -108,7 +111,8 @@ returns-in-Err-clause-gives g c =
     let within : k ≤ length d.parts.items = rw c.self.view_is c.in-Err.ensures.0 in
     let lower : AllWithin (λ part. part.0 < n) d.parts.items 0 k = rw c.self.view_is c.in-Err.ensures.1 in
     let higher : AllWithin (λ part. n < part.0) d.parts.items k (length d.parts.items) = rw c.self.view_is c.in-Err.ensures.2 in
-    let none = ap (λ v. entries C.at C.span v c.args.page) (sym c.self.view_is) ∙ absent C.at C.span d.parts.items k n c.args.page within lower higher here in
+    let none = ap (λ v. entries C.at C.span v c.args.page) (sym c.self.view_is)
+    ∙ absent C.at C.span d.parts.items k n c.args.page within lower higher here in
     sym none
 
 pub returns-in-Err-clause-takes : goal.returns-in-Err-clause-takes
@@ -121,7 +125,8 @@ returns-in-Err-clause-takes g c =
     let within : k ≤ length d.parts.items = rw c.self.view_is c.in-Err.ensures.0 in
     let lower : AllWithin (λ part. part.0 < n) d.parts.items 0 k = rw c.self.view_is c.in-Err.ensures.1 in
     let higher : AllWithin (λ part. n < part.0) d.parts.items k (length d.parts.items) = rw c.self.view_is c.in-Err.ensures.2 in
-    let none = ap (λ v. entries C.at C.span v c.args.page) (sym c.self.view_is) ∙ absent C.at C.span d.parts.items k n c.args.page within lower higher here in
+    let none = ap (λ v. entries C.at C.span v c.args.page) (sym c.self.view_is)
+    ∙ absent C.at C.span d.parts.items k n c.args.page within lower higher here in
     absurd (c.requires.there none)
 
 pub take-entry-requires-clause-there : goal.take-entry-requires-clause-there
@@ -133,5 +138,6 @@ take-entry-requires-clause-there g c =
     let is = c.index_mut-part.ensures.value in
     let within : k < length d.parts.items = rw c.self.view_is c.in-Ok.ensures.0 in
     let here : p.0 ≡ c.args.page / C.span = ap (λ part. part.0) is ∙ rw (c.self.view_is, ← c.span-span.ensures.is) (c.in-Ok.ensures.1 p) in
-    λ none. c.requires.there (ap (λ v. entries C.at C.span v c.args.page) (sym c.self.view_is) ∙ entry_there C.at C.span d.parts.items c.self.invariant k p
+    λ none. c.requires.there
+    (ap (λ v. entries C.at C.span v c.args.page) (sym c.self.view_is) ∙ entry_there C.at C.span d.parts.items c.self.invariant k p
     within is c.args.page here ∙ ap (λ s. C.at p.1 (c.args.page % s)) (sym c.span-span.ensures.is) ∙ none)

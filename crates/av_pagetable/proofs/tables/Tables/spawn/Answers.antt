@@ -15,7 +15,8 @@ returns-in_err-make_place-clause-entries g c = entries_kept g.T.Table.at _ _ c.m
 pub returns-clause-processes : goal.returns-clause-processes
 returns-clause-processes g c =
     let put = table_put c.make_place.new.tables.items c.args.process (Some c.in_ok-table.table) c.in_ok-make_place.ensures.place in
-    processes_put _ _ c.args.process (Some c.in_ok-table.table) (put ∙ (λ i. with_at c.args.process (Some c.in_ok-table.table) (c.make_place.ensures.same i)))
+    processes_put _ _ c.args.process (Some c.in_ok-table.table)
+    (put ∙ (λ i. with_at c.args.process (Some c.in_ok-table.table) (c.make_place.ensures.same i)))
 
 pub returns-clause-entries : goal.returns-clause-entries
 returns-clause-entries g c =

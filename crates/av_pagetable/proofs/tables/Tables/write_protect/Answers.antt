@@ -12,7 +12,8 @@ returns-in-Some-clause-protects g c =
     (c.write_protect.ensures ∙ (λ i page. read_only (at_page (c.in-Some.ensures.value i) page)))
 
 pub returns-in-Some-clause-processes : goal.returns-in-Some-clause-processes
-returns-in-Some-clause-processes g c = same_processes g.T.Table.at c.args.self.now (c.of_mut.follows.lender c.write_protect.new.self) c.args.process _ _
+returns-in-Some-clause-processes g c =
+    same_processes g.T.Table.at c.args.self.now (c.of_mut.follows.lender c.write_protect.new.self) c.args.process _ _
     (rw c.in-Some.is at (c.of_mut.follows.holds c.write_protect.new.self)) c.in-Some.ensures.value
 
 pub returns-in_default-clause-protects : goal.returns-in_default-clause-protects

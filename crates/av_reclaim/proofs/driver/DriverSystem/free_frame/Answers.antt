@@ -9,5 +9,6 @@ returns-clause-first g c = λ told. c.first.ensures ∙ at-front c.args.self.now
 
 pub returns-clause-free : goal.returns-clause-free
 returns-clause-free g c = let dev = c.args.self.now.dev.now in λ told l sound stood.
-    free-first (setting_by (as_told told (device_by (g.D.SwapDev.sizes dev) (g.D.SwapDev.pages dev) (g.D.SwapDev.faults dev))) c.args.self.now.mem.now) l
+    free-first (setting_by (as_told told (device_by (g.D.SwapDev.sizes dev) (g.D.SwapDev.pages dev) (g.D.SwapDev.failures dev)))
+    c.args.self.now.mem.now) l
     c.args.self.now.mem.now.frames.free _ c.first.ensures stood.2.free.frames

@@ -22,7 +22,8 @@ pub returns-in-Referenced-clause-makes : goal.returns-in-Referenced-clause-makes
 returns-in-Referenced-clause-makes g c = λ told. keep-makes _ _ c.args.self.now.mem.now c.to_active-in-Referenced.new.self c.args.frame c.args.cause
     (kept-as c.args.self.now.mem.now c.to_active-in-Referenced.new.self c.args.frame c.args.cause Referenced c.in-Referenced.is
     (c.to_active-in-Referenced.ensures.moved ∙ ap (λ (v : View). view_to_active c.args.frame v) c.unsee.ensures.unseen))
-    (parts-then c.args.self.now.mem.now c.unsee.new.self c.to_active-in-Referenced.new.self c.unsee.ensures.parts c.to_active-in-Referenced.ensures.parts)
+    (parts-then c.args.self.now.mem.now c.unsee.new.self c.to_active-in-Referenced.new.self c.unsee.ensures.parts
+    c.to_active-in-Referenced.ensures.parts)
 
 pub returns-in-Writeback-clause-stays : goal.returns-in-Writeback-clause-stays
 returns-in-Writeback-clause-stays g c = λ told. mem-stays _ _ _ _ c.to_head.ensures.parts

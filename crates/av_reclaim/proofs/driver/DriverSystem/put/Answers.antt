@@ -9,7 +9,8 @@ put-requires-clause-uncached g c = put-uncached _ _ _ _ _ _ c.args.frame c.requi
 
 pub returns-clause-slot : goal.returns-clause-slot
 returns-clause-slot g c = let dev = c.args.self.now.dev.now in λ told.
-    put-slot [] (as_told told (device_by (g.D.SwapDev.sizes dev) (g.D.SwapDev.pages dev) (g.D.SwapDev.faults dev))) c.args.self.now.mem.now c.put.new.self
+    put-slot [] (as_told told (device_by (g.D.SwapDev.sizes dev) (g.D.SwapDev.pages dev) (g.D.SwapDev.failures dev)))
+    c.args.self.now.mem.now c.put.new.self
     c.args.frame c.put.result c.put.ensures.put
 
 pub returns-clause-puts : goal.returns-clause-puts

@@ -15,7 +15,8 @@ unreachable-requires c = not_dead (area_of c.self.inside.areas) c.self.inside.tr
 
 pub areas_at-requires : goal.areas_at-requires
 areas_at-requires c =
-    let spans = c.deref-2.ensures.value ∙ c.in_ok-append_to.ensures ∙ ap (λ (spans : List Span). spans ++ c.in-Some.tree.now) c.new-spans.ensures.items in
+    let spans = c.deref-2.ensures.value ∙ c.in_ok-append_to.ensures
+    ∙ ap (λ (spans : List Span). spans ++ c.in-Some.tree.now) c.new-spans.ensures.items in
     let was = ap (λ ts. tree_at ts c.args.process) (sym c.deref.ensures.value) ∙ sym c.in-Some.ensures in (
       c.args.process,
       subst (AreAreasOf c.args.process (area_of c.self.inside.areas)) (sym spans)
@@ -24,19 +25,24 @@ areas_at-requires c =
 
 pub returns-clause-areas : goal.returns-clause-areas
 returns-clause-areas c =
-    let spans = c.deref-2.ensures.value ∙ c.in_ok-append_to.ensures ∙ ap (λ (spans : List Span). spans ++ c.in-Some.tree.now) c.new-spans.ensures.items in
+    let spans = c.deref-2.ensures.value ∙ c.in_ok-append_to.ensures
+    ∙ ap (λ (spans : List Span). spans ++ c.in-Some.tree.now) c.new-spans.ensures.items in
     let was = ap (λ ts. tree_at ts c.args.process) (sym c.deref.ensures.value) ∙ sym c.in-Some.ensures in
     if_each c.areas_at.result (λ list. list.items ≡ areas_by (area_of c.self.inside.areas) c.deref-2.result.now)
     (λ list. areas_of c.args.self.now.processes c.args.process ≡ Some list.items)
-    (λ list is. sym (ap (λ s. areas_of s c.args.process) (processes_are c.self.view_is)) ∙ areas_are (area_of c.self.inside.areas) c.self.inside.trees.items
+    (λ list is. sym (ap (λ s. areas_of s c.args.process) (processes_are c.self.view_is))
+    ∙ areas_are (area_of c.self.inside.areas) c.self.inside.trees.items
     c.args.process ∙ ap (option_map (areas_by (area_of c.self.inside.areas))) was ∙ ap (λ spans. Some (areas_by (area_of c.self.inside.areas) spans))
     (sym spans) ∙ ap Some (sym is)) c.areas_at.ensures
 
 pub returns-clause-rising : goal.returns-clause-rising
 returns-clause-rising c =
-    let spans = c.deref-2.ensures.value ∙ c.in_ok-append_to.ensures ∙ ap (λ (spans : List Span). spans ++ c.in-Some.tree.now) c.new-spans.ensures.items in
+    let spans = c.deref-2.ensures.value ∙ c.in_ok-append_to.ensures
+    ∙ ap (λ (spans : List Span). spans ++ c.in-Some.tree.now) c.new-spans.ensures.items in
     let was = ap (λ ts. tree_at ts c.args.process) (sym c.deref.ensures.value) ∙ sym c.in-Some.ensures in
-    if_each c.areas_at.result (λ list. list.items ≡ areas_by (area_of c.self.inside.areas) c.deref-2.result.now) (λ list. AreRising c.args.process list.items)
+    if_each c.areas_at.result (λ list. list.items ≡ areas_by (area_of c.self.inside.areas) c.deref-2.result.now)
+    (λ list. AreRising c.args.process list.items)
     (λ list is. subst (AreRising c.args.process) (sym (is ∙ ap (areas_by (area_of c.self.inside.areas)) spans))
     (rising_of (area_of c.self.inside.areas) c.args.process c.in-Some.tree.now
-    (tree_of (area_of c.self.inside.areas) c.self.inside.trees.items c.args.process c.in-Some.tree.now c.self.invariant.trees was))) c.areas_at.ensures
+    (tree_of (area_of c.self.inside.areas) c.self.inside.trees.items c.args.process c.in-Some.tree.now c.self.invariant.trees was)))
+    c.areas_at.ensures

@@ -4,4 +4,5 @@ use Rattle.av_spaces.proofs.Trees.{processes_are, count_is}
 use Rattle.av_spaces.proofs.spaces.Spaces.count.Goals as goal
 
 pub returns : goal.returns
-returns c = sym c.self.invariant.alive ∙ sym (count_is (area_of c.self.inside.areas) c.self.inside.trees.items) ∙ ap length (processes_are c.self.view_is)
+returns c = sym c.self.invariant.alive ∙ sym (count_is (area_of c.self.inside.areas) c.self.inside.trees.items)
+    ∙ ap length (processes_are c.self.view_is)

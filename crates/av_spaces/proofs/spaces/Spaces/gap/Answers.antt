@@ -13,5 +13,6 @@ returns-in_err-tree c = absurd (not_dead (area_of c.self.inside.areas) c.self.in
 
 pub returns : goal.returns
 returns c = subst (λ test. IsGap test c.args.pages c.gap.result)
-    (taken_as (area_of c.self.inside.areas) c.self.inside.trees.items c.args.process c.in_ok-tree.tree.now c.args.self.now.processes c.self.invariant.trees
+    (taken_as (area_of c.self.inside.areas) c.self.inside.trees.items c.args.process c.in_ok-tree.tree.now c.args.self.now.processes
+    c.self.invariant.trees
     (sym (ap (λ ts. tree_at ts c.args.process) (sym c.deref.ensures.value) ∙ sym c.in_ok-tree.ensures)) (processes_are c.self.view_is)) c.gap.ensures

@@ -19,7 +19,8 @@ pub invariant_of-self : goal.invariant_of-self
 invariant_of-self c =
     let out = is_out c.self.inside.areas c.self.inside.trees.items c.take_tree-tree.new.trees.items c.self.inside.alive c.args.self.now c.args.process
     c.take_tree-tree.result c.self.view_is c.self.invariant c.take_tree-tree.ensures.tree c.take_tree-tree.ensures.trees in
-    has_back out c.grow-result.new.areas c.grow-result.new.tree (c.grow-result.ensures.stands c.args.process) c.put_tree.new.trees.items c.put_tree.ensures
+    has_back out c.grow-result.new.areas c.grow-result.new.tree (c.grow-result.ensures.stands c.args.process) c.put_tree.new.trees.items
+    c.put_tree.ensures
 
 pub grow-result-requires-clause-stands : goal.grow-result-requires-clause-stands
 grow-result-requires-clause-stands c =

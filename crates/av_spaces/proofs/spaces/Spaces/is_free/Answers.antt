@@ -14,11 +14,15 @@ unreachable-requires c = not_dead (area_of c.self.inside.areas) c.self.inside.tr
 pub returns-clause-free : goal.returns-clause-free
 returns-clause-free c =
     subst (λ test. c.is_free.result ≡ true → IsFree test c.args.from (c.args.from + c.args.pages))
-    (taken_as (area_of c.self.inside.areas) c.self.inside.trees.items c.args.process c.in-Some.tree.now c.args.self.now.processes c.self.invariant.trees
-    (sym (ap (λ ts. tree_at ts c.args.process) (sym c.deref.ensures.value) ∙ sym c.in-Some.ensures)) (processes_are c.self.view_is)) c.is_free.ensures.free
+    (taken_as (area_of c.self.inside.areas) c.self.inside.trees.items c.args.process c.in-Some.tree.now c.args.self.now.processes
+    c.self.invariant.trees
+    (sym (ap (λ ts. tree_at ts c.args.process) (sym c.deref.ensures.value) ∙ sym c.in-Some.ensures)) (processes_are c.self.view_is))
+    c.is_free.ensures.free
 
 pub returns-clause-met : goal.returns-clause-met
 returns-clause-met c =
     subst (λ test. c.is_free.result ≡ false → IsMet test c.args.from (c.args.from + c.args.pages))
-    (taken_as (area_of c.self.inside.areas) c.self.inside.trees.items c.args.process c.in-Some.tree.now c.args.self.now.processes c.self.invariant.trees
-    (sym (ap (λ ts. tree_at ts c.args.process) (sym c.deref.ensures.value) ∙ sym c.in-Some.ensures)) (processes_are c.self.view_is)) c.is_free.ensures.met
+    (taken_as (area_of c.self.inside.areas) c.self.inside.trees.items c.args.process c.in-Some.tree.now c.args.self.now.processes
+    c.self.invariant.trees
+    (sym (ap (λ ts. tree_at ts c.args.process) (sym c.deref.ensures.value) ∙ sym c.in-Some.ensures)) (processes_are c.self.view_is))
+    c.is_free.ensures.met

@@ -35,14 +35,16 @@ returns-clause-areas c =
     (AreThese (after_prepare (lengths old c.args.anons.now) c.args.anons.now.next c.args.page before))) areas
     (changes_still (area_of c.self.inside.areas) (area_of c.prepare.new.areas) c.self.inside.trees.items c.args.process c.in-Some.tree.now
     c.self.invariant.trees was (c.prepare.ensures.stands c.args.process) c.args.self.now.processes (processes_are c.self.view_is)
-    (λ on. AreThese (after_prepare (lengths c.self.inside.areas c.args.anons.now) c.args.anons.now.next c.args.page on)) pages)) c.prepare.ensures.pages
+    (λ on. AreThese (after_prepare (lengths c.self.inside.areas c.args.anons.now) c.args.anons.now.next c.args.page on)) pages))
+    c.prepare.ensures.pages
 
 pub returns-clause-anons : goal.returns-clause-anons
 returns-clause-anons c =
     let was = ap (λ ts. tree_at ts c.args.process) (sym c.deref.ensures.value) ∙ sym c.in-Some.ensures in
     let still = trees_still (area_of c.self.inside.areas) (area_of c.prepare.new.areas) c.self.inside.trees.items c.args.process c.in-Some.tree.now
     c.self.invariant.trees was (c.prepare.ensures.stands c.args.process) in
-    on_ok c.prepare.result (λ kin. anons_prepare_by c.self.inside.areas c.prepare.new.areas c.self.inside.trees.items c.args.anons.now c.prepare.new.anons
+    on_ok c.prepare.result
+    (λ kin. anons_prepare_by c.self.inside.areas c.prepare.new.areas c.self.inside.trees.items c.args.anons.now c.prepare.new.anons
     c.args.process c.args.page c.in-Some.tree.now c.args.self.now c.self.view_is c.self.invariant.trees still was kin) c.prepare.ensures.kin
 
 pub returns-clause-home : goal.returns-clause-home

@@ -65,5 +65,6 @@ pub returns-clause-anons : goal.returns-clause-anons
 returns-clause-anons c =
     let out = is_out c.self.inside.areas c.self.inside.trees.items c.take_tree-tree.new.trees.items c.self.inside.alive c.args.self.now c.args.process
     c.take_tree-tree.result c.self.view_is c.self.invariant c.take_tree-tree.ensures.tree c.take_tree-tree.ensures.trees in
-    on_ok c.modify-result.result (λ kin. anons_back out c.modify-result.new.areas c.modify-result.new.tree (c.modify-result.ensures.stands c.args.process)
+    on_ok c.modify-result.result
+    (λ kin. anons_back out c.modify-result.new.areas c.modify-result.new.tree (c.modify-result.ensures.stands c.args.process)
     c.put_tree.new.trees.items c.put_tree.ensures c.args.anons.now c.modify-result.new.anons c.requires.order kin) c.modify-result.ensures.kin

@@ -34,7 +34,8 @@ invariant_of-self-2 c =
           (processes_are c.self.view_is) c.requires (stays_empty f c.args.process c.new.result c.new.ensures) g place;
       alive = count_spawned f f c.self.inside.trees.items c.make_place.new.trees.items c.args.process c.new.result
           c.args.self.now.processes c.self.invariant.trees
-          (processes_are c.self.view_is) c.requires (stays_empty f c.args.process c.new.result c.new.ensures) g place ∙ ap (λ n. n + 1) c.self.invariant.alive;
+          (processes_are c.self.view_is) c.requires (stays_empty f c.args.process c.new.result c.new.ensures) g place
+          ∙ ap (λ n. n + 1) c.self.invariant.alive;
       few = simp length-set (g.few c.self.invariant.few);
     })
 
@@ -60,7 +61,8 @@ returns-clause-anons c = λ anons order.
     c.args.self.now.processes c.self.invariant.trees
     (processes_are c.self.view_is) c.requires (stays_empty f c.args.process c.new.result c.new.ensures) c.make_place.ensures.grown
     c.in_ok-make_place.ensures.place in
-    anons_stay_by c.self.inside.areas c.self.inside.areas c.self.inside.trees.items c.put_tree.new.trees.items anons anons c.args.self.now c.self.view_is
+    anons_stay_by c.self.inside.areas c.self.inside.areas c.self.inside.trees.items c.put_tree.new.trees.items anons anons
+    c.args.self.now c.self.view_is
     c.self.invariant.trees (subst (AreTrees f) (sym c.put_tree.ensures) trees) order
     (record {
       order = order_in c.self.inside.areas c.self.inside.trees.items c.args.self.now anons c.self.view_is order;

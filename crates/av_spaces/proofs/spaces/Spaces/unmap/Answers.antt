@@ -19,7 +19,8 @@ pub invariant_of-self : goal.invariant_of-self
 invariant_of-self c =
     let out = is_out c.self.inside.areas c.self.inside.trees.items c.take_tree-tree.new.trees.items c.self.inside.alive c.args.self.now c.args.process
     c.take_tree-tree.result c.self.view_is c.self.invariant c.take_tree-tree.ensures.tree c.take_tree-tree.ensures.trees in
-    has_back out c.unmap-result.new.areas c.unmap-result.new.tree (c.unmap-result.ensures.stands c.args.process) c.put_tree.new.trees.items c.put_tree.ensures
+    has_back out c.unmap-result.new.areas c.unmap-result.new.tree (c.unmap-result.ensures.stands c.args.process) c.put_tree.new.trees.items
+    c.put_tree.ensures
 
 pub unmap-result-requires-clause-stands : goal.unmap-result-requires-clause-stands
 unmap-result-requires-clause-stands c =
@@ -31,7 +32,8 @@ pub returns-clause-areas : goal.returns-clause-areas
 returns-clause-areas c =
     let out = is_out c.self.inside.areas c.self.inside.trees.items c.take_tree-tree.new.trees.items c.self.inside.alive c.args.self.now c.args.process
     c.take_tree-tree.result c.self.view_is c.self.invariant c.take_tree-tree.ensures.tree c.take_tree-tree.ensures.trees in
-    on_ok c.unmap-result.result (λ pages. is_changed out c.unmap-result.new.areas c.unmap-result.new.tree (c.unmap-result.ensures.stands c.args.process)
+    on_ok c.unmap-result.result
+    (λ pages. is_changed out c.unmap-result.new.areas c.unmap-result.new.tree (c.unmap-result.ensures.stands c.args.process)
     c.put_tree.new.trees.items c.put_tree.ensures
     (λ all on. AreThese (after_unmap c.args.from (c.args.from + c.args.pages) on)) pages) c.unmap-result.ensures.pages
 

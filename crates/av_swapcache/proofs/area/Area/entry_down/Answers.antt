@@ -11,7 +11,8 @@ invariant_of-self c =
     let counted = subst (λ (v : AreaStore). 0 < count_in (area_shown v) c.args.page) (sym c.self.view_is) c.requires.used in
     let used = count_is_used (the_view a) c.args.page c.self.invariant counted in
     down_stays a.header c.args.page (shown_counts a.counts) (shown_counts c.sub.new.self) a.clusters.pages a.cache.items
-    ((shown_counts a.counts).count c.args.page - c.args.n) c.give_unused.new.clusters.pages c.self.invariant used c.sub.ensures c.give_unused.ensures.pages
+    ((shown_counts a.counts).count c.args.page - c.args.n) c.give_unused.new.clusters.pages c.self.invariant used c.sub.ensures
+    c.give_unused.ensures.pages
 
 pub returns : goal.returns
 returns c =

@@ -16,6 +16,7 @@ returns-clause-gives c =
     let is = free_is a.header c.in-Some.page (shown_counts a.counts) (shown_counts a.counts) a.clusters.pages a.cache.items c.self.invariant
     c.in-Some.ensures.slot.0 in
     gave (the_view a) c.set_cached.new.self c.in-Some.page c.args.self.now
-    (record (the_view a) { counts = c.set_cached.new.self; slots = c.take.new.self; cache = slice_set a.cache.items c.in-Some.page (Some c.args.frame) })
+    (record (the_view a)
+    { counts = c.set_cached.new.self; slots = c.take.new.self; cache = slice_set a.cache.items c.in-Some.page (Some c.args.frame) })
     c.args.frame c.self.view_is c.in-Some.ensures.gave
     (shown_put (the_view a) c.set_cached.new.self c.in-Some.page (Some c.args.frame) c.take.new.self c.set_cached.ensures is.4)

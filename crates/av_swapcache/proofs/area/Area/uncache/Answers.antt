@@ -19,5 +19,6 @@ returns c =
     let cached = subst (λ (v : AreaStore). is_some ((area_shown v).find c.args.page) ≡ true) (sym c.self.view_is) c.requires in
     let used = cached_is_used (the_view a) c.args.page c.self.invariant cached in
     let is = used_is a.header c.args.page (shown_counts a.counts) (shown_counts a.counts) a.clusters.pages a.cache.items c.self.invariant used in
-    rw (← c.self.view_is) (shown_uncached (the_view a) c.set_cached.new.self c.args.page c.give_unused.new.clusters c.self.invariant c.set_cached.ensures is.5
+    rw (← c.self.view_is)
+    (shown_uncached (the_view a) c.set_cached.new.self c.args.page c.give_unused.new.clusters c.self.invariant c.set_cached.ensures is.5
     c.give_unused.ensures.slots)

@@ -9,8 +9,10 @@ use Rattle.av_swapcache.proofs.swap.Swap.drop_ref.Goals as goal
 pub invariant_of-self : goal.invariant_of-self
 invariant_of-self c =
     let back = rw c.in-Some-of_mut.is at (c.of_mut.follows.holds c.uncache.new.self) in
-    drop_whole (the_view c.self.inside) (c.of_mut.follows.lender c.uncache.new.self).areas.items c.args.slot.area c.in-Some-of_mut.area.now c.uncache.new.self
-    _ _ c.in-Some-of_mut.ensures.value back c.self.invariant c.args.slot.page c.in-Some.frame (λ i. (c.uncache.ensures i).find) (sym c.in-Some.ensures.frame)
+    drop_whole (the_view c.self.inside) (c.of_mut.follows.lender c.uncache.new.self).areas.items c.args.slot.area c.in-Some-of_mut.area.now
+    c.uncache.new.self
+    _ _ c.in-Some-of_mut.ensures.value back c.self.invariant c.args.slot.page c.in-Some.frame (λ i. (c.uncache.ensures i).find)
+    (sym c.in-Some.ensures.frame)
     (subst (λ (v : Store). list_any (same_slot c.args.slot) v.flight ≡ false) (sym c.self.view_is) c.requires.not_flying)
 
 pub returns-clause-swap : goal.returns-clause-swap
@@ -18,5 +20,6 @@ returns-clause-swap c =
     let back = rw c.in-Some-of_mut.is at (c.of_mut.follows.holds c.uncache.new.self) in
     after (the_view c.self.inside) c.args.self.now (c.of_mut.follows.lender c.uncache.new.self).areas.items c.args.slot.area c.uncache.new.self
     (λ h. given_back c.args.slot (with_find c.args.slot None h)) c.self.view_is back
-    (shown_dropped (the_view c.self.inside) c.args.slot.area c.in-Some-of_mut.area.now c.uncache.new.self (sym c.in-Some-of_mut.ensures.value) c.args.slot.page
+    (shown_dropped (the_view c.self.inside) c.args.slot.area c.in-Some-of_mut.area.now c.uncache.new.self (sym c.in-Some-of_mut.ensures.value)
+    c.args.slot.page
     c.uncache.ensures)

@@ -20,7 +20,8 @@ pub returns-clause-finishes : goal.returns-clause-finishes
 returns-clause-finishes g c =
     let ok = sym c.is_err.ensures.value ∙ c.if-is_err.false in (
       c.bytes.result.now,
-      was_first (the_view c.self.inside) c.args.self.now c.in_ok-slot.slot c.in-Some.frame c.bytes.result.now c.pop_front.new.self.items _ c.self.view_is
+      was_first (the_view c.self.inside) c.args.self.now c.in_ok-slot.slot c.in-Some.frame c.bytes.result.now c.pop_front.new.self.items
+          _ c.self.view_is
           c.in_ok-slot.ensures.items c.in-Some.ensures.frame c.in-Some.ensures.slot c.bytes.ensures.long c.bytes.ensures.bytes,
       on_ok c.write.result _ c.write.ensures.written ok,
       refl,

@@ -9,7 +9,8 @@ pub returns-in-Some : goal.returns-in-Some
 returns-in-Some c =
     let w = c.self.invariant in
     flies_is (the_view c.self.inside) c.args.self.now _ _ c.args.slot c.self.view_is w c.index.result.now
-    (c.index.ensures ∙ any_default c.self.inside.writing.items c.in-Some.frame c.index.result.now false (w.in_range c.args.slot c.in-Some.frame (sym c.in-Some.ensures.frame))
+    (c.index.ensures ∙ any_default c.self.inside.writing.items c.in-Some.frame c.index.result.now false
+    (w.in_range c.args.slot c.in-Some.frame (sym c.in-Some.ensures.frame))
     ∙ ap (is_writing c.self.inside.writing.items) c.in-Some.ensures.frame)
 
 pub returns-in-None : goal.returns-in-None

@@ -17,14 +17,16 @@ read-requires-clause-there g c =
 pub invariant_of-self : goal.invariant_of-self
 invariant_of-self g c =
     let back = rw c.in-Some.is at (c.of_mut.follows.holds c.in-Some.area.now) in
-    kept_whole (the_view c.self.inside) (c.of_mut.follows.lender c.in-Some.area.now).areas.items c.args.slot.area c.in-Some.area.now c.in-Some.area.now
+    kept_whole (the_view c.self.inside) (c.of_mut.follows.lender c.in-Some.area.now).areas.items c.args.slot.area c.in-Some.area.now
+    c.in-Some.area.now
     _ _ c.in-Some.ensures.value back c.self.invariant refl
 
 pub returns-then-is_err-clause-loads : goal.returns-then-is_err-clause-loads
 returns-then-is_err-clause-loads g c =
     let back = rw c.in-Some.is at (c.of_mut.follows.holds c.in-Some.area.now) in
     both (after (the_view c.self.inside) c.args.self.now (c.of_mut.follows.lender c.in-Some.area.now).areas.items c.args.slot.area c.in-Some.area.now
-    (λ h. h) c.self.view_is back (shown_same (the_view c.self.inside) c.args.slot.area c.in-Some.area.now c.in-Some.area.now (sym c.in-Some.ensures.value) refl))
+    (λ h. h) c.self.view_is back
+    (shown_same (the_view c.self.inside) c.args.slot.area c.in-Some.area.now c.in-Some.area.now (sym c.in-Some.ensures.value) refl))
     refl
 
 pub invariant_of-self-2 : goal.invariant_of-self-2
@@ -43,7 +45,8 @@ returns-clause-loads g c =
       page = c.read.new.into;
       long = search rules;
       holds = on_ok c.read.result _ c.read.ensures.bytes (sym c.is_err.ensures.value ∙ c.if-is_err.false);
-      frame = c.set_dirty.ensures ∙ ap (with_dirty c.args.frame false) (c.set_slot.ensures ∙ ap (with_frame_slot c.args.frame (Some c.args.slot)) c.load.ensures);
+      frame = c.set_dirty.ensures
+          ∙ ap (with_dirty c.args.frame false) (c.set_slot.ensures ∙ ap (with_frame_slot c.args.frame (Some c.args.slot)) c.load.ensures);
       swap = after (the_view c.self.inside) c.args.self.now (c.of_mut.follows.lender c.cache.new.self).areas.items c.args.slot.area c.cache.new.self
           (with_find c.args.slot (Some c.args.frame)) c.self.view_is back
           (shown_found (the_view c.self.inside) c.args.slot.area c.in-Some.area.now c.cache.new.self (sym c.in-Some.ensures.value) c.args.slot.page

@@ -12,14 +12,16 @@ unreachable-requires c = gives_is_on (the_view c.self.inside) c.args.self.now c.
     c.in_default.ensures.value
 
 pub put-requires : goal.put-requires
-put-requires c = gives_some (the_view c.self.inside) c.args.self.now c.in_ok-number.number c.in-Some.area.now c.self.view_is c.in_ok-number.ensures.gives
+put-requires c = gives_some (the_view c.self.inside) c.args.self.now c.in_ok-number.number c.in-Some.area.now c.self.view_is
+    c.in_ok-number.ensures.gives
     c.in-Some.ensures.value
 
 pub invariant_of-self : goal.invariant_of-self
 invariant_of-self c =
     let back = rw c.in-Some.is at (c.of_mut.follows.holds c.put.new.self) in
     let s = the_view c.self.inside in
-    let unused = unused_is s c.args.self.now c.in_ok-number.number c.put.result c.in-Some.area.now c.self.view_is c.in-Some.ensures.value c.put.ensures.unused in
+    let unused = unused_is s c.args.self.now c.in_ok-number.number c.put.result c.in-Some.area.now c.self.view_is c.in-Some.ensures.value
+    c.put.ensures.unused in
     put_whole s (c.of_mut.follows.lender c.put.new.self).areas.items c.in_ok-number.number c.in-Some.area.now c.put.new.self
     _ _ c.in-Some.ensures.value back c.self.invariant c.put.result c.args.frame
     (put_find c.in-Some.area.now c.put.new.self c.put.result c.args.frame (take_slot (area_shown c.in-Some.area.now).slots) c.put.ensures.gives)
@@ -31,7 +33,8 @@ pub returns : goal.returns
 returns c =
     let back = rw c.in-Some.is at (c.of_mut.follows.holds c.put.new.self) in
     let s = the_view c.self.inside in
-    let unused = unused_is s c.args.self.now c.in_ok-number.number c.put.result c.in-Some.area.now c.self.view_is c.in-Some.ensures.value c.put.ensures.unused in
+    let unused = unused_is s c.args.self.now c.in_ok-number.number c.put.result c.in-Some.area.now c.self.view_is c.in-Some.ensures.value
+    c.put.ensures.unused in
     let given = put_shown s c.args.self.now (c.of_mut.follows.lender c.put.new.self).areas.items c.in_ok-number.number c.put.result c.args.frame
     c.in-Some.area.now c.put.new.self c.self.view_is c.in-Some.ensures.value back c.put.ensures.gives in
     record {

@@ -9,6 +9,7 @@ push_back_reserved-requires c = has_room _ _ _ _ _ _ c.args.slot c.in-Some.frame
     (subst (λ (v : Store). list_any (same_slot c.args.slot) v.flight ≡ false) (sym c.self.view_is) c.requires.not_flying)
 
 pub invariant_of-self : goal.invariant_of-self
-invariant_of-self c = rw c.push_back_reserved.ensures.items (whole_start _ _ _ _ _ _ c.args.slot c.in-Some.frame _ _ c.self.invariant (sym c.in-Some.ensures.frame)
+invariant_of-self c =
+    rw c.push_back_reserved.ensures.items (whole_start _ _ _ _ _ _ c.args.slot c.in-Some.frame _ _ c.self.invariant (sym c.in-Some.ensures.frame)
     (subst (λ (v : Store). list_any (same_slot c.args.slot) v.flight ≡ false) (sym c.self.view_is) c.requires.not_flying)
     c.push_back_reserved.ensures.len c.push_back_reserved.ensures.capacity)

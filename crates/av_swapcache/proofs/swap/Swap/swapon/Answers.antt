@@ -22,14 +22,17 @@ new-requires g c =
 
 pub invariant_of-self : goal.invariant_of-self
 invariant_of-self g c =
-    let below : c.args.area < length (the_view c.self.inside).areas = let w = c.self.invariant.eight in let r = c.requires.number in omega (arith, w, r) in
+    let below : c.args.area < length (the_view c.self.inside).areas = let w = c.self.invariant.eight in let r = c.requires.number in
+    omega (arith, w, r) in
     on_whole (the_view c.self.inside) c.args.self.now c.args.area c.in_ok-new.field-0 c.in-Ok.header c.args.priority c.deref.result.now c.self.view_is
     (sym c.is_on.ensures ∙ c.if-is_on.false) below
-    (c.in_ok-new.ensures ∙ same_area c.in-Ok.header _ c.args.priority c.deref.result.now c.deref.result.now (omega (arith, ints)) refl) _ _ c.self.invariant
+    (c.in_ok-new.ensures ∙ same_area c.in-Ok.header _ c.args.priority c.deref.result.now c.deref.result.now (omega (arith, ints)) refl) _ _
+    c.self.invariant
 
 pub returns-clause-answers : goal.returns-clause-answers
 returns-clause-answers g c =
-    let below : c.args.area < length (the_view c.self.inside).areas = let w = c.self.invariant.eight in let r = c.requires.number in omega (arith, w, r) in
+    let below : c.args.area < length (the_view c.self.inside).areas = let w = c.self.invariant.eight in let r = c.requires.number in
+    omega (arith, w, r) in
     let off = sym c.is_on.ensures ∙ c.if-is_on.false in
     let layout = answered (header_of c.read.new.into c.args.pages) c.in-Ok.header c.in-Ok.ensures.exact in (
       off,

@@ -8,5 +8,5 @@ returns-clause-users g c =
     let driver = c.args.self.now in
     let dev = driver.dev.now in
     all-told (λ users. users.items) (driver.mem.ghost_name ∷ driver.dev.ghost_name ∷ [])
-    (λ (told : Bool). as_told told (device_by (g.D.SwapDev.sizes dev) (g.D.SwapDev.pages dev) (g.D.SwapDev.faults dev)))
+    (λ (told : Bool). as_told told (device_by (g.D.SwapDev.sizes dev) (g.D.SwapDev.pages dev) (g.D.SwapDev.failures dev)))
     driver.mem.now c.args.area c.users.result c.users.ensures.users

@@ -24,7 +24,8 @@ down-preserved c =
 pub returns-else-span-page : goal.returns-else-span-page
 returns-else-span-page c =
     let s = c.in-Some in
-    let here = at_here c.args.page c.down.part s.left s.span s.right s.ensures.parts.entries c.down.invariant.1 c.if-page-span.false c.if-span-page.false
+    let here = at_here c.args.page c.down.part s.left s.span s.right s.ensures.parts.entries c.down.invariant.1 c.if-page-span.false
+    c.if-span-page.false
     ∙ c.down.invariant.0 in
     record {
       area = here;
@@ -33,7 +34,10 @@ returns-else-span-page c =
     }
 
 pub down-init : goal.down-init
-down-init c = (ap (λ d. area_at d c.args.page) (c.part-part.ensures ∙ c.self.view_is), subst AreApart (sym c.part-part.ensures) c.self.invariant.apart)
+down-init c = (
+  ap (λ d. area_at d c.args.page) (c.part-part.ensures ∙ c.self.view_is),
+  subst AreApart (sym c.part-part.ensures) c.self.invariant.apart,
+)
 
 pub down-smaller-then-page-span : goal.down-smaller-then-page-span
 down-smaller-then-page-span c =

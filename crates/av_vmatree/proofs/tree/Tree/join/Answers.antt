@@ -29,7 +29,8 @@ invariant_of-self c =
     let low = r.lower in
     let high = r.upper in
     let some : a.from < a.to = omega arith in
-    (joined (span a.area a.from a.to) a.other a.at (span a.area a.from a.at) (span a.other a.at a.to) c.self.inside.spans a.self.now c.join.new.self refl refl
+    (joined (span a.area a.from a.to) a.other a.at (span a.area a.from a.at) (span a.other a.at a.to) c.self.inside.spans a.self.now
+    c.join.new.self refl refl
     c.self.view_is c.self.invariant r.there r.before some r.high r.free c.join.ensures.entries).good
 
 pub returns : goal.returns
@@ -39,7 +40,8 @@ returns c =
     let low = r.lower in
     let high = r.upper in
     let some : a.from < a.to = omega arith in
-    let h = joined (span a.area a.from a.to) a.other a.at (span a.area a.from a.at) (span a.other a.at a.to) c.self.inside.spans a.self.now c.join.new.self refl
+    let h = joined (span a.area a.from a.to) a.other a.at (span a.area a.from a.at) (span a.other a.at a.to) c.self.inside.spans a.self.now
+    c.join.new.self refl
     refl c.self.view_is c.self.invariant r.there r.before some r.high r.free c.join.ensures.entries in
     record {
       spans = h.spans;

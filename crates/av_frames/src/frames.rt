@@ -1,0 +1,285 @@
+//! The frames: their bytes, and what is kept of each.
+
+ghost use Rattle.std.specs.Prelude.{◌≡◌, ℕ, ◌+◌, ◌<◌, ◌≤◌, ◌^◌, ◌-◌, ◌∷◌, ◌==◌, [], length};
+ghost use Rattle.std.specs.Prelude.{slice_index, MatchOption, IfOk, true, false, replicate, not};
+ghost use Rattle.av_frames.specs.Store.{shown, first_of, fresh, overlaid, with_bytes, with_maps};
+ghost use Rattle.av_frames.specs.Store.{with_home, with_dirty, with_slot};
+ghost use Rattle.av_base.specs.Page.{page_size};
+ghost use Rattle.av_base.specs.Words.{is_in, how_many};
+ghost use Rattle.std.specs.List.{range_with_len};
+ghost use Rattle.std.specs.VecDeque.{deque_len, deque_capacity};
+
+use crate::pages::{Pages, SIZE};
+use av_base::Slot;
+use std::alloc::{AllocError, Global};
+use std::collections::VecDeque;
+use std::marker::Model;
+
+/// A fixed number of frames of a page each, numbered from 0. Only `new` takes memory.
+#[derive(Drop)]
+pub struct Frames {
+    /// The first is taken next. There is room for every frame, so that giving back takes no memory.
+    free: VecDeque<u32>,
+    bytes: Pages,
+    /// Whether each frame is out of `free`, so that no one has to search it.
+    used: Vec<bool>,
+    maps: Vec<u64>,
+    homes: Vec<Option<(u64, u64)>>,
+    dirty: Vec<bool>,
+    slots: Vec<Option<Slot>>,
+}
+
+impl Model for Frames {
+    ghost use Rattle.std.specs.Prelude.{length};
+    ghost use Rattle.std.specs.VecDeque.{deque_len, deque_capacity};
+    ghost use Rattle.av_frames.specs.Store.{Store, IsWhole};
+
+    ghost Value = { Store };
+
+    ghost view = { λ a. record {
+      free = a.free.items;
+      bytes = a.bytes;
+      maps = a.maps.items;
+      homes = a.homes.items;
+      dirty = a.dirty.items;
+      slots = a.slots.items;
+    } };
+
+    ghost invariant = { λ a. IsWhole a.free.items (deque_len a.free) (deque_capacity a.free) a.bytes
+        a.used.items a.maps.items a.homes.items a.dirty.items a.slots.items };
+}
+
+impl Frames {
+    /// This many frames, all free in order of their numbers, full of zeros, and named by no entry.
+    pub fn new(alloc: Global, count: u32) -> Result<Frames, AllocError>
+        ensures { IfOk result (λ frames. shown frames ≡ fresh count) }
+    {
+        let len = count as usize;
+        Ok(Frames {
+            free: all_numbers(alloc, count)?,
+            bytes: Pages::new(alloc, len)?,
+            used: fill(alloc, false, len)?,
+            maps: fill(alloc, 0, len)?,
+            homes: fill(alloc, None, len)?,
+            dirty: fill(alloc, false, len)?,
+            slots: fill(alloc, None, len)?,
+        })
+    }
+
+    /// Takes the first free frame. None exactly where no frame is free.
+    pub fn take(&mut self) -> Option<u32>
+        ensures { MatchOption result
+            ((self.old.free ≡ []) × (shown self.new ≡ shown self.old))
+            (λ f. (self.old.free ≡ f ∷ self.new.free)
+            × (f < (shown self.old).count) × (is_in f self.new.free ≡ false)
+            × (shown self.new ≡ record (shown self.old) { free = self.new.free })) }
+    {
+        let frame = self.free.pop_front()?;
+        self.used[frame as usize] = true;
+        Some(frame)
+    }
+
+    /// The free frame that is taken next. None exactly where none is free.
+    pub fn first(&self) -> Option<u32>
+        ensures { result ≡ first_of self.now.free }
+    {
+        self.free.front().copied()
+    }
+
+    /// Puts a frame in front of the free ones.
+    pub fn give(&mut self, frame: u32)
+        requires in_range { frame < (shown self.old).count }
+        requires not_free { is_in frame self.old.free ≡ false }
+        ensures { shown self.new ≡ record (shown self.old) { free = frame ∷ self.old.free } }
+    {
+        self.used[frame as usize] = false;
+        self.free.push_front_reserved(frame);
+    }
+
+    /// How many frames there are, free or not.
+    pub fn count(&self) -> u32
+        ensures { result ≡ length self.now.bytes }
+    {
+        self.bytes.count() as u32
+    }
+
+    /// How many entries name the frame.
+    pub fn maps(&self, frame: u32) -> u64
+        requires { frame < (shown self.now).count }
+        ensures { result ≡ (shown self.now).maps frame }
+    {
+        self.maps[frame as usize]
+    }
+
+    /// One more entry names the frame.
+    pub fn map_up(&mut self, frame: u32)
+        requires in_range { frame < (shown self.old).count }
+        requires room { (shown self.old).maps frame < 2 ^ 64 - 1 }
+        ensures { shown self.new
+            ≡ with_maps frame ((shown self.old).maps frame + 1) (shown self.old) }
+    {
+        self.maps[frame as usize] += 1;
+    }
+
+    /// One entry fewer names the frame.
+    pub fn map_down(&mut self, frame: u32)
+        requires in_range { frame < (shown self.old).count }
+        requires some { 0 < (shown self.old).maps frame }
+        ensures { shown self.new
+            ≡ with_maps frame ((shown self.old).maps frame - 1) (shown self.old) }
+    {
+        self.maps[frame as usize] -= 1;
+    }
+
+    /// No entry names the frame any more.
+    pub fn clear_maps(&mut self, frame: u32)
+        requires { frame < (shown self.old).count }
+        ensures { shown self.new ≡ with_maps frame 0 (shown self.old) }
+    {
+        self.maps[frame as usize] = 0;
+    }
+
+    /// Where the entries of the frame are found: an anon_vma's number, and the linear index there.
+    pub fn home(&self, frame: u32) -> Option<(u64, u64)>
+        requires { frame < (shown self.now).count }
+        ensures { result ≡ (shown self.now).home frame }
+    {
+        self.homes[frame as usize]
+    }
+
+    /// Sets the frame's home.
+    pub fn set_home(&mut self, frame: u32, home: Option<(u64, u64)>)
+        requires { frame < (shown self.old).count }
+        ensures { shown self.new ≡ with_home frame home (shown self.old) }
+    {
+        self.homes[frame as usize] = home;
+    }
+
+    /// Whether the frame's bytes may differ from those in its slot, where it is cached at one.
+    pub fn dirty(&self, frame: u32) -> bool
+        requires { frame < (shown self.now).count }
+        ensures { result ≡ (shown self.now).dirty frame }
+    {
+        self.dirty[frame as usize]
+    }
+
+    /// Sets whether they may differ.
+    pub fn set_dirty(&mut self, frame: u32, dirty: bool)
+        requires { frame < (shown self.old).count }
+        ensures { shown self.new ≡ with_dirty frame dirty (shown self.old) }
+    {
+        self.dirty[frame as usize] = dirty;
+    }
+
+    /// The slot at which the frame is in the swap cache, if it is there.
+    pub fn slot(&self, frame: u32) -> Option<Slot>
+        requires { frame < (shown self.now).count }
+        ensures { result ≡ (shown self.now).slot frame }
+    {
+        self.slots[frame as usize]
+    }
+
+    /// Sets that slot.
+    pub fn set_slot(&mut self, frame: u32, slot: Option<Slot>)
+        requires { frame < (shown self.old).count }
+        ensures { shown self.new ≡ with_slot frame slot (shown self.old) }
+    {
+        self.slots[frame as usize] = slot;
+    }
+
+    /// How many frames are free.
+    pub fn free(&self) -> u32
+        ensures count { result ≡ length self.now.free }
+        // The free list has each free frame once.
+        ensures once { (f : ℕ) → how_many (λ g. f == g) self.now.free ≤ 1 }
+        ensures in_range { (f : ℕ) → is_in f self.now.free ≡ true → f < (shown self.now).count }
+        ensures within { result ≤ (shown self.now).count }
+    {
+        self.free.len() as u32
+    }
+
+    /// Whether a frame is free.
+    pub fn is_free(&self, frame: u32) -> bool
+        requires { frame < (shown self.now).count }
+        ensures { result ≡ is_in frame self.now.free }
+    {
+        !self.used[frame as usize]
+    }
+
+    /// The bytes of a frame.
+    pub fn bytes(&self, frame: u32) -> &[u8]
+        requires { frame < (shown self.now).count }
+        ensures long { length result.now ≡ page_size }
+        ensures bytes { (i : ℕ) → slice_index result.now i ≡ (shown self.now).bytes frame i }
+    {
+        self.bytes.get(frame as usize)
+    }
+
+    /// Writes a piece over a frame's bytes from `at` on.
+    pub fn write_at(&mut self, frame: u32, at: usize, piece: &[u8])
+        requires in_range { frame < (shown self.old).count }
+        requires fits { at + length piece.now ≤ page_size }
+        ensures { shown self.new
+            ≡ with_bytes frame
+            (overlaid at piece.now ((shown self.old).bytes frame)) (shown self.old) }
+    {
+        self.bytes.write_at(frame as usize, at, piece);
+    }
+
+    /// Copies the bytes of one frame to another.
+    pub fn copy(&mut self, from: u32, to: u32)
+        requires { (from < (shown self.old).count) × (to < (shown self.old).count) }
+        ensures { shown self.new ≡ with_bytes to ((shown self.old).bytes from) (shown self.old) }
+    {
+        self.bytes.copy(from as usize, to as usize);
+    }
+
+    /// Makes each byte of a frame zero.
+    pub fn zero(&mut self, frame: u32)
+        requires { frame < (shown self.old).count }
+        ensures { shown self.new ≡ with_bytes frame (λ i. 0) (shown self.old) }
+    {
+        self.bytes.put(frame as usize, [0; SIZE]);
+    }
+
+    /// Makes a frame's bytes those of a page, as it was read from a device.
+    pub fn load(&mut self, frame: u32, page: &[u8])
+        requires in_range { frame < (shown self.old).count }
+        requires long { length page.now ≡ page_size }
+        ensures { shown self.new ≡ with_bytes frame (slice_index page.now) (shown self.old) }
+    {
+        self.bytes.put(frame as usize, page_of(page));
+    }
+}
+
+/// The same bytes as a page.
+fn page_of(bytes: &[u8]) -> [u8; SIZE]
+    requires { length bytes.now ≡ page_size }
+    ensures { result ≡ bytes.now }
+{
+    let mut page = [0; SIZE];
+    page.copy_from_slice(bytes);
+    page
+}
+
+/// The same value, this many times.
+fn fill<T: Copy>(alloc: Global, value: T, count: usize) -> Result<Vec<T>, AllocError>
+    ensures { IfOk result (λ v. v.items ≡ replicate count value) }
+{
+    let mut values = Vec::new(alloc);
+    values.resize(count, value)?;
+    Ok(values)
+}
+
+/// The numbers below the count, with the room that they take.
+#[tactic(auto, using(crate::proofs::Fresh::numbers_next))]
+fn all_numbers(alloc: Global, count: u32) -> Result<VecDeque<u32>, AllocError>
+    ensures { IfOk result (λ q.
+        (q.items ≡ range_with_len 0 count) × (deque_len q ≡ count) × (count ≤ deque_capacity q)) }
+{
+    let mut numbers = VecDeque::with_capacity(alloc, count as usize)?;
+    for i in 0..count {
+        numbers.push_back(i)?;
+    }
+    Ok(numbers)
+}
