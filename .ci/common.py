@@ -80,14 +80,16 @@ def bytes_of(shown):
 
 class Session:
     """A session as the documents show it, in a block of code: `$ avsim run FRAMES`, lines behind
-    `> `, and each one's reply below it. Where a swap file is named, a `$ tools/make-swap` of it
-    stands before that, in the block or earlier in the document.
+    `> `, and each one's reply below it. Where swap files are named, a `$ tools/make-swap` of each
+    stands before that, in the block or earlier in the document: `swaps` has its words, none where
+    there is no such line.
 
     A later block that begins with `> ` goes on with it.
     """
 
-    def __init__(self, frames, place, swap=None):
-        self.frames, self.place, self.swap, self.lines, self.text = frames, place, swap, [], ""
+    def __init__(self, frames, place, swaps=()):
+        self.frames, self.place, self.swaps = frames, place, list(swaps)
+        self.lines, self.text = [], ""
 
     def trace(self):
         return "".join(f"{it}\n" for it in self.lines)
@@ -100,16 +102,13 @@ class Session:
                 self.text += f"{line}\n"
 
     def words(self, room):
-        """The words behind `run`. The swap file is made in a folder."""
-        if not self.swap:
-            return [self.frames]
-        file = os.path.join(room, "session.img")
-        ran = subprocess.run(
-            [f"{ROOT}/tools/make-swap", *self.swap.split(" "), file],
-            stdout=subprocess.DEVNULL,
-            check=False,
-        )
-        return [self.frames, file if ran.returncode == 0 else "no-such-swap-file"]
+        """The words behind `run`. The swap files are made in a folder."""
+        files = [os.path.join(room, it) for it in swapfile.files_for(len(self.swaps))]
+        words = [it for area, file in zip(self.swaps, files) for it in (*area, file)]
+        make = [f"{ROOT}/tools/make-swap", *words]
+        if files and subprocess.run(make, stdout=subprocess.DEVNULL, check=False).returncode:
+            files = ["no-such-swap-file"]
+        return [self.frames, *files]
 
 
 def blocks_of(text):
@@ -126,6 +125,17 @@ def blocks_of(text):
             block, first = [], 0
 
 
+def swaps_made(line):
+    """The swap files that a line of a document makes by `$ tools/make-swap`: the words before the
+    name of each, and the name.
+    """
+    made = re.fullmatch(r"\$ (?:\./)?tools/make-swap ((?:\d[\d -]* [^\s\d-]\S*(?: |$))+)", line)
+    return [
+        (words.split(" "), name)
+        for words, name in re.findall(r"(\d[\d -]*) ([^\s\d-]\S*)", made[1] if made else "")
+    ]
+
+
 def sessions_of(file):
     """The sessions that a document shows."""
     found, swaps = [], {}
@@ -133,13 +143,11 @@ def sessions_of(file):
         text = it.read()
     for number, block in blocks_of(text):
         for at, line in enumerate(block):
-            made = re.fullmatch(r"\$ (?:\./)?tools/make-swap ([\d -]+) (\S+)", line)
-            begins = re.fullmatch(r"\$ (?:\./)?avsim run (\d+)(?: ([^<|\s]+))?", line)
-            if made:
-                swaps[made[2]] = made[1]
+            swaps.update((name, words) for words, name in swaps_made(line))
+            begins = re.fullmatch(r"\$ (?:\./)?avsim run (\d+)((?: [^<|\s]+)*)", line)
             if begins:
-                swap = swaps.get(begins[2], "none") if begins[2] else None
-                found.append(Session(begins[1], f"{file}, line {number + at}", swap))
+                named = [swaps.get(it, []) for it in begins[2].split()]
+                found.append(Session(begins[1], f"{file}, line {number + at}", named))
                 found[-1].add(block[at + 1 :])
                 break
         if block[0].startswith("> ") and found:

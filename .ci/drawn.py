@@ -7,7 +7,7 @@ are); `compare` holds each step of a page against `areas`, `entry`, `rmap`, `slo
 Called as `.ci/drawn.py PROGRAM COUNT [GENERATOR..]` it compares the pages of COUNT random traces,
 with swap where the program has it. They are its own or, where a command is named that makes one,
 called with a seed and a number of lines, that command's. Its first line then says `frames=N` and,
-where there is a swap file, `swaps=PAGES` or, with bad pages, as `swaps=16b3+5-7`.
+where there are swap files, `swaps=PAGES,PAGES` or, with bad pages, as `swaps=16b3+5-7,8`.
 """
 import json
 import os
@@ -31,9 +31,10 @@ class Drawn:
     def __init__(self):
         self.tables, self.dim, self.rows = {}, set(), {}
         self.cached, self.counts, self.flight, self.listed = {}, {}, {}, {}
+        self.areas_on = {}
         self.stat, self.lists = "", True
-        # the slots of an area that the last operations turned off
-        self.off = set()
+        # the slots of an area that the last operations turned off, with what was said of them
+        self.off = {}
 
     def apply(self, ops):
         self.off.clear()
@@ -84,10 +85,10 @@ class Drawn:
             self.cached[slot] = frame
 
     def op_k(self, slot, text):
-        self.counts[slot] = text
-        if not text:
-            del self.counts[slot]
-            self.off.add(slot)
+        if text:
+            self.counts[slot] = text
+        else:
+            self.off[slot] = self.counts.pop(slot, None)
 
     def op_l(self, frame, which, place):
         self.listed.pop(frame, None)
@@ -99,8 +100,25 @@ class Drawn:
         if place:
             self.flight[slot] = place
 
+    def off_in_use(self):
+        """The slots of areas that have just gone off, as far as something had named them."""
+        return [it for it, text in self.off.items() if text != "count 0" and it not in self.counts]
+
     def op_o(self, is_known):
         self.lists = is_known
+
+    def op_t(self, area, text):
+        self.areas_on.pop(area, None)
+        if text:
+            self.areas_on[area] = text
+
+    def slots_told(self):
+        """Of each area that is on: its priority, its free slots and all of them (? where that
+        isn't known), and whether it gives the next one.
+        """
+        words = r"priority (-?\d+), (\d+|\?) of (\d+) slots? free(, gives next)?"
+        found = {area: re.fullmatch(words, text) for area, text in self.areas_on.items()}
+        return {area: (int(it[1]), it[2], int(it[3]), bool(it[4])) for area, it in found.items()}
 
     def in_list(self, which):
         """The frames of a list (1 inactive, 2 active), from the tail."""
@@ -180,10 +198,28 @@ def numbers_wrong(drawn):
     told = {"procs": len(drawn.tables)}
     if not drawn.dim:
         told["free"] = int(numbers["frames"]) - len(in_use)
+    areas = drawn.slots_told()
+    told["slots"] = sum(slots for _, _, slots, _ in areas.values())
+    if not drawn.dim:
+        told["freeslots"] = sum(int(free) for _, free, _, _ in areas.values())
     if drawn.lists:
         told.update(active=len(drawn.in_list(2)), inactive=len(drawn.in_list(1)))
         told.update(flight=len(drawn.flight))
     return {key: (it, numbers[key]) for key, it in told.items() if int(numbers[key]) != it}
+
+
+def slots_wrong(drawn, step):
+    """Whether the first slot that a step takes is of another area than the one that was drawn as
+    that which gives next. (An area that is emptied gives none, and a slot that was dropped before
+    may be of any.)
+    """
+    puts = [it.split(" ")[2] for it in step["r"] if it.startswith("put ")]
+    before = "\n".join(step["r"]).split("\nput ")[0]
+    if not puts or "\ndrop " in before or step["c"].startswith("swapoff") or drawn.dim:
+        return []
+    area = int(puts[0].split(":")[0])
+    gives = [it for it, (_, _, _, is_next) in drawn.slots_told().items() if is_next]
+    return [f"line {step['n']}: area {area} gives, drawn was {gives}"] * (gives != [area])
 
 
 def compare(program, words, data):
@@ -193,6 +229,7 @@ def compare(program, words, data):
     drawn, lines, wanted, wrong = Drawn(), [], [], []
     drawn.apply(data["base"])
     for step in data["steps"]:
+        wrong += slots_wrong(drawn, step)
         drawn.apply(step["o"])
         lines.append(step["c"])
         wanted.append((step, step["c"], None))
@@ -284,22 +321,31 @@ def random_lines(pick, live):
         yield f"exit {p}"
 
 
-def random_trace(seed, lines, swap=""):
+def swapon_lines(pick, swap, areas):
+    """The lines that turn areas on, some of them with a priority, as far as the program has any."""
+    for area in range(areas):
+        priority = pick.choice(["", "", " prio 0", " prio 5", " prio 32767"])
+        yield f"swapon {area}" + priority * ("prio" in swap)
+
+
+def random_trace(seed, lines, swap="", areas=1):
     """A trace of commands, most of them good, of processes that share pages. `swap` are the
-    commands of swap that may stand in it.
+    commands of swap that may stand in it, over so many areas.
     """
     pick, live = random.Random(seed), {1}
     begin = ["spawn 1", "mmap 1 53248 rw- fixed 20000"]
-    yield from ["swapon 0"] * bool(swap) + begin
+    yield from [*swapon_lines(pick, swap, areas)] * bool(swap) + begin
     for _ in range(lines - len(begin)):
         line = pick.choice(list(random_lines(pick, live)))
         if swap and pick.random() < 0.4:
             n = pick.randint(1, 4)
             line = pick.choice([f"reclaim {n}", f"reclaim {n}", f"age {n}", f"complete {n}"])
+            area = pick.randrange(areas)
             if pick.random() < 0.08:
-                line = pick.choice(["swapon 0", "swapon 0", f"slot 0 {n}"])
+                on = [*swapon_lines(pick, swap, areas)][area]
+                line = pick.choice([on, on, f"slot {area} {n}"])
             if pick.random() < 0.04 and "swapoff" in swap:
-                line = "swapoff 0"
+                line = f"swapoff {area}"
         yield line
         name, *words = line.split(" ")
         if name == "fork" and int(words[0]) in live:
@@ -313,7 +359,8 @@ def random_trace(seed, lines, swap=""):
 
 def swap_of(program):
     """The commands of swap that a program has."""
-    some = ("swapon 0", "swapoff 0", "reclaim 1", "age 1", "complete 1", "slot 0 1")
+    some = ("swapon 0", "swapon 0 prio 5", "swapoff 0", "reclaim 1", "age 1", "complete 1")
+    some += ("slot 0 1",)
     has = [it for it in some if run(program, ["run", "1"], f"{it}\n".encode())[0] == 0]
     return " ".join(has) if "reclaim 1" in has else ""
 
@@ -331,40 +378,44 @@ def page_of(program, words, trace):
     return ran.stdout.decode() or ran.stderr.decode()
 
 
-def swap_asked(text):
-    """The pages of the swap file that a generator names, with the bad ones; none without it."""
-    found = re.search(r"\bswaps=(\d+)(?:b([\d+-]+))?", text)
-    if not found:
-        return None
-    ends = [it.split("-") for it in (found[2] or "").split("+") if it]
-    bad = [page for it in ends for page in range(int(it[0]), int(it[-1]) + 1)]
-    return int(found[1]), bad
+def swaps_asked(text):
+    """The swap files that a generator names: of each its pages and the bad ones. (What else it may
+    ask of a header isn't made.)
+    """
+    found = re.search(r"\bswaps=(\S+)", text)
+    for word in found[1].split(",") if found else ():
+        named = re.match(r"(\d+)(?:b([\d+-]+))?", word)
+        ends = [it.split("-") for it in (named[2] or "").split("+") if it] if named else []
+        bad = [page for it in ends for page in range(int(it[0]), int(it[-1]) + 1)]
+        yield max(int(named[1]), 2) if named else 2, bad
 
 
-def machine_of(program, seed, trace):
+def machine_of(program, seed, trace, areas):
     """The words behind `run` for a random trace, or one of a generator."""
     pick = random.Random(seed)
     frames = re.search(r"frames=(\d+)", trace[0])
     words = [frames[1] if frames else str(pick.choice([2, 3, 4, 8, 16, 64]))]
-    swap = swap_asked(trace[0])
+    swaps = list(swaps_asked(trace[0]))
     if not frames and seed % 3 > 0 and swap_of(program):
-        swap = pick.choice([4, 8, 20]), []
-    if swap:
-        swapfile.make("random.img", *swap)
-        words.append("random.img")
+        swaps = [(pick.choice([4, 8, 20]) // (1 + area), []) for area in range(areas)]
+    for area, swap in enumerate(swaps):
+        swapfile.make(f"random{area}.img", *swap)
+        words.append(f"random{area}.img")
     return words
 
 
 def compare_random(program, seed, lines, generator=None):
     """What is wrong in the page of one random trace, and how many answers were compared."""
+    areas = 1 + seed % 5 // 2
     if generator:
         made = subprocess.run(
             [*generator, str(seed), str(lines)], stdout=subprocess.PIPE, check=True
         ).stdout.decode()
         trace = made.splitlines()
     else:
-        trace = list(random_trace(seed, lines, swap_of(program) if seed % 3 > 0 else ""))
-    words = machine_of(program, seed, trace)
+        swap = swap_of(program) if seed % 3 > 0 else ""
+        trace = list(random_trace(seed, lines, swap, areas))
+    words = machine_of(program, seed, trace, areas)
     page = page_of(program, words, trace)
     if not page.startswith("<!DOCTYPE html>"):
         return [page], 0

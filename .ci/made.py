@@ -11,12 +11,12 @@ import sys
 ROOT = os.path.dirname(os.path.dirname(os.path.abspath(__file__)))
 sys.path.insert(0, f"{ROOT}/shell")
 
-from reference import Reference, plain  # pylint: disable=wrong-import-position
+from reference import Reference  # pylint: disable=wrong-import-position
 
 # the items of a crate whose contracts carry what its head says; a crate without an entry has none
 CARRIERS = {
     "av_base": "Prot Steps",
-    "av_vma": "Areas index mergeable reusable",
+    "av_vma": "Areas index mergeable can_lend",
     "av_text": "Bytes",
     "av_trace": "parse_line one_meaning reply_text one_reply",
     "av_frames": "Frames",
@@ -36,7 +36,8 @@ CARRIERS = {
     "av_swapdev": "SwapDev MemDev FileDev SwapFile SwapFiles read_header is_bad bad_pages",
     "av_swapcache": "Swap",
     "av_plain": "soundness_stays transcripts_are_sound runs_are_legal what_sound_says "
-    "no_device_has_no_faults no_area_on_has_no_faults",
+    "the_greatest_priority_gives no_device_has_no_failures "
+    "no_area_on_has_no_failures",
     "av_laws": "refusals_change_nothing numbers_add_up replies_are_determined "
     "replies_of_runs_are_read_back runs_lay_areas runs_cover_entries",
     "av_swap_laws": "frames_are_put slots_are_loaded slots_are_dropped soundness_goes_on",
@@ -51,6 +52,7 @@ CARRIERS = {
     "av_place": "find_place find_gap find_target check_protect check_remap is_too_long "
     "is_no_range prot_left check_indices",
     "av_kernel": "Kernel",
+    "av_words": "read_words",
     "av_replay": "run good_traces_are_done",
     "avsim": "text_for exit_number Failure",
     "av_sample": "ask",
@@ -119,6 +121,14 @@ def with_parts(text):
 def without_parts(text):
     """What is written by hand in a document."""
     return MARKED.sub("", text)
+
+
+def help_texts():
+    """The texts of `--help`, `run --help` and `work --help`, as the program's source has them."""
+    source = text_of("crates/avsim/src/help.rt")
+    found = re.findall(r'const (\w+): &str = "\\\n(.*?)";', source, re.S)
+    texts = {name: text.replace('\\"', '"').replace("\\\\", "\\") for name, text in found}
+    return texts["HELP"], texts["RUN_HELP"], texts["WORK_HELP"]
 
 
 def man_page():

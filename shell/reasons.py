@@ -130,23 +130,38 @@ def of_way(rest, form):
     some = " or ".join(filter(None, [", ".join(firsts[:-1]), firsts[-1]]))
     ways = [it for it in form.ways if it[0] == rest[0]]
     if not ways:
-        if rest[0].lower() in firsts:
-            raise Reason(f"{rest[0].lower()} is lower case: {printable(rest[0])}", form.name)
-        if re.fullmatch("(0[xX])?[0-9a-fA-F]+", rest[0]):
-            raise Reason(f"before an address stands {some}: {printable(rest[0])}", form.name)
-        raise Reason(f"{some} may stand here: {printable(rest[0])}", form.name)
+        raise Reason(no_way(rest[0], firsts, some, form), form.name)
     if set(rest[1:]) & set(firsts):
-        raise Reason(f"there is one of {some} at most: {printable(' '.join(rest))}", form.name)
+        which = f"one of {some}" if firsts[1:] else f"one {some}"
+        raise Reason(f"there is {which} at most: {printable(' '.join(rest))}", form.name)
     longest = max(ways, key=len)
     for kind, word in zip(longest[1:], rest[1:]):
         of_kind(kind, word, form)
     if len(rest) < min(map(len, ways)):
-        what = "the address" if longest[len(rest)] in ("A", "B") else longest[len(rest)]
-        raise Reason(f"{what} behind {rest[0]} is missing", form.name)
+        what = WHAT.get(longest[len(rest)], longest[len(rest)])
+        raise Reason(f"the {what} behind {rest[0]} is missing", form.name)
     if len(rest) > len(longest) == 1:
         raise Reason(f"{rest[0]} has no address: {printable(rest[1])}", form.name)
     if len(rest) > len(longest):
         raise Reason(f"there is a word too many: {printable(rest[len(longest)])}", form.name)
+
+
+# what a word of a way is
+WHAT = {"A": "address", "B": "address", "N": "priority"}
+
+
+def no_way(word, firsts, some, form):
+    """What is said of a word that begins none of the ways."""
+    if word.lower() in firsts:
+        return f"{word.lower()} is lower case: {printable(word)}"
+    joined = [it for it in firsts if re.fullmatch(f"{it}=.*", word)]
+    if joined:
+        return f"{joined[0]} and what follows it are two words: {printable(word)}"
+    if re.fullmatch("(0[xX])?[0-9a-fA-F]+", word):
+        whats = {WHAT[kind] for way in form.ways for kind in way[1:]}
+        what = " or ".join(sorted(whats))
+        return f"before {'an' if what[0] == 'a' else 'a'} {what} stands {some}: {printable(word)}"
+    return f"{some} may stand here: {printable(word)}"
 
 
 def of_kind(kind, word, form):
@@ -157,6 +172,8 @@ def of_kind(kind, word, form):
         of_decimal("a length", word, 0, 2**64 - 1)
     elif kind == "N" and form.name == "read":
         of_decimal("a number of bytes", word, 1, 4096)
+    elif kind == "N" and form.name == "swapon":
+        of_decimal("a priority", word, 0, 32767)
     elif kind == "N":
         what = "slots" if form.name == "complete" else "frames"
         of_decimal(f"a number of {what}", word, 1, 16384)

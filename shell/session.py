@@ -11,11 +11,17 @@ import sys
 import tempfile
 
 from program import EarlyEnd, Judge, Live, Refused
+from reasons import LINE_LIMIT
 
 ROOT = os.path.dirname(os.path.dirname(os.path.realpath(__file__)))
 sys.path.append(f"{ROOT}/tools")
 
-from swapfile import asked_by, comment_for, told_of  # pylint: disable=wrong-import-position
+from swapfile import (  # pylint: disable=wrong-import-position
+    Machine,
+    asked_by,
+    comment_for,
+    told_of,
+)
 
 # bytes of a file that is loaded
 MOST_LOADED = 1 << 28
@@ -133,15 +139,20 @@ class Session:
         return self.do(*([it] for it in lines))
 
     def machine(self):
-        """The comment that asks for the machine of this session: its frames and its swap file."""
-        pages, bad = told_of(self.words[1]) if self.words[1:] else (0, [])
-        return comment_for(self.words[0], pages, bad)
+        """The comment that asks for the machine of this session: its frames and its swap files.
+        (Where a line has no room for them, bad pages are left out.)
+        """
+        areas = [told_of(it) for it in self.words[1:]]
+        text = comment_for(Machine(self.words[0], areas))
+        if len(text) <= LINE_LIMIT:
+            return text
+        return comment_for(Machine(self.words[0], [(pages, []) for pages, _ in areas]))
 
     def machine_asked(self):
         """The comment of the last machine that a line asks for, as `Run it with 4 frames.`"""
         text = b"\n".join(self.lines()).decode("utf-8", "replace")
         found = asked_by(text)
-        return comment_for(*found[-1]) if found else None
+        return comment_for(found[-1]) if found else None
 
     def save(self, name):
         """Writes the lines to a file. One that is there is replaced when all is written."""

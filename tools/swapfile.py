@@ -1,4 +1,5 @@
 """Swap files: the header that makes one, and the machine that the comments of a trace ask for."""
+import collections
 import itertools
 import os
 import re
@@ -11,11 +12,18 @@ VERSION, LAST, COUNT, BAD = 1024, 1028, 1032, 1536
 SIGNATURE = b"SWAPSPACE2"
 # bad pages that have room in a header, and pages of an area that are used
 MOST_BAD, MOST_PAGES = 637, 1_048_576
+# swap files that a machine has at most
+MOST_FILES = 8
+# a swap file in the words of a comment, and the machine that it speaks of
+AREA = r" of (\d{1,9}) pages?(?:, of which ([\d, to and]+) (?:is|are) bad)?"
 MACHINE = re.compile(
     r"^#.*\bRun it with (\d{1,9}) frames?"
-    r"(?: and a swap file of (\d{1,9}) pages?(?:, of which ([\d, to and]+) (?:is|are) bad)?)?\.",
+    rf"( and a swap file{AREA}(?:,? and one{AREA}){{0,{MOST_FILES - 1}}})?\.",
     re.M,
 )
+
+# the frames as they stand in a comment; of each swap file its pages, and which of them are bad
+Machine = collections.namedtuple("Machine", "frames areas")
 
 
 class Unfit(Exception):
@@ -59,14 +67,14 @@ def pages_in(text: str) -> list[int]:
     return list(itertools.islice(pages, MOST_BAD + 1))
 
 
-def asked_by(trace: str) -> list[tuple[str, int, list[int]]]:
-    """What each comment of a trace that says `Run it with ..` asks for: the frames as they stand
-    there, the pages of the swap file (0: there is none), and which of them are bad.
-    """
-    return [
-        (frames, int(pages or 0), pages_in(bad))
-        for frames, pages, bad in MACHINE.findall(trace)
-    ]
+def asked_by(trace: str) -> list[Machine]:
+    """The machine that each comment of a trace asks for that says `Run it with ..`."""
+    return [Machine(it[1], areas_in(it[2] or "")) for it in MACHINE.finditer(trace)]
+
+
+def areas_in(text: str) -> list[tuple[int, list[int]]]:
+    """The swap files of a comment: of each its pages, and which of them are bad."""
+    return [(int(pages), pages_in(bad)) for pages, bad in re.findall(AREA, text)]
 
 
 def told_of(file: str) -> tuple[int, list[int]]:
@@ -86,16 +94,24 @@ def told_of(file: str) -> tuple[int, list[int]]:
     return last + 1, list(struct.unpack_from(f"<{count}I", page, BAD))
 
 
-def comment_for(frames: str, pages: int, bad: list[int]) -> str:
+def comment_for(machine: Machine) -> str:
     """The comment that asks for a machine, as `asked_by` reads it."""
-    text = f"# Run it with {frames} frame{'s' * (frames != '1')}"
-    if pages:
-        text += f" and a swap file of {pages} page{'s' * (pages != 1)}"
-    if pages and bad:
-        *some, last = ranges_of(bad)
-        text += f", of which {' and '.join([', '.join(some), last] if some else [last])} "
-        text += "is bad" if len(bad) == 1 else "are bad"
+    text = f"# Run it with {machine.frames} frame{'s' * (machine.frames != '1')}"
+    is_before = False
+    for at, area in enumerate(machine.areas):
+        text += f"{',' * is_before} and {'one' if at else 'a swap file'}{text_for(*area)}"
+        is_before = bool(area[1])
     return f"{text}."
+
+
+def text_for(pages: int, bad: list[int]) -> str:
+    """A swap file in the words of a comment."""
+    text = f" of {pages} page{'s' * (pages != 1)}"
+    if not bad:
+        return text
+    *some, last = ranges_of(bad)
+    text += f", of which {' and '.join([', '.join(some), last] if some else [last])} "
+    return text + ("is bad" if len(bad) == 1 else "are bad")
 
 
 def ranges_of(pages: list[int]) -> list[str]:
@@ -109,11 +125,15 @@ def ranges_of(pages: list[int]) -> list[str]:
     return [f"{first} to {last}" if first < last else f"{first}" for first, last in found]
 
 
+def files_for(count: int) -> list[str]:
+    """The names of so many swap files: `swap.img`, `swap1.img`, .."""
+    return [f"swap{it or ''}.img" for it in range(count)]
+
+
 def words_for(trace: str, room: str) -> list[str]:
-    """The words behind `run` that a trace asks for. Its swap file is made in a folder."""
-    frames, pages, bad = asked_by(trace)[0]
-    if not pages:
-        return [frames]
-    file = os.path.join(room, "swap.img")
-    make(file, pages, bad)
-    return [frames, file]
+    """The words behind `run` that a trace asks for. Its swap files are made in a folder."""
+    machine = asked_by(trace)[0]
+    files = [os.path.join(room, it) for it in files_for(len(machine.areas))]
+    for file, area in zip(files, machine.areas):
+        make(file, *area)
+    return [machine.frames, *files]

@@ -127,16 +127,29 @@ const framesIn = list => [...state.lists].filter(([, it]) => it.list === list)
   .sort(([, a], [, b]) => b.place - a.place).map(([frame]) => frame);
 const inFlight = () => [...state.flight].sort(([, a], [, b]) => a - b).map(([slot]) => slot);
 
+// the slots of each swap area that is on, or of which a slot is shown, with what is said of it
+const areaOf = slot => Number(slot.split(":")[0]), slotPage = slot => Number(slot.split(":")[1]);
+
+function slotLists() {
+  const isGone = it => !state.counts.has(it) && change.off.get(it) !== "count 0";
+  const gone = [...change.off.keys()].filter(isGone).map(it => [it]);
+  const all = [...state.counts, ...gone];
+  const areas = [...new Set([...state.areas.keys(), ...all.map(([it]) => areaOf(it))])];
+  if (!areas.length) return listOf("slots", [], slotCell, "none was named");
+  return areas.sort((a, b) => a - b).flatMap(area => {
+    const slots = all.filter(([it]) => areaOf(it) === area);
+    slots.sort(([a], [b]) => slotPage(a) - slotPage(b));
+    // (those that changed come first where there are too many)
+    const changedFirst = ([a], [b]) => change.slots.has(b) - change.slots.has(a);
+    if (slots.length > MOST_CELLS) slots.sort(changedFirst);
+    return listOf(`slots of area ${area}: ${state.areas.get(area) ?? "off"}`, slots,
+      ([slot, text]) => (text ? slotCell(slot, text) : goneSlotCell(slot)), "none was named");
+  });
+}
+
 function showSwap() {
   at("swap").hidden = !hasSwap();
   if (at("swap").hidden) return;
-  const [area, page] = [it => Number(it.split(":")[0]), it => Number(it.split(":")[1])];
-  const slots = [...state.counts].sort(([a], [b]) => area(a) - area(b) || page(a) - page(b));
-  // (those that changed come first where there are too many)
-  const changedFirst = ([a], [b]) => change.slots.has(b) - change.slots.has(a);
-  if (slots.length > MOST_CELLS) slots.sort(changedFirst);
-  const isGone = it => !state.counts.has(it) && change.off.get(it) !== "count 0";
-  const gone = [...change.off.keys()].filter(isGone);
   const known = state.listsKnown;
   const list = (name, of, cellOf) => {
     const things = known ? of() : [];
@@ -146,7 +159,5 @@ function showSwap() {
   at("lists").replaceChildren(
     ...list("active, from the head", () => framesIn(ACTIVE), newFrameCell),
     ...list("inactive, from the head", () => framesIn(INACTIVE), newFrameCell),
-    ...list("in flight, in order", inFlight, slot => slotCell(slot, "")),
-    ...listOf("slots", [...slots, ...gone.map(it => [it])],
-      ([slot, text]) => (text ? slotCell(slot, text) : goneSlotCell(slot)), "none was named"));
+    ...list("in flight, in order", inFlight, slot => slotCell(slot, "")), ...slotLists());
 }

@@ -281,6 +281,7 @@ def follow(run: Run, progress: Progress):
         if words[0] == "swapoff" and reply[0] == "ok":
             for slot in [it for it in told.counts if it.startswith(f"{words[1]}:")]:
                 told.answer_slot(slot, "")
+        told.tell_of_areas()
         progress.say(f"{at} of {len(run)} commands")
         yield command, reply, told, same
 
@@ -294,6 +295,7 @@ def told_at(run: Run):
         told.tell(command.line.split(" "), reply)
         # (nobody asks which list a frame is in, or what entries there are)
         told.lists_known = told.lists_known and not told.lost
+        told.tell_of_areas()
         yield told, bool(told.ops)
         told.ops.clear()
 

@@ -13,7 +13,8 @@ const hex = page => (page ? page.toString(16) + "000" : "0");
 
 const state = {
   processes: new Map(), owners: new Map(), cached: new Map(), slots: new Map(),
-  counts: new Map(), lists: new Map(), flight: new Map(), stat: "", listsKnown: true,
+  counts: new Map(), lists: new Map(), flight: new Map(), areas: new Map(), stat: "",
+  listsKnown: true,
 };
 // what the step shown changed: entries, rows and processes as they were, and frames
 let change = null;
@@ -213,6 +214,7 @@ const operations = {
     setIn(state.flight, slot, place || undefined);
     change?.slots.add(slot);
   },
+  t: (area, text) => setIn(state.areas, area, text || undefined),
   o: isKnown => setField(state, "listsKnown", Boolean(isKnown)),
   s: text => setField(state, "stat", text),
 };

@@ -36,7 +36,9 @@ def slots_of(told: Told) -> str:
 
 
 def swap_lines(told: Told) -> list[str]:
-    """The lists (head first), what is in flight (the first to be completed first), and slots."""
+    """The lists (head first), what is in flight (the first to be completed first), and slots. Of
+    several areas also the priority of each, and which one gives next.
+    """
     lists = [told.lists[ACTIVE], told.lists[INACTIVE]]
     texts = [some_of(reversed(it), len(it)) for it in lists]
     texts.append(some_of(told.flight, len(told.flight)))
@@ -45,7 +47,16 @@ def swap_lines(told: Told) -> list[str]:
         f"# active: {active}; inactive: {inactive}",
         f"# in flight: {flight}",
         f"# slots: {slots_of(told)}",
+        *area_lines(told),
     ]
+
+
+def area_lines(told: Told) -> list[str]:
+    """What is said of each area that is on, where it isn't the only one with the least priority."""
+    areas = told.areas_on
+    if len(areas) < 2 and all(it.priority < 0 for it in areas.values()):
+        return []
+    return [f"# area {number}: {told.area_text(number)}" for number in sorted(areas)]
 
 
 def side_by_side(run: making.Run, width: int):

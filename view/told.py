@@ -27,8 +27,11 @@ Each change is also an operation, a list that a page applies (view/state.js):
     l F L N         frame F is in the list L (0 none, 1 inactive, 2 active) at the place N
     w S N           the write of slot S is in flight at the place N (0: it isn't)
     o IS            the lists and what is in flight are known, or aren't
+    t K TEXT        swap area K is on: its priority, how many of its slots are free, and whether
+                    it gives the next one (none: it is off)
     s TEXT          what `stat` says
 """
+import dataclasses
 from collections import OrderedDict
 
 # the lists
@@ -49,6 +52,10 @@ def pages_of(length: int) -> int:
     return (length + 4095) >> 12
 
 
+def area_of(slot: str) -> int:
+    return int(slot.split(":")[0])
+
+
 def code_of(reply: str) -> str:
     """The code of a reply to `entry`; none where the page isn't mapped."""
     match reply.split(" "):
@@ -64,6 +71,18 @@ def code_of(reply: str) -> str:
 def frame_of(code: str) -> int:
     """The frame that an entry names, or -1."""
     return int(code[1:]) if code[:1] in ("f", "F") else -1
+
+
+@dataclasses.dataclass
+class Area:
+    """A swap area that is on: its priority and usable slots, how many of these are in use, and what
+    the last operation said of it.
+    """
+
+    priority: int
+    slots: int
+    used: int = 0
+    text: str = ""
 
 
 class Told:
@@ -82,6 +101,8 @@ class Told:
         self.flight: dict[str, int] = {}
         self.named: dict[str, int] = {}
         self.used: set[str] = set()
+        # the swap areas that are on
+        self.areas_on: dict[int, Area] = {}
         self.head = self.tail = self.last = 0
         self.counts: dict[str, str] = {}
         self.rows: dict[int, list[str]] = {}
@@ -99,7 +120,7 @@ class Told:
         elif code[:1] == "s":
             self.touched.add(code[1:])
             self.named[code[1:]] = self.named.get(code[1:], 0) + 1
-            self.used.add(code[1:])
+            self.use_slot(code[1:])
 
     def unlink(self, process: int, page: int, code: str) -> None:
         frame = frame_of(code)
@@ -125,10 +146,22 @@ class Told:
         if any([it.pop(frame, None) is not None for it in self.lists.values()]):
             self.ops.append(["l", frame, 0, 0])
 
+    def use_slot(self, slot: str) -> None:
+        """A slot that something names is in use."""
+        if slot not in self.used:
+            self.used.add(slot)
+            self.count_slot(slot, 1)
+
     def leave_slot(self, slot: str) -> None:
         """A slot that nothing names any more is free."""
-        if slot not in self.named and slot not in self.frame_at:
+        if slot in self.used and slot not in self.named and slot not in self.frame_at:
             self.used.discard(slot)
+            self.count_slot(slot, -1)
+
+    def count_slot(self, slot: str, change: int) -> None:
+        area = self.areas_on.get(area_of(slot))
+        if area:
+            area.used += change
 
     def enlist(self, frame: int, which: int, is_tail: bool = False) -> None:
         """A frame goes to the head of a list, or to its tail."""
@@ -231,12 +264,47 @@ class Told:
             self.dim.add(process)
             self.ops.append(["u", process])
 
+    # swap areas
+
+    def swapon(self, words: list[str], slots: int) -> None:
+        """`swapon K`, `swapon K prio N`: the area's priority without one is -1."""
+        number, *rest = words[1:]
+        used = sum(area_of(it) == int(number) for it in self.used)
+        self.areas_on[int(number)] = Area(int(rest[1]) if rest else -1, slots, used)
+
+    def swapoff(self, number: int) -> None:
+        if self.areas_on.pop(number, None):
+            self.ops.append(["t", number, ""])
+
+    def giving(self) -> int | None:
+        """The area that gives the next slot: of those with a free one that with the greatest
+        priority, and of equal ones that with the least number.
+        """
+        can = [(-it.priority, number) for number, it in self.areas_on.items() if it.used < it.slots]
+        return min(can)[1] if can else None
+
+    def area_text(self, number: int) -> str:
+        """What is said of an area. (Where entries aren't known, it isn't known what is free.)"""
+        area = self.areas_on[number]
+        free = "?" if self.dim else area.slots - area.used
+        gives = not self.dim and self.giving() == number
+        slots = f"{area.slots} slot{'s' * (area.slots != 1)}"
+        return f"priority {area.priority}, {free} of {slots} free{', gives next' * gives}"
+
+    def tell_of_areas(self) -> None:
+        """The operations for areas of which another thing is to be said."""
+        for number, area in sorted(self.areas_on.items()):
+            text = self.area_text(number)
+            if text != area.text:
+                area.text = text
+                self.ops.append(["t", number, text])
+
     # notes
 
     def cache(self, slot: str, frame: int) -> None:
         self.uncache(slot)
         self.frame_at[slot], self.slot_of[frame] = frame, slot
-        self.used.add(slot)
+        self.use_slot(slot)
         self.touched.add(slot)
         self.ops.append(["c", slot, frame])
 
@@ -339,11 +407,15 @@ class Told:
             self.drop(int(words[1]), page_of(int(reply[0][4:], 16)), pages_of(int(words[2])))
         elif name == "mremap" and is_done:
             self.mremap(words, page_of(int(reply[0][4:], 16)))
+        elif name == "swapon" and reply[0].startswith("on "):
+            self.swapon(words, int(reply[0].split(" ")[1]))
         elif name not in BY_NOTES | BY_RANGE | {"spawn", "fork", "exit"}:
             self.forget()
             return
         if not all([self.note(it.split()) for it in reply[1:]]):
             self.forget()
+        if name == "swapoff" and is_done:
+            self.swapoff(int(words[1]))
 
     # answers
 
@@ -403,6 +475,7 @@ class Told:
             if self.rows.get(process):
                 ops.append(["a", process, [], self.rows[process]])
             ops += [["e", process, page, code] for page, code in sorted(table.items())]
+        ops += [["t", number, it.text] for number, it in sorted(self.areas_on.items())]
         ops += [["c", slot, frame] for slot, frame in sorted(self.frame_at.items())]
         ops += [["k", slot, text] for slot, text in sorted(self.counts.items())]
         for which, frames in self.lists.items():
