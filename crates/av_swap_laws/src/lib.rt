@@ -20,9 +20,9 @@ mod areas;
 mod coming;
 mod entries;
 mod examples;
+mod going;
 mod making;
 mod may;
-mod out;
 mod soundness;
 mod stores;
 mod using;
@@ -33,12 +33,12 @@ pub use entries::{
     entries_go, entries_go_over, entries_move, forks_hold_bytes, memories_may_lose_pages,
 };
 pub use examples::a_page_goes_out_and_comes_back;
-pub use making::{frames_are_copied, pages_are_prepared, pages_get_frames, pages_get_zeros};
-pub use may::{drops_may_be_made, steps_may_be_made, the_first_is_free};
-pub use out::{
+pub use going::{
     frames_age, frames_are_kept, frames_are_put, frames_are_unmapped, slots_are_dropped,
     writes_begin, writes_end_well, writes_fail,
 };
+pub use making::{frames_are_copied, pages_are_prepared, pages_get_frames, pages_get_zeros};
+pub use may::{drops_may_be_made, steps_may_be_made, the_first_is_free};
 pub use soundness::{names_are_few, soundness_goes_on};
 pub use stores::{lists_are_as_kept, walks_change_all, writes_leave_headers};
 pub use using::{pages_are_read, pages_are_written, pages_of_zeros_are_read};
