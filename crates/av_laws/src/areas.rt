@@ -74,8 +74,8 @@ pub fn areas_follow()
     ensures up_to_hole { Becomes around_hole no_anons (Mprotect 1 0x10000 16384 read_only)
         (Refused Enomem) 0xf
         (area 0x10 0x11 read_only ∷ area 0x12 0x14 read_write ∷ []) }
-    ensures wrapped { Becomes around_hole no_anons (Mprotect 1 0x10000 18446744073709547520 read_only)
-        (Refused Enomem) 0xf around_hole }
+    ensures wrapped { Becomes around_hole no_anons
+        (Mprotect 1 0x10000 18446744073709547520 read_only) (Refused Enomem) 0xf around_hole }
     ensures after_exit { Becomes four no_anons (Exit 1) Done 0xf [] }
     ensures unmapped_inside { Becomes (moved_of 1 0x10 0x14 0x20 ∷ []) family
         (Munmap 1 0x11000 4096) Done 0xf

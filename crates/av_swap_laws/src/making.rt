@@ -1,5 +1,5 @@
-//! How a page is made ready: its area is prepared, and it gets the page of zeros, its first frame or
-//! a copy.
+//! How a page is made ready: its area is prepared, and it gets the page of zeros, its first frame
+//! or a copy.
 
 ghost use Rattle.std.specs.Prelude.{◌≡◌, ℕ, Bool, false, true, List, ◌∷◌, Option, Some, IsSome};
 ghost use Rattle.std.specs.Prelude.{IsSomeAnd, T};
