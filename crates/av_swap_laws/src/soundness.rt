@@ -1,4 +1,4 @@
-//! What stays sound: the ledger after each note, and so the counts.
+//! What is sound stays so after each note, and few entries name a frame and its slot.
 
 ghost use Rattle.std.specs.Prelude.{◌≡◌, ◌+◌, length, if◌then◌else◌, ◌≤◌, ◌<◌, ℕ, Some, None};
 ghost use Rattle.av_base.specs.Page.{page_of};
