@@ -1,5 +1,6 @@
 -- The chain of a child's area, and of a copy.
-use Rattle.std.specs.Prelude.{ℕ, Bool, false, ◌&&◌, ◌==◌, not, nat_lt, List, [], ◌∷◌, ◌++◌, find, Option, Some, None}
+use Rattle.std.specs.Prelude.{ℕ, Bool, false, ◌&&◌, ◌==◌, not, nat_lt, List, [], ◌∷◌, ◌++◌, find}
+use Rattle.std.specs.Prelude.{Option, Some, None}
 use Rattle.av_vma.specs.declared.area.Area.{Area}
 use Rattle.av_anon.specs.declared.infos.Info.{Info}
 use Rattle.av_anon.specs.Anons.{Family, give_own, with_links, new_child, with_active_area}

@@ -1,5 +1,6 @@
 -- Chain order: how the areas' chains of anon_vmas hang together.
-use Rattle.std.specs.Prelude.{◌≡◌, ℕ, ◌<◌, ◌^◌, Bool, true, false, ◌==◌, List, [], Option, Some, None, IsSome}
+use Rattle.std.specs.Prelude.{◌≡◌, ℕ, ◌<◌, ◌^◌, Bool, true, false, ◌==◌, List, [], Option, Some}
+use Rattle.std.specs.Prelude.{None, IsSome}
 use Rattle.av_base.specs.Words.{how_many, is_in}
 use Rattle.std.specs.List.{range_with_len}
 use Rattle.av_chain.specs.Links.{AreMutual}

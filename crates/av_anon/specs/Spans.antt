@@ -1,5 +1,6 @@
 -- The spans go with the links.
-use Rattle.std.specs.Prelude.{◌≡◌, ℕ, ◌-◌, ◌^◌, ◌<◌, Bool, ◌==◌, if◌then◌else◌, List, [], ◌∷◌, filter, Option, Some, None}
+use Rattle.std.specs.Prelude.{◌≡◌, ℕ, ◌-◌, ◌^◌, ◌<◌, Bool, ◌==◌, if◌then◌else◌, List, [], ◌∷◌}
+use Rattle.std.specs.Prelude.{filter, Option, Some, None}
 use Rattle.av_base.specs.Words.{is_in}
 use Rattle.av_arena.specs.Order.{with_entry, without_key}
 use Rattle.std.specs.List.{AllByRecursion}

@@ -1,5 +1,6 @@
 -- What an area that goes leaves.
-use Rattle.std.specs.Prelude.{ℕ, Bool, ◌&&◌, List, [], if◌then◌else◌, Option, Some, None, option_map}
+use Rattle.std.specs.Prelude.{ℕ, Bool, ◌&&◌, List, [], if◌then◌else◌, Option, Some, None}
+use Rattle.std.specs.Prelude.{option_map}
 use Rattle.av_base.specs.Words.{how_many, is_in, with_at}
 use Rattle.av_chain.specs.Links.{left_by_all, without}
 use Rattle.av_anon.specs.declared.infos.Info.{Info}

@@ -1,13 +1,17 @@
 -- What a change of the tree below a node leaves there, before a link tells the node anew.
-use Rattle.std.specs.Prelude.{◌≡◌, ℕ, ◌+◌, ◌^◌, ◌<◌, ◌≤◌, max, None, Bool, true, false, IsSome, Option, Some, List, ◌∷◌, ◌++◌}
+use Rattle.std.specs.Prelude.{◌≡◌, ℕ, ◌+◌, ◌^◌, ◌<◌, ◌≤◌, max, None, Bool, true, false, IsSome}
+use Rattle.std.specs.Prelude.{Option, Some, List, ◌∷◌, ◌++◌}
 use Rattle.av_base.specs.Words.{with_at}
 use Rattle.av_arena.specs.Arena.{on_side, side_put}
-use Rattle.av_arena.specs.Order.{NoneBetween, NoneWithin, with_entry, with_joined, with_two, without_key}
+use Rattle.av_arena.specs.Order.{NoneBetween, NoneWithin, with_entry, with_joined, with_two}
+use Rattle.av_arena.specs.Order.{without_key}
 use Rattle.av_arena.specs.declared.link.Link.{Link}
 use Rattle.av_arena.specs.declared.link.Side.{Side}
 use Rattle.av_arena.specs.declared.link.Side.TheVariants.{Left, Right}
 use Rattle.av_arena.specs.declared.link.Stored.{Stored}
-use Rattle.av_arena.specs.Tree.{DifferByAtMost, IsHeightAfter, HasKey, IsJoined, IsPlaceFor, IsSet, IsSpot, IsTree, IsWithout, Store, count_at, entries_at, height_of, is, none, sum_of}
+use Rattle.av_arena.specs.Tree.{DifferByAtMost, IsHeightAfter, HasKey, IsJoined, IsPlaceFor, IsSet}
+use Rattle.av_arena.specs.Tree.{IsSpot, IsTree, IsWithout, Store, count_at, entries_at, height_of}
+use Rattle.av_arena.specs.Tree.{is, none, sum_of}
 
 -- the entries of a side, the node's own and those of the other side
 abbrev pub in_order : {T : Type 0} → Side → List T → T → List T → List T

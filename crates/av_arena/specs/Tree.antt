@@ -1,5 +1,6 @@
 -- Trees of entries whose nodes stand under numbers, and what a change of one makes of it.
-use Rattle.std.specs.Prelude.{◌≡◌, ℕ, zero, suc, ◌+◌, ◌≤◌, ◌==◌, max, if◌then◌else◌, IsSome, Option, Some, None, List, [], ◌∷◌, ◌++◌}
+use Rattle.std.specs.Prelude.{◌≡◌, ℕ, zero, suc, ◌+◌, ◌≤◌, ◌==◌, max, if◌then◌else◌, IsSome, Option}
+use Rattle.std.specs.Prelude.{Some, None, List, [], ◌∷◌, ◌++◌}
 use Rattle.av_base.specs.Words.{with_at}
 use Rattle.av_arena.specs.Monoid.{total}
 use Rattle.av_arena.specs.Order.{IsRising, with_entry, without_key, entry_at}

@@ -1,5 +1,6 @@
 -- The links as they were made one after another, and the two maps that they are.
-use Rattle.std.specs.Prelude.{◌≡◌, ℕ, Bool, false, ◌==◌, cond, if◌then◌else◌, List, [], ◌∷◌, Option, Some, None}
+use Rattle.std.specs.Prelude.{◌≡◌, ℕ, Bool, false, ◌==◌, cond, if◌then◌else◌, List, [], ◌∷◌, Option}
+use Rattle.std.specs.Prelude.{Some, None}
 use Rattle.av_base.specs.Words.{is_in, how_many, with_at}
 
 -- an area, and an anon_vma that it is linked to

@@ -1,6 +1,7 @@
 -- How `Links` keeps its links in memory.
 use Rattle.av_base.specs.Words.{is_in}
-use Rattle.std.specs.Prelude.{◌≡◌, ℕ, false, List, [], ◌∷◌, ◌++◌, Option, Some, None, option_map, nat_eq}
+use Rattle.std.specs.Prelude.{◌≡◌, ℕ, false, List, [], ◌∷◌, ◌++◌, Option, Some, None, option_map}
+use Rattle.std.specs.Prelude.{nat_eq}
 use Rattle.std.specs.HashMap.{get}
 use denote.RawPtr.{Ptr}
 use Rattle.av_chain.specs.declared.node.Way.TheVariants.{Area, Anon}

@@ -1,5 +1,6 @@
 -- The two lists that each node lies in, as they are laid out in memory.
-use Rattle.std.specs.Prelude.{◌≡◌, ℕ, suc, ◌+◌, ◌-◌, true, ◌==◌, cond, List, [], ◌∷◌, length, Option, Some, None}
+use Rattle.std.specs.Prelude.{◌≡◌, ℕ, suc, ◌+◌, ◌-◌, true, ◌==◌, cond, List, [], ◌∷◌, length}
+use Rattle.std.specs.Prelude.{Option, Some, None}
 use denote.RawPtr.{Ptr}
 use Rattle.av_base.specs.Words.{with_at}
 use Rattle.av_chain.specs.Nodes.{Block, same_ptr, has_place}

@@ -65,8 +65,8 @@ claims-then c m w r l ns ms h =
 rose-then : (n k top a b c : ℕ) → min (a + n) top ≤ b → min (b + k) top ≤ c → min (a + (n + k)) top ≤ c
 rose-then n k top a b c h i = omega (arith, h, i)
 
-pub stays_itself : (a : SystemView) → Stays a a
-stays_itself a = record { setting = refl; closing = refl; names = refl; first = refl; never_falls = omega arith }
+pub stays_so : (a : SystemView) → Stays a a
+stays_so a = record { setting = refl; closing = refl; names = refl; first = refl; never_falls = omega arith }
 
 pub stays_then : {a b c : SystemView} → Stays a b → Stays b c → Stays a c
 stays_then d e = record {
@@ -113,7 +113,7 @@ pub does-none : (a : SystemView) (l : Ledger) → a.stands l → Does a a l []
 does-none a l h = record {
   claims = λ w r c. subst (λ x. a.claims x r l) (sym (loads-none w (is_some a.setting.headers))) c;
   stands = h;
-  stays = stays_itself a;
+  stays = stays_so a;
   chooses = refl;
   failures = rose-none a.failures (2 ^ 64 - 1) a.failures a.failures refl (omega arith);
 }

@@ -1,7 +1,8 @@
 -- The search for a free frame: a direct pass where none is free, and then a free frame, or the
 -- numbers that say why there is none.
 use Rattle.std.specs.List.{Contains}
-use Rattle.std.specs.Prelude.{◌≡◌, ℕ, ◌<◌, ◌≤◌, true, false, not, ◌&&◌, is_none, is_some, if◌then◌else◌, List, [], ◌++◌, reverse, slice_get, Option, Some, None}
+use Rattle.std.specs.Prelude.{◌≡◌, ℕ, ◌<◌, ◌≤◌, true, false, not, ◌&&◌, is_none, is_some}
+use Rattle.std.specs.Prelude.{if◌then◌else◌, List, [], ◌++◌, reverse, slice_get, Option, Some, None}
 use Rattle.av_base.specs.declared.slot.Slot.{Slot}
 use Rattle.av_trace.specs.declared.note.Note.{Note}
 use Rattle.av_trace.specs.declared.note.Note.TheVariants.{Failed}

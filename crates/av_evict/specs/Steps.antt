@@ -1,11 +1,13 @@
 -- Single steps: when one may be taken, the note that tells it, and what each does with its note.
-use Rattle.std.specs.Prelude.{◌≡◌, ℕ, ◌<◌, true, false, ◌==◌, not, List, [], ◌∷◌, slice_get, Option, Some, None, is_none, is_some}
+use Rattle.std.specs.Prelude.{◌≡◌, ℕ, ◌<◌, true, false, ◌==◌, not, List, [], ◌∷◌, slice_get, Option}
+use Rattle.std.specs.Prelude.{Some, None, is_none, is_some}
 use Rattle.av_base.specs.declared.slot.Slot.{Slot}
 use Rattle.av_trace.specs.declared.note.Note.{Note}
 use Rattle.av_trace.specs.declared.note.Note.TheVariants.{Put, Unmapped}
 use Rattle.av_plain.specs.Event.{when}
 use Rattle.av_plain.specs.Fault.{is_pinned}
-use Rattle.av_plain.specs.Ledger.{Ledger, Setting, frame_at, in_flight, is_cached, is_stale, is_unmapped, map_count, slot_entries, slot_of}
+use Rattle.av_plain.specs.Ledger.{Ledger, Setting, frame_at, in_flight, is_cached, is_stale}
+use Rattle.av_plain.specs.Ledger.{is_unmapped, map_count, slot_entries, slot_of}
 use Rattle.av_plain.specs.Pass.{IsSlotFor, Spared, end_note, end_notes, is_stuck, unmap_notes}
 use Rattle.av_plain.specs.Sound.{uses}
 use Rattle.av_evict.specs.declared.system.WriteEnd.{WriteEnd}

@@ -1,11 +1,13 @@
 -- A frame's turn in the direct pass, in parts.
-use Rattle.std.specs.Prelude.{◌≡◌, ℕ, ◌<◌, Bool, true, false, ◌&&◌, ◌||◌, not, if◌then◌else◌, MatchBool, List, [], ◌∷◌, ◌++◌, filter, Option, Some, None}
+use Rattle.std.specs.Prelude.{◌≡◌, ℕ, ◌<◌, Bool, true, false, ◌&&◌, ◌||◌, not, if◌then◌else◌}
+use Rattle.std.specs.Prelude.{MatchBool, List, [], ◌∷◌, ◌++◌, filter, Option, Some, None}
 use Rattle.av_base.specs.declared.slot.Slot.{Slot}
 use Rattle.av_trace.specs.declared.note.Note.{Note}
 use Rattle.av_trace.specs.declared.note.Note.TheVariants.{Dropped, Started}
 use Rattle.av_plain.specs.Event.{after_notes}
 use Rattle.av_plain.specs.Fault.{is_pinned}
-use Rattle.av_plain.specs.Ledger.{Ledger, Setting, is_cached, is_stale, map_count, slot_entries, slot_of}
+use Rattle.av_plain.specs.Ledger.{Ledger, Setting, is_cached, is_stale, map_count, slot_entries}
+use Rattle.av_plain.specs.Ledger.{slot_of}
 use Rattle.av_plain.specs.Pass.{IsSlotFor, end_note, is_dirty, is_stuck, stays_cached, turn_notes}
 use Rattle.av_evict.specs.declared.system.WriteEnd.{WriteEnd}
 use Rattle.av_evict.specs.Steps.{IsUsed, spares}

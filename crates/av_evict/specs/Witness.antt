@@ -1,5 +1,6 @@
 -- That a step can be met: a system that stands for one ledger alone, before and after it.
-use Rattle.std.specs.Prelude.{◌≡◌, ℕ, Bool, true, false, if◌then◌else◌, List, [], ◌∷◌, Option, None, MatchOption}
+use Rattle.std.specs.Prelude.{◌≡◌, ℕ, Bool, true, false, if◌then◌else◌, List, [], ◌∷◌, Option, None}
+use Rattle.std.specs.Prelude.{MatchOption}
 use Rattle.av_trace.specs.declared.note.Note.{Note}
 use Rattle.av_plain.specs.Areas.{Rmap}
 use Rattle.av_plain.specs.Choice.{AreaSlots, Free, IsGiven, frame_in_note, slot_in_note}

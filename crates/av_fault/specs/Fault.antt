@@ -1,5 +1,6 @@
 -- The page fault: a page is made ready for a read or a write, or not.
-use Rattle.std.specs.Prelude.{◌≡◌, ℕ, ◌+◌, ◌≤◌, ◌++◌, Bool, true, false, List, Option, Some, None, Result, IfOk}
+use Rattle.std.specs.Prelude.{◌≡◌, ℕ, ◌+◌, ◌≤◌, ◌++◌, Bool, true, false, List, Option, Some, None}
+use Rattle.std.specs.Prelude.{Result, IfOk}
 use Rattle.std.specs.declared.alloc.AllocError.{AllocError}
 use Rattle.av_io.specs.Count.{RoseBy}
 use Rattle.av_trace.specs.declared.note.Note.{Note}

@@ -1,5 +1,6 @@
 -- How a frame is used that a page has.
-use Rattle.std.specs.Prelude.{◌≡◌, ℕ, Bool, true, false, nat_lt, ◌||◌, List, ◌++◌, Option, Some, None, is_some}
+use Rattle.std.specs.Prelude.{◌≡◌, ℕ, Bool, true, false, nat_lt, ◌||◌, List, ◌++◌, Option, Some}
+use Rattle.std.specs.Prelude.{None, is_some}
 use Rattle.av_base.specs.declared.slot.Slot.{Slot}
 use Rattle.av_pagetable.specs.Entries.{entry_at}
 use Rattle.av_pagetable.specs.declared.pte.Pte.TheVariants.{Here}

@@ -1,5 +1,6 @@
 -- How the entries of a process go over to a child.
-use Rattle.std.specs.Prelude.{ℕ, ◌+◌, ◌^◌, ◌<◌, Bool, false, if◌then◌else◌, List, Option, Some, None}
+use Rattle.std.specs.Prelude.{ℕ, ◌+◌, ◌^◌, ◌<◌, Bool, false, if◌then◌else◌, List, Option, Some}
+use Rattle.std.specs.Prelude.{None}
 use Rattle.av_base.specs.Words.{how_many}
 use Rattle.av_base.specs.declared.slot.Slot.{Slot}
 use Rattle.av_pagetable.specs.declared.pte.Pte.{Pte as Raw}

@@ -1,5 +1,6 @@
 -- The next overlaps past a place.
-use Rattle.std.specs.Prelude.{◌≡◌, ℕ, ◌+◌, ◌≤◌, Bool, false, not, cond, ◌&&◌, ◌||◌, nat_le, Option, List, [], ◌∷◌}
+use Rattle.std.specs.Prelude.{◌≡◌, ℕ, ◌+◌, ◌≤◌, Bool, false, not, cond, ◌&&◌, ◌||◌, nat_le, Option}
+use Rattle.std.specs.Prelude.{List, [], ◌∷◌}
 use Rattle.av_interval.specs.Search.{is_past, overlaps}
 use Rattle.av_interval.specs.Span.{top}
 use Rattle.av_interval.specs.declared.span.Span.{Span}

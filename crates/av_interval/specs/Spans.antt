@@ -1,12 +1,14 @@
 -- One tree of spans for each anon_vma, over one store of nodes.
-use Rattle.std.specs.Prelude.{◌≡◌, ℕ, ◌+◌, ◌<◌, ◌≤◌, ◌^◌, max, slice_index_or, length, IsSome, Option, Some, None, List}
+use Rattle.std.specs.Prelude.{◌≡◌, ℕ, ◌+◌, ◌<◌, ◌≤◌, ◌^◌, max, slice_index_or, length, IsSome}
+use Rattle.std.specs.Prelude.{Option, Some, None, List}
 use Rattle.std.specs.Map.{lookup}
 use Rattle.std.specs.Ordering.{nat_cmp}
 use Rattle.std.specs.BTreeMap.{is_at}
 use Rattle.av_arena.specs.Order.{IsRising}
 use Rattle.std.specs.List.{AllByRecursion}
 use Rattle.av_arena.specs.Tree as arena_tree
-use Rattle.av_arena.specs.Tree.{Fork, count_at, entries, entries_at, height, tree_at, tree_or_leaf, IsHeld}
+use Rattle.av_arena.specs.Tree.{Fork, count_at, entries, entries_at, height, tree_at, tree_or_leaf}
+use Rattle.av_arena.specs.Tree.{IsHeld}
 use Rattle.av_arena.specs.declared.link.Link.{Link}
 use Rattle.av_arena.specs.declared.link.Stored.{Stored}
 use Rattle.av_interval.specs.Nodes.{Tree}

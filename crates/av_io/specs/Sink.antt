@@ -1,5 +1,6 @@
 -- What is told of a sink, and what a write and a flush change.
-use Rattle.std.specs.Prelude.{◌≡◌, ℕ, ◌<◌, ◌≤◌, List, [], ◌++◌, length, take, Option, None, option_map, Bool, true, false, Result, Ok, Err}
+use Rattle.std.specs.Prelude.{◌≡◌, ℕ, ◌<◌, ◌≤◌, List, [], ◌++◌, length, take, Option, None}
+use Rattle.std.specs.Prelude.{option_map, Bool, true, false, Result, Ok, Err}
 use Rattle.av_io.specs.declared.sink.SinkErr.{SinkErr}
 use Rattle.av_io.specs.declared.sink.SinkErr.TheVariants.{Failed, Memory}
 use Rattle.av_io.specs.Count.{one_more}
@@ -53,8 +54,8 @@ pub record KeepsBack (old new : SinkView) : Type 0 where
   pub flushes : new.flushes ≡ old.flushes
   pub failed : HasFailed old new
 
--- whether a write failed: want of memory is no fault of the sink
-abbrev pub is_fault : Result ℕ SinkErr → Bool
-is_fault (Ok n) = false
-is_fault (Err Failed) = true
-is_fault (Err Memory) = false
+-- whether a write failed: want of memory is no failure of the sink
+abbrev pub is_failure : Result ℕ SinkErr → Bool
+is_failure (Ok n) = false
+is_failure (Err Failed) = true
+is_failure (Err Memory) = false

@@ -1,5 +1,6 @@
 -- What is told of a source, and what a read changes.
-use Rattle.std.specs.Prelude.{◌≡◌, ℕ, ◌<◌, ◌≤◌, ◌==◌, Bool, List, [], ◌++◌, length, take, Option, option_map, IfSome}
+use Rattle.std.specs.Prelude.{◌≡◌, ℕ, ◌<◌, ◌≤◌, ◌==◌, Bool, List, [], ◌++◌, length, take, Option}
+use Rattle.std.specs.Prelude.{option_map, IfSome}
 use Rattle.av_io.specs.Count.{one_more}
 
 -- what is left, where it is told; whether the source has told its end: of its reads that had room

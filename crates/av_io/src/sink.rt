@@ -6,7 +6,7 @@ ghost use Rattle.std.specs.Io.Buffered.{writer_buffer, writer_contents, writer_i
 ghost use Rattle.std.specs.Io.KnownBytes.{Keeps, WriteAppends};
 ghost use Rattle.std.specs.IoError.{error_kind};
 ghost use Rattle.av_io.specs.Failures.{IsFresh, IsNextCall};
-ghost use Rattle.av_io.specs.Sink.{SinkView, Takes, TakesNothing, HandsOn, KeepsBack, is_fault};
+ghost use Rattle.av_io.specs.Sink.{SinkView, Takes, TakesNothing, HandsOn, KeepsBack, is_failure};
 
 use crate::failures::{Failed, Failures};
 use std::alloc::Global;
@@ -91,7 +91,7 @@ impl Sink for MemSink {
             (⟦<MemSink as Sink>⟧.view self.new) n piece.now) }
         ensures err { IfErr result (λ e. TakesNothing (⟦<MemSink as Sink>⟧.view self.old)
             (⟦<MemSink as Sink>⟧.view self.new) e) }
-        ensures calls { IsNextCall self.old.failures self.new.failures (is_fault result) }
+        ensures calls { IsNextCall self.old.failures self.new.failures (is_failure result) }
         ensures whole { IfOk result (λ n. n ≡ length piece.now) }
         ensures memory { IfErr result (λ e. e ≡ SinkErr.Memory
             → vec_capacity self.old.bytes < vec_len self.old.bytes + length piece.now) }

@@ -8,7 +8,7 @@ use Rattle.av_base.specs.Words.{within}
 use Rattle.av_io.specs.Count.{RoseBy}
 use Rattle.av_plain.specs.Device.{Device, IsSameDevice, device_by, setting_of}
 use Rattle.av_plain.specs.Pass.{fails, is_fail}
-use Rattle.av_plain.specs.Step.{failed_frames, fault_answers}
+use Rattle.av_plain.specs.Step.{failed_frames, failure_answers}
 use Rattle.av_plain.proofs.Device.{setting_same}
 use Rattle.av_plain.proofs.Ledger.{how_many-append}
 use Rattle.av_trace.specs.declared.reply.Answer.TheVariants.{Done}
@@ -137,7 +137,7 @@ causes-append : (xs ys : List Note) (end : Option Stop) (a b c : ℕ) → RoseBy
     RoseBy (causes_of_access (xs ++ ys) end) a c
 causes-append xs ys end a b c h g = rose-both (causes_of_access xs None) (causes_of_access ys end) (causes_of_access (xs ++ ys) end) a b c h g
     (let both = how_many-append is_fail xs ys in few (fails (xs ++ ys)) (fails xs) (fails ys)
-    (failed_frames (answer_at end Done 0 [])) (fault_answers (answer_at end Done 0 [])) both)
+    (failed_frames (answer_at end Done 0 [])) (failure_answers (answer_at end Done 0 [])) both)
   where
     few : (f m n x y : ℕ) → f ≡ m + n → max f x + y ≤ (max m 0 + 0) + (max n x + y)
     few f m n x y is = omega (arith, is)

@@ -15,7 +15,7 @@ use Rattle.av_plain.specs.World.{World, lives, pages}
 use Rattle.av_plain.specs.Access.{Accesses, Whole, Stopped, pages_of_access, bytes_before, stop_answer, Reads, after_write}
 use Rattle.av_io.specs.Count.{RoseBy}
 use Rattle.av_plain.specs.Pass.{fails}
-use Rattle.av_plain.specs.Step.{causes, failed_frames, fault_answers, next}
+use Rattle.av_plain.specs.Step.{causes, failed_frames, failure_answers, next}
 use Rattle.av_plain.specs.Choice.{ChoosesAll}
 use Rattle.av_plain.specs.Transcript.{State, rmap_of}
 use Rattle.av_plain.specs.Event.{Event, notes_of}
@@ -209,7 +209,7 @@ module _ {d : Device} (s : State) (old new : Mem) (p a : ℕ) (before notes : Li
   -- ---- by how it ended
 
   rose-ended : (d' : Device) (stop : Option Stop) (whole answer : Answer) (shown : List ℕ) (events : List Event) → failed_frames whole ≡ 0
-      → fault_answers whole ≡ 0 →
+      → failure_answers whole ≡ 0 →
       answer ≡ answer_at stop whole k shown → notes ≡ before ++ notes_of events → RoseBy
       (causes_of_access (notes_of events) stop) d.failures d'.failures →
       RoseBy (causes (record { answer = answer; notes = notes; rows = rows })) d.failures d'.failures

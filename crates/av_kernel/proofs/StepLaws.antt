@@ -54,7 +54,7 @@ use Rattle.av_kernel.specs.declared.refusal.Refusal.TheVariants as refusals
 use Rattle.av_kernel.specs.Step.{Does, DoesBeside, MemSteps, StepsBeside, reply_in, reply_of}
 use Rattle.av_io.specs.Count.{RoseBy}
 use Rattle.av_plain.specs.Pass.{fails}
-use Rattle.av_plain.specs.Step.{Follows, causes, fault_answers, uses_device}
+use Rattle.av_plain.specs.Step.{Follows, causes, failure_answers, uses_device}
 use Rattle.av_plain.proofs.Faultless.{unused-causes}
 use Rattle.av_kernel.proofs.Loads.{world_as}
 use Rattle.av_mem.proofs.KeepsLaws.{fits-kept}
@@ -198,7 +198,7 @@ beside old new command result unused does d = record {
 -- ---- refusals of a command that uses the device
 
 -- its first test refuses it, over any device
-pub refused-over : (k : Mem) (command : Command) (error : Errno) → fault_answers (Refused error) ≡ 0 → ((d : Device) (s : State) → Keeps d k s →
+pub refused-over : (k : Mem) (command : Command) (error : Errno) → failure_answers (Refused error) ≡ 0 → ((d : Device) (s : State) → Keeps d k s →
     refusal (tests (setting_by d k) s.world s.ledger command) ≡ Some error) → (d : Device) → Does d d k k command (Err (refusals.Refused error))
 refused-over k command error mild is d = record {
   step = λ s keeps. let h = refused k s command error keeps (is d s keeps) in record {
@@ -215,7 +215,7 @@ refused-over k command error mild is d = record {
 
 -- as `?` hands it out
 pub beside-by : (k : Mem) (command : Command) (error : Errno) (reply : Reply) (r : Result (Unit {0}) Refusal) (x : Refusal) →
-    IsErr r × IsErrAnd r (λ e. e ≡ x) → x ≡ refusals.Refused error → fault_answers (Refused error) ≡ 0 → ((d : Device) (s : State) → Keeps d k s →
+    IsErr r × IsErrAnd r (λ e. e ≡ x) → x ≡ refusals.Refused error → failure_answers (Refused error) ≡ 0 → ((d : Device) (s : State) → Keeps d k s →
     refusal (tests (setting_by d k) s.world s.ledger command) ≡ Some error) → (d : Device) → Does d d k k command (reply_in reply r)
 beside-by k command error reply (Ok done) x is same mild refuses d = absurd is.1
 beside-by k command error reply (Err e) x is same mild refuses d =

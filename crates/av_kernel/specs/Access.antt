@@ -1,5 +1,6 @@
 -- What a whole read or write does.
-use Rattle.std.specs.Prelude.{◌≡◌, ℕ, ◌+◌, ◌-◌, ◌<◌, ◌++◌, Bool, true, false, List, [], min, Option, Some, None}
+use Rattle.std.specs.Prelude.{◌≡◌, ℕ, ◌+◌, ◌-◌, ◌<◌, ◌++◌, Bool, true, false, List, [], min, Option}
+use Rattle.std.specs.Prelude.{Some, None}
 use Rattle.av_trace.specs.declared.note.Note.{Note}
 use Rattle.av_trace.specs.declared.reply.Answer.{Answer}
 use Rattle.av_trace.specs.declared.reply.Answer.TheVariants as answers
@@ -10,7 +11,8 @@ use Rattle.av_plain.specs.Load.{with_loads}
 use Rattle.av_plain.specs.World.{World, pages}
 use Rattle.av_base.specs.Page.{address_of, page_size}
 use Rattle.av_plain.specs.Event.{Event, after_all, notes_of}
-use Rattle.av_plain.specs.Access.{Accesses, End, Whole, Stopped, pages_of_access, bytes_before, after_write, Reads}
+use Rattle.av_plain.specs.Access.{Accesses, End, Whole, Stopped, pages_of_access, bytes_before}
+use Rattle.av_plain.specs.Access.{after_write, Reads}
 use Rattle.av_plain.specs.Choice.{ChoosesAll}
 use Rattle.av_plain.specs.Areas.{rmap_after_all}
 use Rattle.av_plain.specs.Transcript.{State, rmap_of}

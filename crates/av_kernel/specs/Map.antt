@@ -1,5 +1,6 @@
 -- The protections of a process's pages, and how the pages of a range go.
-use Rattle.std.specs.Prelude.{◌≡◌, ◌≢◌, ℕ, true, is_some, if◌then◌else◌, List, length, Option, None, Some, false, IfSome}
+use Rattle.std.specs.Prelude.{◌≡◌, ◌≢◌, ℕ, true, is_some, if◌then◌else◌, List, length, Option, None}
+use Rattle.std.specs.Prelude.{Some, false, IfSome}
 use Rattle.av_base.specs.declared.prot.Prot.{Prot}
 use Rattle.av_base.specs.Words.{with_at, within}
 use Rattle.av_pagetable.specs.Entries.{has}

@@ -1,7 +1,9 @@
 -- What one command does to the memory system.
-use Rattle.std.specs.Prelude.{◌≡◌, ℕ, Bool, false, true, List, Option, Some, None, Result, Ok, Err, IfSome, is_some}
+use Rattle.std.specs.Prelude.{◌≡◌, ℕ, Bool, false, true, List, Option, Some, None, Result, Ok, Err}
+use Rattle.std.specs.Prelude.{IfSome, is_some}
 use Rattle.av_trace.specs.declared.command.Command.{Command}
-use Rattle.av_trace.specs.declared.command.Command.TheVariants.{Age, Mmap, Mprotect, Mremap, Munmap, Reclaim}
+use Rattle.av_trace.specs.declared.command.Command.TheVariants.{Age, Mmap, Mprotect, Mremap, Munmap}
+use Rattle.av_trace.specs.declared.command.Command.TheVariants.{Reclaim}
 use Rattle.av_trace.specs.declared.reply.Answer.TheVariants as answers
 use Rattle.av_trace.specs.declared.reply.Reply.{Reply}
 use Rattle.av_trace.specs.Reply.{answer_only}

@@ -1,7 +1,8 @@
 -- How often each kind of reply came.
 use Rattle.std.specs.Prelude.{ℕ, ◌+◌, ◌≤◌}
 use Rattle.av_trace.specs.declared.reply.Answer.{Answer}
-use Rattle.av_trace.specs.declared.reply.Answer.TheVariants.{Done, MapAt, Data, Refused, Segv, Bus, Oom, On, NoFrame}
+use Rattle.av_trace.specs.declared.reply.Answer.TheVariants.{Done, MapAt, Data, Refused, Segv, Bus}
+use Rattle.av_trace.specs.declared.reply.Answer.TheVariants.{Oom, On, NoFrame}
 use Rattle.av_kernel.specs.declared.tally.Tally.{Tally}
 
 -- no reply came

@@ -23,7 +23,7 @@ use Rattle.av_trace.specs.declared.reply.Errno.TheVariants.{Eexist, Einval, Enom
 use Rattle.av_trace.specs.declared.reply.Reply.{Reply}
 use Rattle.av_trace.specs.declared.row.Row.{Row}
 use Rattle.av_vma.specs.Gap.{IsGap, IsRoom}
-use Rattle.av_vma.specs.Indices.{AreIndicesBelow}
+use Rattle.av_vma.specs.IndexBound.{AreIndicesBelow}
 use Rattle.av_vma.specs.Index.{index_of, past_of}
 use Rattle.av_vma.specs.Join.{same_prot}
 use Rattle.av_vma.specs.Pages.{AreLaid, Lengths, Pages, after_map, after_prepare, after_unmap, alters_at, split_at, fresh_area, has_page, IsWhole, joined_at, loan_beside, page_changed, pages_changed, part_changed, to_prot, with_anon, with_area, with_effect, with_effect_on, without_range}
@@ -51,7 +51,7 @@ use Rattle.av_plain.proofs.Refusal.{MayRemap, loads-none, may-remap, refused-are
 use Rattle.av_plain.proofs.Sound.{loads-same}
 use Rattle.av_plain.proofs.Sound.Zap.{pages-ended}
 use Rattle.av_plain.proofs.Transcript.{IsFork, IsPlain, next-cases, plain-next}
-use Rattle.av_vma.proofs.Indices.{indices_changed, indices_mapped, indices_more, indices_prepared, indices_unmapped}
+use Rattle.av_vma.proofs.IndexBound.{indices_changed, indices_mapped, indices_more, indices_prepared, indices_unmapped}
 use Rattle.av_plain.proofs.World.{pages-set}
 use Rattle.av_plain.proofs.World.Ranges.{meets-none}
 use Rattle.av_laws.proofs.ReadBack.InRuns.{first-test}

@@ -35,7 +35,7 @@ use Rattle.av_plain.specs.Place.{Goes, IsMapAt, is_room}
 use Rattle.av_plain.specs.Refusal.{Refuses, low, refusal, tests, wraps}
 use Rattle.av_plain.specs.Areas.{rmap_after_all, Anons, Areas}
 use Rattle.av_plain.specs.Report.{ShowsAreas}
-use Rattle.av_plain.specs.Step.{Follows, IsLegal, closing_swap_area, fault_answers, next, next_world}
+use Rattle.av_plain.specs.Step.{Follows, IsLegal, closing_swap_area, failure_answers, next, next_world}
 use Rattle.av_plain.specs.Transcript.{Exchange, IsRun, IsStep, State, at_first, rmap_of}
 use Rattle.av_plain.specs.World.{Page, Process, Shows, World, byte_at, end_process, is_mapped, no_pages, pages, pages_to_hole, set_process, with_bytes, with_pages, with_prot, with_prot_on, zeros}
 use Rattle.av_laws.proofs.OneFork.{next-one}
@@ -284,20 +284,20 @@ map_at-one : (to : Option ℕ) (answer answer' : Answer) → IsMapAt answer to �
 map_at-one None answer answer' h g = h ∙ sym g
 map_at-one (Some page) answer answer' h g = h ∙ sym g
 
--- an access that no fault explains wasn't lost
-stop-kept : (stop : Stop) (k : ℕ) (shown : List ℕ) → fault_answers (stop_answer stop k shown) ≡ 0 → is_lost (Some stop) ≡ false
+-- an access that no failure explains wasn't lost
+stop-kept : (stop : Stop) (k : ℕ) (shown : List ℕ) → failure_answers (stop_answer stop k shown) ≡ 0 → is_lost (Some stop) ≡ false
 stop-kept Denied k shown h = refl
 stop-kept (Starved out) k shown h = refl
 stop-kept Lost k shown h = absurd (omega (arith, h))
 
-read-kept : (a : ℕ) (end : End) (shown : List ℕ) (answer : Answer) → answer ≡ read_answer a end shown → fault_answers answer ≡ 0
+read-kept : (a : ℕ) (end : End) (shown : List ℕ) (answer : Answer) → answer ≡ read_answer a end shown → failure_answers answer ≡ 0
     → is_lost_end end ≡ false
 read-kept a Whole shown answer h none = refl
-read-kept a (Stopped page stop) shown answer h none = stop-kept stop (bytes_before a page) shown (ap fault_answers (sym h) ∙ none)
+read-kept a (Stopped page stop) shown answer h none = stop-kept stop (bytes_before a page) shown (ap failure_answers (sym h) ∙ none)
 
-write-kept : (a : ℕ) (end : End) (answer : Answer) → answer ≡ write_answer a end → fault_answers answer ≡ 0 → is_lost_end end ≡ false
+write-kept : (a : ℕ) (end : End) (answer : Answer) → answer ≡ write_answer a end → failure_answers answer ≡ 0 → is_lost_end end ≡ false
 write-kept a Whole answer h none = refl
-write-kept a (Stopped page stop) answer h none = stop-kept stop (bytes_before a page) [] (ap fault_answers (sym h) ∙ none)
+write-kept a (Stopped page stop) answer h none = stop-kept stop (bytes_before a page) [] (ap failure_answers (sym h) ∙ none)
 
 pub loads-told : (m : Setting) (w : World) (l : Ledger) (es : List Event) → Tells m
     → with_loads m w l es ≡ w
@@ -311,7 +311,7 @@ record Same (es fs : List Event) (answer answer' : Answer) (rows rows' : List Ro
 follows-one : (m : Setting) (w : World) (l : Ledger) (on : Areas) (anons : Anons) (command : Command) (es fs : List Event)
     (answer answer' : Answer) (rows rows' : List Row) (closing : Option ℕ) (free a b : Free)
     → Tells m → IsClaimed w
-    → fault_answers answer ≡ 0 → fault_answers answer' ≡ 0 → AreDone (notes_of es)
+    → failure_answers answer ≡ 0 → failure_answers answer' ≡ 0 → AreDone (notes_of es)
     → AreDone (notes_of fs) → ChoosesAll m closing l es free a
     → ChoosesAll m closing l fs free b → Follows m w l command es answer rows
     → Follows m w l command fs answer' rows' → ShowsAreas on anons command answer rows
@@ -415,7 +415,7 @@ follows-one m w l on anons Stat es fs answer answer' rows rows' closing free a b
 
 legal-one : (m : Setting) (w : World) (l : Ledger) (on : Areas) (anons : Anons) (command : Command) (reply reply' : Reply)
     (es fs : List Event) (closing : Option ℕ) (free a b : Free) → Tells m → IsClaimed w
-    → fault_answers reply.answer ≡ 0 → fault_answers reply'.answer ≡ 0 → AreDone (notes_of es)
+    → failure_answers reply.answer ≡ 0 → failure_answers reply'.answer ≡ 0 → AreDone (notes_of es)
     → AreDone (notes_of fs) → ChoosesAll m closing l es free a
     → ChoosesAll m closing l fs free b → IsLegal m w l command reply es
     → IsLegal m w l command reply' fs → ShowsAreas on anons command reply.answer reply.rows

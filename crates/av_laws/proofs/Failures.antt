@@ -1,4 +1,4 @@
--- Where a count of failures did not rise, no fault shows in what it counts.
+-- Where a count of failures did not rise, no failure shows in what it counts.
 use Rattle.std.specs.List.{AllByRecursion}
 use Rattle.std.specs.Prelude.{max, min}
 use Rattle.std.proofs.lemmas.List.Sums.{sum_by-cons}
@@ -6,7 +6,7 @@ use Rattle.std.proofs.Common.{◌≡◌, ℕ, zero, suc, ◌+◌, ◌-◌, ◌^�
 use Rattle.av_io.specs.Count.{Rose, RoseBy}
 use Rattle.av_trace.specs.declared.reply.Reply.{Reply}
 use Rattle.av_plain.specs.Pass.{fails}
-use Rattle.av_plain.specs.Step.{causes, failed_frames, fault_answers}
+use Rattle.av_plain.specs.Step.{causes, failed_frames, failure_answers}
 use Rattle.av_plain.specs.Transcript.{Exchange, causes_of}
 use Rattle.av_laws.specs.Determined.{AreFaultless, IsFaultless}
 
@@ -40,9 +40,9 @@ none-within es before now by not = none-each es (within-none (causes_of es) befo
 faultless : (reply : Reply) → causes reply ≡ 0 → IsFaultless reply
 faultless reply h = record {
   writes = first (fails reply.notes) (failed_frames reply.answer)
-      (fault_answers reply.answer) h;
+      (failure_answers reply.answer) h;
   answer = last (fails reply.notes) (failed_frames reply.answer)
-      (fault_answers reply.answer) h;
+      (failure_answers reply.answer) h;
 }
   where
     first : (a b c : ℕ) → max a b + c ≡ 0 → a ≡ 0

@@ -18,7 +18,7 @@ use Rattle.av_plain.specs.Ledger.{Ledger, Setting, frame_at, has_free, slot_of, 
 use Rattle.av_plain.specs.Pass.{IsSlotFor, Spared, TakesFor, out_of}
 use Rattle.av_plain.specs.Reclaim.{CompletesFirst, Outcomes, Reclaims, cause_of, from_tail, leave_notes}
 use Rattle.av_plain.specs.Report.{MayBeNoSlot, count_answer, slot_answer, ReportsSlot}
-use Rattle.av_plain.specs.Step.{fault_answers}
+use Rattle.av_plain.specs.Step.{failure_answers}
 use Rattle.av_plain.specs.Swapoff.{Close, Closed, Empties, EndsAt, IsEmptied, IsFetched, NoRoom, TurnsOff, Unread, close_answer, end_at, map_notes, sparing_area, turn_off_events}
 use Rattle.av_plain.specs.Swapon.{IsByHeader, TurnsOn}
 use Rattle.av_plain.specs.World.{World}
@@ -78,13 +78,13 @@ complete-one l n es fs answer answer' rows rows' h g x y = h.3 ∙ ap note_event
 -- ---- swapon and slot
 
 pub turns-on-one : (m : Setting) (k : ℕ) (priority : Option ℕ) (es fs : List Event) (answer answer' : Answer) (rows rows' : List Row) → Tells m →
-    TurnsOn m k priority es answer rows → TurnsOn m k priority fs answer' rows' → fault_answers answer ≡ 0 → fault_answers answer' ≡ 0
+    TurnsOn m k priority es answer rows → TurnsOn m k priority fs answer' rows' → failure_answers answer ≡ 0 → failure_answers answer' ≡ 0
     → answer ≡ answer'
 turns-on-one m k priority es fs answer answer' rows rows' told h g kept kept' =
     by m.headers told (read answer h.0 kept) (read answer' g.0 kept')
   where
-    read : (answer : Answer) → (answer ≡ Refused Eio) ⊎ IsByHeader m.headers k answer → fault_answers answer ≡ 0 → IsByHeader m.headers k answer
-    read answer (inl e) kept = absurd (let one = ap fault_answers (sym e) ∙ kept in omega (arith, one))
+    read : (answer : Answer) → (answer ≡ Refused Eio) ⊎ IsByHeader m.headers k answer → failure_answers answer ≡ 0 → IsByHeader m.headers k answer
+    read answer (inl e) kept = absurd (let one = ap failure_answers (sym e) ∙ kept in omega (arith, one))
     read answer (inr h) kept = h
 
     by : (o : Option (ℕ → Option Layout)) → is_some o ≡ true → IsByHeader o k answer → IsByHeader o k answer' → answer ≡ answer'
@@ -109,7 +109,7 @@ IsRead Closed = Unit {0}
 IsRead (NoRoom out) = Unit {0}
 IsRead Unread = ⊥
 
-read-by : (end : Close) → fault_answers (close_answer end) ≡ 0 → IsRead end
+read-by : (end : Close) → failure_answers (close_answer end) ≡ 0 → IsRead end
 read-by Closed h = tt
 read-by (NoRoom out) h = tt
 read-by Unread h = absurd (omega (arith, h))
@@ -207,8 +207,9 @@ off-given m closing w l k es answer rows free left h x c =
 
 pub turns-off-one : (m : Setting) (closing : Option ℕ) (told : Tells m) (w : World) (l : Ledger) (k : ℕ) (es fs : List Event)
     (answer answer' : Answer)
-    (rows rows' : List Row) (free a b : Free) → TurnsOff m w l k es answer rows → TurnsOff m w l k fs answer' rows' → fault_answers answer ≡ 0 →
-    fault_answers answer' ≡ 0 → AreDone (notes_of es) → AreDone (notes_of fs) → ChoosesAll m closing l es free a → ChoosesAll m closing l fs free b →
+    (rows rows' : List Row) (free a b : Free) → TurnsOff m w l k es answer rows → TurnsOff m w l k fs answer' rows' → failure_answers answer ≡ 0 →
+    failure_answers answer' ≡ 0 → AreDone (notes_of es) → AreDone (notes_of fs) →
+    ChoosesAll m closing l es free a → ChoosesAll m closing l fs free b →
     (es ≡ fs) × (answer ≡ answer')
 turns-off-one m closing told w l k es fs answer answer' rows rows' free a b h g kept kept' x y c d =
     let xs = given-parts m closing l free h.done h.notes (off-given m closing w l k es answer rows free a h x c) in
@@ -219,7 +220,7 @@ turns-off-one m closing told w l k es fs answer answer' rows rows' free a b h g 
     let there = subst (λ ns. let now = after_notes l ns in Empties m (sparing_area w k now) k now g.pages g.notes g.end) (sym done) g.empties in
     let given = subst (λ mid. Given m closing now mid g.notes) mids (subst (λ ns. Given m closing (after_notes l ns) ys.0 g.notes) (sym done) ys.3) in
     let rest = empties-one m closing told (sparing_area w k now) k now xs.0 h.pages g.pages h.notes g.notes h.end g.end
-    (read-by h.end (ap fault_answers (sym h.answered) ∙ kept)) (read-by g.end (ap fault_answers (sym g.answered) ∙ kept')) h.empties there
+    (read-by h.end (ap failure_answers (sym h.answered) ∙ kept)) (read-by g.end (ap failure_answers (sym g.answered) ∙ kept')) h.empties there
     xs.3 given in (
       h.whole ∙ (λ i. note_events (done i ++ rest.0 i) ++ turn_off_events k (rest.1 i)) ∙ sym g.whole,
       h.answered ∙ ap close_answer rest.1 ∙ sym g.answered,

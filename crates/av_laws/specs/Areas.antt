@@ -28,7 +28,8 @@ use Rattle.av_trace.specs.declared.row.Row.TheVariants.{Area as AreaRow}
 use Rattle.av_base.specs.Page.{address_of}
 use Rattle.av_vma.specs.Pages.{fresh_area, pages_in}
 use Rattle.av_vma.specs.declared.area.Area.{Area}
-use Rattle.av_plain.specs.Areas.{AnonVma, Anons, Areas, Rmap, chain_length, next_areas, no_anons, no_areas, no_homes, rmap_after}
+use Rattle.av_plain.specs.Areas.{AnonVma, Anons, Areas, Rmap, chain_length, next_areas, no_anons}
+use Rattle.av_plain.specs.Areas.{no_areas, no_homes, rmap_after}
 use Rattle.av_plain.specs.Event.{Noted}
 use Rattle.av_plain.specs.Ledger.{first_ledger}
 use Rattle.av_plain.specs.World.{Process, World, zeros}
@@ -67,8 +68,8 @@ abbrev pub middle_protected : List Area
 middle_protected =
     area 0x10 0x11 read_write ∷ area 0x11 0x13 read_only ∷ area 0x13 0x14 read_write ∷ []
 
-abbrev pub holed : List Area
-holed = area 0x10 0x11 read_write ∷ area 0x12 0x14 read_write ∷ []
+abbrev pub around_hole : List Area
+around_hole = area 0x10 0x11 read_write ∷ area 0x12 0x14 read_write ∷ []
 
 -- ---- with anon_vmas
 

@@ -1,6 +1,6 @@
 -- The areas of each process, and its pages.
 use Rattle.std.specs.Prelude.{ℕ}
-use Rattle.av_vma.specs.Indices.{AreIndicesBelow}
+use Rattle.av_vma.specs.IndexBound.{AreIndicesBelow}
 use Rattle.av_vma.specs.Pages.{AreLaid}
 use Rattle.av_plain.specs.Areas.{Areas, HaveProtsOf}
 use Rattle.av_plain.specs.World.{World, pages}

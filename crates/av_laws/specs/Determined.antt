@@ -5,7 +5,7 @@ use Rattle.av_trace.specs.declared.reply.Reply.{Reply}
 use Rattle.av_plain.specs.World.{World, Page, pages}
 use Rattle.av_plain.specs.Ledger.{Setting}
 use Rattle.av_plain.specs.Pass.{fails}
-use Rattle.av_plain.specs.Step.{fault_answers}
+use Rattle.av_plain.specs.Step.{failure_answers}
 use Rattle.av_plain.specs.Transcript.{Exchange}
 
 -- the devices tell what is on their pages
@@ -17,10 +17,10 @@ abbrev pub IsClaimed : World → Type 0
 IsClaimed w = (p page : ℕ) →
     IfSome (pages w p page) (λ (q : Page). (i : ℕ) → i < page_size → is_some (q.bytes i) ≡ true)
 
--- no write of a slot failed, and the answer is none that only a fault explains
+-- no write of a slot failed, and the answer is none that only a failure explains
 pub record IsFaultless (reply : Reply) : Type 0 where
   pub writes : fails reply.notes ≡ 0
-  pub answer : fault_answers reply.answer ≡ 0
+  pub answer : failure_answers reply.answer ≡ 0
 
 -- ---- transcripts
 

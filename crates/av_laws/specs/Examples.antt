@@ -32,26 +32,35 @@
 --     slot_shown, slot_alone
 --   the numbers of `stat` (`totals`): counted
 --   the choice of frames (`ChoosesFrame`): taken_and_freed, dropped_and_freed
-use Rattle.std.specs.Prelude.{◌≡◌, ℕ, zero, suc, ◌+◌, negsuc, Bool, true, false, ◌==◌, ◌||◌, if◌then◌else◌, List, [], ◌∷◌, map, length, Option, Some, None, option_map, unwrap_or}
+use Rattle.std.specs.Prelude.{◌≡◌, ℕ, zero, suc, ◌+◌, negsuc, Bool, true, false, ◌==◌, ◌||◌}
+use Rattle.std.specs.Prelude.{if◌then◌else◌, List, [], ◌∷◌, map, length, Option, Some, None}
+use Rattle.std.specs.Prelude.{option_map, unwrap_or}
 use Rattle.av_base.specs.declared.prot.Prot.{Prot}
 use Rattle.av_base.specs.declared.slot.Slot.{Slot}
 use Rattle.av_base.specs.Words.{with_at}
 use Rattle.std.specs.List.{range_with_len}
 use Rattle.av_clusters.specs.Clusters.{Slots, fresh, take_slot}
 use Rattle.av_trace.specs.declared.command.Command.{Command}
-use Rattle.av_trace.specs.declared.command.Command.TheVariants.{Spawn, Fork, Exit, Mmap, Munmap, Mprotect, Read, Write, Maps, Areas as AsksAreas, Rmap as AsksRmap, Entry as AsksEntry, Slot as AsksSlot, Swapon, Swapoff}
+use Rattle.av_trace.specs.declared.command.Command.TheVariants.{Spawn, Fork, Exit, Mmap, Munmap}
+use Rattle.av_trace.specs.declared.command.Command.TheVariants.{Mprotect, Read, Write, Maps}
+use Rattle.av_trace.specs.declared.command.Command.TheVariants.{Areas as AsksAreas}
+use Rattle.av_trace.specs.declared.command.Command.TheVariants.{Rmap as AsksRmap}
+use Rattle.av_trace.specs.declared.command.Command.TheVariants.{Entry as AsksEntry}
+use Rattle.av_trace.specs.declared.command.Command.TheVariants.{Slot as AsksSlot, Swapon, Swapoff}
 use Rattle.av_trace.specs.declared.note.Note.{Note}
 use Rattle.av_trace.specs.declared.note.Note.TheVariants.{New}
 use Rattle.av_trace.specs.declared.place.Place.TheVariants.{Auto, Fixed, NoReplace}
 use Rattle.av_trace.specs.declared.reply.Answer.{Answer}
 use Rattle.av_trace.specs.declared.reply.Errno.{Errno}
-use Rattle.av_trace.specs.declared.reply.Errno.TheVariants.{Eagain, Ebusy, Eexist, Efault, Einval, Enomem, Eperm, Esrch}
+use Rattle.av_trace.specs.declared.reply.Errno.TheVariants.{Eagain, Ebusy, Eexist, Efault, Einval}
+use Rattle.av_trace.specs.declared.reply.Errno.TheVariants.{Enomem, Eperm, Esrch}
 use Rattle.av_trace.specs.declared.reply.Reply.{Reply}
 use Rattle.av_trace.specs.declared.row.Row.{Row}
 use Rattle.av_plain.specs.Areas.{no_anons, no_areas, no_homes}
 use Rattle.av_plain.specs.Choice.{Free, no_slots}
 use Rattle.av_plain.specs.World.{Page, Process, World, byte_at, no_pages, pages, zeros}
-use Rattle.av_plain.specs.Ledger.{Ledger, Setting, Cached, Entry, InFrame, InSlot, SwapArea, Zero, first_ledger}
+use Rattle.av_plain.specs.Ledger.{Ledger, Setting, Cached, Entry, InFrame, InSlot, SwapArea, Zero}
+use Rattle.av_plain.specs.Ledger.{first_ledger}
 use Rattle.av_plain.specs.Device.{no_device, setting_of}
 use Rattle.av_plain.specs.Event.{Event, Noted, Used, Zapped}
 use Rattle.av_plain.specs.Fault.{Stop, Touches}

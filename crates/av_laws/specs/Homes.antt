@@ -21,7 +21,8 @@ use Rattle.av_plain.specs.Areas.{Homes, Rmap, no_homes, rmap_after}
 use Rattle.av_plain.specs.Covered.{IsRmapSound}
 use Rattle.av_plain.specs.Event.{Event, Noted, Used, Zapped, after}
 use Rattle.av_plain.specs.Ledger.{Entry, InFrame, InSlot, Key, Ledger, first_ledger}
-use Rattle.av_laws.specs.Areas.{alone, and_at, anons_of, areas_of, child, family, moved_of, root, two_roots}
+use Rattle.av_laws.specs.Areas.{alone, and_at, anons_of, areas_of, child, family, moved_of, root}
+use Rattle.av_laws.specs.Areas.{two_roots}
 use Rattle.av_laws.specs.Examples.{cached_at, slot}
 
 -- ---- what a row claims

@@ -19,7 +19,8 @@ use Rattle.std.specs.Prelude.{ℕ, true, false, List, [], ◌∷◌, Option, Som
 use Rattle.av_trace.specs.declared.command.Command.{Command}
 use Rattle.av_trace.specs.declared.command.Command.TheVariants.{Mremap}
 use Rattle.av_trace.specs.declared.mode.Mode.{Mode}
-use Rattle.av_trace.specs.declared.mode.Mode.TheVariants.{DontUnmap, Fixed as FixedAt, MayMove, Plain}
+use Rattle.av_trace.specs.declared.mode.Mode.TheVariants.{DontUnmap, Fixed as FixedAt, MayMove}
+use Rattle.av_trace.specs.declared.mode.Mode.TheVariants.{Plain}
 use Rattle.av_trace.specs.declared.reply.Errno.{Errno}
 use Rattle.av_trace.specs.declared.reply.Errno.TheVariants.{Efault, Einval, Eperm, Esrch}
 use Rattle.av_vma.specs.declared.area.Area.{Area}
@@ -74,8 +75,8 @@ all_pages = area 0x10 0x7ffffffff read_write ∷ []
 -- ---- states
 
 -- these areas are mapped, and nothing was read or written yet
-abbrev pub untouched : List Area → State
-untouched areas = state_of (world_of areas) first_ledger (only_frames (0 ∷ 1 ∷ 2 ∷ 3 ∷ []))
+abbrev pub fresh_state : List Area → State
+fresh_state areas = state_of (world_of areas) first_ledger (only_frames (0 ∷ 1 ∷ 2 ∷ 3 ∷ []))
 
 -- the first and the last of four pages have a frame, and so has one of two where they may go
 abbrev pub with_frames : State

@@ -4,17 +4,21 @@
 --   a fork and a move (`after_fork`, `after_move`): forks_and_moves
 --   the ledger after an event (`after`): two_of_each, copied_and_gone, two_areas
 --   what a bad page is (`is_usable`, `may_give`): the pass of `bad_pages_are_not_given`
---   failures (`causes`): bus_and_fails, eio, no_fault, cached_when_out
+--   failures (`causes`): bus_and_fails, eio, no_failure, cached_when_out
 --   what a load makes unclaimed (`without_claims`): its_page, page_of_other, its_other_page,
 --     other_page_of_other, told
 use Rattle.std.specs.Prelude.{◌≡◌, ℕ, Bool, true, false, List, [], ◌∷◌, Option}
 use Rattle.av_base.specs.declared.slot.Slot.{Slot}
 use Rattle.av_trace.specs.declared.note.Note.{Note}
-use Rattle.av_trace.specs.declared.note.Note.TheVariants.{Zeroed, New, Copied, Loaded, Mapped, Put, Unmapped, Started, Written, Failed, Dropped, Kept, Aged}
+use Rattle.av_trace.specs.declared.note.Note.TheVariants.{Zeroed, New, Copied, Loaded, Mapped, Put}
+use Rattle.av_trace.specs.declared.note.Note.TheVariants.{Unmapped, Started, Written, Failed}
+use Rattle.av_trace.specs.declared.note.Note.TheVariants.{Dropped, Kept, Aged}
 use Rattle.av_trace.specs.declared.note.Cause.TheVariants.{Referenced, NoSlot, Writeback}
 use Rattle.av_plain.specs.World.{World, byte_at, pages}
-use Rattle.av_plain.specs.Ledger.{Ledger, Setting, Cached, Entry, Key, Zero, InFrame, InSlot, SwapArea, first_ledger}
-use Rattle.av_plain.specs.Event.{Event, Noted, Used, Forked, EntriesMoved, TurnedOn, TurnedOff, Inherited, Zapped, after}
+use Rattle.av_plain.specs.Ledger.{Ledger, Setting, Cached, Entry, Key, Zero, InFrame, InSlot}
+use Rattle.av_plain.specs.Ledger.{SwapArea, first_ledger}
+use Rattle.av_plain.specs.Event.{Event, Noted, Used, Forked, EntriesMoved, TurnedOn, TurnedOff}
+use Rattle.av_plain.specs.Event.{Inherited, Zapped, after}
 use Rattle.av_plain.specs.Load.{with_loads}
 use Rattle.av_laws.specs.Examples.{cached_at, one_area, slot, swap_area, two_bytes}
 

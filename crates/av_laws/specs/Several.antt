@@ -4,7 +4,8 @@
 --   what counts over all areas (`is_full`, `totals`): not_full, full, all_slots, all_free_slots
 --   which page of the device it is (`HoldsTold`, `IsClean`): page_at_next_slot, clean_at_next_slot
 --   what stays of a device (`IsSameDevice`): other_slots, other_page_0 (with same_header)
-use Rattle.std.specs.Prelude.{ℕ, false, ◌==◌, if◌then◌else◌, List, [], ◌∷◌, Some, None, drop, replicate}
+use Rattle.std.specs.Prelude.{ℕ, false, ◌==◌, if◌then◌else◌, List, [], ◌∷◌, Some, None, drop}
+use Rattle.std.specs.Prelude.{replicate}
 use Rattle.av_plain.specs.Device.{Device}
 use Rattle.av_plain.specs.Ledger.{InSlot, Ledger, Setting, first_ledger}
 use Rattle.av_plain.specs.Stands.{BytesStand}

@@ -12,7 +12,8 @@
 --   the order of clusters (`take_slot`, `give_slot`): put_in_turn, put_again, second_cluster
 --   an area that is turned on (`AreFresh`, `SwitchesArea`): on_again, fewer_slots, more_bad,
 --     no_header, adds_up, too_short, too_long, miscounted
-use Rattle.std.specs.Prelude.{◌≡◌, ℕ, suc, ◌+◌, ℤ, pos, true, false, ◌==◌, nat_lt, if◌then◌else◌, List, [], ◌∷◌, map, Option, Some, None}
+use Rattle.std.specs.Prelude.{◌≡◌, ℕ, suc, ◌+◌, ℤ, pos, true, false, ◌==◌, nat_lt, if◌then◌else◌}
+use Rattle.std.specs.Prelude.{List, [], ◌∷◌, map, Option, Some, None}
 use Rattle.av_base.specs.Words.{with_at}
 use Rattle.std.specs.List.{range_with_len}
 use Rattle.av_base.specs.declared.slot.Slot.{Slot}
@@ -20,8 +21,10 @@ use Rattle.av_clusters.specs.Clusters.{fresh}
 use Rattle.av_trace.specs.declared.note.Note.TheVariants.{Put, Unmapped, Started, Failed, Dropped}
 use Rattle.av_plain.specs.Choice.{AreFresh, ChoosesAll, Free, giving_swap_area, no_slots}
 use Rattle.av_plain.specs.Event.{Event, Noted, Zapped, TurnedOn, TurnedOff}
-use Rattle.av_plain.specs.Ledger.{Entry, Key, Ledger, Setting, SwapArea, InFrame, InSlot, first_ledger}
-use Rattle.av_laws.specs.Examples.{cached_at, one_area, only_frames, slot, swap_area, untold, when_given, with_slots}
+use Rattle.av_plain.specs.Ledger.{Entry, Key, Ledger, Setting, SwapArea, InFrame, InSlot}
+use Rattle.av_plain.specs.Ledger.{first_ledger}
+use Rattle.av_laws.specs.Examples.{cached_at, one_area, only_frames, slot, swap_area, untold}
+use Rattle.av_laws.specs.Examples.{when_given, with_slots}
 
 -- ---- what is claimed
 

@@ -27,11 +27,14 @@
 --   whether swap is full (`Serves`, `is_full`): full_at_the_drop, half_full_at_the_drop
 --   whether a page came in (`is_unneeded`): found_when_full
 --   what is claimed after a write (`next_world`): written_after_load, around_unclaimed, around_told
-use Rattle.std.specs.Prelude.{◌≡◌, ℕ, Bool, true, false, ◌==◌, if◌then◌else◌, List, [], ◌∷◌, ◌++◌, Option, Some, None}
+use Rattle.std.specs.Prelude.{◌≡◌, ℕ, Bool, true, false, ◌==◌, if◌then◌else◌, List, [], ◌∷◌, ◌++◌}
+use Rattle.std.specs.Prelude.{Option, Some, None}
 use Rattle.av_trace.specs.declared.command.Command.TheVariants.{Swapoff, Write}
-use Rattle.av_trace.specs.declared.note.Cause.TheVariants.{Referenced, NoSlot, WriteStarted, Writeback}
+use Rattle.av_trace.specs.declared.note.Cause.TheVariants.{Referenced, NoSlot, WriteStarted}
+use Rattle.av_trace.specs.declared.note.Cause.TheVariants.{Writeback}
 use Rattle.av_trace.specs.declared.note.Note.{Note}
-use Rattle.av_trace.specs.declared.note.Note.TheVariants.{Loaded, Mapped, Put, Unmapped, Started, Written, Failed, Dropped, Kept}
+use Rattle.av_trace.specs.declared.note.Note.TheVariants.{Loaded, Mapped, Put, Unmapped, Started}
+use Rattle.av_trace.specs.declared.note.Note.TheVariants.{Written, Failed, Dropped, Kept}
 use Rattle.av_trace.specs.declared.reply.Answer.TheVariants.{Done}
 use Rattle.av_trace.specs.declared.reply.OutOf.{OutOf}
 use Rattle.av_plain.specs.Event.{Event, Noted, TurnedOff, Used, note_events}

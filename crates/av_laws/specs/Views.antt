@@ -1,10 +1,12 @@
 -- Views of a kernel after a fork, when two processes have frame 0, and once that is cached at slot
 -- 1 and unmapped: some that don't stand for the states. Each is the right one but for one thing,
 -- which one clause of `Stands` refuses. (That a kernel can stand for a state its own crates show.)
-use Rattle.std.specs.Prelude.{ℕ, ◌-◌, Bool, false, ◌==◌, ◌&&◌, ◌||◌, if◌then◌else◌, List, [], ◌∷◌, ◌++◌, Some, None, option_map, replicate, codes}
+use Rattle.std.specs.Prelude.{ℕ, ◌-◌, Bool, false, ◌==◌, ◌&&◌, ◌||◌, if◌then◌else◌, List, [], ◌∷◌}
+use Rattle.std.specs.Prelude.{◌++◌, Some, None, option_map, replicate, codes}
 use Rattle.av_clusters.specs.Clusters.{Slots}
 use Rattle.av_plain.specs.Device.{Device, no_device}
-use Rattle.av_plain.specs.Ledger.{InSlot, SwapArea, entry, frame_at, map_count, slot_entries, slot_of}
+use Rattle.av_plain.specs.Ledger.{InSlot, SwapArea, entry, frame_at, map_count, slot_entries}
+use Rattle.av_plain.specs.Ledger.{slot_of}
 use Rattle.av_base.specs.Words.{with_at}
 use Rattle.av_vma.specs.Pages.{fresh_area, pages_in}
 use Rattle.av_vma.specs.declared.area.Area.{Area}
@@ -13,7 +15,8 @@ use Rattle.av_plain.specs.Choice.{no_slots}
 use Rattle.av_plain.specs.Stands.{Stands, View}
 use Rattle.av_plain.specs.Transcript.{State}
 use Rattle.av_laws.specs.Areas.{anons_of, child, root}
-use Rattle.av_laws.specs.Examples.{after_fork, cached_out, machine, one_area, only_frames, read_write, slot, with_slots, with_swap}
+use Rattle.av_laws.specs.Examples.{after_fork, cached_out, machine, one_area, only_frames}
+use Rattle.av_laws.specs.Examples.{read_write, slot, with_slots, with_swap}
 
 -- an area of a process with pages for reading and writing, as it was mapped
 abbrev pub area : ℕ → ℕ → ℕ → Area

@@ -34,7 +34,7 @@ ghost use Rattle.av_laws.specs.Areas.{
   four,
   four_areas,
   four_rows,
-  holed,
+  around_hole,
   middle_protected,
   moved_of,
   of_both,
@@ -57,8 +57,8 @@ pub fn areas_follow()
         middle_protected }
     ensures joined_again { Becomes middle_protected no_anons (Mprotect 1 0x11000 8192 read_write)
         Done 0xf four }
-    ensures hole { Becomes four no_anons (Munmap 1 0x11000 4096) Done 0xf holed }
-    ensures between { Becomes holed no_anons (Mmap 1 4096 read_write (Fixed 0x11000))
+    ensures hole { Becomes four no_anons (Munmap 1 0x11000 4096) Done 0xf around_hole }
+    ensures between { Becomes around_hole no_anons (Mmap 1 4096 read_write (Fixed 0x11000))
         (MapAt 0x11000) 0xf four }
     ensures joined_above { Becomes four no_anons (Mmap 1 8192 read_write (Fixed 0x14000))
         (MapAt 0x14000) 0xf
@@ -71,11 +71,11 @@ pub fn areas_follow()
     ensures fixed_over { Becomes four no_anons (Mmap 1 4096 read_only (Fixed 0x11000))
         (MapAt 0x11000) 0xf
         (area 0x10 0x11 read_write ∷ area 0x11 0x12 read_only ∷ area 0x12 0x14 read_write ∷ []) }
-    ensures up_to_hole { Becomes holed no_anons (Mprotect 1 0x10000 16384 read_only)
+    ensures up_to_hole { Becomes around_hole no_anons (Mprotect 1 0x10000 16384 read_only)
         (Refused Enomem) 0xf
         (area 0x10 0x11 read_only ∷ area 0x12 0x14 read_write ∷ []) }
-    ensures wrapped { Becomes holed no_anons (Mprotect 1 0x10000 18446744073709547520 read_only)
-        (Refused Enomem) 0xf holed }
+    ensures wrapped { Becomes around_hole no_anons
+        (Mprotect 1 0x10000 18446744073709547520 read_only) (Refused Enomem) 0xf around_hole }
     ensures after_exit { Becomes four no_anons (Exit 1) Done 0xf [] }
     ensures unmapped_inside { Becomes (moved_of 1 0x10 0x14 0x20 ∷ []) family
         (Munmap 1 0x11000 4096) Done 0xf

@@ -54,7 +54,7 @@ ghost use Rattle.av_laws.specs.Mremap.{
   three_pages,
   two_move,
   two_of_each,
-  untouched,
+  fresh_state,
   with_frames,
   with_hole,
   zeros_stay,
@@ -142,26 +142,26 @@ pub fn memories_move()
 /// pages; else they go to the greatest free place, if they may, which is sought while they are
 /// still where they were.
 pub fn pages_stay_or_find_a_place()
-    ensures grows_here { ComesBy (machine 4) (untouched root_four)
+    ensures grows_here { ComesBy (machine 4) (fresh_state root_four)
         (Mremap 1 0x10000 16384 24576 Plain)
         (reply_with (MapAt 0x10000) []) [] }
-    ensures up_to_top { ComesBy (machine 4) (untouched last_but_one)
+    ensures up_to_top { ComesBy (machine 4) (fresh_state last_but_one)
         (Mremap 1 0x7fffffffd000 4096 8192 Plain)
         (reply_with (MapAt 0x7fffffffd000) []) [] }
-    ensures no_room { ComesBy (machine 4) (untouched three_pages)
+    ensures no_room { ComesBy (machine 4) (fresh_state three_pages)
         (Mremap 1 0x10000 4096 12288 Plain)
         (reply_with (Refused Enomem) []) [] }
-    ensures past_the_top { ComesBy (machine 4) (untouched last_but_one)
+    ensures past_the_top { ComesBy (machine 4) (fresh_state last_but_one)
         (Mremap 1 0x7fffffffd000 4096 8193 Plain)
         (reply_with (Refused Enomem) []) [] }
-    ensures stays_here { ComesBy (machine 4) (untouched root_four)
+    ensures stays_here { ComesBy (machine 4) (fresh_state root_four)
         (Mremap 1 0x10000 16384 20480 MayMove)
         (reply_with (MapAt 0x10000) []) [] }
-    ensures next_to_top { ComesBy (machine 4) (untouched last)
+    ensures next_to_top { ComesBy (machine 4) (fresh_state last)
         (Mremap 1 0x7fffffffe000 4096 4096 (DontUnmap None))
         (reply_with (MapAt 0x7fffffffd000) [])
         (EntriesMoved 1 1 0x7fffffffe 0x7fffffffd ∷ []) }
-    ensures below_itself { ComesBy (machine 4) (untouched last)
+    ensures below_itself { ComesBy (machine 4) (fresh_state last)
         (Mremap 1 0x7fffffffe000 4096 8192 MayMove)
         (reply_with (MapAt 0x7fffffffc000) [])
         (EntriesMoved 1 1 0x7fffffffe 0x7fffffffc ∷ []) }

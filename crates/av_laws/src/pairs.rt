@@ -66,5 +66,5 @@ pub fn failures_are_counted()
         (reply_with (Oom 0 (record { pinned = 0; noslot = 1; fault = 2 }) []) (Failed (slot 1) ∷
         []))
         ≡ 2 }
-    ensures no_fault { causes (reply_with (Refused Enomem) (Written (slot 1) ∷ [])) ≡ 0 }
+    ensures no_failure { causes (reply_with (Refused Enomem) (Written (slot 1) ∷ [])) ≡ 0 }
 {}

@@ -1,6 +1,8 @@
 -- How `Lru` lays out its lists: each is a ring of places through its head. The place of a frame
 -- is its number, and the heads stand behind the frames.
-use Rattle.std.specs.Prelude.{◌≡◌, ◌≢◌, ◌⊎◌, ℕ, zero, suc, ◌+◌, ◌<◌, ◌^◌, Bool, true, false, List, [], ◌∷◌, length, Option, Some, None, count_by, slice_index, slice_index_or}
+use Rattle.std.specs.Prelude.{◌≡◌, ◌≢◌, ◌⊎◌, ℕ, zero, suc, ◌+◌, ◌<◌, ◌^◌, Bool, true, false, List}
+use Rattle.std.specs.Prelude.{[], ◌∷◌, length, Option, Some, None, count_by, slice_index}
+use Rattle.std.specs.Prelude.{slice_index_or}
 use Rattle.av_lru.specs.Lists.{Lists}
 use Rattle.av_lru.specs.declared.lists.Lengths.{Lengths}
 use Rattle.av_lru.specs.declared.lists.Which.{Which}

@@ -1,6 +1,7 @@
 -- What steps of the swap cache do to the view, by what they answer.
 use Rattle.std.specs.Option.{option_map_or}
-use Rattle.std.specs.Prelude.{◌≡◌, ℕ, ◌<◌, ◌==◌, if◌then◌else◌, false, List, [], ◌∷◌, length, slice_index, Option, None, Some, option_map, Result, Ok, Err}
+use Rattle.std.specs.Prelude.{◌≡◌, ℕ, ◌<◌, ◌==◌, if◌then◌else◌, false, List, [], ◌∷◌, length}
+use Rattle.std.specs.Prelude.{slice_index, Option, None, Some, option_map, Result, Ok, Err}
 use Rattle.av_anon.specs.declared.infos.Info.{Info}
 use Rattle.av_spaces.specs.Kin.{info_of}
 use Rattle.av_base.specs.Page.{page_size}

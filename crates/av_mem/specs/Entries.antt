@@ -1,5 +1,7 @@
 -- How an entry goes that its table has lost, or is about to lose.
-use Rattle.std.specs.Prelude.{◌≡◌, ℕ, ◌+◌, ◌<◌, Bool, false, not, ◌&&◌, ◌==◌, if◌then◌else◌, List, [], ◌∷◌, ◌++◌, length, slice_index_or, Option, Some, None, IfSome, MatchBool}
+use Rattle.std.specs.Prelude.{◌≡◌, ℕ, ◌+◌, ◌<◌, Bool, false, not, ◌&&◌, ◌==◌, if◌then◌else◌, List}
+use Rattle.std.specs.Prelude.{[], ◌∷◌, ◌++◌, length, slice_index_or, Option, Some, None, IfSome}
+use Rattle.std.specs.Prelude.{MatchBool}
 use Rattle.std.specs.List.{list_any}
 use Rattle.av_base.specs.Words.{within}
 use Rattle.av_base.specs.declared.slot.Slot.{Slot}

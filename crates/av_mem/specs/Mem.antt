@@ -1,8 +1,10 @@
 -- The memory system over a device: its view, put together from what its parts are seen as, and what
 -- it stands for.
-use Rattle.std.specs.Prelude.{◌≡◌, ℕ, ℤ, ◌<◌, not, false, List, length, map, Option, Some, None, IfSome, IsSomeAnd, is_some, option_map}
+use Rattle.std.specs.Prelude.{◌≡◌, ℕ, ℤ, ◌<◌, not, false, List, length, map, Option, Some, None}
+use Rattle.std.specs.Prelude.{IfSome, IsSomeAnd, is_some, option_map}
 use Rattle.av_plain.specs.World.{World}
-use Rattle.av_plain.specs.Ledger.{Ledger, Setting, SwapArea, Zero as ZeroEntry, InFrame, InSlot, is_header_slot}
+use Rattle.av_plain.specs.Ledger.{Ledger, Setting, SwapArea, Zero as ZeroEntry, InFrame, InSlot}
+use Rattle.av_plain.specs.Ledger.{is_header_slot}
 use Rattle.av_plain.specs.Transcript.{State}
 use Rattle.av_plain.specs.Sound.{IsSound, AreThere, AreasFit, AtPages, IsTidy}
 use Rattle.av_plain.specs.Device.{Device, device_by, headers_of, setting_of}
@@ -11,7 +13,8 @@ use Rattle.av_anon.specs.declared.infos.Info.{Info}
 use Rattle.av_plain.specs.Areas.{AnonVma, Anons, Rmap}
 use Rattle.av_plain.specs.Choice.{ListsAll}
 use Rattle.av_plain.specs.Report.{Range, range_of}
-use Rattle.av_plain.specs.Stands.{View, Pte as Plain, AnonsStand, AreasAre, AreasStand, Stands, LedgerStands, free_of}
+use Rattle.av_plain.specs.Stands.{View, Pte as Plain, AnonsStand, AreasAre, AreasStand, Stands}
+use Rattle.av_plain.specs.Stands.{LedgerStands, free_of}
 use Rattle.av_frames.specs.Store.{Shown, shown}
 use Rattle.av_lru.specs.Lists.{Lists}
 use Rattle.av_swap_laws.specs.Held.{Held, IsHeld}

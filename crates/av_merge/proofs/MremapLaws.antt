@@ -10,7 +10,7 @@ use Rattle.av_vma.specs.declared.area.Area.{Area}
 use Rattle.av_vma.specs.Index.{first_of, past_of}
 use Rattle.av_vma.specs.Mremap.{IsGrowth, IsMove, after_grow, after_move, grown_to, joined_over, moved_area, moved_range}
 use Rattle.av_vma.specs.Pages.{AreLaid, IsWhole, Lengths, Pages, has_page, joined_around, joined_at, with_area, without_range}
-use Rattle.av_vma.proofs.Mremap.{IsLast, carried, ends_there, filled, filled_mapped, filled_upper, growing, joined_some, joined_starts, last_there, moved_more, out_of_range, shortened, shortened_free, shortened_lower, shortened_mapped, shortened_moves, shortened_upper, skipped, starts_past, whole_elsewhere, with_end}
+use Rattle.av_vma.proofs.Mremap.{IsLast, carried, ends_there, with_range, with_range_mapped, with_range_upper, growing, joined_some, joined_starts, last_there, moved_more, out_of_range, shortened, shortened_free, shortened_lower, shortened_mapped, shortened_moves, shortened_upper, skipped, starts_past, whole_elsewhere, with_end}
 use Rattle.av_vma.proofs.Laid.{has_from, has_parts}
 use Rattle.av_anon.specs.Anons.{Family, own_of}
 use Rattle.av_anon.specs.Order.{IsInOrder}
@@ -503,20 +503,20 @@ module _ (p from n to m k : ℕ) (old : ℕ → Option Area) (before : List Span
       module _ (areas'' : ℕ → Option Area) (spans'' : List Span) (grew : AreAreasOf p areas'' spans'')
           (now'' : (page : ℕ) → pages_by areas'' spans'' page ≡ grown_to (to + m) (pages_by areas' spans' (to + k - 1))
           (pages_by areas' spans') page) where
-        filled_now : (page : ℕ) → pages_by areas'' spans'' page ≡ filled from n to m (pages_by old before) laid_first move page
-        filled_now page =
+        with_range_now : (page : ℕ) → pages_by areas'' spans'' page ≡ with_range from n to m (pages_by old before) laid_first move page
+        with_range_now page =
             now'' page
             ∙ (λ i. grown_to (to + m) (pages_by areas' spans' (to + same i - 1)) (pages_by areas' spans') page)
             ∙ (λ i. grown_to (to + m) (carried_now (to + min n m - 1) i) (λ q. carried_now q i) page)
 
         pub range_ends : NoneCrosses (to + m) spans''
         range_ends = none_from p (to + m) areas'' spans'' grew
-            (λ area e. filled_upper from n to m (pages_by old before) laid_first move area (sym (filled_now (to + m)) ∙ e))
+            (λ area e. with_range_upper from n to m (pages_by old before) laid_first move area (sym (with_range_now (to + m)) ∙ e))
 
         pub range_filled : (page : ℕ) → to ≤ page → page < to + m → is_page_taken spans'' page ≡ true
         range_filled page low high =
-            sym (taken_is p areas'' spans'' page grew) ∙ ap is_some (filled_now page)
-            ∙ filled_mapped from n to m (pages_by old before) laid_first move page low high
+            sym (taken_is p areas'' spans'' page grew) ∙ ap is_some (with_range_now page)
+            ∙ with_range_mapped from n to m (pages_by old before) laid_first move page low high
 
         -- and each boundary has been tried
         pub range_moved : (len len' : Lengths) (new : Pages) → AreAlike len' len (pages_by areas'' spans'')
@@ -525,7 +525,7 @@ module _ (p from n to m k : ℕ) (old : ℕ → Option Area) (before : List Span
         range_moved len len' new alike joins page =
             joins page
             ∙ over_alike len' len to (suc (to + m - to)) (pages_by areas'' spans'') alike page
-            ∙ (λ i. joined_over len to (suc (count i)) (λ q. filled_now q i) page)
+            ∙ (λ i. joined_over len to (suc (count i)) (λ q. with_range_now q i) page)
           where
             count : to + m - to ≡ m
             count = omega arith

@@ -1,6 +1,7 @@
 -- What the calls keep of the anon_vmas and of the areas' chains, and what is made for an area that
 -- gets an anon_vma, in the values of `Areas` and `Anons`.
-use Rattle.std.specs.Prelude.{◌≡◌, ℕ, suc, Bool, false, ◌&&◌, ◌==◌, if◌then◌else◌, List, [], ◌∷◌, Option, Some, option_map}
+use Rattle.std.specs.Prelude.{◌≡◌, ℕ, suc, Bool, false, ◌&&◌, ◌==◌, if◌then◌else◌, List, [], ◌∷◌}
+use Rattle.std.specs.Prelude.{Option, Some, option_map}
 use Rattle.av_vma.specs.declared.area.Area.{Area}
 use Rattle.av_vma.specs.Areas.{area_of}
 use Rattle.av_vma.specs.Pages.{Lengths, makes_anon}

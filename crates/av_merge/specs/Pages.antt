@@ -1,5 +1,6 @@
 -- What is on the pages of a process, as areas by number and a tree of spans say it.
-use Rattle.std.specs.Prelude.{◌≡◌, ℕ, ◌<◌, ◌≤◌, true, false, ◌==◌, if◌then◌else◌, Bool, List, Option, Some, None, option_and_then}
+use Rattle.std.specs.Prelude.{◌≡◌, ℕ, ◌<◌, ◌≤◌, true, false, ◌==◌, if◌then◌else◌, Bool, List}
+use Rattle.std.specs.Prelude.{Option, Some, None, option_and_then}
 use Rattle.av_vma.specs.declared.area.Area.{Area}
 use Rattle.av_vma.specs.Pages.{Pages}
 use Rattle.av_vmatree.specs.declared.span.Span.{Span}

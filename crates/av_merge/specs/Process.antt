@@ -1,5 +1,6 @@
 -- The areas of one process: by number among those of all processes, and in a tree of their spans.
-use Rattle.std.specs.Prelude.{◌≡◌, ◌≢◌, ℕ, ◌<◌, ◌≤◌, true, is_some, List, Option, Some, IfSome, IsSomeAnd}
+use Rattle.std.specs.Prelude.{◌≡◌, ◌≢◌, ℕ, ◌<◌, ◌≤◌, true, is_some, List, Option, Some, IfSome}
+use Rattle.std.specs.Prelude.{IsSomeAnd}
 use Rattle.av_vma.specs.declared.area.Area.{Area}
 use Rattle.av_vma.specs.Areas.{area_of}
 use Rattle.av_vma.specs.Pages.{IsWhole, Pages}

@@ -1,4 +1,4 @@
--- A command that doesn't use the device tells of no fault of one, whatever is on: what it takes away leaves only drops, and no test refuses it so.
+-- A command that doesn't use the device tells of no failure of one, whatever is on: what it takes away leaves only drops, and no test refuses it so.
 use Rattle.std.specs.List.{AllByRecursion}
 use Rattle.std.specs.Prelude.{MatchOption, unwrap_or, if◌then◌else◌}
 use Rattle.std.proofs.Common.{◌≡◌, ◌⊎◌, inl, inr, ℕ, ◌+◌, ◌-◌, min, Bool, true, false, cond, not, List, [], ◌∷◌, ◌++◌, map, Option, Some, None, is_none, refl, sym, ap, subst, ◌∙◌, arith, ◌==◌}
@@ -29,17 +29,17 @@ use Rattle.av_plain.specs.Place.{IsMapAt}
 use Rattle.av_plain.specs.Reclaim.{Outcomes, cause_of, from_tail, leave_notes}
 use Rattle.av_plain.specs.Refusal.{Refuses, Tests, refusal, tests}
 use Rattle.av_plain.specs.Report.{MayBeNoSlot, count_answer, entry_answer, slot_answer, walk_answer}
-use Rattle.av_plain.specs.Step.{Follows, IsLegal, causes, failed_frames, fault_answers, uses_device}
+use Rattle.av_plain.specs.Step.{Follows, IsLegal, causes, failed_frames, failure_answers, uses_device}
 use Rattle.av_plain.specs.World.{World, pages, pages_to_hole}
 use Rattle.av_plain.specs.Zap.{keys_in, keys_of_process, orphan_drop, slot_behind_key, zap_of, zaps_of}
 use Rattle.av_plain.proofs.Access.{notes_of-append, notes_of-note_events}
 use Rattle.av_plain.proofs.Ledger.{how_many-append}
 
--- ---- replies that tell of no fault
+-- ---- replies that tell of no failure
 
--- the answer tells of no fault
+-- the answer tells of no failure
 pub record IsFaultless (answer : Answer) : Type 0 where
-  pub told : fault_answers answer ≡ 0
+  pub told : failure_answers answer ≡ 0
   pub failed : failed_frames answer ≡ 0
 
 -- and no note does
@@ -232,15 +232,15 @@ unused-follows m w l Stat events answer rows un h =
 
 -- no test leads to EIO
 abbrev AreMild : Tests → Type 0
-AreMild tests = AllByRecursion (λ (t : Bool × Errno). fault_answers (Refused t.1) ≡ 0) tests
+AreMild tests = AllByRecursion (λ (t : Bool × Errno). failure_answers (Refused t.1) ≡ 0) tests
 
-mild-refusal : (ts : Tests) (error : Errno) → AreMild ts → refusal ts ≡ Some error → fault_answers (Refused error) ≡ 0
+mild-refusal : (ts : Tests) (error : Errno) → AreMild ts → refusal ts ≡ Some error → failure_answers (Refused error) ≡ 0
 mild-refusal [] error h e = cc
 mild-refusal (t ∷ ts) error h e = by t.0 e (mild-refusal ts error h.1)
   where
-    by : (b : Bool) → (if b then Some t.1 else refusal ts) ≡ Some error → (refusal ts ≡ Some error → fault_answers (Refused error) ≡ 0) →
-        fault_answers (Refused error) ≡ 0
-    by true e rest = ap (λ o. fault_answers (Refused (unwrap_or o Eperm))) (sym e) ∙ h.0
+    by : (b : Bool) → (if b then Some t.1 else refusal ts) ≡ Some error → (refusal ts ≡ Some error → failure_answers (Refused error) ≡ 0) →
+        failure_answers (Refused error) ≡ 0
+    by true e rest = ap (λ o. failure_answers (Refused (unwrap_or o Eperm))) (sym e) ∙ h.0
     by false e rest = rest e
 
 tests-mild : (m : Setting) (w : World) (l : Ledger) (command : Command) → AreMild (tests m w l command)
@@ -268,7 +268,7 @@ tests-mild m w l (AsksEntry p a) = (refl, (refl, tt))
 tests-mild m w l (AsksSlot k page) = (refl, (refl, tt))
 tests-mild m w l Stat = tt
 
--- a reply has no causes where the command tells of no fault unless it is refused
+-- a reply has no causes where the command tells of no failure unless it is refused
 pub faultless-causes : (m : Setting) (w : World) (l : Ledger) (command : Command) (reply : Reply) (events : List Event) →
     (refusal (tests m w l command) ≡ None → Follows m w l command events reply.answer reply.rows → Faultless events reply.answer) →
     IsLegal m w l command reply events → causes reply ≡ 0

@@ -656,7 +656,7 @@ follows-faultless m w l command events answer rows none refused s fine h = unuse
 pub in-areas : (m : Setting) (w : World) (l : Ledger) → AllSound m w l → InAreas m l
 in-areas m w l s = record { sound = s.ledger; there = s.in_areas; fits = s.areas_fit }
 
--- a reply to a command tells of no fault, where no area has a page and a command on an area is refused
+-- a reply to a command tells of no failure, where no area has a page and a command on an area is refused
 areas-causes : (m : Setting) (w : World) (l : Ledger) (command : Command) (reply : Reply) (events : List Event) → HasNoArea m l →
     (is_of_area command ≡ true → refusal (tests m w l command) ≡ None → ⊥) → AllSound m w l → IsLegal m w l command reply events → causes reply ≡ 0
 areas-causes m w l command reply events none refused s legal = faultless-causes m w l command reply events

@@ -1,13 +1,15 @@
 -- What reverse mapping goes by, beside the memories: the areas of each process, the anon_vmas, and
 -- the home of each frame. And what a command makes of them: by what was there and the memories
 -- before it, its events, the command and its answer. They are not part of what makes a reply legal.
-use Rattle.std.specs.Prelude.{◌≡◌, ℕ, suc, ◌+◌, if◌then◌else◌, Bool, true, List, [], ◌∷◌, length, Option, Some, None, IsSome, IsSomeAnd, option_map}
+use Rattle.std.specs.Prelude.{◌≡◌, ℕ, suc, ◌+◌, if◌then◌else◌, Bool, true, List, [], ◌∷◌, length}
+use Rattle.std.specs.Prelude.{Option, Some, None, IsSome, IsSomeAnd, option_map}
 use Rattle.std.specs.Option.{option_map_or}
 use Rattle.av_base.specs.Page.{page_of, pages_of}
 use Rattle.av_base.specs.Words.{is_in, with_at}
 use Rattle.av_base.specs.declared.prot.Prot.{Prot}
 use Rattle.av_trace.specs.declared.command.Command.{Command}
-use Rattle.av_trace.specs.declared.command.Command.TheVariants.{Mprotect, Mremap, Spawn, Exit, Mmap, Munmap}
+use Rattle.av_trace.specs.declared.command.Command.TheVariants.{Mprotect, Mremap, Spawn, Exit, Mmap}
+use Rattle.av_trace.specs.declared.command.Command.TheVariants.{Munmap}
 use Rattle.av_trace.specs.declared.place.Place.{Place}
 use Rattle.av_trace.specs.declared.place.Place.TheVariants.{Auto, At, Fixed, NoReplace}
 use Rattle.av_trace.specs.declared.reply.Answer.{Answer}
@@ -15,7 +17,8 @@ use Rattle.av_trace.specs.declared.reply.Answer.TheVariants.{Done, MapAt, Refuse
 use Rattle.av_trace.specs.declared.reply.Errno.TheVariants.{Enomem}
 use Rattle.av_trace.specs.declared.note.Note.{Note}
 use Rattle.av_trace.specs.declared.note.Note.TheVariants.{New, Copied, Loaded}
-use Rattle.av_vma.specs.Pages.{Lengths, Pages, after_map, after_prepare, after_unmap, home_of, makes_anon, pages_changed, to_prot}
+use Rattle.av_vma.specs.Pages.{Lengths, Pages, after_map, after_prepare, after_unmap, home_of}
+use Rattle.av_vma.specs.Pages.{makes_anon, pages_changed, to_prot}
 use Rattle.av_vma.specs.declared.area.Area.{Area}
 use Rattle.av_plain.specs.Event.{Event, Noted, Used, after}
 use Rattle.av_plain.specs.Ledger.{Entry, InFrame, Key, Ledger, entry, keys_of_slot}

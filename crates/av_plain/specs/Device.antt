@@ -1,5 +1,6 @@
 -- Devices with swap areas, as a run sees them.
-use Rattle.std.specs.Prelude.{◌≡◌, ◌≤◌, ℕ, Bool, true, false, IfSome, List, [], length, min, Option, Some, None, option_map, option_and_then, Result, Ok, Err}
+use Rattle.std.specs.Prelude.{◌≡◌, ◌≤◌, ℕ, Bool, true, false, IfSome, List, [], length, min, Option}
+use Rattle.std.specs.Prelude.{Some, None, option_map, option_and_then, Result, Ok, Err}
 use Rattle.av_swapdev.specs.declared.header.HeaderErr.{HeaderErr}
 use Rattle.av_swapdev.specs.Device.{most_pages}
 use Rattle.av_swapdev.specs.Header.{Layout, header_of, slots_of}

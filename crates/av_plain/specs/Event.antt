@@ -2,14 +2,20 @@
 use Rattle.std.specs.FinMap.Entries.{put, where_key}
 use Rattle.std.specs.List.{list_any}
 use Rattle.std.specs.Ordering.{nat_cmp}
-use Rattle.std.specs.Prelude.{ℕ, ◌+◌, ◌-◌, Bool, true, false, not, ◌&&◌, ◌==◌, if◌then◌else◌, List, [], ◌∷◌, ◌++◌, map, filter, fold, Option, Some, None}
+use Rattle.std.specs.Prelude.{ℕ, ◌+◌, ◌-◌, Bool, true, false, not, ◌&&◌, ◌==◌, if◌then◌else◌, List}
+use Rattle.std.specs.Prelude.{[], ◌∷◌, ◌++◌, map, filter, fold, Option, Some, None}
 use Rattle.av_base.specs.Page.{page_of}
 use Rattle.av_base.specs.Words.{within}
 use Rattle.av_base.specs.declared.slot.Slot.{Slot}
-use Rattle.av_trace.specs.declared.note.Cause.TheVariants.{Writeback, Referenced, NoSlot, WriteStarted}
+use Rattle.av_trace.specs.declared.note.Cause.TheVariants.{Writeback, Referenced, NoSlot}
+use Rattle.av_trace.specs.declared.note.Cause.TheVariants.{WriteStarted}
 use Rattle.av_trace.specs.declared.note.Note.{Note}
-use Rattle.av_trace.specs.declared.note.Note.TheVariants.{Zeroed, New, Copied, Loaded, Mapped, Put, Unmapped, Started, Written, Failed, Dropped, Kept, Aged}
-use Rattle.av_plain.specs.Ledger.{names_frame, key_cmp, same_slot, is_free, frame_at, InFrame, slot_of, Entry, Zero, entry, Cached, Key, Ledger, SwapArea, InSlot}
+use Rattle.av_trace.specs.declared.note.Note.TheVariants.{Zeroed, New, Copied, Loaded, Mapped, Put}
+use Rattle.av_trace.specs.declared.note.Note.TheVariants.{Unmapped, Started, Written, Failed}
+use Rattle.av_trace.specs.declared.note.Note.TheVariants.{Dropped, Kept, Aged}
+use Rattle.av_plain.specs.Ledger.{names_frame, key_cmp, same_slot, is_free, frame_at, InFrame}
+use Rattle.av_plain.specs.Ledger.{slot_of, Entry, Zero, entry, Cached, Key, Ledger, SwapArea}
+use Rattle.av_plain.specs.Ledger.{InSlot}
 use Rattle.av_plain.specs.World.{process}
 
 -- a page that goes over at a fork, whole or as zeros

@@ -1,7 +1,8 @@
 -- Fork: a child gets its parent's memory whole, the parent's entries, and the parent's areas one
 -- after the other, each with a chain.
 use Rattle.std.specs.Option.{option_map_or}
-use Rattle.std.specs.Prelude.{◌≡◌, ◌<◌, ◌≤◌, ◌==◌, ℕ, suc, Bool, true, false, List, [], ◌∷◌, ◌++◌, map, Option, Some, None, IfSome, IsSomeAnd}
+use Rattle.std.specs.Prelude.{◌≡◌, ◌<◌, ◌≤◌, ◌==◌, ℕ, suc, Bool, true, false, List, [], ◌∷◌, ◌++◌}
+use Rattle.std.specs.Prelude.{map, Option, Some, None, IfSome, IsSomeAnd}
 use Rattle.av_base.specs.Words.{how_many, is_in, with_at}
 use Rattle.std.specs.List.{range_with_len}
 use Rattle.av_trace.specs.declared.command.Command.{Command}

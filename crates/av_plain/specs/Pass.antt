@@ -1,13 +1,17 @@
 -- Eviction: writes to slots that end, and the direct pass over all frames where none is free. And
 -- what an out-of-memory says.
-use Rattle.std.specs.Prelude.{◌≡◌, ℕ, ◌<◌, Bool, true, false, not, ◌&&◌, ◌||◌, ◌==◌, if◌then◌else◌, IsTrue, MatchBool, List, [], ◌∷◌, ◌++◌, filter, reverse, Option, is_some, is_none, MatchOption}
+use Rattle.std.specs.Prelude.{◌≡◌, ℕ, ◌<◌, Bool, true, false, not, ◌&&◌, ◌||◌, ◌==◌, if◌then◌else◌}
+use Rattle.std.specs.Prelude.{IsTrue, MatchBool, List, [], ◌∷◌, ◌++◌, filter, reverse, Option}
+use Rattle.std.specs.Prelude.{is_some, is_none, MatchOption}
 use Rattle.av_base.specs.Words.{how_many}
 use Rattle.std.specs.List.{range_with_len}
 use Rattle.av_base.specs.declared.slot.Slot.{Slot}
 use Rattle.av_trace.specs.declared.reply.OutOf.{OutOf}
 use Rattle.av_trace.specs.declared.note.Note.{Note}
-use Rattle.av_trace.specs.declared.note.Note.TheVariants.{Put, Unmapped, Started, Written, Failed, Dropped}
-use Rattle.av_plain.specs.Ledger.{Ledger, Setting, map_count, slot_of, is_free, is_stale, is_orphan, has_free, no_slot, may_give}
+use Rattle.av_trace.specs.declared.note.Note.TheVariants.{Put, Unmapped, Started, Written, Failed}
+use Rattle.av_trace.specs.declared.note.Note.TheVariants.{Dropped}
+use Rattle.av_plain.specs.Ledger.{Ledger, Setting, map_count, slot_of, is_free, is_stale, is_orphan}
+use Rattle.av_plain.specs.Ledger.{has_free, no_slot, may_give}
 use Rattle.av_plain.specs.Event.{after_note, after_notes, when}
 
 -- ---- writes in flight

@@ -1,18 +1,27 @@
 -- Which commands are refused, and with which error: the first test that holds, in one order for
 -- each command.
-use Rattle.std.specs.Prelude.{ℕ, ◌+◌, Bool, true, false, not, ◌==◌, if◌then◌else◌, ◌&&◌, List, [], ◌∷◌, ◌++◌, Option, Some, None, ◌≡◌, ◌||◌, is_none, length, nat_lt, nat_le, ◌^◌}
+use Rattle.std.specs.Prelude.{ℕ, ◌+◌, Bool, true, false, not, ◌==◌, if◌then◌else◌, ◌&&◌, List, []}
+use Rattle.std.specs.Prelude.{◌∷◌, ◌++◌, Option, Some, None, ◌≡◌, ◌||◌, is_none, length, nat_lt}
+use Rattle.std.specs.Prelude.{nat_le, ◌^◌}
 use Rattle.av_base.specs.Limits.{most_processes, low_page, top_page}
 use Rattle.av_base.specs.Page.{page_of, address_of, pages_of, is_on_page}
 use Rattle.av_base.specs.declared.slot.Slot.{Slot}
 use Rattle.av_trace.specs.declared.command.Command.{Command}
-use Rattle.av_trace.specs.declared.command.Command.TheVariants.{Mprotect, Mremap, Spawn, Fork, Exit, Mmap, Munmap, Read, Write, Maps, Reclaim, Age, Complete, Swapon, Swapoff, Areas as AsksAreas, Rmap as AsksRmap, Entry as AsksEntry, Slot as AsksSlot, Stat}
+use Rattle.av_trace.specs.declared.command.Command.TheVariants.{Mprotect, Mremap, Spawn, Fork, Exit}
+use Rattle.av_trace.specs.declared.command.Command.TheVariants.{Mmap, Munmap, Read, Write, Maps}
+use Rattle.av_trace.specs.declared.command.Command.TheVariants.{Reclaim, Age, Complete, Swapon}
+use Rattle.av_trace.specs.declared.command.Command.TheVariants.{Swapoff, Areas as AsksAreas}
+use Rattle.av_trace.specs.declared.command.Command.TheVariants.{Rmap as AsksRmap}
+use Rattle.av_trace.specs.declared.command.Command.TheVariants.{Entry as AsksEntry}
+use Rattle.av_trace.specs.declared.command.Command.TheVariants.{Slot as AsksSlot, Stat}
 use Rattle.av_trace.specs.declared.mode.Mode.{Mode}
 use Rattle.av_trace.specs.declared.place.Place.{Place}
 use Rattle.av_trace.specs.declared.place.Place.TheVariants.{Auto, At, Fixed, NoReplace}
 use Rattle.av_trace.specs.declared.reply.Answer.{Answer}
 use Rattle.av_trace.specs.declared.reply.Answer.TheVariants.{Refused}
 use Rattle.av_trace.specs.declared.reply.Errno.{Errno}
-use Rattle.av_trace.specs.declared.reply.Errno.TheVariants.{Ebusy, Efault, Enomem, Eperm, Esrch, Eagain, Eexist, Einval}
+use Rattle.av_trace.specs.declared.reply.Errno.TheVariants.{Ebusy, Efault, Enomem, Eperm, Esrch}
+use Rattle.av_trace.specs.declared.reply.Errno.TheVariants.{Eagain, Eexist, Einval}
 use Rattle.av_trace.specs.declared.row.Row.{Row}
 use Rattle.av_plain.specs.Event.{Event}
 use Rattle.av_plain.specs.Ledger.{Setting, Ledger, is_on, pages_used, size_of}

@@ -1,13 +1,17 @@
 -- Reports: the runs of `maps`, the areas of `areas`, the walk of `rmap`, the entry of `entry`, the
 -- count of `slot`, and the numbers of `stat`.
-use Rattle.std.specs.Prelude.{◌≡◌, ◌⊎◌, ℕ, ◌<◌, ◌≤◌, ◌&&◌, nat_lt, nat_le, if◌then◌else◌, List, [], ◌∷◌, map, length, sum_by, Option, Some, None, option_map, MatchOption}
+use Rattle.std.specs.Prelude.{◌≡◌, ◌⊎◌, ℕ, ◌<◌, ◌≤◌, ◌&&◌, nat_lt, nat_le, if◌then◌else◌, List, []}
+use Rattle.std.specs.Prelude.{◌∷◌, map, length, sum_by, Option, Some, None, option_map, MatchOption}
 use Rattle.av_base.specs.Page.{address_of}
 use Rattle.av_base.specs.declared.prot.Prot.{Prot}
 use Rattle.av_base.specs.declared.slot.Slot.{Slot}
 use Rattle.av_trace.specs.declared.reply.Answer.{Answer}
 use Rattle.av_trace.specs.declared.command.Command.{Command}
 use Rattle.av_trace.specs.declared.command.Command.TheVariants.{Areas as AsksAreas}
-use Rattle.av_trace.specs.declared.reply.Answer.TheVariants.{AreaList, Walk, NoWalk, EntryEmpty, EntryFrame, EntrySlot, EntryZero, Refused, Runs, SlotBad, SlotCount, Counted}
+use Rattle.av_trace.specs.declared.reply.Answer.TheVariants.{AreaList, Walk, NoWalk, EntryEmpty}
+use Rattle.av_trace.specs.declared.reply.Answer.TheVariants.{EntryFrame, EntrySlot, EntryZero}
+use Rattle.av_trace.specs.declared.reply.Answer.TheVariants.{Refused, Runs, SlotBad, SlotCount}
+use Rattle.av_trace.specs.declared.reply.Answer.TheVariants.{Counted}
 use Rattle.av_trace.specs.declared.reply.Errno.TheVariants.{Einval}
 use Rattle.av_trace.specs.declared.row.Row.{Row}
 use Rattle.av_trace.specs.declared.row.Row.TheVariants.{Run, Area as AreaRow, Entry as EntryRow}
@@ -18,7 +22,9 @@ use Rattle.av_vma.specs.Pages.{Pages, pages_in}
 use Rattle.av_plain.specs.Areas.{Anons, Areas, chain_by}
 use Rattle.av_plain.specs.World.{World, Process, Page}
 use Rattle.av_plain.specs.Event.{Event}
-use Rattle.av_plain.specs.Ledger.{Entry, InFrame, InSlot, Key, Ledger, Setting, SwapArea, Zero, entry, frame_at, free_frames, free_slots, is_usable, slot_count, slot_of, walk}
+use Rattle.av_plain.specs.Ledger.{Entry, InFrame, InSlot, Key, Ledger, Setting, SwapArea, Zero}
+use Rattle.av_plain.specs.Ledger.{entry, frame_at, free_frames, free_slots, is_usable, slot_count}
+use Rattle.av_plain.specs.Ledger.{slot_of, walk}
 
 -- ---- ranges of pages
 

@@ -2,13 +2,16 @@
 -- answer: a view.
 use Rattle.std.specs.FinMap.Entries.{find}
 use Rattle.std.specs.Ordering.{nat_cmp}
-use Rattle.std.specs.Prelude.{ℕ, Bool, true, false, List, map, Option, Some, None, ◌≡◌, ◌<◌, IfSome, IsSomeAnd, is_some, length, option_map, slice_index}
+use Rattle.std.specs.Prelude.{ℕ, Bool, true, false, List, map, Option, Some, None, ◌≡◌, ◌<◌, IfSome}
+use Rattle.std.specs.Prelude.{IsSomeAnd, is_some, length, option_map, slice_index}
 use Rattle.av_base.specs.Page.{page_size}
 use Rattle.av_base.specs.Words.{is_in}
 use Rattle.av_base.specs.declared.slot.Slot.{Slot}
 use Rattle.av_plain.specs.Device.{Device, headers_of}
 use Rattle.av_plain.specs.Fault.{is_shared}
-use Rattle.av_plain.specs.Ledger.{Entry, HasNumbers, InFrame, InSlot, Ledger, Setting, SwapArea, Zero, entry, frame_at, in_flight, is_free, is_stale, map_count, names_frame, slot_entries, slot_of}
+use Rattle.av_plain.specs.Ledger.{Entry, HasNumbers, InFrame, InSlot, Ledger, Setting, SwapArea}
+use Rattle.av_plain.specs.Ledger.{Zero, entry, frame_at, in_flight, is_free, is_stale, map_count}
+use Rattle.av_plain.specs.Ledger.{names_frame, slot_entries, slot_of}
 use Rattle.av_plain.specs.Areas.{AnonVma, Anons, Areas, Homes, chain_by}
 use Rattle.av_plain.specs.Choice.{AreaSlots, Free, ListsAll}
 use Rattle.av_plain.specs.Covered.{AreSlotsCovered, IsRmapSound}

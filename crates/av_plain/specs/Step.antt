@@ -1,10 +1,18 @@
 -- What one command may answer, and the memories and the ledger after it.
-use Rattle.std.specs.Prelude.{ℕ, ◌+◌, Bool, false, true, if◌then◌else◌, List, Option, None, Some, ◌≡◌, length, max, MatchOption}
+use Rattle.std.specs.Prelude.{ℕ, ◌+◌, Bool, false, true, if◌then◌else◌, List, Option, None, Some}
+use Rattle.std.specs.Prelude.{◌≡◌, length, max, MatchOption}
 use Rattle.av_base.specs.Page.{page_of, pages_of}
 use Rattle.av_trace.specs.declared.command.Command.{Command}
-use Rattle.av_trace.specs.declared.command.Command.TheVariants.{Mprotect, Mremap, Spawn, Fork, Exit, Mmap, Munmap, Read, Write, Maps, Reclaim, Age, Complete, Swapon, Swapoff, Areas as AsksAreas, Rmap as AsksRmap, Entry as AsksEntry, Slot as AsksSlot, Stat}
+use Rattle.av_trace.specs.declared.command.Command.TheVariants.{Mprotect, Mremap, Spawn, Fork, Exit}
+use Rattle.av_trace.specs.declared.command.Command.TheVariants.{Mmap, Munmap, Read, Write, Maps}
+use Rattle.av_trace.specs.declared.command.Command.TheVariants.{Reclaim, Age, Complete, Swapon}
+use Rattle.av_trace.specs.declared.command.Command.TheVariants.{Swapoff, Areas as AsksAreas}
+use Rattle.av_trace.specs.declared.command.Command.TheVariants.{Rmap as AsksRmap}
+use Rattle.av_trace.specs.declared.command.Command.TheVariants.{Entry as AsksEntry}
+use Rattle.av_trace.specs.declared.command.Command.TheVariants.{Slot as AsksSlot, Stat}
 use Rattle.av_trace.specs.declared.reply.Answer.{Answer}
-use Rattle.av_trace.specs.declared.reply.Answer.TheVariants.{Bus, Done, MapAt, NoFrame, Oom, Refused}
+use Rattle.av_trace.specs.declared.reply.Answer.TheVariants.{Bus, Done, MapAt, NoFrame, Oom}
+use Rattle.av_trace.specs.declared.reply.Answer.TheVariants.{Refused}
 use Rattle.av_trace.specs.declared.reply.Errno.TheVariants.{Enomem, Eio}
 use Rattle.av_trace.specs.declared.reply.Reply.{Reply}
 use Rattle.av_trace.specs.declared.row.Row.{Row}
@@ -19,10 +27,12 @@ use Rattle.av_plain.specs.Pass.{fails}
 use Rattle.av_plain.specs.Process.{Spawns, Exits}
 use Rattle.av_plain.specs.Reclaim.{Ages, CompletesFirst, Reclaims}
 use Rattle.av_plain.specs.Refusal.{tests, refusal, Refuses, wraps}
-use Rattle.av_plain.specs.Report.{ReportsAreas, ReportsEntry, ReportsRuns, ReportsSlot, ReportsTotals, ReportsWalk}
+use Rattle.av_plain.specs.Report.{ReportsAreas, ReportsEntry, ReportsRuns, ReportsSlot}
+use Rattle.av_plain.specs.Report.{ReportsTotals, ReportsWalk}
 use Rattle.av_plain.specs.Swapoff.{TurnsOff}
 use Rattle.av_plain.specs.Swapon.{TurnsOn}
-use Rattle.av_plain.specs.World.{World, no_pages, pages, with_prot_on, set_process, zeros, end_process, with_pages}
+use Rattle.av_plain.specs.World.{World, no_pages, pages, with_prot_on, set_process, zeros}
+use Rattle.av_plain.specs.World.{end_process, with_pages}
 
 -- ---- the memories after a command
 
@@ -108,7 +118,7 @@ pub record IsLegal (m : Setting) (w : World) (l : Ledger) (command : Command) (r
       (λ error. Refuses error events reply.answer reply.rows)
   pub notes : reply.notes ≡ notes_of events
 
--- ---- what only a fault of the device explains
+-- ---- what only a failure of the device explains
 
 -- the frames that an out-of-memory calls cached: each of them is one whose write failed
 abbrev pub failed_frames : Answer → ℕ
@@ -116,12 +126,12 @@ failed_frames (Oom k out shown) = out.fault
 failed_frames (NoFrame out) = out.fault
 failed_frames answer = 0
 
--- an answer that only a fault explains
-abbrev pub fault_answers : Answer → ℕ
-fault_answers (Bus k shown) = 1
-fault_answers (Refused Eio) = 1
-fault_answers answer = 0
+-- an answer that only a failure explains
+abbrev pub failure_answers : Answer → ℕ
+failure_answers (Bus k shown) = 1
+failure_answers (Refused Eio) = 1
+failure_answers answer = 0
 
 -- by how much the device's count of failures has risen, at the least
 abbrev pub causes : Reply → ℕ
-causes reply = max (fails reply.notes) (failed_frames reply.answer) + fault_answers reply.answer
+causes reply = max (fails reply.notes) (failed_frames reply.answer) + failure_answers reply.answer

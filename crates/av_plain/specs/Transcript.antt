@@ -3,7 +3,8 @@ use Rattle.std.specs.Prelude.{ℕ, List, [], ◌∷◌, ◌≡◌, sum_by}
 use Rattle.std.specs.List.{range_with_len}
 use Rattle.av_trace.specs.declared.command.Command.{Command}
 use Rattle.av_trace.specs.declared.reply.Reply.{Reply}
-use Rattle.av_plain.specs.Areas.{Anons, Areas, Homes, Rmap, no_anons, no_areas, no_homes, rmap_after_all}
+use Rattle.av_plain.specs.Areas.{Anons, Areas, Homes, Rmap, no_anons, no_areas, no_homes}
+use Rattle.av_plain.specs.Areas.{rmap_after_all}
 use Rattle.av_plain.specs.Choice.{ChoosesAll, Free, no_slots}
 use Rattle.av_plain.specs.Event.{Event, after_all}
 use Rattle.av_plain.specs.Fork.{IsRmapNext}

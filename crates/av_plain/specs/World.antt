@@ -2,7 +2,9 @@
 -- slot.
 use Rattle.std.specs.FinMap.Entries.{put, where_key, find}
 use Rattle.std.specs.Ordering.{nat_cmp}
-use Rattle.std.specs.Prelude.{ℕ, ◌+◌, ◌-◌, Bool, true, false, not, ◌==◌, if◌then◌else◌, List, [], ◌∷◌, Option, Some, None, ◌≡◌, IfSome, is_some, ◌||◌, length, option_map, zero, suc, slice_index, option_and_then}
+use Rattle.std.specs.Prelude.{ℕ, ◌+◌, ◌-◌, Bool, true, false, not, ◌==◌, if◌then◌else◌, List, []}
+use Rattle.std.specs.Prelude.{◌∷◌, Option, Some, None, ◌≡◌, IfSome, is_some, ◌||◌, length}
+use Rattle.std.specs.Prelude.{option_map, zero, suc, slice_index, option_and_then}
 use Rattle.av_base.specs.Page.{page_of, place_in_page, address_of}
 use Rattle.av_base.specs.Words.{within}
 use Rattle.av_base.specs.declared.prot.Prot.{Prot}

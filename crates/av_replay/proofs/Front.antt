@@ -5,17 +5,17 @@ use Rattle.av_io.specs.Source.{in_front, Took}
 use Rattle.av_replay.proofs.Bytes.{in_front-then, take-add}
 
 -- more was read behind them
-pub filled : (k n : ℕ) (old new kept : List ℕ) (before left : Option (List ℕ)) → take k old ≡ kept → take k new ≡ take k old →
+pub front-more : (k n : ℕ) (old new kept : List ℕ) (before left : Option (List ℕ)) → take k old ≡ kept → take k new ≡ take k old →
     Took before left (take n (drop k new)) → in_front (take (k + n) new) left ≡ in_front kept before
-filled k n old new kept before left was same took =
+front-more k n old new kept before left was same took =
     ap (λ (l : List ℕ). in_front l left) (take-add k n new ∙ ap (λ (l : List ℕ). l ++ take n (drop k new)) (same ∙ was))
     ∙ in_front-then kept (take n (drop k new)) left
     ∙ ap (in_front kept) (sym took)
 
 -- fewer bytes in front of them
-pub shortened : (start end count : ℕ) (items : List ℕ) → start ≤ end → end ≤ length items → count ≤ length (take (end - start) (drop start items)) →
+pub front-less : (start end count : ℕ) (items : List ℕ) → start ≤ end → end ≤ length items → count ≤ length (take (end - start) (drop start items)) →
     take (end - (start + count)) (drop (start + count) items) ≡ drop count (take (end - start) (drop start items))
-shortened start end count items start_le end_le count_le =
+front-less start end count items start_le end_le count_le =
     let len : length (take (end - start) (drop start items)) ≡ end - start =
     length-take-le (end - start) (drop start items) (omega (arith, length-drop start items)) in
     let whole : count + (end - (start + count)) ≡ end - start = omega (arith, len) in

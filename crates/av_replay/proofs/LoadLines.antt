@@ -13,7 +13,7 @@ use Rattle.av_trace.specs.declared.command.Command.TheVariants as commands
 use Rattle.av_trace.specs.declared.place.Place.TheVariants.{Fixed}
 use Rattle.av_replay.specs.Line.{IsLine}
 use Rattle.av_replay.specs.Replay.{all_lines}
-use Rattle.av_replay.specs.Template.{IsDrawn, filled, no_draws}
+use Rattle.av_replay.specs.Template.{IsDrawn, text_with, no_draws}
 use Rattle.av_replay.specs.Trace.{IsGood, IsTrace, lines_of}
 use Rattle.av_words.specs.Words.{most_load, most_names}
 use Rattle.av_replay.specs.Work.{address_of, after_line, commands_from, draws_of, first_commands, first_process, load, load_lines, reads_and_writes, turn_on, turn_on_commands}
@@ -37,7 +37,7 @@ good-drawn (suc n) x = (good _ (drawn-in-range x) (is-short (draws_of x) (drawn 
 turn-on-good : (area : ℕ) → area < most_names → IsGood (line_of (turn_on area))
 turn-on-good area few =
     let draws = record no_draws { process = area } in
-    let is : filled draws (codes "swapon P") ≡ line_of (turn_on area) = rw (decimal_digit area (omega (arith, few))) refl in
+    let is : text_with draws (codes "swapon P") ≡ line_of (turn_on area) = rw (decimal_digit area (omega (arith, few))) refl in
     good (turn_on area) (record { least = omega arith; most = omega (arith, few) }, tt)
     (short draws (codes "swapon P") (turn_on area) is refl (omega arith))
 

@@ -10,7 +10,7 @@ use Rattle.av_replay.proofs.Templates.{write-line, read-line, fork-line, exit-li
 use Rattle.std.specs.List.{list_all}
 use Rattle.std.proofs.lemmas.Bool.Decides.{nat_tests}
 use Rattle.std.proofs.lemmas.List.Elements.{All-cons, All-nil}
-use Rattle.av_replay.specs.Template.{IsDrawn, filled, glyph}
+use Rattle.av_replay.specs.Template.{IsDrawn, text_with, glyph}
 use Rattle.av_replay.specs.declared.draws.Draws.{Draws}
 
 -- a byte that is no newline stands for none
@@ -22,18 +22,18 @@ both true true e = (refl, refl)
 both true false e = absurd cc
 both false y e = absurd cc
 
-all-plain : (d : Draws) (t : List ℕ) → list_all (λ (b : ℕ). not (b == 10)) t ≡ true → All (λ b. b ≢ 10) (filled d t)
+all-plain : (d : Draws) (t : List ℕ) → list_all (λ (b : ℕ). not (b == 10)) t ≡ true → All (λ b. b ≢ 10) (text_with d t)
 all-plain d [] e = All-nil (λ b. b ≢ 10)
 all-plain d (b ∷ t) e =
     let parts = both (not (b == 10)) (list_all (λ (b : ℕ). not (b == 10)) t) e in
-    All-cons (λ b. b ≢ 10) (glyph d b) (filled d t) (glyph-plain d b parts.0) (all-plain d t parts.1)
+    All-cons (λ b. b ≢ 10) (glyph d b) (text_with d t) (glyph-plain d b parts.0) (all-plain d t parts.1)
 
 -- a line, without its newline
 abbrev pub IsShort : Command → Type 0
 IsShort c = All (λ b. b ≢ 10) (line_of c) × (length (line_of c) ≤ 8448)
 
-pub short : (d : Draws) (t : List ℕ) (c : Command) → filled d t ≡ line_of c → list_all (λ (b : ℕ). not (b == 10)) t ≡ true
-    → length (filled d t) ≤ 8448 → IsShort c
+pub short : (d : Draws) (t : List ℕ) (c : Command) → text_with d t ≡ line_of c → list_all (λ (b : ℕ). not (b == 10)) t ≡ true
+    → length (text_with d t) ≤ 8448 → IsShort c
 short d t c is plain few = (subst (λ line. All (λ b. b ≢ 10) line) is (all-plain d t plain), subst (λ (line : List ℕ). length line ≤ 8448) is few)
 
 either : (b : Bool) (c e : Command) → IsShort c → IsShort e → IsShort (if b then c else e)

@@ -8,7 +8,7 @@ use Rattle.av_trace.specs.declared.command.Command.{Command}
 use Rattle.av_trace.specs.declared.command.Command.TheVariants as commands
 use Rattle.av_trace.specs.declared.place.Place.TheVariants.{Fixed}
 use Rattle.av_text.specs.Hex.{hex}
-use Rattle.av_replay.specs.Template.{IsDrawn, filled}
+use Rattle.av_replay.specs.Template.{IsDrawn, text_with}
 use Rattle.av_replay.specs.Work.{address_of, command_by, command_of, reads_and_writes, reads_only}
 use Rattle.av_replay.specs.declared.draws.Draws.{Draws}
 
@@ -79,73 +79,74 @@ module _ (d : Draws) (drawn : IsDrawn d) where
   page-digits : hex (address_of d.page) ≡ codes "1000" ++ digit_glyph false d.page ∷ codes "000"
   page-digits = hex-page d.page drawn.page
 
-  pub write-line : filled d (codes "write P 1000G000 HL") ≡ line_of (commands.Write d.process (address_of d.page) (d.value ∷ []))
+  pub write-line : text_with d (codes "write P 1000G000 HL") ≡ line_of (commands.Write d.process (address_of d.page) (d.value ∷ []))
   write-line = rw (process-digit, page-digits) refl
 
-  pub write-is : filled d (codes "write P 1000G000 HL\n") ≡ whole (commands.Write d.process (address_of d.page) (d.value ∷ []))
+  pub write-is : text_with d (codes "write P 1000G000 HL\n") ≡ whole (commands.Write d.process (address_of d.page) (d.value ∷ []))
   write-is = ap newline write-line
 
-  pub read-line : filled d (codes "read P 1000G000 1") ≡ line_of (commands.Read d.process (address_of d.page) 1)
+  pub read-line : text_with d (codes "read P 1000G000 1") ≡ line_of (commands.Read d.process (address_of d.page) 1)
   read-line = rw (process-digit, page-digits, one) refl
 
-  pub read-is : filled d (codes "read P 1000G000 1\n") ≡ whole (commands.Read d.process (address_of d.page) 1)
+  pub read-is : text_with d (codes "read P 1000G000 1\n") ≡ whole (commands.Read d.process (address_of d.page) 1)
   read-is = ap newline read-line
 
-  pub fork-line : filled d (codes "fork P Q") ≡ line_of (commands.Fork d.process (1 + d.value % 8))
+  pub fork-line : text_with d (codes "fork P Q") ≡ line_of (commands.Fork d.process (1 + d.value % 8))
   fork-line = rw (process-digit, decimal_digit (1 + d.value % 8) (omega arith)) refl
 
-  pub fork-is : filled d (codes "fork P Q\n") ≡ whole (commands.Fork d.process (1 + d.value % 8))
+  pub fork-is : text_with d (codes "fork P Q\n") ≡ whole (commands.Fork d.process (1 + d.value % 8))
   fork-is = ap newline fork-line
 
-  pub exit-line : filled d (codes "exit P") ≡ line_of (commands.Exit d.process)
+  pub exit-line : text_with d (codes "exit P") ≡ line_of (commands.Exit d.process)
   exit-line = rw (process-digit) refl
 
-  pub exit-is : filled d (codes "exit P\n") ≡ whole (commands.Exit d.process)
+  pub exit-is : text_with d (codes "exit P\n") ≡ whole (commands.Exit d.process)
   exit-is = ap newline exit-line
 
-  pub reclaim-line : filled d (codes "reclaim N") ≡ line_of (commands.Reclaim (1 + d.value % 4))
+  pub reclaim-line : text_with d (codes "reclaim N") ≡ line_of (commands.Reclaim (1 + d.value % 4))
   reclaim-line = rw (count-digit) refl
 
-  pub reclaim-is : filled d (codes "reclaim N\n") ≡ whole (commands.Reclaim (1 + d.value % 4))
+  pub reclaim-is : text_with d (codes "reclaim N\n") ≡ whole (commands.Reclaim (1 + d.value % 4))
   reclaim-is = ap newline reclaim-line
 
-  pub age-line : filled d (codes "age N") ≡ line_of (commands.Age (1 + d.value % 4))
+  pub age-line : text_with d (codes "age N") ≡ line_of (commands.Age (1 + d.value % 4))
   age-line = rw (count-digit) refl
 
-  pub age-is : filled d (codes "age N\n") ≡ whole (commands.Age (1 + d.value % 4))
+  pub age-is : text_with d (codes "age N\n") ≡ whole (commands.Age (1 + d.value % 4))
   age-is = ap newline age-line
 
-  pub complete-line : filled d (codes "complete N") ≡ line_of (commands.Complete (1 + d.value % 4))
+  pub complete-line : text_with d (codes "complete N") ≡ line_of (commands.Complete (1 + d.value % 4))
   complete-line = rw (count-digit) refl
 
-  pub complete-is : filled d (codes "complete N\n") ≡ whole (commands.Complete (1 + d.value % 4))
+  pub complete-is : text_with d (codes "complete N\n") ≡ whole (commands.Complete (1 + d.value % 4))
   complete-is = ap newline complete-line
 
-  pub mprotect-read-line : filled d (codes "mprotect P 1000G000 4096 r--") ≡ line_of (commands.Mprotect d.process (address_of d.page) 4096 reads_only)
+  pub mprotect-read-line : text_with d (codes "mprotect P 1000G000 4096 r--")
+      ≡ line_of (commands.Mprotect d.process (address_of d.page) 4096 reads_only)
   mprotect-read-line = rw (process-digit, page-digits, page-size) refl
 
-  pub mprotect-read : filled d (codes "mprotect P 1000G000 4096 r--\n") ≡ whole (commands.Mprotect d.process (address_of d.page) 4096 reads_only)
+  pub mprotect-read : text_with d (codes "mprotect P 1000G000 4096 r--\n") ≡ whole (commands.Mprotect d.process (address_of d.page) 4096 reads_only)
   mprotect-read = ap newline mprotect-read-line
 
-  pub mprotect-write-line : filled d (codes "mprotect P 1000G000 4096 rw-") ≡ line_of
+  pub mprotect-write-line : text_with d (codes "mprotect P 1000G000 4096 rw-") ≡ line_of
       (commands.Mprotect d.process (address_of d.page) 4096 reads_and_writes)
   mprotect-write-line = rw (process-digit, page-digits, page-size) refl
 
-  pub mprotect-write : filled d (codes "mprotect P 1000G000 4096 rw-\n") ≡ whole
+  pub mprotect-write : text_with d (codes "mprotect P 1000G000 4096 rw-\n") ≡ whole
       (commands.Mprotect d.process (address_of d.page) 4096 reads_and_writes)
   mprotect-write = ap newline mprotect-write-line
 
-  pub munmap-line : filled d (codes "munmap P 1000G000 4096") ≡ line_of (commands.Munmap d.process (address_of d.page) 4096)
+  pub munmap-line : text_with d (codes "munmap P 1000G000 4096") ≡ line_of (commands.Munmap d.process (address_of d.page) 4096)
   munmap-line = rw (process-digit, page-digits, page-size) refl
 
-  pub munmap-is : filled d (codes "munmap P 1000G000 4096\n") ≡ whole (commands.Munmap d.process (address_of d.page) 4096)
+  pub munmap-is : text_with d (codes "munmap P 1000G000 4096\n") ≡ whole (commands.Munmap d.process (address_of d.page) 4096)
   munmap-is = ap newline munmap-line
 
-  pub mmap-line : filled d (codes "mmap P 4096 rw- fixed 1000G000") ≡ line_of
+  pub mmap-line : text_with d (codes "mmap P 4096 rw- fixed 1000G000") ≡ line_of
       (commands.Mmap d.process 4096 reads_and_writes (Fixed (address_of d.page)))
   mmap-line = rw (process-digit, page-digits, page-size) refl
 
-  pub mmap-is : filled d (codes "mmap P 4096 rw- fixed 1000G000\n") ≡ whole
+  pub mmap-is : text_with d (codes "mmap P 4096 rw- fixed 1000G000\n") ≡ whole
       (commands.Mmap d.process 4096 reads_and_writes (Fixed (address_of d.page)))
   mmap-is = ap newline mmap-line
 

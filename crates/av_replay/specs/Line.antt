@@ -1,5 +1,6 @@
 -- A line of input: how it is found in what was read, and what reading on for one leaves.
-use Rattle.std.specs.Prelude.{◌≡◌, ◌≢◌, ℕ, ◌+◌, ◌<◌, ◌≤◌, List, [], ◌∷◌, ◌++◌, ◌⊎◌, length, take, drop, Option, Some, None, Result, Ok, Err, All}
+use Rattle.std.specs.Prelude.{◌≡◌, ◌≢◌, ℕ, ◌+◌, ◌<◌, ◌≤◌, List, [], ◌∷◌, ◌++◌, ◌⊎◌, length, take}
+use Rattle.std.specs.Prelude.{drop, Option, Some, None, Result, Ok, Err, All}
 use Rattle.av_io.specs.Source.{SourceView}
 use Rattle.av_io.specs.Sink.{HasFailed}
 use Rattle.av_replay.specs.declared.line.Found.{Found}

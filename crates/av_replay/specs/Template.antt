@@ -1,5 +1,6 @@
 -- Texts of lines in which capital letters stand for digits that draws give.
-use Rattle.std.specs.Prelude.{ℕ, ◌+◌, ◌/◌, ◌%◌, ◌<◌, ◌≤◌, ◌==◌, if◌then◌else◌, Bool, false, List, ◌++◌, map}
+use Rattle.std.specs.Prelude.{ℕ, ◌+◌, ◌/◌, ◌%◌, ◌<◌, ◌≤◌, ◌==◌, if◌then◌else◌, Bool, false, List}
+use Rattle.std.specs.Prelude.{◌++◌, map}
 use Rattle.std.specs.Fmt.{digit_glyph}
 use Rattle.av_trace.specs.Command.{line_of}
 use Rattle.av_replay.specs.declared.draws.Draws.{Draws}
@@ -31,10 +32,10 @@ glyph d letter =
     else letter)))))
 
 -- the text that a template stands for
-abbrev pub filled : Draws → List ℕ → List ℕ
-filled d template = map (glyph d) template
+abbrev pub text_with : Draws → List ℕ → List ℕ
+text_with d template = map (glyph d) template
 
 -- what is left of a load: the rest of some lines, and those of what is still to be commanded
 abbrev pub left_of : Draws → List ℕ → Bool → ℕ → ℕ → List ℕ
 left_of d rest is_begun lines x =
-    filled d rest ++ all_lines (map line_of (commands_left is_begun lines x))
+    text_with d rest ++ all_lines (map line_of (commands_left is_begun lines x))

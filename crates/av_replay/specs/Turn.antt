@@ -1,5 +1,6 @@
 -- One turn of the loop over the lines.
-use Rattle.std.specs.Prelude.{◌≡◌, ℕ, ◌+◌, ◌<◌, ◌≤◌, List, [], ◌∷◌, ◌++◌, ◌⊎◌, length, take, Option, None, option_map, Bool, true, false, Result, Ok, Err}
+use Rattle.std.specs.Prelude.{◌≡◌, ℕ, ◌+◌, ◌<◌, ◌≤◌, List, [], ◌∷◌, ◌++◌, ◌⊎◌, length, take, Option}
+use Rattle.std.specs.Prelude.{None, option_map, Bool, true, false, Result, Ok, Err}
 use Rattle.std.specs.List.{flat_map}
 use Rattle.std.specs.Option.{option_to_list}
 use Rattle.av_trace.specs.declared.command.Command.{Command}
@@ -18,7 +19,8 @@ use Rattle.av_replay.specs.declared.status.Status.{Status}
 use Rattle.av_replay.specs.declared.status.Status.TheVariants as statuses
 use Rattle.av_replay.specs.declared.status.RunErr.{RunErr}
 use Rattle.av_replay.specs.declared.status.RunErr.TheVariants as errors
-use Rattle.av_replay.specs.Ports.{PortsView, undone, room, Begins, ReadsOn, IsAtEnd, IsReadFault, StaysOpen, Writes}
+use Rattle.av_replay.specs.Ports.{PortsView, undone, room, Begins, ReadsOn, IsAtEnd, IsReadFault}
+use Rattle.av_replay.specs.Ports.{StaysOpen, Writes}
 use Rattle.av_replay.specs.Line.{IsLine, IsTooLong}
 
 -- ---- what a line does

@@ -3,7 +3,7 @@
 ghost use Rattle.std.specs.Prelude.{◌≡◌, ◌++◌, ◌∷◌, ◌<◌, [], false};
 ghost use Rattle.std.specs.Fmt.{digit_glyph};
 ghost use Rattle.av_trace.specs.Command.{line_of};
-ghost use Rattle.av_replay.specs.Template.{IsDrawn, filled, glyph};
+ghost use Rattle.av_replay.specs.Template.{IsDrawn, text_with, glyph};
 ghost use Rattle.av_replay.specs.Work.{command_of};
 
 use crate::draws::Draws;
@@ -38,7 +38,7 @@ pub fn fill(draws: &Draws, letter: u8) -> u8
 /// The template of the line that draws make, with its newline.
 pub fn template_of(draws: &Draws) -> &'static [u8]
     requires { IsDrawn draws.now }
-    ensures { filled draws.now result.now ≡ line_of (command_of draws.now) ++ 10 ∷ [] }
+    ensures { text_with draws.now result.now ≡ line_of (command_of draws.now) ++ 10 ∷ [] }
 {
     match draws.kind {
         0..=4 => b"write P 1000G000 HL\n",

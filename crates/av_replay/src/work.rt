@@ -4,7 +4,7 @@ ghost use Rattle.std.specs.Prelude.{◌≡◌, ◌≤◌, ◌++◌, [], ◌∷�
 ghost use Rattle.std.specs.Prelude.{take};
 ghost use Rattle.av_trace.specs.Command.{line_of};
 ghost use Rattle.av_replay.specs.Replay.{all_lines};
-ghost use Rattle.av_replay.specs.Template.{IsDrawn, filled, left_of, no_draws};
+ghost use Rattle.av_replay.specs.Template.{IsDrawn, text_with, left_of, no_draws};
 ghost use Rattle.av_words.specs.Words.{most_names};
 ghost use Rattle.av_replay.specs.Work.{load_lines, turn_on_commands};
 
@@ -23,7 +23,7 @@ const FIRST_PROCESS: &[u8] = b"spawn 1\nmmap 1 65536 rw- fixed 10000000\n";
 /// The lines that turn on the first so many swap areas.
 fn turn_on_lines(areas: usize) -> &'static [u8]
     requires { areas ≤ most_names }
-    ensures { filled no_draws result.now ≡ all_lines (map line_of (turn_on_commands areas)) }
+    ensures { text_with no_draws result.now ≡ all_lines (map line_of (turn_on_commands areas)) }
 {
     &TURN_ON[..areas * b"swapon 0\n".len()]
 }
@@ -107,7 +107,7 @@ fn fill_front(draws: &Draws, template: &[u8], into: &mut [u8], count: usize)
     requires drawn { IsDrawn draws.now }
     requires there { count ≤ length template.now }
     requires room { count ≤ length into.old }
-    ensures front { take count into.new ≡ filled draws.now (take count template.now) }
+    ensures front { take count into.new ≡ text_with draws.now (take count template.now) }
     ensures len { length into.new ≡ length into.old }
 {
     let mut at = 0;

@@ -42,9 +42,12 @@ const CASES: [Case; 4] = [
 reclaim 1\ncomplete 1\nread 1 7fffffffe000 1\nage 1\nreclaim 1\nage 1\nreclaim 1\ncomplete 1\n\
 reclaim 1\nread 1 7fffffffe000 1\n",
         text: b"on 3 0\nok\nmap 7fffffffe000\nok\n new 1 7fffffffe000 0\n\
-ok\n keep 0 referenced\nok\n age 0\nok\n put 0 0:1\n unmap 0\n start 0:1\n keep 0 started\nok\n fail 0:1\ndata 01\n map 1 \
-7fffffffe000 0\nok\nok\n keep 0 referenced\nok\n age 0\nok\n unmap 0\n start 0:1\n keep 0 \
-started\nok\n done 0:1\nok\n drop 0:1\ndata 01\n load 0:1 0\n map 1 7fffffffe000 0\n",
+ok\n keep 0 referenced\nok\n age 0\n\
+ok\n put 0 0:1\n unmap 0\n start 0:1\n keep 0 started\nok\n fail 0:1\n\
+data 01\n map 1 7fffffffe000 0\nok\n\
+ok\n keep 0 referenced\nok\n age 0\n\
+ok\n unmap 0\n start 0:1\n keep 0 started\nok\n done 0:1\n\
+ok\n drop 0:1\ndata 01\n load 0:1 0\n map 1 7fffffffe000 0\n",
         first_bytes: &[0, 1, 0, 0],
     },
     // A pass in vain, one that frees the frame, and a read that fails behind it.

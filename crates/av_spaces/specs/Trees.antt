@@ -1,6 +1,7 @@
 -- The processes seen through the areas by number and a tree of spans for each process, by its
 -- number.
-use Rattle.std.specs.Prelude.{◌≡◌, ◌≢◌, ℕ, ◌≤◌, ◌^◌, List, length, Option, None, is_some, option_map, slice_index_or, IfSome, MatchOption}
+use Rattle.std.specs.Prelude.{◌≡◌, ◌≢◌, ℕ, ◌≤◌, ◌^◌, List, length, Option, None, is_some}
+use Rattle.std.specs.Prelude.{option_map, slice_index_or, IfSome, MatchOption}
 use Rattle.std.specs.List.{filter_map, enumerate_from}
 use Rattle.av_base.specs.Words.{how_many}
 use Rattle.av_vma.specs.declared.area.Area.{Area}

@@ -1,20 +1,23 @@
 -- A page goes out to a swap area and comes back, step by step: that what the laws ask for can be
 -- met, one after the other. One frame, one process with one page, and a swap area with 7 slots on
 -- devices that don't tell their pages.
-use Rattle.std.specs.Prelude.{ℕ, ◌==◌, ◌&&◌, true, false, if◌then◌else◌, [], ◌∷◌, Some, None, option_map}
+use Rattle.std.specs.Prelude.{ℕ, ◌==◌, ◌&&◌, true, false, if◌then◌else◌, [], ◌∷◌, Some, None}
+use Rattle.std.specs.Prelude.{option_map}
 use Rattle.av_base.specs.Page.{address_of}
 use Rattle.av_base.specs.Words.{with_at}
 use Rattle.av_base.specs.declared.prot.Prot.{Prot}
 use Rattle.av_base.specs.declared.slot.Slot.{Slot}
 use Rattle.av_clusters.specs.Clusters.{fresh}
-use Rattle.av_trace.specs.declared.note.Note.TheVariants.{Dropped, Loaded, Mapped, Put, Started, Unmapped, Written}
+use Rattle.av_trace.specs.declared.note.Note.TheVariants.{Dropped, Loaded, Mapped, Put, Started}
+use Rattle.av_trace.specs.declared.note.Note.TheVariants.{Unmapped, Written}
 use Rattle.av_vma.specs.Pages.{fresh_area}
 use Rattle.av_vma.specs.declared.area.Area.{Area}
 use Rattle.av_plain.specs.Areas.{Rmap, root_anon}
 use Rattle.av_plain.specs.Choice.{no_slots}
 use Rattle.av_plain.specs.Device.{Device}
 use Rattle.av_plain.specs.Event.{Noted}
-use Rattle.av_plain.specs.Ledger.{Entry, InFrame, Ledger, Setting, entry, first_ledger, frame_at, map_count, slot_entries, slot_of}
+use Rattle.av_plain.specs.Ledger.{Entry, InFrame, Ledger, Setting, entry, first_ledger, frame_at}
+use Rattle.av_plain.specs.Ledger.{map_count, slot_entries, slot_of}
 use Rattle.av_plain.specs.Stands.{Pte, View}
 use Rattle.av_plain.specs.Swapon.{priority_of}
 use Rattle.av_plain.specs.World.{World, zeros}

@@ -7,7 +7,8 @@ use Rattle.av_plain.specs.Covered.{AreSlotsCovered, IsRmapSound}
 use Rattle.av_plain.specs.Device.{Device}
 use Rattle.av_plain.specs.Event.{Event, after}
 use Rattle.av_plain.specs.Ledger.{Ledger, Setting}
-use Rattle.av_plain.specs.Stands.{AreasStand, BytesStand, HeadersStand, HomesAre, LedgerStands, View, free_of}
+use Rattle.av_plain.specs.Stands.{AreasStand, BytesStand, HeadersStand, HomesAre, LedgerStands}
+use Rattle.av_plain.specs.Stands.{View, free_of}
 use Rattle.av_plain.specs.World.{World}
 
 -- a memory system, by its view, with its devices, memories, ledger, areas, anon_vmas and homes

@@ -1,6 +1,8 @@
 -- What is shown of one swap area that is on: its header, its slots with their clusters, and of each
 -- slot the frame that caches it and how many entries name it.
-use Rattle.std.specs.Prelude.{◌≡◌, ◌<◌, ℕ, ℤ, ◌+◌, Bool, false, not, ◌&&◌, ◌||◌, nat_lt, if◌then◌else◌, List, length, slice_index_or, Option, None, is_some, count_by}
+use Rattle.std.specs.Prelude.{◌≡◌, ◌<◌, ℕ, ℤ, ◌+◌, Bool, false, not, ◌&&◌, ◌||◌, nat_lt}
+use Rattle.std.specs.Prelude.{if◌then◌else◌, List, length, slice_index_or, Option, None, is_some}
+use Rattle.std.specs.Prelude.{count_by}
 use Rattle.av_base.specs.Words.{is_in, with_at}
 use Rattle.av_clusters.specs.declared.clusters.Page.{Page}
 use Rattle.av_clusters.specs.Clusters.{Slots, fresh, give_slot, is_free, is_taken, page_at}

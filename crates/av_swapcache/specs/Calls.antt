@@ -1,9 +1,11 @@
 -- What the calls of `Swap` do.
-use Rattle.std.specs.Prelude.{◌≡◌, ℕ, ℤ, ◌<◌, true, false, List, [], ◌∷◌, length, slice_index, count_by, Option, None, Some, Ok, Err}
+use Rattle.std.specs.Prelude.{◌≡◌, ℕ, ℤ, ◌<◌, true, false, List, [], ◌∷◌, length, slice_index}
+use Rattle.std.specs.Prelude.{count_by, Option, None, Some, Ok, Err}
 use Rattle.av_base.specs.Page.{page_size}
 use Rattle.av_base.specs.declared.slot.Slot.{Slot}
 use Rattle.av_clusters.specs.Clusters.{Slots, fresh as fresh_slots, is_free, take_slot}
-use Rattle.av_frames.specs.Store.{Shown as ShownFrames, with_bytes, with_dirty, with_slot as with_frame_slot}
+use Rattle.av_frames.specs.Store.{Shown as ShownFrames, with_bytes, with_dirty}
+use Rattle.av_frames.specs.Store.{with_slot as with_frame_slot}
 use Rattle.av_io.specs.Count.{Rose}
 use Rattle.av_swapdev.specs.Device.{Holds, IsSpoiled, IsWritten, most_areas}
 use Rattle.av_swapdev.specs.Header.{AddsUp, Layout, header_of, in_numbers}
@@ -11,7 +13,8 @@ use Rattle.av_swapcache.specs.declared.swap.Finished.{Finished}
 use Rattle.av_swapcache.specs.declared.swap.Finished.TheVariants.{Done, Failed}
 use Rattle.av_swapcache.specs.declared.swap.SwapOn.{SwapOn}
 use Rattle.av_swapcache.specs.declared.swap.SwapOn.TheVariants.{On, Busy, Io, Bad}
-use Rattle.av_swapcache.specs.Swap.{GivesFirst, Shown, after_on, after_put, count_of, is_on, with_find}
+use Rattle.av_swapcache.specs.Swap.{GivesFirst, Shown, after_on, after_put, count_of, is_on}
+use Rattle.av_swapcache.specs.Swap.{with_find}
 
 -- what an area that is turned on becomes
 abbrev pub Answers : Option (ℕ → ℕ → List ℕ) → ℕ → ℕ → ℤ → SwapOn → Shown → Shown → Type 0

@@ -2,13 +2,17 @@
 use Rattle.std.specs.FinMap.Entries.{find, put, where_key}
 use Rattle.std.specs.List.{list_any}
 use Rattle.std.specs.Ordering.{nat_cmp}
-use Rattle.std.specs.Prelude.{◌≡◌, ℕ, ℤ, pos, ◌+◌, ◌*◌, ◌^◌, ◌<◌, ◌≤◌, ◌<ℤ◌, ◌≤ℤ◌, int_lt, Bool, true, false, not, ◌&&◌, ◌==◌, nat_lt, if◌then◌else◌, List, [], ◌∷◌, length, slice_index_or, sum_by, count_by, Option, None, Some, is_some, option_map, IfSome, IsSomeAnd, count_by}
+use Rattle.std.specs.Prelude.{◌≡◌, ℕ, ℤ, pos, ◌+◌, ◌*◌, ◌^◌, ◌<◌, ◌≤◌, ◌<ℤ◌, ◌≤ℤ◌, int_lt, Bool}
+use Rattle.std.specs.Prelude.{true, false, not, ◌&&◌, ◌==◌, nat_lt, if◌then◌else◌, List, [], ◌∷◌}
+use Rattle.std.specs.Prelude.{length, slice_index_or, sum_by, count_by, Option, None, Some, is_some}
+use Rattle.std.specs.Prelude.{option_map, IfSome, IsSomeAnd, count_by}
 use Rattle.av_base.specs.Words.{how_many, with_at}
 use Rattle.av_base.specs.declared.slot.Slot.{Slot}
 use Rattle.av_clusters.specs.Clusters.{Slots, fresh as fresh_slots, is_taken, page_at}
 use Rattle.av_swapdev.specs.Device.{most_areas}
 use Rattle.av_swapdev.specs.declared.header.Header.{Header}
-use Rattle.av_swapcache.specs.Area.{AreaShown, AreaStore, IsKept, IsSlot, is_slot, after_count, area_shown, counted, free_in}
+use Rattle.av_swapcache.specs.Area.{AreaShown, AreaStore, IsKept, IsSlot, is_slot, after_count}
+use Rattle.av_swapcache.specs.Area.{area_shown, counted, free_in}
 
 -- ---- what is shown
 

@@ -1,6 +1,8 @@
 -- The swap areas of a device: how many pages each has, what the pages hold where that is told, and
 -- what a call changes of them.
-use Rattle.std.specs.Prelude.{◌≡◌, ℕ, ◌-◌, ◌<◌, ◌==◌, if◌then◌else◌, List, [], map, min, length, slice_index, slice_index_or, Bool, false, Option, Some, None, option_map, IfSome, IsSomeAnd}
+use Rattle.std.specs.Prelude.{◌≡◌, ℕ, ◌-◌, ◌<◌, ◌==◌, if◌then◌else◌, List, [], map, min, length}
+use Rattle.std.specs.Prelude.{slice_index, slice_index_or, Bool, false, Option, Some, None}
+use Rattle.std.specs.Prelude.{option_map, IfSome, IsSomeAnd}
 use Rattle.av_base.specs.Words.{with_at}
 use Rattle.av_base.specs.Page.{page_size}
 use Rattle.std.specs.declared.vec.Vec.{Vec}

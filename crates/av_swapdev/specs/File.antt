@@ -1,6 +1,8 @@
 -- Files that serve as swap areas: what is told of a file and of those that have names, and what a
 -- call changes of it.
-use Rattle.std.specs.Prelude.{◌≡◌, ℕ, ◌+◌, ◌/◌, ◌≤◌, ◌≢◌, List, ◌++◌, length, take, drop, min, Option, Some, None, option_map, unwrap_or, slice_index_or, IfSome, Result, Ok, Err}
+use Rattle.std.specs.Prelude.{◌≡◌, ℕ, ◌+◌, ◌/◌, ◌≤◌, ◌≢◌, List, ◌++◌, length, take, drop, min}
+use Rattle.std.specs.Prelude.{Option, Some, None, option_map, unwrap_or, slice_index_or, IfSome}
+use Rattle.std.specs.Prelude.{Result, Ok, Err}
 use Rattle.av_base.specs.Page.{page_size}
 use Rattle.av_io.specs.Count.{one_more}
 use Rattle.av_swapdev.specs.Device.{most_pages}
@@ -43,8 +45,8 @@ pub record Opens (files : FilesView) (name : List ℕ) (file : FileView) : Type 
 abbrev pub after_call : FileView → FileView
 after_call file = record file { calls = one_more file.calls }
 
-abbrev pub after_fault : FileView → FileView
-after_fault file = record file { calls = one_more file.calls; failures = one_more file.failures }
+abbrev pub after_failure : FileView → FileView
+after_failure file = record file { calls = one_more file.calls; failures = one_more file.failures }
 
 -- what a file holds, with these bytes from a place on
 abbrev pub with_bytes : ℕ → List ℕ → List ℕ → List ℕ
@@ -67,7 +69,7 @@ Stores old new place piece = new ≡ after_call (storing place piece old)
 pub record StoresPart (old new : FileView) (place : ℕ) (piece : List ℕ) : Type 0 where
   pub part : List ℕ
   pub within : length part ≤ length piece
-  pub stored : new ≡ after_fault (storing place part old)
+  pub stored : new ≡ after_failure (storing place part old)
 
 -- where there is no file, nothing is told and nothing called
 abbrev pub no_file : FileView

@@ -1,5 +1,7 @@
 -- What page 0 of a swap area says of it: `mkswap`'s header, version 1.
-use Rattle.std.specs.Prelude.{◌≡◌, ℕ, ◌+◌, ◌-◌, ◌*◌, ◌<◌, ◌≤◌, ◌==◌, Bool, not, ◌||◌, nat_eq, nat_lt, if◌then◌else◌, min, List, [], drop, map, filter, length, codes, Option, Some, None, Result, Ok, Err}
+use Rattle.std.specs.Prelude.{◌≡◌, ℕ, ◌+◌, ◌-◌, ◌*◌, ◌<◌, ◌≤◌, ◌==◌, Bool, not, ◌||◌, nat_eq}
+use Rattle.std.specs.Prelude.{nat_lt, if◌then◌else◌, min, List, [], drop, map, filter, length}
+use Rattle.std.specs.Prelude.{codes, Option, Some, None, Result, Ok, Err}
 use Rattle.std.specs.List.{list_any, range_with_len, ends_with}
 use Rattle.av_base.specs.Words.{is_in}
 use Rattle.av_swapdev.specs.Device.{most_pages}
@@ -8,7 +10,9 @@ use Rattle.av_swapdev.specs.declared.header.Order.{Order}
 use Rattle.av_swapdev.specs.declared.header.Order.TheVariants.{Little, Big}
 use Rattle.av_swapdev.specs.declared.header.Header.{Header}
 use Rattle.av_swapdev.specs.declared.header.HeaderErr.{HeaderErr}
-use Rattle.av_swapdev.specs.declared.header.HeaderErr.TheVariants.{Signature, Version, LastPage, Short, TooManyBad, BadPage, NoSlot}
+use Rattle.av_swapdev.specs.declared.header.HeaderErr.TheVariants.{Signature, Version, LastPage}
+use Rattle.av_swapdev.specs.declared.header.HeaderErr.TheVariants.{Short, TooManyBad, BadPage}
+use Rattle.av_swapdev.specs.declared.header.HeaderErr.TheVariants.{NoSlot}
 
 -- what a header says of its area: how many pages it has, the header's among them; how many of them
 -- are slots; which are bad

@@ -2,7 +2,7 @@
 
 ghost use Rattle.std.specs.Prelude.{◌≡◌, IfOk, OnOk, OnErr};
 ghost use Rattle.av_swapdev.specs.File.{FileView, FilesView, Opens, Reads, Stores, StoresPart};
-ghost use Rattle.av_swapdev.specs.File.{after_open, after_fault};
+ghost use Rattle.av_swapdev.specs.File.{after_open, after_failure};
 
 use crate::device::AttachErr;
 use av_io::Failed;
@@ -20,7 +20,7 @@ pub trait SwapFile {
     /// Fills `into` with the bytes from `place` on. After an error it has any bytes.
     fn read_at(&mut self, place: u64, into: &mut [u8]) -> Result<(), Failed>
         ensures ok { OnOk result (Reads (view self.old) (view self.new) place into.new) }
-        ensures err { OnErr result (view self.new ≡ after_fault (view self.old)) };
+        ensures err { OnErr result (view self.new ≡ after_failure (view self.old)) };
 
     /// Stores `piece` from `place` on. After an error any bytes may stand in its place.
     fn write_at(&mut self, place: u64, piece: &[u8]) -> Result<(), Failed>

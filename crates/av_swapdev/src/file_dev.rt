@@ -8,7 +8,7 @@ ghost use Rattle.av_io.specs.Count.{Rose, one_more};
 ghost use Rattle.av_swapdev.specs.Device.{HasPage, Holds, IsRenewed, IsSpoiled, IsWritten};
 ghost use Rattle.av_swapdev.specs.Device.{most_areas, most_pages};
 ghost use Rattle.av_swapdev.specs.File.{Opens, Reads, SameBut, Stores, StoresPart, after_open};
-ghost use Rattle.av_swapdev.specs.File.{after_fault, file_at, pages_of, sizes_of};
+ghost use Rattle.av_swapdev.specs.File.{after_failure, file_at, pages_of, sizes_of};
 
 use crate::device::{AttachErr, MOST_PAGES, SwapDev};
 use crate::file::{SwapFile, SwapFiles};
@@ -66,7 +66,7 @@ fn pages_of(len: u64) -> u32
     (len / PAGE_SIZE).min(u64::from(MOST_PAGES)) as u32
 }
 
-/// One more fault.
+/// One more failure.
 fn count(failures: &mut u64)
     ensures once { failures.new ≡ one_more failures.old }
     ensures never_falls { failures.old ≤ failures.new }
@@ -90,7 +90,7 @@ fn read_page<F: SwapFile>(
     ensures ok { OnOk result (Reads (F.view attached.old.file) (F.view attached.new.file)
         (page * page_size) into.new) }
     ensures err { OnErr result (F.view attached.new.file
-        ≡ after_fault (F.view attached.old.file)) }
+        ≡ after_failure (F.view attached.old.file)) }
     ensures pages { attached.new.pages ≡ attached.old.pages }
 {
     attached.file.read_at(place(page), into)
@@ -180,8 +180,8 @@ impl<H: SwapFiles + Drop> SwapDev for FileDev<H> {
         // and this is its answer; each other file is left alone.
         ensures file { OnOk result (Reads (file_at H.File.view self.old.areas.items area)
             (file_at H.File.view self.new.areas.items area) (page * page_size) into.new) }
-        ensures fault { OnErr result (file_at H.File.view self.new.areas.items area
-            ≡ after_fault (file_at H.File.view self.old.areas.items area)) }
+        ensures failure { OnErr result (file_at H.File.view self.new.areas.items area
+            ≡ after_failure (file_at H.File.view self.old.areas.items area)) }
         ensures others { SameBut area (file_at H.File.view self.old.areas.items)
             (file_at H.File.view self.new.areas.items) }
         ensures same_files { self.new.files ≡ self.old.files }
@@ -216,7 +216,7 @@ impl<H: SwapFiles + Drop> SwapDev for FileDev<H> {
         // and this is its answer; each other file is left alone.
         ensures file { OnOk result (Stores (file_at H.File.view self.old.areas.items area)
             (file_at H.File.view self.new.areas.items area) (page * page_size) from.now) }
-        ensures fault { OnErr result (StoresPart (file_at H.File.view self.old.areas.items area)
+        ensures failure { OnErr result (StoresPart (file_at H.File.view self.old.areas.items area)
             (file_at H.File.view self.new.areas.items area) (page * page_size) from.now) }
         ensures others { SameBut area (file_at H.File.view self.old.areas.items)
             (file_at H.File.view self.new.areas.items) }

@@ -1,6 +1,7 @@
 -- A count as digits d0, d1, ..: it is d0 + 63 d1 + 63 * 128 d2 + .., with d0 below 63 and the
 -- others below 128.
-use Rattle.std.specs.Prelude.{ℕ, ◌+◌, ◌-◌, ◌*◌, ◌/◌, ◌%◌, ◌^◌, Bool, nat_lt, ◌==◌, if◌then◌else◌, List, [], ◌∷◌, Option, Some, None}
+use Rattle.std.specs.Prelude.{ℕ, ◌+◌, ◌-◌, ◌*◌, ◌/◌, ◌%◌, ◌^◌, Bool, nat_lt, ◌==◌, if◌then◌else◌}
+use Rattle.std.specs.Prelude.{List, [], ◌∷◌, Option, Some, None}
 
 -- the last digit of a number to a base, plus 128 where the number has more digits
 abbrev pub with_more : ℕ → ℕ → ℕ

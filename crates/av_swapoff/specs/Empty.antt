@@ -1,5 +1,6 @@
 -- How a swap area that is closing is emptied, and why it isn't.
-use Rattle.std.specs.Prelude.{◌≡◌, ◌⊎◌, ℕ, ◌+◌, ◌<◌, ◌≤◌, List, [], ◌++◌, slice_get, Option, None, Some, IsSomeAnd}
+use Rattle.std.specs.Prelude.{◌≡◌, ◌⊎◌, ℕ, ◌+◌, ◌<◌, ◌≤◌, List, [], ◌++◌, slice_get, Option, None}
+use Rattle.std.specs.Prelude.{Some, IsSomeAnd}
 use Rattle.av_base.specs.declared.slot.Slot.{Slot}
 use Rattle.av_io.specs.Count.{RoseBy}
 use Rattle.av_trace.specs.declared.note.Note.{Note}

@@ -1,5 +1,6 @@
 -- How a slot of a swap area that is closing is emptied.
-use Rattle.std.specs.Prelude.{◌≡◌, ℕ, ◌<◌, ◌≤◌, ◌+◌, Bool, true, false, List, [], ◌∷◌, map, Option, Some, None}
+use Rattle.std.specs.Prelude.{◌≡◌, ℕ, ◌<◌, ◌≤◌, ◌+◌, Bool, true, false, List, [], ◌∷◌, map, Option}
+use Rattle.std.specs.Prelude.{Some, None}
 use Rattle.std.specs.List.{list_any}
 use Rattle.std.specs.Ordering.{eq_by_cmp}
 use Rattle.av_base.specs.Page.{address_of}
@@ -8,7 +9,8 @@ use Rattle.av_io.specs.Count.{RoseBy}
 use Rattle.av_trace.specs.declared.note.Note.{Note}
 use Rattle.av_trace.specs.declared.note.Note.TheVariants.{Loaded, Mapped}
 use Rattle.av_plain.specs.Event.{after_notes}
-use Rattle.av_plain.specs.Ledger.{InSlot, Key, Ledger, Setting, entry, frame_at, has_free, is_free, key_cmp, slot_count}
+use Rattle.av_plain.specs.Ledger.{InSlot, Key, Ledger, Setting, entry, frame_at, has_free, is_free}
+use Rattle.av_plain.specs.Ledger.{key_cmp, slot_count}
 use Rattle.av_plain.specs.Pass.{Seeks, fails, out_of}
 use Rattle.av_plain.specs.Swapoff.{IsFetched, map_notes}
 use Rattle.av_evict.specs.Steps.{spares}

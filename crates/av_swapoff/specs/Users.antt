@@ -1,5 +1,6 @@
 -- Whose the slots of a swap area are, by the page tables.
-use Rattle.std.specs.Prelude.{◌≡◌, ℕ, ◌<◌, ◌≤◌, ◌&&◌, ◌==◌, true, nat_lt, if◌then◌else◌, List, length, slice_index_or, slice_set, Option, Some, None, is_some}
+use Rattle.std.specs.Prelude.{◌≡◌, ℕ, ◌<◌, ◌≤◌, ◌&&◌, ◌==◌, true, nat_lt, if◌then◌else◌, List}
+use Rattle.std.specs.Prelude.{length, slice_index_or, slice_set, Option, Some, None, is_some}
 use Rattle.av_base.specs.declared.slot.Slot.{Slot}
 use Rattle.av_plain.specs.Ledger.{Entry, InFrame, InSlot, Key, Zero}
 use Rattle.av_plain.specs.Stands.{Pte as Plain, View}

@@ -8,12 +8,12 @@
 //!
 //! Proved for whatever the memory system stands for, and whether the device's pages are told or
 //! not: the notes that `swapoff` adds are those of the definitions' `TurnsOff`, the area is off
-//! exactly where none of its slots is in use any more, and on again after an error; what stands
-//! afterwards is what the notes leave; each frame and each slot that is taken is the one that comes
-//! next; and the device failed at least as often as the notes and the end tell. After want of
-//! memory it is the same device, there are as many frames, and nothing else is promised. Not
-//! proved: that the tables are visited once, and how long it takes. Runs are tested in the
-//! examples and in `av_run_tests`.
+//! exactly where none of its slots is in use any more, and after an error it stays on and gives
+//! slots again; what stands afterwards is what the notes leave; each frame and each slot that is
+//! taken is the one that comes next; and the device failed at least as often as the notes and the
+//! end tell. After want of memory it is the same device, there are as many frames, and nothing else
+//! is promised. Not proved: that the tables are visited once, and how long it takes. Runs are
+//! tested in the examples and in `av_run_tests`.
 #![tactic(auto)]
 
 mod command;

@@ -1,5 +1,6 @@
 -- Protections, as in `rw-`.
-use Rattle.std.specs.Prelude.{ℕ, Bool, true, false, ◌==◌, if◌then◌else◌, List, [], ◌∷◌, Option, Some, None}
+use Rattle.std.specs.Prelude.{ℕ, Bool, true, false, ◌==◌, if◌then◌else◌, List, [], ◌∷◌, Option}
+use Rattle.std.specs.Prelude.{Some, None}
 use Rattle.av_base.specs.declared.prot.Prot.{Prot}
 use Rattle.av_text.specs.Word.{◌>>=◌, Reader}
 

@@ -1,5 +1,6 @@
 -- Words of a line, with one space between; and how a line is read from left to right.
-use Rattle.std.specs.Prelude.{◌≡◌, ℕ, ◌==◌, if◌then◌else◌, List, [], ◌∷◌, ◌++◌, Option, Some, None, Result, OnOk}
+use Rattle.std.specs.Prelude.{◌≡◌, ℕ, ◌==◌, if◌then◌else◌, List, [], ◌∷◌, ◌++◌, Option, Some, None}
+use Rattle.std.specs.Prelude.{Result, OnOk}
 use Rattle.std.specs.List.{flat_map}
 
 -- a space, and a word

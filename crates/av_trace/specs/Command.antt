@@ -9,7 +9,8 @@ use Rattle.av_trace.specs.declared.mode.Mode.{Mode}
 use Rattle.av_trace.specs.declared.command.Command.{Command}
 use Rattle.av_trace.specs.declared.command.Command.TheVariants as commands
 use Rattle.av_text.specs.Word.{line, ◌>>=◌, Reader, both, by_name}
-use Rattle.av_text.specs.Number.{IsNumberIn, IsProcess, IsWide, decimal_at, process_at, len_at, entry_at}
+use Rattle.av_text.specs.Number.{IsNumberIn, IsProcess, IsWide, decimal_at, process_at, len_at}
+use Rattle.av_text.specs.Number.{entry_at}
 use Rattle.av_text.specs.Hex.{hex, hex_text, IsData, data_at}
 use Rattle.av_text.specs.Prot.{prot_text, prot_at}
 use Rattle.av_trace.specs.Place.{IsPlace, place_words, place_at}

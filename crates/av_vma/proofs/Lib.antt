@@ -5,5 +5,5 @@ pub mod Homes
 pub mod Owns
 pub mod Mremap
 pub mod MremapHomes
-pub mod Indices
+pub mod IndexBound
 pub mod Prots

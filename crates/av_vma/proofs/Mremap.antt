@@ -656,8 +656,8 @@ module _ (from n to m : ℕ) (on : Pages) (laid : AreLaid on) (move : IsMove fro
       by None is e = absurd (false≢true e)
       by (Some area) is e = record { area = area; is = refl; so = last_area area is }
 
-  pub laid_filled : AreLaid (grown_to (to + m) (carried (to + stay - 1)) carried)
-  laid_filled =
+  pub laid_with_range : AreLaid (grown_to (to + m) (carried (to + stay - 1)) carried)
+  laid_with_range =
       let a = last_there.area in
       let l = last_there.so in
       let ends = l.ends in
@@ -666,7 +666,7 @@ module _ (from n to m : ℕ) (on : Pages) (laid : AreLaid on) (move : IsMove fro
 
   -- areas stay laid where a range moves
   pub laid_after_move : (len : Lengths) → AreLaid (after_move len from n to m on)
-  laid_after_move len = laid_over len to (suc m) (grown_to (to + m) (carried (to + stay - 1)) carried) laid_filled
+  laid_after_move len = laid_over len to (suc m) (grown_to (to + m) (carried (to + stay - 1)) carried) laid_with_range
 
   -- the old range is of pages that a process may have
   pub old_high : from + n ≤ top_page
@@ -749,15 +749,15 @@ module _ (from n to m : ℕ) (on : Pages) (laid : AreLaid on) (move : IsMove fro
           (grind (arith, nat_tests))
 
   -- the new range is filled then
-  abbrev pub filled : Pages
-  filled = grown_to (to + m) (carried (to + stay - 1)) carried
+  abbrev pub with_range : Pages
+  with_range = grown_to (to + m) (carried (to + stay - 1)) carried
 
-  filled_is : (page : ℕ) → filled page ≡ with_area (with_end (to + m) last_there.area) carried page
-  filled_is page = ap (λ o. grown_to (to + m) o carried page) last_there.is
+  with_range_is : (page : ℕ) → with_range page ≡ with_area (with_end (to + m) last_there.area) carried page
+  with_range_is page = ap (λ o. grown_to (to + m) o carried page) last_there.is
 
-  pub filled_mapped : (page : ℕ) → to ≤ page → page < to + m → is_some (filled page) ≡ true
-  filled_mapped page low high =
-      ap is_some (filled_is page) ∙ by (has_page (with_end (to + m) last_there.area) page) refl
+  pub with_range_mapped : (page : ℕ) → to ≤ page → page < to + m → is_some (with_range page) ≡ true
+  with_range_mapped page low high =
+      ap is_some (with_range_is page) ∙ by (has_page (with_end (to + m) last_there.area) page) refl
     where
       by : (b : Bool) → has_page (with_end (to + m) last_there.area) page ≡ b
           → is_some (cond b (Some (with_end (to + m) last_there.area)) (carried page)) ≡ true
@@ -772,8 +772,8 @@ module _ (from n to m : ℕ) (on : Pages) (laid : AreLaid on) (move : IsMove fro
       ]
 
   -- and no area goes past its end
-  pub filled_upper : (area : Area) → filled (to + m) ≡ Some area → to + m ≤ first_of area
-  filled_upper area is = by (has_page (with_end (to + m) last_there.area) (to + m)) refl (sym (filled_is (to + m)) ∙ is)
+  pub with_range_upper : (area : Area) → with_range (to + m) ≡ Some area → to + m ≤ first_of area
+  with_range_upper area is = by (has_page (with_end (to + m) last_there.area) (to + m)) refl (sym (with_range_is (to + m)) ∙ is)
     where
       above : (s : IsStaying from n stay to parts ready (to + m) area) → to + m ≤ first_of area
       above s = elim (cases_lt (first_of area) (to + m)) [

@@ -12,7 +12,7 @@ use Rattle.av_vma.proofs.Split.{laid_split, laid_unmapped}
 use Rattle.av_vma.proofs.Homes.{KeepsHomes, homes_around, homes_split, homes_joined, homes_unmapped, keeps_both}
 use Rattle.av_vma.proofs.Join.{laid_joined, joined_pages, tried_is}
 use Rattle.av_vma.proofs.Laid.{has_parts}
-use Rattle.av_vma.proofs.Mremap.{IsLast, IsReady, at_target, carried, elsewhere, ends_there, free_above, grown_pages, growing, inside, is_in_range, laid_carried, laid_filled, laid_growth, last_there, out_of_range, parts, ready, with_end}
+use Rattle.av_vma.proofs.Mremap.{IsLast, IsReady, at_target, carried, elsewhere, ends_there, free_above, grown_pages, growing, inside, is_in_range, laid_carried, laid_with_range, laid_growth, last_there, out_of_range, parts, ready, with_end}
 
 -- ---- boundaries in turn
 
@@ -214,24 +214,24 @@ module _ (len : Lengths) (from n to m : ℕ) (on : Pages) (laid : AreLaid on) (m
   last_more : past_of last ≤ to + m
   last_more = let end = so.ends in omega arith
 
-  abbrev filled : Pages
-  filled = with_area (with_end (to + m) last) gone_over
+  abbrev with_range : Pages
+  with_range = with_area (with_end (to + m) last) gone_over
 
-  filled_is : grown_to (to + m) (gone_over (to + stay - 1)) gone_over ≡ filled
-  filled_is = ap (λ o. grown_to (to + m) o gone_over) last_is
+  with_range_is : grown_to (to + m) (gone_over (to + stay - 1)) gone_over ≡ with_range
+  with_range_is = ap (λ o. grown_to (to + m) o gone_over) last_is
 
-  laid_full : AreLaid filled
-  laid_full = subst AreLaid filled_is (laid_filled from n to m on laid move)
+  laid_full : AreLaid with_range
+  laid_full = subst AreLaid with_range_is (laid_with_range from n to m on laid move)
 
   laid_gone : AreLaid gone_over
   laid_gone = laid_carried from n to m on laid move
 
-  homes_filled : KeepsHomes gone_over filled
-  homes_filled = homes_grown (to + stay - 1) (to + m) last gone_over laid_gone last_is last_more move.high so.free so.small
+  homes_with_range : KeepsHomes gone_over with_range
+  homes_with_range = homes_grown (to + stay - 1) (to + m) last gone_over laid_gone last_is last_more move.high so.free so.small
 
   homes_last : KeepsHomes gone_over (after_move len from n to m on)
-  homes_last = subst (λ x. KeepsHomes gone_over (joined_over len to (suc m) x)) (sym filled_is)
-      (keeps_both gone_over filled (joined_over len to (suc m) filled) homes_filled (homes_over len to (suc m) filled laid_full))
+  homes_last = subst (λ x. KeepsHomes gone_over (joined_over len to (suc m) x)) (sym with_range_is)
+      (keeps_both gone_over with_range (joined_over len to (suc m) with_range) homes_with_range (homes_over len to (suc m) with_range laid_full))
 
   -- a page of the new range has the home that it had in the old one
   pub home_after_move : (page : ℕ) → to ≤ page → page < to + stay → HomeGoes on (from + (page - to)) (after_move len from n to m on) page
@@ -255,8 +255,8 @@ module _ (len : Lengths) (from n to m : ℕ) (on : Pages) (laid : AreLaid on) (m
 
   -- nothing is left where the range stood
   pub none_after_move : (page : ℕ) → from ≤ page → page < from + n → after_move len from n to m on page ≡ None
-  none_after_move page least most = ap (λ x. joined_over len to (suc m) x page) filled_is
-      ∙ none_over len to (suc m) filled laid_full page
+  none_after_move page least most = ap (λ x. joined_over len to (suc m) x page) with_range_is
+      ∙ none_over len to (suc m) with_range laid_full page
       (none_grown (to + stay - 1) (to + m) last gone_over laid_gone last_is last_more move.high so.free so.small page
       (λ low high. let end = so.ends in let some = move.some in let more = move.more in elim move.apart [ inl e ↦ omega arith | inr e ↦ omega arith ])
       (none_left from n stay to pieces pieces_ready page least most))

@@ -11,7 +11,7 @@ use Rattle.av_vma.specs.Pages.{AreLaid, Lengths, Pages, after_map, after_unmap, 
 use Rattle.av_vma.proofs.Split.{of_part}
 use Rattle.av_vma.proofs.Join.{join_is, laid_joined, joined_pages, tried_is}
 use Rattle.av_vma.proofs.Laid.{fresh_has, has_area, has_from, has_parts, laid_fresh}
-use Rattle.av_vma.proofs.Mremap.{IsLast, IsThere, at_target, carried, elsewhere, ends_there, growing, is_in_range, laid_carried, laid_filled, laid_growth, last_there, out_of_range, parts, ready, with_end}
+use Rattle.av_vma.proofs.Mremap.{IsLast, IsThere, at_target, carried, elsewhere, ends_there, growing, is_in_range, laid_carried, laid_with_range, laid_growth, last_there, out_of_range, parts, ready, with_end}
 
 abbrev pub area_prot : Area → Prot
 area_prot area = area.prot
@@ -152,15 +152,15 @@ module _ (len : Lengths) (from n to m : ℕ) (on : Pages) (laid : AreLaid on) (m
   last : IsThere (gone_over (to + stay - 1)) (IsLast from n to m on laid move)
   last = last_there from n to m on laid move
 
-  abbrev filled : Pages
-  filled = with_area (with_end (to + m) last.area) gone_over
+  abbrev with_range : Pages
+  with_range = with_area (with_end (to + m) last.area) gone_over
 
-  filled_is : grown_to (to + m) (gone_over (to + stay - 1)) gone_over ≡ filled
-  filled_is = ap (λ o. grown_to (to + m) o gone_over) last.is
+  with_range_is : grown_to (to + m) (gone_over (to + stay - 1)) gone_over ≡ with_range
+  with_range_is = ap (λ o. grown_to (to + m) o gone_over) last.is
 
-  after : (page : ℕ) → prots (after_move len from n to m on) page ≡ prots filled page
-  after page = ap (λ x. prots (joined_over len to (suc m) x) page) filled_is
-      ∙ prots_over len to (suc m) filled (subst AreLaid filled_is (laid_filled from n to m on laid move)) page
+  after : (page : ℕ) → prots (after_move len from n to m on) page ≡ prots with_range page
+  after page = ap (λ x. prots (joined_over len to (suc m) x) page) with_range_is
+      ∙ prots_over len to (suc m) with_range (subst AreLaid with_range_is (laid_with_range from n to m on laid move)) page
 
   not_filled : (page : ℕ) → (to + stay ≤ page → page < to + m → ⊥) → prots (after_move len from n to m on) page ≡ prots gone_over page
   not_filled page out = after page

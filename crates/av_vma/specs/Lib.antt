@@ -1,7 +1,7 @@
 pub mod Areas
 pub mod Gap
 pub mod Index
-pub mod Indices
+pub mod IndexBound
 pub mod Join
 pub mod Mremap
 pub mod Pages

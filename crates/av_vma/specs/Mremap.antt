@@ -1,11 +1,14 @@
 -- What moving and growing a range makes of the areas on a process's pages.
-use Rattle.std.specs.Prelude.{◌≡◌, ℕ, zero, suc, ◌+◌, ◌-◌, ◌^◌, ◌<◌, ◌≤◌, ◌⊎◌, min, nat_lt, true, false, is_some, if◌then◌else◌, Option, Some, None, option_map, IsSomeAnd}
+use Rattle.std.specs.Prelude.{◌≡◌, ℕ, zero, suc, ◌+◌, ◌-◌, ◌^◌, ◌<◌, ◌≤◌, ◌⊎◌, min, nat_lt, true}
+use Rattle.std.specs.Prelude.{false, is_some, if◌then◌else◌, Option, Some, None, option_map}
+use Rattle.std.specs.Prelude.{IsSomeAnd}
 use Rattle.av_base.specs.Limits.{low_page, top_page, most_indices}
 use Rattle.av_base.specs.Page.{address_of}
 use Rattle.av_base.specs.Words.{within}
 use Rattle.av_vma.specs.declared.area.Area.{Area}
 use Rattle.av_vma.specs.Index.{first_of, index_of, past_of}
-use Rattle.av_vma.specs.Pages.{Lengths, Pages, after_unmap, split_at, joined_around, joined_at, with_area, without_range}
+use Rattle.av_vma.specs.Pages.{Lengths, Pages, after_unmap, split_at, joined_around, joined_at}
+use Rattle.av_vma.specs.Pages.{with_area, without_range}
 
 -- ---- parts
 

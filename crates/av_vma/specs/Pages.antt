@@ -1,6 +1,8 @@
 -- What a process has on its pages: for each page the area that holds it. And what mapping,
 -- unmapping and changing a range make of that, with the splits and joins that come of it.
-use Rattle.std.specs.Prelude.{◌≡◌, ℕ, zero, suc, ◌+◌, ◌-◌, ◌^◌, ◌<◌, ◌≤◌, true, false, not, ◌==◌, min, max, unwrap_or, is_some, Bool, ◌&&◌, nat_lt, if◌then◌else◌, List, Option, Some, None, option_map}
+use Rattle.std.specs.Prelude.{◌≡◌, ℕ, zero, suc, ◌+◌, ◌-◌, ◌^◌, ◌<◌, ◌≤◌, true, false, not, ◌==◌}
+use Rattle.std.specs.Prelude.{min, max, unwrap_or, is_some, Bool, ◌&&◌, nat_lt, if◌then◌else◌, List}
+use Rattle.std.specs.Prelude.{Option, Some, None, option_map}
 use Rattle.std.specs.List.{find}
 use Rattle.std.specs.Option.{option_or}
 use Rattle.av_base.specs.Limits.{low_page, top_page, most_indices}

@@ -27,7 +27,7 @@ use std::process::ExitCode;
 
 /// The words of the command line, without the program's name. A word that is no text is a usage
 /// error.
-fn read_words(rt: &HostRuntime) -> Result<Vec<String>, Status> {
+fn collect_words(rt: &HostRuntime) -> Result<Vec<String>, Status> {
     let args = match env::args(rt) {
         Ok(args) => args,
         Err(error) if error.kind() == ErrorKind::OutOfMemory => return Err(Status::Memory),
@@ -60,7 +60,7 @@ fn host_dev(rt: &HostRuntime) -> Result<FileDev<HostFiles<HostRuntime>>, AllocEr
 
 /// Runs the program on its words, over standard input and output.
 fn run_program(rt: &HostRuntime) -> Status {
-    let words = match read_words(rt) {
+    let words = match collect_words(rt) {
         Ok(words) => words,
         Err(status) => return status,
     };

@@ -7,11 +7,11 @@ use Rattle.av_base.specs.Words.{within}
 use Rattle.av_base.specs.declared.prot.Prot.{Prot}
 use Rattle.av_vma.specs.declared.area.Area.{Area}
 use Rattle.av_vma.specs.Gap.{IsRoom}
-use Rattle.av_vma.specs.Indices.{AreIndicesBelow}
+use Rattle.av_vma.specs.IndexBound.{AreIndicesBelow}
 use Rattle.av_vma.specs.Mremap.{IsGrowth, IsMove, after_move, after_resize}
 use Rattle.av_vma.specs.Pages.{AreLaid, Lengths, Pages, after_map}
 use Rattle.av_vma.proofs.Homes.{homes_mapped}
-use Rattle.av_vma.proofs.Indices.{indices_after_move, indices_after_resize, indices_mapped}
+use Rattle.av_vma.proofs.IndexBound.{indices_after_move, indices_after_resize, indices_mapped}
 use Rattle.av_vma.proofs.Join.{laid_mapped}
 use Rattle.av_vma.proofs.Laid.{has_area, has_parts}
 use Rattle.av_vma.proofs.Mremap.{laid_after_move, laid_after_resize}

@@ -8,7 +8,7 @@ use Rattle.av_base.specs.Words.{within}
 use Rattle.av_base.specs.declared.prot.Prot.{Prot}
 use Rattle.av_trace.specs.declared.mode.Mode.{Mode}
 use Rattle.av_vma.specs.declared.area.Area.{Area}
-use Rattle.av_vma.specs.Indices.{AreIndicesBelow}
+use Rattle.av_vma.specs.IndexBound.{AreIndicesBelow}
 use Rattle.av_vma.specs.Index.{index_of}
 use Rattle.av_vma.specs.Mremap.{IsMove, after_grow, after_move, after_resize}
 use Rattle.av_vma.specs.Pages.{AreLaid, Lengths, Pages, after_map, after_unmap, split_at}

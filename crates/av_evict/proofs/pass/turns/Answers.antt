@@ -3,7 +3,7 @@ use Rattle.av_evict.specs.Steps.{IsUsed}
 use Rattle.av_evict.specs.Turn.{IsTurnUnlessPinned, MayTurn}
 use Rattle.av_evict.proofs.OrderLaws.{turn-count}
 use Rattle.av_evict.proofs.PassLaws.{but-stays, turning-at, turning-freed, turning-over, turning-start, turning-step, turning-vain}
-use Rattle.av_evict.proofs.SystemLaws.{at-knows, gives-at, loose, stays_itself, stays_then}
+use Rattle.av_evict.proofs.SystemLaws.{at-knows, gives-at, loose, stays_so, stays_then}
 use Rattle.av_evict.proofs.TailLaws.{first-no}
 use Rattle.av_evict.proofs.pass.turns.Goals as goal
 
@@ -11,7 +11,7 @@ pub loop-turn-init : goal.loop-turn-init
 loop-turn-init g c = record {
   midway = λ told. turning-start _ c.args.notes.now c.args.pinned _
       (λ l sound stands. c.first_in_turn-next.ensures told l (loose _ _ l sound) stands);
-  stays = λ told. stays_itself _;
+  stays = λ told. stays_so _;
 }
 
 pub turn_unless_pinned-requires : goal.turn_unless_pinned-requires

@@ -1,13 +1,13 @@
 use Rattle.std.proofs.Common.{drop, get_or, refl, ◌+◌, ◌<◌, false}
 use Rattle.av_base.specs.Limits.{top_page}
-use Rattle.av_evict.proofs.SystemLaws.{stays_itself, stays_then}
+use Rattle.av_evict.proofs.SystemLaws.{stays_so, stays_then}
 use Rattle.av_swapoff.proofs.SlotLaws.{all-at, keys-at, keys-over, mapping-at, mapping-end, mapping-start, mapping-step}
 use Rattle.av_swapoff.proofs.slot.map_all.Goals as goal
 
 pub loop-key-init : goal.loop-key-init
 loop-key-init g c = record {
   midway = λ told. mapping-start _ c.args.notes.now c.args.slot c.args.frame c.args.keys.now;
-  stays = λ told. stays_itself _;
+  stays = λ told. stays_so _;
 }
 
 pub map-requires : goal.map-requires

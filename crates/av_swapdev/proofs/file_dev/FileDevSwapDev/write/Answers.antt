@@ -31,8 +31,8 @@ returns-clause-file g c =
     (λ old new. Stores old new (c.args.page * page_size) c.args.from.now)
     (after_ok c.write_page.result c.write_page.ensures.ok (sym c.is_err.ensures.value ∙ c.if-is_err.false))
 
-pub returns-then-is_err-clause-fault : goal.returns-then-is_err-clause-fault
-returns-then-is_err-clause-fault g c = at_file g.H.File.SwapFile.view c.args.self.now.areas.items c.args.area c.args.page c.in-Some.attached
+pub returns-then-is_err-clause-failure : goal.returns-then-is_err-clause-failure
+returns-then-is_err-clause-failure g c = at_file g.H.File.SwapFile.view c.args.self.now.areas.items c.args.area c.args.page c.in-Some.attached
     c.write_page.new.attached
     c.index_mut.result.now c.requires.there c.index_mut.ensures.value c.in-Some.is
     (λ old new. StoresPart old new (c.args.page * page_size) c.args.from.now)

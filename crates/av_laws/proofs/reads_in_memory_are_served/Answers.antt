@@ -1,5 +1,0 @@
-use Rattle.av_laws.proofs.NeedsFrame.{read-served}
-use Rattle.av_laws.proofs.reads_in_memory_are_served.Goals as goal
-
-pub returns : goal.returns
-returns c = read-served

@@ -1,5 +1,0 @@
-use Rattle.av_laws.proofs.Determined.{step-one}
-use Rattle.av_laws.proofs.replies_are_determined.Goals as goal
-
-pub returns : goal.returns
-returns c = step-one

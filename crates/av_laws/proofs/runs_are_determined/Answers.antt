@@ -1,5 +1,0 @@
-use Rattle.av_laws.proofs.Determined.{runs-determined}
-use Rattle.av_laws.proofs.runs_are_determined.Goals as goal
-
-pub returns : goal.returns
-returns c = runs-determined

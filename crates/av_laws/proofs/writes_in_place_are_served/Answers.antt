@@ -1,5 +1,0 @@
-use Rattle.av_laws.proofs.NeedsFrame.{write-served}
-use Rattle.av_laws.proofs.writes_in_place_are_served.Goals as goal
-
-pub returns : goal.returns
-returns c = write-served

@@ -1,5 +1,0 @@
-use Rattle.av_plain.proofs.Sound.{soundness-stays}
-use Rattle.av_plain.proofs.soundness_stays.Goals as goal
-
-pub returns : goal.returns
-returns c = soundness-stays

@@ -1,5 +1,0 @@
-use Rattle.av_swap_laws.proofs.Homes.{home-any}
-use Rattle.av_swap_laws.proofs.homes_go_by_any_page.Goals as goal
-
-pub returns : goal.returns
-returns c = λ l r s k sorted h names. home-any l r s k sorted h names

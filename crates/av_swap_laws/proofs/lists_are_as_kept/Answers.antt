@@ -1,5 +1,0 @@
-use Rattle.av_swap_laws.proofs.From.{flight-first, flight-last, without-turned}
-use Rattle.av_swap_laws.proofs.lists_are_as_kept.Goals as goal
-
-pub returns : goal.returns
-returns c = (without-turned, flight-first, flight-last)

@@ -1,5 +1,0 @@
-use Rattle.av_swap_laws.proofs.Between.{blank-steps}
-use Rattle.av_swap_laws.proofs.pages_of_zeros_are_read.Goals as goal
-
-pub returns : goal.returns
-returns c = blank-steps

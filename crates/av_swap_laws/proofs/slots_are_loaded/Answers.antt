@@ -1,5 +1,0 @@
-use Rattle.av_swap_laws.proofs.WholePages.{load-steps}
-use Rattle.av_swap_laws.proofs.slots_are_loaded.Goals as goal
-
-pub returns : goal.returns
-returns c = λ m closing old h. load-steps m closing old h
