@@ -11,7 +11,7 @@ use av_base::{PAGE_SIZE, Prot};
 ///
 /// `start` and `end` are addresses on pages, `end` the first one past the area. The page at address
 /// `a` has the linear index `(a - start) / 4096 + pgoff`. `anon` is the number of the area's own
-/// anon_vma, if it has one. `flags` has what Linux's `vm_flags` has beside access: always 0 today.
+/// anon_vma, if it has one. `flags` has what Linux's `vm_flags` has beside access: always 0.
 #[derive(Clone, Copy, Drop, Debug, PartialEq, Eq)]
 pub struct Area {
     pub pid: u16,

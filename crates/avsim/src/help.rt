@@ -144,7 +144,7 @@ Synopsis
   avsim work SEED LINES FRAMES [SWAP..]
 
   SEED                   0 to 18446744073709551615; each number is a load
-  LINES                  1 to 1000000 lines
+  LINES                  1 to 1000000 lines, behind the first ones
   FRAMES                 1 to 16384 frames of 4096 bytes
   SWAP..                 up to eight files, which are swap areas 0, 1, .. in
                          their order; pages are written over what they have,
