@@ -1,9 +1,7 @@
 -- A page gets a copy of its frame, and is written.
 use Rattle.std.proofs.Common.{◌≡◌, ℕ, ◌<◌, ◌==◌, Bool, true, false, cond, ◌&&◌, List, [], ◌∷◌, ◌++◌, Option, Some, None, is_some, refl, sym, ap, subst, ◌∙◌}
-use Rattle.std.proofs.lemmas.Bool.{false≢true}
 use Rattle.av_base.specs.Page.{address_of, page_of}
-use Rattle.av_pagetable.specs.declared.pte.Pte.{Pte}
-use Rattle.av_pagetable.specs.declared.pte.Pte.TheVariants.{Away, Empty, Here, Zero as ZeroPte}
+use Rattle.av_pagetable.specs.declared.pte.Pte.TheVariants.{Empty}
 use Rattle.av_pagetable.specs.Entries.{entry_at}
 use Rattle.av_spaces.specs.Spaces.{pages_of}
 use Rattle.av_vma.specs.Pages.{home_of}
@@ -36,7 +34,8 @@ use Rattle.av_mem.specs.declared.mem.Mem.{Mem}
 use Rattle.av_mem.specs.Mem.{held_by, plain, setting_by, view}
 use Rattle.av_mem.specs.Steps.{KeepsParts}
 use Rattle.av_mem.specs.Between.{HasDone, KeepsBetween}
-use Rattle.av_fault.specs.Making.{HasMade, IsTaken}
+use Rattle.av_mem.specs.Entries.{IsTaken}
+use Rattle.av_fault.specs.Making.{HasMade}
 use Rattle.av_fault.specs.Seek.{HasSought}
 use Rattle.av_fault.specs.Using.{IsHere}
 use Rattle.av_fault.specs.declared.fault.Touched.TheVariants.{Ready}
@@ -130,13 +129,6 @@ module _ (d : Device) (mid new : Mem) (w : World) (r : Rmap) (l : Ledger) (p f g
 
 -- ---- the whole
 
--- an entry that the ledger has as a frame
-here-of : (e : Pte) (f : ℕ) (seen : Bool) → entry_of (plain e) ≡ Some (InFrame f seen) → (write : Bool) × (e ≡ Here f write seen)
-here-of Empty f seen is = cc
-here-of ZeroPte f seen is = cc
-here-of (Here g write was) f seen is = (write, cc)
-here-of (Away s) f seen is = cc
-
 module _ (d d' : Device) (old mid : Mem) (w : World) (r : Rmap) (l : Ledger) (before mids : List Note) (k : Key) (g : ℕ) (got : Got)
     (h : KeepsBetween d old w r l) (s : HasSought d d' old mid w r l (Some g) before mids got) (settled : Bool) (here : IsHere old k g settled)
     (shared : is_shared l g ≡ true) where
@@ -157,10 +149,12 @@ module _ (d d' : Device) (old mid : Mem) (w : World) (r : Rmap) (l : Ledger) (be
   pub copy-at : entry l1 k ≡ Some (InFrame g here.seen)
   copy-at = entry-sought d d' old mid w r l (Some g) before mids got h s k (ap (is_steady (sparing w l (Some g)).frame) at ∙ same-itself g) ∙ at
 
-  pub copy-here : IsHere mid k g false
-  copy-here =
-      let there = here-of (entry_at mid.tables k.0 k.1) g here.seen (s.done.between.serves.held.ledger.tables.entries k.0 k.1 ∙ copy-at) in
-      record { write = there.0; seen = here.seen; there = there.1; marked = λ is. absurd (false≢true is) }
+  pub copy-some : entry_at mid.tables k.0 k.1 ≡ Empty → ⊥
+  copy-some none =
+      no_entry (ap (λ e. entry_of (plain e)) (sym none) ∙ s.done.between.serves.held.ledger.tables.entries k.0 k.1 ∙ copy-at)
+    where
+      no_entry : {X : Type 0} {x : X} → None ≡ Some x → ⊥
+      no_entry is = cc
 
   pub copy-mapped : 0 < (view mid).maps g
   copy-mapped = subst (λ n. 0 < n) (sym (s.done.between.serves.held.ledger.frames.maps g))

@@ -8,7 +8,6 @@ pub mod DropLaws
 pub mod EntryLaws
 pub mod FullLaws
 pub mod MadeLaws
-pub mod MakingLaws
 pub mod NewLaws
 pub mod Prepared
 pub mod Run

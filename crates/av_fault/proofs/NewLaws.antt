@@ -38,7 +38,8 @@ use Rattle.av_mem.specs.declared.mem.Mem.{Mem}
 use Rattle.av_mem.specs.Mem.{held_by, plain, setting_by, view}
 use Rattle.av_mem.specs.Steps.{KeepsParts}
 use Rattle.av_mem.specs.Between.{HasDone, KeepsBetween}
-use Rattle.av_fault.specs.Making.{HasFree, HasMade, IsBare, IsMapped, IsTaken}
+use Rattle.av_mem.specs.Entries.{HasFree, IsMapped, IsTaken}
+use Rattle.av_fault.specs.Making.{HasMade, IsBare}
 use Rattle.av_fault.specs.Seek.{HasSought}
 use Rattle.av_fault.specs.declared.fault.Touched.TheVariants.{Ready}
 use Rattle.av_fault.specs.declared.seek.Got.TheVariants.{Frame}

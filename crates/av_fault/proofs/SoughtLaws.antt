@@ -26,7 +26,7 @@ use Rattle.av_mem.specs.declared.mem.Mem.{Mem}
 use Rattle.av_mem.specs.Mem.{setting_by, view}
 use Rattle.av_mem.proofs.MemLaws.{alive_is}
 use Rattle.av_mem.specs.Between.{KeepsBetween}
-use Rattle.av_fault.specs.Making.{HasFree, IsMapped}
+use Rattle.av_mem.specs.Entries.{HasFree, IsMapped}
 use Rattle.av_fault.specs.Seek.{HasSought}
 use Rattle.av_fault.specs.declared.seek.Got.{Got}
 use Rattle.av_fault.proofs.Between.{setting-stays}

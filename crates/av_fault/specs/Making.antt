@@ -1,12 +1,8 @@
 -- How a page gets the page of zeros, a frame, or a copy of its frame.
-use Rattle.std.specs.Prelude.{◌≡◌, ℕ, ◌+◌, ◌≤◌, ◌<◌, Bool, true, List, [], ◌∷◌, ◌++◌, IsSome}
-use Rattle.av_base.specs.Limits.{top_page}
-use Rattle.av_base.specs.Words.{is_in}
+use Rattle.std.specs.Prelude.{◌≡◌, ◌+◌, ◌≤◌, Bool, true, List, ◌++◌}
 use Rattle.av_io.specs.Count.{RoseBy}
 use Rattle.av_pagetable.specs.declared.pte.Pte.{Pte}
 use Rattle.av_pagetable.specs.declared.pte.Pte.TheVariants.{Empty, Zero, Here, Away}
-use Rattle.av_pagetable.specs.Entries.{has}
-use Rattle.av_spaces.specs.Spaces.{pages_of}
 use Rattle.av_trace.specs.declared.note.Note.{Note}
 use Rattle.av_plain.specs.Areas.{Rmap}
 use Rattle.av_plain.specs.Device.{Device}
@@ -14,10 +10,9 @@ use Rattle.av_plain.specs.Event.{after_all, after_notes}
 use Rattle.av_plain.specs.Fault.{FindsNone, IsMade, drop_at, need, sparing}
 use Rattle.av_plain.specs.Ledger.{Key, Ledger, Setting, entry}
 use Rattle.av_plain.specs.Pass.{fails}
-use Rattle.av_plain.specs.Stands.{View}
 use Rattle.av_plain.specs.World.{World}
 use Rattle.av_mem.specs.declared.mem.Mem.{Mem}
-use Rattle.av_mem.specs.Mem.{HasLists, setting_by, view}
+use Rattle.av_mem.specs.Mem.{setting_by}
 use Rattle.av_mem.specs.Between.{HasDone}
 use Rattle.av_fault.specs.Fault.{IsReady, failed_by, lost_by, touch_events}
 use Rattle.av_fault.specs.declared.fault.Stop.TheVariants.{Bus, Oom, Segv}
@@ -56,27 +51,9 @@ pub record HasMade (d d' : Device) (old new : Mem) (w : World) (r : Rmap) (l : L
 
 -- ---- the parts
 
--- the page is mapped, and its process has a table
-pub record IsMapped (old : Mem) (k : Key) : Type 0 where
-  pub table : has old.tables k.0 ≡ true
-  pub area : IsSome (pages_of old.spaces.processes k.0 k.1)
-  pub below : k.1 < top_page
-
 -- a page has neither a frame nor a slot
 abbrev pub IsBare : Pte → Type 0
 IsBare Empty = Unit {0}
 IsBare Zero = Unit {0}
 IsBare (Here f write seen) = ⊥
 IsBare (Away s) = ⊥
-
--- a frame is free, and no entry names one that is
-pub record HasFree (old : Mem) : Type 0 where
-  pub some : (view old).free ≡ [] → ⊥
-  pub unmapped : (f : ℕ) → is_in f (view old).free ≡ true → (view old).maps f ≡ 0
-  pub lists : HasLists old
-
--- the first free frame was taken, and this is made of it, by the frames that are left
-pub record IsTaken (old new : Mem) (f : ℕ) (made : List ℕ → View) : Type 0 where
-  pub left : List ℕ
-  pub first : (view old).free ≡ f ∷ left
-  pub view : view new ≡ made left

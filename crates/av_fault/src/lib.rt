@@ -3,6 +3,7 @@
 //! `touch` makes a page ready for a read or a write, and marks it as accessed: the page of zeros, a
 //! new frame, a copy, or the frame that it has, which it may have to bring in from a slot. Else it
 //! says why not: the page may not be accessed, no frame could be had, or the device didn't give it.
+//! A frame is sought here, and taken for the page by av_mem's `entries`.
 //!
 //! Proved for whatever the memory system stands for, over the device that is there and over one
 //! like it that tells no page: the notes that it adds are lawful, with a direct pass exactly where

@@ -1,6 +1,6 @@
 //! A page gets the page of zeros, its first frame, or a copy of its frame.
 
-ghost use Rattle.std.specs.Prelude.{◌≡◌, ◌<◌, Bool, true, false, IfOk, OnOk};
+ghost use Rattle.std.specs.Prelude.{◌≡◌, Bool, true, false, IfOk};
 ghost use Rattle.av_pagetable.specs.Entries.{entry_at};
 ghost use Rattle.av_pagetable.specs.declared.pte.Pte.TheVariants as Pte;
 ghost use Rattle.av_plain.specs.Areas.{Rmap};
@@ -8,18 +8,18 @@ ghost use Rattle.av_plain.specs.Device.{Device, IsSameDevice, device_by};
 ghost use Rattle.av_plain.specs.Ledger.{Ledger};
 ghost use Rattle.av_plain.specs.World.{World};
 ghost use Rattle.av_spaces.specs.Spaces.{pages_of};
-ghost use Rattle.av_swap_laws.specs.Steps.{view_copy, view_new, view_seen};
 ghost use Rattle.av_vma.specs.Pages.{home_of};
 ghost use Rattle.av_mem.specs.Mem.{frame_count, view};
-ghost use Rattle.av_mem.specs.Steps.{KeepsParts};
 ghost use Rattle.av_mem.specs.Between.{Does, IsBetween, KeepsBetween};
-ghost use Rattle.av_fault.specs.Making.{HasFree, HasMade, IsBare, IsMapped, IsTaken};
+ghost use Rattle.av_mem.specs.Entries.{IsMapped};
+ghost use Rattle.av_fault.specs.Making.{HasMade, IsBare};
 ghost use Rattle.av_fault.specs.Using.{IsHere, is_shared_in};
 
 use crate::fault::{Stop, Touched};
 use crate::seek::{Got, seek};
 use av_base::PAGE_SIZE;
 use av_mem::Mem;
+use av_mem::entries::{take_frame_for_copy, take_frame_of_zeros};
 use av_pagetable::Pte;
 use av_swapdev::SwapDev;
 use av_trace::{Note, Notes};
@@ -68,7 +68,7 @@ pub(crate) fn make_new<D: SwapDev>(
         return Ok(Touched::Stopped(Stop::Oom(out)));
     }
     let home = mem.spaces.prepare(&mut mem.anons, key.0, key.1)?;
-    let frame = take_zeros(mem, key, home)?;
+    let frame = take_frame_of_zeros(mem, key, home)?;
     notes.push(Note::New {
         process: key.0,
         address: PAGE_SIZE * key.1,
@@ -102,66 +102,11 @@ pub(crate) fn make_copy<D: SwapDev>(
     if let Got::Out(out) = seek(mem, dev, Some(from), notes)? {
         return Ok(Touched::Stopped(Stop::Oom(out)));
     }
-    let frame = take_copy(mem, key, from, home);
+    let frame = take_frame_for_copy(mem, key, from, home);
     notes.push(Note::Copied {
         process: key.0,
         address: PAGE_SIZE * key.1,
         frame,
     })?;
     Ok(Touched::Ready(frame))
-}
-
-/// Takes a frame of zeros for a page, with this home, to the head of inactive.
-fn take_zeros(mem: &mut Mem, key: (u16, u64), home: Option<(u64, u64)>) -> Result<u32, AllocError>
-    requires mapped { IsMapped mem.old key }
-    requires free { HasFree mem.old }
-    ensures taken { IfOk result (λ f. IsTaken mem.old mem.new f (λ left.
-        view_seen key.0 key.1 f true
-        (view_new key.0 key.1 f true left (λ i. 0) home (view mem.old)))) }
-    ensures parts { OnOk result (KeepsParts mem.old mem.new) }
-    ensures count { frame_count mem.new ≡ frame_count mem.old }
-{
-    let Some(frame) = mem.frames.take() else {
-        unreachable!();
-    };
-    mem.tables.set(key.0, key.1, accessed_entry(frame, true))?;
-    mem.frames.zero(frame);
-    mem.frames.map_up(frame);
-    mem.frames.set_home(frame, home);
-    mem.lists.to_inactive_head(frame);
-    Ok(frame)
-}
-
-/// Takes a frame for a page, with this home, to the head of inactive, and copies the page's present
-/// one to it.
-fn take_copy(mem: &mut Mem, key: (u16, u64), from: u32, home: Option<(u64, u64)>) -> u32
-    requires here { IsHere mem.old key from false }
-    requires free { HasFree mem.old }
-    requires mapped { 0 < (view mem.old).maps from }
-    requires in_range { from < frame_count mem.old }
-    ensures taken { IsTaken mem.old mem.new result (λ left. view_seen key.0 key.1 result true
-        (view_copy key.0 key.1 from result true left home (view mem.old))) }
-    ensures parts { KeepsParts mem.old mem.new }
-{
-    let Some(frame) = mem.frames.take() else {
-        unreachable!();
-    };
-    mem.tables.change(key.0, key.1, accessed_entry(frame, true));
-    mem.frames.copy(from, frame);
-    mem.frames.map_down(from);
-    mem.frames.map_up(frame);
-    mem.frames.set_home(frame, home);
-    mem.lists.to_inactive_head(frame);
-    frame
-}
-
-/// The entry of a frame that a page has and that was accessed.
-pub(crate) fn accessed_entry(frame: u32, write: bool) -> Pte
-    ensures { result ≡ Pte.Here frame write true }
-{
-    Pte::Here {
-        frame,
-        write,
-        seen: true,
-    }
 }

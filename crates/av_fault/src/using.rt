@@ -17,8 +17,9 @@ ghost use Rattle.av_fault.specs.Making.{HasMade};
 ghost use Rattle.av_fault.specs.Using.{HasDropped, HasDroppedFull, IsHere, is_shared_in};
 
 use crate::fault::Touched;
-use crate::making::{accessed_entry, make_copy};
+use crate::making::make_copy;
 use av_mem::Mem;
+use av_mem::entries::accessed_entry;
 use av_swapdev::SwapDev;
 use av_trace::{Note, Notes};
 use std::alloc::AllocError;

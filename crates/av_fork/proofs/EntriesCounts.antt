@@ -1,5 +1,5 @@
 -- How many entries of a process name something: by page, by group, and in a ledger whose entries go over to a child.
-use Rattle.std.proofs.Common.{◌≡◌, ℕ, zero, suc, ◌+◌, ◌<◌, ◌≤◌, Bool, true, false, cond, ◌&&◌, ◌==◌, nat_lt, T, List, [], ◌∷◌, length, take, get_or, Some, None, refl, sym, ap, ◌∙◌, arith}
+use Rattle.std.proofs.Common.{◌≡◌, ℕ, zero, suc, ◌+◌, ◌<◌, ◌≤◌, Bool, true, false, cond, ◌&&◌, ◌==◌, nat_lt, T, List, [], ◌∷◌, length, get_or, Some, None, refl, sym, ap, ◌∙◌, arith}
 use Rattle.std.proofs.lemmas.Bool.Decides.{nat_tests}
 use Rattle.std.specs.FinMap.Entries.{find, where_key, is_sorted}
 use Rattle.av_base.specs.Words.{how_many}
@@ -49,26 +49,6 @@ tally-group test mark (y ∷ ys) x a are =
   where
     added : (a b c : ℕ) → a + b + c ≡ a + (b + c)
     added a b c = omega arith
-
--- one entry more of a group
-pub first-more : {X : Type 0} (test : X → Bool) (n : ℕ) (xs : List X) (x : X) → n < length xs →
-    how_many test (take (suc n) xs) ≡ how_many test (take n xs) + cond (test (get_or xs n x)) 1 0
-first-more test zero [] x h = absurd (omega (arith, h))
-first-more test (suc n) [] x h = absurd (omega (arith, h))
-first-more test zero (y ∷ ys) x h = let n = cond {A = ℕ} (test y) 1 0 in omega arith
-first-more test (suc n) (y ∷ ys) x h = add (cond (test y) 1 0) _ _ _ (first-more test n ys x (omega (arith, h)))
-  where
-    add : (n a b c : ℕ) → a ≡ b + c → n + a ≡ n + b + c
-    add n a b c h = omega (arith, h)
-
-pub first-few : {X : Type 0} (test : X → Bool) (n : ℕ) (xs : List X) → how_many test (take n xs) ≤ n
-first-few test zero xs = omega arith
-first-few test (suc n) [] = omega arith
-first-few test (suc n) (x ∷ xs) = by (test x) (first-few test n xs)
-  where
-    by : (b : Bool) → how_many test (take n xs) ≤ n → cond b 1 0 + how_many test (take n xs) ≤ suc n
-    by true h = omega (arith, h)
-    by false h = omega (arith, h)
 
 -- ---- the ledger
 

@@ -16,7 +16,7 @@ use Rattle.av_plain.proofs.Ledger.NoSwap.{key_is}
 use Rattle.av_plain.proofs.Ledger.Walk.{passes}
 use Rattle.av_swap_laws.specs.Steps.{pte_child, pte_parent}
 use Rattle.av_swap_laws.proofs.Parts.{differ, shared-same, some-is}
-use Rattle.av_fork.specs.Entries.{entry_passes, with_more}
+use Rattle.av_mem.specs.Entries.{entry_passes, with_more}
 use Rattle.av_fork.proofs.EntriesCounts.{copied-tally, tally, tally-few, tally-none, tally-same}
 
 equal : (a b : ℕ) → (a == b) ≡ true → a ≡ b

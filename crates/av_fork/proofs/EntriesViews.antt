@@ -1,7 +1,6 @@
 -- What the memory system is seen as while the entries of a process go over to a child: the tables change first, and then the counts, group by group.
-use Rattle.std.proofs.Common.{◌≡◌, ℕ, suc, ◌+◌, ◌-◌, ◌*◌, ◌/◌, ◌^◌, ◌<◌, ◌≤◌, Bool, true, false, cond, ◌==◌, List, length, take, get_or, None, option_map, refl, sym, ap, subst, ◌∙◌, arith}
+use Rattle.std.proofs.Common.{◌≡◌, ℕ, ◌+◌, ◌-◌, ◌*◌, ◌/◌, ◌<◌, ◌≤◌, Bool, true, false, cond, ◌==◌, List, length, None, option_map, refl, sym, ap, subst, ◌∙◌, arith}
 use Rattle.std.proofs.lemmas.Bool.Decides.{nat_tests}
-use Rattle.std.specs.Prelude.{Option, is_some}
 use Rattle.av_base.specs.Limits.{most_processes}
 use Rattle.av_base.specs.Words.{how_many, with_at}
 use Rattle.av_base.specs.declared.slot.Slot.{Slot}
@@ -21,14 +20,15 @@ use Rattle.av_plain.proofs.Sound.Fork.{forked-kept, forked-no_new}
 use Rattle.av_plain.proofs.Sound.There.{there-by}
 use Rattle.av_swap_laws.specs.Steps.{pte_child, pte_parent}
 use Rattle.av_swap_laws.proofs.Fork.{fork-chosen}
-use Rattle.av_swapcache.specs.Swap.{same_slot, with_slot}
 use Rattle.av_mem.specs.declared.mem.Mem.{Mem}
+use Rattle.av_mem.specs.Entries.{HasRoomFor, IsInUse, entry_passes, view_more_each, with_more}
 use Rattle.av_mem.specs.Mem.{HasLedger, frame_count, plain, setting_by, view}
 use Rattle.av_mem.specs.Steps.{KeepsParts}
+use Rattle.av_mem.proofs.EntryCopies.{by-counts, in-use-then, no_more}
 use Rattle.av_mem.proofs.Groups.{IsGroupFrom, group_from}
 use Rattle.av_mem.proofs.LetGoLaws.{ledger-same}
-use Rattle.av_fork.specs.Entries.{HasForkedEntries, HasRoomFor, IsInUse, after_count_up, after_count_ups, entry_passes, with_more}
-use Rattle.av_fork.proofs.EntriesCounts.{first-few, first-more, tally-group, tally-on}
+use Rattle.av_fork.specs.Entries.{HasForkedEntries}
+use Rattle.av_fork.proofs.EntriesCounts.{tally-group, tally-on}
 use Rattle.av_fork.proofs.EntriesLedger.{forked-stands, more, more-few}
 
 equal : (a b : ℕ) → (a == b) ≡ true → a ≡ b
@@ -36,91 +36,6 @@ equal a b h = grind (arith, nat_tests, h)
 
 is_same : (a : ℕ) → (a == a) ≡ true
 is_same a = grind (arith, nat_tests)
-
--- ---- one entry more
-
--- counts that are the same, each by each
-by-counts : (v : View) (maps maps' : ℕ → ℕ) (entries entries' : Slot → ℕ) → ((f : ℕ) → maps f ≡ maps' f) → ((s : Slot) → entries s ≡ entries' s)
-    → ◌≡◌ {A = View} (record v { maps = maps; entries = entries }) (record v { maps = maps'; entries = entries' })
-by-counts v maps maps' entries entries' same same' = λ i. record v { maps = λ f. same f i; entries = λ s. same' s i }
-
-no_more : (n : ℕ) → n ≡ n + 0
-no_more n = omega arith
-
-pub frame-up : (v : View) (f : ℕ) (write seen : Bool)
-    → ◌≡◌ {A = View} (record v { maps = with_at f (v.maps f + 1) v.maps }) (after_count_up (Here f write seen) v)
-frame-up v f write seen = by-counts v _ _ _ _ (λ g. by g (g == f) refl) (λ s. no_more (v.entries s))
-  where
-    by : (g : ℕ) (b : Bool) → (g == f) ≡ b → cond b (v.maps f + 1) (v.maps g) ≡ v.maps g + cond b 1 0
-    by g true e = ap (λ f. v.maps f + 1) (sym (equal g f e))
-    by g false e = no_more (v.maps g)
-
-pub slot-up : (v : View) (s : Slot) → ◌≡◌ {A = View} (record v { entries = with_slot s (v.entries s + 1) v.entries }) (after_count_up (Away s) v)
-slot-up v s = by-counts v _ _ _ _ (λ f. no_more (v.maps f)) (λ t. by t (same_slot t s) refl)
-  where
-    same : (t : Slot) → same_slot t s ≡ true → t ≡ s
-    same t e = λ i. record { area = first i; page = second i }
-      where
-        first : t.area ≡ s.area
-        first = grind (arith, nat_tests, e)
-
-        second : t.page ≡ s.page
-        second = grind (arith, nat_tests, e)
-
-    by : (t : Slot) (b : Bool) → same_slot t s ≡ b → cond b (v.entries s + 1) (v.entries t) ≡ v.entries t + cond b 1 0
-    by t true e = ap (λ s. v.entries s + 1) (sym (same t e))
-    by t false e = no_more (v.entries t)
-
--- ---- the entries of a group
-
--- none of them yet, and one more
-pub none-up : (group : List Pte) (v : View) → v ≡ after_count_ups (take 0 group) v
-none-up group v = by-counts v _ _ _ _ (λ f. no_more (v.maps f)) (λ s. no_more (v.entries s))
-
-pub one-up : (group : List Pte) (n : ℕ) (v : View) → n < length group
-    → after_count_up (get_or group n Empty) (after_count_ups (take n group) v) ≡ after_count_ups (take (n + 1) group) v
-one-up group n v within = by-counts v _ _ _ _ (λ f. joined (v.maps f) (names_frame f)) (λ s. joined (v.entries s) (names_slot s))
-  where
-    joined : (k : ℕ) (t : Entry → Bool)
-        → k + how_many (λ e. entry_passes t (plain e)) (take n group) + cond (entry_passes t (plain (get_or group n Empty))) 1 0
-        ≡ k + how_many (λ e. entry_passes t (plain e)) (take (n + 1) group)
-    joined k t = add k (how_many (λ e. entry_passes t (plain e)) (take n group)) (cond (entry_passes t (plain (get_or group n Empty))) 1 0)
-        ∙ ap (λ c. k + c) (sym (ap (λ k. how_many (λ e. entry_passes t (plain e)) (take k group)) (let next : n + 1 ≡ suc n = omega arith in next)
-        ∙ first-more (λ e. entry_passes t (plain e)) n group Empty within))
-      where
-        add : (a b c : ℕ) → a + b + c ≡ a + (b + c)
-        add a b c = omega arith
-
--- what is in use stays so while the counts grow
-pub in-use-then : (old now : Mem) → frame_count now ≡ frame_count old → (view now).find ≡ (view old).find
-    → ((s : Slot) → (view old).entries s ≤ (view now).entries s) → (e : Pte) → IsInUse old e → IsInUse now e
-in-use-then old now count find grow Empty h = tt
-in-use-then old now count find grow Zero h = tt
-in-use-then old now count find grow (Here f write seen) h = omega (arith, count, h)
-in-use-then old now count find grow (Away s) h =
-    subst (λ o. 0 < (view now).entries s + cond (is_some o) 1 0) (sym (ap (λ (find : Slot → Option ℕ). find s) find))
-    (let more = grow s in bigger _ _ _ more h)
-  where
-    bigger : (a b c : ℕ) → a ≤ b → 0 < a + c → 0 < b + c
-    bigger a b c le h = omega (arith, le, h)
-
-module _ (old now : Mem) (group : List Pte) (n : ℕ) (few : n < 64) (is : view now ≡ after_count_ups (take n group) (view old)) where
-  -- after some of them there is still room
-  pub room-for-one : HasRoomFor old 64 → HasRoomFor now 1
-  room-for-one room = record {
-    maps = λ f. less ((view now).maps f) _ _ (2 ^ 64) (ap (λ (v : View). v.maps f) is) (first-few _ n group) (room.maps f);
-    entries = λ s. less ((view now).entries s) _ _ (2 ^ 32) (ap (λ (v : View). v.entries s) is) (first-few _ n group) (room.entries s);
-  }
-    where
-      less : (a b k most : ℕ) → a ≡ b + k → k ≤ n → b + 64 < most → a + 1 < most
-      less a b k most e le h = omega (arith, e, le, h, few)
-
-  pub in-use-now : frame_count now ≡ frame_count old → (e : Pte) → IsInUse old e → IsInUse now e
-  in-use-now count = in-use-then old now count (ap (λ (v : View). v.find) is)
-      (λ s. grow _ _ _ (ap (λ (v : View). v.entries s) is))
-    where
-      grow : (a b k : ℕ) → a ≡ b + k → b ≤ a
-      grow a b k e = omega (arith, e)
 
 -- ---- the tables once they are copied, and nothing of the parent is written in place any more
 
@@ -189,9 +104,9 @@ module _ (old : Mem) (p q : ℕ) where
   -- a group goes over; the pages before it have no entry
   pub group-seen : (now new : Mem) (table : ℕ → Pte) (number page : ℕ) (group : List Pte) → length group ≡ 64
       → ((o : ℕ) → table o ≡ child_entry (entry_at old.tables p o)) → IsFirst table (number * 64) page_bound page → IsGroup table (page / 64) group
-      → view now ≡ fork_view old p q (number * 64) → view new ≡ after_count_ups group (view now) → view new ≡ fork_view old p q ((page / 64 + 1) * 64)
+      → view now ≡ fork_view old p q (number * 64) → view new ≡ view_more_each group (view now) → view new ≡ fork_view old p q ((page / 64 + 1) * 64)
   group-seen now new table number page group long copies first are is ups =
-      ups ∙ ap (after_count_ups group) is
+      ups ∙ ap (view_more_each group) is
       ∙ by-counts (record (view old) { table = λ x o. plain (fork_tables p q (entry_at old.tables) x o) }) _ _ _ _
       (λ f. joined ((view old).maps f) (names_frame f) (unseen-frame f)) (λ s. joined ((view old).entries s) (names_slot s) (unseen-slot s))
     where

@@ -1,12 +1,10 @@
 //! How the entries of a process go over to another one.
 
-ghost use Rattle.std.specs.Prelude.{◌≡◌, ℕ, ◌<◌, ◌≤◌, true, slice_index_or, MatchResult, OnOk};
+ghost use Rattle.std.specs.Prelude.{◌≡◌, ℕ, ◌≤◌, true, OnOk};
 ghost use Rattle.av_base.specs.Limits.{most_processes};
 ghost use Rattle.av_base.specs.declared.slot.Slot.{Slot};
-ghost use Rattle.av_fork.specs.Entries.{after_count_up, after_count_ups, HasForkedEntries};
-ghost use Rattle.av_fork.specs.Entries.{HasRoomFor, IsInUse};
+ghost use Rattle.av_fork.specs.Entries.{HasForkedEntries};
 ghost use Rattle.av_pagetable.specs.Entries.{entry_at, has};
-ghost use Rattle.av_pagetable.specs.Table.{group_size};
 ghost use Rattle.av_pagetable.specs.declared.pte.Pte.TheVariants as Pte;
 ghost use Rattle.av_plain.specs.Device.{Device};
 ghost use Rattle.av_plain.specs.Ledger.{Ledger};
@@ -15,6 +13,7 @@ ghost use Rattle.av_mem.specs.Mem.{view, HasLedger, IsOrderly};
 ghost use Rattle.av_mem.specs.Steps.{KeepsRest};
 
 use av_mem::Mem;
+use av_mem::entries::copy_each_for_child;
 use av_pagetable::{GROUP, Pte};
 use std::alloc::{AllocError, Global};
 
@@ -38,46 +37,8 @@ pub fn fork_entries(mem: &mut Mem, alloc: Global, parent: u16, child: u16) -> Re
         let mut group = [Pte::Empty; GROUP];
         mem.tables
             .read_group(child, page / GROUP as u64, &mut group);
-        count_up_each(mem, &group)?;
+        copy_each_for_child(mem, &group)?;
         number = page / GROUP as u64 + 1;
     }
     Ok(())
-}
-
-/// One more entry names each frame and slot that an entry of the group names. Only a slot takes
-/// memory; without it nothing is promised of counts.
-fn count_up_each(mem: &mut Mem, group: &[Pte; GROUP]) -> Result<(), AllocError>
-    requires used { (i : ℕ) → i < group_size
-        → IsInUse mem.old (slice_index_or group.now i Pte.Empty) }
-    requires room { HasRoomFor mem.old group_size }
-    ensures counts { OnOk result (view mem.new ≡ after_count_ups group.now (view mem.old)) }
-    ensures tables { entry_at mem.new.tables ≡ entry_at mem.old.tables }
-    ensures free { free_of (view mem.new) ≡ free_of (view mem.old) }
-    ensures rest { KeepsRest mem.old mem.new }
-{
-    for entry in group {
-        count_up(mem, *entry)?;
-    }
-    Ok(())
-}
-
-/// One more entry names the frame or slot of an entry. Only a slot takes memory; without it all
-/// counts stay.
-fn count_up(mem: &mut Mem, entry: Pte) -> Result<(), AllocError>
-    requires used { IsInUse mem.old entry }
-    requires room { HasRoomFor mem.old 1 }
-    ensures counts { MatchResult result
-        (λ _. view mem.new ≡ after_count_up entry (view mem.old))
-        (λ _. view mem.new ≡ view mem.old) }
-    ensures tables { entry_at mem.new.tables ≡ entry_at mem.old.tables }
-    ensures rest { KeepsRest mem.old mem.new }
-{
-    match entry {
-        Pte::Empty | Pte::Zero => Ok(()),
-        Pte::Here { frame, .. } => {
-            mem.frames.map_up(frame);
-            Ok(())
-        }
-        Pte::Away { slot } => mem.swap.entry_up(slot, 1),
-    }
 }

@@ -10,6 +10,8 @@ mod DropLaws
 mod LoadLaws
 mod ChainLaws
 pub mod EntryViews
+pub mod EntryComes
+pub mod EntryCopies
 pub mod PagesGone
 pub mod ZapRange
 pub mod EntryGoes

@@ -1,26 +1,99 @@
--- How an entry goes that its table has lost, or is about to lose.
-use Rattle.std.specs.Prelude.{◌≡◌, ℕ, ◌+◌, ◌<◌, Bool, false, not, ◌&&◌, ◌==◌, if◌then◌else◌, List}
-use Rattle.std.specs.Prelude.{[], ◌∷◌, ◌++◌, length, slice_index_or, Option, Some, None, IfSome}
-use Rattle.std.specs.Prelude.{MatchBool}
+-- How entries come and go: a frame is taken for a page, an entry is copied for a child, and an entry
+-- goes that its table has lost, or is about to lose.
+use Rattle.std.specs.Prelude.{◌≡◌, ℕ, ◌+◌, ◌^◌, ◌<◌, Bool, true, false, not, ◌&&◌, ◌==◌}
+use Rattle.std.specs.Prelude.{if◌then◌else◌, List, [], ◌∷◌, ◌++◌, length, slice_index_or, Option}
+use Rattle.std.specs.Prelude.{Some, None, IfSome, IsSome, MatchBool}
 use Rattle.std.specs.List.{list_any}
-use Rattle.av_base.specs.Words.{within}
+use Rattle.av_base.specs.Limits.{top_page}
+use Rattle.av_base.specs.Words.{how_many, is_in, with_at, within}
 use Rattle.av_base.specs.declared.slot.Slot.{Slot}
+use Rattle.av_pagetable.specs.Entries.{has}
 use Rattle.av_pagetable.specs.declared.pte.Pte.{Pte}
-use Rattle.av_pagetable.specs.declared.pte.Pte.TheVariants.{Empty}
+use Rattle.av_pagetable.specs.declared.pte.Pte.TheVariants.{Away, Empty, Here, Zero as ZeroPte}
 use Rattle.av_plain.specs.Choice.{ChoosesAll}
 use Rattle.av_plain.specs.Device.{Device}
-use Rattle.av_plain.specs.Event.{after_all, notes_of}
-use Rattle.av_plain.specs.Ledger.{Entry, InFrame, InSlot, Ledger, Zero, same_slot}
+use Rattle.av_plain.specs.Event.{after_all, notes_of, without}
+use Rattle.av_plain.specs.Ledger.{Entry, InFrame, InSlot, Key, Ledger, Zero, names_frame}
+use Rattle.av_plain.specs.Ledger.{names_slot, same_slot}
 use Rattle.av_plain.specs.Stands.{Pte as Plain, View, free_of}
 use Rattle.av_plain.specs.Zap.{keys_in, zaps_of}
+use Rattle.av_spaces.specs.Spaces.{pages_of}
 use Rattle.av_swap_laws.specs.Steps.{view_drop, view_zap}
-use Rattle.av_swapcache.specs.Swap.{shown as shown_swap}
+use Rattle.av_swapcache.specs.Swap.{count_of, shown as shown_swap}
 use Rattle.av_trace.specs.declared.note.Note.{Note}
 use Rattle.av_trace.specs.declared.note.Note.TheVariants.{Dropped}
 use Rattle.av_mem.specs.declared.mem.Mem.{Mem}
-use Rattle.av_mem.specs.Mem.{SoundLedger, plain, setting_by, view}
+use Rattle.av_mem.specs.Mem.{SoundLedger, frame_count, plain, setting_by, view, HasLists}
 
--- ---- what it does to the view
+-- ---- a frame is taken for a page
+
+-- the page is mapped, and its process has a table
+pub record IsMapped (old : Mem) (k : Key) : Type 0 where
+  pub table : has old.tables k.0 ≡ true
+  pub area : IsSome (pages_of old.spaces.processes k.0 k.1)
+  pub below : k.1 < top_page
+
+-- a frame is free, and no entry names one that is
+pub record HasFree (old : Mem) : Type 0 where
+  pub some : (view old).free ≡ [] → ⊥
+  pub unmapped : (f : ℕ) → is_in f (view old).free ≡ true → (view old).maps f ≡ 0
+  pub lists : HasLists old
+
+-- the first free frame was taken, and this is made of it, by the frames that are left
+pub record IsTaken (old new : Mem) (f : ℕ) (made : List ℕ → View) : Type 0 where
+  pub left : List ℕ
+  pub first : (view old).free ≡ f ∷ left
+  pub view : view new ≡ made left
+
+-- one entry names it then, it has this home, and it is at the head of inactive
+abbrev pub view_taken : ℕ → List ℕ → Option (ℕ × ℕ) → View → View
+view_taken f left home v = record v {
+  free = left;
+  maps = with_at f 1 v.maps;
+  homes = with_at f home v.homes;
+  active = without f v.active;
+  inactive = f ∷ without f v.inactive;
+}
+
+-- ---- an entry is copied for a child
+
+-- the frame of an entry is one of the machine's, and its slot is in use
+abbrev pub IsInUse : Mem → Pte → Type 0
+IsInUse k Empty = Unit {0}
+IsInUse k ZeroPte = Unit {0}
+IsInUse k (Here f write seen) = f < frame_count k
+IsInUse k (Away s) = 0 < count_of (shown_swap k.swap) s
+
+-- so many more entries may name any frame or slot
+pub record HasRoomFor (k : Mem) (n : ℕ) : Type 0 where
+  pub maps : (f : ℕ) → (view k).maps f + n < 2 ^ 64
+  pub entries : (s : Slot) → (view k).entries s + n < 2 ^ 32
+
+-- whether there is an entry that passes the test
+abbrev pub entry_passes : (Entry → Bool) → Option Plain → Bool
+entry_passes test None = false
+entry_passes test (Some t) = test t.entry
+
+-- so many more entries name each frame, and each slot
+abbrev pub with_more : (ℕ → ℕ) → (Slot → ℕ) → View → View
+with_more frames slots v = record v {
+  maps = λ f. v.maps f + frames f;
+  entries = λ s. v.entries s + slots s;
+}
+
+-- an entry more names what this one names
+abbrev pub view_more : Pte → View → View
+view_more e v = with_more
+    (λ f. if entry_passes (names_frame f) (plain e) then 1 else 0)
+    (λ s. if entry_passes (names_slot s) (plain e) then 1 else 0) v
+
+-- so it is for each of these entries
+abbrev pub view_more_each : List Pte → View → View
+view_more_each group v = with_more
+    (λ f. how_many (λ e. entry_passes (names_frame f) (plain e)) group)
+    (λ s. how_many (λ e. entry_passes (names_slot s) (plain e)) group) v
+
+-- ---- an entry goes: what it does to the view
 
 -- an entry has gone, but for the tables: as the laws have it, whichever its page
 abbrev pub view_less : Option Plain → View → View
@@ -53,7 +126,7 @@ DropsOrphan s old new before now = MatchBool (is_orphan old s)
     (IfSome (old.find s) (λ f. new ≡ view_drop f s old) × (now ≡ before ++ Dropped s ∷ []))
     ((new ≡ old) × (now ≡ before))
 
--- ---- what it does to the ledger
+-- ---- an entry goes: what it does to the ledger
 
 -- what the tables say of each page of each process
 abbrev pub Table : Type 0

@@ -1,20 +1,141 @@
-//! How an entry goes: its frame or slot has one entry fewer, and a slot that nothing uses any more
-//! is dropped.
+//! How entries come and go: a page gets a frame that is taken for it, an entry is copied for a child,
+//! and an entry goes. Then its frame or slot has one entry fewer, and a slot that nothing uses any
+//! more is dropped.
 
-ghost use Rattle.std.specs.Prelude.{◌≡◌, ℕ, IfSome, OnOk, false};
+ghost use Rattle.std.specs.Prelude.{◌≡◌, ◌<◌, ℕ, slice_index_or, IfOk, IfSome, MatchResult};
+ghost use Rattle.std.specs.Prelude.{OnOk, false, true};
 ghost use Rattle.av_base.specs.Words.{is_in};
+ghost use Rattle.av_pagetable.specs.Entries.{entry_at};
+ghost use Rattle.av_pagetable.specs.Table.{group_size};
+ghost use Rattle.av_pagetable.specs.declared.pte.Pte.TheVariants as Pte;
 ghost use Rattle.av_plain.specs.Device.{Device};
 ghost use Rattle.av_plain.specs.Ledger.{Ledger};
-ghost use Rattle.av_mem.specs.Entries.{is_orphan, slot_behind, view_less, DropsOrphan, HasEntry};
-ghost use Rattle.av_mem.specs.Entries.{HasLedgerBy, LetsGo, Table};
-ghost use Rattle.av_mem.specs.Mem.{HasLists, HasRoom, plain, view};
-ghost use Rattle.av_mem.specs.Steps.{KeepsRest};
+ghost use Rattle.av_plain.specs.Stands.{free_of};
+ghost use Rattle.av_swap_laws.specs.Steps.{view_copy, view_new, view_seen};
+ghost use Rattle.av_mem.specs.Entries.{is_orphan, slot_behind, view_less, view_more};
+ghost use Rattle.av_mem.specs.Entries.{view_more_each, view_taken, DropsOrphan, HasEntry, HasFree};
+ghost use Rattle.av_mem.specs.Entries.{HasLedgerBy, HasRoomFor, IsInUse, IsMapped, IsTaken, LetsGo};
+ghost use Rattle.av_mem.specs.Entries.{Table};
+ghost use Rattle.av_mem.specs.Mem.{frame_count, plain, view, HasLists, HasRoom};
+ghost use Rattle.av_mem.specs.Steps.{KeepsParts, KeepsRest};
 
 use crate::mem::Mem;
 use av_base::Slot;
-use av_pagetable::Pte;
+use av_pagetable::{GROUP, Pte};
 use av_trace::{Note, Notes};
 use std::alloc::AllocError;
+
+/// Takes a frame of zeros for a page, whose entry names it then: accessed, and it may be written.
+/// The frame has this home, and goes to the head of inactive.
+pub fn take_frame_of_zeros(
+    mem: &mut Mem,
+    key: (u16, u64),
+    home: Option<(u64, u64)>,
+) -> Result<u32, AllocError>
+    requires mapped { IsMapped mem.old key }
+    requires free { HasFree mem.old }
+    ensures taken { IfOk result (λ f. IsTaken mem.old mem.new f (λ left.
+        view_seen key.0 key.1 f true
+        (view_new key.0 key.1 f true left (λ i. 0) home (view mem.old)))) }
+    ensures parts { OnOk result (KeepsParts mem.old mem.new) }
+    ensures count { frame_count mem.new ≡ frame_count mem.old }
+{
+    let frame = take_frame(mem, home);
+    mem.tables.set(key.0, key.1, accessed_entry(frame, true))?;
+    mem.frames.zero(frame);
+    Ok(frame)
+}
+
+/// The same for a page that has an entry, with a copy of the frame `from`, which one entry fewer
+/// names then.
+pub fn take_frame_for_copy(
+    mem: &mut Mem,
+    key: (u16, u64),
+    from: u32,
+    home: Option<(u64, u64)>,
+) -> u32
+    requires there { entry_at mem.old.tables key.0 key.1 ≡ Pte.Empty → ⊥ }
+    requires free { HasFree mem.old }
+    requires mapped { 0 < (view mem.old).maps from }
+    requires in_range { from < frame_count mem.old }
+    ensures taken { IsTaken mem.old mem.new result (λ left. view_seen key.0 key.1 result true
+        (view_copy key.0 key.1 from result true left home (view mem.old))) }
+    ensures parts { KeepsParts mem.old mem.new }
+{
+    mem.frames.map_down(from);
+    let frame = take_frame(mem, home);
+    mem.tables.change(key.0, key.1, accessed_entry(frame, true));
+    mem.frames.copy(from, frame);
+    frame
+}
+
+/// Takes the first free frame for one entry, with this home, to the head of inactive.
+fn take_frame(mem: &mut Mem, home: Option<(u64, u64)>) -> u32
+    requires free { HasFree mem.old }
+    ensures in_range { result < frame_count mem.old }
+    ensures taken { IsTaken mem.old mem.new result (λ left.
+        view_taken result left home (view mem.old)) }
+    ensures tables { mem.new.tables ≡ mem.old.tables }
+    ensures parts { KeepsParts mem.old mem.new }
+{
+    let Some(frame) = mem.frames.take() else {
+        unreachable!();
+    };
+    mem.frames.map_up(frame);
+    mem.frames.set_home(frame, home);
+    mem.lists.to_inactive_head(frame);
+    frame
+}
+
+/// The entry of a frame that a page has and that was accessed.
+pub fn accessed_entry(frame: u32, write: bool) -> Pte
+    ensures { result ≡ Pte.Here frame write true }
+{
+    Pte::Here {
+        frame,
+        write,
+        seen: true,
+    }
+}
+
+/// Copies the entries of a group for a child, whose table has them already: one more entry names
+/// each frame and slot that they name. Only a slot takes memory; without it nothing is promised of
+/// counts.
+pub fn copy_each_for_child(mem: &mut Mem, group: &[Pte; GROUP]) -> Result<(), AllocError>
+    requires used { (i : ℕ) → i < group_size
+        → IsInUse mem.old (slice_index_or group.now i Pte.Empty) }
+    requires room { HasRoomFor mem.old group_size }
+    ensures counts { OnOk result (view mem.new ≡ view_more_each group.now (view mem.old)) }
+    ensures tables { entry_at mem.new.tables ≡ entry_at mem.old.tables }
+    ensures free { free_of (view mem.new) ≡ free_of (view mem.old) }
+    ensures rest { KeepsRest mem.old mem.new }
+{
+    for entry in group {
+        copy_for_child(mem, *entry)?;
+    }
+    Ok(())
+}
+
+/// Copies an entry for a child, whose table has it already: one more entry names its frame or slot.
+/// Only a slot takes memory; without it all counts stay.
+pub fn copy_for_child(mem: &mut Mem, entry: Pte) -> Result<(), AllocError>
+    requires used { IsInUse mem.old entry }
+    requires room { HasRoomFor mem.old 1 }
+    ensures counts { MatchResult result
+        (λ _. view mem.new ≡ view_more entry (view mem.old))
+        (λ _. view mem.new ≡ view mem.old) }
+    ensures tables { entry_at mem.new.tables ≡ entry_at mem.old.tables }
+    ensures rest { KeepsRest mem.old mem.new }
+{
+    match entry {
+        Pte::Empty | Pte::Zero => Ok(()),
+        Pte::Here { frame, .. } => {
+            mem.frames.map_up(frame);
+            Ok(())
+        }
+        Pte::Away { slot } => mem.swap.entry_up(slot, 1),
+    }
+}
 
 /// Lets an entry go that its table has lost, or is about to lose, and adds the note of a slot that
 /// was dropped.

@@ -1,4 +1,4 @@
-//! The memory system: its single steps, the walk over it, and how its entries are taken away.
+//! The memory system: its single steps, the walk over it, and how its entries come and go.
 //!
 //! `Mem` holds the frames with their two lists, the page tables, the areas, the anon_vmas and the
 //! swap areas that are on; the kernel has one. What it stands for, over any device, is said by the
@@ -7,9 +7,16 @@
 //!
 //! Proved: each step of swap (a frame is put, unmapped, unseen, moved within or between the lists,
 //! a write begins or ends, a slot is dropped, a page is loaded and mapped) makes of the view
-//! exactly what av_swap_laws has a law of. `zap_range` and `zap_all` take away the entries of a
-//! range of pages or of a process, free the frames that nothing has any more, give such slots back,
-//! and drop those that they leave as orphans: for every ledger that the parts stand for. Without
+//! exactly what av_swap_laws has a law of.
+//!
+//! `entries` has the calls through which entries of frames and slots come and go; beside them only
+//! the steps of swap change how many there are. A frame is taken for a page
+//! (`take_frame_of_zeros`, `take_frame_for_copy`), an entry is copied for a child (`copy_for_child`,
+//! `copy_each_for_child`), and an entry is let go (`let_go`), with the note of the drop where it
+//! leaves an orphan. Proved: that the frame is the first free one, and what the view is then; of an
+//! entry that goes, what the ledger is. `zap_range` and `zap_all` let the entries of a range of
+//! pages or of a process go: they free the frames that nothing has any more, give such slots back,
+//! and drop those that they leave as orphans, for every ledger that the parts stand for. Without
 //! memory, which only a note takes there, they promise nothing of entries and counts; `unmap`
 //! changes nothing then.
 //!
@@ -22,7 +29,7 @@
 
 mod cache;
 mod chains;
-mod entries;
+pub mod entries;
 mod mem;
 mod order;
 pub mod walk;

@@ -4,7 +4,7 @@ use Rattle.av_plain.specs.Fault.{CopyOnWrite}
 use Rattle.av_fault.specs.Seek.{HasSought}
 use Rattle.av_fault.specs.declared.seek.Got.TheVariants.{Frame, Out}
 use Rattle.av_fault.proofs.Between.{between-some}
-use Rattle.av_fault.proofs.CopyLaws.{copy-here, copy-made, copy-mapped, copy-needs}
+use Rattle.av_fault.proofs.CopyLaws.{copy-made, copy-mapped, copy-needs, copy-some}
 use Rattle.av_fault.proofs.SharedLaws.{shared-in}
 use Rattle.av_fault.proofs.SoughtLaws.{free-sought}
 use Rattle.av_fault.proofs.TakenLaws.{out-made}
@@ -24,8 +24,8 @@ returns-in-Out-clause-made g c = λ told w r l h came.
     out-made d d' old c.seek.new.mem w r l (Some f) c.args.notes.now c.seek.new.notes c.args.key came c.in-Out.out s (CopyOnWrite f)
     (copy-needs d d' old c.seek.new.mem w r l c.args.notes.now c.seek.new.notes c.args.key f got h s false c.requires.here shared) refl refl
 
-pub take_copy-frame-requires-clause-here : goal.take_copy-frame-requires-clause-here
-take_copy-frame-requires-clause-here g c =
+pub take_frame_for_copy-frame-requires-clause-there : goal.take_frame_for_copy-frame-requires-clause-there
+take_frame_for_copy-frame-requires-clause-there g c =
     let sizes = g.D.SwapDev.sizes c.args.dev.now in
     let failures = g.D.SwapDev.failures c.args.dev.now in
     let old = c.args.mem.now in
@@ -36,10 +36,10 @@ take_copy-frame-requires-clause-here g c =
     let s = subst (HasSought d d' old c.seek.new.mem b.0 b.1 b.2 (Some c.args.from) c.args.notes.now c.seek.new.notes) c.in_default.is
     (c.in_ok-out.ensures.sought false b.0 b.1 b.2 b.3) in
     let shared = sym (shared-in d old b.0 b.1 b.2 b.3 f) ∙ c.requires.shared in
-    copy-here d d' old c.seek.new.mem b.0 b.1 b.2 c.args.notes.now c.seek.new.notes c.args.key f Frame b.3 s false c.requires.here shared
+    copy-some d d' old c.seek.new.mem b.0 b.1 b.2 c.args.notes.now c.seek.new.notes c.args.key f Frame b.3 s false c.requires.here shared
 
-pub take_copy-frame-requires-clause-free : goal.take_copy-frame-requires-clause-free
-take_copy-frame-requires-clause-free g c =
+pub take_frame_for_copy-frame-requires-clause-free : goal.take_frame_for_copy-frame-requires-clause-free
+take_frame_for_copy-frame-requires-clause-free g c =
     let sizes = g.D.SwapDev.sizes c.args.dev.now in
     let failures = g.D.SwapDev.failures c.args.dev.now in
     let old = c.args.mem.now in
@@ -51,8 +51,8 @@ take_copy-frame-requires-clause-free g c =
     (c.in_ok-out.ensures.sought false b.0 b.1 b.2 b.3) in
     free-sought d d' old c.seek.new.mem b.0 b.1 b.2 (Some f) c.args.notes.now c.seek.new.notes Frame b.3 s s.finds
 
-pub take_copy-frame-requires-clause-in_range : goal.take_copy-frame-requires-clause-in_range
-take_copy-frame-requires-clause-in_range g c =
+pub take_frame_for_copy-frame-requires-clause-in_range : goal.take_frame_for_copy-frame-requires-clause-in_range
+take_frame_for_copy-frame-requires-clause-in_range g c =
     let sizes = g.D.SwapDev.sizes c.args.dev.now in
     let failures = g.D.SwapDev.failures c.args.dev.now in
     let old = c.args.mem.now in
@@ -61,8 +61,8 @@ take_copy-frame-requires-clause-in_range g c =
     subst (λ n. c.args.from < n) (sym c.seek.ensures.count)
     (here-below (device_by sizes None failures) old b.0 b.1 b.2 b.3 c.args.key c.args.from here.write here.seen here.there)
 
-pub take_copy-frame-requires-clause-mapped : goal.take_copy-frame-requires-clause-mapped
-take_copy-frame-requires-clause-mapped g c =
+pub take_frame_for_copy-frame-requires-clause-mapped : goal.take_frame_for_copy-frame-requires-clause-mapped
+take_frame_for_copy-frame-requires-clause-mapped g c =
     let sizes = g.D.SwapDev.sizes c.args.dev.now in
     let failures = g.D.SwapDev.failures c.args.dev.now in
     let old = c.args.mem.now in
@@ -84,6 +84,6 @@ returns-clause-made g c = λ told w r l h came.
     let f = c.args.from in
     let s = subst (HasSought d d' old c.seek.new.mem w r l (Some f) c.args.notes.now c.seek.new.notes) c.in_default.is
     (c.in_ok-out.ensures.sought told w r l h) in
-    copy-made d d' old c.seek.new.mem c.take_copy-frame.new.mem w r l c.args.notes.now c.seek.new.notes c.push.new.self c.args.key
-    c.take_copy-frame.result f came false h s c.requires.here shared c.args.home c.requires.home c.take_copy-frame.ensures.taken
-    c.take_copy-frame.ensures.parts c.in_ok-push.ensures.ok
+    copy-made d d' old c.seek.new.mem c.take_frame_for_copy-frame.new.mem w r l c.args.notes.now c.seek.new.notes c.push.new.self c.args.key
+    c.take_frame_for_copy-frame.result f came false h s c.requires.here shared c.args.home c.requires.home c.take_frame_for_copy-frame.ensures.taken
+    c.take_frame_for_copy-frame.ensures.parts c.in_ok-push.ensures.ok

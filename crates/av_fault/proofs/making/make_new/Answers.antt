@@ -47,8 +47,8 @@ prepare-requires-clause-lives g c =
     (c.in_ok-out.ensures.sought false b.0 b.1 b.2 b.3) in
     lives-sought d d' old c.seek.new.mem b.0 b.1 b.2 None c.args.notes.now c.seek.new.notes Frame b.3 s c.args.key c.requires.mapped
 
-pub take_zeros-requires-clause-mapped : goal.take_zeros-requires-clause-mapped
-take_zeros-requires-clause-mapped g c =
+pub take_frame_of_zeros-requires-clause-mapped : goal.take_frame_of_zeros-requires-clause-mapped
+take_frame_of_zeros-requires-clause-mapped g c =
     let sizes = g.D.SwapDev.sizes c.args.dev.now in
     let failures = g.D.SwapDev.failures c.args.dev.now in
     let old = c.args.mem.now in
@@ -60,8 +60,8 @@ take_zeros-requires-clause-mapped g c =
     mapped-taken d d' old c.seek.new.mem c.seek.new.mem b.0 b.1 b.2 c.args.notes.now c.seek.new.notes c.seek.new.notes c.args.key 0 b.3 s
     c.requires.mapped c.requires.bare c.prepare.new.self c.prepare.new.anons c.in_ok-home.ensures.areas c.in_ok-home.ensures.anons
 
-pub take_zeros-requires-clause-free : goal.take_zeros-requires-clause-free
-take_zeros-requires-clause-free g c =
+pub take_frame_of_zeros-requires-clause-free : goal.take_frame_of_zeros-requires-clause-free
+take_frame_of_zeros-requires-clause-free g c =
     let sizes = g.D.SwapDev.sizes c.args.dev.now in
     let failures = g.D.SwapDev.failures c.args.dev.now in
     let old = c.args.mem.now in
@@ -81,6 +81,6 @@ returns-clause-made g c = λ told w r l h.
     let key = c.args.key in
     let s = subst (HasSought d d' old c.seek.new.mem w r l None c.args.notes.now c.seek.new.notes) c.in_default.is
     (c.in_ok-out.ensures.sought told w r l h) in
-    new-made d d' old c.seek.new.mem c.take_zeros.new.mem w r l c.args.notes.now c.seek.new.notes c.push.new.self key c.in_ok-frame.frame h s
+    new-made d d' old c.seek.new.mem c.take_frame_of_zeros.new.mem w r l c.args.notes.now c.seek.new.notes c.push.new.self key c.in_ok-frame.frame h s
     c.requires.mapped c.requires.bare c.prepare.new.self c.prepare.new.anons c.in_ok-home.ensures.areas c.in_ok-home.ensures.anons
     c.in_ok-home.home c.in_ok-home.ensures.home c.in_ok-frame.ensures.taken c.in_ok-frame.ensures.parts c.in_ok-push.ensures.ok

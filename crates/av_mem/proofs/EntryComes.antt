@@ -1,0 +1,76 @@
+-- A frame is taken for a page: a new one, or one for a copy.
+use Rattle.std.proofs.Common.{◌≡◌, ℕ, ◌+◌, ◌-◌, ◌<◌, ◌==◌, Bool, true, false, cond, ◌&&◌, List, [], ◌∷◌, Option, Some, refl, sym, ap, subst, ◌∙◌, arith}
+use Rattle.av_base.specs.Words.{is_in, with_at}
+use Rattle.av_frames.specs.Store.{Shown, Store, shown as shown_frames, with_bytes, with_home, with_maps}
+use Rattle.av_lru.specs.Lists.{Lists, without_frame}
+use Rattle.av_pagetable.specs.declared.pte.Pte.TheVariants.{Here}
+use Rattle.av_pagetable.specs.Entries.{entry_at, with_entry}
+use Rattle.av_swapcache.specs.Swap.{shown as shown_swap}
+use Rattle.av_plain.specs.Event.{without}
+use Rattle.av_plain.specs.Ledger.{InFrame}
+use Rattle.av_plain.specs.Stands.{Pte as Plain, View}
+use Rattle.av_plain.proofs.Sound.Counts.{same-is}
+use Rattle.av_swap_laws.specs.Steps.{view_new, view_seen, with_pte}
+use Rattle.av_mem.specs.declared.mem.Mem.{Mem}
+use Rattle.av_mem.specs.Entries.{HasFree, view_taken}
+use Rattle.av_mem.specs.Mem.{view, view_of_parts}
+use Rattle.av_mem.proofs.MemLaws.{plain_set}
+use Rattle.av_mem.proofs.StepLaws.{SameRest, lists-without, view-by}
+
+-- ---- the first free frame is taken
+
+pub frame-taken : (old new : Mem) (f : ℕ) (left : List ℕ) (home : Option (ℕ × ℕ)) → SameRest old new → (shown_frames old.frames).maps f ≡ 0
+    → shown_frames new.frames
+    ≡ with_home f home (with_maps f ((shown_frames old.frames).maps f + 1) (record (shown_frames old.frames) { free = left }))
+    → new.lists ≡ record (without_frame f old.lists) { inactive = f ∷ (without_frame f old.lists).inactive }
+    → new.swap ≡ old.swap → view new ≡ view_taken f left home (view old)
+frame-taken old new f left home same none frames lists swap =
+    view-by old new (with_home f home (with_maps f 1 (record (shown_frames old.frames) { free = left })))
+    (record { frames = old.lists.frames; active = without f old.lists.active; inactive = f ∷ without f old.lists.inactive })
+    (shown_swap old.swap) same
+    (frames ∙ ap (λ n. with_home f home (with_maps f (n + 1) (record (shown_frames old.frames) { free = left }))) none)
+    (lists ∙ ap (λ (ls : Lists). record ls { inactive = f ∷ ls.inactive }) (lists-without f old.lists)) (ap shown_swap swap)
+
+-- ---- its page names it
+
+-- an entry that is set twice
+set-twice : (p page : ℕ) (x y : Option Plain) (table : ℕ → ℕ → Option Plain) → with_pte p page y table ≡ with_pte p page y (with_pte p page x table)
+set-twice p page x y table = λ i q o. by (q == p && o == page) (table q o) i
+  where
+    by : (b : Bool) (z : Option Plain) → cond b y z ≡ cond b y (cond b x z)
+    by true z = refl
+    by false z = refl
+
+-- the entry is set and the bytes are, and the rest is as it was
+pub page-gets : (mid new : Mem) (v : View) (p page f : ℕ) (left : List ℕ) (held : ℕ → ℕ) (home : Option (ℕ × ℕ))
+    → view mid ≡ view_taken f left home v → entry_at new.tables ≡ with_entry p page (Here f true true) (entry_at mid.tables)
+    → shown_frames new.frames ≡ with_bytes f held (shown_frames mid.frames) → new.lists ≡ mid.lists → new.spaces ≡ mid.spaces
+    → new.anons ≡ mid.anons → new.swap ≡ mid.swap → view new ≡ view_seen p page f true (view_new p page f true left held home v)
+page-gets mid new v p page f left held home taken entries frames lists spaces anons swap =
+    (λ i. view_of_parts (frames i) (lists i) (plain_set (entry_at mid.tables) (entry_at new.tables) p page (Here f true true) entries i) (spaces i)
+    (anons i) (shown_swap (swap i)))
+    ∙ ap (λ (u : View). view_seen p page f true (record u { bytes = with_at f held u.bytes })) taken
+    ∙ (λ i. record (view_taken f left home v) {
+      bytes = with_at f held v.bytes;
+      table = set-twice p page (Some (record { entry = InFrame f false; write = true })) (Some (record { entry = InFrame f true; write = true }))
+          v.table i;
+    })
+
+-- ---- a copy: the frame that was the page's has an entry less first
+
+-- a free frame is another one, so it is named by nothing still
+pub unmapped-still : (f g : ℕ) (maps : ℕ → ℕ) → 0 < maps g → maps f ≡ 0 → with_at g (maps g - 1) maps f ≡ 0
+unmapped-still f g maps some none = by (f == g) refl
+  where
+    by : (b : Bool) → (f == g) ≡ b → cond b (maps g - 1) (maps f) ≡ 0
+    by true e = absurd (let m : maps g ≡ 0 = subst (λ x. maps x ≡ 0) (same-is f g e) none in omega (arith, some, m))
+    by false e = none
+
+pub free-still : (k : Mem) (frames : Store) (g : ℕ) → HasFree k → 0 < (shown_frames k.frames).maps g
+    → shown_frames frames ≡ with_maps g ((shown_frames k.frames).maps g - 1) (shown_frames k.frames) → HasFree (record k { frames = frames })
+free-still k frames g free some is = record {
+  some = λ none. free.some (sym (ap (λ (s : Shown). s.free) is) ∙ none);
+  unmapped = λ f listed. ap (λ (s : Shown). s.maps f) is
+      ∙ unmapped-still f g (shown_frames k.frames).maps some (free.unmapped f (sym (ap (λ (s : Shown). is_in f s.free) is) ∙ listed));
+  lists = free.lists ∙ sym (ap (λ (s : Shown). s.count) is);
+}
