@@ -1,5 +1,5 @@
--- How entries come and go: a frame is taken for a page, an entry is copied for a child, and an entry
--- goes that its table has lost, or is about to lose.
+-- How entries come and go: a frame is taken for a page, an entry is copied for a child, and an
+-- entry goes that its table has lost, or is about to lose.
 use Rattle.std.specs.Prelude.{◌≡◌, ℕ, ◌+◌, ◌^◌, ◌<◌, Bool, true, false, not, ◌&&◌, ◌==◌}
 use Rattle.std.specs.Prelude.{if◌then◌else◌, List, [], ◌∷◌, ◌++◌, length, slice_index_or, Option}
 use Rattle.std.specs.Prelude.{Some, None, IfSome, IsSome, MatchBool}

@@ -1,6 +1,6 @@
-//! How entries come and go: a page gets a frame that is taken for it, an entry is copied for a child,
-//! and an entry goes. Then its frame or slot has one entry fewer, and a slot that nothing uses any
-//! more is dropped.
+//! How entries come and go: a page gets a frame that is taken for it, an entry is copied for a
+//! child, and an entry goes. Then its frame or slot has one entry fewer, and a slot that nothing
+//! uses any more is dropped.
 
 ghost use Rattle.std.specs.Prelude.{◌≡◌, ◌<◌, ℕ, slice_index_or, IfOk, IfSome, MatchResult};
 ghost use Rattle.std.specs.Prelude.{OnOk, false, true};

@@ -10,8 +10,8 @@
 //! exactly what av_swap_laws has a law of.
 //!
 //! `entries` has the calls through which entries of frames and slots come and go; beside them only
-//! the steps of swap change how many there are. A frame is taken for a page
-//! (`take_frame_of_zeros`, `take_frame_for_copy`), an entry is copied for a child (`copy_for_child`,
+//! the steps of swap change how many there are. A frame is taken for a page (`take_frame_of_zeros`,
+//! `take_frame_for_copy`), an entry is copied for a child (`copy_for_child`,
 //! `copy_each_for_child`), and an entry is let go (`let_go`), with the note of the drop where it
 //! leaves an orphan. Proved: that the frame is the first free one, and what the view is then; of an
 //! entry that goes, what the ledger is. `zap_range` and `zap_all` let the entries of a range of
