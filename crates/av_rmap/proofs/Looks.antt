@@ -1,13 +1,15 @@
 -- What is left to look at, one look after the other.
 use Rattle.std.proofs.Common.{◌≡◌, ℕ, ◌+◌, Bool, true, false, cond, ◌&&◌, List, [], ◌∷◌, ◌++◌, Option, Some, None, refl, sym, ap, subst, ◌∙◌, arith, inl, inr, append_assoc, length, IsSomeAnd}
 use Rattle.std.proofs.lemmas.Bool.Decides.{nat_tests}
+use Rattle.std.proofs.lemmas.List.{length-append}
 use Rattle.av_base.specs.Words.{how_many}
+use Rattle.av_chain.specs.Links.{one_if}
 use Rattle.av_pagetable.specs.declared.pte.Pte.{Pte}
 use Rattle.av_vma.specs.declared.area.Area.{Area}
 use Rattle.av_interval.specs.declared.span.Span.{Span}
 use Rattle.av_interval.specs.Search.{IsBefore, AllAfter, IsOrdered, is_past, overlaps, overlap_of}
 use Rattle.av_rmap.specs.View.{View, AreSpanned}
-use Rattle.av_rmap.specs.Walk.{Key, holds, page_at, found_in, is_seen_in, names_seen}
+use Rattle.av_rmap.specs.Walk.{Key, holds, page_at, found_in, passes_in}
 use Rattle.av_rmap.proofs.Entries.{walk_of}
 use Rattle.av_rmap.proofs.SpanLemmas.{IsSpanOf, AreSpans, are_spans, overlaps-holds}
 
@@ -189,6 +191,21 @@ pub last : (view : View) (f : Pte → Bool) (home : ℕ × ℕ) (after : Option 
     (walk_of view f home.1 (rest after (view.spans home.0)) ≡ []) × (how_many (overlaps home.1) (rest after (view.spans home.0)) ≡ 0)
 last view f home after spanned none = next-none view f home.1 after (view.spans home.0) (are_spans view home.0 spanned) none
 
+-- how many a look finds, and how many the looks find that are left
+found-length : (view : View) (f : Pte → Bool) (i : ℕ) (o : Option Area) → length (found_in view f i o) ≡ one_if (passes_in view f i o)
+found-length view f i None = refl
+found-length view f i (Some area) = by (holds i area && f (view.entry area.pid (page_at i area)))
+  where
+    by : (b : Bool) → length {A = Key} (cond b ((area.pid, page_at i area) ∷ []) []) ≡ cond b 1 0
+    by true = refl
+    by false = refl
+
+pub walk-length : (view : View) (f : Pte → Bool) (i : ℕ) (after : Option (ℕ × ℕ)) (k : ℕ × ℕ) (xs : List Span) → Found view f i after k xs →
+    length (walk_of view f i (rest after xs)) ≡ one_if (passes_in view f i (view.areas k.1)) + length (walk_of view f i (rest (Some k) xs))
+walk-length view f i after k xs t =
+    ap length t.walk ∙ length-append (found_in view f i (view.areas k.1)) (walk_of view f i (rest (Some k) xs))
+    ∙ ap (λ n. n + length (walk_of view f i (rest (Some k) xs))) (found-length view f i (view.areas k.1))
+
 -- what was found so far, what is left, and the whole, where the look found nothing
 pub turn_without : {X : Type 0} (items left later look whole : List X) → items ++ left ≡ whole → left ≡ look ++ later → [] ≡ look
     → items ++ later ≡ whole
@@ -210,17 +227,16 @@ room_without left later look e none = ap length (e ∙ ap (λ ks. ks ++ later) (
 pub turn_nothing : {X : Type 0} (left later look whole : List X) → left ≡ look ++ later → look ≡ [] → left ≡ whole → later ≡ whole
 turn_nothing left later look whole e none h = sym (e ∙ ap (λ ks. ks ++ later) none) ∙ h
 
--- a look that finds nothing seen
-pub unseen : (view : View) (frame i : ℕ) (o : Option Area) → is_seen_in view frame i o ≡ false → found_in view (names_seen frame) i o ≡ []
-unseen view frame i None e = refl
-unseen view frame i (Some area) e = ap (λ b. cond b ((area.pid, page_at i area) ∷ []) []) e
+-- a look that finds nothing
+pub finds-nothing : (view : View) (f : Pte → Bool) (i : ℕ) (o : Option Area) → passes_in view f i o ≡ false → found_in view f i o ≡ []
+finds-nothing view f i None e = refl
+finds-nothing view f i (Some area) e = ap (λ b. cond b ((area.pid, page_at i area) ∷ []) []) e
 
--- and one that finds it
-pub seen-there : (view : View) (frame i : ℕ) (o : Option Area) → is_seen_in view frame i o ≡ true
-    → (k : Key) × (names_seen frame (view.entry k.0 k.1) ≡ true)
-seen-there view frame i None e = cc
-seen-there view frame i (Some area) e =
-    ((area.pid, page_at i area), second (holds i area) (names_seen frame (view.entry area.pid (page_at i area))) e)
+-- and one that finds an entry
+pub finds-one : (view : View) (f : Pte → Bool) (i : ℕ) (o : Option Area) → passes_in view f i o ≡ true
+    → (k : Key) × (f (view.entry k.0 k.1) ≡ true)
+finds-one view f i None e = cc
+finds-one view f i (Some area) e = ((area.pid, page_at i area), second (holds i area) (f (view.entry area.pid (page_at i area))) e)
   where
     second : (b c : Bool) → (b && c) ≡ true → c ≡ true
     second true c h = h

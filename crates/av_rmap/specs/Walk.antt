@@ -68,6 +68,12 @@ abbrev pub looks_from : View → Option (ℕ × ℕ) → ℕ
 looks_from view None = 0
 looks_from view (Some home) = how_many (overlaps home.1) (view.spans home.0)
 
+-- whether the entry of the area's page with the index passes the test
+abbrev pub passes_in : View → (Pte → Bool) → ℕ → Option Area → Bool
+passes_in view passes index None = false
+passes_in view passes index (Some area) =
+    holds index area && passes (view.entry area.pid (page_at index area))
+
 -- what one look finds: the area's page with the index, where its entry passes the test
 abbrev pub found_in : View → (Pte → Bool) → ℕ → Option Area → List Key
 found_in view passes index None = []
@@ -78,9 +84,3 @@ found_in view passes index (Some area) =
 abbrev pub list_of : Option Key → List Key
 list_of None = []
 list_of (Some k) = k ∷ []
-
--- whether that entry names the frame and is seen
-abbrev pub is_seen_in : View → ℕ → ℕ → Option Area → Bool
-is_seen_in view frame index None = false
-is_seen_in view frame index (Some area) =
-    holds index area && names_seen frame (view.entry area.pid (page_at index area))
