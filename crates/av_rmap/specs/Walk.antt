@@ -8,6 +8,7 @@ use Rattle.av_pagetable.specs.declared.pte.Pte.TheVariants.{Empty, Zero, Here, A
 use Rattle.av_vma.specs.declared.area.Area.{Area}
 use Rattle.av_vma.specs.Index.{first_of, past_of}
 use Rattle.av_interval.specs.Search.{overlaps}
+use Rattle.av_interval.specs.declared.span.Span.{Span}
 use Rattle.av_rmap.specs.View.{View}
 use Rattle.av_rmap.specs.declared.target.Target.{Target}
 use Rattle.av_rmap.specs.declared.target.Target.TheVariants as target
@@ -84,3 +85,12 @@ found_in view passes index (Some area) =
 abbrev pub list_of : Option Key → List Key
 list_of None = []
 list_of (Some k) = k ∷ []
+
+-- how many looks find all entries that pass: one for each span that overlaps the index, up to the
+-- last one with such an entry
+abbrev pub looks_to_last : View → (Pte → Bool) → ℕ → List Span → ℕ
+looks_to_last view passes index [] = 0
+looks_to_last view passes index (x ∷ xs) =
+    if looks_to_last view passes index xs == 0
+    then one_if (passes_in view passes index (view.areas x.area))
+    else one_if (overlaps index x) + looks_to_last view passes index xs

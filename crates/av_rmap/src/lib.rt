@@ -13,8 +13,8 @@
 //!
 //! `any_seen` says whether one of them is seen, `clear_seen` takes the seen bit from each, and
 //! `unmap` makes each a slot; these change nothing else. They are told how many entries name the
-//! frame, and end once as many were found: so they take no more steps than a walk, and none where
-//! no entry names it.
+//! frame, and end once as many were found. So they take the steps of a walk up to the last entry,
+//! and none where no entry names the frame; `any_seen` ends at the first that is seen.
 //!
 //! `Stores` shows areas, anon_vmas and page tables as they are kept, and `StoresMut` lends the
 //! tables for writing. Overlaps are found a batch at a time (`Look::next`), in one way through the

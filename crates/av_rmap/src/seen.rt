@@ -2,13 +2,11 @@
 
 ghost use Rattle.std.specs.Prelude.{◌≡◌, ℕ, ◌+◌, ◌≤◌, true, false, List, length, is_some};
 ghost use Rattle.std.specs.Prelude.{unwrap_or, IsSomeAnd, MatchBool};
-ghost use Rattle.av_base.specs.Words.{how_many};
-ghost use Rattle.av_interval.specs.Search.{overlaps};
 ghost use Rattle.av_rmap.specs.Covered.{IsCovered};
 ghost use Rattle.av_rmap.specs.Seen.{unseen_in, with_unseen};
 ghost use Rattle.av_rmap.specs.View.{AreApart, AreSpanned};
-ghost use Rattle.av_rmap.specs.Walk.{AreItsEntries, Key, holds, names_frame, names_seen};
-ghost use Rattle.av_rmap.specs.Walk.{passes_in};
+ghost use Rattle.av_rmap.specs.Walk.{AreItsEntries, Key, holds, looks_to_last, names_frame};
+ghost use Rattle.av_rmap.specs.Walk.{names_seen, passes_in};
 
 use crate::ahead::Ahead;
 use crate::look::{Look, LookMut};
@@ -17,8 +15,8 @@ use av_pagetable::Pte;
 use std::sync::ledger::Ledger;
 
 /// Whether an entry that names the frame says that its page was accessed. `home` is the frame's,
-/// and `maps` its number of entries: the walk ends once as many were found. It takes no more steps
-/// than a walk, and none where no entry names the frame.
+/// and `maps` its number of entries: it ends once as many were found, so it takes no step past the
+/// last of them.
 pub fn any_seen<K: Look<L>, L: Ledger>(
     look: &K,
     frame: u32,
@@ -34,9 +32,8 @@ pub fn any_seen<K: Look<L>, L: Ledger>(
     ensures seen { MatchBool result
         ((k : Key) × (names_seen frame ((K.view look.now).entry k.0 k.1) ≡ true))
         ((process page : ℕ) → names_seen frame ((K.view look.now).entry process page) ≡ false) }
-    ensures counted { steps.new ≤ steps.old
-        + how_many (overlaps home.1) ((K.view look.now).spans home.0) }
-    ensures none { maps ≡ 0 → steps.new ≡ steps.old }
+    ensures counted { steps.new ≤ steps.old + looks_to_last (K.view look.now) (names_frame frame)
+        home.1 ((K.view look.now).spans home.0) }
 {
     if maps == 0 {
         return false;
@@ -87,9 +84,8 @@ fn seen_in<K: Look<L>, L: Ledger>(
 }
 
 /// Takes the frame as not accessed: no entry that names it says any more that its page was, and
-/// nothing else changes. `home` is the frame's, and `maps` its number of entries: the walk ends
-/// once as many were found. It takes no more steps than a walk, and none where no entry names the
-/// frame.
+/// nothing else changes. `home` is the frame's, and `maps` its number of entries: it ends once as
+/// many were found. It takes as many steps as a walk does up to the last of them.
 pub fn clear_seen<K: LookMut<L>, L: Ledger>(
     look: &mut K,
     frame: u32,
@@ -104,9 +100,8 @@ pub fn clear_seen<K: LookMut<L>, L: Ledger>(
         → length keys ≡ maps }
     ensures cleared { K.view look.new ≡ with_unseen frame (K.view look.old) }
     ensures kept { K.kept look.new ≡ K.kept look.old }
-    ensures counted { steps.new ≤ steps.old
-        + how_many (overlaps home.1) ((K.view look.old).spans home.0) }
-    ensures none { maps ≡ 0 → steps.new ≡ steps.old }
+    ensures counted { steps.new ≡ steps.old + looks_to_last (K.view look.old) (names_frame frame)
+        home.1 ((K.view look.old).spans home.0) }
 {
     if maps == 0 {
         return;

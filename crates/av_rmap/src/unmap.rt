@@ -1,12 +1,11 @@
 //! The entries of a frame that goes to its slot: each names the slot in the place of the frame.
 
-ghost use Rattle.std.specs.Prelude.{◌≡◌, ◌+◌, ◌≤◌, true, List, length, IsSomeAnd};
-ghost use Rattle.av_base.specs.Words.{how_many};
-ghost use Rattle.av_interval.specs.Search.{overlaps};
+ghost use Rattle.std.specs.Prelude.{◌≡◌, ◌+◌, true, List, length, IsSomeAnd};
 ghost use Rattle.av_rmap.specs.Covered.{IsCovered};
 ghost use Rattle.av_rmap.specs.Unmap.{away_in, with_away};
 ghost use Rattle.av_rmap.specs.View.{AreApart, AreSpanned};
-ghost use Rattle.av_rmap.specs.Walk.{AreItsEntries, Key, holds, names_frame, passes_in};
+ghost use Rattle.av_rmap.specs.Walk.{AreItsEntries, Key, holds, looks_to_last, names_frame};
+ghost use Rattle.av_rmap.specs.Walk.{passes_in};
 
 use crate::ahead::Ahead;
 use crate::look::{Look, LookMut};
@@ -15,8 +14,8 @@ use av_pagetable::Pte;
 use std::sync::ledger::Ledger;
 
 /// Each entry that names the frame becomes the slot, and nothing else changes. `home` is the
-/// frame's, and `maps` its number of entries: the walk ends once as many were found. It takes no
-/// memory, no more steps than a walk, and none where no entry names the frame.
+/// frame's, and `maps` its number of entries: it ends once as many were found. It takes no memory,
+/// and as many steps as a walk does up to the last of them.
 pub fn unmap<K: LookMut<L>, L: Ledger>(
     look: &mut K,
     frame: u32,
@@ -32,9 +31,8 @@ pub fn unmap<K: LookMut<L>, L: Ledger>(
         → length keys ≡ maps }
     ensures unmapped { K.view look.new ≡ with_away frame slot (K.view look.old) }
     ensures kept { K.kept look.new ≡ K.kept look.old }
-    ensures counted { steps.new ≤ steps.old
-        + how_many (overlaps home.1) ((K.view look.old).spans home.0) }
-    ensures none { maps ≡ 0 → steps.new ≡ steps.old }
+    ensures counted { steps.new ≡ steps.old + looks_to_last (K.view look.old) (names_frame frame)
+        home.1 ((K.view look.old).spans home.0) }
 {
     if maps == 0 {
         return;

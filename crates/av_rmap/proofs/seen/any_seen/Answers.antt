@@ -1,9 +1,7 @@
-use Rattle.std.proofs.Common.{◌≡◌, ℕ, ◌+◌, Some, length, sym, ap, ◌∙◌, arith}
+use Rattle.std.proofs.Common.{◌≡◌, ℕ, ◌+◌, ◌<◌, Some, length, sym, ap, ◌∙◌, arith}
 use Rattle.std.proofs.lemmas.List.{nil_from_length}
-use Rattle.av_base.specs.Words.{how_many}
 use Rattle.av_chain.specs.Links.{one_if}
-use Rattle.av_interval.specs.Search.{overlaps}
-use Rattle.av_rmap.specs.Walk.{names_frame, names_seen}
+use Rattle.av_rmap.specs.Walk.{looks_to_last, names_frame, names_seen}
 use Rattle.av_rmap.proofs.Entries.{walk_of, walk-many, none-named, none-seen}
 use Rattle.av_rmap.proofs.Looks.{rest, rest-none, turn, turn-holds, last, turn_nothing, walk-length, finds-nothing, finds-one}
 use Rattle.av_rmap.proofs.seen.any_seen.Goals as goal
@@ -19,7 +17,7 @@ looks-init g c =
       left = ap (λ xs. length (walk_of view f home.1 xs)) all
           ∙ walk-many view f home c.args.maps c.requires.spanned c.requires.apart c.requires.covered c.requires.maps;
       seen = ap (walk_of view (names_seen c.args.frame) home.1) all;
-      counted = ap (λ xs. c.args.steps.now + how_many (overlaps home.1) xs) all;
+      counted = ap (λ xs. c.args.steps.now + looks_to_last view f home.1 xs) all;
     }
 
 pub next-requires : goal.next-requires
@@ -71,8 +69,9 @@ returns-in-Some-true-clause-counted g c =
     let f = names_frame c.args.frame in
     let t = turn view f c.args.home c.looks.after (c.in-Some.first, c.in-Some.area) c.requires.spanned c.next.ensures.ordered
     (sym c.next.ensures.first ∙ c.in-Some.is) in
-    let count = t.count in let kept = c.looks.invariant.counted in let step = c.seen_in.ensures.counted in
-    omega (arith, count, kept, step)
+    let left = c.looks.invariant.left in let counted = c.looks.invariant.counted in let step = c.seen_in.ensures.counted in
+    let some : 0 < length (walk_of view f c.args.home.1 (rest c.looks.after (view.spans c.args.home.0))) = omega (arith, left) in
+    let looks = t.looks some in omega (arith, looks, counted, step)
 
 pub looks-smaller-in-Some-false : goal.looks-smaller-in-Some-false
 looks-smaller-in-Some-false g c =
@@ -102,13 +101,15 @@ looks-preserved-in-Some-false g c =
     let s = turn view seen c.args.home c.looks.after k c.requires.spanned c.next.ensures.ordered (sym c.next.ensures.first ∙ c.in-Some.is) in
     let many = walk-length view f i c.looks.after k xs t
     ∙ ap (λ b. one_if b + length (walk_of view f i (rest (Some k) xs))) (sym c.in-Some-false.ensures.named) in
-    let count = t.count in let counted = c.looks.invariant.counted in let left = c.looks.invariant.left in let step = c.seen_in.ensures.counted in
+    let counted = c.looks.invariant.counted in let left = c.looks.invariant.left in let step = c.seen_in.ensures.counted in
+    let some : 0 < length (walk_of view f i (rest c.looks.after xs)) = omega (arith, left) in
+    let looks = t.looks some in
     record {
       ahead = rw c.in-Some.is at c.next.ensures.ahead;
       left = omega (arith, many, left);
       seen = turn_nothing _ _ _ _ s.walk (finds-nothing view seen i (view.areas c.in-Some.area)
           (sym c.in-Some-false.ensures.seen ∙ c.in-Some-false.field-0-test)) c.looks.invariant.seen;
-      counted = omega (arith, count, counted, step);
+      counted = omega (arith, looks, counted, step);
     }
 
 pub looks-preserved : goal.looks-preserved
@@ -123,10 +124,12 @@ looks-preserved g c =
     let s = turn view seen c.args.home c.looks.after k c.requires.spanned c.next.ensures.ordered (sym c.next.ensures.first ∙ c.in-Some.is) in
     let many = walk-length view f i c.looks.after k xs t
     ∙ ap (λ b. one_if b + length (walk_of view f i (rest (Some k) xs))) (sym c.in-None.ensures.named) in
-    let count = t.count in let counted = c.looks.invariant.counted in let left = c.looks.invariant.left in let step = c.seen_in.ensures.counted in
+    let counted = c.looks.invariant.counted in let left = c.looks.invariant.left in let step = c.seen_in.ensures.counted in
+    let some : 0 < length (walk_of view f i (rest c.looks.after xs)) = omega (arith, left) in
+    let looks = t.looks some in
     record {
       ahead = rw c.in-Some.is at c.next.ensures.ahead;
       left = omega (arith, many, left);
       seen = turn_nothing _ _ _ _ s.walk (finds-nothing view seen i (view.areas c.in-Some.area) (sym c.in-None.ensures.seen)) c.looks.invariant.seen;
-      counted = omega (arith, count, counted, step);
+      counted = omega (arith, looks, counted, step);
     }

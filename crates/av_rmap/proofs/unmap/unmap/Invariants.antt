@@ -2,7 +2,7 @@ use Rattle.std.proofs.Common.{◌≡◌, ◌+◌, length}
 use Rattle.av_base.specs.Words.{how_many}
 use Rattle.av_interval.specs.Search.{overlaps}
 use Rattle.av_rmap.specs.Unmap.{away}
-use Rattle.av_rmap.specs.Walk.{names_frame}
+use Rattle.av_rmap.specs.Walk.{looks_to_last, names_frame}
 use Rattle.av_rmap.specs.Ahead.{IsAhead}
 use Rattle.av_rmap.proofs.Changes.{IsChanged}
 use Rattle.av_rmap.proofs.Entries.{walk_of}
@@ -20,8 +20,8 @@ invariant-looks g l =
       left : length ahead_of ≡ l.left;
       unmapped : IsChanged (away l.frame l.slot) before (g.K.Look.view l.look) ahead_of;
       kept : g.K.LookMut.kept l.look ≡ g.K.LookMut.kept l.fn.look;
-      counted : l.steps + how_many (overlaps l.index) (rest l.after all)
-          ≡ l.fn.steps + how_many (overlaps l.index) all;
+      counted : l.steps + looks_to_last before (names_frame l.frame) l.index (rest l.after all)
+          ≡ l.fn.steps + looks_to_last before (names_frame l.frame) l.index all;
     }
 
 abbrev pub decreases-looks : goal.decreases-looks
