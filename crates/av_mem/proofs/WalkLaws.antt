@@ -37,7 +37,7 @@ use Rattle.av_plain.proofs.Ledger.Order.{both_first, both_second}
 use Rattle.av_plain.proofs.Ledger.Walk.{all-listed, keys-filter, length-keys, passes}
 use Rattle.av_mem.specs.declared.mem.Mem.{Mem}
 use Rattle.av_mem.specs.Mem.{Keeps, Serves, view}
-use Rattle.av_mem.specs.Chains.{AreReached, reach}
+use Rattle.av_mem.specs.Chains.{AreCounted, AreReached, reach}
 use Rattle.av_mem.specs.Walk.{areas_at}
 use Rattle.av_mem.proofs.MemLaws.{mapped_is, taken_has}
 use Rattle.av_mem.proofs.ReachLaws.{Reaches, SaysAs, are-reached, frame-says, passes-there, reaches-kept, reaches-served, slot-says}
@@ -84,11 +84,12 @@ module _ (k : Mem) (r : Rmap) (l : Ledger) (h : Reaches k r l) (sorted : T (is_s
   its q = once-there q (keys_of p l.entries) (keys-rise p l.entries sorted)
       ∙ ap one_if (any-same q (keys_of p l.entries) ∙ keys-filter p l.entries q sorted ∙ sym (passes-there k r l h test p says q))
 
-  -- no list of them is longer than how many pass
+  -- each list of them is as long as how many pass
+  many : (n : ℕ) → n ≡ how_many (λ e. p e.1) l.entries → (keys : List Key) → AreItsEntries (reach k) test keys → length keys ≡ n
+  many n is keys also = keys-as-long keys (keys_of p l.entries) (λ q. also q ∙ sym (its q)) ∙ length-keys p l.entries ∙ sym is
+
   few : (n : ℕ) → n ≡ how_many (λ e. p e.1) l.entries → (keys : List Key) → AreItsEntries (reach k) test keys → length keys ≤ n
-  few n is keys also =
-      let same : length keys ≡ n = keys-as-long keys (keys_of p l.entries) (λ q. also q ∙ sym (its q)) ∙ length-keys p l.entries ∙ sym is in
-      omega (arith, same)
+  few n is keys also = let same = many n is keys also in omega (arith, same)
 
   -- one that rises is that list
   found : (keys : List Key) → AreItsEntries (reach k) test keys → AreRising keys → keys ≡ keys_of p l.entries
@@ -162,7 +163,13 @@ module _ (d : Device) (k : Mem) (s : State) (keeps : Keeps d k s) where
       by None = refl
       by (Some home) = spans-are-areas (area_of k.spaces.areas) (family k.anons) (spans_of k.anons) home.0 home.1 keeps.anons.order
 
--- so it is of the entries of a slot, within a command
+-- so it is within a command, of the entries of a frame and of a slot
+module _ (d : Device) (closing : Option ℕ) (k : Mem) (w : World) (r : Rmap) (l : Ledger) (sorted : T (is_sorted key_cmp l.entries))
+    (serves : Serves d closing k w r l) where
+  pub are-counted : (f : ℕ) → AreCounted k f
+  are-counted f = many k r l (reaches-served d closing k w r l serves) sorted (names_frame f) (names f) (frame-says f) ((view k).maps f)
+      (serves.held.ledger.frames.maps f)
+
 module _ (d : Device) (closing : Option ℕ) (k : Mem) (w : World) (r : Rmap) (l : Ledger) (sorted : T (is_sorted key_cmp l.entries))
     (serves : Serves d closing k w r l) (s : Slot) where
   pub slot-few : (keys : List Key) → AreItsEntries (reach k) (names_slot s) keys → length keys ≤ (view k).entries s

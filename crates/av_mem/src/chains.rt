@@ -11,7 +11,7 @@ ghost use Rattle.av_spaces.specs.Kin.{AnonsFit};
 ghost use Rattle.av_spaces.specs.Spaces.{AllRising};
 ghost use Rattle.av_swap_laws.specs.Steps.{view_unmap, view_unseen};
 ghost use Rattle.av_swapcache.specs.Swap.{is_cached, shown as shown_swap};
-ghost use Rattle.av_mem.specs.Chains.{AreReached, AreSlotReached, reach};
+ghost use Rattle.av_mem.specs.Chains.{AreCounted, AreReached, AreSlotReached, reach};
 ghost use Rattle.av_mem.specs.Mem.{frame_count, view};
 ghost use Rattle.av_mem.specs.Steps.{KeepsParts};
 
@@ -31,14 +31,15 @@ impl Mem {
         requires anons { AnonsFit self.old.spaces self.old.anons }
         requires in_range { frame < frame_count self.old }
         requires reached { AreReached self.old frame }
+        requires counted { AreCounted self.old frame }
         requires cached { is_cached (shown_swap self.old.swap) slot ≡ true }
         requires few { (view self.old).entries slot + (view self.old).maps frame < 2 ^ 32 }
         ensures unmapped { OnOk result (view self.new ≡ view_unmap frame slot (view self.old)) }
         ensures none { OnErr result (view self.new ≡ view self.old) }
         ensures parts { KeepsParts self.old self.new }
     {
-        let count = self.frames.maps(frame);
-        self.swap.entry_up(slot, count as u32)?;
+        let maps = self.frames.maps(frame);
+        self.swap.entry_up(slot, maps as u32)?;
         self.send_away::<Brand>(frame, slot, Blank::new(1));
         self.frames.clear_maps(frame);
         Ok(())
@@ -49,6 +50,7 @@ impl Mem {
         requires anons { AnonsFit self.old.spaces self.old.anons }
         requires in_range { frame < frame_count self.old }
         requires reached { AreReached self.old frame }
+        requires counted { AreCounted self.old frame }
         ensures unseen { view self.new ≡ view_unseen frame (view self.old) }
         ensures parts { KeepsParts self.old self.new }
     {
@@ -120,6 +122,7 @@ impl Mem {
         requires anons { AnonsFit self.now.spaces self.now.anons }
         requires in_range { frame < frame_count self.now }
         requires reached { AreReached self.now frame }
+        requires counted { AreCounted self.now frame }
         ensures { MatchBool result
             ((k : Key) × (names_seen frame (entry_at self.now.tables k.0 k.1) ≡ true))
             ((process page : ℕ)
@@ -136,6 +139,7 @@ impl Mem {
         requires anons { AnonsFit self.now.spaces self.now.anons }
         requires in_range { frame < frame_count self.now }
         requires reached { AreReached self.now frame }
+        requires counted { AreCounted self.now frame }
         ensures { MatchBool result
             ((k : Key) × (names_seen frame (entry_at self.now.tables k.0 k.1) ≡ true))
             ((process page : ℕ)
@@ -151,7 +155,7 @@ impl Mem {
             anons: &self.anons,
             tables: &self.tables,
         };
-        any_seen(&stores, frame, home, &mut steps)
+        any_seen(&stores, frame, home, self.frames.maps(frame), &mut steps)
     }
 
     // Each entry that names a frame names the slot then. Nobody counts the looks.
@@ -162,12 +166,14 @@ impl Mem {
         requires anons { AnonsFit self.old.spaces self.old.anons }
         requires in_range { frame < frame_count self.old }
         requires reached { AreReached self.old frame }
+        requires counted { AreCounted self.old frame }
         ensures entries { entry_at self.new.tables
             ≡ (λ process page. away frame slot (entry_at self.old.tables process page)) }
         ensures processes { has self.new.tables ≡ has self.old.tables }
         ensures rest { self.new ≡ record self.old { tables = self.new.tables } }
     {
         let areas = self.spaces.by_number();
+        let maps = self.frames.maps(frame);
         if let Some(home) = self.frames.home(frame) {
             let mut steps = Steps::<L>::open(blank);
             let mut stores = StoresMut {
@@ -175,7 +181,7 @@ impl Mem {
                 anons: &self.anons,
                 tables: &mut self.tables,
             };
-            unmap(&mut stores, frame, slot, home, &mut steps);
+            unmap(&mut stores, frame, slot, home, maps, &mut steps);
         }
     }
 
@@ -187,12 +193,14 @@ impl Mem {
         requires anons { AnonsFit self.old.spaces self.old.anons }
         requires in_range { frame < frame_count self.old }
         requires reached { AreReached self.old frame }
+        requires counted { AreCounted self.old frame }
         ensures entries { entry_at self.new.tables
             ≡ (λ process page. unseen frame (entry_at self.old.tables process page)) }
         ensures processes { has self.new.tables ≡ has self.old.tables }
         ensures rest { self.new ≡ record self.old { tables = self.new.tables } }
     {
         let areas = self.spaces.by_number();
+        let maps = self.frames.maps(frame);
         if let Some(home) = self.frames.home(frame) {
             let mut steps = Steps::<L>::open(blank);
             let mut stores = StoresMut {
@@ -200,7 +208,7 @@ impl Mem {
                 anons: &self.anons,
                 tables: &mut self.tables,
             };
-            clear_seen(&mut stores, frame, home, &mut steps);
+            clear_seen(&mut stores, frame, home, maps, &mut steps);
         }
     }
 }

@@ -1,5 +1,5 @@
 -- What a walk through the spans of the home's anon_vma finds: the entries that pass the test, each once.
-use Rattle.std.proofs.Common.{◌≡◌, ℕ, zero, suc, ◌+◌, ◌<◌, Bool, true, false, cond, ◌&&◌, List, [], ◌∷◌, ◌++◌, Option, Some, None, refl, sym, ap, subst, ◌∙◌, arith, inl, inr, ◌==◌, eq-eqb, ne_eqb}
+use Rattle.std.proofs.Common.{◌≡◌, ℕ, zero, suc, ◌+◌, ◌<◌, Bool, true, false, cond, ◌&&◌, List, [], ◌∷◌, ◌++◌, Option, Some, None, length, refl, sym, ap, subst, ◌∙◌, arith, inl, inr, ◌==◌, eq-eqb, ne_eqb}
 use Rattle.std.proofs.lemmas.Bool.{cases_eq}
 use Rattle.std.proofs.lemmas.Bool.Decides.{nat_tests}
 use Rattle.av_base.specs.Words.{how_many}
@@ -144,6 +144,12 @@ walk-is view f home spanned apart covered k = is (f (view.entry k.0 k.1)) refl
         ∙ one-span view home.0 r.number r.area spanned r.stands r.linked ∙ sym (ap one_if e)
     is false e = walk-none view f home.1 k (look-none view f home.1 k e) (view.spans home.0) ∙ sym (ap one_if e)
 
+-- so the looks find as many as there are
+pub walk-many : (view : View) (f : Pte → Bool) (home : ℕ × ℕ) (n : ℕ) → AreSpanned view → AreApart view → IsCovered view f home
+    → ((keys : List Key) → AreItsEntries view f keys → length keys ≡ n) → length (walk_of view f home.1 (view.spans home.0)) ≡ n
+walk-many view f home n spanned apart covered many =
+    many (walk_of view f home.1 (view.spans home.0)) (walk-is view f home spanned apart covered)
+
 -- what is seen names the frame
 seen-names : (frame : ℕ) (e : Pte) → names_seen frame e ≡ true → names_frame frame e ≡ true
 seen-names frame Empty h = cc
@@ -154,6 +160,34 @@ seen-names frame (Here other write seen) h = first (frame == other) h
     first true h = refl
     first false h = h
 seen-names frame (Away slot) h = cc
+
+-- where the looks find no entry of the frame, they find none that is seen
+pub none-named : (view : View) (frame i : ℕ) (xs : List Span) → walk_of view (names_frame frame) i xs ≡ [] → walk_of view (names_seen frame) i xs ≡ []
+none-named view frame i [] e = refl
+none-named view frame i (x ∷ xs) e = here (none-named view frame i xs) (view.areas x.area) e
+  where
+    here : (walk_of view (names_frame frame) i xs ≡ [] → walk_of view (names_seen frame) i xs ≡ []) → (o : Option Area)
+        → found_in view (names_frame frame) i o ++ walk_of view (names_frame frame) i xs ≡ []
+        → found_in view (names_seen frame) i o ++ walk_of view (names_seen frame) i xs ≡ []
+    here later None e = later e
+    here later (Some area) e = by (holds i area) (names_frame frame (view.entry area.pid (page_at i area)))
+        (names_seen frame (view.entry area.pid (page_at i area))) (seen-names frame (view.entry area.pid (page_at i area))) e
+      where
+        key : Key
+        key = (area.pid, page_at i area)
+
+        by : (h b c : Bool) → (c ≡ true → b ≡ true) → cond (h && b) (key ∷ []) [] ++ walk_of view (names_frame frame) i xs ≡ []
+            → cond (h && c) (key ∷ []) [] ++ walk_of view (names_seen frame) i xs ≡ []
+        by false b c names e = later e
+        by true false false names e = later e
+        by true true c names e = absurd (some e)
+          where
+            some : key ∷ walk_of view (names_frame frame) i xs ≡ [] → ⊥
+            some e = cc
+        by true false true names e = absurd (two (names refl))
+          where
+            two : false ≡ true → ⊥
+            two h = cc
 
 -- where the looks find nothing seen, nothing is
 pub none-seen : (view : View) (frame : ℕ) (home : ℕ × ℕ) → AreSpanned view → AreApart view → IsCovered view (names_frame frame) home →

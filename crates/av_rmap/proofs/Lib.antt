@@ -1,4 +1,5 @@
 pub mod AheadLemmas
+pub mod Changes
 pub mod Counting
 pub mod Entries
 pub mod LinkedAreas

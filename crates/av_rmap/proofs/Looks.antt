@@ -1,13 +1,16 @@
 -- What is left to look at, one look after the other.
-use Rattle.std.proofs.Common.{◌≡◌, ℕ, ◌+◌, Bool, true, false, cond, ◌&&◌, List, [], ◌∷◌, ◌++◌, Option, Some, None, refl, sym, ap, subst, ◌∙◌, arith, inl, inr, append_assoc, length, IsSomeAnd}
+use Rattle.std.proofs.Common.{◌≡◌, ℕ, ◌+◌, ◌<◌, ◌==◌, Bool, true, false, cond, ◌&&◌, List, [], ◌∷◌, ◌++◌, Option, Some, None, refl, sym, ap, subst, ◌∙◌, arith, inl, inr, append_assoc, length, IsSomeAnd, eq-eqb, eqb-true}
+use Rattle.std.proofs.lemmas.Bool.{false≢true}
 use Rattle.std.proofs.lemmas.Bool.Decides.{nat_tests}
+use Rattle.std.proofs.lemmas.List.{length-append}
 use Rattle.av_base.specs.Words.{how_many}
+use Rattle.av_chain.specs.Links.{one_if}
 use Rattle.av_pagetable.specs.declared.pte.Pte.{Pte}
 use Rattle.av_vma.specs.declared.area.Area.{Area}
 use Rattle.av_interval.specs.declared.span.Span.{Span}
 use Rattle.av_interval.specs.Search.{IsBefore, AllAfter, IsOrdered, is_past, overlaps, overlap_of}
 use Rattle.av_rmap.specs.View.{View, AreSpanned}
-use Rattle.av_rmap.specs.Walk.{Key, holds, page_at, found_in, is_seen_in, names_seen}
+use Rattle.av_rmap.specs.Walk.{Key, holds, page_at, found_in, looks_to_last, passes_in}
 use Rattle.av_rmap.proofs.Entries.{walk_of}
 use Rattle.av_rmap.proofs.SpanLemmas.{IsSpanOf, AreSpans, are_spans, overlaps-holds}
 
@@ -65,6 +68,92 @@ look-nothing view f i x s e =
     ∙ ap (λ b. cond (b && f (view.entry s.area.pid (page_at i s.area))) ((s.area.pid, page_at i s.area) ∷ []) [])
     (sym (overlaps-holds view x i s) ∙ e)
 
+-- a look that finds nothing
+pub finds-nothing : (view : View) (f : Pte → Bool) (i : ℕ) (o : Option Area) → passes_in view f i o ≡ false → found_in view f i o ≡ []
+finds-nothing view f i None e = refl
+finds-nothing view f i (Some area) e = ap (λ b. cond b ((area.pid, page_at i area) ∷ []) []) e
+
+-- how many a look finds
+found-length : (view : View) (f : Pte → Bool) (i : ℕ) (o : Option Area) → length (found_in view f i o) ≡ one_if (passes_in view f i o)
+found-length view f i None = refl
+found-length view f i (Some area) = by (holds i area && f (view.entry area.pid (page_at i area)))
+  where
+    by : (b : Bool) → length {A = Key} (cond b ((area.pid, page_at i area) ∷ []) []) ≡ cond b 1 0
+    by true = refl
+    by false = refl
+
+-- ---- how many looks find all
+
+zero_left : (n : ℕ) → 0 + n ≡ n
+zero_left n = omega arith
+
+-- where a look finds none and later ones don't, none is left
+none-left : (view : View) (f : Pte → Bool) (i : ℕ) (xs : List Span) → looks_to_last view f i xs ≡ 0 → walk_of view f i xs ≡ []
+none-left view f i [] e = refl
+none-left view f i (x ∷ xs) e = by (none-left view f i xs) (later == 0) refl here refl e
+  where
+    later : ℕ
+    later = looks_to_last view f i xs
+
+    here : Bool
+    here = passes_in view f i (view.areas x.area)
+
+    by : (later ≡ 0 → walk_of view f i xs ≡ []) → (b : Bool) → (later == 0) ≡ b → (c : Bool) → here ≡ c
+        → cond b (one_if here) (one_if (overlaps i x) + later) ≡ 0 → found_in view f i (view.areas x.area) ++ walk_of view f i xs ≡ []
+    by again true z false p h = ap (λ ks. ks ++ walk_of view f i xs) (finds-nothing view f i (view.areas x.area) p) ∙ again (eqb-true later 0 z)
+    by again true z true p h = let one = sym (ap one_if p) ∙ h in absurd (omega (arith, one))
+    by again false z c p h = let none : later ≡ 0 = omega (arith, h) in absurd (false≢true (sym z ∙ eq-eqb later 0 none))
+
+pub looks-none : (view : View) (f : Pte → Bool) (i : ℕ) (xs : List Span) → walk_of view f i xs ≡ [] → looks_to_last view f i xs ≡ 0
+looks-none view f i [] e = refl
+looks-none view f i (x ∷ xs) e = by (looks-none view f i xs) here refl e
+  where
+    later : ℕ
+    later = looks_to_last view f i xs
+
+    here : Bool
+    here = passes_in view f i (view.areas x.area)
+
+    by : (walk_of view f i xs ≡ [] → later ≡ 0) → (c : Bool) → here ≡ c → found_in view f i (view.areas x.area) ++ walk_of view f i xs ≡ []
+        → cond (later == 0) (one_if here) (one_if (overlaps i x) + later) ≡ 0
+    by again false p h =
+        let none = again (sym (ap (λ ks. ks ++ walk_of view f i xs) (finds-nothing view f i (view.areas x.area) p)) ∙ h) in
+        ap (λ b. cond b (one_if here) (one_if (overlaps i x) + later)) (eq-eqb later 0 none) ∙ ap one_if p
+    by again true p h =
+        let one = found-length view f i (view.areas x.area) ∙ ap one_if p in
+        let all = sym (length-append (found_in view f i (view.areas x.area)) (walk_of view f i xs)) ∙ ap length h in
+        absurd (omega (arith, one, all))
+
+-- an area that does not hold the index takes none
+no-look : (view : View) (f : Pte → Bool) (i : ℕ) (x : Span) (xs : List Span) → IsSpanOf view x → overlaps i x ≡ false
+    → looks_to_last view f i (x ∷ xs) ≡ looks_to_last view f i xs
+no-look view f i x xs s e = by (looks_to_last view f i xs == 0) refl
+  where
+    none : passes_in view f i (view.areas x.area) ≡ false
+    none = ap (passes_in view f i) s.stands
+        ∙ ap (λ b. b && f (view.entry s.area.pid (page_at i s.area))) (sym (overlaps-holds view x i s) ∙ e)
+
+    by : (b : Bool) → (looks_to_last view f i xs == 0) ≡ b
+        → cond b (one_if (passes_in view f i (view.areas x.area))) (one_if (overlaps i x) + looks_to_last view f i xs) ≡ looks_to_last view f i xs
+    by true z = ap one_if none ∙ sym (eqb-true (looks_to_last view f i xs) 0 z)
+    by false z = ap (λ b. one_if b + looks_to_last view f i xs) e ∙ zero_left (looks_to_last view f i xs)
+
+-- one that does takes one, where an entry is left
+a-look : (view : View) (f : Pte → Bool) (i : ℕ) (x : Span) (xs : List Span) → overlaps i x ≡ true → 0 < length (walk_of view f i (x ∷ xs))
+    → looks_to_last view f i (x ∷ xs) ≡ 1 + looks_to_last view f i xs
+a-look view f i x xs e some = by (looks_to_last view f i xs == 0) refl (passes_in view f i (view.areas x.area)) refl
+  where
+    by : (b : Bool) → (looks_to_last view f i xs == 0) ≡ b → (c : Bool) → passes_in view f i (view.areas x.area) ≡ c
+        → cond b (one_if (passes_in view f i (view.areas x.area))) (one_if (overlaps i x) + looks_to_last view f i xs)
+        ≡ 1 + looks_to_last view f i xs
+    by false z c p = ap (λ b. one_if b + looks_to_last view f i xs) e
+    by true z true p = ap one_if p ∙ ap (λ n. 1 + n) (sym (eqb-true (looks_to_last view f i xs) 0 z))
+    by true z false p =
+        let rest_none = none-left view f i xs (eqb-true (looks_to_last view f i xs) 0 z) in
+        let none : length (walk_of view f i (x ∷ xs)) ≡ 0 =
+        ap length (ap (λ ks. ks ++ walk_of view f i xs) (finds-nothing view f i (view.areas x.area) p) ∙ rest_none) in
+        absurd (omega (arith, none, some))
+
 -- what a call of `next` tells of the looks that are left
 pub record Found (view : View) (f : Pte → Bool) (i : ℕ) (after : Option (ℕ × ℕ)) (k : ℕ × ℕ) (xs : List Span) : Type 0 where
   pub area : Area
@@ -72,9 +161,7 @@ pub record Found (view : View) (f : Pte → Bool) (i : ℕ) (after : Option (ℕ
   pub there : holds i area ≡ true
   pub walk : walk_of view f i (rest after xs) ≡ found_in view f i (view.areas k.1) ++ walk_of view f i (rest (Some k) xs)
   pub count : how_many (overlaps i) (rest after xs) ≡ 1 + how_many (overlaps i) (rest (Some k) xs)
-
-zero_left : (n : ℕ) → 0 + n ≡ n
-zero_left n = omega arith
+  pub looks : 0 < length (walk_of view f i (rest after xs)) → looks_to_last view f i (rest after xs) ≡ 1 + looks_to_last view f i (rest (Some k) xs)
 
 -- a span that is past, or does not hold the index, takes no look
 skip-walk : (view : View) (f : Pte → Bool) (i : ℕ) (after : Option (ℕ × ℕ)) (x : Span) (xs : List Span) → IsSpanOf view x →
@@ -98,6 +185,16 @@ skip-count i after x xs none = is (is_past after x) refl (overlaps i x) refl
     is true e false e' = ap (λ b. how_many (overlaps i) (cond b (x ∷ rest after xs) (rest after xs))) e
         ∙ ap (λ t. cond t 1 0 + how_many (overlaps i) (rest after xs)) e' ∙ zero_left (how_many (overlaps i) (rest after xs))
 
+skip-looks : (view : View) (f : Pte → Bool) (i : ℕ) (after : Option (ℕ × ℕ)) (x : Span) (xs : List Span) → IsSpanOf view x →
+    (is_past after x && overlaps i x) ≡ false → looks_to_last view f i (rest after (x ∷ xs)) ≡ looks_to_last view f i (rest after xs)
+skip-looks view f i after x xs s none = is (is_past after x) refl (overlaps i x) refl
+  where
+    is : (b : Bool) → is_past after x ≡ b → (c : Bool) → overlaps i x ≡ c
+        → looks_to_last view f i (rest after (x ∷ xs)) ≡ looks_to_last view f i (rest after xs)
+    is false e c e' = ap (λ b. looks_to_last view f i (cond b (x ∷ rest after xs) (rest after xs))) e
+    is true e true e' = cc
+    is true e false e' = ap (λ b. looks_to_last view f i (cond b (x ∷ rest after xs) (rest after xs))) e ∙ no-look view f i x (rest after xs) s e'
+
 next-found : (view : View) (f : Pte → Bool) (i : ℕ) (after : Option (ℕ × ℕ)) (k : ℕ × ℕ) (xs : List Span) → IsOrdered xs → AreSpans view xs →
     overlap_of after i xs ≡ Some k → Found view f i after k xs
 next-found view f i after k [] ordered spans h = cc
@@ -119,6 +216,9 @@ next-found view f i after k (x ∷ xs) ordered spans h =
           walk = skip-walk view f i after x xs spans.0 none ∙ found.walk
               ∙ sym (ap (λ zs. found_in view f i (view.areas k.1) ++ walk_of view f i zs) later);
           count = skip-count i after x xs none ∙ found.count ∙ sym (ap (λ zs. 1 + how_many (overlaps i) zs) later);
+          looks = λ some. skip-looks view f i after x xs spans.0 none
+              ∙ found.looks (subst (λ (ks : List Key). 0 < length ks) (skip-walk view f i after x xs spans.0 none) some)
+              ∙ sym (ap (λ zs. 1 + looks_to_last view f i zs) later);
         }
 
     is : (overlap_of after i xs ≡ Some k → Found view f i after k xs) → (b c : Bool) → is_past after x ≡ b → overlaps i x ≡ c
@@ -140,6 +240,9 @@ next-found view f i after k (x ∷ xs) ordered spans h =
               ∙ sym (ap (λ zs. found_in view f i (view.areas k.1) ++ walk_of view f i zs) later);
           count = ap (how_many (overlaps i)) here ∙ ap (λ t. cond t 1 0 + how_many (overlaps i) xs) e'
               ∙ sym (ap (λ zs. 1 + how_many (overlaps i) zs) later);
+          looks = λ some. ap (looks_to_last view f i) here
+              ∙ a-look view f i x xs e' (subst (λ (zs : List Span). 0 < length (walk_of view f i zs)) here some)
+              ∙ sym (ap (λ zs. 1 + looks_to_last view f i zs) later);
         }
       where
         same : {j : ℕ × ℕ} → Some j ≡ Some k → j ≡ k
@@ -189,6 +292,13 @@ pub last : (view : View) (f : Pte → Bool) (home : ℕ × ℕ) (after : Option 
     (walk_of view f home.1 (rest after (view.spans home.0)) ≡ []) × (how_many (overlaps home.1) (rest after (view.spans home.0)) ≡ 0)
 last view f home after spanned none = next-none view f home.1 after (view.spans home.0) (are_spans view home.0 spanned) none
 
+-- how many the looks find that are left
+pub walk-length : (view : View) (f : Pte → Bool) (i : ℕ) (after : Option (ℕ × ℕ)) (k : ℕ × ℕ) (xs : List Span) → Found view f i after k xs →
+    length (walk_of view f i (rest after xs)) ≡ one_if (passes_in view f i (view.areas k.1)) + length (walk_of view f i (rest (Some k) xs))
+walk-length view f i after k xs t =
+    ap length t.walk ∙ length-append (found_in view f i (view.areas k.1)) (walk_of view f i (rest (Some k) xs))
+    ∙ ap (λ n. n + length (walk_of view f i (rest (Some k) xs))) (found-length view f i (view.areas k.1))
+
 -- what was found so far, what is left, and the whole, where the look found nothing
 pub turn_without : {X : Type 0} (items left later look whole : List X) → items ++ left ≡ whole → left ≡ look ++ later → [] ≡ look
     → items ++ later ≡ whole
@@ -210,17 +320,11 @@ room_without left later look e none = ap length (e ∙ ap (λ ks. ks ++ later) (
 pub turn_nothing : {X : Type 0} (left later look whole : List X) → left ≡ look ++ later → look ≡ [] → left ≡ whole → later ≡ whole
 turn_nothing left later look whole e none h = sym (e ∙ ap (λ ks. ks ++ later) none) ∙ h
 
--- a look that finds nothing seen
-pub unseen : (view : View) (frame i : ℕ) (o : Option Area) → is_seen_in view frame i o ≡ false → found_in view (names_seen frame) i o ≡ []
-unseen view frame i None e = refl
-unseen view frame i (Some area) e = ap (λ b. cond b ((area.pid, page_at i area) ∷ []) []) e
-
--- and one that finds it
-pub seen-there : (view : View) (frame i : ℕ) (o : Option Area) → is_seen_in view frame i o ≡ true
-    → (k : Key) × (names_seen frame (view.entry k.0 k.1) ≡ true)
-seen-there view frame i None e = cc
-seen-there view frame i (Some area) e =
-    ((area.pid, page_at i area), second (holds i area) (names_seen frame (view.entry area.pid (page_at i area))) e)
+-- a look that finds an entry
+pub finds-one : (view : View) (f : Pte → Bool) (i : ℕ) (o : Option Area) → passes_in view f i o ≡ true
+    → (k : Key) × (f (view.entry k.0 k.1) ≡ true)
+finds-one view f i None e = cc
+finds-one view f i (Some area) e = ((area.pid, page_at i area), second (holds i area) (f (view.entry area.pid (page_at i area))) e)
   where
     second : (b c : Bool) → (b && c) ≡ true → c ≡ true
     second true c h = h

@@ -1,24 +1,17 @@
--- What unmapping, one look after the other, makes of the entries.
-use Rattle.std.proofs.Common.{◌≡◌, ℕ, ◌+◌, Bool, true, false, cond, ◌&&◌, ◌==◌, List, [], ◌∷◌, ◌++◌, Option, Some, None, IsSomeAnd, refl, sym, ap, subst, ◌∙◌, arith}
-use Rattle.std.proofs.lemmas.Bool.Decides.{nat_tests}
-use Rattle.av_base.specs.Words.{how_many}
+-- What a slot in the place of a frame makes of an entry, and of all, one look after the other.
+use Rattle.std.proofs.Common.{◌≡◌, ℕ, Bool, true, false, cond, ◌==◌, List, Option, Some, refl, ap, ◌∙◌}
 use Rattle.av_base.specs.declared.slot.Slot.{Slot}
-use Rattle.av_chain.specs.Links.{one_if}
 use Rattle.av_pagetable.specs.declared.pte.Pte.{Pte}
 use Rattle.av_pagetable.specs.declared.pte.Pte.TheVariants.{Empty, Zero, Here, Away}
-use Rattle.av_pagetable.specs.Entries.{with_entry}
-use Rattle.av_vma.specs.declared.area.Area.{Area}
-use Rattle.av_interval.specs.Search.{IsOrdered, overlap_of, overlaps}
-use Rattle.av_rmap.specs.Covered.{IsCovered}
-use Rattle.av_rmap.specs.Unmap.{away, away_in, with_away}
-use Rattle.av_rmap.specs.View.{View, AreApart, AreSpanned}
-use Rattle.av_rmap.specs.Walk.{Key, found_in, holds, names_frame, page_at, same_key}
-use Rattle.av_rmap.proofs.Entries.{many-append, walk-is, walk_of}
-use Rattle.av_rmap.proofs.Looks.{Found, last, rest, turn}
+use Rattle.av_interval.specs.declared.span.Span.{Span}
+use Rattle.av_rmap.specs.Unmap.{away, away_in}
+use Rattle.av_rmap.specs.View.{View}
+use Rattle.av_rmap.specs.Walk.{names_frame}
+use Rattle.av_rmap.proofs.Changes.{IsChanged, IsOfFrame, area-now, one-changed}
+use Rattle.av_rmap.proofs.Entries.{walk_of}
+use Rattle.av_rmap.proofs.Looks.{Found, rest}
 
--- ---- one entry
-
-pub away-twice : (f : ℕ) (s : Slot) (e : Pte) → away f s (away f s e) ≡ away f s e
+away-twice : (f : ℕ) (s : Slot) (e : Pte) → away f s (away f s e) ≡ away f s e
 away-twice f s Empty = refl
 away-twice f s Zero = refl
 away-twice f s (Here other write seen) = by (f == other) refl
@@ -35,141 +28,12 @@ away-other f s Zero h = refl
 away-other f s (Here other write seen) h = ap (λ b. cond b (Away s) (Here other write seen)) h
 away-other f s (Away slot) h = refl
 
--- and one that does
-pub away-named : (f : ℕ) (s : Slot) (other : ℕ) (write seen : Bool) → (f == other) ≡ true → away f s (Here other write seen) ≡ Away s
-away-named f s other write seen h = ap (λ b. cond b (Away s) (Here other write seen)) h
+pub sends : (f : ℕ) (s : Slot) → IsOfFrame f (away f s)
+sends f s = record { twice = away-twice f s; other = away-other f s }
 
--- ---- one look
-
-same-entry : (p page : ℕ) (entry : ℕ → ℕ → Pte) (q o : ℕ) → with_entry p page (entry p page) entry q o ≡ entry q o
-same-entry p page entry q o = by (q == p && o == page) refl
-  where
-    by : (b : Bool) → (q == p && o == page) ≡ b → cond b (entry p page) (entry q o) ≡ entry q o
-    by false e = refl
-    by true e = (λ i. entry (sym (first e) i) (sym (second e) i))
-      where
-        first : (q == p && o == page) ≡ true → q ≡ p
-        first e = grind (arith, nat_tests, e)
-
-        second : (q == p && o == page) ≡ true → o ≡ page
-        second e = grind (arith, nat_tests, e)
-
--- where the entry stays as it is, so does all
-pub look-stays : (f : ℕ) (s : Slot) (i : ℕ) (o : Option Area) (view : View) (place : Key) → IsSomeAnd o (λ area. place ≡ (area.pid, page_at i area)) →
-    away f s (view.entry place.0 place.1) ≡ view.entry place.0 place.1
-    → view ≡ away_in f s i o view
-look-stays f s i None view place at h = absurd at
-look-stays f s i (Some area) view place at h =
-    let page = page_at i area in
-    let it : away f s (view.entry area.pid page) ≡ view.entry area.pid page =
-    subst (λ (k : Key). away f s (view.entry k.0 k.1) ≡ view.entry k.0 k.1) at h in
-    λ n. record view {
-      entry =
-          λ q o. (sym (same-entry area.pid page view.entry q o) ∙ ap (λ e. with_entry area.pid page e view.entry q o) (sym it)) n;
-    }
-
--- where it was changed
-pub look-unmaps : (f : ℕ) (s : Slot) (i : ℕ) (o : Option Area) (view new : View) (place : Key) (e : Pte)
-    → IsSomeAnd o (λ area. place ≡ (area.pid, page_at i area)) →
-    away f s (view.entry place.0 place.1) ≡ e
-    → new ≡ record view { entry = with_entry place.0 place.1 e view.entry } → new ≡ away_in f s i o view
-look-unmaps f s i None view new place e at h is = absurd at
-look-unmaps f s i (Some area) view new place e at h is =
-    is ∙ ap (λ e. record view { entry = with_entry place.0 place.1 e view.entry }) (sym h)
-    ∙ ap (λ (k : Key). record view { entry = with_entry k.0 k.1 (away f s (view.entry k.0 k.1)) view.entry }) at
-
--- ---- all looks
-
--- what is left to look at, of the keys of a walk: all others name the slot, where they named the frame, and none is but so far
-pub record IsUnmapped (f : ℕ) (s : Slot) (before now : View) (left : List Key) : Type 0 where
-  pub rest : now ≡ record before { entry = now.entry }
-  pub same : (p page : ℕ) → away f s (now.entry p page) ≡ away f s (before.entry p page)
-  pub done : (k : Key) → how_many (same_key k) left ≡ 0 → now.entry k.0 k.1 ≡ away f s (before.entry k.0 k.1)
-
-pub none-unmapped : (f : ℕ) (s : Slot) (view : View) (home : ℕ × ℕ) → AreSpanned view → AreApart view → IsCovered view (names_frame f) home →
-    IsUnmapped f s view view (walk_of view (names_frame f) home.1 (view.spans home.0))
-none-unmapped f s view home spanned apart covered = record {
-  rest = refl;
-  same = λ p page. refl;
-  done = λ k none. sym (away-other f s (view.entry k.0 k.1) (unnamed (names_frame f (view.entry k.0 k.1))
-      (sym none ∙ walk-is view (names_frame f) home spanned apart covered k)));
-}
-  where
-    unnamed : (b : Bool) → 0 ≡ one_if b → b ≡ false
-    unnamed false e = refl
-    unnamed true e = absurd (omega (arith, e))
-
-pub all-unmapped : (f : ℕ) (s : Slot) (before now : View) (left : List Key) → IsUnmapped f s before now left → left ≡ [] → now ≡ with_away f s before
-all-unmapped f s before now left h none = h.rest
-    ∙ (λ i. record before { entry = λ p page. h.done (p, page) (ap (how_many (same_key (p, page))) none) i })
-
-pub one-unmapped : (f : ℕ) (s : Slot) (i : ℕ) (before now new : View) (left later : List Key) (a : ℕ) → IsUnmapped f s before now left →
-    left ≡ found_in before (names_frame f) i (before.areas a) ++ later
-    → new ≡ away_in f s i (now.areas a) now → IsUnmapped f s before new later
-one-unmapped f s i before now new left later a h e is = by (before.areas a) refl
-  where
-    areas : now.areas ≡ before.areas
-    areas = ap (λ (v : View). v.areas) h.rest
-
-    by : (o : Option Area) → before.areas a ≡ o → IsUnmapped f s before new later
-    by None at =
-        let same : new ≡ now = is ∙ ap (λ o. away_in f s i o now) (ap (λ g. g a) areas ∙ at) in
-        let all : left ≡ later = e ∙ ap (λ o. found_in before (names_frame f) i o ++ later) at in
-        subst (λ v. IsUnmapped f s before v later) (sym same) (subst (IsUnmapped f s before now) all h)
-    by (Some A) at =
-        let page = page_at i A in
-        let it : new ≡ away_in f s i (Some A) now = is ∙ ap (λ o. away_in f s i o now) (ap (λ g. g a) areas ∙ at) in
-        subst (λ v. IsUnmapped f s before v later) (sym it) (record {
-          rest = λ n. record (h.rest n) { entry = with_entry A.pid page (away f s (now.entry A.pid page)) now.entry };
-          same = λ p o. same_at p o (p == A.pid && o == page) refl;
-          done = λ k none. done_at k none (k.0 == A.pid && k.1 == page) refl;
-        })
-      where
-        is_it : (p o : ℕ) → (p == A.pid && o == page_at i A) ≡ true → ◌≡◌ {A = Key} (A.pid, page_at i A) (p, o)
-        is_it p o e = λ n. (first n, second n)
-          where
-            first : A.pid ≡ p
-            first = grind (arith, nat_tests, e)
-
-            second : page_at i A ≡ o
-            second = grind (arith, nat_tests, e)
-
-        same_at : (p o : ℕ) (b : Bool) → (p == A.pid && o == page_at i A) ≡ b →
-            away f s (cond b (away f s (now.entry A.pid (page_at i A))) (now.entry p o)) ≡ away f s (before.entry p o)
-        same_at p o false e = h.same p o
-        same_at p o true e = away-twice f s (now.entry A.pid (page_at i A)) ∙ h.same A.pid (page_at i A)
-            ∙ ap (λ (k : Key). away f s (before.entry k.0 k.1)) (is_it p o e)
-
-        look-other : (k : Key) → same_key k (A.pid, page_at i A) ≡ false → (b : Bool)
-            → how_many (same_key k) (cond b ((A.pid, page_at i A) ∷ []) []) ≡ 0
-        look-other k e false = refl
-        look-other k e true = ap (λ b. cond b 1 0 + 0) e
-
-        done_at : (k : Key) → how_many (same_key k) later ≡ 0 → (b : Bool) → (k.0 == A.pid && k.1 == page_at i A) ≡ b
-            → cond b (away f s (now.entry A.pid (page_at i A))) (now.entry k.0 k.1) ≡ away f s (before.entry k.0 k.1)
-        done_at k none true e = h.same A.pid (page_at i A) ∙ ap (λ (k : Key). away f s (before.entry k.0 k.1)) (is_it k.0 k.1 e)
-        done_at k none false e' = h.done k (
-            ap (how_many (same_key k)) (e ∙ ap (λ o. found_in before (names_frame f) i o ++ later) at)
-            ∙ many-append (same_key k) (found_in before (names_frame f) i (Some A)) later
-            ∙ (let here = look-other k e' (holds i A && names_frame f (before.entry A.pid (page_at i A))) in omega (arith, here, none)))
-
--- ---- one turn of the loop
-
-pub unmapped-turn : (frame : ℕ) (s : Slot) (home : ℕ × ℕ) (before now : View) (left : List Key) (after : Option (ℕ × ℕ)) (k : ℕ × ℕ)
-    (next : Option (ℕ × ℕ)) →
-    AreSpanned before → IsUnmapped frame s before now left
-    → IsOrdered (now.spans home.0) → next ≡ overlap_of after home.1 (now.spans home.0) → next ≡ Some k →
-    Found before (names_frame frame) home.1 after k (before.spans home.0)
-unmapped-turn frame s home before now left after k next spanned h ordered is some =
-    let spans : now.spans home.0 ≡ before.spans home.0 = ap (λ (v : View). v.spans home.0) h.rest in
-    turn before (names_frame frame) home after k spanned (subst IsOrdered spans ordered) (sym (ap (overlap_of after home.1) spans) ∙ sym is ∙ some)
-
--- the last turn finds no area
-pub unmapped-last : (frame : ℕ) (s : Slot) (home : ℕ × ℕ) (before now : View) (left : List Key) (after : Option (ℕ × ℕ)) (next : Option (ℕ × ℕ))
-    → AreSpanned before →
-    IsUnmapped frame s before now left
-    → next ≡ overlap_of after home.1 (now.spans home.0) → next ≡ None
-    → (walk_of before (names_frame frame) home.1 (rest after (before.spans home.0)) ≡ [])
-    × (how_many (overlaps home.1) (rest after (before.spans home.0)) ≡ 0)
-unmapped-last frame s home before now left after next spanned h is none =
-    last before (names_frame frame) home after spanned (sym (ap (λ (v : View). overlap_of after home.1 (v.spans home.0)) h.rest) ∙ sym is ∙ none)
+-- one look
+pub one-unmapped : (f : ℕ) (s : Slot) (before now new : View) (i : ℕ) (after : Option (ℕ × ℕ)) (k : ℕ × ℕ) (xs : List Span) →
+    IsChanged (away f s) before now (walk_of before (names_frame f) i (rest after xs)) → Found before (names_frame f) i after k xs →
+    new ≡ away_in f s i (now.areas k.1) now → IsChanged (away f s) before new (walk_of before (names_frame f) i (rest (Some k) xs))
+one-unmapped f s before now new i after k xs h t is = one-changed (sends f s) before now i after k xs h t new
+    (is ∙ ap (λ o. away_in f s i o now) (area-now (sends f s) before now i after k xs h t))

@@ -9,6 +9,7 @@ use Rattle.av_pagetable.specs.declared.pte.Pte.TheVariants.{Empty, Zero, Here, A
 use Rattle.av_vma.specs.declared.area.Area.{Area}
 use Rattle.av_vma.specs.Index.{first_of, past_of}
 use Rattle.av_interval.specs.Search.{overlaps}
+use Rattle.av_interval.specs.declared.span.Span.{Span}
 use Rattle.av_rmap.specs.View.{View}
 use Rattle.av_rmap.specs.declared.target.Target.{Target}
 use Rattle.av_rmap.specs.declared.target.Target.TheVariants as target
@@ -69,6 +70,12 @@ abbrev pub looks_from : View → Option (ℕ × ℕ) → ℕ
 looks_from view None = 0
 looks_from view (Some home) = how_many (overlaps home.1) (view.spans home.0)
 
+-- whether the entry of the area's page with the index passes the test
+abbrev pub passes_in : View → (Pte → Bool) → ℕ → Option Area → Bool
+passes_in view passes index None = false
+passes_in view passes index (Some area) =
+    holds index area && passes (view.entry area.pid (page_at index area))
+
 -- what one look finds: the area's page with the index, where its entry passes the test
 abbrev pub found_in : View → (Pte → Bool) → ℕ → Option Area → List Key
 found_in view passes index None = []
@@ -80,8 +87,11 @@ abbrev pub list_of : Option Key → List Key
 list_of None = []
 list_of (Some k) = k ∷ []
 
--- whether that entry names the frame and is seen
-abbrev pub is_seen_in : View → ℕ → ℕ → Option Area → Bool
-is_seen_in view frame index None = false
-is_seen_in view frame index (Some area) =
-    holds index area && names_seen frame (view.entry area.pid (page_at index area))
+-- how many looks find all entries that pass: one for each span that overlaps the index, up to the
+-- last one with such an entry
+abbrev pub looks_to_last : View → (Pte → Bool) → ℕ → List Span → ℕ
+looks_to_last view passes index [] = 0
+looks_to_last view passes index (x ∷ xs) =
+    if looks_to_last view passes index xs == 0
+    then one_if (passes_in view passes index (view.areas x.area))
+    else one_if (overlaps index x) + looks_to_last view passes index xs

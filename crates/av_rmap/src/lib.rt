@@ -9,9 +9,12 @@
 //! Proved: where spans go with links and each of the entries is covered by the home, the walk finds
 //! each of them once, and nothing else. It takes exactly as many steps as spans of the anon_vma
 //! hold the index (in chain order: as areas linked to it do), and no more looks than steps.
-//! `walk_frame` and `walk_slot` give them in order, also where there may be no home. In as many
-//! steps `clear_seen` takes the seen bit from each of them, and `unmap` makes each of them a slot;
-//! neither changes anything else.
+//! `walk_frame` and `walk_slot` give them in order, also where there may be no home.
+//!
+//! `any_seen` says whether one of them is seen, `clear_seen` takes the seen bit from each, and
+//! `unmap` makes each a slot; these change nothing else. They are told how many entries name the
+//! frame, and end once as many were found. So they take the steps of a walk up to the last entry,
+//! and none where no entry names the frame; `any_seen` ends at the first that is seen.
 //!
 //! `Stores` shows areas, anon_vmas and page tables as they are kept, and `StoresMut` lends the
 //! tables for writing. Overlaps are found a batch at a time (`Look::next`), in one way through the

@@ -12,5 +12,5 @@ returns-clause-unmapped c =
     let new : Mem = record mid { frames = c.clear_maps.new.self } in
     away-view old between mid new c.args.frame c.args.slot refl
     (c.in_ok-entry_up.ensures
-    ∙ ap (λ (n : ℕ). with_entries c.args.slot ((shown_swap old.swap).entries c.args.slot + n) (shown_swap old.swap)) c.maps-count.ensures)
+    ∙ ap (λ (n : ℕ). with_entries c.args.slot ((shown_swap old.swap).entries c.args.slot + n) (shown_swap old.swap)) c.maps-maps.ensures)
     c.send_away.ensures.rest c.send_away.ensures.entries refl c.clear_maps.ensures

@@ -2,11 +2,15 @@ use Rattle.std.proofs.Common.{◌∙◌, ap}
 use Rattle.av_swap_laws.specs.Steps.{view_to_head}
 use Rattle.av_plain.specs.Stands.{View}
 use Rattle.av_mem.proofs.ReachLaws.{are-reached, reaches-served}
+use Rattle.av_mem.proofs.WalkLaws.{are-counted}
 use Rattle.av_reclaim.proofs.StepMakes.{age-makes, mem-stays, parts-then}
 use Rattle.av_reclaim.proofs.driver.DriverSystem.age.Goals as goal
 
 pub unsee-requires-clause-reached : goal.unsee-requires-clause-reached
 unsee-requires-clause-reached g c = are-reached _ _ _ (reaches-served _ _ _ _ _ _ c.requires.2.2) c.args.frame
+
+pub unsee-requires-clause-counted : goal.unsee-requires-clause-counted
+unsee-requires-clause-counted g c = are-counted _ _ _ _ _ _ c.requires.1.in_order c.requires.2.2 c.args.frame
 
 pub returns-clause-makes : goal.returns-clause-makes
 returns-clause-makes g c = λ told. age-makes _ _ _ _ c.args.frame

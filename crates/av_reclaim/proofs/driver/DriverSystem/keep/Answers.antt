@@ -3,11 +3,15 @@ use Rattle.av_swap_laws.specs.Steps.{view_to_active}
 use Rattle.av_plain.specs.Stands.{View}
 use Rattle.av_trace.specs.declared.note.Cause.TheVariants.{NoSlot, Referenced}
 use Rattle.av_mem.proofs.ReachLaws.{are-reached, reaches-served}
+use Rattle.av_mem.proofs.WalkLaws.{are-counted}
 use Rattle.av_reclaim.proofs.StepMakes.{keep-makes, kept-as, kept-at, mem-stays, parts-then}
 use Rattle.av_reclaim.proofs.driver.DriverSystem.keep.Goals as goal
 
 pub unsee-requires-clause-reached : goal.unsee-requires-clause-reached
 unsee-requires-clause-reached g c = are-reached _ _ _ (reaches-served _ _ _ _ _ _ c.requires.2.2) c.args.frame
+
+pub unsee-requires-clause-counted : goal.unsee-requires-clause-counted
+unsee-requires-clause-counted g c = are-counted _ _ _ _ _ _ c.requires.1.in_order c.requires.2.2 c.args.frame
 
 pub returns-in-Writeback-clause-makes : goal.returns-in-Writeback-clause-makes
 returns-in-Writeback-clause-makes g c = λ told. keep-makes _ _ c.args.self.now.mem.now c.to_head.new.self c.args.frame c.args.cause
