@@ -87,7 +87,7 @@ found-length view f i (Some area) = by (holds i area && f (view.entry area.pid (
 zero_left : (n : ℕ) → 0 + n ≡ n
 zero_left n = omega arith
 
--- where a look finds none and later ones don't, none is left
+-- where no look finds one, none is left
 none-left : (view : View) (f : Pte → Bool) (i : ℕ) (xs : List Span) → looks_to_last view f i xs ≡ 0 → walk_of view f i xs ≡ []
 none-left view f i [] e = refl
 none-left view f i (x ∷ xs) e = by (none-left view f i xs) (later == 0) refl here refl e

@@ -78,7 +78,7 @@ fn seen_in<K: Look<L>, L: Ledger>(
             frame: other,
             seen,
             ..
-        } => { if frame == other { Some(seen) } else { None } }
+        } => (frame == other).then_some(seen),
         Pte::Empty | Pte::Zero | Pte::Away { .. } => None,
     }
 }

@@ -7,10 +7,11 @@ use Rattle.av_base.specs.Words.{how_many, is_in, with_at}
 use Rattle.av_chain.specs.Links.{one_if}
 use Rattle.av_interval.specs.Search.{overlaps}
 use Rattle.av_pagetable.specs.declared.pte.Pte.{Pte}
-use Rattle.av_pagetable.specs.declared.pte.Pte.TheVariants.{Empty, Here}
+use Rattle.av_pagetable.specs.declared.pte.Pte.TheVariants.{Away, Empty, Here, Zero}
 use Rattle.av_merge.proofs.PlacingLaws.{within_parts}
 use Rattle.av_rmap.specs.Covered.{IsCovered, IsReached}
-use Rattle.av_rmap.specs.View.{AreApart, view_with}
+use Rattle.av_rmap.specs.Seen.{unseen, with_unseen}
+use Rattle.av_rmap.specs.View.{AreApart, View, view_with}
 use Rattle.av_rmap.specs.Walk.{AreItsEntries, Key, is_held, names_frame}
 use Rattle.av_rmap.proofs.Counting.{keys-as-long}
 use Rattle.av_rmap.proofs.LinkedAreas.{spans-are-areas}
@@ -209,9 +210,11 @@ module _ (areas : ℕ → Option Area) (f : Family) (spans : ℕ → List Span) 
       by false true e d = refl
       by false false e d = refl
 
+  pub exactly_two : (keys : List Key) → AreItsEntries (view_with areas f spans entry) (names_frame 7) keys → length keys ≡ 2
+  exactly_two keys its = keys-as-long keys ((1, 11) ∷ (2, 11) ∷ []) (λ k. its k ∙ sym (two_entries k))
+
   pub two_at_most : (keys : List Key) → AreItsEntries (view_with areas f spans entry) (names_frame 7) keys → length keys ≤ 2
-  two_at_most keys its = let same : length keys ≡ 2 = keys-as-long keys ((1, 11) ∷ (2, 11) ∷ []) (λ k. its k ∙ sym (two_entries k)) in
-      omega (arith, same)
+  two_at_most keys its = let same = exactly_two keys its in omega (arith, same)
 
   pub two_looks : f.users 0 ≡ a ∷ b ∷ c ∷ [] → how_many (overlaps 11) (spans 0) ≡ 2
   two_looks users = spans-are-areas areas f spans 0 11 order ∙ ap (how_many (λ n. is_held 11 (areas n))) users
@@ -233,3 +236,16 @@ bare_comes old mid f spans id A order unused put bare fits =
   where
     same : (B : Area) → Some A ≡ Some B → A ≡ B
     same B e = cc
+
+-- an entry names the frame as before, once its seen bit is cleared
+names_as_before : (frame : ℕ) (e : Pte) → names_frame frame (unseen frame e) ≡ names_frame frame e
+names_as_before frame Empty = refl
+names_as_before frame Zero = refl
+names_as_before frame (Here frame_there write seen) = refl
+names_as_before frame (Away slot) = refl
+
+pub as_many_as_before : (old new : View) (frame n : ℕ) → new ≡ with_unseen frame old
+    → ((keys : List Key) → AreItsEntries old (names_frame frame) keys → length keys ≡ n)
+    → (keys : List Key) → AreItsEntries new (names_frame frame) keys → length keys ≡ n
+as_many_as_before old new frame n is many keys its = many keys (λ k. its k
+    ∙ ap (λ (v : View). one_if (names_frame frame (v.entry k.0 k.1))) is ∙ ap one_if (names_as_before frame (old.entry k.0 k.1)))

@@ -12,7 +12,7 @@ ghost use Rattle.av_pagetable.specs.Entries.{entry_at, has};
 ghost use Rattle.av_rmap.specs.Covered.{IsCovered};
 ghost use Rattle.av_rmap.specs.Stores.{view_of_mut};
 ghost use Rattle.av_rmap.specs.View.{AreApart, AreSpanned};
-ghost use Rattle.av_rmap.specs.Walk.{names_frame};
+ghost use Rattle.av_rmap.specs.Walk.{AreItsEntries, Key, names_frame};
 ghost use Rattle.av_tests.specs.Rmap.{AreThree, shared_entries};
 ghost use Rattle.av_vma.specs.Areas.{area_of};
 
@@ -109,20 +109,24 @@ fn add_like(
 /// seen bits are cleared.
 type Found = (Vec<(u16, u64)>, (bool, bool));
 
-/// Whether a frame was accessed, and whether it still says so when its seen bits are cleared.
+/// Whether a frame with this map count was accessed, and whether it still says so when its seen
+/// bits are cleared.
 fn seen_and_then<K: LookMut<L>, L: Ledger>(
     look: &mut K,
     frame: u32,
     home: (u64, u64),
+    maps: u64,
     steps: &mut Steps<L>,
 ) -> (bool, bool)
     requires spanned { AreSpanned (K.view look.old) }
     requires apart { AreApart (K.view look.old) }
     requires covered { IsCovered (K.view look.old) (names_frame frame) home }
+    requires maps { (keys : List Key) → AreItsEntries (K.view look.old) (names_frame frame) keys
+        → length keys ≡ maps }
 {
-    let before = any_seen(look, frame, home, steps);
-    clear_seen(look, frame, home, steps);
-    let after = any_seen(look, frame, home, steps);
+    let before = any_seen(look, frame, home, maps, steps);
+    clear_seen(look, frame, home, maps, steps);
+    let after = any_seen(look, frame, home, maps, steps);
     (before, after)
 }
 
@@ -131,17 +135,20 @@ fn seen_in_stores<L: Ledger>(
     stores: &mut StoresMut<'_>,
     frame: u32,
     home: (u64, u64),
+    maps: u64,
     blank: Blank,
 ) -> (bool, bool)
     requires spanned { AreSpanned (view_of_mut stores.old) }
     requires apart { AreApart (view_of_mut stores.old) }
     requires covered { IsCovered (view_of_mut stores.old) (names_frame frame) home }
+    requires maps { (keys : List Key)
+        → AreItsEntries (view_of_mut stores.old) (names_frame frame) keys → length keys ≡ maps }
     requires name { blank.name ≡ L.name }
     requires parts { blank.parts ≡ L.parts }
     requires some { 0 < blank.parts }
 {
     let mut steps = Steps::<L>::open(blank);
-    seen_and_then(stores, frame, home, &mut steps)
+    seen_and_then(stores, frame, home, maps, &mut steps)
 }
 
 /// Links the areas of page 11 in two processes, and one that doesn't hold its index, to the first
@@ -199,7 +206,7 @@ fn walk_shared<L: Ledger>(
         tables,
     };
     let keys = walk_frame(alloc, &stores, 7, Some((0, 11)), 2, steps)?;
-    let seen = seen_in_stores::<Brand>(&mut stores, 7, (0, 11), Blank::new(1));
+    let seen = seen_in_stores::<Brand>(&mut stores, 7, (0, 11), 2, Blank::new(1));
     Ok((keys, seen))
 }
 

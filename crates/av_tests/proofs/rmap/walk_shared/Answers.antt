@@ -1,9 +1,9 @@
-use Rattle.std.proofs.Common.{ℕ, ◌+◌, ap, ◌∙◌}
+use Rattle.std.proofs.Common.{◌+◌, ap, ◌∙◌}
 use Rattle.av_anon.specs.Anons.{family}
 use Rattle.av_anon.specs.Spans.{spans_of}
 use Rattle.av_pagetable.specs.Entries.{entry_at}
 use Rattle.av_vma.specs.Areas.{area_of}
-use Rattle.av_tests.proofs.RmapLaws.{three_apart, three_covered, two_at_most, two_looks}
+use Rattle.av_tests.proofs.RmapLaws.{exactly_two, three_apart, three_covered, two_at_most, two_looks}
 use Rattle.av_tests.proofs.rmap.walk_shared.Goals as goal
 
 pub walk_frame-requires-clause-apart : goal.walk_frame-requires-clause-apart
@@ -33,6 +33,12 @@ seen_in_stores-seen-requires-clause-apart g c = let ids = c.in_ok-_ids._ids in
 pub seen_in_stores-seen-requires-clause-covered : goal.seen_in_stores-seen-requires-clause-covered
 seen_in_stores-seen-requires-clause-covered g c = let ids = c.in_ok-_ids._ids in
     three_covered (area_of c.link_three.new.areas) (family c.link_three.new.anons) (spans_of c.link_three.new.anons)
+    (entry_at c.share_frame.new.tables) ids.0 ids.1 ids.2
+    c.in_ok-_ids.ensures.areas c.in_ok-_ids.ensures.order c.in_ok-share_frame.ensures
+
+pub seen_in_stores-seen-requires-clause-maps : goal.seen_in_stores-seen-requires-clause-maps
+seen_in_stores-seen-requires-clause-maps g c = let ids = c.in_ok-_ids._ids in
+    exactly_two (area_of c.link_three.new.areas) (family c.link_three.new.anons) (spans_of c.link_three.new.anons)
     (entry_at c.share_frame.new.tables) ids.0 ids.1 ids.2
     c.in_ok-_ids.ensures.areas c.in_ok-_ids.ensures.order c.in_ok-share_frame.ensures
 
