@@ -21,7 +21,7 @@ use Rattle.av_base.specs.Words.{within}
 use Rattle.std.specs.List.{range_with_len}
 use Rattle.av_base.specs.declared.prot.Prot.{Prot}
 use Rattle.av_trace.specs.declared.note.Note.{Note}
-use Rattle.av_laws.specs.Determined.{AreFaultless, IsClaimed, IsFaultless, SameCommands, Tells}
+use Rattle.av_laws.specs.Determined.{ShowNoFailures, IsClaimed, ShowsNoFailure, SameCommands, Tells}
 use Rattle.av_plain.specs.Access.{Accesses, End, Reads, Stopped, Whole, after_write, bytes_before, bytes_served, first_bytes, page_events, pages_of_access, read_answer, stop_answer, write_answer}
 use Rattle.av_plain.specs.Choice.{ChoosesAll, Free}
 use Rattle.av_plain.specs.Event.{Event, Used, after_all, note_events, notes_of}
@@ -432,7 +432,7 @@ legal-one m w l on anons command reply reply' es fs closing free a b told claime
     by (Some error) p q = record { events = p.1 ∙ sym q.1; answers = p.0 ∙ sym q.0; reports = p.2 ∙ sym q.2 }
 
 pub step-one : (m : Setting) (old new new' : State) (command : Command) (reply reply' : Reply)
-    → Tells m → IsClaimed old.world → IsFaultless reply → IsFaultless reply'
+    → Tells m → IsClaimed old.world → ShowsNoFailure reply → ShowsNoFailure reply'
     → IsStep m old command reply new → IsStep m old command reply' new' → (reply ≡ reply') × (new ≡ new')
 step-one m old new new' command reply reply' told claimed kept kept' h g =
     let closing = closing_swap_area command in
@@ -613,7 +613,7 @@ claimed-step m old new command reply told claimed h =
 -- ---- runs
 
 pub runs-one : (m : Setting) (old : State) (es fs : List Exchange) (new new' : State) → Tells m
-    → IsClaimed old.world → SameCommands es fs → AreFaultless es → AreFaultless fs
+    → IsClaimed old.world → SameCommands es fs → ShowNoFailures es → ShowNoFailures fs
     → IsRun m old es new → IsRun m old fs new' → (es ≡ fs) × (new ≡ new')
 runs-one m old [] [] new new' told claimed same kept kept' h g = (refl, h ∙ sym g)
 runs-one m old [] (f ∷ fs) new new' told claimed same kept kept' h g = absurd same
@@ -627,7 +627,7 @@ runs-one m old (e ∷ es) (f ∷ fs) new new' told claimed same kept kept' h g =
     ((λ i. record { command = same.0 i; reply = step.0 i } ∷ rest.0 i), rest.1)
 
 pub runs-determined : (m : Setting) (es fs : List Exchange) (new new' : State) → Tells m
-    → SameCommands es fs → AreFaultless es → AreFaultless fs
+    → SameCommands es fs → ShowNoFailures es → ShowNoFailures fs
     → IsRun m (at_first m) es new → IsRun m (at_first m) fs new' → (es ≡ fs) × (new ≡ new')
 runs-determined m es fs new new' told same kept kept' h g = runs-one m (at_first m) es fs new new'
     told (λ p page. tt) same kept kept' h g

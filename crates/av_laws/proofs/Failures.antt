@@ -8,7 +8,7 @@ use Rattle.av_trace.specs.declared.reply.Reply.{Reply}
 use Rattle.av_plain.specs.Pass.{fails}
 use Rattle.av_plain.specs.Step.{causes, failed_frames, failure_answers}
 use Rattle.av_plain.specs.Transcript.{Exchange, causes_of}
-use Rattle.av_laws.specs.Determined.{AreFaultless, IsFaultless}
+use Rattle.av_laws.specs.Determined.{ShowNoFailures, ShowsNoFailure}
 
 within-none : (n before now : ℕ) → RoseBy n before now → (Rose before now → ⊥) → n ≡ 0
 within-none n before now by not = zero-of n (λ some. not (least n before now some by))
@@ -37,7 +37,7 @@ pub none-within : (es : List Exchange) (before now : ℕ) → RoseBy (causes_of 
 none-within es before now by not = none-each es (within-none (causes_of es) before now by not)
 
 -- a reply without causes is faultless
-faultless : (reply : Reply) → causes reply ≡ 0 → IsFaultless reply
+faultless : (reply : Reply) → causes reply ≡ 0 → ShowsNoFailure reply
 faultless reply h = record {
   writes = first (fails reply.notes) (failed_frames reply.answer)
       (failure_answers reply.answer) h;
@@ -52,10 +52,10 @@ faultless reply h = record {
     last a b c h = omega (arith, h)
 
 faultless-each : (es : List Exchange) → AllByRecursion (λ (e : Exchange). causes e.reply ≡ 0) es
-    → AreFaultless es
+    → ShowNoFailures es
 faultless-each [] h = tt
 faultless-each (e ∷ es) h = (faultless e.reply h.0, faultless-each es h.1)
 
 pub faultless-within : (es : List Exchange) (before now : ℕ) → RoseBy (causes_of es) before now
-    → (Rose before now → ⊥) → AreFaultless es
+    → (Rose before now → ⊥) → ShowNoFailures es
 faultless-within es before now by not = faultless-each es (none-within es before now by not)

@@ -18,16 +18,16 @@ IsClaimed w = (p page : ℕ) →
     IfSome (pages w p page) (λ (q : Page). (i : ℕ) → i < page_size → is_some (q.bytes i) ≡ true)
 
 -- no write of a slot failed, and the answer is none that only a failure explains
-pub record IsFaultless (reply : Reply) : Type 0 where
+pub record ShowsNoFailure (reply : Reply) : Type 0 where
   pub writes : fails reply.notes ≡ 0
   pub answer : failure_answers reply.answer ≡ 0
 
 -- ---- transcripts
 
 -- and so for all replies
-abbrev pub AreFaultless : List Exchange → Type 0
-AreFaultless [] = Unit {0}
-AreFaultless (e ∷ es) = IsFaultless e.reply × AreFaultless es
+abbrev pub ShowNoFailures : List Exchange → Type 0
+ShowNoFailures [] = Unit {0}
+ShowNoFailures (e ∷ es) = ShowsNoFailure e.reply × ShowNoFailures es
 
 -- two transcripts have the same commands
 abbrev pub SameCommands : List Exchange → List Exchange → Type 0

@@ -1,4 +1,4 @@
-//! What covers what, in a run: frames' homes the entries, and areas the pages.
+//! In a run each entry is reached from its frame's home, and areas cover exactly the mapped pages.
 
 ghost use Rattle.std.specs.Prelude.{◌≡◌, ℕ, ◌+◌, ◌<◌, ◌≤◌, length, List, Some};
 ghost use Rattle.av_base.specs.Limits.{top_page, most_commands, most_indices};

@@ -14,7 +14,7 @@ ghost use Rattle.av_vma.specs.Pages.{Pages};
 ghost use Rattle.av_plain.specs.Step.{causes};
 ghost use Rattle.av_plain.specs.Transcript.{Exchange, State, IsStep, IsRun, at_first, causes_of};
 ghost use Rattle.av_io.specs.Count.{Rose, RoseBy};
-ghost use Rattle.av_laws.specs.Determined.{Tells, IsClaimed, IsFaultless, AreFaultless};
+ghost use Rattle.av_laws.specs.Determined.{Tells, IsClaimed, ShowsNoFailure, ShowNoFailures};
 ghost use Rattle.av_laws.specs.Determined.{SameCommands};
 
 /// Where the devices tell their pages, each byte of the memories is claimed and no failure of
@@ -22,7 +22,7 @@ ghost use Rattle.av_laws.specs.Determined.{SameCommands};
 /// frames and slots: nothing is left to the kernel's choice.
 pub fn replies_are_determined()
     ensures { (m : Setting) (old new other : State) (command : Command) (reply reply' : Reply)
-        → Tells m → IsClaimed old.world → IsFaultless reply → IsFaultless reply'
+        → Tells m → IsClaimed old.world → ShowsNoFailure reply → ShowsNoFailure reply'
         → IsStep m old command reply new → IsStep m old command reply' other
         → (reply ≡ reply') × (new ≡ other) }
 {}
@@ -31,7 +31,7 @@ pub fn replies_are_determined()
 pub fn runs_are_determined()
     ensures { (m : Setting) (exchanges exchanges' : List Exchange) (new other : State)
         → Tells m → SameCommands exchanges exchanges'
-        → AreFaultless exchanges → AreFaultless exchanges'
+        → ShowNoFailures exchanges → ShowNoFailures exchanges'
         → IsRun m (at_first m) exchanges new → IsRun m (at_first m) exchanges' other
         → (exchanges ≡ exchanges') × (new ≡ other) }
 {}
@@ -44,7 +44,7 @@ pub fn failures_are_within()
         → AllByRecursion (λ (e : Exchange). causes e.reply ≡ 0) exchanges }
     ensures faultless { (exchanges : List Exchange) (before now : ℕ)
         → RoseBy (causes_of exchanges) before now → (Rose before now → ⊥)
-        → AreFaultless exchanges }
+        → ShowNoFailures exchanges }
 {}
 
 /// The longest runs of a process's pages are one list: `maps` has one answer.

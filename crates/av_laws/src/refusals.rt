@@ -1,4 +1,4 @@
-//! A refused command changes nothing.
+//! What a refused command leaves: all as it was, but for an mprotect at a hole and a swapoff.
 
 ghost use Rattle.std.specs.Prelude.{◌≡◌, ◌⊎◌, ℕ, false, List};
 ghost use Rattle.av_base.specs.declared.prot.Prot.{Prot};

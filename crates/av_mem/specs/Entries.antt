@@ -33,13 +33,13 @@ pub record IsMapped (old : Mem) (k : Key) : Type 0 where
   pub area : IsSome (pages_of old.spaces.processes k.0 k.1)
   pub below : k.1 < top_page
 
--- a frame is free, and no entry names one that is
+-- a frame is free, no entry names one that is, and the lists are as they are kept
 pub record HasFree (old : Mem) : Type 0 where
   pub some : (view old).free ≡ [] → ⊥
   pub unmapped : (f : ℕ) → is_in f (view old).free ≡ true → (view old).maps f ≡ 0
   pub lists : HasLists old
 
--- the first free frame was taken, and this is made of it, by the frames that are left
+-- this is the first free frame, and the view is now what `made` says of the free ones behind it
 pub record IsTaken (old new : Mem) (f : ℕ) (made : List ℕ → View) : Type 0 where
   pub left : List ℕ
   pub first : (view old).free ≡ f ∷ left

@@ -26,7 +26,8 @@ use av_trace::{Note, Notes};
 use std::alloc::AllocError;
 
 /// Takes a frame of zeros for a page, whose entry names it then: accessed, and it may be written.
-/// The frame has this home, and goes to the head of inactive.
+/// The frame has this home, and goes to the head of inactive. Without memory for the table a frame
+/// is lost, and nothing else is promised.
 pub fn take_frame_of_zeros(
     mem: &mut Mem,
     key: (u16, u64),
@@ -46,8 +47,8 @@ pub fn take_frame_of_zeros(
     Ok(frame)
 }
 
-/// The same for a page that has an entry, with a copy of the frame `from`, which one entry fewer
-/// names then.
+/// The same for a page that has an entry, with a copy of the frame `from`, whose map count falls by
+/// one. It is the frame that the page's entry named.
 pub fn take_frame_for_copy(
     mem: &mut Mem,
     key: (u16, u64),
@@ -138,7 +139,7 @@ pub fn copy_for_child(mem: &mut Mem, entry: Pte) -> Result<(), AllocError>
 }
 
 /// Lets an entry go that its table has lost, or is about to lose, and adds the note of a slot that
-/// was dropped.
+/// was dropped. Only the note takes memory; without it nothing is promised of entries and counts.
 pub fn let_go(mem: &mut Mem, entry: Pte, notes: &mut Notes) -> Result<(), AllocError>
     requires there { HasEntry mem.old entry }
     ensures goes { (d : Device) (l : Ledger) (table : Table) (p page : ℕ) →

@@ -9,8 +9,10 @@
 //! a write begins or ends, a slot is dropped, a page is loaded and mapped) makes of the view
 //! exactly what av_swap_laws has a law of.
 //!
-//! `entries` has the calls through which entries of frames and slots come and go; beside them only
-//! the steps of swap change how many there are. A frame is taken for a page (`take_frame_of_zeros`,
+//! `entries` has the calls through which entries of frames and slots come and go: they keep the
+//! counts. Beside them only the steps of swap change how many entries name a frame or a slot, and
+//! take or free a frame; that can be read, and is not proved. The tables themselves are written by
+//! `zap`, av_fork, av_mremap and av_fault, too. A frame is taken for a page (`take_frame_of_zeros`,
 //! `take_frame_for_copy`), an entry is copied for a child (`copy_for_child`,
 //! `copy_each_for_child`), and an entry is let go (`let_go`), with the note of the drop where it
 //! leaves an orphan. Proved: that the frame is the first free one, and what the view is then; of an

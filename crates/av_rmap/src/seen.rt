@@ -121,8 +121,8 @@ pub fn clear_seen<K: LookMut<L>, L: Ledger>(
     }
 }
 
-/// One look: the entry of the area's page with this index doesn't say any more that the page was
-/// accessed, where it names the frame. Whether it does.
+/// One look: the entry of the area's page with this index loses its seen bit where it names the
+/// frame. Answers whether it names the frame.
 fn clear_in<K: LookMut<L>, L: Ledger>(
     look: &mut K,
     frame: u32,

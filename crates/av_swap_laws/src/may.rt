@@ -1,5 +1,4 @@
-//! When a step may be made: what it asks of the ledger, soundness and the definitions' own tests
-//! give.
+//! When a step may be made: soundness and the definitions' own tests give what `specs/May` asks.
 
 ghost use Rattle.std.specs.Prelude.{◌≡◌, ◌≤◌, ◌<◌, ℕ, Bool, false, true, List, ◌∷◌, Option, Some};
 ghost use Rattle.std.specs.Prelude.{None};
