@@ -13,8 +13,8 @@ pub record KeepsSwap (old new : Mem) : Type 0 where
   pub closing : (shown new.swap).closing ≡ (shown old.swap).closing
   pub priority : (shown new.swap).priority ≡ (shown old.swap).priority
 
--- all but what is named here; and of that which processes have a table, the number of frames, and of
--- swap which areas are on
+-- all but the parts that `stay` names, so today the areas and the anon_vmas; and of those that it
+-- names: which processes have a table, the number of frames, and of swap which areas are on
 pub record KeepsParts (old new : Mem) : Type 0 where
   pub stay : new ≡ record old {
     frames = new.frames;
