@@ -22,6 +22,7 @@ use Rattle.av_plain.proofs.Device.{setting_same}
 use Rattle.av_mem.specs.declared.mem.Mem.{Mem}
 use Rattle.av_mem.specs.Mem.{AgreesWith, AreByHeaders, HasLists, HasTables, Keeps, SwapFits, frame_count, held_by, ranges_of, setting_by, view}
 use Rattle.av_mem.specs.Steps.{KeepsParts}
+use Rattle.av_mem.proofs.StayLaws.{anons-stay, spaces-stay}
 use Rattle.av_mem.specs.Between.{IsBetween, KeepsBetween}
 use Rattle.av_fault.proofs.Amid.{Amid}
 
@@ -145,8 +146,8 @@ pub fit-stays : (d d' : Device) (old new : Mem) → IsSameDevice d d' → KeepsP
 fit-stays d d' old new same parts h = record {
   lists = parts.lists ∙ h.lists ∙ sym parts.count;
   tables = λ p. ap (λ (there : ℕ → Bool). there p) parts.processes ∙ h.tables p
-      ∙ ap (λ (s : AllSpaces). is_some (ranges_of s.processes p)) (sym parts.spaces);
-  fit = subst (λ (s : AllSpaces). AnonsFit s new.anons) (sym parts.spaces) (subst (AnonsFit old.spaces) (sym parts.anons) h.fit);
+      ∙ ap (λ (s : AllSpaces). is_some (ranges_of s.processes p)) (sym (spaces-stay parts));
+  fit = subst (λ (s : AllSpaces). AnonsFit s new.anons) (sym (spaces-stay parts)) (subst (AnonsFit old.spaces) (sym (anons-stay parts)) h.fit);
   swap = record {
     frames = parts.swap.frames ∙ h.swap.frames ∙ sym parts.count;
     closed = parts.swap.closing ∙ h.swap.closed;

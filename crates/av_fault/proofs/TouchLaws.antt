@@ -30,6 +30,7 @@ use Rattle.av_plain.proofs.Load.{without-loads}
 use Rattle.av_swap_laws.proofs.Between.{blank-steps}
 use Rattle.av_mem.specs.declared.mem.Mem.{Mem}
 use Rattle.av_mem.specs.Mem.{Keeps, Serves, frame_count, held_by, plain, ranges_of, setting_by, view}
+use Rattle.av_mem.proofs.LetGoLaws.{rest-none}
 use Rattle.av_mem.proofs.MemLaws.{prot_on, prots_are}
 use Rattle.av_mem.specs.Between.{Does, HasDone, KeepsBetween}
 use Rattle.av_fault.specs.Fault.{HasTouched, IsTouched, MakesReady, end_of, is_permitted, touch_events}
@@ -41,7 +42,7 @@ use Rattle.av_fault.proofs.Between.{between-of, fit-stays, same-still, to-amid, 
 use Rattle.av_fault.proofs.Done.{rose-none}
 use Rattle.av_fault.proofs.EntryLaws.{entry-is}
 use Rattle.av_fault.proofs.Run.{run-done, run-none, run-then}
-use Rattle.av_fault.proofs.UsingLaws.{entry-here, parts-by}
+use Rattle.av_fault.proofs.UsingLaws.{entry-here}
 
 -- ---- areas
 
@@ -197,7 +198,7 @@ zeros-touched d old w r l k notes h allowed there =
           (record { world = sym (without-loads m w l (Used false k ∷ []) refl); view_areas = refl; view_anons = refl; areas = refl; anons = refl })
           h.sound)
           refl refl refl (sym (without-loads m w l (Used false k ∷ []) refl)) refl (same-still d) refl
-          (fit-stays d d old old (same-still d) (parts-by old old refl refl refl refl refl refl) (to-fit d old w r l h));
+          (fit-stays d d old old (same-still d) (rest-none old).parts (to-fit d old w r l h));
       failures = rose-none d.failures;
       failed = omega arith;
     })

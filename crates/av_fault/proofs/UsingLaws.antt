@@ -30,6 +30,7 @@ use Rattle.av_swap_laws.proofs.Parts.{clean-same, kept-moves}
 use Rattle.av_swap_laws.proofs.WholePages.{read-steps, write-steps}
 use Rattle.av_mem.specs.declared.mem.Mem.{Mem}
 use Rattle.av_mem.specs.Mem.{frame_count, held_by, plain, setting_by, view, view_of_parts}
+use Rattle.av_mem.proofs.LetGoLaws.{rest-none, rest-tables}
 use Rattle.av_mem.proofs.MemLaws.{entry_put_in}
 use Rattle.av_mem.specs.Steps.{KeepsParts}
 use Rattle.av_mem.specs.Between.{HasDone, KeepsBetween}
@@ -77,24 +78,6 @@ set-here p page e old now is = ap (λ f. f p page) is ∙ ap (λ b. cond b e (ol
   where
     both : (p == p && page == page) ≡ true
     both = λ i. same-itself p i && same-itself page i
-
--- the parts where only an entry changes, and some of what is kept of frames
-pub parts-by : (old new : Mem) → new.spaces ≡ old.spaces → new.anons ≡ old.anons → has new.tables ≡ has old.tables → frame_count new ≡ frame_count old
-    → new.lists.frames ≡ old.lists.frames → new.swap ≡ old.swap → KeepsParts old new
-parts-by old new spaces anons processes count lists swap = record {
-  spaces = spaces;
-  anons = anons;
-  processes = processes;
-  count = count;
-  lists = lists;
-  swap = record {
-    frames = ap (λ s. (shown_swap s).frames) swap;
-    on = ap (λ s. (shown_swap s).on) swap;
-    bad = ap (λ s. (shown_swap s).bad) swap;
-    closing = ap (λ s. (shown_swap s).closing) swap;
-    priority = ap (λ s. (shown_swap s).priority) swap;
-  };
-}
 
 -- ---- a read
 
@@ -256,7 +239,7 @@ marked-set old tables p page f e is set processes =
     let new = record old { tables = tables } in
     record {
       seen = entry_put_in old new p page (Here f true true) (set ∙ ap (λ x. with_entry p page x (entry_at old.tables)) is) refl refl refl refl refl;
-      parts = parts-by old new refl refl processes refl refl refl;
+      parts = (rest-tables old tables processes).parts;
       there = set-here p page e (entry_at old.tables) (entry_at tables) set ∙ is;
     }
 
@@ -266,7 +249,7 @@ marked-kept old p page f write seen there written marked =
     let here : entry_at old.tables p page ≡ Here f true true = there ∙ (λ i. Here f (written i) (marked i)) in
     record {
       seen = seen-again p page f true (view old) (ap plain here);
-      parts = parts-by old old refl refl refl refl refl refl;
+      parts = (rest-none old).parts;
       there = here;
     }
 
@@ -302,8 +285,7 @@ module _ (old mid : Mem) (q : Key) (f : ℕ) (home : Option (ℕ × ℕ)) (cache
 
   pub written-parts : KeepsParts old new
   written-parts = let p = marked.parts in record {
-    spaces = p.spaces;
-    anons = p.anons;
+    stay = ap (λ (m : Mem). record m { frames = frames }) p.stay;
     processes = p.processes;
     count = ap (λ (x : ShownFrames). x.count) frames_as ∙ p.count;
     lists = p.lists;

@@ -12,6 +12,7 @@ ghost use Rattle.av_plain.specs.World.{World};
 ghost use Rattle.av_spaces.specs.Spaces.{pages_of};
 ghost use Rattle.av_vma.specs.Pages.{home_of};
 ghost use Rattle.av_mem.specs.Mem.{frame_count, view};
+ghost use Rattle.av_mem.specs.Steps.{KeepsParts};
 ghost use Rattle.av_mem.specs.Between.{Does, HasBetween, HasDone, IsBetween, KeepsBetween};
 ghost use Rattle.av_fault.specs.Making.{HasMade};
 ghost use Rattle.av_fault.specs.Using.{HasDropped, HasDroppedFull, IsHere, is_shared_in};
@@ -117,8 +118,7 @@ pub(crate) fn drop_unneeded(
         → KeepsBetween d mem.old w r l
         → HasDropped d mem.old mem.new w r l frame notes.old notes.new cached) }
     ensures entries { entry_at mem.new.tables ≡ entry_at mem.old.tables }
-    ensures spaces { mem.new.spaces ≡ mem.old.spaces }
-    ensures count { frame_count mem.new ≡ frame_count mem.old }
+    ensures parts { KeepsParts mem.old mem.new }
 {
     let Some(slot) = mem.frames.slot(frame) else {
         return Ok(false);

@@ -224,8 +224,7 @@ module _ {d : Device} (old mid : Mem) (tables : ProcessTables) (spaces : AllSpac
       refl shown.areas anons_now homes_now covered_now shown.fit areas_now tables_now bytes_now
 
   forks : StepsBeside d old mid s (Fork p q) (answer_only Done)
-  forks = subst (λ k. StepsBeside d old k s (Fork p q) (answer_only Done))
-      (λ i. record mid { spaces = (sym rest.parts.spaces) i; anons = (sym rest.parts.anons) i }) steps
+  forks = subst (λ k. StepsBeside d old k s (Fork p q) (answer_only Done)) (sym rest.parts.stay) steps
 
 -- neither frames nor entries changed as the areas went over
 pub fork-steps : {d : Device} (old gone mid : Mem) (tables : ProcessTables) (s : State) (p q : ℕ) (keeps : Keeps d old s)

@@ -60,6 +60,7 @@ use Rattle.av_mem.specs.Steps.{KeepsRest, KeepsSwap}
 use Rattle.av_mem.specs.Zap.{HasZapped}
 use Rattle.av_place.specs.Place.{protect_tests, IsProcess, IsPlaced, AreToUnmap}
 use Rattle.av_kernel.specs.Step.{StepsBeside}
+use Rattle.av_mem.proofs.StayLaws.{anons-stay, spaces-stay}
 use Rattle.av_mem.proofs.MemLaws.{lives_is, alive_is, taken_has, mapped_is}
 use Rattle.av_place.proofs.PlaceLaws.{page_back, IsSuited, suited}
 use Rattle.av_kernel.proofs.CacheLeft.{KeepsCached, cached-itself, zaps-cached}
@@ -160,15 +161,15 @@ are_unmapped {d} old mid spaces anons p page n l before notes t rest gone areas 
       (let size : page + n - page ≡ n = omega arith in size)
       (record { stands = stays_orderly d mid mid.tables spaces anons _ refl t.stands; notes = t.notes; free = t.free });
   spaces = subst (λ (x : AllSpaces). GetsProts x.processes spaces.processes p (set_on page n None (prot_of (ranges_of x.processes p))))
-      rest.parts.spaces gone;
+      (spaces-stay rest.parts) gone;
   areas = subst (λ (x : AllSpaces). GetsAreas x.processes spaces.processes p (after_unmap page (page + n) (areas_on x.processes p)))
-      rest.parts.spaces areas;
-  anons = subst (λ (x : AllSpaces). AnonsStay x old.anons spaces anons) rest.parts.spaces
-      (subst (λ a. AnonsStay mid.spaces a spaces anons) rest.parts.anons anons_stay);
+      (spaces-stay rest.parts) areas;
+  anons = subst (λ (x : AllSpaces). AnonsStay x old.anons spaces anons) (spaces-stay rest.parts)
+      (subst (λ a. AnonsStay mid.spaces a spaces anons) (anons-stay rest.parts) anons_stay);
   processes = rest.parts.processes;
   bytes = rest.bytes;
   homes = rest.homes;
-  stay = subst (λ (x : AllSpaces). HomesStay x.processes spaces.processes p page n) rest.parts.spaces stay;
+  stay = subst (λ (x : AllSpaces). HomesStay x.processes spaces.processes p page n) (spaces-stay rest.parts) stay;
   swap = swap_alike old mid old (moved_on mid mid.tables spaces anons) refl refl rest.parts.swap;
 }
 

@@ -448,5 +448,4 @@ module _ {d : Device} {old : Mem} {s : State} (keeps : Keeps d old s) {p a olen 
           (remap-cached (setting_by d old) s.ledger p from n to m keeps.stands.sound.ledger) keeps.stands.parts.bytes kept_now)
 
       pub remaps : IsAllowed → StepsBeside d old mid s command reply
-      remaps allowed = subst (λ k. StepsBeside d old k s command reply)
-          (λ i. record mid { spaces = (sym rest.parts.spaces) i; anons = (sym rest.parts.anons) i }) (steps allowed)
+      remaps allowed = subst (λ k. StepsBeside d old k s command reply) (sym rest.parts.stay) (steps allowed)

@@ -46,6 +46,7 @@ use Rattle.av_kernel.specs.Process.{new_tests}
 use Rattle.av_kernel.specs.Step.{StepsBeside}
 use Rattle.av_mem.specs.Zap.{HasZapped}
 use Rattle.av_mem.specs.Steps.{KeepsRest}
+use Rattle.av_mem.proofs.StayLaws.{spaces-stay}
 use Rattle.av_mem.proofs.MemLaws.{alive_is, lives_is, all_apart, kept-nothing}
 use Rattle.av_anon.specs.declared.anons.Anons.{Anons as AnonSet}
 use Rattle.av_spaces.specs.Kin.{AnonsStay}
@@ -261,7 +262,7 @@ module _ {d : Device} (old mid : Mem) (tables : ProcessTables) (spaces : AllSpac
     where
       by : (b : Bool) → pages_in (cond b None (areas_of mid.spaces.processes q)) page ≡ (cond b none_on (s.areas q)) page
       by true = refl
-      by false = ap (λ (x : AllSpaces). pages_of x.processes q page) rest.parts.spaces ∙ keeps.stands.areas q page
+      by false = ap (λ (x : AllSpaces). pages_of x.processes q page) (spaces-stay rest.parts) ∙ keeps.stands.areas q page
 
   exit-step : IsStep (setting_by d old) s (Exit p) reply next
   exit-step = record {
@@ -310,7 +311,7 @@ module _ {d : Device} (old mid : Mem) (tables : ProcessTables) (spaces : AllSpac
   areas_now : AreasStand (view new) (end_process s.world p)
   areas_now = record {
     alive = λ q. ap is_some (ended.areas q) ∙ lives_as q (q == p) ∙ sym (lives-ended s.world p q);
-    number = number _ _ _ _ (ended.number ∙ ap (λ (x : AllSpaces). length x.processes) rest.parts.spaces) keeps.stands.parts.areas.number
+    number = number _ _ _ _ (ended.number ∙ ap (λ (x : AllSpaces). length x.processes) (spaces-stay rest.parts)) keeps.stands.parts.areas.number
         (length_ended s.world p keeps.stands.sound.world.in_order alive_now);
     apart = all_apart spaces.processes ended.rising;
     covers = λ q page. ap (λ o. prot_of o page) (ranges_ended mid.spaces.processes spaces.processes p ended q) ∙ covered q page (q == p)
@@ -322,12 +323,12 @@ module _ {d : Device} (old mid : Mem) (tables : ProcessTables) (spaces : AllSpac
 
       lives_as : (q : ℕ) (b : Bool) → is_some (cond b None (areas_of mid.spaces.processes q)) ≡ cond b false (lives s.world q)
       lives_as q true = refl
-      lives_as q false = ap (λ (x : AllSpaces). is_some (areas_of x.processes q)) rest.parts.spaces ∙ keeps.stands.parts.areas.alive q
+      lives_as q false = ap (λ (x : AllSpaces). is_some (areas_of x.processes q)) (spaces-stay rest.parts) ∙ keeps.stands.parts.areas.alive q
 
       covered : (q page : ℕ) (b : Bool) → prot_of (cond b None (ranges_of mid.spaces.processes q)) page ≡ option_map (λ (x : Page). x.prot)
           (cond b None (pages s.world q page))
       covered q page true = refl
-      covered q page false = ap (λ (x : AllSpaces). prot_of (ranges_of x.processes q) page) rest.parts.spaces ∙ keeps.stands.parts.areas.covers q page
+      covered q page false = ap (λ (x : AllSpaces). prot_of (ranges_of x.processes q) page) (spaces-stay rest.parts) ∙ keeps.stands.parts.areas.covers q page
 
   kept_now : (q page : ℕ) → IsKept (view old) d s.ledger (entry l (q, page)) (pages (end_process s.world p) q page)
   kept_now q page = subst (IsKept (view old) d s.ledger (entry l (q, page))) (sym (pages-ended s.world p q page)) (by (q == p) refl)
@@ -344,7 +345,7 @@ module _ {d : Device} (old mid : Mem) (tables : ProcessTables) (spaces : AllSpac
       has_as : (q : ℕ) (b : Bool) → cond b false (has mid.tables q) ≡ is_some (cond b None (ranges_of mid.spaces.processes q))
       has_as q true = refl
       has_as q false = ap (λ (h : ℕ → Bool). h q) rest.parts.processes ∙ keeps.tables q
-          ∙ sym (ap (λ (x : AllSpaces). is_some (ranges_of x.processes q)) rest.parts.spaces)
+          ∙ sym (ap (λ (x : AllSpaces). is_some (ranges_of x.processes q)) (spaces-stay rest.parts))
 
   stands_now : HasLedger d new l
   stands_now = record {

@@ -20,26 +20,11 @@ use Rattle.av_mem.specs.Entries.{HasLedgerBy, LetsGo, Table, slot_behind, view_l
 use Rattle.av_mem.specs.Mem.{SoundLedger, plain, setting_by, view}
 use Rattle.av_mem.specs.Steps.{KeepsParts, KeepsRest}
 use Rattle.av_mem.proofs.EntryGoes.{Settles, by_table, one-goes}
+use Rattle.av_mem.proofs.StayLaws.{parts-then}
 use Rattle.av_mem.proofs.PagesGone.{pages-joined, pages-none, still-there, within-high, within-low, within-none, within-one}
 use Rattle.av_mem.proofs.ZapRange.{zaps-split}
 
 -- ---- what stays, over two steps, and the sizes
-
-pub parts-then : {a b c : Mem} → KeepsParts a b → KeepsParts b c → KeepsParts a c
-parts-then first second = record {
-  spaces = second.spaces ∙ first.spaces;
-  anons = second.anons ∙ first.anons;
-  processes = second.processes ∙ first.processes;
-  count = second.count ∙ first.count;
-  lists = second.lists ∙ first.lists;
-  swap = record {
-    frames = second.swap.frames ∙ first.swap.frames;
-    on = second.swap.on ∙ first.swap.on;
-    bad = second.swap.bad ∙ first.swap.bad;
-    closing = second.swap.closing ∙ first.swap.closing;
-    priority = second.swap.priority ∙ first.swap.priority;
-  };
-}
 
 pub rest-then : {a b c : Mem} → KeepsRest a b → KeepsRest b c → KeepsRest a c
 rest-then first second = record {
@@ -51,8 +36,7 @@ rest-then first second = record {
 pub rest-none : (k : Mem) → KeepsRest k k
 rest-none k = record {
   parts = record {
-    spaces = refl;
-    anons = refl;
+    stay = refl;
     processes = refl;
     count = refl;
     lists = refl;
@@ -66,8 +50,7 @@ rest-none k = record {
 pub rest-tables : (k : Mem) (tables : ProcessTables) → has tables ≡ has k.tables → KeepsRest k (record k { tables = tables })
 rest-tables k tables same = record {
   parts = record {
-    spaces = refl;
-    anons = refl;
+    stay = refl;
     processes = same;
     count = refl;
     lists = refl;

@@ -1,6 +1,7 @@
 pub mod MemLaws
 pub mod AnonLaws
 pub mod ReachLaws
+pub mod StayLaws
 pub mod ServesLaws
 pub mod WalkLaws
 pub mod KeepsLaws

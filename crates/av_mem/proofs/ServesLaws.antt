@@ -31,6 +31,7 @@ use Rattle.av_swapcache.specs.Swap.{shown as shown_swap}
 use Rattle.av_mem.specs.Mem.{AgreesWith, AreByHeaders, HasLists, HasTables, Serves, SwapFits, anons_of, frame_count, held_by, ranges_of, setting_by, view}
 use Rattle.av_mem.specs.Steps.{KeepsParts}
 use Rattle.av_mem.specs.declared.mem.Mem.{Mem}
+use Rattle.av_mem.proofs.StayLaws.{anons-stay, spaces-stay}
 
 -- ---- the device
 
@@ -47,21 +48,21 @@ same-setting frames d d' same = λ i. record { frames = frames; sizes = same.siz
 
 module _ (old new : Mem) (parts : KeepsParts old new) where
   same_areas : (view new).areas ≡ (view old).areas
-  same_areas = ap (λ (s : AllSpaces). areas_of s.processes) parts.spaces
+  same_areas = ap (λ (s : AllSpaces). areas_of s.processes) (spaces-stay parts)
 
   same_anons : anons_of new.spaces new.anons ≡ anons_of old.spaces old.anons
-  same_anons = λ i. anons_of (parts.spaces i) (parts.anons i)
+  same_anons = λ i. anons_of (spaces-stay parts i) (anons-stay parts i)
 
   pub lists-fit : HasLists old → HasLists new
   lists-fit h = parts.lists ∙ h ∙ sym parts.count
 
   pub tables-fit : HasTables old → HasTables new
   tables-fit h = λ p. ap (λ (has : ℕ → Bool). has p) parts.processes ∙ h p
-      ∙ ap (λ (s : AllSpaces). is_some (ranges_of s.processes p)) (sym parts.spaces)
+      ∙ ap (λ (s : AllSpaces). is_some (ranges_of s.processes p)) (sym (spaces-stay parts))
 
   pub anons-fit : AnonsFit old.spaces old.anons → AnonsFit new.spaces new.anons
-  anons-fit h = subst (λ (s : AllSpaces). AnonsFit s new.anons) (sym parts.spaces)
-      (subst (λ (a : AnonSet). AnonsFit old.spaces a) (sym parts.anons) h)
+  anons-fit h = subst (λ (s : AllSpaces). AnonsFit s new.anons) (sym (spaces-stay parts))
+      (subst (λ (a : AnonSet). AnonsFit old.spaces a) (sym (anons-stay parts)) h)
 
   agrees : (k : ℕ) (header : Header) (layout : Layout) → AgreesWith (shown_swap old.swap) k header layout
       → AgreesWith (shown_swap new.swap) k header layout

@@ -13,11 +13,15 @@ pub record KeepsSwap (old new : Mem) : Type 0 where
   pub closing : (shown new.swap).closing ≡ (shown old.swap).closing
   pub priority : (shown new.swap).priority ≡ (shown old.swap).priority
 
--- the areas, the anon_vmas, which processes have a table, the number of frames, and of swap which
--- areas are on
+-- all but the parts that `stay` names, so today the areas and the anon_vmas; and of those that it
+-- names: which processes have a table, the number of frames, and of swap which areas are on
 pub record KeepsParts (old new : Mem) : Type 0 where
-  pub spaces : new.spaces ≡ old.spaces
-  pub anons : new.anons ≡ old.anons
+  pub stay : new ≡ record old {
+    frames = new.frames;
+    tables = new.tables;
+    lists = new.lists;
+    swap = new.swap;
+  }
   pub processes : has new.tables ≡ has old.tables
   pub count : frame_count new ≡ frame_count old
   pub lists : new.lists.frames ≡ old.lists.frames

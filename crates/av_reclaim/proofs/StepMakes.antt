@@ -226,20 +226,3 @@ put-uncached d closing k w r l f sound h none s found =
   where
     clash : (s : Slot) → None ≡ Some s → ⊥
     clash s e = cc
-
--- two steps
-pub parts-then : (a b c : Mem) → KeepsParts a b → KeepsParts b c → KeepsParts a c
-parts-then a b c x y = record {
-  spaces = y.spaces ∙ x.spaces;
-  anons = y.anons ∙ x.anons;
-  processes = y.processes ∙ x.processes;
-  count = y.count ∙ x.count;
-  lists = y.lists ∙ x.lists;
-  swap = record {
-    frames = y.swap.frames ∙ x.swap.frames;
-    on = y.swap.on ∙ x.swap.on;
-    bad = y.swap.bad ∙ x.swap.bad;
-    closing = y.swap.closing ∙ x.swap.closing;
-    priority = y.swap.priority ∙ x.swap.priority;
-  };
-}

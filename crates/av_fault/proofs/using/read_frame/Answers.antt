@@ -2,8 +2,9 @@ use Rattle.std.proofs.Common.{◌≡◌, ◌∙◌, true, ap, refl, subst}
 use Rattle.av_pagetable.specs.Entries.{entry_at, with_entry}
 use Rattle.av_pagetable.specs.declared.pte.Pte.TheVariants.{Here}
 use Rattle.av_mem.specs.Mem.{plain, view}
+use Rattle.av_mem.proofs.LetGoLaws.{rest-none, rest-tables}
 use Rattle.av_mem.proofs.MemLaws.{entry_put_in}
-use Rattle.av_fault.proofs.UsingLaws.{parts-by, read-done, seen-again, set-here}
+use Rattle.av_fault.proofs.UsingLaws.{read-done, seen-again, set-here}
 use Rattle.av_fault.proofs.using.read_frame.Goals as goal
 
 pub returns-then-not-seen-clause-read : goal.returns-then-not-seen-clause-read
@@ -15,7 +16,7 @@ returns-then-not-seen-clause-read c = λ d w r l h.
     (subst (λ e. entry_at c.change.new.self ≡ with_entry c.args.key.0 c.args.key.1 e (entry_at old.tables)) c.accessed_entry.ensures
     c.change.ensures.sets)
     refl refl refl refl refl)
-    (parts-by old new refl refl c.change.ensures.processes refl refl refl)
+    (rest-tables old c.change.new.self c.change.ensures.processes).parts
 
 pub returns-then-not-seen-clause-here : goal.returns-then-not-seen-clause-here
 returns-then-not-seen-clause-here c =
@@ -28,4 +29,4 @@ returns-else-not-seen-clause-read c = λ d w r l h.
     read-done d k k w r l h c.args.key c.args.frame c.args.write c.args.seen c.requires
     (seen-again c.args.key.0 c.args.key.1 c.args.frame c.args.write (view k)
     (ap plain (c.requires ∙ ap (Here c.args.frame c.args.write) c.if-not-seen.false)))
-    (parts-by k k refl refl refl refl refl refl)
+    (rest-none k).parts

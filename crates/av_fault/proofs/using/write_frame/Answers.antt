@@ -53,7 +53,7 @@ write_own-requires-clause-in_range g c =
     let d = device_by sizes None failures in
     let b = between-some sizes old failures c.requires.between in
     let here = c.requires.here in
-    subst (λ n. c.args.frame < n) (sym c.drop_unneeded.ensures.count)
+    subst (λ n. c.args.frame < n) (sym c.drop_unneeded.ensures.parts.count)
     (here-below d old b.0 b.1 b.2 b.3 c.args.key c.args.frame here.write here.seen here.there)
 
 pub returns-clause-made : goal.returns-clause-made

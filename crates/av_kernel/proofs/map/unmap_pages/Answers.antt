@@ -1,6 +1,7 @@
 use Rattle.std.proofs.Common.{subst, sym}
 use Rattle.av_spaces.specs.Spaces.{AllSpaces}
 use Rattle.av_spaces.specs.Kin.{AnonsFit}
+use Rattle.av_mem.proofs.StayLaws.{anons-stay, spaces-stay}
 use Rattle.av_kernel.proofs.MapLaws.{both_ok, are_unmapped}
 use Rattle.av_kernel.proofs.MapProts.{gets_areas, unmapped-homes, unmapped-prots}
 use Rattle.av_kernel.proofs.map.unmap_pages.Goals as goal
@@ -8,8 +9,8 @@ use Rattle.av_kernel.proofs.map.unmap_pages.Goals as goal
 pub unmap-requires-clause-order : goal.unmap-requires-clause-order
 unmap-requires-clause-order c =
     let rest = c.zap_range.ensures.rest in
-    (subst (λ (x : AllSpaces). AnonsFit x c.zap_range.new.mem.anons) (sym rest.parts.spaces)
-    (subst (AnonsFit c.args.mem.now.spaces) (sym rest.parts.anons) c.requires.steady.2.anons)).order
+    (subst (λ (x : AllSpaces). AnonsFit x c.zap_range.new.mem.anons) (sym (spaces-stay rest.parts))
+    (subst (AnonsFit c.args.mem.now.spaces) (sym (anons-stay rest.parts)) c.requires.steady.2.anons)).order
 
 pub returns-clause-unmapped : goal.returns-clause-unmapped
 returns-clause-unmapped c = λ d l stands.

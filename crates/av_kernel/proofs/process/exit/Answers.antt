@@ -3,6 +3,7 @@ use Rattle.av_trace.specs.declared.command.Command.TheVariants.{Exit}
 use Rattle.av_spaces.specs.Spaces.{AllSpaces}
 use Rattle.av_spaces.specs.Kin.{AnonsStay}
 use Rattle.av_trace.specs.declared.reply.Errno.TheVariants.{Esrch}
+use Rattle.av_mem.proofs.StayLaws.{anons-stay, spaces-stay}
 use Rattle.av_kernel.proofs.StepLaws.{answers-noted, orderly, ranges_there, refuses, refuses-as, dead_first}
 use Rattle.av_kernel.proofs.ProcessLaws.{exit-steps}
 use Rattle.av_kernel.proofs.process.exit.Goals as goal
@@ -30,6 +31,6 @@ returns c = record {
       (exit-steps old mid c.exit.new.self c.exit-2.new.self c.exit-2.new.anons s c.args.process c.args.reply.now.notes c.zap_all.new.notes keeps
       (ranges_there old c.args.process c.in_ok-check_lives.ensures) taken rest
       c.exit.ensures.processes c.exit.ensures.entries c.exit-2.ensures.areas
-      (subst (λ (x : AllSpaces). AnonsStay x old.anons c.exit-2.new.self c.exit-2.new.anons) rest.parts.spaces
-      (subst (λ a. AnonsStay mid.spaces a c.exit-2.new.self c.exit-2.new.anons) rest.parts.anons c.exit-2.ensures.anons)));
+      (subst (λ (x : AllSpaces). AnonsStay x old.anons c.exit-2.new.self c.exit-2.new.anons) (spaces-stay rest.parts)
+      (subst (λ a. AnonsStay mid.spaces a c.exit-2.new.self c.exit-2.new.anons) (anons-stay rest.parts) c.exit-2.ensures.anons)));
 }

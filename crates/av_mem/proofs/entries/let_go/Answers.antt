@@ -5,7 +5,8 @@ use Rattle.av_mem.specs.declared.mem.Mem.{Mem}
 use Rattle.av_mem.specs.Entries.{DropsOrphan}
 use Rattle.av_mem.specs.Mem.{view}
 use Rattle.av_mem.proofs.EntryGoes.{settles-used}
-use Rattle.av_mem.proofs.LetGoLaws.{lets-go, parts-then}
+use Rattle.av_mem.proofs.LetGoLaws.{lets-go}
+use Rattle.av_mem.proofs.StayLaws.{parts-then}
 use Rattle.av_mem.proofs.WalkLaws.{on_ok}
 use Rattle.av_mem.proofs.entries.let_go.Goals as goal
 

@@ -2,8 +2,9 @@ use Rattle.std.proofs.Common.{◌∙◌, ap}
 use Rattle.av_swap_laws.specs.Steps.{view_to_head}
 use Rattle.av_plain.specs.Stands.{View}
 use Rattle.av_mem.proofs.ReachLaws.{are-reached, reaches-served}
+use Rattle.av_mem.proofs.StayLaws.{parts-then}
 use Rattle.av_mem.proofs.WalkLaws.{are-counted}
-use Rattle.av_reclaim.proofs.StepMakes.{age-makes, mem-stays, parts-then}
+use Rattle.av_reclaim.proofs.StepMakes.{age-makes, mem-stays}
 use Rattle.av_reclaim.proofs.driver.DriverSystem.age.Goals as goal
 
 pub unsee-requires-clause-reached : goal.unsee-requires-clause-reached
@@ -15,7 +16,7 @@ unsee-requires-clause-counted g c = are-counted _ _ _ _ _ _ c.requires.1.in_orde
 pub returns-clause-makes : goal.returns-clause-makes
 returns-clause-makes g c = λ told. age-makes _ _ _ _ c.args.frame
     (c.to_head.ensures.moved ∙ ap (λ (v : View). view_to_head c.args.frame v) c.unsee.ensures.unseen)
-    (parts-then _ _ _ c.unsee.ensures.parts c.to_head.ensures.parts)
+    (parts-then c.unsee.ensures.parts c.to_head.ensures.parts)
 
 pub returns-clause-stays : goal.returns-clause-stays
-returns-clause-stays g c = λ told. mem-stays _ _ _ _ (parts-then _ _ _ c.unsee.ensures.parts c.to_head.ensures.parts)
+returns-clause-stays g c = λ told. mem-stays _ _ _ _ (parts-then c.unsee.ensures.parts c.to_head.ensures.parts)
