@@ -7,7 +7,7 @@ use av_arena::*;
 use std::alloc::{AllocError, Global};
 
 /// An entry whose summary is whether any of a row is marked.
-#[derive(Clone, Copy, Drop, Debug, PartialEq, Eq)]
+#[derive(Clone, Copy, Drop, PartialEq, Eq)]
 struct Note {
     key: u64,
     marked: bool,
