@@ -1,124 +1,92 @@
 //! A device whose calls fail, each in turn, and one that gives back other pages than it was given.
+//! A machine's device is attached by its first call, and its header is read by the second.
 
-ghost use Rattle.std.specs.Prelude.{◌≡◌, None, length};
-
-use crate::row::{Ended, Row, lines_of, replies_of, run_row};
+use crate::row::{Row, lines_of, replies_of, run_of};
 use crate::rows::*;
-use crate::swap::{device, header};
-use av_io::{Failed, MemSink, MemSource};
-use av_replay::*;
-use av_swapdev::{AttachErr, MemDev, SwapDev};
+use crate::runs::{End, Run, ends_so};
+use av_replay::Status;
 use std::alloc::{AllocError, Global};
 use std::test::Fail;
 
 /// The rows with a swap area.
-const WITH_SWAP: [Row; 7] = [
-    PAGE_OUT_AND_IN,
-    WRITTEN_ON_ITS_WAY,
-    EXIT_ON_ITS_WAY,
-    DIRECT_PASS,
-    ONE_FRAME,
-    SWAPOFF,
-    FORK_OF_A_SLOT,
+const WITH_SWAP: [&Row; 7] = [
+    &PAGE_OUT_AND_IN,
+    &WRITTEN_ON_ITS_WAY,
+    &EXIT_ON_ITS_WAY,
+    &DIRECT_PASS,
+    &ONE_FRAME,
+    &SWAPOFF,
+    &FORK_OF_A_SLOT,
 ];
 
-/// Whether a row's run, with this call of the device failing, ends so with this text, and leaves
-/// the area's header alone.
-fn goes_so(
+/// How a run ends whose area could not be attached.
+const UNATTACHED: End<'static> = End {
+    status: Status::AttachFault,
+    steps: None,
+    text: b"",
+    first_bytes: &[],
+};
+
+/// Whether a run of a row gives its replies, with those of these changes that stand below a call,
+/// or `lies` where that is 0.
+fn replies_so(
     alloc: Global,
     row: &Row,
-    failing: u64,
-    wanted: Ended,
-    text: &[u8],
+    run: &Run<'_>,
+    changes: &str,
+    call: u64,
 ) -> Result<bool, AllocError> {
-    let mut source = MemSource::new(lines_of(alloc, row)?.bytes, Vec::new(alloc));
-    let mut sink = MemSink::new(alloc, Vec::new(alloc));
-    let mut dev = device(alloc, row.pages, &[failing])?;
-    let ended = run_row(alloc, row, &mut source, &mut sink, &mut dev)?;
-    let is_kept = dev.page(0, 0) == Some(&header(row.pages.max(1) - 1));
-    Ok(ended == wanted && sink.bytes() == text && is_kept)
+    let replies = replies_of(alloc, row, changes, call)?;
+    let end = End::after(Status::Done, replies.len(), &replies.bytes);
+    ends_so(alloc, run, &end)
 }
 
-/// Whether a row goes as it says where no call of the device fails, where its first one does, and
-/// where each of the others does.
-fn goes_at_each_call(alloc: Global, row: &Row) -> Result<bool, AllocError> {
-    let replies = replies_of(alloc, row, "")?;
-    let whole = Ended::after(Status::Done, replies.len());
-    let none = Ended {
-        status: Status::AttachFault,
-        steps: None,
+/// Whether nothing is done where the first call of the device fails, which attaches the area; and
+/// whether a run goes as its row says where no call fails, and where one of the others does.
+fn goes_at_each_call(alloc: Global, row: &Row, run: &Run<'_>) -> Result<bool, AllocError> {
+    let unattached = Run {
+        dev_fails: &[1],
+        ..*run
     };
-    if !goes_so(alloc, row, 0, whole, &replies.bytes)? || !goes_so(alloc, row, 1, none, b"")? {
+    if !ends_so(alloc, &unattached, &UNATTACHED)? || !replies_so(alloc, row, run, "", 0)? {
         return Ok(false);
     }
-    for failure in row.failures {
-        let text = replies_of(alloc, row, failure.changes)?;
-        if !goes_so(alloc, row, failure.call, whole, &text.bytes)? {
+    for call in 2..row.calls.saturating_add(1) {
+        let calls = [call];
+        let failing = Run {
+            dev_fails: &calls,
+            ..*run
+        };
+        if !replies_so(alloc, row, &failing, row.changes, call)? {
             return Ok(false);
         }
     }
     Ok(true)
 }
 
+/// The same of a row.
+fn row_goes(alloc: Global, row: &Row) -> Result<bool, AllocError> {
+    let lines = lines_of(alloc, row)?;
+    goes_at_each_call(alloc, row, &run_of(row, &lines))
+}
+
 #[test]
 fn each_call_of_a_device_fails(rt: HostRuntime) -> Result<(), Fail> {
     for row in &WITH_SWAP {
-        assert!(rt; goes_at_each_call(rt.alloc(), row)?);
+        assert!(rt; row_goes(rt.alloc(), row)?);
     }
     Ok(())
-}
-
-/// A device that gives back each page but the header with each bit inverted. So it tells nothing of
-/// what its pages hold.
-#[derive(Drop)]
-struct ScrambleDev {
-    honest: MemDev,
-}
-
-/// Inverts each bit.
-fn invert(bytes: &mut [u8])
-    ensures { length bytes.new ≡ length bytes.old }
-{
-    for byte in bytes.iter_mut() {
-        *byte = !*byte;
-    }
-}
-
-impl SwapDev for ScrambleDev {
-    ghost sizes = { λ d. ⟦<MemDev as SwapDev>⟧.sizes d.honest };
-
-    ghost pages = { λ _. None };
-
-    ghost failures = { λ d. ⟦<MemDev as SwapDev>⟧.failures d.honest };
-
-    fn attach(&mut self, area: u8, name: &str) -> Result<u32, AttachErr> {
-        self.honest.attach(area, name)
-    }
-
-    fn read(&mut self, area: u8, page: u32, into: &mut [u8]) -> Result<(), Failed> {
-        self.honest.read(area, page, into)?;
-        if page != 0 {
-            invert(into);
-        }
-        Ok(())
-    }
-
-    fn write(&mut self, area: u8, page: u32, from: &[u8]) -> Result<(), Failed> {
-        self.honest.write(area, page, from)
-    }
 }
 
 /// Whether a row, over a device that lies, goes as the row says: only bytes that came from the
 /// device are others.
 fn goes_over_lies(alloc: Global, row: &Row) -> Result<bool, AllocError> {
-    let mut source = MemSource::new(lines_of(alloc, row)?.bytes, Vec::new(alloc));
-    let mut sink = MemSink::new(alloc, Vec::new(alloc));
-    let mut dev = ScrambleDev {
-        honest: device(alloc, row.pages, &[])?,
+    let lines = lines_of(alloc, row)?;
+    let run = Run {
+        lies: true,
+        ..run_of(row, &lines)
     };
-    let ended = run_row(alloc, row, &mut source, &mut sink, &mut dev)?;
-    let text = replies_of(alloc, row, row.lies)?;
-    Ok(ended == Ended::after(Status::Done, text.len()) && sink.bytes() == text.bytes.as_slice())
+    replies_so(alloc, row, &run, row.changes, 0)
 }
 
 #[test]

@@ -6,6 +6,7 @@ ghost use Rattle.av_kernel.specs.Machine.{sizes_of};
 use av_base::Prot;
 use av_kernel::*;
 use av_lru::Which;
+use av_replay::{Outcome, Status};
 use av_swapdev::{MemDev, SwapDev};
 use av_text::Bytes;
 use av_trace::{Command, Place, reply_text};
@@ -83,17 +84,31 @@ fn tells(kernel: &Kernel) -> bool {
         && kernel.frames().free() == 4
         && kernel.lists().len(Which::Inactive) == 0
         && kernel.areas().count() == 1
+        && kernel.swap().all_slots() == 0
+}
+
+/// Puts the texts of the replies to the commands into `text`, and says whether they leave such a
+/// kernel.
+fn leave(alloc: Global, commands: &[Command], text: &mut Bytes) -> Result<bool, AllocError> {
+    let mut dev = MemDev::new(Vec::new(alloc), Vec::new(alloc));
+    let Ok(mut kernel) = Kernel::new(alloc, 4, &[]) else {
+        return Err(AllocError);
+    };
+    let done = step_all(alloc, &mut kernel, &mut dev, commands, text);
+    let told = tells(&kernel);
+    // The kernel goes where that is proved: here it would be proved of each of its parts once more.
+    let _gone = Outcome {
+        status: Status::Done,
+        kernel: Some(kernel),
+    }
+    .into_status();
+    Ok(done? && told)
 }
 
 /// Whether the commands give this text and leave such a kernel.
 fn gives(alloc: Global, commands: &[Command], wanted: &[u8]) -> Result<bool, AllocError> {
     let mut text = Bytes::new(alloc);
-    let mut dev = MemDev::new(Vec::new(alloc), Vec::new(alloc));
-    let Ok(mut kernel) = Kernel::new(alloc, 4, &[]) else {
-        return Err(AllocError);
-    };
-    let done = step_all(alloc, &mut kernel, &mut dev, commands, &mut text)?;
-    Ok(done && text.as_slice() == wanted && tells(&kernel))
+    Ok(leave(alloc, commands, &mut text)? && text.as_slice() == wanted)
 }
 
 /// A first run, a refusal, and what the kernel tells of itself then.

@@ -1,6 +1,6 @@
 use Rattle.std.proofs.Common.{ap, sym, ◌∙◌}
 use Rattle.av_kernel.specs.Machine.{sizes_of}
-use Rattle.av_run_tests.proofs.kernel.gives.Goals as goal
+use Rattle.av_run_tests.proofs.kernel.leave.Goals as goal
 
 -- neither has one
 pub step_all-requires : goal.step_all-requires
