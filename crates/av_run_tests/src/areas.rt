@@ -1,7 +1,6 @@
 //! Runs over several swap areas: which name becomes which of them, and which gives a slot first.
 
-use crate::runs::{End, Run, ends_so};
-use av_replay::Status;
+use crate::runs::{ends_so, run_of};
 use std::test::Fail;
 
 /// The second area has the greater priority, and gives its slots first; the first one gives where
@@ -73,8 +72,9 @@ data 01
 
 #[test]
 fn the_greatest_priority_gives_first(rt: HostRuntime) -> Result<(), Fail> {
-    let run = Run::new(&["run", "1", "s0", "s1"], &[2, 3], TRACE.as_bytes());
-    let end = End::after(Status::Done, 14, REPLIES.as_bytes());
-    assert!(rt; ends_so(rt.alloc(), &run, &end)?);
+    let mut run = run_of(&["run", "1", "s0", "s1"], &[2, 3], TRACE.as_bytes());
+    run.steps = Some(14);
+    run.text = REPLIES.as_bytes();
+    assert!(rt; ends_so(rt.alloc(), &run)?);
     Ok(())
 }

@@ -1,98 +1,119 @@
 //! A device whose calls fail, each in turn, and one that gives back other pages than it was given.
 //! A machine's device is attached by its first call, and its header is read by the second.
 
-use crate::row::{Row, lines_of, replies_of, run_of};
+use crate::row::{Row, Texts, Turns, replies_of};
 use crate::rows::*;
-use crate::runs::{End, Run, ends_so};
+use crate::runs::{Run, ends_so, run_of, steps_of};
 use av_replay::Status;
 use std::alloc::{AllocError, Global};
 use std::test::Fail;
 
-/// The rows with a swap area.
-const WITH_SWAP: [&Row; 7] = [
-    &PAGE_OUT_AND_IN,
-    &WRITTEN_ON_ITS_WAY,
-    &EXIT_ON_ITS_WAY,
-    &DIRECT_PASS,
-    &ONE_FRAME,
-    &SWAPOFF,
-    &FORK_OF_A_SLOT,
-];
-
-/// How a run ends whose area could not be attached.
-const UNATTACHED: End<'static> = End {
-    status: Status::AttachFault,
-    steps: None,
-    text: b"",
-    first_bytes: &[],
-};
-
-/// Whether a run of a row gives its replies, with those of these changes that stand below a call,
-/// or `lies` where that is 0.
+/// Whether a run gives these replies, but for those of the changes that stand below a call, or below
+/// `lies` where that is 0.
 fn replies_so(
     alloc: Global,
-    row: &Row,
     run: &Run<'_>,
+    own: &Texts,
     changes: &str,
     call: u64,
 ) -> Result<bool, AllocError> {
-    let replies = replies_of(alloc, row, changes, call)?;
-    let end = End::after(Status::Done, replies.len(), &replies.bytes);
-    ends_so(alloc, run, &end)
-}
-
-/// Whether nothing is done where the first call of the device fails, which attaches the area; and
-/// whether a run goes as its row says where no call fails, and where one of the others does.
-fn goes_at_each_call(alloc: Global, row: &Row, run: &Run<'_>) -> Result<bool, AllocError> {
-    let unattached = Run {
-        dev_fails: &[1],
+    let replies = replies_of(alloc, own, changes, call)?;
+    let run = Run {
+        steps: steps_of(replies.len()),
+        text: &replies.bytes,
         ..*run
     };
-    if !ends_so(alloc, &unattached, &UNATTACHED)? || !replies_so(alloc, row, run, "", 0)? {
+    ends_so(alloc, &run)
+}
+
+/// Whether it does where this call of the device fails.
+fn goes_at(
+    alloc: Global,
+    run: &Run<'_>,
+    own: &Texts,
+    changes: &str,
+    call: u64,
+) -> Result<bool, AllocError> {
+    let calls = [call];
+    let run = Run {
+        dev_fails: &calls,
+        ..*run
+    };
+    replies_so(alloc, &run, own, changes, call)
+}
+
+/// Whether nothing is done where the first call of the device fails, which attaches the area.
+fn is_unattached(alloc: Global, run: &Run<'_>) -> Result<bool, AllocError> {
+    let mut run = *run;
+    run.dev_fails = &[1];
+    run.status = Status::AttachFault;
+    ends_so(alloc, &run)
+}
+
+/// Whether a row's run goes as the row says where no call of the device fails, where its first one
+/// does, and where each of the others does.
+fn goes_at_each_call(
+    alloc: Global,
+    row: &Row,
+    run: &Run<'_>,
+    own: &Texts,
+) -> Result<bool, AllocError> {
+    if !replies_so(alloc, run, own, "", 0)? || !is_unattached(alloc, run)? {
         return Ok(false);
     }
     for call in 2..row.calls.saturating_add(1) {
-        let calls = [call];
-        let failing = Run {
-            dev_fails: &calls,
-            ..*run
-        };
-        if !replies_so(alloc, row, &failing, row.changes, call)? {
+        if !goes_at(alloc, run, own, row.changes, call)? {
             return Ok(false);
         }
     }
     Ok(true)
 }
 
-/// The same of a row.
-fn row_goes(alloc: Global, row: &Row) -> Result<bool, AllocError> {
-    let lines = lines_of(alloc, row)?;
-    goes_at_each_call(alloc, row, &run_of(row, &lines))
+/// Whether a row's run, over a device that lies, goes as the row says: only bytes that came from the
+/// device are others.
+fn goes_over_lies(
+    alloc: Global,
+    row: &Row,
+    run: &Run<'_>,
+    own: &Texts,
+) -> Result<bool, AllocError> {
+    let mut run = *run;
+    run.lies = true;
+    replies_so(alloc, &run, own, row.changes, 0)
+}
+
+/// Whether a row goes so, over a device that lies, or one whose calls fail.
+fn row_goes(alloc: Global, row: &Row, lies: bool) -> Result<bool, AllocError> {
+    let turns = Turns::of(alloc, row.turns)?;
+    let run = run_of(row.words, row.areas, &turns.heads.bytes);
+    if lies {
+        goes_over_lies(alloc, row, &run, &turns.replies)
+    } else {
+        goes_at_each_call(alloc, row, &run, &turns.replies)
+    }
+}
+
+/// Whether each row with a swap area does.
+fn rows_go(alloc: Global, lies: bool) -> Result<bool, AllocError> {
+    Ok(
+        row_goes(alloc, &page_out_and_in(), lies)?
+            && row_goes(alloc, &written_on_its_way(), lies)?
+            && row_goes(alloc, &exit_on_its_way(), lies)?
+            && row_goes(alloc, &direct_pass(), lies)?
+            && row_goes(alloc, &one_frame(), lies)?
+            && row_goes(alloc, &swapoff(), lies)?
+            && row_goes(alloc, &fork_of_a_slot(), lies)?,
+    )
 }
 
 #[test]
 fn each_call_of_a_device_fails(rt: HostRuntime) -> Result<(), Fail> {
-    for row in &WITH_SWAP {
-        assert!(rt; row_goes(rt.alloc(), row)?);
-    }
+    assert!(rt; rows_go(rt.alloc(), false)?);
     Ok(())
-}
-
-/// Whether a row, over a device that lies, goes as the row says: only bytes that came from the
-/// device are others.
-fn goes_over_lies(alloc: Global, row: &Row) -> Result<bool, AllocError> {
-    let lines = lines_of(alloc, row)?;
-    let run = Run {
-        lies: true,
-        ..run_of(row, &lines)
-    };
-    replies_so(alloc, row, &run, row.changes, 0)
 }
 
 #[test]
 fn a_device_gives_back_other_pages(rt: HostRuntime) -> Result<(), Fail> {
-    for row in &WITH_SWAP {
-        assert!(rt; goes_over_lies(rt.alloc(), row)?);
-    }
+    assert!(rt; rows_go(rt.alloc(), true)?);
     Ok(())
 }

@@ -9,7 +9,6 @@ use av_mem::Mem;
 use av_swapdev::MemDev;
 use av_trace::Notes;
 use std::alloc::{AllocError, Global};
-use std::mem::forget;
 use std::test::Fail;
 
 /// Whether a page that isn't mapped is not made ready in a new memory system of two frames, and
@@ -26,13 +25,17 @@ fn is_stopped(alloc: Global, mem: &mut Mem) -> Result<bool, AllocError>
     Ok(touched == Touched::Stopped(Stop::Segv) && mem.frames.free() == 2)
 }
 
+/// The same in one.
+fn is_stopped_in_new(alloc: Global) -> Result<bool, AllocError> {
+    let Ok(mut mem) = Mem::new(alloc, 2) else {
+        return Err(AllocError);
+    };
+    is_stopped(alloc, &mut mem)
+}
+
 /// In a new memory system all frames are free, and a page that isn't mapped takes none.
 #[test]
 fn a_page_that_is_not_mapped_is_not_ready(rt: HostRuntime) -> Result<(), Fail> {
-    let mut mem = Mem::new(rt.alloc(), 2)?;
-    let stopped = is_stopped(rt.alloc(), &mut mem);
-    // Its parts go with the test's process: here it would be proved of each that it can be let go.
-    forget(mem);
-    assert!(rt; stopped?);
+    assert!(rt; is_stopped_in_new(rt.alloc())?);
     Ok(())
 }

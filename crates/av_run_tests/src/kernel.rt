@@ -1,12 +1,12 @@
 //! A kernel that is driven command by command, and its tally of replies.
 
-ghost use Rattle.std.specs.Prelude.{◌≡◌};
+ghost use Rattle.std.specs.Prelude.{◌≡◌, ◌<◌, []};
+ghost use Rattle.av_base.specs.Limits.{most_commands};
 ghost use Rattle.av_kernel.specs.Machine.{sizes_of};
 
 use av_base::Prot;
 use av_kernel::*;
 use av_lru::Which;
-use av_replay::{Outcome, Status};
 use av_swapdev::{MemDev, SwapDev};
 use av_text::Bytes;
 use av_trace::{Command, Place, reply_text};
@@ -38,27 +38,23 @@ fn commands_of_test(alloc: Global) -> Result<[Command; 3], AllocError> {
     ])
 }
 
-/// Does a command of the grammar, one of the first three, and puts the text of its reply into
-/// `text`.
+/// Does a command, and puts the text of its reply into `text`.
 fn step<D: SwapDev>(
     alloc: Global,
     kernel: &mut Kernel,
     dev: &mut D,
     command: &Command,
     text: &mut Bytes,
-) -> Result<bool, AllocError>
-    requires { D.sizes dev.old ≡ sizes_of kernel.old.sizes }
+) -> Result<(), AllocError>
+    requires few { kernel.old.steps < most_commands }
+    requires attached { D.sizes dev.old ≡ sizes_of kernel.old.sizes }
     ensures { D.sizes dev.new ≡ sizes_of kernel.new.sizes }
 {
-    if kernel.steps_done() > 2 {
-        return Ok(false);
-    }
     let reply = kernel.step(alloc, command, dev)?;
-    reply_text(&reply, text)?;
-    Ok(true)
+    reply_text(&reply, text)
 }
 
-/// Does the commands, and puts the texts of their replies into `text`.
+/// Does the commands, three at most, and puts the texts of their replies into `text`.
 fn step_all<D: SwapDev>(
     alloc: Global,
     kernel: &mut Kernel,
@@ -69,9 +65,10 @@ fn step_all<D: SwapDev>(
     requires { D.sizes dev.old ≡ sizes_of kernel.old.sizes }
 {
     for command in commands {
-        if !step(alloc, kernel, dev, command, text)? {
+        if kernel.steps_done() > 2 {
             return Ok(false);
         }
+        step(alloc, kernel, dev, command, text)?;
     }
     Ok(true)
 }
@@ -87,22 +84,26 @@ fn tells(kernel: &Kernel) -> bool {
         && kernel.swap().all_slots() == 0
 }
 
-/// Puts the texts of the replies to the commands into `text`, and says whether they leave such a
-/// kernel.
-fn leave(alloc: Global, commands: &[Command], text: &mut Bytes) -> Result<bool, AllocError> {
+/// Does the commands in a new kernel without swap areas, puts the texts of their replies into
+/// `text`, and says whether they leave such a kernel.
+fn drive(
+    alloc: Global,
+    kernel: &mut Kernel,
+    commands: &[Command],
+    text: &mut Bytes,
+) -> Result<bool, AllocError>
+    requires { kernel.old.sizes ≡ [] }
+{
     let mut dev = MemDev::new(Vec::new(alloc), Vec::new(alloc));
+    Ok(step_all(alloc, kernel, &mut dev, commands, text)? && tells(kernel))
+}
+
+/// The same in one of four frames.
+fn leave(alloc: Global, commands: &[Command], text: &mut Bytes) -> Result<bool, AllocError> {
     let Ok(mut kernel) = Kernel::new(alloc, 4, &[]) else {
         return Err(AllocError);
     };
-    let done = step_all(alloc, &mut kernel, &mut dev, commands, text);
-    let told = tells(&kernel);
-    // The kernel goes where that is proved: here it would be proved of each of its parts once more.
-    let _gone = Outcome {
-        status: Status::Done,
-        kernel: Some(kernel),
-    }
-    .into_status();
-    Ok(done? && told)
+    drive(alloc, &mut kernel, commands, text)
 }
 
 /// Whether the commands give this text and leave such a kernel.

@@ -1,16 +1,13 @@
 //! Lines at each edge of the grammar's limits. (`.ci/statuses` has as many lines as there may be.)
 
 use crate::row::Turns;
-use crate::runs::{End, Run, ends_so};
+use crate::runs::{NOTHING, Run, ends_so, steps_of};
 use av_replay::Status;
 use std::alloc::{AllocError, Global};
 use std::test::Fail;
 
 /// The first line of each trace of these tests.
 const FIRST: &[u8] = b"spawn 1\n";
-
-/// The words of each run.
-const WORDS: [&str; 2] = ["run", "4"];
 
 /// Second lines, each behind `> `, with the reply to it below, or `bad` where it is no command.
 const LINES: &str = "> read 1 ffffffffffffffff 2
@@ -232,20 +229,37 @@ fn joined(alloc: Global, front: &[u8], back: &[u8]) -> Result<Vec<u8>, AllocErro
     Ok(both)
 }
 
+/// Whether a run of this trace, on four frames, ends so.
+fn goes_so<'a>(
+    alloc: Global,
+    trace: &'a [u8],
+    status: Status,
+    steps: usize,
+    text: &'a [u8],
+) -> Result<bool, AllocError> {
+    let run = Run {
+        words: &["run", "4"],
+        trace,
+        status,
+        steps: steps_of(steps),
+        text,
+        ..NOTHING
+    };
+    ends_so(alloc, &run)
+}
+
 /// Whether a line behind the first one is the bad one.
 fn is_bad(alloc: Global, line: &[u8]) -> Result<bool, AllocError> {
     let trace = joined(alloc, FIRST, line)?;
-    let run = Run::new(&WORDS, &[], &trace);
-    ends_so(alloc, &run, &End::after(Status::BadLine(2), 1, b"ok\n"))
+    goes_so(alloc, &trace, Status::BadLine(2), 1, b"ok\n")
 }
 
-/// Whether it has this reply.
+/// Whether it has this reply, which only a comment has not.
 fn has_reply(alloc: Global, line: &[u8], reply: &[u8]) -> Result<bool, AllocError> {
     let trace = joined(alloc, FIRST, line)?;
     let text = joined(alloc, b"ok\n", reply)?;
     let steps = if reply.is_empty() { 1 } else { 2 };
-    let run = Run::new(&WORDS, &[], &trace);
-    ends_so(alloc, &run, &End::after(Status::Done, steps, &text))
+    goes_so(alloc, &trace, Status::Done, steps, &text)
 }
 
 /// Whether each of these lines is the bad one, or has its reply.
@@ -279,9 +293,7 @@ fn is_read(alloc: Global, long: &Long) -> Result<bool, AllocError> {
     let mut trace = Vec::from_slice(alloc, long.before.as_bytes())?;
     trace.extend_from_slice(&vec![in alloc; long.byte; long.count]?)?;
     trace.extend_from_slice(long.after.as_bytes())?;
-    let run = Run::new(&WORDS, &[], &trace);
-    let end = End::after(long.status, long.steps, long.text.as_bytes());
-    ends_so(alloc, &run, &end)
+    goes_so(alloc, &trace, long.status, long.steps, long.text.as_bytes())
 }
 
 #[test]

@@ -1,6 +1,5 @@
 //! Runs given as rows: each line of a trace with the reply to it.
 
-use crate::runs::Run;
 use av_text::Bytes;
 use av_text::number::add_decimal;
 use std::alloc::{AllocError, Global};
@@ -129,16 +128,6 @@ impl Turns {
     }
 }
 
-/// The lines of a row.
-pub fn lines_of(alloc: Global, row: &Row) -> Result<Texts, AllocError> {
-    Ok(Turns::of(alloc, row.turns)?.heads)
-}
-
-/// The run of a row with these lines, in which nothing fails.
-pub fn run_of<'a>(row: &'a Row, lines: &'a Texts) -> Run<'a> {
-    Run::new(row.words, row.areas, &lines.bytes)
-}
-
 /// Adds what stands above a reply that changes.
 fn add_head(head: &mut Bytes, call: u64, line: usize) -> Result<(), AllocError> {
     if call == 0 {
@@ -158,10 +147,14 @@ fn head_of(alloc: Global, call: u64, line: usize) -> Result<Bytes, AllocError> {
     Ok(head)
 }
 
-/// The replies of a row, with those of these changes that stand below this call, or, where it is 0,
-/// below `lies`.
-pub fn replies_of(alloc: Global, row: &Row, changes: &str, call: u64) -> Result<Texts, AllocError> {
-    let own = Turns::of(alloc, row.turns)?.replies;
+/// These replies, but for those of the changes that stand below this call, or, where it is 0, below
+/// `lies`.
+pub fn replies_of(
+    alloc: Global,
+    own: &Texts,
+    changes: &str,
+    call: u64,
+) -> Result<Texts, AllocError> {
     let changed = Turns::of(alloc, changes)?;
     let mut replies = Texts::new(alloc);
     for line in 0..own.len() {

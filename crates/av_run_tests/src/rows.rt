@@ -2,11 +2,12 @@
 //!
 //! All of it was written by hand or comes from a plain program of the same behaviour, whose calls
 //! failed in the same places. None of it comes from the program that is tested.
+//!
+//! A long text costs in each function that names it, when that is proved. So one function gives it.
 
 use crate::row::Row;
 
-/// A first run: a page that is written and read.
-pub const FIRST_PATH: Row = Row {
+const FIRST_PATH: Row = Row {
     words: &["run", "4"],
     areas: &[],
     turns: "> spawn 1
@@ -23,8 +24,12 @@ data 004100
     changes: "",
 };
 
-/// A page that is moved, goes out, and comes in again where it is now.
-pub const PAGE_OUT_AND_IN: Row = Row {
+/// A first run: a page that is written and read.
+pub fn first_path() -> Row {
+    FIRST_PATH
+}
+
+const PAGE_OUT_AND_IN: Row = Row {
     words: &["run", "4", "s0"],
     areas: &[8],
     turns: "> swapon 0
@@ -105,8 +110,12 @@ data f5
 ",
 };
 
-/// A page that is written while its slot is in flight.
-pub const WRITTEN_ON_ITS_WAY: Row = Row {
+/// A page that is moved, goes out, and comes in again where it is now.
+pub fn page_out_and_in() -> Row {
+    PAGE_OUT_AND_IN
+}
+
+const WRITTEN_ON_ITS_WAY: Row = Row {
     words: &["run", "4", "s0"],
     areas: &[8],
     turns: "> swapon 0
@@ -201,8 +210,12 @@ data fd
 ",
 };
 
-/// A process that ends while its page is on its way out.
-pub const EXIT_ON_ITS_WAY: Row = Row {
+/// A page that is written while its slot is in flight.
+pub fn written_on_its_way() -> Row {
+    WRITTEN_ON_ITS_WAY
+}
+
+const EXIT_ON_ITS_WAY: Row = Row {
     words: &["run", "4", "s0"],
     areas: &[8],
     turns: "> swapon 0
@@ -264,8 +277,12 @@ ok
 ",
 };
 
-/// Direct passes over two frames and one slot.
-pub const DIRECT_PASS: Row = Row {
+/// A process that ends while its page is on its way out.
+pub fn exit_on_its_way() -> Row {
+    EXIT_ON_ITS_WAY
+}
+
+const DIRECT_PASS: Row = Row {
     words: &["run", "2", "s0"],
     areas: &[2],
     turns: "> swapon 0
@@ -357,8 +374,12 @@ data fe
 ",
 };
 
-/// Two pages that take turns in one frame.
-pub const ONE_FRAME: Row = Row {
+/// Direct passes over two frames and one slot.
+pub fn direct_pass() -> Row {
+    DIRECT_PASS
+}
+
+const ONE_FRAME: Row = Row {
     words: &["run", "1", "s0"],
     areas: &[4],
     turns: "> swapon 0
@@ -551,8 +572,12 @@ data fe
 ",
 };
 
-/// An area that is turned off: in vain first, and then with room.
-pub const SWAPOFF: Row = Row {
+/// Two pages that take turns in one frame.
+pub fn one_frame() -> Row {
+    ONE_FRAME
+}
+
+const SWAPOFF: Row = Row {
     words: &["run", "1", "s0"],
     areas: &[4],
     turns: "> swapon 0
@@ -627,8 +652,12 @@ data fe
 ",
 };
 
-/// Two processes that name one slot.
-pub const FORK_OF_A_SLOT: Row = Row {
+/// An area that is turned off: in vain first, and then with room.
+pub fn swapoff() -> Row {
+    SWAPOFF
+}
+
+const FORK_OF_A_SLOT: Row = Row {
     words: &["run", "4", "s0"],
     areas: &[8],
     turns: "> swapon 0
@@ -732,8 +761,12 @@ data fe
 ",
 };
 
-/// A page that goes out.
-pub const PAGE_OUT: Row = Row {
+/// Two processes that name one slot.
+pub fn fork_of_a_slot() -> Row {
+    FORK_OF_A_SLOT
+}
+
+const PAGE_OUT: Row = Row {
     words: &["run", "4", "s0"],
     areas: &[8],
     turns: "> swapon 0
@@ -767,3 +800,8 @@ ok
     calls: 0,
     changes: "",
 };
+
+/// A page that goes out.
+pub fn page_out() -> Row {
+    PAGE_OUT
+}

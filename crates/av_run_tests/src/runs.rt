@@ -1,9 +1,9 @@
-//! Runs over ports in memory, and how they have to end.
+//! Runs over ports in memory, and how they end.
 //!
 //! Words are run at one place, over one kind of source, of sink and of device: for each kind more
 //! all that a run does would be proved once more.
 
-ghost use Rattle.std.specs.Prelude.{◌≡◌, ◌<◌, ◌≤◌, IfOk, None, length};
+ghost use Rattle.std.specs.Prelude.{◌≡◌, ◌+◌, ◌<◌, ◌≤◌, IfOk, None, length};
 ghost use Rattle.av_replay.specs.Attach.{HasNone};
 
 use av_io::{Failed, MemSink, MemSource, Sink, SinkErr, Source};
@@ -11,9 +11,14 @@ use av_replay::{NoProgress, Status, run};
 use av_swapdev::{AttachErr, MemDev, PAGE_LEN, SwapDev};
 use std::alloc::{AllocError, Global};
 
-/// A run: its words, its trace, and how many pages each swap area of its device has. The calls of
-/// a port that it names fail, by their numbers from 1. A slow source or sink passes one byte a
-/// call. A device that lies gives back each page but the header with each bit inverted.
+/// A run over ports in memory, and how it ends.
+///
+/// It has its words, its trace, and how many pages each swap area of its device has. The calls of a
+/// port that it names fail, by their numbers from 1. A slow source or sink passes one byte a call.
+/// A device that lies gives back each page but the header with each bit inverted.
+///
+/// In the end so many commands are done, if there is a kernel; the text is written; and the pages
+/// of the first area begin with these bytes, as far as they are told.
 #[derive(Clone, Copy)]
 pub struct Run<'a> {
     pub words: &'a [&'a str],
@@ -25,9 +30,13 @@ pub struct Run<'a> {
     pub slow_source: bool,
     pub slow_sink: bool,
     pub lies: bool,
+    pub status: Status,
+    pub steps: Option<u32>,
+    pub text: &'a [u8],
+    pub first_bytes: &'a [u8],
 }
 
-/// A run without words, trace and areas, in which nothing fails.
+/// A run of nothing, in which nothing fails.
 pub const NOTHING: Run<'static> = Run {
     words: &[],
     trace: b"",
@@ -38,40 +47,25 @@ pub const NOTHING: Run<'static> = Run {
     slow_source: false,
     slow_sink: false,
     lies: false,
+    status: Status::Done,
+    steps: None,
+    text: b"",
+    first_bytes: &[],
 };
 
-impl<'a> Run<'a> {
-    /// A run in which nothing fails.
-    pub fn new(words: &'a [&'a str], areas: &'a [u32], trace: &'a [u8]) -> Run<'a> {
-        Run {
-            words,
-            trace,
-            areas,
-            ..NOTHING
-        }
+/// A run in which nothing fails, and of whose end nothing is told yet.
+pub fn run_of<'a>(words: &'a [&'a str], areas: &'a [u32], trace: &'a [u8]) -> Run<'a> {
+    Run {
+        words,
+        trace,
+        areas,
+        ..NOTHING
     }
 }
 
-/// How a run ends: how many commands its kernel has done, if there is one, what was written, and
-/// with which byte each page of the first area begins, as far as that is told.
-#[derive(Clone, Copy)]
-pub struct End<'a> {
-    pub status: Status,
-    pub steps: Option<u32>,
-    pub text: &'a [u8],
-    pub first_bytes: &'a [u8],
-}
-
-impl<'a> End<'a> {
-    /// It ends so, so many commands are done, and this was written.
-    pub fn after(status: Status, steps: usize, text: &'a [u8]) -> End<'a> {
-        End {
-            status,
-            steps: Some(steps.min(u32::MAX as usize) as u32),
-            text,
-            first_bytes: &[],
-        }
-    }
+/// So many commands.
+pub fn steps_of(count: usize) -> Option<u32> {
+    Some(count.min(u32::MAX as usize) as u32)
 }
 
 /// How many of so many bytes pass.
@@ -295,16 +289,17 @@ fn begins(dev: &RunDev, first_bytes: &[u8]) -> bool {
 }
 
 /// Whether the ports hold after a run what they have to.
-fn hold(ports: &Ports, run: &Run<'_>, end: &End<'_>) -> bool {
-    ports.sink.all.bytes() == end.text
+fn hold(ports: &Ports, run: &Run<'_>) -> bool {
+    ports.sink.all.bytes() == run.text
         && is_kept(&ports.dev, run.areas)
-        && begins(&ports.dev, end.first_bytes)
+        && begins(&ports.dev, run.first_bytes)
 }
 
-/// Whether a run ends so, with each area attached by its own name, and each header as it was.
-pub fn ends_so(alloc: Global, run: &Run<'_>, end: &End<'_>) -> Result<bool, AllocError> {
+/// Whether a run ends as it says, with each area attached by its own name, and each header as it
+/// was.
+pub fn ends_so(alloc: Global, run: &Run<'_>) -> Result<bool, AllocError> {
     let words = words_of(alloc, run.words)?;
     let mut ports = ports_of(alloc, run)?;
     let (status, steps) = run_over(alloc, &words, &mut ports);
-    Ok(status == end.status && steps == end.steps && hold(&ports, run, end))
+    Ok(status == run.status && steps == run.steps && hold(&ports, run))
 }

@@ -1,9 +1,8 @@
 //! As many processes as may live, all of which name one slot.
 
-use crate::row::{Row, lines_of, replies_of};
-use crate::rows::PAGE_OUT;
-use crate::runs::{End, Run, ends_so};
-use av_replay::Status;
+use crate::row::{Row, Turns};
+use crate::rows::page_out;
+use crate::runs::{Run, ends_so, run_of, steps_of};
 use av_text::Bytes;
 use av_text::number::add_decimal;
 use std::alloc::{AllocError, Global};
@@ -45,20 +44,20 @@ fn add_forks(alloc: Global, lines: &mut Vec<u8>, replies: &mut Vec<u8>) -> Resul
 /// Whether forks of a process whose page is in swap go until no more may live, and one slot has an
 /// entry of each process then.
 fn goes(alloc: Global, row: &Row) -> Result<bool, AllocError> {
-    let mut lines = lines_of(alloc, row)?;
-    let mut replies = replies_of(alloc, row, "", 0)?;
-    let steps = lines.len().saturating_add(MOST_ALIVE as usize + 1);
-    add_forks(alloc, &mut lines.bytes, &mut replies.bytes)?;
-    let run = Run::new(row.words, row.areas, &lines.bytes);
-    ends_so(
-        alloc,
-        &run,
-        &End::after(Status::Done, steps, &replies.bytes),
-    )
+    let mut turns = Turns::of(alloc, row.turns)?;
+    let steps = turns.heads.len().saturating_add(MOST_ALIVE as usize + 1);
+    add_forks(alloc, &mut turns.heads.bytes, &mut turns.replies.bytes)?;
+    let run = run_of(row.words, row.areas, &turns.heads.bytes);
+    let run = Run {
+        steps: steps_of(steps),
+        text: &turns.replies.bytes,
+        ..run
+    };
+    ends_so(alloc, &run)
 }
 
 #[test]
 fn as_many_processes_as_may_live(rt: HostRuntime) -> Result<(), Fail> {
-    assert!(rt; goes(rt.alloc(), &PAGE_OUT)?);
+    assert!(rt; goes(rt.alloc(), &page_out())?);
     Ok(())
 }
