@@ -1,130 +1,119 @@
 //! A device whose calls fail, each in turn, and one that gives back other pages than it was given.
+//! A machine's device is attached by its first call, and its header is read by the second.
 
-ghost use Rattle.std.specs.Prelude.{◌≡◌, None, length};
-
-use crate::row::{Ended, Row, lines_of, replies_of, run_row};
+use crate::row::{Row, Texts, Turns, replies_of};
 use crate::rows::*;
-use crate::swap::{device, header};
-use av_io::{Failed, MemSink, MemSource};
-use av_replay::*;
-use av_swapdev::{AttachErr, MemDev, SwapDev};
+use crate::runs::{Run, ends_so, run_of, steps_of};
+use av_replay::Status;
 use std::alloc::{AllocError, Global};
 use std::test::Fail;
 
-/// The rows with a swap area.
-const WITH_SWAP: [Row; 7] = [
-    PAGE_OUT_AND_IN,
-    WRITTEN_ON_ITS_WAY,
-    EXIT_ON_ITS_WAY,
-    DIRECT_PASS,
-    ONE_FRAME,
-    SWAPOFF,
-    FORK_OF_A_SLOT,
-];
-
-/// Whether a row's run, with this call of the device failing, ends so with this text, and leaves
-/// the area's header alone.
-fn goes_so(
+/// Whether a run gives these replies, but for those of the changes that stand below a call, or below
+/// `lies` where that is 0.
+fn replies_so(
     alloc: Global,
-    row: &Row,
-    failing: u64,
-    wanted: Ended,
-    text: &[u8],
+    run: &Run<'_>,
+    own: &Texts,
+    changes: &str,
+    call: u64,
 ) -> Result<bool, AllocError> {
-    let mut source = MemSource::new(lines_of(alloc, row)?.bytes, Vec::new(alloc));
-    let mut sink = MemSink::new(alloc, Vec::new(alloc));
-    let mut dev = device(alloc, row.pages, &[failing])?;
-    let ended = run_row(alloc, row, &mut source, &mut sink, &mut dev)?;
-    let is_kept = dev.page(0, 0) == Some(&header(row.pages.max(1) - 1));
-    Ok(ended == wanted && sink.bytes() == text && is_kept)
+    let replies = replies_of(alloc, own, changes, call)?;
+    let run = Run {
+        steps: steps_of(replies.len()),
+        text: &replies.bytes,
+        ..*run
+    };
+    ends_so(alloc, &run)
 }
 
-/// Whether a row goes as it says where no call of the device fails, where its first one does, and
-/// where each of the others does.
-fn goes_at_each_call(alloc: Global, row: &Row) -> Result<bool, AllocError> {
-    let replies = replies_of(alloc, row, "")?;
-    let whole = Ended::after(Status::Done, replies.len());
-    let none = Ended {
-        status: Status::AttachFault,
-        steps: None,
+/// Whether it does where this call of the device fails.
+fn goes_at(
+    alloc: Global,
+    run: &Run<'_>,
+    own: &Texts,
+    changes: &str,
+    call: u64,
+) -> Result<bool, AllocError> {
+    let calls = [call];
+    let run = Run {
+        dev_fails: &calls,
+        ..*run
     };
-    if !goes_so(alloc, row, 0, whole, &replies.bytes)? || !goes_so(alloc, row, 1, none, b"")? {
+    replies_so(alloc, &run, own, changes, call)
+}
+
+/// Whether nothing is done where the first call of the device fails, which attaches the area.
+fn is_unattached(alloc: Global, run: &Run<'_>) -> Result<bool, AllocError> {
+    let mut run = *run;
+    run.dev_fails = &[1];
+    run.status = Status::AttachFault;
+    ends_so(alloc, &run)
+}
+
+/// Whether a row's run goes as the row says where no call of the device fails, where its first one
+/// does, and where each of the others does.
+fn goes_at_each_call(
+    alloc: Global,
+    row: &Row,
+    run: &Run<'_>,
+    own: &Texts,
+) -> Result<bool, AllocError> {
+    if !replies_so(alloc, run, own, "", 0)? || !is_unattached(alloc, run)? {
         return Ok(false);
     }
-    for failure in row.failures {
-        let text = replies_of(alloc, row, failure.changes)?;
-        if !goes_so(alloc, row, failure.call, whole, &text.bytes)? {
+    for call in 2..row.calls.saturating_add(1) {
+        if !goes_at(alloc, run, own, row.changes, call)? {
             return Ok(false);
         }
     }
     Ok(true)
 }
 
+/// Whether a row's run, over a device that lies, goes as the row says: only bytes that came from the
+/// device are others.
+fn goes_over_lies(
+    alloc: Global,
+    row: &Row,
+    run: &Run<'_>,
+    own: &Texts,
+) -> Result<bool, AllocError> {
+    let mut run = *run;
+    run.lies = true;
+    replies_so(alloc, &run, own, row.changes, 0)
+}
+
+/// Whether a row goes so, over a device that lies, or one whose calls fail.
+fn row_goes(alloc: Global, row: &Row, lies: bool) -> Result<bool, AllocError> {
+    let turns = Turns::of(alloc, row.turns)?;
+    let run = run_of(row.words, row.areas, &turns.heads.bytes);
+    if lies {
+        goes_over_lies(alloc, row, &run, &turns.replies)
+    } else {
+        goes_at_each_call(alloc, row, &run, &turns.replies)
+    }
+}
+
+/// Whether each row with a swap area does.
+fn rows_go(alloc: Global, lies: bool) -> Result<bool, AllocError> {
+    Ok(
+        row_goes(alloc, &page_out_and_in(), lies)?
+            && row_goes(alloc, &written_on_its_way(), lies)?
+            && row_goes(alloc, &exit_on_its_way(), lies)?
+            && row_goes(alloc, &direct_pass(), lies)?
+            && row_goes(alloc, &one_frame(), lies)?
+            && row_goes(alloc, &swapoff(), lies)?
+            && row_goes(alloc, &fork_of_a_slot(), lies)?,
+    )
+}
+
 #[test]
 fn each_call_of_a_device_fails(rt: HostRuntime) -> Result<(), Fail> {
-    for row in &WITH_SWAP {
-        assert!(rt; goes_at_each_call(rt.alloc(), row)?);
-    }
+    assert!(rt; rows_go(rt.alloc(), false)?);
     Ok(())
-}
-
-/// A device that gives back each page but the header with each bit inverted. So it tells nothing of
-/// what its pages hold.
-#[derive(Drop)]
-struct ScrambleDev {
-    honest: MemDev,
-}
-
-/// Inverts each bit.
-fn invert(bytes: &mut [u8])
-    ensures { length bytes.new ≡ length bytes.old }
-{
-    for byte in bytes.iter_mut() {
-        *byte = !*byte;
-    }
-}
-
-impl SwapDev for ScrambleDev {
-    ghost sizes = { λ d. ⟦<MemDev as SwapDev>⟧.sizes d.honest };
-
-    ghost pages = { λ _. None };
-
-    ghost failures = { λ d. ⟦<MemDev as SwapDev>⟧.failures d.honest };
-
-    fn attach(&mut self, area: u8, name: &str) -> Result<u32, AttachErr> {
-        self.honest.attach(area, name)
-    }
-
-    fn read(&mut self, area: u8, page: u32, into: &mut [u8]) -> Result<(), Failed> {
-        self.honest.read(area, page, into)?;
-        if page != 0 {
-            invert(into);
-        }
-        Ok(())
-    }
-
-    fn write(&mut self, area: u8, page: u32, from: &[u8]) -> Result<(), Failed> {
-        self.honest.write(area, page, from)
-    }
-}
-
-/// Whether a row, over a device that lies, goes as the row says: only bytes that came from the
-/// device are others.
-fn goes_over_lies(alloc: Global, row: &Row) -> Result<bool, AllocError> {
-    let mut source = MemSource::new(lines_of(alloc, row)?.bytes, Vec::new(alloc));
-    let mut sink = MemSink::new(alloc, Vec::new(alloc));
-    let mut dev = ScrambleDev {
-        honest: device(alloc, row.pages, &[])?,
-    };
-    let ended = run_row(alloc, row, &mut source, &mut sink, &mut dev)?;
-    let text = replies_of(alloc, row, row.lies)?;
-    Ok(ended == Ended::after(Status::Done, text.len()) && sink.bytes() == text.bytes.as_slice())
 }
 
 #[test]
 fn a_device_gives_back_other_pages(rt: HostRuntime) -> Result<(), Fail> {
-    for row in &WITH_SWAP {
-        assert!(rt; goes_over_lies(rt.alloc(), row)?);
-    }
+    assert!(rt; rows_go(rt.alloc(), true)?);
     Ok(())
 }

@@ -1,6 +1,7 @@
 //! A kernel that is driven command by command, and its tally of replies.
 
-ghost use Rattle.std.specs.Prelude.{◌≡◌};
+ghost use Rattle.std.specs.Prelude.{◌≡◌, ◌<◌, []};
+ghost use Rattle.av_base.specs.Limits.{most_commands};
 ghost use Rattle.av_kernel.specs.Machine.{sizes_of};
 
 use av_base::Prot;
@@ -37,27 +38,23 @@ fn commands_of_test(alloc: Global) -> Result<[Command; 3], AllocError> {
     ])
 }
 
-/// Does a command of the grammar, one of the first three, and puts the text of its reply into
-/// `text`.
+/// Does a command, and puts the text of its reply into `text`.
 fn step<D: SwapDev>(
     alloc: Global,
     kernel: &mut Kernel,
     dev: &mut D,
     command: &Command,
     text: &mut Bytes,
-) -> Result<bool, AllocError>
-    requires { D.sizes dev.old ≡ sizes_of kernel.old.sizes }
+) -> Result<(), AllocError>
+    requires few { kernel.old.steps < most_commands }
+    requires attached { D.sizes dev.old ≡ sizes_of kernel.old.sizes }
     ensures { D.sizes dev.new ≡ sizes_of kernel.new.sizes }
 {
-    if kernel.steps_done() > 2 {
-        return Ok(false);
-    }
     let reply = kernel.step(alloc, command, dev)?;
-    reply_text(&reply, text)?;
-    Ok(true)
+    reply_text(&reply, text)
 }
 
-/// Does the commands, and puts the texts of their replies into `text`.
+/// Does the commands, three at most, and puts the texts of their replies into `text`.
 fn step_all<D: SwapDev>(
     alloc: Global,
     kernel: &mut Kernel,
@@ -68,9 +65,10 @@ fn step_all<D: SwapDev>(
     requires { D.sizes dev.old ≡ sizes_of kernel.old.sizes }
 {
     for command in commands {
-        if !step(alloc, kernel, dev, command, text)? {
+        if kernel.steps_done() > 2 {
             return Ok(false);
         }
+        step(alloc, kernel, dev, command, text)?;
     }
     Ok(true)
 }
@@ -83,17 +81,35 @@ fn tells(kernel: &Kernel) -> bool {
         && kernel.frames().free() == 4
         && kernel.lists().len(Which::Inactive) == 0
         && kernel.areas().count() == 1
+        && kernel.swap().all_slots() == 0
+}
+
+/// Does the commands in a new kernel without swap areas, puts the texts of their replies into
+/// `text`, and says whether they leave such a kernel.
+fn drive(
+    alloc: Global,
+    kernel: &mut Kernel,
+    commands: &[Command],
+    text: &mut Bytes,
+) -> Result<bool, AllocError>
+    requires { kernel.old.sizes ≡ [] }
+{
+    let mut dev = MemDev::new(Vec::new(alloc), Vec::new(alloc));
+    Ok(step_all(alloc, kernel, &mut dev, commands, text)? && tells(kernel))
+}
+
+/// The same in one of four frames.
+fn leave(alloc: Global, commands: &[Command], text: &mut Bytes) -> Result<bool, AllocError> {
+    let Ok(mut kernel) = Kernel::new(alloc, 4, &[]) else {
+        return Err(AllocError);
+    };
+    drive(alloc, &mut kernel, commands, text)
 }
 
 /// Whether the commands give this text and leave such a kernel.
 fn gives(alloc: Global, commands: &[Command], wanted: &[u8]) -> Result<bool, AllocError> {
     let mut text = Bytes::new(alloc);
-    let mut dev = MemDev::new(Vec::new(alloc), Vec::new(alloc));
-    let Ok(mut kernel) = Kernel::new(alloc, 4, &[]) else {
-        return Err(AllocError);
-    };
-    let done = step_all(alloc, &mut kernel, &mut dev, commands, &mut text)?;
-    Ok(done && text.as_slice() == wanted && tells(&kernel))
+    Ok(leave(alloc, commands, &mut text)? && text.as_slice() == wanted)
 }
 
 /// A first run, a refusal, and what the kernel tells of itself then.

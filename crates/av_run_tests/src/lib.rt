@@ -23,6 +23,8 @@ mod row;
 #[cfg(test)]
 mod rows;
 #[cfg(test)]
+mod runs;
+#[cfg(test)]
 mod storm;
 #[cfg(test)]
 mod swap;

@@ -1,186 +1,134 @@
 //! Sources and sinks whose calls fail, each in turn; and such that give and take one byte a call.
 
-ghost use Rattle.std.specs.Prelude.{◌≡◌};
-
-use crate::row::{Ended, Row, Texts, lines_of, replies_of, run_row};
+use crate::row::{Row, Turns};
 use crate::rows::*;
-use crate::swap::device;
-use av_io::{Failed, MemSink, MemSource, Sink, SinkErr, Source};
-use av_replay::*;
+use crate::runs::{Run, ends_so, run_of, steps_of};
+use av_replay::Status;
 use std::alloc::{AllocError, Global};
 use std::test::Fail;
-
-/// A source that gives one byte a call.
-#[derive(Drop)]
-struct SlowSource {
-    all: MemSource,
-}
-
-impl Source for SlowSource {
-    ghost view = { λ s. ⟦<MemSource as Source>⟧.view s.all };
-
-    fn read(&mut self, into: &mut [u8]) -> Result<usize, Failed> {
-        let room = into.len().min(1);
-        self.all.read(&mut into[..room])
-    }
-}
-
-/// A sink that takes one byte a call.
-#[derive(Drop)]
-struct SlowSink {
-    all: MemSink,
-}
-
-impl Sink for SlowSink {
-    ghost view = { λ s. ⟦<MemSink as Sink>⟧.view s.all };
-
-    fn write(&mut self, piece: &[u8]) -> Result<usize, SinkErr> {
-        self.all.write(&piece[..piece.len().min(1)])
-    }
-
-    fn flush(&mut self) -> Result<(), Failed> {
-        self.all.flush()
-    }
-}
-
-/// A row, with its lines and its replies.
-#[derive(Clone, Copy)]
-struct Ends<'a> {
-    row: &'a Row,
-    lines: &'a Texts,
-    replies: &'a Texts,
-}
 
 /// Whether a run whose source fails at its call of this number ends so, with so many replies. The
 /// source gives one byte a call, or all that there is room for.
 fn reads_so(
     alloc: Global,
-    ends: &Ends<'_>,
-    slow: bool,
+    run: &Run<'_>,
+    turns: &Turns,
+    slow_source: bool,
     failing: usize,
     status: Status,
     replies: usize,
 ) -> Result<bool, AllocError> {
-    let bytes = Vec::from_slice(alloc, &ends.lines.bytes)?;
-    let mut all = MemSource::new(bytes, vec![in alloc; failing as u64]?);
-    let mut sink = MemSink::new(alloc, Vec::new(alloc));
-    let mut dev = device(alloc, ends.row.pages, &[])?;
-    let ended = if slow {
-        run_row(
-            alloc,
-            ends.row,
-            &mut SlowSource { all },
-            &mut sink,
-            &mut dev,
-        )?
-    } else {
-        run_row(alloc, ends.row, &mut all, &mut sink, &mut dev)?
+    let run = Run {
+        read_fails: failing as u64,
+        slow_source,
+        status,
+        steps: steps_of(replies),
+        text: turns.replies.first(replies),
+        ..*run
     };
-    Ok(ended == Ended::after(status, replies) && sink.bytes() == ends.replies.first(replies))
+    ends_so(alloc, &run)
 }
 
-/// Whether a run whose sink fails at its call of this number ends so: so many bytes are written,
-/// and so many commands are done. The sink takes one byte a call, or the whole piece.
+/// Whether a run whose sink fails at its call of this number ends so: so many lines are done, and
+/// the text is written. The sink takes one byte a call, or the whole piece.
 fn writes_so(
     alloc: Global,
-    ends: &Ends<'_>,
-    slow: bool,
+    run: &Run<'_>,
+    slow_sink: bool,
     failing: usize,
-    wanted: Ended,
-    bytes: &[u8],
+    lines: usize,
+    text: &[u8],
 ) -> Result<bool, AllocError> {
-    let lines = Vec::from_slice(alloc, &ends.lines.bytes)?;
-    let mut source = MemSource::new(lines, Vec::new(alloc));
-    let mut all = MemSink::new(alloc, vec![in alloc; failing as u64]?);
-    let mut dev = device(alloc, ends.row.pages, &[])?;
-    if !slow {
-        let ended = run_row(alloc, ends.row, &mut source, &mut all, &mut dev)?;
-        return Ok(ended == wanted && all.bytes() == bytes);
-    }
-    let mut sink = SlowSink { all };
-    let ended = run_row(alloc, ends.row, &mut source, &mut sink, &mut dev)?;
-    Ok(ended == wanted && sink.all.bytes() == bytes)
+    let run = Run {
+        write_fails: failing as u64,
+        slow_sink,
+        status: Status::WriteFault,
+        steps: steps_of(lines),
+        text,
+        ..*run
+    };
+    ends_so(alloc, &run)
 }
 
-/// Whether a row's run ends as it has to at each call of the source that fails: the lines done are
-/// those whose newline was taken before.
-fn goes_at_each_read(alloc: Global, ends: &Ends<'_>) -> Result<bool, AllocError> {
-    let all = ends.lines.len();
-    // A first call gives everything, and the second one tells the end.
-    if !reads_so(alloc, ends, false, 1, Status::ReadFault, 0)?
-        || !reads_so(alloc, ends, false, 2, Status::ReadFault, all)?
-        || !reads_so(alloc, ends, false, 3, Status::Done, all)?
-    {
-        return Ok(false);
-    }
-    for taken in 0..ends.lines.bytes.len() {
-        let done = ends.lines.whole_within(taken);
-        if !reads_so(
-            alloc,
-            ends,
-            true,
-            taken.saturating_add(1),
-            Status::ReadFault,
-            done,
-        )? {
-            return Ok(false);
-        }
-    }
-    reads_so(alloc, ends, true, 0, Status::Done, all)
+/// Whether a row's run ends as it has to where a call of the source fails that gives everything.
+/// The first call does so, and the second one tells the end.
+fn goes_at_whole_reads(alloc: Global, run: &Run<'_>, turns: &Turns) -> Result<bool, AllocError> {
+    let all = turns.heads.len();
+    Ok(
+        reads_so(alloc, run, turns, false, 1, Status::ReadFault, 0)?
+            && reads_so(alloc, run, turns, false, 2, Status::ReadFault, all)?
+            && reads_so(alloc, run, turns, false, 3, Status::Done, all)?,
+    )
 }
 
-/// Whether a row's run ends as it has to at each call of the sink that fails: the line whose text
-/// failed is the last one done.
-fn goes_at_each_write(alloc: Global, ends: &Ends<'_>) -> Result<bool, AllocError> {
-    let whole = Ended::after(Status::Done, ends.lines.len());
-    for done in 0..ends.lines.len() {
-        let wanted = Ended::after(Status::WriteFault, done.saturating_add(1));
-        if !writes_so(
-            alloc,
-            ends,
-            false,
-            done.saturating_add(1),
-            wanted,
-            ends.replies.first(done),
-        )? {
+/// The same where each call gives a byte: the lines done are those whose newline was taken before.
+fn goes_at_slow_reads(alloc: Global, run: &Run<'_>, turns: &Turns) -> Result<bool, AllocError> {
+    for taken in 0..turns.heads.bytes.len() {
+        let done = turns.heads.whole_within(taken);
+        let call = taken.saturating_add(1);
+        if !reads_so(alloc, run, turns, true, call, Status::ReadFault, done)? {
             return Ok(false);
         }
     }
-    for written in 0..ends.replies.bytes.len() {
-        let wanted = Ended::after(
-            Status::WriteFault,
-            ends.replies.whole_within(written).saturating_add(1),
-        );
-        if !writes_so(
-            alloc,
-            ends,
-            true,
-            written.saturating_add(1),
-            wanted,
-            ends.replies.front(written),
-        )? {
+    reads_so(alloc, run, turns, true, 0, Status::Done, turns.heads.len())
+}
+
+/// Whether a row's run ends as it has to where a call of the sink fails that takes a whole piece:
+/// the line whose text failed is the last one done.
+fn goes_at_whole_writes(alloc: Global, run: &Run<'_>, turns: &Turns) -> Result<bool, AllocError> {
+    for done in 0..turns.heads.len() {
+        let line = done.saturating_add(1);
+        if !writes_so(alloc, run, false, line, line, turns.replies.first(done))? {
             return Ok(false);
         }
     }
-    writes_so(alloc, ends, true, 0, whole, &ends.replies.bytes)
+    Ok(true)
+}
+
+/// The same where each call takes a byte.
+fn goes_at_slow_writes(alloc: Global, run: &Run<'_>, turns: &Turns) -> Result<bool, AllocError> {
+    for written in 0..turns.replies.bytes.len() {
+        let call = written.saturating_add(1);
+        let line = turns.replies.whole_within(written).saturating_add(1);
+        if !writes_so(alloc, run, true, call, line, turns.replies.front(written))? {
+            return Ok(false);
+        }
+    }
+    Ok(true)
+}
+
+/// Whether a row's run is done where its sink takes one byte a call, and none fails.
+fn goes_slowly(alloc: Global, run: &Run<'_>, turns: &Turns) -> Result<bool, AllocError> {
+    let run = Run {
+        slow_sink: true,
+        steps: steps_of(turns.heads.len()),
+        text: &turns.replies.bytes,
+        ..*run
+    };
+    ends_so(alloc, &run)
 }
 
 /// Whether a row's run ends as it has to at each call of its source and of its sink that fails.
-fn goes_at_each_call(alloc: Global, row: &Row) -> Result<bool, AllocError> {
-    let lines = lines_of(alloc, row)?;
-    let replies = replies_of(alloc, row, "")?;
-    let ends = Ends {
-        row,
-        lines: &lines,
-        replies: &replies,
-    };
-    Ok(goes_at_each_read(alloc, &ends)? && goes_at_each_write(alloc, &ends)?)
+fn goes_at_each_call(alloc: Global, run: &Run<'_>, turns: &Turns) -> Result<bool, AllocError> {
+    Ok(
+        goes_at_whole_reads(alloc, run, turns)?
+            && goes_at_slow_reads(alloc, run, turns)?
+            && goes_at_whole_writes(alloc, run, turns)?
+            && goes_at_slow_writes(alloc, run, turns)?
+            && goes_slowly(alloc, run, turns)?,
+    )
+}
+
+/// The same of a row.
+fn row_goes(alloc: Global, row: &Row) -> Result<bool, AllocError> {
+    let turns = Turns::of(alloc, row.turns)?;
+    let run = run_of(row.words, row.areas, &turns.heads.bytes);
+    goes_at_each_call(alloc, &run, &turns)
 }
 
 #[test]
 fn each_call_of_a_source_and_of_a_sink_fails(rt: HostRuntime) -> Result<(), Fail> {
-    for row in &[FIRST_PATH, DIRECT_PASS] {
-        assert!(rt; goes_at_each_call(rt.alloc(), row)?);
-    }
+    assert!(rt; row_goes(rt.alloc(), &first_path())?);
+    assert!(rt; row_goes(rt.alloc(), &direct_pass())?);
     Ok(())
 }

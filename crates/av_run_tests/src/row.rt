@@ -1,34 +1,22 @@
 //! Runs given as rows: each line of a trace with the reply to it.
 
-ghost use Rattle.std.specs.Prelude.{IfOk};
-ghost use Rattle.av_replay.specs.Attach.{HasNone};
-
-use av_io::{Sink, Source};
-use av_replay::*;
-use av_swapdev::SwapDev;
 use av_text::Bytes;
 use av_text::number::add_decimal;
 use std::alloc::{AllocError, Global};
 
-/// What changes where one call of the device fails. The first call attaches the area, and the
-/// second reads its header.
-#[derive(Clone, Copy)]
-pub struct Failure {
-    pub call: u64,
-    pub changes: &'static str,
-}
-
-/// A run on so many frames, over a swap area with so many pages where there are any: each line
-/// behind `> `, with the reply below it; what changes for each call of the device that fails; and
-/// what changes over a device that gives back other pages than it was given. What changes has the
-/// number of a line, from 0, in the place of the line.
+/// A run: its words, how many pages its swap areas have, and each line of its trace behind `> `,
+/// with the reply below it.
+///
+/// Where it has an area, its device is called so many times, and these replies change where one
+/// call fails: each stands below the number of that call and of the line, from 0. Over a device
+/// that lies the replies below `lies` change, in the place of a call's number.
 #[derive(Clone, Copy)]
 pub struct Row {
-    pub frames: &'static str,
-    pub pages: u32,
+    pub words: &'static [&'static str],
+    pub areas: &'static [u32],
     pub turns: &'static str,
-    pub failures: &'static [Failure],
-    pub lies: &'static str,
+    pub calls: u64,
+    pub changes: &'static str,
 }
 
 /// Texts one behind the other, and where each of them ends.
@@ -40,7 +28,7 @@ pub struct Texts {
 
 impl Texts {
     /// No text.
-    pub fn new(alloc: Global) -> Texts {
+    fn new(alloc: Global) -> Texts {
         Texts {
             bytes: Vec::new(alloc),
             ends: Vec::new(alloc),
@@ -70,7 +58,7 @@ impl Texts {
     }
 
     /// The text of this number.
-    fn get(&self, number: usize) -> &[u8] {
+    pub fn get(&self, number: usize) -> &[u8] {
         let start = self.first(number).len();
         self.first(number.saturating_add(1))
             .get(start..)
@@ -106,14 +94,14 @@ impl Texts {
 
 /// What stands behind each `> ` of a text, and below it.
 #[derive(Drop)]
-struct Turns {
-    heads: Texts,
-    replies: Texts,
+pub struct Turns {
+    pub heads: Texts,
+    pub replies: Texts,
 }
 
 impl Turns {
     /// Those of a text.
-    fn of(alloc: Global, text: &str) -> Result<Turns, AllocError> {
+    pub fn of(alloc: Global, text: &str) -> Result<Turns, AllocError> {
         let mut heads = Texts::new(alloc);
         let mut replies = Texts::new(alloc);
         for line in text.lines() {
@@ -140,72 +128,38 @@ impl Turns {
     }
 }
 
-/// The lines of a row.
-pub fn lines_of(alloc: Global, row: &Row) -> Result<Texts, AllocError> {
-    Ok(Turns::of(alloc, row.turns)?.heads)
+/// Adds what stands above a reply that changes.
+fn add_head(head: &mut Bytes, call: u64, line: usize) -> Result<(), AllocError> {
+    if call == 0 {
+        head.append(b"lies")?;
+    } else {
+        add_decimal(head, call)?;
+    }
+    head.append(b" ")?;
+    add_decimal(head, line as u64)?;
+    head.append(b"\n")
 }
 
-/// A number as a head.
-fn head_of(alloc: Global, number: usize) -> Result<Vec<u8>, AllocError> {
-    let mut digits = Bytes::new(alloc);
-    add_decimal(&mut digits, number as u64)?;
-    let mut head = Vec::from_slice(alloc, digits.as_slice())?;
-    head.push(b'\n')?;
+/// What stands above it.
+fn head_of(alloc: Global, call: u64, line: usize) -> Result<Bytes, AllocError> {
+    let mut head = Bytes::new(alloc);
+    add_head(&mut head, call, line)?;
     Ok(head)
 }
 
-/// The replies of a row, with these changes.
-pub fn replies_of(alloc: Global, row: &Row, changes: &str) -> Result<Texts, AllocError> {
-    let own = Turns::of(alloc, row.turns)?.replies;
+/// These replies, but for those of the changes that stand below this call, or, where it is 0, below
+/// `lies`.
+pub fn replies_of(
+    alloc: Global,
+    own: &Texts,
+    changes: &str,
+    call: u64,
+) -> Result<Texts, AllocError> {
     let changed = Turns::of(alloc, changes)?;
     let mut replies = Texts::new(alloc);
-    for number in 0..own.len() {
-        let head = head_of(alloc, number)?;
-        replies.add(changed.reply_to(head.as_slice()).unwrap_or(own.get(number)))?;
+    for line in 0..own.len() {
+        let head = head_of(alloc, call, line)?;
+        replies.add(changed.reply_to(head.as_slice()).unwrap_or(own.get(line)))?;
     }
     Ok(replies)
-}
-
-/// How a run ends, and how many commands its kernel has done, if there is one.
-#[derive(Clone, Copy, Drop, Debug, PartialEq, Eq)]
-pub struct Ended {
-    pub status: Status,
-    pub steps: Option<u32>,
-}
-
-impl Ended {
-    /// It ends so, and so many commands are done.
-    pub fn after(status: Status, steps: usize) -> Ended {
-        Ended {
-            status,
-            steps: Some(steps.min(u32::MAX as usize) as u32),
-        }
-    }
-}
-
-/// A run of a row's words over these ends of the world.
-pub fn run_row<S: Source, K: Sink, D: SwapDev>(
-    alloc: Global,
-    row: &Row,
-    source: &mut S,
-    sink: &mut K,
-    dev: &mut D,
-) -> Result<Ended, AllocError>
-    requires { HasNone (D.sizes dev.old) }
-{
-    let mut words = Vec::new(alloc);
-    words.push(String::from_str(alloc, "run")?)?;
-    words.push(String::from_str(alloc, row.frames)?)?;
-    if row.pages > 0 {
-        words.push(String::from_str(alloc, "swap")?)?;
-    }
-    let outcome = run(alloc, &words, source, sink, dev, &mut NoProgress);
-    let steps = match &outcome.kernel {
-        Some(kernel) => Some(kernel.steps_done()),
-        None => None,
-    };
-    Ok(Ended {
-        status: outcome.status,
-        steps,
-    })
 }

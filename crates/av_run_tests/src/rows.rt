@@ -2,13 +2,14 @@
 //!
 //! All of it was written by hand or comes from a plain program of the same behaviour, whose calls
 //! failed in the same places. None of it comes from the program that is tested.
+//!
+//! A long text costs in each function that names it, when that is proved. So one function gives it.
 
-use crate::row::{Failure, Row};
+use crate::row::Row;
 
-/// A first run: a page that is written and read.
-pub const FIRST_PATH: Row = Row {
-    frames: "4",
-    pages: 0,
+const FIRST_PATH: Row = Row {
+    words: &["run", "4"],
+    areas: &[],
     turns: "> spawn 1
 ok
 > mmap 1 4096 rw-
@@ -19,14 +20,18 @@ ok
 > read 1 7fffffffe004 3
 data 004100
 ",
-    failures: &[],
-    lies: "",
+    calls: 0,
+    changes: "",
 };
 
-/// A page that is moved, goes out, and comes in again where it is now.
-pub const PAGE_OUT_AND_IN: Row = Row {
-    frames: "4",
-    pages: 8,
+/// A first run: a page that is written and read.
+pub fn first_path() -> Row {
+    FIRST_PATH
+}
+
+const PAGE_OUT_AND_IN: Row = Row {
+    words: &["run", "4", "s0"],
+    areas: &[8],
     turns: "> swapon 0
 on 7 0
 > spawn 1
@@ -74,54 +79,45 @@ areas 2
  20000000-20001000 rw- off=7fffffffe own=0 chain=0
  30000000-30001000 rw- off=30000 own=- chain=-
 ",
-    failures: &[
-        Failure {
-            call: 2,
-            changes: "> 0
+    calls: 4,
+    changes: "> 2 0
 err EIO
-> 9
+> 2 9
 ok
  keep 0 noslot
-> 10
+> 2 10
 ok
-> 11
+> 2 11
 ok
-> 12
+> 2 12
 data 0a
-",
-        },
-        Failure {
-            call: 3,
-            changes: "> 10
+> 3 10
 ok
  fail 0:1
-> 11
+> 3 11
 ok
  start 0:1
  keep 0 started
-> 12
+> 3 12
 data 0a
  map 1 20000000 0
-",
-        },
-        Failure {
-            call: 4,
-            changes: "> 12
+> 4 12
 bus 0
-",
-        },
-    ],
-    lies: "> 12
+> lies 12
 data f5
  load 0:1 0
  map 1 20000000 0
 ",
 };
 
-/// A page that is written while its slot is in flight.
-pub const WRITTEN_ON_ITS_WAY: Row = Row {
-    frames: "4",
-    pages: 8,
+/// A page that is moved, goes out, and comes in again where it is now.
+pub fn page_out_and_in() -> Row {
+    PAGE_OUT_AND_IN
+}
+
+const WRITTEN_ON_ITS_WAY: Row = Row {
+    words: &["run", "4", "s0"],
+    areas: &[8],
     turns: "> swapon 0
 on 7 0
 > spawn 1
@@ -171,70 +167,57 @@ data 02
  load 0:1 0
  map 1 7fffffffe000 0
 ",
-    failures: &[
-        Failure {
-            call: 2,
-            changes: "> 0
+    calls: 5,
+    changes: "> 2 0
 err EIO
-> 6
+> 2 6
 ok
  keep 0 noslot
-> 7
+> 2 7
 ok
-> 8
+> 2 8
 ok
-> 9
+> 2 9
 ok
-> 11
+> 2 11
 ok
  keep 0 noslot
-> 12
+> 2 12
 ok
-> 13
+> 2 13
 ok
-> 14
+> 2 14
 data 02
-",
-        },
-        Failure {
-            call: 3,
-            changes: "> 8
+> 3 8
 ok
  fail 0:1
-",
-        },
-        Failure {
-            call: 4,
-            changes: "> 12
+> 4 12
 ok
  fail 0:1
-> 13
+> 4 13
 ok
  start 0:1
  keep 0 started
-> 14
+> 4 14
 data 02
  map 1 7fffffffe000 0
-",
-        },
-        Failure {
-            call: 5,
-            changes: "> 14
+> 5 14
 bus 0
-",
-        },
-    ],
-    lies: "> 14
+> lies 14
 data fd
  load 0:1 0
  map 1 7fffffffe000 0
 ",
 };
 
-/// A process that ends while its page is on its way out.
-pub const EXIT_ON_ITS_WAY: Row = Row {
-    frames: "4",
-    pages: 8,
+/// A page that is written while its slot is in flight.
+pub fn written_on_its_way() -> Row {
+    WRITTEN_ON_ITS_WAY
+}
+
+const EXIT_ON_ITS_WAY: Row = Row {
+    words: &["run", "4", "s0"],
+    areas: &[8],
     turns: "> swapon 0
 on 7 0
 > spawn 1
@@ -271,42 +254,37 @@ ok
 > stat
 stat frames=4 free=4 active=0 inactive=0 flight=0 slots=7 freeslots=7 procs=0
 ",
-    failures: &[
-        Failure {
-            call: 2,
-            changes: "> 0
+    calls: 3,
+    changes: "> 2 0
 err EIO
-> 6
+> 2 6
 ok
  keep 0 noslot
-> 7
+> 2 7
 err EINVAL
-> 9
+> 2 9
 err EINVAL
-> 10
+> 2 10
 stat frames=4 free=4 active=0 inactive=0 flight=0 slots=0 freeslots=0 procs=0
-> 11
+> 2 11
 ok
-> 12
+> 2 12
 stat frames=4 free=4 active=0 inactive=0 flight=0 slots=0 freeslots=0 procs=0
-",
-        },
-        Failure {
-            call: 3,
-            changes: "> 11
+> 3 11
 ok
  fail 0:1
  drop 0:1
 ",
-        },
-    ],
-    lies: "",
 };
 
-/// Direct passes over two frames and one slot.
-pub const DIRECT_PASS: Row = Row {
-    frames: "2",
-    pages: 2,
+/// A process that ends while its page is on its way out.
+pub fn exit_on_its_way() -> Row {
+    EXIT_ON_ITS_WAY
+}
+
+const DIRECT_PASS: Row = Row {
+    words: &["run", "2", "s0"],
+    areas: &[2],
     turns: "> swapon 0
 on 1 0
 > spawn 1
@@ -349,70 +327,61 @@ ok
 > write 1 7fffffffe000 04
 oom 0 pinned=1 noslot=1 fault=0
 ",
-    failures: &[
-        Failure {
-            call: 2,
-            changes: "> 0
+    calls: 4,
+    changes: "> 2 0
 err EIO
-> 5
+> 2 5
 oom 0 pinned=0 noslot=2 fault=0
-> 7
+> 2 7
 data 01
-> 10
+> 2 10
 data 01
-> 12
+> 2 12
 ok
  new 1 7fffffffd000 1
-> 13
+> 2 13
 oom 0 pinned=0 noslot=2 fault=0
-",
-        },
-        Failure {
-            call: 3,
-            changes: "> 5
+> 3 5
 oom 0 pinned=0 noslot=1 fault=1
  put 0 0:1
  unmap 0
  start 0:1
  fail 0:1
-> 7
+> 3 7
 data 01
  map 1 7fffffffc000 0
-> 10
+> 3 10
 data 01
-> 12
+> 3 12
 ok
  new 1 7fffffffd000 1
-> 13
+> 3 13
 ok
  unmap 0
  start 0:1
  done 0:1
  drop 0:1
  new 1 7fffffffe000 0
-",
-        },
-        Failure {
-            call: 4,
-            changes: "> 10
+> 4 10
 bus 0
-> 12
+> 4 12
 ok
  new 1 7fffffffd000 1
-",
-        },
-    ],
-    lies: "> 10
+> lies 10
 data fe
  load 0:1 1
  map 1 7fffffffc000 1
 ",
 };
 
-/// Two pages that take turns in one frame.
-pub const ONE_FRAME: Row = Row {
-    frames: "1",
-    pages: 4,
+/// Direct passes over two frames and one slot.
+pub fn direct_pass() -> Row {
+    DIRECT_PASS
+}
+
+const ONE_FRAME: Row = Row {
+    words: &["run", "1", "s0"],
+    areas: &[4],
     turns: "> swapon 0
 on 3 0
 > spawn 1
@@ -463,40 +432,34 @@ data 01
 > read 1 7fffffffd000 1
 data 01
 ",
-    failures: &[
-        Failure {
-            call: 2,
-            changes: "> 0
+    calls: 9,
+    changes: "> 2 0
 err EIO
-> 4
+> 2 4
 oom 0 pinned=0 noslot=1 fault=0
-> 5
+> 2 5
 data 01
-> 6
+> 2 6
 oom 0 pinned=0 noslot=1 fault=0
-> 7
+> 2 7
 data 01
-",
-        },
-        Failure {
-            call: 3,
-            changes: "> 4
+> 3 4
 oom 0 pinned=0 noslot=0 fault=1
  put 0 0:1
  unmap 0
  start 0:1
  fail 0:1
-> 5
+> 3 5
 data 01
  map 1 7fffffffd000 0
-> 6
+> 3 6
 ok
  unmap 0
  start 0:1
  done 0:1
  drop 0:1
  new 1 7fffffffe000 0
-> 7
+> 3 7
 data 01
  put 0 0:2
  unmap 0
@@ -506,21 +469,17 @@ data 01
  load 0:1 0
  map 1 7fffffffd000 0
  drop 0:1
-",
-        },
-        Failure {
-            call: 4,
-            changes: "> 5
+> 4 5
 oom 0 pinned=0 noslot=0 fault=1
  put 0 0:2
  unmap 0
  start 0:2
  fail 0:2
-> 6
+> 4 6
 ok
  map 1 7fffffffe000 0
  drop 0:2
-> 7
+> 4 7
 data 01
  put 0 0:3
  unmap 0
@@ -530,23 +489,19 @@ data 01
  load 0:1 0
  map 1 7fffffffd000 0
  drop 0:1
-",
-        },
-        Failure {
-            call: 5,
-            changes: "> 5
+> 5 5
 bus 0
  put 0 0:2
  unmap 0
  start 0:2
  done 0:2
  drop 0:2
-> 6
+> 5 6
 ok
  load 0:2 0
  map 1 7fffffffe000 0
  drop 0:2
-> 7
+> 5 7
 data 01
  put 0 0:3
  unmap 0
@@ -556,47 +511,35 @@ data 01
  load 0:1 0
  map 1 7fffffffd000 0
  drop 0:1
-",
-        },
-        Failure {
-            call: 6,
-            changes: "> 6
+> 6 6
 oom 0 pinned=0 noslot=0 fault=1
  put 0 0:3
  unmap 0
  start 0:3
  fail 0:3
-> 7
+> 6 7
 data 01
  map 1 7fffffffd000 0
  drop 0:3
-",
-        },
-        Failure {
-            call: 7,
-            changes: "> 6
+> 7 6
 bus 0
  put 0 0:3
  unmap 0
  start 0:3
  done 0:3
  drop 0:3
-> 7
+> 7 7
 data 01
  load 0:3 0
  map 1 7fffffffd000 0
  drop 0:3
-",
-        },
-        Failure {
-            call: 8,
-            changes: "> 7
+> 8 7
 oom 0 pinned=0 noslot=0 fault=1
  put 0 0:1
  unmap 0
  start 0:1
  fail 0:1
-> 8
+> 8 8
 data 01
  start 0:1
  done 0:1
@@ -604,26 +547,19 @@ data 01
  load 0:3 0
  map 1 7fffffffd000 0
  drop 0:3
-",
-        },
-        Failure {
-            call: 9,
-            changes: "> 7
+> 9 7
 bus 0
  put 0 0:1
  unmap 0
  start 0:1
  done 0:1
  drop 0:1
-> 8
+> 9 8
 data 01
  load 0:3 0
  map 1 7fffffffd000 0
  drop 0:3
-",
-        },
-    ],
-    lies: "> 5
+> lies 5
 data fe
  put 0 0:2
  unmap 0
@@ -636,10 +572,14 @@ data fe
 ",
 };
 
-/// An area that is turned off: in vain first, and then with room.
-pub const SWAPOFF: Row = Row {
-    frames: "1",
-    pages: 4,
+/// Two pages that take turns in one frame.
+pub fn one_frame() -> Row {
+    ONE_FRAME
+}
+
+const SWAPOFF: Row = Row {
+    words: &["run", "1", "s0"],
+    areas: &[4],
     turns: "> swapon 0
 on 3 0
 > spawn 1
@@ -673,62 +613,53 @@ data 01
 > swapoff 0
 err EINVAL
 ",
-    failures: &[
-        Failure {
-            call: 2,
-            changes: "> 0
+    calls: 4,
+    changes: "> 2 0
 err EIO
-> 4
+> 2 4
 oom 0 pinned=0 noslot=1 fault=0
-> 5
+> 2 5
 err EINVAL
-> 6
+> 2 6
 on 3 0
-> 8
+> 2 8
 ok
-",
-        },
-        Failure {
-            call: 3,
-            changes: "> 4
+> 3 4
 oom 0 pinned=0 noslot=0 fault=1
  put 0 0:1
  unmap 0
  start 0:1
  fail 0:1
-> 5
+> 3 5
 ok
  map 1 7fffffffd000 0
  drop 0:1
-> 6
+> 3 6
 on 3 0
-> 8
+> 3 8
 ok
-",
-        },
-        Failure {
-            call: 4,
-            changes: "> 8
+> 4 8
 err EIO
-> 9
+> 4 9
 data 01
  load 0:1 0
  map 1 7fffffffd000 0
-> 10
+> 4 10
 ok
  drop 0:1
-",
-        },
-    ],
-    lies: "> 9
+> lies 9
 data fe
 ",
 };
 
-/// Two processes that name one slot.
-pub const FORK_OF_A_SLOT: Row = Row {
-    frames: "4",
-    pages: 8,
+/// An area that is turned off: in vain first, and then with room.
+pub fn swapoff() -> Row {
+    SWAPOFF
+}
+
+const FORK_OF_A_SLOT: Row = Row {
+    words: &["run", "4", "s0"],
+    areas: &[8],
     turns: "> swapon 0
 on 7 0
 > spawn 1
@@ -778,75 +709,66 @@ frame 0 maps 1
 > slot 0 1
 slot 0:1 count 1 cached 0
 ",
-    failures: &[
-        Failure {
-            call: 2,
-            changes: "> 0
+    calls: 4,
+    changes: "> 2 0
 err EIO
-> 7
+> 2 7
 ok
  keep 0 noslot
-> 8
+> 2 8
 ok
-> 9
+> 2 9
 ok
-> 10
+> 2 10
 err EINVAL
-> 11
+> 2 11
 ok
  copy 2 7fffffffe000 1
-> 12
+> 2 12
 frame 0 old
-> 13
+> 2 13
 data 01
-> 14
+> 2 14
 frame 0 seen
-> 16
+> 2 16
 err EINVAL
-",
-        },
-        Failure {
-            call: 3,
-            changes: "> 8
+> 3 8
 ok
  fail 0:1
-> 9
+> 3 9
 ok
  start 0:1
  keep 0 started
-> 10
+> 3 10
 slot 0:1 count 3 cached 0
-> 11
+> 3 11
 ok
  map 2 7fffffffe000 0
  copy 2 7fffffffe000 1
-",
-        },
-        Failure {
-            call: 4,
-            changes: "> 11
+> 4 11
 bus 0
-> 12
+> 4 12
 slot 0:1
-> 13
+> 4 13
 data 01
  load 0:1 0
  map 1 7fffffffe000 0
-> 16
+> 4 16
 slot 0:1 count 2 cached 0
-",
-        },
-    ],
-    lies: "> 13
+> lies 13
 data fe
  map 1 7fffffffe000 0
 ",
 };
 
-/// A page that goes out.
-pub const PAGE_OUT: Row = Row {
-    frames: "4",
-    pages: 8,
+/// Two processes that name one slot.
+pub fn fork_of_a_slot() -> Row {
+    FORK_OF_A_SLOT
+}
+
+const PAGE_OUT: Row = Row {
+    words: &["run", "4", "s0"],
+    areas: &[8],
     turns: "> swapon 0
 on 7 0
 > spawn 1
@@ -875,6 +797,11 @@ ok
 ok
  drop 0:1
 ",
-    failures: &[],
-    lies: "",
+    calls: 0,
+    changes: "",
 };
+
+/// A page that goes out.
+pub fn page_out() -> Row {
+    PAGE_OUT
+}

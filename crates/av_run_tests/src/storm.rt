@@ -1,11 +1,8 @@
 //! As many processes as may live, all of which name one slot.
 
-use crate::row::{Row, lines_of, replies_of};
-use crate::rows::PAGE_OUT;
-use crate::swap::device;
-use av_base::Slot;
-use av_io::{MemSink, MemSource};
-use av_replay::*;
+use crate::row::{Row, Turns};
+use crate::rows::page_out;
+use crate::runs::{Run, ends_so, run_of, steps_of};
 use av_text::Bytes;
 use av_text::number::add_decimal;
 use std::alloc::{AllocError, Global};
@@ -34,40 +31,33 @@ fn add_fork(
     replies.extend_from_slice(reply)
 }
 
+/// Adds the lines that fork from the first process until no more may live, with their replies, and
+/// one that tells how many entries name the slot of its page then.
+fn add_forks(alloc: Global, lines: &mut Vec<u8>, replies: &mut Vec<u8>) -> Result<(), AllocError> {
+    for child in 2..MOST_ALIVE + 2 {
+        add_fork(alloc, child, lines, replies)?;
+    }
+    lines.extend_from_slice(b"slot 0 1\n")?;
+    replies.extend_from_slice(b"slot 0:1 count 4096\n")
+}
+
 /// Whether forks of a process whose page is in swap go until no more may live, and one slot has an
 /// entry of each process then.
 fn goes(alloc: Global, row: &Row) -> Result<bool, AllocError> {
-    let mut lines = lines_of(alloc, row)?.bytes;
-    let mut replies = replies_of(alloc, row, "")?.bytes;
-    for child in 2..MOST_ALIVE + 2 {
-        add_fork(alloc, child, &mut lines, &mut replies)?;
-    }
-    lines.extend_from_slice(b"slot 0 1\n")?;
-    replies.extend_from_slice(b"slot 0:1 count 4096\n")?;
-    let mut source = MemSource::new(lines, Vec::new(alloc));
-    let mut sink = MemSink::new(alloc, Vec::new(alloc));
-    let mut dev = device(alloc, row.pages, &[])?;
-    let mut words = Vec::new(alloc);
-    for word in ["run", row.frames, "swap"] {
-        words.push(String::from_str(alloc, word)?)?;
-    }
-    let outcome = run(
-        alloc,
-        &words,
-        &mut source,
-        &mut sink,
-        &mut dev,
-        &mut NoProgress,
-    );
-    let Some(kernel) = &outcome.kernel else {
-        return Ok(false);
+    let mut turns = Turns::of(alloc, row.turns)?;
+    let steps = turns.heads.len().saturating_add(MOST_ALIVE as usize + 1);
+    add_forks(alloc, &mut turns.heads.bytes, &mut turns.replies.bytes)?;
+    let run = run_of(row.words, row.areas, &turns.heads.bytes);
+    let run = Run {
+        steps: steps_of(steps),
+        text: &turns.replies.bytes,
+        ..run
     };
-    let entries = kernel.swap().entries(Slot { area: 0, page: 1 });
-    Ok(outcome.status == Status::Done && sink.bytes() == replies.as_slice() && entries == 4096)
+    ends_so(alloc, &run)
 }
 
 #[test]
 fn as_many_processes_as_may_live(rt: HostRuntime) -> Result<(), Fail> {
-    assert!(rt; goes(rt.alloc(), &PAGE_OUT)?);
+    assert!(rt; goes(rt.alloc(), &page_out())?);
     Ok(())
 }
