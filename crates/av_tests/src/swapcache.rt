@@ -103,7 +103,7 @@ fn stays_in_use<D: SwapDev>(swap: &mut Swap, frames: &mut Frames, slot: Slot, de
 
 /// Whether a slot is given back when its entries are gone, and no other is in use.
 fn is_given_back(swap: &mut Swap, slot: Slot, entries: u32) -> bool {
-    if swap.entries(slot) != entries {
+    if entries == 0 || swap.entries(slot) != entries {
         return false;
     }
     swap.entry_down(slot, entries);
