@@ -110,8 +110,8 @@ fn is_given_back(swap: &mut Swap, slot: Slot, entries: u32) -> bool {
     !swap.is_in_use(slot) && swap.all_free_slots() == swap.all_slots()
 }
 
-/// Whether a slot that so many entries name comes back to frame 1, fails to be written again, and is
-/// given back when no entry names it.
+/// Whether a slot that so many entries name comes back to frame 1, fails to be written again, and
+/// is given back when no entry names it.
 fn comes_back<D: SwapDev>(
     swap: &mut Swap,
     frames: &mut Frames,

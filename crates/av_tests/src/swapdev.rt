@@ -151,19 +151,35 @@ fn three_pages(alloc: Global) -> Result<MemDev, AllocError> {
     Ok(MemDev::new(areas, vec![in alloc; 4, 7]?))
 }
 
+/// Whether a copy of one of its pages to another works or not, and that has this byte throughout
+/// then.
+fn copies_so(
+    device: &mut MemDev,
+    from: u32,
+    to: u32,
+    works: bool,
+    byte: u8,
+    buffer: &mut [u8; PAGE_LEN],
+) -> bool
+    requires pages { ⟦<MemDev as SwapDev>⟧.sizes device.old 0 ≡ Some 3 }
+    requires there { (from < 3) × (to < 3) }
+    ensures { ⟦<MemDev as SwapDev>⟧.sizes device.new 0 ≡ Some 3 }
+{
+    copy_page(device, 3, from, to, buffer).is_ok() == works
+        && device.page(0, to) == Some(&[byte; PAGE_LEN])
+}
+
 /// Whether the calls of such a device come to what they have to.
 fn goes_as_told(device: &mut MemDev, buffer: &mut [u8; PAGE_LEN]) -> bool {
     if device.attach(3, "none") != Ok(0) || !is_attached(device, "some", 3) {
         return false;
     }
     // The third call reads, and the fourth fails to write.
-    let spoilt = copy_page(device, 3, 2, 1, buffer) == Err(Failed)
-        && device.page(0, 1) == Some(&[!8; PAGE_LEN]);
-    let copied = copy_page(device, 3, 2, 0, buffer) == Ok(())
-        && device.page(0, 0) == Some(&[9; PAGE_LEN]);
-    let kept = copy_page(device, 3, 1, 2, buffer) == Err(Failed)
-        && device.page(0, 2) == Some(&[9; PAGE_LEN]);
-    spoilt && copied && kept && device.page(0, 3).is_none() && device.page(1, 0).is_none()
+    copies_so(device, 2, 1, false, !8, buffer)
+        && copies_so(device, 2, 0, true, 9, buffer)
+        && copies_so(device, 1, 2, false, 9, buffer)
+        && device.page(0, 3).is_none()
+        && device.page(1, 0).is_none()
 }
 
 #[test]
@@ -336,16 +352,28 @@ fn cut(rt: &HostRuntime, path: Path<'_>) -> Result<(), Fail> {
     Ok(())
 }
 
-/// Whether a file of the host is served, also when it is cut, and no more when it is gone.
+/// Whether a file that is cut fails, and is attached no more when it is gone.
+fn fails_when_cut<D: SwapDev>(
+    rt: &HostRuntime,
+    device: &mut D,
+    path: &PathBuf,
+    buffer: &mut [u8; PAGE_LEN],
+) -> Result<bool, Fail>
+    requires { D.sizes device.old 0 ≡ Some 2 }
+{
+    cut(rt, path.as_path())?;
+    let cut_short = copy_page(device, 2, 1, 0, buffer) == Err(Failed);
+    fs::remove_file(rt, path.as_path())?;
+    Ok(cut_short && !is_attached(device, path.as_str(), 1))
+}
+
+/// Whether a file of the host is served until then.
 fn serves<D: SwapDev>(rt: &HostRuntime, device: &mut D, path: &PathBuf) -> Result<bool, Fail> {
     let mut buffer = [0; PAGE_LEN];
     if !is_served(device, path.as_str(), &mut buffer) || !is_copied(rt, path.as_path())? {
         return Ok(false);
     }
-    cut(rt, path.as_path())?;
-    let cut_short = copy_page(device, 2, 1, 0, &mut buffer) == Err(Failed);
-    fs::remove_file(rt, path.as_path())?;
-    Ok(cut_short && !is_attached(device, path.as_str(), 1))
+    fails_when_cut(rt, device, path, &mut buffer)
 }
 
 /// The same of a new file and a new device.
