@@ -7,7 +7,7 @@ use Rattle.av_base.specs.Words.{how_many, is_in, with_at}
 use Rattle.av_chain.specs.Links.{one_if}
 use Rattle.av_interval.specs.Search.{overlaps}
 use Rattle.av_pagetable.specs.declared.pte.Pte.{Pte}
-use Rattle.av_pagetable.specs.declared.pte.Pte.TheVariants.{Empty}
+use Rattle.av_pagetable.specs.declared.pte.Pte.TheVariants.{Empty, Here}
 use Rattle.av_merge.proofs.PlacingLaws.{within_parts}
 use Rattle.av_rmap.specs.Covered.{IsCovered, IsReached}
 use Rattle.av_rmap.specs.View.{AreApart, view_with}

@@ -216,14 +216,10 @@ fn walk_shared_alone<L: Ledger>(alloc: Global, blank: Blank) -> Result<Found, Al
     walk_shared(alloc, &mut areas, &mut anons, &mut tables, &mut steps)
 }
 
-/// Whether both entries are found, and are seen no more in the end.
-fn are_both(found: &Found) -> bool {
-    found.0.as_slice() == [(1, 11), (2, 11)].as_slice() && found.1.0 && !found.1.1
-}
-
 #[test]
 fn a_walk_finds_the_entries_of_both_processes(rt: HostRuntime) -> Result<(), Fail> {
-    let found = walk_shared_alone::<Brand>(rt.alloc(), Blank::new(1))?;
-    assert!(rt; are_both(&found));
+    let (keys, seen) = walk_shared_alone::<Brand>(rt.alloc(), Blank::new(1))?;
+    assert!(rt; keys.as_slice() == [(1, 11), (2, 11)].as_slice());
+    assert!(rt; seen.0 && !seen.1);
     Ok(())
 }

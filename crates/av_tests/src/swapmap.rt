@@ -30,17 +30,6 @@ fn digits(counts: &Counts) -> [u8; 6]
     ]
 }
 
-/// Whether a slot has this byte and these digits.
-fn has_digits(
-    alloc: Global,
-    entries: u32,
-    cached: bool,
-    wanted: [u8; 6],
-) -> Result<bool, AllocError> {
-    let counts = slot(alloc, entries, cached)?;
-    Ok(digits(&counts) == wanted)
-}
-
 #[test]
 fn counts_are_kept_as_linux_keeps_them(rt: HostRuntime) -> Result<(), AllocError> {
     let rows = [
@@ -55,7 +44,7 @@ fn counts_are_kept_as_linux_keeps_them(rt: HostRuntime) -> Result<(), AllocError
         (0xffff_ffff, true, [0xc3, 0x84, 0x82, 0xc1, 0x20, 0]),
     ];
     for (entries, cached, wanted) in rows {
-        assert!(rt; has_digits(rt.alloc(), entries, cached, wanted)?);
+        assert!(rt; digits(&slot(rt.alloc(), entries, cached)?) == wanted);
     }
     Ok(())
 }
@@ -82,19 +71,11 @@ fn come_and_go(counts: &mut Counts, page: u32, come: u32, go: u32) -> Result<(u3
     Ok((left, counts.byte(page)))
 }
 
-/// Whether page 2 of three is bad, and entries come and go at page 1.
-fn entries_go(counts: &mut Counts) -> Result<bool, AllocError>
-    requires { (shown counts.old).pages ≡ 3 }
-{
-    if !counts.bad(2) || counts.byte(2) != 0x3f || counts.bad(1) || counts.cached(1) {
-        return Ok(false);
-    }
-    Ok(come_and_go(counts, 1, 9000, 8900)? == (100, 0x40))
-}
-
 #[test]
 fn entries_come_and_go(rt: HostRuntime) -> Result<(), AllocError> {
     let mut counts = Counts::new(rt.alloc(), 3, &[2, 9])?;
-    assert!(rt; entries_go(&mut counts)?);
+    assert!(rt; counts.bad(2) && counts.byte(2) == 0x3f);
+    assert!(rt; !counts.bad(1) && !counts.cached(1));
+    assert!(rt; come_and_go(&mut counts, 1, 9000, 8900)? == (100, 0x40));
     Ok(())
 }
