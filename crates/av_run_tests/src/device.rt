@@ -8,8 +8,8 @@ use av_replay::Status;
 use std::alloc::{AllocError, Global};
 use std::test::Fail;
 
-/// Whether a run gives these replies, but for those of the changes that stand below a call, or below
-/// `lies` where that is 0.
+/// Whether a run gives these replies, but for those of the changes that stand below a call, or
+/// below `lies` where that is 0.
 fn replies_so(
     alloc: Global,
     run: &Run<'_>,
@@ -69,8 +69,8 @@ fn goes_at_each_call(
     Ok(true)
 }
 
-/// Whether a row's run, over a device that lies, goes as the row says: only bytes that came from the
-/// device are others.
+/// Whether a row's run, over a device that lies, goes as the row says: only bytes that came from
+/// the device are others.
 fn goes_over_lies(
     alloc: Global,
     row: &Row,

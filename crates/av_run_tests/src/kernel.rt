@@ -1,7 +1,6 @@
 //! A kernel that is driven command by command, and its tally of replies.
 
-ghost use Rattle.std.specs.Prelude.{◌≡◌, ◌<◌, []};
-ghost use Rattle.av_base.specs.Limits.{most_commands};
+ghost use Rattle.std.specs.Prelude.{◌≡◌, []};
 ghost use Rattle.av_kernel.specs.Machine.{sizes_of};
 
 use av_base::Prot;
@@ -38,23 +37,27 @@ fn commands_of_test(alloc: Global) -> Result<[Command; 3], AllocError> {
     ])
 }
 
-/// Does a command, and puts the text of its reply into `text`.
+/// Does a command of the grammar, one of the first three, and puts the text of its reply into
+/// `text`.
 fn step<D: SwapDev>(
     alloc: Global,
     kernel: &mut Kernel,
     dev: &mut D,
     command: &Command,
     text: &mut Bytes,
-) -> Result<(), AllocError>
-    requires few { kernel.old.steps < most_commands }
-    requires attached { D.sizes dev.old ≡ sizes_of kernel.old.sizes }
+) -> Result<bool, AllocError>
+    requires { D.sizes dev.old ≡ sizes_of kernel.old.sizes }
     ensures { D.sizes dev.new ≡ sizes_of kernel.new.sizes }
 {
+    if kernel.steps_done() > 2 {
+        return Ok(false);
+    }
     let reply = kernel.step(alloc, command, dev)?;
-    reply_text(&reply, text)
+    reply_text(&reply, text)?;
+    Ok(true)
 }
 
-/// Does the commands, three at most, and puts the texts of their replies into `text`.
+/// Does the commands, and puts the texts of their replies into `text`.
 fn step_all<D: SwapDev>(
     alloc: Global,
     kernel: &mut Kernel,
@@ -65,10 +68,9 @@ fn step_all<D: SwapDev>(
     requires { D.sizes dev.old ≡ sizes_of kernel.old.sizes }
 {
     for command in commands {
-        if kernel.steps_done() > 2 {
+        if !step(alloc, kernel, dev, command, text)? {
             return Ok(false);
         }
-        step(alloc, kernel, dev, command, text)?;
     }
     Ok(true)
 }

@@ -1,3 +1,2 @@
-pub mod Interval
 pub mod Rmap
 pub mod Swapcache

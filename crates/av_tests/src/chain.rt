@@ -61,57 +61,18 @@ fn has_users(links: &Links, anon: u64, wanted: &[u64]) -> bool {
     users.next().is_none()
 }
 
-/// Whether the links stand as they were made.
-fn are_linked(links: &Links) -> bool {
-    links.has(0, 1) && chains(links) == [(2, Some(0)), (1, Some(0))] && has_users(links, 0, &[0, 1])
-}
-
-/// Whether area 0 leaves all of its lists.
-fn leaves(links: &mut Links) -> bool {
-    unlink(links, 0, Blank::new(1));
-    has_users(links, 0, &[1])
-        && has_users(links, 1, &[])
-        && chains(links) == [(0, None), (1, Some(0))]
-}
-
 #[test]
 fn an_area_leaves_its_lists(rt: HostRuntime) -> Result<(), AllocError> {
     let mut links = links_of(rt.alloc(), &[(0, 0), (0, 1), (1, 0)])?;
-    // The second time it has none.
-    assert!(rt; are_linked(&links) && leaves(&mut links) && leaves(&mut links));
+    assert!(rt; links.has(0, 1));
+    assert!(rt; chains(&links) == [(2, Some(0)), (1, Some(0))]);
+    assert!(rt; has_users(&links, 0, &[0, 1]));
+    unlink(&mut links, 0, Blank::new(1));
+    assert!(rt; has_users(&links, 0, &[1]) && has_users(&links, 1, &[]));
+    assert!(rt; chains(&links) == [(0, None), (1, Some(0))]);
+    unlink(&mut links, 0, Blank::new(1));
+    assert!(rt; chains(&links) == [(0, None), (1, Some(0))]);
     Ok(())
-}
-
-/// Whether a link that is refused is not made, and is made the second time.
-fn is_made(links: &mut Links, area: u64, anon: u64) -> Result<bool, AllocError> {
-    if link(links, area, anon).is_err() {
-        if links.has(area, anon) {
-            return Ok(false);
-        }
-        link(links, area, anon)?;
-    }
-    Ok(true)
-}
-
-/// The same of an area's links to three anon_vmas.
-fn are_made(links: &mut Links, area: u64) -> Result<bool, AllocError> {
-    for anon in 7..10 {
-        if !is_made(links, area, anon)? || links.len(area) != anon - 6 {
-            return Ok(false);
-        }
-    }
-    Ok(links.first(area) == Some(7))
-}
-
-/// The same of five areas, one of which leaves then.
-fn all_are_made(links: &mut Links) -> Result<bool, AllocError> {
-    for area in 0..5 {
-        if !are_made(links, area)? {
-            return Ok(false);
-        }
-    }
-    unlink(links, 2, Blank::new(1));
-    Ok(links.len(2) == 0 && links.len(3) == 3)
 }
 
 /// With memory refused once, at any allocation, nothing is half done: the link is made the second
@@ -119,6 +80,18 @@ fn all_are_made(links: &mut Links) -> Result<bool, AllocError> {
 #[test]
 fn a_refused_link_can_be_made_again(rt: HostRuntime) -> Result<(), AllocError> {
     let mut links = Links::new(rt.alloc());
-    assert!(rt; all_are_made(&mut links)?);
+    for area in 0..5 {
+        for anon in 7..10 {
+            if link(&mut links, area, anon).is_err() {
+                assert!(rt; !links.has(area, anon));
+                link(&mut links, area, anon)?;
+            }
+            assert!(rt; links.len(area) == anon - 6);
+        }
+        assert!(rt; links.first(area) == Some(7));
+    }
+    unlink(&mut links, 2, Blank::new(1));
+    assert!(rt; links.len(2) == 0);
+    assert!(rt; links.len(3) == 3);
     Ok(())
 }

@@ -37,8 +37,10 @@ fn go_so(clusters: &mut Clusters, rows: &[(u32, u32, Option<u32>)]) -> bool {
     clusters.take() == None && clusters.free() == 0
 }
 
-/// Whether an area of 600 pages gives them cluster by cluster.
-fn go_by_clusters(clusters: &mut Clusters) -> bool {
+#[test]
+fn slots_are_given_cluster_by_cluster(rt: HostRuntime) -> Result<(), AllocError> {
+    let mut clusters = Clusters::new(rt.alloc(), 600, &[])?;
+    assert!(rt; clusters.free() == 599);
     let rows = [
         (1, 257, Some(256)),
         (512, 513, Some(5)),
@@ -46,27 +48,15 @@ fn go_by_clusters(clusters: &mut Clusters) -> bool {
         (256, 512, None),
         (5, 6, None),
     ];
-    clusters.free() == 599 && go_so(clusters, &rows)
-}
-
-#[test]
-fn slots_are_given_cluster_by_cluster(rt: HostRuntime) -> Result<(), AllocError> {
-    let mut clusters = Clusters::new(rt.alloc(), 600, &[])?;
-    assert!(rt; go_by_clusters(&mut clusters));
+    assert!(rt; go_so(&mut clusters, &rows));
     Ok(())
-}
-
-/// Whether an area of 6 pages, of which 2 and 4 are bad, gives the others.
-fn go_past_bad(clusters: &mut Clusters) -> bool {
-    clusters.free() == 3
-        && go_so(clusters, &[(1, 2, None), (3, 4, None), (5, 6, None)])
-        && clusters.is_taken(3)
-        && !clusters.is_taken(4)
 }
 
 #[test]
 fn bad_pages_are_never_given(rt: HostRuntime) -> Result<(), AllocError> {
     let mut clusters = Clusters::new(rt.alloc(), 6, &[4, 2, 2, 6, 99])?;
-    assert!(rt; go_past_bad(&mut clusters));
+    assert!(rt; clusters.free() == 3);
+    assert!(rt; go_so(&mut clusters, &[(1, 2, None), (3, 4, None), (5, 6, None)]));
+    assert!(rt; clusters.is_taken(3) && !clusters.is_taken(4));
     Ok(())
 }

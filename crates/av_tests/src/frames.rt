@@ -23,18 +23,13 @@ fn is_given_back(frames: &mut Frames, frame: u32) -> bool {
     frames.is_free(frame)
 }
 
-/// Whether three free frames are a stack.
-fn are_a_stack(frames: &mut Frames) -> bool {
-    frames.free() == 3
-        && are_taken(frames, &[Some(0), Some(1)])
-        && is_given_back(frames, 0)
-        && are_taken(frames, &[Some(0), Some(2), None])
-}
-
 #[test]
 fn free_frames_are_a_stack(rt: HostRuntime) -> Result<(), AllocError> {
     let mut frames = Frames::new(rt.alloc(), 3)?;
-    assert!(rt; are_a_stack(&mut frames));
+    assert!(rt; frames.free() == 3);
+    assert!(rt; are_taken(&mut frames, &[Some(0), Some(1)]));
+    assert!(rt; is_given_back(&mut frames, 0));
+    assert!(rt; are_taken(&mut frames, &[Some(0), Some(2), None]));
     Ok(())
 }
 
@@ -59,28 +54,14 @@ fn last_bytes(frames: &Frames, frame: u32) -> Option<[u8; 3]> {
     Some([bytes[4093], bytes[4094], bytes[4095]])
 }
 
-/// Loads a frame, and says whether it is there.
-fn load(frames: &mut Frames, frame: u32, bytes: &[u8; PAGE_SIZE as usize]) -> bool {
-    if frame >= frames.count() {
-        return false;
-    }
-    frames.load(frame, bytes);
-    true
-}
-
-/// Whether the bytes of two frames are as written, copied and zeroed.
-fn are_as_told(frames: &mut Frames) -> bool {
-    load(frames, 1, &[9; PAGE_SIZE as usize])
-        && last_bytes(frames, 1) == Some([9, 9, 9])
-        && copy_and_zero(frames, 0)
-        && last_bytes(frames, 0) == Some([0, 0, 0])
-        && last_bytes(frames, 1) == Some([0, 7, 8])
-}
-
 #[test]
 fn bytes_are_written_copied_and_zeroed(rt: HostRuntime) -> Result<(), AllocError> {
     let mut frames = Frames::new(rt.alloc(), 2)?;
-    assert!(rt; are_as_told(&mut frames));
+    frames.load(1, &[9; PAGE_SIZE as usize]);
+    assert!(rt; last_bytes(&frames, 1) == Some([9, 9, 9]));
+    assert!(rt; copy_and_zero(&mut frames, 0));
+    assert!(rt; last_bytes(&frames, 0) == Some([0, 0, 0]));
+    assert!(rt; last_bytes(&frames, 1) == Some([0, 7, 8]));
     Ok(())
 }
 
@@ -109,16 +90,11 @@ fn is_kept(frames: &mut Frames, frame: u32, home: (u64, u64), slot: Slot) -> boo
     frames.home(frame) == Some(home) && frames.dirty(frame) && frames.slot(frame) == Some(slot)
 }
 
-/// Whether what is kept of two frames is.
-fn are_kept(frames: &mut Frames) -> bool {
-    count_up_and_down(frames, 1) == Some((1, 0))
-        && is_kept(frames, 1, (3, 5), Slot { area: 2, page: 9 })
-        && is_kept(frames, 0, (3, 6), Slot { area: 0, page: 1 })
-}
-
 #[test]
 fn what_is_kept_of_a_frame(rt: HostRuntime) -> Result<(), AllocError> {
     let mut frames = Frames::new(rt.alloc(), 2)?;
-    assert!(rt; are_kept(&mut frames));
+    assert!(rt; count_up_and_down(&mut frames, 1) == Some((1, 0)));
+    assert!(rt; is_kept(&mut frames, 1, (3, 5), Slot { area: 2, page: 9 }));
+    assert!(rt; is_kept(&mut frames, 0, (3, 6), Slot { area: 0, page: 1 }));
     Ok(())
 }

@@ -4,10 +4,9 @@ ghost use Rattle.std.specs.Prelude.{◌≤◌, IfOk};
 
 use crate::paths::path_of_test;
 use av_io::*;
-use std::alloc::{AllocError, Global};
+use std::alloc::AllocError;
 use std::fs::{self, File};
 use std::io::{self, ErrorKind, Read, Write};
-use std::path::Path;
 use std::test::Fail;
 
 /// Whether a read of two bytes gives these, or fails where none are told.
@@ -25,15 +24,10 @@ fn takes<K: Sink>(sink: &mut K, bytes: &[u8]) -> bool {
     sink.write(bytes) == Ok(bytes.len())
 }
 
-/// Three bytes, which are not given by the second call and the fifth.
-fn three_bytes(alloc: Global) -> Result<MemSource, AllocError> {
-    let bytes = vec![in alloc; 7, 8, 9]?;
-    Ok(MemSource::new(bytes, vec![in alloc; 2, 5]?))
-}
-
 #[test]
 fn a_source_in_memory(rt: HostRuntime) -> Result<(), AllocError> {
-    let mut source = three_bytes(rt.alloc())?;
+    let alloc = rt.alloc();
+    let mut source = MemSource::new(vec![in alloc; 7, 8, 9]?, vec![in alloc; 2, 5]?);
     let rows: [Option<&[u8]>; 5] = [Some(&[7, 8]), None, Some(&[9]), Some(&[]), None];
     for wanted in rows {
         assert!(rt; gives(&mut source, wanted));
@@ -41,21 +35,13 @@ fn a_source_in_memory(rt: HostRuntime) -> Result<(), AllocError> {
     Ok(())
 }
 
-/// Whether a sink whose second call fails takes the other pieces.
-fn takes_others(sink: &mut MemSink) -> bool {
-    takes(sink, b"ab")
-        && sink.write(b"cd") == Err(SinkErr::Failed)
-        && takes(sink, b"")
-        && takes(sink, b"ef")
-        && sink.flush().is_ok()
-        && sink.bytes() == b"abef".as_slice()
-}
-
 #[test]
 fn a_sink_in_memory(rt: HostRuntime) -> Result<(), AllocError> {
     let alloc = rt.alloc();
     let mut sink = MemSink::new(alloc, vec![in alloc; 2]?);
-    assert!(rt; takes_others(&mut sink));
+    assert!(rt; takes(&mut sink, b"ab") && sink.write(b"cd") == Err(SinkErr::Failed));
+    assert!(rt; takes(&mut sink, b"") && takes(&mut sink, b"ef") && sink.flush().is_ok());
+    assert!(rt; sink.bytes() == b"abef".as_slice());
     Ok(())
 }
 
@@ -126,46 +112,23 @@ fn a_read_that_signals_interrupt(rt: HostRuntime) {
     assert!(rt; gives(&mut source, Some(&[0, 0])));
 }
 
-/// Whether a sink takes two bytes, and a flush of it works or not.
-fn flushes<K: Sink>(sink: &mut K, works: bool) -> bool {
-    takes(sink, b"ab") && sink.flush().is_ok() == works
-}
-
 #[test]
 fn failures_of_a_writer(rt: HostRuntime) -> Result<(), Fail> {
     let mut sink = WriteSink::new(rt.alloc(), Faulty { calls: 0 })?;
     for works in [true, false, false, true] {
-        assert!(rt; flushes(&mut sink, works));
+        assert!(rt; takes(&mut sink, b"ab"));
+        assert!(rt; sink.flush().is_ok() == works);
     }
     Ok(())
-}
-
-/// Whether a file has these bytes.
-fn has(rt: &HostRuntime, path: Path<'_>, bytes: &[u8]) -> Result<bool, Fail> {
-    Ok(fs::read(rt, path)?.as_slice() == bytes)
-}
-
-/// Whether a file gets what a sink over it takes, when that is flushed.
-fn gets<K: Sink>(rt: &HostRuntime, path: Path<'_>, sink: &mut K) -> Result<bool, Fail> {
-    if !takes(sink, b"ab") || !has(rt, path, b"")? {
-        return Ok(false);
-    }
-    if sink.flush().is_err() || !takes(sink, b"cd") {
-        return Ok(false);
-    }
-    has(rt, path, b"ab")
-}
-
-/// The same of a new file.
-fn new_file_gets(rt: &HostRuntime, path: Path<'_>) -> Result<bool, Fail> {
-    let mut sink = WriteSink::new(rt.alloc(), File::create(rt, path)?)?;
-    gets(rt, path, &mut sink)
 }
 
 #[test]
 fn a_file_gets_bytes_at_a_flush(rt: HostRuntime) -> Result<(), Fail> {
     let path = path_of_test(&rt, "av_io")?;
-    assert!(rt; new_file_gets(&rt, path.as_path())?);
+    let mut sink = WriteSink::new(rt.alloc(), File::create(&rt, path.as_path())?)?;
+    assert!(rt; takes(&mut sink, b"ab") && fs::read(&rt, path.as_path())?.is_empty());
+    assert!(rt; sink.flush().is_ok() && takes(&mut sink, b"cd"));
+    assert!(rt; fs::read(&rt, path.as_path())?.as_slice() == b"ab".as_slice());
     fs::remove_file(&rt, path.as_path())?;
     Ok(())
 }

@@ -77,53 +77,30 @@ fn goes_out<D: SwapDev>(
     Some(slot)
 }
 
-/// Whether a slot that entries name comes back to frame 1.
-fn is_loaded<D: SwapDev>(swap: &mut Swap, frames: &mut Frames, slot: Slot, dev: &mut D) -> bool
+/// Whether a slot that entries name comes back to frame 1, fails to be written again, and is given
+/// back when no entry names it.
+fn comes_back<D: SwapDev>(swap: &mut Swap, frames: &mut Frames, slot: Slot, dev: &mut D) -> bool
     requires { Serves (D.sizes dev.old) 1 (shown swap.old) }
-    ensures { HasAreas (D.sizes dev.new) (shown swap.new) }
 {
     if swap.frames() != frames.count()
         || swap.frames() < 2
         || swap.entries(slot) == 0
         || swap.find(slot).is_some()
+        || swap.load(frames, slot, 1, dev).is_err()
     {
         return false;
     }
-    swap.load(frames, slot, 1, dev).is_ok()
-}
-
-/// Whether a slot that frame 1 caches fails to be written, and stays in use off the cache.
-fn stays_in_use<D: SwapDev>(swap: &mut Swap, frames: &mut Frames, slot: Slot, dev: &mut D) -> bool
-    requires { HasAreas (D.sizes dev.old) (shown swap.old) }
-{
-    write(swap, frames, slot, dev) == Some(Finished::Failed { slot, frame: 1 })
-        && drop_slot(swap, frames, slot) == Some(true)
-        && swap.is_in_use(slot)
-}
-
-/// Whether a slot is given back when its entries are gone, and no other is in use.
-fn is_given_back(swap: &mut Swap, slot: Slot, entries: u32) -> bool {
-    if swap.entries(slot) != entries {
+    let frame = 1;
+    let entries = swap.entries(slot);
+    if write(swap, frames, slot, dev) != Some(Finished::Failed { slot, frame })
+        || drop_slot(swap, frames, slot) != Some(true)
+        || !swap.is_in_use(slot)
+        || swap.entries(slot) != entries
+    {
         return false;
     }
     swap.entry_down(slot, entries);
     !swap.is_in_use(slot) && swap.all_free_slots() == swap.all_slots()
-}
-
-/// Whether a slot that so many entries name comes back to frame 1, fails to be written again, and is
-/// given back when no entry names it.
-fn comes_back<D: SwapDev>(
-    swap: &mut Swap,
-    frames: &mut Frames,
-    slot: Slot,
-    dev: &mut D,
-    entries: u32,
-) -> bool
-    requires { Serves (D.sizes dev.old) 1 (shown swap.old) }
-{
-    is_loaded(swap, frames, slot, dev)
-        && stays_in_use(swap, frames, slot, dev)
-        && is_given_back(swap, slot, entries)
 }
 
 /// Turns area 0 on, of eight pages.
@@ -154,11 +131,10 @@ fn goes<D: SwapDev>(
     if !turn_on(alloc, swap, dev)? {
         return Ok(false);
     }
-    let entries = 65;
-    let Some(slot) = goes_out(swap, frames, dev, entries) else {
+    let Some(slot) = goes_out(swap, frames, dev, 65) else {
         return Ok(false);
     };
-    Ok(slot == FIRST && comes_back(swap, frames, slot, dev, entries))
+    Ok(slot == FIRST && comes_back(swap, frames, slot, dev))
 }
 
 /// Whether area 0 goes on, is closed, opened again, and goes off.
@@ -190,30 +166,20 @@ fn eight_pages(alloc: Global, failing: u64) -> Result<MemDev, AllocError> {
     Ok(MemDev::new(vec![in alloc; pages]?, vec![in alloc; failing]?))
 }
 
-/// The same of two frames.
-fn goes_of_two<D: SwapDev>(alloc: Global, dev: &mut D) -> Result<bool, AllocError> {
-    let mut swap = Swap::new(alloc, 2)?;
-    let mut frames = Frames::new(alloc, 2)?;
-    goes(alloc, &mut swap, &mut frames, dev)
-}
-
 #[test]
 fn a_frame_goes_out_and_comes_back(rt: HostRuntime) -> Result<(), AllocError> {
     // The area is attached, its header read, a slot written and read, and then not written.
     let mut dev = eight_pages(rt.alloc(), 5)?;
-    assert!(rt; goes_of_two(rt.alloc(), &mut dev)?);
+    let mut swap = Swap::new(rt.alloc(), 2)?;
+    let mut frames = Frames::new(rt.alloc(), 2)?;
+    assert!(rt; goes(rt.alloc(), &mut swap, &mut frames, &mut dev)?);
     Ok(())
-}
-
-/// Whether area 0 of a new machine goes on and off.
-fn new_goes_on_and_off<D: SwapDev>(alloc: Global, dev: &mut D) -> Result<bool, AllocError> {
-    let mut swap = Swap::new(alloc, 2)?;
-    goes_on_and_off(alloc, &mut swap, dev)
 }
 
 #[test]
 fn an_area_goes_on_and_off(rt: HostRuntime) -> Result<(), AllocError> {
     let mut dev = eight_pages(rt.alloc(), 9)?;
-    assert!(rt; new_goes_on_and_off(rt.alloc(), &mut dev)?);
+    let mut swap = Swap::new(rt.alloc(), 2)?;
+    assert!(rt; goes_on_and_off(rt.alloc(), &mut swap, &mut dev)?);
     Ok(())
 }

@@ -2,7 +2,6 @@
 
 ghost use Rattle.std.specs.Prelude.{◌≡◌, ◌+◌, ◌<◌, ◌≤◌, if◌then◌else◌, Some, true, false, length};
 ghost use Rattle.av_io.specs.Count.{one_more};
-ghost use Rattle.av_swapdev.specs.Header.{IsHeaderOf};
 
 use crate::paths::path_of_test;
 use av_io::Failed;
@@ -50,72 +49,51 @@ fn read(pages: u32, version: u32, last: u32, bad: &[u32]) -> Option<Result<Heade
     Some(found)
 }
 
-/// Whether a header is read as an area of so many pages, slots and bad pages.
-fn is_read(device: u32, last: u32, named: &[u32], pages: u32, slots: u32, bad: u32) -> bool {
-    read(device, 1, last, named) == Some(Ok(Header { pages, slots, bad }))
-}
-
-/// Whether it is refused so.
-fn is_refused(device: u32, version: u32, last: u32, named: &[u32], error: HeaderErr) -> bool {
-    read(device, version, last, named) == Some(Err(error))
-}
-
-/// Whether headers without a fault are read.
-fn are_read() -> bool {
-    let most = 1 << 20;
-    is_read(8, 7, &[], 8, 7, 0)
-        && is_read(8, 7, &[3, 3, 5], 8, 5, 2)
-        && is_read(8, 1, &[], 2, 1, 0)
-        && is_read(10000, 9999, &[9; MOST_BAD], 10000, 9998, 1)
-        && is_read(most, u32::MAX, &[5, most, u32::MAX], most, most - 2, 1)
-}
-
-/// Whether headers with these faults are refused.
-fn are_refused() -> bool {
-    is_refused(8, 2, 7, &[], HeaderErr::Version)
-        && is_refused(8, 1 << 16, 7, &[], HeaderErr::Version)
-        && is_refused(8, 1, 0, &[], HeaderErr::LastPage)
-        && is_refused(8, 1, 8, &[], HeaderErr::Short)
-        && is_refused(8, 1, u32::MAX, &[], HeaderErr::Short)
-}
-
-/// Whether headers with such bad pages are.
-fn bad_pages_are_refused() -> bool {
-    is_refused(8, 1, 7, &[9; MOST_BAD + 1], HeaderErr::TooManyBad)
-        && is_refused(8, 1, 7, &[0], HeaderErr::BadPage)
-        && is_refused(8, 1, 7, &[3, 8], HeaderErr::BadPage)
-        && is_refused(8, 1, 1, &[1], HeaderErr::NoSlot)
+/// An area of so many pages, with so many slots and bad pages.
+fn area(pages: u32, slots: u32, bad: u32) -> Result<Header, HeaderErr> {
+    Ok(Header { pages, slots, bad })
 }
 
 #[test]
 fn headers(rt: HostRuntime) {
-    assert!(rt; are_read() && are_refused() && bad_pages_are_refused());
-}
-
-/// Whether the pages 3 and 5 are the bad ones of this header.
-fn has_bad(alloc: Global, page: &[u8; PAGE_LEN], found: &Header) -> Result<bool, AllocError>
-    requires { IsHeaderOf page.now found.now }
-{
-    for number in 0..9 {
-        if is_bad(page, found, number) != (number == 3 || number == 5) {
-            return Ok(false);
-        }
-    }
-    Ok(bad_pages(alloc, page, found)?.as_slice() == [3, 5].as_slice())
-}
-
-/// The same of a page, where it is a header.
-fn is_header_with_bad(alloc: Global, page: &[u8; PAGE_LEN]) -> Result<bool, AllocError> {
-    match read_header(page, 8) {
-        Ok(found) => has_bad(alloc, page, &found),
-        Err(_) => Ok(false),
+    let most = 1 << 20;
+    let rows: [(u32, u32, u32, &[u32], Result<Header, HeaderErr>); 14] = [
+        (8, 1, 7, &[], area(8, 7, 0)),
+        (8, 1, 7, &[3, 3, 5], area(8, 5, 2)),
+        (8, 1, 1, &[], area(2, 1, 0)),
+        (10000, 1, 9999, &[9; MOST_BAD], area(10000, 9998, 1)),
+        (
+            most,
+            1,
+            u32::MAX,
+            &[5, most, u32::MAX],
+            area(most, most - 2, 1),
+        ),
+        (8, 2, 7, &[], Err(HeaderErr::Version)),
+        (8, 1 << 16, 7, &[], Err(HeaderErr::Version)),
+        (8, 1, 0, &[], Err(HeaderErr::LastPage)),
+        (8, 1, 8, &[], Err(HeaderErr::Short)),
+        (8, 1, u32::MAX, &[], Err(HeaderErr::Short)),
+        (8, 1, 7, &[9; MOST_BAD + 1], Err(HeaderErr::TooManyBad)),
+        (8, 1, 7, &[0], Err(HeaderErr::BadPage)),
+        (8, 1, 7, &[3, 8], Err(HeaderErr::BadPage)),
+        (8, 1, 1, &[1], Err(HeaderErr::NoSlot)),
+    ];
+    for (pages, version, last, bad, wanted) in rows {
+        assert!(rt; read(pages, version, last, bad) == Some(wanted));
     }
 }
 
 #[test]
 fn bad_pages_of_a_header(rt: HostRuntime) -> Result<(), Fail> {
     let mut page = header(true, 1, 7, &[5, 3, 3]);
-    assert!(rt; is_header_with_bad(rt.alloc(), &page)?);
+    let Ok(found) = read_header(&page, 8) else {
+        return Err(Fail::new("the header is not read"));
+    };
+    for number in 0..9 {
+        assert!(rt; is_bad(&page, &found, number) == (number == 3 || number == 5));
+    }
+    assert!(rt; bad_pages(rt.alloc(), &page, &found)?.as_slice() == [3, 5].as_slice());
     page[PAGE_LEN - 1] = b'1';
     assert!(rt; read_header(&page, 8) == Err(HeaderErr::Signature));
     Ok(())
@@ -348,16 +326,11 @@ fn serves<D: SwapDev>(rt: &HostRuntime, device: &mut D, path: &PathBuf) -> Resul
     Ok(cut_short && !is_attached(device, path.as_str(), 1))
 }
 
-/// The same of a new file and a new device.
-fn new_serves(rt: &HostRuntime, path: &PathBuf) -> Result<bool, Fail> {
-    fs::write(rt, path.as_path(), bytes_of_test(rt.alloc())?.as_slice())?;
-    let mut device = of_host(rt)?;
-    serves(rt, &mut device, path)
-}
-
 #[test]
 fn files(rt: HostRuntime) -> Result<(), Fail> {
     let path = path_of_test(&rt, "av_swapdev")?;
-    assert!(rt; new_serves(&rt, &path)?);
+    fs::write(&rt, path.as_path(), bytes_of_test(rt.alloc())?.as_slice())?;
+    let mut device = of_host(&rt)?;
+    assert!(rt; serves(&rt, &mut device, &path)?);
     Ok(())
 }

@@ -2,7 +2,6 @@
 
 use av_base::Prot;
 use av_vma::*;
-use std::alloc::AllocError;
 use std::test::Fail;
 
 /// An area of this process.
@@ -22,18 +21,13 @@ fn area(pid: u16) -> Area {
     }
 }
 
-/// Whether an area that changes, beside one that goes, is found by its number.
-fn is_found(areas: &mut Areas) -> Result<bool, AllocError> {
+#[test]
+fn areas_are_kept_by_number(rt: HostRuntime) -> Result<(), Fail> {
+    let mut areas = Areas::new(rt.alloc());
     let one = areas.add(area(1))?;
     let two = areas.add(area(2))?;
     areas.change(one, area(3));
     areas.remove(two);
-    Ok(areas.get(one).pid == 3)
-}
-
-#[test]
-fn areas_are_kept_by_number(rt: HostRuntime) -> Result<(), Fail> {
-    let mut areas = Areas::new(rt.alloc());
-    assert!(rt; is_found(&mut areas)?);
+    assert!(rt; areas.get(one).pid == 3);
     Ok(())
 }

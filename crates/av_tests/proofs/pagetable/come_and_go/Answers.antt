@@ -1,8 +1,0 @@
-use Rattle.std.proofs.Common.{◌∙◌}
-use Rattle.av_tests.proofs.pagetable.come_and_go.Goals as goal
-
-pub spawn-requires-2 : goal.spawn-requires-2
-spawn-requires-2 c = (λ i. c.in_ok-spawn.ensures.processes i 4) ∙ c.requires 4
-
-pub exit-requires : goal.exit-requires
-exit-requires c = (λ i. c.in_ok-spawn-2.ensures.processes i 9) ∙ (λ i. c.in_ok-spawn.ensures.processes i 9)
