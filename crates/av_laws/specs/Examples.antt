@@ -12,12 +12,13 @@
 --     read_together
 --   when a frame is shared (`is_shared`): copied, copied_from_slot
 --   what comes in (`ComesIn`): loaded, copied_from_slot, mapped_again
---   when a slot is dropped (`is_unneeded`): loaded, dropped, mapped_again, named_by_other
+--   when a slot is dropped (`is_unneeded`): loaded, kept_in_swap, dropped, mapped_again,
+--     named_by_other
 --   where an access stops (`Accesses`, `stop_answer`, `bytes_before`): denied, read_past, lost,
 --     starved_behind
 --   how an access ends that is served whole (`read_answer`, `page_events`): read_whole,
 --     written_whole
---   why it stops (`RunsOut`, `out_of`): starved, no_copy
+--   why it stops (`RunsOut`, `out_of`): starved, no_copy, starved_behind_pass
 --   the memories after a command (`next`, `after_write`, `first_bytes`): stored, apart,
 --     stored_in_part, mapped_over, unmapped, forked; (`lives`) spawned, ended, made_by_none
 --   a protection changed (`with_prot_to_hole`, `pages_of`): up_to_hole, wrapped, both_protected,
@@ -266,6 +267,16 @@ two_written = state_of ((1, two_bytes 5 7) ∷ [])
       inactive = 1 ∷ 0 ∷ [];
     })
     (only_frames (2 ∷ 3 ∷ []))
+
+-- only the lower one was, in frame 0, and a swap area is on
+abbrev pub one_written : State
+one_written = record two_written {
+  ledger = record first_ledger {
+    entries = ((1, 0x7fffffffd), InFrame 0 true) ∷ [];
+    inactive = 0 ∷ [];
+    on = one_area 7 0;
+  };
+}
 
 -- the page of process 1 is at slot 1 of a swap area with so many slots, and in no frame
 abbrev pub paged_out : ℕ → List ℕ → State

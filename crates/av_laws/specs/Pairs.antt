@@ -2,7 +2,7 @@
 -- writes in flight, a bad page beside good ones. A definition that looks at the first one alone, or
 -- at all of them, fails here. Which example would fail:
 --   a fork and a move (`after_fork`, `after_move`): forks_and_moves
---   the ledger after an event (`after`): two_of_each, copied_and_gone, two_areas
+--   the ledger after an event (`after`): two_of_each, tail_stays, copied_and_gone, two_areas
 --   what a bad page is (`is_usable`, `may_give`): the pass of `bad_pages_are_not_given`
 --   failures (`causes`): bus_and_fails, eio, no_failure, cached_when_out
 --   what a load makes unclaimed (`without_claims`): its_page, page_of_other, its_other_page,
@@ -144,6 +144,34 @@ two_of_each =
       Noted (Mapped 2 0x10000 5),
       three_with (InSlot (slot 1)) (InFrame 5 false) (both_cached true false) (slot 2 ∷ []) []
           (5 ∷ 6 ∷ []),
+    ) ∷ []
+
+-- frame 5 is at the tail, and a write of it begins twice. A note of it leaves it where it is, but
+-- for the end of its write; and a slot that was written since a write of it began is stale after
+-- that as well
+abbrev pub tail_stays : List (Event × Ledger)
+tail_stays =
+    (Noted (Put 5 (slot 1)), in_frame false false (both_cached true false) [] (6 ∷ 5 ∷ []))
+    ∷ (Noted (Unmapped 5), at_slot (both_cached true false) [] [] (6 ∷ 5 ∷ []))
+    ∷ (Noted (Started (slot 1)), at_slot (both_cached false false) (slot 1 ∷ []) [] (6 ∷ 5 ∷ []))
+    ∷ (Noted (Failed (slot 1)), at_slot (both_cached true false) [] [] (6 ∷ 5 ∷ []))
+    ∷ (
+      Noted (Mapped 2 0x10000 5),
+      three_with (InSlot (slot 1)) (InFrame 5 false) (both_cached true false) [] [] (6 ∷ 5 ∷ []),
+    )
+    ∷ (
+      Noted (Started (slot 1)),
+      three_with (InSlot (slot 1)) (InFrame 5 false) (both_cached false false) (slot 1 ∷ []) []
+          (6 ∷ 5 ∷ []),
+    )
+    ∷ (
+      Used true (2, 0x10),
+      three_with (InSlot (slot 1)) (InFrame 5 true) (both_cached true false) (slot 1 ∷ []) []
+          (6 ∷ 5 ∷ []),
+    )
+    ∷ (
+      Noted (Written (slot 1)),
+      three_with (InSlot (slot 1)) (InFrame 5 true) (both_cached true false) [] [] (6 ∷ 5 ∷ []),
     ) ∷ []
 
 -- no entry, and these areas are on

@@ -1,6 +1,6 @@
 -- Worked steps of swap: single commands that meet several frames, slots or areas.
 -- Which step would fail if a definition were wrong:
---   why a frame is kept (`cause_of`, `is_referenced`): four_reclaimed
+--   why a frame is kept (`cause_of`, `is_referenced`): four_reclaimed, seen_kept
 --   what those before a frame left (`Outcomes`): four_reclaimed
 --   which frames, and in which order (`from_tail`): two_reclaimed, two_aged
 --   which writes end, and in which order (`CompletesFirst`): first_completed, both_completed,
@@ -18,7 +18,7 @@
 --     last_slot, off_area
 --   the count of a slot that is cached, and its frame (`count_answer`): cached_counted
 --   what `slot` tells where headers aren't told (`MayBeNoSlot`): used_counted, unused_bad,
---     unused_outside, used_bad, used_outside
+--     unused_outside, used_bad, used_outside; (`pages_used`) past_device
 --   what `swapon` tests, and a header (`header_answer`): no_device, no_pages, no_device_unread,
 --     no_pages_unread, unread_header, wrong_header, header
 --   which area is on then, and whose header it is (`turn_on_events`, `TurnsOn`): second_area
@@ -69,6 +69,13 @@ abbrev pub four_reclaimed : List Note
 four_reclaimed =
     Kept 0 Writeback ∷ Kept 1 Referenced ∷ Put 2 (slot 2) ∷ Unmapped 2 ∷ Started (slot 2)
     ∷ Kept 2 WriteStarted ∷ Kept 3 NoSlot ∷ []
+
+-- the one frame was seen, and no area is on
+abbrev pub seen_without_slot : Ledger
+seen_without_slot = record first_ledger {
+  entries = ((1, 0x10), InFrame 0 true) ∷ [];
+  inactive = 0 ∷ [];
+}
 
 -- three frames are active
 abbrev pub three_active : Ledger

@@ -25,6 +25,10 @@ ghost use Rattle.av_trace.specs.declared.note.Note.TheVariants.{
   Copied,
   Loaded,
   Mapped,
+  Put,
+  Unmapped,
+  Started,
+  Failed,
   Dropped,
 };
 ghost use Rattle.av_trace.specs.declared.row.Row.TheVariants.{Area as AreaRow, Entry, Run};
@@ -72,6 +76,7 @@ ghost use Rattle.av_laws.specs.Examples.{
   in_writeback,
   machine,
   no_access,
+  one_written,
   only_frames,
   orphan,
   paged_out,
@@ -166,8 +171,9 @@ pub fn memories_follow()
 
 /// A page is served with the notes that it needs: the page of zeros for a read, a frame for a
 /// write, a copy where another entry names its frame, or its slot. A slot is dropped at a write,
-/// unless it is in flight or another entry names it. Without a frame the page isn't served, though
-/// it may have come in before: the frame that is to be copied is the pinned one.
+/// unless it is in flight or another entry names it; at a read it stays while swap isn't full.
+/// Without a frame the page isn't served, though it may have come in before: the frame that is to
+/// be copied is the pinned one, and the others are counted behind the pass.
 pub fn pages_are_served()
     ensures zero_page { IsServed (machine 4) at_rest false 1 (Zeroed 1 0x7fffffffe000 ∷ []) None }
     ensures new_page { IsServed (machine 4) at_rest true 1 (New 1 0x7fffffffe000 0 ∷ []) None }
@@ -179,6 +185,8 @@ pub fn pages_are_served()
         (Copied 1 0x7fffffffe000 1 ∷ []) None }
     ensures loaded { IsServed (with_swap 4 8 7) (paged_out 7 []) true 1
         (Loaded (slot 1) 0 ∷ Mapped 1 0x7fffffffe000 0 ∷ Dropped (slot 1) ∷ []) None }
+    ensures kept_in_swap { IsServed (with_swap 4 8 7) (paged_out 7 []) false 1
+        (Loaded (slot 1) 0 ∷ Mapped 1 0x7fffffffe000 0 ∷ []) None }
     ensures copied_from_slot { IsServed (with_swap 4 8 7) slot_shared true 2
         (Loaded (slot 1) 0 ∷ Mapped 2 0x7fffffffe000 0 ∷ Copied 2 0x7fffffffe000 1 ∷ []) None }
     ensures dropped { IsServed (with_swap 4 8 7) in_swap_cache true 1 (Dropped (slot 1) ∷ []) None }
@@ -193,6 +201,9 @@ pub fn pages_are_served()
     ensures no_copy { IsServed (with_swap 1 8 7) slot_shared true 2
         (Loaded (slot 1) 0 ∷ Mapped 2 0x7fffffffe000 0 ∷ [])
         (Some (Starved (record { pinned = 1; noslot = 0; fault = 0 }))) }
+    ensures starved_behind_pass { IsServed (with_swap 1 8 7) one_written true 1
+        (Put 0 (slot 1) ∷ Unmapped 0 ∷ Started (slot 1) ∷ Failed (slot 1) ∷ [])
+        (Some (Starved (record { pinned = 0; noslot = 0; fault = 1 }))) }
 {}
 
 /// An access that is served whole shows its bytes, or is done, and its pages are used behind their

@@ -1,6 +1,6 @@
 //! Worked examples with two of a kind: entries of one frame, cached slots, writes in flight, pages.
 
-ghost use Rattle.std.specs.Prelude.{◌≡◌, [], ◌∷◌, true, Some, None};
+ghost use Rattle.std.specs.Prelude.{◌≡◌, [], ◌∷◌, false, true, Some, None};
 ghost use Rattle.av_trace.specs.declared.reply.Errno.TheVariants.{Eio, Enomem};
 ghost use Rattle.av_trace.specs.declared.note.Note.TheVariants.{Written, Failed};
 ghost use Rattle.av_trace.specs.declared.reply.Answer.TheVariants.{Refused, Bus, Oom};
@@ -24,6 +24,7 @@ ghost use Rattle.av_laws.specs.Pairs.{
   in_frame,
   one_of_each,
   second_cached,
+  tail_stays,
   to_bad_page,
   two_areas,
   two_of_each,
@@ -32,10 +33,12 @@ ghost use Rattle.av_laws.specs.Pairs.{
 };
 
 /// The ledger after each event: a fork and a move of all kinds of entries, notes over two entries
-/// of a frame, two cached slots and two writes in flight, frames that come and go, and two areas.
+/// of a frame, two cached slots and two writes in flight, a frame that stays at the tail, frames
+/// that come and go, and two areas.
 pub fn ledgers_follow()
     ensures forks_and_moves { Leads (with_entries one_of_each) forks_and_moves }
     ensures two_of_each { Leads (in_frame true true second_cached [] (5 ∷ 6 ∷ [])) two_of_each }
+    ensures tail_stays { Leads (in_frame false false second_cached [] (6 ∷ 5 ∷ [])) tail_stays }
     ensures copied_and_gone { Leads first_ledger copied_and_gone }
     ensures two_areas { Leads (with_areas []) two_areas }
 {}

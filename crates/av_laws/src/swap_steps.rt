@@ -9,7 +9,14 @@ ghost use Rattle.av_trace.specs.declared.command.Command.TheVariants.{
   Swapoff,
   Swapon,
 };
-ghost use Rattle.av_trace.specs.declared.note.Note.TheVariants.{Aged, Dropped, Unmapped, Written};
+ghost use Rattle.av_trace.specs.declared.note.Cause.TheVariants.{Referenced};
+ghost use Rattle.av_trace.specs.declared.note.Note.TheVariants.{
+  Aged,
+  Dropped,
+  Kept,
+  Unmapped,
+  Written,
+};
 ghost use Rattle.av_trace.specs.declared.reply.Answer.TheVariants.{
   Done,
   NoFrame,
@@ -28,6 +35,7 @@ ghost use Rattle.av_laws.specs.Examples.{
   MayCome,
   MayNotCome,
   cached_out,
+  machine,
   paged_out,
   reply_with,
   slot,
@@ -54,6 +62,7 @@ ghost use Rattle.av_laws.specs.SwapSteps.{
   other_area_fills,
   page_in,
   page_in_and_drop,
+  seen_without_slot,
   third_bad,
   third_bad_on,
   three_active,
@@ -67,12 +76,15 @@ ghost use Rattle.av_laws.specs.SwapSteps.{
 
 /// Frames are reclaimed and aged from the tail, each by what those before it left. One whose write
 /// is in flight is kept for that, though it was read since; one with two entries is referenced by
-/// the second alone. A clean frame is unmapped and dropped.
+/// the second alone. One that is referenced and has no slot to go to is kept as referenced. A clean
+/// frame is unmapped and dropped.
 pub fn frames_are_reclaimed_from_the_tail()
     ensures four_reclaimed { MayCome (with_swap 4 3 2) [] four_inactive (Reclaim 4)
         (reply_with Done four_reclaimed) }
     ensures two_reclaimed { MayCome (with_swap 4 3 2) [] four_inactive (Reclaim 2)
         (reply_with Done two_kept) }
+    ensures seen_kept { MayCome (machine 1) [] seen_without_slot (Reclaim 1)
+        (reply_with Done (Kept 0 Referenced ∷ [])) }
     ensures clean_reclaimed { MayCome (with_swap 2 8 7) []
         (both_cached false (InFrame 0 false) [] (1 ∷ 0 ∷ []))
         (Reclaim 1)
@@ -127,7 +139,7 @@ pub fn slots_are_emptied_in_turn()
 
 /// `slot` tells a bad page and the count of a slot, and refuses page 0, a page past the header's
 /// and an area that is off. Where headers aren't told, a page may be bad or past the header's, but
-/// not a slot in use.
+/// not a slot in use; and one past the device's pages is refused.
 pub fn slots_are_told()
     ensures bad_page { MayCome third_bad [] third_bad_on (AsksSlot 0 3)
         (reply_with (SlotBad (slot 3)) []) }
@@ -152,6 +164,8 @@ pub fn slots_are_told()
         (reply_with (SlotBad (slot 1)) []) }
     ensures used_outside { MayNotCome untold [] (paged_out 7 []).ledger (AsksSlot 0 1)
         (reply_with (Refused Einval) []) }
+    ensures past_device { MayNotCome untold [] (paged_out 7 []).ledger (AsksSlot 0 8)
+        (reply_with (SlotCount (slot 8) 0 None) []) }
 {}
 
 /// `swapon` refuses an area without a device, or without a page, before anything is read of it.

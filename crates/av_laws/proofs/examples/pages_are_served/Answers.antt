@@ -1,6 +1,6 @@
-use Rattle.std.specs.Prelude.{[], ◌∷◌, refl}
-use Rattle.std.proofs.Common.{arith, inr}
-use Rattle.av_trace.specs.declared.note.Note.TheVariants.{Copied, Loaded, Mapped, New}
+use Rattle.std.specs.Prelude.{[], ◌∷◌, true, refl}
+use Rattle.std.proofs.Common.{arith, inl, inr}
+use Rattle.av_trace.specs.declared.note.Note.TheVariants.{Copied, Failed, Loaded, Mapped, New, Put, Started, Unmapped}
 use Rattle.av_laws.specs.Examples.{slot}
 use Rattle.av_laws.proofs.examples.pages_are_served.Goals as goal
 
@@ -58,6 +58,24 @@ returns-clause-loaded c = (
   },
 )
 
+pub returns-clause-kept_in_swap : goal.returns-clause-kept_in_swap
+returns-clause-kept_in_swap c = (
+  refl,
+  record {
+    coming = Loaded (slot 1) 0 ∷ Mapped 1 0x7fffffffe000 0 ∷ [];
+    making = [];
+    whole = refl;
+    comes_in = (
+      Loaded (slot 1) 0 ∷ [],
+      0,
+      record { sought = []; frame = 0; seeks = refl; in_range = omega arith; free = refl; whole = refl },
+      refl,
+      refl,
+    );
+    made = refl;
+  },
+)
+
 pub returns-clause-copied_from_slot : goal.returns-clause-copied_from_slot
 returns-clause-copied_from_slot c = (
   refl,
@@ -91,5 +109,28 @@ returns-clause-no_copy c = (
       refl,
     );
     finds = record { wants = refl; seeks = ([], [], refl, refl, refl); none = refl; numbers = refl };
+  },
+)
+
+pub returns-clause-starved_behind_pass : goal.returns-clause-starved_behind_pass
+returns-clause-starved_behind_pass c = (
+  refl,
+  record {
+    coming = [];
+    sought = Put 0 (slot 1) ∷ Unmapped 0 ∷ Started (slot 1) ∷ Failed (slot 1) ∷ [];
+    whole = refl;
+    before = inl refl;
+    finds = record {
+      wants = refl;
+      seeks = (
+        [],
+        Put 0 (slot 1) ∷ Unmapped 0 ∷ Started (slot 1) ∷ Failed (slot 1) ∷ [],
+        refl,
+        refl,
+        (slot 1, true, refl, ([], refl, refl)),
+      );
+      none = refl;
+      numbers = refl;
+    };
   },
 )

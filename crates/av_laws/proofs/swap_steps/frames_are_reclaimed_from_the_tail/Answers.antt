@@ -54,6 +54,15 @@ returns-clause-two_reclaimed c = (
   },
 )
 
+pub returns-clause-seen_kept : goal.returns-clause-seen_kept
+returns-clause-seen_kept c = (
+  note_events (Kept 0 Referenced ∷ []),
+  record {
+    answer = (Kept 0 Referenced ∷ [], (Kept 0 Referenced ∷ [], [], refl, refl, refl), refl, refl, refl);
+    notes = refl;
+  },
+)
+
 pub returns-clause-clean_reclaimed : goal.returns-clause-clean_reclaimed
 returns-clause-clean_reclaimed c = (
   note_events (Unmapped 0 ∷ Dropped (slot 1) ∷ []),
