@@ -1,31 +1,40 @@
 -- The numbers of a legal reply are of 64 bits, and its bytes below 256.
+pub mod Wide
+pub mod Notes
+pub mod Counts
 pub mod Anons
 pub mod InRuns
+pub mod AreasOn
+pub mod Device
 pub mod Few
 pub mod OfRuns
 use Rattle.std.specs.List.{AllByRecursion, range_with_len}
-use Rattle.std.specs.Prelude.{MatchBool, MatchOption, sum_by}
-use Rattle.std.proofs.Common.{◌≡◌, inl, inr, ℕ, zero, suc, ◌+◌, ◌-◌, ◌^◌, ◌<◌, ◌≤◌, Bool, true, false, cond, ◌&&◌, List, [], ◌∷◌, ◌++◌, map, take, length, Option, Some, None, is_some, option_map, refl, sym, ap, subst, ◌∙◌, arith, ◌==◌, nat_lt, nat_le, if◌then◌else◌}
+use Rattle.std.specs.Prelude.{IfSome, MatchBool, MatchOption, sum_by}
+use Rattle.std.proofs.Common.{◌≡◌, ◌⊎◌, inl, inr, ℕ, zero, suc, ◌+◌, ◌-◌, ◌^◌, ◌<◌, ◌≤◌, Bool, true, false, cond, not, ◌&&◌, List, [], ◌∷◌, ◌++◌, append-nil, map, take, reverse, length, Option, Some, None, is_some, option_map, refl, sym, ap, subst, ◌∙◌, arith, ◌==◌, nat_lt, nat_le, if◌then◌else◌}
 use Rattle.std.proofs.lemmas.Bool.Decides.{nat_tests}
-use Rattle.av_base.specs.Limits.{top_page}
+use Rattle.std.proofs.lemmas.List.{length-map}
+use Rattle.av_base.specs.Limits.{most_processes, top_page}
 use Rattle.av_base.specs.Page.{address_of, page_of, pages_of, page_size, place_in_page}
+use Rattle.av_base.specs.declared.slot.Slot.{Slot}
 use Rattle.av_vma.specs.Gap.{IsGap}
+use Rattle.av_swapdev.specs.Device.{most_pages}
+use Rattle.av_swapdev.specs.Header.{Layout}
 use Rattle.av_trace.specs.declared.command.Command.{Command}
 use Rattle.av_trace.specs.declared.command.Command.TheVariants.{Spawn, Fork, Exit, Mmap, Mremap, Munmap, Mprotect, Read, Write, Reclaim, Age, Complete, Swapon, Swapoff, Maps, Areas as AsksAreas, Rmap as AsksRmap, Entry as AsksEntry, Slot as AsksSlot, Stat}
 use Rattle.av_trace.specs.declared.note.Note.{Note}
-use Rattle.av_trace.specs.declared.note.Note.TheVariants.{Aged, Copied, Dropped, Failed, Kept, Loaded, Mapped, New, Put, Started, Unmapped, Written, Zeroed}
+use Rattle.av_trace.specs.declared.note.Note.TheVariants.{Aged}
 use Rattle.av_trace.specs.declared.mode.Mode.{Mode}
 use Rattle.av_trace.specs.declared.mode.Mode.TheVariants.{DontUnmap, Fixed as FixedAt, MayMove, Plain}
 use Rattle.av_trace.specs.declared.place.Place.{Place}
 use Rattle.av_trace.specs.declared.place.Place.TheVariants.{Auto, At, Fixed, NoReplace}
 use Rattle.av_trace.specs.declared.reply.Errno.{Errno}
-use Rattle.av_trace.specs.declared.reply.Errno.TheVariants.{Ebusy, Einval, Enomem}
+use Rattle.av_trace.specs.declared.reply.Errno.TheVariants.{Ebusy, Einval, Eio, Enomem}
 use Rattle.av_trace.specs.declared.reply.OutOf.{OutOf}
 use Rattle.av_trace.specs.declared.reply.Reply.{Reply}
 use Rattle.av_trace.specs.declared.row.Row.{Row}
 use Rattle.av_trace.specs.declared.row.Row.TheVariants.{Run, Entry as EntryRow, Area as AreaRow}
 use Rattle.av_trace.specs.declared.reply.Answer.{Answer}
-use Rattle.av_trace.specs.declared.reply.Answer.TheVariants.{AreaList, Done, MapAt, Refused, Oom, Runs, Counted}
+use Rattle.av_trace.specs.declared.reply.Answer.TheVariants.{AreaList, Counted, Done, MapAt, NoFrame, On, Oom, Refused, Runs, SlotBad}
 use Rattle.av_trace.specs.Command.{IsInRange}
 use Rattle.av_trace.specs.Note.{IsNote, IsSlot}
 use Rattle.av_trace.specs.Mode.{IsMode}
@@ -33,38 +42,32 @@ use Rattle.av_text.specs.Number.{IsWide}
 use Rattle.av_trace.specs.Place.{IsPlace}
 use Rattle.av_trace.specs.Reply.{AreCauses, Follow, IfThere, IsAnswer, IsReply}
 use Rattle.av_trace.specs.Row.{IsAreaRow, IsEntry, IsRun}
-use Rattle.av_plain.specs.World.{Page, Process, World, is_mapped, pages, pages_to_hole}
-use Rattle.av_plain.specs.Ledger.{Entry, InFrame, InSlot, Key, Ledger, Setting, SwapArea, Zero, entry, free_frames, free_slots, is_on, map_count, names_frame, names_slot, size_of, slot_entries, walk}
-use Rattle.av_plain.specs.Event.{Event, Forked, after_all, after_notes, note_events, notes_of}
-use Rattle.av_plain.specs.Fork.{inheritance}
 use Rattle.av_plain.specs.Access.{Accesses, End, Stopped, Whole, bytes_before, page_events, pages_of_access, read_answer, stop_answer, write_answer}
-use Rattle.av_plain.specs.Fault.{Denied, Lost, Starved, Stop}
+use Rattle.av_plain.specs.Event.{Event, Forked, after_all, after_notes, note_events, notes_of}
+use Rattle.av_plain.specs.Fault.{Denied, Lost, Starved, Stop, is_allowed, permits, sparing}
+use Rattle.av_plain.specs.Fork.{inheritance}
+use Rattle.av_plain.specs.Ledger.{Entry, InFrame, InSlot, Key, Ledger, Setting, SwapArea, Zero, entry, free_frames, free_slots, is_cached, is_on, is_usable, size_of, slot_count, slot_entries, walk}
 use Rattle.av_plain.specs.Map.{zaps_for_place}
 use Rattle.av_plain.specs.Mremap.{MovesTo, events_to, may_stay}
 use Rattle.av_plain.specs.Place.{Goes, IsMapAt, is_room}
-use Rattle.av_plain.specs.Refusal.{Refuses, is_outside, refusal, tests}
-use Rattle.av_plain.specs.Report.{AreApart, AreLongest, Cover, Range, entry_answer, key_row, prot_in, row_of, run_of, totals, walk_answer, walk_rows}
-use Rattle.av_plain.specs.Sound.{AllSound, IsSound, uses}
+use Rattle.av_plain.specs.Reclaim.{from_tail}
+use Rattle.av_plain.specs.Refusal.{Refuses, no_device_at, refusal, tests}
+use Rattle.av_plain.specs.Report.{AreApart, AreLongest, Cover, MayBeNoSlot, Range, count_answer, entry_answer, key_row, prot_in, row_of, run_of, slot_answer, totals, walk_answer, walk_rows}
+use Rattle.av_plain.specs.Sound.{AllSound}
 use Rattle.av_plain.specs.Step.{Follows, IsLegal}
+use Rattle.av_plain.specs.Swapoff.{Close, Closed, NoRoom, TurnsOff, Unread, close_answer, sparing_area, turn_off_events}
+use Rattle.av_plain.specs.Swapon.{IsByHeader, TurnsOn, header_answer, turn_on_events}
+use Rattle.av_plain.specs.World.{Page, Process, World, is_mapped, pages, pages_to_hole}
 use Rattle.av_plain.specs.Zap.{keys_in, keys_of_process, zaps_of}
-use Rattle.av_plain.proofs.Ledger.{how_many-found}
-use Rattle.av_plain.proofs.Ledger.NoSwap.{itself, no_slot}
+use Rattle.av_plain.proofs.Access.{notes_of-append, notes_of-note_events}
 use Rattle.av_plain.proofs.Ledger.Walk.{all-walked, length-walk}
-use Rattle.av_plain.proofs.Sound.Bound.{map_count-few}
-use Rattle.std.proofs.lemmas.List.{length-map}
 use Rattle.av_plain.proofs.Report.Totals.{frames-add}
-use Rattle.av_plain.proofs.Sound.Counts.{slot-itself}
-use Rattle.av_plain.specs.Device.{HasNoDevice}
-use Rattle.av_laws.specs.ReadBack.{IsSmall, IsWideRow}
-use Rattle.av_plain.proofs.NoDevice.{HasNoSlots, IsPlainAt, accesses-plain, in-areas, kept-alone, kept-bare, no-area, no-remap-notes, none-on, no-slots, no-swapon, no-zap-notes, without-device}
-use Rattle.av_plain.proofs.Access.{notes_of-note_events}
-use Rattle.av_plain.proofs.Sound.Pass.{AreReady, ready-first, ready-rest}
-use Rattle.av_plain.proofs.Sound.Reclaim.{active-ready, inactive-ready, outcome-kept}
-use Rattle.av_plain.specs.Fault.{sparing}
-use Rattle.av_plain.specs.Pass.{Completes, Spared}
-use Rattle.av_plain.specs.Reclaim.{Outcomes, from_tail}
-use Rattle.av_base.specs.declared.slot.Slot.{Slot}
-use Rattle.av_laws.proofs.OutOfMemory.{legal-adds}
+use Rattle.av_plain.proofs.Sound.Bound.{map_count-few, slot_entries-few}
+use Rattle.av_laws.specs.ReadBack.{IsSmall, IsSmallArea, IsSmallSetting, IsWideOn, IsWideRow}
+use Rattle.av_laws.proofs.OutOfMemory.{close-adds-up, legal-adds}
+use Rattle.av_laws.proofs.ReadBack.Counts.{flight-few, free-few}
+use Rattle.av_laws.proofs.ReadBack.Notes.{AreNotes, accesses-fit, ages-fit, completes-fit, empties-fit, outcomes-fit, remap-fits, zaps-fit}
+use Rattle.av_laws.proofs.ReadBack.Wide.{IsWideEntry, IsWideKey, IsWideLedger, all-append, all-reverse, all-take, wide-entry, wide-frame_at, wide-notes, wide-slot_of, wide-sound}
 
 -- what a reply has beside its notes
 abbrev Fits : List Event → Answer → List Row → Type 0
@@ -84,41 +87,6 @@ fits-notes events answer rows e a f = (a, subst (λ ns. Follow answer ns rows) (
 
 wide-page : (page : ℕ) → page ≤ top_page → IsWide (address_of page)
 wide-page page h = omega (arith, h)
-
-wide-process : (p : ℕ) → p ≤ 32767 → IsWide p
-wide-process p h = omega (arith, h)
-
-wide-frame : (m : Setting) (f : ℕ) → IsWide m.frames → f < m.frames → IsWide f
-wide-frame m f h i = omega (arith, h, i)
-
-plain-note : (m : Setting) (p page : ℕ) → IsWide m.frames → p ≤ 32767 → page < top_page → (note : Note) → IsPlainAt m (p, page) note → IsNote note
-plain-note m p page frames small below (Zeroed q a) h = (
-  subst IsWide (sym h.0) (wide-process p small),
-  subst IsWide (sym h.1)
-      (wide-page page (omega (arith, below))),
-)
-plain-note m p page frames small below (New q a f) h = (
-  subst IsWide (sym h.0) (wide-process p small),
-  subst IsWide (sym h.1)
-      (wide-page page (omega (arith, below))),
-  wide-frame m f frames h.2,
-)
-plain-note m p page frames small below (Copied q a f) h = (
-  subst IsWide (sym h.0) (wide-process p small),
-  subst IsWide (sym h.1)
-      (wide-page page (omega (arith, below))),
-  wide-frame m f frames h.2,
-)
-plain-note m p page frames small below (Loaded s f) h = absurd h
-plain-note m p page frames small below (Mapped q a f) h = absurd h
-plain-note m p page frames small below (Put f s) h = absurd h
-plain-note m p page frames small below (Unmapped f) h = absurd h
-plain-note m p page frames small below (Started s) h = absurd h
-plain-note m p page frames small below (Written s) h = absurd h
-plain-note m p page frames small below (Failed s) h = absurd h
-plain-note m p page frames small below (Dropped s) h = absurd h
-plain-note m p page frames small below (Kept f c) h = absurd h
-plain-note m p page frames small below (Aged f) h = absurd h
 
 -- ---- where an access stops
 
@@ -159,6 +127,10 @@ access-stops m w l write p a n events end small h =
 -- the numbers of an out-of-memory, if the answer is one
 abbrev CausesFit : Answer → Type 0
 CausesFit answer = (k : ℕ) (out : OutOf) (shown : List ℕ) → answer ≡ Oom k out shown → AreCauses out
+
+-- and those of a swapoff that ends for want of a frame
+abbrev CloseFits : Answer → Type 0
+CloseFits answer = (out : OutOf) → answer ≡ NoFrame out → AreCauses out
 
 stop-fits : (a page : ℕ) (stop : Stop) (shown : List ℕ) (notes : List Note) → IsWide (bytes_before a page) → AllByRecursion (λ b. b < 2 ^ 8) shown →
     AllByRecursion IsNote notes → CausesFit (stop_answer stop (bytes_before a page) shown)
@@ -305,6 +277,15 @@ pub asked-wide : (command : Command) (rows : List Row) → AllByRecursion IsWide
 asked-wide (AsksAreas p) rows h = h
 asked-wide command rows h = tt
 
+-- and where an area is turned on, what is answered where no header tells it
+abbrev pub AskedOn : Setting → Command → Answer → Type 0
+AskedOn m (Swapon k priority) answer = IsWideOn m answer
+AskedOn m command answer = Unit {0}
+
+pub asked-on : (m : Setting) (command : Command) (answer : Answer) → IsWideOn m answer → AskedOn m command answer
+asked-on m (Swapon k priority) answer h = h
+asked-on m command answer h = tt
+
 -- ---- walks
 
 -- each row of a walk is of a process and a page that are mapped
@@ -312,15 +293,14 @@ keys-fit : (ks : List Key) → AllByRecursion (λ (k : Key). IsWide k.0 × (k.1 
 keys-fit [] h = tt
 keys-fit (k ∷ ks) h = let below = h.0.1 in ((h.0.0, wide-page k.1 (omega (arith, below))), keys-fit ks h.1)
 
-walk-fits : (m : Setting) (w : World) (l : Ledger) (k : Key) → AllSound m w l → IsSmall m w → (e : Option Entry) → entry l k ≡ e →
+walk-fits : (m : Setting) (w : World) (l : Ledger) → AllSound m w l → IsSmall w l → (e : Option Entry) → IfThere IsWideEntry e →
     Fits [] (walk_answer l e) (walk_rows l e)
-walk-fits m w l k s small None is = (tt, (tt, refl))
-walk-fits m w l k s small (Some Zero) is = (tt, (tt, refl))
-walk-fits m w l k s small (Some (InFrame f seen)) is =
-    let some : 0 < map_count l f = how_many-found (names_frame f) k l.entries (InFrame f seen) is (itself f) in
+walk-fits m w l s small None fits = (tt, (tt, refl))
+walk-fits m w l s small (Some Zero) fits = (tt, (tt, refl))
+walk-fits m w l s small (Some (InFrame f seen)) fits =
     let few = map_count-few m w l f s in
     let long = length-walk l f in (
-      (wide-frame m f small.frames (s.ledger.in_range f (omega (arith, some))), omega (arith, few, long)),
+      (fits, omega (arith, few, long)),
       (
         refl,
         sym (length-map (walk l f) key_row),
@@ -328,190 +308,284 @@ walk-fits m w l k s small (Some (InFrame f seen)) is =
             (λ q there. let mapped = s.at_pages q.0 q.1 there in (small.processes q.0 q.1 mapped, small.below q.0 q.1 mapped))),
       ),
     )
-walk-fits m w l k s small (Some (InSlot t)) is = (tt, (tt, refl))
+walk-fits m w l s small (Some (InSlot t)) fits = (tt, (tt, refl))
 
--- ---- entries
+-- ---- entries and slots
 
--- without a device no entry is a slot, and no frame is cached
-entry-fits : (m : Setting) (l : Ledger) (k : Key) → HasNoDevice m → IsSound m l → HasNoSlots l → IsWide m.frames → (e : Option Entry) →
-    entry l k ≡ e → Fits [] (entry_answer l e) []
-entry-fits m l k none s bare wide None is = (tt, (tt, refl))
-entry-fits m l k none s bare wide (Some Zero) is = (tt, (tt, refl))
-entry-fits m l k none s bare wide (Some (InFrame f seen)) is =
-    let some : 0 < map_count l f = how_many-found (names_frame f) k l.entries (InFrame f seen) is (itself f) in
-    ((wide-frame m f wide (s.in_range f (omega (arith, some))), subst (IfThere IsSlot) (sym (no_slot l f bare.cache)) tt), (tt, refl))
-entry-fits m l k none s bare wide (Some (InSlot t)) is =
-    let some : 0 < slot_entries l t = how_many-found (names_slot t) k l.entries (InSlot t) is (slot-itself t) in
-    let zero = bare.entries t in
-    absurd (omega (arith, some, zero))
+entry-fits : (m : Setting) (l : Ledger) → IsWideLedger m l → (e : Option Entry) → IfThere IsWideEntry e → Fits [] (entry_answer l e) []
+entry-fits m l wide None fits = (tt, (tt, refl))
+entry-fits m l wide (Some Zero) fits = (tt, (tt, refl))
+entry-fits m l wide (Some (InFrame f seen)) fits = ((fits, wide-slot_of m l f wide), (tt, refl))
+entry-fits m l wide (Some (InSlot t)) fits = ((fits, wide-frame_at m l t wide), (tt, refl))
 
--- ---- reclaim, age and complete
-
-kept-wide : (m : Setting) (sp : Spared) (l : Ledger) (fs : List ℕ) (notes : List Note) → HasNoDevice m → IsSound m l → HasNoSlots l →
-    IsWide m.frames → AreReady l fs → Outcomes m sp l fs notes → AllByRecursion IsNote notes
-kept-wide m sp l [] notes none s bare wide ready h = subst (AllByRecursion IsNote) (sym h) tt
-kept-wide m sp l (f ∷ fs) notes none s bare wide ready h =
-    let in_use = ready-first l f fs ready in
-    let low = wide-frame m f wide (s.in_range f in_use) in
-    let alone = kept-alone m sp l f h.0 (without-device m l none) bare h.3 in
-    let kept = outcome-kept m sp l f h.0 s in_use h.3 in
-    let bare' = subst (λ ns. HasNoSlots (after_notes l ns)) (sym alone.1) (kept-bare l f alone.0 bare) in
-    subst (AllByRecursion IsNote) (sym (h.2 ∙ ap (λ ns. ns ++ h.1) alone.1))
-    (low, kept-wide m sp (after_notes l h.0) fs h.1 none kept.sound bare' wide (ready-rest l (after_notes l h.0) f fs kept.others ready) h.4)
-
-ages-wide : (m : Setting) (l : Ledger) (fs : List ℕ) → ((f : ℕ) → 0 < uses l f → f < m.frames) → IsWide m.frames → AreReady l fs →
-    AllByRecursion IsNote (map Aged fs)
-ages-wide m l [] s wide ready = tt
-ages-wide m l (f ∷ fs) s wide ready = (
-  wide-frame m f wide (s f (ready-first l f fs ready)),
-  ages-wide m l fs s wide (ready-rest l l f fs (λ g other. refl) ready),
-)
-
-nothing-completes : (l : Ledger) (n : ℕ) (ts : List Slot) (notes : List Note) → ts ≡ [] → Completes l (take n ts) notes → notes ≡ []
-nothing-completes l zero ts notes none h = h
-nothing-completes l (suc n) [] notes none h = h
-nothing-completes l (suc n) (t ∷ ts) notes none h = cc
-
-follows-fit : (m : Setting) (w : World) (l : Ledger) (command : Command) (events : List Event) (answer : Answer) (rows : List Row) → HasNoDevice m →
-    AllSound m w l → IsSmall m w → IsInRange command → refusal (tests m w l command) ≡ None → CausesFit answer → AskedWide command rows
-    → Follows m w l command events answer rows → Fits events answer rows
-follows-fit m w l (Spawn p) events answer rows none s small fit fine out wide h = fits-by events [] answer Done rows [] h.1 h.0 h.2 (tt, (tt, refl))
-follows-fit m w l (Fork p q) events answer rows none s small fit fine out wide h =
-    fits-by events (Forked p q (inheritance l p) ∷ []) answer Done rows [] h.1 h.0 h.2 (tt, (tt, refl))
-follows-fit m w l (Exit p) events answer rows none s small fit fine out wide h =
-    fits-by events (zaps_of l (keys_of_process l p)) answer Done rows [] h.1 h.0 h.2
-    (fits-notes (zaps_of l (keys_of_process l p)) Done []
-    (no-zap-notes m l (keys_of_process l p) (without-device m l none) (in-areas m w l s)) tt (tt, refl))
-follows-fit m w l (Mmap p len prot place) events answer rows none s small fit fine out wide h = by h.0 h.1 h.2
+slot-fits : (m : Setting) (w : World) (l : Ledger) (t : Slot) (answer : Answer) → AllSound m w l → IsWideLedger m l → IsSlot t
+    → MatchOption m.headers ((answer ≡ count_answer l t) ⊎ MayBeNoSlot l t answer) (λ headers. answer ≡ slot_answer m l t) → Fits [] answer []
+slot-fits m w l t answer s wide fits h = by m.headers h
   where
-    quiet : (place : Place) → notes_of (zaps_for_place l p (pages_of len) place) ≡ []
-    quiet Auto = refl
-    quiet (At a) = refl
-    quiet (Fixed a) = no-zap-notes m l (keys_in l p (page_of a) (pages_of len)) (without-device m l none) (in-areas m w l s)
-    quiet (NoReplace a) = refl
+    few : IsWide (slot_count l t)
+    few = let most = slot_entries-few m w l t s in counted (is_cached l t) most
+      where
+        counted : (b : Bool) → slot_entries l t ≤ most_processes → IsWide (slot_entries l t + cond b 1 0)
+        counted true most = omega (arith, most)
+        counted false most = omega (arith, most)
 
-    by : (to : Option ℕ) → Goes (pages w p) (pages_of len) place to → IsMapAt answer to → Fits events answer rows
-    by None goes e = fits-by events (zaps_for_place l p (pages_of len) place) answer (Refused Enomem) rows [] h.3 e h.4
-        (fits-notes (zaps_for_place l p (pages_of len) place) (Refused Enomem) [] (quiet place) tt (tt, refl))
-    by (Some page) goes e = fits-by events (zaps_for_place l p (pages_of len) place) answer (MapAt (address_of page)) rows [] h.3 e h.4
-        (fits-notes (zaps_for_place l p (pages_of len) place) (MapAt (address_of page)) [] (quiet place)
-        (place-below (pages w p) (pages_of len) page place fit.2 goes) (tt, refl))
-follows-fit m w l (Munmap p a len) events answer rows none s small fit fine out wide h =
-    fits-by events (zaps_of l (keys_in l p (page_of a) (pages_of len))) answer Done rows [] h.1 h.0 h.2
-    (fits-notes (zaps_of l (keys_in l p (page_of a) (pages_of len))) Done []
-    (no-zap-notes m l (keys_in l p (page_of a) (pages_of len)) (without-device m l none) (in-areas m w l s)) tt (tt, refl))
-follows-fit m w l (Mprotect p a len prot) events answer rows none s small fit fine out wide h =
-    fits-by events [] answer _ rows [] h.1 h.0 h.2 (by (pages_to_hole (pages w p) (page_of a) (pages_of len) == pages_of len))
-  where
-    by : (b : Bool) → Fits [] (if b then Done else Refused Enomem) []
-    by true = (tt, (tt, refl))
-    by false = (tt, (tt, refl))
-follows-fit m w l (Mremap p a old new mode) events answer rows none s small fit fine out wide h = by h.0 h.1 h.2 h.3
-  where
-    these : Option ℕ → List Event
-    these to = events_to l p (page_of a) (pages_of old) to (pages_of new)
+    is_this : (said : Answer) → answer ≡ said → Fits [] said [] → Fits [] answer []
+    is_this said e = fits-by [] [] answer said [] [] refl e refl
 
-    by : (to : Option ℕ) → MovesTo (pages w p) (page_of a) (pages_of old) (pages_of new) mode to → IsMapAt answer to → events ≡ these to
+    counts : Fits [] (count_answer l t) []
+    counts = ((fits, few, wide-frame_at m l t wide), (tt, refl))
+
+    told : (b : Bool) → Fits [] (cond b (count_answer l t) (SlotBad t)) []
+    told true = counts
+    told false = (fits, (tt, refl))
+
+    by : (o : Option (ℕ → Option Layout)) → MatchOption o ((answer ≡ count_answer l t) ⊎ MayBeNoSlot l t answer)
+        (λ headers. answer ≡ slot_answer m l t) → Fits [] answer []
+    by (Some headers) e = is_this (slot_answer m l t) e (told (is_usable m t))
+    by None (inl e) = is_this (count_answer l t) e counts
+    by None (inr (unused, inl e)) = is_this (SlotBad t) e (fits, (tt, refl))
+    by None (inr (unused, inr e)) = is_this (Refused Einval) e (tt, (tt, refl))
+
+-- ---- swap areas
+
+-- a header that is told, or what is answered without one
+turned-on-fits : (m : Setting) (k : ℕ) (priority : Option ℕ) (events : List Event) (answer : Answer) (rows : List Row) → IsSmallArea m k
+    → IsWideOn m answer → TurnsOn m k priority events answer rows → Fits events answer rows
+turned-on-fits m k priority events answer rows few on h = by m.headers refl h.0
+  where
+    is_this : (said : Answer) → answer ≡ said → notes_of (turn_on_events k priority said) ≡ [] → IsAnswer said
+        → Follow said [] [] → Fits events answer rows
+    is_this said e quiet fits follow = fits-by events (turn_on_events k priority said) answer said rows []
+        (h.1 ∙ ap (turn_on_events k priority) e) e h.2 (fits-notes (turn_on_events k priority said) said [] quiet fits follow)
+
+    of_header : (headers : ℕ → Option Layout) → m.headers ≡ Some headers → (o : Option Layout) → headers k ≡ o → answer ≡ header_answer o
         → Fits events answer rows
-    by None goes e es = fits-by events (these None) answer (Refused Enomem) rows [] es e h.4
-        (fits-notes (these None) (Refused Enomem) [] refl tt (tt, refl))
-    by (Some page) goes e es = fits-by events (these (Some page)) answer (MapAt (address_of page)) rows [] es e h.4
-        (fits-notes (these (Some page)) (MapAt (address_of page)) []
-        (no-remap-notes m l p (page_of a) (pages_of old) page (pages_of new) (without-device m l none) (in-areas m w l s))
-        (remap-below (pages w p) a (pages_of old) (pages_of new) page mode fit.1 fit.4 goes) (tt, refl))
-follows-fit m w l (Read p a n) events answer rows none s small fit fine out wide h =
-    let plain = accesses-plain IsNote m w p (λ page note is. plain-note m p page small.frames fit.0.most (small.below p page is) note) l
-    (pages_of_access false a n) events h.0 (without-device m l none) (in-areas m w l s) h.2 in
-    fits-by events events answer (read_answer a h.0 h.1) rows [] refl h.4 h.5
-    (read-fits a h.0 h.1 (notes_of events) (access-stops m w l false p a n events h.0 fit.2.most h.2) h.3.2 plain.notes (subst CausesFit h.4 out))
-follows-fit m w l (Write p a bytes) events answer rows none s small fit fine out wide h =
-    let plain = accesses-plain IsNote m w p (λ page note is. plain-note m p page small.frames fit.0.most (small.below p page is) note) l
-    (pages_of_access true a (length bytes)) events h.0 (without-device m l none) (in-areas m w l s) h.1 in
-    fits-by events events answer (write_answer a h.0) rows [] refl h.2 h.3
-    (write-fits a h.0 (notes_of events) (access-stops m w l true p a (length bytes) events h.0 fit.2.0.most h.1) plain.notes
-    (subst CausesFit h.2 out))
-follows-fit m w l (Reclaim n) events answer rows none s small fit fine out wide h =
-    fits-by events (note_events h.0) answer Done rows [] h.3 h.2 h.4 (
-      tt,
-      (
-        subst (AllByRecursion IsNote) (sym (notes_of-note_events h.0)) (kept-wide m (sparing w l None) l (from_tail n l.inactive) h.0 none s.ledger
-            (no-slots m l (without-device m l none) (in-areas m w l s)) small.frames (inactive-ready m l n s.ledger) h.1),
-        refl,
-      ),
-    )
-follows-fit m w l (Age n) events answer rows none s small fit fine out wide h =
-    fits-by events (note_events (map Aged (from_tail n l.active))) answer Done rows [] h.1 h.0 h.2 (
-      tt,
-      (
-        subst (AllByRecursion IsNote) (sym (notes_of-note_events (map Aged (from_tail n l.active))))
-            (ages-wide m l (from_tail n l.active) s.ledger.in_range small.frames (active-ready m l n s.ledger)),
-        refl,
-      ),
-    )
-follows-fit m w l (Complete n) events answer rows none s small fit fine out wide h =
-    fits-by events (note_events h.0) answer Done rows [] h.3 h.2 h.4
-    (fits-notes (note_events h.0) Done [] (notes_of-note_events h.0 ∙ nothing-completes l n l.flight h.0
-    (no-slots m l (without-device m l none) (in-areas m w l s)).flight h.1) tt (tt, refl))
-follows-fit m w l (Swapon k priority) events answer rows none s small fit fine out wide h =
-    absurd (no-swapon m k ((is_on l k, Ebusy) ∷ (size_of m k == 0, Einval) ∷ []) none fine)
-follows-fit m w l (Swapoff k) events answer rows none s small fit fine out wide h = absurd (no-area m l k [] none s.areas_fit fine)
-follows-fit m w l (Maps p) events answer rows none s small fit fine out wide h =
-    let runs = h.1.0 in
-    let high = covered (pages w p) runs h.1.3 (small.below p) in
-    fits-by events [] answer (Runs (length (map row_of runs))) rows (map row_of runs) h.2 (h.0 ∙ ap (λ rs. Runs (length rs)) h.1.1) h.1.1
-    (few-rows runs (longest-apart runs h.1.2) high, (refl, refl, runs-wide runs (longest-apart runs h.1.2) high))
-follows-fit m w l (AsksAreas p) events answer rows none s small fit fine out wide h =
-    let ranges = h.1.0 in
-    let high = covered (pages w p) ranges h.1.3 (small.below p) in
-    let rest = areas-wide ranges rows h.1.1 (runs-wide ranges h.1.2 high) wide in
-    fits-by events [] answer (AreaList (length rows)) rows rows h.2 h.0 refl
-    (subst IsWide (sym rest.0) (few-rows ranges h.1.2 high), (refl, refl, rest.1))
-follows-fit m w l (AsksRmap p a) events answer rows none s small fit fine out wide h =
-    let e = entry l (p, page_of a) in
-    fits-by events [] answer (walk_answer l e) rows (walk_rows l e) h.1 h.0 h.2 (walk-fits m w l (p, page_of a) s small e refl)
-follows-fit m w l (AsksEntry p a) events answer rows none s small fit fine out wide h =
-    fits-by events [] answer (entry_answer l (entry l (p, page_of a))) rows [] h.1 h.0 h.2
-    (entry-fits m l (p, page_of a) none s.ledger (no-slots m l (without-device m l none) (in-areas m w l s)) small.frames
-    (entry l (p, page_of a)) refl)
-follows-fit m w l (AsksSlot k page) events answer rows none s small fit fine out wide h =
-    absurd (no-area m l k ((is_outside m (record { area = k; page = page }), Einval) ∷ []) none s.areas_fit fine)
-follows-fit m w l Stat events answer rows none s small fit fine out wide h = fits-by events [] answer (Counted (totals m w l)) rows [] h.1 h.0 h.2 (
-  record {
-    frames = frames;
-    free = omega (arith, sums, frames);
-    active = omega (arith, sums, frames);
-    inactive = omega (arith, sums, frames);
-    flight = subst IsWide (sym (ap length (no-slots m l (without-device m l none) (in-areas m w l s)).flight)) (omega arith);
-    slots = subst IsWide (sym (ap (sum_by (λ (a : ℕ × SwapArea). a.1.slots)) (none-on m l none s.areas_fit))) (omega arith);
-    free_slots = subst IsWide (sym (ap (sum_by (free_slots m l)) (none-on m l none s.areas_fit))) (omega arith);
-    processes = omega (arith, few);
-  },
-  (tt, refl),
-)
+    of_header headers told None is e = is_this (Refused Einval) e refl tt (tt, refl)
+    of_header headers told (Some h) is e =
+        let most : h.slots + length h.bad ≤ most_pages = subst (λ o. IfSome o (λ (h : Layout). h.slots + length h.bad ≤ most_pages)) is
+        (subst (λ o. IfSome {T = ℕ → Option Layout} o
+        (λ headers. IfSome (headers k) (λ (h : Layout). h.slots + length h.bad ≤ most_pages))) told few.header) in
+        is_this (On h.slots (length h.bad)) e refl (omega (arith, most), omega (arith, most)) (tt, refl)
+
+    by : (o : Option (ℕ → Option Layout)) → m.headers ≡ o → (answer ≡ Refused Eio) ⊎ IsByHeader o k answer → Fits events answer rows
+    by o told (inl e) = is_this (Refused Eio) e refl tt (tt, refl)
+    by (Some headers) told (inr e) = of_header headers told (headers k) refl e
+    by None told (inr (inl e)) = is_this (Refused Einval) e refl tt (tt, refl)
+    by None told (inr (inr q)) = is_this (On q.0 q.1) q.3 refl
+        (subst (λ o. MatchOption {T = ℕ → Option Layout} o (IsWide q.0 × IsWide q.1) (λ _. Unit {0})) told (subst (IsWideOn m) q.3 on)) (tt, refl)
+
+close-fits : (end : Close) → CloseFits (close_answer end) → (notes : List Note) → AreNotes notes
+    → IsAnswer (close_answer end) × Follow (close_answer end) notes []
+close-fits Closed out notes fits = (tt, (fits, refl))
+close-fits (NoRoom numbers) out notes fits = (out numbers refl, (fits, refl))
+close-fits Unread out notes fits = (tt, (fits, refl))
+
+turned-off-fits : (m : Setting) (w : World) (l : Ledger) (k : ℕ) (events : List Event) (answer : Answer) (rows : List Row) → IsWide m.frames
+    → IsWideLedger m l → is_on l k ≡ true → CloseFits answer → TurnsOff m w l k events answer rows → Fits events answer rows
+turned-off-fits m w l k events answer rows frames wide on out h =
+    let done = completes-fit l l.flight h.done wide.flight h.completes in
+    let rest = empties-fit m frames (sparing_area w k (after_notes l h.done)) k slot (after_notes l h.done) h.pages h.notes h.end
+    (wide-notes m l h.done done wide) h.empties in
+    let noted = quiet h.end in
+    subst (λ a. IsAnswer a × Follow a (notes_of events) rows) (sym h.answered)
+    (subst (λ r. IsAnswer (close_answer h.end) × Follow (close_answer h.end) (notes_of events) r) (sym h.no_rows)
+    (close-fits h.end (subst CloseFits h.answered out) (notes_of events)
+    (subst (λ es. AreNotes (notes_of es)) (sym h.whole) (subst AreNotes (sym noted) (all-append IsNote h.done h.notes done rest)))))
   where
-    frames : m.frames < 2 ^ 64
-    frames = small.frames
+    slot : (page : ℕ) → page < size_of m k → IsSlot (record { area = k; page = page })
+    slot page low = wide.given (record { area = k; page = page }) (both (is_on l k) (nat_lt page (size_of m k)) on (grind (arith, nat_tests, low)))
+      where
+        both : (a b : Bool) → a ≡ true → b ≡ true → (a && b) ≡ true
+        both true true h i = refl
+        both true false h i = cc
+        both false b h i = cc
 
-    few : length w ≤ 4096
-    few = s.world.few
+    quiet : (end : Close) → notes_of (note_events (h.done ++ h.notes) ++ turn_off_events k end) ≡ h.done ++ h.notes
+    quiet end = notes_of-append (note_events (h.done ++ h.notes)) (turn_off_events k end)
+        ∙ (λ i. notes_of-note_events (h.done ++ h.notes) i ++ none end i) ∙ append-nil (h.done ++ h.notes)
+      where
+        none : (end : Close) → notes_of (turn_off_events k end) ≡ []
+        none Closed = refl
+        none (NoRoom out) = refl
+        none Unread = refl
 
-    sums : length (free_frames m l) + length l.active + length l.inactive ≡ m.frames
-    sums = frames-add m l s.ledger
+-- ---- each command
 
-pub legal-reads_back : (m : Setting) (w : World) (l : Ledger) (command : Command) (reply : Reply) (events : List Event) → HasNoDevice m
-    → AllSound m w l →
-    IsSmall m w → IsInRange command → AskedWide command reply.rows → IsLegal m w l command reply events → IsReply reply
-legal-reads_back m w l command reply events none s small fit wide legal =
-    let f = by (refusal (tests m w l command)) refl legal.answer in
-    record { answer = f.0; rest = subst (λ ns. Follow reply.answer ns reply.rows) (sym legal.notes) f.1 }
-  where
-    out : CausesFit reply.answer
-    out k numbers shown is = let sum = legal-adds m w l command reply events k numbers shown s legal is in let frames : m.frames < 2 ^ 64 =
-        small.frames in
-        (omega (arith, sum, frames), omega (arith, sum, frames), omega (arith, sum, frames))
+-- what each command's reply says fits, where the state is small and its numbers are of 64 bits
+module _ (m : Setting) (w : World) (l : Ledger) (few : IsSmallSetting m) (s : AllSound m w l) (small : IsSmall w l) where
+  wide : IsWideLedger m l
+  wide = wide-sound m w l few s small
 
-    by : (o : Option Errno) → refusal (tests m w l command) ≡ o → MatchOption o (Follows m w l command events reply.answer reply.rows)
-        (λ error. Refuses error events reply.answer reply.rows) →
-        Fits events reply.answer reply.rows
-    by None is h = follows-fit m w l command events reply.answer reply.rows none s small fit is out wide h
-    by (Some error) is h = fits-by events [] reply.answer (Refused error) reply.rows [] h.1 h.0 h.2 (tt, (tt, refl))
+  -- a page that may be accessed is mapped
+  key-fits : (p : ℕ) (write : Bool) (page : ℕ) → is_allowed w write (p, page) ≡ true → IsWideKey (p, page)
+  key-fits p write page is = by (pages w p page) refl is
+    where
+      by : (o : Option Page) → pages w p page ≡ o → permits write o ≡ true → IsWideKey (p, page)
+      by None at h = cc
+      by (Some x) at h =
+          let mapped = ap is_some at in
+          let low = small.below p page mapped in
+          (small.processes p page mapped, omega (arith, low))
+
+  from-tail : (n : ℕ) (fs : List ℕ) → AllByRecursion IsWide fs → AllByRecursion IsWide (from_tail n fs)
+  from-tail n fs fit = all-take IsWide n (reverse fs) (all-reverse IsWide fs fit)
+
+  follows-fit : (command : Command) (events : List Event) (answer : Answer) (rows : List Row) → IsInRange command
+      → refusal (tests m w l command) ≡ None → CausesFit answer → CloseFits answer → AskedWide command rows → AskedOn m command answer
+      → Follows m w l command events answer rows → Fits events answer rows
+  follows-fit (Spawn p) events answer rows fit fine out close asked on h = fits-by events [] answer Done rows [] h.1 h.0 h.2 (tt, (tt, refl))
+  follows-fit (Fork p q) events answer rows fit fine out close asked on h =
+      fits-by events (Forked p q (inheritance l p) ∷ []) answer Done rows [] h.1 h.0 h.2 (tt, (tt, refl))
+  follows-fit (Exit p) events answer rows fit fine out close asked on h =
+      fits-by events (zaps_of l (keys_of_process l p)) answer Done rows [] h.1 h.0 h.2 (tt, (zaps-fit m l (keys_of_process l p) wide, refl))
+  follows-fit (Mmap p len prot place) events answer rows fit fine out close asked on h = by h.0 h.1 h.2
+    where
+      noted : (place : Place) → AreNotes (notes_of (zaps_for_place l p (pages_of len) place))
+      noted Auto = tt
+      noted (At a) = tt
+      noted (Fixed a) = zaps-fit m l (keys_in l p (page_of a) (pages_of len)) wide
+      noted (NoReplace a) = tt
+
+      by : (to : Option ℕ) → Goes (pages w p) (pages_of len) place to → IsMapAt answer to → Fits events answer rows
+      by None goes e = fits-by events (zaps_for_place l p (pages_of len) place) answer (Refused Enomem) rows [] h.3 e h.4
+          (tt, (noted place, refl))
+      by (Some page) goes e = fits-by events (zaps_for_place l p (pages_of len) place) answer (MapAt (address_of page)) rows [] h.3 e h.4
+          (place-below (pages w p) (pages_of len) page place fit.2 goes, (noted place, refl))
+  follows-fit (Munmap p a len) events answer rows fit fine out close asked on h =
+      fits-by events (zaps_of l (keys_in l p (page_of a) (pages_of len))) answer Done rows [] h.1 h.0 h.2
+      (tt, (zaps-fit m l (keys_in l p (page_of a) (pages_of len)) wide, refl))
+  follows-fit (Mprotect p a len prot) events answer rows fit fine out close asked on h =
+      fits-by events [] answer _ rows [] h.1 h.0 h.2 (by (pages_to_hole (pages w p) (page_of a) (pages_of len) == pages_of len))
+    where
+      by : (b : Bool) → Fits [] (if b then Done else Refused Enomem) []
+      by true = (tt, (tt, refl))
+      by false = (tt, (tt, refl))
+  follows-fit (Mremap p a old new mode) events answer rows fit fine out close asked on h = by h.0 h.1 h.2 h.3
+    where
+      these : Option ℕ → List Event
+      these to = events_to l p (page_of a) (pages_of old) to (pages_of new)
+
+      by : (to : Option ℕ) → MovesTo (pages w p) (page_of a) (pages_of old) (pages_of new) mode to → IsMapAt answer to → events ≡ these to
+          → Fits events answer rows
+      by None goes e es = fits-by events (these None) answer (Refused Enomem) rows [] es e h.4 (tt, (tt, refl))
+      by (Some page) goes e es = fits-by events (these (Some page)) answer (MapAt (address_of page)) rows [] es e h.4 (
+        remap-below (pages w p) a (pages_of old) (pages_of new) page mode fit.1 fit.4 goes,
+        (remap-fits m l p (page_of a) (pages_of old) page (pages_of new) wide, refl),
+      )
+  follows-fit (Read p a n) events answer rows fit fine out close asked on h =
+      fits-by events events answer (read_answer a h.0 h.1) rows [] refl h.4 h.5
+      (read-fits a h.0 h.1 (notes_of events) (access-stops m w l false p a n events h.0 fit.2.most h.2) h.3.2
+      (accesses-fit m few.frames w p (key-fits p) l (pages_of_access false a n) events h.0 wide h.2) (subst CausesFit h.4 out))
+  follows-fit (Write p a bytes) events answer rows fit fine out close asked on h =
+      fits-by events events answer (write_answer a h.0) rows [] refl h.2 h.3
+      (write-fits a h.0 (notes_of events) (access-stops m w l true p a (length bytes) events h.0 fit.2.0.most h.1)
+      (accesses-fit m few.frames w p (key-fits p) l (pages_of_access true a (length bytes)) events h.0 wide h.1) (subst CausesFit h.2 out))
+  follows-fit (Reclaim n) events answer rows fit fine out close asked on h =
+      fits-by events (note_events h.0) answer Done rows [] h.3 h.2 h.4 (tt, (
+        subst AreNotes (sym (notes_of-note_events h.0)) (outcomes-fit m (sparing w l None) l (from_tail n l.inactive) h.0 wide
+            (from-tail n l.inactive wide.inactive) h.1),
+        refl,
+      ))
+  follows-fit (Age n) events answer rows fit fine out close asked on h =
+      fits-by events (note_events (map Aged (from_tail n l.active))) answer Done rows [] h.1 h.0 h.2 (tt, (
+        subst AreNotes (sym (notes_of-note_events (map Aged (from_tail n l.active))))
+            (ages-fit (from_tail n l.active) (from-tail n l.active wide.active)),
+        refl,
+      ))
+  follows-fit (Complete n) events answer rows fit fine out close asked on h =
+      fits-by events (note_events h.0) answer Done rows [] h.3 h.2 h.4 (tt, (
+        subst AreNotes (sym (notes_of-note_events h.0)) (completes-fit l (take n l.flight) h.0 (all-take IsSlot n l.flight wide.flight) h.1),
+        refl,
+      ))
+  follows-fit (Swapon k priority) events answer rows fit fine out close asked on h =
+      turned-on-fits m k priority events answer rows (few.areas k (has_pages (no_device_at m k) (is_on l k) (size_of m k) fine)) on h
+    where
+      has_pages : (a b : Bool) (n : ℕ) → cond a (Some Einval) (cond b (Some Ebusy) (cond (n == 0) (Some Einval) None)) ≡ None → 0 < n
+      has_pages true b n h = cc
+      has_pages false true n h = cc
+      has_pages false false zero h = cc
+      has_pages false false (suc n) h = omega arith
+  follows-fit (Swapoff k) events answer rows fit fine out close asked on h =
+      turned-off-fits m w l k events answer rows few.frames wide (is_on_now (is_on l k) fine) close h
+    where
+      is_on_now : (b : Bool) → cond (not b) (Some Einval) None ≡ None → b ≡ true
+      is_on_now true h = refl
+      is_on_now false h = cc
+  follows-fit (Maps p) events answer rows fit fine out close asked on h =
+      let runs = h.1.0 in
+      let high = covered (pages w p) runs h.1.3 (small.below p) in
+      fits-by events [] answer (Runs (length (map row_of runs))) rows (map row_of runs) h.2 (h.0 ∙ ap (λ rs. Runs (length rs)) h.1.1) h.1.1
+      (few-rows runs (longest-apart runs h.1.2) high, (refl, refl, runs-wide runs (longest-apart runs h.1.2) high))
+  follows-fit (AsksAreas p) events answer rows fit fine out close asked on h =
+      let ranges = h.1.0 in
+      let high = covered (pages w p) ranges h.1.3 (small.below p) in
+      let rest = areas-wide ranges rows h.1.1 (runs-wide ranges h.1.2 high) asked in
+      fits-by events [] answer (AreaList (length rows)) rows rows h.2 h.0 refl
+      (subst IsWide (sym rest.0) (few-rows ranges h.1.2 high), (refl, refl, rest.1))
+  follows-fit (AsksRmap p a) events answer rows fit fine out close asked on h =
+      let e = entry l (p, page_of a) in
+      fits-by events [] answer (walk_answer l e) rows (walk_rows l e) h.1 h.0 h.2
+      (walk-fits m w l s small e (wide-entry m l (p, page_of a) wide))
+  follows-fit (AsksEntry p a) events answer rows fit fine out close asked on h =
+      let e = entry l (p, page_of a) in
+      fits-by events [] answer (entry_answer l e) rows [] h.1 h.0 h.2 (entry-fits m l wide e (wide-entry m l (p, page_of a) wide))
+  follows-fit (AsksSlot k page) events answer rows fit fine out close asked on h =
+      let area = fit.0.most in
+      let high = fit.1.most in
+      fits-by events [] answer answer rows [] h.1 refl h.2
+      (slot-fits m w l (record { area = k; page = page }) answer s wide (omega (arith, area), omega (arith, high)) h.0)
+  follows-fit Stat events answer rows fit fine out close asked on h =
+      fits-by events [] answer (Counted (totals m w l)) rows [] h.1 h.0 h.2 (
+        record {
+          frames = frames;
+          free = omega (arith, sums, frames);
+          active = omega (arith, sums, frames);
+          inactive = omega (arith, sums, frames);
+          flight = omega (arith, flight, frames);
+          slots = slots;
+          free_slots = omega (arith, free, slots);
+          processes = omega (arith, processes);
+        },
+        (tt, refl),
+      )
+    where
+      frames : m.frames < 2 ^ 64
+      frames = few.frames
+
+      processes : length w ≤ 4096
+      processes = s.world.few
+
+      sums : length (free_frames m l) + length l.active + length l.inactive ≡ m.frames
+      sums = frames-add m l s.ledger
+
+      flight : length l.flight ≤ m.frames
+      flight = flight-few m l s.ledger
+
+      slots : sum_by (λ (a : ℕ × SwapArea). a.1.slots) l.on < 2 ^ 64
+      slots = small.slots
+
+      free : sum_by (free_slots m l) l.on ≤ sum_by (λ (a : ℕ × SwapArea). a.1.slots) l.on
+      free = free-few m l l.on
+
+  -- a legal reply is of the forms that are read back
+  pub legal-reads_back : (command : Command) (reply : Reply) (events : List Event) → IsInRange command → AskedWide command reply.rows
+      → AskedOn m command reply.answer → IsLegal m w l command reply events → IsReply reply
+  legal-reads_back command reply events fit asked on legal =
+      let f = by (refusal (tests m w l command)) refl legal.answer in
+      record { answer = f.0; rest = subst (λ ns. Follow reply.answer ns reply.rows) (sym legal.notes) f.1 }
+    where
+      causes : (numbers : OutOf) → numbers.pinned + numbers.noslot + numbers.fault ≡ m.frames → AreCauses numbers
+      causes numbers sum = let frames : m.frames < 2 ^ 64 = few.frames in
+          (omega (arith, sum, frames), omega (arith, sum, frames), omega (arith, sum, frames))
+
+      out : CausesFit reply.answer
+      out k numbers shown is = causes numbers (legal-adds m w l command reply events k numbers shown s legal is)
+
+      close : CloseFits reply.answer
+      close numbers is = causes numbers (close-adds-up m w l command reply events numbers s legal is)
+
+      by : (o : Option Errno) → refusal (tests m w l command) ≡ o → MatchOption o (Follows m w l command events reply.answer reply.rows)
+          (λ error. Refuses error events reply.answer reply.rows) →
+          Fits events reply.answer reply.rows
+      by None is h = follows-fit command events reply.answer reply.rows fit is out close asked on h
+      by (Some error) is h = fits-by events [] reply.answer (Refused error) reply.rows [] h.1 h.0 h.2 (tt, (tt, refl))

@@ -1,6 +1,6 @@
 //! A reply is read back from its text.
 
-ghost use Rattle.std.specs.Prelude.{◌≤◌, length, List};
+ghost use Rattle.std.specs.Prelude.{◌≤◌, ℕ, length, IfSome, List};
 ghost use Rattle.av_base.specs.Limits.{most_commands};
 ghost use Rattle.std.specs.List.{AllByRecursion};
 ghost use Rattle.av_trace.specs.declared.command.Command.{Command};
@@ -13,29 +13,34 @@ ghost use Rattle.av_plain.specs.Transcript.{Exchange, State, IsRun, at_first};
 ghost use Rattle.av_plain.specs.Sound.{AllSound};
 ghost use Rattle.av_trace.specs.Command.{IsInRange};
 ghost use Rattle.av_text.specs.Number.{IsWide};
+ghost use Rattle.av_plain.specs.Device.{Device, HasNoDevice, setting_of};
 ghost use Rattle.av_trace.specs.Reply.{IsReply};
-ghost use Rattle.av_plain.specs.Device.{HasNoDevice};
-ghost use Rattle.av_laws.specs.ReadBack.{IsSmall, IsWideRow};
+ghost use Rattle.av_laws.specs.ReadBack.{IsSmall, IsSmallSetting, IsWideOn, IsWideRow};
 
 /// A legal reply to a command with values in range is one that is read back from its text: its
 /// numbers are of 64 bits, its bytes below 256, and its rows as many as it says. This is so where
-/// no device is attached, and where offsets, own anon_vmas and chains that the rows of `areas` say
-/// are of 64 bits, too. Legality says nothing of these, since it knows of memories and ledger
-/// alone: a step shows those of the state's areas, and in a run they are so, as the next law says.
+/// the numbers of setting, memories and ledger are of 64 bits, and those that legality leaves open:
+/// what the rows of `areas` say beside pages (offsets, own anon_vmas and chains), and what `swapon`
+/// answers over a device that tells no header. In a run all these are so, as the next law says.
 pub fn replies_are_read_back()
     ensures { (m : Setting) (w : World) (l : Ledger) (command : Command) (reply : Reply)
-        (events : List Event) → HasNoDevice m → AllSound m w l → IsSmall m w
-        → IsInRange command → AllByRecursion IsWideRow reply.rows
+        (events : List Event) → IsSmallSetting m → AllSound m w l → IsSmall w l
+        → IsInRange command → AllByRecursion IsWideRow reply.rows → IsWideOn m reply.answer
         → IsLegal m w l command reply events → IsReply reply }
 {}
 
-/// So is each reply of a run from nothing on, where no device is attached, the machine's frames
-/// have numbers of 64 bits, and the commands are at most 2^24, each with values in range. A command
-/// makes fewer than 2^36 anon_vmas, so those of a run have numbers of 64 bits.
+/// So is each reply of a run from nothing on, over any device that tells its pages or doesn't, where
+/// the numbers of its setting are of 64 bits, and the commands are at most 2^24, each with values in
+/// range. A command makes fewer than 2^36 anon_vmas, so those of a run have numbers of 64 bits; and
+/// an area that is turned on has at most 1,048,576 pages. The setting is such over each device whose
+/// areas have pages of 64 bits, and over each machine without a device.
 pub fn replies_of_runs_are_read_back()
-    ensures { (m : Setting) (exchanges : List Exchange) (new : State) → HasNoDevice m
-        → IsWide m.frames → length exchanges ≤ most_commands
+    ensures in_runs { (m : Setting) (exchanges : List Exchange) (new : State) → IsSmallSetting m
+        → length exchanges ≤ most_commands
         → AllByRecursion (λ (e : Exchange). IsInRange e.command) exchanges
         → IsRun m (at_first m) exchanges new
         → AllByRecursion (λ (e : Exchange). IsReply e.reply) exchanges }
+    ensures of_devices { (n : ℕ) (device : Device) → IsWide n
+        → ((k : ℕ) → IfSome (device.sizes k) IsWide) → IsSmallSetting (setting_of n device) }
+    ensures without_device { (m : Setting) → IsWide m.frames → HasNoDevice m → IsSmallSetting m }
 {}

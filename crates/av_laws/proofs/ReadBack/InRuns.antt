@@ -1,4 +1,4 @@
--- Each step leaves a small state, where no device is attached.
+-- Each step leaves pages below the top, of processes with numbers of 64 bits.
 use Rattle.std.specs.List.{list_all}
 use Rattle.std.specs.Prelude.{MatchBool, MatchOption, slice_index}
 use Rattle.std.specs.Ordering.{nat_cmp, eq_by_cmp}
@@ -39,11 +39,10 @@ use Rattle.av_plain.proofs.Refusal.{MayRemap, may-remap, refused-next}
 use Rattle.av_plain.proofs.Sound.{map_count-loads}
 use Rattle.av_plain.proofs.Sound.Zap.{pages-ended}
 use Rattle.av_plain.proofs.World.{pages-set}
-use Rattle.av_laws.specs.ReadBack.{IsSmall}
 
 -- ---- pages stay below the top, of processes with small numbers
 
-abbrev Below : World → Type 0
+abbrev pub Below : World → Type 0
 Below w = (p page : ℕ) → is_some (pages w p page) ≡ true → (page < top_page) × IsWide p
 
 wide_number : (p : ℕ) → p ≤ 32767 → IsWide p
@@ -325,21 +324,16 @@ below-follows m w now l (AsksEntry p a) es answer rows fit same below none h = b
 below-follows m w now l (AsksSlot k page) es answer rows fit same below none h = below
 below-follows m w now l Stat es answer rows fit same below none h = below
 
-pub step-small : (m : Setting) (old new : State) (command : Command) (reply : Reply)
-    → IsInRange command → IsSmall m old.world → IsStep m old command reply new → IsSmall m new.world
-step-small m old new command reply fit small h = record {
-  frames = small.frames;
-  below = λ p page is. (later p page is).0;
-  processes = λ p page is. (later p page is).1;
-}
+pub step-below : (m : Setting) (old new : State) (command : Command) (reply : Reply)
+    → IsInRange command → Below old.world → IsStep m old command reply new → Below new.world
+step-below m old new command reply fit small h = subst Below (sym h.world)
+    (by (refusal (tests m old.world old.ledger command)) refl h.legal.answer)
   where
     now : World
     now = with_loads m old.world old.ledger h.events
 
     below : Below now
-    below p page is =
-        let was = sym (map_count-loads m old.world old.ledger h.events p page) ∙ is in
-        (small.below p page was, small.processes p page was)
+    below p page is = small p page (sym (map_count-loads m old.world old.ledger h.events p page) ∙ is)
 
     by : (o : Option Errno) → refusal (tests m old.world old.ledger command) ≡ o
         → MatchOption o (Follows m old.world old.ledger command h.events reply.answer reply.rows)
@@ -349,7 +343,3 @@ step-small m old new command reply fit small h = record {
         fit (without-loads m old.world old.ledger h.events) below is x
     by (Some error) is x = subst (λ a. Below (next now command a)) (sym x.0)
         (subst Below (sym (refused-next m old.world now old.ledger command error is)) below)
-
-    later : Below new.world
-    later = subst Below (sym h.world)
-        (by (refusal (tests m old.world old.ledger command)) refl h.legal.answer)
