@@ -8,6 +8,7 @@ pub mod AreasOn
 pub mod Device
 pub mod Few
 pub mod OfRuns
+pub mod Texts
 use Rattle.std.specs.List.{AllByRecursion, range_with_len}
 use Rattle.std.specs.Prelude.{IfSome, MatchBool, MatchOption, sum_by}
 use Rattle.std.proofs.Common.{◌≡◌, ◌⊎◌, inl, inr, ℕ, zero, suc, ◌+◌, ◌-◌, ◌^◌, ◌<◌, ◌≤◌, Bool, true, false, cond, not, ◌&&◌, List, [], ◌∷◌, ◌++◌, append-nil, map, take, reverse, length, Option, Some, None, is_some, option_map, refl, sym, ap, subst, ◌∙◌, arith, ◌==◌, nat_lt, nat_le, if◌then◌else◌}
@@ -63,7 +64,7 @@ use Rattle.av_plain.proofs.Access.{notes_of-append, notes_of-note_events}
 use Rattle.av_plain.proofs.Ledger.Walk.{all-walked, length-walk}
 use Rattle.av_plain.proofs.Report.Totals.{frames-add}
 use Rattle.av_plain.proofs.Sound.Bound.{map_count-few, slot_entries-few}
-use Rattle.av_laws.specs.ReadBack.{IsSmall, IsSmallArea, IsSmallSetting, IsWideOn, IsWideRow}
+use Rattle.av_laws.specs.ReadBack.{IsSmall, IsSmallArea, IsSmallLayout, IsSmallSetting, IsWideOn, IsWideRow}
 use Rattle.av_laws.proofs.OutOfMemory.{close-adds-up, legal-adds}
 use Rattle.av_laws.proofs.ReadBack.Counts.{flight-few, free-few}
 use Rattle.av_laws.proofs.ReadBack.Notes.{AreNotes, accesses-fit, ages-fit, completes-fit, empties-fit, outcomes-fit, remap-fits, zaps-fit}
@@ -348,6 +349,17 @@ slot-fits m w l t answer s wide fits h = by m.headers h
 
 -- ---- swap areas
 
+-- a swapon that isn't refused is of an area with pages
+pub has-pages : (m : Setting) (w : World) (l : Ledger) (k : ℕ) (priority : Option ℕ) → refusal (tests m w l (Swapon k priority)) ≡ None
+    → 0 < size_of m k
+has-pages m w l k priority fine = by (no_device_at m k) (is_on l k) (size_of m k) fine
+  where
+    by : (a b : Bool) (n : ℕ) → cond a (Some Einval) (cond b (Some Ebusy) (cond (n == 0) (Some Einval) None)) ≡ None → 0 < n
+    by true b n h = cc
+    by false true n h = cc
+    by false false zero h = cc
+    by false false (suc n) h = omega arith
+
 -- a header that is told, or what is answered without one
 turned-on-fits : (m : Setting) (k : ℕ) (priority : Option ℕ) (events : List Event) (answer : Answer) (rows : List Row) → IsSmallArea m k
     → IsWideOn m answer → TurnsOn m k priority events answer rows → Fits events answer rows
@@ -362,9 +374,8 @@ turned-on-fits m k priority events answer rows few on h = by m.headers refl h.0
         → Fits events answer rows
     of_header headers told None is e = is_this (Refused Einval) e refl tt (tt, refl)
     of_header headers told (Some h) is e =
-        let most : h.slots + length h.bad ≤ most_pages = subst (λ o. IfSome o (λ (h : Layout). h.slots + length h.bad ≤ most_pages)) is
-        (subst (λ o. IfSome {T = ℕ → Option Layout} o
-        (λ headers. IfSome (headers k) (λ (h : Layout). h.slots + length h.bad ≤ most_pages))) told few.header) in
+        let most : IsSmallLayout h = subst (λ o. IfSome o IsSmallLayout) is
+        (subst (λ o. IfSome {T = ℕ → Option Layout} o (λ headers. IfSome (headers k) IsSmallLayout)) told few.header) in
         is_this (On h.slots (length h.bad)) e refl (omega (arith, most), omega (arith, most)) (tt, refl)
 
     by : (o : Option (ℕ → Option Layout)) → m.headers ≡ o → (answer ≡ Refused Eio) ⊎ IsByHeader o k answer → Fits events answer rows
@@ -481,30 +492,33 @@ module _ (m : Setting) (w : World) (l : Ledger) (few : IsSmallSetting m) (s : Al
       (write-fits a h.0 (notes_of events) (access-stops m w l true p a (length bytes) events h.0 fit.2.0.most h.1)
       (accesses-fit m few.frames w p (key-fits p) l (pages_of_access true a (length bytes)) events h.0 wide h.1) (subst CausesFit h.2 out))
   follows-fit (Reclaim n) events answer rows fit fine out close asked on h =
-      fits-by events (note_events h.0) answer Done rows [] h.3 h.2 h.4 (tt, (
-        subst AreNotes (sym (notes_of-note_events h.0)) (outcomes-fit m (sparing w l None) l (from_tail n l.inactive) h.0 wide
-            (from-tail n l.inactive wide.inactive) h.1),
-        refl,
-      ))
+      fits-by events (note_events h.0) answer Done rows [] h.3 h.2 h.4 (
+        tt,
+        (
+          subst AreNotes (sym (notes_of-note_events h.0)) (outcomes-fit m (sparing w l None) l (from_tail n l.inactive) h.0 wide
+              (from-tail n l.inactive wide.inactive) h.1),
+          refl,
+        ),
+      )
   follows-fit (Age n) events answer rows fit fine out close asked on h =
-      fits-by events (note_events (map Aged (from_tail n l.active))) answer Done rows [] h.1 h.0 h.2 (tt, (
-        subst AreNotes (sym (notes_of-note_events (map Aged (from_tail n l.active))))
-            (ages-fit (from_tail n l.active) (from-tail n l.active wide.active)),
-        refl,
-      ))
+      fits-by events (note_events (map Aged (from_tail n l.active))) answer Done rows [] h.1 h.0 h.2 (
+        tt,
+        (
+          subst AreNotes (sym (notes_of-note_events (map Aged (from_tail n l.active))))
+              (ages-fit (from_tail n l.active) (from-tail n l.active wide.active)),
+          refl,
+        ),
+      )
   follows-fit (Complete n) events answer rows fit fine out close asked on h =
-      fits-by events (note_events h.0) answer Done rows [] h.3 h.2 h.4 (tt, (
-        subst AreNotes (sym (notes_of-note_events h.0)) (completes-fit l (take n l.flight) h.0 (all-take IsSlot n l.flight wide.flight) h.1),
-        refl,
-      ))
+      fits-by events (note_events h.0) answer Done rows [] h.3 h.2 h.4 (
+        tt,
+        (
+          subst AreNotes (sym (notes_of-note_events h.0)) (completes-fit l (take n l.flight) h.0 (all-take IsSlot n l.flight wide.flight) h.1),
+          refl,
+        ),
+      )
   follows-fit (Swapon k priority) events answer rows fit fine out close asked on h =
-      turned-on-fits m k priority events answer rows (few.areas k (has_pages (no_device_at m k) (is_on l k) (size_of m k) fine)) on h
-    where
-      has_pages : (a b : Bool) (n : ℕ) → cond a (Some Einval) (cond b (Some Ebusy) (cond (n == 0) (Some Einval) None)) ≡ None → 0 < n
-      has_pages true b n h = cc
-      has_pages false true n h = cc
-      has_pages false false zero h = cc
-      has_pages false false (suc n) h = omega arith
+      turned-on-fits m k priority events answer rows (few.areas k (has-pages m w l k priority fine)) on h
   follows-fit (Swapoff k) events answer rows fit fine out close asked on h =
       turned-off-fits m w l k events answer rows few.frames wide (is_on_now (is_on l k) fine) close h
     where

@@ -1,27 +1,32 @@
 -- What a run's numbers have to be so that each of its replies is read back from its text.
-use Rattle.std.specs.Prelude.{◌≡◌, ℕ, ◌+◌, ◌<◌, ◌≤◌, is_some, true, length, sum_by, IfSome, MatchOption}
-use Rattle.std.specs.List.{AllByRecursion}
+use Rattle.std.specs.Prelude.{◌≡◌, ℕ, ◌+◌, ◌<◌, ◌≤◌, is_some, true, length, sum_by, IfSome}
+use Rattle.std.specs.Prelude.{List, MatchOption}
+use Rattle.std.specs.List.{AllByRecursion, flat_map}
 use Rattle.av_base.specs.Limits.{top_page}
 use Rattle.av_text.specs.Number.{IsWide}
 use Rattle.av_swapdev.specs.Device.{most_pages}
 use Rattle.av_swapdev.specs.Header.{Layout}
 use Rattle.av_trace.specs.declared.reply.Answer.{Answer}
 use Rattle.av_trace.specs.declared.reply.Answer.TheVariants.{On}
+use Rattle.av_trace.specs.Print.{text_of}
 use Rattle.av_trace.specs.declared.row.Row.{Row}
 use Rattle.av_trace.specs.declared.row.Row.TheVariants.{Area as AreaRow}
 use Rattle.av_plain.specs.World.{World, pages}
 use Rattle.av_plain.specs.Ledger.{Ledger, Setting, SwapArea, is_on, size_of}
+use Rattle.av_plain.specs.Transcript.{Exchange}
 
 -- ---- what does not change in a run
 
--- a swap area has pages with numbers of 64 bits; and where its header is told, no more slots and
--- bad pages than an area may have pages
+-- a header says no more slots and bad pages than an area may have pages
+abbrev pub IsSmallLayout : Layout → Type 0
+IsSmallLayout h = h.slots + length h.bad ≤ most_pages
+
+-- a swap area has pages with numbers of 64 bits, and such a header where that is told
 pub record IsSmallArea (m : Setting) (k : ℕ) : Type 0 where
   pub pages : IsWide (size_of m k)
-  pub header : IfSome m.headers (λ headers. IfSome (headers k)
-      (λ (h : Layout). h.slots + length h.bad ≤ most_pages))
+  pub header : IfSome m.headers (λ headers. IfSome (headers k) IsSmallLayout)
 
--- the frames have numbers of 64 bits, and each swap area that has a page is such
+-- the frames have numbers of 64 bits, and each swap area with a page is such; so it is over devices
 pub record IsSmallSetting (m : Setting) : Type 0 where
   pub frames : IsWide m.frames
   pub areas : (k : ℕ) → 0 < size_of m k → IsSmallArea m k
@@ -49,3 +54,9 @@ IsWideRow row = Unit {0}
 abbrev pub IsWideOn : Setting → Answer → Type 0
 IsWideOn m (On slots bad) = MatchOption m.headers (IsWide slots × IsWide bad) (λ _. Unit {0})
 IsWideOn m answer = Unit {0}
+
+-- ---- the text of a run
+
+-- the texts of its replies, one behind the other
+abbrev pub text_of_run : List Exchange → List ℕ
+text_of_run exchanges = flat_map (λ (e : Exchange). text_of e.reply) exchanges

@@ -56,7 +56,9 @@ pub use pass_turns::{
     cached_frames_are_unmapped_and_written, changed_passes_are_refused, frames_have_their_turns,
     pages_are_lost_behind_a_pass, passes_end_with_a_free_frame,
 };
-pub use read_back::{replies_are_read_back, replies_of_runs_are_read_back};
+pub use read_back::{
+    replies_are_read_back, replies_of_runs_are_read_back, texts_of_runs_say_replies,
+};
 pub use refusals::refusals_change_nothing;
 pub use several::{
     all_areas_count, kept_frames_go_to_the_head, page_0_of_a_device_stays,

@@ -1,6 +1,6 @@
 //! A reply is read back from its text.
 
-ghost use Rattle.std.specs.Prelude.{◌≤◌, ℕ, length, IfSome, List};
+ghost use Rattle.std.specs.Prelude.{◌≡◌, ◌≤◌, ℕ, length, map, IfSome, List};
 ghost use Rattle.av_base.specs.Limits.{most_commands};
 ghost use Rattle.std.specs.List.{AllByRecursion};
 ghost use Rattle.av_trace.specs.declared.command.Command.{Command};
@@ -16,6 +16,7 @@ ghost use Rattle.av_text.specs.Number.{IsWide};
 ghost use Rattle.av_plain.specs.Device.{Device, HasNoDevice, setting_of};
 ghost use Rattle.av_trace.specs.Reply.{IsReply};
 ghost use Rattle.av_laws.specs.ReadBack.{IsSmall, IsSmallSetting, IsWideOn, IsWideRow};
+ghost use Rattle.av_laws.specs.ReadBack.{text_of_run};
 
 /// A legal reply to a command with values in range is one that is read back from its text: its
 /// numbers are of 64 bits, its bytes below 256, and its rows as many as it says. This is so where
@@ -29,11 +30,11 @@ pub fn replies_are_read_back()
         → IsLegal m w l command reply events → IsReply reply }
 {}
 
-/// So is each reply of a run from nothing on, over any device that tells its pages or doesn't, where
-/// the numbers of its setting are of 64 bits, and the commands are at most 2^24, each with values in
-/// range. A command makes fewer than 2^36 anon_vmas, so those of a run have numbers of 64 bits; and
-/// an area that is turned on has at most 1,048,576 pages. The setting is such over each device whose
-/// areas have pages of 64 bits, and over each machine without a device.
+/// So is each reply of a run from nothing on, over any device, whether it tells its pages or not,
+/// where the numbers of its setting are of 64 bits, and the commands are at most 2^24, each with
+/// values in range. A command makes fewer than 2^36 anon_vmas, so those of a run have numbers of 64
+/// bits; and an area that is turned on has at most 1,048,576 pages. The setting is such over each
+/// device whose areas have pages of 64 bits, and over each machine without a device.
 pub fn replies_of_runs_are_read_back()
     ensures in_runs { (m : Setting) (exchanges : List Exchange) (new : State) → IsSmallSetting m
         → length exchanges ≤ most_commands
@@ -43,4 +44,17 @@ pub fn replies_of_runs_are_read_back()
     ensures of_devices { (n : ℕ) (device : Device) → IsWide n
         → ((k : ℕ) → IfSome (device.sizes k) IsWide) → IsSmallSetting (setting_of n device) }
     ensures without_device { (m : Setting) → IsWide m.frames → HasNoDevice m → IsSmallSetting m }
+{}
+
+/// So a transcript's text says its replies: two such runs with one text have the same replies,
+/// whatever their commands and devices.
+pub fn texts_of_runs_say_replies()
+    ensures { (m n : Setting) (these those : List Exchange) (new other : State)
+        → IsSmallSetting m → IsSmallSetting n
+        → length these ≤ most_commands → length those ≤ most_commands
+        → AllByRecursion (λ (e : Exchange). IsInRange e.command) these
+        → AllByRecursion (λ (e : Exchange). IsInRange e.command) those
+        → IsRun m (at_first m) these new → IsRun n (at_first n) those other
+        → text_of_run these ≡ text_of_run those
+        → map (λ (e : Exchange). e.reply) these ≡ map (λ (e : Exchange). e.reply) those }
 {}

@@ -5,7 +5,7 @@ use Rattle.std.specs.Ordering.{eq_by_cmp, nat_cmp}
 use Rattle.std.specs.Prelude.{IfSome, IsSomeAnd, MatchOption, count_by}
 use Rattle.std.specs.declared.cmp.Ordering.{Ordering}
 use Rattle.std.specs.declared.cmp.Ordering.TheVariants.{Less, Equal, Greater}
-use Rattle.std.proofs.Common.{◌≡◌, ◌⊎◌, inl, inr, ℕ, zero, suc, ◌+◌, ◌-◌, ◌<◌, ◌≤◌, min, Bool, true, false, cond, not, ◌&&◌, ◌==◌, List, [], ◌∷◌, ◌++◌, length, map, Option, Some, None, is_some, refl, sym, ap, subst, ◌∙◌, arith}
+use Rattle.std.proofs.Common.{◌≡◌, ◌⊎◌, inl, inr, ℕ, ◌+◌, ◌-◌, ◌<◌, ◌≤◌, min, Bool, true, false, cond, not, ◌&&◌, ◌==◌, List, [], ◌∷◌, ◌++◌, map, Option, Some, None, is_some, refl, sym, ap, subst, ◌∙◌, arith}
 use Rattle.std.proofs.lemmas.Bool.Decides.{nat_tests}
 use Rattle.av_base.specs.Page.{page_of, pages_of}
 use Rattle.av_base.specs.Words.{within}
@@ -23,30 +23,29 @@ use Rattle.av_trace.specs.declared.note.Note.TheVariants.{Aged, Copied, Dropped,
 use Rattle.av_trace.specs.declared.place.Place.{Place}
 use Rattle.av_trace.specs.declared.place.Place.TheVariants.{Auto, At, Fixed, NoReplace}
 use Rattle.av_trace.specs.declared.reply.Answer.{Answer}
-use Rattle.av_trace.specs.declared.reply.Answer.TheVariants.{On, Refused}
+use Rattle.av_trace.specs.declared.reply.Answer.TheVariants.{Refused}
 use Rattle.av_trace.specs.declared.reply.Errno.{Errno}
-use Rattle.av_trace.specs.declared.reply.Errno.TheVariants.{Ebusy, Einval, Eio}
+use Rattle.av_trace.specs.declared.reply.Errno.TheVariants.{Eio}
 use Rattle.av_trace.specs.declared.reply.Reply.{Reply}
 use Rattle.av_trace.specs.declared.row.Row.{Row}
 use Rattle.av_plain.specs.Access.{Accesses, End, page_events}
-use Rattle.av_plain.specs.Choice.{AreFresh, AreaSlots, ChoosesAll, Free}
-use Rattle.av_plain.specs.Event.{Event, EntriesMoved, Forked, Noted, TurnedOff, TurnedOn, Used, Zapped, after, after_all, after_note, after_use_of, change_entries, entries_where, if_some, is_inherited, note_events, off_cache, off_flight, put_all, set_entry, settle, settle_entry, to_inactive_tail, when, with_stale, without_seen}
-use Rattle.av_plain.specs.Fault.{Stop}
-use Rattle.av_plain.specs.Ledger.{Entry, HasNumbers, InFrame, InSlot, Key, Ledger, Setting, SwapArea, Zero, entry, frame_at, is_free, is_on, is_orphan, key_cmp, size_of, slot_of}
+use Rattle.av_plain.specs.Choice.{AreFresh, ChoosesAll, Free}
+use Rattle.av_plain.specs.Event.{Event, EntriesMoved, Forked, Noted, TurnedOff, TurnedOn, Used, Zapped, after, after_all, after_note, after_use_of, change_entries, entries_where, if_some, is_inherited, note_events, off_cache, off_flight, put_all, set_entry, settle_entry, to_inactive_tail, when, with_stale, without_seen}
+use Rattle.av_plain.specs.Ledger.{Entry, HasNumbers, InFrame, InSlot, Key, Ledger, Setting, SwapArea, Zero, entry, frame_at, is_orphan, size_of, slot_of}
 use Rattle.av_plain.specs.Map.{zaps_for_place}
-use Rattle.av_plain.specs.Mremap.{events_to, range_zaps, remap_events}
-use Rattle.av_plain.specs.Refusal.{Refuses, no_device_at, refusal, tests}
+use Rattle.av_plain.specs.Mremap.{events_to, range_zaps}
+use Rattle.av_plain.specs.Refusal.{Refuses, refusal, tests}
 use Rattle.av_plain.specs.Sound.{AllSound}
 use Rattle.av_plain.specs.Step.{Follows, closing_swap_area}
 use Rattle.av_plain.specs.Swapoff.{Close, Closed, NoRoom, Unread, turn_off_events}
-use Rattle.av_plain.specs.Swapon.{IsByHeader, TurnsOn, header_answer, priority_of, turn_on_events}
+use Rattle.av_plain.specs.Swapon.{IsByHeader, header_answer, priority_of, turn_on_events}
 use Rattle.av_plain.specs.Transcript.{IsStep, State}
 use Rattle.av_plain.specs.World.{World}
 use Rattle.av_plain.specs.Zap.{keys_in, keys_of_process, orphan_drop, slot_behind_key, zap_of, zaps_of}
 use Rattle.av_plain.proofs.Mremap.{then_target}
 use Rattle.av_plain.proofs.Sound.There.{settle-on}
-use Rattle.av_laws.specs.ReadBack.{IsSmall, IsSmallArea, IsSmallSetting, IsWideOn}
-use Rattle.av_laws.proofs.ReadBack.{AskedOn}
+use Rattle.av_laws.specs.ReadBack.{IsSmall, IsSmallArea, IsSmallLayout, IsSmallSetting, IsWideOn}
+use Rattle.av_laws.proofs.ReadBack.{AskedOn, has-pages}
 use Rattle.av_laws.proofs.ReadBack.Counts.{IsFewOn, slots-few}
 use Rattle.av_laws.proofs.ReadBack.InRuns.{Below}
 use Rattle.av_laws.proofs.ReadBack.Wide.{all-append}
@@ -120,16 +119,6 @@ module _ (m : Setting) where
       by None (inl e) = subst (λ a. AreNamed m (turn_on_events k priority a)) (sym e) tt
       by None (inr h) = subst (λ a. AreNamed m (turn_on_events k priority a)) (sym h.3) ((few, some), tt)
 
-  -- a swapon that isn't refused is of an area with pages
-  pub has_pages : (w : World) (l : Ledger) (k : ℕ) (priority : Option ℕ) → refusal (tests m w l (Swapon k priority)) ≡ None → 0 < size_of m k
-  has_pages w l k priority fine = by (no_device_at m k) (is_on l k) (size_of m k) fine
-    where
-      by : (a b : Bool) (n : ℕ) → cond a (Some Einval) (cond b (Some Ebusy) (cond (n == 0) (Some Einval) None)) ≡ None → 0 < n
-      by true b n h = cc
-      by false true n h = cc
-      by false false zero h = cc
-      by false false (suc n) h = omega arith
-
   named-follows : (w : World) (l : Ledger) (command : Command) (events : List Event) (answer : Answer) (rows : List Row) → IsInRange command
       → refusal (tests m w l command) ≡ None → Follows m w l command events answer rows → AreNamed m events
   named-follows w l (Spawn p) events answer rows fit fine h = none-named events h.1
@@ -153,7 +142,7 @@ module _ (m : Setting) where
   named-follows w l (Age n) events answer rows fit fine h = subst (AreNamed m) (sym h.1) (named-notes _)
   named-follows w l (Complete n) events answer rows fit fine h = subst (AreNamed m) (sym h.3) (named-notes h.0)
   named-follows w l (Swapon k priority) events answer rows fit fine h = subst (AreNamed m) (sym h.1)
-      (named-on k priority answer fit.0.most (has_pages w l k priority fine) h.0)
+      (named-on k priority answer fit.0.most (has-pages m w l k priority fine) h.0)
   named-follows w l (Swapoff k) events answer rows fit fine h = subst (AreNamed m) (sym h.whole)
       (all-append (IsNamed m) (note_events (h.done ++ h.notes)) (turn_off_events k h.end) (named-notes (h.done ++ h.notes)) (by h.end))
     where
@@ -179,13 +168,13 @@ fresh-few : (m : Setting) (k : ℕ) (area : SwapArea) (made : Slots) → IsSmall
     → (area.slots ≤ most_pages) × IsWide area.bad
 fresh-few m k area made small h = by m.headers small.header h
   where
-    told : (o : Option Layout) → IfSome o (λ (h : Layout). h.slots + length h.bad ≤ most_pages)
+    told : (o : Option Layout) → IfSome o IsSmallLayout
         → IsSomeAnd o (λ (h : Layout). HasNumbers area h × (made ≡ fresh h.pages h.bad)) → (area.slots ≤ most_pages) × IsWide area.bad
     told None few h = absurd h
     told (Some layout) few h = let a = h.0.slots in let b = h.0.bad in (omega (arith, few, a), omega (arith, few, b))
 
     by : (o : Option (ℕ → Option Layout))
-        → IfSome {T = ℕ → Option Layout} o (λ headers. IfSome (headers k) (λ (h : Layout). h.slots + length h.bad ≤ most_pages))
+        → IfSome {T = ℕ → Option Layout} o (λ headers. IfSome (headers k) IsSmallLayout)
         → MatchOption {T = ℕ → Option Layout} o
         ((pages : ℕ) × (bad : List ℕ) × (pages ≤ min (size_of m k) most_pages) × (1 + area.slots + area.bad ≡ pages)
         × (made ≡ fresh pages bad) × (count_by is_free_page made.pages ≡ area.slots))

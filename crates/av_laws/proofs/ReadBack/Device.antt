@@ -1,23 +1,19 @@
 -- The setting of a run over a device has numbers of 64 bits where the device's sizes have them, and so has each without a device.
 use Rattle.std.specs.Prelude.{Err, IfSome, Ok, Result, option_and_then, option_map}
-use Rattle.std.proofs.Common.{◌≡◌, ℕ, ◌+◌, ◌<◌, ◌≤◌, List, length, Option, Some, None, unwrap_or, refl, sym, ap, arith}
+use Rattle.std.proofs.Common.{◌≡◌, ℕ, List, Option, Some, None, unwrap_or, refl, sym, ap, arith}
 use Rattle.av_text.specs.Number.{IsWide}
-use Rattle.av_swapdev.specs.Device.{most_pages}
 use Rattle.av_swapdev.specs.Header.{Layout, answer_of, header_of}
 use Rattle.av_swapdev.specs.declared.header.HeaderErr.{HeaderErr}
 use Rattle.av_swapdev.proofs.HeaderLemmas.{adds_up}
 use Rattle.av_plain.specs.Device.{Device, HasNoDevice, setting_of, without_fault}
 use Rattle.av_plain.specs.Ledger.{Setting, size_of}
-use Rattle.av_laws.specs.ReadBack.{IsSmallArea, IsSmallSetting}
-
-abbrev IsFewLayout : Layout → Type 0
-IsFewLayout h = h.slots + length h.bad ≤ most_pages
+use Rattle.av_laws.specs.ReadBack.{IsSmallLayout, IsSmallSetting}
 
 -- what a page 0 says of an area
-page-few : (page : List ℕ) (size : ℕ) → IfSome (without_fault (header_of page size)) IsFewLayout
+page-few : (page : List ℕ) (size : ℕ) → IfSome (without_fault (header_of page size)) IsSmallLayout
 page-few page size = by (header_of page size) refl
   where
-    by : (r : Result Layout HeaderErr) → header_of page size ≡ r → IfSome (without_fault r) IsFewLayout
+    by : (r : Result Layout HeaderErr) → header_of page size ≡ r → IfSome (without_fault r) IsSmallLayout
     by (Err fault) is = tt
     by (Ok h) is =
         let sums = adds_up page size (answer_of (Ok h)) (sym (ap answer_of is)) in
@@ -35,14 +31,14 @@ small-device n d frames sizes = record {
     wide None h = omega arith
     wide (Some size) h = h
 
-    sized : (page : List ℕ) (o : Option ℕ) → IfSome (option_and_then (λ n. without_fault (header_of page n)) o) IsFewLayout
+    sized : (page : List ℕ) (o : Option ℕ) → IfSome (option_and_then (λ n. without_fault (header_of page n)) o) IsSmallLayout
     sized page None = tt
     sized page (Some size) = page-few page size
 
     told : (k : ℕ) (o : Option (ℕ → ℕ → List ℕ)) → IfSome {T = ℕ → Option Layout} (option_map
         (λ (first : ℕ → List ℕ) (k : ℕ). option_and_then (λ n. without_fault (header_of (first k) n)) (d.sizes k))
         (option_map (λ (told : ℕ → ℕ → List ℕ) (k : ℕ). told k 0) o))
-        (λ (headers : ℕ → Option Layout). IfSome (headers k) IsFewLayout)
+        (λ (headers : ℕ → Option Layout). IfSome (headers k) IsSmallLayout)
     told k None = tt
     told k (Some pages) = sized (pages k 0) (d.sizes k)
 

@@ -1,4 +1,5 @@
--- The notes of each command have numbers of 64 bits, where the ledger has them: each names frames of the machine, slots that are in use or may be given, and mapped pages.
+-- The notes of each command have numbers of 64 bits, where the ledger has them: each names frames of the machine, slots that are in use or may be
+-- given, and mapped pages.
 use Rattle.std.specs.List.{AllByRecursion, range_with_len}
 use Rattle.std.specs.Prelude.{MatchBool, MatchOption, IsTrue}
 use Rattle.std.proofs.Common.{◌≡◌, ◌⊎◌, inl, inr, ℕ, zero, suc, ◌+◌, ◌-◌, ◌<◌, ◌≤◌, min, Bool, true, false, cond, not, ◌&&◌, ◌==◌, nat_lt, List, [], ◌∷◌, ◌++◌, map, filter, reverse, Option, Some, None, is_none, refl, sym, ap, subst, ◌∙◌, arith}
@@ -10,16 +11,16 @@ use Rattle.av_trace.specs.Reply.{IfThere}
 use Rattle.av_trace.specs.declared.note.Cause.{Cause}
 use Rattle.av_trace.specs.declared.note.Cause.TheVariants.{WriteStarted}
 use Rattle.av_trace.specs.declared.note.Note.{Note}
-use Rattle.av_trace.specs.declared.note.Note.TheVariants.{Aged, Copied, Dropped, Kept, Loaded, Mapped, New, Put, Started, Unmapped, Zeroed}
+use Rattle.av_trace.specs.declared.note.Note.TheVariants.{Aged, Copied, Dropped, Kept, Loaded, Mapped, New, Put, Started, Unmapped}
 use Rattle.av_trace.specs.declared.reply.OutOf.{OutOf}
 use Rattle.av_plain.specs.Access.{Accesses, End, page_events}
 use Rattle.av_plain.specs.Event.{Event, EntriesMoved, Used, Zapped, after_all, after_note, after_notes, after_use, after_zap, note_events, notes_of, when}
 use Rattle.av_plain.specs.Fault.{ComesIn, CopyOnWrite, Denied, IsMade, Lost, MapCached, Need, NewPage, Ready, RunsOut, Serves, Sparing, Starved, Stop, SwapIn, Touches, ZeroPage, drop_at, drop_of_entry, drop_of_slot, is_allowed, is_shared, is_unneeded, need, need_of_slot, pinned_by, sparing, was_slot}
 use Rattle.av_plain.specs.Ledger.{Entry, InFrame, InSlot, Key, Ledger, Setting, Zero, entry, frame_at, has_free, has_free_slot, is_on, is_open, is_orphan, is_usable, keys_of_slot, map_count, may_give, names_slot, size_of, slot_count, slot_of, slots_in_use}
-use Rattle.av_plain.specs.Mremap.{events_to, range_zaps, remap_events}
+use Rattle.av_plain.specs.Mremap.{range_zaps, remap_events}
 use Rattle.av_plain.specs.Pass.{Completes, IsPass, IsSlotFor, Seeks, Spared, TakesFor, Turns, end_note, end_notes, frames_in_turn, is_dirty, is_stuck, stays_cached, turn_notes, unmap_notes}
 use Rattle.av_plain.specs.Reclaim.{Outcome, Outcomes, cause_of, leave_notes}
-use Rattle.av_plain.specs.Swapoff.{Close, Empties, EndsAt, IsEmptied, IsFetched, map_notes}
+use Rattle.av_plain.specs.Swapoff.{Close, Empties, EndsAt, IsEmptied, map_notes}
 use Rattle.av_plain.specs.World.{World}
 use Rattle.av_plain.specs.Zap.{keys_in, orphan_drop, slot_behind_key, zap_of, zaps_of}
 use Rattle.av_plain.proofs.Access.{after_all-append, note_events-all, notes_of-append, notes_of-note_events}
@@ -292,9 +293,11 @@ module _ (m : Setting) (frames : IsWide m.frames) where
           (λ cached. (h.fetched ≡ []) × (h.frame ≡ cached)) → AreNotes h.fetched × IsWide h.frame
       by (Some g) frame q = (subst AreNotes (sym q.0) tt, subst IsWide (sym q.1) frame)
       by None frame q =
-          let fits = takes-fit m sp l h.fetched (Loaded s) frames wide (λ f wide_frame. (slot, wide_frame)) q.0 in
-          (fits, there IsWide (frame_at (after_notes l h.fetched) s) h.frame q.1
-          (wide-frame_at m (after_notes l h.fetched) s (wide-notes m l h.fetched fits wide)))
+          let fits = takes-fit m sp l h.fetched (Loaded s) frames wide (λ f wide_frame. (slot, wide_frame)) q.0 in (
+            fits,
+            there IsWide (frame_at (after_notes l h.fetched) s) h.frame q.1
+                (wide-frame_at m (after_notes l h.fetched) s (wide-notes m l h.fetched fits wide)),
+          )
 
   -- each page of the area is a slot that can be said
   pub empties-fit : (sp : Spared) (k : ℕ) → ((page : ℕ) → page < size_of m k → IsSlot (record { area = k; page = page }))

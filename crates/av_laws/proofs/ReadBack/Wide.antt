@@ -1,10 +1,9 @@
 -- A ledger with numbers of 64 bits stays one after each note that has such numbers. A sound one has them where its setting does.
-use Rattle.std.specs.List.{AllByRecursion, list_any}
+use Rattle.std.specs.List.{AllByRecursion}
 use Rattle.std.specs.FinMap.Entries.{find, put, where_key, by_order, is_some-find}
-use Rattle.std.specs.Ordering.{eq_by_cmp}
 use Rattle.std.specs.declared.cmp.Ordering.{Ordering}
 use Rattle.std.specs.declared.cmp.Ordering.TheVariants.{Less, Equal, Greater}
-use Rattle.std.proofs.Common.{◌≡◌, ℕ, zero, suc, ◌+◌, ◌<◌, Bool, true, false, cond, not, ◌&&◌, ◌==◌, nat_lt, List, [], ◌∷◌, ◌++◌, map, filter, take, reverse, Option, Some, None, is_some, option_map, refl, sym, ap, subst, ◌∙◌, arith}
+use Rattle.std.proofs.Common.{◌≡◌, ℕ, zero, suc, ◌+◌, ◌<◌, Bool, true, false, cond, not, ◌&&◌, ◌==◌, nat_lt, List, [], ◌∷◌, ◌++◌, map, filter, take, reverse, Option, Some, None, option_map, refl, ◌∙◌, arith}
 use Rattle.std.proofs.lemmas.Bool.Decides.{nat_tests}
 use mathlib.Core.List.{reverse_aux}
 use Rattle.av_base.specs.Page.{address_of, page_of}
@@ -16,9 +15,9 @@ use Rattle.av_trace.specs.Reply.{IfThere}
 use Rattle.av_trace.specs.declared.note.Cause.TheVariants.{NoSlot, Referenced, WriteStarted, Writeback}
 use Rattle.av_trace.specs.declared.note.Note.{Note}
 use Rattle.av_trace.specs.declared.note.Note.TheVariants.{Aged, Copied, Dropped, Failed, Kept, Loaded, Mapped, New, Put, Started, Unmapped, Written, Zeroed}
-use Rattle.av_plain.specs.Event.{after_note, after_notes, after_use, after_use_of, after_zap, change_entries, frame_of, if_some, into_cache, off_cache, off_flight, off_lists, set_entry, settle, settle_entry, to_active, to_inactive_head, to_inactive_tail, with_stale, without, without_seen}
-use Rattle.av_plain.specs.Ledger.{Cached, Entry, InFrame, InSlot, Key, Ledger, Setting, Zero, cached_by, entry, frame_at, is_free, is_on, is_usable, key_cmp, names_frame, names_slot, same_slot, size_of, slot_entries, slot_of}
-use Rattle.av_plain.specs.Sound.{AllSound, count, flights, holders, is_there, slots, uses}
+use Rattle.av_plain.specs.Event.{after_note, after_notes, after_use, after_use_of, after_zap, change_entries, if_some, into_cache, off_cache, off_flight, off_lists, set_entry, settle, settle_entry, to_active, to_inactive_head, to_inactive_tail, with_stale, without, without_seen}
+use Rattle.av_plain.specs.Ledger.{Cached, Entry, InFrame, InSlot, Key, Ledger, Setting, Zero, cached_by, entry, frame_at, is_free, is_on, is_usable, key_cmp, names_frame, names_slot, same_slot, size_of, slot_of}
+use Rattle.av_plain.specs.Sound.{AllSound, count, slots, uses}
 use Rattle.av_plain.specs.World.{World}
 use Rattle.av_plain.proofs.Ledger.{same_key}
 use Rattle.av_plain.proofs.Ledger.Walk.{all-listed}
