@@ -140,6 +140,8 @@ pub fn copy_for_child(mem: &mut Mem, entry: Pte) -> Result<(), AllocError>
 
 /// Lets an entry go that its table has lost, or is about to lose, and adds the note of a slot that
 /// was dropped. Only the note takes memory; without it nothing is promised of entries and counts.
+// An exit calls it for each page, and mostly it only counts down.
+#[inline(always)]
 pub fn let_go(mem: &mut Mem, entry: Pte, notes: &mut Notes) -> Result<(), AllocError>
     requires there { HasEntry mem.old entry }
     ensures goes { (d : Device) (l : Ledger) (table : Table) (p page : ℕ) →

@@ -100,6 +100,8 @@ impl Table for RadixTable {
         Ok(RadixTable { top })
     }
 
+    // A walk's looks are little more than this.
+    #[inline(always)]
     fn get(&self, page: u64) -> Pte {
         self.top.get(page)
     }
