@@ -9,7 +9,7 @@ use Rattle.std.proofs.lemmas.List.FromFn.{fill_by_all, get_or-map-range_with_len
 use Rattle.std.proofs.lemmas.List.Sums.{sum_by-cons}
 use Rattle.av_clusters.specs.declared.clusters.Page.{Page}
 use Rattle.av_clusters.specs.declared.clusters.Page.TheVariants.{Unusable, Free}
-use Rattle.av_clusters.specs.Clusters.{IsWhole, itself, is_free, is_taken, page_at, lowest, has_free, start_of, end_of, at_first, pages_of, clusters_of}
+use Rattle.av_clusters.specs.Clusters.{IsWhole, AreFull, itself, is_free, is_taken, page_at, lowest, has_free, start_of, end_of, at_first, pages_of, clusters_of}
 use Rattle.av_clusters.proofs.Pages.{found}
 use Rattle.av_clusters.proofs.Whole.{flag_below}
 
@@ -189,11 +189,17 @@ unmarked zero c = refl
 unmarked (suc m) zero = refl
 unmarked (suc m) (suc c) = unmarked m c
 
+none_full : (size : ℕ) (pages : List Page) → AreFull size pages (replicate (length pages / size + 1) false)
+none_full size pages = record {
+  count = length-replicate (length pages / size + 1) false;
+  none_free = λ q t. absurd (false≢true (sym (unmarked (length pages / size + 1) (q / size)) ∙ t));
+}
+
 pub whole_fresh : (n : ℕ) (bad : List ℕ) (len room : ℕ) → n < 2 ^ 32 → len ≡ length (clusters_of (pages_of n bad))
     → length (pages_of n bad) / 256 + 1 ≤ room
     → IsWhole (pages_of n bad) (count_by is_free (pages_of n bad)) (clusters_of (pages_of n bad)) len room
     (map (λ c. not (has_free (pages_of n bad) c)) (range_with_len 0 (length (pages_of n bad) / 256 + 1)))
-    (replicate (length (pages_of n bad) / 256 + 1) false) None 0
+    (replicate (length (pages_of n bad) / 256 + 1) false) (replicate (length (pages_of n bad) / 16384 + 1) false) None 0
 whole_fresh n bad len room few same wide =
     let count = length-map-range_with_len (λ c. not (has_free (pages_of n bad) c)) 0 (length (pages_of n bad) / 256 + 1) in
     record {
@@ -206,8 +212,8 @@ whole_fresh n bad len room few same wide =
       once = λ c. once_from (has_free (pages_of n bad)) 0 (length (pages_of n bad) / 256 + 1) c c (sym (none_plus c));
       held = λ q t. absurd (false≢true (sym (never_taken n bad q) ∙ t));
       fit = λ c h. fit_fresh (pages_of n bad) c (flagged (has_free (pages_of n bad)) (length (pages_of n bad) / 256 + 1) c h);
-      marked = length-replicate (length (pages_of n bad) / 256 + 1) false;
-      full = λ q t. absurd (false≢true (sym (unmarked (length (pages_of n bad) / 256 + 1) (q / 256)) ∙ t));
+      full = none_full 256 (pages_of n bad);
+      full_groups = none_full 16384 (pages_of n bad);
       fills = tt;
     }
 

@@ -1,3 +1,4 @@
 pub mod Pages
+pub mod Marks
 pub mod Whole
 pub mod Fresh

@@ -1,7 +1,6 @@
 -- The pages of an area, and the lowest free one among some of them.
-use Rattle.std.proofs.Common.{◌≡◌, ℕ, suc, ◌+◌, ◌-◌, ◌*◌, ◌/◌, ◌<◌, ◌≤◌, min, Bool, true, false, cond, ◌⊎◌, List, [], ◌∷◌, ◌++◌, length, get_or, set, take, drop, Option, Some, None, is_some, option_map, position, count_by, refl, sym, ap, ◌∙◌, arith, inl, inr, ltb, length-take, length-drop, take_all, get_or-take, get_or-drop, get_or-set_same, get_or-set_other}
-use Rattle.std.proofs.Math.Seq.{take-append_seam}
-use Rattle.std.proofs.lemmas.Bool.{cases_lt, cases_eq, cases_order, cases_Bool, false≢true}
+use Rattle.std.proofs.Common.{◌≡◌, ℕ, suc, ◌+◌, ◌-◌, ◌*◌, ◌/◌, ◌<◌, ◌≤◌, min, true, false, cond, ◌⊎◌, List, [], ◌∷◌, length, get_or, set, take, drop, Option, Some, None, is_some, option_map, position, count_by, refl, sym, ap, ◌∙◌, arith, inl, inr, ltb, length-take, length-drop, take_all, get_or-take, get_or-drop, get_or-set_same}
+use Rattle.std.proofs.lemmas.Bool.{cases_lt, cases_order, cases_Bool, false≢true}
 use Rattle.std.proofs.lemmas.Bool.Decides.{nat_tests}
 use Rattle.std.proofs.lemmas.List.{get_or_past, take_rest}
 use Rattle.std.proofs.lemmas.List.Folds.{list_any_at}
@@ -10,7 +9,7 @@ use Rattle.std.proofs.lemmas.List.Sums.{fails_before_first, sum_by-cons}
 use Rattle.std.specs.List.{position_or_len}
 use Rattle.av_clusters.specs.declared.clusters.Page.{Page}
 use Rattle.av_clusters.specs.declared.clusters.Page.TheVariants.{Unusable, Free, Taken}
-use Rattle.av_clusters.specs.Clusters.{is_free, is_taken, page_at, pages_between, lowest, has_taken, start_of, end_of, AreFull}
+use Rattle.av_clusters.specs.Clusters.{is_free, is_taken, page_at, pages_between, lowest, has_taken, start_of, end_of}
 
 -- the end may lie past the area's
 pub cut_short : (pages : List Page) (from to : ℕ) → from ≤ to → from ≤ length pages →
@@ -130,60 +129,80 @@ least pages from to p k h low high = by (position is_free (pages_between from to
         let last : k < to = omega (arith, below) in
         sym (ap is_free (at_between pages from to k low last)) ∙ s.2 (k - from) inside
 
-pub none_is : (pages : List Page) (from to : ℕ) → ((q : ℕ) → from ≤ q → q < to → is_free (page_at pages q) ≡ false) → lowest pages from to ≡ None
+-- no page from one on is free, below another
+abbrev pub NoneFree : List Page → ℕ → ℕ → Type 0
+NoneFree pages from to = (q : ℕ) → from ≤ q → q < to → is_free (page_at pages q) ≡ false
+
+pub none_is : (pages : List Page) (from to : ℕ) → NoneFree pages from to → lowest pages from to ≡ None
 none_is pages from to h = by (lowest pages from to) refl
   where
     by : (r : Option ℕ) → lowest pages from to ≡ r → lowest pages from to ≡ None
     by None e = e
     by (Some p) e = let f = found pages from to p e in absurd (false≢true (sym (h p f.0 f.1) ∙ f.2))
 
--- the lowest of the first cluster that has one is the lowest of the area
-pub lowest_of_all : (pages : List Page) (c : ℕ) (r : Option ℕ) → r ≡ lowest pages (start_of c) (end_of c) → is_some r ≡ true →
-    ((q : ℕ) → q < 256 * c → is_free (page_at pages q) ≡ false) → r ≡ lowest pages 0 (length pages)
-lowest_of_all pages c None e some before = absurd (false≢true some)
-lowest_of_all pages c (Some p) e some before = by (lowest pages 0 (length pages)) refl
+lowest_is : (pages : List Page) (from to p : ℕ) → from ≤ p → p < to → is_free (page_at pages p) ≡ true → NoneFree pages from p
+    → lowest pages from to ≡ Some p
+lowest_is pages from to p low high free before = by (lowest pages from to) refl
   where
-    f : (start_of c ≤ p) × (p < end_of c) × (is_free (page_at pages p) ≡ true)
-    f = found pages (start_of c) (end_of c) p (sym e)
-
-    by : (r : Option ℕ) → lowest pages 0 (length pages) ≡ r → Some p ≡ lowest pages 0 (length pages)
-    by None n = absurd (false≢true (sym (none_free pages 0 (length pages) p n (omega arith) (free_below pages p f.2)) ∙ f.2))
+    by : (r : Option ℕ) → lowest pages from to ≡ r → lowest pages from to ≡ Some p
+    by None n = absurd (false≢true (sym (none_free pages from to p n low high) ∙ free))
     by (Some q) n = order (cases_order p q)
       where
-        g : (0 ≤ q) × (q < length pages) × (is_free (page_at pages q) ≡ true)
-        g = found pages 0 (length pages) q n
+        g : (from ≤ q) × (q < to) × (is_free (page_at pages q) ≡ true)
+        g = found pages from to q n
 
-        earlier : q < p → (q < 256 * c) ⊎ (256 * c ≤ q) → is_free (page_at pages q) ≡ false
-        earlier l (inl b) = before q b
-        earlier l (inr b) = least pages (start_of c) (end_of c) p q (sym e) b l
+        order : (p ≡ q) ⊎ ((p < q) ⊎ (q < p)) → lowest pages from to ≡ Some p
+        order (inl is) = n ∙ ap Some (sym is)
+        order (inr (inl l)) = absurd (false≢true (sym (least pages from to q p n low l) ∙ free))
+        order (inr (inr l)) = absurd (false≢true (sym (before q g.0 l) ∙ g.2))
 
-        order : (p ≡ q) ⊎ ((p < q) ⊎ (q < p)) → Some p ≡ lowest pages 0 (length pages)
-        order (inl is) = ap Some is ∙ sym n
-        order (inr (inl l)) = absurd (false≢true (sym (least pages 0 (length pages) q p n (omega arith) l) ∙ f.2))
-        order (inr (inr l)) = absurd (false≢true (sym (earlier l (cases_lt q (256 * c))) ∙ g.2))
+-- ---- the parts of a whole, one behind another
 
--- a marked cluster has none, and one that has none may be marked
-pub none_marked : (pages : List Page) (marks : List Bool) (c : ℕ) → AreFull pages marks → get_or marks c false ≡ true →
-    lowest pages (start_of c) (end_of c) ≡ None
-none_marked pages marks c full is =
-    none_is pages (start_of c) (end_of c) (λ q low high. full q (ap (λ d. get_or marks d false) (inside q low high) ∙ is))
+-- the lowest of the first part that has one is the lowest of the whole
+pub lowest_of_whole : (pages : List Page) (from to start end : ℕ) (r : Option ℕ) → r ≡ lowest pages start end → is_some r ≡ true → from ≤ start →
+    ((q : ℕ) → q < end → q < length pages → q < to)
+    → NoneFree pages from start → r ≡ lowest pages from to
+lowest_of_whole pages from to start end None e some low high before = absurd (false≢true some)
+lowest_of_whole pages from to start end (Some p) e some low high before =
+    let first : from ≤ p = omega (arith, low, f.0) in
+    sym (lowest_is pages from to p first (high p f.1 (free_below pages p f.2)) f.2 (λ q a b. by q a b (cases_lt q start)))
   where
-    inside : (q : ℕ) → 256 * c ≤ q → q < 256 * c + 256 → q / 256 ≡ c
-    inside q a b = omega (arith, a, b)
+    f : (start ≤ p) × (p < end) × (is_free (page_at pages p) ≡ true)
+    f = found pages start end p (sym e)
 
-pub mark_one : (pages : List Page) (marks : List Bool) (c : ℕ) → AreFull pages marks → lowest pages (start_of c) (end_of c) ≡ None →
-    AreFull pages (set marks c true)
-mark_one pages marks c full none q is = by (cases_eq (q / 256) c)
+    by : (q : ℕ) → from ≤ q → q < p → (q < start) ⊎ (start ≤ q) → is_free (page_at pages q) ≡ false
+    by q a b (inl c) = before q a c
+    by q a b (inr c) = least pages start end p q (sym e) c b
+
+pub none_of : (r : Option ℕ) → is_some r ≡ false → r ≡ None
+none_of None h = refl
+none_of (Some p) h = absurd (false≢true (sym h))
+
+-- a search without a find has passed one more part
+pub passed : (pages : List Page) (from start end next : ℕ) (r : Option ℕ) → r ≡ lowest pages start end → is_some r ≡ false → next ≡ end
+    → NoneFree pages from start → NoneFree pages from next
+passed pages from start end next r e none is before q low high = by (cases_lt q start)
   where
-    low : q / 256 ≡ c → 256 * c ≤ q
-    low e = omega (arith, e)
+    inside : q < end
+    inside = omega (arith, is, high)
 
-    high : q / 256 ≡ c → q < 256 * c + 256
-    high e = omega (arith, e)
+    by : (q < start) ⊎ (start ≤ q) → is_free (page_at pages q) ≡ false
+    by (inl b) = before q low b
+    by (inr b) = none_free pages start end q (sym e ∙ none_of r none) b inside
 
-    by : (q / 256 ≡ c) ⊎ (q / 256 ≡ c → ⊥) → is_free (page_at pages q) ≡ false
-    by (inl e) = none_free pages (start_of c) (end_of c) q none (low e) (high e)
-    by (inr n) = full q (sym (get_or-set_other marks c (q / 256) true false n) ∙ is)
+past_none : (pages : List Page) (q : ℕ) → length pages ≤ q → is_free (page_at pages q) ≡ false
+past_none pages q past = ap is_free (get_or_past pages q Unusable past)
+
+-- and where it has passed them all, or has come to the area's end, there is none
+pub none_in_whole : (pages : List Page) (from to end : ℕ) → ((q : ℕ) → end ≤ q → q < to → length pages ≤ q) → NoneFree pages from end
+    → lowest pages from to ≡ None
+none_in_whole pages from to end past before = none_is pages from to (λ q low high. by q low high (cases_lt q end))
+  where
+    by : (q : ℕ) → from ≤ q → q < to → (q < end) ⊎ (end ≤ q) → is_free (page_at pages q) ≡ false
+    by q low high (inl b) = before q low b
+    by q low high (inr b) = past_none pages q (past q b high)
+
+-- ---- all pages
 
 pub free_is : (page : Page) → is_free page ≡ true → page ≡ Free
 free_is Unusable h = absurd (false≢true h)
@@ -203,30 +222,8 @@ none_left pages h = none_counted pages (λ p. by p (cases_lt p (length pages)))
   where
     by : (p : ℕ) → (p < length pages) ⊎ (length pages ≤ p) → is_free (page_at pages p) ≡ false
     by p (inl b) = none_free pages 0 (length pages) p h (omega arith) b
-    by p (inr b) = ap is_free (get_or_past pages p Unusable b)
+    by p (inr b) = past_none pages p b
 
 -- a page that was free, and is taken
 pub was_free : (pages : List Page) (p : ℕ) → is_free (page_at pages p) ≡ true → (page_at pages p ≡ Free) × (page_at (set pages p Taken) p ≡ Taken)
 was_free pages p h = (free_is (page_at pages p) h, get_or-set_same pages p Taken Unusable (free_below pages p h))
-
-pub none_of : (r : Option ℕ) → is_some r ≡ false → r ≡ None
-none_of None h = refl
-none_of (Some p) h = absurd (false≢true (sym h))
-
--- a list that is written over another of its length
-pub written_over : (old new : List Bool) (n : ℕ) → length new ≡ n → take n (new ++ drop (length new) old) ≡ new
-written_over old new n is = ap (λ k. take k (new ++ drop (length new) old)) (sym is) ∙ take-append_seam new (drop (length new) old)
-
--- a search without a find has passed one more cluster
-pub passed : (pages : List Page) (c : ℕ) (r : Option ℕ) → r ≡ lowest pages (start_of c) (end_of c) → is_some r ≡ false →
-    ((q : ℕ) → q < 256 * c → is_free (page_at pages q) ≡ false)
-    → (q : ℕ) → q < 256 * (c + 1) → is_free (page_at pages q) ≡ false
-passed pages c (Some p) e some before q h = absurd (false≢true (sym some))
-passed pages c None e some before q h = by (cases_lt q (256 * c))
-  where
-    high : q < 256 * c + 256
-    high = omega (arith, h)
-
-    by : (q < 256 * c) ⊎ (256 * c ≤ q) → is_free (page_at pages q) ≡ false
-    by (inl b) = before q b
-    by (inr b) = none_free pages (start_of c) (end_of c) q (sym e) b high

@@ -9,6 +9,7 @@ use Rattle.av_clusters.specs.declared.clusters.Page.{Page}
 use Rattle.av_clusters.specs.declared.clusters.Page.TheVariants.{Unusable, Free, Taken}
 use Rattle.av_clusters.specs.Clusters.{IsWhole, Fills, itself, is_free, is_taken, page_at, lowest, has_taken, start_of, end_of, unless, AreFull, Takes, Returns, Slots, after_fill, give_slot, in_current, in_next, with_free_cluster}
 use Rattle.av_clusters.proofs.Pages.{found, none_free, none_taken, free_below, taken_below, taken_not_free, was_free}
+use Rattle.av_clusters.proofs.Marks.{full_taken, full_given}
 
 -- ---- the number of free pages
 
@@ -198,35 +199,18 @@ fit_given pages flags flags' p below fit same d low = by (same d low)
     by (inl b) = let f = fit d b in (f.0, f.1, there f.0 f.2 (cases_eq f.0 p))
     by (inr e) = (p, e, here)
 
-full_taken : (pages : List Page) (marks : List Bool) (p : ℕ) → p < length pages → AreFull pages marks → AreFull (set pages p Taken) marks
-full_taken pages marks p below full q is = by (cases_eq q p)
-  where
-    by : (q ≡ p) ⊎ (q ≡ p → ⊥) → is_free (page_at (set pages p Taken) q) ≡ false
-    by (inl e) = ap (λ n. is_free (page_at (set pages p Taken) n)) e ∙ ap is_free (get_or-set_same pages p Taken Unusable below)
-    by (inr n) = ap is_free (get_or-set_other pages p q Taken Unusable n) ∙ full q is
-
-full_given : (pages : List Page) (marks : List Bool) (p : ℕ) → p / 256 < length marks → AreFull pages marks →
-    AreFull (set pages p Free) (set marks (p / 256) false)
-full_given pages marks p below full q is = by (cases_eq (q / 256) (p / 256))
-  where
-    by : (q / 256 ≡ p / 256) ⊎ (q / 256 ≡ p / 256 → ⊥) → is_free (page_at (set pages p Free) q) ≡ false
-    by (inl e) = absurd (false≢true
-        (sym (ap (λ c. get_or (set marks (p / 256) false) c false) e ∙ get_or-set_same marks (p / 256) false false below) ∙ is))
-    by (inr n) =
-        ap is_free (get_or-set_other pages p q Free Unusable (λ e. n (ap (λ m. m / 256) e)))
-        ∙ full q (sym (get_or-set_other marks (p / 256) (q / 256) false false n) ∙ is)
-
 -- ---- each call keeps the parts together
 
-module _ (pages : List Page) (left : ℕ) (frees : List ℕ) (n room : ℕ) (flags marks : List Bool) (filled : Option ℕ) (mark : ℕ) where
-  whole_taken : (p : ℕ) (frees' : List ℕ) (n' room' : ℕ) (flags' marks' : List Bool) (filled' : Option ℕ) (mark' : ℕ) →
-      IsWhole pages left frees n room flags marks filled mark → is_free (page_at pages p) ≡ true
+module _ (pages : List Page) (left : ℕ) (frees : List ℕ) (n room : ℕ) (flags marks groups : List Bool) (filled : Option ℕ) (mark : ℕ) where
+  whole_taken : (p : ℕ) (frees' : List ℕ) (n' room' : ℕ) (flags' marks' groups' : List Bool) (filled' : Option ℕ) (mark' : ℕ) →
+      IsWhole pages left frees n room flags marks groups filled mark → is_free (page_at pages p) ≡ true
       → Grows flags flags' → get_or flags' (p / 256) true ≡ true → length flags' ≡ length flags → n' ≡ length frees' → room' ≡ room
       → length frees' + count_by itself flags' ≡ length flags' → ((d : ℕ) → count_by (λ e. d == e) frees' ≡ cond (get_or flags' d true) 0 1)
-      → Fills flags' (length pages) mark' filled' → AreFull pages marks' → length marks' ≡ length pages / 256 + 1 →
-      IsWhole (set pages p Taken) (left - 1) frees' n' room' flags' marks' filled' mark'
-  whole_taken p frees' n' room' flags' marks' filled' mark' w free grow here long len same total once fills full marked =
+      → Fills flags' (length pages) mark' filled' → AreFull 256 pages marks' → AreFull 16384 pages groups' →
+      IsWhole (set pages p Taken) (left - 1) frees' n' room' flags' marks' groups' filled' mark'
+  whole_taken p frees' n' room' flags' marks' groups' filled' mark' w free grow here long len same total once fills full full_groups =
       let count = length-set pages p Taken in
+      let below = free_below pages p free in
       record {
         few = subst (λ m. m < 2 ^ 32) (sym count) w.few;
         left = let fewer = one_fewer pages p free in let l = w.left in minus _ _ _ l fewer;
@@ -237,8 +221,8 @@ module _ (pages : List Page) (left : ℕ) (frees : List ℕ) (n room : ℕ) (fla
         once = once;
         held = held_taken pages flags flags' p w.held grow here;
         fit = fit_taken pages flags flags' p w.fit grow here;
-        marked = marked ∙ ap (λ m. m / 256 + 1) (sym count);
-        full = full_taken pages marks' p (free_below pages p free) full;
+        full = full_taken 256 pages marks' p below full;
+        full_groups = full_taken 16384 pages groups' p below full_groups;
         fills = subst (λ m. Fills flags' m mark' filled') (sym count) fills;
       }
     where
@@ -246,14 +230,14 @@ module _ (pages : List Page) (left : ℕ) (frees : List ℕ) (n room : ℕ) (fla
       minus l m k a b = omega (arith, a, b)
 
   whole_given : (p : ℕ) (frees' : List ℕ) (n' room' : ℕ) (flags' : List Bool) (filled' : Option ℕ)
-      → IsWhole pages left frees n room flags marks filled mark →
+      → IsWhole pages left frees n room flags marks groups filled mark →
       is_taken (page_at pages p) ≡ true
       → ((q : ℕ) → is_taken (page_at (set pages p Free) q) ≡ true → get_or flags (q / 256) true ≡ true → get_or flags' (q / 256) true ≡ true)
       → ((d : ℕ) → get_or flags' d true ≡ false → (get_or flags d true ≡ false) ⊎ (p / 256 ≡ d)) → length flags' ≡ length flags →
       n' ≡ length frees' → room' ≡ room
       → length frees' + count_by itself flags' ≡ length flags' → ((d : ℕ) → count_by (λ e. d == e) frees' ≡ cond (get_or flags' d true) 0 1)
       → Fills flags' (length pages) mark filled'
-      → IsWhole (set pages p Free) (left + 1) frees' n' room' flags' (set marks (p / 256) false) filled' mark
+      → IsWhole (set pages p Free) (left + 1) frees' n' room' flags' (set marks (p / 256) false) (set groups (p / 16384) false) filled' mark
   whole_given p frees' n' room' flags' filled' w taken kept fewer long len same total once fills =
       let count = length-set pages p Free in
       let below = taken_below pages p taken in
@@ -267,21 +251,18 @@ module _ (pages : List Page) (left : ℕ) (frees : List ℕ) (n room : ℕ) (fla
         once = once;
         held = held_given pages flags flags' p below w.held kept;
         fit = fit_given pages flags flags' p below w.fit fewer;
-        marked = length-set marks (p / 256) false ∙ w.marked ∙ ap (λ m. m / 256 + 1) (sym count);
-        full = full_given pages marks p (subst (λ m. p / 256 < m) (sym w.marked) (small below)) w.full;
+        full = full_given 256 pages marks p (omega arith) below w.full;
+        full_groups = full_given 16384 pages groups p (omega arith) below w.full_groups;
         fills = subst (λ m. Fills flags' m mark filled') (sym count) fills;
       }
-    where
-      small : p < length pages → p / 256 < length pages / 256 + 1
-      small a = omega (arith, a)
 
-  pub some_left : (p : ℕ) → IsWhole pages left frees n room flags marks filled mark → is_free (page_at pages p) ≡ true → 1 ≤ left
+  pub some_left : (p : ℕ) → IsWhole pages left frees n room flags marks groups filled mark → is_free (page_at pages p) ≡ true → 1 ≤ left
   some_left p w free = let fewer = one_fewer pages p free in let l = w.left in sum _ _ _ l fewer
     where
       sum : (l m k : ℕ) → l ≡ k → m + 1 ≡ k → 1 ≤ l
       sum l m k a b = omega (arith, a, b)
 
-  pub room_for_one : (p : ℕ) → IsWhole pages left frees n room flags marks filled mark → is_taken (page_at pages p) ≡ true → left + 1 < 2 ^ 32
+  pub room_for_one : (p : ℕ) → IsWhole pages left frees n room flags marks groups filled mark → is_taken (page_at pages p) ≡ true → left + 1 < 2 ^ 32
   room_for_one p w taken =
       let more = one_more pages p taken in
       let most = count_by-le-length is_free (set pages p Free) in
@@ -291,8 +272,9 @@ module _ (pages : List Page) (left : ℕ) (frees : List ℕ) (n room : ℕ) (fla
       sum m k c d a b e f g = omega (arith, a, b, e, f, g)
 
   -- where a page is taken
-  pub whole_in_current : (c p : ℕ) → IsWhole pages left frees n room flags marks filled mark → filled ≡ Some c → lowest pages mark (end_of c) ≡ Some p
-      → IsWhole (set pages p Taken) (left - 1) frees n room flags marks filled (p + 1)
+  pub whole_in_current : (c p : ℕ) → IsWhole pages left frees n room flags marks groups filled mark
+      → filled ≡ Some c → lowest pages mark (end_of c) ≡ Some p
+      → IsWhole (set pages p Taken) (left - 1) frees n room flags marks groups filled (p + 1)
   whole_in_current c p w is low =
       let f = found pages mark (end_of c) p low in
       let below = free_below pages p f.2 in
@@ -301,9 +283,9 @@ module _ (pages : List Page) (left : ℕ) (frees : List ℕ) (n room : ℕ) (fla
       let start : start_of c ≤ p + 1 = above _ at.1 f.0 in
       let end : p + 1 ≤ end_of c = next _ _ f.1 in
       let last : p + 1 ≤ length pages = next _ _ below in
-      whole_taken p frees n room flags marks filled (p + 1) w f.2 (λ d h. h) (ap (λ m. get_or flags m true) inside ∙ at.0) refl w.len
+      whole_taken p frees n room flags marks groups filled (p + 1) w f.2 (λ d h. h) (ap (λ m. get_or flags m true) inside ∙ at.0) refl w.len
       refl w.total w.once
-      (subst (Fills flags (length pages) (p + 1)) (sym is) (at.0, start, end, last)) w.full w.marked
+      (subst (Fills flags (length pages) (p + 1)) (sym is) (at.0, start, end, last)) w.full w.full_groups
     where
       cluster_is : (m : ℕ) → 256 * c ≤ m → m ≤ p → p < 256 * c + 256 → p / 256 ≡ c
       cluster_is m a b e = omega (arith, a, b, e)
@@ -314,11 +296,11 @@ module _ (pages : List Page) (left : ℕ) (frees : List ℕ) (n room : ℕ) (fla
       next : (q m : ℕ) → q < m → q + 1 ≤ m
       next q m a = omega (arith, a)
 
-  pub whole_anywhere : (p : ℕ) (marks' : List Bool) → IsWhole pages left frees n room flags marks filled mark → frees ≡ []
+  pub whole_anywhere : (p : ℕ) (marks' groups' : List Bool) → IsWhole pages left frees n room flags marks groups filled mark → frees ≡ []
       → is_free (page_at pages p) ≡ true →
-      AreFull pages marks' → length marks' ≡ length marks → IsWhole (set pages p Taken) (left - 1) frees n room flags marks' filled mark
-  whole_anywhere p marks' w none free full long = whole_taken p frees n room flags marks' filled mark w free (λ d h. h)
-      (by (cases_Bool (get_or flags (p / 256) true))) refl w.len refl w.total w.once w.fills full (long ∙ w.marked)
+      AreFull 256 pages marks' → AreFull 16384 pages groups' → IsWhole (set pages p Taken) (left - 1) frees n room flags marks' groups' filled mark
+  whole_anywhere p marks' groups' w none free full full_groups = whole_taken p frees n room flags marks' groups' filled mark w free (λ d h. h)
+      (by (cases_Bool (get_or flags (p / 256) true))) refl w.len refl w.total w.once w.fills full full_groups
     where
       by : (get_or flags (p / 256) true ≡ true) ⊎ (get_or flags (p / 256) true ≡ false) → get_or flags (p / 256) true ≡ true
       by (inl b) = b
@@ -326,16 +308,18 @@ module _ (pages : List Page) (left : ℕ) (frees : List ℕ) (n room : ℕ) (fla
           let e : ◌≡◌ {A = ℕ} 0 1 = sym (ap (count_by (λ d. p / 256 == d)) none) ∙ w.once (p / 256) ∙ ap (λ t. cond t 0 1) b in
           absurd (omega (arith, e))
 
-  pub is_open : (c : ℕ) (rest : List ℕ) → IsWhole pages left frees n room flags marks filled mark → frees ≡ c ∷ rest → get_or flags c true ≡ false
+  pub is_open : (c : ℕ) (rest : List ℕ) → IsWhole pages left frees n room flags marks groups filled mark
+      → frees ≡ c ∷ rest → get_or flags c true ≡ false
   is_open c rest w is = (front c rest (get_or flags c true) (sym (ap (count_by (λ d. c == d)) is) ∙ w.once c)).0
 
-  pub in_range : (c : ℕ) (rest : List ℕ) → IsWhole pages left frees n room flags marks filled mark → frees ≡ c ∷ rest → start_of c ≤ length pages
+  pub in_range : (c : ℕ) (rest : List ℕ) → IsWhole pages left frees n room flags marks groups filled mark
+      → frees ≡ c ∷ rest → start_of c ≤ length pages
   in_range c rest w is = let f = w.fit c (is_open c rest w is) in small f.0 f.1 (free_below pages f.0 f.2)
     where
       small : (q : ℕ) → q / 256 ≡ c → q < length pages → 256 * c ≤ length pages
       small q a b = omega (arith, a, b)
 
-  pub has_one : (c : ℕ) (rest : List ℕ) → IsWhole pages left frees n room flags marks filled mark → frees ≡ c ∷ rest →
+  pub has_one : (c : ℕ) (rest : List ℕ) → IsWhole pages left frees n room flags marks groups filled mark → frees ≡ c ∷ rest →
       lowest pages (start_of c) (end_of c) ≡ None → ⊥
   has_one c rest w is none = let f = w.fit c (is_open c rest w is) in
       false≢true (sym (none_free pages (start_of c) (end_of c) f.0 none (low f.0 f.1) (high f.0 f.1)) ∙ f.2)
@@ -346,9 +330,9 @@ module _ (pages : List Page) (left : ℕ) (frees : List ℕ) (n room : ℕ) (fla
       high : (q : ℕ) → q / 256 ≡ c → q < 256 * c + 256
       high q a = omega (arith, a)
 
-  pub whole_in_next : (c p : ℕ) (rest : List ℕ) (n' room' : ℕ) → IsWhole pages left frees n room flags marks filled mark → frees ≡ c ∷ rest →
+  pub whole_in_next : (c p : ℕ) (rest : List ℕ) (n' room' : ℕ) → IsWhole pages left frees n room flags marks groups filled mark → frees ≡ c ∷ rest →
       lowest pages (start_of c) (end_of c) ≡ Some p → n' ≡ length rest → room' ≡ room
-      → IsWhole (set pages p Taken) (left - 1) rest n' room' (set flags c true) marks (Some c) (p + 1)
+      → IsWhole (set pages p Taken) (left - 1) rest n' room' (set flags c true) marks groups (Some c) (p + 1)
   whole_in_next c p rest n' room' w is low len same =
       let f = found pages (start_of c) (end_of c) p low in
       let below = free_below pages p f.2 in
@@ -356,11 +340,11 @@ module _ (pages : List Page) (left : ℕ) (frees : List ℕ) (n room : ℕ) (fla
       let start : start_of c ≤ p + 1 = above f.0 in
       let end : p + 1 ≤ end_of c = next _ _ f.1 in
       let last : p + 1 ≤ length pages = next _ _ below in
-      whole_taken p rest n' room' (set flags c true) marks (Some c) (p + 1) w f.2 (grow_set flags c)
+      whole_taken p rest n' room' (set flags c true) marks groups (Some c) (p + 1) w f.2 (grow_set flags c)
       (ap (λ m. get_or (set flags c true) m true) inside ∙ set_true flags c) (length-set flags c true) len same
       (total_taken c rest flags (is_open c rest w is) (sym (ap (λ fs. length fs + count_by itself flags) is) ∙ w.total))
       (once_taken c rest flags (λ d. sym (ap (count_by (λ e. d == e)) is) ∙ w.once d))
-      (set_true flags c, start, end, last) w.full w.marked
+      (set_true flags c, start, end, last) w.full w.full_groups
     where
       cluster_is : 256 * c ≤ p → p < 256 * c + 256 → p / 256 ≡ c
       cluster_is a b = omega (arith, a, b)
@@ -372,28 +356,30 @@ module _ (pages : List Page) (left : ℕ) (frees : List ℕ) (n room : ℕ) (fla
       next q m a = omega (arith, a)
 
   -- where one is given back
-  pub whole_back : (p : ℕ) → IsWhole pages left frees n room flags marks filled mark → is_taken (page_at pages p) ≡ true →
-      IsWhole (set pages p Free) (left + 1) frees n room flags (set marks (p / 256) false) filled mark
+  pub whole_back : (p : ℕ) → IsWhole pages left frees n room flags marks groups filled mark → is_taken (page_at pages p) ≡ true →
+      IsWhole (set pages p Free) (left + 1) frees n room flags (set marks (p / 256) false) (set groups (p / 16384) false) filled mark
   whole_back p w taken = whole_given p frees n room flags filled w taken (λ q t h. h) (λ d h. inl h) refl w.len refl w.total w.once w.fills
 
-  pub cluster_below : (p : ℕ) → IsWhole pages left frees n room flags marks filled mark → is_taken (page_at pages p) ≡ true → p / 256 < length flags
+  pub cluster_below : (p : ℕ) → IsWhole pages left frees n room flags marks groups filled mark
+      → is_taken (page_at pages p) ≡ true → p / 256 < length flags
   cluster_below p w taken = sum _ w.busy (taken_below pages p taken)
     where
       sum : (l : ℕ) → l ≡ length pages / 256 + 1 → p < length pages → p / 256 < l
       sum l a b = omega (arith, a, b)
 
-  pub has_room : (p : ℕ) → IsWhole pages left frees n room flags marks filled mark → is_taken (page_at pages p) ≡ true → n < room
+  pub has_room : (p : ℕ) → IsWhole pages left frees n room flags marks groups filled mark → is_taken (page_at pages p) ≡ true → n < room
   has_room p w taken = sum _ _ _ (sum_by-set (λ b. cond b 1 0) flags (p / 256) false true (cluster_below p w taken))
       (ap (λ b. cond b 1 0) (w.held p taken)) w.total w.len w.room
     where
       sum : (m k c : ℕ) → m + c ≡ k + 0 → c ≡ 1 → length frees + k ≡ length flags → n ≡ length frees → length flags ≤ room → n < room
       sum m k c a b d e f = omega (arith, a, b, d, e, f)
 
-  pub whole_emptied : (p n' room' : ℕ) (filled' : Option ℕ) → IsWhole pages left frees n room flags marks filled mark
+  pub whole_emptied : (p n' room' : ℕ) (filled' : Option ℕ) → IsWhole pages left frees n room flags marks groups filled mark
       → is_taken (page_at pages p) ≡ true →
       has_taken (set pages p Free) (p / 256) ≡ false
       → n' ≡ n + 1 → room' ≡ room → Fills (set flags (p / 256) false) (length pages) mark filled' →
-      IsWhole (set pages p Free) (left + 1) (frees ++ (p / 256) ∷ []) n' room' (set flags (p / 256) false) (set marks (p / 256) false) filled' mark
+      IsWhole (set pages p Free) (left + 1) (frees ++ (p / 256) ∷ []) n' room' (set flags (p / 256) false) (set marks (p / 256) false)
+      (set groups (p / 16384) false) filled' mark
   whole_emptied p n' room' filled' w taken none len same fills =
       let below = cluster_below p w taken in
       let busy = w.held p taken in

@@ -74,6 +74,22 @@ pages_of n bad = map (at_first bad) (range_with_len 0 n)
 abbrev pub cluster_count : ℕ → ℕ
 cluster_count n = n / cluster_size + 1
 
+-- how many pages a group of 64 clusters has; the last one of an area may be cut short
+abbrev pub group_size : ℕ
+group_size = 64 * cluster_size
+
+-- a group's first page
+abbrev pub start_of_group : ℕ → ℕ
+start_of_group g = group_size * g
+
+-- the page after its last
+abbrev pub end_of_group : ℕ → ℕ
+end_of_group g = group_size * g + group_size
+
+-- how many groups an area of n pages has
+abbrev pub group_count : ℕ → ℕ
+group_count n = n / group_size + 1
+
 -- the clusters with a free slot, rising
 abbrev pub clusters_of : List Page → List ℕ
 clusters_of pages = filter (has_free pages) (range_with_len 0 (cluster_count (length pages)))
@@ -161,16 +177,16 @@ Fills flags count mark None = Unit {0}
 Fills flags count mark (Some c) =
     (slice_index_or flags c true ≡ true) × (start_of c ≤ mark) × (mark ≤ end_of c) × (mark ≤ count)
 
--- no page of a cluster that is marked as full is free
-abbrev pub AreFull : List Page → List Bool → Type 0
-AreFull pages marks =
-    (p : ℕ) → slice_index_or marks (p / cluster_size) false ≡ true
-    → is_free (page_at pages p) ≡ false
+-- a mark for each part of an area, of this many pages: of one marked as full no page is free
+pub record AreFull (size : ℕ) (pages : List Page) (marks : List Bool) : Type 0 where
+  pub count : length marks ≡ length pages / size + 1
+  pub none_free : (p : ℕ) → slice_index_or marks (p / size) false ≡ true
+      → is_free (page_at pages p) ≡ false
 
 -- the parts of `Clusters` fit together: a flag for each cluster that isn't free, room for all in
 -- the list, and the number of free slots
 pub record IsWhole (pages : List Page) (spare : ℕ) (frees : List ℕ) (frees_len frees_room : ℕ)
-    (flags marks : List Bool) (filled : Option ℕ) (mark : ℕ) : Type 0 where
+    (flags marks group_marks : List Bool) (filled : Option ℕ) (mark : ℕ) : Type 0 where
   pub few : length pages < 2 ^ 32
   pub left : spare ≡ count_by is_free pages
   pub busy : length flags ≡ cluster_count (length pages)
@@ -185,6 +201,6 @@ pub record IsWhole (pages : List Page) (spare : ℕ) (frees : List ℕ) (frees_l
   -- one without the flag has a free slot
   pub fit : (c : ℕ) → slice_index_or flags c true ≡ false
       → (p : ℕ) × (p / cluster_size ≡ c) × (is_free (page_at pages p) ≡ true)
-  pub marked : length marks ≡ cluster_count (length pages)
-  pub full : AreFull pages marks
+  pub full : AreFull cluster_size pages marks
+  pub full_groups : AreFull group_size pages group_marks
   pub fills : Fills flags (length pages) mark filled

@@ -10,7 +10,8 @@ ghost use Rattle.av_clusters.specs.Clusters.{AreFull, unless, fresh, take_slot, 
 ghost use Rattle.av_clusters.specs.Clusters.{Takes, Returns, in_current, in_next, anywhere};
 ghost use Rattle.av_clusters.specs.Clusters.{is_free, is_taken, page_at, pages_between, lowest};
 ghost use Rattle.av_clusters.specs.Clusters.{has_free, has_taken, start_of, end_of, pages_of};
-ghost use Rattle.av_clusters.specs.Clusters.{clusters_of, cluster_count};
+ghost use Rattle.av_clusters.specs.Clusters.{cluster_size, clusters_of, cluster_count};
+ghost use Rattle.av_clusters.specs.Clusters.{group_size, group_count, start_of_group, end_of_group};
 ghost use Rattle.av_clusters.specs.declared.clusters.Page.TheVariants.{Unusable, Free, Taken};
 
 use std::alloc::{AllocError, Global};
@@ -19,6 +20,9 @@ use std::marker::Model;
 
 /// How many pages a cluster has. The last one of an area may be cut short.
 const CLUSTER: usize = 256;
+
+/// How many clusters have one more mark in common. The last group may be cut short, too.
+const GROUP: u32 = 64;
 
 /// What a page of a swap area is.
 #[derive(Clone, Copy, Drop)]
@@ -63,6 +67,8 @@ pub struct Clusters {
     busy: Vec<bool>,
     /// Clusters seen to have no free page, so that a search of the whole area passes them over.
     full: Vec<bool>,
+    /// Groups of clusters seen to have none, so that it needn't look at the mark of each cluster.
+    full_groups: Vec<bool>,
     current: Option<u32>,
     cursor: u32,
 }
@@ -81,7 +87,7 @@ impl Model for Clusters {
     } };
 
     ghost invariant = { λ a. IsWhole a.pages.items a.left a.free.items (deque_len a.free)
-        (deque_capacity a.free) a.busy.items a.full.items a.current a.cursor };
+        (deque_capacity a.free) a.busy.items a.full.items a.full_groups.items a.current a.cursor };
 }
 
 impl Clusters {
@@ -95,12 +101,14 @@ impl Clusters {
         let free = free_clusters(alloc, &pages)?;
         let busy = busy_clusters(alloc, &pages)?;
         let full = none_full(alloc, cluster_count(&pages))?;
+        let full_groups = none_full(alloc, group_count(&pages))?;
         Ok(Clusters {
             pages,
             left,
             free,
             busy,
             full,
+            full_groups,
             current: None,
             cursor: 0,
         })
@@ -134,6 +142,7 @@ impl Clusters {
         self.pages[page as usize] = Page::Free;
         self.left += 1;
         self.full[cluster as usize] = false;
+        self.full_groups[(cluster / GROUP) as usize] = false;
         if !any_taken(&self.pages, cluster) {
             self.busy[cluster as usize] = false;
             self.free.push_back_reserved(cluster);
@@ -196,7 +205,7 @@ impl Clusters {
             (count_by is_free self.old.pages ≡ 0)
             (λ p. Takes self.old.pages p self.new.pages) }
     {
-        let page = lowest_of_area(&self.pages, &mut self.full)?;
+        let page = lowest_of_area(&self.pages, &mut self.full, &mut self.full_groups)?;
         self.pages[page as usize] = Page::Taken;
         self.left -= 1;
         Some(page)
@@ -228,16 +237,59 @@ fn lowest(pages: &[Page], from: usize, to: usize) -> Option<u32>
     Some((from + at) as u32)
 }
 
-/// The lowest free page of the area. It passes over the clusters that are marked as full.
-fn lowest_of_area(pages: &[Page], full: &mut [bool]) -> Option<u32>
+/// The lowest free page of the area. It passes over the groups that are marked as full.
+fn lowest_of_area(pages: &[Page], full: &mut [bool], full_groups: &mut [bool]) -> Option<u32>
     requires few { length pages.now < 2 ^ 32 }
-    requires count { length full.old ≡ cluster_count (length pages.now) }
-    requires full { AreFull pages.now full.old }
+    requires full { AreFull cluster_size pages.now full.old }
+    requires groups { AreFull group_size pages.now full_groups.old }
     ensures lowest { result ≡ lowest pages.now 0 (length pages.now) }
-    ensures full { AreFull pages.now full.new }
-    ensures count { length full.new ≡ length full.old }
+    ensures full { AreFull cluster_size pages.now full.new }
+    ensures groups { AreFull group_size pages.now full_groups.new }
 {
-    for cluster in 0..cluster_count(pages) {
+    for group in 0..group_count(pages) {
+        let page = lowest_of_group(pages, full, full_groups, group);
+        if page.is_some() {
+            return page;
+        }
+    }
+    None
+}
+
+/// The lowest free page of the group, which is marked as full where it has none.
+fn lowest_of_group(
+    pages: &[Page],
+    full: &mut [bool],
+    full_groups: &mut [bool],
+    group: u32,
+) -> Option<u32>
+    requires few { length pages.now < 2 ^ 32 }
+    requires within { start_of_group group ≤ length pages.now }
+    requires full { AreFull cluster_size pages.now full.old }
+    requires groups { AreFull group_size pages.now full_groups.old }
+    ensures lowest { result ≡ lowest pages.now (start_of_group group) (end_of_group group) }
+    ensures full { AreFull cluster_size pages.now full.new }
+    ensures groups { AreFull group_size pages.now full_groups.new }
+{
+    if full_groups[group as usize] {
+        return None;
+    }
+    let page = lowest_of_clusters(pages, full, group);
+    if page.is_none() {
+        full_groups[group as usize] = true;
+    }
+    page
+}
+
+/// The lowest free page of the group. It passes over the clusters that are marked as full.
+fn lowest_of_clusters(pages: &[Page], full: &mut [bool], group: u32) -> Option<u32>
+    requires few { length pages.now < 2 ^ 32 }
+    requires within { start_of_group group ≤ length pages.now }
+    requires full { AreFull cluster_size pages.now full.old }
+    ensures lowest { result ≡ lowest pages.now (start_of_group group) (end_of_group group) }
+    ensures full { AreFull cluster_size pages.now full.new }
+{
+    let first = group * GROUP;
+    for cluster in first..(first + GROUP).min(cluster_count(pages)) {
         let page = lowest_of_cluster(pages, full, cluster);
         if page.is_some() {
             return page;
@@ -250,11 +302,9 @@ fn lowest_of_area(pages: &[Page], full: &mut [bool]) -> Option<u32>
 fn lowest_of_cluster(pages: &[Page], full: &mut [bool], cluster: u32) -> Option<u32>
     requires few { length pages.now < 2 ^ 32 }
     requires within { start_of cluster ≤ length pages.now }
-    requires count { length full.old ≡ cluster_count (length pages.now) }
-    requires full { AreFull pages.now full.old }
+    requires full { AreFull cluster_size pages.now full.old }
     ensures lowest { result ≡ lowest pages.now (start_of cluster) (end_of cluster) }
-    ensures full { AreFull pages.now full.new }
-    ensures count { length full.new ≡ length full.old }
+    ensures full { AreFull cluster_size pages.now full.new }
 {
     if full[cluster as usize] {
         return None;
@@ -352,6 +402,13 @@ fn cluster_count(pages: &[Page]) -> u32
     ensures { result ≡ cluster_count (length pages.now) }
 {
     (pages.len() / CLUSTER + 1) as u32
+}
+
+fn group_count(pages: &[Page]) -> u32
+    requires { length pages.now < 2 ^ 32 }
+    ensures { result ≡ group_count (length pages.now) }
+{
+    (pages.len() / (GROUP as usize * CLUSTER) + 1) as u32
 }
 
 fn has_free(pages: &[Page], cluster: u32) -> bool

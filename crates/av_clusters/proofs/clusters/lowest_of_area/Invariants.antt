@@ -1,6 +1,7 @@
-use Rattle.std.proofs.Common.{◌≡◌, ℕ, ◌*◌, ◌<◌, false}
-use Rattle.av_clusters.specs.Clusters.{is_free, page_at, AreFull}
+use Rattle.av_clusters.specs.Clusters.{AreFull, cluster_size, group_size, start_of_group}
+use Rattle.av_clusters.proofs.Pages.{NoneFree}
 use Rattle.av_clusters.proofs.clusters.lowest_of_area.Given as goal
 
-abbrev pub invariant-loop-cluster : goal.invariant-loop-cluster
-invariant-loop-cluster l = AreFull l.pages l.full × ((q : ℕ) → q < 256 * l.cluster → is_free (page_at l.pages q) ≡ false)
+abbrev pub invariant-loop-group : goal.invariant-loop-group
+invariant-loop-group l =
+    AreFull cluster_size l.pages l.full × AreFull group_size l.pages l.full_groups × NoneFree l.pages 0 (start_of_group l.group)

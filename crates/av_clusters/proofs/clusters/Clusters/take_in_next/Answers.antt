@@ -7,22 +7,22 @@ use Rattle.av_clusters.proofs.clusters.Clusters.take_in_next.Goals as goal
 pub lowest-requires-clause-within : goal.lowest-requires-clause-within
 lowest-requires-clause-within c =
     let is = first_is c.self.inside.free.items c.in_ok-cluster.field-0.now c.in_ok-cluster.ensures.item.3.0 c.in_ok-cluster.ensures.lookup in
-    rw (c.start_of.ensures, c.deref.ensures.value) (in_range _ _ _ _ _ _ _ _ _ c.in_ok-cluster.field-0.now _ c.self.invariant is)
+    rw (c.start_of.ensures, c.deref.ensures.value) (in_range _ _ _ _ _ _ _ _ _ _ c.in_ok-cluster.field-0.now _ c.self.invariant is)
 
 pub returns-in_err-page-clause-none : goal.returns-in_err-page-clause-none
 returns-in_err-page-clause-none c =
     let is = first_is c.self.inside.free.items c.in_ok-cluster.field-0.now c.in_ok-cluster.ensures.item.3.0 c.in_ok-cluster.ensures.lookup in
-    absurd (has_one _ _ _ _ _ _ _ _ _ c.in_ok-cluster.field-0.now _ c.self.invariant is
+    absurd (has_one _ _ _ _ _ _ _ _ _ _ c.in_ok-cluster.field-0.now _ c.self.invariant is
     (answered _ _ _ _ _ _ _ _ c.deref.ensures.value c.start_of.ensures c.end_of.ensures c.lowest.ensures c.in_err-page.was))
 
 pub overflow_sub-self : goal.overflow_sub-self
-overflow_sub-self c = some_left _ _ _ _ _ _ _ _ _ c.in_ok-page.page c.self.invariant
+overflow_sub-self c = some_left _ _ _ _ _ _ _ _ _ _ c.in_ok-page.page c.self.invariant
     (found c.self.inside.pages.items _ _ _ (answered _ _ _ _ _ _ _ _ c.deref.ensures.value refl refl c.lowest.ensures c.in_ok-page.was)).2
 
 pub invariant_of-self : goal.invariant_of-self
 invariant_of-self c =
     let is = first_is c.self.inside.free.items c.in_ok-cluster.field-0.now c.in_ok-cluster.ensures.item.3.0 c.in_ok-cluster.ensures.lookup in
-    rw c.pop_front.ensures.rest (whole_in_next _ _ _ _ _ _ _ _ _ c.in_ok-cluster.field-0.now c.in_ok-page.page
+    rw c.pop_front.ensures.rest (whole_in_next _ _ _ _ _ _ _ _ _ _ c.in_ok-cluster.field-0.now c.in_ok-page.page
     (drop 1 c.self.inside.free.items) _ _ c.self.invariant is
     (answered _ _ _ _ _ _ _ _ c.deref.ensures.value c.start_of.ensures c.end_of.ensures c.lowest.ensures c.in_ok-page.was)
     (one_shorter c.self.inside.free.items _ _ _ is c.self.invariant.len
