@@ -72,6 +72,12 @@ impl<C: Level> Level for Dir<C> {
         }
     }
 
+    #[inline(always)]
+    fn near(&self, page: u64) -> Option<Pte> {
+        let span = C::span();
+        self.near_part(page / span)?.near(page % span)
+    }
+
     #[inline]
     fn set(&mut self, page: u64, entry: Pte) -> Result<(), AllocError> {
         let span = C::span();
@@ -168,7 +174,7 @@ impl<C: Level> Level for Dir<C> {
 
 impl<C: Level> Dir<C> {
     ghost use Rattle.std.specs.Prelude.{◌≡◌, ℕ, ◌+◌, ◌*◌, ◌<◌, ◌≤◌, [], MatchOption, length};
-    ghost use Rattle.std.specs.Prelude.{option_map};
+    ghost use Rattle.std.specs.Prelude.{option_map, IfSome, Some};
     ghost use Rattle.av_pagetable.specs.Table.{page_bound};
     ghost use Rattle.av_pagetable.specs.Dir.{part_of, entries, entries_at, IsPlace, IsFirstIn};
     ghost use Rattle.av_pagetable.specs.Held.{AreHeld};
@@ -186,16 +192,33 @@ impl<C: Level> Dir<C> {
     pub fn part(&self, number: u64) -> Option<&C>
         ensures { option_map (λ part. part.now) result ≡ part_of self.now number }
     {
+        if let Some(part) = self.near_part(number) {
+            return Some(part);
+        }
         let parts = &self.parts;
         if parts.is_empty() {
             return None;
         }
-        // Pages far apart have one part at each level.
+        match self.place_past(number) {
+            Ok(place) => Some(&parts[place].1),
+            Err(_) => None,
+        }
+    }
+
+    // The part of this number, where it is found at once: it stands first, as where pages are far
+    // apart and each level has one part, or no number from the first one up to it is missing.
+    #[inline(always)]
+    fn near_part(&self, number: u64) -> Option<&C>
+        ensures { IfSome result (λ part. part_of self.now number ≡ Some part.now) }
+    {
+        let parts = &self.parts;
+        if parts.is_empty() {
+            return None;
+        }
         let first = &parts[0];
         if u64::from(first.0) == number {
             return Some(&first.1);
         }
-        // Where no number from the first one on is missing.
         let reach = number.wrapping_sub(u64::from(first.0));
         if reach < parts.len() as u64 {
             let part = &parts[reach as usize];
@@ -203,10 +226,7 @@ impl<C: Level> Dir<C> {
                 return Some(&part.1);
             }
         }
-        match self.place_past(number) {
-            Ok(place) => Some(&parts[place].1),
-            Err(_) => None,
-        }
+        None
     }
 
     // The place of the part of this number, or where it would stand.

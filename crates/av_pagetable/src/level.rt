@@ -6,7 +6,7 @@ use std::alloc::{AllocError, Global};
 /// A part of a page table: a function from page to entry, its pages counted from 0.
 pub trait Level: Drop {
     ghost use Rattle.std.specs.Prelude.{◌≡◌, ℕ, ◌<◌, ◌≤◌, ◌*◌, List, MatchBool, MatchOption};
-    ghost use Rattle.std.specs.Prelude.{MatchResult, IfOk};
+    ghost use Rattle.std.specs.Prelude.{MatchResult, IfOk, IfSome};
     ghost use Rattle.av_base.specs.Words.{with_at};
     ghost use Rattle.av_pagetable.specs.Table.{IsFirst, HasSome, child_entry, page_bound};
     ghost use Rattle.av_pagetable.specs.Table.{read_only};
@@ -41,6 +41,11 @@ pub trait Level: Drop {
     fn get(&self, page: u64) -> Pte
         requires fits { span ≤ page_bound }
         ensures { result ≡ at self.now page };
+
+    /// The entry of a page, where each part on the way to it is found at once.
+    fn near(&self, page: u64) -> Option<Pte>
+        requires fits { span ≤ page_bound }
+        ensures { IfSome result (λ entry. entry ≡ at self.now page) };
 
     /// Gives a page an entry, in place of the one that it has. Without memory all stays.
     fn set(&mut self, page: u64, entry: Pte) -> Result<(), AllocError>

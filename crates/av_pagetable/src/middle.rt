@@ -58,6 +58,11 @@ impl Level for Middle {
     }
 
     #[inline(always)]
+    fn near(&self, page: u64) -> Option<Pte> {
+        self.tables.near(page)
+    }
+
+    #[inline(always)]
     fn set(&mut self, page: u64, entry: Pte) -> Result<(), AllocError> {
         self.tables.set(page, entry)
     }

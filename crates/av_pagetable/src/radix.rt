@@ -40,6 +40,10 @@ impl Level for Pte {
         if page == 0 { *self } else { Pte::Empty }
     }
 
+    fn near(&self, page: u64) -> Option<Pte> {
+        if page == 0 { Some(*self) } else { None }
+    }
+
     fn set(&mut self, _page: u64, entry: Pte) -> Result<(), AllocError> {
         *self = entry;
         Ok(())
@@ -100,10 +104,14 @@ impl Table for RadixTable {
         Ok(RadixTable { top })
     }
 
-    // A walk's looks are little more than this.
+    // A walk's looks are little more than this. No call stands on the short way, so that nothing
+    // has to be kept over one.
     #[inline(always)]
     fn get(&self, page: u64) -> Pte {
-        self.top.get(page)
+        match self.top.near(page) {
+            Some(entry) => entry,
+            None => self.find(page),
+        }
     }
 
     fn set(&mut self, page: u64, entry: Pte) -> Result<(), AllocError> {
@@ -151,6 +159,14 @@ impl RadixTable {
     ghost use Rattle.std.specs.Prelude.{◌≡◌, ℕ, ◌+◌, ◌*◌, ◌<◌, MatchOption};
     ghost use Rattle.av_pagetable.specs.Held.{IsHeld};
     ghost use Rattle.av_pagetable.specs.declared.pte.Pte.{Pte};
+
+    // The entry of a page, wherever it stands.
+    #[inline(never)]
+    fn find(&self, page: u64) -> Pte
+        ensures { result ≡ ⟦<RadixTable as Table>⟧.at self.now page }
+    {
+        self.top.get(page)
+    }
 
     // The last table of this number, if there is one: of those that span 512 pages each.
     fn leaf(&self, number: u64) -> Option<&Dir<Pte>>

@@ -39,6 +39,7 @@ impl<'a, L: Ledger> Look<L> for Stores<'a> {
         (area.pid, area.start / PAGE_SIZE + (index - area.pgoff))
     }
 
+    #[inline(always)]
     fn look(&self, process: u16, page: u64, steps: &mut Steps<L>) -> Pte {
         steps.tick();
         self.tables.get(process, page)
@@ -77,6 +78,7 @@ impl<'a, L: Ledger> Look<L> for StoresMut<'a> {
         Look::<L>::place(&self.stores(), area, index)
     }
 
+    #[inline(always)]
     fn look(&self, process: u16, page: u64, steps: &mut Steps<L>) -> Pte {
         self.stores().look(process, page, steps)
     }
