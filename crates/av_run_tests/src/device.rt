@@ -102,7 +102,8 @@ fn rows_go(alloc: Global, lies: bool) -> Result<bool, AllocError> {
             && row_goes(alloc, &direct_pass(), lies)?
             && row_goes(alloc, &one_frame(), lies)?
             && row_goes(alloc, &swapoff(), lies)?
-            && row_goes(alloc, &fork_of_a_slot(), lies)?,
+            && row_goes(alloc, &fork_of_a_slot(), lies)?
+            && row_goes(alloc, &slot_of_many(), lies)?,
     )
 }
 

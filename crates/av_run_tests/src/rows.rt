@@ -766,6 +766,360 @@ pub fn fork_of_a_slot() -> Row {
     FORK_OF_A_SLOT
 }
 
+const SLOT_OF_MANY: Row = Row {
+    words: &["run", "4", "s0"],
+    areas: &[8],
+    turns: "> swapon 0
+on 7 0
+> spawn 1
+ok
+> mmap 1 4096 rw-
+map 7fffffffe000
+> write 1 7fffffffe000 01
+ok
+ new 1 7fffffffe000 0
+> reclaim 1
+ok
+ keep 0 referenced
+> age 1
+ok
+ age 0
+> reclaim 1
+ok
+ put 0 0:1
+ unmap 0
+ start 0:1
+ keep 0 started
+> complete 1
+ok
+ done 0:1
+> reclaim 1
+ok
+ drop 0:1
+> slot 0 1
+slot 0:1 count 1
+> fork 1 2
+ok
+> fork 1 3
+ok
+> fork 1 4
+ok
+> fork 1 5
+ok
+> fork 1 6
+ok
+> fork 1 7
+ok
+> fork 1 8
+ok
+> fork 1 9
+ok
+> fork 1 10
+ok
+> fork 1 11
+ok
+> fork 1 12
+ok
+> fork 1 13
+ok
+> fork 1 14
+ok
+> fork 1 15
+ok
+> fork 1 16
+ok
+> fork 1 17
+ok
+> fork 1 18
+ok
+> fork 1 19
+ok
+> fork 1 20
+ok
+> fork 1 21
+ok
+> fork 1 22
+ok
+> fork 1 23
+ok
+> fork 1 24
+ok
+> fork 1 25
+ok
+> fork 1 26
+ok
+> fork 1 27
+ok
+> fork 1 28
+ok
+> fork 1 29
+ok
+> fork 1 30
+ok
+> fork 1 31
+ok
+> fork 1 32
+ok
+> fork 1 33
+ok
+> fork 1 34
+ok
+> fork 1 35
+ok
+> fork 1 36
+ok
+> fork 1 37
+ok
+> fork 1 38
+ok
+> fork 1 39
+ok
+> fork 1 40
+ok
+> fork 1 41
+ok
+> fork 1 42
+ok
+> fork 1 43
+ok
+> fork 1 44
+ok
+> fork 1 45
+ok
+> fork 1 46
+ok
+> fork 1 47
+ok
+> fork 1 48
+ok
+> fork 1 49
+ok
+> fork 1 50
+ok
+> fork 1 51
+ok
+> fork 1 52
+ok
+> fork 1 53
+ok
+> fork 1 54
+ok
+> fork 1 55
+ok
+> fork 1 56
+ok
+> fork 1 57
+ok
+> fork 1 58
+ok
+> fork 1 59
+ok
+> fork 1 60
+ok
+> fork 1 61
+ok
+> fork 1 62
+ok
+> slot 0 1
+slot 0:1 count 62
+> fork 1 63
+ok
+> slot 0 1
+slot 0:1 count 63
+> fork 1 64
+ok
+> slot 0 1
+slot 0:1 count 64
+> fork 1 65
+ok
+> fork 1 66
+ok
+> slot 0 1
+slot 0:1 count 66
+> exit 1
+ok
+> exit 2
+ok
+> exit 3
+ok
+> exit 4
+ok
+> exit 5
+ok
+> exit 6
+ok
+> exit 7
+ok
+> exit 8
+ok
+> exit 9
+ok
+> exit 10
+ok
+> exit 11
+ok
+> exit 12
+ok
+> exit 13
+ok
+> exit 14
+ok
+> exit 15
+ok
+> exit 16
+ok
+> exit 17
+ok
+> exit 18
+ok
+> exit 19
+ok
+> exit 20
+ok
+> exit 21
+ok
+> exit 22
+ok
+> exit 23
+ok
+> exit 24
+ok
+> exit 25
+ok
+> exit 26
+ok
+> exit 27
+ok
+> exit 28
+ok
+> exit 29
+ok
+> exit 30
+ok
+> exit 31
+ok
+> exit 32
+ok
+> exit 33
+ok
+> exit 34
+ok
+> exit 35
+ok
+> exit 36
+ok
+> exit 37
+ok
+> exit 38
+ok
+> exit 39
+ok
+> exit 40
+ok
+> exit 41
+ok
+> exit 42
+ok
+> exit 43
+ok
+> exit 44
+ok
+> exit 45
+ok
+> exit 46
+ok
+> exit 47
+ok
+> exit 48
+ok
+> exit 49
+ok
+> exit 50
+ok
+> exit 51
+ok
+> exit 52
+ok
+> exit 53
+ok
+> exit 54
+ok
+> exit 55
+ok
+> exit 56
+ok
+> exit 57
+ok
+> exit 58
+ok
+> exit 59
+ok
+> exit 60
+ok
+> exit 61
+ok
+> exit 62
+ok
+> exit 63
+ok
+> exit 64
+ok
+> exit 65
+ok
+> exit 66
+ok
+> slot 0 1
+slot 0:1 count 0
+",
+    calls: 3,
+    changes: "> 2 0
+err EIO
+> 2 6
+ok
+ keep 0 noslot
+> 2 7
+ok
+> 2 8
+ok
+> 2 9
+err EINVAL
+> 2 71
+err EINVAL
+> 2 73
+err EINVAL
+> 2 75
+err EINVAL
+> 2 78
+err EINVAL
+> 2 145
+err EINVAL
+> 3 7
+ok
+ fail 0:1
+> 3 8
+ok
+ start 0:1
+ keep 0 started
+> 3 9
+slot 0:1 count 2 cached 0
+> 3 71
+slot 0:1 count 63 cached 0
+> 3 73
+slot 0:1 count 64 cached 0
+> 3 75
+slot 0:1 count 65 cached 0
+> 3 78
+slot 0:1 count 67 cached 0
+> 3 145
+slot 0:1 count 1 cached 0
+",
+};
+
+/// A page in swap whose slot more processes name than its byte can count.
+pub fn slot_of_many() -> Row {
+    SLOT_OF_MANY
+}
+
 const PAGE_OUT: Row = Row {
     words: &["run", "4", "s0"],
     areas: &[8],
