@@ -20,6 +20,6 @@ returns-clause-spans c =
     let empty = (c.requires.order.chains c.args.dst).none c.requires.none in
     given-spans areas areas' chain (chain_of c.copy_chain.new.self.links)
     (spans_of c.args.self.now) c.requires.order.spanned c.args.dst c.get-this.result c.get-this.ensures fit
-    (Some c.in-Some.own) (chain c.args.src) (spans_of c.copy_chain.new.self) empty c.in_ok-copy_chain.ensures.spans
+    (Some c.in-Some.own) _ (spans_of c.copy_chain.new.self) empty c.in_ok-copy_chain.ensures.spans
     (ap (λ f. f.chain) c.in_ok-copy_chain.ensures.family)
     (own-given areas areas' c.args.dst c.get-this.result (Some c.in-Some.own) c.get-this.ensures c.change.ensures)
