@@ -204,7 +204,7 @@ pub fn is_bad(page: &[u8], header: &Header, m: u32) -> bool
         → result ≡ is_in m layout.bad }
 {
     let Some(order) = byte_order(page) else {
-        return false;
+        unreachable!();
     };
     is_behind_header(m, header.pages) && is_named(page, order, 0, number(page, order, BAD_COUNT), m)
 }
@@ -241,10 +241,10 @@ pub fn bad_pages(alloc: Global, page: &[u8], header: &Header) -> Result<Vec<u32>
     ensures { IfOk result (λ bad. (device : ℕ) (layout : Layout)
         → header_of page.now device ≡ Ok layout → bad.items ≡ layout.bad) }
 {
-    let mut bad = Vec::new(alloc);
     let Some(order) = byte_order(page) else {
-        return Ok(bad);
+        unreachable!();
     };
+    let mut bad = Vec::new(alloc);
     let marks = marks(
         alloc,
         page,
