@@ -25,7 +25,7 @@ use Rattle.av_evict.specs.Steps.{spares}
 use Rattle.av_evict.specs.System.{Gives, Goes, IsAt, SystemView}
 use Rattle.av_evict.specs.Turn.{Frees, InVain, IsTurnUnlessPinned, MayTurn, unpinned}
 use Rattle.av_evict.proofs.SystemLaws.{does-none, goes-then}
-use Rattle.av_evict.proofs.TailLaws.{first-is, unmap-lists}
+use Rattle.av_evict.proofs.TailLaws.{first-is, first-no, unmap-lists}
 
 -- ---- turns in vain, one after another
 
@@ -370,6 +370,13 @@ turning-vain a b n0 n1 pinned turn next t none l sound stands landed =
       record { turns = vain-turns a.setting a.closing pinned l (unpinned pinned (turn_order l)) i.gained all; vain = λ none. all },
       i.goes,
     )
+
+-- as long as fewer had theirs than there are, one comes next
+pub turning-some : (a b : SystemView) (n0 n1 : List Note) (pinned : Option ℕ) (turn used : ℕ) (l : Ledger) → Turning a b n0 n1 pinned turn None l →
+    used ≡ length (turn_order l) → turn < used → ⊥
+turning-some a b n0 n1 pinned turn used l i all more =
+    let e = ap length i.split in let f = length-append i.done i.todo in let c = i.count in let z = ap length (first-no i.todo i.first) in
+    omega (arith, e, f, c, z, all, more)
 
 -- as many had theirs as there are
 pub turning-over : (a b : SystemView) (n0 n1 : List Note) (pinned : Option ℕ) (turn used : ℕ) (next : Option ℕ) (l : Ledger) →

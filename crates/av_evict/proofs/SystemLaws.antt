@@ -197,6 +197,16 @@ pub record Midway (old now : SystemView) (before notes : List Note) (l : Ledger)
 abbrev pub IsMidway : SystemView → SystemView → List Note → List Note → (Ledger → List Note → Type 0) → (Ledger → List Note → Type 0) → Type 0
 IsMidway old now before notes Rest Whole = (l : Ledger) → IsSound old.setting l → old.stands l → Midway old now before notes l Rest (Whole l)
 
+-- nothing was done
+pub midway-start : (a : SystemView) (n : List Note) (Rest Whole : Ledger → List Note → Type 0) →
+    ((l : Ledger) (rest : List Note) → Rest l rest → Whole l rest) → IsMidway a a n n Rest Whole
+midway-start a n Rest Whole all l sound stands = record {
+  gained = [];
+  added = sym (append-nil n);
+  goes = record { sound = sound; does = does-none a l stands };
+  more = λ rest h. all l rest h;
+}
+
 pub midway-step : (a b c : SystemView) (n0 n1 n2 : List Note) (Rest Next Whole Q : Ledger → List Note → Type 0) → IsMidway a b n0 n1 Rest Whole →
     Gives b c n1 n2 Always Q →
     ((l : Ledger) (ns rest : List Note) → b.setting ≡ a.setting → b.closing ≡ a.closing → IsSound b.setting l → b.stands l → Q l ns →
@@ -226,14 +236,4 @@ midway-end a b n0 n1 Rest Whole Q mid none at l sound stands ready =
       at l i.gained stands sound (subst (Whole l) (append-nil i.gained) (i.more [] (none (after_notes l i.gained)
           (subst (λ m. IsSound m (after_notes l i.gained)) (sym i.goes.does.stays.setting) i.goes.sound) i.goes.does.stands))),
       i.goes,
-    )
-
-pub midway-at : (a b : SystemView) (n0 n1 : List Note) (Rest Whole : Ledger → List Note → Type 0) → IsAt a Always → IsMidway a b n0 n1 Rest Whole →
-    IsAt b Always
-midway-at a b n0 n1 Rest Whole at mid =
-    let i = mid at.0 at.1 at.2 in (
-      after_notes at.0 i.gained,
-      subst (λ m. IsSound m (after_notes at.0 i.gained)) (sym i.goes.does.stays.setting) i.goes.sound,
-      i.goes.does.stands,
-      tt,
     )

@@ -1,5 +1,5 @@
 -- The last frames of a list, one after another.
-use Rattle.std.proofs.Common.{slice_get, Bool, List, None, Option, Some, [], ap, arith, cond, false, is_none, length, map, min, not, refl, reverse, subst, suc, sym, take, true, zero, ℕ, ◌++◌, ◌<◌, ◌==◌, ◌∙◌, ◌∷◌, ◌≡◌, ◌≤◌}
+use Rattle.std.proofs.Common.{slice_get, Bool, List, None, Option, Some, [], ap, arith, cond, false, is_none, length, map, min, not, refl, reverse, subst, suc, sym, take, true, ℕ, ◌++◌, ◌<◌, ◌==◌, ◌∙◌, ◌∷◌, ◌≡◌, ◌≤◌}
 use Rattle.std.specs.Prelude.{MatchOption}
 use Rattle.std.proofs.lemmas.Bool.Decides.{nat_tests}
 use Rattle.std.proofs.lemmas.List.{append-nil, length-append, length-reverse, reverse-append, reverse-reverse, take-append-le, take_min}
@@ -183,6 +183,34 @@ AgesLeft count l ns = count ≤ length l.active → ns ≡ map Aged (from_tail c
 same_length : (xs fs : List ℕ) (more : List ℕ) → reverse xs ≡ fs ++ more → length fs ≤ length xs
 same_length xs fs more is = let a = length-reverse xs in let b = ap length is in let c = length-append fs more in omega (arith, a, b, c)
 
+-- as many frames are inactive as are left to look at: one fewer once the last was reclaimed
+pub reclaim-leaves : (m : Setting) (closing : Option ℕ) (k : ℕ) (l : Ledger) (f : ℕ) (ns : List Note) → IsSound m l →
+    Some f ≡ slice_get (reverse l.inactive) 0 → Outcome m (spares closing None) l f ns → suc k ≤ length l.inactive →
+    k ≤ length (after_notes l ns).inactive
+reclaim-leaves m closing k l f ns sound first out many =
+    let r = first-is f (reverse l.inactive) first in
+    let o = outcome-inactive m (spares closing None) l f r.0 ns sound r.1 (inactive-used m l f sound first) out in
+    let a = length-reverse l.inactive in
+    let b = ap length r.1 in
+    let c = same_length (after_notes l ns).inactive r.0 o.0 o.1 in
+    omega (arith, a, b, c, many)
+
+-- and as many active
+pub age-leaves : (m : Setting) (k : ℕ) (l : Ledger) (f : ℕ) (ns : List Note) → IsSound m l → Some f ≡ slice_get (reverse l.active) 0 →
+    ns ≡ Aged f ∷ [] → suc k ≤ length l.active → k ≤ length (after_notes l ns).active
+age-leaves m k l f ns sound first is many =
+    let r = first-is f (reverse l.active) first in
+    let o : reverse (after_notes l ns).active ≡ r.0 ++ [] = ap (λ x. reverse (after_notes l x).active) is
+    ∙ last-gone l.active r.0 f r.1 (active-once m l f sound) in
+    let a = length-reverse l.active in
+    let b = ap length r.1 in
+    let c = same_length (after_notes l ns).active r.0 [] o in
+    omega (arith, a, b, c, many)
+
+-- so there is a last one
+pub last-some : (k : ℕ) (fs : List ℕ) → 0 < k → k ≤ length fs → None ≡ slice_get (reverse fs) 0 → ⊥
+last-some k fs some many none = let a = length-reverse fs in let b = ap length (first-no (reverse fs) none) in omega (arith, a, b, some, many)
+
 pub reclaims-more : (m : Setting) (closing : Option ℕ) (k : ℕ) (l : Ledger) (f : ℕ) (ns rest : List Note) → IsSound m l →
     Some f ≡ slice_get (reverse l.inactive) 0 → Outcome m (spares closing None) l f ns → ReclaimsLeft m closing k (after_notes l ns) rest →
     ReclaimsLeft m closing (suc k) l (ns ++ rest)
@@ -190,7 +218,7 @@ reclaims-more m closing k l f ns rest sound first out left many =
     let r = first-is f (reverse l.inactive) first in
     let o = outcome-inactive m (spares closing None) l f r.0 ns sound r.1 (inactive-used m l f sound first) out in
     let few : k ≤ length r.0 = (let a = length-reverse l.inactive in let b = ap length r.1 in omega (arith, a, b, many)) in
-    let enough : k ≤ length (after_notes l ns).inactive = (let a = same_length (after_notes l ns).inactive r.0 o.0 o.1 in omega (arith, a, few)) in
+    let enough = reclaim-leaves m closing k l f ns sound first out many in
     subst (λ xs. Outcomes m (spares closing None) l (take (suc k) xs) (ns ++ rest)) (sym r.1) (
       ns,
       rest,
@@ -207,23 +235,8 @@ ages-more m k l f ns rest sound first is left many =
     let o : reverse (after_notes l ns).active ≡ r.0 ++ [] = ap (λ x. reverse (after_notes l x).active) is
     ∙ last-gone l.active r.0 f r.1 (active-once m l f sound) in
     let few : k ≤ length r.0 = (let a = length-reverse l.active in let b = ap length r.1 in omega (arith, a, b, many)) in
-    let enough : k ≤ length (after_notes l ns).active = (let a = same_length (after_notes l ns).active r.0 [] o in omega (arith, a, few)) in
+    let enough = age-leaves m k l f ns sound first is many in
     (λ i. is i ++ (left enough ∙ ap (map Aged) (ap (take k) o ∙ take-append-le k r.0 [] few)) i) ∙ ap (λ xs. map Aged (take (suc k) xs)) (sym r.1)
-
--- with none left in the list, none were to be done
-pub reclaims-none : (m : Setting) (closing : Option ℕ) (k : ℕ) (l : Ledger) → None ≡ slice_get (reverse l.inactive) 0 → ReclaimsLeft m closing k l []
-reclaims-none m closing k l h many = subst (λ xs. Outcomes m (spares closing None) l (take k xs) []) (sym (first-no (reverse l.inactive) h)) (none k)
-  where
-    none : (k : ℕ) → Outcomes m (spares closing None) l (take k []) []
-    none zero = refl
-    none (suc k) = refl
-
-pub ages-none : (k : ℕ) (l : Ledger) → None ≡ slice_get (reverse l.active) 0 → AgesLeft k l []
-ages-none k l h many = sym (ap (λ xs. map Aged (take k xs)) (first-no (reverse l.active) h) ∙ none k)
-  where
-    none : (k : ℕ) → map Aged (take k []) ≡ []
-    none zero = refl
-    none (suc k) = refl
 
 -- the last ones, or all where there are fewer
 from_tail-min : (k n : ℕ) (fs : List ℕ) → n ≡ length fs → from_tail (min k n) fs ≡ from_tail k fs

@@ -16,7 +16,7 @@ use Rattle.av_plain.proofs.Sound.Counts.{pair-frame, slot-itself, slot_of-some}
 use Rattle.av_plain.proofs.Sound.Steps.{UnmapKept, alike-end_note, alike-started, alike-then, flights-end_note, unmap_notes-kept}
 use Rattle.av_plain.specs.Fault.{is_pinned}
 use Rattle.av_evict.specs.Steps.{EndsFirst, IsSent, MayDrop, MayStart, spares}
-use Rattle.av_evict.specs.Turn.{InVain, IsCleaned, IsEvicted, IsSentTo, IsTurn, IsTurnUnlessPinned, MayTurn, MayWrite, has_failed, unpinned}
+use Rattle.av_evict.specs.Turn.{InVain, IsCleaned, IsEvicted, IsSentTo, IsTurn, IsTurnUnlessPinned, MayTurn, MayWrite, unpinned}
 use Rattle.av_evict.specs.declared.system.WriteEnd.{WriteEnd}
 use Rattle.av_evict.proofs.StepLaws.{clean-may_drop, pair-cached, pair-slot_of}
 
@@ -49,14 +49,20 @@ named-no_orphan l s named = by (is_unmapped l (frame_at l s)) (not (in_flight l 
     by true false c h = refl
     by false b c h = refl
 
--- the write that ends is the one that began
-pub write-ends : (l : Ledger) (s : Slot) (end : Option WriteEnd) (ns : List Note) → MayWrite s l → EndsFirst end (after_note (Started s) l) ns →
-    ns ≡ end_note (has_failed end) s ∷ []
-write-ends l s None ns may h = absurd (not_empty s (sym (ap (λ fs. fs ++ s ∷ []) may.landed) ∙ h.0))
+-- once it has begun, a write ends
+write-some : (l : Ledger) (s : Slot) (ns : List Note) → MayWrite s l → EndsFirst None (after_note (Started s) l) ns → ⊥
+write-some l s ns may h = not_empty s (sym (ap (λ fs. fs ++ s ∷ []) may.landed) ∙ h.0)
   where
     not_empty : (s : Slot) → ◌≡◌ {A = List Slot} (s ∷ []) [] → ⊥
     not_empty s h = cc
-write-ends l s (Some e) ns may h = h.1 ∙ subst (λ x. end_notes (after_note (Started s) l) x e.failed ≡ end_note e.failed s ∷ []) (sym is)
+
+pub write-no_end : (l : Ledger) (s : Slot) (ns ms : List Note) → MayWrite s l → ns ≡ Started s ∷ [] → EndsFirst None (after_notes l ns) ms → ⊥
+write-no_end l s ns ms may is ends = write-some l s ms may (subst (λ x. EndsFirst None (after_notes l x) ms) is ends)
+
+-- and it is the one that began
+write-ends : (l : Ledger) (s : Slot) (e : WriteEnd) (ns : List Note) → MayWrite s l → EndsFirst (Some e) (after_note (Started s) l) ns →
+    ns ≡ end_note e.failed s ∷ []
+write-ends l s e ns may h = h.1 ∙ subst (λ x. end_notes (after_note (Started s) l) x e.failed ≡ end_note e.failed s ∷ []) (sym is)
     (ap (λ b. end_note e.failed s ∷ when b (Dropped s)) kept)
   where
     is : e.slot ≡ s
@@ -72,10 +78,9 @@ write-ends l s (Some e) ns may h = h.1 ∙ subst (λ x. end_notes (after_note (S
     kept : is_orphan (after_note (end_note e.failed s) (after_note (Started s) l)) s ≡ false
     kept = named-no_orphan (after_note (end_note e.failed s) (after_note (Started s) l)) s named
 
-pub write-both : (l : Ledger) (s : Slot) (end : Option WriteEnd) (failed : Bool) (ns ms : List Note) → MayWrite s l → failed ≡ has_failed end →
-    ns ≡ Started s ∷ [] → EndsFirst end (after_notes l ns) ms → ns ++ ms ≡ Started s ∷ end_note failed s ∷ []
-write-both l s end failed ns ms may same is ends = (λ i. is i ++ (write-ends l s end ms may (subst (λ x. EndsFirst end (after_notes l x) ms) is ends)
-    ∙ ap (λ b. end_note b s ∷ []) (sym same)) i)
+pub write-both : (l : Ledger) (s : Slot) (end : WriteEnd) (ns ms : List Note) → MayWrite s l → ns ≡ Started s ∷ [] →
+    EndsFirst (Some end) (after_notes l ns) ms → ns ++ ms ≡ Started s ∷ end_note end.failed s ∷ []
+write-both l s end ns ms may is ends = λ i. is i ++ write-ends l s end ms may (subst (λ x. EndsFirst (Some end) (after_notes l x) ms) is ends) i
 
 -- ---- cleaned, and dropped
 

@@ -9,7 +9,6 @@ use Rattle.av_plain.specs.Fault.{is_pinned}
 use Rattle.av_plain.specs.Ledger.{Ledger, Setting, is_cached, is_stale, map_count, slot_entries}
 use Rattle.av_plain.specs.Ledger.{slot_of}
 use Rattle.av_plain.specs.Pass.{IsSlotFor, end_note, is_dirty, is_stuck, stays_cached, turn_notes}
-use Rattle.av_evict.specs.declared.system.WriteEnd.{WriteEnd}
 use Rattle.av_evict.specs.Steps.{IsUsed, spares}
 
 -- ---- when a part may be done
@@ -33,11 +32,6 @@ pub record IsSentTo (f : ℕ) (s : Slot) (l : Ledger) : Type 0 where
   pub named : 0 < slot_entries l s
 
 -- ---- the page is written, and the slot dropped
-
--- whether a write that ended failed
-abbrev pub has_failed : Option WriteEnd → Bool
-has_failed None = false
-has_failed (Some end) = end.failed
 
 -- its page was written at once where it was stale; only then can that have failed
 abbrev pub IsCleaned : Slot → Bool → Ledger → List Note → Type 0

@@ -27,7 +27,7 @@ pub fn reclaim<S: System>(system: &mut S, count: u32, notes: &mut Notes) -> Resu
     let turns = count.min(system.inactive_len());
     for _turn in 0..turns {
         let Some(frame) = system.last_inactive() else {
-            return Ok(());
+            unreachable!();
         };
         reclaim_one(system, frame, notes)?;
     }
@@ -104,7 +104,7 @@ pub fn age<S: System>(system: &mut S, count: u32, notes: &mut Notes) -> Result<(
     let turns = count.min(system.active_len());
     for _turn in 0..turns {
         let Some(frame) = system.last_active() else {
-            return Ok(());
+            unreachable!();
         };
         age_one(system, frame, notes)?;
     }

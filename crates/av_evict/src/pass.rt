@@ -148,7 +148,7 @@ fn turns<S: System>(
     let all = u64::from(system.inactive_len()) + u64::from(system.active_len());
     for _turn in 0..all {
         let Some(frame) = next else {
-            return Ok(());
+            unreachable!();
         };
         let freed = turn_unless_pinned(system, pinned, frame, notes)?;
         if freed {

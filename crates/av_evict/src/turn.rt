@@ -6,10 +6,10 @@ ghost use Rattle.av_plain.specs.Fault.{is_pinned as pins};
 ghost use Rattle.av_plain.specs.Pass.{end_note};
 ghost use Rattle.av_evict.specs.System.{Adds, Gives, IsAt, Stays};
 ghost use Rattle.av_evict.specs.Turn.{IsCleaned, IsEvicted, IsSentTo, IsTurn, IsTurnUnlessPinned};
-ghost use Rattle.av_evict.specs.Turn.{MayTurn, MayWrite, has_failed as failed_in};
+ghost use Rattle.av_evict.specs.Turn.{MayTurn, MayWrite};
 
 use crate::steps::{drop_slot, finish_first, send, start};
-use crate::system::{System, WriteEnd};
+use crate::system::System;
 use av_base::Slot;
 use av_trace::Notes;
 use std::alloc::AllocError;
@@ -109,16 +109,8 @@ fn write<S: System>(system: &mut S, slot: Slot, notes: &mut Notes) -> Result<boo
     ensures stays { (told : Bool) → Stays (S.view system.old told) (S.view system.new told) }
 {
     start(system, slot, notes)?;
-    let end = finish_first(system, notes)?;
-    Ok(has_failed(end))
-}
-
-// Whether a write that ended failed.
-fn has_failed(end: Option<WriteEnd>) -> bool
-    ensures { result ≡ failed_in end }
-{
-    match end {
-        Some(end) => end.failed,
-        None => false,
-    }
+    let Some(end) = finish_first(system, notes)? else {
+        unreachable!();
+    };
+    Ok(end.failed)
 }

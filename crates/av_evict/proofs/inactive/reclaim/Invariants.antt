@@ -1,5 +1,5 @@
-use Rattle.std.proofs.Common.{Bool, ◌-◌}
-use Rattle.av_evict.specs.System.{Stays}
+use Rattle.std.proofs.Common.{Bool, false, length, ◌-◌, ◌≤◌}
+use Rattle.av_evict.specs.System.{IsAt, Stays}
 use Rattle.av_evict.proofs.TailLaws.{ReclaimsLeft}
 use Rattle.av_evict.proofs.SystemLaws.{IsMidway}
 use Rattle.av_evict.proofs.inactive.reclaim.Given as goal
@@ -9,5 +9,6 @@ invariant-loop-turn g l = record {
   midway : (told : Bool) → let k = g.S.System.view l.fn.system told in
       IsMidway k (g.S.System.view l.system told) l.fn.notes l.notes (ReclaimsLeft k.setting k.closing (l.turns - l._turn))
       (ReclaimsLeft k.setting k.closing l.turns);
+  left : IsAt (g.S.System.view l.system false) (λ x. l.turns - l._turn ≤ length x.inactive);
   stays : (told : Bool) → Stays (g.S.System.view l.fn.system told) (g.S.System.view l.system told);
 }

@@ -1,10 +1,9 @@
-use Rattle.std.proofs.Common.{◌+◌, ◌∙◌, None, false}
+use Rattle.std.proofs.Common.{◌+◌, ◌∙◌, false}
 use Rattle.av_evict.specs.Steps.{IsUsed}
 use Rattle.av_evict.specs.Turn.{IsTurnUnlessPinned, MayTurn}
 use Rattle.av_evict.proofs.OrderLaws.{turn-count}
-use Rattle.av_evict.proofs.PassLaws.{but-stays, turning-at, turning-freed, turning-over, turning-start, turning-step, turning-vain}
+use Rattle.av_evict.proofs.PassLaws.{but-stays, turning-at, turning-freed, turning-over, turning-some, turning-start, turning-step, turning-vain}
 use Rattle.av_evict.proofs.SystemLaws.{at-knows, gives-at, loose, stays_so, stays_then}
-use Rattle.av_evict.proofs.TailLaws.{first-no}
 use Rattle.av_evict.proofs.pass.turns.Goals as goal
 
 pub loop-turn-init : goal.loop-turn-init
@@ -40,9 +39,13 @@ pub returns-then-freed-clause-gives : goal.returns-then-freed-clause-gives
 returns-then-freed-clause-gives g c = λ told. turning-freed _ _ _ _ _ _ c.args.pinned c.loop-turn._turn c.in-Some.frame
     (rw c.in-Some.is at (c.loop-turn.invariant.midway told)) (rw c.if-freed.true at (c.in_ok-freed.ensures.gives told))
 
-pub returns-in_default-clause-gives : goal.returns-in_default-clause-gives
-returns-in_default-clause-gives g c = λ told. turning-vain _ _ _ _ c.args.pinned c.loop-turn._turn None
-    (rw c.in_default.is at (c.loop-turn.invariant.midway told)) (λ l sound stands i. first-no i.todo i.first)
+pub unreachable-requires : goal.unreachable-requires
+unreachable-requires g c =
+    let at = c.requires in
+    turning-some _ _ _ _ c.args.pinned c.loop-turn._turn (c.from.result + c.from-2.result) at.0
+    (rw c.in_default.is at (c.loop-turn.invariant.midway false) at.0 at.1 at.2 at.3)
+    (turn-count at.0 _ _ (c.from.ensures ∙ c.inactive_len.ensures false at.0 (loose _ _ at.0 at.1) at.2)
+    (c.from-2.ensures ∙ c.active_len.ensures false at.0 (loose _ _ at.0 at.1) at.2)) c.loop-turn-test.true
 
 pub returns-clause-gives : goal.returns-clause-gives
 returns-clause-gives g c = λ told. turning-vain _ _ _ _ c.args.pinned c.loop-turn._turn c.loop-turn.next (c.loop-turn.invariant.midway told)
