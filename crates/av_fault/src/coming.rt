@@ -85,11 +85,10 @@ fn fetch<D: SwapDev>(
     }
     let home = mem.home_to_load(slot, home);
     match mem.load(slot, home, dev) {
-        Some(Ok(frame)) => {
+        Ok(frame) => {
             notes.push(Note::Loaded { slot, frame })?;
             Ok(Ok(frame))
         }
-        Some(Err(_)) => Ok(Err(Stop::Bus)),
-        None => unreachable!(),
+        Err(_) => Ok(Err(Stop::Bus)),
     }
 }

@@ -1,6 +1,6 @@
 -- The view after a slot is loaded, and after an entry names its frame.
-use Rattle.std.proofs.Common.{◌≡◌, ℕ, ◌+◌, ◌-◌, Bool, true, false, cond, ◌||◌, ◌==◌, nat_lt, List, [], ◌∷◌, Option, Some, None, is_some, refl, sym, ap, subst, ◌∙◌, arith}
-use Rattle.std.specs.Prelude.{Result, slice_index}
+use Rattle.std.proofs.Common.{◌≡◌, ℕ, ◌+◌, ◌-◌, Bool, true, false, cond, ◌||◌, ◌==◌, nat_lt, List, ◌∷◌, Option, Some, None, is_some, refl, ap, ◌∙◌, arith}
+use Rattle.std.specs.Prelude.{slice_index}
 use Rattle.std.proofs.lemmas.Bool.Decides.{nat_tests}
 use Rattle.av_anon.proofs.Words.{with_at-same}
 use Rattle.av_base.specs.Words.{is_in, with_at}
@@ -15,12 +15,11 @@ use Rattle.av_plain.proofs.Sound.Counts.{same-itself}
 use Rattle.av_swap_laws.specs.Steps.{view_map}
 use Rattle.av_swapcache.specs.Calls.{IsLoaded}
 use Rattle.av_swapcache.specs.Swap.{Shown as ShownSwap, count_of, given_back, same_slot, shown as shown_swap, with_entries, with_find}
-use Rattle.av_io.specs.declared.failures.Failed.{Failed}
-use Rattle.av_mem.specs.Cache.{HasLoaded, Loads}
+use Rattle.av_mem.specs.Cache.{HasLoaded}
 use Rattle.av_mem.specs.Mem.{view, view_of_parts}
 use Rattle.av_mem.specs.declared.mem.Mem.{Mem}
 use Rattle.av_mem.proofs.MemLaws.{plain_set}
-use Rattle.av_mem.proofs.StepLaws.{SameRest, lists-without, table_of, view-by}
+use Rattle.av_mem.proofs.StepLaws.{SameRest, lists-without, view-by}
 
 -- ---- a slot that is loaded
 
@@ -31,18 +30,6 @@ first-free f free left is = ap (is_in f) is ∙ by (f == f) (same-itself f)
     by : (b : Bool) → b ≡ true → (b || is_in f left) ≡ true
     by true e = refl
     by false e = cc
-
--- the frames are shown as they were
-same-frames : (old new : Mem) → new ≡ record old { frames = new.frames } → shown_frames new.frames ≡ shown_frames old.frames → view new ≡ view old
-same-frames old new rest frames = ap (λ (k : Mem). view k) rest
-    ∙ ap (λ (F : ShownFrames). view_of_parts F old.lists (table_of old) old.spaces old.anons (shown_swap old.swap)) frames
-
--- without a free frame all is as it was
-pub loads-none : (old new : Mem) (pages : Option (ℕ → ℕ → List ℕ)) (s : Slot) (home : Option (ℕ × ℕ)) (failures : ℕ) (r : Option (Result ℕ Failed))
-    → r ≡ None → old.frames.free ≡ [] → new ≡ record old { frames = new.frames } → shown_frames new.frames ≡ shown_frames old.frames
-    → Loads r old new pages s home failures failures
-loads-none old new pages s home failures r none empty rest frames =
-    subst (λ r. Loads r old new pages s home failures failures) (sym none) (empty, same-frames old new rest frames, refl)
 
 -- with the bytes of a page, cached, and at home
 abbrev loaded_frames : ℕ → Slot → List ℕ → List ℕ → Option (ℕ × ℕ) → ShownFrames → ShownFrames

@@ -80,12 +80,10 @@ pub record HasLoaded (old new : Mem) (pages : Option (ℕ → ℕ → List ℕ))
   pub once : is_in f left ≡ false
   pub loads : view new ≡ view_load f s left (slice_index page) home (view old)
 
--- or no frame is free, or the device failed, and has these failures
-abbrev pub Loads : Option (Result ℕ DeviceFailed) → Mem → Mem → Option (ℕ → ℕ → List ℕ) → Slot
+-- or the device failed, and has these failures
+abbrev pub Loads : Result ℕ DeviceFailed → Mem → Mem → Option (ℕ → ℕ → List ℕ) → Slot
     → Option (ℕ × ℕ) → ℕ → ℕ → Type 0
-Loads None old new pages s home failures failures' =
-    ((view old).free ≡ []) × (view new ≡ view old) × (failures' ≡ failures)
-Loads (Some (Err e)) old new pages s home failures failures' =
-    ((view old).free ≡ [] → ⊥) × (view new ≡ view old) × Rose failures failures'
-Loads (Some (Ok f)) old new pages s home failures failures' =
+Loads (Err e) old new pages s home failures failures' =
+    (view new ≡ view old) × Rose failures failures'
+Loads (Ok f) old new pages s home failures failures' =
     HasLoaded old new pages f s home × (failures' ≡ failures)

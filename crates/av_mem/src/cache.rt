@@ -1,7 +1,7 @@
 //! Steps of the swap cache, with frames, lists and the device.
 
-ghost use Rattle.std.specs.Prelude.{◌≡◌, ◌+◌, ◌-◌, ◌<◌, ◌≤◌, ◌^◌, ℕ, None, true, false, IfSome};
-ghost use Rattle.std.specs.Prelude.{IsSome};
+ghost use Rattle.std.specs.Prelude.{◌≡◌, ◌+◌, ◌-◌, ◌<◌, ◌≤◌, ◌^◌, [], ℕ, None, true, false};
+ghost use Rattle.std.specs.Prelude.{IfSome, IsSome};
 ghost use Rattle.std.specs.Option.{ForSome};
 ghost use Rattle.av_base.specs.Words.{is_in};
 ghost use Rattle.av_pagetable.specs.Entries.{entry_at};
@@ -105,16 +105,17 @@ impl Mem {
     }
 
     /// Reads the page of a slot that an entry names from the device into the first free frame, and
-    /// caches it there, clean, with this home, at the head of inactive. None exactly where no frame
-    /// is free. Then, and after a failure, the memory system is as it was.
+    /// caches it there, clean, with this home, at the head of inactive. After a failure the memory
+    /// system is as it was.
     pub fn load<D: SwapDev>(
         &mut self,
         slot: Slot,
         home: Option<(u64, u64)>,
         dev: &mut D,
-    ) -> Option<Result<u32, Failed>>
+    ) -> Result<u32, Failed>
         requires fits { HasRoom self.old }
         requires listed { HasLists self.old }
+        requires free { (view self.old).free ≡ [] → ⊥ }
         requires named { 0 < (view self.old).entries slot }
         requires absent { (view self.old).find slot ≡ None }
         requires uncached { (f : ℕ) → is_in f (view self.old).free ≡ true
@@ -127,16 +128,18 @@ impl Mem {
         ensures never_falls { D.failures dev.old ≤ D.failures dev.new }
         ensures parts { KeepsParts self.old self.new }
     {
-        let frame = self.frames.take()?;
+        let Some(frame) = self.frames.take() else {
+            unreachable!();
+        };
         match self.swap.load(&mut self.frames, slot, frame, dev) {
             Ok(()) => {
                 self.frames.set_home(frame, home);
                 self.lists.to_inactive_head(frame);
-                Some(Ok(frame))
+                Ok(frame)
             }
             Err(failed) => {
                 self.frames.give(frame);
-                Some(Err(failed))
+                Err(failed)
             }
         }
     }

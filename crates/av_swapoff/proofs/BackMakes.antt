@@ -1,9 +1,11 @@
 -- The page of a slot is loaded, and the entry that names the slot names its frame: what the memory system with its device makes of both.
 use Rattle.std.proofs.Common.{◌≡◌, ℕ, ◌+◌, ◌<◌, ◌≤◌, Bool, true, false, cond, List, [], ◌∷◌, Option, Some, None, IfSome, is_some, refl, sym, ap, subst, ◌∙◌}
 use Rattle.std.specs.Prelude.{Ok, Err, Result, slice_index}
+use Rattle.std.specs.Result.{result_ok}
 use Rattle.std.proofs.lemmas.Bool.{false≢true}
 use Rattle.av_base.specs.Page.{address_of, page_of, page_size}
 use Rattle.av_base.specs.declared.slot.Slot.{Slot}
+use Rattle.av_io.specs.Count.{Rose}
 use Rattle.av_io.specs.declared.failures.Failed.{Failed}
 use Rattle.av_spaces.specs.Spaces.{pages_of}
 use Rattle.av_swapcache.specs.Area.{counted}
@@ -69,7 +71,7 @@ pub at-home : (d : Device) (closing : Option ℕ) (k : Mem) (w : World) (r : Rma
 at-home d closing k w r l q home h is = is ∙ ap (home_of q.1) (h.are q.0 q.1)
 
 -- into the first free frame
-pub load-frame : (names : List ℕ) (d : Device) (old new : Mem) (pages : Option (ℕ → ℕ → List ℕ)) (s : Slot) (f : ℕ) (homed : Option (ℕ × ℕ))
+load-frame : (names : List ℕ) (d : Device) (old new : Mem) (pages : Option (ℕ → ℕ → List ℕ)) (s : Slot) (f : ℕ) (homed : Option (ℕ × ℕ))
     → HasLoaded old new pages f s homed → Tells (view_of names d old) (λ l. (f < (setting_by d old).frames) × (is_free l f ≡ true))
 load-frame names d old new pages s f homed load = λ l sound stood.
     let first = first-is (setting_by d old) l f load.left (subst (ListsFree (setting_by d old) l) load.first stood.2.free.frames) in
@@ -100,11 +102,33 @@ loaded-makes names d old new q s f home homed pages at is load got parts = λ l 
     (back-loaded d (closing_of old) old w r l any_slot sound h q s may.named may.absent home (at-home d (closing_of old) old w r l q home h at)
     new pages f homed is load got))
 
--- what a load gave, if the device did
-abbrev pub frame_of : Option (Result ℕ Failed) → Option ℕ
-frame_of None = None
-frame_of (Some (Err e)) = None
-frame_of (Some (Ok f)) = Some f
+-- a frame that a load gives is one that was free
+abbrev AreFree : List ℕ → (Bool → Device) → Mem → Key → Slot → Option ℕ → Type 0
+AreFree names device old q s result = IfSome result (λ f. (told : Bool) → Tells (view_of names (device told) old)
+    (λ l. MayLoad (setting_by (device told) old) s q l → (f < (setting_by (device told) old).frames) × (is_free l f ≡ true)))
+
+pub load-frames : (names : List ℕ) (device : Bool → Device) (old new : Mem) (q : Key) (s : Slot) (homed : Option (ℕ × ℕ))
+    (pages : Option (ℕ → ℕ → List ℕ)) (failures failures' : ℕ) (o : Result ℕ Failed) (result : Option ℕ) → result ≡ result_ok o
+    → Loads o old new pages s homed failures failures' → AreFree names device old q s result
+load-frames names device old new q s homed pages failures failures' o result is load = subst (AreFree names device old q s) (sym is) (by o load)
+  where
+    by : (o : Result ℕ Failed) → Loads o old new pages s homed failures failures' → AreFree names device old q s (result_ok o)
+    by (Ok f) load = λ told l sound stood may. load-frame names (device told) old new pages s f homed load.0 l sound stood
+    by (Err e) load = tt
+
+-- where it gives none, the device failed once more
+pub load-lost : (told : Bool) (d d' : Device) (old new : Mem) (s : Slot) (homed : Option (ℕ × ℕ)) (o : Result ℕ Failed) (result : Option ℕ)
+    → result ≡ result_ok o → Loads o old new d.pages s homed d.failures d'.failures → result ≡ None
+    → Rose (as_told told d).failures (as_told told d').failures
+load-lost told d d' old new s homed (Ok f) result is load none = absurd (given f (sym is ∙ none))
+  where
+    given : (f : ℕ) → Some f ≡ None → ⊥
+    given f e = cc
+load-lost told d d' old new s homed (Err e) result is load none = by told load.1
+  where
+    by : (told : Bool) → Rose d.failures d'.failures → Rose (as_told told d).failures (as_told told d').failures
+    by true rose = rose
+    by false rose = rose
 
 -- with the device afterwards, which says of its pages what it said
 module _ (names : List ℕ) (told : Bool) (d d' : Device) (sizes : d'.sizes ≡ d.sizes) (pages : d'.pages ≡ d.pages)
@@ -123,24 +147,22 @@ module _ (names : List ℕ) (told : Bool) (d d' : Device) (sizes : d'.sizes ≡ 
       by false h = subst (λ d'. Serves d' (closing_of k) k w r l) (λ i. record { sizes = sym sizes i; pages = None; failures = d'.failures })
           (serves-whenever d.sizes None d.failures d'.failures (closing_of k) k w r l h)
 
-  load-by : (old new : Mem) (q : Key) (s : Slot) (home homed : Option (ℕ × ℕ)) (o : Option (Result ℕ Failed))
+  load-by : (old new : Mem) (q : Key) (s : Slot) (home homed : Option (ℕ × ℕ)) (o : Result ℕ Failed)
       → home ≡ home_of q.1 (pages_of old.spaces.processes q.0 q.1) → homed ≡ home_by old s home
       → Loads o old new d.pages s homed d.failures d'.failures
       → KeepsParts old new
       → Makes (view_of names (as_told told d) old) (view_of names (as_told told d') new) (MayLoad (setting_by (as_told told d) old) s q)
-      (load_notes s (frame_of o))
-  load-by old new q s home homed None at is loads parts = none-moved names (as_told told d) (as_told told d') old new
-      (MayLoad (setting_by (as_told told d) old) s q) same_told (moved old) loads.1 parts
-  load-by old new q s home homed (Some (Err e)) at is loads parts = none-moved names (as_told told d) (as_told told d') old new
-      (MayLoad (setting_by (as_told told d) old) s q) same_told (moved old) loads.1 parts
-  load-by old new q s home homed (Some (Ok f)) at is loads parts =
+      (load_notes s (result_ok o))
+  load-by old new q s home homed (Err e) at is loads parts = none-moved names (as_told told d) (as_told told d') old new
+      (MayLoad (setting_by (as_told told d) old) s q) same_told (moved old) loads.0 parts
+  load-by old new q s home homed (Ok f) at is loads parts =
       subst (λ x. Makes (view_of names (as_told told d) old) (view_of names x new) (MayLoad (setting_by (as_told told d) old) s q) (Loaded s f ∷ []))
       (sym (told-still told d d' sizes pages loads.1))
       (loaded-makes names (as_told told d) old new q s f home homed d.pages at is loads.0 (got-told told d s loads.0.page loads.0.holds) parts)
 
   -- whatever it answered
-  pub load-makes : (old new : Mem) (q : Key) (s : Slot) (home homed : Option (ℕ × ℕ)) (o : Option (Result ℕ Failed)) (result : Option ℕ)
-      → result ≡ frame_of o → home ≡ home_of q.1 (pages_of old.spaces.processes q.0 q.1) → homed ≡ home_by old s home
+  pub load-makes : (old new : Mem) (q : Key) (s : Slot) (home homed : Option (ℕ × ℕ)) (o : Result ℕ Failed) (result : Option ℕ)
+      → result ≡ result_ok o → home ≡ home_of q.1 (pages_of old.spaces.processes q.0 q.1) → homed ≡ home_by old s home
       → Loads o old new d.pages s homed d.failures d'.failures → KeepsParts old new
       → Makes (view_of names (as_told told d) old) (view_of names (as_told told d') new) (MayLoad (setting_by (as_told told d) old) s q)
       (load_notes s result)

@@ -37,10 +37,7 @@ impl<'a, D: SwapDev> SlotSystem for Driver<'a, D> {
     fn load(&mut self, slot: Slot, user: (u16, u64)) -> Option<u32> {
         let home = home_at(&*self.mem, user);
         let home = self.mem.home_to_load(slot, home);
-        match self.mem.load(slot, home, &mut *self.dev)? {
-            Ok(frame) => Some(frame),
-            Err(_) => None,
-        }
+        self.mem.load(slot, home, &mut *self.dev).ok()
     }
 }
 

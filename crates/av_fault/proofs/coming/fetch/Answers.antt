@@ -1,7 +1,6 @@
-use Rattle.std.proofs.Common.{◌∙◌, None, Some, subst, sym}
+use Rattle.std.proofs.Common.{◌∙◌, None, subst, sym}
 use Rattle.std.specs.Prelude.{Ok}
 use Rattle.av_plain.specs.Device.{as_told, device_by}
-use Rattle.av_mem.specs.Cache.{Loads}
 use Rattle.av_mem.proofs.ComingBack.{got-told, seen-same, told-still}
 use Rattle.av_fault.specs.Coming.{Fetches, HasCome}
 use Rattle.av_fault.specs.Seek.{HasSought}
@@ -60,38 +59,36 @@ load-requires-clause-uncached g c =
     c.requires.between c.requires.away c.requires.home (sym c.find.ensures.value ∙ c.in_default.is) c.in_ok-out.ensures.sought
     c.in_default-2.is).uncached
 
-pub unreachable-requires : goal.unreachable-requires
-unreachable-requires g c =
+pub load-requires-clause-free : goal.load-requires-clause-free
+load-requires-clause-free g c =
     (to-load _ _ c.args.mem.now c.seek.new.mem c.args.key c.args.slot c.args.home c.args.notes.now c.seek.new.notes c.in_ok-out.field-0
     c.requires.between c.requires.away c.requires.home (sym c.find.ensures.value ∙ c.in_default.is) c.in_ok-out.ensures.sought
-    c.in_default-2.is).finds c.in-None.ensures.loads.0
+    c.in_default-2.is).finds
 
-pub returns-in_ok-push-in-Some-Ok-clause-fetched : goal.returns-in_ok-push-in-Some-Ok-clause-fetched
-returns-in_ok-push-in-Some-Ok-clause-fetched g c = λ told w r l h.
+pub returns-in_ok-push-in-Ok-clause-fetched : goal.returns-in_ok-push-in-Ok-clause-fetched
+returns-in_ok-push-in-Ok-clause-fetched g c = λ told w r l h.
     let d0 = device_by (g.D.SwapDev.sizes c.args.dev.now) (g.D.SwapDev.pages c.args.dev.now) (g.D.SwapDev.failures c.args.dev.now) in
     let d1 = device_by (g.D.SwapDev.sizes c.seek.new.dev) (g.D.SwapDev.pages c.seek.new.dev) (g.D.SwapDev.failures c.seek.new.dev) in
     let d2 = device_by (g.D.SwapDev.sizes c.load.new.dev) (g.D.SwapDev.pages c.load.new.dev) (g.D.SwapDev.failures c.load.new.dev) in
-    let load = subst (λ x. Loads (Some x) c.seek.new.mem c.load.new.self (g.D.SwapDev.pages c.seek.new.dev) c.args.slot c.home_to_load-home.result
-    (g.D.SwapDev.failures c.seek.new.dev) (g.D.SwapDev.failures c.load.new.dev)) c.in-Some-Ok.field-0-is c.in-Some-Ok.ensures.loads in
+    let load = c.in-Ok.ensures.loads in
     subst (λ d. HasCome (λ m w l added came. Fetches m w l c.args.slot added came) (as_told told d0) d c.args.mem.now c.load.new.self w r l
-    c.args.notes.now c.push.new.self (Ok c.in-Some-Ok.frame)) (sym (told-still told d1 d2 c.load.ensures.same_sizes c.load.ensures.same_pages load.1))
+    c.args.notes.now c.push.new.self (Ok c.in-Ok.frame)) (sym (told-still told d1 d2 c.load.ensures.same_sizes c.load.ensures.same_pages load.1))
     (come-loaded (as_told told d0) (as_told told d1) c.args.mem.now c.seek.new.mem w r l c.args.key c.args.slot c.args.home c.args.notes.now
     c.seek.new.notes h c.requires.away c.requires.home (sym c.find.ensures.value ∙ c.in_default.is)
     (subst (HasSought _ (as_told told d1) c.args.mem.now c.seek.new.mem w r l None c.args.notes.now c.seek.new.notes) c.in_default-2.is
     (c.in_ok-out.ensures.sought told w r l h))
-    c.load.new.self (g.D.SwapDev.pages c.seek.new.dev) c.in-Some-Ok.frame c.home_to_load-home.result c.home_to_load-home.ensures load.0
+    c.load.new.self (g.D.SwapDev.pages c.seek.new.dev) c.in-Ok.frame c.home_to_load-home.result c.home_to_load-home.ensures load.0
     c.load.ensures.parts
-    (got-told told d1 c.args.slot load.0.page load.0.holds) c.push.new.self c.in_ok-push-in-Some-Ok.ensures.ok)
+    (got-told told d1 c.args.slot load.0.page load.0.holds) c.push.new.self c.in_ok-push-in-Ok.ensures.ok)
 
-pub returns-in-Some-Err-clause-fetched : goal.returns-in-Some-Err-clause-fetched
-returns-in-Some-Err-clause-fetched g c = λ told w r l h.
+pub returns-in-Err-clause-fetched : goal.returns-in-Err-clause-fetched
+returns-in-Err-clause-fetched g c = λ told w r l h.
     let d1 = device_by (g.D.SwapDev.sizes c.seek.new.dev) (g.D.SwapDev.pages c.seek.new.dev) (g.D.SwapDev.failures c.seek.new.dev) in
     let d2 = device_by (g.D.SwapDev.sizes c.load.new.dev) (g.D.SwapDev.pages c.load.new.dev) (g.D.SwapDev.failures c.load.new.dev) in
-    let load = subst (λ x. Loads (Some x) c.seek.new.mem c.load.new.self (g.D.SwapDev.pages c.seek.new.dev) c.args.slot c.home_to_load-home.result
-    (g.D.SwapDev.failures c.seek.new.dev) (g.D.SwapDev.failures c.load.new.dev)) c.in-Some-Err.field-0-is c.in-Some-Err.ensures.loads in
+    let load = c.in-Err.ensures.loads in
     come-lost _ (as_told told d1) c.args.mem.now c.seek.new.mem w r l c.args.key c.args.slot c.args.home c.args.notes.now
     c.seek.new.notes h c.requires.away c.requires.home (sym c.find.ensures.value ∙ c.in_default.is)
     (subst (HasSought _ (as_told told d1) c.args.mem.now c.seek.new.mem w r l None c.args.notes.now c.seek.new.notes) c.in_default-2.is
     (c.in_ok-out.ensures.sought told w r l h))
     (as_told told d2) c.load.new.self (seen-same told d1 d2 c.load.ensures.same_sizes c.load.ensures.same_pages c.load.ensures.never_falls)
-    (seen-says told d1 d2 c.load.ensures.same_pages) load.1 c.load.ensures.parts (told-rose told 1 d1 d2 load.2)
+    (seen-says told d1 d2 c.load.ensures.same_pages) load.0 c.load.ensures.parts (told-rose told 1 d1 d2 load.1)
