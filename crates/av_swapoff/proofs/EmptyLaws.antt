@@ -34,7 +34,6 @@ use Rattle.av_swapoff.specs.Slot.{IsIn, MayFetch, mapped_notes}
 use Rattle.av_swapoff.specs.System.{AreUsers, IsUser, MayLoad, slot_at}
 use Rattle.av_swapoff.specs.declared.empty.EmptyEnd.{EmptyEnd}
 use Rattle.av_swapoff.specs.declared.empty.EmptyEnd.TheVariants.{Empty, NoFrame, NoPage}
-use Rattle.av_swapoff.specs.declared.slot.FetchEnd.TheVariants as fetched
 use Rattle.av_swapoff.proofs.SlotLaws.{AllMapped, fetched-in, load-sound, mapped-keys, rose-both, rose-plain, sought-may_load}
 use Rattle.av_swapoff.proofs.UserLaws.{IsKeyOf, Steady, SteadyBut, dropped-other, key-user, keys-length, steady-loaded, steady-seeks, used-user, user-key}
 
@@ -519,6 +518,12 @@ pub page-fetch : (l : Ledger) (s : Slot) (found : Option Key) (u : Key) → foun
 page-fetch l s found u is h may =
     let used : 0 < slot_count l s = grind (arith, nat_tests, h) in
     record { landed = may.landed; used = used; user = subst (λ o. IsSomeAnd o (IsUser l s)) is (may.user used) }
+
+-- and it has one
+pub page-user : (l : Ledger) (s : Slot) (found : Option Key) → found ≡ None → true ≡ nat_lt 0 (slot_count l s) → MayEmpty s found l → ⊥
+page-user l s found is h may =
+    let used : 0 < slot_count l s = grind (arith, nat_tests, h) in
+    subst (λ o. IsSomeAnd o (IsUser l s)) is (may.user used)
 
 pub emptied-page : (a b : SystemView) (l : Ledger) (s : Slot) (end : Option EmptyEnd) (ns : List Note) → 0 < slot_count l s →
     EmptiesSlotBy a b s end l ns → EmptiesPageBy a b s end l ns

@@ -95,7 +95,7 @@ fn empty_page<S: SlotSystem>(
         return Ok(None);
     }
     let Some(user) = user else {
-        return Ok(None);
+        unreachable!();
     };
     let stuck = empty_slot(alloc, system, slot, user, notes)?;
     Ok(stuck)

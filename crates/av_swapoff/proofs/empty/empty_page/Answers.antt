@@ -1,9 +1,15 @@
-use Rattle.std.proofs.Common.{sym, ◌∙◌}
+use Rattle.std.proofs.Common.{false, sym, ◌∙◌}
 use Rattle.av_evict.proofs.SystemLaws.{gives-as, loose}
 use Rattle.av_swapoff.specs.Empty.{EmptiesPageBy, EmptiesSlotBy, MayEmpty}
 use Rattle.av_swapoff.specs.Slot.{MayFetch}
-use Rattle.av_swapoff.proofs.EmptyLaws.{emptied-page, page-fetch}
+use Rattle.av_swapoff.proofs.EmptyLaws.{emptied-page, page-fetch, page-user}
 use Rattle.av_swapoff.proofs.empty.empty_page.Goals as goal
+
+pub unreachable-requires : goal.unreachable-requires
+unreachable-requires g c =
+    let at = c.requires in
+    page-user at.0 c.args.slot c.args.user c.in_default.is
+    (sym c.if-not-is_in_use.false ∙ c.is_in_use.ensures false at.0 (loose _ _ at.0 at.1) at.2) at.3
 
 pub returns-clause-gives : goal.returns-clause-gives
 returns-clause-gives g c = λ told.
