@@ -72,6 +72,7 @@ pub trait System {
 
     /// Whether neither an entry names a cached slot nor one its frame, and it is not in flight.
     fn is_orphan(&self, slot: Slot) -> bool
+        requires { Knows (view self.now false) Always }
         ensures { (told : Bool) → Tells (view self.now told) (λ l. result ≡ is_orphan l slot) };
 
     // ---- lists

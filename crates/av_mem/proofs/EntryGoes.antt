@@ -7,7 +7,7 @@ use Rattle.std.specs.List.{list_any}
 use Rattle.av_base.specs.declared.slot.Slot.{Slot}
 use Rattle.av_base.specs.Words.{is_in, with_at}
 use Rattle.av_pagetable.specs.declared.pte.Pte.{Pte}
-use Rattle.av_pagetable.specs.declared.pte.Pte.TheVariants.{Here, Away}
+use Rattle.av_pagetable.specs.declared.pte.Pte.TheVariants.{Away, Empty, Here, Zero as ZeroPte}
 use Rattle.av_plain.specs.Choice.{Chooses, ChoosesAll}
 use Rattle.av_plain.specs.Event.{Event, Noted, Zapped, after_all, after_note, after_zap, note_events, notes_of, when}
 use Rattle.av_plain.specs.Ledger.{Entry, InFrame, InSlot, Ledger, Setting, Zero, Key, entry, frame_at, is_orphan as is_orphan_in, is_unmapped as is_unmapped_in, map_count, names_frame, names_slot, same_slot, slot_of}
@@ -33,7 +33,7 @@ use Rattle.av_swap_laws.proofs.Zap.{zap-frame, zap-slot, zap-zero}
 use Rattle.av_mem.specs.declared.mem.Mem.{Mem}
 use Rattle.av_swap_laws.proofs.Parts.{if-some, none-some}
 use Rattle.av_swapcache.specs.Swap.{shown as shown_swap}
-use Rattle.av_mem.specs.Entries.{DropsOrphan, HasEntry, Table, is_orphan, is_unmapped, slot_behind, slot_behind_entry, view_less, without_pages}
+use Rattle.av_mem.specs.Entries.{DropsOrphan, HasEntry, IsWithin, Table, is_orphan, is_unmapped, slot_behind, slot_behind_entry, view_less, without_pages}
 use Rattle.av_mem.specs.Mem.{SoundLedger, frame_count, plain, setting_by, view}
 use Rattle.av_mem.proofs.EntryViews.{frame_less, slot_less}
 use Rattle.av_mem.proofs.PagesGone.{page-one}
@@ -43,6 +43,15 @@ use Rattle.av_mem.proofs.ZapRange.{one-page}
 
 abbrev pub by_table : Table → View → View
 by_table table v = record v { table = table }
+
+-- whether a slot is an orphan, in both words
+pub orphan-stands : (m : Setting) (v : View) (l : Ledger) (s : Slot) → LedgerStands m v l → is_orphan v s ≡ is_orphan_in l s
+orphan-stands m v l s stands = λ i. (unmapped (v.find s) ∙ ap (is_unmapped_in l) (stands.swap.finds s)) i
+    && not (list_any (same_slot s) (stands.swap.flight i)) && stands.swap.counts s i == 0
+  where
+    unmapped : (o : Option ℕ) → is_unmapped v o ≡ is_unmapped_in l o
+    unmapped None = refl
+    unmapped (Some f) = ap (λ n. n == 0) (stands.frames.maps f)
 
 -- what the laws say, by their tests
 abbrev zapped_frame : ℕ → ℕ → ℕ → View → Bool → View
@@ -186,12 +195,7 @@ module _ (m : Setting) (listed room : ℕ) (v : View) (table : Table) (l : Ledge
           both false = refl
 
       orphan-is : is_orphan less s ≡ is_orphan_in gone s
-      orphan-is = λ i. (unmapped (less.find s) ∙ ap (is_unmapped_in gone) (stands.swap.finds s)) i
-          && not (list_any (same_slot s) (stands.swap.flight i)) && stands.swap.counts s i == 0
-        where
-          unmapped : (o : Option ℕ) → is_unmapped less o ≡ is_unmapped_in gone o
-          unmapped None = refl
-          unmapped (Some f) = ap (λ n. n == 0) (stands.frames.maps f)
+      orphan-is = orphan-stands m (by_table left less) gone s stands
 
     -- ---- in the end
 
@@ -296,6 +300,15 @@ module _ (k : Mem) (entry : Pte) (h : HasEntry k entry) where
 
   pub in-use : (f : ℕ) (write seen : Bool) → entry ≡ Here f write seen → InUse (frame_count k) (view k) f
   in-use f write seen is = frame-used m k.lists.frames room (view k) h.table h.ledger h.stands h.process h.page f seen (at-page _ (ap plain is))
+
+  pub entry-within : IsWithin (view k) (plain entry)
+  entry-within = by entry refl
+    where
+      by : (e : Pte) → entry ≡ e → IsWithin (view k) (plain e)
+      by Empty is = tt
+      by ZeroPte is = tt
+      by (Here f write seen) is = (in-use f write seen is).below
+      by (Away s) is = tt
 
   pub named : (s : Slot) → entry ≡ Away s → 0 < (view k).entries s
   named s is = slot-named m k.lists.frames room (view k) h.table h.ledger h.stands h.process h.page s (at-page _ (ap plain is))

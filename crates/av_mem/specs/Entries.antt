@@ -100,6 +100,20 @@ abbrev pub view_less : Option Plain → View → View
 view_less None v = v
 view_less (Some t) v = record (view_zap 0 0 t.entry v) { table = v.table }
 
+-- a frame that an entry names is one of the machine's: so it is wherever a ledger stands
+abbrev pub IsEntryWithin : View → Entry → Type 0
+IsEntryWithin v Zero = Unit {0}
+IsEntryWithin v (InFrame f seen) = f < v.frames
+IsEntryWithin v (InSlot s) = Unit {0}
+
+abbrev pub IsWithin : View → Option Plain → Type 0
+IsWithin v None = Unit {0}
+IsWithin v (Some t) = IsEntryWithin v t.entry
+
+-- so it is of each
+abbrev pub AreWithin : View → Type 0
+AreWithin v = (p page : ℕ) → IsWithin v (v.table p page)
+
 -- the slot that an entry names, or at which its frame is cached
 abbrev pub slot_behind_entry : View → Entry → Option Slot
 slot_behind_entry v Zero = None

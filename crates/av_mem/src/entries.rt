@@ -14,8 +14,8 @@ ghost use Rattle.av_plain.specs.Stands.{free_of};
 ghost use Rattle.av_swap_laws.specs.Steps.{view_copy, view_new, view_seen};
 ghost use Rattle.av_mem.specs.Entries.{is_orphan, slot_behind, view_less, view_more};
 ghost use Rattle.av_mem.specs.Entries.{view_more_each, view_taken, DropsOrphan, HasEntry, HasFree};
-ghost use Rattle.av_mem.specs.Entries.{HasLedgerBy, HasRoomFor, IsInUse, IsMapped, IsTaken, LetsGo};
-ghost use Rattle.av_mem.specs.Entries.{Table};
+ghost use Rattle.av_mem.specs.Entries.{HasLedgerBy, HasRoomFor, IsInUse, IsMapped, IsTaken, IsWithin};
+ghost use Rattle.av_mem.specs.Entries.{LetsGo, Table};
 ghost use Rattle.av_mem.specs.Mem.{frame_count, plain, view, HasLists, HasRoom};
 ghost use Rattle.av_mem.specs.Steps.{KeepsParts, KeepsRest};
 
@@ -159,8 +159,8 @@ pub fn let_go(mem: &mut Mem, entry: Pte, notes: &mut Notes) -> Result<(), AllocE
 }
 
 /// The slot that an entry names, or at which its frame is cached.
-fn slot_behind(mem: &Mem, entry: Pte) -> Option<Slot>
-    requires there { HasEntry mem.now entry }
+pub fn slot_behind(mem: &Mem, entry: Pte) -> Option<Slot>
+    requires { IsWithin (view mem.now) (plain entry) }
     ensures { result ≡ slot_behind (view mem.now) (plain entry) }
 {
     match entry {
@@ -208,8 +208,8 @@ fn drop_orphan(mem: &mut Mem, slot: Slot, notes: &mut Notes) -> Result<(), Alloc
 }
 
 /// Whether a slot is cached and not in flight, and no entry names it or its frame.
-fn is_orphan(mem: &Mem, slot: Slot) -> bool
-    requires fits { HasRoom mem.now }
+pub fn is_orphan(mem: &Mem, slot: Slot) -> bool
+    requires { HasRoom mem.now }
     ensures { result ≡ is_orphan (view mem.now) slot }
 {
     match mem.swap.find(slot) {

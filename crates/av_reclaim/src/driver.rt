@@ -8,6 +8,7 @@ use av_base::Slot;
 use av_evict::{System, WriteEnd};
 use av_lru::Which;
 use av_mem::Mem;
+use av_mem::entries::is_orphan;
 use av_swapcache::Finished;
 use av_swapdev::SwapDev;
 use av_trace::Cause;
@@ -53,17 +54,7 @@ impl<'a, D: SwapDev> System for Driver<'a, D> {
     }
 
     fn is_orphan(&self, slot: Slot) -> bool {
-        match self.mem.swap.find(slot) {
-            // A frame that caches a slot is one of the machine's wherever a ledger stands. Nothing
-            // that stands is asked for here, so that is looked up.
-            Some(frame) => {
-                frame < self.mem.frames.count()
-                    && self.mem.frames.maps(frame) == 0
-                    && !self.mem.swap.in_flight(slot)
-                    && self.mem.swap.entries(slot) == 0
-            }
-            None => false,
-        }
+        is_orphan(&*self.mem, slot)
     }
 
     fn inactive_len(&self) -> u32 {

@@ -1,20 +1,19 @@
 -- What the users that were found tell of a ledger that the memory system stands for.
-use Rattle.std.proofs.Common.{◌≡◌, ℕ, ◌+◌, ◌<◌, ◌≤◌, ◌⊎◌, inl, inr, Bool, true, false, cond, ◌&&◌, nat_lt, List, length, map, Option, Some, None, is_some, refl, sym, ap, subst, ◌∙◌, arith}
+use Rattle.std.proofs.Common.{◌≡◌, ℕ, ◌<◌, ◌≤◌, ◌⊎◌, inl, inr, Bool, true, false, cond, ◌&&◌, nat_lt, List, length, map, Option, Some, None, is_some, refl, sym, ap, subst, ◌∙◌, arith}
 use Rattle.std.proofs.lemmas.Bool.{cases_lt, false≢true}
 use Rattle.std.proofs.lemmas.Bool.Decides.{nat_tests}
 use Rattle.std.proofs.lemmas.Option.{slice_get-get_or}
 use Rattle.std.specs.Prelude.{IfOk, IsSomeAnd, Result, Ok, Err, slice_get}
 use Rattle.av_base.specs.declared.slot.Slot.{Slot}
-use Rattle.av_pagetable.specs.declared.pte.Pte.{Pte}
-use Rattle.av_pagetable.specs.Entries.{entry_at, has}
+use Rattle.av_pagetable.specs.Entries.{has}
 use Rattle.av_spaces.proofs.Trees.{some_mapped}
 use Rattle.av_plain.specs.Areas.{Rmap}
 use Rattle.av_plain.specs.Device.{Device}
 use Rattle.av_plain.specs.Event.{slot_behind as behind}
-use Rattle.av_plain.specs.Ledger.{Entry, InFrame, InSlot, Key, Ledger, Zero, entry, frame_at, is_cached, is_on, names_frame, size_of, slot_count, slot_entries, slot_of}
+use Rattle.av_plain.specs.Ledger.{Entry, InFrame, InSlot, Key, Ledger, Zero, entry, is_cached, is_on, names_frame, size_of, slot_count, slot_entries}
 use Rattle.av_plain.specs.Report.{range_of}
 use Rattle.av_plain.specs.Sound.{IsSoundBut, count, is_there}
-use Rattle.av_plain.specs.Stands.{Pte as Plain, View, entry_of}
+use Rattle.av_plain.specs.Stands.{Pte as Plain, entry_of}
 use Rattle.av_plain.specs.World.{World}
 use Rattle.av_plain.proofs.Ledger.{how_many-found}
 use Rattle.av_plain.proofs.Sound.There.{counted-slot}
@@ -22,13 +21,13 @@ use Rattle.av_plain.proofs.Sound.Counts.{same-itself}
 use Rattle.av_swap_laws.proofs.Cache.{cached-is, once-of, slot-frame}
 use Rattle.av_swap_laws.proofs.Parts.{named-slot}
 use Rattle.av_evict.specs.System.{Tells, any_slot}
-use Rattle.av_mem.specs.Entries.{slot_behind, slot_behind_entry}
+use Rattle.av_mem.specs.Entries.{AreWithin, IsEntryWithin, IsWithin, slot_behind, slot_behind_entry}
 use Rattle.av_mem.specs.Mem.{Serves, plain, setting_by, view}
 use Rattle.av_mem.specs.declared.mem.Mem.{Mem}
 use Rattle.av_reclaim.specs.Driver.{closing_of, view_of}
 use Rattle.av_reclaim.proofs.StepMakes.{frame-found}
 use Rattle.av_swapoff.specs.System.{AreUsers, IsUser, slot_at}
-use Rattle.av_swapoff.specs.Users.{AreWithin, HasUsers, IsEntryWithin, IsUnused, IsWithin, Uses, user_at}
+use Rattle.av_swapoff.specs.Users.{HasUsers, IsUnused, Uses, user_at}
 use Rattle.av_swapoff.proofs.VisitLaws.{no-entry, no-table}
 
 no-slot : (s : Slot) → None ≡ Some s → ⊥
@@ -153,9 +152,8 @@ module _ (d : Device) (closing : Option ℕ) (k : Mem) (w : World) (r : Rmap) (l
 
 -- as the system tells them
 pub all-told : {U E : Type 0} (items : U → List (Option Key)) (names : List ℕ) (device : Bool → Device) (k : Mem) (area : ℕ) (r : Result U E)
-    → (AreWithin (view k) → IfOk r (λ users. HasUsers (view k) area (items users)))
+    → IfOk r (λ users. HasUsers (view k) area (items users))
     → IfOk r (λ users. (told : Bool) → Tells (view_of names (device told) k) (AreUsers (setting_by (device told) k) area (items users)))
 all-told items names device k area (Ok users) h = λ told l sound stood.
-    users-told (device told) (closing_of k) k stood.0 stood.1 l sound stood.2 area (items users)
-    (h (within (device told) (closing_of k) k stood.0 stood.1 l sound stood.2))
+    users-told (device told) (closing_of k) k stood.0 stood.1 l sound stood.2 area (items users) h
 all-told items names device k area (Err e) h = tt

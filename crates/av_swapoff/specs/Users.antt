@@ -2,8 +2,8 @@
 use Rattle.std.specs.Prelude.{◌≡◌, ℕ, ◌<◌, ◌≤◌, ◌&&◌, ◌==◌, true, nat_lt, if◌then◌else◌, List}
 use Rattle.std.specs.Prelude.{length, slice_index_or, slice_set, Option, Some, None, is_some}
 use Rattle.av_base.specs.declared.slot.Slot.{Slot}
-use Rattle.av_plain.specs.Ledger.{Entry, InFrame, InSlot, Key, Zero}
-use Rattle.av_plain.specs.Stands.{Pte as Plain, View}
+use Rattle.av_plain.specs.Ledger.{Key}
+use Rattle.av_plain.specs.Stands.{View}
 use Rattle.av_mem.specs.Entries.{slot_behind}
 use Rattle.av_swapoff.specs.System.{slot_at}
 
@@ -12,20 +12,6 @@ use Rattle.av_swapoff.specs.System.{slot_at}
 -- the entry of the key names the slot, or the frame that caches it
 abbrev pub Uses : View → Slot → Key → Type 0
 Uses v s k = slot_behind v (v.table k.0 k.1) ≡ Some s
-
--- a frame that an entry names is one of the machine's: so it is wherever a ledger stands
-abbrev pub IsEntryWithin : View → Entry → Type 0
-IsEntryWithin v Zero = Unit {0}
-IsEntryWithin v (InFrame f seen) = f < v.frames
-IsEntryWithin v (InSlot s) = Unit {0}
-
-abbrev pub IsWithin : View → Option Plain → Type 0
-IsWithin v None = Unit {0}
-IsWithin v (Some t) = IsEntryWithin v t.entry
-
--- so it is of each
-abbrev pub AreWithin : View → Type 0
-AreWithin v = (p page : ℕ) → IsWithin v (v.table p page)
 
 -- no entry names the slot, and it is not cached
 pub record IsUnused (v : View) (s : Slot) : Type 0 where

@@ -8,7 +8,7 @@ ghost use Rattle.av_base.specs.Page.{address_of};
 ghost use Rattle.av_io.specs.Count.{Rose};
 ghost use Rattle.av_trace.specs.declared.note.Note.TheVariants.{Mapped};
 ghost use Rattle.av_plain.specs.Ledger.{frame_at, is_free, keys_of_slot, slot_count};
-ghost use Rattle.av_evict.specs.System.{Knows, Makes, Stays, Tells};
+ghost use Rattle.av_evict.specs.System.{Always, Knows, Makes, Stays, Tells};
 ghost use Rattle.av_swapoff.specs.System.{AreUsers, IsCachedAt, MayLoad, MayMap, load_notes};
 
 use av_base::Slot;
@@ -29,6 +29,7 @@ pub trait SlotSystem: System {
     /// By page, a user of each slot of an area: process and page of an entry that names the slot,
     /// or the frame that caches it.
     fn users(&self, alloc: Global, area: u8) -> Result<Vec<Option<(u16, u64)>>, AllocError>
+        requires { Knows (Self.view self.now false) Always }
         ensures users { IfOk result (λ users. (told : Bool) → let now = Self.view self.now told in
             Tells now (AreUsers now.setting area users.items)) }
         ensures few { IfOk result (λ users. length users.items < 2 ^ 32) };

@@ -2,14 +2,14 @@
 
 ghost use Rattle.std.specs.Prelude.{◌≡◌, ◌+◌, ◌*◌, ◌^◌, ◌<◌, ◌≤◌, ℕ, None, IfOk, length, replicate};
 ghost use Rattle.av_pagetable.specs.Table.{group_size, page_bound};
-ghost use Rattle.av_mem.specs.Entries.{HasAll, slot_behind};
-ghost use Rattle.av_mem.specs.Mem.{plain, view};
+ghost use Rattle.av_mem.specs.Entries.{AreWithin, HasAll};
+ghost use Rattle.av_mem.specs.Mem.{view};
 ghost use Rattle.av_swapoff.specs.System.{slot_at};
-ghost use Rattle.av_swapoff.specs.Users.{AreWithin, HasUsers, IsUnused, IsWithin, Visits};
-ghost use Rattle.av_swapoff.specs.Users.{with_user};
+ghost use Rattle.av_swapoff.specs.Users.{HasUsers, IsUnused, Visits, with_user};
 
 use av_base::Slot;
 use av_mem::Mem;
+use av_mem::entries::slot_behind;
 use av_pagetable::{GROUP, Pte};
 use std::alloc::{AllocError, Global};
 
@@ -18,9 +18,9 @@ use std::alloc::{AllocError, Global};
 ///
 /// Costs by the entries of all processes and the pages of the area.
 pub fn users(mem: &Mem, alloc: Global, area: u8) -> Result<Vec<Option<(u16, u64)>>, AllocError>
+    requires { AreWithin (view mem.now) }
     ensures few { IfOk result (λ users. length users.items < 2 ^ 32) }
-    ensures users { AreWithin (view mem.now)
-        → IfOk result (λ users. HasUsers (view mem.now) area users.items) }
+    ensures users { IfOk result (λ users. HasUsers (view mem.now) area users.items) }
 {
     mem.spaces.keeps();
     let mut users = no_users(alloc, pages_of(mem, area))?;
@@ -58,8 +58,8 @@ fn no_users(alloc: Global, pages: u32) -> Result<Vec<Option<(u16, u64)>>, AllocE
 
 /// Adds the users among the pages of a process.
 fn visit_process(mem: &Mem, area: u8, process: u16, users: &mut [Option<(u16, u64)>])
-    ensures { AreWithin (view mem.now)
-        → Visits (view mem.now) area (λ key. key.0 ≡ process) users.old users.new }
+    requires { AreWithin (view mem.now) }
+    ensures { Visits (view mem.now) area (λ key. key.0 ≡ process) users.old users.new }
 {
     let mut number = 0;
     while let Some(page) = mem.tables.next_from(process, number * GROUP as u64) {
@@ -80,9 +80,10 @@ fn visit_group(
     first: (u16, u64),
     users: &mut [Option<(u16, u64)>],
 )
-    requires within { first.1 + group_size ≤ page_bound }
+    requires below { first.1 + group_size ≤ page_bound }
     requires there { HasAll (view mem.now).table first.0 first.1 group.now }
-    ensures { AreWithin (view mem.now) → Visits (view mem.now) area
+    requires within { AreWithin (view mem.now) }
+    ensures { Visits (view mem.now) area
         (λ key. (key.0 ≡ first.0) × (first.1 ≤ key.1) × (key.1 < first.1 + group_size))
         users.old users.new }
 {
@@ -100,25 +101,5 @@ fn add_user(users: &mut [Option<(u16, u64)>], area: u8, slot: Option<Slot>, user
         if slot.area == area && (slot.page as usize) < users.len() {
             users[slot.page as usize] = Some(user);
         }
-    }
-}
-
-/// The slot that an entry names, or at which its frame is cached.
-fn slot_behind(mem: &Mem, entry: Pte) -> Option<Slot>
-    ensures { IsWithin (view mem.now) (plain entry)
-        → result ≡ slot_behind (view mem.now) (plain entry) }
-{
-    match entry {
-        Pte::Empty | Pte::Zero => None,
-        // A frame that an entry names is one of the machine's wherever a ledger stands. Nothing
-        // that stands is asked for here, so that is looked up.
-        Pte::Here { frame, .. } => {
-            if frame < mem.frames.count() {
-                mem.frames.slot(frame)
-            } else {
-                None
-            }
-        }
-        Pte::Away { slot } => Some(slot),
     }
 }

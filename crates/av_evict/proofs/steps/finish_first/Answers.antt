@@ -19,6 +19,14 @@ returns-in_default-clause-gives g c = λ told.
     (λ l sound stands ready. ready)
     (λ l ns sound stands ready is. (first-none l.flight (c.in_default.ensures.first told l (loose _ _ l sound) stands), is))
 
+pub is_orphan-requires : goal.is_orphan-requires
+is_orphan-requires g c =
+    let s = c.in-Some.end.slot in
+    let failed = c.in-Some.end.failed in
+    let l = c.requires.0 in
+    let ends = c.in-Some.ensures.ends false l (loose _ _ l c.requires.1) c.requires.2 tt in
+    (after_note (end_note failed s) l, ended-loose _ _ l s failed c.requires.1 ends, ends.stands, tt)
+
 pub drop_slot-requires : goal.drop_slot-requires
 drop_slot-requires g c =
     let s = c.in-Some.end.slot in

@@ -4,11 +4,14 @@ use Rattle.av_plain.specs.Stands.{View}
 use Rattle.av_mem.specs.declared.mem.Mem.{Mem}
 use Rattle.av_mem.specs.Entries.{DropsOrphan}
 use Rattle.av_mem.specs.Mem.{view}
-use Rattle.av_mem.proofs.EntryGoes.{settles-used}
+use Rattle.av_mem.proofs.EntryGoes.{entry-within, settles-used}
 use Rattle.av_mem.proofs.LetGoLaws.{lets-go}
 use Rattle.av_mem.proofs.StayLaws.{parts-then}
 use Rattle.av_mem.proofs.WalkLaws.{on_ok}
 use Rattle.av_mem.proofs.entries.let_go.Goals as goal
+
+pub slot_behind-slot-requires : goal.slot_behind-slot-requires
+slot_behind-slot-requires c = entry-within c.args.mem.now c.args.entry c.requires.there
 
 pub drop_orphan-requires-clause-in_use : goal.drop_orphan-requires-clause-in_use
 drop_orphan-requires-clause-in_use c =

@@ -3,11 +3,16 @@ use Rattle.av_plain.specs.Event.{after_notes}
 use Rattle.av_evict.specs.System.{Always}
 use Rattle.av_evict.proofs.FlightLaws.{CompletesOf}
 use Rattle.av_evict.proofs.SeekLaws.{completes-all}
-use Rattle.av_evict.proofs.SystemLaws.{gives-at, gives-so, gives-then, loose}
+use Rattle.av_evict.proofs.SystemLaws.{at-knows, gives-at, gives-so, gives-then, loose}
 use Rattle.av_swapoff.specs.Empty.{EmptiesAllBy, EmptiesEachBy, MayEmptyEach}
 use Rattle.av_swapoff.specs.System.{AreUsers}
 use Rattle.av_swapoff.proofs.EmptyLaws.{IsCompleted, completed, emptied-all}
 use Rattle.av_swapoff.proofs.empty.empty.Goals as goal
+
+pub users-requires : goal.users-requires
+users-requires g c =
+    at-knows (g.S.System.view c.complete.new.system false) Always (gives-at _ _ _ _ Always Always (CompletesOf c.flight_len-flying.result)
+    c.requires.sound (c.in_ok-complete.ensures.gives false) (λ l ns sound ready is after. tt))
 
 pub empty_each-requires-clause-may : goal.empty_each-requires-clause-may
 empty_each-requires-clause-may g c =

@@ -1,9 +1,9 @@
-use Rattle.std.proofs.Common.{◌≡◌, ℕ, ◌+◌, ◌<◌, ◌≤◌, length}
+use Rattle.std.proofs.Common.{◌≡◌, ◌+◌, ◌<◌, ◌≤◌}
 use Rattle.av_plain.specs.Ledger.{Key}
 use Rattle.av_mem.specs.Mem.{view}
-use Rattle.av_swapoff.specs.Users.{AreWithin, Visits}
+use Rattle.av_swapoff.specs.Users.{Visits}
 use Rattle.av_swapoff.proofs.users.visit_group.Given as goal
 
 abbrev pub invariant-loop-i : goal.invariant-loop-i
-invariant-loop-i l = AreWithin (view l.mem)
-    → Visits (view l.mem) l.area (λ (k : Key). (k.0 ≡ l.first.0) × (l.first.1 ≤ k.1) × (k.1 < l.first.1 + l.i)) l.initial.users l.users
+invariant-loop-i l =
+    Visits (view l.mem) l.area (λ (k : Key). (k.0 ≡ l.first.0) × (l.first.1 ≤ k.1) × (k.1 < l.first.1 + l.i)) l.initial.users l.users

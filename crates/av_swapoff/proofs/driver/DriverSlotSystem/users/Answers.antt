@@ -1,7 +1,10 @@
 use Rattle.std.proofs.Common.{[], ◌∷◌, Bool}
 use Rattle.av_plain.specs.Device.{as_told, device_by}
-use Rattle.av_swapoff.proofs.UsersTold.{all-told}
+use Rattle.av_swapoff.proofs.UsersTold.{all-told, within}
 use Rattle.av_swapoff.proofs.driver.DriverSlotSystem.users.Goals as goal
+
+pub users-requires : goal.users-requires
+users-requires g c = within _ _ c.args.self.now.mem.now _ _ _ c.requires.1 c.requires.2.2
 
 pub returns-clause-users : goal.returns-clause-users
 returns-clause-users g c =
