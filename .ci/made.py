@@ -43,7 +43,7 @@ CARRIERS = {
     "av_swap_laws": "frames_are_put slots_are_loaded slots_are_dropped soundness_goes_on",
     "av_evict": "System reclaim age complete seek",
     "av_spaces": "Spaces",
-    "av_mem": "Mem Keeps KeepsBetween take_frame_of_zeros take_frame_for_copy copy_each_for_child"
+    "av_mem": "Mem Keeps KeepsBetween take_frame_of_zeros take_frame_for_copy count_each_for_child"
     " let_go zap_range zap_all walk",
     "av_reclaim": "Driver reclaim age complete seek",
     "av_swapoff": "SlotSystem swapoff",

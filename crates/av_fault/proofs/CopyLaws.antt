@@ -1,7 +1,9 @@
 -- A page gets a copy of its frame, and is written.
 use Rattle.std.proofs.Common.{◌≡◌, ℕ, ◌<◌, ◌==◌, Bool, true, false, cond, ◌&&◌, List, [], ◌∷◌, ◌++◌, Option, Some, None, is_some, refl, sym, ap, subst, ◌∙◌}
 use Rattle.av_base.specs.Page.{address_of, page_of}
-use Rattle.av_pagetable.specs.declared.pte.Pte.TheVariants.{Empty}
+use Rattle.av_base.specs.declared.slot.Slot.{Slot}
+use Rattle.av_pagetable.specs.declared.pte.Pte.{Pte}
+use Rattle.av_pagetable.specs.declared.pte.Pte.TheVariants.{Away, Empty, Here, Zero}
 use Rattle.av_pagetable.specs.Entries.{entry_at}
 use Rattle.av_spaces.specs.Spaces.{pages_of}
 use Rattle.av_vma.specs.Pages.{home_of}
@@ -12,7 +14,7 @@ use Rattle.av_plain.specs.Choice.{ListsFree}
 use Rattle.av_plain.specs.Device.{Device}
 use Rattle.av_plain.specs.Event.{Noted, Used, after_note, after_notes, after_use}
 use Rattle.av_plain.specs.Fault.{CopyOnWrite, IsMade, Ready as NoNeed, drop_at, drop_of_entry, drop_of_slot, is_shared, need, sparing}
-use Rattle.av_plain.specs.Ledger.{InFrame, Key, Ledger, Setting, entry, is_free, names_frame, slot_of}
+use Rattle.av_plain.specs.Ledger.{Entry, InFrame, InSlot, Zero as Zeros, Key, Ledger, Setting, entry, is_free, names_frame, slot_of}
 use Rattle.av_plain.specs.Pass.{TakesFor}
 use Rattle.av_plain.specs.Sound.{no_excuse}
 use Rattle.av_plain.specs.Stands.{View, entry_of}
@@ -34,7 +36,7 @@ use Rattle.av_mem.specs.declared.mem.Mem.{Mem}
 use Rattle.av_mem.specs.Mem.{held_by, plain, setting_by, view}
 use Rattle.av_mem.specs.Steps.{KeepsParts}
 use Rattle.av_mem.specs.Between.{HasDone, KeepsBetween}
-use Rattle.av_mem.specs.Entries.{IsTaken}
+use Rattle.av_mem.specs.Entries.{IsTaken, NamesFrame}
 use Rattle.av_fault.specs.Making.{HasMade}
 use Rattle.av_fault.specs.Seek.{HasSought}
 use Rattle.av_fault.specs.Using.{IsHere}
@@ -149,12 +151,26 @@ module _ (d d' : Device) (old mid : Mem) (w : World) (r : Rmap) (l : Ledger) (be
   pub copy-at : entry l1 k ≡ Some (InFrame g here.seen)
   copy-at = entry-sought d d' old mid w r l (Some g) before mids got h s k (ap (is_steady (sparing w l (Some g)).frame) at ∙ same-itself g) ∙ at
 
-  pub copy-some : entry_at mid.tables k.0 k.1 ≡ Empty → ⊥
-  copy-some none =
-      no_entry (ap (λ e. entry_of (plain e)) (sym none) ∙ s.done.between.serves.held.ledger.tables.entries k.0 k.1 ∙ copy-at)
+  pub copy-names : NamesFrame mid k g
+  copy-names = by (entry_at mid.tables k.0 k.1) refl (s.done.between.serves.held.ledger.tables.entries k.0 k.1 ∙ copy-at)
     where
-      no_entry : {X : Type 0} {x : X} → None ≡ Some x → ⊥
+      no_entry : {x : Entry} → None ≡ Some x → ⊥
       no_entry is = cc
+
+      no_frame : {was : Bool} → Some Zeros ≡ Some (InFrame g was) → ⊥
+      no_frame is = cc
+
+      no_slot : {t : Slot} {was : Bool} → Some (InSlot t) ≡ Some (InFrame g was) → ⊥
+      no_slot is = cc
+
+      same : {f : ℕ} {seen was : Bool} → Some (InFrame f seen) ≡ Some (InFrame g was) → f ≡ g
+      same is = cc
+
+      by : (e : Pte) → entry_at mid.tables k.0 k.1 ≡ e → entry_of (plain e) ≡ Some (InFrame g here.seen) → NamesFrame mid k g
+      by Empty is at = absurd (no_entry at)
+      by Zero is at = absurd (no_frame at)
+      by (Here f write seen) is at = record { write = write; seen = seen; there = is ∙ ap (λ x. Here x write seen) (same at) }
+      by (Away t) is at = absurd (no_slot at)
 
   pub copy-mapped : 0 < (view mid).maps g
   copy-mapped = subst (λ n. 0 < n) (sym (s.done.between.serves.held.ledger.frames.maps g))

@@ -9,7 +9,6 @@ use Rattle.av_merge.specs.Kin.{lengths}
 use Rattle.av_spaces.specs.Kin.{AnonsPrepare}
 use Rattle.av_spaces.specs.Spaces.{AllSpaces, AreThese, IsChanged, pages_of}
 use Rattle.av_vma.specs.Pages.{after_prepare, home_of}
-use Rattle.av_vma.specs.declared.area.Area.{Area}
 use Rattle.av_trace.specs.declared.note.Note.{Note}
 use Rattle.av_trace.specs.declared.note.Note.TheVariants.{New}
 use Rattle.av_plain.specs.Areas.{Rmap, at_home, prepare_page, rmap_after_use}
@@ -38,8 +37,8 @@ use Rattle.av_mem.specs.declared.mem.Mem.{Mem}
 use Rattle.av_mem.specs.Mem.{held_by, plain, setting_by, view}
 use Rattle.av_mem.specs.Steps.{KeepsParts}
 use Rattle.av_mem.specs.Between.{HasDone, KeepsBetween}
-use Rattle.av_mem.specs.Entries.{HasFree, IsMapped, IsTaken}
-use Rattle.av_fault.specs.Making.{HasMade, IsBare}
+use Rattle.av_mem.specs.Entries.{HasFree, IsTaken}
+use Rattle.av_fault.specs.Making.{HasMade, IsBare, IsMapped}
 use Rattle.av_fault.specs.Seek.{HasSought}
 use Rattle.av_fault.specs.declared.fault.Touched.TheVariants.{Ready}
 use Rattle.av_fault.specs.declared.seek.Got.TheVariants.{Frame}
@@ -184,20 +183,7 @@ module _ (d d' : Device) (old mid new : Mem) (w : World) (r : Rmap) (l : Ledger)
   stands = prepared d' mid w1 r1 l1 s.done.between spaces anons k.0 k.1 changed made
       (lives-sought d d' old mid w r l None before mids Frame h s k mapped)
 
-  -- the area is there still, and so are the frames that are free
-  pub mapped-taken : IsMapped with_area k
-  mapped-taken = record {
-    table = mapped_now.table;
-    area = subst IsSome (sym (stands.serves.are k.0 k.1)) (some ((prepare_page k.0 k.1 r1).areas k.0 k.1)
-        (prepared-owns d' mid w1 r1 l1 s.done.between spaces anons k.0 k.1 changed made
-        (lives-sought d d' old mid w r l None before mids Frame h s k mapped) mapped_now.area));
-    below = mapped.below;
-  }
-    where
-      some : (o : Option Area) → IsSomeAnd o (λ area. IsSome area.anon) → IsSome o
-      some None is = absurd is
-      some (Some area) is = refl
-
+  -- the frames that are free are there still
   pub free-taken : HasFree with_area
   free-taken = let free = free-sought d d' old mid w r l None before mids Frame h s s.finds in
       record { some = free.some; unmapped = free.unmapped; lists = free.lists }

@@ -26,7 +26,8 @@ use Rattle.av_mem.specs.declared.mem.Mem.{Mem}
 use Rattle.av_mem.specs.Mem.{setting_by, view}
 use Rattle.av_mem.proofs.MemLaws.{alive_is}
 use Rattle.av_mem.specs.Between.{KeepsBetween}
-use Rattle.av_mem.specs.Entries.{HasFree, IsMapped}
+use Rattle.av_mem.specs.Entries.{HasFree}
+use Rattle.av_fault.specs.Making.{IsMapped}
 use Rattle.av_fault.specs.Seek.{HasSought}
 use Rattle.av_fault.specs.declared.seek.Got.{Got}
 use Rattle.av_fault.proofs.Between.{setting-stays}

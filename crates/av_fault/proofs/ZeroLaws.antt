@@ -22,8 +22,7 @@ use Rattle.av_mem.specs.declared.mem.Mem.{Mem}
 use Rattle.av_mem.specs.Mem.{held_by, setting_by, view}
 use Rattle.av_mem.specs.Steps.{KeepsParts}
 use Rattle.av_mem.specs.Between.{HasDone, KeepsBetween}
-use Rattle.av_mem.specs.Entries.{IsMapped}
-use Rattle.av_fault.specs.Making.{HasMade}
+use Rattle.av_fault.specs.Making.{HasMade, IsMapped}
 use Rattle.av_fault.specs.declared.fault.Touched.TheVariants.{Zeros}
 use Rattle.av_fault.proofs.Between.{fit-stays, same-still, to-amid, to-fit}
 use Rattle.av_fault.proofs.Done.{rose-none}

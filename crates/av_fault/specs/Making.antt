@@ -1,6 +1,8 @@
 -- How a page gets the page of zeros, a frame, or a copy of its frame.
-use Rattle.std.specs.Prelude.{◌≡◌, ◌+◌, ◌≤◌, Bool, true, List, ◌++◌}
+use Rattle.std.specs.Prelude.{◌≡◌, ◌+◌, ◌<◌, ◌≤◌, Bool, true, List, ◌++◌, IsSome}
+use Rattle.av_base.specs.Limits.{top_page}
 use Rattle.av_io.specs.Count.{RoseBy}
+use Rattle.av_pagetable.specs.Entries.{has}
 use Rattle.av_pagetable.specs.declared.pte.Pte.{Pte}
 use Rattle.av_pagetable.specs.declared.pte.Pte.TheVariants.{Empty, Zero, Here, Away}
 use Rattle.av_trace.specs.declared.note.Note.{Note}
@@ -11,6 +13,7 @@ use Rattle.av_plain.specs.Fault.{FindsNone, IsMade, drop_at, need, sparing}
 use Rattle.av_plain.specs.Ledger.{Key, Ledger, Setting, entry}
 use Rattle.av_plain.specs.Pass.{fails}
 use Rattle.av_plain.specs.World.{World}
+use Rattle.av_spaces.specs.Spaces.{pages_of}
 use Rattle.av_mem.specs.declared.mem.Mem.{Mem}
 use Rattle.av_mem.specs.Mem.{setting_by}
 use Rattle.av_mem.specs.Between.{HasDone}
@@ -18,6 +21,14 @@ use Rattle.av_fault.specs.Fault.{IsReady, failed_by, lost_by, touch_events}
 use Rattle.av_fault.specs.declared.fault.Stop.TheVariants.{Bus, Oom, Segv}
 use Rattle.av_fault.specs.declared.fault.Touched.{Touched}
 use Rattle.av_fault.specs.declared.fault.Touched.TheVariants.{Ready, Zeros, Stopped}
+
+-- ---- when a page may be made ready
+
+-- the page is mapped, and its process has a table
+pub record IsMapped (old : Mem) (k : Key) : Type 0 where
+  pub table : has old.tables k.0 ≡ true
+  pub area : IsSome (pages_of old.spaces.processes k.0 k.1)
+  pub below : k.1 < top_page
 
 -- ---- what is added
 

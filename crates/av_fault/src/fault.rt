@@ -9,8 +9,8 @@ ghost use Rattle.av_plain.specs.World.{allows};
 ghost use Rattle.av_spaces.specs.Spaces.{pages_of};
 ghost use Rattle.av_vma.specs.Pages.{AreLaid, IsWhole, home_of};
 ghost use Rattle.av_mem.specs.Between.{Does, IsBetween};
-ghost use Rattle.av_mem.specs.Entries.{IsMapped};
 ghost use Rattle.av_fault.specs.Fault.{HasTouched, MakesReady, is_permitted};
+ghost use Rattle.av_fault.specs.Making.{IsMapped};
 
 use crate::coming::come_in;
 use crate::making::{make_new, make_zero};

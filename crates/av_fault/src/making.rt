@@ -11,8 +11,7 @@ ghost use Rattle.av_spaces.specs.Spaces.{pages_of};
 ghost use Rattle.av_vma.specs.Pages.{home_of};
 ghost use Rattle.av_mem.specs.Mem.{frame_count, view};
 ghost use Rattle.av_mem.specs.Between.{Does, IsBetween, KeepsBetween};
-ghost use Rattle.av_mem.specs.Entries.{IsMapped};
-ghost use Rattle.av_fault.specs.Making.{HasMade, IsBare};
+ghost use Rattle.av_fault.specs.Making.{HasMade, IsBare, IsMapped};
 ghost use Rattle.av_fault.specs.Using.{IsHere, is_shared_in};
 
 use crate::fault::{Stop, Touched};

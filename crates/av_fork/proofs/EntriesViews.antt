@@ -24,7 +24,7 @@ use Rattle.av_mem.specs.declared.mem.Mem.{Mem}
 use Rattle.av_mem.specs.Entries.{HasRoomFor, IsInUse, entry_passes, view_more_each, with_more}
 use Rattle.av_mem.specs.Mem.{HasLedger, frame_count, plain, setting_by, view}
 use Rattle.av_mem.specs.Steps.{KeepsParts}
-use Rattle.av_mem.proofs.EntryCopies.{by-counts, in-use-then, no_more}
+use Rattle.av_mem.proofs.EntryCounts.{by-counts, in-use-then, no_more}
 use Rattle.av_mem.proofs.Groups.{IsGroupFrom, group_from}
 use Rattle.av_mem.proofs.LetGoLaws.{ledger-same}
 use Rattle.av_fork.specs.Entries.{HasForkedEntries}

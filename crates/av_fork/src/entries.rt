@@ -13,7 +13,7 @@ ghost use Rattle.av_mem.specs.Mem.{view, HasLedger, IsOrderly};
 ghost use Rattle.av_mem.specs.Steps.{KeepsRest};
 
 use av_mem::Mem;
-use av_mem::entries::copy_each_for_child;
+use av_mem::entries::count_each_for_child;
 use av_pagetable::{GROUP, Pte};
 use std::alloc::{AllocError, Global};
 
@@ -37,7 +37,7 @@ pub fn fork_entries(mem: &mut Mem, alloc: Global, parent: u16, child: u16) -> Re
         let mut group = [Pte::Empty; GROUP];
         mem.tables
             .read_group(child, page / GROUP as u64, &mut group);
-        copy_each_for_child(mem, &group)?;
+        count_each_for_child(mem, &group)?;
         number = page / GROUP as u64 + 1;
     }
     Ok(())

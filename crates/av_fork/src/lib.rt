@@ -6,7 +6,7 @@
 //!
 //! `fork_entries` gives a process each entry of another one: the parent's page table is copied
 //! whole, and then the frames and slots that the copy names are counted, 64 pages at a time, by
-//! `copy_each_for_child` of av_mem. Proved for every ledger that the memory system's parts stand
+//! `count_each_for_child` of av_mem. Proved for every ledger that the memory system's parts stand
 //! for: they stand for it after the event of the fork, and what is free is as it was.
 #![tactic(auto)]
 

@@ -12,7 +12,7 @@ mod LoadLaws
 mod ChainLaws
 pub mod EntryViews
 pub mod EntryComes
-pub mod EntryCopies
+pub mod EntryCounts
 pub mod PagesGone
 pub mod ZapRange
 pub mod EntryGoes

@@ -1,13 +1,12 @@
--- How entries come and go: a frame is taken for a page, an entry is copied for a child, and an
+-- How entries come and go: a frame is taken for a page, an entry is counted for a child, and an
 -- entry goes that its table has lost, or is about to lose.
 use Rattle.std.specs.Prelude.{◌≡◌, ℕ, ◌+◌, ◌^◌, ◌<◌, Bool, true, false, not, ◌&&◌, ◌==◌}
 use Rattle.std.specs.Prelude.{if◌then◌else◌, List, [], ◌∷◌, ◌++◌, length, slice_index_or, Option}
-use Rattle.std.specs.Prelude.{Some, None, IfSome, IsSome, MatchBool}
+use Rattle.std.specs.Prelude.{Some, None, IfSome, MatchBool}
 use Rattle.std.specs.List.{list_any}
-use Rattle.av_base.specs.Limits.{top_page}
 use Rattle.av_base.specs.Words.{how_many, is_in, with_at, within}
 use Rattle.av_base.specs.declared.slot.Slot.{Slot}
-use Rattle.av_pagetable.specs.Entries.{has}
+use Rattle.av_pagetable.specs.Entries.{entry_at}
 use Rattle.av_pagetable.specs.declared.pte.Pte.{Pte}
 use Rattle.av_pagetable.specs.declared.pte.Pte.TheVariants.{Away, Empty, Here, Zero as ZeroPte}
 use Rattle.av_plain.specs.Choice.{ChoosesAll}
@@ -17,7 +16,6 @@ use Rattle.av_plain.specs.Ledger.{Entry, InFrame, InSlot, Key, Ledger, Zero, nam
 use Rattle.av_plain.specs.Ledger.{names_slot, same_slot}
 use Rattle.av_plain.specs.Stands.{Pte as Plain, View, free_of}
 use Rattle.av_plain.specs.Zap.{keys_in, zaps_of}
-use Rattle.av_spaces.specs.Spaces.{pages_of}
 use Rattle.av_swap_laws.specs.Steps.{view_drop, view_zap}
 use Rattle.av_swapcache.specs.Swap.{count_of, shown as shown_swap}
 use Rattle.av_trace.specs.declared.note.Note.{Note}
@@ -27,17 +25,17 @@ use Rattle.av_mem.specs.Mem.{SoundLedger, frame_count, plain, setting_by, view, 
 
 -- ---- a frame is taken for a page
 
--- the page is mapped, and its process has a table
-pub record IsMapped (old : Mem) (k : Key) : Type 0 where
-  pub table : has old.tables k.0 ≡ true
-  pub area : IsSome (pages_of old.spaces.processes k.0 k.1)
-  pub below : k.1 < top_page
-
 -- a frame is free, no entry names one that is, and the lists are as they are kept
 pub record HasFree (old : Mem) : Type 0 where
   pub some : (view old).free ≡ [] → ⊥
   pub unmapped : (f : ℕ) → is_in f (view old).free ≡ true → (view old).maps f ≡ 0
   pub lists : HasLists old
+
+-- the page's entry names the frame
+pub record NamesFrame (old : Mem) (k : Key) (f : ℕ) : Type 0 where
+  pub write : Bool
+  pub seen : Bool
+  pub there : entry_at old.tables k.0 k.1 ≡ Here f write seen
 
 -- this is the first free frame, and the view is now what `made` says of the free ones behind it
 pub record IsTaken (old new : Mem) (f : ℕ) (made : List ℕ → View) : Type 0 where
@@ -55,7 +53,7 @@ view_taken f left home v = record v {
   inactive = f ∷ without f v.inactive;
 }
 
--- ---- an entry is copied for a child
+-- ---- an entry is counted for a child
 
 -- the frame of an entry is one of the machine's, and its slot is in use
 abbrev pub IsInUse : Mem → Pte → Type 0

@@ -1,11 +1,12 @@
-//! How entries come and go: a page gets a frame that is taken for it, an entry is copied for a
+//! How entries come and go: a page gets a frame that is taken for it, an entry is counted for a
 //! child, and an entry goes. Then its frame or slot has one entry fewer, and a slot that nothing
 //! uses any more is dropped.
 
 ghost use Rattle.std.specs.Prelude.{◌≡◌, ◌<◌, ℕ, slice_index_or, IfOk, IfSome, MatchResult};
 ghost use Rattle.std.specs.Prelude.{OnOk, false, true};
+ghost use Rattle.av_base.specs.Limits.{top_page};
 ghost use Rattle.av_base.specs.Words.{is_in};
-ghost use Rattle.av_pagetable.specs.Entries.{entry_at};
+ghost use Rattle.av_pagetable.specs.Entries.{entry_at, has};
 ghost use Rattle.av_pagetable.specs.Table.{group_size};
 ghost use Rattle.av_pagetable.specs.declared.pte.Pte.TheVariants as Pte;
 ghost use Rattle.av_plain.specs.Device.{Device};
@@ -14,8 +15,8 @@ ghost use Rattle.av_plain.specs.Stands.{free_of};
 ghost use Rattle.av_swap_laws.specs.Steps.{view_copy, view_new, view_seen};
 ghost use Rattle.av_mem.specs.Entries.{is_orphan, slot_behind, view_less, view_more};
 ghost use Rattle.av_mem.specs.Entries.{view_more_each, view_taken, DropsOrphan, HasEntry, HasFree};
-ghost use Rattle.av_mem.specs.Entries.{HasLedgerBy, HasRoomFor, IsInUse, IsMapped, IsTaken, IsWithin};
-ghost use Rattle.av_mem.specs.Entries.{LetsGo, Table};
+ghost use Rattle.av_mem.specs.Entries.{HasLedgerBy, HasRoomFor, IsInUse, IsTaken, IsWithin};
+ghost use Rattle.av_mem.specs.Entries.{LetsGo, NamesFrame, Table};
 ghost use Rattle.av_mem.specs.Mem.{frame_count, plain, view, HasLists, HasRoom};
 ghost use Rattle.av_mem.specs.Steps.{KeepsParts, KeepsRest};
 
@@ -33,7 +34,8 @@ pub fn take_frame_of_zeros(
     key: (u16, u64),
     home: Option<(u64, u64)>,
 ) -> Result<u32, AllocError>
-    requires mapped { IsMapped mem.old key }
+    requires table { has mem.old.tables key.0 ≡ true }
+    requires below { key.1 < top_page }
     requires free { HasFree mem.old }
     ensures taken { IfOk result (λ f. IsTaken mem.old mem.new f (λ left.
         view_seen key.0 key.1 f true
@@ -47,15 +49,15 @@ pub fn take_frame_of_zeros(
     Ok(frame)
 }
 
-/// The same for a page that has an entry, with a copy of the frame `from`, whose map count falls by
-/// one. It is the frame that the page's entry named.
+/// The same for a page whose entry names the frame `from`, with a copy of that frame, whose map
+/// count falls by one.
 pub fn take_frame_for_copy(
     mem: &mut Mem,
     key: (u16, u64),
     from: u32,
     home: Option<(u64, u64)>,
 ) -> u32
-    requires there { entry_at mem.old.tables key.0 key.1 ≡ Pte.Empty → ⊥ }
+    requires there { NamesFrame mem.old key from }
     requires free { HasFree mem.old }
     requires mapped { 0 < (view mem.old).maps from }
     requires in_range { from < frame_count mem.old }
@@ -99,10 +101,10 @@ pub fn accessed_entry(frame: u32, write: bool) -> Pte
     }
 }
 
-/// Copies the entries of a group for a child, whose table has them already: one more entry names
+/// Counts the entries of a group for a child, whose table has them already: one more entry names
 /// each frame and slot that they name. Only a slot takes memory; without it nothing is promised of
 /// counts.
-pub fn copy_each_for_child(mem: &mut Mem, group: &[Pte; GROUP]) -> Result<(), AllocError>
+pub fn count_each_for_child(mem: &mut Mem, group: &[Pte; GROUP]) -> Result<(), AllocError>
     requires used { (i : ℕ) → i < group_size
         → IsInUse mem.old (slice_index_or group.now i Pte.Empty) }
     requires room { HasRoomFor mem.old group_size }
@@ -112,14 +114,14 @@ pub fn copy_each_for_child(mem: &mut Mem, group: &[Pte; GROUP]) -> Result<(), Al
     ensures rest { KeepsRest mem.old mem.new }
 {
     for entry in group {
-        copy_for_child(mem, *entry)?;
+        count_for_child(mem, *entry)?;
     }
     Ok(())
 }
 
-/// Copies an entry for a child, whose table has it already: one more entry names its frame or slot.
+/// Counts an entry for a child, whose table has it already: one more entry names its frame or slot.
 /// Only a slot takes memory; without it all counts stay.
-pub fn copy_for_child(mem: &mut Mem, entry: Pte) -> Result<(), AllocError>
+fn count_for_child(mem: &mut Mem, entry: Pte) -> Result<(), AllocError>
     requires used { IsInUse mem.old entry }
     requires room { HasRoomFor mem.old 1 }
     ensures counts { MatchResult result
@@ -142,7 +144,7 @@ pub fn copy_for_child(mem: &mut Mem, entry: Pte) -> Result<(), AllocError>
 /// was dropped. Only the note takes memory; without it nothing is promised of entries and counts.
 // An exit calls it for each page, and mostly it only counts down.
 #[inline(always)]
-pub fn let_go(mem: &mut Mem, entry: Pte, notes: &mut Notes) -> Result<(), AllocError>
+pub(crate) fn let_go(mem: &mut Mem, entry: Pte, notes: &mut Notes) -> Result<(), AllocError>
     requires there { HasEntry mem.old entry }
     ensures goes { (d : Device) (l : Ledger) (table : Table) (p page : ℕ) →
         HasLedgerBy d mem.old table l → table p page ≡ plain entry →

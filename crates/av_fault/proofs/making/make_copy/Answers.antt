@@ -4,7 +4,7 @@ use Rattle.av_plain.specs.Fault.{CopyOnWrite}
 use Rattle.av_fault.specs.Seek.{HasSought}
 use Rattle.av_fault.specs.declared.seek.Got.TheVariants.{Frame, Out}
 use Rattle.av_fault.proofs.Between.{between-some}
-use Rattle.av_fault.proofs.CopyLaws.{copy-made, copy-mapped, copy-needs, copy-some}
+use Rattle.av_fault.proofs.CopyLaws.{copy-made, copy-mapped, copy-names, copy-needs}
 use Rattle.av_fault.proofs.SharedLaws.{shared-in}
 use Rattle.av_fault.proofs.SoughtLaws.{free-sought}
 use Rattle.av_fault.proofs.TakenLaws.{out-made}
@@ -36,7 +36,7 @@ take_frame_for_copy-frame-requires-clause-there g c =
     let s = subst (HasSought d d' old c.seek.new.mem b.0 b.1 b.2 (Some c.args.from) c.args.notes.now c.seek.new.notes) c.in_default.is
     (c.in_ok-out.ensures.sought false b.0 b.1 b.2 b.3) in
     let shared = sym (shared-in d old b.0 b.1 b.2 b.3 f) ∙ c.requires.shared in
-    copy-some d d' old c.seek.new.mem b.0 b.1 b.2 c.args.notes.now c.seek.new.notes c.args.key f Frame b.3 s false c.requires.here shared
+    copy-names d d' old c.seek.new.mem b.0 b.1 b.2 c.args.notes.now c.seek.new.notes c.args.key f Frame b.3 s false c.requires.here shared
 
 pub take_frame_for_copy-frame-requires-clause-free : goal.take_frame_for_copy-frame-requires-clause-free
 take_frame_for_copy-frame-requires-clause-free g c =

@@ -7,8 +7,8 @@ use Rattle.av_fault.specs.Seek.{HasSought}
 use Rattle.av_fault.specs.declared.seek.Got.TheVariants.{Frame}
 use Rattle.av_fault.proofs.Between.{between-some}
 use Rattle.av_fault.proofs.EntryLaws.{entry-is}
-use Rattle.av_fault.proofs.NewLaws.{bare-blank, blank-needs, free-taken, mapped-taken, new-made}
-use Rattle.av_fault.proofs.SoughtLaws.{lives-sought}
+use Rattle.av_fault.proofs.NewLaws.{bare-blank, blank-needs, free-taken, new-made}
+use Rattle.av_fault.proofs.SoughtLaws.{lives-sought, mapped-sought}
 use Rattle.av_fault.proofs.TakenLaws.{out-made}
 use Rattle.av_fault.proofs.making.make_new.Goals as goal
 
@@ -47,8 +47,8 @@ prepare-requires-clause-lives g c =
     (c.in_ok-out.ensures.sought false b.0 b.1 b.2 b.3) in
     lives-sought d d' old c.seek.new.mem b.0 b.1 b.2 None c.args.notes.now c.seek.new.notes Frame b.3 s c.args.key c.requires.mapped
 
-pub take_frame_of_zeros-requires-clause-mapped : goal.take_frame_of_zeros-requires-clause-mapped
-take_frame_of_zeros-requires-clause-mapped g c =
+pub take_frame_of_zeros-requires-clause-table : goal.take_frame_of_zeros-requires-clause-table
+take_frame_of_zeros-requires-clause-table g c =
     let sizes = g.D.SwapDev.sizes c.args.dev.now in
     let failures = g.D.SwapDev.failures c.args.dev.now in
     let old = c.args.mem.now in
@@ -57,8 +57,7 @@ take_frame_of_zeros-requires-clause-mapped g c =
     let b = between-some sizes old failures c.requires.between in
     let s = subst (HasSought d d' old c.seek.new.mem b.0 b.1 b.2 None c.args.notes.now c.seek.new.notes) c.in_default.is
     (c.in_ok-out.ensures.sought false b.0 b.1 b.2 b.3) in
-    mapped-taken d d' old c.seek.new.mem c.seek.new.mem b.0 b.1 b.2 c.args.notes.now c.seek.new.notes c.seek.new.notes c.args.key 0 b.3 s
-    c.requires.mapped c.requires.bare c.prepare.new.self c.prepare.new.anons c.in_ok-home.ensures.areas c.in_ok-home.ensures.anons
+    (mapped-sought d d' old c.seek.new.mem b.0 b.1 b.2 None c.args.notes.now c.seek.new.notes Frame b.3 s c.args.key c.requires.mapped).table
 
 pub take_frame_of_zeros-requires-clause-free : goal.take_frame_of_zeros-requires-clause-free
 take_frame_of_zeros-requires-clause-free g c =

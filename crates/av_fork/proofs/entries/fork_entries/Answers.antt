@@ -22,8 +22,8 @@ loop-page-init c =
       rest = rest-tables old c.write_protect.new.self (c.write_protect.ensures.processes ∙ c.in_ok-copy.ensures.processes);
     }
 
-pub copy_each_for_child-requires-clause-used : goal.copy_each_for_child-requires-clause-used
-copy_each_for_child-requires-clause-used c = λ i low.
+pub count_each_for_child-requires-clause-used : goal.count_each_for_child-requires-clause-used
+count_each_for_child-requires-clause-used c = λ i low.
     let a = c.args in
     let now = c.loop-page.mem in
     let v = c.loop-page.invariant in
@@ -34,8 +34,8 @@ copy_each_for_child-requires-clause-used c = λ i low.
     ∙ forked-child a.parent a.child (entry_at a.mem.now.tables) c.requires.empty at))
     (in-use-seen a.mem.now a.parent a.child o.0 o.1 o.2 now (c.loop-page.number * 64) v.view v.rest.parts.count at)
 
-pub copy_each_for_child-requires-clause-room : goal.copy_each_for_child-requires-clause-room
-copy_each_for_child-requires-clause-room c =
+pub count_each_for_child-requires-clause-room : goal.count_each_for_child-requires-clause-room
+count_each_for_child-requires-clause-room c =
     let a = c.args in
     let o = c.requires.orderly in
     let room = room-now a.mem.now a.parent a.child o.0 o.1 o.2 c.loop-page.mem (c.loop-page.number * 64) c.loop-page.invariant.view
@@ -53,11 +53,11 @@ loop-page-preserved c =
     let table = entry_at now.tables a.child in
     record {
       within = (group_from table c.loop-page.number page (length group) c.read_group.array_long first).within;
-      view = group-seen a.mem.now a.parent a.child now c.copy_each_for_child.new.mem table c.loop-page.number page group c.read_group.array_long
+      view = group-seen a.mem.now a.parent a.child now c.count_each_for_child.new.mem table c.loop-page.number page group c.read_group.array_long
           (λ o. ap (λ (t : ℕ → ℕ → Pte). t a.child o) v.tables ∙ forked-child a.parent a.child (entry_at a.mem.now.tables) c.requires.empty o)
-          first c.read_group.ensures v.view c.in_ok-copy_each_for_child.ensures.counts;
-      tables = c.in_ok-copy_each_for_child.ensures.tables ∙ v.tables;
-      rest = rest-then v.rest c.in_ok-copy_each_for_child.ensures.rest;
+          first c.read_group.ensures v.view c.in_ok-count_each_for_child.ensures.counts;
+      tables = c.in_ok-count_each_for_child.ensures.tables ∙ v.tables;
+      rest = rest-then v.rest c.in_ok-count_each_for_child.ensures.rest;
     }
 
 pub returns-clause-forks : goal.returns-clause-forks
@@ -68,5 +68,5 @@ returns-clause-forks c = λ d l stands.
     c.in_default.ensures in
     record { stands = h.stands; free = h.free }
 
-pub returns-in_err-copy_each_for_child-clause-rest : goal.returns-in_err-copy_each_for_child-clause-rest
-returns-in_err-copy_each_for_child-clause-rest c = rest-then c.loop-page.invariant.rest c.in_err-copy_each_for_child.ensures.rest
+pub returns-in_err-count_each_for_child-clause-rest : goal.returns-in_err-count_each_for_child-clause-rest
+returns-in_err-count_each_for_child-clause-rest c = rest-then c.loop-page.invariant.rest c.in_err-count_each_for_child.ensures.rest

@@ -2,18 +2,18 @@ use Rattle.std.proofs.Common.{◌<◌, ◌∙◌, ap, arith, length}
 use Rattle.av_mem.specs.Mem.{view}
 use Rattle.av_mem.proofs.LetGoLaws.{rest-then}
 use Rattle.av_mem.specs.Entries.{view_more}
-use Rattle.av_mem.proofs.EntryCopies.{in-use-now, one-up, room-for-one}
-use Rattle.av_mem.proofs.entries.copy_each_for_child.Goals as goal
+use Rattle.av_mem.proofs.EntryCounts.{in-use-now, one-up, room-for-one}
+use Rattle.av_mem.proofs.entries.count_each_for_child.Goals as goal
 
-pub copy_for_child-requires-clause-used : goal.copy_for_child-requires-clause-used
-copy_for_child-requires-clause-used c =
+pub count_for_child-requires-clause-used : goal.count_for_child-requires-clause-used
+count_for_child-requires-clause-used c =
     let i = c.loop-entry.entry-index in
     let v = c.loop-entry.invariant in
     in-use-now c.args.mem.now c.loop-entry.mem c.args.group.now i (omega (arith, c.loop-entry-test.true, c.told-group)) v.counts v.rest.parts.count _
     (c.requires.used i (omega (arith, c.loop-entry-test.true, c.told-group)))
 
-pub copy_for_child-requires-clause-room : goal.copy_for_child-requires-clause-room
-copy_for_child-requires-clause-room c =
+pub count_for_child-requires-clause-room : goal.count_for_child-requires-clause-room
+count_for_child-requires-clause-room c =
     room-for-one c.args.mem.now c.loop-entry.mem c.args.group.now c.loop-entry.entry-index (omega (arith, c.loop-entry-test.true, c.told-group))
     c.loop-entry.invariant.counts c.requires.room
 
@@ -25,10 +25,10 @@ loop-entry-preserved c =
     let low : i < length group = omega (arith, c.loop-entry-test.true, c.told-group) in
     record {
       within = omega (arith, low);
-      counts = c.in_ok-copy_for_child.ensures.counts ∙ ap (view_more _) v.counts ∙ one-up group i (view c.args.mem.now) low;
-      tables = c.in_ok-copy_for_child.ensures.tables ∙ v.tables;
-      rest = rest-then v.rest c.in_ok-copy_for_child.ensures.rest;
+      counts = c.in_ok-count_for_child.ensures.counts ∙ ap (view_more _) v.counts ∙ one-up group i (view c.args.mem.now) low;
+      tables = c.in_ok-count_for_child.ensures.tables ∙ v.tables;
+      rest = rest-then v.rest c.in_ok-count_for_child.ensures.rest;
     }
 
-pub returns-in_err-copy_for_child-clause-rest : goal.returns-in_err-copy_for_child-clause-rest
-returns-in_err-copy_for_child-clause-rest c = rest-then c.loop-entry.invariant.rest c.in_err-copy_for_child.ensures.rest
+pub returns-in_err-count_for_child-clause-rest : goal.returns-in_err-count_for_child-clause-rest
+returns-in_err-count_for_child-clause-rest c = rest-then c.loop-entry.invariant.rest c.in_err-count_for_child.ensures.rest

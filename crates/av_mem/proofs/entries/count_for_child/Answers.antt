@@ -6,8 +6,8 @@ use Rattle.av_mem.specs.declared.mem.Mem.{Mem}
 use Rattle.av_mem.specs.Mem.{view}
 use Rattle.av_mem.proofs.StepLaws.{view-by}
 use Rattle.av_mem.specs.Entries.{view_more}
-use Rattle.av_mem.proofs.EntryCopies.{frame-up, slot-up}
-use Rattle.av_mem.proofs.entries.copy_for_child.Goals as goal
+use Rattle.av_mem.proofs.EntryCounts.{frame-up, slot-up}
+use Rattle.av_mem.proofs.entries.count_for_child.Goals as goal
 
 pub returns-in-Here-clause-counts : goal.returns-in-Here-clause-counts
 returns-in-Here-clause-counts c =

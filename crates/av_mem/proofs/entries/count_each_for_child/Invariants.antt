@@ -3,7 +3,7 @@ use Rattle.av_pagetable.specs.Entries.{entry_at}
 use Rattle.av_mem.specs.Mem.{view}
 use Rattle.av_mem.specs.Steps.{KeepsRest}
 use Rattle.av_mem.specs.Entries.{view_more_each}
-use Rattle.av_mem.proofs.entries.copy_each_for_child.Given as goal
+use Rattle.av_mem.proofs.entries.count_each_for_child.Given as goal
 
 abbrev pub invariant-loop-entry : goal.invariant-loop-entry
 invariant-loop-entry l = record {
