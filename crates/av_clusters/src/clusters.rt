@@ -21,7 +21,7 @@ use std::marker::Model;
 /// How many pages a cluster has. The last one of an area may be cut short.
 const CLUSTER: usize = 256;
 
-/// How many clusters have one more mark in common. The last group may be cut short, too.
+/// How many clusters a group has. The last one of an area may be cut short, too.
 const GROUP: u32 = 64;
 
 /// What a page of a swap area is.
@@ -67,7 +67,7 @@ pub struct Clusters {
     busy: Vec<bool>,
     /// Clusters seen to have no free page, so that a search of the whole area passes them over.
     full: Vec<bool>,
-    /// Groups of clusters seen to have none, so that it needn't look at the mark of each cluster.
+    /// Groups of clusters seen to have none, so that it passes over the marks of their clusters.
     full_groups: Vec<bool>,
     current: Option<u32>,
     cursor: u32,
