@@ -1,5 +1,5 @@
 -- Attaching the swap areas that the words name, before anything is read.
-use Rattle.std.specs.Prelude.{◌≡◌, ℕ, ◌≤◌, List, Option, None, is_some}
+use Rattle.std.specs.Prelude.{◌≡◌, ℕ, ◌<◌, ◌≤◌, List, Option, None, is_some, length}
 use Rattle.std.specs.List.{AllByRecursion}
 use Rattle.av_swapdev.specs.Device.{most_pages}
 use Rattle.av_plain.specs.Device.{Device}
@@ -16,3 +16,8 @@ pub record Attaches (pages : List ℕ) (old new : Device) : Type 0 where
   pub sizes : new.sizes ≡ sizes_of pages
   pub told : is_some new.pages ≡ is_some old.pages
   pub failures : new.failures ≡ old.failures
+
+-- fewer areas than names are attached: 0, 1, .. up to the name at which it failed, and no other
+abbrev pub AttachesFewer : ℕ → (ℕ → Option ℕ) → Type 0
+AttachesFewer names sizes =
+    (pages : List ℕ) × (length pages < names) × (sizes ≡ sizes_of pages)

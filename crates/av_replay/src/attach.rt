@@ -4,13 +4,13 @@ ghost use Rattle.std.specs.Prelude.{◌≡◌, ℕ, ◌≤◌, List, length, IfO
 ghost use Rattle.av_io.specs.Count.{Rose};
 ghost use Rattle.av_swapdev.specs.Device.{most_areas};
 ghost use Rattle.av_kernel.specs.Step.{seen_by};
-ghost use Rattle.av_replay.specs.Attach.{Attaches, HasNone};
+ghost use Rattle.av_replay.specs.Attach.{Attaches, AttachesFewer, HasNone};
 
 use av_swapdev::{AttachErr, SwapDev};
 use std::alloc::Global;
 
 /// Attaches these names as the areas 0, 1, .. of a device that has none, and says how many pages
-/// each has.
+/// each has. Where one can't be attached, those before it are, and no other.
 pub fn attach_all<D: SwapDev>(
     alloc: Global,
     names: &[&str],
@@ -23,6 +23,8 @@ pub fn attach_all<D: SwapDev>(
         (seen_by D.sizes D.pages D.failures dev.new)) }
     ensures cause { IsErrOf result AttachErr.Failed →
         Rose (D.failures dev.old) (D.failures dev.new) }
+    ensures fewer { IsErrOf result AttachErr.Failed →
+        AttachesFewer (length names.now) (D.sizes dev.new) }
     ensures wanting { IsErrOf result AttachErr.Memory → (pages : List ℕ)
         × (length pages ≤ length names.now)
         × Attaches pages (seen_by D.sizes D.pages D.failures dev.old)

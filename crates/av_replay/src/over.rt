@@ -5,7 +5,7 @@ ghost use Rattle.av_io.specs.Count.{Rose};
 ghost use Rattle.av_swapdev.specs.Device.{most_areas};
 ghost use Rattle.av_kernel.specs.Machine.{sizes_of};
 ghost use Rattle.av_kernel.specs.Step.{seen_by};
-ghost use Rattle.av_replay.specs.Attach.{HasNone};
+ghost use Rattle.av_replay.specs.Attach.{AttachesFewer, HasNone};
 ghost use Rattle.av_replay.specs.Over.{ReplaysOver};
 ghost use Rattle.av_replay.specs.Ports.{ports_by};
 ghost use Rattle.av_replay.specs.Replay.{IsAtStart, Replayed, can_go_on, kernel_at};
@@ -82,6 +82,8 @@ pub fn run_over<S: Source, K: Sink, D: SwapDev>(
     ensures fault { result.status ≡ Status.AttachFault →
         Rose (D.failures dev.old) (D.failures dev.new)
         × (source.new ≡ source.old) × (sink.new ≡ sink.old) }
+    ensures fewer { result.status ≡ Status.AttachFault →
+        AttachesFewer (length names.now) (D.sizes dev.new) }
     ensures kernel { is_some result.kernel ≡ can_go_on result.status }
 {
     match attach_all(alloc, names, dev) {

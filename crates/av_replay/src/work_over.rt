@@ -7,7 +7,7 @@ ghost use Rattle.av_plain.specs.Report.{totals as totals_of};
 ghost use Rattle.av_plain.specs.Transcript.{State};
 ghost use Rattle.av_kernel.specs.Kernel.{Stands};
 ghost use Rattle.av_kernel.specs.Step.{seen_by};
-ghost use Rattle.av_replay.specs.Attach.{HasNone};
+ghost use Rattle.av_replay.specs.Attach.{AttachesFewer, HasNone};
 ghost use Rattle.av_replay.specs.Over.{WorksOver};
 ghost use Rattle.av_replay.specs.Replay.{can_go_on};
 ghost use Rattle.av_replay.specs.Summary.{SumsUp, summary_text};
@@ -67,6 +67,8 @@ pub fn work_over<K: Sink, D: SwapDev, P: Progress>(
     ensures fault { result.status ≡ Status.AttachFault →
         Rose (D.failures dev.old) (D.failures dev.new)
         × (sink.new ≡ sink.old) }
+    ensures fewer { result.status ≡ Status.AttachFault →
+        AttachesFewer (length names.now) (D.sizes dev.new) }
     ensures kernel { is_some result.kernel ≡ can_go_on result.status }
 {
     let mut source = WorkSource::new(names.len(), seed, lines, progress);
