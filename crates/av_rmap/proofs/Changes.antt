@@ -64,12 +64,12 @@ module _ {f : ℕ} {change : Pte → Pte} (of : IsOfFrame f change) where
       it k (inr h) = h.1
 
   -- what a call of `next` tells of the looks that were left
-  pub changed-turn : {before now : View} {left : List Key} (home : ℕ × ℕ) (after : Option (ℕ × ℕ)) (k : ℕ × ℕ) (next : Option (ℕ × ℕ)) →
-      AreSpanned before → IsChanged change before now left → IsOrdered (now.spans home.0)
-      → next ≡ overlap_of after home.1 (now.spans home.0) → next ≡ Some k → Found before (names_frame f) home.1 after k (before.spans home.0)
-  changed-turn {before = before} {now = now} home after k next spanned h ordered is some =
+  pub changed-turn : {before now : View} {left : List Key} (passes : Pte → Bool) (home : ℕ × ℕ) (after : Option (ℕ × ℕ)) (k : ℕ × ℕ)
+      (next : Option (ℕ × ℕ)) → AreSpanned before → IsChanged change before now left → IsOrdered (now.spans home.0)
+      → next ≡ overlap_of after home.1 (now.spans home.0) → next ≡ Some k → Found before passes home.1 after k (before.spans home.0)
+  changed-turn {before = before} {now = now} passes home after k next spanned h ordered is some =
       let spans : now.spans home.0 ≡ before.spans home.0 = ap (λ (v : View). v.spans home.0) h.rest in
-      turn before (names_frame f) home after k spanned (subst IsOrdered spans ordered) (sym (ap (overlap_of after home.1) spans) ∙ sym is ∙ some)
+      turn before passes home after k spanned (subst IsOrdered spans ordered) (sym (ap (overlap_of after home.1) spans) ∙ sym is ∙ some)
 
   -- where it finds none, nothing is left
   pub changed-last : {before now : View} {left : List Key} (home : ℕ × ℕ) (after : Option (ℕ × ℕ)) (next : Option (ℕ × ℕ)) →
@@ -107,26 +107,27 @@ module _ {f : ℕ} {change : Pte → Pte} (of : IsOfFrame f change) where
     pub area-now : now.areas k.1 ≡ Some t.area
     area-now = ap (λ (v : View). v.areas k.1) h.rest ∙ t.stands
 
-    -- it names the frame now where it did before
-    same-names : names_frame f (now.entry t.area.pid (page_at i t.area)) ≡ named
-    same-names = by named refl (h.each key)
+    -- its entry is as it was: it was not looked at yet, or doesn't name the frame
+    entry-now : now.entry key.0 key.1 ≡ before.entry key.0 key.1
+    entry-now = by named refl (h.each key)
       where
         by : (b : Bool) → named ≡ b → IsBeforeOrAfter change before left key (now.entry key.0 key.1)
-            → names_frame f (now.entry t.area.pid (page_at i t.area)) ≡ named
-        by b e (inl s) = ap (names_frame f) s.1
+            → now.entry key.0 key.1 ≡ before.entry key.0 key.1
+        by b e (inl s) = s.1
         by true e (inr s) = let one = here ∙ ap (λ b. cond b 1 0 + how_many (same_key key) later) e in let none = s.0 in
             absurd (omega (arith, one, none))
-        by false e (inr s) = ap (names_frame f) (s.1 ∙ of.other (before.entry t.area.pid (page_at i t.area)) e)
+        by false e (inr s) = s.1 ∙ of.other (before.entry t.area.pid (page_at i t.area)) e
 
-    passes-before : passes_in now (names_frame f) i (now.areas k.1) ≡ passes_in before (names_frame f) i (before.areas k.1)
-    passes-before = ap (passes_in now (names_frame f) i) area-now ∙ ap (λ b. holds i t.area && b) same-names
-        ∙ sym (ap (passes_in before (names_frame f) i) t.stands)
+    -- so a test of it says now what it said before
+    pub passes-before : (passes : Pte → Bool) → passes_in now passes i (now.areas k.1) ≡ passes_in before passes i (before.areas k.1)
+    passes-before passes = ap (passes_in now passes i) area-now ∙ ap (λ e. holds i t.area && passes e) entry-now
+        ∙ sym (ap (passes_in before passes i) t.stands)
 
-    -- so a look finds one of the entries that are left, or none
+    -- a look finds one of the entries that are left, or none
     pub left-then : (result b : Bool) → result ≡ passes_in now (names_frame f) i (now.areas k.1) → result ≡ b
         → length left ≡ one_if b + length later
     left-then result b named is = walk-length before (names_frame f) i after k xs t
-        ∙ ap (λ b. one_if b + length later) (sym passes-before ∙ sym named ∙ is)
+        ∙ ap (λ b. one_if b + length later) (sym (passes-before (names_frame f)) ∙ sym named ∙ is)
 
     -- the entry is changed, where it was not yet
     pub one-changed : (new : View) → new ≡ record now {

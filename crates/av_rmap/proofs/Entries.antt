@@ -13,7 +13,7 @@ use Rattle.av_interval.specs.declared.span.Span.{Span}
 use Rattle.av_anon.specs.Spans.{is_of}
 use Rattle.av_rmap.specs.Covered.{IsCovered, IsReached}
 use Rattle.av_rmap.specs.View.{View, AreApart, AreSpanned}
-use Rattle.av_rmap.specs.Walk.{Key, same_key, names_frame, names_seen, holds, page_at, found_in, AreItsEntries}
+use Rattle.av_rmap.specs.Walk.{Key, same_key, names_frame, names_seen, holds, page_at, found_in, AreItsEntries, HasSoMany}
 use Rattle.av_rmap.proofs.SpanLemmas.{one-span}
 
 -- a look in the area of each span
@@ -146,7 +146,7 @@ walk-is view f home spanned apart covered k = is (f (view.entry k.0 k.1)) refl
 
 -- so the looks find as many as there are
 pub walk-many : (view : View) (f : Pte → Bool) (home : ℕ × ℕ) (n : ℕ) → AreSpanned view → AreApart view → IsCovered view f home
-    → ((keys : List Key) → AreItsEntries view f keys → length keys ≡ n) → length (walk_of view f home.1 (view.spans home.0)) ≡ n
+    → HasSoMany view f n → length (walk_of view f home.1 (view.spans home.0)) ≡ n
 walk-many view f home n spanned apart covered many =
     many (walk_of view f home.1 (view.spans home.0)) (walk-is view f home spanned apart covered)
 

@@ -1,14 +1,15 @@
--- What clearing the seen bit makes of an entry, and of all, one look after the other.
-use Rattle.std.proofs.Common.{◌≡◌, ℕ, Bool, true, false, not, ◌&&◌, ◌==◌, List, Option, Some, refl, ap, ◌∙◌}
+-- What clearing the seen bit makes of an entry, and of all, one look after the other; and whether one was seen.
+use Rattle.std.proofs.Common.{◌≡◌, ℕ, Bool, true, false, not, ◌&&◌, ◌||◌, ◌==◌, List, [], Option, Some, refl, sym, ap, subst, ◌∙◌, MatchBool}
 use Rattle.av_pagetable.specs.declared.pte.Pte.{Pte}
 use Rattle.av_pagetable.specs.declared.pte.Pte.TheVariants.{Empty, Zero, Here, Away}
 use Rattle.av_interval.specs.declared.span.Span.{Span}
+use Rattle.av_rmap.specs.Covered.{IsCovered}
 use Rattle.av_rmap.specs.Seen.{unseen, unseen_in}
-use Rattle.av_rmap.specs.View.{View}
-use Rattle.av_rmap.specs.Walk.{names_frame}
-use Rattle.av_rmap.proofs.Changes.{IsChanged, IsOfFrame, area-now, one-changed}
-use Rattle.av_rmap.proofs.Entries.{walk_of}
-use Rattle.av_rmap.proofs.Looks.{Found, rest}
+use Rattle.av_rmap.specs.View.{View, AreApart, AreSpanned}
+use Rattle.av_rmap.specs.Walk.{Key, names_frame, names_seen, passes_in}
+use Rattle.av_rmap.proofs.Changes.{IsChanged, IsOfFrame, area-now, one-changed, passes-before}
+use Rattle.av_rmap.proofs.Entries.{none-named, none-seen, walk_of}
+use Rattle.av_rmap.proofs.Looks.{Found, finds-nothing, finds-one, rest, turn_nothing}
 
 unseen-twice : (f : ℕ) (e : Pte) → unseen f (unseen f e) ≡ unseen f e
 unseen-twice f Empty = refl
@@ -41,3 +42,33 @@ pub one-cleared : (f : ℕ) (before now new : View) (i : ℕ) (after : Option (�
     new ≡ unseen_in f i (now.areas k.1) now → IsChanged (unseen f) before new (walk_of before (names_frame f) i (rest (Some k) xs))
 one-cleared f before now new i after k xs h t is = one-changed (clears f) before now i after k xs h t new
     (is ∙ ap (λ o. unseen_in f i o now) (area-now (clears f) before now i after k xs h t))
+
+-- an entry of the frame is seen
+abbrev pub IsSeen : View → ℕ → Type 0
+IsSeen view f = (k : Key) × (names_seen f (view.entry k.0 k.1) ≡ true)
+
+-- one was found, or all that are seen are left to look at: so after one look
+pub seen-then : (f : ℕ) (before now : View) (i : ℕ) (after : Option (ℕ × ℕ)) (k : ℕ × ℕ) (xs : List Span) →
+    IsChanged (unseen f) before now (walk_of before (names_frame f) i (rest after xs)) → Found before (names_frame f) i after k xs →
+    Found before (names_seen f) i after k xs → (a b new : Bool) → b ≡ passes_in now (names_seen f) i (now.areas k.1) → (a || b) ≡ new →
+    (whole : List Key) → MatchBool a (IsSeen before f) (walk_of before (names_seen f) i (rest after xs) ≡ whole) →
+    MatchBool new (IsSeen before f) (walk_of before (names_seen f) i (rest (Some k) xs) ≡ whole)
+seen-then f before now i after k xs h t s a b new told is whole so_far =
+    subst (λ c. MatchBool c (IsSeen before f) (walk_of before (names_seen f) i (rest (Some k) xs) ≡ whole)) is
+    (by a b (sym (told ∙ passes-before (clears f) before now i after k xs h t (names_seen f))) so_far)
+  where
+    by : (a b : Bool) → passes_in before (names_seen f) i (before.areas k.1) ≡ b
+        → MatchBool a (IsSeen before f) (walk_of before (names_seen f) i (rest after xs) ≡ whole)
+        → MatchBool (a || b) (IsSeen before f) (walk_of before (names_seen f) i (rest (Some k) xs) ≡ whole)
+    by true b e so_far = so_far
+    by false true e so_far = finds-one before (names_seen f) i (before.areas k.1) e
+    by false false e so_far = turn_nothing _ _ _ _ s.walk (finds-nothing before (names_seen f) i (before.areas k.1) e) so_far
+
+-- none is left to look at
+pub seen-end : (f : ℕ) (view : View) (home : ℕ × ℕ) (xs : List Span) → AreSpanned view → AreApart view → IsCovered view (names_frame f) home →
+    walk_of view (names_frame f) home.1 xs ≡ [] → (a : Bool) →
+    MatchBool a (IsSeen view f) (walk_of view (names_seen f) home.1 xs ≡ walk_of view (names_seen f) home.1 (view.spans home.0)) →
+    MatchBool a (IsSeen view f) ((process page : ℕ) → names_seen f (view.entry process page) ≡ false)
+seen-end f view home xs spanned apart covered none true h = h
+seen-end f view home xs spanned apart covered none false h =
+    none-seen view f home spanned apart covered (sym h ∙ none-named view f home.1 xs none)

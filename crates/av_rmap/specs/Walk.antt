@@ -1,6 +1,6 @@
 -- The entries of a frame or a slot, and what one look finds.
 use Rattle.std.specs.Prelude.{◌≡◌, ℕ, ◌+◌, ◌-◌, Bool, false, ◌&&◌, ◌==◌, if◌then◌else◌, List, []}
-use Rattle.std.specs.Prelude.{◌∷◌, Option, Some, None}
+use Rattle.std.specs.Prelude.{◌∷◌, Option, Some, None, length}
 use Rattle.av_base.specs.Words.{how_many, within}
 use Rattle.av_base.specs.declared.slot.Slot.{Slot}
 use Rattle.av_chain.specs.Links.{one_if}
@@ -51,6 +51,11 @@ names_seen frame (Away slot) = false
 abbrev pub AreItsEntries : View → (Pte → Bool) → List Key → Type 0
 AreItsEntries view passes keys = (k : Key)
     → how_many (same_key k) keys ≡ one_if (passes (view.entry k.0 k.1))
+
+-- how many there are
+abbrev pub HasSoMany : View → (Pte → Bool) → ℕ → Type 0
+HasSoMany view passes count =
+    (keys : List Key) → AreItsEntries view passes keys → length keys ≡ count
 
 -- whether a page of the area has the linear index, and which
 abbrev pub holds : ℕ → Area → Bool

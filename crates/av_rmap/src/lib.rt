@@ -11,11 +11,10 @@
 //! hold the index (in chain order: as areas linked to it do), and no more looks than steps.
 //! `walk_frame` and `walk_slot` give them in order, also where there may be no home.
 //!
-//! `any_seen` says whether one of them is seen, `clear_seen` takes the seen bit from each, and
-//! `unmap` makes each a slot; these change nothing else. They are told how many entries name the
-//! frame, and end once as many were found. Proved: `clear_seen` and `unmap` take exactly the steps
-//! of a walk up to the last entry, and `any_seen` no more; none where no entry names the frame. Not
-//! proved: that `any_seen` ends at the first that is seen.
+//! `clear_seen` takes the seen bit from each and says whether one of them was seen, and `unmap`
+//! makes each a slot; these change nothing else. They are told how many entries name the frame, and
+//! end once as many were found. Proved: they take exactly the steps of a walk up to the last entry,
+//! and none where no entry names the frame.
 //!
 //! `Stores` shows areas, anon_vmas and page tables as they are kept, and `StoresMut` lends the
 //! tables for writing. Overlaps are found a batch at a time (`Look::next`), in one way through the

@@ -1,10 +1,10 @@
 //! The entries of a frame that goes to its slot: each names the slot in the place of the frame.
 
-ghost use Rattle.std.specs.Prelude.{◌≡◌, ◌+◌, true, List, length, IsSomeAnd};
+ghost use Rattle.std.specs.Prelude.{◌≡◌, ◌+◌, true, IsSomeAnd};
 ghost use Rattle.av_rmap.specs.Covered.{IsCovered};
 ghost use Rattle.av_rmap.specs.Unmap.{away_in, with_away};
 ghost use Rattle.av_rmap.specs.View.{AreApart, AreSpanned};
-ghost use Rattle.av_rmap.specs.Walk.{AreItsEntries, Key, holds, looks_to_last, names_frame};
+ghost use Rattle.av_rmap.specs.Walk.{HasSoMany, holds, looks_to_last, names_frame};
 ghost use Rattle.av_rmap.specs.Walk.{passes_in};
 
 use crate::ahead::Ahead;
@@ -27,8 +27,7 @@ pub fn unmap<K: LookMut<L>, L: Ledger>(
     requires spanned { AreSpanned (K.view look.old) }
     requires apart { AreApart (K.view look.old) }
     requires covered { IsCovered (K.view look.old) (names_frame frame) home }
-    requires maps { (keys : List Key) → AreItsEntries (K.view look.old) (names_frame frame) keys
-        → length keys ≡ maps }
+    requires maps { HasSoMany (K.view look.old) (names_frame frame) maps }
     ensures unmapped { K.view look.new ≡ with_away frame slot (K.view look.old) }
     ensures kept { K.kept look.new ≡ K.kept look.old }
     ensures counted { steps.new ≡ steps.old + looks_to_last (K.view look.old) (names_frame frame)
@@ -43,7 +42,7 @@ pub fn unmap<K: LookMut<L>, L: Ledger>(
     let mut left = maps;
     'looks: while left > 0 {
         let Some((first, area)) = ahead.next(look, anon, index, after) else {
-            return;
+            unreachable!();
         };
         if unmap_in(look, frame, slot, index, area, steps) {
             left -= 1;

@@ -1,13 +1,14 @@
-use Rattle.std.proofs.Common.{◌≡◌, ℕ, ◌+◌, ◌<◌, Some, refl, length, sym, ap, subst, ◌∙◌, arith, true, false, IsSomeAnd}
+use Rattle.std.proofs.Common.{◌≡◌, ℕ, ◌+◌, ◌<◌, Some, refl, length, sym, ap, subst, ◌∙◌, arith, true, false, is_some, unwrap_or, IsSomeAnd}
+use Rattle.std.proofs.Math.Bool.{or-false}
 use Rattle.std.proofs.lemmas.List.{nil_from_length}
 use Rattle.av_rmap.specs.Ahead.{IsAhead}
 use Rattle.av_rmap.specs.Seen.{unseen}
 use Rattle.av_rmap.specs.View.{View}
-use Rattle.av_rmap.specs.Walk.{holds, looks_to_last, names_frame}
+use Rattle.av_rmap.specs.Walk.{holds, looks_to_last, names_frame, names_seen}
 use Rattle.av_rmap.proofs.Changes.{IsChanged, all-changed, changed-last, changed-turn, left-then, none-changed}
 use Rattle.av_rmap.proofs.Entries.{walk_of, walk-many}
 use Rattle.av_rmap.proofs.Looks.{looks-none, rest, rest-none, turn-holds}
-use Rattle.av_rmap.proofs.SeenLemmas.{clears, one-cleared}
+use Rattle.av_rmap.proofs.SeenLemmas.{clears, one-cleared, seen-end, seen-then}
 use Rattle.av_rmap.proofs.seen.clear_seen.Goals as goal
 
 pub looks-init : goal.looks-init
@@ -22,6 +23,7 @@ looks-init g c =
           ∙ walk-many view f home c.args.maps c.requires.spanned c.requires.apart c.requires.covered c.requires.maps;
       cleared = subst (λ xs. IsChanged (unseen c.args.frame) view view (walk_of view f home.1 xs)) (sym all)
           (none-changed (clears c.args.frame) view home c.requires.spanned c.requires.apart c.requires.covered);
+      seen = ap (walk_of view (names_seen c.args.frame) home.1) all;
       kept = refl;
       counted = ap (λ xs. c.args.steps.now + looks_to_last view f home.1 xs) all;
     }
@@ -31,35 +33,45 @@ next-requires g c =
     let h = c.looks.invariant.cleared in
     subst (IsAhead c.looks.ahead c.looks.after c.args.home.1) (sym (ap (λ (v : View). v.spans c.args.home.0) h.rest)) c.looks.invariant.ahead
 
+-- an entry is left, so `next` finds an area
+pub unreachable-requires : goal.unreachable-requires
+unreachable-requires g c =
+    let none = changed-last (clears c.args.frame) c.args.home c.looks.after c.next.result c.requires.spanned c.looks.invariant.cleared
+    c.next.ensures.first c.in_default.is in
+    let some = c.looks-test.true in let left = c.looks.invariant.left in let empty = ap length none in
+    absurd (omega (arith, some, left, empty))
+
 pub clear_in-requires : goal.clear_in-requires
 clear_in-requires g c =
     let before = g.K.Look.view c.args.look.now in
     let now = g.K.Look.view c.looks.look in
     let h = c.looks.invariant.cleared in
     let k : ℕ × ℕ = (c.in-Some.first, c.in-Some.area) in
-    let t = changed-turn (clears c.args.frame) c.args.home c.looks.after k c.next.result c.requires.spanned h
+    let t = changed-turn (clears c.args.frame) (names_frame c.args.frame) c.args.home c.looks.after k c.next.result c.requires.spanned h
     c.next.ensures.ordered c.next.ensures.first c.in-Some.is in
     subst (λ (v : View). IsSomeAnd (v.areas c.in-Some.area) (λ a. holds c.args.home.1 a ≡ true)) (sym h.rest)
     (turn-holds before (names_frame c.args.frame) c.args.home.1 c.looks.after k (before.spans c.args.home.0) t)
 
-pub looks-smaller-then-clear_in : goal.looks-smaller-then-clear_in
-looks-smaller-then-clear_in g c =
-    let t = changed-turn (clears c.args.frame) c.args.home c.looks.after (c.in-Some.first, c.in-Some.area) c.next.result c.requires.spanned
-    c.looks.invariant.cleared c.next.ensures.ordered c.next.ensures.first c.in-Some.is in
+pub looks-smaller-in-Some-clear_in : goal.looks-smaller-in-Some-clear_in
+looks-smaller-in-Some-clear_in g c =
+    let t = changed-turn (clears c.args.frame) (names_frame c.args.frame) c.args.home c.looks.after (c.in-Some.first, c.in-Some.area)
+    c.next.result c.requires.spanned c.looks.invariant.cleared c.next.ensures.ordered c.next.ensures.first c.in-Some.is in
     let count = t.count in omega (arith, count)
 
-pub looks-preserved-then-clear_in : goal.looks-preserved-then-clear_in
-looks-preserved-then-clear_in g c =
+pub looks-preserved-in-Some-clear_in : goal.looks-preserved-in-Some-clear_in
+looks-preserved-in-Some-clear_in g c =
     let before = g.K.Look.view c.args.look.now in
     let now = g.K.Look.view c.looks.look in
     let h = c.looks.invariant.cleared in
     let i = c.args.home.1 in
     let k : ℕ × ℕ = (c.in-Some.first, c.in-Some.area) in
     let xs = before.spans c.args.home.0 in
-    let t = changed-turn (clears c.args.frame) c.args.home c.looks.after k c.next.result c.requires.spanned h
+    let t = changed-turn (clears c.args.frame) (names_frame c.args.frame) c.args.home c.looks.after k c.next.result c.requires.spanned h
     c.next.ensures.ordered c.next.ensures.first c.in-Some.is in
-    let many = left-then (clears c.args.frame) before now i c.looks.after k xs h t c.clear_in.result true
-    c.clear_in.ensures.named c.if-clear_in.true in
+    let s = changed-turn (clears c.args.frame) (names_seen c.args.frame) c.args.home c.looks.after k c.next.result c.requires.spanned h
+    c.next.ensures.ordered c.next.ensures.first c.in-Some.is in
+    let many = left-then (clears c.args.frame) before now i c.looks.after k xs h t (is_some c.clear_in.result) true
+    c.clear_in.ensures.named (ap is_some c.in-Some-clear_in.is) in
     let counted = c.looks.invariant.counted in let left = c.looks.invariant.left in let step = c.clear_in.ensures.counted in
     let some : 0 < length (walk_of before (names_frame c.args.frame) i (rest c.looks.after xs)) = omega (arith, left) in
     let looks = t.looks some in
@@ -68,14 +80,17 @@ looks-preserved-then-clear_in g c =
       left = omega (arith, many, left);
       cleared = one-cleared c.args.frame before now (g.K.Look.view c.clear_in.new.look) i c.looks.after k xs h t
           c.clear_in.ensures.cleared;
+      seen = seen-then c.args.frame before now i c.looks.after k xs h t s c.looks.any_seen c.in-Some-clear_in.seen _
+          (sym (ap (λ o. unwrap_or o false) c.in-Some-clear_in.is) ∙ c.clear_in.ensures.seen) refl
+          (walk_of before (names_seen c.args.frame) i xs) c.looks.invariant.seen;
       kept = c.clear_in.ensures.kept ∙ c.looks.invariant.kept;
       counted = omega (arith, looks, counted, step);
     }
 
 pub looks-smaller : goal.looks-smaller
 looks-smaller g c =
-    let t = changed-turn (clears c.args.frame) c.args.home c.looks.after (c.in-Some.first, c.in-Some.area) c.next.result c.requires.spanned
-    c.looks.invariant.cleared c.next.ensures.ordered c.next.ensures.first c.in-Some.is in
+    let t = changed-turn (clears c.args.frame) (names_frame c.args.frame) c.args.home c.looks.after (c.in-Some.first, c.in-Some.area)
+    c.next.result c.requires.spanned c.looks.invariant.cleared c.next.ensures.ordered c.next.ensures.first c.in-Some.is in
     let count = t.count in omega (arith, count)
 
 pub looks-preserved : goal.looks-preserved
@@ -86,10 +101,12 @@ looks-preserved g c =
     let i = c.args.home.1 in
     let k : ℕ × ℕ = (c.in-Some.first, c.in-Some.area) in
     let xs = before.spans c.args.home.0 in
-    let t = changed-turn (clears c.args.frame) c.args.home c.looks.after k c.next.result c.requires.spanned h
+    let t = changed-turn (clears c.args.frame) (names_frame c.args.frame) c.args.home c.looks.after k c.next.result c.requires.spanned h
     c.next.ensures.ordered c.next.ensures.first c.in-Some.is in
-    let many = left-then (clears c.args.frame) before now i c.looks.after k xs h t c.clear_in.result false
-    c.clear_in.ensures.named c.if-clear_in.false in
+    let s = changed-turn (clears c.args.frame) (names_seen c.args.frame) c.args.home c.looks.after k c.next.result c.requires.spanned h
+    c.next.ensures.ordered c.next.ensures.first c.in-Some.is in
+    let many = left-then (clears c.args.frame) before now i c.looks.after k xs h t (is_some c.clear_in.result) false
+    c.clear_in.ensures.named (ap is_some c.in_default-clear_in.is) in
     let counted = c.looks.invariant.counted in let left = c.looks.invariant.left in let step = c.clear_in.ensures.counted in
     let some : 0 < length (walk_of before (names_frame c.args.frame) i (rest c.looks.after xs)) = omega (arith, left) in
     let looks = t.looks some in
@@ -98,11 +115,22 @@ looks-preserved g c =
       left = omega (arith, many, left);
       cleared = one-cleared c.args.frame before now (g.K.Look.view c.clear_in.new.look) i c.looks.after k xs h t
           c.clear_in.ensures.cleared;
+      seen = seen-then c.args.frame before now i c.looks.after k xs h t s c.looks.any_seen false c.looks.any_seen
+          (sym (ap (λ o. unwrap_or o false) c.in_default-clear_in.is) ∙ c.clear_in.ensures.seen) (or-false c.looks.any_seen)
+          (walk_of before (names_seen c.args.frame) i xs) c.looks.invariant.seen;
       kept = c.clear_in.ensures.kept ∙ c.looks.invariant.kept;
       counted = omega (arith, looks, counted, step);
     }
 
 -- no entry names the frame
+pub returns-then-maps-eq0-clause-seen : goal.returns-then-maps-eq0-clause-seen
+returns-then-maps-eq0-clause-seen g c =
+    let view = g.K.Look.view c.args.look.now in
+    let f = names_frame c.args.frame in
+    let many = walk-many view f c.args.home c.args.maps c.requires.spanned c.requires.apart c.requires.covered c.requires.maps in
+    seen-end c.args.frame view c.args.home (view.spans c.args.home.0) c.requires.spanned c.requires.apart c.requires.covered
+    (nil_from_length _ (many ∙ c.if-maps-eq0.true)) false refl
+
 pub returns-then-maps-eq0-clause-cleared : goal.returns-then-maps-eq0-clause-cleared
 returns-then-maps-eq0-clause-cleared g c =
     let view = g.K.Look.view c.args.look.now in
@@ -112,14 +140,15 @@ returns-then-maps-eq0-clause-cleared g c =
     (none-changed (clears c.args.frame) view c.args.home c.requires.spanned c.requires.apart c.requires.covered)
     (nil_from_length _ (many ∙ c.if-maps-eq0.true))
 
--- `next` finds none, or none is left
-pub returns-in_default-clause-cleared : goal.returns-in_default-clause-cleared
-returns-in_default-clause-cleared g c =
+-- none is left
+pub returns-clause-seen : goal.returns-clause-seen
+returns-clause-seen g c =
     let before = g.K.Look.view c.args.look.now in
-    let now = g.K.Look.view c.looks.look in
-    let h = c.looks.invariant.cleared in
-    all-changed (clears c.args.frame) before now _ h
-    (changed-last (clears c.args.frame) c.args.home c.looks.after c.next.result c.requires.spanned h c.next.ensures.first c.in_default.is)
+    let xs = rest c.looks.after (before.spans c.args.home.0) in
+    let left = c.looks.invariant.left in
+    let none : length (walk_of before (names_frame c.args.frame) c.args.home.1 xs) ≡ 0 = omega (arith, left) in
+    seen-end c.args.frame before c.args.home xs c.requires.spanned c.requires.apart c.requires.covered (nil_from_length _ none)
+    c.looks.any_seen c.looks.invariant.seen
 
 pub returns-clause-cleared : goal.returns-clause-cleared
 returns-clause-cleared g c =
@@ -138,15 +167,6 @@ returns-then-maps-eq0-clause-counted g c =
     let many = walk-many view f c.args.home c.args.maps c.requires.spanned c.requires.apart c.requires.covered c.requires.maps in
     let none = looks-none view f c.args.home.1 (view.spans c.args.home.0) (nil_from_length _ (many ∙ c.if-maps-eq0.true)) in
     omega (arith, none)
-
-pub returns-in_default-clause-counted : goal.returns-in_default-clause-counted
-returns-in_default-clause-counted g c =
-    let before = g.K.Look.view c.args.look.now in
-    let f = names_frame c.args.frame in
-    let none = looks-none before f c.args.home.1 (rest c.looks.after (before.spans c.args.home.0))
-    (changed-last (clears c.args.frame) c.args.home c.looks.after c.next.result c.requires.spanned c.looks.invariant.cleared
-    c.next.ensures.first c.in_default.is) in
-    let counted = c.looks.invariant.counted in omega (arith, none, counted)
 
 pub returns-clause-counted : goal.returns-clause-counted
 returns-clause-counted g c =

@@ -31,21 +31,29 @@ next-requires g c =
     let h = c.looks.invariant.unmapped in
     subst (IsAhead c.looks.ahead c.looks.after c.args.home.1) (sym (ap (λ (v : View). v.spans c.args.home.0) h.rest)) c.looks.invariant.ahead
 
+-- an entry is left, so `next` finds an area
+pub unreachable-requires : goal.unreachable-requires
+unreachable-requires g c =
+    let none = changed-last (sends c.args.frame c.args.slot) c.args.home c.looks.after c.next.result c.requires.spanned c.looks.invariant.unmapped
+    c.next.ensures.first c.in_default.is in
+    let some = c.looks-test.true in let left = c.looks.invariant.left in let empty = ap length none in
+    absurd (omega (arith, some, left, empty))
+
 pub unmap_in-requires : goal.unmap_in-requires
 unmap_in-requires g c =
     let before = g.K.Look.view c.args.look.now in
     let now = g.K.Look.view c.looks.look in
     let h = c.looks.invariant.unmapped in
     let k : ℕ × ℕ = (c.in-Some.first, c.in-Some.area) in
-    let t = changed-turn (sends c.args.frame c.args.slot) c.args.home c.looks.after k c.next.result c.requires.spanned h
+    let t = changed-turn (sends c.args.frame c.args.slot) (names_frame c.args.frame) c.args.home c.looks.after k c.next.result c.requires.spanned h
     c.next.ensures.ordered c.next.ensures.first c.in-Some.is in
     subst (λ (v : View). IsSomeAnd (v.areas c.in-Some.area) (λ a. holds c.args.home.1 a ≡ true)) (sym h.rest)
     (turn-holds before (names_frame c.args.frame) c.args.home.1 c.looks.after k (before.spans c.args.home.0) t)
 
 pub looks-smaller-then-unmap_in : goal.looks-smaller-then-unmap_in
 looks-smaller-then-unmap_in g c =
-    let t = changed-turn (sends c.args.frame c.args.slot) c.args.home c.looks.after (c.in-Some.first, c.in-Some.area) c.next.result c.requires.spanned
-    c.looks.invariant.unmapped c.next.ensures.ordered c.next.ensures.first c.in-Some.is in
+    let t = changed-turn (sends c.args.frame c.args.slot) (names_frame c.args.frame) c.args.home c.looks.after (c.in-Some.first, c.in-Some.area)
+    c.next.result c.requires.spanned c.looks.invariant.unmapped c.next.ensures.ordered c.next.ensures.first c.in-Some.is in
     let count = t.count in omega (arith, count)
 
 pub looks-preserved-then-unmap_in : goal.looks-preserved-then-unmap_in
@@ -56,7 +64,7 @@ looks-preserved-then-unmap_in g c =
     let i = c.args.home.1 in
     let k : ℕ × ℕ = (c.in-Some.first, c.in-Some.area) in
     let xs = before.spans c.args.home.0 in
-    let t = changed-turn (sends c.args.frame c.args.slot) c.args.home c.looks.after k c.next.result c.requires.spanned h
+    let t = changed-turn (sends c.args.frame c.args.slot) (names_frame c.args.frame) c.args.home c.looks.after k c.next.result c.requires.spanned h
     c.next.ensures.ordered c.next.ensures.first c.in-Some.is in
     let many = left-then (sends c.args.frame c.args.slot) before now i c.looks.after k xs h t c.unmap_in.result true
     c.unmap_in.ensures.named c.if-unmap_in.true in
@@ -74,8 +82,8 @@ looks-preserved-then-unmap_in g c =
 
 pub looks-smaller : goal.looks-smaller
 looks-smaller g c =
-    let t = changed-turn (sends c.args.frame c.args.slot) c.args.home c.looks.after (c.in-Some.first, c.in-Some.area) c.next.result c.requires.spanned
-    c.looks.invariant.unmapped c.next.ensures.ordered c.next.ensures.first c.in-Some.is in
+    let t = changed-turn (sends c.args.frame c.args.slot) (names_frame c.args.frame) c.args.home c.looks.after (c.in-Some.first, c.in-Some.area)
+    c.next.result c.requires.spanned c.looks.invariant.unmapped c.next.ensures.ordered c.next.ensures.first c.in-Some.is in
     let count = t.count in omega (arith, count)
 
 pub looks-preserved : goal.looks-preserved
@@ -86,7 +94,7 @@ looks-preserved g c =
     let i = c.args.home.1 in
     let k : ℕ × ℕ = (c.in-Some.first, c.in-Some.area) in
     let xs = before.spans c.args.home.0 in
-    let t = changed-turn (sends c.args.frame c.args.slot) c.args.home c.looks.after k c.next.result c.requires.spanned h
+    let t = changed-turn (sends c.args.frame c.args.slot) (names_frame c.args.frame) c.args.home c.looks.after k c.next.result c.requires.spanned h
     c.next.ensures.ordered c.next.ensures.first c.in-Some.is in
     let many = left-then (sends c.args.frame c.args.slot) before now i c.looks.after k xs h t c.unmap_in.result false
     c.unmap_in.ensures.named c.if-unmap_in.false in
@@ -112,15 +120,7 @@ returns-then-maps-eq0-clause-unmapped g c =
     (none-changed (sends c.args.frame c.args.slot) view c.args.home c.requires.spanned c.requires.apart c.requires.covered)
     (nil_from_length _ (many ∙ c.if-maps-eq0.true))
 
--- `next` finds none, or none is left
-pub returns-in_default-clause-unmapped : goal.returns-in_default-clause-unmapped
-returns-in_default-clause-unmapped g c =
-    let before = g.K.Look.view c.args.look.now in
-    let now = g.K.Look.view c.looks.look in
-    let h = c.looks.invariant.unmapped in
-    all-changed (sends c.args.frame c.args.slot) before now _ h
-    (changed-last (sends c.args.frame c.args.slot) c.args.home c.looks.after c.next.result c.requires.spanned h c.next.ensures.first c.in_default.is)
-
+-- none is left
 pub returns-clause-unmapped : goal.returns-clause-unmapped
 returns-clause-unmapped g c =
     let before = g.K.Look.view c.args.look.now in
@@ -138,15 +138,6 @@ returns-then-maps-eq0-clause-counted g c =
     let many = walk-many view f c.args.home c.args.maps c.requires.spanned c.requires.apart c.requires.covered c.requires.maps in
     let none = looks-none view f c.args.home.1 (view.spans c.args.home.0) (nil_from_length _ (many ∙ c.if-maps-eq0.true)) in
     omega (arith, none)
-
-pub returns-in_default-clause-counted : goal.returns-in_default-clause-counted
-returns-in_default-clause-counted g c =
-    let before = g.K.Look.view c.args.look.now in
-    let f = names_frame c.args.frame in
-    let none = looks-none before f c.args.home.1 (rest c.looks.after (before.spans c.args.home.0))
-    (changed-last (sends c.args.frame c.args.slot) c.args.home c.looks.after c.next.result c.requires.spanned c.looks.invariant.unmapped
-    c.next.ensures.first c.in_default.is) in
-    let counted = c.looks.invariant.counted in omega (arith, none, counted)
 
 pub returns-clause-counted : goal.returns-clause-counted
 returns-clause-counted g c =
