@@ -10,14 +10,14 @@ use Rattle.av_trace.specs.declared.note.Note.TheVariants.{Dropped, Kept, Started
 use Rattle.av_plain.specs.Event.{after_note, after_notes}
 use Rattle.av_plain.specs.Ledger.{Ledger, Setting, in_flight, is_stale, may_give, same_slot, slot_of}
 use Rattle.av_plain.specs.Sound.{IsSound, flights, pairs}
-use Rattle.av_plain.specs.Pass.{IsSlotFor, Spared, is_dirty, is_stuck, unmap_notes}
+use Rattle.av_plain.specs.Pass.{IsSlotFor, Spared, is_dirty, unmap_notes}
 use Rattle.av_plain.proofs.Sound.Counts.{pair-frame, slot_of-some}
 use Rattle.av_plain.proofs.Sound.Pass.{alike-uses}
 use Rattle.av_plain.proofs.Sound.Steps.{UnmapKept, alike-started, given-nowhere, unmap_notes-kept}
-use Rattle.av_evict.specs.System.{Gives, SystemView, Tells}
-use Rattle.av_evict.proofs.SystemLaws.{gives-as, loose}
+use Rattle.av_evict.specs.System.{Gives, Stays, SystemView, Tells}
+use Rattle.av_evict.proofs.SystemLaws.{gives-as, gives-then, loose}
 use Rattle.av_evict.specs.Inactive.{GoesOut, IsSentIdle}
-use Rattle.av_evict.specs.Steps.{IsSent, IsUsed, MayDrop, MayStart, spares}
+use Rattle.av_evict.specs.Steps.{IsSent, IsUsed, KeepsReferenced, MayDrop, MayStart, spares}
 use Rattle.av_plain.specs.Reclaim.{Outcome, cause_of, is_in_writeback, is_referenced, leave_notes}
 use Rattle.av_evict.proofs.StepLaws.{clean-may_drop, landed-flights, pair-cached, pair-slot_of, still-landed}
 use Rattle.av_evict.proofs.TurnLaws.{sent-stale}
@@ -59,30 +59,32 @@ keeps-for : (m : Setting) (sp : Spared) (l : Ledger) (f : ℕ) (why : Cause) (ns
 keeps-for m sp l f why ns is h = subst (λ o. MatchOption o ((s : Slot) × IsSlotFor m sp l f s × (ns ≡ leave_notes l f s))
     (λ why. ns ≡ Kept f why ∷ [])) (sym is) h
 
-pub outcome-writeback : (m : Setting) (sp : Spared) (l : Ledger) (f : ℕ) (ns : List Note) → is_in_writeback l (slot_of l f) ≡ true →
-    ns ≡ Kept f Writeback ∷ [] →
-    Outcome m sp l f ns
-outcome-writeback m sp l f ns a h = keeps-for m sp l f Writeback ns (ap (λ a. cause a (is_referenced l f) (is_stuck m sp l f)) a) h
-
-pub outcome-referenced : (m : Setting) (sp : Spared) (l : Ledger) (f : ℕ) (ns : List Note) → is_in_writeback l (slot_of l f) ≡ false →
-    is_referenced l f ≡ true → ns ≡ Kept f Referenced ∷ [] → Outcome m sp l f ns
-outcome-referenced m sp l f ns a b h = keeps-for m sp l f Referenced ns (λ i. cause (a i) (b i) (is_stuck m sp l f)) h
-
 -- neither kept for its write nor for its use, the frame went to its slot, if there is one
 pub record GoesOn (m : Setting) (closing : Option ℕ) (f : ℕ) (slot : Option Slot) (l : Ledger) (ns : List Note) : Type 0 where
   pub idle : is_in_writeback l (slot_of l f) ≡ false
   pub unseen : is_referenced l f ≡ false
   pub sent : IsSent m closing f slot l ns
 
--- as the two tests and the step tell
-pub goes-on : (a b : SystemView) (n0 n1 : List Note) (f : ℕ) (slot : Option Slot) (writeback seen : Bool) →
-    Tells a (λ l. writeback ≡ is_in_writeback l (slot_of l f)) → writeback ≡ false → Tells a (λ l. seen ≡ is_referenced l f) → seen ≡ false →
-    Gives a b n0 n1 (IsUsed f) (IsSent a.setting a.closing f slot) → Gives a b n0 n1 (IsUsed f) (GoesOn a.setting a.closing f slot)
-goes-on a b n0 n1 f slot writeback seen tells-writeback idle tells-seen unseen gives =
-    gives-as a b n0 n1 (IsUsed f) (IsUsed f) (IsSent a.setting a.closing f slot) (GoesOn a.setting a.closing f slot) gives
-    (λ l sound stands used. used)
-    (λ l ns sound stands used sent. let know = loose a.setting _ l sound in
-    record { idle = sym (tells-writeback l know stands) ∙ idle; unseen = sym (tells-seen l know stands) ∙ unseen; sent = sent })
+-- as the test of its write, that of its use and the step tell
+pub goes-on : (a b c : SystemView) (n0 n1 n2 : List Note) (f : ℕ) (slot : Option Slot) (writeback : Bool) →
+    Tells a (λ l. writeback ≡ is_in_writeback l (slot_of l f)) → writeback ≡ false → Stays a b →
+    Gives a b n0 n1 (IsUsed f) (KeepsReferenced f false) → Gives b c n1 n2 (IsUsed f) (IsSent b.setting b.closing f slot) →
+    Gives a c n0 n2 (IsUsed f) (GoesOn a.setting a.closing f slot)
+goes-on a b c n0 n1 n2 f slot writeback tells idle stays first second =
+    gives-then a b c n0 n1 n2 (IsUsed f) (IsUsed f) Idle (IsSent b.setting b.closing f slot) (GoesOn a.setting a.closing f slot)
+    (gives-as a b n0 n1 (IsUsed f) (IsUsed f) (KeepsReferenced f false) Idle first (λ l sound stands used. used)
+    (λ l ns sound stands used keeps. (sym (tells l (loose a.setting _ l sound) stands) ∙ idle, keeps)))
+    second
+    (λ l ns sound used is after. subst (λ x. IsUsed f (after_notes l x)) (sym is.1.1) used)
+    (λ l ns ms sound used is sent. subst (λ x. GoesOn a.setting a.closing f slot l (x ++ ms)) (sym is.1.1) (record {
+      idle = is.0;
+      unseen = sym is.1.0;
+      sent = subst (λ m. IsSent m a.closing f slot l ms) stays.setting (subst (λ k. IsSent b.setting k f slot l ms) stays.closing
+          (subst (λ x. IsSent b.setting b.closing f slot (after_notes l x) ms) is.1.1 sent));
+    }))
+  where
+    Idle : Ledger → List Note → Type 0
+    Idle l ns = (is_in_writeback l (slot_of l f) ≡ false) × KeepsReferenced f false l ns
 
 pub outcome-stuck : (m : Setting) (closing : Option ℕ) (l : Ledger) (f : ℕ) (ns ms : List Note) → GoesOn m closing f None l ns →
     ms ≡ Kept f NoSlot ∷ [] →

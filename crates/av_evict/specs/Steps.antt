@@ -1,14 +1,16 @@
 -- Single steps: when one may be taken, the note that tells it, and what each does with its note.
 use Rattle.std.specs.Prelude.{◌≡◌, ℕ, ◌<◌, true, false, ◌==◌, not, List, [], ◌∷◌, slice_get, Option}
-use Rattle.std.specs.Prelude.{Some, None, is_none, is_some}
+use Rattle.std.specs.Prelude.{Some, None, is_none, is_some, Bool}
 use Rattle.av_base.specs.declared.slot.Slot.{Slot}
+use Rattle.av_trace.specs.declared.note.Cause.TheVariants.{Referenced}
 use Rattle.av_trace.specs.declared.note.Note.{Note}
-use Rattle.av_trace.specs.declared.note.Note.TheVariants.{Put, Unmapped}
+use Rattle.av_trace.specs.declared.note.Note.TheVariants.{Kept, Put, Unmapped}
 use Rattle.av_plain.specs.Event.{when}
 use Rattle.av_plain.specs.Fault.{is_pinned}
 use Rattle.av_plain.specs.Ledger.{Ledger, Setting, frame_at, in_flight, is_cached, is_stale}
 use Rattle.av_plain.specs.Ledger.{is_unmapped, map_count, slot_entries, slot_of}
 use Rattle.av_plain.specs.Pass.{IsSlotFor, Spared, end_note, end_notes, is_stuck, unmap_notes}
+use Rattle.av_plain.specs.Reclaim.{is_referenced}
 use Rattle.av_plain.specs.Sound.{uses}
 use Rattle.av_evict.specs.declared.system.WriteEnd.{WriteEnd}
 
@@ -48,6 +50,11 @@ abbrev pub put_notes : ℕ → Option Slot → List Note
 put_notes f None = []
 put_notes f (Some s) = Put f s ∷ []
 
+-- the `keep` of a frame that was seen, or none
+abbrev pub referenced_notes : ℕ → Bool → List Note
+referenced_notes f true = Kept f Referenced ∷ []
+referenced_notes f false = []
+
 -- the slot whose write ended
 abbrev pub slot_of_end : Option WriteEnd → Option Slot
 slot_of_end None = None
@@ -84,6 +91,10 @@ GetsSlot m closing f None l notes =
 GetsSlot m closing f (Some s) l notes =
     (is_stuck m (spares closing None) l f ≡ false) × IsSlotFor m (spares closing None) l f s
     × (notes ≡ when (is_none (slot_of l f)) (Put f s))
+
+-- the frame was kept as referenced, or none of its entries is seen
+abbrev pub KeepsReferenced : ℕ → Bool → Ledger → List Note → Type 0
+KeepsReferenced f seen l notes = (seen ≡ is_referenced l f) × (notes ≡ referenced_notes f seen)
 
 -- the frame is cached
 abbrev pub IsInCache : ℕ → Ledger → Type 0

@@ -9,7 +9,7 @@ ghost use Rattle.av_evict.specs.Inactive.{GoesOut, IsSentIdle};
 ghost use Rattle.av_evict.specs.Steps.{IsUsed, spares};
 ghost use Rattle.av_evict.specs.System.{Always, Gives, IsAt, Stays, Tells};
 
-use crate::steps::{age_one, drop_slot, keep, send, start};
+use crate::steps::{age_one, drop_slot, keep, keep_referenced, send, start};
 use crate::system::System;
 use av_base::Slot;
 use av_trace::{Cause, Notes};
@@ -46,9 +46,7 @@ fn reclaim_one<S: System>(system: &mut S, frame: u32, notes: &mut Notes) -> Resu
         keep(system, frame, Cause::Writeback, notes)?;
         return Ok(());
     }
-    let seen = system.is_referenced(frame);
-    if seen {
-        keep(system, frame, Cause::Referenced, notes)?;
+    if keep_referenced(system, frame, notes)? {
         return Ok(());
     }
     let Some(slot) = send(system, frame, notes)? else {

@@ -4,7 +4,7 @@ ghost use Rattle.std.specs.Prelude.{◌≡◌, ◌∷◌, [], OnOk, IfOk, Bool, 
 ghost use Rattle.av_trace.specs.declared.note.Note.TheVariants.{Aged, Dropped, Kept, Started};
 ghost use Rattle.av_plain.specs.Pass.{end_note as note_of};
 ghost use Rattle.av_evict.specs.Steps.{EndsFirst, GetsSlot, IsInCache, IsSent, IsUnmapped, IsUsed};
-ghost use Rattle.av_evict.specs.Steps.{MayDrop, MayStart};
+ghost use Rattle.av_evict.specs.Steps.{KeepsReferenced, MayDrop, MayStart};
 ghost use Rattle.av_evict.specs.System.{Adds, Always, Gives, IsAt, Stays};
 
 use crate::system::{System, WriteEnd};
@@ -125,14 +125,36 @@ fn unmap<S: System>(system: &mut S, frame: u32, notes: &mut Notes) -> Result<(),
     Ok(())
 }
 
-/// Moves a frame in use to the head of the list that the cause names.
+/// Keeps a frame in use as referenced where an entry of it is seen. Answers whether that is so.
+pub fn keep_referenced<S: System>(
+    system: &mut S,
+    frame: u32,
+    notes: &mut Notes,
+) -> Result<bool, AllocError>
+    requires { IsAt (S.view system.old false) (IsUsed frame) }
+    ensures gives { IfOk result (λ seen. (told : Bool) → Gives (S.view system.old told)
+        (S.view system.new told) notes.old notes.new (IsUsed frame) (KeepsReferenced frame seen)) }
+    ensures stays { (told : Bool) → Stays (S.view system.old told) (S.view system.new told) }
+{
+    let seen = system.keep_referenced(frame);
+    if seen {
+        notes.push(Note::Kept {
+            frame,
+            cause: Cause::Referenced,
+        })?;
+    }
+    Ok(seen)
+}
+
+/// Moves a frame in use to the head of the list that the cause names: any but `Referenced`.
 pub fn keep<S: System>(
     system: &mut S,
     frame: u32,
     cause: Cause,
     notes: &mut Notes,
 ) -> Result<(), AllocError>
-    requires { IsAt (S.view system.old false) (IsUsed frame) }
+    requires used { IsAt (S.view system.old false) (IsUsed frame) }
+    requires other { cause ≡ Cause.Referenced → ⊥ }
     ensures gives { OnOk result ((told : Bool) → Gives (S.view system.old told)
         (S.view system.new told) notes.old notes.new (IsUsed frame)
         (Adds (Kept frame cause ∷ []))) }

@@ -10,7 +10,7 @@ ghost use Rattle.av_plain.specs.Ledger.{has_free, in_flight, is_free, is_orphan,
 ghost use Rattle.av_plain.specs.Ledger.{map_count, may_give, no_slot, slot_of};
 ghost use Rattle.av_plain.specs.Reclaim.{is_referenced};
 ghost use Rattle.av_evict.specs.Steps.{IsUsed, MayDrop, MayPut, MayStart, MayUnmap, notes_of_end};
-ghost use Rattle.av_evict.specs.Steps.{put_notes, slot_of_end};
+ghost use Rattle.av_evict.specs.Steps.{put_notes, referenced_notes, slot_of_end};
 ghost use Rattle.av_evict.specs.System.{Always, Knows, Makes, Stays, SystemView, Tells};
 
 use av_base::Slot;
@@ -59,12 +59,6 @@ pub trait System {
         requires { frame < (view self.now false).setting.frames }
         ensures { (told : Bool) → Tells (view self.now told) (λ l. (s : Slot) →
             slot_of l frame ≡ Some s → result ≡ is_stale l s) };
-
-    /// Whether an entry of a frame in use is seen.
-    fn is_referenced(&self, frame: u32) -> bool
-        requires { Knows (view self.now false) (IsUsed frame) }
-        ensures { (told : Bool) → Tells (view self.now told)
-            (λ l. result ≡ is_referenced l frame) };
 
     /// Whether the write of a slot is in flight.
     fn is_in_flight(&self, slot: Slot) -> bool
@@ -158,10 +152,22 @@ pub trait System {
             (MayDrop slot) (Dropped slot ∷ []) }
         ensures stays { (told : Bool) → Stays (view self.old told) (view self.new told) };
 
-    /// Moves a frame in use to the head of the list that the cause names. A referenced one is not
-    /// seen any more.
-    fn keep(&mut self, frame: u32, cause: Cause)
+    /// Keeps a frame in use as referenced where an entry of it is seen: it goes to the head of
+    /// active, and is not seen any more. Answers whether that is so; where it isn't, nothing
+    /// changes.
+    fn keep_referenced(&mut self, frame: u32) -> bool
         requires { Knows (view self.old false) (IsUsed frame) }
+        ensures is { (told : Bool) → Tells (view self.old told)
+            (λ l. result ≡ is_referenced l frame) }
+        ensures makes { (told : Bool) → Makes (view self.old told) (view self.new told)
+            (IsUsed frame) (referenced_notes frame result) }
+        ensures stays { (told : Bool) → Stays (view self.old told) (view self.new told) };
+
+    /// Moves a frame in use to the head of the list that the cause names: any but `Referenced`,
+    /// for which `keep_referenced` is.
+    fn keep(&mut self, frame: u32, cause: Cause)
+        requires used { Knows (view self.old false) (IsUsed frame) }
+        requires other { cause ≡ Cause.Referenced → ⊥ }
         ensures makes { (told : Bool) → Makes (view self.old told) (view self.new told)
             (IsUsed frame) (Kept frame cause ∷ []) }
         ensures stays { (told : Bool) → Stays (view self.old told) (view self.new told) };

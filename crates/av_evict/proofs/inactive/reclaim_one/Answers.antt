@@ -1,49 +1,13 @@
-use Rattle.std.proofs.Common.{◌∷◌, [], ◌∙◌, sym, Some, None, false}
-use Rattle.av_trace.specs.declared.note.Cause.TheVariants.{NoSlot, Referenced, Writeback}
+use Rattle.std.proofs.Common.{◌∷◌, [], Some, None, false}
+use Rattle.av_trace.specs.declared.note.Cause.TheVariants.{NoSlot}
 use Rattle.av_trace.specs.declared.note.Note.TheVariants.{Kept}
 use Rattle.av_plain.specs.Reclaim.{Outcome}
 use Rattle.av_evict.specs.Inactive.{GoesOut, IsSentIdle}
 use Rattle.av_evict.specs.Steps.{IsUsed, spares}
 use Rattle.av_evict.specs.System.{Adds}
-use Rattle.av_evict.proofs.InactiveLaws.{GoesOn, goes-on, outcome-referenced, outcome-sent, outcome-stuck, outcome-writeback, sent-idle, stuck-used}
-use Rattle.av_evict.proofs.SystemLaws.{at-knows, gives-as, gives-at, gives-then, loose}
+use Rattle.av_evict.proofs.InactiveLaws.{GoesOn, goes-on, outcome-sent, outcome-stuck, sent-idle, stuck-used}
+use Rattle.av_evict.proofs.SystemLaws.{gives-at, gives-then}
 use Rattle.av_evict.proofs.inactive.reclaim_one.Goals as goal
-
-pub is_in_writeback-requires : goal.is_in_writeback-requires
-is_in_writeback-requires g c = c.requires.1.in_range c.args.frame c.requires.3
-
-pub is_referenced-seen-requires : goal.is_referenced-seen-requires
-is_referenced-seen-requires g c = at-knows (g.S.System.view c.args.system.now false) (IsUsed c.args.frame) c.requires
-
-pub returns-then-is_in_writeback-clause-gives : goal.returns-then-is_in_writeback-clause-gives
-returns-then-is_in_writeback-clause-gives g c = λ told.
-    let k = g.S.System.view c.args.system.now told in
-    let f = c.args.frame in
-    gives-as _ _ _ _ (IsUsed f) (IsUsed f) (Adds (Kept f Writeback ∷ [])) (λ l ns. Outcome k.setting (spares k.closing None) l f ns)
-    (c.in_ok-keep.ensures.gives told)
-    (λ l sound stands used. used)
-    (λ l ns sound stands used is. outcome-writeback k.setting (spares k.closing None) l f ns
-    (sym (c.is_in_writeback.ensures told l (loose _ _ l sound) stands) ∙ c.if-is_in_writeback.true) is)
-
-pub returns-then-seen-clause-gives : goal.returns-then-seen-clause-gives
-returns-then-seen-clause-gives g c = λ told.
-    let k = g.S.System.view c.args.system.now told in
-    let f = c.args.frame in
-    gives-as _ _ _ _ (IsUsed f) (IsUsed f) (Adds (Kept f Referenced ∷ [])) (λ l ns. Outcome k.setting (spares k.closing None) l f ns)
-    (c.in_ok-keep-2.ensures.gives told)
-    (λ l sound stands used. used)
-    (λ l ns sound stands used is. outcome-referenced k.setting (spares k.closing None) l f ns
-    (sym (c.is_in_writeback.ensures told l (loose _ _ l sound) stands) ∙ c.if-is_in_writeback.false)
-    (sym (c.is_referenced-seen.ensures told l (loose _ _ l sound) stands) ∙ c.if-seen.true) is)
-
-pub keep-requires-in_default : goal.keep-requires-in_default
-keep-requires-in_default g c =
-    let k = g.S.System.view c.args.system.now false in
-    let f = c.args.frame in
-    gives-at _ _ _ _ (IsUsed f) (IsUsed f) (GoesOn k.setting k.closing f None) c.requires
-    (goes-on _ _ _ _ f None _ _ (c.is_in_writeback.ensures false) c.if-is_in_writeback.false (c.is_referenced-seen.ensures false) c.if-seen.false
-    (rw c.in_default.is at (c.in_ok-slot.ensures.gives false)))
-    (λ l ns sound used on after. stuck-used k.setting k.closing l f ns used on)
 
 pub returns-in_default-clause-gives : goal.returns-in_default-clause-gives
 returns-in_default-clause-gives g c = λ told.
@@ -51,9 +15,9 @@ returns-in_default-clause-gives g c = λ told.
     let f = c.args.frame in
     gives-then _ _ _ _ _ _ (IsUsed f) (IsUsed f) (GoesOn k.setting k.closing f None) (Adds (Kept f NoSlot ∷ []))
     (λ l ns. Outcome k.setting (spares k.closing None) l f ns)
-    (goes-on _ _ _ _ f None _ _ (c.is_in_writeback.ensures told) c.if-is_in_writeback.false (c.is_referenced-seen.ensures told) c.if-seen.false
-    (rw c.in_default.is at (c.in_ok-slot.ensures.gives told)))
-    (c.in_ok-keep-3.ensures.gives told)
+    (goes-on _ _ _ _ _ _ f None _ (c.is_in_writeback.ensures told) c.if-is_in_writeback.false (c.keep_referenced.ensures.stays told)
+    (rw c.if-branch.false at (c.in_ok-keep_referenced.ensures.gives told)) (rw c.in_default.is at (c.in_ok-slot.ensures.gives told)))
+    (c.in_ok-keep-2.ensures.gives told)
     (λ l ns sound used on after. stuck-used k.setting k.closing l f ns used on)
     (λ l ns ms sound used on is. outcome-stuck k.setting k.closing l f ns ms on is)
 
@@ -63,8 +27,8 @@ write_or_drop-requires g c =
     let f = c.args.frame in
     let s = c.in-Some.slot in
     gives-at _ _ _ _ (IsUsed f) (IsSentIdle f s) (GoesOn k.setting k.closing f (Some s)) c.requires
-    (goes-on _ _ _ _ f (Some s) _ _ (c.is_in_writeback.ensures false) c.if-is_in_writeback.false (c.is_referenced-seen.ensures false) c.if-seen.false
-    (rw c.in-Some.is at (c.in_ok-slot.ensures.gives false)))
+    (goes-on _ _ _ _ _ _ f (Some s) _ (c.is_in_writeback.ensures false) c.if-is_in_writeback.false (c.keep_referenced.ensures.stays false)
+    (rw c.if-branch.false at (c.in_ok-keep_referenced.ensures.gives false)) (rw c.in-Some.is at (c.in_ok-slot.ensures.gives false)))
     (λ l ns sound used on after. sent-idle k.setting k.closing l f s ns sound used on)
 
 pub returns-clause-gives : goal.returns-clause-gives
@@ -74,8 +38,8 @@ returns-clause-gives g c = λ told.
     let s = c.in-Some.slot in
     gives-then _ _ _ _ _ _ (IsUsed f) (IsSentIdle f s) (GoesOn k.setting k.closing f (Some s)) (GoesOut f s)
     (λ l ns. Outcome k.setting (spares k.closing None) l f ns)
-    (goes-on _ _ _ _ f (Some s) _ _ (c.is_in_writeback.ensures told) c.if-is_in_writeback.false (c.is_referenced-seen.ensures told) c.if-seen.false
-    (rw c.in-Some.is at (c.in_ok-slot.ensures.gives told)))
+    (goes-on _ _ _ _ _ _ f (Some s) _ (c.is_in_writeback.ensures told) c.if-is_in_writeback.false (c.keep_referenced.ensures.stays told)
+    (rw c.if-branch.false at (c.in_ok-keep_referenced.ensures.gives told)) (rw c.in-Some.is at (c.in_ok-slot.ensures.gives told)))
     (c.in_ok-write_or_drop.ensures.gives told)
     (λ l ns sound used on after. sent-idle k.setting k.closing l f s ns sound used on)
     (λ l ns ms sound used on out. outcome-sent k.setting k.closing l f s ns ms on out)

@@ -15,8 +15,8 @@ is_dirty-dirty-requires g c = c.requires.1.in_range c.args.frame (idle-used c.re
 pub start-requires : goal.start-requires
 start-requires g c = let at = c.requires in (at.0, at.1, at.2, idle-may_start at.0 c.args.frame c.args.slot at.3)
 
-pub keep-requires : goal.keep-requires
-keep-requires g c =
+pub keep-requires-clause-used : goal.keep-requires-clause-used
+keep-requires-clause-used g c =
     let f = c.args.frame in
     let s = c.args.slot in
     gives-at _ _ _ _ (IsSentIdle f s) (IsUsed f) (Adds (Started s ∷ [])) c.requires
