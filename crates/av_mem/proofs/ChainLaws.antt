@@ -9,7 +9,7 @@ use Rattle.av_pagetable.specs.Entries.{entry_at}
 use Rattle.av_plain.specs.Ledger.{InFrame, InSlot}
 use Rattle.av_plain.specs.Stands.{Pte as Plain, View}
 use Rattle.av_rmap.specs.Covered.{IsCoveredFrom}
-use Rattle.av_rmap.specs.Walk.{names_frame}
+use Rattle.av_rmap.specs.Walk.{names_frame, names_seen}
 use Rattle.av_rmap.specs.Seen.{unseen}
 use Rattle.av_rmap.specs.Unmap.{away}
 use Rattle.av_rmap.proofs.SeenLemmas.{unseen-other}
@@ -72,6 +72,25 @@ unseen-view old new f rest are = ap (λ (k : Mem). view k) rest ∙ ap (with_tab
   where
     tables : table_of new ≡ (λ p page. option_map (pte_unseen f) (table_of old p page))
     tables = λ i p page. (ap (λ (e : ℕ → ℕ → Pte). plain (e p page)) are ∙ plain-unseen f (entry_at old.tables p page)) i
+
+-- an entry that isn't seen
+unseen-itself : (f : ℕ) (e : Pte) → names_seen f e ≡ false → unseen f e ≡ e
+unseen-itself f Empty h = refl
+unseen-itself f Zero h = refl
+unseen-itself f (Here other write seen) h = ap (λ b. Here other write b) (by seen (f == other) h)
+  where
+    by : (a b : Bool) → (b && a) ≡ false → (a && not b) ≡ a
+    by true true h = sym h
+    by true false h = refl
+    by false b h = refl
+unseen-itself f (Away slot) h = refl
+
+-- where no entry is seen
+pub unseen-still : (k : Mem) (f : ℕ) → ((p page : ℕ) → names_seen f (entry_at k.tables p page) ≡ false) → view_unseen f (view k) ≡ view k
+unseen-still k f none = ap (with_table k) tables
+  where
+    tables : (λ p page. option_map (pte_unseen f) (table_of k p page)) ≡ table_of k
+    tables = λ i p page. (sym (plain-unseen f (entry_at k.tables p page)) ∙ ap plain (unseen-itself f (entry_at k.tables p page) (none p page))) i
 
 -- the entries are counted at the slot, go, and are counted no more at the frame
 pub away-view : (old between mid new : Mem) (f : ℕ) (s : Slot) → between ≡ record old { swap = between.swap }

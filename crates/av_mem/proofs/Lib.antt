@@ -9,7 +9,7 @@ pub mod StepLaws
 mod CacheLaws
 mod DropLaws
 mod LoadLaws
-mod ChainLaws
+pub mod ChainLaws
 pub mod EntryViews
 pub mod EntryComes
 pub mod EntryCounts

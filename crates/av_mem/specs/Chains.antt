@@ -1,12 +1,12 @@
 -- What is reached of the entries of a frame, or of its slot, through its home, and how many it has.
-use Rattle.std.specs.Prelude.{◌≡◌, ℕ, List, length}
+use Rattle.std.specs.Prelude.{ℕ}
 use Rattle.av_base.specs.declared.slot.Slot.{Slot}
 use Rattle.av_anon.specs.Anons.{family}
 use Rattle.av_anon.specs.Spans.{spans_of}
 use Rattle.av_pagetable.specs.Entries.{entry_at}
 use Rattle.av_rmap.specs.Covered.{IsCoveredFrom}
 use Rattle.av_rmap.specs.View.{View, view_with}
-use Rattle.av_rmap.specs.Walk.{AreItsEntries, Key, names_frame, names_slot}
+use Rattle.av_rmap.specs.Walk.{HasSoMany, names_frame, names_slot}
 use Rattle.av_spaces.specs.Spaces.{AreNumbered}
 use Rattle.av_vma.specs.Areas.{area_of}
 use Rattle.av_mem.specs.Mem.{view}
@@ -28,5 +28,4 @@ AreSlotReached k s f =
 
 -- as many entries name the frame as its map count says
 abbrev pub AreCounted : Mem → ℕ → Type 0
-AreCounted k f = (keys : List Key) → AreItsEntries (reach k) (names_frame f) keys
-    → length keys ≡ (view k).maps f
+AreCounted k f = HasSoMany (reach k) (names_frame f) ((view k).maps f)

@@ -17,7 +17,7 @@ ghost use Rattle.av_mem.specs.Steps.{KeepsParts};
 
 use crate::mem::Mem;
 use av_base::{Slot, Steps};
-use av_rmap::seen::{any_seen, clear_seen};
+use av_rmap::seen::clear_seen;
 use av_rmap::sorted::walk_slot;
 use av_rmap::stores::{Stores, StoresMut};
 use av_rmap::unmap::unmap;
@@ -45,16 +45,20 @@ impl Mem {
         Ok(())
     }
 
-    /// No entry of a frame is seen any more.
-    pub fn unsee(&mut self, frame: u32)
+    /// No entry of a frame is seen any more. Answers whether one was.
+    pub fn unsee(&mut self, frame: u32) -> bool
         requires anons { AnonsFit self.old.spaces self.old.anons }
         requires in_range { frame < frame_count self.old }
         requires reached { AreReached self.old frame }
         requires counted { AreCounted self.old frame }
+        ensures seen { MatchBool result
+            ((k : Key) × (names_seen frame (entry_at self.old.tables k.0 k.1) ≡ true))
+            ((process page : ℕ)
+            → names_seen frame (entry_at self.old.tables process page) ≡ false) }
         ensures unseen { view self.new ≡ view_unseen frame (view self.old) }
         ensures parts { KeepsParts self.old self.new }
     {
-        self.clear::<Brand>(frame, Blank::new(1));
+        self.clear::<Brand>(frame, Blank::new(1))
     }
 
     /// Process and page of each entry that names a slot which the frame caches, once, by process
@@ -117,47 +121,6 @@ impl Mem {
         )
     }
 
-    /// Whether an entry that names a frame is seen.
-    pub fn is_seen(&self, frame: u32) -> bool
-        requires anons { AnonsFit self.now.spaces self.now.anons }
-        requires in_range { frame < frame_count self.now }
-        requires reached { AreReached self.now frame }
-        requires counted { AreCounted self.now frame }
-        ensures { MatchBool result
-            ((k : Key) × (names_seen frame (entry_at self.now.tables k.0 k.1) ≡ true))
-            ((process page : ℕ)
-            → names_seen frame (entry_at self.now.tables process page) ≡ false) }
-    {
-        self.any_seen::<Brand>(frame, Blank::new(1))
-    }
-
-    // The same. Nobody counts the looks.
-    fn any_seen<L: Ledger>(&self, frame: u32, blank: Blank) -> bool
-        requires name { blank.name ≡ L.name }
-        requires parts { blank.parts ≡ L.parts }
-        requires some { 0 < blank.parts }
-        requires anons { AnonsFit self.now.spaces self.now.anons }
-        requires in_range { frame < frame_count self.now }
-        requires reached { AreReached self.now frame }
-        requires counted { AreCounted self.now frame }
-        ensures { MatchBool result
-            ((k : Key) × (names_seen frame (entry_at self.now.tables k.0 k.1) ≡ true))
-            ((process page : ℕ)
-            → names_seen frame (entry_at self.now.tables process page) ≡ false) }
-    {
-        let areas = self.spaces.by_number();
-        let Some(home) = self.frames.home(frame) else {
-            return false;
-        };
-        let mut steps = Steps::<L>::open(blank);
-        let stores = Stores {
-            areas,
-            anons: &self.anons,
-            tables: &self.tables,
-        };
-        any_seen(&stores, frame, home, self.frames.maps(frame), &mut steps)
-    }
-
     // Each entry that names a frame names the slot then. Nobody counts the looks.
     fn send_away<L: Ledger>(&mut self, frame: u32, slot: Slot, blank: Blank)
         requires name { blank.name ≡ L.name }
@@ -185,8 +148,8 @@ impl Mem {
         }
     }
 
-    // No entry that names a frame is seen then. Nobody counts the looks.
-    fn clear<L: Ledger>(&mut self, frame: u32, blank: Blank)
+    // No entry that names a frame is seen then. Answers whether one was. Nobody counts the looks.
+    fn clear<L: Ledger>(&mut self, frame: u32, blank: Blank) -> bool
         requires name { blank.name ≡ L.name }
         requires parts { blank.parts ≡ L.parts }
         requires some { 0 < blank.parts }
@@ -194,6 +157,10 @@ impl Mem {
         requires in_range { frame < frame_count self.old }
         requires reached { AreReached self.old frame }
         requires counted { AreCounted self.old frame }
+        ensures seen { MatchBool result
+            ((k : Key) × (names_seen frame (entry_at self.old.tables k.0 k.1) ≡ true))
+            ((process page : ℕ)
+            → names_seen frame (entry_at self.old.tables process page) ≡ false) }
         ensures entries { entry_at self.new.tables
             ≡ (λ process page. unseen frame (entry_at self.old.tables process page)) }
         ensures processes { has self.new.tables ≡ has self.old.tables }
@@ -201,14 +168,15 @@ impl Mem {
     {
         let areas = self.spaces.by_number();
         let maps = self.frames.maps(frame);
-        if let Some(home) = self.frames.home(frame) {
-            let mut steps = Steps::<L>::open(blank);
-            let mut stores = StoresMut {
-                areas,
-                anons: &self.anons,
-                tables: &mut self.tables,
-            };
-            clear_seen(&mut stores, frame, home, maps, &mut steps);
-        }
+        let Some(home) = self.frames.home(frame) else {
+            return false;
+        };
+        let mut steps = Steps::<L>::open(blank);
+        let mut stores = StoresMut {
+            areas,
+            anons: &self.anons,
+            tables: &mut self.tables,
+        };
+        clear_seen(&mut stores, frame, home, maps, &mut steps)
     }
 }

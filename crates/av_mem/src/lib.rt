@@ -24,8 +24,8 @@
 //! `walk` gives the entries of a frame: proved for every state that the memory system stands for,
 //! with the number of its steps. It is one call of av_rmap's `walk_frame`, which looks through the
 //! trait `Look` alone, no more often than it takes steps. Not proved: that nothing which holds a
-//! `Mem`, `walk` among it, asks the tables past that trait; and how often `unmap`, `unsee`,
-//! `namers` and `is_seen` look, whose steps nobody counts.
+//! `Mem`, `walk` among it, asks the tables past that trait; and how often `unmap`, `unsee` and
+//! `namers` look, whose steps nobody counts.
 #![tactic(auto)]
 
 mod cache;
