@@ -28,7 +28,7 @@ CARRIERS = {
     "av_interval": "Spans search",
     "av_chain": "Links unlink_from each_link_stands_once",
     "av_anon": "Anons order kin",
-    "av_rmap": "walk walk_sorted walk_frame walk_slot any_seen clear_seen unmap",
+    "av_rmap": "walk walk_sorted walk_frame walk_slot clear_seen unmap",
     "av_vmatree": "Tree",
     "av_merge": "map unmap modify move_range grow prepare fork unmap_all "
     "parts_are_changed_page_by_page",

@@ -2,5 +2,6 @@ pub mod OneNote
 pub mod StepMakes
 pub mod FinishMakes
 mod PutMakes
+mod SeenMakes
 pub mod ReadLaws
 pub mod CommandLaws

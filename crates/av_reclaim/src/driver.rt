@@ -45,10 +45,6 @@ impl<'a, D: SwapDev> System for Driver<'a, D> {
         self.mem.frames.dirty(frame)
     }
 
-    fn is_referenced(&self, frame: u32) -> bool {
-        self.mem.is_seen(frame)
-    }
-
     fn is_in_flight(&self, slot: Slot) -> bool {
         self.mem.swap.in_flight(slot)
     }
@@ -112,14 +108,19 @@ impl<'a, D: SwapDev> System for Driver<'a, D> {
         self.mem.drop_slot(slot);
     }
 
+    fn keep_referenced(&mut self, frame: u32) -> bool {
+        let seen = self.mem.unsee(frame);
+        if seen {
+            self.mem.to_active(frame);
+        }
+        seen
+    }
+
     fn keep(&mut self, frame: u32, cause: Cause) {
         match cause {
             Cause::Writeback | Cause::WriteStarted => self.mem.to_head(frame),
             Cause::NoSlot => self.mem.to_active(frame),
-            Cause::Referenced => {
-                self.mem.unsee(frame);
-                self.mem.to_active(frame);
-            }
+            Cause::Referenced => unreachable!(),
         }
     }
 

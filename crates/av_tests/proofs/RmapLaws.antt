@@ -12,7 +12,7 @@ use Rattle.av_merge.proofs.PlacingLaws.{within_parts}
 use Rattle.av_rmap.specs.Covered.{IsCovered, IsReached}
 use Rattle.av_rmap.specs.Seen.{unseen, with_unseen}
 use Rattle.av_rmap.specs.View.{AreApart, View, view_with}
-use Rattle.av_rmap.specs.Walk.{AreItsEntries, Key, is_held, names_frame}
+use Rattle.av_rmap.specs.Walk.{AreItsEntries, HasSoMany, Key, is_held, names_frame}
 use Rattle.av_rmap.proofs.Counting.{keys-as-long}
 use Rattle.av_rmap.proofs.LinkedAreas.{spans-are-areas}
 use Rattle.av_vma.specs.Index.{index_of}
@@ -210,7 +210,7 @@ module _ (areas : ℕ → Option Area) (f : Family) (spans : ℕ → List Span) 
       by false true e d = refl
       by false false e d = refl
 
-  pub exactly_two : (keys : List Key) → AreItsEntries (view_with areas f spans entry) (names_frame 7) keys → length keys ≡ 2
+  pub exactly_two : HasSoMany (view_with areas f spans entry) (names_frame 7) 2
   exactly_two keys its = keys-as-long keys ((1, 11) ∷ (2, 11) ∷ []) (λ k. its k ∙ sym (two_entries k))
 
   pub two_at_most : (keys : List Key) → AreItsEntries (view_with areas f spans entry) (names_frame 7) keys → length keys ≤ 2
@@ -245,7 +245,6 @@ names_as_before frame (Here frame_there write seen) = refl
 names_as_before frame (Away slot) = refl
 
 pub as_many_as_before : (old new : View) (frame n : ℕ) → new ≡ with_unseen frame old
-    → ((keys : List Key) → AreItsEntries old (names_frame frame) keys → length keys ≡ n)
-    → (keys : List Key) → AreItsEntries new (names_frame frame) keys → length keys ≡ n
+    → HasSoMany old (names_frame frame) n → HasSoMany new (names_frame frame) n
 as_many_as_before old new frame n is many keys its = many keys (λ k. its k
     ∙ ap (λ (v : View). one_if (names_frame frame (v.entry k.0 k.1))) is ∙ ap one_if (names_as_before frame (old.entry k.0 k.1)))

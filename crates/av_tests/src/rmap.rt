@@ -1,18 +1,17 @@
 //! A walk finds the entries of two processes that share a frame, and their seen bits are cleared.
 
-ghost use Rattle.std.specs.Prelude.{◌≡◌, ℕ, ◌+◌, ◌<◌, ◌≤◌, ◌++◌, List, [], ◌∷◌, false, length};
-ghost use Rattle.std.specs.Prelude.{None, Some, IfOk, OnOk};
+ghost use Rattle.std.specs.Prelude.{◌≡◌, ℕ, ◌+◌, ◌<◌, ◌++◌, [], ◌∷◌, false, None, Some, IfOk};
+ghost use Rattle.std.specs.Prelude.{OnOk};
 ghost use Rattle.av_anon.specs.Anons.{family, nobody, own_of};
 ghost use Rattle.av_anon.specs.Order.{IsArea};
 ghost use Rattle.av_anon.specs.Spans.{spans_of};
-ghost use Rattle.av_base.specs.Words.{how_many, with_at};
-ghost use Rattle.av_interval.specs.Search.{overlaps};
+ghost use Rattle.av_base.specs.Words.{with_at};
 ghost use Rattle.av_merge.specs.Kin.{AreInOrder};
 ghost use Rattle.av_pagetable.specs.Entries.{entry_at, has};
 ghost use Rattle.av_rmap.specs.Covered.{IsCovered};
 ghost use Rattle.av_rmap.specs.Stores.{view_of_mut};
 ghost use Rattle.av_rmap.specs.View.{AreApart, AreSpanned};
-ghost use Rattle.av_rmap.specs.Walk.{AreItsEntries, Key, names_frame};
+ghost use Rattle.av_rmap.specs.Walk.{HasSoMany, names_frame};
 ghost use Rattle.av_tests.specs.Rmap.{AreThree, shared_entries};
 ghost use Rattle.av_vma.specs.Areas.{area_of};
 
@@ -21,7 +20,7 @@ use av_anon::order::nobody_is_in_order;
 use av_base::{PAGE_SIZE, Prot, Steps};
 use av_pagetable::{PageTable, Pte, Tables};
 use av_rmap::look::LookMut;
-use av_rmap::seen::{any_seen, clear_seen};
+use av_rmap::seen::clear_seen;
 use av_rmap::sorted::walk_frame;
 use av_rmap::stores::StoresMut;
 use av_vma::{Area, AreaId, Areas};
@@ -109,8 +108,8 @@ fn add_like(
 /// seen bits are cleared.
 type Found = (Vec<(u16, u64)>, (bool, bool));
 
-/// Whether a frame with this map count was accessed, and whether it still says so when its seen
-/// bits are cleared.
+/// Whether a frame with this map count was accessed, and whether it still says so once its seen
+/// bits were cleared.
 fn seen_and_then<K: LookMut<L>, L: Ledger>(
     look: &mut K,
     frame: u32,
@@ -121,12 +120,10 @@ fn seen_and_then<K: LookMut<L>, L: Ledger>(
     requires spanned { AreSpanned (K.view look.old) }
     requires apart { AreApart (K.view look.old) }
     requires covered { IsCovered (K.view look.old) (names_frame frame) home }
-    requires maps { (keys : List Key) → AreItsEntries (K.view look.old) (names_frame frame) keys
-        → length keys ≡ maps }
+    requires maps { HasSoMany (K.view look.old) (names_frame frame) maps }
 {
-    let before = any_seen(look, frame, home, maps, steps);
-    clear_seen(look, frame, home, maps, steps);
-    let after = any_seen(look, frame, home, maps, steps);
+    let before = clear_seen(look, frame, home, maps, steps);
+    let after = clear_seen(look, frame, home, maps, steps);
     (before, after)
 }
 
@@ -141,8 +138,7 @@ fn seen_in_stores<L: Ledger>(
     requires spanned { AreSpanned (view_of_mut stores.old) }
     requires apart { AreApart (view_of_mut stores.old) }
     requires covered { IsCovered (view_of_mut stores.old) (names_frame frame) home }
-    requires maps { (keys : List Key)
-        → AreItsEntries (view_of_mut stores.old) (names_frame frame) keys → length keys ≡ maps }
+    requires maps { HasSoMany (view_of_mut stores.old) (names_frame frame) maps }
     requires name { blank.name ≡ L.name }
     requires parts { blank.parts ≡ L.parts }
     requires some { 0 < blank.parts }
