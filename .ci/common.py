@@ -78,6 +78,27 @@ def bytes_of(shown):
     return re.sub(rb"\\x([0-9a-f]{2})", lambda it: bytes([int(it[1], 16)]), shown)
 
 
+def edit_of(file):
+    """What an edit says: its changes, each with its file, the old text and the new one; and what
+    its other lines say, by their first word. Lines of one kind in a row are lines of one text.
+    """
+    changes, others, place, kind = [], {}, "", ""
+    with open(file, encoding="utf-8") as it:
+        lines = it.read().splitlines()
+    for line in lines:
+        before, (kind, _, text) = kind, line.partition(":")
+        text = text[1:]
+        if kind == "file":
+            place = text
+        elif kind == "old" and before != "old":
+            changes.append((place, [text], []))
+        elif kind in ("old", "new"):
+            changes[-1][1 if kind == "old" else 2].append(text)
+        else:
+            others.setdefault(kind, []).append(text)
+    return [(place, "\n".join(old), "\n".join(new)) for place, old, new in changes], others
+
+
 class Session:
     """A session as the documents show it, in a block of code: `$ avsim run FRAMES`, lines behind
     `> `, and each one's reply below it. Where swap files are named, a `$ tools/make-swap` of each

@@ -1,0 +1,10 @@
+use Rattle.std.proofs.Common.{◌≡◌, [], ◌∷◌}
+use Rattle.std.specs.Prelude.{pos, negsuc}
+use Rattle.av_plain.specs.Event.{TurnedOn}
+use Rattle.av_laws.specs.Examples.{swap_area}
+
+differ : TurnedOn 0 (swap_area 7 0) ∷ [] ≡ TurnedOn 0 (record (swap_area 7 0) { priority = pos 0 }) ∷ [] → ⊥
+differ e = cc
+
+pub returns-clause-without_priority : goal.returns-clause-without_priority
+returns-clause-without_priority c h = differ h.answer.1
