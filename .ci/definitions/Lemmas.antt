@@ -14,6 +14,7 @@ use Rattle.av_trace.specs.declared.note.Note.TheVariants.{Dropped}
 use Rattle.av_plain.specs.Device.{Device}
 use Rattle.av_plain.specs.Ledger.{Entry, Ledger, Setting, entry, slot_of, has_free, may_give}
 use Rattle.av_plain.specs.Stands.{IsKept, View}
+use Rattle.av_plain.specs.Swapoff.{Close, Closed, NoRoom, Unread, turn_off_events}
 use Rattle.av_plain.specs.World.{pages}
 use Rattle.av_laws.specs.Examples.{page_with, with_byte}
 use Rattle.av_plain.specs.Event.{Event, after_notes, note_events, notes_of}
@@ -97,3 +98,15 @@ only_page v d l none there p page = by (p == 1) refl (page == 0x7fffffffe) refl
     by false x b y = subst (IsKept v d l (entry l (p, page)))
         (sym (ap (λ c. option_and_then (λ q. q page) (cond c (Some (with_byte 7)) None)) (unsigned_tied p 1 ∙ x)))
         (none (entry l (p, page)))
+
+-- the notes of a swapoff: those of the writes that end, and those of the slots
+pub turned_off : (given done notes : List Note) (events : List Event) (k : ℕ) (end : Close)
+    → given ≡ notes_of events → events ≡ note_events (done ++ notes) ++ turn_off_events k end
+    → given ≡ done ++ notes
+turned_off given done notes events k end e h = e ∙ ap notes_of h ∙ same (done ++ notes) end
+  where
+    same : (notes : List Note) (end : Close) → notes_of (note_events notes ++ turn_off_events k end) ≡ notes
+    same [] Closed = refl
+    same [] (NoRoom out) = refl
+    same [] Unread = refl
+    same (note ∷ notes) end = ap (λ rest. note ∷ rest) (same notes end)

@@ -5,7 +5,7 @@ use Rattle.av_laws.specs.Examples.{slot}
 use Rattle.av_laws.specs.SwapSteps.{both_written}
 
 pub returns-clause-second_too : goal.returns-clause-second_too
-returns-clause-second_too c no = no (
+returns-clause-second_too c never = never (
   note_events both_written,
   record {
     answer = (both_written, (1, (false, Written (slot 1) ∷ [], refl, (false, [], refl, refl))), refl, refl, refl);
