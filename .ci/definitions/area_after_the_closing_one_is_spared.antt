@@ -48,12 +48,12 @@ first here rest x e =
     let tail = map_notes (after_notes now x.fetched) (slot 1) x.frame in
     let turns = turns_of one_frame_two_areas spared now takes.sought refl refl takes.seeks in
     let one = e ∙ ap (λ n. n ++ rest) (x.whole ∙ ap (λ n. n ++ tail) takes.whole) in
-    turn turns.0 turns.1 takes.sought (Loaded (slot 1) takes.frame ∷ tail ++ rest) _ turns.2 turns.3
-    (one ∙ moved takes.sought (Loaded (slot 1) takes.frame) tail rest)
+    turn turns.0 turns.1 takes.sought (((Loaded (slot 1) takes.frame ∷ []) ++ tail) ++ rest) _ turns.2 turns.3
+    (one ∙ moved takes.sought (Loaded (slot 1) takes.frame ∷ []) tail rest)
   where
-    moved : (a : List Note) (n : Note) (b d : List Note) → ((a ++ n ∷ []) ++ b) ++ d ≡ a ++ n ∷ b ++ d
-    moved [] n b d = refl
-    moved (x ∷ a) n b d = ap (λ r. x ∷ r) (moved a n b d)
+    moved : (a b d r : List Note) → ((a ++ b) ++ d) ++ r ≡ a ++ ((b ++ d) ++ r)
+    moved [] b d r = refl
+    moved (x ∷ a) b d r = ap (λ n. x ∷ n) (moved a b d r)
 
 -- an end at that slot isn't answered so
 ends : (free : Bool) (out : OutOf) (end : Close) → end ≡ (if free then Unread else NoRoom out) → Done ≡ close_answer end → ⊥
