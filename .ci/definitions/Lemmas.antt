@@ -58,13 +58,6 @@ told given notes events e h = e ∙ ap notes_of h ∙ same notes
     same [] = refl
     same (note ∷ notes) = ap (λ rest. note ∷ rest) (same notes)
 
--- the slots of two notes are on one page
-pub dropped_same : {s t : Slot} → Dropped s ∷ [] ≡ Dropped t ∷ [] → s.page ≡ t.page
-dropped_same {s} {t} e = ap (λ (s : Slot). s.page) (inner e)
-  where
-    inner : Dropped s ∷ [] ≡ Dropped t ∷ [] → s ≡ t
-    inner e = cc
-
 -- the bytes of a page that begins with 7
 seven_then : (rest : List ℕ) → ((i : ℕ) → i < 4095 → get_or rest i 0 ≡ 0) → (i : ℕ) → i < 4096
     → slice_index (7 ∷ rest) i ≡ (if i == 0 then 7 else 0)

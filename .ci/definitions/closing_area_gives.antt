@@ -6,9 +6,3 @@ pub returns-clause-from_none : goal.returns-clause-from_none
 returns-clause-from_none c never =
     let given = may two_swaps (Some 1) (lower_in_use 2) (one_put (slot_at 1 1)) (lower_given 2) (1 ∷ 2 ∷ 3 ∷ []) refl refl in
     never given.0 given.1
-
-past_a_closing_differs : ◌≡◌ {A = Option ℕ} (Some 0) (Some 1) → ⊥
-past_a_closing_differs e = cc
-
-pub returns-clause-past_a_closing : goal.returns-clause-past_a_closing
-returns-clause-past_a_closing c h = past_a_closing_differs h.1.1.slots.3.0

@@ -56,11 +56,3 @@ returns-clause-unmapped_in_turn c h =
     let t = h.1.answer in
     let e = turned_off unmapped_in_turn t.done t.notes h.0 0 t.end h.1.notes t.whole in
     by t.done t.pages t.notes t.end t.completes t.empties t.answered e
-
-cached_there_fails_differs : cached_there_fails ≡ [] → ⊥
-cached_there_fails_differs e = cc
-
-pub returns-clause-cached_there_fails : goal.returns-clause-cached_there_fails
-returns-clause-cached_there_fails c h =
-    cached_there_fails_differs (turns_of (with_swap 1 3 2) (sparing_area [] 0 (cached_by_second true)) (cached_by_second true)
-    cached_there_fails refl refl h.1)

@@ -7,12 +7,6 @@ use Rattle.av_trace.specs.declared.note.Note.TheVariants.{Put}
 use Rattle.av_laws.specs.Slots.{lower_given, slot_at, two_swaps, upper_before_lower}
 use Rattle.std.proofs.Common.{◌≡◌, ℕ, Option, Some, List, ◌∷◌, refl}
 
-put_at_greatest_differs : ◌≡◌ {A = Option ℕ} (Some 0) (Some 1) → ⊥
-put_at_greatest_differs e = cc
-
-pub returns-clause-put_at_greatest : goal.returns-clause-put_at_greatest
-returns-clause-put_at_greatest c h = put_at_greatest_differs h.1.1.slots.3.0
-
 -- the slots without the first of area 0
 abbrev rest : AreaSlots
 rest = let slots = (lower_given 0).slots in with_at 0 (unwrap_or (take_slot (slots 0)) (0, fresh 0 [])).1 slots

@@ -1,4 +1,0 @@
-use Rattle.std.specs.Prelude.{refl}
-
-pub returns-clause-left_named : goal.returns-clause-left_named
-returns-clause-left_named c = (refl, refl)
