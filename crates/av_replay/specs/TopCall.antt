@@ -1,11 +1,14 @@
 -- What the top call makes of the command line's words.
-use Rattle.std.specs.Prelude.{◌≡◌, ◌≢◌, ℕ, List, Option, None}
+use Rattle.std.specs.Prelude.{◌≡◌, ◌≢◌, ◌⊎◌, ℕ, List, Option, None, length}
 use Rattle.av_kernel.specs.Machine.{Machine}
-use Rattle.av_words.specs.Words.{HasNoForm}
+use Rattle.av_words.specs.Words.{HasNoForm, IsForm}
+use Rattle.av_words.specs.declared.words.Asked.{Asked}
 use Rattle.av_words.specs.declared.words.WordsErr.{WordsErr}
 use Rattle.av_words.specs.declared.words.WordsErr.TheVariants as errors
 use Rattle.av_replay.specs.declared.status.Status.{Status}
 use Rattle.av_replay.specs.declared.status.Status.TheVariants as statuses
+use Rattle.av_replay.specs.Attach.{AttachesFewer}
+use Rattle.av_replay.specs.Over.{DoesOver}
 use Rattle.av_replay.specs.Ports.{PortsView}
 
 -- how a run ends whose words could not be read
@@ -25,3 +28,16 @@ pub record WantsForWords (status : Status) (old new : PortsView) (kernel : Optio
   pub wanting : status ≡ statuses.Memory
   pub same : new ≡ old
   pub none : kernel ≡ None
+
+-- it did what the words ask for; or memory was wanting for them
+abbrev pub DoesAsked :
+    List (List ℕ) → Status → PortsView → PortsView → Option Machine → Type 0
+DoesAsked words status old new kernel =
+    WantsForWords status old new kernel ⊎ ((demand : Asked) × (names : List (List ℕ))
+    × IsForm words demand names × DoesOver demand (length names) status old new kernel)
+
+-- fewer areas are attached than the words name
+abbrev pub AttachesFewerAsked : List (List ℕ) → (ℕ → Option ℕ) → Type 0
+AttachesFewerAsked words sizes =
+    (demand : Asked) × (names : List (List ℕ)) × IsForm words demand names
+    × AttachesFewer (length names) sizes

@@ -1,15 +1,13 @@
 //! The top call.
 
-ghost use Rattle.std.specs.Prelude.{◌≡◌, ◌≢◌, ◌⊎◌, ℕ, List, None, is_some, length, map};
+ghost use Rattle.std.specs.Prelude.{◌≡◌, ◌≢◌, ℕ, List, None, is_some, map};
 ghost use Rattle.std.specs.Prelude.{string_bytes};
 ghost use Rattle.av_io.specs.Count.{Rose};
-ghost use Rattle.av_replay.specs.Attach.{AttachesFewer, HasNone};
-ghost use Rattle.av_replay.specs.Over.{DoesOver};
+ghost use Rattle.av_replay.specs.Attach.{HasNone};
 ghost use Rattle.av_replay.specs.Ports.{ports_by};
 ghost use Rattle.av_replay.specs.Replay.{can_go_on};
-ghost use Rattle.av_replay.specs.TopCall.{RefusesWords, WantsForWords, status_of};
+ghost use Rattle.av_replay.specs.TopCall.{AttachesFewerAsked, DoesAsked, RefusesWords, status_of};
 ghost use Rattle.av_words.specs.Words.{IsForm};
-ghost use Rattle.av_words.specs.declared.words.Asked.{Asked};
 ghost use Rattle.av_words.specs.declared.words.Asked.TheVariants as asked;
 
 use crate::outcome::Outcome;
@@ -62,18 +60,14 @@ pub fn run<S: Source, K: Sink, D: SwapDev, P: Progress>(
     progress: &mut P,
 ) -> Outcome
     requires none { HasNone (D.sizes dev.old) }
-    // What was read, done and written, by the status, over the device with as many areas attached
-    // as the words name; and what the kernel handed back stands for, with the device as it is then;
-    // what failed is what the status tells of; and no text was kept back while a read was waited
-    // for, nor is in the end, unless the sink failed, or memory was wanting before its first call.
-    // Or memory was wanting for the words themselves, and nothing was done.
+    // What was read, done and written, by the status, over the device with the areas that the words
+    // name; what the kernel handed back stands for, with the device as it is then; what failed is
+    // what the status tells of; and no text was kept back while a read was waited for, nor is in the
+    // end, unless the sink failed, or memory was wanting before its first call, or for the words.
     ensures does { let at = ports_by S.view K.view D.sizes D.pages D.failures in
-        result.status ≢ Status.Usage → result.status ≢ Status.AttachFault → (WantsForWords
-        result.status (at source.old sink.old dev.old) (at source.new sink.new dev.new)
-        result.kernel) ⊎ ((demand : Asked) × (names : List (List ℕ))
-        × IsForm (map string_bytes words.now) demand names
-        × DoesOver demand (length names) result.status
-        (at source.old sink.old dev.old) (at source.new sink.new dev.new) result.kernel) }
+        result.status ≢ Status.Usage → result.status ≢ Status.AttachFault
+        → DoesAsked (map string_bytes words.now) result.status
+        (at source.old sink.old dev.old) (at source.new sink.new dev.new) result.kernel }
     // For a load nothing is read.
     ensures unread { (seed lines frames : ℕ) (names : List (List ℕ))
         → IsForm (map string_bytes words.now) (asked.Work seed lines frames) names
@@ -88,9 +82,8 @@ pub fn run<S: Source, K: Sink, D: SwapDev, P: Progress>(
     ensures fault { result.status ≡ Status.AttachFault →
         Rose (D.failures dev.old) (D.failures dev.new)
         × (source.new ≡ source.old) × (sink.new ≡ sink.old) }
-    ensures fewer { result.status ≡ Status.AttachFault → (demand : Asked)
-        × (names : List (List ℕ)) × IsForm (map string_bytes words.now) demand names
-        × AttachesFewer (length names) (D.sizes dev.new) }
+    ensures fewer { result.status ≡ Status.AttachFault
+        → AttachesFewerAsked (map string_bytes words.now) (D.sizes dev.new) }
     // A kernel is handed back exactly where there is one to go on with.
     ensures kernel { is_some result.kernel ≡ can_go_on result.status }
 {
