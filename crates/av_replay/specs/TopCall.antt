@@ -3,6 +3,7 @@ use Rattle.std.specs.Prelude.{◌≡◌, ◌≢◌, ◌⊎◌, ℕ, List, Option
 use Rattle.av_kernel.specs.Machine.{Machine}
 use Rattle.av_words.specs.Words.{HasNoForm, IsForm}
 use Rattle.av_words.specs.declared.words.Asked.{Asked}
+use Rattle.av_words.specs.declared.words.Asked.TheVariants as asked
 use Rattle.av_words.specs.declared.words.WordsErr.{WordsErr}
 use Rattle.av_words.specs.declared.words.WordsErr.TheVariants as errors
 use Rattle.av_replay.specs.declared.status.Status.{Status}
@@ -35,6 +36,12 @@ abbrev pub DoesAsked :
 DoesAsked words status old new kernel =
     WantsForWords status old new kernel ⊎ ((demand : Asked) × (names : List (List ℕ))
     × IsForm words demand names × DoesOver demand (length names) status old new kernel)
+
+-- the words ask for a load
+abbrev pub AskForLoad : List (List ℕ) → Type 0
+AskForLoad words =
+    (seed lines frames : ℕ) × (names : List (List ℕ))
+    × IsForm words (asked.Work seed lines frames) names
 
 -- fewer areas are attached than the words name
 abbrev pub AttachesFewerAsked : List (List ℕ) → (ℕ → Option ℕ) → Type 0

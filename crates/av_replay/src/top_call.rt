@@ -1,14 +1,13 @@
 //! The top call.
 
-ghost use Rattle.std.specs.Prelude.{◌≡◌, ◌≢◌, ℕ, List, None, is_some, map};
+ghost use Rattle.std.specs.Prelude.{◌≡◌, ◌≢◌, None, is_some, map};
 ghost use Rattle.std.specs.Prelude.{string_bytes};
 ghost use Rattle.av_io.specs.Count.{Rose};
 ghost use Rattle.av_replay.specs.Attach.{HasNone};
 ghost use Rattle.av_replay.specs.Ports.{ports_by};
 ghost use Rattle.av_replay.specs.Replay.{can_go_on};
-ghost use Rattle.av_replay.specs.TopCall.{AttachesFewerAsked, DoesAsked, RefusesWords, status_of};
-ghost use Rattle.av_words.specs.Words.{IsForm};
-ghost use Rattle.av_words.specs.declared.words.Asked.TheVariants as asked;
+ghost use Rattle.av_replay.specs.TopCall.{AskForLoad, AttachesFewerAsked, DoesAsked, RefusesWords};
+ghost use Rattle.av_replay.specs.TopCall.{status_of};
 
 use crate::outcome::Outcome;
 use crate::over::run_over;
@@ -69,9 +68,7 @@ pub fn run<S: Source, K: Sink, D: SwapDev, P: Progress>(
         → DoesAsked (map string_bytes words.now) result.status
         (at source.old sink.old dev.old) (at source.new sink.new dev.new) result.kernel }
     // For a load nothing is read.
-    ensures unread { (seed lines frames : ℕ) (names : List (List ℕ))
-        → IsForm (map string_bytes words.now) (asked.Work seed lines frames) names
-        → source.new ≡ source.old }
+    ensures unread { AskForLoad (map string_bytes words.now) → source.new ≡ source.old }
     // Bad words, and they alone, are a usage error, unless memory was wanting for them; and then
     // nothing is attached, read or written.
     ensures usage { RefusesWords result.status (map string_bytes words.now) }
