@@ -223,7 +223,7 @@ const LONG: [Long; 6] = [
 ];
 
 /// Two texts, one behind the other.
-fn joined(alloc: Global, front: &[u8], back: &[u8]) -> Result<Vec<u8>, AllocError> {
+fn concat(alloc: Global, front: &[u8], back: &[u8]) -> Result<Vec<u8>, AllocError> {
     let mut both = Vec::from_slice(alloc, front)?;
     both.extend_from_slice(back)?;
     Ok(both)
@@ -250,14 +250,14 @@ fn goes_so<'a>(
 
 /// Whether a line behind the first one is the bad one.
 fn is_bad(alloc: Global, line: &[u8]) -> Result<bool, AllocError> {
-    let trace = joined(alloc, FIRST, line)?;
+    let trace = concat(alloc, FIRST, line)?;
     goes_so(alloc, &trace, Status::BadLine(2), 1, b"ok\n")
 }
 
 /// Whether it has this reply, which only a comment has not.
 fn has_reply(alloc: Global, line: &[u8], reply: &[u8]) -> Result<bool, AllocError> {
-    let trace = joined(alloc, FIRST, line)?;
-    let text = joined(alloc, b"ok\n", reply)?;
+    let trace = concat(alloc, FIRST, line)?;
+    let text = concat(alloc, b"ok\n", reply)?;
     let steps = if reply.is_empty() { 1 } else { 2 };
     goes_so(alloc, &trace, Status::Done, steps, &text)
 }

@@ -19,7 +19,8 @@ loop-turn-init g c = record {
       let k = g.S.System.view c.args.system.now told in
       let n = c.min-turns.result in
       let all : n - 0 ≡ n = omega arith in
-      midway-start _ _ (ReclaimsLeft k.setting k.closing (n - 0)) (ReclaimsLeft k.setting k.closing n) (λ l rest h. subst (λ x. ReclaimsLeft k.setting k.closing x l rest) all h);
+      midway-start _ _ (ReclaimsLeft k.setting k.closing (n - 0)) (ReclaimsLeft k.setting k.closing n)
+      (λ l rest h. subst (λ x. ReclaimsLeft k.setting k.closing x l rest) all h);
   left =
       let at = c.requires in
       let many = c.inactive_len.ensures false at.0 (loose _ _ at.0 at.1) at.2 in
