@@ -17,7 +17,9 @@ pub record Attaches (pages : List ℕ) (old new : Device) : Type 0 where
   pub told : is_some new.pages ≡ is_some old.pages
   pub failures : new.failures ≡ old.failures
 
--- fewer areas than names are attached: 0, 1, .. up to the name at which it failed, and no other
-abbrev pub AttachesFewer : ℕ → (ℕ → Option ℕ) → Type 0
-AttachesFewer names sizes =
-    (pages : List ℕ) × (length pages < names) × (sizes ≡ sizes_of pages)
+-- fewer areas than names are attached, from 0 on without a gap, and pages are told where they were
+-- told. By which of the names is not said, nor at which it failed
+abbrev pub AttachesFewer : ℕ → Device → Device → Type 0
+AttachesFewer names old new =
+    (pages : List ℕ) × (length pages < names) × (new.sizes ≡ sizes_of pages)
+    × (is_some new.pages ≡ is_some old.pages)

@@ -1,5 +1,6 @@
 -- What the top call makes of the command line's words.
 use Rattle.std.specs.Prelude.{◌≡◌, ◌≢◌, ◌⊎◌, ℕ, List, Option, None, length}
+use Rattle.av_plain.specs.Device.{Device}
 use Rattle.av_kernel.specs.Machine.{Machine}
 use Rattle.av_words.specs.Words.{HasNoForm, IsForm}
 use Rattle.av_words.specs.declared.words.Asked.{Asked}
@@ -44,7 +45,7 @@ AskForLoad words =
     × IsForm words (asked.Work seed lines frames) names
 
 -- fewer areas are attached than the words name
-abbrev pub AttachesFewerAsked : List (List ℕ) → (ℕ → Option ℕ) → Type 0
-AttachesFewerAsked words sizes =
+abbrev pub AttachesFewerAsked : List (List ℕ) → Device → Device → Type 0
+AttachesFewerAsked words old new =
     (demand : Asked) × (names : List (List ℕ)) × IsForm words demand names
-    × AttachesFewer (length names) sizes
+    × AttachesFewer (length names) old new

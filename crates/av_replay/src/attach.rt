@@ -10,7 +10,7 @@ use av_swapdev::{AttachErr, SwapDev};
 use std::alloc::Global;
 
 /// Attaches these names as the areas 0, 1, .. of a device that has none, and says how many pages
-/// each has. Where one can't be attached, those before it are, and no other.
+/// each has. Where one can't be attached fewer areas than names are, from 0 on without a gap.
 pub fn attach_all<D: SwapDev>(
     alloc: Global,
     names: &[&str],
@@ -24,7 +24,8 @@ pub fn attach_all<D: SwapDev>(
     ensures cause { IsErrOf result AttachErr.Failed →
         Rose (D.failures dev.old) (D.failures dev.new) }
     ensures fewer { IsErrOf result AttachErr.Failed →
-        AttachesFewer (length names.now) (D.sizes dev.new) }
+        AttachesFewer (length names.now) (seen_by D.sizes D.pages D.failures dev.old)
+        (seen_by D.sizes D.pages D.failures dev.new) }
     ensures wanting { IsErrOf result AttachErr.Memory → (pages : List ℕ)
         × (length pages ≤ length names.now)
         × Attaches pages (seen_by D.sizes D.pages D.failures dev.old)

@@ -83,7 +83,8 @@ pub fn run_over<S: Source, K: Sink, D: SwapDev>(
         Rose (D.failures dev.old) (D.failures dev.new)
         × (source.new ≡ source.old) × (sink.new ≡ sink.old) }
     ensures fewer { result.status ≡ Status.AttachFault →
-        AttachesFewer (length names.now) (D.sizes dev.new) }
+        AttachesFewer (length names.now) (seen_by D.sizes D.pages D.failures dev.old)
+        (seen_by D.sizes D.pages D.failures dev.new) }
     ensures kernel { is_some result.kernel ≡ can_go_on result.status }
 {
     match attach_all(alloc, names, dev) {

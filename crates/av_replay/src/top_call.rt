@@ -3,6 +3,7 @@
 ghost use Rattle.std.specs.Prelude.{◌≡◌, ◌≢◌, None, is_some, map};
 ghost use Rattle.std.specs.Prelude.{string_bytes};
 ghost use Rattle.av_io.specs.Count.{Rose};
+ghost use Rattle.av_kernel.specs.Step.{seen_by};
 ghost use Rattle.av_replay.specs.Attach.{HasNone};
 ghost use Rattle.av_replay.specs.Ports.{ports_by};
 ghost use Rattle.av_replay.specs.Replay.{can_go_on};
@@ -74,13 +75,14 @@ pub fn run<S: Source, K: Sink, D: SwapDev, P: Progress>(
     ensures usage { RefusesWords result.status (map string_bytes words.now) }
     ensures nothing { result.status ≡ Status.Usage
         → (source.new ≡ source.old) × (sink.new ≡ sink.old) × (dev.new ≡ dev.old) }
-    // An area can't be attached only where the device failed; then those named before it are, and
-    // nothing is read or written.
+    // An area can't be attached only where the device failed; then fewer are than names, from 0 on
+    // without a gap (which, isn't said), and nothing is read or written.
     ensures fault { result.status ≡ Status.AttachFault →
         Rose (D.failures dev.old) (D.failures dev.new)
         × (source.new ≡ source.old) × (sink.new ≡ sink.old) }
     ensures fewer { result.status ≡ Status.AttachFault
-        → AttachesFewerAsked (map string_bytes words.now) (D.sizes dev.new) }
+        → AttachesFewerAsked (map string_bytes words.now)
+        (seen_by D.sizes D.pages D.failures dev.old) (seen_by D.sizes D.pages D.failures dev.new) }
     // A kernel is handed back exactly where there is one to go on with.
     ensures kernel { is_some result.kernel ≡ can_go_on result.status }
 {

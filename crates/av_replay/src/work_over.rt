@@ -68,7 +68,8 @@ pub fn work_over<K: Sink, D: SwapDev, P: Progress>(
         Rose (D.failures dev.old) (D.failures dev.new)
         × (sink.new ≡ sink.old) }
     ensures fewer { result.status ≡ Status.AttachFault →
-        AttachesFewer (length names.now) (D.sizes dev.new) }
+        AttachesFewer (length names.now) (seen_by D.sizes D.pages D.failures dev.old)
+        (seen_by D.sizes D.pages D.failures dev.new) }
     ensures kernel { is_some result.kernel ≡ can_go_on result.status }
 {
     let mut source = WorkSource::new(names.len(), seed, lines, progress);
