@@ -39,12 +39,12 @@ CARRIERS = {
     "the_greatest_priority_gives no_device_has_no_failures "
     "no_area_on_has_no_failures",
     "av_laws": "refusals_change_nothing numbers_add_up replies_are_determined "
-    "replies_of_runs_are_read_back runs_lay_areas runs_cover_entries",
+    "replies_of_runs_are_read_back texts_of_runs_say_replies runs_lay_areas runs_cover_entries",
     "av_swap_laws": "frames_are_put slots_are_loaded slots_are_dropped soundness_goes_on",
     "av_evict": "System reclaim age complete seek",
     "av_spaces": "Spaces",
     "av_mem": "Mem Keeps KeepsBetween take_frame_of_zeros take_frame_for_copy count_each_for_child"
-    " let_go zap_range zap_all walk",
+    " zap_range zap_all walk",
     "av_reclaim": "Driver reclaim age complete seek",
     "av_swapoff": "SlotSystem swapoff",
     "av_fork": "fork_areas fork_entries",

@@ -153,7 +153,7 @@ pub trait System {
         ensures stays { (told : Bool) → Stays (view self.old told) (view self.new told) };
 
     /// Keeps a frame in use as referenced where an entry of it is seen: it goes to the head of
-    /// active, and is not seen any more. Answers whether that is so; where it isn't, nothing
+    /// active, and is not seen any more. Answers whether that is so; where it isn't, no ledger
     /// changes.
     fn keep_referenced(&mut self, frame: u32) -> bool
         requires { Knows (view self.old false) (IsUsed frame) }

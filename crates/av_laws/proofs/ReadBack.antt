@@ -64,7 +64,7 @@ use Rattle.av_plain.proofs.Access.{notes_of-append, notes_of-note_events}
 use Rattle.av_plain.proofs.Ledger.Walk.{all-walked, length-walk}
 use Rattle.av_plain.proofs.Report.Totals.{frames-add}
 use Rattle.av_plain.proofs.Sound.Bound.{map_count-few, slot_entries-few}
-use Rattle.av_laws.specs.ReadBack.{IsSmall, IsSmallArea, IsSmallLayout, IsSmallSetting, IsWideOn, IsWideRow}
+use Rattle.av_laws.specs.ReadBack.{IsSmall, IsSmallArea, IsSmallLayout, IsSmallSetting, IsWideOnAnswer, IsWideRow}
 use Rattle.av_laws.proofs.OutOfMemory.{close-adds-up, legal-adds}
 use Rattle.av_laws.proofs.ReadBack.Counts.{flight-few, free-few}
 use Rattle.av_laws.proofs.ReadBack.Notes.{AreNotes, accesses-fit, ages-fit, completes-fit, empties-fit, outcomes-fit, remap-fits, zaps-fit}
@@ -280,10 +280,10 @@ asked-wide command rows h = tt
 
 -- and where an area is turned on, what is answered where no header tells it
 abbrev pub AskedOn : Setting → Command → Answer → Type 0
-AskedOn m (Swapon k priority) answer = IsWideOn m answer
+AskedOn m (Swapon k priority) answer = IsWideOnAnswer m answer
 AskedOn m command answer = Unit {0}
 
-pub asked-on : (m : Setting) (command : Command) (answer : Answer) → IsWideOn m answer → AskedOn m command answer
+pub asked-on : (m : Setting) (command : Command) (answer : Answer) → IsWideOnAnswer m answer → AskedOn m command answer
 asked-on m (Swapon k priority) answer h = h
 asked-on m command answer h = tt
 
@@ -362,7 +362,7 @@ has-pages m w l k priority fine = by (no_device_at m k) (is_on l k) (size_of m k
 
 -- a header that is told, or what is answered without one
 turned-on-fits : (m : Setting) (k : ℕ) (priority : Option ℕ) (events : List Event) (answer : Answer) (rows : List Row) → IsSmallArea m k
-    → IsWideOn m answer → TurnsOn m k priority events answer rows → Fits events answer rows
+    → IsWideOnAnswer m answer → TurnsOn m k priority events answer rows → Fits events answer rows
 turned-on-fits m k priority events answer rows few on h = by m.headers refl h.0
   where
     is_this : (said : Answer) → answer ≡ said → notes_of (turn_on_events k priority said) ≡ [] → IsAnswer said
@@ -383,7 +383,7 @@ turned-on-fits m k priority events answer rows few on h = by m.headers refl h.0
     by (Some headers) told (inr e) = of_header headers told (headers k) refl e
     by None told (inr (inl e)) = is_this (Refused Einval) e refl tt (tt, refl)
     by None told (inr (inr q)) = is_this (On q.0 q.1) q.3 refl
-        (subst (λ o. MatchOption {T = ℕ → Option Layout} o (IsWide q.0 × IsWide q.1) (λ _. Unit {0})) told (subst (IsWideOn m) q.3 on)) (tt, refl)
+        (subst (λ o. MatchOption {T = ℕ → Option Layout} o (IsWide q.0 × IsWide q.1) (λ _. Unit {0})) told (subst (IsWideOnAnswer m) q.3 on)) (tt, refl)
 
 close-fits : (end : Close) → CloseFits (close_answer end) → (notes : List Note) → AreNotes notes
     → IsAnswer (close_answer end) × Follow (close_answer end) notes []

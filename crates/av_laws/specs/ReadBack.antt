@@ -51,9 +51,9 @@ IsWideRow row = Unit {0}
 
 -- and so is what `swapon` answers where headers aren't told: there a legal reply may say any number
 -- of slots but 0, and any of bad pages
-abbrev pub IsWideOn : Setting → Answer → Type 0
-IsWideOn m (On slots bad) = MatchOption m.headers (IsWide slots × IsWide bad) (λ _. Unit {0})
-IsWideOn m answer = Unit {0}
+abbrev pub IsWideOnAnswer : Setting → Answer → Type 0
+IsWideOnAnswer m (On slots bad) = MatchOption m.headers (IsWide slots × IsWide bad) (λ _. Unit {0})
+IsWideOnAnswer m answer = Unit {0}
 
 -- ---- the text of a run
 

@@ -15,26 +15,28 @@ ghost use Rattle.av_trace.specs.Command.{IsInRange};
 ghost use Rattle.av_text.specs.Number.{IsWide};
 ghost use Rattle.av_plain.specs.Device.{Device, HasNoDevice, setting_of};
 ghost use Rattle.av_trace.specs.Reply.{IsReply};
-ghost use Rattle.av_laws.specs.ReadBack.{IsSmall, IsSmallSetting, IsWideOn, IsWideRow};
+ghost use Rattle.av_laws.specs.ReadBack.{IsSmall, IsSmallSetting, IsWideOnAnswer, IsWideRow};
 ghost use Rattle.av_laws.specs.ReadBack.{text_of_run};
 
-/// A legal reply to a command with values in range is one that is read back from its text: its
-/// numbers are of 64 bits, its bytes below 256, and its rows as many as it says. This is so where
-/// the numbers of setting, memories and ledger are of 64 bits, and those that legality leaves open:
-/// what the rows of `areas` say beside pages (offsets, own anon_vmas and chains), and what `swapon`
-/// answers over a device that tells no header. In a run all these are so, as the next law says.
+/// A legal reply from a sound state to a command with values in range is read back from its text:
+/// its numbers are of 64 bits, its bytes below 256, and its rows as many as it says. This is so
+/// where the numbers of setting, memories and ledger are of 64 bits, and those that legality leaves
+/// open: what the rows of `areas` say beside pages (offsets, own anon_vmas and chains), and what
+/// `swapon` answers over a device that tells no header. In a run all these are so, as the next law
+/// says.
 pub fn replies_are_read_back()
     ensures { (m : Setting) (w : World) (l : Ledger) (command : Command) (reply : Reply)
         (events : List Event) → IsSmallSetting m → AllSound m w l → IsSmall w l
-        → IsInRange command → AllByRecursion IsWideRow reply.rows → IsWideOn m reply.answer
+        → IsInRange command → AllByRecursion IsWideRow reply.rows → IsWideOnAnswer m reply.answer
         → IsLegal m w l command reply events → IsReply reply }
 {}
 
 /// So is each reply of a run from nothing on, over any device, whether it tells its pages or not,
 /// where the numbers of its setting are of 64 bits, and the commands are at most 2^24, each with
 /// values in range. A command makes fewer than 2^36 anon_vmas, so those of a run have numbers of 64
-/// bits; and an area that is turned on has at most 1,048,576 pages. The setting is such over each
-/// device whose areas have pages of 64 bits, and over each machine without a device.
+/// bits; and an area that is turned on has at most 1,048,576 pages. The setting is such where the
+/// frames of the machine and the pages of each of its device's areas have numbers of 64 bits, and
+/// over each machine with such frames and no device.
 pub fn replies_of_runs_are_read_back()
     ensures in_runs { (m : Setting) (exchanges : List Exchange) (new : State) → IsSmallSetting m
         → length exchanges ≤ most_commands

@@ -73,9 +73,9 @@ impl<C: Level> Level for Dir<C> {
     }
 
     #[inline(always)]
-    fn near(&self, page: u64) -> Option<Pte> {
+    fn get_near(&self, page: u64) -> Option<Pte> {
         let span = C::span();
-        self.near_part(page / span)?.near(page % span)
+        self.near_part(page / span)?.get_near(page % span)
     }
 
     #[inline]

@@ -42,8 +42,9 @@ pub trait Level: Drop {
         requires fits { span ≤ page_bound }
         ensures { result ≡ at self.now page };
 
-    /// The entry of a page, where each part on the way to it is found at once.
-    fn near(&self, page: u64) -> Option<Pte>
+    /// The entry of a page, where each part on the way to it is found at once. None says nothing:
+    /// how often it answers is not proved.
+    fn get_near(&self, page: u64) -> Option<Pte>
         requires fits { span ≤ page_bound }
         ensures { IfSome result (λ entry. entry ≡ at self.now page) };
 

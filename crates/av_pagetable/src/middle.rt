@@ -58,8 +58,8 @@ impl Level for Middle {
     }
 
     #[inline(always)]
-    fn near(&self, page: u64) -> Option<Pte> {
-        self.tables.near(page)
+    fn get_near(&self, page: u64) -> Option<Pte> {
+        self.tables.get_near(page)
     }
 
     #[inline(always)]

@@ -40,7 +40,7 @@ impl Level for Pte {
         if page == 0 { *self } else { Pte::Empty }
     }
 
-    fn near(&self, page: u64) -> Option<Pte> {
+    fn get_near(&self, page: u64) -> Option<Pte> {
         if page == 0 { Some(*self) } else { None }
     }
 
@@ -108,7 +108,7 @@ impl Table for RadixTable {
     // has to be kept over one.
     #[inline(always)]
     fn get(&self, page: u64) -> Pte {
-        match self.top.near(page) {
+        match self.top.get_near(page) {
             Some(entry) => entry,
             None => self.find(page),
         }

@@ -52,7 +52,7 @@ abbrev pub AreItsEntries : View → (Pte → Bool) → List Key → Type 0
 AreItsEntries view passes keys = (k : Key)
     → how_many (same_key k) keys ≡ one_if (passes (view.entry k.0 k.1))
 
--- how many there are
+-- how many there are: who asks that has `IsCovered` as well, by which there is such a list
 abbrev pub HasSoMany : View → (Pte → Bool) → ℕ → Type 0
 HasSoMany view passes count =
     (keys : List Key) → AreItsEntries view passes keys → length keys ≡ count

@@ -44,7 +44,7 @@ use Rattle.av_plain.specs.World.{World}
 use Rattle.av_plain.specs.Zap.{keys_in, keys_of_process, orphan_drop, slot_behind_key, zap_of, zaps_of}
 use Rattle.av_plain.proofs.Mremap.{then_target}
 use Rattle.av_plain.proofs.Sound.There.{settle-on}
-use Rattle.av_laws.specs.ReadBack.{IsSmall, IsSmallArea, IsSmallLayout, IsSmallSetting, IsWideOn}
+use Rattle.av_laws.specs.ReadBack.{IsSmall, IsSmallArea, IsSmallLayout, IsSmallSetting, IsWideOnAnswer}
 use Rattle.av_laws.proofs.ReadBack.{AskedOn, has-pages}
 use Rattle.av_laws.proofs.ReadBack.Counts.{IsFewOn, slots-few}
 use Rattle.av_laws.proofs.ReadBack.InRuns.{Below}
@@ -322,22 +322,22 @@ on-now m old new (Swapon k priority) reply small fit h = by (refusal (tests m ol
         let most = one.0.0.1 in
         (omega (arith, most), one.0.1)
 
-    of_header : (headers : ℕ → Option Layout) (o : Option Layout) → IsWideOn (record m { headers = Some headers }) (header_answer o)
+    of_header : (headers : ℕ → Option Layout) (o : Option Layout) → IsWideOnAnswer (record m { headers = Some headers }) (header_answer o)
     of_header headers None = tt
     of_header headers (Some layout) = tt
 
     said : (o : Option (ℕ → Option Layout)) → m.headers ≡ o → IsByHeader o k reply.answer
-        → h.events ≡ turn_on_events k priority reply.answer → IsWideOn (record m { headers = o }) reply.answer
-    said (Some headers) told e es = subst (IsWideOn (record m { headers = Some headers })) (sym e) (of_header headers (headers k))
-    said None told (inl e) es = subst (IsWideOn (record m { headers = None })) (sym e) tt
-    said None told (inr q) es = subst (IsWideOn (record m { headers = None })) (sym q.3)
+        → h.events ≡ turn_on_events k priority reply.answer → IsWideOnAnswer (record m { headers = o }) reply.answer
+    said (Some headers) told e es = subst (IsWideOnAnswer (record m { headers = Some headers })) (sym e) (of_header headers (headers k))
+    said None told (inl e) es = subst (IsWideOnAnswer (record m { headers = None })) (sym e) tt
+    said None told (inr q) es = subst (IsWideOnAnswer (record m { headers = None })) (sym q.3)
         (turned h.events q.0 q.1 (step-events m old new (Swapon k priority) reply small fit h) (es ∙ ap (turn_on_events k priority) q.3))
 
     by : (o : Option Errno) → MatchOption o (Follows m old.world old.ledger (Swapon k priority) h.events reply.answer reply.rows)
-        (λ error. Refuses error h.events reply.answer reply.rows) → IsWideOn m reply.answer
-    by None (inl e, es, rows) = subst (IsWideOn m) (sym e) tt
+        (λ error. Refuses error h.events reply.answer reply.rows) → IsWideOnAnswer m reply.answer
+    by None (inl e, es, rows) = subst (IsWideOnAnswer m) (sym e) tt
     by None (inr x, es, rows) = said m.headers refl x es
-    by (Some error) x = subst (IsWideOn m) (sym x.0) tt
+    by (Some error) x = subst (IsWideOnAnswer m) (sym x.0) tt
 on-now m old new command reply small fit h = tt
 
 -- ---- a state in a run is small
