@@ -1,0 +1,69 @@
+"""Edits: bodies other than a crate's own. Those of `crates/NAME/must-fail` and `.ci/wrong/NAME`
+are wrong, and the prover must refuse them. A control, in `.ci/controls/NAME`, is for one of the
+gate's: it means what the crate's own body means and is changed at the same place, and the prover
+must accept it, over the same proofs.
+"""
+import glob
+import os
+
+from made import ROOT, text_of
+
+# edits of the gate of which no control is known: `CRATE/NAME`, with the reason
+NO_CONTROL = {}
+
+
+class Edit:
+    """Texts that stand once in a crate's files, and what comes in their place."""
+
+    def __init__(self, path):
+        self.path = path
+        self.crate = os.path.basename(os.path.dirname(path.replace("/must-fail", "")))
+        self.key = f"{self.crate}/{os.path.basename(path)}".removesuffix(".edit")
+        self.pairs, file, old = [], "", ""
+        for line in text_of(path).splitlines():
+            kind, _, text = line.partition(": ")
+            if kind == "file":
+                file = text
+            elif kind == "old":
+                old = text
+            else:
+                self.pairs.append((file, old, text))
+
+    def own_text(self, file):
+        """A file of the crate as it is."""
+        return text_of(f"crates/{self.crate}/{file}")
+
+    def texts(self):
+        """The files that it changes, by name, as it leaves them. None where a text that it replaces
+        doesn't stand there once, with its earlier changes.
+        """
+        texts = {}
+        for file, old, new in self.pairs:
+            text = texts.get(file) or self.own_text(file)
+            if text.count(old) != 1:
+                return None
+            texts[file] = text.replace(old, new)
+        return texts
+
+    def places(self):
+        """What it replaces of the crate as it is: of each text the file and the line."""
+        places = []
+        for file, old, _ in self.pairs:
+            before, found, _ = self.own_text(file).partition(old)
+            if found:
+                places.append((file, before.count("\n") + 1))
+        return places
+
+    def is_control_of(self, other):
+        """Whether it changes no line but those that another edit changes, the last of the code
+        among them, and isn't the same.
+        """
+        own, others = self.places(), other.places()
+        last = [it for it in others if it[0].startswith("src/")][-1:]
+        return set(last) <= set(own) <= set(others) and self.pairs != other.pairs
+
+
+def edits(folders):
+    """The edits of the folders that a pattern names, by their paths."""
+    found = sorted(glob.glob(f"{ROOT}/{folders}/*.edit"))
+    return [Edit(os.path.relpath(it, ROOT)) for it in found]
