@@ -1,4 +1,5 @@
 """`avsim talk FRAMES [SWAP..]`: a session at a prompt, which no mistyped line ends."""
+import os
 import re
 import shutil
 import signal
@@ -171,12 +172,20 @@ def plural(count, what):
     return f"{count} {what}{'s' * (count != 1)}"
 
 
+def fault_of_file(name):
+    """Why a swap file can't be opened, as far as that is seen, or nothing."""
+    if os.path.isdir(name):
+        return f"{name} is a folder"
+    if not os.path.exists(name):
+        return f"{name} isn't there: tools/make-swap makes a swap file"
+    return "" if os.access(name, os.R_OK | os.W_OK) else f"{name} is not for you to read and write"
+
+
 def no_session(words, why):
     """Why there is no session: the words, or what became of the program."""
     if why.status != 2:
-        return Refused(f"there is no session: {why}")
-    if not (re.fullmatch("[1-9][0-9]{0,4}", words[0]) and int(words[0]) <= 16384):
-        return Refused(f"FRAMES is 1 to 16384: {words[0]}", 2)
+        fault = next(filter(None, map(fault_of_file, words[1:])), "") if why.status == 8 else ""
+        return Refused(f"there is no session: {why}" + f": {fault}" * bool(fault))
     return Refused(f"the program takes no such words behind FRAMES: {' '.join(words[1:])}", 2)
 
 
@@ -184,6 +193,8 @@ def talk(program, words):
     """A session. The status is 0; from a pipe it is 3 where something was refused."""
     if not words:
         raise Refused("FRAMES is missing, 1 to 16384, as in avsim talk 4", 2)
+    if not (re.fullmatch("[1-9][0-9]{0,4}", words[0]) and int(words[0]) <= 16384):
+        raise Refused(f"FRAMES is 1 to 16384: {words[0]}", 2)
     for stream in (sys.stdin, sys.stdout):
         stream.reconfigure(encoding="utf-8", errors="surrogateescape")
     it = Talk(program, words)
