@@ -110,7 +110,7 @@ class Run:
             at = commands[len(self.replies)]
             self.said = (
                 f"line {at.number} of the trace is no command, so the run ends before it: "
-                f"{ascii(at.line[:80])} (docs/REFERENCE.md says why)"
+                f"{ascii(at.line[:80])} (./avsim why < TRACE says why)"
             )
         elif status:
             self.said = said or f"avsim ended with status {status}"
