@@ -141,7 +141,7 @@ impl Swap {
         self.areas.keep();
     }
 
-    /// The frame that caches a slot (Linux's `lookup_swap_cache`).
+    /// The frame that caches a slot (Linux's `swap_cache_get_folio`).
     pub fn find(&self, slot: Slot) -> Option<u32>
         ensures value { result ≡ (shown self.now).find slot }
         ensures in_range { IfSome result (λ f. f < (shown self.now).frames) }
