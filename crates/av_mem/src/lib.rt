@@ -14,12 +14,12 @@
 //! take or free a frame; that can be read, and is not proved. The tables themselves are written by
 //! `zap`, av_fork, av_mremap and av_fault, too. A frame is taken for a page (`take_frame_of_zeros`,
 //! `take_frame_for_copy`), the entries of a child are counted (`count_each_for_child`), and an
-//! entry is let go (`let_go`), with the note of the drop where it leaves an orphan. Proved: that the
-//! frame is the first free one, and what the view is then; of an entry that goes, what the ledger
-//! is. `zap_range` and `zap_all` let the entries of a range of pages or of a process go: they free
-//! the frames that nothing has any more, give such slots back, and drop those that they leave as
-//! orphans, for every ledger that the parts stand for. Without memory, which only a note takes
-//! there, they promise nothing of entries and counts; `unmap` changes nothing then.
+//! entry is let go (`let_go`), with the note of the drop where it leaves an orphan. Proved: that
+//! the frame is the first free one, and what the view is then; of an entry that goes, what the
+//! ledger is. `zap_range` and `zap_all` let the entries of a range of pages or of a process go:
+//! they free the frames that nothing has any more, give such slots back, and drop those that they
+//! leave as orphans, for every ledger that the parts stand for. Without memory, which only a note
+//! takes there, they promise nothing of entries and counts; `unmap` changes nothing then.
 //!
 //! `walk` gives the entries of a frame: proved for every state that the memory system stands for,
 //! with the number of its steps. It is one call of av_rmap's `walk_frame`, which looks through the

@@ -62,8 +62,9 @@ pub fn run<S: Source, K: Sink, D: SwapDev, P: Progress>(
     requires none { HasNone (D.sizes dev.old) }
     // What was read, done and written, by the status, over the device with the areas that the words
     // name; what the kernel handed back stands for, with the device as it is then; what failed is
-    // what the status tells of; and no text was kept back while a read was waited for, nor is in the
-    // end, unless the sink failed, or memory was wanting before its first call, or for the words.
+    // what the status tells of; and no text was kept back while a read was waited for, nor is in
+    // the end, unless the sink failed, or memory was wanting before its first call, or for the
+    // words.
     ensures does { let at = ports_by S.view K.view D.sizes D.pages D.failures in
         result.status ≢ Status.Usage → result.status ≢ Status.AttachFault
         → DoesAsked (map string_bytes words.now) result.status
