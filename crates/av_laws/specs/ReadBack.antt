@@ -1,19 +1,17 @@
 -- What a run's numbers have to be so that each of its replies is read back from its text.
 use Rattle.std.specs.Prelude.{◌≡◌, ℕ, ◌+◌, ◌<◌, ◌≤◌, is_some, true, length, sum_by, IfSome}
-use Rattle.std.specs.Prelude.{List, MatchOption}
-use Rattle.std.specs.List.{AllByRecursion, flat_map}
+use Rattle.std.specs.Prelude.{MatchOption}
+use Rattle.std.specs.List.{AllByRecursion}
 use Rattle.av_base.specs.Limits.{top_page}
 use Rattle.av_text.specs.Number.{IsWide}
 use Rattle.av_swapdev.specs.Device.{most_pages}
 use Rattle.av_swapdev.specs.Header.{Layout}
 use Rattle.av_trace.specs.declared.reply.Answer.{Answer}
 use Rattle.av_trace.specs.declared.reply.Answer.TheVariants.{On}
-use Rattle.av_trace.specs.Print.{text_of}
 use Rattle.av_trace.specs.declared.row.Row.{Row}
 use Rattle.av_trace.specs.declared.row.Row.TheVariants.{Area as AreaRow}
 use Rattle.av_plain.specs.World.{World, pages}
 use Rattle.av_plain.specs.Ledger.{Ledger, Setting, SwapArea, is_on, size_of}
-use Rattle.av_plain.specs.Transcript.{Exchange}
 
 -- ---- what does not change in a run
 
@@ -54,9 +52,3 @@ IsWideRow row = Unit {0}
 abbrev pub IsWideOnAnswer : Setting → Answer → Type 0
 IsWideOnAnswer m (On slots bad) = MatchOption m.headers (IsWide slots × IsWide bad) (λ _. Unit {0})
 IsWideOnAnswer m answer = Unit {0}
-
--- ---- the text of a run
-
--- the texts of its replies, one behind the other
-abbrev pub text_of_run : List Exchange → List ℕ
-text_of_run exchanges = flat_map (λ (e : Exchange). text_of e.reply) exchanges

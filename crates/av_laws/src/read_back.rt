@@ -10,13 +10,13 @@ ghost use Rattle.av_plain.specs.Ledger.{Ledger, Setting};
 ghost use Rattle.av_plain.specs.Event.{Event};
 ghost use Rattle.av_plain.specs.Step.{IsLegal};
 ghost use Rattle.av_plain.specs.Transcript.{Exchange, State, IsRun, at_first};
+ghost use Rattle.av_plain.specs.Transcript.{text_of_run};
 ghost use Rattle.av_plain.specs.Sound.{AllSound};
 ghost use Rattle.av_trace.specs.Command.{IsInRange};
 ghost use Rattle.av_text.specs.Number.{IsWide};
 ghost use Rattle.av_plain.specs.Device.{Device, HasNoDevice, setting_of};
 ghost use Rattle.av_trace.specs.Reply.{IsReply};
 ghost use Rattle.av_laws.specs.ReadBack.{IsSmall, IsSmallSetting, IsWideOnAnswer, IsWideRow};
-ghost use Rattle.av_laws.specs.ReadBack.{text_of_run};
 
 /// A legal reply from a sound state to a command with values in range is read back from its text:
 /// its numbers are of 64 bits, its bytes below 256, and its rows as many as it says. This is so

@@ -1,8 +1,9 @@
 -- Transcripts: commands with their replies, in order.
 use Rattle.std.specs.Prelude.{ℕ, List, [], ◌∷◌, ◌≡◌, sum_by}
-use Rattle.std.specs.List.{range_with_len}
+use Rattle.std.specs.List.{flat_map, range_with_len}
 use Rattle.av_trace.specs.declared.command.Command.{Command}
 use Rattle.av_trace.specs.declared.reply.Reply.{Reply}
+use Rattle.av_trace.specs.Print.{text_of}
 use Rattle.av_plain.specs.Areas.{Anons, Areas, Homes, Rmap, no_anons, no_areas, no_homes}
 use Rattle.av_plain.specs.Areas.{rmap_after_all}
 use Rattle.av_plain.specs.Choice.{ChoosesAll, Free, no_slots}
@@ -17,6 +18,10 @@ use Rattle.av_plain.specs.World.{World}
 pub record Exchange : Type 0 where
   pub command : Command
   pub reply : Reply
+
+-- the texts of the replies, one behind the other: what a run writes
+abbrev pub text_of_run : List Exchange → List ℕ
+text_of_run exchanges = flat_map (λ (e : Exchange). text_of e.reply) exchanges
 
 -- ---- legal
 

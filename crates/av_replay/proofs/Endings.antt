@@ -4,7 +4,7 @@ use Rattle.std.specs.Prelude.{IfSome, if◌then◌else◌}
 use Rattle.std.specs.Option.{option_to_list}
 use Rattle.std.proofs.lemmas.List.Elements.{All-nil}
 use Rattle.av_trace.specs.Print.{text_of}
-use Rattle.av_plain.specs.Transcript.{Exchange, State, at_first, causes_of}
+use Rattle.av_plain.specs.Transcript.{Exchange, State, at_first, causes_of, text_of_run}
 use Rattle.av_kernel.specs.Machine.{Machine}
 use Rattle.av_plain.specs.Device.{Device, IsSameDevice, setting_of}
 use Rattle.av_io.specs.Source.{Took}
@@ -15,11 +15,11 @@ use Rattle.av_replay.specs.declared.status.RunErr.{RunErr}
 use Rattle.av_replay.specs.declared.status.RunErr.TheVariants as errors
 use Rattle.av_replay.specs.Ports.{PortsView, OnlySink, Begins, undone, AreFlushed, AreUnfailed, ReadsOn, IsAtEnd, IsReadFault}
 use Rattle.av_replay.specs.Line.{IsLine}
-use Rattle.av_replay.specs.Turn.{texts, Commands, IsEnding, TakesLine, Waits, CutsShort, IsUnflushed, Halts, DoesNext, FindsEnd, Finished}
+use Rattle.av_replay.specs.Turn.{Commands, IsEnding, TakesLine, Waits, CutsShort, IsUnflushed, Halts, DoesNext, FindsEnd, Finished}
 use Rattle.av_replay.specs.Replay.{most_lines, all_lines, Transcribes, Run, done_lines, Replays, IsHandedBack, StopsAt, MayGoOn, IsCutOff, Ends, status_at, Headline, can_go_on, kernel_at, FailsOnlyAt, FailsUntold, IsFlushed, Replayed, FlushesLast}
 use Rattle.av_replay.proofs.Bytes.{Took-none, Took-ahead, Gained-none, rose_none, rose_on}
 use Rattle.av_replay.proofs.Times.{device_same, device_then, failed_since, read_fault_since, flushed_none, handed_on, only_sink}
-use Rattle.av_replay.proofs.Runs.{Past, whole, SoFar, longer, next_answers, read_more, wrote_more, device_more, failures_more, legal_more, kernel_more, texts_more, all_push, Transcribes-push, joined-push}
+use Rattle.av_replay.proofs.Runs.{Past, whole, SoFar, longer, next_answers, read_more, wrote_more, device_more, failures_more, legal_more, kernel_more, text_more, all_push, Transcribes-push, joined-push}
 
 -- ---- what the end of a turn leaves
 
@@ -58,7 +58,7 @@ begun_of ahead rest now new reads = record {
 -- no line was done in the turn
 pub waited : (n : ℕ) (past : Past) (ahead rest : List ℕ) (old now new : PortsView) (k : Machine) → SoFar n past ahead old now k
     → length past.lines ≤ most_lines →
-    Begins ahead rest now new → Replays n old new (whole past) rest (texts past.transcript)
+    Begins ahead rest now new → Replays n old new (whole past) rest (text_of_run past.transcript)
 waited n past ahead rest old now new k so_far few reads = record {
   read = Took-ahead old.source.left new.source.left (all_lines past.lines) rest
       (subst (λ (l : Option (List ℕ)). Took old.source.left l (all_lines past.lines)) (sym reads.same) so_far.read);
@@ -69,12 +69,12 @@ waited n past ahead rest old now new k so_far few reads = record {
   commands = subst (λ (lines : List (List ℕ)). Transcribes lines past.transcript) (sym (append-nil past.lines)) so_far.commands;
   legal = so_far.legal;
   failures = rose_on (causes_of past.transcript) old.device.failures now.device.failures new.device.failures so_far.failures reads.device.failures;
-  wrote = subst (λ (h : Option (List ℕ)). Gained old.sink.held h (texts past.transcript)) (sym reads.held) so_far.wrote;
+  wrote = subst (λ (h : Option (List ℕ)). Gained old.sink.held h (text_of_run past.transcript)) (sym reads.held) so_far.wrote;
   device = device_then old.device now.device new.device so_far.device reads.device;
 }
 
 pub stops : (n : ℕ) (past : Past) (ahead rest : List ℕ) (old now new : PortsView) (k k' : Machine) → SoFar n past ahead old now k →
-    length past.lines ≤ most_lines → Waits ahead rest now new k k' → Leaves n rest old new k' (whole past) (texts past.transcript)
+    length past.lines ≤ most_lines → Waits ahead rest now new k k' → Leaves n rest old new k' (whole past) (text_of_run past.transcript)
 stops n past ahead rest old now new k k' so_far few waits = record {
   replays = waited n past ahead rest old now new k so_far few (begun_of ahead rest now new waits.reads);
   left = subst (λ (d : Device). IsHandedBack k' d n (whole past)) (sym waits.reads.device)
@@ -91,7 +91,7 @@ module _ (n : ℕ) (past : Past) (ahead : List ℕ) (old now new : PortsView) (k
     (so_far : SoFar n past ahead old now k) (few : length past.lines < most_lines) where
   pub ends_line : (takes : TakesLine ahead now new k k' line (10 ∷ []) rest text written) →
       Leaves n rest old new k' (whole (longer past line (next_answers n past ahead old now new k k' line (10 ∷ []) rest text written so_far takes).did
-      (next_answers n past ahead old now new k k' line (10 ∷ []) rest text written so_far takes).next)) (texts past.transcript ++ written)
+      (next_answers n past ahead old now new k k' line (10 ∷ []) rest text written so_far takes).next)) (text_of_run past.transcript ++ written)
   ends_line takes =
       let a = next_answers n past ahead old now new k k' line (10 ∷ []) rest text written so_far takes in
       let lines = past.lines ++ line ∷ [] in
@@ -116,7 +116,7 @@ module _ (n : ℕ) (past : Past) (ahead : List ℕ) (old now new : PortsView) (k
 
   pub ends_last : (takes : TakesLine ahead now new k k' line [] rest text written) → rest ≡ [] → 0 < length line → IsAtEnd new.source →
       Leaves n rest old new k' (with_last past line (next_answers n past ahead old now new k k' line [] rest text written so_far takes).did
-      (next_answers n past ahead old now new k k' line [] rest text written so_far takes).next) (texts past.transcript ++ written)
+      (next_answers n past ahead old now new k k' line [] rest text written so_far takes).next) (text_of_run past.transcript ++ written)
   ends_last takes none some end =
       let a = next_answers n past ahead old now new k k' line [] rest text written so_far takes in
       let parts : (all_lines past.lines ++ (line ++ [])) ++ rest ≡ all_lines past.lines ++ (line ++ rest) =
@@ -150,7 +150,7 @@ last_done n past ahead rest old now new k k' so_far few does =
     let leaves = ends_last n past ahead old now new k k' does.line rest does.text does.text so_far few does.takes last.0 last.1 last.2 in
     headline n statuses.Done rest old new k' _ _ leaves (
       (last.0, last.2),
-      texts_more n past ahead old now new k k' does.line [] rest
+      text_more n past ahead old now new k k' does.line [] rest
           does.text does.text so_far does.takes,
     )
 
@@ -177,9 +177,9 @@ pub record Cuts (n : ℕ) (old new : PortsView) (kernel : Machine) : Type 0 wher
 
 -- a text that is cut is that of some reply
 cut_at : (run : Run) (before : List (List ℕ)) (line : List ℕ) (es : List Exchange) (did : Option Exchange) (text : List ℕ) (n : ℕ) →
-    done_lines run ≡ before ++ line ∷ [] → run.transcript ≡ es ++ option_to_list did → Commands line did → text ≡ texts (option_to_list did)
+    done_lines run ≡ before ++ line ∷ [] → run.transcript ≡ es ++ option_to_list did → Commands line did → text ≡ text_of_run (option_to_list did)
     → n < length text →
-    IsCutOff run (texts es ++ take n text)
+    IsCutOff run (text_of_run es ++ take n text)
 cut_at run before line es None text n lines transcript commands said short = absurd (omega (arith, ap length said))
 cut_at run before line es (Some e) text n lines transcript commands said short =
     let same : text ≡ text_of e.reply = said ∙ append-nil (text_of e.reply) in
@@ -193,7 +193,7 @@ cut_at run before line es (Some e) text n lines transcript commands said short =
       commands = commands;
       size = n;
       short = omega (arith, ap length same);
-      is = ap (λ (t : List ℕ). texts es ++ take n t) same;
+      is = ap (λ (t : List ℕ). text_of_run es ++ take n t) same;
     }
 
 cuts_at : (n : ℕ) (past : Past) (ahead : List ℕ) (old now new : PortsView) (k k' : Machine) (line ending rest text : List ℕ) (size : ℕ) →
@@ -208,7 +208,7 @@ cuts_at n past ahead old now new k k' line ending rest text size so_far few shor
     record {
       run = run;
       rest = rest;
-      written = texts past.transcript ++ take size text;
+      written = text_of_run past.transcript ++ take size text;
       leaves = ends_line n past ahead old now new k k' line rest text (take size text) so_far few takes';
       cut = cut_at run past.lines line past.transcript a.did text size (append-nil (past.lines ++ line ∷ [])) refl a.commands a.said short;
     }
@@ -220,7 +220,7 @@ cuts_at n past ahead old now new k k' line ending rest text size so_far few shor
     record {
       run = run;
       rest = rest;
-      written = texts past.transcript ++ take size text;
+      written = text_of_run past.transcript ++ take size text;
       leaves = ends_last n past ahead old now new k k' line rest text (take size text) so_far few takes' last.1 last.2 last.3;
       cut = cut_at run past.lines line past.transcript a.did text size refl refl a.commands a.said short;
     }
@@ -262,7 +262,7 @@ memory : (n : ℕ) (past : Past) (ahead rest : List ℕ) (old now new : PortsVie
 memory n past ahead rest old now new k k' so_far few (inl reads) = record {
   run = whole past;
   rest = rest;
-  written = texts past.transcript;
+  written = text_of_run past.transcript;
   replays = waited n past ahead rest old now new k so_far (omega arith) reads;
   ends = inl refl;
   handed_back = tt;
@@ -409,7 +409,7 @@ module _ (n : ℕ) (old now : PortsView) (kernel : Machine) (sink : SinkView) wh
 
     -- it failed
     unflushed : (status : Status) (run : Run) (rest written : List ℕ) → Replays n old now run rest written → IsHandedBack kernel now.device n run →
-        StopsAt status new run rest → written ≡ texts run.transcript → KeepsBack now.sink sink → Replayed n statuses.WriteFault old new (Some kernel)
+        StopsAt status new run rest → written ≡ text_of_run run.transcript → KeepsBack now.sink sink → Replayed n statuses.WriteFault old new (Some kernel)
     unflushed status run rest written replays left stops whole keeps =
         let untold = fails_untold keeps in
         record {

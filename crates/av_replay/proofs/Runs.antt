@@ -7,7 +7,7 @@ use Rattle.std.specs.Option.{option_to_list}
 use Rattle.std.proofs.lemmas.List.Concat.{flat_map-append}
 use Rattle.av_trace.specs.Print.{text_of}
 use Rattle.av_plain.specs.Ledger.{Setting}
-use Rattle.av_plain.specs.Transcript.{Exchange, State, IsRun, at_first, causes_of}
+use Rattle.av_plain.specs.Transcript.{Exchange, State, IsRun, at_first, causes_of, text_of_run}
 use Rattle.av_kernel.specs.Machine.{Machine, sizes_of}
 use Rattle.av_plain.specs.Device.{IsSameDevice, setting_of}
 use Rattle.av_plain.specs.Step.{causes}
@@ -17,7 +17,7 @@ use Rattle.av_io.specs.Source.{in_front, Took}
 use Rattle.av_io.specs.Sink.{Gained}
 use Rattle.av_replay.specs.Ports.{PortsView, undone, room, AreUnfailed, StaysOpen}
 use Rattle.av_replay.specs.Line.{IsLine}
-use Rattle.av_replay.specs.Turn.{texts, tally_of, Commands, Answers, TakesLine}
+use Rattle.av_replay.specs.Turn.{tally_of, Commands, Answers, TakesLine}
 use Rattle.av_replay.specs.Replay.{all_lines, Transcribes, Run, IsHandedBack, IsAtStart}
 use Rattle.av_replay.proofs.Bytes.{Took-then, Took-none, Gained-then, Gained-none, rose_none, rose_then}
 use Rattle.av_plain.proofs.Device.{setting_same}
@@ -73,7 +73,7 @@ pub record SoFar (n : ℕ) (past : Past) (ahead : List ℕ) (old now : PortsView
   pub commands : Transcribes past.lines past.transcript
   pub legal : IsRun (setting_of n old.device) (at_first (setting_of n old.device)) past.transcript past.state
   pub failures : RoseBy (causes_of past.transcript) old.device.failures now.device.failures
-  pub wrote : Gained old.sink.held now.sink.held (texts past.transcript)
+  pub wrote : Gained old.sink.held now.sink.held (text_of_run past.transcript)
   pub kernel_left : IsHandedBack kernel now.device n (whole past)
   pub device : IsSameDevice old.device now.device
   pub unfailed : AreUnfailed old now
@@ -121,7 +121,7 @@ module _ (n : ℕ) (past : Past) (ahead : List ℕ) (old now new : PortsView) (k
   pub read_more : Took old.source.left (undone rest new) (all_lines past.lines ++ (line ++ ending))
   read_more = Took-then _ _ _ _ _ so_far.read takes.took
 
-  pub wrote_more : Gained old.sink.held new.sink.held (texts past.transcript ++ written)
+  pub wrote_more : Gained old.sink.held new.sink.held (text_of_run past.transcript ++ written)
   wrote_more = Gained-then _ _ _ _ _ so_far.wrote takes.gained
 
   pub device_more : IsSameDevice old.device new.device
@@ -158,9 +158,9 @@ module _ (n : ℕ) (past : Past) (ahead : List ℕ) (old now new : PortsView) (k
         attached = takes.device.sizes ∙ kept.attached ∙ ap sizes_of (sym a.counts.sizes);
       }
 
-  -- the texts with the next one
-  pub texts_more : texts past.transcript ++ text ≡ texts (past.transcript ++ option_to_list next_answers.did)
-  texts_more = ap (λ (t : List ℕ). texts past.transcript ++ t) next_answers.said
+  -- the text with the next one
+  pub text_more : text_of_run past.transcript ++ text ≡ text_of_run (past.transcript ++ option_to_list next_answers.did)
+  text_more = ap (λ (t : List ℕ). text_of_run past.transcript ++ t) next_answers.said
       ∙ sym (flat_map-append (λ (e : Exchange). text_of e.reply) past.transcript (option_to_list next_answers.did))
 
 pub goes_on : (n : ℕ) (past : Past) (ahead rest : List ℕ) (old now new : PortsView) (k k' : Machine) (line text : List ℕ)
@@ -179,7 +179,7 @@ goes_on n past ahead rest old now new k k' line text so_far takes unfailed stays
       commands = Transcribes-push past.lines past.transcript line a.did so_far.commands a.commands;
       legal = legal_more n past ahead old now new k k' line (10 ∷ []) rest text text so_far takes;
       failures = failures_more n past ahead old now new k k' line (10 ∷ []) rest text text so_far takes;
-      wrote = subst (Gained old.sink.held new.sink.held) (texts_more n past ahead old now new k k' line (10 ∷ []) rest text text so_far takes)
+      wrote = subst (Gained old.sink.held new.sink.held) (text_more n past ahead old now new k k' line (10 ∷ []) rest text text so_far takes)
           (wrote_more n past ahead old now new k k' line (10 ∷ []) rest text text so_far takes);
       kernel_left = kernel_more n past ahead old now new k k' line (10 ∷ []) rest text text so_far takes (past.lines ++ line ∷ []) None;
       device = device_more n past ahead old now new k k' line (10 ∷ []) rest text text so_far takes;

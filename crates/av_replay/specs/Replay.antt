@@ -5,7 +5,7 @@ use Rattle.std.specs.Prelude.{unwrap_or}
 use Rattle.std.specs.List.{flat_map, AllByRecursion}
 use Rattle.std.specs.Option.{option_to_list}
 use Rattle.av_trace.specs.Print.{text_of}
-use Rattle.av_plain.specs.Transcript.{Exchange, State, IsRun, at_first, causes_of}
+use Rattle.av_plain.specs.Transcript.{Exchange, State, IsRun, at_first, causes_of, text_of_run}
 use Rattle.av_kernel.specs.Machine.{Machine}
 use Rattle.av_kernel.specs.Kernel.{Stands}
 use Rattle.av_kernel.specs.Tally.{none_counted}
@@ -20,7 +20,7 @@ use Rattle.av_replay.specs.declared.status.RunErr.TheVariants as errors
 use Rattle.av_replay.specs.Ports.{PortsView, room, AreFlushed, AreUnfailed, IsAtEnd, IsAttached}
 use Rattle.av_replay.specs.Ports.{IsReadFault}
 use Rattle.av_replay.specs.Line.{IsLine}
-use Rattle.av_replay.specs.Turn.{texts, tally_of, Commands, IsBad}
+use Rattle.av_replay.specs.Turn.{tally_of, Commands, IsBad}
 
 -- ---- the lines that were done, and their transcript
 
@@ -140,14 +140,14 @@ pub record IsCutOff (run : Run) (written : List ℕ) : Type 0 where
   pub commands : Commands line (Some last)
   pub size : ℕ
   pub short : size < length (text_of last.reply)
-  pub is : written ≡ texts others ++ take size (text_of last.reply)
+  pub is : written ≡ text_of_run others ++ take size (text_of last.reply)
 
 -- The sink took every text, but it doesn't tell what it holds, and could not hand on what it kept
 -- back. That was found where another status would have ended the run, or where the run would have
 -- read on within a line.
 pub record IsKeptBack (new : PortsView) (run : Run) (rest written : List ℕ) : Type 0 where
   pub untold : new.sink.held ≡ None
-  pub whole : written ≡ texts run.transcript
+  pub whole : written ≡ text_of_run run.transcript
   pub status : Status
   pub stops : StopsAt status new run rest
 
@@ -156,14 +156,14 @@ pub record IsKeptBack (new : PortsView) (run : Run) (rest written : List ℕ) : 
 -- after one that failed; which call fails no one knows before, so none is made then.
 abbrev pub Ends : Status → PortsView → PortsView → Run → List ℕ → List ℕ → Type 0
 Ends statuses.ReadFault old new run rest written =
-    StopsAt statuses.ReadFault new run rest × (written ≡ texts run.transcript)
+    StopsAt statuses.ReadFault new run rest × (written ≡ text_of_run run.transcript)
     × IsReadFault old.source new.source
 Ends statuses.WriteFault old new run rest written =
     (IsCutOff run written ⊎ IsKeptBack new run rest written) × HasFailed old.sink new.sink
 Ends statuses.Memory old new run rest written =
-    (written ≡ texts run.transcript) ⊎ IsCutOff run written
+    (written ≡ text_of_run run.transcript) ⊎ IsCutOff run written
 Ends status old new run rest written =
-    StopsAt status new run rest × (written ≡ texts run.transcript)
+    StopsAt status new run rest × (written ≡ text_of_run run.transcript)
 
 -- The headline, for a status at which the trace was begun.
 pub record Headline (frames : ℕ) (status : Status) (old new : PortsView) (kernel : Option Machine)

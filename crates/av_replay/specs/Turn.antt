@@ -1,12 +1,10 @@
 -- One turn of the loop over the lines.
 use Rattle.std.specs.Prelude.{◌≡◌, ℕ, ◌+◌, ◌<◌, ◌≤◌, List, [], ◌∷◌, ◌++◌, ◌⊎◌, length, take, Option}
 use Rattle.std.specs.Prelude.{None, option_map, Bool, true, false, Result, Ok, Err}
-use Rattle.std.specs.List.{flat_map}
 use Rattle.std.specs.Option.{option_to_list}
 use Rattle.av_trace.specs.declared.command.Command.{Command}
 use Rattle.av_trace.specs.Line.{Says}
-use Rattle.av_trace.specs.Print.{text_of}
-use Rattle.av_plain.specs.Transcript.{Exchange, State, IsRun, causes_of}
+use Rattle.av_plain.specs.Transcript.{Exchange, State, IsRun, causes_of, text_of_run}
 use Rattle.av_kernel.specs.Machine.{Machine}
 use Rattle.av_kernel.specs.Kernel.{Stands}
 use Rattle.av_kernel.specs.Tally.{tally_with}
@@ -24,10 +22,6 @@ use Rattle.av_replay.specs.Ports.{StaysOpen, Writes}
 use Rattle.av_replay.specs.Line.{IsLine, IsTooLong}
 
 -- ---- what a line does
-
--- the texts of the replies
-abbrev pub texts : List Exchange → List ℕ
-texts es = flat_map (λ e. text_of e.reply) es
 
 -- a line commands this, or nothing
 abbrev pub Commands : List ℕ → Option Exchange → Type 0
@@ -57,7 +51,7 @@ pub record Answers (line : List ℕ) (device device' : Device) (s : State) (old 
   pub next : State
   pub commands : Commands line did
   pub run : IsRun (setting_of old.frames device) s (option_to_list did) next
-  pub said : text ≡ texts (option_to_list did)
+  pub said : text ≡ text_of_run (option_to_list did)
   pub stands : Stands new device' next
   pub counts : Counted old new (option_to_list did)
   pub failures : RoseBy (causes_of (option_to_list did)) device.failures device'.failures

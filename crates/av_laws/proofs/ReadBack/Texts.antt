@@ -16,8 +16,7 @@ use Rattle.av_trace.proofs.PlainWords.{IsLineOf, LineReader, no_newline, one_lin
 use Rattle.av_trace.proofs.ReplyLaws.{answer_line-is}
 use Rattle.av_trace.proofs.RowLaws.{area_line-is, area_of, entry_line-is, entry_of, run_line-is, run_of}
 use Rattle.av_trace.proofs.Split.{first_line, lacks, lacks-cons}
-use Rattle.av_plain.specs.Transcript.{Exchange}
-use Rattle.av_laws.specs.ReadBack.{text_of_run}
+use Rattle.av_plain.specs.Transcript.{Exchange, text_of_run}
 
 -- there is a first byte, and it is no space
 abbrev begins : List ℕ → Bool
