@@ -4,7 +4,7 @@ ghost use Rattle.std.specs.Prelude.{◌≡◌, ◌∷◌};
 ghost use Rattle.std.specs.List.{flat_map};
 ghost use Rattle.std.specs.Fmt.{decimal as digits_of};
 ghost use Rattle.av_trace.specs.Note.{slot_text};
-ghost use Rattle.av_trace.specs.Reply.{answer_only, errno_name, labelled as labelled_text};
+ghost use Rattle.av_trace.specs.Reply.{answer_only, labelled as labelled_text};
 ghost use Rattle.av_trace.specs.Reply.{shown_words, out_words, cached_words, total_words};
 ghost use Rattle.av_trace.specs.Reply.{answer_line as line_of_answer};
 ghost use Rattle.av_text.specs.Word.{Adds, field, line};
@@ -136,22 +136,6 @@ impl Reply {
     {
         self.notes.clear();
         self.rows.clear();
-    }
-}
-
-fn add_errno(text: &mut Bytes, error: Errno) -> Result<(), AllocError>
-    ensures { Adds result text.old text.new (field (errno_name error)) }
-{
-    match error {
-        Errno::Eperm => add_word(text, b"EPERM"),
-        Errno::Esrch => add_word(text, b"ESRCH"),
-        Errno::Eio => add_word(text, b"EIO"),
-        Errno::Eagain => add_word(text, b"EAGAIN"),
-        Errno::Enomem => add_word(text, b"ENOMEM"),
-        Errno::Efault => add_word(text, b"EFAULT"),
-        Errno::Ebusy => add_word(text, b"EBUSY"),
-        Errno::Eexist => add_word(text, b"EEXIST"),
-        Errno::Einval => add_word(text, b"EINVAL"),
     }
 }
 
@@ -322,11 +306,21 @@ fn data_line(text: &mut Bytes, bytes: &Bytes) -> Result<(), AllocError>
     add_bytes(text, bytes.as_slice())
 }
 
-fn error_line(text: &mut Bytes, error: Errno) -> Result<(), AllocError>
-    ensures { Adds result text.old text.new (line_of_answer (Answer.Refused error)) }
+/// The line of a refusal: most refused lines have no other text, so it is added as one.
+fn error_line(error: Errno) -> &'static [u8]
+    ensures { result.now ≡ line_of_answer (Answer.Refused error) }
 {
-    text.append(b"err")?;
-    add_errno(text, error)
+    match error {
+        Errno::Eperm => b"err EPERM",
+        Errno::Esrch => b"err ESRCH",
+        Errno::Eio => b"err EIO",
+        Errno::Eagain => b"err EAGAIN",
+        Errno::Enomem => b"err ENOMEM",
+        Errno::Efault => b"err EFAULT",
+        Errno::Ebusy => b"err EBUSY",
+        Errno::Eexist => b"err EEXIST",
+        Errno::Einval => b"err EINVAL",
+    }
 }
 
 fn on_line(text: &mut Bytes, slots: u32, bad: u32) -> Result<(), AllocError>
@@ -351,7 +345,7 @@ pub fn answer_line(text: &mut Bytes, answer: &Answer) -> Result<(), AllocError>
         Answer::Done => text.append(b"ok"),
         Answer::MapAt(address) => map_line(text, *address),
         Answer::Data(bytes) => data_line(text, bytes),
-        Answer::Refused(error) => error_line(text, *error),
+        Answer::Refused(error) => text.append(error_line(*error)),
         Answer::Segv { served, shown } => stop_line(text, b"segv", *served, shown.as_slice()),
         Answer::Bus { served, shown } => stop_line(text, b"bus", *served, shown.as_slice()),
         Answer::Oom { served, out, shown } => oom_line(text, *served, *out, shown.as_slice()),
