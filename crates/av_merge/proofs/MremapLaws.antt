@@ -1,5 +1,5 @@
 -- Areas that stand on other pages and areas that grow, in the tree and by number.
-use Rattle.std.proofs.Common.{◌≡◌, ℕ, suc, ◌+◌, ◌-◌, ◌*◌, ◌/◌, ◌^◌, ◌<◌, ◌≤◌, ◌⊎◌, inl, inr, min, true, false, cond, List, Option, Some, None, is_some, option_map, IsSomeAnd, refl, sym, ap, subst, ◌∙◌, arith}
+use Rattle.std.proofs.Common.{◌≡◌, ℕ, suc, ◌+◌, ◌-◌, ◌*◌, ◌/◌, ◌^◌, ◌<◌, ◌≤◌, ◌⊎◌, inl, inr, min, Bool, true, false, cond, List, Option, Some, None, is_some, option_map, IsSomeAnd, refl, sym, ap, subst, ◌∙◌, arith}
 use Rattle.std.specs.Prelude.{option_and_then}
 use Rattle.std.proofs.lemmas.Bool.{both_ways, cases_lt, eq-eqb, false_from_ne_true}
 use Rattle.std.proofs.lemmas.Option.{same_Some}
@@ -170,6 +170,18 @@ module _ (p n last past : ℕ) (areas : ℕ → Option Area) (spans : List Span)
           let parts = has_parts area page has in
           let high = parts.1 in
           has_from (with_end past area) page parts.0 (omega arith)
+
+-- one that ends there already is on all of them
+pub grown_already : (last past : ℕ) (on : Pages) (area : Area) → AreLaid on → on last ≡ Some area → area.end ≡ 4096 * past
+    → (page : ℕ) → on page ≡ grown_to past (on last) on page
+grown_already last past on area laid is ends page =
+    by (has_page area page) refl
+    ∙ (λ i. with_area (record area { end = ends i }) on page)
+    ∙ (λ i. grown_to past (sym is i) on page)
+  where
+    by : (b : Bool) → has_page area page ≡ b → on page ≡ cond b (Some area) (on page)
+    by true has = laid.all last page area is has
+    by false out = refl
 
 -- where it may grow
 module _ (p last past : ℕ) (areas : ℕ → Option Area) (spans : List Span) (stands : AreAreasOf p areas spans)

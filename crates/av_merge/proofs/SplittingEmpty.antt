@@ -1,18 +1,20 @@
 -- Areas are taken out one after the other, from the lowest page of a range on.
-use Rattle.std.proofs.Common.{◌≡◌, ℕ, ◌+◌, ◌-◌, ◌<◌, ◌≤◌, ◌==◌, inl, inr, nat_lt, true, false, cond, List, [], ◌∷◌, length, Option, Some, None, IfSome, refl, sym, ap, subst, ◌∙◌, arith}
+use Rattle.std.proofs.Common.{◌≡◌, ℕ, ◌+◌, ◌-◌, ◌<◌, ◌≤◌, ◌==◌, inl, inr, nat_le, nat_lt, true, false, cond, List, [], ◌∷◌, length, Option, Some, None, option_map, IfSome, refl, sym, ap, subst, ◌∙◌, arith}
 use Rattle.std.proofs.lemmas.Bool.Decides.{nat_tests}
-use Rattle.std.proofs.lemmas.Bool.{both_ways, false_from_ne_true, eqb-true, ltb-true, ltb-false, cases_lt}
+use Rattle.std.proofs.lemmas.Bool.{both_ways, false_from_ne_true, eqb-true, leb-false, ltb-true, ltb-false, cases_lt}
 use Rattle.av_vma.specs.declared.area.Area.{Area}
 use Rattle.av_base.specs.Limits.{low_page, top_page}
 use Rattle.av_base.specs.Words.{within, with_at}
 use Rattle.av_vmatree.specs.declared.span.Span.{Span}
-use Rattle.av_vmatree.specs.Spans.{AreApart, AreDistinct, AreSpans, area_after, area_at, holds, span_of, unless_area, without_area}
+use Rattle.av_vmatree.specs.Spans.{AreApart, AreDistinct, AreSpans, area_after, area_at, first_from, holds, last_below, span_of, unless_area, without_area}
 use Rattle.av_vmatree.proofs.Sides.{in_row}
-use Rattle.av_vma.specs.Pages.{Pages, without_range}
+use Rattle.av_vma.specs.Pages.{Pages, after_unmap, part_of, split_at, without_range}
 use Rattle.av_vma.proofs.Laid.{has_parts}
 use Rattle.av_merge.specs.Pages.{pages_by}
 use Rattle.av_merge.specs.Process.{AreAreasOf, IsAreaOf, NoneCrosses, Stays}
-use Rattle.av_merge.proofs.PlacingLaws.{area_in, holds_parts, is_on, on_span, later_from, pages_without, stays_trans, take_others, take_pages, take_stands, within_from, within_parts}
+use Rattle.av_merge.proofs.PlacingLaws.{area_in, holds_parts, is_on, on_span, later_from, others_refl, pages_without, stays_trans, take_others, take_pages, take_stands, within_from, within_parts}
+use Rattle.av_merge.proofs.PlacingMaps.{laid_of}
+use Rattle.av_merge.proofs.SplittingLaws.{none_by_last, none_starts, uncut}
 
 -- ---- the next area above a page
 
@@ -176,6 +178,55 @@ next_area p areas spans page n next area stands e =
     let i = area_in p areas spans n next.span stands next.there in
     let same : i.area ≡ area = cc in
     subst (IsAreaOf p next.span) same i.is
+
+-- ---- nothing lies in a range
+
+-- where the first span from a page on begins past a range, so do all of these
+pub all_past : (spans : List Span) (page to k : ℕ) (t : Span) → AreApart spans → IfSome (first_from spans page) (λ s. to ≤ s.from)
+    → span_of spans k ≡ Some t → page ≤ t.from → to ≤ t.from
+all_past [] page to k t apart first e above = cc
+all_past (s ∷ spans) page to k t apart first e above = elim (nat_le page s.from) as (λ b. nat_le page s.from ≡ b →
+    IfSome (cond b (Some s) (first_from spans page)) (λ s. to ≤ s.from) → to ≤ t.from) [
+      | true ↦ λ _ first. in_row (to ≤ t.from) s spans k t e
+          (λ same. subst (λ (u : Span). to ≤ u.from) same first)
+          (λ later. let past = later_from s spans k t apart later in let wide = apart.0 in omega arith)
+      | false ↦ λ h first. in_row (to ≤ t.from) s spans k t e
+          (λ same. absurd (below h (subst (λ (u : Span). page ≤ u.from) (sym same) above)))
+          (λ later. all_past spans page to k t apart.2 first later above)
+    ] refl first
+  where
+    below : nat_le page s.from ≡ false → page ≤ s.from → ⊥
+    below h above = let k = leb-false page s.from h in omega arith
+
+-- an unmapping of it changes nothing
+module _ (p from to : ℕ) (areas : ℕ → Option Area) (spans : List Span) (stands : AreAreasOf p areas spans) (forward : from ≤ to)
+    (before : IfSome (last_below spans from) (λ s. s.to ≤ from)) (after : IfSome (first_from spans from) (λ s. to ≤ s.from)) where
+  past : (k : ℕ) (t : Span) → span_of spans k ≡ Some t → from ≤ t.from → to ≤ t.from
+  past k t e above = all_past spans from to k t stands.spans_are.apart after e above
+
+  lower : NoneCrosses from spans
+  lower = none_by_last spans from stands.spans_are.apart before
+
+  upper : NoneCrosses to spans
+  upper k = each (span_of spans k) refl (lower k)
+    where
+      each : (o : Option Span) → span_of spans k ≡ o → IfSome o (λ s. s.from < from → s.to ≤ from) → IfSome o (λ s. s.from < to → s.to ≤ to)
+      each None e h = tt
+      each (Some s) e h = λ low. elim (cases_lt s.from from) [
+        | inl less ↦ (let end = h less in omega arith)
+        | inr more ↦ (let high = past k s e more in absurd (omega arith))
+      ]
+
+  none_taken : AreTaken from to areas spans areas spans
+  none_taken = record { stands = λ q h. record { areas = h; others = others_refl q areas }; lower = lower; upper = upper; pages = λ page. refl }
+
+  pub untouched : (page : ℕ) → pages_by areas spans page ≡ after_unmap from to (pages_by areas spans) page
+  untouched page =
+      all_taken from to areas spans areas spans p stands none_taken (λ k t e above. past k t e (omega arith)) page
+      ∙ ap (cond (within from (to - from) page) None) (whole to upper page ∙ ap (option_map (part_of to page)) (whole from lower page))
+    where
+      whole : (at : ℕ) → NoneCrosses at spans → (page : ℕ) → pages_by areas spans page ≡ split_at at (pages_by areas spans) page
+      whole at none = uncut (pages_by areas spans) at (laid_of p areas spans stands) (none_starts p at areas spans stands none)
 
 -- where all pages that a process may have are empty, no area is left
 pub all_empty : (p : ℕ) (areas : ℕ → Option Area) (spans : List Span) (on : Pages) → AreAreasOf p areas spans →

@@ -235,6 +235,10 @@ fn extend(
         unreachable!()
     };
     let area = areas.get(number);
+    // As where pages move and none is new: neither the tree nor a span changes.
+    if area.end == PAGE_SIZE * past {
+        return Ok(area.start / PAGE_SIZE);
+    }
     let longer = Area {
         end: PAGE_SIZE * past,
         ..area

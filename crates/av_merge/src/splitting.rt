@@ -1,6 +1,6 @@
 //! Splitting and unmapping: an area becomes two, and what lies in a range goes.
 
-ghost use Rattle.std.specs.Prelude.{◌≡◌, ℕ, ◌<◌, ◌≤◌, [], Some, IsSomeAnd, OnOk, IfOk};
+ghost use Rattle.std.specs.Prelude.{◌≡◌, ℕ, ◌<◌, ◌≤◌, [], true, Some, IfSome, IsSomeAnd, OnOk, IfOk};
 ghost use Rattle.av_vma.specs.Areas.{area_of};
 ghost use Rattle.av_vma.specs.Index.{past_of};
 ghost use Rattle.av_vmatree.specs.Spans.{area_at, last_below, span_of};
@@ -236,7 +236,11 @@ pub fn unmap(
     ensures pages { OnOk result
         (Becomes areas.old tree.old areas.new tree.new (after_unmap from to)) }
 {
-    let (below, _) = tree.around(from);
+    let (below, above) = tree.around(from);
+    // As where pages move to free ones: one descent is enough.
+    if lie_beside(below, above, from, to) {
+        return Ok(());
+    }
     match below {
         Some(span) if to < span.to => {
             unmap_within(areas, tree, anons, span.area, from, to)?;
@@ -244,6 +248,23 @@ pub fn unmap(
         }
         _ => unmap_between(areas, tree, anons, below, from, to),
     }
+}
+
+/// Whether two spans leave out the pages from `from` to below `to`: the first ends before them, the
+/// second begins after them.
+fn lie_beside(below: Option<Span>, above: Option<Span>, from: u64, to: u64) -> bool
+    ensures { result ≡ true
+        → IfSome below (λ s. s.to ≤ from) × IfSome above (λ s. to ≤ s.from) }
+{
+    let ends_before = match below {
+        Some(span) => span.to <= from,
+        None => true,
+    };
+    let begins_after = match above {
+        Some(span) => to <= span.from,
+        None => true,
+    };
+    ends_before && begins_after
 }
 
 /// Takes away the pages from `from` to below `to`: splits at the two ends, of which the lower is in
