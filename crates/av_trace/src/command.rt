@@ -418,7 +418,7 @@ fn range_change_or_report(line: &[u8]) -> Option<Command>
 }
 
 /// The command on a process, a range or swap, or the report, that a line asks for.
-#[inline]
+#[inline(always)]
 fn change_or_report(line: &[u8]) -> Option<Command>
     ensures { result ≡ command_in
         (process_readers ++ range_readers ++ swap_readers ++ report_readers) line.now }
@@ -435,6 +435,7 @@ fn change_or_report(line: &[u8]) -> Option<Command>
 }
 
 /// The command of a whole line. Only a write takes memory, and first that of `spare`.
+#[inline(always)]
 #[tactic(auto, unfolding(crate::specs::Command::command_of))]
 pub fn whole_command(
     alloc: Global,

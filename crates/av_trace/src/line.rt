@@ -44,6 +44,8 @@ pub fn parse_line(alloc: Global, line: &[u8]) -> Result<Option<Command>, LineErr
 
 /// What a line says, as `parse_line` does; the bytes of a write take the room of `spare`, whatever
 /// it holds.
+// Always inlined, as what it calls down to the readers: a command would else be copied in each.
+#[inline(always)]
 pub fn parse_line_with(
     alloc: Global,
     line: &[u8],
