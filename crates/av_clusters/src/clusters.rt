@@ -11,7 +11,7 @@ ghost use Rattle.av_clusters.specs.Clusters.{Takes, Returns, in_current, in_next
 ghost use Rattle.av_clusters.specs.Clusters.{is_free, is_taken, page_at, pages_between, lowest};
 ghost use Rattle.av_clusters.specs.Clusters.{has_free, has_taken, start_of, end_of, pages_of};
 ghost use Rattle.av_clusters.specs.Clusters.{cluster_size, clusters_of, cluster_count};
-ghost use Rattle.av_clusters.specs.Clusters.{group_size, group_count, start_of_group, end_of_group};
+ghost use Rattle.av_clusters.specs.Clusters.{group_size, group_count, lowest_in};
 ghost use Rattle.av_clusters.specs.declared.clusters.Page.TheVariants.{Unusable, Free, Taken};
 
 use std::alloc::{AllocError, Global};
@@ -283,10 +283,10 @@ fn lowest_of_group(
     group: u32,
 ) -> Option<u32>
     requires few { length pages.now < 2 ^ 32 }
-    requires within { start_of_group group ≤ length pages.now }
+    requires within { group_size * group ≤ length pages.now }
     requires full { AreFull cluster_size pages.now full.old }
     requires groups { AreFull group_size pages.now full_groups.old }
-    ensures lowest { result ≡ lowest pages.now (start_of_group group) (end_of_group group) }
+    ensures lowest { result ≡ lowest_in group_size pages.now group }
     ensures full { AreFull cluster_size pages.now full.new }
     ensures groups { AreFull group_size pages.now full_groups.new }
 {
@@ -303,9 +303,9 @@ fn lowest_of_group(
 /// The lowest free page of the group. It passes over the clusters that are marked as full.
 fn lowest_of_clusters(pages: &[Page], full: &mut [bool], group: u32) -> Option<u32>
     requires few { length pages.now < 2 ^ 32 }
-    requires within { start_of_group group ≤ length pages.now }
+    requires within { group_size * group ≤ length pages.now }
     requires full { AreFull cluster_size pages.now full.old }
-    ensures lowest { result ≡ lowest pages.now (start_of_group group) (end_of_group group) }
+    ensures lowest { result ≡ lowest_in group_size pages.now group }
     ensures full { AreFull cluster_size pages.now full.new }
 {
     let first = group * GROUP;
@@ -323,7 +323,7 @@ fn lowest_of_cluster(pages: &[Page], full: &mut [bool], cluster: u32) -> Option<
     requires few { length pages.now < 2 ^ 32 }
     requires within { start_of cluster ≤ length pages.now }
     requires full { AreFull cluster_size pages.now full.old }
-    ensures lowest { result ≡ lowest pages.now (start_of cluster) (end_of cluster) }
+    ensures lowest { result ≡ lowest_in cluster_size pages.now cluster }
     ensures full { AreFull cluster_size pages.now full.new }
 {
     if full[cluster as usize] {
