@@ -214,7 +214,7 @@ impl Clusters {
         Some(page)
     }
 
-    /// Marks the current cluster, as `mark` does.
+    /// Marks the current cluster, which is left, where it is full.
     fn mark_current(&mut self)
         ensures { self.new ≡ self.old }
     {
@@ -223,7 +223,7 @@ impl Clusters {
         }
     }
 
-    /// Marks the cluster where it is full, and its group where that is.
+    /// Marks a cluster where it is full, and its group where that is full, too.
     fn mark(&mut self, cluster: u32)
         requires { start_of cluster ≤ length self.old.pages }
         ensures { self.new ≡ self.old }
