@@ -10,7 +10,7 @@ use Rattle.std.proofs.lemmas.List.Sums.{sum_by-cons}
 use Rattle.av_clusters.specs.declared.clusters.Page.{Page}
 use Rattle.av_clusters.specs.declared.clusters.Page.TheVariants.{Unusable, Free}
 use Rattle.av_clusters.specs.Clusters.{IsWhole, AreFull, itself, is_free, is_taken, page_at, lowest, has_free, start_of, end_of, at_first, pages_of, clusters_of}
-use Rattle.av_clusters.proofs.Pages.{found}
+use Rattle.av_clusters.proofs.Pages.{found, none_free, none_of}
 use Rattle.av_clusters.proofs.Whole.{flag_below}
 
 -- ---- the pages
@@ -195,11 +195,36 @@ none_full size pages = record {
   none_free = λ q t. absurd (false≢true (sym (unmarked (length pages / size + 1) (q / size)) ∙ t));
 }
 
+-- each cluster without a free page is marked at once
+full_fresh : (pages : List Page) → AreFull 256 pages (map (λ c. not (has_free pages c)) (range_with_len 0 (length pages / 256 + 1)))
+full_fresh pages = record {
+  count = count;
+  none_free = λ q is. by q is (cases_lt (q / 256) (length pages / 256 + 1));
+}
+  where
+    count : length (map (λ c. not (has_free pages c)) (range_with_len 0 (length pages / 256 + 1))) ≡ length pages / 256 + 1
+    count = length-map-range_with_len (λ c. not (has_free pages c)) 0 (length pages / 256 + 1)
+
+    unset : (b : Bool) → not b ≡ true → b ≡ false
+    unset true h = absurd (false≢true h)
+    unset false h = refl
+
+    by : (q : ℕ) → get_or (map (λ c. not (has_free pages c)) (range_with_len 0 (length pages / 256 + 1))) (q / 256) false ≡ true
+        → (q / 256 < length pages / 256 + 1) ⊎ (length pages / 256 + 1 ≤ q / 256) → is_free (page_at pages q) ≡ false
+    by q is (inl below) =
+        let at = get_or-map-range_with_len (λ c. not (has_free pages c)) 0 (length pages / 256 + 1) (q / 256) (q / 256) false below
+        (none_plus (q / 256)) in
+        let none = none_of (lowest pages (start_of (q / 256)) (end_of (q / 256))) (unset (has_free pages (q / 256)) (sym at ∙ is)) in
+        none_free pages (start_of (q / 256)) (end_of (q / 256)) q none (omega arith) (omega arith)
+    by q is (inr past) = absurd (false≢true (sym (get_or_past (map (λ c. not (has_free pages c)) (range_with_len 0 (length pages / 256 + 1)))
+        (q / 256) false (subst (λ n. n ≤ q / 256) (sym count) past)) ∙ is))
+
 pub whole_fresh : (n : ℕ) (bad : List ℕ) (len room : ℕ) → n < 2 ^ 32 → len ≡ length (clusters_of (pages_of n bad))
     → length (pages_of n bad) / 256 + 1 ≤ room
     → IsWhole (pages_of n bad) (count_by is_free (pages_of n bad)) (clusters_of (pages_of n bad)) len room
     (map (λ c. not (has_free (pages_of n bad) c)) (range_with_len 0 (length (pages_of n bad) / 256 + 1)))
-    (replicate (length (pages_of n bad) / 256 + 1) false) (replicate (length (pages_of n bad) / 16384 + 1) false) None 0
+    (map (λ c. not (has_free (pages_of n bad) c)) (range_with_len 0 (length (pages_of n bad) / 256 + 1)))
+    (replicate (length (pages_of n bad) / 16384 + 1) false) None 0
 whole_fresh n bad len room few same wide =
     let count = length-map-range_with_len (λ c. not (has_free (pages_of n bad) c)) 0 (length (pages_of n bad) / 256 + 1) in
     record {
@@ -212,7 +237,7 @@ whole_fresh n bad len room few same wide =
       once = λ c. once_from (has_free (pages_of n bad)) 0 (length (pages_of n bad) / 256 + 1) c c (sym (none_plus c));
       held = λ q t. absurd (false≢true (sym (never_taken n bad q) ∙ t));
       fit = λ c h. fit_fresh (pages_of n bad) c (flagged (has_free (pages_of n bad)) (length (pages_of n bad) / 256 + 1) c h);
-      full = none_full 256 (pages_of n bad);
+      full = full_fresh (pages_of n bad);
       full_groups = none_full 16384 (pages_of n bad);
       fills = tt;
     }

@@ -409,9 +409,16 @@ fills_unless flags count mark c (Some d) h = by (c == d) refl
     by true e = tt
     by false e = let apart : d ≢ c = grind (arith, nat_tests) in (get_or-set_other flags c d false true apart ∙ h.0, h.1, h.2, h.3)
 
-pub first_is : (frees : List ℕ) (c : ℕ) → 0 < length frees → c ≡ get_or frees 0 c → frees ≡ c ∷ drop 1 frees
+first_is : (frees : List ℕ) (c : ℕ) → 0 < length frees → c ≡ get_or frees 0 c → frees ≡ c ∷ drop 1 frees
 first_is [] c h is = absurd (omega (arith, h))
 first_is (d ∷ frees) c h is = ap (λ x. x ∷ frees) (sym is)
+
+-- the first free one, after a call that changes no value
+pub first_in_new : (frees : List ℕ) (c : ℕ) → 0 < length frees → c ≡ get_or frees 0 c → (old new : Slots) → new ≡ old → old.free ≡ frees
+    → new.free ≡ c ∷ drop 1 new.free
+first_in_new frees c some is old new same named =
+    let free : new.free ≡ frees = ap (λ (v : Slots). v.free) same ∙ named in
+    free ∙ first_is frees c some is ∙ ap (λ (fs : List ℕ). c ∷ drop 1 fs) (sym free)
 
 pub one_shorter : (frees : List ℕ) (c n n' : ℕ) → frees ≡ c ∷ drop 1 frees → n ≡ length frees → n' + 1 ≡ n → n' ≡ length (drop 1 frees)
 one_shorter frees c n n' is e f = sum _ (e ∙ ap length is) f

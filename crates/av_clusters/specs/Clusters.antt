@@ -42,6 +42,10 @@ pages_between from to pages = take (to - from) (drop from pages)
 abbrev pub lowest : List Page → ℕ → ℕ → Option ℕ
 lowest pages from to = option_map (λ i. from + i) (position is_free (pages_between from to pages))
 
+-- the lowest in one part of an area, whose parts have this many pages: its clusters, or their groups
+abbrev pub lowest_in : ℕ → List Page → ℕ → Option ℕ
+lowest_in size pages c = lowest pages (size * c) (size * c + size)
+
 -- how many pages a cluster has; the last one of an area may be cut short
 abbrev pub cluster_size : ℕ
 cluster_size = 256
@@ -56,7 +60,7 @@ end_of c = cluster_size * c + cluster_size
 
 -- whether a page of the cluster is free
 abbrev pub has_free : List Page → ℕ → Bool
-has_free pages c = is_some (lowest pages (start_of c) (end_of c))
+has_free pages c = is_some (lowest_in cluster_size pages c)
 
 -- whether one is taken
 abbrev pub has_taken : List Page → ℕ → Bool
@@ -77,14 +81,6 @@ cluster_count n = n / cluster_size + 1
 -- how many pages a group of 64 clusters has; the last one of an area may be cut short
 abbrev pub group_size : ℕ
 group_size = 64 * cluster_size
-
--- a group's first page
-abbrev pub start_of_group : ℕ → ℕ
-start_of_group g = group_size * g
-
--- the page after its last
-abbrev pub end_of_group : ℕ → ℕ
-end_of_group g = group_size * g + group_size
 
 -- how many groups an area of n pages has
 abbrev pub group_count : ℕ → ℕ
@@ -120,8 +116,7 @@ in_current t (Some c) = option_map (λ p. (p, after_fill t c p)) (lowest t.pages
 abbrev pub in_next : Slots → List ℕ → Option (ℕ × Slots)
 in_next t [] = None
 in_next t (c ∷ rest) =
-    option_map (λ p. (p, after_fill (record t { free = rest }) c p))
-    (lowest t.pages (start_of c) (end_of c))
+    option_map (λ p. (p, after_fill (record t { free = rest }) c p)) (lowest_in cluster_size t.pages c)
 
 -- else, the lowest of the area
 abbrev pub anywhere : Slots → Option (ℕ × Slots)

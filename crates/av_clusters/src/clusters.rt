@@ -11,7 +11,7 @@ ghost use Rattle.av_clusters.specs.Clusters.{Takes, Returns, in_current, in_next
 ghost use Rattle.av_clusters.specs.Clusters.{is_free, is_taken, page_at, pages_between, lowest};
 ghost use Rattle.av_clusters.specs.Clusters.{has_free, has_taken, start_of, end_of, pages_of};
 ghost use Rattle.av_clusters.specs.Clusters.{cluster_size, clusters_of, cluster_count};
-ghost use Rattle.av_clusters.specs.Clusters.{group_size, group_count, start_of_group, end_of_group};
+ghost use Rattle.av_clusters.specs.Clusters.{group_size, group_count, lowest_in};
 ghost use Rattle.av_clusters.specs.declared.clusters.Page.TheVariants.{Unusable, Free, Taken};
 
 use std::alloc::{AllocError, Global};
@@ -65,7 +65,8 @@ pub struct Clusters {
     free: VecDeque<u32>,
     /// Whether each cluster is out of `free`, so that no one has to search it.
     busy: Vec<bool>,
-    /// Clusters seen to have no free page, so that a search of the whole area passes them over.
+    /// Clusters seen to have no free page, so that a search of the whole area passes them over. A
+    /// cluster is marked when it is left, and when such a search took its last page.
     full: Vec<bool>,
     /// Groups of clusters seen to have none, so that it passes over the marks of their clusters.
     full_groups: Vec<bool>,
@@ -99,8 +100,8 @@ impl Clusters {
         let pages = all_pages(alloc, pages, bad)?;
         let left = count_free(&pages);
         let free = free_clusters(alloc, &pages)?;
-        let busy = busy_clusters(alloc, &pages)?;
-        let full = none_full(alloc, cluster_count(&pages))?;
+        let busy = full_clusters(alloc, &pages)?;
+        let full = full_clusters(alloc, &pages)?;
         let full_groups = none_full(alloc, group_count(&pages))?;
         Ok(Clusters {
             pages,
@@ -180,13 +181,14 @@ impl Clusters {
         Some(page)
     }
 
-    /// Opens the first free cluster, and takes its lowest slot.
+    /// Leaves the current cluster, opens the first free one, and takes its lowest slot.
     fn take_in_next(&mut self) -> Option<u32>
         ensures gave { Gave (in_next self.old self.old.free) self.old result self.new }
         ensures slot { IfSome result (λ p. Takes self.old.pages p self.new.pages) }
         ensures none { IfNone result (self.old.free ≡ []) }
     {
         let cluster = *self.free.front()?;
+        self.mark_current();
         let page = lowest(&self.pages, start_of(cluster), end_of(cluster))?;
         self.free.pop_front();
         self.busy[cluster as usize] = true;
@@ -208,7 +210,25 @@ impl Clusters {
         let page = lowest_of_area(&self.pages, &mut self.full, &mut self.full_groups)?;
         self.pages[page as usize] = Page::Taken;
         self.left -= 1;
+        self.mark(page / CLUSTER as u32);
         Some(page)
+    }
+
+    /// Marks the current cluster, which is left, where it is full.
+    fn mark_current(&mut self)
+        ensures { self.new ≡ self.old }
+    {
+        if let Some(cluster) = self.current {
+            self.mark(cluster);
+        }
+    }
+
+    /// Marks a cluster where it is full, and its group where that is full, too.
+    fn mark(&mut self, cluster: u32)
+        requires { start_of cluster ≤ length self.old.pages }
+        ensures { self.new ≡ self.old }
+    {
+        mark_if_full(&self.pages, &mut self.full, &mut self.full_groups, cluster);
     }
 }
 
@@ -263,10 +283,10 @@ fn lowest_of_group(
     group: u32,
 ) -> Option<u32>
     requires few { length pages.now < 2 ^ 32 }
-    requires within { start_of_group group ≤ length pages.now }
+    requires within { group_size * group ≤ length pages.now }
     requires full { AreFull cluster_size pages.now full.old }
     requires groups { AreFull group_size pages.now full_groups.old }
-    ensures lowest { result ≡ lowest pages.now (start_of_group group) (end_of_group group) }
+    ensures lowest { result ≡ lowest_in group_size pages.now group }
     ensures full { AreFull cluster_size pages.now full.new }
     ensures groups { AreFull group_size pages.now full_groups.new }
 {
@@ -283,9 +303,9 @@ fn lowest_of_group(
 /// The lowest free page of the group. It passes over the clusters that are marked as full.
 fn lowest_of_clusters(pages: &[Page], full: &mut [bool], group: u32) -> Option<u32>
     requires few { length pages.now < 2 ^ 32 }
-    requires within { start_of_group group ≤ length pages.now }
+    requires within { group_size * group ≤ length pages.now }
     requires full { AreFull cluster_size pages.now full.old }
-    ensures lowest { result ≡ lowest pages.now (start_of_group group) (end_of_group group) }
+    ensures lowest { result ≡ lowest_in group_size pages.now group }
     ensures full { AreFull cluster_size pages.now full.new }
 {
     let first = group * GROUP;
@@ -303,7 +323,7 @@ fn lowest_of_cluster(pages: &[Page], full: &mut [bool], cluster: u32) -> Option<
     requires few { length pages.now < 2 ^ 32 }
     requires within { start_of cluster ≤ length pages.now }
     requires full { AreFull cluster_size pages.now full.old }
-    ensures lowest { result ≡ lowest pages.now (start_of cluster) (end_of cluster) }
+    ensures lowest { result ≡ lowest_in cluster_size pages.now cluster }
     ensures full { AreFull cluster_size pages.now full.new }
 {
     if full[cluster as usize] {
@@ -314,6 +334,20 @@ fn lowest_of_cluster(pages: &[Page], full: &mut [bool], cluster: u32) -> Option<
         full[cluster as usize] = true;
     }
     page
+}
+
+/// Marks the cluster as full where it has no free page, and its group where that has none.
+fn mark_if_full(pages: &[Page], full: &mut [bool], full_groups: &mut [bool], cluster: u32)
+    requires few { length pages.now < 2 ^ 32 }
+    requires within { start_of cluster ≤ length pages.now }
+    requires full { AreFull cluster_size pages.now full.old }
+    requires groups { AreFull group_size pages.now full_groups.old }
+    ensures full { AreFull cluster_size pages.now full.new }
+    ensures groups { AreFull group_size pages.now full_groups.new }
+{
+    if lowest_of_cluster(pages, full, cluster).is_none() {
+        lowest_of_group(pages, full, full_groups, cluster / GROUP);
+    }
 }
 
 fn first_free(pages: &[Page]) -> Option<usize>
@@ -437,17 +471,17 @@ fn free_clusters(alloc: Global, pages: &[Page]) -> Result<VecDeque<u32>, AllocEr
 }
 
 /// Whether each cluster has no free page.
-fn busy_clusters(alloc: Global, pages: &[Page]) -> Result<Vec<bool>, AllocError>
+fn full_clusters(alloc: Global, pages: &[Page]) -> Result<Vec<bool>, AllocError>
     requires { length pages.now < 2 ^ 32 }
     ensures { IfOk result (λ v. v.items
         ≡ map (λ c. not (has_free pages.now c))
         (range_with_len 0 (cluster_count (length pages.now)))) }
 {
-    let mut busy = Vec::new(alloc);
+    let mut full = Vec::new(alloc);
     for cluster in 0..cluster_count(pages) {
-        busy.push(!has_free(pages, cluster))?;
+        full.push(!has_free(pages, cluster))?;
     }
-    Ok(busy)
+    Ok(full)
 }
 
 fn none_full(alloc: Global, count: u32) -> Result<Vec<bool>, AllocError>

@@ -11,11 +11,11 @@ count_free-left-requires c = few_pages c.args.pages c.args.bad.now _ (c.deref.en
 pub free_clusters-requires : goal.free_clusters-requires
 free_clusters-requires c = few_pages c.args.pages c.args.bad.now _ (c.deref-2.ensures.value ∙ c.in_ok-pages.ensures) (omega arith)
 
-pub busy_clusters-requires : goal.busy_clusters-requires
-busy_clusters-requires c = few_pages c.args.pages c.args.bad.now _ (c.deref-3.ensures.value ∙ c.in_ok-pages.ensures) (omega arith)
+pub full_clusters-requires : goal.full_clusters-requires
+full_clusters-requires c = few_pages c.args.pages c.args.bad.now _ (c.deref-3.ensures.value ∙ c.in_ok-pages.ensures) (omega arith)
 
-pub cluster_count-requires : goal.cluster_count-requires
-cluster_count-requires c = few_pages c.args.pages c.args.bad.now _ (c.deref-4.ensures.value ∙ c.in_ok-pages.ensures) (omega arith)
+pub full_clusters-requires-2 : goal.full_clusters-requires-2
+full_clusters-requires-2 c = few_pages c.args.pages c.args.bad.now _ (c.deref-4.ensures.value ∙ c.in_ok-pages.ensures) (omega arith)
 
 pub group_count-requires : goal.group_count-requires
 group_count-requires c = few_pages c.args.pages c.args.bad.now _ (c.deref-5.ensures.value ∙ c.in_ok-pages.ensures) (omega arith)
@@ -31,7 +31,6 @@ invariant_of-result c =
       c.deref-2.ensures.value,
       c.deref-3.ensures.value,
       c.in_ok-full.ensures,
-      c.cluster_count.ensures,
       c.deref-4.ensures.value,
       c.in_ok-full_groups.ensures,
       c.group_count.ensures,

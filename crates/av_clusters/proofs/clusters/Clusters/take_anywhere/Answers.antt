@@ -34,6 +34,6 @@ returns-in_err-page-clause-slot c = rw c.from_residual.ensures (subst (λ (v : S
     c.lowest_of_area.ensures.lowest c.in_err-page.was)))
 
 pub returns-clause-slot : goal.returns-clause-slot
-returns-clause-slot c = rw (← c.self.view_is) (takes c.self.inside.pages.items c.in_ok-page.page
+returns-clause-slot c = rw (c.mark.ensures, ← c.self.view_is) (takes c.self.inside.pages.items c.in_ok-page.page
     (found c.self.inside.pages.items _ _ _ (answered _ _ _ _ _ _ _ _ c.deref.ensures.value refl (ap length c.deref.ensures.value)
     c.in_ok-page.ensures.lowest refl)).2)
