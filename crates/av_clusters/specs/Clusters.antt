@@ -42,7 +42,7 @@ pages_between from to pages = take (to - from) (drop from pages)
 abbrev pub lowest : List Page → ℕ → ℕ → Option ℕ
 lowest pages from to = option_map (λ i. from + i) (position is_free (pages_between from to pages))
 
--- the lowest in one part of an area, whose parts have this many pages: its clusters, or their groups
+-- the lowest in one part of an area, whose parts have so many pages: its clusters, or their groups
 abbrev pub lowest_in : ℕ → List Page → ℕ → Option ℕ
 lowest_in size pages c = lowest pages (size * c) (size * c + size)
 
@@ -116,7 +116,8 @@ in_current t (Some c) = option_map (λ p. (p, after_fill t c p)) (lowest t.pages
 abbrev pub in_next : Slots → List ℕ → Option (ℕ × Slots)
 in_next t [] = None
 in_next t (c ∷ rest) =
-    option_map (λ p. (p, after_fill (record t { free = rest }) c p)) (lowest_in cluster_size t.pages c)
+    option_map (λ p. (p, after_fill (record t { free = rest }) c p))
+    (lowest_in cluster_size t.pages c)
 
 -- else, the lowest of the area
 abbrev pub anywhere : Slots → Option (ℕ × Slots)

@@ -409,7 +409,8 @@ module _ (n : ℕ) (old now : PortsView) (kernel : Machine) (sink : SinkView) wh
 
     -- it failed
     unflushed : (status : Status) (run : Run) (rest written : List ℕ) → Replays n old now run rest written → IsHandedBack kernel now.device n run →
-        StopsAt status new run rest → written ≡ text_of_run run.transcript → KeepsBack now.sink sink → Replayed n statuses.WriteFault old new (Some kernel)
+        StopsAt status new run rest → written ≡ text_of_run run.transcript → KeepsBack now.sink sink
+        → Replayed n statuses.WriteFault old new (Some kernel)
     unflushed status run rest written replays left stops whole keeps =
         let untold = fails_untold keeps in
         record {
