@@ -3,8 +3,10 @@
 //!
 //! A walk begins at the frame's home, an anon_vma and a linear index. It asks which areas that are
 //! linked to the anon_vma hold the index, and looks at one entry in each, through the trait `Look`
-//! alone: a scan of a table would count. It takes no memory. The ledger is the trait's own: a look
-//! counts in the caller's steps, or can't be made.
+//! alone: a scan of a table would count. It takes no memory. The ledger is the trait's own, and a
+//! look counts in the caller's steps. A body that opens a book of that ledger is refused where it
+//! opens it, as the edit `walk_scans_all_tables` shows; one with a book of another ledger has no
+//! look to call, so long as the function has this one bound.
 //!
 //! Proved: where spans go with links and each of the entries is covered by the home, the walk finds
 //! each of them once, and nothing else. It takes exactly as many steps as spans of the anon_vma
@@ -17,9 +19,10 @@
 //! and none where no entry names the frame.
 //!
 //! `Stores` shows areas, anon_vmas and page tables as they are kept, and `StoresMut` lends the
-//! tables for writing. Overlaps are found a batch at a time (`Look::next`), in one way through the
-//! tree of spans. Not counted: how often a walk asks for the next batch, by which it sees no entry,
-//! and how often an entry that was looked at is written (`change`).
+//! tables for writing. Overlaps are found a batch at a time (`Look::next`), by a call of
+//! `Spans::overlaps`; that this is how, in one way through the tree, is no clause of `next`. Not
+//! counted: how often a walk asks for the next batch, by which it sees no entry, and how often an
+//! entry that was looked at is written (`change`).
 #![tactic(auto)]
 
 mod ahead;
