@@ -1,5 +1,6 @@
 -- How often each kind of reply came.
-use Rattle.std.specs.Prelude.{ℕ, ◌+◌, ◌≤◌}
+use Rattle.std.specs.Prelude.{ℕ, ◌+◌, ◌≤◌, Bool, true, false, ◌==◌, ◌&&◌, if◌then◌else◌, List, []}
+use Rattle.std.specs.Prelude.{◌∷◌, map, codes}
 use Rattle.av_trace.specs.declared.reply.Answer.{Answer}
 use Rattle.av_trace.specs.declared.reply.Answer.TheVariants.{Done, MapAt, Data, Refused, Segv, Bus}
 use Rattle.av_trace.specs.declared.reply.Answer.TheVariants.{Oom, On, NoFrame}
@@ -41,3 +42,29 @@ pub record IsAtMost (n : ℕ) (t : Tally) : Type 0 where
   pub segv : t.segv ≤ n
   pub bus : t.bus ≤ n
   pub oom : t.oom ≤ n
+
+-- ---- by first words
+
+-- what stands before the first space of a line
+abbrev pub first_word : List ℕ → List ℕ
+first_word [] = []
+first_word (b ∷ bs) = if b == 32 then [] else b ∷ first_word bs
+
+-- whether two words are the same
+abbrev pub is_word : List ℕ → List ℕ → Bool
+is_word [] [] = true
+is_word [] (b ∷ bs) = false
+is_word (a ∷ rest) [] = false
+is_word (a ∷ rest) (b ∷ bs) = a == b && is_word rest bs
+
+-- the words that are counted, and how often each came
+abbrev pub by_word : Tally → List (List ℕ × ℕ)
+by_word t =
+    (codes "ok", t.done) ∷ (codes "map", t.mapped) ∷ (codes "data", t.shown) ∷ (codes "on", t.on)
+    ∷ (codes "err", t.refused) ∷ (codes "segv", t.segv) ∷ (codes "bus", t.bus)
+    ∷ (codes "oom", t.oom) ∷ []
+
+-- this one came once more, if it is counted
+abbrev pub with_word : List ℕ → List (List ℕ × ℕ) → List (List ℕ × ℕ)
+with_word word counts =
+    map (λ (row : List ℕ × ℕ). (row.0, if is_word word row.0 then row.1 + 1 else row.1)) counts

@@ -2,7 +2,9 @@
 
 ghost use Rattle.std.specs.Prelude.{◌≡◌, ◌^◌, ◌<◌};
 ghost use Rattle.av_base.specs.Limits.{most_commands};
-ghost use Rattle.av_kernel.specs.Tally.{tally_with, none_counted, IsAtMost};
+ghost use Rattle.av_trace.specs.Reply.{answer_line};
+ghost use Rattle.av_kernel.specs.Tally.{IsAtMost, by_word, first_word, none_counted};
+ghost use Rattle.av_kernel.specs.Tally.{tally_with, with_word};
 
 use av_trace::Answer;
 
@@ -37,10 +39,12 @@ impl Tally {
         }
     }
 
-    /// One more reply with this answer. A report is not counted.
+    /// One more reply with this answer, by the first word of its line. A report is not counted.
     pub fn count(&mut self, answer: &Answer)
         requires { IsAtMost most_commands self.old }
-        ensures { self.new ≡ tally_with answer.now self.old }
+        ensures kind { self.new ≡ tally_with answer.now self.old }
+        ensures word { by_word self.new
+            ≡ with_word (first_word (answer_line answer.now)) (by_word self.old) }
     {
         match answer {
             Answer::Done => self.done += 1,

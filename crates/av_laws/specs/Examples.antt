@@ -1,7 +1,8 @@
 -- Worked examples of single commands: what they are refused for, what they answer, which events
 -- they have, and what is left. What follows from these and from the laws of this crate (that a
--- command has one reply and leaves one state, that `maps` and `areas` have one answer) isn't
--- stated: so no reply that differs from these may come.
+-- command has one reply and leaves one state where no failure of a device shows, that `maps` and
+-- `areas` have one answer) isn't stated: so of the replies that show no failure none that differs
+-- from these may come. Which may come behind a failure, examples say that refuse the others.
 -- Which example would fail if a definition were wrong:
 --   refusals and their order (`tests`): refusals, refusals_in_a_crowd, room_for_one,
 --     refusals_of_areas
@@ -16,6 +17,7 @@
 --     named_by_other
 --   where an access stops (`Accesses`, `stop_answer`, `bytes_before`): denied, read_past, lost,
 --     starved_behind
+--   which page may be lost (`IsLost`): lost_without_frame, cached_lost, mapped_lost
 --   how an access ends that is served whole (`read_answer`, `page_events`): read_whole,
 --     written_whole
 --   why it stops (`RunsOut`, `out_of`): starved, no_copy, starved_behind_pass

@@ -5,7 +5,8 @@
 --   who is passed over (`no_slot`, `Turns`, `stays_cached`): none_while_closing, past_stuck_frame,
 --     clean_passed_over
 --   which slot a frame gets (`IsSlotFor`, `may_give`): slot_while_closing
---   when the pass ends (`Turns`, `IsPass`): past_failure, freed_by_completion
+--   when the pass ends (`Turns`, `IsPass`): past_failure, given_up_after_failure,
+--     freed_by_completion
 --   which writes end before it (`IsPass`): all_completed
 --   `bus` behind a pass (`IsLost`, `causes`): lost_behind_pass, lost_and_failed
 -- Frames 0 and 1 are all that there are, and where it isn't said otherwise both are cached, clean,

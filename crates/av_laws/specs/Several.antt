@@ -3,10 +3,13 @@
 --   where a frame goes in its list (`to_active`, `after_note`): to_active_head, started_to_head
 --   what counts over all areas (`is_full`, `totals`): not_full, full, all_slots, all_free_slots
 --   which page of the device it is (`HoldsTold`, `IsClean`): page_at_next_slot, clean_at_next_slot
+--   which area of the device it is (`HoldsTold`, `IsClean`, `headers_of`, `first_pages`):
+--     page_of_other_area, clean_by_other_area, second_header
 --   what stays of a device (`IsSameDevice`): other_slots, other_page_0 (with same_header)
-use Rattle.std.specs.Prelude.{ℕ, false, ◌==◌, if◌then◌else◌, List, [], ◌∷◌, Some, None, drop}
-use Rattle.std.specs.Prelude.{replicate}
-use Rattle.av_plain.specs.Device.{Device}
+use Rattle.std.specs.Prelude.{ℕ, false, ◌==◌, ◌&&◌, if◌then◌else◌, List, [], ◌∷◌, Option, Some}
+use Rattle.std.specs.Prelude.{None, drop, option_and_then, replicate}
+use Rattle.av_swapdev.specs.Header.{Layout}
+use Rattle.av_plain.specs.Device.{Device, device_by, headers_of}
 use Rattle.av_plain.specs.Ledger.{InSlot, Ledger, Setting, first_ledger}
 use Rattle.av_plain.specs.Stands.{BytesStand}
 use Rattle.av_plain.specs.Transcript.{State}
@@ -45,3 +48,14 @@ abbrev pub with_other_page_0 : Device
 with_other_page_0 = record (swap_device 9) {
   pages = Some (λ k page. if page == 0 then 1 ∷ drop 1 header_page else 9 ∷ replicate 4095 0);
 }
+
+-- the pages of area 0 begin with 7; area 1 has a header, and its other pages begin with 9
+abbrev pub two_told : Device
+two_told = device_by two_swaps.sizes
+    (Some (λ k page. if k == 1 && page == 0 then header_page
+    else (if k == 1 then 9 else 7) ∷ replicate 4095 0))
+    0
+
+-- what the header of an area says, if it is told and has no fault
+abbrev pub header_at : ℕ → Device → Option Layout
+header_at k d = option_and_then (λ headers. headers k) (headers_of d)

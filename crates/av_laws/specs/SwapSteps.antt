@@ -5,6 +5,7 @@
 --   which frames, and in which order (`from_tail`): two_reclaimed, two_aged
 --   which writes end, and in which order (`CompletesFirst`): first_completed, both_completed,
 --     second_too
+--   what is dropped behind a write that ended (`end_notes`): failed_stays
 --   how a clean frame leaves (`leave_notes`): clean_reclaimed
 --   the slots of an area that is turned off, in order (`Empties`, `map_notes`): two_emptied
 --   where a `swapoff` ends (`EndsAt`): left_named, cached_unread

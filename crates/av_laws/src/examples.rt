@@ -198,6 +198,8 @@ pub fn pages_are_served()
         (Some (Starved (record { pinned = 0; noslot = 0; fault = 0 }))) }
     ensures lost_without_frame { IsServed (with_swap 0 8 7) (paged_out 7 []) false 1 []
         (Some Lost) → ⊥ }
+    ensures cached_lost { IsServed (with_swap 4 8 7) in_writeback false 1 [] (Some Lost) → ⊥ }
+    ensures mapped_lost { IsServed (with_swap 4 8 7) in_swap_cache false 1 [] (Some Lost) → ⊥ }
     ensures no_copy { IsServed (with_swap 1 8 7) slot_shared true 2
         (Loaded (slot 1) 0 ∷ Mapped 2 0x7fffffffe000 0 ∷ [])
         (Some (Starved (record { pinned = 1; noslot = 0; fault = 0 }))) }

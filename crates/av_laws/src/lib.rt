@@ -61,8 +61,8 @@ pub use read_back::{
 };
 pub use refusals::refusals_change_nothing;
 pub use several::{
-    all_areas_count, kept_frames_go_to_the_head, page_0_of_a_device_stays,
-    pages_are_at_their_own_slots,
+    all_areas_count, areas_have_pages_of_their_own, kept_frames_go_to_the_head,
+    page_0_of_a_device_stays, pages_are_at_their_own_slots,
 };
 pub use slots::{
     areas_are_turned_on_anew, priorities_decide, slots_are_given_in_turn, slots_come_back,

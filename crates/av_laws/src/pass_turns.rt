@@ -3,9 +3,11 @@
 ghost use Rattle.std.specs.Prelude.{◌≡◌, [], ◌∷◌, true, false, Some, None};
 ghost use Rattle.av_trace.specs.declared.command.Command.TheVariants.{Read};
 ghost use Rattle.av_trace.specs.declared.note.Note.TheVariants.{
+  Put,
   Unmapped,
   Started,
   Written,
+  Failed,
   Dropped,
 };
 ghost use Rattle.av_plain.specs.Event.{note_events};
@@ -60,12 +62,15 @@ pub fn passes_end_with_a_free_frame()
     ensures none_while_closing { Passes bad_first (Some 0) full.ledger [] }
 {}
 
-/// No pass goes past a clean frame, and none puts a frame at a slot of an area that is closing,
-/// though another area has slots.
+/// No pass goes past a clean frame, none ends with a write that failed while a frame has its turn
+/// still, and none puts a frame at a slot of an area that is closing, though another area has
+/// slots.
 pub fn changed_passes_are_refused()
     ensures clean_passed_over { Passes (with_swap 2 8 7) None
         (both_cached false (InSlot (slot 1)) [] (1 ∷ 0 ∷ []))
         (Dropped (slot 2) ∷ []) → ⊥ }
+    ensures given_up_after_failure { Passes (with_swap 2 8 7) None (last_cached 7)
+        (Put 0 (slot 2) ∷ Unmapped 0 ∷ Started (slot 2) ∷ Failed (slot 2) ∷ []) → ⊥ }
     ensures slot_while_closing { Passes one_frame_two_areas (Some 0) (lower_in_use 1)
         to_lower_area → ⊥ }
 {}

@@ -1,24 +1,27 @@
 //! Worked examples with several of a kind that differ: frames in lists, swap areas, pages of a
 //! device.
 
-ghost use Rattle.std.specs.Prelude.{◌≡◌, [], ◌∷◌, true, false};
+ghost use Rattle.std.specs.Prelude.{◌≡◌, [], ◌∷◌, true, false, Some};
 ghost use Rattle.av_trace.specs.declared.note.Note.TheVariants.{Kept};
 ghost use Rattle.av_trace.specs.declared.note.Cause.TheVariants.{Referenced, WriteStarted};
 ghost use Rattle.av_plain.specs.Device.{IsSameDevice, headers_of};
 ghost use Rattle.av_plain.specs.Event.{after_note};
 ghost use Rattle.av_plain.specs.Ledger.{is_full};
 ghost use Rattle.av_plain.specs.Report.{totals};
-ghost use Rattle.av_laws.specs.Examples.{cached_out, paged_out};
+ghost use Rattle.av_plain.specs.Stands.{HoldsTold, IsClean};
+ghost use Rattle.av_laws.specs.Examples.{cached_out, page_with, paged_out};
 ghost use Rattle.av_laws.specs.Several.{
   HoldWith,
+  header_at,
   one_free,
   seven_at,
+  two_told,
   two_untold,
   with_lists,
   with_other_page_0,
 };
-ghost use Rattle.av_laws.specs.Slots.{lower_in_use, two_swaps};
-ghost use Rattle.av_laws.specs.Views.{swap_device};
+ghost use Rattle.av_laws.specs.Slots.{lower_in_use, slot_at, two_swaps};
+ghost use Rattle.av_laws.specs.Views.{cached_view, swap_device};
 
 /// A frame that was referenced goes to the head of active, one whose write started to the head of
 /// inactive.
@@ -43,6 +46,16 @@ pub fn all_areas_count()
 pub fn pages_are_at_their_own_slots()
     ensures page_at_next_slot { HoldWith 2 (paged_out 7 []) → ⊥ }
     ensures clean_at_next_slot { HoldWith 2 (cached_out false false) → ⊥ }
+{}
+
+/// An area has the header on its own page 0, by its own number of pages. A page at one of its slots
+/// isn't held by another area's page of that number, nor is its frame clean by that.
+pub fn areas_have_pages_of_their_own()
+    ensures page_of_other_area { HoldsTold (Some (page_with 7)) two_told (slot_at 1 1) → ⊥ }
+    ensures clean_by_other_area { IsClean (cached_view false false) two_told (slot_at 1 1) (Some 0)
+        → ⊥ }
+    ensures second_header { header_at 1 two_told
+        ≡ Some (record { pages = 8; slots = 7; bad = [] }) }
 {}
 
 /// A device that has other bytes at its slots is still the same one. It isn't where a byte of page

@@ -13,6 +13,7 @@ ghost use Rattle.av_trace.specs.declared.note.Cause.TheVariants.{Referenced};
 ghost use Rattle.av_trace.specs.declared.note.Note.TheVariants.{
   Aged,
   Dropped,
+  Failed,
   Kept,
   Unmapped,
   Written,
@@ -100,6 +101,8 @@ pub fn the_first_writes_are_completed()
         (reply_with Done (Written (slot 2) ∷ [])) }
     ensures both_completed { MayCome (with_swap 4 3 2) [] two_flying (Complete 5)
         (reply_with Done both_written) }
+    ensures failed_stays { MayCome (with_swap 4 3 2) [] two_flying (Complete 1)
+        (reply_with Done (Failed (slot 2) ∷ [])) }
     ensures second_too { MayNotCome (with_swap 4 3 2) [] two_flying (Complete 1)
         (reply_with Done both_written) }
 {}

@@ -1,5 +1,5 @@
-use Rattle.std.specs.Prelude.{false, [], ◌∷◌, refl}
-use Rattle.av_trace.specs.declared.note.Note.TheVariants.{Written}
+use Rattle.std.specs.Prelude.{false, true, [], ◌∷◌, refl}
+use Rattle.av_trace.specs.declared.note.Note.TheVariants.{Failed, Written}
 use Rattle.av_plain.specs.Event.{note_events}
 use Rattle.av_laws.specs.Examples.{slot}
 use Rattle.av_laws.specs.SwapSteps.{both_written}
@@ -18,4 +18,10 @@ returns-clause-both_completed c = (
     answer = (both_written, (false, Written (slot 1) ∷ [], refl, (false, [], refl, refl)), refl, refl, refl);
     notes = refl;
   },
+)
+
+pub returns-clause-failed_stays : goal.returns-clause-failed_stays
+returns-clause-failed_stays c = (
+  note_events (Failed (slot 2) ∷ []),
+  record { answer = (Failed (slot 2) ∷ [], (true, [], refl, refl), refl, refl, refl); notes = refl },
 )

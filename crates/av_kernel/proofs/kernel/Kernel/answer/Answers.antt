@@ -23,7 +23,7 @@ invariant_of-self g c =
     let attached = subst (λ (k : Machine). g.D.SwapDev.sizes c.args.dev.now ≡ sizes_of k.sizes) (sym c.self.view_is) c.requires.attached in
     record {
       attached = c.self.invariant.attached;
-      few = subst (IsAtMost (c.self.inside.steps + 1)) (sym c.count.ensures)
+      few = subst (IsAtMost (c.self.inside.steps + 1)) (sym c.count.ensures.kind)
           (counted-few c.perform.new.reply.answer c.self.inside.tally c.self.inside.steps c.self.invariant.few);
       steady = λ _. subst (λ sizes. IsSteadyAt sizes c.perform.new.mem) attached c.in-Ok.ensures.steady;
     }
