@@ -25,7 +25,8 @@ is_of_pages (Mprotect p a len prot) = true
 is_of_pages (Mremap p a old_len new_len mode) = true
 is_of_pages command = false
 
--- whether a command is handed the device: it may use it, or moves frames towards their slots
+-- whether a command is handed the device: `read`, `write`, `complete`, `swapon` and `swapoff` may
+-- use it, `reclaim` and `age` move frames towards their slots; each other one leaves it as it is
 abbrev pub has_device : Command → Bool
 has_device (Reclaim n) = true
 has_device (Age n) = true

@@ -1,6 +1,6 @@
 //! The kernel, one command at a time.
 
-ghost use Rattle.std.specs.Prelude.{◌≡◌, ◌<◌, ◌≤◌, ◌^◌, IfOk, OnOk, OnErr, length, true, false};
+ghost use Rattle.std.specs.Prelude.{◌≡◌, ◌⊎◌, ◌<◌, ◌≤◌, ◌^◌, IfOk, OnOk, OnErr, length, true, false};
 ghost use Rattle.av_base.specs.Limits.{most_commands};
 ghost use Rattle.av_plain.specs.Device.{Device, IsSameDevice, setting_of};
 ghost use Rattle.av_plain.specs.Report.{totals as totals_of};
@@ -8,7 +8,7 @@ ghost use Rattle.av_plain.specs.Transcript.{State, at_first};
 ghost use Rattle.av_swapdev.specs.Device.{most_areas};
 ghost use Rattle.av_kernel.specs.Kernel.{Stands, Steps, Counts, IsNew, IsSpent};
 ghost use Rattle.av_kernel.specs.Machine.{sizes_of};
-ghost use Rattle.av_kernel.specs.Step.{seen_by};
+ghost use Rattle.av_kernel.specs.Step.{has_device, seen_by};
 
 use crate::report::totals;
 use crate::step::perform;
@@ -97,6 +97,8 @@ impl Kernel {
         ensures spent { OnErr result (IsSpent self.old self.new) }
         ensures same { let d = seen_by D.sizes D.pages D.failures in
             IsSameDevice (d dev.old) (d dev.new) }
+        ensures untouched { (self.old.spent ≡ true) ⊎ (has_device command.now ≡ false)
+            → dev.new ≡ dev.old }
     {
         let mut reply = Reply::new(alloc);
         self.answer(alloc, command, dev, &mut reply)?;
@@ -123,6 +125,8 @@ impl Kernel {
         ensures spent { OnErr result (IsSpent self.old self.new) }
         ensures same { let d = seen_by D.sizes D.pages D.failures in
             IsSameDevice (d dev.old) (d dev.new) }
+        ensures untouched { (self.old.spent ≡ true) ⊎ (has_device command.now ≡ false)
+            → dev.new ≡ dev.old }
     {
         if self.spent {
             return Err(AllocError);

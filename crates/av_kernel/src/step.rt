@@ -56,6 +56,7 @@ pub fn perform<D: SwapDev>(
     ensures same { let d = seen_by D.sizes D.pages D.failures in
         IsSameDevice (d dev.old) (d dev.new) }
     ensures count { frame_count mem.new ≡ frame_count mem.old }
+    ensures untouched { has_device command.now ≡ false → dev.new ≡ dev.old }
 {
     if let Answer::Data(shown) = &mut reply.answer {
         swap(shown, spare);
@@ -86,8 +87,9 @@ fn dispatch<D: SwapDev>(
     requires attached { D.sizes dev.old ≡ sizes_of sizes.now }
     requires few { length sizes.now ≤ most_areas }
     requires cleared { IsCleared reply.old }
-    ensures { let d = seen_by D.sizes D.pages D.failures in Does (d dev.old) (d dev.new)
+    ensures does { let d = seen_by D.sizes D.pages D.failures in Does (d dev.old) (d dev.new)
         mem.old mem.new command.now (reply_in reply.new result) }
+    ensures untouched { has_device command.now ≡ false → dev.new ≡ dev.old }
 {
     match command {
         Command::Read {

@@ -32,7 +32,7 @@ pub do_beside-requires-clause-beside : goal.do_beside-requires-clause-beside
 do_beside-requires-clause-beside g c = left c.args.command.now c.in_default.not-Read c.in_default.not-Write c.in_default.not-Reclaim
     c.in_default.not-Age c.in_default.not-Complete c.in_default.not-Swapon c.in_default.not-Swapoff
 
-pub returns-in_default : goal.returns-in_default
-returns-in_default g c = beside c.args.mem.now c.do_beside.new.mem c.args.command.now _
+pub returns-in_default-clause-does : goal.returns-in_default-clause-does
+returns-in_default-clause-does g c = beside c.args.mem.now c.do_beside.new.mem c.args.command.now _
     (unused c.args.command.now (left c.args.command.now c.in_default.not-Read c.in_default.not-Write c.in_default.not-Reclaim
     c.in_default.not-Age c.in_default.not-Complete c.in_default.not-Swapon c.in_default.not-Swapoff)) c.do_beside.ensures _
