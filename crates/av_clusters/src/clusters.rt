@@ -65,8 +65,8 @@ pub struct Clusters {
     free: VecDeque<u32>,
     /// Whether each cluster is out of `free`, so that no one has to search it.
     busy: Vec<bool>,
-    /// Clusters seen to have no free page, so that a search of the whole area passes them over. A
-    /// cluster is marked when it is left, and when such a search took its last page.
+    /// Clusters seen to have no free page, so that a search of the whole area passes them over: at
+    /// the start, when a full one is left, and when such a search took the last page of one.
     full: Vec<bool>,
     /// Groups of clusters seen to have none, so that it passes over the marks of their clusters.
     full_groups: Vec<bool>,
@@ -345,6 +345,7 @@ fn mark_if_full(pages: &[Page], full: &mut [bool], full_groups: &mut [bool], clu
     ensures full { AreFull cluster_size pages.now full.new }
     ensures groups { AreFull group_size pages.now full_groups.new }
 {
+    // A search marks what it finds to be full, and here that is all that it is for.
     if lowest_of_cluster(pages, full, cluster).is_none() {
         lowest_of_group(pages, full, full_groups, cluster / GROUP);
     }

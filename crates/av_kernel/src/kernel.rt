@@ -97,7 +97,7 @@ impl Kernel {
         ensures spent { OnErr result (IsSpent self.old self.new) }
         ensures same { let d = seen_by D.sizes D.pages D.failures in
             IsSameDevice (d dev.old) (d dev.new) }
-        ensures untouched { (self.old.spent ≡ true) ⊎ (has_device command.now ≡ false)
+        ensures leaves_device { (self.old.spent ≡ true) ⊎ (has_device command.now ≡ false)
             → dev.new ≡ dev.old }
     {
         let mut reply = Reply::new(alloc);
@@ -125,7 +125,7 @@ impl Kernel {
         ensures spent { OnErr result (IsSpent self.old self.new) }
         ensures same { let d = seen_by D.sizes D.pages D.failures in
             IsSameDevice (d dev.old) (d dev.new) }
-        ensures untouched { (self.old.spent ≡ true) ⊎ (has_device command.now ≡ false)
+        ensures leaves_device { (self.old.spent ≡ true) ⊎ (has_device command.now ≡ false)
             → dev.new ≡ dev.old }
     {
         if self.spent {

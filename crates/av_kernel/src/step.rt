@@ -56,7 +56,7 @@ pub fn perform<D: SwapDev>(
     ensures same { let d = seen_by D.sizes D.pages D.failures in
         IsSameDevice (d dev.old) (d dev.new) }
     ensures count { frame_count mem.new ≡ frame_count mem.old }
-    ensures untouched { has_device command.now ≡ false → dev.new ≡ dev.old }
+    ensures leaves_device { has_device command.now ≡ false → dev.new ≡ dev.old }
 {
     if let Answer::Data(shown) = &mut reply.answer {
         swap(shown, spare);
@@ -89,7 +89,7 @@ fn dispatch<D: SwapDev>(
     requires cleared { IsCleared reply.old }
     ensures does { let d = seen_by D.sizes D.pages D.failures in Does (d dev.old) (d dev.new)
         mem.old mem.new command.now (reply_in reply.new result) }
-    ensures untouched { has_device command.now ≡ false → dev.new ≡ dev.old }
+    ensures leaves_device { has_device command.now ≡ false → dev.new ≡ dev.old }
 {
     match command {
         Command::Read {

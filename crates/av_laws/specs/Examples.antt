@@ -1,8 +1,8 @@
 -- Worked examples of single commands: what they are refused for, what they answer, which events
 -- they have, and what is left. What follows from these and from the laws of this crate (that a
--- command has one reply and leaves one state where no failure of a device shows, that `maps` and
--- `areas` have one answer) isn't stated: so of the replies that show no failure none that differs
--- from these may come. Which may come behind a failure, examples say that refuse the others.
+-- command has one reply and leaves one state where pages are told, bytes are claimed and no failure
+-- of a device shows, that `maps` and `areas` have one answer) isn't stated: so there no reply that
+-- differs from these may come. Of what may come behind a failure examples refuse some.
 -- Which example would fail if a definition were wrong:
 --   refusals and their order (`tests`): refusals, refusals_in_a_crowd, room_for_one,
 --     refusals_of_areas

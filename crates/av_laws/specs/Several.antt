@@ -57,5 +57,5 @@ two_told = device_by two_swaps.sizes
     0
 
 -- what the header of an area says, if it is told and has no fault
-abbrev pub header_at : ℕ → Device → Option Layout
-header_at k d = option_and_then (λ headers. headers k) (headers_of d)
+abbrev pub told_header : ℕ → Device → Option Layout
+told_header k d = option_and_then (λ headers. headers k) (headers_of d)

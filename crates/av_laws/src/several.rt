@@ -12,7 +12,7 @@ ghost use Rattle.av_plain.specs.Stands.{HoldsTold, IsClean};
 ghost use Rattle.av_laws.specs.Examples.{cached_out, page_with, paged_out};
 ghost use Rattle.av_laws.specs.Several.{
   HoldWith,
-  header_at,
+  told_header,
   one_free,
   seven_at,
   two_told,
@@ -54,7 +54,7 @@ pub fn areas_have_pages_of_their_own()
     ensures page_of_other_area { HoldsTold (Some (page_with 7)) two_told (slot_at 1 1) → ⊥ }
     ensures clean_by_other_area { IsClean (cached_view false false) two_told (slot_at 1 1) (Some 0)
         → ⊥ }
-    ensures second_header { header_at 1 two_told
+    ensures second_header { told_header 1 two_told
         ≡ Some (record { pages = 8; slots = 7; bad = [] }) }
 {}
 

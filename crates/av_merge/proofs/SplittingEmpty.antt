@@ -220,8 +220,8 @@ module _ (p from to : ℕ) (areas : ℕ → Option Area) (spans : List Span) (st
   none_taken : AreTaken from to areas spans areas spans
   none_taken = record { stands = λ q h. record { areas = h; others = others_refl q areas }; lower = lower; upper = upper; pages = λ page. refl }
 
-  pub untouched : (page : ℕ) → pages_by areas spans page ≡ after_unmap from to (pages_by areas spans) page
-  untouched page =
+  pub unmap_of_none : (page : ℕ) → pages_by areas spans page ≡ after_unmap from to (pages_by areas spans) page
+  unmap_of_none page =
       all_taken from to areas spans areas spans p stands none_taken (λ k t e above. past k t e (omega arith)) page
       ∙ ap (cond (within from (to - from) page) None) (whole to upper page ∙ ap (option_map (part_of to page)) (whole from lower page))
     where

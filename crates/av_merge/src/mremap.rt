@@ -235,7 +235,7 @@ fn extend(
         unreachable!()
     };
     let area = areas.get(number);
-    // As where pages move and none is new: neither the tree nor a span changes.
+    // A move of as many pages leaves the end: neither the tree nor a span changes then.
     if area.end == PAGE_SIZE * past {
         return Ok(area.start / PAGE_SIZE);
     }

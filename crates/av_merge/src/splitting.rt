@@ -237,7 +237,7 @@ pub fn unmap(
         (Becomes areas.old tree.old areas.new tree.new (after_unmap from to)) }
 {
     let (below, above) = tree.around(from);
-    // As where pages move to free ones: one descent is enough.
+    // Pages are mostly moved to free ones: two more descents are spared.
     if lie_beside(below, above, from, to) {
         return Ok(());
     }
@@ -250,8 +250,8 @@ pub fn unmap(
     }
 }
 
-/// Whether two spans leave out the pages from `from` to below `to`: the first ends before them, the
-/// second begins after them.
+/// True only where two spans leave out the pages from `from` to below `to`: the first ends before
+/// them, the second begins after them.
 fn lie_beside(below: Option<Span>, above: Option<Span>, from: u64, to: u64) -> bool
     ensures { result ≡ true
         → IfSome below (λ s. s.to ≤ from) × IfSome above (λ s. to ≤ s.from) }

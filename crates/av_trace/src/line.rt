@@ -44,7 +44,7 @@ pub fn parse_line(alloc: Global, line: &[u8]) -> Result<Option<Command>, LineErr
 
 /// What a line says, as `parse_line` does; the bytes of a write take the room of `spare`, whatever
 /// it holds.
-// Always inlined, as what it calls down to the readers: a command would else be copied in each.
+// Always inlined, as `whole_command` and `change_or_report`: each would copy the command else.
 #[inline(always)]
 pub fn parse_line_with(
     alloc: Global,

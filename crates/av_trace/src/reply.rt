@@ -306,8 +306,8 @@ fn data_line(text: &mut Bytes, bytes: &Bytes) -> Result<(), AllocError>
     add_bytes(text, bytes.as_slice())
 }
 
-/// The line of a refusal: most refused lines have no other text, so it is added as one.
-fn error_line(error: Errno) -> &'static [u8]
+/// The line of a refusal. It is the commonest reply of two words: one append, not three.
+fn refusal_text(error: Errno) -> &'static [u8]
     ensures { result.now ≡ line_of_answer (Answer.Refused error) }
 {
     match error {
@@ -345,7 +345,7 @@ pub fn answer_line(text: &mut Bytes, answer: &Answer) -> Result<(), AllocError>
         Answer::Done => text.append(b"ok"),
         Answer::MapAt(address) => map_line(text, *address),
         Answer::Data(bytes) => data_line(text, bytes),
-        Answer::Refused(error) => text.append(error_line(*error)),
+        Answer::Refused(error) => text.append(refusal_text(*error)),
         Answer::Segv { served, shown } => stop_line(text, b"segv", *served, shown.as_slice()),
         Answer::Bus { served, shown } => stop_line(text, b"bus", *served, shown.as_slice()),
         Answer::Oom { served, out, shown } => oom_line(text, *served, *out, shown.as_slice()),

@@ -1,7 +1,7 @@
 use Rattle.std.proofs.Common.{IfSome, IsSomeAnd, ◌<◌, ◌≤◌, ◌∙◌, sym, subst}
 use Rattle.av_vmatree.proofs.Sides.{below_is}
 use Rattle.av_vma.specs.Areas.{area_of}
-use Rattle.av_merge.proofs.SplittingEmpty.{untouched}
+use Rattle.av_merge.proofs.SplittingEmpty.{unmap_of_none}
 use Rattle.av_merge.proofs.splitting.unmap.Goals as goal
 
 pub unmap_within-requires-clause-inside : goal.unmap_within-requires-clause-inside
@@ -13,6 +13,6 @@ unmap_within-requires-clause-inside c =
 pub returns-then-lie_beside-clause-pages : goal.returns-then-lie_beside-clause-pages
 returns-then-lie_beside-clause-pages c =
     let sides = c.lie_beside.ensures c.if-lie_beside.true in
-    untouched c.requires.stands.0 c.args.from c.args.to (area_of c.args.areas.now) c.args.tree.now c.requires.stands.1 c.requires.forward
+    unmap_of_none c.requires.stands.0 c.args.from c.args.to (area_of c.args.areas.now) c.args.tree.now c.requires.stands.1 c.requires.forward
     (subst (λ o. IfSome o (λ s. s.to ≤ c.args.from)) c.around-below.ensures.below sides.0)
     (subst (λ o. IfSome o (λ s. c.args.to ≤ s.from)) c.around-below.ensures.above sides.1)
