@@ -1,5 +1,5 @@
 -- The first line of a reply, and which replies there are.
-use Rattle.std.specs.Prelude.{◌≡◌, ℕ, Bool, Option, Some, None, List, [], ◌∷◌, ◌++◌, length, codes}
+use Rattle.std.specs.Prelude.{◌≡◌, ℕ, Bool, false, true, Option, Some, None, List, [], ◌∷◌, ◌++◌, length, codes}
 use Rattle.std.specs.Prelude.{if◌then◌else◌}
 use Rattle.std.specs.List.{AllByRecursion}
 use Rattle.std.specs.Fmt.{decimal}
@@ -101,6 +101,15 @@ answer_line (answers.SlotCount slot count frame) =
     line (codes "slot")
     (slot_text slot ∷ codes "count" ∷ decimal count ∷ cached_words decimal frame)
 answer_line (answers.Counted totals) = line (codes "stat") (total_words totals)
+
+-- whether an answer tells a number or bytes: the line of any other is always the same
+abbrev pub tells : Answer → Bool
+tells answers.Done = false
+tells (answers.Refused error) = false
+tells answers.NoWalk = false
+tells answers.EntryEmpty = false
+tells answers.EntryZero = false
+tells answer = true
 
 -- ---- which replies there are: each number is of 64 bits, and each byte is below 256
 

@@ -133,6 +133,13 @@ fn add_cause(text: &mut Bytes, cause: Cause) -> Result<(), AllocError>
     }
 }
 
+/// Ends a line.
+pub fn end_line(text: &mut Bytes) -> Result<(), AllocError>
+    ensures { Adds result text.old text.new (10 ∷ []) }
+{
+    text.append(b"\n")
+}
+
 /// A name, and a number.
 pub fn number_line(text: &mut Bytes, name: &[u8], n: u64) -> Result<(), AllocError>
     ensures { Adds result text.old text.new (line name.now (digits_of n ∷ [])) }

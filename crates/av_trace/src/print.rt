@@ -6,7 +6,7 @@ ghost use Rattle.av_trace.specs.Print.{notes_text, rows_text, text_of};
 ghost use Rattle.av_trace.specs.Reply.{IsReply};
 ghost use Rattle.av_text.specs.Word.{Adds};
 
-use crate::note::{Note, note_line};
+use crate::note::{Note, end_line, note_line};
 use crate::reply::{Reply, answer_line};
 use crate::row::{Row, row_line};
 use av_text::Bytes;
@@ -17,12 +17,6 @@ fn begin_row(text: &mut Bytes) -> Result<(), AllocError>
     ensures { Adds result text.old text.new (32 ∷ []) }
 {
     text.append(b" ")
-}
-
-fn end_line(text: &mut Bytes) -> Result<(), AllocError>
-    ensures { Adds result text.old text.new (10 ∷ []) }
-{
-    text.append(b"\n")
 }
 
 fn add_notes(text: &mut Bytes, notes: &[Note]) -> Result<(), AllocError>
@@ -55,7 +49,6 @@ pub fn reply_text(reply: &Reply, text: &mut Bytes) -> Result<(), AllocError>
     ensures { Adds result text.old text.new (text_of reply.now) }
 {
     answer_line(text, &reply.answer)?;
-    end_line(text)?;
     add_notes(text, reply.notes.as_slice())?;
     add_rows(text, reply.rows.as_slice())
 }

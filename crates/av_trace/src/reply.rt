@@ -1,15 +1,16 @@
 //! What a command is answered: one answer, and then notes of what happened or the rows of a report.
 
-ghost use Rattle.std.specs.Prelude.{◌≡◌, ◌∷◌};
+ghost use Rattle.std.specs.Prelude.{◌≡◌, ◌∷◌, true};
 ghost use Rattle.std.specs.List.{flat_map};
 ghost use Rattle.std.specs.Fmt.{decimal as digits_of};
 ghost use Rattle.av_trace.specs.Note.{slot_text};
 ghost use Rattle.av_trace.specs.Reply.{answer_only, labelled as labelled_text};
 ghost use Rattle.av_trace.specs.Reply.{shown_words, out_words, cached_words, total_words};
-ghost use Rattle.av_trace.specs.Reply.{answer_line as line_of_answer};
+ghost use Rattle.av_trace.specs.Reply.{answer_line as line_of_answer, tells};
+ghost use Rattle.av_trace.specs.Print.{whole_line};
 ghost use Rattle.av_text.specs.Word.{Adds, field, line};
 
-use crate::note::{Notes, add_slot, number_line, slot_line};
+use crate::note::{Notes, add_slot, end_line, number_line, slot_line};
 use crate::row::Rows;
 use av_base::Slot;
 use av_text::Bytes;
@@ -302,24 +303,24 @@ fn map_line(text: &mut Bytes, address: u64) -> Result<(), AllocError>
 fn data_line(text: &mut Bytes, bytes: &Bytes) -> Result<(), AllocError>
     ensures { Adds result text.old text.new (line_of_answer (Answer.Data bytes.now)) }
 {
-    text.append(b"data")?;
-    add_bytes(text, bytes.as_slice())
+    text.append(b"data ")?;
+    text.append_hex(bytes.as_slice())
 }
 
-/// The line of a refusal. It is the commonest reply of two words: one append, not three.
-fn refusal_text(error: Errno) -> &'static [u8]
-    ensures { result.now ≡ line_of_answer (Answer.Refused error) }
+/// The whole line of a refusal: one append, not four.
+fn refusal_line(error: Errno) -> &'static [u8]
+    ensures { result.now ≡ whole_line (line_of_answer (Answer.Refused error)) }
 {
     match error {
-        Errno::Eperm => b"err EPERM",
-        Errno::Esrch => b"err ESRCH",
-        Errno::Eio => b"err EIO",
-        Errno::Eagain => b"err EAGAIN",
-        Errno::Enomem => b"err ENOMEM",
-        Errno::Efault => b"err EFAULT",
-        Errno::Ebusy => b"err EBUSY",
-        Errno::Eexist => b"err EEXIST",
-        Errno::Einval => b"err EINVAL",
+        Errno::Eperm => b"err EPERM\n",
+        Errno::Esrch => b"err ESRCH\n",
+        Errno::Eio => b"err EIO\n",
+        Errno::Eagain => b"err EAGAIN\n",
+        Errno::Enomem => b"err ENOMEM\n",
+        Errno::Efault => b"err EFAULT\n",
+        Errno::Ebusy => b"err EBUSY\n",
+        Errno::Eexist => b"err EEXIST\n",
+        Errno::Einval => b"err EINVAL\n",
     }
 }
 
@@ -337,15 +338,14 @@ fn bad_slot_line(text: &mut Bytes, slot: Slot) -> Result<(), AllocError>
     add_word(text, b"bad")
 }
 
-/// Adds the line of an answer, without its newline.
-pub fn answer_line(text: &mut Bytes, answer: &Answer) -> Result<(), AllocError>
+/// Adds the line of an answer that tells a number or bytes, without its newline.
+fn telling_line(text: &mut Bytes, answer: &Answer) -> Result<(), AllocError>
+    requires { tells answer.now ≡ true }
     ensures { Adds result text.old text.new (line_of_answer answer.now) }
 {
     match answer {
-        Answer::Done => text.append(b"ok"),
         Answer::MapAt(address) => map_line(text, *address),
         Answer::Data(bytes) => data_line(text, bytes),
-        Answer::Refused(error) => text.append(refusal_text(*error)),
         Answer::Segv { served, shown } => stop_line(text, b"segv", *served, shown.as_slice()),
         Answer::Bus { served, shown } => stop_line(text, b"bus", *served, shown.as_slice()),
         Answer::Oom { served, out, shown } => oom_line(text, *served, *out, shown.as_slice()),
@@ -354,9 +354,6 @@ pub fn answer_line(text: &mut Bytes, answer: &Answer) -> Result<(), AllocError>
         Answer::Runs(n) => number_line(text, b"runs", *n),
         Answer::AreaList(n) => number_line(text, b"areas", *n),
         Answer::Walk { frame, maps } => walk_line(text, *frame, *maps),
-        Answer::NoWalk => text.append(b"none"),
-        Answer::EntryEmpty => text.append(b"empty"),
-        Answer::EntryZero => text.append(b"zero"),
         Answer::EntryFrame {
             frame,
             seen,
@@ -370,5 +367,23 @@ pub fn answer_line(text: &mut Bytes, answer: &Answer) -> Result<(), AllocError>
             cached,
         } => slot_count_line(text, *slot, *count, *cached),
         Answer::Counted(totals) => total_line(text, totals),
+        _ => unreachable!(),
+    }
+}
+
+/// Adds the whole line of an answer. One that tells nothing more, as most do, is one append.
+pub fn answer_line(text: &mut Bytes, answer: &Answer) -> Result<(), AllocError>
+    ensures { Adds result text.old text.new (whole_line (line_of_answer answer.now)) }
+{
+    match answer {
+        Answer::Done => text.append(b"ok\n"),
+        Answer::Refused(error) => text.append(refusal_line(*error)),
+        Answer::NoWalk => text.append(b"none\n"),
+        Answer::EntryEmpty => text.append(b"empty\n"),
+        Answer::EntryZero => text.append(b"zero\n"),
+        _ => {
+            telling_line(text, answer)?;
+            end_line(text)
+        }
     }
 }
