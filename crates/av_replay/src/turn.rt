@@ -14,8 +14,9 @@ use crate::write::write_all;
 use av_io::SinkErr;
 use av_kernel::Kernel;
 use av_text::Bytes;
-use av_trace::{Command, LineErr, Reply, parse_line_with, reply_text};
+use av_trace::{Command, LineErr, Reply, parse_line_into, reply_text};
 use std::alloc::Global;
+use std::mem::swap;
 
 /// What the loop over the lines uses again for each line, for the sake of its memory.
 #[derive(Drop)]
@@ -23,6 +24,8 @@ pub struct Scratch {
     reply: Reply,
     /// The text of the reply.
     text: Bytes,
+    /// What the line says.
+    said: Option<Command>,
     /// For the bytes of a write.
     spare: Bytes,
 }
@@ -32,6 +35,7 @@ impl Scratch {
         Scratch {
             reply: Reply::new(alloc),
             text: Bytes::new(alloc),
+            said: None,
             spare: Bytes::new(alloc),
         }
     }
@@ -54,19 +58,24 @@ pub fn do_line<P: Ports>(
     ensures only { OnlyDevice (P.view ports.old) (P.view ports.new) }
     ensures kept { P.kept ports.new ≡ P.kept ports.old }
 {
-    let Scratch { reply, text, spare } = scratch;
+    let Scratch {
+        reply,
+        text,
+        said,
+        spare,
+    } = scratch;
     text.clear();
-    let said = match parse_line_with(alloc, line, spare) {
-        Ok(said) => said,
+    match parse_line_into(alloc, line, spare, said) {
+        Ok(()) => {}
         Err(LineErr::Bad) => return Err(RunErr::BadLine),
         Err(LineErr::Memory) => return Err(RunErr::Memory),
-    };
+    }
     let Some(command) = said else {
         return Ok(());
     };
-    ports.answer(alloc, kernel, &command, reply)?;
+    ports.answer(alloc, kernel, command, reply)?;
     if let Command::Write { bytes, .. } = command {
-        *spare = bytes;
+        swap(bytes, spare);
     }
     reply_text(reply, text)?;
     Ok(())

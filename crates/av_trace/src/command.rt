@@ -1,6 +1,6 @@
 //! What a line asks for.
 
-ghost use Rattle.std.specs.Prelude.{◌≡◌, ◌++◌, codes, option_map, IfOk, OnErr};
+ghost use Rattle.std.specs.Prelude.{◌≡◌, ◌++◌, codes, option_map, IfOk, OnOk, OnErr};
 ghost use Rattle.av_trace.specs.Command.{at_end, whole, no_words, fork_at, mmap_at, munmap_at};
 ghost use Rattle.av_trace.specs.Command.{mprotect_at, mremap_at, read_at, write_at, area_at};
 ghost use Rattle.av_trace.specs.Command.{frames_at, rmap_at, entry_of, slot_at, swapon_at};
@@ -357,99 +357,96 @@ fn stat(bytes: &[u8]) -> Option<Command>
     end(Command::Stat, bytes)
 }
 
-/// The report that a line asks for.
-#[inline]
-fn report(line: &[u8]) -> Option<Command>
-    ensures { result ≡ command_in report_readers line.now }
+/// Reads the report that a line asks for.
+fn read_report(line: &[u8], found: &mut Option<Command>)
+    ensures { found.new ≡ command_in report_readers line.now }
 {
     if let Some(rest) = after(line, b"maps") {
-        maps(rest)
+        *found = maps(rest);
     } else if let Some(rest) = after(line, b"areas") {
-        areas(rest)
+        *found = areas(rest);
     } else if let Some(rest) = after(line, b"rmap") {
-        rmap(rest)
+        *found = rmap(rest);
     } else if let Some(rest) = after(line, b"entry") {
-        one_entry(rest)
+        *found = one_entry(rest);
     } else if let Some(rest) = after(line, b"slot") {
-        slot(rest)
+        *found = slot(rest);
     } else if let Some(rest) = after(line, b"stat") {
-        stat(rest)
+        *found = stat(rest);
     } else {
-        None
+        *found = None;
     }
 }
 
-/// The change of swap, or the report, that a line asks for.
-#[inline]
-fn swap_change_or_report(line: &[u8]) -> Option<Command>
-    ensures { result ≡ command_in (swap_readers ++ report_readers) line.now }
+/// Reads the change of swap, or the report, that a line asks for.
+fn read_swap_change(line: &[u8], found: &mut Option<Command>)
+    ensures { found.new ≡ command_in (swap_readers ++ report_readers) line.now }
 {
     if let Some(rest) = after(line, b"reclaim") {
-        reclaim(rest)
+        *found = reclaim(rest);
     } else if let Some(rest) = after(line, b"age") {
-        age(rest)
+        *found = age(rest);
     } else if let Some(rest) = after(line, b"complete") {
-        complete(rest)
+        *found = complete(rest);
     } else if let Some(rest) = after(line, b"swapon") {
-        swapon(rest)
+        *found = swapon(rest);
     } else if let Some(rest) = after(line, b"swapoff") {
-        swapoff(rest)
+        *found = swapoff(rest);
     } else {
-        report(line)
+        read_report(line, found);
     }
 }
 
-/// The change of a range or of swap, or the report, that a line asks for.
-#[inline]
-fn range_change_or_report(line: &[u8]) -> Option<Command>
-    ensures { result ≡ command_in (range_readers ++ swap_readers ++ report_readers) line.now }
+/// Reads the change of a range or of swap, or the report, that a line asks for.
+fn read_range_change(line: &[u8], found: &mut Option<Command>)
+    ensures { found.new ≡ command_in (range_readers ++ swap_readers ++ report_readers) line.now }
 {
     if let Some(rest) = after(line, b"mmap") {
-        mmap(rest)
+        *found = mmap(rest);
     } else if let Some(rest) = after(line, b"munmap") {
-        munmap(rest)
+        *found = munmap(rest);
     } else if let Some(rest) = after(line, b"mprotect") {
-        mprotect(rest)
+        *found = mprotect(rest);
     } else if let Some(rest) = after(line, b"mremap") {
-        mremap(rest)
+        *found = mremap(rest);
     } else {
-        swap_change_or_report(line)
+        read_swap_change(line, found);
     }
 }
 
-/// The command on a process, a range or swap, or the report, that a line asks for.
-#[inline(always)]
-fn change_or_report(line: &[u8]) -> Option<Command>
-    ensures { result ≡ command_in
+/// Reads the command on a process, a range or swap, or the report, that a line asks for.
+fn read_change(line: &[u8], found: &mut Option<Command>)
+    ensures { found.new ≡ command_in
         (process_readers ++ range_readers ++ swap_readers ++ report_readers) line.now }
 {
     if let Some(rest) = after(line, b"spawn") {
-        spawn(rest)
+        *found = spawn(rest);
     } else if let Some(rest) = after(line, b"fork") {
-        fork(rest)
+        *found = fork(rest);
     } else if let Some(rest) = after(line, b"exit") {
-        exit(rest)
+        *found = exit(rest);
     } else {
-        range_change_or_report(line)
+        read_range_change(line, found);
     }
 }
 
-/// The command of a whole line. Only a write takes memory, and first that of `spare`.
-#[inline(always)]
+/// Reads the command of a whole line. Only a write takes memory, and first that of `spare`.
 #[tactic(auto, unfolding(crate::specs::Command::command_of))]
-pub fn whole_command(
+pub fn read_command(
     alloc: Global,
     line: &[u8],
     spare: &mut Bytes,
-) -> Result<Option<Command>, AllocError>
-    ensures found { IfOk result (λ found. found ≡ command_of line.now) }
+    found: &mut Option<Command>,
+) -> Result<(), AllocError>
+    ensures found { OnOk result (found.new ≡ command_of line.now) }
     ensures memory { OnErr result (BeginsWith (codes "write") line.now) }
 {
     if let Some(rest) = after(line, b"write") {
-        write(alloc, rest, spare)
+        *found = write(alloc, rest, spare)?;
     } else if let Some(rest) = after(line, b"read") {
-        Ok(read(rest))
+        *found = read(rest);
     } else {
-        Ok(change_or_report(line))
+        read_change(line, found);
     }
+    Ok(())
 }

@@ -19,7 +19,7 @@ mod reply;
 mod row;
 
 pub use command::Command;
-pub use line::{LineErr, one_meaning, parse_line, parse_line_with};
+pub use line::{LineErr, one_meaning, parse_line, parse_line_into};
 pub use mode::Mode;
 pub use note::{Cause, Note, Notes};
 pub use place::Place;

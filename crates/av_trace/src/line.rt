@@ -1,11 +1,11 @@
 //! What a line says.
 
-ghost use Rattle.std.specs.Prelude.{◌≡◌, List, ℕ, Option, codes, IfOk, IsErrOf};
+ghost use Rattle.std.specs.Prelude.{◌≡◌, List, ℕ, Option, codes, IfOk, OnOk, IsErrOf};
 ghost use Rattle.av_trace.specs.declared.command.Command.{Command as AnyCommand};
 ghost use Rattle.av_trace.specs.Line.{is_blank, Says};
 ghost use Rattle.av_text.specs.Word.{BeginsWith};
 
-use crate::command::{Command, whole_command};
+use crate::command::{Command, read_command};
 use av_text::Bytes;
 use std::alloc::Global;
 
@@ -39,30 +39,38 @@ pub fn parse_line(alloc: Global, line: &[u8]) -> Result<Option<Command>, LineErr
     // Only what begins as a write takes memory.
     ensures memory { IsErrOf result LineErr.Memory → BeginsWith (codes "write") line.now }
 {
-    parse_line_with(alloc, line, &mut Bytes::new(alloc))
+    let mut said = None;
+    parse_line_into(alloc, line, &mut Bytes::new(alloc), &mut said)?;
+    Ok(said)
 }
 
-/// What a line says, as `parse_line` does; the bytes of a write take the room of `spare`, whatever
-/// it holds.
-// Always inlined, as `whole_command` and `change_or_report`: each would copy the command else.
-#[inline(always)]
-pub fn parse_line_with(
+/// Makes `said` what a line says, as `parse_line` does, whatever it was; the bytes of a write take
+/// the room of `spare`, whatever it holds.
+///
+/// After an error nothing is promised of `said`.
+// What a command is made of is written where it stays: each function that hands one up would copy
+// it.
+pub fn parse_line_into(
     alloc: Global,
     line: &[u8],
     spare: &mut Bytes,
-) -> Result<Option<Command>, LineErr>
-    ensures found { IfOk result (λ said. Says line.now said) }
+    said: &mut Option<Command>,
+) -> Result<(), LineErr>
+    ensures found { OnOk result (Says line.now said.new) }
     ensures bad { IsErrOf result LineErr.Bad →
         (said : Option AnyCommand) → Says line.now said → ⊥ }
     ensures memory { IsErrOf result LineErr.Memory → BeginsWith (codes "write") line.now }
 {
     if says_nothing(line) {
-        return Ok(None);
+        *said = None;
+        return Ok(());
     }
-    match whole_command(alloc, line, spare) {
-        Ok(Some(command)) => Ok(Some(command)),
-        Ok(None) => Err(LineErr::Bad),
-        Err(_) => Err(LineErr::Memory),
+    let Ok(()) = read_command(alloc, line, spare, said) else {
+        return Err(LineErr::Memory);
+    };
+    match said {
+        Some(_) => Ok(()),
+        None => Err(LineErr::Bad),
     }
 }
 
