@@ -5,6 +5,8 @@ use Rattle.std.specs.Fmt.{digit_glyph}
 use Rattle.std.proofs.Math.Nat.{pow-suc}
 use Rattle.std.proofs.lemmas.Bool.{cases_Bool, cond-true, cond-false, and_parts, and_from, leb-true, le-leb, lt-ltb, ltb-true}
 use Rattle.std.proofs.lemmas.List.{drop_more, drop_all, drop-set, take_more, take_more_set, take_all, length-set, length-drop}
+use Rattle.std.specs.List.{range_with_len}
+use Rattle.std.proofs.lemmas.List.FromFn.{get_or-range_with_len, length-range_with_len}
 use Rattle.std.proofs.lemmas.Grind.{flat_map-append}
 use Rattle.std.proofs.lemmas.Option.{same_Some}
 use Rattle.av_base.specs.Page.{page_size}
@@ -65,6 +67,27 @@ odd_none (h ∷ l ∷ rest) odd =
 pub hex_text-length : (bytes : List ℕ) → length (hex_text bytes) ≡ 2 * length bytes
 hex_text-length [] = refl
 hex_text-length (b ∷ bytes) = omega (arith, hex_text-length bytes)
+
+-- each byte has its two digits where twice as many stand before them as bytes before it
+digits_at : (bytes : List ℕ) (i : ℕ) → i < length bytes →
+    (get_or (hex_text bytes) (2 * i) 0 ≡ digit_glyph false (get_or bytes i 0 / 16))
+    × (get_or (hex_text bytes) (2 * i + 1) 0 ≡ digit_glyph false (get_or bytes i 0 % 16))
+digits_at [] i lt = absurd (omega arith)
+digits_at (b ∷ bytes) zero lt = (refl, refl)
+digits_at (b ∷ bytes) (suc i) lt =
+    let rest = digits_at bytes i (omega arith) in
+    let high : 2 * suc i ≡ suc (suc (2 * i)) = omega arith in
+    let low : 2 * suc i + 1 ≡ suc (suc (2 * i + 1)) = omega arith in
+    (ap (λ (k : ℕ). get_or (hex_text (b ∷ bytes)) k 0) high ∙ rest.0, ap (λ (k : ℕ). get_or (hex_text (b ∷ bytes)) k 0) low ∙ rest.1)
+
+-- those of a byte in the text of the first n
+pub pair_digits : (n b : ℕ) → b < n →
+    (get_or (hex_text (range_with_len 0 n)) (2 * b) 0 ≡ digit_glyph false (b / 16))
+    × (get_or (hex_text (range_with_len 0 n)) (2 * b + 1) 0 ≡ digit_glyph false (b % 16))
+pair_digits n b lt =
+    let is : get_or (range_with_len 0 n) b 0 ≡ b = get_or-range_with_len 0 n b 0 lt ∙ omega arith in
+    let there = digits_at (range_with_len 0 n) b (let many = length-range_with_len 0 n in omega arith) in
+    (there.0 ∙ ap (λ (c : ℕ). digit_glyph false (c / 16)) is, there.1 ∙ ap (λ (c : ℕ). digit_glyph false (c % 16)) is)
 
 data_of-found : (word bytes : List ℕ) → data_of word ≡ Some bytes → (word ≡ hex_text bytes) × IsData bytes
 unfolding data_of

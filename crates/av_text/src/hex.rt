@@ -1,6 +1,6 @@
 //! Addresses and bytes in lower-case hexadecimal digits.
 
-ghost use Rattle.std.specs.Prelude.{◌≡◌, [], ◌+◌, ◌*◌, ◌<◌, ◌++◌, ◌&&◌, nat_lt, false};
+ghost use Rattle.std.specs.Prelude.{◌≡◌, [], ◌+◌, ◌*◌, ◌/◌, ◌%◌, ◌<◌, ◌++◌, ◌&&◌, nat_lt, false};
 ghost use Rattle.std.specs.Prelude.{if◌then◌else◌, length, take, option_map, Some, None, IfOk};
 ghost use Rattle.std.specs.Fmt.{digit_glyph};
 ghost use Rattle.av_text.specs.Hex.{hex as digits_of, hex_text, pairs_of, data_of, data_at};
@@ -90,15 +90,13 @@ pub fn data_field(
 /// The digits by what they are worth.
 static DIGITS: [u8; 16] = *b"0123456789abcdef";
 
-/// The digit of a value, by the table or by arithmetic.
+/// The digit of a value, by arithmetic.
 #[inline(always)]
-fn digit(by_table: bool, value: u8) -> u8
+fn digit(value: u8) -> u8
     requires { value < 16 }
     ensures { result ≡ digit_glyph false value }
 {
-    if by_table {
-        table_digit(value)
-    } else if value < 10 {
+    if value < 10 {
         b'0' + value
     } else {
         b'a' + (value - 10)
@@ -111,6 +109,39 @@ fn table_digit(value: u8) -> u8
     ensures { result ≡ digit_glyph false value }
 {
     DIGITS[value as usize]
+}
+
+/// The two digits of each byte, one after another.
+static PAIRS: [u8; 512] = *b"\
+    000102030405060708090a0b0c0d0e0f101112131415161718191a1b1c1d1e1f\
+    202122232425262728292a2b2c2d2e2f303132333435363738393a3b3c3d3e3f\
+    404142434445464748494a4b4c4d4e4f505152535455565758595a5b5c5d5e5f\
+    606162636465666768696a6b6c6d6e6f707172737475767778797a7b7c7d7e7f\
+    808182838485868788898a8b8c8d8e8f909192939495969798999a9b9c9d9e9f\
+    a0a1a2a3a4a5a6a7a8a9aaabacadaeafb0b1b2b3b4b5b6b7b8b9babbbcbdbebf\
+    c0c1c2c3c4c5c6c7c8c9cacbcccdcecfd0d1d2d3d4d5d6d7d8d9dadbdcdddedf\
+    e0e1e2e3e4e5e6e7e8e9eaebecedeeeff0f1f2f3f4f5f6f7f8f9fafbfcfdfeff";
+
+/// The digits of a byte, by the table or by arithmetic.
+#[inline(always)]
+fn digits_of_byte(by_table: bool, byte: u8) -> (u8, u8)
+    ensures high { result.0 ≡ digit_glyph false (byte / 16) }
+    ensures low { result.1 ≡ digit_glyph false (byte % 16) }
+{
+    if by_table {
+        return pair_in_table(byte);
+    }
+    (digit(byte / 16), digit(byte % 16))
+}
+
+/// The digits of a byte, by the table.
+#[inline(always)]
+fn pair_in_table(byte: u8) -> (u8, u8)
+    ensures high { result.0 ≡ digit_glyph false (byte / 16) }
+    ensures low { result.1 ≡ digit_glyph false (byte % 16) }
+{
+    let at = 2 * byte as usize;
+    (PAIRS[at], PAIRS[at + 1])
 }
 
 /// Writes bytes from `start` on, two digits each.
@@ -132,8 +163,9 @@ fn encode_by(by_table: bool, bytes: &[u8], digits: &mut [u8], start: usize)
     ensures { digits.new ≡ take start digits.old ++ hex_text bytes.now }
 {
     for i in 0..bytes.len() {
-        digits[start + 2 * i] = digit(by_table, bytes[i] / 16);
-        digits[start + 2 * i + 1] = digit(by_table, bytes[i] % 16);
+        let (high, low) = digits_of_byte(by_table, bytes[i]);
+        digits[start + 2 * i] = high;
+        digits[start + 2 * i + 1] = low;
     }
 }
 
