@@ -97,6 +97,8 @@ impl Swap {
     /// Turns an area on, which has so many pages on the device, by the header on its page 0. Of two
     /// areas the one with the greater priority gives its slots first. `Err` is want of memory
     /// alone: all stays then, as where the answer is another than `On`.
+    // Apart, as `load` is: so its page is on the stack of no caller, which needn't step past it.
+    #[inline(never)]
     pub fn swapon<D: SwapDev>(
         &mut self,
         alloc: Global,
@@ -176,6 +178,7 @@ impl Swap {
 
     /// Reads a slot that an entry names from the device to a frame, and caches it there; the frame
     /// is clean then. After a failure all stays.
+    #[inline(never)]
     pub fn load<D: SwapDev>(
         &mut self,
         frames: &mut Frames,
