@@ -52,6 +52,10 @@ CARRIERS = {
     "av_fault": "touch",
     "av_place": "find_place find_gap find_target check_protect check_remap is_too_long "
     "is_no_range prot_left check_indices",
+    "av_step": "Does DoesBeside check_lives answer_with",
+    "av_swap": "swapon swapoff slot reclaim age complete",
+    "av_report": "maps areas rmap entry stat totals",
+    "av_access": "read write",
     "av_kernel": "Kernel",
     "av_words": "read_words",
     "av_replay": "run good_traces_are_done",

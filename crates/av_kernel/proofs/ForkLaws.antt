@@ -40,10 +40,10 @@ use Rattle.av_spaces.specs.Spaces.{AllSpaces, areas_of}
 use Rattle.av_fork.specs.Areas.{HasFork}
 use Rattle.av_fork.specs.Entries.{HasForkedEntries}
 use Rattle.av_kernel.specs.Process.{new_tests}
-use Rattle.av_kernel.specs.Step.{StepsBeside}
-use Rattle.av_kernel.proofs.StepLaws.{is_number, moved_on, stays_orderly, stepped, swap_alike}
+use Rattle.av_step.specs.Step.{StepsBeside}
+use Rattle.av_step.proofs.StepLaws.{is_number, moved_on, stays_orderly, stepped, swap_alike}
 use Rattle.av_kernel.proofs.ProcessLaws.{absent, at_number, new_is, new_refusal}
-use Rattle.av_kernel.proofs.Loads.{world_as}
+use Rattle.av_step.proofs.Loads.{world_as}
 
 -- ---- refusals
 -- where the parent lives, it is refused as its child

@@ -59,13 +59,14 @@ use Rattle.av_mem.specs.Mem.{ranges_of, setting_by, view, frame_count, Keeps, Is
 use Rattle.av_mem.specs.Steps.{KeepsRest, KeepsSwap}
 use Rattle.av_mem.specs.Zap.{HasZapped}
 use Rattle.av_place.specs.Place.{protect_tests, IsProcess, IsPlaced, AreToUnmap}
-use Rattle.av_kernel.specs.Step.{StepsBeside}
+use Rattle.av_step.specs.Step.{StepsBeside}
 use Rattle.av_mem.proofs.StayLaws.{anons-stay, spaces-stay}
 use Rattle.av_mem.proofs.MemLaws.{lives_is, alive_is, taken_has, mapped_is}
 use Rattle.av_place.proofs.PlaceLaws.{page_back, IsSuited, suited}
-use Rattle.av_kernel.proofs.CacheLeft.{KeepsCached, cached-itself, zaps-cached}
-use Rattle.av_kernel.proofs.StepLaws.{areas_kept, is_number, moved_on, noted, orderly, reach_of, refused, state_after, stays_orderly, changed, areas_changed, swap_alike, swap_itself, tables_kept}
-use Rattle.av_kernel.proofs.Loads.{place-loads, world_as}
+use Rattle.av_step.proofs.CacheLeft.{KeepsCached, cached-itself, zaps-cached}
+use Rattle.av_step.proofs.StepLaws.{areas_kept, is_number, moved_on, noted, orderly, reach_of, refused, state_after, stays_orderly, changed, swap_alike, swap_itself}
+use Rattle.av_kernel.proofs.MapSteps.{areas_changed, tables_kept}
+use Rattle.av_step.proofs.Loads.{place-loads, world_as}
 use Rattle.av_plain.proofs.Load.{loads_nothing, zaps-load_nothing}
 use Rattle.std.specs.List.{list_all}
 

@@ -22,7 +22,7 @@ use Rattle.av_mem.specs.Mem.{ranges_of}
 use Rattle.av_mem.proofs.MemLaws.{prot_on, alive_is, prots_are, all_apart}
 use Rattle.av_vma.proofs.Homes.{KeepsHomes, homes_changed, homes_mapped, homes_unmapped}
 use Rattle.av_kernel.specs.Map.{set_on, GetsAreas, GetsProts, HomesStay}
-use Rattle.av_kernel.proofs.StepLaws.{is_number, other_number}
+use Rattle.av_step.proofs.StepLaws.{is_number, other_number}
 
 -- the protections of pages
 abbrev pub prots_on : Pages → ℕ → Option Prot

@@ -24,10 +24,10 @@ use Rattle.av_mem.specs.Steps.{KeepsRest}
 use Rattle.av_mremap.specs.Areas.{HasRemap}
 use Rattle.av_mremap.specs.Entries.{HasRemapped}
 use Rattle.av_place.specs.Mremap.{StaySmall}
-use Rattle.av_kernel.specs.Step.{StepsBeside}
+use Rattle.av_step.specs.Step.{StepsBeside}
 use Rattle.av_kernel.proofs.MremapLaws.{last_taken, may_grow, may_move, may_shrink, old_high, remaps, some_pages}
 use Rattle.av_kernel.proofs.MremapRefusals.{have_prots_of, tests_are}
-use Rattle.av_kernel.proofs.StepLaws.{noted}
+use Rattle.av_step.proofs.StepLaws.{noted}
 
 -- what holds of two numbers holds of two that are equal
 

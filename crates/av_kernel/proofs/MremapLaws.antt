@@ -55,13 +55,13 @@ use Rattle.av_mem.proofs.MemLaws.{alive_is, lives_is, prots_are}
 use Rattle.av_mremap.specs.Areas.{HasRemap}
 use Rattle.av_mremap.specs.Entries.{HasRemapped}
 use Rattle.av_place.specs.Mremap.{StaySmall}
-use Rattle.av_kernel.specs.Step.{StepsBeside}
+use Rattle.av_step.specs.Step.{StepsBeside}
 use Rattle.av_plain.proofs.Mremap.Entries.{came, grew, here_goes, here_stays, left as has_left, of_others, stays}
 use Rattle.av_place.proofs.PlaceLaws.{page_back}
 use Rattle.av_kernel.proofs.ProcessLaws.{at_number}
-use Rattle.av_kernel.proofs.CacheLeft.{bytes-left, remap-cached}
-use Rattle.av_kernel.proofs.StepLaws.{is_number, moved_on, noted, stays_orderly, stepped, swap_alike}
-use Rattle.av_kernel.proofs.Loads.{world_as}
+use Rattle.av_step.proofs.CacheLeft.{bytes-left, remap-cached}
+use Rattle.av_step.proofs.StepLaws.{is_number, moved_on, noted, stays_orderly, stepped, swap_alike}
+use Rattle.av_step.proofs.Loads.{world_as}
 use Rattle.av_plain.proofs.Load.{events_to-load_nothing}
 
 module _ {d : Device} {old : Mem} {s : State} (keeps : Keeps d old s) {p a olen nlen : ℕ} {mode : Mode}

@@ -20,11 +20,11 @@ use Rattle.av_plain.specs.World.{Process, pages}
 use Rattle.av_mem.specs.declared.mem.Mem.{Mem}
 use Rattle.av_mem.specs.Mem.{Keeps, setting_by}
 use Rattle.av_mem.proofs.MemLaws.{lives_is, prots_are}
-use Rattle.av_kernel.specs.declared.refusal.Refusal.TheVariants as refusals
+use Rattle.av_step.specs.declared.refusal.Refusal.TheVariants as refusals
 use Rattle.av_place.specs.Mremap.{IsTarget}
-use Rattle.av_kernel.specs.Step.{DoesBeside, StepsBeside}
-use Rattle.av_kernel.proofs.StepLaws.{areas_kept, dead_first, refuses}
-use Rattle.av_kernel.proofs.Loads.{world_as}
+use Rattle.av_step.specs.Step.{DoesBeside, StepsBeside}
+use Rattle.av_step.proofs.StepLaws.{areas_kept, dead_first, refuses}
+use Rattle.av_step.proofs.Loads.{world_as}
 
 -- the pages of a process have the protections of its areas
 

@@ -43,7 +43,7 @@ use Rattle.av_spaces.specs.Spaces.{AllSpaces, Spaces, areas_of, pages_of, IsSpaw
 use Rattle.av_plain.specs.Report.{range_of}
 use Rattle.av_mem.specs.Mem.{ranges_of, setting_by, plain, view, frame_count, HasTables, Keeps, HasLedger}
 use Rattle.av_kernel.specs.Process.{new_tests}
-use Rattle.av_kernel.specs.Step.{StepsBeside}
+use Rattle.av_step.specs.Step.{StepsBeside}
 use Rattle.av_mem.specs.Zap.{HasZapped}
 use Rattle.av_mem.specs.Steps.{KeepsRest}
 use Rattle.av_mem.proofs.StayLaws.{spaces-stay}
@@ -51,9 +51,9 @@ use Rattle.av_mem.proofs.MemLaws.{alive_is, lives_is, all_apart, kept-nothing}
 use Rattle.av_anon.specs.declared.anons.Anons.{Anons as AnonSet}
 use Rattle.av_spaces.specs.Kin.{AnonsStay}
 use Rattle.av_mem.proofs.AnonLaws.{anons_stand, are_left, left_of}
-use Rattle.av_kernel.proofs.CacheLeft.{bytes-left, cached-itself, zaps-cached}
-use Rattle.av_kernel.proofs.StepLaws.{changed, is_number, moved_on, noted, orderly, reach_after, reach_of, state_after, stays_orderly, stepped, swap_alike, swap_itself}
-use Rattle.av_kernel.proofs.Loads.{world_as}
+use Rattle.av_step.proofs.CacheLeft.{bytes-left, cached-itself, zaps-cached}
+use Rattle.av_step.proofs.StepLaws.{changed, is_number, moved_on, noted, orderly, reach_after, reach_of, state_after, stays_orderly, stepped, swap_alike, swap_itself}
+use Rattle.av_step.proofs.Loads.{world_as}
 use Rattle.av_plain.proofs.Load.{zaps-load_nothing}
 
 -- ---- the ranges of a process that comes or goes

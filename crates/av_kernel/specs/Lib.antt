@@ -1,10 +1,5 @@
-pub mod Step
-pub mod Swap
 pub mod Process
 pub mod Map
-pub mod Access
-pub mod Page
-pub mod Report
 pub mod Tally
 pub mod Machine
 pub mod Kernel

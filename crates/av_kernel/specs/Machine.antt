@@ -1,9 +1,10 @@
 -- What is shown of a kernel, and what is true of every one.
-use Rattle.std.specs.Prelude.{◌≡◌, ℕ, ◌≤◌, Bool, false, List, Option, length, refl, slice_get}
+use Rattle.std.specs.Prelude.{◌≡◌, ℕ, ◌≤◌, Bool, false, List, length, refl}
 use Rattle.std.specs.Coded.{Coded, code_by, coded×, coded_ℕ, coded_bool, coded_list}
 use Rattle.av_swapdev.specs.Device.{most_areas}
 use Rattle.av_mem.specs.declared.mem.Mem.{Mem}
 use Rattle.av_mem.specs.Mem.{IsSteadyAt}
+use Rattle.av_step.specs.Step.{sizes_of}
 use Rattle.av_kernel.specs.declared.tally.Tally.{Tally}
 use Rattle.av_kernel.specs.Tally.{IsAtMost}
 
@@ -33,10 +34,6 @@ machine_code mem tally =
       spent = p.1.1.1.1.1;
     })
     (λ _. refl)
-
--- the sizes of swap areas by their numbers: an area past them is not attached
-abbrev pub sizes_of : List ℕ → ℕ → Option ℕ
-sizes_of sizes k = slice_get sizes k
 
 -- there are no more swap areas than a device can have; no word of a reply came more often than
 -- commands were answered; where memory never ran out, the memory system stands for something over a

@@ -1,28 +1,23 @@
 //! The kernel: one command at a time over the memory system and its device.
 //!
-//! Each command is a function of the memory system, in the file of its topic. What each promises is
-//! one of two words: `Does` of one that is handed the device, and `DoesBeside` of one that isn't,
-//! which does it beside any. An answer is a legal step of the definitions, with the exact frames
-//! and slots, whatever state the memory system stood for. It stands for the next one then, in which
-//! each entry of a frame, or of the slot that one caches, is reached from the frame's home. It is
-//! the same device after each command, with its sizes and, where it tells its pages, page 0 of each
-//! area; and what only its failures explain is within what it failed. One that isn't handed it
-//! leaves it as it was. `Kernel` counts the replies, and after want of memory does nothing more, to
-//! the device either. All of this is proved, for every command.
+//! Each command is a function of the memory system. Those on processes and on ranges of pages are
+//! here, in the file of their topic; the others are in `av_access`, `av_swap` and `av_report`. What
+//! each promises is one of the two words of `av_step`: `Does` of one that is handed the device, and
+//! `DoesBeside` of one that isn't, which does it beside any. An answer is a legal step of the
+//! definitions, with the exact frames and slots, whatever state the memory system stood for. It
+//! stands for the next one then, in which each entry of a frame, or of the slot that one caches, is
+//! reached from the frame's home. It is the same device after each command, with its sizes and,
+//! where it tells its pages, page 0 of each area; and what only its failures explain is within what
+//! it failed. One that isn't handed it leaves it as it was. `Kernel` counts the replies, and after
+//! want of memory does nothing more, to the device either. All of this is proved, for every
+//! command.
 #![tactic(auto)]
 
-mod access;
-mod answer;
 mod kernel;
 mod map;
 mod mremap;
-mod page;
 mod process;
-mod reclaim;
-mod refusal;
-mod report;
 mod step;
-mod swap;
 mod tally;
 
 pub use kernel::Kernel;

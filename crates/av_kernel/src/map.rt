@@ -12,16 +12,14 @@ ghost use Rattle.av_spaces.specs.Spaces.{areas_of, is_taken, pages_of};
 ghost use Rattle.av_mem.specs.Mem.{frame_count, IsSteady, HasLedger};
 ghost use Rattle.av_place.specs.Place.{AreToUnmap};
 ghost use Rattle.av_kernel.specs.Map.{AreUnmapped};
-ghost use Rattle.av_kernel.specs.Step.{DoesBeside, reply_in};
+ghost use Rattle.av_step.specs.Step.{DoesBeside, reply_in};
 ghost use Rattle.av_trace.specs.Reply.{IsCleared};
 ghost use Rattle.av_trace.specs.declared.command.Command.TheVariants as commands;
 
-use crate::answer::answer_with;
-use crate::process::check_lives;
-use crate::refusal::Refusal;
 use av_base::{PAGE_SIZE, Prot};
 use av_mem::{Mem, zap_range};
 use av_place::{check_protect, find_place, is_no_range, is_too_long};
+use av_step::{Refusal, answer_with, check_lives};
 use av_trace::{Answer, Errno, Notes, Place, Reply};
 use std::alloc::AllocError;
 

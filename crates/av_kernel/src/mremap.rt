@@ -1,17 +1,15 @@
 //! The command `mremap`: a range of pages moves, shrinks or grows, with what it has.
 
-ghost use Rattle.av_kernel.specs.Step.{DoesBeside, reply_in};
+ghost use Rattle.av_step.specs.Step.{DoesBeside, reply_in};
 ghost use Rattle.av_mem.specs.Mem.{IsSteady};
 ghost use Rattle.av_trace.specs.Reply.{IsCleared};
 ghost use Rattle.av_trace.specs.declared.command.Command.TheVariants as commands;
 
-use crate::answer::answer_with;
-use crate::process::check_lives;
-use crate::refusal::Refusal;
 use av_base::PAGE_SIZE;
 use av_mem::Mem;
 use av_mremap::{remap_areas, remap_entries};
 use av_place::{check_indices, check_remap, find_target, prot_left};
+use av_step::{Refusal, answer_with, check_lives};
 use av_trace::{Answer, Mode, Reply};
 
 /// Does an `mremap`: the pages of the old range are those of the new one, as many as it has, and

@@ -1,37 +1,20 @@
-//! Processes: `spawn`, `fork` and `exit`, and the tests that a process lives, and may come.
+//! Processes: `spawn`, `fork` and `exit`, and the test that one more may come.
 
-ghost use Rattle.std.specs.Prelude.{◌≡◌, true, false, is_some, Some, None, MatchResult};
+ghost use Rattle.std.specs.Prelude.{◌≡◌, Some, None, MatchResult};
 ghost use Rattle.av_plain.specs.Refusal.{refusal};
-ghost use Rattle.av_spaces.specs.Spaces.{areas_of};
 ghost use Rattle.av_mem.specs.Mem.{IsSteady};
 ghost use Rattle.av_kernel.specs.Process.{new_tests};
-ghost use Rattle.av_kernel.specs.Step.{DoesBeside, reply_in};
-ghost use Rattle.av_kernel.specs.declared.refusal.Refusal.TheVariants as refusals;
+ghost use Rattle.av_step.specs.Step.{DoesBeside, reply_in};
 ghost use Rattle.av_trace.specs.Reply.{IsCleared};
 ghost use Rattle.av_trace.specs.declared.command.Command.TheVariants as commands;
-ghost use Rattle.av_trace.specs.declared.reply.Errno.TheVariants as errors;
 
-use crate::answer::answer_with;
-use crate::refusal::Refusal;
 use av_base::MOST_PROCESSES;
 use av_fork::{fork_areas, fork_entries};
 use av_mem::{Mem, zap_all};
 use av_spaces::Spaces;
+use av_step::{Refusal, answer_with, check_lives};
 use av_trace::{Answer, Errno, Reply};
 use std::alloc::Global;
-
-/// Refuses where the process does not live.
-pub fn check_lives(mem: &Mem, process: u16) -> Result<(), Refusal>
-    ensures { MatchResult result
-        (λ _. is_some (areas_of mem.now.spaces.processes process) ≡ true)
-        (λ refusal. (is_some (areas_of mem.now.spaces.processes process) ≡ false)
-        × (refusal ≡ refusals.Refused errors.Esrch)) }
-{
-    if !mem.spaces.lives(process) {
-        return Err(Refusal::Refused(Errno::Esrch));
-    }
-    Ok(())
-}
 
 /// Refuses where the process lives already, or as many live as may.
 fn check_new(spaces: &Spaces, process: u16) -> Result<(), Errno>

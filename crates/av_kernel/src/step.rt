@@ -6,8 +6,7 @@ ghost use Rattle.av_swapdev.specs.Device.{most_areas};
 ghost use Rattle.av_plain.specs.Device.{IsSameDevice};
 ghost use Rattle.av_plain.specs.Transcript.{State};
 ghost use Rattle.av_mem.specs.Mem.{frame_count, Keeps, IsSteady, IsSteadyAt};
-ghost use Rattle.av_kernel.specs.Machine.{sizes_of};
-ghost use Rattle.av_kernel.specs.Step.{
+ghost use Rattle.av_step.specs.Step.{
   Does,
   DoesBeside,
   MemSteps,
@@ -15,17 +14,18 @@ ghost use Rattle.av_kernel.specs.Step.{
   is_of_pages,
   reply_in,
   seen_by,
+  sizes_of,
 };
 
-use crate::access::{read, write};
 use crate::map::{mmap, mprotect, munmap};
 use crate::mremap::mremap;
 use crate::process::{exit, fork, spawn};
-use crate::reclaim::{age, complete, reclaim};
-use crate::refusal::Refusal;
-use crate::report::{areas, entry, maps, rmap, stat};
-use crate::swap::{slot, swapoff, swapon};
+use av_access::{read, write};
 use av_mem::Mem;
+use av_report::{areas, entry, maps, rmap, stat};
+use av_step::Refusal;
+use av_swap::reclaim::{age, complete, reclaim};
+use av_swap::{slot, swapoff, swapon};
 use av_swapdev::SwapDev;
 use av_text::Bytes;
 use av_trace::{Answer, Command, Reply};

@@ -6,7 +6,7 @@ use Rattle.std.specs.Prelude.{slice_get}
 use Rattle.av_base.specs.Words.{with_at}
 use Rattle.av_swapdev.specs.Device.{IsRenewed, most_pages}
 use Rattle.av_plain.specs.Device.{Device}
-use Rattle.av_kernel.specs.Machine.{sizes_of}
+use Rattle.av_step.specs.Step.{sizes_of}
 use Rattle.av_replay.specs.Attach.{Attaches}
 
 -- the size of an area behind those that there are

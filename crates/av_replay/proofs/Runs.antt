@@ -8,7 +8,8 @@ use Rattle.std.proofs.lemmas.List.Concat.{flat_map-append}
 use Rattle.av_trace.specs.Print.{text_of}
 use Rattle.av_plain.specs.Ledger.{Setting}
 use Rattle.av_plain.specs.Transcript.{Exchange, State, IsRun, at_first, causes_of, text_of_run}
-use Rattle.av_kernel.specs.Machine.{Machine, sizes_of}
+use Rattle.av_kernel.specs.Machine.{Machine}
+use Rattle.av_step.specs.Step.{sizes_of}
 use Rattle.av_plain.specs.Device.{IsSameDevice, setting_of}
 use Rattle.av_plain.specs.Step.{causes}
 use Rattle.av_io.specs.Count.{RoseBy}

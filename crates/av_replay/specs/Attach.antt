@@ -3,7 +3,7 @@ use Rattle.std.specs.Prelude.{◌≡◌, ℕ, ◌<◌, ◌≤◌, List, Option, 
 use Rattle.std.specs.List.{AllByRecursion}
 use Rattle.av_swapdev.specs.Device.{most_pages}
 use Rattle.av_plain.specs.Device.{Device}
-use Rattle.av_kernel.specs.Machine.{sizes_of}
+use Rattle.av_step.specs.Step.{sizes_of}
 
 -- no swap area is attached
 abbrev pub HasNone : (ℕ → Option ℕ) → Type 0

@@ -3,7 +3,8 @@ use Rattle.std.specs.Prelude.{◌≡◌, ℕ, zero, suc, ◌+◌, ◌≤◌, Lis
 use Rattle.av_io.specs.Count.{one_more}
 use Rattle.av_io.specs.Source.{SourceView, in_front, HasEnded}
 use Rattle.av_io.specs.Sink.{SinkView, Gained}
-use Rattle.av_kernel.specs.Machine.{Machine, sizes_of}
+use Rattle.av_kernel.specs.Machine.{Machine}
+use Rattle.av_step.specs.Step.{sizes_of}
 use Rattle.av_plain.specs.Device.{Device, IsSameDevice, device_by}
 
 -- what is told of a source, a sink and a device at one time

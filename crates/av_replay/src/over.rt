@@ -3,8 +3,7 @@
 ghost use Rattle.std.specs.Prelude.{◌≡◌, ◌≢◌, ◌≤◌, is_some, length};
 ghost use Rattle.av_io.specs.Count.{Rose};
 ghost use Rattle.av_swapdev.specs.Device.{most_areas};
-ghost use Rattle.av_kernel.specs.Machine.{sizes_of};
-ghost use Rattle.av_kernel.specs.Step.{seen_by};
+ghost use Rattle.av_step.specs.Step.{seen_by, sizes_of};
 ghost use Rattle.av_replay.specs.Attach.{AttachesFewer, HasNone};
 ghost use Rattle.av_replay.specs.Over.{ReplaysOver};
 ghost use Rattle.av_replay.specs.Ports.{ports_by};

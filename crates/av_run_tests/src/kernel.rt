@@ -1,7 +1,7 @@
 //! A kernel that is driven command by command, and its tally of replies.
 
 ghost use Rattle.std.specs.Prelude.{◌≡◌, []};
-ghost use Rattle.av_kernel.specs.Machine.{sizes_of};
+ghost use Rattle.av_step.specs.Step.{sizes_of};
 
 use av_base::Prot;
 use av_kernel::*;

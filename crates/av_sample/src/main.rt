@@ -7,7 +7,7 @@
 #![tactic(auto)]
 
 ghost use Rattle.std.specs.Prelude.{◌≡◌};
-ghost use Rattle.av_kernel.specs.Machine.{sizes_of};
+ghost use Rattle.av_step.specs.Step.{sizes_of};
 
 mod ask;
 

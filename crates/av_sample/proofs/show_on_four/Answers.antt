@@ -1,5 +1,5 @@
 use Rattle.std.proofs.Common.{ap, sym, ◌∙◌}
-use Rattle.av_kernel.specs.Machine.{sizes_of}
+use Rattle.av_step.specs.Step.{sizes_of}
 use Rattle.av_sample.proofs.show_on_four.Goals as goal
 
 -- neither has one

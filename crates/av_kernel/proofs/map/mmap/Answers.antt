@@ -14,7 +14,7 @@ use Rattle.av_merge.specs.Kin.{lengths}
 use Rattle.av_place.specs.Place.{IsPlaced}
 use Rattle.std.specs.Int.{div_ceil}
 use Rattle.av_trace.specs.declared.reply.Errno.TheVariants.{Esrch, Einval, Enomem}
-use Rattle.av_kernel.proofs.StepLaws.{answers-noted, orderly, ranges_there, refuses, refuses-as, refuses-by, dead_first, wants-by}
+use Rattle.av_step.proofs.StepLaws.{answers-noted, orderly, ranges_there, refuses, refuses-as, refuses-by, dead_first, wants-by}
 use Rattle.av_place.proofs.PlaceLaws.{rounded_up, suited}
 use Rattle.av_kernel.proofs.MapLaws.{taken_is, suits, unmapped_lives, unmapped_free, mmap-refused, mmap-steps, mmap-tests-first, mmap-tests-second}
 use Rattle.av_kernel.proofs.MapProts.{gets_areas, mapped-homes, mapped-prots}

@@ -4,7 +4,7 @@ use Rattle.av_trace.specs.declared.command.Command.TheVariants.{Mprotect}
 use Rattle.av_spaces.specs.Spaces.{is_taken}
 use Rattle.av_merge.specs.Kin.{lengths}
 use Rattle.av_trace.specs.declared.reply.Errno.TheVariants.{Esrch}
-use Rattle.av_kernel.proofs.StepLaws.{answers, ranges_there, refuses, refuses-as, refuses-by, dead_first, wants-by}
+use Rattle.av_step.proofs.StepLaws.{answers, ranges_there, refuses, refuses-as, refuses-by, dead_first, wants-by}
 use Rattle.av_place.proofs.PlaceLaws.{rounded_up}
 use Rattle.av_kernel.proofs.MapLaws.{mprotect-steps, mprotect-stops, mprotect-refused}
 use Rattle.av_kernel.proofs.MapProts.{gets_areas, protected-homes, protected-prots}

@@ -5,7 +5,7 @@ use Rattle.av_kernel.specs.Map.{AreUnmapped}
 use Rattle.av_vma.specs.Pages.{after_unmap}
 use Rattle.av_spaces.specs.Spaces.{pages_of}
 use Rattle.av_trace.specs.declared.reply.Errno.TheVariants.{Esrch, Einval}
-use Rattle.av_kernel.proofs.StepLaws.{answers-noted, orderly, ranges_there, refuses, refuses-as, dead_first, wants-by}
+use Rattle.av_step.proofs.StepLaws.{answers-noted, orderly, ranges_there, refuses, refuses-as, dead_first, wants-by}
 use Rattle.av_place.proofs.PlaceLaws.{rounded_up}
 use Rattle.av_kernel.proofs.MapLaws.{munmap-steps, munmap-refused}
 use Rattle.av_kernel.proofs.map.munmap.Goals as goal

@@ -12,7 +12,7 @@ use Rattle.av_kernel.proofs.MremapGoes.{Goes, Passes, both_are, grow_by, high_by
 use Rattle.av_kernel.proofs.MremapRefusals.{dead_does, have_prots_of, no_room_does, refused_does}
 use Rattle.av_place.proofs.PlaceLaws.{rounded_up}
 use Rattle.av_mem.specs.declared.mem.Mem.{Mem}
-use Rattle.av_kernel.proofs.StepLaws.{answers-noted, orderly, refuses-as, refuses-by, ranges_there, wants-by}
+use Rattle.av_step.proofs.StepLaws.{answers-noted, orderly, refuses-as, refuses-by, ranges_there, wants-by}
 use Rattle.av_kernel.proofs.ForkLaws.{still_orderly}
 use Rattle.av_kernel.proofs.mremap.mremap.Goals.{In_ok-check_remap, In_ok-to}
 use Rattle.av_kernel.proofs.mremap.mremap.Goals as goal

@@ -4,7 +4,7 @@ use Rattle.av_spaces.specs.Spaces.{AllSpaces}
 use Rattle.av_spaces.specs.Kin.{AnonsStay}
 use Rattle.av_trace.specs.declared.reply.Errno.TheVariants.{Esrch}
 use Rattle.av_mem.proofs.StayLaws.{anons-stay, spaces-stay}
-use Rattle.av_kernel.proofs.StepLaws.{answers-noted, orderly, ranges_there, refuses, refuses-as, dead_first}
+use Rattle.av_step.proofs.StepLaws.{answers-noted, orderly, ranges_there, refuses, refuses-as, dead_first}
 use Rattle.av_kernel.proofs.ProcessLaws.{exit-steps}
 use Rattle.av_kernel.proofs.process.exit.Goals as goal
 

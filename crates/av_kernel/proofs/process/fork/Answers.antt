@@ -7,7 +7,7 @@ use Rattle.av_pagetable.specs.Entries.{has}
 use Rattle.av_pagetable.proofs.Entries.{none_there}
 use Rattle.av_mem.specs.declared.mem.Mem.{Mem}
 use Rattle.av_swapcache.specs.Swap.{shown as shown_swap}
-use Rattle.av_kernel.proofs.StepLaws.{answers, orderly, refuses, refuses-as, refuses-by, dead_first, wants-by}
+use Rattle.av_step.proofs.StepLaws.{answers, orderly, refuses, refuses-as, refuses-by, dead_first, wants-by}
 use Rattle.av_kernel.proofs.ProcessLaws.{absent, no_table}
 use Rattle.av_kernel.proofs.ForkLaws.{entries_few, fork-steps, fork_is, has_table, slots_few, still_orderly}
 use Rattle.av_kernel.proofs.process.fork.Goals as goal

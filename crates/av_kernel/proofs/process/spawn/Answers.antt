@@ -1,6 +1,6 @@
 use Rattle.std.proofs.Common.{refl, ◌∙◌}
 use Rattle.av_trace.specs.declared.command.Command.TheVariants.{Spawn}
-use Rattle.av_kernel.proofs.StepLaws.{answers, moved_on, refuses, refuses-by, wants-by}
+use Rattle.av_step.proofs.StepLaws.{answers, moved_on, refuses, refuses-by, wants-by}
 use Rattle.av_kernel.proofs.ProcessLaws.{absent, new_is, no_table, spawned-steps}
 use Rattle.av_kernel.proofs.process.spawn.Goals as goal
 

@@ -1,7 +1,6 @@
 use Rattle.std.proofs.Common.{ℕ, ap, subst, sym, ◌∙◌}
 use Rattle.av_kernel.specs.Kernel.{Stands}
-use Rattle.av_kernel.specs.Machine.{sizes_of}
-use Rattle.av_kernel.specs.Step.{seen_by}
+use Rattle.av_step.specs.Step.{seen_by, sizes_of}
 use Rattle.av_plain.specs.Device.{setting_of}
 use Rattle.av_plain.specs.Transcript.{at_first}
 use Rattle.av_replay.proofs.Calls.{goes_on_at}

@@ -1,0 +1,372 @@
+-- An access goes on by one page, or stops at it.
+use Rattle.std.proofs.Common.{◌≡◌, ◌⊎◌, ℕ, ◌+◌, ◌-◌, ◌*◌, ◌%◌, ◌<◌, ◌≤◌, Bool, true, false, cond, List, [], ◌∷◌, ◌++◌, map, length, max, Option, Some, None, option_map, inl, inr, zero, suc, refl, sym, ap, subst, ◌∙◌, arith}
+use Rattle.std.proofs.lemmas.Bool.Decides.{nat_tests}
+use Rattle.std.proofs.lemmas.List.{append-nil, append_assoc}
+use Rattle.av_trace.specs.declared.note.Note.{Note}
+use Rattle.std.specs.List.{range_with_len}
+use Rattle.av_base.specs.Words.{within}
+use Rattle.av_io.specs.Count.{RoseBy}
+use Rattle.av_plain.specs.Device.{Device, IsSameDevice, device_by, setting_of}
+use Rattle.av_plain.specs.Pass.{fails, is_fail}
+use Rattle.av_plain.specs.Step.{failed_frames, failure_answers}
+use Rattle.av_plain.proofs.Device.{setting_same}
+use Rattle.av_plain.proofs.Ledger.{how_many-append}
+use Rattle.av_trace.specs.declared.reply.Answer.TheVariants.{Done}
+use Rattle.av_plain.specs.World.{Page, Shows, World, lives, pages}
+use Rattle.av_plain.specs.Ledger.{Ledger, Setting, entry}
+use Rattle.av_plain.specs.Load.{is_of_slot, with_loads, without_bytes}
+use Rattle.av_plain.specs.Sound.{IsSound}
+use Rattle.av_plain.specs.Event.{Event, Used, after_all, notes_of, note_events}
+use Rattle.av_plain.specs.Access.{Accesses, End, Whole, Stopped, page_events, pages_of_access, after_write, Reads}
+use Rattle.av_plain.specs.Fault as served
+use Rattle.av_plain.specs.Fault.{Touches, is_allowed, permits}
+use Rattle.av_plain.specs.Choice.{ChoosesAll, Free}
+use Rattle.av_plain.specs.Areas.{Rmap, rmap_after_all}
+use Rattle.av_plain.specs.Transcript.{State, rmap_of}
+use Rattle.av_plain.proofs.AreasLeft.{rmap_after_all-append}
+use Rattle.av_plain.proofs.Access.{after_all-append, notes_of-append, notes_of-note_events, chooses-append, accesses-append, alike-by-allowed}
+use Rattle.av_mem.specs.declared.mem.Mem.{Mem}
+use Rattle.av_fault.specs.declared.fault.Stop.{Stop}
+use Rattle.av_mem.specs.Mem.{setting_by, frame_count, Keeps}
+use Rattle.av_mem.proofs.KeepsLaws.{keeps-whenever}
+use Rattle.av_mem.proofs.MemLaws.{lives_is}
+use Rattle.av_plain.proofs.Sound.{lives-loads, loads-same}
+use Rattle.av_swap_laws.proofs.Load.{pages-unclaimed}
+use Rattle.av_step.specs.Step.{IsSteadyFor}
+use Rattle.av_access.specs.Page.{IsPageRead, IsPageStep, world_after}
+use Rattle.av_access.specs.Access.{IsAccess, IsPiece, IsRead, answer_at, causes_of_access, world_served}
+use Rattle.av_fault.specs.Fault.{stop_of}
+use Rattle.av_access.specs.declared.access.Piece.{Piece}
+use Rattle.av_step.proofs.StepLaws.{same_then}
+use Rattle.av_access.proofs.AccessPages.{touches, touched-one, touched-more}
+use Rattle.av_step.proofs.Loads.{AreOwnLoads, IsApart, loads-shows, loads-stored, own-events, with_loads-append}
+use Rattle.av_access.proofs.AccessBytes.{reads-more, stored_twice, allowed-stored, lives-stored}
+
+-- ---- the memories after a part of an access
+
+-- loads leave what is allowed
+allowed-loaded : (m : Setting) (w : World) (l : Ledger) (es : List Event) (wants : Bool) (p page : ℕ) →
+    is_allowed w wants (p, page) ≡ is_allowed (with_loads m w l es) wants (p, page)
+allowed-loaded m w l es wants p page = sym (loads-same (λ w. is_allowed w wants (p, page)) m w l es
+    (λ l s w. ap (permits wants) (pages-unclaimed l s w p page) ∙ by (is_of_slot s (entry l (p, page))) (pages w p page)))
+  where
+    by : (b : Bool) (o : Option Page) → permits wants (cond b (option_map without_bytes o) o) ≡ permits wants o
+    by true None = refl
+    by true (Some q) = refl
+    by false o = refl
+
+allowed-served : (w : World) (write wants : Bool) (p a : ℕ) (bytes : List ℕ) (page : ℕ) →
+    is_allowed w wants (p, page) ≡ is_allowed (world_served write p a bytes w) wants (p, page)
+allowed-served w true wants p a bytes page = allowed-stored w wants p a bytes page
+allowed-served w false wants p a bytes page = refl
+
+served_twice : (w : World) (write : Bool) (p a page at : ℕ) (xs ys : List ℕ) → (write ≡ true → 4096 * page + at ≡ a + length xs)
+    → world_after write p page at ys None (world_served write p a xs w) ≡ world_served write p a (xs ++ ys) w
+served_twice w true p a page at xs ys is = ap (λ b. after_write (after_write w p a xs) p b ys) (is refl) ∙ stored_twice w p a xs ys
+served_twice w false p a page at xs ys is = refl
+
+-- a page that stopped stores nothing
+stop_answer-world : (write : Bool) (p page at : ℕ) (ys : List ℕ) (stop : Stop) (w : World) → world_after write p page at ys (Some stop) w ≡ w
+stop_answer-world true p page at ys stop w = refl
+stop_answer-world false p page at ys stop w = refl
+
+-- the loads of a page leave what was stored before it
+loads-served : (m : Setting) (w : World) (l : Ledger) (es : List Event) (write : Bool) (p a page : ℕ) (xs : List ℕ) →
+    (write ≡ true → IsApart a (length xs) page) → AreOwnLoads p page l es →
+    with_loads m (world_served write p a xs w) l es ≡ world_served write p a xs (with_loads m w l es)
+loads-served m w l es true p a page xs apart own = loads-stored p page a xs (apart refl) m w l es own
+loads-served m w l es false p a page xs apart own = refl
+
+-- and the process lives on
+page-lives : (w : World) (write : Bool) (p page at : ℕ) (ys : List ℕ) (end : Option Stop) → lives w p ≡ true →
+    lives (world_after write p page at ys end w) p ≡ true
+page-lives w true p page at ys None h = lives-stored w p (4096 * page + at) ys h
+page-lives w true p page at ys (Some stop) h = h
+page-lives w false p page at ys end h = h
+
+-- ---- what is there of the memory system
+
+-- over some device that doesn't tell its pages there is a state in which the process lives
+pub record Lives (sizes : ℕ → Option ℕ) (failures : ℕ) (k : Mem) (p : ℕ) : Type 0 where
+  pub state : State
+  pub keeps : Keeps (device_by sizes None failures) k state
+  pub lives : lives state.world p ≡ true
+
+-- however often it failed
+pub steady-lives : (sizes : ℕ → Option ℕ) (failures : ℕ) (k : Mem) (p : ℕ) → IsSteadyFor sizes p k → Lives sizes failures k p
+steady-lives sizes failures k p steady = let h = steady.0 in let keeps = keeps-whenever sizes None h.0 failures k h.1 h.2 in
+    record { state = h.1; keeps = keeps; lives = sym (lives_is _ k h.1 keeps p) ∙ steady.1 }
+
+-- so it is after a page
+pub page-steady : (sizes sizes' : ℕ → Option ℕ) (n n' : ℕ) (s : State) (new : Mem) (write : Bool) (p page at : ℕ) (ys : List ℕ)
+    (before now : List Note)
+    (end : Option Stop) → lives s.world p ≡ true →
+    IsPageStep (device_by sizes None n) (device_by sizes' None n') s new write p page at ys before now end → IsSteadyFor sizes p new
+page-steady sizes sizes' n n' s new write p page at ys before now end alive h = (
+  (n', h.next, subst (λ sizes. Keeps (device_by sizes None n') new h.next) h.same.sizes h.keeps),
+  lives_is (device_by sizes' None n') new h.next h.keeps p ∙ ap (λ w. lives w p) h.world ∙ page-lives
+      (with_loads (setting_by (device_by sizes None n) new) s.world s.ledger (page_events write (p, page) h.added (option_map stop_of end))) write p
+      page at ys end
+      (lives-loads (setting_by (device_by sizes None n) new) s.world s.ledger (page_events write (p, page) h.added (option_map stop_of end)) p
+      ∙ alive),
+)
+
+-- ---- what happens at one page
+
+pub notes-happening : (write : Bool) (k : ℕ × ℕ) (added : List Note) (end : Option served.Stop) → notes_of (page_events write k added end) ≡ added
+notes-happening write k added None = notes_of-append (note_events added) (Used write k ∷ []) ∙ append-nil _ ∙ notes_of-note_events added
+notes-happening write k added (Some stop) = notes_of-note_events added
+
+-- a page that is served is an access of this page, whole
+one_served : (m : Setting) (w : World) (l : Ledger) (write : Bool) (p page : ℕ) (added : List Note) → Touches m w l write (p, page) added None
+    → Accesses m w l p ((write, page) ∷ []) (page_events write (p, page) added None) Whole
+one_served m w l write p page added h = inl (added, [], h, sym (append-nil _), (refl, refl))
+
+-- a page that stops an access of it and more
+one_stopped : (m : Setting) (w : World) (l : Ledger) (write : Bool) (p page : ℕ) (rest : List (Bool × ℕ)) (added : List Note) (stop : served.Stop) →
+    Touches m w l write (p, page) added (Some stop)
+    → Accesses m w l p ((write, page) ∷ rest) (page_events write (p, page) added (Some stop)) (Stopped page stop)
+one_stopped m w l write p page rest added stop h = inr (added, stop, h, refl, refl)
+
+-- ---- what only failures explain
+
+rose-both : (m n k a b c : ℕ) → RoseBy m a b → RoseBy n b c → k ≤ m + n → RoseBy k a c
+rose-both m n k a b c h g few = omega (arith, h, g, few)
+
+causes-append : (xs ys : List Note) (end : Option Stop) (a b c : ℕ) → RoseBy (causes_of_access xs None) a b → RoseBy (causes_of_access ys end) b c →
+    RoseBy (causes_of_access (xs ++ ys) end) a c
+causes-append xs ys end a b c h g = rose-both (causes_of_access xs None) (causes_of_access ys end) (causes_of_access (xs ++ ys) end) a b c h g
+    (let both = how_many-append is_fail xs ys in few (fails (xs ++ ys)) (fails xs) (fails ys)
+    (failed_frames (answer_at end Done 0 [])) (failure_answers (answer_at end Done 0 [])) both)
+  where
+    few : (f m n x y : ℕ) → f ≡ m + n → max f x + y ≤ (max m 0 + 0) + (max n x + y)
+    few f m n x y is = omega (arith, is)
+
+-- ---- the access goes on
+
+-- k bytes were served, and a piece begins behind them
+record Behind (a k page at : ℕ) : Type 0 where
+  is : 4096 * page + at ≡ a + k
+  small : at < 4096
+  begins : 1 ≤ k → at ≡ 0
+
+module _ {d d' : Device} (s : State) (mid new : Mem) (write : Bool) (p a k page at : ℕ) (xs ys : List ℕ) (before now after : List Note)
+    (same : frame_count new ≡ frame_count mid) (behind : Behind a k page at) (h : IsAccess d d' s mid write p a k xs before now None k)
+    (long : write ≡ true → length xs ≡ k) where
+  notes-both : (end : Option served.Stop) (added : List Note) → after ≡ now ++ added →
+      after ≡ before ++ notes_of (h.events ++ page_events write (p, page) added end)
+  notes-both end added is = is ∙ ap (λ ns. ns ++ added) h.notes ∙ append_assoc before (notes_of h.events) added
+      ∙ ap (λ ns. before ++ ns) (ap (λ ns. notes_of h.events ++ ns) (sym (notes-happening write (p, page) added end))
+      ∙ sym (notes_of-append h.events (page_events write (p, page) added end)))
+
+  accesses-both : (pages : List (Bool × ℕ)) (more : List Event) (end : End) → Accesses (setting_by d new) h.next.world h.next.ledger p pages more end
+      → Accesses (setting_by d new) s.world s.ledger p (pages_of_access write a k ++ pages) (h.events ++ more) end
+  accesses-both pages more end g = accesses-append (setting_by d new) s.world h.next.world s.ledger p (pages_of_access write a k) pages h.events
+      more end
+      (alike-by-allowed s.world h.next.world p (λ wants page. allowed-loaded (setting_by d mid) s.world s.ledger h.events wants p page
+      ∙ allowed-served (with_loads (setting_by d mid) s.world s.ledger h.events) write wants p a xs page
+      ∙ ap (λ w. is_allowed w wants (p, page)) (sym h.world)))
+      (subst (λ n. Accesses (setting_of n d) s.world s.ledger p (pages_of_access write a k) h.events Whole) (sym same)
+      (subst (λ end. Accesses (setting_by d mid) s.world s.ledger p (pages_of_access write a k) h.events end) h.is_end.0 h.accesses))
+      (subst (λ l. Accesses (setting_by d new) h.next.world l p pages more end) h.ledger g)
+
+  free-both : (more : List Event) (free : Free) → ChoosesAll (setting_by d new) None h.next.ledger more h.next.free free →
+      ChoosesAll (setting_by d new) None s.ledger (h.events ++ more) s.free free
+  free-both more free g = chooses-append (setting_by d new) None s.ledger h.events more s.free h.next.free free
+      (subst (λ n. ChoosesAll (setting_of n d) None s.ledger h.events s.free h.next.free) (sym same) h.free)
+      (subst (λ l. ChoosesAll (setting_by d new) None l more h.next.free free) h.ledger g)
+
+  ledger-both : (more : List Event) (l : Ledger) → l ≡ after_all h.next.ledger more → l ≡ after_all s.ledger (h.events ++ more)
+  ledger-both more l is = is ∙ ap (λ x. after_all x more) h.ledger ∙ sym (after_all-append s.ledger h.events more)
+
+  rmap-both : (more : List Event) (r : Rmap) → r ≡ rmap_after_all h.next.ledger more (rmap_of h.next) →
+      r ≡ rmap_after_all s.ledger (h.events ++ more) (rmap_of s)
+  rmap-both more r is = is ∙ (λ i. rmap_after_all (h.ledger i) more (h.rmap i)) ∙ sym (rmap_after_all-append s.ledger h.events more (rmap_of s))
+
+  -- the page's step is over the device as it is then, which is the same
+  setting-same : setting_by d' new ≡ setting_by d new
+  setting-same = setting_same (frame_count new) d d' h.same
+
+  -- bytes that were stored before are on no byte of the page
+  apart : (n : ℕ) → n ≡ k → IsApart a n page
+  apart n is i = outside a n (4096 * page + i) (by k is behind.is behind.begins)
+    where
+      by : (k : ℕ) → n ≡ k → 4096 * page + at ≡ a + k → (1 ≤ k → at ≡ 0) → (n ≡ 0) ⊎ (a + n ≤ 4096 * page + i)
+      by zero none at_is begins = inl none
+      by (suc k) some at_is begins = let first : at ≡ 0 = begins (omega arith) in inr (omega (arith, some, at_is, first))
+
+      outside : (a n x : ℕ) → (n ≡ 0) ⊎ (a + n ≤ x) → within a n x ≡ false
+      outside a n x (inl none) = grind (arith, nat_tests, none)
+      outside a n x (inr past) = grind (arith, nat_tests, past)
+
+  module _ {d'' : Device} (end : Option Stop) (g : IsPageStep d' d'' h.next new write p page at ys now after end) where
+    abbrev here : List Event
+    here = page_events write (p, page) g.added (option_map stop_of end)
+
+    own : AreOwnLoads p page h.next.ledger here
+    own = own-events (setting_by d' new) h.next.world h.next.ledger write p page g.added (option_map stop_of end)
+        (subst (λ n. IsSound (setting_of n d') h.next.ledger) (sym same) h.keeps.stands.sound.ledger) g.touches
+
+    -- the memories after the page's loads are those after all loads, with what was stored before
+    loaded-both : with_loads (setting_by d' new) h.next.world h.next.ledger here
+        ≡ world_served write p a xs (with_loads (setting_by d new) s.world s.ledger (h.events ++ here))
+    loaded-both = (λ i. with_loads (setting-same i) (h.world i) h.next.ledger here)
+        ∙ loads-served (setting_by d new) (with_loads (setting_by d mid) s.world s.ledger h.events) h.next.ledger here write p a page xs
+        (λ is. apart (length xs) (long is)) own
+        ∙ ap (world_served write p a xs) (ap (λ l. with_loads (setting_by d new) (with_loads (setting_by d mid) s.world s.ledger h.events) l here)
+        h.ledger
+        ∙ sym (with_loads-append (setting_by d new) s.world s.ledger h.events here))
+
+    touches-same : Touches (setting_by d new) h.next.world h.next.ledger write (p, page) g.added (option_map stop_of end)
+    touches-same = subst (λ m. Touches m h.next.world h.next.ledger write (p, page) g.added (option_map stop_of end)) setting-same g.touches
+
+    free-same : ChoosesAll (setting_by d new) None h.next.ledger
+        (page_events write (p, page) g.added (option_map stop_of end)) h.next.free g.next.free
+    free-same = subst (λ m. ChoosesAll m None h.next.ledger (page_events write (p, page) g.added (option_map stop_of end)) h.next.free g.next.free)
+        setting-same g.free
+
+    device-same : IsSameDevice d d''
+    device-same = same_then d d' d'' h.same g.same
+
+    failures-both : RoseBy (causes_of_access (notes_of (h.events ++ page_events write (p, page) g.added (option_map stop_of end))) end) d.failures
+        d''.failures
+    failures-both = subst (λ ns. RoseBy (causes_of_access ns end) d.failures d''.failures)
+        (sym (notes_of-append h.events (page_events write (p, page) g.added (option_map stop_of end))
+        ∙ ap (λ ns. notes_of h.events ++ ns) (notes-happening write (p, page) g.added (option_map stop_of end))))
+        (causes-append (notes_of h.events) g.added end d.failures d'.failures d''.failures h.failures g.failures)
+
+  -- by m bytes of the page
+  goes_on : {d'' : Device} (m : ℕ) → at + m ≤ 4096 → 1 ≤ m → IsPageStep d' d'' h.next new write p page at ys now after None
+      → IsAccess d d'' s new write p a (k + m) (xs ++ ys) before after None (k + m)
+  goes_on m small some g = record {
+    events = h.events ++ page_events write (p, page) g.added None;
+    notes = notes-both None g.added g.notes;
+    end = Whole;
+    accesses = subst (λ pages. Accesses (setting_by d new) s.world s.ledger p pages (h.events ++ page_events write (p, page) g.added None) Whole)
+        (sym (touched-one write a k m page at behind.is small some behind.begins))
+        (accesses-both ((write, page) ∷ []) _ Whole (one_served _ h.next.world h.next.ledger write p page g.added (touches-same None g)));
+    is_end = (refl, refl);
+    next = g.next;
+    world = g.world ∙ ap (world_after write p page at ys None) (loaded-both None g) ∙ served_twice _ write p a page at xs ys
+        (λ is. behind.is ∙ ap (λ n. a + n) (sym (long is)));
+    ledger = ledger-both _ _ g.ledger;
+    free = free-both _ _ (free-same None g);
+    rmap = rmap-both _ _ g.rmap;
+    keeps = g.keeps;
+    same = device-same None g;
+    failures = failures-both None g;
+  }
+
+  -- or stops there
+  stops : {d'' : Device} (n : ℕ) (stop : Stop) → k < n → IsPageStep d' d'' h.next new write p page at ys now after (Some stop)
+      → IsAccess d d'' s new write p a n xs before after (Some stop) k
+  stops n stop less g = record {
+    events = h.events ++ page_events write (p, page) g.added (Some (stop_of stop));
+    notes = notes-both (Some (stop_of stop)) g.added g.notes;
+    end = Stopped page (stop_of stop);
+    accesses = subst (λ pages. Accesses (setting_by d new) s.world s.ledger p pages
+        (h.events ++ page_events write (p, page) g.added (Some (stop_of stop)))
+        (Stopped page (stop_of stop))) (sym (touched-more write a k n page at behind.is behind.small less behind.begins))
+        (accesses-both ((write, page) ∷ map (λ page. (write, page)) (range_with_len (page + 1) (touches a n - (touches a k + 1)))) _ _
+        (one_stopped _ h.next.world h.next.ledger write p page _ g.added (stop_of stop) (touches-same (Some stop) g)));
+    is_end = (page, refl, served k behind.is behind.begins, less);
+    next = g.next;
+    world = g.world ∙ stop_answer-world write p page at ys stop _ ∙ loaded-both (Some stop) g;
+    ledger = ledger-both _ _ g.ledger;
+    free = free-both _ _ (free-same (Some stop) g);
+    rmap = rmap-both _ _ g.rmap;
+    keeps = g.keeps;
+    same = device-same (Some stop) g;
+    failures = failures-both (Some stop) g;
+  }
+    where
+      served : (k : ℕ) → 4096 * page + at ≡ a + k → (1 ≤ k → at ≡ 0) → k ≡ 4096 * page - a
+      served zero is begins = omega (arith, is)
+      served (suc k) is begins = let none : at ≡ 0 = begins (omega arith) in omega (arith, is, none)
+
+-- ---- the pieces
+
+behind-piece : (a n k : ℕ) (piece : Piece) → IsPiece a n k piece → k < n → (1 ≤ k → k < n → (a + k) % 4096 ≡ 0) → Behind a k piece.page piece.at
+behind-piece a n k piece is less begins = record { is = is.0; small = is.1; begins = λ some. first (begins some less) }
+  where
+    first : (a + k) % 4096 ≡ 0 → piece.at ≡ 0
+    first h = omega (arith, is.0, is.1, h)
+
+piece-in_page : (a n k : ℕ) (piece : Piece) → IsPiece a n k piece → piece.at + piece.len ≤ 4096
+piece-in_page a n k piece is = omega (arith, is.1, is.2)
+
+piece-some : (a n k : ℕ) (piece : Piece) → IsPiece a n k piece → k < n → 1 ≤ piece.len
+piece-some a n k piece is less = omega (arith, is.1, is.2, less)
+
+pub piece-within : (a n k : ℕ) (piece : Piece) → IsPiece a n k piece → k < n → k + piece.len ≤ n
+piece-within a n k piece is less = omega (arith, is.2, less)
+
+-- behind a piece a page begins, or nothing is left
+pub piece-ends : (a n k : ℕ) (piece : Piece) → IsPiece a n k piece → 1 ≤ k + piece.len → k + piece.len < n → (a + (k + piece.len)) % 4096 ≡ 0
+piece-ends a n k piece is some less = omega (arith, is.0, is.1, is.2, less)
+
+-- what is no stop is none
+pub none_left : (end : Option Stop) → ((stop : Stop) → end ≡ Some stop → ⊥) → end ≡ None
+none_left None h = refl
+none_left (Some stop) h = absurd (h stop refl)
+
+-- a page's step is taken from where the access stands
+module _ {d d' : Device} (s : State) (mid new : Mem) (write : Bool) (p a n k : ℕ) (piece : Piece) (xs ys : List ℕ) (before now after : List Note)
+    (end : Option Stop)
+    (same : frame_count new ≡ frame_count mid) (is : IsPiece a n k piece) (less : k < n) (begins : 1 ≤ k → k < n → (a + k) % 4096 ≡ 0)
+    (h : IsAccess d d' s mid write p a k xs before now None k) (long : write ≡ true → length xs ≡ k) where
+  behind : Behind a k piece.page piece.at
+  behind = behind-piece a n k piece is less begins
+
+  pub piece-served : {d'' : Device} → IsPageStep d' d'' h.next new write p piece.page piece.at ys now after end →
+      ((stop : Stop) → end ≡ Some stop → ⊥) →
+      (zs : List ℕ) → xs ++ ys ≡ zs → IsAccess d d'' s new write p a (k + piece.len) zs before after None (k + piece.len)
+  piece-served {d''} g none zs whole = subst (λ zs. IsAccess d d'' s new write p a (k + piece.len) zs before after None (k + piece.len)) whole
+      (goes_on s mid new write p a k piece.page piece.at xs ys before now after same behind h long piece.len (piece-in_page a n k piece is)
+      (piece-some a n k piece is less)
+      (subst (λ end. IsPageStep d' d'' h.next new write p piece.page piece.at ys now after end) (none_left end none) g))
+
+  pub piece-stopped : {d'' : Device} → IsPageStep d' d'' h.next new write p piece.page piece.at ys now after end → (stop : Stop) → end ≡ Some stop →
+      IsAccess d d'' s new write p a n xs before after (Some stop) k
+  piece-stopped {d''} g stop some = stops s mid new write p a k piece.page piece.at xs ys before now after same behind h long n stop less
+      (subst (λ end. IsPageStep d' d'' h.next new write p piece.page piece.at ys now after end) some g)
+
+-- what was shown is so after the next page's loads, and a piece that was served is shown too
+module _ {d d' : Device} (s : State) (mid new : Mem) (p a n k : ℕ) (piece : Piece) (before now after : List Note) (shown shown' : List ℕ)
+    (same : frame_count new ≡ frame_count mid) (is : IsPiece a n k piece) (less : k < n) (begins : 1 ≤ k → k < n → (a + k) % 4096 ≡ 0)
+    (h : IsRead d d' s mid p a k before now None k shown) where
+  no_write : false ≡ true → length {A = ℕ} [] ≡ k
+  no_write e = cc
+
+  pub read-served : {d'' : Device} → IsPageRead d' d'' h.access.next new p piece.page piece.at piece.len now after shown shown' None
+      → IsRead d d'' s new p a (k + piece.len) before after None (k + piece.len) shown'
+  unfolding goes_on
+  read-served g = record {
+    access = goes_on s mid new false p a k piece.page piece.at [] [] before now after same (behind-piece a n k piece is less begins) h.access no_write
+        piece.len (piece-in_page a n k piece is) (piece-some a n k piece is less) g.step;
+    reads = reads-more (pages g.step.next.world p) a k piece.len
+        (4096 * piece.page + piece.at) shown shown' g.shows.0 is.0 g.shows.1 g.shows.2 g.shows.3
+        g.shows.4 (
+          h.reads.0,
+          subst (λ w. Shows (pages w p) a shown) (sym g.step.world)
+              (loads-shows (setting_by d' new) h.access.next.world h.access.next.ledger
+              (page_events false (p, piece.page) g.step.added None) p a shown h.reads.1),
+          h.reads.2,
+        );
+  }
+
+  pub read-stopped : {d'' : Device} (stop : Stop) → IsPageRead d' d'' h.access.next new p piece.page piece.at piece.len now after shown shown'
+      (Some stop)
+      → IsRead d d'' s new p a n before after (Some stop) k shown'
+  unfolding stops
+  read-stopped stop g = record {
+    access = stops s mid new false p a k piece.page piece.at [] [] before now after same
+        (behind-piece a n k piece is less begins) h.access no_write n stop less
+        g.step;
+    reads = subst (Reads (pages g.step.next.world p) a k) (sym g.shows) (
+      h.reads.0,
+      subst (λ w. Shows (pages w p) a shown) (sym g.step.world) (loads-shows (setting_by d' new) h.access.next.world h.access.next.ledger
+          (page_events false (p, piece.page) g.step.added (Some (stop_of stop))) p a shown h.reads.1),
+      h.reads.2,
+    );
+  }

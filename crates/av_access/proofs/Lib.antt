@@ -1,0 +1,7 @@
+pub mod PageWritten
+pub mod PageStep
+pub mod PageShown
+pub mod AccessPages
+pub mod AccessBytes
+pub mod AccessParts
+pub mod AccessSteps

@@ -1,0 +1,102 @@
+-- What one command does to the memory system.
+use Rattle.std.specs.Prelude.{◌≡◌, ℕ, Bool, false, true, List, Option, Some, None, Result, Ok, Err}
+use Rattle.std.specs.Prelude.{IfSome, is_some, slice_get}
+use Rattle.av_trace.specs.declared.command.Command.{Command}
+use Rattle.av_trace.specs.declared.command.Command.TheVariants.{Age, Mmap, Mprotect, Mremap, Munmap}
+use Rattle.av_trace.specs.declared.command.Command.TheVariants.{Reclaim}
+use Rattle.av_trace.specs.declared.reply.Answer.TheVariants as answers
+use Rattle.av_trace.specs.declared.reply.Reply.{Reply}
+use Rattle.av_trace.specs.Reply.{answer_only}
+use Rattle.av_io.specs.Count.{RoseBy}
+use Rattle.av_plain.specs.Device.{Device, IsSameDevice, device_by}
+use Rattle.av_plain.specs.Step.{causes, uses_device}
+use Rattle.av_plain.specs.Transcript.{State, IsStep}
+use Rattle.av_spaces.specs.Spaces.{areas_of}
+use Rattle.av_mem.specs.declared.mem.Mem.{Mem}
+use Rattle.av_mem.specs.Mem.{setting_by, frame_count, IsSteadyAt, Keeps}
+use Rattle.av_step.specs.declared.refusal.Refusal.{Refusal}
+use Rattle.av_step.specs.declared.refusal.Refusal.TheVariants.{Refused, Memory}
+
+-- whether a command maps, unmaps or changes pages
+abbrev pub is_of_pages : Command → Bool
+is_of_pages (Mmap p len prot place) = true
+is_of_pages (Munmap p a len) = true
+is_of_pages (Mprotect p a len prot) = true
+is_of_pages (Mremap p a old_len new_len mode) = true
+is_of_pages command = false
+
+-- whether a command is handed the device: `read`, `write`, `complete`, `swapon` and `swapoff` may
+-- use it, `reclaim` and `age` move frames towards their slots; each other one leaves it as it is
+abbrev pub has_device : Command → Bool
+has_device (Reclaim n) = true
+has_device (Age n) = true
+has_device command = uses_device command
+
+-- what a command answers that filled this reply, or was not done
+abbrev pub reply_in : Reply → Result (Unit {0}) Refusal → Result Reply Refusal
+reply_in reply (Ok _) = Ok reply
+reply_in reply (Err refusal) = Err refusal
+
+-- the reply of a command that was done or refused, or none where memory was wanting
+abbrev pub reply_of : Result Reply Refusal → Option Reply
+reply_of (Ok reply) = Some reply
+reply_of (Err (Refused error)) = Some (answer_only (answers.Refused error))
+reply_of (Err Memory) = None
+
+-- ---- the device
+
+-- the sizes of swap areas by their numbers: an area past them is not attached
+abbrev pub sizes_of : List ℕ → ℕ → Option ℕ
+sizes_of sizes k = slice_get sizes k
+
+-- a device by what is told of one
+abbrev pub seen_by : {D : Type 0} → (D → ℕ → Option ℕ) → (D → Option (ℕ → ℕ → List ℕ)) → (D → ℕ)
+    → D → Device
+seen_by sizes pages failures d = device_by (sizes d) (pages d) (failures d)
+
+-- over some device with these sizes the memory system stands for something, in which the process
+-- lives
+abbrev pub IsSteadyFor : (ℕ → Option ℕ) → ℕ → Mem → Type 0
+IsSteadyFor sizes p k = IsSteadyAt sizes k × (is_some (areas_of k.spaces.processes p) ≡ true)
+
+-- ---- commands
+
+-- a command's reply is a step over the device as it was; it is the same device then, and with it
+-- the memory system stands for what the step leaves; what only failures of the device explain is
+-- within what it failed
+pub record MemSteps (d d' : Device) (old new : Mem) (s : State) (command : Command) (reply : Reply)
+    : Type 0 where
+  pub next : State
+  pub step : IsStep (setting_by d old) s command reply next
+  pub keeps : Keeps d' new next
+  pub same : IsSameDevice d d'
+  pub failures : RoseBy (causes reply) d.failures d'.failures
+
+-- What every command promises, over the device as it was and as it is: whatever the memory system
+-- stood for, the reply is a step, and it stands for what that leaves; and where it stood for
+-- something over other pages of these sizes, so it does then. It is the same device, and there are
+-- as many frames as before, also where memory was wanting
+pub record Does (d d' : Device) (old new : Mem) (command : Command) (result : Result Reply Refusal)
+    : Type 0 where
+  pub step : (s : State) → Keeps d old s
+      → IfSome (reply_of result) (MemSteps d d' old new s command)
+  pub steady : IsSteadyAt d.sizes old → IfSome (reply_of result) (λ reply. IsSteadyAt d.sizes new)
+  pub same : IsSameDevice d d'
+  pub count : frame_count new ≡ frame_count old
+
+-- ---- commands that aren't handed the device
+
+-- beside this device, which stays as it is, a command's reply is a step, and the memory system
+-- stands for what it leaves
+pub record StepsBeside (d : Device) (old new : Mem) (s : State) (command : Command) (reply : Reply)
+    : Type 0 where
+  pub next : State
+  pub step : IsStep (setting_by d old) s command reply next
+  pub keeps : Keeps d new next
+
+-- what a command promises that isn't handed the device: it does so beside any
+pub record DoesBeside (old new : Mem) (command : Command) (result : Result Reply Refusal)
+    : Type 0 where
+  pub step : (d : Device) (s : State) → Keeps d old s
+      → IfSome (reply_of result) (StepsBeside d old new s command)
+  pub count : frame_count new ≡ frame_count old

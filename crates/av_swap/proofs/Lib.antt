@@ -1,0 +1,4 @@
+pub mod ReclaimLaws
+pub mod SlotLaws
+pub mod SwaponLaws
+pub mod SwapoffLaws
