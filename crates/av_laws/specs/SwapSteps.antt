@@ -4,11 +4,11 @@
 --   what those before a frame left (`Outcomes`): four_reclaimed
 --   which frames, and in which order (`from_tail`): two_reclaimed, two_aged
 --   which writes end, and in which order (`CompletesFirst`): first_completed, both_completed,
---     second_too
+--     second_too, second_left_in_flight
 --   what is dropped behind a write that ended (`end_notes`): failed_stays
 --   how a clean frame leaves (`leave_notes`): clean_reclaimed
 --   the slots of an area that is turned off, in order (`Empties`, `map_notes`): two_emptied
---   where a `swapoff` ends (`EndsAt`): left_named, cached_unread
+--   where a `swapoff` ends (`EndsAt`): left_named, cached_unread, later_unread
 --   why it ends there (`end_at`, `close_answer`): unread_behind_pass, starved_behind_pass,
 --     counted_behind_pass, unread_without_frame, unread_is_told
 --   what a pass does to slots that are still to be emptied (`Empties`, `sparing_area`):
@@ -146,6 +146,15 @@ OtherAreaGives = MayChoose one_frame_two_areas (closing_swap_area (Swapoff 0)) (
 -- where slots of area 0 are still in use, it may end with these notes
 abbrev pub Ends : Setting → Ledger → List Note → Close → Type 0
 Ends m l notes end = EndsAt m (sparing_area [] 0 l) 0 l (slots_in_use m l 0) notes end
+
+-- a page is in frame 0, which slot 1 caches; another is at slot 2, on the device
+abbrev pub cached_by_first : Ledger
+cached_by_first = record first_ledger {
+  entries = ((1, 0x10), InFrame 0 false) ∷ ((1, 0x11), InSlot (slot 2)) ∷ [];
+  cache = cached_at 1 0 false ∷ [];
+  inactive = 0 ∷ [];
+  on = one_area 2 0;
+}
 
 -- slot 1 is on the device, and a page is at it; another page is in the one frame, which slot 2
 -- caches, stale or not

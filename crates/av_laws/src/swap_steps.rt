@@ -51,6 +51,7 @@ ghost use Rattle.av_laws.specs.SwapSteps.{
   Ends,
   OtherAreaGives,
   both_written,
+  cached_by_first,
   cached_by_second,
   cached_there_fails,
   counted_behind_pass,
@@ -95,7 +96,7 @@ pub fn frames_are_reclaimed_from_the_tail()
 {}
 
 /// The writes that are completed are the first in flight, in the order in which they began; where
-/// fewer are in flight, all of them.
+/// fewer are in flight, all of them, also those behind one that fails.
 pub fn the_first_writes_are_completed()
     ensures first_completed { MayCome (with_swap 4 3 2) [] two_flying (Complete 1)
         (reply_with Done (Written (slot 2) ∷ [])) }
@@ -105,6 +106,8 @@ pub fn the_first_writes_are_completed()
         (reply_with Done (Failed (slot 2) ∷ [])) }
     ensures second_too { MayNotCome (with_swap 4 3 2) [] two_flying (Complete 1)
         (reply_with Done both_written) }
+    ensures second_left_in_flight { MayNotCome (with_swap 4 3 2) [] two_flying (Complete 5)
+        (reply_with Done (Failed (slot 2) ∷ [])) }
 {}
 
 /// The slots of an area that is turned off are emptied, the least first, once the writes in flight
@@ -112,8 +115,8 @@ pub fn the_first_writes_are_completed()
 /// the slot or, where none does, one that takes its page. A frame that has to go for that goes to
 /// another area, or to the slot at which it is cached, though that is still to be emptied.
 ///
-/// It ends at no slot but one that is in no frame: there none is free behind the pass, or one is
-/// and the device does not give the page.
+/// It ends at no slot but the least in use, and only where that is in no frame: there none is free
+/// behind the pass, or one is and the device does not give the page.
 pub fn slots_are_emptied_in_turn()
     ensures two_emptied { MayCome (with_swap 4 3 2) [] two_slots (Swapoff 0)
         (reply_with Done two_emptied) }
@@ -126,6 +129,7 @@ pub fn slots_are_emptied_in_turn()
         → ⊥ }
     ensures cached_unread { Ends (with_swap 4 3 2) (after_notes two_slots first_emptied) [] Unread
         → ⊥ }
+    ensures later_unread { Ends (with_swap 4 3 2) cached_by_first [] Unread → ⊥ }
     ensures unread_behind_pass { Ends one_frame_two_areas (lower_in_use 1) to_other_area Unread }
     ensures starved_behind_pass { Ends one_frame_two_areas (lower_in_use 1) to_other_area
         (NoRoom (numbers 1 0)) → ⊥ }
