@@ -8,9 +8,9 @@
 //! stands for the next one then, in which each entry of a frame, or of the slot that one caches, is
 //! reached from the frame's home. It is the same device after each command, with its sizes and,
 //! where it tells its pages, page 0 of each area; and what only its failures explain is within what
-//! it failed. One that isn't handed it leaves it as it was. `Kernel` counts the replies, and after
-//! want of memory does nothing more, to the device either. All of this is proved, for every
-//! command.
+//! it failed. A command that isn't handed the device leaves it as it was. `Kernel` counts the
+//! replies, and after want of memory does nothing more, to the device either. All of this is
+//! proved, for every command.
 #![tactic(auto)]
 
 mod kernel;

@@ -74,6 +74,8 @@ pub fn perform<D: SwapDev>(
 }
 
 /// Does a command, and fills the reply.
+// In line, as `do_beside`: so one look at the command leads to what does it.
+#[inline(always)]
 fn dispatch<D: SwapDev>(
     mem: &mut Mem,
     dev: &mut D,
@@ -114,6 +116,7 @@ fn dispatch<D: SwapDev>(
 }
 
 /// Does a command that isn't handed the device.
+#[inline(always)]
 fn do_beside(
     mem: &mut Mem,
     alloc: Global,
