@@ -1,8 +1,8 @@
 -- Numbers in digits: what is read is spelled so, and what is spelled is read.
-use Rattle.std.proofs.Common.{◌≡◌, ℕ, zero, suc, not, ◌+◌, ◌*◌, ◌/◌, ◌-◌, ◌%◌, ◌^◌, ◌<◌, ◌≤◌, Bool, true, false, eqb, leb, ltb, List, [], ◌∷◌, ◌++◌, length, get_or, take, drop, Option, Some, None, refl, sym, ap, subst, ◌∙◌, append_assoc, append-nil, arith, inl, inr, lit<}
+use Rattle.std.proofs.Common.{◌≡◌, ℕ, zero, suc, not, ◌+◌, ◌*◌, ◌/◌, ◌-◌, ◌%◌, ◌^◌, ◌<◌, ◌≤◌, Bool, true, false, eqb, leb, ltb, List, [], ◌∷◌, ◌++◌, length, get_or, take, drop, Option, Some, None, refl, sym, ap, subst, ◌∙◌, append_assoc, append-nil, add-one, arith, inl, inr, lit<}
 use Rattle.std.specs.Prelude.{◌&&◌, ◌||◌}
 use Rattle.std.specs.Fmt.{decimal, digits, digits_onto, digit_glyph}
-use Rattle.std.proofs.Math.Nat.{pow-suc}
+use Rattle.std.proofs.Math.Nat.{mul-le-mul_left, pow-le-pow_right, pow-suc}
 use Rattle.std.proofs.lemmas.List.{take_all}
 use Rattle.std.proofs.lemmas.Bool.{cases_Bool, cases_eq, cases_lt, cond-true, cond-false, eqb-true, eq-eqb, ne_eqb, and_parts, and_from, leb-true, le-leb, lt-leb, lt-ltb, le-ltb, ltb-true}
 use Rattle.std.proofs.lemmas.Option.{cond_some, same_Some}
@@ -485,3 +485,20 @@ sum_large n base b p e d same is digit h =
 
 pub sum_is : (n base b p e d v : ℕ) → b ≡ base → p ≡ n * b → e ≡ d → v ≡ p + e → v ≡ n * base + d
 sum_is n base b p e d v same is digit sum = let product : p ≡ n * base = is ∙ ap (λ (x : ℕ). n * x) same in omega arith
+
+-- ---- the loop over digits that are sure to fit
+
+-- one more digit is one more place
+pub sure_more : (k n base d : ℕ) → base ≤ 16 → d < base → n < 16 ^ k → n * base + d < 16 ^ (k + 1)
+sure_more k n base d most digit small =
+    let product : n * base ≤ n * 16 = mul-le-mul_left n most in
+    let power : 16 ^ (k + 1) ≡ 16 ^ k * 16 = ap (λ (j : ℕ). 16 ^ j) (add-one k) ∙ pow-suc 16 k in
+    omega arith
+
+-- and there is room for the places
+pub sure_fits : (k n base d : ℕ) → k < 15 → base ≤ 16 → d < base → n < 16 ^ k → n * base + d < 2 ^ 64
+sure_fits k n base d places most digit small =
+    let more = sure_more k n base d most digit small in
+    let last : k + 1 ≤ 15 = omega arith in
+    let room : 16 ^ (k + 1) ≤ 16 ^ 15 = pow-le-pow_right (lit< tt) last in
+    omega arith

@@ -62,6 +62,21 @@ pub fn worth_by(by_table: bool, byte: u8) -> u8
     }
 }
 
+/// What a digit of this base is worth; the base or more where the byte is none.
+// One of base 10 goes by arithmetic, which takes fewer steps than the table.
+#[inline(always)]
+#[tactic(auto, unfolding(crate::specs::Number::worth))]
+fn digit_in(base: u8, byte: u8) -> u8
+    ensures digit { result < base → result ≡ worth byte }
+    ensures none { base ≤ result → base ≤ worth byte }
+{
+    if base == 10 {
+        byte.wrapping_sub(b'0')
+    } else {
+        table_worth(byte)
+    }
+}
+
 /// Whether a number of this base begins here: with a digit, and with no zero before another one.
 #[inline(always)]
 #[tactic(auto, unfolding(crate::specs::Number::starts_number))]
@@ -77,12 +92,16 @@ fn starts(bytes: &[u8], base: u8) -> bool
     }
 }
 
-/// The number that the first digits are, below 2^64, and the rest.
+/// So many digits of a base up to 16 are always a number below 2^64.
+const SURE_DIGITS: usize = 15;
+
+/// The number that these digits and the next ones are, below 2^64, and the rest.
+// Always inlined, though rarely needed: a call would have each number handed over in memory.
 #[inline(always)]
-fn digits(bytes: &[u8], base: u8) -> Option<(u64, &[u8])>
-    ensures { option_map (λ x. (x.0, x.1.now)) result ≡ digits_from base 0 bytes.now }
+fn more_digits(so_far: u64, bytes: &[u8], base: u8) -> Option<(u64, &[u8])>
+    ensures { option_map (λ x. (x.0, x.1.now)) result ≡ digits_from base so_far bytes.now }
 {
-    let mut value = 0u64;
+    let mut value = so_far;
     let mut rest = bytes;
     while let [first, tail @ ..] = rest {
         let digit = table_worth(*first);
@@ -97,10 +116,34 @@ fn digits(bytes: &[u8], base: u8) -> Option<(u64, &[u8])>
     Some((value, rest))
 }
 
+/// The number that the first digits are, below 2^64, and the rest. Only what comes behind the sure
+/// digits is asked whether it fits; and they are so few that the compiler makes no loop of them.
+#[inline(always)]
+fn digits(bytes: &[u8], base: u8) -> Option<(u64, &[u8])>
+    requires { base ≤ 16 }
+    ensures { option_map (λ x. (x.0, x.1.now)) result ≡ digits_from base 0 bytes.now }
+{
+    let mut value = 0u64;
+    let mut rest = bytes;
+    for _place in 0..SURE_DIGITS {
+        let [first, tail @ ..] = rest else {
+            return Some((value, rest));
+        };
+        let digit = digit_in(base, *first);
+        if base <= digit {
+            return Some((value, rest));
+        }
+        value = value * u64::from(base) + u64::from(digit);
+        rest = tail;
+    }
+    more_digits(value, rest, base)
+}
+
 /// The number in front of the bytes, and the rest.
 #[inline(always)]
 #[tactic(auto, unfolding(crate::specs::Number::number_from))]
 fn number(bytes: &[u8], base: u8) -> Option<(u64, &[u8])>
+    requires { base ≤ 16 }
     ensures { option_map (λ x. (x.0, x.1.now)) result ≡ number_from base bytes.now }
 {
     if starts(bytes, base) {
@@ -129,12 +172,15 @@ pub fn number_in(word: &[u8], low: u64, high: u64) -> Option<u64>
 #[inline(always)]
 #[tactic(auto, unfolding(crate::specs::Number::number_at))]
 fn number_field(bytes: &[u8], base: u8) -> Option<(u64, &[u8])>
+    requires { base ≤ 16 }
     ensures { option_map (λ x. (x.0, x.1.now)) result ≡ number_at base bytes.now }
 {
     number(after(bytes, b" ")?, base)
 }
 
 /// A decimal number from `low` to `high` after a space, and the rest.
+// Always inlined, as `address`: a call would hand over what is read in memory.
+#[inline(always)]
 #[tactic(auto, unfolding(crate::specs::Number::decimal_at))]
 pub fn decimal(bytes: &[u8], low: u64, high: u64) -> Option<(u64, &[u8])>
     ensures value { option_map (λ x. (x.0, x.1.now)) result ≡ decimal_at low high bytes.now }
@@ -165,6 +211,7 @@ pub fn len(bytes: &[u8]) -> Option<(u64, &[u8])>
 }
 
 /// An address, and the rest.
+#[inline(always)]
 pub fn address(bytes: &[u8]) -> Option<(u64, &[u8])>
     ensures { option_map (λ x. (x.0, x.1.now)) result ≡ address_at bytes.now }
 {

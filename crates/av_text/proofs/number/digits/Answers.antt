@@ -1,40 +1,44 @@
-use Rattle.std.proofs.Common.{◌≡◌, ℕ, ◌*◌, ◌+◌, ◌^◌, ◌≤◌, None, get_or, sym, ◌∙◌, arith, rules}
-use Rattle.av_text.specs.Number.{worth, digits_from}
-use Rattle.av_text.proofs.NumberLaws.{at_no_digit, at_too_large, at_digit, at_no_byte, product_large, sum_large, sum_is}
+use Rattle.std.proofs.Common.{◌≡◌, ℕ, ◌*◌, ◌+◌, get_or, sym, ◌∙◌, arith, rules}
+use Rattle.av_text.specs.Number.{worth}
+use Rattle.av_text.proofs.NumberLaws.{at_no_digit, at_digit, at_no_byte, sure_more, sure_fits, sum_is}
 use Rattle.av_text.proofs.number.digits.Goals as goal
+
+pub returns-in_default : goal.returns-in_default
+returns-in_default c = sym (at_no_byte c.args.base c.loop-place.value c.loop-place.rest.now (omega arith)) ∙ c.loop-place.invariant.same
 
 pub returns-then-base-digit : goal.returns-then-base-digit
 returns-then-base-digit c =
-    sym (at_no_digit c.args.base c.loop-rest.value c.loop-rest.rest.now c.in-len1-up.len_at_least (omega arith)) ∙ c.loop-rest.invariant
+    let none = c.digit_in-digit.ensures.none c.if-base-digit.true in
+    sym (at_no_digit c.args.base c.loop-place.value c.loop-place.rest.now c.in-len1-up.len_at_least none) ∙ c.loop-place.invariant.same
 
-pub returns-in_err-checked_mul : goal.returns-in_err-checked_mul
-returns-in_err-checked_mul c =
-    let d : ℕ = worth (get_or c.loop-rest.rest.now 0 0) in
-    let large : 2 ^ 64 ≤ c.loop-rest.value * c.args.base + d = product_large c.loop-rest.value c.args.base c.from.result d
-    (search rules) c.in_err-checked_mul.ensures in
-    let none : digits_from c.args.base 0 c.args.bytes.now ≡ None =
-    sym c.loop-rest.invariant ∙ at_too_large c.args.base c.loop-rest.value c.loop-rest.rest.now c.in-len1-up.len_at_least (omega arith) large in
-    rw c.from_residual.ensures (sym none)
+pub overflow_mul-value : goal.overflow_mul-value
+overflow_mul-value c =
+    let base : c.from.result ≡ c.args.base = search rules in
+    let fits = sure_fits c.loop-place._place c.loop-place.value c.from.result c.digit_in-digit.result
+    (omega arith) (omega arith) (omega arith) c.loop-place.invariant.small in
+    omega arith
 
-pub returns-in_err-value : goal.returns-in_err-value
-returns-in_err-value c =
-    let d : ℕ = worth (get_or c.loop-rest.rest.now 0 0) in
-    let large : 2 ^ 64 ≤ c.loop-rest.value * c.args.base + d =
-    sum_large c.loop-rest.value c.args.base c.from.result c.in_ok-checked_mul.field-0 c.from-in-len1-up.result d (search rules)
-    c.in_ok-checked_mul.ensures.1
-    (search rules) c.in_err-value.ensures in
-    let none : digits_from c.args.base 0 c.args.bytes.now ≡ None =
-    sym c.loop-rest.invariant ∙ at_too_large c.args.base c.loop-rest.value c.loop-rest.rest.now c.in-len1-up.len_at_least (omega arith) large in
-    rw c.from_residual-in_err-value.ensures (sym none)
+pub overflow_add-value : goal.overflow_add-value
+overflow_add-value c =
+    let base : c.from.result ≡ c.args.base = search rules in
+    let digit : c.from-in-loop-place.result ≡ c.digit_in-digit.result = search rules in
+    let fits = sure_fits c.loop-place._place c.loop-place.value c.from.result c.from-in-loop-place.result
+    (omega arith) (omega arith) (omega arith) c.loop-place.invariant.small in
+    omega arith
 
-pub loop-rest-preserved : goal.loop-rest-preserved
-loop-rest-preserved c =
-    let d : ℕ = worth (get_or c.loop-rest.rest.now 0 0) in
-    let value : c.in_ok-value.value ≡ c.loop-rest.value * c.args.base + d =
-    sum_is c.loop-rest.value c.args.base c.from.result c.in_ok-checked_mul.field-0 c.from-in-len1-up.result d c.in_ok-value.value
-    (search rules) c.in_ok-checked_mul.ensures.1 (search rules) c.in_ok-value.ensures.1 in
-    at_digit c.args.base c.loop-rest.value c.in_ok-value.value c.loop-rest.rest.now c.in-len1-up.len_at_least (omega arith) value
-    (omega (arith, c.in_ok-value.ensures)) ∙ c.loop-rest.invariant
-
-pub returns : goal.returns
-returns c = sym (at_no_byte c.args.base c.loop-rest.value c.loop-rest.rest.now (omega arith)) ∙ c.loop-rest.invariant
+pub loop-place-preserved : goal.loop-place-preserved
+loop-place-preserved c =
+    let base : c.from.result ≡ c.args.base = search rules in
+    let digit : c.from-in-loop-place.result ≡ c.digit_in-digit.result = search rules in
+    let d : ℕ = worth (get_or c.loop-place.rest.now 0 0) in
+    let is : c.digit_in-digit.result ≡ d = c.digit_in-digit.ensures.digit c.if-base-digit.false in
+    let fits = sure_fits c.loop-place._place c.loop-place.value c.from.result c.from-in-loop-place.result
+    (omega arith) (omega arith) (omega arith) c.loop-place.invariant.small in
+    let value = sum_is c.loop-place.value c.args.base c.from.result (c.loop-place.value * c.from.result) c.from-in-loop-place.result d
+    (c.loop-place.value * c.from.result + c.from-in-loop-place.result) base (search rules) (digit ∙ is) (search rules) in
+    record {
+      same = at_digit c.args.base c.loop-place.value (c.loop-place.value * c.from.result + c.from-in-loop-place.result) c.loop-place.rest.now
+          c.in-len1-up.len_at_least (omega arith) value fits ∙ c.loop-place.invariant.same;
+      small = sure_more c.loop-place._place c.loop-place.value c.from.result c.from-in-loop-place.result (omega arith) (omega arith)
+          c.loop-place.invariant.small;
+    }

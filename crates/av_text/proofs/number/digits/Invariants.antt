@@ -1,10 +1,7 @@
-use Rattle.std.proofs.Common.{◌≡◌, length}
+use Rattle.std.proofs.Common.{◌≡◌, ◌<◌, ◌^◌}
 use Rattle.av_text.specs.Number.{digits_from}
 use Rattle.av_text.proofs.number.digits.Given as goal
 
--- the digits so far and the rest tell what all the bytes tell
-abbrev pub invariant-loop-rest : goal.invariant-loop-rest
-invariant-loop-rest l = digits_from l.base l.value l.rest ≡ digits_from l.base 0 l.bytes
-
-abbrev pub decreases-loop-rest : goal.decreases-loop-rest
-decreases-loop-rest l = length l.rest
+-- the digits so far and the rest tell what all the bytes tell, and so many digits are a small number
+abbrev pub invariant-loop-place : goal.invariant-loop-place
+invariant-loop-place l = record { same : digits_from l.base l.value l.rest ≡ digits_from l.base 0 l.bytes; small : l.value < 16 ^ l._place }
