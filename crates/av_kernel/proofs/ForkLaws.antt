@@ -41,8 +41,8 @@ use Rattle.av_fork.specs.Areas.{HasFork}
 use Rattle.av_fork.specs.Entries.{HasForkedEntries}
 use Rattle.av_kernel.specs.Process.{new_tests}
 use Rattle.av_step.specs.Step.{StepsBeside}
-use Rattle.av_step.proofs.StepLaws.{is_number, moved_on, stays_orderly, stepped, swap_alike}
-use Rattle.av_kernel.proofs.ProcessLaws.{absent, at_number, new_is, new_refusal}
+use Rattle.av_step.proofs.StepLaws.{at_number, is_number, moved_on, stays_orderly, stepped, swap_alike}
+use Rattle.av_kernel.proofs.ProcessLaws.{absent, new_is, new_refusal}
 use Rattle.av_step.proofs.Loads.{world_as}
 
 -- ---- refusals

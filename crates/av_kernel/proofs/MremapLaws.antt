@@ -58,9 +58,8 @@ use Rattle.av_place.specs.Mremap.{StaySmall}
 use Rattle.av_step.specs.Step.{StepsBeside}
 use Rattle.av_plain.proofs.Mremap.Entries.{came, grew, here_goes, here_stays, left as has_left, of_others, stays}
 use Rattle.av_place.proofs.PlaceLaws.{page_back}
-use Rattle.av_kernel.proofs.ProcessLaws.{at_number}
 use Rattle.av_step.proofs.CacheLeft.{bytes-left, remap-cached}
-use Rattle.av_step.proofs.StepLaws.{is_number, moved_on, noted, stays_orderly, stepped, swap_alike}
+use Rattle.av_step.proofs.StepLaws.{at_number, is_number, moved_on, noted, stays_orderly, stepped, swap_alike}
 use Rattle.av_step.proofs.Loads.{world_as}
 use Rattle.av_plain.proofs.Load.{events_to-load_nothing}
 

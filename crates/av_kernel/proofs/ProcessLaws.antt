@@ -3,7 +3,7 @@ use Rattle.std.proofs.Common.{◌≡◌, ℕ, suc, ◌+◌, nat_le, Bool, true, 
 use Rattle.std.proofs.lemmas.Bool.Decides.{nat_tests}
 use Rattle.std.proofs.lemmas.Bool.{false≢true}
 use Rattle.std.specs.Prelude.{IsSomeAnd, MatchOption, map, option_and_then}
-use Rattle.std.specs.Ordering.{nat_cmp, is_eq, is_lt, eq_by_cmp}
+use Rattle.std.specs.Ordering.{nat_cmp, is_eq, is_lt}
 use Rattle.std.specs.FinMap.Entries.{is_sorted, below_all, find}
 use Rattle.av_base.specs.Limits.{most_processes}
 use Rattle.av_base.specs.Words.{with_at}
@@ -52,7 +52,7 @@ use Rattle.av_anon.specs.declared.anons.Anons.{Anons as AnonSet}
 use Rattle.av_spaces.specs.Kin.{AnonsStay}
 use Rattle.av_mem.proofs.AnonLaws.{anons_stand, are_left, left_of}
 use Rattle.av_step.proofs.CacheLeft.{bytes-left, cached-itself, zaps-cached}
-use Rattle.av_step.proofs.StepLaws.{changed, is_number, moved_on, noted, orderly, reach_after, reach_of, state_after, stays_orderly, stepped, swap_alike, swap_itself}
+use Rattle.av_step.proofs.StepLaws.{at_number, changed, is_number, moved_on, noted, orderly, reach_after, reach_of, state_after, stays_orderly, stepped, swap_alike, swap_itself}
 use Rattle.av_step.proofs.Loads.{world_as}
 use Rattle.av_plain.proofs.Load.{zaps-load_nothing}
 
@@ -71,9 +71,6 @@ ranges_ended old new p h q = ap (option_map (map range_of)) (h.areas q) ∙ by (
     by : (b : Bool) → option_map (map range_of) (cond b None (areas_of old q)) ≡ cond b None (ranges_of old q)
     by true = refl
     by false = refl
-
-pub at_number : (q p : ℕ) → eq_by_cmp nat_cmp q p ≡ (q == p)
-at_number q p = grind (arith, nat_tests)
 
 -- ---- one more process
 
@@ -194,9 +191,6 @@ length_ended [] p sorted alive = absurd (false≢true alive)
 length_ended (e ∷ w) p sorted alive = by (e.0 == p) refl alive (λ alive. length_ended w p
     (both_second (below_all nat_cmp e.0 w) (is_sorted nat_cmp w) sorted) alive)
   where
-    same : (q p : ℕ) → (q == p) ≡ true → q ≡ p
-    same q p h = grind (arith, nat_tests, h)
-
     apart : (q p : ℕ) → (q == p) ≡ false → is_eq (nat_cmp p q) ≡ false
     apart q p h = grind (arith, nat_tests, h)
 
@@ -209,7 +203,7 @@ length_ended (e ∷ w) p sorted alive = by (e.0 == p) refl alive (λ alive. leng
     by : (b : Bool) → (e.0 == p) ≡ b → lives (e ∷ w) p ≡ true → (lives w p ≡ true → length (end_process w p) + 1 ≡ length w)
         → length (cond (not b) (e ∷ end_process w p) (end_process w p)) + 1 ≡ suc (length w)
     by true is alive rest =
-        ap (λ w. length w + 1) (none_ended p w (subst (λ q. T (below_all nat_cmp q w)) (same e.0 p is)
+        ap (λ w. length w + 1) (none_ended p w (subst (λ q. T (below_all nat_cmp q w)) (is_number e.0 p is)
         (both_first (below_all nat_cmp e.0 w) (is_sorted nat_cmp w) sorted))) ∙ longer (length w)
     by false is alive rest = one_more (length (end_process w p)) (length w)
         (rest (sym (ap (λ b. is_some (cond b (Some e.1) (find nat_cmp p w))) (apart e.0 p is)) ∙ alive))

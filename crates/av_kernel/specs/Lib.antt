@@ -1,3 +1,4 @@
+pub mod Step
 pub mod Process
 pub mod Map
 pub mod Tally

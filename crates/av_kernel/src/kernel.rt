@@ -7,7 +7,8 @@ ghost use Rattle.av_plain.specs.Report.{totals as totals_of};
 ghost use Rattle.av_plain.specs.Transcript.{State, at_first};
 ghost use Rattle.av_swapdev.specs.Device.{most_areas};
 ghost use Rattle.av_kernel.specs.Kernel.{Stands, Steps, Counts, IsNew, IsSpent};
-ghost use Rattle.av_step.specs.Step.{has_device, seen_by, sizes_of};
+ghost use Rattle.av_step.specs.Step.{seen_by, sizes_of};
+ghost use Rattle.av_kernel.specs.Step.{has_device};
 
 use crate::step::perform;
 use crate::tally::Tally;

@@ -10,12 +10,11 @@ ghost use Rattle.av_step.specs.Step.{
   Does,
   DoesBeside,
   MemSteps,
-  has_device,
-  is_of_pages,
   reply_in,
   seen_by,
   sizes_of,
 };
+ghost use Rattle.av_kernel.specs.Step.{has_device, is_of_pages};
 
 use crate::map::{mmap, mprotect, munmap};
 use crate::mremap::mremap;
@@ -74,7 +73,7 @@ pub fn perform<D: SwapDev>(
 }
 
 /// Does a command, and fills the reply.
-// In line, as `do_beside`: so one look at the command leads to what does it.
+// Inlined, as `do_beside` is: one look at the command leads to what does it.
 #[inline(always)]
 fn dispatch<D: SwapDev>(
     mem: &mut Mem,

@@ -147,7 +147,7 @@ OtherAreaGives = MayChoose one_frame_two_areas (closing_swap_area (Swapoff 0)) (
 abbrev pub Ends : Setting → Ledger → List Note → Close → Type 0
 Ends m l notes end = EndsAt m (sparing_area [] 0 l) 0 l (slots_in_use m l 0) notes end
 
--- a page is in frame 0, which slot 1 caches; another is at slot 2, on the device
+-- a page is in frame 0, which caches slot 1; another is at slot 2, on the device
 abbrev pub cached_by_first : Ledger
 cached_by_first = record first_ledger {
   entries = ((1, 0x10), InFrame 0 false) ∷ ((1, 0x11), InSlot (slot 2)) ∷ [];

@@ -115,8 +115,8 @@ pub fn the_first_writes_are_completed()
 /// the slot or, where none does, one that takes its page. A frame that has to go for that goes to
 /// another area, or to the slot at which it is cached, though that is still to be emptied.
 ///
-/// It ends at no slot but the least in use, and only where that is in no frame: there none is free
-/// behind the pass, or one is and the device does not give the page.
+/// A page is unread at no slot but the least in use. It ends only at one that is in no frame: there
+/// none is free behind the pass, or one is and the device does not give the page.
 pub fn slots_are_emptied_in_turn()
     ensures two_emptied { MayCome (with_swap 4 3 2) [] two_slots (Swapoff 0)
         (reply_with Done two_emptied) }

@@ -25,7 +25,7 @@ pub struct Scratch {
     /// The text of the reply.
     text: Bytes,
     /// What the line says.
-    said: Option<Command>,
+    meaning: Option<Command>,
     /// For the bytes of a write.
     spare: Bytes,
 }
@@ -35,7 +35,7 @@ impl Scratch {
         Scratch {
             reply: Reply::new(alloc),
             text: Bytes::new(alloc),
-            said: None,
+            meaning: None,
             spare: Bytes::new(alloc),
         }
     }
@@ -61,16 +61,16 @@ pub fn do_line<P: Ports>(
     let Scratch {
         reply,
         text,
-        said,
+        meaning,
         spare,
     } = scratch;
     text.clear();
-    match parse_line_into(alloc, line, spare, said) {
+    match parse_line_into(alloc, line, spare, meaning) {
         Ok(()) => {}
         Err(LineErr::Bad) => return Err(RunErr::BadLine),
         Err(LineErr::Memory) => return Err(RunErr::Memory),
     }
-    let Some(command) = said else {
+    let Some(command) = meaning else {
         return Ok(());
     };
     ports.answer(alloc, kernel, command, reply)?;

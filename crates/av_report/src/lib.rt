@@ -1,4 +1,5 @@
 //! The commands that report and change nothing: `maps`, `areas`, `rmap`, `entry` and `stat`.
+//! `slot` is in `av_swap`.
 //!
 //! Proved for whatever the memory system stands for: each shows what the definitions show of that
 //! state, all of it and in their order, or refuses as they do (`DoesBeside`). So `maps` shows the

@@ -1,36 +1,19 @@
 -- What one command does to the memory system.
-use Rattle.std.specs.Prelude.{◌≡◌, ℕ, Bool, false, true, List, Option, Some, None, Result, Ok, Err}
+use Rattle.std.specs.Prelude.{◌≡◌, ℕ, true, List, Option, Some, None, Result, Ok, Err}
 use Rattle.std.specs.Prelude.{IfSome, is_some, slice_get}
 use Rattle.av_trace.specs.declared.command.Command.{Command}
-use Rattle.av_trace.specs.declared.command.Command.TheVariants.{Age, Mmap, Mprotect, Mremap, Munmap}
-use Rattle.av_trace.specs.declared.command.Command.TheVariants.{Reclaim}
 use Rattle.av_trace.specs.declared.reply.Answer.TheVariants as answers
 use Rattle.av_trace.specs.declared.reply.Reply.{Reply}
 use Rattle.av_trace.specs.Reply.{answer_only}
 use Rattle.av_io.specs.Count.{RoseBy}
 use Rattle.av_plain.specs.Device.{Device, IsSameDevice, device_by}
-use Rattle.av_plain.specs.Step.{causes, uses_device}
+use Rattle.av_plain.specs.Step.{causes}
 use Rattle.av_plain.specs.Transcript.{State, IsStep}
 use Rattle.av_spaces.specs.Spaces.{areas_of}
 use Rattle.av_mem.specs.declared.mem.Mem.{Mem}
 use Rattle.av_mem.specs.Mem.{setting_by, frame_count, IsSteadyAt, Keeps}
 use Rattle.av_step.specs.declared.refusal.Refusal.{Refusal}
 use Rattle.av_step.specs.declared.refusal.Refusal.TheVariants.{Refused, Memory}
-
--- whether a command maps, unmaps or changes pages
-abbrev pub is_of_pages : Command → Bool
-is_of_pages (Mmap p len prot place) = true
-is_of_pages (Munmap p a len) = true
-is_of_pages (Mprotect p a len prot) = true
-is_of_pages (Mremap p a old_len new_len mode) = true
-is_of_pages command = false
-
--- whether a command is handed the device: `read`, `write`, `complete`, `swapon` and `swapoff` may
--- use it, `reclaim` and `age` move frames towards their slots; each other one leaves it as it is
-abbrev pub has_device : Command → Bool
-has_device (Reclaim n) = true
-has_device (Age n) = true
-has_device command = uses_device command
 
 -- what a command answers that filled this reply, or was not done
 abbrev pub reply_in : Reply → Result (Unit {0}) Refusal → Result Reply Refusal

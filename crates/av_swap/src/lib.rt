@@ -2,12 +2,14 @@
 //! ahead of need, `reclaim`, `age` and `complete`.
 //!
 //! They refuse and answer; the work is done by `Swap` of av_swapcache, by av_swapoff and by
-//! av_reclaim. Proved for whatever the memory system stands for: each is a step of the definitions
-//! with exactly these refusals and answers (`Does`; of `slot` `DoesBeside`), and after it the
-//! device is the same, its failures counted. After want of memory nothing else is promised. Not
-//! proved: how long a command takes.
+//! av_reclaim. Proved for whatever the memory system stands for: each answers or refuses as the
+//! definitions do, by a step of them (`Does`; of `slot` `DoesBeside`). It is the same device then,
+//! and what only its failures explain is within what it failed. After want of memory it is the same
+//! device, there are as many frames, and nothing else is promised. Not proved: how long a command
+//! takes.
 #![tactic(auto)]
 
+// Public, since the module and one of its functions have one name.
 pub mod reclaim;
 mod swap;
 

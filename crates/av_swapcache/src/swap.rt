@@ -97,7 +97,8 @@ impl Swap {
     /// Turns an area on, which has so many pages on the device, by the header on its page 0. Of two
     /// areas the one with the greater priority gives its slots first. `Err` is want of memory
     /// alone: all stays then, as where the answer is another than `On`.
-    // Apart, as `load` is: so its page is on the stack of no caller, which needn't step past it.
+    // Never inlined, nor is `load`: its page would be on the stack of each caller, also of one that
+    // reads none.
     #[inline(never)]
     pub fn swapon<D: SwapDev>(
         &mut self,

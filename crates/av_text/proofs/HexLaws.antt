@@ -68,7 +68,7 @@ pub hex_text-length : (bytes : List ℕ) → length (hex_text bytes) ≡ 2 * len
 hex_text-length [] = refl
 hex_text-length (b ∷ bytes) = omega (arith, hex_text-length bytes)
 
--- each byte has its two digits where twice as many stand before them as bytes before it
+-- the digits of the byte at i stand at 2 i and behind it
 digits_at : (bytes : List ℕ) (i : ℕ) → i < length bytes →
     (get_or (hex_text bytes) (2 * i) 0 ≡ digit_glyph false (get_or bytes i 0 / 16))
     × (get_or (hex_text bytes) (2 * i + 1) 0 ≡ digit_glyph false (get_or bytes i 0 % 16))
@@ -80,7 +80,7 @@ digits_at (b ∷ bytes) (suc i) lt =
     let low : 2 * suc i + 1 ≡ suc (suc (2 * i + 1)) = omega arith in
     (ap (λ (k : ℕ). get_or (hex_text (b ∷ bytes)) k 0) high ∙ rest.0, ap (λ (k : ℕ). get_or (hex_text (b ∷ bytes)) k 0) low ∙ rest.1)
 
--- those of a byte in the text of the first n
+-- so do those of b in the text of all bytes below n
 pub pair_digits : (n b : ℕ) → b < n →
     (get_or (hex_text (range_with_len 0 n)) (2 * b) 0 ≡ digit_glyph false (b / 16))
     × (get_or (hex_text (range_with_len 0 n)) (2 * b + 1) 0 ≡ digit_glyph false (b % 16))

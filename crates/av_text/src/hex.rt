@@ -103,6 +103,7 @@ fn digit(value: u8) -> u8
     }
 }
 
+/// The digit of a value, by the table.
 #[inline(always)]
 fn table_digit(value: u8) -> u8
     requires { value < 16 }

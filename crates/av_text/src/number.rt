@@ -92,10 +92,10 @@ fn starts(bytes: &[u8], base: u8) -> bool
     }
 }
 
-/// So many digits of a base up to 16 are always a number below 2^64.
+/// So many digits of a base up to 16 are a number below 2^64, with room to spare.
 const SURE_DIGITS: usize = 15;
 
-/// The number that these digits and the next ones are, below 2^64, and the rest.
+/// The number that `so_far` becomes with the digits in front of the bytes, below 2^64, and the rest.
 // Always inlined, though rarely needed: a call would have each number handed over in memory.
 #[inline(always)]
 fn more_digits(so_far: u64, bytes: &[u8], base: u8) -> Option<(u64, &[u8])>
@@ -116,8 +116,9 @@ fn more_digits(so_far: u64, bytes: &[u8], base: u8) -> Option<(u64, &[u8])>
     Some((value, rest))
 }
 
-/// The number that the first digits are, below 2^64, and the rest. Only what comes behind the sure
-/// digits is asked whether it fits; and they are so few that the compiler makes no loop of them.
+/// The number that the first digits are, below 2^64, and the rest.
+// Only the digits behind the sure ones are asked whether they fit. Those are so few that the
+// compiler makes no loop of them.
 #[inline(always)]
 fn digits(bytes: &[u8], base: u8) -> Option<(u64, &[u8])>
     requires { base ≤ 16 }

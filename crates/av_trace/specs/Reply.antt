@@ -1,6 +1,6 @@
 -- The first line of a reply, and which replies there are.
-use Rattle.std.specs.Prelude.{◌≡◌, ℕ, Bool, false, true, Option, Some, None, List, [], ◌∷◌, ◌++◌, length, codes}
-use Rattle.std.specs.Prelude.{if◌then◌else◌}
+use Rattle.std.specs.Prelude.{◌≡◌, ℕ, Bool, Option, Some, None, List, [], ◌∷◌, ◌++◌, length, codes}
+use Rattle.std.specs.Prelude.{if◌then◌else◌, false, true}
 use Rattle.std.specs.List.{AllByRecursion}
 use Rattle.std.specs.Fmt.{decimal}
 use Rattle.av_trace.specs.declared.reply.Errno.{Errno}
@@ -102,7 +102,7 @@ answer_line (answers.SlotCount slot count frame) =
     (slot_text slot ∷ codes "count" ∷ decimal count ∷ cached_words decimal frame)
 answer_line (answers.Counted totals) = line (codes "stat") (total_words totals)
 
--- whether an answer tells a number or bytes: the line of any other is always the same
+-- whether the line of an answer has a number or bytes; any other is one of a few that are fixed
 abbrev pub tells : Answer → Bool
 tells answers.Done = false
 tells (answers.Refused error) = false

@@ -358,75 +358,75 @@ fn stat(bytes: &[u8]) -> Option<Command>
 }
 
 /// Reads the report that a line asks for.
-fn read_report(line: &[u8], found: &mut Option<Command>)
-    ensures { found.new ≡ command_in report_readers line.now }
+fn read_report(line: &[u8], command: &mut Option<Command>)
+    ensures { command.new ≡ command_in report_readers line.now }
 {
     if let Some(rest) = after(line, b"maps") {
-        *found = maps(rest);
+        *command = maps(rest);
     } else if let Some(rest) = after(line, b"areas") {
-        *found = areas(rest);
+        *command = areas(rest);
     } else if let Some(rest) = after(line, b"rmap") {
-        *found = rmap(rest);
+        *command = rmap(rest);
     } else if let Some(rest) = after(line, b"entry") {
-        *found = one_entry(rest);
+        *command = one_entry(rest);
     } else if let Some(rest) = after(line, b"slot") {
-        *found = slot(rest);
+        *command = slot(rest);
     } else if let Some(rest) = after(line, b"stat") {
-        *found = stat(rest);
+        *command = stat(rest);
     } else {
-        *found = None;
+        *command = None;
     }
 }
 
 /// Reads the change of swap, or the report, that a line asks for.
-fn read_swap_change(line: &[u8], found: &mut Option<Command>)
-    ensures { found.new ≡ command_in (swap_readers ++ report_readers) line.now }
+fn read_swap_change(line: &[u8], command: &mut Option<Command>)
+    ensures { command.new ≡ command_in (swap_readers ++ report_readers) line.now }
 {
     if let Some(rest) = after(line, b"reclaim") {
-        *found = reclaim(rest);
+        *command = reclaim(rest);
     } else if let Some(rest) = after(line, b"age") {
-        *found = age(rest);
+        *command = age(rest);
     } else if let Some(rest) = after(line, b"complete") {
-        *found = complete(rest);
+        *command = complete(rest);
     } else if let Some(rest) = after(line, b"swapon") {
-        *found = swapon(rest);
+        *command = swapon(rest);
     } else if let Some(rest) = after(line, b"swapoff") {
-        *found = swapoff(rest);
+        *command = swapoff(rest);
     } else {
-        read_report(line, found);
+        read_report(line, command);
     }
 }
 
 /// Reads the change of a range or of swap, or the report, that a line asks for.
-fn read_range_change(line: &[u8], found: &mut Option<Command>)
-    ensures { found.new ≡ command_in (range_readers ++ swap_readers ++ report_readers) line.now }
+fn read_range_change(line: &[u8], command: &mut Option<Command>)
+    ensures { command.new ≡ command_in (range_readers ++ swap_readers ++ report_readers) line.now }
 {
     if let Some(rest) = after(line, b"mmap") {
-        *found = mmap(rest);
+        *command = mmap(rest);
     } else if let Some(rest) = after(line, b"munmap") {
-        *found = munmap(rest);
+        *command = munmap(rest);
     } else if let Some(rest) = after(line, b"mprotect") {
-        *found = mprotect(rest);
+        *command = mprotect(rest);
     } else if let Some(rest) = after(line, b"mremap") {
-        *found = mremap(rest);
+        *command = mremap(rest);
     } else {
-        read_swap_change(line, found);
+        read_swap_change(line, command);
     }
 }
 
 /// Reads the command on a process, a range or swap, or the report, that a line asks for.
-fn read_change(line: &[u8], found: &mut Option<Command>)
-    ensures { found.new ≡ command_in
+fn read_change(line: &[u8], command: &mut Option<Command>)
+    ensures { command.new ≡ command_in
         (process_readers ++ range_readers ++ swap_readers ++ report_readers) line.now }
 {
     if let Some(rest) = after(line, b"spawn") {
-        *found = spawn(rest);
+        *command = spawn(rest);
     } else if let Some(rest) = after(line, b"fork") {
-        *found = fork(rest);
+        *command = fork(rest);
     } else if let Some(rest) = after(line, b"exit") {
-        *found = exit(rest);
+        *command = exit(rest);
     } else {
-        read_range_change(line, found);
+        read_range_change(line, command);
     }
 }
 
@@ -436,17 +436,17 @@ pub fn read_command(
     alloc: Global,
     line: &[u8],
     spare: &mut Bytes,
-    found: &mut Option<Command>,
+    command: &mut Option<Command>,
 ) -> Result<(), AllocError>
-    ensures found { OnOk result (found.new ≡ command_of line.now) }
+    ensures found { OnOk result (command.new ≡ command_of line.now) }
     ensures memory { OnErr result (BeginsWith (codes "write") line.now) }
 {
     if let Some(rest) = after(line, b"write") {
-        *found = write(alloc, rest, spare)?;
+        *command = write(alloc, rest, spare)?;
     } else if let Some(rest) = after(line, b"read") {
-        *found = read(rest);
+        *command = read(rest);
     } else {
-        read_change(line, found);
+        read_change(line, command);
     }
     Ok(())
 }

@@ -39,36 +39,35 @@ pub fn parse_line(alloc: Global, line: &[u8]) -> Result<Option<Command>, LineErr
     // Only what begins as a write takes memory.
     ensures memory { IsErrOf result LineErr.Memory → BeginsWith (codes "write") line.now }
 {
-    let mut said = None;
-    parse_line_into(alloc, line, &mut Bytes::new(alloc), &mut said)?;
-    Ok(said)
+    let mut meaning = None;
+    parse_line_into(alloc, line, &mut Bytes::new(alloc), &mut meaning)?;
+    Ok(meaning)
 }
 
-/// Makes `said` what a line says, as `parse_line` does, whatever it was; the bytes of a write take
+/// Makes `meaning` what a line says, as `parse_line` does, whatever it was; the bytes of a write take
 /// the room of `spare`, whatever it holds.
 ///
-/// After an error nothing is promised of `said`.
-// What a command is made of is written where it stays: each function that hands one up would copy
-// it.
+/// After an error nothing is promised of `meaning`.
+// The command is written where it stays: each function that handed it up would copy it.
 pub fn parse_line_into(
     alloc: Global,
     line: &[u8],
     spare: &mut Bytes,
-    said: &mut Option<Command>,
+    meaning: &mut Option<Command>,
 ) -> Result<(), LineErr>
-    ensures found { OnOk result (Says line.now said.new) }
+    ensures found { OnOk result (Says line.now meaning.new) }
     ensures bad { IsErrOf result LineErr.Bad →
         (said : Option AnyCommand) → Says line.now said → ⊥ }
     ensures memory { IsErrOf result LineErr.Memory → BeginsWith (codes "write") line.now }
 {
     if says_nothing(line) {
-        *said = None;
+        *meaning = None;
         return Ok(());
     }
-    let Ok(()) = read_command(alloc, line, spare, said) else {
+    let Ok(()) = read_command(alloc, line, spare, meaning) else {
         return Err(LineErr::Memory);
     };
-    match said {
+    match meaning {
         Some(_) => Ok(()),
         None => Err(LineErr::Bad),
     }

@@ -367,11 +367,15 @@ fn telling_line(text: &mut Bytes, answer: &Answer) -> Result<(), AllocError>
             cached,
         } => slot_count_line(text, *slot, *count, *cached),
         Answer::Counted(totals) => total_line(text, totals),
-        _ => unreachable!(),
+        Answer::Done
+        | Answer::Refused(_)
+        | Answer::NoWalk
+        | Answer::EntryEmpty
+        | Answer::EntryZero => unreachable!(),
     }
 }
 
-/// Adds the whole line of an answer. One that tells nothing more, as most do, is one append.
+/// Adds the whole line of an answer. One without a number or bytes is one append.
 pub fn answer_line(text: &mut Bytes, answer: &Answer) -> Result<(), AllocError>
     ensures { Adds result text.old text.new (whole_line (line_of_answer answer.now)) }
 {

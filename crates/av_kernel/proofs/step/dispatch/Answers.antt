@@ -2,7 +2,7 @@ use Rattle.std.proofs.Common.{◌≡◌, ℕ, List, Option, true, false, refl}
 use Rattle.av_trace.specs.declared.command.Command.{Command}
 use Rattle.av_trace.specs.declared.command.Command.TheVariants.{Age, Complete, Read, Reclaim, Swapoff, Swapon, Write}
 use Rattle.av_plain.specs.Step.{uses_device}
-use Rattle.av_step.specs.Step.{has_device}
+use Rattle.av_kernel.specs.Step.{has_device}
 use Rattle.av_step.proofs.StepLaws.{beside, steady_of}
 use Rattle.av_kernel.proofs.step.dispatch.Goals as goal
 
