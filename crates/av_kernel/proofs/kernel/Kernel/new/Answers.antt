@@ -1,4 +1,4 @@
-use Rattle.std.proofs.Common.{◌≤◌, ℕ, List, arith, length, subst, sym}
+use Rattle.std.proofs.Common.{◌≤◌, ℕ, List, arith, length, refl, subst, sym}
 use Rattle.av_swapdev.specs.Device.{most_areas}
 use Rattle.av_kernel.specs.Tally.{IsAtMost, none_counted}
 use Rattle.av_kernel.proofs.kernel.Kernel.new.Goals as goal
@@ -21,4 +21,14 @@ invariant_of-result c = record {
   attached = subst (λ (sizes : List ℕ). length sizes ≤ most_areas) (sym c.in_ok-from_slice.ensures.items) c.requires;
   few = subst (IsAtMost 0) (sym c.new-2.ensures) few-none;
   steady = λ _. (0, _, c.in_ok-new.ensures.keeps _);
+}
+
+-- written, so that a wrong beginning is refused at once
+pub returns-clause-new : goal.returns-clause-new
+returns-clause-new c = record {
+  frames = c.in_ok-new.ensures.count;
+  sizes = c.in_ok-from_slice.ensures.items;
+  steps = refl;
+  tally = c.new-2.ensures;
+  spent = refl;
 }
