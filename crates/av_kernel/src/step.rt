@@ -36,6 +36,8 @@ use std::mem::swap;
 ///
 /// `sizes` says how many pages each attached swap area has. Bytes that the reply showed give their
 /// memory to `spare`, and a read takes that of `spare`.
+// Inlined, as `dispatch` and `do_beside` are: one look at the command leads to what does it.
+#[inline(always)]
 pub fn perform<D: SwapDev>(
     mem: &mut Mem,
     dev: &mut D,
@@ -73,7 +75,6 @@ pub fn perform<D: SwapDev>(
 }
 
 /// Does a command, and fills the reply.
-// Inlined, as `do_beside` is: one look at the command leads to what does it.
 #[inline(always)]
 fn dispatch<D: SwapDev>(
     mem: &mut Mem,

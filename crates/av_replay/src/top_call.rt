@@ -51,6 +51,12 @@ fn unread(error: WordsErr) -> Outcome
 /// call that failed. A flush that fails ends the run as a failed write does; where memory is
 /// wanting, the last one may fail beside that. (By the clauses one flush that fails may be told as
 /// want of memory: no status tells them apart.)
+///
+/// What `does` says, by the status: what was read, done and written, over the device with the areas
+/// that the words name; what the kernel handed back stands for, with the device as it is then; that
+/// what failed is what the status tells of; and that no text was kept back while a read was waited
+/// for, nor is in the end, unless the sink failed, or memory was wanting before its first call, or
+/// for the words.
 pub fn run<S: Source, K: Sink, D: SwapDev, P: Progress>(
     alloc: Global,
     words: &[String],
@@ -60,11 +66,6 @@ pub fn run<S: Source, K: Sink, D: SwapDev, P: Progress>(
     progress: &mut P,
 ) -> Outcome
     requires none { HasNone (D.sizes dev.old) }
-    // What was read, done and written, by the status, over the device with the areas that the words
-    // name; what the kernel handed back stands for, with the device as it is then; what failed is
-    // what the status tells of; and no text was kept back while a read was waited for, nor is in
-    // the end, unless the sink failed, or memory was wanting before its first call, or for the
-    // words.
     ensures does { let at = ports_by S.view K.view D.sizes D.pages D.failures in
         result.status ≢ Status.Usage → result.status ≢ Status.AttachFault
         → DoesAsked (map string_bytes words.now) result.status
