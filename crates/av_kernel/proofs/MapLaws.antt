@@ -61,6 +61,7 @@ use Rattle.av_mem.specs.Zap.{HasZapped}
 use Rattle.av_place.specs.Place.{protect_tests, IsProcess, IsPlaced, AreToUnmap}
 use Rattle.av_step.specs.Step.{StepsBeside}
 use Rattle.av_mem.proofs.StayLaws.{anons-stay, spaces-stay}
+use Rattle.av_mem.proofs.LetGoLaws.{rest-none}
 use Rattle.av_mem.proofs.MemLaws.{lives_is, alive_is, taken_has, mapped_is}
 use Rattle.av_place.proofs.PlaceLaws.{page_back, IsSuited, suited}
 use Rattle.av_step.proofs.CacheLeft.{KeepsCached, cached-itself, zaps-cached}
@@ -167,12 +168,22 @@ are_unmapped {d} old mid spaces anons p page n l before notes t rest gone areas 
       (spaces-stay rest.parts) areas;
   anons = subst (λ (x : AllSpaces). AnonsStay x old.anons spaces anons) (spaces-stay rest.parts)
       (subst (λ a. AnonsStay mid.spaces a spaces anons) (anons-stay rest.parts) anons_stay);
-  processes = rest.parts.processes;
-  bytes = rest.bytes;
-  homes = rest.homes;
   stay = subst (λ (x : AllSpaces). HomesStay x.processes spaces.processes p page n) (spaces-stay rest.parts) stay;
-  swap = swap_alike old mid old (moved_on mid mid.tables spaces anons) refl refl rest.parts.swap;
+  mid = mid;
+  rest = rest;
+  moved = refl;
 }
+
+-- what stays of what areas and anon_vmas have no part in
+pub unmapped_rest : {d : Device} (old new : Mem) (p page n : ℕ) (on : Pages) (l : Ledger) (events : List Event) (before now : List Note) →
+    AreUnmapped d old new p page n on l events before now
+    → (has new.tables ≡ has old.tables) × ((view new).bytes ≡ (view old).bytes) × ((view new).homes ≡ (view old).homes) × KeepsSwap old new
+unmapped_rest old new p page n on l events before now h = (
+  ap (λ (k : Mem). has k.tables) h.moved ∙ h.rest.parts.processes,
+  ap (λ k. (view k).bytes) h.moved ∙ h.rest.bytes,
+  ap (λ k. (view k).homes) h.moved ∙ h.rest.homes,
+  swap_alike old h.mid old new refl (ap (λ (k : Mem). k.swap) h.moved) h.rest.parts.swap,
+)
 
 left_alone : (d : Device) (k : Mem) → IsSteady k → (p page n : ℕ) (l : Ledger) (notes : List Note) → HasLedger d k l →
     is_some (areas_of k.spaces.processes p) ≡ true → IsFree (is_taken k.spaces.processes p) page (page + n)
@@ -188,11 +199,10 @@ left_alone d k steady p page n l notes stands alive free = record {
   };
   areas = unplaced k.spaces.processes p;
   anons = stay_same k.spaces k.anons steady.2.anons;
-  processes = refl;
-  bytes = refl;
-  homes = refl;
   stay = λ at home outside is. is;
-  swap = swap_itself k;
+  mid = k;
+  rest = rest-none k;
+  moved = refl;
 }
   where
     none : (o : Option Prot) → is_some o ≡ false → o ≡ None
@@ -382,12 +392,13 @@ module _ {d : Device} (old new : Mem) (s : State) (p a len : ℕ) (keeps : Keeps
   munmap-steps =
       let ks = keys_in s.ledger p (page_of a) (pages_of len) in
       let events = munmap_events in
+      let rest = unmapped_rest old new p _ _ _ _ _ before notes unmapped in
       replaced-steps old new s (Munmap p a len) (noted Done (notes_of events)) p (page_of a) (pages_of len) None
       (after_unmap (page_of a) (page_of a + pages_of len) (s.areas p)) events before notes keeps alive same_count unmapped.taken
-      (zaps-cached (setting_by d old) s.ledger ks keeps.stands.sound.ledger) (zaps-reach s.ledger (rmap_of s) ks (reach_of old s keeps)) unmapped.swap
+      (zaps-cached (setting_by d old) s.ledger ks keeps.stands.sound.ledger) (zaps-reach s.ledger (rmap_of s) ks (reach_of old s keeps)) rest.3
       (λ q at. entry-range s.ledger p (page_of a) (pages_of len) q at) tt unmapped.spaces
-      (areas_so old new s p (after_unmap (page_of a) (page_of a + pages_of len)) keeps unmapped.areas) unmapped.anons unmapped.processes
-      unmapped.bytes unmapped.homes unmapped.stay (rmap_after_all-zaps s.ledger ks s.ledger (rmap_of s)) refl refl
+      (areas_so old new s p (after_unmap (page_of a) (page_of a + pages_of len)) keeps unmapped.areas) unmapped.anons rest.0
+      rest.1 rest.2 unmapped.stay (rmap_after_all-zaps s.ledger ks s.ledger (rmap_of s)) refl refl
       (record {
         answer = subst (λ o. MatchOption o (Follows (setting_by d old) s.world s.ledger (Munmap p a len) events Done [])
             (λ e. Refuses e events Done []))
@@ -484,12 +495,13 @@ module _ {d : Device} (old : Mem) (s : State) (p len : ℕ) (prot : Prot) (place
         let events = zaps_for_place s.ledger p (pages_of len) place in
         let new = moved_on mid mid.tables spaces anons in
         let t = unmapped.taken in
+        let rest = unmapped_rest old mid p _ _ _ _ _ before notes unmapped in
         replaced-steps old new s (Mmap p len prot place) (noted (MapAt (address_of page)) (notes_of events)) p page (pages_of len)
         (Some (zeros prot)) (after_map (chain_length s.anons) p page (page + pages_of len) prot (with_room (pages_of len) place (s.areas p)))
         events before notes keeps alive same_count
         (record { stands = stays_orderly d mid mid.tables spaces anons (after_all s.ledger events) refl t.stands; notes = t.notes; free = t.free })
         (place-cached (setting_by d old) s.ledger p (pages_of len) place keeps.stands.sound.ledger)
-        (place-reach s.ledger p (pages_of len) place (rmap_of s) (reach_of old s keeps)) (swap_alike old mid old new refl refl unmapped.swap)
+        (place-reach s.ledger p (pages_of len) place (rmap_of s) (reach_of old s keeps)) (swap_alike old mid old new refl refl rest.3)
         (λ q at. entry-unmapped place page (pages_of len) q at clear) (λ i below. refl)
         (twice_changed old.spaces.processes mid.spaces.processes spaces.processes p page (pages_of len) None (Some prot) unmapped.spaces given)
         (areas_so old (moved_on mid mid.tables spaces anons) s p (λ on. after_map (chain_length s.anons) p page (page + pages_of len) prot
@@ -498,7 +510,7 @@ module _ {d : Device} (old : Mem) (s : State) (p len : ℕ) (prot : Prot) (place
         (after_map (chain_length s.anons) p page (page + pages_of len) prot)
         (with_room (pages_of len) place (areas_on old.spaces.processes p)) unmapped.areas
         (re_areas mid.spaces.processes spaces.processes p _ _ alike areas)))
-        (stay_both old.spaces mid.spaces spaces old.anons mid.anons anons unmapped.anons stay) unmapped.processes unmapped.bytes unmapped.homes
+        (stay_both old.spaces mid.spaces spaces old.anons mid.anons anons unmapped.anons stay) rest.0 rest.1 rest.2
         (λ at home outside is. given_homes at home outside (unmapped.stay at home outside is))
         (place-silent s.ledger p (pages_of len) place (rmap_of s))
         refl refl

@@ -3,7 +3,6 @@ use Rattle.std.specs.Prelude.{◌≡◌, ◌≢◌, ℕ, true, is_some, if◌the
 use Rattle.std.specs.Prelude.{Some, false, IfSome}
 use Rattle.av_base.specs.declared.prot.Prot.{Prot}
 use Rattle.av_base.specs.Words.{with_at, within}
-use Rattle.av_pagetable.specs.Entries.{has}
 use Rattle.av_spaces.specs.Kin.{AnonsStay}
 use Rattle.av_spaces.specs.Spaces.{Spaces, pages_of}
 use Rattle.av_vma.specs.Pages.{Pages, home_of}
@@ -13,8 +12,8 @@ use Rattle.av_plain.specs.Event.{Event}
 use Rattle.av_plain.specs.Report.{AreApart}
 use Rattle.av_plain.specs.Stands.{prot_of}
 use Rattle.av_mem.specs.declared.mem.Mem.{Mem}
-use Rattle.av_mem.specs.Mem.{view, ranges_of}
-use Rattle.av_mem.specs.Steps.{KeepsSwap}
+use Rattle.av_mem.specs.Mem.{ranges_of}
+use Rattle.av_mem.specs.Steps.{KeepsRest}
 use Rattle.av_mem.specs.Zap.{HasZapped}
 use Rattle.av_trace.specs.declared.note.Note.{Note}
 
@@ -43,7 +42,8 @@ HomesStay old new p from n = (page : ℕ) (home : ℕ × ℕ) → within from n 
     → home_of page (pages_of new p page) ≡ Some home
 
 -- the n pages of p from one on have gone, with their entries, by these events, whose notes were
--- added; its areas are these
+-- added; its areas are these. The entries go first (`mid`); then areas and anon_vmas change, and
+-- nothing else
 pub record AreUnmapped (d : Device) (old new : Mem) (p page n : ℕ) (on : Pages) (l : Ledger)
     (events : List Event) (before now : List Note) : Type 0 where
   pub taken : HasZapped d old new l events before now
@@ -51,8 +51,7 @@ pub record AreUnmapped (d : Device) (old new : Mem) (p page n : ℕ) (on : Pages
       (set_on page n None (prot_of (ranges_of old.spaces.processes p)))
   pub areas : GetsAreas old.spaces.processes new.spaces.processes p on
   pub anons : AnonsStay old.spaces old.anons new.spaces new.anons
-  pub processes : has new.tables ≡ has old.tables
-  pub bytes : (view new).bytes ≡ (view old).bytes
-  pub homes : (view new).homes ≡ (view old).homes
   pub stay : HomesStay old.spaces.processes new.spaces.processes p page n
-  pub swap : KeepsSwap old new
+  pub mid : Mem
+  pub rest : KeepsRest old mid
+  pub moved : new ≡ record mid { spaces = new.spaces; anons = new.anons }

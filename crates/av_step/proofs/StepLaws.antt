@@ -391,8 +391,7 @@ module _ {d : Device} (old new : Mem) (s : State) (command : Command) (reply : R
 
 -- the tables and the areas change, the frames and the entries don't
 abbrev pub moved_on : Mem → ProcessTables → AllSpaces → AnonSet → Mem
-moved_on old tables spaces anons =
-    record { frames = old.frames; lists = old.lists; tables = tables; spaces = spaces; anons = anons; swap = old.swap }
+moved_on old tables spaces anons = record old { tables = tables; spaces = spaces; anons = anons }
 
 pub swap_itself : (k : Mem) → KeepsSwap k k
 swap_itself k = record { frames = refl; on = refl; bad = refl; closing = refl; priority = refl }

@@ -3,8 +3,8 @@ use Rattle.av_swapdev.specs.Device.{most_areas}
 use Rattle.av_kernel.specs.Tally.{IsAtMost, none_counted}
 use Rattle.av_kernel.proofs.kernel.Kernel.new.Goals as goal
 
-few-none : IsAtMost 0 none_counted
-few-none = record {
+few-none : (n : ℕ) → IsAtMost n none_counted
+few-none n = record {
   done = omega arith;
   mapped = omega arith;
   shown = omega arith;
@@ -19,7 +19,7 @@ few-none = record {
 pub invariant_of-result : goal.invariant_of-result
 invariant_of-result c = record {
   attached = subst (λ (sizes : List ℕ). length sizes ≤ most_areas) (sym c.in_ok-from_slice.ensures.items) c.requires;
-  few = subst (IsAtMost 0) (sym c.new-2.ensures) few-none;
+  few = subst (IsAtMost _) (sym c.new-2.ensures) (few-none _);
   steady = λ _. (0, _, c.in_ok-new.ensures.keeps _);
 }
 
