@@ -95,7 +95,8 @@ fn starts(bytes: &[u8], base: u8) -> bool
 /// So many digits of a base up to 16 are a number below 2^64, with room to spare.
 const SURE_DIGITS: usize = 15;
 
-/// The number that `so_far` becomes with the digits in front of the bytes, below 2^64, and the rest.
+/// The number that `so_far` becomes with the digits in front of the bytes, below 2^64, and the
+/// rest.
 // Always inlined, though rarely needed: a call would have each number handed over in memory.
 #[inline(always)]
 fn more_digits(so_far: u64, bytes: &[u8], base: u8) -> Option<(u64, &[u8])>

@@ -44,8 +44,8 @@ pub fn parse_line(alloc: Global, line: &[u8]) -> Result<Option<Command>, LineErr
     Ok(meaning)
 }
 
-/// Makes `meaning` what a line says, as `parse_line` does, whatever it was; the bytes of a write take
-/// the room of `spare`, whatever it holds.
+/// Makes `meaning` what a line says, as `parse_line` does, whatever it was; the bytes of a write
+/// take the room of `spare`, whatever it holds.
 ///
 /// After an error nothing is promised of `meaning`.
 // The command is written where it stays: each function that handed it up would copy it.
