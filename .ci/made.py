@@ -58,6 +58,7 @@ CARRIERS = {
     "av_access": "read write",
     "av_kernel": "Kernel",
     "av_words": "read_words",
+    "av_ports": "Ports Pending read_on read_line write_all",
     "av_replay": "run good_traces_are_done",
     "avsim": "text_for exit_number Failure",
     "av_sample": "ask",

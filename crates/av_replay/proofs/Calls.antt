@@ -4,13 +4,13 @@ use Rattle.std.specs.Prelude.{is_some, if◌then◌else◌}
 use Rattle.av_kernel.specs.Machine.{Machine}
 use Rattle.av_replay.specs.declared.status.Status.{Status}
 use Rattle.av_replay.specs.declared.status.Status.TheVariants as statuses
-use Rattle.av_replay.specs.declared.status.RunErr.{RunErr}
-use Rattle.av_replay.specs.declared.status.RunErr.TheVariants as errors
-use Rattle.av_replay.specs.Ports.{PortsView, AreUnfailed}
-use Rattle.av_replay.specs.Line.{FailsBy, IsUnread}
+use Rattle.av_ports.specs.declared.run_err.RunErr.{RunErr}
+use Rattle.av_ports.specs.declared.run_err.RunErr.TheVariants as errors
+use Rattle.av_ports.specs.Ports.{PortsView, AreUnfailed}
+use Rattle.av_ports.specs.Line.{FailsBy, IsUnread}
 use Rattle.av_replay.specs.Turn.{Finished}
 use Rattle.av_replay.specs.Replay.{FailsOnlyAt, status_at, can_go_on, kernel_at}
-use Rattle.av_replay.proofs.Times.{unfailed_then, failed_since}
+use Rattle.av_ports.proofs.Times.{unfailed_then, failed_since}
 
 -- ---- by an error, which gives the status
 

@@ -11,14 +11,16 @@ use Rattle.av_io.specs.Source.{Took}
 use Rattle.av_io.specs.Sink.{SinkView, Gained, HandsOn, HasFailed, KeepsBack}
 use Rattle.av_replay.specs.declared.status.Status.{Status}
 use Rattle.av_replay.specs.declared.status.Status.TheVariants as statuses
-use Rattle.av_replay.specs.declared.status.RunErr.{RunErr}
-use Rattle.av_replay.specs.declared.status.RunErr.TheVariants as errors
-use Rattle.av_replay.specs.Ports.{PortsView, OnlySink, Begins, undone, AreFlushed, AreUnfailed, ReadsOn, IsAtEnd, IsReadFault}
-use Rattle.av_replay.specs.Line.{IsLine}
+use Rattle.av_ports.specs.declared.run_err.RunErr.{RunErr}
+use Rattle.av_ports.specs.declared.run_err.RunErr.TheVariants as errors
+use Rattle.av_ports.specs.Ports.{PortsView, OnlySink, undone, AreFlushed, AreUnfailed, ReadsOn, IsAtEnd, IsReadFault}
+use Rattle.av_replay.specs.RunPorts.{Begins}
+use Rattle.av_ports.specs.Line.{IsLine}
 use Rattle.av_replay.specs.Turn.{Commands, IsEnding, TakesLine, Waits, CutsShort, IsUnflushed, Halts, DoesNext, FindsEnd, Finished}
 use Rattle.av_replay.specs.Replay.{most_lines, all_lines, Transcribes, Run, done_lines, Replays, IsHandedBack, StopsAt, MayGoOn, IsCutOff, Ends, status_at, Headline, can_go_on, kernel_at, FailsOnlyAt, FailsUntold, IsFlushed, Replayed, FlushesLast}
-use Rattle.av_replay.proofs.Bytes.{Took-none, Took-ahead, Gained-none, rose_none, rose_on}
-use Rattle.av_replay.proofs.Times.{device_same, device_then, failed_since, read_fault_since, flushed_none, handed_on, only_sink}
+use Rattle.av_ports.proofs.Bytes.{Took-none, Took-ahead, Gained-none, rose_none, rose_on}
+use Rattle.av_ports.proofs.Times.{failed_since, read_fault_since, flushed_none, only_sink}
+use Rattle.av_replay.proofs.Times.{device_same, device_then, handed_on}
 use Rattle.av_replay.proofs.Runs.{Past, whole, SoFar, longer, next_answers, read_more, wrote_more, device_more, failures_more, legal_more, kernel_more, text_more, all_push, Transcribes-push, joined-push}
 
 -- ---- what the end of a turn leaves

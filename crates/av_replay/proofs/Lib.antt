@@ -1,9 +1,6 @@
-pub mod Bytes
 pub mod Attached
 pub mod Calls
 pub mod Times
-pub mod Front
-pub mod Finding
 pub mod Runs
 pub mod Endings
 pub mod Traces

@@ -4,7 +4,7 @@ use Rattle.std.specs.Prelude.{unwrap_or, IfSome}
 use Rattle.std.specs.Option.{option_to_list}
 use Rattle.std.specs.List.{AllByRecursion}
 use Rattle.av_io.specs.Source.{Took, HasEnded}
-use Rattle.av_replay.specs.Line.{IsLine}
+use Rattle.av_ports.specs.Line.{IsLine}
 use Rattle.av_replay.specs.Replay.{all_lines}
 use Rattle.av_replay.specs.Trace.{lines_of}
 use Rattle.av_replay.proofs.Traces.{lines_of-joined, lines_of-last, told, ended_is_nil}

@@ -11,7 +11,7 @@ use Rattle.av_trace.specs.Command.{IsInRange, line_of}
 use Rattle.av_trace.specs.declared.command.Command.{Command}
 use Rattle.av_trace.specs.declared.command.Command.TheVariants as commands
 use Rattle.av_trace.specs.declared.place.Place.TheVariants.{Fixed}
-use Rattle.av_replay.specs.Line.{IsLine}
+use Rattle.av_ports.specs.Line.{IsLine}
 use Rattle.av_replay.specs.Replay.{all_lines}
 use Rattle.av_replay.specs.Template.{IsDrawn, text_with, no_draws}
 use Rattle.av_replay.specs.Trace.{IsGood, IsTrace, lines_of}

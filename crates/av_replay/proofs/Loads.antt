@@ -13,8 +13,8 @@ use Rattle.av_kernel.specs.Machine.{Machine}
 use Rattle.av_replay.specs.declared.status.Status.{Status}
 use Rattle.av_replay.specs.declared.status.Status.TheVariants as statuses
 use Rattle.av_replay.specs.Over.{RunsOverAreas, ReplaysOver, WorksOver}
-use Rattle.av_replay.specs.Line.{IsLine}
-use Rattle.av_replay.specs.Ports.{IsAtEnd, PortsView}
+use Rattle.av_ports.specs.Line.{IsLine}
+use Rattle.av_ports.specs.Ports.{IsAtEnd, PortsView}
 use Rattle.av_replay.specs.Replay.{Ends, Headline, IsHandedBack, Run, all_lines, can_go_on, kernel_at}
 use Rattle.av_replay.specs.Summary.{EndsWork, SumsUp, Works, summary_of, summary_text}
 use Rattle.av_replay.specs.Trace.{IsDoneOrMemory}

@@ -16,13 +16,14 @@ use Rattle.av_io.specs.Count.{RoseBy}
 use Rattle.std.proofs.lemmas.List.Sums.{sum_by-append}
 use Rattle.av_io.specs.Source.{in_front, Took}
 use Rattle.av_io.specs.Sink.{Gained}
-use Rattle.av_replay.specs.Ports.{PortsView, undone, room, AreUnfailed, StaysOpen}
-use Rattle.av_replay.specs.Line.{IsLine}
+use Rattle.av_ports.specs.Ports.{PortsView, undone, room, AreUnfailed, StaysOpen}
+use Rattle.av_ports.specs.Line.{IsLine}
 use Rattle.av_replay.specs.Turn.{tally_of, Commands, Answers, TakesLine}
 use Rattle.av_replay.specs.Replay.{all_lines, Transcribes, Run, IsHandedBack, IsAtStart}
-use Rattle.av_replay.proofs.Bytes.{Took-then, Took-none, Gained-then, Gained-none, rose_none, rose_then}
+use Rattle.av_ports.proofs.Bytes.{Took-then, Took-none, Gained-then, Gained-none, rose_none, rose_then}
 use Rattle.av_plain.proofs.Device.{setting_same}
-use Rattle.av_replay.proofs.Times.{device_same, device_then, unfailed_then}
+use Rattle.av_ports.proofs.Times.{unfailed_then}
+use Rattle.av_replay.proofs.Times.{device_same, device_then}
 
 -- ---- lists that grow at the end
 

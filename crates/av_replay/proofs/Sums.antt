@@ -4,10 +4,10 @@ use Rattle.av_io.specs.Count.{one_more}
 use Rattle.av_io.specs.Sink.{Gained, HandsOn, HasFailed, SinkView}
 use Rattle.av_replay.specs.declared.status.Status.{Status}
 use Rattle.av_replay.specs.declared.status.Status.TheVariants as statuses
-use Rattle.av_replay.specs.Ports.{Writes}
+use Rattle.av_ports.specs.Ports.{Writes}
 use Rattle.av_replay.specs.Replay.{FlushesLast}
 use Rattle.av_replay.specs.Summary.{EndsText, HandsOnAll, SumsUp, WritesFront}
-use Rattle.av_replay.proofs.Times.{failed_since}
+use Rattle.av_ports.proofs.Times.{failed_since}
 
 -- a sink that doesn't tell what it holds never did
 untold : (before now : Option (List ℕ)) (bytes : List ℕ) → Gained before now bytes → now ≡ None → Gained before now []

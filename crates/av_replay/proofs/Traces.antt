@@ -10,9 +10,9 @@ use Rattle.av_kernel.specs.Machine.{Machine}
 use Rattle.av_replay.specs.declared.status.Status.{Status}
 use Rattle.av_replay.specs.declared.status.Status.TheVariants as statuses
 use Rattle.av_io.specs.Source.{SourceView, Took, HasEnded}
-use Rattle.av_replay.specs.Line.{IsLine, IsNoNewline, HasNoNewline}
+use Rattle.av_ports.specs.Line.{IsLine, IsNoNewline, HasNoNewline}
 use Rattle.av_replay.specs.Turn.{IsBad}
-use Rattle.av_replay.specs.Ports.{PortsView}
+use Rattle.av_ports.specs.Ports.{PortsView}
 use Rattle.av_replay.specs.Replay.{most_lines, all_lines, Headline}
 use Rattle.av_replay.specs.Trace.{onto_first, lines_of, IsGood, IsComplete}
 

@@ -6,14 +6,15 @@ use Rattle.av_kernel.specs.Machine.{Machine}
 use Rattle.av_plain.specs.Device.{Device, IsSameDevice}
 use Rattle.av_io.specs.Source.{SourceView, in_front}
 use Rattle.av_io.specs.Sink.{SinkView}
-use Rattle.av_replay.specs.declared.line.Line.{Line}
-use Rattle.av_replay.specs.declared.status.RunErr.{RunErr}
-use Rattle.av_replay.specs.declared.status.RunErr.TheVariants as errors
-use Rattle.av_replay.specs.Ports.{PortsView, AreUnfailed, Begins, IsAtEnd, LeavesSource, ReadsOn, Writes}
-use Rattle.av_replay.specs.Line.{IsLine, HasLine, IsNext, StopsReading}
+use Rattle.av_ports.specs.declared.line.Line.{Line}
+use Rattle.av_ports.specs.declared.run_err.RunErr.{RunErr}
+use Rattle.av_ports.specs.declared.run_err.RunErr.TheVariants as errors
+use Rattle.av_ports.specs.Ports.{PortsView, AreUnfailed, IsAtEnd, ReadsOn, Writes}
+use Rattle.av_replay.specs.RunPorts.{Begins, LeavesSource}
+use Rattle.av_ports.specs.Line.{IsLine, HasLine, IsNext, StopsReading}
 use Rattle.av_replay.specs.Turn.{DoesLine, IsCut, IsNotAnswered, StandsNext, IsEnding, TakesLine, CutsShort, Halts}
-use Rattle.av_replay.proofs.Bytes.{in_front-then}
-use Rattle.av_replay.proofs.Times.{failed_since}
+use Rattle.av_ports.proofs.Bytes.{in_front-then}
+use Rattle.av_ports.proofs.Times.{failed_since}
 
 -- how the line in front ends
 pub record EndsBy (line : Line) (ahead ending : List ℕ) (source : SourceView) : Type 0 where

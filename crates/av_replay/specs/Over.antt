@@ -8,7 +8,7 @@ use Rattle.av_replay.specs.declared.status.Status.TheVariants as statuses
 use Rattle.av_words.specs.declared.words.Asked.{Asked}
 use Rattle.av_words.specs.declared.words.Asked.TheVariants as asked
 use Rattle.av_replay.specs.Attach.{Attaches}
-use Rattle.av_replay.specs.Ports.{PortsView}
+use Rattle.av_ports.specs.Ports.{PortsView}
 use Rattle.av_replay.specs.Replay.{Replayed}
 use Rattle.av_replay.specs.Work.{load_lines}
 use Rattle.av_replay.specs.Summary.{Worked}

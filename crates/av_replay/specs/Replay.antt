@@ -15,11 +15,12 @@ use Rattle.av_io.specs.Source.{Took}
 use Rattle.av_io.specs.Sink.{SinkView, Gained, HasFailed, HandsOn, KeepsBack}
 use Rattle.av_replay.specs.declared.status.Status.{Status}
 use Rattle.av_replay.specs.declared.status.Status.TheVariants as statuses
-use Rattle.av_replay.specs.declared.status.RunErr.{RunErr}
-use Rattle.av_replay.specs.declared.status.RunErr.TheVariants as errors
-use Rattle.av_replay.specs.Ports.{PortsView, room, AreFlushed, AreUnfailed, IsAtEnd, IsAttached}
-use Rattle.av_replay.specs.Ports.{IsReadFault}
-use Rattle.av_replay.specs.Line.{IsLine}
+use Rattle.av_ports.specs.declared.run_err.RunErr.{RunErr}
+use Rattle.av_ports.specs.declared.run_err.RunErr.TheVariants as errors
+use Rattle.av_ports.specs.Ports.{PortsView, room, AreFlushed, AreUnfailed, IsAtEnd}
+use Rattle.av_replay.specs.RunPorts.{IsAttached}
+use Rattle.av_ports.specs.Ports.{IsReadFault}
+use Rattle.av_ports.specs.Line.{IsLine}
 use Rattle.av_replay.specs.Turn.{tally_of, Commands, IsBad}
 
 -- ---- the lines that were done, and their transcript

@@ -11,7 +11,7 @@ use Rattle.av_replay.specs.declared.status.Status.{Status}
 use Rattle.av_replay.specs.declared.status.Status.TheVariants as statuses
 use Rattle.av_replay.specs.Attach.{AttachesFewer}
 use Rattle.av_replay.specs.Over.{DoesOver}
-use Rattle.av_replay.specs.Ports.{PortsView}
+use Rattle.av_ports.specs.Ports.{PortsView}
 
 -- how a run ends whose words could not be read
 abbrev pub status_of : WordsErr → Status

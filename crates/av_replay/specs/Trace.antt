@@ -7,8 +7,8 @@ use Rattle.av_replay.specs.declared.status.Status.{Status}
 use Rattle.av_replay.specs.declared.status.Status.TheVariants as statuses
 use Rattle.av_io.specs.Count.{one_more}
 use Rattle.av_io.specs.Sink.{HasFailed}
-use Rattle.av_replay.specs.Ports.{PortsView}
-use Rattle.av_replay.specs.Line.{IsLine}
+use Rattle.av_ports.specs.Ports.{PortsView}
+use Rattle.av_ports.specs.Line.{IsLine}
 use Rattle.av_replay.specs.Replay.{most_lines}
 
 -- a byte goes onto the first line

@@ -15,11 +15,12 @@ use Rattle.av_io.specs.Source.{SourceView, Took}
 use Rattle.av_io.specs.Sink.{Gained, HasFailed}
 use Rattle.av_replay.specs.declared.status.Status.{Status}
 use Rattle.av_replay.specs.declared.status.Status.TheVariants as statuses
-use Rattle.av_replay.specs.declared.status.RunErr.{RunErr}
-use Rattle.av_replay.specs.declared.status.RunErr.TheVariants as errors
-use Rattle.av_replay.specs.Ports.{PortsView, undone, room, Begins, ReadsOn, IsAtEnd, IsReadFault}
-use Rattle.av_replay.specs.Ports.{StaysOpen, Writes}
-use Rattle.av_replay.specs.Line.{IsLine, IsTooLong}
+use Rattle.av_ports.specs.declared.run_err.RunErr.{RunErr}
+use Rattle.av_ports.specs.declared.run_err.RunErr.TheVariants as errors
+use Rattle.av_ports.specs.Ports.{PortsView, undone, room, ReadsOn, IsAtEnd, IsReadFault}
+use Rattle.av_replay.specs.RunPorts.{Begins}
+use Rattle.av_ports.specs.Ports.{StaysOpen, Writes}
+use Rattle.av_ports.specs.Line.{IsLine, IsTooLong}
 
 -- ---- what a line does
 

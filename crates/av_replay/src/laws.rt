@@ -2,7 +2,7 @@
 
 ghost use Rattle.std.specs.Prelude.{ℕ, Option};
 ghost use Rattle.av_kernel.specs.Machine.{Machine};
-ghost use Rattle.av_replay.specs.Ports.{PortsView};
+ghost use Rattle.av_ports.specs.Ports.{PortsView};
 ghost use Rattle.av_replay.specs.Replay.{Headline};
 ghost use Rattle.av_replay.specs.Trace.{IsComplete};
 ghost use Rattle.av_replay.specs.declared.status.Status.{Status};

@@ -15,13 +15,11 @@
 mod attach;
 mod draws;
 mod laws;
-mod line;
 mod outcome;
 mod over;
-mod pending;
-mod ports;
 mod progress;
 mod replay;
+mod run_ports;
 mod status;
 mod summary;
 mod template;
@@ -29,7 +27,6 @@ mod top_call;
 mod turn;
 mod work;
 mod work_over;
-mod write;
 
 pub use laws::good_traces_are_done;
 pub use outcome::Outcome;

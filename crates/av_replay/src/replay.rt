@@ -1,7 +1,7 @@
 //! The loop over the lines.
 
 ghost use Rattle.std.specs.Prelude.{◌≡◌, []};
-ghost use Rattle.av_replay.specs.Ports.{AreFlushed, AreUnfailed, OnlySink, ReadsOn};
+ghost use Rattle.av_ports.specs.Ports.{AreFlushed, AreUnfailed, OnlySink, ReadsOn};
 ghost use Rattle.av_replay.specs.Turn.{Finished};
 ghost use Rattle.av_replay.specs.Replay.{
   FailsOnlyAt,
@@ -13,12 +13,11 @@ ghost use Rattle.av_replay.specs.Replay.{
   status_at,
 };
 
-use crate::line::read_on;
-use crate::pending::Pending;
-use crate::ports::Ports;
-use crate::status::{RunErr, Status};
+use crate::run_ports::RunPorts;
+use crate::status::Status;
 use crate::turn::{Scratch, next_line};
 use av_kernel::Kernel;
+use av_ports::{Pending, Ports, RunErr, read_on};
 use std::alloc::Global;
 
 /// The lines of a trace, at most.
@@ -56,7 +55,7 @@ fn finish<P: Ports>(ports: &mut P, pending: &mut Pending) -> Status
 }
 
 /// Does all lines of the source.
-fn do_lines<P: Ports>(
+fn do_lines<P: RunPorts>(
     alloc: Global,
     kernel: &mut Kernel,
     ports: &mut P,
@@ -106,7 +105,7 @@ pub fn flush_last<P: Ports>(status: Status, ports: &mut P) -> Status
 }
 
 /// Does all lines of the source, and flushes the sink in the end.
-pub fn replay<P: Ports>(alloc: Global, kernel: &mut Kernel, ports: &mut P) -> Status
+pub fn replay<P: RunPorts>(alloc: Global, kernel: &mut Kernel, ports: &mut P) -> Status
     requires { IsAtStart kernel.old (P.view ports.old).device }
     ensures replayed { Replayed kernel.old.frames result (P.view ports.old) (P.view ports.new)
         (kernel_at result kernel.new) }

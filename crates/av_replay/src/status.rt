@@ -1,7 +1,7 @@
 //! How a run ends.
 
 ghost use Rattle.std.specs.Prelude.{◌≡◌};
-ghost use Rattle.av_replay.specs.declared.status.RunErr.TheVariants.{Memory};
+ghost use Rattle.av_ports.specs.declared.run_err.RunErr.TheVariants.{Memory};
 
 use std::alloc::AllocError;
 
@@ -24,24 +24,4 @@ pub enum Status {
     TooMany,
     /// A swap area could not be attached: the device failed. Nothing was read or written.
     AttachFault,
-}
-
-/// Why no further line is done.
-#[derive(Clone, Copy, Drop, Debug, PartialEq, Eq)]
-pub enum RunErr {
-    /// The next line is no command, or too long.
-    BadLine,
-    /// The source failed.
-    Read,
-    /// The sink failed.
-    Write,
-    Memory,
-}
-
-impl From<AllocError> for RunErr {
-    ghost from_gives = { λ _ e. e ≡ Memory };
-
-    fn from(_error: AllocError) -> RunErr {
-        RunErr::Memory
-    }
 }

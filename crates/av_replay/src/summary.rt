@@ -6,15 +6,14 @@ ghost use Rattle.av_plain.specs.Device.{setting_of};
 ghost use Rattle.av_plain.specs.Report.{totals as totals_of};
 ghost use Rattle.av_plain.specs.Transcript.{State};
 ghost use Rattle.av_kernel.specs.Kernel.{Stands};
-ghost use Rattle.av_replay.specs.Ports.{OnlySink};
+ghost use Rattle.av_ports.specs.Ports.{OnlySink};
 ghost use Rattle.av_replay.specs.Summary.{SumsUp, count_line, summary_text, tally_text};
 
-use crate::ports::Ports;
 use crate::replay::flush_last;
 use crate::status::Status;
-use crate::write::write_all;
 use av_io::SinkErr;
 use av_kernel::{Kernel, Tally};
+use av_ports::{Ports, write_all};
 use av_text::Bytes;
 use av_text::number::add_number;
 use av_trace::{Answer, Reply, Totals, reply_text};

@@ -2,17 +2,15 @@
 
 ghost use Rattle.std.specs.Prelude.{◌≡◌, ◌<◌, ◌^◌, [], OnOk, IfErr};
 ghost use Rattle.av_base.specs.Limits.{most_commands};
-ghost use Rattle.av_replay.specs.Ports.{AreFlushed, IsAttached, LeavesSource, OnlyDevice, Writes};
-ghost use Rattle.av_replay.specs.Line.{FailsOnly};
+ghost use Rattle.av_ports.specs.Ports.{AreFlushed, Writes};
+ghost use Rattle.av_replay.specs.RunPorts.{IsAttached, LeavesSource, OnlyDevice};
+ghost use Rattle.av_ports.specs.Line.{FailsOnly};
 ghost use Rattle.av_replay.specs.Turn.{DoesLine, IsNotDone, IsNotAnswered, Turned};
 
-use crate::line::read_line;
-use crate::pending::Pending;
-use crate::ports::Ports;
-use crate::status::RunErr;
-use crate::write::write_all;
+use crate::run_ports::RunPorts;
 use av_io::SinkErr;
 use av_kernel::Kernel;
+use av_ports::{Pending, RunErr, read_line, write_all};
 use av_text::Bytes;
 use av_trace::{Command, LineErr, Reply, parse_line_into, reply_text};
 use std::alloc::Global;
@@ -42,7 +40,7 @@ impl Scratch {
 }
 
 /// Does a line, and makes its reply and the reply's text. What they were before is forgotten.
-pub fn do_line<P: Ports>(
+pub fn do_line<P: RunPorts>(
     alloc: Global,
     kernel: &mut Kernel,
     ports: &mut P,
@@ -82,7 +80,7 @@ pub fn do_line<P: Ports>(
 }
 
 /// Does a line, and writes the text of its reply.
-pub fn answer_line<P: Ports>(
+pub fn answer_line<P: RunPorts>(
     alloc: Global,
     kernel: &mut Kernel,
     ports: &mut P,
@@ -114,7 +112,7 @@ pub fn answer_line<P: Ports>(
 }
 
 /// Reads a line and does it, and says whether the input goes on behind it.
-pub fn next_line<P: Ports>(
+pub fn next_line<P: RunPorts>(
     alloc: Global,
     kernel: &mut Kernel,
     ports: &mut P,

@@ -15,8 +15,8 @@ ghost use Rattle.av_words.specs.Words.{most_load, most_names};
 
 use crate::outcome::{Outcome, hand_back};
 use crate::over::run_over;
-use crate::ports::LentPorts;
 use crate::progress::Progress;
+use crate::run_ports::LentPorts;
 use crate::status::Status;
 use crate::summary::sum_up;
 use crate::work::{NullSink, WorkSource};

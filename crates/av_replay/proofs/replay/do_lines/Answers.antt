@@ -1,7 +1,7 @@
 use Rattle.std.proofs.Common.{◌+◌, ◌∷◌, [], ◌∙◌, ap, length-append, refl, arith}
 use Rattle.av_plain.specs.Device.{setting_of}
 use Rattle.av_replay.proofs.Runs.{no_past, starts, longer, next_answers, goes_on}
-use Rattle.av_replay.proofs.Times.{flushed_none, flushed_then, unfailed_then}
+use Rattle.av_ports.proofs.Times.{flushed_none, flushed_then, unfailed_then}
 use Rattle.av_replay.proofs.Calls.{fails_at, fails_since, fails_then, finished_memory, memory_at, read_at}
 use Rattle.av_replay.proofs.Endings.{done, halts, finishes}
 use Rattle.av_replay.proofs.replay.do_lines.Goals as goal

@@ -1,5 +1,5 @@
 use Rattle.std.proofs.Common.{◌≡◌, ◌≤◌, length}
-use Rattle.av_replay.specs.Ports.{AreFlushed}
+use Rattle.av_ports.specs.Ports.{AreFlushed}
 use Rattle.av_replay.proofs.Runs.{Past, SoFar}
 use Rattle.av_replay.proofs.replay.do_lines.Given as goal
 

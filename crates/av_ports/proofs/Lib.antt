@@ -1,0 +1,4 @@
+pub mod Bytes
+pub mod Times
+pub mod Front
+pub mod Finding
