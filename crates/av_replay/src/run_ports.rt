@@ -1,4 +1,4 @@
-//! The ports of a run: what it reads, writes and swaps with, where a kernel answers over the device.
+//! The ports of a run: what it reads and writes, and the device over which a kernel answers.
 
 ghost use Rattle.std.specs.Prelude.{◌≡◌, ◌<◌, OnOk, OnErr};
 ghost use Rattle.std.specs.Borrow.{GName};
