@@ -2,7 +2,6 @@
 use Rattle.std.proofs.Common.{◌≡◌, ℕ, ◌+◌, ◌≤◌, List, [], ◌++◌, Option, Some, None, refl, sym, ap, ◌∙◌, append_assoc, append-nil, arith, take, drop}
 use Rattle.std.proofs.lemmas.List.{take-append-drop, take-take, drop-take}
 use Rattle.std.specs.Prelude.{option_map}
-use Rattle.av_io.specs.Count.{RoseBy}
 use Rattle.av_io.specs.Source.{in_front, Took}
 use Rattle.av_io.specs.Sink.{Gained}
 
@@ -30,18 +29,6 @@ Gained-then (Some text) b c x y p q = q ∙ ap (option_map (λ (t : List ℕ). t
 pub Gained-none : (a : Option (List ℕ)) → Gained a a []
 Gained-none None = refl
 Gained-none (Some text) = ap Some (sym (append-nil text))
-
--- nothing is less than a count rose by
-pub rose_none : (a : ℕ) → RoseBy 0 a a
-rose_none a = omega arith
-
--- rises add up
-pub rose_then : (m n a b c : ℕ) → RoseBy m a b → RoseBy n b c → RoseBy (m + n) a c
-rose_then m n a b c first second = omega arith
-
--- and a count that goes on to rise has risen by as much
-pub rose_on : (m a b c : ℕ) → RoseBy m a b → b ≤ c → RoseBy m a c
-rose_on m a b c first more = omega arith
 
 -- a front that grows by a front of the rest
 pub take-add : (n m : ℕ) (xs : List ℕ) → take (n + m) xs ≡ take n xs ++ take m (drop n xs)

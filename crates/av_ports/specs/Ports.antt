@@ -3,28 +3,13 @@ use Rattle.std.specs.Prelude.{◌≡◌, ℕ, zero, suc, ◌+◌, ◌≤◌, Lis
 use Rattle.av_io.specs.Count.{one_more}
 use Rattle.av_io.specs.Source.{SourceView, in_front, HasEnded}
 use Rattle.av_io.specs.Sink.{SinkView, Gained}
-use Rattle.av_plain.specs.Device.{Device, device_by}
+use Rattle.av_plain.specs.Device.{Device}
 
 -- what is told of a source, a sink and a device at one time
 pub record PortsView : Type 0 where
   pub source : SourceView
   pub sink : SinkView
   pub device : Device
-
--- these of a source, a sink and a device, whose sizes, pages and failures are told apart
-abbrev pub side_by_side : SourceView → SinkView → (ℕ → Option ℕ) → Option (ℕ → ℕ → List ℕ) → ℕ
-    → PortsView
-side_by_side source sink sizes pages failures = record {
-  source = source;
-  sink = sink;
-  device = device_by sizes pages failures;
-}
-
--- a source, a sink and a device, by what is told of each
-abbrev pub ports_by : {S K D : Type 0} → (S → SourceView) → (K → SinkView) → (D → ℕ → Option ℕ)
-    → (D → Option (ℕ → ℕ → List ℕ)) → (D → ℕ) → S → K → D → PortsView
-ports_by source sink sizes pages failures s k d =
-    side_by_side (source s) (sink k) (sizes d) (pages d) (failures d)
 
 -- nothing changed but the source
 pub record OnlySource (old new : PortsView) : Type 0 where

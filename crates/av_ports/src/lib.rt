@@ -2,10 +2,11 @@
 //! written, and a device, which nothing here uses.
 //!
 //! Proved: `read_line` finds the next line, to its newline or to the end of the input, or says that
-//! it is too long. Nothing of what was read is lost, and no more is kept than one read gives.
-//! Before each read the sink is flushed, once, so that who waits for replies sees them. What failed
-//! is what the error tells of, and it failed once. `write_all` writes the whole text, or says that
-//! the sink failed or memory was wanting, and then it wrote a part of the text.
+//! it is too long. Where the source tells what it has left, nothing of what was read is lost, and
+//! in any case no more is kept than one read gives. Before each read the sink is flushed, once, so
+//! that who waits for replies sees them. What failed is what the error tells of, and it failed
+//! once. `write_all` writes the whole text, or a part of it and an error; a failure that it tells
+//! is the sink's. That memory suffices is only tested.
 #![tactic(auto)]
 
 mod line;

@@ -1,8 +1,10 @@
 //! Reading a line.
 
-ghost use Rattle.std.specs.Prelude.{◌≡◌, ◌+◌, ◌<◌, ◌≤◌, [], length, IfOk, IfErr, IfSome, IfNone};
-ghost use Rattle.av_ports.specs.Ports.{ReadsOn, IsAtEnd, AreFlushed, StaysOpen};
-ghost use Rattle.av_ports.specs.Line.{longest, FailsOnly, Finds, LineRead, IsUnread};
+ghost use Rattle.std.specs.Prelude.{◌≡◌, ◌+◌, ◌<◌, [], false, length, IfOk, IfErr, IfSome};
+ghost use Rattle.std.specs.Prelude.{IfNone};
+ghost use Rattle.av_io.specs.Count.{one_more};
+ghost use Rattle.av_ports.specs.Ports.{ReadsOn, IsAtEnd, AreFlushed, room};
+ghost use Rattle.av_ports.specs.Line.{FailsOnly, Finds, LineRead, IsUnread};
 
 use crate::pending::Pending;
 use crate::ports::Ports;
@@ -45,13 +47,15 @@ pub struct Line {
 ///
 /// The sink is flushed first: who waits for the replies so far, before going on, sees them.
 pub fn read_on<P: Ports>(ports: &mut P, pending: &mut Pending) -> Result<usize, RunErr>
-    requires { length pending.old ≤ longest }
+    requires { length pending.old < room }
     ensures reads { ReadsOn pending.old pending.new (P.view ports.old) (P.view ports.new) }
     ensures more { IfOk result (λ n. length pending.new ≡ length pending.old + n) }
     ensures ended { IfOk result
         (λ n. n ≡ 0 → (pending.new ≡ pending.old) × IsAtEnd (P.view ports.new).source) }
     ensures stays_open { IfOk result
-        (λ n. 0 < n → StaysOpen (P.view ports.old).source (P.view ports.new).source) }
+        (λ n. 0 < n → (P.view ports.new).source.has_told_end ≡ false) }
+    ensures once { IfOk result
+        (λ n. (P.view ports.new).source.reads ≡ one_more (P.view ports.old).source.reads) }
     ensures unfailed { FailsOnly result (P.view ports.old) (P.view ports.new) }
     ensures flushed { AreFlushed 0 (P.view ports.old) (P.view ports.new) }
     ensures none_kept { IfErr result
@@ -70,7 +74,8 @@ pub fn read_on<P: Ports>(ports: &mut P, pending: &mut Pending) -> Result<usize, 
 }
 
 /// Reads on until a line has come, and says where it ends; or None, where the input has ended
-/// before another.
+/// before another. A line has at most 8,448 bytes: where more come without a newline it is
+/// `BadLine`. `Read` and `Write` tell which call failed.
 pub fn read_line<P: Ports>(ports: &mut P, pending: &mut Pending) -> Result<Option<Line>, RunErr>
     ensures reads { ReadsOn pending.old pending.new (P.view ports.old) (P.view ports.new) }
     ensures line { LineRead result pending.new (P.view ports.old) (P.view ports.new) }

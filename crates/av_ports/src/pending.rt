@@ -5,7 +5,6 @@ ghost use Rattle.std.specs.Prelude.{OnOk, OnErr};
 ghost use Rattle.av_io.specs.Count.{one_more};
 ghost use Rattle.av_io.specs.Source.{Took, GivesNothing};
 ghost use Rattle.av_ports.specs.Ports.{room, IsAtEnd, OnlySource, undone};
-ghost use Rattle.av_ports.specs.Line.{longest};
 
 use crate::ports::Ports;
 use av_io::Failed;
@@ -72,7 +71,7 @@ fn read_behind<P: Ports>(ports: &mut P, bytes: &mut [u8], kept: usize) -> Result
 }
 
 impl Pending {
-    /// Nothing, with room for what is read.
+    /// Nothing, with room for what is read. `AllocError` where memory is wanting.
     pub fn new(alloc: Global) -> Result<Pending, AllocError>
         ensures { IfOk result (λ p. p ≡ []) }
     {
@@ -100,8 +99,8 @@ impl Pending {
     }
 
     /// Reads more, and says how many bytes came. 0 is the end of the input.
-    pub fn fill<P: Ports>(&mut self, ports: &mut P) -> Result<usize, Failed>
-        requires { length self.old ≤ longest }
+    pub(crate) fn fill<P: Ports>(&mut self, ports: &mut P) -> Result<usize, Failed>
+        requires { length self.old < room }
         ensures undone { undone self.new (P.view ports.new) ≡ undone self.old (P.view ports.old) }
         ensures few { length self.new ≤ room }
         ensures more { IfOk result (λ n. length self.new ≡ length self.old + n) }
@@ -112,11 +111,9 @@ impl Pending {
             (λ n. 0 < n → (P.view ports.new).source.has_told_end ≡ false) }
         ensures unfailed { OnOk result
             ((P.view ports.new).source.failures ≡ (P.view ports.old).source.failures) }
-        ensures untold { OnErr result
-            ((P.view ports.new).source.has_told_end ≡ (P.view ports.old).source.has_told_end) }
-        ensures failed { OnErr result (self.new ≡ self.old) }
-        ensures cause { OnErr result
-            ((P.view ports.new).source.failures ≡ one_more (P.view ports.old).source.failures) }
+        ensures same { OnErr result (self.new ≡ self.old) }
+        ensures err { OnErr result
+            (GivesNothing (P.view ports.old).source (P.view ports.new).source) }
         ensures only { OnlySource (P.view ports.old) (P.view ports.new) }
         ensures kept { P.kept ports.new ≡ P.kept ports.old }
     {

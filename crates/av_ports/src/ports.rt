@@ -7,7 +7,7 @@ ghost use Rattle.av_ports.specs.Ports.{OnlySink, OnlySource, PortsView};
 
 use av_io::{Failed, SinkErr};
 
-/// What a run reads, writes and swaps with.
+/// A source, a sink and a device. Nothing here uses the device.
 pub trait Ports {
     /// What is told of source, sink and device.
     ghost view: { Self → PortsView };
@@ -17,7 +17,8 @@ pub trait Ports {
 
     ghost kept: { Self → Self.Kept };
 
-    /// A read of the source.
+    /// Reads into the front of `into`, and says how many bytes came. Where there is room, 0 is the
+    /// end of the input.
     fn read(&mut self, into: &mut [u8]) -> Result<usize, Failed>
         ensures ok { IfOk result (λ n.
             Gives (view self.old).source (view self.new).source n into.new) }
@@ -26,7 +27,7 @@ pub trait Ports {
         ensures only { OnlySource (view self.old) (view self.new) }
         ensures kept { kept self.new ≡ kept self.old };
 
-    /// A write to the sink.
+    /// Writes a front of `piece`, at least a byte where there is one, and says how many bytes.
     fn write(&mut self, piece: &[u8]) -> Result<usize, SinkErr>
         ensures ok { IfOk result (λ n.
             Takes (view self.old).sink (view self.new).sink n piece.now) }
@@ -35,7 +36,7 @@ pub trait Ports {
         ensures only { OnlySink (view self.old) (view self.new) }
         ensures kept { kept self.new ≡ kept self.old };
 
-    /// A flush of the sink.
+    /// Hands on what the sink keeps back.
     fn flush(&mut self) -> Result<(), Failed>
         ensures ok { OnOk result (HandsOn (view self.old).sink (view self.new).sink) }
         ensures err { OnErr result (KeepsBack (view self.old).sink (view self.new).sink) }

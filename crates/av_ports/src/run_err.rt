@@ -1,14 +1,14 @@
-//! Why no further line is done.
+//! Why a run ends early.
 
 ghost use Rattle.std.specs.Prelude.{◌≡◌};
 ghost use Rattle.av_ports.specs.declared.run_err.RunErr.TheVariants.{Memory};
 
 use std::alloc::AllocError;
 
-/// Why no further line is done.
+/// Why no further line is read, or done. Reading tells no want of memory.
 #[derive(Clone, Copy, Drop, Debug, PartialEq, Eq)]
 pub enum RunErr {
-    /// The next line is no command, or too long.
+    /// The next line is too long, or no command.
     BadLine,
     /// The source failed.
     Read,

@@ -1,15 +1,17 @@
 -- Calls of the source and the sink, by the status.
-use Rattle.std.proofs.Common.{◌≡◌, ℕ, List, [], Some, None, true, false, refl, ◌∙◌, subst, inl, inr}
+use Rattle.std.proofs.Common.{suc, ◌≡◌, ℕ, ◌+◌, List, [], Some, None, true, false, refl, ap, ◌∙◌, subst, inl, inr, arith}
 use Rattle.std.specs.Prelude.{is_some, if◌then◌else◌}
 use Rattle.av_kernel.specs.Machine.{Machine}
 use Rattle.av_replay.specs.declared.status.Status.{Status}
 use Rattle.av_replay.specs.declared.status.Status.TheVariants as statuses
 use Rattle.av_ports.specs.declared.run_err.RunErr.{RunErr}
 use Rattle.av_ports.specs.declared.run_err.RunErr.TheVariants as errors
-use Rattle.av_ports.specs.Ports.{PortsView, AreUnfailed}
+use Rattle.av_io.specs.Count.{one_more}
+use Rattle.av_io.specs.Sink.{SinkView, HandsOn}
+use Rattle.av_ports.specs.Ports.{PortsView, AreFlushed, AreUnfailed, after_calls}
 use Rattle.av_ports.specs.Line.{FailsBy, IsUnread}
 use Rattle.av_replay.specs.Turn.{Finished}
-use Rattle.av_replay.specs.Replay.{FailsOnlyAt, status_at, can_go_on, kernel_at}
+use Rattle.av_replay.specs.Replay.{FailsOnlyAt, IsHandedOn, status_at, can_go_on, kernel_at}
 use Rattle.av_ports.proofs.Times.{unfailed_then, failed_since}
 
 -- ---- by an error, which gives the status
@@ -72,3 +74,17 @@ module _ (old now new : PortsView) (was : AreUnfailed old now) where
       | inr failed ↦ inr (failed.0, failed_since old.sink now.sink new.sink was.sink failed.1)
     ],
   )
+
+-- ---- the last flush
+
+pub handed_on : (old now : PortsView) (sink : SinkView) → AreFlushed 0 old now → HandsOn now.sink sink → IsHandedOn 1 old (record now { sink = sink })
+handed_on old now sink was hands_on =
+    let e : suc (was.n + 0) ≡ was.n + 1 = omega arith in
+    record {
+      none_kept = hands_on.all;
+      flushed = record {
+        n = was.n;
+        reads = was.reads;
+        flushes = hands_on.flushes ∙ ap one_more was.flushes ∙ ap (λ (k : ℕ). after_calls k old.sink.flushes) e;
+      };
+    }

@@ -14,14 +14,14 @@ use Rattle.av_replay.specs.declared.status.Status.TheVariants as statuses
 use Rattle.av_ports.specs.declared.run_err.RunErr.{RunErr}
 use Rattle.av_ports.specs.declared.run_err.RunErr.TheVariants as errors
 use Rattle.av_ports.specs.Ports.{PortsView, OnlySink, undone, AreFlushed, AreUnfailed, ReadsOn, IsAtEnd, IsReadFault}
-use Rattle.av_replay.specs.RunPorts.{Begins}
 use Rattle.av_ports.specs.Line.{IsLine}
-use Rattle.av_replay.specs.Turn.{Commands, IsEnding, TakesLine, Waits, CutsShort, IsUnflushed, Halts, DoesNext, FindsEnd, Finished}
+use Rattle.av_replay.specs.Turn.{Begins, Commands, IsEnding, TakesLine, Waits, CutsShort, IsUnflushed, Halts, DoesNext, FindsEnd, Finished}
 use Rattle.av_replay.specs.Replay.{most_lines, all_lines, Transcribes, Run, done_lines, Replays, IsHandedBack, StopsAt, MayGoOn, IsCutOff, Ends, status_at, Headline, can_go_on, kernel_at, FailsOnlyAt, FailsUntold, IsFlushed, Replayed, FlushesLast}
-use Rattle.av_ports.proofs.Bytes.{Took-none, Took-ahead, Gained-none, rose_none, rose_on}
+use Rattle.av_ports.proofs.Bytes.{Took-none, Took-ahead, Gained-none}
 use Rattle.av_ports.proofs.Times.{failed_since, read_fault_since, flushed_none, only_sink}
-use Rattle.av_replay.proofs.Times.{device_same, device_then, handed_on}
-use Rattle.av_replay.proofs.Runs.{Past, whole, SoFar, longer, next_answers, read_more, wrote_more, device_more, failures_more, legal_more, kernel_more, text_more, all_push, Transcribes-push, joined-push}
+use Rattle.av_step.proofs.StepLaws.{same_itself, same_then}
+use Rattle.av_replay.proofs.Calls.{handed_on}
+use Rattle.av_replay.proofs.Runs.{rose_none, rose_on, Past, whole, SoFar, longer, next_answers, read_more, wrote_more, device_more, failures_more, legal_more, kernel_more, text_more, all_push, Transcribes-push, joined-push}
 
 -- ---- what the end of a turn leaves
 
@@ -53,7 +53,7 @@ begun_of : (ahead rest : List ℕ) (now new : PortsView) → ReadsOn ahead rest 
 begun_of ahead rest now new reads = record {
   same = reads.same;
   held = reads.held;
-  device = subst (IsSameDevice now.device) (sym reads.device) (device_same now.device);
+  device = subst (IsSameDevice now.device) (sym reads.device) (same_itself now.device);
   near = reads.near;
 }
 
@@ -72,7 +72,7 @@ waited n past ahead rest old now new k so_far few reads = record {
   legal = so_far.legal;
   failures = rose_on (causes_of past.transcript) old.device.failures now.device.failures new.device.failures so_far.failures reads.device.failures;
   wrote = subst (λ (h : Option (List ℕ)). Gained old.sink.held h (text_of_run past.transcript)) (sym reads.held) so_far.wrote;
-  device = device_then old.device now.device new.device so_far.device reads.device;
+  device = same_then old.device now.device new.device so_far.device reads.device;
 }
 
 pub stops : (n : ℕ) (past : Past) (ahead rest : List ℕ) (old now new : PortsView) (k k' : Machine) → SoFar n past ahead old now k →
@@ -343,7 +343,7 @@ nothing_done n ports = record {
       legal = refl;
       failures = rose_none ports.device.failures;
       wrote = Gained-none ports.sink.held;
-      device = device_same ports.device;
+      device = same_itself ports.device;
     };
     ends = inl refl;
     handed_back = tt;

@@ -1,6 +1,5 @@
 pub mod Attached
 pub mod Calls
-pub mod Times
 pub mod Runs
 pub mod Endings
 pub mod Traces

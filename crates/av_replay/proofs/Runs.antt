@@ -1,5 +1,5 @@
 -- A run that goes on by a turn.
-use Rattle.std.proofs.Common.{◌≡◌, ℕ, ◌≤◌, List, [], ◌∷◌, ◌++◌, Option, None, length, length-append, refl, sym, ap, subst, ◌∙◌, append_assoc, append-nil, arith}
+use Rattle.std.proofs.Common.{◌≡◌, ℕ, ◌+◌, ◌≤◌, List, [], ◌∷◌, ◌++◌, Option, None, length, length-append, refl, sym, ap, subst, ◌∙◌, append_assoc, append-nil, arith}
 use Rattle.av_kernel.specs.Tally.{none_counted}
 use Rattle.av_kernel.specs.declared.tally.Tally.{Tally}
 use Rattle.std.specs.List.{AllByRecursion}
@@ -20,10 +20,10 @@ use Rattle.av_ports.specs.Ports.{PortsView, undone, room, AreUnfailed, StaysOpen
 use Rattle.av_ports.specs.Line.{IsLine}
 use Rattle.av_replay.specs.Turn.{tally_of, Commands, Answers, TakesLine}
 use Rattle.av_replay.specs.Replay.{all_lines, Transcribes, Run, IsHandedBack, IsAtStart}
-use Rattle.av_ports.proofs.Bytes.{Took-then, Took-none, Gained-then, Gained-none, rose_none, rose_then}
+use Rattle.av_ports.proofs.Bytes.{Took-then, Took-none, Gained-then, Gained-none}
 use Rattle.av_plain.proofs.Device.{setting_same}
 use Rattle.av_ports.proofs.Times.{unfailed_then}
-use Rattle.av_replay.proofs.Times.{device_same, device_then}
+use Rattle.av_step.proofs.StepLaws.{same_itself, same_then}
 
 -- ---- lists that grow at the end
 
@@ -54,6 +54,20 @@ IsRun-append m a b c (e ∷ es) more run then = (run.0, run.1, IsRun-append m ru
 pub tally_of-append : (es more : List Exchange) (tally : Tally) → tally_of (es ++ more) tally ≡ tally_of more (tally_of es tally)
 tally_of-append [] more tally = refl
 tally_of-append (e ∷ es) more tally = tally_of-append es more _
+
+-- ---- counts that rise
+
+-- nothing is less than a count rose by
+pub rose_none : (a : ℕ) → RoseBy 0 a a
+rose_none a = omega arith
+
+-- rises add up
+pub rose_then : (m n a b c : ℕ) → RoseBy m a b → RoseBy n b c → RoseBy (m + n) a c
+rose_then m n a b c first second = omega arith
+
+-- and a count that goes on to rise has risen by as much
+pub rose_on : (m a b c : ℕ) → RoseBy m a b → b ≤ c → RoseBy m a c
+rose_on m a b c first more = omega arith
 
 -- ---- the run so far
 
@@ -103,7 +117,7 @@ starts ahead now kernel none start = record {
     unspent = start.unspent;
     attached = start.attached;
   };
-  device = device_same now.device;
+  device = same_itself now.device;
   unfailed = record { source = refl; sink = refl };
   stays_open = λ untold. untold;
 }
@@ -127,7 +141,7 @@ module _ (n : ℕ) (past : Past) (ahead : List ℕ) (old now new : PortsView) (k
   wrote_more = Gained-then _ _ _ _ _ so_far.wrote takes.gained
 
   pub device_more : IsSameDevice old.device new.device
-  device_more = device_then old.device now.device new.device so_far.device takes.device
+  device_more = same_then old.device now.device new.device so_far.device takes.device
 
   pub legal_more : IsRun (setting_of n old.device) (at_first (setting_of n old.device)) (past.transcript ++ option_to_list next_answers.did)
       next_answers.next

@@ -10,7 +10,7 @@ use Rattle.av_ports.specs.declared.line.Line.{Line}
 use Rattle.av_ports.specs.declared.run_err.RunErr.{RunErr}
 use Rattle.av_ports.specs.declared.run_err.RunErr.TheVariants as errors
 use Rattle.av_ports.specs.Ports.{PortsView, AreUnfailed, IsAtEnd, ReadsOn, Writes}
-use Rattle.av_replay.specs.RunPorts.{Begins, LeavesSource}
+use Rattle.av_replay.specs.Turn.{Begins, LeavesSource}
 use Rattle.av_ports.specs.Line.{IsLine, HasLine, IsNext, StopsReading}
 use Rattle.av_replay.specs.Turn.{DoesLine, IsCut, IsNotAnswered, StandsNext, IsEnding, TakesLine, CutsShort, Halts}
 use Rattle.av_ports.proofs.Bytes.{in_front-then}

@@ -17,10 +17,9 @@ use Rattle.av_replay.specs.declared.status.Status.{Status}
 use Rattle.av_replay.specs.declared.status.Status.TheVariants as statuses
 use Rattle.av_ports.specs.declared.run_err.RunErr.{RunErr}
 use Rattle.av_ports.specs.declared.run_err.RunErr.TheVariants as errors
-use Rattle.av_ports.specs.Ports.{PortsView, room, AreFlushed, AreUnfailed, IsAtEnd}
-use Rattle.av_replay.specs.RunPorts.{IsAttached}
-use Rattle.av_ports.specs.Ports.{IsReadFault}
+use Rattle.av_ports.specs.Ports.{PortsView, room, AreFlushed, AreUnfailed, IsAtEnd, IsReadFault}
 use Rattle.av_ports.specs.Line.{IsLine}
+use Rattle.av_replay.specs.KernelPorts.{IsAttached}
 use Rattle.av_replay.specs.Turn.{tally_of, Commands, IsBad}
 
 -- ---- the lines that were done, and their transcript

@@ -18,7 +18,6 @@ use Rattle.av_replay.specs.declared.status.Status.TheVariants as statuses
 use Rattle.av_ports.specs.declared.run_err.RunErr.{RunErr}
 use Rattle.av_ports.specs.declared.run_err.RunErr.TheVariants as errors
 use Rattle.av_ports.specs.Ports.{PortsView, undone, room, ReadsOn, IsAtEnd, IsReadFault}
-use Rattle.av_replay.specs.RunPorts.{Begins}
 use Rattle.av_ports.specs.Ports.{StaysOpen, Writes}
 use Rattle.av_ports.specs.Line.{IsLine, IsTooLong}
 
@@ -90,6 +89,18 @@ IsNotAnswered errors.Write line old new k k' =
 IsNotAnswered errors.Read line old new k k' = ⊥
 
 -- ---- a turn
+
+-- the source is as it was, and the device the same one
+pub record LeavesSource (old new : PortsView) : Type 0 where
+  pub source : new.source ≡ old.source
+  pub device : IsSameDevice old.device new.device
+
+-- a line was begun of what was read, and none done: the device may have been used
+pub record Begins (ahead ahead' : List ℕ) (old new : PortsView) : Type 0 where
+  pub same : undone ahead' new ≡ undone ahead old
+  pub held : new.sink.held ≡ old.sink.held
+  pub device : IsSameDevice old.device new.device
+  pub near : length ahead' ≤ room
 
 -- the line in front of what was read, which ends at its newline or with the input
 abbrev pub StandsNext : List ℕ → List ℕ → SourceView → Type 0

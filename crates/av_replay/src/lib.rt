@@ -14,12 +14,12 @@
 
 mod attach;
 mod draws;
+mod kernel_ports;
 mod laws;
 mod outcome;
 mod over;
 mod progress;
 mod replay;
-mod run_ports;
 mod status;
 mod summary;
 mod template;

@@ -6,13 +6,13 @@ ghost use Rattle.av_swapdev.specs.Device.{most_areas};
 ghost use Rattle.av_step.specs.Step.{seen_by, sizes_of};
 ghost use Rattle.av_replay.specs.Attach.{AttachesFewer, HasNone};
 ghost use Rattle.av_replay.specs.Over.{ReplaysOver};
-ghost use Rattle.av_ports.specs.Ports.{ports_by};
+ghost use Rattle.av_replay.specs.KernelPorts.{ports_by};
 ghost use Rattle.av_replay.specs.Replay.{IsAtStart, Replayed, can_go_on, kernel_at};
 
 use crate::attach::attach_all;
+use crate::kernel_ports::LentPorts;
 use crate::outcome::{Outcome, hand_back};
 use crate::replay::replay;
-use crate::run_ports::LentPorts;
 use crate::status::Status;
 use av_io::{Sink, Source};
 use av_kernel::Kernel;

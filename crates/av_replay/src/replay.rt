@@ -13,7 +13,7 @@ ghost use Rattle.av_replay.specs.Replay.{
   status_at,
 };
 
-use crate::run_ports::RunPorts;
+use crate::kernel_ports::KernelPorts;
 use crate::status::Status;
 use crate::turn::{Scratch, next_line};
 use av_kernel::Kernel;
@@ -55,7 +55,7 @@ fn finish<P: Ports>(ports: &mut P, pending: &mut Pending) -> Status
 }
 
 /// Does all lines of the source.
-fn do_lines<P: RunPorts>(
+fn do_lines<P: KernelPorts>(
     alloc: Global,
     kernel: &mut Kernel,
     ports: &mut P,
@@ -105,7 +105,7 @@ pub fn flush_last<P: Ports>(status: Status, ports: &mut P) -> Status
 }
 
 /// Does all lines of the source, and flushes the sink in the end.
-pub fn replay<P: RunPorts>(alloc: Global, kernel: &mut Kernel, ports: &mut P) -> Status
+pub fn replay<P: KernelPorts>(alloc: Global, kernel: &mut Kernel, ports: &mut P) -> Status
     requires { IsAtStart kernel.old (P.view ports.old).device }
     ensures replayed { Replayed kernel.old.frames result (P.view ports.old) (P.view ports.new)
         (kernel_at result kernel.new) }

@@ -1,10 +1,5 @@
 //! How a run ends.
 
-ghost use Rattle.std.specs.Prelude.{◌≡◌};
-ghost use Rattle.av_ports.specs.declared.run_err.RunErr.TheVariants.{Memory};
-
-use std::alloc::AllocError;
-
 /// How a run ended.
 #[derive(Clone, Copy, Drop, Debug, PartialEq, Eq)]
 pub enum Status {

@@ -5,7 +5,7 @@ ghost use Rattle.std.specs.Prelude.{string_bytes};
 ghost use Rattle.av_io.specs.Count.{Rose};
 ghost use Rattle.av_step.specs.Step.{seen_by};
 ghost use Rattle.av_replay.specs.Attach.{HasNone};
-ghost use Rattle.av_ports.specs.Ports.{ports_by};
+ghost use Rattle.av_replay.specs.KernelPorts.{ports_by};
 ghost use Rattle.av_replay.specs.Replay.{can_go_on};
 ghost use Rattle.av_replay.specs.TopCall.{AskForLoad, AttachesFewerAsked, DoesAsked, RefusesWords};
 ghost use Rattle.av_replay.specs.TopCall.{status_of};

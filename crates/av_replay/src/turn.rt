@@ -3,11 +3,12 @@
 ghost use Rattle.std.specs.Prelude.{◌≡◌, ◌<◌, ◌^◌, [], OnOk, IfErr};
 ghost use Rattle.av_base.specs.Limits.{most_commands};
 ghost use Rattle.av_ports.specs.Ports.{AreFlushed, Writes};
-ghost use Rattle.av_replay.specs.RunPorts.{IsAttached, LeavesSource, OnlyDevice};
+ghost use Rattle.av_replay.specs.KernelPorts.{IsAttached, OnlyDevice};
+ghost use Rattle.av_replay.specs.Turn.{LeavesSource};
 ghost use Rattle.av_ports.specs.Line.{FailsOnly};
 ghost use Rattle.av_replay.specs.Turn.{DoesLine, IsNotDone, IsNotAnswered, Turned};
 
-use crate::run_ports::RunPorts;
+use crate::kernel_ports::KernelPorts;
 use av_io::SinkErr;
 use av_kernel::Kernel;
 use av_ports::{Pending, RunErr, read_line, write_all};
@@ -40,7 +41,7 @@ impl Scratch {
 }
 
 /// Does a line, and makes its reply and the reply's text. What they were before is forgotten.
-pub fn do_line<P: RunPorts>(
+pub fn do_line<P: KernelPorts>(
     alloc: Global,
     kernel: &mut Kernel,
     ports: &mut P,
@@ -80,7 +81,7 @@ pub fn do_line<P: RunPorts>(
 }
 
 /// Does a line, and writes the text of its reply.
-pub fn answer_line<P: RunPorts>(
+pub fn answer_line<P: KernelPorts>(
     alloc: Global,
     kernel: &mut Kernel,
     ports: &mut P,
@@ -112,7 +113,7 @@ pub fn answer_line<P: RunPorts>(
 }
 
 /// Reads a line and does it, and says whether the input goes on behind it.
-pub fn next_line<P: RunPorts>(
+pub fn next_line<P: KernelPorts>(
     alloc: Global,
     kernel: &mut Kernel,
     ports: &mut P,

@@ -13,10 +13,10 @@ ghost use Rattle.av_replay.specs.Replay.{can_go_on};
 ghost use Rattle.av_replay.specs.Summary.{SumsUp, summary_text};
 ghost use Rattle.av_words.specs.Words.{most_load, most_names};
 
+use crate::kernel_ports::LentPorts;
 use crate::outcome::{Outcome, hand_back};
 use crate::over::run_over;
 use crate::progress::Progress;
-use crate::run_ports::LentPorts;
 use crate::status::Status;
 use crate::summary::sum_up;
 use crate::work::{NullSink, WorkSource};

@@ -13,7 +13,7 @@ loop-size-preserved g c =
       kept = now.kept ∙ was.kept;
       unfailed = unfailed_then _ _ _ was.unfailed now.unfailed;
       flushed = flushed_then 0 _ _ _ was.flushed now.flushed;
-      stays_open = λ untold. now.stays_open (omega arith) (was.stays_open untold);
+      stays_open = λ untold. now.stays_open (omega arith);
     }
 
 pub returns-in_err-read_on-clause-flushed : goal.returns-in_err-read_on-clause-flushed

@@ -4,7 +4,8 @@ use Rattle.av_kernel.specs.Machine.{Machine}
 use Rattle.av_io.specs.Sink.{HasFailed, SinkView}
 use Rattle.av_plain.specs.Device.{IsSameDevice}
 use Rattle.av_ports.specs.Ports.{OnlySink, PortsView, Writes}
-use Rattle.av_replay.specs.RunPorts.{LeavesSource, OnlyDevice}
+use Rattle.av_replay.specs.KernelPorts.{OnlyDevice}
+use Rattle.av_replay.specs.Turn.{LeavesSource}
 use Rattle.av_replay.specs.Turn.{DoesLine, IsCut}
 use Rattle.av_replay.proofs.turn.answer_line.Goals as goal
 

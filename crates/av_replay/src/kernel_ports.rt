@@ -5,8 +5,8 @@ ghost use Rattle.std.specs.Borrow.{GName};
 ghost use Rattle.av_base.specs.Limits.{most_commands};
 ghost use Rattle.av_plain.specs.Transcript.{State};
 ghost use Rattle.av_kernel.specs.Kernel.{Counts, IsSpent, Stands, Steps};
-ghost use Rattle.av_ports.specs.Ports.{ports_by};
-ghost use Rattle.av_replay.specs.RunPorts.{IsAttached, OnlyDevice};
+ghost use Rattle.av_replay.specs.KernelPorts.{ports_by};
+ghost use Rattle.av_replay.specs.KernelPorts.{IsAttached, OnlyDevice};
 
 use av_io::{Failed, Sink, SinkErr, Source};
 use av_kernel::Kernel;
@@ -16,7 +16,7 @@ use av_trace::{Command, Reply};
 use std::alloc::{AllocError, Global};
 
 /// Ports over whose device a kernel answers.
-pub trait RunPorts: Ports {
+pub trait KernelPorts: Ports {
     /// Has a kernel answer a command over the device.
     fn answer(
         &mut self,
@@ -70,7 +70,7 @@ impl<'s, 'k, 'd, S: Source, K: Sink, D: SwapDev> Ports for LentPorts<'s, 'k, 'd,
     }
 }
 
-impl<'s, 'k, 'd, S: Source, K: Sink, D: SwapDev> RunPorts for LentPorts<'s, 'k, 'd, S, K, D> {
+impl<'s, 'k, 'd, S: Source, K: Sink, D: SwapDev> KernelPorts for LentPorts<'s, 'k, 'd, S, K, D> {
     fn answer(
         &mut self,
         alloc: Global,

@@ -1,0 +1,33 @@
+-- A source, a sink and a device, over which a kernel answers.
+use Rattle.std.specs.Prelude.{◌≡◌, ℕ, List, Option}
+use Rattle.av_io.specs.Source.{SourceView}
+use Rattle.av_io.specs.Sink.{SinkView}
+use Rattle.av_kernel.specs.Machine.{Machine}
+use Rattle.av_step.specs.Step.{sizes_of}
+use Rattle.av_plain.specs.Device.{Device, IsSameDevice, device_by}
+use Rattle.av_ports.specs.Ports.{PortsView}
+
+-- these of a source, a sink and a device, whose sizes, pages and failures are told apart
+abbrev pub side_by_side : SourceView → SinkView → (ℕ → Option ℕ) → Option (ℕ → ℕ → List ℕ) → ℕ
+    → PortsView
+side_by_side source sink sizes pages failures = record {
+  source = source;
+  sink = sink;
+  device = device_by sizes pages failures;
+}
+
+-- a source, a sink and a device, by what is told of each
+abbrev pub ports_by : {S K D : Type 0} → (S → SourceView) → (K → SinkView) → (D → ℕ → Option ℕ)
+    → (D → Option (ℕ → ℕ → List ℕ)) → (D → ℕ) → S → K → D → PortsView
+ports_by source sink sizes pages failures s k d =
+    side_by_side (source s) (sink k) (sizes d) (pages d) (failures d)
+
+-- nothing changed but the device, which is the same one
+pub record OnlyDevice (old new : PortsView) : Type 0 where
+  pub source : new.source ≡ old.source
+  pub sink : new.sink ≡ old.sink
+  pub device : IsSameDevice old.device new.device
+
+-- the device has the swap areas with which the kernel was made
+abbrev pub IsAttached : Device → Machine → Type 0
+IsAttached device kernel = device.sizes ≡ sizes_of kernel.sizes
