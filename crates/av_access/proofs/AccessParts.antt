@@ -39,7 +39,7 @@ use Rattle.av_fault.specs.Fault.{stop_of}
 use Rattle.av_access.specs.declared.access.Piece.{Piece}
 use Rattle.av_step.proofs.StepLaws.{same_then}
 use Rattle.av_access.proofs.AccessPages.{touches, touched-one, touched-more}
-use Rattle.av_step.proofs.Loads.{AreOwnLoads, IsApart, loads-shows, loads-stored, own-events, with_loads-append}
+use Rattle.av_access.proofs.AccessLoads.{AreOwnLoads, IsApart, loads-shows, loads-stored, own-events, with_loads-append}
 use Rattle.av_access.proofs.AccessBytes.{reads-more, stored_twice, allowed-stored, lives-stored}
 
 -- ---- the memories after a part of an access

@@ -32,7 +32,7 @@ struct Piece {
 
 /// How an access ended.
 #[derive(Clone, Copy, Drop)]
-struct Ended {
+struct AccessEnd {
     /// What stopped it before its last byte, if anything did.
     stop: Option<Stop>,
     /// How many bytes were served.
@@ -95,7 +95,7 @@ fn read_pieces<D: SwapDev>(
     len: usize,
     shown: &mut Bytes,
     notes: &mut Notes,
-) -> Result<Ended, AllocError>
+) -> Result<AccessEnd, AllocError>
     requires steady { IsSteadyFor (D.sizes dev.old) process mem.old }
     requires fresh { shown.old ≡ [] }
     ensures access { let d = seen_by D.sizes D.pages D.failures in (s : State)
@@ -113,14 +113,14 @@ fn read_pieces<D: SwapDev>(
         if let Some(stop) = read_page(
             mem, dev, process, piece.page, piece.at, piece.len, shown, notes,
         )? {
-            return Ok(Ended {
+            return Ok(AccessEnd {
                 stop: Some(stop),
                 served: done,
             });
         }
         done += piece.len;
     }
-    Ok(Ended {
+    Ok(AccessEnd {
         stop: None,
         served: done,
     })
@@ -134,7 +134,7 @@ fn write_pieces<D: SwapDev>(
     address: u64,
     bytes: &[u8],
     notes: &mut Notes,
-) -> Result<Ended, AllocError>
+) -> Result<AccessEnd, AllocError>
     requires steady { IsSteadyFor (D.sizes dev.old) process mem.old }
     ensures access { let d = seen_by D.sizes D.pages D.failures in (s : State)
         → Keeps (d dev.old) mem.old s → IfOk result (λ ended.
@@ -150,14 +150,14 @@ fn write_pieces<D: SwapDev>(
         let piece = next_piece(address, bytes.len(), done);
         let part = &bytes[done..done + piece.len];
         if let Some(stop) = write_page(mem, dev, process, piece.page, piece.at, part, notes)? {
-            return Ok(Ended {
+            return Ok(AccessEnd {
                 stop: Some(stop),
                 served: done,
             });
         }
         done += piece.len;
     }
-    Ok(Ended {
+    Ok(AccessEnd {
         stop: None,
         served: done,
     })
@@ -180,23 +180,23 @@ fn next_piece(address: u64, len: usize, done: usize) -> Piece
 
 /// The answer of a read that showed these bytes.
 #[inline(always)]
-fn read_answer(ended: Ended, shown: Bytes) -> Answer
-    ensures { result ≡ answer_at ended.stop (answers.Data shown) ended.served shown }
+fn read_answer(end: AccessEnd, shown: Bytes) -> Answer
+    ensures { result ≡ answer_at end.stop (answers.Data shown) end.served shown }
 {
-    match ended.stop {
+    match end.stop {
         None => Answer::Data(shown),
-        Some(stop) => stop_answer(stop, ended.served, shown),
+        Some(stop) => stop_answer(stop, end.served, shown),
     }
 }
 
 /// The answer of a write.
 #[inline(always)]
-fn write_answer(alloc: Global, ended: Ended) -> Answer
-    ensures { result ≡ answer_at ended.stop answers.Done ended.served [] }
+fn write_answer(alloc: Global, end: AccessEnd) -> Answer
+    ensures { result ≡ answer_at end.stop answers.Done end.served [] }
 {
-    match ended.stop {
+    match end.stop {
         None => Answer::Done,
-        Some(stop) => stop_answer(stop, ended.served, Bytes::new(alloc)),
+        Some(stop) => stop_answer(stop, end.served, Bytes::new(alloc)),
     }
 }
 

@@ -4,8 +4,8 @@
 //! copied then, up to the first page that isn't served. Proved for whatever the memory system
 //! stands for: the notes are those of the pages in turn, and the access ends where the definitions
 //! end it, with as many bytes served (`Does`). A read shows the bytes that the process has there,
-//! and a write stores those that were served and no others. After want of memory it is the same
-//! device, there are as many frames, and nothing else is promised.
+//! where the memory claims them, and a write stores those that were served and no others. After
+//! want of memory it is the same device, there are as many frames, and nothing else is promised.
 #![tactic(auto)]
 
 mod access;

@@ -34,8 +34,8 @@ pub record IsNew (n : ℕ) (pages : List ℕ) (k : Machine) : Type 0 where
   pub tally : k.tally ≡ none_counted
   pub spent : k.spent ≡ false
 
--- a command was answered, and counted by its first word: memory was not wanting, neither before nor
--- in it
+-- a command was answered, and counted, by its first word unless that is a report's: memory was not
+-- wanting, neither before nor in it
 pub record Counts (old new : Machine) (reply : Reply) : Type 0 where
   pub frames : new.frames ≡ old.frames
   pub sizes : new.sizes ≡ old.sizes

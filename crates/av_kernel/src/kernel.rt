@@ -106,7 +106,7 @@ impl Kernel {
     }
 
     /// Does one command as `step` does, and makes this its reply, whatever it was. The room of its
-    /// notes, its rows and the bytes that it shows serves again.
+    /// notes, its rows and the bytes that a whole read shows serves again.
     ///
     /// After want of memory nothing is promised of the reply.
     pub fn answer<D: SwapDev>(

@@ -34,8 +34,8 @@ use std::mem::swap;
 /// Replies to a command, whatever the reply held. Memory may be wanting: then it is the same device
 /// and there are as many frames, and nothing else is promised, nor anything of the reply.
 ///
-/// `sizes` says how many pages each attached swap area has. Bytes that the reply showed give their
-/// memory to `spare`, and a read takes that of `spare`.
+/// `sizes` says how many pages each attached swap area has. Bytes that a whole read showed give
+/// their memory to `spare`, and a read takes that of `spare`.
 // Inlined, as `dispatch` and `do_beside` are: one look at the command leads to what does it.
 #[inline(always)]
 pub fn perform<D: SwapDev>(

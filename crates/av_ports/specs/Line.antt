@@ -3,8 +3,8 @@ use Rattle.std.specs.Prelude.{◌≡◌, ◌≢◌, ℕ, ◌+◌, ◌<◌, ◌�
 use Rattle.std.specs.Prelude.{drop, Option, Some, None, Result, Ok, Err, All}
 use Rattle.av_io.specs.Source.{SourceView}
 use Rattle.av_io.specs.Sink.{HasFailed}
-use Rattle.av_ports.specs.declared.line.Found.{Found}
-use Rattle.av_ports.specs.declared.line.Found.TheVariants as founds
+use Rattle.av_ports.specs.declared.line.FoundLine.{FoundLine}
+use Rattle.av_ports.specs.declared.line.FoundLine.TheVariants as founds
 use Rattle.av_ports.specs.declared.line.Line.{Line}
 use Rattle.av_ports.specs.declared.run_err.RunErr.{RunErr}
 use Rattle.av_ports.specs.declared.run_err.RunErr.TheVariants as errors
@@ -39,7 +39,7 @@ pub record HasLine (size : ℕ) (bytes : List ℕ) : Type 0 where
   pub newline : bytes ≡ take size bytes ++ 10 ∷ drop (size + 1) bytes
 
 -- what stands in front of these bytes
-abbrev pub Finds : Found → List ℕ → Type 0
+abbrev pub Finds : FoundLine → List ℕ → Type 0
 Finds (founds.Line size) bytes = HasLine size bytes
 Finds founds.TooLong bytes = IsTooLong bytes
 Finds founds.Part bytes = IsLine bytes

@@ -17,21 +17,21 @@ const TOO_LONG: usize = 8449;
 /// What stands in front of some bytes: a line of so many bytes with its newline, more than a line
 /// may have, or a part of a line.
 #[derive(Clone, Copy, Drop, Debug, PartialEq, Eq)]
-pub enum Found {
+enum FoundLine {
     Line(usize),
     TooLong,
     Part,
 }
 
 /// Looks for the first newline.
-pub fn find_line(bytes: &[u8]) -> Found
+fn find_line(bytes: &[u8]) -> FoundLine
     ensures { Finds result bytes.now }
 {
     let most = bytes.len().min(TOO_LONG);
     match memchr(b'\n', &bytes[..most]) {
-        Some(size) => Found::Line(size),
-        None if most == TOO_LONG => Found::TooLong,
-        None => Found::Part,
+        Some(size) => FoundLine::Line(size),
+        None if most == TOO_LONG => FoundLine::TooLong,
+        None => FoundLine::Part,
     }
 }
 
@@ -87,14 +87,14 @@ pub fn read_line<P: Ports>(ports: &mut P, pending: &mut Pending) -> Result<Optio
 {
     loop {
         match find_line(pending.as_slice()) {
-            Found::Line(size) => {
+            FoundLine::Line(size) => {
                 return Ok(Some(Line {
                     size,
                     whole: size + 1,
                 }));
             }
-            Found::TooLong => return Err(RunErr::BadLine),
-            Found::Part => {}
+            FoundLine::TooLong => return Err(RunErr::BadLine),
+            FoundLine::Part => {}
         }
         if read_on(ports, pending)? == 0 {
             return Ok(last_line(pending.as_slice().len()));

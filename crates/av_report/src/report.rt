@@ -276,6 +276,8 @@ fn keys_of(
     keys_by::<Brand>(mem, alloc, frame, blank)
 }
 
+/// The same, by a ledger of these steps. A walk asks for steps to count in, so that its cost can be
+/// promised; nobody reads those of a report.
 fn keys_by<L: Ledger>(
     mem: &Mem,
     alloc: Global,
