@@ -59,7 +59,7 @@ CARRIERS = {
     "av_kernel": "Kernel",
     "av_words": "read_words",
     "av_ports": "Ports Pending read_on read_line write_all",
-    "av_replay": "run good_traces_are_done",
+    "av_replay": "run good_traces_are_done done_runs_write_their_transcript",
     "avsim": "text_for exit_number Failure",
     "av_sample": "ask",
 }

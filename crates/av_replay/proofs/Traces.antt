@@ -1,7 +1,8 @@
--- A trace of good lines is done, or memory runs out.
+-- A trace of good lines is done, or memory runs out; and what is done writes its transcript.
 use Rattle.std.proofs.Common.{eqb, ◌≡◌, ◌≢◌, ℕ, ◌<◌, ◌≤◌, List, [], ◌∷◌, ◌++◌, length, take, drop, Option, Some, None, length-take-le, refl, sym, ap, subst, ◌∙◌, append_assoc, append-nil, arith, inl, inr, length-append}
-use Rattle.std.specs.Prelude.{All, unwrap_or}
+use Rattle.std.specs.Prelude.{All, unwrap_or, option_map, IfSome}
 use Rattle.std.specs.List.{AllByRecursion}
+use Rattle.std.specs.Option.{option_to_list}
 use Rattle.std.proofs.lemmas.Bool.{cond-true, cond-false, ne_eqb, cases_eq, eq-eqb}
 use Rattle.std.proofs.lemmas.Option.{same_Some}
 use Rattle.std.proofs.lemmas.List.{take-append-drop}
@@ -12,9 +13,9 @@ use Rattle.av_replay.specs.declared.status.Status.TheVariants as statuses
 use Rattle.av_io.specs.Source.{SourceView, Took, HasEnded}
 use Rattle.av_ports.specs.Line.{IsLine, IsNoNewline, HasNoNewline}
 use Rattle.av_replay.specs.Turn.{IsBad}
-use Rattle.av_ports.specs.Ports.{PortsView}
-use Rattle.av_replay.specs.Replay.{most_lines, all_lines, Headline}
-use Rattle.av_replay.specs.Trace.{onto_first, lines_of, IsGood, IsComplete}
+use Rattle.av_ports.specs.Ports.{PortsView, IsAtEnd}
+use Rattle.av_replay.specs.Replay.{most_lines, all_lines, done_lines, Transcribes, Replays, Run, Headline}
+use Rattle.av_replay.specs.Trace.{onto_first, lines_of, IsGood, IsComplete, WritesTranscript}
 
 lines_of-other : (b : ℕ) (bytes : List ℕ) → b ≢ 10 → lines_of (b ∷ bytes) ≡ onto_first b (lines_of bytes)
 lines_of-other b bytes ne = cond-false _ _ _ (ne_eqb b 10 ne)
@@ -156,3 +157,38 @@ complete n statuses.TooMany old new kernel h content e trace no_read no_write =
     let stops = h.ends.0 in
     absurd (not_many h.run.lines h.rest content new.source.left h.replays.lines
     (read_is old.source.left new.source.left content (all_lines h.run.lines) h.rest h.run.last e stops.0 h.replays.read) trace.few stops.1 stops.2)
+
+-- a last line that had no newline, where there is one
+lines_of-end : (last : Option (List ℕ)) (rest : List ℕ) (source : SourceView)
+    → IfSome last (λ line. IsLine line × (0 < length line) × (rest ≡ []) × IsAtEnd source)
+    → lines_of (unwrap_or last []) ≡ option_to_list last
+lines_of-end None rest source last = refl
+lines_of-end (Some line) rest source last = lines_of-last line last.0.one last.1
+
+-- where nothing is left, the lines that were done are those of all that the source told
+all_done : (frames : ℕ) (old new : PortsView) (run : Run) (rest written content : List ℕ) → Replays frames old new run rest written →
+    rest ≡ [] → IsAtEnd new.source → old.source.left ≡ Some content → lines_of content ≡ done_lines run
+all_done frames old new run rest written content r none end e =
+    let taken = all_lines run.lines ++ (unwrap_or run.last [] ++ rest) in
+    let t = told content taken new.source.left (subst (λ (l : Option (List ℕ)). Took l new.source.left taken) e r.read) in
+    let nil = ended_is_nil new.source.left t.more t.left_is end.ended in
+    let same : (unwrap_or run.last [] ++ rest) ++ t.more ≡ unwrap_or run.last [] =
+    ap (λ (m : List ℕ). (unwrap_or run.last [] ++ rest) ++ m) nil ∙ append-nil (unwrap_or run.last [] ++ rest)
+    ∙ ap (λ (m : List ℕ). unwrap_or run.last [] ++ m) none ∙ append-nil (unwrap_or run.last []) in
+    split run.lines (unwrap_or run.last [] ++ rest) content t.more r.lines t.parts
+    ∙ ap (λ (bytes : List ℕ). run.lines ++ lines_of bytes) same
+    ∙ ap (λ (ls : List (List ℕ)). run.lines ++ ls) (lines_of-end run.last rest new.source r.last)
+
+pub writes_transcript : (n : ℕ) (old new : PortsView) (kernel : Option Machine) (content before : List ℕ) → Headline n statuses.Done old new kernel
+    → old.source.left ≡ Some content → old.sink.held ≡ Some before → WritesTranscript n old.device content before new.sink.held
+writes_transcript n old new kernel content before h left held =
+    let ends = h.ends in
+    let lines = all_done n old new h.run h.rest h.written content h.replays ends.0.0 ends.0.1 left in
+    record {
+      transcript = h.run.transcript;
+      state = h.run.state;
+      commands = subst (λ (ls : List (List ℕ)). Transcribes ls h.run.transcript) (sym lines) h.replays.commands;
+      legal = h.replays.legal;
+      wrote = h.replays.wrote ∙ ap (option_map (λ (text : List ℕ). text ++ h.written)) held
+          ∙ ap (λ (text : List ℕ). Some (before ++ text)) ends.1;
+    }

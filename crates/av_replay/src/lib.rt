@@ -7,9 +7,11 @@
 //! Unless memory was wanting, as many swap areas as the words name are attached before all else, as
 //! the areas from 0 on, or the device failed. Only as many failures show as the device had then.
 //! The kernel handed back stands, with the device as it is in the end, for what the transcript
-//! leaves. Of a load: its lines are those of the seed, their transcript is legal, the summary
-//! counts it and the kernel handed back, and nothing is read. That memory suffices is only tested.
-//! No clause says which name becomes which area.
+//! leaves. Of a run that is done over a source and a sink that tell what they have, the sink gained
+//! the text of a legal run of the trace's lines, and nothing else
+//! (`done_runs_write_their_transcript`). Of a load: its lines are those of the seed, their
+//! transcript is legal, the summary counts it and the kernel handed back, and nothing is read. That
+//! memory suffices is only tested. No clause says which name becomes which area.
 #![tactic(auto)]
 
 mod attach;
@@ -28,7 +30,7 @@ mod turn;
 mod work;
 mod work_over;
 
-pub use laws::good_traces_are_done;
+pub use laws::{done_runs_write_their_transcript, good_traces_are_done};
 pub use outcome::Outcome;
 pub use progress::{NoProgress, Progress};
 pub use status::Status;
