@@ -10,7 +10,7 @@ use Rattle.av_io.specs.Count.{one_more}
 use Rattle.av_io.specs.Sink.{SinkView, HandsOn}
 use Rattle.av_ports.specs.Ports.{PortsView, AreFlushed, AreUnfailed, after_calls}
 use Rattle.av_ports.specs.Line.{FailsBy, IsUnread}
-use Rattle.av_replay.specs.Turn.{Finished}
+use Rattle.av_replay.specs.Turn.{Finishes}
 use Rattle.av_replay.specs.Replay.{FailsOnlyAt, IsHandedOn, status_at, can_go_on, kernel_at}
 use Rattle.av_ports.proofs.Times.{unfailed_then, failed_since}
 
@@ -32,14 +32,14 @@ module _ (old new : PortsView) where
 
   -- it could not be found out whether more lines come
   pub unread_at : (error : RunErr) (number : ℕ) (ahead : List ℕ) → ahead ≡ [] → IsUnread error old new
-      → Finished (status_at error number) ahead old new
+      → Finishes (status_at error number) ahead old new
   unread_at errors.Read number ahead none unread = (none, unread)
   unread_at errors.Write number ahead none unread = (none, unread.0, unread.1)
   unread_at errors.BadLine number ahead none unread = absurd unread
   unread_at errors.Memory number ahead none unread = absurd unread
 
-  pub finished_memory : (status : Status) (ahead : List ℕ) → Finished status ahead old new → status ≡ statuses.Memory → AreUnfailed old new
-  finished_memory status ahead finished e = absurd (subst (λ (s : Status). Finished s ahead old new) e finished)
+  pub finished_memory : (status : Status) (ahead : List ℕ) → Finishes status ahead old new → status ≡ statuses.Memory → AreUnfailed old new
+  finished_memory status ahead finished e = absurd (subst (λ (s : Status). Finishes s ahead old new) e finished)
 
 pub read_at : (error : RunErr) (number : ℕ) → status_at error number ≡ statuses.ReadFault → error ≡ errors.Read
 read_at errors.BadLine number e = absurd cc

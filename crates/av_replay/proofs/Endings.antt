@@ -15,8 +15,8 @@ use Rattle.av_ports.specs.declared.run_err.RunErr.{RunErr}
 use Rattle.av_ports.specs.declared.run_err.RunErr.TheVariants as errors
 use Rattle.av_ports.specs.Ports.{PortsView, OnlySink, undone, AreFlushed, AreUnfailed, ReadsOn, IsAtEnd, IsReadFault}
 use Rattle.av_ports.specs.Line.{IsLine}
-use Rattle.av_replay.specs.Turn.{Begins, Commands, IsEnding, TakesLine, Waits, CutsShort, IsUnflushed, Halts, DoesNext, FindsEnd, Finished}
-use Rattle.av_replay.specs.Replay.{most_lines, all_lines, Transcribes, Run, done_lines, Replays, IsHandedBack, StopsAt, MayGoOn, IsCutOff, Ends, status_at, Headline, can_go_on, kernel_at, FailsOnlyAt, FailsUntold, IsFlushed, Replayed, FlushesLast}
+use Rattle.av_replay.specs.Turn.{Begins, Commands, IsEnding, TakesLine, Waits, CutsShort, IsUnflushed, Halts, DoesNext, FindsEnd, Finishes}
+use Rattle.av_replay.specs.Replay.{most_lines, all_lines, Transcribes, Run, done_lines, Replays, IsHandedBack, StopsAt, MayGoOn, IsCutOff, Ends, status_at, Headline, can_go_on, kernel_at, FailsOnlyAt, FailsUntold, IsFlushed, DoesTrace, FlushesLast}
 use Rattle.av_ports.proofs.Bytes.{Took-none, Took-ahead, Gained-none}
 use Rattle.av_ports.proofs.Times.{failed_since, read_fault_since, flushed_none, only_sink}
 use Rattle.av_step.proofs.StepLaws.{same_itself, same_then}
@@ -309,7 +309,7 @@ module _ (n : ℕ) (past : Past) (ahead rest : List ℕ) (old now new : PortsVie
   waits : Waits ahead rest now new k k
   waits = record { reads = reads; kernel = refl }
 
-  pub finishes : (status : Status) → Finished status rest now new → Headline n status old new (kernel_at status k)
+  pub finishes : (status : Status) → Finishes status rest now new → Headline n status old new (kernel_at status k)
   finishes statuses.TooMany some =
       headline n statuses.TooMany rest old new k _ _ (stops n past ahead rest old now new k k so_far (omega arith) waits) ((refl, count, some), refl)
   finishes statuses.Done f =
@@ -327,7 +327,7 @@ module _ (n : ℕ) (past : Past) (ahead rest : List ℕ) (old now new : PortsVie
 -- ---- the whole run
 
 -- memory ran out before anything was read
-pub nothing_done : (n : ℕ) (ports : PortsView) → Replayed n statuses.Memory ports ports None
+pub nothing_done : (n : ℕ) (ports : PortsView) → DoesTrace n statuses.Memory ports ports None
 nothing_done n ports = record {
   headline = record {
     run = record { lines = []; last = None; transcript = []; state = at_first (setting_of n ports.device) };
@@ -352,9 +352,9 @@ nothing_done n ports = record {
   flushed = inl (refl, flushed_none ports ports refl refl);
 }
 
-pub same_frames : (m n : ℕ) (status : Status) (old new : PortsView) (kernel : Option Machine) → m ≡ n → Replayed m status old new kernel →
-    Replayed n status old new kernel
-same_frames m n status old new kernel e r = subst (λ (k : ℕ). Replayed k status old new kernel) e r
+pub same_frames : (m n : ℕ) (status : Status) (old new : PortsView) (kernel : Option Machine) → m ≡ n → DoesTrace m status old new kernel →
+    DoesTrace n status old new kernel
+same_frames m n status old new kernel e r = subst (λ (k : ℕ). DoesTrace k status old new kernel) e r
 
 -- a trace that was begun is no usage error, nor was an area not attached
 pub no_attach_fault : (n : ℕ) (status : Status) (old new : PortsView) (kernel : Option Machine) → Headline n status old new kernel →
@@ -412,7 +412,7 @@ module _ (n : ℕ) (old now : PortsView) (kernel : Machine) (sink : SinkView) wh
     -- it failed
     unflushed : (status : Status) (run : Run) (rest written : List ℕ) → Replays n old now run rest written → IsHandedBack kernel now.device n run →
         StopsAt status new run rest → written ≡ text_of_run run.transcript → KeepsBack now.sink sink
-        → Replayed n statuses.WriteFault old new (Some kernel)
+        → DoesTrace n statuses.WriteFault old new (Some kernel)
     unflushed status run rest written replays left stops whole keeps =
         let untold = fails_untold keeps in
         record {
@@ -431,11 +431,11 @@ module _ (n : ℕ) (old now : PortsView) (kernel : Machine) (sink : SinkView) wh
     -- it was served, after which a run ends as it did before
     served : (status : Status) → HandsOn now.sink sink → (h : Headline n status old now (kernel_at status kernel)) →
         Ends status old new h.run h.rest h.written → FailsOnlyAt status old new → IsFlushed status old new →
-        Replayed n status old new (kernel_at status kernel)
+        DoesTrace n status old new (kernel_at status kernel)
     served status hands_on h ends fails so = record { headline = ends_so status h hands_on.held ends; unfailed = fails; flushed = so }
 
     at_memory : (h : Headline n statuses.Memory old now None) → HandsOn now.sink sink ⊎ KeepsBack now.sink sink →
-        Replayed n statuses.Memory old new None
+        DoesTrace n statuses.Memory old new None
     at_memory h (inl hands_on) =
         served statuses.Memory hands_on h h.ends (was.source, inl (hands_on.unfailed ∙ was.sink))
         (inr (inl (handed_on old now sink flushed hands_on)))
@@ -446,17 +446,17 @@ module _ (n : ℕ) (old now : PortsView) (kernel : Machine) (sink : SinkView) wh
     }
 
   -- no flush came
-  same_sink : (status : Status) → sink ≡ now.sink → Replayed n status old now (kernel_at status kernel)
-      → Replayed n status old new (kernel_at status kernel)
-  same_sink status e r = subst (λ (s : SinkView). Replayed n status old (record now { sink = s }) (kernel_at status kernel)) (sym e) r
+  same_sink : (status : Status) → sink ≡ now.sink → DoesTrace n status old now (kernel_at status kernel)
+      → DoesTrace n status old new (kernel_at status kernel)
+  same_sink status e r = subst (λ (s : SinkView). DoesTrace n status old (record now { sink = s }) (kernel_at status kernel)) (sym e) r
 
-  named : (status last : Status) → last ≡ status → Replayed n status old new (kernel_at status kernel)
-      → Replayed n last old new (kernel_at last kernel)
-  named status last e r = subst (λ (s : Status). Replayed n s old new (kernel_at s kernel)) (sym e) r
+  named : (status last : Status) → last ≡ status → DoesTrace n status old new (kernel_at status kernel)
+      → DoesTrace n last old new (kernel_at last kernel)
+  named status last e r = subst (λ (s : Status). DoesTrace n s old new (kernel_at s kernel)) (sym e) r
 
   replayed : (status last : Status) → FlushesLast status last now.sink sink → Headline n status old now (kernel_at status kernel) →
       FailsOnlyAt status old now → (status ≡ statuses.Memory → AreUnfailed old now) → AreFlushed 0 old now →
-      (status ≡ statuses.ReadFault → now.sink.kept_back ≡ []) → Replayed n last old new (kernel_at last kernel)
+      (status ≡ statuses.ReadFault → now.sink.kept_back ≡ []) → DoesTrace n last old new (kernel_at last kernel)
   replayed statuses.Done last (inl f) h was memory so none =
       named statuses.Done last f.0 (served was so statuses.Done f.1 h h.ends (unfailed was so f.1) (handed_on old now sink so f.1))
   replayed statuses.Done last (inr f) h was memory so none =
@@ -483,7 +483,7 @@ module _ (n : ℕ) (old now : PortsView) (kernel : Machine) (sink : SinkView) wh
 pub replays_last : (n : ℕ) (old now new : PortsView) (kernel : Machine) (status last : Status) → OnlySink now new →
     FlushesLast status last now.sink new.sink → Headline n status old now (kernel_at status kernel) → FailsOnlyAt status old now →
     (status ≡ statuses.Memory → AreUnfailed old now) → AreFlushed 0 old now → (status ≡ statuses.ReadFault → now.sink.kept_back ≡ []) →
-    Replayed n last old new (kernel_at last kernel)
+    DoesTrace n last old new (kernel_at last kernel)
 replays_last n old now new kernel status last only f h was memory so none =
-    subst (λ (p : PortsView). Replayed n last old p (kernel_at last kernel)) (sym (only_sink now new only))
+    subst (λ (p : PortsView). DoesTrace n last old p (kernel_at last kernel)) (sym (only_sink now new only))
     (replayed n old now kernel new.sink status last f h was memory so none)

@@ -9,9 +9,9 @@ use Rattle.av_words.specs.declared.words.Asked.{Asked}
 use Rattle.av_words.specs.declared.words.Asked.TheVariants as asked
 use Rattle.av_replay.specs.Attach.{Attaches}
 use Rattle.av_ports.specs.Ports.{PortsView}
-use Rattle.av_replay.specs.Replay.{Replayed}
+use Rattle.av_replay.specs.Replay.{DoesTrace}
 use Rattle.av_replay.specs.Work.{load_lines}
-use Rattle.av_replay.specs.Summary.{Worked}
+use Rattle.av_replay.specs.Summary.{DoesLoad}
 
 -- What a run says whose words name so many swap areas: they were attached, all of them unless
 -- memory was wanting for it, and then it did this over the device as it was then.
@@ -28,14 +28,14 @@ pub record RunsOverAreas (count : ℕ) (status : Status) (old : Device) (Does : 
 abbrev pub ReplaysOver :
     ℕ → ℕ → Status → PortsView → PortsView → Option Machine → Type 0
 ReplaysOver frames count status old new kernel = RunsOverAreas count status old.device
-    (λ attached. Replayed frames status (record old { device = attached }) new kernel)
+    (λ attached. DoesTrace frames status (record old { device = attached }) new kernel)
 
 -- it did a load of so many lines from a seed on, and read nothing
 abbrev pub WorksOver :
     ℕ → ℕ → ℕ → ℕ → Status → SinkView → SinkView → Device → Device → Option Machine → Type 0
 WorksOver seed lines frames count status old new device device' kernel =
     RunsOverAreas count status device (λ attached.
-    Worked frames (load_lines count seed lines) status old new attached device' kernel)
+    DoesLoad frames (load_lines count seed lines) status old new attached device' kernel)
 
 -- it did what the words ask for
 abbrev pub DoesOver :

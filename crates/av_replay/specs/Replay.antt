@@ -209,7 +209,7 @@ IsFlushed status old new = IsHandedOn 1 old new
 
 -- What a run says of a trace that was begun. (That no call of the sink came after one that failed
 -- is said in the headline, where the status is that of a failed write.)
-pub record Replayed (frames : ℕ) (status : Status) (old new : PortsView) (kernel : Option Machine)
+pub record DoesTrace (frames : ℕ) (status : Status) (old new : PortsView) (kernel : Option Machine)
     : Type 0 where
   pub headline : Headline frames status old new kernel
   pub unfailed : FailsOnlyAt status old new

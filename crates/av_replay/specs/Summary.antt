@@ -97,7 +97,7 @@ EndsWork status old new others text =
 
 -- What a run says of a load of these lines that was begun: which were done, what was written, and
 -- what the kernel handed back stands for, whose counts those of the summary are.
-pub record Worked (frames : ℕ) (lines : List (List ℕ)) (status : Status) (old new : SinkView)
+pub record DoesLoad (frames : ℕ) (lines : List (List ℕ)) (status : Status) (old new : SinkView)
     (device device' : Device) (kernel : Option Machine) : Type 0 where
   pub run : Run
   pub others : List (List ℕ)

@@ -37,7 +37,7 @@ tally_of [] tally = tally
 tally_of (e ∷ es) tally = tally_of es (tally_with e.reply.answer tally)
 
 -- the kernel counted these replies, and is no more spent than it was
-pub record Counted (old new : Machine) (es : List Exchange) : Type 0 where
+pub record CountsReplies (old new : Machine) (es : List Exchange) : Type 0 where
   pub steps : new.steps ≡ old.steps + length es
   pub tally : new.tally ≡ tally_of es old.tally
   pub frames : new.frames ≡ old.frames
@@ -53,7 +53,7 @@ pub record Answers (line : List ℕ) (device device' : Device) (s : State) (old 
   pub run : IsRun (setting_of old.frames device) s (option_to_list did) next
   pub said : text ≡ text_of_run (option_to_list did)
   pub stands : Stands new device' next
-  pub counts : Counted old new (option_to_list did)
+  pub counts : CountsReplies old new (option_to_list did)
   pub failures : RoseBy (causes_of (option_to_list did)) device.failures device'.failures
 
 -- the kernel does a line, and this is the text of the reply
@@ -181,19 +181,19 @@ pub record FindsEnd (ahead ahead' : List ℕ) (old new : PortsView) (k k' : Mach
   pub end : IsAtEnd new.source
 
 -- what a turn did, and whether the input goes on
-abbrev pub Turned :
+abbrev pub TakesTurn :
     Result Bool RunErr → List ℕ → List ℕ → PortsView → PortsView → Machine → Machine → Type 0
-Turned (Ok true) ahead ahead' old new k k' =
+TakesTurn (Ok true) ahead ahead' old new k k' =
     DoesNext ahead ahead' old new k k' (10 ∷ []) × StaysOpen old.source new.source
-Turned (Ok false) ahead ahead' old new k k' =
+TakesTurn (Ok false) ahead ahead' old new k k' =
     FindsEnd ahead ahead' old new k k' ⊎ DoesNext ahead ahead' old new k k' []
-Turned (Err error) ahead ahead' old new k k' = Halts error ahead ahead' old new k k'
+TakesTurn (Err error) ahead ahead' old new k k' = Halts error ahead ahead' old new k k'
 
 -- after the last line that may be done: whether a byte of one more came
-abbrev pub Finished : Status → List ℕ → PortsView → PortsView → Type 0
-Finished statuses.TooMany ahead' old new = 0 < length ahead'
-Finished statuses.Done ahead' old new = (ahead' ≡ []) × IsAtEnd new.source
-Finished statuses.ReadFault ahead' old new = (ahead' ≡ []) × IsReadFault old.source new.source
-Finished statuses.WriteFault ahead' old new =
+abbrev pub Finishes : Status → List ℕ → PortsView → PortsView → Type 0
+Finishes statuses.TooMany ahead' old new = 0 < length ahead'
+Finishes statuses.Done ahead' old new = (ahead' ≡ []) × IsAtEnd new.source
+Finishes statuses.ReadFault ahead' old new = (ahead' ≡ []) × IsReadFault old.source new.source
+Finishes statuses.WriteFault ahead' old new =
     (ahead' ≡ []) × (new.sink.held ≡ None) × HasFailed old.sink new.sink
-Finished status ahead' old new = ⊥
+Finishes status ahead' old new = ⊥

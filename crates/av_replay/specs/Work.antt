@@ -16,8 +16,8 @@ abbrev pub after_draw : ℕ → ℕ
 after_draw x = (x * 6364136223846793005 + 1442695040888963407) % 2 ^ 64
 
 -- and gives this of the number that it made
-abbrev pub drawn : ℕ → ℕ
-drawn x = x / 2 ^ 33
+abbrev pub upper_bits : ℕ → ℕ
+upper_bits x = x / 2 ^ 33
 
 -- the number after the four draws of a line
 abbrev pub after_line : ℕ → ℕ
@@ -26,10 +26,10 @@ after_line x = after_draw (after_draw (after_draw (after_draw x)))
 -- what the four draws of a line give: its kind, a process, a page and a value
 abbrev pub draws_of : ℕ → Draws
 draws_of x = record {
-  kind = drawn (after_draw x) % 16;
-  process = 1 + drawn (after_draw (after_draw x)) % 8;
-  page = drawn (after_draw (after_draw (after_draw x))) % 16;
-  value = drawn (after_line x) % 256;
+  kind = upper_bits (after_draw x) % 16;
+  process = 1 + upper_bits (after_draw (after_draw x)) % 8;
+  page = upper_bits (after_draw (after_draw (after_draw x))) % 16;
+  value = upper_bits (after_line x) % 256;
 }
 
 -- ---- lines

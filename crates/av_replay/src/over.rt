@@ -7,7 +7,7 @@ ghost use Rattle.av_step.specs.Step.{seen_by, sizes_of};
 ghost use Rattle.av_replay.specs.Attach.{AttachesFewer, HasNone};
 ghost use Rattle.av_replay.specs.Over.{ReplaysOver};
 ghost use Rattle.av_replay.specs.KernelPorts.{ports_by};
-ghost use Rattle.av_replay.specs.Replay.{IsAtStart, Replayed, can_go_on, kernel_at};
+ghost use Rattle.av_replay.specs.Replay.{IsAtStart, DoesTrace, can_go_on, kernel_at};
 
 use crate::attach::attach_all;
 use crate::kernel_ports::LentPorts;
@@ -29,7 +29,7 @@ fn replay_over<S: Source, K: Sink, D: SwapDev>(
 ) -> Status
     requires { IsAtStart kernel.old (seen_by D.sizes D.pages D.failures dev.old) }
     ensures { let at = ports_by S.view K.view D.sizes D.pages D.failures in
-        Replayed kernel.old.frames result (at source.old sink.old dev.old)
+        DoesTrace kernel.old.frames result (at source.old sink.old dev.old)
         (at source.new sink.new dev.new) (kernel_at result kernel.new) }
 {
     let mut ports = LentPorts { source, sink, dev };
@@ -49,7 +49,7 @@ fn run_trace<S: Source, K: Sink, D: SwapDev>(
     requires few { length pages.now ≤ most_areas }
     requires attached { D.sizes dev.old ≡ sizes_of pages.now }
     ensures replayed { let at = ports_by S.view K.view D.sizes D.pages D.failures in
-        Replayed frames result.status (at source.old sink.old dev.old)
+        DoesTrace frames result.status (at source.old sink.old dev.old)
         (at source.new sink.new dev.new) result.kernel }
     ensures kernel { is_some result.kernel ≡ can_go_on result.status }
 {

@@ -2,13 +2,13 @@
 
 ghost use Rattle.std.specs.Prelude.{◌≡◌, []};
 ghost use Rattle.av_ports.specs.Ports.{AreFlushed, AreUnfailed, OnlySink, ReadsOn};
-ghost use Rattle.av_replay.specs.Turn.{Finished};
+ghost use Rattle.av_replay.specs.Turn.{Finishes};
 ghost use Rattle.av_replay.specs.Replay.{
   FailsOnlyAt,
   FlushesLast,
   Headline,
   IsAtStart,
-  Replayed,
+  DoesTrace,
   kernel_at,
   status_at,
 };
@@ -38,7 +38,7 @@ fn status_of(error: RunErr, number: u32) -> Status
 /// After as many lines as may be: whether a byte of one more comes.
 fn finish<P: Ports>(ports: &mut P, pending: &mut Pending) -> Status
     ensures reads { ReadsOn pending.old pending.new (P.view ports.old) (P.view ports.new) }
-    ensures finished { Finished result pending.new (P.view ports.old) (P.view ports.new) }
+    ensures finished { Finishes result pending.new (P.view ports.old) (P.view ports.new) }
     ensures unfailed { FailsOnlyAt result (P.view ports.old) (P.view ports.new) }
     ensures flushed { AreFlushed 0 (P.view ports.old) (P.view ports.new) }
     ensures none_kept { result ≡ Status.ReadFault → (P.view ports.new).sink.kept_back ≡ [] }
@@ -107,7 +107,7 @@ pub fn flush_last<P: Ports>(status: Status, ports: &mut P) -> Status
 /// Does all lines of the source, and flushes the sink in the end.
 pub fn replay<P: KernelPorts>(alloc: Global, kernel: &mut Kernel, ports: &mut P) -> Status
     requires { IsAtStart kernel.old (P.view ports.old).device }
-    ensures replayed { Replayed kernel.old.frames result (P.view ports.old) (P.view ports.new)
+    ensures replayed { DoesTrace kernel.old.frames result (P.view ports.old) (P.view ports.new)
         (kernel_at result kernel.new) }
     ensures kept { P.kept ports.new ≡ P.kept ports.old }
 {

@@ -21,7 +21,7 @@ use av_words::{Asked, WordsErr, read_words};
 use std::alloc::Global;
 
 /// How a run ends whose words could not be read.
-fn unread(error: WordsErr) -> Outcome
+fn refuse_words(error: WordsErr) -> Outcome
     ensures { result ≡ record { status = status_of error; kernel = None } }
 {
     let status = match error {
@@ -90,7 +90,7 @@ pub fn run<S: Source, K: Sink, D: SwapDev, P: Progress>(
 {
     let (asked, names) = match read_words(alloc, words) {
         Ok(read) => read,
-        Err(error) => return unread(error),
+        Err(error) => return refuse_words(error),
     };
     match asked {
         Asked::Run { frames } => run_over(alloc, frames, &names, source, sink, dev),

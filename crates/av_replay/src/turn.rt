@@ -6,7 +6,7 @@ ghost use Rattle.av_ports.specs.Ports.{AreFlushed, Writes};
 ghost use Rattle.av_replay.specs.KernelPorts.{IsAttached, OnlyDevice};
 ghost use Rattle.av_replay.specs.Turn.{LeavesSource};
 ghost use Rattle.av_ports.specs.Line.{FailsOnly};
-ghost use Rattle.av_replay.specs.Turn.{DoesLine, IsNotDone, IsNotAnswered, Turned};
+ghost use Rattle.av_replay.specs.Turn.{DoesLine, IsNotDone, IsNotAnswered, TakesTurn};
 
 use crate::kernel_ports::KernelPorts;
 use av_io::SinkErr;
@@ -30,6 +30,7 @@ pub struct Scratch {
 }
 
 impl Scratch {
+    /// Nothing yet.
     pub fn new(alloc: Global) -> Self {
         Scratch {
             reply: Reply::new(alloc),
@@ -122,7 +123,7 @@ pub fn next_line<P: KernelPorts>(
 ) -> Result<bool, RunErr>
     requires few { kernel.old.steps < most_commands }
     requires attached { IsAttached (P.view ports.old).device kernel.old }
-    ensures turned { Turned result pending.old pending.new
+    ensures turned { TakesTurn result pending.old pending.new
         (P.view ports.old) (P.view ports.new)
         kernel.old kernel.new }
     ensures unfailed { FailsOnly result (P.view ports.old) (P.view ports.new) }
