@@ -6,7 +6,7 @@
 --   which writes end, and in which order (`CompletesFirst`): first_completed, both_completed,
 --     second_too, second_left_in_flight
 --   what is dropped behind a write that ended (`end_notes`): failed_stays
---   how a clean frame leaves (`leave_notes`): clean_reclaimed
+--   how a cached frame leaves (`leave_notes`): clean_reclaimed, stale_frame_is_written
 --   the slots of an area that is turned off, in order (`Empties`, `map_notes`): two_emptied
 --   where a `swapoff` ends (`EndsAt`): left_named, cached_unread, later_unread
 --   why it ends there (`end_at`, `close_answer`): unread_behind_pass, starved_behind_pass,

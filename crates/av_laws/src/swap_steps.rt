@@ -9,12 +9,13 @@ ghost use Rattle.av_trace.specs.declared.command.Command.TheVariants.{
   Swapoff,
   Swapon,
 };
-ghost use Rattle.av_trace.specs.declared.note.Cause.TheVariants.{Referenced};
+ghost use Rattle.av_trace.specs.declared.note.Cause.TheVariants.{Referenced, WriteStarted};
 ghost use Rattle.av_trace.specs.declared.note.Note.TheVariants.{
   Aged,
   Dropped,
   Failed,
   Kept,
+  Started,
   Unmapped,
   Written,
 };
@@ -30,6 +31,7 @@ ghost use Rattle.av_trace.specs.declared.reply.Errno.TheVariants.{Einval, Eio};
 ghost use Rattle.av_plain.specs.Event.{TurnedOn, after_notes};
 ghost use Rattle.av_plain.specs.Fault.{Touches};
 ghost use Rattle.av_plain.specs.Ledger.{InFrame, first_ledger, is_full};
+ghost use Rattle.av_plain.specs.Reclaim.{leave_notes};
 ghost use Rattle.av_plain.specs.Step.{IsLegal, closing_swap_area};
 ghost use Rattle.av_plain.specs.Swapoff.{Closed, NoRoom, Unread, close_answer, sparing_area};
 ghost use Rattle.av_laws.specs.Examples.{
@@ -79,7 +81,7 @@ ghost use Rattle.av_laws.specs.SwapSteps.{
 /// Frames are reclaimed and aged from the tail, each by what those before it left. One whose write
 /// is in flight is kept for that, though it was read since; one with two entries is referenced by
 /// the second alone. One that is referenced and has no slot to go to is kept as referenced. A clean
-/// frame is unmapped and dropped.
+/// frame is unmapped and dropped, a stale one is unmapped and its write begins.
 pub fn frames_are_reclaimed_from_the_tail()
     ensures four_reclaimed { MayCome (with_swap 4 3 2) [] four_inactive (Reclaim 4)
         (reply_with Done four_reclaimed) }
@@ -91,6 +93,10 @@ pub fn frames_are_reclaimed_from_the_tail()
         (both_cached false (InFrame 0 false) [] (1 ∷ 0 ∷ []))
         (Reclaim 1)
         (reply_with Done (Unmapped 0 ∷ Dropped (slot 1) ∷ [])) }
+    ensures stale_frame_is_written { leave_notes
+        (both_cached true (InFrame 0 false) [] (1 ∷ 0 ∷ []))
+        0 (slot 1)
+        ≡ Unmapped 0 ∷ Started (slot 1) ∷ Kept 0 WriteStarted ∷ [] }
     ensures two_aged { MayCome (with_swap 4 3 2) [] three_active (Age 2)
         (reply_with Done (Aged 0 ∷ Aged 1 ∷ [])) }
 {}
