@@ -1,6 +1,7 @@
 -- Worked examples with several of a kind that differ: frames in lists, swap areas, pages of a
 -- device. Which example would fail if a definition were wrong:
---   where a frame goes in its list (`to_active`, `after_note`): to_active_head, started_to_head
+--   where a frame goes in its list (`to_active`, `after_note`): to_active_head, started_to_head,
+--     new_to_head, stuck_to_active_head
 --   what counts over all areas (`is_full`, `totals`): not_full, full, all_slots, all_free_slots
 --   which page of the device it is (`HoldsTold`, `IsClean`): page_at_next_slot, clean_at_next_slot
 --   which area of the device it is (`HoldsTold`, `IsClean`, `headers_of`, `first_pages`):

@@ -61,7 +61,7 @@ pub use read_back::{
 };
 pub use refusals::refusals_change_nothing;
 pub use several::{
-    all_areas_count, areas_have_pages_of_their_own, kept_frames_go_to_the_head,
+    all_areas_count, areas_have_pages_of_their_own, frames_go_to_the_head,
     page_0_of_a_device_stays, pages_are_at_their_own_slots,
 };
 pub use slots::{

@@ -2,14 +2,15 @@
 //! device.
 
 ghost use Rattle.std.specs.Prelude.{◌≡◌, [], ◌∷◌, true, false, Some};
-ghost use Rattle.av_trace.specs.declared.note.Note.TheVariants.{Kept};
-ghost use Rattle.av_trace.specs.declared.note.Cause.TheVariants.{Referenced, WriteStarted};
+ghost use Rattle.av_trace.specs.declared.note.Note.TheVariants.{Kept, New};
+ghost use Rattle.av_trace.specs.declared.note.Cause.TheVariants.{NoSlot, Referenced, WriteStarted};
 ghost use Rattle.av_plain.specs.Device.{IsSameDevice, headers_of};
 ghost use Rattle.av_plain.specs.Event.{after_note};
-ghost use Rattle.av_plain.specs.Ledger.{is_full};
+ghost use Rattle.av_plain.specs.Ledger.{InFrame, is_full};
 ghost use Rattle.av_plain.specs.Report.{totals};
 ghost use Rattle.av_plain.specs.Stands.{HoldsTold, IsClean};
 ghost use Rattle.av_laws.specs.Examples.{cached_out, page_with, paged_out};
+ghost use Rattle.av_laws.specs.Pairs.{with_frames};
 ghost use Rattle.av_laws.specs.Several.{
   HoldWith,
   told_header,
@@ -23,14 +24,19 @@ ghost use Rattle.av_laws.specs.Several.{
 ghost use Rattle.av_laws.specs.Slots.{lower_in_use, slot_at, two_swaps};
 ghost use Rattle.av_laws.specs.Views.{cached_view, swap_device};
 
-/// A frame that was referenced goes to the head of active, one whose write started to the head of
-/// inactive.
-pub fn kept_frames_go_to_the_head()
+/// A frame that was referenced, or has no slot to go to, goes to the head of active; one whose
+/// write started, or that is new, to the head of inactive.
+pub fn frames_go_to_the_head()
     ensures to_active_head { after_note (Kept 5 Referenced) (with_lists (7 ∷ 8 ∷ []) (5 ∷ 6 ∷ []))
         ≡ with_lists (5 ∷ 7 ∷ 8 ∷ []) (6 ∷ []) }
     ensures started_to_head { after_note (Kept 6 WriteStarted)
         (with_lists (7 ∷ 8 ∷ []) (5 ∷ 6 ∷ []))
         ≡ with_lists (7 ∷ 8 ∷ []) (6 ∷ 5 ∷ []) }
+    ensures new_to_head { after_note (New 1 0x10000 6) (with_frames [] (5 ∷ []))
+        ≡ with_frames (((1, 0x10), InFrame 6 false) ∷ []) (6 ∷ 5 ∷ []) }
+    ensures stuck_to_active_head { after_note (Kept 6 NoSlot)
+        (with_lists (7 ∷ 8 ∷ []) (5 ∷ 6 ∷ []))
+        ≡ with_lists (6 ∷ 7 ∷ 8 ∷ []) (5 ∷ []) }
 {}
 
 /// All areas that are on count, and not the first one alone.
