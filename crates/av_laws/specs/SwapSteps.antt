@@ -8,6 +8,7 @@
 --   what is dropped behind a write that ended (`end_notes`): failed_stays
 --   how a cached frame leaves (`leave_notes`): clean_reclaimed, stale_frame_is_written
 --   the slots of an area that is turned off, in order (`Empties`, `map_notes`): two_emptied
+--   which writes end before (`TurnsOff`): two_emptied, upper_write_ends
 --   where a `swapoff` ends (`EndsAt`): left_named, cached_unread, later_unread
 --   why it ends there (`end_at`, `close_answer`): unread_behind_pass, starved_behind_pass,
 --     counted_behind_pass, unread_without_frame, unread_is_told
@@ -121,6 +122,13 @@ first_emptied =
 -- the other slot has its frame
 abbrev pub two_emptied : List Note
 two_emptied = first_emptied ++ Mapped 2 0x13000 0 ∷ Dropped (slot 2) ∷ []
+
+-- frame 0 is cached in the upper of two areas, and its write is in flight
+abbrev pub upper_in_flight : Ledger
+upper_in_flight = record (lower_in_use 0) {
+  cache = record { slot = slot_at 1 1; frame = 0; stale = false } ∷ [];
+  flight = slot_at 1 1 ∷ [];
+}
 
 -- the one frame goes to the other area, and then has the page of the slot
 abbrev pub to_other_area : List Note

@@ -47,7 +47,7 @@ ghost use Rattle.av_laws.specs.Examples.{
   with_swap,
 };
 ghost use Rattle.av_laws.specs.PassTurns.{all_readable, both_cached, one_frame_two_areas};
-ghost use Rattle.av_laws.specs.Slots.{lower_in_use, two_swaps};
+ghost use Rattle.av_laws.specs.Slots.{lower_in_use, slot_at, two_swaps};
 ghost use Rattle.av_laws.specs.SwapSteps.{
   ClaimsAfterWrite,
   Ends,
@@ -76,6 +76,7 @@ ghost use Rattle.av_laws.specs.SwapSteps.{
   two_kept,
   two_slots,
   unmapped_in_turn,
+  upper_in_flight,
 };
 
 /// Frames are reclaimed and aged from the tail, each by what those before it left. One whose write
@@ -117,7 +118,7 @@ pub fn the_first_writes_are_completed()
 {}
 
 /// The slots of an area that is turned off are emptied, the least first, once the writes in flight
-/// have ended. Each page at a slot is mapped, by process and then address, to the frame that caches
+/// have ended, those to other areas too. Each page at a slot is mapped, by process and then address, to the frame that caches
 /// the slot or, where none does, one that takes its page. A frame that has to go for that goes to
 /// another area, or to the slot at which it is cached, though that is still to be emptied.
 ///
@@ -126,6 +127,8 @@ pub fn the_first_writes_are_completed()
 pub fn slots_are_emptied_in_turn()
     ensures two_emptied { MayCome (with_swap 4 3 2) [] two_slots (Swapoff 0)
         (reply_with Done two_emptied) }
+    ensures upper_write_ends { MayCome two_swaps [] upper_in_flight (Swapoff 0)
+        (reply_with Done (Written (slot_at 1 1) ∷ [])) }
     ensures other_area_fills { MayCome one_frame_two_areas [] (lower_in_use 1) (Swapoff 0)
         (reply_with Done other_area_fills) }
     ensures other_area_gives { OtherAreaGives }

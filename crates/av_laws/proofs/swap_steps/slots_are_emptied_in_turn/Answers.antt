@@ -53,6 +53,25 @@ returns-clause-two_emptied c = (
   },
 )
 
+pub returns-clause-upper_write_ends : goal.returns-clause-upper_write_ends
+returns-clause-upper_write_ends c = (
+  note_events (Written (slot_at 1 1) ∷ []) ++ TurnedOff 0 ∷ [],
+  record {
+    answer = record {
+      done = Written (slot_at 1 1) ∷ [];
+      pages = [];
+      notes = [];
+      end = Closed;
+      completes = (false, [], refl, refl);
+      empties = (refl, refl);
+      whole = refl;
+      answered = refl;
+      no_rows = refl;
+    };
+    notes = refl;
+  },
+)
+
 pub returns-clause-other_area_fills : goal.returns-clause-other_area_fills
 returns-clause-other_area_fills c = (
   note_events other_area_fills ++ TurnedOff 0 ∷ [],
