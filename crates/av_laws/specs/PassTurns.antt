@@ -7,7 +7,7 @@
 --   which slot a frame gets (`IsSlotFor`, `may_give`): slot_while_closing
 --   when the pass ends (`Turns`, `IsPass`): past_failure, given_up_after_failure,
 --     freed_by_completion
---   which writes end before it (`IsPass`): all_completed
+--   which writes end before it (`IsPass`): all_completed, write_behind_ends
 --   `bus` behind a pass (`IsLost`, `causes`): lost_behind_pass, lost_and_failed
 -- Frames 0 and 1 are all that there are, and where it isn't said otherwise both are cached, clean,
 -- and named by no entry: so the one whose turn comes first is dropped at once.
@@ -67,6 +67,10 @@ to_lower_area = let s = slot_at 0 2 in Put 0 s ∷ Unmapped 0 ∷ Started s ∷ 
 -- nothing names frame 0 but its slot, whose write is in flight
 abbrev pub orphan_in_flight : Ledger
 orphan_in_flight = record (both_cached false Zero [] (1 ∷ 0 ∷ [])) { flight = slot 1 ∷ [] }
+
+-- behind it that of frame 1 is
+abbrev pub orphan_before_another : Ledger
+orphan_before_another = record orphan_in_flight { flight = slot 1 ∷ slot 2 ∷ [] }
 
 -- both writes are in flight
 abbrev pub both_in_flight : Ledger

@@ -23,6 +23,7 @@ ghost use Rattle.av_laws.specs.PassTurns.{
   last_cached,
   lost_reply,
   one_frame_two_areas,
+  orphan_before_another,
   orphan_in_flight,
   third_out,
   to_lower_area,
@@ -50,13 +51,15 @@ pub fn cached_frames_are_unmapped_and_written()
 {}
 
 /// The pass goes on past a frame that has no slot, and past one whose write fails; it ends where a
-/// frame is free once all writes in flight have ended. A swap area that is closing has no slot.
+/// frame is free once all writes in flight have ended, those behind one that frees a frame too. A swap area that is closing has no slot.
 pub fn passes_end_with_a_free_frame()
     ensures past_stuck_frame { Passes (with_swap 2 2 1) None (last_cached 1)
         (Dropped (slot 1) ∷ []) }
     ensures past_failure { Passes (with_swap 2 8 7) None (last_cached 7) failure_first }
     ensures freed_by_completion { Passes (with_swap 2 8 7) None orphan_in_flight
         (Written (slot 1) ∷ Dropped (slot 1) ∷ []) }
+    ensures write_behind_ends { Passes (with_swap 2 8 7) None orphan_before_another
+        (Written (slot 1) ∷ Dropped (slot 1) ∷ Written (slot 2) ∷ []) }
     ensures all_completed { Passes (with_swap 2 8 7) None both_in_flight
         (Written (slot 1) ∷ Written (slot 2) ∷ Dropped (slot 2) ∷ []) }
     ensures none_while_closing { Passes bad_first (Some 0) full.ledger [] }

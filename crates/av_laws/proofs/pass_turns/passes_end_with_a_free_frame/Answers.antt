@@ -11,6 +11,15 @@ returns-clause-past_failure c =
 pub returns-clause-freed_by_completion : goal.returns-clause-freed_by_completion
 returns-clause-freed_by_completion c = (Written (slot 1) ∷ Dropped (slot 1) ∷ [], [], refl, (false, [], refl, refl), refl)
 
+pub returns-clause-write_behind_ends : goal.returns-clause-write_behind_ends
+returns-clause-write_behind_ends c = (
+  Written (slot 1) ∷ Dropped (slot 1) ∷ Written (slot 2) ∷ [],
+  [],
+  refl,
+  (false, Written (slot 2) ∷ [], refl, (false, [], refl, refl)),
+  refl,
+)
+
 pub returns-clause-all_completed : goal.returns-clause-all_completed
 returns-clause-all_completed c = (
   Written (slot 1) ∷ Written (slot 2) ∷ [],
