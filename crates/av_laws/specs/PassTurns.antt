@@ -1,7 +1,7 @@
 -- Worked examples of the direct pass: whose turn it is, what a turn is, and when the pass ends.
 -- Which example would fail if a definition were wrong:
 --   what a turn is (`is_dirty`, `unmap_notes`): stale_frame_written, cached_frame_unmapped
---   whose turn it is (`frames_in_turn`): inactive_first, active_too
+--   whose turn it is (`frames_in_turn`): inactive_first, active_too, all_but_the_pinned
 --   who is passed over (`no_slot`, `Turns`, `stays_cached`): none_while_closing, past_stuck_frame,
 --     clean_passed_over
 --   which slot a frame gets (`IsSlotFor`, `may_give`): slot_while_closing

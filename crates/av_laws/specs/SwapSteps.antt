@@ -1,6 +1,7 @@
 -- Worked steps of swap: single commands that meet several frames, slots or areas.
 -- Which step would fail if a definition were wrong:
---   why a frame is kept (`cause_of`, `is_referenced`): four_reclaimed, seen_kept
+--   why a frame is kept (`cause_of`, `is_referenced`): four_reclaimed, seen_kept, clean_when_full;
+--     (`is_in_writeback`) clean_beside_a_write
 --   what those before a frame left (`Outcomes`): four_reclaimed
 --   which frames, and in which order (`from_tail`): two_reclaimed, two_aged
 --   which writes end, and in which order (`CompletesFirst`): first_completed, both_completed,

@@ -11,7 +11,9 @@ ghost use Rattle.av_trace.specs.declared.note.Note.TheVariants.{
   Dropped,
 };
 ghost use Rattle.av_plain.specs.Event.{note_events};
-ghost use Rattle.av_plain.specs.Ledger.{InFrame, InSlot};
+ghost use Rattle.av_plain.specs.Fault.{sparing};
+ghost use Rattle.av_plain.specs.Ledger.{InFrame, InSlot, first_ledger};
+ghost use Rattle.av_plain.specs.Pass.{frames_in_turn};
 ghost use Rattle.av_plain.specs.Step.{IsLegal, causes};
 ghost use Rattle.av_laws.specs.Examples.{bad_first, full, slot, with_swap};
 ghost use Rattle.av_laws.specs.PassTurns.{
@@ -28,9 +30,11 @@ ghost use Rattle.av_laws.specs.PassTurns.{
   third_out,
   to_lower_area,
 };
+ghost use Rattle.av_laws.specs.Several.{with_lists};
 ghost use Rattle.av_laws.specs.Slots.{lower_in_use};
 
-/// Inactive frames have their turns before active ones, and these have theirs.
+/// Inactive frames have their turns before active ones, and these have theirs. One that is pinned
+/// has none, and those behind it have theirs.
 pub fn frames_have_their_turns()
     ensures inactive_first { Passes (with_swap 2 8 7) None
         (both_cached false (InSlot (slot 1)) (1 ∷ []) (0 ∷ []))
@@ -38,6 +42,9 @@ pub fn frames_have_their_turns()
     ensures active_too { Passes (with_swap 2 8 7) None
         (both_cached false (InSlot (slot 1)) (1 ∷ 0 ∷ []) [])
         (Dropped (slot 1) ∷ []) }
+    ensures all_but_the_pinned { frames_in_turn (sparing [] first_ledger (Some 1))
+        (with_lists (3 ∷ 2 ∷ []) (1 ∷ 0 ∷ []))
+        ≡ 0 ∷ 2 ∷ 3 ∷ [] }
 {}
 
 /// A cached frame is unmapped too, and written where it is stale, before it is dropped.
@@ -51,7 +58,8 @@ pub fn cached_frames_are_unmapped_and_written()
 {}
 
 /// The pass goes on past a frame that has no slot, and past one whose write fails; it ends where a
-/// frame is free once all writes in flight have ended, those behind one that frees a frame too. A swap area that is closing has no slot.
+/// frame is free once all writes in flight have ended, those behind one that frees a frame too. A
+/// swap area that is closing has no slot.
 pub fn passes_end_with_a_free_frame()
     ensures past_stuck_frame { Passes (with_swap 2 2 1) None (last_cached 1)
         (Dropped (slot 1) ∷ []) }

@@ -31,7 +31,7 @@ ghost use Rattle.av_trace.specs.declared.reply.Errno.TheVariants.{Einval, Eio};
 ghost use Rattle.av_plain.specs.Event.{TurnedOn, after_notes};
 ghost use Rattle.av_plain.specs.Fault.{Touches};
 ghost use Rattle.av_plain.specs.Ledger.{InFrame, first_ledger, is_full};
-ghost use Rattle.av_plain.specs.Reclaim.{leave_notes};
+ghost use Rattle.av_plain.specs.Reclaim.{cause_of, leave_notes};
 ghost use Rattle.av_plain.specs.Step.{IsLegal, closing_swap_area};
 ghost use Rattle.av_plain.specs.Swapoff.{Closed, NoRoom, Unread, close_answer, sparing_area};
 ghost use Rattle.av_laws.specs.Examples.{
@@ -46,7 +46,14 @@ ghost use Rattle.av_laws.specs.Examples.{
   untold,
   with_swap,
 };
-ghost use Rattle.av_laws.specs.PassTurns.{all_readable, both_cached, one_frame_two_areas};
+ghost use Rattle.av_laws.specs.PassTurns.{
+  all_readable,
+  both_cached,
+  last_cached,
+  no_frame_spared,
+  one_frame_two_areas,
+  third_out,
+};
 ghost use Rattle.av_laws.specs.Slots.{lower_in_use, slot_at, two_swaps};
 ghost use Rattle.av_laws.specs.SwapSteps.{
   ClaimsAfterWrite,
@@ -81,8 +88,9 @@ ghost use Rattle.av_laws.specs.SwapSteps.{
 
 /// Frames are reclaimed and aged from the tail, each by what those before it left. One whose write
 /// is in flight is kept for that, though it was read since; one with two entries is referenced by
-/// the second alone. One that is referenced and has no slot to go to is kept as referenced. A clean
-/// frame is unmapped and dropped, a stale one is unmapped and its write begins.
+/// the second alone. One that is referenced and has no slot to go to is kept as referenced. A
+/// cached one isn't kept for the write of another slot, nor where swap is full. A clean frame is
+/// unmapped and dropped, a stale one is unmapped and its write begins.
 pub fn frames_are_reclaimed_from_the_tail()
     ensures four_reclaimed { MayCome (with_swap 4 3 2) [] four_inactive (Reclaim 4)
         (reply_with Done four_reclaimed) }
@@ -90,6 +98,10 @@ pub fn frames_are_reclaimed_from_the_tail()
         (reply_with Done two_kept) }
     ensures seen_kept { MayCome (machine 1) [] seen_without_slot (Reclaim 1)
         (reply_with Done (Kept 0 Referenced ∷ [])) }
+    ensures clean_beside_a_write { cause_of (with_swap 2 8 7) (no_frame_spared None) third_out 0
+        ≡ None }
+    ensures clean_when_full { cause_of (with_swap 2 2 1) (no_frame_spared None) (last_cached 1) 1
+        ≡ None }
     ensures clean_reclaimed { MayCome (with_swap 2 8 7) []
         (both_cached false (InFrame 0 false) [] (1 ∷ 0 ∷ []))
         (Reclaim 1)
