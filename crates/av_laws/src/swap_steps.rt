@@ -130,9 +130,10 @@ pub fn the_first_writes_are_completed()
 {}
 
 /// The slots of an area that is turned off are emptied, the least first, once the writes in flight
-/// have ended, those to other areas too. Each page at a slot is mapped, by process and then address, to the frame that caches
-/// the slot or, where none does, one that takes its page. A frame that has to go for that goes to
-/// another area, or to the slot at which it is cached, though that is still to be emptied.
+/// have ended, those to other areas too. Each page at a slot is mapped, by process and then
+/// address, to the frame that caches the slot or, where none does, one that takes its page. A frame
+/// that has to go for that goes to another area, or to the slot at which it is cached, though that
+/// is still to be emptied.
 ///
 /// A page is unread at no slot but the least in use. It ends only at one that is in no frame: there
 /// none is free behind the pass, or one is and the device does not give the page.
