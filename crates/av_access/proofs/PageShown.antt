@@ -8,7 +8,8 @@ use Rattle.av_plain.specs.Device.{Device, IsSameDevice}
 use Rattle.av_plain.specs.World.{Process, Page, pages, byte_at, Shows}
 use Rattle.av_plain.specs.Event.{after_all}
 use Rattle.av_plain.specs.Access.{page_events}
-use Rattle.av_plain.specs.Stands.{Holds, IsKept}
+use Rattle.av_plain.specs.Stands.{IsKept}
+use Rattle.av_plain.specs.World.{Holds}
 use Rattle.av_plain.specs.Transcript.{State}
 use Rattle.av_mem.specs.declared.mem.Mem.{Mem}
 use Rattle.av_fault.specs.declared.fault.Touched.TheVariants.{Ready, Zeros}

@@ -15,7 +15,8 @@ use Rattle.av_plain.specs.Event.{after_use, after_use_of, if_some, set_entry, wi
 use Rattle.av_plain.specs.Fault.{is_shared}
 use Rattle.av_plain.specs.Access.{after_write}
 use Rattle.av_plain.specs.Sound.{AtPages, IsSound, IsTidy, no_excuse}
-use Rattle.av_plain.specs.Stands.{View, Holds, IsKept, AreasStand, BytesStand}
+use Rattle.av_plain.specs.Stands.{View, IsKept, AreasStand, BytesStand}
+use Rattle.av_plain.specs.World.{Holds}
 use Rattle.av_plain.proofs.Ledger.{entry-set, same_key, same_key-itself}
 use Rattle.av_plain.proofs.Ledger.Order.{keys_total}
 use Rattle.av_plain.proofs.World.{is_sorted-set, length-set_old, lives-set, pages-set}

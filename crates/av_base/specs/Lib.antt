@@ -1,3 +1,4 @@
+pub mod Flags
 pub mod Limits
 pub mod Page
 pub mod Words

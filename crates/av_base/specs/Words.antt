@@ -1,4 +1,5 @@
--- Words on ranges of numbers, on lists and counting, and on functions that differ at one place.
+-- Words on ranges of numbers, on lists and counting, on functions that differ at one place, and on
+-- numbers of which one takes another's place.
 use Rattle.std.specs.Prelude.{ℕ, ◌+◌, Bool, ◌&&◌, ◌==◌, nat_lt, nat_le, if◌then◌else◌, List, []}
 use Rattle.std.specs.Prelude.{◌∷◌}
 use Rattle.std.specs.List.{list_any}
@@ -19,3 +20,7 @@ how_many test (x ∷ xs) = (if test x then 1 else 0) + how_many test xs
 -- a function with its value at one number changed
 abbrev pub with_at : {X : Type 0} → ℕ → X → (ℕ → X) → ℕ → X
 with_at k x f q = if q == k then x else f q
+
+-- a number, where this one gives its place to that one
+abbrev pub renamed : ℕ → ℕ → ℕ → ℕ
+renamed from to x = if x == from then to else x

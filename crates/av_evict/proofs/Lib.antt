@@ -1,6 +1,8 @@
 pub mod SystemLaws
 pub mod StepLaws
 pub mod FlightLaws
+pub mod LockedLaws
+pub mod StandingLaws
 pub mod TurnLaws
 pub mod InactiveLaws
 pub mod TailLaws

@@ -9,9 +9,8 @@ use Rattle.av_trace.specs.declared.note.Note.{Note}
 use Rattle.av_trace.specs.declared.note.Note.TheVariants.{Failed, Put, Started, Unmapped}
 use Rattle.av_trace.specs.declared.reply.OutOf.{OutOf}
 use Rattle.av_plain.specs.Event.{after_note, after_notes, change_entries, if_some, off_flight, when, with_stale}
-use Rattle.av_plain.specs.Fault.{is_pinned}
 use Rattle.av_plain.specs.Ledger.{Cached, InSlot, Ledger, Setting, cached_by, has_free, map_count, no_slot, same_slot, slot_of}
-use Rattle.av_plain.specs.Pass.{IsSlotFor, end_note, fails, is_dirty, is_fail, is_stuck, out_of, turn_notes, unmap_notes}
+use Rattle.av_plain.specs.Pass.{IsSlotFor, Spared, end_note, fails, has_turn, is_dirty, is_fail, is_stuck, out_of, turn_notes, unmap_notes}
 use Rattle.av_plain.specs.Sound.{IsSound, uses}
 use Rattle.av_plain.proofs.Access.{after_notes-append}
 use Rattle.av_plain.proofs.Ledger.{how_many-append}
@@ -20,11 +19,12 @@ use Rattle.av_plain.proofs.Report.Totals.{sum-length, sum_of}
 use Rattle.av_plain.proofs.Sound.Changes.{free-is}
 use Rattle.av_plain.proofs.Sound.Counts.{same-is, same-itself}
 use Rattle.av_plain.proofs.Sound.Entries.{flag}
-use Rattle.av_plain.proofs.Sound.Pass.{AreReady, TurnKept, all-ready, count-filter, count-reverse, ready-first, ready-rest, turn-kept}
+use Rattle.av_plain.proofs.Sound.Pass.{AreReady, AreUnmerged, TurnKept, all-ready, all-unmerged, count-filter, count-reverse, ready-first, ready-rest, turn-kept, unmerged-first, unmerged-rest}
 use Rattle.av_plain.proofs.Sound.Steps.{completes-kept}
 use Rattle.av_evict.specs.Pass.{AllInVain, IsOut, turn_order}
-use Rattle.av_evict.specs.Steps.{spares}
-use Rattle.av_evict.specs.Turn.{InVain, unpinned}
+use Rattle.av_evict.specs.Steps.{closes}
+use Rattle.av_evict.specs.Turn.{InVain, with_turn}
+use Rattle.av_evict.proofs.PassLaws.{turn-merged}
 use Rattle.av_evict.proofs.SeekLaws.{completed-landed}
 use Rattle.av_evict.proofs.StepLaws.{pair-slot_of}
 use Rattle.std.proofs.lemmas.List.Elements.{Contains-append_left, Contains-append_right}
@@ -119,6 +119,7 @@ pub record DidFail (l : Ledger) (fs : List ℕ) (ns : List Note) : Type 0 where
   pub count : fails ns ≡ how_many (λ f. is_some (slot_of (after_notes l ns) f)) fs
   pub each : (f : ℕ) (s : Slot) → 0 < how_many (λ g. f == g) fs → slot_of (after_notes l ns) f ≡ Some s → Contains ns (Failed s)
   pub others : (g : ℕ) → how_many (λ f. g == f) fs ≡ 0 → slot_of (after_notes l ns) g ≡ slot_of l g
+  pub merged : (after_notes l ns).merged ≡ l.merged
 
 same_slots : (s t : Slot) → Some s ≡ Some t → s ≡ t
 same_slots s t h = cc
@@ -132,11 +133,12 @@ head_gone g f fs h = by (g == f) h
 
 -- after one that is passed over
 did-stuck : (m : Setting) (closing : Option ℕ) (l : Ledger) (f : ℕ) (fs : List ℕ) (ns : List Note) → AreReady l (f ∷ fs) →
-    is_stuck m (spares closing None) l f ≡ true → DidFail l fs ns → DidFail l (f ∷ fs) ns
+    is_stuck m (closes closing) l f ≡ true → DidFail l fs ns → DidFail l (f ∷ fs) ns
 did-stuck m closing l f fs ns ready stuck rest = record {
   count = rest.count ∙ zero_plus _ _ (ap (λ (o : Option Slot). cond (is_some o) 1 0) none);
   each = λ g s h at. by g s (g == f) refl h at;
   others = λ g h. rest.others g (less _ _ h);
+  merged = rest.merged;
 }
   where
     zero_plus : (a b : ℕ) → b ≡ 0 → a ≡ b + a
@@ -169,6 +171,7 @@ did-turn m closing l f s fs ns ready t dirty rest = record {
       (ap (λ (o : Option Slot). cond (is_some o) 1 0) some) ∙ ap (λ x. how_many (λ g. is_some (slot_of x g)) (f ∷ fs)) (sym same);
   each = λ g r h at. by g r (g == f) refl h (ap (λ x. slot_of x g) (sym same) ∙ at);
   others = λ g h. ap (λ x. slot_of x g) same ∙ rest.others g (less _ _ h) ∙ turn-slot_of l f g s (head_gone g f fs h);
+  merged = ap (λ x. x.merged) same ∙ rest.merged ∙ t.merged_same;
 }
   where
     same : after_notes l (turn_notes l f s true ++ ns) ≡ after_notes (after_notes l (turn_notes l f s true)) ns
@@ -195,28 +198,29 @@ did-turn m closing l f s fs ns ready t dirty rest = record {
 
 -- one after another
 pub vain-did : (m : Setting) (closing : Option ℕ) (l : Ledger) (fs : List ℕ) (ns : List Note) → IsSound m l →
-    ((r : Slot) → how_many (same_slot r) l.flight ≡ 0) → AreReady l fs → InVain m closing l fs ns → DidFail l fs ns
-vain-did m closing l [] ns sound landed ready vain = subst (DidFail l []) (sym vain) (record {
+    ((r : Slot) → how_many (same_slot r) l.flight ≡ 0) → AreReady l fs → AreUnmerged l fs → InVain m closing l fs ns → DidFail l fs ns
+vain-did m closing l [] ns sound landed ready unmerged vain = subst (DidFail l []) (sym vain) (record {
   count = refl;
   each = λ f s h at. absurd (omega (arith, h));
   others = λ g h. refl;
+  merged = refl;
 })
-vain-did m closing l (f ∷ fs) ns sound landed ready vain =
-    by (is_stuck m (spares closing None) l f) refl (λ l' ns' s' g' r' v'. vain-did m closing l' fs ns' s' g' r' v') vain
+vain-did m closing l (f ∷ fs) ns sound landed ready unmerged vain =
+    by (is_stuck m (closes closing) l f) refl (λ l' ns' s' g' r' u' v'. vain-did m closing l' fs ns' s' g' r' u' v') vain
   where
-    by : (b : Bool) → is_stuck m (spares closing None) l f ≡ b →
-        ((l' : Ledger) (ns' : List Note) → IsSound m l' → ((r : Slot) → how_many (same_slot r) l'.flight ≡ 0) → AreReady l' fs →
+    by : (b : Bool) → is_stuck m (closes closing) l f ≡ b →
+        ((l' : Ledger) (ns' : List Note) → IsSound m l' → ((r : Slot) → how_many (same_slot r) l'.flight ≡ 0) → AreReady l' fs → AreUnmerged l' fs →
         InVain m closing l' fs ns' →
         DidFail l' fs ns') →
-        MatchBool b (InVain m closing l fs ns) ((s : Slot) × (rest : List Note) × IsSlotFor m (spares closing None) l f s
+        MatchBool b (InVain m closing l fs ns) ((s : Slot) × (rest : List Note) × IsSlotFor m (closes closing) l f s
         × (is_dirty l f s ≡ true) × (ns ≡ turn_notes l f s true ++ rest) × InVain m closing (after_notes l (turn_notes l f s true)) fs rest) →
         DidFail l (f ∷ fs) ns
-    by true is again v = did-stuck m closing l f fs ns ready is (again l ns sound landed (ready-rest l l f fs (λ g other. refl) ready) v)
+    by true is again v = did-stuck m closing l f fs ns ready is (again l ns sound landed (ready-rest l l f fs (λ g other. refl) ready) (unmerged-rest l l f fs refl unmerged) v)
     by false is again v =
-        let t = turn-kept m (spares closing None) l f v.0 true sound landed v.2 (ready-first l f fs ready) in
+        let t = turn-kept m (closes closing) l f v.0 true sound landed v.2 (unmerged-first l f fs unmerged) (ready-first l f fs ready) in
         let l1 = after_notes l (turn_notes l f v.0 true) in
         subst (DidFail l (f ∷ fs)) (sym v.4) (did-turn m closing l f v.0 fs v.1 ready t v.3
-        (again l1 v.1 t.sound t.grounded (ready-rest l l1 f fs t.others ready) v.5))
+        (again l1 v.1 t.sound t.grounded (ready-rest l l1 f fs t.others ready) (unmerged-rest l l1 f fs t.merged_same unmerged) v.5))
 
 -- ---- counted by number
 
@@ -244,10 +248,10 @@ count-length test (x ∷ xs) = by (test x) (count-length test xs)
         zero_plus : (a b : ℕ) → a ≡ b → a ≡ 0 + b
         zero_plus a b h = omega (arith, h)
 
--- where no frame is free, each frame that is not pinned has one turn
-turn-once : (m : Setting) (pinned : Option ℕ) (l : Ledger) (f : ℕ) → IsSound m l → has_free m l ≡ false → f < m.frames →
-    how_many (λ g. f == g) (unpinned pinned (turn_order l)) ≡ cond (not (is_pinned pinned f)) 1 0
-turn-once m pinned l f sound full below = count-filter (λ f. not (is_pinned pinned f)) f (turn_order l) ∙ by (not (is_pinned pinned f))
+-- where no frame is free, each frame that isn't left alone has one turn
+turn-once : (m : Setting) (sp : Spared) (l : Ledger) (f : ℕ) → IsSound m l → has_free m l ≡ false → f < m.frames →
+    how_many (λ g. f == g) (with_turn sp l (turn_order l)) ≡ cond (has_turn sp l f) 1 0
+turn-once m sp l f sound full below = count-filter (has_turn sp l) f (turn_order l) ∙ by (has_turn sp l f)
   where
     used : 0 < uses l f
     used = let e = sym (free-is l f) ∙ has_free-none m l f full below in grind (arith, nat_tests, e)
@@ -263,32 +267,32 @@ turn-once m pinned l f sound full below = count-filter (λ f. not (is_pinned pin
     by true = once
     by false = refl
 
-turn-below : (m : Setting) (pinned : Option ℕ) (l : Ledger) (f : ℕ) → IsSound m l → 0 < how_many (λ g. f == g) (unpinned pinned (turn_order l)) →
+turn-below : (m : Setting) (sp : Spared) (l : Ledger) (f : ℕ) → IsSound m l → 0 < how_many (λ g. f == g) (with_turn sp l (turn_order l)) →
     f < m.frames
-turn-below m pinned l f sound h =
-    let r = all-ready m (spares None pinned) l sound f in sound.in_range f (omega (arith, r, h))
+turn-below m sp l f sound h =
+    let r = all-ready m sp l sound f in sound.in_range f (omega (arith, r, h))
 
-pub count-turns : (m : Setting) (pinned : Option ℕ) (l : Ledger) (test : ℕ → Bool) → IsSound m l → has_free m l ≡ false →
-    how_many test (unpinned pinned (turn_order l)) ≡ how_many (λ f. not (is_pinned pinned f) && test f) (range_with_len 0 m.frames)
-count-turns m pinned l test sound full =
-    sym (count-length test (unpinned pinned (turn_order l)))
-    ∙ sym (sum-length m.frames (filter test (unpinned pinned (turn_order l))) (λ f h. turn-below m pinned l f sound (some f h)))
-    ∙ sum-how_many (λ f. how_many (λ g. f == g) (filter test (unpinned pinned (turn_order l)))) (λ f. not (is_pinned pinned f) && test f) 0 m.frames
-    (λ f low high. count-filter test f (unpinned pinned (turn_order l)) ∙ here f high)
+pub count-turns : (m : Setting) (sp : Spared) (l : Ledger) (test : ℕ → Bool) → IsSound m l → has_free m l ≡ false →
+    how_many test (with_turn sp l (turn_order l)) ≡ how_many (λ f. has_turn sp l f && test f) (range_with_len 0 m.frames)
+count-turns m sp l test sound full =
+    sym (count-length test (with_turn sp l (turn_order l)))
+    ∙ sym (sum-length m.frames (filter test (with_turn sp l (turn_order l))) (λ f h. turn-below m sp l f sound (some f h)))
+    ∙ sum-how_many (λ f. how_many (λ g. f == g) (filter test (with_turn sp l (turn_order l)))) (λ f. has_turn sp l f && test f) 0 m.frames
+    (λ f low high. count-filter test f (with_turn sp l (turn_order l)) ∙ here f high)
   where
-    some : (f : ℕ) → 0 < how_many (λ g. f == g) (filter test (unpinned pinned (turn_order l))) →
-        0 < how_many (λ g. f == g) (unpinned pinned (turn_order l))
-    some f h = by (test f) (count-filter test f (unpinned pinned (turn_order l)))
+    some : (f : ℕ) → 0 < how_many (λ g. f == g) (filter test (with_turn sp l (turn_order l))) →
+        0 < how_many (λ g. f == g) (with_turn sp l (turn_order l))
+    some f h = by (test f) (count-filter test f (with_turn sp l (turn_order l)))
       where
-        by : (b : Bool) → how_many (λ g. f == g) (filter test (unpinned pinned (turn_order l))) ≡ cond b
-            (how_many (λ g. f == g) (unpinned pinned (turn_order l))) 0 →
-            0 < how_many (λ g. f == g) (unpinned pinned (turn_order l))
+        by : (b : Bool) → how_many (λ g. f == g) (filter test (with_turn sp l (turn_order l))) ≡ cond b
+            (how_many (λ g. f == g) (with_turn sp l (turn_order l))) 0 →
+            0 < how_many (λ g. f == g) (with_turn sp l (turn_order l))
         by true e = omega (arith, e, h)
         by false e = absurd (omega (arith, e, h))
 
-    here : (f : ℕ) → f < 0 + m.frames → cond (test f) (how_many (λ g. f == g) (unpinned pinned (turn_order l))) 0 ≡
-        cond (not (is_pinned pinned f) && test f) 1 0
-    here f below = ap (λ n. cond (test f) n 0) (turn-once m pinned l f sound full (omega (arith, below))) ∙ by (test f) (not (is_pinned pinned f))
+    here : (f : ℕ) → f < 0 + m.frames → cond (test f) (how_many (λ g. f == g) (with_turn sp l (turn_order l))) 0 ≡
+        cond (has_turn sp l f && test f) 1 0
+    here f below = ap (λ n. cond (test f) n 0) (turn-once m sp l f sound full (omega (arith, below))) ∙ by (test f) (has_turn sp l f)
       where
         by : (a b : Bool) → ◌≡◌ {A = ℕ} (cond a (cond b 1 0) 0) (cond (b && a) 1 0)
         by true true = refl
@@ -298,16 +302,16 @@ count-turns m pinned l test sound full =
 
 -- ---- why none is free
 
-pub vain-out : (m : Setting) (closing pinned : Option ℕ) (l : Ledger) (ns : List Note) (out : OutOf) → IsSound m l → AllInVain m closing pinned l ns →
-    has_free m (after_notes l ns) ≡ false → out ≡ out_of m pinned (spares closing pinned) (after_notes l ns) → IsOut m closing pinned out l ns
-vain-out m closing pinned l ns out sound vain none is = record {
+pub vain-out : (m : Setting) (sp : Spared) (l : Ledger) (ns : List Note) (out : OutOf) → IsSound m l → AllInVain m sp l ns →
+    has_free m (after_notes l ns) ≡ false → out ≡ out_of m sp (after_notes l ns) → IsOut m sp out l ns
+vain-out m sp l ns out sound vain none is = record {
   none = none;
   numbers = is;
   failed = (let a = ap (λ (o : OutOf). o.fault) is in let b = count in let c = split in let d = did.count in
-      let e = ap (λ x. how_many (λ f. is_some (slot_of x f)) (unpinned pinned (turn_order (after_notes l vain.done)))) (sym same) in
+      let e = ap (λ x. how_many (λ f. is_some (slot_of x f)) (with_turn sp (after_notes l vain.done) (turn_order (after_notes l vain.done)))) (sym same) in
       omega (arith, a, b, c, d, e));
-  each = λ f s below free at. subst (λ x. Contains x (Failed s)) (sym vain.whole) (Contains-append_right vain.done vain.turns (Failed s)
-      (did.each f s (let o = turn-once m pinned (after_notes l vain.done) f sound1 vain.full below in let p = ap {B = ℕ} (λ b. cond (not b) 1 0) free
+  each = λ f s below turns at. subst (λ x. Contains x (Failed s)) (sym vain.whole) (Contains-append_right vain.done vain.turns (Failed s)
+      (did.each f s (let o = turn-once m sp (after_notes l vain.done) f sound1 vain.full below in let p = ap {B = ℕ} (λ b. cond b 1 0) (sym (turn-merged sp (after_notes l vain.done) (after_notes l ns) f merged) ∙ turns)
       in omega (arith, o, p))
       (ap (λ x. slot_of x f) (sym same) ∙ at)));
 }
@@ -315,18 +319,24 @@ vain-out m closing pinned l ns out sound vain none is = record {
     sound1 : IsSound m (after_notes l vain.done)
     sound1 = (completes-kept m l l.flight vain.done sound vain.completes).sound
 
-    did : DidFail (after_notes l vain.done) (unpinned pinned (turn_order (after_notes l vain.done))) vain.turns
-    did = vain-did m closing (after_notes l vain.done) (unpinned pinned (turn_order (after_notes l vain.done))) vain.turns sound1
+    did : DidFail (after_notes l vain.done) (with_turn sp (after_notes l vain.done) (turn_order (after_notes l vain.done))) vain.turns
+    did = vain-did m sp.closing (after_notes l vain.done) (with_turn sp (after_notes l vain.done) (turn_order (after_notes l vain.done))) vain.turns sound1
         (λ r. ap (how_many (same_slot r)) (completed-landed m l vain.done sound vain.completes))
-        (all-ready m (spares closing pinned) (after_notes l vain.done) sound1)
+        (all-ready m sp (after_notes l vain.done) sound1)
+        (all-unmerged sp (after_notes l vain.done) (turn_order (after_notes l vain.done)))
         vain.vain
 
     same : after_notes l ns ≡ after_notes (after_notes l vain.done) vain.turns
     same = ap (after_notes l) vain.whole ∙ after_notes-append l vain.done vain.turns
 
-    count : how_many (λ f. is_some (slot_of (after_notes l ns) f)) (unpinned pinned (turn_order (after_notes l vain.done))) ≡
-        how_many (λ f. not (is_pinned pinned f) && is_some (slot_of (after_notes l ns) f)) (range_with_len 0 m.frames)
-    count = count-turns m pinned (after_notes l vain.done) (λ f. is_some (slot_of (after_notes l ns) f)) sound1 vain.full
+    merged : (after_notes l ns).merged ≡ (after_notes l vain.done).merged
+    merged = ap (λ x. x.merged) same ∙ did.merged
+
+    count : how_many (λ f. is_some (slot_of (after_notes l ns) f)) (with_turn sp (after_notes l vain.done) (turn_order (after_notes l vain.done))) ≡
+        how_many (λ f. has_turn sp (after_notes l ns) f && is_some (slot_of (after_notes l ns) f)) (range_with_len 0 m.frames)
+    count = count-turns m sp (after_notes l vain.done) (λ f. is_some (slot_of (after_notes l ns) f)) sound1 vain.full
+        ∙ ap (λ (test : ℕ → Bool). how_many (λ f. test f && is_some (slot_of (after_notes l ns) f)) (range_with_len 0 m.frames))
+        (λ i f. sym (turn-merged sp (after_notes l vain.done) (after_notes l ns) f merged) i)
 
     split : fails ns ≡ fails vain.done + fails vain.turns
     split = ap fails vain.whole ∙ how_many-append is_fail vain.done vain.turns

@@ -3,14 +3,13 @@ use Rattle.std.proofs.Common.{slice_get, Bool, List, None, Option, Some, [], ap,
 use Rattle.std.specs.Prelude.{MatchBool}
 use Rattle.std.proofs.lemmas.Bool.Decides.{nat_tests}
 use Rattle.std.proofs.lemmas.List.{append-nil, append_assoc, length-append}
-use Rattle.av_base.specs.Words.{how_many}
+use Rattle.av_base.specs.Words.{how_many, is_in}
 use Rattle.av_base.specs.declared.slot.Slot.{Slot}
 use Rattle.av_trace.specs.declared.note.Note.{Note}
 use Rattle.av_trace.specs.declared.note.Note.TheVariants.{Dropped, Started}
 use Rattle.av_plain.specs.Event.{after_note, after_notes, off_cache}
-use Rattle.av_plain.specs.Fault.{is_pinned}
 use Rattle.av_plain.specs.Ledger.{Ledger, Setting, frame_at, has_free, map_count, same_slot}
-use Rattle.av_plain.specs.Pass.{IsSlotFor, Turns, end_note, is_dirty, is_stuck, stays_cached, turn_notes, unmap_notes}
+use Rattle.av_plain.specs.Pass.{IsSlotFor, Spared, Turns, end_note, has_turn, is_dirty, is_spared, is_stuck, stays_cached, turn_notes, unmap_notes}
 use Rattle.av_plain.specs.Sound.{IsSound, uses}
 use Rattle.av_plain.proofs.Access.{after_notes-append}
 use Rattle.av_plain.proofs.Ledger.{how_many-append}
@@ -21,63 +20,65 @@ use Rattle.av_plain.proofs.Sound.Entries.{flag}
 use Rattle.av_plain.proofs.Sound.Pass.{TurnKept, count-reverse, turn-kept}
 use Rattle.av_plain.proofs.Sound.Steps.{UnmapKept, alike-end_note, alike-started, alike-then, holders-dropped, settle-entries, unmap_notes-kept}
 use Rattle.av_evict.specs.Pass.{AreTurns, IsLanded, turn_order}
-use Rattle.av_evict.specs.Steps.{spares}
-use Rattle.av_evict.specs.System.{Gives, Goes, IsAt, SystemView}
-use Rattle.av_evict.specs.Turn.{Frees, InVain, IsTurnUnlessPinned, MayTurn, unpinned}
-use Rattle.av_evict.proofs.SystemLaws.{does-none, goes-then}
+use Rattle.av_evict.specs.Steps.{closes}
+use Rattle.av_evict.specs.System.{Gives, Goes, IsAt, Leaves, SystemView, spares}
+use Rattle.av_evict.specs.Turn.{Frees, InVain, IsTurnIfAny, MayTurn, MayTurnNow, with_turn}
+use Rattle.av_evict.proofs.SystemLaws.{does-none, goes-then, leaves-spares}
+use Rattle.av_evict.proofs.StepLaws.{unmerged-count}
 use Rattle.av_evict.proofs.TailLaws.{first-is, first-no, unmap-lists}
+use Rattle.av_evict.proofs.TurnLaws.{turn-now}
 
 -- ---- turns in vain, one after another
 
 -- what comes after turns in vain
-pub vain-then : (m : Setting) (closing pinned : Option ℕ) (l : Ledger) (fs gs : List ℕ) (ns ms : List Note) → InVain m closing l fs ns →
-    Turns m (spares closing pinned) (after_notes l ns) gs ms → Turns m (spares closing pinned) l (fs ++ gs) (ns ++ ms)
-vain-then m closing pinned l [] gs ns ms vain t = subst (λ x. Turns m (spares closing pinned) l gs (x ++ ms)) (sym vain)
-    (subst (λ x. Turns m (spares closing pinned) (after_notes l x) gs ms) vain t)
-vain-then m closing pinned l (f ∷ fs) gs ns ms vain t =
-    by (is_stuck m (spares closing None) l f) (λ l' ns' v' t'. vain-then m closing pinned l' fs gs ns' ms v' t') vain
+pub vain-then : (m : Setting) (sp : Spared) (l : Ledger) (fs gs : List ℕ) (ns ms : List Note) → InVain m sp.closing l fs ns →
+    Turns m sp (after_notes l ns) gs ms → Turns m sp l (fs ++ gs) (ns ++ ms)
+vain-then m sp l [] gs ns ms vain t = subst (λ x. Turns m sp l gs (x ++ ms)) (sym vain)
+    (subst (λ x. Turns m sp (after_notes l x) gs ms) vain t)
+vain-then m sp l (f ∷ fs) gs ns ms vain t =
+    by (is_stuck m (closes sp.closing) l f) (λ l' ns' v' t'. vain-then m sp l' fs gs ns' ms v' t') vain
   where
-    by : (b : Bool) → ((l' : Ledger) (ns' : List Note) → InVain m closing l' fs ns' → Turns m (spares closing pinned) (after_notes l' ns') gs ms →
-        Turns m (spares closing pinned) l' (fs ++ gs) (ns' ++ ms)) →
-        MatchBool b (InVain m closing l fs ns) ((s : Slot) × (rest : List Note) × IsSlotFor m (spares closing None) l f s
-        × (is_dirty l f s ≡ true) × (ns ≡ turn_notes l f s true ++ rest) × InVain m closing (after_notes l (turn_notes l f s true)) fs rest) →
-        MatchBool b (Turns m (spares closing pinned) l (fs ++ gs) (ns ++ ms))
-        ((s : Slot) × (failed : Bool) × IsSlotFor m (spares closing pinned) l f s × MatchBool (stays_cached l f s failed)
+    by : (b : Bool) → ((l' : Ledger) (ns' : List Note) → InVain m sp.closing l' fs ns' → Turns m sp (after_notes l' ns') gs ms →
+        Turns m sp l' (fs ++ gs) (ns' ++ ms)) →
+        MatchBool b (InVain m sp.closing l fs ns) ((s : Slot) × (rest : List Note) × IsSlotFor m (closes sp.closing) l f s
+        × (is_dirty l f s ≡ true) × (ns ≡ turn_notes l f s true ++ rest) × InVain m sp.closing (after_notes l (turn_notes l f s true)) fs rest) →
+        MatchBool b (Turns m sp l (fs ++ gs) (ns ++ ms))
+        ((s : Slot) × (failed : Bool) × IsSlotFor m sp l f s × MatchBool (stays_cached l f s failed)
         ((rest : List Note) × (ns ++ ms ≡ turn_notes l f s failed ++ rest)
-        × Turns m (spares closing pinned) (after_notes l (turn_notes l f s failed)) (fs ++ gs) rest)
+        × Turns m sp (after_notes l (turn_notes l f s failed)) (fs ++ gs) rest)
         (ns ++ ms ≡ turn_notes l f s failed ++ Dropped s ∷ []))
     by true again v = again l ns v t
     by false again v = (v.0, true, v.2, stay (stays_cached l f v.0 true) (ap (λ b. b && true) v.3))
       where
         stay : (b : Bool) → b ≡ true → MatchBool b ((rest : List Note) × (ns ++ ms ≡ turn_notes l f v.0 true ++ rest)
-            × Turns m (spares closing pinned) (after_notes l (turn_notes l f v.0 true)) (fs ++ gs) rest)
+            × Turns m sp (after_notes l (turn_notes l f v.0 true)) (fs ++ gs) rest)
             (ns ++ ms ≡ turn_notes l f v.0 true ++ Dropped v.0 ∷ [])
         stay true h = (
           v.1 ++ ms,
           ap (λ x. x ++ ms) v.4 ∙ append_assoc (turn_notes l f v.0 true) v.1 ms,
           again (after_notes l (turn_notes l f v.0 true)) v.1 v.5
-              (subst (λ x. Turns m (spares closing pinned) x gs ms) (ap (after_notes l) v.4 ∙ after_notes-append l (turn_notes l f v.0 true) v.1) t),
+              (subst (λ x. Turns m sp x gs ms) (ap (after_notes l) v.4 ∙ after_notes-append l (turn_notes l f v.0 true) v.1) t),
         )
         stay false h = cc
 
 -- they are turns
-pub vain-turns : (m : Setting) (closing pinned : Option ℕ) (l : Ledger) (fs : List ℕ) (ns : List Note) → InVain m closing l fs ns →
-    Turns m (spares closing pinned) l fs ns
-vain-turns m closing pinned l fs ns vain = subst (λ gs. Turns m (spares closing pinned) l gs ns) (append-nil fs)
-    (subst (Turns m (spares closing pinned) l (fs ++ [])) (append-nil ns) (vain-then m closing pinned l fs [] ns [] vain refl))
+pub vain-turns : (m : Setting) (sp : Spared) (l : Ledger) (fs : List ℕ) (ns : List Note) → InVain m sp.closing l fs ns →
+    Turns m sp l fs ns
+vain-turns m sp l fs ns vain = subst (λ gs. Turns m sp l gs ns) (append-nil fs)
+    (subst (Turns m sp l (fs ++ [])) (append-nil ns) (vain-then m sp l fs [] ns [] vain refl))
 
 pub vain-append : (m : Setting) (closing : Option ℕ) (l : Ledger) (fs gs : List ℕ) (ns ms : List Note) → InVain m closing l fs ns →
     InVain m closing (after_notes l ns) gs ms → InVain m closing l (fs ++ gs) (ns ++ ms)
 vain-append m closing l [] gs ns ms vain t = subst (λ x. InVain m closing l gs (x ++ ms)) (sym vain)
     (subst (λ x. InVain m closing (after_notes l x) gs ms) vain t)
 vain-append m closing l (f ∷ fs) gs ns ms vain t =
-    by (is_stuck m (spares closing None) l f) (λ l' ns' v' t'. vain-append m closing l' fs gs ns' ms v' t') vain
+    by (is_stuck m (closes closing) l f) (λ l' ns' v' t'. vain-append m closing l' fs gs ns' ms v' t') vain
   where
     by : (b : Bool) → ((l' : Ledger) (ns' : List Note) → InVain m closing l' fs ns' → InVain m closing (after_notes l' ns') gs ms →
         InVain m closing l' (fs ++ gs) (ns' ++ ms)) →
-        MatchBool b (InVain m closing l fs ns) ((s : Slot) × (rest : List Note) × IsSlotFor m (spares closing None) l f s
+        MatchBool b (InVain m closing l fs ns) ((s : Slot) × (rest : List Note) × IsSlotFor m (closes closing) l f s
         × (is_dirty l f s ≡ true) × (ns ≡ turn_notes l f s true ++ rest) × InVain m closing (after_notes l (turn_notes l f s true)) fs rest) →
-        MatchBool b (InVain m closing l (fs ++ gs) (ns ++ ms)) ((s : Slot) × (rest : List Note) × IsSlotFor m (spares closing None) l f s
+        MatchBool b (InVain m closing l (fs ++ gs) (ns ++ ms)) ((s : Slot) × (rest : List Note) × IsSlotFor m (closes closing) l f s
         × (is_dirty l f s ≡ true) × (ns ++ ms ≡ turn_notes l f s true ++ rest)
         × InVain m closing (after_notes l (turn_notes l f s true)) (fs ++ gs) rest)
     by true again v = again l ns v t
@@ -91,20 +92,20 @@ vain-append m closing l (f ∷ fs) gs ns ms vain t =
           (subst (λ x. InVain m closing x gs ms) (ap (after_notes l) v.4 ∙ after_notes-append l (turn_notes l f v.0 true) v.1) t),
     )
 
-pub frees-turns : (m : Setting) (closing pinned : Option ℕ) (l : Ledger) (f : ℕ) (gs : List ℕ) (ns : List Note) → Frees m closing f l ns →
-    Turns m (spares closing pinned) l (f ∷ gs) ns
-frees-turns m closing pinned l f gs ns frees = by (is_stuck m (spares closing None) l f) frees.unstuck
+pub frees-turns : (m : Setting) (sp : Spared) (l : Ledger) (f : ℕ) (gs : List ℕ) (ns : List Note) → Frees m sp.closing f l ns →
+    Turns m sp l (f ∷ gs) ns
+frees-turns m sp l f gs ns frees = by (is_stuck m (closes sp.closing) l f) frees.unstuck
   where
-    by : (b : Bool) → b ≡ false → MatchBool b (Turns m (spares closing pinned) l gs ns)
-        ((s : Slot) × (failed : Bool) × IsSlotFor m (spares closing pinned) l f s × MatchBool (stays_cached l f s failed)
+    by : (b : Bool) → b ≡ false → MatchBool b (Turns m sp l gs ns)
+        ((s : Slot) × (failed : Bool) × IsSlotFor m sp l f s × MatchBool (stays_cached l f s failed)
         ((rest : List Note) × (ns ≡ turn_notes l f s failed ++ rest)
-        × Turns m (spares closing pinned) (after_notes l (turn_notes l f s failed)) gs rest)
+        × Turns m sp (after_notes l (turn_notes l f s failed)) gs rest)
         (ns ≡ turn_notes l f s failed ++ Dropped s ∷ []))
     by true h = cc
     by false h = (frees.slot, frees.failed, frees.for, drops (stays_cached l f frees.slot frees.failed) frees.written)
       where
         drops : (b : Bool) → b ≡ false → MatchBool b ((rest : List Note) × (ns ≡ turn_notes l f frees.slot frees.failed ++ rest)
-            × Turns m (spares closing pinned) (after_notes l (turn_notes l f frees.slot frees.failed)) gs rest)
+            × Turns m sp (after_notes l (turn_notes l f frees.slot frees.failed)) gs rest)
             (ns ≡ turn_notes l f frees.slot frees.failed ++ Dropped frees.slot ∷ [])
         drops true h = cc
         drops false h = frees.whole
@@ -115,6 +116,7 @@ pub record Stays (l l' : Ledger) : Type 0 where
   pub landed : l'.flight ≡ []
   pub inactive : l'.inactive ≡ l.inactive
   pub active : l'.active ≡ l.active
+  pub merged : l'.merged ≡ l.merged
   pub used : (g : ℕ) → 0 < uses l g → 0 < uses l' g
 
 pub stays-then : (a b c : Ledger) → Stays a b → Stays b c → Stays a c
@@ -122,6 +124,7 @@ stays-then a b c x y = record {
   landed = y.landed;
   inactive = y.inactive ∙ x.inactive;
   active = y.active ∙ x.active;
+  merged = y.merged ∙ x.merged;
   used = λ g h. y.used g (x.used g h);
 }
 
@@ -143,51 +146,53 @@ turn-lists l f s = subst (λ x. (x.inactive ≡ l.inactive) × (x.active ≡ l.a
     ended false x h = h
 
 -- one turn in vain
-pub vain-stays : (m : Setting) (closing : Option ℕ) (l : Ledger) (f : ℕ) (ns : List Note) → IsSound m l → MayTurn f l →
+pub vain-stays : (m : Setting) (closing : Option ℕ) (l : Ledger) (f : ℕ) (ns : List Note) → IsSound m l → MayTurnNow f l →
     InVain m closing l (f ∷ []) ns →
     Stays l (after_notes l ns)
-vain-stays m closing l f ns sound may vain = by (is_stuck m (spares closing None) l f) vain
+vain-stays m closing l f ns sound may vain = by (is_stuck m (closes closing) l f) vain
   where
-    by : (b : Bool) → MatchBool b (ns ≡ []) ((s : Slot) × (rest : List Note) × IsSlotFor m (spares closing None) l f s
+    by : (b : Bool) → MatchBool b (ns ≡ []) ((s : Slot) × (rest : List Note) × IsSlotFor m (closes closing) l f s
         × (is_dirty l f s ≡ true) × (ns ≡ turn_notes l f s true ++ rest) × (rest ≡ [])) → Stays l (after_notes l ns)
-    by true v = subst (λ x. Stays l (after_notes l x)) (sym v) (record { landed = may.landed; inactive = refl; active = refl; used = λ g h. h })
+    by true v = subst (λ x. Stays l (after_notes l x)) (sym v) (record { landed = may.landed; inactive = refl; active = refl; merged = refl; used = λ g h. h })
     by false v = subst (λ x. Stays l (after_notes l x)) (sym (v.4 ∙ ap (λ x. turn_notes l f v.0 true ++ x) v.5 ∙ append-nil _)) (record {
       landed = none-flies _ t.grounded;
       inactive = (turn-lists l f v.0).0;
       active = (turn-lists l f v.0).1;
+      merged = t.merged_same;
       used = λ g h. at g (g == f) refl h;
     })
       where
         t : TurnKept m l f v.0 (after_notes l (turn_notes l f v.0 true))
-        t = turn-kept m (spares closing None) l f v.0 true sound (λ r. ap (how_many (same_slot r)) may.landed) v.2 may.used
+        t = turn-kept m (closes closing) l f v.0 true sound (λ r. ap (how_many (same_slot r)) may.landed) v.2 (unmerged-count l f may.send.unmerged) may.send.used
 
         at : (g : ℕ) (b : Bool) → (g == f) ≡ b → 0 < uses l g → 0 < uses (after_notes l (turn_notes l f v.0 true)) g
         at g true is h = subst (λ y. 0 < uses (after_notes l (turn_notes l f v.0 true)) y) (sym (same-is g f is))
             (let p = t.pair in let q = pair-frame v.0 f (after_notes l (turn_notes l f v.0 true)).cache in omega (arith, p, q))
         at g false is h = let e = t.others g is in omega (arith, e, h)
 
-pub but-stays : (m : Setting) (closing pinned : Option ℕ) (l : Ledger) (f : ℕ) (ns : List Note) → IsSound m l → MayTurn f l →
-    IsTurnUnlessPinned m closing pinned f false l ns → Stays l (after_notes l ns)
-but-stays m closing pinned l f ns sound may turn = by (is_pinned pinned f) turn
+pub but-stays : (m : Setting) (sp : Spared) (l : Ledger) (f : ℕ) (ns : List Note) → IsSound m l → MayTurn f l →
+    IsTurnIfAny m sp f false l ns → Stays l (after_notes l ns)
+but-stays m sp l f ns sound may turn = by (has_turn sp l f) refl turn
   where
-    by : (b : Bool) → InVain m closing l (cond (not b) (f ∷ []) []) ns → Stays l (after_notes l ns)
-    by true v = subst (λ x. Stays l (after_notes l x)) (sym v) (record { landed = may.landed; inactive = refl; active = refl; used = λ g h. h })
-    by false v = vain-stays m closing l f ns sound may v
+    by : (b : Bool) → has_turn sp l f ≡ b → InVain m sp.closing l (cond b (f ∷ []) []) ns → Stays l (after_notes l ns)
+    by false is v = subst (λ x. Stays l (after_notes l x)) (sym v)
+        (record { landed = may.landed; inactive = refl; active = refl; merged = refl; used = λ g h. h })
+    by true is v = vain-stays m sp.closing l f ns sound (turn-now sp l f is may) v
 
 -- ---- a frame that a turn frees is free
 
-pub frees-free : (m : Setting) (closing : Option ℕ) (l : Ledger) (f : ℕ) (ns : List Note) → IsSound m l → MayTurn f l → Frees m closing f l ns →
+pub frees-free : (m : Setting) (closing : Option ℕ) (l : Ledger) (f : ℕ) (ns : List Note) → IsSound m l → MayTurnNow f l → Frees m closing f l ns →
     has_free m (after_notes l ns) ≡ true
 frees-free m closing l f ns sound may frees = subst (λ x. has_free m (after_notes l x) ≡ true) (sym frees.whole)
     (subst (λ x. has_free m x ≡ true) (sym (after_notes-append l (turn_notes l f frees.slot frees.failed) (Dropped frees.slot ∷ [])))
-    (has_free-some m (after_note (Dropped frees.slot) (after_notes l (turn_notes l f frees.slot frees.failed))) f (sound.in_range f may.used)
+    (has_free-some m (after_note (Dropped frees.slot) (after_notes l (turn_notes l f frees.slot frees.failed))) f (sound.in_range f may.send.used)
     (free-is (after_note (Dropped frees.slot) (after_notes l (turn_notes l f frees.slot frees.failed))) f ∙ free)))
   where
     u : UnmapKept m l f frees.slot (after_notes l (unmap_notes l f frees.slot))
-    u = unmap_notes-kept m (spares closing None) l f frees.slot sound frees.for may.used
+    u = unmap_notes-kept m (closes closing) l f frees.slot sound frees.for (unmerged-count l f may.send.unmerged) may.send.used
 
     t : TurnKept m l f frees.slot (after_notes l (turn_notes l f frees.slot frees.failed))
-    t = turn-kept m (spares closing None) l f frees.slot frees.failed sound (λ r. ap (how_many (same_slot r)) may.landed) frees.for may.used
+    t = turn-kept m (closes closing) l f frees.slot frees.failed sound (λ r. ap (how_many (same_slot r)) may.landed) frees.for (unmerged-count l f may.send.unmerged) may.send.used
 
     written : (b : Bool) (x : Ledger) → (after_notes x (cond b (Started frees.slot ∷ end_note frees.failed frees.slot ∷ []) [])).entries ≡ x.entries
     written false x = refl
@@ -222,15 +227,24 @@ in_turn-used m l ahead behind f sound is =
     let h = flag _ _ (same-itself f) in
     omega (arith, a, b, c, d, e, g, h)
 
-pub unpinned-append : (pinned : Option ℕ) (fs gs : List ℕ) → unpinned pinned (fs ++ gs) ≡ unpinned pinned fs ++ unpinned pinned gs
-unpinned-append pinned [] gs = refl
-unpinned-append pinned (f ∷ fs) gs = by (is_pinned pinned f) (unpinned-append pinned fs gs)
+pub with_turn-append : (sp : Spared) (l : Ledger) (fs gs : List ℕ) → with_turn sp l (fs ++ gs) ≡ with_turn sp l fs ++ with_turn sp l gs
+with_turn-append sp l [] gs = refl
+with_turn-append sp l (f ∷ fs) gs = by (has_turn sp l f) (with_turn-append sp l fs gs)
   where
-    by : (b : Bool) → unpinned pinned (fs ++ gs) ≡ unpinned pinned fs ++ unpinned pinned gs →
-        cond (not b) (f ∷ unpinned pinned (fs ++ gs)) (unpinned pinned (fs ++ gs)) ≡
-        cond (not b) (f ∷ unpinned pinned fs) (unpinned pinned fs) ++ unpinned pinned gs
-    by true rest = rest
-    by false rest = ap (λ x. f ∷ x) rest
+    by : (b : Bool) → with_turn sp l (fs ++ gs) ≡ with_turn sp l fs ++ with_turn sp l gs →
+        cond b (f ∷ with_turn sp l (fs ++ gs)) (with_turn sp l (fs ++ gs)) ≡
+        cond b (f ∷ with_turn sp l fs) (with_turn sp l fs) ++ with_turn sp l gs
+    by true rest = ap (λ x. f ∷ x) rest
+    by false rest = rest
+
+-- the same frames have turns while the same ones are merged
+pub turn-merged : (sp : Spared) (l l' : Ledger) (f : ℕ) → l'.merged ≡ l.merged → has_turn sp l' f ≡ has_turn sp l f
+turn-merged sp l l' f same = ap (λ ms. not (is_spared sp f) && not (is_in f ms)) same
+
+pub with_turn-merged : (sp : Spared) (l l' : Ledger) (fs : List ℕ) → l'.merged ≡ l.merged → with_turn sp l' fs ≡ with_turn sp l fs
+with_turn-merged sp l l' [] same = refl
+with_turn-merged sp l l' (f ∷ fs) same = (λ i. cond (turn-merged sp l l' f same i) (f ∷ with_turn-merged sp l l' fs same i)
+    (with_turn-merged sp l l' fs same i))
 
 pub record Turning (old now : SystemView) (before notes : List Note) (pinned : Option ℕ) (turn : ℕ) (next : Option ℕ) (l : Ledger) : Type 0 where
   pub done : List ℕ
@@ -241,7 +255,7 @@ pub record Turning (old now : SystemView) (before notes : List Note) (pinned : O
   pub gained : List Note
   pub added : notes ≡ before ++ gained
   pub goes : Goes old now l gained
-  pub vain : InVain old.setting old.closing l (unpinned pinned done) gained
+  pub vain : InVain old.setting old.closing l (with_turn (spares old pinned) l done) gained
   pub stays : Stays l (after_notes l gained)
 
 abbrev pub AreTurning : SystemView → SystemView → List Note → List Note → Option ℕ → ℕ → Option ℕ → Type 0
@@ -261,7 +275,7 @@ turning-start a n pinned next first l sound stands landed = record {
   added = sym (append-nil n);
   goes = record { sound = sound; does = does-none a l stands };
   vain = refl;
-  stays = record { landed = landed; inactive = refl; active = refl; used = λ g h. h };
+  stays = record { landed = landed; inactive = refl; active = refl; merged = refl; used = λ g h. h };
 }
 
 -- what a frame in turn needs
@@ -292,11 +306,11 @@ turning-at a b n0 n1 pinned turn f at t =
 
 -- a turn in vain
 pub turning-step : (a b c : SystemView) (n0 n1 n2 : List Note) (pinned : Option ℕ) (turn f : ℕ) (next : Option ℕ) →
-    AreTurning a b n0 n1 pinned turn (Some f) →
-    Gives b c n1 n2 (MayTurn f) (IsTurnUnlessPinned b.setting b.closing pinned f false) →
+    AreTurning a b n0 n1 pinned turn (Some f) → Leaves a b →
+    Gives b c n1 n2 (MayTurn f) (IsTurnIfAny b.setting (spares b pinned) f false) →
     ((l : Ledger) → IsSound c.setting l → c.stands l → (ahead behind : List ℕ) → turn_order l ≡ ahead ++ f ∷ behind → next ≡ slice_get behind 0) →
     AreTurning a c n0 n2 pinned (turn + 1) next
-turning-step a b c n0 n1 n2 pinned turn f next t gives after l sound stands landed =
+turning-step a b c n0 n1 n2 pinned turn f next t leaves gives after l sound stands landed =
     let i = t l sound stands landed in
     let l1 = after_notes l i.gained in
     let s1 : IsSound b.setting l1 = subst (λ m. IsSound m l1) (sym i.goes.does.stays.setting) i.goes.sound in
@@ -304,7 +318,7 @@ turning-step a b c n0 n1 n2 pinned turn f next t gives after l sound stands land
     let x = gives l1 s1 i.goes.does.stands may in
     let r = turning-split a b n0 n1 pinned turn f l i in
     let same : after_notes l (i.gained ++ x.0) ≡ after_notes l1 x.0 = after_notes-append l i.gained x.0 in
-    let stays = but-stays b.setting b.closing pinned l1 f x.0 s1 may x.2 in
+    let stays = but-stays b.setting (spares b pinned) l1 f x.0 s1 may x.2 in
     let goes = goes-then a b c l i.gained x.0 i.goes x.3 in
     record {
       done = i.done ++ f ∷ [];
@@ -317,10 +331,12 @@ turning-step a b c n0 n1 n2 pinned turn f next t gives after l sound stands land
       gained = i.gained ++ x.0;
       added = x.1 ∙ ap (λ z. z ++ x.0) i.added ∙ append_assoc n0 i.gained x.0;
       goes = goes;
-      vain = subst (λ fs. InVain a.setting a.closing l fs (i.gained ++ x.0)) (sym (unpinned-append pinned i.done (f ∷ [])))
-          (vain-append a.setting a.closing l (unpinned pinned i.done) (unpinned pinned (f ∷ [])) i.gained x.0 i.vain
-          (subst (λ k. InVain a.setting k l1 (unpinned pinned (f ∷ [])) x.0) i.goes.does.stays.closing
-          (subst (λ m. InVain m b.closing l1 (unpinned pinned (f ∷ [])) x.0) i.goes.does.stays.setting x.2)));
+      vain = let sp = spares a pinned in
+          subst (λ fs. InVain a.setting a.closing l fs (i.gained ++ x.0)) (sym (with_turn-append sp l i.done (f ∷ [])))
+          (vain-append a.setting a.closing l (with_turn sp l i.done) (with_turn sp l (f ∷ [])) i.gained x.0 i.vain
+          (subst (λ fs. InVain a.setting a.closing l1 fs x.0) (with_turn-merged sp l l1 (f ∷ []) i.stays.merged)
+          (subst (λ (q : Spared). InVain a.setting q.closing l1 (with_turn q l1 (f ∷ [])) x.0) (leaves-spares a b pinned leaves)
+          (subst (λ m. InVain m b.closing l1 (with_turn (spares b pinned) l1 (f ∷ [])) x.0) i.goes.does.stays.setting x.2))));
       stays = subst (Stays l) (sym same) (stays-then l l1 (after_notes l1 x.0) i.stays stays);
     }
   where
@@ -329,9 +345,9 @@ turning-step a b c n0 n1 n2 pinned turn f next t gives after l sound stands land
 
 -- a turn that frees the frame
 pub turning-freed : (a b c : SystemView) (n0 n1 n2 : List Note) (pinned : Option ℕ) (turn f : ℕ) → AreTurning a b n0 n1 pinned turn (Some f) →
-    Gives b c n1 n2 (MayTurn f) (IsTurnUnlessPinned b.setting b.closing pinned f true) →
-    Gives a c n0 n2 IsLanded (AreTurns a.setting a.closing pinned)
-turning-freed a b c n0 n1 n2 pinned turn f t gives l sound stands landed =
+    Leaves a b → Gives b c n1 n2 (MayTurn f) (IsTurnIfAny b.setting (spares b pinned) f true) →
+    Gives a c n0 n2 IsLanded (AreTurns a.setting (spares a pinned))
+turning-freed a b c n0 n1 n2 pinned turn f t leaves gives l sound stands landed =
     let i = t l sound stands landed in
     let l1 = after_notes l i.gained in
     let s1 : IsSound b.setting l1 = subst (λ m. IsSound m l1) (sym i.goes.does.stays.setting) i.goes.sound in
@@ -340,17 +356,19 @@ turning-freed a b c n0 n1 n2 pinned turn f t gives l sound stands landed =
     let r = first-is f i.todo i.first in
     let frees : Frees a.setting a.closing f l1 x.0 = subst (λ k. Frees a.setting k f l1 x.0) i.goes.does.stays.closing
     (subst (λ m. Frees m b.closing f l1 x.0) i.goes.does.stays.setting x.2.1) in
-    let order : unpinned pinned (turn_order l) ≡ unpinned pinned i.done ++ f ∷ unpinned pinned r.0 =
-    ap (unpinned pinned) (i.split ∙ ap (λ y. i.done ++ y) r.1) ∙ unpinned-append pinned i.done (f ∷ r.0)
-    ∙ ap (λ b. unpinned pinned i.done ++ cond (not b) (f ∷ unpinned pinned r.0) (unpinned pinned r.0)) x.2.0 in
+    let sp = spares a pinned in
+    let here : has_turn sp l1 f ≡ true = subst (λ (q : Spared). has_turn q l1 f ≡ true) (leaves-spares a b pinned leaves) x.2.0 in
+    let order : with_turn sp l (turn_order l) ≡ with_turn sp l i.done ++ f ∷ with_turn sp l r.0 =
+    ap (with_turn sp l) (i.split ∙ ap (λ y. i.done ++ y) r.1) ∙ with_turn-append sp l i.done (f ∷ r.0)
+    ∙ ap (λ b. with_turn sp l i.done ++ cond b (f ∷ with_turn sp l r.0) (with_turn sp l r.0)) (sym (turn-merged sp l l1 f i.stays.merged) ∙ here) in
     let free : has_free a.setting (after_notes l (i.gained ++ x.0)) ≡ true =
-    ap (has_free a.setting) (after_notes-append l i.gained x.0) ∙ frees-free a.setting a.closing l1 f x.0 i.goes.sound may frees in (
+    ap (has_free a.setting) (after_notes-append l i.gained x.0) ∙ frees-free a.setting a.closing l1 f x.0 i.goes.sound (turn-now sp l1 f here may) frees in (
       i.gained ++ x.0,
       x.1 ∙ ap (λ z. z ++ x.0) i.added ∙ append_assoc n0 i.gained x.0,
       record {
-        turns = subst (λ fs. Turns a.setting (spares a.closing pinned) l fs (i.gained ++ x.0)) (sym order)
-            (vain-then a.setting a.closing pinned l (unpinned pinned i.done) (f ∷ unpinned pinned r.0) i.gained x.0 i.vain
-            (frees-turns a.setting a.closing pinned l1 f (unpinned pinned r.0) x.0 frees));
+        turns = subst (λ fs. Turns a.setting sp l fs (i.gained ++ x.0)) (sym order)
+            (vain-then a.setting sp l (with_turn sp l i.done) (f ∷ with_turn sp l r.0) i.gained x.0 i.vain
+            (frees-turns a.setting sp l1 f (with_turn sp l r.0) x.0 frees));
         vain = λ none. let e = sym free ∙ none in cc;
       },
       goes-then a b c l i.gained x.0 i.goes x.3,
@@ -359,15 +377,16 @@ turning-freed a b c n0 n1 n2 pinned turn f t gives l sound stands landed =
 -- all were in vain
 pub turning-vain : (a b : SystemView) (n0 n1 : List Note) (pinned : Option ℕ) (turn : ℕ) (next : Option ℕ) → AreTurning a b n0 n1 pinned turn next →
     ((l : Ledger) → IsSound a.setting l → a.stands l → (i : Turning a b n0 n1 pinned turn next l) → i.todo ≡ []) →
-    Gives a b n0 n1 IsLanded (AreTurns a.setting a.closing pinned)
+    Gives a b n0 n1 IsLanded (AreTurns a.setting (spares a pinned))
 turning-vain a b n0 n1 pinned turn next t none l sound stands landed =
     let i = t l sound stands landed in
-    let all : InVain a.setting a.closing l (unpinned pinned (turn_order l)) i.gained =
-    subst (λ fs. InVain a.setting a.closing l (unpinned pinned fs) i.gained)
+    let sp = spares a pinned in
+    let all : InVain a.setting a.closing l (with_turn sp l (turn_order l)) i.gained =
+    subst (λ fs. InVain a.setting a.closing l (with_turn sp l fs) i.gained)
     (sym (i.split ∙ ap (λ y. i.done ++ y) (none l sound stands i) ∙ append-nil i.done)) i.vain in (
       i.gained,
       i.added,
-      record { turns = vain-turns a.setting a.closing pinned l (unpinned pinned (turn_order l)) i.gained all; vain = λ none. all },
+      record { turns = vain-turns a.setting sp l (with_turn sp l (turn_order l)) i.gained all; vain = λ none. all },
       i.goes,
     )
 

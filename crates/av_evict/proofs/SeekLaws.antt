@@ -12,7 +12,6 @@ use Rattle.av_plain.specs.Sound.{IsSound}
 use Rattle.av_plain.proofs.Access.{after_notes-append}
 use Rattle.av_plain.proofs.Sound.Steps.{all_landed, completes-kept}
 use Rattle.av_evict.specs.Pass.{AreTurns, IsLanded, IsPassed}
-use Rattle.av_evict.specs.Steps.{spares}
 use Rattle.av_evict.proofs.FlightLaws.{CompletesOf}
 use Rattle.av_evict.proofs.PassLaws.{none-flies}
 use Rattle.std.proofs.lemmas.List.{append-nil}
@@ -29,29 +28,29 @@ completed-landed m l ns sound c = none-flies _ (all_landed m l (after_notes l ns
 -- ---- the pass
 
 -- completion alone freed a frame
-pub passed-early : (m : Setting) (closing pinned : Option ℕ) (l : Ledger) (ns : List Note) → Completes l l.flight ns →
-    has_free m (after_notes l ns) ≡ true → IsPassed m closing pinned l ns
-passed-early m closing pinned l ns c free = record {
+pub passed-early : (m : Setting) (sp : Spared) (l : Ledger) (ns : List Note) → Completes l l.flight ns →
+    has_free m (after_notes l ns) ≡ true → IsPassed m sp l ns
+passed-early m sp l ns c free = record {
   pass = (ns, [], sym (append-nil ns), c, by (has_free m (after_notes l ns)) free);
   vain = λ none. let e = sym free ∙ none in cc;
 }
   where
-    by : (b : Bool) → b ≡ true → MatchBool b (◌≡◌ {A = List Note} [] []) (Turns m (spares closing pinned) (after_notes l ns)
-        (frames_in_turn (spares closing pinned) (after_notes l ns)) [])
+    by : (b : Bool) → b ≡ true → MatchBool b (◌≡◌ {A = List Note} [] []) (Turns m sp (after_notes l ns)
+        (frames_in_turn sp (after_notes l ns)) [])
     by true h = refl
     by false h = cc
 
 -- completion freed none; and this is so in the system that was left
-pub record IsFlown (m : Setting) (closing : Option ℕ) (now : Setting) (closing' : Option ℕ) (l : Ledger) (ns : List Note) : Type 0 where
+pub record IsFlown (m : Setting) (sp : Spared) (now : Setting) (sp' : Spared) (l : Ledger) (ns : List Note) : Type 0 where
   pub completes : Completes l l.flight ns
   pub full : has_free m (after_notes l ns) ≡ false
   pub setting : now ≡ m
-  pub closing_same : closing' ≡ closing
+  pub spared : sp' ≡ sp
 
 -- the frames in use had their turns
-passed-late : (m : Setting) (closing pinned : Option ℕ) (l : Ledger) (ns ms : List Note) → Completes l l.flight ns →
-    has_free m (after_notes l ns) ≡ false → AreTurns m closing pinned (after_notes l ns) ms → IsPassed m closing pinned l (ns ++ ms)
-passed-late m closing pinned l ns ms c full turns = record {
+passed-late : (m : Setting) (sp : Spared) (l : Ledger) (ns ms : List Note) → Completes l l.flight ns →
+    has_free m (after_notes l ns) ≡ false → AreTurns m sp (after_notes l ns) ms → IsPassed m sp l (ns ++ ms)
+passed-late m sp l ns ms c full turns = record {
   pass = (ns, ms, refl, c, by (has_free m (after_notes l ns)) full);
   vain = λ none. record {
     done = ns;
@@ -63,16 +62,16 @@ passed-late m closing pinned l ns ms c full turns = record {
   };
 }
   where
-    by : (b : Bool) → b ≡ false → MatchBool b (ms ≡ []) (Turns m (spares closing pinned) (after_notes l ns)
-        (frames_in_turn (spares closing pinned) (after_notes l ns)) ms)
+    by : (b : Bool) → b ≡ false → MatchBool b (ms ≡ []) (Turns m sp (after_notes l ns)
+        (frames_in_turn sp (after_notes l ns)) ms)
     by true h = cc
     by false h = turns.turns
 
-pub passed-then : (m : Setting) (closing : Option ℕ) (now : Setting) (closing' pinned : Option ℕ) (l : Ledger) (ns ms : List Note) →
-    IsFlown m closing now closing' l ns → AreTurns now closing' pinned (after_notes l ns) ms → IsPassed m closing pinned l (ns ++ ms)
-passed-then m closing now closing' pinned l ns ms flown turns = passed-late m closing pinned l ns ms flown.completes flown.full
-    (subst (λ k. AreTurns m k pinned (after_notes l ns) ms) flown.closing_same
-    (subst (λ n. AreTurns n closing' pinned (after_notes l ns) ms) flown.setting turns))
+pub passed-then : (m : Setting) (sp : Spared) (now : Setting) (sp' : Spared) (l : Ledger) (ns ms : List Note) →
+    IsFlown m sp now sp' l ns → AreTurns now sp' (after_notes l ns) ms → IsPassed m sp l (ns ++ ms)
+passed-then m sp now sp' l ns ms flown turns = passed-late m sp l ns ms flown.completes flown.full
+    (subst (λ k. AreTurns m k (after_notes l ns) ms) flown.spared
+    (subst (λ n. AreTurns n sp' (after_notes l ns) ms) flown.setting turns))
 
 -- ---- the search
 

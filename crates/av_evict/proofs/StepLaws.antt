@@ -5,9 +5,9 @@ use Rattle.av_base.specs.declared.slot.Slot.{Slot}
 use Rattle.av_trace.specs.declared.note.Note.{Note}
 use Rattle.av_trace.specs.declared.note.Note.TheVariants.{Aged, Dropped, Kept, Put, Started, Unmapped}
 use Rattle.av_plain.specs.Event.{after_note, after_notes, change_entries, if_some, when, without_seen}
-use Rattle.av_plain.specs.Ledger.{Cached, InSlot, Ledger, Setting, SwapArea, frame_at, free_slots, has_free_slot, in_flight, is_cached, is_free_slot, is_open, is_orphan, is_stale, is_unmapped, map_count, may_give, no_slot, same_slot, slot_entries, slot_of}
+use Rattle.av_plain.specs.Ledger.{Cached, InSlot, Ledger, Setting, SwapArea, frame_at, free_slots, has_free_slot, in_flight, is_cached, is_free_slot, is_merged, is_open, is_orphan, is_stale, is_unmapped, map_count, may_give, no_slot, same_slot, slot_entries, slot_of}
 use Rattle.av_plain.specs.Pass.{end_note, end_notes}
-use Rattle.av_plain.specs.Sound.{IsSound, IsSoundBut, flights, holders, no_excuse, pairs, slots, uses}
+use Rattle.av_plain.specs.Sound.{IsSound, IsSoundBut, flights, holders, mergings, no_excuse, pairs, slots, uses}
 use Rattle.av_plain.proofs.Sound.Changes.{any-counts, drop-sound}
 use Rattle.av_plain.proofs.Sound.Counts.{frame_at-none, frame_at-some, pair-frame, pair-slot, same-is, same-itself, same-turned, slot-is, slot-turned, slot_of-none, slot_of-some, two_frames, two_slots}
 use Rattle.av_plain.proofs.Sound.Flight.{orphan-landed, started-kept}
@@ -19,8 +19,8 @@ use Rattle.std.specs.Ordering.{eq_by_cmp, nat_cmp}
 use Rattle.std.specs.List.{list_all}
 use Rattle.av_plain.proofs.Sound.Cache.{active-kept, head-kept, put-kept, unmapped-kept}
 use Rattle.av_trace.specs.declared.note.Cause.{Cause}
-use Rattle.av_trace.specs.declared.note.Cause.TheVariants.{NoSlot, Referenced, WriteStarted, Writeback}
-use Rattle.av_evict.specs.Steps.{EndsFirst, GetsSlot, IsInCache, IsSent, IsUnmapped, IsUsed, MayDrop, MayPut, MayStart, MayUnmap}
+use Rattle.av_trace.specs.declared.note.Cause.TheVariants.{Ksm, Locked, NoSlot, Referenced, WriteStarted, Writeback}
+use Rattle.av_evict.specs.Steps.{EndsFirst, GetsSlot, IsInCache, IsSent, IsUnmapped, IsUsed, MayDrop, MayPut, MaySend, MayStart, MayUnmap}
 use Rattle.av_evict.specs.System.{Does, Goes, SystemView, any_slot}
 use Rattle.av_evict.specs.declared.system.WriteEnd.{WriteEnd}
 use Rattle.av_evict.proofs.SystemLaws.{loose}
@@ -88,6 +88,10 @@ cached-below m l f sound cached = by (slot_of l f) refl cached
     by None is h = cc
     by (Some s) is h = sound.in_range f (let p = slot_of-some f s l.cache is in let q = pair-frame s f l.cache in omega (arith, p, q))
 
+-- a frame that isn't merged stands nowhere among those that are
+pub unmerged-count : (l : Ledger) (f : ℕ) → is_merged l f ≡ false → mergings l f ≡ 0
+unmerged-count l f h = none (mergings l f) (sym (any-counts (λ g. f == g) l.merged) ∙ h)
+
 -- ---- each step keeps soundness
 
 pub start-sound : (m : Setting) (l : Ledger) (s : Slot) → IsSound m l → MayStart s l → IsSound m (after_note (Started s) l)
@@ -99,7 +103,7 @@ drop-may m l s sound may = drop-sound m l s sound (landed-flights l s may.landed
 pub put-sound : (m : Setting) (closing : Option ℕ) (l : Ledger) (f : ℕ) (s : Slot) → IsSound m l → MayPut f l → may_give m closing l s ≡ true →
     IsSound m (after_note (Put f s) l)
 put-sound m closing l f s sound may gives = let n = given-nowhere m closing l s gives in
-    put-kept m no_excuse l s f sound n.uncached n.unnamed (slot_of-none f l.cache may.uncached) may.mapped
+    put-kept m no_excuse l s f sound n.uncached n.unnamed (slot_of-none f l.cache may.uncached) (unmerged-count l f may.unmerged) may.mapped
 
 pub unmap-sound : (m : Setting) (l : Ledger) (f : ℕ) → IsSound m l → IsInCache f l → IsSound m (after_note (Unmapped f) l)
 unmap-sound m l f sound cached = by (slot_of l f) refl cached
@@ -120,6 +124,8 @@ keep-sound m l f WriteStarted sound used = head-kept m no_excuse l f sound used
 keep-sound m l f Referenced sound used = active-kept m no_excuse (change_entries f without_seen l) f (unseen-kept m no_excuse l f sound)
     (let e = unseen-uses l f f in omega (arith, e, used))
 keep-sound m l f NoSlot sound used = active-kept m no_excuse l f sound used
+keep-sound m l f Locked sound used = active-kept m no_excuse l f sound used
+keep-sound m l f Ksm sound used = active-kept m no_excuse l f sound used
 
 pub age-sound : (m : Setting) (l : Ledger) (f : ℕ) → IsSound m l → IsUsed f l → IsSound m (after_note (Aged f) l)
 age-sound m l f sound used = head-kept m no_excuse (change_entries f without_seen l) f (unseen-kept m no_excuse l f sound)
@@ -172,8 +178,12 @@ gives-slot m closing l s gives = each l.on (last (is_free_slot m l s) (is_open c
             none false = refl
 
 -- a frame in use that is not cached has an entry
-pub used-may_put : (l : Ledger) (f : ℕ) → IsUsed f l → None ≡ slot_of l f → MayPut f l
-used-may_put l f used is = record { uncached = sym is; mapped = let z = slot_of-none f l.cache (sym is) in omega (arith, z, used) }
+pub send-may_put : (l : Ledger) (f : ℕ) → MaySend f l → None ≡ slot_of l f → MayPut f l
+send-may_put l f may is = record {
+  uncached = sym is;
+  mapped = let z = slot_of-none f l.cache (sym is) in let u = may.used in omega (arith, z, u);
+  unmerged = may.unmerged;
+}
 
 -- it is cached now
 pub put-now : (m : Setting) (closing : Option ℕ) (l : Ledger) (f : ℕ) (s : Slot) → None ≡ slot_of l f → may_give m closing l s ≡ true →

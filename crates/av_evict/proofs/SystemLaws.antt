@@ -1,5 +1,5 @@
 -- Steps put together.
-use Rattle.std.proofs.Common.{◌≡◌, ℕ, ◌+◌, ◌-◌, ◌≤◌, ◌^◌, min, Bool, true, false, cond, is_some, List, [], ◌∷◌, ◌++◌, refl, sym, ap, subst, ◌∙◌, arith}
+use Rattle.std.proofs.Common.{◌≡◌, ℕ, ◌+◌, ◌-◌, ◌≤◌, ◌^◌, min, Bool, true, false, cond, is_some, Option, List, [], ◌∷◌, ◌++◌, refl, sym, ap, subst, ◌∙◌, arith}
 use Rattle.std.proofs.lemmas.List.{append-nil, append_assoc}
 use Rattle.av_base.specs.declared.slot.Slot.{Slot}
 use Rattle.av_trace.specs.declared.note.Note.{Note}
@@ -15,7 +15,7 @@ use Rattle.av_plain.specs.Sound.{IsSound, IsSoundBut}
 use Rattle.av_plain.proofs.AreasLeft.{rmap_after_all-append}
 use Rattle.av_plain.proofs.Access.{after_notes-append, chooses-append, note_events-append, note_events-all}
 use Rattle.av_plain.proofs.Ledger.{how_many-append}
-use Rattle.av_evict.specs.System.{Adds, Always, Does, Gives, Goes, IsAt, Knows, Makes, Stays, SystemView, any_slot}
+use Rattle.av_evict.specs.System.{Adds, Always, Does, Gives, Goes, IsAt, Knows, Leaves, Makes, Stays, SystemView, any_slot, spares}
 
 -- within a step nothing is asked of uses
 pub loose : (m : Setting) (x : Slot → ℕ) (l : Ledger) → IsSoundBut m x l → IsSoundBut m any_slot l
@@ -23,6 +23,7 @@ loose m x l s = record {
   in_order = s.in_order;
   slots_once = s.slots_once;
   frames_once = s.frames_once;
+  merged = s.merged;
   in_range = s.in_range;
   listed = s.listed;
   flying = s.flying;
@@ -76,6 +77,16 @@ stays_then d e = record {
   first = e.first ∙ d.first;
   never_falls = omega (arith, d.never_falls, e.never_falls);
 }
+
+pub left_so : (a : SystemView) → Leaves a a
+left_so a = record { stays = stays_so a; locked = refl }
+
+pub left_then : {a b c : SystemView} → Leaves a b → Leaves b c → Leaves a c
+left_then d e = record { stays = stays_then d.stays e.stays; locked = e.locked ∙ d.locked }
+
+-- what a pass spares is the same then
+pub leaves-spares : (a b : SystemView) (pinned : Option ℕ) → Leaves a b → spares b pinned ≡ spares a pinned
+leaves-spares a b pinned d = λ i. record { pinned = pinned; locked = d.locked i; closing = d.stays.closing i }
 
 pub does-then : (a b c : SystemView) (l : Ledger) (ns ms : List Note) → Does a b l ns → Does b c (after_notes l ns) ms → Does a c l (ns ++ ms)
 does-then a b c l ns ms d e = record {

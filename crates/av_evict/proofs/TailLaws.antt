@@ -5,23 +5,24 @@ use Rattle.std.proofs.lemmas.Bool.Decides.{nat_tests}
 use Rattle.std.proofs.lemmas.List.{append-nil, length-append, length-reverse, reverse-append, reverse-reverse, take-append-le, take_min}
 use Rattle.av_base.specs.Words.{how_many}
 use Rattle.av_base.specs.declared.slot.Slot.{Slot}
-use Rattle.av_trace.specs.declared.note.Cause.TheVariants.{NoSlot, Referenced, WriteStarted, Writeback}
+use Rattle.av_trace.specs.declared.note.Cause.TheVariants.{Ksm, Locked, NoSlot, Referenced, WriteStarted, Writeback}
 use Rattle.av_trace.specs.declared.note.Note.{Note}
 use Rattle.av_trace.specs.declared.note.Note.TheVariants.{Aged, Dropped, Kept, Put, Started, Unmapped}
 use Rattle.av_plain.specs.Event.{after_note, after_notes, change_entries, if_some, off_cache, off_lists, settle, when, without}
 use Rattle.av_plain.specs.Ledger.{InSlot, Ledger, Setting, is_free, map_count, slot_of}
 use Rattle.av_plain.specs.Pass.{IsSlotFor, Spared, is_dirty, unmap_notes}
-use Rattle.av_plain.specs.Sound.{IsSound, pairs, uses}
+use Rattle.av_plain.specs.Sound.{IsSound, mergings, pairs, uses}
 use Rattle.av_plain.proofs.Access.{after_notes-append}
 use Rattle.av_plain.proofs.Ledger.{without-none}
 use Rattle.av_plain.proofs.Sound.Changes.{free-is}
 use Rattle.av_plain.proofs.Sound.Counts.{holders-off_cache, same-itself}
 use Rattle.av_plain.proofs.Sound.Entries.{flag}
 use Rattle.av_plain.proofs.Sound.Pass.{count-reverse}
+use Rattle.av_plain.proofs.Sound.Reclaim.{unmerged_of}
 use Rattle.av_plain.proofs.Sound.Steps.{unmap_notes-kept}
 use Rattle.av_evict.proofs.SystemLaws.{IsMidway, loose, midway-end}
-use Rattle.av_evict.specs.Steps.{IsUsed, spares}
-use Rattle.av_evict.specs.System.{Always, Gives, SystemView, Tells}
+use Rattle.av_evict.specs.Steps.{IsUsed}
+use Rattle.av_evict.specs.System.{Always, Gives, SystemView, Tells, spares}
 use Rattle.av_plain.specs.Reclaim.{Outcome, Outcomes, cause_of, from_tail, leave_notes}
 use Rattle.av_trace.specs.declared.note.Cause.{Cause}
 use Rattle.av_evict.proofs.StepLaws.{pair-frame_at}
@@ -142,7 +143,7 @@ drop-off m l f s sound pair none = ap (λ o. (if_some o settle (off_cache s l)).
 -- a frame that reclaim looked at went to the head, or left the list
 outcome-inactive : (m : Setting) (sp : Spared) (l : Ledger) (f : ℕ) (fs : List ℕ) (ns : List Note) → IsSound m l → reverse l.inactive ≡ f ∷ fs →
     IsUsed f l → Outcome m sp l f ns → (more : List ℕ) × (reverse (after_notes l ns).inactive ≡ fs ++ more)
-outcome-inactive m sp l f fs ns sound is used out = by (cause_of m sp l f) out
+outcome-inactive m sp l f fs ns sound is used out = by (cause_of m sp l f) refl out
   where
     once : how_many (λ g. f == g) l.inactive ≤ 1
     once = inactive-once m l f sound
@@ -155,27 +156,29 @@ outcome-inactive m sp l f fs ns sound is used out = by (cause_of m sp l f) out
         (more : List ℕ) × (reverse (after_notes l ns).inactive ≡ fs ++ more)
     gone x goes h = ([], ap (λ x. reverse (after_notes l x).inactive) h ∙ ap reverse goes ∙ last-gone l.inactive fs f is once)
 
-    left : (s : Slot) → IsSlotFor m sp l f s → (b : Bool) → ns ≡ unmap_notes l f s ++ cond b (Started s ∷ Kept f WriteStarted ∷ []) (Dropped s ∷ []) →
+    left : mergings l f ≡ 0 → (s : Slot) → IsSlotFor m sp l f s → (b : Bool) → ns ≡ unmap_notes l f s ++ cond b (Started s ∷ Kept f WriteStarted ∷ []) (Dropped s ∷ []) →
         (more : List ℕ) × (reverse (after_notes l ns).inactive ≡ fs ++ more)
-    left s for true h = moved _ (ap (λ x. x.inactive) (after_notes-append l (unmap_notes l f s) (Started s ∷ Kept f WriteStarted ∷ []))
+    left unmerged s for true h = moved _ (ap (λ x. x.inactive) (after_notes-append l (unmap_notes l f s) (Started s ∷ Kept f WriteStarted ∷ []))
         ∙ ap (λ xs. f ∷ without f xs) (unmap-lists l f s).0) h
-    left s for false h = let u = unmap_notes-kept m sp l f s sound for used in
+    left unmerged s for false h = let u = unmap_notes-kept m sp l f s sound for unmerged used in
         gone _ (ap (λ x. x.inactive) (after_notes-append l (unmap_notes l f s) (Dropped s ∷ []))
         ∙ drop-off m (after_notes l (unmap_notes l f s)) f s u.sound u.pair u.none ∙ ap (without f) (unmap-lists l f s).0) h
 
-    by : (o : Option Cause) → MatchOption o ((s : Slot) × IsSlotFor m sp l f s × (ns ≡ leave_notes l f s)) (λ why. ns ≡ Kept f why ∷ []) →
+    by : (o : Option Cause) → cause_of m sp l f ≡ o → MatchOption o ((s : Slot) × IsSlotFor m sp l f s × (ns ≡ leave_notes l f s)) (λ why. ns ≡ Kept f why ∷ []) →
         (more : List ℕ) × (reverse (after_notes l ns).inactive ≡ fs ++ more)
-    by (Some Writeback) h = moved _ refl h
-    by (Some WriteStarted) h = moved _ refl h
-    by (Some Referenced) h = gone _ refl h
-    by (Some NoSlot) h = gone _ refl h
-    by None h = left h.0 h.1 (is_dirty l f h.0) h.2
+    by (Some Writeback) is h = moved _ refl h
+    by (Some WriteStarted) is h = moved _ refl h
+    by (Some Referenced) is h = gone _ refl h
+    by (Some NoSlot) is h = gone _ refl h
+    by (Some Locked) is h = gone _ refl h
+    by (Some Ksm) is h = gone _ refl h
+    by None is h = left (unmerged_of m sp l f is) h.0 h.1 (is_dirty l f h.0) h.2
 
 -- ---- one after another
 
 -- as many are left to do, and there are so many
-abbrev pub ReclaimsLeft : Setting → Option ℕ → ℕ → Ledger → List Note → Type 0
-ReclaimsLeft m closing count l ns = count ≤ length l.inactive → Outcomes m (spares closing None) l (from_tail count l.inactive) ns
+abbrev pub ReclaimsLeft : Setting → Spared → ℕ → Ledger → List Note → Type 0
+ReclaimsLeft m sp count l ns = count ≤ length l.inactive → Outcomes m sp l (from_tail count l.inactive) ns
 
 abbrev pub AgesLeft : ℕ → Ledger → List Note → Type 0
 AgesLeft count l ns = count ≤ length l.active → ns ≡ map Aged (from_tail count l.active)
@@ -184,12 +187,12 @@ same_length : (xs fs : List ℕ) (more : List ℕ) → reverse xs ≡ fs ++ more
 same_length xs fs more is = let a = length-reverse xs in let b = ap length is in let c = length-append fs more in omega (arith, a, b, c)
 
 -- as many frames are inactive as are left to look at: one fewer once the last was reclaimed
-pub reclaim-leaves : (m : Setting) (closing : Option ℕ) (k : ℕ) (l : Ledger) (f : ℕ) (ns : List Note) → IsSound m l →
-    Some f ≡ slice_get (reverse l.inactive) 0 → Outcome m (spares closing None) l f ns → suc k ≤ length l.inactive →
+pub reclaim-leaves : (m : Setting) (sp : Spared) (k : ℕ) (l : Ledger) (f : ℕ) (ns : List Note) → IsSound m l →
+    Some f ≡ slice_get (reverse l.inactive) 0 → Outcome m sp l f ns → suc k ≤ length l.inactive →
     k ≤ length (after_notes l ns).inactive
-reclaim-leaves m closing k l f ns sound first out many =
+reclaim-leaves m sp k l f ns sound first out many =
     let r = first-is f (reverse l.inactive) first in
-    let o = outcome-inactive m (spares closing None) l f r.0 ns sound r.1 (inactive-used m l f sound first) out in
+    let o = outcome-inactive m sp l f r.0 ns sound r.1 (inactive-used m l f sound first) out in
     let a = length-reverse l.inactive in
     let b = ap length r.1 in
     let c = same_length (after_notes l ns).inactive r.0 o.0 o.1 in
@@ -211,20 +214,20 @@ age-leaves m k l f ns sound first is many =
 pub last-some : (k : ℕ) (fs : List ℕ) → 0 < k → k ≤ length fs → None ≡ slice_get (reverse fs) 0 → ⊥
 last-some k fs some many none = let a = length-reverse fs in let b = ap length (first-no (reverse fs) none) in omega (arith, a, b, some, many)
 
-pub reclaims-more : (m : Setting) (closing : Option ℕ) (k : ℕ) (l : Ledger) (f : ℕ) (ns rest : List Note) → IsSound m l →
-    Some f ≡ slice_get (reverse l.inactive) 0 → Outcome m (spares closing None) l f ns → ReclaimsLeft m closing k (after_notes l ns) rest →
-    ReclaimsLeft m closing (suc k) l (ns ++ rest)
-reclaims-more m closing k l f ns rest sound first out left many =
+pub reclaims-more : (m : Setting) (sp : Spared) (k : ℕ) (l : Ledger) (f : ℕ) (ns rest : List Note) → IsSound m l →
+    Some f ≡ slice_get (reverse l.inactive) 0 → Outcome m sp l f ns → ReclaimsLeft m sp k (after_notes l ns) rest →
+    ReclaimsLeft m sp (suc k) l (ns ++ rest)
+reclaims-more m sp k l f ns rest sound first out left many =
     let r = first-is f (reverse l.inactive) first in
-    let o = outcome-inactive m (spares closing None) l f r.0 ns sound r.1 (inactive-used m l f sound first) out in
+    let o = outcome-inactive m sp l f r.0 ns sound r.1 (inactive-used m l f sound first) out in
     let few : k ≤ length r.0 = (let a = length-reverse l.inactive in let b = ap length r.1 in omega (arith, a, b, many)) in
-    let enough = reclaim-leaves m closing k l f ns sound first out many in
-    subst (λ xs. Outcomes m (spares closing None) l (take (suc k) xs) (ns ++ rest)) (sym r.1) (
+    let enough = reclaim-leaves m sp k l f ns sound first out many in
+    subst (λ xs. Outcomes m sp l (take (suc k) xs) (ns ++ rest)) (sym r.1) (
       ns,
       rest,
       refl,
       out,
-      subst (λ xs. Outcomes m (spares closing None) (after_notes l ns) xs rest) (ap (take k) o.1 ∙ take-append-le k r.0 o.0 few)
+      subst (λ xs. Outcomes m sp (after_notes l ns) xs rest) (ap (take k) o.1 ∙ take-append-le k r.0 o.0 few)
           (left enough),
     )
 
@@ -244,14 +247,14 @@ from_tail-min k n fs is = ap (λ x. take (min k x) (reverse fs)) (is ∙ sym (le
 
 -- as many as there are, or all
 pub reclaims-end : (a b : SystemView) (n0 n1 : List Note) (count all n k : ℕ) → Tells a (λ l. all ≡ length l.inactive) → n ≡ min count all →
-    IsMidway a b n0 n1 (ReclaimsLeft a.setting a.closing k) (ReclaimsLeft a.setting a.closing n) →
-    ((l : Ledger) → IsSound b.setting l → b.stands l → ReclaimsLeft a.setting a.closing k l []) →
-    Gives a b n0 n1 Always (λ l ns. Outcomes a.setting (spares a.closing None) l (from_tail count l.inactive) ns)
-reclaims-end a b n0 n1 count all n k tells is mid none = midway-end a b n0 n1 (ReclaimsLeft a.setting a.closing k)
-    (ReclaimsLeft a.setting a.closing n)
-    (λ l ns. Outcomes a.setting (spares a.closing None) l (from_tail count l.inactive) ns) mid none
+    IsMidway a b n0 n1 (ReclaimsLeft a.setting (spares a None) k) (ReclaimsLeft a.setting (spares a None) n) →
+    ((l : Ledger) → IsSound b.setting l → b.stands l → ReclaimsLeft a.setting (spares a None) k l []) →
+    Gives a b n0 n1 Always (λ l ns. Outcomes a.setting (spares a None) l (from_tail count l.inactive) ns)
+reclaims-end a b n0 n1 count all n k tells is mid none = midway-end a b n0 n1 (ReclaimsLeft a.setting (spares a None) k)
+    (ReclaimsLeft a.setting (spares a None) n)
+    (λ l ns. Outcomes a.setting (spares a None) l (from_tail count l.inactive) ns) mid none
     (λ l ns stands sound h. let same = tells l (loose a.setting _ l sound) stands in
-    subst (λ fs. Outcomes a.setting (spares a.closing None) l fs ns) (ap (λ x. from_tail x l.inactive) is ∙ from_tail-min count all l.inactive same)
+    subst (λ fs. Outcomes a.setting (spares a None) l fs ns) (ap (λ x. from_tail x l.inactive) is ∙ from_tail-min count all l.inactive same)
     (h (omega (arith, same, is))))
 
 pub ages-end : (a b : SystemView) (n0 n1 : List Note) (count all n k : ℕ) → Tells a (λ l. all ≡ length l.active) → n ≡ min count all →

@@ -9,16 +9,15 @@ use Rattle.av_base.specs.declared.slot.Slot.{Slot}
 use Rattle.av_trace.specs.declared.note.Note.{Note}
 use Rattle.av_trace.specs.declared.note.Note.TheVariants.{Dropped, Put, Started, Unmapped}
 use Rattle.av_plain.specs.Event.{after_note, after_notes, change_entries, if_some, into_cache, off_flight, to_inactive_tail, when}
-use Rattle.av_plain.specs.Ledger.{Cached, InSlot, Ledger, Setting, frame_at, in_flight, is_orphan, is_stale, is_unmapped, map_count, may_give, same_slot, slot_entries, slot_of}
-use Rattle.av_plain.specs.Pass.{IsSlotFor, end_note, end_notes, is_dirty, is_stuck, turn_notes, unmap_notes}
+use Rattle.av_plain.specs.Ledger.{Cached, InSlot, Ledger, Setting, frame_at, in_flight, is_merged, is_orphan, is_stale, is_unmapped, map_count, may_give, same_slot, slot_entries, slot_of}
+use Rattle.av_plain.specs.Pass.{IsSlotFor, Spared, end_note, end_notes, has_turn, is_dirty, is_spared, is_stuck, turn_notes, unmap_notes}
 use Rattle.av_plain.specs.Sound.{IsSound, flights, pairs}
 use Rattle.av_plain.proofs.Sound.Counts.{pair-frame, slot-itself, slot_of-some}
 use Rattle.av_plain.proofs.Sound.Steps.{UnmapKept, alike-end_note, alike-started, alike-then, flights-end_note, unmap_notes-kept}
-use Rattle.av_plain.specs.Fault.{is_pinned}
-use Rattle.av_evict.specs.Steps.{EndsFirst, IsSent, MayDrop, MayStart, spares}
-use Rattle.av_evict.specs.Turn.{InVain, IsCleaned, IsEvicted, IsSentTo, IsTurn, IsTurnUnlessPinned, MayTurn, MayWrite, unpinned}
+use Rattle.av_evict.specs.Steps.{EndsFirst, IsSent, MayDrop, MayStart, closes}
+use Rattle.av_evict.specs.Turn.{InVain, IsCleaned, IsEvicted, IsSentTo, IsTurn, IsTurnIfAny, MayTurn, MayTurnNow, MayWrite, with_turn}
 use Rattle.av_evict.specs.declared.system.WriteEnd.{WriteEnd}
-use Rattle.av_evict.proofs.StepLaws.{clean-may_drop, pair-cached, pair-slot_of}
+use Rattle.av_evict.proofs.StepLaws.{clean-may_drop, pair-cached, pair-slot_of, unmerged-count}
 
 -- ---- a page is written at once
 
@@ -140,7 +139,7 @@ evicted-some l s ns ms clean is = (false, ns, by (is_stale l s), clean, ap (λ x
 -- ---- a whole turn
 
 -- the slot is stale where the frame was dirty
-pub sent-stale : (m : Setting) (closing : Option ℕ) (l : Ledger) (f : ℕ) (s : Slot) → IsSlotFor m (spares closing None) l f s →
+pub sent-stale : (m : Setting) (closing : Option ℕ) (l : Ledger) (f : ℕ) (s : Slot) → IsSlotFor m (closes closing) l f s →
     is_stale (after_notes l (unmap_notes l f s)) s ≡ is_dirty l f s
 sent-stale m closing l f s for = by (slot_of l f) refl for
   where
@@ -166,7 +165,7 @@ sent-stale m closing l f s for = by (slot_of l f) refl for
         s ≡ (is_none o || is_stale l s))
         (sym is) (gone l (not (map_count l f == 0)))
 
-pub sent-to : (m : Setting) (closing : Option ℕ) (l : Ledger) (f : ℕ) (s : Slot) (ns : List Note) → IsSound m l → MayTurn f l →
+pub sent-to : (m : Setting) (closing : Option ℕ) (l : Ledger) (f : ℕ) (s : Slot) (ns : List Note) → IsSound m l → MayTurnNow f l →
     IsSent m closing f (Some s) l ns →
     IsSentTo f s (after_notes l ns)
 sent-to m closing l f s ns sound may sent = subst (λ x. IsSentTo f s (after_notes l x)) (sym sent.2) (record {
@@ -178,13 +177,13 @@ sent-to m closing l f s ns sound may sent = subst (λ x. IsSentTo f s (after_not
 })
   where
     u : UnmapKept m l f s (after_notes l (unmap_notes l f s))
-    u = unmap_notes-kept m (spares closing None) l f s sound sent.1 may.used
+    u = unmap_notes-kept m (closes closing) l f s sound sent.1 (unmerged-count l f may.send.unmerged) may.send.used
 
 pub turn-none : (m : Setting) (closing : Option ℕ) (l : Ledger) (f : ℕ) (ns : List Note) → IsSent m closing f None l ns →
     IsTurn m closing f false l ns
-turn-none m closing l f ns sent = by (is_stuck m (spares closing None) l f) sent.0
+turn-none m closing l f ns sent = by (is_stuck m (closes closing) l f) sent.0
   where
-    by : (b : Bool) → b ≡ true → MatchBool b (ns ≡ []) ((s : Slot) × (rest : List Note) × IsSlotFor m (spares closing None) l f s
+    by : (b : Bool) → b ≡ true → MatchBool b (ns ≡ []) ((s : Slot) × (rest : List Note) × IsSlotFor m (closes closing) l f s
         × (is_dirty l f s ≡ true) × (ns ≡ turn_notes l f s true ++ rest) × (rest ≡ []))
     by true h = sent.1
     by false h = cc
@@ -204,7 +203,7 @@ turn-both m closing l f s true ns ms sent out = record {
   where
     stale : is_stale (after_notes l ns) s ≡ is_dirty l f s
     stale = ap (λ x. is_stale (after_notes l x) s) sent.2 ∙ sent-stale m closing l f s sent.1
-turn-both m closing l f s false ns ms sent out = by (is_stuck m (spares closing None) l f) sent.0
+turn-both m closing l f s false ns ms sent out = by (is_stuck m (closes closing) l f) sent.0
   where
     stale : is_stale (after_notes l ns) s ≡ is_dirty l f s
     stale = ap (λ x. is_stale (after_notes l x) s) sent.2 ∙ sent-stale m closing l f s sent.1
@@ -213,7 +212,7 @@ turn-both m closing l f s false ns ms sent out = by (is_stuck m (spares closing 
     first true h = refl
     first false h = h
 
-    by : (b : Bool) → b ≡ false → MatchBool b (ns ++ ms ≡ []) ((t : Slot) × (rest : List Note) × IsSlotFor m (spares closing None) l f t
+    by : (b : Bool) → b ≡ false → MatchBool b (ns ++ ms ≡ []) ((t : Slot) × (rest : List Note) × IsSlotFor m (closes closing) l f t
         × (is_dirty l f t ≡ true) × (ns ++ ms ≡ turn_notes l f t true ++ rest) × (rest ≡ []))
     by true h = cc
     by false h = (
@@ -225,20 +224,27 @@ turn-both m closing l f s false ns ms sent out = by (is_stuck m (spares closing 
       refl,
     )
 
--- ---- the pinned frame has no turn
+-- ---- a frame that is left alone has no turn
 
-pub pinned-turn : (m : Setting) (closing pinned : Option ℕ) (l : Ledger) (f : ℕ) → is_pinned pinned f ≡ true →
-    IsTurnUnlessPinned m closing pinned f false l []
-pinned-turn m closing pinned l f is = by (is_pinned pinned f) is
+pub no-turn : (m : Setting) (sp : Spared) (l : Ledger) (f : ℕ) → has_turn sp l f ≡ false → IsTurnIfAny m sp f false l []
+no-turn m sp l f is = by (has_turn sp l f) is
   where
-    by : (b : Bool) → b ≡ true → InVain m closing l (cond (not b) (f ∷ []) []) []
-    by true h = refl
-    by false h = cc
+    by : (b : Bool) → b ≡ false → InVain m sp.closing l (cond b (f ∷ []) []) []
+    by true h = cc
+    by false h = refl
 
-pub unpinned-one : (pinned : Option ℕ) (f : ℕ) → is_pinned pinned f ≡ false → unpinned pinned (f ∷ []) ≡ f ∷ []
-unpinned-one pinned f is = ap (λ b. cond (not b) (f ∷ []) []) is
+pub with_turn-one : (sp : Spared) (l : Ledger) (f : ℕ) → has_turn sp l f ≡ true → with_turn sp l (f ∷ []) ≡ f ∷ []
+with_turn-one sp l f is = ap (λ b. cond b (f ∷ []) []) is
 
-pub unpinned-turn : (m : Setting) (closing pinned : Option ℕ) (l : Ledger) (f : ℕ) (freed : Bool) (ns : List Note) → is_pinned pinned f ≡ false →
-    IsTurn m closing f freed l ns → IsTurnUnlessPinned m closing pinned f freed l ns
-unpinned-turn m closing pinned l f true ns is turn = (is, turn)
-unpinned-turn m closing pinned l f false ns is turn = subst (λ fs. InVain m closing l fs ns) (sym (unpinned-one pinned f is)) turn
+pub turn-if_any : (m : Setting) (sp : Spared) (l : Ledger) (f : ℕ) (freed : Bool) (ns : List Note) → has_turn sp l f ≡ true →
+    IsTurn m sp.closing f freed l ns → IsTurnIfAny m sp f freed l ns
+turn-if_any m sp l f true ns is turn = (is, turn)
+turn-if_any m sp l f false ns is turn = subst (λ fs. InVain m sp.closing l fs ns) (sym (with_turn-one sp l f is)) turn
+
+pub turn-now : (sp : Spared) (l : Ledger) (f : ℕ) → has_turn sp l f ≡ true → MayTurn f l → MayTurnNow f l
+turn-now sp l f is may = record { landed = may.landed; send = record { used = may.used; unmerged = not-last (is_spared sp f) (is_merged l f) is } }
+  where
+    not-last : (a b : Bool) → (not a && not b) ≡ true → b ≡ false
+    not-last true b h = cc
+    not-last false true h = cc
+    not-last false false h = refl

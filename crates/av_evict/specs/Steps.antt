@@ -6,9 +6,8 @@ use Rattle.av_trace.specs.declared.note.Cause.TheVariants.{Referenced}
 use Rattle.av_trace.specs.declared.note.Note.{Note}
 use Rattle.av_trace.specs.declared.note.Note.TheVariants.{Kept, Put, Unmapped}
 use Rattle.av_plain.specs.Event.{when}
-use Rattle.av_plain.specs.Fault.{is_pinned}
-use Rattle.av_plain.specs.Ledger.{Ledger, Setting, frame_at, in_flight, is_cached, is_stale}
-use Rattle.av_plain.specs.Ledger.{is_unmapped, map_count, slot_entries, slot_of}
+use Rattle.av_plain.specs.Ledger.{Ledger, Setting, frame_at, in_flight, is_cached, is_merged}
+use Rattle.av_plain.specs.Ledger.{is_stale, is_unmapped, map_count, slot_entries, slot_of}
 use Rattle.av_plain.specs.Pass.{IsSlotFor, Spared, end_note, end_notes, is_stuck, unmap_notes}
 use Rattle.av_plain.specs.Reclaim.{is_referenced}
 use Rattle.av_plain.specs.Sound.{uses}
@@ -16,10 +15,11 @@ use Rattle.av_evict.specs.declared.system.WriteEnd.{WriteEnd}
 
 -- ---- when a step may be taken
 
--- an entry names the frame, and it is not cached
+-- an entry names the frame, and it is neither cached nor merged
 pub record MayPut (f : ℕ) (l : Ledger) : Type 0 where
   pub uncached : slot_of l f ≡ None
   pub mapped : 0 < map_count l f
+  pub unmerged : is_merged l f ≡ false
 
 -- an entry names the frame, and it is cached
 pub record MayUnmap (f : ℕ) (l : Ledger) : Type 0 where
@@ -42,6 +42,11 @@ pub record MayDrop (s : Slot) (l : Ledger) : Type 0 where
 -- an entry or a slot names the frame
 abbrev pub IsUsed : ℕ → Ledger → Type 0
 IsUsed f l = 0 < uses l f
+
+-- it is in use, and not merged
+pub record MaySend (f : ℕ) (l : Ledger) : Type 0 where
+  pub used : IsUsed f l
+  pub unmerged : is_merged l f ≡ false
 
 -- ---- the note of a step, if there is one
 
@@ -67,9 +72,9 @@ notes_of_end (Some end) = end_note end.failed end.slot ∷ []
 
 -- ---- steps with their notes
 
--- what is left alone: the pinned frame, if there is one, and the swap area that is closing
-abbrev pub spares : Option ℕ → Option ℕ → Spared
-spares closing pinned = record { frame = is_pinned pinned; closing = closing }
+-- no frame is left alone, but the swap area that is closing is
+abbrev pub closes : Option ℕ → Spared
+closes closing = record { pinned = None; locked = λ f. false; closing = closing }
 
 -- the first write in flight has ended so, and its slot was dropped where it was an orphan then
 abbrev pub EndsFirst : Option WriteEnd → Ledger → List Note → Type 0
@@ -79,17 +84,17 @@ EndsFirst (Some end) l notes =
 
 -- the frame has this slot, and no entry any more; or there is none for it
 abbrev pub IsSent : Setting → Option ℕ → ℕ → Option Slot → Ledger → List Note → Type 0
-IsSent m closing f None l notes = (is_stuck m (spares closing None) l f ≡ true) × (notes ≡ [])
+IsSent m closing f None l notes = (is_stuck m (closes closing) l f ≡ true) × (notes ≡ [])
 IsSent m closing f (Some s) l notes =
-    (is_stuck m (spares closing None) l f ≡ false) × IsSlotFor m (spares closing None) l f s
+    (is_stuck m (closes closing) l f ≡ false) × IsSlotFor m (closes closing) l f s
     × (notes ≡ unmap_notes l f s)
 
 -- the first half: it has this slot
 abbrev pub GetsSlot : Setting → Option ℕ → ℕ → Option Slot → Ledger → List Note → Type 0
 GetsSlot m closing f None l notes =
-    (is_stuck m (spares closing None) l f ≡ true) × (notes ≡ [])
+    (is_stuck m (closes closing) l f ≡ true) × (notes ≡ [])
 GetsSlot m closing f (Some s) l notes =
-    (is_stuck m (spares closing None) l f ≡ false) × IsSlotFor m (spares closing None) l f s
+    (is_stuck m (closes closing) l f ≡ false) × IsSlotFor m (closes closing) l f s
     × (notes ≡ when (is_none (slot_of l f)) (Put f s))
 
 -- the frame was kept as referenced, or none of its entries is seen

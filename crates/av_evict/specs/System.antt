@@ -1,5 +1,5 @@
 -- A memory system that can be driven in single steps, seen through the ledgers that it stands for.
-use Rattle.std.specs.Prelude.{◌≡◌, ◌≤◌, ℕ, List, ◌++◌, Option}
+use Rattle.std.specs.Prelude.{◌≡◌, ◌≤◌, ℕ, Bool, List, ◌++◌, Option}
 use Rattle.av_base.specs.declared.slot.Slot.{Slot}
 use Rattle.av_io.specs.Count.{RoseBy}
 use Rattle.av_trace.specs.declared.note.Note.{Note}
@@ -8,7 +8,7 @@ use Rattle.av_plain.specs.Choice.{ChoosesAll, Free}
 use Rattle.av_plain.specs.Event.{after_notes, note_events}
 use Rattle.av_plain.specs.Ledger.{Ledger, Setting}
 use Rattle.av_plain.specs.Load.{with_loads}
-use Rattle.av_plain.specs.Pass.{fails}
+use Rattle.av_plain.specs.Pass.{Spared, fails}
 use Rattle.av_plain.specs.World.{World}
 use Rattle.av_plain.specs.Sound.{IsSound, IsSoundBut}
 
@@ -24,10 +24,17 @@ pub record SystemView : Type 1 where
   pub failures : ℕ
   -- the ghost names of the references that it holds
   pub names : List ℕ
+  -- the frames of locked pages
+  pub locked : ℕ → Bool
   -- the ledgers that it stands for, which agree in all that it can tell
   pub stands : Ledger → Type 0
   -- the memories, areas, anon_vmas and homes that it stands for with a ledger
   pub claims : World → Rmap → Ledger → Type 0
+
+-- what a pass over it leaves alone: the pinned frame, if there is one, the frames of locked pages,
+-- and the swap area that is closing
+abbrev pub spares : SystemView → Option ℕ → Spared
+spares k pinned = record { pinned = pinned; locked = k.locked; closing = k.closing }
 
 -- any slot may be without a use: so it is within a step
 abbrev pub any_slot : Slot → ℕ
@@ -48,6 +55,11 @@ pub record Stays (old new : SystemView) : Type 0 where
   pub names : new.names ≡ old.names
   pub first : new.first ≡ old.first
   pub never_falls : old.failures ≤ new.failures
+
+-- and the same frames are locked: so it is where no page is mapped, locked or unlocked
+pub record Leaves (old new : SystemView) : Type 0 where
+  pub stays : Stays old new
+  pub locked : new.locked ≡ old.locked
 
 -- what the notes tell has happened to a ledger that it stood for. The memories are as they were,
 -- but for what a load makes unclaimed; areas, anon_vmas and homes are what the notes make of them

@@ -1,15 +1,15 @@
 -- A frame's turn in the direct pass, in parts.
 use Rattle.std.specs.Prelude.{◌≡◌, ℕ, ◌<◌, Bool, true, false, ◌&&◌, ◌||◌, not, if◌then◌else◌}
-use Rattle.std.specs.Prelude.{MatchBool, List, [], ◌∷◌, ◌++◌, filter, Option, Some, None}
+use Rattle.std.specs.Prelude.{MatchBool, List, [], ◌∷◌, ◌++◌, filter, Option, Some}
 use Rattle.av_base.specs.declared.slot.Slot.{Slot}
 use Rattle.av_trace.specs.declared.note.Note.{Note}
 use Rattle.av_trace.specs.declared.note.Note.TheVariants.{Dropped, Started}
 use Rattle.av_plain.specs.Event.{after_notes}
-use Rattle.av_plain.specs.Fault.{is_pinned}
-use Rattle.av_plain.specs.Ledger.{Ledger, Setting, is_cached, is_stale, map_count, slot_entries}
-use Rattle.av_plain.specs.Ledger.{slot_of}
-use Rattle.av_plain.specs.Pass.{IsSlotFor, end_note, is_dirty, is_stuck, stays_cached, turn_notes}
-use Rattle.av_evict.specs.Steps.{IsUsed, spares}
+use Rattle.av_plain.specs.Ledger.{Ledger, Setting, is_cached, is_stale, map_count}
+use Rattle.av_plain.specs.Ledger.{slot_entries, slot_of}
+use Rattle.av_plain.specs.Pass.{IsSlotFor, Spared, end_note, has_turn, is_dirty, is_stuck}
+use Rattle.av_plain.specs.Pass.{stays_cached, turn_notes}
+use Rattle.av_evict.specs.Steps.{IsUsed, MaySend, closes}
 
 -- ---- when a part may be done
 
@@ -17,6 +17,11 @@ use Rattle.av_evict.specs.Steps.{IsUsed, spares}
 pub record MayTurn (f : ℕ) (l : Ledger) : Type 0 where
   pub landed : l.flight ≡ []
   pub used : IsUsed f l
+
+-- and it isn't merged
+pub record MayTurnNow (f : ℕ) (l : Ledger) : Type 0 where
+  pub landed : l.flight ≡ []
+  pub send : MaySend f l
 
 -- nothing is in flight, and an entry names the slot, which is cached
 pub record MayWrite (s : Slot) (l : Ledger) : Type 0 where
@@ -51,9 +56,9 @@ IsEvicted s false l notes = IsCleaned s true l notes
 -- these frames had their turns, in vain: there was no slot, or the write failed
 abbrev pub InVain : Setting → Option ℕ → Ledger → List ℕ → List Note → Type 0
 InVain m closing l [] notes = notes ≡ []
-InVain m closing l (f ∷ fs) notes = MatchBool (is_stuck m (spares closing None) l f)
+InVain m closing l (f ∷ fs) notes = MatchBool (is_stuck m (closes closing) l f)
     (InVain m closing l fs notes)
-    ((s : Slot) × (rest : List Note) × IsSlotFor m (spares closing None) l f s
+    ((s : Slot) × (rest : List Note) × IsSlotFor m (closes closing) l f s
     × (is_dirty l f s ≡ true) × (notes ≡ turn_notes l f s true ++ rest)
     × InVain m closing (after_notes l (turn_notes l f s true)) fs rest)
 
@@ -62,8 +67,8 @@ pub record Frees (m : Setting) (closing : Option ℕ) (f : ℕ) (l : Ledger) (no
     : Type 0 where
   pub slot : Slot
   pub failed : Bool
-  pub unstuck : is_stuck m (spares closing None) l f ≡ false
-  pub for : IsSlotFor m (spares closing None) l f slot
+  pub unstuck : is_stuck m (closes closing) l f ≡ false
+  pub for : IsSlotFor m (closes closing) l f slot
   pub written : stays_cached l f slot failed ≡ false
   pub whole : notes ≡ turn_notes l f slot failed ++ Dropped slot ∷ []
 
@@ -72,14 +77,12 @@ abbrev pub IsTurn : Setting → Option ℕ → ℕ → Bool → Ledger → List 
 IsTurn m closing f true l notes = Frees m closing f l notes
 IsTurn m closing f false l notes = InVain m closing l (f ∷ []) notes
 
--- the frames that are not pinned
-abbrev pub unpinned : Option ℕ → List ℕ → List ℕ
-unpinned pinned fs = filter (λ f. not (is_pinned pinned f)) fs
+-- those of the frames that have a turn
+abbrev pub with_turn : Spared → Ledger → List ℕ → List ℕ
+with_turn spared l fs = filter (has_turn spared l) fs
 
--- the turn of a frame, which a pinned one does not have
-abbrev pub IsTurnUnlessPinned : Setting → Option ℕ → Option ℕ → ℕ → Bool → Ledger → List Note
-    → Type 0
-IsTurnUnlessPinned m closing pinned f true l notes =
-    (is_pinned pinned f ≡ false) × Frees m closing f l notes
-IsTurnUnlessPinned m closing pinned f false l notes =
-    InVain m closing l (unpinned pinned (f ∷ [])) notes
+-- the turn of a frame, if it has one
+abbrev pub IsTurnIfAny : Setting → Spared → ℕ → Bool → Ledger → List Note → Type 0
+IsTurnIfAny m spared f true l notes =
+    (has_turn spared l f ≡ true) × Frees m spared.closing f l notes
+IsTurnIfAny m spared f false l notes = InVain m spared.closing l (with_turn spared l (f ∷ [])) notes

@@ -2,7 +2,7 @@
 
 ghost use Rattle.std.specs.Prelude.{OnOk, take, Bool, false};
 ghost use Rattle.av_plain.specs.Pass.{Completes};
-ghost use Rattle.av_evict.specs.System.{Always, Gives, IsAt, Stays};
+ghost use Rattle.av_evict.specs.System.{Always, Gives, IsAt, Leaves};
 
 use crate::steps::finish_first;
 use crate::system::System;
@@ -16,7 +16,7 @@ pub fn complete<S: System>(system: &mut S, count: u32, notes: &mut Notes) -> Res
     ensures gives { OnOk result ((told : Bool) → Gives (S.view system.old told)
         (S.view system.new told) notes.old notes.new Always
         (λ l added. Completes l (take count l.flight) added)) }
-    ensures stays { (told : Bool) → Stays (S.view system.old told) (S.view system.new told) }
+    ensures stays { (told : Bool) → Leaves (S.view system.old told) (S.view system.new told) }
 {
     let turns = count.min(system.flight_len());
     for _turn in 0..turns {

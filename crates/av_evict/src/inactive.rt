@@ -6,8 +6,8 @@ ghost use Rattle.av_plain.specs.Ledger.{slot_of};
 ghost use Rattle.av_plain.specs.Reclaim.{Outcome, Outcomes, from_tail};
 ghost use Rattle.av_plain.specs.Reclaim.{is_in_writeback as is_writeback};
 ghost use Rattle.av_evict.specs.Inactive.{GoesOut, IsSentIdle};
-ghost use Rattle.av_evict.specs.Steps.{IsUsed, spares};
-ghost use Rattle.av_evict.specs.System.{Always, Gives, IsAt, Stays, Tells};
+ghost use Rattle.av_evict.specs.Steps.{IsUsed, MaySend, closes};
+ghost use Rattle.av_evict.specs.System.{Always, Gives, IsAt, Leaves, Tells, spares};
 
 use crate::steps::{age_one, drop_slot, keep, keep_referenced, send, start};
 use crate::system::System;
@@ -21,8 +21,8 @@ pub fn reclaim<S: System>(system: &mut S, count: u32, notes: &mut Notes) -> Resu
     requires { IsAt (S.view system.old false) Always }
     ensures gives { OnOk result ((told : Bool) → let old = S.view system.old told in
         Gives old (S.view system.new told) notes.old notes.new Always (λ l added.
-        Outcomes old.setting (spares old.closing None) l (from_tail count l.inactive) added)) }
-    ensures stays { (told : Bool) → Stays (S.view system.old told) (S.view system.new told) }
+        Outcomes old.setting (spares old None) l (from_tail count l.inactive) added)) }
+    ensures stays { (told : Bool) → Leaves (S.view system.old told) (S.view system.new told) }
 {
     let turns = count.min(system.inactive_len());
     for _turn in 0..turns {
@@ -39,8 +39,33 @@ fn reclaim_one<S: System>(system: &mut S, frame: u32, notes: &mut Notes) -> Resu
     requires { IsAt (S.view system.old false) (IsUsed frame) }
     ensures gives { OnOk result ((told : Bool) → let old = S.view system.old told in
         Gives old (S.view system.new told) notes.old notes.new (IsUsed frame) (λ l added.
-        Outcome old.setting (spares old.closing None) l frame added)) }
-    ensures stays { (told : Bool) → Stays (S.view system.old told) (S.view system.new told) }
+        Outcome old.setting (spares old None) l frame added)) }
+    ensures stays { (told : Bool) → Leaves (S.view system.old told) (S.view system.new told) }
+{
+    if system.is_locked(frame) {
+        keep(system, frame, Cause::Locked, notes)?;
+        return Ok(());
+    }
+    if system.is_merged(frame) {
+        keep(system, frame, Cause::Ksm, notes)?;
+        return Ok(());
+    }
+    reclaim_unspared(system, frame, notes)?;
+    Ok(())
+}
+
+// Reclaims a frame that is neither locked nor merged.
+fn reclaim_unspared<S: System>(
+    system: &mut S,
+    frame: u32,
+    notes: &mut Notes,
+) -> Result<(), AllocError>
+    requires may { IsAt (S.view system.old false) (MaySend frame) }
+    requires unlocked { (S.view system.old false).locked frame ≡ false }
+    ensures gives { OnOk result ((told : Bool) → let old = S.view system.old told in
+        Gives old (S.view system.new told) notes.old notes.new (MaySend frame) (λ l added.
+        Outcome old.setting (closes old.closing) l frame added)) }
+    ensures stays { (told : Bool) → Leaves (S.view system.old told) (S.view system.new told) }
 {
     if is_in_writeback(system, frame) {
         keep(system, frame, Cause::Writeback, notes)?;
@@ -79,7 +104,7 @@ fn write_or_drop<S: System>(
     requires { IsAt (S.view system.old false) (IsSentIdle frame slot) }
     ensures gives { OnOk result ((told : Bool) → Gives (S.view system.old told)
         (S.view system.new told) notes.old notes.new (IsSentIdle frame slot) (GoesOut frame slot)) }
-    ensures stays { (told : Bool) → Stays (S.view system.old told) (S.view system.new told) }
+    ensures stays { (told : Bool) → Leaves (S.view system.old told) (S.view system.new told) }
 {
     let dirty = system.is_dirty(frame);
     if dirty {
@@ -97,7 +122,7 @@ pub fn age<S: System>(system: &mut S, count: u32, notes: &mut Notes) -> Result<(
     ensures gives { OnOk result ((told : Bool) → Gives (S.view system.old told)
         (S.view system.new told) notes.old notes.new Always
         (λ l added. added ≡ map Aged (from_tail count l.active))) }
-    ensures stays { (told : Bool) → Stays (S.view system.old told) (S.view system.new told) }
+    ensures stays { (told : Bool) → Leaves (S.view system.old told) (S.view system.new told) }
 {
     let turns = count.min(system.active_len());
     for _turn in 0..turns {

@@ -8,11 +8,12 @@
 //! that doesn't tell them.
 //! Where a note finds no memory the call answers `AllocError`, and promises of its ledgers nothing.
 //! What no step changes is as it was then too, and the count of failures has not fallen.
-#![tactic(auto, using(crate::proofs::SystemLaws::stays_so, crate::proofs::SystemLaws::stays_then))]
+#![tactic(auto, using(crate::proofs::SystemLaws::left_so, crate::proofs::SystemLaws::left_then))]
 
 mod flight;
 mod inactive;
 mod pass;
+mod standing;
 mod steps;
 mod system;
 mod turn;

@@ -1,18 +1,20 @@
 //! The search for a free frame: where none is free, a direct pass, in which the frames in use have
 //! their turns.
 
-ghost use Rattle.std.specs.Prelude.{◌≡◌, ◌<◌, ◌∷◌, ◌++◌, ◌≤◌, ◌+◌, ℕ, List, slice_get, IfOk, OnOk};
+ghost use Rattle.std.specs.Prelude.{◌≡◌, ◌∷◌, ◌++◌, ℕ, List, slice_get, IfOk, OnOk};
 ghost use Rattle.std.specs.Prelude.{Bool, false};
 ghost use Rattle.av_plain.specs.Ledger.{has_free as is_any_free};
 ghost use Rattle.av_plain.specs.Pass.{IsPass, Seeks, out_of as numbers};
-ghost use Rattle.av_evict.specs.Pass.{AreTurns, Counts, IsEnd, IsLanded, IsNext, IsPassed};
+ghost use Rattle.av_evict.specs.Pass.{AreTurns, IsEnd, IsLanded, IsNext, IsPassed};
 ghost use Rattle.av_evict.specs.Pass.{turn_order};
-ghost use Rattle.av_evict.specs.Steps.{IsUsed, spares};
-ghost use Rattle.av_evict.specs.System.{Always, Gives, IsAt, Knows, Stays, Tells};
+ghost use Rattle.av_evict.specs.Steps.{IsUsed};
+ghost use Rattle.av_evict.specs.System.{Always, Gives, IsAt, Knows, Leaves, Tells};
+ghost use Rattle.av_evict.specs.System.{spares};
 
 use crate::flight::complete;
+use crate::standing::{counts, standing_of};
 use crate::system::System;
-use crate::turn::{is_pinned, turn_unless_pinned};
+use crate::turn::turn_if_any;
 use av_trace::{Notes, OutOf};
 use std::alloc::AllocError;
 
@@ -26,7 +28,7 @@ pub enum SeekEnd {
 }
 
 /// Finds a free frame, behind a direct pass exactly where none is free. The pass leaves the pinned
-/// frame alone.
+/// frame alone, and those that are locked or merged.
 pub fn seek<S: System>(
     system: &mut S,
     pinned: Option<u32>,
@@ -35,11 +37,11 @@ pub fn seek<S: System>(
     requires { IsAt (S.view system.old false) Always }
     ensures seeks { IfOk result (λ end. (told : Bool) → let old = S.view system.old told in
         Gives old (S.view system.new told) notes.old notes.new Always (λ l added.
-        Seeks old.setting (spares old.closing pinned) l added
-        × IsEnd old.setting old.closing pinned end l added)) }
+        Seeks old.setting (spares old pinned) l added
+        × IsEnd old.setting (spares old pinned) end l added)) }
     ensures next { IfOk result (λ end. (told : Bool) →
         IsNext end (S.view system.new told).free.frames) }
-    ensures stays { (told : Bool) → Stays (S.view system.old told) (S.view system.new told) }
+    ensures stays { (told : Bool) → Leaves (S.view system.old told) (S.view system.new told) }
 {
     if let Some(frame) = system.free_frame() {
         return Ok(SeekEnd::Frame(frame));
@@ -49,7 +51,7 @@ pub fn seek<S: System>(
 }
 
 // A direct pass: all writes in flight end, and where no frame is free then, the frames in use have
-// their turns, but for the pinned one, until one is free.
+// their turns, but for those that are left alone, until one is free.
 fn direct<S: System>(
     system: &mut S,
     pinned: Option<u32>,
@@ -58,11 +60,11 @@ fn direct<S: System>(
     requires { IsAt (S.view system.old false) Always }
     ensures pass { IfOk result (λ end. (told : Bool) → let old = S.view system.old told in
         Gives old (S.view system.new told) notes.old notes.new Always (λ l added.
-        IsPass old.setting (spares old.closing pinned) l added
-        × IsEnd old.setting old.closing pinned end l added)) }
+        IsPass old.setting (spares old pinned) l added
+        × IsEnd old.setting (spares old pinned) end l added)) }
     ensures next { IfOk result (λ end. (told : Bool) →
         IsNext end (S.view system.new told).free.frames) }
-    ensures stays { (told : Bool) → Stays (S.view system.old told) (S.view system.new told) }
+    ensures stays { (told : Bool) → Leaves (S.view system.old told) (S.view system.new told) }
 {
     pass(system, pinned, notes)?;
     match system.free_frame() {
@@ -76,8 +78,8 @@ fn pass<S: System>(system: &mut S, pinned: Option<u32>, notes: &mut Notes) -> Re
     requires { IsAt (S.view system.old false) Always }
     ensures gives { OnOk result ((told : Bool) → let old = S.view system.old told in
         Gives old (S.view system.new told) notes.old notes.new Always
-        (IsPassed old.setting old.closing pinned)) }
-    ensures stays { (told : Bool) → Stays (S.view system.old told) (S.view system.new told) }
+        (IsPassed old.setting (spares old pinned))) }
+    ensures stays { (told : Bool) → Leaves (S.view system.old told) (S.view system.new told) }
 {
     let flying = system.flight_len();
     complete(system, flying, notes)?;
@@ -98,41 +100,31 @@ fn has_free<S: System>(system: &S) -> bool
 
 // The numbers that say why no frame is free.
 fn out_of<S: System>(system: &S, pinned: Option<u32>) -> OutOf
+    requires { Knows (S.view system.now false) Always }
     ensures { (told : Bool) → let now = S.view system.now told in Tells now (λ l.
-        result ≡ numbers now.setting pinned (spares now.closing pinned) l) }
+        result ≡ numbers now.setting (spares now pinned) l) }
 {
     let mut noslot = 0;
     let mut fault = 0;
+    let mut locked = 0;
+    let mut ksm = 0;
     for frame in 0..system.frames() {
-        let (without, with) = counts(system, pinned, frame);
-        noslot += without;
-        fault += with;
+        let one = counts(standing_of(system, pinned, frame));
+        noslot += one.noslot;
+        fault += one.fault;
+        locked += one.locked;
+        ksm += one.ksm;
     }
     OutOf {
         pinned: u32::from(pinned.is_some()),
         noslot,
         fault,
+        locked,
+        ksm,
     }
 }
 
-// What a frame adds to the numbers: to those that are not cached, and to those that are.
-fn counts<S: System>(system: &S, pinned: Option<u32>, frame: u32) -> (u32, u32)
-    requires { frame < (S.view system.now false).setting.frames }
-    ensures once { result.0 + result.1 ≤ 1 }
-    ensures counts { (told : Bool) → Tells (S.view system.now told)
-        (λ l. Counts pinned frame l result) }
-{
-    if is_pinned(pinned, frame) {
-        return (0, 0);
-    }
-    if system.slot(frame).is_some() {
-        (0, 1)
-    } else {
-        (1, 0)
-    }
-}
-
-// The frames in use have their turns, but for the pinned one, until one is free.
+// The frames in use have their turns, but for those that are left alone, until one is free.
 fn turns<S: System>(
     system: &mut S,
     pinned: Option<u32>,
@@ -141,8 +133,8 @@ fn turns<S: System>(
     requires { IsAt (S.view system.old false) IsLanded }
     ensures gives { OnOk result ((told : Bool) → let old = S.view system.old told in
         Gives old (S.view system.new told) notes.old notes.new IsLanded
-        (AreTurns old.setting old.closing pinned)) }
-    ensures stays { (told : Bool) → Stays (S.view system.old told) (S.view system.new told) }
+        (AreTurns old.setting (spares old pinned))) }
+    ensures stays { (told : Bool) → Leaves (S.view system.old told) (S.view system.new told) }
 {
     let mut next = first_in_turn(system);
     let all = u64::from(system.inactive_len()) + u64::from(system.active_len());
@@ -150,7 +142,7 @@ fn turns<S: System>(
         let Some(frame) = next else {
             unreachable!();
         };
-        let freed = turn_unless_pinned(system, pinned, frame, notes)?;
+        let freed = turn_if_any(system, pinned, frame, notes)?;
         if freed {
             return Ok(());
         }

@@ -4,8 +4,8 @@ ghost use Rattle.std.specs.Prelude.{◌≡◌, ◌∷◌, [], OnOk, IfOk, Bool, 
 ghost use Rattle.av_trace.specs.declared.note.Note.TheVariants.{Aged, Dropped, Kept, Started};
 ghost use Rattle.av_plain.specs.Pass.{end_note as note_of};
 ghost use Rattle.av_evict.specs.Steps.{EndsFirst, GetsSlot, IsInCache, IsSent, IsUnmapped, IsUsed};
-ghost use Rattle.av_evict.specs.Steps.{KeepsReferenced, MayDrop, MayStart};
-ghost use Rattle.av_evict.specs.System.{Adds, Always, Gives, IsAt, Stays};
+ghost use Rattle.av_evict.specs.Steps.{KeepsReferenced, MayDrop, MaySend, MayStart};
+ghost use Rattle.av_evict.specs.System.{Adds, Always, Gives, IsAt, Leaves};
 
 use crate::system::{System, WriteEnd};
 use av_base::Slot;
@@ -21,7 +21,7 @@ pub fn finish_first<S: System>(
     requires { IsAt (S.view system.old false) Always }
     ensures gives { IfOk result (λ end. (told : Bool) → Gives (S.view system.old told)
         (S.view system.new told) notes.old notes.new Always (EndsFirst end)) }
-    ensures stays { (told : Bool) → Stays (S.view system.old told) (S.view system.new told) }
+    ensures stays { (told : Bool) → Leaves (S.view system.old told) (S.view system.new told) }
 {
     let Some(end) = system.finish() else {
         return Ok(None);
@@ -50,7 +50,7 @@ pub fn start<S: System>(system: &mut S, slot: Slot, notes: &mut Notes) -> Result
     requires { IsAt (S.view system.old false) (MayStart slot) }
     ensures gives { OnOk result ((told : Bool) → Gives (S.view system.old told)
         (S.view system.new told) notes.old notes.new (MayStart slot) (Adds (Started slot ∷ []))) }
-    ensures stays { (told : Bool) → Stays (S.view system.old told) (S.view system.new told) }
+    ensures stays { (told : Bool) → Leaves (S.view system.old told) (S.view system.new told) }
 {
     system.start(slot);
     notes.push(Note::Started(slot))?;
@@ -62,25 +62,26 @@ pub fn drop_slot<S: System>(system: &mut S, slot: Slot, notes: &mut Notes) -> Re
     requires { IsAt (S.view system.old false) (MayDrop slot) }
     ensures gives { OnOk result ((told : Bool) → Gives (S.view system.old told)
         (S.view system.new told) notes.old notes.new (MayDrop slot) (Adds (Dropped slot ∷ []))) }
-    ensures stays { (told : Bool) → Stays (S.view system.old told) (S.view system.new told) }
+    ensures stays { (told : Bool) → Leaves (S.view system.old told) (S.view system.new told) }
 {
     system.drop_slot(slot);
     notes.push(Note::Dropped(slot))?;
     Ok(())
 }
 
-/// Sends a frame in use to its slot: caches it at the next one where it isn't cached, and unmaps it
-/// where an entry names it. Without a slot it stays as it is.
+/// Sends a frame that is neither locked nor merged to its slot: caches it at the next one where it
+/// isn't cached, and unmaps it where an entry names it. Without a slot it stays as it is.
 pub fn send<S: System>(
     system: &mut S,
     frame: u32,
     notes: &mut Notes,
 ) -> Result<Option<Slot>, AllocError>
-    requires { IsAt (S.view system.old false) (IsUsed frame) }
+    requires may { IsAt (S.view system.old false) (MaySend frame) }
+    requires unlocked { (S.view system.old false).locked frame ≡ false }
     ensures gives { IfOk result (λ slot. (told : Bool) → let old = S.view system.old told in
-        Gives old (S.view system.new told) notes.old notes.new (IsUsed frame)
+        Gives old (S.view system.new told) notes.old notes.new (MaySend frame)
         (IsSent old.setting old.closing frame slot)) }
-    ensures stays { (told : Bool) → Stays (S.view system.old told) (S.view system.new told) }
+    ensures stays { (told : Bool) → Leaves (S.view system.old told) (S.view system.new told) }
 {
     let Some(slot) = slot_for(system, frame, notes)? else {
         return Ok(None);
@@ -89,17 +90,17 @@ pub fn send<S: System>(
     Ok(Some(slot))
 }
 
-// The slot of a frame in use: it is cached at the next one where it isn't cached yet.
+// The slot of a frame that isn't merged: it is cached at the next one where it isn't cached yet.
 fn slot_for<S: System>(
     system: &mut S,
     frame: u32,
     notes: &mut Notes,
 ) -> Result<Option<Slot>, AllocError>
-    requires { IsAt (S.view system.old false) (IsUsed frame) }
+    requires { IsAt (S.view system.old false) (MaySend frame) }
     ensures gives { IfOk result (λ slot. (told : Bool) → let old = S.view system.old told in
-        Gives old (S.view system.new told) notes.old notes.new (IsUsed frame)
+        Gives old (S.view system.new told) notes.old notes.new (MaySend frame)
         (GetsSlot old.setting old.closing frame slot)) }
-    ensures stays { (told : Bool) → Stays (S.view system.old told) (S.view system.new told) }
+    ensures stays { (told : Bool) → Leaves (S.view system.old told) (S.view system.new told) }
 {
     if let Some(slot) = system.slot(frame) {
         return Ok(Some(slot));
@@ -111,12 +112,13 @@ fn slot_for<S: System>(
     Ok(Some(slot))
 }
 
-// Unmaps a cached frame where an entry names it.
+// Unmaps a cached frame where an entry names it. No page of it is locked.
 fn unmap<S: System>(system: &mut S, frame: u32, notes: &mut Notes) -> Result<(), AllocError>
-    requires { IsAt (S.view system.old false) (IsInCache frame) }
+    requires cached { IsAt (S.view system.old false) (IsInCache frame) }
+    requires unlocked { (S.view system.old false).locked frame ≡ false }
     ensures gives { OnOk result ((told : Bool) → Gives (S.view system.old told)
         (S.view system.new told) notes.old notes.new (IsInCache frame) (IsUnmapped frame)) }
-    ensures stays { (told : Bool) → Stays (S.view system.old told) (S.view system.new told) }
+    ensures stays { (told : Bool) → Leaves (S.view system.old told) (S.view system.new told) }
 {
     if system.is_mapped(frame) {
         system.unmap(frame)?;
@@ -134,7 +136,7 @@ pub fn keep_referenced<S: System>(
     requires { IsAt (S.view system.old false) (IsUsed frame) }
     ensures gives { IfOk result (λ seen. (told : Bool) → Gives (S.view system.old told)
         (S.view system.new told) notes.old notes.new (IsUsed frame) (KeepsReferenced frame seen)) }
-    ensures stays { (told : Bool) → Stays (S.view system.old told) (S.view system.new told) }
+    ensures stays { (told : Bool) → Leaves (S.view system.old told) (S.view system.new told) }
 {
     let seen = system.keep_referenced(frame);
     if seen {
@@ -158,7 +160,7 @@ pub fn keep<S: System>(
     ensures gives { OnOk result ((told : Bool) → Gives (S.view system.old told)
         (S.view system.new told) notes.old notes.new (IsUsed frame)
         (Adds (Kept frame cause ∷ []))) }
-    ensures stays { (told : Bool) → Stays (S.view system.old told) (S.view system.new told) }
+    ensures stays { (told : Bool) → Leaves (S.view system.old told) (S.view system.new told) }
 {
     system.keep(frame, cause);
     notes.push(Note::Kept { frame, cause })?;
@@ -170,7 +172,7 @@ pub fn age_one<S: System>(system: &mut S, frame: u32, notes: &mut Notes) -> Resu
     requires { IsAt (S.view system.old false) (IsUsed frame) }
     ensures gives { OnOk result ((told : Bool) → Gives (S.view system.old told)
         (S.view system.new told) notes.old notes.new (IsUsed frame) (Adds (Aged frame ∷ []))) }
-    ensures stays { (told : Bool) → Stays (S.view system.old told) (S.view system.new told) }
+    ensures stays { (told : Bool) → Leaves (S.view system.old told) (S.view system.new told) }
 {
     system.age(frame);
     notes.push(Note::Aged(frame))?;

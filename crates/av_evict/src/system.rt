@@ -6,12 +6,15 @@ ghost use Rattle.av_base.specs.Words.{is_in};
 ghost use Rattle.av_base.specs.declared.slot.Slot.{Slot};
 ghost use Rattle.av_trace.specs.declared.note.Note.TheVariants.{Aged, Dropped, Kept, Started};
 ghost use Rattle.av_trace.specs.declared.note.Note.TheVariants.{Unmapped};
-ghost use Rattle.av_plain.specs.Ledger.{has_free, in_flight, is_free, is_orphan, is_stale};
-ghost use Rattle.av_plain.specs.Ledger.{map_count, may_give, no_slot, slot_of};
+ghost use Rattle.av_plain.specs.Areas.{Rmap};
+ghost use Rattle.av_plain.specs.Fault.{is_locked};
+ghost use Rattle.av_plain.specs.Ledger.{Ledger, has_free, in_flight, is_free, is_merged, is_orphan};
+ghost use Rattle.av_plain.specs.Ledger.{is_stale, map_count, may_give, no_slot, slot_of};
 ghost use Rattle.av_plain.specs.Reclaim.{is_referenced};
+ghost use Rattle.av_plain.specs.World.{World};
 ghost use Rattle.av_evict.specs.Steps.{IsUsed, MayDrop, MayPut, MayStart, MayUnmap, notes_of_end};
 ghost use Rattle.av_evict.specs.Steps.{put_notes, referenced_notes, slot_of_end};
-ghost use Rattle.av_evict.specs.System.{Always, Knows, Makes, Stays, SystemView, Tells};
+ghost use Rattle.av_evict.specs.System.{Always, Knows, Makes, Leaves, SystemView, Tells};
 
 use av_base::Slot;
 use av_trace::Cause;
@@ -47,6 +50,17 @@ pub trait System {
     fn slot(&self, frame: u32) -> Option<Slot>
         requires { frame < (view self.now false).setting.frames }
         ensures { (told : Bool) → Tells (view self.now told) (λ l. result ≡ slot_of l frame) };
+
+    /// Whether a page of the frame's walk is locked.
+    fn is_locked(&self, frame: u32) -> bool
+        requires in_range { frame < (view self.now false).setting.frames }
+        requires stands { Knows (view self.now false) Always }
+        ensures { (told : Bool) → result ≡ (view self.now told).locked frame };
+
+    /// Whether pages with equal bytes share the frame.
+    fn is_merged(&self, frame: u32) -> bool
+        requires { frame < (view self.now false).setting.frames }
+        ensures { (told : Bool) → Tells (view self.now told) (λ l. result ≡ is_merged l frame) };
 
     /// Whether an entry names the frame.
     fn is_mapped(&self, frame: u32) -> bool
@@ -120,21 +134,22 @@ pub trait System {
             (λ s. may_give old.setting old.closing l s ≡ true)) }
         ensures puts { (told : Bool) → Makes (view self.old told) (view self.new told)
             (MayPut frame) (put_notes frame result) }
-        ensures stays { (told : Bool) → Stays (view self.old told) (view self.new told) };
+        ensures stays { (told : Bool) → Leaves (view self.old told) (view self.new told) };
 
-    /// Each entry of a cached frame becomes its slot.
+    /// Each entry of a cached frame becomes its slot. No page of it is locked.
     fn unmap(&mut self, frame: u32) -> Result<(), AllocError>
-        requires { Knows (view self.old false) (MayUnmap frame) }
+        requires may { Knows (view self.old false) (MayUnmap frame) }
+        requires unlocked { (view self.old false).locked frame ≡ false }
         ensures makes { OnOk result ((told : Bool) → Makes (view self.old told) (view self.new told)
             (MayUnmap frame) (Unmapped frame ∷ [])) }
-        ensures stays { (told : Bool) → Stays (view self.old told) (view self.new told) };
+        ensures stays { (told : Bool) → Leaves (view self.old told) (view self.new told) };
 
     /// Puts the write of a cached slot last in flight.
     fn start(&mut self, slot: Slot)
         requires { Knows (view self.old false) (MayStart slot) }
         ensures makes { (told : Bool) → Makes (view self.old told) (view self.new told)
             (MayStart slot) (Started slot ∷ []) }
-        ensures stays { (told : Bool) → Stays (view self.old told) (view self.new told) };
+        ensures stays { (told : Bool) → Leaves (view self.old told) (view self.new told) };
 
     /// Ends the first write in flight. None exactly where none is in flight.
     fn finish(&mut self) -> Option<WriteEnd>
@@ -143,14 +158,14 @@ pub trait System {
             (λ l. slot_of_end result ≡ slice_get l.flight 0) }
         ensures ends { (told : Bool) → Makes (view self.old told) (view self.new told) Always
             (notes_of_end result) }
-        ensures stays { (told : Bool) → Stays (view self.old told) (view self.new told) };
+        ensures stays { (told : Bool) → Leaves (view self.old told) (view self.new told) };
 
     /// Takes a slot out of the cache.
     fn drop_slot(&mut self, slot: Slot)
         requires { Knows (view self.old false) (MayDrop slot) }
         ensures makes { (told : Bool) → Makes (view self.old told) (view self.new told)
             (MayDrop slot) (Dropped slot ∷ []) }
-        ensures stays { (told : Bool) → Stays (view self.old told) (view self.new told) };
+        ensures stays { (told : Bool) → Leaves (view self.old told) (view self.new told) };
 
     /// Keeps a frame in use as referenced where an entry of it is seen: it goes to the head of
     /// active, and is not seen any more. Answers whether that is so; where it isn't, no ledger
@@ -161,7 +176,7 @@ pub trait System {
             (λ l. result ≡ is_referenced l frame) }
         ensures makes { (told : Bool) → Makes (view self.old told) (view self.new told)
             (IsUsed frame) (referenced_notes frame result) }
-        ensures stays { (told : Bool) → Stays (view self.old told) (view self.new told) };
+        ensures stays { (told : Bool) → Leaves (view self.old told) (view self.new told) };
 
     /// Moves a frame in use to the head of the list that the cause names: any but `Referenced`,
     /// for which `keep_referenced` is.
@@ -170,12 +185,16 @@ pub trait System {
         requires other { cause ≡ Cause.Referenced → ⊥ }
         ensures makes { (told : Bool) → Makes (view self.old told) (view self.new told)
             (IsUsed frame) (Kept frame cause ∷ []) }
-        ensures stays { (told : Bool) → Stays (view self.old told) (view self.new told) };
+        ensures stays { (told : Bool) → Leaves (view self.old told) (view self.new told) };
 
     /// Moves a frame in use to the head of inactive. It is not seen any more.
     fn age(&mut self, frame: u32)
         requires { Knows (view self.old false) (IsUsed frame) }
         ensures makes { (told : Bool) → Makes (view self.old told) (view self.new told)
             (IsUsed frame) (Aged frame ∷ []) }
-        ensures stays { (told : Bool) → Stays (view self.old told) (view self.new told) };
+        ensures stays { (told : Bool) → Leaves (view self.old told) (view self.new told) };
+
+    // In all memories that it stands for, the frames of locked pages are those of its view.
+    ghost locks: { (s : Self) (told : Bool) (w : World) (r : Rmap) (l : Ledger)
+        → (view s told).claims w r l → (view s told).locked ≡ is_locked w l };
 }

@@ -2,20 +2,20 @@
 
 ghost use Rattle.std.specs.Prelude.{◌≡◌, ◌∷◌, [], IfOk, Bool, false};
 ghost use Rattle.av_trace.specs.declared.note.Note.TheVariants.{Started};
-ghost use Rattle.av_plain.specs.Fault.{is_pinned as pins};
 ghost use Rattle.av_plain.specs.Pass.{end_note};
-ghost use Rattle.av_evict.specs.System.{Adds, Gives, IsAt, Stays};
-ghost use Rattle.av_evict.specs.Turn.{IsCleaned, IsEvicted, IsSentTo, IsTurn, IsTurnUnlessPinned};
-ghost use Rattle.av_evict.specs.Turn.{MayTurn, MayWrite};
+ghost use Rattle.av_evict.specs.System.{Adds, Gives, IsAt, Leaves, spares};
+ghost use Rattle.av_evict.specs.Turn.{IsCleaned, IsEvicted, IsSentTo, IsTurn, IsTurnIfAny};
+ghost use Rattle.av_evict.specs.Turn.{MayTurn, MayTurnNow, MayWrite};
 
+use crate::standing::{gets_turn, standing_of};
 use crate::steps::{drop_slot, finish_first, send, start};
 use crate::system::System;
 use av_base::Slot;
 use av_trace::Notes;
 use std::alloc::AllocError;
 
-/// A frame in use has its turn, unless it is pinned. Whether it is free then.
-pub fn turn_unless_pinned<S: System>(
+/// A frame in use has its turn, unless it is pinned, locked or merged. Whether it is free then.
+pub fn turn_if_any<S: System>(
     system: &mut S,
     pinned: Option<u32>,
     frame: u32,
@@ -24,33 +24,25 @@ pub fn turn_unless_pinned<S: System>(
     requires { IsAt (S.view system.old false) (MayTurn frame) }
     ensures gives { IfOk result (λ freed. (told : Bool) → let old = S.view system.old told in
         Gives old (S.view system.new told) notes.old notes.new (MayTurn frame)
-        (IsTurnUnlessPinned old.setting old.closing pinned frame freed)) }
-    ensures stays { (told : Bool) → Stays (S.view system.old told) (S.view system.new told) }
+        (IsTurnIfAny old.setting (spares old pinned) frame freed)) }
+    ensures stays { (told : Bool) → Leaves (S.view system.old told) (S.view system.new told) }
 {
-    if is_pinned(pinned, frame) {
+    let standing = standing_of(system, pinned, frame);
+    if !gets_turn(standing) {
         return Ok(false);
     }
     let freed = turn(system, frame, notes)?;
     Ok(freed)
 }
 
-/// Whether it is the frame that a pass leaves alone.
-pub fn is_pinned(pinned: Option<u32>, frame: u32) -> bool
-    ensures { result ≡ pins pinned frame }
-{
-    match pinned {
-        Some(pinned) => pinned == frame,
-        None => false,
-    }
-}
-
-// A frame in use has its turn. Whether it is free then.
+// A frame that is neither locked nor merged has its turn. Whether it is free then.
 fn turn<S: System>(system: &mut S, frame: u32, notes: &mut Notes) -> Result<bool, AllocError>
-    requires { IsAt (S.view system.old false) (MayTurn frame) }
+    requires may { IsAt (S.view system.old false) (MayTurnNow frame) }
+    requires unlocked { (S.view system.old false).locked frame ≡ false }
     ensures gives { IfOk result (λ freed. (told : Bool) → let old = S.view system.old told in
-        Gives old (S.view system.new told) notes.old notes.new (MayTurn frame)
+        Gives old (S.view system.new told) notes.old notes.new (MayTurnNow frame)
         (IsTurn old.setting old.closing frame freed)) }
-    ensures stays { (told : Bool) → Stays (S.view system.old told) (S.view system.new told) }
+    ensures stays { (told : Bool) → Leaves (S.view system.old told) (S.view system.new told) }
 {
     let Some(slot) = send(system, frame, notes)? else {
         return Ok(false);
@@ -70,7 +62,7 @@ fn evict<S: System>(
     requires { IsAt (S.view system.old false) (IsSentTo frame slot) }
     ensures gives { IfOk result (λ freed. (told : Bool) → Gives (S.view system.old told)
         (S.view system.new told) notes.old notes.new (IsSentTo frame slot) (IsEvicted slot freed)) }
-    ensures stays { (told : Bool) → Stays (S.view system.old told) (S.view system.new told) }
+    ensures stays { (told : Bool) → Leaves (S.view system.old told) (S.view system.new told) }
 {
     let failed = clean(system, frame, slot, notes)?;
     if failed {
@@ -91,7 +83,7 @@ fn clean<S: System>(
     ensures gives { IfOk result (λ failed. (told : Bool) → Gives (S.view system.old told)
         (S.view system.new told) notes.old notes.new (IsSentTo frame slot)
         (IsCleaned slot failed)) }
-    ensures stays { (told : Bool) → Stays (S.view system.old told) (S.view system.new told) }
+    ensures stays { (told : Bool) → Leaves (S.view system.old told) (S.view system.new told) }
 {
     if !system.is_dirty(frame) {
         return Ok(false);
@@ -106,7 +98,7 @@ fn write<S: System>(system: &mut S, slot: Slot, notes: &mut Notes) -> Result<boo
     ensures gives { IfOk result (λ failed. (told : Bool) → Gives (S.view system.old told)
         (S.view system.new told) notes.old notes.new (MayWrite slot)
         (Adds (Started slot ∷ end_note failed slot ∷ []))) }
-    ensures stays { (told : Bool) → Stays (S.view system.old told) (S.view system.new told) }
+    ensures stays { (told : Bool) → Leaves (S.view system.old told) (S.view system.new told) }
 {
     start(system, slot, notes)?;
     let Some(end) = finish_first(system, notes)? else {

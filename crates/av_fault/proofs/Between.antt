@@ -15,7 +15,8 @@ use Rattle.av_plain.specs.Choice.{ListsAll}
 use Rattle.av_plain.specs.Device.{Device, IsSameDevice, as_told, device_by, headers_of, setting_of}
 use Rattle.av_plain.specs.Ledger.{Entry, InFrame, InSlot, Ledger, Setting, Zero, entry, frame_at, SwapArea, is_on, may_be_slot, size_of, slot_count}
 use Rattle.av_plain.specs.Sound.{count}
-use Rattle.av_plain.specs.Stands.{BytesStand, Holds, IsClean, IsKept, IsKeptAt, View}
+use Rattle.av_plain.specs.Stands.{BytesStand, IsClean, IsKept, IsKeptAt, View}
+use Rattle.av_plain.specs.World.{Holds}
 use Rattle.av_plain.specs.Transcript.{State, rmap_of}
 use Rattle.av_plain.specs.World.{Page, World, pages}
 use Rattle.av_plain.proofs.Device.{setting_same}

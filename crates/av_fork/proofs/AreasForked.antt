@@ -1,9 +1,11 @@
 -- The areas of a process go to a child: what the kernel has then, the definitions have.
-use Rattle.std.proofs.Common.{◌≡◌, ℕ, zero, suc, ◌+◌, ◌<◌, ◌≤◌, ◌⊎◌, Bool, true, false, cond, ◌==◌, ne_eqb, List, [], ◌∷◌, ◌++◌, map, length, take, get_or, inl, inr, Option, Some, None, option_map, IfSome, IsSomeAnd, refl, sym, ap, subst, ◌∙◌, arith}
+use Rattle.std.proofs.Common.{◌≡◌, ℕ, zero, suc, ◌+◌, ◌<◌, ◌≤◌, ◌⊎◌, Bool, true, false, not, cond, ◌==◌, ne_eqb, List, [], ◌∷◌, ◌++◌, map, length, take, get_or, inl, inr, Option, Some, None, option_map, IfSome, IsSomeAnd, refl, sym, ap, subst, ◌∙◌, arith}
 use Rattle.std.proofs.lemmas.Bool.{cases_lt, eqb-true}
 use Rattle.std.proofs.lemmas.Bool.Decides.{nat_tests}
 use Rattle.std.proofs.lemmas.List.{take_all, take_more}
+use Rattle.av_base.specs.Flags.{no_flags}
 use Rattle.av_vma.specs.declared.area.Area.{Area}
+use Rattle.av_vma.specs.Fork.{areas_to_fork, own_to_fork}
 use Rattle.av_vma.specs.Index.{first_of}
 use Rattle.av_vma.specs.Pages.{has_page, pages_in, with_area}
 use Rattle.av_vma.proofs.Laid.{has_from}
@@ -57,24 +59,33 @@ last_over (b ∷ areas) area page apart = by (has_page b page) refl
 
 -- each has its first page
 abbrev none : Area
-none = record { pid = 0; start = 0; end = 0; prot = record { read = false; write = false; execute = false }; flags = 0; pgoff = 0; anon = None }
+none = record { pid = 0; start = 0; end = 0; prot = record { read = false; write = false; execute = false }; flags = no_flags; pgoff = 0; anon = None }
 
-on_first : (areas : List Area) (n : ℕ) → AreApart (map range_of areas) → n < length areas
-    → pages_in (Some areas) (first_of (get_or areas n none)) ≡ Some (get_or areas n none)
+on_first : (areas : List Area) (n : ℕ) → AreApart (map range_of areas) → n < length (areas_to_fork areas)
+    → pages_in (Some areas) (first_of (get_or (areas_to_fork areas) n none)) ≡ Some (get_or (areas_to_fork areas) n none)
 on_first [] n apart inside = absurd (omega (arith, inside))
-on_first (a ∷ areas) zero apart inside =
-    let some : first_of a < (range_of a).to = some_pages (range_of a) (map range_of areas) apart in
-    ap (λ b. cond b (Some a) (pages_in (Some areas) (first_of a))) (has_from a (first_of a) (omega arith) some)
-on_first (a ∷ areas) (suc n) apart inside =
-    let x = get_or areas n none in
-    let rest = on_first areas n (rest_apart (range_of a) (map range_of areas) apart) (omega (arith, inside)) in
-    ap (λ b. cond b (Some a) (pages_in (Some areas) (first_of x))) (not_first a areas (first_of x) x apart rest) ∙ rest
+on_first (a ∷ areas) n apart inside =
+    by (λ m inside. on_first areas m (rest_apart (range_of a) (map range_of areas) apart) inside) (not a.flags.dont_fork) n inside
+  where
+    later : (x : Area) → pages_in (Some areas) (first_of x) ≡ Some x → pages_in (Some (a ∷ areas)) (first_of x) ≡ Some x
+    later x rest = ap (λ b. cond b (Some a) (pages_in (Some areas) (first_of x))) (not_first a areas (first_of x) x apart rest) ∙ rest
+
+    by : ((m : ℕ) → m < length (areas_to_fork areas)
+        → pages_in (Some areas) (first_of (get_or (areas_to_fork areas) m none)) ≡ Some (get_or (areas_to_fork areas) m none))
+        → (b : Bool) (n : ℕ) → n < length (cond b (a ∷ areas_to_fork areas) (areas_to_fork areas))
+        → pages_in (Some (a ∷ areas)) (first_of (get_or (cond b (a ∷ areas_to_fork areas) (areas_to_fork areas)) n none))
+        ≡ Some (get_or (cond b (a ∷ areas_to_fork areas) (areas_to_fork areas)) n none)
+    by rest true zero inside =
+        let some : first_of a < (range_of a).to = some_pages (range_of a) (map range_of areas) apart in
+        ap (λ b. cond b (Some a) (pages_in (Some areas) (first_of a))) (has_from a (first_of a) (omega arith) some)
+    by rest true (suc n) inside = later (get_or (areas_to_fork areas) n none) (rest n (omega (arith, inside)))
+    by rest false n inside = later (get_or (areas_to_fork areas) n none) (rest n inside)
 
 -- ---- one more goes over
 
-more_over : (q : ℕ) (areas : List Area) (area : Area) (r mid next : Rmap) → GoOver q areas r mid → GoesBy area.anon q area mid next
+more_over : (q : ℕ) (areas : List Area) (area : Area) (r mid next : Rmap) → GoOver q areas r mid → GoesBy (own_to_fork area) q area mid next
     → GoOver q (areas ++ area ∷ []) r next
-more_over q [] area r mid next goes last = (next, subst (λ r. GoesBy area.anon q area r next) goes last, refl)
+more_over q [] area r mid next goes last = (next, subst (λ r. GoesBy (own_to_fork area) q area r next) goes last, refl)
 more_over q (a ∷ areas) area r mid next (first, by, rest) last = (first, by, more_over q areas area first mid next rest last)
 
 -- what the first of the areas that went over leave
@@ -86,7 +97,7 @@ record Reaches (old : AllSpaces) (anons : AnonSet) (child : ℕ) (first : Rmap) 
 
 module _ (d : Device) (old : Mem) (s : State) (keeps : Keeps d old s) (parent child : ℕ) (areas : List Area)
     (there : areas_of old.spaces.processes parent ≡ Some areas)
-    (dead : areas_of old.spaces.processes child ≡ None) (turn : GoInTurn old.spaces old.anons child areas) where
+    (dead : areas_of old.spaces.processes child ≡ None) (turn : GoInTurn old.spaces old.anons child (areas_to_fork areas)) where
   abbrev k : Lineage
   k = kin_now old.spaces old.anons
 
@@ -167,21 +178,28 @@ module _ (d : Device) (old : Mem) (s : State) (keeps : Keeps d old s) (parent ch
     shows_now : Shows mid.processes (kin_now mid a) h.next
     shows_now = subst (λ k. Shows mid.processes k h.next) (sym f.kin) (h.shows mid.processes f.spawned)
 
-    x_owns : (v : ℕ) → x.anon ≡ Some v → IsOwnedIn mid v
+    itself_owns : (v : ℕ) → own_to_fork x ≡ Some v → x.anon ≡ Some v
+    itself_owns v = by x.flags.wipe_on_fork
+      where
+        by : (b : Bool) → cond b None x.anon ≡ Some v → x.anon ≡ Some v
+        by true e = absurd cc
+        by false e = e
+
+    x_owns : (v : ℕ) → own_to_fork x ≡ Some v → IsOwnedIn mid v
     x_owns v own = (
       parent,
       first_of x,
       subst (λ o. IsSomeAnd o (λ area. area.anon ≡ Some v))
-          (sym (ap (λ o. pages_in o (first_of x)) (parent_keeps mid.processes _ f.spawned) ∙ inside)) own,
+          (sym (ap (λ o. pages_in o (first_of x)) (parent_keeps mid.processes _ f.spawned) ∙ inside)) (itself_owns v own),
     )
 
-    on : GoesOn (kin_now mid a) child x h.next x.anon
+    on : GoesOn (kin_now mid a) child x h.next (own_to_fork x)
     on = goes_on mid a f.fit h.next shows_now child x x_owns
 
     -- the child has one area more
     one_more : (spaces : Spaces) → IsSpawned old.spaces.processes spaces child (areas_in_child child (done ++ x ∷ []) k)
         → (p page : ℕ) → areas_on spaces p
-        page ≡ (with_child_area child (record x { anon = own_in_child x.anon (kin_now mid a) }) h.next).areas p page
+        page ≡ (with_child_area child (own_in_child (own_to_fork x) (kin_now mid a)) x h.next).areas p page
     one_more spaces spawned p page = by (p == child) refl
       where
         list : areas_in_child child (done ++ x ∷ []) k ≡ areas_in_child child done k ++ area_in_child child (kin_now mid a) x ∷ []
@@ -208,29 +226,32 @@ module _ (d : Device) (old : Mem) (s : State) (keeps : Keeps d old s) (parent ch
       next = on.next;
       goes = more_over child done x first h.next on.next h.goes on.goes;
       shows = λ spaces spawned. subst (λ k. Shows spaces k on.next)
-          (ap (kin_with x.anon) f.kin ∙ sym (kin_after-more done x k)) (on.shows spaces (one_more spaces spawned));
+          (ap (kin_with (own_to_fork x)) f.kin ∙ sym (kin_after-more done x k)) (on.shows spaces (one_more spaces spawned));
     }
 
   -- ---- all of them
 
-  reaches : (n : ℕ) → Reaches old.spaces old.anons child first (take n areas)
+  abbrev going : List Area
+  going = areas_to_fork areas
+
+  reaches : (n : ℕ) → Reaches old.spaces old.anons child first (take n going)
   reaches zero = at_first
-  reaches (suc n) = by (cases_lt n (length areas)) (reaches n)
+  reaches (suc n) = by (cases_lt n (length going)) (reaches n)
     where
-      by : (n < length areas) ⊎ (length areas ≤ n) → Reaches old.spaces old.anons child first (take n areas)
-          → Reaches old.spaces old.anons child first (take (suc n) areas)
+      by : (n < length going) ⊎ (length going ≤ n) → Reaches old.spaces old.anons child first (take n going)
+          → Reaches old.spaces old.anons child first (take (suc n) going)
       by (inl inside) h =
           let m = turn n in
           let e : n + 1 ≡ suc n = omega arith in
-          subst (Reaches old.spaces old.anons child first) (sym (take_more areas n none inside) ∙ ap (λ n. take n areas) e)
-          (reaches_more (take n areas) (get_or areas n none) (on_first areas n apart inside) m.0 m.1 m.2 h)
+          subst (Reaches old.spaces old.anons child first) (sym (take_more going n none inside) ∙ ap (λ n. take n going) e)
+          (reaches_more (take n going) (get_or going n none) (on_first areas n apart inside) m.0 m.1 m.2 h)
       by (inr outside) h =
-          subst (Reaches old.spaces old.anons child first) (take_all n areas outside ∙ sym (take_all (suc n) areas (omega (arith, outside)))) h
+          subst (Reaches old.spaces old.anons child first) (take_all n going outside ∙ sym (take_all (suc n) going (omega (arith, outside)))) h
 
-  all_reach : Reaches old.spaces old.anons child first areas
-  all_reach = subst (Reaches old.spaces old.anons child first) (take_all (length areas) areas (omega arith)) (reaches (length areas))
+  all_reach : Reaches old.spaces old.anons child first going
+  all_reach = subst (Reaches old.spaces old.anons child first) (take_all (length going) going (omega arith)) (reaches (length going))
 
-  module _ (new : Mem) (f : IsForked old.spaces old.anons new.spaces new.anons child areas) where
+  module _ (new : Mem) (f : IsForked old.spaces old.anons new.spaces new.anons child going) where
     abbrev next : Rmap
     next = all_reach.next
 
@@ -272,15 +293,15 @@ module _ (d : Device) (old : Mem) (s : State) (keeps : Keeps d old s) (parent ch
       homes = λ g. ap (λ frames. (shown frames).home g) same_frames ∙ keeps.stands.homes g
           ∙ sym (ap (λ homes. homes g) (child-has parent child (rmap_of s) next forked).homes);
       fit = f.fit;
-      these = areas_in_child child areas k;
+      these = areas_in_child child going k;
       spawned = f.spawned;
     }
 
 -- by the parent's areas
 pub has_fork_by : (d : Device) (old new : Mem) (s : State) (keeps : Keeps d old s) (parent child : ℕ) (areas : Option (List Area))
     → areas_of old.spaces.processes parent ≡ areas
-    → areas_of old.spaces.processes child ≡ None → IsSomeAnd areas (IsForked old.spaces old.anons new.spaces new.anons child)
-    → IsSomeAnd areas (GoInTurn old.spaces old.anons child) → new.frames ≡ old.frames → HasFork old new parent child s
+    → areas_of old.spaces.processes child ≡ None → IsSomeAnd areas (λ areas. IsForked old.spaces old.anons new.spaces new.anons child (areas_to_fork areas))
+    → IsSomeAnd areas (λ areas. GoInTurn old.spaces old.anons child (areas_to_fork areas)) → new.frames ≡ old.frames → HasFork old new parent child s
 has_fork_by d old new s keeps parent child None there dead f turn same = absurd f
 has_fork_by d old new s keeps parent child (Some areas) there dead f turn same = has_fork d old s keeps parent child areas there dead turn new f same
 
@@ -298,6 +319,7 @@ ledger_beside d old spaces anons l h = let parts = h.parts in let of = parts.fra
     swap = record { finds = parts.swap.finds; counts = parts.swap.counts; flight = parts.swap.flight; on = parts.swap.on };
   };
   lists = h.lists;
+  items = h.items;
   there = h.there;
   swap = h.swap;
 }

@@ -4,6 +4,7 @@ use Rattle.std.proofs.lemmas.Bool.{eqb-true, false≢true}
 use Rattle.std.specs.Option.{option_map_or}
 use Rattle.av_base.specs.Words.{with_at}
 use Rattle.av_vma.specs.declared.area.Area.{Area}
+use Rattle.av_vma.specs.Fork.{forked_area, own_to_fork}
 use Rattle.av_vma.specs.Pages.{has_page, with_area}
 use Rattle.av_anon.specs.declared.anons.Anons.{Anons as AnonSet}
 use Rattle.av_anon.specs.declared.infos.Info.{Info}
@@ -21,15 +22,15 @@ use Rattle.av_plain.specs.Stands.{kin_of}
 use Rattle.av_fork.proofs.AreasReused.{Shows, chain_in, is_reused}
 
 -- what each area has, the child's new one too
-each_area : (P : Area → Type 0) (q : ℕ) (area : Area) (r : Rmap) → P (record area { pid = q }) → ((p page : ℕ) → IfSome (r.areas p page) P)
-    → (p page : ℕ) → IfSome ((with_child_area q area r).areas p page) P
-each_area P q area r new old p page = by (p == q)
+each_area : (P : Area → Type 0) (q : ℕ) (own : Option ℕ) (area : Area) (r : Rmap) → P (record (forked_area q area) { anon = own })
+    → ((p page : ℕ) → IfSome (r.areas p page) P) → (p page : ℕ) → IfSome ((with_child_area q own area r).areas p page) P
+each_area P q own area r new old p page = by (p == q)
   where
-    over : (b : Bool) → IfSome (cond b (Some (record area { pid = q })) (r.areas q page)) P
+    over : (b : Bool) → IfSome (cond b (Some (record (forked_area q area) { anon = own })) (r.areas q page)) P
     over true = new
     over false = old q page
 
-    by : (b : Bool) → IfSome ((cond b (with_area (record area { pid = q }) (r.areas q)) (r.areas p)) page) P
+    by : (b : Bool) → IfSome ((cond b (with_area (record (forked_area q area) { anon = own }) (r.areas q)) (r.areas p)) page) P
     by true = over (has_page area page)
     by false = old p page
 
@@ -51,11 +52,11 @@ pub record GoesOn (k : Lineage) (child : ℕ) (area : Area) (r : Rmap) (own : Op
   pub next : Rmap
   pub goes : GoesBy own child area r next
   pub shows : (spaces : Spaces)
-      → ((p page : ℕ) → areas_on spaces p page ≡ (with_child_area child (record area { anon = own_in_child own k }) r).areas p page)
+      → ((p page : ℕ) → areas_on spaces p page ≡ (with_child_area child (own_in_child own k) area r).areas p page)
       → Shows spaces (kin_with own k) next
 
 module _ (mid : AllSpaces) (a : AnonSet) (fit : AnonsFit mid a) (r : Rmap) (shows : Shows mid.processes (kin_now mid a) r) (child : ℕ) (area : Area)
-    (owned : (v : ℕ) → area.anon ≡ Some v → IsOwnedIn mid v) where
+    (owned : (v : ℕ) → own_to_fork area ≡ Some v → IsOwnedIn mid v) where
   abbrev k : Lineage
   k = kin_now mid a
 
@@ -69,16 +70,15 @@ module _ (mid : AllSpaces) (a : AnonSet) (fit : AnonsFit mid a) (r : Rmap) (show
 
   -- ---- without an own anon_vma
 
-  goes_bare : area.anon ≡ None → GoesOn k child area r None
-  goes_bare bare = record {
-    next = with_child_area child area r;
+  goes_bare : GoesOn k child area r None
+  goes_bare = record {
+    next = with_child_area child None area r;
     goes = refl;
     shows = λ spaces now. record {
-      areas = λ p page. now p page ∙ ap (λ o. (with_child_area child (record area { anon = o }) r).areas p page) (sym bare);
+      areas = now;
       next = shows.next;
       kin = shows.kin;
-      chains = each_area (λ A. chain_in k A.anon ≡ chain_by r.anons A.anon) child area r
-          (subst (λ o. chain_in k o ≡ chain_by r.anons o) (sym bare) refl) shows.chains;
+      chains = each_area (λ A. chain_in k A.anon ≡ chain_by r.anons A.anon) child None area r refl shows.chains;
     };
   }
 
@@ -206,20 +206,20 @@ module _ (mid : AllSpaces) (a : AnonSet) (fit : AnonsFit mid a) (r : Rmap) (show
         by (Some A) h = old_chain A.anon h
 
     abbrev left : Rmap
-    left = record (with_child_area child (record area { anon = Some (own_of_child r.anons reuse) }) r) { anons = made }
+    left = record (with_child_area child (Some (own_of_child r.anons reuse)) area r) { anons = made }
 
     own_shows : (spaces : Spaces)
-        → ((p page : ℕ) → areas_on spaces p page ≡ (with_child_area child (record area { anon = Some (child_own reuse k.next) }) r).areas p page)
+        → ((p page : ℕ) → areas_on spaces p page ≡ (with_child_area child (Some (child_own reuse k.next)) area r).areas p page)
         → Shows spaces after left
     own_shows spaces now = record {
-      areas = λ p page. now p page ∙ ap (λ o. (with_child_area child (record area { anon = Some o }) r).areas p page) own_same;
+      areas = λ p page. now p page ∙ ap (λ o. (with_child_area child (Some o) area r).areas p page) own_same;
       next = next_same;
       kin = kin_now_same;
-      chains = each_area (λ A. chain_in after A.anon ≡ chain_by made A.anon) child (record area { anon = Some (own_of_child r.anons reuse) }) r
+      chains = each_area (λ A. chain_in after A.anon ≡ chain_by made A.anon) child (Some (own_of_child r.anons reuse)) area r
           (chain_now (own_of_child r.anons reuse) (λ e. absurd (false≢true (sym e ∙ eq-eqb _ (own_of_child r.anons reuse) refl)))) old_chains;
     }
 
-  goes_own : (own : ℕ) → area.anon ≡ Some own → GoesOn k child area r (Some own)
+  goes_own : (own : ℕ) → own_to_fork area ≡ Some own → GoesOn k child area r (Some own)
   goes_own own is =
       let same = chain_same own (owned own is) in
       let reuse = member_to_reuse k.info (k.chain own) in
@@ -229,9 +229,9 @@ module _ (mid : AllSpaces) (a : AnonSet) (fit : AnonsFit mid a) (r : Rmap) (show
         shows = own_shows own reuse refl same;
       }
 
-  pub goes_on : GoesOn k child area r area.anon
-  goes_on = by area.anon refl
+  pub goes_on : GoesOn k child area r (own_to_fork area)
+  goes_on = by (own_to_fork area) refl
     where
-      by : (own : Option ℕ) → area.anon ≡ own → GoesOn k child area r own
-      by None is = goes_bare is
+      by : (own : Option ℕ) → own_to_fork area ≡ own → GoesOn k child area r own
+      by None is = goes_bare
       by (Some own) is = goes_own own is

@@ -1,5 +1,5 @@
--- What the parts stand for once all entries of a process have gone over to a child.
-use Rattle.std.proofs.Common.{◌≡◌, ℕ, ◌+◌, ◌≤◌, Bool, true, false, cond, ◌&&◌, ◌||◌, ◌==◌, nat_lt, T, Option, Some, None, is_none, option_map, refl, sym, ap, subst, ◌∙◌, arith}
+-- What the parts stand for once the entries of a process that go over have gone to a child.
+use Rattle.std.proofs.Common.{◌≡◌, ℕ, ◌+◌, ◌≤◌, Bool, true, false, cond, ◌&&◌, ◌||◌, ◌==◌, nat_lt, T, List, [], ◌∷◌, Option, Some, None, is_none, option_map, refl, sym, ap, subst, ◌∙◌, arith}
 use Rattle.std.proofs.lemmas.Bool.Decides.{nat_tests}
 use Rattle.std.proofs.lemmas.Bool.{false≢true}
 use Rattle.std.specs.FinMap.Entries.{find, is_sorted}
@@ -7,10 +7,14 @@ use Rattle.std.specs.Option.{option_or}
 use Rattle.av_base.specs.declared.slot.Slot.{Slot}
 use Rattle.av_plain.specs.Event.{put_all, without_seen}
 use Rattle.av_plain.specs.Fault.{is_named, is_shared}
-use Rattle.av_plain.specs.Ledger.{Entry, Key, Ledger, Setting, entry, is_free, key_cmp, map_count, names_frame, names_slot, slot_entries, slot_of}
+use Rattle.av_plain.specs.Ledger.{Entry, Key, Ledger, Setting, entry, is_free, is_merged, key_cmp, map_count, names_frame, names_slot, slot_entries, slot_of}
 use Rattle.av_plain.specs.Stands.{LedgerStands, Pte, View, entry_of}
 use Rattle.av_plain.proofs.Event.{count-put_all, entries_with, put_all-only}
-use Rattle.av_plain.proofs.Fork.{child_ledger, copies, entry-forked, find-copies, forked-is, is_sorted-copies, unseen-names_frame, unseen-names_slot}
+use Rattle.std.specs.FinMap.Entries.{find-where_key}
+use Rattle.std.specs.Ordering.{is_eq}
+use Rattle.av_plain.specs.Event.{Inherited, is_inherited}
+use Rattle.av_plain.proofs.Ledger.{same_key-is}
+use Rattle.av_plain.proofs.Fork.{child_ledger, copies, entry-forked, find-copies, forked-is, going, handed, is_sorted-copies, sorted-going, unseen-names_frame, unseen-names_slot}
 use Rattle.av_plain.proofs.Ledger.{only_one}
 use Rattle.av_plain.proofs.Ledger.NoSwap.{key_is}
 use Rattle.av_plain.proofs.Ledger.Walk.{passes}
@@ -26,41 +30,84 @@ has-passes : (t : Entry → Bool) (o : Option Pte) → entry_passes t o ≡ pass
 has-passes t None = refl
 has-passes t (Some u) = refl
 
--- so many of the entries of a process that lie below a page pass
-abbrev pub more : View → ℕ → ℕ → (Entry → Bool) → ℕ
-more v p n t = tally (λ o. entry_passes t (v.table p o)) n
+-- the entry that goes over with a page
+abbrev pub handed_pte : List Inherited → ℕ → View → ℕ → Option Pte
+handed_pte goes p v o = cond (is_inherited goes o) (v.table p o) None
 
-module _ (m : Setting) (v : View) (l : Ledger) (p n : ℕ) (sorted : T (is_sorted key_cmp l.entries)) (h : LedgerStands m v l) where
-  as-found : (t : Entry → Bool) → more v p n t ≡ tally (λ o. passes t (entry l (p, o))) n
-  as-found t = tally-same _ _ n (λ o. has-passes t (v.table p o) ∙ ap (passes t) (h.tables.entries p o))
+-- so many of those that lie below a page pass
+abbrev pub more : List Inherited → View → ℕ → ℕ → (Entry → Bool) → ℕ
+more goes v p n t = tally (λ o. entry_passes t (handed_pte goes p v o)) n
+
+fewer-going : (t : Entry → Bool) (goes : List Inherited) (es : List (Key × Entry)) → entries_with t (going goes es) ≤ entries_with t es
+fewer-going t goes [] = omega arith
+fewer-going t goes (e ∷ es) = by (is_inherited goes e.0.1) (fewer-going t goes es)
+  where
+    by : (b : Bool) → entries_with t (going goes es) ≤ entries_with t es
+        → entries_with t (cond b (e ∷ going goes es) (going goes es)) ≤ cond (t e.1) 1 0 + entries_with t es
+    by true h = omega (arith, h)
+    by false h = omega (arith, h)
+
+module _ (m : Setting) (v : View) (l : Ledger) (p n : ℕ) (goes : List Inherited) (sorted : T (is_sorted key_cmp l.entries)) (h : LedgerStands m v l) where
+  handed-found : (o : ℕ) → entry_of (handed_pte goes p v o) ≡ handed goes p l o
+  handed-found o = by (is_inherited goes o)
+    where
+      by : (b : Bool) → entry_of (cond b (v.table p o) None) ≡ cond b (entry l (p, o)) None
+      by true = h.tables.entries p o
+      by false = refl
+
+  as-found : (t : Entry → Bool) → more goes v p n t ≡ tally (λ o. passes t (handed goes p l o)) n
+  as-found t = tally-same _ _ n (λ o. has-passes t (handed_pte goes p v o) ∙ ap (passes t) (handed-found o))
+
+  -- those of the ledger that go over
+  abbrev gone : List (Key × Entry)
+  gone = going goes l.entries
+
+  gone-sorted : T (is_sorted key_cmp gone)
+  gone-sorted = sorted-going goes l.entries sorted
+
+  gone-found : (o : ℕ) → find key_cmp (p, o) gone ≡ handed goes p l o
+  gone-found o = find-where_key key_cmp (λ (k : Key). is_inherited goes k.1) (p, o)
+      (λ x t. ap (λ (k : Key). is_inherited goes k.1) (sym (same_key-is (p, o) x (ap is_eq t)))) l.entries
+
+  gone-tally : (t : Entry → Bool) → tally (λ o. passes t (find key_cmp (p, o) gone)) n ≡ more goes v p n t
+  gone-tally t = tally-same _ _ n (λ o. ap (passes t) (gone-found o)) ∙ sym (as-found t)
 
   -- the ledger has them
-  pub more-few : (t : Entry → Bool) → more v p n t ≤ entries_with t l.entries
-  more-few t = let same = as-found t in let few = tally-few t p n l.entries sorted in omega (arith, same, few)
+  pub more-few : (t : Entry → Bool) → more goes v p n t ≤ entries_with t l.entries
+  more-few t = let same = gone-tally t in let few = tally-few t p n gone gone-sorted in let fewer = fewer-going t goes l.entries in
+      omega (arith, same, few, fewer)
 
   -- all lie there, and the child has none
   module _ (q : ℕ) (empty : (o : ℕ) → entry l (q, o) ≡ None) (past : (o : ℕ) → n ≤ o → entry l (p, o) ≡ None) where
     abbrev then : Ledger
-    then = record l { entries = (put_all (copies p q l.entries) l).entries }
+    then = record l { entries = (put_all (copies p q gone) l).entries }
 
-    then-is : child_ledger p q l ≡ then
-    then-is = forked-is p q l ∙ put_all-only (copies p q l.entries) l
+    then-is : child_ledger p q goes l ≡ then
+    then-is = forked-is p q goes l ∙ put_all-only (copies p q gone) l
 
-    fresh : (k : Key) (e : Entry) → find key_cmp k (copies p q l.entries) ≡ Some e → entry l k ≡ None
-    fresh k e at = by (k.0 == q) refl (sym (find-copies p q k l.entries) ∙ at)
+    fresh : (k : Key) (e : Entry) → find key_cmp k (copies p q gone) ≡ Some e → entry l k ≡ None
+    fresh k e at = by (k.0 == q) refl (sym (find-copies p q k gone) ∙ at)
       where
-        by : (b : Bool) → (k.0 == q) ≡ b → cond b (option_map without_seen (find key_cmp (p, k.1) l.entries)) None ≡ Some e → entry l k ≡ None
+        by : (b : Bool) → (k.0 == q) ≡ b → cond b (option_map without_seen (find key_cmp (p, k.1) gone)) None ≡ Some e → entry l k ≡ None
         by true is at = ap (λ x. entry l (x, k.1)) (equal k.0 q is) ∙ empty k.1
         by false is at = cc
 
-    counts : (t : Entry → Bool) → ((e : Entry) → t (without_seen e) ≡ t e) → entries_with t then.entries ≡ entries_with t l.entries + more v p n t
-    counts t unseen = count-put_all t (copies p q l.entries) l (is_sorted-copies p q l.entries sorted) sorted fresh
-        ∙ ap (λ k. entries_with t l.entries + k) (copied-tally t unseen p q n l.entries sorted past ∙ sym (as-found t))
+    gone-past : (o : ℕ) → n ≤ o → find key_cmp (p, o) gone ≡ None
+    gone-past o high = gone-found o ∙ by (is_inherited goes o)
+      where
+        by : (b : Bool) → cond b (entry l (p, o)) None ≡ None
+        by true = past o high
+        by false = refl
 
-    maps-then : (f : ℕ) → map_count then f ≡ map_count l f + more v p n (names_frame f)
+    counts : (t : Entry → Bool) → ((e : Entry) → t (without_seen e) ≡ t e)
+        → entries_with t then.entries ≡ entries_with t l.entries + more goes v p n t
+    counts t unseen = count-put_all t (copies p q gone) l (is_sorted-copies p q gone gone-sorted) sorted fresh
+        ∙ ap (λ k. entries_with t l.entries + k) (copied-tally t unseen p q n gone gone-sorted gone-past ∙ gone-tally t)
+
+    maps-then : (f : ℕ) → map_count then f ≡ map_count l f + more goes v p n (names_frame f)
     maps-then f = counts (names_frame f) (unseen-names_frame f)
 
-    entries-then : (s : Slot) → slot_entries then s ≡ slot_entries l s + more v p n (names_slot s)
+    entries-then : (s : Slot) → slot_entries then s ≡ slot_entries l s + more goes v p n (names_slot s)
     entries-then s = counts (names_slot s) (unseen-names_slot s)
 
     free-then : (f : ℕ) → is_free l f ≡ is_free then f
@@ -69,15 +116,15 @@ module _ (m : Setting) (v : View) (l : Ledger) (p n : ℕ) (sorted : T (is_sorte
         none : (a b k : ℕ) → b ≡ a + k → k ≤ a → (a == 0) ≡ (b == 0)
         none a b k e few = grind (arith, nat_tests, e, few)
 
-    found-then : (k : Key) → entry then k ≡ option_or (cond (k.0 == q) (option_map without_seen (entry l (p, k.1))) None) (entry l k)
-    found-then k = ap (λ (l : Ledger). entry l k) (sym then-is) ∙ entry-forked p q l k sorted
+    found-then : (k : Key) → entry then k ≡ option_or (cond (k.0 == q) (option_map without_seen (handed goes p l k.1)) None) (entry l k)
+    found-then k = ap (λ (l : Ledger). entry l k) (sym then-is) ∙ entry-forked p q goes l k sorted
 
     -- a frame that an entry of another process may write is not the parent's, nor does an entry name its slot
     alone-then : (x page : ℕ) (e : Entry) (f : ℕ) → (x == p) ≡ false → entry l (x, page) ≡ Some e → names_frame f e ≡ true → is_shared l f ≡ false
         → is_shared then f ≡ false
     alone-then x page e f other at names alone = shared-same l then f
-        (maps-then f ∙ same (map_count l f) (more v p n (names_frame f)) none) refl
-        (λ s at_s. entries-then s ∙ same (slot_entries l s) _ (nothing (slot_entries l s) _ (unnamed s at_s) (more-few (names_slot s)))) ∙ alone
+        (maps-then f ∙ same (map_count l f) (more goes v p n (names_frame f)) none) refl
+        (λ s at_s. entries-then s ∙ same (slot_entries l s) _ (nothing (slot_entries l s) _ (unnamed s at_s) (more-few (names_slot s)))) refl ∙ alone
       where
         same : (a k : ℕ) → k ≡ 0 → a + k ≡ a
         same a k e = omega (arith, e)
@@ -93,14 +140,17 @@ module _ (m : Setting) (v : View) (l : Ledger) (p n : ℕ) (sorted : T (is_sorte
         second true b h = cc
         second false b h = h
 
+        unshared : (nat_lt 1 (map_count l f) || is_named l (slot_of l f)) ≡ false
+        unshared = first (nat_lt 1 (map_count l f) || is_named l (slot_of l f)) (is_merged l f) alone
+
         few : map_count l f ≤ 1
-        few = at_most (map_count l f) (first (nat_lt 1 (map_count l f)) (is_named l (slot_of l f)) alone)
+        few = at_most (map_count l f) (first (nat_lt 1 (map_count l f)) (is_named l (slot_of l f)) unshared)
           where
             at_most : (n : ℕ) → nat_lt 1 n ≡ false → n ≤ 1
             at_most n h = grind (arith, nat_tests, h)
 
         unnamed : (s : Slot) → slot_of l f ≡ Some s → slot_entries l s ≡ 0
-        unnamed s at_s = zero_is (slot_entries l s) (ap (is_named l) (sym at_s) ∙ second (nat_lt 1 (map_count l f)) (is_named l (slot_of l f)) alone)
+        unnamed s at_s = zero_is (slot_entries l s) (ap (is_named l) (sym at_s) ∙ second (nat_lt 1 (map_count l f)) (is_named l (slot_of l f)) unshared)
           where
             zero_is : (n : ℕ) → nat_lt 0 n ≡ false → n ≡ 0
             zero_is n h = grind (arith, nat_tests, h)
@@ -117,15 +167,22 @@ module _ (m : Setting) (v : View) (l : Ledger) (p n : ℕ) (sorted : T (is_sorte
             by false i = refl
             by true i = absurd (differ _ (only_one l f (p, o) (x, page) d e sorted few is i at names) (key_is x page p o ∙ apart x page p o other))
 
-        none : more v p n (names_frame f) ≡ 0
-        none = as-found (names_frame f) ∙ tally-none _ n (λ o. not_there o (entry l (p, o)) refl)
+        not_handed : (o : ℕ) → passes (names_frame f) (handed goes p l o) ≡ false
+        not_handed o = by (is_inherited goes o)
+          where
+            by : (b : Bool) → passes (names_frame f) (cond b (entry l (p, o)) None) ≡ false
+            by true = not_there o (entry l (p, o)) refl
+            by false = refl
+
+        none : more goes v p n (names_frame f) ≡ 0
+        none = as-found (names_frame f) ∙ tally-none _ n not_handed
 
     -- these are the tables then
     module _ (table : ℕ → ℕ → Option Pte) (parent : (o : ℕ) → table p o ≡ option_map pte_parent (v.table p o))
-        (child : (o : ℕ) → table q o ≡ option_map pte_child (v.table p o))
+        (child : (o : ℕ) → table q o ≡ option_map pte_child (handed_pte goes p v o))
         (others : (x o : ℕ) → (x == p) ≡ false → (x == q) ≡ false → table x o ≡ v.table x o) where
       abbrev now : View
-      now = record (with_more (λ f. more v p n (names_frame f)) (λ s. more v p n (names_slot s)) v) { table = table }
+      now = record (with_more (λ f. more goes v p n (names_frame f)) (λ s. more goes v p n (names_slot s)) v) { table = table }
 
       kept : (o : Option Pte) → entry_of (option_map pte_parent o) ≡ entry_of o
       kept None = refl
@@ -143,11 +200,11 @@ module _ (m : Setting) (v : View) (l : Ledger) (p n : ℕ) (sorted : T (is_sorte
           or_none (Some e) = refl
 
           by : (a b : Bool) → (x == p) ≡ a → (x == q) ≡ b
-              → entry_of (table x o) ≡ option_or (cond b (option_map without_seen (entry l (p, o))) None) (entry l (x, o))
+              → entry_of (table x o) ≡ option_or (cond b (option_map without_seen (handed goes p l o)) None) (entry l (x, o))
           by a true i j = let same = equal x q j in
-              ap (λ x. entry_of (table x o)) same ∙ ap entry_of (child o) ∙ unseen (v.table p o)
-              ∙ ap (option_map without_seen) (h.tables.entries p o) ∙ or_none (option_map without_seen (entry l (p, o)))
-              ∙ ap (option_or (option_map without_seen (entry l (p, o)))) (sym (ap (λ x. entry l (x, o)) same ∙ empty o))
+              ap (λ x. entry_of (table x o)) same ∙ ap entry_of (child o) ∙ unseen (handed_pte goes p v o)
+              ∙ ap (option_map without_seen) (handed-found o) ∙ or_none (option_map without_seen (handed goes p l o))
+              ∙ ap (option_or (option_map without_seen (handed goes p l o))) (sym (ap (λ x. entry l (x, o)) same ∙ empty o))
           by true false i j = let same = equal x p i in
               ap (λ x. entry_of (table x o)) same ∙ ap entry_of (parent o) ∙ kept (v.table p o) ∙ h.tables.entries p o
               ∙ ap (λ x. entry l (x, o)) (sym same)
@@ -166,7 +223,7 @@ module _ (m : Setting) (v : View) (l : Ledger) (p n : ℕ) (sorted : T (is_sorte
 
           by : (a b : Bool) → (x == p) ≡ a → (x == q) ≡ b → is_shared then f ≡ false
           by true b i j = absurd (no_parent (v.table p o) (sym (parent o) ∙ ap (λ x. table x o) (sym (equal x p i)) ∙ is) writes)
-          by false true i j = absurd (no_child (v.table p o) (sym (child o) ∙ ap (λ x. table x o) (sym (equal x q j)) ∙ is) writes)
+          by false true i j = absurd (no_child (handed_pte goes p v o) (sym (child o) ∙ ap (λ x. table x o) (sym (equal x q j)) ∙ is) writes)
           by false false i j =
               let was : v.table x o ≡ Some t = sym (others x o i j) ∙ is in
               alone-then x o t.entry f i (sym (h.tables.entries x o) ∙ ap entry_of was) names (h.tables.write_bits x o t f was writes names)
@@ -175,7 +232,7 @@ module _ (m : Setting) (v : View) (l : Ledger) (p n : ℕ) (sorted : T (is_sorte
       stands-then = record {
         frames = record {
           frames = h.frames.frames;
-          maps = λ f. ap (λ k. k + more v p n (names_frame f)) (h.frames.maps f) ∙ sym (maps-then f);
+          maps = λ f. ap (λ k. k + more goes v p n (names_frame f)) (h.frames.maps f) ∙ sym (maps-then f);
           slots = h.frames.slots;
           dirty = h.frames.dirty;
           free = λ f low. h.frames.free f low ∙ free-then f;
@@ -184,11 +241,11 @@ module _ (m : Setting) (v : View) (l : Ledger) (p n : ℕ) (sorted : T (is_sorte
         tables = record { entries = tables-then; write_bits = writes-then };
         swap = record {
           finds = h.swap.finds;
-          counts = λ s. ap (λ k. k + more v p n (names_slot s)) (h.swap.counts s) ∙ sym (entries-then s);
+          counts = λ s. ap (λ k. k + more goes v p n (names_slot s)) (h.swap.counts s) ∙ sym (entries-then s);
           flight = h.swap.flight;
           on = h.swap.on;
         };
       }
 
-      pub forked-stands : LedgerStands m now (child_ledger p q l)
+      pub forked-stands : LedgerStands m now (child_ledger p q goes l)
       forked-stands = subst (LedgerStands m now) (sym then-is) stands-then

@@ -1,4 +1,5 @@
 pub mod EntriesCounts
+pub mod EntriesLeft
 pub mod EntriesLedger
 pub mod EntriesViews
 pub mod AreasReused

@@ -1,16 +1,44 @@
 -- How the entries of a process go over to a child.
-use Rattle.std.specs.Prelude.{ℕ, None}
+use Rattle.std.specs.Prelude.{◌≡◌, ℕ, ◌-◌, Bool, true, not, ◌&&◌, if◌then◌else◌, Option, Some, None}
+use Rattle.std.specs.Prelude.{option_map}
+use Rattle.av_base.specs.Words.{within}
 use Rattle.av_plain.specs.Choice.{Chooses}
 use Rattle.av_plain.specs.Device.{Device}
 use Rattle.av_plain.specs.Event.{Forked, after}
 use Rattle.av_plain.specs.Fork.{inheritance}
 use Rattle.av_plain.specs.Ledger.{Ledger}
-use Rattle.av_plain.specs.Stands.{free_of}
+use Rattle.av_pagetable.specs.declared.pte.Pte.{Pte}
+use Rattle.av_pagetable.specs.declared.pte.Pte.TheVariants.{Empty}
+use Rattle.av_plain.specs.Stands.{View, free_of}
+use Rattle.av_plain.specs.World.{Page, Process}
+use Rattle.av_vma.specs.Pages.{pages_in}
+use Rattle.av_vma.specs.declared.area.Area.{Area}
 use Rattle.av_mem.specs.declared.mem.Mem.{Mem}
 use Rattle.av_mem.specs.Mem.{setting_by, view, HasLedger}
 
--- the child has inherited each entry of the parent: nothing is taken, and nothing becomes free
-pub record HasForkedEntries (d : Device) (old new : Mem) (l : Ledger) (p q : ℕ) : Type 0 where
-  pub stands : HasLedger d new (after l (Forked p q (inheritance l p)))
-  pub free : Chooses (setting_by d old) None l (Forked p q (inheritance l p))
+-- the areas of a process have the flags of its pages
+abbrev pub FlagsAre : View → ℕ → Process → Type 0
+FlagsAre v p pages = (page : ℕ)
+    → option_map (λ (area : Area). area.flags) (pages_in (v.areas p) page)
+    ≡ option_map (λ (q : Page). q.flags) (pages page)
+
+-- whether a page's entry goes over, by its area: it isn't left out, and isn't wiped
+abbrev pub goes_with_entry : Option Area → Bool
+goes_with_entry None = true
+goes_with_entry (Some area) = not area.flags.dont_fork && not area.flags.wipe_on_fork
+
+-- the entries of a process without those that don't go over
+abbrev pub left_in : (ℕ → Option Area) → (ℕ → Pte) → ℕ → Pte
+left_in areas table page = if goes_with_entry (areas page) then table page else Empty
+
+-- or without those of a range of pages
+abbrev pub without_range : ℕ → ℕ → (ℕ → Pte) → ℕ → Pte
+without_range from past table page = if within from (past - from) page then Empty else table page
+
+-- the child has inherited each entry of the parent whose page goes over and isn't wiped: nothing is
+-- taken, and nothing becomes free. A frame that is merged gets entries, and no item
+pub record HasForkedEntries (d : Device) (old new : Mem) (pages : Process) (l : Ledger) (p q : ℕ)
+    : Type 0 where
+  pub stands : HasLedger d new (after l (Forked p q (inheritance pages l p)))
+  pub free : Chooses (setting_by d old) None l (Forked p q (inheritance pages l p))
       (free_of (view old)) (free_of (view new))

@@ -1,37 +1,45 @@
 //! How the entries of a process go over to another one.
 
-ghost use Rattle.std.specs.Prelude.{◌≡◌, ℕ, ◌≤◌, true, OnOk};
-ghost use Rattle.av_base.specs.Limits.{most_processes};
+ghost use Rattle.std.specs.Prelude.{◌≡◌, ℕ, ◌*◌, ◌≤◌, is_some, true, OnOk};
+ghost use Rattle.av_base.specs.Limits.{most_processes, top_page};
+ghost use Rattle.av_base.specs.Words.{with_at};
 ghost use Rattle.av_base.specs.declared.slot.Slot.{Slot};
-ghost use Rattle.av_fork.specs.Entries.{HasForkedEntries};
+ghost use Rattle.av_fork.specs.Entries.{left_in, without_range, FlagsAre, HasForkedEntries};
 ghost use Rattle.av_pagetable.specs.Entries.{entry_at, has};
 ghost use Rattle.av_pagetable.specs.declared.pte.Pte.TheVariants as Pte;
 ghost use Rattle.av_plain.specs.Device.{Device};
 ghost use Rattle.av_plain.specs.Ledger.{Ledger};
 ghost use Rattle.av_plain.specs.Stands.{free_of};
+ghost use Rattle.av_plain.specs.World.{Process};
+ghost use Rattle.av_spaces.specs.Spaces.{areas_of, pages_of};
 ghost use Rattle.av_mem.specs.Mem.{view, HasLedger, IsOrderly};
 ghost use Rattle.av_mem.specs.Steps.{KeepsRest};
 
+use av_base::PAGE_SIZE;
 use av_mem::Mem;
 use av_mem::entries::count_each_for_child;
 use av_pagetable::{GROUP, Pte};
 use std::alloc::{AllocError, Global};
 
-/// Gives a process with an empty table each entry of another one: not seen, and written in place by
-/// neither. Without memory nothing is promised of entries and counts.
+/// Gives a process with an empty table each entry of another one whose page goes over and isn't
+/// wiped: not seen, and written in place by neither. Without memory nothing is promised of entries
+/// and counts.
 pub fn fork_entries(mem: &mut Mem, alloc: Global, parent: u16, child: u16) -> Result<(), AllocError>
     requires orderly { IsOrderly mem.old }
-    requires few { (f : ℕ) → (view mem.old).maps f ≤ most_processes }
+    requires lives { is_some (areas_of mem.old.spaces.processes parent) ≡ true }
+    requires few { (f : ℕ) → (view mem.old).maps f ≤ most_processes * top_page }
     requires few_slots { (s : Slot) → (view mem.old).entries s ≤ most_processes }
     requires there { has mem.old.tables child ≡ true }
     requires empty { (page : ℕ) → entry_at mem.old.tables child page ≡ Pte.Empty }
-    ensures forks { (d : Device) (l : Ledger) → HasLedger d mem.old l →
-        OnOk result (HasForkedEntries d mem.old mem.new l parent child) }
+    ensures forks { (d : Device) (pages : Process) (l : Ledger) → HasLedger d mem.old l
+        → FlagsAre (view mem.old) parent pages
+        → OnOk result (HasForkedEntries d mem.old mem.new pages l parent child) }
     ensures free { free_of (view mem.new) ≡ free_of (view mem.old) }
     ensures rest { KeepsRest mem.old mem.new }
 {
     mem.tables.copy(alloc, parent, child)?;
     mem.tables.write_protect(parent);
+    leave_out(mem, parent, child)?;
     let mut number = 0;
     while let Some(page) = mem.tables.next_from(child, number * GROUP as u64) {
         let mut group = [Pte::Empty; GROUP];
@@ -41,4 +49,35 @@ pub fn fork_entries(mem: &mut Mem, alloc: Global, parent: u16, child: u16) -> Re
         number = page / GROUP as u64 + 1;
     }
     Ok(())
+}
+
+/// Takes the entries out of a child's table whose pages don't go over from its parent, or are
+/// wiped. They aren't counted yet.
+fn leave_out(mem: &mut Mem, parent: u16, child: u16) -> Result<(), AllocError>
+    requires lives { is_some (areas_of mem.old.spaces.processes parent) ≡ true }
+    ensures left { OnOk result (entry_at mem.new.tables ≡ with_at child
+        (left_in (pages_of mem.old.spaces.processes parent) (entry_at mem.old.tables child))
+        (entry_at mem.old.tables)) }
+    ensures processes { has mem.new.tables ≡ has mem.old.tables }
+    ensures rest { mem.new ≡ record mem.old { tables = mem.new.tables } }
+{
+    for area in mem.spaces.areas(parent)? {
+        if area.flags.dont_fork || area.flags.wipe_on_fork {
+            take_out(mem, child, area.start / PAGE_SIZE, area.end / PAGE_SIZE);
+        }
+    }
+    Ok(())
+}
+
+/// Takes the entries of a range of a process's pages out of its table.
+fn take_out(mem: &mut Mem, process: u16, from: u64, past: u64)
+    ensures taken { entry_at mem.new.tables ≡ with_at process
+        (without_range from past (entry_at mem.old.tables process)) (entry_at mem.old.tables) }
+    ensures processes { has mem.new.tables ≡ has mem.old.tables }
+    ensures rest { mem.new ≡ record mem.old { tables = mem.new.tables } }
+{
+    let mut next = from;
+    while let Some((page, _)) = mem.tables.take_first(process, next, past) {
+        next = page + 1;
+    }
 }

@@ -44,7 +44,7 @@ below_none f a (suc n) h =
     let e : (f == a) ≡ false = grind (arith, nat_tests) in
     ap (λ b. cond b 1 0 + how_many (λ g. f == g) (range_with_len (a + 1) n)) e ∙ ap (λ k. 0 + k) (below_none f (a + 1) n (omega (arith, h)))
 
-once_from : (a n i f : ℕ) → f ≡ a + i → how_many (λ g. f == g) (range_with_len a n) ≡ cond (get_or (replicate n false) i true) 0 1
+pub once_from : (a n i f : ℕ) → f ≡ a + i → how_many (λ g. f == g) (range_with_len a n) ≡ cond (get_or (replicate n false) i true) 0 1
 once_from a zero i f e = refl
 once_from a (suc n) zero f e =
     let t : (f == a) ≡ true = grind (arith, nat_tests) in

@@ -2,9 +2,9 @@
 -- its home, the slot at which it is cached, and whether it is dirty.
 use Rattle.std.specs.Prelude.{◌≡◌, ℕ, ◌+◌, ◌-◌, ◌^◌, ◌<◌, ◌≤◌, Bool, true, false, ◌==◌}
 use Rattle.std.specs.Prelude.{if◌then◌else◌, List, [], ◌∷◌, length, slice_index, slice_index_or}
-use Rattle.std.specs.Prelude.{Option, None, Some}
+use Rattle.std.specs.Prelude.{Option, None, Some, filter, not}
 use Rattle.av_base.specs.declared.slot.Slot.{Slot}
-use Rattle.av_base.specs.Words.{how_many, within, with_at}
+use Rattle.av_base.specs.Words.{how_many, is_in, within, with_at}
 use Rattle.std.specs.List.{range_with_len}
 
 -- the value of `Frames`: a value has to be data, so each is a list by frame
@@ -75,6 +75,26 @@ with_dirty f dirty s = record s { dirty = with_at f dirty s.dirty }
 
 abbrev pub with_slot : ℕ → Option Slot → Shown → Shown
 with_slot f slot s = record s { slot = with_at f slot s.slot }
+
+-- the other frames of a list
+abbrev pub without : ℕ → List ℕ → List ℕ
+without f fs = filter (λ g. not (g == f)) fs
+
+-- what is kept of a frame goes to a free one. The frame is free instead, in front of the others; no
+-- entry names it and no slot is cached at it
+abbrev pub relocated : ℕ → ℕ → Shown → Shown
+relocated from to s = record s {
+  free = from ∷ without to s.free;
+  bytes = with_at to (s.bytes from) s.bytes;
+  maps = with_at from 0 (with_at to (s.maps from) s.maps);
+  home = with_at to (s.home from) s.home;
+  dirty = with_at to (s.dirty from) s.dirty;
+  slot = with_at from None (with_at to (s.slot from) s.slot);
+}
+
+-- the free frames, rising
+abbrev pub free_in_order : Shown → List ℕ
+free_in_order s = filter (λ f. is_in f s.free) (range_with_len 0 s.count)
 
 -- the test that a flag stands
 abbrev pub itself : Bool → Bool

@@ -2,8 +2,10 @@
 
 ghost use Rattle.std.specs.Prelude.{◌≡◌, ℕ, ◌+◌, ◌<◌, ◌≤◌, ◌^◌, ◌-◌, ◌∷◌, ◌==◌, [], length};
 ghost use Rattle.std.specs.Prelude.{slice_index, MatchOption, IfOk, true, false, replicate, not};
+ghost use Rattle.std.specs.Prelude.{filter, slice_index_or};
 ghost use Rattle.av_frames.specs.Store.{shown, first_of, fresh, overlaid, with_bytes, with_maps};
-ghost use Rattle.av_frames.specs.Store.{with_home, with_dirty, with_slot};
+ghost use Rattle.av_frames.specs.Store.{with_home, with_dirty, with_slot, relocated, without};
+ghost use Rattle.av_frames.specs.Store.{free_in_order};
 ghost use Rattle.av_base.specs.Page.{page_size};
 ghost use Rattle.av_base.specs.Words.{is_in, how_many};
 ghost use Rattle.std.specs.List.{range_with_len};
@@ -96,6 +98,53 @@ impl Frames {
         self.free.push_front_reserved(frame);
     }
 
+    /// Moves what is kept of a frame that isn't free to one that is: bytes, how many entries name
+    /// it, home, slot, and whether it is dirty. The frame is free instead, in front of the others.
+    /// It costs a step for each free frame, and the copy of a page.
+    pub fn relocate(&mut self, from: u32, to: u32)
+        requires in_range { (from < (shown self.old).count) × (to < (shown self.old).count) }
+        requires not_free { is_in from self.old.free ≡ false }
+        requires free { is_in to self.old.free ≡ true }
+        ensures { shown self.new ≡ relocated from to (shown self.old) }
+    {
+        self.take_out(to);
+        self.copy(from, to);
+        self.set_home(to, self.home(from));
+        self.set_dirty(to, self.dirty(from));
+        self.set_maps(to, self.maps(from));
+        self.set_maps(from, 0);
+        self.set_slot(to, self.slot(from));
+        self.set_slot(from, None);
+        self.give(from);
+    }
+
+    /// Puts the free frames in order, the least first. It costs a step for each frame.
+    pub fn order_free(&mut self)
+        ensures { shown self.new ≡ record (shown self.old) {
+          free = free_in_order (shown self.old);
+        } }
+    {
+        list_unused(&self.used, &mut self.free);
+    }
+
+    fn set_maps(&mut self, frame: u32, maps: u64)
+        requires { frame < (shown self.old).count }
+        ensures { shown self.new ≡ with_maps frame maps (shown self.old) }
+    {
+        self.maps[frame as usize] = maps;
+    }
+
+    /// Takes a frame out from among the free ones.
+    fn take_out(&mut self, frame: u32)
+        requires in_range { frame < (shown self.old).count }
+        requires free { is_in frame self.old.free ≡ true }
+        ensures { shown self.new
+            ≡ record (shown self.old) { free = without frame self.old.free } }
+    {
+        self.used[frame as usize] = true;
+        self.free.retain(|other| *other != frame);
+    }
+
     /// How many frames there are, free or not.
     pub fn count(&self) -> u32
         ensures { result ≡ length self.now.bytes }
@@ -136,7 +185,7 @@ impl Frames {
         requires { frame < (shown self.old).count }
         ensures { shown self.new ≡ with_maps frame 0 (shown self.old) }
     {
-        self.maps[frame as usize] = 0;
+        self.set_maps(frame, 0);
     }
 
     /// Where the entries of the frame are found: an anon_vma's number, and the linear index there.
@@ -249,6 +298,22 @@ impl Frames {
         ensures { shown self.new ≡ with_bytes frame (slice_index page.now) (shown self.old) }
     {
         self.bytes.put(frame as usize, page_of(page));
+    }
+}
+
+/// Makes a list that of the frames which aren't used, the least first.
+fn list_unused(used: &[bool], free: &mut VecDeque<u32>)
+    requires few { length used.now < 2 ^ 32 }
+    requires room { length used.now ≤ deque_capacity free.old }
+    ensures items { free.new.items ≡ filter (λ f. not (slice_index_or used.now f true))
+        (range_with_len 0 (length used.now)) }
+    ensures capacity { deque_capacity free.new ≡ deque_capacity free.old }
+{
+    free.clear();
+    for frame in 0..used.len() {
+        if !used[frame] {
+            free.push_back_reserved(frame as u32);
+        }
     }
 }
 

@@ -1,9 +1,9 @@
 //! The frames of physical memory: which are free, their bytes, and what is kept of each (Linux's
 //! `struct page`).
 //!
-//! Proved: each call changes the field of one frame that it names and nothing else; a frame that
-//! was never written is zeros; the free list has each free frame once, `take` gives its first and
-//! `give` puts in front; no call but `new` can want memory.
+//! Proved: each call changes what it says of the frames that it names, and nothing else; a frame
+//! that was never written is zeros; the free list has each free frame once, `take` gives its first,
+//! `give` puts in front, and `order_free` makes it rise; no call but `new` can want memory.
 #![tactic(auto)]
 
 mod frames;

@@ -47,7 +47,8 @@ use Rattle.av_plain.specs.Areas.{areas_to_hole, chain_length, next_areas, with_r
 use Rattle.av_plain.specs.Choice.{ChoosesAll}
 use Rattle.av_plain.specs.Report.{ShowsAreas}
 use Rattle.av_plain.specs.Transcript.{State, rmap_of}
-use Rattle.av_plain.specs.Stands.{AreasAre, Holds, IsKept, IsKeptAt, free_of, prot_of}
+use Rattle.av_plain.specs.Stands.{AreasAre, IsKept, IsKeptAt, free_of, prot_of}
+use Rattle.av_plain.specs.World.{Holds}
 use Rattle.av_vma.specs.Pages.{Pages, home_of, after_map, pages_changed, to_prot, after_unmap}
 use Rattle.av_plain.proofs.World.Ranges.{is-pages_to_hole}
 use Rattle.av_plain.proofs.Zap.{entry-range}

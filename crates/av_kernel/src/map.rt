@@ -18,6 +18,7 @@ ghost use Rattle.av_trace.specs.declared.command.Command.TheVariants as commands
 
 use av_base::{PAGE_SIZE, Prot};
 use av_mem::{Mem, zap_range};
+use av_merge::Change;
 use av_place::{check_protect, find_place, is_no_range, is_too_long};
 use av_step::{Refusal, answer_with, check_lives};
 use av_trace::{Answer, Errno, Notes, Place, Reply};
@@ -96,7 +97,7 @@ pub fn mprotect(
     let past = page + pages;
     let reached = mem
         .spaces
-        .protect(&mut mem.anons, process, page, pages, prot)?;
+        .modify(&mut mem.anons, process, page, pages, Change::Prot(prot))?;
     if reached < past {
         return Err(Refusal::Refused(Errno::Enomem));
     }

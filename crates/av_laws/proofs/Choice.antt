@@ -1,15 +1,15 @@
 -- Which slots are chosen at several events, computed.
 use Rattle.std.proofs.Common.{◌≡◌, ℕ, ◌+◌, ◌≤◌, length, Bool, true, false, ◌&&◌, ◌==◌, List, [], ◌∷◌, ◌++◌, Option, Some, None, refl, sym, ap, arith}
 use Rattle.std.proofs.lemmas.Bool.Decides.{nat_tests}
-use Rattle.std.specs.Prelude.{min, if◌then◌else◌, IsSomeAnd, MatchOption, count_by, option_and_then}
-use Rattle.av_base.specs.Words.{with_at}
+use Rattle.std.specs.Prelude.{min, if◌then◌else◌, IsSomeAnd, MatchBool, MatchOption, count_by, option_and_then, option_map}
+use Rattle.av_base.specs.Words.{is_in, with_at}
 use Rattle.av_base.specs.declared.slot.Slot.{Slot}
 use Rattle.av_clusters.specs.Clusters.{Slots, fresh, is_free as is_free_page, take_slot}
 use Rattle.av_swapdev.specs.Device.{most_pages}
 use Rattle.av_swapdev.specs.Header.{Layout}
-use Rattle.av_plain.specs.Choice.{AreaSlots, ChoosesAll, ChoosesSlot, Free, IsGiven, SwitchesArea, frame_in, giving_swap_area, new_free, no_slots, slot_in, with_given_back}
-use Rattle.av_plain.specs.Event.{Event, Forked, EntriesMoved, Noted, TurnedOff, TurnedOn, Used, Zapped, after}
-use Rattle.av_plain.specs.Ledger.{HasNumbers, Ledger, Setting, SwapArea, size_of}
+use Rattle.av_plain.specs.Choice.{AreaSlots, ChoosesAll, ChoosesFrame, ChoosesSlot, Free, IsGiven, SwitchesArea, TakesFrame, TakesOut, frame_in, giving_swap_area, new_free, no_slots, slot_in, sorts_free, takes_any, with_given_back}
+use Rattle.av_plain.specs.Event.{Event, FlagSet, Forked, FreeSorted, EntriesMoved, Noted, TurnedOff, TurnedOn, Used, Zapped, after, without}
+use Rattle.av_plain.specs.Ledger.{HasNumbers, Ledger, Setting, SwapArea, free_frames, size_of}
 use Rattle.av_plain.proofs.Choice.{ChoosesFrames}
 
 -- ---- the slots, computed
@@ -39,8 +39,10 @@ switched m (Zapped k) slots = slots
 switched m (Used write k) slots = slots
 switched m (Forked p c pages) slots = slots
 switched m (EntriesMoved p n from to) slots = slots
+switched m (FlagSet p from n flag set) slots = slots
 switched m (TurnedOn k area) slots = with_at k (fresh_of (header_in m.headers k)) slots
 switched m (TurnedOff k) slots = with_at k (no_slots k) slots
+switched m FreeSorted slots = slots
 
 -- the slots after an event
 abbrev pub slots_after : Setting → Ledger → Event → AreaSlots → AreaSlots
@@ -63,8 +65,10 @@ may_switch m (Zapped k) = true
 may_switch m (Used write k) = true
 may_switch m (Forked p c pages) = true
 may_switch m (EntriesMoved p n from to) = true
+may_switch m (FlagSet p from n flag set) = true
 may_switch m (TurnedOn k area) = has_numbers area (header_in m.headers k)
 may_switch m (TurnedOff k) = true
+may_switch m FreeSorted = true
 
 abbrev is_number : ℕ → Option ℕ → Bool
 is_number k None = false
@@ -101,6 +105,7 @@ turned m (Zapped k) slots h = refl
 turned m (Used write k) slots h = refl
 turned m (Forked p c pages) slots h = refl
 turned m (EntriesMoved p n from to) slots h = refl
+turned m (FlagSet p from n flag set) slots h = refl
 turned m (TurnedOn k area) slots h = (fresh_of (header_in m.headers k), told m.headers h, refl)
   where
     by : (o : Option Layout) → has_numbers area o ≡ true
@@ -122,6 +127,7 @@ turned m (TurnedOn k area) slots h = (fresh_of (header_in m.headers k), told m.h
     told None h = cc
     told (Some headers) h = by (headers k) h
 turned m (TurnedOff k) slots h = refl
+turned m FreeSorted slots h = refl
 
 slot-chosen : (m : Setting) (closing : Option ℕ) (l : Ledger) (e : Event) (slots : AreaSlots)
     → gives m closing l e slots ≡ true → ChoosesSlot m closing l e slots (slots_after m l e slots)
@@ -171,24 +177,29 @@ take_first None free = Some free
 take_first (Some f) [] = None
 take_first (Some f) (g ∷ free) = if f == g then Some free else None
 
+-- and one that an event takes, wherever it stands
+abbrev take_any : Option ℕ → Bool → List ℕ → Option (List ℕ)
+take_any None any free = Some free
+take_any (Some f) true free = if is_in f free then Some (without f free) else None
+take_any (Some f) false free = take_first (Some f) free
+
+abbrev free_after : Setting → Ledger → Event → List ℕ → Option (List ℕ)
+free_after m l e free =
+    if sorts_free e then Some (free_frames m (after l e))
+    else option_map (λ rest. new_free m l (after l e) ++ rest) (take_any (frame_in e) (takes_any e) free)
+
 abbrev choose : Setting → Ledger → List Event → List ℕ → Option (List ℕ)
 choose m l [] free = Some free
-choose m l (e ∷ es) free = option_and_then (λ rest. choose m (after l e) es (new_free m l (after l e) ++ rest)) (take_first (frame_in e) free)
+choose m l (e ∷ es) free = option_and_then (λ next. choose m (after l e) es next) (free_after m l e free)
 
-pub chosen-by : (m : Setting) (l : Ledger) (es : List Event) (free left : List ℕ)
-    → choose m l es free ≡ Some left → ChoosesFrames m l es free left
-chosen-by m l [] free left h = inner (sym h)
-  where
-    inner : {x y : List ℕ} → Some x ≡ Some y → x ≡ y
-    inner e = cc
-chosen-by m l (e ∷ es) free left h =
-    by (take_first (frame_in e) free) refl h (λ rest i. chosen-by m (after l e) es (new_free m l (after l e) ++ rest) left i)
+same_list : {x y : List ℕ} → Some x ≡ Some y → x ≡ y
+same_list e = cc
+
+one-chosen : (m : Setting) (l : Ledger) (e : Event) (free next : List ℕ) → free_after m l e free ≡ Some next → ChoosesFrame m l e free next
+one-chosen m l e free next h = sorts (sorts_free e) h
   where
     first : (o : Option ℕ) (free rest : List ℕ) → take_first o free ≡ Some rest → MatchOption o (free ≡ rest) (λ f. free ≡ f ∷ rest)
-    first None free rest h = inner h
-      where
-        inner : {x y : List ℕ} → Some x ≡ Some y → x ≡ y
-        inner e = cc
+    first None free rest h = same_list h
     first (Some f) [] rest h = cc
     first (Some f) (g ∷ free) rest h = same (f == g) refl h
       where
@@ -196,13 +207,37 @@ chosen-by m l (e ∷ es) free left h =
         same true is h = let e : f ≡ g = grind (arith, nat_tests, is) in let r : free ≡ rest = cc in λ i. sym e i ∷ r i
         same false is h = cc
 
-    by : (o : Option (List ℕ)) → take_first (frame_in e) free ≡ o →
-        option_and_then (λ rest. choose m (after l e) es (new_free m l (after l e) ++ rest)) o ≡ Some left
-        → ((rest : List ℕ) → choose m (after l e) es (new_free m l (after l e) ++ rest) ≡ Some left
-        → ChoosesFrames m (after l e) es (new_free m l (after l e) ++ rest) left)
+    any : (o : Option ℕ) (b : Bool) (rest : List ℕ) → take_any o b free ≡ Some rest
+        → MatchOption o (free ≡ rest) (λ f. MatchBool b (TakesOut f free rest) (free ≡ f ∷ rest))
+    any None b rest h = same_list h
+    any (Some f) false rest h = first (Some f) free rest h
+    any (Some f) true rest h = out (is_in f free) refl h
+      where
+        out : (b : Bool) → is_in f free ≡ b → (if b then Some (without f free) else None) ≡ Some rest → TakesOut f free rest
+        out true is h = (is, same_list (sym h))
+        out false is h = cc
+
+    takes : (o : Option (List ℕ)) → take_any (frame_in e) (takes_any e) free ≡ o
+        → option_map (λ rest. new_free m l (after l e) ++ rest) o ≡ Some next → TakesFrame m l e free next
+    takes None is h = cc
+    takes (Some rest) is h = (rest, any (frame_in e) (takes_any e) rest is, same_list (sym h))
+
+    sorts : (b : Bool) → (if b then Some (free_frames m (after l e))
+        else option_map (λ rest. new_free m l (after l e) ++ rest) (take_any (frame_in e) (takes_any e) free)) ≡ Some next
+        → MatchBool b (next ≡ free_frames m (after l e)) (TakesFrame m l e free next)
+    sorts true h = same_list (sym h)
+    sorts false h = takes (take_any (frame_in e) (takes_any e) free) refl h
+
+pub chosen-by : (m : Setting) (l : Ledger) (es : List Event) (free left : List ℕ)
+    → choose m l es free ≡ Some left → ChoosesFrames m l es free left
+chosen-by m l [] free left h = same_list (sym h)
+chosen-by m l (e ∷ es) free left h = by (free_after m l e free) refl h (λ next i. chosen-by m (after l e) es next left i)
+  where
+    by : (o : Option (List ℕ)) → free_after m l e free ≡ o → option_and_then (λ next. choose m (after l e) es next) o ≡ Some left
+        → ((next : List ℕ) → choose m (after l e) es next ≡ Some left → ChoosesFrames m (after l e) es next left)
         → ChoosesFrames m l (e ∷ es) free left
     by None is h again = cc
-    by (Some rest) is h again = (new_free m l (after l e) ++ rest, (rest, first (frame_in e) free rest is, refl), again rest h)
+    by (Some next) is h again = (next, one-chosen m l e free next is, again next h)
 
 -- events that may come, by the frames that are free after them
 pub may : (m : Setting) (closing : Option ℕ) (l : Ledger) (es : List Event) (free : Free) (left : List ℕ) → choose m l es free.frames ≡ Some left →

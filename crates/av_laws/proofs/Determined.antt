@@ -5,46 +5,52 @@ use Rattle.std.specs.Prelude.{IfSome, MatchBool, MatchOption, option_and_then, s
 use Rattle.std.specs.Ordering.{nat_cmp, eq_by_cmp}
 use Rattle.av_vma.specs.Gap.{IsGap}
 use Rattle.av_trace.specs.declared.command.Command.{Command}
-use Rattle.av_trace.specs.declared.command.Command.TheVariants.{Spawn, Fork, Exit, Mmap, Mremap, Munmap, Mprotect, Read, Write, Reclaim, Age, Complete, Swapon, Swapoff, Maps, Areas as AsksAreas, Rmap as AsksRmap, Entry as AsksEntry, Slot as AsksSlot, Stat}
+use Rattle.av_trace.specs.declared.command.Command.TheVariants.{Compact, Merge, Spawn, Fork, Exit, Mmap, Mremap, Munmap, Mprotect, Madvise, Mlock, Munlock, Read, Write, Reclaim, Age, Complete, Swapon, Swapoff, Maps, Areas as AsksAreas, Rmap as AsksRmap, Entry as AsksEntry, Slot as AsksSlot, Stat}
 use Rattle.av_trace.specs.declared.mode.Mode.{Mode}
 use Rattle.av_trace.specs.declared.mode.Mode.TheVariants.{DontUnmap, Fixed as FixedAt, MayMove, Plain}
 use Rattle.av_trace.specs.declared.place.Place.{Place}
 use Rattle.av_trace.specs.declared.place.Place.TheVariants.{Auto, At, Fixed, NoReplace}
 use Rattle.av_trace.specs.declared.reply.Errno.{Errno}
-use Rattle.av_trace.specs.declared.reply.Errno.TheVariants.{Enomem}
+use Rattle.av_trace.specs.declared.reply.Errno.TheVariants.{Einval, Enomem}
 use Rattle.av_trace.specs.declared.row.Row.{Row}
 use Rattle.av_trace.specs.declared.reply.Reply.{Reply}
 use Rattle.av_trace.specs.declared.reply.Answer.{Answer}
 use Rattle.av_trace.specs.declared.reply.Answer.TheVariants.{AreaList, Done, Refused, Runs}
-use Rattle.av_base.specs.Page.{address_of, page_of, page_size, pages_of}
+use Rattle.av_base.specs.Page.{address_of, page_of, page_size, pages_met, pages_of}
 use Rattle.av_base.specs.Words.{within}
 use Rattle.std.specs.List.{range_with_len}
-use Rattle.av_base.specs.declared.prot.Prot.{Prot}
+use Rattle.av_base.specs.declared.flags.Flag.{Flag}
+use Rattle.av_base.specs.declared.flags.Flag.TheVariants.{Locked}
 use Rattle.av_trace.specs.declared.note.Note.{Note}
+use Rattle.av_plain.specs.Sound.{AllSound}
+use Rattle.av_plain.proofs.Sound.{first-sound, step-sound}
+use Rattle.av_plain.proofs.OneMerge.{merges-one, moves-one as compacts-one}
 use Rattle.av_laws.specs.Determined.{ShowNoFailures, IsClaimed, ShowsNoFailure, SameCommands, Tells}
 use Rattle.av_plain.specs.Access.{Accesses, End, Reads, Stopped, Whole, after_write, bytes_before, bytes_served, first_bytes, page_events, pages_of_access, read_answer, stop_answer, write_answer}
+use Rattle.av_plain.specs.Advice.{advised, flag_of_advice, pages_advised, with_advice}
+use Rattle.av_plain.specs.Lock.{BringsIn, Locks, accesses_of, lock_event, with_lock}
 use Rattle.av_plain.specs.Choice.{ChoosesAll, Free}
-use Rattle.av_plain.specs.Event.{Event, Used, after_all, note_events, notes_of}
+use Rattle.av_plain.specs.Event.{Event, FreeSorted, Used, after_all, note_events, notes_of}
 use Rattle.av_plain.specs.Fault.{Denied, Lost, Starved, Stop, is_allowed, permits}
 use Rattle.av_plain.specs.Fork.{IsRmapNext}
 use Rattle.av_plain.specs.Ledger.{Key, Ledger, Setting}
 use Rattle.av_plain.specs.Load.{after_loads, with_loads}
 use Rattle.av_plain.specs.Map.{with_prot_to_hole}
-use Rattle.av_plain.specs.Mremap.{MovesTo, events_to, may_stay, prot_at, prot_left, process_after_mremap}
+use Rattle.av_plain.specs.Mremap.{MovesTo, events_to, leaves_old, left_behind, may_stay, process_after_mremap}
 use Rattle.av_plain.specs.Place.{Goes, IsMapAt, is_room}
-use Rattle.av_plain.specs.Refusal.{Refuses, low, refusal, tests, wraps}
+use Rattle.av_plain.specs.Refusal.{Refuses, is_bad_range, locks_too_many, low, refusal, tests, wraps}
 use Rattle.av_plain.specs.Areas.{rmap_after_all, Anons, Areas}
 use Rattle.av_plain.specs.Report.{ShowsAreas}
 use Rattle.av_plain.specs.Step.{Follows, IsLegal, closing_swap_area, failure_answers, next, next_world}
 use Rattle.av_plain.specs.Transcript.{Exchange, IsRun, IsStep, State, at_first, rmap_of}
-use Rattle.av_plain.specs.World.{Page, Process, Shows, World, byte_at, end_process, is_mapped, no_pages, pages, pages_to_hole, set_process, with_bytes, with_pages, with_prot, with_prot_on, zeros}
+use Rattle.av_plain.specs.World.{Page, Process, Shows, World, byte_at, child_of, end_process, page_of_child, wiped, with_change_on, with_page_flag, without_lock, is_mapped, no_pages, pages, pages_to_hole, set_process, with_bytes, with_pages, with_prot, zeros}
 use Rattle.av_laws.proofs.OneFork.{next-one}
 use Rattle.av_laws.proofs.AreaRows.{one-rows}
 use Rattle.av_laws.proofs.Maps.{one-answer}
 use Rattle.av_laws.proofs.OneSwap.{complete-one, reclaims-one, reports-slot-one, turns-off-one, turns-on-one}
 use Rattle.av_plain.specs.Swapon.{turn_on_events}
 use Rattle.av_laws.proofs.OnePage.{is_lost, touches-one}
-use Rattle.av_laws.proofs.OnePass.{AreDone, chooses-one, done-append, done-is}
+use Rattle.av_laws.proofs.OnePass.{AreDone, chooses-one, chooses-same, done-append, done-is}
 use Rattle.av_plain.proofs.Access.{notes_of-append, notes_of-note_events}
 use Rattle.av_plain.proofs.Refusal.{refused-next}
 use Rattle.av_plain.proofs.Sound.Zap.{pages-ended}
@@ -308,6 +314,43 @@ record Same (es fs : List Event) (answer answer' : Answer) (rows rows' : List Ro
   answers : answer ≡ answer'
   reports : rows ≡ rows'
 
+-- what an mlock does is determined, too
+locks-one : (m : Setting) (closing : Option ℕ) → Tells m → (w : World) (l : Ledger) (p from n : ℕ) (es fs : List Event) (answer answer' : Answer)
+    (rows rows' : List Row) (free a b : Free) → failure_answers answer ≡ 0 → failure_answers answer' ≡ 0 → AreDone (notes_of es)
+    → AreDone (notes_of fs) → ChoosesAll m closing l es free a → ChoosesAll m closing l fs free b → Locks m w l p from n es answer rows
+    → Locks m w l p from n fs answer' rows' → Same es fs answer answer' rows rows'
+locks-one m closing told w l p from n es fs answer answer' rows rows' free a b kept kept' x y c d h g =
+    by (pages_to_hole (pages w p) from n == n) h.3 g.3
+  where
+    event : Event
+    event = lock_event true (pages w p) p from n
+
+    mine : ChoosesAll m closing l (event ∷ h.0) free a
+    mine = subst (λ es. ChoosesAll m closing l es free a) h.1 c
+
+    other : ChoosesAll m closing l (event ∷ g.0) free b
+    other = subst (λ es. ChoosesAll m closing l es free b) g.1 d
+
+    mids : other.0 ≡ mine.0
+    mids = chooses-same m closing l event free other.0 mine.0 told other.1 mine.1
+
+    by : (v : Bool) → MatchBool v (BringsIn m w l p from n h.0 answer) ((h.0 ≡ []) × (answer ≡ Refused Enomem))
+        → MatchBool v (BringsIn m w l p from n g.0 answer') ((g.0 ≡ []) × (answer' ≡ Refused Enomem)) → Same es fs answer answer' rows rows'
+    by true q r =
+        let one = accesses-one m closing told (with_lock true w p from n) l p (accesses_of (pages w p) from n) h.0 g.0 q.0 r.0 mine.0 a b q.1 r.1
+        mine.2 (subst (λ f. ChoosesAll m closing l g.0 f b) mids other.2) (subst AreDone (ap notes_of h.1) x) (subst AreDone (ap notes_of g.1) y)
+        (write-kept (address_of from) q.0 answer q.2 kept) (write-kept (address_of from) r.0 answer' r.2 kept') in
+        record {
+          events = h.1 ∙ ap (λ es. event ∷ es) one.0 ∙ sym g.1;
+          answers = q.2 ∙ ap (write_answer (address_of from)) one.1 ∙ sym r.2;
+          reports = h.2 ∙ sym g.2;
+        }
+    by false q r = record {
+      events = h.1 ∙ ap (λ es. event ∷ es) (q.0 ∙ sym r.0) ∙ sym g.1;
+      answers = q.1 ∙ sym r.1;
+      reports = h.2 ∙ sym g.2;
+    }
+
 follows-one : (m : Setting) (w : World) (l : Ledger) (on : Areas) (anons : Anons) (command : Command) (es fs : List Event)
     (answer answer' : Answer) (rows rows' : List Row) (closing : Option ℕ) (free a b : Free)
     → Tells m → IsClaimed w
@@ -315,31 +358,31 @@ follows-one : (m : Setting) (w : World) (l : Ledger) (on : Areas) (anons : Anons
     → AreDone (notes_of fs) → ChoosesAll m closing l es free a
     → ChoosesAll m closing l fs free b → Follows m w l command es answer rows
     → Follows m w l command fs answer' rows' → ShowsAreas on anons command answer rows
-    → ShowsAreas on anons command answer' rows' → Same es fs answer answer' rows rows'
+    → ShowsAreas on anons command answer' rows' → AllSound m w l → Same es fs answer answer' rows rows'
 follows-one m w l on anons (Spawn p) es fs answer answer' rows rows' closing free a b told claimed kept kept'
-    x y c d h g s t = record {
+    x y c d h g s t sound = record {
       events = h.1 ∙ sym g.1;
       answers = h.0 ∙ sym g.0;
       reports = h.2
           ∙ sym g.2;
     }
 follows-one m w l on anons (Fork p q) es fs answer answer' rows rows' closing free a b told claimed kept kept'
-    x y c d h g s t = record { events = h.1 ∙ sym g.1; answers = h.0 ∙ sym g.0; reports = h.2 ∙ sym g.2 }
+    x y c d h g s t sound = record { events = h.1 ∙ sym g.1; answers = h.0 ∙ sym g.0; reports = h.2 ∙ sym g.2 }
 follows-one m w l on anons (Exit p) es fs answer answer' rows rows' closing free a b told claimed kept kept'
-    x y c d h g s t = record {
+    x y c d h g s t sound = record {
       events = h.1 ∙ sym g.1;
       answers = h.0 ∙ sym g.0;
       reports = h.2
           ∙ sym g.2;
     }
 follows-one m w l on anons (Mmap p len prot place) es fs answer answer' rows rows' closing free a b told
-    claimed kept kept' x y c d h g s t = record {
+    claimed kept kept' x y c d h g s t sound = record {
       events = h.3 ∙ sym g.3;
       answers = map_at-one g.0 answer answer' (subst (IsMapAt answer) (goes-one (pages w p) (pages_of len) place h.0 g.0 h.1 g.1) h.2) g.2;
       reports = h.4 ∙ sym g.4;
     }
 follows-one m w l on anons (Munmap p at len) es fs answer answer' rows rows' closing free a b told claimed
-    kept kept' x y c d h g s t = record {
+    kept kept' x y c d h g s t sound = record {
       events = h.1 ∙ sym g.1;
       answers = h.0 ∙ sym g.0;
       reports = h.2
@@ -347,17 +390,23 @@ follows-one m w l on anons (Munmap p at len) es fs answer answer' rows rows' clo
     }
 follows-one m w l on anons (Mprotect p at len prot) es fs answer answer' rows rows' closing free a b told
     claimed kept kept' x y c d h
-    g s t = record { events = h.1 ∙ sym g.1; answers = h.0 ∙ sym g.0; reports = h.2 ∙ sym g.2 }
+    g s t sound = record { events = h.1 ∙ sym g.1; answers = h.0 ∙ sym g.0; reports = h.2 ∙ sym g.2 }
 follows-one m w l on anons (Mremap p at old new mode) es fs answer answer' rows rows' closing free a b told
-    claimed kept kept' x y c d h g s t =
+    claimed kept kept' x y c d h g s t sound =
     let same = moves-one (pages w p) (page_of at) (pages_of old) (pages_of new) mode h.0 g.0 h.1 g.1 in
     record {
       events = h.3 ∙ ap (λ to. events_to l p (page_of at) (pages_of old) to (pages_of new)) same ∙ sym g.3;
       answers = map_at-one g.0 answer answer' (subst (IsMapAt answer) same h.2) g.2;
       reports = h.4 ∙ sym g.4;
     }
+follows-one m w l on anons (Madvise p at len advice) es fs answer answer' rows rows' closing free a b told claimed kept kept'
+    x y c d h g s t sound = record { events = h.1 ∙ sym g.1; answers = h.0 ∙ sym g.0; reports = h.2 ∙ sym g.2 }
+follows-one m w l on anons (Mlock p at len) es fs answer answer' rows rows' closing free a b told claimed kept kept'
+    x y c d h g s t sound = locks-one m closing told w l p (page_of at) (pages_met at len) es fs answer answer' rows rows' free a b kept kept' x y c d h g
+follows-one m w l on anons (Munlock p at len) es fs answer answer' rows rows' closing free a b told claimed kept kept'
+    x y c d h g s t sound = record { events = h.1 ∙ sym g.1; answers = h.0 ∙ sym g.0; reports = h.2 ∙ sym g.2 }
 follows-one m w l on anons (Read p at n) es fs answer answer' rows rows' closing free a b told claimed kept
-    kept' x y c d h g s t =
+    kept' x y c d h g s t sound =
     let one = accesses-one m closing told w l p (pages_of_access false at n) es fs h.0 g.0 free a b
     h.2 g.2 c d x y (read-kept at h.0 h.1 answer h.4 kept)
     (read-kept at g.0 g.1 answer' g.4 kept') in
@@ -370,48 +419,56 @@ follows-one m w l on anons (Read p at n) es fs answer answer' rows rows' closing
     (λ i below. served-claimed m w l false p at n es h.0 claimed h.2 i (omega (arith, below, length_is))) mine.1 other.1 in
     record { events = one.0; answers = h.4 ∙ (λ i. read_answer at (one.1 i) (shown i)) ∙ sym g.4; reports = h.5 ∙ sym g.5 }
 follows-one m w l on anons (Write p at bytes) es fs answer answer' rows rows' closing free a b told claimed
-    kept kept' x y c d h g s t =
+    kept kept' x y c d h g s t sound =
     let one = accesses-one m closing told w l p (pages_of_access true at (length bytes)) es fs h.0
     g.0 free a b h.1 g.1 c d x y (write-kept at h.0 answer h.2 kept)
     (write-kept at g.0 answer' g.2 kept') in
     record { events = one.0; answers = h.2 ∙ ap (write_answer at) one.1 ∙ sym g.2; reports = h.3 ∙ sym g.3 }
 follows-one m w l on anons (Reclaim n) es fs answer answer' rows rows' closing free a b told claimed kept kept'
-    x y c d h g s t = record {
+    x y c d h g s t sound = record {
       events = reclaims-one m closing told w l n es fs answer answer' rows rows' free a b h g x y c d;
       answers = h.2 ∙ sym g.2;
       reports = h.4 ∙ sym g.4;
     }
 follows-one m w l on anons (Age n) es fs answer answer' rows rows' closing free a b told claimed kept kept'
-    x y c d h g s t = record { events = h.1 ∙ sym g.1; answers = h.0 ∙ sym g.0; reports = h.2 ∙ sym g.2 }
+    x y c d h g s t sound = record { events = h.1 ∙ sym g.1; answers = h.0 ∙ sym g.0; reports = h.2 ∙ sym g.2 }
 follows-one m w l on anons (Complete n) es fs answer answer' rows rows' closing free a b told claimed kept kept'
-    x y c d h g s t = record { events = complete-one l n es fs answer answer' rows rows' h g x y; answers = h.2 ∙ sym g.2; reports = h.4 ∙ sym g.4 }
+    x y c d h g s t sound = record { events = complete-one l n es fs answer answer' rows rows' h g x y; answers = h.2 ∙ sym g.2; reports = h.4 ∙ sym g.4 }
 follows-one m w l on anons (Swapon k priority) es fs answer answer' rows rows' closing free a b told claimed kept kept'
-    x y c d h g s t = let same = turns-on-one m k priority es fs answer answer' rows rows' told h g kept kept' in
+    x y c d h g s t sound = let same = turns-on-one m k priority es fs answer answer' rows rows' told h g kept kept' in
     record { events = h.1 ∙ ap (turn_on_events k priority) same ∙ sym g.1; answers = same; reports = h.2 ∙ sym g.2 }
 follows-one m w l on anons (Swapoff k) es fs answer answer' rows rows' closing free a b told claimed kept kept'
-    x y c d h g s t = let same = turns-off-one m closing told w l k es fs answer answer' rows rows' free a b h g kept kept' x y c d in
+    x y c d h g s t sound = let same = turns-off-one m closing told w l k es fs answer answer' rows rows' free a b h g kept kept' x y c d in
     record { events = same.0; answers = same.1; reports = h.no_rows ∙ sym g.no_rows }
+follows-one m w l on anons Merge es fs answer answer' rows rows' closing free a b told claimed kept kept'
+    x y c d h g s t sound = record { events = h.2 ∙ ap note_events (merges-one m w l h.0 g.0 sound (λ k. claimed k.0 k.1) h.1 g.1 (map (λ e. e.0) l.entries)) ∙ sym g.2; answers = h.3 ∙ sym g.3; reports = h.4 ∙ sym g.4 }
+follows-one m w l on anons Compact es fs answer answer' rows rows' closing free a b told claimed kept kept'
+    x y c d h g s t sound = record {
+      events = h.2 ∙ ap (λ ns. note_events ns ++ FreeSorted ∷ []) (compacts-one m l h.0 g.0 h.1 g.1) ∙ sym g.2;
+      answers = h.3 ∙ sym g.3;
+      reports = h.4 ∙ sym g.4;
+    }
 follows-one m w l on anons (Maps p) es fs answer answer' rows rows' closing free a b told claimed kept kept'
-    x y c d h g s t =
+    x y c d h g s t sound =
     let same = one-answer (pages w p) rows rows' h.1 g.1 in
     record { events = h.2 ∙ sym g.2; answers = h.0 ∙ ap (λ (rs : List Row). Runs (length rs)) same ∙ sym g.0; reports = same }
 follows-one m w l on anons (AsksAreas p) es fs answer answer' rows rows' closing free a b told claimed kept kept'
-    x y c d h g s t =
+    x y c d h g s t sound =
     let same = one-rows anons (on p) rows rows' (subst (λ answer. ShowsAreas on anons (AsksAreas p) answer rows) h.0 s)
     (subst (λ answer. ShowsAreas on anons (AsksAreas p) answer rows') g.0 t) in
     record { events = h.2 ∙ sym g.2; answers = h.0 ∙ ap (λ (rs : List Row). AreaList (length rs)) same ∙ sym g.0; reports = same }
 follows-one m w l on anons (AsksRmap p at) es fs answer answer' rows rows' closing free a b told claimed kept kept'
-    x y c d h g s t = record { events = h.1 ∙ sym g.1; answers = h.0 ∙ sym g.0; reports = h.2 ∙ sym g.2 }
+    x y c d h g s t sound = record { events = h.1 ∙ sym g.1; answers = h.0 ∙ sym g.0; reports = h.2 ∙ sym g.2 }
 follows-one m w l on anons (AsksEntry p at) es fs answer answer' rows rows' closing free a b told claimed kept kept'
-    x y c d h g s t = record { events = h.1 ∙ sym g.1; answers = h.0 ∙ sym g.0; reports = h.2 ∙ sym g.2 }
+    x y c d h g s t sound = record { events = h.1 ∙ sym g.1; answers = h.0 ∙ sym g.0; reports = h.2 ∙ sym g.2 }
 follows-one m w l on anons (AsksSlot k page) es fs answer answer' rows rows' closing free a b told claimed kept kept'
-    x y c d h g s t = record {
+    x y c d h g s t sound = record {
       events = h.1 ∙ sym g.1;
       answers = reports-slot-one m l (record { area = k; page = page }) es fs answer answer' rows rows' told h g;
       reports = h.2 ∙ sym g.2;
     }
 follows-one m w l on anons Stat es fs answer answer' rows rows' closing free a b told claimed kept kept' x y
-    c d h g s t = record { events = h.1 ∙ sym g.1; answers = h.0 ∙ sym g.0; reports = h.2 ∙ sym g.2 }
+    c d h g s t sound = record { events = h.1 ∙ sym g.1; answers = h.0 ∙ sym g.0; reports = h.2 ∙ sym g.2 }
 
 legal-one : (m : Setting) (w : World) (l : Ledger) (on : Areas) (anons : Anons) (command : Command) (reply reply' : Reply)
     (es fs : List Event) (closing : Option ℕ) (free a b : Free) → Tells m → IsClaimed w
@@ -419,28 +476,28 @@ legal-one : (m : Setting) (w : World) (l : Ledger) (on : Areas) (anons : Anons) 
     → AreDone (notes_of fs) → ChoosesAll m closing l es free a
     → ChoosesAll m closing l fs free b → IsLegal m w l command reply es
     → IsLegal m w l command reply' fs → ShowsAreas on anons command reply.answer reply.rows
-    → ShowsAreas on anons command reply'.answer reply'.rows
+    → ShowsAreas on anons command reply'.answer reply'.rows → AllSound m w l
     → Same es fs reply.answer reply'.answer reply.rows reply'.rows
-legal-one m w l on anons command reply reply' es fs closing free a b told claimed kept kept' x y c d h g s t = by
+legal-one m w l on anons command reply reply' es fs closing free a b told claimed kept kept' x y c d h g s t sound = by
     (refusal (tests m w l command)) h.answer g.answer
   where
     by : (o : Option Errno) → MatchOption o (Follows m w l command es reply.answer reply.rows) (λ error. Refuses error es reply.answer reply.rows)
         → MatchOption o (Follows m w l command fs reply'.answer reply'.rows) (λ error. Refuses error fs reply'.answer reply'.rows) →
         Same es fs reply.answer reply'.answer reply.rows reply'.rows
     by None p q = follows-one m w l on anons command es fs reply.answer reply'.answer reply.rows reply'.rows
-        closing free a b told claimed kept kept' x y c d p q s t
+        closing free a b told claimed kept kept' x y c d p q s t sound
     by (Some error) p q = record { events = p.1 ∙ sym q.1; answers = p.0 ∙ sym q.0; reports = p.2 ∙ sym q.2 }
 
 pub step-one : (m : Setting) (old new new' : State) (command : Command) (reply reply' : Reply)
-    → Tells m → IsClaimed old.world → ShowsNoFailure reply → ShowsNoFailure reply'
+    → Tells m → IsClaimed old.world → AllSound m old.world old.ledger → ShowsNoFailure reply → ShowsNoFailure reply'
     → IsStep m old command reply new → IsStep m old command reply' new' → (reply ≡ reply') × (new ≡ new')
-step-one m old new new' command reply reply' told claimed kept kept' h g =
+step-one m old new new' command reply reply' told claimed sound kept kept' h g =
     let closing = closing_swap_area command in
     let x = done-is reply.notes kept.writes in
     let y = done-is reply'.notes kept'.writes in
     let same = legal-one m old.world old.ledger old.areas old.anons command reply reply' h.events g.events closing
     old.free new.free new'.free told claimed kept.answer kept'.answer
-    (subst AreDone h.legal.notes x) (subst AreDone g.legal.notes y) h.free g.free h.legal g.legal h.shows g.shows in
+    (subst AreDone h.legal.notes x) (subst AreDone g.legal.notes y) h.free g.free h.legal g.legal h.shows g.shows sound in
     let notes : reply.notes ≡ reply'.notes = h.legal.notes ∙ ap notes_of same.events ∙ sym g.legal.notes in
     let world : new.world ≡ new'.world = h.world ∙ (λ i. next_world m old.world old.ledger (same.events i) command (same.answers i)) ∙ sym g.world in
     let ledger : new.ledger ≡ new'.ledger = h.ledger ∙ ap (after_all old.ledger) same.events ∙ sym g.ledger in
@@ -460,6 +517,7 @@ step-one m old new new' command reply reply' told claimed kept kept' h g =
         areas = (rmap i).areas;
         anons = (rmap i).anons;
         homes = (rmap i).homes;
+        items = (rmap i).items;
       }),
     )
 
@@ -500,14 +558,28 @@ claimed-stored w p a (b ∷ bytes) claimed =
     over page (Some q) h = λ i below. either (within a (length (b ∷ bytes)) (address_of page + i)) (slice_index (b ∷ bytes) (address_of page + i - a))
         (q.bytes i) (h i below)
 
-claimed-protected : (w : World) (p from n : ℕ) (prot : Prot) → IsClaimed w → IsClaimed (set_process w p (with_prot_on (pages w p) from n prot))
-claimed-protected w p from n prot claimed = claimed-set w p (with_prot_on (pages w p) from n prot) claimed
+claimed-changed : (w : World) (p from n : ℕ) (change : Page → Page) → ((x : Page) → Claims (Some x) → Claims (Some (change x))) → IsClaimed w
+    → IsClaimed (set_process w p (with_change_on (pages w p) from n change))
+claimed-changed w p from n change keeps claimed = claimed-set w p (with_change_on (pages w p) from n change) claimed
     (λ page. by (within from n page) (pages w p page) (claimed p page))
   where
-    by : (b : Bool) (o : Option Page) → Claims o → Claims (if b then option_map (with_prot prot) o else o)
+    by : (b : Bool) (o : Option Page) → Claims o → Claims (if b then option_map change o else o)
     by true None h = h
-    by true (Some q) h = h
+    by true (Some q) h = keeps q h
     by false o h = h
+
+claimed-child : (o : Option Page) → Claims o → Claims (option_and_then page_of_child o)
+claimed-child None h = h
+claimed-child (Some x) h = by x.flags.dont_fork x.flags.wipe_on_fork
+  where
+    by : (d v : Bool) → Claims (if d then None else Some (without_lock (if v then wiped x else x)))
+    by true v = tt
+    by false true = λ i below. refl
+    by false false = h
+
+claimed-advised : (change : Option (Flag × Bool)) (x : Page) → Claims (Some x) → Claims (Some (advised change x))
+claimed-advised None x h = λ i below. refl
+claimed-advised (Some change) x h = h
 
 claimed-follows : (m : Setting) (w : World) (l : Ledger) (command : Command) (es : List Event) (answer : Answer) (rows : List Row) → Tells m
     → IsClaimed w →
@@ -517,7 +589,8 @@ claimed-follows m w l command es answer rows told claimed h =
   where
     by : (command : Command) → Follows m w l command es answer rows → IsClaimed (next w command answer)
     by (Spawn p) h = subst (λ x. IsClaimed (next w (Spawn p) x)) (sym h.0) (claimed-set w p no_pages claimed (λ page. tt))
-    by (Fork p q) h = subst (λ x. IsClaimed (next w (Fork p q) x)) (sym h.0) (claimed-set w q (pages w p) claimed (claimed p))
+    by (Fork p q) h = subst (λ x. IsClaimed (next w (Fork p q) x)) (sym h.0) (claimed-set w q (child_of (pages w p)) claimed
+        (λ page. claimed-child (pages w p page) (claimed p page)))
     by (Exit p) h = subst (λ x. IsClaimed (next w (Exit p) x)) (sym h.0) (claimed-ended w p claimed)
     by (Mmap p len prot place) h = at h.0 h.2
       where
@@ -541,43 +614,93 @@ claimed-follows m w l command es answer rows told claimed h =
         (at (pages_to_hole (pages w p) (page_of a) (pages_of len) == pages_of len))
       where
         at : (b : Bool) → IsClaimed (next w (Mprotect p a len prot) (if b then Done else Refused Enomem))
-        at true = claimed-protected w p (page_of a) (pages_of len) prot claimed
+        at true = claimed-changed w p (page_of a) (pages_of len) (with_prot prot) (λ x h. h) claimed
         at false = stopped (wraps a len)
           where
             stopped : (c : Bool) → IsClaimed (if c then w else with_prot_to_hole w p (page_of a) (pages_of len) prot)
             stopped true = claimed
-            stopped false = claimed-protected w p (page_of a) (pages_to_hole (pages w p) (page_of a) (pages_of len)) prot claimed
+            stopped false = claimed-changed w p (page_of a) (pages_to_hole (pages w p) (page_of a) (pages_of len)) (with_prot prot) (λ x h. h) claimed
     by (Mremap p a old new mode) h = at h.0 h.2
       where
         q : Process
         q = pages w p
 
-        left : Option Prot
-        left = prot_left mode q (page_of a)
+        stays : Bool
+        stays = leaves_old mode
 
-        fresh : (o : Option Prot) → Claims (option_map zeros o)
+        fresh : (o : Option Page) → Claims (option_map wiped o)
         fresh None = tt
-        fresh (Some prot) = λ i below. refl
+        fresh (Some x) = λ i below. refl
 
-        outside : (page : ℕ) (b : Bool) → Claims (cond b (option_map zeros left) (q page))
-        outside page true = fresh left
+        behind : (c : Bool) (o : Option Page) → Claims (left_behind c o)
+        behind true None = tt
+        behind true (Some x) = λ i below. refl
+        behind false o = tt
+
+        outside : (page : ℕ) (b : Bool) → Claims (cond b (left_behind stays (q page)) (q page))
+        outside page true = behind stays (q page)
         outside page false = claimed p page
 
-        inside : (to page : ℕ) (b : Bool) → Claims (cond b (q (page_of a + (page - to))) (option_map zeros (prot_at q (page_of a))))
+        inside : (to page : ℕ) (b : Bool) → Claims (cond b (q (page_of a + (page - to))) (option_map wiped (q (page_of a + pages_of old - 1))))
         inside to page true = claimed p (page_of a + (page - to))
-        inside to page false = fresh (prot_at q (page_of a))
+        inside to page false = fresh (q (page_of a + pages_of old - 1))
 
         each : (to page : ℕ) (b : Bool) → Claims (cond b (cond (nat_lt (page - to) (pages_of old)) (q (page_of a + (page - to)))
-            (option_map zeros (prot_at q (page_of a))))
-            (cond (within (page_of a) (pages_of old) page) (option_map zeros left) (q page)))
+            (option_map wiped (q (page_of a + pages_of old - 1))))
+            (cond (within (page_of a) (pages_of old) page) (left_behind stays (q page)) (q page)))
         each to page true = inside to page (nat_lt (page - to) (pages_of old))
         each to page false = outside page (within (page_of a) (pages_of old) page)
 
         at : (to : Option ℕ) → IsMapAt answer to → IsClaimed (next w (Mremap p a old new mode) answer)
         at None e = subst (λ x. IsClaimed (next w (Mremap p a old new mode) x)) (sym e) claimed
         at (Some page) e = subst (λ x. IsClaimed (next w (Mremap p a old new mode) x)) (sym e)
-            (claimed-set w p (process_after_mremap (page_of a) (pages_of old) (page_of (address_of page)) (pages_of new) left q) claimed
+            (claimed-set w p (process_after_mremap (page_of a) (pages_of old) (page_of (address_of page)) (pages_of new) stays q) claimed
             (λ x. each (page_of (address_of page)) x (within (page_of (address_of page)) (pages_of new) x)))
+    by (Madvise p a len advice) h = subst (λ x. IsClaimed (next w (Madvise p a len advice) x)) (sym h.0)
+        (at (nat_lt (pages_advised (pages w p) (page_of a) (pages_of len) (flag_of_advice advice)) (pages_of len))
+        (pages_to_hole (pages w p) (page_of a) (pages_of len) == pages_of len))
+      where
+        all : IsClaimed (with_advice w p (page_of a) (pages_of len) (flag_of_advice advice))
+        all = claimed-changed w p (page_of a) (pages_advised (pages w p) (page_of a) (pages_of len) (flag_of_advice advice))
+            (advised (flag_of_advice advice)) (claimed-advised (flag_of_advice advice)) claimed
+
+        bad_range : (b : Bool) → IsClaimed (if b then w else with_advice w p (page_of a) (pages_of len) (flag_of_advice advice))
+        bad_range true = claimed
+        bad_range false = all
+
+        at : (b c : Bool) → IsClaimed (next w (Madvise p a len advice) (if b then Refused Einval else (if c then Done else Refused Enomem)))
+        at true c = bad_range (is_bad_range a len)
+        at false true = all
+        at false false = all
+    by (Mlock p a len) h = at (pages_to_hole (pages w p) (page_of a) (pages_met a len) == pages_met a len) h.3
+      where
+        locked : IsClaimed (with_lock true w p (page_of a) (pages_met a len))
+        locked = claimed-changed w p (page_of a) (pages_to_hole (pages w p) (page_of a) (pages_met a len)) (with_page_flag Locked true) (λ x h. h) claimed
+
+        ends : (end : End) → IsClaimed (next w (Mlock p a len) (write_answer (address_of (page_of a)) end))
+        ends Whole = locked
+        ends (Stopped page Denied) = locked
+        ends (Stopped page (Starved out)) = locked
+        ends (Stopped page Lost) = locked
+
+        many : (b : Bool) → IsClaimed (if b then w else with_lock true w p (page_of a) (pages_met a len))
+        many true = claimed
+        many false = locked
+
+        at : (b : Bool) → MatchBool b (BringsIn m w l p (page_of a) (pages_met a len) h.0 answer) ((h.0 ≡ []) × (answer ≡ Refused Enomem))
+            → IsClaimed (next w (Mlock p a len) answer)
+        at true q = subst (λ x. IsClaimed (next w (Mlock p a len) x)) (sym q.2) (ends q.0)
+        at false q = subst (λ x. IsClaimed (next w (Mlock p a len) x)) (sym q.1) (many (locks_too_many a len))
+    by (Munlock p a len) h = subst (λ x. IsClaimed (next w (Munlock p a len) x)) (sym h.0)
+        (at (pages_to_hole (pages w p) (page_of a) (pages_met a len) == pages_met a len))
+      where
+        unlocked : IsClaimed (with_lock false w p (page_of a) (pages_met a len))
+        unlocked = claimed-changed w p (page_of a) (pages_to_hole (pages w p) (page_of a) (pages_met a len)) (with_page_flag Locked false) (λ x h. h)
+            claimed
+
+        at : (b : Bool) → IsClaimed (next w (Munlock p a len) (if b then Done else Refused Enomem))
+        at true = unlocked
+        at false = unlocked
     by (Read p a n) h = claimed
     by (Write p a bytes) h = claimed-stored w p a (first_bytes answer bytes) claimed
     by (Reclaim n) h = claimed
@@ -585,6 +708,8 @@ claimed-follows m w l command es answer rows told claimed h =
     by (Complete n) h = claimed
     by (Swapon k priority) h = claimed
     by (Swapoff k) h = claimed
+    by Merge h = claimed
+    by Compact h = claimed
     by (Maps p) h = claimed
     by (AsksAreas p) h = claimed
     by (AsksRmap p a) h = claimed
@@ -613,16 +738,16 @@ claimed-step m old new command reply told claimed h =
 -- ---- runs
 
 pub runs-one : (m : Setting) (old : State) (es fs : List Exchange) (new new' : State) → Tells m
-    → IsClaimed old.world → SameCommands es fs → ShowNoFailures es → ShowNoFailures fs
+    → IsClaimed old.world → AllSound m old.world old.ledger → SameCommands es fs → ShowNoFailures es → ShowNoFailures fs
     → IsRun m old es new → IsRun m old fs new' → (es ≡ fs) × (new ≡ new')
-runs-one m old [] [] new new' told claimed same kept kept' h g = (refl, h ∙ sym g)
-runs-one m old [] (f ∷ fs) new new' told claimed same kept kept' h g = absurd same
-runs-one m old (e ∷ es) [] new new' told claimed same kept kept' h g = absurd same
-runs-one m old (e ∷ es) (f ∷ fs) new new' told claimed same kept kept' h g =
-    let step = step-one m old h.0 g.0 e.command e.reply f.reply told claimed kept.0 kept'.0
+runs-one m old [] [] new new' told claimed sound same kept kept' h g = (refl, h ∙ sym g)
+runs-one m old [] (f ∷ fs) new new' told claimed sound same kept kept' h g = absurd same
+runs-one m old (e ∷ es) [] new new' told claimed sound same kept kept' h g = absurd same
+runs-one m old (e ∷ es) (f ∷ fs) new new' told claimed sound same kept kept' h g =
+    let step = step-one m old h.0 g.0 e.command e.reply f.reply told claimed sound kept.0 kept'.0
     h.1 (subst (λ c. IsStep m old c f.reply g.0) (sym same.0) g.1) in
     let rest = runs-one m h.0 es fs new new' told
-    (claimed-step m old h.0 e.command e.reply told claimed h.1) same.1 kept.1 kept'.1 h.2
+    (claimed-step m old h.0 e.command e.reply told claimed h.1) (step-sound m old e.command e.reply h.0 sound h.1) same.1 kept.1 kept'.1 h.2
     (subst (λ s. IsRun m s fs new') (sym step.1) g.2) in
     ((λ i. record { command = same.0 i; reply = step.0 i } ∷ rest.0 i), rest.1)
 
@@ -630,4 +755,4 @@ pub runs-determined : (m : Setting) (es fs : List Exchange) (new new' : State) �
     → SameCommands es fs → ShowNoFailures es → ShowNoFailures fs
     → IsRun m (at_first m) es new → IsRun m (at_first m) fs new' → (es ≡ fs) × (new ≡ new')
 runs-determined m es fs new new' told same kept kept' h g = runs-one m (at_first m) es fs new new'
-    told (λ p page. tt) same kept kept' h g
+    told (λ p page. tt) (first-sound m) same kept kept' h g

@@ -12,5 +12,8 @@ pub mod ReadBack
 pub mod NeedsFrame
 pub mod Failures
 pub mod FreeSlots
+pub mod Flagged
 pub mod Covered
 pub mod RunCovered
+pub mod Spared
+pub mod Stay

@@ -3,6 +3,7 @@ use Rattle.std.specs.List.{AllByRecursion, range_with_len}
 use Rattle.std.specs.FinMap.Entries.{find, is_sorted}
 use Rattle.std.specs.Prelude.{IsTrue, MatchOption, T, length, nat_lt}
 use Rattle.std.proofs.Common.{◌≡◌, ◌⊎◌, inl, inr, ℕ, zero, suc, ◌+◌, ◌<◌, ◌≤◌, Bool, true, false, cond, not, ◌&&◌, ◌||◌, List, [], ◌∷◌, ◌++◌, map, option_map, Option, Some, None, refl, sym, ap, subst, ◌∙◌, arith, ◌==◌}
+use Rattle.std.proofs.lemmas.Bool.{false≢true}
 use Rattle.std.proofs.lemmas.Bool.Decides.{nat_tests}
 use Rattle.av_base.specs.Page.{address_of, page_of, pages_of, place_in_page}
 use Rattle.av_base.specs.Words.{how_many}
@@ -15,7 +16,7 @@ use Rattle.av_trace.specs.declared.reply.Errno.{Errno}
 use Rattle.av_trace.specs.declared.reply.OutOf.{OutOf}
 use Rattle.av_trace.specs.declared.reply.Reply.{Reply}
 use Rattle.av_plain.specs.World.{World}
-use Rattle.av_plain.specs.Ledger.{Cached, cached_by, Entry, InFrame, InSlot, Key, Ledger, Setting, Zero, entry, frame_at, in_flight, is_full, key_cmp, map_count, names_frame, names_slot, same_slot, slot_entries, slot_of}
+use Rattle.av_plain.specs.Ledger.{Cached, cached_by, Entry, InFrame, InSlot, Key, Ledger, Setting, Zero, entry, frame_at, in_flight, is_full, is_merged, key_cmp, map_count, names_frame, names_slot, same_slot, slot_entries, slot_of}
 use Rattle.av_plain.specs.Event.{Event, Used, after_all, after_note, after_notes, after_use, after_use_of, if_some, note_events, off_cache, set_entry, when, with_stale}
 use Rattle.av_plain.specs.Fault.{ComesIn, CopyOnWrite, Denied, IsMade, Lost, MapCached, Need, NewPage, Ready, RunsOut, Serves, Sparing, Starved, Stop, SwapIn, Touches, ZeroPage, drop_at, drop_of_entry, drop_of_slot, is_named, is_shared, is_unneeded, need, need_of_slot, sparing, wants_frame, was_slot}
 use Rattle.av_plain.specs.Access.{Accesses, End, Stopped, Whole, page_events, read_answer, write_answer}
@@ -28,6 +29,7 @@ use Rattle.av_plain.proofs.Ledger.{entry-set, how_many-found, map_count-set, sam
 use Rattle.av_plain.proofs.Ledger.Order.{weight}
 use Rattle.av_plain.proofs.Ledger.NoSwap.{key_at-address, key_is}
 use Rattle.av_plain.proofs.NoDevice.{never}
+use Rattle.av_plain.proofs.Covered.Swap.{merged-settled}
 use Rattle.av_plain.proofs.Sound.Counts.{frame_at-none, holders-off_cache, slot-is, slot-itself, slot_of-none, slot_of-some, two_slots}
 use Rattle.av_plain.proofs.Sound.Access.{page_events-kept, touches-kept}
 use Rattle.av_plain.proofs.Sound.Entries.{slot_entries-set}
@@ -302,6 +304,7 @@ record IsOwn (l : Ledger) (k : Key) : Type 0 where
   is : entry l k ≡ Some (InFrame frame seen)
   alone : map_count l frame ≤ 1
   unnamed : (t : Slot) → 0 < pairs l t frame → slot_entries l t ≡ 0
+  unmerged : is_merged l frame ≡ false
 
 own-of : (m : Setting) (l : Ledger) (k : Key) → IsSound m l → IsInPlace l (entry l k) → IsOwn l k
 own-of m l k s h = by (entry l k) refl h
@@ -309,9 +312,10 @@ own-of m l k s h = by (entry l k) refl h
     alone : (f : ℕ) (b : Bool) → (nat_lt 1 (map_count l f) || b) ≡ false → map_count l f ≤ 1
     alone f b h = grind (arith, nat_tests, h)
 
-    second : (a b : Bool) → (a || b) ≡ false → b ≡ false
-    second true b h = cc
-    second false b h = h
+    none_of : (a b c : Bool) → (a || b || c) ≡ false → ((a || b) ≡ false) × (b ≡ false) × (c ≡ false)
+    none_of true b c h = cc
+    none_of false true c h = cc
+    none_of false false c h = (refl, refl, h)
 
     unnamed : (f : ℕ) (o : Option Slot) → slot_of l f ≡ o → is_named l o ≡ false → (t : Slot) → 0 < pairs l t f → slot_entries l t ≡ 0
     unnamed f None at h t pair = let none = slot_of-none f l.cache at in let few = holders-off_cache t f l.cache in
@@ -330,21 +334,23 @@ own-of m l k s h = by (entry l k) refl h
     by None is h = absurd h
     by (Some Zero) is h = absurd h
     by (Some (InSlot t)) is h = absurd h
-    by (Some (InFrame f seen)) is h = record {
+    by (Some (InFrame f seen)) is h = let none = none_of (nat_lt 1 (map_count l f)) (is_named l (slot_of l f)) (is_merged l f) h in record {
       frame = f;
       seen = seen;
       is = is;
-      alone = alone f (is_named l (slot_of l f)) h;
-      unnamed = unnamed f (slot_of l f) refl (second (nat_lt 1 (map_count l f)) (is_named l (slot_of l f)) h);
+      alone = alone f (is_named l (slot_of l f)) none.0;
+      unnamed = unnamed f (slot_of l f) refl none.1;
+      unmerged = none.2;
     }
 
 own-unshared : (l : Ledger) (k : Key) (own : IsOwn l k) → is_shared l own.frame ≡ false
-own-unshared l k own = neither (nat_lt 1 (map_count l own.frame)) (is_named l (slot_of l own.frame)) (grind (arith, nat_tests, own.alone))
-    (named (slot_of l own.frame) refl)
+own-unshared l k own = neither (nat_lt 1 (map_count l own.frame)) (is_named l (slot_of l own.frame)) (is_merged l own.frame)
+    (grind (arith, nat_tests, own.alone)) (named (slot_of l own.frame) refl) own.unmerged
   where
-    neither : (a b : Bool) → a ≡ false → b ≡ false → (a || b) ≡ false
-    neither true b h i = cc
-    neither false b h i = i
+    neither : (a b c : Bool) → a ≡ false → b ≡ false → c ≡ false → (a || b || c) ≡ false
+    neither true b c h i j = cc
+    neither false true c h i j = cc
+    neither false false c h i j = j
 
     named : (o : Option Slot) → slot_of l own.frame ≡ o → is_named l o ≡ false
     named None at = refl
@@ -359,6 +365,7 @@ own-need l k own = ap (need true l) own.is ∙ ap (λ b. cond b (CopyOnWrite own
 record IsLess (l l' : Ledger) : Type 0 where
   entries : l'.entries ≡ l.entries
   pairs_less : (t : Slot) (f : ℕ) → pairs l' t f ≤ pairs l t f
+  fewer : (f : ℕ) → is_merged l' f ≡ true → is_merged l f ≡ true
 
 own-less : (l l' : Ledger) (k : Key) → IsLess l l' → IsOwn l k → IsOwn l' k
 own-less l l' k less own = record {
@@ -368,10 +375,15 @@ own-less l l' k less own = record {
   alone = subst (λ es. how_many (λ (e : Key × Entry). names_frame own.frame e.1) es ≤ 1) (sym less.entries) own.alone;
   unnamed = λ t pair. let few = less.pairs_less t own.frame in ap (how_many (λ (e : Key × Entry). names_slot t e.1)) less.entries
       ∙ own.unnamed t (omega (arith, few, pair));
+  unmerged = still (is_merged l' own.frame) (less.fewer own.frame) own.unmerged;
 }
+  where
+    still : (b : Bool) → (b ≡ true → is_merged l own.frame ≡ true) → is_merged l own.frame ≡ false → b ≡ false
+    still true was none = absurd (false≢true (sym none ∙ was refl))
+    still false was none = refl
 
 same-less : (l : Ledger) → IsLess l l
-same-less l = record { entries = refl; pairs_less = λ t f. omega arith }
+same-less l = record { entries = refl; pairs_less = λ t f. omega arith; fewer = λ f is. is }
 
 drop-less : (m : Setting) (came : Bool) (l : Ledger) (k : Key) → IsLess l (after_notes l (drop_at m true came l k))
 drop-less m came l k = by (entry l k)
@@ -385,6 +397,7 @@ drop-less m came l k = by (entry l k)
     dropped t true = record {
       entries = settle-entries (frame_at l t) (off_cache t l);
       pairs_less = λ r f. less t r f (same_slot r t) (pairs-dropped l t r f);
+      fewer = (merged-settled (frame_at l t) (off_cache t l)).fewer;
     }
     dropped t false = same-less l
 
@@ -414,6 +427,7 @@ own-set l k q in_order own other its = record {
       let b = ap (weight (names_slot t)) own.is in
       let c = its.unnamed t pair in
       omega (arith, a, b, c);
+  unmerged = its.unmerged;
 }
 
 own-used : (l : Ledger) (k q : Key) → T (is_sorted key_cmp l.entries) → IsOwn l k → same_key q k ≡ false → IsOwn l q → IsOwn (after_use true k l) q
@@ -427,7 +441,7 @@ own-used l k q in_order own other its = subst (λ o. IsOwn (after_use_of true k 
     stale (Some t) =
         let alike = alike-with_stale now true t in
         own-less now (with_stale true t now) q
-        (record { entries = alike.entries; pairs_less = λ r f. let e = alike.pairs_same r f in omega (arith, e) })
+        (record { entries = alike.entries; pairs_less = λ r f. let e = alike.pairs_same r f in omega (arith, e); fewer = λ f is. is })
         (own-set l k q in_order own other its)
 
 serves-own : (m : Setting) (sp : Sparing) (l : Ledger) (k q : Key) (notes : List Note) → T (is_sorted key_cmp l.entries) → same_key q k ≡ false

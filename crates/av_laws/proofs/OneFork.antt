@@ -5,6 +5,7 @@ use Rattle.av_trace.specs.declared.command.Command.{Command}
 use Rattle.av_trace.specs.declared.command.Command.TheVariants.{Fork}
 use Rattle.av_trace.specs.declared.reply.Answer.{Answer}
 use Rattle.av_trace.specs.declared.reply.Answer.TheVariants.{Done}
+use Rattle.av_vma.specs.Fork.{areas_to_fork, own_to_fork}
 use Rattle.av_vma.specs.declared.area.Area.{Area}
 use Rattle.av_plain.specs.Areas.{AreLeft, AreNext, Rmap, chain_by, none_on}
 use Rattle.av_plain.specs.Fork.{AreForked, GoOver, GoesBy, IsReused, IsRmapDone, IsRmapNext, own_of_child, with_child, with_child_area}
@@ -22,7 +23,7 @@ reused-one r chain (Some v) (Some w) h g = let under = h.2 w g.0 g.1 in let over
 goes-one : (own : Option ℕ) (q : ℕ) (area : Area) (r x y : Rmap) → GoesBy own q area r x → GoesBy own q area r y → x ≡ y
 goes-one None q area r x y h g = h ∙ sym g
 goes-one (Some own) q area r x y h g = h.2
-    ∙ ap (λ reused. record (with_child_area q (record area { anon = Some (own_of_child r.anons reused) }) r)
+    ∙ ap (λ reused. record (with_child_area q (Some (own_of_child r.anons reused)) area r)
     { anons = with_child own reused r.anons })
     (reused-one r (chain_by r.anons (Some own)) h.0 g.0 h.1 g.1)
     ∙ sym g.2
@@ -30,14 +31,14 @@ goes-one (Some own) q area r x y h g = h.2
 over-one : (q : ℕ) (areas : List Area) (r x y : Rmap) → GoOver q areas r x → GoOver q areas r y → x ≡ y
 over-one q [] r x y h g = h ∙ sym g
 over-one q (area ∷ areas) r x y (mid, first, later) (mid', first', later') =
-    let same = goes-one area.anon q area r mid mid' first first' in
+    let same = goes-one (own_to_fork area) q area r mid mid' first first' in
     over-one q areas mid x y later (subst (λ mid. GoOver q areas mid y) (sym same) later')
 
 pub forked-one : (p q : ℕ) (r x y : Rmap) → AreForked p q r x → AreForked p q r y → x ≡ y
 forked-one p q r x y (areas, rise, on, goes) (areas', rise', on', goes') =
     let same = one_list areas areas' rise rise' (λ page. on page ∙ sym (on' page)) in
-    over-one q areas (record r { areas = with_at q none_on r.areas }) x y goes
-    (subst (λ areas. GoOver q areas (record r { areas = with_at q none_on r.areas }) y) (sym same) goes')
+    over-one q (areas_to_fork areas) (record r { areas = with_at q none_on r.areas }) x y goes
+    (subst (λ areas. GoOver q (areas_to_fork areas) (record r { areas = with_at q none_on r.areas }) y) (sym same) goes')
 
 plain-one : (now : Rmap) (w : World) (command : Command) (answer : Answer) (x y : Rmap) → AreNext now w command answer x →
     AreNext now w command answer y → x ≡ y
@@ -45,7 +46,8 @@ plain-one now w command answer x y h g =
     let areas = h.areas ∙ sym g.areas in
     let anons = left-one now.anons y.areas x.anons y.anons (subst (λ on. AreLeft now.anons on x.anons) areas h.anons) g.anons in
     let homes = h.homes ∙ sym g.homes in
-    λ i. record { areas = areas i; anons = anons i; homes = homes i }
+    let items = h.items ∙ sym g.items in
+    λ i. record { areas = areas i; anons = anons i; homes = homes i; items = items i }
 
 -- so do all commands
 pub next-one : (now : Rmap) (w : World) (command : Command) (answer : Answer) (x y : Rmap) → IsRmapNext now w command answer x →

@@ -23,7 +23,7 @@ module _ (m : Setting) (closing : Option ℕ) (told : Tells m) (sp : Sparing) wh
       (given-is m closing l free a _ h.4 x) in
       let ys = given-parts m closing l free g.0 (Mapped k.0 (address_of k.1) g.1 ∷ [])
       (given-is m closing l free b _ g.4 y) in
-      let same = takes-one m closing told (sp l None) l free h.0 g.0 (Loaded s) (λ f. refl) h.2 g.2
+      let same = takes-one m closing told (sp l None) l free h.0 g.0 (Loaded s) (λ f. (refl, refl)) h.2 g.2
       xs.1 ys.1 in
       let frame : h.1 ≡ g.1 = inner (sym h.3 ∙ ap (λ ns. frame_at (after_notes l ns) s) same ∙ g.3) in
       h.4 ∙ (λ i. same i ++ Mapped k.0 (address_of k.1) (frame i) ∷ []) ∙ sym g.4
@@ -42,9 +42,9 @@ module _ (m : Setting) (closing : Option ℕ) (told : Tells m) (sp : Sparing) wh
   made-one l k free Ready a b h g x y = h ∙ sym g
   made-one l k free ZeroPage a b h g x y = h ∙ sym g
   made-one l k free NewPage a b h g x y = takes-one m closing told (sp l None) l free a b
-      (New k.0 (address_of k.1)) (λ f. refl) h g x y
+      (New k.0 (address_of k.1)) (λ f. (refl, refl)) h g x y
   made-one l k free (CopyOnWrite f) a b h g x y = takes-one m closing told (sp l (Some f)) l free a
-      b (Copied k.0 (address_of k.1)) (λ f. refl) h g x y
+      b (Copied k.0 (address_of k.1)) (λ f. (refl, refl)) h g x y
   made-one l k free (SwapIn s) a b h g x y = absurd h
   made-one l k free (MapCached f) a b h g x y = absurd h
 
@@ -190,7 +190,7 @@ alone-one m closing told sp l write k free coming sought sought' out out' h g =
     let mids = left-one m closing l coming coming free h.mid g.mid told refl h.chosen g.chosen in
     let same = seeks-one m closing told (sp now pinned) now h.mid sought sought' h.finds.seeks
     g.finds.seeks h.second (subst (λ mid. Given m closing now mid sought') mids g.second) in
-    (same, h.finds.numbers ∙ ap (λ s. out_of m pinned (sp now pinned) (after_notes now s)) same ∙ sym g.finds.numbers)
+    (same, h.finds.numbers ∙ ap (λ s. out_of m (sp now pinned) (after_notes now s)) same ∙ sym g.finds.numbers)
 
 -- nothing came in for one: then nothing did for the other
 comes-nothing : (m : Setting) (closing : Option ℕ) (told : Tells m) (sp : Sparing) (l : Ledger)

@@ -8,11 +8,11 @@ use Rattle.av_clusters.specs.Clusters.{Slots, fresh, take_slot, is_free as is_fr
 use Rattle.av_swapdev.specs.Device.{most_pages}
 use Rattle.av_swapdev.specs.Header.{Layout}
 use Rattle.av_trace.specs.declared.note.Note.{Note}
-use Rattle.av_trace.specs.declared.note.Note.TheVariants.{Zeroed, New, Copied, Loaded, Mapped, Put, Unmapped, Started, Written, Failed, Dropped, Kept, Aged}
-use Rattle.av_plain.specs.Ledger.{HasNumbers, Ledger, Setting, SwapArea, map_count, slot_of, has_free, size_of}
-use Rattle.av_plain.specs.Event.{Event, Forked, EntriesMoved, Noted, TurnedOff, TurnedOn, Used, Zapped, after, after_notes, when, note_events}
+use Rattle.av_trace.specs.declared.note.Note.TheVariants.{Zeroed, New, Copied, Loaded, Mapped, Put, Unmapped, Started, Written, Failed, Dropped, Kept, Aged, Joined, Moved, Shared}
+use Rattle.av_plain.specs.Ledger.{HasNumbers, Ledger, Setting, SwapArea, free_frames, map_count, slot_of, has_free, size_of}
+use Rattle.av_plain.specs.Event.{Event, FlagSet, Forked, FreeSorted, EntriesMoved, Noted, TurnedOff, TurnedOn, Used, Zapped, after, after_notes, when, note_events}
 use Rattle.av_plain.specs.Pass.{Spared, end_note, end_notes, Completes, is_fail, fails, IsSlotFor, is_stuck, is_dirty, turn_notes, stays_cached, Turns as TakesTurns, frames_in_turn, IsPass, Seeks, TakesFor}
-use Rattle.av_plain.specs.Choice.{AreFresh, AreaSlots, Chooses, ChoosesAll, ChoosesFrame, ChoosesSlot, Free, IsGiven, SwitchesArea, frame_in, frame_in_note, new_free, slot_in, with_given_back}
+use Rattle.av_plain.specs.Choice.{AreFresh, AreaSlots, Chooses, ChoosesAll, ChoosesFrame, ChoosesSlot, Free, IsGiven, SwitchesArea, TakesFrame, TakesOut, frame_in, frame_in_note, is_move, new_free, slot_in, sorts_free, takes_any, with_given_back}
 use Rattle.av_laws.specs.Determined.{Tells}
 use Rattle.av_plain.proofs.Access.{note_events-append, note_events-all}
 use Rattle.av_plain.proofs.Ledger.NoSwap.{has_free-some}
@@ -50,6 +50,9 @@ done-is (note ∷ notes) none = (first note none, done-is notes (rest (is_fail n
     first (Dropped s) h = tt
     first (Kept g c) h = tt
     first (Aged g) h = tt
+    first (Shared g) h = tt
+    first (Joined p a g) h = tt
+    first (Moved g k) h = tt
 
 pub done-append : (a b : List Note) → AreDone (a ++ b) → AreDone a × AreDone b
 done-append [] b h = (tt, h)
@@ -67,12 +70,18 @@ first_of (f ∷ fs) = f
 
 frames-same : (m : Setting) (l : Ledger) (e : Event) (free a b : List ℕ) → ChoosesFrame m l e free a
     → ChoosesFrame m l e free b → a ≡ b
-frames-same m l e free a b h g = h.2
-    ∙ ap (λ rest. new_free m l (after l e) ++ rest) (by (frame_in e) h.1 g.1) ∙ sym g.2
+frames-same m l e free a b h g = sorts (sorts_free e) h g
   where
-    by : (o : Option ℕ) → MatchOption o (free ≡ h.0) (λ f. free ≡ f ∷ h.0) → MatchOption o (free ≡ g.0) (λ f. free ≡ f ∷ g.0) → h.0 ≡ g.0
-    by None x y = sym x ∙ y
-    by (Some f) x y = ap rest_of (sym x ∙ y)
+    by : (o : Option ℕ) (any : Bool) (r q : List ℕ) → MatchOption o (free ≡ r) (λ f. MatchBool any (TakesOut f free r) (free ≡ f ∷ r))
+        → MatchOption o (free ≡ q) (λ f. MatchBool any (TakesOut f free q) (free ≡ f ∷ q)) → r ≡ q
+    by None any r q x y = sym x ∙ y
+    by (Some f) true r q x y = x.1 ∙ sym y.1
+    by (Some f) false r q x y = ap rest_of (sym x ∙ y)
+
+    sorts : (s : Bool) → MatchBool s (a ≡ free_frames m (after l e)) (TakesFrame m l e free a)
+        → MatchBool s (b ≡ free_frames m (after l e)) (TakesFrame m l e free b) → a ≡ b
+    sorts true h g = h ∙ sym g
+    sorts false h g = h.2 ∙ ap (λ rest. new_free m l (after l e) ++ rest) (by (frame_in e) (takes_any e) h.0 g.0 h.1 g.1) ∙ sym g.2
 
 -- ---- the slots
 
@@ -110,9 +119,11 @@ turns-same m (Zapped k) old a b told h g = h ∙ sym g
 turns-same m (Used write k) old a b told h g = h ∙ sym g
 turns-same m (Forked p c pages) old a b told h g = h ∙ sym g
 turns-same m (EntriesMoved p n from to) old a b told h g = h ∙ sym g
+turns-same m (FlagSet p from n flag set) old a b told h g = h ∙ sym g
 turns-same m (TurnedOn k area) old a b told h g =
     h.2 ∙ ap (λ made. with_at k made old) (fresh-same m k area h.0 g.0 told h.1 g.1) ∙ sym g.2
 turns-same m (TurnedOff k) old a b told h g = h ∙ sym g
+turns-same m FreeSorted old a b told h g = h ∙ sym g
 
 -- what is left when a slot is given
 given-same : (m : Setting) (closing : Option ℕ) (l : Ledger) (s : Slot) (slots a b : AreaSlots)
@@ -345,7 +356,7 @@ seeks-one m closing told sp l free a b s t x y = by (has_free m l) s t
 
 -- a note that takes a frame
 pub takes-one : (m : Setting) (closing : Option ℕ) (told : Tells m) (sp : Spared) (l : Ledger)
-    (free : Free) (a b : List Note) (note : ℕ → Note) → ((f : ℕ) → frame_in_note (note f) ≡ Some f)
+    (free : Free) (a b : List Note) (note : ℕ → Note) → ((f : ℕ) → (frame_in_note (note f) ≡ Some f) × (is_move (note f) ≡ false))
     → TakesFor m sp l a note → TakesFor m sp l b note → Given m closing l free a
     → Given m closing l free b → a ≡ b
 takes-one m closing told sp l free a b note takes h g x y =
@@ -355,14 +366,16 @@ takes-one m closing told sp l free a b note takes h g x y =
     (given-is m closing l free b _ g.whole y) in
     let same = seeks-one m closing told sp l free h.sought g.sought h.seeks g.seeks xs.1 ys.1 in
     let mids = left-one m closing l h.sought g.sought free xs.0 ys.0 told same xs.2 ys.2 in
-    let one = head (frame_in_note (note h.frame)) (takes h.frame) xs.3.chosen.1.frames.1 in
-    let other = head (frame_in_note (note g.frame)) (takes g.frame) ys.3.chosen.1.frames.1 in
+    let one = head (frame_in_note (note h.frame)) (is_move (note h.frame)) (takes h.frame).0 (takes h.frame).1 xs.3.chosen.1.frames.1 in
+    let other = head (frame_in_note (note g.frame)) (is_move (note g.frame)) (takes g.frame).0 (takes g.frame).1 ys.3.chosen.1.frames.1 in
     let frame : h.frame ≡ g.frame = ap first_of
     (sym one ∙ ap (λ (f : Free). f.frames) (sym mids) ∙ other) in
     h.whole ∙ (λ i. same i ++ note (frame i) ∷ []) ∙ sym g.whole
   where
-    head : {mid rest : List ℕ} {f : ℕ} (o : Option ℕ) → o ≡ Some f → MatchOption o (mid ≡ rest) (λ f. mid ≡ f ∷ rest) → mid ≡ f ∷ rest
-    head {mid} {rest} {f} o e h = subst (λ o. MatchOption o (mid ≡ rest) (λ f. mid ≡ f ∷ rest)) e h
+    head : {mid rest : List ℕ} {f : ℕ} (o : Option ℕ) (any : Bool) → o ≡ Some f → any ≡ false
+        → MatchOption o (mid ≡ rest) (λ f. MatchBool any (TakesOut f mid rest) (mid ≡ f ∷ rest)) → mid ≡ f ∷ rest
+    head {mid} {rest} {f} o any e n h = subst (λ b. MatchBool b (TakesOut f mid rest) (mid ≡ f ∷ rest)) n
+        (subst (λ o. MatchOption o (mid ≡ rest) (λ f. MatchBool any (TakesOut f mid rest) (mid ≡ f ∷ rest))) e h)
 
 -- where a frame is taken, the same pass does not leave none
 pub none-taken : (m : Setting) (closing : Option ℕ) (told : Tells m) (sp : Spared) (l : Ledger)

@@ -123,7 +123,7 @@ fetches-one m closing told sp l free s f g a b h i x y = by (frame_at l s) h i
   where
     by : (o : Option ℕ) → MatchOption o (TakesFor m sp l a (Loaded s) × (frame_at (after_notes l a) s ≡ Some f)) (λ c. (a ≡ []) × (f ≡ c))
         → MatchOption o (TakesFor m sp l b (Loaded s) × (frame_at (after_notes l b) s ≡ Some g)) (λ c. (b ≡ []) × (g ≡ c)) → (a ≡ b) × (f ≡ g)
-    by None p q = let same = takes-one m closing told sp l free a b (Loaded s) (λ f. refl) p.0 q.0 x y in
+    by None p q = let same = takes-one m closing told sp l free a b (Loaded s) (λ f. (refl, refl)) p.0 q.0 x y in
         (same, inner (sym p.1 ∙ ap (λ ns. frame_at (after_notes l ns) s) same ∙ q.1))
     by (Some c) p q = (p.0 ∙ sym q.0, p.1 ∙ sym q.1)
 
@@ -158,37 +158,37 @@ never-both m closing told sp k l free page pages a b rest end read h g x y = by 
         ∙ has_free-some m (after_notes l taken.sought) taken.frame taken.in_range taken.free in
         unread (has_free m (after_notes l b)) free_there (subst IsRead g.2 read)
       where
-        unread : (c : Bool) → c ≡ true → IsRead (if c then Unread else NoRoom (out_of m None sp (after_notes l b))) → ⊥
+        unread : (c : Bool) → c ≡ true → IsRead (if c then Unread else NoRoom (out_of m sp (after_notes l b))) → ⊥
         unread true e r = r
         unread false e r = cc
 
-empties-one : (m : Setting) (closing : Option ℕ) (told : Tells m) (sp : Spared) (k : ℕ) (l : Ledger) (free : Free) (ps qs : List ℕ) (a b : List Note)
-    (end end' : Close) → IsRead end → IsRead end' → Empties m sp k l ps a end → Empties m sp k l qs b end' → Given m closing l free a →
+empties-one : (m : Setting) (closing : Option ℕ) (told : Tells m) (w : World) (k : ℕ) (l : Ledger) (free : Free) (ps qs : List ℕ) (a b : List Note)
+    (end end' : Close) → IsRead end → IsRead end' → Empties m w k l ps a end → Empties m w k l qs b end' → Given m closing l free a →
     Given m closing l free b → (a ≡ b) × (end ≡ end')
-empties-one m closing told sp k l free [] [] a b end end' r r' h g x y = by (slots_in_use m l k) h g
+empties-one m closing told w k l free [] [] a b end end' r r' h g x y = by (slots_in_use m l k) h g
   where
-    by : (pages : List ℕ) → EndsAt m sp k l pages a end → EndsAt m sp k l pages b end' → (a ≡ b) × (end ≡ end')
+    by : (pages : List ℕ) → EndsAt m (sparing_area w k l) k l pages a end → EndsAt m (sparing_area w k l) k l pages b end' → (a ≡ b) × (end ≡ end')
     by [] p q = (p.0 ∙ sym q.0, p.1 ∙ sym q.1)
     by (page ∷ pages) p q =
-        let same = seeks-one m closing told sp l free a b p.1 q.1 x y in
-        (same, p.2 ∙ ap (λ ns. end_at m sp (after_notes l ns)) same ∙ sym q.2)
-empties-one m closing told sp k l free [] (q ∷ qs) a b end end' r r' h g x y =
-    absurd (never-both m closing told sp k l free q g.0 g.1 a g.2 end r g.5 (subst (λ pages. EndsAt m sp k l pages a end) g.3 h)
+        let same = seeks-one m closing told (sparing_area w k l) l free a b p.1 q.1 x y in
+        (same, p.2 ∙ ap (λ ns. end_at m (sparing_area w k l) (after_notes l ns)) same ∙ sym q.2)
+empties-one m closing told w k l free [] (q ∷ qs) a b end end' r r' h g x y =
+    absurd (never-both m closing told (sparing_area w k l) k l free q g.0 g.1 a g.2 end r g.5 (subst (λ pages. EndsAt m (sparing_area w k l) k l pages a end) g.3 h)
     (given-is m closing l free b _ g.4 y) x)
-empties-one m closing told sp k l free (p ∷ ps) [] a b end end' r r' h g x y =
-    absurd (never-both m closing told sp k l free p h.0 h.1 b h.2 end' r' h.5 (subst (λ pages. EndsAt m sp k l pages b end') h.3 g)
+empties-one m closing told w k l free (p ∷ ps) [] a b end end' r r' h g x y =
+    absurd (never-both m closing told (sparing_area w k l) k l free p h.0 h.1 b h.2 end' r' h.5 (subst (λ pages. EndsAt m (sparing_area w k l) k l pages b end') h.3 g)
     (given-is m closing l free a _ h.4 x) y)
-empties-one m closing told sp k l free (p ∷ ps) (q ∷ qs) a b end end' r r' h g x y =
+empties-one m closing told w k l free (p ∷ ps) (q ∷ qs) a b end end' r r' h g x y =
     let page : q ≡ p = first (sym g.3 ∙ h.3) in
     let xs = given-parts m closing l free h.1 h.2 (given-is m closing l free a _ h.4 x) in
     let ys = given-parts m closing l free g.1 g.2 (given-is m closing l free b _ g.4 y) in
-    let here = emptied-one m closing told sp l free (record { area = k; page = p }) h.1 g.1 h.5
-    (subst (λ page. IsEmptied m sp l (record { area = k; page = page }) g.1) page g.5) xs.1 ys.1 in
+    let here = emptied-one m closing told (sparing_area w k l) l free (record { area = k; page = p }) h.1 g.1 h.5
+    (subst (λ page. IsEmptied m (sparing_area w k l) l (record { area = k; page = page }) g.1) page g.5) xs.1 ys.1 in
     let mids = left-one m closing l h.1 g.1 free xs.0 ys.0 told here xs.2 ys.2 in
-    let there = subst (λ ns. Empties m sp k (after_notes l ns) qs g.2 end') (sym here) g.6 in
+    let there = subst (λ ns. Empties m w k (after_notes l ns) qs g.2 end') (sym here) g.6 in
     let given = subst (λ mid. Given m closing (after_notes l h.1) mid g.2) mids
     (subst (λ ns. Given m closing (after_notes l ns) ys.0 g.2) (sym here) ys.3) in
-    let rest = empties-one m closing told sp k (after_notes l h.1) xs.0 ps qs h.2 g.2 end end' r r' h.6 there xs.3 given in
+    let rest = empties-one m closing told w k (after_notes l h.1) xs.0 ps qs h.2 g.2 end end' r r' h.6 there xs.3 given in
     (h.4 ∙ (λ i. here i ++ rest.0 i) ∙ sym g.4, rest.1)
   where
     first : {x y : ℕ} {xs ys : List ℕ} → x ∷ xs ≡ y ∷ ys → x ≡ y
@@ -217,9 +217,9 @@ turns-off-one m closing told w l k es fs answer answer' rows rows' free a b h g 
     let done = completes-one l l.flight h.done g.done h.completes g.completes xs.1.done ys.1.done in
     let mids = left-one m closing l h.done g.done free xs.0 ys.0 told done xs.2 ys.2 in
     let now = after_notes l h.done in
-    let there = subst (λ ns. let now = after_notes l ns in Empties m (sparing_area w k now) k now g.pages g.notes g.end) (sym done) g.empties in
+    let there = subst (λ ns. let now = after_notes l ns in Empties m w k now g.pages g.notes g.end) (sym done) g.empties in
     let given = subst (λ mid. Given m closing now mid g.notes) mids (subst (λ ns. Given m closing (after_notes l ns) ys.0 g.notes) (sym done) ys.3) in
-    let rest = empties-one m closing told (sparing_area w k now) k now xs.0 h.pages g.pages h.notes g.notes h.end g.end
+    let rest = empties-one m closing told w k now xs.0 h.pages g.pages h.notes g.notes h.end g.end
     (read-by h.end (ap failure_answers (sym h.answered) ∙ kept)) (read-by g.end (ap failure_answers (sym g.answered) ∙ kept')) h.empties there
     xs.3 given in (
       h.whole ∙ (λ i. note_events (done i ++ rest.0 i) ++ turn_off_events k (rest.1 i)) ∙ sym g.whole,

@@ -1,26 +1,28 @@
 -- The numbers of an out-of-memory are all frames.
-use Rattle.std.proofs.Common.{◌≡◌, ◌⊎◌, inl, inr, ℕ, zero, suc, ◌+◌, ◌<◌, ◌≤◌, Bool, true, false, cond, not, List, [], ◌∷◌, length, Option, Some, None, is_none, is_some, refl, sym, ap, subst, arith, ◌==◌, if◌then◌else◌, ◌&&◌}
+use Rattle.std.proofs.Common.{◌≡◌, ◌⊎◌, inl, inr, ℕ, zero, suc, ◌+◌, ◌<◌, ◌≤◌, Bool, true, false, cond, not, List, [], ◌∷◌, length, Option, Some, None, is_none, is_some, refl, sym, ap, subst, arith, ◌==◌, if◌then◌else◌, ◌&&◌, ◌||◌, nat_lt}
 use Rattle.std.proofs.lemmas.Bool.Decides.{nat_tests}
-use Rattle.std.specs.Prelude.{IfSome, MatchOption}
+use Rattle.std.specs.Prelude.{IfSome, MatchBool, MatchOption}
 use Rattle.av_trace.specs.declared.command.Command.{Command}
-use Rattle.av_trace.specs.declared.command.Command.TheVariants.{Spawn, Fork, Exit, Mmap, Mremap, Munmap, Mprotect, Read, Write, Reclaim, Age, Complete, Swapon, Swapoff, Maps, Areas as AsksAreas, Rmap as AsksRmap, Entry as AsksEntry, Slot as AsksSlot, Stat}
+use Rattle.av_trace.specs.declared.command.Command.TheVariants.{Compact, Merge, Spawn, Fork, Exit, Mmap, Mremap, Munmap, Mprotect, Madvise, Mlock, Munlock, Read, Write, Reclaim, Age, Complete, Swapon, Swapoff, Maps, Areas as AsksAreas, Rmap as AsksRmap, Entry as AsksEntry, Slot as AsksSlot, Stat}
 use Rattle.av_trace.specs.declared.reply.Errno.{Errno}
-use Rattle.av_trace.specs.declared.reply.Errno.TheVariants.{Eio, Enomem}
+use Rattle.av_trace.specs.declared.reply.Errno.TheVariants.{Einval, Eio, Enomem}
 use Rattle.av_trace.specs.declared.reply.Reply.{Reply}
 use Rattle.av_trace.specs.declared.row.Row.{Row}
 use Rattle.av_trace.specs.declared.reply.Answer.{Answer}
 use Rattle.av_trace.specs.declared.reply.Answer.TheVariants.{Done, NoFrame, Refused, Oom, SlotBad}
-use Rattle.av_base.specs.Page.{page_of, pages_of}
+use Rattle.av_base.specs.Page.{address_of, page_of, pages_met, pages_of}
 use Rattle.av_base.specs.Words.{how_many}
 use Rattle.std.specs.List.{range_with_len}
 use Rattle.av_base.specs.declared.slot.Slot.{Slot}
 use Rattle.av_trace.specs.declared.note.Note.{Note}
 use Rattle.av_trace.specs.declared.reply.OutOf.{OutOf}
 use Rattle.av_plain.specs.Access.{Accesses, End, Stopped, Whole, bytes_before, page_events, pages_of_access, read_answer, stop_answer, write_answer}
+use Rattle.av_plain.specs.Advice.{flag_of_advice, pages_advised}
+use Rattle.av_plain.specs.Lock.{BringsIn, accesses_of, with_lock}
 use Rattle.av_plain.specs.Event.{Event, after_all, after_notes}
-use Rattle.av_plain.specs.Fault.{ComesIn, CopyOnWrite, Denied, Lost, Ready, RunsOut, Starved, Stop, Touches, is_pinned, is_shared, need, need_of_slot, pinned_by, sparing}
-use Rattle.av_plain.specs.Ledger.{Entry, InFrame, InSlot, Key, Ledger, Setting, Zero, entry, frame_at, has_free, is_usable, names_frame, slot_of, slots_in_use}
-use Rattle.av_plain.specs.Pass.{out_of}
+use Rattle.av_plain.specs.Fault.{ComesIn, CopyOnWrite, Denied, Lost, Ready, RunsOut, Starved, Stop, Touches, is_shared, need, need_of_slot, pinned_by, sparing}
+use Rattle.av_plain.specs.Ledger.{Entry, InFrame, InSlot, Key, Ledger, Setting, Zero, entry, frame_at, has_free, is_merged, is_usable, names_frame, slot_of, slots_in_use}
+use Rattle.av_plain.specs.Pass.{Spared, is_pinned, out_of}
 use Rattle.av_plain.specs.Place.{IsMapAt}
 use Rattle.av_plain.specs.Refusal.{Refuses, low, refusal, tests}
 use Rattle.av_plain.specs.Report.{MayBeNoSlot, count_answer, entry_answer, slot_answer, walk_answer}
@@ -35,21 +37,26 @@ use Rattle.av_plain.proofs.Ledger.NoSwap.{itself}
 use Rattle.av_plain.proofs.Sound.Access.{comes-kept, page_events-kept, touches-kept}
 
 abbrev pub AddUp : Setting → OutOf → Type 0
-AddUp m out = out.pinned + out.noslot + out.fault ≡ m.frames
+AddUp m out = out.pinned + out.locked + out.ksm + out.noslot + out.fault ≡ m.frames
 
 -- ---- counted
 
--- a frame is spared, or cached, or neither
-parts : (spared : ℕ → Bool) (l : Ledger) (fs : List ℕ) → how_many spared fs + how_many (λ f. not (spared f) && is_none (slot_of l f)) fs + how_many
-    (λ f. not (spared f) && is_some (slot_of l f)) fs ≡ length fs
-parts spared l [] = refl
-parts spared l (f ∷ fs) = each (spared f) (slot_of l f) _ _ _ _ (parts spared l fs)
+-- a frame is pinned, else locked, else merged, else not cached, else cached
+parts : (pinned locked : ℕ → Bool) (l : Ledger) (fs : List ℕ) → how_many pinned fs + how_many (λ f. not (pinned f) && locked f) fs
+    + how_many (λ f. not (pinned f || locked f) && is_merged l f) fs
+    + how_many (λ f. not (pinned f || locked f) && not (is_merged l f) && is_none (slot_of l f)) fs
+    + how_many (λ f. not (pinned f || locked f) && not (is_merged l f) && is_some (slot_of l f)) fs ≡ length fs
+parts pinned locked l [] = refl
+parts pinned locked l (f ∷ fs) = each (pinned f) (locked f) (is_merged l f) (slot_of l f) _ _ _ _ _ _ (parts pinned locked l fs)
   where
-    each : (s : Bool) (o : Option Slot) (a b c n : ℕ) → a + b + c ≡ n →
-        (cond s 1 0 + a) + (cond (not s && is_none o) 1 0 + b) + (cond (not s && is_some o) 1 0 + c) ≡ suc n
-    each true o a b c n h = omega (arith, h)
-    each false None a b c n h = omega (arith, h)
-    each false (Some t) a b c n h = omega (arith, h)
+    each : (p k g : Bool) (o : Option Slot) (a b c d e n : ℕ) → a + b + c + d + e ≡ n → (cond p 1 0 + a) + (cond (not p && k) 1 0 + b)
+        + (cond (not (p || k) && g) 1 0 + c) + (cond (not (p || k) && not g && is_none o) 1 0 + d)
+        + (cond (not (p || k) && not g && is_some o) 1 0 + e) ≡ suc n
+    each true k g o a b c d e n h = omega (arith, h)
+    each false true g o a b c d e n h = omega (arith, h)
+    each false false true o a b c d e n h = omega (arith, h)
+    each false false false None a b c d e n h = omega (arith, h)
+    each false false false (Some t) a b c d e n h = omega (arith, h)
 
 length-numbers : (a n : ℕ) → length (range_with_len a n) ≡ n
 length-numbers a zero = refl
@@ -78,12 +85,20 @@ none-pinned : (fs : List ℕ) → how_many (is_pinned None) fs ≡ 0
 none-pinned [] = refl
 none-pinned (f ∷ fs) = let e = none-pinned fs in omega (arith, e)
 
-pub numbers-add : (m : Setting) (w : World) (pinned : Option ℕ) (l now : Ledger) → IfSome pinned (λ g. g < m.frames) →
-    AddUp m (out_of m pinned (sparing w l pinned) now)
-numbers-add m w None l now below = let a = parts (is_pinned None) now (range_with_len 0 m.frames) in let b = length-numbers 0 m.frames in
-    let c = none-pinned (range_with_len 0 m.frames) in omega (arith, a, b, c)
-numbers-add m w (Some g) l now below = let a = parts (is_pinned (Some g)) now (range_with_len 0 m.frames) in let b = length-numbers 0 m.frames in
-    let c = once g 0 m.frames (omega arith) (omega (arith, below)) in omega (arith, a, b, c)
+pub numbers-add : (m : Setting) (sp : Spared) (now : Ledger) → IfSome sp.pinned (λ g. g < m.frames) → AddUp m (out_of m sp now)
+numbers-add m sp now below = by sp.pinned below
+  where
+    b : length (range_with_len 0 m.frames) ≡ m.frames
+    b = length-numbers 0 m.frames
+
+    by : (pinned : Option ℕ) → IfSome pinned (λ g. g < m.frames)
+        → AddUp m (out_of m (record { pinned = pinned; locked = sp.locked; closing = sp.closing }) now)
+    by None below =
+        let a = parts (is_pinned None) sp.locked now (range_with_len 0 m.frames) in
+        let c = none-pinned (range_with_len 0 m.frames) in omega (arith, a, b, c)
+    by (Some g) below =
+        let a = parts (is_pinned (Some g)) sp.locked now (range_with_len 0 m.frames) in
+        let c = once g 0 m.frames (omega arith) (omega (arith, below)) in omega (arith, a, b, c)
 
 -- ---- the pinned frame is one of the machine's
 
@@ -115,7 +130,7 @@ runs_out-adds : (m : Setting) (w : World) (l : Ledger) (write : Bool) (k : Key) 
     RunsOut m (sparing w) l write k notes out → AddUp m out
 runs_out-adds m w l write k notes out s h =
     let l1 = after_notes l h.coming in
-    subst (AddUp m) (sym h.finds.numbers) (numbers-add m w (pinned_by (need write l1 (entry l1 k))) l1 (after_notes l1 h.sought)
+    subst (AddUp m) (sym h.finds.numbers) (numbers-add m (sparing w l1 (pinned_by (need write l1 (entry l1 k)))) (after_notes l1 h.sought)
     (pinned-below m l1 write k (before h.before)))
   where
     before : (h.coming ≡ []) ⊎ ComesIn m (sparing w) l k (need write l (entry l k)) h.coming → IsSound m (after_notes l h.coming)
@@ -198,19 +213,19 @@ CloseAdds m Closed = Unit {0}
 CloseAdds m (NoRoom out) = AddUp m out
 CloseAdds m Unread = Unit {0}
 
-ends-add : (m : Setting) (w : World) (k : ℕ) (at l : Ledger) (pages : List ℕ) (notes : List Note) (end : Close) →
-    EndsAt m (sparing_area w k at) k l pages notes end → CloseAdds m end
-ends-add m w k at l [] notes end h = subst (CloseAdds m) (sym h.1) tt
-ends-add m w k at l (page ∷ pages) notes end h = subst (CloseAdds m) (sym h.2) (by (has_free m (after_notes l notes)))
+ends-add : (m : Setting) (w : World) (k : ℕ) (l : Ledger) (pages : List ℕ) (notes : List Note) (end : Close) →
+    EndsAt m (sparing_area w k l) k l pages notes end → CloseAdds m end
+ends-add m w k l [] notes end h = subst (CloseAdds m) (sym h.1) tt
+ends-add m w k l (page ∷ pages) notes end h = subst (CloseAdds m) (sym h.2) (by (has_free m (after_notes l notes)))
   where
-    by : (b : Bool) → CloseAdds m (if b then Unread else NoRoom (out_of m None (sparing_area w k at) (after_notes l notes)))
+    by : (b : Bool) → CloseAdds m (if b then Unread else NoRoom (out_of m (sparing_area w k l) (after_notes l notes)))
     by true = tt
-    by false = numbers-add m w None at (after_notes l notes) tt
+    by false = numbers-add m (sparing_area w k l) (after_notes l notes) tt
 
-empties-add : (m : Setting) (w : World) (k : ℕ) (at l : Ledger) (pages : List ℕ) (notes : List Note) (end : Close) →
-    Empties m (sparing_area w k at) k l pages notes end → CloseAdds m end
-empties-add m w k at l [] notes end h = ends-add m w k at l (slots_in_use m l k) notes end h
-empties-add m w k at l (page ∷ pages) notes end h = empties-add m w k at (after_notes l h.1) pages h.2 end h.6
+empties-add : (m : Setting) (w : World) (k : ℕ) (l : Ledger) (pages : List ℕ) (notes : List Note) (end : Close) →
+    Empties m w k l pages notes end → CloseAdds m end
+empties-add m w k l [] notes end h = ends-add m w k l (slots_in_use m l k) notes end h
+empties-add m w k l (page ∷ pages) notes end h = empties-add m w k (after_notes l h.1) pages h.2 end h.6
 
 close-adds : (m : Setting) (end : Close) → CloseAdds m end → AnswerAdds m (close_answer end)
 close-adds m Closed adds = tt
@@ -254,6 +269,27 @@ follows-add m w l (Mremap p a old new mode) events answer rows s h = by h.0 h.2
     by : (to : Option ℕ) → IsMapAt answer to → AnswerAdds m answer
     by None e = subst (AnswerAdds m) (sym e) tt
     by (Some page) e = subst (AnswerAdds m) (sym e) tt
+follows-add m w l (Madvise p a len advice) events answer rows s h = subst (AnswerAdds m) (sym h.0)
+    (by (nat_lt (pages_advised (pages w p) (page_of a) (pages_of len) (flag_of_advice advice)) (pages_of len))
+    (pages_to_hole (pages w p) (page_of a) (pages_of len) == pages_of len))
+  where
+    by : (b c : Bool) → AnswerAdds m (if b then Refused Einval else (if c then Done else Refused Enomem))
+    by true c = tt
+    by false true = tt
+    by false false = tt
+follows-add m w l (Mlock p a len) events answer rows s h = by (pages_to_hole (pages w p) (page_of a) (pages_met a len) == pages_met a len) h.3
+  where
+    by : (b : Bool) → MatchBool b (BringsIn m w l p (page_of a) (pages_met a len) h.0 answer) ((h.0 ≡ []) × (answer ≡ Refused Enomem))
+        → AnswerAdds m answer
+    by true q = subst (AnswerAdds m) (sym q.2) (write-adds m (address_of (page_of a)) q.0
+        (accesses-add m (with_lock true w p (page_of a) (pages_met a len)) l p (accesses_of (pages w p) (page_of a) (pages_met a len)) h.0 q.0 s q.1))
+    by false q = subst (AnswerAdds m) (sym q.1) tt
+follows-add m w l (Munlock p a len) events answer rows s h = subst (AnswerAdds m) (sym h.0)
+    (by (pages_to_hole (pages w p) (page_of a) (pages_met a len) == pages_met a len))
+  where
+    by : (b : Bool) → AnswerAdds m (if b then Done else Refused Enomem)
+    by true = tt
+    by false = tt
 follows-add m w l (Read p a n) events answer rows s h = subst (AnswerAdds m) (sym h.4)
     (read-adds m a h.0 h.1 (accesses-add m w l p (pages_of_access false a n) events h.0 s h.2))
 follows-add m w l (Write p a bytes) events answer rows s h = subst (AnswerAdds m) (sym h.2)
@@ -263,7 +299,9 @@ follows-add m w l (Age n) events answer rows s h = subst (AnswerAdds m) (sym h.0
 follows-add m w l (Complete n) events answer rows s h = subst (AnswerAdds m) (sym h.2) tt
 follows-add m w l (Swapon k priority) events answer rows s h = swapon-adds m k answer h.0
 follows-add m w l (Swapoff k) events answer rows s h = subst (AnswerAdds m) (sym h.answered) (close-adds m h.end
-    (empties-add m w k (after_notes l h.done) (after_notes l h.done) h.pages h.notes h.end h.empties))
+    (empties-add m w k (after_notes l h.done) h.pages h.notes h.end h.empties))
+follows-add m w l Merge events answer rows s h = subst (AnswerAdds m) (sym h.3) tt
+follows-add m w l Compact events answer rows s h = subst (AnswerAdds m) (sym h.3) tt
 follows-add m w l (Maps p) events answer rows s h = subst (AnswerAdds m) (sym h.0) tt
 follows-add m w l (AsksAreas p) events answer rows s h = subst (AnswerAdds m) (sym h.0) tt
 follows-add m w l (AsksRmap p a) events answer rows s h = subst (AnswerAdds m) (sym h.0) (walk-adds m l (entry l (p, page_of a)))
@@ -283,9 +321,9 @@ legal-numbers m w l command reply events s legal = by (refusal (tests m w l comm
 
 pub legal-adds : (m : Setting) (w : World) (l : Ledger) (command : Command) (reply : Reply) (events : List Event) (k : ℕ) (out : OutOf)
     (shown : List ℕ)
-    → AllSound m w l → IsLegal m w l command reply events → reply.answer ≡ Oom k out shown → out.pinned + out.noslot + out.fault ≡ m.frames
+    → AllSound m w l → IsLegal m w l command reply events → reply.answer ≡ Oom k out shown → out.pinned + out.locked + out.ksm + out.noslot + out.fault ≡ m.frames
 legal-adds m w l command reply events k out shown s legal is = subst (AnswerAdds m) is (legal-numbers m w l command reply events s legal)
 
 pub close-adds-up : (m : Setting) (w : World) (l : Ledger) (command : Command) (reply : Reply) (events : List Event) (out : OutOf)
-    → AllSound m w l → IsLegal m w l command reply events → reply.answer ≡ NoFrame out → out.pinned + out.noslot + out.fault ≡ m.frames
+    → AllSound m w l → IsLegal m w l command reply events → reply.answer ≡ NoFrame out → out.pinned + out.locked + out.ksm + out.noslot + out.fault ≡ m.frames
 close-adds-up m w l command reply events out s legal is = subst (AnswerAdds m) is (legal-numbers m w l command reply events s legal)

@@ -10,18 +10,22 @@ pub mod Few
 pub mod OfRuns
 pub mod Texts
 use Rattle.std.specs.List.{AllByRecursion, range_with_len}
+use Rattle.std.specs.Ordering.{nat_cmp, eq_by_cmp}
 use Rattle.std.specs.Prelude.{IfSome, MatchBool, MatchOption, sum_by}
 use Rattle.std.proofs.Common.{◌≡◌, ◌⊎◌, inl, inr, ℕ, zero, suc, ◌+◌, ◌-◌, ◌^◌, ◌<◌, ◌≤◌, Bool, true, false, cond, not, ◌&&◌, List, [], ◌∷◌, ◌++◌, append-nil, map, take, reverse, length, Option, Some, None, is_some, option_map, refl, sym, ap, subst, ◌∙◌, arith, ◌==◌, nat_lt, nat_le, if◌then◌else◌}
 use Rattle.std.proofs.lemmas.Bool.Decides.{nat_tests}
 use Rattle.std.proofs.lemmas.List.{length-map}
-use Rattle.av_base.specs.Limits.{most_processes, top_page}
-use Rattle.av_base.specs.Page.{address_of, page_of, pages_of, page_size, place_in_page}
+use Rattle.av_base.specs.Limits.{most_frames, most_processes, top_page}
+use Rattle.av_base.specs.Page.{address_of, page_of, pages_met, pages_of, page_size, place_in_page}
+use Rattle.av_base.specs.Words.{within}
+use Rattle.av_base.specs.declared.flags.Flag.{Flag}
+use Rattle.av_base.specs.declared.flags.Flag.TheVariants.{Locked}
 use Rattle.av_base.specs.declared.slot.Slot.{Slot}
 use Rattle.av_vma.specs.Gap.{IsGap}
 use Rattle.av_swapdev.specs.Device.{most_pages}
 use Rattle.av_swapdev.specs.Header.{Layout}
 use Rattle.av_trace.specs.declared.command.Command.{Command}
-use Rattle.av_trace.specs.declared.command.Command.TheVariants.{Spawn, Fork, Exit, Mmap, Mremap, Munmap, Mprotect, Read, Write, Reclaim, Age, Complete, Swapon, Swapoff, Maps, Areas as AsksAreas, Rmap as AsksRmap, Entry as AsksEntry, Slot as AsksSlot, Stat}
+use Rattle.av_trace.specs.declared.command.Command.TheVariants.{Compact, Merge, Spawn, Fork, Exit, Mmap, Mremap, Munmap, Mprotect, Madvise, Mlock, Munlock, Read, Write, Reclaim, Age, Complete, Swapon, Swapoff, Maps, Areas as AsksAreas, Rmap as AsksRmap, Entry as AsksEntry, Slot as AsksSlot, Stat}
 use Rattle.av_trace.specs.declared.note.Note.{Note}
 use Rattle.av_trace.specs.declared.note.Note.TheVariants.{Aged}
 use Rattle.av_trace.specs.declared.mode.Mode.{Mode}
@@ -29,7 +33,7 @@ use Rattle.av_trace.specs.declared.mode.Mode.TheVariants.{DontUnmap, Fixed as Fi
 use Rattle.av_trace.specs.declared.place.Place.{Place}
 use Rattle.av_trace.specs.declared.place.Place.TheVariants.{Auto, At, Fixed, NoReplace}
 use Rattle.av_trace.specs.declared.reply.Errno.{Errno}
-use Rattle.av_trace.specs.declared.reply.Errno.TheVariants.{Ebusy, Einval, Eio, Enomem}
+use Rattle.av_trace.specs.declared.reply.Errno.TheVariants.{Ebusy, Einval, Eio, Enomem, Esrch}
 use Rattle.av_trace.specs.declared.reply.OutOf.{OutOf}
 use Rattle.av_trace.specs.declared.reply.Reply.{Reply}
 use Rattle.av_trace.specs.declared.row.Row.{Row}
@@ -44,31 +48,35 @@ use Rattle.av_trace.specs.Place.{IsPlace}
 use Rattle.av_trace.specs.Reply.{AreCauses, Follow, IfThere, IsAnswer, IsReply}
 use Rattle.av_trace.specs.Row.{IsAreaRow, IsEntry, IsRun}
 use Rattle.av_plain.specs.Access.{Accesses, End, Stopped, Whole, bytes_before, page_events, pages_of_access, read_answer, stop_answer, write_answer}
-use Rattle.av_plain.specs.Event.{Event, Forked, after_all, after_notes, note_events, notes_of}
+use Rattle.av_plain.specs.Advice.{advice_events, flag_of_advice, pages_advised}
+use Rattle.av_plain.specs.Lock.{BringsIn, access_of, accesses_of, lock_event, with_lock}
+use Rattle.av_plain.specs.Event.{Event, Forked, FreeSorted, after_all, after_notes, note_events, notes_of}
 use Rattle.av_plain.specs.Fault.{Denied, Lost, Starved, Stop, is_allowed, permits, sparing}
 use Rattle.av_plain.specs.Fork.{inheritance}
 use Rattle.av_plain.specs.Ledger.{Entry, InFrame, InSlot, Key, Ledger, Setting, SwapArea, Zero, entry, free_frames, free_slots, is_cached, is_on, is_usable, size_of, slot_count, slot_entries, walk}
 use Rattle.av_plain.specs.Map.{zaps_for_place}
+use Rattle.av_plain.specs.Merge.{merges}
 use Rattle.av_plain.specs.Mremap.{MovesTo, events_to, may_stay}
 use Rattle.av_plain.specs.Place.{Goes, IsMapAt, is_room}
 use Rattle.av_plain.specs.Reclaim.{from_tail}
-use Rattle.av_plain.specs.Refusal.{Refuses, no_device_at, refusal, tests}
+use Rattle.av_plain.specs.Refusal.{Refuses, locks_too_many, meets_end, no_device_at, refusal, tests}
 use Rattle.av_plain.specs.Report.{AreApart, AreLongest, Cover, MayBeNoSlot, Range, count_answer, entry_answer, key_row, prot_in, row_of, run_of, slot_answer, totals, walk_answer, walk_rows}
 use Rattle.av_plain.specs.Sound.{AllSound}
 use Rattle.av_plain.specs.Step.{Follows, IsLegal}
 use Rattle.av_plain.specs.Swapoff.{Close, Closed, NoRoom, TurnsOff, Unread, close_answer, sparing_area, turn_off_events}
 use Rattle.av_plain.specs.Swapon.{IsByHeader, TurnsOn, header_answer, turn_on_events}
-use Rattle.av_plain.specs.World.{Page, Process, World, is_mapped, pages, pages_to_hole}
+use Rattle.av_plain.specs.World.{Page, Process, World, allows, is_mapped, lives, pages, pages_to_hole, pages_to_locked, with_change_on, with_page_flag}
 use Rattle.av_plain.specs.Zap.{keys_in, keys_of_process, zaps_of}
 use Rattle.av_plain.proofs.Access.{notes_of-append, notes_of-note_events}
 use Rattle.av_plain.proofs.Ledger.Walk.{all-walked, length-walk}
 use Rattle.av_plain.proofs.Report.Totals.{frames-add}
-use Rattle.av_plain.proofs.Sound.Bound.{map_count-few, slot_entries-few}
+use Rattle.av_plain.proofs.World.{pages-set}
+use Rattle.av_plain.proofs.Sound.Bound.{map_count-pages, slot_entries-few}
 use Rattle.av_laws.specs.ReadBack.{IsSmall, IsSmallArea, IsSmallLayout, IsSmallSetting, IsWideOnAnswer, IsWideRow}
 use Rattle.av_laws.proofs.OutOfMemory.{close-adds-up, legal-adds}
 use Rattle.av_laws.proofs.ReadBack.Counts.{flight-few, free-few}
-use Rattle.av_laws.proofs.ReadBack.Notes.{AreNotes, accesses-fit, ages-fit, completes-fit, empties-fit, outcomes-fit, remap-fits, zaps-fit}
-use Rattle.av_laws.proofs.ReadBack.Wide.{IsWideEntry, IsWideKey, IsWideLedger, all-append, all-reverse, all-take, wide-entry, wide-frame_at, wide-notes, wide-slot_of, wide-sound}
+use Rattle.av_laws.proofs.ReadBack.Notes.{AreNotes, accesses-fit, ages-fit, completes-fit, empties-fit, merges-fit, moves-fit, outcomes-fit, remap-fits, zaps-fit}
+use Rattle.av_laws.proofs.ReadBack.Wide.{IsWideEntry, IsWideKey, IsWideLedger, all-append, all-map, all-reverse, all-take, wide-entry, wide-frame_at, wide-notes, wide-slot_of, wide-sound}
 
 -- what a reply has beside its notes
 abbrev Fits : List Event → Answer → List Row → Type 0
@@ -124,6 +132,33 @@ access-stops : (m : Setting) (w : World) (l : Ledger) (write : Bool) (p a n : �
 access-stops m w l write p a n events end small h =
     stops-in (FewBefore a) m w l p (pages_of_access write a n) events end
     (all-pages (FewBefore a) write (page_of a) (cond (n == 0) 0 (pages_of (place_in_page a + n))) (λ page below. few-before a n page small below)) h
+
+-- those that are locked, too
+all-locked : (q : Process) (from n past : ℕ) → from + n ≤ past → AllByRecursion (λ (x : Bool × ℕ). x.1 < past) (accesses_of q from n)
+all-locked q from zero past high = tt
+all-locked q from (suc n) past high = all-append (λ (x : Bool × ℕ). x.1 < past) (access_of from (q from)) (accesses_of q (from + 1) n)
+    (one (q from)) (all-locked q (from + 1) n past (omega (arith, high)))
+  where
+    one : (o : Option Page) → AllByRecursion (λ (x : Bool × ℕ). x.1 < past) (access_of from o)
+    one None = tt
+    one (Some x) = by (allows true x.prot) (allows false x.prot)
+      where
+        below : from < past
+        below = omega (arith, high)
+
+        by : (b c : Bool) → AllByRecursion (λ (x : Bool × ℕ). x.1 < past) (if b then (true, from) ∷ [] else (if c then (false, from) ∷ [] else []))
+        by true c = (below, tt)
+        by false true = (below, tt)
+        by false false = tt
+
+lock-stops : (m : Setting) (w : World) (l : Ledger) (p from n : ℕ) (q : Process) (events : List Event) (end : End) → n ≤ most_frames
+    → Accesses m w l p (accesses_of q from n) events end → StopsIn (FewBefore (address_of from)) end
+lock-stops m w l p from n q events end few h = few-stop end (stops-in (λ page. page < from + n) m w l p (accesses_of q from n) events end
+    (all-locked q from n (from + n) (omega arith)) h)
+  where
+    few-stop : (end : End) → StopsIn (λ page. page < from + n) end → StopsIn (FewBefore (address_of from)) end
+    few-stop Whole below = tt
+    few-stop (Stopped page stop) below = omega (arith, few, below)
 
 -- the numbers of an out-of-memory, if the answer is one
 abbrev CausesFit : Answer → Type 0
@@ -215,7 +250,7 @@ areas-wide [] (row ∷ rows) is wide said = cc
 areas-wide (r ∷ rs) [] is wide said = cc
 areas-wide (r ∷ rs) (Run start end prot ∷ rows) is wide said = cc
 areas-wide (r ∷ rs) (EntryRow p address ∷ rows) is wide said = cc
-areas-wide (r ∷ rs) (AreaRow start end prot offset own chain ∷ rows) is wide said =
+areas-wide (r ∷ rs) (AreaRow start end prot offset own chain flags ∷ rows) is wide said =
     let tails : map run_of rows ≡ map (λ r. Some (row_of r)) rs = cc in
     let later = areas-wide rs rows tails wide.1 said.1 in
     let begins : start ≡ address_of r.from = cc in
@@ -299,7 +334,7 @@ walk-fits : (m : Setting) (w : World) (l : Ledger) → AllSound m w l → IsSmal
 walk-fits m w l s small None fits = (tt, (tt, refl))
 walk-fits m w l s small (Some Zero) fits = (tt, (tt, refl))
 walk-fits m w l s small (Some (InFrame f seen)) fits =
-    let few = map_count-few m w l f s in
+    let few = map_count-pages m w l f s small.below in
     let long = length-walk l f in (
       (fits, omega (arith, few, long)),
       (
@@ -395,7 +430,7 @@ turned-off-fits : (m : Setting) (w : World) (l : Ledger) (k : ℕ) (events : Lis
     → IsWideLedger m l → is_on l k ≡ true → CloseFits answer → TurnsOff m w l k events answer rows → Fits events answer rows
 turned-off-fits m w l k events answer rows frames wide on out h =
     let done = completes-fit l l.flight h.done wide.flight h.completes in
-    let rest = empties-fit m frames (sparing_area w k (after_notes l h.done)) k slot (after_notes l h.done) h.pages h.notes h.end
+    let rest = empties-fit m frames w k slot (after_notes l h.done) h.pages h.notes h.end
     (wide-notes m l h.done done wide) h.empties in
     let noted = quiet h.end in
     subst (λ a. IsAnswer a × Follow a (notes_of events) rows) (sym h.answered)
@@ -438,6 +473,22 @@ module _ (m : Setting) (w : World) (l : Ledger) (few : IsSmallSetting m) (s : Al
           let low = small.below p page mapped in
           (small.processes p page mapped, omega (arith, low))
 
+  -- so is one of those that are locked
+  locked-fits : (p from n : ℕ) (write : Bool) (page : ℕ) → is_allowed (with_lock true w p from n) write (p, page) ≡ true → IsWideKey (p, page)
+  locked-fits p from n write page is = by (eq_by_cmp nat_cmp p p) (within from (pages_to_hole (pages w p) from n) page) (pages w p page) refl
+      (ap (permits write) (sym (pages-set w p
+      (with_change_on (pages w p) from (pages_to_hole (pages w p) from n) (with_page_flag Locked true)) p page)) ∙ is)
+    where
+      by : (b c : Bool) (o : Option Page) → pages w p page ≡ o
+          → permits write (cond b (if c then option_map (with_page_flag Locked true) o else o) o) ≡ true → IsWideKey (p, page)
+      by true true None at h = cc
+      by true false None at h = cc
+      by false c None at h = cc
+      by b c (Some x) at h =
+          let mapped = ap is_some at in
+          let low = small.below p page mapped in
+          (small.processes p page mapped, omega (arith, low))
+
   from-tail : (n : ℕ) (fs : List ℕ) → AllByRecursion IsWide fs → AllByRecursion IsWide (from_tail n fs)
   from-tail n fs fit = all-take IsWide n (reverse fs) (all-reverse IsWide fs fit)
 
@@ -446,7 +497,7 @@ module _ (m : Setting) (w : World) (l : Ledger) (few : IsSmallSetting m) (s : Al
       → Follows m w l command events answer rows → Fits events answer rows
   follows-fit (Spawn p) events answer rows fit fine out close asked on h = fits-by events [] answer Done rows [] h.1 h.0 h.2 (tt, (tt, refl))
   follows-fit (Fork p q) events answer rows fit fine out close asked on h =
-      fits-by events (Forked p q (inheritance l p) ∷ []) answer Done rows [] h.1 h.0 h.2 (tt, (tt, refl))
+      fits-by events (Forked p q (inheritance (pages w p) l p) ∷ []) answer Done rows [] h.1 h.0 h.2 (tt, (tt, refl))
   follows-fit (Exit p) events answer rows fit fine out close asked on h =
       fits-by events (zaps_of l (keys_of_process l p)) answer Done rows [] h.1 h.0 h.2 (tt, (zaps-fit m l (keys_of_process l p) wide, refl))
   follows-fit (Mmap p len prot place) events answer rows fit fine out close asked on h = by h.0 h.1 h.2
@@ -483,6 +534,54 @@ module _ (m : Setting) (w : World) (l : Ledger) (few : IsSmallSetting m) (s : Al
         remap-below (pages w p) a (pages_of old) (pages_of new) page mode fit.1 fit.4 goes,
         (remap-fits m l p (page_of a) (pages_of old) page (pages_of new) wide, refl),
       )
+  follows-fit (Madvise p a len advice) events answer rows fit fine out close asked on h =
+      fits-by events (these (flag_of_advice advice)) answer _ rows [] h.1 h.0 h.2
+      (by (nat_lt (pages_advised (pages w p) (page_of a) (pages_of len) (flag_of_advice advice)) (pages_of len))
+      (pages_to_hole (pages w p) (page_of a) (pages_of len) == pages_of len))
+    where
+      these : Option (Flag × Bool) → List Event
+      these change = advice_events l p (page_of a) (pages_advised (pages w p) (page_of a) (pages_of len) change) change
+
+      noted : (change : Option (Flag × Bool)) → AreNotes (notes_of (these change))
+      noted None = zaps-fit m l (keys_in l p (page_of a) (pages_to_locked (pages w p) (page_of a) (pages_of len))) wide
+      noted (Some change) = tt
+
+      by : (b c : Bool) → Fits (these (flag_of_advice advice)) (if b then Refused Einval else (if c then Done else Refused Enomem)) []
+      by true c = (tt, (noted (flag_of_advice advice), refl))
+      by false true = (tt, (noted (flag_of_advice advice), refl))
+      by false false = (tt, (noted (flag_of_advice advice), refl))
+  follows-fit (Mlock p a len) events answer rows fit fine out close asked on h =
+      by (pages_to_hole (pages w p) (page_of a) (pages_met a len) == pages_met a len) h.3
+    where
+      few_pages : (b d e : Bool) → cond (not b) (Some Esrch) (cond d (Some Einval) (cond e (Some Enomem) None)) ≡ None → e ≡ false
+      few_pages false d e h = cc
+      few_pages true true e h = cc
+      few_pages true false true h = cc
+      few_pages true false false h = refl
+
+      few_met : (n : ℕ) → nat_lt most_frames n ≡ false → n ≤ most_frames
+      few_met n h = grind (arith, nat_tests, h)
+
+      event : Event
+      event = lock_event true (pages w p) p (page_of a) (pages_met a len)
+
+      by : (b : Bool) → MatchBool b (BringsIn m w l p (page_of a) (pages_met a len) h.0 answer) ((h.0 ≡ []) × (answer ≡ Refused Enomem))
+          → Fits events answer rows
+      by true q = fits-by events (event ∷ h.0) answer (write_answer (address_of (page_of a)) q.0) rows [] h.1 q.2 h.2
+          (write-fits (address_of (page_of a)) q.0 (notes_of h.0)
+          (lock-stops m (with_lock true w p (page_of a) (pages_met a len)) l p (page_of a) (pages_met a len) (pages w p) h.0 q.0
+          (few_met (pages_met a len) (few_pages (lives w p) (meets_end a len) (locks_too_many a len) fine)) q.1)
+          (accesses-fit m few.frames (with_lock true w p (page_of a) (pages_met a len)) p (locked-fits p (page_of a) (pages_met a len)) l
+          (accesses_of (pages w p) (page_of a) (pages_met a len)) h.0 q.0 wide q.1) (subst CausesFit q.2 out))
+      by false q = fits-by events (event ∷ h.0) answer (Refused Enomem) rows [] h.1 q.1 h.2
+          (tt, (subst (λ es. AreNotes (notes_of es)) (sym q.0) tt, refl))
+  follows-fit (Munlock p a len) events answer rows fit fine out close asked on h =
+      fits-by events (lock_event false (pages w p) p (page_of a) (pages_met a len) ∷ []) answer _ rows [] h.1 h.0 h.2
+      (by (pages_to_hole (pages w p) (page_of a) (pages_met a len) == pages_met a len))
+    where
+      by : (b : Bool) → Fits (lock_event false (pages w p) p (page_of a) (pages_met a len) ∷ []) (if b then Done else Refused Enomem) []
+      by true = (tt, (tt, refl))
+      by false = (tt, (tt, refl))
   follows-fit (Read p a n) events answer rows fit fine out close asked on h =
       fits-by events events answer (read_answer a h.0 h.1) rows [] refl h.4 h.5
       (read-fits a h.0 h.1 (notes_of events) (access-stops m w l false p a n events h.0 fit.2.most h.2) h.3.2
@@ -525,6 +624,26 @@ module _ (m : Setting) (w : World) (l : Ledger) (few : IsSmallSetting m) (s : Al
       is_on_now : (b : Bool) → cond (not b) (Some Einval) None ≡ None → b ≡ true
       is_on_now true h = refl
       is_on_now false h = cc
+  follows-fit Merge events answer rows fit fine out close asked on h =
+      let notes = merges m h.0 w l [] (map (λ e. e.0) l.entries) in
+      fits-by events (note_events notes) answer Done rows [] h.2 h.3 h.4 (
+        tt,
+        (
+          subst AreNotes (sym (notes_of-note_events notes)) (merges-fit m h.0 w l [] (map (λ e. e.0) l.entries) few.frames
+              (all-map (λ (e : Key × Entry). IsWideKey e.0 × IsWideEntry e.1) IsWideKey (λ (e : Key × Entry). e.0) (λ e a. a.0) l.entries wide.entries)
+              tt wide),
+          refl,
+        ),
+      )
+  follows-fit Compact events answer rows fit fine out close asked on h =
+      fits-by events (note_events h.0 ++ FreeSorted ∷ []) answer Done rows [] h.2 h.3 h.4 (
+        tt,
+        (
+          subst AreNotes (sym (notes_of-append (note_events h.0) (FreeSorted ∷ []) ∙ append-nil (notes_of (note_events h.0)) ∙ notes_of-note_events h.0))
+              (moves-fit m l h.0 few.frames h.1),
+          refl,
+        ),
+      )
   follows-fit (Maps p) events answer rows fit fine out close asked on h =
       let runs = h.1.0 in
       let high = covered (pages w p) runs h.1.3 (small.below p) in
@@ -588,9 +707,9 @@ module _ (m : Setting) (w : World) (l : Ledger) (few : IsSmallSetting m) (s : Al
       let f = by (refusal (tests m w l command)) refl legal.answer in
       record { answer = f.0; rest = subst (λ ns. Follow reply.answer ns reply.rows) (sym legal.notes) f.1 }
     where
-      causes : (numbers : OutOf) → numbers.pinned + numbers.noslot + numbers.fault ≡ m.frames → AreCauses numbers
+      causes : (numbers : OutOf) → numbers.pinned + numbers.locked + numbers.ksm + numbers.noslot + numbers.fault ≡ m.frames → AreCauses numbers
       causes numbers sum = let frames : m.frames < 2 ^ 64 = few.frames in
-          (omega (arith, sum, frames), omega (arith, sum, frames), omega (arith, sum, frames))
+          (omega (arith, sum, frames), omega (arith, sum, frames), omega (arith, sum, frames), omega (arith, sum, frames), omega (arith, sum, frames))
 
       out : CausesFit reply.answer
       out k numbers shown is = causes numbers (legal-adds m w l command reply events k numbers shown s legal is)

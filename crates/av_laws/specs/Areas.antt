@@ -29,17 +29,18 @@ use Rattle.av_base.specs.Page.{address_of}
 use Rattle.av_vma.specs.Pages.{fresh_area, pages_in}
 use Rattle.av_vma.specs.declared.area.Area.{Area}
 use Rattle.av_plain.specs.Areas.{AnonVma, Anons, Areas, Rmap, chain_length, next_areas, no_anons}
-use Rattle.av_plain.specs.Areas.{no_areas, no_homes, rmap_after}
+use Rattle.av_plain.specs.Areas.{no_areas, no_homes, no_items, rmap_after}
 use Rattle.av_plain.specs.Event.{Noted}
 use Rattle.av_plain.specs.Ledger.{first_ledger}
 use Rattle.av_plain.specs.World.{Process, World, zeros}
 use Rattle.av_laws.specs.Examples.{read_only, read_write, write_only}
+use Rattle.av_base.specs.Flags.{no_flags}
 
 -- ---- areas
 
 -- an area of process 1, with the offset that it has where it is mapped
 abbrev pub area : ℕ → ℕ → Prot → Area
-area from past prot = fresh_area 1 from past prot
+area from past prot = fresh_area 1 from past prot no_flags
 
 -- process 1 has these areas
 abbrev pub areas_of : List Area → Areas
@@ -132,7 +133,8 @@ by_number anons = map anons.anon (range_with_len 0 anons.next)
 
 -- these areas and anon_vmas, and no frame has a home
 abbrev pub rmap_with : List Area → Anons → Rmap
-rmap_with areas anons = record { areas = areas_of areas; anons = anons; homes = no_homes }
+rmap_with areas anons =
+    record { areas = areas_of areas; anons = anons; homes = no_homes; items = no_items }
 
 -- a note makes these areas and anon_vmas of those
 abbrev pub NotePrepares : Note → List Area → Anons → List Area → Anons → Type 0
@@ -189,7 +191,7 @@ four_areas =
 -- the row of an area from one page to below another
 abbrev pub row : ℕ → ℕ → Prot → ℕ → Option ℕ → List ℕ → Row
 row from past prot offset own chain =
-    AreaRow (address_of from) (address_of past) prot offset own chain
+    AreaRow (address_of from) (address_of past) prot offset own chain no_flags
 
 -- the row of each of the four
 abbrev pub four_rows : List Row

@@ -59,7 +59,7 @@ use Rattle.av_trace.specs.declared.reply.Errno.TheVariants.{Eagain, Ebusy, Eexis
 use Rattle.av_trace.specs.declared.reply.Errno.TheVariants.{Enomem, Eperm, Esrch}
 use Rattle.av_trace.specs.declared.reply.Reply.{Reply}
 use Rattle.av_trace.specs.declared.row.Row.{Row}
-use Rattle.av_plain.specs.Areas.{no_anons, no_areas, no_homes}
+use Rattle.av_plain.specs.Areas.{no_anons, no_areas, no_homes, no_items}
 use Rattle.av_plain.specs.Choice.{Free, no_slots}
 use Rattle.av_plain.specs.World.{Page, Process, World, byte_at, no_pages, pages, zeros}
 use Rattle.av_plain.specs.Ledger.{Ledger, Setting, Cached, Entry, InFrame, InSlot, SwapArea, Zero}
@@ -71,6 +71,7 @@ use Rattle.av_plain.specs.Mremap.{prot_at}
 use Rattle.av_plain.specs.Refusal.{refusal, tests}
 use Rattle.av_plain.specs.Step.{IsLegal, next}
 use Rattle.av_plain.specs.Transcript.{State}
+use Rattle.av_base.specs.Flags.{no_flags}
 
 -- ---- what a row claims
 
@@ -203,7 +204,7 @@ with_slots pages bad n frames =
 
 -- ---- states
 
--- memories, a ledger and what is free; areas and homes don't matter
+-- memories, a ledger and what is free; areas, homes and items don't matter
 abbrev pub state_of : World → Ledger → Free → State
 state_of w l free = record {
   world = w;
@@ -212,11 +213,13 @@ state_of w l free = record {
   areas = no_areas;
   anons = no_anons;
   homes = no_homes;
+  items = no_items;
 }
 
 -- a page whose first byte is this one, with zeros behind it
 abbrev pub page_with : ℕ → Page
-page_with b = record { prot = read_write; bytes = λ i. Some (if i == 0 then b else 0) }
+page_with b =
+    record { prot = read_write; flags = no_flags; bytes = λ i. Some (if i == 0 then b else 0) }
 
 -- a process with that page alone, the topmost
 abbrev pub with_byte : ℕ → Process

@@ -5,6 +5,7 @@
 --   the anon_vmas then (`with_child`): new_below_root, grandchild, lowest_again
 --   an area without anon_vma (`GoesBy`): bare
 --   that areas go in turn (`GoOver`, `AreForked`): two_in_turn
+--   which areas go, and by which anon_vma (`areas_to_fork`, `own_to_fork`): by_flags
 -- The memories and the entries that it gets are in `Examples` and `Pairs`.
 use Rattle.std.specs.Prelude.{◌≡◌, ℕ, List, [], ◌∷◌, map, Option, Some}
 use Rattle.std.specs.List.{range_with_len}
@@ -13,6 +14,7 @@ use Rattle.av_vma.specs.declared.area.Area.{Area}
 use Rattle.av_plain.specs.Areas.{AnonVma, Anons, Rmap}
 use Rattle.av_plain.specs.Fork.{AreForked}
 use Rattle.av_laws.specs.Areas.{and_at, area_of, by_number, family, rmap_with}
+use Rattle.av_laws.specs.Flags.{left_out, wiped_off}
 
 -- process 1 has these areas and anon_vmas; it is forked, and its child is process 2: then that has
 -- those areas, as 8 pages show, and those are the anon_vmas
@@ -50,3 +52,8 @@ four_deep = and_at 3 (below 2 (0 ∷ 1 ∷ 2 ∷ 3 ∷ [])) 4 three_deep
 -- two areas of the root
 abbrev pub two_of_root : List Area
 two_of_root = area_of 0 0x10 0x12 ∷ area_of 0 0x14 0x16 ∷ []
+
+-- three of it: the first is left out, and the second wiped
+abbrev pub three_of_root : List Area
+three_of_root = record (area_of 0 0x10 0x12) { flags = left_out }
+    ∷ record (area_of 0 0x12 0x14) { flags = wiped_off } ∷ area_of 0 0x14 0x16 ∷ []

@@ -17,7 +17,7 @@ use Rattle.std.specs.List.{range_with_len}
 use Rattle.av_trace.specs.declared.note.Note.TheVariants.{Aged, Copied, Loaded, Mapped, New}
 use Rattle.av_vma.specs.Pages.{pages_in}
 use Rattle.av_vma.specs.declared.area.Area.{Area}
-use Rattle.av_plain.specs.Areas.{Homes, Rmap, no_homes, rmap_after}
+use Rattle.av_plain.specs.Areas.{Homes, Rmap, no_homes, no_items, rmap_after}
 use Rattle.av_plain.specs.Covered.{IsRmapSound}
 use Rattle.av_plain.specs.Event.{Event, Noted, Used, Zapped, after}
 use Rattle.av_plain.specs.Ledger.{Entry, InFrame, InSlot, Key, Ledger, first_ledger}
@@ -64,6 +64,7 @@ with_child_area area = record {
   areas = with_at 2 (pages_in (Some (area ∷ []))) (areas_of (of_parent ∷ []));
   anons = family;
   homes = first_homes;
+  items = no_items;
 }
 
 -- its own

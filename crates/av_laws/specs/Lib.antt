@@ -13,4 +13,7 @@ pub mod Several
 pub mod Covered
 pub mod Homes
 pub mod Forks
+pub mod Frames
 pub mod Mremap
+pub mod Locked
+pub mod Flags

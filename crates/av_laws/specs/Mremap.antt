@@ -8,7 +8,7 @@
 --     joins_behind
 --   when a change in place joins (`after_grow`, `after_resize`): grows_and_joins, joins_before,
 --     shrinks_apart, stays_apart, long_chain
---   the old range that stays (`with_old_range`, `prot_left`): old_range_stays, joined_after,
+--   the old range that stays (`with_old_range`, `left_behind`): old_range_stays, joined_after,
 --     two_leave_one, zeros_stay, denied_still
 --   which entries go, and in which order (`remap_events`): target_before_tail, tail_goes_here
 --   the memory (`process_after_mremap`): bytes_move, none_stays, zeros_stay, grown_by_zeros
@@ -29,6 +29,8 @@ use Rattle.av_plain.specs.Transcript.{State}
 use Rattle.av_plain.specs.World.{Page, World, with_pages}
 use Rattle.av_laws.specs.Areas.{area, area_of, moved_of, process_with, world_of}
 use Rattle.av_laws.specs.Examples.{only_frames, read_only, read_write, state_of}
+use Rattle.av_base.specs.Flags.{no_flags}
+use Rattle.av_laws.specs.Flags.{left_out, locked}
 
 -- ---- areas, beside those of `Areas`
 
@@ -52,6 +54,11 @@ three_kinds = area_of 0 0x10 0x11 ∷ moved_of 1 0x11 0x12 0x13 ∷ area 0x12 0x
 -- root 1
 abbrev pub out_of_place : List Area
 out_of_place = moved_of 0 0x10 0x11 0x18 ∷ area 0x11 0x12 read_write ∷ area_of 1 0x1a 0x1b ∷ []
+
+-- two areas of root 0, one that a fork leaves out and one that is locked
+abbrev pub two_flags : List Area
+two_flags = record (area_of 0 0x10 0x12) { flags = left_out }
+    ∷ record (area_of 0 0x12 0x14) { flags = locked } ∷ []
 
 -- two areas of root 0 side by side that are not joined yet
 abbrev pub side_by_side : List Area
@@ -90,7 +97,7 @@ with_frames = state_of (world_of (area_of 0 0x10 0x14 ∷ area 0x18 0x1a read_on
 
 -- a page with the byte 7 all over; the four have it
 abbrev pub sevens : Page
-sevens = record { prot = read_write; bytes = λ _. Some 7 }
+sevens = record { prot = read_write; flags = no_flags; bytes = λ _. Some 7 }
 
 abbrev pub all_sevens : World
 all_sevens = (1, with_pages (process_with root_four) 0x10 4 (λ _. Some sevens)) ∷ []

@@ -85,6 +85,7 @@ three_with a b cache flight active inactive = record {
   flight = flight;
   active = active;
   inactive = inactive;
+  merged = [];
   on = [];
 }
 

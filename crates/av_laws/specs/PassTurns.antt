@@ -11,7 +11,7 @@
 --   `bus` behind a pass (`IsLost`, `causes`): lost_behind_pass, lost_and_failed
 -- Frames 0 and 1 are all that there are, and where it isn't said otherwise both are cached, clean,
 -- and named by no entry: so the one whose turn comes first is dropped at once.
-use Rattle.std.specs.Prelude.{ℕ, Bool, true, false, List, [], ◌∷◌, Option, Some}
+use Rattle.std.specs.Prelude.{ℕ, Bool, true, false, List, [], ◌∷◌, Option, Some, None}
 use Rattle.av_trace.specs.declared.note.Note.{Note}
 use Rattle.av_trace.specs.declared.note.Note.TheVariants.{Put, Unmapped, Started, Written, Failed}
 use Rattle.av_trace.specs.declared.note.Note.TheVariants.{Dropped}
@@ -25,7 +25,7 @@ use Rattle.av_laws.specs.Slots.{slot_at, two_swaps}
 
 -- no frame is left alone, but that swap area, if any, which is closing
 abbrev pub no_frame_spared : Option ℕ → Spared
-no_frame_spared closing = record { frame = λ f. false; closing = closing }
+no_frame_spared closing = record { pinned = None; locked = λ f. false; closing = closing }
 
 -- then a pass may have these notes
 abbrev pub Passes : Setting → Option ℕ → Ledger → List Note → Type 0

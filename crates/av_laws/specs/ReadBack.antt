@@ -43,7 +43,7 @@ pub record IsSmall (w : World) (l : Ledger) : Type 0 where
 
 -- what the row of an area says beside its pages is of 64 bits; a legal reply may say anything there
 abbrev pub IsWideRow : Row → Type 0
-IsWideRow (AreaRow start end prot offset own chain) =
+IsWideRow (AreaRow start end prot offset own chain flags) =
     IsWide offset × IfSome own IsWide × AllByRecursion IsWide chain
 IsWideRow row = Unit {0}
 

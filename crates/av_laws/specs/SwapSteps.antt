@@ -187,7 +187,7 @@ cached_there_fails = Unmapped 0 ∷ Started (slot 2) ∷ Failed (slot 2) ∷ []
 
 -- there is no frame: so many are not cached, and so many are
 abbrev pub numbers : ℕ → ℕ → OutOf
-numbers noslot fault = record { pinned = 0; noslot = noslot; fault = fault }
+numbers noslot fault = record { pinned = 0; noslot = noslot; fault = fault; locked = 0; ksm = 0 }
 
 -- ---- slot and swapon
 

@@ -10,17 +10,18 @@ use Rattle.av_plain.specs.Ledger.{slot_of}
 use Rattle.av_base.specs.Words.{with_at}
 use Rattle.av_vma.specs.Pages.{fresh_area, pages_in}
 use Rattle.av_vma.specs.declared.area.Area.{Area}
-use Rattle.av_plain.specs.Areas.{Anons, Areas, Homes, no_areas, no_homes}
+use Rattle.av_plain.specs.Areas.{Anons, Areas, Homes, no_areas, no_homes, no_items}
 use Rattle.av_plain.specs.Choice.{no_slots}
 use Rattle.av_plain.specs.Stands.{Stands, View}
 use Rattle.av_plain.specs.Transcript.{State}
 use Rattle.av_laws.specs.Areas.{anons_of, child, root}
 use Rattle.av_laws.specs.Examples.{after_fork, cached_out, machine, one_area, only_frames}
 use Rattle.av_laws.specs.Examples.{read_write, slot, with_slots, with_swap}
+use Rattle.av_base.specs.Flags.{no_flags}
 
 -- an area of a process with pages for reading and writing, as it was mapped
 abbrev pub area : ℕ → ℕ → ℕ → Area
-area from past p = fresh_area p from past read_write
+area from past p = fresh_area p from past read_write no_flags
 
 -- the one with the topmost page, whose own anon_vma is 0 in process 1, and 1 in process 2
 abbrev pub topmost : ℕ → Area
@@ -64,6 +65,7 @@ view_with areas write = record {
   areas = λ p. if p == 1 || p == 2 then Some (areas p) else None;
   anons = parent_and_child;
   homes = parents_home;
+  items = no_items;
   find = λ s. None;
   entries = λ s. 0;
   flight = [];

@@ -9,24 +9,26 @@ ghost use Rattle.av_vma.specs.Index.{index_of, past_of};
 ghost use Rattle.av_vma.specs.declared.area.Area.{Area};
 ghost use Rattle.av_plain.specs.Transcript.{Exchange, State, IsStep, IsRun, at_first, rmap_of};
 ghost use Rattle.av_plain.specs.Sound.{AllSound};
-ghost use Rattle.av_plain.specs.Covered.{AreSlotsCovered, IsRmapSound};
+ghost use Rattle.av_plain.specs.Covered.{AreMergedCovered, AreSlotsCovered, IsRmapSound};
 ghost use Rattle.av_laws.specs.Covered.{CoverBelow, CoverPages};
 
 /// In a run of at most 2^24 commands each entry that names a frame is reached from the frame's
 /// home, through a chain alone. The pages whose entries name one slot have one root and one linear
 /// index, and where the slot is cached they are reached, too: so the frame that takes its page has
-/// a home that reaches them all. So it is after each command that finds it so in a sound state
-/// whose areas cover its pages.
+/// a home that reaches them all. Each page of a merged frame has one of the frame's items. So it is
+/// after each command that finds it so in a sound state whose areas cover its pages.
 pub fn runs_cover_entries()
     ensures from_nothing { (m : Setting) (exchanges : List Exchange) (new : State)
         → length exchanges ≤ most_commands → IsRun m (at_first m) exchanges new
-        → IsRmapSound new.ledger (rmap_of new) × AreSlotsCovered new.ledger (rmap_of new) }
+        → IsRmapSound new.ledger (rmap_of new) × AreSlotsCovered new.ledger (rmap_of new)
+        × AreMergedCovered new.ledger (rmap_of new) }
     ensures each_step { (m : Setting) (most : ℕ) (old new : State) (command : Command)
         (reply : Reply) → top_page ≤ most → most + top_page ≤ most_indices
         → CoverBelow most old.world old.areas → AllSound m old.world old.ledger
         → IsRmapSound old.ledger (rmap_of old) → AreSlotsCovered old.ledger (rmap_of old)
-        → IsStep m old command reply new
-        → IsRmapSound new.ledger (rmap_of new) × AreSlotsCovered new.ledger (rmap_of new) }
+        → AreMergedCovered old.ledger (rmap_of old) → IsStep m old command reply new
+        → IsRmapSound new.ledger (rmap_of new) × AreSlotsCovered new.ledger (rmap_of new)
+        × AreMergedCovered new.ledger (rmap_of new) }
 {}
 
 /// In a run of at most 2^24 commands the areas of each process cover exactly its pages, with their

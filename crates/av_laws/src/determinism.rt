@@ -11,18 +11,20 @@ ghost use Rattle.av_plain.specs.Ledger.{Setting};
 ghost use Rattle.av_plain.specs.Areas.{Anons};
 ghost use Rattle.av_plain.specs.Report.{AreMaps, AreRowsOf};
 ghost use Rattle.av_vma.specs.Pages.{Pages};
+ghost use Rattle.av_plain.specs.Sound.{AllSound};
 ghost use Rattle.av_plain.specs.Step.{causes};
 ghost use Rattle.av_plain.specs.Transcript.{Exchange, State, IsStep, IsRun, at_first, causes_of};
 ghost use Rattle.av_io.specs.Count.{Rose, RoseBy};
 ghost use Rattle.av_laws.specs.Determined.{Tells, IsClaimed, ShowsNoFailure, ShowNoFailures};
 ghost use Rattle.av_laws.specs.Determined.{SameCommands};
 
-/// Where the devices tell their pages, each byte of the memories is claimed and no failure of
-/// a device shows, a command has one reply, and leaves one state, with its areas, anon_vmas, free
-/// frames and slots: nothing is left to the kernel's choice.
+/// Where memories and ledger are sound, the devices tell their pages, each byte of the memories is
+/// claimed and no failure of a device shows, a command has one reply, and leaves one state, with its
+/// areas, anon_vmas, free frames and slots: nothing is left to the kernel's choice.
 pub fn replies_are_determined()
     ensures { (m : Setting) (old new other : State) (command : Command) (reply reply' : Reply)
-        → Tells m → IsClaimed old.world → ShowsNoFailure reply → ShowsNoFailure reply'
+        → Tells m → IsClaimed old.world → AllSound m old.world old.ledger
+        → ShowsNoFailure reply → ShowsNoFailure reply'
         → IsStep m old command reply new → IsStep m old command reply' other
         → (reply ≡ reply') × (new ≡ other) }
 {}

@@ -100,6 +100,7 @@ ghost use Rattle.av_laws.specs.Examples.{
 };
 ghost use Rattle.av_laws.specs.Pairs.{whole};
 ghost use Rattle.av_laws.specs.SwapSteps.{third_bad, third_bad_on};
+ghost use Rattle.av_base.specs.Flags.{no_flags};
 
 /// Commands are refused by the first test that holds, and by none where each just doesn't hold.
 pub fn commands_are_refused()
@@ -195,17 +196,17 @@ pub fn pages_are_served()
     ensures named_by_other { IsServed (with_swap 4 2 1) (cached_for_two 1 (InSlot (slot 1))) false 1
         (Mapped 1 0x7fffffffe000 0 ∷ []) None }
     ensures starved { IsServed (with_swap 0 8 7) (paged_out 7 []) false 1 []
-        (Some (Starved (record { pinned = 0; noslot = 0; fault = 0 }))) }
+        (Some (Starved (record { pinned = 0; noslot = 0; fault = 0; locked = 0; ksm = 0 }))) }
     ensures lost_without_frame { IsServed (with_swap 0 8 7) (paged_out 7 []) false 1 []
         (Some Lost) → ⊥ }
     ensures cached_lost { IsServed (with_swap 4 8 7) in_writeback false 1 [] (Some Lost) → ⊥ }
     ensures mapped_lost { IsServed (with_swap 4 8 7) in_swap_cache false 1 [] (Some Lost) → ⊥ }
     ensures no_copy { IsServed (with_swap 1 8 7) slot_shared true 2
         (Loaded (slot 1) 0 ∷ Mapped 2 0x7fffffffe000 0 ∷ [])
-        (Some (Starved (record { pinned = 1; noslot = 0; fault = 0 }))) }
+        (Some (Starved (record { pinned = 1; noslot = 0; fault = 0; locked = 0; ksm = 0 }))) }
     ensures starved_behind_pass { IsServed (with_swap 1 8 7) one_written true 1
         (Put 0 (slot 1) ∷ Unmapped 0 ∷ Started (slot 1) ∷ Failed (slot 1) ∷ [])
-        (Some (Starved (record { pinned = 0; noslot = 0; fault = 1 }))) }
+        (Some (Starved (record { pinned = 0; noslot = 0; fault = 1; locked = 0; ksm = 0 }))) }
 {}
 
 /// An access that is served whole shows its bytes, or is done, and its pages are used behind their
@@ -227,8 +228,9 @@ pub fn accesses_stop()
     ensures lost { Comes (with_swap 4 8 7) (second_out (0 ∷ [])) (Read 1 0x7fffffffdfff 2)
         (reply_with (Bus 1 (0 ∷ [])) (Zeroed 1 0x7fffffffd000 ∷ [])) }
     ensures starved_behind { read_answer 0x7fffffffdfff
-        (Stopped 0x7fffffffe (Starved (record { pinned = 0; noslot = 1; fault = 0 }))) (0 ∷ [])
-        ≡ Oom 1 (record { pinned = 0; noslot = 1; fault = 0 }) (0 ∷ []) }
+        (Stopped 0x7fffffffe
+        (Starved (record { pinned = 0; noslot = 1; fault = 0; locked = 0; ksm = 0 }))) (0 ∷ [])
+        ≡ Oom 1 (record { pinned = 0; noslot = 1; fault = 0; locked = 0; ksm = 0 }) (0 ∷ []) }
 {}
 
 /// The entries of a range or a process go, by rising page, and each drops the slot that it leaves
@@ -265,7 +267,7 @@ pub fn reports_show()
         ∷ Run 0x7fffffffe000 0x7ffffffff000 read_only ∷ [])) }
     ensures one_area { Comes (machine 4) at_rest (AsksAreas 1)
         (with_rows_of (AreaList 1)
-        (AreaRow 0x7fffffffe000 0x7ffffffff000 read_write 5 None [] ∷ [])) }
+        (AreaRow 0x7fffffffe000 0x7ffffffff000 read_write 5 None [] no_flags ∷ [])) }
     ensures walk_of_two { Comes (machine 4) (after_fork []) (AsksRmap 2 0x7fffffffe123)
         (with_rows_of (Walk 0 2) (Entry 1 0x7fffffffe000 ∷ Entry 2 0x7fffffffe000 ∷ [])) }
     ensures no_walk { Comes (with_swap 4 8 7) in_writeback (AsksRmap 1 0x7fffffffe000)
@@ -276,9 +278,9 @@ pub fn reports_show()
         (AsksEntry 1 0x16fff)
         (reply_with EntryZero []) }
     ensures old_shown { Comes (machine 4) (after_fork []) (AsksEntry 2 0x7fffffffe000)
-        (reply_with (EntryFrame 0 false None) []) }
+        (reply_with (EntryFrame 0 false None false) []) }
     ensures cached_shown { Comes (with_swap 4 8 7) in_swap_cache (AsksEntry 1 0x7fffffffe000)
-        (reply_with (EntryFrame 0 true (Some (slot 1))) []) }
+        (reply_with (EntryFrame 0 true (Some (slot 1)) false) []) }
     ensures slot_shown { Comes (with_swap 4 8 7) in_writeback (AsksEntry 1 0x7fffffffe000)
         (reply_with (EntrySlot (slot 1) (Some 0)) []) }
     ensures slot_alone { Comes (with_swap 4 8 7) (paged_out 7 []) (AsksEntry 1 0x7fffffffe000)

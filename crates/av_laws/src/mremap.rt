@@ -38,6 +38,7 @@ ghost use Rattle.av_laws.specs.Examples.{
   read_write,
   reply_with,
 };
+ghost use Rattle.av_laws.specs.Flags.{flagged, left_out, locked};
 ghost use Rattle.av_laws.specs.Mremap.{
   all_move,
   all_pages,
@@ -53,6 +54,7 @@ ghost use Rattle.av_laws.specs.Mremap.{
   three_kinds,
   three_pages,
   two_move,
+  two_flags,
   two_of_each,
   fresh_state,
   with_frames,
@@ -64,7 +66,7 @@ ghost use Rattle.av_laws.specs.Mremap.{
 /// another has that of its new place. What stands at the target goes, and so do the pages past the
 /// new length. Each boundary is tried, by rising address, and a joined area with what is behind it,
 /// too. Pages that are left as zeros get one area of their own, with their protection, which is
-/// joined once those that moved are.
+/// joined once those that moved are; or one for each longest run with the same flags, not locked.
 pub fn areas_move()
     ensures to_another_place { Becomes root_four one_root all_move (MapAt 0x18000) 0xf
         (moved_of 0 0x18 0x1c 0x10 ∷ []) }
@@ -93,6 +95,10 @@ pub fn areas_move()
         (area 0x10 0x14 read_write ∷ moved_of 0 0x18 0x1c 0x10 ∷ []) }
     ensures two_leave_one { Becomes two_of_each two_roots zeros_stay (MapAt 0x18000) 0xf
         (area 0x10 0x14 read_write ∷ moved_of 0 0x18 0x1a 0x10 ∷ moved_of 1 0x1a 0x1c 0x12 ∷ []) }
+    ensures two_leave_two { Becomes two_flags one_root zeros_stay (MapAt 0x18000) 0xf
+        (flagged 0x10 0x12 left_out ∷ area 0x12 0x14 read_write
+        ∷ record (moved_of 0 0x18 0x1a 0x10) { flags = left_out }
+        ∷ record (moved_of 0 0x1a 0x1c 0x12) { flags = locked } ∷ []) }
     ensures joined_after { Becomes three_kinds two_roots
         (Mremap 1 0x11000 4096 4096 (DontUnmap (Some 0x13000))) (MapAt 0x13000) 0xf
         (area_of 0 0x10 0x12 ∷ area_of 1 0x12 0x14 ∷ []) }

@@ -66,7 +66,9 @@ pub fn failures_are_counted()
         ≡ 3 }
     ensures eio { causes (reply_with (Refused Eio) []) ≡ 1 }
     ensures cached_when_out { causes
-        (reply_with (Oom 0 (record { pinned = 0; noslot = 1; fault = 2 }) []) (Failed (slot 1) ∷
+        (reply_with (Oom 0
+        (record { pinned = 0; noslot = 1; fault = 2; locked = 0; ksm = 0 }) [])
+        (Failed (slot 1) ∷
         []))
         ≡ 2 }
     ensures no_failure { causes (reply_with (Refused Enomem) (Written (slot 1) ∷ [])) ≡ 0 }

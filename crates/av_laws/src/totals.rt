@@ -12,17 +12,17 @@ ghost use Rattle.av_plain.specs.Report.{totals};
 ghost use Rattle.av_plain.specs.Step.{IsLegal};
 ghost use Rattle.av_plain.specs.Sound.{AllSound};
 
-/// The three numbers of an out-of-memory are all frames: pinned, not cached, and cached. So are
-/// those of a swapoff that found no frame.
+/// The five numbers of an out-of-memory are all frames: pinned, locked, merged, not cached, and
+/// cached. So are those of a swapoff that found no frame.
 pub fn numbers_add_up()
     ensures access { (m : Setting) (w : World) (l : Ledger) (command : Command) (reply : Reply)
         (events : List Event) (k : ℕ) (out : OutOf) (shown : List ℕ)
         → AllSound m w l → IsLegal m w l command reply events → reply.answer ≡ Oom k out shown
-        → out.pinned + out.noslot + out.fault ≡ m.frames }
+        → out.pinned + out.locked + out.ksm + out.noslot + out.fault ≡ m.frames }
     ensures swapoff { (m : Setting) (w : World) (l : Ledger) (command : Command) (reply : Reply)
         (events : List Event) (out : OutOf)
         → AllSound m w l → IsLegal m w l command reply events → reply.answer ≡ NoFrame out
-        → out.pinned + out.noslot + out.fault ≡ m.frames }
+        → out.pinned + out.locked + out.ksm + out.noslot + out.fault ≡ m.frames }
 {}
 
 /// Each frame is free, active or inactive, and so the numbers of `stat` add up.

@@ -1,4 +1,5 @@
 pub mod Paths
-pub mod Whole
+pub mod Renamed
 pub mod Steps
 pub mod Tails
+pub mod Whole

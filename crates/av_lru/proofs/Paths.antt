@@ -106,14 +106,14 @@ length-walk next (suc count) from = ap suc (length-walk next count (next from))
 abbrev pub IsOn : ℕ → List ℕ → ℕ → Type 0
 IsOn end fs at = (at ≡ end) ⊎ IsIn at fs
 
-IsOn-cons : (from f : ℕ) (fs : List ℕ) (at : ℕ) → IsOn f fs at → IsOn from (f ∷ fs) at
+pub IsOn-cons : (from f : ℕ) (fs : List ℕ) (at : ℕ) → IsOn f fs at → IsOn from (f ∷ fs) at
 IsOn-cons from f fs at on = elim on [ inl here ↦ inr (inl (sym here)) | inr there ↦ inr (inr there) ]
 
-IsOn-more : (to f : ℕ) (fs : List ℕ) (at : ℕ) → IsOn to fs at → IsOn to (f ∷ fs) at
+pub IsOn-more : (to f : ℕ) (fs : List ℕ) (at : ℕ) → IsOn to fs at → IsOn to (f ∷ fs) at
 IsOn-more to f fs at on = elim on [ inl here ↦ inl here | inr there ↦ inr (inr there) ]
 
 -- a place that is not the end and is none of these is not on the path
-not_on : (end : ℕ) (fs : List ℕ) (at on : ℕ) → at ≢ end → ¬ IsIn at fs → IsOn end fs on → at ≢ on
+pub not_on : (end : ℕ) (fs : List ℕ) (at on : ℕ) → at ≢ end → ¬ IsIn at fs → IsOn end fs on → at ≢ on
 not_on end fs at on other off found same =
     elim found [ inl here ↦ other (same ∙ here) | inr there ↦ off (subst (λ k. IsIn k fs) (sym same) there) ]
 
@@ -180,7 +180,7 @@ module _ (next prev : ℕ → ℕ) (n : ℕ) where
 
 module _ (next prev next' prev' : ℕ → ℕ) where
   -- a path stays where the links stay on it
-  IsPath-kept : (from : ℕ) (fs : List ℕ) (to : ℕ) → IsPath next prev from fs to → ((at : ℕ) → IsOn from fs at → next' at ≡ next at) →
+  pub IsPath-kept : (from : ℕ) (fs : List ℕ) (to : ℕ) → IsPath next prev from fs to → ((at : ℕ) → IsOn from fs at → next' at ≡ next at) →
       ((at : ℕ) → IsOn to fs at → prev' at ≡ prev at) → IsPath next' prev' from fs to
   IsPath-kept from [] to path nexts prevs = (nexts from (inl refl) ∙ path.0, prevs to (inl refl) ∙ path.1)
   IsPath-kept from (f ∷ fs) to path nexts prevs = (
@@ -266,7 +266,7 @@ module _ (next prev next' prev' : ℕ → ℕ) where
   -- ---- rings
 
   module _ (place place' : ℕ → Option Which) (which : Which) (head : ℕ) (none : place head ≡ None) where
-    off_ring : (fs : List ℕ) → IsRing next prev place which head fs → ¬ IsIn head fs
+    pub off_ring : (fs : List ℕ) → IsRing next prev place which head fs → ¬ IsIn head fs
     off_ring fs ring found = none-some which (sym none ∙ ring.placed head found)
 
     -- a ring stays where its links and its frames stay

@@ -8,12 +8,12 @@ use Rattle.std.proofs.lemmas.List.Folds.{sum_by-replicate}
 use Rattle.av_lru.specs.declared.lists.Which.{Which}
 use Rattle.av_lru.specs.declared.lists.Which.TheVariants.{Active, Inactive}
 use Rattle.av_lru.specs.declared.lists.Lengths.{Lengths}
-use Rattle.av_lru.specs.Lists.{Lists, list_of, with_list, without, without_frame, last_of, frame_before, place_in, IsApart}
+use Rattle.av_lru.specs.Lists.{Lists, list_of, with_list, without, without_frame, with_renamed, last_of, frame_before, place_in, IsApart}
 use Rattle.av_base.specs.Words.{is_in}
 use Rattle.av_lru.specs.Links.{head_of, len_of, with_len, Joins, Inserts, lists_of, place_of, IsWhole, is_off, IsIn, IsRing, walk, after_links}
 use Rattle.av_lru.proofs.Paths.{IsIn-without, frame_at, frame_past, last_path, prev_path}
 use Rattle.av_lru.proofs.Tails.{back_in, tails_path}
-use Rattle.av_lru.proofs.Whole.{found_in, is_apart, read, read_place, head_below, head_past, free_place, first_on, last_on, on_below, off_ring, room, front, push, Shows, before_on, after_on, some, leaves, taken_free, not_in, in_found, ring, placed_below, length-listed, shows}
+use Rattle.av_lru.proofs.Whole.{found_in, is_apart, read, read_place, head_below, head_past, free_place, first_on, last_on, on_below, off_ring, room, front, push, Shows, before_on, after_on, some, leaves, taken_free, renames, renamed_free, not_in, in_found, ring, placed_below, length-listed, shows}
 
 abbrev pub Reads : List ℕ → ℕ → ℕ → Type 0
 Reads xs i x = x ≡ get_or xs i x
@@ -128,6 +128,51 @@ module _ (links back : List ℕ) (places : List (Option Which)) (lens : Lengths)
           (subst (λ (l : Lengths). Shows links' back' (slice_set places f None) l
           (without_frame f (lists_of links (length places) lens))) (sym lengths)
           (leaves links back places lens whole w f was links' back' next prev nexts prevs))
+
+    -- ---- a frame gives its place
+
+    pub keeps_place : (t : ℕ) → at ≡ None → ls ≡ with_renamed f t ls
+    keeps_place t none = subst (λ (v : Lists). v ≡ with_renamed f t v) seen (sym (renamed_free links back places lens whole f t (at_is ∙ none)))
+
+    module _ (t : ℕ) (new_in : t < ls.frames) (not_active : is_in t ls.active ≡ false) (not_inactive : is_in t ls.inactive ≡ false)
+        (w : Which) (is : at ≡ Some w) (before after : ℕ) (reads_before : Reads back f before) (reads_after : Reads links f after) where
+      taken : place_of places f ≡ Some w
+      taken = at_is ∙ is
+
+      unused : place_of places t ≡ None
+      unused = free_place links back places lens whole t (subst (λ (v : Lists). is_in t v.active ≡ false) (sym seen) not_active)
+          (subst (λ (v : Lists). is_in t v.inactive ≡ false) (sym seen) not_inactive)
+
+      before_place : before ≡ slice_index back f
+      before_place = read back f before reads_before (let a = in_places f in_range in let b = whole.prev in omega (arith, a, b))
+
+      after_place : after ≡ slice_index links f
+      after_place = read links f after reads_after (let a = in_places f in_range in let b = whole.next in omega (arith, a, b))
+
+      pub before_below : before < length links
+      before_below = let a = on_below links back places lens whole w _ (before_on links back places lens whole w f taken) in
+          let b = whole.next in let e = before_place in omega (arith, a, b, e)
+
+      pub after_below : after < length back
+      after_below = let a = on_below links back places lens whole w _ (after_on links back places lens whole w f taken) in
+          let b = whole.prev in let e = after_place in omega (arith, a, b, e)
+
+      pub not_before : t ≢ before
+      not_before same = off_ring links back places lens whole t (in_places t new_in) unused w _ (before_on links back places lens whole w f taken)
+          (sym before_place ∙ sym same)
+
+      pub not_after : t ≢ after
+      not_after same = off_ring links back places lens whole t (in_places t new_in) unused w _ (after_on links back places lens whole w f taken)
+          (sym after_place ∙ sym same)
+
+      pub gives : (links' back' : List ℕ) → length links' ≡ length links → length back' ≡ length back
+          → Inserts (slice_index links) (slice_index back) (slice_index links') (slice_index back') before t after
+          → Shows links' back' (slice_set (slice_set places t (Some w)) f None) lens (with_renamed f t ls)
+      gives links' back' next prev splices =
+          subst (λ (v : Lists). Shows links' back' (slice_set (slice_set places t (Some w)) f None) lens (with_renamed f t v)) seen
+          (renames links back places lens whole w f t taken (in_places t new_in) unused links' back' next prev
+          (subst (λ m. Inserts (slice_index links) (slice_index back) (slice_index links') (slice_index back') (slice_index back f) t m) after_place
+          (subst (λ m. Inserts (slice_index links) (slice_index back) (slice_index links') (slice_index back') m t after) before_place splices)))
 
   -- ---- what is read
 

@@ -1,5 +1,5 @@
 -- How the fields of `Lru` stay fit, and what a contract then sees, when a frame joins or leaves a list.
-use Rattle.std.proofs.Common.{◌≡◌, ◌≢◌, ◌⊎◌, ℕ, zero, suc, ◌+◌, ◌-◌, ◌<◌, ◌≤◌, ◌^◌, true, false, cond, ◌||◌, List, [], ◌∷◌, ◌++◌, length, get_or, slice_set, Option, Some, None, count_by, refl, sym, ap, ◌∙◌, subst, inl, inr, arith, eq-eqb, ne_eqb, length-set, get_or-set_same, get_or-set_other, length-append}
+use Rattle.std.proofs.Common.{◌≡◌, ◌≢◌, ◌⊎◌, ℕ, zero, suc, ◌+◌, ◌-◌, ◌<◌, ◌≤◌, ◌^◌, true, false, cond, ◌||◌, List, [], ◌∷◌, ◌++◌, length, map, get_or, slice_set, Option, Some, None, count_by, refl, sym, ap, ◌∙◌, subst, inl, inr, arith, eq-eqb, ne_eqb, length-set, get_or-set_same, get_or-set_other, length-append}
 use Rattle.std.specs.Prelude.{slice_index}
 use Rattle.std.proofs.lemmas.Bool.{cases_eq, cases_lt, false≢true}
 use Rattle.std.proofs.lemmas.List.{get_or_past}
@@ -8,9 +8,10 @@ use Rattle.std.proofs.lemmas.Option.{none-some, same_Some}
 use Rattle.av_lru.specs.declared.lists.Which.{Which}
 use Rattle.av_lru.specs.declared.lists.Which.TheVariants.{Active, Inactive}
 use Rattle.av_lru.specs.declared.lists.Lengths.{Lengths}
-use Rattle.av_lru.specs.Lists.{Lists, list_of, with_list, without, without_frame, IsApart}
-use Rattle.av_base.specs.Words.{is_in}
+use Rattle.av_lru.specs.Lists.{Lists, list_of, with_list, without, without_frame, with_renamed, IsApart}
+use Rattle.av_base.specs.Words.{is_in, renamed}
 use Rattle.av_lru.specs.Links.{head_of, len_of, with_len, is_off, IsIn, AreApart, Joins, Inserts, walk, frames_of, lists_of, IsPath, IsRing, place_of, IsWhole}
+use Rattle.av_lru.proofs.Renamed.{IsRing-renamed, map-absent, length-renamed}
 use Rattle.av_lru.proofs.Paths.{IsOn, without_absent, length-without, length-walk, walk_path, prev_end_on, next_start_on, prev_on, next_on, IsRing-kept, IsRing-skip, IsRing-push, IsRing-front}
 
 -- ---- the two lists
@@ -62,6 +63,10 @@ frames_same Inactive fs ls = refl
 list_taken : (v : Which) (f : ℕ) (ls : Lists) → list_of v (without_frame f ls) ≡ without f (list_of v ls)
 list_taken Active f ls = refl
 list_taken Inactive f ls = refl
+
+list_renamed : (v : Which) (f t : ℕ) (ls : Lists) → list_of v (with_renamed f t ls) ≡ map (renamed f t) (list_of v ls)
+list_renamed Active f t ls = refl
+list_renamed Inactive f t ls = refl
 
 -- ---- membership
 
@@ -396,6 +401,83 @@ module _ (links back : List ℕ) (places : List (Option Which)) (lens : Lengths)
       frames = length places;
       active = without_absent f _ (absent Active) k;
       inactive = without_absent f _ (absent Inactive) k;
+    }
+      where
+        absent : (v : Which) → ¬ IsIn f (list_of v seen_lists)
+        absent v there = none-some v (sym free ∙ (ring v).placed f there)
+
+    -- ---- a frame gives its place
+
+    module _ (w : Which) (f t : ℕ) (was : place_of places f ≡ Some w) (below : t < length places) (free : place_of places t ≡ None) where
+      abbrev now : List (Option Which)
+      now = slice_set (slice_set places t (Some w)) f None
+
+      differ : f ≢ t
+      differ same = none-some w (sym free ∙ ap (place_of places) (sym same) ∙ was)
+
+      from_below : f < length (slice_set places t (Some w))
+      from_below = subst (λ n. f < n) (sym (length-set places t (Some w))) (placed_below f w was)
+
+      place_left : place_of now f ≡ None
+      place_left = get_or-set_same (slice_set places t (Some w)) f None None from_below
+
+      place_new : place_of now t ≡ Some w
+      place_new = get_or-set_other (slice_set places t (Some w)) f t None None (λ same. differ (sym same))
+          ∙ get_or-set_same places t (Some w) None below
+
+      place_others : (g : ℕ) → g ≢ f → g ≢ t → place_of now g ≡ place_of places g
+      place_others g ne other = get_or-set_other (slice_set places t (Some w)) f g None None ne ∙ get_or-set_other places t g (Some w) None other
+
+      same_count : count_by is_off now ≡ count_by is_off places
+      same_count =
+          let one = sum_by-set (λ o. cond (is_off o) 1 0) places t (Some w) None below in
+          let first = subst (λ o. count_by is_off (slice_set places t (Some w)) + cond (is_off o) 1 0 ≡ count_by is_off places + 0) free one in
+          let two = sum_by-set (λ o. cond (is_off o) 1 0) (slice_set places t (Some w)) f None None from_below in
+          let second = subst (λ o. count_by is_off now + cond (is_off o) 1 0 ≡ count_by is_off (slice_set places t (Some w)) + 1)
+          (get_or-set_other places t f (Some w) None differ ∙ was) two in
+          omega (arith, first, second)
+
+      pub renames : (links' back' : List ℕ) → length links' ≡ length links → length back' ≡ length back
+          → Inserts (slice_index links) (slice_index back) (slice_index links') (slice_index back') (slice_index back f) t (slice_index links f)
+          → Shows links' back' (slice_set (slice_set places t (Some w)) f None) lens (with_renamed f t seen_lists)
+      renames links' back' next prev splices =
+          shows links' back' now lens (with_renamed f t seen_lists) (length places)
+          (length-set (slice_set places t (Some w)) f None ∙ length-set places t (Some w)) refl whole.few (next ∙ whole.next) (prev ∙ whole.prev)
+          (ap (λ n. lens.active + lens.inactive + n) same_count ∙ whole.total)
+          (λ v. subst (IsRing (slice_index links') (slice_index back') (place_of now) v (head_of (length places) v))
+          (sym (list_renamed v f t seen_lists))
+          (elim (same_or v w) [
+            | inl same ↦ subst (λ u. IsRing (slice_index links') (slice_index back') (place_of now) u (head_of (length places) u)
+                (map (renamed f t) (list_of u seen_lists))) (sym same)
+                (IsRing-renamed f t (slice_index links) (slice_index back) (slice_index links') (slice_index back') (place_of places) (place_of now) w
+                (head_of (length places) w) (heads_none w) (list_of w seen_lists) (ring w) (off_ring t below free w _ (inl refl)) was free splices
+                place_left place_new place_others)
+            | inr ne ↦
+                let absent : ¬ IsIn f (list_of v seen_lists) = λ there. ne (same_Some v w (sym ((ring v).placed f there) ∙ was)) in
+                subst (IsRing (slice_index links') (slice_index back') (place_of now) v (head_of (length places) v))
+                (sym (map-absent f t (list_of v seen_lists) absent))
+                (IsRing-kept (slice_index links) (slice_index back) (slice_index links') (slice_index back') (place_of places) (place_of now) v
+                (head_of (length places) v) (heads_none v) (list_of v seen_lists) (ring v)
+                (λ at on. splices.nexts at (apart v w ne at _ on (before_on w f was)) (off_ring t below free v at on))
+                (λ at on. splices.prevs at (apart v w ne at _ on (after_on w f was)) (off_ring t below free v at on))
+                (λ g is. place_others g (λ same. ne (same_Some v w (sym is ∙ ap (place_of places) same ∙ was)))
+                (λ same. none-some v (sym free ∙ ap (place_of places) (sym same) ∙ is)) ∙ is)
+                (λ g is. elim (cases_eq g f) [
+                  | inl same ↦ absurd (none-some v (sym place_left ∙ ap (place_of now) (sym same) ∙ is))
+                  | inr differs ↦ elim (cases_eq g t) [
+                    | inl same ↦ absurd (ne (same_Some v w (sym is ∙ ap (place_of now) same ∙ place_new)))
+                    | inr other ↦ sym (place_others g differs other) ∙ is
+                  ]
+                ]))
+          ]))
+          (λ v. ap length (list_renamed v f t seen_lists) ∙ length-renamed f t (list_of v seen_lists) ∙ length-listed v)
+
+    -- a frame that is in no list has no place to give
+    pub renamed_free : (f t : ℕ) → place_of places f ≡ None → with_renamed f t seen_lists ≡ seen_lists
+    renamed_free f t free = λ k. record {
+      frames = length places;
+      active = map-absent f t _ (absent Active) k;
+      inactive = map-absent f t _ (absent Inactive) k;
     }
       where
         absent : (v : Which) → ¬ IsIn f (list_of v seen_lists)

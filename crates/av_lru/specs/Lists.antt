@@ -1,7 +1,7 @@
 -- What is shown of `Lru`: how many frames there are, and the two lists, each from its head on.
-use Rattle.std.specs.Prelude.{◌≡◌, ℕ, Bool, false, ◌==◌, not, cond, if◌then◌else◌, List, [], ◌∷◌}
-use Rattle.std.specs.Prelude.{filter, Option, Some, None}
-use Rattle.av_base.specs.Words.{is_in}
+use Rattle.std.specs.Prelude.{◌≡◌, ℕ, false, ◌==◌, not, cond, if◌then◌else◌, List, [], ◌∷◌}
+use Rattle.std.specs.Prelude.{filter, map, Option, Some, None}
+use Rattle.av_base.specs.Words.{is_in, renamed}
 use Rattle.av_lru.specs.declared.lists.Which.{Which}
 use Rattle.av_lru.specs.declared.lists.Which.TheVariants.{Active, Inactive}
 
@@ -39,6 +39,14 @@ without f fs = filter (λ g. not (g == f)) fs
 abbrev pub without_frame : ℕ → Lists → Lists
 without_frame f ls =
     record { frames = ls.frames; active = without f ls.active; inactive = without f ls.inactive }
+
+-- both lists, where a frame gives its place to another
+abbrev pub with_renamed : ℕ → ℕ → Lists → Lists
+with_renamed from to ls = record {
+  frames = ls.frames;
+  active = map (renamed from to) ls.active;
+  inactive = map (renamed from to) ls.inactive;
+}
 
 -- the last frame of a list; `before` is what stands before the list
 abbrev pub last_of : Option ℕ → List ℕ → Option ℕ

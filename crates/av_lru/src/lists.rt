@@ -3,8 +3,8 @@
 ghost use Rattle.std.specs.Prelude.{◌≡◌, ◌≢◌, ◌⊎◌, ℕ, ◌+◌, ◌-◌, ◌<◌, ◌≤◌, ◌^◌, [], ◌∷◌, ◌++◌};
 ghost use Rattle.std.specs.Prelude.{length, slice_index, IfOk, true, false, Some, None, nat_lt};
 ghost use Rattle.std.specs.Prelude.{replicate, take, reverse, vec_capacity, if◌then◌else◌};
-ghost use Rattle.av_lru.specs.Lists.{list_of, with_list, without_frame, last_of, frame_before};
-ghost use Rattle.av_lru.specs.Lists.{place_in, IsApart};
+ghost use Rattle.av_lru.specs.Lists.{list_of, with_list, without_frame, with_renamed, last_of};
+ghost use Rattle.av_lru.specs.Lists.{frame_before, place_in, IsApart};
 ghost use Rattle.av_base.specs.Words.{is_in};
 ghost use Rattle.av_lru.specs.Links.{head_of, len_of, with_len, Joins, Inserts, walk, after_links};
 
@@ -229,6 +229,25 @@ impl Lru {
     {
         self.remove(frame);
         self.add_tail(Which::Inactive, frame);
+    }
+
+    /// Puts a frame that is in no list in the place of another, which is in no list then. Where
+    /// that one is in none already, all stays.
+    pub fn rename(&mut self, from: u32, to: u32)
+        requires in_range { (from < self.old.frames) × (to < self.old.frames) }
+        requires not_active { is_in to self.old.active ≡ false }
+        requires not_inactive { is_in to self.old.inactive ≡ false }
+        ensures { self.new ≡ with_renamed from to self.old }
+    {
+        let old = from as usize;
+        let place = to as usize;
+        if let Some(which) = self.places[old] {
+            let before = self.links.prev[old];
+            let after = self.links.next[old];
+            self.links.splice(before, place, after);
+            self.places[place] = Some(which);
+            self.places[old] = None;
+        }
     }
 
     /// The list that a frame is in.

@@ -9,6 +9,7 @@ use Rattle.av_pagetable.specs.Entries.{entry_at}
 use Rattle.av_plain.specs.Ledger.{InFrame, InSlot}
 use Rattle.av_plain.specs.Stands.{Pte as Plain, View}
 use Rattle.av_rmap.specs.Covered.{IsCoveredFrom}
+use Rattle.av_rmap.specs.Items.{shown as shown_items}
 use Rattle.av_rmap.specs.Walk.{names_frame, names_seen}
 use Rattle.av_rmap.specs.Seen.{unseen}
 use Rattle.av_rmap.specs.Unmap.{away}
@@ -64,7 +65,7 @@ away-none k f s None is reached = λ i p page. sym (away-other f s (entry_at k.t
 
 -- with other tables
 abbrev with_table : Mem → (ℕ → ℕ → Option Plain) → View
-with_table k table = view_of_parts (shown_frames k.frames) k.lists table k.spaces k.anons (shown_swap k.swap)
+with_table k table = view_of_parts (shown_frames k.frames) k.lists (shown_items k.items) table k.spaces k.anons (shown_swap k.swap)
 
 pub unseen-view : (old new : Mem) (f : ℕ) → new ≡ record old { tables = new.tables }
     → entry_at new.tables ≡ (λ p page. unseen f (entry_at old.tables p page)) → view new ≡ view_unseen f (view old)
@@ -99,7 +100,7 @@ pub away-view : (old between mid new : Mem) (f : ℕ) (s : Slot) → between ≡
     → new ≡ record mid { frames = new.frames } → shown_frames new.frames ≡ with_maps f 0 (shown_frames mid.frames)
     → view new ≡ view_unmap f s (view old)
 away-view old between mid new f s up count rest are clear none = ap (λ (k : Mem). view k) clear ∙ (λ i.
-    view_of_parts (frames i) (rest' i).lists (tables i) (rest' i).spaces (rest' i).anons (swap i))
+    view_of_parts (frames i) (rest' i).lists (shown_items (rest' i).items) (tables i) (rest' i).spaces (rest' i).anons (swap i))
   where
     rest' : mid ≡ record old { swap = between.swap; tables = mid.tables }
     rest' = rest ∙ ap (λ (k : Mem). record k { tables = mid.tables }) up

@@ -8,8 +8,8 @@ use Rattle.av_clusters.specs.Clusters.{Slots, give_slot}
 use Rattle.av_anon.specs.declared.anons.Anons.{Anons as AnonSet}
 use Rattle.av_anon.proofs.Words.{with_at-same}
 use Rattle.av_frames.specs.Store.{Shown as ShownFrames, shown as shown_frames, with_slot as with_frame_slot}
-use Rattle.av_lru.specs.Lists.{Lists, without_frame}
-use Rattle.av_plain.specs.Event.{without}
+use Rattle.av_lru.specs.Lists.{Lists}
+use Rattle.av_rmap.specs.Items.{Shown as ShownItems, shown as shown_items}
 use Rattle.av_plain.specs.Stands.{Pte as Plain, View}
 use Rattle.av_plain.proofs.Sound.Counts.{slot-itself}
 use Rattle.av_spaces.specs.Spaces.{AllSpaces}
@@ -17,7 +17,7 @@ use Rattle.av_swap_laws.specs.Steps.{view_drop, view_freed, view_given_back, vie
 use Rattle.av_swapcache.specs.Swap.{Shown as ShownSwap, count_of, given_back, same_slot, shown as shown_swap, with_find}
 use Rattle.av_mem.specs.Mem.{view, view_of_parts}
 use Rattle.av_mem.specs.declared.mem.Mem.{Mem}
-use Rattle.av_mem.proofs.StepLaws.{SameRest, lists-without, table_of, view-by}
+use Rattle.av_mem.proofs.StepLaws.{SameRest, table_of, view-by}
 
 -- ---- a slot that is cached no longer
 
@@ -44,46 +44,50 @@ slots-back s h n is = by (n == 0) (nat_lt 0 (count_of (with_find s None h) s)) (
 
 -- ---- a slot that is dropped
 
+-- the parts that stay
+pub record Parts : Type 0 where
+  pub lists : Lists
+  pub items : ShownItems
+  pub table : ℕ → ℕ → Option Plain
+  pub spaces : AllSpaces
+  pub anons : AnonSet
+
+abbrev pub parts_of : Mem → Parts
+parts_of k = record { lists = k.lists; items = shown_items k.items; table = table_of k; spaces = k.spaces; anons = k.anons }
+
 -- the view where the slots are these, and the swap cache has let the slot go
-abbrev with_slots : (ℕ → ℕ → Option Plain) → AllSpaces → AnonSet → ShownSwap → Slot → ShownFrames → Lists → (ℕ → Slots) → View
-with_slots table spaces anons h s F L slots = view_of_parts F L table spaces anons (record (with_find s None h) { slots = slots })
+abbrev with_slots : Parts → ShownSwap → Slot → ShownFrames → (ℕ → Slots) → View
+with_slots p h s F slots = view_of_parts F p.lists p.items p.table p.spaces p.anons (record (with_find s None h) { slots = slots })
 
 -- what the law says, by its two tests
+abbrev pub uncached : ℕ → Slot → View → Bool → View
+uncached f s v back = cond back (view_given_back s (view_uncached f s v)) (view_uncached f s v)
+
 abbrev dropped : ℕ → Slot → View → Bool → Bool → View
 dropped f s v gone back = let u = cond gone (view_freed f (view_uncached f s v)) (view_uncached f s v) in cond back (view_given_back s u) u
 
-module _ (F : ShownFrames) (L : Lists) (table : ℕ → ℕ → Option Plain) (spaces : AllSpaces) (anons : AnonSet) (h : ShownSwap) (f : ℕ) (s : Slot) where
-  kept-by : (back : Bool) → with_slots table spaces anons h s (with_frame_slot f None F) L
+module _ (F : ShownFrames) (p : Parts) (h : ShownSwap) (f : ℕ) (s : Slot) where
+  abbrev whole : View
+  whole = view_of_parts F p.lists p.items p.table p.spaces p.anons h
+
+  kept-by : (back : Bool) → with_slots p h s (with_frame_slot f None F)
       (cond back (with_at s.area (give_slot (h.slots s.area) s.page) h.slots) h.slots)
-      ≡ dropped f s (view_of_parts F L table spaces anons h) false back
+      ≡ uncached f s whole back
   kept-by true = refl
   kept-by false = refl
 
-  freed-by : (back : Bool) → with_slots table spaces anons h s (record (with_frame_slot f None F) { free = f ∷ F.free })
-      (record { frames = L.frames; active = without f L.active; inactive = without f L.inactive })
-      (cond back (with_at s.area (give_slot (h.slots s.area) s.page) h.slots) h.slots)
-      ≡ dropped f s (view_of_parts F L table spaces anons h) true back
-  freed-by true = refl
-  freed-by false = refl
+  pub uncached-is : view_of_parts (with_frame_slot f None F) p.lists p.items p.table p.spaces p.anons (given_back s (with_find s None h))
+      ≡ uncached f s whole (h.entries s == 0)
+  uncached-is = ap (with_slots p h s (with_frame_slot f None F)) (slots-back s h (h.entries s) refl) ∙ kept-by (h.entries s == 0)
 
-  back-at : (F : ShownFrames) (L : Lists) → view_of_parts F L table spaces anons (given_back s (with_find s None h))
-      ≡ with_slots table spaces anons h s F L (cond (h.entries s == 0) (with_at s.area (give_slot (h.slots s.area) s.page) h.slots) h.slots)
-  back-at F L = ap (with_slots table spaces anons h s F L) (slots-back s h (h.entries s) refl)
+-- it is freed before the slot is given back, or after that
+pub freed-after : (f : ℕ) (s : Slot) (v : View) (back : Bool) → view_freed f (uncached f s v back) ≡ dropped f s v true back
+freed-after f s v true = refl
+freed-after f s v false = refl
 
-  pub drop-kept : (F.maps f == 0) ≡ false → view_of_parts (with_frame_slot f None F) L table spaces anons (given_back s (with_find s None h))
-      ≡ view_drop f s (view_of_parts F L table spaces anons h)
-  drop-kept kept = back-at (with_frame_slot f None F) L ∙ kept-by (h.entries s == 0)
-      ∙ ap (λ b. dropped f s (view_of_parts F L table spaces anons h) b (h.entries s == 0)) (sym kept)
-
-  pub drop-freed : (F.maps f == 0) ≡ true
-      → view_of_parts (record (with_frame_slot f None F) { free = f ∷ F.free }) (without_frame f L) table spaces anons
-      (given_back s (with_find s None h))
-      ≡ view_drop f s (view_of_parts F L table spaces anons h)
-  drop-freed gone = back-at (record (with_frame_slot f None F) { free = f ∷ F.free }) (without_frame f L)
-      ∙ ap (λ L'. with_slots table spaces anons h s (record (with_frame_slot f None F) { free = f ∷ F.free }) L' (cond (h.entries s == 0)
-      (with_at s.area (give_slot (h.slots s.area) s.page) h.slots) h.slots)) (lists-without f L)
-      ∙ freed-by (h.entries s == 0)
-      ∙ ap (λ b. dropped f s (view_of_parts F L table spaces anons h) b (h.entries s == 0)) (sym gone)
+pub kept-after : (f : ℕ) (s : Slot) (v : View) (back : Bool) → uncached f s v back ≡ dropped f s v false back
+kept-after f s v true = refl
+kept-after f s v false = refl
 
 -- ---- in the memory system
 
@@ -100,27 +104,26 @@ not-zero n h = by (n == 0) refl
     by true e = let is : n ≡ 0 = grind (arith, nat_tests, e) in absurd (h is)
     by false e = refl
 
-pub kept-view : (old new : Mem) (s : Slot) (f : ℕ) → SameRest old new → new.lists ≡ old.lists
-    → shown_swap new.swap ≡ given_back s (with_find s None (shown_swap old.swap))
-    → (o : Option ℕ) → o ≡ Some f → IfSome o (λ f. shown_frames new.frames ≡ with_frame_slot f None (shown_frames old.frames))
-    → ((shown_frames new.frames).maps f == 0) ≡ false → IfSome o (λ f. view new ≡ view_drop f s (view old))
-kept-view old new s f same lists swap None is frames kept = no-some f is
-kept-view old new s f same lists swap (Some g) is frames kept =
-    view-by old new (with_frame_slot g None (shown_frames old.frames)) old.lists (given_back s (with_find s None (shown_swap old.swap))) same
-    frames lists swap
-    ∙ drop-kept (shown_frames old.frames) old.lists (table_of old) old.spaces old.anons (shown_swap old.swap) g s
-    (sym (ap (λ (F : ShownFrames). F.maps g == 0) frames) ∙ ap (λ f. (shown_frames new.frames).maps f == 0) (same-some g f is) ∙ kept)
+-- what the frame is then, freed or not
+abbrev pub after_uncached : ℕ → Bool → View → View
+after_uncached f gone v = cond gone (view_freed f v) v
 
-pub freed-view : (old new : Mem) (mid : ShownFrames) (s : Slot) (f : ℕ) → SameRest old new → new.lists ≡ without_frame f old.lists
-    → shown_swap new.swap ≡ given_back s (with_find s None (shown_swap old.swap)) → shown_frames new.frames ≡ record mid { free = f ∷ mid.free }
-    → (o : Option ℕ) → o ≡ Some f → IfSome o (λ f. mid ≡ with_frame_slot f None (shown_frames old.frames))
-    → (mid.maps f == 0) ≡ true → IfSome o (λ f. view new ≡ view_drop f s (view old))
-freed-view old new mid s f same lists swap frames None is between gone = no-some f is
-freed-view old new mid s f same lists swap frames (Some g) is between gone =
+pub drop-by : (f : ℕ) (s : Slot) (v : View) (gone back : Bool) → after_uncached f gone (uncached f s v back) ≡ dropped f s v gone back
+drop-by f s v true back = freed-after f s v back
+drop-by f s v false back = kept-after f s v back
+
+pub dropped-view : (old mid new : Mem) (s : Slot) (f : ℕ) → SameRest old mid → mid.lists ≡ old.lists
+    → shown_swap mid.swap ≡ given_back s (with_find s None (shown_swap old.swap))
+    → (o : Option ℕ) → o ≡ Some f → IfSome o (λ f. shown_frames mid.frames ≡ with_frame_slot f None (shown_frames old.frames))
+    → (gone : Bool) → ((shown_frames mid.frames).maps f == 0) ≡ gone → view new ≡ after_uncached f gone (view mid)
+    → IfSome o (λ f. view new ≡ view_drop f s (view old))
+dropped-view old mid new s f same lists swap None is frames gone test left = no-some f is
+dropped-view old mid new s f same lists swap (Some g) is frames gone test left =
     let one : f ≡ g = sym (same-some g f is) in
-    view-by old new (record (with_frame_slot g None (shown_frames old.frames)) { free = g ∷ (shown_frames old.frames).free })
-    (without_frame g old.lists)
-    (given_back s (with_find s None (shown_swap old.swap))) same
-    (frames ∙ (λ i. record (between i) { free = one i ∷ (between i).free })) (lists ∙ ap (λ f. without_frame f old.lists) one) swap
-    ∙ drop-freed (shown_frames old.frames) old.lists (table_of old) old.spaces old.anons (shown_swap old.swap) g s
-    (sym (ap (λ (F : ShownFrames). F.maps g == 0) between) ∙ ap (λ f. mid.maps f == 0) (sym one) ∙ gone)
+    left ∙ ap (λ f. after_uncached f gone (view mid)) one
+    ∙ ap (after_uncached g gone) (view-by old mid (with_frame_slot g None (shown_frames old.frames)) old.lists
+    (given_back s (with_find s None (shown_swap old.swap))) same frames lists swap
+    ∙ uncached-is (shown_frames old.frames) (parts_of old) (shown_swap old.swap) g s)
+    ∙ drop-by g s (view old) gone ((shown_swap old.swap).entries s == 0)
+    ∙ ap (λ b. dropped g s (view old) b ((shown_swap old.swap).entries s == 0))
+    (sym (sym (ap (λ (F : ShownFrames). F.maps g == 0) frames) ∙ ap (λ f. (shown_frames mid.frames).maps f == 0) (sym one) ∙ test))

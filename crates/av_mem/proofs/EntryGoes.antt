@@ -13,7 +13,8 @@ use Rattle.av_plain.specs.Event.{Event, Noted, Zapped, after_all, after_note, af
 use Rattle.av_plain.specs.Ledger.{Entry, InFrame, InSlot, Ledger, Setting, Zero, Key, entry, frame_at, is_orphan as is_orphan_in, is_unmapped as is_unmapped_in, map_count, names_frame, names_slot, same_slot, slot_of}
 use Rattle.av_plain.specs.Ledger as in_ledger
 use Rattle.av_plain.specs.Sound.{IsSoundBut, is_there}
-use Rattle.av_plain.specs.Stands.{Pte as Plain, LedgerStands, View, entry_of, free_of}
+use Rattle.av_plain.specs.Areas.{Items}
+use Rattle.av_plain.specs.Stands.{ItemsAre, Pte as Plain, LedgerStands, View, entry_of, free_of}
 use Rattle.av_plain.specs.Zap.{keys_in, orphan_drop, slot_behind_key, zap_of, zaps_of}
 use Rattle.av_plain.proofs.Ledger.{how_many-found}
 use Rattle.av_plain.proofs.Sound.Counts.{same-itself, slot-itself}
@@ -32,9 +33,9 @@ use Rattle.av_swap_laws.proofs.From.{cached-in_range, cached-there}
 use Rattle.av_swap_laws.proofs.Zap.{zap-frame, zap-slot, zap-zero}
 use Rattle.av_mem.specs.declared.mem.Mem.{Mem}
 use Rattle.av_swap_laws.proofs.Parts.{if-some, none-some}
-use Rattle.av_swapcache.specs.Swap.{shown as shown_swap}
 use Rattle.av_mem.specs.Entries.{DropsOrphan, HasEntry, IsWithin, Table, is_orphan, is_unmapped, slot_behind, slot_behind_entry, view_less, without_pages}
-use Rattle.av_mem.specs.Mem.{SoundLedger, frame_count, plain, setting_by, view}
+use Rattle.av_mem.specs.Mem.{Sizes, SoundLedger, frame_count, plain, setting_by, sizes_of, view}
+use Rattle.av_mem.proofs.ItemLaws.{items-drop, items-zap-frame, items-zap-slot, items-zap-zero}
 use Rattle.av_mem.proofs.EntryViews.{frame_less, slot_less}
 use Rattle.av_mem.proofs.PagesGone.{page-one}
 use Rattle.av_mem.proofs.ZapRange.{one-page}
@@ -105,7 +106,7 @@ pub record InUse (count : ℕ) (v : View) (f : ℕ) : Type 0 where
   pub some : 0 < v.maps f
   pub unfree : is_in f v.free ≡ false
 
-module _ (m : Setting) (listed room : ℕ) (v : View) (table : Table) (l : Ledger) (h : SoundLedger m listed room (by_table table v) l)
+module _ (m : Setting) (sizes : Sizes) (v : View) (table : Table) (l : Ledger) (h : SoundLedger m sizes (by_table table v) l)
     (p page : ℕ) where
   -- its frame is in use
   frame-used : (f : ℕ) (seen : Bool) → entry l (p, page) ≡ Some (InFrame f seen) → InUse m.frames v f
@@ -168,6 +169,15 @@ module _ (m : Setting) (listed room : ℕ) (v : View) (table : Table) (l : Ledge
     sound : IsSoundBut m (excuse_of (slot_behind_key l (entry l k))) gone
     sound = taken-kept m l k h.sound
 
+    -- a merged frame that is free has no items
+    items-at : (e : Entry) → entry l k ≡ Some e → (items : Items) → ItemsAre v l items → ItemsAre (view_zap p page e (by_table table v)) gone items
+    items-at Zero is items are = items-zap-zero m (by_table table v) l p page h.sound.in_order h.parts is items are
+    items-at (InFrame f seen) is items are = items-zap-frame m (by_table table v) l p page h.sound.in_order h.parts f seen is items are
+    items-at (InSlot s) is items are = items-zap-slot m (by_table table v) l p page h.sound.in_order h.parts s is items are
+
+    items-less : (items : Items) → ItemsAre v l items → ItemsAre less gone items
+    items-less items are = subst (λ u. ItemsAre u gone items) (zap-by p page t.entry v table) (items-at t.entry at items are)
+
     once : AreOnce gone
     once = once-of m _ gone sound
 
@@ -204,12 +214,14 @@ module _ (m : Setting) (listed room : ℕ) (v : View) (table : Table) (l : Ledge
       stands : LedgerStands m (by_table left w) (after_all l events)
       notes : now ≡ before ++ notes_of events
       free : ChoosesAll m None l events (free_of v) (free_of w)
+      items : (items : Items) → ItemsAre v l items → ItemsAre w (after_all l events) items
 
     lone : (w : View) (before now : List Note) → w ≡ less → now ≡ before → Goes w before now (Zapped k ∷ [])
     lone w before now same notes = record {
       stands = subst (λ u. LedgerStands m (by_table left u) gone) (sym same) stands;
       notes = notes ∙ sym (append-nil before);
       free = (free_of less, chosen, ap free_of same);
+      items = λ items are. subst (λ u. ItemsAre u gone items) (sym same) (items-less items are);
     }
 
     module _ (s : Slot) (f : ℕ) (found : less.find s ≡ Some f) where
@@ -237,6 +249,8 @@ module _ (m : Setting) (listed room : ℕ) (v : View) (table : Table) (l : Ledge
             ap free_of same,
           ),
         );
+        items = λ items are. subst (λ u. ItemsAre u (after_note (Dropped s) gone) items) (drop-by f s less left ∙ ap (by_table left) (sym same))
+            (items-drop gone f s once cached m (by_table left less) stands items (items-less items are));
       }
 
     settled : (w : View) (before now : List Note) (s : Slot) → DropsOrphan s less w before now → (b : Bool) → is_orphan less s ≡ b
@@ -269,9 +283,10 @@ module _ (m : Setting) (listed room : ℕ) (v : View) (table : Table) (l : Ledge
 
     -- the same of the range that the page is
     pub one-goes : (w : View) (before now : List Note) (o : Option Slot) → slot_behind v (Some t) ≡ o → Settles o less w before now
-        → SoundLedger m listed room (by_table (without_pages p page 1 table) w) (after_all l (zaps_of l (keys_in l p page 1)))
+        → SoundLedger m sizes (by_table (without_pages p page 1 table) w) (after_all l (zaps_of l (keys_in l p page 1)))
         × (now ≡ before ++ notes_of (zaps_of l (keys_in l p page 1)))
         × ChoosesAll m None l (zaps_of l (keys_in l p page 1)) (free_of v) (free_of w)
+        × ((items : Items) → ItemsAre v l items → ItemsAre w (after_all l (zaps_of l (keys_in l p page 1))) items)
     one-goes w before now o is settles =
         let g = subst (Goes w before now) (sym (one-page p l page t.entry h.sound.in_order at)) (goes w before now o is settles) in (
           record {
@@ -280,10 +295,12 @@ module _ (m : Setting) (listed room : ℕ) (v : View) (table : Table) (l : Ledge
             parts = subst (λ (tables : Table). LedgerStands m (by_table tables w) (after_all l (zaps_of l (keys_in l p page 1))))
                 (page-one table p page) g.stands;
             lists = h.lists;
+            items = h.items;
             swap = h.swap;
           },
           g.notes,
           g.free,
+          g.items,
         )
 
 -- ---- the memory system's
@@ -292,14 +309,11 @@ module _ (k : Mem) (entry : Pte) (h : HasEntry k entry) where
   abbrev m : Setting
   m = setting_by h.device k
 
-  abbrev room : ℕ
-  room = (shown_swap k.swap).frames
-
   at-page : (e : Plain) → plain entry ≡ Some e → in_ledger.entry h.ledger (h.process, h.page) ≡ Some e.entry
   at-page e is = sym (h.stands.parts.tables.entries h.process h.page) ∙ ap entry_of (h.there ∙ is)
 
   pub in-use : (f : ℕ) (write seen : Bool) → entry ≡ Here f write seen → InUse (frame_count k) (view k) f
-  in-use f write seen is = frame-used m k.lists.frames room (view k) h.table h.ledger h.stands h.process h.page f seen (at-page _ (ap plain is))
+  in-use f write seen is = frame-used m (sizes_of k) (view k) h.table h.ledger h.stands h.process h.page f seen (at-page _ (ap plain is))
 
   pub entry-within : IsWithin (view k) (plain entry)
   entry-within = by entry refl
@@ -311,7 +325,7 @@ module _ (k : Mem) (entry : Pte) (h : HasEntry k entry) where
       by (Away s) is = tt
 
   pub named : (s : Slot) → entry ≡ Away s → 0 < (view k).entries s
-  named s is = slot-named m k.lists.frames room (view k) h.table h.ledger h.stands h.process h.page s (at-page _ (ap plain is))
+  named s is = slot-named m (sizes_of k) (view k) h.table h.ledger h.stands h.process h.page s (at-page _ (ap plain is))
 
   -- where the slot behind it is cached, the frame is in use still
   pub settles-used : (s : Slot) → slot_behind (view k) (plain entry) ≡ Some s
@@ -322,4 +336,4 @@ module _ (k : Mem) (entry : Pte) (h : HasEntry k entry) where
           → IfSome ((view_less o (view k)).find s) (λ f. is_in f (view_less o (view k)).free ≡ false)
       by None there is = absurd (none-some s is)
       by (Some t) there is = if-some ((view_less (Some t) (view k)).find s) _
-          (cached-used m k.lists.frames room (view k) h.table h.ledger h.stands h.process h.page t there s)
+          (cached-used m (sizes_of k) (view k) h.table h.ledger h.stands h.process h.page t there s)

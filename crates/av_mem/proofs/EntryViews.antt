@@ -12,8 +12,9 @@ use Rattle.av_plain.specs.Event.{without}
 use Rattle.av_plain.specs.Ledger.{InFrame, InSlot}
 use Rattle.av_plain.specs.Stands.{Pte as Plain, View}
 use Rattle.av_swap_laws.specs.Steps.{view_cleared, view_freed, view_given_back, with_at_slot}
+use Rattle.av_rmap.specs.Items.{shown as shown_items}
 use Rattle.av_swapcache.specs.Swap.{Shown as ShownSwap, count_of, given_back, same_slot, shown as shown_swap, with_entries}
-use Rattle.av_mem.specs.Entries.{view_less}
+use Rattle.av_mem.specs.Entries.{view_less, view_settled}
 use Rattle.av_mem.specs.Mem.{view, view_of_parts}
 use Rattle.av_mem.specs.declared.mem.Mem.{Mem}
 use Rattle.av_mem.proofs.StepLaws.{SameRest, lists-without, view-by}
@@ -26,53 +27,32 @@ frame_less f v free =
     let left : View = record (view_cleared 0 0 v) { maps = with_at f (v.maps f - 1) v.maps } in
     record (cond free (view_freed f left) left) { table = v.table }
 
-module _ (old new : Mem) (f : ℕ) (seen write : Bool) (same : SameRest old new) (swap : shown_swap new.swap ≡ shown_swap old.swap)
-    (mid : ShownFrames) (down : mid ≡ with_maps f ((shown_frames old.frames).maps f - 1) (shown_frames old.frames))
-    (some : 0 < (shown_frames old.frames).maps f) where
-  abbrev there : Option Plain
-  there = Some (record { entry = InFrame f seen; write = write })
+-- one entry fewer names it, and it is free where this says so
+abbrev with_one_less : ℕ → View → View
+with_one_less f v = record v { maps = with_at f (v.maps f - 1) v.maps }
 
-  left : mid.maps f ≡ (shown_frames old.frames).maps f - 1
-  left = ap (λ (F : ShownFrames). F.maps f) down
-      ∙ ap (λ b. cond b ((shown_frames old.frames).maps f - 1) ((shown_frames old.frames).maps f)) (itself f)
-    where
-      itself : (f : ℕ) → (f == f) ≡ true
-      itself f = grind (arith, nat_tests)
+abbrev settled_by : ℕ → View → Bool → View
+settled_by f v b = cond b (view_freed f v) v
 
-  slot-same : mid.slot f ≡ (shown_frames old.frames).slot f
-  slot-same = ap (λ (F : ShownFrames). F.slot f) down
+-- that was the last, and it is not cached; or it stays in use
+pub frame-less : (v : View) (f : ℕ) (seen write : Bool) → 0 < v.maps f
+    → view_settled f (record v { maps = with_at f (v.maps f - 1) v.maps }) ≡ view_less (Some (record { entry = InFrame f seen; write = write })) v
+frame-less v f seen write some = ap (λ n. settled_by f (with_one_less f v) (n == 0 && is_none (v.slot f))) left
+    ∙ ap (λ b. settled_by f (with_one_less f v) (b && is_none (v.slot f))) (last (v.maps f) some)
+    ∙ by (v.maps f == 1 && is_none (v.slot f))
+  where
+    left : with_at f (v.maps f - 1) v.maps f ≡ v.maps f - 1
+    left = ap (λ b. cond b (v.maps f - 1) (v.maps f)) (itself f)
+      where
+        itself : (f : ℕ) → (f == f) ≡ true
+        itself f = grind (arith, nat_tests)
 
-  -- that was the last, and it is not cached
-  pub frame-freed : new.lists ≡ without_frame f old.lists → shown_frames new.frames ≡ record mid { free = f ∷ mid.free }
-      → mid.maps f ≡ 0 → is_none (mid.slot f) ≡ true → view new ≡ view_less there (view old)
-  frame-freed lists frames none uncached =
-      view-by old new (record (with_maps f ((shown_frames old.frames).maps f - 1) (shown_frames old.frames)) {
-        free =
-            f ∷ (shown_frames old.frames).free;
-      })
-      (record { frames = old.lists.frames; active = without f old.lists.active; inactive = without f old.lists.inactive })
-      (shown_swap old.swap) same (frames ∙ ap (λ (F : ShownFrames). record F { free = f ∷ F.free }) down) (lists ∙ lists-without f old.lists) swap
-      ∙ sym (ap (frame_less f (view old)) test)
-    where
-      last : (n k : ℕ) → 0 < n → k ≡ n - 1 → k ≡ 0 → (n == 1) ≡ true
-      last n k h e z = grind (arith, nat_tests, h, e, z)
+    last : (n : ℕ) → 0 < n → (n - 1 == 0) ≡ (n == 1)
+    last n h = grind (arith, nat_tests, h)
 
-      test : ((shown_frames old.frames).maps f == 1 && is_none ((shown_frames old.frames).slot f)) ≡ true
-      test = λ i. last _ _ some left none i && (ap is_none (sym slot-same) ∙ uncached) i
-
-  -- another entry names it, or it is cached
-  pub frame-kept : new.lists ≡ old.lists → shown_frames new.frames ≡ mid
-      → ((mid.maps f == 0) && is_none (mid.slot f)) ≡ false → view new ≡ view_less there (view old)
-  frame-kept lists frames used =
-      view-by old new (with_maps f ((shown_frames old.frames).maps f - 1) (shown_frames old.frames)) old.lists (shown_swap old.swap) same
-      (frames ∙ down) lists swap
-      ∙ sym (ap (frame_less f (view old)) test)
-    where
-      more : (n k : ℕ) → 0 < n → k ≡ n - 1 → (n == 1) ≡ (k == 0)
-      more n k h e = grind (arith, nat_tests, h, e)
-
-      test : ((shown_frames old.frames).maps f == 1 && is_none ((shown_frames old.frames).slot f)) ≡ false
-      test = (λ i. more _ _ some left i && is_none (sym slot-same i)) ∙ used
+    by : (b : Bool) → settled_by f (with_one_less f v) b ≡ frame_less f v b
+    by true = refl
+    by false = refl
 
 -- what the code asks of it
 pub none-by : {X : Type 0} (o : Option X) (b : Bool) → is_some o ≡ not b → is_none o ≡ b
@@ -147,7 +127,7 @@ module _ (old new : Mem) (s : Slot) (write : Bool) where
 
   -- the parts, with these slots
   abbrev with_slots : (ℕ → Slots) → View
-  with_slots slots = view_of_parts (shown_frames old.frames) old.lists (view old).table old.spaces old.anons
+  with_slots slots = view_of_parts (shown_frames old.frames) old.lists (shown_items old.items) (view old).table old.spaces old.anons
       (record (with_entries s (h.entries s - 1) h) { slots = slots })
 
   pub slot-down : SameRest old new → new.frames ≡ old.frames → new.lists ≡ old.lists → 0 < h.entries s

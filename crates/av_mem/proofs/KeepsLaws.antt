@@ -23,7 +23,7 @@ use Rattle.av_mem.specs.Steps.{KeepsSwap}
 
 -- the state of these memories, this ledger, and areas, anon_vmas and homes
 abbrev pub state_by : Mem → World → Rmap → Ledger → State
-state_by k w r l = record { world = w; ledger = l; free = free_of (view k); areas = r.areas; anons = r.anons; homes = r.homes }
+state_by k w r l = record { world = w; ledger = l; free = free_of (view k); areas = r.areas; anons = r.anons; homes = r.homes; items = r.items }
 
 pub keeps-serves : (d : Device) (k : Mem) (s : State) → Keeps d k s → Serves d None k s.world (rmap_of s) s.ledger
 keeps-serves d k s keeps = let stands = keeps.stands in record {
@@ -31,8 +31,9 @@ keeps-serves d k s keeps = let stands = keeps.stands in record {
     ledger = stands.parts.ledger;
     bytes = stands.parts.bytes;
     headers = stands.parts.headers;
-    covered = record { frames = stands.reach; slots = stands.slots };
+    covered = record { frames = stands.reach; slots = stands.slots; merged = stands.merged };
     homes = stands.homes;
+    items = stands.items;
   };
   areas = stands.parts.areas;
   are = stands.areas;
@@ -43,6 +44,7 @@ keeps-serves d k s keeps = let stands = keeps.stands in record {
   areas_fit = stands.sound.areas_fit;
   free = subst (λ (free : Free). ListsAll (setting_by d k) s.ledger free) (sym stands.free) stands.lists;
   lists = keeps.lists;
+  items = keeps.items;
   tables = keeps.tables;
   fit = keeps.anons;
   swap = keeps.swap;
@@ -61,10 +63,13 @@ serves-keeps d k w r l sound serves = record {
     areas = serves.are;
     anons = serves.anons;
     homes = serves.held.homes;
+    items = serves.held.items;
     reach = serves.held.covered.frames;
     slots = serves.held.covered.slots;
+    merged = serves.held.covered.merged;
   };
   lists = serves.lists;
+  items = serves.items;
   tables = serves.tables;
   anons = serves.fit;
   swap = serves.swap;
@@ -98,10 +103,13 @@ keeps-whenever sizes pages n n' k s h = let stands = h.stands in record {
     areas = stands.areas;
     anons = stands.anons;
     homes = stands.homes;
+    items = stands.items;
     reach = stands.reach;
     slots = stands.slots;
+    merged = stands.merged;
   };
   lists = h.lists;
+  items = h.items;
   tables = h.tables;
   anons = h.anons;
   swap = fits-whenever sizes pages n n' None k h.swap;
@@ -118,6 +126,7 @@ serves-whenever sizes pages n n' closing k w r l h = record {
     headers = h.held.headers;
     covered = h.held.covered;
     homes = h.held.homes;
+    items = h.held.items;
   };
   areas = h.areas;
   are = h.are;
@@ -128,6 +137,7 @@ serves-whenever sizes pages n n' closing k w r l h = record {
   areas_fit = h.areas_fit;
   free = h.free;
   lists = h.lists;
+  items = h.items;
   tables = h.tables;
   fit = h.fit;
   swap = fits-whenever sizes pages n n' closing k h.swap;

@@ -9,15 +9,15 @@ use Rattle.av_plain.specs.Choice.{ChoosesAll}
 use Rattle.av_plain.specs.Device.{Device, setting_of}
 use Rattle.av_plain.specs.Event.{Event, after_all, notes_of}
 use Rattle.av_plain.specs.Ledger.{Ledger}
-use Rattle.av_plain.specs.Stands.{Pte as Plain, View, entry_of, free_of}
+use Rattle.av_plain.specs.Areas.{Items}
+use Rattle.av_plain.specs.Stands.{ItemsAre, Pte as Plain, View, entry_of, free_of}
 use Rattle.av_plain.specs.Zap.{keys_in, zaps_of}
 use Rattle.av_plain.proofs.Access.{after_all-append, chooses-append, notes_of-append}
 use Rattle.av_plain.proofs.Zap.{range-done}
 use Rattle.av_trace.specs.declared.note.Note.{Note}
-use Rattle.av_swapcache.specs.Swap.{shown as shown_swap}
 use Rattle.av_mem.specs.declared.mem.Mem.{Mem}
 use Rattle.av_mem.specs.Entries.{HasLedgerBy, LetsGo, Table, slot_behind, view_less, without_pages}
-use Rattle.av_mem.specs.Mem.{SoundLedger, plain, setting_by, view}
+use Rattle.av_mem.specs.Mem.{Sizes, SoundLedger, plain, setting_by, sizes_of, view}
 use Rattle.av_mem.specs.Steps.{KeepsParts, KeepsRest}
 use Rattle.av_mem.proofs.EntryGoes.{Settles, by_table, one-goes}
 use Rattle.av_mem.proofs.StayLaws.{parts-then}
@@ -40,6 +40,7 @@ rest-none k = record {
     processes = refl;
     count = refl;
     lists = refl;
+    items = refl;
     swap = record { frames = refl; on = refl; bad = refl; closing = refl; priority = refl };
   };
   bytes = refl;
@@ -54,6 +55,7 @@ rest-tables k tables same = record {
     processes = same;
     count = refl;
     lists = refl;
+    items = refl;
     swap = record { frames = refl; on = refl; bad = refl; closing = refl; priority = refl };
   };
   bytes = refl;
@@ -61,12 +63,13 @@ rest-tables k tables same = record {
 }
 
 pub ledger-same : (d : Device) (old new : Mem) (v : View) (l : Ledger) → KeepsParts old new
-    → SoundLedger (setting_by d old) old.lists.frames (shown_swap old.swap).frames v l
-    → SoundLedger (setting_by d new) new.lists.frames (shown_swap new.swap).frames v l
-ledger-same d old new v l same h =
-    subst (λ (n : ℕ). SoundLedger (setting_of n d) new.lists.frames (shown_swap new.swap).frames v l) (sym same.count)
-    (subst (λ (listed : ℕ). SoundLedger (setting_by d old) listed (shown_swap new.swap).frames v l) (sym same.lists)
-    (subst (λ (room : ℕ). SoundLedger (setting_by d old) old.lists.frames room v l) (sym same.swap.frames) h))
+    → SoundLedger (setting_by d old) (sizes_of old) v l
+    → SoundLedger (setting_by d new) (sizes_of new) v l
+ledger-same d old new v l same h = subst (λ (n : ℕ). SoundLedger (setting_of n d) (sizes_of new) v l) (sym same.count)
+    (subst (λ (sizes : Sizes). SoundLedger (setting_by d old) sizes v l) (sym sizes) h)
+  where
+    sizes : sizes_of new ≡ sizes_of old
+    sizes = λ i. record { lists = same.lists i; items = same.items i; swap = same.swap.frames i }
 
 -- ---- a range without entries
 
@@ -77,6 +80,7 @@ none-go d k table l p from n notes h none = record {
       (subst (λ (tables : Table). HasLedgerBy d k tables l) (sym (pages-none table p from n none)) h);
   notes = subst (λ es. notes ≡ notes ++ notes_of es) (sym empty) (sym (append-nil notes));
   free = subst (λ es. ChoosesAll (setting_by d k) None l es (free_of (view k)) (free_of (view k))) (sym empty) refl;
+  items = subst (λ es. (items : Items) → ItemsAre (view k) l items → ItemsAre (view k) (after_all l es) items) (sym empty) (λ items are. are);
 }
   where
     empty : zaps_of l (keys_in l p from n) ≡ []
@@ -102,6 +106,8 @@ more-go d a b c table l p from i j first second third h same one two = record {
   free = subst (λ es. ChoosesAll (setting_by d a) None l es (free_of (view a)) (free_of (view c))) (sym split)
       (chooses-append (setting_by d a) None l gone rest (free_of (view a)) (free_of (view b)) (free_of (view c)) one.free
       (subst (λ (n : ℕ). ChoosesAll (setting_of n d) None (after_all l gone) rest (free_of (view b)) (free_of (view c))) same.count two.free));
+  items = λ items are. subst (λ es. ItemsAre (view c) (after_all l es) items) (sym split)
+      (subst (λ (now : Ledger). ItemsAre (view c) now items) (sym (after_all-append l gone rest)) (two.items items (one.items items are)));
 }
   where
     gone : List Event
@@ -137,18 +143,20 @@ lets-go d old new entry l table p page before now same h there o = by (plain ent
         let g = none-go d old table l p page 1 before h (λ other inside. ap (table p) (within-one page other inside) ∙ none) in
         record {
           stands = ledger-same d old new (by_table (without_pages p page 1 table) (view new)) (after_all l (zaps_of l (keys_in l p page 1))) same
-              (subst (λ v. SoundLedger (setting_by d old) old.lists.frames (shown_swap old.swap).frames (by_table (without_pages p page 1 table) v)
+              (subst (λ v. SoundLedger (setting_by d old) (sizes_of old) (by_table (without_pages p page 1 table) v)
               (after_all l (zaps_of l (keys_in l p page 1)))) (sym kept.0) g.stands);
           notes = kept.1 ∙ g.notes;
           free = subst (λ v. ChoosesAll (setting_by d old) None l (zaps_of l (keys_in l p page 1)) (free_of (view old)) (free_of v)) (sym kept.0)
               g.free;
+          items = λ items are. subst (λ v. ItemsAre v (after_all l (zaps_of l (keys_in l p page 1))) items) (sym kept.0) (g.items items are);
         }
     by (Some t) there behind settles =
-        let g = one-goes (setting_by d old) old.lists.frames (shown_swap old.swap).frames (view old) table l h p page t there (view new) before now
+        let g = one-goes (setting_by d old) (sizes_of old) (view old) table l h p page t there (view new) before now
         o behind
         settles in
         record {
           stands = ledger-same d old new (by_table (without_pages p page 1 table) (view new)) (after_all l (zaps_of l (keys_in l p page 1))) same g.0;
           notes = g.1;
           free = g.2;
+          items = g.3;
         }

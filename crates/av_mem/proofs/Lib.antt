@@ -13,6 +13,8 @@ pub mod ChainLaws
 pub mod EntryViews
 pub mod EntryComes
 pub mod EntryCounts
+pub mod ItemLaws
+pub mod LockedLaws
 pub mod PagesGone
 pub mod ZapRange
 pub mod EntryGoes

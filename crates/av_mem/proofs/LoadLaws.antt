@@ -14,6 +14,7 @@ use Rattle.av_plain.specs.Event.{without}
 use Rattle.av_plain.proofs.Sound.Counts.{same-itself}
 use Rattle.av_swap_laws.specs.Steps.{view_map}
 use Rattle.av_swapcache.specs.Calls.{IsLoaded}
+use Rattle.av_rmap.specs.Items.{shown as shown_items}
 use Rattle.av_swapcache.specs.Swap.{Shown as ShownSwap, count_of, given_back, same_slot, shown as shown_swap, with_entries, with_find}
 use Rattle.av_mem.specs.Cache.{HasLoaded}
 use Rattle.av_mem.specs.Mem.{view, view_of_parts}
@@ -74,12 +75,12 @@ cached-stays s f n h cached = ap (λ slots. record (with_entries s n h) { slots 
     by true e = λ i k. with_at-same s.area (h.slots s.area) h.slots refl k i
     by false e = cc
 
-pub mapped-view : (old new : Mem) (p page f : ℕ) (s : Slot) → new.lists ≡ old.lists → new.spaces ≡ old.spaces → new.anons ≡ old.anons
+pub mapped-view : (old new : Mem) (p page f : ℕ) (s : Slot) → new.lists ≡ old.lists → new.items ≡ old.items → new.spaces ≡ old.spaces → new.anons ≡ old.anons
     → (shown_swap old.swap).find s ≡ Some f
     → entry_at new.tables ≡ with_entry p page (Here f false false) (entry_at old.tables)
     → shown_frames new.frames ≡ with_maps f ((shown_frames old.frames).maps f + 1) (shown_frames old.frames)
     → shown_swap new.swap ≡ given_back s (with_entries s ((shown_swap old.swap).entries s - 1) (shown_swap old.swap))
     → view new ≡ view_map p page f s (view old)
-mapped-view old new p page f s lists spaces anons cached tables frames swap = λ i. view_of_parts (frames i) (lists i)
+mapped-view old new p page f s lists items spaces anons cached tables frames swap = λ i. view_of_parts (frames i) (lists i) (shown_items (items i))
     (plain_set (entry_at old.tables) (entry_at new.tables) p page (Here f false false) tables i) (spaces i) (anons i)
     ((swap ∙ cached-stays s f ((shown_swap old.swap).entries s - 1) (shown_swap old.swap) cached) i)

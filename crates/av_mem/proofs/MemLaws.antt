@@ -29,9 +29,11 @@ use Rattle.av_plain.specs.Ledger.{Ledger, Setting, Entry, Zero as ZeroEntry, InF
 use Rattle.av_plain.specs.Device.{Device, headers_of, setting_of}
 use Rattle.av_plain.specs.Choice.{Free, ListsAll, ListsFree, no_slots}
 use Rattle.av_plain.specs.Report.{AreApart, prot_in, range_of}
-use Rattle.av_plain.specs.Stands.{View, Pte as Plain, entry_of, kin_of, prot_of, Holds, IsKept, IsKeptAt, IsClean}
+use Rattle.av_plain.specs.Stands.{View, Pte as Plain, entry_of, kin_of, prot_of, IsKept, IsKeptAt, IsClean}
+use Rattle.av_plain.specs.World.{Holds}
 use Rattle.av_plain.specs.Transcript.{State, at_first}
-use Rattle.av_plain.proofs.Covered.{slots-first, sound-first}
+use Rattle.av_plain.proofs.Covered.{merged-first, slots-first, sound-first}
+use Rattle.av_rmap.specs.Items.{Item, Shown as ShownItems, none_merged, shown as shown_items}
 use Rattle.av_plain.proofs.Ledger.NoSwap.{itself, is_in-numbers}
 use Rattle.av_plain.proofs.FreeFrames.{first-lists_free}
 use Rattle.av_plain.proofs.Sound.{first-sound}
@@ -108,10 +110,10 @@ all_apart s rising p = by (areas_of s p) (rising p)
 -- ---- the view
 
 -- tables with the same entries are seen alike
-pub view_same : (old new : Mem) → entry_at new.tables ≡ entry_at old.tables → new.frames ≡ old.frames → new.lists ≡ old.lists
+pub view_same : (old new : Mem) → entry_at new.tables ≡ entry_at old.tables → new.frames ≡ old.frames → new.lists ≡ old.lists → new.items ≡ old.items
     → new.spaces ≡ old.spaces → new.anons ≡ old.anons → new.swap ≡ old.swap → view new ≡ view old
-view_same old new tables frames lists spaces anons swap =
-    λ i. view_of_parts (shown (frames i)) (lists i) (λ p page. plain (tables i p page)) (spaces i) (anons i) (shown_swap (swap i))
+view_same old new tables frames lists items spaces anons swap =
+    λ i. view_of_parts (shown (frames i)) (lists i) (shown_items (items i)) (λ p page. plain (tables i p page)) (spaces i) (anons i) (shown_swap (swap i))
 
 pub plain_set : (old new : ℕ → ℕ → Pte) (p page : ℕ) (e : Pte) → new ≡ with_entry p page e old
     → ◌≡◌ {A = ℕ → ℕ → Option Plain} (λ q o. plain (new q o)) (with_entry p page (plain e) (λ q o. plain (old q o)))
@@ -124,9 +126,9 @@ plain_set old new p page e is = λ k q o. (ap (λ f. plain (f q o)) is ∙ pushe
 -- an entry has been set
 pub entry_put_in : (old new : Mem) (p page : ℕ) (e : Pte) → entry_at new.tables ≡ with_entry p page e (entry_at old.tables)
     → new.frames ≡ old.frames →
-    new.lists ≡ old.lists → new.spaces ≡ old.spaces → new.anons ≡ old.anons → new.swap ≡ old.swap
+    new.lists ≡ old.lists → new.items ≡ old.items → new.spaces ≡ old.spaces → new.anons ≡ old.anons → new.swap ≡ old.swap
     → view new ≡ record (view old) { table = with_entry p page (plain e) (view old).table }
-entry_put_in old new p page e is frames lists spaces anons swap = λ i. view_of_parts (shown (frames i)) (lists i)
+entry_put_in old new p page e is frames lists items spaces anons swap = λ i. view_of_parts (shown (frames i)) (lists i) (shown_items (items i))
     (plain_set (entry_at old.tables) (entry_at new.tables) p page e is i) (spaces i) (anons i) (shown_swap (swap i))
 
 -- ---- no slot is cached
@@ -190,13 +192,13 @@ kept-nothing d v l (Some (InSlot s)) = at (frame_at l s)
 abbrev frames_free : List ℕ → Free
 frames_free frames = record { frames = frames; slots = no_slots }
 
-pub fresh-keeps : (d : Device) (frames : Store) (lists : Lists) (tables : ProcessTables) (spaces : AllSpaces) (anons : AnonSet)
+pub fresh-keeps : (d : Device) (frames : Store) (lists : Lists) (items : List (List Item)) (tables : ProcessTables) (spaces : AllSpaces) (anons : AnonSet)
     (swap : SwapStore) (n : ℕ)
-    → shown frames ≡ fresh_frames n → lists ≡ record { frames = n; active = []; inactive = [] }
+    → shown frames ≡ fresh_frames n → lists ≡ record { frames = n; active = []; inactive = [] } → shown_items items ≡ none_merged n
     → ((p : ℕ) → has tables p ≡ false) → spaces.processes ≡ []
     → ((number : ℕ) → area_of spaces.areas number ≡ None) → family anons ≡ nobody → ((v : ℕ) → spans_of anons v ≡ []) → shown_swap swap ≡ fresh_swap n
-    → Keeps d (record { frames = frames; lists = lists; tables = tables; spaces = spaces; anons = anons; swap = swap }) (at_first (setting_of n d))
-fresh-keeps d frames lists tables spaces anons swap n is unlisted none empty unused nobodies unspanned blank = record {
+    → Keeps d (record { frames = frames; lists = lists; items = items; tables = tables; spaces = spaces; anons = anons; swap = swap }) (at_first (setting_of n d))
+fresh-keeps d frames lists items tables spaces anons swap n is unlisted unmerged none empty unused nobodies unspanned blank = record {
   stands = record {
     over = record { sizes = refl; headers = refl };
     sound = first-sound m;
@@ -227,6 +229,7 @@ fresh-keeps d frames lists tables spaces anons swap n is unlisted none empty unu
         number = ap (length) empty;
         apart = λ p. subst (λ (s : Spaces). IfSome (ranges_of s p) AreApart) (sym empty) tt;
         covers = λ p page. ap (λ (s : Spaces). prot_of (ranges_of s p) page) empty;
+        flags = λ p page. ap (λ (s : Spaces). option_map (λ (area : Area). area.flags) (pages_of s p page)) empty;
       };
       bytes = record { kept = λ p page. tt; clean = λ s a b. tt };
       headers = λ k. tt;
@@ -240,10 +243,13 @@ fresh-keeps d frames lists tables spaces anons swap n is unlisted none empty unu
       chains = λ p page. tt;
     };
     homes = λ f. ap (λ (s : Shown). s.home f) is;
+    items = λ f. ap (λ (x : ShownItems). x.items f) unmerged;
     reach = sound-first m;
     slots = slots-first m;
+    merged = merged-first m;
   };
   lists = ap (λ (ls : Lists). ls.frames) unlisted ∙ sym (ap (λ (s : Shown). s.count) is);
+  items = ap (λ (x : ShownItems). x.frames) unmerged ∙ sym (ap (λ (s : Shown). s.count) is);
   tables = λ p. none p ∙ sym (ap (λ (s : Spaces). is_some (ranges_of s p)) empty);
   anons = record {
     order = in_order;

@@ -8,7 +8,7 @@ use Rattle.av_base.specs.declared.slot.Slot.{Slot}
 use Rattle.av_swapdev.specs.Header.{Layout, header_of}
 use Rattle.av_swapdev.specs.declared.header.Header.{Header}
 use Rattle.av_trace.specs.declared.note.Note.{Note}
-use Rattle.av_trace.specs.declared.note.Note.TheVariants.{Aged, Copied, Dropped, Failed, Kept, Loaded, Mapped, New, Put, Started, Unmapped, Written, Zeroed}
+use Rattle.av_trace.specs.declared.note.Note.TheVariants.{Aged, Copied, Dropped, Failed, Joined, Kept, Loaded, Mapped, Moved, New, Put, Shared, Started, Unmapped, Written, Zeroed}
 use Rattle.av_vma.specs.Pages.{pages_in}
 use Rattle.av_vma.specs.declared.area.Area.{Area}
 use Rattle.av_plain.specs.Areas.{Anons, Areas, Rmap, chain_by, rmap_after_note}
@@ -129,6 +129,7 @@ module _ (old new : Mem) (parts : KeepsParts old new) where
         free = subst (λ m. ListsAll m (after l e) (free_of (view new))) (sym is)
             (lists-stay m closing l e (free_of (view old)) (free_of (view new)) sorted lawful h.there h.areas_fit step.chosen h.free);
         lists = lists-fit h.lists;
+        items = parts.items ∙ h.items ∙ sym parts.count;
         tables = tables-fit h.tables;
         fit = anons-fit h.fit;
         swap = swap-fits d d' closing same h.swap;
@@ -161,6 +162,9 @@ same-areas-of l (Failed s) r h = (refl, refl)
 same-areas-of l (Dropped s) r h = (refl, refl)
 same-areas-of l (Kept f c) r h = (refl, refl)
 same-areas-of l (Aged f) r h = (refl, refl)
+same-areas-of l (Shared f) r h = (refl, refl)
+same-areas-of l (Joined p a f) r h = (refl, refl)
+same-areas-of l (Moved from to) r h = (refl, refl)
 
 -- the memories, and the areas, anon_vmas and homes, are what the note makes of them
 pub serves-note : (old new : Mem) (d d' : Device) (closing : Option ℕ) (w w' : World) (r : Rmap) (l : Ledger) (note : Note) → KeepsParts old new

@@ -13,10 +13,11 @@ module _ {old new : Mem} (parts : KeepsParts old new) where
 -- two steps
 pub parts-then : {a b c : Mem} → KeepsParts a b → KeepsParts b c → KeepsParts a c
 parts-then {c = c} first second = record {
-  stay = second.stay ∙ ap (λ (m : Mem). record m { frames = c.frames; tables = c.tables; lists = c.lists; swap = c.swap }) first.stay;
+  stay = second.stay ∙ ap (λ (m : Mem). record m { frames = c.frames; tables = c.tables; lists = c.lists; items = c.items; swap = c.swap }) first.stay;
   processes = second.processes ∙ first.processes;
   count = second.count ∙ first.count;
   lists = second.lists ∙ first.lists;
+  items = second.items ∙ first.items;
   swap = record {
     frames = second.swap.frames ∙ first.swap.frames;
     on = second.swap.on ∙ first.swap.on;

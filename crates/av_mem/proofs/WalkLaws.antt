@@ -1,5 +1,5 @@
 -- What a walk needs holds of whatever the memory system stands for, and what it finds are the ledger's keys of the frame, or of the slot.
-use Rattle.std.proofs.Common.{◌≡◌, ℕ, ◌<◌, ◌≤◌, Bool, true, false, cond, ◌||◌, T, List, [], ◌∷◌, length, map, filter, Option, Some, None, is_some, Result, Ok, Err, refl, sym, ap, ◌∙◌, arith}
+use Rattle.std.proofs.Common.{◌≡◌, ℕ, ◌+◌, ◌<◌, ◌≤◌, Bool, true, false, cond, ◌||◌, T, List, [], ◌∷◌, length, map, filter, Option, Some, None, is_some, Result, Ok, Err, refl, sym, ap, subst, ◌∙◌, arith}
 use Rattle.std.specs.Prelude.{IfOk, OnOk}
 use Rattle.std.proofs.lemmas.Bool.{false≢true}
 use Rattle.std.proofs.lemmas.Bool.Decides.{nat_tests}
@@ -19,10 +19,12 @@ use Rattle.av_anon.specs.Spans.{spans_of}
 use Rattle.av_spaces.specs.Spaces.{AllRising, AreNumbered, pages_of}
 use Rattle.av_spaces.proofs.Rising.{laid}
 use Rattle.av_rmap.specs.View.{AreApart, AreSpanned, View as Reach, view_with}
+use Rattle.av_rmap.specs.Items.{AreCovered, AreRootsApart, is_merged, looks_from_all}
 use Rattle.av_rmap.specs.Sorted.{AreRising, IsBefore}
 use Rattle.av_rmap.specs.Walk.{AreItsEntries, Key, looks_from, names_frame, names_slot, same_key}
 use Rattle.av_rmap.proofs.Counting.{keys-as-long}
 use Rattle.av_rmap.proofs.LinkedAreas.{spans-are-areas}
+use Rattle.av_rmap.proofs.MergedLemmas.{roots-apart}
 use Rattle.av_rmap.proofs.SortedLemmas.{below-before, once-there, rising-same}
 use Rattle.av_plain.specs.Device.{Device}
 use Rattle.av_plain.specs.Areas.{Rmap}
@@ -37,10 +39,10 @@ use Rattle.av_plain.proofs.Ledger.Order.{both_first, both_second}
 use Rattle.av_plain.proofs.Ledger.Walk.{all-listed, keys-filter, length-keys, passes}
 use Rattle.av_mem.specs.declared.mem.Mem.{Mem}
 use Rattle.av_mem.specs.Mem.{Keeps, Serves, view}
-use Rattle.av_mem.specs.Chains.{AreCounted, AreReached, reach}
-use Rattle.av_mem.specs.Walk.{areas_at}
+use Rattle.av_mem.specs.Chains.{AreCounted, AreReached, places_at_home, reach}
+use Rattle.av_mem.specs.Walk.{areas_at, areas_at_all}
 use Rattle.av_mem.proofs.MemLaws.{mapped_is, taken_has}
-use Rattle.av_mem.proofs.ReachLaws.{Reaches, SaysAs, are-reached, frame-says, passes-there, reaches-kept, reaches-served, slot-says}
+use Rattle.av_mem.proofs.ReachLaws.{Reaches, SaysAs, are-found, are-reached, are-roots, frame-says, passes-there, reaches-kept, reaches-served, slot-says}
 
 -- ---- the walk of the ledger rises
 
@@ -139,9 +141,19 @@ module _ (d : Device) (k : Mem) (s : State) (keeps : Keeps d k s) where
   in_order : T (is_sorted key_cmp s.ledger.entries)
   in_order = keeps.stands.sound.ledger.in_order
 
-  -- from its home each of the frame's entries is reached; without one it has none
-  pub covered : (f : ℕ) → AreReached k f
+  -- from its home each of the frame's entries is reached, where it isn't merged; without one it has none
+  pub covered : (f : ℕ) → is_merged ((view k).items f) ≡ false → AreReached k f
   covered = are-reached k (rmap_of s) s.ledger reaching
+
+  -- from its items, where it is, which are at roots
+  pub found-merged : AreNumbered k.spaces → (f : ℕ) → is_merged ((view k).items f) ≡ true
+      → AreCovered (reach k) (names_frame f) ((view k).items f)
+  found-merged numbered f is = subst (λ b. AreCovered (reach k) (names_frame f) (cond b ((view k).items f) (places_at_home ((view k).homes f)))) is
+      (are-found k (rmap_of s) s.ledger reaching f numbered)
+
+  pub roots-apart-of : (f : ℕ) → AreRootsApart (reach k) ((view k).items f)
+  roots-apart-of f = roots-apart (area_of k.spaces.areas) (family k.anons) (spans_of k.anons) (entry_at k.tables) ((view k).items f)
+      keeps.anons.order (are-roots k (rmap_of s) s.ledger reaching f)
 
   -- it finds no more than the frame's count
   pub frame-few : (f : ℕ) (keys : List Key) → AreItsEntries (reach k) (names_frame f) keys → length keys ≤ (view k).maps f
@@ -162,6 +174,11 @@ module _ (d : Device) (k : Mem) (s : State) (keeps : Keeps d k s) where
       by : (o : Option (ℕ × ℕ)) → looks_from (reach k) o ≡ areas_at k o
       by None = refl
       by (Some home) = spans-are-areas (area_of k.spaces.areas) (family k.anons) (spans_of k.anons) home.0 home.1 keeps.anons.order
+
+  pub looks-all : (items : List (ℕ × ℕ)) → looks_from_all (reach k) items ≡ areas_at_all k items
+  looks-all [] = refl
+  looks-all (x ∷ items) = λ i. spans-are-areas (area_of k.spaces.areas) (family k.anons) (spans_of k.anons) x.0 x.1 keeps.anons.order i
+      + looks-all items i
 
 -- so it is within a command, of the entries of a frame and of a slot
 module _ (d : Device) (closing : Option ℕ) (k : Mem) (w : World) (r : Rmap) (l : Ledger) (sorted : T (is_sorted key_cmp l.entries))

@@ -33,6 +33,7 @@ zapped-by d old now new l p from n before notes goes same tables = subst (λ k. 
       stands = subst (λ table. HasLedgerBy d now table (after_all l (zaps_of l (keys_in l p from n)))) (sym tables) goes.stands;
       notes = goes.notes;
       free = goes.free;
+      items = goes.items;
     })
 
 -- ---- one by one

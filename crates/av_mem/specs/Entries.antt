@@ -2,7 +2,7 @@
 -- entry goes that its table has lost, or is about to lose.
 use Rattle.std.specs.Prelude.{◌≡◌, ℕ, ◌+◌, ◌^◌, ◌<◌, Bool, true, false, not, ◌&&◌, ◌==◌}
 use Rattle.std.specs.Prelude.{if◌then◌else◌, List, [], ◌∷◌, ◌++◌, length, slice_index_or, Option}
-use Rattle.std.specs.Prelude.{Some, None, IfSome, MatchBool}
+use Rattle.std.specs.Prelude.{Some, None, IfSome, MatchBool, is_none}
 use Rattle.std.specs.List.{list_any}
 use Rattle.av_base.specs.Words.{how_many, is_in, with_at, within}
 use Rattle.av_base.specs.declared.slot.Slot.{Slot}
@@ -14,14 +14,16 @@ use Rattle.av_plain.specs.Device.{Device}
 use Rattle.av_plain.specs.Event.{after_all, notes_of, without}
 use Rattle.av_plain.specs.Ledger.{Entry, InFrame, InSlot, Key, Ledger, Zero, names_frame}
 use Rattle.av_plain.specs.Ledger.{names_slot, same_slot}
-use Rattle.av_plain.specs.Stands.{Pte as Plain, View, free_of}
+use Rattle.av_plain.specs.Areas.{Items}
+use Rattle.av_plain.specs.Stands.{ItemsAre, Pte as Plain, View, free_of}
 use Rattle.av_plain.specs.Zap.{keys_in, zaps_of}
-use Rattle.av_swap_laws.specs.Steps.{view_drop, view_zap}
+use Rattle.av_swap_laws.specs.Steps.{view_copy, view_copy_last, view_drop, view_freed, view_zap}
 use Rattle.av_swapcache.specs.Swap.{count_of, shown as shown_swap}
 use Rattle.av_trace.specs.declared.note.Note.{Note}
 use Rattle.av_trace.specs.declared.note.Note.TheVariants.{Dropped}
 use Rattle.av_mem.specs.declared.mem.Mem.{Mem}
-use Rattle.av_mem.specs.Mem.{SoundLedger, frame_count, plain, setting_by, view, HasLists}
+use Rattle.av_mem.specs.Mem.{SoundLedger, frame_count, plain, setting_by, sizes_of, view, HasItems}
+use Rattle.av_mem.specs.Mem.{HasLists}
 
 -- ---- a frame is taken for a page
 
@@ -52,6 +54,15 @@ view_taken f left home v = record v {
   active = without f v.active;
   inactive = f ∷ without f v.inactive;
 }
+
+-- a frame that no entry names is free, unless it is cached
+abbrev pub view_settled : ℕ → View → View
+view_settled f v = if v.maps f == 0 && is_none (v.slot f) then view_freed f v else v
+
+-- a page has a copy of the frame that it named, which is free where that was its last use
+abbrev pub view_copied : ℕ → ℕ → ℕ → ℕ → List ℕ → Option (ℕ × ℕ) → View → View
+view_copied p page g f left home v = if v.maps g == 1 && is_none (v.slot g)
+    then view_copy_last p page g f true left home v else view_copy p page g f true left home v
 
 -- ---- an entry is counted for a child
 
@@ -146,8 +157,8 @@ Table = ℕ → ℕ → Option Plain
 
 -- with these tables in place of its own, the memory system's parts stand for the ledger
 abbrev pub HasLedgerBy : Device → Mem → Table → Ledger → Type 0
-HasLedgerBy d k table l = SoundLedger (setting_by d k) k.lists.frames (shown_swap k.swap).frames
-    (record (view k) { table = table }) l
+HasLedgerBy d k table l =
+    SoundLedger (setting_by d k) (sizes_of k) (record (view k) { table = table }) l
 
 -- with some tables they stand for some ledger, and these have the entry at some page
 pub record HasEntry (k : Mem) (entry : Pte) : Type 0 where
@@ -179,8 +190,8 @@ abbrev pub without_pages : ℕ → ℕ → ℕ → Table → Table
 without_pages p from n table q page =
     if q == p && within from n page then None else table q page
 
--- the entries of these pages have gone, with the notes of the slots that were dropped, and what
--- became free is in its place
+-- the entries of these pages have gone, with the notes of the slots that were dropped; what became
+-- free is in its place, and has no items
 pub record LetsGo (d : Device) (old new : Mem) (table : Table) (l : Ledger) (p from n : ℕ)
     (before now : List Note) : Type 0 where
   pub stands : HasLedgerBy d new (without_pages p from n table)
@@ -188,3 +199,5 @@ pub record LetsGo (d : Device) (old new : Mem) (table : Table) (l : Ledger) (p f
   pub notes : now ≡ before ++ notes_of (zaps_of l (keys_in l p from n))
   pub free : ChoosesAll (setting_by d old) None l (zaps_of l (keys_in l p from n))
       (free_of (view old)) (free_of (view new))
+  pub items : (items : Items) → ItemsAre (view old) l items
+      → ItemsAre (view new) (after_all l (zaps_of l (keys_in l p from n))) items

@@ -17,6 +17,7 @@ use Rattle.av_plain.specs.Stands.{View, Pte as Plain, AnonsStand, AreasAre, Area
 use Rattle.av_plain.specs.Stands.{LedgerStands, free_of}
 use Rattle.av_frames.specs.Store.{Shown, shown}
 use Rattle.av_lru.specs.Lists.{Lists}
+use Rattle.av_rmap.specs.Items.{Shown as ShownItems, shown as shown_items}
 use Rattle.av_swap_laws.specs.Held.{Held, IsHeld}
 use Rattle.av_swapcache.specs.Swap.{HasAreas, Shown as ShownSwap, header_at, shown as shown_swap}
 use Rattle.av_swapdev.specs.Header.{Layout}
@@ -55,14 +56,15 @@ abbrev pub area_of : (ℕ → ℤ) → ℕ × Header → ℕ × SwapArea
 area_of priority a =
     (a.0, record { slots = a.1.slots; bad = a.1.bad; priority = priority a.0 })
 
--- the view of frames with their lists, entries, areas, anon_vmas and swap areas
-abbrev pub view_of_parts :
-    Shown → Lists → (ℕ → ℕ → Option Plain) → AllSpaces → AnonSet → ShownSwap → View
-view_of_parts frames lists table spaces anons swap = record {
+-- the view of frames with their lists and items, entries, areas, anon_vmas and swap areas
+abbrev pub view_of_parts : Shown → Lists → ShownItems → (ℕ → ℕ → Option Plain) → AllSpaces → AnonSet
+    → ShownSwap → View
+view_of_parts frames lists items table spaces anons swap = record {
   frames = frames.count;
   bytes = frames.bytes;
   maps = frames.maps;
   homes = frames.home;
+  items = items.items;
   slot = frames.slot;
   dirty = frames.dirty;
   free = frames.free;
@@ -80,8 +82,8 @@ view_of_parts frames lists table spaces anons swap = record {
 }
 
 abbrev pub view : Mem → View
-view k = view_of_parts (shown k.frames) k.lists (λ p page. plain (entry_at k.tables p page))
-    k.spaces k.anons (shown_swap k.swap)
+view k = view_of_parts (shown k.frames) k.lists (shown_items k.items)
+    (λ p page. plain (entry_at k.tables p page)) k.spaces k.anons (shown_swap k.swap)
 
 -- how many frames there are
 abbrev pub frame_count : Mem → ℕ
@@ -98,6 +100,10 @@ HasLists k = k.lists.frames ≡ frame_count k
 -- there is room in the swap cache for as many frames as there are
 abbrev pub HasRoom : Mem → Type 0
 HasRoom k = (shown_swap k.swap).frames ≡ frame_count k
+
+-- there are items of as many frames as there are
+abbrev pub HasItems : Mem → Type 0
+HasItems k = (shown_items k.items).frames ≡ frame_count k
 
 -- a process has a table exactly where it has areas
 abbrev pub HasTables : Mem → Type 0
@@ -124,10 +130,11 @@ pub record SwapFits (d : Device) (closing : Option ℕ) (k : Mem) : Type 0 where
   pub by_headers : AreByHeaders (headers_of d) (shown_swap k.swap)
 
 -- the memory system over this device stands for the memories, the ledger, what is free, the areas,
--- the anon_vmas, among which there is chain order, and the homes
+-- the anon_vmas, among which there is chain order, and the homes and items
 pub record Keeps (d : Device) (k : Mem) (s : State) : Type 0 where
   pub stands : Stands (setting_by d k) (view k) d s
   pub lists : HasLists k
+  pub items : HasItems k
   pub tables : HasTables k
   pub anons : AnonsFit k.spaces k.anons
   pub swap : SwapFits d None k
@@ -143,19 +150,32 @@ IsSteadyAt sizes k = (n : ℕ) × (s : State) × Keeps (device_by sizes None n) 
 
 -- ---- within a command
 
+-- of how many frames the lists, the items and the swap cache are
+pub record Sizes : Type 0 where
+  pub lists : ℕ
+  pub items : ℕ
+  pub swap : ℕ
+
+abbrev pub sizes_of : Mem → Sizes
+sizes_of k = record {
+  lists = k.lists.frames;
+  items = (shown_items k.items).frames;
+  swap = (shown_swap k.swap).frames;
+}
+
 -- the ledger is sound, its slots are those of areas that are on, the parts that speak of it alone
--- stand for it, and lists and a swap cache of so many frames are of those that there are
-pub record SoundLedger (m : Setting) (listed room : ℕ) (v : View) (l : Ledger) : Type 0 where
+-- stand for it, and lists, items and a swap cache of so many frames are of those that there are
+pub record SoundLedger (m : Setting) (sizes : Sizes) (v : View) (l : Ledger) : Type 0 where
   pub sound : IsSound m l
   pub there : AreThere m l
   pub parts : LedgerStands m v l
-  pub lists : listed ≡ m.frames
-  pub swap : room ≡ m.frames
+  pub lists : sizes.lists ≡ m.frames
+  pub items : sizes.items ≡ m.frames
+  pub swap : sizes.swap ≡ m.frames
 
 -- the memory system's parts do
 abbrev pub HasLedger : Device → Mem → Ledger → Type 0
-HasLedger d k l =
-    SoundLedger (setting_by d k) k.lists.frames (shown_swap k.swap).frames (view k) l
+HasLedger d k l = SoundLedger (setting_by d k) (sizes_of k) (view k) l
 
 -- they stand for some, over some device
 abbrev pub IsOrderly : Mem → Type 0
@@ -180,6 +200,7 @@ pub record Serves (d : Device) (closing : Option ℕ) (k : Mem) (w : World) (r :
   pub areas_fit : AreasFit (setting_by d k) l
   pub free : ListsAll (setting_by d k) l (free_of (view k))
   pub lists : HasLists k
+  pub items : HasItems k
   pub tables : HasTables k
   pub fit : AnonsFit k.spaces k.anons
   pub swap : SwapFits d closing k

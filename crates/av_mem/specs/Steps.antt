@@ -1,6 +1,7 @@
 -- What a step of the memory system leaves as it was.
 use Rattle.std.specs.Prelude.{◌≡◌}
 use Rattle.av_pagetable.specs.Entries.{has}
+use Rattle.av_rmap.specs.Items.{shown as shown_items}
 use Rattle.av_swapcache.specs.Swap.{shown}
 use Rattle.av_mem.specs.declared.mem.Mem.{Mem}
 use Rattle.av_mem.specs.Mem.{frame_count, view}
@@ -20,11 +21,13 @@ pub record KeepsParts (old new : Mem) : Type 0 where
     frames = new.frames;
     tables = new.tables;
     lists = new.lists;
+    items = new.items;
     swap = new.swap;
   }
   pub processes : has new.tables ≡ has old.tables
   pub count : frame_count new ≡ frame_count old
   pub lists : new.lists.frames ≡ old.lists.frames
+  pub items : (shown_items new.items).frames ≡ (shown_items old.items).frames
   pub swap : KeepsSwap old new
 
 -- these, and the bytes and the homes of the frames

@@ -10,7 +10,7 @@ ghost use Rattle.av_swapcache.specs.Swap.{HasAreas, IsUncached, is_cached, is_fl
 ghost use Rattle.av_swapcache.specs.Swap.{shown as shown_swap};
 ghost use Rattle.av_spaces.specs.Kin.{info_of};
 ghost use Rattle.av_mem.specs.Cache.{Ends, Loads, Puts, home_by};
-ghost use Rattle.av_mem.specs.Mem.{HasLists, HasRoom, frame_count, view};
+ghost use Rattle.av_mem.specs.Mem.{HasItems, HasLists, HasRoom, frame_count, view};
 ghost use Rattle.av_mem.specs.Steps.{KeepsParts};
 
 use crate::mem::Mem;
@@ -72,6 +72,7 @@ impl Mem {
     pub fn drop_slot(&mut self, slot: Slot)
         requires fits { HasRoom self.old }
         requires listed { HasLists self.old }
+        requires itemed { HasItems self.old }
         requires cached { is_cached (shown_swap self.old.swap) slot ≡ true }
         requires landed { is_flying (shown_swap self.old.swap) slot ≡ false }
         requires in_use { IfSome ((view self.old).find slot) (λ f.
@@ -85,8 +86,7 @@ impl Mem {
         };
         self.swap.drop_ref(&mut self.frames, slot);
         if self.frames.maps(frame) == 0 {
-            self.frames.give(frame);
-            self.lists.remove(frame);
+            self.free(frame);
         }
     }
 

@@ -12,12 +12,13 @@ ghost use Rattle.av_pagetable.specs.declared.pte.Pte.TheVariants as Pte;
 ghost use Rattle.av_plain.specs.Device.{Device};
 ghost use Rattle.av_plain.specs.Ledger.{Ledger};
 ghost use Rattle.av_plain.specs.Stands.{free_of};
-ghost use Rattle.av_swap_laws.specs.Steps.{view_copy, view_new, view_seen};
+ghost use Rattle.av_swap_laws.specs.Steps.{view_new, view_seen};
 ghost use Rattle.av_mem.specs.Entries.{is_orphan, slot_behind, view_less, view_more};
 ghost use Rattle.av_mem.specs.Entries.{view_more_each, view_taken, DropsOrphan, HasEntry, HasFree};
 ghost use Rattle.av_mem.specs.Entries.{HasLedgerBy, HasRoomFor, IsInUse, IsTaken, IsWithin};
-ghost use Rattle.av_mem.specs.Entries.{LetsGo, NamesFrame, Table};
-ghost use Rattle.av_mem.specs.Mem.{frame_count, plain, view, HasLists, HasRoom};
+ghost use Rattle.av_mem.specs.Entries.{LetsGo, NamesFrame, Table, view_copied};
+ghost use Rattle.av_mem.specs.Entries.{view_settled};
+ghost use Rattle.av_mem.specs.Mem.{frame_count, plain, view, HasItems, HasLists, HasRoom};
 ghost use Rattle.av_mem.specs.Steps.{KeepsParts, KeepsRest};
 
 use crate::mem::Mem;
@@ -50,7 +51,7 @@ pub fn take_frame_of_zeros(
 }
 
 /// The same for a page whose entry names the frame `from`, with a copy of that frame, whose map
-/// count falls by one.
+/// count falls by one. Where nothing has it any more, as may be of a merged one, it is free.
 pub fn take_frame_for_copy(
     mem: &mut Mem,
     key: (u16, u64),
@@ -60,16 +61,32 @@ pub fn take_frame_for_copy(
     requires there { NamesFrame mem.old key from }
     requires free { HasFree mem.old }
     requires mapped { 0 < (view mem.old).maps from }
+    requires itemed { HasItems mem.old }
     requires in_range { from < frame_count mem.old }
     ensures taken { IsTaken mem.old mem.new result (λ left. view_seen key.0 key.1 result true
-        (view_copy key.0 key.1 from result true left home (view mem.old))) }
+        (view_copied key.0 key.1 from result left home (view mem.old))) }
     ensures parts { KeepsParts mem.old mem.new }
 {
     mem.frames.map_down(from);
     let frame = take_frame(mem, home);
     mem.tables.change(key.0, key.1, accessed_entry(frame, true));
     mem.frames.copy(from, frame);
+    settle(mem, from);
     frame
+}
+
+/// A frame that no entry names is free, unless it is cached.
+fn settle(mem: &mut Mem, frame: u32)
+    requires listed { HasLists mem.old }
+    requires itemed { HasItems mem.old }
+    requires in_range { frame < frame_count mem.old }
+    requires in_use { is_in frame (view mem.old).free ≡ false }
+    ensures settled { view mem.new ≡ view_settled frame (view mem.old) }
+    ensures rest { KeepsRest mem.old mem.new }
+{
+    if mem.frames.maps(frame) == 0 && mem.frames.slot(frame).is_none() {
+        mem.free(frame);
+    }
 }
 
 /// Takes the first free frame for one entry, with this home, to the head of inactive.
@@ -182,10 +199,7 @@ fn count_down(mem: &mut Mem, entry: Pte)
         Pte::Empty | Pte::Zero => {}
         Pte::Here { frame, .. } => {
             mem.frames.map_down(frame);
-            if mem.frames.maps(frame) == 0 && mem.frames.slot(frame).is_none() {
-                mem.frames.give(frame);
-                mem.lists.remove(frame);
-            }
+            settle(mem, frame);
         }
         Pte::Away { slot } => mem.swap.entry_down(slot, 1),
     }
@@ -195,6 +209,7 @@ fn count_down(mem: &mut Mem, entry: Pte)
 fn drop_orphan(mem: &mut Mem, slot: Slot, notes: &mut Notes) -> Result<(), AllocError>
     requires fits { HasRoom mem.old }
     requires listed { HasLists mem.old }
+    requires itemed { HasItems mem.old }
     requires in_use { IfSome ((view mem.old).find slot) (λ f.
         is_in f (view mem.old).free ≡ false) }
     ensures drops { OnOk result (DropsOrphan slot (view mem.old) (view mem.new)

@@ -31,6 +31,8 @@
 mod cache;
 mod chains;
 pub mod entries;
+mod free;
+mod locked;
 mod mem;
 mod order;
 pub mod walk;

@@ -9,16 +9,19 @@ use av_anon::Anons;
 use av_frames::Frames;
 use av_lru::Lru;
 use av_pagetable::{PageTable, Tables};
+use av_rmap::items::Items;
 use av_spaces::Spaces;
 use av_swapcache::Swap;
 use std::alloc::{AllocError, Global};
 
-/// The frames with the two lists of those in use, the page table of each process, the areas of
-/// each, the anon_vmas, and the swap areas that are on with the swap cache.
+/// The frames with the two lists of those in use and the items of those that are merged, the page
+/// table of each process, the areas of each, the anon_vmas, and the swap areas that are on with the
+/// swap cache.
 #[derive(Drop)]
 pub struct Mem {
     pub frames: Frames,
     pub lists: Lru,
+    pub items: Items,
     pub tables: Tables<PageTable>,
     pub spaces: Spaces,
     pub anons: Anons,
@@ -35,6 +38,7 @@ impl Mem {
         Ok(Mem {
             frames: Frames::new(alloc, frames)?,
             lists: Lru::new(alloc, frames)?,
+            items: Items::new(alloc, frames)?,
             tables: Tables::new(alloc),
             spaces: Spaces::new(alloc),
             anons: Anons::new(alloc),

@@ -6,11 +6,12 @@ ghost use Rattle.av_base.specs.Limits.{top_page};
 ghost use Rattle.av_plain.specs.Device.{Device};
 ghost use Rattle.av_plain.specs.Ledger.{walk as walk_of};
 ghost use Rattle.av_plain.specs.Transcript.{State};
-ghost use Rattle.av_mem.specs.Mem.{frame_count, view, IsSteady, Keeps};
-ghost use Rattle.av_mem.specs.Walk.{areas_at};
+ghost use Rattle.av_mem.specs.Mem.{frame_count, IsSteady, Keeps};
+ghost use Rattle.av_mem.specs.Walk.{areas_of_frame};
 
 use crate::mem::Mem;
 use av_base::Steps;
+use av_rmap::merged::walk_merged;
 use av_rmap::sorted::walk_frame;
 use av_rmap::stores::Stores;
 use std::alloc::{AllocError, Global};
@@ -18,9 +19,10 @@ use std::sync::ledger::Ledger;
 
 /// Process and page of each entry that names the frame, by process and then by page. It takes
 /// exactly as many steps as areas that are linked to the anon_vma of the frame's home hold its
-/// index; without memory none.
+/// index, or of a merged one so many item by item; without memory none.
 ///
-/// It is one call of `walk_frame`, whose looks at an entry are no more than its steps.
+/// It is one call of `walk_frame` or `walk_merged`, whose looks at an entry are no more than its
+/// steps.
 pub fn walk<L: Ledger>(
     mem: &Mem,
     alloc: Global,
@@ -33,7 +35,7 @@ pub fn walk<L: Ledger>(
         → IfOk result (λ keys. keys.items ≡ walk_of s.ledger frame) }
     ensures below { IfOk result (λ keys. AllByRecursion (λ key. key.1 < top_page) keys.items) }
     ensures counted { OnOk result
-        (steps.new ≡ steps.old + areas_at mem.now ((view mem.now).homes frame)) }
+        (steps.new ≡ steps.old + areas_of_frame mem.now frame) }
     ensures kept { OnErr result (steps.new ≡ steps.old) }
 {
     let stores = Stores {
@@ -41,12 +43,9 @@ pub fn walk<L: Ledger>(
         anons: &mem.anons,
         tables: &mem.tables,
     };
-    walk_frame(
-        alloc,
-        &stores,
-        frame,
-        mem.frames.home(frame),
-        mem.frames.maps(frame),
-        steps,
-    )
+    let count = mem.frames.maps(frame);
+    if mem.items.is_merged(frame) {
+        return walk_merged(alloc, &stores, frame, mem.items.of(frame), count, steps);
+    }
+    walk_frame(alloc, &stores, frame, mem.frames.home(frame), count, steps)
 }

@@ -1,17 +1,15 @@
 -- A part of an area that is affected at once is affected as if its pages were, one by one.
 use Rattle.std.proofs.Common.{◌≡◌, ℕ, zero, suc, ◌+◌, ◌-◌, ◌*◌, ◌/◌, ◌<◌, ◌≤◌, min, max, Bool, true, false, not, cond, ◌&&◌, ◌==◌, ◌⊎◌, Option, Some, None, option_map, refl, sym, ap, ◌∙◌, inl, inr, arith}
-use Rattle.std.proofs.Math.Bool.{beq}
 use Rattle.std.proofs.lemmas.Bool.{and_from, and_parts, lt-ltb, le-ltb, eq-eqb, cases_lt, cond-true, cond-false, both_ways, false_from_ne_true}
 use Rattle.std.proofs.lemmas.Bool.Decides.{nat_tests}
 use Rattle.std.specs.Option.{option_or}
 use Rattle.av_vma.specs.declared.area.Area.{Area}
-use Rattle.av_base.specs.declared.prot.Prot.{Prot}
 use Rattle.av_vma.specs.Index.{first_of, past_of, index_of}
-use Rattle.av_vma.specs.Join.{same_prot, share_anon}
+use Rattle.av_vma.specs.Join.{same_flags, same_prot, share_anon}
 use Rattle.av_base.specs.Words.{within}
 use Rattle.av_vma.specs.Pages.{AreLaid, Pages, Effect, with_effect, alters, alters_at, has_page, part_of, split_at, with_effect_on, join_of, do_join, after_join, joined_at, part_changed, page_changed, pages_changed, IsWhole, Lengths}
 use Rattle.av_vma.proofs.Split.{laid_split}
-use Rattle.av_vma.proofs.Join.{join_is}
+use Rattle.av_vma.proofs.Join.{flags_as_itself, join_is, same_as_itself}
 use Rattle.av_vma.proofs.Laid.{has_from, has_parts}
 use Rattle.av_merge.proofs.PlacingLaws.{within_from}
 
@@ -32,14 +30,6 @@ early_part a b q area le low =
     rw (lt-ltb q a low, lt-ltb q b (omega arith)) (λ i. record area { end = same i })
 
 -- ---- tests that one thing passes with itself
-
-same_bit : (b : Bool) → beq b b ≡ true
-same_bit true = refl
-same_bit false = refl
-
-pub same_as_itself : (p : Prot) → same_prot p p ≡ true
-same_as_itself p = and_from (beq p.read p.read && beq p.write p.write) (beq p.execute p.execute)
-    (and_from (beq p.read p.read) (beq p.write p.write) (same_bit p.read) (same_bit p.write)) (same_bit p.execute)
 
 shares : (len : Lengths) (o : Option ℕ) → share_anon o (len o) o (len o) ≡ true
 shares len None = refl
@@ -149,9 +139,9 @@ module _ (len : Lengths) (effect : Effect) (on : Pages) (laid : AreLaid on) (a :
   apart x g b = false_from_ne_true (do_join len (ended b x) (upper b)) (λ e.
       let j = join_is len (ended b x) (upper b) e in
       both_ways (alters effect area)
-      (ap not (and_from (same_prot (effect.prot area.prot) area.prot) (effect.flags area.flags == area.flags)
+      (ap not (and_from (same_prot (effect.prot area.prot) area.prot) (same_flags (effect.flags area.flags) area.flags)
       (ap (λ p. same_prot p area.prot) (sym g.prot ∙ j.prot) ∙ same_as_itself area.prot)
-      (eq-eqb (effect.flags area.flags) area.flags (sym g.flags ∙ j.flags))))
+      (ap (λ f. same_flags f area.flags) (sym g.flags ∙ j.flags) ∙ flags_as_itself area.flags)))
       does)
 
   kept : (x : Area) → IsGrown x → (b : ℕ) → a < b → b < past_of area → (q : ℕ) → joined_at len b (grown x b) q ≡ grown x b q
@@ -211,7 +201,8 @@ module _ (len : Lengths) (effect : Effect) (on : Pages) (laid : AreLaid on) (a :
         let e1 : ((ended b x).end == (more b).start) ≡ true = eq-eqb (4096 * b) (4096 * b) refl in
         let e2 : same_prot x.prot (effect.prot area.prot) ≡ true = ap (λ p. same_prot p (effect.prot area.prot)) g.prot
         ∙ same_as_itself (effect.prot area.prot) in
-        let e3 : (x.flags == effect.flags area.flags) ≡ true = eq-eqb x.flags (effect.flags area.flags) g.flags in
+        let e3 : same_flags x.flags (effect.flags area.flags) ≡ true = ap (λ f. same_flags f (effect.flags area.flags)) g.flags
+        ∙ flags_as_itself (effect.flags area.flags) in
         let e4 : (index_of (ended b x) (past_of (ended b x)) == index_of area b) ≡ true =
         eq-eqb (index_of (ended b x) (past_of (ended b x))) (index_of area b) same in
         let e5 : share_anon x.anon (len x.anon) area.anon (len area.anon) ≡ true = g.shares in
@@ -320,7 +311,7 @@ module _ (len : Lengths) (effect : Effect) (on : Pages) (laid : AreLaid on) (a :
       ] refl
 
   do_share : (l r : Area) → do_join len l r ≡ true → share_anon l.anon (len l.anon) r.anon (len r.anon) ≡ true
-  do_share l r e = (and_parts (l.end == r.start && same_prot l.prot r.prot && (l.flags == r.flags) && (index_of l (past_of l) == r.pgoff))
+  do_share l r e = (and_parts (l.end == r.start && same_prot l.prot r.prot && same_flags l.flags r.flags && (index_of l (past_of l) == r.pgoff))
       (share_anon l.anon (len l.anon) r.anon (len r.anon)) e).1
 
   begins : Begins

@@ -1,11 +1,11 @@
 -- A part of an area is changed: it is split off at both ends, its area is changed, and is joined with its neighbours.
-use Rattle.std.proofs.Common.{◌≡◌, ℕ, ◌-◌, ◌*◌, ◌/◌, ◌<◌, ◌≤◌, ◌==◌, not, min, max, true, false, cond, List, Option, Some, None, Result, Ok, Err, OnOk, IfSome, IsSomeAnd, option_map, refl, sym, ap, subst, ◌∙◌, arith}
+use Rattle.std.proofs.Common.{◌≡◌, ℕ, ◌-◌, ◌*◌, ◌/◌, ◌<◌, ◌≤◌, not, min, max, true, false, cond, List, Option, Some, None, Result, Ok, Err, OnOk, IfSome, IsSomeAnd, option_map, refl, sym, ap, subst, ◌∙◌, arith}
 use Rattle.std.specs.Prelude.{option_and_then}
-use Rattle.std.proofs.lemmas.Bool.{and_from, eq-eqb, false_from_ne_true, false≢true, lt-ltb, le-ltb}
+use Rattle.std.proofs.lemmas.Bool.{and_from, false_from_ne_true, false≢true, lt-ltb, le-ltb}
 use Rattle.std.proofs.lemmas.Option.{same_Some}
 use Rattle.av_vma.specs.declared.area.Area.{Area}
 use Rattle.av_vma.specs.Index.{first_of, past_of}
-use Rattle.av_vma.specs.Join.{same_prot}
+use Rattle.av_vma.specs.Join.{same_flags, same_prot}
 use Rattle.av_base.specs.Words.{within, with_at}
 use Rattle.av_vmatree.specs.declared.span.Span.{Span}
 use Rattle.av_vmatree.specs.Spans.{area_at, span_of}
@@ -16,7 +16,7 @@ use Rattle.av_vma.proofs.Laid.{has_from, has_parts}
 use Rattle.av_merge.specs.Pages.{pages_by}
 use Rattle.av_merge.specs.Process.{AreAreasOf, IsAreaOf, Stays}
 use Rattle.av_merge.proofs.PlacingLaws.{IsOn, change_others, change_pages, change_stands, is_on, one_area, stays_trans, within_from, within_parts}
-use Rattle.av_merge.proofs.ChangingByPage.{same_as_itself}
+use Rattle.av_vma.proofs.Join.{flags_as_itself, same_as_itself}
 use Rattle.av_interval.specs.declared.span.Span as interval
 use Rattle.av_anon.specs.Anons.{Family}
 use Rattle.av_anon.specs.Order.{IsInOrder}
@@ -66,8 +66,8 @@ differ_at at on m n before after apart =
 -- what an effect makes another isn't so already
 not_so : (effect : Effect) (area : Area) → alters effect area ≡ true → effect.prot area.prot ≡ area.prot → effect.flags area.flags ≡ area.flags → ⊥
 not_so effect area altered prot flags =
-    let both = and_from (same_prot (effect.prot area.prot) area.prot) (effect.flags area.flags == area.flags)
-    (ap (λ q. same_prot q area.prot) prot ∙ same_as_itself area.prot) (eq-eqb (effect.flags area.flags) area.flags flags) in
+    let both = and_from (same_prot (effect.prot area.prot) area.prot) (same_flags (effect.flags area.flags) area.flags)
+    (ap (λ q. same_prot q area.prot) prot ∙ same_as_itself area.prot) (ap (λ f. same_flags f area.flags) flags ∙ flags_as_itself area.flags) in
     false≢true (sym (ap not both) ∙ altered)
 
 module _ (len : Lengths) (p from past number : ℕ) (effect : Effect) (area : Area) (areas two changed : ℕ → Option Area) (spans spans'' : List Span)

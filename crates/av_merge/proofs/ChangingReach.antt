@@ -1,17 +1,17 @@
 -- How far a change has come: all pages before were mapped, and are as the change makes them, page by page.
-use Rattle.std.proofs.Common.{◌≡◌, ℕ, zero, suc, ◌+◌, ◌-◌, ◌<◌, ◌≤◌, ◌==◌, Bool, true, false, cond, List, Option, Some, None, is_some, option_map, refl, sym, ap, subst, ◌∙◌, inl, inr, arith}
+use Rattle.std.proofs.Common.{◌≡◌, ℕ, zero, suc, ◌+◌, ◌-◌, ◌<◌, ◌≤◌, Bool, true, false, cond, List, Option, Some, None, is_some, option_map, refl, sym, ap, subst, ◌∙◌, inl, inr, arith}
 use Rattle.std.specs.Prelude.{option_and_then, IsSome}
-use Rattle.std.proofs.lemmas.Bool.{cases_lt, and_parts, not-false, cond-false, eqb-true}
+use Rattle.std.proofs.lemmas.Bool.{cases_lt, and_parts, not-false, cond-false}
 use Rattle.std.proofs.lemmas.Bool.Decides.{nat_tests}
 use Rattle.av_vma.specs.declared.area.Area.{Area}
 use Rattle.av_vma.specs.Index.{past_of}
-use Rattle.av_vma.specs.Join.{same_prot}
+use Rattle.av_vma.specs.Join.{same_flags, same_prot}
 use Rattle.av_base.specs.Words.{within}
 use Rattle.av_vmatree.specs.declared.span.Span.{Span}
 use Rattle.av_vmatree.specs.Spans.{area_at, is_page_taken}
 use Rattle.av_merge.specs.Mapping.{IsRemapped, mapping, mapping_in, mapping_with}
 use Rattle.av_vma.specs.Pages.{Effect, Pages, alters, alters_at, page_changed, part_changed, pages_changed, Lengths}
-use Rattle.av_vma.proofs.Join.{prot_is}
+use Rattle.av_vma.proofs.Join.{flags_are, prot_is}
 use Rattle.av_vma.proofs.Laid.{has_from, has_parts}
 use Rattle.av_merge.specs.Pages.{GoesTo, pages_by}
 use Rattle.av_merge.specs.Process.{AreAreasOf, Stays}
@@ -34,13 +34,13 @@ record IsSo (effect : Effect) (area : Area) : Type 0 where
 
 is_so : (effect : Effect) (area : Area) → alters effect area ≡ false → IsSo effect area
 is_so effect area e =
-    let both = and_parts (same_prot (effect.prot area.prot) area.prot) (effect.flags area.flags == area.flags) (not-false _ e) in
-    record { prot = prot_is (effect.prot area.prot) area.prot both.0; flags = eqb-true (effect.flags area.flags) area.flags both.1 }
+    let both = and_parts (same_prot (effect.prot area.prot) area.prot) (same_flags (effect.flags area.flags) area.flags) (not-false _ e) in
+    record { prot = prot_is (effect.prot area.prot) area.prot both.0; flags = flags_are (effect.flags area.flags) area.flags both.1 }
 
 -- ---- pages in turn
 
 -- some pages, and then some more
-pages_then : (len : Lengths) (effect : Effect) (a m n : ℕ) (on : Pages) →
+pub pages_then : (len : Lengths) (effect : Effect) (a m n : ℕ) (on : Pages) →
     pages_changed len effect (a + m) n (pages_changed len effect a m on) ≡ pages_changed len effect a (m + n) on
 pages_then len effect a zero n on = (let first : a + 0 ≡ a = omega arith in let all : n ≡ 0 + n = omega arith in
     λ i. pages_changed len effect (first i) (all i) on)
@@ -52,7 +52,7 @@ pages_then len effect a (suc m) n on =
     ∙ ap (λ c. pages_changed len effect a c on) all
 
 -- pages that are so already stay
-pages_stay : (len : Lengths) (effect : Effect) (a n : ℕ) (on : Pages) → ((q : ℕ) → a ≤ q → q < a + n → alters_at effect (on q) ≡ false) →
+pub pages_stay : (len : Lengths) (effect : Effect) (a n : ℕ) (on : Pages) → ((q : ℕ) → a ≤ q → q < a + n → alters_at effect (on q) ≡ false) →
     pages_changed len effect a n on ≡ on
 pages_stay len effect a zero on so = refl
 pages_stay len effect a (suc n) on so =
@@ -65,13 +65,13 @@ pages_stay len effect a (suc n) on so =
 pub in_none : (from page : ℕ) → within from (from - from) page ≡ false
 in_none from page = grind (arith, nat_tests)
 
-past_it : (from to page : ℕ) → to ≤ page → within from (to - from) page ≡ false
+pub past_it : (from to page : ℕ) → to ≤ page → within from (to - from) page ≡ false
 past_it from to page h = grind (arith, nat_tests)
 
-two_ranges : (a b c page : ℕ) → a ≤ b → b ≤ c → within a (c - a) page ≡ cond (within b (c - b) page) true (within a (b - a) page)
+pub two_ranges : (a b c page : ℕ) → a ≤ b → b ≤ c → within a (c - a) page ≡ cond (within b (c - b) page) true (within a (b - a) page)
 two_ranges a b c page h k = grind (arith, nat_tests)
 
-apart : (a b c page : ℕ) → within b (c - b) page ≡ true → within a (b - a) page ≡ false
+pub apart : (a b c page : ℕ) → within b (c - b) page ≡ true → within a (b - a) page ≡ false
 apart a b c page h = grind (arith, nat_tests)
 
 -- ---- steps

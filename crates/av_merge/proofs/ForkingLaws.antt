@@ -6,6 +6,7 @@ use Rattle.std.specs.Option.{option_map_or}
 use Rattle.av_base.specs.Words.{with_at}
 use Rattle.av_interval.specs.declared.span.Span.{Span}
 use Rattle.av_vma.specs.declared.area.Area.{Area}
+use Rattle.av_vma.specs.Fork.{forked_area, own_to_fork}
 use Rattle.av_vma.specs.Pages.{IsWhole}
 use Rattle.av_anon.specs.Anons.{Family, own_of, with_links, with_own}
 use Rattle.av_anon.specs.Fork.{after_fork, child_chain, child_family, child_own, gets_own, member_to_reuse, own_after_fork}
@@ -71,9 +72,9 @@ info_is (Some v) own areas f = refl
 
 module _ (areas mid : ℕ → Option Area) (f : Family) (spans : ℕ → List Span) (src dst child : ℕ) (A : Area)
     (o : IsInOrder areas f spans) (is : areas src ≡ Some A) (whole : IsWhole A) (unused : areas dst ≡ None)
-    (added : (k : ℕ) → mid k ≡ with_at dst (Some (record A { pid = child; anon = None })) areas k) where
+    (added : (k : ℕ) → mid k ≡ with_at dst (Some (record (forked_area child A) { anon = None })) areas k) where
   abbrev bare : Area
-  bare = record A { pid = child; anon = None }
+  bare = record (forked_area child A) { anon = None }
 
   apart : src ≢ dst
   apart e = none-some A (sym unused ∙ ap areas (sym e) ∙ is)
@@ -102,7 +103,28 @@ module _ (areas mid : ℕ → Option Area) (f : Family) (spans : ℕ → List Sp
       ∙ (λ i. with_at dst (Some (record bare { anon = Some own })) (λ q. added q i) k)
       ∙ with_at-twice dst (Some (record bare { anon = Some own })) (Some bare) areas k
 
-  module _ (new : ℕ → Option Area) (f' : Family) (spans' : ℕ → List Span)
+  -- one that is wiped stands so
+  module _ (wiped : A.flags.wipe_on_fork ≡ true) where
+    goes_by_none : None ≡ own_to_fork A
+    goes_by_none = ap (λ b. cond b None A.anon) (sym wiped)
+
+    pub areas_wiped : (k : ℕ) → mid k ≡ with_at dst (Some (area_in_child child (kin_at areas f) A)) areas k
+    areas_wiped k = added k ∙ ap (λ own. with_at dst (Some (record bare { anon = own_in_child own (kin_at areas f) })) areas k) goes_by_none
+
+    own_stays : (b : ℕ) → b ≢ dst → own_of (mid b) ≡ own_of (areas b)
+    own_stays b ne = ap own_of (added b ∙ with_at-other dst (Some bare) areas b ne)
+
+    chain_wiped : (v : ℕ) → chain_by mid f v ≡ chain_by areas f v
+    chain_wiped v = chain_stays areas mid f f spans spans v o order_added
+        (λ b own. (sym (own_stays b (λ e. none-some v (sym (ap own_of (ap mid e ∙ dst_is)) ∙ own))) ∙ own, refl))
+        (λ b own. own_stays b (λ e. none-some v (sym (ap own_of unused) ∙ ap (λ m. own_of (areas m)) (sym e) ∙ own)) ∙ own)
+
+    pub kin_wiped : kin_at mid f ≡ kin_with (own_to_fork A) (kin_at areas f)
+    kin_wiped = (λ i. record { next = f.next; info = f.info; chain = λ v. chain_wiped v i })
+        ∙ ap (λ own. kin_with own (kin_at areas f)) goes_by_none
+
+  -- another goes by its own anon_vma
+  module _ (not_wiped : A.flags.wipe_on_fork ≡ false) (new : ℕ → Option Area) (f' : Family) (spans' : ℕ → List Span)
       (now : (k : ℕ) → new k ≡ gets_own dst (own_after_fork (own_of (mid src)) src f) mid k)
       (was : f' ≡ after_fork (own_of (mid src)) src dst f) (spanned : GoWithLinks new f'.chain spans') where
     pub order_forked : IsInOrder new f' spans'
@@ -121,9 +143,13 @@ module _ (areas mid : ℕ → Option Area) (f : Family) (spans : ℕ → List Sp
     was_by : f' ≡ after_fork A.anon src dst f
     was_by = was ∙ ap (λ x. after_fork (own_of x) src dst f) src_is
 
+    goes_by : A.anon ≡ own_to_fork A
+    goes_by = ap (λ b. cond b None A.anon) (sym not_wiped)
+
     pub areas_forked : (k : ℕ) → new k ≡ with_at dst (Some (area_in_child child (kin_at areas f) A)) areas k
     areas_forked k = now_by k ∙ given (own_after_fork A.anon src f) k
-        ∙ ap (λ own. with_at dst (Some (record bare { anon = own })) areas k) (own_is A.anon refl)
+        ∙ ap (λ own. with_at dst (Some (record bare { anon = own })) areas k)
+        (own_is A.anon refl ∙ ap (λ own. own_in_child own (kin_at areas f)) goes_by)
 
     -- another area keeps its own anon_vma
     own_other : (b : ℕ) → b ≢ dst → own_of (new b) ≡ own_of (areas b)
@@ -131,6 +157,7 @@ module _ (areas mid : ℕ → Option Area) (f : Family) (spans : ℕ → List Sp
 
     own_new : own_of (new dst) ≡ own_in_child A.anon (kin_at areas f)
     own_new = ap own_of (areas_forked dst ∙ with_at-here dst (Some (area_in_child child (kin_at areas f) A)) areas)
+        ∙ ap (λ own. own_in_child own (kin_at areas f)) (sym goes_by)
 
     not_dst : (b v : ℕ) → own_of (areas b) ≡ Some v → b ≢ dst
     not_dst b v own e = none-some v (sym (ap own_of unused) ∙ ap (λ m. own_of (areas m)) (sym e) ∙ own)
@@ -177,8 +204,8 @@ module _ (areas mid : ℕ → Option Area) (f : Family) (spans : ℕ → List Sp
         (sym chain_is) in
         (ap (λ (m : Family). m.next) same ∙ next_is reuse x f, ap (λ (m : Family). m.info) same ∙ info_is reuse x areas f)
 
-    pub kin_forked : kin_at new f' ≡ kin_with A.anon (kin_at areas f)
+    pub kin_forked : kin_at new f' ≡ kin_with (own_to_fork A) (kin_at areas f)
     kin_forked =
         let rest = rest_by_own A.anon refl was_by in
         let chains = chain_by_own A.anon refl was_by own_new in
-        λ i. record { next = rest.0 i; info = rest.1 i; chain = λ v. chains v i }
+        (λ i. record { next = rest.0 i; info = rest.1 i; chain = λ v. chains v i }) ∙ ap (λ own. kin_with own (kin_at areas f)) goes_by

@@ -4,6 +4,7 @@ use Rattle.std.specs.Prelude.{option_and_then}
 use Rattle.std.specs.Option.{option_or}
 use Rattle.std.proofs.lemmas.Option.{none-some, same_Some}
 use Rattle.av_base.specs.Words.{within}
+use Rattle.av_base.specs.declared.flags.Flags.{Flags}
 use Rattle.av_base.specs.declared.prot.Prot.{Prot}
 use Rattle.av_interval.specs.declared.span.Span as interval
 use Rattle.av_vma.specs.declared.area.Area.{Area}
@@ -158,12 +159,12 @@ pages_alike len len' effect from (suc n) on h q =
     ∙ (λ i. pages_changed len' effect (from + 1) n (λ o. page_alike len len' effect from on h o i) q)
 
 -- and so they are mapped, where the new area has no anon_vma
-pub map_alike : (len len' : Lengths) (p from past : ℕ) (prot : Prot) (on : Pages) → len None ≡ len' None → AreAlike len len' on → (q : ℕ) →
-    after_map len p from past prot on q ≡ after_map len' p from past prot on q
-map_alike len len' p from past prot on none h q =
-    around_alike len len' from past (with_area (fresh_area p from past prot) on)
-    (record { same = λ page area e. go page area (has_page (fresh_area p from past prot) page) e }) q
+pub map_alike : (len len' : Lengths) (p from past : ℕ) (prot : Prot) (flags : Flags) (on : Pages) → len None ≡ len' None → AreAlike len len' on → (q : ℕ) →
+    after_map len p from past prot flags on q ≡ after_map len' p from past prot flags on q
+map_alike len len' p from past prot flags on none h q =
+    around_alike len len' from past (with_area (fresh_area p from past prot flags) on)
+    (record { same = λ page area e. go page area (has_page (fresh_area p from past prot flags) page) e }) q
   where
-    go : (page : ℕ) (area : Area) (b : Bool) → cond b (Some (fresh_area p from past prot)) (on page) ≡ Some area → len area.anon ≡ len' area.anon
-    go page area true e = subst (λ (a : Area). len a.anon ≡ len' a.anon) (same_Some (fresh_area p from past prot) area e) none
+    go : (page : ℕ) (area : Area) (b : Bool) → cond b (Some (fresh_area p from past prot flags)) (on page) ≡ Some area → len area.anon ≡ len' area.anon
+    go page area true e = subst (λ (a : Area). len a.anon ≡ len' a.anon) (same_Some (fresh_area p from past prot flags) area e) none
     go page area false e = h.same page area e

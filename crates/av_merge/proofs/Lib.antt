@@ -1,6 +1,7 @@
 pub mod Beside
 pub mod ChangingByPage
 pub mod ChangingParts
+pub mod ChangingOver
 pub mod ChangingReach
 pub mod SplittingLaws
 pub mod SplittingEmpty
@@ -11,6 +12,7 @@ pub mod Lengths
 pub mod LinkingLaws
 pub mod PlacingMaps
 pub mod MremapLaws
+pub mod MremapLeftLaws
 pub mod MremapLengths
 pub mod PlacingLaws
 pub mod PreparingLaws

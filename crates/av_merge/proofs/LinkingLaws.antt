@@ -13,6 +13,7 @@ use Rattle.av_anon.specs.Resize.{with_bounds}
 use Rattle.av_anon.specs.Spans.{GoWithLinks}
 use Rattle.av_anon.proofs.Words.{with_at-here, with_at-same, with_at-twice}
 use Rattle.av_base.specs.Limits.{low_page, top_page}
+use Rattle.av_base.specs.declared.flags.Flags.{Flags}
 use Rattle.av_base.specs.declared.prot.Prot.{Prot}
 use Rattle.av_vma.specs.Areas.{area_of}
 use Rattle.av_vma.specs.Pages.{fresh_area}
@@ -103,8 +104,8 @@ bare_part areas areas' f spans n area o unused w now =
     (λ A e. subst IsWhole (same_Some (record area { anon = None }) A e) bare) now
 
 -- a new area of a process is whole, and comes without anon_vma
-pub whole_fresh : (p from past : ℕ) (prot : Prot) → from < past → low_page ≤ from → past ≤ top_page → IsWhole (fresh_area p from past prot)
-whole_fresh p from past prot some low high = record {
+pub whole_fresh : (p from past : ℕ) (prot : Prot) (flags : Flags) → from < past → low_page ≤ from → past ≤ top_page → IsWhole (fresh_area p from past prot flags)
+whole_fresh p from past prot flags some low high = record {
   start = omega arith;
   end = omega arith;
   some = omega arith;

@@ -1,11 +1,12 @@
 -- Where areas move or grow it does not matter which of two lengths of chains is asked, where they say the same of the areas that there are.
-use Rattle.std.proofs.Common.{◌≡◌, ℕ, suc, Option, Some, None, refl, sym, ap, subst, ◌∙◌}
+use Rattle.std.proofs.Common.{◌≡◌, ℕ, zero, suc, ◌+◌, Option, Some, None, refl, sym, ap, subst, ◌∙◌}
+use Rattle.av_base.specs.Flags.{unlocked}
 use Rattle.av_vma.specs.declared.area.Area.{Area}
 use Rattle.av_vma.specs.Index.{first_of}
-use Rattle.av_vma.specs.Mremap.{after_grow, after_move, grown_to}
-use Rattle.av_vma.specs.Pages.{Lengths, Pages}
-use Rattle.av_vma.proofs.Owns.{AddsNoOwn, HasOwn, full, owns_full, owns_grown}
-use Rattle.av_merge.proofs.Lengths.{AreAlike, around_alike, over_alike}
+use Rattle.av_vma.specs.Mremap.{after_grow, after_move, grown_to, page_left, pages_left}
+use Rattle.av_vma.specs.Pages.{Lengths, Pages, after_map}
+use Rattle.av_vma.proofs.Owns.{AddsNoOwn, HasOwn, full, owns_full, owns_grown, owns_mapped}
+use Rattle.av_merge.proofs.Lengths.{AreAlike, around_alike, map_alike, over_alike}
 
 -- lengths that are alike are so for areas that have no other own anon_vmas
 alike_owns : (len len' : Lengths) (on now : Pages) → len None ≡ len' None → AreAlike len len' on → AddsNoOwn on now → AreAlike len len' now
@@ -36,3 +37,20 @@ module _ (len len' : Lengths) (on : Pages) (none : len None ≡ len' None) (alik
   move_alike from n to m =
       let on' = full from n to m on in
       over_alike len len' to (suc m) on' (alike_owns len len' on on' none alike (owns_full from n to m on))
+
+-- nor where the old range is mapped again
+module _ (len len' : Lengths) (p : ℕ) (was : Pages) (none : len None ≡ len' None) where
+  page_alike : (page : ℕ) (o : Option Area) (on : Pages) → AreAlike len len' on → (q : ℕ) → page_left len p page o on q ≡ page_left len' p page o on q
+  page_alike page None on alike q = refl
+  page_alike page (Some area) on alike q = map_alike len len' p page (page + 1) area.prot (unlocked area.flags) on none alike q
+
+  still_alike : (page : ℕ) (o : Option Area) (on : Pages) → AreAlike len len' on → AreAlike len len' (page_left len p page o on)
+  still_alike page None on alike = alike
+  still_alike page (Some area) on alike = alike_owns len len' on (after_map len p page (page + 1) area.prot (unlocked area.flags) on) none alike
+      (owns_mapped len p page (page + 1) area.prot (unlocked area.flags) on)
+
+  pub left_alike : (from n : ℕ) (on : Pages) → AreAlike len len' on → (q : ℕ) → pages_left len p was from n on q ≡ pages_left len' p was from n on q
+  left_alike from zero on alike q = refl
+  left_alike from (suc n) on alike q =
+      left_alike (from + 1) n (page_left len p from (was from) on) (still_alike from (was from) on alike) q
+      ∙ (λ i. pages_left len' p was (from + 1) n (λ o. page_alike from (was from) on alike o i) q)

@@ -3,6 +3,7 @@ use Rattle.std.specs.Prelude.{◌≡◌, ℕ, suc, List, Option, Some, None}
 use Rattle.av_base.specs.Words.{with_at}
 use Rattle.av_vma.specs.declared.area.Area.{Area}
 use Rattle.av_vma.specs.Areas.{area_of}
+use Rattle.av_vma.specs.Fork.{forked_area, own_to_fork}
 use Rattle.av_vma.specs.Index.{first_of, past_of}
 use Rattle.av_vmatree.specs.declared.span.Span.{Span}
 use Rattle.av_vmatree.specs.Spans.{span, with_span}
@@ -28,14 +29,15 @@ kin_by areas anons = let f = family anons in record {
   chain = chain_by (area_of areas) f;
 }
 
--- the own anon_vma of the child's area, by the parent's
+-- the own anon_vma of the child's area, by the one that the parent's goes by
 abbrev pub own_in_child : Option ℕ → Lineage → Option ℕ
 own_in_child None k = None
 own_in_child (Some own) k = Some (child_own (member_to_reuse k.info (k.chain own)) k.next)
 
 -- the child's area, by the parent's
 abbrev pub area_in_child : ℕ → Lineage → Area → Area
-area_in_child child k area = record area { pid = child; anon = own_in_child area.anon k }
+area_in_child child k area =
+    record (forked_area child area) { anon = own_in_child (own_to_fork area) k }
 
 -- the anon_vmas then: the member that is had again has one area more, or one is made below own
 abbrev pub info_with : Option ℕ → ℕ → Lineage → ℕ → Option Info
@@ -65,7 +67,7 @@ pub record IsForkedTo (child : ℕ) (area : Area) (old : List (Option Area)) (be
     (anons : Anons) (new : List (Option Area)) (after : List Span) (anons' : Anons) (number : ℕ)
     : Type 0 where
   pub order : AreInOrder new anons'
-  pub kin : kin_by new anons' ≡ kin_with area.anon (kin_by old anons)
+  pub kin : kin_by new anons' ≡ kin_with (own_to_fork area) (kin_by old anons)
   pub unused : area_of old number ≡ None
   pub areas : (k : ℕ) → area_of new k
       ≡ with_at number (Some (area_in_child child (kin_by old anons) area)) (area_of old) k

@@ -1,5 +1,6 @@
 -- How a page is mapped: what its area says of it, whatever the area's bounds are.
 use Rattle.std.specs.Prelude.{◌≡◌, ℕ, ◌-◌, if◌then◌else◌, Option, option_map, IfSome}
+use Rattle.av_base.specs.declared.flags.Flags.{Flags}
 use Rattle.av_base.specs.declared.prot.Prot.{Prot}
 use Rattle.av_vma.specs.declared.area.Area.{Area}
 use Rattle.av_base.specs.Words.{within}
@@ -10,7 +11,7 @@ use Rattle.av_vma.specs.Pages.{Pages, Effect}
 -- which a page may get by a join
 pub record Mapping : Type 0 where
   pub prot : Prot
-  pub flags : ℕ
+  pub flags : Flags
   pub index : ℕ
 
 -- how an area maps one of its pages

@@ -7,7 +7,7 @@ ghost use Rattle.av_vma.specs.Areas.{area_of};
 ghost use Rattle.av_base.specs.Limits.{low_page, top_page};
 ghost use Rattle.av_vma.specs.Index.{past_of};
 ghost use Rattle.av_base.specs.Words.{within};
-ghost use Rattle.av_vmatree.specs.Spans.{IsFree, area_at, is_page_taken};
+ghost use Rattle.av_vmatree.specs.Spans.{AreSpans, IsFree, area_at, is_page_taken};
 ghost use Rattle.av_merge.specs.Changing.{effect_of};
 ghost use Rattle.av_merge.specs.Mapping.{IsRemapped};
 ghost use Rattle.av_merge.specs.Pages.{GoesTo, pages_by};
@@ -20,7 +20,7 @@ use crate::joining::{join_beside, join_part};
 use crate::placing::{add, beside};
 use crate::splitting::split_out;
 use av_anon::Anons;
-use av_base::{PAGE_SIZE, Prot};
+use av_base::{Flag, Flags, PAGE_SIZE, Prot};
 use av_vma::{Area, AreaId, Areas};
 use av_vmatree::Tree;
 use std::alloc::AllocError;
@@ -35,6 +35,7 @@ pub fn map(
     from: u64,
     to: u64,
     prot: Prot,
+    flags: Flags,
 ) -> Result<(), AllocError>
     requires order { AreInOrder areas.old anons.old }
     requires stands { AreAreasOf process (area_of areas.old) tree.old }
@@ -46,14 +47,14 @@ pub fn map(
     ensures kin { OnOk result (StayKin areas.old anons.old areas.new anons.new) }
     ensures pages { OnOk result
         (Becomes areas.old tree.old areas.new tree.new
-        (after_map (lengths areas.old anons.old) process from to prot)) }
+        (after_map (lengths areas.old anons.old) process from to prot flags)) }
 {
     let area = Area {
         pid: process,
         start: PAGE_SIZE * from,
         end: PAGE_SIZE * to,
         prot,
-        flags: 0,
+        flags,
         pgoff: from,
         anon: None,
     };
@@ -67,6 +68,8 @@ pub fn map(
 pub enum Change {
     /// The pages get this protection.
     Prot(Prot),
+    /// The pages get the flag, or lose it.
+    Flag(Flag, bool),
 }
 
 impl Change {
@@ -76,6 +79,7 @@ impl Change {
     {
         match self {
             Change::Prot(prot) => prot != area.prot,
+            Change::Flag(flag, set) => area.flags.with(flag, set) != area.flags,
         }
     }
 
@@ -85,6 +89,10 @@ impl Change {
     {
         match self {
             Change::Prot(prot) => Area { prot, ..area },
+            Change::Flag(flag, set) => Area {
+                flags: area.flags.with(flag, set),
+                ..area
+            },
         }
     }
 }
@@ -125,6 +133,55 @@ pub fn modify(
         page = past;
     }
     Ok(to)
+}
+
+/// Changes every mapped page from `from` to below `to`, past those that aren't mapped too, and
+/// tells the first of these, else `to` (Linux's `madvise_walk_vmas`).
+pub fn modify_all(
+    areas: &mut Areas,
+    tree: &mut Tree,
+    anons: &mut Anons,
+    from: u64,
+    to: u64,
+    change: Change,
+) -> Result<u64, AllocError>
+    requires order { AreInOrder areas.old anons.old }
+    requires stands { AreOfOne areas.old tree.old }
+    requires forward { from ≤ to }
+    ensures stands { StayOfOne areas.old tree.old areas.new tree.new }
+    ensures kin { OnOk result (StayKin areas.old anons.old areas.new anons.new) }
+    ensures reached { IfOk result (λ past. GoesTo (is_page_taken tree.old) from to past) }
+    ensures pages { OnOk result (Becomes areas.old tree.old areas.new tree.new
+        (pages_changed (lengths areas.old anons.old) (effect_of change) from (to - from))) }
+    ensures mapping { OnOk result (IsRemapped from to (effect_of change)
+        (pages_by (area_of areas.old) tree.old) (pages_by (area_of areas.new) tree.new)) }
+{
+    let first_hole = modify(areas, tree, anons, from, to, change)?;
+    let mut page = first_hole;
+    while page < to {
+        let mapped = next_mapped(tree, page, to);
+        page = modify(areas, tree, anons, mapped, to, change)?;
+    }
+    Ok(first_hole)
+}
+
+/// The first page from `from` on that is mapped, else `to`.
+fn next_mapped(tree: &Tree, from: u64, to: u64) -> u64
+    requires spans { AreSpans tree.now }
+    requires forward { from ≤ to }
+    ensures least { from ≤ result }
+    ensures most { result ≤ to }
+    ensures free { IsFree (is_page_taken tree.now) from result }
+    ensures mapped { result < to → is_page_taken tree.now result ≡ true }
+{
+    if tree.find(from).is_some() {
+        return from;
+    }
+    let (_, above) = tree.around(from);
+    match above {
+        Some(span) => to.min(span.from),
+        None => to,
+    }
 }
 
 /// Changes the pages from `from` to below `past`, all of one area that the change makes another,

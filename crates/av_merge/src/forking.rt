@@ -17,7 +17,8 @@ use std::alloc::AllocError;
 
 /// Gives a child the area with a number, which is another process's and whose pages are free in
 /// the child's tree. The child's area is linked to the whole chain of that one, and has the lowest
-/// idle member as its own anon_vma, else a new one below that one's own; none where that has none.
+/// idle member as its own anon_vma, else a new one below that one's own; none where that has none,
+/// or is wiped. It isn't locked.
 pub fn fork(
     areas: &mut Areas,
     tree: &mut Tree,
@@ -37,9 +38,14 @@ pub fn fork(
     let area = areas.get(number);
     let bare = Area {
         pid: child,
+        flags: area.flags.unlocked(),
         anon: None,
         ..area
     };
     let copy = add(areas, tree, bare)?;
+    let is_wiped = area.flags.wipe_on_fork;
+    if is_wiped {
+        return Ok(());
+    }
     anons.fork(areas, number, copy)
 }

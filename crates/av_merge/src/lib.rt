@@ -12,7 +12,8 @@
 //! that goes leaves its anon_vmas first. Areas without anon_vma are changed directly. An area that
 //! moves keeps its number, and so its links; where it has an anon_vma its offset stays too, and so
 //! its spans. `prepare` gives an area its own anon_vma: that of an area beside it, or a new one.
-//! `fork` gives a child an area of another process, linked to that one's whole chain.
+//! `fork` gives a child an area of another process, linked to that one's whole chain, or to nothing
+//! where its pages are wiped. `modify` and `modify_all` change a protection or a flag of pages.
 //!
 //! Proved: which area is on each page then, with every field (av_vma's `Pages`); that no area of
 //! another process changed; that chain order stays, that no anon_vma changes its kin and none is
@@ -36,11 +37,11 @@ mod placing;
 mod preparing;
 mod splitting;
 
-pub use changing::{Change, map, modify};
+pub use changing::{Change, map, modify, modify_all};
 pub use forking::fork;
 pub use laws::{
     areas_are_laid, joins_keep_mappings, parts_are_changed_page_by_page, unmappings_keep_mappings,
 };
-pub use mremap::{grow, move_range};
+pub use mremap::{grow, map_like, move_range};
 pub use preparing::prepare;
 pub use splitting::{unmap, unmap_all};

@@ -7,7 +7,8 @@ ghost use Rattle.av_base.specs.Limits.{low_page, top_page, most_indices};
 ghost use Rattle.av_vma.specs.Areas.{area_of};
 ghost use Rattle.av_vma.specs.Index.{first_of, past_of};
 ghost use Rattle.av_vma.specs.Mremap.{IsGrowth, IsMove, after_grow, after_move, grown_to};
-ghost use Rattle.av_vma.specs.Mremap.{joined_over, moved_area, moved_range};
+ghost use Rattle.av_vma.specs.Mremap.{joined_over, moved_area, moved_range, pages_from};
+ghost use Rattle.av_vma.specs.Mremap.{pages_left};
 ghost use Rattle.av_vma.specs.Pages.{after_unmap, split_at, with_area, without_range};
 ghost use Rattle.av_vmatree.specs.Spans.{IsFree, area_at, is_page_taken};
 ghost use Rattle.av_merge.specs.Kin.{AreInOrder, StayKin, lengths};
@@ -15,6 +16,7 @@ ghost use Rattle.av_merge.specs.Pages.{pages_by};
 ghost use Rattle.av_merge.specs.Process.{AreAreasOf, NoneCrosses, Stays, AreOfOne, StayOfOne};
 ghost use Rattle.av_merge.specs.Process.{Becomes};
 
+use crate::changing::map;
 use crate::joining::{join_at, join_ends};
 use crate::linking::take;
 use crate::placing::replace;
@@ -85,6 +87,50 @@ fn clear_ranges(
         from + pages.min(new_pages),
         from + pages,
     )
+}
+
+/// Maps the pages from `from` to below `past`, which are free in the process, each like the page
+/// that is as far from `like` on, with its protection and its flags, but not locked.
+///
+/// Each run of pages that are alike is a new area without an anon_vma, whose offset is its first
+/// page, and is joined with its neighbours.
+pub fn map_like(
+    areas: &mut Areas,
+    tree: &mut Tree,
+    anons: &mut Anons,
+    process: u16,
+    from: u64,
+    past: u64,
+    like: u64,
+) -> Result<(), AllocError>
+    requires order { AreInOrder areas.old anons.old }
+    requires stands { AreAreasOf process (area_of areas.old) tree.old }
+    requires forward { from ≤ past }
+    requires low { low_page ≤ from }
+    requires high { past ≤ top_page }
+    requires small { like + (past - from) < 2 ^ 64 }
+    requires free { IsFree (is_page_taken tree.old) from past }
+    requires mapped { (page : ℕ) → like ≤ page → page < like + (past - from)
+        → is_page_taken tree.old page ≡ true }
+    ensures stands { Stays process (area_of areas.old) (area_of areas.new) tree.new }
+    ensures kin { OnOk result (StayKin areas.old anons.old areas.new anons.new) }
+    ensures pages { OnOk result (Becomes areas.old tree.old areas.new tree.new
+        (λ on. pages_left (lengths areas.old anons.old) process (pages_from like from on) from
+        (past - from) on)) }
+{
+    let mut page = from;
+    while page < past {
+        let at = like + (page - from);
+        let Some(number) = tree.find(at) else {
+            unreachable!()
+        };
+        let area = areas.get(number);
+        let end = past.min(page + (area.end / PAGE_SIZE - at));
+        let flags = area.flags.unlocked();
+        map(areas, tree, anons, process, page, end, area.prot, flags)?;
+        page = end;
+    }
+    Ok(())
 }
 
 /// Makes an area longer, from its last page on: it ends before the page `past` then. It is joined

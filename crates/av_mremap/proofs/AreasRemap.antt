@@ -1,15 +1,17 @@
 -- The areas of a process that lives have changed, once or twice: they are what the definitions make of them.
-use Rattle.std.proofs.Common.{◌≡◌, ℕ, ◌+◌, ◌-◌, ◌<◌, ◌≤◌, Bool, true, false, cond, Option, Some, None, is_some, refl, sym, ap, subst, ◌∙◌, arith, ◌==◌, nat_lt}
+use Rattle.std.proofs.Common.{◌≡◌, ℕ, ◌+◌, ◌-◌, ◌<◌, ◌≤◌, Bool, true, false, cond, Option, Some, None, is_some, option_map, refl, sym, ap, subst, ◌∙◌, arith, ◌==◌, nat_lt}
 use Rattle.std.proofs.lemmas.Bool.Decides.{nat_tests}
 use Rattle.av_base.specs.Limits.{low_page, top_page}
 use Rattle.av_base.specs.Words.{with_at}
-use Rattle.av_base.specs.declared.prot.Prot.{Prot}
-use Rattle.av_vma.specs.Mremap.{IsMove, after_grow, after_move, after_resize}
-use Rattle.av_vma.specs.Pages.{Lengths, Pages, after_map, after_unmap, pages_in}
+use Rattle.av_vma.specs.Mremap.{IsMove, after_grow, after_move, after_resize, pages_from, pages_left}
+use Rattle.av_vma.specs.Pages.{AreLaid, Lengths, Pages, after_unmap, pages_in}
+use Rattle.av_vma.proofs.LeftRuns.{left_by_marks}
+use Rattle.av_vma.proofs.Marks.{area_marks, marks, marks_moved}
+use Rattle.av_vma.specs.declared.area.Area.{Area}
 use Rattle.av_anon.specs.declared.anons.Anons.{Anons as AnonSet}
 use Rattle.av_merge.specs.Kin.{lengths}
-use Rattle.av_merge.proofs.Lengths.{AreAlike, map_alike}
-use Rattle.av_merge.proofs.MremapLengths.{grow_alike, move_alike}
+use Rattle.av_merge.proofs.Lengths.{AreAlike}
+use Rattle.av_merge.proofs.MremapLengths.{grow_alike, left_alike, move_alike}
 use Rattle.av_spaces.specs.Kin.{AnonsStay}
 use Rattle.av_spaces.specs.Spaces.{AllSpaces, AreThese, IsChanged, Spaces, areas_of, is_taken, pages_of}
 use Rattle.av_spaces.proofs.Kin.{stay_both, stay_same}
@@ -30,6 +32,14 @@ equal a b h = grind (arith, nat_tests, h)
 
 other : (a b : ℕ) → (a == b) ≡ false → a ≡ b → ⊥
 other a b h e = grind (arith, nat_tests, h, e)
+
+-- a page has marks exactly where it has an area
+some_marks : (on : Pages) (page : ℕ) → is_some (marks on page) ≡ is_some (on page)
+some_marks on page = by (on page)
+  where
+    by : (o : Option Area) → is_some (option_map area_marks o) ≡ is_some o
+    by None = refl
+    by (Some area) = refl
 
 -- a process's areas are these, whatever these are called
 same_on : (old : Spaces) (p : ℕ) (on on' : Pages) → ((page : ℕ) → on page ≡ on' page) → (q page : ℕ)
@@ -147,16 +157,16 @@ module _ (d : Device) (old : Mem) (s : State) (keeps : Keeps d old s) (p : ℕ) 
         ∙ (λ i. after_move len from n to m (λ o. keeps.stands.areas p o i) page)
 
     -- which of the two the areas become
-    elsewhere : (left : Option Prot) → (to == from) ≡ false → (page : ℕ)
-        → with_old_range len p from (from + n) left (after_move len from n to m (s.areas p)) page ≡ after_mremap len p from n to m left
+    elsewhere : (stays : Bool) → (to == from) ≡ false → (page : ℕ)
+        → with_old_range len p (s.areas p) from n stays (after_move len from n to m (s.areas p)) page ≡ after_mremap len p from n to m stays
         (s.areas p) page
-    elsewhere left e page = ap (λ b. (cond b (after_resize len from n m (s.areas p))
-        (with_old_range len p from (from + n) left (after_move len from n to m (s.areas p)))) page) (sym e)
+    elsewhere stays e page = ap (λ b. (cond b (after_resize len from n m (s.areas p))
+        (with_old_range len p (s.areas p) from n stays (after_move len from n to m (s.areas p)))) page) (sym e)
 
     pub has_moved_areas : (to == from) ≡ false
-        → HasRemap old (record old { spaces = spaces; anons = anons }) p (after_mremap len p from n to m None (s.areas p))
-    has_moved_areas e = changed old spaces anons p alive (after_move was from n to m on) h stay (after_mremap len p from n to m None (s.areas p))
-        (λ page. moved_is page ∙ elsewhere None e page)
+        → HasRemap old (record old { spaces = spaces; anons = anons }) p (after_mremap len p from n to m false (s.areas p))
+    has_moved_areas e = changed old spaces anons p alive (after_move was from n to m on) h stay (after_mremap len p from n to m false (s.areas p))
+        (λ page. moved_is page ∙ elsewhere false e page)
 
     -- the old range is free then
     pub left_low : low_page ≤ from
@@ -169,20 +179,49 @@ module _ (d : Device) (old : Mem) (s : State) (keeps : Keeps d old s) (p : ℕ) 
     left_free page low high = ap is_some (h.pages page)
         ∙ (room was p from n to m on (laid old.spaces.processes p h.were_rising) move).free page low (omega arith)
 
-    module _ (now : AllSpaces) (anons' : AnonSet) (stay' : AnonsStay spaces anons now anons') (prot : Prot)
+    -- and the new one has the pages that moved
+    moved_pages : pages_of spaces.processes p ≡ after_move len from n to m (s.areas p)
+    moved_pages = λ i page. (h.pages page ∙ moved_is page) i
+
+    laid_before : AreLaid (s.areas p)
+    laid_before = subst AreLaid (λ i page. keeps.stands.areas p page i) (laid old.spaces.processes p h.were_rising)
+
+    move_before : IsMove from n to m (s.areas p)
+    move_before = subst (IsMove from n to m) (λ i page. keeps.stands.areas p page i) move
+
+    pub target_taken : n ≤ m → (page : ℕ) → to ≤ page → page < to + n → is_taken spaces.processes p page ≡ true
+    target_taken fits page low high =
+        ap is_some (λ i. moved_pages i page) ∙ sym (some_marks (after_move len from n to m (s.areas p)) page)
+        ∙ ap is_some (marks_moved len from n to m (s.areas p) laid_before move_before page low (omega arith))
+        ∙ some_marks (s.areas p) (from + (page - to)) ∙ move_before.mapped (from + (page - to)) (omega arith) (omega arith)
+
+    module _ (now : AllSpaces) (anons' : AnonSet) (stay' : AnonsStay spaces anons now anons') (fits : n ≤ m)
         (g : IsChanged spaces.processes now.processes p
-        (AreThese (after_map (lengths spaces.areas anons) p from (from + n) prot (pages_of spaces.processes p)))) where
-      mapped_is : (page : ℕ) → after_map (lengths spaces.areas anons) p from (from + n) prot (pages_of spaces.processes p) page
-          ≡ after_map len p from (from + n) prot (after_move len from n to m (s.areas p)) page
-      mapped_is page = map_alike (lengths spaces.areas anons) len p from (from + n) prot (pages_of spaces.processes p) refl
-          (lengths_alike d old s keeps spaces anons stay p) page
-          ∙ (λ i. after_map len p from (from + n) prot (λ o. (h.pages o ∙ moved_is o) i) page)
+        (AreThese (pages_left (lengths spaces.areas anons) p (pages_from to from (pages_of spaces.processes p)) from n (pages_of spaces.processes p)))) where
+      -- each page of the old range is like the one that moved from there
+      as_before : (page : ℕ) → from ≤ page → page < from + n
+          → marks (pages_from to from (after_move len from n to m (s.areas p))) page ≡ marks (s.areas p) page
+      as_before page low high =
+          marks_moved len from n to m (s.areas p) laid_before move_before (to + (page - from)) (omega arith) (omega arith)
+          ∙ ap (marks (s.areas p)) back
+        where
+          back : from + (to + (page - from) - to) ≡ page
+          back = omega arith
+
+      mapped_is : (page : ℕ) → pages_left (lengths spaces.areas anons) p (pages_from to from (pages_of spaces.processes p)) from n
+          (pages_of spaces.processes p) page ≡ pages_left len p (s.areas p) from n (after_move len from n to m (s.areas p)) page
+      mapped_is page = left_alike (lengths spaces.areas anons) len p (pages_from to from (pages_of spaces.processes p)) refl from n
+          (pages_of spaces.processes p) (lengths_alike d old s keeps spaces anons stay p) page
+          ∙ (λ i. pages_left len p (pages_from to from (moved_pages i)) from n (moved_pages i) page)
+          ∙ ap (λ on. on page) (left_by_marks len p (pages_from to from (after_move len from n to m (s.areas p))) (s.areas p) from n
+          (after_move len from n to m (s.areas p)) as_before)
 
       pub has_left_areas : (to == from) ≡ false
-          → HasRemap old (record old { spaces = now; anons = anons' }) p (after_mremap len p from n to m (Some prot) (s.areas p))
-      has_left_areas e = changed old now anons' p alive (after_map (lengths spaces.areas anons) p from (from + n) prot (pages_of spaces.processes p))
+          → HasRemap old (record old { spaces = now; anons = anons' }) p (after_mremap len p from n to m true (s.areas p))
+      has_left_areas e = changed old now anons' p alive (pages_left (lengths spaces.areas anons) p (pages_from to from (pages_of spaces.processes p))
+          from n (pages_of spaces.processes p))
           (both_changed spaces.processes now.processes _ _ h g) (stay_both old.spaces spaces now old.anons anons anons' stay stay')
-          (after_mremap len p from n to m (Some prot) (s.areas p)) (λ page. mapped_is page ∙ elsewhere (Some prot) e page)
+          (after_mremap len p from n to m true (s.areas p)) (λ page. mapped_is page ∙ elsewhere true e page)
 
 -- as many pages as before change nothing
 pub unchanged_size : (d : Device) (old : Mem) (s : State) → Keeps d old s → (p from n m : ℕ) → n ≤ m → m ≤ n
@@ -197,17 +236,17 @@ unchanged_size d old s keeps p from n m more less = subst (HasRemap old old p) (
         (cond (not_less n m less i) (after_grow (chain_length s.anons) (from + m) (s.areas p (from + n - 1)) (s.areas p)) (s.areas p))
 
 -- where they stay they are resized
-pub stays_here : (old new : Mem) (s : State) (p from n to m : ℕ) (left : Option Prot) → to ≡ from
+pub stays_here : (old new : Mem) (s : State) (p from n to m : ℕ) (stays : Bool) → to ≡ from
     → HasRemap old new p (after_resize (chain_length s.anons) from n m (s.areas p))
-    → HasRemap old new p (after_mremap (chain_length s.anons) p from n to m left (s.areas p))
+    → HasRemap old new p (after_mremap (chain_length s.anons) p from n to m stays (s.areas p))
 stays_here old new s p from n to m left here h = subst (HasRemap old new p) (sym is) h
   where
     same : (to == from) ≡ true
     same = grind (arith, nat_tests, here)
 
-    is : after_mremap (chain_length s.anons) p from n to m left (s.areas p) ≡ after_resize (chain_length s.anons) from n m (s.areas p)
+    is : after_mremap (chain_length s.anons) p from n to m stays (s.areas p) ≡ after_resize (chain_length s.anons) from n m (s.areas p)
     is = ap (λ b. cond b (after_resize (chain_length s.anons) from n m (s.areas p))
-        (with_old_range (chain_length s.anons) p from (from + n) left (after_move (chain_length s.anons) from n to m (s.areas p)))) same
+        (with_old_range (chain_length s.anons) p (s.areas p) from n stays (after_move (chain_length s.anons) from n to m (s.areas p)))) same
 
 -- elsewhere
 pub differs : (a b : ℕ) → (a ≡ b → ⊥) → (a == b) ≡ false

@@ -11,15 +11,14 @@ ghost use Rattle.av_mem.specs.Mem.{IsSteady, Keeps};
 ghost use Rattle.av_spaces.specs.Spaces.{areas_of, pages_of};
 ghost use Rattle.av_vma.specs.Mremap.{IsGrowth, IsMove, after_resize};
 
-use av_base::Prot;
 use av_mem::Mem;
 use std::alloc::AllocError;
 
 /// Makes `new_pages` pages from the page `to` on of a process's `pages` pages from the page `from`
 /// on, as far as areas go. Where they stay, those past the new ones go, or the last area grows.
 /// Where they move, what stands in the new range goes first; an area that has an anon_vma keeps its
-/// offset, so that each page keeps its linear index. Then the old range is mapped again, if it is
-/// left with a protection.
+/// offset, so that each page keeps its linear index. Then the old range is mapped again, if it
+/// stays: each page like the one that moved from it, but not locked.
 ///
 /// Costs by the areas that move or go. Without memory nothing is promised of areas and anon_vmas.
 pub fn remap_areas(
@@ -29,7 +28,7 @@ pub fn remap_areas(
     pages: u64,
     to: u64,
     new_pages: u64,
-    left: Option<Prot>,
+    stays: bool,
 ) -> Result<(), AllocError>
     requires steady { IsSteady mem.old }
     requires lives { is_some (areas_of mem.old.spaces.processes process) ≡ true }
@@ -37,11 +36,12 @@ pub fn remap_areas(
     requires shrinks { to ≡ from → new_pages < pages → from + pages ≤ top_page }
     requires grows { to ≡ from → pages < new_pages → IsGrowth (from + pages - 1)
         (from + new_pages) (pages_of mem.old.spaces.processes process) }
+    requires whole { stays ≡ true → pages ≤ new_pages }
     requires moves { (to ≡ from → ⊥) → IsMove from pages to new_pages
         (pages_of mem.old.spaces.processes process) }
     ensures remaps { (d : Device) (s : State) → Keeps d mem.old s →
         OnOk result (HasRemap mem.old mem.new process (after_mremap (chain_length s.anons)
-        process from pages to new_pages left (s.areas process))) }
+        process from pages to new_pages stays (s.areas process))) }
     ensures rest { mem.new
         ≡ record mem.old { spaces = mem.new.spaces; anons = mem.new.anons } }
 {
@@ -50,10 +50,11 @@ pub fn remap_areas(
     }
     mem.spaces
         .move_range(&mut mem.anons, process, from, pages, to, new_pages)?;
-    match left {
-        Some(prot) => mem.spaces.map(&mut mem.anons, process, from, pages, prot),
-        None => Ok(()),
+    if !stays {
+        return Ok(());
     }
+    mem.spaces
+        .map_like(&mut mem.anons, process, from, pages, to)
 }
 
 /// The same where the pages stay.

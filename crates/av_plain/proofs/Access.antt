@@ -2,8 +2,9 @@
 use Rattle.std.proofs.Common.{◌≡◌, inl, inr, ℕ, Bool, List, [], ◌∷◌, ◌++◌, Option, Some, None, refl, sym, ap, subst, ◌∙◌}
 use Rattle.std.proofs.lemmas.List.{append_assoc}
 use Rattle.av_trace.specs.declared.note.Note.{Note}
-use Rattle.av_plain.specs.World.{World}
-use Rattle.av_plain.specs.Ledger.{Ledger, Setting}
+use Rattle.std.specs.List.{list_any}
+use Rattle.av_plain.specs.World.{World, is_locked_page, pages}
+use Rattle.av_plain.specs.Ledger.{Key, Ledger, Setting, walk}
 use Rattle.av_plain.specs.Event.{Event, Noted, after, after_all, note_in, notes_of, after_notes, note_events}
 use Rattle.av_plain.specs.Fault.{Stop, Denied, Starved, Lost, Touches, sparing, Serves, RunsOut, IsLost, is_allowed}
 use Rattle.av_plain.specs.Access.{Accesses, End, Whole, Stopped, page_events}
@@ -59,10 +60,17 @@ pub record SeenAlike (w w' : World) (p : ℕ) : Type 0 where
   pub allowed : (write : Bool) (page : ℕ) → is_allowed w write (p, page) ≡ is_allowed w' write (p, page)
   pub spares : sparing w ≡ sparing w'
 
--- as long as a pass doesn't look at the memories
+-- where the same pages are locked, a pass leaves the same alone
+pub spares-alike : (w w' : World) → ((p page : ℕ) → is_locked_page (pages w p page) ≡ is_locked_page (pages w' p page)) → sparing w ≡ sparing w'
+spares-alike w w' locks = λ i l pinned. record {
+  pinned = pinned;
+  locked = λ f. list_any (λ (k : Key). locks k.0 k.1 i) (walk l f);
+  closing = None;
+}
+
 pub alike-by-allowed : (w w' : World) (p : ℕ) → ((write : Bool) (page : ℕ) → is_allowed w write (p, page) ≡ is_allowed w' write (p, page))
-    → SeenAlike w w' p
-alike-by-allowed w w' p h = record { allowed = h; spares = refl }
+    → ((q page : ℕ) → is_locked_page (pages w q page) ≡ is_locked_page (pages w' q page)) → SeenAlike w w' p
+alike-by-allowed w w' p h locks = record { allowed = h; spares = spares-alike w w' locks }
 
 pub touches-alike : (m : Setting) (w w' : World) (l : Ledger) (write : Bool) (p page : ℕ) (notes : List Note) (end : Option Stop) → SeenAlike w w' p
     → Touches m w' l write (p, page) notes end → Touches m w l write (p, page) notes end

@@ -5,16 +5,20 @@ use Rattle.std.proofs.lemmas.Bool.Decides.{nat_tests}
 use Rattle.std.specs.Prelude.{IfSome, IsSome, IsSomeAnd, if◌then◌else◌}
 use Rattle.av_base.specs.Page.{page_of}
 use Rattle.av_base.specs.Words.{is_in, with_at}
+use Rattle.av_base.specs.declared.flags.Flag.{Flag}
 use Rattle.av_vma.specs.declared.area.Area.{Area}
 use Rattle.av_plain.specs.Stands.{AnonsStand, View}
-use Rattle.av_plain.specs.Areas.{AnonVma, Anons, AreLeft, Areas, Homes, IsLinked, Rmap, chain_length, chain_by, no_anons, prepare_page, rmap_after, rmap_after_all, rmap_after_note, rmap_after_use, with_root}
+use Rattle.av_plain.specs.Areas.{AnonVma, Anons, AreLeft, Areas, Homes, IsLinked, Rmap, chain_length, chain_by, no_anons, prepare_page, rmap_after, rmap_after_all, rmap_after_flag, rmap_after_note, rmap_after_use, with_root}
 use Rattle.av_base.specs.declared.slot.Slot.{Slot}
-use Rattle.av_plain.specs.Event.{Event, Noted, Zapped, Used, Forked, EntriesMoved, TurnedOn, TurnedOff, after, after_all, note_events, notes_of, when}
+use Rattle.av_plain.specs.Event.{Event, Noted, Zapped, Used, Forked, EntriesMoved, TurnedOn, TurnedOff, FlagSet, after, after_all, note_events, when}
 use Rattle.av_plain.specs.Ledger.{Entry, InFrame, InSlot, Key, Ledger, Zero, entry, is_orphan}
 use Rattle.av_plain.specs.Zap.{orphan_drop, slot_behind_key, zap_of, zaps_of}
 use Rattle.av_trace.specs.declared.note.Note.{Note}
 use Rattle.av_trace.specs.declared.note.Note.TheVariants.{Zeroed, New, Copied, Loaded, Mapped, Put, Unmapped, Started, Written, Failed, Dropped, Kept, Aged}
 use Rattle.av_vma.specs.Pages.{Pages, makes_anon}
+use Rattle.av_plain.specs.Event.{FreeSorted}
+use Rattle.av_plain.specs.Areas.{Items}
+use Rattle.av_trace.specs.declared.note.Note.TheVariants.{Joined, Moved, Shared}
 
 -- where no anon_vma was made none is left
 pub left-none : (on : Areas) → AreLeft no_anons on no_anons
@@ -68,18 +72,18 @@ rmap_after_all-zaps l (k ∷ ks) m r =
     ∙ rmap_after_all-zaps (after_all l (zap_of l k)) ks (after_all m (zap_of l k)) (rmap_after_all m (zap_of l k) r)
     ∙ drop_leaves (after l (Zapped k)) (slot_behind_key l (entry l k)) (after m (Zapped k)) r
 
--- what each page that is prepared keeps, and each frame's coming home, all events keep
-pub rmap_after_all-keeps : (P : Rmap → Type 0) → ((p page : ℕ) (r : Rmap) → P r → P (prepare_page p page r))
-    → ((homes : Homes) (r : Rmap) → P r → P (record r { homes = homes })) → (l : Ledger) (es : List Event) (r : Rmap) → P r
-    → P (rmap_after_all l es r)
-rmap_after_all-keeps P keeps homes l [] r h = h
-rmap_after_all-keeps P keeps homes l (e ∷ es) r h = rmap_after_all-keeps P keeps homes (after l e) es (rmap_after l e r) (event e)
+-- what each page that is prepared keeps, and each frame's coming home, an event keeps; but for a flag that is set
+pub rmap_after-keeps : (P : Rmap → Type 0) → ((p page : ℕ) (r : Rmap) → P r → P (prepare_page p page r))
+    → ((homes : Homes) (items : Items) (r : Rmap) → P r → P (record r { homes = homes; items = items })) → (l : Ledger) (e : Event) (r : Rmap)
+    → ((p from n : ℕ) (flag : Flag) (set : Bool) → e ≡ FlagSet p from n flag set → P (rmap_after_flag p from n flag set r))
+    → P r → P (rmap_after l e r)
+rmap_after-keeps P keeps homes l e r flags h = event e refl
   where
     note : (n : Note) → P (rmap_after_note l n r)
-    note (New p a f) = homes _ _ (keeps p (page_of a) r h)
+    note (New p a f) = homes _ _ _ (keeps p (page_of a) r h)
     note (Zeroed p a) = h
-    note (Copied p a f) = homes _ r h
-    note (Loaded s f) = homes _ r h
+    note (Copied p a f) = homes _ _ r h
+    note (Loaded s f) = homes _ _ r h
     note (Mapped p a f) = h
     note (Put f s) = h
     note (Unmapped f) = h
@@ -89,31 +93,50 @@ rmap_after_all-keeps P keeps homes l (e ∷ es) r h = rmap_after_all-keeps P kee
     note (Dropped s) = h
     note (Kept f cause) = h
     note (Aged f) = h
+    note (Shared f) = homes _ _ r h
+    note (Joined p a f) = homes _ _ r h
+    note (Moved from to) = homes _ _ r h
 
     through : (write : Bool) (k : Key) (o : Option Entry) → P (rmap_after_use write k o r)
     through true k None = h
     through true k (Some Zero) = h
-    through true k (Some (InFrame f seen)) = homes _ r h
+    through true k (Some (InFrame f seen)) = homes _ _ r h
     through true k (Some (InSlot s)) = h
     through false k o = h
 
-    event : (e : Event) → P (rmap_after l e r)
-    event (Noted n) = note n
-    event (Zapped k) = h
-    event (Used write k) = through write k (entry l k)
-    event (Forked p q pages) = h
-    event (EntriesMoved p n from to) = h
-    event (TurnedOn k area) = h
-    event (TurnedOff k) = h
+    event : (x : Event) → e ≡ x → P (rmap_after l x r)
+    event (Noted n) is = note n
+    event (Zapped k) is = h
+    event (Used write k) is = through write k (entry l k)
+    event (Forked p q pages) is = h
+    event (FlagSet p from n flag set) is = flags p from n flag set is
+    event (EntriesMoved p n from to) is = h
+    event (TurnedOn k area) is = h
+    event (TurnedOff k) is = h
+    event FreeSorted is = h
 
--- the areas and the anon_vmas go by the notes alone
+-- so do all events what flags keep, too
+pub rmap_after_all-keeps : (P : Rmap → Type 0) → ((p page : ℕ) (r : Rmap) → P r → P (prepare_page p page r))
+    → ((homes : Homes) (items : Items) (r : Rmap) → P r → P (record r { homes = homes; items = items }))
+    → ((p from n : ℕ) (flag : Flag) (set : Bool) (r : Rmap) → P r → P (rmap_after_flag p from n flag set r))
+    → (l : Ledger) (es : List Event) (r : Rmap) → P r → P (rmap_after_all l es r)
+rmap_after_all-keeps P keeps homes flags l [] r h = h
+rmap_after_all-keeps P keeps homes flags l (e ∷ es) r h = rmap_after_all-keeps P keeps homes flags (after l e) es (rmap_after l e r)
+    (rmap_after-keeps P keeps homes l e r (λ p from n flag set is. flags p from n flag set r h) h)
+
+-- the areas and the anon_vmas go by the notes, and by the flags that are set, alone
 abbrev pub prepare_note : Note → Rmap → Rmap
 prepare_note (New p a f) r = prepare_page p (page_of a) r
 prepare_note note r = r
 
-abbrev pub prepare_notes : List Note → Rmap → Rmap
-prepare_notes [] r = r
-prepare_notes (note ∷ notes) r = prepare_notes notes (prepare_note note r)
+abbrev pub prepare_event : Event → Rmap → Rmap
+prepare_event (Noted note) r = prepare_note note r
+prepare_event (FlagSet p from n flag set) r = rmap_after_flag p from n flag set r
+prepare_event event r = r
+
+abbrev pub prepare_events : List Event → Rmap → Rmap
+prepare_events [] r = r
+prepare_events (e ∷ es) r = prepare_events es (prepare_event e r)
 
 -- the same areas and anon_vmas
 pub record AreSame (r r' : Rmap) : Type 0 where
@@ -122,13 +145,21 @@ pub record AreSame (r r' : Rmap) : Type 0 where
 
 same_prepared : (p page : ℕ) (r r' : Rmap) → AreSame r r' → AreSame (prepare_page p page r) (prepare_page p page r')
 same_prepared p page r r' h =
-    let both : (homes : Homes) → prepare_page p page (record { areas = r.areas; anons = r.anons; homes = homes }) ≡ prepare_page p page
-    (record { areas = r'.areas; anons = r'.anons; homes = homes }) =
-    λ homes i. prepare_page p page (record { areas = h.areas i; anons = h.anons i; homes = homes }) in
+    let both : (homes : Homes) → prepare_page p page (record { areas = r.areas; anons = r.anons; homes = homes; items = r.items }) ≡ prepare_page p page
+    (record { areas = r'.areas; anons = r'.anons; homes = homes; items = r.items }) =
+    λ homes i. prepare_page p page (record { areas = h.areas i; anons = h.anons i; homes = homes; items = r.items }) in
     record { areas = ap (λ (x : Rmap). x.areas) (both r.homes); anons = ap (λ (x : Rmap). x.anons) (both r.homes) }
 
+same_flagged : (p from n : ℕ) (flag : Flag) (set : Bool) (r r' : Rmap) → AreSame r r'
+    → AreSame (rmap_after_flag p from n flag set r) (rmap_after_flag p from n flag set r')
+same_flagged p from n flag set r r' h =
+    let both : (homes : Homes) → rmap_after_flag p from n flag set (record { areas = r.areas; anons = r.anons; homes = homes; items = r.items })
+    ≡ rmap_after_flag p from n flag set (record { areas = r'.areas; anons = r'.anons; homes = homes; items = r.items }) =
+    λ homes i. rmap_after_flag p from n flag set (record { areas = h.areas i; anons = h.anons i; homes = homes; items = r.items }) in
+    record { areas = ap (λ (x : Rmap). x.areas) (both r.homes); anons = h.anons }
+
 pub rmap_after_all-notes : (l : Ledger) (es : List Event) (r r' : Rmap) → AreSame r r'
-    → AreSame (rmap_after_all l es r) (prepare_notes (notes_of es) r')
+    → AreSame (rmap_after_all l es r) (prepare_events es r')
 rmap_after_all-notes l [] r r' h = h
 rmap_after_all-notes l (Noted n ∷ es) r r' h = rmap_after_all-notes (after l (Noted n)) es (rmap_after_note l n r) (prepare_note n r') (note n)
   where
@@ -146,6 +177,9 @@ rmap_after_all-notes l (Noted n ∷ es) r r' h = rmap_after_all-notes (after l (
     note (Dropped s) = h
     note (Kept f cause) = h
     note (Aged f) = h
+    note (Shared f) = record { areas = h.areas; anons = h.anons }
+    note (Joined p a f) = record { areas = h.areas; anons = h.anons }
+    note (Moved from to) = record { areas = h.areas; anons = h.anons }
 rmap_after_all-notes l (Zapped k ∷ es) r r' h = rmap_after_all-notes (after l (Zapped k)) es r r' h
 rmap_after_all-notes l (Used write k ∷ es) r r' h = rmap_after_all-notes (after l (Used write k)) es (rmap_after_use write k (entry l k) r) r'
     (through write (entry l k))
@@ -157,6 +191,10 @@ rmap_after_all-notes l (Used write k ∷ es) r r' h = rmap_after_all-notes (afte
     through true (Some (InSlot s)) = h
     through false o = h
 rmap_after_all-notes l (Forked p q pages ∷ es) r r' h = rmap_after_all-notes (after l (Forked p q pages)) es r r' h
+rmap_after_all-notes l (FlagSet p from n flag set ∷ es) r r' h =
+    rmap_after_all-notes (after l (FlagSet p from n flag set)) es (rmap_after_flag p from n flag set r) (rmap_after_flag p from n flag set r')
+    (same_flagged p from n flag set r r' h)
+rmap_after_all-notes l (FreeSorted ∷ es) r r' h = rmap_after_all-notes (after l FreeSorted) es r r' h
 rmap_after_all-notes l (EntriesMoved p n from to ∷ es) r r' h = rmap_after_all-notes (after l (EntriesMoved p n from to)) es r r' h
 rmap_after_all-notes l (TurnedOn k area ∷ es) r r' h = rmap_after_all-notes (after l (TurnedOn k area)) es r r' h
 rmap_after_all-notes l (TurnedOff k ∷ es) r r' h = rmap_after_all-notes (after l (TurnedOff k)) es r r' h
@@ -180,7 +218,7 @@ below-prepare_page p page r h = by (makes_anon (chain_length r.anons) (r.areas p
     by false = h
 
 pub below-all : (l : Ledger) (es : List Event) (r : Rmap) → AreBelow r.anons → AreBelow (rmap_after_all l es r).anons
-below-all l es r h = rmap_after_all-keeps (λ r. AreBelow r.anons) below-prepare_page (λ homes r h. h) l es r h
+below-all l es r h = rmap_after_all-keeps (λ r. AreBelow r.anons) below-prepare_page (λ homes items r h. h) (λ p from n flag set r h. h) l es r h
 
 pub below-left : (anons : Anons) (on : Areas) (left : Anons) → AreLeft anons on left → AreBelow anons → AreBelow left
 below-left anons on left is h v above = by (left.anon v) refl

@@ -17,6 +17,9 @@ use Rattle.av_plain.proofs.Ledger.{map_count-set}
 use Rattle.av_plain.proofs.Zap.{map_count-after_zap, same_swap-after_zap}
 use Rattle.av_plain.proofs.Sound.Counts.{same-is, same-itself}
 use Rattle.av_plain.proofs.Sound.Changes.{free-is}
+use Rattle.av_plain.specs.Choice.{TakesFrame, TakesOut, sorts_free, takes_any}
+use Rattle.av_plain.specs.Ledger.{free_frames}
+use Rattle.std.specs.Prelude.{MatchBool}
 
 -- ---- filters of a range
 
@@ -114,11 +117,24 @@ no-slot-chosen m closing l e slots none turns takes = (
         (range_with_len 1 (unwrap_or (m.sizes k) 0 - 1))) ≡ slots k
     given k = ap (fold give_slot (slots k)) (none-passes _ 1 (unwrap_or (m.sizes k) 0 - 1) (λ page below. unused k page))
 
+-- an event that neither moves a frame nor puts the list in order takes the first
+pub record IsPlainChoice (e : Event) : Type 0 where
+  pub first : takes_any e ≡ false
+  pub sorts : sorts_free e ≡ false
+
+pub takes-first : (m : Setting) (l : Ledger) (e : Event) (free free' : List ℕ) → IsPlainChoice e
+    → (rest : List ℕ) × MatchOption (frame_in e) (free ≡ rest) (λ f. free ≡ f ∷ rest) × (free' ≡ new_free m l (after l e) ++ rest)
+    → ChoosesFrame m l e free free'
+takes-first m l e free free' plain h =
+    subst (λ b. MatchBool b (free' ≡ free_frames m (after l e)) (TakesFrame m l e free free')) (sym plain.sorts)
+    (subst (λ b. (rest : List ℕ) × MatchOption (frame_in e) (free ≡ rest) (λ f. MatchBool b (TakesOut f free rest) (free ≡ f ∷ rest))
+    × (free' ≡ new_free m l (after l e) ++ rest)) (sym plain.first) h)
+
 -- nothing is taken and nothing becomes free
 pub chooses-kept : (m : Setting) (closing : Option ℕ) (l : Ledger) (e : Event) (free : Free) → ChoosesSlot m closing l e free.slots free.slots →
-    frame_in e ≡ None → new_free m l (after l e) ≡ [] → Chooses m closing l e free free
-chooses-kept m closing l e free slots takes none = record {
-  frames = (
+    IsPlainChoice e → frame_in e ≡ None → new_free m l (after l e) ≡ [] → Chooses m closing l e free free
+chooses-kept m closing l e free slots sorts takes none = record {
+  frames = takes-first m l e free.frames free.frames sorts (
     free.frames,
     subst (λ o. MatchOption o (free.frames ≡ free.frames) (λ f. free.frames ≡ f ∷ free.frames)) (sym takes) refl,
     ap (λ fs. fs ++ free.frames) (sym none),
@@ -128,10 +144,11 @@ chooses-kept m closing l e free slots takes none = record {
 
 -- a frame is taken
 pub chooses-taken : (m : Setting) (closing : Option ℕ) (l : Ledger) (e : Event) (f : ℕ) (rest : List ℕ) (slots : AreaSlots) →
-    ChoosesSlot m closing l e slots slots → frame_in e ≡ Some f → new_free m l (after l e) ≡ []
+    ChoosesSlot m closing l e slots slots → IsPlainChoice e → frame_in e ≡ Some f → new_free m l (after l e) ≡ []
     → Chooses m closing l e (record { frames = f ∷ rest; slots = slots }) (record { frames = rest; slots = slots })
-chooses-taken m closing l e f rest slots kept takes none = record {
-  frames = (rest, subst (λ o. MatchOption o ((f ∷ rest) ≡ rest) (λ g. (f ∷ rest) ≡ g ∷ rest)) (sym takes) refl, ap (λ fs. fs ++ rest) (sym none));
+chooses-taken m closing l e f rest slots kept sorts takes none = record {
+  frames = takes-first m l e (f ∷ rest) rest sorts
+      (rest, subst (λ o. MatchOption o ((f ∷ rest) ≡ rest) (λ g. (f ∷ rest) ≡ g ∷ rest)) (sym takes) refl, ap (λ fs. fs ++ rest) (sym none));
   slots = kept;
 }
 

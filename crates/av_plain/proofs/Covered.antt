@@ -1,6 +1,9 @@
 -- What holds of areas, anon_vmas and homes at all times: it holds after each event and each change of areas.
 pub mod AreaCommands
 pub mod Fork
+pub mod MergeCommands
+pub mod MergedFork
+pub mod Merging
 pub mod Mremap
 pub mod Page
 pub mod Slots
@@ -11,20 +14,27 @@ pub mod Zaps
 use Rattle.std.proofs.Common.{◌≡◌, ℕ, suc, ◌<◌, Bool, true, false, cond, not, ◌==◌, ◌&&◌, ◌||◌, ◌-◌, ◌⊎◌, inl, inr, [], ◌∷◌, Option, Some, None, is_some, option_map, refl, sym, ap, subst, ◌∙◌, arith, T, ◌≤◌}
 use Rattle.std.proofs.lemmas.Bool.{false≢true}
 use Rattle.std.proofs.lemmas.Bool.Decides.{nat_tests}
-use Rattle.std.specs.Prelude.{IsSome, IsSomeAnd, unwrap_or}
+use Rattle.std.specs.Prelude.{IfSome, IsSome, IsSomeAnd, unwrap_or}
 use Rattle.std.specs.Option.{option_map_or, option_or}
 use Rattle.av_base.specs.Words.{is_in, with_at}
 use Rattle.av_vma.specs.declared.area.Area.{Area}
 use Rattle.av_vma.specs.Index.{first_of, index_of, past_of}
 use Rattle.av_vma.specs.Join.{can_lend}
 use Rattle.av_vma.specs.Pages.{AreLaid, Lengths, Pages, after_prepare, has_page, home_of, loan_beside, loan_of, makes_anon, with_anon, with_area}
-use Rattle.av_plain.specs.Areas.{AnonVma, Anons, AreLeft, Rmap, at_home, chain_length, chain_by, prepare_page, root_of, with_root}
-use Rattle.av_plain.specs.Covered.{AreSlotsCovered, IsKin, IsReached, IsRmapSound, IsRooted}
+use Rattle.av_plain.specs.Areas.{AnonVma, Anons, AreLeft, Areas, IsLinked, Rmap, at_home, chain_length, chain_by, prepare_page, root_of, with_root}
+use Rattle.av_plain.specs.Covered.{AreMergedCovered, AreSlotsCovered, IsKin, IsReached, IsRmapSound, IsRooted}
 use Rattle.av_plain.specs.Event.{set_entry}
-use Rattle.av_plain.specs.Ledger.{Entry, InFrame, Key, Ledger, Setting, entry, first_ledger, key_cmp, map_count, names_frame}
+use Rattle.av_plain.specs.Ledger.{Entry, InFrame, InSlot, Key, Ledger, Setting, Zero, entry, first_ledger, key_cmp, map_count, names_frame}
 use Rattle.av_plain.specs.Transcript.{at_first, rmap_of}
 use Rattle.std.specs.FinMap.Entries.{is_sorted}
 use Rattle.av_plain.proofs.Ledger.{entry-set, how_many-found, only_one, same_key, same_key-is, same_key-itself}
+use Rattle.av_plain.specs.Sound.{uses}
+use Rattle.av_plain.specs.Ledger.{is_free, is_merged}
+use Rattle.av_plain.specs.Event.{off_lists, settle, settle_entry, without}
+use Rattle.av_plain.proofs.Sound.Changes.{any-counts, free-is}
+use Rattle.av_plain.proofs.Sound.Counts.{count-without-list, same-is}
+use Rattle.std.proofs.Common.{nat_lt}
+use Rattle.av_base.specs.Words.{how_many}
 
 -- the entry of a key names the frame
 abbrev pub Names : Ledger → Key → ℕ → Type 0
@@ -62,27 +72,76 @@ chain_rooted anons true own v made h = let w = chain_there anons own v h in
 
 -- ---- the entries change
 
+-- an entry that names a frame which isn't merged did so before
+abbrev pub NamesToo : Ledger → Ledger → Key → ℕ → Type 0
+NamesToo l l' k f = Names l' k f → is_merged l' f ≡ false → Names l k f × (is_merged l f ≡ false)
+
 -- each entry names a frame only if it did
-pub sound-fewer : (l l' : Ledger) (r : Rmap) → ((k : Key) (f : ℕ) → Names l' k f → Names l k f) → IsRmapSound l r → IsRmapSound l' r
-sound-fewer l l' r fewer h = record { made = h.made; own = h.own; covered = λ k f names. h.covered k f (fewer k f names) }
+pub sound-fewer : (l l' : Ledger) (r : Rmap) → ((k : Key) (f : ℕ) → NamesToo l l' k f) → IsRmapSound l r → IsRmapSound l' r
+sound-fewer l l' r fewer h =
+    record { made = h.made; own = h.own; covered = λ k f names alone. let x = fewer k f names alone in h.covered k f x.0 x.1 }
+
+-- the frames that are merged, and the entries that name them, are fewer
+pub merged-fewer : (l l' : Ledger) (r : Rmap) → ((k : Key) (f : ℕ) → Names l' k f → is_merged l' f ≡ true → Names l k f)
+    → ((f : ℕ) → is_merged l' f ≡ true → is_merged l f ≡ true) → AreMergedCovered l r → AreMergedCovered l' r
+merged-fewer l l' r names fewer h = record {
+  found = λ k f there is. h.found k f (names k f there is) (fewer f is);
+  once = λ f item is. h.once f item (fewer f is);
+  roots = λ f item is. h.roots f item (fewer f is);
+  homeless = λ f is. h.homeless f (fewer f is);
+}
+
+-- a frame that isn't merged gets a home
+pub merged-homed : (l : Ledger) (r : Rmap) (f : ℕ) (home : Option (ℕ × ℕ)) → is_merged l f ≡ false → AreMergedCovered l r
+    → AreMergedCovered l (record r { homes = with_at f home r.homes })
+merged-homed l r f home own h = record {
+  found = h.found;
+  once = h.once;
+  roots = h.roots;
+  homeless = λ g is. by g is (g == f) refl;
+}
+  where
+    by : (g : ℕ) → is_merged l g ≡ true → (b : Bool) → (g == f) ≡ b → cond b home (r.homes g) ≡ None
+    by g is true e = absurd (false≢true (sym own ∙ ap (is_merged l) (sym (same-is g f e)) ∙ is))
+    by g is false e = h.homeless g is
 
 -- at first there is nothing
 pub sound-first : (m : Setting) → IsRmapSound first_ledger (rmap_of (at_first m))
-sound-first m = record { made = λ v there. absurd (false≢true there); own = λ p page v is. absurd is; covered = λ k f names. absurd names }
+sound-first m = record { made = λ v there. absurd (false≢true there); own = λ p page v is. absurd is; covered = λ k f names alone. absurd names }
 
 pub slots-first : (m : Setting) → AreSlotsCovered first_ledger (rmap_of (at_first m))
 slots-first m = record { kin = λ p page v is. absurd is; rooted = λ s k q names other. absurd names; cached = λ s k f at names. absurd names }
+
+pub merged-first : (m : Setting) → AreMergedCovered first_ledger (rmap_of (at_first m))
+merged-first m = record {
+  found = λ k f names is. absurd names;
+  once = λ f item is. absurd (false≢true is);
+  roots = λ f item is. absurd (false≢true is);
+  homeless = λ f is. refl;
+}
 
 -- an entry that names no other frame than before takes the place of one
 pub sound-set : (l l' : Ledger) (r : Rmap) (k : Key) (e : Entry) → l' ≡ set_entry k e l → ((f : ℕ) → names_frame f e ≡ true → Names l k f) →
     IsRmapSound l r → IsRmapSound l' r
 sound-set l l' r k e is same h = subst (λ l. IsRmapSound l r) (sym is)
-    (sound-fewer l (set_entry k e l) r (λ q f names. by q f (same_key q k) refl
-    (subst (λ o. IsSomeAnd o (λ e. names_frame f e ≡ true)) (entry-set k e l q) names)) h)
+    (sound-fewer l (set_entry k e l) r (λ q f names alone. (by q f (same_key q k) refl
+    (subst (λ o. IsSomeAnd o (λ e. names_frame f e ≡ true)) (entry-set k e l q) names), alone)) h)
   where
     by : (q : Key) (f : ℕ) (b : Bool) → same_key q k ≡ b → IsSomeAnd (cond b (Some e) (entry l q)) (λ e. names_frame f e ≡ true) → Names l q f
     by q f true at names = subst (λ q. Names l q f) (sym (same_key-is q k at)) (same f names)
     by q f false at names = names
+
+-- the same of merged frames
+pub merged-set : (l : Ledger) (r : Rmap) (k : Key) (e : Entry) → ((f : ℕ) → names_frame f e ≡ true → is_merged l f ≡ true → Names l k f)
+    → AreMergedCovered l r → AreMergedCovered (set_entry k e l) r
+merged-set l r k e same =
+    merged-fewer l (set_entry k e l) r (λ q f names is. by q f is (same_key q k) refl
+    (subst (λ o. IsSomeAnd o (λ e. names_frame f e ≡ true)) (entry-set k e l q) names)) (λ f is. is)
+  where
+    by : (q : Key) (f : ℕ) → is_merged l f ≡ true → (b : Bool) → same_key q k ≡ b
+        → IsSomeAnd (cond b (Some e) (entry l q)) (λ e. names_frame f e ≡ true) → Names l q f
+    by q f is true at names = subst (λ q. Names l q f) (sym (same_key-is q k at)) (same f names is)
+    by q f is false at names = names
 
 -- the own anon_vma that a home is at
 home_some : (page : ℕ) (x : Option Area) → IsSomeAnd x (λ area. IsSome area.anon) → (area : Area) × (v : ℕ) × (x ≡ Some area) × (area.anon ≡ Some v)
@@ -96,8 +155,10 @@ home_some page (Some area) h = by area.anon refl h
 -- a page gets a frame that no other entry names, and the frame is at home there
 pub sound-given : (l l' : Ledger) (r : Rmap) (k : Key) (f : ℕ) → IsSomeAnd (r.areas k.0 k.1) (λ area. IsSome area.anon)
     → ((g : ℕ) → Names l' k g → g ≡ f) → ((q : Key) (g : ℕ) → same_key q k ≡ false → Names l' q g → Names l q g)
-    → ((q : Key) → same_key q k ≡ false → Names l' q f → ⊥) → IsRmapSound l r → IsRmapSound l' (at_home f k r)
-sound-given l l' r k f owns here others alone h = record { made = h.made; own = h.own; covered = λ q g names. by q g names (same_key q k) refl }
+    → ((q : Key) → same_key q k ≡ false → Names l' q f → ⊥) → ((q : Key) (g : ℕ) → Names l' q g → is_merged l' g ≡ false → is_merged l g ≡ false)
+    → IsRmapSound l r → IsRmapSound l' (at_home f k r)
+sound-given l l' r k f owns here others alone own_frame h =
+    record { made = h.made; own = h.own; covered = λ q g names own. by q g names own (same_key q k) refl }
   where
     area : Area
     area = (home_some k.1 (r.areas k.0 k.1) owns).0
@@ -128,24 +189,26 @@ sound-given l l' r k f owns here others alone h = record { made = h.made; own = 
     itself : (n : ℕ) → (n == n) ≡ true
     itself n = grind (arith, nat_tests)
 
-    by : (q : Key) (g : ℕ) → Names l' q g → (c : Bool) → same_key q k ≡ c
+    by : (q : Key) (g : ℕ) → Names l' q g → is_merged l' g ≡ false → (c : Bool) → same_key q k ≡ c
         → IsSomeAnd (with_at f (home_of k.1 (r.areas k.0 k.1)) r.homes g) (IsReached r q)
-    by q g names true is =
+    by q g names own true is =
         let same : q ≡ k = same_key-is q k is in
         let frame : g ≡ f = here g (subst (λ q. Names l' q g) same names) in
         subst (λ q. IsSomeAnd (with_at f (home_of k.1 (r.areas k.0 k.1)) r.homes g) (IsReached r q)) (sym same)
         (subst (λ g. IsSomeAnd (with_at f (home_of k.1 (r.areas k.0 k.1)) r.homes g) (IsReached r k)) (sym frame) (at_f (f == f) (itself f)))
-    by q g names false is = other (g == f) refl
+    by q g names own false is = other (g == f) refl
       where
         other : (c : Bool) → (g == f) ≡ c → IsSomeAnd (cond c (home_of k.1 (r.areas k.0 k.1)) (r.homes g)) (IsReached r q)
         other true e = let same : g ≡ f = grind (arith, nat_tests, e) in absurd (alone q is (subst (Names l' q) same names))
-        other false e = h.covered q g (others q g is names)
+        other false e = h.covered q g (others q g is names) (own_frame q g names own)
 
 -- so does one whose entry alone is put in
 pub sound-put : (l l' : Ledger) (r : Rmap) (k : Key) (f : ℕ) (seen : Bool) →
     ((q : Key) → entry l' q ≡ cond (same_key q k) (Some (InFrame f seen)) (entry l q)) → IsSomeAnd (r.areas k.0 k.1) (λ area. IsSome area.anon)
-    → ((q : Key) → same_key q k ≡ false → Names l q f → ⊥) → IsRmapSound l r → IsRmapSound l' (at_home f k r)
-sound-put l l' r k f seen entries owns alone h = sound-given l l' r k f owns here others (λ q other names. alone q other (others q f other names)) h
+    → ((q : Key) → same_key q k ≡ false → Names l q f → ⊥) → ((q : Key) (g : ℕ) → Names l' q g → is_merged l' g ≡ false → is_merged l g ≡ false)
+    → IsRmapSound l r → IsRmapSound l' (at_home f k r)
+sound-put l l' r k f seen entries owns alone own_frame h =
+    sound-given l l' r k f owns here others (λ q other names. alone q other (others q f other names)) own_frame h
   where
     itself : (b : Bool) → same_key k k ≡ b → (g : ℕ) → IsSomeAnd (cond b (Some (InFrame f seen)) (entry l k)) (λ e. names_frame g e ≡ true) → g ≡ f
     itself true is g names = grind (arith, nat_tests, names)
@@ -159,9 +222,19 @@ sound-put l l' r k f seen entries owns alone h = sound-given l l' r k f owns her
         (subst (λ o. IsSomeAnd o (λ e. names_frame g e ≡ true)) (entries q) names)
 
 -- an area whose page's entry names a frame has an own anon_vma
-pub covered-owns : (l : Ledger) (r : Rmap) (k : Key) (f : ℕ) → IsRmapSound l r → Names l k f → IsSomeAnd (r.areas k.0 k.1) (λ area. IsSome area.anon)
-covered-owns l r k f h names = by (r.homes f) (h.covered k f names)
+pub covered-owns : (l : Ledger) (r : Rmap) (k : Key) (f : ℕ) → IsRmapSound l r → AreMergedCovered l r → Names l k f
+    → IsSomeAnd (r.areas k.0 k.1) (λ area. IsSome area.anon)
+covered-owns l r k f h merged names = which (is_merged l f) refl
   where
+    has : (o : Option ℕ) (root : ℕ) → IsSomeAnd o (λ own. root_of r.anons own ≡ root) → IsSome o
+    has None root is = absurd is
+    has (Some own) root is = refl
+
+    rooted : (home : ℕ × ℕ) (x : Option Area) → IsSomeAnd x (λ area. IsSomeAnd area.anon (λ own. root_of r.anons own ≡ home.0)
+        × (index_of area k.1 ≡ home.1)) → IsSomeAnd x (λ area. IsSome area.anon)
+    rooted home None is = is
+    rooted home (Some area) is = has area.anon home.0 is.0
+
     at : (home : ℕ × ℕ) (x : Option Area) → IsSomeAnd x (λ area. (is_in home.0 (chain_by r.anons area.anon) ≡ true) × (index_of area k.1 ≡ home.1)) →
         IsSomeAnd x (λ area. IsSome area.anon)
     at home None is = is
@@ -170,6 +243,10 @@ covered-owns l r k f h names = by (r.homes f) (h.covered k f names)
     by : (o : Option (ℕ × ℕ)) → IsSomeAnd o (IsReached r k) → IsSomeAnd (r.areas k.0 k.1) (λ area. IsSome area.anon)
     by None is = absurd is
     by (Some home) is = at home (r.areas k.0 k.1) is
+
+    which : (b : Bool) → is_merged l f ≡ b → IsSomeAnd (r.areas k.0 k.1) (λ area. IsSome area.anon)
+    which true is = let x = merged.found k f names is in rooted x.0 (r.areas k.0 k.1) x.2
+    which false is = by (r.homes f) (h.covered k f names is)
 
 -- at most one entry names the frame, and it is this one
 pub alone-by : (l : Ledger) (k : Key) (f : ℕ) → T (is_sorted key_cmp l.entries) → map_count l f ≤ 1 → Names l k f → (q : Key) →
@@ -190,6 +267,30 @@ unnamed-by l f none q names = by (entry l q) refl names
     by None e h = absurd h
     by (Some a) e h = let some = how_many-found (names_frame f) q l.entries a e h in omega (arith, none, some)
 
+-- a merged frame that an entry names stays merged where another is settled
+pub settled-merged : (g : ℕ) (l : Ledger) (k : Key) (f : ℕ) → Names l k f → is_merged (settle g l) f ≡ is_merged l f
+settled-merged g l k f names = by (is_free l g) refl
+  where
+    left : (b : Bool) → (f == g) ≡ b → (n : ℕ) → n ≡ cond b 0 (how_many (λ x. f == x) l.merged) → is_free l g ≡ true
+        → nat_lt 0 n ≡ nat_lt 0 (how_many (λ x. f == x) l.merged)
+    left false is n e free = ap (nat_lt 0) e
+    left true is n e free = absurd (unnamed-by l f (let z = ap (uses l) (same-is f g is) in let u = free-is l g in
+        let n = no_use (uses l g) (sym u ∙ free) in omega (arith, z, n)) k names)
+      where
+        no_use : (n : ℕ) → (n == 0) ≡ true → n ≡ 0
+        no_use n e = grind (arith, nat_tests, e)
+
+    by : (b : Bool) → is_free l g ≡ b → is_merged (cond b (off_lists g l) l) f ≡ is_merged l f
+    by true is = any-counts (λ x. f == x) (without g l.merged) ∙ left (f == g) refl _ (count-without-list g f l.merged) is
+        ∙ sym (any-counts (λ x. f == x) l.merged)
+    by false is = refl
+
+pub settled_entry-merged : (o : Option Entry) (l : Ledger) (k : Key) (f : ℕ) → Names l k f → is_merged (settle_entry o l) f ≡ is_merged l f
+settled_entry-merged None l k f names = refl
+settled_entry-merged (Some Zero) l k f names = refl
+settled_entry-merged (Some (InSlot s)) l k f names = refl
+settled_entry-merged (Some (InFrame g seen)) l k f names = settled-merged g l k f names
+
 -- ---- the areas change
 
 -- a home is at an area's own anon_vma
@@ -204,6 +305,19 @@ home_parts page (Some area) h is = by area.anon refl is
     by (Some v) e is = let both : ◌≡◌ {A = ℕ × ℕ} (v, index_of area page) h = cc in
         (e ∙ ap (λ (x : ℕ × ℕ). Some x.0) both, ap (λ (x : ℕ × ℕ). x.1) both)
 
+-- what areas need of the anon_vmas that are left once they are others: none changes that is there, and none that an area is linked to
+pub record AnonsStay (anons : Anons) (on : Areas) (left : Anons) : Type 0 where
+  pub next : left.next ≡ anons.next
+  pub same : (v : ℕ) → IsSome (left.anon v) → left.anon v ≡ anons.anon v
+  pub linked : (v : ℕ) → IsLinked anons on v → left.anon v ≡ anons.anon v
+
+pub stay-left : (anons : Anons) (on : Areas) (left : Anons) → AreLeft anons on left → AnonsStay anons on left
+stay-left anons on left h = record {
+  next = h.next;
+  same = λ v there. h.linked v (h.there v there);
+  linked = h.linked;
+}
+
 -- an entry that names the frame came from a page that named it, and whose home the entry's page has now
 pub record Carries (l : Ledger) (r next : Rmap) (k : Key) (f : ℕ) : Type 0 where
   pub was : Key
@@ -215,13 +329,15 @@ pub record Carries (l : Ledger) (r next : Rmap) (k : Key) (f : ℕ) : Type 0 whe
 -- left what is linked
 pub sound-carried : (l l' : Ledger) (r next : Rmap) → ((k : Key) (f : ℕ) → Names l' k f → Carries l r next k f)
     → ((p page v : ℕ) → Owns next p page v → (q : ℕ) × (other : ℕ) × Owns r q other v)
-    → AreLeft r.anons next.areas next.anons → next.homes ≡ r.homes → IsRmapSound l r → IsRmapSound l' next
-sound-carried l l' r next carries owns left homes h = record {
-  made = λ v there. subst (λ n. v < n) (sym left.next) (h.made v (subst IsSome (left.linked v (left.there v there)) there));
+    → ((k : Key) (f : ℕ) → Names l' k f → is_merged l' f ≡ false → is_merged l f ≡ false)
+    → AnonsStay r.anons next.areas next.anons → next.homes ≡ r.homes → IsRmapSound l r → IsRmapSound l' next
+sound-carried l l' r next carries owns own_frame left homes h = record {
+  made = λ v there. subst (λ n. v < n) (sym left.next) (h.made v (subst IsSome (left.same v there) there));
   own = λ p page v is. subst (λ c. is_in v c ≡ true) (sym (same_chain p page v is)) (in_chain p page v is);
-  covered = λ k f names.
+  covered = λ k f names own.
       let c = carries k f names in
-      subst (λ (hs : ℕ → Option (ℕ × ℕ)). IsSomeAnd (hs f) (IsReached next k)) (sym homes) (reached k f c (r.homes f) (h.covered c.was f c.names));
+      subst (λ (hs : ℕ → Option (ℕ × ℕ)). IsSomeAnd (hs f) (IsReached next k)) (sym homes)
+      (reached k f c (r.homes f) (h.covered c.was f c.names (own_frame k f names own)));
 }
   where
     in_chain : (p page v : ℕ) → Owns next p page v → is_in v (chain_by r.anons (Some v)) ≡ true
@@ -267,7 +383,8 @@ sound-carried l l' r next carries owns left homes h = record {
 pub sound-next : (l l' : Ledger) (r next : Rmap) → ((k : Key) (f : ℕ) → Names l' k f → Names l k f)
     → ((k : Key) (f : ℕ) (h : ℕ × ℕ) → Names l' k f → home_of k.1 (r.areas k.0 k.1) ≡ Some h → home_of k.1 (next.areas k.0 k.1) ≡ Some h)
     → ((p page v : ℕ) → Owns next p page v → (q : ℕ) × (other : ℕ) × Owns r q other v)
-    → AreLeft r.anons next.areas next.anons → next.homes ≡ r.homes → IsRmapSound l r → IsRmapSound l' next
+    → ((k : Key) (f : ℕ) → Names l' k f → is_merged l' f ≡ false → is_merged l f ≡ false)
+    → AnonsStay r.anons next.areas next.anons → next.homes ≡ r.homes → IsRmapSound l r → IsRmapSound l' next
 sound-next l l' r next fewer kept = sound-carried l l' r next
     (λ k f names. record { was = k; names = fewer k f names; home = λ h. kept k f h names })
 
@@ -460,7 +577,7 @@ module _ (l : Ledger) (p page : ℕ) (r : Rmap) (laid : AreLaid (r.areas p)) (h 
   sound-prepared = record {
     made = made_now roots;
     own = own_now;
-    covered = λ k f names. reached k (r.homes f) (h.covered k f names);
+    covered = λ k f names own. reached k (r.homes f) (h.covered k f names own);
   }
     where
       reached : (k : Key) (o : Option (ℕ × ℕ)) → IsSomeAnd o (IsReached r k) → IsSomeAnd o (IsReached (prepare_page p page r) k)
@@ -543,7 +660,7 @@ module _ (l : Ledger) (p page : ℕ) (r : Rmap) (laid : AreLaid (r.areas p)) (h 
       by true is = got (prepared-owns len r.anons.next page on other v is)
       by false is = kin_now v (slots.kin q other v is)
 
-  rooted_now : AreSlotsCovered l r → (k : Key) (home : ℕ × ℕ) → IsRooted r k home → IsRooted (prepare_page p page r) k home
+  pub rooted_now : AreSlotsCovered l r → (k : Key) (home : ℕ × ℕ) → IsRooted r k home → IsRooted (prepare_page p page r) k home
   rooted_now slots k home is = at (r.areas k.0 k.1) refl is
     where
       root_now : (own : ℕ) → IsSome (r.anons.anon own) → root_of now_anons own ≡ root_of r.anons own
@@ -577,3 +694,33 @@ module _ (l : Ledger) (p page : ℕ) (r : Rmap) (laid : AreLaid (r.areas p)) (h 
       reached : (k : Key) (o : Option (ℕ × ℕ)) → IsSomeAnd o (IsReached r k) → IsSomeAnd o (IsReached (prepare_page p page r) k)
       reached k None is = is
       reached k (Some home) is = reached_now k home (r.areas k.0 k.1) refl is
+
+  -- an anon_vma that was made before is there only as it was
+  before_now : (v : ℕ) (P : AnonVma → Type 0) → v < r.anons.next → IfSome (r.anons.anon v) P → IfSome (now_anons.anon v) P
+  before_now v P less is = by roots
+    where
+      other : (v == r.anons.next) ≡ false
+      other = grind (arith, nat_tests, less)
+
+      by : (b : Bool) → IfSome ((cond b (with_root r.anons) r.anons).anon v) P
+      by false = is
+      by true = subst (λ c. IfSome (cond c (Some (record { root = r.anons.next; parent = r.anons.next; chain = r.anons.next ∷ [] })) (r.anons.anon v)) P)
+          (sym other) is
+
+  -- the number that is next doesn't fall
+  next_now : (v : ℕ) → v < r.anons.next → v < now_anons.next
+  next_now v less = by roots
+    where
+      by : (b : Bool) → v < (cond b (with_root r.anons) r.anons).next
+      by false = less
+      by true = omega (arith, less)
+
+  -- an area is prepared
+  pub merged-prepared : AreSlotsCovered l r → AreMergedCovered l r → AreMergedCovered l (prepare_page p page r)
+  merged-prepared slots merged = record {
+    found = λ k f names is. let x = merged.found k f names is in (x.0, x.1, rooted_now slots k x.0 x.2);
+    once = merged.once;
+    roots = λ f item is among. let x = merged.roots f item is among in
+        (next_now item.0 x.0, before_now item.0 (λ v. v.root ≡ item.0) x.0 x.1);
+    homeless = merged.homeless;
+  }

@@ -11,6 +11,8 @@ use Rattle.av_plain.specs.Ledger.{Key, key_cmp, Entry, InFrame, InSlot, Zero, Le
 use Rattle.av_plain.specs.Event.{set_entry, change_entries, put_all, without_seen}
 use Rattle.av_plain.proofs.Ledger.Order.{keys_total, both_first, both_second, count-put, is_less, find_below, below_less, weight}
 use Rattle.av_plain.proofs.Ledger.{entry-set, is_sorted-set, same_key, same_key-is, same_key-itself}
+use Rattle.av_plain.specs.Ledger.{is_free}
+use Rattle.av_plain.specs.Event.{change_frame, off_lists, renamed_entry, settle, settle_entry, with_renamed}
 
 -- ---- counts
 
@@ -203,3 +205,33 @@ module _ {K X : Type 0} {R : K → K → Ordering} (o : IsTotalOrder R) where
       later q Less f h = h
       later q Equal f h = cc
       later q Greater f h = h
+
+-- ---- an entry comes to name another frame
+
+-- what a frame that leaves its list and the merged ones leaves as it is, `settle` does
+pub settled-by : {A : Type 0} (g : Ledger → A) → ((f : ℕ) (l : Ledger) → g (off_lists f l) ≡ g l) → (f : ℕ) (l : Ledger) → g (settle f l) ≡ g l
+settled-by g same f l = elim (is_free l f) as (λ b. g (cond b (off_lists f l) l) ≡ g l) [ true ↦ same f l | false ↦ refl ]
+
+pub settled_entry-by : {A : Type 0} (g : Ledger → A) → ((f : ℕ) (l : Ledger) → g (off_lists f l) ≡ g l) → (o : Option Entry) (l : Ledger)
+    → g (settle_entry o l) ≡ g l
+settled_entry-by g same None l = refl
+settled_entry-by g same (Some Zero) l = refl
+settled_entry-by g same (Some (InSlot s)) l = refl
+settled_entry-by g same (Some (InFrame f seen)) l = settled-by g same f l
+
+pub changed-by : {A : Type 0} (g : Ledger → A) → ((f : ℕ) (l : Ledger) → g (off_lists f l) ≡ g l) → (k : Key) (f : ℕ) (l : Ledger)
+    → g (change_frame k f l) ≡ g (set_entry k (InFrame f false) l)
+changed-by g same k f l = settled_entry-by g same (entry l k) (set_entry k (InFrame f false) l)
+
+-- the entries after a frame goes over to another
+pub entry-renamed : (from to : ℕ) (l : Ledger) (q : Key) → entry (with_renamed from to l) q ≡ option_map (renamed_entry from to) (entry l q)
+entry-renamed from to l q = find-map key_cmp (renamed_entry from to) q l.entries
+
+pub slot_entries-renamed : (from to : ℕ) (l : Ledger) (s : Slot) → slot_entries (with_renamed from to l) s ≡ slot_entries l s
+slot_entries-renamed from to l s = how_many-map (λ e. names_slot s e.1) (λ e. (e.0, renamed_entry from to e.1)) l.entries
+    ∙ how_many-same _ _ l.entries (λ e. each e.1)
+  where
+    each : (e : Entry) → names_slot s (renamed_entry from to e) ≡ names_slot s e
+    each Zero = refl
+    each (InFrame f seen) = refl
+    each (InSlot t) = refl

@@ -6,7 +6,7 @@ use Rattle.av_base.specs.Page.{page_of, pages_of}
 use Rattle.av_base.specs.declared.slot.Slot.{Slot}
 use Rattle.av_swapdev.specs.Header.{Layout}
 use Rattle.av_trace.specs.declared.command.Command.{Command}
-use Rattle.av_trace.specs.declared.command.Command.TheVariants.{Spawn, Fork, Exit, Mmap, Mremap, Munmap, Mprotect, Read, Write, Reclaim, Age, Complete, Swapon, Swapoff, Maps, Areas as AsksAreas, Rmap as AsksRmap, Entry as AsksEntry, Slot as AsksSlot, Stat}
+use Rattle.av_trace.specs.declared.command.Command.TheVariants.{Spawn, Fork, Exit, Mmap, Mremap, Munmap, Mprotect, Madvise, Mlock, Munlock, Read, Write, Reclaim, Age, Complete, Swapon, Swapoff, Maps, Areas as AsksAreas, Rmap as AsksRmap, Entry as AsksEntry, Slot as AsksSlot, Stat}
 use Rattle.av_trace.specs.declared.place.Place.{Place}
 use Rattle.av_trace.specs.declared.place.Place.TheVariants.{Auto, At, Fixed, NoReplace}
 use Rattle.av_trace.specs.declared.note.Cause.{Cause}
@@ -34,6 +34,17 @@ use Rattle.av_plain.specs.World.{World, pages, pages_to_hole}
 use Rattle.av_plain.specs.Zap.{keys_in, keys_of_process, orphan_drop, slot_behind_key, zap_of, zaps_of}
 use Rattle.av_plain.proofs.Access.{notes_of-append, notes_of-note_events}
 use Rattle.av_plain.proofs.Ledger.{how_many-append}
+use Rattle.av_base.specs.declared.flags.Flag.{Flag}
+use Rattle.av_plain.specs.Advice.{advice_events, flag_of_advice, pages_advised}
+use Rattle.av_base.specs.Page.{pages_met}
+use Rattle.av_trace.specs.declared.reply.Errno.TheVariants.{Einval}
+use Rattle.std.proofs.Common.{nat_lt}
+use Rattle.av_plain.specs.Event.{FreeSorted}
+use Rattle.av_plain.specs.Merge.{FrameBytes, candidate, join_notes, merge_notes, merged_like, merges, other_like, with_candidate}
+use Rattle.av_plain.specs.Compact.{Moves}
+use Rattle.av_trace.specs.declared.command.Command.TheVariants.{Compact, Merge}
+use Rattle.av_plain.proofs.Sound.Frames.{move-is}
+use Rattle.av_plain.specs.Event.{after_note}
 
 -- ---- replies that tell of no failure
 
@@ -85,6 +96,10 @@ pub zaps-faultless : (l : Ledger) (ks : List Key) → fails (notes_of (zaps_of l
 zaps-faultless l [] = refl
 zaps-faultless l (k ∷ ks) = both-events (zap_of l k) (zaps_of (after_all l (zap_of l k)) ks) (zap-faultless l k)
     (zaps-faultless (after_all l (zap_of l k)) ks)
+
+advice-faultless : (l : Ledger) (p from n : ℕ) (change : Option (Flag × Bool)) → fails (notes_of (advice_events l p from n change)) ≡ 0
+advice-faultless l p from n None = zaps-faultless l (keys_in l p from n)
+advice-faultless l p from n (Some change) = refl
 
 place-faultless : (l : Ledger) (p n : ℕ) (place : Place) → fails (notes_of (zaps_for_place l p n place)) ≡ 0
 place-faultless l p n Auto = refl
@@ -166,6 +181,35 @@ pub ages-faultless : (fs : List ℕ) → fails (map Aged fs) ≡ 0
 ages-faultless [] = refl
 ages-faultless (f ∷ fs) = ap (λ n. 0 + n) (ages-faultless fs)
 
+pub merges-faultless : (m : Setting) (held : FrameBytes) (w : World) (l : Ledger) (earlier : List ℕ) (ks : List Key)
+    → fails (merges m held w l earlier ks) ≡ 0
+merges-faultless m held w l earlier [] = refl
+merges-faultless m held w l earlier (k ∷ ks) =
+    let here = merge_notes m held l earlier k (candidate w l k) in
+    how_many-append is_fail here (merges m held w (after_notes l here) (with_candidate earlier (candidate w l k)) ks)
+    ∙ (λ i. by (candidate w l k) i + merges-faultless m held w (after_notes l here) (with_candidate earlier (candidate w l k)) ks i)
+  where
+    joins : (a b : Option ℕ) → fails (join_notes k a b) ≡ 0
+    joins (Some g) b = refl
+    joins None (Some j) = refl
+    joins None None = refl
+
+    by : (o : Option ℕ) → fails (merge_notes m held l earlier k o) ≡ 0
+    by None = refl
+    by (Some f) = joins (merged_like m held l f) (other_like held earlier f)
+
+moves-faultless : (m : Setting) (l : Ledger) (notes : List Note) → Moves m l notes → fails notes ≡ 0
+moves-faultless m l [] h = refl
+moves-faultless m l (note ∷ notes) h =
+    (λ i. one i + moves-faultless m (after_note note l) notes h.1 i)
+  where
+    one : ◌≡◌ {A = ℕ} (cond (is_fail note) 1 0) 0
+    one = ap {B = ℕ} (λ n. cond (is_fail n) 1 0) (move-is m l note h.0).is
+
+sorted-faultless : (notes : List Note) → fails (notes_of (note_events notes ++ FreeSorted ∷ [])) ≡ fails notes
+sorted-faultless [] = refl
+sorted-faultless (note ∷ notes) = ap (λ n. cond (is_fail note) 1 0 + n) (sorted-faultless notes)
+
 -- ---- a command
 
 pub unused-follows : (m : Setting) (w : World) (l : Ledger) (command : Command) (events : List Event) (answer : Answer) (rows : List Row) →
@@ -198,6 +242,27 @@ unused-follows m w l (Mremap p a old new mode) events answer rows un h = record 
   notes = ap (λ es. fails (notes_of es)) h.3 ∙ remap-faultless l p (page_of a) (pages_of old) h.0 (pages_of new);
   answered = mapped-faultless answer h.0 h.2;
 }
+unused-follows m w l (Madvise p a len advice) events answer rows un h = record {
+  notes = ap (λ es. fails (notes_of es)) h.1 ∙ advice-faultless l p (page_of a)
+      (pages_advised (pages w p) (page_of a) (pages_of len) (flag_of_advice advice)) (flag_of_advice advice);
+  answered = is-faultless answer _ h.0 (by
+      (nat_lt (pages_advised (pages w p) (page_of a) (pages_of len) (flag_of_advice advice)) (pages_of len))
+      (pages_to_hole (pages w p) (page_of a) (pages_of len) == pages_of len));
+}
+  where
+    by : (b c : Bool) → IsFaultless (if b then Refused Einval else (if c then Done else Refused Enomem))
+    by true c = record { told = refl; failed = refl }
+    by false true = record { told = refl; failed = refl }
+    by false false = record { told = refl; failed = refl }
+unused-follows m w l (Mlock p a len) events answer rows un h = cc
+unused-follows m w l (Munlock p a len) events answer rows un h = record {
+  notes = ap (λ es. fails (notes_of es)) h.1;
+  answered = is-faultless answer _ h.0 (by (pages_to_hole (pages w p) (page_of a) (pages_met a len) == pages_met a len));
+}
+  where
+    by : (b : Bool) → IsFaultless (if b then Done else Refused Enomem)
+    by true = record { told = refl; failed = refl }
+    by false = record { told = refl; failed = refl }
 unused-follows m w l (Read p a n) events answer rows un h = cc
 unused-follows m w l (Write p a bytes) events answer rows un h = cc
 unused-follows m w l (Reclaim n) events answer rows un h = record {
@@ -213,6 +278,15 @@ unused-follows m w l (Age n) events answer rows un h = record {
 unused-follows m w l (Complete n) events answer rows un h = cc
 unused-follows m w l (Swapon k priority) events answer rows un h = cc
 unused-follows m w l (Swapoff k) events answer rows un h = cc
+unused-follows m w l Merge events answer rows un h = record {
+  notes = ap (λ es. fails (notes_of es)) h.2 ∙ ap fails (notes_of-note_events (merges m h.0 w l [] (map (λ e. e.0) l.entries)))
+      ∙ merges-faultless m h.0 w l [] (map (λ e. e.0) l.entries);
+  answered = is-faultless answer _ h.3 (record { told = refl; failed = refl });
+}
+unused-follows m w l Compact events answer rows un h = record {
+  notes = ap (λ es. fails (notes_of es)) h.2 ∙ sorted-faultless h.0 ∙ moves-faultless m l h.0 h.1;
+  answered = is-faultless answer _ h.3 (record { told = refl; failed = refl });
+}
 unused-follows m w l (Maps p) events answer rows un h =
     record { notes = ap (λ es. fails (notes_of es)) h.2; answered = is-faultless answer _ h.0 (record { told = refl; failed = refl }) }
 unused-follows m w l (AsksAreas p) events answer rows un h =
@@ -254,10 +328,15 @@ tests-mild m w l (Mmap p len prot (NoReplace a)) = (refl, (refl, (refl, (refl, (
 tests-mild m w l (Munmap p a len) = (refl, (refl, tt))
 tests-mild m w l (Mprotect p a len prot) = (refl, (refl, (refl, tt)))
 tests-mild m w l (Mremap p a old new mode) = (refl, (refl, (refl, (refl, (refl, (refl, tt))))))
+tests-mild m w l (Madvise p a len advice) = (refl, (refl, tt))
+tests-mild m w l (Mlock p a len) = (refl, (refl, (refl, tt)))
+tests-mild m w l (Munlock p a len) = (refl, (refl, tt))
 tests-mild m w l (Read p a n) = (refl, tt)
 tests-mild m w l (Write p a bytes) = (refl, tt)
 tests-mild m w l (Reclaim n) = tt
 tests-mild m w l (Age n) = tt
+tests-mild m w l Merge = tt
+tests-mild m w l Compact = tt
 tests-mild m w l (Complete n) = tt
 tests-mild m w l (Swapon k priority) = (refl, (refl, (refl, tt)))
 tests-mild m w l (Swapoff k) = (refl, tt)

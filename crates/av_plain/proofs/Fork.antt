@@ -1,18 +1,21 @@
--- What a fork leaves: the child has the parent's entries, unseen, and the counts grow by what was copied.
+-- What a fork leaves: the child has the entries of the pages that go over, unseen, and the counts grow by what was copied.
 pub mod Areas
 use Rattle.std.proofs.Common.{◌≡◌, ℕ, ◌+◌, ◌≤◌, Bool, true, false, cond, not, ◌&&◌, ◌||◌, T, List, [], ◌∷◌, map, filter, Option, Some, None, option_map, refl, sym, ap, subst, ◌∙◌, arith, ◌==◌, Ordering}
 use Rattle.std.proofs.lemmas.Bool.Decides.{nat_tests}
 use Rattle.std.specs.Option.{option_or}
-use Rattle.std.specs.Ordering.{is_lt}
+use Rattle.std.specs.Prelude.{IsSomeAnd}
+use Rattle.std.specs.Ordering.{is_eq, is_lt}
 use Rattle.std.specs.declared.cmp.Ordering.TheVariants.{Less}
-use Rattle.std.specs.FinMap.Entries.{find, where_key, is_sorted, below_all}
+use Rattle.std.specs.FinMap.Entries.{find, where_key, is_sorted, below_all, find-where_key, is_sorted-where_key}
 use Rattle.av_base.specs.Words.{how_many}
 use Rattle.av_base.specs.declared.slot.Slot.{Slot}
 use Rattle.av_plain.specs.Event.{Inherited, after_fork, is_inherited, put_all, without_seen}
-use Rattle.av_plain.specs.Fork.{inheritance}
+use Rattle.av_plain.specs.Fork.{goes_as_zeros, goes_over, inheritance}
+use Rattle.av_plain.specs.World.{Process}
+use Rattle.av_plain.specs.Zap.{keys_of_process}
 use Rattle.av_plain.specs.Ledger.{Entry, InFrame, InSlot, Key, Ledger, Zero, entry, key_cmp, names_frame, names_slot}
 use Rattle.av_plain.proofs.Event.{count-put_all, entries_with, entry-put_all}
-use Rattle.av_plain.proofs.Ledger.{same_key}
+use Rattle.av_plain.proofs.Ledger.{same_key, same_key-is}
 use Rattle.av_plain.proofs.Ledger.Order.{both_first, both_second, is_less}
 
 -- ---- what is copied
@@ -21,55 +24,166 @@ use Rattle.av_plain.proofs.Ledger.Order.{both_first, both_second, is_less}
 abbrev pub copies : ℕ → ℕ → List (Key × Entry) → List (Key × Entry)
 copies p q es = map (λ e. ((q, e.0.1), without_seen e.1)) (where_key key_cmp (λ k. k.0 == p) es)
 
--- the ledger after a fork of p
-abbrev pub child_ledger : ℕ → ℕ → Ledger → Ledger
-child_ledger p q l = after_fork p q (inheritance l p) l
+-- the ledger after a fork of p, where these pages go over
+abbrev pub child_ledger : ℕ → ℕ → List Inherited → Ledger → Ledger
+child_ledger p q goes l = after_fork p q goes l
 
--- the pages that have entries of p
-abbrev pages_with : ℕ → List (Key × Entry) → List Inherited
-pages_with p es = map (λ (k : Key). record { page = k.1; as_zeros = false }) (filter (λ k. k.0 == p) (map (λ e. e.0) es))
+-- the entries that go over with their pages, whosever they are
+abbrev pub going : List Inherited → List (Key × Entry) → List (Key × Entry)
+going goes es = where_key key_cmp (λ k. is_inherited goes k.1) es
 
--- each entry of p goes over
-all_go : (p : ℕ) (pages : List Inherited) (es : List (Key × Entry))
-    → ((page : ℕ) → is_inherited (pages_with p es) page ≡ true → is_inherited pages page ≡ true)
-    → where_key key_cmp (λ k. k.0 == p && is_inherited pages k.1) es ≡ where_key key_cmp (λ k. k.0 == p) es
-all_go p pages [] h = refl
-all_go p pages (e ∷ es) h = by (e.0.0 == p) refl (all_go p pages es)
+-- the entry that goes over with a page of p
+abbrev pub handed : List Inherited → ℕ → Ledger → ℕ → Option Entry
+handed goes p l page = cond (is_inherited goes page) (entry l (p, page)) None
+
+pub handed-is : (goes : List Inherited) (p : ℕ) (l : Ledger) (page : ℕ) (e : Entry) → handed goes p l page ≡ Some e → entry l (p, page) ≡ Some e
+handed-is goes p l page e = by (is_inherited goes page)
   where
-    rest : List (Key × Entry) → List (Key × Entry)
-    rest es = where_key key_cmp (λ k. k.0 == p) es
+    by : (b : Bool) → cond b (entry l (p, page)) None ≡ Some e → entry l (p, page) ≡ Some e
+    by true h = h
+    by false h = cc
 
-    itself : (n : ℕ) (b : Bool) → (n == n && not false || b) ≡ true
-    itself n b = grind (arith, nat_tests)
+-- where it is one of some kind, the page goes over, and has such an entry
+pub handed-from : (goes : List Inherited) (p : ℕ) (l : Ledger) (page : ℕ) (P : Entry → Type 0) → IsSomeAnd (handed goes p l page) P
+    → (is_inherited goes page ≡ true) × IsSomeAnd (entry l (p, page)) P
+handed-from goes p l page P = by (is_inherited goes page)
+  where
+    by : (b : Bool) → IsSomeAnd (cond b (entry l (p, page)) None) P → (b ≡ true) × IsSomeAnd (entry l (p, page)) P
+    by true h = (refl, h)
+    by false h = absurd h
 
-    later : (a b : Bool) → b ≡ true → (a || b) ≡ true
-    later true b h = refl
-    later false b h = h
+both_tests : (p : ℕ) (goes : List Inherited) (es : List (Key × Entry))
+    → where_key key_cmp (λ k. k.0 == p && is_inherited goes k.1) es ≡ where_key key_cmp (λ k. k.0 == p) (going goes es)
+both_tests p goes [] = refl
+both_tests p goes (e ∷ es) = by (e.0.0 == p) (is_inherited goes e.0.1) refl refl (both_tests p goes es)
+  where
+    rest : List (Key × Entry)
+    rest = where_key key_cmp (λ k. k.0 == p && is_inherited goes k.1) es
 
-    list : Bool → List Inherited
-    list b = map (λ (k : Key). record { page = k.1; as_zeros = false })
-        (cond b (e.0 ∷ filter (λ k. k.0 == p) (map (λ e. e.0) es)) (filter (λ k. k.0 == p) (map (λ e. e.0) es)))
+    then : List (Key × Entry)
+    then = where_key key_cmp (λ k. k.0 == p) (going goes es)
 
-    by : (b : Bool) → (e.0.0 == p) ≡ b
-        → (((page : ℕ) → is_inherited (pages_with p es) page ≡ true → is_inherited pages page ≡ true) →
-        where_key key_cmp (λ k. k.0 == p && is_inherited pages k.1) es ≡ rest es)
-        → where_key key_cmp (λ k. k.0 == p && is_inherited pages k.1) (e ∷ es) ≡ where_key key_cmp (λ k. k.0 == p) (e ∷ es)
-    by true is go =
-        let has : (page : ℕ) → is_inherited (list true) page ≡ true → is_inherited pages page ≡ true =
-        λ page i. h page (ap (λ b. is_inherited (list b) page) is ∙ i) in
-        (λ i. cond (is i && has e.0.1 (itself e.0.1 (is_inherited (pages_with p es) e.0.1)) i)
-        (e ∷ where_key key_cmp (λ k. k.0 == p && is_inherited pages k.1) es) (where_key key_cmp (λ k. k.0 == p && is_inherited pages k.1) es))
-        ∙ ap (λ xs. e ∷ xs) (go (λ page i. has page (later (e.0.1 == page && not false) (is_inherited (pages_with p es) page) i)))
-        ∙ ap (λ b. cond b (e ∷ rest es) (rest es)) (sym is)
-    by false is go =
-        ap (λ b. cond (b && is_inherited pages e.0.1) (e ∷ where_key key_cmp (λ k. k.0 == p && is_inherited pages k.1) es)
-        (where_key key_cmp (λ k. k.0 == p && is_inherited pages k.1) es)) is
-        ∙ go (λ page i. h page (ap (λ b. is_inherited (list b) page) is ∙ i))
-        ∙ ap (λ b. cond b (e ∷ rest es) (rest es)) (sym is)
+    by : (a b : Bool) → (e.0.0 == p) ≡ a → is_inherited goes e.0.1 ≡ b → rest ≡ then
+        → cond (a && b) (e ∷ rest) rest ≡ where_key key_cmp (λ k. k.0 == p) (cond b (e ∷ going goes es) (going goes es))
+    by true true is i go = ap (λ xs. e ∷ xs) go ∙ ap (λ b. cond b (e ∷ then) then) (sym is)
+    by false true is i go = go ∙ ap (λ b. cond b (e ∷ then) then) (sym is)
+    by true false is i go = go
+    by false false is i go = go
 
-pub forked-is : (p q : ℕ) (l : Ledger) → child_ledger p q l ≡ put_all (copies p q l.entries) l
-forked-is p q l = ap (λ es. put_all (map (λ (e : Key × Entry). ((q, e.0.1), without_seen e.1)) es) l)
-    (all_go p (inheritance l p) l.entries (λ page i. i))
+pub forked-is : (p q : ℕ) (goes : List Inherited) (l : Ledger) → child_ledger p q goes l ≡ put_all (copies p q (going goes l.entries)) l
+forked-is p q goes l = ap (λ es. put_all (map (λ (e : Key × Entry). ((q, e.0.1), without_seen e.1)) es) l) (both_tests p goes l.entries)
+
+pub sorted-going : (goes : List Inherited) (es : List (Key × Entry)) → T (is_sorted key_cmp es) → T (is_sorted key_cmp (going goes es))
+sorted-going goes es h = is_sorted-where_key key_cmp (λ k. is_inherited goes k.1) es h
+
+-- no more of them pass a test
+fewer-going : (t : Entry → Bool) (goes : List Inherited) (es : List (Key × Entry)) → entries_with t (going goes es) ≤ entries_with t es
+fewer-going t goes [] = omega arith
+fewer-going t goes (e ∷ es) = by (is_inherited goes e.0.1) (fewer-going t goes es)
+  where
+    by : (b : Bool) → entries_with t (going goes es) ≤ entries_with t es
+        → entries_with t (cond b (e ∷ going goes es) (going goes es)) ≤ cond (t e.1) 1 0 + entries_with t es
+    by true h = omega (arith, h)
+    by false h = omega (arith, h)
+
+-- what is inherited goes over, and not as zeros
+pub inherited-goes : (q : Process) (l : Ledger) (p page : ℕ) → is_inherited (inheritance q l p) page ≡ true
+    → (goes_over (q page) ≡ true) × (goes_as_zeros (q page) ≡ false)
+inherited-goes q l p page = by (keys_of_process l p)
+  where
+    list : List Key → List Inherited
+    list ks = map (λ (k : Key). record { page = k.1; as_zeros = goes_as_zeros (q k.1) }) (filter (λ k. goes_over (q k.1)) ks)
+
+    first : (k : Key) (b : Bool) → goes_over (q k.1) ≡ true → (k.1 == page && not (goes_as_zeros (q k.1)) || b) ≡ true
+        → (b ≡ true → (goes_over (q page) ≡ true) × (goes_as_zeros (q page) ≡ false)) → (goes_over (q page) ≡ true) × (goes_as_zeros (q page) ≡ false)
+    first k b over h rest = on (k.1 == page) (goes_as_zeros (q k.1)) refl refl h
+      where
+        on : (x z : Bool) → (k.1 == page) ≡ x → goes_as_zeros (q k.1) ≡ z → (x && not z || b) ≡ true
+            → (goes_over (q page) ≡ true) × (goes_as_zeros (q page) ≡ false)
+        on true false is zeros h =
+            let same : k.1 ≡ page = grind (arith, nat_tests, is) in
+            (subst (λ x. goes_over (q x) ≡ true) same over, subst (λ x. goes_as_zeros (q x) ≡ false) same zeros)
+        on true true is zeros h = rest h
+        on false z is zeros h = rest h
+
+    step : (k : Key) (ks : List Key) → (is_inherited (list ks) page ≡ true → (goes_over (q page) ≡ true) × (goes_as_zeros (q page) ≡ false))
+        → is_inherited (list (k ∷ ks)) page ≡ true → (goes_over (q page) ≡ true) × (goes_as_zeros (q page) ≡ false)
+    step k ks rest h = on (goes_over (q k.1)) refl h
+      where
+        on : (b : Bool) → goes_over (q k.1) ≡ b
+            → is_inherited (map (λ (k : Key). record { page = k.1; as_zeros = goes_as_zeros (q k.1) })
+            (cond b (k ∷ filter (λ k. goes_over (q k.1)) ks) (filter (λ k. goes_over (q k.1)) ks))) page ≡ true
+            → (goes_over (q page) ≡ true) × (goes_as_zeros (q page) ≡ false)
+        on true over h = first k (is_inherited (list ks) page) over h rest
+        on false over h = rest h
+
+    by : (ks : List Key) → is_inherited (list ks) page ≡ true → (goes_over (q page) ≡ true) × (goes_as_zeros (q page) ≡ false)
+    by [] h = cc
+    by (k ∷ ks) h = step k ks (by ks) h
+
+-- a page that goes over, and not as zeros, and isn't inherited has no entry
+pub not-inherited : (q : Process) (l : Ledger) (p page : ℕ) → goes_over (q page) ≡ true → goes_as_zeros (q page) ≡ false
+    → is_inherited (inheritance q l p) page ≡ false → entry l (p, page) ≡ None
+not-inherited q l p page over whole none = by (entry l (p, page)) refl
+  where
+    list : List Key → List Inherited
+    list ks = map (λ (k : Key). record { page = k.1; as_zeros = goes_as_zeros (q k.1) }) (filter (λ k. goes_over (q k.1)) ks)
+
+    first : (k : Key) (ks : List Key) → k.1 ≡ page → is_inherited (list (k ∷ ks)) page ≡ true
+    first k ks same = on (goes_over (q k.1)) (ap (λ x. goes_over (q x)) same ∙ over)
+      where
+        head : (a z rest : Bool) → a ≡ true → z ≡ false → (a && not z || rest) ≡ true
+        head true false rest e f = refl
+        head true true rest e f = cc
+        head false z rest e f = cc
+
+        on : (b : Bool) → b ≡ true
+            → is_inherited (map (λ (k : Key). record { page = k.1; as_zeros = goes_as_zeros (q k.1) })
+            (cond b (k ∷ filter (λ k. goes_over (q k.1)) ks) (filter (λ k. goes_over (q k.1)) ks))) page ≡ true
+        on true e = head (k.1 == page) (goes_as_zeros (q k.1)) (is_inherited (list ks) page) (grind (arith, nat_tests, same))
+            (ap (λ x. goes_as_zeros (q x)) same ∙ whole)
+        on false e = cc
+
+    later : (k : Key) (ks : List Key) → is_inherited (list ks) page ≡ true → is_inherited (list (k ∷ ks)) page ≡ true
+    later k ks h = on (goes_over (q k.1))
+      where
+        or_rest : (a rest : Bool) → rest ≡ true → (a || rest) ≡ true
+        or_rest true rest e = refl
+        or_rest false rest e = e
+
+        on : (b : Bool)
+            → is_inherited (map (λ (k : Key). record { page = k.1; as_zeros = goes_as_zeros (q k.1) })
+            (cond b (k ∷ filter (λ k. goes_over (q k.1)) ks) (filter (λ k. goes_over (q k.1)) ks))) page ≡ true
+        on true = or_rest (k.1 == page && not (goes_as_zeros (q k.1))) (is_inherited (list ks) page) h
+        on false = h
+
+    keys : List (Key × Entry) → List Key
+    keys es = filter (λ k. k.0 == p) (map (λ e. e.0) es)
+
+    has : (es : List (Key × Entry)) (e : Entry) → find key_cmp (p, page) es ≡ Some e → is_inherited (list (keys es)) page ≡ true
+    has [] e h = cc
+    has (x ∷ es) e h = at (same_key (p, page) x.0) refl h (has es e)
+      where
+        mine : (c : Bool) → (x.0.0 == p) ≡ c → x.0 ≡ (p, page) → is_inherited (list (cond c (x.0 ∷ keys es) (keys es))) page ≡ true
+        mine true is same = first x.0 (keys es) (ap (λ (k : Key). k.1) same)
+        mine false is same = let e : x.0.0 ≡ p = ap (λ (k : Key). k.0) same in absurd (grind (arith, nat_tests, is, e))
+
+        other : (c : Bool) → is_inherited (list (keys es)) page ≡ true → is_inherited (list (cond c (x.0 ∷ keys es) (keys es))) page ≡ true
+        other true h = later x.0 (keys es) h
+        other false h = h
+
+        at : (b : Bool) → same_key (p, page) x.0 ≡ b → cond b (Some x.1) (find key_cmp (p, page) es) ≡ Some e
+            → (find key_cmp (p, page) es ≡ Some e → is_inherited (list (keys es)) page ≡ true)
+            → is_inherited (list (cond (x.0.0 == p) (x.0 ∷ keys es) (keys es))) page ≡ true
+        at true is h rest = mine (x.0.0 == p) refl (sym (same_key-is (p, page) x.0 is))
+        at false is h rest = other (x.0.0 == p) (rest h)
+
+    by : (o : Option Entry) → entry l (p, page) ≡ o → o ≡ None
+    by None is = refl
+    by (Some e) is = absurd (both_ways _ none (has l.entries e is))
+      where
+        both_ways : (b : Bool) → b ≡ false → b ≡ true → ⊥
+        both_ways b h g = cc
 
 -- ---- what is found
 
@@ -133,11 +247,18 @@ find-copies p q k (e ∷ es) =
     joined true false o = refl
     joined false b o = refl
 
--- the child has the parent's entries, unseen; all others are as they were
-pub entry-forked : (p q : ℕ) (l : Ledger) (k : Key) → T (is_sorted key_cmp l.entries) →
-    entry (child_ledger p q l) k ≡ option_or (cond (k.0 == q) (option_map without_seen (entry l (p, k.1))) None) (entry l k)
-entry-forked p q l k h = ap (λ l. entry l k) (forked-is p q l) ∙ entry-put_all (copies p q l.entries) l k (is_sorted-copies p q l.entries h)
-    ∙ ap (λ o. option_or o (entry l k)) (find-copies p q k l.entries)
+find-going : (goes : List Inherited) (p page : ℕ) (l : Ledger) → find key_cmp (p, page) (going goes l.entries) ≡ handed goes p l page
+find-going goes p page l = find-where_key key_cmp (λ (k : Key). is_inherited goes k.1) (p, page)
+    (λ x t. ap (λ (k : Key). is_inherited goes k.1) (sym (same_key-is (p, page) x (ap is_eq t)))) l.entries
+
+-- the child has the entries that go over, unseen; all others are as they were
+pub entry-forked : (p q : ℕ) (goes : List Inherited) (l : Ledger) (k : Key) → T (is_sorted key_cmp l.entries) →
+    entry (child_ledger p q goes l) k ≡ option_or (cond (k.0 == q) (option_map without_seen (handed goes p l k.1)) None) (entry l k)
+entry-forked p q goes l k h =
+    ap (λ l. entry l k) (forked-is p q goes l)
+    ∙ entry-put_all (copies p q (going goes l.entries)) l k (is_sorted-copies p q (going goes l.entries) (sorted-going goes l.entries h))
+    ∙ ap (λ o. option_or o (entry l k)) (find-copies p q k (going goes l.entries))
+    ∙ ap (λ x. option_or (cond (k.0 == q) (option_map without_seen x) None) (entry l k)) (find-going goes p k.1 l)
 
 -- ---- counts
 
@@ -170,11 +291,14 @@ unseen-names_slot r (InFrame g seen) = refl
 unseen-names_slot r (InSlot t) = refl
 
 -- where the child has no entry before, each that is copied has one that counted
-module _ (p q : ℕ) (l : Ledger) (sorted : T (is_sorted key_cmp l.entries)) (none : (page : ℕ) → entry l (q, page) ≡ None) where
-  fresh : (k : Key) (e : Entry) → find key_cmp k (copies p q l.entries) ≡ Some e → entry l k ≡ None
-  fresh k e at = by (k.0 == q) refl (sym (find-copies p q k l.entries) ∙ at)
+module _ (p q : ℕ) (goes : List Inherited) (l : Ledger) (sorted : T (is_sorted key_cmp l.entries)) (none : (page : ℕ) → entry l (q, page) ≡ None) where
+  abbrev ones : List (Key × Entry)
+  ones = going goes l.entries
+
+  fresh : (k : Key) (e : Entry) → find key_cmp k (copies p q ones) ≡ Some e → entry l k ≡ None
+  fresh k e at = by (k.0 == q) refl (sym (find-copies p q k ones) ∙ at)
     where
-      by : (b : Bool) → (k.0 == q) ≡ b → cond b (option_map without_seen (find key_cmp (p, k.1) l.entries)) None ≡ Some e → entry l k ≡ None
+      by : (b : Bool) → (k.0 == q) ≡ b → cond b (option_map without_seen (find key_cmp (p, k.1) ones)) None ≡ Some e → entry l k ≡ None
       by true is at = let same : k.0 ≡ q = grind (arith, nat_tests, is) in ap (λ x. entry l (x, k.1)) same ∙ none k.1
       by false is at = cc
 
@@ -182,14 +306,14 @@ module _ (p q : ℕ) (l : Ledger) (sorted : T (is_sorted key_cmp l.entries)) (no
   pub record Grows (t : Entry → Bool) : Type 0 where
     pub more : ℕ
     pub few : more ≤ how_many (λ (e : Key × Entry). t e.1) l.entries
-    pub count : how_many (λ (e : Key × Entry). t e.1) (put_all (copies p q l.entries) l).entries ≡ how_many (λ (e : Key × Entry). t e.1)
+    pub count : how_many (λ (e : Key × Entry). t e.1) (put_all (copies p q ones) l).entries ≡ how_many (λ (e : Key × Entry). t e.1)
         l.entries + more
 
   grows : (t : Entry → Bool) → ((e : Entry) → t (without_seen e) ≡ t e) → Grows t
   grows t same = record {
-    more = how_many (λ (e : Key × Entry). t e.1) (copies p q l.entries);
-    few = count-copies t p q l.entries same;
-    count = count-put_all t (copies p q l.entries) l (is_sorted-copies p q l.entries sorted) sorted fresh;
+    more = how_many (λ (e : Key × Entry). t e.1) (copies p q ones);
+    few = let a = count-copies t p q ones same in let b = fewer-going t goes l.entries in omega (arith, a, b);
+    count = count-put_all t (copies p q ones) l (is_sorted-copies p q ones (sorted-going goes l.entries sorted)) sorted fresh;
   }
 
   pub frames-grow : (f : ℕ) → Grows (names_frame f)

@@ -4,7 +4,7 @@ use Rattle.std.proofs.lemmas.Bool.Decides.{nat_tests}
 use Rattle.std.specs.Prelude.{MatchBool, MatchOption}
 use Rattle.std.specs.FinMap.Entries.{is_sorted}
 use Rattle.av_trace.specs.declared.command.Command.{Command}
-use Rattle.av_trace.specs.declared.command.Command.TheVariants.{Spawn, Fork, Exit, Mmap, Mremap, Munmap, Mprotect, Read, Write, Reclaim as AsksReclaim, Age, Complete, Swapon, Swapoff, Maps, Areas as AsksAreas, Rmap as AsksRmap, Entry as AsksEntry, Slot as AsksSlot, Stat}
+use Rattle.av_trace.specs.declared.command.Command.TheVariants.{Spawn, Fork, Exit, Mmap, Mremap, Munmap, Mprotect, Madvise, Mlock, Munlock, Read, Write, Reclaim as AsksReclaim, Age, Complete, Swapon, Swapoff, Maps, Areas as AsksAreas, Rmap as AsksRmap, Entry as AsksEntry, Slot as AsksSlot, Stat}
 use Rattle.av_trace.specs.declared.place.Place.TheVariants.{Auto, At, Fixed, NoReplace}
 use Rattle.av_trace.specs.declared.reply.Errno.{Errno}
 use Rattle.av_trace.specs.declared.reply.Reply.{Reply}
@@ -12,12 +12,16 @@ use Rattle.av_base.specs.Page.{address_of, page_of, pages_of}
 use Rattle.av_base.specs.Words.{how_many, is_in, within}
 use Rattle.std.specs.List.{range_with_len}
 use Rattle.av_base.specs.declared.slot.Slot.{Slot}
-use Rattle.av_trace.specs.declared.note.Cause.TheVariants.{NoSlot, Referenced, WriteStarted, Writeback}
+use Rattle.av_trace.specs.declared.note.Cause.TheVariants.{Locked, NoSlot, Referenced, WriteStarted, Writeback}
 use Rattle.av_trace.specs.declared.note.Note.{Note}
 use Rattle.av_trace.specs.declared.note.Note.TheVariants.{Aged, Copied, Dropped, Failed, Kept, Loaded, Mapped, New, Put, Started, Unmapped, Written, Zeroed}
 use Rattle.av_plain.specs.Access.{Accesses, End, page_events, pages_of_access}
 use Rattle.av_plain.specs.Choice.{ChoosesAll, Free, ListsFree, frame_in, frame_in_note, new_free}
-use Rattle.av_plain.specs.Event.{Event, Forked, EntriesMoved, TurnedOff, TurnedOn, Used, after, after_all, after_move, after_note, after_notes, after_use, after_use_of, after_zap, change_entries, if_some, key_at, note_events, off_cache, put_all, set_entry, when, with_stale}
+use Rattle.av_base.specs.declared.flags.Flag.{Flag}
+use Rattle.av_base.specs.declared.flags.Flag.TheVariants as flags
+use Rattle.av_plain.specs.Advice.{advice_events, flag_of_advice, pages_advised}
+use Rattle.av_plain.specs.Lock.{BringsIn, Locks, accesses_of, with_lock}
+use Rattle.av_plain.specs.Event.{Event, FlagSet, Forked, Inherited, EntriesMoved, TurnedOff, TurnedOn, Used, after, after_all, after_move, after_note, after_notes, after_use, after_use_of, after_zap, change_entries, if_some, key_at, note_events, off_cache, put_all, set_entry, when, with_stale}
 use Rattle.av_plain.specs.Fault.{ComesIn, CopyOnWrite, Denied, IsMade, Lost, MapCached, Need, NewPage, Ready, RunsOut, Serves, Sparing, Starved, Stop, SwapIn, Touches, ZeroPage, drop_at, drop_of_entry, drop_of_slot, is_shared, is_unneeded, need, need_of_slot, pinned_by, sparing, was_slot}
 use Rattle.av_plain.specs.Fork.{inheritance}
 use Rattle.av_plain.specs.Ledger.{Cached, Entry, InFrame, InSlot, Key, Ledger, Setting, SwapArea, Zero, entry, first_ledger, frame_at, has_free, is_free, is_orphan, key_cmp, keys_of_slot, map_count, names_frame, slot_of, slots_in_use}
@@ -32,7 +36,7 @@ use Rattle.av_plain.specs.Zap.{keys_in, keys_of_process, orphan_drop, slot_behin
 use Rattle.av_plain.proofs.Choice.{ChoosesFrames, frames-chosen, frames-first}
 use Rattle.av_plain.proofs.Access.{after_all-append, note_events-all}
 use Rattle.av_plain.proofs.Event.{map_count-unseen, put_all-only}
-use Rattle.av_plain.proofs.Fork.{copies, child_ledger, forked-is, frames-grow}
+use Rattle.av_plain.proofs.Fork.{copies, child_ledger, going, forked-is, frames-grow}
 use Rattle.av_plain.proofs.Ledger.{entry-set, how_many-append, how_many-found, map_count-set, same_key-itself}
 use Rattle.av_plain.proofs.Ledger.Order.{weight}
 use Rattle.av_plain.proofs.Refusal.{may-fork}
@@ -56,6 +60,30 @@ use Rattle.av_plain.proofs.Sound.Steps.{alike-end_note, alike-started, alike-wit
 use Rattle.av_plain.proofs.Sound.There.{sorted-note}
 use Rattle.av_plain.proofs.Sound.Zap.{zap_of-kept}
 use Rattle.av_plain.proofs.Zap.{in_order-after_zap, map_count-after_zap, same_swap-after_zap}
+use Rattle.av_trace.specs.declared.reply.Answer.TheVariants.{Refused}
+use Rattle.av_trace.specs.declared.reply.Errno.TheVariants.{Enomem}
+use Rattle.av_base.specs.Page.{pages_met}
+use Rattle.av_plain.specs.World.{pages, pages_to_hole}
+use Rattle.av_plain.specs.Ledger.{free_frames, is_merged}
+use Rattle.av_plain.specs.Event.{FreeSorted}
+use Rattle.av_plain.specs.Merge.{FrameBytes, candidate, hold_same, join_notes, merge_notes, merged_like, merges, other_like, with_candidate}
+use Rattle.av_plain.specs.Compact.{Compacts, Moves}
+use Rattle.av_plain.specs.Choice.{TakesFrame, TakesOut, sorts_free, takes_any}
+use Rattle.av_trace.specs.declared.note.Note.TheVariants.{Joined, Moved, Shared}
+use Rattle.av_trace.specs.declared.note.Cause.TheVariants.{Ksm, Locked}
+use Rattle.av_trace.specs.declared.command.Command.TheVariants.{Compact, Merge}
+use Rattle.av_plain.proofs.Event.{changed-by}
+use Rattle.av_plain.proofs.Sound.Frames.{AreBefore, IsMove, found-is, move-is, other-waits, turned}
+use Rattle.av_plain.proofs.Sound.Pass.{AreUnmerged, all-unmerged, unmerged-first, unmerged-rest}
+use Rattle.av_plain.proofs.Sound.Swap.{Holds, of-sound}
+use Rattle.std.specs.Prelude.{reverse}
+use Rattle.av_plain.specs.Event.{Noted}
+use Rattle.av_plain.specs.Choice.{ChoosesFrame}
+use Rattle.av_plain.specs.Sound.{no_excuse}
+use Rattle.av_plain.specs.Event.{with_renamed}
+use Rattle.av_plain.proofs.Sound.Frames.{move-holds}
+use Rattle.av_plain.proofs.Sound.Sharing.{uses-go, uses-stay}
+use Rattle.av_plain.proofs.Sound.Counts.{count-without-list}
 
 -- ---- the numbers of a range, each once
 
@@ -112,23 +140,22 @@ at_most false = omega arith
 differ : {x : Bool} → false ≡ x → x ≡ true → ⊥
 differ h i = cc
 
-pub lists-event : (m : Setting) (l l' : Ledger) (taken : Option ℕ) (free rest : List ℕ) → MatchOption taken (free ≡ rest) (λ f. free ≡ f ∷ rest) →
+-- what is left of the free frames once one is taken, if any
+abbrev pub IsLeft : Option ℕ → List ℕ → List ℕ → Type 0
+IsLeft taken free rest = (g : ℕ) → how_many (λ x. g == x) free ≡ cond (is_that taken g) 1 0 + how_many (λ x. g == x) rest
+
+lists-left : (m : Setting) (l l' : Ledger) (taken : Option ℕ) (free rest : List ℕ) → IsLeft taken free rest →
     Steady l l' taken → Lists m l free → Lists m l' (new_free m l l' ++ rest)
-lists-event m l l' taken free rest first steady h g =
+lists-left m l l' taken free rest left steady h g =
     let a = how_many-append (λ x. g == x) (new_free m l l') rest in
     let b = count-filter (λ f. is_free l' f && not (is_free l f)) g (range_with_len 0 m.frames) in
     let c = once g 0 m.frames in
     let d = h g in
     by (is_free l' g) (is_free l g) (nat_lt g m.frames) (is_that taken g) _ _ _ _ _ (uses l g) (uses l' g) (free-is l' g) (free-is l g) a b
-    (c ∙ ap {B = ℕ} (λ x. cond x 1 0) (plain g m.frames)) d (left taken first) (steady.stays g) (steady.taken_used g)
+    (c ∙ ap {B = ℕ} (λ x. cond x 1 0) (plain g m.frames)) d (left g) (steady.stays g) (steady.taken_used g)
   where
     plain : (g n : ℕ) → (nat_le 0 g && nat_lt g (0 + n)) ≡ nat_lt g n
     plain g n = grind (arith, nat_tests)
-
-    left : (o : Option ℕ) → MatchOption o (free ≡ rest) (λ f. free ≡ f ∷ rest) →
-        how_many (λ x. g == x) free ≡ cond (is_that o g) 1 0 + how_many (λ x. g == x) rest
-    left None e = ap (how_many (λ x. g == x)) e ∙ omega arith
-    left (Some f) e = ap (how_many (λ x. g == x)) e
 
     by : (v u n t : Bool) (all new nums old k : ℕ) (count count' : ℕ) → v ≡ (count' == 0) → u ≡ (count == 0) → all ≡ new + k
         → new ≡ cond (v && not u) nums 0 →
@@ -158,12 +185,71 @@ lists-event m l l' taken free rest first steady h g =
         let y = ap {B = ℕ} (λ x. cond (x && n) 1 0) (sym hu) in
         omega (arith, a, b, d, e, w, y)
 
+pub lists-event : (m : Setting) (l l' : Ledger) (taken : Option ℕ) (free rest : List ℕ) → MatchOption taken (free ≡ rest) (λ f. free ≡ f ∷ rest) →
+    Steady l l' taken → Lists m l free → Lists m l' (new_free m l l' ++ rest)
+lists-event m l l' taken free rest first steady h = lists-left m l l' taken free rest (λ g. left g taken first) steady h
+  where
+    left : (g : ℕ) (o : Option ℕ) → MatchOption o (free ≡ rest) (λ f. free ≡ f ∷ rest) →
+        how_many (λ x. g == x) free ≡ cond (is_that o g) 1 0 + how_many (λ x. g == x) rest
+    left g None e = ap (how_many (λ x. g == x)) e ∙ omega arith
+    left g (Some f) e = ap (how_many (λ x. g == x)) e
+
+-- all free frames of the machine, rising
+sorted-lists : (m : Setting) (l : Ledger) → Lists m l (free_frames m l)
+sorted-lists m l g = count-filter (is_free l) g (range_with_len 0 m.frames) ∙ by (is_free l g) (free-is l g) _ (once g 0 m.frames
+    ∙ ap {B = ℕ} (λ x. cond x 1 0) (plain g m.frames))
+  where
+    plain : (g n : ℕ) → (nat_le 0 g && nat_lt g (0 + n)) ≡ nat_lt g n
+    plain g n = grind (arith, nat_tests)
+
+    by : (b : Bool) → b ≡ (uses l g == 0) → (n : ℕ) → n ≡ cond (nat_lt g m.frames) 1 0 → cond b n 0 ≡ cond ((uses l g == 0) && nat_lt g m.frames) 1 0
+    by true e n h = h ∙ ap {B = ℕ} (λ b. cond (b && nat_lt g m.frames) 1 0) e
+    by false e n h = ap {B = ℕ} (λ b. cond (b && nat_lt g m.frames) 1 0) e
+
+-- after any event
+pub chosen-lists : (m : Setting) (l : Ledger) (e : Event) (free free' : List ℕ) → (sorts_free e ≡ false → Steady l (after l e) (frame_in e))
+    → ChoosesFrame m l e free free' → Lists m l free → Lists m (after l e) free'
+chosen-lists m l e free free' steady c h = by (sorts_free e) refl c
+  where
+    -- the frame that is taken stands once in the list
+    out : (f : ℕ) (rest : List ℕ) → TakesOut f free rest → IsLeft (Some f) free rest
+    out f rest q g = parts (g == f) refl _ (ap (how_many (λ x. g == x)) q.1 ∙ count-without-list f g free)
+      where
+        once_only : (n : ℕ) (b : Bool) → n ≡ cond b 1 0 → nat_lt 0 n ≡ true → n ≡ 1
+        once_only n true e i = e
+        once_only n false e i = grind (arith, nat_tests, e, i)
+
+        there : how_many (λ x. f == x) free ≡ 1
+        there = once_only _ ((uses l f == 0) && nat_lt f m.frames) (h f) (sym (any-counts (λ x. f == x) free) ∙ q.0)
+
+        parts : (b : Bool) → (g == f) ≡ b → (n : ℕ) → n ≡ cond b 0 (how_many (λ x. g == x) free)
+            → how_many (λ x. g == x) free ≡ cond b 1 0 + n
+        parts true is n e = let s = ap (λ y. how_many (λ x. y == x) free) (same-is g f is) in let t = there in omega (arith, e, s, t)
+        parts false is n e = omega (arith, e)
+
+    left : (b : Bool) (o : Option ℕ) (rest : List ℕ) → MatchOption o (free ≡ rest) (λ f. MatchBool b (TakesOut f free rest) (free ≡ f ∷ rest))
+        → IsLeft o free rest
+    left b None rest e = λ g. ap (how_many (λ x. g == x)) e ∙ omega arith
+    left true (Some f) rest q = out f rest q
+    left false (Some f) rest e = λ g. ap (how_many (λ x. g == x)) e
+
+    by : (b : Bool) → sorts_free e ≡ b → MatchBool b (free' ≡ free_frames m (after l e)) (TakesFrame m l e free free') → Lists m (after l e) free'
+    by true is c = subst (Lists m (after l e)) (sym c) (sorted-lists m (after l e))
+    by false is c = subst (Lists m (after l e)) (sym c.2)
+        (lists-left m l (after l e) (frame_in e) free c.0 (left (takes_any e) (frame_in e) c.0 c.1) (steady is) h)
+
 -- ---- what each note does to the uses of frames
 
 -- the condition at each note: a frame that an entry or a slot comes to name without being taken is in use
+pub record GoesOver (from to : ℕ) (l : Ledger) : Type 0 where
+  pub stays : (g : ℕ) → uses l g ≡ 0 → (g == to) ≡ false → uses (with_renamed from to l) g ≡ 0
+  pub used : (g : ℕ) → (g == to) ≡ true → 0 < uses (with_renamed from to l) g
+
 abbrev pub IsHeld : Ledger → Note → Type 0
 IsHeld l (Mapped p a f) = 0 < uses l f
 IsHeld l (Put f s) = 0 < uses l f
+IsHeld l (Joined p a f) = 0 < uses l f
+IsHeld l (Moved from to) = GoesOver from to l
 IsHeld l note = Unit {0}
 
 abbrev pub AreHeld : Ledger → List Note → Type 0
@@ -190,7 +276,8 @@ fewer-steady l l' h = record { stays = λ g gone other. h g gone; taken_used = �
 pub note-steady : (l : Ledger) (note : Note) → T (is_sorted key_cmp l.entries) → IsHeld l note → Steady l (after_note note l) (frame_in_note note)
 note-steady l (Zeroed p a) sorted h = fewer-steady l _ (λ g gone. let e = map_count-set (key_at p a) Zero l g sorted in omega (arith, gone, e))
 note-steady l (New p a f) sorted h = set-steady l (after_note (New p a f) l) (key_at p a) f false sorted (λ g. refl)
-note-steady l (Copied p a f) sorted h = set-steady l (after_note (Copied p a f) l) (key_at p a) f false sorted (λ g. refl)
+note-steady l (Copied p a f) sorted h = set-steady l (after_note (Copied p a f) l) (key_at p a) f false sorted
+    (λ g. changed-by (λ l. uses l g) (λ j l. refl) (key_at p a) f l)
 note-steady l (Loaded s f) sorted h = record { stays = λ g gone other. by (g == f) other g gone; taken_used = λ g is. some (g == f) is g }
   where
     by : (b : Bool) → b ≡ false → (g : ℕ) → uses l g ≡ 0 → map_count l g + (cond b 1 0 + holders l g) ≡ 0
@@ -230,6 +317,16 @@ note-steady l (Kept f Writeback) sorted h = fewer-steady l _ (λ g gone. gone)
 note-steady l (Kept f WriteStarted) sorted h = fewer-steady l _ (λ g gone. gone)
 note-steady l (Kept f Referenced) sorted h = fewer-steady l _ (λ g gone. let e = map_count-unseen f l g in omega (arith, e, gone))
 note-steady l (Kept f NoSlot) sorted h = fewer-steady l _ (λ g gone. gone)
+note-steady l (Kept f Locked) sorted h = fewer-steady l _ (λ g gone. gone)
+note-steady l (Kept f Ksm) sorted h = fewer-steady l _ (λ g gone. gone)
+note-steady l (Shared f) sorted h = fewer-steady l _ (λ g gone. gone)
+note-steady l (Moved from to) sorted h = record { stays = λ g gone other. h.stays g gone other; taken_used = λ g is. h.used g is }
+note-steady l (Joined p a f) sorted h = fewer-steady l _ (λ g gone. changed-by (λ l. uses l g) (λ j l. refl) (key_at p a) f l
+    ∙ (let e = map_count-set (key_at p a) (InFrame f false) l g sorted in by g _ _ (g == f) refl gone e))
+  where
+    by : (g n w : ℕ) (b : Bool) → (g == f) ≡ b → uses l g ≡ 0 → n + w ≡ map_count l g + cond b 1 0 → n + holders l g ≡ 0
+    by g n w true is gone e = let z = ap (uses l) (same-is g f is) in absurd (omega (arith, gone, z, h))
+    by g n w false is gone e = omega (arith, gone, e)
 note-steady l (Aged f) sorted h = fewer-steady l _ (λ g gone. let e = map_count-unseen f l g in omega (arith, e, gone))
 
 -- ---- several notes
@@ -241,8 +338,7 @@ pub notes-lists : (m : Setting) (l : Ledger) (notes : List Note) (free free' : L
 notes-lists m l [] free free' sorted held c h = subst (Lists m l) (sym c) h
 notes-lists m l (note ∷ notes) free free' sorted held c h =
     notes-lists m (after_note note l) notes c.0 free' (sorted-note l note sorted) held.1 c.2
-    (subst (Lists m (after_note note l)) (sym c.1.2) (lists-event m l (after_note note l) (frame_in_note note) free c.1.0 c.1.1
-    (note-steady l note sorted held.0) h))
+    (chosen-lists m l (Noted note) free c.0 (λ _. note-steady l note sorted held.0) c.1 h)
 
 held-append : (l : Ledger) (a b : List Note) → AreHeld l a → AreHeld (after_notes l a) b → AreHeld l (a ++ b)
 held-append l [] b x y = y
@@ -288,28 +384,31 @@ held-turn l f t failed in_use = held-append l (unmap_notes l f t) _ (held-unmap 
     writes l false = tt
 
 held-turns : (m : Setting) (sp : Spared) (l : Ledger) (fs : List ℕ) (notes : List Note) → IsSound m l → ((r : Slot) → flights l r ≡ 0)
-    → AreReady l fs →
+    → AreReady l fs → AreUnmerged l fs →
     Turns m sp l fs notes → AreHeld l notes
-held-turns m sp l [] notes s grounded ready r = held-is l notes [] r tt
-held-turns m sp l (f ∷ fs) notes s grounded ready r = stuck (λ l' ns s' g' r' t'. held-turns m sp l' fs ns s' g' r' t') (is_stuck m sp l f) r
+held-turns m sp l [] notes s grounded ready unmerged r = held-is l notes [] r tt
+held-turns m sp l (f ∷ fs) notes s grounded ready unmerged r =
+    stuck (λ l' ns s' g' r' u' t'. held-turns m sp l' fs ns s' g' r' u' t') (is_stuck m sp l f) r
   where
-    stuck : ((l' : Ledger) (ns : List Note) → IsSound m l' → ((r : Slot) → flights l' r ≡ 0) → AreReady l' fs → Turns m sp l' fs ns → AreHeld l' ns)
+    stuck : ((l' : Ledger) (ns : List Note) → IsSound m l' → ((r : Slot) → flights l' r ≡ 0) → AreReady l' fs → AreUnmerged l' fs
+        → Turns m sp l' fs ns → AreHeld l' ns)
         → (b : Bool) → MatchBool b (Turns m sp l fs notes)
         ((t : Slot) × (failed : Bool) × IsSlotFor m sp l f t × MatchBool (stays_cached l f t failed)
         ((rest : List Note) × (notes ≡ turn_notes l f t failed ++ rest) × Turns m sp (after_notes l (turn_notes l f t failed)) fs rest)
         (notes ≡ turn_notes l f t failed ++ Dropped t ∷ [])) → AreHeld l notes
-    stuck again true r = again l notes s grounded (ready-rest l l f fs (λ g other. refl) ready) r
+    stuck again true r = again l notes s grounded (ready-rest l l f fs (λ g other. refl) ready) (unmerged-rest l l f fs refl unmerged) r
     stuck again false r = goes (stays_cached l f r.0 r.1) r.3
       where
         here : TurnKept m l f r.0 (after_notes l (turn_notes l f r.0 r.1))
-        here = turn-kept m sp l f r.0 r.1 s grounded r.2 (ready-first l f fs ready)
+        here = turn-kept m sp l f r.0 r.1 s grounded r.2 (unmerged-first l f fs unmerged) (ready-first l f fs ready)
 
         goes : (b : Bool) → MatchBool b
             ((rest : List Note) × (notes ≡ turn_notes l f r.0 r.1 ++ rest) × Turns m sp (after_notes l (turn_notes l f r.0 r.1)) fs
             rest) (notes ≡ turn_notes l f r.0 r.1 ++ Dropped r.0 ∷ []) → AreHeld l notes
         goes true q = held-is l notes _ q.1 (held-append l (turn_notes l f r.0 r.1) q.0 (held-turn l f r.0 r.1 (ready-first l f fs ready))
             (again (after_notes l (turn_notes l f r.0 r.1)) q.0 here.sound here.grounded
-            (ready-rest l (after_notes l (turn_notes l f r.0 r.1)) f fs here.others ready) q.2))
+            (ready-rest l (after_notes l (turn_notes l f r.0 r.1)) f fs here.others ready)
+            (unmerged-rest l (after_notes l (turn_notes l f r.0 r.1)) f fs here.merged_same unmerged) q.2))
         goes false q = held-is l notes _ q (held-append l (turn_notes l f r.0 r.1) (Dropped r.0 ∷ [])
             (held-turn l f r.0 r.1 (ready-first l f fs ready)) (tt, tt))
 
@@ -319,7 +418,8 @@ held-seeks m sp l notes s r = by (has_free m l) r
     pass : (b : Bool) (now : Ledger) (ns : List Note) → IsSound m now → ((r : Slot) → flights now r ≡ 0) →
         MatchBool b (ns ≡ []) (Turns m sp now (frames_in_turn sp now) ns) → AreHeld now ns
     pass true now ns s g q = held-is now ns [] q tt
-    pass false now ns s g q = held-turns m sp now (frames_in_turn sp now) ns s g (all-ready m sp now s) q
+    pass false now ns s g q = held-turns m sp now (frames_in_turn sp now) ns s g (all-ready m sp now s)
+        (all-unmerged sp now (reverse now.inactive ++ reverse now.active)) q
 
     by : (b : Bool) → MatchBool b (notes ≡ []) (IsPass m sp l notes) → AreHeld l notes
     by true q = held-is l notes [] q tt
@@ -518,16 +618,29 @@ zaps-lists m l (k ∷ ks) free free' s c h =
 -- ---- entries that go over
 
 -- no frame comes into use
-pub fork-steady : (m : Setting) (l : Ledger) (p q : ℕ) → IsSound m l → ((page : ℕ) → entry l (q, page) ≡ None) → Steady l (child_ledger p q l) None
-fork-steady m l p q s none = subst (λ l'. Steady l l' None) (sym (forked-is p q l ∙ put_all-only (copies p q l.entries) l))
-    (fewer-steady l (record l { entries = (put_all (copies p q l.entries) l).entries })
-    (λ g gone. let a = (frames-grow p q l s.in_order none g).count in
-    let b = (frames-grow p q l s.in_order none g).few in omega (arith, gone, a, b)))
+pub fork-steady : (m : Setting) (l : Ledger) (p q : ℕ) (goes : List Inherited) → IsSound m l → ((page : ℕ) → entry l (q, page) ≡ None)
+    → Steady l (child_ledger p q goes l) None
+fork-steady m l p q goes s none = subst (λ l'. Steady l l' None) (sym (forked-is p q goes l ∙ put_all-only (copies p q (going goes l.entries)) l))
+    (fewer-steady l (record l { entries = (put_all (copies p q (going goes l.entries)) l).entries })
+    (λ g gone. let a = (frames-grow p q goes l s.in_order none g).count in
+    let b = (frames-grow p q goes l s.in_order none g).few in omega (arith, gone, a, b)))
 
-fork-lists : (m : Setting) (l : Ledger) (p q : ℕ) (free free' : List ℕ) → IsSound m l → ((page : ℕ) → entry l (q, page) ≡ None)
-    → ChoosesFrames m l (Forked p q (inheritance l p) ∷ []) free free' → Lists m l free → Lists m (child_ledger p q l) free'
-fork-lists m l p q free free' s none c h = subst (Lists m (child_ledger p q l)) (sym (c.2 ∙ c.1.2))
-    (lists-event m l (child_ledger p q l) None free c.1.0 c.1.1 (fork-steady m l p q s none) h)
+fork-lists : (m : Setting) (l : Ledger) (p q : ℕ) (goes : List Inherited) (free free' : List ℕ) → IsSound m l → ((page : ℕ) → entry l (q, page) ≡ None)
+    → ChoosesFrames m l (Forked p q goes ∷ []) free free' → Lists m l free → Lists m (child_ledger p q goes l) free'
+fork-lists m l p q goes free free' s none c h = subst (Lists m (child_ledger p q goes l)) (sym (c.2 ∙ c.1.2))
+    (lists-event m l (child_ledger p q goes l) None free c.1.0 c.1.1 (fork-steady m l p q goes s none) h)
+
+-- ---- flags
+
+-- a flag that is set leaves all
+flag-lists : (m : Setting) (l : Ledger) (p from n : ℕ) (flag : Flag) (set : Bool) (es : List Event) (free free' : List ℕ)
+    → ChoosesFrames m l (FlagSet p from n flag set ∷ es) free free' → Lists m l free
+    → (mid : List ℕ) × Lists m l mid × ChoosesFrames m l es mid free'
+flag-lists m l p from n flag set es free free' c h = (
+  c.0,
+  subst (Lists m l) (sym c.1.2) (lists-event m l l None free c.1.0 c.1.1 (fewer-steady l l (λ g gone. gone)) h),
+  c.2,
+)
 
 -- ---- entries that move
 
@@ -633,22 +746,67 @@ held-ends : (m : Setting) (sp : Spared) (k : ℕ) (l : Ledger) (pages : List ℕ
 held-ends m sp k l [] notes end s h = held-is l notes [] h.0 tt
 held-ends m sp k l (page ∷ pages) notes end s h = held-seeks m sp l notes s h.1
 
-held-empties : (m : Setting) (w : World) (sp : Spared) (k : ℕ) (l : Ledger) (pages : List ℕ) (notes : List Note) (end : Close) → Empty m w l →
-    Empties m sp k l pages notes end → AreHeld l notes
-held-empties m w sp k l [] notes end e h = held-ends m sp k l (slots_in_use m l k) notes end e.holds.sound h
-held-empties m w sp k l (page ∷ pages) notes end e h =
+held-empties : (m : Setting) (w : World) (k : ℕ) (l : Ledger) (pages : List ℕ) (notes : List Note) (end : Close) → Empty m w l →
+    Empties m w k l pages notes end → AreHeld l notes
+held-empties m w k l [] notes end e h = held-ends m (sparing_area w k l) k l (slots_in_use m l k) notes end e.holds.sound h
+held-empties m w k l (page ∷ pages) notes end e h =
     let used = first-used m l k page h.0 h.3 in
-    held-is l notes (h.1 ++ h.2) h.4 (held-append l h.1 h.2 (held-emptied m w sp l (record { area = k; page = page }) h.1 e used h.5)
-    (held-empties m w sp k (after_notes l h.1) pages h.2 end (emptied-hold m w sp l (record { area = k; page = page }) h.1 e used h.5) h.6))
+    held-is l notes (h.1 ++ h.2) h.4 (held-append l h.1 h.2 (held-emptied m w (sparing_area w k l) l (record { area = k; page = page }) h.1 e used h.5)
+    (held-empties m w k (after_notes l h.1) pages h.2 end (emptied-hold m w (sparing_area w k l) l (record { area = k; page = page }) h.1 e used h.5) h.6))
 
 -- areas that are turned on or off leave frames alone
 switch-lists : (m : Setting) (l l' : Ledger) (e : Event) (free free' : List ℕ) → after l e ≡ l' → frame_in e ≡ None
     → ((g : ℕ) → uses l' g ≡ uses l g) →
     ChoosesFrames m l (e ∷ []) free free' → Lists m l free → Lists m l' free'
 switch-lists m l l' e free free' is none same c h = subst (λ x. Lists m x free') is
-    (subst (Lists m (after l e)) (sym (c.2 ∙ c.1.2)) (lists-event m l (after l e) None free c.1.0
-    (subst (λ o. MatchOption o (free ≡ c.1.0) (λ f. free ≡ f ∷ c.1.0)) none c.1.1)
-    (fewer-steady l (after l e) (λ g gone. ap (λ x. uses x g) is ∙ same g ∙ gone)) h))
+    (subst (Lists m (after l e)) (sym c.2) (chosen-lists m l e free c.0
+    (λ _. subst (Steady l (after l e)) (sym none) (fewer-steady l (after l e) (λ g gone. ap (λ x. uses x g) is ∙ same g ∙ gone))) c.1 h))
+
+-- ---- merge and compact
+
+module _ (m : Setting) (held : FrameBytes) (w : World) where
+  held-joins : (l : Ledger) (k : Key) (earlier : List ℕ) → IsSound m l → AreBefore held l earlier
+      → AreHeld l (merge_notes m held l earlier k (candidate w l k))
+  held-joins l k earlier s before = by (candidate w l k)
+    where
+      some : (n : ℕ) → nat_lt 0 n ≡ true → 0 < n
+      some n e = grind (arith, nat_tests, e)
+
+      first : (a b : Bool) → (a && b) ≡ true → a ≡ true
+      first true b h = refl
+      first false b h = cc
+
+      joins : (f : ℕ) (a : Option ℕ) → merged_like m held l f ≡ a → (b : Option ℕ) → other_like held earlier f ≡ b → AreHeld l (join_notes k a b)
+      joins f (Some g) is b is' =
+          let t = first (is_merged l g) _ (found-is (λ g. is_merged l g && hold_same held g f) (range_with_len 0 m.frames) g is).0 in
+          let n = some _ (sym (any-counts (λ y. g == y) l.merged) ∙ t) in
+          let c = s.merged g in (omega (arith, n, c), tt)
+      joins f None is (Some j) is' = let u = (other-waits m held l f j earlier s before is is').waits.named in (tt, (omega (arith, u), tt))
+      joins f None is None is' = tt
+
+      by : (o : Option ℕ) → AreHeld l (merge_notes m held l earlier k o)
+      by None = tt
+      by (Some f) = joins f (merged_like m held l f) refl (other_like held earlier f) refl
+
+  held-merges : (l : Ledger) (earlier : List ℕ) (ks : List Key) → Holds m w l → AreBefore held l earlier → AreHeld l (merges m held w l earlier ks)
+  held-merges l earlier [] h before = tt
+  held-merges l earlier (k ∷ ks) h before =
+      let here = merge_notes m held l earlier k (candidate w l k) in
+      let x = turned m held w l k earlier h before in
+      held-append l here (merges m held w (after_notes l here) (with_candidate earlier (candidate w l k)) ks)
+      (held-joins l k earlier h.sound before) (held-merges (after_notes l here) (with_candidate earlier (candidate w l k)) ks x.holds x.before)
+
+held-moves : (m : Setting) (w : World) (l : Ledger) (notes : List Note) → Holds m w l → Moves m l notes → AreHeld l notes
+held-moves m w l [] s h = tt
+held-moves m w l (note ∷ notes) s h =
+    let v = move-is m l note h.0 in
+    (subst (IsHeld l) (sym v.is) (one v), held-moves m w (after_note note l) notes (move-holds m w l note s h.0) h.1)
+  where
+    one : (v : IsMove m l note) → GoesOver v.from v.to l
+    one v = record {
+      stays = λ g gone other. uses-stay m no_excuse l v.from v.to s.sound v.free v.used v.below g gone other;
+      used = λ g is. uses-go m no_excuse l v.from v.to s.sound v.free v.used v.below g is;
+    }
 
 -- ---- a step, and a run
 
@@ -660,9 +818,9 @@ legal-lists m w l command reply es free free' sound legal c h = by (refusal (tes
     s : IsSound m l
     s = sound.ledger
 
-    forks : (p q : ℕ) → lives w q ≡ false → es ≡ Forked p q (inheritance l p) ∷ [] → Lists m (after_all l es) free'
-    forks p q dead e = subst (λ es. Lists m (after_all l es) free') (sym e)
-        (fork-lists m l p q free free' s (no_entries w l q sound.at_pages dead) (subst (λ es. ChoosesFrames m l es free free') e c) h)
+    forks : (p q : ℕ) (goes : List Inherited) → lives w q ≡ false → es ≡ Forked p q goes ∷ [] → Lists m (after_all l es) free'
+    forks p q goes dead e = subst (λ es. Lists m (after_all l es) free') (sym e)
+        (fork-lists m l p q goes free free' s (no_entries w l q sound.at_pages dead) (subst (λ es. ChoosesFrames m l es free free') e c) h)
 
     none : es ≡ [] → Lists m (after_all l es) free'
     none e = subst (λ es. Lists m (after_all l es) free') (sym e)
@@ -700,7 +858,7 @@ legal-lists m w l command reply es free free' sound legal c h = by (refusal (tes
         let now = after_notes l q.done in
         let empty = done-empty m w l q.done sound q.completes in
         let held = held-append l q.done q.notes (held-completes l l.flight q.done q.completes)
-        (held-empties m w (sparing_area w k now) k now q.pages q.notes q.end empty q.empties) in
+        (held-empties m w k now q.pages q.notes q.end empty q.empties) in
         let both = frames-first m l (note_events notes) (turn_off_events k q.end) free free'
         (subst (λ es. ChoosesFrames m l es free free') q.whole c) in
         let first = notes-lists m l notes free both.0 s.in_order held both.1 h in
@@ -710,10 +868,41 @@ legal-lists m w l command reply es free free' sound legal c h = by (refusal (tes
         ∙ ap (λ x. after_all x (turn_off_events k q.end)) same))
         (closes (after_notes l notes) k q.end both.0 (subst (λ x. ChoosesFrames m x (turn_off_events k q.end) both.0 free') same both.2) first))
 
+    flagged : (p from n : ℕ) (flag : Flag) (set : Bool) → es ≡ FlagSet p from n flag set ∷ [] → Lists m (after_all l es) free'
+    flagged p from n flag set e =
+        let first = flag-lists m l p from n flag set [] free free' (subst (λ es. ChoosesFrames m l es free free') e c) h in
+        subst (λ es. Lists m (after_all l es) free') (sym e) (subst (Lists m l) (sym first.2) first.1)
+
+    advises : (p from n : ℕ) (change : Option (Flag × Bool)) → es ≡ advice_events l p from n change → Lists m (after_all l es) free'
+    advises p from n None e = these (keys_in l p from n) e
+    advises p from n (Some change) e = flagged p from n change.0 change.1 e
+
+    locks : (p from n : ℕ) → Locks m w l p from n es reply.answer reply.rows → Lists m (after_all l es) free'
+    locks p from n q =
+        let k = pages_to_hole (pages w p) from n in
+        let first = flag-lists m l p from k flags.Locked true q.0 free free' (subst (λ es. ChoosesFrames m l es free free') q.1 c) h in
+        subst (λ es. Lists m (after_all l es) free') (sym q.1) (by (k == n) first.0 first.1 first.2 q.3)
+      where
+        by : (b : Bool) (mid : List ℕ) → Lists m l mid → ChoosesFrames m l q.0 mid free'
+            → MatchBool b (BringsIn m w l p from n q.0 reply.answer) ((q.0 ≡ []) × (reply.answer ≡ Refused Enomem))
+            → Lists m (after_all l q.0) free'
+        by true mid h c r = accesses-lists m (with_lock true w p from n) l p (accesses_of (pages w p) from n) q.0 r.0 mid free' s r.1 c h
+        by false mid h c r = subst (λ es. Lists m (after_all l es) free') (sym r.0)
+            (subst (Lists m l) (sym (subst (λ es. ChoosesFrames m l es mid free') r.0 c)) h)
+    compacts : Compacts m l es reply.answer reply.rows → Lists m (after_all l es) free'
+    compacts q =
+        let both = frames-first m l (note_events q.0) (FreeSorted ∷ []) free free' (subst (λ es. ChoosesFrames m l es free free') q.2 c) in
+        let first = notes-lists m l q.0 free both.0 s.in_order (held-moves m w l q.0 (of-sound m w l sound) q.1) both.1 h in
+        let same = note_events-all l q.0 in
+        subst (λ es. Lists m (after_all l es) free') (sym q.2)
+        (subst (λ x. Lists m x free') (sym (after_all-append l (note_events q.0) (FreeSorted ∷ []) ∙ same))
+        (switch-lists m (after_notes l q.0) (after_notes l q.0) FreeSorted both.0 free' refl refl (λ g. refl)
+        (subst (λ x. ChoosesFrames m x (FreeSorted ∷ []) both.0 free') same both.2) first))
+
     follows : (command : Command) → refusal (tests m w l command) ≡ None → Follows m w l command es reply.answer reply.rows
         → Lists m (after_all l es) free'
     follows (Spawn p) fine q = none q.1
-    follows (Fork p c) fine q = forks p c (may-fork m w l p c fine).child q.1
+    follows (Fork p c) fine q = forks p c (inheritance (pages w p) l p) (may-fork m w l p c fine).child q.1
     follows (Exit p) fine q = these (keys_of_process l p) q.1
     follows (Mmap p len prot Auto) fine q = none q.3
     follows (Mmap p len prot (At a)) fine q = none q.3
@@ -722,6 +911,10 @@ legal-lists m w l command reply es free free' sound legal c h = by (refusal (tes
     follows (Munmap p a len) fine q = these (keys_in l p (page_of a) (pages_of len)) q.1
     follows (Mprotect p a len prot) fine q = none q.1
     follows (Mremap p a old new mode) fine q = moves p (page_of a) (pages_of old) (pages_of new) q.0 q.3
+    follows (Madvise p a len advice) fine q =
+        advises p (page_of a) (pages_advised (pages w p) (page_of a) (pages_of len) (flag_of_advice advice)) (flag_of_advice advice) q.1
+    follows (Mlock p a len) fine q = locks p (page_of a) (pages_met a len) q
+    follows (Munlock p a len) fine q = flagged p (page_of a) (pages_to_hole (pages w p) (page_of a) (pages_met a len)) flags.Locked false q.1
     follows (Read p a n) fine q = accesses-lists m w l p (pages_of_access false a n) es q.0 free free' s q.2 c h
     follows (Write p a bytes) fine q = accesses-lists m w l p (pages_of_access true a (length bytes)) es q.0 free free' s q.1 c h
     follows (AsksReclaim n) fine q = noted q.0 q.3 (held-outcomes m (sparing w l None) l (from_tail n l.inactive) q.0 s (inactive-ready m l n s) q.1)
@@ -729,6 +922,9 @@ legal-lists m w l command reply es free free' sound legal c h = by (refusal (tes
     follows (Complete n) fine q = noted q.0 q.3 (held-completes l (take n l.flight) q.0 q.1)
     follows (Swapon k priority) fine q = turns_on k priority q.1 (turn-on-events k priority reply.answer)
     follows (Swapoff k) fine q = turns_off k q
+    follows Merge fine q = noted (merges m q.0 w l [] (map (λ e. e.0) l.entries)) q.2
+        (held-merges m q.0 w l [] (map (λ e. e.0) l.entries) (of-sound m w l sound) (λ j in_list. cc))
+    follows Compact fine q = compacts q
     follows (Maps p) fine q = none q.2
     follows (AsksAreas p) fine q = none q.2
     follows (AsksRmap p a) fine q = none q.1

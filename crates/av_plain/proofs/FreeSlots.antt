@@ -18,7 +18,7 @@ use Rattle.av_trace.specs.declared.note.Note.{Note}
 use Rattle.av_trace.specs.declared.note.Note.TheVariants.{Aged, Copied, Dropped, Failed, Kept, Loaded, Mapped, New, Put, Started, Unmapped, Written, Zeroed}
 use Rattle.av_plain.specs.Choice.{AreaSlots, ChoosesAll, ChoosesSlot, Free, IsGiven, ListsSlots, new_free_slots, no_slots, slot_in_note, with_given_back}
 use Rattle.av_plain.specs.Device.{AreLayouts}
-use Rattle.av_plain.specs.Event.{TurnedOff, TurnedOn, after, after_move, after_note, after_notes, after_use, after_zap, note_events}
+use Rattle.av_plain.specs.Event.{Inherited, TurnedOff, TurnedOn, after, after_move, after_note, after_notes, after_use, after_zap, note_events}
 use Rattle.av_plain.specs.Ledger.{Key, Ledger, Setting, SwapArea, entry, free_slots, is_cached, is_free_slot, is_on, is_usable, key_cmp, same_slot, size_of, slot_count, slot_entries, slots_in_use}
 use Rattle.av_plain.specs.Sound.{AreThere, AreasFit, IsSound, count, is_there, slots}
 use Rattle.av_plain.proofs.Clusters.{AreTaken, Gives, back-at, back-count, gives-one, set-at}
@@ -30,6 +30,7 @@ use Rattle.av_plain.proofs.Sound.Mremap.{moved-no_new}
 use Rattle.av_plain.proofs.Sound.Swap.Area.{found-off, found-on, none-left, used-elsewhere}
 use Rattle.av_plain.proofs.Sound.There.{AreLawful, IsLawful, NoNew, counted-slot, lawful-no_new, sorted-note, used-no_new}
 use Rattle.av_plain.proofs.Sound.Zap.{no_new-taken}
+use Rattle.av_trace.specs.declared.note.Note.TheVariants.{Joined, Moved, Shared}
 
 -- ---- what is kept
 
@@ -392,7 +393,7 @@ is-positive : (n : ℕ) → 0 < n → nat_lt 0 n ≡ true
 is-positive n e = grind (arith, nat_tests, e)
 
 -- nothing is taken, and no slot comes into use
-fewer-brings : (l l' : Ledger) → l'.on ≡ l.on → ((s : Slot) → 0 < count l' s → 0 < count l s) → Brings l l' None
+pub fewer-brings : (l l' : Ledger) → l'.on ≡ l.on → ((s : Slot) → 0 < count l' s → 0 < count l s) → Brings l l' None
 fewer-brings l l' on h = record {
   on_same = on;
   came = λ s is was. absurd (false≢true (sym was ∙ counted-slot l s ∙ is-positive _ (h s (positive _ (sym (counted-slot l' s) ∙ is)))));
@@ -400,10 +401,10 @@ fewer-brings l l' on h = record {
 }
 
 -- where no area has pages no slot is there
-abbrev bare : Setting → Setting
+abbrev pub bare : Setting → Setting
 bare m = record m { sizes = λ k. None }
 
-plain-brings : (m : Setting) (l l' : Ledger) → NoNew (bare m) l l' → Brings l l' None
+pub plain-brings : (m : Setting) (l l' : Ledger) → NoNew (bare m) l l' → Brings l l' None
 plain-brings m l l' n = fewer-brings l l' n.on_same (λ s i. by s (n.came s i))
   where
     below : (x : ℕ) → nat_lt x 0 ≡ false
@@ -445,6 +446,9 @@ note-brings m closing l (Failed t) sorted h = plain-brings m l _ (lawful-no_new 
 note-brings m closing l (Dropped t) sorted h = plain-brings m l _ (lawful-no_new (bare m) closing l (Dropped t) sorted h)
 note-brings m closing l (Kept f c) sorted h = plain-brings m l _ (lawful-no_new (bare m) closing l (Kept f c) sorted h)
 note-brings m closing l (Aged f) sorted h = plain-brings m l _ (lawful-no_new (bare m) closing l (Aged f) sorted h)
+note-brings m closing l (Shared f) sorted h = plain-brings m l _ (lawful-no_new (bare m) closing l (Shared f) sorted h)
+note-brings m closing l (Joined p a f) sorted h = plain-brings m l _ (lawful-no_new (bare m) closing l (Joined p a f) sorted h)
+note-brings m closing l (Moved from to) sorted h = plain-brings m l _ (lawful-no_new (bare m) closing l (Moved from to) sorted h)
 
 pub used-brings : (m : Setting) (l : Ledger) (write : Bool) (k : Key) → T (is_sorted key_cmp l.entries) → Brings l (after_use write k l) None
 used-brings m l write k sorted = plain-brings m l _ (used-no_new (bare m) l write k sorted)
@@ -463,10 +467,12 @@ bare-sound m l s = record {
   flying = s.flying;
   used = s.used;
   one = s.one;
+  merged = s.merged;
 }
 
-pub fork-brings : (m : Setting) (l : Ledger) (p q : ℕ) → IsSound m l → ((page : ℕ) → entry l (q, page) ≡ None) → Brings l (child_ledger p q l) None
-fork-brings m l p q s none = plain-brings m l (child_ledger p q l) (forked-no_new (bare m) l p q (bare-sound m l s) none)
+pub fork-brings : (m : Setting) (l : Ledger) (p q : ℕ) (goes : List Inherited) → IsSound m l → ((page : ℕ) → entry l (q, page) ≡ None)
+    → Brings l (child_ledger p q goes l) None
+fork-brings m l p q goes s none = plain-brings m l (child_ledger p q goes l) (forked-no_new (bare m) l p q goes (bare-sound m l s) none)
 
 pub move-brings : (m : Setting) (l : Ledger) (p n from to : ℕ) → IsSound m l
     → ((page : ℕ) → within to n page ≡ true → within from n page ≡ false → entry l (p, page) ≡ None)

@@ -4,7 +4,7 @@ use Rattle.std.specs.Prelude.{MatchOption}
 use Rattle.av_base.specs.declared.slot.Slot.{Slot}
 use Rattle.av_base.specs.Page.{page_of, pages_of}
 use Rattle.av_trace.specs.declared.command.Command.{Command}
-use Rattle.av_trace.specs.declared.command.Command.TheVariants.{Spawn, Fork, Exit, Mmap, Mremap, Munmap, Mprotect, Read, Write, Reclaim, Age, Complete, Swapon, Swapoff, Maps, Areas as AsksAreas, Rmap as AsksRmap, Entry as AsksEntry, Slot as AsksSlot, Stat}
+use Rattle.av_trace.specs.declared.command.Command.TheVariants.{Spawn, Fork, Exit, Mmap, Mremap, Munmap, Mprotect, Madvise, Mlock, Munlock, Read, Write, Reclaim, Age, Complete, Swapon, Swapoff, Maps, Areas as AsksAreas, Rmap as AsksRmap, Entry as AsksEntry, Slot as AsksSlot, Stat}
 use Rattle.av_trace.specs.declared.place.Place.TheVariants.{Auto, At, Fixed, NoReplace}
 use Rattle.av_trace.specs.declared.reply.Errno.{Errno}
 use Rattle.av_trace.specs.declared.reply.Errno.TheVariants.{Ebusy, Einval}
@@ -21,7 +21,11 @@ use Rattle.av_trace.specs.declared.note.Note.{Note}
 use Rattle.av_trace.specs.declared.note.Note.TheVariants.{Aged, Dropped}
 use Rattle.av_plain.specs.Access.{Accesses, End, page_events, pages_of_access}
 use Rattle.av_plain.specs.Choice.{ChoosesAll, Free, ListsAll, ListsSlots}
-use Rattle.av_plain.specs.Event.{Event, Forked, EntriesMoved, TurnedOff, TurnedOn, Used, Zapped, after, after_all, after_move, after_notes, after_use, after_zap, note_events, when}
+use Rattle.av_base.specs.declared.flags.Flag.{Flag}
+use Rattle.av_base.specs.declared.flags.Flag.TheVariants as flags
+use Rattle.av_plain.specs.Advice.{advice_events, flag_of_advice, pages_advised}
+use Rattle.av_plain.specs.Lock.{BringsIn, Locks, accesses_of, with_lock}
+use Rattle.av_plain.specs.Event.{Event, FlagSet, Forked, Inherited, EntriesMoved, TurnedOff, TurnedOn, Used, Zapped, after, after_all, after_move, after_notes, after_use, after_zap, note_events, when}
 use Rattle.av_plain.specs.Fault.{Stop, Touches}
 use Rattle.av_plain.specs.Fork.{inheritance}
 use Rattle.av_plain.specs.Ledger.{Key, Ledger, Setting, SwapArea, entry, is_on, is_orphan, size_of, slots_in_use}
@@ -46,6 +50,17 @@ use Rattle.av_plain.proofs.Choice.{chosen-first}
 use Rattle.av_plain.proofs.FreeFrames.{step-lists_free}
 use Rattle.av_plain.proofs.FreeLists.{IsLawfulEvent, event-tracks}
 use Rattle.av_plain.proofs.FreeSlots.{TracksSlots, from_tracks, notes-tracks, to_tracks}
+use Rattle.av_trace.specs.declared.reply.Answer.TheVariants.{Refused}
+use Rattle.av_trace.specs.declared.reply.Errno.TheVariants.{Enomem}
+use Rattle.av_base.specs.Page.{pages_met}
+use Rattle.av_plain.specs.World.{pages, pages_to_hole}
+use Rattle.std.specs.Prelude.{MatchBool}
+use Rattle.av_plain.specs.Event.{FreeSorted}
+use Rattle.av_plain.specs.Merge.{merges}
+use Rattle.av_plain.specs.Compact.{Compacts}
+use Rattle.av_trace.specs.declared.command.Command.TheVariants.{Compact, Merge}
+use Rattle.av_plain.proofs.Sound.Frames.{lawful-merges, lawful-moves, moves-hold}
+use Rattle.av_plain.proofs.Sound.Swap.{of-sound}
 
 -- ---- a page, and an access
 
@@ -113,10 +128,10 @@ zaps-tracks m l (k ∷ ks) free free' s c h =
 
 -- ---- entries that go over
 
-fork-tracks : (m : Setting) (l : Ledger) (p q : ℕ) (free free' : Free) → IsSound m l → ((page : ℕ) → entry l (q, page) ≡ None)
-    → ChoosesAll m None l (Forked p q (inheritance l p) ∷ []) free free' → TracksSlots m l free.slots → TracksSlots m (child_ledger p q l) free'.slots
-fork-tracks m l p q free free' s none c h = subst (λ (f : Free). TracksSlots m (child_ledger p q l) f.slots) (sym c.2)
-    (event-tracks m None l (Forked p q (inheritance l p)) free c.0 s.in_order (s, refl, none) c.1 h)
+fork-tracks : (m : Setting) (l : Ledger) (p q : ℕ) (goes : List Inherited) (free free' : Free) → IsSound m l → ((page : ℕ) → entry l (q, page) ≡ None)
+    → ChoosesAll m None l (Forked p q goes ∷ []) free free' → TracksSlots m l free.slots → TracksSlots m (child_ledger p q goes l) free'.slots
+fork-tracks m l p q goes free free' s none c h = subst (λ (f : Free). TracksSlots m (child_ledger p q goes l) f.slots) (sym c.2)
+    (event-tracks m None l (Forked p q goes) free c.0 s.in_order (s, none) c.1 h)
 
 -- ---- entries that move
 
@@ -166,10 +181,10 @@ legal-tracks m w l command reply es free free' sound layouts legal chosen h = by
     s : IsSound m l
     s = sound.ledger
 
-    forks : (p q : ℕ) → lives w q ≡ false → es ≡ Forked p q (inheritance l p) ∷ [] → ChoosesAll m None l es free free'
+    forks : (p q : ℕ) (goes : List Inherited) → lives w q ≡ false → es ≡ Forked p q goes ∷ [] → ChoosesAll m None l es free free'
         → TracksSlots m (after_all l es) free'.slots
-    forks p q dead e c = subst (λ es. TracksSlots m (after_all l es) free'.slots) (sym e)
-        (fork-tracks m l p q free free' s (no_entries w l q sound.at_pages dead) (subst (λ es. ChoosesAll m None l es free free') e c) h)
+    forks p q goes dead e c = subst (λ es. TracksSlots m (after_all l es) free'.slots) (sym e)
+        (fork-tracks m l p q goes free free' s (no_entries w l q sound.at_pages dead) (subst (λ es. ChoosesAll m None l es free free') e c) h)
 
     none : (closing : Option ℕ) → es ≡ [] → ChoosesAll m closing l es free free' → TracksSlots m (after_all l es) free'.slots
     none closing e c = subst (λ es. TracksSlots m (after_all l es) free'.slots) (sym e)
@@ -221,9 +236,9 @@ legal-tracks m w l command reply es free free' sound layouts legal chosen h = by
         let now = after_notes l q.done in
         let sp = sparing_area w k now in
         let empty = done-empty m w l q.done sound q.completes in
-        let emptied = empties-hold m w sp k now q.pages q.notes q.end empty q.empties in
+        let emptied = empties-hold m w k now q.pages q.notes q.end empty q.empties in
         let lawful = lawful-append m (Some k) l q.done q.notes (lawful-completes m sp l l.flight q.done q.completes)
-        (lawful-empties m w sp k now q.pages q.notes q.end empty q.empties) in
+        (lawful-empties m w k now q.pages q.notes q.end empty q.empties) in
         let both = chosen-first m (Some k) l (note_events notes) (turn_off_events k q.end) free free'
         (subst (λ es. ChoosesAll m (Some k) l es free free') q.whole c) in
         let first = notes-tracks m (Some k) l notes free both.0 s.in_order lawful both.1 h in
@@ -236,10 +251,49 @@ legal-tracks m w l command reply es free free' sound layouts legal chosen h = by
         (closes (after_notes l notes) k q.end both.0 kept (λ e. ap (λ x. slots_in_use m x k) split ∙ emptied.none e)
         (subst (λ x. ChoosesAll m (Some k) x (turn_off_events k q.end) both.0 free') same both.2) first))
 
+    flagged : (p from n : ℕ) (flag : Flag) (set : Bool) → es ≡ FlagSet p from n flag set ∷ [] → ChoosesAll m None l es free free'
+        → TracksSlots m (after_all l es) free'.slots
+    flagged p from n flag set e c =
+        let first = subst (λ es. ChoosesAll m None l es free free') e c in
+        subst (λ es. TracksSlots m (after_all l es) free'.slots) (sym e) (subst (λ (f : Free). TracksSlots m l f.slots) (sym first.2)
+        (event-tracks m None l (FlagSet p from n flag set) free first.0 s.in_order tt first.1 h))
+
+    advises : (p from n : ℕ) (change : Option (Flag × Bool)) → es ≡ advice_events l p from n change → ChoosesAll m None l es free free'
+        → TracksSlots m (after_all l es) free'.slots
+    advises p from n None e c = these (keys_in l p from n) e c
+    advises p from n (Some change) e c = flagged p from n change.0 change.1 e c
+
+    locks : (p from n : ℕ) → Locks m w l p from n es reply.answer reply.rows → ChoosesAll m None l es free free'
+        → TracksSlots m (after_all l es) free'.slots
+    locks p from n q c =
+        let k = pages_to_hole (pages w p) from n in
+        let first = subst (λ es. ChoosesAll m None l es free free') q.1 c in
+        subst (λ es. TracksSlots m (after_all l es) free'.slots) (sym q.1)
+        (by (k == n) first.0 (event-tracks m None l (FlagSet p from k flags.Locked true) free first.0 s.in_order tt first.1 h) first.2 q.3)
+      where
+        by : (b : Bool) (mid : Free) → TracksSlots m l mid.slots → ChoosesAll m None l q.0 mid free'
+            → MatchBool b (BringsIn m w l p from n q.0 reply.answer) ((q.0 ≡ []) × (reply.answer ≡ Refused Enomem))
+            → TracksSlots m (after_all l q.0) free'.slots
+        by true mid h c r = accesses-tracks m (with_lock true w p from n) l p (accesses_of (pages w p) from n) q.0 r.0 mid free' s r.1 c h
+        by false mid h c r = subst (λ es. TracksSlots m (after_all l es) free'.slots) (sym r.0)
+            (subst (λ (f : Free). TracksSlots m l f.slots) (sym (subst (λ es. ChoosesAll m None l es mid free') r.0 c)) h)
+    compacts : Compacts m l es reply.answer reply.rows → ChoosesAll m None l es free free' → TracksSlots m (after_all l es) free'.slots
+    compacts q c =
+        let both = chosen-first m None l (note_events q.0) (FreeSorted ∷ []) free free' (subst (λ es. ChoosesAll m None l es free free') q.2 c) in
+        let first = notes-tracks m None l q.0 free both.0 s.in_order (lawful-moves m l q.0 q.1) both.1 h in
+        let same = note_events-all l q.0 in
+        let last = subst (λ x. ChoosesAll m None x (FreeSorted ∷ []) both.0 free') same both.2 in
+        let now = after_notes l q.0 in
+        let holds = moves-hold m w l q.0 (of-sound m w l sound) q.1 in
+        subst (λ es. TracksSlots m (after_all l es) free'.slots) (sym q.2)
+        (subst (λ x. TracksSlots m x free'.slots) (sym (after_all-append l (note_events q.0) (FreeSorted ∷ []) ∙ same))
+        (subst (λ (f : Free). TracksSlots m now f.slots) (sym last.2)
+        (event-tracks m None now FreeSorted both.0 last.0 holds.sound.in_order tt last.1 first)))
+
     follows : (command : Command) → refusal (tests m w l command) ≡ None → Follows m w l command es reply.answer reply.rows
         → ChoosesAll m (closing_swap_area command) l es free free' → TracksSlots m (after_all l es) free'.slots
     follows (Spawn p) fine q c = none None q.1 c
-    follows (Fork p child) fine q c = forks p child (may-fork m w l p child fine).child q.1 c
+    follows (Fork p child) fine q c = forks p child (inheritance (pages w p) l p) (may-fork m w l p child fine).child q.1 c
     follows (Exit p) fine q c = these (keys_of_process l p) q.1 c
     follows (Mmap p len prot Auto) fine q c = none None q.3 c
     follows (Mmap p len prot (At a)) fine q c = none None q.3 c
@@ -248,6 +302,10 @@ legal-tracks m w l command reply es free free' sound layouts legal chosen h = by
     follows (Munmap p a len) fine q c = these (keys_in l p (page_of a) (pages_of len)) q.1 c
     follows (Mprotect p a len prot) fine q c = none None q.1 c
     follows (Mremap p a old new mode) fine q c = moves p (page_of a) (pages_of old) (pages_of new) q.0 q.3 c
+    follows (Madvise p a len advice) fine q c =
+        advises p (page_of a) (pages_advised (pages w p) (page_of a) (pages_of len) (flag_of_advice advice)) (flag_of_advice advice) q.1 c
+    follows (Mlock p a len) fine q c = locks p (page_of a) (pages_met a len) q c
+    follows (Munlock p a len) fine q c = flagged p (page_of a) (pages_to_hole (pages w p) (page_of a) (pages_met a len)) flags.Locked false q.1 c
     follows (Read p a n) fine q c = accesses-tracks m w l p (pages_of_access false a n) es q.0 free free' s q.2 c h
     follows (Write p a bytes) fine q c = accesses-tracks m w l p (pages_of_access true a (length bytes)) es q.0 free free' s q.1 c h
     follows (Reclaim n) fine q c = noted None q.0 q.3 (lawful-outcomes m (sparing w l None) l (from_tail n l.inactive) q.0 q.1) c
@@ -256,6 +314,9 @@ legal-tracks m w l command reply es free free' sound layouts legal chosen h = by
     follows (Swapon k priority) fine q c =
         turns_on k priority (second (no_device_at m k) (is_on l k) (size_of m k == 0) fine) q (turn-on-events k priority reply.answer) c
     follows (Swapoff k) fine q c = turns_off k q c
+    follows Merge fine q c = noted None (merges m q.0 w l [] (map (λ e. e.0) l.entries)) q.2
+        (lawful-merges m q.0 w l [] (map (λ e. e.0) l.entries)) c
+    follows Compact fine q c = compacts q c
     follows (Maps p) fine q c = none None q.2 c
     follows (AsksAreas p) fine q c = none None q.2 c
     follows (AsksRmap p a) fine q c = none None q.1 c

@@ -22,4 +22,7 @@ pub mod FreeLists
 pub mod FreeSteps
 pub mod AreasLeft
 pub mod Covered
+pub mod Compacted
+pub mod OneFrame
+pub mod OneMerge
 pub mod Device

@@ -3,13 +3,15 @@ use Rattle.std.proofs.Common.{◌≡◌, ℕ, ◌+◌, ◌-◌, min, Bool, true,
 use Rattle.std.specs.List.{list_all}
 use Rattle.av_base.specs.declared.slot.Slot.{Slot}
 use Rattle.av_trace.specs.declared.note.Note.TheVariants.{Aged, Copied, Dropped, Failed, Kept, Loaded, Mapped, New, Put, Started, Unmapped, Written, Zeroed}
-use Rattle.av_plain.specs.Event.{Event, Forked, EntriesMoved, Noted, TurnedOff, TurnedOn, Used, Zapped, after, after_all, note_events, when}
+use Rattle.av_plain.specs.Event.{Event, FlagSet, Forked, EntriesMoved, Noted, TurnedOff, TurnedOn, Used, Zapped, after, after_all, note_events, when}
 use Rattle.av_plain.specs.Ledger.{Key, Ledger, Setting, entry, is_orphan}
 use Rattle.av_plain.specs.Load.{after_load, after_loads, with_loads}
 use Rattle.av_plain.specs.Mremap.{events_to, range_zaps, remap_events}
 use Rattle.av_plain.specs.World.{World}
 use Rattle.av_plain.specs.Zap.{keys_in, orphan_drop, slot_behind_key, zap_of, zaps_of}
 use Rattle.av_plain.proofs.Mremap.{then_target}
+use Rattle.av_trace.specs.declared.note.Note.TheVariants.{Joined, Moved, Shared}
+use Rattle.av_plain.specs.Event.{FreeSorted}
 
 -- whether an event is no load
 abbrev pub loads_nothing : Event → Bool
@@ -30,12 +32,17 @@ load-nothing l (Noted (Failed s)) w h = refl
 load-nothing l (Noted (Dropped s)) w h = refl
 load-nothing l (Noted (Kept f c)) w h = refl
 load-nothing l (Noted (Aged f)) w h = refl
+load-nothing l (Noted (Shared f)) w h = refl
+load-nothing l (Noted (Joined p a f)) w h = refl
+load-nothing l (Noted (Moved a b)) w h = refl
 load-nothing l (Zapped k) w h = refl
 load-nothing l (Used b k) w h = refl
 load-nothing l (Forked a b c) w h = refl
+load-nothing l (FlagSet a b c d e) w h = refl
 load-nothing l (EntriesMoved a b c d) w h = refl
 load-nothing l (TurnedOn a b) w h = refl
 load-nothing l (TurnedOff a) w h = refl
+load-nothing l FreeSorted w h = refl
 
 both : (a b : Bool) → (a && b) ≡ true → (a ≡ true) × (b ≡ true)
 both true b h = (refl, h)

@@ -30,7 +30,7 @@ use Rattle.std.specs.FinMap.Entries.{find, is_sorted}
 use Rattle.std.specs.Ordering.{eq_by_cmp, nat_cmp}
 use Rattle.std.specs.Prelude.{if◌then◌else◌, length, T}
 use Rattle.av_trace.specs.declared.command.Command.{Command}
-use Rattle.av_trace.specs.declared.command.Command.TheVariants.{Spawn, Fork, Exit, Mmap, Mremap, Munmap, Mprotect, Read, Write, Reclaim, Age, Complete, Swapon, Swapoff, Maps, Areas as AsksAreas, Rmap as AsksRmap, Entry as AsksEntry, Slot as AsksSlot, Stat}
+use Rattle.av_trace.specs.declared.command.Command.TheVariants.{Spawn, Fork, Exit, Mmap, Mremap, Munmap, Mprotect, Madvise, Mlock, Munlock, Read, Write, Reclaim, Age, Complete, Swapon, Swapoff, Maps, Areas as AsksAreas, Rmap as AsksRmap, Entry as AsksEntry, Slot as AsksSlot, Stat}
 use Rattle.av_trace.specs.declared.reply.Errno.TheVariants.{Ebusy, Einval}
 use Rattle.av_trace.specs.declared.reply.Reply.{Reply}
 use Rattle.av_trace.specs.declared.row.Row.{Row}
@@ -41,16 +41,29 @@ use Rattle.av_plain.specs.Event.{after_zap}
 use Rattle.av_plain.specs.Mremap.{range_zaps, remap_events}
 use Rattle.av_plain.proofs.Mremap.{then_target}
 use Rattle.av_plain.proofs.Sound.Zap.{zaps-in}
-use Rattle.av_plain.specs.Pass.{fails, how_many_others, is_fail}
+use Rattle.av_plain.specs.Pass.{fails, how_many_frames, is_fail}
 use Rattle.av_plain.specs.Reclaim.{Outcome, cause_of, leave_notes}
 use Rattle.av_trace.specs.declared.note.Cause.{Cause}
-use Rattle.av_trace.specs.declared.note.Cause.TheVariants.{NoSlot, Referenced, WriteStarted, Writeback}
+use Rattle.av_trace.specs.declared.note.Cause.TheVariants.{Locked, NoSlot, Referenced, WriteStarted, Writeback}
 use Rattle.av_plain.specs.Refusal.{Tests, is_off, is_outside, no_device_at, refusal, tests}
 use Rattle.av_plain.specs.Sound.{AllSound}
 use Rattle.av_plain.specs.Swapon.{is_swapon}
 use Rattle.av_plain.specs.Step.{Follows, IsLegal, causes}
 use Rattle.av_plain.specs.Zap.{keys_in, orphan_drop, slot_behind_key, zap_of, zaps_of}
 use Rattle.av_plain.proofs.Zap.{in_order-after_zap, same_swap-after_zap, slot_entries-after_zap, zap_of-alone}
+use Rattle.av_plain.specs.Lock.{BringsIn, accesses_of, lock_event, with_lock}
+use Rattle.av_base.specs.Page.{pages_met}
+use Rattle.av_plain.specs.World.{pages_to_hole}
+use Rattle.av_plain.specs.Pass.{is_spared}
+use Rattle.av_base.specs.Page.{page_of}
+use Rattle.av_trace.specs.declared.reply.Answer.TheVariants.{Refused}
+use Rattle.av_trace.specs.declared.reply.Errno.TheVariants.{Enomem}
+use Rattle.av_trace.specs.declared.note.Note.TheVariants.{Joined, Moved, Shared}
+use Rattle.av_trace.specs.declared.note.Cause.TheVariants.{Ksm, Locked}
+use Rattle.av_plain.proofs.Event.{changed-by}
+use Rattle.av_plain.specs.Pass.{has_turn}
+use Rattle.av_trace.specs.declared.command.Command.TheVariants.{Compact, Merge}
+use Rattle.av_plain.specs.Event.{key_at}
 
 -- nothing is cached or in flight, and no entry names a slot
 pub record HasNoSlots (l : Ledger) : Type 0 where
@@ -222,6 +235,9 @@ IsPlainAt m k (Failed s) = ⊥
 IsPlainAt m k (Dropped s) = ⊥
 IsPlainAt m k (Kept f c) = ⊥
 IsPlainAt m k (Aged f) = ⊥
+IsPlainAt m k (Shared f) = ⊥
+IsPlainAt m k (Joined p a f) = ⊥
+IsPlainAt m k (Moved a b) = ⊥
 
 abbrev pub ArePlainAt : Setting → Key → List Note → Type 0
 ArePlainAt m k notes = AllByRecursion (IsPlainAt m k) notes
@@ -255,7 +271,7 @@ plain-cache m k l (note ∷ notes) h = plain-cache m k (after_note note l) notes
     one : (note : Note) → IsPlainAt m k note → (after_note note l).cache ≡ l.cache
     one (Zeroed p a) h = refl
     one (New p a f) h = refl
-    one (Copied p a f) h = refl
+    one (Copied p a f) h = changed-by (λ l. l.cache) (λ g l. refl) (key_at p a) f l
     one (Loaded s f) h = absurd h
     one (Mapped p a f) h = absurd h
     one (Put f s) h = absurd h
@@ -266,6 +282,9 @@ plain-cache m k l (note ∷ notes) h = plain-cache m k (after_note note l) notes
     one (Dropped s) h = absurd h
     one (Kept f c) h = absurd h
     one (Aged f) h = absurd h
+    one (Shared f) h = absurd h
+    one (Joined p a f) h = absurd h
+    one (Moved a b) h = absurd h
 
 nothing-dropped : (m : Setting) (write came : Bool) (l : Ledger) (k : Key) → l.cache ≡ [] → drop_at m write came l k ≡ []
 nothing-dropped m write came l k cache = by (entry l k)
@@ -289,9 +308,9 @@ none-counted test (x ∷ xs) h = let a : ◌≡◌ {A = ℕ} (cond (test x) 1 0)
     let rest = none-counted test xs h in omega (arith, a, rest)
 
 -- where nothing is cached, no frame is counted as cached
-none-cached : (m : Setting) (sp : Spared) (l : Ledger) → l.cache ≡ [] → how_many_others m sp (λ f. is_some (slot_of l f)) ≡ 0
-none-cached m sp l cache = none-counted (λ f. not (sp.frame f) && is_some (slot_of l f)) (range_with_len 0 m.frames)
-    (λ f. ap (λ o. not (sp.frame f) && is_some o) (no_slot l f cache) ∙ and_false (not (sp.frame f)))
+none-cached : (m : Setting) (sp : Spared) (l : Ledger) → l.cache ≡ [] → how_many_frames m (λ f. has_turn sp l f && is_some (slot_of l f)) ≡ 0
+none-cached m sp l cache = none-counted (λ f. has_turn sp l f && is_some (slot_of l f)) (range_with_len 0 m.frames)
+    (λ f. ap (λ o. has_turn sp l f && is_some o) (no_slot l f cache) ∙ and_false (has_turn sp l f))
   where
     and_false : (b : Bool) → (b && false) ≡ false
     and_false true = refl
@@ -316,7 +335,8 @@ runs_out-nothing : (m : Setting) (sp : Sparing) (l : Ledger) (write : Bool) (k :
 runs_out-nothing m sp l write k notes none q h =
     let e = before h.before in
     h.whole ∙ ap (λ ns. ns ++ h.sought) e
-    ∙ seeks-nothing m _ (after_notes l h.coming) h.sought (subst (λ ns. HasNoArea m (after_notes l ns)) (sym e) none)
+    ∙ seeks-nothing m (sp (after_notes l h.coming) (pinned_by (need write (after_notes l h.coming) (entry (after_notes l h.coming) k))))
+    (after_notes l h.coming) h.sought (subst (λ ns. HasNoArea m (after_notes l ns)) (sym e) none)
     (subst (λ ns. HasNoSlots (after_notes l ns)) (sym e) q) h.finds.seeks
   where
     before : (h.coming ≡ []) ⊎ ComesIn m sp l k (need write l (entry l k)) h.coming → h.coming ≡ []
@@ -329,7 +349,8 @@ starved-uncached : (m : Setting) (sp : Sparing) (l : Ledger) (write : Bool) (k :
     RunsOut m sp l write k notes out → out.fault ≡ 0
 starved-uncached m sp l write k notes none q h =
     let e = coming_none h.before in
-    let sought_none = seeks-nothing m _ (after_notes l h.coming) h.sought (subst (λ ns. HasNoArea m (after_notes l ns)) (sym e) none)
+    let sought_none = seeks-nothing m (sp (after_notes l h.coming) (pinned_by (need write (after_notes l h.coming) (entry (after_notes l h.coming) k))))
+    (after_notes l h.coming) h.sought (subst (λ ns. HasNoArea m (after_notes l ns)) (sym e) none)
     (subst (λ ns. HasNoSlots (after_notes l ns)) (sym e) q) h.finds.seeks in
     ap (λ (o : OutOf). o.fault) h.finds.numbers
     ∙ none-cached m (sp (after_notes l h.coming) (pinned_by (need write (after_notes l h.coming) (entry (after_notes l h.coming) k))))
@@ -371,7 +392,7 @@ touches-plain m w l write k notes stop none q = by stop
 on-note : (l : Ledger) (note : Note) → (after_note note l).on ≡ l.on
 on-note l (Zeroed p a) = refl
 on-note l (New p a f) = refl
-on-note l (Copied p a f) = refl
+on-note l (Copied p a f) = changed-by (λ l. l.on) (λ g l. refl) (key_at p a) f l
 on-note l (Loaded s f) = refl
 on-note l (Mapped p a f) = refl
 on-note l (Put f s) = refl
@@ -392,7 +413,12 @@ on-note l (Kept f Writeback) = refl
 on-note l (Kept f WriteStarted) = refl
 on-note l (Kept f Referenced) = refl
 on-note l (Kept f NoSlot) = refl
+on-note l (Kept f Locked) = refl
+on-note l (Kept f Ksm) = refl
 on-note l (Aged f) = refl
+on-note l (Shared f) = refl
+on-note l (Joined p a f) = changed-by (λ l. l.on) (λ g l. refl) (key_at p a) f l
+on-note l (Moved a b) = refl
 
 on-notes : (l : Ledger) (notes : List Note) → (after_notes l notes).on ≡ l.on
 on-notes l [] = refl
@@ -553,6 +579,9 @@ plain-fails m k (Failed s) h = absurd h
 plain-fails m k (Dropped s) h = absurd h
 plain-fails m k (Kept f c) h = absurd h
 plain-fails m k (Aged f) h = absurd h
+plain-fails m k (Shared f) h = absurd h
+plain-fails m k (Joined p a f) h = absurd h
+plain-fails m k (Moved a b) h = absurd h
 
 pub plain-notes : (m : Setting) (k : Key) (notes : List Note) → ArePlainAt m k notes → fails notes ≡ 0
 plain-notes m k notes h = no-fails notes (all-by (IsPlainAt m k) (λ note. is_fail note ≡ false) (plain-fails m k) notes h)
@@ -589,6 +618,8 @@ pub kept-bare : (l : Ledger) (f : ℕ) (cause : Cause) → HasNoSlots l → HasN
 kept-bare l f Writeback h = record { cache = h.cache; flight = h.flight; entries = h.entries }
 kept-bare l f WriteStarted h = record { cache = h.cache; flight = h.flight; entries = h.entries }
 kept-bare l f NoSlot h = record { cache = h.cache; flight = h.flight; entries = h.entries }
+kept-bare l f Locked h = record { cache = h.cache; flight = h.flight; entries = h.entries }
+kept-bare l f Ksm h = record { cache = h.cache; flight = h.flight; entries = h.entries }
 kept-bare l f Referenced h = record { cache = h.cache; flight = h.flight; entries = λ s. slot_entries-unseen f l s ∙ h.entries s }
 
 -- ---- commands on swap areas
@@ -639,6 +670,25 @@ follows-faultless m w l (Write p a bytes) events answer rows none refused s fine
     let plain = accesses-plain (λ note. is_fail note ≡ false) m w p (λ page note is. plain-fails m (p, page) note) l
     (pages_of_access true a (length bytes)) events h.0 none s h.1 in
     record { notes = no-fails (notes_of events) plain.notes; answered = is-faultless answer _ h.2 (write-faultless a h.0 plain.ends) }
+follows-faultless m w l (Mlock p a len) events answer rows none refused s fine h =
+    subst (λ es. Faultless es answer) (sym h.1) (by (pages_to_hole (pages w p) (page_of a) (pages_met a len) == pages_met a len) h.3)
+  where
+    locked : World
+    locked = with_lock true w p (page_of a) (pages_met a len)
+
+    by : (b : Bool) → MatchBool b (BringsIn m w l p (page_of a) (pages_met a len) h.0 answer) ((h.0 ≡ []) × (answer ≡ Refused Enomem))
+        → Faultless (lock_event true (pages w p) p (page_of a) (pages_met a len) ∷ h.0) answer
+    by true q =
+        let plain = accesses-plain (λ note. is_fail note ≡ false) m locked p (λ page note is. plain-fails m (p, page) note) l
+        (accesses_of (pages w p) (page_of a) (pages_met a len)) h.0 q.0 none s q.1 in
+        record {
+          notes = no-fails (notes_of h.0) plain.notes;
+          answered = is-faultless answer _ q.2 (write-faultless (address_of (page_of a)) q.0 plain.ends);
+        }
+    by false q = record {
+      notes = ap (λ es. fails (notes_of es)) q.0;
+      answered = is-faultless answer _ q.1 (record { told = refl; failed = refl });
+    }
 follows-faultless m w l (Complete n) events answer rows none refused s fine h =
     record {
       notes = ap (λ es. fails (notes_of es)) h.3 ∙ ap fails (notes_of-note_events h.0) ∙ ap fails (by n l.flight (no-slots m l none s).flight h.1);
@@ -678,11 +728,16 @@ no-causes m w l command reply events none s legal = areas-causes m w l command r
     refused (Munmap p a len) of fine = never of
     refused (Mprotect p a len prot) of fine = never of
     refused (Mremap p a old new mode) of fine = never of
+    refused (Madvise p a len advice) of fine = never of
+    refused (Mlock p a len) of fine = never of
+    refused (Munlock p a len) of fine = never of
     refused (Read p a n) of fine = never of
     refused (Write p a bytes) of fine = never of
     refused (Reclaim n) of fine = never of
     refused (Age n) of fine = never of
     refused (Complete n) of fine = never of
+    refused Merge of fine = never of
+    refused Compact of fine = never of
     refused (Maps p) of fine = never of
     refused (AsksAreas p) of fine = never of
     refused (AsksRmap p a) of fine = never of
@@ -714,11 +769,16 @@ no-causes-off m w l command reply events off other s legal = areas-causes m w l 
     refused (Munmap p a len) other of fine = never of
     refused (Mprotect p a len prot) other of fine = never of
     refused (Mremap p a old new mode) other of fine = never of
+    refused (Madvise p a len advice) other of fine = never of
+    refused (Mlock p a len) other of fine = never of
+    refused (Munlock p a len) other of fine = never of
     refused (Read p a n) other of fine = never of
     refused (Write p a bytes) other of fine = never of
     refused (Reclaim n) other of fine = never of
     refused (Age n) other of fine = never of
     refused (Complete n) other of fine = never of
+    refused Merge other of fine = never of
+    refused Compact other of fine = never of
     refused (Maps p) other of fine = never of
     refused (AsksAreas p) other of fine = never of
     refused (AsksRmap p a) other of fine = never of

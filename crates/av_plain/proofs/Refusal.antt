@@ -4,7 +4,7 @@ use Rattle.std.proofs.lemmas.Bool.Decides.{nat_tests}
 use Rattle.std.specs.Option.{option_map_or}
 use Rattle.std.specs.Prelude.{◌||◌, MatchOption, length, nat_le}
 use Rattle.av_trace.specs.declared.command.Command.{Command}
-use Rattle.av_trace.specs.declared.command.Command.TheVariants.{Spawn, Fork, Exit, Mmap, Mremap, Munmap, Mprotect, Read, Write, Reclaim, Age, Complete, Swapon, Swapoff, Maps, Areas as AsksAreas, Rmap as AsksRmap, Entry as AsksEntry, Slot as AsksSlot, Stat}
+use Rattle.av_trace.specs.declared.command.Command.TheVariants.{Spawn, Fork, Exit, Mmap, Mremap, Munmap, Mprotect, Madvise, Mlock, Munlock, Read, Write, Reclaim, Age, Complete, Swapon, Swapoff, Maps, Areas as AsksAreas, Rmap as AsksRmap, Entry as AsksEntry, Slot as AsksSlot, Stat}
 use Rattle.av_trace.specs.declared.mode.Mode.{Mode}
 use Rattle.av_trace.specs.declared.place.Place.{Place}
 use Rattle.av_trace.specs.declared.place.Place.TheVariants.{Auto, At, Fixed, NoReplace}
@@ -15,11 +15,13 @@ use Rattle.av_trace.specs.declared.reply.Reply.{Reply}
 use Rattle.av_trace.specs.declared.reply.Answer.{Answer}
 use Rattle.av_trace.specs.declared.reply.Answer.TheVariants.{Done, Refused}
 use Rattle.av_base.specs.Limits.{most_processes}
-use Rattle.av_base.specs.Page.{is_on_page, page_of, pages_of}
+use Rattle.av_base.specs.Page.{is_on_page, page_of, pages_met, pages_of}
 use Rattle.av_base.specs.declared.prot.Prot.{Prot}
 use Rattle.av_base.specs.Words.{with_at}
 use Rattle.av_vma.specs.Pages.{Lengths}
 use Rattle.av_plain.specs.Areas.{Areas, areas_to_hole, next_areas}
+use Rattle.av_plain.specs.Advice.{flag_of_advice, with_advice}
+use Rattle.av_plain.specs.Lock.{with_lock}
 use Rattle.av_plain.specs.Access.{End, Stopped, Whole, bytes_before, read_answer, stop_answer, write_answer}
 use Rattle.av_plain.specs.Event.{Event, after_all}
 use Rattle.av_plain.specs.Fault.{Denied, Lost, Starved, Stop}
@@ -28,11 +30,12 @@ use Rattle.av_plain.specs.Load.{with_loads}
 use Rattle.av_plain.specs.Map.{StopsAtHole, with_prot_to_hole, zaps_for_place}
 use Rattle.av_plain.specs.Mremap.{events_to, have_prot, is_in_place, target_of}
 use Rattle.av_plain.specs.Place.{Goes, IsMapAt}
-use Rattle.av_plain.specs.Refusal.{Refuses, are_bad_lengths, is_below_low, may_end_midway, is_no_target, is_tail_too_high, lacks_pages, refusal, tests, wraps}
+use Rattle.av_plain.specs.Refusal.{Refuses, is_bad_range, locks_too_many, meets_end, are_bad_lengths, is_below_low, may_end_midway, is_no_target, is_tail_too_high, lacks_pages, refusal, tests, wraps}
 use Rattle.av_plain.specs.Report.{entry_answer, walk_answer}
 use Rattle.av_plain.specs.Step.{Follows, IsLegal, next, next_world}
 use Rattle.av_plain.specs.World.{Page, Process, World, lives, pages, pages_to_hole}
 use Rattle.av_plain.proofs.World.Ranges.{pages_to_hole-most}
+use Rattle.av_trace.specs.declared.command.Command.TheVariants.{Compact, Merge}
 
 -- without events nothing is loaded
 pub loads-none : (m : Setting) (w : World) (l : Ledger) (events : List Event) → events ≡ [] → with_loads m w l events ≡ w
@@ -104,6 +107,23 @@ first-mapped q from n k mode h = by (is_in_place mode n k) (q from) h
     by false None h = cc
     by b (Some x) h = refl
 
+-- which test it was
+bad-told : (b c : Bool) → cond (not b) (Some Esrch) (cond c (Some Einval) None) ≡ Some Einval → c ≡ true
+bad-told false c h = cc
+bad-told true true h = refl
+bad-told true false h = cc
+
+no-enomem : (b c : Bool) → cond (not b) (Some Esrch) (cond c (Some Einval) None) ≡ Some Enomem → ⊥
+no-enomem false c h = cc
+no-enomem true true h = cc
+no-enomem true false h = cc
+
+many-told : (b c d : Bool) → cond (not b) (Some Esrch) (cond c (Some Einval) (cond d (Some Enomem) None)) ≡ Some Enomem → d ≡ true
+many-told false c d h = cc
+many-told true true d h = cc
+many-told true false true h = refl
+many-told true false false h = cc
+
 -- a command that is refused by its tests leaves any memories as they are
 pub refused-next : (m : Setting) (w now : World) (l : Ledger) (command : Command) (error : Errno) → refusal (tests m w l command) ≡ Some error →
     next now command (Refused error) ≡ now
@@ -123,6 +143,35 @@ refused-next m w now l (Mprotect p a len prot) Ebusy is = refl
 refused-next m w now l (Mprotect p a len prot) Eexist is = refl
 refused-next m w now l (Mprotect p a len prot) Einval is = refl
 refused-next m w now l (Mremap p a old new mode) error is = refl
+refused-next m w now l (Madvise p a len advice) Eperm is = refl
+refused-next m w now l (Madvise p a len advice) Esrch is = refl
+refused-next m w now l (Madvise p a len advice) Eio is = refl
+refused-next m w now l (Madvise p a len advice) Eagain is = refl
+refused-next m w now l (Madvise p a len advice) Enomem is = absurd (no-enomem (lives w p) (is_bad_range a len) is)
+refused-next m w now l (Madvise p a len advice) Efault is = refl
+refused-next m w now l (Madvise p a len advice) Ebusy is = refl
+refused-next m w now l (Madvise p a len advice) Eexist is = refl
+refused-next m w now l (Madvise p a len advice) Einval is = ap
+    (λ b. if b then now else with_advice now p (page_of a) (pages_of len) (flag_of_advice advice)) (bad-told (lives w p) (is_bad_range a len) is)
+refused-next m w now l (Mlock p a len) Eperm is = refl
+refused-next m w now l (Mlock p a len) Esrch is = refl
+refused-next m w now l (Mlock p a len) Eio is = refl
+refused-next m w now l (Mlock p a len) Eagain is = refl
+refused-next m w now l (Mlock p a len) Enomem is = ap (λ b. if b then now else with_lock true now p (page_of a) (pages_met a len))
+    (many-told (lives w p) (meets_end a len) (locks_too_many a len) is)
+refused-next m w now l (Mlock p a len) Efault is = refl
+refused-next m w now l (Mlock p a len) Ebusy is = refl
+refused-next m w now l (Mlock p a len) Eexist is = refl
+refused-next m w now l (Mlock p a len) Einval is = refl
+refused-next m w now l (Munlock p a len) Eperm is = refl
+refused-next m w now l (Munlock p a len) Esrch is = refl
+refused-next m w now l (Munlock p a len) Eio is = refl
+refused-next m w now l (Munlock p a len) Eagain is = refl
+refused-next m w now l (Munlock p a len) Enomem is = absurd (no-enomem (lives w p) (meets_end a len) is)
+refused-next m w now l (Munlock p a len) Efault is = refl
+refused-next m w now l (Munlock p a len) Ebusy is = refl
+refused-next m w now l (Munlock p a len) Eexist is = refl
+refused-next m w now l (Munlock p a len) Einval is = refl
 refused-next m w now l (Read p a n) error is = refl
 refused-next m w now l (Write p a bytes) error is = refl
 refused-next m w now l (Reclaim n) error is = refl
@@ -136,6 +185,8 @@ refused-next m w now l (AsksRmap p a) error is = refl
 refused-next m w now l (AsksEntry p a) error is = refl
 refused-next m w now l (AsksSlot k page) error is = refl
 refused-next m w now l Stat error is = refl
+refused-next m w now l Merge error is = refl
+refused-next m w now l Compact error is = refl
 
 -- and the areas
 pub refused-areas : (m : Setting) (w : World) (l : Ledger) (long : Lengths) (on : Areas) (command : Command) (error : Errno) →
@@ -156,6 +207,9 @@ refused-areas m w l long on (Mprotect p a len prot) Ebusy is = refl
 refused-areas m w l long on (Mprotect p a len prot) Eexist is = refl
 refused-areas m w l long on (Mprotect p a len prot) Einval is = refl
 refused-areas m w l long on (Mremap p a old new mode) error is = refl
+refused-areas m w l long on (Madvise p a len advice) error is = refl
+refused-areas m w l long on (Mlock p a len) error is = refl
+refused-areas m w l long on (Munlock p a len) error is = refl
 refused-areas m w l long on (Read p a n) error is = refl
 refused-areas m w l long on (Write p a bytes) error is = refl
 refused-areas m w l long on (Reclaim n) error is = refl
@@ -169,6 +223,8 @@ refused-areas m w l long on (AsksRmap p a) error is = refl
 refused-areas m w l long on (AsksEntry p a) error is = refl
 refused-areas m w l long on (AsksSlot k page) error is = refl
 refused-areas m w l long on Stat error is = refl
+refused-areas m w l long on Merge error is = refl
+refused-areas m w l long on Compact error is = refl
 
 -- ---- a refusal that no test gives
 
@@ -227,6 +283,9 @@ follows-refused m w now l (Mremap p a old new mode) events error rows other h = 
     by (Some page) e = cc
 follows-refused m w now l (Munmap p a len) events error rows other h = absurd (no-refusal refl h.0)
 follows-refused m w now l (Mprotect p a len prot) events error rows other h = cc
+follows-refused m w now l (Madvise p a len advice) events error rows other h = cc
+follows-refused m w now l (Mlock p a len) events error rows other h = cc
+follows-refused m w now l (Munlock p a len) events error rows other h = cc
 follows-refused m w now l (Read p a n) events error rows other h = absurd (read-refused a h.0 h.1 error h.4)
 follows-refused m w now l (Write p a bytes) events error rows other h = absurd (write-refused a h.0 error h.2)
 follows-refused m w now l (Reclaim n) events error rows other h = absurd (no-refusal refl h.2)
@@ -240,6 +299,8 @@ follows-refused m w now l (AsksRmap p a) events error rows other h = absurd (wal
 follows-refused m w now l (AsksEntry p a) events error rows other h = absurd (entry-refused l (entry l (p, page_of a)) error h.0)
 follows-refused m w now l (AsksSlot k page) events error rows other h = (h.1, refl)
 follows-refused m w now l Stat events error rows other h = cc
+follows-refused m w now l Merge events error rows other h = let e = h.3 in cc
+follows-refused m w now l Compact events error rows other h = let e = h.3 in cc
 
 -- ---- the law
 

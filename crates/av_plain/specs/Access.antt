@@ -1,9 +1,9 @@
 -- How a read or write goes through its pages, where it stops, and what it answers.
-use Rattle.std.specs.Prelude.{◌≡◌, ◌⊎◌, ℕ, ◌+◌, ◌-◌, ◌^◌, ◌<◌, Bool, true, false, ◌==◌}
-use Rattle.std.specs.Prelude.{if◌then◌else◌, List, [], ◌∷◌, ◌++◌, length, map, take, Option, Some}
+use Rattle.std.specs.Prelude.{◌≡◌, ◌⊎◌, ℕ, ◌-◌, ◌^◌, ◌<◌, Bool, true, false}
+use Rattle.std.specs.Prelude.{List, [], ◌∷◌, ◌++◌, length, map, take, Option, Some}
 use Rattle.std.specs.Prelude.{None}
 use Rattle.std.specs.List.{AllByRecursion, range_with_len}
-use Rattle.av_base.specs.Page.{page_of, place_in_page, address_of, pages_of}
+use Rattle.av_base.specs.Page.{page_of, address_of, pages_met}
 use Rattle.av_trace.specs.declared.reply.Answer.{Answer}
 use Rattle.av_trace.specs.declared.reply.Answer.TheVariants.{Done, Data, Segv, Bus, Oom}
 use Rattle.av_trace.specs.declared.note.Note.{Note}
@@ -40,8 +40,7 @@ Accesses m w l p (page ∷ rest) events end =
 -- the pages of n bytes from an address on, each read or each written
 abbrev pub pages_of_access : Bool → ℕ → ℕ → List (Bool × ℕ)
 pages_of_access write a n =
-    map (λ page. (write, page))
-    (range_with_len (page_of a) (if n == 0 then 0 else pages_of (place_in_page a + n)))
+    map (λ page. (write, page)) (range_with_len (page_of a) (pages_met a n))
 
 -- the bytes before the page
 abbrev pub bytes_before : ℕ → ℕ → ℕ

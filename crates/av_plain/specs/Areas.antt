@@ -1,11 +1,15 @@
 -- What reverse mapping goes by, beside the memories: the areas of each process, the anon_vmas, and
--- the home of each frame. And what a command makes of them: by what was there and the memories
--- before it, its events, the command and its answer. They are not part of what makes a reply legal.
+-- the home of each frame, or the items of one that is merged. And what a command makes of them: by
+-- what was there and the memories before it, its events, the command and its answer. They are not
+-- part of what makes a reply legal.
 use Rattle.std.specs.Prelude.{◌≡◌, ℕ, suc, ◌+◌, if◌then◌else◌, Bool, true, List, [], ◌∷◌, length}
-use Rattle.std.specs.Prelude.{Option, Some, None, IsSome, IsSomeAnd, option_map}
+use Rattle.std.specs.Prelude.{Option, Some, None, IsSome, IsSomeAnd, option_map, ◌++◌, ◌&&◌, ◌==◌}
+use Rattle.std.specs.List.{list_any}
 use Rattle.std.specs.Option.{option_map_or}
+use Rattle.av_base.specs.Flags.{no_flags}
 use Rattle.av_base.specs.Page.{page_of, pages_of}
 use Rattle.av_base.specs.Words.{is_in, with_at}
+use Rattle.av_base.specs.declared.flags.Flag.{Flag}
 use Rattle.av_base.specs.declared.prot.Prot.{Prot}
 use Rattle.av_trace.specs.declared.command.Command.{Command}
 use Rattle.av_trace.specs.declared.command.Command.TheVariants.{Mprotect, Mremap, Spawn, Exit, Mmap}
@@ -16,13 +20,14 @@ use Rattle.av_trace.specs.declared.reply.Answer.{Answer}
 use Rattle.av_trace.specs.declared.reply.Answer.TheVariants.{Done, MapAt, Refused}
 use Rattle.av_trace.specs.declared.reply.Errno.TheVariants.{Enomem}
 use Rattle.av_trace.specs.declared.note.Note.{Note}
-use Rattle.av_trace.specs.declared.note.Note.TheVariants.{New, Copied, Loaded}
+use Rattle.av_trace.specs.declared.note.Note.TheVariants.{New, Copied, Loaded, Shared, Joined}
+use Rattle.av_trace.specs.declared.note.Note.TheVariants.{Moved}
 use Rattle.av_vma.specs.Pages.{Lengths, Pages, after_map, after_prepare, after_unmap, home_of}
-use Rattle.av_vma.specs.Pages.{makes_anon, pages_changed, to_prot}
+use Rattle.av_vma.specs.Pages.{makes_anon, pages_changed, to_flag, to_prot}
 use Rattle.av_vma.specs.declared.area.Area.{Area}
-use Rattle.av_plain.specs.Event.{Event, Noted, Used, after}
+use Rattle.av_plain.specs.Event.{Event, FlagSet, Noted, Used, after}
 use Rattle.av_plain.specs.Ledger.{Entry, InFrame, Key, Ledger, entry, keys_of_slot}
-use Rattle.av_plain.specs.Mremap.{after_mremap, prot_at, prot_left}
+use Rattle.av_plain.specs.Mremap.{after_mremap, leaves_old, marks_at}
 use Rattle.av_plain.specs.Refusal.{wraps}
 use Rattle.av_plain.specs.World.{Process, World, pages, pages_to_hole}
 
@@ -36,9 +41,10 @@ Areas = ℕ → Pages
 abbrev pub none_on : Pages
 none_on page = None
 
--- these are on the pages that are mapped, with their protections, and on no other page
-abbrev pub HaveProtsOf : Pages → Process → Type 0
-HaveProtsOf on q = (page : ℕ) → option_map (λ (area : Area). area.prot) (on page) ≡ prot_at q page
+-- these are on the pages that are mapped, with their protections and flags, and on no other page
+abbrev pub HaveMarksOf : Pages → Process → Type 0
+HaveMarksOf on q =
+    (page : ℕ) → option_map (λ (area : Area). (area.prot, area.flags)) (on page) ≡ marks_at q page
 
 -- no process has any
 abbrev pub no_areas : Areas
@@ -93,11 +99,21 @@ Homes = ℕ → Option (ℕ × ℕ)
 abbrev pub no_homes : Homes
 no_homes f = None
 
--- the areas of each process, the anon_vmas, and the home of each frame
+-- for each merged frame, in place of a home, its items: the root and the linear index of each page
+-- that shares it, none twice. One that isn't merged any more keeps the last
+abbrev pub Items : Type 0
+Items = ℕ → List (ℕ × ℕ)
+
+-- no frame has any
+abbrev pub no_items : Items
+no_items f = []
+
+-- the areas of each process, the anon_vmas, and the home or the items of each frame
 pub record Rmap : Type 0 where
   pub areas : Areas
   pub anons : Anons
   pub homes : Homes
+  pub items : Items
 
 -- the frame is at home at the page: with the own anon_vma of its area, and its linear index
 abbrev pub at_home : ℕ → Key → Rmap → Rmap
@@ -118,6 +134,40 @@ home_for r [] = None
 home_for r (k ∷ []) = home_of k.1 (r.areas k.0 k.1)
 home_for r (k ∷ q ∷ ks) = at_root r.anons (home_of k.1 (r.areas k.0 k.1))
 
+-- ---- items
+
+-- whether two items are one
+abbrev pub same_item : ℕ × ℕ → ℕ × ℕ → Bool
+same_item a b = a.0 == b.0 && a.1 == b.1
+
+-- an item, if there is one, is added where it isn't there
+abbrev pub with_item : Option (ℕ × ℕ) → List (ℕ × ℕ) → List (ℕ × ℕ)
+with_item None items = items
+with_item (Some item) items =
+    if list_any (same_item item) items then items else items ++ item ∷ []
+
+-- the item of a page: the root of its area's own anon_vma, and its linear index
+abbrev pub item_of : Rmap → Key → Option (ℕ × ℕ)
+item_of r k = at_root r.anons (home_of k.1 (r.areas k.0 k.1))
+
+-- a frame that is merged now has one item in place of its home: the root of that, and its index
+abbrev pub with_items : ℕ → Rmap → Rmap
+with_items f r = record r {
+  homes = with_at f None r.homes;
+  items = with_at f (with_item (at_root r.anons (r.homes f)) []) r.items;
+}
+
+-- a frame has the item of one page more
+abbrev pub with_item_of : ℕ → Key → Rmap → Rmap
+with_item_of f k r = record r { items = with_at f (with_item (item_of r k) (r.items f)) r.items }
+
+-- home and items go over from one frame to another
+abbrev pub with_home_moved : ℕ → ℕ → Rmap → Rmap
+with_home_moved from to r = record r {
+  homes = with_at to (r.homes from) r.homes;
+  items = with_at to (r.items from) r.items;
+}
+
 -- ---- prepare
 
 -- an anon_vma that is its own root and parent, and whose chain is itself alone
@@ -137,17 +187,22 @@ prepare_page p page r = let on = r.areas p in let len = chain_length r.anons in 
   areas = with_at p (after_prepare len r.anons.next page on) r.areas;
   anons = if makes_anon len on (on page) then with_root r.anons else r.anons;
   homes = r.homes;
+  items = r.items;
 }
 
 -- ---- after events
 
 -- an area is prepared where a page of it gets a new frame; a frame is at home at the page that gets
--- it, new or as a copy; and one that takes a slot's page, where the entries of the slot say
+-- it, new or as a copy; and one that takes a slot's page, where the entries of the slot say. One
+-- that is merged has an item for each page instead; and one that goes over takes what it has along
 abbrev pub rmap_after_note : Ledger → Note → Rmap → Rmap
 rmap_after_note l (New p a f) r = at_home f (p, page_of a) (prepare_page p (page_of a) r)
 rmap_after_note l (Copied p a f) r = at_home f (p, page_of a) r
 rmap_after_note l (Loaded s f) r =
     record r { homes = with_at f (home_for r (keys_of_slot l s)) r.homes }
+rmap_after_note l (Shared f) r = with_items f r
+rmap_after_note l (Joined p a f) r = with_item_of f (p, page_of a) r
+rmap_after_note l (Moved from to) r = with_home_moved from to r
 rmap_after_note l note r = r
 
 -- and at the page through whose entry it is written
@@ -155,10 +210,17 @@ abbrev pub rmap_after_use : Bool → Key → Option Entry → Rmap → Rmap
 rmap_after_use true k (Some (InFrame f seen)) r = at_home f k r
 rmap_after_use write k e r = r
 
+-- areas are cut and joined where a flag of some pages is set, or cleared
+abbrev pub rmap_after_flag : ℕ → ℕ → ℕ → Flag → Bool → Rmap → Rmap
+rmap_after_flag p from n flag set r = let len = chain_length r.anons in record r {
+  areas = with_at p (pages_changed len (to_flag flag set) from n (r.areas p)) r.areas;
+}
+
 -- after an event, by the ledger before it
 abbrev pub rmap_after : Ledger → Event → Rmap → Rmap
 rmap_after l (Noted note) r = rmap_after_note l note r
 rmap_after l (Used write k) r = rmap_after_use write k (entry l k) r
+rmap_after l (FlagSet p from n flag set) r = rmap_after_flag p from n flag set r
 rmap_after l event r = r
 
 -- and after several
@@ -186,7 +248,7 @@ next_areas long on w (Spawn p) Done = with_at p none_on on
 next_areas long on w (Exit p) Done = with_at p none_on on
 next_areas long on w (Mmap p len prot place) (MapAt a) =
     let room = with_room (pages_of len) place (on p) in
-    with_at p (after_map long p (page_of a) (page_of a + pages_of len) prot room) on
+    with_at p (after_map long p (page_of a) (page_of a + pages_of len) prot no_flags room) on
 next_areas long on w (Munmap p a len) Done =
     with_at p (after_unmap (page_of a) (page_of a + pages_of len) (on p)) on
 next_areas long on w (Mprotect p a len prot) Done =
@@ -196,7 +258,7 @@ next_areas long on w (Mprotect p a len prot) (Refused Enomem) =
     else with_at p (areas_to_hole long w p (page_of a) (pages_of len) prot (on p)) on
 next_areas long on w (Mremap p a old new mode) (MapAt b) =
     with_at p (after_mremap long p (page_of a) (pages_of old) (page_of b) (pages_of new)
-    (prot_left mode (pages w p) (page_of a)) (on p)) on
+    (leaves_old mode) (on p)) on
 next_areas long on w command answer = on
 
 -- ---- the whole
@@ -207,3 +269,4 @@ pub record AreNext (now : Rmap) (w : World) (command : Command) (answer : Answer
   pub areas : next.areas ≡ next_areas (chain_length now.anons) now.areas w command answer
   pub anons : AreLeft now.anons next.areas next.anons
   pub homes : next.homes ≡ now.homes
+  pub items : next.items ≡ now.items

@@ -4,21 +4,21 @@ use Rattle.std.specs.FinMap.Entries.{find as find_area}
 use Rattle.std.specs.List.{find, list_all, range_with_len}
 use Rattle.std.specs.Option.{option_map_or}
 use Rattle.std.specs.Ordering.{nat_cmp}
-use Rattle.std.specs.Prelude.{◌≡◌, ◌<◌, ◌≤◌, ◌<ℤ◌, ◌≤ℤ◌, ℕ, min, ◌+◌, ◌-◌, Bool, not, ◌&&◌, ◌||◌}
+use Rattle.std.specs.Prelude.{◌≡◌, ◌<◌, ◌≤◌, ◌<ℤ◌, ◌≤ℤ◌, ℕ, min, ◌+◌, ◌-◌, not, ◌&&◌, ◌||◌}
 use Rattle.std.specs.Prelude.{◌==◌, nat_lt, int_le, if◌then◌else◌, true, false, List, [], ◌∷◌, ◌++◌}
 use Rattle.std.specs.Prelude.{filter, fold, count_by, option_map, Option, Some, None, IsSomeAnd}
-use Rattle.std.specs.Prelude.{MatchOption}
-use Rattle.av_base.specs.Words.{how_many, with_at}
+use Rattle.std.specs.Prelude.{Bool, MatchBool, MatchOption}
+use Rattle.av_base.specs.Words.{how_many, is_in, with_at}
 use Rattle.av_base.specs.declared.slot.Slot.{Slot}
 use Rattle.av_clusters.specs.Clusters.{Slots, fresh, take_slot, give_slot, is_free as is_free_page}
 use Rattle.av_clusters.specs.Clusters.{is_taken, page_at}
 use Rattle.av_swapdev.specs.Device.{most_pages}
 use Rattle.av_swapdev.specs.Header.{Layout}
 use Rattle.av_trace.specs.declared.note.Note.{Note}
-use Rattle.av_trace.specs.declared.note.Note.TheVariants.{New, Copied, Loaded, Put}
+use Rattle.av_trace.specs.declared.note.Note.TheVariants.{New, Copied, Loaded, Put, Moved}
 use Rattle.av_plain.specs.Ledger.{HasNumbers, Ledger, Setting, SwapArea, is_free, is_free_slot}
-use Rattle.av_plain.specs.Ledger.{is_on, is_open, free_slots, size_of, slot_count}
-use Rattle.av_plain.specs.Event.{Event, Noted, TurnedOff, TurnedOn, after}
+use Rattle.av_plain.specs.Ledger.{is_on, is_open, free_frames, free_slots, size_of, slot_count}
+use Rattle.av_plain.specs.Event.{Event, FreeSorted, Noted, TurnedOff, TurnedOn, after, without}
 
 -- the slots of each swap area, with their clusters
 abbrev pub AreaSlots : Type 0
@@ -40,6 +40,7 @@ abbrev pub frame_in_note : Note → Option ℕ
 frame_in_note (New p a f) = Some f
 frame_in_note (Copied p a f) = Some f
 frame_in_note (Loaded s f) = Some f
+frame_in_note (Moved from to) = Some to
 frame_in_note note = None
 
 -- and so an event, if it is a note
@@ -51,11 +52,36 @@ frame_in event = None
 abbrev pub new_free : Setting → Ledger → Ledger → List ℕ
 new_free m old new = filter (λ f. is_free new f && not (is_free old f)) (range_with_len 0 m.frames)
 
--- a frame that an event takes is the first of the free ones, and what has become free goes in front
+-- a note by which a frame goes over to another, wherever that stands among the free ones
+abbrev pub is_move : Note → Bool
+is_move (Moved from to) = true
+is_move note = false
+
+abbrev pub takes_any : Event → Bool
+takes_any (Noted note) = is_move note
+takes_any event = false
+
+-- the list of free frames is put in order
+abbrev pub sorts_free : Event → Bool
+sorts_free FreeSorted = true
+sorts_free event = false
+
+-- the frame is one of the free ones, and these are left
+abbrev pub TakesOut : ℕ → List ℕ → List ℕ → Type 0
+TakesOut f free rest = (is_in f free ≡ true) × (rest ≡ without f free)
+
+-- a frame that an event takes is the first of the free ones, but by a move; and what has become
+-- free goes in front
+abbrev pub TakesFrame : Setting → Ledger → Event → List ℕ → List ℕ → Type 0
+TakesFrame m l e free free' = (rest : List ℕ)
+    × MatchOption (frame_in e) (free ≡ rest)
+    (λ f. MatchBool (takes_any e) (TakesOut f free rest) (free ≡ f ∷ rest))
+    × (free' ≡ new_free m l (after l e) ++ rest)
+
+-- so it is but where the list is put in order: it rises then
 abbrev pub ChoosesFrame : Setting → Ledger → Event → List ℕ → List ℕ → Type 0
 ChoosesFrame m l e free free' =
-    (rest : List ℕ) × MatchOption (frame_in e) (free ≡ rest) (λ f. free ≡ f ∷ rest)
-    × (free' ≡ new_free m l (after l e) ++ rest)
+    MatchBool (sorts_free e) (free' ≡ free_frames m (after l e)) (TakesFrame m l e free free')
 
 -- ---- slots
 

@@ -1,10 +1,13 @@
--- Covered: each entry that names a frame is reached from the frame's home, through a chain alone.
-use Rattle.std.specs.Prelude.{◌≡◌, ◌<◌, ℕ, true, Some, IsSome, IsSomeAnd}
+-- Covered: each entry that names a frame is reached from the frame's home, or from an item of a
+-- merged one, through a chain alone.
+use Rattle.std.specs.List.{list_any}
+use Rattle.std.specs.Prelude.{◌≡◌, ◌<◌, ◌≤◌, ℕ, true, false, Some, None, IfSome, IsSome, IsSomeAnd}
 use Rattle.av_base.specs.declared.slot.Slot.{Slot}
-use Rattle.av_base.specs.Words.{is_in}
+use Rattle.av_base.specs.Words.{how_many, is_in}
 use Rattle.av_vma.specs.Index.{index_of}
-use Rattle.av_plain.specs.Areas.{AnonVma, Anons, Rmap, chain_by, root_of}
-use Rattle.av_plain.specs.Ledger.{Key, Ledger, entry, frame_at, names_frame, names_slot}
+use Rattle.av_plain.specs.Areas.{AnonVma, Anons, Rmap, chain_by, root_of, same_item}
+use Rattle.av_plain.specs.Ledger.{Key, Ledger, entry, frame_at, is_merged, names_frame}
+use Rattle.av_plain.specs.Ledger.{names_slot}
 
 -- a page is reached from a home: its area's chain has the home's anon_vma, and its linear index is
 -- the home's
@@ -12,9 +15,13 @@ abbrev pub IsReached : Rmap → Key → ℕ × ℕ → Type 0
 IsReached r k home = IsSomeAnd (r.areas k.0 k.1)
     (λ area. (is_in home.0 (chain_by r.anons area.anon) ≡ true) × (index_of area k.1 ≡ home.1))
 
--- each page whose entry names a frame is reached from the frame's home
+-- the entry of a key names the frame
+abbrev pub IsOfFrame : Ledger → ℕ → Key → Type 0
+IsOfFrame l f k = IsSomeAnd (entry l k) (λ e. names_frame f e ≡ true)
+
+-- each page whose entry names a frame that isn't merged is reached from the frame's home
 abbrev pub AreCovered : Ledger → Rmap → Type 0
-AreCovered l r = (k : Key) (f : ℕ) → IsSomeAnd (entry l k) (λ e. names_frame f e ≡ true)
+AreCovered l r = (k : Key) (f : ℕ) → IsOfFrame l f k → is_merged l f ≡ false
     → IsSomeAnd (r.homes f) (IsReached r k)
 
 -- what is true at all times: each anon_vma that is there was made, an area's own one is in its
@@ -53,3 +60,25 @@ pub record AreSlotsCovered (l : Ledger) (r : Rmap) : Type 0 where
       → (home : ℕ × ℕ) × IsRooted r k home × IsRooted r q home
   pub cached : (s : Slot) (k : Key) (f : ℕ) → frame_at l s ≡ Some f → IsOfSlot l s k
       → IsSomeAnd (r.homes f) (IsReached r k)
+
+-- ---- merged frames
+
+-- the page has the root and the linear index of one of the frame's items
+abbrev pub HasItem : Rmap → ℕ → Key → Type 0
+HasItem r f k =
+    (item : ℕ × ℕ) × (list_any (same_item item) (r.items f) ≡ true) × IsRooted r k item
+
+-- an item is at a root, or at one that is there no more
+abbrev pub IsAtRoot : Anons → ℕ × ℕ → Type 0
+IsAtRoot anons item = (item.0 < anons.next) × IfSome (anons.anon item.0) (λ v. v.root ≡ item.0)
+
+-- a merged frame has no home. Each page whose entry names it has one of its items, no item stands
+-- twice, and each is at a root. So it is found from the items, and from one alone: a chain has one
+-- root, and a page one linear index
+pub record AreMergedCovered (l : Ledger) (r : Rmap) : Type 0 where
+  pub found : (k : Key) (f : ℕ) → IsOfFrame l f k → is_merged l f ≡ true → HasItem r f k
+  pub once : (f : ℕ) (item : ℕ × ℕ) → is_merged l f ≡ true
+      → how_many (same_item item) (r.items f) ≤ 1
+  pub roots : (f : ℕ) (item : ℕ × ℕ) → is_merged l f ≡ true
+      → list_any (same_item item) (r.items f) ≡ true → IsAtRoot r.anons item
+  pub homeless : (f : ℕ) → is_merged l f ≡ true → r.homes f ≡ None

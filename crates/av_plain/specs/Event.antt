@@ -5,14 +5,16 @@ use Rattle.std.specs.Ordering.{nat_cmp}
 use Rattle.std.specs.Prelude.{ℕ, ◌+◌, ◌-◌, Bool, true, false, not, ◌&&◌, ◌==◌, if◌then◌else◌, List}
 use Rattle.std.specs.Prelude.{[], ◌∷◌, ◌++◌, map, filter, fold, Option, Some, None}
 use Rattle.av_base.specs.Page.{page_of}
-use Rattle.av_base.specs.Words.{within}
+use Rattle.av_base.specs.Words.{renamed, within}
+use Rattle.av_base.specs.declared.flags.Flag.{Flag}
 use Rattle.av_base.specs.declared.slot.Slot.{Slot}
 use Rattle.av_trace.specs.declared.note.Cause.TheVariants.{Writeback, Referenced, NoSlot}
-use Rattle.av_trace.specs.declared.note.Cause.TheVariants.{WriteStarted}
+use Rattle.av_trace.specs.declared.note.Cause.TheVariants.{Ksm, Locked, WriteStarted}
 use Rattle.av_trace.specs.declared.note.Note.{Note}
 use Rattle.av_trace.specs.declared.note.Note.TheVariants.{Zeroed, New, Copied, Loaded, Mapped, Put}
 use Rattle.av_trace.specs.declared.note.Note.TheVariants.{Unmapped, Started, Written, Failed}
-use Rattle.av_trace.specs.declared.note.Note.TheVariants.{Dropped, Kept, Aged}
+use Rattle.av_trace.specs.declared.note.Note.TheVariants.{Dropped, Kept, Aged, Shared, Joined}
+use Rattle.av_trace.specs.declared.note.Note.TheVariants.{Moved}
 use Rattle.av_plain.specs.Ledger.{names_frame, key_cmp, same_slot, is_free, frame_at, InFrame}
 use Rattle.av_plain.specs.Ledger.{slot_of, Entry, Zero, entry, Cached, Key, Ledger, SwapArea}
 use Rattle.av_plain.specs.Ledger.{InSlot}
@@ -33,10 +35,14 @@ pub data Event : Type 0 where
   Used : (write : Bool) (key : Key) → Event
   -- the second process gets these pages of the first one
   Forked : (parent child : ℕ) (pages : List Inherited) → Event
+  -- a flag of those of the process's n pages from one on that are mapped is set, or cleared
+  FlagSet : (process from n : ℕ) (flag : Flag) (set : Bool) → Event
   -- the process's entries of the n pages from one page on go to another
   EntriesMoved : (process n from to : ℕ) → Event
   TurnedOn : (number : ℕ) (area : SwapArea) → Event
   TurnedOff : (number : ℕ) → Event
+  -- the list of free frames is put in order
+  FreeSorted : Event
 
 -- ---- parts of a change
 
@@ -59,9 +65,13 @@ change_entries f change l =
 abbrev pub without : ℕ → List ℕ → List ℕ
 without f fs = filter (λ g. not (f == g)) fs
 
--- the frame leaves its list
+-- the frame leaves its list, and is merged no longer
 abbrev pub off_lists : ℕ → Ledger → Ledger
-off_lists f l = record l { active = without f l.active; inactive = without f l.inactive }
+off_lists f l = record l {
+  active = without f l.active;
+  inactive = without f l.inactive;
+  merged = without f l.merged;
+}
 
 -- the frame goes to the head of inactive, from whichever list it was in
 abbrev pub to_inactive_head : ℕ → Ledger → Ledger
@@ -76,7 +86,7 @@ to_inactive_tail f l =
 abbrev pub to_active : ℕ → Ledger → Ledger
 to_active f l = record l { active = f ∷ without f l.active; inactive = without f l.inactive }
 
--- a frame that is free leaves its list
+-- a frame that is free leaves its list, and isn't merged
 abbrev pub settle : ℕ → Ledger → Ledger
 settle f l = if is_free l f then off_lists f l else l
 
@@ -101,10 +111,44 @@ off_cache s l = record l { cache = filter (λ (c : Cached). not (same_slot s c.s
 abbrev pub off_flight : Slot → Ledger → Ledger
 off_flight s l = record l { flight = filter (λ t. not (same_slot s t)) l.flight }
 
+-- the frame that an entry names
+abbrev pub frame_of : Entry → Option ℕ
+frame_of Zero = None
+frame_of (InFrame f seen) = Some f
+frame_of (InSlot s) = None
+
 -- what is done with the frame or slot, where there is one
 abbrev pub if_some : {A : Type 0} → Option A → (A → Ledger → Ledger) → Ledger → Ledger
 if_some None change l = l
 if_some (Some x) change l = change x l
+
+-- the frame of an entry that has gone leaves its list where it is free now
+abbrev pub settle_entry : Option Entry → Ledger → Ledger
+settle_entry None l = l
+settle_entry (Some e) l = if_some (frame_of e) settle l
+
+-- the entry names another frame now, and the one that it named may be free
+abbrev pub change_frame : Key → ℕ → Ledger → Ledger
+change_frame k f l = settle_entry (entry l k) (set_entry k (InFrame f false) l)
+
+-- ---- a frame goes over to another
+
+-- the entry, with its seen bit
+abbrev pub renamed_entry : ℕ → ℕ → Entry → Entry
+renamed_entry from to Zero = Zero
+renamed_entry from to (InFrame f seen) = InFrame (renamed from to f) seen
+renamed_entry from to (InSlot s) = InSlot s
+
+-- each entry of the one frame is one of the other, which has its place in the cache, in its list
+-- and among the merged ones
+abbrev pub with_renamed : ℕ → ℕ → Ledger → Ledger
+with_renamed from to l = record l {
+  entries = map (λ e. (e.0, renamed_entry from to e.1)) l.entries;
+  cache = map (λ (c : Cached). record c { frame = renamed from to c.frame }) l.cache;
+  active = map (renamed from to) l.active;
+  inactive = map (renamed from to) l.inactive;
+  merged = map (renamed from to) l.merged;
+}
 
 -- ---- what a note changes
 
@@ -116,7 +160,7 @@ key_at process address = (process, page_of address)
 abbrev pub after_note : Note → Ledger → Ledger
 after_note (Zeroed p a) l = set_entry (key_at p a) Zero l
 after_note (New p a f) l = to_inactive_head f (set_entry (key_at p a) (InFrame f false) l)
-after_note (Copied p a f) l = to_inactive_head f (set_entry (key_at p a) (InFrame f false) l)
+after_note (Copied p a f) l = to_inactive_head f (change_frame (key_at p a) f l)
 after_note (Loaded s f) l = to_inactive_head f (into_cache s f false l)
 after_note (Mapped p a f) l = set_entry (key_at p a) (InFrame f false) l
 after_note (Put f s) l = into_cache s f true l
@@ -129,7 +173,12 @@ after_note (Kept f Writeback) l = to_inactive_head f l
 after_note (Kept f WriteStarted) l = to_inactive_head f l
 after_note (Kept f Referenced) l = to_active f (change_entries f without_seen l)
 after_note (Kept f NoSlot) l = to_active f l
+after_note (Kept f Locked) l = to_active f l
+after_note (Kept f Ksm) l = to_active f l
 after_note (Aged f) l = to_inactive_head f (change_entries f without_seen l)
+after_note (Shared f) l = record l { merged = l.merged ++ f ∷ [] }
+after_note (Joined p a f) l = change_frame (key_at p a) f l
+after_note (Moved from to) l = with_renamed from to l
 
 -- the ledger after some notes
 abbrev pub after_notes : Ledger → List Note → Ledger
@@ -147,22 +196,11 @@ note_events notes = map Noted notes
 
 -- ---- the other events
 
--- the frame that an entry names
-abbrev pub frame_of : Entry → Option ℕ
-frame_of Zero = None
-frame_of (InFrame f seen) = Some f
-frame_of (InSlot s) = None
-
 -- the slot that an entry names, or at which its frame is cached
 abbrev pub slot_behind : Ledger → Entry → Option Slot
 slot_behind l Zero = None
 slot_behind l (InFrame f seen) = slot_of l f
 slot_behind l (InSlot s) = Some s
-
--- the frame of an entry that has gone leaves its list where it is free now
-abbrev pub settle_entry : Option Entry → Ledger → Ledger
-settle_entry None l = l
-settle_entry (Some e) l = if_some (frame_of e) settle l
 
 -- the entries whose keys pass the test
 abbrev pub entries_where : (Key → Bool) → Ledger → List (Key × Entry)
@@ -214,9 +252,11 @@ after l (Noted note) = after_note note l
 after l (Zapped k) = after_zap k l
 after l (Used write k) = after_use write k l
 after l (Forked p q pages) = after_fork p q pages l
+after l (FlagSet p from n flag set) = l
 after l (EntriesMoved p n from to) = after_move p n from to l
 after l (TurnedOn k area) = record l { on = put nat_cmp k area l.on }
 after l (TurnedOff k) = record l { on = where_key nat_cmp (λ q. not (q == k)) l.on }
+after l FreeSorted = l
 
 -- and after several
 abbrev pub after_all : Ledger → List Event → Ledger

@@ -1,16 +1,17 @@
 -- How one page is made ready for an access: which notes come, or why it is not served.
 use Rattle.std.specs.Prelude.{◌≡◌, ◌⊎◌, ℕ, Bool, true, false, not, ◌&&◌, ◌||◌, ◌==◌, nat_lt}
 use Rattle.std.specs.Prelude.{if◌then◌else◌, IsTrue, List, [], ◌∷◌, ◌++◌, Option, Some, None}
+use Rattle.std.specs.List.{list_any}
 use Rattle.av_base.specs.Page.{address_of}
 use Rattle.av_base.specs.declared.slot.Slot.{Slot}
 use Rattle.av_trace.specs.declared.reply.OutOf.{OutOf}
 use Rattle.av_trace.specs.declared.note.Note.{Note}
 use Rattle.av_trace.specs.declared.note.Note.TheVariants.{Zeroed, New, Copied, Loaded, Mapped}
 use Rattle.av_trace.specs.declared.note.Note.TheVariants.{Dropped}
-use Rattle.av_plain.specs.World.{World, Page, pages, allows}
+use Rattle.av_plain.specs.World.{World, Page, pages, allows, is_locked_page}
 use Rattle.av_plain.specs.Ledger.{Ledger, Setting, Key, Entry, Zero, InFrame, InSlot, entry}
 use Rattle.av_plain.specs.Ledger.{map_count, slot_entries, slot_of, frame_at, in_flight, has_free}
-use Rattle.av_plain.specs.Ledger.{is_full}
+use Rattle.av_plain.specs.Ledger.{is_full, is_merged, walk}
 use Rattle.av_plain.specs.Event.{after_notes, when}
 use Rattle.av_plain.specs.Pass.{Spared, Seeks, TakesFor, out_of}
 
@@ -21,9 +22,10 @@ abbrev pub is_named : Ledger → Option Slot → Bool
 is_named l None = false
 is_named l (Some s) = nat_lt 0 (slot_entries l s)
 
--- a write to the frame has to copy it: another entry names it, or an entry names its slot
+-- a write to the frame has to copy it: another entry names it, or an entry names its slot, or it is
+-- merged
 abbrev pub is_shared : Ledger → ℕ → Bool
-is_shared l f = nat_lt 1 (map_count l f) || is_named l (slot_of l f)
+is_shared l f = nat_lt 1 (map_count l f) || is_named l (slot_of l f) || is_merged l f
 
 -- what a page needs before it can be read or written
 pub data Need : Type 0 where
@@ -58,15 +60,13 @@ need write l (Some (InSlot s)) = need_of_slot s (frame_at l s)
 abbrev pub Sparing : Type 0
 Sparing = Ledger → Option ℕ → Spared
 
--- whether it is that frame
-abbrev pub is_pinned : Option ℕ → ℕ → Bool
-is_pinned None f = false
-is_pinned (Some pinned) f = pinned == f
+-- whether a page of the frame's walk is locked
+abbrev pub is_locked : World → Ledger → ℕ → Bool
+is_locked w l f = list_any (λ (k : Key). is_locked_page (pages w k.0 k.1)) (walk l f)
 
--- In an access that frame is left alone, and no swap area is closing. The memories are at hand
--- here, for the frames that a locked or a merged page will keep.
+-- in an access that frame and those of locked pages are left alone, and no swap area is closing
 abbrev pub sparing : World → Sparing
-sparing w l pinned = record { frame = is_pinned pinned; closing = None }
+sparing w l pinned = record { pinned = pinned; locked = is_locked w l; closing = None }
 
 -- a frame is taken, behind the pass if there is one
 abbrev pub Takes : Setting → Sparing → Ledger → Option ℕ → List Note → (ℕ → Note) → Type 0
@@ -165,7 +165,7 @@ pub record FindsNone (m : Setting) (spares : Sparing) (l : Ledger) (need : Need)
   pub seeks : Seeks m (spares l (pinned_by need)) l sought
   pub none : has_free m (after_notes l sought) ≡ false
   pub numbers : out
-      ≡ out_of m (pinned_by need) (spares l (pinned_by need)) (after_notes l sought)
+      ≡ out_of m (spares l (pinned_by need)) (after_notes l sought)
 
 -- no frame was free for the page; before that it may have come in
 pub record RunsOut (m : Setting) (spares : Sparing) (l : Ledger) (write : Bool) (k : Key)

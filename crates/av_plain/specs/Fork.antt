@@ -1,8 +1,8 @@
--- Fork: a child gets its parent's memory whole, the parent's entries, and the parent's areas one
--- after the other, each with a chain.
+-- Fork: a child gets of its parent's memory what the flags of its pages say, the entries of these
+-- pages, and the parent's areas one after the other, each with a chain.
 use Rattle.std.specs.Option.{option_map_or}
 use Rattle.std.specs.Prelude.{◌≡◌, ◌<◌, ◌≤◌, ◌==◌, ℕ, suc, Bool, true, false, List, [], ◌∷◌, ◌++◌}
-use Rattle.std.specs.Prelude.{map, Option, Some, None, IfSome, IsSomeAnd}
+use Rattle.std.specs.Prelude.{map, filter, not, Option, Some, None, IfSome, IsSomeAnd}
 use Rattle.av_base.specs.Words.{how_many, is_in, with_at}
 use Rattle.std.specs.List.{range_with_len}
 use Rattle.av_trace.specs.declared.command.Command.{Command}
@@ -11,24 +11,36 @@ use Rattle.av_trace.specs.declared.reply.Answer.{Answer}
 use Rattle.av_trace.specs.declared.reply.Answer.TheVariants.{Done}
 use Rattle.av_trace.specs.declared.row.Row.{Row}
 use Rattle.av_vma.specs.declared.area.Area.{Area}
+use Rattle.av_vma.specs.Fork.{areas_to_fork, forked_area, own_to_fork}
 use Rattle.av_vma.specs.Pages.{pages_in, with_area}
 use Rattle.av_plain.specs.Areas.{AnonVma, Anons, AreNext, Rmap, chain_by, none_on, root_of}
 use Rattle.av_plain.specs.Event.{Event, Forked, Inherited}
 use Rattle.av_plain.specs.Ledger.{Key, Ledger}
 use Rattle.av_plain.specs.Report.{AreApart, range_of}
-use Rattle.av_plain.specs.World.{World}
+use Rattle.av_plain.specs.World.{Page, Process, World, pages}
 use Rattle.av_plain.specs.Zap.{keys_of_process}
 
 -- ---- entries
 
--- what goes over: each page of the parent that has an entry
-abbrev pub inheritance : Ledger → ℕ → List Inherited
-inheritance l p = map (λ (k : Key). record { page = k.1; as_zeros = false }) (keys_of_process l p)
+-- whether a page goes over to a child, and whether as zeros
+abbrev pub goes_over : Option Page → Bool
+goes_over None = false
+goes_over (Some page) = not page.flags.dont_fork
+
+abbrev pub goes_as_zeros : Option Page → Bool
+goes_as_zeros None = false
+goes_as_zeros (Some page) = page.flags.wipe_on_fork
+
+-- what goes over: each page of the parent that has an entry, but those that are left out
+abbrev pub inheritance : Process → Ledger → ℕ → List Inherited
+inheritance q l p =
+    map (λ (k : Key). record { page = k.1; as_zeros = goes_as_zeros (q k.1) })
+    (filter (λ k. goes_over (q k.1)) (keys_of_process l p))
 
 -- a fork tells nothing; its one event names what goes over
-abbrev pub Forks : Ledger → ℕ → ℕ → List Event → Answer → List Row → Type 0
-Forks l p q events answer rows =
-    (answer ≡ Done) × (events ≡ Forked p q (inheritance l p) ∷ []) × (rows ≡ [])
+abbrev pub Forks : World → Ledger → ℕ → ℕ → List Event → Answer → List Row → Type 0
+Forks w l p q events answer rows =
+    (answer ≡ Done) × (events ≡ Forked p q (inheritance (pages w p) l p) ∷ []) × (rows ≡ [])
 
 -- ---- anon_vmas
 
@@ -79,18 +91,18 @@ with_child own (Some v) anons = record anons {
 
 -- ---- areas
 
--- the child has this area, too
-abbrev pub with_child_area : ℕ → Area → Rmap → Rmap
-with_child_area q area r =
-    record r { areas = with_at q (with_area (record area { pid = q }) (r.areas q)) r.areas }
+-- the child has this area, too, with this own anon_vma
+abbrev pub with_child_area : ℕ → Option ℕ → Area → Rmap → Rmap
+with_child_area q own area r = record r {
+  areas = with_at q (with_area (record (forked_area q area) { anon = own }) (r.areas q)) r.areas;
+}
 
 -- a parent's area goes to the child, by the parent's own anon_vma, if there is one
 abbrev pub GoesBy : Option ℕ → ℕ → Area → Rmap → Rmap → Type 0
-GoesBy None q area r next = next ≡ with_child_area q area r
+GoesBy None q area r next = next ≡ with_child_area q None area r
 GoesBy (Some own) q area r next = (reused : Option ℕ)
     × IsReused r (chain_by r.anons (Some own)) reused
-    × (next ≡ record (with_child_area q
-    (record area { anon = Some (own_of_child r.anons reused) }) r) {
+    × (next ≡ record (with_child_area q (Some (own_of_child r.anons reused)) area r) {
       anons = with_child own reused r.anons;
     })
 
@@ -98,13 +110,13 @@ GoesBy (Some own) q area r next = (reused : Option ℕ)
 abbrev pub GoOver : ℕ → List Area → Rmap → Rmap → Type 0
 GoOver q [] r next = next ≡ r
 GoOver q (area ∷ areas) r next =
-    (mid : Rmap) × GoesBy area.anon q area r mid × GoOver q areas mid next
+    (mid : Rmap) × GoesBy (own_to_fork area) q area r mid × GoOver q areas mid next
 
--- so do those of a parent, by rising address
+-- so do those of a parent that aren't left out, by rising address
 abbrev pub AreForked : ℕ → ℕ → Rmap → Rmap → Type 0
 AreForked p q r next = (areas : List Area) × AreApart (map range_of areas)
     × ((page : ℕ) → pages_in (Some areas) page ≡ r.areas p page)
-    × GoOver q areas (record r { areas = with_at q none_on r.areas }) next
+    × GoOver q (areas_to_fork areas) (record r { areas = with_at q none_on r.areas }) next
 
 -- ---- the whole
 

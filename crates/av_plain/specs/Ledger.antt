@@ -55,18 +55,28 @@ pub record HasNumbers (area : SwapArea) (h : Layout) : Type 0 where
   pub slots : area.slots ≡ h.slots
   pub bad : area.bad ≡ length h.bad
 
--- entries: rising by key. active, inactive: head first. on: rising by area
+-- entries: rising by key. active, inactive: head first. merged: the frames that pages with equal
+-- bytes share. on: rising by area
 pub record Ledger : Type 0 where
   pub entries : List (Key × Entry)
   pub cache : List Cached
   pub flight : List Slot
   pub active : List ℕ
   pub inactive : List ℕ
+  pub merged : List ℕ
   pub on : List (ℕ × SwapArea)
 
--- no entry, no cached slot, no list and no area
+-- no entry, no cached slot, no list, no merged frame and no area
 abbrev pub first_ledger : Ledger
-first_ledger = record { entries = []; cache = []; flight = []; active = []; inactive = []; on = [] }
+first_ledger = record {
+  entries = [];
+  cache = [];
+  flight = [];
+  active = [];
+  inactive = [];
+  merged = [];
+  on = [];
+}
 
 -- ---- filters
 
@@ -141,6 +151,10 @@ in_flight l s = list_any (same_slot s) l.flight
 -- the count of a slot: the entries that name it, plus one if it is cached
 abbrev pub slot_count : Ledger → Slot → ℕ
 slot_count l s = slot_entries l s + (if is_cached l s then 1 else 0)
+
+-- whether the frame is merged
+abbrev pub is_merged : Ledger → ℕ → Bool
+is_merged l f = is_in f l.merged
 
 -- no entry and no cached slot names the frame
 abbrev pub is_free : Ledger → ℕ → Bool

@@ -10,11 +10,15 @@ pub mod Zap
 pub mod Process
 pub mod Place
 pub mod Map
+pub mod Advice
+pub mod Lock
 pub mod Mremap
 pub mod Report
 pub mod Swapon
 pub mod Reclaim
 pub mod Swapoff
+pub mod Merge
+pub mod Compact
 pub mod Refusal
 pub mod Step
 pub mod Areas

@@ -13,7 +13,7 @@ use Rattle.av_plain.specs.Event.{Event}
 use Rattle.av_plain.specs.Ledger.{Ledger}
 use Rattle.av_plain.specs.Place.{IsMapAt, Goes}
 use Rattle.av_plain.specs.Refusal.{wraps}
-use Rattle.av_plain.specs.World.{with_prot_on, set_process, World, pages, pages_to_hole}
+use Rattle.av_plain.specs.World.{Process, World, pages, pages_to_hole, set_process, with_prot_on}
 use Rattle.av_plain.specs.Zap.{keys_in, zaps_of}
 
 -- ---- what a command does
@@ -36,11 +36,14 @@ abbrev pub Unmaps : Ledger → ℕ → ℕ → ℕ → List Event → Answer →
 Unmaps l p from n events answer rows =
     (answer ≡ Done) × (events ≡ zaps_of l (keys_in l p from n)) × (rows ≡ [])
 
+-- the answer of a command for which all n pages have to be mapped
+abbrev pub hole_answer : Process → ℕ → ℕ → Answer
+hole_answer q from n = if pages_to_hole q from n == n then Done else Refused Enomem
+
 -- mprotect: all n pages have to be mapped
 abbrev pub Protects : World → ℕ → ℕ → ℕ → List Event → Answer → List Row → Type 0
 Protects w p from n events answer rows =
-    (answer ≡ (if pages_to_hole (pages w p) from n == n then Done else Refused Enomem))
-    × (events ≡ []) × (rows ≡ [])
+    (answer ≡ hole_answer (pages w p) from n) × (events ≡ []) × (rows ≡ [])
 
 -- ---- the memories after it
 

@@ -6,6 +6,7 @@ use Rattle.std.specs.Prelude.{Some, None, option_map, MatchBool}
 use Rattle.av_base.specs.Limits.{top_page}
 use Rattle.av_base.specs.Page.{page_of}
 use Rattle.av_base.specs.Words.{within}
+use Rattle.av_base.specs.declared.flags.Flags.{Flags}
 use Rattle.av_base.specs.declared.prot.Prot.{Prot}
 use Rattle.av_trace.specs.declared.mode.Mode.{Mode}
 use Rattle.av_trace.specs.declared.mode.Mode.TheVariants.{Plain, MayMove, Fixed, DontUnmap}
@@ -13,12 +14,12 @@ use Rattle.av_trace.specs.declared.reply.Answer.{Answer}
 use Rattle.av_trace.specs.declared.row.Row.{Row}
 use Rattle.av_vma.specs.Gap.{IsGap}
 use Rattle.av_vma.specs.Join.{same_prot}
-use Rattle.av_vma.specs.Mremap.{after_move, after_resize}
-use Rattle.av_vma.specs.Pages.{Lengths, Pages, after_map}
+use Rattle.av_vma.specs.Mremap.{after_move, after_resize, pages_left}
+use Rattle.av_vma.specs.Pages.{Lengths, Pages}
 use Rattle.av_plain.specs.Event.{Event, EntriesMoved, after_all}
 use Rattle.av_plain.specs.Ledger.{Ledger}
 use Rattle.av_plain.specs.Place.{IsMapAt}
-use Rattle.av_plain.specs.World.{Page, Process, is_mapped, meets, zeros}
+use Rattle.av_plain.specs.World.{Page, Process, is_mapped, meets, wiped, without_lock}
 use Rattle.av_plain.specs.Zap.{keys_in, zaps_of}
 
 -- ---- modes
@@ -62,6 +63,10 @@ have_one_prot q from n = option_map_or (λ (p : Page). have_prot q p.prot from n
 -- the protection of a page, if it is mapped
 abbrev pub prot_at : Process → ℕ → Option Prot
 prot_at q page = option_map (λ (p : Page). p.prot) (q page)
+
+-- its protection and its flags, if it is mapped
+abbrev pub marks_at : Process → ℕ → Option (Prot × Flags)
+marks_at q page = option_map (λ (p : Page). (p.prot, p.flags)) (q page)
 
 -- ---- where the pages go
 
@@ -108,28 +113,29 @@ Remaps q l p from n m mode events answer rows =
 
 -- ---- the memories after it
 
--- the protection with which the old range stays, if it stays
-abbrev pub prot_left : Mode → Process → ℕ → Option Prot
-prot_left mode q from = if leaves_old mode then prot_at q from else None
+-- a page of the old range that stays: zeros, and not locked
+abbrev pub left_behind : Bool → Option Page → Option Page
+left_behind stays page = if stays then option_map (λ p. without_lock (wiped p)) page else None
 
--- page i of the new range is page i of the old one, or, past it, zeros with its protection; the
--- rest of the old range goes, or stays with zeros
-abbrev pub process_after_mremap : ℕ → ℕ → ℕ → ℕ → Option Prot → Process → Process
-process_after_mremap from n to m left q page =
+-- page i of the new range is page i of the old one, or, past it, its last page with zeros; the rest
+-- of the old range goes, or stays with zeros
+abbrev pub process_after_mremap : ℕ → ℕ → ℕ → ℕ → Bool → Process → Process
+process_after_mremap from n to m stays q page =
     if within to m page
     then (if nat_lt (page - to) n then q (from + (page - to))
-    else option_map zeros (prot_at q from))
-    else (if within from n page then option_map zeros left else q page)
+    else option_map wiped (q (from + n - 1)))
+    else (if within from n page then left_behind stays (q page) else q page)
 
 -- ---- the areas after it
 
--- the range is mapped anew, if it has a protection
-abbrev pub with_old_range : Lengths → ℕ → ℕ → ℕ → Option Prot → Pages → Pages
-with_old_range long p from past None on = on
-with_old_range long p from past (Some prot) on = after_map long p from past prot on
+-- n pages from one on are mapped anew, if they stay: with the protection and flags that areas had,
+-- but not locked
+abbrev pub with_old_range : Lengths → ℕ → Pages → ℕ → ℕ → Bool → Pages → Pages
+with_old_range long p was from n stays on =
+    if stays then pages_left long p was from n on else on
 
--- the areas of the old range stay or move; then what stays of it gets a new one
-abbrev pub after_mremap : Lengths → ℕ → ℕ → ℕ → ℕ → ℕ → Option Prot → Pages → Pages
-after_mremap long p from n to m left on =
+-- the areas of the old range stay or move; then what stays of it gets new ones
+abbrev pub after_mremap : Lengths → ℕ → ℕ → ℕ → ℕ → ℕ → Bool → Pages → Pages
+after_mremap long p from n to m stays on =
     if to == from then after_resize long from n m on
-    else with_old_range long p from (from + n) left (after_move long from n to m on)
+    else with_old_range long p on from n stays (after_move long from n to m on)

@@ -2,7 +2,7 @@
 -- what an out-of-memory says.
 use Rattle.std.specs.Prelude.{◌≡◌, ℕ, ◌<◌, Bool, true, false, not, ◌&&◌, ◌||◌, ◌==◌, if◌then◌else◌}
 use Rattle.std.specs.Prelude.{IsTrue, MatchBool, List, [], ◌∷◌, ◌++◌, filter, reverse, Option}
-use Rattle.std.specs.Prelude.{is_some, is_none, MatchOption}
+use Rattle.std.specs.Prelude.{Some, None, is_some, is_none, MatchOption}
 use Rattle.av_base.specs.Words.{how_many}
 use Rattle.std.specs.List.{range_with_len}
 use Rattle.av_base.specs.declared.slot.Slot.{Slot}
@@ -11,7 +11,7 @@ use Rattle.av_trace.specs.declared.note.Note.{Note}
 use Rattle.av_trace.specs.declared.note.Note.TheVariants.{Put, Unmapped, Started, Written, Failed}
 use Rattle.av_trace.specs.declared.note.Note.TheVariants.{Dropped}
 use Rattle.av_plain.specs.Ledger.{Ledger, Setting, map_count, slot_of, is_free, is_stale, is_orphan}
-use Rattle.av_plain.specs.Ledger.{has_free, no_slot, may_give}
+use Rattle.av_plain.specs.Ledger.{has_free, is_merged, no_slot, may_give}
 use Rattle.av_plain.specs.Event.{after_note, after_notes, when}
 
 -- ---- writes in flight
@@ -44,10 +44,21 @@ fails notes = how_many is_fail notes
 
 -- ---- a frame goes to its slot
 
--- what a pass leaves alone: some frames, and the swap area that a swapoff is closing
+-- what a pass leaves alone, beside merged frames: the frame that is about to be copied, if there is
+-- one; frames of locked pages; and the swap area that a swapoff is closing
 pub record Spared : Type 0 where
-  pub frame : ℕ → Bool
+  pub pinned : Option ℕ
+  pub locked : ℕ → Bool
   pub closing : Option ℕ
+
+-- whether it is the frame that is about to be copied
+abbrev pub is_pinned : Option ℕ → ℕ → Bool
+is_pinned None f = false
+is_pinned (Some pinned) f = pinned == f
+
+-- whether a pass leaves the frame alone
+abbrev pub is_spared : Spared → ℕ → Bool
+is_spared spared f = is_pinned spared.pinned f || spared.locked f
 
 -- s is where the frame is cached or, where it isn't, a slot that may be given
 abbrev pub IsSlotFor : Setting → Spared → Ledger → ℕ → Slot → Type 0
@@ -89,10 +100,13 @@ Turns m spared l (f ∷ fs) notes = MatchBool (is_stuck m spared l f)
     × Turns m spared (after_notes l (turn_notes l f s failed)) fs rest)
     (notes ≡ turn_notes l f s failed ++ Dropped s ∷ []))
 
+-- whether a pass goes over the frame: it isn't left alone, and isn't merged
+abbrev pub has_turn : Spared → Ledger → ℕ → Bool
+has_turn spared l f = not (is_spared spared f) && not (is_merged l f)
+
 -- the frames that have a turn: inactive from its tail, then active from its tail
 abbrev pub frames_in_turn : Spared → Ledger → List ℕ
-frames_in_turn spared l =
-    filter (λ f. not (spared.frame f)) (reverse l.inactive ++ reverse l.active)
+frames_in_turn spared l = filter (has_turn spared l) (reverse l.inactive ++ reverse l.active)
 
 -- all of flight is completed; where no frame is free then, the frames have their turns
 abbrev pub IsPass : Setting → Spared → Ledger → List Note → Type 0
@@ -117,15 +131,17 @@ pub record TakesFor (m : Setting) (spared : Spared) (l : Ledger) (notes : List N
   pub free : IsTrue (is_free (after_notes l sought) frame)
   pub whole : notes ≡ sought ++ note frame ∷ []
 
--- how many frames of the machine a pass doesn't leave alone, of those that pass the test
-abbrev pub how_many_others : Setting → Spared → (ℕ → Bool) → ℕ
-how_many_others m spared test =
-    how_many (λ f. not (spared.frame f) && test f) (range_with_len 0 m.frames)
+-- how many frames of the machine pass the test
+abbrev pub how_many_frames : Setting → (ℕ → Bool) → ℕ
+how_many_frames m test = how_many test (range_with_len 0 m.frames)
 
--- the numbers of an out-of-memory: frames that are pinned, not cached, and cached
-abbrev pub out_of : Setting → Option ℕ → Spared → Ledger → OutOf
-out_of m pinned spared l = record {
-  pinned = if is_some pinned then 1 else 0;
-  noslot = how_many_others m spared (λ f. is_none (slot_of l f));
-  fault = how_many_others m spared (λ f. is_some (slot_of l f));
+-- the numbers of an out-of-memory: a frame that is pinned; of the others those that are locked; of
+-- the rest those that are merged; and of what is left those that aren't cached, and those that are
+abbrev pub out_of : Setting → Spared → Ledger → OutOf
+out_of m spared l = record {
+  pinned = if is_some spared.pinned then 1 else 0;
+  noslot = how_many_frames m (λ f. has_turn spared l f && is_none (slot_of l f));
+  fault = how_many_frames m (λ f. has_turn spared l f && is_some (slot_of l f));
+  locked = how_many_frames m (λ f. not (is_pinned spared.pinned f) && spared.locked f);
+  ksm = how_many_frames m (λ f. not (is_spared spared f) && is_merged l f);
 }

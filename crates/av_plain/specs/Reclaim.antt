@@ -6,7 +6,7 @@ use Rattle.std.specs.Prelude.{map, reverse, take, Option, Some, None, MatchOptio
 use Rattle.av_base.specs.declared.slot.Slot.{Slot}
 use Rattle.av_trace.specs.declared.note.Cause.{Cause}
 use Rattle.av_trace.specs.declared.note.Cause.TheVariants.{Writeback, Referenced, NoSlot}
-use Rattle.av_trace.specs.declared.note.Cause.TheVariants.{WriteStarted}
+use Rattle.av_trace.specs.declared.note.Cause.TheVariants.{Ksm, Locked, WriteStarted}
 use Rattle.av_trace.specs.declared.note.Note.{Note}
 use Rattle.av_trace.specs.declared.note.Note.TheVariants.{Started, Dropped, Kept, Aged}
 use Rattle.av_trace.specs.declared.reply.Answer.{Answer}
@@ -15,7 +15,7 @@ use Rattle.av_trace.specs.declared.row.Row.{Row}
 use Rattle.av_plain.specs.Event.{Event, after_notes, note_events}
 use Rattle.av_plain.specs.Fault.{sparing}
 use Rattle.av_plain.specs.Ledger.{Entry, InFrame, InSlot, Key, Ledger, Setting, Zero, in_flight}
-use Rattle.av_plain.specs.Ledger.{slot_of}
+use Rattle.av_plain.specs.Ledger.{is_merged, slot_of}
 use Rattle.av_plain.specs.Pass.{Completes, IsSlotFor, Spared, is_dirty, is_stuck, unmap_notes}
 use Rattle.av_plain.specs.World.{World}
 
@@ -40,12 +40,14 @@ abbrev pub is_in_writeback : Ledger → Option Slot → Bool
 is_in_writeback l None = false
 is_in_writeback l (Some s) = in_flight l s
 
--- why a frame is kept before it is touched: the first of three tests that holds
+-- why a frame is kept before it is touched: the first of five tests that holds
 abbrev pub cause_of : Setting → Spared → Ledger → ℕ → Option Cause
 cause_of m spared l f =
-    if is_in_writeback l (slot_of l f) then Some Writeback
+    if spared.locked f then Some Locked
+    else (if is_merged l f then Some Ksm
+    else (if is_in_writeback l (slot_of l f) then Some Writeback
     else (if is_referenced l f then Some Referenced
-    else (if is_stuck m spared l f then Some NoSlot else None))
+    else (if is_stuck m spared l f then Some NoSlot else None))))
 
 -- ---- reclaim
 

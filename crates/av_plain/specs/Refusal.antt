@@ -3,8 +3,8 @@
 use Rattle.std.specs.Prelude.{ℕ, ◌+◌, Bool, true, false, not, ◌==◌, if◌then◌else◌, ◌&&◌, List, []}
 use Rattle.std.specs.Prelude.{◌∷◌, ◌++◌, Option, Some, None, ◌≡◌, ◌||◌, is_none, length, nat_lt}
 use Rattle.std.specs.Prelude.{nat_le, ◌^◌}
-use Rattle.av_base.specs.Limits.{most_processes, low_page, top_page}
-use Rattle.av_base.specs.Page.{page_of, address_of, pages_of, is_on_page}
+use Rattle.av_base.specs.Limits.{most_frames, most_processes, low_page, top_page}
+use Rattle.av_base.specs.Page.{page_of, address_of, pages_met, pages_of, is_on_page}
 use Rattle.av_base.specs.declared.slot.Slot.{Slot}
 use Rattle.av_trace.specs.declared.command.Command.{Command}
 use Rattle.av_trace.specs.declared.command.Command.TheVariants.{Mprotect, Mremap, Spawn, Fork, Exit}
@@ -13,7 +13,8 @@ use Rattle.av_trace.specs.declared.command.Command.TheVariants.{Reclaim, Age, Co
 use Rattle.av_trace.specs.declared.command.Command.TheVariants.{Swapoff, Areas as AsksAreas}
 use Rattle.av_trace.specs.declared.command.Command.TheVariants.{Rmap as AsksRmap}
 use Rattle.av_trace.specs.declared.command.Command.TheVariants.{Entry as AsksEntry}
-use Rattle.av_trace.specs.declared.command.Command.TheVariants.{Slot as AsksSlot, Stat}
+use Rattle.av_trace.specs.declared.command.Command.TheVariants.{Slot as AsksSlot, Stat, Merge}
+use Rattle.av_trace.specs.declared.command.Command.TheVariants.{Compact, Madvise, Mlock, Munlock}
 use Rattle.av_trace.specs.declared.mode.Mode.{Mode}
 use Rattle.av_trace.specs.declared.place.Place.{Place}
 use Rattle.av_trace.specs.declared.place.Place.TheVariants.{Auto, At, Fixed, NoReplace}
@@ -55,6 +56,18 @@ is_too_long len = overflows len || nat_lt top_page (pages_of len)
 -- the pages of the length, from an address on, do not end below 2^64
 abbrev pub wraps : ℕ → ℕ → Bool
 wraps a len = nat_le (2 ^ 64) (a + address_of (pages_of len))
+
+-- the address isn't on a page, or the pages of the length do not end below 2^64
+abbrev pub is_bad_range : ℕ → ℕ → Bool
+is_bad_range a len = not (is_on_page a) || wraps a len
+
+-- the pages that the bytes from an address on meet do not end below 2^64
+abbrev pub meets_end : ℕ → ℕ → Bool
+meets_end a len = nat_le (2 ^ 64) (address_of (page_of a + pages_met a len))
+
+-- these are more than may be locked at once: as many as a machine has frames at most
+abbrev pub locks_too_many : ℕ → ℕ → Bool
+locks_too_many a len = nat_lt most_frames (pages_met a len)
 
 -- the first address that no process can have, and the lowest that can be mapped
 abbrev pub top : ℕ
@@ -141,6 +154,10 @@ tests m w l (Mprotect p a len prot) =
     no_process w p ∷ (not (is_on_page a), Einval) ∷ (wraps a len, Enomem) ∷ []
 tests m w l (Mremap p a old new mode) =
     no_process w p ∷ mremap_tests (pages w p) a old new mode
+tests m w l (Madvise p a len advice) = no_process w p ∷ (is_bad_range a len, Einval) ∷ []
+tests m w l (Mlock p a len) =
+    no_process w p ∷ (meets_end a len, Einval) ∷ (locks_too_many a len, Enomem) ∷ []
+tests m w l (Munlock p a len) = no_process w p ∷ (meets_end a len, Einval) ∷ []
 tests m w l (Read p a n) = no_process w p ∷ []
 tests m w l (Write p a bytes) = no_process w p ∷ []
 tests m w l (Reclaim n) = []
@@ -149,6 +166,8 @@ tests m w l (Complete n) = []
 tests m w l (Swapon k priority) =
     (no_device_at m k, Einval) ∷ (is_on l k, Ebusy) ∷ (size_of m k == 0, Einval) ∷ []
 tests m w l (Swapoff k) = (is_off l k, Einval) ∷ []
+tests m w l Merge = []
+tests m w l Compact = []
 tests m w l (Maps p) = no_process w p ∷ []
 tests m w l (AsksAreas p) = no_process w p ∷ []
 tests m w l (AsksRmap p a) = no_process w p ∷ no_page w p a ∷ []
@@ -166,9 +185,12 @@ refusal (t ∷ ts) = if t.0 then Some t.1 else refusal ts
 abbrev pub Refuses : Errno → List Event → Answer → List Row → Type 0
 Refuses error events answer rows = (answer ≡ Refused error) × (events ≡ []) × (rows ≡ [])
 
--- the commands that may change something and be refused: an mprotect that meets a hole, and a
--- swapoff that ends at a slot
+-- the commands that may change something and be refused: those that meet a hole, or a locked page,
+-- and a swapoff that ends at a slot
 abbrev pub may_end_midway : Command → Bool
 may_end_midway (Mprotect p a len prot) = true
+may_end_midway (Madvise p a len advice) = true
+may_end_midway (Mlock p a len) = true
+may_end_midway (Munlock p a len) = true
 may_end_midway (Swapoff k) = true
 may_end_midway command = false

@@ -3,6 +3,7 @@
 use Rattle.std.specs.Prelude.{◌≡◌, ◌⊎◌, ℕ, ◌<◌, ◌≤◌, ◌&&◌, nat_lt, nat_le, if◌then◌else◌, List, []}
 use Rattle.std.specs.Prelude.{◌∷◌, map, length, sum_by, Option, Some, None, option_map, MatchOption}
 use Rattle.av_base.specs.Page.{address_of}
+use Rattle.av_base.specs.declared.flags.Flags.{Flags}
 use Rattle.av_base.specs.declared.prot.Prot.{Prot}
 use Rattle.av_base.specs.declared.slot.Slot.{Slot}
 use Rattle.av_trace.specs.declared.reply.Answer.{Answer}
@@ -24,7 +25,7 @@ use Rattle.av_plain.specs.World.{World, Process, Page}
 use Rattle.av_plain.specs.Event.{Event}
 use Rattle.av_plain.specs.Ledger.{Entry, InFrame, InSlot, Key, Ledger, Setting, SwapArea, Zero}
 use Rattle.av_plain.specs.Ledger.{entry, frame_at, free_frames, free_slots, is_usable, slot_count}
-use Rattle.av_plain.specs.Ledger.{slot_of, walk}
+use Rattle.av_plain.specs.Ledger.{is_merged, slot_of, walk}
 
 -- ---- ranges of pages
 
@@ -80,14 +81,26 @@ ReportsRuns q events answer rows =
 
 -- the pages that the row of an area shows, with their protection; None for any other row
 abbrev pub run_of : Row → Option Row
-run_of (AreaRow start end prot offset own chain) = Some (Run start end prot)
+run_of (AreaRow start end prot offset own chain flags) = Some (Run start end prot)
 run_of row = None
 
--- the rows are of ranges that are apart and cover the pages; what else they say isn't part of what
--- makes a reply legal
+-- the flags of a page, by the row of the area that holds it
+abbrev pub flags_in : List Row → ℕ → Option Flags
+flags_in [] page = None
+flags_in (AreaRow start end prot offset own chain flags ∷ rows) page =
+    if nat_le start (address_of page) && nat_lt (address_of page) end then Some flags
+    else flags_in rows page
+flags_in (row ∷ rows) page = flags_in rows page
+
+-- the rows show the flags of each page
+abbrev pub ShowFlags : Process → List Row → Type 0
+ShowFlags q rows = (page : ℕ) → flags_in rows page ≡ option_map (λ (p : Page). p.flags) (q page)
+
+-- the rows are of ranges that are apart and cover the pages, with their flags; what else they say
+-- isn't part of what makes a reply legal
 abbrev pub AreAreas : Process → List Row → Type 0
 AreAreas q rows = (ranges : List Range) × (map run_of rows ≡ map (λ r. Some (row_of r)) ranges)
-    × AreApart ranges × Cover q ranges
+    × AreApart ranges × Cover q ranges × ShowFlags q rows
 
 -- the answer to `areas`: how many areas there are
 abbrev pub ReportsAreas : Process → List Event → Answer → List Row → Type 0
@@ -98,6 +111,7 @@ ReportsAreas q events answer rows =
 abbrev pub area_row : Anons → Area → Row
 area_row anons area =
     AreaRow area.start area.end area.prot area.pgoff area.anon (chain_by anons area.anon)
+    area.flags
 
 -- the rows are those of the areas that these pages have: each once, rising
 abbrev pub AreRowsOf : Anons → Pages → List Row → Type 0
@@ -132,12 +146,12 @@ ReportsWalk l key events answer rows =
 
 -- ---- entry
 
--- what an entry is: a frame with the slot at which it is cached, a slot with the frame that caches
--- it
+-- what an entry is: a frame with the slot at which it is cached and whether it is merged, a slot
+-- with the frame that caches it
 abbrev pub entry_answer : Ledger → Option Entry → Answer
 entry_answer l None = EntryEmpty
 entry_answer l (Some Zero) = EntryZero
-entry_answer l (Some (InFrame f seen)) = EntryFrame f seen (slot_of l f)
+entry_answer l (Some (InFrame f seen)) = EntryFrame f seen (slot_of l f) (is_merged l f)
 entry_answer l (Some (InSlot s)) = EntrySlot s (frame_at l s)
 
 -- the answer to `entry`: what the page's entry is

@@ -9,7 +9,8 @@ use Rattle.av_base.specs.Limits.{most_processes}
 use Rattle.av_base.specs.Words.{how_many}
 use Rattle.av_base.specs.declared.slot.Slot.{Slot}
 use Rattle.av_plain.specs.Ledger.{Cached, Entry, InFrame, InSlot, Key, Ledger, Setting, Zero, entry}
-use Rattle.av_plain.specs.Ledger.{is_cached, is_free, is_on, is_orphan, is_usable, key_cmp}
+use Rattle.av_plain.specs.Ledger.{is_cached, is_free, is_merged, is_on, is_orphan, is_usable}
+use Rattle.av_plain.specs.Ledger.{key_cmp}
 use Rattle.av_plain.specs.Ledger.{map_count, names_frame, names_slot, same_slot, size_of}
 use Rattle.av_plain.specs.Ledger.{slot_entries, slot_of, slots_in_use}
 use Rattle.av_plain.specs.World.{World, pages}
@@ -36,15 +37,20 @@ flights l s = how_many (same_slot s) l.flight
 abbrev pub listings : Ledger → ℕ → ℕ
 listings l f = how_many (λ g. f == g) l.active + how_many (λ g. f == g) l.inactive
 
+-- how often the frame stands among the merged ones
+abbrev pub mergings : Ledger → ℕ → ℕ
+mergings l f = how_many (λ g. f == g) l.merged
+
 -- what names a frame: it is free where this is 0
 abbrev pub uses : Ledger → ℕ → ℕ
 uses l f = map_count l f + holders l f
 
--- two entries name one memory: one frame, a slot and the frame that caches it, or one slot
+-- two entries name one memory: one frame that isn't merged, a slot and the frame that caches it, or
+-- one slot
 abbrev pub name_one : Ledger → Entry → Entry → Bool
 name_one l Zero e = false
 name_one l (InFrame f seen) Zero = false
-name_one l (InFrame f seen) (InFrame g seen') = f == g
+name_one l (InFrame f seen) (InFrame g seen') = f == g && mergings l f == 0
 name_one l (InFrame f seen) (InSlot s) = nat_lt 0 (pairs l s f)
 name_one l (InSlot s) Zero = false
 name_one l (InSlot s) (InFrame f seen) = nat_lt 0 (pairs l s f)
@@ -56,9 +62,11 @@ name_one l (InSlot s) (InSlot t) = same_slot s t
 pub record IsSoundBut (m : Setting) (excuse : Slot → ℕ) (l : Ledger) : Type 0 where
   -- entries rise by key
   pub in_order : T (is_sorted key_cmp l.entries)
-  -- a slot is cached once at most, and a frame caches one slot at most
+  -- a slot is cached once at most, and a frame caches one slot at most, or is merged once
   pub slots_once : (s : Slot) → slots l s ≤ 1
-  pub frames_once : (f : ℕ) → holders l f ≤ 1
+  pub frames_once : (f : ℕ) → holders l f + mergings l f ≤ 1
+  -- an entry names a merged frame
+  pub merged : (f : ℕ) → mergings l f ≤ map_count l f
   -- a frame in use is one of the machine's, and stands once in the lists; a free one does not
   pub in_range : (f : ℕ) → 0 < uses l f → f < m.frames
   pub listed : (f : ℕ) → listings l f ≡ min 1 (uses l f)
@@ -67,7 +75,7 @@ pub record IsSoundBut (m : Setting) (excuse : Slot → ℕ) (l : Ledger) : Type 
   -- a cached slot is in flight, or an entry names it or its frame
   pub used : (s : Slot) (f : ℕ) → 0 < pairs l s f
       → 0 < flights l s + slot_entries l s + map_count l f + excuse s
-  -- two entries of one process name different memories
+  -- two entries of one process name different memories, but where they name one merged frame
   pub one : (p a b : ℕ) (d e : Entry) → entry l (p, a) ≡ Some d → entry l (p, b) ≡ Some e
       → name_one l d e ≡ true → a ≡ b
 
@@ -148,6 +156,10 @@ pub record SaysSound (m : Setting) (w : World) (l : Ledger) : Type 0 where
   pub cached_frames : AllByRecursion (λ (c : Cached). c.frame < m.frames) l.cache
   -- each slot is cached once at most, and so is each frame
   pub cached_once : IsDistinct same_cached l.cache
+  -- a merged frame stands once among those, an entry names it, and it isn't cached
+  pub merged_once : IsDistinct (λ f g. f == g) l.merged
+  pub merged_mapped : (f : ℕ) → is_merged l f ≡ true → 0 < map_count l f
+  pub not_cached : (f : ℕ) → is_merged l f ≡ true → slot_of l f ≡ None
   -- a frame stands once in one of the two lists, unless it is free
   pub listed : (f : ℕ)
       → how_many (λ g. f == g) (l.active ++ l.inactive) ≡ (if is_free l f then 0 else 1)
@@ -155,12 +167,12 @@ pub record SaysSound (m : Setting) (w : World) (l : Ledger) : Type 0 where
   pub flying : (s : Slot) → how_many (same_slot s) l.flight ≤ (if is_cached l s then 1 else 0)
   -- each cached slot is in flight, or an entry names it or its frame
   pub used : (s : Slot) → is_orphan l s ≡ false
-  -- a process has at most one entry of a frame and the slot at which it is cached, and at most one
-  -- of a slot
-  pub one_frame : (f p page other : ℕ) (d e : Entry) → entry l (p, page) ≡ Some d
-      → is_of l f d ≡ true → entry l (p, other) ≡ Some e → is_of l f e ≡ true → page ≡ other
+  -- a process has at most one entry of a frame that isn't merged and the slot at which it is
+  -- cached, and at most one of a slot
+  pub one_frame : (f p page other : ℕ) (d e : Entry) → is_merged l f ≡ false
+      → entry l (p, page) ≡ Some d → is_of l f d ≡ true → entry l (p, other) ≡ Some e → is_of l f e ≡ true → page ≡ other
   pub one_slot : (s : Slot) (p page other : ℕ) (d e : Entry) → entry l (p, page) ≡ Some d
       → names_slot s d ≡ true → entry l (p, other) ≡ Some e → names_slot s e ≡ true → page ≡ other
-  -- so no more entries name a frame, or a slot, than processes live
-  pub mapped_few : (f : ℕ) → map_count l f ≤ length w
+  -- so no more entries name a frame that isn't merged, or a slot, than processes live
+  pub mapped_few : (f : ℕ) → is_merged l f ≡ false → map_count l f ≤ length w
   pub slot_entries_few : (s : Slot) → slot_entries l s ≤ length w

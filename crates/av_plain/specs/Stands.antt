@@ -3,22 +3,24 @@
 use Rattle.std.specs.FinMap.Entries.{find}
 use Rattle.std.specs.Ordering.{nat_cmp}
 use Rattle.std.specs.Prelude.{ℕ, Bool, true, false, List, map, Option, Some, None, ◌≡◌, ◌<◌, IfSome}
-use Rattle.std.specs.Prelude.{IsSomeAnd, is_some, length, option_map, slice_index}
+use Rattle.std.specs.Prelude.{IsSomeAnd, is_some, length, option_map, slice_index, []}
+use Rattle.std.specs.Prelude.{if◌then◌else◌}
 use Rattle.av_base.specs.Page.{page_size}
 use Rattle.av_base.specs.Words.{is_in}
 use Rattle.av_base.specs.declared.slot.Slot.{Slot}
 use Rattle.av_plain.specs.Device.{Device, headers_of}
 use Rattle.av_plain.specs.Fault.{is_shared}
 use Rattle.av_plain.specs.Ledger.{Entry, HasNumbers, InFrame, InSlot, Ledger, Setting, SwapArea}
-use Rattle.av_plain.specs.Ledger.{Zero, entry, frame_at, in_flight, is_free, is_stale, map_count}
+use Rattle.av_plain.specs.Ledger.{Zero, entry, frame_at, in_flight, is_free, is_merged, is_stale}
+use Rattle.av_plain.specs.Ledger.{map_count}
 use Rattle.av_plain.specs.Ledger.{names_frame, slot_entries, slot_of}
-use Rattle.av_plain.specs.Areas.{AnonVma, Anons, Areas, Homes, chain_by}
+use Rattle.av_plain.specs.Areas.{AnonVma, Anons, Areas, Homes, Items, chain_by}
 use Rattle.av_plain.specs.Choice.{AreaSlots, Free, ListsAll}
-use Rattle.av_plain.specs.Covered.{AreSlotsCovered, IsRmapSound}
+use Rattle.av_plain.specs.Covered.{AreMergedCovered, AreSlotsCovered, IsRmapSound}
 use Rattle.av_plain.specs.Report.{Range, prot_in, range_of, AreApart}
 use Rattle.av_plain.specs.Sound.{AllSound}
 use Rattle.av_plain.specs.Transcript.{State, rmap_of}
-use Rattle.av_plain.specs.World.{Page, World, lives, pages}
+use Rattle.av_plain.specs.World.{Holds, Page, World, lives, pages}
 use Rattle.av_base.specs.declared.prot.Prot.{Prot}
 use Rattle.av_vma.specs.declared.area.Area.{Area}
 use Rattle.av_vma.specs.Pages.{pages_in}
@@ -32,12 +34,14 @@ pub record Pte : Type 0 where
 
 -- what the parts of the kernel answer
 pub record View : Type 0 where
-  -- the frames: how many there are, their bytes, how many entries name each, the home and the slot
-  -- of each and whether it is dirty, and the free ones in the order in which they are taken
+  -- the frames: how many there are, their bytes, how many entries name each, the home, the items
+  -- and the slot of each and whether it is dirty, and the free ones in the order in which they are
+  -- taken
   pub frames : ℕ
   pub bytes : ℕ → ℕ → ℕ
   pub maps : ℕ → ℕ
   pub homes : Homes
+  pub items : Items
   pub slot : ℕ → Option Slot
   pub dirty : ℕ → Bool
   pub free : List ℕ
@@ -109,13 +113,15 @@ prot_of None page = None
 prot_of (Some areas) page = prot_in areas page
 
 -- a process has areas exactly where it lives; they are apart, and cover exactly its pages with
--- their protection
+-- their protection and flags
 pub record AreasStand (v : View) (w : World) : Type 0 where
   pub alive : (p : ℕ) → is_some (v.areas p) ≡ lives w p
   pub number : v.processes ≡ length w
   pub apart : (p : ℕ) → IfSome (ranges_in (v.areas p)) AreApart
   pub covers : (p page : ℕ)
       → prot_of (ranges_in (v.areas p)) page ≡ option_map (λ (q : Page). q.prot) (pages w p page)
+  pub flags : (p page : ℕ) → option_map (λ (area : Area). area.flags) (pages_in (v.areas p) page)
+      ≡ option_map (λ (q : Page). q.flags) (pages w p page)
 
 -- an anon_vma's root and parent
 abbrev pub kin_of : AnonVma → ℕ × ℕ
@@ -134,11 +140,6 @@ abbrev pub AreasAre : View → Areas → Type 0
 AreasAre v areas = (p page : ℕ) → pages_in (v.areas p) page ≡ areas p page
 
 -- ---- the bytes
-
--- these bytes hold what the page claims
-abbrev pub Holds : Option Page → (ℕ → ℕ) → Type 0
-Holds None at = Unit {0}
-Holds (Some p) at = (i : ℕ) → i < page_size → IfSome (p.bytes i) (λ b. at i ≡ b)
 
 -- the device's page of the slot holds it, where pages are told
 abbrev pub HoldsTold : Option Page → Device → Slot → Type 0
@@ -204,9 +205,13 @@ free_of v = record { frames = v.free; slots = v.slots }
 abbrev pub HomesAre : View → Homes → Type 0
 HomesAre v homes = (f : ℕ) → v.homes f ≡ homes f
 
+-- a frame that is merged has these items, and no other has any
+abbrev pub ItemsAre : View → Ledger → Items → Type 0
+ItemsAre v l items = (f : ℕ) → v.items f ≡ (if is_merged l f then items f else [])
+
 -- the kernel and the device stand for the memories, the ledger, what is free in its order, the
--- areas with all that each says, the anon_vmas, and the homes; what is free is what the ledger has
--- free, and each entry of a frame or a slot is covered
+-- areas with all that each says, the anon_vmas, the homes and the items; what is free is what the
+-- ledger has free, and each entry of a frame or a slot is covered
 pub record Stands (m : Setting) (v : View) (device : Device) (s : State) : Type 0 where
   pub over : IsOver m device
   pub sound : AllSound m s.world s.ledger
@@ -216,5 +221,7 @@ pub record Stands (m : Setting) (v : View) (device : Device) (s : State) : Type 
   pub areas : AreasAre v s.areas
   pub anons : AnonsStand v s.areas s.anons
   pub homes : HomesAre v s.homes
+  pub items : ItemsAre v s.ledger s.items
   pub reach : IsRmapSound s.ledger (rmap_of s)
   pub slots : AreSlotsCovered s.ledger (rmap_of s)
+  pub merged : AreMergedCovered s.ledger (rmap_of s)

@@ -53,7 +53,7 @@ pub data Close : Type 0 where
 
 -- why the next page can't be had: no frame is free, or one is, and the device did not give it
 abbrev pub end_at : Setting → Spared → Ledger → Close
-end_at m spared l = if has_free m l then Unread else NoRoom (out_of m None spared l)
+end_at m spared l = if has_free m l then Unread else NoRoom (out_of m spared l)
 
 -- the end, by the slots that are in use still: none, or the least of them can't be fetched
 abbrev pub EndsAt : Setting → Spared → ℕ → Ledger → List ℕ → List Note → Close → Type 0
@@ -63,13 +63,14 @@ EndsAt m spared k l (page ∷ pages) notes end =
     × (end ≡ end_at m spared (after_notes l notes))
 
 -- these slots are emptied: each is the least that is in use in its turn
-abbrev pub Empties : Setting → Spared → ℕ → Ledger → List ℕ → List Note → Close → Type 0
-Empties m spared k l [] notes end = EndsAt m spared k l (slots_in_use m l k) notes end
-Empties m spared k l (page ∷ pages) notes end =
+abbrev pub Empties : Setting → World → ℕ → Ledger → List ℕ → List Note → Close → Type 0
+Empties m w k l [] notes end =
+    EndsAt m (sparing_area w k l) k l (slots_in_use m l k) notes end
+Empties m w k l (page ∷ pages) notes end =
     (others : List ℕ) × (here : List Note) × (rest : List Note)
     × (slots_in_use m l k ≡ page ∷ others) × (notes ≡ here ++ rest)
-    × IsEmptied m spared l (record { area = k; page = page }) here
-    × Empties m spared k (after_notes l here) pages rest end
+    × IsEmptied m (sparing_area w k l) l (record { area = k; page = page }) here
+    × Empties m w k (after_notes l here) pages rest end
 
 -- ---- the command
 
@@ -93,7 +94,7 @@ pub record TurnsOff (m : Setting) (w : World) (l : Ledger) (k : ℕ) (events : L
   pub end : Close
   pub completes : Completes l l.flight done
   pub empties : let now = after_notes l done in
-      Empties m (sparing_area w k now) k now pages notes end
+      Empties m w k now pages notes end
   pub whole : events ≡ note_events (done ++ notes) ++ turn_off_events k end
   pub answered : answer ≡ close_answer end
   pub no_rows : rows ≡ []

@@ -4,8 +4,8 @@ use Rattle.std.specs.List.{flat_map, range_with_len}
 use Rattle.av_trace.specs.declared.command.Command.{Command}
 use Rattle.av_trace.specs.declared.reply.Reply.{Reply}
 use Rattle.av_trace.specs.Print.{text_of}
-use Rattle.av_plain.specs.Areas.{Anons, Areas, Homes, Rmap, no_anons, no_areas, no_homes}
-use Rattle.av_plain.specs.Areas.{rmap_after_all}
+use Rattle.av_plain.specs.Areas.{Anons, Areas, Homes, Items, Rmap, no_anons, no_areas, no_homes}
+use Rattle.av_plain.specs.Areas.{no_items, rmap_after_all}
 use Rattle.av_plain.specs.Choice.{ChoosesAll, Free, no_slots}
 use Rattle.av_plain.specs.Event.{Event, after_all}
 use Rattle.av_plain.specs.Fork.{IsRmapNext}
@@ -35,7 +35,7 @@ IsLegalFrom m w l (e ∷ es) w' l' =
 -- ---- legal, and with each frame and slot chosen exactly, and what reverse mapping goes by
 
 -- the memories, the ledger, what is free in the order in which it is taken, the areas, the
--- anon_vmas, and the homes of the frames
+-- anon_vmas, and the homes of the frames or, of merged ones, the items
 pub record State : Type 0 where
   pub world : World
   pub ledger : Ledger
@@ -43,10 +43,11 @@ pub record State : Type 0 where
   pub areas : Areas
   pub anons : Anons
   pub homes : Homes
+  pub items : Items
 
 -- what reverse mapping goes by
 abbrev pub rmap_of : State → Rmap
-rmap_of s = record { areas = s.areas; anons = s.anons; homes = s.homes }
+rmap_of s = record { areas = s.areas; anons = s.anons; homes = s.homes; items = s.items }
 
 -- no process lives, all frames are free, rising, and have no home, no swap area has slots, and
 -- there is no area and no anon_vma
@@ -58,6 +59,7 @@ at_first m = record {
   areas = no_areas;
   anons = no_anons;
   homes = no_homes;
+  items = no_items;
 }
 
 -- a command is answered so, and leaves this state

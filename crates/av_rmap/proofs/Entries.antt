@@ -13,19 +13,14 @@ use Rattle.av_interval.specs.declared.span.Span.{Span}
 use Rattle.av_anon.specs.Spans.{is_of}
 use Rattle.av_rmap.specs.Covered.{IsCovered, IsReached}
 use Rattle.av_rmap.specs.View.{View, AreApart, AreSpanned}
-use Rattle.av_rmap.specs.Walk.{Key, same_key, names_frame, names_seen, holds, page_at, found_in, AreItsEntries, HasSoMany}
+use Rattle.av_rmap.specs.Walk.{Key, same_key, names_frame, names_seen, holds, page_at, found_in, walk_of, AreItsEntries, HasSoMany}
 use Rattle.av_rmap.proofs.SpanLemmas.{one-span}
-
--- a look in the area of each span
-abbrev pub walk_of : View → (Pte → Bool) → ℕ → List Span → List Key
-walk_of view f i [] = []
-walk_of view f i (x ∷ xs) = found_in view f i (view.areas x.area) ++ walk_of view f i xs
 
 pub many-append : {X : Type 0} (test : X → Bool) (xs ys : List X) → how_many test (xs ++ ys) ≡ how_many test xs + how_many test ys
 many-append test [] ys = omega arith
 many-append test (x ∷ xs) ys = let h = many-append test xs ys in omega (arith, h)
 
-not_more : (n : ℕ) → (0 < n → ⊥) → n ≡ 0
+pub not_more : (n : ℕ) → (0 < n → ⊥) → n ≡ 0
 not_more zero h = refl
 not_more (suc n) h = absurd (h (omega arith))
 
@@ -39,11 +34,11 @@ is_key : (k j : Key) → k.0 ≡ j.0 → k.1 ≡ j.1 → same_key k j ≡ true
 is_key k j h h' = grind (arith, nat_tests, h, h')
 
 -- an area that holds an index has a page there
-holds-has : (area : Area) (i : ℕ) → holds i area ≡ true → has_page area (page_at i area) ≡ true
+pub holds-has : (area : Area) (i : ℕ) → holds i area ≡ true → has_page area (page_at i area) ≡ true
 holds-has area i h = grind (arith, nat_tests, h)
 
 -- and one that has a page holds its index, and has that page there
-has-holds : (area : Area) (x i : ℕ) → has_page area x ≡ true → index_of area x ≡ i → (holds i area ≡ true) × (page_at i area ≡ x)
+pub has-holds : (area : Area) (x i : ℕ) → has_page area x ≡ true → index_of area x ≡ i → (holds i area ≡ true) × (page_at i area ≡ x)
 has-holds area x i h e = (grind (arith, nat_tests, h, e), grind (arith, nat_tests, h, e))
 
 -- what a look finds is an entry of the frame, on a page of the area
@@ -52,7 +47,7 @@ pub record IsFound (view : View) (f : Pte → Bool) (area : Area) (k : Key) : Ty
   pub here : has_page area k.1 ≡ true
   pub named : f (view.entry k.0 k.1) ≡ true
 
-look-found : (view : View) (f : Pte → Bool) (i : ℕ) (k : Key) (area : Area) → 0 < how_many (same_key k) (found_in view f i (Some area))
+pub look-found : (view : View) (f : Pte → Bool) (i : ℕ) (k : Key) (area : Area) → 0 < how_many (same_key k) (found_in view f i (Some area))
     → IsFound view f area k
 look-found view f i k area h = is (holds i area) (f (view.entry area.pid (page_at i area))) refl refl
   where
@@ -78,6 +73,31 @@ look-found view f i k area h = is (holds i area) (f (view.entry area.pid (page_a
     is false c e e' = absurd (none (subst (λ (b : Bool). 0 < how_many (same_key k) (cond b (one ∷ []) []))
         (ap (λ b. b && f (view.entry area.pid (page_at i area))) e) h))
 
+-- and its linear index is that of the look
+pub look-index : (view : View) (f : Pte → Bool) (i : ℕ) (k : Key) (area : Area) → 0 < how_many (same_key k) (found_in view f i (Some area))
+    → index_of area k.1 ≡ i
+look-index view f i k area h = is (holds i area) (f (view.entry area.pid (page_at i area))) refl refl
+  where
+    one : Key
+    one = (area.pid, page_at i area)
+
+    passes : (b : Bool) → 0 < cond b 1 0 + 0 → b ≡ true
+    passes true h = refl
+    passes false h = absurd (omega arith)
+
+    there : holds i area ≡ true → k.1 ≡ page_at i area → index_of area k.1 ≡ i
+    there e p = grind (arith, nat_tests, e, p)
+
+    is : (b c : Bool) → holds i area ≡ b → f (view.entry area.pid (page_at i area)) ≡ c → index_of area k.1 ≡ i
+    is true true e e' =
+        let found : 0 < how_many (same_key k) (one ∷ []) = subst (λ (b : Bool). 0 < how_many (same_key k) (cond b (one ∷ []) []))
+        (ap (λ b. b && f (view.entry area.pid (page_at i area))) e ∙ e') h in
+        there e (key_is k one (passes (same_key k one) found)).1
+    is true false e e' = absurd (none (subst (λ (b : Bool). 0 < how_many (same_key k) (cond b (one ∷ []) []))
+        (ap (λ b. b && f (view.entry area.pid (page_at i area))) e ∙ e') h))
+    is false c e e' = absurd (none (subst (λ (b : Bool). 0 < how_many (same_key k) (cond b (one ∷ []) []))
+        (ap (λ b. b && f (view.entry area.pid (page_at i area))) e) h))
+
 -- a look in the area of an entry that the home reaches finds it
 look-finds : (view : View) (f : Pte → Bool) (home : ℕ × ℕ) (k : Key) → f (view.entry k.0 k.1) ≡ true → (r : IsReached view home k.0 k.1) →
     how_many (same_key k) (found_in view f home.1 (Some r.area)) ≡ 1
@@ -90,7 +110,7 @@ look-finds view f home k named r =
     ∙ ap (λ b. cond b 1 0 + 0) (is_key k (r.area.pid, page_at home.1 r.area) (sym r.of) (sym there.1))
 
 -- of a key of the frame, only the look in its own area finds it
-look-of : (view : View) (f : Pte → Bool) (home : ℕ × ℕ) (k : Key) → AreApart view → f (view.entry k.0 k.1) ≡ true
+pub look-of : (view : View) (f : Pte → Bool) (home : ℕ × ℕ) (k : Key) → AreApart view → f (view.entry k.0 k.1) ≡ true
     → (r : IsReached view home k.0 k.1) →
     (a : ℕ) → how_many (same_key k) (found_in view f home.1 (view.areas a)) ≡ cond (a == r.number) 1 0
 look-of view f home k apart named r a = elim (cases_eq a r.number) [
@@ -107,7 +127,7 @@ look-of view f home k apart named r a = elim (cases_eq a r.number) [
         ne (apart a r.number k.1 area r.area is r.stands (found.of ∙ sym r.of) found.here r.here))
 
 -- a key that is not the frame's is never found
-look-none : (view : View) (f : Pte → Bool) (i : ℕ) (k : Key) → f (view.entry k.0 k.1) ≡ false → (o : Option Area) →
+pub look-none : (view : View) (f : Pte → Bool) (i : ℕ) (k : Key) → f (view.entry k.0 k.1) ≡ false → (o : Option Area) →
     how_many (same_key k) (found_in view f i o) ≡ 0
 look-none view f i k not_it None = refl
 look-none view f i k not_it (Some area) =
@@ -116,7 +136,7 @@ look-none view f i k not_it (Some area) =
     two : f (view.entry k.0 k.1) ≡ true → ⊥
     two h = cc
 
-walk-of : (view : View) (f : Pte → Bool) (i : ℕ) (k : Key) (n : ℕ)
+pub walk-of : (view : View) (f : Pte → Bool) (i : ℕ) (k : Key) (n : ℕ)
     → ((a : ℕ) → how_many (same_key k) (found_in view f i (view.areas a)) ≡ cond (a == n) 1 0) →
     (xs : List Span) → how_many (same_key k) (walk_of view f i xs) ≡ how_many (is_of n) xs
 walk-of view f i k n each [] = refl
@@ -124,12 +144,12 @@ walk-of view f i k n each (x ∷ xs) =
     let h = each x.area in let rest = walk-of view f i k n each xs in
     many-append (same_key k) (found_in view f i (view.areas x.area)) (walk_of view f i xs) ∙ omega (arith, h, rest)
 
-walk-none : (view : View) (f : Pte → Bool) (i : ℕ) (k : Key) → ((o : Option Area) → how_many (same_key k) (found_in view f i o) ≡ 0)
+pub walk-none : (view : View) (f : Pte → Bool) (i : ℕ) (k : Key) → ((a : ℕ) → how_many (same_key k) (found_in view f i (view.areas a)) ≡ 0)
     → (xs : List Span) →
     how_many (same_key k) (walk_of view f i xs) ≡ 0
 walk-none view f i k each [] = refl
 walk-none view f i k each (x ∷ xs) =
-    let h = each (view.areas x.area) in let rest = walk-none view f i k each xs in
+    let h = each x.area in let rest = walk-none view f i k each xs in
     many-append (same_key k) (found_in view f i (view.areas x.area)) (walk_of view f i xs) ∙ omega (arith, h, rest)
 
 -- the walk finds the entries that pass the test, where each is reached from the home
@@ -142,7 +162,7 @@ walk-is view f home spanned apart covered k = is (f (view.entry k.0 k.1)) refl
         let r = covered k.0 k.1 e in
         walk-of view f home.1 k r.number (look-of view f home k apart e r) (view.spans home.0)
         ∙ one-span view home.0 r.number r.area spanned r.stands r.linked ∙ sym (ap one_if e)
-    is false e = walk-none view f home.1 k (look-none view f home.1 k e) (view.spans home.0) ∙ sym (ap one_if e)
+    is false e = walk-none view f home.1 k (λ a. look-none view f home.1 k e (view.areas a)) (view.spans home.0) ∙ sym (ap one_if e)
 
 -- so the looks find as many as there are
 pub walk-many : (view : View) (f : Pte → Bool) (home : ℕ × ℕ) (n : ℕ) → AreSpanned view → AreApart view → IsCovered view f home

@@ -1,8 +1,9 @@
 -- What is left to look at, one look after the other.
-use Rattle.std.proofs.Common.{◌≡◌, ℕ, ◌+◌, ◌<◌, ◌==◌, Bool, true, false, cond, ◌&&◌, List, [], ◌∷◌, ◌++◌, Option, Some, None, refl, sym, ap, subst, ◌∙◌, arith, inl, inr, append_assoc, length, IsSomeAnd, eq-eqb, eqb-true}
+use Rattle.std.proofs.Common.{◌≡◌, ℕ, ◌+◌, ◌<◌, ◌==◌, Bool, true, false, cond, ◌&&◌, ◌||◌, List, [], ◌∷◌, ◌++◌, Option, Some, None, refl, sym, ap, subst, ◌∙◌, arith, inl, inr, append_assoc, length, IsSomeAnd, eq-eqb, eqb-true}
 use Rattle.std.proofs.lemmas.Bool.{false≢true}
 use Rattle.std.proofs.lemmas.Bool.Decides.{nat_tests}
 use Rattle.std.proofs.lemmas.List.{length-append}
+use Rattle.std.specs.List.{list_any}
 use Rattle.av_base.specs.Words.{how_many}
 use Rattle.av_chain.specs.Links.{one_if}
 use Rattle.av_pagetable.specs.declared.pte.Pte.{Pte}
@@ -10,8 +11,7 @@ use Rattle.av_vma.specs.declared.area.Area.{Area}
 use Rattle.av_interval.specs.declared.span.Span.{Span}
 use Rattle.av_interval.specs.Search.{IsBefore, AllAfter, IsOrdered, is_past, overlaps, overlap_of}
 use Rattle.av_rmap.specs.View.{View, AreSpanned}
-use Rattle.av_rmap.specs.Walk.{Key, holds, page_at, found_in, looks_to_last, passes_in}
-use Rattle.av_rmap.proofs.Entries.{walk_of}
+use Rattle.av_rmap.specs.Walk.{Key, holds, page_at, found_in, looks_to_last, passes_in, walk_of}
 use Rattle.av_rmap.proofs.SpanLemmas.{IsSpanOf, AreSpans, are_spans, overlaps-holds}
 
 -- the spans past the place
@@ -162,6 +162,9 @@ pub record Found (view : View) (f : Pte → Bool) (i : ℕ) (after : Option (ℕ
   pub walk : walk_of view f i (rest after xs) ≡ found_in view f i (view.areas k.1) ++ walk_of view f i (rest (Some k) xs)
   pub count : how_many (overlaps i) (rest after xs) ≡ 1 + how_many (overlaps i) (rest (Some k) xs)
   pub looks : 0 < length (walk_of view f i (rest after xs)) → looks_to_last view f i (rest after xs) ≡ 1 + looks_to_last view f i (rest (Some k) xs)
+  pub any : (test : Option Area → Bool) → ((area : Area) → holds i area ≡ false → test (Some area) ≡ false)
+      → list_any (λ x. test (view.areas x.area)) (rest after xs)
+      ≡ (test (view.areas k.1) || list_any (λ x. test (view.areas x.area)) (rest (Some k) xs))
 
 -- a span that is past, or does not hold the index, takes no look
 skip-walk : (view : View) (f : Pte → Bool) (i : ℕ) (after : Option (ℕ × ℕ)) (x : Span) (xs : List Span) → IsSpanOf view x →
@@ -195,6 +198,19 @@ skip-looks view f i after x xs s none = is (is_past after x) refl (overlaps i x)
     is true e true e' = cc
     is true e false e' = ap (λ b. looks_to_last view f i (cond b (x ∷ rest after xs) (rest after xs))) e ∙ no-look view f i x (rest after xs) s e'
 
+skip-any : (view : View) (i : ℕ) (test : Option Area → Bool) → ((area : Area) → holds i area ≡ false → test (Some area) ≡ false) →
+    (after : Option (ℕ × ℕ)) (x : Span) (xs : List Span) → IsSpanOf view x → (is_past after x && overlaps i x) ≡ false
+    → list_any (λ y. test (view.areas y.area)) (rest after (x ∷ xs)) ≡ list_any (λ y. test (view.areas y.area)) (rest after xs)
+skip-any view i test off after x xs s none = is (is_past after x) refl (overlaps i x) refl
+  where
+    is : (b : Bool) → is_past after x ≡ b → (c : Bool) → overlaps i x ≡ c
+        → list_any (λ y. test (view.areas y.area)) (rest after (x ∷ xs)) ≡ list_any (λ y. test (view.areas y.area)) (rest after xs)
+    is false e c e' = ap (λ b. list_any (λ y. test (view.areas y.area)) (cond b (x ∷ rest after xs) (rest after xs))) e
+    is true e true e' = cc
+    is true e false e' = ap (λ b. list_any (λ y. test (view.areas y.area)) (cond b (x ∷ rest after xs) (rest after xs))) e
+        ∙ ap (λ t. t || list_any (λ y. test (view.areas y.area)) (rest after xs))
+        (ap test s.stands ∙ off s.area (sym (overlaps-holds view x i s) ∙ e'))
+
 next-found : (view : View) (f : Pte → Bool) (i : ℕ) (after : Option (ℕ × ℕ)) (k : ℕ × ℕ) (xs : List Span) → IsOrdered xs → AreSpans view xs →
     overlap_of after i xs ≡ Some k → Found view f i after k xs
 next-found view f i after k [] ordered spans h = cc
@@ -219,6 +235,8 @@ next-found view f i after k (x ∷ xs) ordered spans h =
           looks = λ some. skip-looks view f i after x xs spans.0 none
               ∙ found.looks (subst (λ (ks : List Key). 0 < length ks) (skip-walk view f i after x xs spans.0 none) some)
               ∙ sym (ap (λ zs. 1 + looks_to_last view f i zs) later);
+          any = λ test off. skip-any view i test off after x xs spans.0 none ∙ found.any test off
+              ∙ sym (ap (λ zs. test (view.areas k.1) || list_any (λ y. test (view.areas y.area)) zs) later);
         }
 
     is : (overlap_of after i xs ≡ Some k → Found view f i after k xs) → (b c : Bool) → is_past after x ≡ b → overlaps i x ≡ c
@@ -243,6 +261,9 @@ next-found view f i after k (x ∷ xs) ordered spans h =
           looks = λ some. ap (looks_to_last view f i) here
               ∙ a-look view f i x xs e' (subst (λ (zs : List Span). 0 < length (walk_of view f i zs)) here some)
               ∙ sym (ap (λ zs. 1 + looks_to_last view f i zs) later);
+          any = λ test off. ap (list_any (λ y. test (view.areas y.area))) here
+              ∙ ap (λ a. test (view.areas a) || list_any (λ y. test (view.areas y.area)) xs) area
+              ∙ sym (ap (λ zs. test (view.areas k.1) || list_any (λ y. test (view.areas y.area)) zs) later);
         }
       where
         same : {j : ℕ × ℕ} → Some j ≡ Some k → j ≡ k

@@ -6,9 +6,9 @@ use Rattle.av_interval.specs.declared.span.Span.{Span}
 use Rattle.av_rmap.specs.Covered.{IsCovered}
 use Rattle.av_rmap.specs.Seen.{unseen, unseen_in}
 use Rattle.av_rmap.specs.View.{View, AreApart, AreSpanned}
-use Rattle.av_rmap.specs.Walk.{Key, names_frame, names_seen, passes_in}
+use Rattle.av_rmap.specs.Walk.{Key, names_frame, names_seen, passes_in, walk_of}
 use Rattle.av_rmap.proofs.Changes.{IsChanged, IsOfFrame, area-now, one-changed, passes-before}
-use Rattle.av_rmap.proofs.Entries.{none-named, none-seen, walk_of}
+use Rattle.av_rmap.proofs.Entries.{none-named, none-seen}
 use Rattle.av_rmap.proofs.Looks.{Found, finds-nothing, finds-one, rest, turn_nothing}
 
 unseen-twice : (f : ℕ) (e : Pte) → unseen f (unseen f e) ≡ unseen f e

@@ -6,9 +6,8 @@ use Rattle.av_pagetable.specs.declared.pte.Pte.TheVariants.{Empty, Zero, Here, A
 use Rattle.av_interval.specs.declared.span.Span.{Span}
 use Rattle.av_rmap.specs.Unmap.{away, away_in}
 use Rattle.av_rmap.specs.View.{View}
-use Rattle.av_rmap.specs.Walk.{names_frame}
+use Rattle.av_rmap.specs.Walk.{names_frame, walk_of}
 use Rattle.av_rmap.proofs.Changes.{IsChanged, IsOfFrame, area-now, one-changed}
-use Rattle.av_rmap.proofs.Entries.{walk_of}
 use Rattle.av_rmap.proofs.Looks.{Found, rest}
 
 away-twice : (f : ℕ) (s : Slot) (e : Pte) → away f s (away f s e) ≡ away f s e

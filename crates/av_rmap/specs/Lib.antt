@@ -1,5 +1,8 @@
 pub mod Ahead
 pub mod Covered
+pub mod ItemLists
+pub mod Items
+pub mod Locked
 pub mod Seen
 pub mod Sorted
 pub mod Stores

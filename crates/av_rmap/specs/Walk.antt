@@ -1,6 +1,6 @@
 -- The entries of a frame or a slot, and what one look finds.
 use Rattle.std.specs.Prelude.{◌≡◌, ℕ, ◌+◌, ◌-◌, Bool, false, ◌&&◌, ◌==◌, if◌then◌else◌, List, []}
-use Rattle.std.specs.Prelude.{◌∷◌, Option, Some, None, length}
+use Rattle.std.specs.Prelude.{◌∷◌, ◌++◌, Option, Some, None, length}
 use Rattle.av_base.specs.Words.{how_many, within}
 use Rattle.av_base.specs.declared.slot.Slot.{Slot}
 use Rattle.av_chain.specs.Links.{one_if}
@@ -87,6 +87,16 @@ found_in view passes index None = []
 found_in view passes index (Some area) =
     if holds index area && passes (view.entry area.pid (page_at index area))
     then (area.pid, page_at index area) ∷ [] else []
+
+-- what a look in the area of each span finds
+abbrev pub walk_of : View → (Pte → Bool) → ℕ → List Span → List Key
+walk_of view passes index [] = []
+walk_of view passes index (x ∷ xs) =
+    found_in view passes index (view.areas x.area) ++ walk_of view passes index xs
+
+-- what all looks from a home find
+abbrev pub found_from : View → (Pte → Bool) → ℕ × ℕ → List Key
+found_from view passes home = walk_of view passes home.1 (view.spans home.0)
 
 abbrev pub list_of : Option Key → List Key
 list_of None = []

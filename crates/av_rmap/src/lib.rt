@@ -18,6 +18,12 @@
 //! end once as many were found. Proved: they take exactly the steps of a walk up to the last entry,
 //! and none where no entry names the frame.
 //!
+//! A merged frame has no home. `Items` keeps from which places its entries are found, each a root
+//! and a linear index, and `walk_merged` goes from one to the next. Proved: where each entry is
+//! reached from an item, no item stands twice, and no chain holds the anon_vmas of two items, it
+//! finds each entry once, and takes as many steps as walks from all of its items do together. The
+//! last is so where each item is of a root, by chain order.
+//!
 //! `Stores` shows areas, anon_vmas and page tables as they are kept, and `StoresMut` lends the
 //! tables for writing. Overlaps are found a batch at a time (`Look::next`), by a call of
 //! `Spans::overlaps`; that this is how, in one way through the tree, is no clause of `next`. Not
@@ -27,7 +33,10 @@
 
 mod ahead;
 pub mod covered;
+pub mod items;
+pub mod locked;
 pub mod look;
+pub mod merged;
 pub mod seen;
 pub mod sorted;
 pub mod stores;

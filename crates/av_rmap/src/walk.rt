@@ -1,13 +1,14 @@
 //! The entries of a frame or of a slot, found through a home.
 
 ghost use Rattle.std.specs.Prelude.{◌≡◌, ℕ, ◌+◌, ◌≤◌, ◌++◌, Bool, true, List, length, vec_len};
-ghost use Rattle.std.specs.Prelude.{vec_capacity, IsSomeAnd};
+ghost use Rattle.std.specs.Prelude.{vec_capacity, IsSomeAnd, Some};
 ghost use Rattle.av_base.specs.Words.{how_many};
 ghost use Rattle.av_interval.specs.Search.{overlaps};
 ghost use Rattle.av_pagetable.specs.declared.pte.Pte.{Pte as Entry};
 ghost use Rattle.av_rmap.specs.View.{AreApart, AreSpanned, View};
 ghost use Rattle.av_rmap.specs.Covered.{IsCovered};
-ghost use Rattle.av_rmap.specs.Walk.{AreItsEntries, Key, found_in, holds, list_of, names};
+ghost use Rattle.av_rmap.specs.Walk.{AreItsEntries, Key, found_from, found_in, holds, list_of};
+ghost use Rattle.av_rmap.specs.Walk.{looks_from, names};
 
 use crate::ahead::Ahead;
 use crate::look::Look;
@@ -35,6 +36,26 @@ pub fn walk<K: Look<L>, L: Ledger>(
         × AreItsEntries (K.view look.now) (names target) keys }
     ensures counted { steps.new ≡ steps.old
         + how_many (overlaps home.1) ((K.view look.now).spans home.0) }
+{
+    find_from(look, target, home, into, steps);
+}
+
+/// Appends what the looks from a home find, be that all of the target's entries or some. It takes
+/// no memory.
+pub(crate) fn find_from<K: Look<L>, L: Ledger>(
+    look: &K,
+    target: Target,
+    home: (u64, u64),
+    into: &mut Vec<(u16, u64)>,
+    steps: &mut Steps<L>,
+)
+    requires spanned { AreSpanned (K.view look.now) }
+    requires room { vec_len into.old + length (found_from (K.view look.now) (names target) home)
+        ≤ vec_capacity into.old }
+    ensures entries { into.new.items
+        ≡ into.old.items ++ found_from (K.view look.now) (names target) home }
+    ensures capacity { vec_capacity into.new ≡ vec_capacity into.old }
+    ensures counted { steps.new ≡ steps.old + looks_from (K.view look.now) (Some home) }
 {
     let (anon, index) = home;
     let mut ahead = Ahead::new(look, anon, index);

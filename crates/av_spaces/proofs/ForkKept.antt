@@ -2,8 +2,10 @@
 use Rattle.std.proofs.Common.{◌≡◌, ◌≢◌, ℕ, zero, suc, ◌+◌, ◌<◌, ◌≤◌, ◌↔◌, ◌⊎◌, true, false, cond, ne_eqb, List, [], ◌∷◌, ◌++◌, length, take, get_or, inl, inr, Option, Some, None, option_map, IfSome, IsSome, IsSomeAnd, refl, sym, ap, subst, ◌∙◌, arith}
 use Rattle.std.proofs.lemmas.Bool.{cases_eq, cases_lt}
 use Rattle.std.proofs.lemmas.List.{take_all, take_more}
+use Rattle.av_base.specs.Flags.{no_flags}
 use Rattle.av_base.specs.Words.{is_in}
 use Rattle.av_vma.specs.declared.area.Area.{Area}
+use Rattle.av_vma.specs.Fork.{areas_to_fork, own_to_fork}
 use Rattle.av_vma.specs.Pages.{pages_in}
 use Rattle.av_anon.specs.declared.anons.Anons.{Anons}
 use Rattle.av_anon.specs.declared.infos.Info.{Info}
@@ -102,17 +104,17 @@ module _ (s : AllSpaces) (old : Anons) (child : ℕ) (areas : List Area) (dead :
   kept_step : (mid : AllSpaces) (a : Anons) (done : List Area) (area : Area) → IsForked s old mid a child done
       → IsKept s old (kin_after done (kin_of s old))
       → IsKept s old (kin_after (done ++ area ∷ []) (kin_of s old))
-  kept_step mid a done area f h = subst (IsKept s old) (ap (kin_with area.anon) f.kin ∙ sym (kin_after-more done area (kin_of s old))) (record {
+  kept_step mid a done area f h = subst (IsKept s old) (ap (kin_with (own_to_fork area)) f.kin ∙ sym (kin_after-more done area (kin_of s old))) (record {
     kin = λ v. by v (info_of old v) (now.kin v);
-    chains = λ v owned. kept_chain mid a f.fit area.anon v (owned_still mid _ f.spawned v owned) ∙ now.chains v owned;
+    chains = λ v owned. kept_chain mid a f.fit (own_to_fork area) v (owned_still mid _ f.spawned v owned) ∙ now.chains v owned;
   })
     where
       now : IsKept s old (kin_of mid a)
       now = subst (IsKept s old) (sym f.kin) h
 
-      by : (v : ℕ) (o : Option Info) → IfSome o (IsKin (info_of a v)) → IfSome o (IsKin ((kin_with area.anon (kin_of mid a)).info v))
+      by : (v : ℕ) (o : Option Info) → IfSome o (IsKin (info_of a v)) → IfSome o (IsKin ((kin_with (own_to_fork area) (kin_of mid a)).info v))
       by v None h = tt
-      by v (Some was) h = kept_kin mid a f.fit area.anon v was h
+      by v (Some was) h = kept_kin mid a f.fit (own_to_fork area) v was h
 
   kept_at : (n : ℕ) → IsKept s old (kin_after (take n areas) (kin_of s old))
   kept_at zero = record { kin = λ v. by (info_of old v); chains = λ v owned. refl }
@@ -123,7 +125,7 @@ module _ (s : AllSpaces) (old : Anons) (child : ℕ) (areas : List Area) (dead :
   kept_at (suc n) = by (cases_lt n (length areas)) (kept_at n)
     where
       none : Area
-      none = record { pid = 0; start = 0; end = 0; prot = record { read = false; write = false; execute = false }; flags = 0; pgoff = 0; anon = None }
+      none = record { pid = 0; start = 0; end = 0; prot = record { read = false; write = false; execute = false }; flags = no_flags; pgoff = 0; anon = None }
 
       by : (n < length areas) ⊎ (length areas ≤ n) → IsKept s old (kin_after (take n areas) (kin_of s old)) →
           IsKept s old (kin_after (take (suc n) areas) (kin_of s old))
@@ -145,6 +147,7 @@ module _ (s : AllSpaces) (old : Anons) (child : ℕ) (areas : List Area) (dead :
 -- by the parent's areas
 pub kept_by : (s : AllSpaces) (old : Anons) (s' : AllSpaces) (new : Anons) (child : ℕ) (parent : Option (List Area))
     → areas_of s.processes child ≡ None
-    → IsSomeAnd parent (IsForked s old s' new child) → IsSomeAnd parent (GoInTurn s old child) → AreKept s old s' new
+    → IsSomeAnd parent (λ areas. IsForked s old s' new child (areas_to_fork areas)) → IsSomeAnd parent (λ areas. GoInTurn s old child (areas_to_fork areas))
+    → AreKept s old s' new
 kept_by s old s' new child None dead f turn = absurd f
-kept_by s old s' new child (Some areas) dead f turn = kept s old child areas dead turn s' new f
+kept_by s old s' new child (Some areas) dead f turn = kept s old child (areas_to_fork areas) dead turn s' new f

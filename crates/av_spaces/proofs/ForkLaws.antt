@@ -1,14 +1,16 @@
 -- The areas of a process go to its child, one by one: what is so after each.
-use Rattle.std.proofs.Common.{◌≡◌, ◌≢◌, ℕ, zero, suc, ◌+◌, ◌<◌, ◌≤◌, false, cond, List, [], ◌∷◌, ◌++◌, length, drop, take, slice_index_or, slice_set, inl, inr, Option, Some, None, option_map, IfSome, IsSomeAnd, refl, sym, ap, subst, ◌∙◌, arith}
+use Rattle.std.proofs.Common.{◌≡◌, ◌≢◌, ℕ, zero, suc, ◌+◌, ◌<◌, ◌≤◌, Bool, true, false, not, cond, List, [], ◌∷◌, ◌++◌, length, drop, take, slice_index_or, slice_set, inl, inr, Option, Some, None, is_some, option_map, IfSome, IsSome, IsSomeAnd, refl, sym, ap, subst, ◌∙◌, arith}
 use Rattle.std.proofs.lemmas.Bool.{cases_lt, lt-ltb}
 use Rattle.std.proofs.lemmas.Bool.Decides.{nat_tests}
-use Rattle.std.proofs.lemmas.List.{drop_more, take_all, take_more}
-use Rattle.std.proofs.lemmas.List.Elements.{filter_map-append}
+use Rattle.std.proofs.lemmas.List.{append-nil, drop_more, take_all, take_more}
+use Rattle.std.proofs.lemmas.List.Elements.{filter-append, filter_map-append}
+use Rattle.std.proofs.lemmas.Option.{same_Some}
 use Rattle.std.specs.Prelude.{nat_lt}
 use Rattle.std.specs.List.{cons_option, AllByRecursion}
 use Rattle.av_base.specs.Words.{with_at}
 use Rattle.av_vma.specs.declared.area.Area.{Area}
 use Rattle.av_vma.specs.Areas.{area_of}
+use Rattle.av_vma.specs.Fork.{areas_to_fork, own_to_fork}
 use Rattle.av_vma.specs.Index.{first_of, past_of}
 use Rattle.av_vma.specs.Pages.{IsWhole}
 use Rattle.av_vmatree.specs.declared.span.Span.{Span}
@@ -59,11 +61,48 @@ forks_none child old before tree spans order none empty = record {
 pub areas_in_child-more : (child : ℕ) (areas : List Area) (area : Area) (k : Lineage)
     → areas_in_child child (areas ++ area ∷ []) k ≡ areas_in_child child areas k ++ area_in_child child (kin_after areas k) area ∷ []
 areas_in_child-more child [] area k = refl
-areas_in_child-more child (a ∷ areas) area k = ap (λ l. area_in_child child k a ∷ l) (areas_in_child-more child areas area (kin_with a.anon k))
+areas_in_child-more child (a ∷ areas) area k = ap (λ l. area_in_child child k a ∷ l) (areas_in_child-more child areas area (kin_with (own_to_fork a) k))
 
-pub kin_after-more : (areas : List Area) (area : Area) (k : Lineage) → kin_after (areas ++ area ∷ []) k ≡ kin_with area.anon (kin_after areas k)
+pub kin_after-more : (areas : List Area) (area : Area) (k : Lineage) → kin_after (areas ++ area ∷ []) k ≡ kin_with (own_to_fork area) (kin_after areas k)
 kin_after-more [] area k = refl
-kin_after-more (a ∷ areas) area k = kin_after-more areas area (kin_with a.anon k)
+kin_after-more (a ∷ areas) area k = kin_after-more areas area (kin_with (own_to_fork a) k)
+
+-- whether an area goes over
+abbrev over : Area → Bool
+over area = not area.flags.dont_fork
+
+-- one that goes over is the last of them, and one that doesn't is none of them
+goes_over : (areas : List Area) (area : Area) → area.flags.dont_fork ≡ false → areas_to_fork (areas ++ area ∷ []) ≡ areas_to_fork areas ++ area ∷ []
+goes_over areas area goes = filter-append over areas (area ∷ []) ∙ ap (λ b. areas_to_fork areas ++ cond (not b) (area ∷ []) []) goes
+
+left_out : (areas : List Area) (area : Area) → area.flags.dont_fork ≡ true → areas_to_fork (areas ++ area ∷ []) ≡ areas_to_fork areas
+left_out areas area out = filter-append over areas (area ∷ []) ∙ ap (λ b. areas_to_fork areas ++ cond (not b) (area ∷ []) []) out
+    ∙ append-nil (areas_to_fork areas)
+
+-- the first of those that go over are those of the first areas, if more of these
+record AreFirst (n : ℕ) (areas : List Area) : Type 0 where
+  m : ℕ
+  are : take n (areas_to_fork areas) ≡ areas_to_fork (take m areas)
+
+first_to_fork : (areas : List Area) (n : ℕ) → AreFirst n areas
+first_to_fork [] zero = record { m = 0; are = refl }
+first_to_fork [] (suc n) = record { m = 0; are = refl }
+first_to_fork (a ∷ areas) zero = record { m = 0; are = refl }
+first_to_fork (a ∷ areas) (suc n) = by (first_to_fork areas n) (first_to_fork areas (suc n)) (not a.flags.dont_fork) refl
+  where
+    by : AreFirst n areas → AreFirst (suc n) areas → (b : Bool) → not a.flags.dont_fork ≡ b → AreFirst (suc n) (a ∷ areas)
+    by rest all true e =
+        record {
+          m = suc rest.m;
+          are = ap (λ b. take (suc n) (cond b (a ∷ areas_to_fork areas) (areas_to_fork areas))) e ∙ ap (λ l. a ∷ l) rest.are
+              ∙ sym (ap (λ b. cond b (a ∷ areas_to_fork (take rest.m areas)) (areas_to_fork (take rest.m areas))) e);
+        }
+    by rest all false e =
+        record {
+          m = suc all.m;
+          are = ap (λ b. take (suc n) (cond b (a ∷ areas_to_fork areas) (areas_to_fork areas))) e ∙ all.are
+              ∙ sym (ap (λ b. cond b (a ∷ areas_to_fork (take all.m areas)) (areas_to_fork (take all.m areas))) e);
+        }
 
 -- the first of the areas are those of the first spans
 areas_by-take : (f : ℕ → Option Area) (p n : ℕ) (spans : List Span) → AreNumbered f p spans → areas_by f (take n spans) ≡ take n (areas_by f spans)
@@ -178,14 +217,49 @@ module _ (child p : ℕ) (old areas : List (Option Area)) (tree : List Span) (be
       subst (λ o. IfSome o (λ area. IsFree (is_page_taken tree) (first_of area) (past_of area))) (sym n.now)
       (subst (λ from. IsFree (is_page_taken tree) from (past_of n.area)) n.is.from (free_above tree s.from (past_of n.area) ends_below))
 
+  pub next_used : IsSome (area_of areas s.area)
+  next_used = ap is_some next.now
+
+  abbrev earlier : List Area
+  earlier = areas_by (area_of old) (take i spans)
+
+  more : (area : Area) → area_of old s.area ≡ Some area → areas_by (area_of old) (take (i + 1) spans) ≡ earlier ++ area ∷ []
+  more area was = ap (areas_by (area_of old)) (take_more spans i (record { from = 0; to = 0; area = 0 }) inside)
+      ∙ filter_map-append (λ (t : Span). area_of old t.area) (take i spans) (s ∷ []) ∙ ap (λ o. earlier ++ cons_option o []) was
+
+  -- the area doesn't go over
+  pub forks_without : (area : Area) → area_of areas s.area ≡ Some area → area.flags.dont_fork ≡ true
+      → IsForking child old areas tree before anons spans (i + 1)
+  forks_without area is out =
+      let n = next in
+      let k = kin_by old before in
+      let same : n.area ≡ area = same_Some n.area area (sym n.now ∙ is) in
+      let all : areas_to_fork (areas_by (area_of old) (take (i + 1) spans)) ≡ areas_to_fork earlier =
+      ap areas_to_fork (more area (n.was ∙ ap Some same)) ∙ left_out earlier area out in
+      let now : HasForked child old before (take (i + 1) spans) areas tree anons = record {
+        stands = h.done.stands;
+        areas = h.done.areas ∙ sym (ap (λ l. areas_in_child child l k) all);
+        kin = h.done.kin ∙ sym (ap (λ l. kin_after l k) all);
+        order = h.done.order;
+      } in
+      record {
+        done = now;
+        below = all_as (λ t. AllByRecursion (λ u. t.to ≤ u.from) (s ∷ left)) (λ t. AllByRecursion (λ u. t.to ≤ u.from) left) tree
+            (λ t both. both.1) below;
+        between = λ n less. elim (cases_lt i n) [
+          | inl late ↦ let e : i + 1 ≡ n = omega (arith, late, less) in
+              (areas, tree, anons, subst (λ n. HasForked child old before (take n spans) areas tree anons) e now)
+          | inr early ↦ h.between n early
+        ];
+      }
+
   module _ (new : List (Option Area)) (after : List Span) (anons' : Anons) (stands : Stays child (area_of areas) (area_of new) after) where
-    forks_as : (area : Area) (number : ℕ) → area_of old s.area ≡ Some area → IsAreaOf p s area
+    forks_as : (area : Area) (number : ℕ) → area_of old s.area ≡ Some area → IsAreaOf p s area → area.flags.dont_fork ≡ false
         → IsForkedTo child area areas tree anons new after anons' number
         → IsForking child old new after before anons' spans (i + 1)
-    forks_as area number was is g =
+    forks_as area number was is goes g =
         let k = kin_by old before in
         let x = span number (first_of area) (past_of area) in
-        let earlier = areas_by (area_of old) (take i spans) in
         let made = area_in_child child (kin_by areas anons) area in
         let begins : AllByRecursion (λ t. t.from < first_of area) tree =
         subst (λ from. AllByRecursion (λ t. t.from < from) tree) is.from (begin_below tree s.from h.done.stands.areas.spans_are.apart ends_below) in
@@ -196,15 +270,14 @@ module _ (child p : ℕ) (old areas : List (Option Area)) (tree : List Span) (be
         let list : areas_by (area_of new) after ≡ areas_by (area_of areas) tree ++ made ∷ [] =
         ap (areas_by (area_of new)) last ∙ filter_map-append (λ (t : Span). area_of new t.area) tree (x ∷ [])
         ∙ (λ j. kept j ++ cons_option (here j) []) in
-        let more : areas_by (area_of old) (take (i + 1) spans) ≡ earlier ++ area ∷ [] =
-        ap (areas_by (area_of old)) (take_more spans i (record { from = 0; to = 0; area = 0 }) inside)
-        ∙ filter_map-append (λ (t : Span). area_of old t.area) (take i spans) (s ∷ []) ∙ ap (λ o. earlier ++ cons_option o []) was in
+        let all : areas_to_fork (areas_by (area_of old) (take (i + 1) spans)) ≡ areas_to_fork earlier ++ area ∷ [] =
+        ap areas_to_fork (more area was) ∙ goes_over earlier area goes in
         let now : HasForked child old before (take (i + 1) spans) new after anons' = record {
           stands = stays_trans child (area_of old) (area_of areas) (area_of new) tree after h.done.stands stands;
           areas =
               list ∙ (λ j. h.done.areas j ++ area_in_child child (h.done.kin j) area ∷ [])
-              ∙ sym (ap (λ l. areas_in_child child l k) more ∙ areas_in_child-more child earlier area k);
-          kin = g.kin ∙ ap (kin_with area.anon) h.done.kin ∙ sym (ap (λ l. kin_after l k) more ∙ kin_after-more earlier area k);
+              ∙ sym (ap (λ l. areas_in_child child l k) all ∙ areas_in_child-more child (areas_to_fork earlier) area k);
+          kin = g.kin ∙ ap (kin_with (own_to_fork area)) h.done.kin ∙ sym (ap (λ l. kin_after l k) all ∙ kin_after-more (areas_to_fork earlier) area k);
           order = g.order;
         } in
         record {
@@ -221,12 +294,12 @@ module _ (child p : ℕ) (old areas : List (Option Area)) (tree : List Span) (be
           ];
         }
 
-    pub forks_more : IsSomeAnd (area_of areas s.area) (λ area. (number : ℕ) × IsForkedTo child area areas tree anons new after anons' number)
+    pub forks_more : (area : Area) → area_of areas s.area ≡ Some area → area.flags.dont_fork ≡ false → IsSomeAnd (area_of areas s.area) (λ area. (number : ℕ) × IsForkedTo child area areas tree anons new after anons' number)
         → IsForking child old new after before anons' spans (i + 1)
-    forks_more forked =
+    forks_more area is goes forked =
         let n = next in
         let g = subst (λ o. IsSomeAnd o (λ area. (number : ℕ) × IsForkedTo child area areas tree anons new after anons' number)) n.now forked in
-        forks_as n.area g.0 n.was n.is g.1
+        forks_as n.area g.0 n.was n.is (ap (λ (a : Area). a.flags.dont_fork) (same_Some n.area area (sym n.now ∙ is)) ∙ goes) g.1
 
 -- at last
 module _ (child : ℕ) (old areas : List (Option Area)) (tree : List Span) (before anons : Anons) (spans : List Span) (i : ℕ)
@@ -257,7 +330,7 @@ module _ (child parent : ℕ) (old : List (Option Area)) (before mid : Trees) (a
   -- the child's tree is put into its place
   forked_by : (new : List (Option Area)) (tree done : List Span) (a' : Anons) → areas_of (spaces_by (area_of old) before) child ≡ None
       → HasForked child old a done new tree a' → IsForked (all_spaces old before) a (all_spaces new (slice_set mid child (Some tree))) a' child
-      (areas_by (area_of old) done)
+      (areas_to_fork (areas_by (area_of old) done))
   forked_by new tree done a' dead h = record {
     spawned = subst (IsSpawned (spaces_by (area_of old) before) (spaces_by (area_of new) (slice_set mid child (Some tree))) child) h.areas
         (spawns (area_of old) (area_of new) before mid child tree (spaces_by (area_of old) before) trees refl dead (λ _. h.stands) grown place);
@@ -270,23 +343,27 @@ module _ (child parent : ℕ) (old : List (Option Area)) (before mid : Trees) (a
   pub forked : (new : List (Option Area)) (tree : List Span) (a' : Anons) (s : AllSpaces) → all_spaces old before ≡ s
       → areas_of s.processes child ≡ None
       → HasForked child old a spans new tree a'
-      → IsSomeAnd (areas_of s.processes parent) (IsForked s a (all_spaces new (slice_set mid child (Some tree))) a' child)
+      → IsSomeAnd (areas_of s.processes parent) (λ areas. IsForked s a (all_spaces new (slice_set mid child (Some tree))) a' child (areas_to_fork areas))
   forked new tree a' s view dead h =
       subst (λ (s : AllSpaces). areas_of s.processes child ≡ None
-      → IsSomeAnd (areas_of s.processes parent) (IsForked s a (all_spaces new (slice_set mid child (Some tree))) a' child)) view
-      (λ dead. subst (λ o. IsSomeAnd o (IsForked (all_spaces old before) a (all_spaces new (slice_set mid child (Some tree))) a' child)) (sym there)
+      → IsSomeAnd (areas_of s.processes parent) (λ areas. IsForked s a (all_spaces new (slice_set mid child (Some tree))) a' child (areas_to_fork areas)))
+      view
+      (λ dead. subst (λ o. IsSomeAnd o (λ areas. IsForked (all_spaces old before) a (all_spaces new (slice_set mid child (Some tree))) a' child
+      (areas_to_fork areas))) (sym there)
       (forked_by new tree spans a' dead h)) dead
 
   pub in_turn : (s : AllSpaces) → all_spaces old before ≡ s → areas_of s.processes child ≡ None → ForksInTurn child old a spans
-      → IsSomeAnd (areas_of s.processes parent) (GoInTurn s a child)
+      → IsSomeAnd (areas_of s.processes parent) (λ areas. GoInTurn s a child (areas_to_fork areas))
   in_turn s view dead h =
-      subst (λ (s : AllSpaces). areas_of s.processes child ≡ None → IsSomeAnd (areas_of s.processes parent) (GoInTurn s a child)) view
-      (λ dead. subst (λ o. IsSomeAnd o (GoInTurn (all_spaces old before) a child)) (sym there) (λ n.
-      let m = h n in
-      let first = areas_by-take (area_of old) parent n spans
-      (numbered (area_of old) parent spans (tree_of (area_of old) before parent spans trees was)) in (
+      subst (λ (s : AllSpaces). areas_of s.processes child ≡ None → IsSomeAnd (areas_of s.processes parent)
+      (λ areas. GoInTurn s a child (areas_to_fork areas))) view
+      (λ dead. subst (λ o. IsSomeAnd o (λ areas. GoInTurn (all_spaces old before) a child (areas_to_fork areas))) (sym there) (λ n.
+      let f = first_to_fork (areas_by (area_of old) spans) n in
+      let m = h f.m in
+      let first = ap areas_to_fork (areas_by-take (area_of old) parent f.m spans
+      (numbered (area_of old) parent spans (tree_of (area_of old) before parent spans trees was))) ∙ sym f.are in (
         all_spaces m.0 (slice_set mid child (Some m.1)),
         m.2,
         subst (IsForked (all_spaces old before) a (all_spaces m.0 (slice_set mid child (Some m.1))) m.2 child) first
-            (forked_by m.0 m.1 (take n spans) m.2 dead m.3),
+            (forked_by m.0 m.1 (take f.m spans) m.2 dead m.3),
       ))) dead

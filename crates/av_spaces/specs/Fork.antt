@@ -2,6 +2,7 @@
 use Rattle.std.specs.Prelude.{◌≡◌, ℕ, List, [], ◌∷◌, take, Option, Some, IfSome, IsSomeAnd}
 use Rattle.av_vma.specs.declared.area.Area.{Area}
 use Rattle.av_vma.specs.Areas.{area_of}
+use Rattle.av_vma.specs.Fork.{areas_to_fork, own_to_fork}
 use Rattle.av_vmatree.specs.declared.span.Span.{Span}
 use Rattle.av_anon.specs.declared.anons.Anons.{Anons}
 use Rattle.av_anon.specs.Kin.{IsSameKin}
@@ -20,12 +21,12 @@ kin_of s anons = kin_by s.areas anons
 abbrev pub areas_in_child : ℕ → List Area → Lineage → List Area
 areas_in_child child [] k = []
 areas_in_child child (area ∷ areas) k =
-    area_in_child child k area ∷ areas_in_child child areas (kin_with area.anon k)
+    area_in_child child k area ∷ areas_in_child child areas (kin_with (own_to_fork area) k)
 
 -- and the anon_vmas after them all
 abbrev pub kin_after : List Area → Lineage → Lineage
 kin_after [] k = k
-kin_after (area ∷ areas) k = kin_after areas (kin_with area.anon k)
+kin_after (area ∷ areas) k = kin_after areas (kin_with (own_to_fork area) k)
 
 -- a child lives now, with what these areas of its parent become; the anon_vmas are those that this
 -- leaves, and fit
@@ -50,14 +51,15 @@ pub record AreKept (s : AllSpaces) (old : Anons) (s' : AllSpaces) (new : Anons) 
 
 -- ---- by the values of `Areas`, `Tree` and `Anons`
 
--- the child's tree has what the areas of these spans of its parent become; the anon_vmas are those
+-- the child's tree has what the areas of these spans of its parent become, those that go over; the anon_vmas are those
 -- that this leaves, in chain order
 pub record HasForked (child : ℕ) (old : List (Option Area)) (before : Anons) (spans : List Span)
     (new : List (Option Area)) (tree : List Span) (anons : Anons) : Type 0 where
   pub stands : Stays child (area_of old) (area_of new) tree
   pub areas : areas_by (area_of new) tree
-      ≡ areas_in_child child (areas_by (area_of old) spans) (kin_by old before)
-  pub kin : kin_by new anons ≡ kin_after (areas_by (area_of old) spans) (kin_by old before)
+      ≡ areas_in_child child (areas_to_fork (areas_by (area_of old) spans)) (kin_by old before)
+  pub kin : kin_by new anons
+      ≡ kin_after (areas_to_fork (areas_by (area_of old) spans)) (kin_by old before)
   pub order : AreInOrder new anons
 
 -- so it is with the first of the spans, however many

@@ -12,7 +12,8 @@ use av_vma::Areas;
 use av_vmatree::{Span, Tree};
 use std::alloc::AllocError;
 
-/// Gives a child that has no area yet those of a process, whose spans these are, in their order.
+/// Gives a child that has no area yet those of a process that go over, in their order. The spans
+/// are those of all of the process's areas.
 pub fn fork_each(
     areas: &mut Areas,
     tree: &mut Tree,
@@ -30,6 +31,10 @@ pub fn fork_each(
     ensures in_turn { OnOk result (ForksInTurn child areas.old anons.old spans.now) }
 {
     for span in spans {
+        let is_left_out = areas.get(span.area).flags.dont_fork;
+        if is_left_out {
+            continue;
+        }
         av_merge::fork(areas, tree, anons, span.area, child)?;
     }
     Ok(())

@@ -4,9 +4,12 @@ ghost use Rattle.std.specs.Prelude.{◌≡◌, ℕ, ◌+◌, ◌-◌, ◌^◌, �
 ghost use Rattle.std.specs.Prelude.{is_some, option_map, slice_set, length, IsSome, IsSomeAnd};
 ghost use Rattle.std.specs.Prelude.{OnOk, OnErr, IfOk, IfSome};
 ghost use Rattle.av_vma.specs.Areas.{area_of};
+ghost use Rattle.av_base.specs.Flags.{no_flags};
 ghost use Rattle.av_base.specs.Limits.{low_page, top_page};
+ghost use Rattle.av_vma.specs.Fork.{areas_to_fork};
 ghost use Rattle.av_vma.specs.Gap.{IsGap};
 ghost use Rattle.av_vmatree.specs.Spans.{IsFree, IsMet};
+ghost use Rattle.av_merge.specs.Changing.{effect_of};
 ghost use Rattle.av_merge.specs.Mapping.{IsRemapped};
 ghost use Rattle.av_merge.specs.Pages.{GoesTo};
 ghost use Rattle.av_merge.specs.Process.{AreAreasOf};
@@ -16,14 +19,15 @@ ghost use Rattle.av_spaces.specs.Fork.{AreKept, GoInTurn, IsForked};
 ghost use Rattle.av_spaces.specs.Kin.{AnonsPrepare, AnonsStay, InOrder, chain_at};
 ghost use Rattle.av_spaces.specs.Spaces.{areas_of, pages_of, is_taken, AllRising, AreNumbered};
 ghost use Rattle.av_spaces.specs.Spaces.{AreThese, AreRising, IsSpawned, IsChanged, IsEnded};
-ghost use Rattle.av_vma.specs.Mremap.{IsGrowth, IsMove, after_grow, after_move};
+ghost use Rattle.av_vma.specs.Mremap.{IsGrowth, IsMove, after_grow, after_move, pages_from};
+ghost use Rattle.av_vma.specs.Mremap.{pages_left};
 ghost use Rattle.av_vma.specs.Pages.{AreLaid, IsWhole, after_map, after_prepare, after_unmap};
-ghost use Rattle.av_vma.specs.Pages.{home_of, pages_changed, to_prot};
+ghost use Rattle.av_vma.specs.Pages.{home_of, pages_changed};
 ghost use Rattle.av_spaces.specs.Trees.{areas_by, tree_at, IsGrown};
 
 use crate::fork::fork_each;
 use av_anon::Anons;
-use av_base::Prot;
+use av_base::{Flags, Prot};
 use av_merge::Change;
 use av_vma::{Area, Areas};
 use av_vmatree::{Span, Tree};
@@ -134,18 +138,19 @@ impl Spaces {
         Ok(())
     }
 
-    /// Gives a process that does not live the areas of one that does, by rising address: each is
-    /// linked to the parent's whole chain, and has the lowest idle member of it as its own
-    /// anon_vma, else a new one below the parent's; none where the parent's area has none. Without
-    /// memory as for `map`.
+    /// Gives a process that does not live the areas of one that does, by rising address, but for
+    /// those that say `dont_fork`: each is linked to the parent's whole chain, and has the lowest
+    /// idle member of it as its own anon_vma, else a new one below the parent's; none where the
+    /// parent's area has none or says `wipe_on_fork`. None is locked. Without memory as for `map`.
     pub fn fork(&mut self, anons: &mut Anons, parent: u16, child: u16) -> Result<(), AllocError>
         requires order { InOrder self.old anons.old }
         requires lives { is_some (areas_of self.old.processes parent) ≡ true }
         requires dead { areas_of self.old.processes child ≡ None }
         ensures forked { OnOk result (IsSomeAnd (areas_of self.old.processes parent)
-            (IsForked self.old anons.old self.new anons.new child)) }
+            (λ areas. IsForked self.old anons.old self.new anons.new child
+            (areas_to_fork areas))) }
         ensures in_turn { OnOk result (IsSomeAnd (areas_of self.old.processes parent)
-            (GoInTurn self.old anons.old child)) }
+            (λ areas. GoInTurn self.old anons.old child (areas_to_fork areas))) }
         ensures kept { OnOk result (AreKept self.old anons.old self.new anons.new) }
     {
         make_place(&mut self.trees, child)?;
@@ -176,8 +181,8 @@ impl Spaces {
         tree.is_free(from, from + pages)
     }
 
-    /// Maps free pages of a process that lives, as one area without an anon_vma. Once memory is
-    /// wanting, nothing is promised of any process's pages, nor of anon_vmas.
+    /// Maps free pages of a process that lives, as one area without flags and without an anon_vma.
+    /// Once memory is wanting, nothing is promised of any process's pages, nor of anon_vmas.
     pub fn map(
         &mut self,
         anons: &mut Anons,
@@ -194,7 +199,7 @@ impl Spaces {
         requires free { IsFree (is_taken self.old.processes process) from (from + pages) }
         ensures areas { OnOk result (IsChanged self.old.processes self.new.processes process
             (AreThese (after_map (lengths self.old.areas anons.old) process from (from + pages)
-            prot (pages_of self.old.processes process)))) }
+            prot no_flags (pages_of self.old.processes process)))) }
         ensures anons { OnOk result (AnonsStay self.old anons.old self.new anons.new) }
     {
         let mut tree = take_tree(&mut self.trees, process);
@@ -206,6 +211,46 @@ impl Spaces {
             from,
             from + pages,
             prot,
+            Flags::NONE,
+        );
+        put_tree(&mut self.trees, process, tree);
+        result
+    }
+
+    /// Maps free pages of a process that lives, each like the page that is as far from `like` on:
+    /// with its protection and its flags, but not locked, and without an anon_vma. Without memory
+    /// as for `map`.
+    pub fn map_like(
+        &mut self,
+        anons: &mut Anons,
+        process: u16,
+        from: u64,
+        pages: u64,
+        like: u64,
+    ) -> Result<(), AllocError>
+        requires order { InOrder self.old anons.old }
+        requires lives { is_some (areas_of self.old.processes process) ≡ true }
+        requires low { low_page ≤ from }
+        requires high { from + pages ≤ top_page }
+        requires small { like + pages < 2 ^ 64 }
+        requires free { IsFree (is_taken self.old.processes process) from (from + pages) }
+        requires mapped { (page : ℕ) → like ≤ page → page < like + pages
+            → is_taken self.old.processes process page ≡ true }
+        ensures areas { OnOk result (IsChanged self.old.processes self.new.processes process
+            (AreThese (pages_left (lengths self.old.areas anons.old) process
+            (pages_from like from (pages_of self.old.processes process)) from pages
+            (pages_of self.old.processes process)))) }
+        ensures anons { OnOk result (AnonsStay self.old anons.old self.new anons.new) }
+    {
+        let mut tree = take_tree(&mut self.trees, process);
+        let result = av_merge::map_like(
+            &mut self.areas,
+            &mut tree,
+            anons,
+            process,
+            from,
+            from + pages,
+            like,
         );
         put_tree(&mut self.trees, process, tree);
         result
@@ -233,15 +278,15 @@ impl Spaces {
         result
     }
 
-    /// Gives these pages of a process that lives a protection, up to the first one that is not
-    /// mapped, and tells that one, else the page past them. Without memory as for `map`.
-    pub fn protect(
+    /// Changes these pages of a process that lives, up to the first one that is not mapped, and
+    /// tells that one, else the page past them. Without memory as for `map`.
+    pub fn modify(
         &mut self,
         anons: &mut Anons,
         process: u16,
         from: u64,
         pages: u64,
-        prot: Prot,
+        change: Change,
     ) -> Result<u64, AllocError>
         requires order { InOrder self.old anons.old }
         requires lives { is_some (areas_of self.old.processes process) ≡ true }
@@ -249,15 +294,49 @@ impl Spaces {
         ensures reached { IfOk result (λ reached.
             GoesTo (is_taken self.old.processes process) from (from + pages) reached) }
         ensures ok { IfOk result (λ reached. IsChanged self.old.processes self.new.processes process
-            (AreThese (pages_changed (lengths self.old.areas anons.old) (to_prot prot) from
+            (AreThese (pages_changed (lengths self.old.areas anons.old) (effect_of change) from
             (reached - from) (pages_of self.old.processes process)))) }
         ensures anons { OnOk result (AnonsStay self.old anons.old self.new anons.new) }
-        ensures mapping { IfOk result (λ reached. IsRemapped from reached (to_prot prot)
+        ensures mapping { IfOk result (λ reached. IsRemapped from reached (effect_of change)
             (pages_of self.old.processes process) (pages_of self.new.processes process)) }
     {
         let mut tree = take_tree(&mut self.trees, process);
-        let change = Change::Prot(prot);
         let result = av_merge::modify(
+            &mut self.areas,
+            &mut tree,
+            anons,
+            from,
+            from + pages,
+            change,
+        );
+        put_tree(&mut self.trees, process, tree);
+        result
+    }
+
+    /// Changes those of these pages of a process that lives that are mapped, and tells the first
+    /// one that is not, else the page past them. Without memory as for `map`.
+    pub fn modify_all(
+        &mut self,
+        anons: &mut Anons,
+        process: u16,
+        from: u64,
+        pages: u64,
+        change: Change,
+    ) -> Result<u64, AllocError>
+        requires order { InOrder self.old anons.old }
+        requires lives { is_some (areas_of self.old.processes process) ≡ true }
+        requires past { from + pages < 2 ^ 64 }
+        ensures reached { IfOk result (λ reached.
+            GoesTo (is_taken self.old.processes process) from (from + pages) reached) }
+        ensures ok { OnOk result (IsChanged self.old.processes self.new.processes process
+            (AreThese (pages_changed (lengths self.old.areas anons.old) (effect_of change) from
+            pages (pages_of self.old.processes process)))) }
+        ensures anons { OnOk result (AnonsStay self.old anons.old self.new anons.new) }
+        ensures mapping { OnOk result (IsRemapped from (from + pages) (effect_of change)
+            (pages_of self.old.processes process) (pages_of self.new.processes process)) }
+    {
+        let mut tree = take_tree(&mut self.trees, process);
+        let result = av_merge::modify_all(
             &mut self.areas,
             &mut tree,
             anons,

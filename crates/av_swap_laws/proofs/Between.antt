@@ -10,9 +10,10 @@ use Rattle.av_plain.specs.Areas.{Anons, prepare_page}
 use Rattle.av_plain.specs.Device.{Device}
 use Rattle.av_plain.specs.Event.{Used, after, after_use_of}
 use Rattle.av_plain.specs.Ledger.{Entry, InFrame, InSlot, IsBlank, Key, Ledger, Setting, Zero, entry, frame_at, is_free, names_frame}
-use Rattle.av_plain.specs.Stands.{BytesStand, Holds, IsClean, IsKept, IsKeptAt, View, free_of}
+use Rattle.av_plain.specs.Stands.{BytesStand, IsClean, IsKept, IsKeptAt, View, free_of}
+use Rattle.av_plain.specs.World.{Holds}
 use Rattle.av_plain.specs.World.{Page, World, pages}
-use Rattle.av_plain.proofs.Covered.{Names, sound-prepared, slots-prepared}
+use Rattle.av_plain.proofs.Covered.{Names, sound-prepared, slots-prepared, merged-prepared}
 use Rattle.av_plain.proofs.Covered.Swap.{free-uncached, free-unnamed}
 use Rattle.av_plain.proofs.Sound.Counts.{same-is, same-itself}
 use Rattle.av_swap_laws.specs.Held.{Held, IsHeld, Steps}
@@ -46,8 +47,10 @@ prepared-held m old h p page areas anons laid = record {
   covered = record {
     frames = sound-prepared old.ledger p page old.rmap laid h.covered.frames;
     slots = slots-prepared old.ledger p page old.rmap laid h.covered.frames h.covered.slots;
+    merged = merged-prepared old.ledger p page old.rmap laid h.covered.frames h.covered.slots h.covered.merged;
   };
   homes = h.homes;
+  items = h.items;
 }
 
 -- ---- a read of the device fails: the free frame that was to take the page holds anything
@@ -122,6 +125,7 @@ lost-held m old h f held d free told = record {
   headers = h.headers;
   covered = h.covered;
   homes = h.homes;
+  items = h.items;
 }
 
 -- ---- a page without a frame is read: nothing changes
@@ -133,7 +137,7 @@ blank-steps m closing old h p page blank = record {
   held = h;
   areas = λ a. a;
   chosen = chooses-nothing m closing old.ledger (Used false (p, page)) (free_of old.view)
-      (subst (FreesNone old.ledger) (sym same) (record { frames = λ g used. used; slots = λ s used. used })) refl refl refl;
+      (subst (FreesNone old.ledger) (sym same) (record { frames = λ g used. used; slots = λ s used. used })) refl refl refl refl;
 }
   where
     by : (o : Option Entry) → IsBlank o → after_use_of false (p, page) old.ledger o ≡ old.ledger

@@ -5,8 +5,10 @@ use Rattle.std.specs.List.{list_any}
 use Rattle.av_base.specs.Words.{how_many}
 use Rattle.av_base.specs.declared.slot.Slot.{Slot}
 use Rattle.av_plain.specs.Event.{into_cache, off_cache, with_stale}
-use Rattle.av_plain.specs.Ledger.{Cached, Ledger, Setting, cached_by, frame_at, is_cached, is_stale, same_slot, slot_of}
-use Rattle.av_plain.specs.Sound.{IsSoundBut, pairs, slots}
+use Rattle.av_plain.specs.Ledger.{Cached, Ledger, Setting, cached_by, frame_at, is_cached, is_free, is_merged, is_stale, same_slot, slot_of}
+use Rattle.av_plain.specs.Sound.{IsSoundBut, holders, pairs, slots}
+use Rattle.av_plain.proofs.Covered.Swap.{unmerged-by}
+use Rattle.av_plain.proofs.Sound.Access.{unused}
 use Rattle.av_plain.proofs.Sound.Changes.{any-counts}
 use Rattle.av_swap_laws.specs.May.{AreOnce}
 use Rattle.av_plain.proofs.Sound.Counts.{frame_at-none, frame_at-some, pair-frame, pair-slot, same-is, slot-is, slot_of-none, slot_of-some, two_frames, two_slots}
@@ -195,7 +197,19 @@ cached-slots s f l is = let p = frame_at-some f s l.cache is in let q = pair-slo
 -- ---- frames and slots go together, where each is cached once
 
 pub once-of : (m : Setting) (x : Slot → ℕ) (l : Ledger) → IsSoundBut m x l → AreOnce l
-once-of m x l sound = record { slots_once = sound.slots_once; frames_once = sound.frames_once }
+once-of m x l sound = record { slots_once = sound.slots_once; frames_once = sound.frames_once; merged = sound.merged }
+
+-- a frame caches one slot at most
+pub holders-once : (l : Ledger) → AreOnce l → (f : ℕ) → holders l f ≤ 1
+holders-once l once f = let a = once.frames_once f in omega (arith, a)
+
+-- a frame that is free isn't merged, nor is one that is cached
+pub free-own : (l : Ledger) → AreOnce l → (f : ℕ) → is_free l f ≡ true → is_merged l f ≡ false
+free-own l once f free = unmerged-by l f (let a = once.merged f in let u = unused l f free in omega (arith, a, u))
+
+pub cached-own : (l : Ledger) → AreOnce l → (f : ℕ) (s : Slot) → frame_at l s ≡ Some f → is_merged l f ≡ false
+cached-own l once f s is = unmerged-by l f (let a = once.frames_once f in let p = frame_at-some f s l.cache is in
+    let q = pair-frame s f l.cache in omega (arith, a, p, q))
 
 module _ (l : Ledger) (sound : AreOnce l) where
   pub slot-frame : (f : ℕ) (s : Slot) → slot_of l f ≡ Some s → frame_at l s ≡ Some f
@@ -225,12 +239,12 @@ module _ (l : Ledger) (sound : AreOnce l) where
         where
           same : (b : Bool) → same_slot s t ≡ b → Some t ≡ Some s
           same true i = ap Some (sym (slot-is s t i))
-          same false i = let two = two_slots s t f l.cache i in let p = slot_of-some f t l.cache e in let once = sound.frames_once f in
+          same false i = let two = two_slots s t f l.cache i in let p = slot_of-some f t l.cache e in let once = holders-once l sound f in
               absurd (omega (arith, two, p, once, pair))
 
   -- a slot that goes leaves the other frames theirs
   pub slot_of-off : (s : Slot) (f : ℕ) → frame_at l s ≡ Some f → (g : ℕ) → slot_of (off_cache s l) g ≡ cond (g == f) None (slot_of l g)
-  slot_of-off s f is g = slots_left s g l.cache (sound.frames_once g) ∙ by (g == f) (slot_of l g) refl refl
+  slot_of-off s f is g = slots_left s g l.cache (holders-once l sound g) ∙ by (g == f) (slot_of l g) refl refl
     where
       by : (b : Bool) (o : Option Slot) → (g == f) ≡ b → slot_of l g ≡ o → unless s o ≡ cond b None o
       by true None i e = refl

@@ -9,14 +9,15 @@ use Rattle.av_plain.specs.Device.{Device}
 use Rattle.av_plain.specs.Event.{after_note, if_some, off_cache, off_lists, settle, without}
 use Rattle.av_plain.specs.Fault.{is_shared}
 use Rattle.av_plain.specs.Ledger.{Entry, InFrame, InSlot, Ledger, Setting, Zero, entry, frame_at, in_flight, is_free, is_stale, map_count, same_slot, slot_entries, slot_of}
-use Rattle.av_plain.specs.Stands.{BytesStand, Holds, HoldsTold, IsClean, IsKept, IsKeptAt, LedgerStands, View}
+use Rattle.av_plain.specs.Stands.{BytesStand, HoldsTold, IsClean, IsKept, IsKeptAt, LedgerStands, View}
+use Rattle.av_plain.specs.World.{Holds}
 use Rattle.av_plain.specs.World.{Page, World, pages}
 use Rattle.av_plain.proofs.Sound.Counts.{same-is, same-itself, slot-is}
 use Rattle.av_plain.proofs.Covered.Slots.{frame_at-off}
 use Rattle.av_swap_laws.specs.May.{AreOnce, MayLeave}
 use Rattle.av_swap_laws.specs.Steps.{view_drop, view_freed, view_given_back, view_uncached}
 use Rattle.av_swap_laws.proofs.Cache.{is_stale-off, slot_of-off}
-use Rattle.av_swap_laws.proofs.Parts.{at-some, claims, clean-same, if-some, named-slot, none-some, shared-less, shared-same}
+use Rattle.av_swap_laws.proofs.Parts.{at-some, claims, clean-same, if-some, named-slot, none-some, shared-less, shared-off_lists, shared-same}
 use Rattle.av_swap_laws.proofs.Stale.{other_slot}
 
 module _ (l : Ledger) (f : ℕ) (s : Slot) (once : AreOnce l) (cached : frame_at l s ≡ Some f) where
@@ -41,7 +42,7 @@ module _ (l : Ledger) (f : ℕ) (s : Slot) (once : AreOnce l) (cached : frame_at
       both true = refl
       both false = refl
 
-  after-is : (b : Bool) → (map_count l f == 0) ≡ b → after_note (Dropped s) l ≡ cond b (off_lists f off) off
+  pub after-is : (b : Bool) → (map_count l f == 0) ≡ b → after_note (Dropped s) l ≡ cond b (off_lists f off) off
   after-is b e = ap (λ o. if_some o settle off) cached ∙ ap (λ b. cond b (off_lists f off) off) (free-f ∙ e)
 
   module _ (m : Setting) (v : View) (h : LedgerStands m v l) where
@@ -75,8 +76,8 @@ module _ (l : Ledger) (f : ℕ) (s : Slot) (once : AreOnce l) (cached : frame_at
         shared-off g alone = by (g == f) refl
           where
             by : (b : Bool) → (g == f) ≡ b → is_shared off g ≡ false
-            by true e = shared-less l off g refl (slots-off g ∙ ap (λ b. cond b None (slot_of l g)) e) alone
-            by false e = shared-same l off g refl (slots-off g ∙ ap (λ b. cond b None (slot_of l g)) e) (λ t is. refl) ∙ alone
+            by true e = shared-less l off g refl (slots-off g ∙ ap (λ b. cond b None (slot_of l g)) e) refl alone
+            by false e = shared-same l off g refl (slots-off g ∙ ap (λ b. cond b None (slot_of l g)) e) (λ t is. refl) refl ∙ alone
 
     -- an entry names the frame still
     stays : (map_count l f == 0) ≡ false → LedgerStands m (view_uncached f s v) off
@@ -100,7 +101,10 @@ module _ (l : Ledger) (f : ℕ) (s : Slot) (once : AreOnce l) (cached : frame_at
         free = all.frames.free;
       };
       lists = record { active = ap (without f) h.lists.active; inactive = ap (without f) h.lists.inactive };
-      tables = record { entries = all.tables.entries; write_bits = all.tables.write_bits };
+      tables = record {
+        entries = all.tables.entries;
+        write_bits = λ p page t g there writes names. shared-off_lists off f g (all.tables.write_bits p page t g there writes names);
+      };
       swap = record { finds = all.swap.finds; counts = all.swap.counts; flight = all.swap.flight; on = all.swap.on };
     }
       where
@@ -142,7 +146,7 @@ module _ (l : Ledger) (f : ℕ) (s : Slot) (once : AreOnce l) (cached : frame_at
   module _ (d : Device) (w : World) (leave : MayLeave l s) where
     -- the lists and areas of another ledger
     abbrev with_lists : Ledger → Ledger
-    with_lists k = record (off_cache s l) { active = k.active; inactive = k.inactive; on = k.on }
+    with_lists k = record (off_cache s l) { active = k.active; inactive = k.inactive; merged = k.merged; on = k.on }
 
     bytes-off : (u v : View) (k : Ledger) → u.bytes ≡ v.bytes → k.entries ≡ l.entries → k.cache ≡ (off_cache s l).cache → k.flight ≡ l.flight
         → BytesStand v d w l
@@ -162,6 +166,7 @@ module _ (l : Ledger) (f : ℕ) (s : Slot) (once : AreOnce l) (cached : frame_at
           flight = sym flight i;
           active = k.active;
           inactive = k.inactive;
+          merged = k.merged;
           on = k.on;
         }
 

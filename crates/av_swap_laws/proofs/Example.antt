@@ -1,4 +1,5 @@
 -- A page goes out to a swap area and comes back.
+use Rattle.av_plain.specs.Sound.{mergings}
 use Rattle.std.proofs.Common.{◌≡◌, inl, inr, ℕ, ◌+◌, ◌<◌, ◌≤◌, Bool, true, false, cond, ◌&&◌, ◌||◌, [], ◌∷◌, Option, Some, None, option_map, refl, sym, ap, subst, ◌∙◌, arith, ◌==◌}
 use Rattle.std.proofs.lemmas.Bool.Decides.{nat_tests}
 use Rattle.std.proofs.lemmas.Bool.{false≢true}
@@ -16,8 +17,9 @@ use Rattle.av_plain.specs.Areas.{chain_by, home_for, rmap_after_note, root_anon}
 use Rattle.av_plain.specs.Choice.{AreaSlots, no_slots}
 use Rattle.av_plain.specs.Event.{Noted, after_note}
 use Rattle.av_plain.specs.Covered.{IsKin, IsOfSlot, IsReached}
-use Rattle.av_plain.specs.Ledger.{Cached, Entry, HasNumbers, SwapArea, is_free, InFrame, Key, Ledger, entry, keys_of_slot, names_frame, names_slot, same_slot}
-use Rattle.av_plain.specs.Stands.{BytesStand, Holds, IsKept, LedgerStands, Pte, entry_of}
+use Rattle.av_plain.specs.Ledger.{Cached, Entry, HasNumbers, SwapArea, is_free, InFrame, Key, Ledger, entry, keys_of_slot, names_frame, names_slot, same_slot, map_count}
+use Rattle.av_plain.specs.Stands.{BytesStand, IsKept, LedgerStands, Pte, entry_of}
+use Rattle.av_plain.specs.World.{Holds}
 use Rattle.av_plain.specs.World.{Page, Process, pages, zeros}
 use Rattle.av_plain.proofs.Ledger.{same_key, same_key-is}
 use Rattle.av_swap_laws.specs.Example.{GoesOutAndComesBack, at_start, first_slot, in_frame, read_only, read_write, small, the_area, the_page, the_rmap, the_view, the_world, untold}
@@ -112,13 +114,19 @@ all-covered = record {
   frames = record {
     made = λ v there. made v (v == 0) refl there;
     own = λ p page v is. subst (λ v. is_in v (chain_by the_rmap.anons (Some v)) ≡ true) (own-is p page v is) refl;
-    covered = λ k f names. covered k f (same_key k (1, the_page)) refl names;
+    covered = λ k f names own. covered k f (same_key k (1, the_page)) refl names;
   };
   slots = record {
     kin = λ p page v is. subst (λ v. IsSomeAnd (the_rmap.anons.anon v) (IsKin the_rmap.anons)) (own-is p page v is)
         (record { root = refl; members = λ u among. member u (u == 0) refl among });
     rooted = λ s k q names other. absurd (no-slot s k names);
     cached = λ s k f at names. absurd (no-slot s k names);
+  };
+  merged = record {
+    found = λ k f names is. absurd (false≢true is);
+    once = λ f item is. absurd (false≢true is);
+    roots = λ f item is. absurd (false≢true is);
+    homeless = λ f is. absurd (false≢true is);
   };
 }
   where
@@ -143,6 +151,7 @@ held = record {
   headers = λ k. by k (find nat_cmp k in_frame.on);
   covered = all-covered;
   homes = λ f. refl;
+  items = λ f. refl;
 }
   where
     by : (k : ℕ) (o : Option SwapArea) → IfSome o (λ area. IfSome small.headers (λ headers. IsSomeAnd (headers k) (HasNumbers area)))
@@ -151,20 +160,28 @@ held = record {
 
 -- ---- the steps
 
-once-one : (l : Ledger) (c : Cached) → l.cache ≡ c ∷ [] → AreOnce l
-once-one l c e = record {
+once-one : (l : Ledger) (c : Cached) → l.cache ≡ c ∷ [] → l.merged ≡ [] → AreOnce l
+once-one l c e none = record {
   slots_once = λ s. subst (λ cs. how_many (λ (c : Cached). same_slot s c.slot) cs ≤ 1) (sym e) (few (same_slot s c.slot));
-  frames_once = λ f. subst (λ cs. how_many (λ (c : Cached). f == c.frame) cs ≤ 1) (sym e) (few (f == c.frame));
+  frames_once = λ f. subst (λ n. n + mergings l f ≤ 1) (sym (ap (how_many (λ (c : Cached). f == c.frame)) e))
+      (subst (λ n. (cond (f == c.frame) 1 0 + 0) + n ≤ 1) (sym (ap (how_many (λ g. f == g)) none)) (few' (f == c.frame)));
+  merged = λ f. subst (λ n. n ≤ map_count l f) (sym (ap (how_many (λ g. f == g)) none)) (omega arith);
 }
   where
     few : (b : Bool) → cond b 1 0 + 0 ≤ 1
     few true = omega arith
     few false = omega arith
 
-once-none : (l : Ledger) → l.cache ≡ [] → AreOnce l
-once-none l e = record {
+    few' : (b : Bool) → (cond b 1 0 + 0) + 0 ≤ 1
+    few' true = omega arith
+    few' false = omega arith
+
+once-none : (l : Ledger) → l.cache ≡ [] → l.merged ≡ [] → AreOnce l
+once-none l e none = record {
   slots_once = λ s. subst (λ cs. how_many (λ (c : Cached). same_slot s c.slot) cs ≤ 1) (sym e) (omega arith);
-  frames_once = λ f. subst (λ cs. how_many (λ (c : Cached). f == c.frame) cs ≤ 1) (sym e) (omega arith);
+  frames_once = λ f. subst (λ n. n + mergings l f ≤ 1) (sym (ap (how_many (λ (c : Cached). f == c.frame)) e))
+      (subst (λ n. 0 + n ≤ 1) (sym (ap (how_many (λ g. f == g)) none)) (omega arith));
+  merged = λ f. subst (λ n. n ≤ map_count l f) (sym (ap (how_many (λ g. f == g)) none)) (omega arith);
 }
 
 -- the slots that are left when the first one is given
@@ -175,21 +192,21 @@ abbrev is_put : Held
 is_put = record at_start { view = view_put 0 first_slot left the_view; ledger = after_note (Put 0 first_slot) in_frame }
 
 put-step : Steps small None (Noted (Put 0 first_slot)) at_start is_put
-put-step = put-steps small None at_start held 0 first_slot left (record { absent = refl; unnamed = refl; used = omega arith }) (refl, (refl, refl))
+put-step = put-steps small None at_start held 0 first_slot left (record { absent = refl; unnamed = refl; unmerged = refl; used = omega arith }) (refl, (refl, refl))
 
 abbrev is_unmapped : Held
 is_unmapped = record is_put { view = view_unmap 0 first_slot is_put.view; ledger = after_note (Unmapped 0) is_put.ledger }
 
 unmap-step : Steps small None (Noted (Unmapped 0)) is_put is_unmapped
 unmap-step = unmap-steps small None is_put put-step.held 0 first_slot
-    (once-one is_put.ledger (record { slot = first_slot; frame = 0; stale = true }) refl) refl
+    (once-one is_put.ledger (record { slot = first_slot; frame = 0; stale = true }) refl refl) refl
 
 abbrev is_started : Held
 is_started = record is_unmapped { view = view_start 0 first_slot is_unmapped.view; ledger = after_note (Started first_slot) is_unmapped.ledger }
 
 start-step : Steps small None (Noted (Started first_slot)) is_unmapped is_started
 start-step = start-steps small None is_unmapped unmap-step.held 0 first_slot
-    (once-one is_unmapped.ledger (record { slot = first_slot; frame = 0; stale = true }) refl) refl
+    (once-one is_unmapped.ledger (record { slot = first_slot; frame = 0; stale = true }) refl refl) refl
 
 abbrev is_written : Held
 is_written = record is_started {
@@ -201,14 +218,14 @@ is_written = record is_started {
 
 done-step : Steps small None (Noted (Written first_slot)) is_started is_written
 done-step = done-steps small None is_started start-step.held 0 first_slot
-    (once-one is_started.ledger (record { slot = first_slot; frame = 0; stale = false }) refl) refl untold [] refl (λ i below. refl)
+    (once-one is_started.ledger (record { slot = first_slot; frame = 0; stale = false }) refl refl) refl untold [] refl (λ i below. refl)
 
 abbrev is_dropped : Held
 is_dropped = record is_written { view = view_drop 0 first_slot is_written.view; ledger = after_note (Dropped first_slot) is_written.ledger }
 
 drop-step : Steps small None (Noted (Dropped first_slot)) is_written is_dropped
 drop-step = drop-steps small None is_written done-step.held 0 first_slot
-    (once-one is_written.ledger (record { slot = first_slot; frame = 0; stale = false }) refl) refl (omega arith) refl (inr (refl, refl))
+    (once-one is_written.ledger (record { slot = first_slot; frame = 0; stale = false }) refl refl) refl (omega arith) refl (inr (refl, refl))
 
 abbrev is_loaded : Held
 is_loaded = record is_dropped {
@@ -219,7 +236,7 @@ is_loaded = record is_dropped {
 }
 
 load-step : Steps small None (Noted (Loaded first_slot 0)) is_dropped is_loaded
-load-step = load-steps small None is_dropped drop-step.held 0 first_slot [] (λ i. 0) tt (once-none is_dropped.ledger refl)
+load-step = load-steps small None is_dropped drop-step.held 0 first_slot [] (λ i. 0) tt (once-none is_dropped.ledger refl refl)
     (record { absent = refl; free = refl }) (record { sizes = refl; headers = refl }) refl refl tt
 
 abbrev is_mapped : Held
@@ -230,14 +247,14 @@ is_mapped = record is_loaded {
 
 map-step : Steps small None (Noted (Mapped 1 (address_of the_page) 0)) is_loaded is_mapped
 map-step = map-steps small None is_loaded load-step.held 1 (address_of the_page) 0 first_slot tt
-    (once-one is_loaded.ledger (record { slot = first_slot; frame = 0; stale = false }) refl) refl refl
+    (once-one is_loaded.ledger (record { slot = first_slot; frame = 0; stale = false }) refl refl) refl refl
 
 abbrev is_again : Held
 is_again = record is_mapped { view = view_drop 0 first_slot is_mapped.view; ledger = after_note (Dropped first_slot) is_mapped.ledger }
 
 again-step : Steps small None (Noted (Dropped first_slot)) is_mapped is_again
 again-step = drop-steps small None is_mapped map-step.held 0 first_slot
-    (once-one is_mapped.ledger (record { slot = first_slot; frame = 0; stale = false }) refl) refl (omega arith) refl (inl refl)
+    (once-one is_mapped.ledger (record { slot = first_slot; frame = 0; stale = false }) refl refl) refl (omega arith) refl (inl refl)
 
 pub goes-out : GoesOutAndComesBack
 goes-out = (

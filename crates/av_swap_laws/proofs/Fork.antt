@@ -1,23 +1,24 @@
 -- The entries of a process go over to a child, those of slots too.
-use Rattle.std.proofs.Common.{◌≡◌, ℕ, ◌+◌, ◌<◌, ◌≤◌, Bool, true, false, cond, ◌&&◌, ◌||◌, nat_lt, Option, Some, None, is_none, option_map, refl, sym, ap, subst, ◌∙◌, arith, ◌==◌, T}
+use Rattle.std.proofs.Common.{◌≡◌, ℕ, ◌+◌, ◌<◌, ◌≤◌, Bool, true, false, cond, if◌then◌else◌, not, ◌&&◌, ◌||◌, nat_lt, List, Option, Some, None, is_none, option_map, refl, sym, ap, subst, ◌∙◌, arith, ◌==◌, T}
 use Rattle.std.proofs.lemmas.Bool.Decides.{nat_tests}
 use Rattle.std.proofs.lemmas.Bool.{false≢true}
 use Rattle.std.specs.FinMap.Entries.{is_sorted}
 use Rattle.std.specs.Option.{option_or}
+use Rattle.std.specs.Prelude.{option_and_then}
 use Rattle.std.specs.Ordering.{nat_cmp, eq_by_cmp}
 use Rattle.av_base.specs.Words.{with_at}
 use Rattle.av_base.specs.declared.slot.Slot.{Slot}
 use Rattle.av_plain.specs.Choice.{Chooses}
 use Rattle.av_plain.specs.Device.{Device}
-use Rattle.av_plain.specs.Event.{Forked, after, put_all, set_entry, without_seen}
+use Rattle.av_plain.specs.Event.{Forked, Inherited, after, is_inherited, put_all, set_entry, without_seen}
 use Rattle.av_plain.specs.Fault.{is_named, is_shared}
-use Rattle.av_plain.specs.Fork.{inheritance}
+use Rattle.av_plain.specs.Fork.{goes_as_zeros, goes_over, inheritance}
 use Rattle.av_plain.specs.Ledger.{Entry, InFrame, InSlot, Key, Ledger, Setting, Zero, entry, frame_at, in_flight, is_free, is_stale, key_cmp, map_count, names_frame, names_slot, same_slot, slot_entries, slot_of}
 use Rattle.av_plain.specs.Sound.{holders, slots}
 use Rattle.av_plain.specs.Stands.{BytesStand, IsKept, LedgerStands, Pte, View, entry_of, free_of}
-use Rattle.av_plain.specs.World.{Page, World, pages, set_process}
+use Rattle.av_plain.specs.World.{Holds, Page, World, child_of, page_of_child, pages, set_process, wiped, without_lock}
 use Rattle.av_plain.proofs.Event.{put_all-only}
-use Rattle.av_plain.proofs.Fork.{child_ledger, copies, entry-forked, forked-is, frames-grow, slots-grow, unseen-names_frame}
+use Rattle.av_plain.proofs.Fork.{child_ledger, copies, entry-forked, forked-is, frames-grow, going, handed, inherited-goes, not-inherited, slots-grow, unseen-names_frame}
 use Rattle.av_plain.proofs.Ledger.{entry-set, how_many-found, map_count-set, only_one, same_key}
 use Rattle.av_plain.proofs.Ledger.NoSwap.{key_is}
 use Rattle.av_plain.proofs.Ledger.Order.{weight}
@@ -26,7 +27,7 @@ use Rattle.av_plain.proofs.Sound.Entries.{slot_entries-set}
 use Rattle.av_plain.proofs.World.{pages-set}
 use Rattle.av_swap_laws.specs.Steps.{pte_child, pte_parent, view_fork_entry, view_one_more, with_at_slot, with_pte}
 use Rattle.av_swap_laws.proofs.Free.{FreesNone, chooses-nothing}
-use Rattle.av_swap_laws.proofs.Parts.{clean-same, differ, kept-moves, none-some, shared-same, some-is}
+use Rattle.av_swap_laws.proofs.Parts.{clean-same, differ, few-of, kept-claims, kept-moves, none-some, shared-same, some-is, unnamed-of}
 
 unseen-slot : (t : Slot) (e : Entry) → names_slot t (without_seen e) ≡ names_slot t e
 unseen-slot t Zero = refl
@@ -86,26 +87,17 @@ module _ (m : Setting) (v : View) (l : Ledger) (p q page : ℕ) (t : Pte) (sorte
   alone-now : (k : Key) (d : Entry) (g : ℕ) → entry l k ≡ Some d → names_frame g d ≡ true → same_key k (p, page) ≡ false → is_shared l g ≡ false →
       is_shared now g ≡ false
   alone-now k d g is names other alone = shared-same l now g (maps-now g ∙ frame (names_frame g e) refl) refl
-      (λ t at_t. entries-now t ∙ slot t at_t (names_slot t e) refl) ∙ alone
+      (λ t at_t. entries-now t ∙ slot t at_t (names_slot t e) refl) refl ∙ alone
     where
       few : map_count l g ≤ 1
-      few = by (map_count l g) (is_named l (slot_of l g)) alone
-        where
-          by : (n : ℕ) (b : Bool) → (nat_lt 1 n || b) ≡ false → n ≤ 1
-          by n true e = absurd (grind (arith, nat_tests, e))
-          by n false e = grind (arith, nat_tests, e)
+      few = few-of l g alone
 
       frame : (b : Bool) → names_frame g e ≡ b → map_count l g + cond b 1 0 ≡ map_count l g
       frame true i = absurd (differ (same_key k (p, page)) (only_one l g (p, page) k e d sorted few at i is names) other)
       frame false i = omega arith
 
       slot : (t : Slot) → slot_of l g ≡ Some t → (b : Bool) → names_slot t e ≡ b → slot_entries l t + cond b 1 0 ≡ slot_entries l t
-      slot t at_t true i = absurd (by (nat_lt 1 (map_count l g)) (slot_entries l t) (slot-had t i)
-          (ap (λ o. nat_lt 1 (map_count l g) || is_named l o) (sym at_t) ∙ alone))
-        where
-          by : (b : Bool) (n : ℕ) → 0 < n → (b || nat_lt 0 n) ≡ false → ⊥
-          by true n h e = false≢true (sym e)
-          by false n h e = grind (arith, nat_tests, h, e)
+      slot t at_t true i = absurd (let none = unnamed-of l g alone t at_t in let some = slot-had t i in omega (arith, none, some))
       slot t at_t false i = omega arith
 
   tables-now : (a b : ℕ) → entry_of ((view_fork_entry p q page t v).table a b) ≡ entry now (a, b)
@@ -194,28 +186,29 @@ module _ (m : Setting) (v : View) (l : Ledger) (p q page : ℕ) (t : Pte) (sorte
 -- ---- the whole fork
 
 -- all but the entries stays
-pub forked-only : (p q : ℕ) (l : Ledger) → child_ledger p q l ≡ record l { entries = (child_ledger p q l).entries }
-forked-only p q l = forked-is p q l ∙ put_all-only (copies p q l.entries) l
-    ∙ ap (λ es. record l { entries = es }) (ap (λ (k : Ledger). k.entries) (sym (forked-is p q l)))
+pub forked-only : (p q : ℕ) (goes : List Inherited) (l : Ledger)
+    → child_ledger p q goes l ≡ record l { entries = (child_ledger p q goes l).entries }
+forked-only p q goes l = forked-is p q goes l ∙ put_all-only (copies p q (going goes l.entries)) l
+    ∙ ap (λ es. record l { entries = es }) (ap (λ (k : Ledger). k.entries) (sym (forked-is p q goes l)))
 
 -- nothing is taken, and nothing comes free
-pub fork-chosen : (m : Setting) (closing : Option ℕ) (l : Ledger) (p q : ℕ) (v v' : View) → T (is_sorted key_cmp l.entries)
+pub fork-chosen : (m : Setting) (closing : Option ℕ) (l : Ledger) (p q : ℕ) (goes : List Inherited) (v v' : View) → T (is_sorted key_cmp l.entries)
     → ((page : ℕ) → entry l (q, page) ≡ None) → free_of v' ≡ free_of v
-    → Chooses m closing l (Forked p q (inheritance l p)) (free_of v) (free_of v')
-fork-chosen m closing l p q v v' sorted none same = subst (Chooses m closing l (Forked p q (inheritance l p)) (free_of v)) (sym same)
-    (chooses-nothing m closing l (Forked p q (inheritance l p)) (free_of v) frees refl refl refl)
+    → Chooses m closing l (Forked p q goes) (free_of v) (free_of v')
+fork-chosen m closing l p q goes v v' sorted none same = subst (Chooses m closing l (Forked p q goes) (free_of v)) (sym same)
+    (chooses-nothing m closing l (Forked p q goes) (free_of v) frees refl refl refl refl)
   where
-    frees : FreesNone l (child_ledger p q l)
-    frees = subst (FreesNone l) (sym (forked-is p q l)) (record {
-      frames = λ g had. let k = frames-grow p q l sorted none g in more _ _ _ _ k.count had (cached-same g);
-      slots = λ t had. let k = slots-grow p q l sorted none t in fewer _ _ _ _ k.count had (slots-same t);
+    frees : FreesNone l (child_ledger p q goes l)
+    frees = subst (FreesNone l) (sym (forked-is p q goes l)) (record {
+      frames = λ g had. let k = frames-grow p q goes l sorted none g in more _ _ _ _ k.count had (cached-same g);
+      slots = λ t had. let k = slots-grow p q goes l sorted none t in fewer _ _ _ _ k.count had (slots-same t);
     })
       where
-        cached-same : (g : ℕ) → holders (put_all (copies p q l.entries) l) g ≡ holders l g
-        cached-same g = ap (λ (k : Ledger). holders k g) (put_all-only (copies p q l.entries) l)
+        cached-same : (g : ℕ) → holders (put_all (copies p q (going goes l.entries)) l) g ≡ holders l g
+        cached-same g = ap (λ (k : Ledger). holders k g) (put_all-only (copies p q (going goes l.entries)) l)
 
-        slots-same : (t : Slot) → slots (put_all (copies p q l.entries) l) t ≡ slots l t
-        slots-same t = ap (λ (k : Ledger). slots k t) (put_all-only (copies p q l.entries) l)
+        slots-same : (t : Slot) → slots (put_all (copies p q (going goes l.entries)) l) t ≡ slots l t
+        slots-same t = ap (λ (k : Ledger). slots k t) (put_all-only (copies p q (going goes l.entries)) l)
 
         more : (n k c h : ℕ) {x : ℕ} → n ≡ k + c → 0 < k + x → h ≡ x → 0 < n + h
         more n k c h a b e = omega (arith, a, b, e)
@@ -223,31 +216,73 @@ fork-chosen m closing l p q v v' sorted none same = subst (Chooses m closing l (
         fewer : (n k c h : ℕ) {x : ℕ} → n ≡ k + c → 0 < x + k → h ≡ x → 0 < h + n
         fewer n k c h a b e = omega (arith, a, b, e)
 
--- the child's pages are where the parent's are
+-- the child's pages are where the parent's are that go over with their entries; the others are zeros
 pub fork-bytes : (v v' : View) (d : Device) (w : World) (l : Ledger) (p q : ℕ) → T (is_sorted key_cmp l.entries) → v'.bytes ≡ v.bytes
     → ((page : ℕ) → entry l (q, page) ≡ None) → BytesStand v d w l
-    → BytesStand v' d (set_process w q (pages w p)) (after l (Forked p q (inheritance l p)))
+    → BytesStand v' d (set_process w q (child_of (pages w p))) (after l (Forked p q (inheritance (pages w p) l p)))
 fork-bytes v v' d w l p q sorted same none h = record {
-  kept = λ a page. subst (IsKept v' d (child_ledger p q l) (entry (child_ledger p q l) (a, page))) (sym (pages-set w q (pages w p) a page))
-      (subst (λ o. IsKept v' d (child_ledger p q l) o (cond (eq_by_cmp nat_cmp a q) (pages w p page) (pages w a page))) (sym (entry-forked p q l
+  kept = λ a page. subst (IsKept v' d now (entry now (a, page))) (sym (pages-set w q (child_of (pages w p)) a page))
+      (subst (λ o. IsKept v' d now o (cond (eq_by_cmp nat_cmp a q) (child_of (pages w p) page) (pages w a page))) (sym (entry-forked p q goes l
       (a, page) sorted))
       (by a page (a == q) refl));
-  clean = λ t fresh low. clean-same v v' d t (frame_at l t) (frame_at (child_ledger p q l) t) same (found t)
-      (h.clean t (sym (ap (λ (k : Ledger). is_stale k t) (forked-only p q l)) ∙ fresh)
-      (sym (ap (λ (k : Ledger). in_flight k t) (forked-only p q l)) ∙ low));
+  clean = λ t fresh low. clean-same v v' d t (frame_at l t) (frame_at now t) same (found t)
+      (h.clean t (sym (ap (λ (k : Ledger). is_stale k t) (forked-only p q goes l)) ∙ fresh)
+      (sym (ap (λ (k : Ledger). in_flight k t) (forked-only p q goes l)) ∙ low));
 }
   where
-    found : (t : Slot) → frame_at (child_ledger p q l) t ≡ frame_at l t
-    found t = ap (λ (k : Ledger). frame_at k t) (forked-only p q l)
+    goes : List Inherited
+    goes = inheritance (pages w p) l p
 
-    moved : (o : Option Entry) (x : Option Page) → IsKept v d l o x → IsKept v' d (child_ledger p q l) o x
-    moved o x k = kept-moves v v' d d l (child_ledger p q l) o x same (λ t is. found t) (λ t is none held. held) k
+    now : Ledger
+    now = child_ledger p q (inheritance (pages w p) l p) l
 
-    child : (o : Option Entry) (x : Option Page) → IsKept v d l o x → IsKept v' d (child_ledger p q l) (option_or (option_map without_seen o) None) x
-    child None x k = k
-    child (Some Zero) x k = k
-    child (Some (InFrame g seen)) x k = moved (Some (InFrame g seen)) x k
-    child (Some (InSlot t)) x k = moved (Some (InSlot t)) x k
+    found : (t : Slot) → frame_at (child_ledger p q (inheritance (pages w p) l p) l) t ≡ frame_at l t
+    found t = ap (λ (k : Ledger). frame_at k t) (forked-only p q (inheritance (pages w p) l p) l)
+
+    moved : (o : Option Entry) (x : Option Page) → IsKept v d l o x → IsKept v' d (child_ledger p q (inheritance (pages w p) l p) l) o x
+    moved o x k = kept-moves v v' d d l (child_ledger p q (inheritance (pages w p) l p) l) o x same (λ t is. found t) (λ t is none held. held) k
+
+    -- a page that goes over with its entry
+    whole : (o : Option Entry) (x : Option Page) → goes_over x ≡ true → goes_as_zeros x ≡ false → IsKept v d l o x
+        → IsKept v' d (child_ledger p q (inheritance (pages w p) l p) l) (option_or (option_map without_seen o) None) (option_and_then page_of_child x)
+    whole o None over stays k = cc
+    whole o (Some x) over stays k = kept-claims v' d (child_ledger p q (inheritance (pages w p) l p) l) (option_or (option_map without_seen o) None)
+        (Some x) (page_of_child x) (claims x.flags.dont_fork x.flags.wipe_on_fork over stays) (unseen o (moved o (Some x) k))
+      where
+        claims : (a b : Bool) → not a ≡ true → b ≡ false → (at : ℕ → ℕ) → Holds (Some x) at
+            → Holds (if a then None else Some (without_lock (if b then wiped x else x))) at
+        claims true b over stays at held = cc
+        claims false true over stays at held = cc
+        claims false false over stays at held = held
+
+        unseen : (o : Option Entry) → IsKept v' d (child_ledger p q (inheritance (pages w p) l p) l) o (Some x)
+            → IsKept v' d (child_ledger p q (inheritance (pages w p) l p) l) (option_or (option_map without_seen o) None) (Some x)
+        unseen None k = k
+        unseen (Some Zero) k = k
+        unseen (Some (InFrame g seen)) k = k
+        unseen (Some (InSlot t)) k = k
+
+    -- one that doesn't is left out, or zeros
+    bare : (x : Option Page) → (goes_over x ≡ true → goes_as_zeros x ≡ false → Holds x (λ _. 0)) → Holds (option_and_then page_of_child x) (λ _. 0)
+    bare None zero = tt
+    bare (Some x) zero = of_flags x.flags.dont_fork x.flags.wipe_on_fork zero
+      where
+        of_flags : (a b : Bool) → (not a ≡ true → b ≡ false → Holds (Some x) (λ _. 0))
+            → Holds (if a then None else Some (without_lock (if b then wiped x else x))) (λ _. 0)
+        of_flags true b zero = tt
+        of_flags false true zero = λ i below. refl
+        of_flags false false zero = zero refl refl
+
+    child : (page : ℕ) → IsKept v' d (child_ledger p q (inheritance (pages w p) l p) l)
+        (option_or (option_map without_seen (handed (inheritance (pages w p) l p) p l page)) None) (child_of (pages w p) page)
+    child page = over (is_inherited (inheritance (pages w p) l p) page) refl
+      where
+        over : (b : Bool) → is_inherited (inheritance (pages w p) l p) page ≡ b
+            → IsKept v' d (child_ledger p q (inheritance (pages w p) l p) l)
+            (option_or (option_map without_seen (cond b (entry l (p, page)) None)) None) (child_of (pages w p) page)
+        over true is = let two = inherited-goes (pages w p) l p page is in whole (entry l (p, page)) (pages w p page) two.0 two.1 (h.kept p page)
+        over false is = bare (pages w p page) (λ over stays. subst (λ o. IsKept v d l o (pages w p page))
+            (not-inherited (pages w p) l p page over stays is) (h.kept p page))
 
     yes_same : (a : ℕ) → (a == q) ≡ true → eq_by_cmp nat_cmp a q ≡ true
     yes_same a h = grind (arith, nat_tests, h)
@@ -255,21 +290,19 @@ fork-bytes v v' d w l p q sorted same none h = record {
     not_same : (a : ℕ) → (a == q) ≡ false → eq_by_cmp nat_cmp a q ≡ false
     not_same a h = grind (arith, nat_tests, h)
 
-    by : (a page : ℕ) (b : Bool) → (a == q) ≡ b → IsKept v' d (child_ledger p q l)
-        (option_or (cond (a == q) (option_map without_seen (entry l (p, page))) None) (entry l (a, page)))
-        (cond (eq_by_cmp nat_cmp a q) (pages w p page) (pages w a page))
-    by a page true e = subst (λ c. IsKept v' d (child_ledger p q l)
-        (option_or (cond (a == q) (option_map without_seen (entry l (p, page))) None) (entry l
-        (a, page)))
-        (cond c (pages w p page) (pages w a page))) (sym (yes_same a e))
-        (subst (λ c. IsKept v' d (child_ledger p q l) (option_or (cond c (option_map without_seen (entry l (p, page))) None) (entry l (a, page)))
-        (pages w p page)) (sym e)
-        (subst (λ o. IsKept v' d (child_ledger p q l) (option_or (option_map without_seen (entry l (p, page))) o) (pages w p page))
-        (sym (ap (λ a. entry l (a, page)) (same-is a q e) ∙ none page)) (child (entry l (p, page)) (pages w p page) (h.kept p page))))
-    by a page false e = subst (λ c. IsKept v' d (child_ledger p q l)
-        (option_or (cond (a == q) (option_map without_seen (entry l (p, page))) None) (entry l
-        (a, page)))
-        (cond c (pages w p page) (pages w a page))) (sym (not_same a e))
-        (subst (λ c. IsKept v' d (child_ledger p q l) (option_or (cond c (option_map without_seen (entry l (p, page))) None) (entry l (a, page)))
+    by : (a page : ℕ) (b : Bool) → (a == q) ≡ b → IsKept v' d (child_ledger p q (inheritance (pages w p) l p) l)
+        (option_or (cond (a == q) (option_map without_seen (handed (inheritance (pages w p) l p) p l page)) None) (entry l (a, page)))
+        (cond (eq_by_cmp nat_cmp a q) (child_of (pages w p) page) (pages w a page))
+    by a page true e = subst (λ c. IsKept v' d now
+        (option_or (cond (a == q) (option_map without_seen (handed goes p l page)) None) (entry l (a, page)))
+        (cond c (child_of (pages w p) page) (pages w a page))) (sym (yes_same a e))
+        (subst (λ c. IsKept v' d now (option_or (cond c (option_map without_seen (handed goes p l page)) None) (entry l (a, page)))
+        (child_of (pages w p) page)) (sym e)
+        (subst (λ o. IsKept v' d now (option_or (option_map without_seen (handed goes p l page)) o) (child_of (pages w p) page))
+        (sym (ap (λ a. entry l (a, page)) (same-is a q e) ∙ none page)) (child page)))
+    by a page false e = subst (λ c. IsKept v' d now
+        (option_or (cond (a == q) (option_map without_seen (handed goes p l page)) None) (entry l (a, page)))
+        (cond c (child_of (pages w p) page) (pages w a page))) (sym (not_same a e))
+        (subst (λ c. IsKept v' d now (option_or (cond c (option_map without_seen (handed goes p l page)) None) (entry l (a, page)))
         (pages w a page)) (sym e)
         (moved (entry l (a, page)) (pages w a page) (h.kept a page)))

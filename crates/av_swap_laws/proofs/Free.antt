@@ -3,14 +3,14 @@ use Rattle.std.proofs.Common.{◌≡◌, ℕ, zero, suc, ◌+◌, ◌-◌, ◌<�
 use Rattle.std.proofs.lemmas.Bool.Decides.{nat_tests}
 use Rattle.std.proofs.lemmas.Bool.{false≢true}
 use Rattle.std.specs.List.{range_with_len}
-use Rattle.std.specs.Prelude.{MatchOption, fold}
+use Rattle.std.specs.Prelude.{MatchBool, MatchOption, fold}
 use Rattle.av_base.specs.Words.{with_at}
 use Rattle.av_base.specs.declared.slot.Slot.{Slot}
 use Rattle.av_clusters.specs.Clusters.{give_slot}
 use Rattle.av_trace.specs.declared.note.Note.{Note}
-use Rattle.av_plain.specs.Choice.{AreaSlots, Chooses, Free, IsGiven, frame_in, SwitchesArea, frame_in_note, new_free, new_free_slots, slot_in, slot_in_note, with_given_back}
+use Rattle.av_plain.specs.Choice.{AreaSlots, Chooses, Free, IsGiven, SwitchesArea, TakesFrame, TakesOut, frame_in, frame_in_note, is_move, new_free, new_free_slots, slot_in, sorts_free, takes_any, slot_in_note, with_given_back}
 use Rattle.av_plain.specs.Event.{Event, Noted, after, after_note}
-use Rattle.av_plain.specs.Ledger.{Cached, Ledger, Setting, is_free, is_on, is_usable, same_slot, size_of, slot_count, slot_entries}
+use Rattle.av_plain.specs.Ledger.{Cached, Ledger, Setting, free_frames, is_free, is_on, is_usable, same_slot, size_of, slot_count, slot_entries}
 use Rattle.av_plain.specs.Sound.{count, is_there, slots, uses}
 use Rattle.av_plain.proofs.Sound.Changes.{any-counts, free-is}
 use Rattle.av_plain.proofs.Sound.Counts.{same-is}
@@ -180,13 +180,20 @@ pub record FreesNone (l l' : Ledger) : Type 0 where
   pub frames : (g : ℕ) → 0 < uses l g → 0 < uses l' g
   pub slots : (t : Slot) → 0 < count l t → 0 < count l' t
 
+-- frames are taken as by an event that doesn't put the free ones in order
+takes-frames : (m : Setting) (l : Ledger) (e : Event) (free free' : List ℕ) → sorts_free e ≡ false → TakesFrame m l e free free'
+    → MatchBool (sorts_free e) (free' ≡ free_frames m (after l e)) (TakesFrame m l e free free')
+takes-frames m l e free free' unsorted h =
+    subst (λ b. MatchBool b (free' ≡ free_frames m (after l e)) (TakesFrame m l e free free')) (sym unsorted) h
+
 -- an event that takes neither a frame nor a slot, and turns no area
 pub chooses-nothing : (m : Setting) (closing : Option ℕ) (l : Ledger) (e : Event) (free : Free) → FreesNone l (after l e) → frame_in e ≡ None
-    → slot_in e ≡ None → SwitchesArea m e free.slots free.slots → Chooses m closing l e free free
-chooses-nothing m closing l e free none no_frame no_slot turns = record {
-  frames = (
+    → sorts_free e ≡ false → slot_in e ≡ None → SwitchesArea m e free.slots free.slots → Chooses m closing l e free free
+chooses-nothing m closing l e free none no_frame no_order no_slot turns = record {
+  frames = takes-frames m l e free.frames free.frames no_order (
     free.frames,
-    subst (λ o. MatchOption o (free.frames ≡ free.frames) (λ f. free.frames ≡ f ∷ free.frames)) (sym no_frame) refl,
+    subst (λ o. MatchOption o (free.frames ≡ free.frames) (λ f. MatchBool (takes_any e) (TakesOut f free.frames free.frames)
+        (free.frames ≡ f ∷ free.frames))) (sym no_frame) refl,
     ap (λ fs. fs ++ free.frames) (sym (frames-none m l (after l e) none.frames)),
   );
   slots = (
@@ -201,15 +208,16 @@ chooses-nothing m closing l e free none no_frame no_slot turns = record {
 module _ (m : Setting) (closing : Option ℕ) (l : Ledger) (note : Note) (none : FreesNone l (after_note note l)) where
   -- a note that takes neither a frame nor a slot
   pub chooses-none : (free : Free) → frame_in_note note ≡ None → slot_in_note note ≡ None → Chooses m closing l (Noted note) free free
-  chooses-none free no_frame no_slot = chooses-nothing m closing l (Noted note) free none no_frame no_slot refl
+  chooses-none free no_frame no_slot = chooses-nothing m closing l (Noted note) free none no_frame refl no_slot refl
 
   -- one that takes a frame
-  pub chooses-frame : (f : ℕ) (left : List ℕ) (free : AreaSlots) → frame_in_note note ≡ Some f → slot_in_note note ≡ None
+  pub chooses-frame : (f : ℕ) (left : List ℕ) (free : AreaSlots) → frame_in_note note ≡ Some f → is_move note ≡ false → slot_in_note note ≡ None
       → Chooses m closing l (Noted note) (record { frames = f ∷ left; slots = free }) (record { frames = left; slots = free })
-  chooses-frame f left free takes no_slot = record {
+  chooses-frame f left free takes first no_slot = record {
     frames = (
       left,
-      subst (λ o. MatchOption o ((f ∷ left) ≡ left) (λ g. (f ∷ left) ≡ g ∷ left)) (sym takes) refl,
+      subst (λ o. MatchOption o ((f ∷ left) ≡ left) (λ g. MatchBool (is_move note) (TakesOut g (f ∷ left) left) ((f ∷ left) ≡ g ∷ left)))
+          (sym takes) (subst (λ b. MatchBool b (TakesOut f (f ∷ left) left) ((f ∷ left) ≡ f ∷ left)) (sym first) refl),
       ap (λ fs. fs ++ left) (sym (frames-none m l (after_note note l) none.frames)),
     );
     slots = (
@@ -228,7 +236,8 @@ module _ (m : Setting) (closing : Option ℕ) (l : Ledger) (note : Note) (none :
   chooses-slot s frames old left no_frame takes given = record {
     frames = (
       frames,
-      subst (λ o. MatchOption o (frames ≡ frames) (λ f. frames ≡ f ∷ frames)) (sym no_frame) refl,
+      subst (λ o. MatchOption o (frames ≡ frames) (λ f. MatchBool (is_move note) (TakesOut f frames frames) (frames ≡ f ∷ frames)))
+          (sym no_frame) refl,
       ap (λ fs. fs ++ frames) (sym (frames-none m l (after_note note l) none.frames)),
     );
     slots = (
@@ -239,3 +248,25 @@ module _ (m : Setting) (closing : Option ℕ) (l : Ledger) (note : Note) (none :
       sym (given-none m l (after_note note l) left none.slots),
     );
   }
+
+-- a note that takes a frame and leaves another one free
+pub chooses-frame-for : (m : Setting) (closing : Option ℕ) (l : Ledger) (note : Note) (f g : ℕ) (left : List ℕ) (free : AreaSlots)
+    → frame_in_note note ≡ Some f → is_move note ≡ false → slot_in_note note ≡ None → g < m.frames → 0 < uses l g → uses (after_note note l) g ≡ 0
+    → ((j : ℕ) → (j == g) ≡ false → 0 < uses l j → 0 < uses (after_note note l) j)
+    → ((t : Slot) → 0 < count l t → 0 < count (after_note note l) t)
+    → Chooses m closing l (Noted note) (record { frames = f ∷ left; slots = free }) (record { frames = g ∷ left; slots = free })
+chooses-frame-for m closing l note f g left free takes first no_slot below had gone more kept = record {
+  frames = (
+    left,
+    subst (λ o. MatchOption o ((f ∷ left) ≡ left) (λ j. MatchBool (is_move note) (TakesOut j (f ∷ left) left) ((f ∷ left) ≡ j ∷ left)))
+        (sym takes) (subst (λ b. MatchBool b (TakesOut f (f ∷ left) left) ((f ∷ left) ≡ f ∷ left)) (sym first) refl),
+    ap (λ fs. fs ++ left) (sym (frames-one m l (after_note note l) g below had gone more)),
+  );
+  slots = (
+    free,
+    free,
+    refl,
+    subst (λ o. MatchOption o (free ≡ free) (λ s. IsGiven m closing l s free free)) (sym no_slot) refl,
+    sym (given-none m l (after_note note l) free kept),
+  );
+}

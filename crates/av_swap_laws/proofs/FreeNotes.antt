@@ -6,7 +6,7 @@ use Rattle.av_base.specs.Page.{page_of}
 use Rattle.av_base.specs.Words.{with_at}
 use Rattle.av_base.specs.declared.slot.Slot.{Slot}
 use Rattle.av_clusters.specs.Clusters.{give_slot}
-use Rattle.av_trace.specs.declared.note.Cause.TheVariants.{NoSlot, Referenced, WriteStarted, Writeback}
+use Rattle.av_trace.specs.declared.note.Cause.TheVariants.{Ksm, Locked, NoSlot, Referenced, WriteStarted, Writeback}
 use Rattle.av_trace.specs.declared.note.Note.TheVariants.{Aged, Dropped, Failed, Kept, Loaded, Mapped, Put, Started, Unmapped, Written}
 use Rattle.av_plain.specs.Choice.{AreaSlots, Chooses, IsGiven, new_free, with_given_back}
 use Rattle.av_plain.specs.Event.{Noted, after_note, change_entries, if_some, into_cache, off_cache, without_seen}
@@ -19,7 +19,7 @@ use Rattle.av_plain.proofs.Sound.Counts.{frame_at-some, pair-frame, pair-slot, s
 use Rattle.av_plain.proofs.Sound.Steps.{Alike, alike-end_note, alike-started, holders-dropped, settle-entries, slots-dropped}
 use Rattle.av_swap_laws.specs.May.{AreOnce}
 use Rattle.av_swap_laws.specs.Steps.{view_done, view_drop, view_fail, view_freed, view_given_back, view_load, view_map, view_put, view_start, view_to_active, view_to_head, view_uncached, view_unmap, view_unseen}
-use Rattle.av_swap_laws.proofs.Cache.{cached-slots}
+use Rattle.av_swap_laws.proofs.Cache.{cached-slots, holders-once}
 use Rattle.av_swap_laws.proofs.Free.{FreesNone, chooses-frame, chooses-none, chooses-slot, frames-none, frames-one, given-none, given-one}
 use Rattle.av_swap_laws.proofs.Map.{entries-now, maps-now}
 
@@ -91,7 +91,7 @@ module _ (m : Setting) (closing : Option ℕ) (l : Ledger) (v : View) where
   load-chosen f s left held home first = subst (λ fs. Chooses m closing l (Noted (Loaded s f)) (record { frames = fs; slots = v.slots })
       (record { frames = left; slots = v.slots })) (sym first)
       (chooses-frame m closing l (Loaded s f)
-      (let u = frees-into l s f false in record { frames = u.frames; slots = u.slots }) f left v.slots refl refl)
+      (let u = frees-into l s f false in record { frames = u.frames; slots = u.slots }) f left v.slots refl refl refl)
 
   pub writeback-chosen : (f : ℕ) → Chooses m closing l (Noted (Kept f Writeback)) (free_of v) (free_of (view_to_head f v))
   writeback-chosen f = chooses-none m closing l (Kept f Writeback) (record { frames = λ g h. h; slots = λ t h. h }) (free_of v) refl refl
@@ -101,6 +101,12 @@ module _ (m : Setting) (closing : Option ℕ) (l : Ledger) (v : View) where
 
   pub no_slot-chosen : (f : ℕ) → Chooses m closing l (Noted (Kept f NoSlot)) (free_of v) (free_of (view_to_active f v))
   no_slot-chosen f = chooses-none m closing l (Kept f NoSlot) (record { frames = λ g h. h; slots = λ t h. h }) (free_of v) refl refl
+
+  pub locked-chosen : (f : ℕ) → Chooses m closing l (Noted (Kept f Locked)) (free_of v) (free_of (view_to_active f v))
+  locked-chosen f = chooses-none m closing l (Kept f Locked) (record { frames = λ g h. h; slots = λ t h. h }) (free_of v) refl refl
+
+  pub ksm-chosen : (f : ℕ) → Chooses m closing l (Noted (Kept f Ksm)) (free_of v) (free_of (view_to_active f v))
+  ksm-chosen f = chooses-none m closing l (Kept f Ksm) (record { frames = λ g h. h; slots = λ t h. h }) (free_of v) refl refl
 
   pub referenced-chosen : (f : ℕ) → Chooses m closing l (Noted (Kept f Referenced)) (free_of v) (free_of (view_to_active f (view_unseen f v)))
   referenced-chosen f = chooses-none m closing l (Kept f Referenced) (let u = frees-unseen l f in record { frames = u.frames; slots = u.slots })
@@ -137,7 +143,7 @@ module _ (m : Setting) (closing : Option ℕ) (l : Ledger) (f : ℕ) (s : Slot) 
       let a = maps-dropped f in
       let b = holders-dropped l s f in
       let held = pair-frame s f l.cache in
-      let one = once.frames_once f in
+      let one = holders-once l once f in
       let p = pair in
       omega (arith, a, b, held, one, p)
 

@@ -8,7 +8,7 @@ use Rattle.av_plain.specs.Choice.{ListsFree}
 use Rattle.av_plain.specs.Event.{without}
 use Rattle.av_plain.specs.Fault.{is_unneeded}
 use Rattle.av_plain.specs.Ledger.{Ledger, Setting, frame_at, in_flight, is_free, is_full, is_orphan, is_stale, is_unmapped, may_give, same_slot, slot_entries, slot_of}
-use Rattle.av_plain.specs.Sound.{AreThere, IsSoundBut, flights, is_there, listings, uses}
+use Rattle.av_plain.specs.Sound.{AreThere, IsSoundBut, flights, is_there, listings, uses, mergings}
 use Rattle.av_plain.proofs.Sound.Counts.{frame_at-none, frame_at-some, pair-frame, pair-slot, same-itself, same-turned, slot_of-none, slot-itself}
 use Rattle.av_plain.proofs.Sound.Steps.{given-nowhere}
 use Rattle.av_swap_laws.specs.May.{MayLeave, MayComeIn, MayGoOut}
@@ -24,11 +24,12 @@ module _ (m : Setting) (x : Slot → ℕ) (l : Ledger) (sound : IsSoundBut m x l
       by : (n k : ℕ) → k ≡ min 1 n → 0 < k → 0 < n
       by n k e h = omega (arith, e, h)
 
-  pub given-may_put : (closing : Option ℕ) (f : ℕ) (s : Slot) → slot_of l f ≡ None → may_give m closing l s ≡ true → 0 < uses l f → MayGoOut l f s
-  given-may_put closing f s none may used =
+  pub given-may_put : (closing : Option ℕ) (f : ℕ) (s : Slot) → slot_of l f ≡ None → may_give m closing l s ≡ true → 0 < uses l f → mergings l f ≡ 0
+      → MayGoOut l f s
+  given-may_put closing f s none may used own =
       let nowhere = given-nowhere m closing l s may in
       let out = slot_of-none f l.cache none in
-      record { absent = nowhere.uncached; unnamed = nowhere.unnamed; used = omega (arith, out, used) }
+      record { absent = nowhere.uncached; unnamed = nowhere.unnamed; unmerged = own; used = omega (arith, out, used) }
 
   -- ---- load: a slot that is not cached
 

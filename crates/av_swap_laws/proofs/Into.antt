@@ -4,13 +4,13 @@ use Rattle.av_base.specs.Words.{is_in}
 use Rattle.av_base.specs.declared.slot.Slot.{Slot}
 use Rattle.av_plain.specs.Event.{into_cache}
 use Rattle.av_plain.specs.Fault.{is_named, is_shared}
-use Rattle.av_plain.specs.Ledger.{Ledger, Setting, is_free, is_stale, map_count, names_frame, same_slot, slot_entries, slot_of}
+use Rattle.av_plain.specs.Ledger.{Ledger, Setting, is_free, is_stale, map_count, names_frame, same_slot, slot_entries, slot_of, is_merged}
 use Rattle.av_plain.specs.Sound.{slots}
 use Rattle.av_plain.specs.Stands.{LedgerStands, Pte, View}
 use Rattle.av_plain.proofs.Sound.Counts.{pair-slot, same-is, slot-is, slot-itself, slot_of-some}
 use Rattle.av_swap_laws.specs.Steps.{view_cached}
 use Rattle.av_swap_laws.proofs.Cache.{frame_at-into, slot_of-into, uncached-stale}
-use Rattle.av_swap_laws.proofs.Parts.{at-some, if-some, some-is}
+use Rattle.av_swap_laws.proofs.Parts.{at-some, if-some, some-is, three}
 
 module _ (l : Ledger) (f : ℕ) (s : Slot) (b : Bool) (absent : slots l s ≡ 0) where
   abbrev now : Ledger
@@ -44,19 +44,16 @@ module _ (l : Ledger) (f : ℕ) (s : Slot) (b : Bool) (absent : slots l s ≡ 0)
 
     -- a frame that no write has to copy is so still: where an entry names this one, none names the slot
     shared-now : (g : ℕ) → ((g == f) ≡ true → slot_entries l s ≡ 0) → is_shared l g ≡ false → is_shared now g ≡ false
-    shared-now g unnamed alone = (λ i. nat_lt 1 (map_count l g) || is_named now (slot_of-into s f b l g i)) ∙ by (g == f) refl
+    shared-now g unnamed alone = (λ i. nat_lt 1 (map_count l g) || is_named now (slot_of-into s f b l g i) || is_merged l g) ∙ by (g == f) refl
       where
-        first : (a b : Bool) → (a || b) ≡ false → a ≡ false
-        first true b h = h
-        first false b h = refl
-
         same : (o : Option Slot) → is_named now o ≡ is_named l o
         same None = refl
         same (Some t) = refl
 
-        by : (c : Bool) → (g == f) ≡ c → (nat_lt 1 (map_count l g) || is_named now (cond c (Some s) (slot_of l g))) ≡ false
-        by true e = λ i. first (nat_lt 1 (map_count l g)) (is_named l (slot_of l g)) alone i || nat_lt 0 (unnamed e i)
-        by false e = ap (λ b. nat_lt 1 (map_count l g) || b) (same (slot_of l g)) ∙ alone
+        by : (c : Bool) → (g == f) ≡ c → (nat_lt 1 (map_count l g) || is_named now (cond c (Some s) (slot_of l g)) || is_merged l g) ≡ false
+        by true e = three (nat_lt 1 (map_count l g)) (is_named l (slot_of l g)) (is_merged l g) _ _ _ alone (λ e. e)
+            (λ _. ap (nat_lt 0) (unnamed e)) (λ e. e)
+        by false e = ap (λ b. nat_lt 1 (map_count l g) || b || is_merged l g) (same (slot_of l g)) ∙ alone
 
     pub into-stands : (free : List ℕ) → ((g : ℕ) → g < m.frames → is_in g free ≡ is_free now g)
         → ((p page : ℕ) (t : Pte) → v.table p page ≡ Some t → names_frame f t.entry ≡ true → slot_entries l s ≡ 0)

@@ -1,6 +1,6 @@
 -- A frame moves in the lists, and its entries are unseen.
 use Rattle.std.proofs.Common.{◌≡◌, ℕ, Bool, true, false, cond, ◌&&◌, ◌∷◌, Option, Some, None, is_none, option_map, refl, sym, ap, subst, ◌∙◌, ◌==◌}
-use Rattle.av_trace.specs.declared.note.Cause.TheVariants.{NoSlot, Referenced, WriteStarted, Writeback}
+use Rattle.av_trace.specs.declared.note.Cause.TheVariants.{Ksm, Locked, NoSlot, Referenced, WriteStarted, Writeback}
 use Rattle.av_trace.specs.declared.note.Note.TheVariants.{Aged, Kept}
 use Rattle.av_plain.specs.Device.{Device}
 use Rattle.av_plain.specs.Event.{after_note, change_entries, to_active, to_inactive_head, without, without_seen}
@@ -19,7 +19,7 @@ module _ (m : Setting) (v : View) (l : Ledger) (f : ℕ) (h : LedgerStands m v l
   now = change_entries f without_seen l
 
   shared-now : (g : ℕ) → is_shared now g ≡ is_shared l g
-  shared-now g = shared-same l now g (map_count-unseen f l g) refl (λ t is. slot_entries-unseen f l t)
+  shared-now g = shared-same l now g (map_count-unseen f l g) refl (λ t is. slot_entries-unseen f l t) refl
 
   table-now : (o : Option Pte) → entry_of (option_map (pte_unseen f) o) ≡ option_map (to_unseen f) (entry_of o)
   table-now None = refl
@@ -131,6 +131,12 @@ module _ (m : Setting) (v : View) (l : Ledger) (f : ℕ) (h : LedgerStands m v l
 
   pub no_slot-stands : LedgerStands m (view_to_active f v) (after_note (Kept f NoSlot) l)
   no_slot-stands = active-stands m v l f h
+
+  pub locked-stands : LedgerStands m (view_to_active f v) (after_note (Kept f Locked) l)
+  locked-stands = active-stands m v l f h
+
+  pub ksm-stands : LedgerStands m (view_to_active f v) (after_note (Kept f Ksm) l)
+  ksm-stands = active-stands m v l f h
 
   pub referenced-stands : LedgerStands m (view_to_active f (view_unseen f v)) (after_note (Kept f Referenced) l)
   referenced-stands = active-stands m (view_unseen f v) (change_entries f without_seen l) f (unseen-stands m v l f h)

@@ -19,6 +19,7 @@ pub mod Fork
 pub mod OnOff
 pub mod One
 pub mod Made
+pub mod CopyLast
 pub mod MadeBytes
 pub mod FreeMade
 pub mod Between

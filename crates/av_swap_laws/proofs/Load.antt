@@ -13,7 +13,8 @@ use Rattle.av_plain.specs.Device.{Device, headers_of}
 use Rattle.av_plain.specs.Event.{Noted, after_note, into_cache, without}
 use Rattle.av_plain.specs.Ledger.{Entry, InFrame, InSlot, Key, Ledger, Setting, Zero, entry, frame_at, in_flight, is_free, is_stale, map_count, names_frame, same_slot, slot_entries, slot_of}
 use Rattle.av_plain.specs.Load.{is_of_slot, with_loads, without_bytes, without_claims}
-use Rattle.av_plain.specs.Stands.{BytesStand, Holds, HoldsTold, IsClean, IsKept, IsKeptAt, IsOver, LedgerStands, Pte, View, entry_of}
+use Rattle.av_plain.specs.Stands.{BytesStand, HoldsTold, IsClean, IsKept, IsKeptAt, IsOver, LedgerStands, Pte, View, entry_of}
+use Rattle.av_plain.specs.World.{Holds}
 use Rattle.av_plain.specs.World.{Page, Process, World, pages}
 use Rattle.av_plain.proofs.Ledger.{how_many-found}
 use Rattle.av_plain.proofs.Sound.Access.{unused}

@@ -1,4 +1,5 @@
 -- A page gets the page of zeros, its first frame or a copy, where other frames may be cached.
+use Rattle.av_swap_laws.specs.May.{KeepsUse}
 use Rattle.std.proofs.Common.{◌≡◌, ℕ, ◌+◌, ◌-◌, ◌<◌, ◌≤◌, Bool, true, false, cond, ◌&&◌, ◌||◌, nat_lt, List, ◌∷◌, Option, Some, None, is_none, refl, sym, ap, subst, ◌∙◌, arith, ◌==◌, T}
 use Rattle.std.proofs.lemmas.Bool.Decides.{nat_tests}
 use Rattle.std.proofs.lemmas.Bool.{false≢true}
@@ -7,9 +8,9 @@ use Rattle.av_base.specs.Page.{page_of}
 use Rattle.av_base.specs.Words.{is_in, with_at}
 use Rattle.av_base.specs.declared.slot.Slot.{Slot}
 use Rattle.av_trace.specs.declared.note.Note.TheVariants.{Copied, New, Zeroed}
-use Rattle.av_plain.specs.Event.{after_note, set_entry, to_inactive_head, without}
+use Rattle.av_plain.specs.Event.{after_note, set_entry, to_inactive_head, without, off_lists, settle_entry}
 use Rattle.av_plain.specs.Fault.{is_named, is_shared}
-use Rattle.av_plain.specs.Ledger.{IsBlank, InFrame, Ledger, Setting, Zero, entry, is_free, key_cmp, map_count, names_frame, names_slot, slot_entries, slot_of}
+use Rattle.av_plain.specs.Ledger.{IsBlank, InFrame, Ledger, Setting, Zero, entry, is_free, key_cmp, map_count, names_frame, names_slot, slot_entries, slot_of, is_merged}
 use Rattle.av_plain.specs.Stands.{LedgerStands, Pte, View}
 use Rattle.av_plain.proofs.Ledger.{how_many-found, map_count-set}
 use Rattle.av_plain.proofs.Ledger.Order.{weight}
@@ -45,13 +46,13 @@ module _ (m : Setting) (v : View) (l : Ledger) (p a : ℕ) (sorted : T (is_sorte
       v.maps v.entries v.free v.active v.inactive (λ g. h.frames.maps g ∙ sym (zero-maps g)) (λ t. h.swap.counts t ∙ sym (zero-names t))
       (λ g below. h.frames.free g below ∙ ap (λ n. n == 0 && is_none (slot_of l g)) (sym (zero-maps g))) h.lists.active h.lists.inactive
       (λ u g is writes names. absurd (false≢true (ap (λ (t : Pte). t.write) (some-is _ u is) ∙ writes)))
-      (λ q o e g is names other alone. shared-same l zeroed g (zero-maps g) refl (λ t at. zero-names t) ∙ alone)
+      (λ q o e g is names other alone. shared-same l zeroed g (zero-maps g) refl (λ t at. zero-names t) refl ∙ alone)
 
 -- ---- a free frame
 
--- a frame that has one entry and no slot is written without a copy
-alone : (l : Ledger) (f : ℕ) → map_count l f ≡ 1 → slot_of l f ≡ None → is_shared l f ≡ false
-alone l f one none = λ i. nat_lt 1 (one i) || is_named l (none i)
+-- a frame that has one entry and no slot, and isn't merged, is written without a copy
+pub alone : (l : Ledger) (f : ℕ) → map_count l f ≡ 1 → slot_of l f ≡ None → is_merged l f ≡ false → is_shared l f ≡ false
+alone l f one none own = λ i. nat_lt 1 (one i) || is_named l (none i) || own i
 
 -- the first of the free frames is not among those that are left, and the others are free as they were
 left-free : (m : Setting) (v : View) (l l' : Ledger) (f : ℕ) (left : List ℕ) → v.free ≡ f ∷ left → is_in f left ≡ false
@@ -66,7 +67,7 @@ left-free m v l l' f left first lone free used others g below = by (g == f) refl
 -- ---- the first frame of a page
 
 module _ (m : Setting) (v : View) (l : Ledger) (p a f : ℕ) (left : List ℕ) (sorted : T (is_sorted key_cmp l.entries)) (h : LedgerStands m v l)
-    (free : is_free l f ≡ true) (first : v.free ≡ f ∷ left) (lone : is_in f left ≡ false) where
+    (free : is_free l f ≡ true) (first : v.free ≡ f ∷ left) (lone : is_in f left ≡ false) (own : is_merged l f ≡ false) where
   abbrev made : Ledger
   made = to_inactive_head f (set_entry (p, page_of a) (InFrame f false) l)
 
@@ -130,7 +131,7 @@ module _ (m : Setting) (v : View) (l : Ledger) (p a f : ℕ) (left : List ℕ) (
             (λ g e. ap (λ n. n == 0 && is_none (slot_of l g)) (new-other g e)))
             (ap (without f) h.lists.active) (ap (λ fs. f ∷ without f fs) h.lists.inactive)
             (λ u g is writes names. ap (is_shared made) (same-is g f (ap (λ (t : Pte). names_frame g t.entry) (some-is _ u is) ∙ names))
-            ∙ alone made f new-one slot-f)
+            ∙ alone made f new-one slot-f own)
             (λ q o e g is names other lone. by' g (g == f) refl lone)
           where
             by : (g : ℕ) (b : Bool) → (g == f) ≡ b → cond b 1 (v.maps g) ≡ map_count made g
@@ -138,12 +139,12 @@ module _ (m : Setting) (v : View) (l : Ledger) (p a f : ℕ) (left : List ℕ) (
             by g false e = h.frames.maps g ∙ sym (new-other g e)
 
             by' : (g : ℕ) (b : Bool) → (g == f) ≡ b → is_shared l g ≡ false → is_shared made g ≡ false
-            by' g true e lone = ap (is_shared made) (same-is g f e) ∙ alone made f new-one slot-f
-            by' g false e lone = shared-same l made g (new-other g e) refl (λ t at. new-names t) ∙ lone
+            by' g true e lone = ap (is_shared made) (same-is g f e) ∙ alone made f new-one slot-f own
+            by' g false e lone = shared-same l made g (new-other g e) refl (λ t at. new-names t) refl ∙ lone
 
   -- ---- a copy of another frame, which keeps a use
 
-  module _ (g : ℕ) (seen : Bool) (at : entry l (p, page_of a) ≡ Some (InFrame g seen)) (shared : is_shared l g ≡ true) where
+  module _ (g : ℕ) (seen : Bool) (at : entry l (p, page_of a) ≡ Some (InFrame g seen)) (shared : KeepsUse l g) where
     copy-maps : (j : ℕ) → map_count made j + cond (j == g) 1 0 ≡ map_count l j + cond (j == f) 1 0
     copy-maps j = ap (λ o. map_count made j + weight (names_frame j) o) (sym at) ∙ map_count-set (p, page_of a) (InFrame f false) l j sorted
 
@@ -207,9 +208,26 @@ module _ (m : Setting) (v : View) (l : Ledger) (p a f : ℕ) (left : List ℕ) (
         by false i = ap (λ n. n == 0 && is_none (slot_of l j))
             (plain _ _ _ _ (copy-maps j) (ap {B = ℕ} (λ b. cond b 1 0) i) (ap {B = ℕ} (λ b. cond b 1 0) e))
 
-    pub copy-stands : (write : Bool) (home : Option (ℕ × ℕ))
-        → LedgerStands m (view_copy p (page_of a) g f write left home v) (after_note (Copied p a f) l)
-    copy-stands write home = let all = inner in record {
+    -- so it isn't settled
+    pub copied-is : after_note (Copied p a f) l ≡ made
+    copied-is = ap (to_inactive_head f) (ap (λ o. settle_entry o taken) at ∙ ap (λ b. cond b (off_lists g taken) taken) used)
+      where
+        taken : Ledger
+        taken = set_entry (p, page_of a) (InFrame f false) l
+
+        in_use : (n : ℕ) (b : Bool) → 0 < n → (n == 0 && b) ≡ false
+        in_use n true h = grind (arith, nat_tests, h)
+        in_use n false h = grind (arith, nat_tests, h)
+
+        other : (b : Bool) → (g == f) ≡ b → b ≡ false
+        other true e = absurd (let same = ap (map_count l) (same-is g f e) in let none = none-f in let some = some-g in omega (arith, same, none, some))
+        other false e = refl
+
+        used : is_free taken g ≡ false
+        used = copy-free g (other (g == f) refl) ∙ in_use (map_count l g) (is_none (slot_of l g)) some-g
+
+    stands : (write : Bool) (home : Option (ℕ × ℕ)) → LedgerStands m (view_copy p (page_of a) g f write left home v) made
+    stands write home = let all = inner in record {
       frames = record {
         frames = all.frames.frames;
         maps = all.frames.maps;
@@ -237,7 +255,7 @@ module _ (m : Setting) (v : View) (l : Ledger) (p a f : ℕ) (left : List ℕ) (
             (left-free m v l made f left first lone h.frames.free (λ i. copy-one i == 0 && is_none (slot_of l f)) copy-free)
             (ap (without f) h.lists.active) (ap (λ fs. f ∷ without f fs) h.lists.inactive)
             (λ u j is writes names. ap (is_shared made) (same-is j f (ap (λ (t : Pte). names_frame j t.entry) (some-is _ u is) ∙ names))
-            ∙ alone made f copy-one slot-f)
+            ∙ alone made f copy-one slot-f own)
             (λ q o e j is names other lone. by' j (j == f) refl lone)
           where
             by : (j : ℕ) (b c : Bool) → (j == f) ≡ b → (j == g) ≡ c → cond b 1 (cond c (v.maps g - 1) (v.maps j)) ≡ map_count made j
@@ -255,5 +273,9 @@ module _ (m : Setting) (v : View) (l : Ledger) (p a f : ℕ) (left : List ℕ) (
                 plain n w k c e x y = omega (arith, e, x, y)
 
             by' : (j : ℕ) (b : Bool) → (j == f) ≡ b → is_shared l j ≡ false → is_shared made j ≡ false
-            by' j true e lone = ap (is_shared made) (same-is j f e) ∙ alone made f copy-one slot-f
-            by' j false e lone = shared-fewer l made j (copy-fewer j e) refl (λ t at. let k = copy-names t in omega (arith, k)) lone
+            by' j true e lone = ap (is_shared made) (same-is j f e) ∙ alone made f copy-one slot-f own
+            by' j false e lone = shared-fewer l made j (copy-fewer j e) refl (λ t at. let k = copy-names t in omega (arith, k)) refl lone
+
+    pub copy-stands : (write : Bool) (home : Option (ℕ × ℕ))
+        → LedgerStands m (view_copy p (page_of a) g f write left home v) (after_note (Copied p a f) l)
+    copy-stands write home = subst (LedgerStands m (view_copy p (page_of a) g f write left home v)) (sym copied-is) (stands write home)

@@ -1,4 +1,5 @@
 -- The bytes of a page that gets the page of zeros, its first frame or a copy.
+use Rattle.av_plain.proofs.Covered.Page.{copied-cache, copied-entries}
 use Rattle.std.proofs.Common.{◌≡◌, ℕ, ◌<◌, Bool, true, false, cond, List, Option, Some, None, refl, sym, ap, subst, ◌∙◌, arith, ◌==◌}
 use Rattle.std.specs.Prelude.{IfSome, slice_index}
 use Rattle.av_base.specs.Page.{page_of, page_size}
@@ -6,14 +7,15 @@ use Rattle.av_base.specs.Words.{with_at}
 use Rattle.av_base.specs.declared.slot.Slot.{Slot}
 use Rattle.av_trace.specs.declared.note.Note.TheVariants.{Copied, New, Zeroed}
 use Rattle.av_plain.specs.Device.{Device}
-use Rattle.av_plain.specs.Event.{after_note, set_entry}
+use Rattle.av_plain.specs.Event.{after_note, set_entry, change_frame, off_lists, settle_entry, to_inactive_head}
 use Rattle.av_plain.specs.Ledger.{IsBlank, Entry, InFrame, InSlot, Key, Ledger, Zero, entry, frame_at, in_flight, is_free, is_stale, map_count, names_frame}
-use Rattle.av_plain.specs.Stands.{BytesStand, Holds, IsClean, IsKept, IsKeptAt, View}
+use Rattle.av_plain.specs.Stands.{BytesStand, IsClean, IsKept, IsKeptAt, View}
+use Rattle.av_plain.specs.World.{Holds}
 use Rattle.av_plain.specs.World.{Page, World, pages}
 use Rattle.av_plain.proofs.Ledger.{entry-set, how_many-found, same_key, same_key-is}
 use Rattle.av_plain.proofs.Sound.Counts.{same-is, same-itself}
 use Rattle.av_swap_laws.specs.May.{AreOnce}
-use Rattle.av_swap_laws.specs.Steps.{view_copy, view_new, view_zero}
+use Rattle.av_swap_laws.specs.Steps.{view_copy, view_new, view_zero, view_copy_last}
 use Rattle.av_swap_laws.proofs.Cache.{frame-slot}
 use Rattle.av_swap_laws.proofs.Load.{unmapped, unslotted}
 use Rattle.av_swap_laws.proofs.Parts.{kept-moves, none-some}
@@ -40,6 +42,23 @@ zero-bytes v d w l p a blank h = record {
         (subst (λ (k : Key). IsBlank (entry l k)) (sym (same_key-is (q, o) (p, page_of a) e)) blank) (h.kept q o)
     by q o false e = kept-moves v (view_zero p (page_of a) v) d d l (after_note (Zeroed p a) l) (entry l (q, o)) (pages w q o) refl (λ t is. refl)
         (λ t is none held. held) (h.kept q o)
+
+-- a copy leaves the slots in flight
+copied-flight : (l : Ledger) (k : Key) (f : ℕ) → (to_inactive_head f (change_frame k f l)).flight ≡ l.flight
+copied-flight l k f = by (entry l k)
+  where
+    taken : Ledger
+    taken = set_entry k (InFrame f false) l
+
+    by : (o : Option Entry) → (settle_entry o taken).flight ≡ l.flight
+    by None = refl
+    by (Some Zero) = refl
+    by (Some (InSlot s)) = refl
+    by (Some (InFrame g seen)) = settled (is_free taken g)
+      where
+        settled : (b : Bool) → (cond b (off_lists g taken) taken).flight ≡ l.flight
+        settled true = refl
+        settled false = refl
 
 -- a free frame gets the bytes that the page claims
 module _ (v v' : View) (d : Device) (w : World) (l : Ledger) (p page f : ℕ) (held : ℕ → ℕ) (once : AreOnce l) (h : BytesStand v d w l)
@@ -109,8 +128,15 @@ module _ (v : View) (d : Device) (w : World) (l : Ledger) (p a f : ℕ) (write :
   new-bytes blank = given-bytes v (view_new p (page_of a) f write left (λ _. 0) home v) d w l p (page_of a) f (λ _. 0) once h free refl
       (blank-kept v d l (entry l (p, page_of a)) (pages w p (page_of a)) blank (h.kept p (page_of a))) (after_note (New p a f) l) refl refl refl
 
-  -- those of the other frame
+  -- those of the other frame, also where that is free then
+  pub last-bytes : (g : ℕ) (seen : Bool) → entry l (p, page_of a) ≡ Some (InFrame g seen)
+      → BytesStand (view_copy_last p (page_of a) g f write left home v) d w (after_note (Copied p a f) l)
+  last-bytes g seen at = given-bytes v (view_copy_last p (page_of a) g f write left home v) d w l p (page_of a) f (v.bytes g) once h free refl
+      (subst (λ o. IsKept v d l o (pages w p (page_of a))) at (h.kept p (page_of a))) (after_note (Copied p a f) l)
+      (copied-entries l (p, page_of a) f) (copied-cache l (p, page_of a) f) (copied-flight l (p, page_of a) f)
+
   pub copy-bytes : (g : ℕ) (seen : Bool) → entry l (p, page_of a) ≡ Some (InFrame g seen)
       → BytesStand (view_copy p (page_of a) g f write left home v) d w (after_note (Copied p a f) l)
   copy-bytes g seen at = given-bytes v (view_copy p (page_of a) g f write left home v) d w l p (page_of a) f (v.bytes g) once h free refl
-      (subst (λ o. IsKept v d l o (pages w p (page_of a))) at (h.kept p (page_of a))) (after_note (Copied p a f) l) refl refl refl
+      (subst (λ o. IsKept v d l o (pages w p (page_of a))) at (h.kept p (page_of a))) (after_note (Copied p a f) l)
+      (copied-entries l (p, page_of a) f) (copied-cache l (p, page_of a) f) (copied-flight l (p, page_of a) f)

@@ -8,8 +8,9 @@ use Rattle.av_base.specs.declared.slot.Slot.{Slot}
 use Rattle.av_plain.specs.Device.{Device}
 use Rattle.av_plain.specs.Event.{set_entry}
 use Rattle.av_plain.specs.Fault.{is_named, is_shared}
-use Rattle.av_plain.specs.Ledger.{Entry, InFrame, InSlot, Ledger, Setting, Zero, entry, frame_at, is_free, key_cmp, map_count, names_frame, names_slot, same_slot, slot_entries, slot_of}
-use Rattle.av_plain.specs.Stands.{BytesStand, Holds, IsKept, IsKeptAt, LedgerStands, Pte, View}
+use Rattle.av_plain.specs.Ledger.{Entry, InFrame, InSlot, Ledger, Setting, Zero, entry, frame_at, is_free, key_cmp, map_count, names_frame, names_slot, same_slot, slot_entries, slot_of, is_merged}
+use Rattle.av_plain.specs.Stands.{BytesStand, IsKept, IsKeptAt, LedgerStands, Pte, View}
+use Rattle.av_plain.specs.World.{Holds}
 use Rattle.av_plain.specs.World.{Page, World, pages}
 use Rattle.av_plain.proofs.Ledger.{entry-set, map_count-set, same_key, same_key-is}
 use Rattle.av_plain.proofs.Ledger.Order.{weight}
@@ -44,16 +45,16 @@ module _ (l : Ledger) (p page f : ℕ) (s : Slot) (sorted : T (is_sorted key_cmp
 
   -- an entry names the frame's slot, so that a write to the frame copies it
   shared-f : is_shared l f ≡ true
-  shared-f = (λ i. nat_lt 1 (map_count l f) || is_named l (slot-f i)) ∙ ap (λ b. nat_lt 1 (map_count l f) || b) (some (slot_entries l s) (named-slot l
-      (p, page) s at))
-      ∙ either (nat_lt 1 (map_count l f))
+  shared-f = (λ i. nat_lt 1 (map_count l f) || is_named l (slot-f i) || is_merged l f)
+      ∙ ap (λ b. nat_lt 1 (map_count l f) || b || is_merged l f) (some (slot_entries l s) (named-slot l (p, page) s at))
+      ∙ either (nat_lt 1 (map_count l f)) (is_merged l f)
     where
       some : (n : ℕ) → 0 < n → nat_lt 0 n ≡ true
       some n h = grind (arith, nat_tests, h)
 
-      either : (b : Bool) → (b || true) ≡ true
-      either true = refl
-      either false = refl
+      either : (b c : Bool) → (b || true || c) ≡ true
+      either true c = refl
+      either false c = refl
 
   module _ (m : Setting) (v : View) (h : LedgerStands m v l) where
     free-now : (g : ℕ) → is_free l g ≡ is_free now g
@@ -77,7 +78,7 @@ module _ (l : Ledger) (p page f : ℕ) (s : Slot) (sorted : T (is_sorted key_cmp
 
     shared-now : (g : ℕ) → (g == f) ≡ false → is_shared now g ≡ is_shared l g
     shared-now g e = shared-same l now g (maps-now g ∙ ap (λ b. map_count l g + cond b 1 0) e ∙ plus_zero (map_count l g)) refl
-        (λ t is. same t (same_slot t s) (other_slot l f s once cached g t e is) (entries-now t))
+        (λ t is. same t (same_slot t s) (other_slot l f s once cached g t e is) (entries-now t)) refl
       where
         plus_zero : (n : ℕ) → n + 0 ≡ n
         plus_zero n = omega arith

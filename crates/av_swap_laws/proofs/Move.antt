@@ -1,4 +1,5 @@
 -- Entries go to other pages, whatever they name; and pages go from the memories.
+use Rattle.av_base.specs.Words.{is_in}
 use Rattle.std.proofs.Common.{◌≡◌, ◌⊎◌, inl, inr, ℕ, ◌&&◌, List, Option, Some, None, is_none, refl, sym, ap, subst, ◌∙◌, arith, ◌==◌}
 use Rattle.std.specs.Prelude.{IfSome}
 use Rattle.av_base.specs.declared.slot.Slot.{Slot}
@@ -7,10 +8,11 @@ use Rattle.av_plain.specs.Device.{Device}
 use Rattle.av_plain.specs.Event.{EntriesMoved, after_move}
 use Rattle.av_plain.specs.Ledger.{Entry, InFrame, InSlot, Ledger, Setting, Zero, entry, frame_at, in_flight, is_stale, slot_of}
 use Rattle.av_plain.specs.Sound.{holders, slots}
-use Rattle.av_plain.specs.Stands.{BytesStand, Holds, IsKept, IsKeptAt, LedgerStands, Pte, View, entry_of}
+use Rattle.av_plain.specs.Stands.{BytesStand, IsKept, IsKeptAt, LedgerStands, Pte, View, entry_of}
+use Rattle.av_plain.specs.World.{Holds}
 use Rattle.av_plain.specs.World.{World, pages}
 use Rattle.av_swap_laws.proofs.Free.{chooses-nothing}
-use Rattle.av_swap_laws.proofs.Parts.{clean-same, kept-moves, shared-same}
+use Rattle.av_swap_laws.proofs.Parts.{clean-same, kept-claims, kept-moves, shared-same}
 use Rattle.av_swap_laws.specs.May.{IsAlike}
 
 module _ (m : Setting) (v : View) (l l' : Ledger) (alike : IsAlike l l') where
@@ -35,7 +37,7 @@ module _ (m : Setting) (v : View) (l l' : Ledger) (alike : IsAlike l l') where
     tables = record {
       entries = entries;
       write_bits = λ p page t g there writes names. let was = came p page t there in
-          shared-same l l' g (alike.maps g) (slot-same g) (λ s is. alike.names s) ∙ h.tables.write_bits was.0 was.1 t g was.2 writes names;
+          shared-same l l' g (alike.maps g) (slot-same g) (λ s is. alike.names s) (ap (is_in g) alike.merged) ∙ h.tables.write_bits was.0 was.1 t g was.2 writes names;
     };
     swap = record {
       finds = λ s. h.swap.finds s ∙ sym (ap (λ cs. frame_at (record l { cache = cs }) s) alike.cache);
@@ -73,7 +75,7 @@ pub moved-chosen : (m : Setting) (closing : Option ℕ) (l : Ledger) (p n from t
 moved-chosen m closing l p n from to free alike = chooses-nothing m closing l (EntriesMoved p n from to) free (record {
   frames = λ g had. let a = alike.maps g in let b = ap (λ cs. holders (record l { cache = cs }) g) alike.cache in omega (arith, a, b, had);
   slots = λ s had. let a = alike.names s in let b = ap (λ cs. slots (record l { cache = cs }) s) alike.cache in omega (arith, a, b, had);
-}) refl refl refl
+}) refl refl refl refl
 
 -- ---- the memories have fewer pages
 
@@ -98,3 +100,22 @@ bytes-fewer v d w w' l fewer h = record { kept = λ p page. by p page (fewer p p
     by : (p page : ℕ) → (pages w' p page ≡ pages w p page) ⊎ (pages w' p page ≡ None) → IsKept v d l (entry l (p, page)) (pages w' p page)
     by p page (inl same) = subst (IsKept v d l (entry l (p, page))) (sym same) (h.kept p page)
     by p page (inr none) = subst (IsKept v d l (entry l (p, page))) (sym none) (nothing (entry l (p, page)))
+
+-- each page claims no more than before
+pub bytes-claim-less : (v : View) (d : Device) (w w' : World) (l : Ledger)
+    → ((p page : ℕ) (at : ℕ → ℕ) → Holds (pages w p page) at → Holds (pages w' p page) at) → BytesStand v d w l → BytesStand v d w' l
+bytes-claim-less v d w w' l fewer h = record {
+  kept = λ p page. kept-claims v d l (entry l (p, page)) (pages w p page) (pages w' p page) (fewer p page) (h.kept p page);
+  clean = h.clean;
+}
+
+-- each page is as before, or has no entry and holds zeros
+pub bytes-zeros : (v : View) (d : Device) (w w' : World) (l : Ledger)
+    → ((p page : ℕ) → (pages w' p page ≡ pages w p page) ⊎ ((entry l (p, page) ≡ None) × Holds (pages w' p page) (λ _. 0)))
+    → BytesStand v d w l → BytesStand v d w' l
+bytes-zeros v d w w' l came h = record { kept = λ p page. by p page (came p page); clean = h.clean }
+  where
+    by : (p page : ℕ) → (pages w' p page ≡ pages w p page) ⊎ ((entry l (p, page) ≡ None) × Holds (pages w' p page) (λ _. 0))
+        → IsKept v d l (entry l (p, page)) (pages w' p page)
+    by p page (inl same) = subst (IsKept v d l (entry l (p, page))) (sym same) (h.kept p page)
+    by p page (inr none) = subst (λ o. IsKept v d l o (pages w' p page)) (sym none.0) none.1

@@ -6,10 +6,13 @@ use Rattle.std.specs.Prelude.{IfSome, slice_index}
 use Rattle.av_base.specs.Page.{page_size}
 use Rattle.av_base.specs.declared.slot.Slot.{Slot}
 use Rattle.av_plain.specs.Device.{Device}
+use Rattle.av_plain.specs.Event.{off_lists}
 use Rattle.av_plain.specs.Fault.{is_named, is_shared}
-use Rattle.av_plain.specs.Ledger.{Entry, InFrame, InSlot, Key, Ledger, Zero, entry, frame_at, map_count, names_slot, slot_entries, slot_of}
-use Rattle.av_plain.specs.Stands.{Holds, HoldsTold, IsClean, IsKept, IsKeptAt, View}
+use Rattle.av_plain.specs.Ledger.{Entry, InFrame, InSlot, Key, Ledger, Zero, entry, frame_at, is_merged, map_count, names_slot, slot_entries, slot_of}
+use Rattle.av_plain.specs.Stands.{HoldsTold, IsClean, IsKept, IsKeptAt, View}
+use Rattle.av_plain.specs.World.{Holds}
 use Rattle.av_plain.specs.World.{Page}
+use Rattle.av_plain.proofs.Covered.Swap.{still-in}
 use Rattle.av_plain.proofs.Ledger.{how_many-found}
 use Rattle.av_plain.proofs.Sound.Counts.{slot-itself}
 
@@ -33,28 +36,38 @@ differ b e f = cc
 
 -- ---- shared frames
 
--- a frame is shared as it was, where as many entries name it and its slot
+pub three : (a b c a' b' c' : Bool) → (a || b || c) ≡ false → (a ≡ false → a' ≡ false) → (b ≡ false → b' ≡ false) → (c ≡ false → c' ≡ false)
+    → (a' || b' || c') ≡ false
+three true b c a' b' c' e x y z = absurd (false≢true (sym e))
+three false true c a' b' c' e x y z = absurd (false≢true (sym e))
+three false false true a' b' c' e x y z = absurd (false≢true (sym e))
+three false false false a' b' c' e x y z = λ i. x refl i || y refl i || z refl i
+
+named-same : (l l' : Ledger) (o : Option Slot) → ((t : Slot) → o ≡ Some t → slot_entries l' t ≡ slot_entries l t) → is_named l' o ≡ is_named l o
+named-same l l' None counts = refl
+named-same l l' (Some t) counts = ap (nat_lt 0) (counts t refl)
+
+-- a frame is shared as it was, where as many entries name it and its slot, and it is merged as it was
 pub shared-same : (l l' : Ledger) (g : ℕ) → map_count l' g ≡ map_count l g → slot_of l' g ≡ slot_of l g
-    → ((t : Slot) → slot_of l g ≡ Some t → slot_entries l' t ≡ slot_entries l t) → is_shared l' g ≡ is_shared l g
-shared-same l l' g maps slot counts = (λ i. nat_lt 1 (maps i) || is_named l' (slot i))
-    ∙ ap (λ b. nat_lt 1 (map_count l g) || b) (by (slot_of l g) refl)
-  where
-    by : (o : Option Slot) → slot_of l g ≡ o → is_named l' o ≡ is_named l o
-    by None e = refl
-    by (Some t) e = ap (nat_lt 0) (counts t e)
+    → ((t : Slot) → slot_of l g ≡ Some t → slot_entries l' t ≡ slot_entries l t) → is_merged l' g ≡ is_merged l g
+    → is_shared l' g ≡ is_shared l g
+shared-same l l' g maps slot counts merged = (λ i. nat_lt 1 (maps i) || is_named l' (slot i) || merged i)
+    ∙ ap (λ b. nat_lt 1 (map_count l g) || b || is_merged l g) (named-same l l' (slot_of l g) counts)
 
 -- one that has no slot then is shared no more than it was
-pub shared-less : (l l' : Ledger) (g : ℕ) → map_count l' g ≡ map_count l g → slot_of l' g ≡ None → is_shared l g ≡ false → is_shared l' g ≡ false
-shared-less l l' g maps none h = (λ i. nat_lt 1 (maps i) || is_named l' (none i)) ∙ by (nat_lt 1 (map_count l g)) (is_named l (slot_of l g)) h
-  where
-    by : (a b : Bool) → (a || b) ≡ false → (a || false) ≡ false
-    by true b h = h
-    by false b h = refl
+pub shared-less : (l l' : Ledger) (g : ℕ) → map_count l' g ≡ map_count l g → slot_of l' g ≡ None → is_merged l' g ≡ is_merged l g
+    → is_shared l g ≡ false → is_shared l' g ≡ false
+shared-less l l' g maps none merged h = (λ i. nat_lt 1 (maps i) || is_named l' (none i) || merged i)
+    ∙ three (nat_lt 1 (map_count l g)) (is_named l (slot_of l g)) (is_merged l g) _ _ _ h (λ e. e) (λ e. refl) (λ e. e)
 
 -- nor one that fewer entries name, and whose slot fewer do
 pub shared-fewer : (l l' : Ledger) (g : ℕ) → map_count l' g ≤ map_count l g → slot_of l' g ≡ slot_of l g
-    → ((t : Slot) → slot_of l g ≡ Some t → slot_entries l' t ≤ slot_entries l t) → is_shared l g ≡ false → is_shared l' g ≡ false
-shared-fewer l l' g maps slot counts alone = ap (λ o. nat_lt 1 (map_count l' g) || is_named l' o) slot ∙ by (slot_of l g) refl alone
+    → ((t : Slot) → slot_of l g ≡ Some t → slot_entries l' t ≤ slot_entries l t) → is_merged l' g ≡ is_merged l g
+    → is_shared l g ≡ false → is_shared l' g ≡ false
+shared-fewer l l' g maps slot counts merged alone =
+    (λ i. nat_lt 1 (map_count l' g) || is_named l' (slot i) || merged i)
+    ∙ three (nat_lt 1 (map_count l g)) (is_named l (slot_of l g)) (is_merged l g) _ _ _ alone (less (map_count l g) (map_count l' g) maps)
+    (named (slot_of l g) counts) (λ e. e)
   where
     less : (n n' : ℕ) → n' ≤ n → nat_lt 1 n ≡ false → nat_lt 1 n' ≡ false
     less n n' h e = grind (arith, nat_tests, h, e)
@@ -62,19 +75,52 @@ shared-fewer l l' g maps slot counts alone = ap (λ o. nat_lt 1 (map_count l' g)
     none : (n n' : ℕ) → n' ≤ n → nat_lt 0 n ≡ false → nat_lt 0 n' ≡ false
     none n n' h e = grind (arith, nat_tests, h, e)
 
-    first : (a b : Bool) → (a || b) ≡ false → a ≡ false
-    first true b h = h
-    first false b h = refl
+    named : (o : Option Slot) → ((t : Slot) → o ≡ Some t → slot_entries l' t ≤ slot_entries l t) → is_named l o ≡ false → is_named l' o ≡ false
+    named None counts e = refl
+    named (Some t) counts e = none (slot_entries l t) (slot_entries l' t) (counts t refl) e
 
-    second : (a b : Bool) → (a || b) ≡ false → b ≡ false
-    second true b h = absurd (false≢true (sym h))
-    second false b h = h
+-- nor where a frame leaves its list and is merged no longer
+pub shared-off_lists : (l : Ledger) (f g : ℕ) → is_shared l g ≡ false → is_shared (off_lists f l) g ≡ false
+shared-off_lists l f g alone = three (nat_lt 1 (map_count l g)) (is_named l (slot_of l g)) (is_merged l g) _ _ _ alone (λ e. e)
+    (λ e. named-same l (off_lists f l) (slot_of l g) (λ t is. refl) ∙ e) (λ e. gone (is_merged (off_lists f l) g) refl e)
+  where
+    gone : (b : Bool) → is_merged (off_lists f l) g ≡ b → is_merged l g ≡ false → b ≡ false
+    gone true is e = absurd (false≢true (sym e ∙ still-in g f l.merged is))
+    gone false is e = refl
 
-    by : (o : Option Slot) → slot_of l g ≡ o → (nat_lt 1 (map_count l g) || is_named l o) ≡ false
-        → (nat_lt 1 (map_count l' g) || is_named l' o) ≡ false
-    by None e h = λ i. less (map_count l g) (map_count l' g) maps (first (nat_lt 1 (map_count l g)) false h) i || false
-    by (Some t) e h = λ i. less (map_count l g) (map_count l' g) maps (first (nat_lt 1 (map_count l g)) (nat_lt 0 (slot_entries l t)) h) i
-        || none (slot_entries l t) (slot_entries l' t) (counts t e) (second (nat_lt 1 (map_count l g)) (nat_lt 0 (slot_entries l t)) h) i
+-- what it says of a frame that is not shared
+pub few-of : (l : Ledger) (g : ℕ) → is_shared l g ≡ false → map_count l g ≤ 1
+few-of l g alone = by (map_count l g) (is_named l (slot_of l g)) (is_merged l g) alone
+  where
+    one : (n : ℕ) (b : Bool) → nat_lt 1 n ≡ b → b ≡ false → n ≤ 1
+    one n b e h = let none = e ∙ h in grind (arith, nat_tests, none)
+
+    first : (a b c : Bool) → (a || b || c) ≡ false → a ≡ false
+    first true b c e = absurd (false≢true (sym e))
+    first false b c e = refl
+
+    by : (n : ℕ) (b c : Bool) → (nat_lt 1 n || b || c) ≡ false → n ≤ 1
+    by n b c e = one n (nat_lt 1 n) refl (first (nat_lt 1 n) b c e)
+
+pub unnamed-of : (l : Ledger) (g : ℕ) → is_shared l g ≡ false → (t : Slot) → slot_of l g ≡ Some t → slot_entries l t ≡ 0
+unnamed-of l g alone t is = zero (slot_entries l t) (second (nat_lt 1 (map_count l g)) (nat_lt 0 (slot_entries l t)) (is_merged l g)
+    (ap (λ o. nat_lt 1 (map_count l g) || is_named l o || is_merged l g) (sym is) ∙ alone))
+  where
+    second : (a b c : Bool) → (a || b || c) ≡ false → b ≡ false
+    second true b c e = absurd (false≢true (sym e))
+    second false true c e = absurd (false≢true (sym e))
+    second false false c e = refl
+
+    zero : (n : ℕ) → nat_lt 0 n ≡ false → n ≡ 0
+    zero n e = grind (arith, nat_tests, e)
+
+pub own-of : (l : Ledger) (g : ℕ) → is_shared l g ≡ false → is_merged l g ≡ false
+own-of l g = third (nat_lt 1 (map_count l g)) (is_named l (slot_of l g)) (is_merged l g)
+  where
+    third : (a b c : Bool) → (a || b || c) ≡ false → c ≡ false
+    third true b c e = absurd (false≢true (sym e))
+    third false true c e = absurd (false≢true (sym e))
+    third false false c e = e
 
 -- ---- a slot that an entry names
 

@@ -3,7 +3,7 @@ use Rattle.std.proofs.Common.{◌≡◌, ℕ, ◌<◌, true, cond, Some, None, s
 use Rattle.std.proofs.lemmas.Bool.Decides.{nat_tests}
 use Rattle.av_base.specs.declared.slot.Slot.{Slot}
 use Rattle.av_trace.specs.declared.note.Cause.{Cause}
-use Rattle.av_trace.specs.declared.note.Cause.TheVariants.{NoSlot, Referenced, WriteStarted, Writeback}
+use Rattle.av_trace.specs.declared.note.Cause.TheVariants.{Ksm, Locked, NoSlot, Referenced, WriteStarted, Writeback}
 use Rattle.av_trace.specs.declared.note.Note.TheVariants.{Aged, Dropped, Kept, Loaded, Mapped, Put, Started, Unmapped}
 use Rattle.av_base.specs.Page.{page_of}
 use Rattle.av_plain.specs.Event.{after_note, change_entries, if_some, without_seen}
@@ -23,7 +23,7 @@ use Rattle.av_swap_laws.proofs.Cache.{cached-slots}
 
 module _ (m : Setting) (x : Slot → ℕ) (l : Ledger) (s : IsSoundBut m x l) where
   pub put-sound : (f : ℕ) (t : Slot) → MayGoOut l f t → slot_of l f ≡ None → IsSoundBut m x (after_note (Put f t) l)
-  put-sound f t may none = put-kept m x l t f s may.absent may.unnamed (slot_of-none f l.cache none) may.used
+  put-sound f t may none = put-kept m x l t f s may.absent may.unnamed (slot_of-none f l.cache none) may.unmerged may.used
 
   pub unmap-sound : (f : ℕ) (t : Slot) → slot_of l f ≡ Some t → IsSoundBut m x (after_note (Unmapped f) l)
   unmap-sound f t is = subst (IsSoundBut m x) (sym (ap (λ o. if_some o (λ s. change_entries f (λ _. InSlot s)) l) is))
@@ -51,6 +51,8 @@ module _ (m : Setting) (x : Slot → ℕ) (l : Ledger) (s : IsSoundBut m x l) wh
   keep-sound f Referenced used = active-kept m x (change_entries f without_seen l) f (unseen-kept m x l f s)
       (let a = map_count-unseen f l f in omega (arith, a, used))
   keep-sound f NoSlot used = active-kept m x l f s used
+  keep-sound f Locked used = active-kept m x l f s used
+  keep-sound f Ksm used = active-kept m x l f s used
 
   pub age-sound : (f : ℕ) → 0 < uses l f → IsSoundBut m x (after_note (Aged f) l)
   age-sound f used = head-kept m x (change_entries f without_seen l) f (unseen-kept m x l f s)

@@ -39,7 +39,7 @@ module _ (l : Ledger) (f : ℕ) (s : Slot) (once : AreOnce l) (cached : frame_at
             ∙ sym (is_stale-other b s l t (other_slot g t e is))
 
     shared-now : (g : ℕ) → is_shared now g ≡ is_shared l g
-    shared-now g = shared-same l now g refl (slot_of-stale b s l g) (λ t is. refl)
+    shared-now g = shared-same l now g refl (slot_of-stale b s l g) (λ t is. refl) refl
 
     pub restale-stands : LedgerStands m (record v { dirty = with_at f b v.dirty }) (with_stale b s l)
     restale-stands = record {

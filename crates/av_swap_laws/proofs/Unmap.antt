@@ -7,7 +7,8 @@ use Rattle.av_plain.specs.Device.{Device}
 use Rattle.av_plain.specs.Event.{change_entries}
 use Rattle.av_plain.specs.Fault.{is_shared}
 use Rattle.av_plain.specs.Ledger.{Entry, InFrame, InSlot, Ledger, Setting, Zero, entry, frame_at, is_free, map_count, names_frame, same_slot, slot_entries, slot_of}
-use Rattle.av_plain.specs.Stands.{BytesStand, Holds, IsKept, IsKeptAt, LedgerStands, Pte, View, entry_of}
+use Rattle.av_plain.specs.Stands.{BytesStand, IsKept, IsKeptAt, LedgerStands, Pte, View, entry_of}
+use Rattle.av_plain.specs.World.{Holds}
 use Rattle.av_plain.specs.World.{Page, World, pages}
 use Rattle.av_plain.proofs.Event.{entry-unmap, to_slot}
 use Rattle.av_plain.proofs.Sound.Cache.{frames_left, slots_more}
@@ -73,7 +74,7 @@ module _ (l : Ledger) (f : ℕ) (s : Slot) (once : AreOnce l) (cached : slot_of 
 
         same : (g == f) ≡ false → is_shared now g ≡ is_shared l g
         same e = shared-same l now g (maps-now g ∙ ap (λ b. cond b 0 (map_count l g)) e) refl (λ t is. slots_more s f l t
-            ∙ ap (λ b. slot_entries l t + cond b (map_count l f) 0) (apart g t e is) ∙ plus_zero (slot_entries l t))
+            ∙ ap (λ b. slot_entries l t + cond b (map_count l f) 0) (apart g t e is) ∙ plus_zero (slot_entries l t)) refl
           where
             plus_zero : (n : ℕ) → n + 0 ≡ n
             plus_zero n = omega arith

@@ -11,7 +11,8 @@ use Rattle.av_plain.specs.Device.{Device}
 use Rattle.av_plain.specs.Event.{after_use, after_use_of, if_some, set_entry, with_stale}
 use Rattle.av_plain.specs.Fault.{is_named, is_shared}
 use Rattle.av_plain.specs.Ledger.{Entry, InFrame, InSlot, Key, Ledger, Setting, Zero, entry, frame_at, in_flight, is_stale, key_cmp, map_count, names_frame, names_slot, same_slot, slot_entries, slot_of}
-use Rattle.av_plain.specs.Stands.{BytesStand, Holds, IsClean, IsKept, IsKeptAt, LedgerStands, Pte, View}
+use Rattle.av_plain.specs.Stands.{BytesStand, IsClean, IsKept, IsKeptAt, LedgerStands, Pte, View}
+use Rattle.av_plain.specs.World.{Holds}
 use Rattle.av_plain.specs.World.{Page, World, pages}
 use Rattle.av_plain.proofs.Ledger.{entry-set, map_count-set, only_one, same_key, same_key-is}
 use Rattle.av_plain.proofs.Ledger.Order.{weight}
@@ -22,7 +23,7 @@ use Rattle.av_swap_laws.specs.May.{AreOnce}
 use Rattle.av_swap_laws.specs.Steps.{view_seen, view_written}
 use Rattle.av_swap_laws.proofs.Cache.{cached-is, frame-slot, is_stale-itself, is_stale-other, slot-frame}
 use Rattle.av_swap_laws.proofs.One.{one-stands, set-at}
-use Rattle.av_swap_laws.proofs.Parts.{differ, if-some, kept-claims, named-slot, none-some, shared-same, some-is}
+use Rattle.av_swap_laws.proofs.Parts.{differ, few-of, if-some, kept-claims, named-slot, none-some, shared-same, some-is, unnamed-of}
 use Rattle.av_swap_laws.proofs.Stale.{restale-stands}
 
 module _ (l : Ledger) (p page f : ℕ) (seen : Bool) (sorted : T (is_sorted key_cmp l.entries)) (at : entry l (p, page) ≡ Some (InFrame f seen)) where
@@ -42,7 +43,7 @@ module _ (l : Ledger) (p page f : ℕ) (seen : Bool) (sorted : T (is_sorted key_
       same n w k h e = omega (arith, h, e)
 
   shared-seen : (g : ℕ) → is_shared now g ≡ is_shared l g
-  shared-seen g = shared-same l now g (maps-seen g) refl (λ t is. names-seen t)
+  shared-seen g = shared-same l now g (maps-seen g) refl (λ t is. names-seen t) refl
 
   module _ (m : Setting) (v : View) (write : Bool) (h : LedgerStands m v l) (may : write ≡ true → is_shared l f ≡ false) where
     pub seen-stands : LedgerStands m (view_seen p page f write v) (set_entry (p, page) (InFrame f true) l)
@@ -97,7 +98,7 @@ module _ (l : Ledger) (p page f : ℕ) (seen : Bool) (sorted : T (is_sorted key_
         by : (o : Option Slot) → slot_of l f ≡ o → LedgerStands m (view_written p page f write held home v) (if_some o (with_stale true) now)
         by None e = unslotted (view_seen p page f write v) now held home e seen-stands
         by (Some s) e = rebytes (record (view_seen p page f write v) { dirty = with_at f true v.dirty }) (with_stale true s now) held home
-            (restale-stands now f s (record { slots_once = once.slots_once; frames_once = once.frames_once }) (slot-frame l once f s e) m
+            (restale-stands now f s (record { slots_once = once.slots_once; frames_once = once.frames_once; merged = λ g. let e = maps-seen g in let a = once.merged g in omega (arith, e, a) }) (slot-frame l once f s e) m
             (view_seen p page f write v) true seen-stands)
 
   -- the bytes of the page alone change, and its slot is stale then, where it has one
@@ -109,18 +110,10 @@ module _ (l : Ledger) (p page f : ℕ) (seen : Bool) (sorted : T (is_sorted key_
     written = view_written p page f write held home v
 
     few : map_count l f ≤ 1
-    few = by (map_count l f) (is_named l (slot_of l f)) alone
-      where
-        by : (n : ℕ) (b : Bool) → (nat_lt 1 n || b) ≡ false → n ≤ 1
-        by n true e = absurd (grind (arith, nat_tests, e))
-        by n false e = grind (arith, nat_tests, e)
+    few = few-of l f alone
 
     unnamed : (s : Slot) → slot_of l f ≡ Some s → slot_entries l s ≡ 0
-    unnamed s is = by (nat_lt 1 (map_count l f)) (slot_entries l s) (ap (λ o. nat_lt 1 (map_count l f) || is_named l o) (sym is) ∙ alone)
-      where
-        by : (b : Bool) (n : ℕ) → (b || nat_lt 0 n) ≡ false → n ≡ 0
-        by true n e = absurd (false≢true (sym e))
-        by false n e = grind (arith, nat_tests, e)
+    unnamed = unnamed-of l f alone
 
     -- the frame of another page, and of a slot that an entry names, is another one
     other_page : (k : Key) (g : ℕ) (b : Bool) → same_key k (p, page) ≡ false → entry l k ≡ Some (InFrame g b) → (g == f) ≡ false

@@ -12,7 +12,8 @@ use Rattle.av_trace.specs.declared.note.Note.TheVariants.{Failed, Started, Writt
 use Rattle.av_plain.specs.Device.{Device}
 use Rattle.av_plain.specs.Event.{after_note, if_some, off_flight, to_inactive_tail, without}
 use Rattle.av_plain.specs.Ledger.{Ledger, Setting, entry, frame_at, in_flight, is_stale, same_slot}
-use Rattle.av_plain.specs.Stands.{BytesStand, Holds, HoldsTold, IsClean, LedgerStands, View}
+use Rattle.av_plain.specs.Stands.{BytesStand, HoldsTold, IsClean, LedgerStands, View}
+use Rattle.av_plain.specs.World.{Holds}
 use Rattle.av_plain.specs.World.{Page, World, pages}
 use Rattle.av_plain.proofs.Sound.Changes.{any-counts}
 use Rattle.av_plain.proofs.Sound.Counts.{slot-is, slot-itself}
@@ -89,7 +90,7 @@ module _ (l : Ledger) (f : ℕ) (s : Slot) (once : AreOnce l) (cached : frame_at
   begun = record l { flight = l.flight ++ s ∷ [] }
 
   once-begun : AreOnce begun
-  once-begun = record { slots_once = once.slots_once; frames_once = once.frames_once }
+  once-begun = record { slots_once = once.slots_once; frames_once = once.frames_once; merged = once.merged }
 
   module _ (m : Setting) (v : View) (h : LedgerStands m v l) where
     stands-begun : LedgerStands m (record v { flight = v.flight ++ s ∷ [] }) begun
@@ -142,7 +143,7 @@ module _ (l : Ledger) (f : ℕ) (s : Slot) (once : AreOnce l) (cached : frame_at
   landed = off_flight s l
 
   once-landed : AreOnce landed
-  once-landed = record { slots_once = once.slots_once; frames_once = once.frames_once }
+  once-landed = record { slots_once = once.slots_once; frames_once = once.frames_once; merged = once.merged }
 
   written-is : after_note (Written s) l ≡ to_inactive_tail f landed
   written-is = ap (λ o. if_some o to_inactive_tail landed) cached

@@ -7,7 +7,8 @@ use Rattle.av_base.specs.declared.slot.Slot.{Slot}
 use Rattle.av_plain.specs.Device.{Device}
 use Rattle.av_plain.specs.Event.{after_zap, off_lists, settle, settle_entry, without}
 use Rattle.av_plain.specs.Ledger.{InFrame, InSlot, Key, Ledger, Setting, Zero, entry, frame_at, in_flight, is_free, is_stale, key_cmp, map_count, names_frame, names_slot, same_slot, slot_entries, slot_of}
-use Rattle.av_plain.specs.Stands.{BytesStand, Holds, IsKept, LedgerStands, View}
+use Rattle.av_plain.specs.Stands.{BytesStand, IsKept, LedgerStands, View}
+use Rattle.av_plain.specs.World.{Holds}
 use Rattle.av_plain.specs.World.{World, pages}
 use Rattle.av_plain.proofs.Ledger.{same_key, same_key-is}
 use Rattle.av_plain.proofs.Ledger.Order.{weight}
@@ -15,7 +16,7 @@ use Rattle.av_plain.proofs.Sound.Counts.{same-is, same-itself, slot-is}
 use Rattle.av_plain.proofs.Zap.{after_zap-is, entry-after_zap, entry-leaving, leaving, map_count-leaving, same_swap-after_zap, slot_entries-leaving}
 use Rattle.av_swap_laws.specs.Steps.{view_cleared, view_freed, view_given_back, view_zap_frame, view_zap_slot, with_at_slot}
 use Rattle.av_swap_laws.proofs.One.{one-stands}
-use Rattle.av_swap_laws.proofs.Parts.{clean-same, kept-moves, none-some, shared-fewer}
+use Rattle.av_swap_laws.proofs.Parts.{clean-same, kept-moves, none-some, shared-fewer, shared-off_lists}
 
 module _ (m : Setting) (v : View) (l : Ledger) (p page : ℕ) (sorted : T (is_sorted key_cmp l.entries)) (h : LedgerStands m v l) where
   abbrev now : Ledger
@@ -46,7 +47,7 @@ module _ (m : Setting) (v : View) (l : Ledger) (p page : ℕ) (sorted : T (is_so
         (λ g. less _ _ _ _ (maps-is g) (map_count-leaving (p, page) l g sorted) (h.frames.maps g))
         (λ t. less _ _ _ _ (entries-is t) (slot_entries-leaving (p, page) l t sorted) (h.swap.counts t))
         free-is h.lists.active h.lists.inactive (λ u g is writes names. absurd (none-some u is))
-        (λ q o e g is names other alone. shared-fewer l now g (fewer-maps g) refl (λ t is. fewer-names t) alone)
+        (λ q o e g is names other alone. shared-fewer l now g (fewer-maps g) refl (λ t is. fewer-names t) refl alone)
       where
         less : (n w k c : ℕ) {x : ℕ} → n + w ≡ k → x ≡ c + w → k ≡ x → n ≡ c
         less n w k c a b e = omega (arith, a, b, e)
@@ -126,7 +127,7 @@ module _ (m : Setting) (v : View) (l : Ledger) (p page : ℕ) (sorted : T (is_so
         (λ t. ap (λ o. v.entries t + weight (names_slot t) o) is ∙ plus_zero (v.entries t)) right
 
     -- whether the frame is free then
-    frees : is_free now f ≡ (v.maps f == 1 && is_none (v.slot f))
+    pub frees : is_free now f ≡ (v.maps f == 1 && is_none (v.slot f))
     frees = (λ i. map_count-f i && is_none (sym (h.frames.slots f) i))
       where
         one : (n k w c : ℕ) → c ≡ n → n ≡ k + w → w ≡ 1 → (k == 0) ≡ (c == 1)
@@ -164,7 +165,10 @@ module _ (m : Setting) (v : View) (l : Ledger) (p page : ℕ) (sorted : T (is_so
         free = all.frames.free;
       };
       lists = record { active = ap (without f) h.lists.active; inactive = ap (without f) h.lists.inactive };
-      tables = record { entries = all.tables.entries; write_bits = all.tables.write_bits };
+      tables = record {
+        entries = all.tables.entries;
+        write_bits = λ q o t g there writes names. shared-off_lists now f g (all.tables.write_bits q o t g there writes names);
+      };
       swap = record { finds = all.swap.finds; counts = all.swap.counts; flight = all.swap.flight; on = all.swap.on };
     }
       where

@@ -10,6 +10,7 @@ use Rattle.av_base.specs.declared.slot.Slot.{Slot}
 use Rattle.av_clusters.specs.Clusters.{fresh}
 use Rattle.av_trace.specs.declared.note.Note.TheVariants.{Dropped, Loaded, Mapped, Put, Started}
 use Rattle.av_trace.specs.declared.note.Note.TheVariants.{Unmapped, Written}
+use Rattle.av_base.specs.Flags.{no_flags}
 use Rattle.av_vma.specs.Pages.{fresh_area}
 use Rattle.av_vma.specs.declared.area.Area.{Area}
 use Rattle.av_plain.specs.Areas.{Rmap, root_anon}
@@ -42,7 +43,7 @@ abbrev pub the_page : ℕ
 the_page = 0x10
 
 abbrev pub the_area : Area
-the_area = record (fresh_area 1 0x10 0x11 read_write) { anon = Some 0 }
+the_area = record (fresh_area 1 0x10 0x11 read_write no_flags) { anon = Some 0 }
 
 abbrev pub the_world : World
 the_world = (1, λ page. if page == the_page then Some (zeros read_write) else None) ∷ []
@@ -61,6 +62,7 @@ the_rmap = record {
   areas = λ p page. if p == 1 && page == the_page then Some the_area else None;
   anons = record { next = 1; anon = λ v. if v == 0 then Some (root_anon 0) else None };
   homes = λ f. Some (0, the_page);
+  items = λ f. [];
 }
 
 -- no write bit stands
@@ -73,6 +75,7 @@ the_view = record {
   bytes = λ f i. 0;
   maps = map_count in_frame;
   homes = the_rmap.homes;
+  items = the_rmap.items;
   slot = slot_of in_frame;
   dirty = λ f. false;
   free = [];

@@ -3,11 +3,12 @@
 use Rattle.std.specs.Prelude.{◌≡◌, ℕ, Option}
 use Rattle.av_plain.specs.Areas.{Rmap}
 use Rattle.av_plain.specs.Choice.{Chooses}
-use Rattle.av_plain.specs.Covered.{AreSlotsCovered, IsRmapSound}
+use Rattle.av_plain.specs.Covered.{AreMergedCovered, AreSlotsCovered, IsRmapSound}
 use Rattle.av_plain.specs.Device.{Device}
 use Rattle.av_plain.specs.Event.{Event, after}
 use Rattle.av_plain.specs.Ledger.{Ledger, Setting}
-use Rattle.av_plain.specs.Stands.{AreasStand, BytesStand, HeadersStand, HomesAre, LedgerStands}
+use Rattle.av_plain.specs.Stands.{AreasStand, BytesStand, HeadersStand, HomesAre, ItemsAre}
+use Rattle.av_plain.specs.Stands.{LedgerStands}
 use Rattle.av_plain.specs.Stands.{View, free_of}
 use Rattle.av_plain.specs.World.{World}
 
@@ -19,10 +20,11 @@ pub record Held : Type 0 where
   pub ledger : Ledger
   pub rmap : Rmap
 
--- each entry of a frame, or of a slot, is covered
+-- each entry of a frame, merged or not, or of a slot, is covered
 pub record AllCovered (l : Ledger) (r : Rmap) : Type 0 where
   pub frames : IsRmapSound l r
   pub slots : AreSlotsCovered l r
+  pub merged : AreMergedCovered l r
 
 -- what is said of the ledger stands, and what of bytes and headers; each entry of a frame or slot
 -- is covered. (That the areas stand for the memories is apart: it is not so amid a command that
@@ -33,6 +35,7 @@ pub record IsHeld (m : Setting) (h : Held) : Type 0 where
   pub headers : HeadersStand m h.ledger
   pub covered : AllCovered h.ledger h.rmap
   pub homes : HomesAre h.view h.rmap.homes
+  pub items : ItemsAre h.view h.ledger h.rmap.items
 
 -- all that stands after the event too, which takes and frees what the definitions choose; and the
 -- areas stand for the memories if they did

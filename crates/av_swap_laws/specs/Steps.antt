@@ -7,8 +7,8 @@ use Rattle.av_base.specs.Words.{with_at}
 use Rattle.av_base.specs.declared.slot.Slot.{Slot}
 use Rattle.av_clusters.specs.Clusters.{Slots, give_slot}
 use Rattle.av_trace.specs.declared.note.Cause.{Cause}
-use Rattle.av_trace.specs.declared.note.Cause.TheVariants.{NoSlot, Referenced, WriteStarted}
-use Rattle.av_trace.specs.declared.note.Cause.TheVariants.{Writeback}
+use Rattle.av_trace.specs.declared.note.Cause.TheVariants.{Ksm, Locked, NoSlot, Referenced}
+use Rattle.av_trace.specs.declared.note.Cause.TheVariants.{WriteStarted, Writeback}
 use Rattle.av_plain.specs.Choice.{AreaSlots, no_slots}
 use Rattle.av_plain.specs.Event.{without, without_seen}
 use Rattle.av_plain.specs.Ledger.{Entry, InFrame, InSlot, SwapArea, Zero, names_frame, same_slot}
@@ -80,10 +80,11 @@ view_uncached f s v = record v {
   find = with_at_slot s None v.find;
 }
 
--- the frame is free, in front of all others, and in no list
+-- the frame is free, in front of all others, in no list, and has no items
 abbrev pub view_freed : ℕ → View → View
 view_freed f v = record v {
   free = f ∷ v.free;
+  items = with_at f [] v.items;
   active = without f v.active;
   inactive = without f v.inactive;
 }
@@ -248,6 +249,18 @@ view_copy p page g f write left home v =
       maps = with_at f 1 (with_at g (v.maps g - 1) v.maps);
     }
 
+-- or where that was its last use: it is free then, in front of all others, in no list, and has no
+-- items
+abbrev pub view_copy_last :
+    ℕ → ℕ → ℕ → ℕ → Bool → List ℕ → Option (ℕ × ℕ) → View → View
+view_copy_last p page g f write left home v =
+    record (view_copy p page g f write left home v) {
+      free = g ∷ left;
+      items = with_at g [] v.items;
+      active = without f (without g v.active);
+      inactive = f ∷ without f (without g v.inactive);
+    }
+
 -- ---- by cause, and by entry
 
 -- a frame is kept for this cause
@@ -256,6 +269,8 @@ view_keep f Writeback v = view_to_head f v
 view_keep f WriteStarted v = view_to_head f v
 view_keep f Referenced v = view_to_active f (view_unseen f v)
 view_keep f NoSlot v = view_to_active f v
+view_keep f Locked v = view_to_active f v
+view_keep f Ksm v = view_to_active f v
 
 -- the entry of a page goes
 abbrev pub view_zap : ℕ → ℕ → Entry → View → View

@@ -11,9 +11,10 @@ ghost use Rattle.av_plain.specs.Fork.{inheritance};
 ghost use Rattle.av_plain.specs.Ledger.{Entry, Ledger, Setting, entry, key_cmp, names_frame};
 ghost use Rattle.av_plain.specs.Ledger.{names_slot};
 ghost use Rattle.av_plain.specs.Sound.{is_there};
-ghost use Rattle.av_plain.specs.Stands.{BytesStand, Holds, LedgerStands, Pte, View, entry_of};
+ghost use Rattle.av_plain.specs.Stands.{BytesStand, LedgerStands, Pte, View, entry_of};
+ghost use Rattle.av_plain.specs.World.{Holds};
 ghost use Rattle.av_plain.specs.Stands.{free_of};
-ghost use Rattle.av_plain.specs.World.{World, pages, set_process};
+ghost use Rattle.av_plain.specs.World.{World, child_of, pages, set_process};
 ghost use Rattle.av_swap_laws.specs.Held.{Held, IsHeld, Steps};
 ghost use Rattle.av_swap_laws.specs.May.{IsAlike};
 ghost use Rattle.av_swap_laws.specs.Steps.{view_fork_entry, view_zap};
@@ -40,15 +41,17 @@ pub fn entries_go_over()
         (set_entry (q, page) (without_seen t.entry) l) }
 {}
 
-/// After a fork the pages of the child are where those of the parent are; nothing is taken, and
-/// nothing comes free.
+/// After a fork the pages of the child are where those of the parent are, or are zeros and nowhere;
+/// nothing is taken, and nothing comes free.
 pub fn forks_hold_bytes()
     ensures { (m : Setting) (closing : Option ℕ) (v new : View) (d : Device) (w : World)
         (l : Ledger) (p q : ℕ) → T (is_sorted key_cmp l.entries)
         → ((page : ℕ) → entry l (q, page) ≡ None)
         → new.bytes ≡ v.bytes → free_of new ≡ free_of v → BytesStand v d w l
-        → BytesStand new d (set_process w q (pages w p)) (after l (Forked p q (inheritance l p)))
-        × Chooses m closing l (Forked p q (inheritance l p)) (free_of v) (free_of new) }
+        → BytesStand new d (set_process w q (child_of (pages w p)))
+        (after l (Forked p q (inheritance (pages w p) l p)))
+        × Chooses m closing l (Forked p q (inheritance (pages w p) l p)) (free_of v)
+        (free_of new) }
 {}
 
 /// Entries go to other pages, with what they name: a view whose tables have them there, each as it
@@ -76,4 +79,20 @@ pub fn memories_may_lose_pages()
     ensures { (v : View) (d : Device) (w fewer : World) (l : Ledger) → BytesStand v d w l
         → ((p page : ℕ) → (pages fewer p page ≡ pages w p page) ⊎ (pages fewer p page ≡ None))
         → BytesStand v d fewer l }
+{}
+
+/// It stands for those whose pages claim no more, as where flags or protections change.
+pub fn memories_may_claim_less()
+    ensures { (v : View) (d : Device) (w other : World) (l : Ledger) → BytesStand v d w l
+        → ((p page : ℕ) (at : ℕ → ℕ) → Holds (pages w p page) at
+        → Holds (pages other p page) at)
+        → BytesStand v d other l }
+{}
+
+/// And for those that have zeros on pages without an entry, as once entries have gone.
+pub fn pages_without_entry_may_be_zeros()
+    ensures { (v : View) (d : Device) (w other : World) (l : Ledger) → BytesStand v d w l
+        → ((p page : ℕ) → (pages other p page ≡ pages w p page)
+        ⊎ ((entry l (p, page) ≡ None) × Holds (pages other p page) (λ _. 0)))
+        → BytesStand v d other l }
 {}

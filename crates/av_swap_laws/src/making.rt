@@ -2,7 +2,7 @@
 //! or a copy.
 
 ghost use Rattle.std.specs.Prelude.{◌≡◌, ℕ, Bool, false, true, List, ◌∷◌, Option, Some, IsSome};
-ghost use Rattle.std.specs.Prelude.{IsSomeAnd, T};
+ghost use Rattle.std.specs.Prelude.{◌<◌, IsSomeAnd, T};
 ghost use Rattle.std.specs.FinMap.Entries.{is_sorted};
 ghost use Rattle.av_base.specs.Page.{page_of};
 ghost use Rattle.av_base.specs.Words.{is_in};
@@ -11,11 +11,10 @@ ghost use Rattle.av_vma.specs.declared.area.Area.{Area};
 ghost use Rattle.av_trace.specs.declared.note.Note.TheVariants.{Copied, New, Zeroed};
 ghost use Rattle.av_plain.specs.Areas.{Anons, at_home, prepare_page};
 ghost use Rattle.av_plain.specs.Event.{Noted, after_note};
-ghost use Rattle.av_plain.specs.Fault.{is_shared};
 ghost use Rattle.av_plain.specs.Ledger.{InFrame, IsBlank, Setting, entry, is_free, key_cmp};
 ghost use Rattle.av_swap_laws.specs.Held.{Held, IsHeld, Steps};
-ghost use Rattle.av_swap_laws.specs.May.{AreOnce};
-ghost use Rattle.av_swap_laws.specs.Steps.{view_copy, view_new, view_zero};
+ghost use Rattle.av_swap_laws.specs.May.{AreOnce, KeepsUse, LosesUse};
+ghost use Rattle.av_swap_laws.specs.Steps.{view_copy, view_copy_last, view_new, view_zero};
 
 /// A page gets the page of zeros.
 pub fn pages_get_zeros()
@@ -49,9 +48,26 @@ pub fn frames_are_copied()
         (left : List ℕ) (write : Bool) → T (is_sorted key_cmp old.ledger.entries)
         → AreOnce old.ledger → is_free old.ledger f ≡ true → old.view.free ≡ f ∷ left
         → is_in f left ≡ false → (g : ℕ) (seen : Bool)
-        → entry old.ledger (p, page_of a) ≡ Some (InFrame g seen) → is_shared old.ledger g ≡ true
+        → entry old.ledger (p, page_of a) ≡ Some (InFrame g seen) → KeepsUse old.ledger g
         → Steps m closing (Noted (Copied p a f)) old (record old {
           view = view_copy p (page_of a) g f write left
+              (home_of (page_of a) (old.rmap.areas p (page_of a))) old.view;
+          ledger = after_note (Copied p a f) old.ledger;
+          rmap = at_home f (p, page_of a) old.rmap;
+        }) }
+{}
+
+/// A page gets a copy of its frame, of which it was the last use: so it is with a merged frame. That
+/// frame is free then, in front of all others.
+pub fn last_copies_free_frames()
+    ensures { (m : Setting) (closing : Option ℕ) (old : Held) → IsHeld m old → (p a f : ℕ)
+        (left : List ℕ) (write : Bool) → T (is_sorted key_cmp old.ledger.entries)
+        → AreOnce old.ledger → is_free old.ledger f ≡ true → old.view.free ≡ f ∷ left
+        → is_in f left ≡ false → (g : ℕ) (seen : Bool)
+        → entry old.ledger (p, page_of a) ≡ Some (InFrame g seen) → LosesUse old.ledger g
+        → g < m.frames
+        → Steps m closing (Noted (Copied p a f)) old (record old {
+          view = view_copy_last p (page_of a) g f write left
               (home_of (page_of a) (old.rmap.areas p (page_of a))) old.view;
           ledger = after_note (Copied p a f) old.ledger;
           rmap = at_home f (p, page_of a) old.rmap;

@@ -8,7 +8,7 @@ ghost use Rattle.av_plain.specs.Choice.{ListsFree};
 ghost use Rattle.av_plain.specs.Fault.{is_unneeded};
 ghost use Rattle.av_plain.specs.Ledger.{Ledger, Setting, frame_at, in_flight, is_free, is_orphan};
 ghost use Rattle.av_plain.specs.Ledger.{is_stale, may_give, slot_of};
-ghost use Rattle.av_plain.specs.Sound.{IsSoundBut, flights, listings, uses};
+ghost use Rattle.av_plain.specs.Sound.{IsSoundBut, flights, listings, mergings, uses};
 ghost use Rattle.av_swap_laws.specs.May.{AreOnce, MayLeave, MayComeIn, MayGoOut};
 
 /// Where the definitions ask for a step, soundness gives what it needs: of a frame that is put, a
@@ -18,7 +18,7 @@ pub fn steps_may_be_made()
         → AreOnce l
         × ((f : ℕ) → 0 < listings l f → 0 < uses l f)
         × ((closing : Option ℕ) (f : ℕ) (s : Slot) → slot_of l f ≡ None
-        → may_give m closing l s ≡ true → 0 < uses l f → MayGoOut l f s)
+        → may_give m closing l s ≡ true → 0 < uses l f → mergings l f ≡ 0 → MayGoOut l f s)
         × ((f : ℕ) (s : Slot) → frame_at l s ≡ None → is_free l f ≡ true → MayComeIn l f s)
         × ((f : ℕ) (s : Slot) → frame_at l s ≡ Some f → f < m.frames)
         × ((f : ℕ) (s : Slot) → slot_of l f ≡ Some s → frame_at l s ≡ Some f)

@@ -156,6 +156,91 @@ module _ (n : ℕ) (find : Slot → Option ℕ) (q : List Slot) (ql qr : ℕ) (f
               (some_same (sym is ∙ ap find (sym (slot-is o.0 s h)) ∙ o.1)) ∙ e))
           still false h = at o.0 false h ∙ o.1
 
+  -- a slot goes over to a frame that caches none, with its flag
+  pub whole_renamed : (s : Slot) (f g : ℕ) (b : Bool) → IsWhole n find q ql qr flags → find s ≡ Some f → ((t : Slot) → find t ≡ Some g → ⊥)
+      → g < length flags → b ≡ get_or flags f b → IsWhole n (with_slot s (Some g) find) q ql qr (set (set flags g b) f false)
+  whole_renamed s f g b w is free below reads = record {
+    eight = w.eight;
+    len = w.len;
+    room = subst (λ m. m ≤ qr) (sym size) w.room;
+    few = subst (λ m. m < 2 ^ 32) (sym size) w.few;
+    total = sum _ _ _ _ w.total (flags-set flags g b below) (ap (λ x. cond x 1 0) (not_owned g w free))
+        (flags-set (set flags g b) f false from_below) (ap (λ x. cond x 1 0) (get_or-set_other flags g f b false differ ∙ flag));
+    in_range = λ t h e. subst (λ m. h < m) (sym size) (range t h (same_slot t s) refl e);
+    apart = λ t u h d e. one t u h (same_slot t s) (same_slot u s) refl refl d e;
+    flying = λ t. w.flying t ∙ flies t (same_slot t s) refl;
+    owned = λ h e. owns h (h == f) (h == g) refl refl e;
+  }
+    where
+      differ : f ≡ g → ⊥
+      differ e = free s (is ∙ ap Some e)
+
+      size : length (set (set flags g b) f false) ≡ length flags
+      size = length-set (set flags g b) f false ∙ length-set flags g b
+
+      from_below : f < length (set flags g b)
+      from_below = subst (λ m. f < m) (sym (length-set flags g b)) (w.in_range s f is)
+
+      flag : get_or flags f false ≡ b
+      flag = any_default flags f false b (w.in_range s f is) ∙ sym reads
+
+      flag_there : get_or (set (set flags g b) f false) g false ≡ b
+      flag_there = get_or-set_other (set flags g b) f g false false (λ e. differ (sym e)) ∙ get_or-set_same flags g b false below
+
+      flag_here : get_or (set (set flags g b) f false) f false ≡ false
+      flag_here = get_or-set_same (set flags g b) f false false from_below
+
+      flag_else : (h : ℕ) → (h ≡ f → ⊥) → (h ≡ g → ⊥) → get_or (set (set flags g b) f false) h false ≡ get_or flags h false
+      flag_else h ne other = get_or-set_other (set flags g b) f h false false ne ∙ get_or-set_other flags g h b false other
+
+      sum : (m c k d : ℕ) → length q ≡ how_many itself flags → m + c ≡ how_many itself flags + cond b 1 0 → c ≡ 0
+          → k + d ≡ m + 0 → d ≡ cond b 1 0 → length q ≡ k
+      sum m c k d x y z u v = omega (arith, x, y, z, u, v)
+
+      at : (t : Slot) (c : Bool) → same_slot t s ≡ c → with_slot s (Some g) find t ≡ cond c (Some g) (find t)
+      at t c e = ap (λ x. cond x (Some g) (find t)) e
+
+      range : (t : Slot) (h : ℕ) (c : Bool) → same_slot t s ≡ c → with_slot s (Some g) find t ≡ Some h → h < length flags
+      range t h true e d = subst (λ m. m < length flags) (some_same (sym (at t true e) ∙ d)) below
+      range t h false e d = w.in_range t h (sym (at t false e) ∙ d)
+
+      one : (t u : Slot) (h : ℕ) (c d : Bool) → same_slot t s ≡ c → same_slot u s ≡ d → with_slot s (Some g) find t ≡ Some h →
+          with_slot s (Some g) find u ≡ Some h → t ≡ u
+      one t u h true true x y d e = slot-is t s x ∙ sym (slot-is u s y)
+      one t u h true false x y d e = absurd (free u (sym (at u false y) ∙ e ∙ ap Some (sym (some_same (sym (at t true x) ∙ d)))))
+      one t u h false true x y d e = absurd (free t (sym (at t false x) ∙ d ∙ ap Some (sym (some_same (sym (at u true y) ∙ e)))))
+      one t u h false false x y d e = w.apart t u h (sym (at t false x) ∙ d) (sym (at u false y) ∙ e)
+
+      flies : (t : Slot) (c : Bool) → same_slot t s ≡ c
+          → ◌≡◌ {A = ℕ} (cond (is_writing flags (find t)) 1 0)
+          (cond (is_writing (set (set flags g b) f false) (with_slot s (Some g) find t)) 1 0)
+      flies t true e = ap (λ x. cond {A = ℕ} x 1 0) (ap (is_writing flags) (ap find (slot-is t s e) ∙ is) ∙ flag
+          ∙ sym (ap (is_writing (set (set flags g b) f false)) (at t true e) ∙ flag_there))
+      flies t false e = ap (λ x. cond {A = ℕ} x 1 0) (stays (find t) refl ∙ sym (ap (is_writing (set (set flags g b) f false)) (at t false e)))
+        where
+          stays : (o : Option ℕ) → find t ≡ o → is_writing flags (find t) ≡ is_writing (set (set flags g b) f false) (find t)
+          stays None h = ap (is_writing flags) h ∙ sym (ap (is_writing (set (set flags g b) f false)) h)
+          stays (Some x) h =
+              ap (is_writing flags) h ∙ sym (flag_else x (λ e'. slot-other t s e (w.apart t s f (h ∙ ap Some e') is)) (λ e'. free t (h ∙ ap Some e')))
+              ∙ sym (ap (is_writing (set (set flags g b) f false)) h)
+
+      owns : (h : ℕ) (c d : Bool) → (h == f) ≡ c → (h == g) ≡ d → get_or (set (set flags g b) f false) h false ≡ true
+          → (t : Slot) × (with_slot s (Some g) find t ≡ Some h)
+      owns h true d x y e =
+          let same : h ≡ f = grind (arith, nat_tests, x) in
+          absurd (false≢true (sym (ap (λ m. get_or (set (set flags g b) f false) m false) same ∙ flag_here) ∙ e))
+      owns h false true x y e =
+          let same : h ≡ g = grind (arith, nat_tests, y) in (s, at s true (slot-itself s) ∙ ap Some (sym same))
+      owns h false false x y e =
+          let ne : h ≡ f → ⊥ = grind (arith, nat_tests, x) in
+          let other : h ≡ g → ⊥ = grind (arith, nat_tests, y) in
+          let o = w.owned h (sym (flag_else h ne other) ∙ e) in
+          (o.0, still o.0 o.1 ne (same_slot o.0 s) refl)
+        where
+          still : (t : Slot) → find t ≡ Some h → (h ≡ f → ⊥) → (c : Bool) → same_slot t s ≡ c → with_slot s (Some g) find t ≡ Some h
+          still t found ne true k = absurd (ne (sym (some_same (sym is ∙ ap find (sym (slot-is t s k)) ∙ found))))
+          still t found ne false k = at t false k ∙ found
+
   -- the flag of a slot after that of a frame is set
   flag_at : (s t : Slot) (f : ℕ) (b : Bool) → IsWhole n find q ql qr flags → find s ≡ Some f → (c : Bool) → same_slot t s ≡ c
       → is_writing (set flags f b) (find t) ≡ cond c b (is_writing flags (find t))

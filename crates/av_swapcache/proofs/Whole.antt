@@ -1,5 +1,5 @@
 -- What `Swap` keeps, after one of its areas has changed.
-use Rattle.std.proofs.Common.{◌≡◌, ℕ, zero, suc, ◌+◌, ◌-◌, ◌^◌, ◌<◌, ◌≤◌, Bool, true, false, cond, not, ◌&&◌, ltb, List, [], ◌∷◌, length, get_or, set, replicate, Option, Some, None, is_some, option_map, refl, sym, ap, subst, ◌∙◌, arith, length-set}
+use Rattle.std.proofs.Common.{◌≡◌, ℕ, zero, suc, ◌+◌, ◌-◌, ◌^◌, ◌<◌, ◌≤◌, Bool, true, false, cond, not, ◌&&◌, ltb, List, [], ◌∷◌, length, get_or, set, replicate, Option, Some, None, is_some, option_map, refl, sym, ap, subst, ◌∙◌, arith, length-set, eq-eqb, ne_eqb}
 use Rattle.std.proofs.lemmas.Bool.{false≢true}
 use Rattle.std.specs.List.{ends_with, list_any}
 use Rattle.std.specs.Prelude.{codes, nat_eq, count_by, ◌==◌}
@@ -14,18 +14,18 @@ use Rattle.std.specs.Prelude.{ℤ, IfSome, IsSomeAnd, MatchResult, OnOk, OnErr, 
 use Rattle.av_base.specs.Page.{page_size}
 use Rattle.av_frames.specs.Store.{Shown as ShownFrames}
 use Rattle.av_swapcache.specs.Calls.{IsFirst}
-use Rattle.av_swapcache.proofs.SlotLaws.{area_at-set, areas_one, is_there, on-off, on-put, slots_all, slots_same}
+use Rattle.av_swapcache.proofs.SlotLaws.{area_at-set, areas_one, is_there, on-off, on-put, slot-is, slot-other, slots_all, slots_same}
 use Rattle.std.proofs.lemmas.Bool.Decides.{nat_tests}
 use Rattle.av_clusters.specs.Clusters.{Slots, is_free, pages_of, take_slot}
 use Rattle.av_swapdev.specs.Device.{HasPage}
 use Rattle.std.proofs.lemmas.List.{length-replicate}
-use Rattle.av_base.specs.Words.{how_many, with_at}
+use Rattle.av_base.specs.Words.{how_many, renamed, with_at}
 use Rattle.av_base.specs.declared.slot.Slot.{Slot}
 use Rattle.av_swapdev.specs.declared.header.Header.{Header}
 use Rattle.av_swapcache.specs.Area.{AreaShown, AreaStore, IsSlot, area_shown, count_in, counted, free_in, fresh_area, given_back as area_given_back, with_entries as area_with_entries, with_frame}
-use Rattle.av_swapcache.specs.Swap.{HasAreas, IsSlotIn, IsWhole, Shown, Store, after_off, after_on, after_put, area_at, bad_in, can_give, count_of, entries_in, find_in, frame_in, given_back, header_at, is_closing, is_on, is_writing, itself, on_from, priority_in, same_slot, shown, slots_in, with_area, with_entries}
-use Rattle.av_swapcache.proofs.Flight.{is_listed, whole_drop, whole_put, whole_same}
-use Rattle.av_swapcache.proofs.SwapLaws.{area_is, frames_kept, frames_one, header-at, shown_named, shown_put, shown_same, shown_unnamed, with_one}
+use Rattle.av_swapcache.specs.Swap.{HasAreas, IsSlotIn, IsWhole, Shown, Store, after_off, after_on, after_put, area_at, bad_in, can_give, count_of, entries_in, find_in, frame_in, given_back, header_at, is_closing, is_on, is_writing, itself, on_from, priority_in, same_slot, shown, slots_in, with_area, with_entries, with_renamed, with_slot}
+use Rattle.av_swapcache.proofs.Flight.{is_listed, whole_drop, whole_put, whole_renamed, whole_same}
+use Rattle.av_swapcache.proofs.SwapLaws.{area_is, frames_kept, frames_one, header-at, shown_found, shown_named, shown_put, shown_same, shown_unnamed, with_one}
 
 abbrev HasHeader : ℕ → Option Header → Type 0
 HasHeader p header = IsSomeAnd header (λ (a : Header). p < a.pages)
@@ -93,6 +93,17 @@ module _ (s : Store) (areas : List (Option AreaStore)) (k : ℕ) (a b : AreaStor
       list_any (same_slot (record { area = k; page = p })) s.flight ≡ false → IsWhole (length areas) (frame_in areas) s.flight ql qr s.writing
   drop_whole p f e is none = replaced _ (frames_one s k a b (sym h) p None e)
       (whole_drop (length s.areas) (frame_in s.areas) s.flight ql qr s.writing (record { area = k; page = p }) f w is none)
+
+  pub renamed_whole : (p f g : ℕ) (flag : Bool) → (area_shown b).find ≡ with_at p (Some g) (area_shown a).find
+      → frame_in s.areas (record { area = k; page = p }) ≡ Some f → ((t : Slot) → frame_in s.areas t ≡ Some g → ⊥) → g < length s.writing
+      → flag ≡ get_or s.writing f flag → IsWhole (length areas) (frame_in areas) s.flight ql qr (set (set s.writing g flag) f false)
+  renamed_whole p f g flag e is free below reads =
+      subst (λ l. IsWhole (length l) (frame_in l) s.flight ql qr (set (set s.writing g flag) f false)) (sym back)
+      (resized (length s.areas) (length (set s.areas k (Some b))) (frame_in (set s.areas k (Some b))) s.flight ql qr
+      (set (set s.writing g flag) f false) (length-set s.areas k (Some b))
+      (whole_same (length s.areas) _ s.flight ql qr (set (set s.writing g flag) f false) (frame_in (set s.areas k (Some b)))
+      (frames_one s k a b (sym h) p (Some g) e)
+      (whole_renamed (length s.areas) (frame_in s.areas) s.flight ql qr s.writing (record { area = k; page = p }) f g flag w is free below reads)))
 
 -- ---- whether a slot is in flight
 
@@ -484,3 +495,39 @@ pub slots_listed : (page : List ℕ) (device : ℕ) (layout : Layout) (header : 
     AddsUp header device → listed ≡ layout.bad → count_by is_free (pages_of header.pages listed) ≡ header.slots
 slots_listed page device layout header listed e h adds is =
     (λ k. count_by is_free (pages_of (h k).pages (is k))) ∙ slots_are page device layout header e h adds
+
+-- ---- a slot goes over to another frame
+
+-- the frames of slots, where this slot alone is cached at the one frame
+pub renamed_one : (find : Slot → Option ℕ) (s : Slot) (f g : ℕ) → find s ≡ Some f → ((t u : Slot) (h : ℕ) → find t ≡ Some h → find u ≡ Some h → t ≡ u)
+    → with_slot s (Some g) find ≡ (λ t. option_map (renamed f g) (find t))
+renamed_one find s f g is apart = λ i t. point t (same_slot t s) refl i
+  where
+    given : (o : Option ℕ) → o ≡ Some f → option_map (renamed f g) o ≡ Some g
+    given o e = ap (option_map (renamed f g)) e ∙ ap (λ b. Some (cond b g f)) (eq-eqb f f refl)
+
+    point : (t : Slot) (b : Bool) → same_slot t s ≡ b → with_slot s (Some g) find t ≡ option_map (renamed f g) (find t)
+    point t true e = ap (λ b. cond b (Some g) (find t)) e ∙ sym (given (find t) (ap find (slot-is t s e) ∙ is))
+    point t false e = ap (λ b. cond b (Some g) (find t)) e ∙ stays (find t) refl
+      where
+        stays : (o : Option ℕ) → find t ≡ o → find t ≡ option_map (renamed f g) (find t)
+        stays None h = h ∙ sym (ap (option_map (renamed f g)) h)
+        stays (Some x) h =
+            let ne : x ≡ f → ⊥ = λ same. slot-other t s e (apart t s f (h ∙ ap Some same) is) in
+            h ∙ sym (ap (option_map (renamed f g)) h ∙ ap (λ b. Some (cond b g x)) (ne_eqb x f ne))
+
+-- and where none is
+pub renamed_none : (find : Slot → Option ℕ) (f g : ℕ) → ((t : Slot) → find t ≡ Some f → ⊥) → find ≡ (λ t. option_map (renamed f g) (find t))
+renamed_none find f g free = λ i t. stays t (find t) refl i
+  where
+    stays : (t : Slot) (o : Option ℕ) → find t ≡ o → find t ≡ option_map (renamed f g) (find t)
+    stays t None h = h ∙ sym (ap (option_map (renamed f g)) h)
+    stays t (Some x) h = h ∙ sym (ap (option_map (renamed f g)) h ∙ ap (λ b. Some (cond b g x)) (ne_eqb x f (λ same. free t (h ∙ ap Some same))))
+
+pub renamed_shown : (s : Store) (k p f g : ℕ) (a b : AreaStore) (ql qr : ℕ) → Some a ≡ get_or s.areas k None
+    → IsWhole (length s.areas) (frame_in s.areas) s.flight ql qr s.writing → frame_in s.areas (record { area = k; page = p }) ≡ Some f
+    → area_shown b ≡ with_frame p (Some g) (area_shown a) → shown (with_one s k b) ≡ with_renamed f g (shown s)
+renamed_shown s k p f g a b ql qr h w is e =
+    shown_found s k a b (sym h) p (Some g) e
+    ∙ ap (λ (find : Slot → Option ℕ). record (shown s) { find = find })
+    (renamed_one (frame_in s.areas) (record { area = k; page = p }) f g is w.apart)

@@ -6,7 +6,7 @@ use Rattle.std.specs.Prelude.{◌≡◌, ℕ, ℤ, pos, ◌+◌, ◌*◌, ◌^�
 use Rattle.std.specs.Prelude.{true, false, not, ◌&&◌, ◌==◌, nat_lt, if◌then◌else◌, List, [], ◌∷◌}
 use Rattle.std.specs.Prelude.{length, slice_index_or, sum_by, count_by, Option, None, Some, is_some}
 use Rattle.std.specs.Prelude.{option_map, IfSome, IsSomeAnd, count_by}
-use Rattle.av_base.specs.Words.{how_many, with_at}
+use Rattle.av_base.specs.Words.{how_many, renamed, with_at}
 use Rattle.av_base.specs.declared.slot.Slot.{Slot}
 use Rattle.av_clusters.specs.Clusters.{Slots, fresh as fresh_slots, is_taken, page_at}
 use Rattle.av_swapdev.specs.Device.{most_areas}
@@ -162,6 +162,11 @@ is_cached h s = is_some (h.find s)
 abbrev pub IsUncached : Shown → ℕ → Type 0
 IsUncached h f = (s : Slot) → h.find s ≡ Some f → ⊥
 
+-- this slot alone is cached at the frame, or none is
+abbrev pub IsCachedAs : Shown → ℕ → Option Slot → Type 0
+IsCachedAs h f None = IsUncached h f
+IsCachedAs h f (Some s) = h.find s ≡ Some f
+
 -- how many slots of the area are free
 abbrev pub free_of : Shown → ℕ → ℕ
 free_of h k = free_in (h.slots k)
@@ -236,6 +241,10 @@ pub record IsFit (h : Shown) : Type 0 where
 
 abbrev pub with_find : Slot → Option ℕ → Shown → Shown
 with_find s frame h = record h { find = with_slot s frame h.find }
+
+-- what is cached at one frame is cached at another
+abbrev pub with_renamed : ℕ → ℕ → Shown → Shown
+with_renamed from to h = record h { find = λ s. option_map (renamed from to) (h.find s) }
 
 abbrev pub with_entries : Slot → ℕ → Shown → Shown
 with_entries s n h = record h { entries = with_slot s n h.entries }

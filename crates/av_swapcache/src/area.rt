@@ -140,9 +140,9 @@ impl Area {
         page
     }
 
-    /// Caches a slot that an entry names at a frame.
+    /// Caches a slot that is in use at a frame.
     pub(crate) fn cache(&mut self, page: u32, frame: u32)
-        requires { 0 < (area_shown self.old).entries page }
+        requires { 0 < count_in (area_shown self.old) page }
         ensures { area_shown self.new ≡ with_frame page (Some frame) (area_shown self.old) }
     {
         self.counts.set_cached(page, true);

@@ -9,7 +9,8 @@ ghost use Rattle.av_frames.specs.Store.{with_slot as with_frame_slot};
 ghost use Rattle.av_io.specs.Count.{Rose};
 ghost use Rattle.av_swapcache.specs.Calls.{Answers, Finishes, IsLoaded, IsPut};
 ghost use Rattle.av_swapcache.specs.Swap.{shown, fresh, all_free, all_slots, IsFit, GivesFirst};
-ghost use Rattle.av_swapcache.specs.Swap.{HasAreas, IsPage, IsUncached, can_give, count_of};
+ghost use Rattle.av_swapcache.specs.Swap.{HasAreas, IsCachedAs, IsPage, IsUncached, can_give};
+ghost use Rattle.av_swapcache.specs.Swap.{count_of, with_renamed};
 ghost use Rattle.av_swapcache.specs.Swap.{is_cached, is_flying, is_full, is_on, header_at, free_of};
 ghost use Rattle.av_swapcache.specs.Swap.{outranks, is_closing, with_closing, with_entries};
 ghost use Rattle.av_swapcache.specs.Swap.{with_find, given_back, after_off};
@@ -237,6 +238,27 @@ impl Swap {
         };
         area.uncache(slot.page);
         frames.set_slot(frame, None);
+    }
+
+    /// The slot that is cached at a frame is cached at another one, in flight or not. The frames
+    /// stay as they are: what they say of slots goes over with the rest (`Frames::relocate`). Where
+    /// no slot is cached there all stays.
+    pub fn rename(&mut self, frames: &Frames, from: u32, to: u32)
+        requires fits { (shown self.old).frames ≡ (frames_shown frames.now).count }
+        requires in_range { (from < (shown self.old).frames) × (to < (shown self.old).frames) }
+        requires cached { IsCachedAs (shown self.old) from ((frames_shown frames.now).slot from) }
+        requires not_cached { IsUncached (shown self.old) to }
+        ensures { shown self.new ≡ with_renamed from to (shown self.old) }
+    {
+        let Some(slot) = frames.slot(from) else {
+            return;
+        };
+        let Some(area) = self.areas.of_mut(slot.area) else {
+            unreachable!();
+        };
+        area.cache(slot.page, to);
+        self.writing[to as usize] = self.writing[from as usize];
+        self.writing[from as usize] = false;
     }
 
     /// Puts a cached slot last in flight. Its frame is clean then.

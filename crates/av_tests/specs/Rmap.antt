@@ -1,5 +1,6 @@
 -- What the test of the walk builds: three areas of one anon_vma, and a frame of two processes.
 use Rattle.std.specs.Prelude.{◌≡◌, ℕ, ◌⊎◌, ◌&&◌, ◌==◌, true, false, if◌then◌else◌, Option, Some}
+use Rattle.av_base.specs.Flags.{no_flags}
 use Rattle.av_pagetable.specs.declared.pte.Pte.{Pte}
 use Rattle.av_pagetable.specs.declared.pte.Pte.TheVariants.{Empty, Here}
 use Rattle.av_vma.specs.declared.area.Area.{Area}
@@ -10,7 +11,7 @@ linked_area pid start end pgoff = record {
   start = start;
   end = end;
   prot = record { read = true; write = true; execute = false };
-  flags = 0;
+  flags = no_flags;
   pgoff = pgoff;
   anon = Some 0;
 }

@@ -98,3 +98,32 @@ fn what_is_kept_of_a_frame(rt: HostRuntime) -> Result<(), AllocError> {
     assert!(rt; is_kept(&mut frames, 0, (3, 6), Slot { area: 0, page: 1 }));
     Ok(())
 }
+
+/// Moves what is kept of a frame in use to a free one, and says whether they have changed places.
+fn is_moved(frames: &mut Frames, from: u32, to: u32) -> bool {
+    if from >= frames.count()
+        || to >= frames.count()
+        || frames.is_free(from)
+        || !frames.is_free(to)
+    {
+        return false;
+    }
+    frames.set_home(from, Some((4, 9)));
+    frames.relocate(from, to);
+    frames.is_free(from) && !frames.is_free(to) && frames.home(to) == Some((4, 9))
+}
+
+#[test]
+fn a_frame_moves_and_the_free_ones_are_put_in_order(rt: HostRuntime) -> Result<(), AllocError> {
+    let mut frames = Frames::new(rt.alloc(), 4)?;
+    frames.load(2, &[9; PAGE_SIZE as usize]);
+    assert!(rt; are_taken(&mut frames, &[Some(0), Some(1), Some(2)]));
+    assert!(rt; is_given_back(&mut frames, 0) && is_given_back(&mut frames, 1));
+    // The free ones were 1, 0 and 3, and are 2, 1 and 3.
+    assert!(rt; is_moved(&mut frames, 2, 0));
+    assert!(rt; last_bytes(&frames, 0) == Some([9, 9, 9]));
+    assert!(rt; frames.first() == Some(2));
+    frames.order_free();
+    assert!(rt; are_taken(&mut frames, &[Some(1), Some(2), Some(3), None]));
+    Ok(())
+}

@@ -35,6 +35,26 @@ fn go_as_told(lru: &mut Lru, found: &mut Vec<u32>) -> bool
         && lru.len(Which::Inactive) == 1
 }
 
+/// Whether a frame of the inactive list gives its place to one that is in no list.
+fn gives_its_place(lru: &mut Lru, found: &mut Vec<u32>) -> bool
+    requires fresh { lru.old ≡ record { frames = 4; active = []; inactive = [] } }
+    requires room { 4 ≤ vec_capacity found.old }
+{
+    lru.add(3);
+    lru.to_inactive_head(1);
+    lru.to_inactive_tail(2);
+    lru.rename(3, 0);
+    are_tails(lru, Which::Inactive, 4, found, &[2, 0, 1]) && lru.place(3) == None
+}
+
+#[test]
+fn a_frame_gives_its_place(rt: HostRuntime) -> Result<(), AllocError> {
+    let mut lru = Lru::new(rt.alloc(), 4)?;
+    let mut found = Vec::with_capacity(rt.alloc(), 4)?;
+    assert!(rt; gives_its_place(&mut lru, &mut found));
+    Ok(())
+}
+
 #[test]
 fn frames_join_and_move(rt: HostRuntime) -> Result<(), AllocError> {
     let mut lru = Lru::new(rt.alloc(), 4)?;

@@ -17,7 +17,7 @@ ghost use Rattle.av_vma.specs.Areas.{area_of};
 
 use av_anon::Anons;
 use av_anon::order::nobody_is_in_order;
-use av_base::{PAGE_SIZE, Prot, Steps};
+use av_base::{Flags, PAGE_SIZE, Prot, Steps};
 use av_pagetable::{PageTable, Pte, Tables};
 use av_rmap::look::LookMut;
 use av_rmap::seen::clear_seen;
@@ -39,7 +39,7 @@ const PARENT: Area = Area {
         write: true,
         execute: false,
     },
-    flags: 0,
+    flags: Flags::NONE,
     pgoff: 10,
     anon: None,
 };

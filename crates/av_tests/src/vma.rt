@@ -1,6 +1,6 @@
 //! Areas are kept by number.
 
-use av_base::Prot;
+use av_base::{Flags, Prot};
 use av_vma::*;
 use std::test::Fail;
 
@@ -15,7 +15,7 @@ fn area(pid: u16) -> Area {
             write: false,
             execute: false,
         },
-        flags: 0,
+        flags: Flags::NONE,
         pgoff: 16,
         anon: None,
     }

@@ -11,9 +11,11 @@ use Rattle.av_trace.specs.declared.command.Command.{Command}
 use Rattle.av_trace.specs.declared.command.Command.TheVariants as commands
 use Rattle.av_trace.specs.declared.place.Place.{Place}
 use Rattle.av_trace.specs.declared.mode.Mode.{Mode}
-use Rattle.av_trace.specs.Command.{IsAreaNumber, IsFrameCount, IsInRange, line_of, at_end, whole, no_words, fork_words, range_words, mmap_words, mprotect_words, mremap_words, read_words, write_words, CommandReader, fork_at, mmap_at, munmap_at, mprotect_at, mremap_at, read_at, write_at, area_at, frames_at, rmap_at, entry_of, swapon_words, swapon_at, slot_at, slot_words, readers, command_of}
+use Rattle.av_trace.specs.Command.{IsAreaNumber, IsFrameCount, IsInRange, line_of, at_end, whole, no_words, fork_words, range_words, mmap_words, mprotect_words, mremap_words, read_words, write_words, CommandReader, fork_at, mmap_at, munmap_at, mprotect_at, mremap_at, madvise_at, madvise_words, mlock_at, munlock_at, read_at, write_at, area_at, frames_at, rmap_at, entry_of, swapon_words, swapon_at, slot_at, slot_words, readers, command_of}
 use Rattle.av_text.specs.Hex.{hex, hex_text, IsData}
 use Rattle.av_text.specs.Number.{IsNumberIn, IsProcess, IsWide, process_at}
+use Rattle.av_trace.specs.declared.advice.Advice.{Advice}
+use Rattle.av_trace.specs.Advice.{advice_words}
 use Rattle.av_trace.specs.Place.{IsPlace, place_words}
 use Rattle.av_trace.specs.Mode.{IsMode, mode_words}
 use Rattle.av_trace.specs.Priority.{IsPriority, priority_words}
@@ -21,6 +23,7 @@ use Rattle.av_text.specs.Prot.{prot_text}
 use Rattle.av_text.specs.Word.{field, line, ◌>>=◌, BeginsWith, Reader, after}
 use Rattle.av_text.proofs.HexLaws.{stored}
 use Rattle.av_text.proofs.NumberLaws.{processes, lengths, entries, reads_decimal}
+use Rattle.av_trace.proofs.AdviceLaws.{last_advice}
 use Rattle.av_trace.proofs.ModeLaws.{last_mode}
 use Rattle.av_trace.proofs.PlaceLaws.{last_place}
 use Rattle.av_trace.proofs.PriorityLaws.{last_priority}
@@ -55,6 +58,10 @@ mremaps : Reads mremap_words
     (λ (x : (((ℕ × ℕ) × ℕ) × ℕ) × Mode). (((IsProcess x.0.0.0.0 × IsWide x.0.0.0.1) × IsWide x.0.0.1) × IsWide x.0.1) × IsMode x.1)
     (λ (x : (((ℕ × ℕ) × ℕ) × ℕ) × Mode). decimal x.0.0.0.0 ∷ hex x.0.0.0.1 ∷ decimal x.0.0.1 ∷ decimal x.0.1 ∷ mode_words x.1) IsEnd
 mremaps = reads_both (reads_both ranges lengths) last_mode
+
+madvises : Reads madvise_words (λ (x : ((ℕ × ℕ) × ℕ) × Advice). ((IsProcess x.0.0.0 × IsWide x.0.0.1) × IsWide x.0.1) × Unit {0})
+    (λ (x : ((ℕ × ℕ) × ℕ) × Advice). decimal x.0.0.0 ∷ hex x.0.0.1 ∷ decimal x.0.1 ∷ advice_words x.1) IsEnd
+madvises = reads_both ranges last_advice
 
 reads : Reads read_words (λ (x : (ℕ × ℕ) × ℕ). (IsProcess x.0.0 × IsWide x.0.1) × IsNumberIn 1 page_size x.1)
     (λ (x : (ℕ × ℕ) × ℕ). decimal x.0.0 ∷ hex x.0.1 ∷ decimal x.1 ∷ []) IsRest
@@ -119,6 +126,15 @@ mprotects-found = whole-found mprotects (codes "mprotect") _ (λ x h. (h.0.0.0, 
 mremaps-found : IsReader (codes "mremap", mremap_at)
 mremaps-found = whole-found mremaps (codes "mremap") _ (λ x h. (h.0.0.0.0, h.0.0.0.1, h.0.0.1, h.0.1, h.1)) (λ _. refl)
 
+madvises-found : IsReader (codes "madvise", madvise_at)
+madvises-found = whole-found madvises (codes "madvise") _ (λ x h. (h.0.0.0, h.0.0.1, h.0.1)) (λ _. refl)
+
+mlocks-found : IsReader (codes "mlock", mlock_at)
+mlocks-found = whole-found ranges (codes "mlock") _ (λ x h. (h.0.0, h.0.1, h.1)) (λ _. refl)
+
+munlocks-found : IsReader (codes "munlock", munlock_at)
+munlocks-found = whole-found ranges (codes "munlock") _ (λ x h. (h.0.0, h.0.1, h.1)) (λ _. refl)
+
 spawns-found : IsReader (codes "spawn", whole process_at commands.Spawn)
 spawns-found = whole-found processes (codes "spawn") commands.Spawn (λ _ h. h) (λ _. refl)
 
@@ -143,6 +159,12 @@ swapons-found = whole-found swapons (codes "swapon") _ (λ _ h. h) (λ _. refl)
 swapoffs-found : IsReader (codes "swapoff", whole area_at commands.Swapoff)
 swapoffs-found = whole-found swap_areas (codes "swapoff") commands.Swapoff (λ _ h. h) (λ _. refl)
 
+merges-found : IsReader (codes "merge", whole no_words (λ x. commands.Merge))
+merges-found = whole-found nothing (codes "merge") _ (λ _ _. tt) (λ _. refl)
+
+compacts-found : IsReader (codes "compact", whole no_words (λ x. commands.Compact))
+compacts-found = whole-found nothing (codes "compact") _ (λ _ _. tt) (λ _. refl)
+
 maps-found : IsReader (codes "maps", whole process_at commands.Maps)
 maps-found = whole-found processes (codes "maps") commands.Maps (λ _ h. h) (λ _. refl)
 
@@ -162,46 +184,7 @@ stats-found : IsReader (codes "stat", whole no_words (λ x. commands.Stat))
 stats-found = whole-found nothing (codes "stat") _ (λ _ _. tt) (λ _. refl)
 
 each_reads : AllByRecursion IsReader readers
-each_reads = (
-  writes-found,
-  (
-    reads-found,
-    (
-      spawns-found,
-      (
-        forks-found,
-        (
-          exits-found,
-          (
-            mmaps-found,
-            (
-              ranges-found,
-              (
-                mprotects-found,
-                (
-                  mremaps-found,
-                  (
-                    reclaims-found,
-                    (
-                      ages-found,
-                      (
-                        completes-found,
-                        (
-                          swapons-found,
-                          (swapoffs-found, (maps-found, (areas-found, (rmaps-found, (entries-found, (slots-found, (stats-found, tt))))))),
-                        ),
-                      ),
-                    ),
-                  ),
-                ),
-              ),
-            ),
-          ),
-        ),
-      ),
-    ),
-  ),
-)
+each_reads = (writes-found, (reads-found, (spawns-found, (forks-found, (exits-found, (mmaps-found, (ranges-found, (mprotects-found, (mremaps-found, (madvises-found, (mlocks-found, (munlocks-found, (reclaims-found, (ages-found, (completes-found, (swapons-found, (swapoffs-found, (merges-found, (compacts-found, (maps-found, (areas-found, (rmaps-found, (entries-found, (slots-found, (stats-found, tt)))))))))))))))))))))))))
 
 pub command_of-found : (bytes : List ℕ) (c : Command) → command_of bytes ≡ Some c → IsInRange c × (bytes ≡ line_of c)
 unfolding command_of
@@ -232,6 +215,10 @@ command_of-again (commands.Munmap p address len) h = whole-again ranges tt _ ((p
 command_of-again (commands.Mprotect p address len prot) h = whole-again mprotects tt _ (((p, address), len), prot) (((h.0, h.1), h.2), tt)
 command_of-again (commands.Mremap p address old_len new_len mode) h =
     whole-again mremaps refl _ ((((p, address), old_len), new_len), mode) ((((h.0, h.1), h.2), h.3), h.4)
+command_of-again (commands.Madvise p address len advice) h =
+    whole-again madvises refl _ (((p, address), len), advice) (((h.0, h.1), h.2), tt)
+command_of-again (commands.Mlock p address len) h = whole-again ranges tt _ ((p, address), len) ((h.0, h.1), h.2)
+command_of-again (commands.Munlock p address len) h = whole-again ranges tt _ ((p, address), len) ((h.0, h.1), h.2)
 command_of-again (commands.Read p address len) h = whole-again reads tt _ ((p, address), len) ((h.0, h.1), h.2)
 command_of-again (commands.Write p address bytes) h = whole-again writes refl _ ((p, address), bytes) ((h.0, h.1), h.2)
 command_of-again (commands.Reclaim n) h = whole-again counts tt commands.Reclaim n h
@@ -239,6 +226,8 @@ command_of-again (commands.Age n) h = whole-again counts tt commands.Age n h
 command_of-again (commands.Complete n) h = whole-again counts tt commands.Complete n h
 command_of-again (commands.Swapon k priority) h = whole-again swapons refl _ (k, priority) h
 command_of-again (commands.Swapoff k) h = whole-again swap_areas tt commands.Swapoff k h
+command_of-again commands.Merge h = whole-again nothing tt (λ x. commands.Merge) tt tt
+command_of-again commands.Compact h = whole-again nothing tt (λ x. commands.Compact) tt tt
 command_of-again (commands.Maps p) h = whole-again processes tt commands.Maps p h
 command_of-again (commands.Areas p) h = whole-again processes tt commands.Areas p h
 command_of-again (commands.Rmap p address) h = whole-again entries tt _ (p, address) h

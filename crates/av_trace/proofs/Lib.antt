@@ -1,3 +1,4 @@
+mod AdviceLaws
 pub mod PlaceLaws
 pub mod ModeLaws
 pub mod PriorityLaws

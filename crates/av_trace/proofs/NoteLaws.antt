@@ -18,6 +18,8 @@ cause_of w =
     ∷ (codes "writeback", causes.Writeback)
     ∷ (codes "noslot", causes.NoSlot)
     ∷ (codes "started", causes.WriteStarted)
+    ∷ (codes "locked", causes.Locked)
+    ∷ (codes "ksm", causes.Ksm)
     ∷ []
     ) w
 
@@ -27,6 +29,8 @@ cause-named causes.Referenced = record { plain = plain_name _ refl refl; again =
 cause-named causes.Writeback = record { plain = plain_name _ refl refl; again = refl }
 cause-named causes.NoSlot = record { plain = plain_name _ refl refl; again = refl }
 cause-named causes.WriteStarted = record { plain = plain_name _ refl refl; again = refl }
+cause-named causes.Locked = record { plain = plain_name _ refl refl; again = refl }
+cause-named causes.Ksm = record { plain = plain_name _ refl refl; again = refl }
 
 unfoldable pub note_of : LineReader Note
 note_of words =
@@ -44,6 +48,9 @@ note_of words =
     ∷ (codes "drop", next slot_of (λ slot. last (notes.Dropped slot)))
     ∷ (codes "keep", next number_of (λ frame. next cause_of (λ cause. last (notes.Kept frame cause))))
     ∷ (codes "age", next number_of (λ frame. last (notes.Aged frame)))
+    ∷ (codes "share", next number_of (λ frame. last (notes.Shared frame)))
+    ∷ (codes "join", next number_of (λ p. next hex_of (λ address. next number_of (λ frame. last (notes.Joined p address frame)))))
+    ∷ (codes "move", next number_of (λ from. next number_of (λ to. last (notes.Moved from to))))
     ∷ []
     ) words
 
@@ -68,3 +75,6 @@ note_line-is (notes.Failed slot) h = line_is (codes "fail") refl refl (word _ (s
 note_line-is (notes.Dropped slot) h = line_is (codes "drop") refl refl (word _ (slot-named slot h) no_word)
 note_line-is (notes.Kept frame cause) h = line_is (codes "keep") refl refl (word _ (number-named h) (word _ (cause-named cause) no_word))
 note_line-is (notes.Aged frame) h = line_is (codes "age") refl refl (word _ (number-named h) no_word)
+note_line-is (notes.Shared frame) h = line_is (codes "share") refl refl (word _ (number-named h) no_word)
+note_line-is (notes.Joined p address frame) h = line_is (codes "join") refl refl (entry notes.Joined h)
+note_line-is (notes.Moved from to) h = line_is (codes "move") refl refl (word _ (number-named h.0) (word _ (number-named h.1) no_word))

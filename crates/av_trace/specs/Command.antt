@@ -6,6 +6,7 @@ use Rattle.av_base.specs.Page.{page_size}
 use Rattle.av_base.specs.declared.prot.Prot.{Prot}
 use Rattle.av_trace.specs.declared.place.Place.{Place}
 use Rattle.av_trace.specs.declared.mode.Mode.{Mode}
+use Rattle.av_trace.specs.declared.advice.Advice.{Advice}
 use Rattle.av_trace.specs.declared.command.Command.{Command}
 use Rattle.av_trace.specs.declared.command.Command.TheVariants as commands
 use Rattle.av_text.specs.Word.{line, ◌>>=◌, Reader, both, by_name}
@@ -13,6 +14,7 @@ use Rattle.av_text.specs.Number.{IsNumberIn, IsProcess, IsWide, decimal_at, proc
 use Rattle.av_text.specs.Number.{entry_at}
 use Rattle.av_text.specs.Hex.{hex, hex_text, IsData, data_at}
 use Rattle.av_text.specs.Prot.{prot_text, prot_at}
+use Rattle.av_trace.specs.Advice.{advice_at, advice_words}
 use Rattle.av_trace.specs.Place.{IsPlace, place_words, place_at}
 use Rattle.av_trace.specs.Mode.{IsMode, mode_words, mode_at}
 use Rattle.av_trace.specs.Priority.{IsPriority, priority_words, priority_at}
@@ -35,6 +37,9 @@ IsInRange (commands.Munmap p address len) = IsProcess p × IsWide address × IsW
 IsInRange (commands.Mprotect p address len prot) = IsProcess p × IsWide address × IsWide len
 IsInRange (commands.Mremap p address old_len new_len mode) =
     IsProcess p × IsWide address × IsWide old_len × IsWide new_len × IsMode mode
+IsInRange (commands.Madvise p address len advice) = IsProcess p × IsWide address × IsWide len
+IsInRange (commands.Mlock p address len) = IsProcess p × IsWide address × IsWide len
+IsInRange (commands.Munlock p address len) = IsProcess p × IsWide address × IsWide len
 IsInRange (commands.Read p address len) =
     IsProcess p × IsWide address × IsNumberIn 1 page_size len
 IsInRange (commands.Write p address bytes) = IsProcess p × IsWide address × IsData bytes
@@ -43,6 +48,8 @@ IsInRange (commands.Age n) = IsFrameCount n
 IsInRange (commands.Complete n) = IsFrameCount n
 IsInRange (commands.Swapon k priority) = IsAreaNumber k × IsPriority priority
 IsInRange (commands.Swapoff k) = IsAreaNumber k
+IsInRange commands.Merge = Unit {0}
+IsInRange commands.Compact = Unit {0}
 IsInRange (commands.Maps p) = IsProcess p
 IsInRange (commands.Areas p) = IsProcess p
 IsInRange (commands.Rmap p address) = IsProcess p × IsWide address
@@ -64,6 +71,12 @@ line_of (commands.Mprotect p address len prot) =
 line_of (commands.Mremap p address old_len new_len mode) =
     line (codes "mremap")
     (decimal p ∷ hex address ∷ decimal old_len ∷ decimal new_len ∷ mode_words mode)
+line_of (commands.Madvise p address len advice) =
+    line (codes "madvise") (decimal p ∷ hex address ∷ decimal len ∷ advice_words advice)
+line_of (commands.Mlock p address len) =
+    line (codes "mlock") (decimal p ∷ hex address ∷ decimal len ∷ [])
+line_of (commands.Munlock p address len) =
+    line (codes "munlock") (decimal p ∷ hex address ∷ decimal len ∷ [])
 line_of (commands.Read p address len) =
     line (codes "read") (decimal p ∷ hex address ∷ decimal len ∷ [])
 line_of (commands.Write p address bytes) =
@@ -74,6 +87,8 @@ line_of (commands.Complete n) = line (codes "complete") (decimal n ∷ [])
 line_of (commands.Swapon k priority) =
     line (codes "swapon") (decimal k ∷ priority_words priority)
 line_of (commands.Swapoff k) = line (codes "swapoff") (decimal k ∷ [])
+line_of commands.Merge = codes "merge"
+line_of commands.Compact = codes "compact"
 line_of (commands.Maps p) = line (codes "maps") (decimal p ∷ [])
 line_of (commands.Areas p) = line (codes "areas") (decimal p ∷ [])
 line_of (commands.Rmap p address) = line (codes "rmap") (decimal p ∷ hex address ∷ [])
@@ -100,7 +115,8 @@ no_words bytes = Some (tt, bytes)
 abbrev pub fork_words : Reader (ℕ × ℕ)
 fork_words bytes = both process_at process_at bytes
 
--- the words of `munmap`, and the first of `mprotect` and `mremap`: a process, an address, a length
+-- the words of `munmap`, `mlock` and `munlock`, and the first words of `mprotect`, `mremap` and
+-- `madvise`: a process, an address, a length
 abbrev pub range_words : Reader ((ℕ × ℕ) × ℕ)
 range_words bytes = both entry_at len_at bytes
 
@@ -115,6 +131,10 @@ mprotect_words bytes = both range_words prot_at bytes
 -- the words of `mremap`
 abbrev pub mremap_words : Reader ((((ℕ × ℕ) × ℕ) × ℕ) × Mode)
 mremap_words bytes = both (both range_words len_at) mode_at bytes
+
+-- the words of `madvise`
+abbrev pub madvise_words : Reader (((ℕ × ℕ) × ℕ) × Advice)
+madvise_words bytes = both range_words advice_at bytes
 
 -- the words of `read`
 abbrev pub read_words : Reader ((ℕ × ℕ) × ℕ)
@@ -159,6 +179,15 @@ mprotect_at = whole mprotect_words (λ x. commands.Mprotect x.0.0.0 x.0.0.1 x.0.
 abbrev pub mremap_at : CommandReader
 mremap_at = whole mremap_words (λ x. commands.Mremap x.0.0.0.0 x.0.0.0.1 x.0.0.1 x.0.1 x.1)
 
+abbrev pub madvise_at : CommandReader
+madvise_at = whole madvise_words (λ x. commands.Madvise x.0.0.0 x.0.0.1 x.0.1 x.1)
+
+abbrev pub mlock_at : CommandReader
+mlock_at = whole range_words (λ x. commands.Mlock x.0.0 x.0.1 x.1)
+
+abbrev pub munlock_at : CommandReader
+munlock_at = whole range_words (λ x. commands.Munlock x.0.0 x.0.1 x.1)
+
 abbrev pub read_at : CommandReader
 read_at = whole read_words (λ x. commands.Read x.0.0 x.0.1 x.1)
 
@@ -198,6 +227,14 @@ range_readers =
     ∷ (codes "mremap", mremap_at)
     ∷ []
 
+-- those that set the flags of pages
+abbrev pub advice_readers : List (List ℕ × CommandReader)
+advice_readers =
+    (codes "madvise", madvise_at)
+    ∷ (codes "mlock", mlock_at)
+    ∷ (codes "munlock", munlock_at)
+    ∷ []
+
 -- those that move pages to swap areas, and turn these on and off
 abbrev pub swap_readers : List (List ℕ × CommandReader)
 swap_readers =
@@ -206,6 +243,13 @@ swap_readers =
     ∷ (codes "complete", whole frames_at commands.Complete)
     ∷ (codes "swapon", swapon_at)
     ∷ (codes "swapoff", whole area_at commands.Swapoff)
+    ∷ []
+
+-- those that merge and move frames
+abbrev pub frame_readers : List (List ℕ × CommandReader)
+frame_readers =
+    (codes "merge", whole no_words (λ x. commands.Merge))
+    ∷ (codes "compact", whole no_words (λ x. commands.Compact))
     ∷ []
 
 -- the reports
@@ -221,7 +265,9 @@ report_readers =
 
 -- all commands
 abbrev pub readers : List (List ℕ × CommandReader)
-readers = access_readers ++ process_readers ++ range_readers ++ swap_readers ++ report_readers
+readers =
+    access_readers ++ process_readers ++ range_readers ++ advice_readers ++ swap_readers ++ frame_readers
+    ++ report_readers
 
 -- the command of a line that has one of these names
 abbrev pub command_in : List (List ℕ × CommandReader) → CommandReader

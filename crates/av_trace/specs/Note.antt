@@ -20,6 +20,8 @@ cause_name causes.Referenced = codes "referenced"
 cause_name causes.Writeback = codes "writeback"
 cause_name causes.NoSlot = codes "noslot"
 cause_name causes.WriteStarted = codes "started"
+cause_name causes.Locked = codes "locked"
+cause_name causes.Ksm = codes "ksm"
 
 -- the line of a note
 abbrev pub note_line : Note → List ℕ
@@ -40,6 +42,10 @@ note_line (notes.Dropped slot) = line (codes "drop") (slot_text slot ∷ [])
 note_line (notes.Kept frame cause) =
     line (codes "keep") (decimal frame ∷ cause_name cause ∷ [])
 note_line (notes.Aged frame) = line (codes "age") (decimal frame ∷ [])
+note_line (notes.Shared frame) = line (codes "share") (decimal frame ∷ [])
+note_line (notes.Joined p address frame) =
+    line (codes "join") (decimal p ∷ hex address ∷ decimal frame ∷ [])
+note_line (notes.Moved from to) = line (codes "move") (decimal from ∷ decimal to ∷ [])
 
 -- ---- the numbers are of 64 bits
 
@@ -60,3 +66,6 @@ IsNote (notes.Failed slot) = IsSlot slot
 IsNote (notes.Dropped slot) = IsSlot slot
 IsNote (notes.Kept frame cause) = IsWide frame
 IsNote (notes.Aged frame) = IsWide frame
+IsNote (notes.Shared frame) = IsWide frame
+IsNote (notes.Joined p address frame) = IsWide p × IsWide address × IsWide frame
+IsNote (notes.Moved from to) = IsWide from × IsWide to

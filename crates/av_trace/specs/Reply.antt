@@ -1,6 +1,6 @@
 -- The first line of a reply, and which replies there are.
 use Rattle.std.specs.Prelude.{◌≡◌, ℕ, Bool, Option, Some, None, List, [], ◌∷◌, ◌++◌, length, codes}
-use Rattle.std.specs.Prelude.{if◌then◌else◌, false, true}
+use Rattle.std.specs.Prelude.{if◌then◌else◌, false, nat_lt, true}
 use Rattle.std.specs.List.{AllByRecursion}
 use Rattle.std.specs.Fmt.{decimal}
 use Rattle.av_trace.specs.declared.reply.Errno.{Errno}
@@ -41,16 +41,25 @@ abbrev pub shown_words : List ℕ → List (List ℕ)
 shown_words [] = []
 shown_words (b ∷ bytes) = hex_text (b ∷ bytes) ∷ []
 
+-- a number with its label, where it is above 0
+abbrev pub above_zero : List ℕ → ℕ → List (List ℕ)
+above_zero label n = if nat_lt 0 n then labelled label n ∷ [] else []
+
 -- how often each cause kept a frame from being freed
 abbrev pub out_words : OutOf → List (List ℕ)
 out_words out =
     labelled (codes "pinned=") out.pinned ∷ labelled (codes "noslot=") out.noslot
-    ∷ labelled (codes "fault=") out.fault ∷ []
+    ∷ labelled (codes "fault=") out.fault
+    ∷ above_zero (codes "locked=") out.locked ++ above_zero (codes "ksm=") out.ksm
 
 -- the slot or the frame that a cached frame or slot goes with, if any
 abbrev pub cached_words : {A : Type 0} → (A → List ℕ) → Option A → List (List ℕ)
 cached_words text None = []
 cached_words text (Some x) = codes "cached" ∷ text x ∷ []
+
+-- whether a frame is merged
+abbrev pub merged_words : Bool → List (List ℕ)
+merged_words merged = if merged then codes "ksm" ∷ [] else []
 
 -- whether a frame was accessed since it was last looked at
 abbrev pub seen_word : Bool → List ℕ
@@ -92,8 +101,9 @@ answer_line (answers.Walk frame maps) =
 answer_line answers.NoWalk = codes "none"
 answer_line answers.EntryEmpty = codes "empty"
 answer_line answers.EntryZero = codes "zero"
-answer_line (answers.EntryFrame frame seen slot) =
-    line (codes "frame") (decimal frame ∷ seen_word seen ∷ cached_words slot_text slot)
+answer_line (answers.EntryFrame frame seen slot merged) =
+    line (codes "frame")
+    (decimal frame ∷ seen_word seen ∷ cached_words slot_text slot ++ merged_words merged)
 answer_line (answers.EntrySlot slot frame) =
     line (codes "slot") (slot_text slot ∷ cached_words decimal frame)
 answer_line (answers.SlotBad slot) = line (codes "slot") (slot_text slot ∷ codes "bad" ∷ [])
@@ -115,7 +125,8 @@ tells answer = true
 
 -- the causes of an out-of-memory
 abbrev pub AreCauses : OutOf → Type 0
-AreCauses out = IsWide out.pinned × IsWide out.noslot × IsWide out.fault
+AreCauses out =
+    IsWide out.pinned × IsWide out.noslot × IsWide out.fault × IsWide out.locked × IsWide out.ksm
 
 -- the numbers of `stat`
 pub record AreTotals (t : Totals) : Type 0 where
@@ -150,7 +161,7 @@ IsAnswer (answers.Walk frame maps) = IsWide frame × IsWide maps
 IsAnswer answers.NoWalk = Unit {0}
 IsAnswer answers.EntryEmpty = Unit {0}
 IsAnswer answers.EntryZero = Unit {0}
-IsAnswer (answers.EntryFrame frame seen slot) = IsWide frame × IfThere IsSlot slot
+IsAnswer (answers.EntryFrame frame seen slot merged) = IsWide frame × IfThere IsSlot slot
 IsAnswer (answers.EntrySlot slot frame) = IsSlot slot × IfThere IsWide frame
 IsAnswer (answers.SlotBad slot) = IsSlot slot
 IsAnswer (answers.SlotCount slot count frame) =

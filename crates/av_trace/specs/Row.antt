@@ -1,7 +1,9 @@
 -- The lines of a report's rows.
 use Rattle.std.specs.Prelude.{ℕ, List, [], ◌∷◌, ◌++◌, Option, Some, None, codes, IfSome}
+use Rattle.std.specs.Prelude.{Bool, if◌then◌else◌}
 use Rattle.std.specs.List.{flat_map, AllByRecursion}
 use Rattle.std.specs.Fmt.{decimal}
+use Rattle.av_base.specs.declared.flags.Flags.{Flags}
 use Rattle.av_base.specs.declared.prot.Prot.{Prot}
 use Rattle.av_trace.specs.declared.row.Row.{Row}
 use Rattle.av_trace.specs.declared.row.Row.TheVariants as rows
@@ -32,15 +34,26 @@ link_words offset own chain =
     ∷ (codes "chain=" ++ chain_text chain)
     ∷ []
 
+-- a word that stands under a condition
+abbrev pub word_if : Bool → List ℕ → List (List ℕ)
+word_if set word = if set then word ∷ [] else []
+
+-- the flags that an area has
+abbrev pub flag_words : Flags → List (List ℕ)
+flag_words flags =
+    word_if flags.dont_fork (codes "dontfork") ++ word_if flags.wipe_on_fork (codes "wipeonfork")
+    ++ word_if flags.locked (codes "locked") ++ word_if flags.mergeable (codes "mergeable")
+
 -- what the row of an area says after its addresses
-abbrev pub area_words : Prot → ℕ → Option ℕ → List ℕ → List (List ℕ)
-area_words prot offset own chain = prot_text prot ∷ link_words offset own chain
+abbrev pub area_words : Prot → ℕ → Option ℕ → List ℕ → Flags → List (List ℕ)
+area_words prot offset own chain flags =
+    prot_text prot ∷ link_words offset own chain ++ flag_words flags
 
 -- the line of a row
 abbrev pub row_line : Row → List ℕ
 row_line (rows.Run start end prot) = line (range_text start end) (prot_text prot ∷ [])
-row_line (rows.Area start end prot offset own chain) =
-    line (range_text start end) (area_words prot offset own chain)
+row_line (rows.Area start end prot offset own chain flags) =
+    line (range_text start end) (area_words prot offset own chain flags)
 row_line (rows.Entry p address) = line (decimal p) (hex address ∷ [])
 
 -- ---- the numbers are of 64 bits
@@ -52,7 +65,7 @@ IsRun row = ⊥
 
 -- a row of `areas`
 abbrev pub IsAreaRow : Row → Type 0
-IsAreaRow (rows.Area start end prot offset own chain) =
+IsAreaRow (rows.Area start end prot offset own chain flags) =
     IsWide start × IsWide end × IsWide offset × IfSome own IsWide × AllByRecursion IsWide chain
 IsAreaRow row = ⊥
 

@@ -3,12 +3,15 @@
 ghost use Rattle.std.specs.Prelude.{◌≡◌, ◌++◌, codes, option_map, IfOk, OnOk, OnErr};
 ghost use Rattle.av_trace.specs.Command.{at_end, whole, no_words, fork_at, mmap_at, munmap_at};
 ghost use Rattle.av_trace.specs.Command.{mprotect_at, mremap_at, read_at, write_at, area_at};
+ghost use Rattle.av_trace.specs.Command.{advice_readers, madvise_at, mlock_at, munlock_at};
 ghost use Rattle.av_trace.specs.Command.{frames_at, rmap_at, entry_of, slot_at, swapon_at};
 ghost use Rattle.av_trace.specs.Command.{command_in, command_of, process_readers, range_readers};
-ghost use Rattle.av_trace.specs.Command.{swap_readers, report_readers, range_words};
+ghost use Rattle.av_trace.specs.Command.{swap_readers, frame_readers, report_readers};
+ghost use Rattle.av_trace.specs.Command.{range_words};
 ghost use Rattle.av_text.specs.Number.{process_at};
 ghost use Rattle.av_text.specs.Word.{BeginsWith};
 
+use crate::advice::{Advice, advice_field};
 use crate::mode::{Mode, mode_field};
 use crate::place::{Place, place_field};
 use crate::priority::priority_field;
@@ -60,6 +63,22 @@ pub enum Command {
         new_len: u64,
         mode: Mode,
     },
+    Madvise {
+        process: u16,
+        address: u64,
+        len: u64,
+        advice: Advice,
+    },
+    Mlock {
+        process: u16,
+        address: u64,
+        len: u64,
+    },
+    Munlock {
+        process: u16,
+        address: u64,
+        len: u64,
+    },
     Read {
         process: u16,
         address: u64,
@@ -87,6 +106,8 @@ pub enum Command {
     Swapoff {
         area: u8,
     },
+    Merge,
+    Compact,
     Maps {
         process: u16,
     },
@@ -212,6 +233,47 @@ fn mremap(bytes: &[u8]) -> Option<Command>
         old_len,
         new_len,
         mode,
+    };
+    end(command, rest)
+}
+
+#[tactic(auto, unfolding(crate::specs::Command::whole, av_text::specs::Word::both))]
+fn madvise(bytes: &[u8]) -> Option<Command>
+    ensures { result ≡ madvise_at bytes.now }
+{
+    let (((process, address), len), rest) = range(bytes)?;
+    let (advice, rest) = advice_field(rest)?;
+    let command = Command::Madvise {
+        process,
+        address,
+        len,
+        advice,
+    };
+    end(command, rest)
+}
+
+#[tactic(auto, unfolding(crate::specs::Command::whole))]
+fn mlock(bytes: &[u8]) -> Option<Command>
+    ensures { result ≡ mlock_at bytes.now }
+{
+    let (((process, address), len), rest) = range(bytes)?;
+    let command = Command::Mlock {
+        process,
+        address,
+        len,
+    };
+    end(command, rest)
+}
+
+#[tactic(auto, unfolding(crate::specs::Command::whole))]
+fn munlock(bytes: &[u8]) -> Option<Command>
+    ensures { result ≡ munlock_at bytes.now }
+{
+    let (((process, address), len), rest) = range(bytes)?;
+    let command = Command::Munlock {
+        process,
+        address,
+        len,
     };
     end(command, rest)
 }
@@ -357,6 +419,20 @@ fn stat(bytes: &[u8]) -> Option<Command>
     end(Command::Stat, bytes)
 }
 
+#[tactic(auto, unfolding(crate::specs::Command::whole))]
+fn merge(bytes: &[u8]) -> Option<Command>
+    ensures { result ≡ whole no_words (λ x. Command.Merge) bytes.now }
+{
+    end(Command::Merge, bytes)
+}
+
+#[tactic(auto, unfolding(crate::specs::Command::whole))]
+fn compact(bytes: &[u8]) -> Option<Command>
+    ensures { result ≡ whole no_words (λ x. Command.Compact) bytes.now }
+{
+    end(Command::Compact, bytes)
+}
+
 /// Reads the report that a line asks for.
 fn read_report(line: &[u8], command: &mut Option<Command>)
     ensures { command.new ≡ command_in report_readers line.now }
@@ -378,9 +454,23 @@ fn read_report(line: &[u8], command: &mut Option<Command>)
     }
 }
 
-/// Reads the change of swap, or the report, that a line asks for.
+/// Reads the change of frames, or the report, that a line asks for.
+fn read_frame_change(line: &[u8], command: &mut Option<Command>)
+    ensures { command.new ≡ command_in (frame_readers ++ report_readers) line.now }
+{
+    if let Some(rest) = after(line, b"merge") {
+        *command = merge(rest);
+    } else if let Some(rest) = after(line, b"compact") {
+        *command = compact(rest);
+    } else {
+        read_report(line, command);
+    }
+}
+
+/// Reads the change of swap or of frames, or the report, that a line asks for.
 fn read_swap_change(line: &[u8], command: &mut Option<Command>)
-    ensures { command.new ≡ command_in (swap_readers ++ report_readers) line.now }
+    ensures { command.new ≡ command_in
+        (swap_readers ++ frame_readers ++ report_readers) line.now }
 {
     if let Some(rest) = after(line, b"reclaim") {
         *command = reclaim(rest);
@@ -393,13 +483,32 @@ fn read_swap_change(line: &[u8], command: &mut Option<Command>)
     } else if let Some(rest) = after(line, b"swapoff") {
         *command = swapoff(rest);
     } else {
-        read_report(line, command);
+        read_frame_change(line, command);
+    }
+}
+
+/// Reads the advice or the lock, the change of swap or of frames, or the report, that a line asks
+/// for.
+fn read_advice(line: &[u8], command: &mut Option<Command>)
+    ensures { command.new ≡ command_in
+        (advice_readers ++ swap_readers ++ frame_readers ++ report_readers) line.now }
+{
+    if let Some(rest) = after(line, b"madvise") {
+        *command = madvise(rest);
+    } else if let Some(rest) = after(line, b"mlock") {
+        *command = mlock(rest);
+    } else if let Some(rest) = after(line, b"munlock") {
+        *command = munlock(rest);
+    } else {
+        read_swap_change(line, command);
     }
 }
 
 /// Reads the change of a range or of swap, or the report, that a line asks for.
 fn read_range_change(line: &[u8], command: &mut Option<Command>)
-    ensures { command.new ≡ command_in (range_readers ++ swap_readers ++ report_readers) line.now }
+    ensures { command.new ≡ command_in
+        (range_readers ++ advice_readers ++ swap_readers ++ frame_readers ++ report_readers)
+        line.now }
 {
     if let Some(rest) = after(line, b"mmap") {
         *command = mmap(rest);
@@ -410,14 +519,16 @@ fn read_range_change(line: &[u8], command: &mut Option<Command>)
     } else if let Some(rest) = after(line, b"mremap") {
         *command = mremap(rest);
     } else {
-        read_swap_change(line, command);
+        read_advice(line, command);
     }
 }
 
 /// Reads the command on a process, a range or swap, or the report, that a line asks for.
 fn read_change(line: &[u8], command: &mut Option<Command>)
     ensures { command.new ≡ command_in
-        (process_readers ++ range_readers ++ swap_readers ++ report_readers) line.now }
+        (process_readers ++ range_readers ++ advice_readers ++ swap_readers ++ frame_readers
+        ++ report_readers)
+        line.now }
 {
     if let Some(rest) = after(line, b"spawn") {
         *command = spawn(rest);

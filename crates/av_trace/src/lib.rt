@@ -8,6 +8,7 @@
 //! Only tested: nothing. Which reply a command has is no matter of this crate.
 #![tactic(auto)]
 
+mod advice;
 mod command;
 mod line;
 mod mode;
@@ -18,6 +19,7 @@ mod priority;
 mod reply;
 mod row;
 
+pub use advice::Advice;
 pub use command::Command;
 pub use line::{LineErr, one_meaning, parse_line, parse_line_into};
 pub use mode::Mode;

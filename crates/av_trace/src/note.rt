@@ -21,6 +21,8 @@ pub enum Cause {
     Writeback,
     NoSlot,
     WriteStarted,
+    Locked,
+    Ksm,
 }
 
 /// What happened to an entry, a frame or a slot. Each is printed as a line of its own.
@@ -63,6 +65,16 @@ pub enum Note {
         cause: Cause,
     },
     Aged(u32),
+    Shared(u32),
+    Joined {
+        process: u16,
+        address: u64,
+        frame: u32,
+    },
+    Moved {
+        from: u32,
+        to: u32,
+    },
 }
 
 /// Notes in the order of happening.
@@ -130,6 +142,8 @@ fn add_cause(text: &mut Bytes, cause: Cause) -> Result<(), AllocError>
         Cause::Writeback => add_word(text, b"writeback"),
         Cause::NoSlot => add_word(text, b"noslot"),
         Cause::WriteStarted => add_word(text, b"started"),
+        Cause::Locked => add_word(text, b"locked"),
+        Cause::Ksm => add_word(text, b"ksm"),
     }
 }
 
@@ -201,6 +215,13 @@ fn keep_line(text: &mut Bytes, frame: u32, cause: Cause) -> Result<(), AllocErro
     add_cause(text, cause)
 }
 
+fn move_line(text: &mut Bytes, from: u32, to: u32) -> Result<(), AllocError>
+    ensures { Adds result text.old text.new (line_of_note (Note.Moved from to)) }
+{
+    number_line(text, b"move", u64::from(from))?;
+    add_number(text, u64::from(to))
+}
+
 /// Adds the line of a note, without its newline.
 pub fn note_line(text: &mut Bytes, note: Note) -> Result<(), AllocError>
     ensures { Adds result text.old text.new (line_of_note note) }
@@ -231,5 +252,12 @@ pub fn note_line(text: &mut Bytes, note: Note) -> Result<(), AllocError>
         Note::Dropped(slot) => slot_line(text, b"drop", slot),
         Note::Kept { frame, cause } => keep_line(text, frame, cause),
         Note::Aged(frame) => number_line(text, b"age", u64::from(frame)),
+        Note::Shared(frame) => number_line(text, b"share", u64::from(frame)),
+        Note::Joined {
+            process,
+            address,
+            frame,
+        } => frame_line(text, b"join", process, address, frame),
+        Note::Moved { from, to } => move_line(text, from, to),
     }
 }

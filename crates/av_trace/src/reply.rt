@@ -1,11 +1,12 @@
 //! What a command is answered: one answer, and then notes of what happened or the rows of a report.
 
-ghost use Rattle.std.specs.Prelude.{◌≡◌, ◌∷◌, true};
+ghost use Rattle.std.specs.Prelude.{◌≡◌, [], ◌∷◌, true};
 ghost use Rattle.std.specs.List.{flat_map};
 ghost use Rattle.std.specs.Fmt.{decimal as digits_of};
 ghost use Rattle.av_trace.specs.Note.{slot_text};
 ghost use Rattle.av_trace.specs.Reply.{answer_only, labelled as labelled_text};
-ghost use Rattle.av_trace.specs.Reply.{shown_words, out_words, cached_words, total_words};
+ghost use Rattle.av_trace.specs.Reply.{above_zero, shown_words, out_words, cached_words};
+ghost use Rattle.av_trace.specs.Reply.{merged_words, total_words};
 ghost use Rattle.av_trace.specs.Reply.{answer_line as line_of_answer, tells};
 ghost use Rattle.av_trace.specs.Print.{whole_line};
 ghost use Rattle.av_text.specs.Word.{Adds, field, line};
@@ -33,13 +34,15 @@ pub enum Errno {
     Einval,
 }
 
-/// Why no frame could be had: each frame is pinned, or has no slot to go to, or its write to a
-/// slot failed. The three add up to the number of frames.
+/// Why no frame could be had: each frame is pinned, else locked, else merged, else it has no slot
+/// to go to, or its write to a slot failed. The five add up to the number of frames.
 #[derive(Clone, Copy, Drop, Debug, PartialEq, Eq)]
 pub struct OutOf {
     pub pinned: u32,
     pub noslot: u32,
     pub fault: u32,
+    pub locked: u32,
+    pub ksm: u32,
 }
 
 /// The numbers of `stat`.
@@ -96,6 +99,7 @@ pub enum Answer {
         frame: u32,
         seen: bool,
         cached: Option<Slot>,
+        merged: bool,
     },
     EntrySlot {
         slot: Slot,
@@ -170,6 +174,17 @@ fn add_labels(text: &mut Bytes, labels: &[(&[u8], u64)]) -> Result<(), AllocErro
     Ok(())
 }
 
+/// Adds a label and its number, where that is above 0.
+fn add_above_zero(text: &mut Bytes, label: &[u8], n: u64) -> Result<(), AllocError>
+    ensures { Adds result text.old text.new (flat_map field (above_zero label.now n)) }
+{
+    if n > 0 {
+        add_labelled(text, label, n)
+    } else {
+        Ok(())
+    }
+}
+
 fn add_out(text: &mut Bytes, out: OutOf) -> Result<(), AllocError>
     ensures { Adds result text.old text.new (flat_map field (out_words out)) }
 {
@@ -178,7 +193,9 @@ fn add_out(text: &mut Bytes, out: OutOf) -> Result<(), AllocError>
         (b"noslot=", u64::from(out.noslot)),
         (b"fault=", u64::from(out.fault)),
     ];
-    add_labels(text, &labels)
+    add_labels(text, &labels)?;
+    add_above_zero(text, b"locked=", u64::from(out.locked))?;
+    add_above_zero(text, b"ksm=", u64::from(out.ksm))
 }
 
 fn add_cached_slot(text: &mut Bytes, cached: Option<Slot>) -> Result<(), AllocError>
@@ -223,10 +240,18 @@ fn oom_line(text: &mut Bytes, served: u64, out: OutOf, shown: &[u8]) -> Result<(
     add_shown(text, shown)
 }
 
+/// A name, and a word.
+fn word_line(text: &mut Bytes, name: &[u8], word: &[u8]) -> Result<(), AllocError>
+    ensures { Adds result text.old text.new (line name.now (word.now ∷ [])) }
+{
+    text.append(name)?;
+    add_word(text, word)
+}
+
 fn no_frame_line(text: &mut Bytes, out: OutOf) -> Result<(), AllocError>
     ensures { Adds result text.old text.new (line_of_answer (Answer.NoFrame out)) }
 {
-    text.append(b"err ENOMEM")?;
+    word_line(text, b"err", b"ENOMEM")?;
     add_out(text, out)
 }
 
@@ -255,13 +280,21 @@ fn walk_line(text: &mut Bytes, frame: u32, maps: u64) -> Result<(), AllocError>
     add_number(text, maps)
 }
 
+fn add_merged(text: &mut Bytes, merged: bool) -> Result<(), AllocError>
+    ensures { Adds result text.old text.new (flat_map field (merged_words merged)) }
+{
+    if merged { add_word(text, b"ksm") } else { Ok(()) }
+}
+
 fn entry_frame_line(
     text: &mut Bytes,
     frame: u32,
     seen: bool,
     cached: Option<Slot>,
+    merged: bool,
 ) -> Result<(), AllocError>
-    ensures { Adds result text.old text.new (line_of_answer (Answer.EntryFrame frame seen cached)) }
+    ensures { Adds result text.old text.new
+        (line_of_answer (Answer.EntryFrame frame seen cached merged)) }
 {
     number_line(text, b"frame", u64::from(frame))?;
     if seen {
@@ -269,7 +302,8 @@ fn entry_frame_line(
     } else {
         add_word(text, b"old")?;
     }
-    add_cached_slot(text, cached)
+    add_cached_slot(text, cached)?;
+    add_merged(text, merged)
 }
 
 fn entry_slot_line(text: &mut Bytes, slot: Slot, cached: Option<u32>) -> Result<(), AllocError>
@@ -358,7 +392,8 @@ fn telling_line(text: &mut Bytes, answer: &Answer) -> Result<(), AllocError>
             frame,
             seen,
             cached,
-        } => entry_frame_line(text, *frame, *seen, *cached),
+            merged,
+        } => entry_frame_line(text, *frame, *seen, *cached, *merged),
         Answer::EntrySlot { slot, cached } => entry_slot_line(text, *slot, *cached),
         Answer::SlotBad(slot) => bad_slot_line(text, *slot),
         Answer::SlotCount {

@@ -2,10 +2,12 @@
 
 ghost use Rattle.std.specs.Prelude.{◌≡◌, List, [], ◌∷◌, ◌++◌, OnOk, OnErr};
 ghost use Rattle.std.specs.List.{flat_map};
-ghost use Rattle.av_trace.specs.Row.{chain_text, link_words, own_text, row_line as line_of_row};
+ghost use Rattle.av_trace.specs.Row.{chain_text, flag_words, link_words, own_text};
+ghost use Rattle.av_trace.specs.Row.{row_line as line_of_row};
+ghost use Rattle.av_trace.specs.Row.{word_if};
 ghost use Rattle.av_text.specs.Word.{Adds, field};
 
-use av_base::Prot;
+use av_base::{Flags, Prot};
 use av_text::Bytes;
 use av_text::hex::{add_address, add_hex};
 use av_text::number::add_decimal;
@@ -64,6 +66,7 @@ pub enum Row {
         offset: u64,
         own: Option<u64>,
         chain: Chain,
+        flags: Flags,
     },
     Entry {
         process: u16,
@@ -171,6 +174,23 @@ fn add_links(
     add_chain(text, chain)
 }
 
+/// Adds a word, if it is to stand.
+fn add_word_if(text: &mut Bytes, set: bool, word: &[u8]) -> Result<(), AllocError>
+    ensures { Adds result text.old text.new (flat_map field (word_if set word.now)) }
+{
+    if set { add_word(text, word) } else { Ok(()) }
+}
+
+/// Adds the flags that an area has.
+fn add_flags(text: &mut Bytes, flags: Flags) -> Result<(), AllocError>
+    ensures { Adds result text.old text.new (flat_map field (flag_words flags)) }
+{
+    add_word_if(text, flags.dont_fork, b"dontfork")?;
+    add_word_if(text, flags.wipe_on_fork, b"wipeonfork")?;
+    add_word_if(text, flags.locked, b"locked")?;
+    add_word_if(text, flags.mergeable, b"mergeable")
+}
+
 /// Adds the line of a row, without its newline.
 pub fn row_line(text: &mut Bytes, row: &Row) -> Result<(), AllocError>
     ensures { Adds result text.old text.new (line_of_row row.now) }
@@ -184,9 +204,11 @@ pub fn row_line(text: &mut Bytes, row: &Row) -> Result<(), AllocError>
             offset,
             own,
             chain,
+            flags,
         } => {
             add_run(text, *start, *end, *prot)?;
-            add_links(text, *offset, *own, chain.as_slice())
+            add_links(text, *offset, *own, chain.as_slice())?;
+            add_flags(text, *flags)
         }
         Row::Entry { process, address } => {
             add_decimal(text, u64::from(*process))?;

@@ -5,6 +5,7 @@ use Rattle.std.specs.Prelude.{unwrap_or}
 use Rattle.std.proofs.lemmas.Bool.{false≢true}
 use Rattle.std.proofs.lemmas.Option.{none-some, same_Some}
 use Rattle.av_base.specs.Words.{within}
+use Rattle.av_base.specs.declared.flags.Flags.{Flags}
 use Rattle.av_base.specs.declared.prot.Prot.{Prot}
 use Rattle.av_vma.specs.declared.area.Area.{Area}
 use Rattle.av_vma.specs.Gap.{IsRoom}
@@ -108,13 +109,13 @@ homes_placed area on free page home is = by (has_page area page) refl
     by false has = is
 
 -- where free pages are mapped, each page that is there keeps its home
-pub homes_mapped : (len : Lengths) (p from past : ℕ) (prot : Prot) (on : Pages) → AreLaid on → from < past → IsRoom (has_area on) (past - from) from
-    → KeepsHomes on (after_map len p from past prot on)
-homes_mapped len p from past prot on laid some room =
-    let fresh = fresh_area p from past prot in
-    keeps_both on (with_area fresh on) (after_map len p from past prot on)
-    (homes_placed fresh on (fresh_free p from past prot on some room))
-    (homes_around len from past (with_area fresh on) (laid_fresh p from past prot on some room laid))
+pub homes_mapped : (len : Lengths) (p from past : ℕ) (prot : Prot) (flags : Flags) (on : Pages) → AreLaid on → from < past → IsRoom (has_area on) (past - from) from
+    → KeepsHomes on (after_map len p from past prot flags on)
+homes_mapped len p from past prot flags on laid some room =
+    let fresh = fresh_area p from past prot flags in
+    keeps_both on (with_area fresh on) (after_map len p from past prot flags on)
+    (homes_placed fresh on (fresh_free p from past prot flags on some room))
+    (homes_around len from past (with_area fresh on) (laid_fresh p from past prot flags on some room laid))
 
 -- ---- change
 

@@ -5,6 +5,7 @@ use Rattle.std.proofs.lemmas.Option.{none-some, same_Some}
 use Rattle.std.specs.Prelude.{unwrap_or}
 use Rattle.av_base.specs.Limits.{top_page}
 use Rattle.av_base.specs.Words.{within}
+use Rattle.av_base.specs.declared.flags.Flags.{Flags}
 use Rattle.av_base.specs.declared.prot.Prot.{Prot}
 use Rattle.av_vma.specs.declared.area.Area.{Area}
 use Rattle.av_vma.specs.Gap.{IsRoom}
@@ -108,12 +109,12 @@ module _ (len : Lengths) where
 -- ---- map, change and prepare
 
 module _ (len : Lengths) where
-  pub indices_mapped : (most p from past : ℕ) (prot : Prot) (on : Pages) → AreLaid on → from < past → IsRoom (has_area on) (past - from) from
+  pub indices_mapped : (most p from past : ℕ) (prot : Prot) (flags : Flags) (on : Pages) → AreLaid on → from < past → IsRoom (has_area on) (past - from) from
       → top_page ≤ most
-      → AreIndicesBelow most on → AreIndicesBelow most (after_map len p from past prot on)
-  indices_mapped most p from past prot on laid some room high h =
-      let fresh = fresh_area p from past prot in
-      indices_around len most from past (with_area fresh on) (laid_fresh p from past prot on some room laid)
+      → AreIndicesBelow most on → AreIndicesBelow most (after_map len p from past prot flags on)
+  indices_mapped most p from past prot flags on laid some room high h =
+      let fresh = fresh_area p from past prot flags in
+      indices_around len most from past (with_area fresh on) (laid_fresh p from past prot flags on some room laid)
       (indices_placed most fresh on (let highest = room.highest in omega arith) h)
 
   indices_effect : (most from past : ℕ) (effect : Effect) (on : Pages) → AreIndicesBelow most on

@@ -5,16 +5,17 @@ use Rattle.std.proofs.Math.Bool.{beq}
 use Rattle.std.proofs.lemmas.Bool.{and_parts, and_from, eqb-true, cases_lt, cases_Bool, cond-true, cond-false, false≢true, both_ways, false_from_ne_true}
 use Rattle.std.proofs.lemmas.Option.{none-some, same_Some}
 use Rattle.std.specs.Option.{option_or}
+use Rattle.av_base.specs.declared.flags.Flags.{Flags}
 use Rattle.av_base.specs.declared.prot.Prot.{Prot}
 use Rattle.av_vma.specs.declared.area.Area.{Area}
 use Rattle.av_vma.specs.Gap.{IsRoom}
 use Rattle.av_vma.specs.Index.{first_of, past_of, index_of}
-use Rattle.av_vma.specs.Join.{same_prot, share_anon}
+use Rattle.av_vma.specs.Join.{same_flags, same_prot, share_anon}
 use Rattle.av_vma.specs.Pages.{AreLaid, Effect, IsWhole, Lengths, Pages, after_join, after_map, alters_at, do_join, fresh_area, has_page, join_of, joined_around, joined_at, page_changed, pages_changed, part_changed, with_area}
 use Rattle.av_vma.proofs.Split.{laid_part}
 use Rattle.av_vma.proofs.Laid.{has_area, has_from, has_parts, laid_fresh}
 
--- ---- protections that are one
+-- ---- protections and flags that are one
 
 same_bit : (a b : Bool) → beq a b ≡ true → a ≡ b
 same_bit true true e = refl
@@ -31,6 +32,33 @@ prot_is p q e =
     let x = same_bit p.execute q.execute both.1 in
     λ i. record { read = r i; write = w i; execute = x i }
 
+pub flags_are : (f g : Flags) → same_flags f g ≡ true → f ≡ g
+flags_are f g e =
+    let three = and_parts (beq f.dont_fork g.dont_fork && beq f.wipe_on_fork g.wipe_on_fork && beq f.locked g.locked) (beq f.mergeable g.mergeable) e in
+    let two = and_parts (beq f.dont_fork g.dont_fork && beq f.wipe_on_fork g.wipe_on_fork) (beq f.locked g.locked) three.0 in
+    let one = and_parts (beq f.dont_fork g.dont_fork) (beq f.wipe_on_fork g.wipe_on_fork) two.0 in
+    let d = same_bit f.dont_fork g.dont_fork one.0 in
+    let w = same_bit f.wipe_on_fork g.wipe_on_fork one.1 in
+    let l = same_bit f.locked g.locked two.1 in
+    let m = same_bit f.mergeable g.mergeable three.1 in
+    λ i. record { dont_fork = d i; wipe_on_fork = w i; locked = l i; mergeable = m i }
+
+-- each is the same as itself
+bit_itself : (b : Bool) → beq b b ≡ true
+bit_itself true = refl
+bit_itself false = refl
+
+pub same_as_itself : (p : Prot) → same_prot p p ≡ true
+same_as_itself p = and_from (beq p.read p.read && beq p.write p.write) (beq p.execute p.execute)
+    (and_from (beq p.read p.read) (beq p.write p.write) (bit_itself p.read) (bit_itself p.write)) (bit_itself p.execute)
+
+pub flags_as_itself : (f : Flags) → same_flags f f ≡ true
+flags_as_itself f = and_from (beq f.dont_fork f.dont_fork && beq f.wipe_on_fork f.wipe_on_fork && beq f.locked f.locked)
+    (beq f.mergeable f.mergeable)
+    (and_from (beq f.dont_fork f.dont_fork && beq f.wipe_on_fork f.wipe_on_fork) (beq f.locked f.locked)
+    (and_from (beq f.dont_fork f.dont_fork) (beq f.wipe_on_fork f.wipe_on_fork) (bit_itself f.dont_fork) (bit_itself f.wipe_on_fork))
+    (bit_itself f.locked)) (bit_itself f.mergeable)
+
 module _ (len : Lengths) where
   -- ---- two areas that join
 
@@ -45,7 +73,7 @@ module _ (len : Lengths) where
   join_is left right e =
       let adjoin = left.end == right.start in
       let prot = same_prot left.prot right.prot in
-      let flags = left.flags == right.flags in
+      let flags = same_flags left.flags right.flags in
       let index = index_of left (past_of left) == right.pgoff in
       let p4 = and_parts (adjoin && prot && flags && index) (share_anon left.anon (len left.anon) right.anon (len right.anon)) e in
       let p3 = and_parts (adjoin && prot && flags) index p4.0 in
@@ -54,7 +82,7 @@ module _ (len : Lengths) where
       record {
         adjoin = eqb-true left.end right.start p1.0;
         prot = prot_is left.prot right.prot p1.1;
-        flags = eqb-true left.flags right.flags p2.1;
+        flags = flags_are left.flags right.flags p2.1;
         index = eqb-true (index_of left (past_of left)) right.pgoff p3.1;
         share = p4.1;
       }
@@ -217,10 +245,10 @@ module _ (len : Lengths) where
 
   -- ---- what ends with joins
 
-  pub laid_mapped : (p from past : ℕ) (prot : Prot) (on : Pages) → AreLaid on → from < past → IsRoom (has_area on) (past - from) from
-      → AreLaid (after_map len p from past prot on)
-  laid_mapped p from past prot on laid some room =
-      laid_around from past (with_area (fresh_area p from past prot) on) (laid_fresh p from past prot on some room laid)
+  pub laid_mapped : (p from past : ℕ) (prot : Prot) (flags : Flags) (on : Pages) → AreLaid on → from < past → IsRoom (has_area on) (past - from) from
+      → AreLaid (after_map len p from past prot flags on)
+  laid_mapped p from past prot flags on laid some room =
+      laid_around from past (with_area (fresh_area p from past prot flags) on) (laid_fresh p from past prot flags on some room laid)
 
   pub laid_part_changed : (from past : ℕ) (effect : Effect) (on : Pages) → AreLaid on → AreLaid (part_changed len from past effect on)
   laid_part_changed from past effect on laid = laid_around from past _ (laid_part from past on laid effect)

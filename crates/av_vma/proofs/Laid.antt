@@ -5,6 +5,7 @@ use Rattle.std.proofs.lemmas.Bool.Decides.{nat_tests}
 use Rattle.std.proofs.lemmas.Option.{none-some, same_Some}
 use Rattle.std.specs.Prelude.{unwrap_or}
 use Rattle.av_base.specs.Words.{within}
+use Rattle.av_base.specs.declared.flags.Flags.{Flags}
 use Rattle.av_base.specs.declared.prot.Prot.{Prot}
 use Rattle.av_vma.specs.declared.area.Area.{Area}
 use Rattle.av_vma.specs.Gap.{IsRoom}
@@ -72,15 +73,15 @@ free_none on page free = by (on page) free
     by (Some area) e = cc
 
 -- its pages are those from one to below another
-pub fresh_has : (p from past : ℕ) (prot : Prot) (page : ℕ) → has_page (fresh_area p from past prot) page ≡ within from (past - from) page
-fresh_has p from past prot page = λ i. within (back from i) (back past i - back from i) page
+pub fresh_has : (p from past : ℕ) (prot : Prot) (flags : Flags) (page : ℕ) → has_page (fresh_area p from past prot flags) page ≡ within from (past - from) page
+fresh_has p from past prot flags page = λ i. within (back from i) (back past i - back from i) page
   where
     back : (page : ℕ) → (4096 * page) / 4096 ≡ page
     back page = omega arith
 
 -- there is room for it
-module _ (p from past : ℕ) (prot : Prot) (on : Pages) (some : from < past) (room : IsRoom (has_area on) (past - from) from) where
-  fresh_whole : IsWhole (fresh_area p from past prot)
+module _ (p from past : ℕ) (prot : Prot) (flags : Flags) (on : Pages) (some : from < past) (room : IsRoom (has_area on) (past - from) from) where
+  fresh_whole : IsWhole (fresh_area p from past prot flags)
   fresh_whole = let lowest = room.lowest in let highest = room.highest in record {
     start = omega arith;
     end = omega arith;
@@ -90,15 +91,15 @@ module _ (p from past : ℕ) (prot : Prot) (on : Pages) (some : from < past) (ro
     small = omega arith;
   }
 
-  pub fresh_free : (page : ℕ) → has_page (fresh_area p from past prot) page ≡ true → on page ≡ None
+  pub fresh_free : (page : ℕ) → has_page (fresh_area p from past prot flags) page ≡ true → on page ≡ None
   fresh_free page has =
-      let parts = has_parts (fresh_area p from past prot) page has in
+      let parts = has_parts (fresh_area p from past prot flags) page has in
       let low : (4096 * from) / 4096 ≤ page = parts.0 in
       let high : page < (4096 * past) / 4096 = parts.1 in
       free_none on page (room.free page (omega arith) (omega arith))
 
-  pub laid_fresh : AreLaid on → AreLaid (with_area (fresh_area p from past prot) on)
-  laid_fresh laid = laid_placed (fresh_area p from past prot) on laid fresh_whole fresh_free
+  pub laid_fresh : AreLaid on → AreLaid (with_area (fresh_area p from past prot flags) on)
+  laid_fresh laid = laid_placed (fresh_area p from past prot flags) on laid fresh_whole fresh_free
 
 -- ---- another anon_vma
 

@@ -6,4 +6,6 @@ pub mod Owns
 pub mod Mremap
 pub mod MremapHomes
 pub mod IndexBound
-pub mod Prots
+pub mod Marks
+pub mod Left
+pub mod LeftRuns

@@ -4,6 +4,7 @@ use Rattle.std.specs.Option.{option_or}
 use Rattle.std.proofs.lemmas.Option.{none-some}
 use Rattle.av_base.specs.Page.{address_of}
 use Rattle.av_base.specs.Words.{within}
+use Rattle.av_base.specs.declared.flags.Flags.{Flags}
 use Rattle.av_base.specs.declared.prot.Prot.{Prot}
 use Rattle.av_vma.specs.declared.area.Area.{Area}
 use Rattle.av_vma.specs.Index.{first_of}
@@ -75,17 +76,17 @@ module _ (len : Lengths) where
 
   -- ---- map
 
-  owns_placed : (p from past : ℕ) (prot : Prot) (on : Pages) → AddsNoOwn on (with_area (fresh_area p from past prot) on)
-  owns_placed p from past prot on page own has = (page, by (has_page (fresh_area p from past prot) page) has)
+  owns_placed : (p from past : ℕ) (prot : Prot) (flags : Flags) (on : Pages) → AddsNoOwn on (with_area (fresh_area p from past prot flags) on)
+  owns_placed p from past prot flags on page own has = (page, by (has_page (fresh_area p from past prot flags) page) has)
     where
-      by : (b : Bool) → HasOwn own (cond b (Some (fresh_area p from past prot)) (on page)) → HasOwn own (on page)
+      by : (b : Bool) → HasOwn own (cond b (Some (fresh_area p from past prot flags)) (on page)) → HasOwn own (on page)
       by true none = absurd (none-some own none)
       by false has = has
 
-  pub owns_mapped : (p from past : ℕ) (prot : Prot) (on : Pages) → AddsNoOwn on (after_map len p from past prot on)
-  owns_mapped p from past prot on =
-      let new = with_area (fresh_area p from past prot) on in
-      adds_neither on new (after_map len p from past prot on) (owns_placed p from past prot on) (owns_around from past new)
+  pub owns_mapped : (p from past : ℕ) (prot : Prot) (flags : Flags) (on : Pages) → AddsNoOwn on (after_map len p from past prot flags on)
+  owns_mapped p from past prot flags on =
+      let new = with_area (fresh_area p from past prot flags) on in
+      adds_neither on new (after_map len p from past prot flags on) (owns_placed p from past prot flags on) (owns_around from past new)
 
   -- ---- change
 

@@ -1,6 +1,7 @@
 -- When two areas are one, and when one lends the other its anon_vma.
 use Rattle.std.specs.Prelude.{ℕ, Bool, true, ◌&&◌, ◌||◌, ◌==◌, Option, Some, None}
 use Rattle.std.proofs.Math.Bool.{beq}
+use Rattle.av_base.specs.declared.flags.Flags.{Flags}
 use Rattle.av_base.specs.declared.prot.Prot.{Prot}
 use Rattle.av_vma.specs.declared.area.Area.{Area}
 use Rattle.av_vma.specs.Index.{index_of, past_of}
@@ -8,6 +9,11 @@ use Rattle.av_vma.specs.Index.{index_of, past_of}
 -- one protection
 abbrev pub same_prot : Prot → Prot → Bool
 same_prot p q = beq p.read q.read && beq p.write q.write && beq p.execute q.execute
+
+-- the same flags
+abbrev pub same_flags : Flags → Flags → Bool
+same_flags f g = beq f.dont_fork g.dont_fork && beq f.wipe_on_fork g.wipe_on_fork
+    && beq f.locked g.locked && beq f.mergeable g.mergeable
 
 -- two areas may have one anon_vma: both have the same or none, or one has none and the other's
 -- chain has one node
@@ -21,7 +27,7 @@ share_anon (Some a) left_len (Some b) right_len = a == b
 -- anon_vma that both may have
 abbrev pub are_mergeable : Area → ℕ → Area → ℕ → Bool
 are_mergeable left left_len right right_len =
-    (left.end == right.start) && same_prot left.prot right.prot && (left.flags == right.flags)
+    (left.end == right.start) && same_prot left.prot right.prot && same_flags left.flags right.flags
     && (index_of left (past_of left) == right.pgoff)
     && share_anon left.anon left_len right.anon right_len
 
@@ -33,4 +39,5 @@ do_run_on left right = (right.start == left.end) && (right.pgoff == index_of lef
 -- the two adjoin and the offsets run on
 abbrev pub can_lend : Area → Area → ℕ → Bool
 can_lend area near near_len =
-    (near_len == 1) && ((area.flags == near.flags) && (do_run_on area near || do_run_on near area))
+    (near_len == 1)
+    && (same_flags area.flags near.flags && (do_run_on area near || do_run_on near area))

@@ -1,4 +1,5 @@
 pub mod Areas
+pub mod Fork
 pub mod Gap
 pub mod Index
 pub mod IndexBound

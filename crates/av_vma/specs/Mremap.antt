@@ -1,13 +1,15 @@
 -- What moving and growing a range makes of the areas on a process's pages.
-use Rattle.std.specs.Prelude.{◌≡◌, ℕ, zero, suc, ◌+◌, ◌-◌, ◌^◌, ◌<◌, ◌≤◌, ◌⊎◌, min, nat_lt, true}
+use Rattle.std.specs.Prelude.{◌≡◌, ℕ, zero, suc, ◌+◌, ◌-◌, ◌<◌, ◌≤◌, ◌⊎◌, min, nat_lt, true}
 use Rattle.std.specs.Prelude.{false, is_some, if◌then◌else◌, Option, Some, None, option_map}
 use Rattle.std.specs.Prelude.{IsSomeAnd}
+use Rattle.av_base.specs.Flags.{unlocked}
 use Rattle.av_base.specs.Limits.{low_page, top_page, most_indices}
 use Rattle.av_base.specs.Page.{address_of}
 use Rattle.av_base.specs.Words.{within}
 use Rattle.av_vma.specs.declared.area.Area.{Area}
 use Rattle.av_vma.specs.Index.{first_of, index_of, past_of}
-use Rattle.av_vma.specs.Pages.{Lengths, Pages, after_unmap, split_at, joined_around, joined_at}
+use Rattle.av_vma.specs.Pages.{Lengths, Pages, after_map, after_unmap, split_at, joined_around}
+use Rattle.av_vma.specs.Pages.{joined_at}
 use Rattle.av_vma.specs.Pages.{with_area, without_range}
 
 -- ---- parts
@@ -62,6 +64,25 @@ after_move len from n to m on =
     let parts = split_at (from + n) (split_at (from + k) (split_at from cleared)) in
     let moved = moved_range from n k to parts in
     joined_over len to (suc m) (grown_to (to + m) (moved (to + k - 1)) moved)
+
+-- ---- the old range, where it stays
+
+-- a free page is mapped like one of an area, but it isn't locked: a new area, joined with its
+-- neighbours
+abbrev pub page_left : Lengths → ℕ → ℕ → Option Area → Pages → Pages
+page_left len p page None on = on
+page_left len p page (Some area) on =
+    after_map len p page (page + 1) area.prot (unlocked area.flags) on
+
+-- what is on the pages from another one on, seen from `from` on
+abbrev pub pages_from : ℕ → ℕ → Pages → Pages
+pages_from other from on page = on (other + (page - from))
+
+-- n free pages are, in turn, each like the one that was there
+abbrev pub pages_left : Lengths → ℕ → Pages → ℕ → ℕ → Pages → Pages
+pages_left len p was from zero on = on
+pages_left len p was from (suc n) on =
+    pages_left len p was (from + 1) n (page_left len p from (was from) on)
 
 -- ---- what both need
 

@@ -1,6 +1,6 @@
 -- What a process has on its pages: for each page the area that holds it. And what mapping,
 -- unmapping and changing a range make of that, with the splits and joins that come of it.
-use Rattle.std.specs.Prelude.{◌≡◌, ℕ, zero, suc, ◌+◌, ◌-◌, ◌^◌, ◌<◌, ◌≤◌, true, false, not, ◌==◌}
+use Rattle.std.specs.Prelude.{◌≡◌, ℕ, zero, suc, ◌+◌, ◌-◌, ◌<◌, ◌≤◌, true, false, not}
 use Rattle.std.specs.Prelude.{min, max, unwrap_or, is_some, Bool, ◌&&◌, nat_lt, if◌then◌else◌, List}
 use Rattle.std.specs.Prelude.{Option, Some, None, option_map}
 use Rattle.std.specs.List.{find}
@@ -8,10 +8,13 @@ use Rattle.std.specs.Option.{option_or}
 use Rattle.av_base.specs.Limits.{low_page, top_page, most_indices}
 use Rattle.av_base.specs.Page.{address_of}
 use Rattle.av_base.specs.Words.{within}
+use Rattle.av_base.specs.Flags.{with_flag}
+use Rattle.av_base.specs.declared.flags.Flag.{Flag}
+use Rattle.av_base.specs.declared.flags.Flags.{Flags}
 use Rattle.av_base.specs.declared.prot.Prot.{Prot}
 use Rattle.av_vma.specs.declared.area.Area.{Area}
 use Rattle.av_vma.specs.Index.{first_of, index_of, past_of}
-use Rattle.av_vma.specs.Join.{are_mergeable, can_lend, same_prot}
+use Rattle.av_vma.specs.Join.{are_mergeable, can_lend, same_flags, same_prot}
 
 -- the area that holds each page
 abbrev pub Pages : Type 0
@@ -98,14 +101,14 @@ joined_around len from past on = joined_at len past (joined_at len from on)
 
 -- ---- map
 
--- a new area of a process: no anon_vma, no flags, and its first page as its offset
-abbrev pub fresh_area : ℕ → ℕ → ℕ → Prot → Area
-fresh_area p from past prot = record {
+-- a new area of a process: no anon_vma, and its first page as its offset
+abbrev pub fresh_area : ℕ → ℕ → ℕ → Prot → Flags → Area
+fresh_area p from past prot flags = record {
   pid = p;
   start = address_of from;
   end = address_of past;
   prot = prot;
-  flags = 0;
+  flags = flags;
   pgoff = from;
   anon = None;
 }
@@ -115,9 +118,9 @@ abbrev pub with_area : Area → Pages → Pages
 with_area area on page = if has_page area page then Some area else on page
 
 -- the free pages from one to below another are mapped: a new area, joined with its neighbours
-abbrev pub after_map : Lengths → ℕ → ℕ → ℕ → Prot → Pages → Pages
-after_map len p from past prot on =
-    joined_around len from past (with_area (fresh_area p from past prot) on)
+abbrev pub after_map : Lengths → ℕ → ℕ → ℕ → Prot → Flags → Pages → Pages
+after_map len p from past prot flags on =
+    joined_around len from past (with_area (fresh_area p from past prot flags) on)
 
 -- ---- unmap
 
@@ -130,11 +133,15 @@ after_unmap from past on = without_range from past (split_at past (split_at from
 -- what a change makes of an area: of its protection, of its flags
 pub record Effect : Type 0 where
   pub prot : Prot → Prot
-  pub flags : ℕ → ℕ
+  pub flags : Flags → Flags
 
 -- the effect of giving a protection
 abbrev pub to_prot : Prot → Effect
 to_prot prot = record { prot = λ _. prot; flags = λ flags. flags }
+
+-- the effect of setting or clearing a flag
+abbrev pub to_flag : Flag → Bool → Effect
+to_flag flag set = record { prot = λ prot. prot; flags = with_flag flag set }
 
 -- the area with it
 abbrev pub with_effect : Effect → Area → Area
@@ -144,7 +151,8 @@ with_effect effect area =
 -- whether it makes the area another
 abbrev pub alters : Effect → Area → Bool
 alters effect area =
-    not (same_prot (effect.prot area.prot) area.prot && (effect.flags area.flags == area.flags))
+    not (same_prot (effect.prot area.prot) area.prot
+    && same_flags (effect.flags area.flags) area.flags)
 
 -- whether it makes another of the area on a page
 abbrev pub alters_at : Effect → Option Area → Bool

@@ -5,20 +5,20 @@ ghost use Rattle.av_vma.specs.Index.{first_of, index_of, past_of};
 ghost use Rattle.av_vma.specs.Join.{are_mergeable, do_run_on, can_lend, share_anon};
 ghost use Rattle.av_vma.specs.Pages.{home_of};
 
-use av_base::{PAGE_SIZE, Prot};
+use av_base::{Flags, PAGE_SIZE, Prot};
 
 /// A run of pages that one process mapped alike (Linux's `vm_area_struct`).
 ///
 /// `start` and `end` are addresses on pages, `end` the first one past the area. The page at address
 /// `a` has the linear index `(a - start) / 4096 + pgoff`. `anon` is the number of the area's own
-/// anon_vma, if it has one. `flags` has what Linux's `vm_flags` has beside access: always 0.
+/// anon_vma, if it has one. `flags` has what Linux's `vm_flags` has beside access.
 #[derive(Clone, Copy, Drop, Debug, PartialEq, Eq)]
 pub struct Area {
     pub pid: u16,
     pub start: u64,
     pub end: u64,
     pub prot: Prot,
-    pub flags: u8,
+    pub flags: Flags,
     pub pgoff: u64,
     pub anon: Option<u64>,
 }

@@ -7,16 +7,19 @@ use Rattle.std.proofs.lemmas.Bool.Decides.{nat_tests}
 use Rattle.std.specs.Prelude.{max, min, unwrap_or}
 use Rattle.av_base.specs.Page.{address_of, page_of, pages_of}
 use Rattle.av_base.specs.Words.{is_in, with_at, within}
+use Rattle.av_base.specs.Flags.{no_flags, unlocked}
+use Rattle.av_base.specs.declared.flags.Flags.{Flags}
 use Rattle.av_base.specs.declared.prot.Prot.{Prot}
+use Rattle.av_vma.specs.Fork.{areas_to_fork, forked_area, own_to_fork}
 use Rattle.av_vma.specs.declared.area.Area.{Area}
 use Rattle.av_vma.specs.Index.{first_of, past_of}
 use Rattle.av_vma.specs.Join.{can_lend}
-use Rattle.av_vma.specs.Pages.{AreLaid, Effect, Lengths, Pages, after_join, after_map, after_unmap, alters_at, split_at, do_join, fresh_area, has_page, join_of, joined_around, joined_at, loan_beside, loan_of, makes_anon, page_changed, pages_changed, pages_in, part_changed, part_of, to_prot, with_anon, with_area, with_effect, with_effect_on, without_range}
+use Rattle.av_vma.specs.Pages.{AreLaid, Effect, Lengths, Pages, after_join, after_map, after_unmap, alters_at, split_at, do_join, fresh_area, has_page, join_of, joined_around, joined_at, loan_beside, loan_of, makes_anon, page_changed, pages_changed, pages_in, part_changed, part_of, to_flag, to_prot, with_anon, with_area, with_effect, with_effect_on, without_range}
 use Rattle.av_text.specs.Number.{IsWide}
 use Rattle.av_trace.specs.declared.command.Command.{Command}
 use Rattle.av_trace.specs.declared.command.Command.TheVariants.{Spawn, Exit, Mmap, Mremap, Munmap, Mprotect}
 use Rattle.av_trace.specs.declared.note.Note.{Note}
-use Rattle.av_trace.specs.declared.note.Note.TheVariants.{Copied, New, Loaded}
+use Rattle.av_trace.specs.declared.note.Note.TheVariants.{Copied, Joined, Moved, New, Loaded, Shared}
 use Rattle.av_trace.specs.declared.place.Place.{Place}
 use Rattle.av_trace.specs.declared.place.Place.TheVariants.{Auto, At, Fixed, NoReplace}
 use Rattle.av_trace.specs.declared.reply.Answer.{Answer}
@@ -25,11 +28,11 @@ use Rattle.av_trace.specs.declared.reply.Errno.TheVariants.{Enomem}
 use Rattle.av_trace.specs.declared.reply.Reply.{Reply}
 use Rattle.av_trace.specs.declared.row.Row.{Row}
 use Rattle.av_plain.specs.Areas.{Anons, AnonVma, Areas, areas_to_hole, AreLeft, AreNext, at_home, chain_length, chain_by, next_areas, none_on, prepare_page, Rmap, rmap_after, rmap_after_all, rmap_after_note, rmap_after_use, root_anon, with_room, with_root, root_of}
-use Rattle.av_plain.specs.Event.{Event, Noted, Used, after}
+use Rattle.av_plain.specs.Event.{Event, FlagSet, Noted, Used, after}
 use Rattle.av_plain.specs.Fork.{AreForked, GoOver, GoesBy}
-use Rattle.av_vma.specs.Mremap.{after_grow, after_move, after_resize, grown_to, joined_over, moved_area, moved_range}
+use Rattle.av_vma.specs.Mremap.{after_grow, after_move, after_resize, grown_to, joined_over, moved_area, moved_range, page_left, pages_left}
 use Rattle.av_plain.specs.Ledger.{Entry, InFrame, Key, Ledger, Setting, entry}
-use Rattle.av_plain.specs.Mremap.{after_mremap, with_old_range, prot_left}
+use Rattle.av_plain.specs.Mremap.{after_mremap, leaves_old, with_old_range}
 use Rattle.av_plain.specs.Refusal.{wraps}
 use Rattle.av_plain.specs.Report.{AreRowsOf, area_row}
 use Rattle.av_plain.specs.Transcript.{Exchange, IsRun, IsStep, State, rmap_of}
@@ -118,9 +121,10 @@ with-below n area on is h page = by (has_page area page)
     by true = is
     by false = h page
 
-map-below : (n : ℕ) (len : Lengths) (p from past : ℕ) (prot : Prot) (on : Pages) → OwnBelow n on → OwnBelow n (after_map len p from past prot on)
-map-below n len p from past prot on h = around-below n len from past (with_area (fresh_area p from past prot) on)
-    (with-below n (fresh_area p from past prot) on tt h)
+map-below : (n : ℕ) (len : Lengths) (p from past : ℕ) (prot : Prot) (flags : Flags) (on : Pages) → OwnBelow n on
+    → OwnBelow n (after_map len p from past prot flags on)
+map-below n len p from past prot flags on h = around-below n len from past (with_area (fresh_area p from past prot flags) on)
+    (with-below n (fresh_area p from past prot flags) on tt h)
 
 effect-below : (n from past : ℕ) (effect : Effect) (on : Pages) → OwnBelow n on → OwnBelow n (with_effect_on from past effect on)
 effect-below n from past effect on h page = by (within from (past - from) page)
@@ -199,27 +203,37 @@ resize-below n len from k m on h = by (nat_lt m k) (nat_lt k m)
     by false true = grow (on (from + k - 1)) (h (from + k - 1))
     by false false = h
 
-again-below : (n : ℕ) (len : Lengths) (p from past : ℕ) (left : Option Prot) (on : Pages) → OwnBelow n on
-    → OwnBelow n (with_old_range len p from past left on)
-again-below n len p from past None on h = h
-again-below n len p from past (Some prot) on h = map-below n len p from past prot on h
+left-page-below : (n : ℕ) (len : Lengths) (p page : ℕ) (o : Option Area) (on : Pages) → OwnBelow n on → OwnBelow n (page_left len p page o on)
+left-page-below n len p page None on h = h
+left-page-below n len p page (Some area) on h = map-below n len p page (page + 1) area.prot (unlocked area.flags) on h
 
-remap-below : (n : ℕ) (len : Lengths) (p from k to m : ℕ) (left : Option Prot) (on : Pages) → OwnBelow n on
-    → OwnBelow n (after_mremap len p from k to m left on)
-remap-below n len p from k to m left on h = by (to == from)
+left-below-all : (n : ℕ) (len : Lengths) (p : ℕ) (was : Pages) (from k : ℕ) (on : Pages) → OwnBelow n on
+    → OwnBelow n (pages_left len p was from k on)
+left-below-all n len p was from zero on h = h
+left-below-all n len p was from (suc k) on h =
+    left-below-all n len p was (from + 1) k (page_left len p from (was from) on) (left-page-below n len p from (was from) on h)
+
+again-below : (n : ℕ) (len : Lengths) (p : ℕ) (was : Pages) (from k : ℕ) (stays : Bool) (on : Pages) → OwnBelow n on
+    → OwnBelow n (with_old_range len p was from k stays on)
+again-below n len p was from k false on h = h
+again-below n len p was from k true on h = left-below-all n len p was from k on h
+
+remap-below : (n : ℕ) (len : Lengths) (p from k to m : ℕ) (stays : Bool) (on : Pages) → OwnBelow n on
+    → OwnBelow n (after_mremap len p from k to m stays on)
+remap-below n len p from k to m stays on h = by (to == from)
   where
     by : (b : Bool) → OwnBelow n
-        (if b then after_resize len from k m on else with_old_range len p from (from + k) left (after_move len from k to m on))
+        (if b then after_resize len from k m on else with_old_range len p on from k stays (after_move len from k to m on))
     by true = resize-below n len from k m on h
-    by false = again-below n len p from (from + k) left (after_move len from k to m on) (move-below n len from k to m on h)
+    by false = again-below n len p on from k stays (after_move len from k to m on) (move-below n len from k to m on h)
 
 next-below : (n : ℕ) (long : Lengths) (on : Areas) (w : World) (command : Command) (answer : Answer) → AllBelow n on →
     AllBelow n (next_areas long on w command answer)
 next-below n long on w (Spawn p) Done h = set-below n p none_on on (λ page. tt) h
 next-below n long on w (Exit p) Done h = set-below n p none_on on (λ page. tt) h
 next-below n long on w (Mmap p len prot place) (MapAt a) h =
-    set-below n p (after_map long p (page_of a) (page_of a + pages_of len) prot (with_room (pages_of len) place (on p))) on
-    (map-below n long p (page_of a) (page_of a + pages_of len) prot (with_room (pages_of len) place (on p))
+    set-below n p (after_map long p (page_of a) (page_of a + pages_of len) prot no_flags (with_room (pages_of len) place (on p))) on
+    (map-below n long p (page_of a) (page_of a + pages_of len) prot no_flags (with_room (pages_of len) place (on p))
     (room-below n (pages_of len) place (on p) (h p))) h
 next-below n long on w (Munmap p a len) Done h =
     set-below n p (after_unmap (page_of a) (page_of a + pages_of len) (on p)) on (unmap-below n (page_of a) (page_of a + pages_of len) (on p) (h p)) h
@@ -233,8 +247,8 @@ next-below n long on w (Mprotect p a len prot) (Refused Enomem) h = by (wraps a 
     by false = set-below n p (areas_to_hole long w p (page_of a) (pages_of len) prot (on p)) on
         (pages-below n long (to_prot prot) (page_of a) (pages_to_hole (pages w p) (page_of a) (pages_of len)) (on p) (h p)) h
 next-below n long on w (Mremap p a old new mode) (MapAt b) h =
-    set-below n p (after_mremap long p (page_of a) (pages_of old) (page_of b) (pages_of new) (prot_left mode (pages w p) (page_of a)) (on p)) on
-    (remap-below n long p (page_of a) (pages_of old) (page_of b) (pages_of new) (prot_left mode (pages w p) (page_of a)) (on p) (h p)) h
+    set-below n p (after_mremap long p (page_of a) (pages_of old) (page_of b) (pages_of new) (leaves_old mode) (on p)) on
+    (remap-below n long p (page_of a) (pages_of old) (page_of b) (pages_of new) (leaves_old mode) (on p) (h p)) h
 next-below n long on w command answer h = h
 
 -- ---- anon_vmas
@@ -278,7 +292,7 @@ page-made p page r h = by (on page) (h.owns p page)
     n : ℕ
     n = r.anons.next
 
-    same : Makes r (record { areas = with_at p (r.areas p) r.areas; anons = r.anons; homes = r.homes })
+    same : Makes r (record { areas = with_at p (r.areas p) r.areas; anons = r.anons; homes = r.homes; items = r.items })
     same = record { made = record { owns = set-below r.anons.next p (r.areas p) r.areas (h.owns p) h.owns; chains = h.chains }; more = omega arith }
 
     root-chains : (v : ℕ) (b : Bool) → (v == r.anons.next) ≡ b
@@ -291,6 +305,7 @@ page-made p page r h = by (on page) (h.owns p page)
           areas = with_at p (if b then r.areas p else with_area (record area { anon = Some (unwrap_or l r.anons.next) }) (r.areas p)) r.areas;
           anons = if not b && not (is_some l) then with_root r.anons else r.anons;
           homes = r.homes;
+          items = r.items;
         })
     at area true l is = same
     at area false (Some v) is = record {
@@ -317,6 +332,7 @@ page-made p page r h = by (on page) (h.owns p page)
           areas = with_at p (with_anon (chain_length r.anons) r.anons.next o (r.areas p)) r.areas;
           anons = if makes_anon (chain_length r.anons) (r.areas p) o then with_root r.anons else r.anons;
           homes = r.homes;
+          items = r.items;
         })
     by None is = same
     by (Some area) is = at area (is_some area.anon) (loan_beside (chain_length r.anons) (r.areas p) area)
@@ -337,6 +353,9 @@ note-made : (l : Ledger) (note : Note) (r : Rmap) → AreMade r → Makes r (rma
 note-made l (New p a f) r h = home-made r (prepare_page p (page_of a) r) f (p, page_of a) (page-made p (page_of a) r h)
 note-made l (Copied p a f) r h = home-made r r f (p, page_of a) (none-made r h)
 note-made l (Loaded s f) r h = record { made = record { owns = h.owns; chains = h.chains }; more = omega arith }
+note-made l (Shared f) r h = record { made = record { owns = h.owns; chains = h.chains }; more = omega arith }
+note-made l (Joined p a f) r h = record { made = record { owns = h.owns; chains = h.chains }; more = omega arith }
+note-made l (Moved from to) r h = record { made = record { owns = h.owns; chains = h.chains }; more = omega arith }
 note-made l note r h = none-made r h
 
 use-made : (write : Bool) (k : Key) (o : Option Entry) (r : Rmap) → AreMade r → Makes r (rmap_after_use write k o r)
@@ -346,6 +365,14 @@ use-made write k o r h = none-made r h
 event-made : (l : Ledger) (e : Event) (r : Rmap) → AreMade r → Makes r (rmap_after l e r)
 event-made l (Noted note) r h = note-made l note r h
 event-made l (Used write k) r h = use-made write k (entry l k) r h
+event-made l (FlagSet p from n flag set) r h = record {
+  made = record {
+    owns = set-below r.anons.next p (pages_changed (chain_length r.anons) (to_flag flag set) from n (r.areas p)) r.areas
+        (pages-below r.anons.next (chain_length r.anons) (to_flag flag set) from n (r.areas p) (h.owns p)) h.owns;
+    chains = h.chains;
+  };
+  more = omega arith;
+}
 event-made l e r h = none-made r h
 
 all-made : (l : Ledger) (es : List Event) (r : Rmap) → AreMade r → Makes r (rmap_after_all l es r)
@@ -403,19 +430,19 @@ all_and : (P : ℕ → Type 0) (xs : List ℕ) (x : ℕ) → AllByRecursion P xs
 all_and P [] x h p = (p, tt)
 all_and P (y ∷ xs) x h p = (h.0, all_and P xs x h.1 p)
 
-goes-makes : (own : Option ℕ) (q : ℕ) (area : Area) (r next : Rmap) → area.anon ≡ own → AreMade r → GoesBy own q area r next → Makes r next
-goes-makes None q area r next is h goes = subst (Makes r) (sym goes) (record {
+goes-makes : (own : Option ℕ) (q : ℕ) (area : Area) (r next : Rmap) → AreMade r → GoesBy own q area r next → Makes r next
+goes-makes None q area r next h goes = subst (Makes r) (sym goes) (record {
   made = record {
-    owns = set-below r.anons.next q (with_area (record area { pid = q }) (r.areas q)) r.areas
-        (with-below r.anons.next (record area { pid = q }) (r.areas q) (subst (IsBelow r.anons.next) (sym is) tt) (h.owns q)) h.owns;
+    owns = set-below r.anons.next q (with_area (record (forked_area q area) { anon = None }) (r.areas q)) r.areas
+        (with-below r.anons.next (record (forked_area q area) { anon = None }) (r.areas q) tt (h.owns q)) h.owns;
     chains = h.chains;
   };
   more = omega arith;
 })
-goes-makes (Some own) q area r next is h (None, none, goes) = subst (Makes r) (sym goes) (record {
+goes-makes (Some own) q area r next h (None, none, goes) = subst (Makes r) (sym goes) (record {
   made = record {
-    owns = set-below (suc n) q (with_area (record area { pid = q; anon = Some n }) (r.areas q)) r.areas
-        (with-below (suc n) (record area { pid = q; anon = Some n }) (r.areas q) (omega arith)
+    owns = set-below (suc n) q (with_area (record (forked_area q area) { anon = Some n }) (r.areas q)) r.areas
+        (with-below (suc n) (record (forked_area q area) { anon = Some n }) (r.areas q) (omega arith)
         (λ o. more_area n (suc n) (r.areas q o) (omega arith) (h.owns q o)))
         (λ p o. more_area n (suc n) (r.areas p o) (omega arith) (h.owns p o));
     chains = λ v. at v (v == n);
@@ -435,10 +462,10 @@ goes-makes (Some own) q area r next is h (None, none, goes) = subst (Makes r) (s
         (record { root = root_of r.anons own; parent = own; chain = chain_by r.anons (Some own) ++ r.anons.next ∷ [] }) else r.anons.anon v)
     at v true = chain
     at v false = more_chain r.anons.next (suc r.anons.next) (r.anons.anon v) (omega arith) (h.chains v)
-goes-makes (Some own) q area r next is h (Some u, one, goes) = subst (Makes r) (sym goes) (record {
+goes-makes (Some own) q area r next h (Some u, one, goes) = subst (Makes r) (sym goes) (record {
   made = record {
-    owns = set-below r.anons.next q (with_area (record area { pid = q; anon = Some u }) (r.areas q)) r.areas
-        (with-below r.anons.next (record area { pid = q; anon = Some u }) (r.areas q)
+    owns = set-below r.anons.next q (with_area (record (forked_area q area) { anon = Some u }) (r.areas q)) r.areas
+        (with-below r.anons.next (record (forked_area q area) { anon = Some u }) (r.areas q)
         (in_all (λ v. v < r.anons.next) u (chain_by r.anons (Some own)) chain one.0) (h.owns q)) h.owns;
     chains = λ v. at v (v == u);
   };
@@ -461,7 +488,7 @@ goes-makes (Some own) q area r next is h (Some u, one, goes) = subst (Makes r) (
 over-makes : (q : ℕ) (areas : List Area) (r next : Rmap) → AreMade r → GoOver q areas r next → Makes r next
 over-makes q [] r next h goes = subst (Makes r) (sym goes) (none-made r h)
 over-makes q (area ∷ areas) r next h (mid, first, later) =
-    let one = goes-makes area.anon q area r mid refl h first in
+    let one = goes-makes (own_to_fork area) q area r mid h first in
     let rest = over-makes q areas mid next one.made later in
     let a = one.more in
     let b = rest.more in
@@ -470,7 +497,7 @@ over-makes q (area ∷ areas) r next h (mid, first, later) =
 fork-makes : (p q : ℕ) (r next : Rmap) → AreMade r → AreForked p q r next → Makes r next
 fork-makes p q r next h (areas, rise, on, goes) =
     let start = record r { areas = with_at q none_on r.areas } in
-    let all = over-makes q areas start next
+    let all = over-makes q (areas_to_fork areas) start next
     (record { owns = set-below r.anons.next q none_on r.areas (λ page. tt) h.owns; chains = h.chains }) goes in
     record { made = all.made; more = all.more }
 

@@ -2,12 +2,12 @@
 use Rattle.std.specs.FinMap.Entries.{by_order, find, put, where_key}
 use Rattle.std.specs.List.{AllByRecursion}
 use Rattle.std.specs.Ordering.{eq_by_cmp, nat_cmp}
-use Rattle.std.specs.Prelude.{IfSome, IsSomeAnd, MatchOption, count_by}
+use Rattle.std.specs.Prelude.{IfSome, IsSomeAnd, MatchBool, MatchOption, count_by}
 use Rattle.std.specs.declared.cmp.Ordering.{Ordering}
 use Rattle.std.specs.declared.cmp.Ordering.TheVariants.{Less, Equal, Greater}
 use Rattle.std.proofs.Common.{◌≡◌, ◌⊎◌, inl, inr, ℕ, ◌+◌, ◌-◌, ◌<◌, ◌≤◌, min, Bool, true, false, cond, not, ◌&&◌, ◌==◌, List, [], ◌∷◌, ◌++◌, map, Option, Some, None, is_some, refl, sym, ap, subst, ◌∙◌, arith}
 use Rattle.std.proofs.lemmas.Bool.Decides.{nat_tests}
-use Rattle.av_base.specs.Page.{page_of, pages_of}
+use Rattle.av_base.specs.Page.{page_of, pages_met, pages_of}
 use Rattle.av_base.specs.Words.{within}
 use Rattle.av_base.specs.declared.slot.Slot.{Slot}
 use Rattle.av_clusters.specs.Clusters.{Slots, fresh, is_free as is_free_page}
@@ -16,21 +16,24 @@ use Rattle.av_swapdev.specs.Header.{Layout}
 use Rattle.av_text.specs.Number.{IsWide}
 use Rattle.av_trace.specs.Command.{IsInRange}
 use Rattle.av_trace.specs.declared.command.Command.{Command}
-use Rattle.av_trace.specs.declared.command.Command.TheVariants.{Spawn, Fork, Exit, Mmap, Mremap, Munmap, Mprotect, Read, Write, Reclaim, Age, Complete, Swapon, Swapoff, Maps, Areas as AsksAreas, Rmap as AsksRmap, Entry as AsksEntry, Slot as AsksSlot, Stat}
-use Rattle.av_trace.specs.declared.note.Cause.TheVariants.{NoSlot, Referenced, WriteStarted, Writeback}
+use Rattle.av_trace.specs.declared.command.Command.TheVariants.{Compact, Merge, Spawn, Fork, Exit, Mmap, Mremap, Munmap, Mprotect, Madvise, Mlock, Munlock, Read, Write, Reclaim, Age, Complete, Swapon, Swapoff, Maps, Areas as AsksAreas, Rmap as AsksRmap, Entry as AsksEntry, Slot as AsksSlot, Stat}
+use Rattle.av_trace.specs.declared.note.Cause.TheVariants.{Ksm, Locked, NoSlot, Referenced, WriteStarted, Writeback}
 use Rattle.av_trace.specs.declared.note.Note.{Note}
-use Rattle.av_trace.specs.declared.note.Note.TheVariants.{Aged, Copied, Dropped, Failed, Kept, Loaded, Mapped, New, Put, Started, Unmapped, Written, Zeroed}
+use Rattle.av_trace.specs.declared.note.Note.TheVariants.{Aged, Copied, Dropped, Failed, Kept, Loaded, Mapped, New, Put, Started, Unmapped, Written, Zeroed, Joined, Moved, Shared}
 use Rattle.av_trace.specs.declared.place.Place.{Place}
 use Rattle.av_trace.specs.declared.place.Place.TheVariants.{Auto, At, Fixed, NoReplace}
 use Rattle.av_trace.specs.declared.reply.Answer.{Answer}
 use Rattle.av_trace.specs.declared.reply.Answer.TheVariants.{Refused}
 use Rattle.av_trace.specs.declared.reply.Errno.{Errno}
-use Rattle.av_trace.specs.declared.reply.Errno.TheVariants.{Eio}
+use Rattle.av_trace.specs.declared.reply.Errno.TheVariants.{Eio, Enomem}
 use Rattle.av_trace.specs.declared.reply.Reply.{Reply}
 use Rattle.av_trace.specs.declared.row.Row.{Row}
 use Rattle.av_plain.specs.Access.{Accesses, End, page_events}
+use Rattle.av_base.specs.declared.flags.Flag.{Flag}
+use Rattle.av_plain.specs.Advice.{advice_events, flag_of_advice, pages_advised}
+use Rattle.av_plain.specs.Lock.{BringsIn, accesses_of, with_lock}
 use Rattle.av_plain.specs.Choice.{AreFresh, ChoosesAll, Free}
-use Rattle.av_plain.specs.Event.{Event, EntriesMoved, Forked, Noted, TurnedOff, TurnedOn, Used, Zapped, after, after_all, after_note, after_use_of, change_entries, entries_where, if_some, is_inherited, note_events, off_cache, off_flight, put_all, set_entry, settle_entry, to_inactive_tail, when, with_stale, without_seen}
+use Rattle.av_plain.specs.Event.{Event, EntriesMoved, FlagSet, Forked, FreeSorted, Noted, TurnedOff, TurnedOn, Used, Zapped, after, after_all, after_note, after_use_of, change_entries, entries_where, if_some, is_inherited, key_at, note_events, off_cache, off_flight, put_all, set_entry, settle_entry, to_inactive_tail, when, with_stale, without_seen}
 use Rattle.av_plain.specs.Ledger.{Entry, HasNumbers, InFrame, InSlot, Key, Ledger, Setting, SwapArea, Zero, entry, frame_at, is_orphan, size_of, slot_of}
 use Rattle.av_plain.specs.Map.{zaps_for_place}
 use Rattle.av_plain.specs.Mremap.{events_to, range_zaps}
@@ -40,8 +43,9 @@ use Rattle.av_plain.specs.Step.{Follows, closing_swap_area}
 use Rattle.av_plain.specs.Swapoff.{Close, Closed, NoRoom, Unread, turn_off_events}
 use Rattle.av_plain.specs.Swapon.{IsByHeader, header_answer, priority_of, turn_on_events}
 use Rattle.av_plain.specs.Transcript.{IsStep, State}
-use Rattle.av_plain.specs.World.{World}
+use Rattle.av_plain.specs.World.{World, pages, pages_to_hole, pages_to_locked}
 use Rattle.av_plain.specs.Zap.{keys_in, keys_of_process, orphan_drop, slot_behind_key, zap_of, zaps_of}
+use Rattle.av_plain.proofs.Event.{changed-by}
 use Rattle.av_plain.proofs.Mremap.{then_target}
 use Rattle.av_plain.proofs.Sound.There.{settle-on}
 use Rattle.av_laws.specs.ReadBack.{IsSmall, IsSmallArea, IsSmallLayout, IsSmallSetting, IsWideOnAnswer}
@@ -136,6 +140,21 @@ module _ (m : Setting) where
   named-follows w l (Mprotect p a len prot) events answer rows fit fine h = none-named events h.1
   named-follows w l (Mremap p a old new mode) events answer rows fit fine h = subst (AreNamed m) (sym h.3)
       (named-remap l p (page_of a) (pages_of old) h.0 (pages_of new))
+  named-follows w l (Madvise p a len advice) events answer rows fit fine h = subst (AreNamed m) (sym h.1) (by (flag_of_advice advice))
+    where
+      by : (change : Option (Flag × Bool))
+          → AreNamed m (advice_events l p (page_of a) (pages_advised (pages w p) (page_of a) (pages_of len) change) change)
+      by None = named-zaps l (keys_in l p (page_of a) (pages_to_locked (pages w p) (page_of a) (pages_of len)))
+      by (Some change) = (tt, tt)
+  named-follows w l (Mlock p a len) events answer rows fit fine h = subst (AreNamed m) (sym h.1)
+      (tt, by (pages_to_hole (pages w p) (page_of a) (pages_met a len) == pages_met a len) h.3)
+    where
+      by : (b : Bool) → MatchBool b (BringsIn m w l p (page_of a) (pages_met a len) h.0 answer) ((h.0 ≡ []) × (answer ≡ Refused Enomem))
+          → AreNamed m h.0
+      by true q = named-accesses (with_lock true w p (page_of a) (pages_met a len)) l p
+          (accesses_of (pages w p) (page_of a) (pages_met a len)) h.0 q.0 q.1
+      by false q = none-named h.0 q.0
+  named-follows w l (Munlock p a len) events answer rows fit fine h = subst (AreNamed m) (sym h.1) (tt, tt)
   named-follows w l (Read p a n) events answer rows fit fine h = named-accesses w l p _ events h.0 h.2
   named-follows w l (Write p a bytes) events answer rows fit fine h = named-accesses w l p _ events h.0 h.1
   named-follows w l (Reclaim n) events answer rows fit fine h = subst (AreNamed m) (sym h.3) (named-notes h.0)
@@ -150,6 +169,9 @@ module _ (m : Setting) where
       by Closed = (tt, tt)
       by (NoRoom out) = tt
       by Unread = tt
+  named-follows w l Merge events answer rows fit fine h = subst (AreNamed m) (sym h.2) (named-notes _)
+  named-follows w l Compact events answer rows fit fine h = subst (AreNamed m) (sym h.2)
+      (all-append (IsNamed m) (note_events h.0) (FreeSorted ∷ []) (named-notes h.0) (tt, tt))
   named-follows w l (Maps p) events answer rows fit fine h = none-named events h.2
   named-follows w l (AsksAreas p) events answer rows fit fine h = none-named events h.2
   named-follows w l (AsksRmap p a) events answer rows fit fine h = none-named events h.1
@@ -194,7 +216,9 @@ few-event m closing l (Zapped k) free free' small named h = tt
 few-event m closing l (Used write k) free free' small named h = tt
 few-event m closing l (Forked p q pages) free free' small named h = tt
 few-event m closing l (EntriesMoved p n from to) free free' small named h = tt
+few-event m closing l (FlagSet p from n flag set) free free' small named h = tt
 few-event m closing l (TurnedOff k) free free' small named h = tt
+few-event m closing l FreeSorted free free' small named h = tt
 
 few-events : (m : Setting) (closing : Option ℕ) (l : Ledger) (es : List Event) (free free' : Free) → IsSmallSetting m → AreNamed m es
     → ChoosesAll m closing l es free free' → AllByRecursion IsFewEvent es
@@ -233,7 +257,7 @@ few-where test (a ∷ on) all = by (test a.0) (few-where test on all.1)
 note-on : (note : Note) (l : Ledger) → (after_note note l).on ≡ l.on
 note-on (Zeroed p a) l = refl
 note-on (New p a f) l = refl
-note-on (Copied p a f) l = refl
+note-on (Copied p a f) l = changed-by (λ l. l.on) (λ g l. refl) (key_at p a) f l
 note-on (Loaded s f) l = refl
 note-on (Mapped p a f) l = refl
 note-on (Put f s) l = refl
@@ -254,7 +278,12 @@ note-on (Kept f Writeback) l = refl
 note-on (Kept f WriteStarted) l = refl
 note-on (Kept f Referenced) l = refl
 note-on (Kept f NoSlot) l = refl
+note-on (Kept f Locked) l = refl
+note-on (Kept f Ksm) l = refl
 note-on (Aged f) l = refl
+note-on (Shared f) l = refl
+note-on (Joined p a f) l = changed-by (λ l. l.on) (λ g l. refl) (key_at p a) f l
+note-on (Moved from to) l = refl
 
 few-put_all : (es : List (Key × Entry)) (l : Ledger) → AreFewOn l → AreFewOn (put_all es l)
 few-put_all [] l all = all
@@ -286,8 +315,10 @@ few-after l (Forked p q pages) few all = few-put_all
 few-after l (EntriesMoved p n from to) few all = few-put_all
     (map (λ e. ((p, e.0.1 - from + to), e.1)) (entries_where (λ k. k.0 == p && within from n k.1) l))
     (record l { entries = entries_where (λ k. not (k.0 == p && within from n k.1)) l }) all
+few-after l (FlagSet p from n flag set) few all = all
 few-after l (TurnedOn k area) few all = few-put k area l.on few.0 all
 few-after l (TurnedOff k) few all = few-where (λ q. not (q == k)) l.on all
+few-after l FreeSorted few all = all
 
 few-after_all : (l : Ledger) (es : List Event) → AllByRecursion IsFewEvent es → AreFewOn l → AreFewOn (after_all l es)
 few-after_all l [] few all = all

@@ -1,42 +1,53 @@
 -- A step makes few anon_vmas: one for each page that gets a frame, and one for each area of a parent.
 use Rattle.std.specs.List.{AllByRecursion, range_with_len}
-use Rattle.std.proofs.Common.{◌≡◌, ◌⊎◌, inl, inr, ℕ, zero, suc, ◌+◌, ◌-◌, ◌*◌, ◌≤◌, min, Bool, true, false, cond, List, [], ◌∷◌, ◌++◌, length, map, take, Option, Some, None, append-nil, refl, sym, ap, subst, ◌∙◌, arith, ◌==◌, if◌then◌else◌}
-use Rattle.std.specs.Prelude.{MatchOption}
-use Rattle.av_base.specs.Limits.{top_page}
-use Rattle.av_base.specs.Page.{address_of, page_of, pages_of, place_in_page}
+use Rattle.std.proofs.Common.{◌≡◌, ◌⊎◌, inl, inr, ℕ, zero, suc, ◌+◌, ◌-◌, ◌*◌, ◌≤◌, min, Bool, true, false, cond, List, [], ◌∷◌, ◌++◌, length, map, not, nat_lt, take, Option, Some, None, append-nil, refl, sym, ap, subst, ◌∙◌, arith, ◌==◌, if◌then◌else◌}
+use Rattle.std.proofs.lemmas.List.{length-append}
+use Rattle.std.specs.Prelude.{MatchBool, MatchOption, filter}
+use Rattle.av_base.specs.Limits.{most_frames, top_page}
+use Rattle.av_base.specs.Page.{address_of, page_of, pages_met, pages_of, place_in_page}
 use Rattle.av_base.specs.Words.{how_many, with_at}
 use Rattle.av_base.specs.declared.slot.Slot.{Slot}
 use Rattle.av_trace.specs.Command.{IsInRange}
 use Rattle.av_trace.specs.declared.command.Command.{Command}
-use Rattle.av_trace.specs.declared.command.Command.TheVariants.{Spawn, Fork, Exit, Mmap, Mremap, Munmap, Mprotect, Read, Write, Reclaim, Age, Complete, Swapon, Swapoff, Maps, Areas as AsksAreas, Rmap as AsksRmap, Entry as AsksEntry, Slot as AsksSlot, Stat}
+use Rattle.av_trace.specs.declared.command.Command.TheVariants.{Compact, Merge, Spawn, Fork, Exit, Mmap, Mremap, Munmap, Mprotect, Madvise, Mlock, Munlock, Read, Write, Reclaim, Age, Complete, Swapon, Swapoff, Maps, Areas as AsksAreas, Rmap as AsksRmap, Entry as AsksEntry, Slot as AsksSlot, Stat}
 use Rattle.av_trace.specs.declared.note.Note.{Note}
-use Rattle.av_trace.specs.declared.note.Note.TheVariants.{Aged, Copied, Dropped, Failed, Kept, Loaded, Mapped, New, Put, Started, Unmapped, Written, Zeroed}
+use Rattle.av_trace.specs.declared.note.Note.TheVariants.{Aged, Copied, Dropped, Failed, Kept, Loaded, Mapped, New, Put, Started, Unmapped, Written, Zeroed, Joined, Moved, Shared}
 use Rattle.av_trace.specs.declared.place.Place.TheVariants.{Auto, At, Fixed, NoReplace}
 use Rattle.av_trace.specs.declared.reply.Errno.{Errno}
+use Rattle.av_trace.specs.declared.reply.Errno.TheVariants.{Einval, Enomem, Esrch}
 use Rattle.av_trace.specs.declared.reply.Answer.{Answer}
+use Rattle.av_trace.specs.declared.reply.Answer.TheVariants.{Refused}
 use Rattle.av_trace.specs.declared.reply.OutOf.{OutOf}
 use Rattle.av_trace.specs.declared.reply.Reply.{Reply}
 use Rattle.av_vma.specs.Index.{first_of, past_of}
 use Rattle.av_vma.specs.Pages.{AreLaid, makes_anon, pages_in}
+use Rattle.av_vma.specs.Fork.{areas_to_fork, own_to_fork}
 use Rattle.av_vma.specs.declared.area.Area.{Area}
 use Rattle.av_plain.specs.Access.{Accesses, End, pages_of_access}
+use Rattle.av_base.specs.declared.flags.Flag.{Flag}
+use Rattle.std.proofs.lemmas.Bool.Decides.{nat_tests}
+use Rattle.av_plain.specs.Advice.{advice_events, flag_of_advice, pages_advised}
+use Rattle.av_plain.specs.Lock.{BringsIn, access_of, accesses_of, with_lock}
 use Rattle.av_plain.specs.Areas.{Anons, Rmap, chain_length, none_on, prepare_page, rmap_after_all, with_root}
-use Rattle.av_plain.specs.Event.{Event, EntriesMoved, TurnedOn, Used, Zapped, after, after_all, after_notes, note_events, notes_of, when}
+use Rattle.av_plain.specs.Event.{Event, EntriesMoved, FreeSorted, Noted, TurnedOn, Used, Zapped, after, after_all, after_note, after_notes, note_events, notes_of, when}
 use Rattle.av_plain.specs.Fault.{ComesIn, CopyOnWrite, Denied, IsMade, Lost, MapCached, Need, NewPage, Ready, RunsOut, Serves, Sparing, Starved, Stop, SwapIn, Touches, ZeroPage, drop_at, drop_of_entry, drop_of_slot, is_unneeded, need, pinned_by, sparing, was_slot}
 use Rattle.av_plain.specs.Fork.{AreForked, GoOver, GoesBy}
 use Rattle.av_plain.specs.Ledger.{Entry, InFrame, InSlot, Key, Ledger, Setting, SwapArea, Zero, entry, frame_at, is_orphan, keys_of_slot, slot_of, slots_in_use}
+use Rattle.av_plain.specs.Compact.{Moves}
+use Rattle.av_plain.specs.Merge.{FrameBytes, candidate, join_notes, merge_notes, merged_like, merges, other_like, with_candidate}
+use Rattle.av_plain.proofs.Sound.Frames.{move-is}
 use Rattle.av_plain.specs.Mremap.{events_to, range_zaps, remap_events}
 use Rattle.av_plain.specs.Pass.{Seeks, Spared, TakesFor}
-use Rattle.av_plain.specs.Refusal.{Refuses, refusal, tests}
+use Rattle.av_plain.specs.Refusal.{Refuses, locks_too_many, meets_end, refusal, tests}
 use Rattle.av_plain.specs.Report.{AreApart, range_of}
 use Rattle.av_plain.specs.Swapoff.{Close, Closed, Empties, EndsAt, IsEmptied, NoRoom, Unread, map_notes, sparing_area, turn_off_events}
 use Rattle.av_plain.specs.Swapon.{turn_on_events}
 use Rattle.av_plain.specs.Step.{Follows, IsLegal}
 use Rattle.av_plain.specs.Transcript.{IsStep, State, rmap_of}
-use Rattle.av_plain.specs.World.{World}
+use Rattle.av_plain.specs.World.{Page, Process, World, allows, lives, pages, pages_to_hole}
 use Rattle.av_plain.specs.Zap.{keys_in, orphan_drop, slot_behind_key, zap_of, zaps_of}
 use Rattle.av_plain.proofs.Access.{notes_of-append, notes_of-note_events}
-use Rattle.av_plain.proofs.AreasLeft.{prepare_note, prepare_notes, rmap_after_all-notes}
+use Rattle.av_plain.proofs.AreasLeft.{prepare_event, prepare_events, prepare_note, rmap_after_all-notes}
 use Rattle.av_plain.proofs.Ledger.{how_many-append}
 use Rattle.av_plain.proofs.Sound.Swap.Area.{turn-on-events}
 use Rattle.av_plain.proofs.Report.Areas.{all_from, on_first}
@@ -75,6 +86,9 @@ none-new (note ∷ notes) h = one note h.0 (none-new notes h.1)
     one (Dropped s) h rest = omega (arith, rest)
     one (Kept f c) h rest = omega (arith, rest)
     one (Aged f) h rest = omega (arith, rest)
+    one (Shared f) h rest = omega (arith, rest)
+    one (Joined p a f) h rest = omega (arith, rest)
+    one (Moved from to) h rest = omega (arith, rest)
 
 seeks-new : (m : Setting) (sp : Spared) (l : Ledger) (notes : List Note) → Seeks m sp l notes → news notes ≡ 0
 seeks-new m sp l notes h = none-new notes (bring-seeks (λ k. false) m sp l notes h)
@@ -198,6 +212,24 @@ few-pages write a n h =
     by true = omega arith
     by false = omega (arith, h)
 
+-- those that are locked
+few-locked : (q : Process) (from n : ℕ) → length (accesses_of q from n) ≤ n
+few-locked q from zero = omega arith
+few-locked q from (suc n) =
+    let rest = few-locked q (from + 1) n in
+    let sum = length-append (access_of from (q from)) (accesses_of q (from + 1) n) in
+    let first = one (q from) in
+    omega (arith, rest, sum, first)
+  where
+    one : (o : Option Page) → length (access_of from o) ≤ 1
+    one None = omega arith
+    one (Some x) = by (allows true x.prot) (allows false x.prot)
+      where
+        by : (b c : Bool) → length {A = Bool × ℕ} (if b then (true, from) ∷ [] else (if c then (false, from) ∷ [] else [])) ≤ 1
+        by true c = omega arith
+        by false true = omega arith
+        by false false = omega arith
+
 -- ---- entries that go or move, and slots that are emptied
 
 -- the areas that events prepare
@@ -259,11 +291,11 @@ ends-new : (m : Setting) (sp : Spared) (k : ℕ) (l : Ledger) (pages : List ℕ)
 ends-new m sp k l [] notes end h = same-new notes [] 0 h.0 (omega arith)
 ends-new m sp k l (page ∷ pages) notes end h = let none = seeks-new m sp l notes h.1 in omega (arith, none)
 
-empties-new : (m : Setting) (sp : Spared) (k : ℕ) (l : Ledger) (pages : List ℕ) (notes : List Note) (end : Close) → Empties m sp k l pages notes end
+empties-new : (m : Setting) (w : World) (k : ℕ) (l : Ledger) (pages : List ℕ) (notes : List Note) (end : Close) → Empties m w k l pages notes end
     → news notes ≤ 0
-empties-new m sp k l [] notes end h = ends-new m sp k l (slots_in_use m l k) notes end h
-empties-new m sp k l (page ∷ pages) notes end h = same-new notes (h.1 ++ h.2) 0 h.4
-    (two-new h.1 h.2 0 0 (emptied-new m sp l (record { area = k; page = page }) h.1 h.5) (empties-new m sp k (after_notes l h.1) pages h.2 end h.6))
+empties-new m w k l [] notes end h = ends-new m (sparing_area w k l) k l (slots_in_use m l k) notes end h
+empties-new m w k l (page ∷ pages) notes end h = same-new notes (h.1 ++ h.2) 0 h.4
+    (two-new h.1 h.2 0 0 (emptied-new m (sparing_area w k l) l (record { area = k; page = page }) h.1 h.5) (empties-new m w k (after_notes l h.1) pages h.2 end h.6))
 
 off-new : (k : ℕ) (end : Close) → prepared (turn_off_events k end) ≤ 0
 off-new k Closed = omega arith
@@ -278,73 +310,129 @@ on-new k priority answer = by (turn-on-events k priority answer)
     by (inl e) = same-new (notes_of (turn_on_events k priority answer)) [] 0 (ap notes_of e) (omega arith)
     by (inr e) = same-new (notes_of (turn_on_events k priority answer)) [] 0 (ap notes_of e.1) (omega arith)
 
+-- ---- merging and compaction
+
+join-new : (k : Key) (a b : Option ℕ) → news (join_notes k a b) ≡ 0
+join-new k (Some g) b = refl
+join-new k None (Some h) = refl
+join-new k None None = refl
+
+merges-new : (m : Setting) (held : FrameBytes) (w : World) (l : Ledger) (earlier : List ℕ) (ks : List Key) → news (merges m held w l earlier ks) ≤ 0
+merges-new m held w l earlier [] = omega arith
+merges-new m held w l earlier (k ∷ ks) =
+    two-new (merge_notes m held l earlier k (candidate w l k)) _ 0 0 (let none = by (candidate w l k) in omega (arith, none))
+    (merges-new m held w (after_notes l (merge_notes m held l earlier k (candidate w l k))) (with_candidate earlier (candidate w l k)) ks)
+  where
+    by : (o : Option ℕ) → news (merge_notes m held l earlier k o) ≡ 0
+    by None = refl
+    by (Some f) = join-new k (merged_like m held l f) (other_like held earlier f)
+
+moves-new : (m : Setting) (l : Ledger) (notes : List Note) → Moves m l notes → news notes ≤ 0
+moves-new m l [] h = omega arith
+moves-new m l (note ∷ notes) h = two-new (note ∷ []) notes 0 0
+    (let v = move-is m l note h.0 in subst (λ n. news (n ∷ []) ≤ 0) (sym v.is) (omega arith)) (moves-new m (after_note note l) notes h.1)
+
 -- ---- a legal reply
 
 legal-new : (m : Setting) (w : World) (l : Ledger) (command : Command) (reply : Reply) (es : List Event) → IsInRange command
-    → IsLegal m w l command reply es → news (notes_of es) ≤ 8192
-legal-new m w l command reply es fit legal = by (refusal (tests m w l command)) legal.answer
+    → IsLegal m w l command reply es → news (notes_of es) ≤ 16384
+legal-new m w l command reply es fit legal = by (refusal (tests m w l command)) refl legal.answer
   where
-    quiet : (fs : List Event) → es ≡ fs → notes_of fs ≡ [] → news (notes_of es) ≤ 8192
-    quiet fs e q = same-new (notes_of es) [] 8192 (ap notes_of e ∙ q) (omega arith)
+    quiet : (fs : List Event) → es ≡ fs → notes_of fs ≡ [] → news (notes_of es) ≤ 16384
+    quiet fs e q = same-new (notes_of es) [] 16384 (ap notes_of e ∙ q) (omega arith)
 
-    quietly : (fs : List Event) → es ≡ fs → prepared fs ≤ 0 → news (notes_of es) ≤ 8192
-    quietly fs e few = same-new (notes_of es) (notes_of fs) 8192 (ap notes_of e) (omega (arith, few))
+    quietly : (fs : List Event) → es ≡ fs → prepared fs ≤ 0 → news (notes_of es) ≤ 16384
+    quietly fs e few = same-new (notes_of es) (notes_of fs) 16384 (ap notes_of e) (omega (arith, few))
 
-    these : (ks : List Key) → es ≡ zaps_of l ks → news (notes_of es) ≤ 8192
+    these : (ks : List Key) → es ≡ zaps_of l ks → news (notes_of es) ≤ 16384
     these ks e = quietly (zaps_of l ks) e (zaps-new l ks)
 
     accessed : (p : ℕ) (write : Bool) (a n : ℕ) (end : End) → n ≤ 4096 → Accesses m w l p (pages_of_access write a n) es end
-        → news (notes_of es) ≤ 8192
+        → news (notes_of es) ≤ 16384
     accessed p write a n end few h =
         let here = accesses-new m w l p (pages_of_access write a n) es end h in
         let short = few-pages write a n few in omega (arith, here, short)
 
-    noted : (notes : List Note) → es ≡ note_events notes → AllBring (λ k. false) notes → news (notes_of es) ≤ 8192
-    noted notes e bring = let none = none-new notes bring in same-new (notes_of es) notes 8192 (ap notes_of e ∙ notes_of-note_events notes)
+    noted : (notes : List Note) → es ≡ note_events notes → AllBring (λ k. false) notes → news (notes_of es) ≤ 16384
+    noted notes e bring = let none = none-new notes bring in same-new (notes_of es) notes 16384 (ap notes_of e ∙ notes_of-note_events notes)
         (omega (arith, none))
 
-    follows : (command : Command) → IsInRange command → Follows m w l command es reply.answer reply.rows →
-        news (notes_of es) ≤ 8192
-    follows (Spawn p) fit q = quiet [] q.1 refl
-    follows (Fork p c) fit q = quiet _ q.1 refl
-    follows (Exit p) fit q = these _ q.1
-    follows (Mmap p len prot Auto) fit q = quiet [] q.3 refl
-    follows (Mmap p len prot (At a)) fit q = quiet [] q.3 refl
-    follows (Mmap p len prot (Fixed a)) fit q = these _ q.3
-    follows (Mmap p len prot (NoReplace a)) fit q = quiet [] q.3 refl
-    follows (Munmap p a len) fit q = these _ q.1
-    follows (Mprotect p a len prot) fit q = quiet [] q.1 refl
-    follows (Mremap p a old new mode) fit q = moves q.0 q.3
+    few_pages : (b d e : Bool) → cond (not b) (Some Esrch) (cond d (Some Einval) (cond e (Some Enomem) None)) ≡ None → e ≡ false
+    few_pages false d e h = cc
+    few_pages true true e h = cc
+    few_pages true false true h = cc
+    few_pages true false false h = refl
+
+    few_met : (n : ℕ) → nat_lt most_frames n ≡ false → n ≤ 16384
+    few_met n h = grind (arith, nat_tests, h)
+
+    follows : (command : Command) → IsInRange command → refusal (tests m w l command) ≡ None
+        → Follows m w l command es reply.answer reply.rows → news (notes_of es) ≤ 16384
+    follows (Spawn p) fit fine q = quiet [] q.1 refl
+    follows (Fork p c) fit fine q = quiet _ q.1 refl
+    follows (Exit p) fit fine q = these _ q.1
+    follows (Mmap p len prot Auto) fit fine q = quiet [] q.3 refl
+    follows (Mmap p len prot (At a)) fit fine q = quiet [] q.3 refl
+    follows (Mmap p len prot (Fixed a)) fit fine q = these _ q.3
+    follows (Mmap p len prot (NoReplace a)) fit fine q = quiet [] q.3 refl
+    follows (Munmap p a len) fit fine q = these _ q.1
+    follows (Mprotect p a len prot) fit fine q = quiet [] q.1 refl
+    follows (Mremap p a old new mode) fit fine q = moves q.0 q.3
       where
-        moves : (to : Option ℕ) → es ≡ events_to l p (page_of a) (pages_of old) to (pages_of new) → news (notes_of es) ≤ 8192
+        moves : (to : Option ℕ) → es ≡ events_to l p (page_of a) (pages_of old) to (pages_of new) → news (notes_of es) ≤ 16384
         moves None e = quiet [] e refl
         moves (Some to) e = quietly _ e (remap-new l p (page_of a) (pages_of old) to (pages_of new))
-    follows (Read p a n) fit q = accessed p false a n q.0 fit.2.most q.2
-    follows (Write p a bytes) fit q = accessed p true a (length bytes) q.0 fit.2.0.most q.1
-    follows (Reclaim n) fit q = noted q.0 q.3 (bring-outcomes (λ k. false) m (sparing w l None) l (from_tail n l.inactive) q.0 q.1)
-    follows (Age n) fit q = noted (map Aged (from_tail n l.active)) q.1 (bring-ages (λ k. false) (from_tail n l.active))
-    follows (Complete n) fit q = noted q.0 q.3 (bring-completes (λ k. false) l (take n l.flight) q.0 q.1)
-    follows (Swapon k priority) fit q = quietly (turn_on_events k priority reply.answer) q.1 (on-new k priority reply.answer)
-    follows (Swapoff k) fit q = quietly (note_events (q.done ++ q.notes) ++ turn_off_events k q.end) q.whole
+    follows (Madvise p a len advice) fit fine q = told (flag_of_advice advice) q.1
+      where
+        told : (change : Option (Flag × Bool))
+            → es ≡ advice_events l p (page_of a) (pages_advised (pages w p) (page_of a) (pages_of len) change) change → news (notes_of es) ≤ 16384
+        told None e = these _ e
+        told (Some change) e = quiet _ e refl
+    follows (Mlock p a len) fit fine q = locks (pages_to_hole (pages w p) (page_of a) (pages_met a len) == pages_met a len) q.3
+      where
+        coming : news (notes_of q.0) ≤ 16384 → news (notes_of es) ≤ 16384
+        coming h = same-new (notes_of es) (notes_of q.0) 16384 (ap notes_of q.1) h
+
+        locks : (b : Bool) → MatchBool b (BringsIn m w l p (page_of a) (pages_met a len) q.0 reply.answer)
+            ((q.0 ≡ []) × (reply.answer ≡ Refused Enomem)) → news (notes_of es) ≤ 16384
+        locks true h =
+            let here = accesses-new m (with_lock true w p (page_of a) (pages_met a len)) l p
+            (accesses_of (pages w p) (page_of a) (pages_met a len)) q.0 h.0 h.1 in
+            let short = few-locked (pages w p) (page_of a) (pages_met a len) in
+            let few = few_met (pages_met a len) (few_pages (lives w p) (meets_end a len) (locks_too_many a len) fine) in
+            coming (omega (arith, here, short, few))
+        locks false h = coming (same-new (notes_of q.0) [] 16384 (ap notes_of h.0) (omega arith))
+    follows (Munlock p a len) fit fine q = quiet _ q.1 refl
+    follows (Read p a n) fit fine q = accessed p false a n q.0 fit.2.most q.2
+    follows (Write p a bytes) fit fine q = accessed p true a (length bytes) q.0 fit.2.0.most q.1
+    follows (Reclaim n) fit fine q = noted q.0 q.3 (bring-outcomes (λ k. false) m (sparing w l None) l (from_tail n l.inactive) q.0 q.1)
+    follows (Age n) fit fine q = noted (map Aged (from_tail n l.active)) q.1 (bring-ages (λ k. false) (from_tail n l.active))
+    follows (Complete n) fit fine q = noted q.0 q.3 (bring-completes (λ k. false) l (take n l.flight) q.0 q.1)
+    follows (Swapon k priority) fit fine q = quietly (turn_on_events k priority reply.answer) q.1 (on-new k priority reply.answer)
+    follows (Swapoff k) fit fine q = quietly (note_events (q.done ++ q.notes) ++ turn_off_events k q.end) q.whole
         (two-events (note_events (q.done ++ q.notes)) (turn_off_events k q.end)
         (note-events (q.done ++ q.notes) (two-new q.done q.notes 0 0 (completed q.done (bring-completes (λ k. false) l l.flight q.done q.completes))
-        (empties-new m (sparing_area w k (after_notes l q.done)) k (after_notes l q.done) q.pages q.notes q.end q.empties)))
+        (empties-new m w k (after_notes l q.done) q.pages q.notes q.end q.empties)))
         (off-new k q.end))
       where
         completed : (notes : List Note) → AllBring (λ k. false) notes → news notes ≤ 0
         completed notes bring = let none = none-new notes bring in omega (arith, none)
-    follows (Maps p) fit q = quiet [] q.2 refl
-    follows (AsksAreas p) fit q = quiet [] q.2 refl
-    follows (AsksRmap p a) fit q = quiet [] q.1 refl
-    follows (AsksEntry p a) fit q = quiet [] q.1 refl
-    follows (AsksSlot k page) fit q = quiet [] q.1 refl
-    follows Stat fit q = quiet [] q.1 refl
+    follows Merge fit fine q = quietly (note_events (merges m q.0 w l [] (map (λ e. e.0) l.entries))) q.2
+        (note-events (merges m q.0 w l [] (map (λ e. e.0) l.entries)) (merges-new m q.0 w l [] (map (λ e. e.0) l.entries)))
+    follows Compact fit fine q = quietly (note_events q.0 ++ FreeSorted ∷ []) q.2
+        (two-events (note_events q.0) (FreeSorted ∷ []) (note-events q.0 (moves-new m l q.0 q.1)) (omega arith))
+    follows (Maps p) fit fine q = quiet [] q.2 refl
+    follows (AsksAreas p) fit fine q = quiet [] q.2 refl
+    follows (AsksRmap p a) fit fine q = quiet [] q.1 refl
+    follows (AsksEntry p a) fit fine q = quiet [] q.1 refl
+    follows (AsksSlot k page) fit fine q = quiet [] q.1 refl
+    follows Stat fit fine q = quiet [] q.1 refl
 
-    by : (o : Option Errno) → MatchOption o (Follows m w l command es reply.answer reply.rows)
+    by : (o : Option Errno) → refusal (tests m w l command) ≡ o → MatchOption o (Follows m w l command es reply.answer reply.rows)
         (λ error. Refuses error es reply.answer reply.rows)
-        → news (notes_of es) ≤ 8192
-    by None q = follows command fit q
-    by (Some error) q = quiet [] q.1 refl
+        → news (notes_of es) ≤ 16384
+    by None is q = follows command fit is q
+    by (Some error) is q = quiet [] q.1 refl
 
 -- ---- how many are made
 
@@ -355,14 +443,19 @@ page-few p page r = by (makes_anon (chain_length r.anons) (r.areas p) (r.areas p
     by true = omega arith
     by false = omega arith
 
-notes-few : (notes : List Note) (r : Rmap) → (prepare_notes notes r).anons.next ≤ r.anons.next + news notes
-notes-few [] r = omega arith
-notes-few (note ∷ notes) r = one note (notes-few notes (prepare_note note r))
+events-few : (es : List Event) (r : Rmap) → (prepare_events es r).anons.next ≤ r.anons.next + prepared es
+events-few [] r = omega arith
+events-few (e ∷ es) r = one e (events-few es (prepare_event e r))
   where
-    one : (note : Note) → (prepare_notes notes (prepare_note note r)).anons.next ≤ (prepare_note note r).anons.next + news notes
-        → (prepare_notes notes (prepare_note note r)).anons.next ≤ r.anons.next + news (note ∷ notes)
-    one (New p a f) h = let here = page-few p (page_of a) r in omega (arith, h, here)
-    one note h = omega (arith, h)
+    note : (n : Note) → (prepare_events es (prepare_note n r)).anons.next ≤ (prepare_note n r).anons.next + prepared es
+        → (prepare_events es (prepare_note n r)).anons.next ≤ r.anons.next + prepared (Noted n ∷ es)
+    note (New p a f) h = let here = page-few p (page_of a) r in omega (arith, h, here)
+    note n h = omega (arith, h)
+
+    one : (e : Event) → (prepare_events es (prepare_event e r)).anons.next ≤ (prepare_event e r).anons.next + prepared es
+        → (prepare_events es (prepare_event e r)).anons.next ≤ r.anons.next + prepared (e ∷ es)
+    one (Noted n) h = note n h
+    one e h = h
 
 goes-few : (own : Option ℕ) (q : ℕ) (area : Area) (r next : Rmap) → GoesBy own q area r next → next.anons.next ≤ suc r.anons.next
 goes-few None q area r next goes = let same = ap (λ (x : Rmap). x.anons.next) goes in omega (arith, same)
@@ -372,7 +465,7 @@ goes-few (Some own) q area r next (Some v, one, goes) = let same = ap (λ (x : R
 over-few : (q : ℕ) (areas : List Area) (r next : Rmap) → GoOver q areas r next → next.anons.next ≤ r.anons.next + length areas
 over-few q [] r next goes = let same = ap (λ (x : Rmap). x.anons.next) goes in omega (arith, same)
 over-few q (area ∷ areas) r next (mid, first, later) =
-    let one = goes-few area.anon q area r mid first in
+    let one = goes-few (own_to_fork area) q area r mid first in
     let rest = over-few q areas mid next later in
     omega (arith, one, rest)
 
@@ -388,11 +481,20 @@ apart-few a (b ∷ areas) h high =
 
 fork-few : (p q : ℕ) (r next : Rmap) → AreLaid (r.areas p) → AreForked p q r next → next.anons.next ≤ r.anons.next + top_page
 fork-few p q r next laid (areas, rise, on, goes) =
-    let all = over-few q areas (record r { areas = with_at q none_on r.areas }) next goes in
+    let all = over-few q (areas_to_fork areas) (record r { areas = with_at q none_on r.areas }) next goes in
+    let fewer = filter-few (λ (a : Area). not a.flags.dont_fork) areas in
     let few = count areas rise (all_from (λ (a : Area). pages_in (Some areas) (first_of a) ≡ Some a) (λ (a : Area). past_of a ≤ top_page)
     (λ a is. (laid.whole (first_of a) a (sym (on (first_of a)) ∙ is)).high) areas (on_first areas rise)) in
-    omega (arith, all, few)
+    omega (arith, all, fewer, few)
   where
+    filter-few : (test : Area → Bool) (areas : List Area) → length (filter test areas) ≤ length areas
+    filter-few test [] = omega arith
+    filter-few test (a ∷ areas) = one (test a) (filter-few test areas)
+      where
+        one : (b : Bool) → length (filter test areas) ≤ length areas → length (cond b (a ∷ filter test areas) (filter test areas)) ≤ suc (length areas)
+        one true h = omega (arith, h)
+        one false h = omega (arith, h)
+
     count : (areas : List Area) → AreApart (map range_of areas) → AllByRecursion (λ (a : Area). past_of a ≤ top_page) areas → length areas ≤ top_page
     count [] h high = omega arith
     count (a ∷ areas) h high = let few = apart-few a areas h high in omega (arith, few)
@@ -406,11 +508,11 @@ step-few m most old command reply new high covers fit step = by (next-cases late
     later : Rmap
     later = rmap_after_all old.ledger step.events (rmap_of old)
 
-    prepared : later.anons.next ≤ old.anons.next + 8192
+    prepared : later.anons.next ≤ old.anons.next + 16384
     prepared =
         let same = ap (λ (a : Anons). a.next) (rmap_after_all-notes old.ledger step.events (rmap_of old) (rmap_of old)
         (record { areas = refl; anons = refl })).anons in
-        let few = notes-few (notes_of step.events) (rmap_of old) in
+        let few = events-few step.events (rmap_of old) in
         let notes = legal-new m old.world old.ledger command reply step.events fit step.legal in
         omega (arith, same, few, notes)
 

@@ -1,18 +1,18 @@
 -- Each step leaves pages below the top, of processes with numbers of 64 bits.
 use Rattle.std.specs.List.{list_all}
-use Rattle.std.specs.Prelude.{MatchBool, MatchOption, slice_index}
+use Rattle.std.specs.Prelude.{MatchBool, MatchOption, option_and_then, slice_index}
 use Rattle.std.specs.Ordering.{nat_cmp, eq_by_cmp}
 use Rattle.std.proofs.Common.{◌≡◌, inl, inr, ℕ, ◌+◌, ◌-◌, ◌<◌, ◌≤◌, Bool, true, false, cond, not, ◌&&◌, List, [], ◌∷◌, ◌++◌, length, Option, Some, None, is_some, option_map, refl, sym, ap, subst, ◌∙◌, arith, ◌==◌, nat_lt, nat_le, if◌then◌else◌}
 use Rattle.std.proofs.lemmas.Bool.Decides.{nat_tests}
 use Rattle.av_base.specs.Limits.{low_page, top_page}
-use Rattle.av_base.specs.Page.{address_of, is_on_page, page_of, pages_of}
+use Rattle.av_base.specs.Page.{address_of, is_on_page, page_of, pages_met, pages_of}
 use Rattle.av_base.specs.Words.{within}
-use Rattle.av_base.specs.declared.prot.Prot.{Prot}
+use Rattle.av_base.specs.declared.flags.Flag.TheVariants.{Locked}
 use Rattle.av_vma.specs.Gap.{IsGap}
 use Rattle.av_trace.specs.Command.{IsInRange}
 use Rattle.av_text.specs.Number.{IsWide}
 use Rattle.av_trace.specs.declared.command.Command.{Command}
-use Rattle.av_trace.specs.declared.command.Command.TheVariants.{Spawn, Fork, Exit, Mmap, Mremap, Munmap, Mprotect, Read, Write, Reclaim, Age, Complete, Swapon, Swapoff, Maps, Areas as AsksAreas, Rmap as AsksRmap, Entry as AsksEntry, Slot as AsksSlot, Stat}
+use Rattle.av_trace.specs.declared.command.Command.TheVariants.{Compact, Merge, Spawn, Fork, Exit, Mmap, Mremap, Munmap, Mprotect, Madvise, Mlock, Munlock, Read, Write, Reclaim, Age, Complete, Swapon, Swapoff, Maps, Areas as AsksAreas, Rmap as AsksRmap, Entry as AsksEntry, Slot as AsksSlot, Stat}
 use Rattle.av_trace.specs.declared.mode.Mode.{Mode}
 use Rattle.av_trace.specs.declared.place.Place.{Place}
 use Rattle.av_trace.specs.declared.place.Place.TheVariants.{Auto, At, Fixed, NoReplace}
@@ -22,19 +22,22 @@ use Rattle.av_trace.specs.declared.reply.Errno.{Errno}
 use Rattle.av_trace.specs.declared.reply.Errno.TheVariants.{Eexist, Einval, Enomem, Eperm, Esrch}
 use Rattle.av_trace.specs.declared.reply.Reply.{Reply}
 use Rattle.av_trace.specs.declared.row.Row.{Row}
-use Rattle.av_plain.specs.Access.{after_write, first_bytes}
+use Rattle.av_plain.specs.Access.{End, Stopped, Whole, after_write, first_bytes, write_answer}
+use Rattle.av_plain.specs.Advice.{advised, flag_of_advice, pages_advised, with_advice}
 use Rattle.av_plain.specs.Event.{Event}
+use Rattle.av_plain.specs.Fault.{Denied, Lost, Starved}
+use Rattle.av_plain.specs.Lock.{BringsIn, with_lock}
 use Rattle.av_plain.specs.Ledger.{Ledger, Setting}
 use Rattle.av_plain.specs.Load.{with_loads}
 use Rattle.av_plain.specs.Map.{with_prot_to_hole}
-use Rattle.av_plain.specs.Mremap.{MovesTo, events_to, prot_at, prot_left, process_after_mremap}
+use Rattle.av_plain.specs.Mremap.{MovesTo, events_to, leaves_old, left_behind, process_after_mremap}
 use Rattle.av_plain.specs.Place.{Goes, IsMapAt, is_room}
-use Rattle.av_plain.specs.Refusal.{Refuses, Tests, fixed_tests, is_too_long, low, place_tests, refusal, tests, top, wraps}
+use Rattle.av_plain.specs.Refusal.{Refuses, Tests, fixed_tests, is_too_long, is_bad_range, locks_too_many, low, place_tests, refusal, tests, top, wraps}
 use Rattle.av_plain.specs.Step.{Follows, next, next_world}
 use Rattle.av_plain.specs.Transcript.{IsStep, State}
-use Rattle.av_plain.specs.World.{Page, Process, World, end_process, is_mapped, lives, meets, no_pages, pages, pages_to_hole, set_process, with_bytes, with_pages, with_prot, with_prot_on, zeros}
+use Rattle.av_plain.specs.World.{Page, Process, World, end_process, is_mapped, lives, meets, no_pages, pages, pages_to_hole, set_process, child_of, page_of_child, wiped, with_bytes, with_change_on, with_page_flag, with_pages, with_prot, zeros}
 use Rattle.av_plain.proofs.Load.{events_to-load_nothing, loads_nothing, without-loads}
-use Rattle.av_plain.proofs.Mremap.Legal.{highest, left_each}
+use Rattle.av_plain.proofs.Mremap.Legal.{highest}
 use Rattle.av_plain.proofs.Refusal.{MayRemap, may-remap, refused-next}
 use Rattle.av_plain.proofs.Sound.{map_count-loads}
 use Rattle.av_plain.proofs.Sound.Zap.{pages-ended}
@@ -83,13 +86,13 @@ below-stored w p a (b ∷ bytes) below = below-set w p (with_bytes (pages w p) a
     by page None h = h
     by page (Some x) h = refl
 
-below-protected : (w : World) (p from n : ℕ) (prot : Prot) → Below w
-    → Below (set_process w p (with_prot_on (pages w p) from n prot))
-below-protected w p from n prot below = below-set w p (with_prot_on (pages w p) from n prot) below
+below-changed : (w : World) (p from n : ℕ) (change : Page → Page) → Below w
+    → Below (set_process w p (with_change_on (pages w p) from n change))
+below-changed w p from n change below = below-set w p (with_change_on (pages w p) from n change) below
     (λ page h. below p page (by (within from n page) (pages w p page) h))
   where
     by : (b : Bool) (o : Option Page)
-        → is_some (if b then option_map (with_prot prot) o else o) ≡ true → is_some o ≡ true
+        → is_some (if b then option_map change o else o) ≡ true → is_some o ≡ true
     by true None h = h
     by true (Some x) h = refl
     by false o h = h
@@ -174,34 +177,26 @@ module _ (w : World) (p a old new : ℕ) (mode : Mode) (to : ℕ) (may : MayRema
   abbrev m : ℕ
   m = pages_of new
 
-  abbrev left : Option Prot
-  left = prot_left mode q from
-
-  mapped_with : (page : ℕ) (prot : Prot) → prot_at q page ≡ Some prot → is_some (q page) ≡ true
-  mapped_with page prot e = by (q page) e
-    where
-      by : (o : Option Page) → option_map (λ (x : Page). x.prot) o ≡ Some prot → is_some o ≡ true
-      by None e = cc
-      by (Some x) e = refl
+  abbrev stays : Bool
+  stays = leaves_old mode
 
   -- each page after it is one that a process may have
-  pub remapped-below : (page : ℕ) → is_some (process_after_mremap from n to m left q page) ≡ true → page < top_page
+  pub remapped-below : (page : ℕ) → is_some (process_after_mremap from n to m stays q page) ≡ true → page < top_page
   remapped-below page h = by (within to m page) (within from n page) refl refl h
     where
       bounds : (b k : ℕ) → within b k page ≡ true → (b ≤ page) × (page < b + k)
       bounds b k h = (grind (arith, nat_tests, h), grind (arith, nat_tests, h))
 
-      kept : is_some (cond (within from n page) (option_map zeros left) (q page)) ≡ true → (j : Bool) → within from n page ≡ j → page < top_page
-      kept h false f = (below p page (ap (λ b. is_some (cond b (option_map zeros left) (q page))) (sym f) ∙ h)).0
-      kept h true f = of_left left refl (ap (λ b. is_some (cond b (option_map zeros left) (q page))) (sym f) ∙ h)
+      kept : is_some (cond (within from n page) (left_behind stays (q page)) (q page)) ≡ true → page < top_page
+      kept h = (below p page (was (within from n page) stays (q page) h)).0
         where
-          of_left : (o : Option Prot) → left ≡ o → is_some (option_map zeros o) ≡ true → page < top_page
-          of_left None e h = cc
-          of_left (Some prot) e h =
-              let ends = bounds from n f in
-              (below p page (mapped_with page prot (left_each w p a old new mode to may goes prot e page ends.0 ends.1))).0
+          was : (b c : Bool) (o : Option Page) → is_some (cond b (left_behind c o) o) ≡ true → is_some o ≡ true
+          was b c (Some x) h = refl
+          was true true None h = h
+          was true false None h = h
+          was false c None h = h
 
-      in_new : is_some (cond (nat_lt (page - to) n) (q (from + (page - to))) (option_map zeros (prot_at q from))) ≡ true
+      in_new : is_some (cond (nat_lt (page - to) n) (q (from + (page - to))) (option_map wiped (q (from + n - 1)))) ≡ true
           → within to m page ≡ true → page < top_page
       in_new h i = place (to == from) (nat_lt n m) refl refl
         where
@@ -219,16 +214,16 @@ module _ (w : World) (p a old new : ℕ) (mode : Mode) (to : ℕ) (may : MayRema
               let inside : nat_lt (page - to) n ≡ true = (let less : page - to < n = omega (arith, b, more) in grind (arith, nat_tests, less)) in
               let here : from + (page - to) ≡ page = omega (arith, b, same) in
               (below p page (ap (λ x. is_some (q x)) (sym here)
-              ∙ ap (λ b. is_some (cond b (q (from + (page - to))) (option_map zeros (prot_at q from))))
+              ∙ ap (λ b. is_some (cond b (q (from + (page - to))) (option_map wiped (q (from + n - 1)))))
               (sym inside) ∙ h)).0
 
       by : (i j : Bool) → within to m page ≡ i → within from n page ≡ j
-          → is_some (cond (within to m page) (cond (nat_lt (page - to) n) (q (from + (page - to))) (option_map zeros (prot_at q from)))
-          (cond (within from n page) (option_map zeros left) (q page))) ≡ true → page < top_page
-      by true j i f h = in_new (ap (λ b. is_some (cond b (cond (nat_lt (page - to) n) (q (from + (page - to))) (option_map zeros (prot_at q from)))
-          (cond (within from n page) (option_map zeros left) (q page)))) (sym i) ∙ h) i
-      by false j i f h = kept (ap (λ b. is_some (cond b (cond (nat_lt (page - to) n) (q (from + (page - to))) (option_map zeros (prot_at q from)))
-          (cond (within from n page) (option_map zeros left) (q page)))) (sym i) ∙ h) j f
+          → is_some (cond (within to m page) (cond (nat_lt (page - to) n) (q (from + (page - to))) (option_map wiped (q (from + n - 1))))
+          (cond (within from n page) (left_behind stays (q page)) (q page))) ≡ true → page < top_page
+      by true j i f h = in_new (ap (λ b. is_some (cond b (cond (nat_lt (page - to) n) (q (from + (page - to))) (option_map wiped (q (from + n - 1))))
+          (cond (within from n page) (left_behind stays (q page)) (q page)))) (sym i) ∙ h) i
+      by false j i f h = kept (ap (λ b. is_some (cond b (cond (nat_lt (page - to) n) (q (from + (page - to))) (option_map wiped (q (from + n - 1))))
+          (cond (within from n page) (left_behind stays (q page)) (q page)))) (sym i) ∙ h)
 
 -- ---- a step
 
@@ -244,7 +239,12 @@ below-follows m w now l (Spawn p) es answer rows fit same below none h = subst
     never_some e = cc
 below-follows m w now l (Fork p q) es answer rows fit same below none h = subst
     (λ x. Below (next now (Fork p q) x)) (sym h.0)
-    (below-set now q (pages now p) below (λ page h. ((below p page h).0, wide_number q fit.1.most)))
+    (below-set now q (child_of (pages now p)) below
+    (λ page h. ((below p page (was (pages now p page) h)).0, wide_number q fit.1.most)))
+  where
+    was : (o : Option Page) → is_some (option_and_then page_of_child o) ≡ true → is_some o ≡ true
+    was None h = h
+    was (Some x) h = refl
 below-follows m w now l (Exit p) es answer rows fit same below none h = subst
     (λ x. Below (next now (Exit p) x)) (sym h.0) (below-ended now p below)
 below-follows m w now l (Mmap p len prot place) es answer rows fit same below none h = at h.0 h.1 h.2
@@ -281,11 +281,11 @@ below-follows m w now l (Mprotect p a len prot) es answer rows fit same below no
     stopped : (c : Bool) → Below
         (if c then now else with_prot_to_hole now p (page_of a) (pages_of len) prot)
     stopped true = below
-    stopped false = below-protected now p (page_of a)
-        (pages_to_hole (pages now p) (page_of a) (pages_of len)) prot below
+    stopped false = below-changed now p (page_of a)
+        (pages_to_hole (pages now p) (page_of a) (pages_of len)) (with_prot prot) below
 
     at : (b : Bool) → Below (next now (Mprotect p a len prot) (if b then Done else Refused Enomem))
-    at true = below-protected now p (page_of a) (pages_of len) prot below
+    at true = below-changed now p (page_of a) (pages_of len) (with_prot prot) below
     at false = stopped (wraps a len)
 below-follows m w now l (Mremap p a old new mode) es answer rows fit same below none h = by h.0 h.1 h.2 h.3
   where
@@ -301,14 +301,59 @@ below-follows m w now l (Mremap p a old new mode) es answer rows fit same below 
         subst (λ x. Below (next now (Mremap p a old new mode) x)) (sym e)
         (subst (λ x. Below (next x (Mremap p a old new mode) (MapAt (address_of to)))) (sym still)
         (subst (λ b. Below (set_process w p (process_after_mremap (page_of a) (pages_of old) b (pages_of new)
-        (prot_left mode (pages w p) (page_of a)) (pages w p))))
+        (leaves_old mode) (pages w p))))
         (sym (back to))
-        (below-set w p (process_after_mremap (page_of a) (pages_of old) to (pages_of new) (prot_left mode (pages w p) (page_of a)) (pages w p)) here
+        (below-set w p (process_after_mremap (page_of a) (pages_of old) to (pages_of new) (leaves_old mode) (pages w p)) here
         (λ page some. (
           remapped-below w p a old new mode to (may-remap m w l p a old new mode none) goes here
               (wide_number p fit.0.most) page some,
           wide_number p fit.0.most,
         )))))
+below-follows m w now l (Madvise p a len advice) es answer rows fit same below none h = subst
+    (λ x. Below (next now (Madvise p a len advice) x)) (sym h.0)
+    (by (nat_lt (pages_advised (pages w p) (page_of a) (pages_of len) (flag_of_advice advice)) (pages_of len))
+    (pages_to_hole (pages w p) (page_of a) (pages_of len) == pages_of len))
+  where
+    told : Below (with_advice now p (page_of a) (pages_of len) (flag_of_advice advice))
+    told = below-changed now p (page_of a) (pages_advised (pages now p) (page_of a) (pages_of len) (flag_of_advice advice))
+        (advised (flag_of_advice advice)) below
+
+    bad : (b : Bool) → Below (if b then now else with_advice now p (page_of a) (pages_of len) (flag_of_advice advice))
+    bad true = below
+    bad false = told
+
+    by : (b c : Bool) → Below (next now (Madvise p a len advice) (if b then Refused Einval else (if c then Done else Refused Enomem)))
+    by true c = bad (is_bad_range a len)
+    by false true = told
+    by false false = told
+below-follows m w now l (Mlock p a len) es answer rows fit same below none h =
+    by (pages_to_hole (pages w p) (page_of a) (pages_met a len) == pages_met a len) h.3
+  where
+    locked : Below (with_lock true now p (page_of a) (pages_met a len))
+    locked = below-changed now p (page_of a) (pages_to_hole (pages now p) (page_of a) (pages_met a len))
+        (with_page_flag Locked true) below
+
+    ends : (end : End) → Below (next now (Mlock p a len) (write_answer (address_of (page_of a)) end))
+    ends Whole = locked
+    ends (Stopped page Denied) = locked
+    ends (Stopped page (Starved out)) = locked
+    ends (Stopped page Lost) = locked
+
+    many : (b : Bool) → Below (if b then now else with_lock true now p (page_of a) (pages_met a len))
+    many true = below
+    many false = locked
+
+    by : (b : Bool) → MatchBool b (BringsIn m w l p (page_of a) (pages_met a len) h.0 answer) ((h.0 ≡ []) × (answer ≡ Refused Enomem))
+        → Below (next now (Mlock p a len) answer)
+    by true q = subst (λ x. Below (next now (Mlock p a len) x)) (sym q.2) (ends q.0)
+    by false q = subst (λ x. Below (next now (Mlock p a len) x)) (sym q.1) (many (locks_too_many a len))
+below-follows m w now l (Munlock p a len) es answer rows fit same below none h = subst
+    (λ x. Below (next now (Munlock p a len) x)) (sym h.0)
+    (by (pages_to_hole (pages w p) (page_of a) (pages_met a len) == pages_met a len))
+  where
+    by : (b : Bool) → Below (next now (Munlock p a len) (if b then Done else Refused Enomem))
+    by true = below-changed now p (page_of a) (pages_to_hole (pages now p) (page_of a) (pages_met a len)) (with_page_flag Locked false) below
+    by false = below-changed now p (page_of a) (pages_to_hole (pages now p) (page_of a) (pages_met a len)) (with_page_flag Locked false) below
 below-follows m w now l (Read p a n) es answer rows fit same below none h = below
 below-follows m w now l (Write p a bytes) es answer rows fit same below none h = below-stored now p a
     (first_bytes answer bytes) below
@@ -317,6 +362,8 @@ below-follows m w now l (Age n) es answer rows fit same below none h = below
 below-follows m w now l (Complete n) es answer rows fit same below none h = below
 below-follows m w now l (Swapon k priority) es answer rows fit same below none h = below
 below-follows m w now l (Swapoff k) es answer rows fit same below none h = below
+below-follows m w now l Merge es answer rows fit same below none h = below
+below-follows m w now l Compact es answer rows fit same below none h = below
 below-follows m w now l (Maps p) es answer rows fit same below none h = below
 below-follows m w now l (AsksAreas p) es answer rows fit same below none h = below
 below-follows m w now l (AsksRmap p a) es answer rows fit same below none h = below

@@ -1,7 +1,7 @@
 -- The notes of each command have numbers of 64 bits, where the ledger has them: each names frames of the machine, slots that are in use or may be
 -- given, and mapped pages.
-use Rattle.std.specs.List.{AllByRecursion, range_with_len}
-use Rattle.std.specs.Prelude.{MatchBool, MatchOption, IsTrue}
+use Rattle.std.specs.List.{AllByRecursion, find, range_with_len}
+use Rattle.std.specs.Prelude.{MatchBool, MatchOption, IsTrue, option_and_then}
 use Rattle.std.proofs.Common.{◌≡◌, ◌⊎◌, inl, inr, ℕ, zero, suc, ◌+◌, ◌-◌, ◌<◌, ◌≤◌, min, Bool, true, false, cond, not, ◌&&◌, ◌==◌, nat_lt, List, [], ◌∷◌, ◌++◌, map, filter, reverse, Option, Some, None, is_none, refl, sym, ap, subst, ◌∙◌, arith}
 use Rattle.av_base.specs.Page.{address_of}
 use Rattle.av_base.specs.declared.slot.Slot.{Slot}
@@ -11,16 +11,18 @@ use Rattle.av_trace.specs.Reply.{IfThere}
 use Rattle.av_trace.specs.declared.note.Cause.{Cause}
 use Rattle.av_trace.specs.declared.note.Cause.TheVariants.{WriteStarted}
 use Rattle.av_trace.specs.declared.note.Note.{Note}
-use Rattle.av_trace.specs.declared.note.Note.TheVariants.{Aged, Copied, Dropped, Kept, Loaded, Mapped, New, Put, Started, Unmapped}
+use Rattle.av_trace.specs.declared.note.Note.TheVariants.{Aged, Copied, Dropped, Joined, Kept, Loaded, Mapped, Moved, New, Put, Shared, Started, Unmapped}
 use Rattle.av_trace.specs.declared.reply.OutOf.{OutOf}
 use Rattle.av_plain.specs.Access.{Accesses, End, page_events}
-use Rattle.av_plain.specs.Event.{Event, EntriesMoved, Used, Zapped, after_all, after_note, after_notes, after_use, after_zap, note_events, notes_of, when}
+use Rattle.av_plain.specs.Compact.{Moves, greatest_used, least_free, move_down}
+use Rattle.av_plain.specs.Event.{Event, EntriesMoved, Used, Zapped, after_all, after_note, after_notes, after_use, after_zap, frame_of, note_events, notes_of, when}
 use Rattle.av_plain.specs.Fault.{ComesIn, CopyOnWrite, Denied, IsMade, Lost, MapCached, Need, NewPage, Ready, RunsOut, Serves, Sparing, Starved, Stop, SwapIn, Touches, ZeroPage, drop_at, drop_of_entry, drop_of_slot, is_allowed, is_shared, is_unneeded, need, need_of_slot, pinned_by, sparing, was_slot}
-use Rattle.av_plain.specs.Ledger.{Entry, InFrame, InSlot, Key, Ledger, Setting, Zero, entry, frame_at, has_free, has_free_slot, is_on, is_open, is_orphan, is_usable, keys_of_slot, map_count, may_give, names_slot, size_of, slot_count, slot_of, slots_in_use}
+use Rattle.av_plain.specs.Ledger.{Entry, InFrame, InSlot, Key, Ledger, Setting, Zero, entry, frame_at, has_free, has_free_slot, is_free, is_merged, is_on, is_open, is_orphan, is_usable, keys_of_slot, map_count, may_give, names_slot, size_of, slot_count, slot_of, slots_in_use}
+use Rattle.av_plain.specs.Merge.{FrameBytes, candidate, frame_if, hold_same, is_candidate, join_notes, merge_notes, merged_like, merges, other_like, with_candidate}
 use Rattle.av_plain.specs.Mremap.{range_zaps, remap_events}
-use Rattle.av_plain.specs.Pass.{Completes, IsPass, IsSlotFor, Seeks, Spared, TakesFor, Turns, end_note, end_notes, frames_in_turn, is_dirty, is_stuck, stays_cached, turn_notes, unmap_notes}
+use Rattle.av_plain.specs.Pass.{Completes, IsPass, IsSlotFor, Seeks, Spared, TakesFor, Turns, end_note, end_notes, frames_in_turn, has_turn, is_dirty, is_spared, is_stuck, stays_cached, turn_notes, unmap_notes}
 use Rattle.av_plain.specs.Reclaim.{Outcome, Outcomes, cause_of, leave_notes}
-use Rattle.av_plain.specs.Swapoff.{Close, Empties, EndsAt, IsEmptied, map_notes}
+use Rattle.av_plain.specs.Swapoff.{Close, Empties, EndsAt, IsEmptied, map_notes, sparing_area}
 use Rattle.av_plain.specs.World.{World}
 use Rattle.av_plain.specs.Zap.{keys_in, orphan_drop, slot_behind_key, zap_of, zaps_of}
 use Rattle.av_plain.proofs.Access.{after_all-append, note_events-all, notes_of-append, notes_of-note_events}
@@ -137,7 +139,7 @@ seeks-fit m sp l notes wide h = by (has_free m l) h
         → MatchBool b (turns ≡ []) (Turns m sp now (frames_in_turn sp now) turns) → AreNotes turns
     turned true now turns is_wide q = subst AreNotes (sym q) tt
     turned false now turns is_wide q = turns-fit m sp (frames_in_turn sp now)
-        (all-filter IsWide (λ f. not (sp.frame f)) (reverse now.inactive ++ reverse now.active)
+        (all-filter IsWide (has_turn sp now) (reverse now.inactive ++ reverse now.active)
         (all-append IsWide (reverse now.inactive) (reverse now.active) (all-reverse IsWide now.inactive is_wide.inactive)
         (all-reverse IsWide now.active is_wide.active))) now turns is_wide q
 
@@ -300,17 +302,17 @@ module _ (m : Setting) (frames : IsWide m.frames) where
           )
 
   -- each page of the area is a slot that can be said
-  pub empties-fit : (sp : Spared) (k : ℕ) → ((page : ℕ) → page < size_of m k → IsSlot (record { area = k; page = page }))
-      → (l : Ledger) (pages : List ℕ) (notes : List Note) (end : Close) → IsWideLedger m l → Empties m sp k l pages notes end → AreNotes notes
-  empties-fit sp k slot l [] notes end wide h = by (slots_in_use m l k) h
+  pub empties-fit : (w : World) (k : ℕ) → ((page : ℕ) → page < size_of m k → IsSlot (record { area = k; page = page }))
+      → (l : Ledger) (pages : List ℕ) (notes : List Note) (end : Close) → IsWideLedger m l → Empties m w k l pages notes end → AreNotes notes
+  empties-fit w k slot l [] notes end wide h = by (slots_in_use m l k) h
     where
-      by : (pages : List ℕ) → EndsAt m sp k l pages notes end → AreNotes notes
+      by : (pages : List ℕ) → EndsAt m (sparing_area w k l) k l pages notes end → AreNotes notes
       by [] h = subst AreNotes (sym h.0) tt
-      by (page ∷ pages) h = seeks-fit m sp l notes wide h.1
-  empties-fit sp k slot l (page ∷ pages) notes end wide h =
-      let here = emptied-fits sp l (record { area = k; page = page }) h.1 wide (slot page (first-below m l k page h.0 h.3)) h.5 in
+      by (page ∷ pages) h = seeks-fit m (sparing_area w k l) l notes wide h.1
+  empties-fit w k slot l (page ∷ pages) notes end wide h =
+      let here = emptied-fits (sparing_area w k l) l (record { area = k; page = page }) h.1 wide (slot page (first-below m l k page h.0 h.3)) h.5 in
       subst AreNotes (sym h.4) (all-append IsNote h.1 h.2 here
-      (empties-fit sp k slot (after_notes l h.1) pages h.2 end (wide-notes m l h.1 here wide) h.6))
+      (empties-fit w k slot (after_notes l h.1) pages h.2 end (wide-notes m l h.1 here wide) h.6))
 
 -- ---- reclaim and age
 
@@ -402,3 +404,83 @@ remap-fits m l p from n to k wide = by (to == from)
     by true = zaps-fit m l (keys_in l p (from + k) (n - k)) wide
     by false = subst AreNotes (sym (notes_of-append (first ++ second) (EntriesMoved p (min n k) from to ∷ [])))
         (all-append IsNote (notes_of (first ++ second)) [] zapped tt)
+
+-- ---- merging and compaction
+
+found-all : (P : ℕ → Type 0) (p : ℕ → Bool) (xs : List ℕ) (y : ℕ) → AllByRecursion P xs → find p xs ≡ Some y → P y
+found-all P p [] y all h = cc
+found-all P p (x ∷ xs) y all h = by (p x) h (found-all P p xs y all.1)
+  where
+    by : (b : Bool) → cond b (Some x) (find p xs) ≡ Some y → (find p xs ≡ Some y → P y) → P y
+    by true h rest = let e : x ≡ y = cc in subst P e all.0
+    by false h rest = rest h
+
+range-wide : (a n past : ℕ) → a + n ≤ past → IsWide past → AllByRecursion IsWide (range_with_len a n)
+range-wide a zero past low wide = tt
+range-wide a (suc n) past low wide = (omega (arith, low, wide), range-wide (a + 1) n past (omega (arith, low)) wide)
+
+join-fits : (k : Key) (a b : Option ℕ) → IsWideKey k → IfThere IsWide a → IfThere IsWide b → AreNotes (join_notes k a b)
+join-fits k (Some g) b key x y = ((key.0, key.1, x), tt)
+join-fits k None (Some j) key x y = (y, ((key.0, key.1, y), tt))
+join-fits k None None key x y = tt
+
+pub merges-fit : (m : Setting) (held : FrameBytes) (w : World) (l : Ledger) (earlier : List ℕ) (ks : List Key) → IsWide m.frames
+    → AllByRecursion IsWideKey ks → AllByRecursion IsWide earlier → IsWideLedger m l → AreNotes (merges m held w l earlier ks)
+merges-fit m held w l earlier [] frames keys before wide = tt
+merges-fit m held w l earlier (k ∷ ks) frames keys before wide =
+    let here = turn (candidate w l k) in
+    all-append IsNote (merge_notes m held l earlier k (candidate w l k)) _ here
+    (merges-fit m held w (after_notes l (merge_notes m held l earlier k (candidate w l k))) (with_candidate earlier (candidate w l k)) ks frames keys.1
+    (more (candidate w l k) refl) (wide-notes m l (merge_notes m held l earlier k (candidate w l k)) here wide))
+  where
+    like : (f : ℕ) (o : Option ℕ) → merged_like m held l f ≡ o → IfThere IsWide o
+    like f None e = tt
+    like f (Some g) e = found-all IsWide (λ g. is_merged l g && hold_same held g f) (range_with_len 0 m.frames) g
+        (range-wide 0 m.frames m.frames (omega arith) frames) e
+
+    other : (f : ℕ) (o : Option ℕ) → other_like held earlier f ≡ o → IfThere IsWide o
+    other f None e = tt
+    other f (Some j) e = found-all IsWide (λ h. not (h == f) && hold_same held h f) earlier j before e
+
+    turn : (o : Option ℕ) → AreNotes (merge_notes m held l earlier k o)
+    turn None = tt
+    turn (Some f) = join-fits k (merged_like m held l f) (other_like held earlier f) keys.0
+        (like f (merged_like m held l f) refl) (other f (other_like held earlier f) refl)
+
+    named : (f : ℕ) (o : Option Entry) → IfThere IsWideEntry o
+        → option_and_then (λ g. frame_if (is_candidate w l k g) g) (option_and_then frame_of o) ≡ Some f → IsWide f
+    named f None a h = cc
+    named f (Some Zero) a h = cc
+    named f (Some (InSlot s)) a h = cc
+    named f (Some (InFrame g seen)) a h = pick (is_candidate w l k g) h
+      where
+        pick : (b : Bool) → frame_if b g ≡ Some f → IsWide f
+        pick true h = let e : g ≡ f = cc in subst IsWide e a
+        pick false h = cc
+
+    more : (o : Option ℕ) → candidate w l k ≡ o → AllByRecursion IsWide (with_candidate earlier o)
+    more None e = before
+    more (Some f) e = all-append IsWide earlier (f ∷ []) before (named f (entry l k) (wide-entry m l k wide) e, tt)
+
+pub moves-fit : (m : Setting) (l : Ledger) (notes : List Note) → IsWide m.frames → Moves m l notes → AreNotes notes
+moves-fit m l [] frames h = tt
+moves-fit m l (note ∷ notes) frames h =
+    (by (least_free m l) refl (greatest_used m l) refl h.0, moves-fit m (after_note note l) notes frames h.1)
+  where
+    all : AllByRecursion IsWide (range_with_len 0 m.frames)
+    all = range-wide 0 m.frames m.frames (omega arith) frames
+
+    by : (a : Option ℕ) → least_free m l ≡ a → (b : Option ℕ) → greatest_used m l ≡ b → move_down a b ≡ Some note → IsNote note
+    by None is b is' e = cc
+    by (Some f) is None is' e = cc
+    by (Some f) is (Some g) is' e = lower (nat_lt f g) e
+      where
+        low : IsWide f
+        low = found-all IsWide (is_free l) (range_with_len 0 m.frames) f all is
+
+        high : IsWide g
+        high = found-all IsWide (λ f. not (is_free l f)) (reverse (range_with_len 0 m.frames)) g (all-reverse IsWide (range_with_len 0 m.frames) all) is'
+
+        lower : (b : Bool) → cond b (Some (Moved g f)) None ≡ Some note → IsNote note
+        lower true e = let same : Moved g f ≡ note = cc in subst IsNote same (high, low)
+        lower false e = cc

@@ -7,15 +7,15 @@ use Rattle.std.proofs.Common.{◌≡◌, ℕ, zero, suc, ◌+◌, ◌<◌, Bool,
 use Rattle.std.proofs.lemmas.Bool.Decides.{nat_tests}
 use mathlib.Core.List.{reverse_aux}
 use Rattle.av_base.specs.Page.{address_of, page_of}
-use Rattle.av_base.specs.Words.{how_many}
+use Rattle.av_base.specs.Words.{how_many, renamed}
 use Rattle.av_base.specs.declared.slot.Slot.{Slot}
 use Rattle.av_text.specs.Number.{IsWide}
 use Rattle.av_trace.specs.Note.{IsNote, IsSlot}
 use Rattle.av_trace.specs.Reply.{IfThere}
-use Rattle.av_trace.specs.declared.note.Cause.TheVariants.{NoSlot, Referenced, WriteStarted, Writeback}
+use Rattle.av_trace.specs.declared.note.Cause.TheVariants.{Ksm, Locked, NoSlot, Referenced, WriteStarted, Writeback}
 use Rattle.av_trace.specs.declared.note.Note.{Note}
-use Rattle.av_trace.specs.declared.note.Note.TheVariants.{Aged, Copied, Dropped, Failed, Kept, Loaded, Mapped, New, Put, Started, Unmapped, Written, Zeroed}
-use Rattle.av_plain.specs.Event.{after_note, after_notes, after_use, after_use_of, after_zap, change_entries, if_some, into_cache, off_cache, off_flight, off_lists, set_entry, settle, settle_entry, to_active, to_inactive_head, to_inactive_tail, with_stale, without, without_seen}
+use Rattle.av_trace.specs.declared.note.Note.TheVariants.{Aged, Copied, Dropped, Failed, Kept, Loaded, Mapped, New, Put, Started, Unmapped, Written, Zeroed, Joined, Moved, Shared}
+use Rattle.av_plain.specs.Event.{after_note, after_notes, after_use, after_use_of, after_zap, change_entries, change_frame, if_some, into_cache, off_cache, off_flight, off_lists, renamed_entry, set_entry, settle, settle_entry, to_active, to_inactive_head, to_inactive_tail, with_stale, without, without_seen}
 use Rattle.av_plain.specs.Ledger.{Cached, Entry, InFrame, InSlot, Key, Ledger, Setting, Zero, cached_by, entry, frame_at, is_free, is_on, is_usable, key_cmp, names_frame, names_slot, same_slot, size_of, slot_of}
 use Rattle.av_plain.specs.Sound.{AllSound, count, slots, uses}
 use Rattle.av_plain.specs.World.{World}
@@ -237,7 +237,14 @@ wide-settled : (m : Setting) (f : ℕ) (l : Ledger) → IsWideLedger m l → IsW
 wide-settled m f l h = by (is_free l f)
   where
     by : (b : Bool) → IsWideLedger m (cond b (off_lists f l) l)
-    by true = wide-lists m l (without f l.active) (without f l.inactive) (wide-without f l.active h.active) (wide-without f l.inactive h.inactive) h
+    by true = record {
+      entries = h.entries;
+      cache = h.cache;
+      flight = h.flight;
+      active = wide-without f l.active h.active;
+      inactive = wide-without f l.inactive h.inactive;
+      given = h.given;
+    }
     by false = h
 
 wide-marked : (m : Setting) (stale : Bool) (s : Slot) (l : Ledger) → IsWideLedger m l → IsWideLedger m (with_stale stale s l)
@@ -280,12 +287,32 @@ wide-after m note l fits h = go note fits
     dropped s None = out s
     dropped s (Some f) = wide-settled m f (off_cache s l) (out s)
 
+    settled : (o : Option Entry) (left : Ledger) → IsWideLedger m left → IsWideLedger m (settle_entry o left)
+    settled None left a = a
+    settled (Some Zero) left a = a
+    settled (Some (InFrame f seen)) left a = wide-settled m f left a
+    settled (Some (InSlot s)) left a = a
+
+    changed : (k : Key) (f : ℕ) → IsWideKey k → IsWide f → IsWideLedger m (change_frame k f l)
+    changed k f wide at = settled (entry l k) (set_entry k (InFrame f false) l) (wide-set m k (InFrame f false) l wide at h)
+
+    moved_frame : (from to f : ℕ) → IsWide to → IsWide f → IsWide (renamed from to f)
+    moved_frame from to f a b = by (f == from)
+      where
+        by : (c : Bool) → IsWide (cond c to f)
+        by true = a
+        by false = b
+
+    moved_entry : (from to : ℕ) (e : Entry) → IsWide to → IsWideEntry e → IsWideEntry (renamed_entry from to e)
+    moved_entry from to Zero a b = b
+    moved_entry from to (InFrame f seen) a b = moved_frame from to f a b
+    moved_entry from to (InSlot s) a b = b
+
     go : (note : Note) → IsNote note → IsWideLedger m (after_note note l)
     go (Zeroed p a) i = wide-set m (p, page_of a) Zero l (key p a i.0 i.1) tt h
     go (New p a f) i = wide-head m f (set_entry (p, page_of a) (InFrame f false) l) i.2
         (wide-set m (p, page_of a) (InFrame f false) l (key p a i.0 i.1) i.2 h)
-    go (Copied p a f) i = wide-head m f (set_entry (p, page_of a) (InFrame f false) l) i.2
-        (wide-set m (p, page_of a) (InFrame f false) l (key p a i.0 i.1) i.2 h)
+    go (Copied p a f) i = wide-head m f (change_frame (p, page_of a) f l) i.2 (changed (p, page_of a) f (key p a i.0 i.1) i.2)
     go (Loaded s f) i = wide-head m f (into_cache s f false l) i.1
         (wide-caches m l (record { slot = s; frame = f; stale = false } ∷ l.cache) ((i.0, i.1), h.cache) h)
     go (Mapped p a f) i = wide-set m (p, page_of a) (InFrame f false) l (key p a i.0 i.1) i.2 h
@@ -300,7 +327,21 @@ wide-after m note l fits h = go note fits
     go (Kept f WriteStarted) i = wide-head m f l i h
     go (Kept f Referenced) i = wide-active m f (change_entries f without_seen l) i (wide-changed m f without_seen l unseen h)
     go (Kept f NoSlot) i = wide-active m f l i h
+    go (Kept f Locked) i = wide-active m f l i h
+    go (Kept f Ksm) i = wide-active m f l i h
     go (Aged f) i = wide-head m f (change_entries f without_seen l) i (wide-changed m f without_seen l unseen h)
+    go (Shared f) i = record { entries = h.entries; cache = h.cache; flight = h.flight; active = h.active; inactive = h.inactive; given = h.given }
+    go (Joined p a f) i = changed (p, page_of a) f (key p a i.0 i.1) i.2
+    go (Moved from to) i = record {
+      entries = all-map (λ (e : Key × Entry). IsWideKey e.0 × IsWideEntry e.1) (λ (e : Key × Entry). IsWideKey e.0 × IsWideEntry e.1)
+          (λ (e : Key × Entry). (e.0, renamed_entry from to e.1)) (λ e a. (a.0, moved_entry from to e.1 i.1 a.1)) l.entries h.entries;
+      cache = all-map IsWideCached IsWideCached (λ (c : Cached). record c { frame = renamed from to c.frame })
+          (λ c a. (a.0, moved_frame from to c.frame i.1 a.1)) l.cache h.cache;
+      flight = h.flight;
+      active = all-map IsWide IsWide (renamed from to) (λ f a. moved_frame from to f i.1 a) l.active h.active;
+      inactive = all-map IsWide IsWide (renamed from to) (λ f a. moved_frame from to f i.1 a) l.inactive h.inactive;
+      given = h.given;
+    }
 
 pub wide-notes : (m : Setting) (l : Ledger) (notes : List Note) → AllByRecursion IsNote notes → IsWideLedger m l
     → IsWideLedger m (after_notes l notes)

@@ -4,17 +4,19 @@ use Rattle.std.proofs.lemmas.Bool.{false≢true}
 use Rattle.std.proofs.lemmas.Bool.Decides.{nat_tests}
 use Rattle.std.specs.Ordering.{nat_cmp, eq_by_cmp}
 use Rattle.av_base.specs.Words.{with_at, within}
+use Rattle.av_base.specs.declared.flags.Flag.{Flag}
+use Rattle.av_base.specs.declared.flags.Flags.{Flags}
 use Rattle.av_base.specs.declared.prot.Prot.{Prot}
 use Rattle.av_vma.specs.Gap.{IsRoom}
-use Rattle.av_vma.specs.Pages.{AreLaid, Pages, after_map, after_unmap, home_of, to_prot}
+use Rattle.av_vma.specs.Pages.{AreLaid, Effect, Pages, after_map, after_unmap, home_of, pages_changed, to_flag}
 use Rattle.av_vma.proofs.Homes.{homes_changed, homes_mapped, homes_unmapped}
 use Rattle.av_vma.proofs.Laid.{has_area}
 use Rattle.av_vma.proofs.Owns.{AddsNoOwn, adds_neither, owns_changed, owns_mapped, owns_unmapped}
-use Rattle.av_plain.specs.Areas.{AreLeft, Rmap, areas_to_hole, chain_length, none_on}
+use Rattle.av_plain.specs.Areas.{AreLeft, Rmap, chain_length, none_on, rmap_after_flag}
 use Rattle.av_plain.specs.Ledger.{Key, Ledger, entry}
 use Rattle.av_plain.specs.Sound.{AtPages}
-use Rattle.av_plain.specs.World.{Process, World, end_process, no_pages, pages, pages_to_hole, set_process, with_pages}
-use Rattle.av_plain.proofs.Covered.{Owns}
+use Rattle.av_plain.specs.World.{Process, World, end_process, no_pages, pages, set_process, with_pages}
+use Rattle.av_plain.proofs.Covered.{AnonsStay, Owns, stay-left}
 use Rattle.av_plain.proofs.Covered.Swap.{Reach}
 use Rattle.av_plain.proofs.Covered.Zaps.{next-reach}
 use Rattle.av_plain.proofs.Sound.Counts.{same-is, same-itself}
@@ -24,7 +26,7 @@ use Rattle.av_plain.proofs.World.{pages-set}
 -- the areas of one process become these
 pub one-reach : (l : Ledger) (r next : Rmap) (p : ℕ) (on : Pages) → next.areas ≡ with_at p on r.areas → AddsNoOwn (r.areas p) on
     → ((page : ℕ) (h : ℕ × ℕ) → is_some (entry l (p, page)) ≡ true → home_of page (r.areas p page) ≡ Some h → home_of page (on page) ≡ Some h)
-    → AreLeft r.anons next.areas next.anons → next.homes ≡ r.homes → Reach l r → Reach l next
+    → AnonsStay r.anons next.areas next.anons → next.homes ≡ r.homes → next.items ≡ r.items → Reach l r → Reach l next
 one-reach l r next p on areas adds keeps = next-reach l r next (λ k h there is. home k h (k.0 == p) refl there is)
     (λ q page v is. owns q page v (q == p) refl is)
   where
@@ -60,22 +62,24 @@ none-adds : (on : Pages) → AddsNoOwn on none_on
 none-adds on page own has = absurd has
 
 pub spawn-reach : (w : World) (l : Ledger) (r next : Rmap) (p : ℕ) → next.areas ≡ with_at p none_on r.areas → AtPages (set_process w p no_pages) l →
-    AreLeft r.anons next.areas next.anons → next.homes ≡ r.homes → Reach l r → Reach l next
-spawn-reach w l r next p areas at = one-reach l r next p none_on areas (none-adds (r.areas p))
+    AreLeft r.anons next.areas next.anons → next.homes ≡ r.homes → next.items ≡ r.items → Reach l r → Reach l next
+spawn-reach w l r next p areas at left = one-reach l r next p none_on areas (none-adds (r.areas p))
     (λ page h there is. absurd (no_page (set_process w p no_pages) l p page at (at-set w p no_pages page) there))
+    (stay-left r.anons next.areas next.anons left)
 
 pub exit-reach : (w : World) (l : Ledger) (r next : Rmap) (p : ℕ) → next.areas ≡ with_at p none_on r.areas → AtPages (end_process w p) l →
-    AreLeft r.anons next.areas next.anons → next.homes ≡ r.homes → Reach l r → Reach l next
-exit-reach w l r next p areas at = one-reach l r next p none_on areas (none-adds (r.areas p))
+    AreLeft r.anons next.areas next.anons → next.homes ≡ r.homes → next.items ≡ r.items → Reach l r → Reach l next
+exit-reach w l r next p areas at left = one-reach l r next p none_on areas (none-adds (r.areas p))
     (λ page h there is. absurd (no_page (end_process w p) l p page at
     (pages-ended w p p page ∙ ap (λ b. cond b None (pages w p page)) (same-itself p)) there))
+    (stay-left r.anons next.areas next.anons left)
 
 pub unmap-reach : (w : World) (l : Ledger) (r next : Rmap) (p from n : ℕ) → AreLaid (r.areas p) →
     next.areas ≡ with_at p (after_unmap from (from + n) (r.areas p)) r.areas → AtPages (set_process w p (with_pages (pages w p) from n no_pages)) l →
-    AreLeft r.anons next.areas next.anons → next.homes ≡ r.homes → Reach l r → Reach l next
-unmap-reach w l r next p from n laid areas at =
+    AreLeft r.anons next.areas next.anons → next.homes ≡ r.homes → next.items ≡ r.items → Reach l r → Reach l next
+unmap-reach w l r next p from n laid areas at left =
     one-reach l r next p (after_unmap from (from + n) (r.areas p)) areas (owns_unmapped from (from + n) (r.areas p))
-    (λ page h there is. by page h (within from n page) refl there is)
+    (λ page h there is. by page h (within from n page) refl there is) (stay-left r.anons next.areas next.anons left)
   where
     now : Process
     now = with_pages (pages w p) from n no_pages
@@ -89,22 +93,33 @@ unmap-reach w l r next p from n laid areas at =
         stays : (page : ℕ) → within from n page ≡ false → within from (from + n - from) page ≡ false
         stays page e = grind (arith, nat_tests, e)
 
-pub protect-reach : (l : Ledger) (r next : Rmap) (w : World) (p from n : ℕ) (prot : Prot) → AreLaid (r.areas p) →
-    next.areas ≡ with_at p (areas_to_hole (chain_length r.anons) w p from n prot (r.areas p)) r.areas →
-    AreLeft r.anons next.areas next.anons → next.homes ≡ r.homes → Reach l r → Reach l next
-protect-reach l r next w p from n prot laid areas = one-reach l r next p (areas_to_hole (chain_length r.anons) w p from n prot (r.areas p)) areas
-    (owns_changed (chain_length r.anons) (to_prot prot) from (pages_to_hole (pages w p) from n) (r.areas p))
-    (λ page h there is. homes_changed (chain_length r.anons) (to_prot prot) from (pages_to_hole (pages w p) from n) (r.areas p) laid page h is)
+-- some pages get a protection or flags
+pub change-reach : (l : Ledger) (r next : Rmap) (p from n : ℕ) (effect : Effect) → AreLaid (r.areas p) →
+    next.areas ≡ with_at p (pages_changed (chain_length r.anons) effect from n (r.areas p)) r.areas →
+    AreLeft r.anons next.areas next.anons → next.homes ≡ r.homes → next.items ≡ r.items → Reach l r → Reach l next
+change-reach l r next p from n effect laid areas left = one-reach l r next p (pages_changed (chain_length r.anons) effect from n (r.areas p)) areas
+    (owns_changed (chain_length r.anons) effect from n (r.areas p))
+    (λ page h there is. homes_changed (chain_length r.anons) effect from n (r.areas p) laid page h is)
+    (stay-left r.anons next.areas next.anons left)
+
+-- so it is once a flag of some pages is set, while all anon_vmas stay
+pub flag-reach : (l : Ledger) (r : Rmap) (p from n : ℕ) (flag : Flag) (set : Bool) → AreLaid (r.areas p) → Reach l r
+    → Reach l (rmap_after_flag p from n flag set r)
+flag-reach l r p from n flag set laid = one-reach l r (rmap_after_flag p from n flag set r) p
+    (pages_changed (chain_length r.anons) (to_flag flag set) from n (r.areas p)) refl
+    (owns_changed (chain_length r.anons) (to_flag flag set) from n (r.areas p))
+    (λ page h there is. homes_changed (chain_length r.anons) (to_flag flag set) from n (r.areas p) laid page h is)
+    (record { next = refl; same = λ v there. refl; linked = λ v linked. refl }) refl refl
 
 -- free pages are mapped, where the entries of the room that was made for them have gone
-pub map-reach : (l : Ledger) (r next : Rmap) (p from past : ℕ) (prot : Prot) (room : Pages) → AreLaid room → from < past →
+pub map-reach : (l : Ledger) (r next : Rmap) (p from past : ℕ) (prot : Prot) (flags : Flags) (room : Pages) → AreLaid room → from < past →
     IsRoom (has_area room) (past - from) from → AddsNoOwn (r.areas p) room
     → ((page : ℕ) (h : ℕ × ℕ) → is_some (entry l (p, page)) ≡ true → home_of page (r.areas p page) ≡ Some h → home_of page (room page) ≡ Some h)
-    → next.areas ≡ with_at p (after_map (chain_length r.anons) p from past prot room) r.areas → AreLeft r.anons next.areas next.anons
-    → next.homes ≡ r.homes →
-    Reach l r → Reach l next
-map-reach l r next p from past prot room laid some free adds keeps areas =
-    one-reach l r next p (after_map (chain_length r.anons) p from past prot room) areas
-    (adds_neither (r.areas p) room (after_map (chain_length r.anons) p from past prot room) adds
-    (owns_mapped (chain_length r.anons) p from past prot room))
-    (λ page h there is. homes_mapped (chain_length r.anons) p from past prot room laid some free page h (keeps page h there is))
+    → next.areas ≡ with_at p (after_map (chain_length r.anons) p from past prot flags room) r.areas → AreLeft r.anons next.areas next.anons
+    → next.homes ≡ r.homes → next.items ≡ r.items → Reach l r → Reach l next
+map-reach l r next p from past prot flags room laid some free adds keeps areas left =
+    one-reach l r next p (after_map (chain_length r.anons) p from past prot flags room) areas
+    (adds_neither (r.areas p) room (after_map (chain_length r.anons) p from past prot flags room) adds
+    (owns_mapped (chain_length r.anons) p from past prot flags room))
+    (λ page h there is. homes_mapped (chain_length r.anons) p from past prot flags room laid some free page h (keeps page h there is))
+    (stay-left r.anons next.areas next.anons left)

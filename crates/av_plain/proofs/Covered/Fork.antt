@@ -8,16 +8,18 @@ use Rattle.std.specs.Prelude.{IfSome, IsSome, IsSomeAnd}
 use Rattle.av_base.specs.Words.{is_in}
 use Rattle.av_vma.specs.declared.area.Area.{Area}
 use Rattle.av_vma.specs.Index.{index_of}
-use Rattle.av_vma.specs.Pages.{has_page, pages_in, with_area}
+use Rattle.av_vma.specs.Pages.{Pages, has_page, pages_in, with_area}
 use Rattle.av_plain.specs.Areas.{AnonVma, Anons, Rmap, chain_by, none_on}
 use Rattle.av_plain.specs.Covered.{IsReached, IsRmapSound}
-use Rattle.av_plain.specs.Event.{without_seen}
+use Rattle.av_vma.specs.Fork.{areas_to_fork, own_to_fork}
+use Rattle.av_plain.specs.Event.{Inherited, is_inherited, without_seen}
 use Rattle.av_plain.specs.Fork.{AreForked, GoOver, GoesBy, IsIdle, IsReused, own_of_child, with_child}
-use Rattle.av_plain.specs.Ledger.{Entry, Key, Ledger, entry, key_cmp, names_frame}
+use Rattle.av_plain.specs.Ledger.{Entry, Key, Ledger, entry, is_merged, key_cmp, names_frame}
 use Rattle.av_plain.specs.Report.{AreApart, range_of}
 use Rattle.av_plain.proofs.Covered.{Names, Owns, chain_there}
-use Rattle.av_plain.proofs.Fork.{entry-forked, child_ledger, unseen-names_frame}
-use Rattle.av_plain.proofs.Fork.Areas.{ChildHas, IsLeft, LeavesAreas, before, before-others, child-has, first_left, in_child, later_left, not_first, not_later, same, area-leaves, areas-leave, with_own, with_own-child}
+use Rattle.av_plain.proofs.Event.{put_all-only}
+use Rattle.av_plain.proofs.Fork.{child_ledger, copies, entry-forked, forked-is, going, handed, handed-from, unseen-names_frame}
+use Rattle.av_plain.proofs.Fork.Areas.{ChildHas, IsLeft, fork-apart, forked-area, forked_at, pages-fork, LeavesAreas, before, before-others, child-has, first_left, in_child, later_left, not_first, not_later, same, area-leaves, areas-leave, with_own, with_own-child}
 use Rattle.av_plain.proofs.Report.Areas.{passed, rest_apart}
 
 -- each anon_vma that is there was made, and an area's own one is in its chain
@@ -51,14 +53,14 @@ record Gets (r : Rmap) (area : Area) (own : Option ℕ) (anons : Anons) : Type 0
   chain : (p page v : ℕ) → Owns r p page v → chain_by anons (Some v) ≡ chain_by r.anons (Some v)
   made : (v : ℕ) → IsSome (anons.anon v) → v < anons.next
   mine : (v : ℕ) → own ≡ Some v → is_in v (chain_by anons (Some v)) ≡ true
-  all : (v : ℕ) → is_in v (chain_by r.anons area.anon) ≡ true → is_in v (chain_by anons own) ≡ true
+  all : (v : ℕ) → is_in v (chain_by r.anons (own_to_fork area)) ≡ true → is_in v (chain_by anons own) ≡ true
 
 -- what the chains keep: those that areas have stay, and the child's has what the parent's has
 pub record Keeps (q : ℕ) (area : Area) (r next : Rmap) : Type 0 where
   pub chain : (p page v : ℕ) → Owns r p page v → chain_by next.anons (Some v) ≡ chain_by r.anons (Some v)
   pub chains : HasChains next
   pub all : (page : ℕ) (own : Option ℕ) → has_page area page ≡ true → next.areas q page ≡ Some (in_child q area own)
-      → (v : ℕ) → is_in v (chain_by r.anons area.anon) ≡ true → is_in v (chain_by next.anons own) ≡ true
+      → (v : ℕ) → is_in v (chain_by r.anons (own_to_fork area)) ≡ true → is_in v (chain_by next.anons own) ≡ true
 
 keeps_with : (q : ℕ) (area : Area) (r : Rmap) (own : Option ℕ) (anons : Anons) → HasChains r → Gets r area own anons →
     Keeps q area r (with_own q area own anons r)
@@ -91,7 +93,7 @@ own_below : (r : Rmap) (p page v : ℕ) → HasChains r → Owns r p page v → 
 own_below r p page v h is = let there = chain_there r.anons (Some v) v (h.own p page v is) in
     let one : v ≡ there.0 = cc in h.made v (subst (λ w. IsSome (r.anons.anon w)) (sym one) there.2)
 
-gets_new : (r : Rmap) (area : Area) (own : ℕ) → HasChains r → area.anon ≡ Some own → Gets r area (Some r.anons.next) (with_child own None r.anons)
+gets_new : (r : Rmap) (area : Area) (own : ℕ) → HasChains r → own_to_fork area ≡ Some own → Gets r area (Some r.anons.next) (with_child own None r.anons)
 gets_new r area own h is = record {
   chain = λ p page v owns. other v (own_below r p page v h owns) (v == r.anons.next) refl;
   made = λ v there. made v (v == r.anons.next) refl there;
@@ -125,7 +127,7 @@ gets_new r area own h is = record {
     made v true e there = let one = same v r.anons.next e in omega (arith, one)
     made v false e there = let less = h.made v there in omega (arith, less)
 
-gets_reused : (r : Rmap) (area : Area) (own v : ℕ) → HasChains r → area.anon ≡ Some own → is_in v (chain_by r.anons (Some own)) ≡ true → IsIdle r v
+gets_reused : (r : Rmap) (area : Area) (own v : ℕ) → HasChains r → own_to_fork area ≡ Some own → is_in v (chain_by r.anons (Some own)) ≡ true → IsIdle r v
     → Gets r area (Some v) (with_child own (Some v) r.anons)
 gets_reused r area own v h is among idle = record {
   chain = λ p page w owns. other p page w owns (w == v) refl;
@@ -162,21 +164,26 @@ gets_reused r area own v h is among idle = record {
     made w true e there = subst (λ w. w < r.anons.next) (sym (same w v e)) (h.made v (there_some (r.anons.anon v) idle.below))
     made w false e there = h.made w there
 
-pub keeps : (q : ℕ) (area : Area) (r next : Rmap) → HasChains r → GoesBy area.anon q area r next → Keeps q area r next
-keeps q area r next h goes = by area.anon refl goes
+pub keeps : (q : ℕ) (area : Area) (r next : Rmap) → HasChains r → GoesBy (own_to_fork area) q area r next → Keeps q area r next
+keeps q area r next h goes = by (own_to_fork area) refl goes
   where
-    through : (w : ℕ) (reused : Option ℕ) → area.anon ≡ Some w → IsReused r (chain_by r.anons (Some w)) reused →
+    through : (w : ℕ) (reused : Option ℕ) → own_to_fork area ≡ Some w → IsReused r (chain_by r.anons (Some w)) reused →
         Gets r area (Some (own_of_child r.anons reused)) (with_child w reused r.anons)
     through w None is none = gets_new r area w h is
     through w (Some v) is one = gets_reused r area w v h is one.0 one.1
 
-    by : (own : Option ℕ) → area.anon ≡ own → GoesBy own q area r next → Keeps q area r next
+    by : (own : Option ℕ) → own_to_fork area ≡ own → GoesBy own q area r next → Keeps q area r next
     by None is goes = subst (Keeps q area r) (sym goes)
-        (keeps_with q area r area.anon r.anons h
-        (record { chain = λ p page v owns. refl; made = h.made; mine = λ v e. absurd (never is e); all = λ v among. among }))
+        (keeps_with q area r None r.anons h
+        (record {
+          chain = λ p page v owns. refl;
+          made = h.made;
+          mine = λ v e. absurd (never e);
+          all = λ v among. subst (λ o. is_in v (chain_by r.anons o) ≡ true) is among;
+        }))
       where
-        never : {v : ℕ} → area.anon ≡ None → area.anon ≡ Some v → ⊥
-        never a b = cc
+        never : {v : ℕ} → ◌≡◌ {A = Option ℕ} None (Some v) → ⊥
+        never e = cc
     by (Some w) is goes =
         subst (Keeps q area r) (sym goes.2) (keeps_with q area r (Some (own_of_child r.anons goes.0)) (with_child w goes.0 r.anons) h
         (through w goes.0 is goes.1))
@@ -193,12 +200,22 @@ chain_holds r next p page a is h = by a.anon refl
     by None e v among = absurd (false≢true among)
     by (Some w) e v among = subst (λ c. is_in v c ≡ true) (sym (h w (subst (λ x. IsSomeAnd x (λ a. a.anon ≡ Some w)) (sym is) e))) among
 
+-- so does that by which an area goes over
+chain_goes : (r next : Rmap) (p page : ℕ) (a : Area) → r.areas p page ≡ Some a →
+    ((v : ℕ) → Owns r p page v → chain_by next.anons (Some v) ≡ chain_by r.anons (Some v))
+    → (v : ℕ) → is_in v (chain_by r.anons (own_to_fork a)) ≡ true → is_in v (chain_by next.anons (own_to_fork a)) ≡ true
+chain_goes r next p page a is h v = by a.flags.wipe_on_fork
+  where
+    by : (b : Bool) → is_in v (chain_by r.anons (cond b None a.anon)) ≡ true → is_in v (chain_by next.anons (cond b None a.anon)) ≡ true
+    by true among = absurd (false≢true among)
+    by false among = chain_holds r next p page a is h v among
+
 -- what the chains keep when all have gone
 pub record KeepsAll (q : ℕ) (areas : List Area) (r next : Rmap) : Type 0 where
   pub chain : (p page v : ℕ) → IsLeft q areas p page → Owns r p page v → chain_by next.anons (Some v) ≡ chain_by r.anons (Some v)
   pub chains : HasChains next
   pub all : (page : ℕ) (area : Area) (own : Option ℕ) → pages_in (Some areas) page ≡ Some area → next.areas q page ≡ Some (in_child q area own)
-      → (v : ℕ) → is_in v (chain_by r.anons area.anon) ≡ true → is_in v (chain_by next.anons own) ≡ true
+      → (v : ℕ) → is_in v (chain_by r.anons (own_to_fork area)) ≡ true → is_in v (chain_by next.anons own) ≡ true
 
 module _ (p q : ℕ) (apart : (p == q) ≡ false) where
   keeps-all : (areas : List Area) (r next : Rmap) → AreApart (map range_of areas)
@@ -224,19 +241,28 @@ module _ (p q : ℕ) (apart : (p == q) ≡ false) where
       holds : LeavesAreas q areas mid next → Keeps q area r mid → KeepsAll q areas mid next → (page : ℕ) (a : Area) (own : Option ℕ) (b : Bool) →
           has_page area page ≡ b
           → cond b (Some area) (pages_in (Some areas) page) ≡ Some a → next.areas q page ≡ Some (in_child q a own)
-          → (v : ℕ) → is_in v (chain_by r.anons a.anon) ≡ true → is_in v (chain_by next.anons own) ≡ true
+          → (v : ℕ) → is_in v (chain_by r.anons (own_to_fork a)) ≡ true → is_in v (chain_by next.anons own) ≡ true
       holds w k all page a own true has is there v among =
           let one : a ≡ area = cc in
           let none = not_later area areas page rise has in
           let on_mid : mid.areas q page ≡ Some (in_child q area own) = sym (w.left q page (inr none)) ∙ there
           ∙ ap (λ a. Some (in_child q a own)) one in
           chain_holds mid next q page (in_child q area own) on_mid (λ u owns. all.chain q page u (inr none) owns) v
-          (k.all page own has on_mid v (subst (λ (a : Area). is_in v (chain_by r.anons a.anon) ≡ true) one among))
+          (k.all page own has on_mid v (subst (λ (a : Area). is_in v (chain_by r.anons (own_to_fork a)) ≡ true) one among))
       holds w k all page a own false has is there v among =
           all.all page a own is there v
-          (chain_holds r mid p page a (on page a (passed area areas page has ∙ is)) (λ u owns. k.chain p page u owns) v among)
+          (chain_goes r mid p page a (on page a (passed area areas page has ∙ is)) (λ u owns. k.chain p page u owns) v among)
 
 -- ---- the whole
+
+-- an area goes over, and isn't wiped
+pub record IsWhole (area : Area) : Type 0 where
+  pub over : area.flags.dont_fork ≡ false
+  pub kept : area.flags.wipe_on_fork ≡ false
+
+-- the pages that go over with their entries are of such
+abbrev pub GoWhole : List Inherited → Pages → Type 0
+GoWhole goes on = (page : ℕ) → is_inherited goes page ≡ true → IfSome (on page) IsWhole
 
 module _ (p q : ℕ) (r next : Rmap) (apart : (p == q) ≡ false) (forks : AreForked p q r next) (chains : HasChains r) where
   child : ChildHas p q r next
@@ -249,8 +275,15 @@ module _ (p q : ℕ) (r next : Rmap) (apart : (p == q) ≡ false) (forks : AreFo
       by true is = absurd is
       by false is = is
 
-  pub fork-keeps : KeepsAll q forks.0 (before q r) next
-  fork-keeps = keeps-all p q apart forks.0 (before q r) next forks.1 (λ page area is. before-others q r p page apart ∙ sym (forks.2 page) ∙ is)
+  abbrev over : List Area
+  over = areas_to_fork forks.0
+
+  over-at : (page : ℕ) → pages_in (Some over) page ≡ forked_at (r.areas p page)
+  over-at page = pages-fork forks.0 page forks.1 ∙ ap forked_at (forks.2 page)
+
+  pub fork-keeps : KeepsAll q over (before q r) next
+  fork-keeps = keeps-all p q apart over (before q r) next (fork-apart forks.0 forks.1)
+      (λ page area is. before-others q r p page apart ∙ forked-area (r.areas p page) area (sym (over-at page) ∙ is))
       (record { made = chains.made; own = λ k page v is. chains.own k page v (owned_before k page v is) }) forks.3
 
   -- a page of another process is reached still
@@ -268,26 +301,36 @@ module _ (p q : ℕ) (r next : Rmap) (apart : (p == q) ≡ false) (forks : AreFo
             is.1,
           )
 
-  -- and so is the child's from where the parent's was
-  pub fork-goes_over : (page : ℕ) (home : ℕ × ℕ) → IsReached r (p, page) home → IsReached next (q, page) home
-  fork-goes_over page home is = at (r.areas p page) refl is
+  -- and so is the child's from where the parent's was, if it goes over whole
+  pub fork-goes_over : (page : ℕ) (home : ℕ × ℕ) → IfSome (r.areas p page) IsWhole → IsReached r (p, page) home → IsReached next (q, page) home
+  fork-goes_over page home whole is = at (r.areas p page) refl whole is
     where
-      at : (o : Option Area) → r.areas p page ≡ o
+      at : (o : Option Area) → r.areas p page ≡ o → IfSome o IsWhole
           → IsSomeAnd o (λ area. (is_in home.0 (chain_by r.anons area.anon) ≡ true) × (index_of area page ≡ home.1)) →
           IsReached next (q, page) home
-      at None e is = absurd is
-      at (Some area) e is = subst (λ x. IsSomeAnd x (λ area. (is_in home.0 (chain_by next.anons area.anon) ≡ true) × (index_of area page ≡ home.1)))
-          (sym (child.here page area e))
-          (fork-keeps.all page area (child.own page) (forks.2 page ∙ e) (child.here page area e) home.0 is.0, is.1)
+      at None e whole is = absurd is
+      at (Some area) e whole is =
+          let goes : forked_at (r.areas p page) ≡ Some area = ap forked_at e ∙ ap (λ b. cond b None (Some area)) whole.over in
+          let own : own_to_fork area ≡ area.anon = ap (λ b. cond b None area.anon) whole.kept in
+          subst (λ x. IsSomeAnd x (λ area. (is_in home.0 (chain_by next.anons area.anon) ≡ true) × (index_of area page ≡ home.1)))
+          (sym (child.here page area goes))
+          (fork-keeps.all page area (child.own page) (over-at page ∙ goes) (child.here page area goes) home.0
+              (subst (λ o. is_in home.0 (chain_by r.anons o) ≡ true) (sym own) is.0), is.1)
+
+-- a fork merges nothing
+pub merged-forked_ledger : (p q : ℕ) (goes : List Inherited) (l : Ledger) (f : ℕ) → is_merged (child_ledger p q goes l) f ≡ is_merged l f
+merged-forked_ledger p q goes l f = ap (λ (x : Ledger). is_merged x f)
+    (forked-is p q goes l ∙ put_all-only (copies p q (going goes l.entries)) l)
 
 -- the entries that go over are reached from the homes of their frames
-pub sound-forked : (l : Ledger) (p q : ℕ) (r next : Rmap) → T (is_sorted key_cmp l.entries) → (p == q) ≡ false
-    → ((page : ℕ) → entry l (q, page) ≡ None)
-    → AreForked p q r next → IsRmapSound l r → IsRmapSound (child_ledger p q l) next
-sound-forked l p q r next sorted apart none forks h = record {
+pub sound-forked : (l : Ledger) (p q : ℕ) (goes : List Inherited) (r next : Rmap) → T (is_sorted key_cmp l.entries) → (p == q) ≡ false
+    → ((page : ℕ) → entry l (q, page) ≡ None) → GoWhole goes (r.areas p)
+    → AreForked p q r next → IsRmapSound l r → IsRmapSound (child_ledger p q goes l) next
+sound-forked l p q goes r next sorted apart none whole forks h = record {
   made = (fork-keeps p q r next apart forks chains).chains.made;
   own = (fork-keeps p q r next apart forks chains).chains.own;
-  covered = λ k f names. reached k f (k.0 == q) refl (subst (λ o. IsSomeAnd o (λ e. names_frame f e ≡ true)) (entry-forked p q l k sorted) names);
+  covered = λ k f names own. reached k f (sym (merged-forked_ledger p q goes l f) ∙ own) (k.0 == q) refl
+      (subst (λ o. IsSomeAnd o (λ e. names_frame f e ≡ true)) (entry-forked p q goes l k sorted) names);
 }
   where
     chains : HasChains r
@@ -303,15 +346,16 @@ sound-forked l p q r next sorted apart none forks h = record {
         by None is = is
         by (Some home) is = there home is
 
-    reached : (k : Key) (f : ℕ) (b : Bool) → (k.0 == q) ≡ b
-        → IsSomeAnd (option_or (cond b (option_map without_seen (entry l (p, k.1))) None) (entry l k))
+    reached : (k : Key) (f : ℕ) → is_merged l f ≡ false → (b : Bool) → (k.0 == q) ≡ b
+        → IsSomeAnd (option_or (cond b (option_map without_seen (handed goes p l k.1)) None) (entry l k))
         (λ e. names_frame f e ≡ true)
         → IsSomeAnd (next.homes f) (IsReached next k)
-    reached k f false is names = at_home k k f (fork-stays p q r next apart forks chains k is) (h.covered k f names)
-    reached k f true is names =
-        let there : Names l (p, k.1) f = parent (entry l (p, k.1)) names in
+    reached k f own false is names = at_home k k f (fork-stays p q r next apart forks chains k is) (h.covered k f names own)
+    reached k f own true is names =
+        let there = parent (handed goes p l k.1) names in
+        let going = handed-from goes p l k.1 (λ e. names_frame f e ≡ true) there in
         subst (λ x. IsSomeAnd (next.homes f) (IsReached next (x, k.1))) (sym (same k.0 q is))
-        (at_home (p, k.1) (q, k.1) f (fork-goes_over p q r next apart forks chains k.1) (h.covered (p, k.1) f there))
+        (at_home (p, k.1) (q, k.1) f (λ home. fork-goes_over p q r next apart forks chains k.1 home (whole k.1 going.0)) (h.covered (p, k.1) f going.1 own))
       where
         absent : entry l k ≡ None
         absent = ap (λ x. entry l (x, k.1)) (same k.0 q is) ∙ none k.1

@@ -6,20 +6,20 @@ use Rattle.std.specs.Prelude.{IsSomeAnd, if◌then◌else◌}
 use Rattle.av_base.specs.declared.slot.Slot.{Slot}
 use Rattle.av_trace.specs.declared.note.Note.TheVariants.{Dropped}
 use Rattle.av_base.specs.Words.{with_at, within}
-use Rattle.av_base.specs.declared.prot.Prot.{Prot}
 use Rattle.av_vma.specs.Pages.{AreLaid, Pages, home_of}
 use Rattle.av_vma.proofs.Mremap.{in_range as range_bounds}
 use Rattle.av_plain.specs.Areas.{AreLeft, Areas, Rmap, chain_length}
-use Rattle.av_plain.specs.Covered.{AreSlotsCovered, IsRmapSound}
+use Rattle.av_plain.specs.Covered.{AreMergedCovered, AreSlotsCovered, IsRmapSound}
 use Rattle.av_plain.specs.Event.{Event, EntriesMoved, after_all, after_move, after_note, after_zap, entries_where, note_events, off_cache, when}
-use Rattle.av_plain.specs.Ledger.{Cached, Entry, Key, Ledger, cached_by, entry, frame_at, is_orphan, key_cmp, names_frame, names_slot, same_slot}
+use Rattle.av_plain.specs.Ledger.{Cached, Entry, Key, Ledger, cached_by, entry, frame_at, is_merged, is_orphan, key_cmp, names_frame, names_slot, same_slot}
 use Rattle.av_plain.specs.Mremap.{after_mremap, range_zaps, remap_events}
 use Rattle.av_plain.specs.Zap.{keys_in, orphan_drop, slot_behind_key, zap_of, zaps_of}
 use Rattle.av_plain.proofs.Access.{after_all-append}
-use Rattle.av_plain.proofs.Covered.{Owns, sound-carried}
-use Rattle.av_plain.proofs.Covered.Slots.{frame_at-off, slots-carried}
+use Rattle.av_plain.proofs.Covered.{Owns, sound-carried, stay-left}
+use Rattle.av_plain.proofs.Covered.Slots.{frame_at-off, merged-carried, slots-carried}
+use Rattle.av_plain.proofs.Covered.Zaps.{IsNamed, MergedLeft, left-then, left-zaps}
 use Rattle.av_plain.proofs.Event.{put_all-only}
-use Rattle.av_plain.proofs.Mremap.{after-in_place, remap-came}
+use Rattle.av_plain.proofs.Mremap.{after-elsewhere, after-in_place, entry-came, in_order-zaps, remap-came, target_free, then_tail, then_target}
 use Rattle.av_plain.proofs.Mremap.Areas.{IsRemap, home_elsewhere, home_in_place, home_outside, owns_remapped}
 use Rattle.av_plain.proofs.Sound.Steps.{settle-cache}
 use Rattle.av_plain.proofs.Zap.{entry-range, in_range, same_swap-after_zap}
@@ -98,7 +98,7 @@ fewer-remap l p from n to m t f = by (to == from)
 
 -- ---- each entry has its home
 
-module _ (l : Ledger) (p from n to k : ℕ) (left : Option Prot) (r next : Rmap) (sorted : T (is_sorted key_cmp l.entries)) (laid : AreLaid (r.areas p))
+module _ (l : Ledger) (p from n to k : ℕ) (left : Bool) (r next : Rmap) (sorted : T (is_sorted key_cmp l.entries)) (laid : AreLaid (r.areas p))
     (may : IsRemap from n to k (r.areas p))
     (is : next.areas ≡ with_at p (after_mremap (chain_length r.anons) p from n to k left (r.areas p)) r.areas) where
   abbrev on : Pages
@@ -192,6 +192,38 @@ module _ (l : Ledger) (p from n to k : ℕ) (left : Option Prot) (r next : Rmap)
       by true here = in_place here P key.0 key.1
       by false apart = elsewhere apart P key.0 key.1
 
+  -- what is merged then
+  moved-left : (to == from) ≡ false → MergedLeft (then_tail l p from n to k) (after_move p (min n k) from to (then_tail l p from n to k))
+  moved-left apart = record { named = λ f is. ((was f is).0, merged f) ; fewer = λ f is. sym (merged f) ∙ is }
+    where
+      tail : Ledger
+      tail = then_tail l p from n to k
+
+      in_order : T (is_sorted key_cmp (then_tail l p from n to k).entries)
+      in_order = in_order-zaps (keys_in (then_target l p from n to k) p (from + k) (n - k)) (then_target l p from n to k)
+          (in_order-zaps (keys_in l p to k) l sorted)
+
+      merged : (f : ℕ) → is_merged (after_move p (min n k) from to (then_tail l p from n to k)) f ≡ is_merged (then_tail l p from n to k) f
+      merged f = ap (λ (x : Ledger). is_merged x f)
+          (put_all-only (map (λ e. ((p, e.0.1 - from + to), e.1)) (entries_where (λ k'. k'.0 == p && within from (min n k) k'.1) tail))
+          (record tail { entries = entries_where (λ k'. not (k'.0 == p && within from (min n k) k'.1)) tail }))
+
+      was : (f : ℕ) (is : IsNamed (after_move p (min n k) from to (then_tail l p from n to k)) f) → IsNamed (then_tail l p from n to k) f × Unit {0}
+      was f is =
+          let e = naming (λ e. names_frame f e ≡ true) (entry (after_move p (min n k) from to tail) is.0) is.1 in
+          let c = entry-came tail p (min n k) from to in_order (λ page inside _. target_free l p from n to k page inside) is.0.0 is.0.1 e.entry e.is in
+          (((is.0.0, c.was), subst (λ o. IsSomeAnd o (λ e. names_frame f e ≡ true)) (sym c.here) e.names), tt)
+
+  remap-left : MergedLeft l later
+  remap-left = by (to == from) refl
+    where
+      by : (b : Bool) → (to == from) ≡ b → MergedLeft l later
+      by true here = subst (MergedLeft l) (sym (after-in_place l p from n to k here)) (left-zaps l (keys_in l p (from + k) (n - k)))
+      by false apart = subst (MergedLeft l) (sym (after-elsewhere l p from n to k apart))
+          (left-then l (then_tail l p from n to k) _
+          (left-then l (then_target l p from n to k) (then_tail l p from n to k) (left-zaps l (keys_in l p to k))
+          (left-zaps (then_target l p from n to k) (keys_in (then_target l p from n to k) p (from + k) (n - k)))) (moved-left apart))
+
   -- no own anon_vma is new
   owns : (q page v : ℕ) → Owns next q page v → (x : ℕ) × (other : ℕ) × Owns r x other v
   owns q page v has = by (q == p) refl
@@ -204,11 +236,19 @@ module _ (l : Ledger) (p from n to k : ℕ) (left : Option Prot) (r next : Rmap)
       by false e = (q, page, subst (λ (x : Pages). IsSomeAnd (x page) (λ area. area.anon ≡ Some v)) (at_other q e) has)
 
   pub sound-remapped : AreLeft r.anons next.areas next.anons → next.homes ≡ r.homes → IsRmapSound l r → IsRmapSound later next
-  sound-remapped = sound-carried l later r next (λ key f names.
+  sound-remapped left_is = sound-carried l later r next (λ key f names.
       let c = came (λ e. names_frame f e ≡ true) key names in record { was = c.was; names = c.names; home = c.home }) owns
+      (λ key f names own. sym (remap-left.named f (key, names)).1 ∙ own)
+      (stay-left r.anons next.areas next.anons left_is)
 
   pub slots-remapped : AreLeft r.anons next.areas next.anons → next.homes ≡ r.homes → IsRmapSound l r → AreSlotsCovered l r
       → AreSlotsCovered later next
-  slots-remapped = slots-carried l later r next (λ t key names.
+  slots-remapped left homes sound slots = slots-carried l r next owns (stay-left r.anons next.areas next.anons left) sound slots later (λ t key names.
       let c = came (λ e. names_slot t e ≡ true) key names in record { was = c.was; names = c.names; home = c.home })
-      (fewer-remap l p from n to k) owns
+      (fewer-remap l p from n to k) homes
+
+  pub merged-remapped : AreLeft r.anons next.areas next.anons → next.homes ≡ r.homes → next.items ≡ r.items → IsRmapSound l r → AreSlotsCovered l r
+      → AreMergedCovered l r → AreMergedCovered later next
+  merged-remapped left homes items sound slots = merged-carried l r next owns (stay-left r.anons next.areas next.anons left) sound slots later (λ key f names.
+      let c = came (λ e. names_frame f e ≡ true) key names in record { was = c.was; names = c.names; home = c.home })
+      remap-left.fewer homes items

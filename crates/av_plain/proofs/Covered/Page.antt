@@ -6,7 +6,7 @@ use Rattle.std.specs.Prelude.{unwrap_or}
 use Rattle.std.specs.FinMap.Entries.{is_sorted}
 use Rattle.av_base.specs.Page.{address_of}
 use Rattle.av_base.specs.declared.slot.Slot.{Slot}
-use Rattle.av_vma.specs.Pages.{AreLaid, Lengths, Pages, after_prepare, has_page, loan_beside, with_anon, with_area}
+use Rattle.av_vma.specs.Pages.{AreLaid, Lengths, Pages, after_prepare, has_page, home_of, loan_beside, with_anon, with_area}
 use Rattle.av_vma.specs.declared.area.Area.{Area}
 use Rattle.av_vma.proofs.Laid.{laid_prepared}
 use Rattle.av_trace.specs.declared.note.Note.{Note}
@@ -15,17 +15,17 @@ use Rattle.av_trace.specs.declared.reply.OutOf.{OutOf}
 use Rattle.av_plain.specs.Access.{Accesses, End, page_events}
 use Rattle.av_plain.specs.Areas.{Rmap, at_home, chain_length, prepare_page, rmap_after_all, rmap_after_note, rmap_after_use}
 use Rattle.av_plain.specs.Covered.{IsOfSlot}
-use Rattle.av_plain.specs.Event.{Event, Used, after_all, after_note, after_notes, after_use, after_use_of, if_some, note_events, off_cache, set_entry, to_inactive_head, when, with_stale}
+use Rattle.av_plain.specs.Event.{Event, Used, after_all, after_note, after_notes, after_use, after_use_of, change_frame, if_some, note_events, off_cache, set_entry, to_inactive_head, when, with_stale}
 use Rattle.av_plain.specs.Fault.{ComesIn, CopyOnWrite, Denied, IsMade, Lost, Ready, RunsOut, Serves, Sparing, Starved, Stop, Takes, Touches, drop_at, drop_of_entry, drop_of_slot, is_named, is_shared, is_unneeded, need, need_of_slot, permits, pinned_by, sparing, was_slot}
-use Rattle.av_plain.specs.Ledger.{Entry, InFrame, InSlot, Key, Ledger, Setting, Zero, entry, frame_at, is_free, key_cmp, map_count, names_frame, names_slot, same_slot, slot_entries, slot_of}
+use Rattle.av_plain.specs.Ledger.{Entry, InFrame, InSlot, Key, Ledger, Setting, Zero, entry, frame_at, is_free, is_merged, key_cmp, map_count, names_frame, names_slot, same_slot, slot_entries, slot_of}
 use Rattle.av_plain.specs.Pass.{Spared, TakesFor}
 use Rattle.av_plain.specs.Sound.{IsSound}
 use Rattle.av_plain.specs.World.{Page, World, pages}
 use Rattle.av_plain.proofs.Access.{after_all-append, after_notes-append, note_events-all}
 use Rattle.av_plain.proofs.AreasLeft.{rmap_after_all-append}
-use Rattle.av_plain.proofs.Covered.{Names, alone-by, covered-owns, owns-prepared, slots-prepared, sound-prepared, sound-put, sound-set}
+use Rattle.av_plain.proofs.Covered.{Names, alone-by, covered-owns, merged-fewer, merged-homed, merged-prepared, merged-set, owns-prepared, slots-prepared, sound-prepared, sound-put, sound-set}
 use Rattle.av_plain.proofs.Covered.Slots.{frame_at-off, set-fewer, slots-homed, slots-lists, slots-set}
-use Rattle.av_plain.proofs.Covered.Swap.{AllFit, Fits, Reach, fit-append, fit-is, fit-seeks, free-uncached, free-unnamed, reach-notes, reach-stale}
+use Rattle.av_plain.proofs.Covered.Swap.{AllFit, AreMergedFewer, Fits, Reach, cached-unmerged, fit-append, fit-is, fit-seeks, free-uncached, free-unmerged, free-unnamed, merged-settled, merged-settled_entry, reach-alike, reach-notes, reach-stale, settled_entry-cache, settled_entry-entries, unlike}
 use Rattle.av_plain.proofs.Ledger.{entry-set, how_many-found, is_sorted-set, map_count-set, same_key, same_key-itself}
 use Rattle.av_plain.proofs.Ledger.NoSwap.{key_at-address}
 use Rattle.av_plain.proofs.Sound.Access.{comes-kept, load-kept, page_events-kept, touches-kept, unused}
@@ -33,6 +33,7 @@ use Rattle.av_plain.proofs.Sound.Counts.{frame_at-none, frame_at-some, pair-fram
 use Rattle.av_plain.proofs.Sound.Pass.{seeks-kept}
 use Rattle.av_plain.proofs.Sound.Steps.{settle-cache, settle-entries}
 use Rattle.av_plain.proofs.Sound.Swap.Empty.{Waits}
+use Rattle.av_trace.specs.declared.note.Note.TheVariants.{Joined, Moved, Shared}
 
 -- the areas of each process lie apart, and each page of the memories has one
 pub record Lies (w : World) (r : Rmap) : Type 0 where
@@ -74,6 +75,9 @@ note-areas l r (Failed t) fits = refl
 note-areas l r (Dropped t) fits = refl
 note-areas l r (Kept f cause) fits = refl
 note-areas l r (Aged f) fits = refl
+note-areas l r (Shared f) fits = refl
+note-areas l r (Joined p a f) fits = refl
+note-areas l r (Moved a b) fits = refl
 
 pub fit-areas : (l : Ledger) (r : Rmap) (notes : List Note) → AllFit l notes → (rmap_after_all l (note_events notes) r).areas ≡ r.areas
 fit-areas l r [] fit = refl
@@ -117,13 +121,15 @@ lies-prepared w p page r h = record { laid = λ q. laid q (q == p); there = λ k
 
 -- a frame that is free becomes the page's, and is at home there
 given-reach : (w : World) (l : Ledger) (r : Rmap) (k : Key) (f : ℕ) → IsSomeAnd (r.areas k.0 k.1) (λ area. IsSome area.anon) → is_free l f ≡ true →
-    ReachAt w l r → ReachAt w (to_inactive_head f (set_entry k (InFrame f false) l)) (at_home f k r)
-given-reach w l r k f owns free h = record {
+    is_merged l f ≡ false → ReachAt w l r → ReachAt w (to_inactive_head f (set_entry k (InFrame f false) l)) (at_home f k r)
+given-reach w l r k f owns free own h = record {
   reach = record {
     in_order = is_sorted-set k (InFrame f false) l h.reach.in_order;
     once = h.reach.once;
     sound = sound-put l given r k f false (λ q. entry-set k (InFrame f false) l q) owns
-        (λ q other names. free-unnamed l f free q names) h.reach.sound;
+        (λ q other names. free-unnamed l f free q names) (λ q g names alone. alone) h.reach.sound;
+    merged = merged-homed given r f (home_of k.1 (r.areas k.0 k.1)) own (merged-fewer (set_entry k (InFrame f false) l) given r
+        (λ q g names is. names) (λ g is. is) (merged-set l r k (InFrame f false) (λ g at is. absurd (unlike l f g own at is)) h.reach.merged));
     slots = slots-homed given r f k (λ t q at names. free-uncached l f free t at)
         (slots-lists (set_entry k (InFrame f false) l) given r refl refl (slots-set l r k (InFrame f false) (λ t. refl) h.reach.slots));
   };
@@ -133,12 +139,13 @@ given-reach w l r k f owns free h = record {
     given : Ledger
     given = to_inactive_head f (set_entry k (InFrame f false) l)
 
-new-reach : (w : World) (l : Ledger) (r : Rmap) (k : Key) (f : ℕ) → is_some (pages w k.0 k.1) ≡ true → is_free l f ≡ true → ReachAt w l r →
+new-reach : (w : World) (l : Ledger) (r : Rmap) (k : Key) (f : ℕ) → is_some (pages w k.0 k.1) ≡ true → is_free l f ≡ true → is_merged l f ≡ false
+    → ReachAt w l r →
     ReachAt w (after_note (New k.0 (address_of k.1) f) l) (rmap_after_note l (New k.0 (address_of k.1) f) r)
-new-reach w l r k f mapped free h =
+new-reach w l r k f mapped free own h =
     subst (λ (q : Key). ReachAt w (to_inactive_head f (set_entry q (InFrame f false) l)) (at_home f q (prepare_page q.0 q.1 r)))
     (sym (key_at-address k))
-    (given-reach w l (prepare_page k.0 k.1 r) k f (owns-prepared l k.0 k.1 r (h.lies.laid k.0) h.reach.sound (h.lies.there k mapped)) free prepared)
+    (given-reach w l (prepare_page k.0 k.1 r) k f (owns-prepared l k.0 k.1 r (h.lies.laid k.0) h.reach.sound (h.lies.there k mapped)) free own prepared)
   where
     prepared : ReachAt w l (prepare_page k.0 k.1 r)
     prepared = record {
@@ -147,15 +154,43 @@ new-reach w l r k f mapped free h =
         once = h.reach.once;
         sound = sound-prepared l k.0 k.1 r (h.lies.laid k.0) h.reach.sound;
         slots = slots-prepared l k.0 k.1 r (h.lies.laid k.0) h.reach.sound h.reach.slots;
+        merged = merged-prepared l k.0 k.1 r (h.lies.laid k.0) h.reach.sound h.reach.slots h.reach.merged;
       };
       lies = lies-prepared w k.0 k.1 r h.lies;
     }
 
+-- with the frame that the entry named settled, the same entries name merged frames
+module _ (l : Ledger) (k : Key) (f : ℕ) where
+  abbrev taken : Ledger
+  taken = set_entry k (InFrame f false) l
+
+  abbrev given : Ledger
+  given = to_inactive_head f (set_entry k (InFrame f false) l)
+
+  abbrev copied : Ledger
+  copied = to_inactive_head f (change_frame k f l)
+
+  pub copied-entries : copied.entries ≡ given.entries
+  copied-entries = settled_entry-entries (entry l k) taken
+
+  pub copied-cache : copied.cache ≡ given.cache
+  copied-cache = settled_entry-cache (entry l k) taken
+
+  pub copied-merged : AreMergedFewer given copied
+  copied-merged = record {
+    named = λ q g names. (merged-settled_entry (entry l k) taken).named q g names;
+    fewer = λ g is. (merged-settled_entry (entry l k) taken).fewer g is;
+  }
+
 copied-reach : (w : World) (l : Ledger) (r : Rmap) (k : Key) (f : ℕ) → IsSomeAnd (r.areas k.0 k.1) (λ area. IsSome area.anon) → is_free l f ≡ true →
-    ReachAt w l r → ReachAt w (after_note (Copied k.0 (address_of k.1) f) l) (rmap_after_note l (Copied k.0 (address_of k.1) f) r)
-copied-reach w l r k f owns free h =
-    subst (λ (q : Key). ReachAt w (to_inactive_head f (set_entry q (InFrame f false) l)) (at_home f q r)) (sym (key_at-address k))
-    (given-reach w l r k f owns free h)
+    is_merged l f ≡ false → ReachAt w l r
+    → ReachAt w (after_note (Copied k.0 (address_of k.1) f) l) (rmap_after_note l (Copied k.0 (address_of k.1) f) r)
+copied-reach w l r k f owns free own h =
+    subst (λ (q : Key). ReachAt w (to_inactive_head f (change_frame q f l)) (at_home f q r)) (sym (key_at-address k)) (record {
+      reach = reach-alike (given l k f) (copied l k f) (at_home f k r) (copied-entries l k f) (copied-cache l k f) (copied-merged l k f)
+          (given-reach w l r k f owns free own h).reach;
+      lies = record { laid = h.lies.laid; there = h.lies.there };
+    })
 
 -- an entry that names no frame, or only the one that it named, and no slot
 set-reach : (w : World) (l : Ledger) (r : Rmap) (k : Key) (e : Entry) → ((f : ℕ) → names_frame f e ≡ true → Names l k f) →
@@ -166,6 +201,7 @@ set-reach w l r k e frames none h = record {
     once = h.reach.once;
     sound = sound-set l (set_entry k e l) r k e refl frames h.reach.sound;
     slots = slots-set l r k e none h.reach.slots;
+    merged = merged-set l r k e (λ f names is. frames f names) h.reach.merged;
   };
   lies = h.lies;
 }
@@ -184,19 +220,24 @@ fit-comes m sp l write k notes s h = by write (entry l k) refl h
     none : notes ≡ [] → AllFit l notes
     none e = fit-is l notes [] e tt
 
-    mapped : (l' : Ledger) (t : Slot) (f : ℕ) → entry l' k ≡ Some (InSlot t) → frame_at l' t ≡ Some f → AllFit l' (Mapped k.0 (address_of k.1) f ∷ [])
-    mapped l' t f at is = ((t, subst (λ q. Waits t f (entry l' q)) (sym (key_at-address k)) (subst (Waits t f) (sym at) refl), is), tt)
+    mapped : (l' : Ledger) (t : Slot) (f : ℕ) → IsSound m l' → entry l' k ≡ Some (InSlot t) → frame_at l' t ≡ Some f
+        → AllFit l' (Mapped k.0 (address_of k.1) f ∷ [])
+    mapped l' t f s' at is = (
+      (t, subst (λ q. Waits t f (entry l' q)) (sym (key_at-address k)) (subst (Waits t f) (sym at) refl), is, cached-unmerged m l' f t s' is),
+      tt,
+    )
 
     slot : (t : Slot) → entry l k ≡ Some (InSlot t) → (o : Option ℕ) → frame_at l t ≡ o → ComesIn m sp l k (need_of_slot t o) notes → AllFit l notes
     slot t at None out q =
         let named = how_many-found (names_slot t) k l.entries (InSlot t) at (slot-itself t) in
         let load = load-kept m sp l t q.0 s out named q.2 in
+        let sought = seeks-kept m (sp l None) l q.2.sought s q.2.seeks in
         fit-is l notes (q.0 ++ Mapped k.0 (address_of k.1) q.1 ∷ []) q.4 (fit-append l q.0 (Mapped k.0 (address_of k.1) q.1 ∷ [])
         (fit-is l q.0 (q.2.sought ++ Loaded t q.2.frame ∷ []) q.2.whole (fit-append l q.2.sought (Loaded t q.2.frame ∷ [])
         (fit-seeks m (sp l None) l q.2.sought q.2.seeks)
-        (((seeks-kept m (sp l None) l q.2.sought s q.2.seeks).keeps.absent t (frame_at-none t l.cache out) named, q.2.free), tt)))
-        (mapped (after_notes l q.0) t q.1 (load.steady k t at) q.3))
-    slot t at (Some f) is q = fit-is l notes (Mapped k.0 (address_of k.1) f ∷ []) q (mapped l t f at is)
+        ((sought.keeps.absent t (frame_at-none t l.cache out) named, q.2.free, free-unmerged m (after_notes l q.2.sought) q.2.frame sought.sound q.2.free), tt)))
+        (mapped (after_notes l q.0) t q.1 load.sound (load.steady k t at) q.3))
+    slot t at (Some f) is q = fit-is l notes (Mapped k.0 (address_of k.1) f ∷ []) q (mapped l t f s at is)
 
     ready : (b : Bool) (g : ℕ) → ComesIn m sp l k (cond b (CopyOnWrite g) Ready) notes → notes ≡ []
     ready true g q = q
@@ -214,8 +255,9 @@ fit-comes m sp l write k notes s h = by write (entry l k) refl h
 
 -- ---- a page is made
 
--- no other entry names the frame, nor one its slot
+-- no other entry names the frame, nor one its slot, and it isn't merged
 record Alone (l : Ledger) (f : ℕ) : Type 0 where
+  own : is_merged l f ≡ false
   few : map_count l f ≤ 1
   unslotted : (t : Slot) (q : Key) → frame_at l t ≡ Some f → IsOfSlot l t q → ⊥
 
@@ -225,13 +267,23 @@ AloneAt l k = (f : ℕ) → Names l k f → Alone l f
 -- a frame that a write needn't copy
 unshared-alone : (m : Setting) (l : Ledger) (f : ℕ) → IsSound m l → is_shared l f ≡ false → Alone l f
 unshared-alone m l f s h =
-    record { few = few (nat_lt 1 (map_count l f)) refl h; unslotted = λ t q at names. by t q at names (slot_of l f) refl (second _ _ h) }
+    record {
+      own = third (nat_lt 1 (map_count l f)) (is_named l (slot_of l f)) (is_merged l f) h;
+      few = few (nat_lt 1 (map_count l f)) refl h;
+      unslotted = λ t q at names. by t q at names (slot_of l f) refl (second (nat_lt 1 (map_count l f)) (is_named l (slot_of l f)) (is_merged l f) h);
+    }
   where
-    second : (a b : Bool) → (a || b) ≡ false → b ≡ false
-    second true b h = cc
-    second false b h = h
+    second : (a b c : Bool) → (a || b || c) ≡ false → b ≡ false
+    second true b c h = cc
+    second false true c h = cc
+    second false false c h = refl
 
-    few : (a : Bool) → nat_lt 1 (map_count l f) ≡ a → (a || is_named l (slot_of l f)) ≡ false → map_count l f ≤ 1
+    third : (a b c : Bool) → (a || b || c) ≡ false → c ≡ false
+    third true b c h = cc
+    third false true c h = cc
+    third false false c h = h
+
+    few : (a : Bool) → nat_lt 1 (map_count l f) ≡ a → (a || is_named l (slot_of l f) || is_merged l f) ≡ false → map_count l f ≤ 1
     few true e h = cc
     few false e h = grind (arith, nat_tests, e)
 
@@ -254,11 +306,12 @@ unshared-alone m l f s h =
             let d = s.frames_once f in omega (arith, a, b, c, d)
 
 -- one that was free
-fresh-alone : (l : Ledger) (k : Key) (f : ℕ) → T (is_sorted key_cmp l.entries) → is_free l f ≡ true →
+fresh-alone : (l : Ledger) (k : Key) (f : ℕ) → T (is_sorted key_cmp l.entries) → is_free l f ≡ true → is_merged l f ≡ false →
     AloneAt (to_inactive_head f (set_entry k (InFrame f false) l)) k
-fresh-alone l k f sorted free g names =
+fresh-alone l k f sorted free own g names =
     subst (Alone (to_inactive_head f (set_entry k (InFrame f false) l))) (sym (mine (same_key k k) (same_key-itself k)
     (subst (λ o. IsSomeAnd o (λ e. names_frame g e ≡ true)) (entry-set k (InFrame f false) l k) names))) (record {
+      own = own;
       few = let c = map_count-set k (InFrame f false) l f sorted in let u = unused l f free in let e = ap {B = ℕ} (λ b. cond b 1 0) (same-itself f) in
           omega (arith, c, u, e);
       unslotted = λ t q at is. free-uncached l f free t at;
@@ -268,10 +321,22 @@ fresh-alone l k f sorted free g names =
     mine true e is = same-is g f is
     mine false e is = absurd (false≢true e)
 
+-- a copy, with the frame settled that was copied
+copied-alone : (l : Ledger) (k : Key) (f : ℕ) → AloneAt (to_inactive_head f (set_entry k (InFrame f false) l)) k →
+    AloneAt (to_inactive_head f (change_frame k f l)) k
+copied-alone l k f h g names =
+    let a = h g (subst (λ es. Names (record l { entries = es }) k g) (copied-entries l k f) names) in record {
+      own = (copied-merged l k f).named k g names ∙ a.own;
+      few = subst (λ es. map_count (record l { entries = es }) g ≤ 1) (sym (copied-entries l k f)) a.few;
+      unslotted = λ t q at is. a.unslotted t q (subst (λ cs. frame_at (record l { cache = cs }) t ≡ Some g) (copied-cache l k f) at)
+          (subst (λ es. IsOfSlot (record l { entries = es }) t q) (copied-entries l k f) is);
+    }
+
 -- a slot that goes leaves it alone
 dropped-alone : (l : Ledger) (t : Slot) (k : Key) → AloneAt l k → AloneAt (after_note (Dropped t) l) k
 dropped-alone l t k h f names =
     let a = h f (subst (λ es. Names (record l { entries = es }) k f) entries names) in record {
+      own = (merged-settled (frame_at l t) (off_cache t l)).named k f names ∙ a.own;
       few = subst (λ es. map_count (record l { entries = es }) f ≤ 1) (sym entries) a.few;
       unslotted = λ u q at is. a.unslotted u q
           (was u f (same_slot u t) (sym (frame_at-off t u l.cache) ∙ sym (ap (λ cs. frame_at (record l { cache = cs }) u) cache) ∙ at))
@@ -300,16 +365,17 @@ made-none w l r write k notes e h alone = subst (Made w l r write k) (sym e) (re
 
 -- a frame is taken and becomes the page's
 made-taken : (m : Setting) (w : World) (sp : Spared) (l : Ledger) (r : Rmap) (write : Bool) (k : Key) (notes : List Note) (note : ℕ → Note)
-    → ReachAt w l r →
+    → IsSound m l → ReachAt w l r →
     (takes : TakesFor m sp l notes note)
-    → ((l' : Ledger) (r' : Rmap) → r'.areas ≡ r.areas → ReachAt w l' r' → is_free l' takes.frame ≡ true →
+    → ((l' : Ledger) (r' : Rmap) → r'.areas ≡ r.areas → ReachAt w l' r' → is_free l' takes.frame ≡ true → is_merged l' takes.frame ≡ false →
     ReachAt w (after_note (note takes.frame) l') (rmap_after_note l' (note takes.frame) r'))
-    → ((l' : Ledger) → after_note (note takes.frame) l' ≡ to_inactive_head takes.frame (set_entry k (InFrame takes.frame false) l'))
+    → ((l' : Ledger) → AloneAt (to_inactive_head takes.frame (set_entry k (InFrame takes.frame false) l')) k
+    → AloneAt (after_note (note takes.frame) l') k)
     → Made w l r write k notes
-made-taken m w sp l r write k notes note h takes gives is = subst (Made w l r write k) (sym takes.whole) (record {
-  reach = notes-append w l r takes.sought (note takes.frame ∷ []) (gives l1 r1 (fit-areas l r takes.sought fit) sought takes.free);
-  alone = λ _. subst (λ x. AloneAt x k) (sym (after_notes-append l takes.sought (note takes.frame ∷ []) ∙ is l1))
-      (fresh-alone l1 k takes.frame sought.reach.in_order takes.free);
+made-taken m w sp l r write k notes note s h takes gives alone = subst (Made w l r write k) (sym takes.whole) (record {
+  reach = notes-append w l r takes.sought (note takes.frame ∷ []) (gives l1 r1 (fit-areas l r takes.sought fit) sought takes.free own);
+  alone = λ _. subst (λ x. AloneAt x k) (sym (after_notes-append l takes.sought (note takes.frame ∷ [])))
+      (alone l1 (fresh-alone l1 k takes.frame sought.reach.in_order takes.free own));
 })
   where
     fit : AllFit l takes.sought
@@ -324,25 +390,28 @@ made-taken m w sp l r write k notes note h takes gives is = subst (Made w l r wr
     sought : NotesReach w l r takes.sought
     sought = fit-reach w l r takes.sought fit h
 
+    own : is_merged (after_notes l takes.sought) takes.frame ≡ false
+    own = free-unmerged m (after_notes l takes.sought) takes.frame (seeks-kept m sp l takes.sought s takes.seeks).sound takes.free
+
 made-reach : (m : Setting) (w : World) (sp : Sparing) (l : Ledger) (r : Rmap) (write : Bool) (k : Key) (notes : List Note)
     → is_some (pages w k.0 k.1) ≡ true →
     IsSound m l → ReachAt w l r → IsMade m sp l k (need write l (entry l k)) notes → Made w l r write k notes
 made-reach m w sp l r write k notes mapped s h made = by write (entry l k) refl made
   where
     fresh : (write : Bool) → Takes m sp l None notes (New k.0 (address_of k.1)) → Made w l r write k notes
-    fresh write takes = made-taken m w (sp l None) l r write k notes (New k.0 (address_of k.1)) h takes
-        (λ l' r' same h' free. new-reach w l' r' k takes.frame mapped free h')
-        (λ l'. ap (λ q. to_inactive_head takes.frame (set_entry q (InFrame takes.frame false) l')) (key_at-address k))
+    fresh write takes = made-taken m w (sp l None) l r write k notes (New k.0 (address_of k.1)) s h takes
+        (λ l' r' same h' free own. new-reach w l' r' k takes.frame mapped free own h')
+        (λ l'. subst (λ q. AloneAt (to_inactive_head takes.frame (set_entry q (InFrame takes.frame false) l')) k) (sym (key_at-address k)))
 
     named : (g : ℕ) (seen : Bool) → entry l k ≡ Some (InFrame g seen) → Names l k g
     named g seen at = subst (λ o. IsSomeAnd o (λ e. names_frame g e ≡ true)) (sym at) (same-itself g)
 
     copy : (write : Bool) (g : ℕ) (seen : Bool) → entry l k ≡ Some (InFrame g seen) → Takes m sp l (Some g) notes (Copied k.0 (address_of k.1)) →
         Made w l r write k notes
-    copy write g seen at takes = made-taken m w (sp l (Some g)) l r write k notes (Copied k.0 (address_of k.1)) h takes
-        (λ l' r' same h' free. copied-reach w l' r' k takes.frame
-        (subst (λ on. IsSomeAnd (on k.0 k.1) (λ area. IsSome area.anon)) (sym same) (covered-owns l r k g h.reach.sound (named g seen at))) free h')
-        (λ l'. ap (λ q. to_inactive_head takes.frame (set_entry q (InFrame takes.frame false) l')) (key_at-address k))
+    copy write g seen at takes = made-taken m w (sp l (Some g)) l r write k notes (Copied k.0 (address_of k.1)) s h takes
+        (λ l' r' same h' free own. copied-reach w l' r' k takes.frame
+        (subst (λ on. IsSomeAnd (on k.0 k.1) (λ area. IsSome area.anon)) (sym same) (covered-owns l r k g h.reach.sound h.reach.merged (named g seen at))) free own h')
+        (λ l' a. subst (λ q. AloneAt (to_inactive_head takes.frame (change_frame q takes.frame l')) k) (sym (key_at-address k)) (copied-alone l' k takes.frame a))
 
     own : (g : ℕ) (seen : Bool) → entry l k ≡ Some (InFrame g seen) → is_shared l g ≡ false → AloneAt l k
     own g seen at apart f names = subst (Alone l) (sym (same-is f g (subst (λ o. IsSomeAnd o (λ e. names_frame f e ≡ true)) at names)))
@@ -402,7 +471,10 @@ use-reach w l r write k alone h = by write (entry l k) refl alone
         in_order = is_sorted-set k (InFrame f true) l h.reach.in_order;
         once = h.reach.once;
         sound = sound-put l (set_entry k (InFrame f true) l) r k f true (λ q. entry-set k (InFrame f true) l q)
-            (covered-owns l r k f h.reach.sound (named f seen at)) (alone-by l k f h.reach.in_order a.few (named f seen at)) h.reach.sound;
+            (covered-owns l r k f h.reach.sound h.reach.merged (named f seen at)) (alone-by l k f h.reach.in_order a.few (named f seen at))
+            (λ q g names alone. alone) h.reach.sound;
+        merged = merged-homed (set_entry k (InFrame f true) l) r f (home_of k.1 (r.areas k.0 k.1)) a.own
+            (merged-set l r k (InFrame f true) (λ g same is. absurd (unlike l f g a.own same is)) h.reach.merged);
         slots = slots-homed (set_entry k (InFrame f true) l) r f k
             (λ t q is names. a.unslotted t q is (set-fewer l k (InFrame f true) (λ u. refl) t q names))
             (slots-set l r k (InFrame f true) (λ t. refl) h.reach.slots);

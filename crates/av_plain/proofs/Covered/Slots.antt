@@ -1,22 +1,22 @@
 -- What holds of slots at all times, beside what holds of frames: it holds after each note and each use of a page.
-use Rattle.std.proofs.Common.{◌≡◌, ◌⊎◌, inl, inr, ℕ, Bool, true, false, cond, not, ◌||◌, T, List, [], ◌∷◌, filter, map, Option, Some, None, option_map, refl, sym, ap, subst, ◌∙◌, arith, ◌==◌}
+use Rattle.std.proofs.Common.{◌≡◌, ◌⊎◌, inl, inr, ℕ, ◌<◌, ◌≤◌, Bool, true, false, cond, not, ◌||◌, T, List, [], ◌∷◌, filter, map, Option, Some, None, is_some, option_map, refl, sym, ap, subst, ◌∙◌, arith, ◌==◌}
 use Rattle.std.proofs.lemmas.Bool.{false≢true}
 use Rattle.std.specs.FinMap.Entries.{is_sorted}
 use Rattle.std.specs.List.{list_any}
 use Rattle.std.specs.Option.{option_map_or}
-use Rattle.std.specs.Prelude.{IsSomeAnd, if◌then◌else◌}
-use Rattle.av_base.specs.Words.{is_in, with_at}
+use Rattle.std.specs.Prelude.{IfSome, IsSomeAnd, if◌then◌else◌}
+use Rattle.av_base.specs.Words.{how_many, is_in, with_at}
 use Rattle.av_base.specs.declared.slot.Slot.{Slot}
 use Rattle.av_vma.specs.declared.area.Area.{Area}
 use Rattle.av_vma.specs.Index.{index_of}
 use Rattle.av_vma.specs.Pages.{home_of}
 use Rattle.av_trace.specs.declared.note.Note.TheVariants.{Dropped, Loaded}
-use Rattle.av_plain.specs.Areas.{AnonVma, Anons, AreLeft, Homes, Rmap, at_home, at_root, chain_by, home_for, rmap_after_note, root_of}
-use Rattle.av_plain.specs.Covered.{AreSlotsCovered, IsKin, IsOfSlot, IsReached, IsRmapSound, IsRooted}
+use Rattle.av_plain.specs.Areas.{AnonVma, Anons, Homes, Items, Rmap, at_home, at_root, chain_by, home_for, rmap_after_note, root_of, same_item}
+use Rattle.av_plain.specs.Covered.{AreMergedCovered, AreSlotsCovered, IsKin, IsOfSlot, IsReached, IsRmapSound, IsRooted}
 use Rattle.av_plain.specs.Event.{after_note, change_entries, if_some, into_cache, off_cache, set_entry, to_inactive_tail, with_stale, without_seen}
-use Rattle.av_plain.specs.Ledger.{Cached, Entry, InFrame, InSlot, Key, Ledger, Zero, cached_by, entry, frame_at, key_cmp, keys_of_slot, names_frame, names_slot, same_slot, slot_entries}
+use Rattle.av_plain.specs.Ledger.{Cached, Entry, InFrame, InSlot, Key, Ledger, Zero, cached_by, entry, frame_at, is_merged, key_cmp, keys_of_slot, names_frame, names_slot, same_slot, slot_entries}
 use Rattle.av_plain.specs.Sound.{slots}
-use Rattle.av_plain.proofs.Covered.{Names, Owns, chain_there, home_parts, sound-fewer}
+use Rattle.av_plain.proofs.Covered.{AnonsStay, Carries, Names, Owns, chain_there, home_parts, sound-fewer}
 use Rattle.av_plain.proofs.Event.{entry-unmap, entry-unseen, to_slot, to_unseen, unseen-by}
 use Rattle.av_plain.proofs.Ledger.{entry-set, how_many-found, same_key, same_key-is, same_key-itself}
 use Rattle.av_plain.proofs.Ledger.Walk.{keys-filter, passes}
@@ -78,7 +78,7 @@ root-of-member anons u root is = by (anons.anon u) is
     by (Some a) is = is
 
 module _ (r : Rmap) (k : Key) (o : Own r k) where
-  root-is : root_of r.anons o.own ≡ o.anon.root
+  pub root-is : root_of r.anons o.own ≡ o.anon.root
   root-is = ap (λ x. option_map_or (λ (a : AnonVma). a.root) x o.own) o.is_anon
 
   chain-is : chain_by r.anons o.area.anon ≡ o.anon.chain
@@ -232,11 +232,12 @@ slots-loaded l r s f sorted free sound h = record {
 -- frames that no entry names are at home anywhere
 pub sound-loaded : (l : Ledger) (r : Rmap) (s : Slot) (f : ℕ) → ((k : Key) → Names l k f → ⊥) → IsRmapSound l r →
     IsRmapSound (after_note (Loaded s f) l) (rmap_after_note l (Loaded s f) r)
-sound-loaded l r s f free h = record { made = h.made; own = h.own; covered = λ k g names. by k g (g == f) refl names }
+sound-loaded l r s f free h = record { made = h.made; own = h.own; covered = λ k g names own. by k g (g == f) refl names own }
   where
-    by : (k : Key) (g : ℕ) (b : Bool) → (g == f) ≡ b → Names l k g → IsSomeAnd (cond b (home_for r (keys_of_slot l s)) (r.homes g)) (IsReached r k)
-    by k g true e names = absurd (free k (subst (Names l k) (same-is g f e) names))
-    by k g false e names = h.covered k g names
+    by : (k : Key) (g : ℕ) (b : Bool) → (g == f) ≡ b → Names l k g → is_merged l g ≡ false
+        → IsSomeAnd (cond b (home_for r (keys_of_slot l s)) (r.homes g)) (IsReached r k)
+    by k g true e names own = absurd (free k (subst (Names l k) (same-is g f e) names))
+    by k g false e names own = h.covered k g names own
 
 -- ---- an entry of a cached slot becomes the frame
 
@@ -245,16 +246,16 @@ pub sound-mapped : (l : Ledger) (r : Rmap) (k : Key) (s : Slot) (f : ℕ) → en
 sound-mapped l r k s f at cached slots h = record {
   made = h.made;
   own = h.own;
-  covered = λ q g names. by q g (same_key q k) refl
-      (subst (λ o. IsSomeAnd o (λ e. names_frame g e ≡ true)) (entry-set k (InFrame f false) l q) names);
+  covered = λ q g names own. by q g (same_key q k) refl
+      (subst (λ o. IsSomeAnd o (λ e. names_frame g e ≡ true)) (entry-set k (InFrame f false) l q) names) own;
 }
   where
     by : (q : Key) (g : ℕ) (b : Bool) → same_key q k ≡ b → IsSomeAnd (cond b (Some (InFrame f false)) (entry l q)) (λ e. names_frame g e ≡ true) →
-        IsSomeAnd (r.homes g) (IsReached r q)
-    by q g true is names = subst (λ q. IsSomeAnd (r.homes g) (IsReached r q)) (sym (same_key-is q k is))
+        is_merged l g ≡ false → IsSomeAnd (r.homes g) (IsReached r q)
+    by q g true is names own = subst (λ q. IsSomeAnd (r.homes g) (IsReached r q)) (sym (same_key-is q k is))
         (subst (λ g. IsSomeAnd (r.homes g) (IsReached r k)) (sym (same-is g f names))
         (slots.cached s k f cached (subst (λ o. IsSomeAnd o (λ e. names_slot s e ≡ true)) (sym at) (slot-itself s))))
-    by q g false is names = h.covered q g names
+    by q g false is names own = h.covered q g names own
 
 pub slots-set : (l : Ledger) (r : Rmap) (k : Key) (e : Entry) → ((s : Slot) → names_slot s e ≡ false) → AreSlotsCovered l r →
     AreSlotsCovered (set_entry k e l) r
@@ -390,11 +391,14 @@ slots-unseen l r f =
     (subst (λ o. IsSomeAnd o (λ e. names_slot s e ≡ true)) (entry-unseen f l k) names))
     (λ s. refl)
 
+pub names-unseen : (l : Ledger) (f : ℕ) (k : Key) (g : ℕ) → Names (change_entries f without_seen l) k g → Names l k g
+names-unseen l f k g names = of_changed (λ e. names_frame g e ≡ true) (λ e. names_frame g e ≡ true)
+    (to_unseen f) (λ e is. sym (unseen-by f (names_frame g) (λ i seen now. refl) e) ∙ is) (entry l k)
+    (subst (λ o. IsSomeAnd o (λ e. names_frame g e ≡ true)) (entry-unseen f l k) names)
+
 pub sound-unseen : (l : Ledger) (r : Rmap) (f : ℕ) → IsRmapSound l r → IsRmapSound (change_entries f without_seen l) r
 sound-unseen l r f =
-    sound-fewer l (change_entries f without_seen l) r (λ k g names. of_changed (λ e. names_frame g e ≡ true) (λ e. names_frame g e ≡ true)
-    (to_unseen f) (λ e is. sym (unseen-by f (names_frame g) (λ i seen now. refl) e) ∙ is) (entry l k)
-    (subst (λ o. IsSomeAnd o (λ e. names_frame g e ≡ true)) (entry-unseen f l k) names))
+    sound-fewer l (change_entries f without_seen l) r (λ k g names own. (names-unseen l f k g names, own))
 
 -- ---- entries of a cached frame become its slot
 
@@ -423,9 +427,9 @@ was-named l t f s k names = by (entry l k) refl (subst (λ o. IsSomeAnd o (λ e.
       either = λ same. inl (subst (λ o. IsSomeAnd o (λ e. names_slot t e ≡ true)) (sym at) (ap (λ x. same_slot x u) (sym (slot-is s t same)) ∙ h));
     }
 
-pub slots-unmapped : (l : Ledger) (r : Rmap) (f : ℕ) (t : Slot) → frame_at l t ≡ Some f → IsRmapSound l r → AreSlotsCovered l r →
-    AreSlotsCovered (change_entries f (λ _. InSlot t) l) r
-slots-unmapped l r f t at sound h = record {
+pub slots-unmapped : (l : Ledger) (r : Rmap) (f : ℕ) (t : Slot) → frame_at l t ≡ Some f → is_merged l f ≡ false → IsRmapSound l r
+    → AreSlotsCovered l r → AreSlotsCovered (change_entries f (λ _. InSlot t) l) r
+slots-unmapped l r f t at own sound h = record {
   kin = h.kin;
   rooted = λ s k q names other. rooted s k q (same_slot s t) refl (was-named l t f s k names) (was-named l t f s q other);
   cached = λ s k g there names. cached s k g (same_slot s t) refl there (was-named l t f s k names);
@@ -433,7 +437,7 @@ slots-unmapped l r f t at sound h = record {
   where
     reached : (k : Key) → IsOfSlot l t k ⊎ Names l k f → IsSomeAnd (r.homes f) (IsReached r k)
     reached k (inl names) = h.cached t k f at names
-    reached k (inr names) = sound.covered k f names
+    reached k (inr names) = sound.covered k f names own
 
     from_home : (k q : Key) (o : Option (ℕ × ℕ)) → IsSomeAnd o (IsReached r k) → IsSomeAnd o (IsReached r q) →
         (home : ℕ × ℕ) × IsRooted r k home × IsRooted r q home
@@ -459,10 +463,9 @@ slots-unmapped l r f t at sound h = record {
         let same : f ≡ g = inner (sym at ∙ ap (frame_at l) (sym (slot-is s t is)) ∙ there) in
         subst (λ g. IsSomeAnd (r.homes g) (IsReached r k)) same (reached k (a.either is))
 
-pub sound-unmapped : (l : Ledger) (r : Rmap) (f : ℕ) (t : Slot) → IsRmapSound l r → IsRmapSound (change_entries f (λ _. InSlot t) l) r
-sound-unmapped l r f t = sound-fewer l (change_entries f (λ _. InSlot t) l) r
-    (λ k g names. of_changed (λ e. names_frame g e ≡ true) (λ e. names_frame g e ≡ true)
-    (to_slot f t) (named g) (entry l k) (subst (λ o. IsSomeAnd o (λ e. names_frame g e ≡ true)) (entry-unmap f t l k) names))
+pub names-unmapped : (l : Ledger) (f : ℕ) (t : Slot) (k : Key) (g : ℕ) → Names (change_entries f (λ _. InSlot t) l) k g → Names l k g
+names-unmapped l f t k g names = of_changed (λ e. names_frame g e ≡ true) (λ e. names_frame g e ≡ true)
+    (to_slot f t) (named g) (entry l k) (subst (λ o. IsSomeAnd o (λ e. names_frame g e ≡ true)) (entry-unmap f t l k) names)
   where
     named : (g : ℕ) (e : Entry) → names_frame g (to_slot f t e) ≡ true → names_frame g e ≡ true
     named g Zero h = h
@@ -472,6 +475,10 @@ sound-unmapped l r f t = sound-fewer l (change_entries f (λ _. InSlot t) l) r
         by true h = absurd (false≢true h)
         by false h = h
     named g (InSlot u) h = h
+
+pub sound-unmapped : (l : Ledger) (r : Rmap) (f : ℕ) (t : Slot) → IsRmapSound l r → IsRmapSound (change_entries f (λ _. InSlot t) l) r
+sound-unmapped l r f t = sound-fewer l (change_entries f (λ _. InSlot t) l) r
+    (λ k g names own. (names-unmapped l f t k g names, own))
 
 -- ---- a frame comes home
 
@@ -495,97 +502,120 @@ pub record SlotCarries (l : Ledger) (r next : Rmap) (s : Slot) (k : Key) : Type 
   pub names : IsOfSlot l s was
   pub home : (h : ℕ × ℕ) → home_of was.1 (r.areas was.0 was.1) ≡ Some h → home_of k.1 (next.areas k.0 k.1) ≡ Some h
 
--- as with frames, where entries carry their pages' homes with them
-pub slots-carried : (l l' : Ledger) (r next : Rmap) → ((s : Slot) (k : Key) → IsOfSlot l' s k → SlotCarries l r next s k)
-    → ((s : Slot) (f : ℕ) → frame_at l' s ≡ Some f → frame_at l s ≡ Some f)
-    → ((p page v : ℕ) → Owns next p page v → (q : ℕ) × (other : ℕ) × Owns r q other v)
-    → AreLeft r.anons next.areas next.anons → next.homes ≡ r.homes → IsRmapSound l r → AreSlotsCovered l r → AreSlotsCovered l' next
-slots-carried l l' r next carries frames owns left homes sound h = record {
-  kin = λ p page v is. kin-next p page v is;
-  rooted = λ s k q names other.
-      let a = carries s k names in let b = carries s q other in
-      let home = h.rooted s a.was b.was a.names b.names in
-      (home.0, rooted k a.was home.0 a.home home.1, rooted q b.was home.0 b.home home.2);
-  cached = λ s k f at names.
-      let a = carries s k names in
-      subst (λ (hs : Homes). IsSomeAnd (hs f) (IsReached next k)) (sym homes)
-      (reached k a.was (r.homes f) a.home (h.cached s a.was f (frames s f at) a.names));
-}
-  where
-    -- what an own anon_vma was
-    kin-was : (p page v : ℕ) → Owns next p page v → IsSomeAnd (r.anons.anon v) (IsKin r.anons)
-    kin-was p page v is = let was = owns p page v is in h.kin was.0 was.1 v was.2
+-- no area has an own anon_vma that none had, and of the anon_vmas is left what is linked
+module _ (l : Ledger) (r next : Rmap) (owns : (p page v : ℕ) → Owns next p page v → (q : ℕ) × (other : ℕ) × Owns r q other v)
+    (left : AnonsStay r.anons next.areas next.anons) (sound : IsRmapSound l r) (h : AreSlotsCovered l r) where
+  -- what an own anon_vma was
+  kin-was : (p page v : ℕ) → Owns next p page v → IsSomeAnd (r.anons.anon v) (IsKin r.anons)
+  kin-was p page v is = let was = owns p page v is in h.kin was.0 was.1 v was.2
 
-    -- each member of its chain is left
-    linked : (p page v u : ℕ) → Owns next p page v → is_in u (chain_by r.anons (Some v)) ≡ true → next.anons.anon u ≡ r.anons.anon u
-    linked p page v u is among = left.linked u (p, page, by (next.areas p page) is)
-      where
-        by : (o : Option Area) → IsSomeAnd o (λ area. area.anon ≡ Some v) → IsSomeAnd o (λ area. is_in u (chain_by r.anons area.anon) ≡ true)
-        by None is = is
-        by (Some area) is = subst (λ x. is_in u (chain_by r.anons x) ≡ true) (sym is) among
+  -- each member of its chain is left
+  linked : (p page v u : ℕ) → Owns next p page v → is_in u (chain_by r.anons (Some v)) ≡ true → next.anons.anon u ≡ r.anons.anon u
+  linked p page v u is among = left.linked u (p, page, by (next.areas p page) is)
+    where
+      by : (o : Option Area) → IsSomeAnd o (λ area. area.anon ≡ Some v) → IsSomeAnd o (λ area. is_in u (chain_by r.anons area.anon) ≡ true)
+      by None is = is
+      by (Some area) is = subst (λ x. is_in u (chain_by r.anons x) ≡ true) (sym is) among
 
-    itself : (p page v : ℕ) → Owns next p page v → next.anons.anon v ≡ r.anons.anon v
-    itself p page v is = linked p page v v is (let was = owns p page v is in sound.own was.0 was.1 v was.2)
+  itself : (p page v : ℕ) → Owns next p page v → next.anons.anon v ≡ r.anons.anon v
+  itself p page v is = linked p page v v is (let was = owns p page v is in sound.own was.0 was.1 v was.2)
 
-    kin-next : (p page v : ℕ) → Owns next p page v → IsSomeAnd (next.anons.anon v) (IsKin next.anons)
-    kin-next p page v is = subst (λ x. IsSomeAnd x (IsKin next.anons)) (sym (itself p page v is)) (by (r.anons.anon v) refl (kin-was p page v is))
-      where
-        by : (o : Option AnonVma) → r.anons.anon v ≡ o → IsSomeAnd o (IsKin r.anons) → IsSomeAnd o (IsKin next.anons)
-        by None e kin = kin
-        by (Some a) e kin = record {
-          root = kin.root;
-          members = λ u among. subst (λ x. IsSomeAnd x (λ (other : AnonVma). other.root ≡ a.root))
-              (sym (linked p page v u is (subst (λ x. is_in u (option_map_or (λ (b : AnonVma). b.chain) x []) ≡ true) (sym e) among)))
-              (kin.members u among);
-        }
+  kin-next : (p page v : ℕ) → Owns next p page v → IsSomeAnd (next.anons.anon v) (IsKin next.anons)
+  kin-next p page v is = subst (λ x. IsSomeAnd x (IsKin next.anons)) (sym (itself p page v is)) (by (r.anons.anon v) refl (kin-was p page v is))
+    where
+      by : (o : Option AnonVma) → r.anons.anon v ≡ o → IsSomeAnd o (IsKin r.anons) → IsSomeAnd o (IsKin next.anons)
+      by None e kin = kin
+      by (Some a) e kin = record {
+        root = kin.root;
+        members = λ u among. subst (λ x. IsSomeAnd x (λ (other : AnonVma). other.root ≡ a.root))
+            (sym (linked p page v u is (subst (λ x. is_in u (option_map_or (λ (b : AnonVma). b.chain) x []) ≡ true) (sym e) among)))
+            (kin.members u among);
+      }
 
-    -- the area that an entry has now, from the one that it had
-    now-area : (k was : Key) (o : Own r was)
-        → ((x : ℕ × ℕ) → home_of was.1 (r.areas was.0 was.1) ≡ Some x → home_of k.1 (next.areas k.0 k.1) ≡ Some x) →
-        IsSomeAnd (next.areas k.0 k.1) (λ area. (area.anon ≡ Some o.own) × (index_of area k.1 ≡ index_of o.area was.1))
-    now-area k was o home = home_parts k.1 (next.areas k.0 k.1) (o.own, index_of o.area was.1) (home (o.own, index_of o.area was.1) (home-is r was o))
+  -- the area that an entry has now, from the one that it had
+  now-area : (k was : Key) (o : Own r was)
+      → ((x : ℕ × ℕ) → home_of was.1 (r.areas was.0 was.1) ≡ Some x → home_of k.1 (next.areas k.0 k.1) ≡ Some x) →
+      IsSomeAnd (next.areas k.0 k.1) (λ area. (area.anon ≡ Some o.own) × (index_of area k.1 ≡ index_of o.area was.1))
+  now-area k was o home = home_parts k.1 (next.areas k.0 k.1) (o.own, index_of o.area was.1) (home (o.own, index_of o.area was.1) (home-is r was o))
 
-    owned : (k was : Key) (o : Own r was)
-        → IsSomeAnd (next.areas k.0 k.1) (λ area. (area.anon ≡ Some o.own) × (index_of area k.1 ≡ index_of o.area was.1)) →
-        Owns next k.0 k.1 o.own
-    owned k was o is = by (next.areas k.0 k.1) is
-      where
-        by : (x : Option Area) → IsSomeAnd x (λ area. (area.anon ≡ Some o.own) × (index_of area k.1 ≡ index_of o.area was.1)) →
-            IsSomeAnd x (λ area. area.anon ≡ Some o.own)
-        by None is = is
-        by (Some area) is = is.0
+  owned : (k was : Key) (o : Own r was)
+      → IsSomeAnd (next.areas k.0 k.1) (λ area. (area.anon ≡ Some o.own) × (index_of area k.1 ≡ index_of o.area was.1)) →
+      Owns next k.0 k.1 o.own
+  owned k was o is = by (next.areas k.0 k.1) is
+    where
+      by : (x : Option Area) → IsSomeAnd x (λ area. (area.anon ≡ Some o.own) × (index_of area k.1 ≡ index_of o.area was.1)) →
+          IsSomeAnd x (λ area. area.anon ≡ Some o.own)
+      by None is = is
+      by (Some area) is = is.0
 
-    rooted : (k was : Key) (home : ℕ × ℕ) → ((x : ℕ × ℕ) → home_of was.1 (r.areas was.0 was.1) ≡ Some x → home_of k.1 (next.areas k.0 k.1) ≡ Some x) →
-        IsRooted r was home → IsRooted next k home
-    rooted k was home goes is =
-        let o = rooted-own r was home h.kin is in
-        let now = now-area k was o goes in
-        let here = of_area r was o (λ area. IsSomeAnd area.anon (λ own. root_of r.anons own ≡ home.0) × (index_of area was.1 ≡ home.1)) is in
-        let root = subst (λ x. IsSomeAnd x (λ own. root_of r.anons own ≡ home.0)) o.is_own here.0 in
-        by o (next.areas k.0 k.1) now
-        (ap (λ x. option_map_or (λ (a : AnonVma). a.root) x o.own) (itself k.0 k.1 o.own (owned k was o now)) ∙ root) here.1
-      where
-        by : (o : Own r was) (x : Option Area) → IsSomeAnd x (λ area. (area.anon ≡ Some o.own) × (index_of area k.1 ≡ index_of o.area was.1))
-            → root_of next.anons o.own ≡ home.0 → index_of o.area was.1 ≡ home.1
-            → IsSomeAnd x (λ area. IsSomeAnd area.anon (λ own. root_of next.anons own ≡ home.0) × (index_of area k.1 ≡ home.1))
-        by o None is root index = is
-        by o (Some area) is root index = (subst (λ x. IsSomeAnd x (λ own. root_of next.anons own ≡ home.0)) (sym is.0) root, is.1 ∙ index)
+  carried-rooted : (k was : Key) (home : ℕ × ℕ) → ((x : ℕ × ℕ) → home_of was.1 (r.areas was.0 was.1) ≡ Some x → home_of k.1 (next.areas k.0 k.1) ≡ Some x) →
+      IsRooted r was home → IsRooted next k home
+  carried-rooted k was home goes is =
+      let o = rooted-own r was home h.kin is in
+      let now = now-area k was o goes in
+      let here = of_area r was o (λ area. IsSomeAnd area.anon (λ own. root_of r.anons own ≡ home.0) × (index_of area was.1 ≡ home.1)) is in
+      let root = subst (λ x. IsSomeAnd x (λ own. root_of r.anons own ≡ home.0)) o.is_own here.0 in
+      by o (next.areas k.0 k.1) now
+      (ap (λ x. option_map_or (λ (a : AnonVma). a.root) x o.own) (itself k.0 k.1 o.own (owned k was o now)) ∙ root) here.1
+    where
+      by : (o : Own r was) (x : Option Area) → IsSomeAnd x (λ area. (area.anon ≡ Some o.own) × (index_of area k.1 ≡ index_of o.area was.1))
+          → root_of next.anons o.own ≡ home.0 → index_of o.area was.1 ≡ home.1
+          → IsSomeAnd x (λ area. IsSomeAnd area.anon (λ own. root_of next.anons own ≡ home.0) × (index_of area k.1 ≡ home.1))
+      by o None is root index = is
+      by o (Some area) is root index = (subst (λ x. IsSomeAnd x (λ own. root_of next.anons own ≡ home.0)) (sym is.0) root, is.1 ∙ index)
 
-    reached : (k was : Key) (x : Option (ℕ × ℕ))
-        → ((y : ℕ × ℕ) → home_of was.1 (r.areas was.0 was.1) ≡ Some y → home_of k.1 (next.areas k.0 k.1) ≡ Some y) →
-        IsSomeAnd x (IsReached r was) → IsSomeAnd x (IsReached next k)
-    reached k was None goes is = is
-    reached k was (Some home) goes is =
-        let o = reached-own r was home h.kin is in
-        let now = now-area k was o goes in
-        let here = of_area r was o (λ area. (is_in home.0 (chain_by r.anons area.anon) ≡ true) × (index_of area was.1 ≡ home.1)) is in
-        let among = subst (λ x. is_in home.0 (chain_by r.anons x) ≡ true) o.is_own here.0 in
-        by o (next.areas k.0 k.1) now
-        (subst (λ x. is_in home.0 (option_map_or (λ (a : AnonVma). a.chain) x []) ≡ true)
-        (sym (itself k.0 k.1 o.own (owned k was o now))) among) here.1
-      where
-        by : (o : Own r was) (x : Option Area) → IsSomeAnd x (λ area. (area.anon ≡ Some o.own) × (index_of area k.1 ≡ index_of o.area was.1))
-            → is_in home.0 (chain_by next.anons (Some o.own)) ≡ true → index_of o.area was.1 ≡ home.1
-            → IsSomeAnd x (λ area. (is_in home.0 (chain_by next.anons area.anon) ≡ true) × (index_of area k.1 ≡ home.1))
-        by o None is among index = is
-        by o (Some area) is among index = (subst (λ x. is_in home.0 (chain_by next.anons x) ≡ true) (sym is.0) among, is.1 ∙ index)
+  carried-reached : (k was : Key) (x : Option (ℕ × ℕ))
+      → ((y : ℕ × ℕ) → home_of was.1 (r.areas was.0 was.1) ≡ Some y → home_of k.1 (next.areas k.0 k.1) ≡ Some y) →
+      IsSomeAnd x (IsReached r was) → IsSomeAnd x (IsReached next k)
+  carried-reached k was None goes is = is
+  carried-reached k was (Some home) goes is =
+      let o = reached-own r was home h.kin is in
+      let now = now-area k was o goes in
+      let here = of_area r was o (λ area. (is_in home.0 (chain_by r.anons area.anon) ≡ true) × (index_of area was.1 ≡ home.1)) is in
+      let among = subst (λ x. is_in home.0 (chain_by r.anons x) ≡ true) o.is_own here.0 in
+      by o (next.areas k.0 k.1) now
+      (subst (λ x. is_in home.0 (option_map_or (λ (a : AnonVma). a.chain) x []) ≡ true)
+      (sym (itself k.0 k.1 o.own (owned k was o now))) among) here.1
+    where
+      by : (o : Own r was) (x : Option Area) → IsSomeAnd x (λ area. (area.anon ≡ Some o.own) × (index_of area k.1 ≡ index_of o.area was.1))
+          → is_in home.0 (chain_by next.anons (Some o.own)) ≡ true → index_of o.area was.1 ≡ home.1
+          → IsSomeAnd x (λ area. (is_in home.0 (chain_by next.anons area.anon) ≡ true) × (index_of area k.1 ≡ home.1))
+      by o None is among index = is
+      by o (Some area) is among index = (subst (λ x. is_in home.0 (chain_by next.anons x) ≡ true) (sym is.0) among, is.1 ∙ index)
+
+  -- where a root is that an anon_vma is gone from, nothing is linked to it
+  carried-root : (v : ℕ) (P : AnonVma → Type 0) → IfSome (r.anons.anon v) P → IfSome (next.anons.anon v) P
+  carried-root v P is = by (next.anons.anon v) refl
+    where
+      by : (o : Option AnonVma) → next.anons.anon v ≡ o → IfSome o P
+      by None e = tt
+      by (Some a) e = subst (λ x. IfSome x P) (sym (left.same v (ap is_some e)) ∙ e) is
+
+  -- as with frames, where entries carry their pages' homes with them
+  pub slots-carried : (l' : Ledger) → ((s : Slot) (k : Key) → IsOfSlot l' s k → SlotCarries l r next s k)
+      → ((s : Slot) (f : ℕ) → frame_at l' s ≡ Some f → frame_at l s ≡ Some f) → next.homes ≡ r.homes → AreSlotsCovered l' next
+  slots-carried l' carries frames homes = record {
+    kin = λ p page v is. kin-next p page v is;
+    rooted = λ s k q names other.
+        let a = carries s k names in let b = carries s q other in
+        let home = h.rooted s a.was b.was a.names b.names in
+        (home.0, carried-rooted k a.was home.0 a.home home.1, carried-rooted q b.was home.0 b.home home.2);
+    cached = λ s k f at names.
+        let a = carries s k names in
+        subst (λ (hs : Homes). IsSomeAnd (hs f) (IsReached next k)) (sym homes)
+        (carried-reached k a.was (r.homes f) a.home (h.cached s a.was f (frames s f at) a.names));
+  }
+
+  -- and so do those that name merged frames
+  pub merged-carried : (l' : Ledger) → ((k : Key) (f : ℕ) → Names l' k f → Carries l r next k f) → ((f : ℕ) → is_merged l' f ≡ true → is_merged l f ≡ true)
+      → next.homes ≡ r.homes → next.items ≡ r.items → AreMergedCovered l r → AreMergedCovered l' next
+  merged-carried l' carries fewer homes items merged = record {
+    found = λ k f names is.
+        let a = carries k f names in let x = merged.found a.was f a.names (fewer f is) in
+        (x.0, subst (λ (xs : Items). list_any (same_item x.0) (xs f) ≡ true) (sym items) x.1, carried-rooted k a.was x.0 a.home x.2);
+    once = λ f item is. subst (λ (xs : Items). how_many (same_item item) (xs f) ≤ 1) (sym items) (merged.once f item (fewer f is));
+    roots = λ f item is among.
+        let x = merged.roots f item (fewer f is) (subst (λ (xs : Items). list_any (same_item item) (xs f) ≡ true) items among) in
+        (subst (λ n. item.0 < n) (sym left.next) x.0, carried-root item.0 (λ v. v.root ≡ item.0) x.1);
+    homeless = λ f is. ap (λ (hs : Homes). hs f) homes ∙ merged.homeless f (fewer f is);
+  }

@@ -13,15 +13,17 @@ use Rattle.av_vma.specs.Pages.{has_page, pages_in, with_area}
 use Rattle.av_plain.specs.Areas.{AnonVma, Anons, Rmap, chain_by, root_of}
 use Rattle.av_plain.specs.Covered.{AreSlotsCovered, IsKin, IsOfSlot, IsReached, IsRmapSound, IsRooted}
 use Rattle.av_plain.specs.Event.{without_seen}
+use Rattle.av_vma.specs.Fork.{areas_to_fork, own_to_fork}
+use Rattle.av_plain.specs.Event.{Inherited}
 use Rattle.av_plain.specs.Fork.{AreForked, GoOver, GoesBy, IsIdle, IsReused, own_of_child, with_child}
 use Rattle.av_plain.specs.Ledger.{Entry, Key, Ledger, entry, frame_at, key_cmp, names_slot}
 use Rattle.av_plain.specs.Report.{AreApart, range_of}
 use Rattle.av_plain.proofs.Covered.{Owns}
-use Rattle.av_plain.proofs.Covered.Fork.{HasChains, fork-goes_over, fork-stays, in_front, keeps}
+use Rattle.av_plain.proofs.Covered.Fork.{GoWhole, HasChains, fork-goes_over, fork-stays, in_front, keeps}
 use Rattle.av_plain.proofs.Covered.Slots.{HasKin, at_area, of_area, reached-own, root-of-member, rooted-own, to_rooted}
 use Rattle.av_plain.proofs.Event.{put_all-only}
-use Rattle.av_plain.proofs.Fork.{child_ledger, copies, entry-forked, forked-is, unseen-names_slot}
-use Rattle.av_plain.proofs.Fork.Areas.{area-leaves, before, before-others, child-has, in_child, not_first, same, with_own}
+use Rattle.av_plain.proofs.Fork.{child_ledger, copies, entry-forked, forked-is, going, handed, handed-from, unseen-names_slot}
+use Rattle.av_plain.proofs.Fork.Areas.{area-leaves, fork-apart, forked-area, forked_at, pages-fork, before, before-others, child-has, in_child, not_first, same, with_own}
 use Rattle.av_plain.proofs.Report.Areas.{on_first, passed, rest_apart}
 
 -- each anon_vma that is there keeps its root
@@ -212,31 +214,35 @@ kin_with q area r own anons g p page v = by (p == q)
     by false is = g.others p page v is
 
 -- what one area leaves
-record LeavesKin (r next : Rmap) : Type 0 where
-  roots : KeepsRoots r.anons next.anons
-  kin : HasKin next
+pub record LeavesKin (r next : Rmap) : Type 0 where
+  pub roots : KeepsRoots r.anons next.anons
+  pub kin : HasKin next
 
-goes-kin : (q p page : ℕ) (area : Area) (r next : Rmap) → HasChains r → HasKin r → r.areas p page ≡ Some area → GoesBy area.anon q area r next →
+goes-kin : (q p page : ℕ) (area : Area) (r next : Rmap) → HasChains r → HasKin r → r.areas p page ≡ Some area → GoesBy (own_to_fork area) q area r next →
     LeavesKin r next
-goes-kin q p page area r next chains kin at goes = by area.anon refl goes
+goes-kin q p page area r next chains kin at goes = by (own_to_fork area) refl goes
   where
     leaves : (own : Option ℕ) (anons : Anons) → GetsKin r own anons → LeavesKin r (with_own q area own anons r)
     leaves own anons g = record { roots = g.roots; kin = kin_with q area r own anons g }
 
-    has : (w : ℕ) → area.anon ≡ Some w → HasAnon r w
-    has w is = has-anon r w (kin p page w (subst (λ x. IsSomeAnd x (λ a. a.anon ≡ Some w)) (sym at) is))
+    own : (b : Bool) (w : ℕ) → cond b None area.anon ≡ Some w → area.anon ≡ Some w
+    own true w is = cc
+    own false w is = is
 
-    through : (w : ℕ) (reused : Option ℕ) → area.anon ≡ Some w → IsReused r (chain_by r.anons (Some w)) reused →
+    has : (w : ℕ) → own_to_fork area ≡ Some w → HasAnon r w
+    has w goes = let is = own area.flags.wipe_on_fork w goes in has-anon r w (kin p page w (subst (λ x. IsSomeAnd x (λ a. a.anon ≡ Some w)) (sym at) is))
+
+    through : (w : ℕ) (reused : Option ℕ) → own_to_fork area ≡ Some w → IsReused r (chain_by r.anons (Some w)) reused →
         GetsKin r (Some (own_of_child r.anons reused)) (with_child w reused r.anons)
     through w None is none = gets_new r w chains kin (has w is)
     through w (Some v) is one = gets_reused r w v kin (has w is) one.0 one.1
 
-    by : (own : Option ℕ) → area.anon ≡ own → GoesBy own q area r next → LeavesKin r next
+    by : (own : Option ℕ) → own_to_fork area ≡ own → GoesBy own q area r next → LeavesKin r next
     by None is goes = subst (LeavesKin r) (sym goes)
-        (leaves area.anon r.anons (record { roots = λ u root h. h; others = kin; mine = λ v e. absurd (never is e) }))
+        (leaves None r.anons (record { roots = λ u root h. h; others = kin; mine = λ v e. absurd (never e) }))
       where
-        never : {v : ℕ} → area.anon ≡ None → area.anon ≡ Some v → ⊥
-        never a b = cc
+        never : {v : ℕ} → ◌≡◌ {A = Option ℕ} None (Some v) → ⊥
+        never e = cc
     by (Some w) is goes = subst (LeavesKin r) (sym goes.2) (leaves (Some (own_of_child r.anons goes.0)) (with_child w goes.0 r.anons)
         (through w goes.0 is goes.1))
 
@@ -280,16 +286,32 @@ module _ (r next : Rmap) (was k : Key) (kin : HasKin r) (kin' : HasKin next) (ro
         let before = ap (λ x. option_map_or (λ (a : AnonVma). a.root) x o.own) o.is_anon in
         subst (λ x. IsRooted next k (x, home.1)) (kept ∙ sym before ∙ root) now
 
+-- what the areas leave that go over
+pub fork-kin : (p q : ℕ) (r next : Rmap) → (p == q) ≡ false → AreForked p q r next → HasChains r → HasKin r → LeavesKin (before q r) next
+fork-kin p q r next apart forks chains kin =
+    over-kin p q apart (areas_to_fork forks.0) (before q r) next (fork-apart forks.0 forks.1)
+    (λ page area is. before-others q r p page apart
+    ∙ forked-area (r.areas p page) area (sym (pages-fork forks.0 page forks.1 ∙ ap forked_at (forks.2 page)) ∙ is))
+    (record { made = chains.made; own = λ k page v is. chains.own k page v (owned_before k page v is) })
+    (λ k page v is. kin k page v (owned_before k page v is)) forks.3
+  where
+    owned_before : (k page v : ℕ) → Owns (before q r) k page v → Owns r k page v
+    owned_before k page v = by (k == q)
+      where
+        by : (b : Bool) → IsSomeAnd ((cond b (λ (x : ℕ). None) (r.areas k)) page) (λ (a : Area). a.anon ≡ Some v) → Owns r k page v
+        by true is = absurd is
+        by false is = is
+
 -- the page that an entry's slot comes from
 record Came (l : Ledger) (r next : Rmap) (s : Slot) (k : Key) : Type 0 where
   was : Key
   names : IsOfSlot l s was
   goes : (home : ℕ × ℕ) → IsReached r was home → IsReached next k home
 
-pub slots-forked : (l : Ledger) (p q : ℕ) (r next : Rmap) → T (is_sorted key_cmp l.entries) → (p == q) ≡ false
-    → ((page : ℕ) → entry l (q, page) ≡ None)
-    → AreForked p q r next → IsRmapSound l r → AreSlotsCovered l r → AreSlotsCovered (child_ledger p q l) next
-slots-forked l p q r next sorted apart none forks sound h = record {
+pub slots-forked : (l : Ledger) (p q : ℕ) (goes : List Inherited) (r next : Rmap) → T (is_sorted key_cmp l.entries) → (p == q) ≡ false
+    → ((page : ℕ) → entry l (q, page) ≡ None) → GoWhole goes (r.areas p)
+    → AreForked p q r next → IsRmapSound l r → AreSlotsCovered l r → AreSlotsCovered (child_ledger p q goes l) next
+slots-forked l p q goes r next sorted apart none whole forks sound h = record {
   kin = left.kin;
   rooted = λ s k k' names other.
       let a = came s k names in let b = came s k' other in
@@ -307,26 +329,17 @@ slots-forked l p q r next sorted apart none forks sound h = record {
     chains : HasChains r
     chains = record { made = sound.made; own = sound.own }
 
-    owned_before : (k page v : ℕ) → Owns (before q r) k page v → Owns r k page v
-    owned_before k page v = by (k == q)
-      where
-        by : (b : Bool) → IsSomeAnd ((cond b (λ (x : ℕ). None) (r.areas k)) page) (λ (a : Area). a.anon ≡ Some v) → Owns r k page v
-        by true is = absurd is
-        by false is = is
-
     left : LeavesKin (before q r) next
-    left = over-kin p q apart forks.0 (before q r) next forks.1 (λ page area is. before-others q r p page apart ∙ sym (forks.2 page) ∙ is)
-        (record { made = sound.made; own = λ k page v is. sound.own k page v (owned_before k page v is) })
-        (λ k page v is. h.kin k page v (owned_before k page v is)) forks.3
+    left = fork-kin p q r next apart forks chains h.kin
 
     roots : KeepsRoots r.anons next.anons
     roots = left.roots
 
-    cache-same : (s : Slot) → frame_at (child_ledger p q l) s ≡ frame_at l s
-    cache-same s = ap (λ x. frame_at x s) (forked-is p q l ∙ put_all-only (copies p q l.entries) l)
+    cache-same : (s : Slot) → frame_at (child_ledger p q goes l) s ≡ frame_at l s
+    cache-same s = ap (λ x. frame_at x s) (forked-is p q goes l ∙ put_all-only (copies p q (going goes l.entries)) l)
 
-    came : (s : Slot) (k : Key) → IsOfSlot (child_ledger p q l) s k → Came l r next s k
-    came s k names = by (k.0 == q) refl (subst (λ o. IsSomeAnd o (λ e. names_slot s e ≡ true)) (entry-forked p q l k sorted) names)
+    came : (s : Slot) (k : Key) → IsOfSlot (child_ledger p q goes l) s k → Came l r next s k
+    came s k names = by (k.0 == q) refl (subst (λ o. IsSomeAnd o (λ e. names_slot s e ≡ true)) (entry-forked p q goes l k sorted) names)
       where
         absent : k.0 ≡ q → entry l k ≡ None
         absent e = ap (λ x. entry l (x, k.1)) e ∙ none k.1
@@ -336,14 +349,17 @@ slots-forked l p q r next sorted apart none forks sound h = record {
         parent e None names = absurd (subst (λ o. IsSomeAnd o (λ e. names_slot s e ≡ true)) (absent e) names)
         parent e (Some x) names = sym (unseen-names_slot s x) ∙ names
 
-        by : (b : Bool) → (k.0 == q) ≡ b → IsSomeAnd (option_or (cond b (option_map without_seen (entry l (p, k.1))) None) (entry l k))
+        by : (b : Bool) → (k.0 == q) ≡ b → IsSomeAnd (option_or (cond b (option_map without_seen (handed goes p l k.1)) None) (entry l k))
             (λ e. names_slot s e ≡ true) → Came l r next s k
         by false is names = record { was = k; names = names; goes = fork-stays p q r next apart forks chains k is }
-        by true is names = record {
-          was = (p, k.1);
-          names = parent (same k.0 q is) (entry l (p, k.1)) names;
-          goes = λ home h. subst (λ x. IsReached next (x, k.1) home) (sym (same k.0 q is)) (fork-goes_over p q r next apart forks chains k.1 home h);
-        }
+        by true is names =
+            let going = handed-from goes p l k.1 (λ e. names_slot s e ≡ true) (parent (same k.0 q is) (handed goes p l k.1) names) in
+            record {
+              was = (p, k.1);
+              names = going.1;
+              goes = λ home h. subst (λ x. IsReached next (x, k.1) home) (sym (same k.0 q is))
+                  (fork-goes_over p q r next apart forks chains k.1 home (whole k.1 going.0) h);
+            }
 
     reached : (s : Slot) (k : Key) (a : Came l r next s k) (o : Option (ℕ × ℕ)) → IsSomeAnd o (IsReached r a.was) → IsSomeAnd o (IsReached next k)
     reached s k a None is = is

@@ -1,14 +1,17 @@
--- What a fork makes of areas: the child has each of the parent's, with an own anon_vma, and all others are as they were.
-use Rattle.std.proofs.Common.{◌≡◌, ◌⊎◌, inl, inr, ℕ, Bool, true, false, cond, ◌==◌, List, [], ◌∷◌, map, Option, Some, None, refl, sym, ap, subst, ◌∙◌, arith}
+-- What a fork makes of areas: the child has each of the parent's that goes over, with an own anon_vma, and all others are as they were.
+use Rattle.std.proofs.Common.{◌≡◌, ◌⊎◌, inl, inr, ℕ, ◌<◌, ◌≤◌, Bool, true, false, cond, not, ◌==◌, List, [], ◌∷◌, map, Option, Some, None, refl, sym, ap, subst, ◌∙◌, arith}
 use Rattle.std.proofs.lemmas.Bool.Decides.{nat_tests}
 use Rattle.av_base.specs.Words.{with_at}
+use Rattle.std.specs.List.{AllByRecursion}
 use Rattle.av_vma.specs.declared.area.Area.{Area}
+use Rattle.av_vma.specs.Fork.{areas_to_fork, forked_area, own_to_fork}
+use Rattle.av_vma.specs.Index.{first_of, past_of}
 use Rattle.av_vma.specs.Pages.{has_page, pages_in, with_area}
 use Rattle.av_vma.proofs.Laid.{has_parts}
 use Rattle.av_plain.specs.Areas.{Anons, Rmap, none_on}
 use Rattle.av_plain.specs.Fork.{AreForked, GoOver, GoesBy, own_of_child, with_child, with_child_area}
 use Rattle.av_plain.specs.Report.{AreApart, range_of}
-use Rattle.av_plain.proofs.Report.Areas.{none_later, rest_apart}
+use Rattle.av_plain.proofs.Report.Areas.{behind, none_later, rest_apart, some_pages}
 
 itself : (n : ℕ) → (n == n) ≡ true
 itself n = grind (arith, nat_tests)
@@ -18,13 +21,13 @@ same a b h = grind (arith, nat_tests, h)
 
 -- the area in the child, with this own anon_vma
 abbrev pub in_child : ℕ → Area → Option ℕ → Area
-in_child q area own = record area { pid = q; anon = own }
+in_child q area own = record (forked_area q area) { anon = own }
 
 -- ---- one area
 
 -- what one area that goes over leaves, with this own anon_vma and these anon_vmas
 abbrev pub with_own : ℕ → Area → Option ℕ → Anons → Rmap → Rmap
-with_own q area own anons r = record (with_child_area q (record area { anon = own }) r) { anons = anons }
+with_own q area own anons r = record (with_child_area q own area r) { anons = anons }
 
 -- what it goes over with
 pub record GoesWith (q : ℕ) (area : Area) (r next : Rmap) : Type 0 where
@@ -32,12 +35,12 @@ pub record GoesWith (q : ℕ) (area : Area) (r next : Rmap) : Type 0 where
   pub anons : Anons
   pub is : next ≡ with_own q area own anons r
 
-pub goes-with : (q : ℕ) (area : Area) (r next : Rmap) → GoesBy area.anon q area r next → GoesWith q area r next
-goes-with q area r next = by area.anon refl
+pub goes-with : (q : ℕ) (area : Area) (r next : Rmap) → GoesBy (own_to_fork area) q area r next → GoesWith q area r next
+goes-with q area r next = by (own_to_fork area)
   where
-    by : (own : Option ℕ) → area.anon ≡ own → GoesBy own q area r next → GoesWith q area r next
-    by None is goes = record { own = area.anon; anons = r.anons; is = goes }
-    by (Some w) is goes = record { own = Some (own_of_child r.anons goes.0); anons = with_child w goes.0 r.anons; is = goes.2 }
+    by : (own : Option ℕ) → GoesBy own q area r next → GoesWith q area r next
+    by None goes = record { own = None; anons = r.anons; is = goes }
+    by (Some w) goes = record { own = Some (own_of_child r.anons goes.0); anons = with_child w goes.0 r.anons; is = goes.2 }
 
 -- the areas then
 pub with_own-others : (q : ℕ) (area : Area) (own : Option ℕ) (anons : Anons) (r : Rmap) (p page : ℕ) → (p == q) ≡ false →
@@ -56,7 +59,7 @@ pub record LeavesArea (q : ℕ) (area : Area) (r next : Rmap) : Type 0 where
   pub own : Option ℕ
   pub here : (page : ℕ) → has_page area page ≡ true → next.areas q page ≡ Some (in_child q area own)
 
-pub area-leaves : (q : ℕ) (area : Area) (r next : Rmap) → GoesBy area.anon q area r next → LeavesArea q area r next
+pub area-leaves : (q : ℕ) (area : Area) (r next : Rmap) → GoesBy (own_to_fork area) q area r next → LeavesArea q area r next
 area-leaves q area r next goes = let g = goes-with q area r next goes in subst (LeavesArea q area r) (sym g.is) (record {
   homes = refl;
   others = with_own-others q area g.own g.anons r;
@@ -154,16 +157,71 @@ areas-leave q (area ∷ areas) r next rise (mid, first, later) =
         still w all w.own page has (w.here page has) ∙ sym (still w all w.own other has_too (w.here other has_too))
     one w all page other a false has is there = all.one page other a is there
 
+-- ---- the areas that go over
+
+-- the area of a page that goes over
+abbrev pub forked_at : Option Area → Option Area
+forked_at None = None
+forked_at (Some area) = cond area.flags.dont_fork None (Some area)
+
+pub forked-area : (o : Option Area) (area : Area) → forked_at o ≡ Some area → o ≡ Some area
+forked-area None area e = cc
+forked-area (Some a) area e = by a.flags.dont_fork e
+  where
+    by : (b : Bool) → cond b None (Some a) ≡ Some area → Some a ≡ Some area
+    by true e = cc
+    by false e = e
+
+apart_with : (a : Area) (areas : List Area) → first_of a < past_of a → AllByRecursion (λ b. past_of a ≤ first_of b) areas
+    → AreApart (map range_of areas) → AreApart (map range_of (a ∷ areas))
+apart_with a [] some behind rest = some
+apart_with a (b ∷ areas) some behind rest = (some, behind.0, rest)
+
+behind_fork : (a : Area) (areas : List Area) → AllByRecursion (λ b. past_of a ≤ first_of b) areas
+    → AllByRecursion (λ b. past_of a ≤ first_of b) (areas_to_fork areas)
+behind_fork a [] h = tt
+behind_fork a (b ∷ areas) h = by (not b.flags.dont_fork) (behind_fork a areas h.1)
+  where
+    by : (c : Bool) → AllByRecursion (λ b. past_of a ≤ first_of b) (areas_to_fork areas)
+        → AllByRecursion (λ b. past_of a ≤ first_of b) (cond c (b ∷ areas_to_fork areas) (areas_to_fork areas))
+    by true rest = (h.0, rest)
+    by false rest = rest
+
+-- they are apart, too
+pub fork-apart : (areas : List Area) → AreApart (map range_of areas) → AreApart (map range_of (areas_to_fork areas))
+fork-apart [] h = tt
+fork-apart (a ∷ areas) h = by (not a.flags.dont_fork) (fork-apart areas (rest_apart (range_of a) (map range_of areas) h))
+  where
+    by : (b : Bool) → AreApart (map range_of (areas_to_fork areas))
+        → AreApart (map range_of (cond b (a ∷ areas_to_fork areas) (areas_to_fork areas)))
+    by true rest = apart_with a (areas_to_fork areas) (some_pages (range_of a) (map range_of areas) h) (behind_fork a areas (behind a areas h)) rest
+    by false rest = rest
+
+pub pages-fork : (areas : List Area) (page : ℕ) → AreApart (map range_of areas)
+    → pages_in (Some (areas_to_fork areas)) page ≡ forked_at (pages_in (Some areas) page)
+pages-fork [] page h = refl
+pages-fork (a ∷ areas) page h =
+    by a.flags.dont_fork (has_page a page) refl refl (pages-fork areas page (rest_apart (range_of a) (map range_of areas) h))
+  where
+    by : (d b : Bool) → a.flags.dont_fork ≡ d → has_page a page ≡ b
+        → pages_in (Some (areas_to_fork areas)) page ≡ forked_at (pages_in (Some areas) page)
+        → pages_in (Some (cond (not d) (a ∷ areas_to_fork areas) (areas_to_fork areas))) page ≡ forked_at (cond b (Some a) (pages_in (Some areas) page))
+    by false true e is rest = ap (λ b. cond b (Some a) (pages_in (Some (areas_to_fork areas)) page)) is ∙ sym (ap (λ d. cond d None (Some a)) e)
+    by false false e is rest = ap (λ b. cond b (Some a) (pages_in (Some (areas_to_fork areas)) page)) is ∙ rest
+    by true true e is rest = rest ∙ ap forked_at (not_later a areas page h is) ∙ sym (ap (λ d. cond d None (Some a)) e)
+    by true false e is rest = rest
+
 -- ---- the whole
 
--- the child has on each page the parent's area, as its own; of one area it has one on all pages. All others keep theirs
+-- the child has on each page the parent's area that goes over, as its own; of one area it has one on all pages. All others keep theirs
 pub record ChildHas (p q : ℕ) (r next : Rmap) : Type 0 where
   pub homes : next.homes ≡ r.homes
   pub others : (k page : ℕ) → (k == q) ≡ false → next.areas k page ≡ r.areas k page
-  pub none : (page : ℕ) → r.areas p page ≡ None → next.areas q page ≡ None
+  pub none : (page : ℕ) → forked_at (r.areas p page) ≡ None → next.areas q page ≡ None
   pub own : ℕ → Option ℕ
-  pub here : (page : ℕ) (area : Area) → r.areas p page ≡ Some area → next.areas q page ≡ Some (in_child q area (own page))
-  pub one : (page other : ℕ) (area : Area) → r.areas p page ≡ Some area → has_page area other ≡ true → next.areas q page ≡ next.areas q other
+  pub here : (page : ℕ) (area : Area) → forked_at (r.areas p page) ≡ Some area → next.areas q page ≡ Some (in_child q area (own page))
+  pub one : (page other : ℕ) (area : Area) → forked_at (r.areas p page) ≡ Some area → has_page area other ≡ true
+      → next.areas q page ≡ next.areas q other
 
 -- before, the child has none
 abbrev pub before : ℕ → Rmap → Rmap
@@ -174,12 +232,15 @@ before-others q r p page other = ap (λ b. (cond b none_on (r.areas p)) page) ot
 
 pub child-has : (p q : ℕ) (r next : Rmap) → AreForked p q r next → ChildHas p q r next
 child-has p q r next (areas, rise, on, goes) =
-    let all = areas-leave q areas (before q r) next rise goes in
+    let all = areas-leave q (areas_to_fork areas) (before q r) next (fork-apart areas rise) goes in
     record {
       homes = all.homes;
       others = λ k page other. all.left k page (inl other) ∙ before-others q r k page other;
-      none = λ page is. all.left q page (inr (on page ∙ is)) ∙ ap (λ b. (cond b none_on (r.areas q)) page) (itself q);
+      none = λ page is. all.left q page (inr (over page ∙ is)) ∙ ap (λ b. (cond b none_on (r.areas q)) page) (itself q);
       own = all.own;
-      here = λ page area is. all.here page area (on page ∙ is);
-      one = λ page other area is. all.one page other area (on page ∙ is);
+      here = λ page area is. all.here page area (over page ∙ is);
+      one = λ page other area is. all.one page other area (over page ∙ is);
     }
+  where
+    over : (page : ℕ) → pages_in (Some (areas_to_fork areas)) page ≡ forked_at (r.areas p page)
+    over page = pages-fork areas page rise ∙ ap forked_at (on page)

@@ -1,39 +1,42 @@
--- After an mremap the areas are still on the pages that are mapped, with their protection.
+-- After an mremap the areas are still on the pages that are mapped, with their protection and flags.
 use Rattle.std.proofs.Common.{◌≡◌, ◌⊎◌, inl, inr, ℕ, ◌+◌, ◌-◌, ◌^◌, ◌<◌, ◌≤◌, min, nat_lt, ◌==◌, Bool, true, false, cond, Option, Some, None, is_some, option_map, IsSomeAnd, refl, sym, ap, ◌∙◌, arith}
 use Rattle.std.proofs.lemmas.Bool.{cases_lt, false≢true, ltb-true, ltb-false}
 use Rattle.std.proofs.lemmas.Bool.Decides.{nat_tests}
 use Rattle.av_base.specs.Limits.{top_page}
 use Rattle.av_base.specs.Page.{page_of, pages_of}
 use Rattle.av_base.specs.Words.{within}
+use Rattle.av_base.specs.Flags.{unlocked}
+use Rattle.av_base.specs.declared.flags.Flags.{Flags}
 use Rattle.av_base.specs.declared.prot.Prot.{Prot}
 use Rattle.av_trace.specs.declared.mode.Mode.{Mode}
 use Rattle.av_vma.specs.declared.area.Area.{Area}
 use Rattle.av_vma.specs.IndexBound.{AreIndicesBelow}
 use Rattle.av_vma.specs.Index.{index_of}
 use Rattle.av_vma.specs.Mremap.{IsMove, after_grow, after_move, after_resize}
-use Rattle.av_vma.specs.Pages.{AreLaid, Lengths, Pages, after_map, after_unmap, split_at}
+use Rattle.av_vma.specs.Pages.{AreLaid, Lengths, Pages, after_unmap, split_at}
 use Rattle.av_vma.proofs.Laid.{has_parts}
 use Rattle.av_vma.proofs.Mremap.{in_range as range_bounds, is_in_range, out_of_range}
 use Rattle.av_vma.proofs.MremapHomes.{none_after_move}
-use Rattle.av_vma.proofs.Prots.{area_prot, prots, prots_filled, prots_grown, prots_mapped, prots_moved, prots_not_grown, prots_outside, prots_unmapped}
-use Rattle.av_plain.specs.Mremap.{MovesTo, after_mremap, with_old_range, prot_at, prot_left, process_after_mremap}
-use Rattle.av_plain.specs.World.{Page, Process, World, is_mapped, pages, zeros}
+use Rattle.av_vma.proofs.Marks.{area_marks, marks, marks_filled, marks_grown, marks_moved, marks_not_grown, marks_outside, marks_unmapped}
+use Rattle.av_vma.proofs.Left.{left_marks, marks_left}
+use Rattle.av_plain.specs.Mremap.{MovesTo, after_mremap, leaves_old, left_behind, with_old_range, marks_at, process_after_mremap}
+use Rattle.av_plain.specs.World.{Page, Process, World, is_mapped, pages, wiped}
 use Rattle.av_plain.proofs.Mremap.Areas.{IsRemap, laid_remapped, laid_then, room}
 use Rattle.av_plain.proofs.Mremap.Legal.{highest, may-become, some, stays_bare, uniform-where}
 use Rattle.av_plain.proofs.Refusal.{MayRemap}
 
 -- ---- the pages after it, by their kinds
 
-module _ (q : Process) (from n to m : ℕ) (left : Option Prot) (page : ℕ) where
+module _ (q : Process) (from n to m : ℕ) (stays : Bool) (page : ℕ) where
   abbrev now : Option Page
-  now = process_after_mremap from n to m left q page
+  now = process_after_mremap from n to m stays q page
 
   -- past what came there are zeros
   abbrev grown : Option Page
-  grown = option_map zeros (prot_at q from)
+  grown = option_map wiped (q (from + n - 1))
 
   abbrev outside : Option Page
-  outside = cond (within from n page) (option_map zeros left) (q page)
+  outside = cond (within from n page) (left_behind stays (q page)) (q page)
 
   pub from_old : within to m page ≡ true → nat_lt (page - to) n ≡ true → now ≡ q (from + (page - to))
   from_old i j = ap (λ b. cond b (cond (nat_lt (page - to) n) (q (from + (page - to))) grown) outside) i
@@ -43,28 +46,36 @@ module _ (q : Process) (from n to m : ℕ) (left : Option Prot) (page : ℕ) whe
   from_zeros i j = ap (λ b. cond b (cond (nat_lt (page - to) n) (q (from + (page - to))) grown) outside) i
       ∙ ap (λ b. cond b (q (from + (page - to))) grown) j
 
-  pub from_left : within to m page ≡ false → within from n page ≡ true → now ≡ option_map zeros left
+  pub from_left : within to m page ≡ false → within from n page ≡ true → now ≡ left_behind stays (q page)
   from_left i j = ap (λ b. cond b (cond (nat_lt (page - to) n) (q (from + (page - to))) grown) outside) i
-      ∙ ap (λ b. cond b (option_map zeros left) (q page)) j
+      ∙ ap (λ b. cond b (left_behind stays (q page)) (q page)) j
 
   pub from_itself : within to m page ≡ false → within from n page ≡ false → now ≡ q page
   from_itself i j = ap (λ b. cond b (cond (nat_lt (page - to) n) (q (from + (page - to))) grown) outside) i
-      ∙ ap (λ b. cond b (option_map zeros left) (q page)) j
+      ∙ ap (λ b. cond b (left_behind stays (q page)) (q page)) j
 
--- the protection of a page
-abbrev prot_in : Option Page → Option Prot
-prot_in o = option_map (λ (x : Page). x.prot) o
+-- the protection and flags of a page
+abbrev marks_in : Option Page → Option (Prot × Flags)
+marks_in o = option_map (λ (x : Page). (x.prot, x.flags)) o
 
-zeros_prot : (o : Option Prot) → prot_in (option_map zeros o) ≡ o
-zeros_prot None = refl
-zeros_prot (Some prot) = refl
+wiped_marks : (o : Option Page) → marks_in (option_map wiped o) ≡ marks_in o
+wiped_marks None = refl
+wiped_marks (Some x) = refl
+
+-- what stays behind has the marks that the area's page has
+behind_marks : (o : Option Area) (x : Option Page) → option_map area_marks o ≡ marks_in x
+    → option_map left_marks o ≡ marks_in (left_behind true x)
+behind_marks None None e = refl
+behind_marks None (Some x) e = cc
+behind_marks (Some area) None e = cc
+behind_marks (Some area) (Some x) e = ap (option_map (λ (m : Prot × Flags). (m.0, unlocked m.1))) e
 
 -- ---- linear indices
 
 -- what grows stays below 2^60, where all linear indices are below a number that leaves room for the pages that a process may have
 pub small-enough : (w : World) (p a old new : ℕ) (mode : Mode) (to most : ℕ) (may : MayRemap w p a old new mode)
     (goes : MovesTo (pages w p) (page_of a) (pages_of old) (pages_of new) mode (Some to)) (on : Pages) → AreLaid on
-    → ((page : ℕ) → prots on page ≡ prot_at (pages w p) page) → AreIndicesBelow most on → most + top_page ≤ 2 ^ 60
+    → ((page : ℕ) → marks on page ≡ marks_at (pages w p) page) → AreIndicesBelow most on → most + top_page ≤ 2 ^ 60
     → ((to == page_of a) ≡ false) ⊎ (pages_of old < pages_of new)
     → IsSomeAnd (on (page_of a + min (pages_of old) (pages_of new) - 1))
     (λ area. index_of area (page_of a + min (pages_of old) (pages_of new) - 1) + (pages_of new - min (pages_of old) (pages_of new)) < 2 ^ 60)
@@ -72,13 +83,19 @@ small-enough w p a old new mode to most may goes on laid same low fits which =
     let u = uniform-where w p a old new mode to may goes which in
     let s = some w p a old new mode to may goes in
     let last = page_of a + min (pages_of old) (pages_of new) - 1 in
-    by (on last) refl (same last ∙ u.each last (omega (arith, s)) (omega (arith, s)))
+    by (on last) refl (mapped (on last) (pages w p last) (same last) (u.each last (omega (arith, s)) (omega (arith, s))))
   where
     high : to + pages_of new ≤ top_page
     high = highest w p a old new mode to may goes which
 
+    mapped : (o : Option Area) (x : Option Page) → option_map area_marks o ≡ marks_in x
+        → option_map (λ (x : Page). x.prot) x ≡ Some (uniform-where w p a old new mode to may goes which).prot → is_some o ≡ true
+    mapped None None e h = cc
+    mapped None (Some x) e h = cc
+    mapped (Some area) x e h = refl
+
     by : (o : Option Area) → on (page_of a + min (pages_of old) (pages_of new) - 1) ≡ o
-        → option_map area_prot o ≡ Some (uniform-where w p a old new mode to may goes which).prot
+        → is_some o ≡ true
         → IsSomeAnd o (λ area. index_of area (page_of a + min (pages_of old) (pages_of new) - 1) +
         (pages_of new - min (pages_of old) (pages_of new)) < 2 ^ 60)
     by None e h = cc
@@ -93,7 +110,7 @@ small-enough w p a old new mode to most may goes on laid same low fits which =
 
 module _ (w : World) (p a old new : ℕ) (mode : Mode) (to : ℕ) (may : MayRemap w p a old new mode)
     (goes : MovesTo (pages w p) (page_of a) (pages_of old) (pages_of new) mode (Some to))
-    (on : Pages) (laid : AreLaid on) (same : (page : ℕ) → prots on page ≡ prot_at (pages w p) page)
+    (on : Pages) (laid : AreLaid on) (same : (page : ℕ) → marks on page ≡ marks_at (pages w p) page)
     (small : ((to == page_of a) ≡ false) ⊎ (pages_of old < pages_of new)
     → IsSomeAnd (on (page_of a + min (pages_of old) (pages_of new) - 1))
     (λ area. index_of area (page_of a + min (pages_of old) (pages_of new) - 1) + (pages_of new - min (pages_of old) (pages_of new)) < 2 ^ 60))
@@ -110,13 +127,13 @@ module _ (w : World) (p a old new : ℕ) (mode : Mode) (to : ℕ) (may : MayRema
   abbrev m : ℕ
   m = pages_of new
 
-  abbrev left : Option Prot
-  left = prot_left mode q from
+  abbrev stays : Bool
+  stays = leaves_old mode
 
   mapped_alike : (page : ℕ) → is_some (on page) ≡ is_mapped q page
   mapped_alike page = by (on page) (q page) (same page)
     where
-      by : (o : Option Area) (x : Option Page) → option_map area_prot o ≡ option_map (λ (x : Page). x.prot) x → is_some o ≡ is_some x
+      by : (o : Option Area) (x : Option Page) → option_map area_marks o ≡ marks_in x → is_some o ≡ is_some x
       by None None e = refl
       by None (Some x) e = cc
       by (Some area) None e = cc
@@ -124,13 +141,6 @@ module _ (w : World) (p a old new : ℕ) (mode : Mode) (to : ℕ) (may : MayRema
 
   pub becomes : IsRemap from n to m on
   becomes = may-become w p a old new mode to may goes on mapped_alike small
-
-  -- the last page of the old range has the protection of its first
-  last_alike : ((to == from) ≡ false) ⊎ (n < m) → prots on (from + n - 1) ≡ prot_at q from
-  last_alike which =
-      let u = uniform-where w p a old new mode to may goes which in
-      let s = some w p a old new mode to may goes in
-      same (from + n - 1) ∙ u.each (from + n - 1) (omega (arith, s)) (omega (arith, s)) ∙ sym u.first
 
   -- ---- in place
 
@@ -142,44 +152,44 @@ module _ (w : World) (p a old new : ℕ) (mode : Mode) (to : ℕ) (may : MayRema
     resized = after_resize long from n m on
 
     -- a page of neither change keeps its protection
-    still : (page : ℕ) → (from + m ≤ page → page < from + n → ⊥) → (from + n ≤ page → page < from + m → ⊥) → prots resized page ≡ prots on page
+    still : (page : ℕ) → (from + m ≤ page → page < from + n → ⊥) → (from + n ≤ page → page < from + m → ⊥) → marks resized page ≡ marks on page
     still page shorter longer = by (nat_lt m n) (nat_lt n m) refl
       where
         by : (b c : Bool) → nat_lt n m ≡ c
-            → prots (cond b (after_unmap (from + m) (from + n) on) (cond c (after_grow long (from + m) (on (from + n - 1)) on) on))
-            page ≡ prots on page
-        by true c h = prots_unmapped (from + m) (from + n) on page (out_of_range (from + m) (from + n - (from + m)) page
+            → marks (cond b (after_unmap (from + m) (from + n) on) (cond c (after_grow long (from + m) (on (from + n - 1)) on) on))
+            page ≡ marks on page
+        by true c h = marks_unmapped (from + m) (from + n) on page (out_of_range (from + m) (from + n - (from + m)) page
             (λ low high. shorter low (omega (arith, low, high))))
-        by false true h = prots_not_grown long (from + n - 1) (from + m) on laid (becomes.grows here (ltb-true n m h)) page
+        by false true h = marks_not_grown long (from + n - 1) (from + m) on laid (becomes.grows here (ltb-true n m h)) page
             (λ low high. longer (let s = some w p a old new mode to may goes in omega (arith, low, s)) high)
         by false false h = refl
 
-    longer : (page : ℕ) → from + n ≤ page → page < from + m → prots resized page ≡ prot_at q from
+    longer : (page : ℕ) → from + n ≤ page → page < from + m → marks resized page ≡ marks_at q (from + n - 1)
     longer page low high = by (nat_lt m n) (nat_lt n m) refl refl
       where
         more : n < m
         more = omega (arith, low, high)
 
         by : (b c : Bool) → nat_lt m n ≡ b → nat_lt n m ≡ c
-            → prots (cond b (after_unmap (from + m) (from + n) on) (cond c (after_grow long (from + m) (on (from + n - 1)) on) on))
-            page ≡ prot_at q from
+            → marks (cond b (after_unmap (from + m) (from + n) on) (cond c (after_grow long (from + m) (on (from + n - 1)) on) on))
+            page ≡ marks_at q (from + n - 1)
         by true c e h = absurd (let less = ltb-true m n e in let x = more in omega (arith, less, x))
-        by false true e h = prots_grown long (from + n - 1) (from + m) on laid (becomes.grows here (ltb-true n m h)) page
-            (let s = some w p a old new mode to may goes in omega (arith, s, low)) high ∙ last_alike (inr more)
+        by false true e h = marks_grown long (from + n - 1) (from + m) on laid (becomes.grows here (ltb-true n m h)) page
+            (let s = some w p a old new mode to may goes in omega (arith, s, low)) high ∙ same (from + n - 1)
         by false false e h = absurd (let less = ltb-false n m h in let x = more in omega (arith, less, x))
 
-    shorter : (page : ℕ) → from + m ≤ page → page < from + n → prots resized page ≡ None
+    shorter : (page : ℕ) → from + m ≤ page → page < from + n → marks resized page ≡ None
     shorter page low high = by (nat_lt m n) refl
       where
         by : (b : Bool) → nat_lt m n ≡ b
-            → prots (cond b (after_unmap (from + m) (from + n) on)
+            → marks (cond b (after_unmap (from + m) (from + n) on)
             (cond (nat_lt n m) (after_grow long (from + m) (on (from + n - 1)) on) on)) page ≡ None
-        by true e = ap (λ c. option_map area_prot (cond c None (split_at (from + n) (split_at (from + m) on) page)))
+        by true e = ap (λ c. option_map area_marks (cond c None (split_at (from + n) (split_at (from + m) on) page)))
             (is_in_range (from + m) (from + n - (from + m)) page low (omega (arith, low, high)))
         by false e = absurd (let more = ltb-false m n e in omega (arith, more, low, high))
 
-    prots_here : (page : ℕ) → prots resized page ≡ prot_at (process_after_mremap from n to m left q) page
-    prots_here page = by (within to m page) (within from n page) (nat_lt (page - to) n) refl refl refl
+    marks_here : (page : ℕ) → marks resized page ≡ marks_at (process_after_mremap from n to m stays q) page
+    marks_here page = by (within to m page) (within from n page) (nat_lt (page - to) n) refl refl refl
       where
         in_new : within to m page ≡ true → (from ≤ page) × (page < from + m)
         in_new i = let k = range_bounds to m page i in let e = same_page in (omega (arith, k, e), omega (arith, k, e))
@@ -188,21 +198,22 @@ module _ (w : World) (p a old new : ℕ) (mode : Mode) (to : ℕ) (may : MayRema
         back low = let e = same_page in omega (arith, low, e)
 
         by : (i j k : Bool) → within to m page ≡ i → within from n page ≡ j → nat_lt (page - to) n ≡ k
-            → prots resized page ≡ prot_at (process_after_mremap from n to m left q) page
+            → marks resized page ≡ marks_at (process_after_mremap from n to m stays q) page
         by true j true i f k =
             let b = in_new i in
             let less = ltb-true (page - to) n k in
             still page (λ low high. omega (arith, b, low)) (λ low high. let e = same_page in omega (arith, less, low, e)) ∙ same page
-            ∙ ap (prot_at q) (sym (back b.0)) ∙ sym (ap prot_in (from_old q from n to m left page i k))
+            ∙ ap (marks_at q) (sym (back b.0)) ∙ sym (ap marks_in (from_old q from n to m stays page i k))
         by true j false i f k =
             let b = in_new i in
             let more = ltb-false (page - to) n k in
             longer page (let e = same_page in omega (arith, more, e, b)) b.1
-            ∙ sym (ap prot_in (from_zeros q from n to m left page i k) ∙ zeros_prot (prot_at q from))
+            ∙ sym (ap marks_in (from_zeros q from n to m stays page i k) ∙ wiped_marks (q (from + n - 1)))
         by false true k i f g =
             let b = range_bounds from n page f in
             shorter page (not_new i b.0) b.1
-            ∙ sym (ap prot_in (from_left q from n to m left page i f) ∙ zeros_prot left ∙ stays_bare w p a old new mode to may goes here)
+            ∙ sym (ap marks_in (from_left q from n to m stays page i f)
+            ∙ ap (λ b. marks_in (left_behind b (q page))) (stays_bare w p a old new mode to may goes here))
           where
             not_new : within to m page ≡ false → from ≤ page → from + m ≤ page
             not_new i low = elim (cases_lt page (from + m)) [
@@ -212,7 +223,7 @@ module _ (w : World) (p a old new : ℕ) (mode : Mode) (to : ℕ) (may : MayRema
         by false false k i f g = still page
             (λ low high. absurd (false≢true (sym f ∙ is_in_range from n page (omega (arith, low)) high)))
             (λ low high. absurd (let e = same_page in false≢true (sym i ∙ is_in_range to m page (omega (arith, low, e)) (omega (arith, high, e)))))
-            ∙ same page ∙ sym (ap prot_in (from_itself q from n to m left page i f))
+            ∙ same page ∙ sym (ap marks_in (from_itself q from n to m stays page i f))
 
   -- ---- elsewhere
 
@@ -223,30 +234,26 @@ module _ (w : World) (p a old new : ℕ) (mode : Mode) (to : ℕ) (may : MayRema
     abbrev then : Pages
     then = after_move long from n to m on
 
-    -- what is mapped again has the protection, and no other page changes
-    again : (o : Option Prot) (page : ℕ) → (within from n page ≡ true → prots (with_old_range long p from (from + n) o then) page ≡ o)
-        × (within from n page ≡ false → prots (with_old_range long p from (from + n) o then) page ≡ prots then page)
-    again None page = (
-      λ i. let b = range_bounds from n page i in ap (option_map area_prot) (none_after_move long from n to m on laid move page b.0 b.1),
+    -- what is mapped again has the marks that it had, and no other page changes
+    again : (b : Bool) (page : ℕ) → (within from n page ≡ true → marks (with_old_range long p on from n b then) page ≡ marks_in (left_behind b (q page)))
+        × (within from n page ≡ false → marks (with_old_range long p on from n b then) page ≡ marks then page)
+    again false page = (
+      λ i. let b = range_bounds from n page i in ap (option_map area_marks) (none_after_move long from n to m on laid move page b.0 b.1),
       λ i. refl,
     )
-    again (Some prot) page = (
-      λ i. mapped ∙ ap (λ b. cond b (Some prot) (prots then page)) (ap (λ k. within from k page) width ∙ i),
-      λ i. mapped ∙ ap (λ b. cond b (Some prot) (prots then page)) (ap (λ k. within from k page) width ∙ i),
+    again true page = (
+      λ i. mapped ∙ ap (λ b. cond b (option_map left_marks (on page)) (marks then page)) i ∙ behind_marks (on page) (q page) (same page),
+      λ i. mapped ∙ ap (λ b. cond b (option_map left_marks (on page)) (marks then page)) i,
     )
       where
-        width : from + n - from ≡ n
-        width = omega arith
+        mapped : marks (with_old_range long p on from n true then) page ≡ cond (within from n page) (option_map left_marks (on page)) (marks then page)
+        mapped = marks_left long p on from n then (laid_then long p from n to m on laid move) (room long p from n to m on laid move) page
 
-        mapped : prots (after_map long p from (from + n) prot then) page ≡ cond (within from (from + n - from) page) (Some prot) (prots then page)
-        mapped = prots_mapped long p from (from + n) prot then (laid_then long p from n to m on laid move)
-            (let s = some w p a old new mode to may goes in omega (arith, s)) (room long p from n to m on laid move) page
-
-    prots_there : (page : ℕ) → prots (with_old_range long p from (from + n) left then) page ≡ prot_at (process_after_mremap from n to m left q) page
-    prots_there page = by (within to m page) (within from n page) (nat_lt (page - to) n) refl refl refl
+    marks_there : (page : ℕ) → marks (with_old_range long p on from n stays then) page ≡ marks_at (process_after_mremap from n to m stays q) page
+    marks_there page = by (within to m page) (within from n page) (nat_lt (page - to) n) refl refl refl
       where
-        keeps : within from n page ≡ false → prots (with_old_range long p from (from + n) left then) page ≡ prots then page
-        keeps i = (again left page).1 i
+        keeps : within from n page ≡ false → marks (with_old_range long p on from n stays then) page ≡ marks then page
+        keeps i = (again stays page).1 i
 
         apart : within to m page ≡ true → within from n page ≡ false
         apart i =
@@ -254,33 +261,33 @@ module _ (w : World) (p a old new : ℕ) (mode : Mode) (to : ℕ) (may : MayRema
             out_of_range from n page (λ low high. elim move.apart [ inl e ↦ omega (arith, e, b, low) | inr e ↦ omega (arith, e, b, high) ])
 
         by : (i j k : Bool) → within to m page ≡ i → within from n page ≡ j → nat_lt (page - to) n ≡ k
-            → prots (with_old_range long p from (from + n) left then) page ≡ prot_at (process_after_mremap from n to m left q) page
+            → marks (with_old_range long p on from n stays then) page ≡ marks_at (process_after_mremap from n to m stays q) page
         by true j true i f k =
             let b = range_bounds to m page i in
             let less = ltb-true (page - to) n k in
-            keeps (apart i) ∙ prots_moved long from n to m on laid move page b.0 (omega (arith, b, less)) ∙ same (from + (page - to))
-            ∙ sym (ap prot_in (from_old q from n to m left page i k))
+            keeps (apart i) ∙ marks_moved long from n to m on laid move page b.0 (omega (arith, b, less)) ∙ same (from + (page - to))
+            ∙ sym (ap marks_in (from_old q from n to m stays page i k))
         by true j false i f k =
             let b = range_bounds to m page i in
             let more = ltb-false (page - to) n k in
             let least : min n m ≡ n = omega (arith, b, more) in
-            keeps (apart i) ∙ prots_filled long from n to m on laid move page (omega (arith, b, more)) b.1
-            ∙ ap (λ k. prots on (from + k - 1)) least ∙ last_alike (inl there)
-            ∙ sym (ap prot_in (from_zeros q from n to m left page i k) ∙ zeros_prot (prot_at q from))
-        by false true k i f g = (again left page).0 f ∙ sym (ap prot_in (from_left q from n to m left page i f) ∙ zeros_prot left)
-        by false false k i f g = keeps f ∙ prots_outside long from n to m on laid move page i f ∙ same page
-            ∙ sym (ap prot_in (from_itself q from n to m left page i f))
+            keeps (apart i) ∙ marks_filled long from n to m on laid move page (omega (arith, b, more)) b.1
+            ∙ ap (λ k. marks on (from + k - 1)) least ∙ same (from + n - 1)
+            ∙ sym (ap marks_in (from_zeros q from n to m stays page i k) ∙ wiped_marks (q (from + n - 1)))
+        by false true k i f g = (again stays page).0 f ∙ sym (ap marks_in (from_left q from n to m stays page i f))
+        by false false k i f g = keeps f ∙ marks_outside long from n to m on laid move page i f ∙ same page
+            ∙ sym (ap marks_in (from_itself q from n to m stays page i f))
 
   -- ---- the whole
 
-  pub laid_becomes : AreLaid (after_mremap long p from n to m left on)
-  laid_becomes = laid_remapped long p from n to m left on laid becomes
+  pub laid_becomes : AreLaid (after_mremap long p from n to m stays on)
+  laid_becomes = laid_remapped long p from n to m stays on laid becomes
 
-  pub prots_become : (page : ℕ) → prots (after_mremap long p from n to m left on) page ≡ prot_at (process_after_mremap from n to m left q) page
-  prots_become page = by (to == from) refl
+  pub marks_become : (page : ℕ) → marks (after_mremap long p from n to m stays on) page ≡ marks_at (process_after_mremap from n to m stays q) page
+  marks_become page = by (to == from) refl
     where
       by : (b : Bool) → (to == from) ≡ b
-          → prots (cond b (after_resize long from n m on) (with_old_range long p from (from + n) left (after_move long from n to m on))) page
-          ≡ prot_at (process_after_mremap from n to m left q) page
-      by true here = prots_here here page
-      by false there = prots_there there page
+          → marks (cond b (after_resize long from n m on) (with_old_range long p on from n stays (after_move long from n to m on))) page
+          ≡ marks_at (process_after_mremap from n to m stays q) page
+      by true here = marks_here here page
+      by false there = marks_there there page

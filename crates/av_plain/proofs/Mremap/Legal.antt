@@ -15,7 +15,7 @@ use Rattle.av_vma.specs.Index.{index_of}
 use Rattle.av_vma.specs.Mremap.{IsGrowth, IsMove}
 use Rattle.av_vma.specs.Pages.{Pages}
 use Rattle.av_vma.proofs.Join.{prot_is}
-use Rattle.av_plain.specs.Mremap.{MovesTo, has_prot, have_one_prot, have_prot, is_in_place, leaves_old, may_stay, prot_at, prot_left, target_of}
+use Rattle.av_plain.specs.Mremap.{MovesTo, has_prot, have_one_prot, have_prot, is_in_place, leaves_old, may_stay, prot_at, target_of}
 use Rattle.av_plain.specs.Refusal.{is_below_low, is_no_target, low, overflows, top}
 use Rattle.av_plain.specs.World.{Page, Process, World, is_mapped, meets, pages}
 use Rattle.av_plain.proofs.Mremap.Areas.{IsRemap}
@@ -213,31 +213,15 @@ module _ (w : World) (p a old new : ℕ) (mode : Mode) (to : ℕ) (may : MayRema
       by (GoesTo b named place is) which = subst (λ x. x + m ≤ top_page) (sym is) (target b named).highest
       by (GoesToGap place room) which = room.highest
 
-  -- what stays of the old range has its protection on all of its pages
-  pub left_each : (prot : Prot) → prot_left mode q from ≡ Some prot → (page : ℕ) → from ≤ page → page < from + n → prot_at q page ≡ Some prot
-  left_each prot is page low high = by case is
-    where
-      of_uniform : (bare : Bool) → IsUniform q from n → cond bare (prot_at q from) None ≡ Some prot → prot_at q page ≡ Some prot
-      of_uniform true u e = u.each page low high ∙ sym u.first ∙ e
-      of_uniform false u e = cc
-
-      by : HowGoes q from n m mode to → prot_left mode q from ≡ Some prot → prot_at q page ≡ Some prot
-      by (Stays bare place may_be _) e = absurd (none_some (sym (ap (λ b. cond b (prot_at q from) None) bare) ∙ e))
-        where
-          none_some : ◌≡◌ {A = Option Prot} None (Some prot) → ⊥
-          none_some e = cc
-      by (GoesTo b named place _) e = of_uniform (leaves_old mode) (one_prot place) e
-      by (GoesToGap place room) e = of_uniform (leaves_old mode) (one_prot place) e
-
   -- in place only a mode that leaves nothing behind
-  pub stays_bare : (to == from) ≡ true → prot_left mode q from ≡ None
+  pub stays_bare : (to == from) ≡ true → leaves_old mode ≡ false
   stays_bare here = by case
     where
       same : to ≡ from
       same = grind (arith, nat_tests, here)
 
-      by : HowGoes q from n m mode to → prot_left mode q from ≡ None
-      by (Stays bare place may_be is) = ap (λ b. cond b (prot_at q from) None) bare
+      by : HowGoes q from n m mode to → leaves_old mode ≡ false
+      by (Stays bare place may_be is) = bare
       by (GoesTo b named place is) = absurd (let t = target b named in let s = some in let e : page_of b ≡ from = sym is ∙ same in
           elim t.apart [ inl x ↦ omega (arith, x, e, s) | inr x ↦ omega (arith, x, e, s) ])
       by (GoesToGap place room) = absurd (false≢true (sym (room.free from (omega (arith, same)) (let s = some in omega (arith, same, s))) ∙ first))
@@ -314,3 +298,10 @@ module _ (w : World) (p a old new : ℕ) (mode : Mode) (to : ℕ) (may : MayRema
       by (Stays bare place may_be is) (inr more) = place ∙ grind (arith, nat_tests, more)
       by (GoesTo b named place is) which = place
       by (GoesToGap place room) which = place
+
+  -- where the range grows, its last page is mapped
+  pub last_mapped : n < m → is_mapped q (from + n - 1) ≡ true
+  last_mapped more =
+      let u = uniform-where (inr more) in
+      let s = some in
+      mapped_with q (from + n - 1) u.prot (u.each (from + n - 1) (omega (arith, s)) (omega (arith, s)))

@@ -17,19 +17,24 @@ use Rattle.av_plain.proofs.Ledger.{how_many-found}
 use Rattle.av_plain.proofs.Ledger.NoSwap.{key_at-address, zero_is}
 use Rattle.av_plain.proofs.Sound.Changes.{after_use-kept, any-counts, drop-sound, free-is, loaded-kept}
 use Rattle.av_plain.proofs.Sound.Counts.{frame_at-none, frame_at-some, same-itself, slot-itself, slot_of-some}
-use Rattle.av_plain.proofs.Sound.Entries.{ByFrame, BySlot, IsSharedBy, copied-kept, mapped-kept, new-kept, zeroed-kept}
+use Rattle.av_plain.proofs.Sound.Entries.{mapped-kept, new-kept, zeroed-kept}
 use Rattle.av_plain.proofs.Sound.Pass.{seeks-kept}
 use Rattle.av_plain.proofs.Sound.Steps.{Keeps, is_steady}
+use Rattle.av_plain.specs.Fault.{is_locked}
+use Rattle.av_plain.specs.Pass.{is_spared}
+use Rattle.av_plain.specs.Ledger.{is_merged}
+use Rattle.av_plain.specs.Event.{change_frame}
+use Rattle.av_plain.proofs.Sound.Sharing.{ByFrame, ByMerge, BySlot, IsSharedBy, copied-kept, free-apart}
 
 pub unused : (l : Ledger) (f : ℕ) → is_free l f ≡ true → uses l f ≡ 0
 unused l f h = zero_is (uses l f) (sym (free-is l f) ∙ h)
 
 -- a pass for a copy leaves the frame alone that is copied
 abbrev pub Pins : Sparing → Type 0
-Pins sp = (l : Ledger) (g : ℕ) → (sp l (Some g)).frame g ≡ true
+Pins sp = (l : Ledger) (g : ℕ) → is_spared (sp l (Some g)) g ≡ true
 
 pub sparing-pins : (w : World) → Pins (sparing w)
-sparing-pins w l g = same-itself g
+sparing-pins w l g = ap (λ b. b || is_locked w l g) (same-itself g)
 
 -- ---- a page comes in
 
@@ -49,7 +54,7 @@ load-kept m sp l t notes s out named takes =
       sound = loaded-kept m no_excuse l1 t takes.frame passed.sound (passed.keeps.absent t (frame_at-none t l.cache out) named)
           (let a = passed.keeps.more t in
           omega (arith, a, named)) takes.in_range (unused l1 takes.frame takes.free);
-      steady = λ k r h. passed.keeps.steady k (ap (is_steady (sp l None).frame) h) ∙ h;
+      steady = λ k r h. passed.keeps.steady k (ap (is_steady (is_spared (sp l None))) h) ∙ h;
     }))
 
 map-kept : (m : Setting) (l : Ledger) (k : Key) (f : ℕ) (t : Slot) → IsSound m l → entry l k ≡ Some (InSlot t) → frame_at l t ≡ Some f →
@@ -92,10 +97,20 @@ comes-kept m sp l write k notes s h = by write (entry l k) refl h
 pub shared-is : (l : Ledger) (g : ℕ) → is_shared l g ≡ true → IsSharedBy l g
 shared-is l g h = by (nat_lt 1 (map_count l g)) refl (slot_of l g) refl h
   where
-    by : (b : Bool) → nat_lt 1 (map_count l g) ≡ b → (o : Option Slot) → slot_of l g ≡ o → (b || is_named l o) ≡ true → IsSharedBy l g
+    by : (b : Bool) → nat_lt 1 (map_count l g) ≡ b → (o : Option Slot) → slot_of l g ≡ o → (b || is_named l o || is_merged l g) ≡ true → IsSharedBy l g
     by true is o at h = ByFrame (grind (arith, nat_tests, is))
-    by false is None at h = cc
-    by false is (Some t) at h = BySlot t (slot_of-some g t l.cache at) (grind (arith, nat_tests, h))
+    by false is None at h = ByMerge (some _ (sym (any-counts (λ y. g == y) l.merged) ∙ h))
+      where
+        some : (n : ℕ) → nat_lt 0 n ≡ true → 0 < n
+        some n e = grind (arith, nat_tests, e)
+    by false is (Some t) at h = named (nat_lt 0 (slot_entries l t)) refl h
+      where
+        some : (n : ℕ) → nat_lt 0 n ≡ true → 0 < n
+        some n e = grind (arith, nat_tests, e)
+
+        named : (c : Bool) → nat_lt 0 (slot_entries l t) ≡ c → (c || is_merged l g) ≡ true → IsSharedBy l g
+        named true i h = BySlot t (slot_of-some g t l.cache at) (some _ i)
+        named false i h = ByMerge (some _ (sym (any-counts (λ y. g == y) l.merged) ∙ h))
 
 -- what shares the frame does so after a pass that leaves the frame alone
 pub shared-stays : (spared : ℕ → Bool) (l l' : Ledger) (g : ℕ) → spared g ≡ true → Keeps spared l l' → 0 < map_count l g → IsSharedBy l g
@@ -103,6 +118,7 @@ pub shared-stays : (spared : ℕ → Bool) (l l' : Ledger) (g : ℕ) → spared 
 shared-stays spared l l' g alone keeps in_use (ByFrame two) = ByFrame (let e = keeps.mapped_same g alone in omega (arith, e, two))
 shared-stays spared l l' g alone keeps in_use (BySlot t pair named) =
     BySlot t (keeps.pairs_kept t g alone in_use pair) (let a = keeps.more t in omega (arith, a, named))
+shared-stays spared l l' g alone keeps in_use (ByMerge merged) = ByMerge (let e = keeps.merged_same g in omega (arith, e, merged))
 
 pub blank-steady : (spared : ℕ → Bool) (o : Option Entry) → IsBlank o → is_steady spared o ≡ true
 blank-steady spared None h = refl
@@ -121,7 +137,7 @@ made-kept m sp l write k notes pins s h = by write (entry l k) refl h
     fresh blank takes =
         let passed = seeks-kept m (sp l None) l takes.sought s takes.seeks in
         let l1 = after_notes l takes.sought in
-        let same = passed.keeps.steady k (blank-steady (sp l None).frame (entry l k) blank) in
+        let same = passed.keeps.steady k (blank-steady (is_spared (sp l None)) (entry l k) blank) in
         subst (λ ns. IsSound m (after_notes l ns)) (sym takes.whole)
         (subst (IsSound m) (sym (after_notes-append l takes.sought (New k.0 (address_of k.1) takes.frame ∷ [])))
         (subst (λ q. IsSound m (to_inactive_head takes.frame (set_entry q (InFrame takes.frame false) l1))) (sym (key_at-address k))
@@ -133,12 +149,14 @@ made-kept m sp l write k notes pins s h = by write (entry l k) refl h
         let passed = seeks-kept m (sp l (Some g)) l takes.sought s takes.seeks in
         let l1 = after_notes l takes.sought in
         let alone = pins l g in
-        let same = passed.keeps.steady k (ap (is_steady (sp l (Some g)).frame) at ∙ alone) ∙ at in
+        let same = passed.keeps.steady k (ap (is_steady (is_spared (sp l (Some g)))) at ∙ alone) ∙ at in
         let found = how_many-found (names_frame g) k l.entries (InFrame g seen) at (same-itself g) in
         subst (λ ns. IsSound m (after_notes l ns)) (sym takes.whole)
         (subst (IsSound m) (sym (after_notes-append l takes.sought (Copied k.0 (address_of k.1) takes.frame ∷ [])))
-        (subst (λ q. IsSound m (to_inactive_head takes.frame (set_entry q (InFrame takes.frame false) l1))) (sym (key_at-address k))
-        (copied-kept m no_excuse l1 k takes.frame g seen passed.sound same (shared-stays (sp l (Some g)).frame l l1 g alone passed.keeps found shared)
+        (subst (λ q. IsSound m (to_inactive_head takes.frame (change_frame q takes.frame l1))) (sym (key_at-address k))
+        (copied-kept m no_excuse l1 k takes.frame g seen passed.sound same
+        (free-apart l1 k takes.frame g seen same (unused l1 takes.frame takes.free))
+        (shared-stays (is_spared (sp l (Some g))) l l1 g alone passed.keeps found shared)
         takes.in_range (unused l1 takes.frame takes.free))))
 
     maybe : (g : ℕ) (seen : Bool) → entry l k ≡ Some (InFrame g seen) → (b : Bool) → is_shared l g ≡ b

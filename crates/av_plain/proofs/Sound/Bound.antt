@@ -3,17 +3,19 @@ use Rattle.std.proofs.Common.{◌≡◌, ℕ, zero, suc, ◌+◌, ◌<◌, ◌�
 use Rattle.std.proofs.lemmas.Bool.Decides.{nat_tests}
 use Rattle.std.specs.Ordering.{nat_cmp, eq_by_cmp}
 use Rattle.std.specs.FinMap.Entries.{find, is_sorted}
-use Rattle.av_base.specs.Limits.{most_processes}
+use Rattle.std.proofs.Common.{◌*◌}
+use Rattle.av_base.specs.Limits.{most_processes, top_page}
 use Rattle.av_base.specs.Words.{how_many}
 use Rattle.av_base.specs.declared.slot.Slot.{Slot}
 use Rattle.av_plain.specs.Ledger.{Entry, InFrame, InSlot, Key, Ledger, Setting, Zero, entry, key_cmp, map_count, names_frame, names_slot, same_slot, slot_entries}
 use Rattle.av_plain.specs.Sound.{AllSound, name_one, IsSoundBut, AtPages, no_excuse}
-use Rattle.av_plain.specs.World.{World, lives}
+use Rattle.av_plain.specs.World.{World, lives, pages}
 use Rattle.av_plain.proofs.Event.{how_many-none, how_many-or}
 use Rattle.av_plain.proofs.Ledger.{same_key, same_key-is}
 use Rattle.av_plain.proofs.Ledger.Order.{both_first, both_second, keys_total, find_below}
 use Rattle.av_plain.proofs.Sound.{no_entries}
 use Rattle.av_plain.proofs.Sound.Counts.{same-is, slot-is}
+use Rattle.av_plain.specs.Sound.{mergings}
 
 abbrev Entries : Type 0
 Entries = List (Key × Entry)
@@ -117,10 +119,19 @@ none-anywhere test (e ∷ es) h = sum (test e) (e.0.0 == e.0.0) _ _ (grind (arit
     sum true false n k is h z = cc
     sum false b n k is h z = omega (arith, z)
 
--- one entry a process, and each of a process that lives
-counted : (test : Key × Entry → Bool) (es : Entries) (w : World) → ((p : ℕ) → how_many (of p test) es ≤ 1) →
-    ((p : ℕ) → 0 < how_many (of p test) es → lives w p ≡ true) → how_many test es ≤ length w
-counted test es [] one alive = let z = none-anywhere test es (λ p. none (how_many (of p test) es) (λ h. never (alive p h))) in omega (arith, z)
+-- so many for each process
+abbrev times : ℕ → World → ℕ
+times n [] = 0
+times n (x ∷ w) = n + times n w
+
+times-one : (w : World) → times 1 w ≡ length w
+times-one [] = refl
+times-one (x ∷ w) = let rest = times-one w in omega (arith, rest)
+
+-- so many entries a process, and each of a process that lives
+counted : (n : ℕ) (test : Key × Entry → Bool) (es : Entries) (w : World) → ((p : ℕ) → how_many (of p test) es ≤ n) →
+    ((p : ℕ) → 0 < how_many (of p test) es → lives w p ≡ true) → how_many test es ≤ times n w
+counted most test es [] one alive = let z = none-anywhere test es (λ p. none (how_many (of p test) es) (λ h. never (alive p h))) in omega (arith, z)
   where
     never : ◌≡◌ {A = Bool} false true → ⊥
     never e = cc
@@ -128,10 +139,10 @@ counted test es [] one alive = let z = none-anywhere test es (λ p. none (how_ma
     none : (n : ℕ) → (0 < n → ⊥) → n ≡ 0
     none zero h = refl
     none (suc n) h = absurd (h (omega arith))
-counted test es (x ∷ w) one alive =
+counted most test es (x ∷ w) one alive =
     let parts = split test x.0 es in
     let here = one x.0 in
-    let rest = counted (not_of x.0 test) es w (λ p. let a = less p in let b = one p in omega (arith, a, b))
+    let rest = counted most (not_of x.0 test) es w (λ p. let a = less p in let b = one p in omega (arith, a, b))
     (λ p h. later p h (eq_by_cmp nat_cmp p x.0) refl (alive p (let a = less p in omega (arith, a, h)))) in
     sum _ _ _ _ parts here rest
   where
@@ -158,7 +169,7 @@ counted test es (x ∷ w) one alive =
         both false b c e = refl
     later p h false is some = some
 
-    sum : (n a b k : ℕ) → n ≡ a + b → a ≤ 1 → b ≤ k → n ≤ suc k
+    sum : (n a b k : ℕ) → n ≡ a + b → a ≤ most → b ≤ k → n ≤ most + k
     sum n a b k e h i = omega (arith, e, h, i)
 
 -- ---- of a sound ledger: entries that name one memory two by two
@@ -213,19 +224,21 @@ counted-lives m x w l test p s at_pages h = by (lives w p) refl
 
 pub name_one-bound : (m : Setting) (x : Slot → ℕ) (w : World) (l : Ledger) (test : Entry → Bool) → IsSoundBut m x l → AtPages w l → NameOne l test
     → how_many (at_entry test) l.entries ≤ length w
-name_one-bound m x w l test s at_pages named_once = counted (at_entry test) l.entries w (λ p. name_one-once m x l test p s named_once)
-    (λ p h. counted-lives m x w l test p s at_pages h)
+name_one-bound m x w l test s at_pages named_once =
+    let one = times-one w in
+    let few = counted 1 (at_entry test) l.entries w (λ p. name_one-once m x l test p s named_once)
+    (λ p h. counted-lives m x w l test p s at_pages h) in omega (arith, one, few)
 
--- at most as many entries name a frame as processes live
-pub map_count-bound : (m : Setting) (w : World) (l : Ledger) (f : ℕ) → AllSound m w l → map_count l f ≤ length w
-map_count-bound m w l f s = name_one-bound m no_excuse w l (names_frame f) s.ledger s.at_pages named_once
+-- at most as many entries name a frame that isn't merged as processes live
+pub map_count-bound : (m : Setting) (w : World) (l : Ledger) (f : ℕ) → AllSound m w l → mergings l f ≡ 0 → map_count l f ≤ length w
+map_count-bound m w l f s unmerged = name_one-bound m no_excuse w l (names_frame f) s.ledger s.at_pages named_once
   where
     named_once : NameOne l (names_frame f)
     named_once Zero e h i = cc
     named_once (InSlot t) e h i = cc
     named_once (InFrame g seen) Zero h i = cc
     named_once (InFrame g seen) (InSlot t) h i = cc
-    named_once (InFrame g seen) (InFrame j seen') h i = grind (arith, nat_tests, h, i)
+    named_once (InFrame g seen) (InFrame j seen') h i = let z = ap (mergings l) (sym (same-is f g h)) ∙ unmerged in grind (arith, nat_tests, h, i, z)
 
 -- and as many a slot
 pub slot_entries-bound : (m : Setting) (w : World) (l : Ledger) (t : Slot) → AllSound m w l → slot_entries l t ≤ length w
@@ -238,8 +251,82 @@ slot_entries-bound m w l t s = name_one-bound m no_excuse w l (names_slot t) s.l
     named_once (InSlot r) (InFrame g seen) h i = cc
     named_once (InSlot r) (InSlot q) h i = subst (λ y. same_slot y q ≡ true) (slot-is t r h) i
 
-pub map_count-few : (m : Setting) (w : World) (l : Ledger) (f : ℕ) → AllSound m w l → map_count l f ≤ most_processes
-map_count-few m w l f s = let a = map_count-bound m w l f s in let b = s.world.few in omega (arith, a, b)
+pub map_count-few : (m : Setting) (w : World) (l : Ledger) (f : ℕ) → AllSound m w l → mergings l f ≡ 0 → map_count l f ≤ most_processes
+map_count-few m w l f s unmerged = let a = map_count-bound m w l f s unmerged in let b = s.world.few in omega (arith, a, b)
 
 pub slot_entries-few : (m : Setting) (w : World) (l : Ledger) (t : Slot) → AllSound m w l → slot_entries l t ≤ most_processes
 slot_entries-few m w l t s = let a = slot_entries-bound m w l t s in let b = s.world.few in omega (arith, a, b)
+
+-- ---- of any frame: as many as pages of all processes
+
+abbrev on_page : ℕ → (Key × Entry → Bool) → Key × Entry → Bool
+on_page x test e = test e && e.0.1 == x
+
+abbrev off_page : ℕ → (Key × Entry → Bool) → Key × Entry → Bool
+off_page x test e = test e && not (e.0.1 == x)
+
+-- as many as numbers that pages may have, where each page has one at most
+by-page : (n : ℕ) (test : Key × Entry → Bool) (es : Entries) → T (is_sorted key_cmp es)
+    → ((q : Key) (d : Entry) → find key_cmp q es ≡ Some d → test (q, d) ≡ true → q.1 < n)
+    → ((x : ℕ) → how_many (on_page x test) es ≤ 1) → how_many test es ≤ n
+by-page zero test es sorted low one = let z = none-passes test es sorted (λ q d at. fails q d at (test (q, d)) refl) in omega (arith, z)
+  where
+    fails : (q : Key) (d : Entry) → find key_cmp q es ≡ Some d → (b : Bool) → test (q, d) ≡ b → b ≡ false
+    fails q d at true is = let h = low q d at is in absurd (omega (arith, h))
+    fails q d at false is = refl
+by-page (suc n) test es sorted low one =
+    let parts = how_many-or (on_page n test) (off_page n test) test es (λ e. each (test e) (e.0.1 == n)) in
+    let here = one n in
+    let rest = by-page n (off_page n test) es sorted (λ q d at h. lower q.1 (low q d at (first_true _ _ h)) (second_true (test (q, d)) _ h))
+    (λ x. let few = fewer (on_page x (off_page n test)) (on_page x test) es (λ e h. both (test e) (not (e.0.1 == n)) (e.0.1 == x) h) in
+    let o = one x in omega (arith, few, o)) in
+    omega (arith, parts, here, rest)
+  where
+    each : (a b : Bool) → cond a 1 0 ≡ cond (a && b) 1 0 + cond (a && not b) 1 0
+    each true true = omega arith
+    each true false = omega arith
+    each false b = omega arith
+
+    both : (a b c : Bool) → ((a && b) && c) ≡ true → (a && c) ≡ true
+    both true true c h = h
+    both true false c h = cc
+    both false b c h = cc
+
+    lower : (x : ℕ) → x < suc n → not (x == n) ≡ true → x < n
+    lower x h other = by (x == n) refl other
+      where
+        by : (b : Bool) → (x == n) ≡ b → not b ≡ true → x < n
+        by true is e = cc
+        by false is e = grind (arith, nat_tests, is, h)
+
+-- a process has as many as it may have pages at most
+process-few : (m : Setting) (w : World) (l : Ledger) (test : Entry → Bool) (p : ℕ) → AllSound m w l
+    → ((q page : ℕ) → is_some (pages w q page) ≡ true → page < top_page) → how_many (of p (at_entry test)) l.entries ≤ top_page
+process-few m w l test p s below = by-page top_page (of p (at_entry test)) l.entries s.ledger.in_order
+    (λ q d at h. below q.0 q.1 (s.at_pages q.0 q.1 (ap is_some at)))
+    (λ x. one-passes (on_page x (of p (at_entry test))) l.entries s.ledger.in_order (λ q r d e at h at' i. same q r
+    (here q.0 r.0 p (test d) (test e) (first_true _ _ h) (first_true _ _ i))
+    (page q.1 r.1 x (second_true (test d && q.0 == p) _ h) (second_true (test e && r.0 == p) _ i))))
+  where
+    here : (a b p : ℕ) (x y : Bool) → (x && a == p) ≡ true → (y && b == p) ≡ true → a ≡ b
+    here a b p x y h i = same-is a p (second_true x _ h) ∙ sym (same-is b p (second_true y _ i))
+
+    page : (a b x : ℕ) → (a == x) ≡ true → (b == x) ≡ true → a ≡ b
+    page a b x h i = same-is a x h ∙ sym (same-is b x i)
+
+    same : (q r : Key) → q.0 ≡ r.0 → q.1 ≡ r.1 → q ≡ r
+    same q r h i = λ k. (h k, i k)
+
+times-few : (w : World) → times top_page w ≤ length w * top_page
+times-few [] = omega arith
+times-few (x ∷ w) = let rest = times-few w in omega (arith, rest)
+
+-- at most so many entries name a frame, where the pages of a process are below the topmost
+pub map_count-pages : (m : Setting) (w : World) (l : Ledger) (f : ℕ) → AllSound m w l
+    → ((q page : ℕ) → is_some (pages w q page) ≡ true → page < top_page) → map_count l f ≤ most_processes * top_page
+map_count-pages m w l f s below =
+    let few = counted top_page (at_entry (names_frame f)) l.entries w (λ p. process-few m w l (names_frame f) p s below)
+    (λ p h. counted-lives m no_excuse w l (names_frame f) p s.ledger s.at_pages h) in
+    let all = times-few w in
+    let living = s.world.few in
+    omega (arith, few, all, living)

@@ -10,6 +10,7 @@ use Rattle.av_plain.proofs.Event.{entry-unmap, how_many-map, how_many-or, how_ma
 use Rattle.av_plain.proofs.Ledger.{how_many-found}
 use Rattle.av_plain.proofs.Sound.Counts.{listings-to_active, listings-to_head, listings-to_tail, pair-frame, same-is, slot-is, slot-itself, two_frames, two_slots}
 use Rattle.av_plain.proofs.Sound.Entries.{flag, name_one-turned, listed_of}
+use Rattle.av_plain.specs.Sound.{mergings}
 
 -- ---- lists: a frame that is in use moves
 
@@ -28,6 +29,7 @@ module _ (m : Setting) (x : Slot → ℕ) (l : Ledger) (f : ℕ) (s : IsSoundBut
     flying = s.flying;
     used = s.used;
     one = s.one;
+    merged = s.merged;
   }
 
   pub tail-kept : IsSoundBut m x (to_inactive_tail f l)
@@ -40,6 +42,7 @@ module _ (m : Setting) (x : Slot → ℕ) (l : Ledger) (f : ℕ) (s : IsSoundBut
     flying = s.flying;
     used = s.used;
     one = s.one;
+    merged = s.merged;
   }
 
   pub active-kept : IsSoundBut m x (to_active f l)
@@ -52,24 +55,31 @@ module _ (m : Setting) (x : Slot → ℕ) (l : Ledger) (f : ℕ) (s : IsSoundBut
     flying = s.flying;
     used = s.used;
     one = s.one;
+    merged = s.merged;
   }
 
 -- ---- a frame in use is put at a slot that is not
 
 pub put-kept : (m : Setting) (x : Slot → ℕ) (l : Ledger) (t : Slot) (f : ℕ) → IsSoundBut m x l → slots l t ≡ 0 → slot_entries l t ≡ 0 →
-    holders l f ≡ 0 → 0 < map_count l f
+    holders l f ≡ 0 → mergings l f ≡ 0 → 0 < map_count l f
     → IsSoundBut m x (into_cache t f true l)
-put-kept m x l t f s absent unnamed out in_use = record {
+put-kept m x l t f s absent unnamed out unmerged in_use = record {
   in_order = s.in_order;
   slots_once = λ r. once_more (same_slot r t) (slots l r) (λ is. ap (slots l) (slot-is r t is) ∙ absent) (s.slots_once r);
-  frames_once = λ g. once_more (g == f) (holders l g) (λ is. ap (holders l) (same-is g f is) ∙ out) (s.frames_once g);
+  frames_once = λ g. alone_more (g == f) (holders l g) (mergings l g) (λ is. ap (λ y. holders l y + mergings l y) (same-is g f is)
+      ∙ omega (arith, out, unmerged)) (s.frames_once g);
   in_range = λ g h. range (g == f) g refl h;
   listed = λ g. s.listed g ∙ same_use (g == f) g refl;
   flying = λ r. let h = s.flying r in omega (arith, h);
   used = λ r g h. still (same_slot r t) (g == f) r g refl refl h;
   one = λ p a b d e if_some at' related. s.one p a b d e if_some at' (names_too (p, a) (p, b) d e if_some at' related);
+  merged = s.merged;
 }
   where
+    alone_more : (b : Bool) (n k : ℕ) → (b ≡ true → n + k ≡ 0) → n + k ≤ 1 → cond b 1 0 + n + k ≤ 1
+    alone_more true n k h i = let z = h refl in omega (arith, z)
+    alone_more false n k h i = omega (arith, i)
+
     once_more : (b : Bool) (n : ℕ) → (b ≡ true → n ≡ 0) → n ≤ 1 → cond b 1 0 + n ≤ 1
     once_more true n h i = let z = h refl in omega (arith, z)
     once_more false n h i = omega (arith, i)
@@ -175,8 +185,18 @@ unmapped-kept m x l t f s pair =
       one = λ p a b d e if_some at' related. let u = back (to_slot f t) (entry l (p, a)) d (sym (entry-unmap f t l (p, a)) ∙ if_some) in
           let v = back (to_slot f t) (entry l (p, b)) e (sym (entry-unmap f t l (p, b)) ∙ at') in
           s.one p a b u.0 v.0 u.1 v.1 (names_too u.0 v.0 ((λ i. name_one l (u.2 i) (v.2 i)) ∙ related));
+      merged = λ j. let a = me j in named (j == f) j refl _ a;
     }
   where
+    -- the frame is cached, so it isn't merged
+    unmerged : (j : ℕ) → (j == f) ≡ true → mergings l j ≡ 0
+    unmerged j is = let p = pair-frame t f l.cache in let o = s.frames_once f in
+        ap (mergings l) (same-is j f is) ∙ omega (arith, p, o, pair)
+
+    named : (b : Bool) (j : ℕ) → (j == f) ≡ b → (n : ℕ) → n ≡ cond b 0 (map_count l j) → mergings l j ≤ n
+    named true j is n e = let z = unmerged j is in omega (arith, z)
+    named false j is n e = let h = s.merged j in omega (arith, e, h)
+
     below : (b : Bool) (n n' h : ℕ) → n ≡ cond b 0 n' → 0 < n + h → 0 < n' + h
     below true n n' h e p = omega (arith, e, p)
     below false n n' h e p = omega (arith, e, p)
@@ -208,10 +228,13 @@ unmapped-kept m x l t f s pair =
         ◌≡◌ {A = Bool} false true) [ true ↦ λ e. e | false ↦ λ e. e ] h
     names_too (InFrame g seen) (InFrame j seen') h = both (f == g) (f == j) refl refl h
       where
+        turned : (f g : ℕ) → (f == g) ≡ true → (g == f) ≡ true
+        turned f g h = grind (arith, nat_tests, h)
+
         both : (b c : Bool) → (f == g) ≡ b → (f == j) ≡ c
             → name_one l (cond b (InSlot t) (InFrame g seen)) (cond c (InSlot t) (InFrame j seen')) ≡ true →
-            (g == j) ≡ true
-        both true true is is' h = grind (arith, nat_tests)
+            (g == j && mergings l g == 0) ≡ true
+        both true true is is' h = let z = unmerged g (turned f g is) in grind (arith, nat_tests, is, is', z)
         both true false is is' h = let pos : 0 < pairs l t j = grind (arith, nat_tests, h) in let two = two_frames t f j l.cache is' in
             let once = s.slots_once t in absurd (omega (arith, pos, two, once, pair))
         both false true is is' h = let pos : 0 < pairs l t g = grind (arith, nat_tests, h) in let two = two_frames t f g l.cache is in

@@ -14,6 +14,8 @@ use Rattle.av_plain.proofs.Ledger.{how_many-found, is_sorted-set, map_count-set}
 use Rattle.av_plain.proofs.Ledger.Order.{weight}
 use Rattle.av_plain.proofs.Sound.Counts.{frame_at-none, frame_at-some, holders-off_cache, listings-off_lists, listings-to_head, pair-frame, pair-slot, pairs-off_cache, same-is, same-itself, slot-is, slot_of-none, slot_of-some, slots-off_cache, two_frames}
 use Rattle.av_plain.proofs.Sound.Entries.{One, flag, listed_of, one-set, slot_entries-set}
+use Rattle.av_plain.specs.Sound.{mergings}
+use Rattle.av_plain.proofs.Sound.Counts.{count-without-list}
 
 pub any-counts : {X : Type 0} (p : X → Bool) (xs : List X) → list_any p xs ≡ nat_lt 0 (how_many p xs)
 any-counts p [] = grind (arith, nat_tests)
@@ -41,17 +43,17 @@ free-is l f = by (slot_of l f) refl
         let q = pair-frame t f l.cache in omega (arith, p, q))
 
 -- fewer pairs: fewer entries name one memory
-pub name_one-less : (l l' : Ledger) → ((t : Slot) (g : ℕ) → 0 < pairs l' t g → 0 < pairs l t g) → (d e : Entry) → name_one l' d e ≡ true
-    → name_one l d e ≡ true
-name_one-less l l' less Zero e h = h
-name_one-less l l' less (InFrame f seen) Zero h = h
-name_one-less l l' less (InFrame f seen) (InFrame g seen') h = h
-name_one-less l l' less (InFrame f seen) (InSlot t) h = let pos : 0 < pairs l' t f = grind (arith, nat_tests, h) in
+pub name_one-less : (l l' : Ledger) → ((t : Slot) (g : ℕ) → 0 < pairs l' t g → 0 < pairs l t g) → l'.merged ≡ l.merged → (d e : Entry)
+    → name_one l' d e ≡ true → name_one l d e ≡ true
+name_one-less l l' less same Zero e h = h
+name_one-less l l' less same (InFrame f seen) Zero h = h
+name_one-less l l' less same (InFrame f seen) (InFrame g seen') h = ap (λ fs. (f == g) && how_many (λ x. f == x) fs == 0) (sym same) ∙ h
+name_one-less l l' less same (InFrame f seen) (InSlot t) h = let pos : 0 < pairs l' t f = grind (arith, nat_tests, h) in
     let p = less t f pos in grind (arith, nat_tests, p)
-name_one-less l l' less (InSlot t) Zero h = h
-name_one-less l l' less (InSlot t) (InFrame f seen) h = let pos : 0 < pairs l' t f = grind (arith, nat_tests, h) in
+name_one-less l l' less same (InSlot t) Zero h = h
+name_one-less l l' less same (InSlot t) (InFrame f seen) h = let pos : 0 < pairs l' t f = grind (arith, nat_tests, h) in
     let p = less t f pos in grind (arith, nat_tests, p)
-name_one-less l l' less (InSlot t) (InSlot r) h = h
+name_one-less l l' less same (InSlot t) (InSlot r) h = h
 
 -- ---- an excuse may be given where it isn't needed
 
@@ -65,6 +67,7 @@ excused m x y l s h = record {
   flying = s.flying;
   used = λ t f p. let u = s.used t f p in let v = h t f p in omega (arith, u, v);
   one = s.one;
+  merged = s.merged;
 }
 
 -- ---- a frame that was free takes a page from the device
@@ -75,15 +78,21 @@ pub loaded-kept : (m : Setting) (x : Slot → ℕ) (l : Ledger) (t : Slot) (f : 
 loaded-kept m x l t f s absent named below free = record {
   in_order = s.in_order;
   slots_once = λ r. once_more (same_slot r t) (slots l r) (λ is. ap (slots l) (slot-is r t is) ∙ absent) (s.slots_once r);
-  frames_once = λ g. once_more (g == f) (holders l g) (λ is. let z = ap (uses l) (same-is g f is) ∙ free in omega (arith, z)) (s.frames_once g);
+  frames_once = λ g. alone_more (g == f) (holders l g) (mergings l g) (λ is. let z = ap (uses l) (same-is g f is) ∙ free in let n = s.merged g in
+      omega (arith, z, n)) (s.frames_once g);
   in_range = λ g h. range (g == f) g refl h;
   listed = λ g. listings-to_head f g l ∙ listed_of (g == f) (listings l g) (uses l g) (map_count l g + (cond (g == f) 1 0 + holders l g)) (s.listed g)
       (λ is. let c = flag _ _ is in omega (arith, c)) (λ is. let c = flag _ _ is in omega (arith, c));
   flying = λ r. let h = s.flying r in omega (arith, h);
   used = λ r g h. still (same_slot r t) (g == f) r g refl refl h;
   one = λ p a b d e if_some at' related. s.one p a b d e if_some at' (names_too (p, a) (p, b) d e if_some at' related);
+  merged = s.merged;
 }
   where
+    alone_more : (b : Bool) (n k : ℕ) → (b ≡ true → n + k ≡ 0) → n + k ≤ 1 → cond b 1 0 + n + k ≤ 1
+    alone_more true n k h i = let z = h refl in omega (arith, z)
+    alone_more false n k h i = omega (arith, i)
+
     once_more : (b : Bool) (n : ℕ) → (b ≡ true → n ≡ 0) → n ≤ 1 → cond b 1 0 + n ≤ 1
     once_more true n h i = let z = h refl in omega (arith, z)
     once_more false n h i = omega (arith, i)
@@ -135,7 +144,8 @@ with_stale-kept m x l b t s =
       flying = λ r. let a = sl r in let h = s.flying r in omega (arith, a, h);
       used = λ r g h. let a = pa r g in s.used r g (omega (arith, a, h));
       one = λ p a c d e if_some at' related. s.one p a c d e if_some at'
-          (name_one-less l (with_stale b t l) (λ r g h. let a = pa r g in omega (arith, a, h)) d e related);
+          (name_one-less l (with_stale b t l) (λ r g h. let a = pa r g in omega (arith, a, h)) refl d e related);
+      merged = s.merged;
     }
   where
     same : (p : Cached → Bool) → ((c : Cached) → p (if same_slot t c.slot then record c { stale = b } else c) ≡ p c) →
@@ -159,30 +169,60 @@ with_stale-kept m x l b t s =
 pub record Others (m : Setting) (x : Slot → ℕ) (l : Ledger) : Type 0 where
   pub in_order : T (is_sorted key_cmp l.entries)
   pub slots_once : (s : Slot) → slots l s ≤ 1
-  pub frames_once : (f : ℕ) → holders l f ≤ 1
+  pub frames_once : (f : ℕ) → holders l f + mergings l f ≤ 1
   pub in_range : (f : ℕ) → 0 < uses l f → f < m.frames
   pub flying : (s : Slot) → flights l s ≤ slots l s
   pub used : (s : Slot) (f : ℕ) → 0 < pairs l s f → 0 < flights l s + slot_entries l s + map_count l f + x s
   pub one : One l
 
+pub mergings-off_lists : (f g : ℕ) (l : Ledger) → mergings (off_lists f l) g ≡ cond (g == f) 0 (mergings l g)
+mergings-off_lists f g l = count-without-list f g l.merged
+
+-- two entries of one memory, once a frame that no entry names is merged no longer
+pub one-off_lists : (l : Ledger) (f : ℕ) → map_count l f ≡ 0 → One l → One (off_lists f l)
+one-off_lists l f none one p a b d e at at' related = one p a b d e at at' (names_too d e at related)
+  where
+    names_too : (d e : Entry) → entry l (p, a) ≡ Some d → name_one (off_lists f l) d e ≡ true → name_one l d e ≡ true
+    names_too Zero e at h = h
+    names_too (InFrame g seen) Zero at h = h
+    names_too (InFrame g seen) (InFrame j seen') at h = by (g == f) refl (mergings-off_lists f g l)
+      where
+        by : (c : Bool) → (g == f) ≡ c → mergings (off_lists f l) g ≡ cond c 0 (mergings l g) → (g == j && mergings l g == 0) ≡ true
+        by true is n = let found = how_many-found (names_frame g) (p, a) l.entries (InFrame g seen) at (same-itself g) in
+            let z = ap (map_count l) (same-is g f is) ∙ none in absurd (omega (arith, found, z))
+        by false is n = ap (λ n. g == j && n == 0) (sym n) ∙ h
+    names_too (InFrame g seen) (InSlot t) at h = h
+    names_too (InSlot t) Zero at h = h
+    names_too (InSlot t) (InFrame g seen) at h = h
+    names_too (InSlot t) (InSlot r) at h = h
+
 pub settle-kept : (m : Setting) (x : Slot → ℕ) (l : Ledger) (f : ℕ) → Others m x l → ((g : ℕ) → (g == f) ≡ false → listings l g ≡ min 1 (uses l g)) →
-    listings l f ≡ 1 → IsSoundBut m x (settle f l)
-settle-kept m x l f s others here = by (is_free l f) (sym (free-is l f))
+    listings l f ≡ 1 → ((g : ℕ) → (g == f) ≡ false → mergings l g ≤ map_count l g) → IsSoundBut m x (settle f l)
+settle-kept m x l f s others here mapped = by (is_free l f) (sym (free-is l f))
   where
     by : (b : Bool) → (uses l f == 0) ≡ b → IsSoundBut m x (cond b (off_lists f l) l)
     by true is = record {
       in_order = s.in_order;
       slots_once = s.slots_once;
-      frames_once = s.frames_once;
+      frames_once = λ g. let a = mergings-off_lists f g l in let h = s.frames_once g in fewer (g == f) _ _ _ a h;
       in_range = s.in_range;
       listed = λ g. listings-off_lists f g l ∙ gone (g == f) g refl;
       flying = s.flying;
       used = s.used;
-      one = s.one;
+      one = one-off_lists l f (omega (arith, none)) s.one;
+      merged = λ g. left (g == f) g refl _ (mergings-off_lists f g l);
     }
       where
         none : uses l f ≡ 0
         none = grind (arith, nat_tests, is)
+
+        fewer : (c : Bool) (n k h : ℕ) → n ≡ cond c 0 k → h + k ≤ 1 → h + n ≤ 1
+        fewer true n k h e i = omega (arith, e, i)
+        fewer false n k h e i = omega (arith, e, i)
+
+        left : (c : Bool) (g : ℕ) → (g == f) ≡ c → (n : ℕ) → n ≡ cond c 0 (mergings l g) → n ≤ map_count l g
+        left true g i n e = omega (arith, e)
+        left false g i n e = let k = mapped g i in omega (arith, e, k)
 
         gone : (c : Bool) (g : ℕ) → (g == f) ≡ c → cond c 0 (listings l g) ≡ min 1 (uses l g)
         gone true g if_some = let z = ap (uses l) (same-is g f if_some) ∙ none in omega (arith, z)
@@ -196,10 +236,15 @@ settle-kept m x l f s others here = by (is_free l f) (sym (free-is l f))
       flying = s.flying;
       used = s.used;
       one = s.one;
+      merged = λ g. named (g == f) g refl;
     }
       where
         some : 0 < uses l f
         some = grind (arith, nat_tests, is)
+
+        named : (c : Bool) (g : ℕ) → (g == f) ≡ c → mergings l g ≤ map_count l g
+        named true g i = let z = subst (λ y. 0 < uses l y) (sym (same-is g f i)) some in let o = s.frames_once g in omega (arith, z, o)
+        named false g i = mapped g i
 
         each : (c : Bool) (g : ℕ) → (g == f) ≡ c → listings l g ≡ min 1 (uses l g)
         each true g if_some = let z = subst (λ y. 0 < uses l y) (sym (same-is g f if_some)) some in
@@ -244,7 +289,7 @@ dropped-kept m x l t s off_flight = by (frame_at l t) refl
       used = λ r g h. left r g (same_slot r t) refl _ (pa r g) h;
       one = λ p a b d e if_some at' related. s.one p a b d e if_some at'
           (name_one-less l (off_cache t l) (λ r g h. let a = less (same_slot r t) _ _ (pa r g) in
-          omega (arith, a, h)) d e related);
+          omega (arith, a, h)) refl d e related);
     }
       where
         left : (r : Slot) (g : ℕ) (b : Bool) → same_slot r t ≡ b → (n : ℕ) → n ≡ cond b 0 (pairs l r g) → 0 < n →
@@ -262,6 +307,7 @@ dropped-kept m x l t s off_flight = by (frame_at l t) refl
       flying = rest.flying;
       used = rest.used;
       one = rest.one;
+      merged = s.merged;
     }
       where
         same : (g : ℕ) → min 1 (uses l g) ≡ min 1 (uses (off_cache t l) g)
@@ -270,6 +316,7 @@ dropped-kept m x l t s off_flight = by (frame_at l t) refl
     by (Some f) is = settle-kept m (λ r. cond (same_slot r t) 0 (x r)) (off_cache t l) f rest
         (λ g other. s.listed g ∙ same g other)
         (s.listed f ∙ (let p = frame_at-some f t l.cache is in let q = pair-frame t f l.cache in omega (arith, p, q)))
+        (λ g other. s.merged g)
       where
         same : (g : ℕ) → (g == f) ≡ false → min 1 (uses l g) ≡ min 1 (uses (off_cache t l) g)
         same g other = let a = ho g in let p = frame_at-some f t l.cache is in let two = two_frames t g f l.cache other in let once =
@@ -302,6 +349,7 @@ seen-kept m x l k f seen now s here =
       flying = s.flying;
       used = λ r g h. let u = s.used r g h in let a = me g in let b = se r in omega (arith, u, a, b);
       one = one-set l k new s.one (λ b e if_some related. s.one k.0 k.1 b (InFrame f seen) e here if_some (names_too e ∙ related));
+      merged = λ g. let a = me g in let h = s.merged g in omega (arith, a, h);
     }
   where
     same : (n w m : ℕ) → n + w ≡ m + w → n ≡ m

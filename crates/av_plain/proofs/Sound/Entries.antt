@@ -9,6 +9,8 @@ use Rattle.av_plain.specs.Sound.{IsSoundBut, flights, holders, name_one, listing
 use Rattle.av_plain.proofs.Ledger.{entry-set, how_many-found, is_sorted-set, map_count-set, same_key, same_key-is}
 use Rattle.av_plain.proofs.Ledger.Order.{keys_total, weight, count-put}
 use Rattle.av_plain.proofs.Sound.Counts.{listings-to_head, pair-frame, same-is, same-turned, slot-is, slot-turned, two_frames, two_slots}
+use Rattle.av_plain.specs.Sound.{mergings}
+use Rattle.std.proofs.Common.{◌&&◌}
 
 abbrev pub One : Ledger → Type 0
 One l = (p a b : ℕ) (d e : Entry) → entry l (p, a) ≡ Some d → entry l (p, b) ≡ Some e → name_one l d e ≡ true → a ≡ b
@@ -18,7 +20,11 @@ name_one-turned l Zero Zero = refl
 name_one-turned l Zero (InFrame g seen) = refl
 name_one-turned l Zero (InSlot t) = refl
 name_one-turned l (InFrame f seen) Zero = refl
-name_one-turned l (InFrame f seen) (InFrame g seen') = same-turned f g
+name_one-turned l (InFrame f seen) (InFrame g seen') = by (f == g) refl (same-turned f g)
+  where
+    by : (b : Bool) → (f == g) ≡ b → b ≡ (g == f) → (b && mergings l f == 0) ≡ (g == f && mergings l g == 0)
+    by true is e = ap (λ y. true && mergings l y == 0) (same-is f g is) ∙ ap (λ b. b && mergings l g == 0) e
+    by false is e = ap (λ b. b && mergings l g == 0) e
 name_one-turned l (InFrame f seen) (InSlot t) = refl
 name_one-turned l (InSlot s) Zero = refl
 name_one-turned l (InSlot s) (InFrame g seen) = refl
@@ -89,6 +95,7 @@ zeroed-kept m x l k s blank =
       flying = s.flying;
       used = λ t g h. let u = s.used t g h in let a = me g in let b = se t in omega (arith, u, a, b);
       one = one-set l k Zero s.one (λ b e at related. cc);
+      merged = λ g. let a = me g in let h = s.merged g in omega (arith, a, h);
     }
 
 -- ---- a frame that was free
@@ -106,8 +113,13 @@ listed_of false n u u' h here other = h ∙ sym (other refl)
 pub none_named : (l : Ledger) (f : ℕ) (seen : Bool) (q : Key) (e : Entry) → uses l f ≡ 0 → entry l q ≡ Some e
     → name_one l (InFrame f seen) e ≡ true → ⊥
 none_named l f seen q Zero free at related = cc
-none_named l f seen q (InFrame g seen') free at related = let found = how_many-found (names_frame f) q l.entries (InFrame g seen') at related in
+none_named l f seen q (InFrame g seen') free at related =
+    let found = how_many-found (names_frame f) q l.entries (InFrame g seen') at (front (f == g) _ related) in
     omega (arith, found, free)
+  where
+    front : (a b : Bool) → (a && b) ≡ true → a ≡ true
+    front true b h = refl
+    front false b h = cc
 none_named l f seen q (InSlot s) free at related = let pair = pair-frame s f l.cache in let pos : 0 < pairs l s f =
     grind (arith, nat_tests, related) in
     omega (arith, pair, pos, free)
@@ -132,76 +144,8 @@ new-kept m x l k f s blank below free =
       flying = s.flying;
       used = λ t g h. let u = s.used t g h in let a = me g in let b = se t in omega (arith, u, a, b);
       one = one-set l k new s.one (λ b e at related. absurd (none_named l f false (k.0, b) e free at related));
+      merged = λ g. let a = me g in let h = s.merged g in omega (arith, a, h);
     }
-
--- ---- a copy: the frame that it leaves has another use
-
--- another entry names the frame, or its slot
-pub data IsSharedBy (l : Ledger) (g : ℕ) : Type 0 where
-  ByFrame : 1 < map_count l g → IsSharedBy l g
-  BySlot : (s : Slot) → 0 < pairs l s g → 0 < slot_entries l s → IsSharedBy l g
-
-pub copied-kept : (m : Setting) (x : Slot → ℕ) (l : Ledger) (k : Key) (f g : ℕ) (seen : Bool) → IsSoundBut m x l → entry l k ≡ Some (InFrame g seen) →
-    IsSharedBy l g → f < m.frames → uses l f ≡ 0
-    → IsSoundBut m x (to_inactive_head f (set_entry k (InFrame f false) l))
-copied-kept m x l k f g seen s at shared below free =
-    let new = InFrame f false in
-    let me : (j : ℕ) → map_count (set_entry k new l) j + cond (j == g) 1 0 ≡ map_count l j + cond (j == f) 1 0 =
-    λ j. ap (λ o. map_count (set_entry k new l) j + weight (names_frame j) o) (sym at) ∙ map_count-set k new l j s.in_order in
-    let se : (t : Slot) → slot_entries (set_entry k new l) t ≡ slot_entries l t =
-    λ t. kept_is _ _ _ (slot_entries-set k new l t s.in_order) (ap (weight (names_slot t)) at) in
-    record {
-      in_order = is_sorted-set k new l s.in_order;
-      slots_once = s.slots_once;
-      frames_once = s.frames_once;
-      in_range = λ j h. let a = me j in in_range_of (j == f) j m.frames (map_count (set_entry k new l) j) (map_count l j) (holders l j)
-          (λ is. subst (λ n. n < m.frames) (sym (same-is j f is)) below) (omega (arith, a)) (s.in_range j) h;
-      listed = λ j. listings-to_head f j l ∙ listed_of (j == f) (listings l j) (uses l j) (map_count (set_entry k new l) j + holders l j) (s.listed j)
-          (λ is. let a = me j in let c = flag _ _ is in
-          let ne : cond (j == g) 1 0 ≤ map_count l j = old j (j == g) refl in let ze = ap (uses l) (same-is j f is) ∙ free in
-          omega (arith, a, c, ne, ze))
-          (λ is. let a = me j in let c = flag _ _ is in left j (j == g) refl (map_count (set_entry k new l) j) (omega (arith, a, c)));
-      flying = s.flying;
-      used = λ t j h. let a = me j in let b = se t in still t j h (j == g) refl (map_count (set_entry k new l) j)
-          (slot_entries (set_entry k new l) t) b (omega (arith, a));
-      one = one-set l k new s.one (λ b e at' related. absurd (none_named l f false (k.0, b) e free at' related));
-    }
-  where
-    old : (j : ℕ) (b : Bool) → (j == g) ≡ b → cond b 1 0 ≤ map_count l j
-    old j true is = how_many-found (names_frame j) k l.entries (InFrame g seen) at is
-    old j false is = omega arith
-
-    -- the old frame has another use
-    left : (j : ℕ) (b : Bool) → (j == g) ≡ b → (n : ℕ) → n + cond b 1 0 ≡ map_count l j
-        → min 1 (n + holders l j) ≡ min 1 (map_count l j + holders l j)
-    left j true is n h = more shared
-      where
-        here : j ≡ g
-        here = same-is j g is
-
-        more : IsSharedBy l g → min 1 (n + holders l j) ≡ min 1 (map_count l j + holders l j)
-        more (ByFrame two) = let two' = subst (λ y. 1 < map_count l y) (sym here) two in omega (arith, two', h)
-        more (BySlot t pair named) = let pair' = subst (λ y. 0 < pairs l t y) (sym here) pair in let p = pair-frame t j l.cache in
-            omega (arith, pair', p, h)
-    left j false is n h = ap (λ i. min 1 (i + holders l j)) (omega (arith, h))
-
-    still : (t : Slot) (j : ℕ) → 0 < pairs l t j → (b : Bool) → (j == g) ≡ b → (n e : ℕ) → e ≡ slot_entries l t → map_count l j ≤ n + cond b 1 0 →
-        0 < flights l t + e + n + x t
-    still t j h true is n e same more = other shared
-      where
-        here : j ≡ g
-        here = same-is j g is
-
-        other : IsSharedBy l g → 0 < flights l t + e + n + x t
-        other (ByFrame two) = let two' = subst (λ y. 1 < map_count l y) (sym here) two in omega (arith, two', more)
-        other (BySlot r pair named) = by (same_slot t r) refl
-          where
-            by : (b : Bool) → same_slot t r ≡ b → 0 < flights l t + e + n + x t
-            by true i = let n' = subst (λ y. 0 < slot_entries l y) (sym (slot-is t r i)) named in omega (arith, n', same)
-            by false i = let pair' = subst (λ y. 0 < pairs l r y) (sym here) pair in let p = two_slots t r j l.cache i in let once =
-                s.frames_once j in
-                absurd (omega (arith, pair', p, h, once))
-    still t j h false is n e same more = let u = s.used t j h in omega (arith, u, same, more)
 
 -- ---- an entry that named a slot names the frame that caches it
 
@@ -225,6 +169,7 @@ mapped-kept m x l k f t s at pair =
       flying = s.flying;
       used = λ r j h. still r j h (same_slot r t) refl (j == f) refl _ _ (se r) (me j);
       one = one-set l k new s.one (λ b e at' related. s.one k.0 k.1 b (InSlot t) e at at' (names_too e related));
+      merged = λ j. let a = me j in let h = s.merged j in omega (arith, a, h);
     }
   where
     plus_zero : (n : ℕ) → n + 0 ≡ n
@@ -248,7 +193,11 @@ mapped-kept m x l k f t s at pair =
 
     names_too : (e : Entry) → name_one l (InFrame f false) e ≡ true → name_one l (InSlot t) e ≡ true
     names_too Zero h = h
-    names_too (InFrame g seen) h = let p = subst (λ y. 0 < pairs l t y) (same-is f g h) pair in grind (arith, nat_tests, p)
+    names_too (InFrame g seen) h = let p = subst (λ y. 0 < pairs l t y) (same-is f g (front (f == g) _ h)) pair in grind (arith, nat_tests, p)
+      where
+        front : (a b : Bool) → (a && b) ≡ true → a ≡ true
+        front true b h = refl
+        front false b h = cc
     names_too (InSlot r) h = by (same_slot t r) refl
       where
         by : (b : Bool) → same_slot t r ≡ b → b ≡ true

@@ -26,6 +26,7 @@ started-kept m x l t s cached still = with_stale-kept m x (record l { flight = l
   flying = λ r. let a = more r in let h = s.flying r in fits r (same_slot r t) refl _ a;
   used = λ r g h. let a = more r in let u = s.used r g h in omega (arith, a, u);
   one = s.one;
+  merged = s.merged;
 })
   where
     more : (r : Slot) → how_many (same_slot r) (l.flight ++ t ∷ []) ≡ flights l r + (cond (same_slot r t) 1 0 + 0)
@@ -75,6 +76,7 @@ off_flight-kept m l t s = record {
   flying = λ r. let a = flights-off_flight t r l.flight in let h = s.flying r in fewer (same_slot r t) _ _ _ a h;
   used = λ r g h. let a = flights-off_flight t r l.flight in let u = s.used r g h in still (same_slot r t) _ _ _ _ a u;
   one = s.one;
+  merged = s.merged;
 }
   where
     fewer : (b : Bool) (n k c : ℕ) → n ≡ cond b 0 k → k ≤ c → n ≤ c
@@ -108,6 +110,7 @@ unexcused m l t s kept = record {
   flying = s.flying;
   used = λ r g h. by r g h (same_slot r t) refl (s.used r g h);
   one = s.one;
+  merged = s.merged;
 }
   where
     by : (r : Slot) (g : ℕ) → 0 < pairs l r g → (b : Bool) → same_slot r t ≡ b → 0 < flights l r + slot_entries l r + map_count l g + cond b 1 0 →

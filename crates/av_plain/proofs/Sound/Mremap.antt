@@ -1,16 +1,15 @@
 -- Soundness after a move of entries, and after the events of an mremap.
-use Rattle.std.proofs.Common.{◌≡◌, ◌⊎◌, inl, inr, ℕ, ◌+◌, ◌-◌, min, nat_lt, Bool, true, false, cond, not, ◌&&◌, T, Option, Some, None, is_some, option_map, refl, sym, ap, subst, ◌∙◌, arith, ◌==◌}
+use Rattle.std.proofs.Common.{◌<◌, ◌≡◌, ◌⊎◌, inl, inr, ℕ, ◌+◌, ◌-◌, min, nat_lt, Bool, true, false, cond, not, ◌&&◌, T, Option, Some, None, is_some, option_map, refl, sym, ap, subst, ◌∙◌, arith, ◌==◌}
 use Rattle.std.proofs.lemmas.Bool.{false≢true}
 use Rattle.std.proofs.lemmas.Bool.Decides.{nat_tests}
 use Rattle.std.specs.FinMap.Entries.{is_sorted, is_sorted-where_key}
 use Rattle.av_base.specs.Words.{within}
-use Rattle.av_base.specs.declared.prot.Prot.{Prot}
 use Rattle.av_base.specs.declared.slot.Slot.{Slot}
 use Rattle.av_plain.specs.Event.{after_all, after_move, put_all}
 use Rattle.av_plain.specs.Ledger.{Entry, Ledger, Setting, entry, key_cmp, map_count, names_frame, names_slot, slot_entries}
-use Rattle.av_plain.specs.Mremap.{prot_at, remap_events, process_after_mremap}
+use Rattle.av_plain.specs.Mremap.{left_behind, remap_events, process_after_mremap}
 use Rattle.av_plain.specs.Sound.{AtPages, IsSound}
-use Rattle.av_plain.specs.World.{Page, Process, World, pages, zeros}
+use Rattle.av_plain.specs.World.{Page, Process, World, pages, wiped}
 use Rattle.av_plain.specs.Zap.{keys_in}
 use Rattle.av_plain.proofs.Event.{count-put_all, is_sorted-put_all, put_all-only}
 use Rattle.av_plain.proofs.Mremap.{Came, after-elsewhere, after-in_place, count-shifted, entry-came, fresh, is_sorted-shifted, others_of, remap-came, shifted, target_free, then_tail, then_target}
@@ -76,6 +75,7 @@ module _ (m : Setting) (l : Ledger) (p n from to : ℕ) (s : IsSound m l)
         let u = came r a d at in
         let v = came r b e at' in
         one_page r a b u v (s.one r u.was v.was d e u.here v.here related);
+    merged = λ g. let a = frames-stay g in let h = s.merged g in omega (arith, a, h);
   }
 
   pub moved-kept : IsSound m (after_move p n from to l)
@@ -120,35 +120,35 @@ module _ (m : Setting) (l : Ledger) (p from n to k : ℕ) (s : IsSound m l) wher
           (no_new-then m l (then_tail l p from n to k) (after_move p (min n k) from to (then_tail l p from n to k)) tail-no_new
           (moved-no_new m (then_tail l p from n to k) p (min n k) from to tail-kept free_target))
 
--- ---- each entry is at a mapped page: the first page of the old range is mapped
+-- ---- each entry is at a mapped page
 
-module _ (q : Process) (from n to k : ℕ) (left : Option Prot) (first : is_some (q from) ≡ true) where
-  grown_page : is_some (option_map zeros (prot_at q from)) ≡ true
-  grown_page = by (q from) first
-    where
-      by : (o : Option Page) → is_some o ≡ true → is_some (option_map zeros (option_map (λ (x : Page). x.prot) o)) ≡ true
-      by None h = h
-      by (Some x) h = refl
-
+module _ (q : Process) (from n to k : ℕ) (left : Bool) (last : n < k → is_some (q (from + n - 1)) ≡ true) where
   -- a page that keeps or gets an entry
   pub remapped-some : (page : ℕ) → (within to k page ≡ true → nat_lt (page - to) n ≡ true → is_some (q (from + (page - to))) ≡ true)
       → (within to k page ≡ false → (within from n page ≡ false) × (is_some (q page) ≡ true))
       → is_some (process_after_mremap from n to k left q page) ≡ true
   remapped-some page moves stays = by (within to k page) refl
     where
+      grown : (o : Option Page) → is_some o ≡ true → is_some (option_map wiped o) ≡ true
+      grown None h = h
+      grown (Some x) h = refl
+
+      more : nat_lt (page - to) n ≡ false → within to k page ≡ true → n < k
+      more is i = grind (arith, nat_tests, is, i)
+
       inside : (b : Bool) → nat_lt (page - to) n ≡ b → within to k page ≡ true
-          → is_some (cond b (q (from + (page - to))) (option_map zeros (prot_at q from))) ≡ true
+          → is_some (cond b (q (from + (page - to))) (option_map wiped (q (from + n - 1)))) ≡ true
       inside true is i = moves i is
-      inside false is i = grown_page
+      inside false is i = grown (q (from + n - 1)) (last (more is i))
 
       by : (b : Bool) → within to k page ≡ b
-          → is_some (cond b (cond (nat_lt (page - to) n) (q (from + (page - to))) (option_map zeros (prot_at q from)))
-          (cond (within from n page) (option_map zeros left) (q page))) ≡ true
+          → is_some (cond b (cond (nat_lt (page - to) n) (q (from + (page - to))) (option_map wiped (q (from + n - 1))))
+          (cond (within from n page) (left_behind left (q page)) (q page))) ≡ true
       by true is = inside (nat_lt (page - to) n) refl is
-      by false is = ap (λ b. is_some (cond b (option_map zeros left) (q page))) (stays is).0 ∙ (stays is).1
+      by false is = ap (λ b. is_some (cond b (left_behind left (q page)) (q page))) (stays is).0 ∙ (stays is).1
 
-module _ (w : World) (l : Ledger) (p from n to k : ℕ) (left : Option Prot) (sorted : T (is_sorted key_cmp l.entries)) (all : AtPages w l)
-    (first : is_some (pages w p from) ≡ true) where
+module _ (w : World) (l : Ledger) (p from n to k : ℕ) (left : Bool) (sorted : T (is_sorted key_cmp l.entries)) (all : AtPages w l)
+    (last : n < k → is_some (pages w p (from + n - 1)) ≡ true) where
   -- an entry of the process is at a page that it has then
   pub remap-here : (page : ℕ) → is_some (entry (after_all l (remap_events l p from n to k)) (p, page)) ≡ true
       → is_some (process_after_mremap from n to k left (pages w p) page) ≡ true
@@ -172,7 +172,7 @@ module _ (w : World) (l : Ledger) (p from n to k : ℕ) (left : Option Prot) (so
           let was = kept (p == p && within (from + k) (n - k) page) (entry l (p, page))
           (ap is_some (sym (ap (λ l. entry l (p, page)) (after-in_place l p from n to k here) ∙ entry-range l p (from + k) (n - k) p page)) ∙ h) in
           let mapped = all p page was.1 in
-          remapped-some q from n to k left first page (λ i _. subst (λ x. is_some (q x) ≡ true) (back page here i) mapped)
+          remapped-some q from n to k left last page (λ i _. subst (λ x. is_some (q x) ≡ true) (back page here i) mapped)
           (λ i. (not_tail here was.0 i, mapped))
 
       some_is : {A : Type 0} (o : Option A) → is_some o ≡ true → (x : A) × (o ≡ Some x)
@@ -198,9 +198,9 @@ module _ (w : World) (l : Ledger) (p from n to k : ℕ) (left : Option Prot) (so
               → ((p == p) ≡ true) × (within to (min n k) page ≡ true) × (was ≡ page - to + from)
               ⊎ (in_range p from n (p, page) ≡ false) × (in_range p to k (p, page) ≡ false) × (was ≡ page)
               → is_some (process_after_mremap from n to k left q page) ≡ true
-          moves was mapped (inl x) = remapped-some q from n to k left first page
+          moves was mapped (inl x) = remapped-some q from n to k left last page
               (λ _ _. subst (λ y. is_some (q y) ≡ true) (x.2 ∙ turned (page - to) from) mapped) (λ i. absurd (whole x.1 i))
-          moves was mapped (inr x) = remapped-some q from n to k left first page
+          moves was mapped (inr x) = remapped-some q from n to k left last page
               (λ i _. absurd (false≢true (sym (of_p (within to k page) x.1) ∙ i)))
               (λ i. (of_p (within from n page) x.0, subst (λ y. is_some (q y) ≡ true) x.2 mapped))
 

@@ -2,7 +2,7 @@
 use Rattle.std.proofs.Common.{◌≡◌, ◌⊎◌, inl, inr, ℕ, Bool, true, false, cond, List, [], ◌∷◌, ◌++◌, Option, Some, None, is_some, option_map, refl, sym, ap, subst, ◌∙◌, ◌==◌, is_none, not}
 use Rattle.av_base.specs.Page.{address_of}
 use Rattle.av_base.specs.declared.slot.Slot.{Slot}
-use Rattle.av_trace.specs.declared.note.Cause.TheVariants.{NoSlot, Referenced, WriteStarted, Writeback}
+use Rattle.av_trace.specs.declared.note.Cause.TheVariants.{Locked, NoSlot, Referenced, WriteStarted, Writeback}
 use Rattle.av_trace.specs.declared.note.Note.{Note}
 use Rattle.av_trace.specs.declared.note.Note.TheVariants.{Aged, Copied, Dropped, Failed, Kept, Loaded, Mapped, New, Put, Started, Unmapped, Written, Zeroed}
 use Rattle.av_trace.specs.declared.reply.OutOf.{OutOf}
@@ -17,13 +17,17 @@ use Rattle.av_plain.proofs.Ledger.{entry-set, same_key, same_key-is}
 use Rattle.av_plain.proofs.Ledger.NoSwap.{key_at-address}
 use Rattle.av_plain.proofs.Event.{find-map}
 use Rattle.std.specs.Prelude.{MatchBool}
+use Rattle.av_plain.specs.Event.{change_frame, renamed_entry}
+use Rattle.av_trace.specs.declared.note.Note.TheVariants.{Joined, Moved, Shared}
+use Rattle.av_trace.specs.declared.note.Cause.TheVariants.{Ksm, Locked}
+use Rattle.av_plain.proofs.Event.{changed-by, entry-renamed}
 
 -- settling leaves the entries, and so does a write that ends well
 pub settle-entries : (o : Option ℕ) (l : Ledger) → (if_some o settle l).entries ≡ l.entries
 settle-entries None l = refl
 settle-entries (Some f) l = elim (is_free l f) as (λ b. (cond b (off_lists f l) l).entries ≡ l.entries) [ true ↦ refl | false ↦ refl ]
 
-written-entries : (l : Ledger) (s : Slot) → (after_note (Written s) l).entries ≡ l.entries
+pub written-entries : (l : Ledger) (s : Slot) → (after_note (Written s) l).entries ≡ l.entries
 written-entries l s = by (frame_at l s)
   where
     by : (o : Option ℕ) → (if_some o to_inactive_tail (off_flight s l)).entries ≡ l.entries
@@ -47,6 +51,9 @@ Brings test (Failed s) = Unit {0}
 Brings test (Dropped s) = Unit {0}
 Brings test (Kept f c) = Unit {0}
 Brings test (Aged f) = Unit {0}
+Brings test (Shared f) = Unit {0}
+Brings test (Joined p a f) = test (key_at p a) ≡ true
+Brings test (Moved from to) = Unit {0}
 
 abbrev pub AllBring : (Key → Bool) → List Note → Type 0
 AllBring test [] = Unit {0}
@@ -80,10 +87,14 @@ module _ (test : Key → Bool) where
       kept g None = refl
       kept g (Some e) = refl
 
+  change_frame-at : (l : Ledger) (k : Key) (f : ℕ) → test k ≡ true → AllAt l → AllAt (change_frame k f l)
+  change_frame-at l k f here all = same-at (set_entry k (InFrame f false) l) (change_frame k f l) (changed-by (λ l. l.entries) (λ g l. refl) k f l)
+      (set-at l k (InFrame f false) here all)
+
   pub noted-at : (l : Ledger) (note : Note) → Brings test note → AllAt l → AllAt (after_note note l)
   noted-at l (Zeroed p a) b all = set-at l (key_at p a) Zero b all
   noted-at l (New p a f) b all = set-at l (key_at p a) (InFrame f false) b all
-  noted-at l (Copied p a f) b all = set-at l (key_at p a) (InFrame f false) b all
+  noted-at l (Copied p a f) b all = change_frame-at l (key_at p a) f b all
   noted-at l (Mapped p a f) b all = set-at l (key_at p a) (InFrame f false) b all
   noted-at l (Loaded s f) b all = all
   noted-at l (Put f s) b all = all
@@ -100,7 +111,16 @@ module _ (test : Key → Bool) where
   noted-at l (Kept f WriteStarted) b all = all
   noted-at l (Kept f Referenced) b all = change-at l f without_seen all
   noted-at l (Kept f NoSlot) b all = all
+  noted-at l (Kept f Locked) b all = all
+  noted-at l (Kept f Ksm) b all = all
   noted-at l (Aged f) b all = change-at l f without_seen all
+  noted-at l (Shared f) b all = all
+  noted-at l (Joined p a f) b all = change_frame-at l (key_at p a) f b all
+  noted-at l (Moved from to) b all = λ q h. all q (sym (kept (entry l q)) ∙ ap is_some (sym (entry-renamed from to l q)) ∙ h)
+    where
+      kept : (o : Option Entry) → is_some (option_map (renamed_entry from to) o) ≡ is_some o
+      kept None = refl
+      kept (Some e) = refl
 
   pub notes-at : (l : Ledger) (notes : List Note) → AllBring test notes → AllAt l → AllAt (after_notes l notes)
   notes-at l [] b all = all
@@ -129,7 +149,7 @@ module _ (test : Key → Bool) where
       (bring-append (end_notes l t c.0) c.1 (bring-end c.0 t, bring-when (is_orphan (after_note (end_note c.0 t) l) t) (Dropped t) tt)
       (bring-completes (after_notes l (end_notes l t c.0)) ts c.1 c.3))
 
-  bring-turn : (l : Ledger) (f : ℕ) (t : Slot) (failed : Bool) → AllBring test (turn_notes l f t failed)
+  pub bring-turn : (l : Ledger) (f : ℕ) (t : Slot) (failed : Bool) → AllBring test (turn_notes l f t failed)
   bring-turn l f t failed =
       bring-append (unmap_notes l f t) _ (bring-append (when (is_none (slot_of l f)) (Put f t)) _ (bring-when (is_none (slot_of l f)) (Put f t) tt)
       (bring-when (not (map_count l f == 0)) (Unmapped f) tt)) (by (is_dirty l f t))
@@ -238,13 +258,17 @@ allowed-there w write k h = by (pages w k.0 k.1) h
     by None h = cc
     by (Some q) h = refl
 
+-- a page that is accessed brings an entry only where a test holds, if it does there
+pub touches-bring-at : (test : Key → Bool) (m : Setting) (w : World) (l : Ledger) (write : Bool) (k : Key) (notes : List Note) (end : Option Stop)
+    → (is_allowed w write k ≡ true → test k ≡ true) → Touches m w l write k notes end → AllBring test notes
+touches-bring-at test m w l write k notes None here h = bring-serves test k (here h.0) m (sparing w) l write notes h.1
+touches-bring-at test m w l write k notes (Some Denied) here h = bring-is test notes [] h.1 tt
+touches-bring-at test m w l write k notes (Some (Starved out)) here h = bring-runs_out test k (here h.0) m (sparing w) l write notes out h.1
+touches-bring-at test m w l write k notes (Some Lost) here h = bring-seeks test m (sparing w l None) l notes h.1.seeks
+
 pub touches-bring : (m : Setting) (w : World) (l : Ledger) (write : Bool) (k : Key) (notes : List Note) (end : Option Stop) →
     Touches m w l write k notes end → AllBring (at_page w) notes
-touches-bring m w l write k notes None h = bring-serves (at_page w) k (allowed-there w write k h.0) m (sparing w) l write notes h.1
-touches-bring m w l write k notes (Some Denied) h = bring-is (at_page w) notes [] h.1 tt
-touches-bring m w l write k notes (Some (Starved out)) h =
-    bring-runs_out (at_page w) k (allowed-there w write k h.0) m (sparing w) l write notes out h.1
-touches-bring m w l write k notes (Some Lost) h = bring-seeks (at_page w) m (sparing w l None) l notes h.1.seeks
+touches-bring m w l write k notes end h = touches-bring-at (at_page w) m w l write k notes end (allowed-there w write k) h
 
 pub used-at : (w : World) (l : Ledger) (write : Bool) (k : Key) → AllAt (at_page w) l → AllAt (at_page w) (after_use write k l)
 used-at w l write k all = by write (entry l k) refl

@@ -2,6 +2,7 @@
 use Rattle.std.specs.Prelude.{MatchBool}
 use mathlib.Core.List.{reverse_aux}
 use Rattle.std.proofs.Common.{◌≡◌, ℕ, ◌+◌, ◌<◌, ◌≤◌, min, Bool, true, false, cond, not, List, [], ◌∷◌, ◌++◌, filter, Some, refl, sym, ap, subst, ◌∙◌, arith, ◌==◌, reverse}
+use Rattle.std.proofs.lemmas.Bool.Decides.{nat_tests}
 use Rattle.av_base.specs.Words.{how_many}
 use Rattle.av_base.specs.declared.slot.Slot.{Slot}
 use Rattle.av_trace.specs.declared.note.Note.{Note}
@@ -18,6 +19,13 @@ use Rattle.av_plain.proofs.Sound.Entries.{flag}
 use Rattle.av_plain.proofs.Sound.Flight.{excuse_of, started-kept}
 use Rattle.av_plain.proofs.Sound.Pages.{settle-entries}
 use Rattle.av_plain.proofs.Sound.Steps.{Alike, Completed, Keeps, UnmapKept, alike-by, alike-end_note, alike-started, alike-then, all_landed, completes-kept, ended, flights-end_note, flights-started, holders-dropped, keeps-alike, keeps-dropped, keeps-then, settle-flight, slots-dropped, unmap_notes-kept}
+use Rattle.av_plain.specs.Pass.{is_spared}
+use Rattle.av_plain.specs.Sound.{mergings}
+use Rattle.av_plain.specs.Ledger.{is_merged}
+use Rattle.av_plain.specs.Pass.{has_turn}
+use Rattle.av_plain.proofs.Sound.Changes.{any-counts}
+use Rattle.std.proofs.Common.{◌&&◌}
+use Rattle.std.proofs.Common.{nat_lt}
 
 -- ---- lists of frames that have their turn
 
@@ -66,6 +74,7 @@ pub record TurnKept (m : Setting) (l : Ledger) (f : ℕ) (t : Slot) (l' : Ledger
   pub keeps : (spared : ℕ → Bool) → spared f ≡ false → Keeps spared l l'
   pub counts : (r : Slot) → 0 < slots l r + slot_entries l r → 0 < slots l' r + slot_entries l' r
   pub named : 0 < slot_entries l' t
+  pub merged_same : l'.merged ≡ l.merged
 
 -- with no write in flight: then none is afterwards, and no slot's count falls to zero
 pub record Calm (l l' : Ledger) : Type 0 where
@@ -83,6 +92,7 @@ named-sound m l t s named = record {
   flying = s.flying;
   used = λ r g h. by r (same_slot r t) refl _ (s.used r g h);
   one = s.one;
+  merged = s.merged;
 }
   where
     by : (r : Slot) (b : Bool) → same_slot r t ≡ b → (n : ℕ) → 0 < flights l r + slot_entries l r + n + cond b 1 0
@@ -91,13 +101,13 @@ named-sound m l t s named = record {
     by r false is n h = h
 
 pub turn-kept : (m : Setting) (sp : Spared) (l : Ledger) (f : ℕ) (t : Slot) (failed : Bool) → IsSound m l → ((r : Slot) → flights l r ≡ 0) →
-    IsSlotFor m sp l f t → 0 < uses l f → TurnKept m l f t (after_notes l (turn_notes l f t failed))
-turn-kept m sp l f t failed s grounded for in_use =
+    IsSlotFor m sp l f t → mergings l f ≡ 0 → 0 < uses l f → TurnKept m l f t (after_notes l (turn_notes l f t failed))
+turn-kept m sp l f t failed s grounded for unmerged in_use =
     subst (TurnKept m l f t) (sym (after_notes-append l (unmap_notes l f t) (cond (is_dirty l f t) (Started t ∷ end_note failed t ∷ []) [])))
     (goes (is_dirty l f t))
   where
     u : UnmapKept m l f t (after_notes l (unmap_notes l f t))
-    u = unmap_notes-kept m sp l f t s for in_use
+    u = unmap_notes-kept m sp l f t s for unmerged in_use
 
     still : (r : Slot) → flights (after_notes l (unmap_notes l f t)) r ≡ 0
     still r = ap (how_many (same_slot r)) u.flight_same ∙ grounded r
@@ -114,6 +124,7 @@ turn-kept m sp l f t failed s grounded for in_use =
       keeps = u.keeps;
       counts = u.counts;
       named = (let w = u.sound.used t f u.pair in let z = u.none in let y = still t in omega (arith, w, z, y));
+      merged_same = u.merged_same;
     }
     goes true =
         let l1 = after_notes l (unmap_notes l f t) in
@@ -132,6 +143,7 @@ turn-kept m sp l f t failed s grounded for in_use =
               ap (λ es. slot_entries (record l1 { entries = es }) r) a.entries in
               omega (arith, c, e, d);
           named = subst (λ es. 0 < slot_entries (record l1 { entries = es }) t) (sym a.entries) named;
+          merged_same = a.merged ∙ u.merged_same;
         }
       where
         lands : (r : Slot) (b : Bool) (n : ℕ) → n ≡ flights (after_notes l (unmap_notes l f t)) r + cond b 1 0 → cond b 0 n ≡ 0
@@ -159,45 +171,56 @@ not_first spared f fs out = by (spared f) refl
 less_out : (spared : ℕ → Bool) (f : ℕ) (fs : List ℕ) → LeavesOut spared (f ∷ fs) → LeavesOut spared fs
 less_out spared f fs out g h = let z = out g h in omega (arith, z)
 
+-- none of the frames is merged
+abbrev pub AreUnmerged : Ledger → List ℕ → Type 0
+AreUnmerged l fs = (g : ℕ) → 0 < how_many (λ y. g == y) fs → mergings l g ≡ 0
+
+pub unmerged-first : (l : Ledger) (f : ℕ) (fs : List ℕ) → AreUnmerged l (f ∷ fs) → mergings l f ≡ 0
+unmerged-first l f fs h = h f (let b = flag _ _ (same-itself f) in omega (arith, b))
+
+pub unmerged-rest : (l l' : Ledger) (f : ℕ) (fs : List ℕ) → l'.merged ≡ l.merged → AreUnmerged l (f ∷ fs) → AreUnmerged l' fs
+unmerged-rest l l' f fs same h g in_list = ap (how_many (λ y. g == y)) same ∙ h g (omega (arith, in_list))
+
 -- what the rest of the frames keeps, from any ledger on
 abbrev pub Again : Setting → Spared → List ℕ → Type 0
-Again m sp fs = (l' : Ledger) (ns : List Note) → IsSound m l' → ((r : Slot) → flights l' r ≡ 0) → AreReady l' fs → LeavesOut sp.frame fs
-    → Turns m sp l' fs ns →
-    Passed m sp.frame l' (after_notes l' ns)
+Again m sp fs = (l' : Ledger) (ns : List Note) → IsSound m l' → ((r : Slot) → flights l' r ≡ 0) → AreReady l' fs → AreUnmerged l' fs
+    → LeavesOut (is_spared sp) fs → Turns m sp l' fs ns →
+    Passed m (is_spared sp) l' (after_notes l' ns)
 
 pub turns-kept : (m : Setting) (sp : Spared) (l : Ledger) (fs : List ℕ) (notes : List Note) → IsSound m l → ((r : Slot) → flights l r ≡ 0)
-    → AreReady l fs →
-    LeavesOut sp.frame fs → Turns m sp l fs notes → Passed m sp.frame l (after_notes l notes)
-turns-kept m sp l [] notes s grounded ready out r = subst (λ ns. Passed m sp.frame l (after_notes l ns)) (sym r)
-    (record { sound = s; keeps = keeps-alike sp.frame l l (alike-by l l refl refl); calm = λ g. record { grounded = g; counts = λ r h. h } })
-turns-kept m sp l (f ∷ fs) notes s grounded ready out r =
-    stuck (λ l' ns s' g' r' o' t'. turns-kept m sp l' fs ns s' g' r' o' t') (is_stuck m sp l f) r
+    → AreReady l fs → AreUnmerged l fs →
+    LeavesOut (is_spared sp) fs → Turns m sp l fs notes → Passed m (is_spared sp) l (after_notes l notes)
+turns-kept m sp l [] notes s grounded ready unmerged out r = subst (λ ns. Passed m (is_spared sp) l (after_notes l ns)) (sym r)
+    (record { sound = s; keeps = keeps-alike (is_spared sp) l l (alike-by l l refl refl refl); calm = λ g. record { grounded = g; counts = λ r h. h } })
+turns-kept m sp l (f ∷ fs) notes s grounded ready unmerged out r =
+    stuck (λ l' ns s' g' r' u' o' t'. turns-kept m sp l' fs ns s' g' r' u' o' t') (is_stuck m sp l f) r
   where
     stuck : Again m sp fs → (b : Bool) → MatchBool b (Turns m sp l fs notes)
         ((t : Slot) × (failed : Bool) × IsSlotFor m sp l f t × MatchBool (stays_cached l f t failed)
         ((rest : List Note) × (notes ≡ turn_notes l f t failed ++ rest) × Turns m sp (after_notes l (turn_notes l f t failed)) fs rest)
         (notes ≡ turn_notes l f t failed ++ Dropped t ∷ []))
-        → Passed m sp.frame l (after_notes l notes)
-    stuck again true r = again l notes s grounded (ready-rest l l f fs (λ g other. refl) ready) (less_out sp.frame f fs out) r
+        → Passed m (is_spared sp) l (after_notes l notes)
+    stuck again true r = again l notes s grounded (ready-rest l l f fs (λ g other. refl) ready) (unmerged-rest l l f fs refl unmerged) (less_out (is_spared sp) f fs out) r
     stuck again false r = goes (stays_cached l f r.0 r.1) r.3
       where
         here : TurnKept m l f r.0 (after_notes l (turn_notes l f r.0 r.1))
-        here = turn-kept m sp l f r.0 r.1 s grounded r.2 (ready-first l f fs ready)
+        here = turn-kept m sp l f r.0 r.1 s grounded r.2 (unmerged-first l f fs unmerged) (ready-first l f fs ready)
 
-        apart : sp.frame f ≡ false
-        apart = not_first sp.frame f fs out
+        apart : (is_spared sp) f ≡ false
+        apart = not_first (is_spared sp) f fs out
 
         goes : (b : Bool) → MatchBool b
             ((rest : List Note) × (notes ≡ turn_notes l f r.0 r.1 ++ rest) × Turns m sp (after_notes l (turn_notes l f r.0 r.1)) fs
-            rest) (notes ≡ turn_notes l f r.0 r.1 ++ Dropped r.0 ∷ []) → Passed m sp.frame l (after_notes l notes)
+            rest) (notes ≡ turn_notes l f r.0 r.1 ++ Dropped r.0 ∷ []) → Passed m (is_spared sp) l (after_notes l notes)
         goes true q =
             let l1 = after_notes l (turn_notes l f r.0 r.1) in
-            let later = again l1 q.0 here.sound here.grounded (ready-rest l l1 f fs here.others ready) (less_out sp.frame f fs out) q.2 in
-            subst (λ ns. Passed m sp.frame l (after_notes l ns)) (sym q.1)
-            (subst (Passed m sp.frame l) (sym (after_notes-append l (turn_notes l f r.0 r.1) q.0))
+            let later = again l1 q.0 here.sound here.grounded (ready-rest l l1 f fs here.others ready)
+            (unmerged-rest l l1 f fs here.merged_same unmerged) (less_out (is_spared sp) f fs out) q.2 in
+            subst (λ ns. Passed m (is_spared sp) l (after_notes l ns)) (sym q.1)
+            (subst (Passed m (is_spared sp) l) (sym (after_notes-append l (turn_notes l f r.0 r.1) q.0))
             (record {
               sound = later.sound;
-              keeps = keeps-then sp.frame l l1 _ (here.keeps sp.frame apart) later.keeps;
+              keeps = keeps-then (is_spared sp) l l1 _ (here.keeps (is_spared sp) apart) later.keeps;
               calm = λ z. record {
                 grounded = (later.calm here.grounded).grounded;
                 counts =
@@ -206,12 +229,12 @@ turns-kept m sp l (f ∷ fs) notes s grounded ready out r =
             }))
         goes false q =
             let l1 = after_notes l (turn_notes l f r.0 r.1) in
-            subst (λ ns. Passed m sp.frame l (after_notes l ns)) (sym q)
-            (subst (Passed m sp.frame l) (sym (after_notes-append l (turn_notes l f r.0 r.1) (Dropped r.0 ∷ [])))
+            subst (λ ns. Passed m (is_spared sp) l (after_notes l ns)) (sym q)
+            (subst (Passed m (is_spared sp) l) (sym (after_notes-append l (turn_notes l f r.0 r.1) (Dropped r.0 ∷ [])))
             (record {
               sound = drop-sound m l1 r.0 here.sound (here.grounded r.0);
-              keeps = keeps-then sp.frame l l1 _ (here.keeps sp.frame apart)
-                  (keeps-dropped sp.frame l1 r.0
+              keeps = keeps-then (is_spared sp) l l1 _ (here.keeps (is_spared sp) apart)
+                  (keeps-dropped (is_spared sp) l1 r.0 here.sound.frames_once
                   (λ g h i. let two = two_frames r.0 g f l1.cache (other g h) in let once = here.sound.slots_once r.0 in
                   let p = here.pair in omega (arith, two, once, p)));
               calm = λ z. record {
@@ -229,11 +252,11 @@ turns-kept m sp l (f ∷ fs) notes s grounded ready out r =
                 (sym (slot-is x r.0 is)) here.named in omega (arith, w, d)
             dropped x false is n e c d k = omega (arith, c, d, k)
 
-            other : (g : ℕ) → sp.frame g ≡ true → (g == f) ≡ false
+            other : (g : ℕ) → (is_spared sp) g ≡ true → (g == f) ≡ false
             other g h = by (g == f) refl
               where
                 by : (b : Bool) → (g == f) ≡ b → b ≡ false
-                by true is = let e = sym h ∙ ap sp.frame (same-is g f is) ∙ apart in cc
+                by true is = let e = sym h ∙ ap (is_spared sp) (same-is g f is) ∙ apart in cc
                 by false is = refl
 
 pub count-filter : (q : ℕ → Bool) (g : ℕ) (fs : List ℕ) → how_many (λ y. g == y) (filter q fs) ≡ cond (q g) (how_many (λ y. g == y) fs) 0
@@ -264,14 +287,30 @@ all-ready m sp l s g =
     let b = count-reverse (λ y. g == y) l.inactive [] in
     let c = count-reverse (λ y. g == y) l.active [] in
     let d = s.listed g in
-    let e = less_filter (λ f. not (sp.frame f)) g (reverse l.inactive ++ reverse l.active) in
+    let e = less_filter (has_turn sp l) g (reverse l.inactive ++ reverse l.active) in
     omega (arith, a, b, c, d, e)
 
+-- and isn't merged
+pub all-unmerged : (sp : Spared) (l : Ledger) (fs : List ℕ) → AreUnmerged l (filter (has_turn sp l) fs)
+all-unmerged sp l fs g h = by (is_merged l g) refl
+  where
+    no_turn : (a b : Bool) → b ≡ true → (not a && not b) ≡ false
+    no_turn true b e = refl
+    no_turn false b e = ap not e
+
+    by : (b : Bool) → is_merged l g ≡ b → mergings l g ≡ 0
+    by true is = let e = count-filter (has_turn sp l) g fs ∙ ap (λ b. cond b (how_many (λ y. g == y) fs) 0) (no_turn ((is_spared sp) g) (is_merged l g) is) in
+        absurd (omega (arith, e, h))
+    by false is = none _ (sym (any-counts (λ y. g == y) l.merged) ∙ is)
+      where
+        none : (n : ℕ) → nat_lt 0 n ≡ false → n ≡ 0
+        none n e = grind (arith, nat_tests, e)
+
 pub pass-kept : (m : Setting) (sp : Spared) (l : Ledger) (notes : List Note) → IsSound m l → IsPass m sp l notes
-    → Passed m sp.frame l (after_notes l notes)
+    → Passed m (is_spared sp) l (after_notes l notes)
 pass-kept m sp l notes s r =
-    subst (λ ns. Passed m sp.frame l (after_notes l ns)) (sym r.2)
-    (subst (Passed m sp.frame l) (sym (after_notes-append l r.0 r.1)) (goes (has_free m (after_notes l r.0)) r.4))
+    subst (λ ns. Passed m (is_spared sp) l (after_notes l ns)) (sym r.2)
+    (subst (Passed m (is_spared sp) l) (sym (after_notes-append l r.0 r.1)) (goes (has_free m (after_notes l r.0)) r.4))
   where
     now : Ledger
     now = after_notes l r.0
@@ -282,8 +321,9 @@ pass-kept m sp l notes s r =
     ready : AreReady (after_notes l r.0) (frames_in_turn sp (after_notes l r.0))
     ready = all-ready m sp (after_notes l r.0) done.sound
 
-    out : (fs : List ℕ) → LeavesOut sp.frame (filter (λ f. not (sp.frame f)) fs)
-    out fs g h = count-filter (λ f. not (sp.frame f)) g fs ∙ ap (λ b. cond (not b) (how_many (λ y. g == y) fs) 0) h
+    out : (fs : List ℕ) → LeavesOut (is_spared sp) (filter (has_turn sp now) fs)
+    out fs g h = count-filter (has_turn sp now) g fs
+        ∙ ap (λ b. cond (not b && not (is_merged now g)) (how_many (λ y. g == y) fs) 0) h
 
     -- with nothing in flight nothing is completed
     nothing_done : ((x : Slot) → flights l x ≡ 0) → after_notes l r.0 ≡ l
@@ -299,11 +339,11 @@ pass-kept m sp l notes s r =
     counted g x h = subst (λ y. 0 < slots y x + slot_entries y x) (sym (nothing_done g)) h
 
     goes : (b : Bool) → MatchBool b (r.1 ≡ []) (Turns m sp (after_notes l r.0) (frames_in_turn sp (after_notes l r.0)) r.1) →
-        Passed m sp.frame l (after_notes (after_notes l r.0) r.1)
-    goes true q = subst (λ ns. Passed m sp.frame l (after_notes (after_notes l r.0) ns)) (sym q)
+        Passed m (is_spared sp) l (after_notes (after_notes l r.0) r.1)
+    goes true q = subst (λ ns. Passed m (is_spared sp) l (after_notes (after_notes l r.0) ns)) (sym q)
         (record {
           sound = done.sound;
-          keeps = done.keeps sp.frame;
+          keeps = done.keeps (is_spared sp);
           calm = λ g. record {
             grounded = all_landed m l (after_notes l r.0) done;
             counts = counted g;
@@ -312,19 +352,20 @@ pass-kept m sp l notes s r =
     goes false q =
         let later = turns-kept m sp (after_notes l r.0) (frames_in_turn sp (after_notes l r.0)) r.1 done.sound
         (all_landed m l (after_notes l r.0) done) ready
+        (all-unmerged sp (after_notes l r.0) (reverse (after_notes l r.0).inactive ++ reverse (after_notes l r.0).active))
         (out (reverse (after_notes l r.0).inactive ++ reverse (after_notes l r.0).active)) q in
         record {
           sound = later.sound;
-          keeps = keeps-then sp.frame l (after_notes l r.0) _ (done.keeps sp.frame) later.keeps;
+          keeps = keeps-then (is_spared sp) l (after_notes l r.0) _ (done.keeps (is_spared sp)) later.keeps;
           calm = λ g. let c = later.calm (all_landed m l (after_notes l r.0) done) in
               record { grounded = c.grounded; counts = λ x h. c.counts x (counted g x h) };
         }
 
 pub seeks-kept : (m : Setting) (sp : Spared) (l : Ledger) (notes : List Note) → IsSound m l → Seeks m sp l notes
-    → Passed m sp.frame l (after_notes l notes)
+    → Passed m (is_spared sp) l (after_notes l notes)
 seeks-kept m sp l notes s r = by (has_free m l) r
   where
-    by : (b : Bool) → MatchBool b (notes ≡ []) (IsPass m sp l notes) → Passed m sp.frame l (after_notes l notes)
-    by true q = subst (λ ns. Passed m sp.frame l (after_notes l ns)) (sym q)
-        (record { sound = s; keeps = keeps-alike sp.frame l l (alike-by l l refl refl); calm = λ g. record { grounded = g; counts = λ r h. h } })
+    by : (b : Bool) → MatchBool b (notes ≡ []) (IsPass m sp l notes) → Passed m (is_spared sp) l (after_notes l notes)
+    by true q = subst (λ ns. Passed m (is_spared sp) l (after_notes l ns)) (sym q)
+        (record { sound = s; keeps = keeps-alike (is_spared sp) l l (alike-by l l refl refl refl); calm = λ g. record { grounded = g; counts = λ r h. h } })
     by false q = pass-kept m sp l notes s q

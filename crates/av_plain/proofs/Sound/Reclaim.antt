@@ -5,7 +5,7 @@ use Rattle.std.specs.Prelude.{IsTrue, MatchOption}
 use Rattle.av_base.specs.Words.{how_many}
 use Rattle.av_base.specs.declared.slot.Slot.{Slot}
 use Rattle.av_trace.specs.declared.note.Cause.{Cause}
-use Rattle.av_trace.specs.declared.note.Cause.TheVariants.{NoSlot, Referenced, WriteStarted, Writeback}
+use Rattle.av_trace.specs.declared.note.Cause.TheVariants.{Ksm, Locked, NoSlot, Referenced, WriteStarted, Writeback}
 use Rattle.av_trace.specs.declared.note.Note.{Note}
 use Rattle.av_trace.specs.declared.note.Note.TheVariants.{Aged, Dropped, Kept, Started}
 use Rattle.av_plain.specs.Event.{after_note, after_notes, change_entries, without_seen}
@@ -21,6 +21,8 @@ use Rattle.av_plain.proofs.Sound.Counts.{pair-frame, pair-slot}
 use Rattle.av_plain.proofs.Sound.Flight.{started-kept}
 use Rattle.av_plain.proofs.Sound.Pass.{AreReady, alike-uses, count-reverse, drop-others, ready-first, ready-rest}
 use Rattle.av_plain.proofs.Sound.Steps.{UnmapKept, alike-started, given-nowhere, unmap_notes-kept}
+use Rattle.av_plain.specs.Sound.{mergings}
+use Rattle.av_plain.specs.Ledger.{is_merged}
 
 -- ---- the last frames of a list
 
@@ -85,6 +87,7 @@ unseen-kept m x l f s = record {
       let u = back (to_unseen f) (entry l (p, a)) d (sym (entry-unseen f l (p, a)) ∙ at) in
       let v = back (to_unseen f) (entry l (p, b)) e (sym (entry-unseen f l (p, b)) ∙ at') in
       s.one p a b u.0 v.0 u.1 v.1 (sym (name_one-unseen l f u.0 v.0) ∙ (λ i. name_one l (u.2 i) (v.2 i)) ∙ related);
+  merged = λ g. let a = map_count-unseen f l g in let h = s.merged g in omega (arith, a, h);
 }
 
 -- ---- one frame
@@ -98,6 +101,8 @@ kept-kept : (m : Setting) (l : Ledger) (f : ℕ) (cause : Cause) → IsSound m l
 kept-kept m l f Writeback s in_use = record { sound = head-kept m no_excuse l f s in_use; others = λ g other. refl }
 kept-kept m l f WriteStarted s in_use = record { sound = head-kept m no_excuse l f s in_use; others = λ g other. refl }
 kept-kept m l f NoSlot s in_use = record { sound = active-kept m no_excuse l f s in_use; others = λ g other. refl }
+kept-kept m l f Locked s in_use = record { sound = active-kept m no_excuse l f s in_use; others = λ g other. refl }
+kept-kept m l f Ksm s in_use = record { sound = active-kept m no_excuse l f s in_use; others = λ g other. refl }
 kept-kept m l f Referenced s in_use = record {
   sound = active-kept m no_excuse (change_entries f without_seen l) f (unseen-kept m no_excuse l f s)
       (let e = uses-unseen f l f in omega (arith, e, in_use));
@@ -118,14 +123,14 @@ not_flying m sp l f t s for idle = by (slot_of l f) for idle
     by (Some r) same h = zero_is (flights l t) (sym (any-counts (same_slot t) l.flight) ∙ ap (in_flight l) same ∙ h)
 
 pub leave-kept : (m : Setting) (sp : Spared) (l : Ledger) (f : ℕ) (t : Slot) → IsSound m l → IsSlotFor m sp l f t
-    → is_in_writeback l (slot_of l f) ≡ false →
+    → is_in_writeback l (slot_of l f) ≡ false → mergings l f ≡ 0 →
     0 < uses l f → OutcomeKept m l f (after_notes l (leave_notes l f t))
-leave-kept m sp l f t s for idle in_use = subst (OutcomeKept m l f)
+leave-kept m sp l f t s for idle unmerged in_use = subst (OutcomeKept m l f)
     (sym (after_notes-append l (unmap_notes l f t) (cond (is_dirty l f t) (Started t ∷ Kept f WriteStarted ∷ []) (Dropped t ∷ []))))
     (goes (is_dirty l f t))
   where
     u : UnmapKept m l f t (after_notes l (unmap_notes l f t))
-    u = unmap_notes-kept m sp l f t s for in_use
+    u = unmap_notes-kept m sp l f t s for unmerged in_use
 
     still : flights (after_notes l (unmap_notes l f t)) t ≡ 0
     still = ap (how_many (same_slot t)) u.flight_same ∙ not_flying m sp l f t s for idle
@@ -155,11 +160,27 @@ leave-kept m sp l f t s for idle in_use = subst (OutcomeKept m l f)
 
 -- a frame that no test keeps isn't in writeback
 idle_of : (m : Setting) (sp : Spared) (l : Ledger) (f : ℕ) → cause_of m sp l f ≡ None → is_in_writeback l (slot_of l f) ≡ false
-idle_of m sp l f h = by (is_in_writeback l (slot_of l f)) (is_referenced l f) (is_stuck m sp l f) h
+idle_of m sp l f h = by (sp.locked f) (is_merged l f) (is_in_writeback l (slot_of l f)) (is_referenced l f) (is_stuck m sp l f) h
   where
-    by : (a b c : Bool) → cond a (Some Writeback) (cond b (Some Referenced) (cond c (Some NoSlot) None)) ≡ None → a ≡ false
-    by true b c h = cc
-    by false b c h = refl
+    by : (x y a b c : Bool)
+        → cond x (Some Locked) (cond y (Some Ksm) (cond a (Some Writeback) (cond b (Some Referenced) (cond c (Some NoSlot) None)))) ≡ None
+        → a ≡ false
+    by true y a b c h = cc
+    by false true a b c h = cc
+    by false false true b c h = cc
+    by false false false b c h = refl
+
+-- and isn't merged
+pub unmerged_of : (m : Setting) (sp : Spared) (l : Ledger) (f : ℕ) → cause_of m sp l f ≡ None → mergings l f ≡ 0
+unmerged_of m sp l f h = none _ (sym (any-counts (λ y. f == y) l.merged) ∙ by (sp.locked f) (is_merged l f) _ h)
+  where
+    none : (n : ℕ) → nat_lt 0 n ≡ false → n ≡ 0
+    none n e = grind (arith, nat_tests, e)
+
+    by : (x y : Bool) (o : Option Cause) → cond x (Some Locked) (cond y (Some Ksm) o) ≡ None → y ≡ false
+    by true y o h = cc
+    by false true o h = cc
+    by false false o h = refl
 
 pub outcome-kept : (m : Setting) (sp : Spared) (l : Ledger) (f : ℕ) (notes : List Note) → IsSound m l → 0 < uses l f → Outcome m sp l f notes →
     OutcomeKept m l f (after_notes l notes)
@@ -167,7 +188,7 @@ outcome-kept m sp l f notes s in_use h = by (cause_of m sp l f) refl h
   where
     by : (o : Option Cause) → cause_of m sp l f ≡ o → MatchOption o ((t : Slot) × IsSlotFor m sp l f t × (notes ≡ leave_notes l f t))
         (λ cause. notes ≡ Kept f cause ∷ []) → OutcomeKept m l f (after_notes l notes)
-    by None is q = subst (λ ns. OutcomeKept m l f (after_notes l ns)) (sym q.2) (leave-kept m sp l f q.0 s q.1 (idle_of m sp l f is) in_use)
+    by None is q = subst (λ ns. OutcomeKept m l f (after_notes l ns)) (sym q.2) (leave-kept m sp l f q.0 s q.1 (idle_of m sp l f is) (unmerged_of m sp l f is) in_use)
     by (Some cause) is q = subst (λ ns. OutcomeKept m l f (after_notes l ns)) (sym q) (kept-kept m l f cause s in_use)
 
 pub outcomes-kept : (m : Setting) (sp : Spared) (l : Ledger) (fs : List ℕ) (notes : List Note) → IsSound m l → AreReady l fs

@@ -18,11 +18,15 @@ use Rattle.av_plain.proofs.Sound.Cache.{frames_left, put-kept, slots_more, unmap
 use Rattle.av_plain.proofs.Sound.Changes.{any-counts}
 use Rattle.av_plain.proofs.Sound.Counts.{frame_at-none, frame_at-some, holders-off_cache, pair-slot, pairs-off_cache, same-is, same-itself, slot-is, slot_of-none, slot_of-some, slots-off_cache, two_frames}
 use Rattle.av_plain.proofs.Sound.Flight.{drops-kept, excuse_of, failed-kept, flights-off_flight, written-kept}
+use Rattle.av_plain.specs.Sound.{mergings}
+use Rattle.av_plain.proofs.Sound.Changes.{mergings-off_lists}
+use Rattle.av_plain.proofs.Sound.Counts.{pair-frame}
 
 -- ---- changes of lists, flight and stale alone
 
 pub record Alike (l l' : Ledger) : Type 0 where
   pub entries : l'.entries ≡ l.entries
+  pub merged : l'.merged ≡ l.merged
   pub slots_same : (t : Slot) → slots l' t ≡ slots l t
   pub holders_same : (g : ℕ) → holders l' g ≡ holders l g
   pub pairs_same : (t : Slot) (g : ℕ) → pairs l' t g ≡ pairs l t g
@@ -30,14 +34,16 @@ pub record Alike (l l' : Ledger) : Type 0 where
 pub alike-then : (l l' l'' : Ledger) → Alike l l' → Alike l' l'' → Alike l l''
 alike-then l l' l'' a b = record {
   entries = b.entries ∙ a.entries;
+  merged = b.merged ∙ a.merged;
   slots_same = λ t. b.slots_same t ∙ a.slots_same t;
   holders_same = λ g. b.holders_same g ∙ a.holders_same g;
   pairs_same = λ t g. b.pairs_same t g ∙ a.pairs_same t g;
 }
 
-pub alike-by : (l l' : Ledger) → l'.entries ≡ l.entries → l'.cache ≡ l.cache → Alike l l'
-alike-by l l' e c = record {
+pub alike-by : (l l' : Ledger) → l'.entries ≡ l.entries → l'.cache ≡ l.cache → l'.merged ≡ l.merged → Alike l l'
+alike-by l l' e c m = record {
   entries = e;
+  merged = m;
   slots_same = λ t. ap (how_many (λ (c : Cached). same_slot t c.slot)) c;
   holders_same = λ g. ap (how_many (λ (c : Cached). g == c.frame)) c;
   pairs_same = λ t g. ap (how_many (λ (c : Cached). same_slot t c.slot && g == c.frame)) c;
@@ -46,6 +52,7 @@ alike-by l l' e c = record {
 pub alike-with_stale : (l : Ledger) (b : Bool) (t : Slot) → Alike l (with_stale b t l)
 alike-with_stale l b t = record {
   entries = refl;
+  merged = refl;
   slots_same = λ r. same (λ c. same_slot r c.slot) (λ c. slot_same c r);
   holders_same = λ g. same (λ c. g == c.frame) (λ c. frame_same c g);
   pairs_same = λ r g. same (λ c. same_slot r c.slot && g == c.frame) (λ c i. slot_same c r i && frame_same c g i);
@@ -68,16 +75,16 @@ alike-with_stale l b t = record {
     ]
 
 pub alike-started : (l : Ledger) (t : Slot) → Alike l (after_note (Started t) l)
-alike-started l t = alike-then l (record l { flight = l.flight ++ t ∷ [] }) _ (alike-by l _ refl refl)
+alike-started l t = alike-then l (record l { flight = l.flight ++ t ∷ [] }) _ (alike-by l _ refl refl refl)
     (alike-with_stale (record l { flight = l.flight ++ t ∷ [] }) false t)
 
 pub alike-end_note : (l : Ledger) (failed : Bool) (t : Slot) → Alike l (after_note (end_note failed t) l)
-alike-end_note l true t = alike-then l (off_flight t l) _ (alike-by l _ refl refl) (alike-with_stale (off_flight t l) true t)
+alike-end_note l true t = alike-then l (off_flight t l) _ (alike-by l _ refl refl refl) (alike-with_stale (off_flight t l) true t)
 alike-end_note l false t = by (frame_at l t)
   where
     by : (o : Option ℕ) → Alike l (if_some o to_inactive_tail (off_flight t l))
-    by None = alike-by l _ refl refl
-    by (Some f) = alike-by l _ refl refl
+    by None = alike-by l _ refl refl refl
+    by (Some f) = alike-by l _ refl refl refl
 
 pub flights-end_note : (l : Ledger) (failed : Bool) (t r : Slot) → flights (after_note (end_note failed t) l) r ≡ cond (same_slot r t) 0 (flights l r)
 flights-end_note l true t r = flights-off_flight t r l.flight
@@ -133,6 +140,7 @@ pub record Keeps (spared : ℕ → Bool) (l l' : Ledger) : Type 0 where
   pub absent : (t : Slot) → slots l t ≡ 0 → 0 < slot_entries l t → slots l' t ≡ 0
   pub mapped_same : (g : ℕ) → spared g ≡ true → map_count l' g ≡ map_count l g
   pub pairs_kept : (t : Slot) (g : ℕ) → spared g ≡ true → 0 < map_count l g → 0 < pairs l t g → 0 < pairs l' t g
+  pub merged_same : (g : ℕ) → mergings l' g ≡ mergings l g
 
 pub keeps-then : (spared : ℕ → Bool) (l l' l'' : Ledger) → Keeps spared l l' → Keeps spared l' l'' → Keeps spared l l''
 keeps-then spared l l' l'' a b = record {
@@ -141,6 +149,7 @@ keeps-then spared l l' l'' a b = record {
   absent = λ t h i. b.absent t (a.absent t h i) (let u = a.more t in omega (arith, u, i));
   mapped_same = λ g h. b.mapped_same g h ∙ a.mapped_same g h;
   pairs_kept = λ t g h i j. b.pairs_kept t g h (let u = a.mapped_same g h in omega (arith, u, i)) (a.pairs_kept t g h i j);
+  merged_same = λ g. b.merged_same g ∙ a.merged_same g;
 }
 
 pub keeps-alike : (spared : ℕ → Bool) (l l' : Ledger) → Alike l l' → Keeps spared l l'
@@ -150,11 +159,32 @@ keeps-alike spared l l' a = record {
   absent = λ t h i. a.slots_same t ∙ h;
   mapped_same = λ g h. ap (λ es. map_count (record l { entries = es }) g) a.entries;
   pairs_kept = λ t g h i j. let e = a.pairs_same t g in omega (arith, e, j);
+  merged_same = λ g. ap (how_many (λ x. g == x)) a.merged;
 }
 
-pub keeps-dropped : (spared : ℕ → Bool) (l : Ledger) (t : Slot) → ((g : ℕ) → spared g ≡ true → 0 < map_count l g → pairs l t g ≡ 0) →
+-- the frame of a cached slot isn't merged
+pub merged-dropped : (l : Ledger) (t : Slot) → ((g : ℕ) → holders l g + mergings l g ≤ 1) → (g : ℕ)
+    → mergings (after_note (Dropped t) l) g ≡ mergings l g
+merged-dropped l t once g = by (frame_at l t) refl
+  where
+    by : (o : Option ℕ) → frame_at l t ≡ o → mergings (if_some o settle (off_cache t l)) g ≡ mergings l g
+    by None is = refl
+    by (Some f) is = free (is_free (off_cache t l) f)
+      where
+        same : (b : Bool) → (g == f) ≡ b → cond b 0 (mergings l g) ≡ mergings l g
+        same true i = let p = frame_at-some f t l.cache is in let q = pair-frame t f l.cache in let o = once f in
+            let e = ap (mergings l) (same-is g f i) in omega (arith, p, q, o, e)
+        same false i = refl
+
+        free : (b : Bool) → mergings (cond b (off_lists f (off_cache t l)) (off_cache t l)) g ≡ mergings l g
+        free true = mergings-off_lists f g (off_cache t l) ∙ same (g == f) refl
+        free false = refl
+
+pub keeps-dropped : (spared : ℕ → Bool) (l : Ledger) (t : Slot) → ((g : ℕ) → holders l g + mergings l g ≤ 1)
+    → ((g : ℕ) → spared g ≡ true → 0 < map_count l g → pairs l t g ≡ 0) →
     Keeps spared l (after_note (Dropped t) l)
-keeps-dropped spared l t apart = record {
+keeps-dropped spared l t once apart = record {
+  merged_same = merged-dropped l t once;
   steady = λ k h. ap (λ es. entry (record l { entries = es }) k) same;
   more = λ r. let e = ap (λ es. slot_entries (record l { entries = es }) r) same in omega (arith, e);
   absent = λ r h i. gone (same_slot r t) _ _ (slots-dropped l t r) h;
@@ -204,7 +234,7 @@ end_notes-kept m l t failed s =
     by_keeps : (spared : ℕ → Bool) → IsSoundBut m (excuse_of (Some t)) (after_note (end_note failed t) l) → (b : Bool) →
         is_orphan (after_note (end_note failed t) l) t ≡ b → Keeps spared (after_note (end_note failed t) l)
         (after_notes (after_note (end_note failed t) l) (when b (Dropped t)))
-    by_keeps spared s1 true is = keeps-dropped spared (after_note (end_note failed t) l) t
+    by_keeps spared s1 true is = keeps-dropped spared (after_note (end_note failed t) l) t s1.frames_once
         (λ g h i. orphan_pairs m (after_note (end_note failed t) l) t g s1.slots_once is i)
       where
         orphan_pairs : (m : Setting) (l : Ledger) (t : Slot) (g : ℕ) → ((r : Slot) → slots l r ≤ 1) → is_orphan l t ≡ true → 0 < map_count l g
@@ -227,7 +257,7 @@ end_notes-kept m l t failed s =
                     absurd (omega (arith, z, y, h))
                 each false e = let p = frame_at-some f t l.cache if_some in let two = two_frames t g f l.cache e in let o = once t in
                     omega (arith, p, two, o)
-    by_keeps spared s1 false is = keeps-alike spared _ _ (alike-by _ _ refl refl)
+    by_keeps spared s1 false is = keeps-alike spared _ _ (alike-by _ _ refl refl refl)
 
 pub record Completed (m : Setting) (l : Ledger) (ts : List Slot) (l' : Ledger) : Type 0 where
   pub sound : IsSound m l'
@@ -237,7 +267,7 @@ pub record Completed (m : Setting) (l : Ledger) (ts : List Slot) (l' : Ledger) :
 pub completes-kept : (m : Setting) (l : Ledger) (ts : List Slot) (notes : List Note) → IsSound m l → Completes l ts notes →
     Completed m l ts (after_notes l notes)
 completes-kept m l [] notes s c = subst (λ ns. Completed m l [] (after_notes l ns)) (sym c)
-    (record { sound = s; flown = λ r. refl; keeps = λ spared. keeps-alike spared l l (alike-by l l refl refl) })
+    (record { sound = s; flown = λ r. refl; keeps = λ spared. keeps-alike spared l l (alike-by l l refl refl refl) })
 completes-kept m l (t ∷ ts) notes s c =
     let failed = c.0 in
     let here = end_notes-kept m l t failed s in
@@ -307,6 +337,7 @@ pub record UnmapKept (m : Setting) (l : Ledger) (f : ℕ) (t : Slot) (l' : Ledge
   pub others : (g : ℕ) → (g == f) ≡ false → uses l' g ≡ uses l g
   pub keeps : (spared : ℕ → Bool) → spared f ≡ false → Keeps spared l l'
   pub counts : (r : Slot) → 0 < slots l r + slot_entries l r → 0 < slots l' r + slot_entries l' r
+  pub merged_same : l'.merged ≡ l.merged
 
 -- entries that are there become the slot
 unmap_one : (m : Setting) (l : Ledger) (f : ℕ) (t : Slot) → IsSound m l → 0 < pairs l t f → UnmapKept m l f t (change_entries f (λ _. InSlot t) l)
@@ -322,8 +353,10 @@ unmap_one m l f t s pair = record {
     absent = λ r h i. h;
     mapped_same = λ g h. frames_left t f l g false (other spared apart g h);
     pairs_kept = λ r g h i j. j;
+    merged_same = λ g. refl;
   };
   counts = λ r h. let e = slots_more t f l r in omega (arith, e, h);
+  merged_same = refl;
 }
   where
     other : (spared : ℕ → Bool) → spared f ≡ false → (g : ℕ) → spared g ≡ true → (g == f) ≡ false
@@ -350,15 +383,16 @@ unmap_any m l f t s cached true is = record {
   none = grind (arith, nat_tests, is);
   flight_same = refl;
   others = λ g other. refl;
-  keeps = λ spared apart. keeps-alike spared l l (alike-by l l refl refl);
+  keeps = λ spared apart. keeps-alike spared l l (alike-by l l refl refl refl);
   counts = λ r h. h;
+  merged_same = refl;
 }
 unmap_any m l f t s cached false is = subst (UnmapKept m l f t) (sym (ap (λ o. if_some o (λ s. change_entries f (λ _. InSlot s)) l) cached))
     (unmap_one m l f t s (slot_of-some f t l.cache cached))
 
-pub unmap_notes-kept : (m : Setting) (sp : Spared) (l : Ledger) (f : ℕ) (t : Slot) → IsSound m l → IsSlotFor m sp l f t → 0 < uses l f →
-    UnmapKept m l f t (after_notes l (unmap_notes l f t))
-unmap_notes-kept m sp l f t s for in_use = by (slot_of l f) refl for
+pub unmap_notes-kept : (m : Setting) (sp : Spared) (l : Ledger) (f : ℕ) (t : Slot) → IsSound m l → IsSlotFor m sp l f t → mergings l f ≡ 0 →
+    0 < uses l f → UnmapKept m l f t (after_notes l (unmap_notes l f t))
+unmap_notes-kept m sp l f t s for unmerged in_use = by (slot_of l f) refl for
   where
     by : (o : Option Slot) → slot_of l f ≡ o → MatchOption o (IsTrue (may_give m sp.closing l t)) (λ r. t ≡ r) →
         UnmapKept m l f t (after_notes l (when (is_none (slot_of l f)) (Put f t) ++ when (not (map_count l f == 0)) (Unmapped f)))
@@ -381,7 +415,7 @@ unmap_notes-kept m sp l f t s for in_use = by (slot_of l f) refl for
         put_first : UnmapKept m l f t (after_notes (into_cache t f true l) (when (not (map_count l f == 0)) (Unmapped f)))
         put_first =
             let m1 : 0 < map_count l f = omega (arith, out, in_use) in
-            let s1 = put-kept m no_excuse l t f s nowhere.uncached nowhere.unnamed out m1 in
+            let s1 = put-kept m no_excuse l t f s nowhere.uncached nowhere.unnamed out unmerged m1 in
             let u = unmap_any m (into_cache t f true l) f t s1 (first (f == f) (same-itself f)) (map_count l f == 0) refl in
             record {
               sound = u.sound;
@@ -391,6 +425,7 @@ unmap_notes-kept m sp l f t s for in_use = by (slot_of l f) refl for
               others = λ g other. u.others g other ∙ put_other g (g == f) other;
               keeps = λ spared apart. keeps-then spared l (into_cache t f true l) _ (put_keeps spared) (u.keeps spared apart);
               counts = λ r h. u.counts r (omega (arith, h));
+              merged_same = u.merged_same;
             }
           where
             first : (b : Bool) → b ≡ true → option_map (λ (c : Cached). c.slot)
@@ -409,6 +444,7 @@ unmap_notes-kept m sp l f t s for in_use = by (slot_of l f) refl for
               absent = λ r h i. still (same_slot r t) r refl h i;
               mapped_same = λ g h. refl;
               pairs_kept = λ r g h i j. omega (arith, j);
+              merged_same = λ g. refl;
             }
               where
                 still : (b : Bool) (r : Slot) → same_slot r t ≡ b → slots l r ≡ 0 → 0 < slot_entries l r → cond b 1 0 + slots l r ≡ 0

@@ -73,7 +73,7 @@ bring-leave test l f t = bring-append test (unmap_notes l f t) (cond (is_dirty l
     by true = (tt, (tt, tt))
     by false = (tt, tt)
 
-bring-outcome : (test : Key → Bool) (m : Setting) (sp : Spared) (l : Ledger) (f : ℕ) (notes : List Note) → Outcome m sp l f notes
+pub bring-outcome : (test : Key → Bool) (m : Setting) (sp : Spared) (l : Ledger) (f : ℕ) (notes : List Note) → Outcome m sp l f notes
     → AllBring test notes
 bring-outcome test m sp l f notes h = by (cause_of m sp l f) h
   where

@@ -3,7 +3,7 @@ use Rattle.std.proofs.Common.{◌≡◌, ◌⊎◌, inl, inr, ℕ, ◌+◌, ◌<
 use Rattle.std.proofs.lemmas.Bool.Decides.{nat_tests}
 use Rattle.std.specs.Option.{option_map_or}
 use Rattle.std.specs.FinMap.Entries.{find, is_sorted}
-use Rattle.av_trace.specs.declared.note.Cause.TheVariants.{NoSlot, Referenced, WriteStarted, Writeback}
+use Rattle.av_trace.specs.declared.note.Cause.TheVariants.{Locked, NoSlot, Referenced, WriteStarted, Writeback}
 use Rattle.av_trace.specs.declared.note.Note.{Note}
 use Rattle.av_trace.specs.declared.note.Note.TheVariants.{Aged, Copied, Dropped, Failed, Kept, Loaded, Mapped, New, Put, Started, Unmapped, Written, Zeroed}
 use Rattle.std.specs.Prelude.{MatchOption, MatchBool, IsTrue}
@@ -29,6 +29,11 @@ use Rattle.av_plain.proofs.Sound.Entries.{flag, slot_entries-set}
 use Rattle.av_plain.proofs.Sound.Pages.{settle-entries}
 use Rattle.av_plain.proofs.Sound.Pass.{seeks-kept}
 use Rattle.av_plain.proofs.Sound.Steps.{Alike, alike-end_note, alike-started, slots-dropped}
+use Rattle.av_base.specs.Words.{renamed}
+use Rattle.av_plain.specs.Event.{change_frame, renamed_entry}
+use Rattle.av_trace.specs.declared.note.Note.TheVariants.{Joined, Moved, Shared}
+use Rattle.av_trace.specs.declared.note.Cause.TheVariants.{Ksm, Locked}
+use Rattle.av_plain.proofs.Event.{changed-by, slot_entries-renamed}
 
 -- the condition at each note: a `put` names a slot that may be given, a `load` one that an entry names
 abbrev pub IsLawful : Setting → Option ℕ → Ledger → Note → Type 0
@@ -214,6 +219,11 @@ lawful-no_new m closing l note sorted lawful = go note lawful
     fewer k e none = less m l (set_entry k e l) refl
         (λ s h. let a = slot_entries-set k e l s sorted in let z = flag _ _ (none s) in omega (arith, a, z, h))
 
+    changed : (k : Key) (f : ℕ) → NoNew m l (change_frame k f l)
+    changed k f = less m l (change_frame k f l) (changed-by (λ l. l.on) (λ g l. refl) k f l)
+        (λ s h. let a = slot_entries-set k (InFrame f false) l s sorted in let c = changed-by (λ l. count l s) (λ g l. refl) k f l in
+        omega (arith, a, c, h))
+
     alike : (l' : Ledger) → l'.on ≡ l.on → Alike l l' → NoNew m l l'
     alike l' on a = less m l l' on (λ s i. let c = a.slots_same s in let e = ap (λ es. slot_entries (record l { entries = es }) s) a.entries in
         omega (arith, c, e, i))
@@ -230,7 +240,7 @@ lawful-no_new m closing l note sorted lawful = go note lawful
           fits = λ x. record { rising = (r.fits x).rising; attached = (r.fits x).attached; fit = (r.fits x).fit };
           came = r.came;
         }
-    go (Copied p a f) h = let r = fewer (key_at p a) (InFrame f false) (λ s. refl) in
+    go (Copied p a f) h = let r = changed (key_at p a) f in
         record {
           on_same = r.on_same;
           fits = λ x. record { rising = (r.fits x).rising; attached = (r.fits x).attached; fit = (r.fits x).fit };
@@ -293,14 +303,25 @@ lawful-no_new m closing l note sorted lawful = go note lawful
     go (Kept f WriteStarted) h = less m l (after_note (Kept f WriteStarted) l) refl (λ s i. i)
     go (Kept f Referenced) h = less m l (after_note (Kept f Referenced) l) refl (λ s i. let e = slot_entries-unseen f l s in omega (arith, e, i))
     go (Kept f NoSlot) h = less m l (after_note (Kept f NoSlot) l) refl (λ s i. i)
+    go (Kept f Locked) h = less m l (after_note (Kept f Locked) l) refl (λ s i. i)
+    go (Kept f Ksm) h = less m l (after_note (Kept f Ksm) l) refl (λ s i. i)
     go (Aged f) h = less m l (after_note (Aged f) l) refl (λ s i. let e = slot_entries-unseen f l s in omega (arith, e, i))
+    go (Shared f) h = less m l (after_note (Shared f) l) refl (λ s i. i)
+    go (Joined p a f) h = changed (key_at p a) f
+    go (Moved from to) h = less m l (after_note (Moved from to) l) refl (λ s i. let e = slot_entries-renamed from to l s in
+        let c = how_many-map (λ (c : Cached). same_slot s c.slot) (λ (c : Cached). record c { frame = renamed from to c.frame }) l.cache in
+        omega (arith, e, c, i))
 
 -- ---- entries stay in order
+
+sorted-changed : (l : Ledger) (k : Key) (f : ℕ) → T (is_sorted key_cmp l.entries) → T (is_sorted key_cmp (change_frame k f l).entries)
+sorted-changed l k f h = subst (λ es. T (is_sorted key_cmp es)) (sym (changed-by (λ l. l.entries) (λ g l. refl) k f l))
+    (is_sorted-set k (InFrame f false) l h)
 
 pub sorted-note : (l : Ledger) (note : Note) → T (is_sorted key_cmp l.entries) → T (is_sorted key_cmp (after_note note l).entries)
 sorted-note l (Zeroed p a) h = is_sorted-set (key_at p a) Zero l h
 sorted-note l (New p a f) h = is_sorted-set (key_at p a) (InFrame f false) l h
-sorted-note l (Copied p a f) h = is_sorted-set (key_at p a) (InFrame f false) l h
+sorted-note l (Copied p a f) h = sorted-changed l (key_at p a) f h
 sorted-note l (Mapped p a f) h = is_sorted-set (key_at p a) (InFrame f false) l h
 sorted-note l (Loaded t f) h = h
 sorted-note l (Put f t) h = h
@@ -317,7 +338,12 @@ sorted-note l (Kept f Writeback) h = h
 sorted-note l (Kept f WriteStarted) h = h
 sorted-note l (Kept f Referenced) h = subst T (sym (is_sorted-map key_cmp (to_unseen f) l.entries)) h
 sorted-note l (Kept f NoSlot) h = h
+sorted-note l (Kept f Locked) h = h
+sorted-note l (Kept f Ksm) h = h
 sorted-note l (Aged f) h = subst T (sym (is_sorted-map key_cmp (to_unseen f) l.entries)) h
+sorted-note l (Shared f) h = h
+sorted-note l (Joined p a f) h = sorted-changed l (key_at p a) f h
+sorted-note l (Moved from to) h = subst T (sym (is_sorted-map key_cmp (renamed_entry from to) l.entries)) h
 
 pub all_lawful-no_new : (m : Setting) (closing : Option ℕ) (l : Ledger) (notes : List Note) → T (is_sorted key_cmp l.entries)
     → AreLawful m closing l notes →

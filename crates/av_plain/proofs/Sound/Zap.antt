@@ -77,6 +77,7 @@ module _ (m : Setting) (l : Ledger) (k : Key) (s : IsSound m l) where
     used =
         leaving-others.used;
     one = leaving-others.one;
+    merged = λ g. let a = mapped-less g in let z = none g in let h = s.merged g in omega (arith, a, z, h);
   }
 
   leaving-kept : (o : Option Entry) → entry l k ≡ o → IsSoundBut m (excuse_of (slot_behind_key l (entry l k))) (settle_entry o (leaving k l))
@@ -86,6 +87,7 @@ module _ (m : Setting) (l : Ledger) (k : Key) (s : IsSound m l) where
   leaving-kept (Some (InFrame f seen)) is = settle-kept m _ (leaving k l) f leaving-others
       (λ g other. s.listed g ∙ (let a = mapped-less g in let z = ap (weight (names_frame g)) is ∙ flag _ _ other in omega (arith, a, z)))
       (s.listed f ∙ (let found = how_many-found (names_frame f) k l.entries (InFrame f seen) is (same-itself f) in omega (arith, found)))
+      (λ g other. let a = mapped-less g in let z = ap (weight (names_frame g)) is ∙ flag _ _ other in let h = s.merged g in omega (arith, a, z, h))
 
   pub taken-kept : IsSoundBut m (excuse_of (slot_behind_key l (entry l k))) (after_zap k l)
   taken-kept = subst (IsSoundBut m (excuse_of (slot_behind_key l (entry l k)))) (sym (after_zap-is k l)) (leaving-kept (entry l k) refl)

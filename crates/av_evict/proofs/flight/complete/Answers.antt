@@ -3,7 +3,7 @@ use Rattle.std.proofs.lemmas.List.{take_min}
 use Rattle.av_plain.specs.Pass.{Completes}
 use Rattle.av_evict.specs.Steps.{EndsFirst}
 use Rattle.av_evict.proofs.FlightLaws.{CompletesOf, completes-more, first-completes}
-use Rattle.av_evict.proofs.SystemLaws.{loose, midway-end, midway-step, stays_then}
+use Rattle.av_evict.proofs.SystemLaws.{loose, midway-end, midway-step, left_then}
 use Rattle.av_evict.proofs.flight.complete.Goals as goal
 
 pub loop-turn-preserved : goal.loop-turn-preserved
@@ -16,7 +16,7 @@ loop-turn-preserved g c = record {
       (c.loop-turn.invariant.midway told) (c.in_ok-_end.ensures.gives told)
       (λ l ns rest same closed sound stands q h. subst (λ k. CompletesOf k l (ns ++ rest)) one_more
       (completes-more _ l left ns rest sound (first-completes l _ ns q) h));
-  stays = λ told. stays_then (c.loop-turn.invariant.stays told) (c.in_ok-_end.ensures.stays told);
+  stays = λ told. left_then (c.loop-turn.invariant.stays told) (c.in_ok-_end.ensures.stays told);
 }
 
 pub returns-clause-gives : goal.returns-clause-gives

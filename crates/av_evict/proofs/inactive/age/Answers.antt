@@ -4,7 +4,7 @@ use Rattle.av_plain.specs.Reclaim.{from_tail}
 use Rattle.av_evict.proofs.TailLaws.{ages-end}
 use Rattle.av_evict.specs.Steps.{IsUsed}
 use Rattle.av_evict.specs.System.{Adds, Always}
-use Rattle.av_evict.proofs.SystemLaws.{gives-as, gives-at, loose, midway-start, midway-step, stays_so, stays_then}
+use Rattle.av_evict.proofs.SystemLaws.{gives-as, gives-at, left_so, left_then, loose, midway-start, midway-step}
 use Rattle.av_evict.proofs.TailLaws.{AgesLeft, active-used, age-leaves, ages-more, last-some}
 use Rattle.av_evict.proofs.inactive.age.Goals as goal
 
@@ -23,7 +23,7 @@ loop-turn-init g c = record {
       let at = c.requires in
       let many = c.active_len.ensures false at.0 (loose _ _ at.0 at.1) at.2 in
       (at.0, at.1, at.2, omega (arith, many, c.min-turns.ensures));
-  stays = λ told. stays_so _;
+  stays = λ told. left_so _;
 }
 
 pub loop-turn-preserved : goal.loop-turn-preserved
@@ -53,7 +53,7 @@ loop-turn-preserved g c = record {
       (Adds (Aged f ∷ [])) (Adds (Aged f ∷ []))
       (c.in_ok-age_one.ensures.gives false) (λ l sound stands q. active-used _ l f sound q.1) (λ l ns sound stands q is. is))
       (λ l ns sound q is after. age-leaves _ left l f ns sound q.1 is q.0);
-  stays = λ told. stays_then (c.loop-turn.invariant.stays told) (c.in_ok-age_one.ensures.stays told);
+  stays = λ told. left_then (c.loop-turn.invariant.stays told) (c.in_ok-age_one.ensures.stays told);
 }
 
 pub unreachable-requires : goal.unreachable-requires

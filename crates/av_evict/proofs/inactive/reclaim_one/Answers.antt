@@ -1,45 +1,61 @@
-use Rattle.std.proofs.Common.{◌∷◌, [], Some, None, false}
-use Rattle.av_trace.specs.declared.note.Cause.TheVariants.{NoSlot}
+use Rattle.std.proofs.Common.{[], None, false, sym, ◌∙◌, ◌∷◌}
+use Rattle.av_trace.specs.declared.note.Cause.TheVariants.{Ksm, Locked}
 use Rattle.av_trace.specs.declared.note.Note.TheVariants.{Kept}
 use Rattle.av_plain.specs.Reclaim.{Outcome}
-use Rattle.av_evict.specs.Inactive.{GoesOut, IsSentIdle}
-use Rattle.av_evict.specs.Steps.{IsUsed, spares}
-use Rattle.av_evict.specs.System.{Adds}
-use Rattle.av_evict.proofs.InactiveLaws.{GoesOn, goes-on, outcome-sent, outcome-stuck, sent-idle, stuck-used}
-use Rattle.av_evict.proofs.SystemLaws.{gives-at, gives-then}
+use Rattle.av_evict.specs.Steps.{IsUsed, MaySend, closes}
+use Rattle.av_evict.specs.System.{Adds, spares}
+use Rattle.av_evict.proofs.InactiveLaws.{outcome-locked, outcome-merged, outcome-unlocked}
+use Rattle.av_evict.proofs.SystemLaws.{gives-as, loose}
 use Rattle.av_evict.proofs.inactive.reclaim_one.Goals as goal
 
-pub returns-in_default-clause-gives : goal.returns-in_default-clause-gives
-returns-in_default-clause-gives g c = λ told.
+pub is_locked-requires-clause-in_range : goal.is_locked-requires-clause-in_range
+is_locked-requires-clause-in_range g c = let at = c.requires in at.1.in_range c.args.frame at.3
+
+pub is_locked-requires-clause-stands : goal.is_locked-requires-clause-stands
+is_locked-requires-clause-stands g c = let at = c.requires in (at.0, loose _ _ at.0 at.1, at.2, tt)
+
+pub is_merged-requires : goal.is_merged-requires
+is_merged-requires g c = let at = c.requires in at.1.in_range c.args.frame at.3
+
+pub reclaim_unspared-requires-clause-may : goal.reclaim_unspared-requires-clause-may
+reclaim_unspared-requires-clause-may g c = let at = c.requires in (
+  at.0,
+  at.1,
+  at.2,
+  record {
+    used = at.3;
+    unmerged = sym (c.is_merged.ensures false at.0 (loose _ _ at.0 at.1) at.2) ∙ c.if-is_merged.false;
+  },
+)
+
+pub reclaim_unspared-requires-clause-unlocked : goal.reclaim_unspared-requires-clause-unlocked
+reclaim_unspared-requires-clause-unlocked g c = sym (c.is_locked.ensures false) ∙ c.if-is_locked.false
+
+pub returns-then-is_locked-clause-gives : goal.returns-then-is_locked-clause-gives
+returns-then-is_locked-clause-gives g c = λ told.
     let k = g.S.System.view c.args.system.now told in
     let f = c.args.frame in
-    gives-then _ _ _ _ _ _ (IsUsed f) (IsUsed f) (GoesOn k.setting k.closing f None) (Adds (Kept f NoSlot ∷ []))
-    (λ l ns. Outcome k.setting (spares k.closing None) l f ns)
-    (goes-on _ _ _ _ _ _ f None _ (c.is_in_writeback.ensures told) c.if-is_in_writeback.false (c.keep_referenced.ensures.stays told)
-    (rw c.if-branch.false at (c.in_ok-keep_referenced.ensures.gives told)) (rw c.in_default.is at (c.in_ok-slot.ensures.gives told)))
-    (c.in_ok-keep-2.ensures.gives told)
-    (λ l ns sound used on after. stuck-used k.setting k.closing l f ns used on)
-    (λ l ns ms sound used on is. outcome-stuck k.setting k.closing l f ns ms on is)
+    gives-as _ _ _ _ (IsUsed f) (IsUsed f) (Adds (Kept f Locked ∷ [])) (λ l ns. Outcome k.setting (spares k None) l f ns)
+    (c.in_ok-keep.ensures.gives told) (λ l sound stands used. used)
+    (λ l ns sound stands used is. outcome-locked k.setting (spares k None) l f ns (sym c.if-is_locked.true ∙ c.is_locked.ensures told) is)
 
-pub write_or_drop-requires : goal.write_or_drop-requires
-write_or_drop-requires g c =
-    let k = g.S.System.view c.args.system.now false in
+pub returns-then-is_merged-clause-gives : goal.returns-then-is_merged-clause-gives
+returns-then-is_merged-clause-gives g c = λ told.
+    let k = g.S.System.view c.args.system.now told in
     let f = c.args.frame in
-    let s = c.in-Some.slot in
-    gives-at _ _ _ _ (IsUsed f) (IsSentIdle f s) (GoesOn k.setting k.closing f (Some s)) c.requires
-    (goes-on _ _ _ _ _ _ f (Some s) _ (c.is_in_writeback.ensures false) c.if-is_in_writeback.false (c.keep_referenced.ensures.stays false)
-    (rw c.if-branch.false at (c.in_ok-keep_referenced.ensures.gives false)) (rw c.in-Some.is at (c.in_ok-slot.ensures.gives false)))
-    (λ l ns sound used on after. sent-idle k.setting k.closing l f s ns sound used on)
+    gives-as _ _ _ _ (IsUsed f) (IsUsed f) (Adds (Kept f Ksm ∷ [])) (λ l ns. Outcome k.setting (spares k None) l f ns)
+    (c.in_ok-keep-2.ensures.gives told) (λ l sound stands used. used)
+    (λ l ns sound stands used is. outcome-merged k.setting (spares k None) l f ns (sym (c.is_locked.ensures told) ∙ c.if-is_locked.false)
+    (sym c.if-is_merged.true ∙ c.is_merged.ensures told l (loose _ _ l sound) stands) is)
 
 pub returns-clause-gives : goal.returns-clause-gives
 returns-clause-gives g c = λ told.
     let k = g.S.System.view c.args.system.now told in
     let f = c.args.frame in
-    let s = c.in-Some.slot in
-    gives-then _ _ _ _ _ _ (IsUsed f) (IsSentIdle f s) (GoesOn k.setting k.closing f (Some s)) (GoesOut f s)
-    (λ l ns. Outcome k.setting (spares k.closing None) l f ns)
-    (goes-on _ _ _ _ _ _ f (Some s) _ (c.is_in_writeback.ensures told) c.if-is_in_writeback.false (c.keep_referenced.ensures.stays told)
-    (rw c.if-branch.false at (c.in_ok-keep_referenced.ensures.gives told)) (rw c.in-Some.is at (c.in_ok-slot.ensures.gives told)))
-    (c.in_ok-write_or_drop.ensures.gives told)
-    (λ l ns sound used on after. sent-idle k.setting k.closing l f s ns sound used on)
-    (λ l ns ms sound used on out. outcome-sent k.setting k.closing l f s ns ms on out)
+    gives-as _ _ _ _ (MaySend f) (IsUsed f) (λ l ns. Outcome k.setting (closes k.closing) l f ns) (λ l ns. Outcome k.setting (spares k None) l f ns)
+    (c.in_ok-reclaim_unspared.ensures.gives told)
+    (λ l sound stands used. record {
+      used = used;
+      unmerged = sym (c.is_merged.ensures told l (loose _ _ l sound) stands) ∙ c.if-is_merged.false;
+    })
+    (λ l ns sound stands used out. outcome-unlocked k.setting (spares k None) l f ns (sym (c.is_locked.ensures told) ∙ c.if-is_locked.false) out)

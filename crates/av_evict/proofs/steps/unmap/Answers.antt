@@ -8,11 +8,11 @@ use Rattle.av_evict.proofs.StepLaws.{cached-below, mapped-unmap, unmap-notes, un
 use Rattle.av_evict.proofs.steps.unmap.Goals as goal
 
 pub is_mapped-requires : goal.is_mapped-requires
-is_mapped-requires g c = cached-below _ c.requires.0 c.args.frame c.requires.1 c.requires.3
+is_mapped-requires g c = cached-below _ c.requires.cached.0 c.args.frame c.requires.cached.1 c.requires.cached.3
 
-pub unmap-requires : goal.unmap-requires
-unmap-requires g c =
-    let at = c.requires in
+pub unmap-requires-clause-may : goal.unmap-requires-clause-may
+unmap-requires-clause-may g c =
+    let at = c.requires.cached in
     let know = loose _ _ at.0 at.1 in
     (at.0, know, at.2, mapped-unmap at.0 c.args.frame _ (c.is_mapped.ensures false at.0 know at.2) c.if-is_mapped.true at.3)
 

@@ -1,14 +1,17 @@
-use Rattle.std.proofs.Common.{ℕ, Bool, true, false, ◌+◌, ◌-◌, ◌^◌, ◌≤◌, ◌∷◌, ◌++◌, [], List, min, None, Option, ap, if◌then◌else◌, refl, arith}
+use Rattle.std.proofs.Common.{ℕ, Bool, true, false, ◌+◌, ◌-◌, ◌^◌, ◌≤◌, ◌∷◌, ◌++◌, [], List, min, None, Option, ap, if◌then◌else◌, refl, arith, cond, is_some, ◌∙◌, ◌≡◌}
 use Rattle.av_trace.specs.declared.note.Note.{Note}
+use Rattle.av_trace.specs.declared.note.Note.TheVariants.{Aged, Copied, Dropped, Failed, Joined, Kept, Loaded, Mapped, Moved, New, Put, Shared, Started, Unmapped, Written, Zeroed}
 use Rattle.av_plain.specs.Areas.{Rmap, rmap_after_all}
 use Rattle.av_plain.specs.Choice.{Free, new_free, with_given_back}
 use Rattle.av_plain.specs.Event.{after_note, note_events}
 use Rattle.av_plain.specs.Ledger.{Ledger, Setting}
-use Rattle.av_plain.specs.Load.{with_loads}
+use Rattle.av_plain.specs.Fault.{is_locked}
+use Rattle.av_plain.specs.Load.{after_loads, with_loads}
 use Rattle.av_plain.specs.Pass.{fails}
 use Rattle.av_plain.specs.World.{World}
 use Rattle.av_evict.specs.System.{Does}
-use Rattle.av_evict.specs.Witness.{TakesNext, only_view, setting_told}
+use Rattle.av_evict.specs.Witness.{IsStep, TakesNext, only_view, setting_told}
+use Rattle.av_evict.proofs.LockedLaws.{age-locked, drop-locked, end-locked, keep-locked, put-locked, start-locked, unmap-locked}
 use Rattle.av_evict.proofs.witness.steps_can_be_met.Goals as goal
 
 most : (n a top : ℕ) → min (a + n) top ≤ a + n
@@ -39,7 +42,7 @@ met m closing first free failures w r l note next = record {
     record { frames = (next.frames, next.first, refl); slots = (free.slots, next.slots, refl, next.slot, refl) },
     refl,
   );
-  claims = λ v q is. (ap (λ x. with_loads m x l (note_events (note ∷ []))) is.0, ap (rmap_after_all l (note_events (note ∷ []))) is.1);
+  claims = λ v q is. (ap (λ x. with_loads m x l (note_events (note ∷ []))) is.0, ap (rmap_after_all l (note_events (note ∷ []))) is.1, refl);
   failures = most (fails (note ∷ [])) failures (2 ^ 64 - 1);
 }
 
@@ -55,11 +58,62 @@ met_told m closing first free failures w r l note next true = met m closing firs
 met_told m closing first free failures w r l note next false = met (setting_told false m) closing None free failures w r l note
     (record { frames = next.frames; slots = next.slots; first = next.first; slot = next.slot })
 
+-- a step loads nothing
+step-world : (m : Setting) (w : World) (l : Ledger) (note : Note) → IsStep w l note → with_loads m w l (note_events (note ∷ [])) ≡ w
+step-world m w l note step = by note step (is_some m.headers)
+  where
+    same : (b : Bool) → cond b w w ≡ w
+    same true = refl
+    same false = refl
+
+    by : (note : Note) → IsStep w l note → (b : Bool) → cond b w (after_loads w l (note_events (note ∷ []))) ≡ w
+    by (Put f s) step b = same b
+    by (Unmapped f) step b = same b
+    by (Started s) step b = same b
+    by (Written s) step b = same b
+    by (Failed s) step b = same b
+    by (Dropped s) step b = same b
+    by (Kept f cause) step b = same b
+    by (Aged f) step b = same b
+    by (Zeroed _ _) step b = absurd step
+    by (New _ _ _) step b = absurd step
+    by (Copied _ _ _) step b = absurd step
+    by (Loaded _ _) step b = absurd step
+    by (Mapped _ _ _) step b = absurd step
+    by (Shared _) step b = absurd step
+    by (Joined _ _ _) step b = absurd step
+    by (Moved _ _) step b = absurd step
+
+-- so the same frames are locked
+step-locked : (w : World) (l : Ledger) (note : Note) → IsStep w l note → is_locked w (after_note note l) ≡ is_locked w l
+step-locked w l (Put f s) step = put-locked w l f s
+step-locked w l (Unmapped f) step = unmap-locked w l f step
+step-locked w l (Started s) step = start-locked w l s
+step-locked w l (Written s) step = end-locked w l false s
+step-locked w l (Failed s) step = end-locked w l true s
+step-locked w l (Dropped s) step = drop-locked w l s
+step-locked w l (Kept f cause) step = keep-locked w l f cause
+step-locked w l (Aged f) step = age-locked w l f
+step-locked w l (Zeroed _ _) step = absurd step
+step-locked w l (New _ _ _) step = absurd step
+step-locked w l (Copied _ _ _) step = absurd step
+step-locked w l (Loaded _ _) step = absurd step
+step-locked w l (Mapped _ _ _) step = absurd step
+step-locked w l (Shared _) step = absurd step
+step-locked w l (Joined _ _ _) step = absurd step
+step-locked w l (Moved _ _) step = absurd step
+
 pub returns : goal.returns
 returns c = λ m closing first free failures w r l note next. (
   free_after m closing free l note next,
   failures + fails (note ∷ []),
   λ told. with_loads (setting_told told m) w l (note_events (note ∷ [])),
   rmap_after_all l (note_events (note ∷ [])) r,
-  met_told m closing first free failures w r l note next,
+  λ told. let does = met_told m closing first free failures w r l note next told in (
+    does,
+    λ step. record {
+      stays = does.stays;
+      locked = ap (λ x. is_locked x (after_note note l)) (step-world (setting_told told m) w l note step) ∙ step-locked w l note step;
+    },
+  ),
 )

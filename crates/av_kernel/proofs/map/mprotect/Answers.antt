@@ -26,7 +26,7 @@ returns-in_err-check_protect c = refuses-by c.args.mem.now c.args.mem.now (Mprot
     c.in_err-check_protect.ensures))
 
 pub returns-in_err-reached : goal.returns-in_err-reached
-returns-in_err-reached c = wants-by c.args.mem.now (record c.args.mem.now { spaces = c.protect.new.self; anons = c.protect.new.anons })
+returns-in_err-reached c = wants-by c.args.mem.now (record c.args.mem.now { spaces = c.modify.new.self; anons = c.modify.new.anons })
     (Mprotect c.args.process c.args.address c.args.len c.args.prot) c.args.reply.now c.from_residual-in_err-reached.result
     c.from_residual-in_err-reached.ensures refl
 
@@ -39,14 +39,14 @@ returns c = record {
       let reached = c.in_ok-reached.reached in
       let size = c.div_ceil-pages.ensures ∙ rounded_up c.args.len in
       answers c.args.reply.now c.answer_with.new.reply c.requires.cleared c.answer_with.ensures
-      (mprotect-steps k c.protect.new.self c.protect.new.anons s c.args.process c.args.address c.args.len reached c.args.prot keeps
+      (mprotect-steps k c.modify.new.self c.modify.new.anons s c.args.process c.args.address c.args.len reached c.args.prot keeps
       (ranges_there k c.args.process c.in_ok-check_lives.ensures) c.in_ok-check_protect.ensures
       (subst (λ n. GoesTo (is_taken k.spaces.processes c.args.process) page (page + n) reached) size c.in_ok-reached.ensures.reached)
-      (protected-prots (lengths k.spaces.areas k.anons) k.spaces.processes c.protect.new.self.processes c.args.process page
+      (protected-prots (lengths k.spaces.areas k.anons) k.spaces.processes c.modify.new.self.processes c.args.process page
       (page + c.div_ceil-pages.result)
       reached c.args.prot c.in_ok-reached.ensures.reached c.in_ok-reached.ensures.ok c.in_ok-reached.ensures.mapping)
-      (gets_areas k.spaces.processes c.protect.new.self.processes c.args.process _ c.in_ok-reached.ensures.ok) c.in_ok-reached.ensures.anons
-      (protected-homes (lengths k.spaces.areas k.anons) k.spaces.processes c.protect.new.self.processes c.args.process page
+      (gets_areas k.spaces.processes c.modify.new.self.processes c.args.process _ c.in_ok-reached.ensures.ok) c.in_ok-reached.ensures.anons
+      (protected-homes (lengths k.spaces.areas k.anons) k.spaces.processes c.modify.new.self.processes c.args.process page
       (reached - page) c.args.prot
       c.in_ok-reached.ensures.ok) (subst (λ n. page + n ≤ reached) size c.if-reached-past.false));
 }
@@ -59,17 +59,17 @@ returns-then-reached-past c = record {
       let page = c.args.address / 4096 in
       let reached = c.in_ok-reached.reached in
       let size = c.div_ceil-pages.ensures ∙ rounded_up c.args.len in
-      mprotect-stops k c.protect.new.self c.protect.new.anons s c.args.process c.args.address c.args.len reached c.args.prot keeps
+      mprotect-stops k c.modify.new.self c.modify.new.anons s c.args.process c.args.address c.args.len reached c.args.prot keeps
       (ranges_there k c.args.process c.in_ok-check_lives.ensures) c.in_ok-check_protect.ensures
       (subst (λ n. GoesTo (is_taken k.spaces.processes c.args.process) page (page + n) reached) size c.in_ok-reached.ensures.reached)
-      (protected-prots (lengths k.spaces.areas k.anons) k.spaces.processes c.protect.new.self.processes c.args.process page
+      (protected-prots (lengths k.spaces.areas k.anons) k.spaces.processes c.modify.new.self.processes c.args.process page
       (page + c.div_ceil-pages.result)
       reached c.args.prot c.in_ok-reached.ensures.reached c.in_ok-reached.ensures.ok c.in_ok-reached.ensures.mapping)
-      (gets_areas k.spaces.processes c.protect.new.self.processes c.args.process _ c.in_ok-reached.ensures.ok) c.in_ok-reached.ensures.anons
-      (protected-homes (lengths k.spaces.areas k.anons) k.spaces.processes c.protect.new.self.processes c.args.process page
+      (gets_areas k.spaces.processes c.modify.new.self.processes c.args.process _ c.in_ok-reached.ensures.ok) c.in_ok-reached.ensures.anons
+      (protected-homes (lengths k.spaces.areas k.anons) k.spaces.processes c.modify.new.self.processes c.args.process page
       (reached - page) c.args.prot
       c.in_ok-reached.ensures.ok) (subst (λ n. reached < page + n) size c.if-reached-past.true);
 }
 
-pub protect-requires-clause-order : goal.protect-requires-clause-order
-protect-requires-clause-order c = c.requires.steady.2.anons.order
+pub modify-requires-clause-order : goal.modify-requires-clause-order
+modify-requires-clause-order c = c.requires.steady.2.anons.order

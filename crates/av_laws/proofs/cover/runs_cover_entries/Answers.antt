@@ -6,5 +6,5 @@ pub returns-clause-from_nothing : goal.returns-clause-from_nothing
 returns-clause-from_nothing c = run-covered
 
 pub returns-clause-each_step : goal.returns-clause-each_step
-returns-clause-each_step c m most old new command reply high fits covers s sound slots h =
-    step-both m most high fits old reply new covers s (step-sound m old command reply new s h) sound slots command h
+returns-clause-each_step c m most old new command reply high fits covers s sound slots merged h =
+    step-both m most high fits old reply new covers s (step-sound m old command reply new s h) sound slots merged command h

@@ -2,6 +2,8 @@ use Rattle.std.specs.Prelude.{◌≡◌, ℕ, Bool, true, false, cond, ◌&&◌,
 use Rattle.std.proofs.Common.{arith, ap, sym}
 use Rattle.std.proofs.lemmas.Bool.{false≢true}
 use Rattle.std.proofs.lemmas.Bool.Decides.{nat_tests}
+use Rattle.av_base.specs.Flags.{no_flags}
+use Rattle.av_base.specs.Page.{address_of}
 use Rattle.av_base.specs.declared.prot.Prot.{Prot}
 use Rattle.av_plain.specs.Report.{Range, prot_in}
 use Rattle.av_plain.specs.World.{Page, zeros}
@@ -43,6 +45,12 @@ covers : (page : ℕ) (b : Bool) → (nat_le 0x7fffffffe page && nat_lt page 0x7
 covers page true is i = cond (is i) (Some read_write) None
 covers page false is i = cond (is i) (Some read_write) None
 
+flags_of : (page : ℕ) (b : Bool) → (nat_le 0x7fffffffe000 (address_of page) && nat_lt (address_of page) 0x7ffffffff000) ≡ b →
+    cond (nat_le 0x7fffffffe000 (address_of page) && nat_lt (address_of page) 0x7ffffffff000) (Some no_flags) None
+    ≡ option_map (λ (p : Page). p.flags) (if b then Some (zeros read_write) else None)
+flags_of page true is i = cond (is i) (Some no_flags) None
+flags_of page false is i = cond (is i) (Some no_flags) None
+
 pub returns-clause-one_area : goal.returns-clause-one_area
 returns-clause-one_area c = (
   [],
@@ -54,6 +62,7 @@ returns-clause-one_area c = (
         refl,
         omega arith,
         λ page. covers page (page == 0x7fffffffe) (grind (arith, nat_tests)),
+        λ page. flags_of page (page == 0x7fffffffe) (grind (arith, nat_tests)),
       ),
       refl,
     );

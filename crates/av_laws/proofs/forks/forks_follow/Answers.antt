@@ -9,7 +9,8 @@ use Rattle.av_plain.specs.Areas.{AnonVma, Anons, Areas, Rmap, no_anons, none_on}
 use Rattle.av_plain.specs.Fork.{IsIdle, own_of_child, with_child, with_child_area}
 use Rattle.av_laws.specs.Areas.{alone, area, area_of, family, four, one_root, rmap_with, root}
 use Rattle.av_laws.specs.Examples.{read_write}
-use Rattle.av_laws.specs.Forks.{four_deep, siblings, two_of_root}
+use Rattle.av_laws.specs.Flags.{wiped_off}
+use Rattle.av_laws.specs.Forks.{four_deep, siblings, three_of_root, two_of_root}
 use Rattle.av_laws.proofs.forks.forks_follow.Goals as goal
 
 -- each area's own anon_vma is another
@@ -76,13 +77,13 @@ above-root r is w idle = by (w == 0) refl
 
 -- what an area leaves that goes with this member of its chain, or a new one
 abbrev after_area : ℕ → Option ℕ → Area → Rmap → Rmap
-after_area own reused area r = record (with_child_area 2 (record area { anon = Some (own_of_child r.anons reused) }) r) {
+after_area own reused area r = record (with_child_area 2 (Some (own_of_child r.anons reused)) area r) {
   anons = with_child own reused r.anons;
 }
 
 pub returns-clause-bare : goal.returns-clause-bare
 returns-clause-bare c =
-    let next = with_child_area 2 (area 0x10 0x14 read_write) (start four no_anons) in
+    let next = with_child_area 2 None (area 0x10 0x14 read_write) (start four no_anons) in
     (next, (four, omega arith, λ page. refl, (next, refl, refl)), refl, refl)
 
 pub returns-clause-new_below_root : goal.returns-clause-new_below_root
@@ -194,6 +195,30 @@ returns-clause-two_in_turn c =
         (
           mid,
           (None, (λ v is. among (IsNot old) (0 ∷ []) v is (not-root old 0 (alone 0) refl refl, tt)), refl),
+          (
+            next,
+            (None, (λ v is. among (IsNot mid) (0 ∷ []) v is (not-root mid 0 (alone 0) refl refl, tt)), refl),
+            refl,
+          ),
+        ),
+      ),
+      refl,
+      refl,
+    )
+
+pub returns-clause-by_flags : goal.returns-clause-by_flags
+returns-clause-by_flags c =
+    let old = start three_of_root one_root in
+    let mid = with_child_area 2 None (record (area_of 0 0x12 0x14) { flags = wiped_off }) old in
+    let next = after_area 0 None (area_of 0 0x14 0x16) mid in (
+      next,
+      (
+        three_of_root,
+        (omega arith, omega arith, (omega arith, omega arith, omega arith)),
+        λ page. refl,
+        (
+          mid,
+          refl,
           (
             next,
             (None, (λ v is. among (IsNot mid) (0 ∷ []) v is (not-root mid 0 (alone 0) refl refl, tt)), refl),

@@ -4,19 +4,19 @@ use Rattle.std.proofs.lemmas.Bool.{false≢true}
 use Rattle.av_laws.proofs.homes.homes_cover_entries.Goals as goal
 
 pub returns-clause-no_home : goal.returns-clause-no_home
-returns-clause-no_home c h = h.covered (1, 0x12) 0 refl
+returns-clause-no_home c h = h.covered (1, 0x12) 0 refl refl
 
 pub returns-clause-at_child : goal.returns-clause-at_child
-returns-clause-at_child c h = false≢true (h.covered (1, 0x12) 0 refl).0
+returns-clause-at_child c h = false≢true (h.covered (1, 0x12) 0 refl refl).0
 
 pub returns-clause-other_index : goal.returns-clause-other_index
-returns-clause-other_index c h = let e : ◌≡◌ {A = ℕ} 0x22 0x12 = (h.covered (1, 0x12) 0 refl).1 in omega (arith, e)
+returns-clause-other_index c h = let e : ◌≡◌ {A = ℕ} 0x22 0x12 = (h.covered (1, 0x12) 0 refl refl).1 in omega (arith, e)
 
 pub returns-clause-own_alone : goal.returns-clause-own_alone
-returns-clause-own_alone c h = false≢true (h.covered (2, 0x12) 0 refl).0
+returns-clause-own_alone c h = false≢true (h.covered (2, 0x12) 0 refl refl).0
 
 pub returns-clause-bare : goal.returns-clause-bare
-returns-clause-bare c h = false≢true (h.covered (2, 0x12) 0 refl).0
+returns-clause-bare c h = false≢true (h.covered (2, 0x12) 0 refl refl).0
 
 pub returns-clause-out_of_own_chain : goal.returns-clause-out_of_own_chain
 returns-clause-out_of_own_chain c h = false≢true (h.own 2 0x12 1 refl)

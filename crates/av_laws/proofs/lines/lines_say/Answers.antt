@@ -11,3 +11,11 @@ pub returns-clause-old_first : goal.returns-clause-old_first
 unfolding digits
 returns-clause-old_first c =
     ((record { least = omega arith; most = omega arith }, omega arith, omega arith, omega arith, tt), refl)
+
+pub returns-clause-advised : goal.returns-clause-advised
+unfolding digits
+returns-clause-advised c = ((record { least = omega arith; most = omega arith }, omega arith, omega arith), refl)
+
+pub returns-clause-locks : goal.returns-clause-locks
+unfolding digits
+returns-clause-locks c = ((record { least = omega arith; most = omega arith }, omega arith, omega arith), refl)

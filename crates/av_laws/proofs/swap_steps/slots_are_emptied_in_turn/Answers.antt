@@ -134,7 +134,7 @@ returns-clause-unmapped_in_turn c = (
       done = [];
       pages = 1 ∷ [];
       notes = unmapped_in_turn;
-      end = NoRoom (record { pinned = 0; noslot = 1; fault = 0 });
+      end = NoRoom (record { pinned = 0; noslot = 1; fault = 0; locked = 0; ksm = 0 });
       completes = refl;
       empties = (
         2 ∷ [],

@@ -13,7 +13,7 @@ unfolding first_home
 returns-clause-other_home c h = let e : ◌≡◌ {A = ℕ} 1 0 = ap first_home (h.homes 0) in omega (arith, e)
 
 pub returns-clause-no_home : goal.returns-clause-no_home
-returns-clause-no_home c h = h.reach.covered (1, 0x7fffffffe) 0 refl
+returns-clause-no_home c h = h.reach.covered (1, 0x7fffffffe) 0 refl refl
 
 pub returns-clause-no_home_of_slot : goal.returns-clause-no_home_of_slot
 returns-clause-no_home_of_slot c h = h.slots.cached (slot 1) (1, 0x7fffffffe) 0 refl refl

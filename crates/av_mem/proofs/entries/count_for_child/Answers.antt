@@ -14,7 +14,7 @@ returns-in-Here-clause-counts c =
     let old = c.args.mem.now in
     let f = c.in-Here.frame in
     view-by old (record old { frames = c.map_up.new.self }) (with_maps f ((shown_frames old.frames).maps f + 1) (shown_frames old.frames)) old.lists
-    (shown_swap old.swap) (record { tables = refl; spaces = refl; anons = refl }) c.map_up.ensures refl refl
+    (shown_swap old.swap) (record { items = refl; tables = refl; spaces = refl; anons = refl }) c.map_up.ensures refl refl
     ∙ frame-up (view old) f c.in-Here.write c.in-Here.seen ∙ ap (λ e. view_more e (view old)) (sym c.in-Here.is)
 
 pub returns-in-Away-clause-counts : goal.returns-in-Away-clause-counts
@@ -24,7 +24,7 @@ returns-in-Away-clause-counts c =
     let new : Mem = record old { swap = c.entry_up.new.self } in
     MatchResult-weaker c.entry_up.result c.entry_up.ensures
     (λ x up. view-by old new (shown_frames old.frames) old.lists (with_entries s ((shown_swap old.swap).entries s + 1) (shown_swap old.swap))
-    (record { tables = refl; spaces = refl; anons = refl }) refl refl up
+    (record { items = refl; tables = refl; spaces = refl; anons = refl }) refl refl up
     ∙ slot-up (view old) s ∙ ap (λ e. view_more e (view old)) (sym c.in-Away.is))
     (λ e same. view-by old new (shown_frames old.frames) old.lists (shown_swap old.swap)
-    (record { tables = refl; spaces = refl; anons = refl }) refl refl same)
+    (record { items = refl; tables = refl; spaces = refl; anons = refl }) refl refl same)

@@ -22,7 +22,7 @@ returns-clause-taken c =
       left = left;
       first = t.0;
       view = frame-taken old (record old { frames = c.set_home.new.self; lists = c.to_inactive_head.new.self }) f left c.args.home
-          (record { tables = refl; spaces = refl; anons = refl }) (c.requires.free.unmapped f (first-free f old.frames.free left t.0))
+          (record { items = refl; tables = refl; spaces = refl; anons = refl }) (c.requires.free.unmapped f (first-free f old.frames.free left t.0))
           (c.set_home.ensures ∙ ap (with_home f c.args.home) (c.map_up.ensures ∙ ap (λ (s : Shown). with_maps f (s.maps f + 1) s) t.3))
           c.to_inactive_head.ensures refl;
     }

@@ -1,17 +1,28 @@
-use Rattle.std.proofs.Common.{◌-◌, refl, sym, ap, ◌∙◌}
-use Rattle.av_base.specs.Words.{with_at}
+use Rattle.std.proofs.Common.{◌-◌, ◌||◌, refl, sym, ap, ◌∙◌}
+use Rattle.av_base.specs.Words.{is_in, with_at}
+use Rattle.av_rmap.specs.Items.{shown as shown_items}
+use Rattle.av_plain.proofs.Sound.Counts.{same-itself}
 use Rattle.av_frames.specs.Store.{Shown, shown, with_bytes}
 use Rattle.av_pagetable.specs.Entries.{entry_at, with_entry}
 use Rattle.av_swapcache.specs.Swap.{shown as shown_swap}
 use Rattle.av_plain.specs.Stands.{View}
-use Rattle.av_mem.specs.Entries.{view_taken}
+use Rattle.av_mem.specs.Entries.{view_settled, view_taken}
 use Rattle.av_mem.specs.Mem.{view, view_of_parts}
-use Rattle.av_mem.proofs.EntryComes.{free-still, page-gets}
+use Rattle.av_mem.proofs.EntryComes.{copied-settles, free-still, left-used, page-gets}
 use Rattle.av_mem.proofs.entries.take_frame_for_copy.Goals as goal
 
 pub take_frame-frame-requires : goal.take_frame-frame-requires
 take_frame-frame-requires c =
     record { free = free-still c.args.mem.now c.map_down.new.self c.args.from c.requires.free c.requires.mapped c.map_down.ensures }
+
+pub settle-requires-clause-in_use : goal.settle-requires-clause-in_use
+settle-requires-clause-in_use c =
+    let old = c.args.mem.now in
+    let from = c.args.from in
+    let f = c.take_frame-frame.result in
+    let t = c.take_frame-frame.ensures.taken in
+    ap (λ (s : Shown). is_in from s.free) c.copy.ensures ∙ ap (λ (v : View). is_in from v.free) t.view
+    ∙ left-used old f from t.left c.requires.free c.requires.mapped (sym (ap (λ (s : Shown). s.free) c.map_down.ensures) ∙ t.first)
 
 pub returns-clause-taken : goal.returns-clause-taken
 returns-clause-taken c =
@@ -23,14 +34,18 @@ returns-clause-taken c =
     let key = c.args.key in
     let left = t.left in
     let v = record (view old) { maps = with_at from ((view old).maps from - 1) (view old).maps } in
+    let first = sym (ap (λ (s : Shown). s.free) c.map_down.ensures) ∙ t.first in
     let taken = t.view ∙ ap (λ (s : Shown). view_taken f left c.args.home
-    (view_of_parts s old.lists (view old).table old.spaces old.anons (shown_swap old.swap))) c.map_down.ensures in
+    (view_of_parts s old.lists (shown_items old.items) (view old).table old.spaces old.anons (shown_swap old.swap))) c.map_down.ensures in
     record {
       left = left;
-      first = sym (ap (λ (s : Shown). s.free) c.map_down.ensures) ∙ t.first;
-      view = page-gets mid (record mid { frames = c.copy.new.self; tables = c.change.new.self }) v key.0 key.1 f left ((view old).bytes from)
+      first = first;
+      view = c.settle.ensures.settled ∙ ap (view_settled from)
+          (page-gets mid (record mid { frames = c.copy.new.self; tables = c.change.new.self }) v key.0 key.1 f left ((view old).bytes from)
           c.args.home taken
           (c.change.ensures.sets ∙ ap (λ e. with_entry key.0 key.1 e (entry_at mid.tables)) c.accessed_entry.ensures)
           (c.copy.ensures ∙ ap (λ (v : View). with_bytes f (v.bytes from) (shown mid.frames)) taken)
-          refl refl refl refl;
+          refl refl refl refl refl)
+          ∙ copied-settles (view old) key.0 key.1 f from left c.args.home c.requires.mapped
+          (c.requires.free.unmapped f (ap (is_in f) first ∙ ap (λ b. b || is_in f left) (same-itself f)));
     }

@@ -16,5 +16,5 @@ returns-clause-taken c =
       view = page-gets mid (record mid { frames = c.zero.new.self; tables = c.set.new.self }) (view c.args.mem.now) key.0 key.1 f t.left (λ i. 0)
           c.args.home t.view
           (c.in_ok-set.ensures.sets ∙ ap (λ e. with_entry key.0 key.1 e (entry_at mid.tables)) c.accessed_entry.ensures)
-          c.zero.ensures refl refl refl refl;
+          c.zero.ensures refl refl refl refl refl;
     }

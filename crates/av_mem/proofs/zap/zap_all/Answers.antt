@@ -61,7 +61,7 @@ loop-page-preserved c =
           (λ k below. ap plain (sym (c.read_group.ensures k (let long = c.read_group.array_long in omega (arith, below, long)))))
           c.let_go_each.new.mem c.let_go_each.new.notes 64
           (λ l table q other stands there. let g = c.in_ok-let_go_each.ensures.goes d l table q other stands there in
-          record { stands = g.stands; notes = g.notes; free = g.free }));
+          record { stands = g.stands; notes = g.notes; free = g.free; items = g.items }));
       tables = c.in_ok-let_go_each.ensures.tables ∙ i.tables;
       rest = rest-then i.rest c.in_ok-let_go_each.ensures.rest;
     }

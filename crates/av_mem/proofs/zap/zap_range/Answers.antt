@@ -63,7 +63,7 @@ loop-page-preserved c =
           (i.goes d l stands) i.tables c.in-Some.page up (λ q low high. ap plain (first.least q low high)) c.in-Some.entry takes.1
           c.let_go.new.mem c.let_go.new.notes
           (λ l table q other stands there. let g = c.in_ok-let_go.ensures.goes d l table q other stands there in
-          record { stands = g.stands; notes = g.notes; free = g.free });
+          record { stands = g.stands; notes = g.notes; free = g.free; items = g.items });
       tables =
           let o = c.requires.orderly in
           tables-more o.0 a.mem.now c.loop-page.mem o.1 a.process a.from c.loop-page.next a.notes.now c.loop-page.notes o.2 i.rest.parts i.low

@@ -26,9 +26,9 @@ returns-clause-stands c =
 pub returns-clause-kin : goal.returns-clause-kin
 returns-clause-kin c = on_ok_weaker c.join_beside.result
     (λ last. kin_then c.args.areas.now c.add.new.areas c.join_beside.new.areas c.args.anons.now c.args.anons.now c.join_beside.new.anons
-    (added c.args.areas.now c.add.new.areas c.args.anons.now (fresh_area c.args.process c.args.from c.args.to c.args.prot) c.in_ok-number.number
+    (added c.args.areas.now c.add.new.areas c.args.anons.now (fresh_area c.args.process c.args.from c.args.to c.args.prot c.args.flags) c.in_ok-number.number
     c.requires.order c.in_ok-number.ensures.unused
-    (whole_fresh c.args.process c.args.from c.args.to c.args.prot c.requires.some c.requires.low c.requires.high)
+    (whole_fresh c.args.process c.args.from c.args.to c.args.prot c.args.flags c.requires.some c.requires.low c.requires.high)
     c.in_ok-number.ensures.areas) last)
     c.join_beside.ensures.kin
 
@@ -39,18 +39,18 @@ returns-clause-pages c = on_ok_weaker c.join_beside.result
     (pages_by (area_of c.join_beside.new.areas) c.join_beside.new.tree)
     (alike_after (area_of c.args.areas.now) (area_of c.add.new.areas) (family c.args.anons.now) (family c.args.anons.now) (spans_of c.args.anons.now)
     (spans_of c.args.anons.now) c.add.new.tree c.requires.order
-    (added c.args.areas.now c.add.new.areas c.args.anons.now (fresh_area c.args.process c.args.from c.args.to c.args.prot) c.in_ok-number.number
+    (added c.args.areas.now c.add.new.areas c.args.anons.now (fresh_area c.args.process c.args.from c.args.to c.args.prot c.args.flags) c.in_ok-number.number
     c.requires.order c.in_ok-number.ensures.unused
-    (whole_fresh c.args.process c.args.from c.args.to c.args.prot c.requires.some c.requires.low c.requires.high)
+    (whole_fresh c.args.process c.args.from c.args.to c.args.prot c.args.flags c.requires.some c.requires.low c.requires.high)
     c.in_ok-number.ensures.areas))
     c.in_ok-number.ensures.pages last)
     c.join_beside.ensures.pages
 
 pub join_beside-requires-clause-order : goal.join_beside-requires-clause-order
 join_beside-requires-clause-order c =
-    (added c.args.areas.now c.add.new.areas c.args.anons.now (fresh_area c.args.process c.args.from c.args.to c.args.prot) c.in_ok-number.number
+    (added c.args.areas.now c.add.new.areas c.args.anons.now (fresh_area c.args.process c.args.from c.args.to c.args.prot c.args.flags) c.in_ok-number.number
     c.requires.order c.in_ok-number.ensures.unused
-    (whole_fresh c.args.process c.args.from c.args.to c.args.prot c.requires.some c.requires.low c.requires.high)
+    (whole_fresh c.args.process c.args.from c.args.to c.args.prot c.args.flags c.requires.some c.requires.low c.requires.high)
     c.in_ok-number.ensures.areas).order
 
 pub join_beside-requires-clause-stands : goal.join_beside-requires-clause-stands
@@ -63,7 +63,7 @@ join_beside-requires-clause-below c =
     let page = a.from - 1 in
     let out : within a.from (a.to - a.from) page ≡ false = rw (lt-leb a.from page (omega arith)) refl in
     c.in_ok-number.ensures.number page
-    ∙ ap (λ b. cond b (Some c.in_ok-number.number) (area_at a.tree.now page)) (fresh_has a.process a.from a.to a.prot page ∙ out)
+    ∙ ap (λ b. cond b (Some c.in_ok-number.number) (area_at a.tree.now page)) (fresh_has a.process a.from a.to a.prot a.flags page ∙ out)
     ∙ sym c.beside-below.ensures.below
 
 pub join_beside-requires-clause-first : goal.join_beside-requires-clause-first
@@ -71,7 +71,7 @@ join_beside-requires-clause-first c =
     let a = c.args in
     let some = c.requires.some in
     c.in_ok-number.ensures.number a.from
-    ∙ ap (λ b. cond b (Some c.in_ok-number.number) (area_at a.tree.now a.from)) (fresh_has a.process a.from a.to a.prot a.from
+    ∙ ap (λ b. cond b (Some c.in_ok-number.number) (area_at a.tree.now a.from)) (fresh_has a.process a.from a.to a.prot a.flags a.from
     ∙ within_from a.from (a.to - a.from) a.from (omega arith) (omega arith))
 
 pub join_beside-requires-clause-last : goal.join_beside-requires-clause-last
@@ -80,7 +80,7 @@ join_beside-requires-clause-last c =
     let some = c.requires.some in
     let page = a.to - 1 in
     c.in_ok-number.ensures.number page
-    ∙ ap (λ b. cond b (Some c.in_ok-number.number) (area_at a.tree.now page)) (fresh_has a.process a.from a.to a.prot page
+    ∙ ap (λ b. cond b (Some c.in_ok-number.number) (area_at a.tree.now page)) (fresh_has a.process a.from a.to a.prot a.flags page
     ∙ within_from a.from (a.to - a.from) page (omega arith) (omega arith))
 
 pub join_beside-requires-clause-above : goal.join_beside-requires-clause-above
@@ -90,7 +90,7 @@ join_beside-requires-clause-above c =
     let out : within a.from (a.to - a.from) a.to ≡ false =
     rw (le-leb a.from a.to (omega arith), le-ltb a.to (a.from + (a.to - a.from)) (omega arith)) refl in
     c.in_ok-number.ensures.number a.to
-    ∙ ap (λ b. cond b (Some c.in_ok-number.number) (area_at a.tree.now a.to)) (fresh_has a.process a.from a.to a.prot a.to ∙ out)
+    ∙ ap (λ b. cond b (Some c.in_ok-number.number) (area_at a.tree.now a.to)) (fresh_has a.process a.from a.to a.prot a.flags a.to ∙ out)
     ∙ sym c.beside-below.ensures.above
 
 pub join_beside-requires-clause-apart : goal.join_beside-requires-clause-apart

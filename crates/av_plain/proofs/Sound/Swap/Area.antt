@@ -149,6 +149,7 @@ module _ (m : Setting) (w : World) (l : Ledger) (k : ℕ) (area : SwapArea) (s :
       flying = s.ledger.flying;
       used = s.ledger.used;
       one = s.ledger.one;
+      merged = s.ledger.merged;
     };
     at_pages = s.at_pages;
     in_areas = there-on m l k area s.in_areas s.areas_fit off;
@@ -173,7 +174,7 @@ turn-on-events k priority (Walk f n) = inl refl
 turn-on-events k priority NoWalk = inl refl
 turn-on-events k priority EntryEmpty = inl refl
 turn-on-events k priority EntryZero = inl refl
-turn-on-events k priority (EntryFrame f seen slot) = inl refl
+turn-on-events k priority (EntryFrame f seen slot merged) = inl refl
 turn-on-events k priority (EntrySlot slot f) = inl refl
 turn-on-events k priority (SlotBad slot) = inl refl
 turn-on-events k priority (SlotCount slot n f) = inl refl
@@ -235,6 +236,7 @@ module _ (m : Setting) (w : World) (l : Ledger) (k : ℕ) (s : AllSound m w l) (
       flying = s.ledger.flying;
       used = s.ledger.used;
       one = s.ledger.one;
+      merged = s.ledger.merged;
     };
     at_pages = s.at_pages;
     in_areas = there-off m l k s.in_areas s.areas_fit none;

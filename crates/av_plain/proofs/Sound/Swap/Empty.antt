@@ -239,30 +239,30 @@ ends-hold m w sp k l (page ∷ pages) notes end is e h = record {
   none = λ closed. absurd (never (has_free m (after_notes l notes)) (sym closed ∙ h.2));
 }
   where
-    never : (b : Bool) → Closed ≡ cond b Unread (NoRoom (out_of m None sp (after_notes l notes))) → ⊥
+    never : (b : Bool) → Closed ≡ cond b Unread (NoRoom (out_of m sp (after_notes l notes))) → ⊥
     never true h = cc
     never false h = cc
 
-pub empties-hold : (m : Setting) (w : World) (sp : Spared) (k : ℕ) (l : Ledger) (pages : List ℕ) (notes : List Note) (end : Close) → Empty m w l →
-    Empties m sp k l pages notes end → Emptied m w k end (after_notes l notes)
-empties-hold m w sp k l [] notes end e h = ends-hold m w sp k l (slots_in_use m l k) notes end refl e h
-empties-hold m w sp k l (page ∷ pages) notes end e h =
-    let here = emptied-hold m w sp l (record { area = k; page = page }) h.1 e (first-used m l k page h.0 h.3) h.5 in
+pub empties-hold : (m : Setting) (w : World) (k : ℕ) (l : Ledger) (pages : List ℕ) (notes : List Note) (end : Close) → Empty m w l →
+    Empties m w k l pages notes end → Emptied m w k end (after_notes l notes)
+empties-hold m w k l [] notes end e h = ends-hold m w (sparing_area w k l) k l (slots_in_use m l k) notes end refl e h
+empties-hold m w k l (page ∷ pages) notes end e h =
+    let here = emptied-hold m w (sparing_area w k l) l (record { area = k; page = page }) h.1 e (first-used m l k page h.0 h.3) h.5 in
     subst (λ ns. Emptied m w k end (after_notes l ns)) (sym h.4) (subst (Emptied m w k end) (sym (after_notes-append l h.1 h.2))
-    (empties-hold m w sp k (after_notes l h.1) pages h.2 end here h.6))
+    (empties-hold m w k (after_notes l h.1) pages h.2 end here h.6))
 
-pub lawful-empties : (m : Setting) (w : World) (sp : Spared) (k : ℕ) (l : Ledger) (pages : List ℕ) (notes : List Note) (end : Close) → Empty m w l →
-    Empties m sp k l pages notes end → AreLawful m sp.closing l notes
-lawful-empties m w sp k l [] notes end e h = by (slots_in_use m l k) h
+pub lawful-empties : (m : Setting) (w : World) (k : ℕ) (l : Ledger) (pages : List ℕ) (notes : List Note) (end : Close) → Empty m w l →
+    Empties m w k l pages notes end → AreLawful m (Some k) l notes
+lawful-empties m w k l [] notes end e h = by (slots_in_use m l k) h
   where
-    by : (pages : List ℕ) → EndsAt m sp k l pages notes end → AreLawful m sp.closing l notes
-    by [] h = lawful-is m sp.closing l notes [] h.0 tt
-    by (page ∷ pages) h = lawful-seeks m sp l notes h.1
-lawful-empties m w sp k l (page ∷ pages) notes end e h =
+    by : (pages : List ℕ) → EndsAt m (sparing_area w k l) k l pages notes end → AreLawful m (Some k) l notes
+    by [] h = lawful-is m (Some k) l notes [] h.0 tt
+    by (page ∷ pages) h = lawful-seeks m (sparing_area w k l) l notes h.1
+lawful-empties m w k l (page ∷ pages) notes end e h =
     let t : Slot = record { area = k; page = page } in
     let used = first-used m l k page h.0 h.3 in
-    lawful-is m sp.closing l notes (h.1 ++ h.2) h.4 (lawful-append m sp.closing l h.1 h.2 (lawful-emptied m sp l t h.1 e.holds.sound used h.5)
-    (lawful-empties m w sp k (after_notes l h.1) pages h.2 end (emptied-hold m w sp l t h.1 e used h.5) h.6))
+    lawful-is m (Some k) l notes (h.1 ++ h.2) h.4 (lawful-append m (Some k) l h.1 h.2 (lawful-emptied m (sparing_area w k l) l t h.1 e.holds.sound used h.5)
+    (lawful-empties m w k (after_notes l h.1) pages h.2 end (emptied-hold m w (sparing_area w k l) l t h.1 e used h.5) h.6))
 
 -- ---- the command
 
@@ -283,7 +283,7 @@ turn-off-sound m w l k events answer rows s h = subst (λ es. AllSound m w (afte
     (switched h.end refl)))
   where
     emptied : Emptied m w k h.end (after_notes (after_notes l h.done) h.notes)
-    emptied = empties-hold m w (sparing_area w k (after_notes l h.done)) k (after_notes l h.done) h.pages h.notes h.end
+    emptied = empties-hold m w k (after_notes l h.done) h.pages h.notes h.end
         (done-empty m w l h.done s h.completes) h.empties
 
     kept : AllSound m w (after_notes (after_notes l h.done) h.notes)

@@ -1,6 +1,7 @@
 use Rattle.std.proofs.Common.{◌∷◌, ◌++◌, ◌∙◌, ◌+◌, List, [], None, false, subst, sym, ap, drop, slice_index_or}
 use Rattle.std.proofs.lemmas.List.{drop_more, at_drop_all}
 use Rattle.std.specs.Prelude.{map}
+use Rattle.av_base.specs.Flags.{no_flags}
 use Rattle.av_vma.specs.declared.area.Area.{Area}
 use Rattle.av_trace.specs.declared.row.Row.{Row}
 use Rattle.av_spaces.specs.Spaces.{AreRising}
@@ -11,7 +12,7 @@ use Rattle.av_report.proofs.report.add_runs.Goals.{then-goes_on, else-goes_on+in
 use Rattle.av_report.proofs.report.add_runs.Goals as goal
 
 abbrev none : Area
-none = record { pid = 0; start = 0; end = 0; prot = record { read = false; write = false; execute = false }; flags = 0; pgoff = 0; anon = None }
+none = record { pid = 0; start = 0; end = 0; prot = record { read = false; write = false; execute = false }; flags = no_flags; pgoff = 0; anon = None }
 
 pub loop-next-init : goal.loop-next-init
 loop-next-init c =

@@ -2,10 +2,9 @@ use Rattle.std.proofs.Common.{◌≡◌, ◌+◌, true, length, MatchBool}
 use Rattle.av_base.specs.Words.{how_many}
 use Rattle.av_interval.specs.Search.{overlaps}
 use Rattle.av_rmap.specs.Seen.{unseen}
-use Rattle.av_rmap.specs.Walk.{Key, looks_to_last, names_frame, names_seen}
+use Rattle.av_rmap.specs.Walk.{Key, looks_to_last, names_frame, names_seen, walk_of}
 use Rattle.av_rmap.specs.Ahead.{IsAhead}
 use Rattle.av_rmap.proofs.Changes.{IsChanged}
-use Rattle.av_rmap.proofs.Entries.{walk_of}
 use Rattle.av_rmap.proofs.Looks.{rest}
 use Rattle.av_rmap.proofs.seen.clear_seen.Given as goal
 

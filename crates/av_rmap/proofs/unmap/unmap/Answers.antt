@@ -3,9 +3,9 @@ use Rattle.std.proofs.lemmas.List.{nil_from_length}
 use Rattle.av_rmap.specs.Ahead.{IsAhead}
 use Rattle.av_rmap.specs.Unmap.{away}
 use Rattle.av_rmap.specs.View.{View}
-use Rattle.av_rmap.specs.Walk.{holds, looks_to_last, names_frame}
+use Rattle.av_rmap.specs.Walk.{holds, looks_to_last, names_frame, walk_of}
 use Rattle.av_rmap.proofs.Changes.{IsChanged, all-changed, changed-last, changed-turn, left-then, none-changed}
-use Rattle.av_rmap.proofs.Entries.{walk_of, walk-many}
+use Rattle.av_rmap.proofs.Entries.{walk-many}
 use Rattle.av_rmap.proofs.Looks.{looks-none, rest, rest-none, turn-holds}
 use Rattle.av_rmap.proofs.UnmapLemmas.{one-unmapped, sends}
 use Rattle.av_rmap.proofs.unmap.unmap.Goals as goal

@@ -2,10 +2,9 @@ use Rattle.std.proofs.Common.{◌≡◌, ◌+◌, length}
 use Rattle.av_base.specs.Words.{how_many}
 use Rattle.av_interval.specs.Search.{overlaps}
 use Rattle.av_rmap.specs.Unmap.{away}
-use Rattle.av_rmap.specs.Walk.{looks_to_last, names_frame}
+use Rattle.av_rmap.specs.Walk.{looks_to_last, names_frame, walk_of}
 use Rattle.av_rmap.specs.Ahead.{IsAhead}
 use Rattle.av_rmap.proofs.Changes.{IsChanged}
-use Rattle.av_rmap.proofs.Entries.{walk_of}
 use Rattle.av_rmap.proofs.Looks.{rest}
 use Rattle.av_rmap.proofs.unmap.unmap.Given as goal
 

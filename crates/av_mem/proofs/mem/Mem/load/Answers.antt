@@ -12,7 +12,7 @@ returns-in-Ok-clause-loads g c =
     let old : Mem = c.args.self.now in
     let new : Mem = record old { frames = c.set_home.new.self; lists = c.to_inactive_head.new.self; swap = c.load.new.self } in (
       loaded-view old new c.take.new.self c.load.new.frames c.in-Some.frame c.args.slot c.args.home _
-          (record { tables = refl; spaces = refl; anons = refl }) c.in-Some.ensures.0 c.in-Some.ensures.2 c.in-Some.ensures.3
+          (record { items = refl; tables = refl; spaces = refl; anons = refl }) c.in-Some.ensures.0 c.in-Some.ensures.2 c.in-Some.ensures.3
           c.in-Ok.ensures.loads c.set_home.ensures c.to_inactive_head.ensures,
       c.in-Ok.ensures.unfailed,
     )

@@ -2,6 +2,7 @@ use Rattle.std.proofs.Common.{◌∙◌, ◌+◌, ◌++◌, List, Some, is_some,
 use Rattle.std.proofs.Math.ListN.{length-set}
 use Rattle.std.specs.Prelude.{IsSomeAnd}
 use Rattle.av_vma.specs.Areas.{area_of}
+use Rattle.av_vma.specs.Fork.{areas_to_fork}
 use Rattle.av_vmatree.specs.declared.span.Span.{Span}
 use Rattle.av_merge.proofs.LinkingLaws.{ok_both}
 use Rattle.av_spaces.specs.Fork.{IsForked}
@@ -55,7 +56,8 @@ returns-clause-forked c =
     let was = sym (c.make_place.ensures.grown.trees c.args.parent) ∙ ap (λ ts. tree_at ts c.args.parent) (sym c.deref.ensures.value)
     ∙ sym c.in-Some.ensures in
     on_ok c.fork_each-result.result (λ h. subst (λ (ts : Trees). IsSomeAnd (areas_of c.args.self.now.processes c.args.parent)
-    (IsForked c.args.self.now c.args.anons.now (all_spaces c.fork_each-result.new.areas ts) c.fork_each-result.new.anons c.args.child))
+    (λ areas. IsForked c.args.self.now c.args.anons.now (all_spaces c.fork_each-result.new.areas ts) c.fork_each-result.new.anons c.args.child
+    (areas_to_fork areas)))
     (sym c.put_tree.ensures)
     (forked c.args.child c.args.parent c.self.inside.areas c.self.inside.trees.items c.make_place.new.trees.items c.args.anons.now
     c.deref-2.result.now

@@ -1,4 +1,4 @@
-use Rattle.std.proofs.Common.{is_some, sym, ap, ◌∙◌}
+use Rattle.std.proofs.Common.{is_some, ap, ◌∙◌}
 use Rattle.av_vma.specs.Areas.{area_of}
 use Rattle.av_spaces.specs.Spaces.{areas_of}
 use Rattle.av_spaces.proofs.Trees.{number_below, processes_are}

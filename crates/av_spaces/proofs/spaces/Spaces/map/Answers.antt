@@ -1,4 +1,5 @@
 use Rattle.std.proofs.Common.{◌+◌, subst, sym}
+use Rattle.av_base.specs.Flags.{no_flags}
 use Rattle.av_vmatree.specs.Spans.{IsFree}
 use Rattle.av_vma.specs.Pages.{after_map}
 use Rattle.av_merge.specs.Kin.{lengths}
@@ -41,7 +42,7 @@ returns-clause-areas c =
     c.take_tree-tree.result c.self.view_is c.self.invariant c.take_tree-tree.ensures.tree c.take_tree-tree.ensures.trees in
     on_ok c.map-result.result (λ pages. is_changed out c.map-result.new.areas c.map-result.new.tree (λ _. c.map-result.ensures.stands)
     c.put_tree.new.trees.items c.put_tree.ensures
-    (λ all on. AreThese (after_map (lengths all c.args.anons.now) c.args.process c.args.from (c.args.from + c.args.pages) c.args.prot on)) pages)
+    (λ all on. AreThese (after_map (lengths all c.args.anons.now) c.args.process c.args.from (c.args.from + c.args.pages) c.args.prot no_flags on)) pages)
     c.map-result.ensures.pages
 
 pub map-result-requires-clause-order : goal.map-result-requires-clause-order

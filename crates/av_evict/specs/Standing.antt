@@ -1,0 +1,35 @@
+-- What a pass finds of a frame, each decided once: the first of five that it is.
+use Rattle.std.specs.Prelude.{ℕ, Bool, true, false, is_none, if◌then◌else◌}
+use Rattle.av_trace.specs.declared.reply.OutOf.{OutOf}
+use Rattle.av_plain.specs.Ledger.{Ledger, is_merged, slot_of}
+use Rattle.av_plain.specs.Pass.{Spared, is_pinned}
+use Rattle.av_evict.specs.declared.standing.Standing.{Standing}
+use Rattle.av_evict.specs.declared.standing.Standing.TheVariants.{Pinned, Locked, Merged, Uncached}
+use Rattle.av_evict.specs.declared.standing.Standing.TheVariants.{Cached}
+
+-- of a frame that is not left alone
+abbrev pub stands_unspared : Ledger → ℕ → Standing
+stands_unspared l f =
+    if is_merged l f then Merged else (if is_none (slot_of l f) then Uncached else Cached)
+
+-- of any frame
+abbrev pub stands_as : Spared → Ledger → ℕ → Standing
+stands_as spared l f =
+    if is_pinned spared.pinned f then Pinned
+    else (if spared.locked f then Locked else stands_unspared l f)
+
+-- whether it has a turn then
+abbrev pub gets_turn : Standing → Bool
+gets_turn Pinned = false
+gets_turn Locked = false
+gets_turn Merged = false
+gets_turn Uncached = true
+gets_turn Cached = true
+
+-- what it adds to the numbers; the pinned frame is counted apart
+abbrev pub numbers_of : Standing → OutOf
+numbers_of Pinned = record { pinned = 0; noslot = 0; fault = 0; locked = 0; ksm = 0 }
+numbers_of Locked = record { pinned = 0; noslot = 0; fault = 0; locked = 1; ksm = 0 }
+numbers_of Merged = record { pinned = 0; noslot = 0; fault = 0; locked = 0; ksm = 1 }
+numbers_of Uncached = record { pinned = 0; noslot = 1; fault = 0; locked = 0; ksm = 0 }
+numbers_of Cached = record { pinned = 0; noslot = 0; fault = 1; locked = 0; ksm = 0 }

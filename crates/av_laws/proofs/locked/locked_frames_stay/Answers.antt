@@ -1,0 +1,9 @@
+use Rattle.av_laws.proofs.Spared.{step-spares}
+use Rattle.av_laws.proofs.Stay.{step-stays}
+use Rattle.av_laws.proofs.locked.locked_frames_stay.Goals as goal
+
+pub returns-clause-unmaps_none : goal.returns-clause-unmaps_none
+returns-clause-unmaps_none c = step-spares
+
+pub returns-clause-entries_stay : goal.returns-clause-entries_stay
+returns-clause-entries_stay c = step-stays

@@ -1,0 +1,83 @@
+//! What a merge and a compaction make of the frames.
+
+ghost use Rattle.std.specs.Prelude.{◌≡◌, ℕ, List, [], ◌∷◌, map, Some, None, true};
+ghost use Rattle.av_trace.specs.declared.command.Command.TheVariants.{Compact, Merge};
+ghost use Rattle.av_trace.specs.declared.note.Cause.TheVariants.{Ksm, Locked};
+ghost use Rattle.av_trace.specs.declared.note.Note.TheVariants.{Copied, Moved};
+ghost use Rattle.av_trace.specs.declared.reply.Answer.{Answer};
+ghost use Rattle.av_trace.specs.declared.row.Row.{Row};
+ghost use Rattle.av_plain.specs.World.{World};
+ghost use Rattle.av_plain.specs.Ledger.{Entry, Key, Ledger, Setting, free_frames, walk};
+ghost use Rattle.av_plain.specs.Event.{Event, after_all, after_note, after_notes};
+ghost use Rattle.av_plain.specs.Fault.{is_shared};
+ghost use Rattle.av_plain.specs.Pass.{frames_in_turn, out_of};
+ghost use Rattle.av_plain.specs.Reclaim.{cause_of};
+ghost use Rattle.av_plain.specs.Merge.{ClaimSame, Has, Merges, candidates, frame_named, merges};
+ghost use Rattle.av_plain.specs.Compact.{AreLowest, Compacts, next_move};
+ghost use Rattle.av_plain.specs.Step.{next_world};
+ghost use Rattle.av_plain.specs.Sound.{AllSound};
+ghost use Rattle.av_laws.specs.Examples.{machine};
+ghost use Rattle.av_laws.specs.Frames.{all_join, all_zeros, keys_of_three, mergeable_pages};
+ghost use Rattle.av_laws.specs.Frames.{all_locked, locked_pages, merged_alone, none_spared};
+ghost use Rattle.av_laws.specs.Frames.{one_merged, three_pages, two_spared};
+
+/// A merge changes no memory. After it all that were candidates in it, and claim equal bytes, have
+/// one frame: over a device that tells its pages each byte is claimed.
+pub fn merges_share_frames()
+    ensures world { (m : Setting) (w : World) (l : Ledger) (events : List Event) (answer : Answer)
+        (rows : List Row) → Merges m w l events answer rows
+        → next_world m w l events Merge answer ≡ w }
+    ensures one_frame { (m : Setting) (w : World) (l : Ledger) (events : List Event)
+        (answer : Answer) (rows : List Row) → AllSound m w l
+        → (h : Merges m w l events answer rows) (c d : Key × ℕ)
+        → Has c (candidates m h.0 w l [] (map (λ (e : Key × Entry). e.0) l.entries))
+        → Has d (candidates m h.0 w l [] (map (λ (e : Key × Entry). e.0) l.entries))
+        → ClaimSame w c.0 d.0
+        → frame_named (after_all l events) c.0 ≡ frame_named (after_all l events) d.0 }
+{}
+
+/// A compaction changes no memory. After it the frames in use are the lowest, as many as are in
+/// use; each walk is that of the frame it went over from, and slots and lists count what they did.
+pub fn compactions_take_the_lowest_frames()
+    ensures world { (m : Setting) (w : World) (l : Ledger) (events : List Event) (answer : Answer)
+        (rows : List Row) → Compacts m l events answer rows
+        → next_world m w l events Compact answer ≡ w }
+    ensures lowest { (m : Setting) (w : World) (l : Ledger) (events : List Event) (answer : Answer)
+        (rows : List Row) → AllSound m w l → Compacts m l events answer rows
+        → AreLowest m l (after_all l events) }
+{}
+
+/// Three pages with equal bytes come to share the first one's frame, and the others' are free. A
+/// frame goes over to the least free one, with its entries and as a merged one.
+pub fn frames_are_shared_and_move()
+    ensures shared { merges (machine 4) all_zeros mergeable_pages three_pages [] keys_of_three
+        ≡ all_join }
+    ensures free { free_frames (machine 4) (after_notes three_pages all_join) ≡ 0 ∷ 1 ∷ 3 ∷ [] }
+    ensures walked { walk (after_notes three_pages all_join) 2 ≡ keys_of_three }
+    ensures moves { next_move (machine 4) one_merged ≡ Some (Moved 3 0) }
+    ensures no_more { next_move (machine 4) (after_note (Moved 3 0) one_merged) ≡ None }
+    ensures merged { (after_note (Moved 3 0) one_merged).merged ≡ 0 ∷ [] }
+    ensures goes_along { walk (after_note (Moved 3 0) one_merged) 0 ≡ (1, 0x10) ∷ (3, 0x10) ∷ [] }
+{}
+
+/// A merged frame is left alone: reclaim keeps it, unless a page of it is locked, which is asked
+/// first; a pass goes over the others alone, and an out-of-memory counts it. A page whose frame is
+/// that of a locked page does not join another.
+pub fn merged_frames_are_left_alone()
+    ensures kept { cause_of (machine 4) none_spared one_merged 3 ≡ Some Ksm }
+    ensures locked_first { cause_of (machine 4) all_locked one_merged 3 ≡ Some Locked }
+    ensures no_turn { frames_in_turn none_spared one_merged ≡ 1 ∷ [] }
+    ensures numbers { out_of (machine 4) two_spared one_merged
+        ≡ record { pinned = 1; noslot = 1; fault = 0; locked = 1; ksm = 1 } }
+    ensures joins { merges (machine 4) all_zeros locked_pages three_pages [] keys_of_three ≡ [] }
+{}
+
+/// A write to a page copies a merged frame also where it is the last one: that frame is free then,
+/// and merged no longer.
+pub fn last_copies_free_merged_frames()
+    ensures copied { is_shared merged_alone 2 ≡ true }
+    ensures merged { (after_note (Copied 1 0x10000 0) merged_alone).merged ≡ [] }
+    ensures free { free_frames (machine 4) (after_note (Copied 1 0x10000 0) merged_alone)
+        ≡ 1 ∷ 2 ∷ 3 ∷ [] }
+    ensures lists { (after_note (Copied 1 0x10000 0) merged_alone).inactive ≡ 0 ∷ [] }
+{}

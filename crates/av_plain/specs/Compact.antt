@@ -1,0 +1,59 @@
+-- Compaction: the frames in use become the lowest ones.
+use Rattle.std.specs.List.{find, range_with_len}
+use Rattle.std.specs.Prelude.{◌≡◌, ℕ, not, if◌then◌else◌, nat_lt, List, [], ◌∷◌, ◌++◌, reverse}
+use Rattle.std.specs.Prelude.{Option, Some, None, ℕ, ◌<◌, length}
+use Rattle.av_base.specs.declared.slot.Slot.{Slot}
+use Rattle.av_trace.specs.declared.note.Note.{Note}
+use Rattle.av_trace.specs.declared.note.Note.TheVariants.{Moved}
+use Rattle.av_trace.specs.declared.reply.Answer.{Answer}
+use Rattle.av_trace.specs.declared.reply.Answer.TheVariants.{Done}
+use Rattle.av_trace.specs.declared.row.Row.{Row}
+use Rattle.av_plain.specs.Event.{Event, FreeSorted, after_note, note_events}
+use Rattle.av_plain.specs.Ledger.{Ledger, Setting, is_free, slot_count, walk}
+use Rattle.av_plain.specs.Pass.{how_many_frames}
+use Rattle.av_plain.specs.Sound.{uses}
+
+-- the least frame that is free, and the greatest that isn't
+abbrev pub least_free : Setting → Ledger → Option ℕ
+least_free m l = find (is_free l) (range_with_len 0 m.frames)
+
+abbrev pub greatest_used : Setting → Ledger → Option ℕ
+greatest_used m l = find (λ f. not (is_free l f)) (reverse (range_with_len 0 m.frames))
+
+-- the second goes over to the first where that is below it
+abbrev pub move_down : Option ℕ → Option ℕ → Option Note
+move_down None used = None
+move_down (Some free) None = None
+move_down (Some free) (Some used) = if nat_lt free used then Some (Moved used free) else None
+
+-- the next move, as long as there is one
+abbrev pub next_move : Setting → Ledger → Option Note
+next_move m l = move_down (least_free m l) (greatest_used m l)
+
+-- one move after the other, until there is none
+abbrev pub Moves : Setting → Ledger → List Note → Type 0
+Moves m l [] = next_move m l ≡ None
+Moves m l (note ∷ notes) = (next_move m l ≡ Some note) × Moves m (after_note note l) notes
+
+-- compact: in the end the list of free frames is put in order
+abbrev pub Compacts : Setting → Ledger → List Event → Answer → List Row → Type 0
+Compacts m l events answer rows = (notes : List Note) × Moves m l notes
+    × (events ≡ note_events notes ++ FreeSorted ∷ []) × (answer ≡ Done) × (rows ≡ [])
+
+-- ---- what the command leaves
+
+-- the lists are as long as before, and each slot is counted as before
+pub record IsCompacted (l l' : Ledger) : Type 0 where
+  pub active : length l'.active ≡ length l.active
+  pub inactive : length l'.inactive ≡ length l.inactive
+  pub flight : l'.flight ≡ l.flight
+  pub on : l'.on ≡ l.on
+  pub counts : (t : Slot) → slot_count l' t ≡ slot_count l t
+
+-- the frames in use are the lowest, and each walk is that of the frame it went over from
+pub record AreLowest (m : Setting) (l l' : Ledger) : Type 0 where
+  pub place : ℕ → ℕ
+  pub walks : (f : ℕ) → 0 < uses l f → walk l' (place f) ≡ walk l f
+  pub lowest : (f : ℕ) → f < m.frames
+      → not (is_free l' f) ≡ nat_lt f (how_many_frames m (λ g. not (is_free l' g)))
+  pub same : IsCompacted l l'

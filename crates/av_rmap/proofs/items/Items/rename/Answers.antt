@@ -1,0 +1,28 @@
+use Rattle.std.proofs.Common.{◌≡◌, ◌<◌, [], List, length, get_or, set, sym, ap, subst, ◌∙◌, arith}
+use Rattle.av_rmap.specs.Items.{Item, shown}
+use Rattle.av_rmap.specs.ItemLists.{AllOnce, lists_of}
+use Rattle.av_rmap.proofs.ItemLemmas.{length-lists, lists-swap, once-moved, shown-moved}
+use Rattle.av_rmap.proofs.items.Items.rename.Goals as goal
+
+from_below : (c : goal.After-swap) → c.args.from < length (lists_of c.self.inside.lists.items)
+from_below c = subst (λ (v : List (List Item)). c.args.from < length v) (sym c.self.view_is) c.requires.in_range.0
+
+to_below : (c : goal.After-swap) → c.args.to < length (lists_of c.self.inside.lists.items)
+to_below c = subst (λ (v : List (List Item)). c.args.to < length v) (sym c.self.view_is) c.requires.in_range.1
+
+swapped : (c : goal.After-swap) → lists_of c.swap.new.self.items
+    ≡ set (set (lists_of c.self.inside.lists.items) c.args.from (get_or (lists_of c.self.inside.lists.items) c.args.to [])) c.args.to
+    (get_or (lists_of c.self.inside.lists.items) c.args.from [])
+swapped c =
+    let a = from_below c in let b = to_below c in let same = length-lists c.self.inside.lists.items in
+    ap lists_of c.swap.ensures.items
+    ∙ lists-swap c.self.inside.lists.items c.args.from c.args.to (omega (arith, a, same)) (omega (arith, b, same))
+
+pub invariant_of-self : goal.invariant_of-self
+invariant_of-self c = subst AllOnce (sym (swapped c))
+    (once-moved (lists_of c.self.inside.lists.items) c.args.from c.args.to (from_below c) (to_below c) c.self.invariant)
+
+pub returns : goal.returns
+returns c = rw (← c.self.view_is) (ap shown (swapped c)
+    ∙ shown-moved (lists_of c.self.inside.lists.items) c.args.from c.args.to (from_below c) (to_below c)
+    (ap (λ (v : List (List Item)). get_or v c.args.to []) c.self.view_is ∙ c.requires.not_merged))

@@ -1,0 +1,25 @@
+-- Locked pages.
+use Rattle.std.specs.Prelude.{◌≡◌, ℕ, Bool, true, false, ◌&&◌, Option, Some, None}
+use Rattle.av_pagetable.specs.declared.pte.Pte.{Pte}
+use Rattle.av_vma.specs.declared.area.Area.{Area}
+use Rattle.av_vma.specs.Pages.{has_page}
+use Rattle.av_rmap.specs.View.{View}
+use Rattle.av_rmap.specs.Walk.{passes_in}
+
+-- whether the pages of an area are locked, if there is one
+abbrev pub is_locked : Option Area → Bool
+is_locked None = false
+is_locked (Some area) = area.flags.locked
+
+-- whether a look finds an entry that passes the test, on a locked page
+abbrev pub finds_locked : View → (Pte → Bool) → ℕ → Option Area → Bool
+finds_locked view passes index area = is_locked area && passes_in view passes index area
+
+-- the page lies in an area of the process that is locked
+pub record IsLocked (view : View) (process page : ℕ) : Type 0 where
+  pub number : ℕ
+  pub area : Area
+  pub stands : view.areas number ≡ Some area
+  pub of : area.pid ≡ process
+  pub here : has_page area page ≡ true
+  pub locked : area.flags.locked ≡ true

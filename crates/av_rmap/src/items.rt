@@ -1,0 +1,115 @@
+//! The items of merged frames: from which places their entries are found.
+
+ghost use Rattle.std.specs.Prelude.{◌≡◌, ◌<◌, [], IfOk, MatchResult, replicate};
+ghost use Rattle.av_rmap.specs.ItemLists.{lists_of};
+ghost use Rattle.av_rmap.specs.Items.{AreOnce, is_item, is_merged, none_merged, shown, with_item};
+ghost use Rattle.av_rmap.specs.Items.{with_items, with_renamed};
+
+use std::alloc::{AllocError, Global};
+use std::marker::Model;
+
+/// Of each frame a list of items without repeats: the root of an anon_vma, and a linear index. A
+/// frame that has items is merged, and its entries are found from them, as those of another frame
+/// from its home (Linux's `rmap_item`s of a stable page). Only `new` and `add` take memory.
+#[derive(Drop)]
+pub struct Items {
+    lists: Vec<Vec<(u64, u64)>>,
+}
+
+impl Model for Items {
+    ghost use Rattle.std.specs.Prelude.{ℕ, List};
+    ghost use Rattle.av_rmap.specs.ItemLists.{lists_of, AllOnce};
+
+    ghost Value = { List (List (ℕ × ℕ)) };
+
+    ghost view = { λ a. lists_of a.lists.items };
+
+    ghost invariant = { λ a. AllOnce (lists_of a.lists.items) };
+}
+
+impl Items {
+    /// No frame of so many is merged.
+    pub fn new(alloc: Global, frames: u32) -> Result<Items, AllocError>
+        ensures { IfOk result (λ items. shown items ≡ none_merged frames) }
+    {
+        Ok(Items {
+            lists: no_lists(alloc, frames)?,
+        })
+    }
+
+    /// The items of a frame.
+    pub fn of(&self, frame: u32) -> &[(u64, u64)]
+        requires { frame < (shown self.now).frames }
+        ensures items { result.now ≡ (shown self.now).items frame }
+        ensures once { AreOnce result.now }
+    {
+        &self.lists[frame as usize]
+    }
+
+    /// Whether a frame is merged: it has an item.
+    pub fn is_merged(&self, frame: u32) -> bool
+        requires { frame < (shown self.now).frames }
+        ensures { result ≡ is_merged ((shown self.now).items frame) }
+    {
+        !self.lists[frame as usize].is_empty()
+    }
+
+    /// One more item of a frame, unless it is there. It costs a step for each item of the frame.
+    /// Without memory all stays.
+    pub fn add(&mut self, frame: u32, root: u64, index: u64) -> Result<(), AllocError>
+        requires { frame < (shown self.old).frames }
+        ensures { MatchResult result
+            (λ _. shown self.new ≡ with_items frame
+            (with_item (root, index) ((shown self.old).items frame)) (shown self.old))
+            (λ _. shown self.new ≡ shown self.old) }
+    {
+        add_to(&mut self.lists[frame as usize], root, index)
+    }
+
+    /// A frame has no item any more.
+    pub fn clear(&mut self, frame: u32)
+        requires { frame < (shown self.old).frames }
+        ensures { shown self.new ≡ with_items frame [] (shown self.old) }
+    {
+        self.lists[frame as usize].clear();
+    }
+
+    /// A frame gives its items to one that has none.
+    pub fn rename(&mut self, from: u32, to: u32)
+        requires in_range { (from < (shown self.old).frames) × (to < (shown self.old).frames) }
+        requires not_merged { (shown self.old).items to ≡ [] }
+        ensures { shown self.new ≡ with_renamed from to (shown self.old) }
+    {
+        self.lists.swap(from as usize, to as usize);
+    }
+}
+
+/// So many empty lists.
+fn no_lists(alloc: Global, count: u32) -> Result<Vec<Vec<(u64, u64)>>, AllocError>
+    ensures { IfOk result (λ lists. lists_of lists.items ≡ replicate count []) }
+{
+    let mut lists = Vec::with_capacity(alloc, count as usize)?;
+    for _frame in 0..count {
+        lists.push_reserved(Vec::new(alloc));
+    }
+    Ok(lists)
+}
+
+/// One more item of a list, unless it is there.
+fn add_to(items: &mut Vec<(u64, u64)>, root: u64, index: u64) -> Result<(), AllocError>
+    ensures { MatchResult result
+        (λ _. items.new.items ≡ with_item (root, index) items.old.items)
+        (λ _. items.new.items ≡ items.old.items) }
+{
+    if !has(items, root, index) {
+        items.push((root, index))?;
+    }
+    Ok(())
+}
+
+/// Whether an item is there.
+fn has(items: &[(u64, u64)], root: u64, index: u64) -> bool
+    ensures { result ≡ is_item (root, index) items.now }
+{
+    items.iter().any(|item| root == item.0 && index == item.1)
+}
