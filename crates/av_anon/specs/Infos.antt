@@ -1,14 +1,13 @@
 -- What is kept of each anon_vma.
-use Rattle.std.specs.Prelude.{ℕ, ◌+◌, ◌-◌, Option, option_map}
-use Rattle.std.specs.Ordering.{nat_cmp}
-use Rattle.std.specs.BTreeMap as tree_map
+use Rattle.std.specs.Prelude.{ℕ, ◌+◌, ◌-◌, Option, option_map, nat_eq}
+use Rattle.std.specs.HashMap as hash_map
 use Rattle.av_base.specs.Words.{with_at}
 use Rattle.av_anon.specs.declared.infos.Info.{Info}
 use Rattle.av_anon.specs.declared.infos.Infos.{Infos}
 
 -- an anon_vma, or none where it was not made or is destroyed
 abbrev pub info_in : Infos → ℕ → Option Info
-info_in infos anon = tree_map.get nat_cmp infos.map anon
+info_in infos anon = hash_map.get nat_eq infos.map anon
 
 -- one area more, or less, has it as its own
 abbrev pub more_active : Info → Info

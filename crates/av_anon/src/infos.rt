@@ -6,7 +6,7 @@ ghost use Rattle.av_anon.specs.Infos.{info_in, with_info, more_active, less_acti
 ghost use Rattle.av_anon.specs.Infos.{less_children};
 
 use std::alloc::{AllocError, Global};
-use std::collections::BTreeMap;
+use std::collections::HashMap;
 
 /// An anon_vma: its root and its parent, how many anon_vmas have it as parent (a root counts
 /// itself), and how many areas have it as their own.
@@ -21,7 +21,7 @@ pub struct Info {
 /// The anon_vmas that there are.
 #[derive(Drop)]
 pub(crate) struct Infos {
-    map: BTreeMap<u64, Info>,
+    map: HashMap<u64, Info>,
 }
 
 impl Infos {
@@ -30,7 +30,7 @@ impl Infos {
         ensures { (anon : ℕ) → info_in result anon ≡ None }
     {
         Infos {
-            map: BTreeMap::new(alloc),
+            map: HashMap::new(alloc),
         }
     }
 

@@ -9,7 +9,7 @@ ghost use Rattle.av_anon.specs.Resize.{with_bounds};
 ghost use Rattle.av_anon.specs.Spans.{spans_of, GoWithLinks};
 
 use crate::anons::Anons;
-use crate::spans::{span_each, unspan_each};
+use crate::spans::move_each;
 use av_base::PAGE_SIZE;
 use av_vma::{Area, AreaId, Areas, index};
 use std::alloc::AllocError;
@@ -47,9 +47,8 @@ impl Anons {
             ..old
         };
         let chain = self.links.chain(self.alloc, area)?;
-        unspan_each(&mut self.spans, &chain, old.pgoff, area);
         let last = index(&new, end / PAGE_SIZE) - 1;
-        span_each(&mut self.spans, &chain, pgoff, last, area)?;
+        move_each(&mut self.spans, &chain, old.pgoff, pgoff, last, area)?;
         areas.change(area, new);
         Ok(())
     }

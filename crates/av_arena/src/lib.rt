@@ -28,4 +28,4 @@ pub use arena::Arena;
 pub use avl::{Avl, Part};
 pub use entry::Entry;
 pub use link::{Link, Side, Stored};
-pub use tree::{place, remove};
+pub use tree::{place, remove, replace};

@@ -14,7 +14,7 @@ use Rattle.av_interval.specs.declared.roots.Root.{Root}
 use Rattle.av_interval.specs.Nodes.{Tree}
 use Rattle.av_interval.specs.Span.{key, key_of}
 use Rattle.av_interval.specs.Spans.{Store}
-use Rattle.av_arena.specs.Tree.{Leaf, Fork, entries, height, is, none, count, IsLevel, height_of, tree_at, IsHeld, IsPlaceFor, IsPlaced, HasKey, IsWithout}
+use Rattle.av_arena.specs.Tree.{Leaf, Fork, entries, height, is, none, count, IsLevel, height_of, tree_at, IsHeld, IsPlaceFor, IsPlaced, HasKey, IsReplaced, IsWithout}
 use Rattle.av_base.specs.Words.{with_at}
 use Rattle.av_interval.specs.Roots.{top_of, len_of}
 use Rattle.av_interval.specs.Spans.{IsForest, IsOfTree, IsNew}
@@ -453,3 +453,41 @@ one_left s s1 r f a k root e there n w =
 pub root_held : (s : Store) (r : ℕ → Option Root) → IsForest s r → (a : ℕ) (root : Root) → r a ≡ Some root
     → IsHeld key 0 max last_of s (Some root.tree)
 root_held s r f a root e = subst (IsHeld key 0 max last_of s) (ap top_of e) (f.held a)
+
+-- another last index for a span that is there
+none_after : (k : ℕ) (t : List Span) → AllByRecursion (λ z. k < key z) t → entry_at key k t ≡ None
+none_after k [] h = refl
+none_after k (y ∷ t) h = rw (ne_eqb (key y) k (λ e. let d = h.0 in omega arith)) (none_after k t h.1)
+
+taken_out : (k : ℕ) (t : List Span) → IsRising key t → entry_at key k (without_key key k t) ≡ None
+taken_out k [] h = refl
+taken_out k (y ∷ t) h = elim (eqb (key y) k) as (λ b. eqb (key y) k ≡ b → entry_at key k (cond b t (y ∷ without_key key k t)) ≡ None) [
+  | true ↦ λ e. none_after k t (subst (λ (n : ℕ). AllByRecursion (λ z. n < key z) t) (eqb-true (key y) k e) h.0)
+  | false ↦ λ e. rw e (taken_out k t h.1)
+] refl
+
+pub replaced_done : (s s' : Store) (r r' : ℕ → Option Root) → IsForest s r → (a : ℕ) (x : Span) (root : Root) → r a ≡ Some root → x.area < 2 ^ 64 →
+    IsSome (entry_at key (key x) (entries (tree_at s (top_of (r a))))) → (k : Link ℕ) →
+    IsReplaced key 0 max last_of s s' (Some root.tree) x k → r' ≡ with_at a (Some (record { tree = k; len = root.len })) r →
+    IsDone s r s' r' a (with_entry key x (without_key key (key x) (entries (tree_at s (top_of (r a))))))
+replaced_done s s' r r' f a x root ra p there k w e =
+    let top : Some root.tree ≡ top_of (r a) = ap top_of (sym ra) in
+    let old = entries (tree_at s (top_of (r a))) in
+    let xs = with_entry key x (without_key key (key x) old) in
+    let t : IsReplaced key 0 max last_of s s' (top_of (r a)) x k =
+    subst (λ (g : Option (Link ℕ)). IsReplaced key 0 max last_of s s' g x k) top w in
+    let row : entries (tree_at s' (Some k)) ≡ xs = t.entries in
+    let c : IsChange s r s' a (Some (record { tree = k; len = root.len })) = record {
+      held = t.held;
+      rising = rw row (rising_with key x (without_key key (key x) old) (rising_without key (key x) old (f.rising a)));
+      fits = rw row (all_with (λ y. y.area < 2 ^ 64) x (without_key key (key x) old) p (all_without (λ y. y.area < 2 ^ 64) (key x) old (f.fits a)));
+      len = rw row (let h = length_with x (without_key key (key x) old) (taken_out (key x) old (f.rising a)) in
+          let g = length_without (key x) old there in let l = f.len a in let d = ap len_of ra in omega arith);
+      kept = λ b j m h. let q = f.apart a b j m in t.kept j (omega arith);
+      apart = λ b j m h. let q = f.apart a b j m in let d = t.count j in omega arith;
+      whole = λ j u. elim (in_use_cases key 0 max last_of max_laws s s' (Some k) _ _ none t j u) [
+        | inl h ↦ inl (omega arith)
+        | inr h ↦ inr h
+      ];
+    } in
+    done s r f s' r' a (Some (record { tree = k; len = root.len })) xs c row e

@@ -1,9 +1,7 @@
 -- One tree of spans for each anon_vma, over one store of nodes.
-use Rattle.std.specs.Prelude.{◌≡◌, ℕ, ◌+◌, ◌<◌, ◌≤◌, ◌^◌, max, slice_index_or, length, IsSome}
+use Rattle.std.specs.Prelude.{◌≡◌, ℕ, ◌+◌, ◌<◌, ◌≤◌, ◌^◌, max, slice_index_or, length, IsSome, nat_eq}
 use Rattle.std.specs.Prelude.{Option, Some, None, List}
 use Rattle.std.specs.Map.{lookup}
-use Rattle.std.specs.Ordering.{nat_cmp}
-use Rattle.std.specs.BTreeMap.{is_at}
 use Rattle.av_arena.specs.Order.{IsRising}
 use Rattle.std.specs.List.{AllByRecursion}
 use Rattle.av_arena.specs.Tree as arena_tree
@@ -28,7 +26,7 @@ abbrev pub store_of : Forest → Store
 store_of v n = slice_index_or v.0 n None
 
 abbrev pub root_in : Forest → ℕ → Option Root
-root_in v anon = lookup (is_at (nat_cmp anon)) v.1
+root_in v anon = lookup (nat_eq anon) v.1
 
 -- the tree of an anon_vma
 abbrev pub tree_of : Forest → ℕ → Tree

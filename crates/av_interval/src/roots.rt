@@ -6,7 +6,7 @@ ghost use Rattle.av_base.specs.Words.{with_at};
 
 use av_arena::Link;
 use std::alloc::{AllocError, Global};
-use std::collections::BTreeMap;
+use std::collections::HashMap;
 
 /// A tree that has a node, and how many it has.
 #[derive(Clone, Copy, Drop)]
@@ -18,7 +18,7 @@ pub struct Root {
 /// The trees that have a node, by anon_vma.
 #[derive(Drop)]
 pub struct Roots {
-    map: BTreeMap<u64, Root>,
+    map: HashMap<u64, Root>,
 }
 
 impl Roots {
@@ -27,7 +27,7 @@ impl Roots {
         ensures { (anon : ℕ) → root_of result anon ≡ None }
     {
         Roots {
-            map: BTreeMap::new(alloc),
+            map: HashMap::new(alloc),
         }
     }
 

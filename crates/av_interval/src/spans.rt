@@ -18,7 +18,7 @@ use crate::nodes::{Node, Nodes};
 use crate::roots::{Root, Roots};
 use crate::search::search;
 use crate::span::Span;
-use av_arena::{Arena, Link, Stored, place, remove};
+use av_arena::{Arena, Link, Stored, place, remove, replace};
 use av_base::Steps;
 use std::alloc::{AllocError, Global};
 use std::marker::Model;
@@ -118,6 +118,28 @@ impl Spans {
                 },
             ),
         }
+    }
+
+    /// Gives the span of an area that is there, and begins at the index `first`, another last index.
+    /// It takes no memory.
+    pub fn resize(&mut self, anon: u64, first: u64, last: u64, area: u64)
+        requires there { IsSome (entry_at key (key_of first area) (triples self.old anon)) }
+        ensures { (a : ℕ) → triples self.new a ≡ with_at anon
+            (with_entry key (triple first last area)
+            (without_key key (key_of first area) (triples self.old anon))) (triples self.old) a }
+    {
+        let Some(root) = self.roots.get(anon) else {
+            unreachable!()
+        };
+        let span = Span { first, last, area };
+        let tree = replace(&mut self.arena, Some(root.tree), span);
+        self.roots.change(
+            anon,
+            Root {
+                tree,
+                len: root.len,
+            },
+        );
     }
 
     /// First index and area of the first span past `after` that overlaps `index`. It takes no
