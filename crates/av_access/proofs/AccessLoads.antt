@@ -16,7 +16,7 @@ use Rattle.av_trace.specs.declared.note.Note.TheVariants.{Aged, Copied, Dropped,
 use Rattle.av_trace.specs.declared.reply.OutOf.{OutOf}
 use Rattle.av_plain.specs.Access.{after_write, page_events}
 use Rattle.av_plain.specs.Event.{Event, Forked, EntriesMoved, Noted, TurnedOff, TurnedOn, Used, Zapped, after, after_all, after_note, after_notes, note_events, when}
-use Rattle.av_plain.specs.Fault.{ComesIn, CopyOnWrite, Denied, IsMade, Lost, MapCached, Need, NewPage, Ready, RunsOut, Serves, Sparing, Starved, Stop, SwapIn, Touches, ZeroPage, drop_at, drop_of_entry, drop_of_slot, is_shared, need, need_of_slot, pinned_by, sparing, was_slot}
+use Rattle.av_plain.specs.Fault.{ComesIn, CopyOnWrite, Denied, IsMade, Lost, MapCached, Need, NewPage, Ready, RunsOut, Serves, Sparing, Starved, Stop, SwapIn, Touches, ZeroPage, drop_at, drop_of_entry, drop_of_slot, asks_copy, need, need_of_slot, pinned_by, sparing, was_slot}
 use Rattle.av_plain.specs.Ledger.{Entry, InFrame, InSlot, Ledger, Setting, Zero, entry, frame_at, has_free, is_orphan, map_count, slot_of}
 use Rattle.av_plain.specs.Load.{after_load, after_loads, is_of_slot, with_loads, without_bytes, without_claims}
 use Rattle.av_plain.specs.Pass.{Completes, IsPass, IsSlotFor, Seeks, Spared, TakesFor, Turns, end_note, end_notes, frames_in_turn, is_dirty, is_stuck, stays_cached, turn_notes, unmap_notes}
@@ -356,7 +356,7 @@ module _ (m : Setting) (sp : Sparing) (p page : ℕ) where
       by false (Some Zero) is q = none q
       by true (Some Zero) is q = none q
       by false (Some (InFrame g seen)) is q = none q
-      by true (Some (InFrame g seen)) is q = none (ready (is_shared l g) g q)
+      by true (Some (InFrame g seen)) is q = none (ready (asks_copy l g) g q)
       by false (Some (InSlot t)) is q = slot t is (frame_at l t) q
       by true (Some (InSlot t)) is q = slot t is (frame_at l t) q
 

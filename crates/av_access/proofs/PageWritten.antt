@@ -12,7 +12,7 @@ use Rattle.av_frames.specs.Store.{overlaid}
 use Rattle.av_plain.specs.World.{World, Process, Page, pages, lives, with_bytes, set_process}
 use Rattle.av_plain.specs.Ledger.{Cached, Entry, InFrame, InSlot, Ledger, Setting, Zero, entry, key_cmp, same_slot, slot_of}
 use Rattle.av_plain.specs.Event.{after_use, after_use_of, if_some, set_entry, with_stale}
-use Rattle.av_plain.specs.Fault.{is_shared}
+use Rattle.av_plain.specs.Fault.{asks_copy}
 use Rattle.av_plain.specs.Access.{after_write}
 use Rattle.av_plain.specs.Sound.{AtPages, IsSound, IsTidy, no_excuse}
 use Rattle.av_plain.specs.Stands.{View, IsKept, AreasStand, BytesStand}
@@ -162,7 +162,7 @@ pub record MayWrite (m : Setting) (h : Held) (p page f start : ℕ) (piece : Lis
   pub sound : IsSound m h.ledger
   pub alive : lives h.world p ≡ true
   pub named : entry h.ledger (p, page) ≡ Some (InFrame f true)
-  pub alone : is_shared h.ledger f ≡ false
+  pub alone : asks_copy h.ledger f ≡ false
   pub used : after_use true (p, page) h.ledger ≡ h.ledger
   pub fits : start + length piece ≤ 4096
 

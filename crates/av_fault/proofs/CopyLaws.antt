@@ -13,7 +13,7 @@ use Rattle.av_plain.specs.Areas.{Rmap, at_home, rmap_after_use}
 use Rattle.av_plain.specs.Choice.{ListsFree}
 use Rattle.av_plain.specs.Device.{Device}
 use Rattle.av_plain.specs.Event.{Noted, Used, after_note, after_notes, after_use}
-use Rattle.av_plain.specs.Fault.{CopyOnWrite, IsMade, Ready as NoNeed, drop_at, drop_of_entry, drop_of_slot, is_shared, need, sparing}
+use Rattle.av_plain.specs.Fault.{CopyOnWrite, IsMade, Ready as NoNeed, drop_at, drop_of_entry, drop_of_slot, asks_copy, need, sparing}
 use Rattle.av_plain.specs.Ledger.{Entry, InFrame, InSlot, Zero as Zeros, Key, Ledger, Setting, entry, is_free, names_frame, slot_of}
 use Rattle.av_plain.specs.Pass.{TakesFor}
 use Rattle.av_plain.specs.Sound.{no_excuse}
@@ -60,7 +60,7 @@ copy-there p a f l = entry-set (p, page_of a) (InFrame f false) l (p, page_of a)
 -- ---- of views alone
 
 module _ (m : Setting) (h : Held) (amid : Amid m h) (p a f g : ℕ) (left : List ℕ) (first : h.view.free ≡ f ∷ left) (seen : Bool)
-    (here : entry h.ledger (p, page_of a) ≡ Some (InFrame g seen)) (shared : is_shared h.ledger g ≡ true)
+    (here : entry h.ledger (p, page_of a) ≡ Some (InFrame g seen)) (shared : asks_copy h.ledger g ≡ true)
     (mapped : is_some (pages h.world p (page_of a)) ≡ true) where
   abbrev q : Key
   q = (p, page_of a)
@@ -105,7 +105,7 @@ module _ (m : Setting) (h : Held) (amid : Amid m h) (p a f g : ℕ) (left : List
 
 module _ (d : Device) (mid new : Mem) (w : World) (r : Rmap) (l : Ledger) (p f g : ℕ) (left : List ℕ)
     (first : (view mid).free ≡ f ∷ left) (seen : Bool)
-    (h : KeepsBetween d mid w r l) (shared : is_shared l g ≡ true) (parts : KeepsParts mid new) where
+    (h : KeepsBetween d mid w r l) (shared : asks_copy l g ≡ true) (parts : KeepsParts mid new) where
   -- at the page of an address
   abbrev CopyDone : ℕ → ℕ → Type 0
   CopyDone a page = entry l (p, page) ≡ Some (InFrame g seen) → is_some (pages w p page) ≡ true
@@ -133,7 +133,7 @@ module _ (d : Device) (mid new : Mem) (w : World) (r : Rmap) (l : Ledger) (p f g
 
 module _ (d d' : Device) (old mid : Mem) (w : World) (r : Rmap) (l : Ledger) (before mids : List Note) (k : Key) (g : ℕ) (got : Got)
     (h : KeepsBetween d old w r l) (s : HasSought d d' old mid w r l (Some g) before mids got) (settled : Bool) (here : IsHere old k g settled)
-    (shared : is_shared l g ≡ true) where
+    (shared : asks_copy l g ≡ true) where
   abbrev m : Setting
   m = setting_by d old
 
@@ -176,17 +176,17 @@ module _ (d d' : Device) (old mid : Mem) (w : World) (r : Rmap) (l : Ledger) (be
   copy-mapped = subst (λ n. 0 < n) (sym (s.done.between.serves.held.ledger.frames.maps g))
       (how_many-found (names_frame g) k l1.entries (InFrame g here.seen) copy-at (same-itself g))
 
-  pub copied-shared : is_shared l1 g ≡ true
+  pub copied-shared : asks_copy l1 g ≡ true
   copied-shared =
       let p = passed d d' old mid w r l (Some g) before mids got h s in
-      subst (λ x. is_shared x g ≡ true) (sym (note_events-all l s.added))
+      subst (λ x. asks_copy x g ≡ true) (sym (note_events-all l s.added))
       (shared-by m (after_notes l s.added) g p.sound (shared-stays (sparing w l (Some g)).frame l (after_notes l s.added) g (same-itself g) p.keeps
       (how_many-found (names_frame g) k l.entries (InFrame g here.seen) at (same-itself g)) (shared-is l g shared)))
 
 module _ (d d' : Device) (old mid new : Mem) (w : World) (r : Rmap) (l : Ledger) (before mids now : List Note) (k : Key) (f g : ℕ)
     (came settled : Bool)
     (h : KeepsBetween d old w r l) (s : HasSought d d' old mid w r l (Some g) before mids Frame) (here : IsHere old k g settled)
-    (shared : is_shared l g ≡ true) (home : Option (ℕ × ℕ)) (home_is : home ≡ home_of k.1 (pages_of old.spaces.processes k.0 k.1))
+    (shared : asks_copy l g ≡ true) (home : Option (ℕ × ℕ)) (home_is : home ≡ home_of k.1 (pages_of old.spaces.processes k.0 k.1))
     (taken : IsTaken mid new f (λ left. view_seen k.0 k.1 f true (view_copy k.0 k.1 g f true left home (view mid))))
     (parts : KeepsParts mid new) where
   abbrev note : Note

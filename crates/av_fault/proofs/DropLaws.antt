@@ -14,7 +14,7 @@ use Rattle.av_trace.specs.declared.note.Note.TheVariants.{Dropped}
 use Rattle.av_plain.specs.Areas.{Rmap}
 use Rattle.av_plain.specs.Device.{Device}
 use Rattle.av_plain.specs.Event.{Noted, after_note, after_notes, off_cache, when}
-use Rattle.av_plain.specs.Fault.{drop_of_slot, is_shared, is_unneeded}
+use Rattle.av_plain.specs.Fault.{drop_of_slot, asks_copy, is_unneeded}
 use Rattle.av_plain.specs.Ledger.{Entry, InFrame, InSlot, Ledger, Setting, Zero as ZeroEntry, frame_at, in_flight, is_full, map_count, same_slot, slot_entries, slot_of}
 use Rattle.av_plain.specs.Pass.{fails}
 use Rattle.av_plain.specs.Sound.{IsSound, flights, no_excuse}
@@ -265,8 +265,8 @@ full-dropped d old new w r l f before after still full x = record {
 }
 
 -- what others don't use they don't use then
-pub dropped-alone : (m : Setting) (l : Ledger) (f : ℕ) → IsSound m l → is_shared l f ≡ false
-    → is_shared (after_notes l (drop_of_slot m true false l (slot_of l f))) f ≡ false
+pub dropped-alone : (m : Setting) (l : Ledger) (f : ℕ) → IsSound m l → asks_copy l f ≡ false
+    → asks_copy (after_notes l (drop_of_slot m true false l (slot_of l f))) f ≡ false
 dropped-alone m l f sound alone = by (slot_of l f) refl
   where
     uncached : (s : Slot) → slot_of l f ≡ Some s → slot_of (after_note (Dropped s) l) f ≡ None
@@ -278,11 +278,11 @@ dropped-alone m l f sound alone = by (slot_of l f) refl
     same : (s : Slot) → map_count (after_note (Dropped s) l) f ≡ map_count l f
     same s = ap (λ es. map_count (record l { entries = es }) f) (settle-entries (frame_at l s) (off_cache s l))
 
-    at_slot : (s : Slot) → slot_of l f ≡ Some s → (b : Bool) → is_shared (after_notes l (when b (Dropped s))) f ≡ false
+    at_slot : (s : Slot) → slot_of l f ≡ Some s → (b : Bool) → asks_copy (after_notes l (when b (Dropped s))) f ≡ false
     at_slot s is true = shared-less l (after_note (Dropped s) l) f (same s) (uncached s is) alone
     at_slot s is false = alone
 
-    by : (o : Option Slot) → slot_of l f ≡ o → is_shared (after_notes l (drop_of_slot m true false l o)) f ≡ false
+    by : (o : Option Slot) → slot_of l f ≡ o → asks_copy (after_notes l (drop_of_slot m true false l o)) f ≡ false
     by None is = alone
     by (Some s) is = at_slot s is (is_unneeded m true false l s)
 

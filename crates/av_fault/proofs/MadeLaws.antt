@@ -7,7 +7,7 @@ use Rattle.av_trace.specs.declared.note.Note.{Note}
 use Rattle.av_plain.specs.Areas.{Rmap, rmap_after_all}
 use Rattle.av_plain.specs.Device.{Device}
 use Rattle.av_plain.specs.Event.{Used, after_all, note_events}
-use Rattle.av_plain.specs.Fault.{CopyOnWrite, IsMade, Ready as NoNeed, drop_of_entry, drop_of_slot, is_shared, need, sparing}
+use Rattle.av_plain.specs.Fault.{CopyOnWrite, IsMade, Ready as NoNeed, drop_of_entry, drop_of_slot, asks_copy, need, sparing}
 use Rattle.av_plain.specs.Ledger.{InFrame, Key, Ledger, entry, slot_of}
 use Rattle.av_plain.specs.Load.{with_loads}
 use Rattle.av_plain.specs.Pass.{fails}
@@ -60,6 +60,6 @@ module _ (d : Device) (old mid new : Mem) (w : World) (r : Rmap) (l : Ledger) (k
 pub read-needs : (l : Ledger) (k : Key) (f : ℕ) (seen : Bool) → entry l k ≡ Some (InFrame f seen) → need false l (entry l k) ≡ NoNeed
 read-needs l k f seen at = ap (need false l) at
 
-pub write-needs : (l : Ledger) (k : Key) (f : ℕ) (seen : Bool) → entry l k ≡ Some (InFrame f seen) → is_shared l f ≡ false
+pub write-needs : (l : Ledger) (k : Key) (f : ℕ) (seen : Bool) → entry l k ≡ Some (InFrame f seen) → asks_copy l f ≡ false
     → need true l (entry l k) ≡ NoNeed
 write-needs l k f seen at alone = ap (need true l) at ∙ ap (λ b. cond b (CopyOnWrite f) NoNeed) alone

@@ -4,7 +4,7 @@ use Rattle.std.proofs.lemmas.Bool.Decides.{nat_tests}
 use Rattle.av_base.specs.declared.slot.Slot.{Slot}
 use Rattle.av_plain.specs.Areas.{Rmap}
 use Rattle.av_plain.specs.Device.{Device}
-use Rattle.av_plain.specs.Fault.{is_named, is_shared}
+use Rattle.av_plain.specs.Fault.{is_named, asks_copy}
 use Rattle.av_plain.specs.Ledger.{Ledger, Setting, map_count, same_slot, slot_entries, slot_of}
 use Rattle.av_plain.specs.Sound.{IsSound}
 use Rattle.av_plain.specs.World.{World}
@@ -13,10 +13,10 @@ use Rattle.av_plain.proofs.Sound.Entries.{ByFrame, BySlot, IsSharedBy}
 use Rattle.av_mem.specs.declared.mem.Mem.{Mem}
 use Rattle.av_mem.specs.Mem.{view}
 use Rattle.av_mem.specs.Between.{KeepsBetween}
-use Rattle.av_fault.specs.Using.{is_named_in, is_shared_in}
+use Rattle.av_fault.specs.Using.{is_named_in, asks_copy_in}
 
 -- what another entry names, or whose slot an entry names
-pub shared-by : (m : Setting) (l : Ledger) (g : ℕ) → IsSound m l → IsSharedBy l g → is_shared l g ≡ true
+pub shared-by : (m : Setting) (l : Ledger) (g : ℕ) → IsSound m l → IsSharedBy l g → asks_copy l g ≡ true
 shared-by m l g sound (ByFrame two) =
     let some : nat_lt 1 (map_count l g) ≡ true = grind (arith, nat_tests, two) in
     ap (λ b. b || is_named l (slot_of l g)) some
@@ -37,7 +37,7 @@ shared-by m l g sound (BySlot t pair named) = second (nat_lt 1 (map_count l g)) 
 
 module _ (d : Device) (k : Mem) (w : World) (r : Rmap) (l : Ledger) (h : KeepsBetween d k w r l) (f : ℕ) where
   -- the parts answer what the ledger says
-  pub shared-in : is_shared_in (view k) f ≡ is_shared l f
+  pub shared-in : asks_copy_in (view k) f ≡ asks_copy l f
   shared-in = (λ i. nat_lt 1 (h.serves.held.ledger.frames.maps f i) || is_named_in (view k) ((view k).slot f))
       ∙ ap (λ b. nat_lt 1 (map_count l f) || b)
       (ap (is_named_in (view k)) (h.serves.held.ledger.frames.slots f) ∙ by (slot_of l f))

@@ -10,7 +10,7 @@ use Rattle.av_vma.specs.Pages.{home_of}
 use Rattle.av_plain.specs.Areas.{Rmap, at_home}
 use Rattle.av_plain.specs.Device.{Device}
 use Rattle.av_plain.specs.Event.{Event, Noted, Used, after_notes, after_use, note_events}
-use Rattle.av_plain.specs.Fault.{FindsNone, IsMade, Need, drop_at, is_shared, need, pinned_by, sparing, wants_frame}
+use Rattle.av_plain.specs.Fault.{FindsNone, IsMade, Need, drop_at, asks_copy, need, pinned_by, sparing, wants_frame}
 use Rattle.av_plain.specs.Ledger.{InFrame, Key, Ledger, Setting, entry, slot_of}
 use Rattle.av_plain.specs.Pass.{Seeks, fails, is_fail, out_of}
 use Rattle.av_plain.specs.Sound.{no_excuse}
@@ -49,7 +49,7 @@ home-twice f home homes = λ i g. by (g == f) (homes g) i
 
 module _ (m : Setting) (h h1 : Held) (note : Note) (q : Key) (f : ℕ) (run : Run m h h1 (Noted note ∷ []))
     (at : entry h1.ledger q ≡ Some (InFrame f false))
-    (none : slot_of h1.ledger f ≡ None) (alone : is_shared h1.ledger f ≡ false)
+    (none : slot_of h1.ledger f ≡ None) (alone : asks_copy h1.ledger f ≡ false)
     (homes : with_at f (home_of q.1 (h1.rmap.areas q.0 q.1)) h1.view.homes ≡ h1.view.homes) (rmap : at_home f q h1.rmap ≡ h1.rmap) where
   abbrev used : Held
   used = record h1 { view = view_seen q.0 q.1 f true h1.view; ledger = after_use true q h1.ledger }

@@ -18,7 +18,7 @@ use Rattle.av_plain.specs.Areas.{Rmap, rmap_after_all}
 use Rattle.av_plain.specs.Choice.{ChoosesAll, Free}
 use Rattle.av_plain.specs.Device.{Device, IsSameDevice, as_told, setting_of}
 use Rattle.av_plain.specs.Event.{Used, after_all, after_notes, after_use, after_use_of, when}
-use Rattle.av_plain.specs.Fault.{ComesIn, CopyOnWrite, IsMade, Need, NewPage, Ready as ReadyNeed, Serves as ServesPage, Touches, ZeroPage, drop_at, drop_of_entry, drop_of_slot, is_allowed, is_shared, need, permits, sparing, was_slot}
+use Rattle.av_plain.specs.Fault.{ComesIn, CopyOnWrite, IsMade, Need, NewPage, Ready as ReadyNeed, Serves as ServesPage, Touches, ZeroPage, drop_at, drop_of_entry, drop_of_slot, is_allowed, asks_copy, need, permits, sparing, was_slot}
 use Rattle.av_plain.specs.Ledger.{Entry, InFrame, InSlot, IsBlank, Key, Ledger, Setting, Zero as ZeroEntry, entry, in_flight, slot_entries, slot_of}
 use Rattle.av_plain.specs.Load.{with_loads}
 use Rattle.av_plain.specs.Sound.{IsSound}
@@ -91,7 +91,7 @@ module _ (m : Setting) (w : World) (l : Ledger) (write : Bool) (k : Key) where
       by false (Some ZeroEntry) slotless = a
       by true (Some ZeroEntry) slotless = c
       by false (Some (InFrame g seen)) slotless = a
-      by true (Some (InFrame g seen)) slotless = shared g (is_shared l g)
+      by true (Some (InFrame g seen)) slotless = shared g (asks_copy l g)
       by false (Some (InSlot s)) slotless = absurd slotless
       by true (Some (InSlot s)) slotless = absurd slotless
 

@@ -13,7 +13,7 @@ use Rattle.av_vma.specs.Pages.{home_of}
 use Rattle.av_plain.specs.Areas.{Rmap, at_home, rmap_after_use}
 use Rattle.av_plain.specs.Device.{Device}
 use Rattle.av_plain.specs.Event.{Used, after_use, after_use_of, if_some, set_entry, with_stale}
-use Rattle.av_plain.specs.Fault.{is_shared}
+use Rattle.av_plain.specs.Fault.{asks_copy}
 use Rattle.av_plain.specs.Ledger.{InFrame, Key, Ledger, Setting, entry, frame_at, is_stale, map_count, names_frame, slot_of}
 use Rattle.av_plain.specs.Stands.{IsKept, View, entry_of}
 use Rattle.av_plain.specs.World.{World, pages}
@@ -47,7 +47,7 @@ module _ (d : Device) (k : Mem) (w : World) (r : Rmap) (l : Ledger) (h : KeepsBe
   entry-here = sym (h.serves.held.ledger.tables.entries q.0 q.1) ∙ ap (λ e. entry_of (plain e)) there
 
   -- the write bit says that a write need not copy
-  pub own-here : write ≡ true → is_shared l f ≡ false
+  pub own-here : write ≡ true → asks_copy l f ≡ false
   own-here own = h.serves.held.ledger.tables.write_bits q.0 q.1 (record { entry = InFrame f seen; write = write }) f (ap plain there) own
       (same-itself f)
 
@@ -118,7 +118,7 @@ abbrev pub view_own : ℕ → ℕ → ℕ → Option (ℕ × ℕ) → (ℕ → B
 view_own p page f home dirty v = record (view_seen p page f true v) { homes = with_at f home v.homes; dirty = dirty }
 
 module _ (m : Setting) (h : Held) (a : Amid m h) (q : Key) (f : ℕ) (seen : Bool) (at : entry h.ledger q ≡ Some (InFrame f seen))
-    (alone : is_shared h.ledger f ≡ false)
+    (alone : asks_copy h.ledger f ≡ false)
     (dirty : ℕ → Bool) (others : (g : ℕ) → (g == f) ≡ false → dirty g ≡ h.view.dirty g)
     (own : IfSome (slot_of h.ledger f) (λ s. dirty f ≡ true)) where
   abbrev l' : Ledger
@@ -194,7 +194,7 @@ module _ (m : Setting) (h : Held) (a : Amid m h) (q : Key) (f : ℕ) (seen : Boo
   }
 
 module _ (d : Device) (old new : Mem) (w : World) (r : Rmap) (l : Ledger) (h : KeepsBetween d old w r l) (q : Key) (f : ℕ) (seen : Bool)
-    (at : entry l q ≡ Some (InFrame f seen)) (alone : is_shared l f ≡ false) (home : Option (ℕ × ℕ)) (is : home ≡ home_of q.1 (r.areas q.0 q.1))
+    (at : entry l q ≡ Some (InFrame f seen)) (alone : asks_copy l f ≡ false) (home : Option (ℕ × ℕ)) (is : home ≡ home_of q.1 (r.areas q.0 q.1))
     (cached : Bool) (still : cached ≡ is_some (slot_of l f)) where
   abbrev dirty : ℕ → Bool
   dirty = cond cached (with_at f true (view old).dirty) (view old).dirty
@@ -294,7 +294,7 @@ module _ (old mid : Mem) (q : Key) (f : ℕ) (home : Option (ℕ × ℕ)) (cache
 
   -- what is done then
   pub written-done : (d : Device) (w : World) (r : Rmap) (l : Ledger) (settled : Bool) → IsHere old q f settled
-      → home ≡ home_of q.1 (pages_of old.spaces.processes q.0 q.1) → KeepsBetween d old w r l → is_shared l f ≡ false → cached ≡ is_some (slot_of l f)
+      → home ≡ home_of q.1 (pages_of old.spaces.processes q.0 q.1) → KeepsBetween d old w r l → asks_copy l f ≡ false → cached ≡ is_some (slot_of l f)
       → HasDone d d old new w r l (Used true q ∷ [])
   written-done d w r l settled here at h alone still =
       own-done d old new w r l h q f here.seen (entry-here d old w r l h q f here.write here.seen here.there) alone home

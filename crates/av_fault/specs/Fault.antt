@@ -8,7 +8,7 @@ use Rattle.av_plain.specs.Ledger.{Ledger, Key, Zero, InFrame, entry}
 use Rattle.av_plain.specs.Device.{Device, IsSameDevice}
 use Rattle.av_plain.specs.Event.{Event, after_all}
 use Rattle.av_plain.specs.Fault as served
-use Rattle.av_plain.specs.Fault.{Touches, Denied, Lost, Starved, is_shared}
+use Rattle.av_plain.specs.Fault.{Touches, Denied, Lost, Starved, asks_copy}
 use Rattle.av_plain.specs.Access.{page_events}
 use Rattle.av_plain.specs.Choice.{ChoosesAll}
 use Rattle.av_plain.specs.Areas.{Rmap, rmap_after_all}
@@ -64,7 +64,7 @@ touch_events write k added touched = page_events write k added (end_of touched)
 -- the slot at which it is cached
 abbrev pub IsReady : Bool → Ledger → Key → Touched → Type 0
 IsReady write l k (Ready f) =
-    (entry l k ≡ Some (InFrame f true)) × (write ≡ true → is_shared l f ≡ false)
+    (entry l k ≡ Some (InFrame f true)) × (write ≡ true → asks_copy l f ≡ false)
 IsReady write l k Zeros = (entry l k ≡ Some Zero) × (write ≡ false)
 IsReady write l k (Stopped stop) = Unit {0}
 

@@ -29,8 +29,8 @@ is_named_in v None = false
 is_named_in v (Some s) = nat_lt 0 (v.entries s)
 
 -- another entry names the frame, or an entry names its slot
-abbrev pub is_shared_in : View → ℕ → Bool
-is_shared_in v f = nat_lt 1 (v.maps f) || is_named_in v (v.slot f)
+abbrev pub asks_copy_in : View → ℕ → Bool
+asks_copy_in v f = nat_lt 1 (v.maps f) || is_named_in v (v.slot f)
 
 -- the slot of the frame was dropped, if it has one that a write needs no more; whether it has one
 -- still

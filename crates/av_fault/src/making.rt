@@ -12,7 +12,7 @@ ghost use Rattle.av_vma.specs.Pages.{home_of};
 ghost use Rattle.av_mem.specs.Mem.{frame_count, view};
 ghost use Rattle.av_mem.specs.Between.{Does, IsBetween, KeepsBetween};
 ghost use Rattle.av_fault.specs.Making.{HasMade, IsBare, IsMapped};
-ghost use Rattle.av_fault.specs.Using.{IsHere, is_shared_in};
+ghost use Rattle.av_fault.specs.Using.{IsHere, asks_copy_in};
 
 use crate::fault::{Stop, Touched};
 use crate::seek::{Got, seek};
@@ -87,7 +87,7 @@ pub(crate) fn make_copy<D: SwapDev>(
 ) -> Result<Touched, AllocError>
     requires between { IsBetween (D.sizes dev.old) mem.old }
     requires here { IsHere mem.old key from false }
-    requires shared { is_shared_in (view mem.old) from ≡ true }
+    requires shared { asks_copy_in (view mem.old) from ≡ true }
     requires home { home ≡ home_of key.1 (pages_of mem.old.spaces.processes key.0 key.1) }
     ensures made { IfOk result (λ touched. Does
         (device_by (D.sizes dev.old) (D.pages dev.old) (D.failures dev.old))

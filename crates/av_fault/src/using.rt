@@ -6,7 +6,7 @@ ghost use Rattle.av_pagetable.specs.declared.pte.Pte.TheVariants as Pte;
 ghost use Rattle.av_plain.specs.Areas.{Rmap};
 ghost use Rattle.av_plain.specs.Device.{Device, IsSameDevice, device_by};
 ghost use Rattle.av_plain.specs.Event.{Used};
-ghost use Rattle.av_plain.specs.Fault.{is_shared as is_shared_by};
+ghost use Rattle.av_plain.specs.Fault.{asks_copy as asks_copy_by};
 ghost use Rattle.av_plain.specs.Ledger.{Ledger, slot_of};
 ghost use Rattle.av_plain.specs.World.{World};
 ghost use Rattle.av_spaces.specs.Spaces.{pages_of};
@@ -15,7 +15,7 @@ ghost use Rattle.av_mem.specs.Mem.{frame_count, view};
 ghost use Rattle.av_mem.specs.Steps.{KeepsParts};
 ghost use Rattle.av_mem.specs.Between.{Does, HasBetween, HasDone, IsBetween, KeepsBetween};
 ghost use Rattle.av_fault.specs.Making.{HasMade};
-ghost use Rattle.av_fault.specs.Using.{HasDropped, HasDroppedFull, IsHere, is_shared_in};
+ghost use Rattle.av_fault.specs.Using.{HasDropped, HasDroppedFull, IsHere, asks_copy_in};
 
 use crate::fault::Touched;
 use crate::making::make_copy;
@@ -83,7 +83,7 @@ pub(crate) fn write_frame<D: SwapDev>(
         (device_by (D.sizes dev.new) (D.pages dev.new) (D.failures dev.new)) }
     ensures count { frame_count mem.new ≡ frame_count mem.old }
 {
-    if !settled && is_shared(mem, frame) {
+    if !settled && asks_copy(mem, frame) {
         return make_copy(mem, dev, key, frame, home, notes);
     }
     let cached = drop_unneeded(mem, frame, notes)?;
@@ -92,9 +92,9 @@ pub(crate) fn write_frame<D: SwapDev>(
 }
 
 /// Whether another entry names the frame, or an entry names the slot at which it is cached.
-fn is_shared(mem: &Mem, frame: u32) -> bool
+fn asks_copy(mem: &Mem, frame: u32) -> bool
     requires { frame < frame_count mem.now }
-    ensures { result ≡ is_shared_in (view mem.now) frame }
+    ensures { result ≡ asks_copy_in (view mem.now) frame }
 {
     if mem.frames.maps(frame) > 1 {
         return true;
@@ -162,7 +162,7 @@ fn write_own(
     requires in_range { frame < frame_count mem.old }
     requires home { home ≡ home_of key.1 (pages_of mem.old.spaces.processes key.0 key.1) }
     ensures written { (d : Device) (w : World) (r : Rmap) (l : Ledger)
-        → KeepsBetween d mem.old w r l → is_shared_by l frame ≡ false
+        → KeepsBetween d mem.old w r l → asks_copy_by l frame ≡ false
         → cached ≡ is_some (slot_of l frame)
         → HasDone d d mem.old mem.new w r l (Used true key ∷ []) }
     ensures here { entry_at mem.new.tables key.0 key.1 ≡ Pte.Here frame true true }

@@ -6,7 +6,7 @@ use Rattle.std.specs.FinMap.Entries.{find, is_sorted}
 use Rattle.std.specs.Option.{option_or}
 use Rattle.av_base.specs.declared.slot.Slot.{Slot}
 use Rattle.av_plain.specs.Event.{put_all, without_seen}
-use Rattle.av_plain.specs.Fault.{is_named, is_shared}
+use Rattle.av_plain.specs.Fault.{is_named, asks_copy}
 use Rattle.av_plain.specs.Ledger.{Entry, Key, Ledger, Setting, entry, is_free, is_merged, key_cmp, map_count, names_frame, names_slot, slot_entries, slot_of}
 use Rattle.av_plain.specs.Stands.{LedgerStands, Pte, View, entry_of}
 use Rattle.av_plain.proofs.Event.{count-put_all, entries_with, put_all-only}
@@ -120,8 +120,8 @@ module _ (m : Setting) (v : View) (l : Ledger) (p n : ℕ) (goes : List Inherite
     found-then k = ap (λ (l : Ledger). entry l k) (sym then-is) ∙ entry-forked p q goes l k sorted
 
     -- a frame that an entry of another process may write is not the parent's, nor does an entry name its slot
-    alone-then : (x page : ℕ) (e : Entry) (f : ℕ) → (x == p) ≡ false → entry l (x, page) ≡ Some e → names_frame f e ≡ true → is_shared l f ≡ false
-        → is_shared then f ≡ false
+    alone-then : (x page : ℕ) (e : Entry) (f : ℕ) → (x == p) ≡ false → entry l (x, page) ≡ Some e → names_frame f e ≡ true → asks_copy l f ≡ false
+        → asks_copy then f ≡ false
     alone-then x page e f other at names alone = shared-same l then f
         (maps-then f ∙ same (map_count l f) (more goes v p n (names_frame f)) none) refl
         (λ s at_s. entries-then s ∙ same (slot_entries l s) _ (nothing (slot_entries l s) _ (unnamed s at_s) (more-few (names_slot s)))) refl ∙ alone
@@ -210,7 +210,7 @@ module _ (m : Setting) (v : View) (l : Ledger) (p n : ℕ) (goes : List Inherite
               ∙ ap (λ x. entry l (x, o)) (sym same)
           by false false i j = ap entry_of (others x o i j) ∙ h.tables.entries x o
 
-      writes-then : (x o : ℕ) (t : Pte) (f : ℕ) → table x o ≡ Some t → t.write ≡ true → names_frame f t.entry ≡ true → is_shared then f ≡ false
+      writes-then : (x o : ℕ) (t : Pte) (f : ℕ) → table x o ≡ Some t → t.write ≡ true → names_frame f t.entry ≡ true → asks_copy then f ≡ false
       writes-then x o t f is writes names = by (x == p) (x == q) refl refl
         where
           no_parent : (c : Option Pte) → option_map pte_parent c ≡ Some t → t.write ≡ true → ⊥
@@ -221,7 +221,7 @@ module _ (m : Setting) (v : View) (l : Ledger) (p n : ℕ) (goes : List Inherite
           no_child None e w = cc
           no_child (Some u) e w = false≢true (ap (λ (t : Pte). t.write) (some-is (pte_child u) t e) ∙ w)
 
-          by : (a b : Bool) → (x == p) ≡ a → (x == q) ≡ b → is_shared then f ≡ false
+          by : (a b : Bool) → (x == p) ≡ a → (x == q) ≡ b → asks_copy then f ≡ false
           by true b i j = absurd (no_parent (v.table p o) (sym (parent o) ∙ ap (λ x. table x o) (sym (equal x p i)) ∙ is) writes)
           by false true i j = absurd (no_child (handed_pte goes p v o) (sym (child o) ∙ ap (λ x. table x o) (sym (equal x q j)) ∙ is) writes)
           by false false i j =

@@ -22,7 +22,7 @@ use Rattle.av_plain.specs.Device.{Device}
 use Rattle.av_plain.specs.World.{Process, World, Page, no_pages, lives, pages, set_process, end_process}
 use Rattle.av_plain.specs.Ledger.{Entry, Key, Ledger, entry, names_frame}
 use Rattle.av_plain.specs.Event.{Event, after_all, notes_of}
-use Rattle.av_plain.specs.Fault.{is_shared}
+use Rattle.av_plain.specs.Fault.{asks_copy}
 use Rattle.av_plain.specs.Zap.{keys_of_process, zaps_of}
 use Rattle.av_plain.specs.Refusal.{tests, refusal, Refuses}
 use Rattle.av_plain.specs.Step.{Follows}
@@ -298,7 +298,7 @@ module _ {d : Device} (old mid : Mem) (tables : ProcessTables) (spaces : AllSpac
       clash e = cc
 
       bits : (b : Bool) (q page : ℕ) (t : Plain) (f : ℕ) → plain (cond b Empty (entry_at mid.tables q page)) ≡ Some t →
-          t.write ≡ true → names_frame f t.entry ≡ true → is_shared l f ≡ false
+          t.write ≡ true → names_frame f t.entry ≡ true → asks_copy l f ≡ false
       bits true q page t f is writes names = absurd (clash is)
       bits false q page t f is writes names = taken.stands.parts.tables.write_bits q page t f is writes names
 

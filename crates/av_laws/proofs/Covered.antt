@@ -74,7 +74,7 @@ use Rattle.av_plain.specs.Areas.{rmap_after}
 use Rattle.av_plain.specs.Event.{EntriesMoved, FlagSet, Forked, FreeSorted, Noted, TurnedOff, TurnedOn, Used, Zapped, after}
 use Rattle.av_plain.specs.Fault.{Denied, Lost, Starved}
 use Rattle.av_plain.specs.Lock.{BringsIn, lock_event, with_lock}
-use Rattle.av_plain.specs.Refusal.{is_bad_range, locks_too_many, meets_end}
+use Rattle.av_plain.specs.Refusal.{is_bad_range, locks_too_many, ends_too_high}
 use Rattle.av_plain.specs.World.{child_of, page_of_child, wiped, with_change_on, with_page_flag, without_lock}
 use Rattle.av_plain.specs.Zap.{keys_in}
 use Rattle.av_plain.proofs.AreasLeft.{rmap_after-keeps}
@@ -777,7 +777,7 @@ module _ (most : ℕ) (enough : top_page ≤ most) where
           (ends q.0 (locked (accesses-set_none m _ l p _ h.0 q.0 q.1)))
       by false q = subst (λ x. Low (next now (Mlock p a len) x) on) (sym q.1)
           (subst (λ b. Low (if b then now else with_lock true now p (page_of a) (pages_met a len)) on)
-          (sym (few (lives w p) (meets_end a len) (locks_too_many a len) none)) (locked (ap set_none q.0)))
+          (sym (few (lives w p) (ends_too_high a len) (locks_too_many a len) none)) (locked (ap set_none q.0)))
   covers-flags m w now l on (Munlock p a len) es answer rows sets same c none h =
       subst (λ x. Low (next now (Munlock p a len) x) on) (sym h.0)
       (by (pages_to_hole (pages w p) (page_of a) (pages_met a len) == pages_met a len))

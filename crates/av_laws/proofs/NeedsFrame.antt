@@ -18,7 +18,7 @@ use Rattle.av_trace.specs.declared.reply.Reply.{Reply}
 use Rattle.av_plain.specs.World.{World}
 use Rattle.av_plain.specs.Ledger.{Cached, cached_by, Entry, InFrame, InSlot, Key, Ledger, Setting, Zero, entry, frame_at, in_flight, is_full, is_merged, key_cmp, map_count, names_frame, names_slot, same_slot, slot_entries, slot_of}
 use Rattle.av_plain.specs.Event.{Event, Used, after_all, after_note, after_notes, after_use, after_use_of, if_some, note_events, off_cache, set_entry, when, with_stale}
-use Rattle.av_plain.specs.Fault.{ComesIn, CopyOnWrite, Denied, IsMade, Lost, MapCached, Need, NewPage, Ready, RunsOut, Serves, Sparing, Starved, Stop, SwapIn, Touches, ZeroPage, drop_at, drop_of_entry, drop_of_slot, is_named, is_shared, is_unneeded, need, need_of_slot, sparing, wants_frame, was_slot}
+use Rattle.av_plain.specs.Fault.{ComesIn, CopyOnWrite, Denied, IsMade, Lost, MapCached, Need, NewPage, Ready, RunsOut, Serves, Sparing, Starved, Stop, SwapIn, Touches, ZeroPage, drop_at, drop_of_entry, drop_of_slot, is_named, asks_copy, is_unneeded, need, need_of_slot, sparing, wants_frame, was_slot}
 use Rattle.av_plain.specs.Access.{Accesses, End, Stopped, Whole, page_events, read_answer, write_answer}
 use Rattle.av_plain.specs.Refusal.{Refuses, refusal, tests}
 use Rattle.av_plain.specs.Sound.{slots}
@@ -343,7 +343,7 @@ own-of m l k s h = by (entry l k) refl h
       unmerged = none.2;
     }
 
-own-unshared : (l : Ledger) (k : Key) (own : IsOwn l k) → is_shared l own.frame ≡ false
+own-unshared : (l : Ledger) (k : Key) (own : IsOwn l k) → asks_copy l own.frame ≡ false
 own-unshared l k own = neither (nat_lt 1 (map_count l own.frame)) (is_named l (slot_of l own.frame)) (is_merged l own.frame)
     (grind (arith, nat_tests, own.alone)) (named (slot_of l own.frame) refl) own.unmerged
   where

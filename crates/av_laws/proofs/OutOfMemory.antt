@@ -20,7 +20,7 @@ use Rattle.av_plain.specs.Access.{Accesses, End, Stopped, Whole, bytes_before, p
 use Rattle.av_plain.specs.Advice.{flag_of_advice, pages_advised}
 use Rattle.av_plain.specs.Lock.{BringsIn, accesses_of, with_lock}
 use Rattle.av_plain.specs.Event.{Event, after_all, after_notes}
-use Rattle.av_plain.specs.Fault.{ComesIn, CopyOnWrite, Denied, Lost, Ready, RunsOut, Starved, Stop, Touches, is_shared, need, need_of_slot, pinned_by, sparing}
+use Rattle.av_plain.specs.Fault.{ComesIn, CopyOnWrite, Denied, Lost, Ready, RunsOut, Starved, Stop, Touches, asks_copy, need, need_of_slot, pinned_by, sparing}
 use Rattle.av_plain.specs.Ledger.{Entry, InFrame, InSlot, Key, Ledger, Setting, Zero, entry, frame_at, has_free, is_merged, is_usable, names_frame, slot_of, slots_in_use}
 use Rattle.av_plain.specs.Pass.{Spared, is_pinned, out_of}
 use Rattle.av_plain.specs.Place.{IsMapAt}
@@ -122,7 +122,7 @@ pinned-below m l write k s = by write (entry l k) refl
     by false (Some Zero) is = tt
     by true (Some Zero) is = tt
     by false (Some (InFrame g seen)) is = tt
-    by true (Some (InFrame g seen)) is = shared g (is_shared l g) (below g seen is)
+    by true (Some (InFrame g seen)) is = shared g (asks_copy l g) (below g seen is)
     by false (Some (InSlot t)) is = slot t (frame_at l t)
     by true (Some (InSlot t)) is = slot t (frame_at l t)
 

@@ -59,7 +59,7 @@ use Rattle.av_plain.specs.Merge.{merges}
 use Rattle.av_plain.specs.Mremap.{MovesTo, events_to, may_stay}
 use Rattle.av_plain.specs.Place.{Goes, IsMapAt, is_room}
 use Rattle.av_plain.specs.Reclaim.{from_tail}
-use Rattle.av_plain.specs.Refusal.{Refuses, locks_too_many, meets_end, no_device_at, refusal, tests}
+use Rattle.av_plain.specs.Refusal.{Refuses, locks_too_many, ends_too_high, no_device_at, refusal, tests}
 use Rattle.av_plain.specs.Report.{AreApart, AreLongest, Cover, MayBeNoSlot, Range, count_answer, entry_answer, key_row, prot_in, row_of, run_of, slot_answer, totals, walk_answer, walk_rows}
 use Rattle.av_plain.specs.Sound.{AllSound}
 use Rattle.av_plain.specs.Step.{Follows, IsLegal}
@@ -570,7 +570,7 @@ module _ (m : Setting) (w : World) (l : Ledger) (few : IsSmallSetting m) (s : Al
       by true q = fits-by events (event ∷ h.0) answer (write_answer (address_of (page_of a)) q.0) rows [] h.1 q.2 h.2
           (write-fits (address_of (page_of a)) q.0 (notes_of h.0)
           (lock-stops m (with_lock true w p (page_of a) (pages_met a len)) l p (page_of a) (pages_met a len) (pages w p) h.0 q.0
-          (few_met (pages_met a len) (few_pages (lives w p) (meets_end a len) (locks_too_many a len) fine)) q.1)
+          (few_met (pages_met a len) (few_pages (lives w p) (ends_too_high a len) (locks_too_many a len) fine)) q.1)
           (accesses-fit m few.frames (with_lock true w p (page_of a) (pages_met a len)) p (locked-fits p (page_of a) (pages_met a len)) l
           (accesses_of (pages w p) (page_of a) (pages_met a len)) h.0 q.0 wide q.1) (subst CausesFit q.2 out))
       by false q = fits-by events (event ∷ h.0) answer (Refused Enomem) rows [] h.1 q.1 h.2

@@ -28,7 +28,7 @@ use Rattle.av_plain.specs.Event.{Event, EntriesMoved, FlagSet, Forked, FreeSorte
 use Rattle.av_plain.specs.Fault.{ComesIn, CopyOnWrite, Denied, IsLost, IsMade, Lost, MapCached, Need, NewPage, Ready, RunsOut, Serves, Starved, Stop, SwapIn, Touches, ZeroPage, drop_at, drop_of_entry, drop_of_slot, is_locked, need, pinned_by, sparing, was_slot}
 use Rattle.av_plain.specs.Ledger.{Entry, InFrame, InSlot, Key, Ledger, Setting, SwapArea, Zero, entry, frame_at, has_free, is_merged, is_orphan, key_cmp, keys_of_slot, map_count, names_frame, slot_of, slots_in_use}
 use Rattle.av_plain.specs.Lock.{BringsIn, accesses_of, with_lock}
-use Rattle.av_plain.specs.Compact.{Moves}
+use Rattle.av_plain.specs.Compact.{MovesDown}
 use Rattle.av_plain.specs.Map.{zaps_for_place}
 use Rattle.av_plain.specs.Merge.{FrameBytes, candidate, join_notes, merge_notes, merged_like, merges, other_like, with_candidate}
 use Rattle.av_plain.specs.Mremap.{events_to, range_zaps, remap_events}
@@ -632,7 +632,7 @@ spare-follows m w l (AsksSlot k page) es answer rows still h = all-is w l es [] 
 spare-follows m w l Stat es answer rows still h = all-is w l es [] h.1 tt
 
 -- a compaction unmaps nothing
-spare-moves : (m : Setting) (w : World) (l now : Ledger) (notes : List Note) → Moves m l notes
+spare-moves : (m : Setting) (w : World) (l now : Ledger) (notes : List Note) → MovesDown m l notes
     → AllSpareLocked w now (note_events notes ++ FreeSorted ∷ [])
 spare-moves m w l now [] h = (tt, tt)
 spare-moves m w l now (note ∷ notes) h =

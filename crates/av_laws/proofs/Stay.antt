@@ -26,7 +26,7 @@ use Rattle.av_trace.specs.declared.row.Row.{Row}
 use Rattle.av_plain.specs.Access.{Accesses, End, page_events, pages_of_access}
 use Rattle.av_plain.specs.Advice.{advice_events, flag_of_advice, pages_advised}
 use Rattle.av_plain.specs.Event.{Event, EntriesMoved, Forked, Noted, TurnedOn, Used, after, after_all, after_note, after_notes, after_use, after_use_of, change_entries, change_frame, frame_of, if_some, key_at, note_events, notes_of, off_cache, set_entry, with_stale, without_seen, Inherited}
-use Rattle.av_plain.specs.Fault.{ComesIn, CopyOnWrite, Denied, IsMade, Lost, MapCached, Need, NewPage, Ready, RunsOut, Serves, Starved, Stop, SwapIn, Touches, ZeroPage, drop_at, drop_of_entry, drop_of_slot, is_locked, is_shared, need, pinned_by, sparing, was_slot}
+use Rattle.av_plain.specs.Fault.{ComesIn, CopyOnWrite, Denied, IsMade, Lost, MapCached, Need, NewPage, Ready, RunsOut, Serves, Starved, Stop, SwapIn, Touches, ZeroPage, drop_at, drop_of_entry, drop_of_slot, is_locked, asks_copy, need, pinned_by, sparing, was_slot}
 use Rattle.av_plain.specs.Fork.{inheritance}
 use Rattle.av_plain.specs.Ledger.{Entry, InFrame, InSlot, Key, Ledger, Setting, SwapArea, Zero, entry, frame_at, is_merged, key_cmp, keys_of_slot, names_frame, names_slot, slot_of, slots_in_use}
 use Rattle.av_plain.specs.Lock.{BringsIn, accesses_of, with_lock}
@@ -259,7 +259,7 @@ module _ (k : Key) (f : ℕ) where
         by : (write : Bool) → (seen : Bool) × (entry l k ≡ Some (InFrame f seen))
             → (need write l (entry l k) ≡ Ready) ⊎ ((g : ℕ) × (need write l (entry l k) ≡ CopyOnWrite g))
         by false (seen, is) = inl (ap (need false l) is)
-        by true (seen, is) = subst (λ n. (n ≡ Ready) ⊎ ((g : ℕ) × (n ≡ CopyOnWrite g))) (sym (ap (need true l) is)) (copies (is_shared l f))
+        by true (seen, is) = subst (λ n. (n ≡ Ready) ⊎ ((g : ℕ) × (n ≡ CopyOnWrite g))) (sym (ap (need true l) is)) (copies (asks_copy l f))
 
     -- so none comes in
     comes-none : (m : Setting) (write : Bool) (l : Ledger) (coming : List Note) → IsHere l

@@ -1,7 +1,7 @@
 -- Worked examples for areas and anon_vmas: what a command or an event makes of them.
 -- Which example would fail if a definition were wrong:
 --   a split (`split_at`, `part_of`): protected_inside, hole, unmapped_inside, changed_inside
---   a join (`joined_at`, `are_mergeable`): joined_again, joined_above, joined_below, between,
+--   a join (`joined_at`, `are_joinable`): joined_again, joined_above, joined_below, between,
 --     kept_apart
 --   what goes (`without_range`, `with_room`): hole, fixed_over
 --   a change (`pages_changed`, `areas_to_hole`): protected_inside, up_to_hole, wrapped

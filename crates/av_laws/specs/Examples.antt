@@ -11,7 +11,7 @@
 --   protections (`allows`): readable, writable
 --   what a page needs (`need`, `IsMade`): zero_page, new_page, zero_again, new_over_zero,
 --     read_together
---   when a frame is shared (`is_shared`): copied, copied_from_slot
+--   when a frame is shared (`asks_copy`): copied, copied_from_slot
 --   what comes in (`ComesIn`): loaded, copied_from_slot, mapped_again
 --   when a slot is dropped (`is_unneeded`): loaded, kept_in_swap, dropped, mapped_again,
 --     named_by_other

@@ -2,7 +2,7 @@
 use Rattle.std.specs.Prelude.{◌≡◌, ℕ, Bool, true, false, Option, Some, None}
 use Rattle.std.specs.List.{AllByRecursion}
 use Rattle.av_plain.specs.Access.{pages_of_access}
-use Rattle.av_plain.specs.Fault.{is_shared, need, wants_frame}
+use Rattle.av_plain.specs.Fault.{asks_copy, need, wants_frame}
 use Rattle.av_plain.specs.Ledger.{Entry, InFrame, InSlot, Ledger, Zero, entry}
 
 -- none of the pages of a read or a write of n bytes wants a frame: a read wants one where the page
@@ -16,7 +16,7 @@ NoneWantsFrame write l p a n =
 abbrev pub IsInPlace : Ledger → Option Entry → Type 0
 IsInPlace l None = ⊥
 IsInPlace l (Some Zero) = ⊥
-IsInPlace l (Some (InFrame f seen)) = is_shared l f ≡ false
+IsInPlace l (Some (InFrame f seen)) = asks_copy l f ≡ false
 IsInPlace l (Some (InSlot s)) = ⊥
 
 -- each page of a write of n bytes has such an entry

@@ -9,7 +9,7 @@ ghost use Rattle.av_trace.specs.declared.row.Row.{Row};
 ghost use Rattle.av_plain.specs.World.{World};
 ghost use Rattle.av_plain.specs.Ledger.{Entry, Key, Ledger, Setting, free_frames, walk};
 ghost use Rattle.av_plain.specs.Event.{Event, after_all, after_note, after_notes};
-ghost use Rattle.av_plain.specs.Fault.{is_shared};
+ghost use Rattle.av_plain.specs.Fault.{asks_copy};
 ghost use Rattle.av_plain.specs.Pass.{frames_in_turn, out_of};
 ghost use Rattle.av_plain.specs.Reclaim.{cause_of};
 ghost use Rattle.av_plain.specs.Merge.{ClaimSame, Has, Merges, candidates, frame_named, merges};
@@ -75,7 +75,7 @@ pub fn merged_frames_are_left_alone()
 /// A write to a page copies a merged frame also where it is the last one: that frame is free then,
 /// and merged no longer.
 pub fn last_copies_free_merged_frames()
-    ensures copied { is_shared merged_alone 2 ≡ true }
+    ensures copied { asks_copy merged_alone 2 ≡ true }
     ensures merged { (after_note (Copied 1 0x10000 0) merged_alone).merged ≡ [] }
     ensures free { free_frames (machine 4) (after_note (Copied 1 0x10000 0) merged_alone)
         ≡ 1 ∷ 2 ∷ 3 ∷ [] }

@@ -6,7 +6,7 @@ use Rattle.std.proofs.lemmas.Option.{none-some, same_Some}
 use Rattle.av_vma.specs.declared.area.Area.{Area}
 use Rattle.av_vma.specs.Index.{first_of, past_of}
 use Rattle.std.specs.Option.{option_or}
-use Rattle.av_vma.specs.Join.{are_mergeable}
+use Rattle.av_vma.specs.Join.{are_joinable}
 use Rattle.av_interval.specs.declared.span.Span as interval
 use Rattle.av_anon.specs.Anons.{Family, give_own, own_of, with_own}
 use Rattle.av_anon.specs.Kin.{length_by}
@@ -240,12 +240,12 @@ joined_now areas one two' l r lower upper low up first second k =
 pub test_is : (areas : ℕ → Option Area) (f : Family) (spans : ℕ → List interval.Span) (l r : ℕ) (lower upper : Area) (m n : ℕ) (b : Bool) →
     IsInOrder areas f spans → areas l ≡ Some lower → areas r ≡ Some upper
     → m ≡ cond (is_some lower.anon) (length (f.chain l)) 0 → n ≡ cond (is_some upper.anon) (length (f.chain r)) 0
-    → b ≡ are_mergeable lower m upper n →
+    → b ≡ are_joinable lower m upper n →
     do_join (length_by areas f) lower upper ≡ b
 test_is areas f spans l r lower upper m n b o low up first second is =
     let m' : length_by areas f lower.anon ≡ m = sym (first ∙ length_is areas f spans l lower o low) in
     let n' : length_by areas f upper.anon ≡ n = sym (second ∙ length_is areas f spans r upper o up) in
-    (λ i. are_mergeable lower (m' i) upper (n' i)) ∙ sym is
+    (λ i. are_joinable lower (m' i) upper (n' i)) ∙ sym is
 
 -- two areas that don't join stay
 pub apart_stay : (len : Lengths) (at l r : ℕ) (areas : ℕ → Option Area) (spans : List Span) (lower upper : Area) → area_at spans (at - 1) ≡ Some l →

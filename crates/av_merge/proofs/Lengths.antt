@@ -8,7 +8,7 @@ use Rattle.av_base.specs.declared.flags.Flags.{Flags}
 use Rattle.av_base.specs.declared.prot.Prot.{Prot}
 use Rattle.av_interval.specs.declared.span.Span as interval
 use Rattle.av_vma.specs.declared.area.Area.{Area}
-use Rattle.av_vma.specs.Join.{are_mergeable}
+use Rattle.av_vma.specs.Join.{are_joinable}
 use Rattle.av_vma.specs.Mremap.{joined_over}
 use Rattle.av_vma.specs.Pages.{Effect, Lengths, Pages, after_join, after_map, alters_at, split_at, fresh_area, has_page, join_of, joined_around, joined_at, page_changed, pages_changed, part_changed, part_of, with_area, with_effect, with_effect_on}
 use Rattle.av_vma.proofs.Split.{part_own}
@@ -67,7 +67,7 @@ joined_alike len len' at on h page = go (on (at - 1)) (on at) refl refl
     go (Some l) (Some r) e e' =
         let first = h.same (at - 1) l e in
         let second = h.same at r e' in
-        λ i. cond (are_mergeable l (first i) r (second i) && has_page (join_of l r) page) (Some (join_of l r)) (on page)
+        λ i. cond (are_joinable l (first i) r (second i) && has_page (join_of l r) page) (Some (join_of l r)) (on page)
 
 pub around_alike : (len len' : Lengths) (from past : ℕ) (on : Pages) → AreAlike len len' on → (page : ℕ) →
     joined_around len from past on page ≡ joined_around len' from past on page

@@ -12,7 +12,7 @@ ghost use Rattle.av_merge.specs.Process.{AreOfOne, StayOfOne, Becomes};
 use crate::linking::{chain_len, share, take};
 use crate::placing::replace_both;
 use av_anon::Anons;
-use av_vma::{Area, AreaId, Areas, mergeable};
+use av_vma::{Area, AreaId, Areas, joinable};
 use av_vmatree::Tree;
 use std::alloc::AllocError;
 
@@ -194,7 +194,7 @@ fn join_above(
 }
 
 /// Tries the boundary before the page `at`: the areas on its two sides become one where they are
-/// mergeable, with the anon_vma that either has.
+/// joinable, with the anon_vma that either has.
 pub fn join_at(
     areas: &mut Areas,
     tree: &mut Tree,
@@ -225,7 +225,7 @@ pub fn join_at(
 }
 
 /// Makes one of the areas on the two sides of the boundary before the page `at`, where they are
-/// mergeable, and answers the number of the one that has the pages above it then.
+/// joinable, and answers the number of the one that has the pages above it then.
 fn join(
     areas: &mut Areas,
     tree: &mut Tree,
@@ -251,7 +251,7 @@ fn join(
     let upper = areas.get(right);
     let left_len = chain_len(anons, left, lower.anon);
     let right_len = chain_len(anons, right, upper.anon);
-    if !mergeable(&lower, left_len, &upper, right_len) {
+    if !joinable(&lower, left_len, &upper, right_len) {
         return Ok(right);
     }
     share(areas, anons, left, right)?;

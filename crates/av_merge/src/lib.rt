@@ -7,7 +7,7 @@
 //! call takes time logarithmic in the number of the process's areas, times the number of areas in
 //! its range or beside it, and for each of these that has a chain time for each of its nodes.
 //!
-//! A split links the upper part to the whole chain. Two areas become one where they are mergeable;
+//! A split links the upper part to the whole chain. Two areas become one where they are joinable;
 //! where only one has an anon_vma, its chain has one node, and the other's pages get that. An area
 //! that goes leaves its anon_vmas first. Areas without anon_vma are changed directly. An area that
 //! moves keeps its number, and so its links; where it has an anon_vma its offset stays too, and so

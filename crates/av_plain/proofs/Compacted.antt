@@ -12,7 +12,7 @@ use Rattle.av_trace.specs.declared.note.Note.{Note}
 use Rattle.av_trace.specs.declared.note.Note.TheVariants.{Joined, Moved, Shared}
 use Rattle.av_trace.specs.declared.reply.Answer.{Answer}
 use Rattle.av_trace.specs.declared.row.Row.{Row}
-use Rattle.av_plain.specs.Compact.{AreLowest, Compacts, IsCompacted, Moves, greatest_used, least_free, move_down, next_move}
+use Rattle.av_plain.specs.Compact.{AreLowest, Compacts, IsCompacted, MovesDown, greatest_used, least_free, move_down, next_move}
 use Rattle.av_plain.specs.Event.{Event, FreeSorted, Noted, after_all, after_note, after_notes, note_events, renamed_entry, with_renamed}
 use Rattle.av_plain.specs.Ledger.{Cached, Entry, InFrame, InSlot, Key, Ledger, Setting, Zero, entry, is_cached, is_free, map_count, names_frame, same_slot, slot_count, slot_entries, walk}
 use Rattle.av_plain.specs.Merge.{FrameBytes, Merges, candidate, join_notes, merge_notes, merged_like, merges, other_like, with_candidate}
@@ -69,7 +69,7 @@ pub merge-world : (m : Setting) (w : World) (l : Ledger) (events : List Event) (
 merge-world m w l events answer rows h = without-loads m w l events
     (ap (list_all loads_nothing) h.2 ∙ merges-load_nothing m h.0 w l [] (map (λ e. e.0) l.entries))
 
-moves-load_nothing : (m : Setting) (l : Ledger) (notes : List Note) → Moves m l notes → list_all loads_nothing (note_events notes) ≡ true
+moves-load_nothing : (m : Setting) (l : Ledger) (notes : List Note) → MovesDown m l notes → list_all loads_nothing (note_events notes) ≡ true
 moves-load_nothing m l [] r = refl
 moves-load_nothing m l (note ∷ notes) r =
     let v = move-is m l note r.0 in
@@ -147,7 +147,7 @@ placed [] f = f
 placed (note ∷ notes) f = placed notes (placed_by note f)
 
 -- each walk is that of the frame it went over from
-pub moves-walks : (m : Setting) (l : Ledger) (notes : List Note) → IsSound m l → Moves m l notes → (f : ℕ) → 0 < uses l f
+pub moves-walks : (m : Setting) (l : Ledger) (notes : List Note) → IsSound m l → MovesDown m l notes → (f : ℕ) → 0 < uses l f
     → walk (after_notes l notes) (placed notes f) ≡ walk l f
 moves-walks m l [] s r f some = refl
 moves-walks m l (note ∷ notes) s r f some = by note (move-is m l note r.0) (λ s' some'. moves-walks m (after_note note l) notes s' r.1 (placed_by note f) some')
@@ -174,7 +174,7 @@ moves-walks m l (note ∷ notes) s r f some = by note (move-is m l note r.0) (λ
             ∙ ap (λ x. walk (after_note x l) (placed_by x f)) is ∙ walk-went m l from to s free used below f (other to free)
 
 -- the last ledger has no frame in use above a free one
-pub moves-lowest : (m : Setting) (l : Ledger) (notes : List Note) → Moves m l notes → next_move m (after_notes l notes) ≡ None
+pub moves-lowest : (m : Setting) (l : Ledger) (notes : List Note) → MovesDown m l notes → next_move m (after_notes l notes) ≡ None
 moves-lowest m l [] r = r
 moves-lowest m l (note ∷ notes) r = moves-lowest m (after_note note l) notes r.1
 
@@ -331,7 +331,7 @@ moved-compacts m l from to = record {
       + cond (any-map (λ (c : Cached). same_slot t c.slot) (λ (c : Cached). record c { frame = renamed from to c.frame }) l.cache i) 1 0);
 }
 
-pub moves-compact : (m : Setting) (l : Ledger) (notes : List Note) → Moves m l notes → IsCompacted l (after_notes l notes)
+pub moves-compact : (m : Setting) (l : Ledger) (notes : List Note) → MovesDown m l notes → IsCompacted l (after_notes l notes)
 moves-compact m l [] r = record { active = refl; inactive = refl; flight = refl; on = refl; counts = λ t. refl }
 moves-compact m l (note ∷ notes) r =
     let v = move-is m l note r.0 in

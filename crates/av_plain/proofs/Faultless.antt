@@ -41,7 +41,7 @@ use Rattle.av_trace.specs.declared.reply.Errno.TheVariants.{Einval}
 use Rattle.std.proofs.Common.{nat_lt}
 use Rattle.av_plain.specs.Event.{FreeSorted}
 use Rattle.av_plain.specs.Merge.{FrameBytes, candidate, join_notes, merge_notes, merged_like, merges, other_like, with_candidate}
-use Rattle.av_plain.specs.Compact.{Moves}
+use Rattle.av_plain.specs.Compact.{MovesDown}
 use Rattle.av_trace.specs.declared.command.Command.TheVariants.{Compact, Merge}
 use Rattle.av_plain.proofs.Sound.Frames.{move-is}
 use Rattle.av_plain.specs.Event.{after_note}
@@ -198,7 +198,7 @@ merges-faultless m held w l earlier (k ∷ ks) =
     by None = refl
     by (Some f) = joins (merged_like m held l f) (other_like held earlier f)
 
-moves-faultless : (m : Setting) (l : Ledger) (notes : List Note) → Moves m l notes → fails notes ≡ 0
+moves-faultless : (m : Setting) (l : Ledger) (notes : List Note) → MovesDown m l notes → fails notes ≡ 0
 moves-faultless m l [] h = refl
 moves-faultless m l (note ∷ notes) h =
     (λ i. one i + moves-faultless m (after_note note l) notes h.1 i)

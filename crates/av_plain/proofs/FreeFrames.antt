@@ -22,7 +22,7 @@ use Rattle.av_base.specs.declared.flags.Flag.TheVariants as flags
 use Rattle.av_plain.specs.Advice.{advice_events, flag_of_advice, pages_advised}
 use Rattle.av_plain.specs.Lock.{BringsIn, Locks, accesses_of, with_lock}
 use Rattle.av_plain.specs.Event.{Event, FlagSet, Forked, Inherited, EntriesMoved, TurnedOff, TurnedOn, Used, after, after_all, after_move, after_note, after_notes, after_use, after_use_of, after_zap, change_entries, if_some, key_at, note_events, off_cache, put_all, set_entry, when, with_stale}
-use Rattle.av_plain.specs.Fault.{ComesIn, CopyOnWrite, Denied, IsMade, Lost, MapCached, Need, NewPage, Ready, RunsOut, Serves, Sparing, Starved, Stop, SwapIn, Touches, ZeroPage, drop_at, drop_of_entry, drop_of_slot, is_shared, is_unneeded, need, need_of_slot, pinned_by, sparing, was_slot}
+use Rattle.av_plain.specs.Fault.{ComesIn, CopyOnWrite, Denied, IsMade, Lost, MapCached, Need, NewPage, Ready, RunsOut, Serves, Sparing, Starved, Stop, SwapIn, Touches, ZeroPage, drop_at, drop_of_entry, drop_of_slot, asks_copy, is_unneeded, need, need_of_slot, pinned_by, sparing, was_slot}
 use Rattle.av_plain.specs.Fork.{inheritance}
 use Rattle.av_plain.specs.Ledger.{Cached, Entry, InFrame, InSlot, Key, Ledger, Setting, SwapArea, Zero, entry, first_ledger, frame_at, has_free, is_free, is_orphan, key_cmp, keys_of_slot, map_count, names_frame, slot_of, slots_in_use}
 use Rattle.av_plain.specs.Pass.{Completes, IsPass, IsSlotFor, Seeks, Spared, TakesFor, Turns, end_note, end_notes, frames_in_turn, is_dirty, is_stuck, stays_cached, turn_notes, unmap_notes}
@@ -67,7 +67,7 @@ use Rattle.av_plain.specs.World.{pages, pages_to_hole}
 use Rattle.av_plain.specs.Ledger.{free_frames, is_merged}
 use Rattle.av_plain.specs.Event.{FreeSorted}
 use Rattle.av_plain.specs.Merge.{FrameBytes, candidate, hold_same, join_notes, merge_notes, merged_like, merges, other_like, with_candidate}
-use Rattle.av_plain.specs.Compact.{Compacts, Moves}
+use Rattle.av_plain.specs.Compact.{Compacts, MovesDown}
 use Rattle.av_plain.specs.Choice.{TakesFrame, TakesOut, sorts_free, takes_any}
 use Rattle.av_trace.specs.declared.note.Note.TheVariants.{Joined, Moved, Shared}
 use Rattle.av_trace.specs.declared.note.Cause.TheVariants.{Ksm, Locked}
@@ -462,7 +462,7 @@ held-comes m sp l write k notes s h = by write (entry l k) h
     by false (Some Zero) q = none q
     by true (Some Zero) q = none q
     by false (Some (InFrame g seen)) q = none q
-    by true (Some (InFrame g seen)) q = none (ready (is_shared l g) g q)
+    by true (Some (InFrame g seen)) q = none (ready (asks_copy l g) g q)
     by false (Some (InSlot t)) q = slot_in t (frame_at l t) refl q
     by true (Some (InSlot t)) q = slot_in t (frame_at l t) refl q
 
@@ -796,7 +796,7 @@ module _ (m : Setting) (held : FrameBytes) (w : World) where
       held-append l here (merges m held w (after_notes l here) (with_candidate earlier (candidate w l k)) ks)
       (held-joins l k earlier h.sound before) (held-merges (after_notes l here) (with_candidate earlier (candidate w l k)) ks x.holds x.before)
 
-held-moves : (m : Setting) (w : World) (l : Ledger) (notes : List Note) → Holds m w l → Moves m l notes → AreHeld l notes
+held-moves : (m : Setting) (w : World) (l : Ledger) (notes : List Note) → Holds m w l → MovesDown m l notes → AreHeld l notes
 held-moves m w l [] s h = tt
 held-moves m w l (note ∷ notes) s h =
     let v = move-is m l note h.0 in

@@ -16,7 +16,7 @@ use Rattle.av_plain.specs.World.{Page, World, pages}
 use Rattle.av_plain.specs.Ledger.{has_free_slot, is_open, slot_count, Cached, Entry, InFrame, InSlot, Key, Ledger, Setting, Zero, entry, frame_at, has_free, is_on, is_orphan, is_usable, may_give, names_slot, same_slot, size_of, slot_entries, slot_of, SwapArea}
 use Rattle.av_plain.specs.Event.{Event, EntriesMoved, Used, after_all, after_note, after_notes, after_use, after_use_of, change_entries, if_some, note_events, notes_of, off_cache, off_flight, set_entry, to_inactive_tail, when, with_stale}
 use Rattle.av_plain.specs.Pass.{Completes, IsPass, IsSlotFor, Seeks, Spared, Turns, frames_in_turn, is_stuck, stays_cached, turn_notes}
-use Rattle.av_plain.specs.Fault.{drop_of_slot, ComesIn, CopyOnWrite, Denied, IsMade, Lost, MapCached, Need, NewPage, Ready, RunsOut, Serves, Sparing, Starved, Stop, SwapIn, Touches, ZeroPage, drop_at, drop_of_entry, is_shared, need, permits, pinned_by, sparing, was_slot}
+use Rattle.av_plain.specs.Fault.{drop_of_slot, ComesIn, CopyOnWrite, Denied, IsMade, Lost, MapCached, Need, NewPage, Ready, RunsOut, Serves, Sparing, Starved, Stop, SwapIn, Touches, ZeroPage, drop_at, drop_of_entry, asks_copy, need, permits, pinned_by, sparing, was_slot}
 use Rattle.av_plain.specs.Access.{Accesses, End, Stopped, Whole, page_events}
 use Rattle.av_plain.specs.Sound.{AreasFit, count, flights, is_there, slots}
 use Rattle.av_plain.proofs.Event.{slot_entries-unseen}
@@ -216,7 +216,7 @@ plain-need l write k h = by write (entry l k) refl
     by false (Some Zero) is = tt
     by true (Some Zero) is = tt
     by false (Some (InFrame g seen)) is = tt
-    by true (Some (InFrame g seen)) is = shared (is_shared l g) g
+    by true (Some (InFrame g seen)) is = shared (asks_copy l g) g
     by false (Some (InSlot s)) is = absurd (slot s is)
     by true (Some (InSlot s)) is = absurd (slot s is)
 

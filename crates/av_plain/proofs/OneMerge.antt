@@ -7,7 +7,7 @@ use Rattle.std.specs.Prelude.{IfSome, IsSomeAnd}
 use Rattle.av_base.specs.Page.{address_of, page_size}
 use Rattle.av_trace.specs.declared.note.Note.{Note}
 use Rattle.av_trace.specs.declared.note.Note.TheVariants.{Joined, Shared}
-use Rattle.av_plain.specs.Compact.{Moves, next_move}
+use Rattle.av_plain.specs.Compact.{MovesDown, next_move}
 use Rattle.av_plain.specs.Covered.{IsOfFrame}
 use Rattle.av_plain.specs.Event.{after_note, after_notes, change_frame, set_entry}
 use Rattle.av_plain.specs.Ledger.{Entry, InFrame, Key, Ledger, Setting, entry, is_merged, names_frame}
@@ -24,13 +24,13 @@ use Rattle.av_plain.proofs.Sound.Changes.{any-counts}
 
 -- ---- a compaction
 
-pub moves-one : (m : Setting) (l : Ledger) (a b : List Note) → Moves m l a → Moves m l b → a ≡ b
+pub moves-one : (m : Setting) (l : Ledger) (a b : List Note) → MovesDown m l a → MovesDown m l b → a ≡ b
 moves-one m l [] [] h g = refl
 moves-one m l [] (note ∷ b) h g = cc
 moves-one m l (note ∷ a) [] h g = cc
 moves-one m l (note ∷ a) (other ∷ b) h g =
     let same : note ≡ other = inner (sym h.0 ∙ g.0) in
-    λ i. same i ∷ moves-one m (after_note note l) a b h.1 (subst (λ n. Moves m (after_note n l) b) (sym same) g.1) i
+    λ i. same i ∷ moves-one m (after_note note l) a b h.1 (subst (λ n. MovesDown m (after_note n l) b) (sym same) g.1) i
   where
     inner : {x y : Note} → Some x ≡ Some y → x ≡ y
     inner e = cc

@@ -30,7 +30,7 @@ use Rattle.av_plain.specs.Load.{with_loads}
 use Rattle.av_plain.specs.Map.{StopsAtHole, with_prot_to_hole, zaps_for_place}
 use Rattle.av_plain.specs.Mremap.{events_to, have_prot, is_in_place, target_of}
 use Rattle.av_plain.specs.Place.{Goes, IsMapAt}
-use Rattle.av_plain.specs.Refusal.{Refuses, is_bad_range, locks_too_many, meets_end, are_bad_lengths, is_below_low, may_end_midway, is_no_target, is_tail_too_high, lacks_pages, refusal, tests, wraps}
+use Rattle.av_plain.specs.Refusal.{Refuses, is_bad_range, locks_too_many, ends_too_high, are_bad_lengths, is_below_low, may_end_midway, is_no_target, is_tail_too_high, lacks_pages, refusal, tests, wraps}
 use Rattle.av_plain.specs.Report.{entry_answer, walk_answer}
 use Rattle.av_plain.specs.Step.{Follows, IsLegal, next, next_world}
 use Rattle.av_plain.specs.World.{Page, Process, World, lives, pages, pages_to_hole}
@@ -158,7 +158,7 @@ refused-next m w now l (Mlock p a len) Esrch is = refl
 refused-next m w now l (Mlock p a len) Eio is = refl
 refused-next m w now l (Mlock p a len) Eagain is = refl
 refused-next m w now l (Mlock p a len) Enomem is = ap (λ b. if b then now else with_lock true now p (page_of a) (pages_met a len))
-    (many-told (lives w p) (meets_end a len) (locks_too_many a len) is)
+    (many-told (lives w p) (ends_too_high a len) (locks_too_many a len) is)
 refused-next m w now l (Mlock p a len) Efault is = refl
 refused-next m w now l (Mlock p a len) Ebusy is = refl
 refused-next m w now l (Mlock p a len) Eexist is = refl
@@ -167,7 +167,7 @@ refused-next m w now l (Munlock p a len) Eperm is = refl
 refused-next m w now l (Munlock p a len) Esrch is = refl
 refused-next m w now l (Munlock p a len) Eio is = refl
 refused-next m w now l (Munlock p a len) Eagain is = refl
-refused-next m w now l (Munlock p a len) Enomem is = absurd (no-enomem (lives w p) (meets_end a len) is)
+refused-next m w now l (Munlock p a len) Enomem is = absurd (no-enomem (lives w p) (ends_too_high a len) is)
 refused-next m w now l (Munlock p a len) Efault is = refl
 refused-next m w now l (Munlock p a len) Ebusy is = refl
 refused-next m w now l (Munlock p a len) Eexist is = refl

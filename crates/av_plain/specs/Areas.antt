@@ -151,8 +151,8 @@ abbrev pub item_of : Rmap → Key → Option (ℕ × ℕ)
 item_of r k = at_root r.anons (home_of k.1 (r.areas k.0 k.1))
 
 -- a frame that is merged now has one item in place of its home: the root of that, and its index
-abbrev pub with_items : ℕ → Rmap → Rmap
-with_items f r = record r {
+abbrev pub with_first_item : ℕ → Rmap → Rmap
+with_first_item f r = record r {
   homes = with_at f None r.homes;
   items = with_at f (with_item (at_root r.anons (r.homes f)) []) r.items;
 }
@@ -200,7 +200,7 @@ rmap_after_note l (New p a f) r = at_home f (p, page_of a) (prepare_page p (page
 rmap_after_note l (Copied p a f) r = at_home f (p, page_of a) r
 rmap_after_note l (Loaded s f) r =
     record r { homes = with_at f (home_for r (keys_of_slot l s)) r.homes }
-rmap_after_note l (Shared f) r = with_items f r
+rmap_after_note l (Shared f) r = with_first_item f r
 rmap_after_note l (Joined p a f) r = with_item_of f (p, page_of a) r
 rmap_after_note l (Moved from to) r = with_home_moved from to r
 rmap_after_note l note r = r

@@ -31,13 +31,13 @@ abbrev pub next_move : Setting → Ledger → Option Note
 next_move m l = move_down (least_free m l) (greatest_used m l)
 
 -- one move after the other, until there is none
-abbrev pub Moves : Setting → Ledger → List Note → Type 0
-Moves m l [] = next_move m l ≡ None
-Moves m l (note ∷ notes) = (next_move m l ≡ Some note) × Moves m (after_note note l) notes
+abbrev pub MovesDown : Setting → Ledger → List Note → Type 0
+MovesDown m l [] = next_move m l ≡ None
+MovesDown m l (note ∷ notes) = (next_move m l ≡ Some note) × MovesDown m (after_note note l) notes
 
 -- compact: in the end the list of free frames is put in order
 abbrev pub Compacts : Setting → Ledger → List Event → Answer → List Row → Type 0
-Compacts m l events answer rows = (notes : List Note) × Moves m l notes
+Compacts m l events answer rows = (notes : List Note) × MovesDown m l notes
     × (events ≡ note_events notes ++ FreeSorted ∷ []) × (answer ≡ Done) × (rows ≡ [])
 
 -- ---- what the command leaves

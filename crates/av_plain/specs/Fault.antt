@@ -24,8 +24,8 @@ is_named l (Some s) = nat_lt 0 (slot_entries l s)
 
 -- a write to the frame has to copy it: another entry names it, or an entry names its slot, or it is
 -- merged
-abbrev pub is_shared : Ledger → ℕ → Bool
-is_shared l f = nat_lt 1 (map_count l f) || is_named l (slot_of l f) || is_merged l f
+abbrev pub asks_copy : Ledger → ℕ → Bool
+asks_copy l f = nat_lt 1 (map_count l f) || is_named l (slot_of l f) || is_merged l f
 
 -- what a page needs before it can be read or written
 pub data Need : Type 0 where
@@ -51,7 +51,7 @@ need true l None = NewPage
 need false l (Some Zero) = Ready
 need true l (Some Zero) = NewPage
 need false l (Some (InFrame f seen)) = Ready
-need true l (Some (InFrame f seen)) = if is_shared l f then CopyOnWrite f else Ready
+need true l (Some (InFrame f seen)) = if asks_copy l f then CopyOnWrite f else Ready
 need write l (Some (InSlot s)) = need_of_slot s (frame_at l s)
 
 -- ---- a frame is taken for it

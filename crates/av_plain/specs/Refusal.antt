@@ -62,8 +62,8 @@ abbrev pub is_bad_range : ℕ → ℕ → Bool
 is_bad_range a len = not (is_on_page a) || wraps a len
 
 -- the pages that the bytes from an address on meet do not end below 2^64
-abbrev pub meets_end : ℕ → ℕ → Bool
-meets_end a len = nat_le (2 ^ 64) (address_of (page_of a + pages_met a len))
+abbrev pub ends_too_high : ℕ → ℕ → Bool
+ends_too_high a len = nat_le (2 ^ 64) (address_of (page_of a + pages_met a len))
 
 -- these are more than may be locked at once: as many as a machine has frames at most
 abbrev pub locks_too_many : ℕ → ℕ → Bool
@@ -156,8 +156,8 @@ tests m w l (Mremap p a old new mode) =
     no_process w p ∷ mremap_tests (pages w p) a old new mode
 tests m w l (Madvise p a len advice) = no_process w p ∷ (is_bad_range a len, Einval) ∷ []
 tests m w l (Mlock p a len) =
-    no_process w p ∷ (meets_end a len, Einval) ∷ (locks_too_many a len, Enomem) ∷ []
-tests m w l (Munlock p a len) = no_process w p ∷ (meets_end a len, Einval) ∷ []
+    no_process w p ∷ (ends_too_high a len, Einval) ∷ (locks_too_many a len, Enomem) ∷ []
+tests m w l (Munlock p a len) = no_process w p ∷ (ends_too_high a len, Einval) ∷ []
 tests m w l (Read p a n) = no_process w p ∷ []
 tests m w l (Write p a bytes) = no_process w p ∷ []
 tests m w l (Reclaim n) = []

@@ -9,7 +9,7 @@ use Rattle.av_base.specs.Page.{page_size}
 use Rattle.av_base.specs.Words.{is_in}
 use Rattle.av_base.specs.declared.slot.Slot.{Slot}
 use Rattle.av_plain.specs.Device.{Device, headers_of}
-use Rattle.av_plain.specs.Fault.{is_shared}
+use Rattle.av_plain.specs.Fault.{asks_copy}
 use Rattle.av_plain.specs.Ledger.{Entry, HasNumbers, InFrame, InSlot, Ledger, Setting, SwapArea}
 use Rattle.av_plain.specs.Ledger.{Zero, entry, frame_at, in_flight, is_free, is_merged, is_stale}
 use Rattle.av_plain.specs.Ledger.{map_count}
@@ -90,7 +90,7 @@ entry_of (Some t) = Some t.entry
 pub record TablesStand (v : View) (l : Ledger) : Type 0 where
   pub entries : (p page : ℕ) → entry_of (v.table p page) ≡ entry l (p, page)
   pub write_bits : (p page : ℕ) (t : Pte) (f : ℕ) → v.table p page ≡ Some t → t.write ≡ true
-      → names_frame f t.entry ≡ true → is_shared l f ≡ false
+      → names_frame f t.entry ≡ true → asks_copy l f ≡ false
 
 -- ---- swap
 

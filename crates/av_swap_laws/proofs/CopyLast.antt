@@ -9,7 +9,7 @@ use Rattle.av_base.specs.declared.slot.Slot.{Slot}
 use Rattle.av_trace.specs.declared.note.Note.TheVariants.{Copied}
 use Rattle.av_plain.specs.Choice.{Chooses}
 use Rattle.av_plain.specs.Event.{Noted, after_note, off_lists, set_entry, settle_entry, to_inactive_head, without}
-use Rattle.av_plain.specs.Fault.{is_shared}
+use Rattle.av_plain.specs.Fault.{asks_copy}
 use Rattle.av_plain.specs.Ledger.{InFrame, Ledger, Setting, entry, is_free, is_merged, key_cmp, map_count, names_frame, names_slot, slot_entries, slot_of}
 use Rattle.av_plain.specs.Sound.{holders, slots}
 use Rattle.av_plain.specs.Stands.{LedgerStands, Pte, View, free_of}
@@ -128,7 +128,7 @@ module _ (m : Setting) (v : View) (l : Ledger) (p a f : ℕ) (left : List ℕ) (
           (λ j. by j (j == f) (j == g) refl refl) (λ t. h.swap.counts t ∙ sym (names t))
           (λ j below. is-free j below (j == g) (j == f) refl refl)
           (ap (λ fs. without f (without g fs)) h.lists.active) (ap (λ fs. f ∷ without f (without g fs)) h.lists.inactive)
-          (λ u j is writes said. ap (is_shared gone) (same-is j f (ap (λ (t : Pte). names_frame j t.entry) (some-is _ u is) ∙ said))
+          (λ u j is writes said. ap (asks_copy gone) (same-is j f (ap (λ (t : Pte). names_frame j t.entry) (some-is _ u is) ∙ said))
           ∙ alone gone f one-f (unslotted l f free) own-now)
           (λ q o e j is said others lone. by' j (j == f) refl lone)
         where
@@ -146,8 +146,8 @@ module _ (m : Setting) (v : View) (l : Ledger) (p a f : ℕ) (left : List ℕ) (
           is-free j below false false e i = sym (ap (λ b. b || is_in j left) i) ∙ ap (is_in j) (sym first) ∙ h.frames.free j below
               ∙ ap (λ n. n == 0 && is_none (slot_of l j)) (sym (other j i e))
 
-          by' : (j : ℕ) (b : Bool) → (j == f) ≡ b → is_shared l j ≡ false → is_shared gone j ≡ false
-          by' j true e lone = ap (is_shared gone) (same-is j f e) ∙ alone gone f one-f (unslotted l f free) own-now
+          by' : (j : ℕ) (b : Bool) → (j == f) ≡ b → asks_copy l j ≡ false → asks_copy gone j ≡ false
+          by' j true e lone = ap (asks_copy gone) (same-is j f e) ∙ alone gone f one-f (unslotted l f free) own-now
           by' j false e lone = shared-off_lists taken g j
               (shared-fewer l taken j (fewer j e) refl (λ t at. let k = names t in omega (arith, k)) refl lone)
 

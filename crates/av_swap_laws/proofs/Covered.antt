@@ -13,7 +13,7 @@ use Rattle.av_vma.specs.Pages.{home_of}
 use Rattle.av_plain.specs.Areas.{Rmap, at_home, home_for, rmap_after_note}
 use Rattle.av_plain.specs.Covered.{IsOfSlot}
 use Rattle.av_plain.specs.Event.{after_note, after_use, after_use_of, after_zap, change_entries, if_some, into_cache, off_cache, off_flight, set_entry, to_active, to_inactive_head, to_inactive_tail, with_stale, without_seen}
-use Rattle.av_plain.specs.Fault.{is_named, is_shared}
+use Rattle.av_plain.specs.Fault.{is_named, asks_copy}
 use Rattle.av_plain.specs.Ledger.{Entry, InFrame, InSlot, Key, Ledger, Zero, entry, frame_at, is_free, is_merged, key_cmp, keys_of_slot, map_count, names_frame, names_slot, slot_entries, slot_of}
 use Rattle.av_plain.proofs.Covered.{Names, alone-by, covered-owns, merged-fewer, merged-homed, merged-set, sound-fewer, sound-put, sound-set}
 use Rattle.av_plain.proofs.Covered.Slots.{names-unmapped, names-unseen, set-fewer, slots-dropped, slots-homed, slots-lists, slots-loaded, slots-put, slots-set, slots-stale, slots-unmapped, slots-unseen, sound-loaded, sound-mapped, sound-unmapped, sound-unseen}
@@ -198,7 +198,7 @@ module _ (l : Ledger) (r : Rmap) (h : AllCovered l r) where
 
   -- written in place: no other entry names the frame, nor its slot
   pub write-covered : (k : Key) (f : ℕ) (seen : Bool) → T (is_sorted key_cmp l.entries) → AreOnce l → entry l k ≡ Some (InFrame f seen)
-      → is_shared l f ≡ false → AllCovered (after_use true k l) (at_home f k r)
+      → asks_copy l f ≡ false → AllCovered (after_use true k l) (at_home f k r)
   write-covered k f seen sorted once at alone = subst (λ l. AllCovered l (at_home f k r)) (sym (ap (after_use_of true k l) at)) (by (slot_of l f))
     where
       -- no entry names its slot

@@ -7,7 +7,7 @@ use Rattle.av_base.specs.declared.slot.Slot.{Slot}
 use Rattle.av_trace.specs.declared.note.Note.TheVariants.{Dropped}
 use Rattle.av_plain.specs.Device.{Device}
 use Rattle.av_plain.specs.Event.{after_note, if_some, off_cache, off_lists, settle, without}
-use Rattle.av_plain.specs.Fault.{is_shared}
+use Rattle.av_plain.specs.Fault.{asks_copy}
 use Rattle.av_plain.specs.Ledger.{Entry, InFrame, InSlot, Ledger, Setting, Zero, entry, frame_at, in_flight, is_free, is_stale, map_count, same_slot, slot_entries, slot_of}
 use Rattle.av_plain.specs.Stands.{BytesStand, HoldsTold, IsClean, IsKept, IsKeptAt, LedgerStands, View}
 use Rattle.av_plain.specs.World.{Holds}
@@ -72,10 +72,10 @@ module _ (l : Ledger) (f : ℕ) (s : Slot) (once : AreOnce l) (cached : frame_at
       };
     }
       where
-        shared-off : (g : ℕ) → is_shared l g ≡ false → is_shared off g ≡ false
+        shared-off : (g : ℕ) → asks_copy l g ≡ false → asks_copy off g ≡ false
         shared-off g alone = by (g == f) refl
           where
-            by : (b : Bool) → (g == f) ≡ b → is_shared off g ≡ false
+            by : (b : Bool) → (g == f) ≡ b → asks_copy off g ≡ false
             by true e = shared-less l off g refl (slots-off g ∙ ap (λ b. cond b None (slot_of l g)) e) refl alone
             by false e = shared-same l off g refl (slots-off g ∙ ap (λ b. cond b None (slot_of l g)) e) (λ t is. refl) refl ∙ alone
 

@@ -11,7 +11,7 @@ use Rattle.av_base.specs.declared.slot.Slot.{Slot}
 use Rattle.av_plain.specs.Choice.{Chooses}
 use Rattle.av_plain.specs.Device.{Device}
 use Rattle.av_plain.specs.Event.{Forked, Inherited, after, is_inherited, put_all, set_entry, without_seen}
-use Rattle.av_plain.specs.Fault.{is_named, is_shared}
+use Rattle.av_plain.specs.Fault.{is_named, asks_copy}
 use Rattle.av_plain.specs.Fork.{goes_as_zeros, goes_over, inheritance}
 use Rattle.av_plain.specs.Ledger.{Entry, InFrame, InSlot, Key, Ledger, Setting, Zero, entry, frame_at, in_flight, is_free, is_stale, key_cmp, map_count, names_frame, names_slot, same_slot, slot_entries, slot_of}
 use Rattle.av_plain.specs.Sound.{holders, slots}
@@ -84,8 +84,8 @@ module _ (m : Setting) (v : View) (l : Ledger) (p q page : ℕ) (t : Pte) (sorte
       by false is = ap (λ n. n == 0 && is_none (slot_of l g)) (plus_zero (map_count l g))
 
   -- a frame that another entry may write is not the parent's page's, nor has it a slot that the page names
-  alone-now : (k : Key) (d : Entry) (g : ℕ) → entry l k ≡ Some d → names_frame g d ≡ true → same_key k (p, page) ≡ false → is_shared l g ≡ false →
-      is_shared now g ≡ false
+  alone-now : (k : Key) (d : Entry) (g : ℕ) → entry l k ≡ Some d → names_frame g d ≡ true → same_key k (p, page) ≡ false → asks_copy l g ≡ false →
+      asks_copy now g ≡ false
   alone-now k d g is names other alone = shared-same l now g (maps-now g ∙ frame (names_frame g e) refl) refl
       (λ t at_t. entries-now t ∙ slot t at_t (names_slot t e) refl) refl ∙ alone
     where
@@ -117,14 +117,14 @@ module _ (m : Setting) (v : View) (l : Ledger) (p q page : ℕ) (t : Pte) (sorte
       by false false i j = h.tables.entries a b
 
   writes-now : (a b : ℕ) (u : Pte) (g : ℕ) → (view_fork_entry p q page t v).table a b ≡ Some u → u.write ≡ true → names_frame g u.entry ≡ true →
-      is_shared now g ≡ false
+      asks_copy now g ≡ false
   writes-now a b u g is writes names = by (a == p && b == page) (a == q && b == page) refl is
     where
       bit : (w : Pte) → Some w ≡ Some u → w.write ≡ true
       bit w same = ap (λ (t : Pte). t.write) (some-is w u same) ∙ writes
 
       by : (x y : Bool) → (a == p && b == page) ≡ x → cond x (Some (pte_parent t)) (cond y (Some (pte_child t)) (v.table a b)) ≡ Some u
-          → is_shared now g ≡ false
+          → asks_copy now g ≡ false
       by true y i is = absurd (false≢true (bit (pte_parent t) is))
       by false true i is = absurd (false≢true (bit (pte_child t) is))
       by false false i is = alone-now (a, b) u.entry g (sym (h.tables.entries a b) ∙ ap entry_of is) names (key_is a b p page ∙ i)

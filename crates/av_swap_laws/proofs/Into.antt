@@ -3,7 +3,7 @@ use Rattle.std.proofs.Common.{◌≡◌, ℕ, ◌<◌, Bool, true, false, cond, 
 use Rattle.av_base.specs.Words.{is_in}
 use Rattle.av_base.specs.declared.slot.Slot.{Slot}
 use Rattle.av_plain.specs.Event.{into_cache}
-use Rattle.av_plain.specs.Fault.{is_named, is_shared}
+use Rattle.av_plain.specs.Fault.{is_named, asks_copy}
 use Rattle.av_plain.specs.Ledger.{Ledger, Setting, is_free, is_stale, map_count, names_frame, same_slot, slot_entries, slot_of, is_merged}
 use Rattle.av_plain.specs.Sound.{slots}
 use Rattle.av_plain.specs.Stands.{LedgerStands, Pte, View}
@@ -43,7 +43,7 @@ module _ (l : Ledger) (f : ℕ) (s : Slot) (b : Bool) (absent : slots l s ≡ 0)
             ∙ sym (ap (λ c. (c && b) || is_stale l t) (apart g t e))
 
     -- a frame that no write has to copy is so still: where an entry names this one, none names the slot
-    shared-now : (g : ℕ) → ((g == f) ≡ true → slot_entries l s ≡ 0) → is_shared l g ≡ false → is_shared now g ≡ false
+    shared-now : (g : ℕ) → ((g == f) ≡ true → slot_entries l s ≡ 0) → asks_copy l g ≡ false → asks_copy now g ≡ false
     shared-now g unnamed alone = (λ i. nat_lt 1 (map_count l g) || is_named now (slot_of-into s f b l g i) || is_merged l g) ∙ by (g == f) refl
       where
         same : (o : Option Slot) → is_named now o ≡ is_named l o

@@ -4,7 +4,7 @@ use Rattle.av_trace.specs.declared.note.Cause.TheVariants.{Ksm, Locked, NoSlot, 
 use Rattle.av_trace.specs.declared.note.Note.TheVariants.{Aged, Kept}
 use Rattle.av_plain.specs.Device.{Device}
 use Rattle.av_plain.specs.Event.{after_note, change_entries, to_active, to_inactive_head, without, without_seen}
-use Rattle.av_plain.specs.Fault.{is_shared}
+use Rattle.av_plain.specs.Fault.{asks_copy}
 use Rattle.av_plain.specs.Ledger.{Entry, InFrame, InSlot, Ledger, Setting, Zero, entry, names_frame, slot_of}
 use Rattle.av_plain.specs.Stands.{BytesStand, IsKept, LedgerStands, Pte, View, entry_of}
 use Rattle.av_plain.specs.World.{Page, World, pages}
@@ -18,7 +18,7 @@ module _ (m : Setting) (v : View) (l : Ledger) (f : ℕ) (h : LedgerStands m v l
   abbrev now : Ledger
   now = change_entries f without_seen l
 
-  shared-now : (g : ℕ) → is_shared now g ≡ is_shared l g
+  shared-now : (g : ℕ) → asks_copy now g ≡ asks_copy l g
   shared-now g = shared-same l now g (map_count-unseen f l g) refl (λ t is. slot_entries-unseen f l t) refl
 
   table-now : (o : Option Pte) → entry_of (option_map (pte_unseen f) o) ≡ option_map (to_unseen f) (entry_of o)
@@ -30,10 +30,10 @@ module _ (m : Setting) (v : View) (l : Ledger) (f : ℕ) (h : LedgerStands m v l
       by false = refl
 
   writes-now : (p page : ℕ) (t : Pte) (g : ℕ) → option_map (pte_unseen f) (v.table p page) ≡ Some t → t.write ≡ true → names_frame g t.entry ≡ true →
-      is_shared now g ≡ false
+      asks_copy now g ≡ false
   writes-now p page t g there writes names = found (v.table p page) refl there
     where
-      found : (o : Option Pte) → v.table p page ≡ o → option_map (pte_unseen f) o ≡ Some t → is_shared now g ≡ false
+      found : (o : Option Pte) → v.table p page ≡ o → option_map (pte_unseen f) o ≡ Some t → asks_copy now g ≡ false
       found None e is = absurd (none-some t is)
       found (Some u) e is = shared-now g ∙ h.tables.write_bits p page u g e
           (sym (bit (names_frame f u.entry)) ∙ ap (λ (t : Pte). t.write) same ∙ writes)

@@ -9,7 +9,7 @@ use Rattle.av_base.specs.Words.{is_in, with_at}
 use Rattle.av_base.specs.declared.slot.Slot.{Slot}
 use Rattle.av_trace.specs.declared.note.Note.TheVariants.{Copied, New, Zeroed}
 use Rattle.av_plain.specs.Event.{after_note, set_entry, to_inactive_head, without, off_lists, settle_entry}
-use Rattle.av_plain.specs.Fault.{is_named, is_shared}
+use Rattle.av_plain.specs.Fault.{is_named, asks_copy}
 use Rattle.av_plain.specs.Ledger.{IsBlank, InFrame, Ledger, Setting, Zero, entry, is_free, key_cmp, map_count, names_frame, names_slot, slot_entries, slot_of, is_merged}
 use Rattle.av_plain.specs.Stands.{LedgerStands, Pte, View}
 use Rattle.av_plain.proofs.Ledger.{how_many-found, map_count-set}
@@ -51,7 +51,7 @@ module _ (m : Setting) (v : View) (l : Ledger) (p a : ℕ) (sorted : T (is_sorte
 -- ---- a free frame
 
 -- a frame that has one entry and no slot, and isn't merged, is written without a copy
-pub alone : (l : Ledger) (f : ℕ) → map_count l f ≡ 1 → slot_of l f ≡ None → is_merged l f ≡ false → is_shared l f ≡ false
+pub alone : (l : Ledger) (f : ℕ) → map_count l f ≡ 1 → slot_of l f ≡ None → is_merged l f ≡ false → asks_copy l f ≡ false
 alone l f one none own = λ i. nat_lt 1 (one i) || is_named l (none i) || own i
 
 -- the first of the free frames is not among those that are left, and the others are free as they were
@@ -130,7 +130,7 @@ module _ (m : Setting) (v : View) (l : Ledger) (p a f : ℕ) (left : List ℕ) (
             (left-free m v l made f left first lone h.frames.free (λ i. new-one i == 0 && is_none (slot_of l f))
             (λ g e. ap (λ n. n == 0 && is_none (slot_of l g)) (new-other g e)))
             (ap (without f) h.lists.active) (ap (λ fs. f ∷ without f fs) h.lists.inactive)
-            (λ u g is writes names. ap (is_shared made) (same-is g f (ap (λ (t : Pte). names_frame g t.entry) (some-is _ u is) ∙ names))
+            (λ u g is writes names. ap (asks_copy made) (same-is g f (ap (λ (t : Pte). names_frame g t.entry) (some-is _ u is) ∙ names))
             ∙ alone made f new-one slot-f own)
             (λ q o e g is names other lone. by' g (g == f) refl lone)
           where
@@ -138,8 +138,8 @@ module _ (m : Setting) (v : View) (l : Ledger) (p a f : ℕ) (left : List ℕ) (
             by g true e = sym (ap (map_count made) (same-is g f e) ∙ new-one)
             by g false e = h.frames.maps g ∙ sym (new-other g e)
 
-            by' : (g : ℕ) (b : Bool) → (g == f) ≡ b → is_shared l g ≡ false → is_shared made g ≡ false
-            by' g true e lone = ap (is_shared made) (same-is g f e) ∙ alone made f new-one slot-f own
+            by' : (g : ℕ) (b : Bool) → (g == f) ≡ b → asks_copy l g ≡ false → asks_copy made g ≡ false
+            by' g true e lone = ap (asks_copy made) (same-is g f e) ∙ alone made f new-one slot-f own
             by' g false e lone = shared-same l made g (new-other g e) refl (λ t at. new-names t) refl ∙ lone
 
   -- ---- a copy of another frame, which keeps a use
@@ -254,7 +254,7 @@ module _ (m : Setting) (v : View) (l : Ledger) (p a f : ℕ) (left : List ℕ) (
             (λ j. by j (j == f) (j == g) refl refl) (λ t. h.swap.counts t ∙ sym (copy-names t))
             (left-free m v l made f left first lone h.frames.free (λ i. copy-one i == 0 && is_none (slot_of l f)) copy-free)
             (ap (without f) h.lists.active) (ap (λ fs. f ∷ without f fs) h.lists.inactive)
-            (λ u j is writes names. ap (is_shared made) (same-is j f (ap (λ (t : Pte). names_frame j t.entry) (some-is _ u is) ∙ names))
+            (λ u j is writes names. ap (asks_copy made) (same-is j f (ap (λ (t : Pte). names_frame j t.entry) (some-is _ u is) ∙ names))
             ∙ alone made f copy-one slot-f own)
             (λ q o e j is names other lone. by' j (j == f) refl lone)
           where
@@ -272,8 +272,8 @@ module _ (m : Setting) (v : View) (l : Ledger) (p a f : ℕ) (left : List ℕ) (
                 plain : (n w k c : ℕ) → n + w ≡ k + c → w ≡ 0 → c ≡ 0 → n ≡ k
                 plain n w k c e x y = omega (arith, e, x, y)
 
-            by' : (j : ℕ) (b : Bool) → (j == f) ≡ b → is_shared l j ≡ false → is_shared made j ≡ false
-            by' j true e lone = ap (is_shared made) (same-is j f e) ∙ alone made f copy-one slot-f own
+            by' : (j : ℕ) (b : Bool) → (j == f) ≡ b → asks_copy l j ≡ false → asks_copy made j ≡ false
+            by' j true e lone = ap (asks_copy made) (same-is j f e) ∙ alone made f copy-one slot-f own
             by' j false e lone = shared-fewer l made j (copy-fewer j e) refl (λ t at. let k = copy-names t in omega (arith, k)) refl lone
 
     pub copy-stands : (write : Bool) (home : Option (ℕ × ℕ))

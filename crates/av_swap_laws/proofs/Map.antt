@@ -7,7 +7,7 @@ use Rattle.av_base.specs.Words.{with_at}
 use Rattle.av_base.specs.declared.slot.Slot.{Slot}
 use Rattle.av_plain.specs.Device.{Device}
 use Rattle.av_plain.specs.Event.{set_entry}
-use Rattle.av_plain.specs.Fault.{is_named, is_shared}
+use Rattle.av_plain.specs.Fault.{is_named, asks_copy}
 use Rattle.av_plain.specs.Ledger.{Entry, InFrame, InSlot, Ledger, Setting, Zero, entry, frame_at, is_free, key_cmp, map_count, names_frame, names_slot, same_slot, slot_entries, slot_of, is_merged}
 use Rattle.av_plain.specs.Stands.{BytesStand, IsKept, IsKeptAt, LedgerStands, Pte, View}
 use Rattle.av_plain.specs.World.{Holds}
@@ -44,7 +44,7 @@ module _ (l : Ledger) (p page f : ℕ) (s : Slot) (sorted : T (is_sorted key_cmp
   slot-f = frame-slot l once f s cached
 
   -- an entry names the frame's slot, so that a write to the frame copies it
-  shared-f : is_shared l f ≡ true
+  shared-f : asks_copy l f ≡ true
   shared-f = (λ i. nat_lt 1 (map_count l f) || is_named l (slot-f i) || is_merged l f)
       ∙ ap (λ b. nat_lt 1 (map_count l f) || b || is_merged l f) (some (slot_entries l s) (named-slot l (p, page) s at))
       ∙ either (nat_lt 1 (map_count l f)) (is_merged l f)
@@ -76,7 +76,7 @@ module _ (l : Ledger) (p page f : ℕ) (s : Slot) (sorted : T (is_sorted key_cmp
         by true e = never (map_count l g == 0) (map_count l g + 1 == 0) (slot_of l g) (ap (slot_of l) (same-is g f e) ∙ slot-f)
         by false e = ap (λ n. n == 0 && is_none (slot_of l g)) (plus_zero (map_count l g))
 
-    shared-now : (g : ℕ) → (g == f) ≡ false → is_shared now g ≡ is_shared l g
+    shared-now : (g : ℕ) → (g == f) ≡ false → asks_copy now g ≡ asks_copy l g
     shared-now g e = shared-same l now g (maps-now g ∙ ap (λ b. map_count l g + cond b 1 0) e ∙ plus_zero (map_count l g)) refl
         (λ t is. same t (same_slot t s) (other_slot l f s once cached g t e is) (entries-now t)) refl
       where
@@ -115,8 +115,8 @@ module _ (l : Ledger) (p page f : ℕ) (s : Slot) (sorted : T (is_sorted key_cmp
             plus_zero n = omega arith
 
         -- a write to the frame copies it, and to others as before
-        stays : (g : ℕ) → is_shared l g ≡ false → (b : Bool) → (g == f) ≡ b → is_shared now g ≡ false
-        stays g alone true e = absurd (false≢true (sym alone ∙ ap (is_shared l) (same-is g f e) ∙ shared-f))
+        stays : (g : ℕ) → asks_copy l g ≡ false → (b : Bool) → (g == f) ≡ b → asks_copy now g ≡ false
+        stays g alone true e = absurd (false≢true (sym alone ∙ ap (asks_copy l) (same-is g f e) ∙ shared-f))
         stays g alone false e = shared-now g e ∙ alone
 
   -- the bytes were in the frame already

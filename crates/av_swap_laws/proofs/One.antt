@@ -4,7 +4,7 @@ use Rattle.std.specs.Prelude.{IfSome}
 use Rattle.av_base.specs.Words.{is_in}
 use Rattle.av_base.specs.declared.slot.Slot.{Slot}
 use Rattle.av_plain.specs.Event.{set_entry}
-use Rattle.av_plain.specs.Fault.{is_shared}
+use Rattle.av_plain.specs.Fault.{asks_copy}
 use Rattle.av_plain.specs.Ledger.{Entry, Ledger, Setting, entry, frame_at, is_free, is_stale, map_count, names_frame, slot_entries, slot_of}
 use Rattle.av_plain.specs.Stands.{LedgerStands, Pte, View, entry_of}
 use Rattle.av_plain.proofs.Ledger.{entry-set}
@@ -38,9 +38,9 @@ module _ (m : Setting) (v : View) (l l' : Ledger) (p page : ℕ) (t : Option Pte
   pub one-stands : (maps : ℕ → ℕ) (entries : Slot → ℕ) (free active inactive : List ℕ) → ((g : ℕ) → maps g ≡ map_count l' g)
       → ((s : Slot) → entries s ≡ slot_entries l' s) → ((g : ℕ) → g < m.frames → is_in g free ≡ is_free l' g)
       → active ≡ l'.active → inactive ≡ l'.inactive
-      → ((u : Pte) (g : ℕ) → t ≡ Some u → u.write ≡ true → names_frame g u.entry ≡ true → is_shared l' g ≡ false)
-      → ((q o : ℕ) (e : Entry) (g : ℕ) → entry l (q, o) ≡ Some e → names_frame g e ≡ true → (q == p && o == page) ≡ false → is_shared l g ≡ false
-      → is_shared l' g ≡ false)
+      → ((u : Pte) (g : ℕ) → t ≡ Some u → u.write ≡ true → names_frame g u.entry ≡ true → asks_copy l' g ≡ false)
+      → ((q o : ℕ) (e : Entry) (g : ℕ) → entry l (q, o) ≡ Some e → names_frame g e ≡ true → (q == p && o == page) ≡ false → asks_copy l g ≡ false
+      → asks_copy l' g ≡ false)
       → LedgerStands m (record v {
         table = with_pte p page t v.table;
         maps = maps;
@@ -76,7 +76,7 @@ module _ (m : Setting) (v : View) (l l' : Ledger) (p page : ℕ) (t : Option Pte
       by false x y e = e
 
       bits : (q o : ℕ) (u : Pte) (g : ℕ) (b : Bool) → (q == p && o == page) ≡ b → cond b t (v.table q o) ≡ Some u → u.write ≡ true
-          → names_frame g u.entry ≡ true → is_shared l' g ≡ false
+          → names_frame g u.entry ≡ true → asks_copy l' g ≡ false
       bits q o u g true e there writes names = own u g there writes names
       bits q o u g false e there writes names = others q o u.entry g (sym (h.tables.entries q o) ∙ ap entry_of there) names e
           (h.tables.write_bits q o u g there writes names)

@@ -7,7 +7,7 @@ use Rattle.av_base.specs.Page.{page_size}
 use Rattle.av_base.specs.declared.slot.Slot.{Slot}
 use Rattle.av_plain.specs.Device.{Device}
 use Rattle.av_plain.specs.Event.{off_lists}
-use Rattle.av_plain.specs.Fault.{is_named, is_shared}
+use Rattle.av_plain.specs.Fault.{is_named, asks_copy}
 use Rattle.av_plain.specs.Ledger.{Entry, InFrame, InSlot, Key, Ledger, Zero, entry, frame_at, is_merged, map_count, names_slot, slot_entries, slot_of}
 use Rattle.av_plain.specs.Stands.{HoldsTold, IsClean, IsKept, IsKeptAt, View}
 use Rattle.av_plain.specs.World.{Holds}
@@ -50,20 +50,20 @@ named-same l l' (Some t) counts = ap (nat_lt 0) (counts t refl)
 -- a frame is shared as it was, where as many entries name it and its slot, and it is merged as it was
 pub shared-same : (l l' : Ledger) (g : ℕ) → map_count l' g ≡ map_count l g → slot_of l' g ≡ slot_of l g
     → ((t : Slot) → slot_of l g ≡ Some t → slot_entries l' t ≡ slot_entries l t) → is_merged l' g ≡ is_merged l g
-    → is_shared l' g ≡ is_shared l g
+    → asks_copy l' g ≡ asks_copy l g
 shared-same l l' g maps slot counts merged = (λ i. nat_lt 1 (maps i) || is_named l' (slot i) || merged i)
     ∙ ap (λ b. nat_lt 1 (map_count l g) || b || is_merged l g) (named-same l l' (slot_of l g) counts)
 
 -- one that has no slot then is shared no more than it was
 pub shared-less : (l l' : Ledger) (g : ℕ) → map_count l' g ≡ map_count l g → slot_of l' g ≡ None → is_merged l' g ≡ is_merged l g
-    → is_shared l g ≡ false → is_shared l' g ≡ false
+    → asks_copy l g ≡ false → asks_copy l' g ≡ false
 shared-less l l' g maps none merged h = (λ i. nat_lt 1 (maps i) || is_named l' (none i) || merged i)
     ∙ three (nat_lt 1 (map_count l g)) (is_named l (slot_of l g)) (is_merged l g) _ _ _ h (λ e. e) (λ e. refl) (λ e. e)
 
 -- nor one that fewer entries name, and whose slot fewer do
 pub shared-fewer : (l l' : Ledger) (g : ℕ) → map_count l' g ≤ map_count l g → slot_of l' g ≡ slot_of l g
     → ((t : Slot) → slot_of l g ≡ Some t → slot_entries l' t ≤ slot_entries l t) → is_merged l' g ≡ is_merged l g
-    → is_shared l g ≡ false → is_shared l' g ≡ false
+    → asks_copy l g ≡ false → asks_copy l' g ≡ false
 shared-fewer l l' g maps slot counts merged alone =
     (λ i. nat_lt 1 (map_count l' g) || is_named l' (slot i) || merged i)
     ∙ three (nat_lt 1 (map_count l g)) (is_named l (slot_of l g)) (is_merged l g) _ _ _ alone (less (map_count l g) (map_count l' g) maps)
@@ -80,7 +80,7 @@ shared-fewer l l' g maps slot counts merged alone =
     named (Some t) counts e = none (slot_entries l t) (slot_entries l' t) (counts t refl) e
 
 -- nor where a frame leaves its list and is merged no longer
-pub shared-off_lists : (l : Ledger) (f g : ℕ) → is_shared l g ≡ false → is_shared (off_lists f l) g ≡ false
+pub shared-off_lists : (l : Ledger) (f g : ℕ) → asks_copy l g ≡ false → asks_copy (off_lists f l) g ≡ false
 shared-off_lists l f g alone = three (nat_lt 1 (map_count l g)) (is_named l (slot_of l g)) (is_merged l g) _ _ _ alone (λ e. e)
     (λ e. named-same l (off_lists f l) (slot_of l g) (λ t is. refl) ∙ e) (λ e. gone (is_merged (off_lists f l) g) refl e)
   where
@@ -89,7 +89,7 @@ shared-off_lists l f g alone = three (nat_lt 1 (map_count l g)) (is_named l (slo
     gone false is e = refl
 
 -- what it says of a frame that is not shared
-pub few-of : (l : Ledger) (g : ℕ) → is_shared l g ≡ false → map_count l g ≤ 1
+pub few-of : (l : Ledger) (g : ℕ) → asks_copy l g ≡ false → map_count l g ≤ 1
 few-of l g alone = by (map_count l g) (is_named l (slot_of l g)) (is_merged l g) alone
   where
     one : (n : ℕ) (b : Bool) → nat_lt 1 n ≡ b → b ≡ false → n ≤ 1
@@ -102,7 +102,7 @@ few-of l g alone = by (map_count l g) (is_named l (slot_of l g)) (is_merged l g)
     by : (n : ℕ) (b c : Bool) → (nat_lt 1 n || b || c) ≡ false → n ≤ 1
     by n b c e = one n (nat_lt 1 n) refl (first (nat_lt 1 n) b c e)
 
-pub unnamed-of : (l : Ledger) (g : ℕ) → is_shared l g ≡ false → (t : Slot) → slot_of l g ≡ Some t → slot_entries l t ≡ 0
+pub unnamed-of : (l : Ledger) (g : ℕ) → asks_copy l g ≡ false → (t : Slot) → slot_of l g ≡ Some t → slot_entries l t ≡ 0
 unnamed-of l g alone t is = zero (slot_entries l t) (second (nat_lt 1 (map_count l g)) (nat_lt 0 (slot_entries l t)) (is_merged l g)
     (ap (λ o. nat_lt 1 (map_count l g) || is_named l o || is_merged l g) (sym is) ∙ alone))
   where
@@ -114,7 +114,7 @@ unnamed-of l g alone t is = zero (slot_entries l t) (second (nat_lt 1 (map_count
     zero : (n : ℕ) → nat_lt 0 n ≡ false → n ≡ 0
     zero n e = grind (arith, nat_tests, e)
 
-pub own-of : (l : Ledger) (g : ℕ) → is_shared l g ≡ false → is_merged l g ≡ false
+pub own-of : (l : Ledger) (g : ℕ) → asks_copy l g ≡ false → is_merged l g ≡ false
 own-of l g = third (nat_lt 1 (map_count l g)) (is_named l (slot_of l g)) (is_merged l g)
   where
     third : (a b c : Bool) → (a || b || c) ≡ false → c ≡ false

@@ -4,7 +4,7 @@ use Rattle.std.proofs.lemmas.Bool.Decides.{nat_tests}
 use Rattle.av_base.specs.declared.slot.Slot.{Slot}
 use Rattle.av_base.specs.Words.{with_at}
 use Rattle.av_plain.specs.Event.{with_stale}
-use Rattle.av_plain.specs.Fault.{is_shared}
+use Rattle.av_plain.specs.Fault.{asks_copy}
 use Rattle.av_plain.specs.Ledger.{Ledger, Setting, frame_at, is_stale, map_count, same_slot, slot_of}
 use Rattle.av_plain.specs.Stands.{LedgerStands, View}
 use Rattle.av_plain.proofs.Sound.Counts.{same-is, slot-is}
@@ -38,7 +38,7 @@ module _ (l : Ledger) (f : ℕ) (s : Slot) (once : AreOnce l) (cached : frame_at
         by false e = at-some (slot_of l g) (λ t. v.dirty g ≡ is_stale l t) t (h.frames.dirty g) is
             ∙ sym (is_stale-other b s l t (other_slot g t e is))
 
-    shared-now : (g : ℕ) → is_shared now g ≡ is_shared l g
+    shared-now : (g : ℕ) → asks_copy now g ≡ asks_copy l g
     shared-now g = shared-same l now g refl (slot_of-stale b s l g) (λ t is. refl) refl
 
     pub restale-stands : LedgerStands m (record v { dirty = with_at f b v.dirty }) (with_stale b s l)

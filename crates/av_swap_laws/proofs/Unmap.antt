@@ -5,7 +5,7 @@ use Rattle.std.proofs.lemmas.Bool.{false≢true}
 use Rattle.av_base.specs.declared.slot.Slot.{Slot}
 use Rattle.av_plain.specs.Device.{Device}
 use Rattle.av_plain.specs.Event.{change_entries}
-use Rattle.av_plain.specs.Fault.{is_shared}
+use Rattle.av_plain.specs.Fault.{asks_copy}
 use Rattle.av_plain.specs.Ledger.{Entry, InFrame, InSlot, Ledger, Setting, Zero, entry, frame_at, is_free, map_count, names_frame, same_slot, slot_entries, slot_of}
 use Rattle.av_plain.specs.Stands.{BytesStand, IsKept, IsKeptAt, LedgerStands, Pte, View, entry_of}
 use Rattle.av_plain.specs.World.{Holds}
@@ -64,7 +64,7 @@ module _ (l : Ledger) (f : ℕ) (s : Slot) (once : AreOnce l) (cached : slot_of 
     -- an entry that may be written as it is names another frame
     writes-now : (p page : ℕ) (t : Pte) (g : ℕ) → option_map (pte_unmapped f s) (v.table p page) ≡ Some t → t.write ≡ true
         → names_frame g t.entry ≡ true →
-        is_shared now g ≡ false
+        asks_copy now g ≡ false
     writes-now p page t g there writes names = found (v.table p page) refl there
       where
         other : (e : Entry) → names_frame f e ≡ false → names_frame g e ≡ true → (g == f) ≡ false
@@ -72,18 +72,18 @@ module _ (l : Ledger) (f : ℕ) (s : Slot) (once : AreOnce l) (cached : slot_of 
         other (InFrame j seen) a b = grind (arith, nat_tests, a, b)
         other (InSlot r) a b = absurd (false≢true b)
 
-        same : (g == f) ≡ false → is_shared now g ≡ is_shared l g
+        same : (g == f) ≡ false → asks_copy now g ≡ asks_copy l g
         same e = shared-same l now g (maps-now g ∙ ap (λ b. cond b 0 (map_count l g)) e) refl (λ t is. slots_more s f l t
             ∙ ap (λ b. slot_entries l t + cond b (map_count l f) 0) (apart g t e is) ∙ plus_zero (slot_entries l t)) refl
           where
             plus_zero : (n : ℕ) → n + 0 ≡ n
             plus_zero n = omega arith
 
-        found : (o : Option Pte) → v.table p page ≡ o → option_map (pte_unmapped f s) o ≡ Some t → is_shared now g ≡ false
+        found : (o : Option Pte) → v.table p page ≡ o → option_map (pte_unmapped f s) o ≡ Some t → asks_copy now g ≡ false
         found None e is = absurd (none-some t is)
         found (Some u) e is = by (names_frame f u.entry) refl (some-is _ t is)
           where
-            by : (b : Bool) → names_frame f u.entry ≡ b → cond b (record { entry = InSlot s; write = false }) u ≡ t → is_shared now g ≡ false
+            by : (b : Bool) → names_frame f u.entry ≡ b → cond b (record { entry = InSlot s; write = false }) u ≡ t → asks_copy now g ≡ false
             by true i j = absurd (false≢true (ap (λ (t : Pte). t.write) j ∙ writes))
             by false i j = same (other u.entry i (ap (λ (t : Pte). names_frame g t.entry) j ∙ names))
                 ∙ h.tables.write_bits p page u g e (ap (λ (t : Pte). t.write) j ∙ writes) (ap (λ (t : Pte). names_frame g t.entry) j ∙ names)

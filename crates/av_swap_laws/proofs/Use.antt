@@ -9,7 +9,7 @@ use Rattle.av_base.specs.Words.{with_at}
 use Rattle.av_base.specs.declared.slot.Slot.{Slot}
 use Rattle.av_plain.specs.Device.{Device}
 use Rattle.av_plain.specs.Event.{after_use, after_use_of, if_some, set_entry, with_stale}
-use Rattle.av_plain.specs.Fault.{is_named, is_shared}
+use Rattle.av_plain.specs.Fault.{is_named, asks_copy}
 use Rattle.av_plain.specs.Ledger.{Entry, InFrame, InSlot, Key, Ledger, Setting, Zero, entry, frame_at, in_flight, is_stale, key_cmp, map_count, names_frame, names_slot, same_slot, slot_entries, slot_of}
 use Rattle.av_plain.specs.Stands.{BytesStand, IsClean, IsKept, IsKeptAt, LedgerStands, Pte, View}
 use Rattle.av_plain.specs.World.{Holds}
@@ -42,17 +42,17 @@ module _ (l : Ledger) (p page f : ℕ) (seen : Bool) (sorted : T (is_sorted key_
       same : (n w k : ℕ) → n + w ≡ k + 0 → w ≡ 0 → n ≡ k
       same n w k h e = omega (arith, h, e)
 
-  shared-seen : (g : ℕ) → is_shared now g ≡ is_shared l g
+  shared-seen : (g : ℕ) → asks_copy now g ≡ asks_copy l g
   shared-seen g = shared-same l now g (maps-seen g) refl (λ t is. names-seen t) refl
 
-  module _ (m : Setting) (v : View) (write : Bool) (h : LedgerStands m v l) (may : write ≡ true → is_shared l f ≡ false) where
+  module _ (m : Setting) (v : View) (write : Bool) (h : LedgerStands m v l) (may : write ≡ true → asks_copy l f ≡ false) where
     pub seen-stands : LedgerStands m (view_seen p page f write v) (set_entry (p, page) (InFrame f true) l)
     seen-stands = one-stands m v l now p page (Some (record { entry = InFrame f true; write = write })) h
         (record { entries = set-at l p page (InFrame f true); cache = refl; flight = refl; on = refl })
         v.maps v.entries v.free v.active v.inactive (λ g. h.frames.maps g ∙ sym (maps-seen g)) (λ t. h.swap.counts t ∙ sym (names-seen t))
         (λ g below. h.frames.free g below ∙ ap (λ n. n == 0 && is_none (slot_of l g)) (sym (maps-seen g))) h.lists.active h.lists.inactive
         (λ u g is writes names. let same = some-is _ u is in shared-seen g
-        ∙ ap (is_shared l) (same-is g f (ap (λ (t : Pte). names_frame g t.entry) same ∙ names)) ∙ may (ap (λ (t : Pte). t.write) same ∙ writes))
+        ∙ ap (asks_copy l) (same-is g f (ap (λ (t : Pte). names_frame g t.entry) same ∙ names)) ∙ may (ap (λ (t : Pte). t.write) same ∙ writes))
         (λ q o e g is names other alone. shared-seen g ∙ alone)
 
     -- a read
@@ -103,7 +103,7 @@ module _ (l : Ledger) (p page f : ℕ) (seen : Bool) (sorted : T (is_sorted key_
 
   -- the bytes of the page alone change, and its slot is stale then, where it has one
   module _ (v : View) (d : Device) (w w' : World) (write : Bool) (held : ℕ → ℕ) (home : Option (ℕ × ℕ)) (once : AreOnce l)
-      (alone : is_shared l f ≡ false) (h : BytesStand v d w l)
+      (alone : asks_copy l f ≡ false) (h : BytesStand v d w l)
       (holds : Holds (pages w' p page) held)
       (others : (q o : ℕ) → same_key (q, o) (p, page) ≡ false → (bytes : ℕ → ℕ) → Holds (pages w q o) bytes → Holds (pages w' q o) bytes) where
     abbrev written : View

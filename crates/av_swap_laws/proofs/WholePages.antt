@@ -11,7 +11,7 @@ use Rattle.av_base.specs.declared.slot.Slot.{Slot}
 use Rattle.av_trace.specs.declared.note.Note.TheVariants.{Copied, Loaded, Mapped, New, Zeroed}
 use Rattle.av_plain.specs.Areas.{at_home, home_for, rmap_after_note}
 use Rattle.av_plain.specs.Event.{Event, Noted, Used, Zapped, after, after_note, after_use, after_use_of, set_entry, if_some, off_lists, settle_entry, with_stale}
-use Rattle.av_plain.specs.Fault.{is_shared}
+use Rattle.av_plain.specs.Fault.{asks_copy}
 use Rattle.av_plain.specs.Ledger.{IsBlank, Entry, InFrame, InSlot, Ledger, Setting, Zero, entry, frame_at, is_free, key_cmp, keys_of_slot, names_frame, names_slot, slot_of}
 use Rattle.av_plain.specs.Load.{is_of_slot, with_loads, without_bytes, without_claims}
 use Rattle.av_plain.specs.Sound.{is_there}
@@ -166,7 +166,7 @@ module _ (m : Setting) (closing : Option ℕ) (old : Held) (h : IsHeld m old) wh
   -- ---- a page is used
 
   pub read-steps : (p page f : ℕ) (seen write : Bool) → T (is_sorted key_cmp l.entries) → entry l (p, page) ≡ Some (InFrame f seen)
-      → (write ≡ true → is_shared l f ≡ false)
+      → (write ≡ true → asks_copy l f ≡ false)
       → Steps m closing (Used false (p, page)) old (record old { view = view_seen p page f write v; ledger = after_use false (p, page) l })
   read-steps p page f seen write sorted at may = steps-by m closing (Used false (p, page)) old h (view_seen p page f write v) old.device
       (record { areas = refl; processes = refl }) refl refl refl (ap (λ (k : Ledger). k.merged) is) (read-stands l p page f seen sorted at m v write h.ledger may)
@@ -197,7 +197,7 @@ module _ (m : Setting) (closing : Option ℕ) (old : Held) (h : IsHeld m old) wh
 
   -- written in place: the memories have these bytes of the page then
   pub write-steps : (p page f : ℕ) (seen write : Bool) (held : ℕ → ℕ) (w : World) → T (is_sorted key_cmp l.entries) → AreOnce l
-      → entry l (p, page) ≡ Some (InFrame f seen) → is_shared l f ≡ false → Holds (pages w p page) held
+      → entry l (p, page) ≡ Some (InFrame f seen) → asks_copy l f ≡ false → Holds (pages w p page) held
       → ((q o : ℕ) → (q == p && o == page) ≡ false → pages w q o ≡ pages old.world q o)
       → (AreasStand v old.world → AreasStand v w)
       → Steps m closing (Used true (p, page)) old (record old {

@@ -5,7 +5,7 @@ ghost use Rattle.std.specs.FinMap.Entries.{is_sorted};
 ghost use Rattle.av_vma.specs.Pages.{home_of};
 ghost use Rattle.av_plain.specs.Areas.{at_home};
 ghost use Rattle.av_plain.specs.Event.{Used, after_use};
-ghost use Rattle.av_plain.specs.Fault.{is_shared};
+ghost use Rattle.av_plain.specs.Fault.{asks_copy};
 ghost use Rattle.av_plain.specs.Ledger.{InFrame, IsBlank, Setting, entry, key_cmp};
 ghost use Rattle.av_plain.specs.Stands.{AreasStand};
 ghost use Rattle.av_plain.specs.World.{Holds};
@@ -25,7 +25,7 @@ pub fn pages_are_read()
     ensures { (m : Setting) (closing : Option ℕ) (old : Held) → IsHeld m old → (p page f : ℕ)
         (seen write : Bool) → T (is_sorted key_cmp old.ledger.entries)
         → entry old.ledger (p, page) ≡ Some (InFrame f seen)
-        → (write ≡ true → is_shared old.ledger f ≡ false)
+        → (write ≡ true → asks_copy old.ledger f ≡ false)
         → Steps m closing (Used false (p, page)) old (record old {
           view = view_seen p page f write old.view;
           ledger = after_use false (p, page) old.ledger;
@@ -38,7 +38,7 @@ pub fn pages_are_written()
     ensures { (m : Setting) (closing : Option ℕ) (old : Held) → IsHeld m old → (p page f : ℕ)
         (seen write : Bool) (held : ℕ → ℕ) (w : World)
         → T (is_sorted key_cmp old.ledger.entries) → AreOnce old.ledger
-        → entry old.ledger (p, page) ≡ Some (InFrame f seen) → is_shared old.ledger f ≡ false
+        → entry old.ledger (p, page) ≡ Some (InFrame f seen) → asks_copy old.ledger f ≡ false
         → Holds (pages w p page) held
         → ((q o : ℕ) → (q == p && o == page) ≡ false → pages w q o ≡ pages old.world q o)
         → (AreasStand old.view old.world → AreasStand old.view w)

@@ -25,8 +25,8 @@ share_anon (Some a) left_len (Some b) right_len = a == b
 
 -- the second area goes on where the first ends: with its protection and flags, its offset, and an
 -- anon_vma that both may have
-abbrev pub are_mergeable : Area → ℕ → Area → ℕ → Bool
-are_mergeable left left_len right right_len =
+abbrev pub are_joinable : Area → ℕ → Area → ℕ → Bool
+are_joinable left left_len right right_len =
     (left.end == right.start) && same_prot left.prot right.prot && same_flags left.flags right.flags
     && (index_of left (past_of left) == right.pgoff)
     && share_anon left.anon left_len right.anon right_len

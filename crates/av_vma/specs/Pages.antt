@@ -14,7 +14,7 @@ use Rattle.av_base.specs.declared.flags.Flags.{Flags}
 use Rattle.av_base.specs.declared.prot.Prot.{Prot}
 use Rattle.av_vma.specs.declared.area.Area.{Area}
 use Rattle.av_vma.specs.Index.{first_of, index_of, past_of}
-use Rattle.av_vma.specs.Join.{are_mergeable, can_lend, same_flags, same_prot}
+use Rattle.av_vma.specs.Join.{are_joinable, can_lend, same_flags, same_prot}
 
 -- the area that holds each page
 abbrev pub Pages : Type 0
@@ -81,7 +81,7 @@ no_chains own = 0
 
 -- whether two areas join
 abbrev pub do_join : Lengths → Area → Area → Bool
-do_join len left right = are_mergeable left (len left.anon) right (len right.anon)
+do_join len left right = are_joinable left (len left.anon) right (len right.anon)
 
 -- what is on a page, where these areas are on the two sides of a boundary that is tried
 abbrev pub after_join : Lengths → Option Area → Option Area → ℕ → Option Area → Option Area

@@ -2,7 +2,7 @@
 
 ghost use Rattle.std.specs.Prelude.{◌≡◌, ◌*◌, ◌<◌, ◌≤◌, ◌^◌, ◌||◌, IsSome, Some};
 ghost use Rattle.av_vma.specs.Index.{first_of, index_of, past_of};
-ghost use Rattle.av_vma.specs.Join.{are_mergeable, do_run_on, can_lend, share_anon};
+ghost use Rattle.av_vma.specs.Join.{are_joinable, do_run_on, can_lend, share_anon};
 ghost use Rattle.av_vma.specs.Pages.{home_of};
 
 use av_base::{Flags, PAGE_SIZE, Prot};
@@ -52,10 +52,10 @@ pub fn home(area: &Area, page: u64) -> Option<(u64, u64)>
 /// They adjoin, have the same protection and flags, the offsets run on, and they share an anon_vma:
 /// both have the same or none, or one has none and the other's chain has one node. Each length is
 /// that of the area's chain.
-pub fn mergeable(left: &Area, left_len: u64, right: &Area, right_len: u64) -> bool
+pub fn joinable(left: &Area, left_len: u64, right: &Area, right_len: u64) -> bool
     requires forward { first_of left.now ≤ past_of left.now }
     requires small { index_of left.now (past_of left.now) < 2 ^ 64 }
-    ensures { result ≡ are_mergeable left.now left_len right.now right_len }
+    ensures { result ≡ are_joinable left.now left_len right.now right_len }
 {
     left.end == right.start
         && left.prot == right.prot

@@ -33,12 +33,12 @@ use Rattle.av_plain.specs.Event.{Event, EntriesMoved, FreeSorted, Noted, TurnedO
 use Rattle.av_plain.specs.Fault.{ComesIn, CopyOnWrite, Denied, IsMade, Lost, MapCached, Need, NewPage, Ready, RunsOut, Serves, Sparing, Starved, Stop, SwapIn, Touches, ZeroPage, drop_at, drop_of_entry, drop_of_slot, is_unneeded, need, pinned_by, sparing, was_slot}
 use Rattle.av_plain.specs.Fork.{AreForked, GoOver, GoesBy}
 use Rattle.av_plain.specs.Ledger.{Entry, InFrame, InSlot, Key, Ledger, Setting, SwapArea, Zero, entry, frame_at, is_orphan, keys_of_slot, slot_of, slots_in_use}
-use Rattle.av_plain.specs.Compact.{Moves}
+use Rattle.av_plain.specs.Compact.{MovesDown}
 use Rattle.av_plain.specs.Merge.{FrameBytes, candidate, join_notes, merge_notes, merged_like, merges, other_like, with_candidate}
 use Rattle.av_plain.proofs.Sound.Frames.{move-is}
 use Rattle.av_plain.specs.Mremap.{events_to, range_zaps, remap_events}
 use Rattle.av_plain.specs.Pass.{Seeks, Spared, TakesFor}
-use Rattle.av_plain.specs.Refusal.{Refuses, locks_too_many, meets_end, refusal, tests}
+use Rattle.av_plain.specs.Refusal.{Refuses, locks_too_many, ends_too_high, refusal, tests}
 use Rattle.av_plain.specs.Report.{AreApart, range_of}
 use Rattle.av_plain.specs.Swapoff.{Close, Closed, Empties, EndsAt, IsEmptied, NoRoom, Unread, map_notes, sparing_area, turn_off_events}
 use Rattle.av_plain.specs.Swapon.{turn_on_events}
@@ -327,7 +327,7 @@ merges-new m held w l earlier (k ∷ ks) =
     by None = refl
     by (Some f) = join-new k (merged_like m held l f) (other_like held earlier f)
 
-moves-new : (m : Setting) (l : Ledger) (notes : List Note) → Moves m l notes → news notes ≤ 0
+moves-new : (m : Setting) (l : Ledger) (notes : List Note) → MovesDown m l notes → news notes ≤ 0
 moves-new m l [] h = omega arith
 moves-new m l (note ∷ notes) h = two-new (note ∷ []) notes 0 0
     (let v = move-is m l note h.0 in subst (λ n. news (n ∷ []) ≤ 0) (sym v.is) (omega arith)) (moves-new m (after_note note l) notes h.1)
@@ -399,7 +399,7 @@ legal-new m w l command reply es fit legal = by (refusal (tests m w l command)) 
             let here = accesses-new m (with_lock true w p (page_of a) (pages_met a len)) l p
             (accesses_of (pages w p) (page_of a) (pages_met a len)) q.0 h.0 h.1 in
             let short = few-locked (pages w p) (page_of a) (pages_met a len) in
-            let few = few_met (pages_met a len) (few_pages (lives w p) (meets_end a len) (locks_too_many a len) fine) in
+            let few = few_met (pages_met a len) (few_pages (lives w p) (ends_too_high a len) (locks_too_many a len) fine) in
             coming (omega (arith, here, short, few))
         locks false h = coming (same-new (notes_of q.0) [] 16384 (ap notes_of h.0) (omega arith))
     follows (Munlock p a len) fit fine q = quiet _ q.1 refl

@@ -14,9 +14,9 @@ use Rattle.av_trace.specs.declared.note.Note.{Note}
 use Rattle.av_trace.specs.declared.note.Note.TheVariants.{Aged, Copied, Dropped, Joined, Kept, Loaded, Mapped, Moved, New, Put, Shared, Started, Unmapped}
 use Rattle.av_trace.specs.declared.reply.OutOf.{OutOf}
 use Rattle.av_plain.specs.Access.{Accesses, End, page_events}
-use Rattle.av_plain.specs.Compact.{Moves, greatest_used, least_free, move_down}
+use Rattle.av_plain.specs.Compact.{MovesDown, greatest_used, least_free, move_down}
 use Rattle.av_plain.specs.Event.{Event, EntriesMoved, Used, Zapped, after_all, after_note, after_notes, after_use, after_zap, frame_of, note_events, notes_of, when}
-use Rattle.av_plain.specs.Fault.{ComesIn, CopyOnWrite, Denied, IsMade, Lost, MapCached, Need, NewPage, Ready, RunsOut, Serves, Sparing, Starved, Stop, SwapIn, Touches, ZeroPage, drop_at, drop_of_entry, drop_of_slot, is_allowed, is_shared, is_unneeded, need, need_of_slot, pinned_by, sparing, was_slot}
+use Rattle.av_plain.specs.Fault.{ComesIn, CopyOnWrite, Denied, IsMade, Lost, MapCached, Need, NewPage, Ready, RunsOut, Serves, Sparing, Starved, Stop, SwapIn, Touches, ZeroPage, drop_at, drop_of_entry, drop_of_slot, is_allowed, asks_copy, is_unneeded, need, need_of_slot, pinned_by, sparing, was_slot}
 use Rattle.av_plain.specs.Ledger.{Entry, InFrame, InSlot, Key, Ledger, Setting, Zero, entry, frame_at, has_free, has_free_slot, is_free, is_merged, is_on, is_open, is_orphan, is_usable, keys_of_slot, map_count, may_give, names_slot, size_of, slot_count, slot_of, slots_in_use}
 use Rattle.av_plain.specs.Merge.{FrameBytes, candidate, frame_if, hold_same, is_candidate, join_notes, merge_notes, merged_like, merges, other_like, with_candidate}
 use Rattle.av_plain.specs.Mremap.{range_zaps, remap_events}
@@ -182,7 +182,7 @@ wide-need m l write k wide = by write (entry l k) (wide-entry m l k wide)
     by false (Some Zero) fits = tt
     by true (Some Zero) fits = tt
     by false (Some (InFrame g seen)) fits = tt
-    by true (Some (InFrame g seen)) fits = shared (is_shared l g) g
+    by true (Some (InFrame g seen)) fits = shared (asks_copy l g) g
     by false (Some (InSlot s)) fits = of_slot s (frame_at l s) fits (wide-frame_at m l s wide)
     by true (Some (InSlot s)) fits = of_slot s (frame_at l s) fits (wide-frame_at m l s wide)
 
@@ -462,7 +462,7 @@ merges-fit m held w l earlier (k ∷ ks) frames keys before wide =
     more None e = before
     more (Some f) e = all-append IsWide earlier (f ∷ []) before (named f (entry l k) (wide-entry m l k wide) e, tt)
 
-pub moves-fit : (m : Setting) (l : Ledger) (notes : List Note) → IsWide m.frames → Moves m l notes → AreNotes notes
+pub moves-fit : (m : Setting) (l : Ledger) (notes : List Note) → IsWide m.frames → MovesDown m l notes → AreNotes notes
 moves-fit m l [] frames h = tt
 moves-fit m l (note ∷ notes) frames h =
     (by (least_free m l) refl (greatest_used m l) refl h.0, moves-fit m (after_note note l) notes frames h.1)

@@ -13,7 +13,7 @@ use Rattle.av_trace.specs.declared.note.Note.TheVariants.{Joined, Moved, Shared}
 use Rattle.av_trace.specs.declared.reply.Answer.{Answer}
 use Rattle.av_trace.specs.declared.row.Row.{Row}
 use Rattle.av_plain.specs.Areas.{Rmap, rmap_after_all, rmap_after_note, with_item_of}
-use Rattle.av_plain.specs.Compact.{Compacts, Moves}
+use Rattle.av_plain.specs.Compact.{Compacts, MovesDown}
 use Rattle.av_plain.specs.Event.{Event, FreeSorted, after_all, after_note, after_notes, change_frame, note_events}
 use Rattle.av_plain.specs.Ledger.{Entry, Key, Ledger, Setting, entry, frame_at, is_merged, key_cmp, map_count, names_frame}
 use Rattle.av_plain.specs.Merge.{FrameBytes, Merges, candidate, hold_same, join_notes, merge_notes, merged_like, merges, other_like, with_candidate}
@@ -138,7 +138,7 @@ merge-reach m w l r events answer rows s h is =
 
 -- ---- a compaction
 
-moves-reach : (m : Setting) (w : World) (l : Ledger) (r : Rmap) (notes : List Note) → Holds m w l → Moves m l notes → Reach l r → NotesReach l r notes
+moves-reach : (m : Setting) (w : World) (l : Ledger) (r : Rmap) (notes : List Note) → Holds m w l → MovesDown m l notes → Reach l r → NotesReach l r notes
 moves-reach m w l r [] holds moves h = h
 moves-reach m w l r (note ∷ notes) holds moves h =
     moves-reach m w (after_note note l) (rmap_after_note l note r) notes (move-holds m w l note holds moves.0) moves.1 one

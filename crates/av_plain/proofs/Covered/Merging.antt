@@ -13,7 +13,7 @@ use Rattle.av_vma.specs.Index.{index_of}
 use Rattle.av_vma.specs.Pages.{home_of}
 use Rattle.av_trace.specs.declared.note.Note.{Note}
 use Rattle.av_trace.specs.declared.note.Note.TheVariants.{Joined, Moved, Shared}
-use Rattle.av_plain.specs.Areas.{AnonVma, Anons, Homes, Items, Rmap, at_root, item_of, root_of, same_item, with_home_moved, with_item, with_item_of, with_items}
+use Rattle.av_plain.specs.Areas.{AnonVma, Anons, Homes, Items, Rmap, at_root, item_of, root_of, same_item, with_home_moved, with_item, with_item_of, with_first_item}
 use Rattle.av_plain.specs.Covered.{AreMergedCovered, AreSlotsCovered, HasItem, IsAtRoot, IsOfSlot, IsReached, IsRmapSound, IsRooted}
 use Rattle.av_plain.specs.Event.{after_note, change_frame, renamed_entry, set_entry, settle_entry, with_renamed}
 use Rattle.av_plain.specs.Ledger.{Cached, Entry, InFrame, InSlot, Key, Ledger, Setting, Zero, cached_by, entry, frame_at, is_merged, key_cmp, map_count, names_frame, names_slot, same_slot}
@@ -132,11 +132,11 @@ module _ (item : ℕ × ℕ) (items : List (ℕ × ℕ)) where
       by false is = let c = count-last (same_item x) item items in let s = same (same_item x item) refl is in omega (arith, c, s)
 
 -- what the homes and the areas say is said whatever the items are
-with_items-slots : (l : Ledger) (r : Rmap) (items : Items) → AreSlotsCovered l r → AreSlotsCovered l (record r { items = items })
-with_items-slots l r items h = record { kin = h.kin; rooted = h.rooted; cached = h.cached }
+with_first_item-slots : (l : Ledger) (r : Rmap) (items : Items) → AreSlotsCovered l r → AreSlotsCovered l (record r { items = items })
+with_first_item-slots l r items h = record { kin = h.kin; rooted = h.rooted; cached = h.cached }
 
-with_items-sound : (l : Ledger) (r : Rmap) (items : Items) → IsRmapSound l r → IsRmapSound l (record r { items = items })
-with_items-sound l r items h = record { made = h.made; own = h.own; covered = h.covered }
+with_first_item-sound : (l : Ledger) (r : Rmap) (items : Items) → IsRmapSound l r → IsRmapSound l (record r { items = items })
+with_first_item-sound l r items h = record { made = h.made; own = h.own; covered = h.covered }
 
 -- ---- a frame is merged
 
@@ -172,14 +172,14 @@ module _ (l : Ledger) (r : Rmap) (f : ℕ) (k : Key) (h : Reach l r) (own : is_m
       none true = refl
       none false = refl
 
-  items-at : (g : ℕ) (b : Bool) → (g == f) ≡ b → (with_items f r).items g ≡ cond b (with_item (Some root) []) (r.items g)
+  items-at : (g : ℕ) (b : Bool) → (g == f) ≡ b → (with_first_item f r).items g ≡ cond b (with_item (Some root) []) (r.items g)
   items-at g b e = λ i. cond (e i) (with_item (at_root r.anons (home-at.is i)) []) (r.items g)
 
-  homes-at : (g : ℕ) (b : Bool) → (g == f) ≡ b → (with_items f r).homes g ≡ cond b None (r.homes g)
+  homes-at : (g : ℕ) (b : Bool) → (g == f) ≡ b → (with_first_item f r).homes g ≡ cond b None (r.homes g)
   homes-at g b e = ap (λ b. cond b None (r.homes g)) e
 
   shared-covered : (q : Key) (g : ℕ) → Names l q g → is_merged (after_note (Shared f) l) g ≡ false → (b : Bool) → (g == f) ≡ b
-      → IsSomeAnd ((with_items f r).homes g) (IsReached r q)
+      → IsSomeAnd ((with_first_item f r).homes g) (IsReached r q)
   shared-covered q g names alone true e = absurd (false≢true (sym alone ∙ merged-now g ∙ right (is_merged l g) e))
     where
       right : (a : Bool) {b : Bool} → b ≡ true → (a || b) ≡ true
@@ -189,7 +189,7 @@ module _ (l : Ledger) (r : Rmap) (f : ℕ) (k : Key) (h : Reach l r) (own : is_m
       (h.sound.covered q g names (sym (merged-old g e) ∙ alone))
 
   shared-found : (q : Key) (g : ℕ) → Names l q g → is_merged (after_note (Shared f) l) g ≡ true → (b : Bool) → (g == f) ≡ b
-      → HasItem (with_items f r) g q
+      → HasItem (with_first_item f r) g q
   shared-found q g names is true e = (
     root,
     subst (λ xs. list_any (same_item root) xs ≡ true) (sym (items-at g true e)) (with-itself root []),
@@ -199,13 +199,13 @@ module _ (l : Ledger) (r : Rmap) (f : ℕ) (k : Key) (h : Reach l r) (own : is_m
       (x.0, subst (λ xs. list_any (same_item x.0) xs ≡ true) (sym (items-at g false e)) x.1, x.2)
 
   shared-once : (g : ℕ) (item : ℕ × ℕ) → is_merged (after_note (Shared f) l) g ≡ true → (b : Bool) → (g == f) ≡ b
-      → how_many (same_item item) ((with_items f r).items g) ≤ 1
+      → how_many (same_item item) ((with_first_item f r).items g) ≤ 1
   shared-once g item is true e = subst (λ xs. how_many (same_item item) xs ≤ 1) (sym (items-at g true e)) (with-once root [] item (omega arith))
   shared-once g item is false e = subst (λ xs. how_many (same_item item) xs ≤ 1) (sym (items-at g false e))
       (h.merged.once g item (sym (merged-old g e) ∙ is))
 
   shared-roots : (g : ℕ) (item : ℕ × ℕ) → is_merged (after_note (Shared f) l) g ≡ true → (b : Bool) → (g == f) ≡ b
-      → list_any (same_item item) ((with_items f r).items g) ≡ true → IsAtRoot r.anons item
+      → list_any (same_item item) ((with_first_item f r).items g) ≡ true → IsAtRoot r.anons item
   shared-roots g item is true e among =
       by (with-only root [] item (subst (λ xs. list_any (same_item item) xs ≡ true) (items-at g true e) among))
     where
@@ -215,19 +215,19 @@ module _ (l : Ledger) (r : Rmap) (f : ℕ) (k : Key) (h : Reach l r) (own : is_m
   shared-roots g item is false e among = h.merged.roots g item (sym (merged-old g e) ∙ is)
       (subst (λ xs. list_any (same_item item) xs ≡ true) (items-at g false e) among)
 
-  shared-homeless : (g : ℕ) → is_merged (after_note (Shared f) l) g ≡ true → (b : Bool) → (g == f) ≡ b → (with_items f r).homes g ≡ None
+  shared-homeless : (g : ℕ) → is_merged (after_note (Shared f) l) g ≡ true → (b : Bool) → (g == f) ≡ b → (with_first_item f r).homes g ≡ None
   shared-homeless g is true e = homes-at g true e
   shared-homeless g is false e = homes-at g false e ∙ h.merged.homeless g (sym (merged-old g e) ∙ is)
 
-  shared-slots : AreSlotsCovered (after_note (Shared f) l) (with_items f r)
-  shared-slots = with_items-slots (after_note (Shared f) l) (record r { homes = (with_items f r).homes }) (with_items f r).items
-      (slots-fewer l (after_note (Shared f) l) r (with_items f r).homes (λ s q names. names) (λ s q g at names. (at, by s g at (g == f) refl)) h.slots)
+  shared-slots : AreSlotsCovered (after_note (Shared f) l) (with_first_item f r)
+  shared-slots = with_first_item-slots (after_note (Shared f) l) (record r { homes = (with_first_item f r).homes }) (with_first_item f r).items
+      (slots-fewer l (after_note (Shared f) l) r (with_first_item f r).homes (λ s q names. names) (λ s q g at names. (at, by s g at (g == f) refl)) h.slots)
     where
-      by : (s : Slot) (g : ℕ) → frame_at l s ≡ Some g → (b : Bool) → (g == f) ≡ b → (with_items f r).homes g ≡ r.homes g
+      by : (s : Slot) (g : ℕ) → frame_at l s ≡ Some g → (b : Bool) → (g == f) ≡ b → (with_first_item f r).homes g ≡ r.homes g
       by s g at true e = absurd (uncached s (at ∙ ap Some (same-is g f e)))
       by s g at false e = homes-at g false e
 
-  pub shared-reach : Reach (after_note (Shared f) l) (with_items f r)
+  pub shared-reach : Reach (after_note (Shared f) l) (with_first_item f r)
   shared-reach = record {
     in_order = h.in_order;
     once = h.once;
@@ -301,7 +301,7 @@ module _ (l : Ledger) (r : Rmap) (k : Key) (f g : ℕ) (seen : Bool) (h : Reach 
   items-joined j b e = λ i. cond (e i) (with_item (item-at.is i) (r.items f)) (r.items j)
 
   joined-sound : IsRmapSound joined (with_item_of f k r)
-  joined-sound = with_items-sound joined r (with_item_of f k r).items
+  joined-sound = with_first_item-sound joined r (with_item_of f k r).items
       (sound-fewer l joined r (λ q j names alone. by q j names alone (same_key q k) refl) h.sound)
     where
       by : (q : Key) (j : ℕ) → Names joined q j → is_merged joined j ≡ false → (b : Bool) → same_key q k ≡ b → Names l q j × (is_merged l j ≡ false)
@@ -309,7 +309,7 @@ module _ (l : Ledger) (r : Rmap) (k : Key) (f g : ℕ) (seen : Bool) (h : Reach 
       by q j names alone false e = (joined-names q j names false e, sym (joined-taken q j names) ∙ alone)
 
   joined-slots : AreSlotsCovered joined (with_item_of f k r)
-  joined-slots = with_items-slots joined r (with_item_of f k r).items
+  joined-slots = with_first_item-slots joined r (with_item_of f k r).items
       (slots-lists taken joined r joined-entries joined-cache (slots-set l r k (InFrame f false) (λ t. refl) h.slots))
 
   joined-found : (q : Key) (j : ℕ) → Names joined q j → is_merged joined j ≡ true → (b : Bool) → same_key q k ≡ b → HasItem (with_item_of f k r) j q

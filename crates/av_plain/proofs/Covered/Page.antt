@@ -16,7 +16,7 @@ use Rattle.av_plain.specs.Access.{Accesses, End, page_events}
 use Rattle.av_plain.specs.Areas.{Rmap, at_home, chain_length, prepare_page, rmap_after_all, rmap_after_note, rmap_after_use}
 use Rattle.av_plain.specs.Covered.{IsOfSlot}
 use Rattle.av_plain.specs.Event.{Event, Used, after_all, after_note, after_notes, after_use, after_use_of, change_frame, if_some, note_events, off_cache, set_entry, to_inactive_head, when, with_stale}
-use Rattle.av_plain.specs.Fault.{ComesIn, CopyOnWrite, Denied, IsMade, Lost, Ready, RunsOut, Serves, Sparing, Starved, Stop, Takes, Touches, drop_at, drop_of_entry, drop_of_slot, is_named, is_shared, is_unneeded, need, need_of_slot, permits, pinned_by, sparing, was_slot}
+use Rattle.av_plain.specs.Fault.{ComesIn, CopyOnWrite, Denied, IsMade, Lost, Ready, RunsOut, Serves, Sparing, Starved, Stop, Takes, Touches, drop_at, drop_of_entry, drop_of_slot, is_named, asks_copy, is_unneeded, need, need_of_slot, permits, pinned_by, sparing, was_slot}
 use Rattle.av_plain.specs.Ledger.{Entry, InFrame, InSlot, Key, Ledger, Setting, Zero, entry, frame_at, is_free, is_merged, key_cmp, map_count, names_frame, names_slot, same_slot, slot_entries, slot_of}
 use Rattle.av_plain.specs.Pass.{Spared, TakesFor}
 use Rattle.av_plain.specs.Sound.{IsSound}
@@ -249,7 +249,7 @@ fit-comes m sp l write k notes s h = by write (entry l k) refl h
     by false (Some Zero) is q = none q
     by true (Some Zero) is q = none q
     by false (Some (InFrame g seen)) is q = none q
-    by true (Some (InFrame g seen)) is q = none (ready (is_shared l g) g q)
+    by true (Some (InFrame g seen)) is q = none (ready (asks_copy l g) g q)
     by false (Some (InSlot t)) is q = slot t is (frame_at l t) refl q
     by true (Some (InSlot t)) is q = slot t is (frame_at l t) refl q
 
@@ -265,7 +265,7 @@ abbrev AloneAt : Ledger → Key → Type 0
 AloneAt l k = (f : ℕ) → Names l k f → Alone l f
 
 -- a frame that a write needn't copy
-unshared-alone : (m : Setting) (l : Ledger) (f : ℕ) → IsSound m l → is_shared l f ≡ false → Alone l f
+unshared-alone : (m : Setting) (l : Ledger) (f : ℕ) → IsSound m l → asks_copy l f ≡ false → Alone l f
 unshared-alone m l f s h =
     record {
       own = third (nat_lt 1 (map_count l f)) (is_named l (slot_of l f)) (is_merged l f) h;
@@ -413,11 +413,11 @@ made-reach m w sp l r write k notes mapped s h made = by write (entry l k) refl 
         (subst (λ on. IsSomeAnd (on k.0 k.1) (λ area. IsSome area.anon)) (sym same) (covered-owns l r k g h.reach.sound h.reach.merged (named g seen at))) free own h')
         (λ l' a. subst (λ q. AloneAt (to_inactive_head takes.frame (change_frame q takes.frame l')) k) (sym (key_at-address k)) (copied-alone l' k takes.frame a))
 
-    own : (g : ℕ) (seen : Bool) → entry l k ≡ Some (InFrame g seen) → is_shared l g ≡ false → AloneAt l k
+    own : (g : ℕ) (seen : Bool) → entry l k ≡ Some (InFrame g seen) → asks_copy l g ≡ false → AloneAt l k
     own g seen at apart f names = subst (Alone l) (sym (same-is f g (subst (λ o. IsSomeAnd o (λ e. names_frame f e ≡ true)) at names)))
         (unshared-alone m l g s apart)
 
-    maybe : (g : ℕ) (seen : Bool) → entry l k ≡ Some (InFrame g seen) → (b : Bool) → is_shared l g ≡ b
+    maybe : (g : ℕ) (seen : Bool) → entry l k ≡ Some (InFrame g seen) → (b : Bool) → asks_copy l g ≡ b
         → IsMade m sp l k (cond b (CopyOnWrite g) Ready) notes →
         Made w l r true k notes
     maybe g seen at true is q = copy true g seen at q
@@ -433,7 +433,7 @@ made-reach m w sp l r write k notes mapped s h made = by write (entry l k) refl 
     by false (Some Zero) is q = made-none w l r false k notes q h (λ e. absurd (false≢true e))
     by true (Some Zero) is q = fresh true q
     by false (Some (InFrame g seen)) is q = made-none w l r false k notes q h (λ e. absurd (false≢true e))
-    by true (Some (InFrame g seen)) is q = maybe g seen is (is_shared l g) refl q
+    by true (Some (InFrame g seen)) is q = maybe g seen is (asks_copy l g) refl q
     by false (Some (InSlot t)) is q = absurd (never t (frame_at l t) q)
     by true (Some (InSlot t)) is q = absurd (never t (frame_at l t) q)
 

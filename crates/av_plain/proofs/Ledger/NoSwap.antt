@@ -7,7 +7,7 @@ use Rattle.av_base.specs.Words.{is_in}
 use Rattle.av_base.specs.Page.{address_of}
 use Rattle.av_plain.specs.Ledger.{Ledger, Setting, Key, Cached, map_count, is_free, has_free, slot_of, cached_by}
 use Rattle.av_plain.specs.Event.{key_at}
-use Rattle.av_plain.specs.Fault.{is_shared, is_named}
+use Rattle.av_plain.specs.Fault.{asks_copy, is_named}
 use Rattle.av_plain.proofs.Ledger.{same_key}
 use Rattle.av_plain.specs.Ledger.{is_merged}
 
@@ -68,7 +68,7 @@ free_is l f none = ap (λ o. map_count l f == 0 && is_none o) (no_slot l f none)
     both true = refl
     both false = refl
 
-pub shared_is : (l : Ledger) (f : ℕ) → l.cache ≡ [] → is_shared l f ≡ (nat_lt 1 (map_count l f) || is_merged l f)
+pub shared_is : (l : Ledger) (f : ℕ) → l.cache ≡ [] → asks_copy l f ≡ (nat_lt 1 (map_count l f) || is_merged l f)
 shared_is l f none = ap (λ o. nat_lt 1 (map_count l f) || is_named l o || is_merged l f) (no_slot l f none) ∙ either (nat_lt 1 (map_count l f))
   where
     either : (b : Bool) → (b || false || is_merged l f) ≡ (b || is_merged l f)

@@ -8,7 +8,7 @@ use Rattle.av_trace.specs.declared.note.Note.TheVariants.{Copied, Dropped, Loade
 use Rattle.av_trace.specs.declared.reply.OutOf.{OutOf}
 use Rattle.av_plain.specs.Access.{Accesses, End, page_events}
 use Rattle.av_plain.specs.Event.{Event, Used, after_all, after_note, after_notes, after_use, note_events, set_entry, to_inactive_head, when}
-use Rattle.av_plain.specs.Fault.{ComesIn, CopyOnWrite, Denied, IsMade, Lost, Ready, RunsOut, Serves, Sparing, Starved, Stop, Takes, Touches, drop_at, drop_of_entry, drop_of_slot, is_named, is_shared, need, need_of_slot, pinned_by, sparing, was_slot}
+use Rattle.av_plain.specs.Fault.{ComesIn, CopyOnWrite, Denied, IsMade, Lost, Ready, RunsOut, Serves, Sparing, Starved, Stop, Takes, Touches, drop_at, drop_of_entry, drop_of_slot, is_named, asks_copy, need, need_of_slot, pinned_by, sparing, was_slot}
 use Rattle.av_plain.specs.Ledger.{IsBlank, Entry, InFrame, InSlot, Key, Ledger, Setting, Zero, entry, frame_at, in_flight, is_free, is_full, map_count, names_frame, names_slot, same_slot, slot_entries, slot_of}
 use Rattle.av_plain.specs.Sound.{IsSound, flights, no_excuse, uses}
 use Rattle.av_plain.specs.World.{World, pages}
@@ -89,12 +89,12 @@ comes-kept m sp l write k notes s h = by write (entry l k) refl h
     by false (Some Zero) is q = none q
     by true (Some Zero) is q = none q
     by false (Some (InFrame g seen)) is q = none q
-    by true (Some (InFrame g seen)) is q = none (ready (is_shared l g) g q)
+    by true (Some (InFrame g seen)) is q = none (ready (asks_copy l g) g q)
     by false (Some (InSlot t)) is q = slot t is (frame_at l t) refl q
     by true (Some (InSlot t)) is q = slot t is (frame_at l t) refl q
 
 -- ---- a page is made
-pub shared-is : (l : Ledger) (g : ℕ) → is_shared l g ≡ true → IsSharedBy l g
+pub shared-is : (l : Ledger) (g : ℕ) → asks_copy l g ≡ true → IsSharedBy l g
 shared-is l g h = by (nat_lt 1 (map_count l g)) refl (slot_of l g) refl h
   where
     by : (b : Bool) → nat_lt 1 (map_count l g) ≡ b → (o : Option Slot) → slot_of l g ≡ o → (b || is_named l o || is_merged l g) ≡ true → IsSharedBy l g
@@ -159,7 +159,7 @@ made-kept m sp l write k notes pins s h = by write (entry l k) refl h
         (shared-stays (is_spared (sp l (Some g))) l l1 g alone passed.keeps found shared)
         takes.in_range (unused l1 takes.frame takes.free))))
 
-    maybe : (g : ℕ) (seen : Bool) → entry l k ≡ Some (InFrame g seen) → (b : Bool) → is_shared l g ≡ b
+    maybe : (g : ℕ) (seen : Bool) → entry l k ≡ Some (InFrame g seen) → (b : Bool) → asks_copy l g ≡ b
         → IsMade m sp l k (cond b (CopyOnWrite g) Ready) notes →
         IsSound m (after_notes l notes)
     maybe g seen at true is q = split g seen at (shared-is l g is) q
@@ -176,7 +176,7 @@ made-kept m sp l write k notes pins s h = by write (entry l k) refl h
     by false (Some Zero) is q = none q
     by true (Some Zero) is q = fresh (subst IsBlank (sym is) tt) q
     by false (Some (InFrame g seen)) is q = none q
-    by true (Some (InFrame g seen)) is q = maybe g seen is (is_shared l g) refl q
+    by true (Some (InFrame g seen)) is q = maybe g seen is (asks_copy l g) refl q
     by false (Some (InSlot t)) is q = absurd (never t (frame_at l t) q)
     by true (Some (InSlot t)) is q = absurd (never t (frame_at l t) q)
 

@@ -10,7 +10,7 @@ use Rattle.av_trace.specs.declared.note.Note.{Note}
 use Rattle.av_trace.specs.declared.note.Note.TheVariants.{Joined, Moved, Shared}
 use Rattle.av_trace.specs.declared.reply.Answer.{Answer}
 use Rattle.av_trace.specs.declared.row.Row.{Row}
-use Rattle.av_plain.specs.Compact.{Compacts, Moves, greatest_used, least_free, move_down, next_move}
+use Rattle.av_plain.specs.Compact.{Compacts, MovesDown, greatest_used, least_free, move_down, next_move}
 use Rattle.av_plain.specs.Event.{Event, FreeSorted, after_all, after_note, after_notes, change_frame, frame_of, note_events, settle, set_entry}
 use Rattle.av_plain.specs.Fault.{is_locked}
 use Rattle.av_plain.specs.Ledger.{Entry, InFrame, InSlot, Key, Ledger, Setting, Zero, entry, is_free, is_merged, map_count, names_frame, slot_of}
@@ -487,11 +487,11 @@ move-holds m w l note h r =
     subst (λ n. Holds m w (after_note n l)) (sym v.is) (notes-hold m w None l (Moved v.from v.to ∷ []) h
     (renamed-kept m no_excuse l v.from v.to h.sound v.free v.used v.below) (tt, tt) (tt, tt))
 
-pub moves-hold : (m : Setting) (w : World) (l : Ledger) (notes : List Note) → Holds m w l → Moves m l notes → Holds m w (after_notes l notes)
+pub moves-hold : (m : Setting) (w : World) (l : Ledger) (notes : List Note) → Holds m w l → MovesDown m l notes → Holds m w (after_notes l notes)
 moves-hold m w l [] h r = h
 moves-hold m w l (note ∷ notes) h r = moves-hold m w (after_note note l) notes (move-holds m w l note h r.0) r.1
 
-pub lawful-moves : (m : Setting) (l : Ledger) (notes : List Note) → Moves m l notes → AreLawful m None l notes
+pub lawful-moves : (m : Setting) (l : Ledger) (notes : List Note) → MovesDown m l notes → AreLawful m None l notes
 lawful-moves m l [] r = tt
 lawful-moves m l (note ∷ notes) r = (one (move-is m l note r.0), lawful-moves m (after_note note l) notes r.1)
   where

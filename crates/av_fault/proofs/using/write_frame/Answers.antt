@@ -2,7 +2,7 @@ use Rattle.std.proofs.Common.{◌≡◌, ◌<◌, false, true, None, is_some, re
 use Rattle.av_plain.specs.Areas.{rmap_after_all}
 use Rattle.av_plain.specs.Device.{as_told, device_by}
 use Rattle.av_plain.specs.Event.{after_all, after_notes, note_events}
-use Rattle.av_plain.specs.Fault.{is_shared}
+use Rattle.av_plain.specs.Fault.{asks_copy}
 use Rattle.av_plain.specs.Ledger.{slot_of}
 use Rattle.av_plain.specs.Load.{with_loads}
 use Rattle.av_plain.proofs.Access.{note_events-all}
@@ -13,10 +13,10 @@ use Rattle.av_fault.proofs.MadeLaws.{used-made, write-needs}
 use Rattle.av_fault.proofs.SharedLaws.{shared-in}
 use Rattle.av_fault.proofs.UsingLaws.{entry-here, here-below, here-maps, own-here}
 use Rattle.av_fault.proofs.using.write_frame.Goals as goal
-use Rattle.av_fault.proofs.using.write_frame.Goals.{else-not-settled-via-then-not-settled+else-is_shared, else-not-settled-via-else-not-settled}
+use Rattle.av_fault.proofs.using.write_frame.Goals.{else-not-settled-via-then-not-settled+else-asks_copy, else-not-settled-via-else-not-settled}
 
-pub is_shared-requires : goal.is_shared-requires
-is_shared-requires g c =
+pub asks_copy-requires : goal.asks_copy-requires
+asks_copy-requires g c =
     let sizes = g.D.SwapDev.sizes c.args.dev.now in
     let failures = g.D.SwapDev.failures c.args.dev.now in
     let old = c.args.mem.now in
@@ -68,12 +68,12 @@ returns-clause-made g c = λ told w r l h came.
     let at = entry-here d old w r l h key f here.write here.seen here.there in
     let x = c.in_ok-cached.ensures.dropped d w r l h in
     let events = note_events x.added in
-    let alone : is_shared l f ≡ false = elim c.else-not-settled.branch [
-      | else-not-settled-via-then-not-settled+else-is_shared z ↦ sym (shared-in d old w r l h f) ∙ sym z.is_shared.ensures ∙ z.if-is_shared.false
+    let alone : asks_copy l f ≡ false = elim c.else-not-settled.branch [
+      | else-not-settled-via-then-not-settled+else-asks_copy z ↦ sym (shared-in d old w r l h f) ∙ sym z.asks_copy.ensures ∙ z.if-asks_copy.false
       | else-not-settled-via-else-not-settled z ↦ own-here d old w r l h key f here.write here.seen here.there (here.marked z.if-not-settled.false).0
     ] in
-    let alone_then : is_shared (after_all l events) f ≡ false = ap (λ y. is_shared y f) (note_events-all l x.added)
-    ∙ subst (λ ns. is_shared (after_notes l ns) f ≡ false) (sym x.drops) (dropped-alone m l f h.sound alone) in
+    let alone_then : asks_copy (after_all l events) f ≡ false = ap (λ y. asks_copy y f) (note_events-all l x.added)
+    ∙ subst (λ ns. asks_copy (after_notes l ns) f ≡ false) (sym x.drops) (dropped-alone m l f h.sound alone) in
     used-made d old mid c.write_own.new.mem w r l key f here.seen true came c.args.notes.now c.drop_unneeded.new.notes x.added at x.drops
     x.done x.notes (write-needs l key f here.seen at alone)
     (c.write_own.ensures.written d (with_loads m w l events) (rmap_after_all l events r) (after_all l events) x.done.between alone_then

@@ -25,9 +25,9 @@ replace_both-requires-clause-other c =
     let len = lengths c.args.areas.now c.args.anons.now in
     let joins : do_join len lower upper ≡ true =
     test_is areas (family c.args.anons.now) (spans_of c.args.anons.now) c.args.left c.args.right lower upper
-    c.chain_len-left_len.result c.chain_len-right_len.result c.mergeable.result
-    c.requires.order c.get-lower.ensures c.get-upper.ensures c.chain_len-left_len.ensures c.chain_len-right_len.ensures c.mergeable.ensures
-    ∙ c.if-not-mergeable.false in
+    c.chain_len-left_len.result c.chain_len-right_len.result c.joinable.result
+    c.requires.order c.get-lower.ensures c.get-upper.ensures c.chain_len-left_len.ensures c.chain_len-right_len.ensures c.joinable.ensures
+    ∙ c.if-not-joinable.false in
     right_from len c.requires.stands.0 c.args.left c.args.right c.args.at lower upper areas c.args.tree.now c.requires.stands.1 c.requires.below
     c.requires.above c.get-lower.ensures c.get-upper.ensures joins
 
@@ -39,9 +39,9 @@ replace_both-requires-clause-lower c =
     let len = lengths c.args.areas.now c.args.anons.now in
     let joins : do_join len lower upper ≡ true =
     test_is areas (family c.args.anons.now) (spans_of c.args.anons.now) c.args.left c.args.right lower upper
-    c.chain_len-left_len.result c.chain_len-right_len.result c.mergeable.result
-    c.requires.order c.get-lower.ensures c.get-upper.ensures c.chain_len-left_len.ensures c.chain_len-right_len.ensures c.mergeable.ensures
-    ∙ c.if-not-mergeable.false in
+    c.chain_len-left_len.result c.chain_len-right_len.result c.joinable.result
+    c.requires.order c.get-lower.ensures c.get-upper.ensures c.chain_len-left_len.ensures c.chain_len-right_len.ensures c.joinable.ensures
+    ∙ c.if-not-joinable.false in
     subst (λ (a : Area). first_of a < c.args.at) (sym c.join_of.ensures)
     (join_below len c.requires.stands.0 c.args.left c.args.right c.args.at lower upper areas c.args.tree.now c.requires.stands.1 c.requires.below
     c.requires.above c.get-lower.ensures c.get-upper.ensures joins)
@@ -54,9 +54,9 @@ replace_both-requires-clause-upper c =
     let len = lengths c.args.areas.now c.args.anons.now in
     let joins : do_join len lower upper ≡ true =
     test_is areas (family c.args.anons.now) (spans_of c.args.anons.now) c.args.left c.args.right lower upper
-    c.chain_len-left_len.result c.chain_len-right_len.result c.mergeable.result
-    c.requires.order c.get-lower.ensures c.get-upper.ensures c.chain_len-left_len.ensures c.chain_len-right_len.ensures c.mergeable.ensures
-    ∙ c.if-not-mergeable.false in
+    c.chain_len-left_len.result c.chain_len-right_len.result c.joinable.result
+    c.requires.order c.get-lower.ensures c.get-upper.ensures c.chain_len-left_len.ensures c.chain_len-right_len.ensures c.joinable.ensures
+    ∙ c.if-not-joinable.false in
     subst (λ (a : Area). c.args.at < past_of a) (sym c.join_of.ensures)
     (join_above len c.requires.stands.0 c.args.left c.args.right c.args.at lower upper areas c.args.tree.now c.requires.stands.1 c.requires.below
     c.requires.above c.get-lower.ensures c.get-upper.ensures joins)
@@ -69,9 +69,9 @@ replace_both-requires-clause-there c =
     let len = lengths c.args.areas.now c.args.anons.now in
     let joins : do_join len lower upper ≡ true =
     test_is areas (family c.args.anons.now) (spans_of c.args.anons.now) c.args.left c.args.right lower upper
-    c.chain_len-left_len.result c.chain_len-right_len.result c.mergeable.result
-    c.requires.order c.get-lower.ensures c.get-upper.ensures c.chain_len-left_len.ensures c.chain_len-right_len.ensures c.mergeable.ensures
-    ∙ c.if-not-mergeable.false in
+    c.chain_len-left_len.result c.chain_len-right_len.result c.joinable.result
+    c.requires.order c.get-lower.ensures c.get-upper.ensures c.chain_len-left_len.ensures c.chain_len-right_len.ensures c.joinable.ensures
+    ∙ c.if-not-joinable.false in
     let gone = without_here c.args.right c.args.at c.args.tree.now c.requires.stands.1.spans_are
     (right_from len c.requires.stands.0 c.args.left c.args.right c.args.at lower upper areas c.args.tree.now c.requires.stands.1 c.requires.below
     c.requires.above c.get-lower.ensures c.get-upper.ensures joins) in
@@ -91,9 +91,9 @@ replace_both-requires-clause-whole c =
     let len = lengths c.args.areas.now c.args.anons.now in
     let joins : do_join len lower upper ≡ true =
     test_is areas (family c.args.anons.now) (spans_of c.args.anons.now) c.args.left c.args.right lower upper
-    c.chain_len-left_len.result c.chain_len-right_len.result c.mergeable.result
-    c.requires.order c.get-lower.ensures c.get-upper.ensures c.chain_len-left_len.ensures c.chain_len-right_len.ensures c.mergeable.ensures
-    ∙ c.if-not-mergeable.false in
+    c.chain_len-left_len.result c.chain_len-right_len.result c.joinable.result
+    c.requires.order c.get-lower.ensures c.get-upper.ensures c.chain_len-left_len.ensures c.chain_len-right_len.ensures c.joinable.ensures
+    ∙ c.if-not-joinable.false in
     subst IsWhole (sym c.join_of.ensures)
     (join_whole len c.requires.stands.0 c.args.left c.args.right c.args.at lower upper areas c.args.tree.now
     c.requires.stands.1 c.requires.below c.requires.above c.get-lower.ensures c.get-upper.ensures joins)
@@ -106,9 +106,9 @@ replace_both-requires-clause-free c =
     let len = lengths c.args.areas.now c.args.anons.now in
     let joins : do_join len lower upper ≡ true =
     test_is areas (family c.args.anons.now) (spans_of c.args.anons.now) c.args.left c.args.right lower upper
-    c.chain_len-left_len.result c.chain_len-right_len.result c.mergeable.result
-    c.requires.order c.get-lower.ensures c.get-upper.ensures c.chain_len-left_len.ensures c.chain_len-right_len.ensures c.mergeable.ensures
-    ∙ c.if-not-mergeable.false in
+    c.chain_len-left_len.result c.chain_len-right_len.result c.joinable.result
+    c.requires.order c.get-lower.ensures c.get-upper.ensures c.chain_len-left_len.ensures c.chain_len-right_len.ensures c.joinable.ensures
+    ∙ c.if-not-joinable.false in
     let gone = without_here c.args.right c.args.at c.args.tree.now c.requires.stands.1.spans_are
     (right_from len c.requires.stands.0 c.args.left c.args.right c.args.at lower upper areas c.args.tree.now c.requires.stands.1 c.requires.below
     c.requires.above c.get-lower.ensures c.get-upper.ensures joins) in
@@ -128,9 +128,9 @@ returns-clause-stands c =
     let len = lengths c.args.areas.now c.args.anons.now in
     let joins : do_join len lower upper ≡ true =
     test_is areas (family c.args.anons.now) (spans_of c.args.anons.now) c.args.left c.args.right lower upper
-    c.chain_len-left_len.result c.chain_len-right_len.result c.mergeable.result
-    c.requires.order c.get-lower.ensures c.get-upper.ensures c.chain_len-left_len.ensures c.chain_len-right_len.ensures c.mergeable.ensures
-    ∙ c.if-not-mergeable.false in
+    c.chain_len-left_len.result c.chain_len-right_len.result c.joinable.result
+    c.requires.order c.get-lower.ensures c.get-upper.ensures c.chain_len-left_len.ensures c.chain_len-right_len.ensures c.joinable.ensures
+    ∙ c.if-not-joinable.false in
     let gone = without_here c.args.right c.args.at c.args.tree.now c.requires.stands.1.spans_are
     (right_from len c.requires.stands.0 c.args.left c.args.right c.args.at lower upper areas c.args.tree.now c.requires.stands.1 c.requires.below
     c.requires.above c.get-lower.ensures c.get-upper.ensures joins) in
@@ -152,9 +152,9 @@ returns-in_err-replace_both-clause-stands c =
     let len = lengths c.args.areas.now c.args.anons.now in
     let joins : do_join len lower upper ≡ true =
     test_is areas (family c.args.anons.now) (spans_of c.args.anons.now) c.args.left c.args.right lower upper
-    c.chain_len-left_len.result c.chain_len-right_len.result c.mergeable.result
-    c.requires.order c.get-lower.ensures c.get-upper.ensures c.chain_len-left_len.ensures c.chain_len-right_len.ensures c.mergeable.ensures
-    ∙ c.if-not-mergeable.false in
+    c.chain_len-left_len.result c.chain_len-right_len.result c.joinable.result
+    c.requires.order c.get-lower.ensures c.get-upper.ensures c.chain_len-left_len.ensures c.chain_len-right_len.ensures c.joinable.ensures
+    ∙ c.if-not-joinable.false in
     let gone = without_here c.args.right c.args.at c.args.tree.now c.requires.stands.1.spans_are
     (right_from len c.requires.stands.0 c.args.left c.args.right c.args.at lower upper areas c.args.tree.now c.requires.stands.1 c.requires.below
     c.requires.above c.get-lower.ensures c.get-upper.ensures joins) in
@@ -176,9 +176,9 @@ returns-clause-pages c =
     let len = lengths c.args.areas.now c.args.anons.now in
     let joins : do_join len lower upper ≡ true =
     test_is areas (family c.args.anons.now) (spans_of c.args.anons.now) c.args.left c.args.right lower upper
-    c.chain_len-left_len.result c.chain_len-right_len.result c.mergeable.result
-    c.requires.order c.get-lower.ensures c.get-upper.ensures c.chain_len-left_len.ensures c.chain_len-right_len.ensures c.mergeable.ensures
-    ∙ c.if-not-mergeable.false in
+    c.chain_len-left_len.result c.chain_len-right_len.result c.joinable.result
+    c.requires.order c.get-lower.ensures c.get-upper.ensures c.chain_len-left_len.ensures c.chain_len-right_len.ensures c.joinable.ensures
+    ∙ c.if-not-joinable.false in
     let gone = without_here c.args.right c.args.at c.args.tree.now c.requires.stands.1.spans_are
     (right_from len c.requires.stands.0 c.args.left c.args.right c.args.at lower upper areas c.args.tree.now c.requires.stands.1 c.requires.below
     c.requires.above c.get-lower.ensures c.get-upper.ensures joins) in
@@ -204,15 +204,15 @@ get-upper-requires c = record {
       c.requires.stands.1 c.requires.above;
 }
 
-pub mergeable-requires-clause-forward : goal.mergeable-requires-clause-forward
-mergeable-requires-clause-forward c =
+pub joinable-requires-clause-forward : goal.joinable-requires-clause-forward
+joinable-requires-clause-forward c =
     let w = (whole_at c.requires.stands.0 (area_of c.args.areas.now) c.args.tree.now (c.args.at - 1) c.args.left c.get-lower.result
     c.requires.stands.1
     c.requires.below c.get-lower.ensures).some in
     omega arith
 
-pub mergeable-requires-clause-small : goal.mergeable-requires-clause-small
-mergeable-requires-clause-small c =
+pub joinable-requires-clause-small : goal.joinable-requires-clause-small
+joinable-requires-clause-small c =
     let w = (whole_at c.requires.stands.0 (area_of c.args.areas.now) c.args.tree.now (c.args.at - 1) c.args.left c.get-lower.result
     c.requires.stands.1
     c.requires.below c.get-lower.ensures).small in
@@ -226,9 +226,9 @@ replace_both-requires-clause-stands c =
     let len = lengths c.args.areas.now c.args.anons.now in
     let joins : do_join len lower upper ≡ true =
     test_is areas (family c.args.anons.now) (spans_of c.args.anons.now) c.args.left c.args.right lower upper
-    c.chain_len-left_len.result c.chain_len-right_len.result c.mergeable.result
-    c.requires.order c.get-lower.ensures c.get-upper.ensures c.chain_len-left_len.ensures c.chain_len-right_len.ensures c.mergeable.ensures
-    ∙ c.if-not-mergeable.false in
+    c.chain_len-left_len.result c.chain_len-right_len.result c.joinable.result
+    c.requires.order c.get-lower.ensures c.get-upper.ensures c.chain_len-left_len.ensures c.chain_len-right_len.ensures c.joinable.ensures
+    ∙ c.if-not-joinable.false in
     let gone = without_here c.args.right c.args.at c.args.tree.now c.requires.stands.1.spans_are
     (right_from len c.requires.stands.0 c.args.left c.args.right c.args.at lower upper areas c.args.tree.now c.requires.stands.1 c.requires.below
     c.requires.above c.get-lower.ensures c.get-upper.ensures joins) in
@@ -239,16 +239,16 @@ replace_both-requires-clause-stands c =
     c.requires.stands.1 c.requires.below c.requires.above c.get-lower.ensures c.get-upper.ensures joins
     (area_of c.take.new.areas) (without_area c.args.right c.args.tree.now) now gone.good gone.areas gone.pages)
 
-pub returns-then-not-mergeable-clause-pages : goal.returns-then-not-mergeable-clause-pages
-returns-then-not-mergeable-clause-pages c =
+pub returns-then-not-joinable-clause-pages : goal.returns-then-not-joinable-clause-pages
+returns-then-not-joinable-clause-pages c =
     apart_stay (lengths c.args.areas.now c.args.anons.now) c.args.at c.args.left c.args.right (area_of c.args.areas.now) c.args.tree.now
     c.get-lower.result
     c.get-upper.result c.requires.below c.requires.above c.get-lower.ensures c.get-upper.ensures
     (test_is (area_of c.args.areas.now) (family c.args.anons.now) (spans_of c.args.anons.now) c.args.left c.args.right c.get-lower.result
     c.get-upper.result
-    c.chain_len-left_len.result c.chain_len-right_len.result c.mergeable.result
-    c.requires.order c.get-lower.ensures c.get-upper.ensures c.chain_len-left_len.ensures c.chain_len-right_len.ensures c.mergeable.ensures
-    ∙ c.if-not-mergeable.true)
+    c.chain_len-left_len.result c.chain_len-right_len.result c.joinable.result
+    c.requires.order c.get-lower.ensures c.get-upper.ensures c.chain_len-left_len.ensures c.chain_len-right_len.ensures c.joinable.ensures
+    ∙ c.if-not-joinable.true)
 
 pub replace_both-requires-clause-was : goal.replace_both-requires-clause-was
 replace_both-requires-clause-was c =
@@ -258,9 +258,9 @@ replace_both-requires-clause-was c =
     let len = lengths c.args.areas.now c.args.anons.now in
     let joins : do_join len lower upper ≡ true =
     test_is areas (family c.args.anons.now) (spans_of c.args.anons.now) c.args.left c.args.right lower upper
-    c.chain_len-left_len.result c.chain_len-right_len.result c.mergeable.result
-    c.requires.order c.get-lower.ensures c.get-upper.ensures c.chain_len-left_len.ensures c.chain_len-right_len.ensures c.mergeable.ensures
-    ∙ c.if-not-mergeable.false in
+    c.chain_len-left_len.result c.chain_len-right_len.result c.joinable.result
+    c.requires.order c.get-lower.ensures c.get-upper.ensures c.chain_len-left_len.ensures c.chain_len-right_len.ensures c.joinable.ensures
+    ∙ c.if-not-joinable.false in
     let gone = without_here c.args.right c.args.at c.args.tree.now c.requires.stands.1.spans_are
     (right_from len c.requires.stands.0 c.args.left c.args.right c.args.at lower upper areas c.args.tree.now c.requires.stands.1 c.requires.below
     c.requires.above c.get-lower.ensures c.get-upper.ensures joins) in
@@ -285,9 +285,9 @@ returns-clause-number c =
     let len = lengths c.args.areas.now c.args.anons.now in
     let joins : do_join len lower upper ≡ true =
     test_is areas (family c.args.anons.now) (spans_of c.args.anons.now) c.args.left c.args.right lower upper
-    c.chain_len-left_len.result c.chain_len-right_len.result c.mergeable.result
-    c.requires.order c.get-lower.ensures c.get-upper.ensures c.chain_len-left_len.ensures c.chain_len-right_len.ensures c.mergeable.ensures
-    ∙ c.if-not-mergeable.false in
+    c.chain_len-left_len.result c.chain_len-right_len.result c.joinable.result
+    c.requires.order c.get-lower.ensures c.get-upper.ensures c.chain_len-left_len.ensures c.chain_len-right_len.ensures c.joinable.ensures
+    ∙ c.if-not-joinable.false in
     λ page e. c.replace_both.ensures.number page
     ∙ ap (λ (a : Area). cond (has_page a page) (Some c.args.left)
     (unless_area c.args.left (area_at (without_area c.args.right c.args.tree.now) page)))
@@ -303,9 +303,9 @@ returns-clause-others c =
     let len = lengths c.args.areas.now c.args.anons.now in
     let joins : do_join len lower upper ≡ true =
     test_is areas (family c.args.anons.now) (spans_of c.args.anons.now) c.args.left c.args.right lower upper
-    c.chain_len-left_len.result c.chain_len-right_len.result c.mergeable.result
-    c.requires.order c.get-lower.ensures c.get-upper.ensures c.chain_len-left_len.ensures c.chain_len-right_len.ensures c.mergeable.ensures
-    ∙ c.if-not-mergeable.false in
+    c.chain_len-left_len.result c.chain_len-right_len.result c.joinable.result
+    c.requires.order c.get-lower.ensures c.get-upper.ensures c.chain_len-left_len.ensures c.chain_len-right_len.ensures c.joinable.ensures
+    ∙ c.if-not-joinable.false in
     let gone = without_here c.args.right c.args.at c.args.tree.now c.requires.stands.1.spans_are
     (right_from len c.requires.stands.0 c.args.left c.args.right c.args.at lower upper areas c.args.tree.now c.requires.stands.1 c.requires.below
     c.requires.above c.get-lower.ensures c.get-upper.ensures joins) in
