@@ -3,7 +3,7 @@
 use Rattle.std.specs.Prelude.{ℕ, ◌+◌, Bool, true, false, not, ◌==◌, if◌then◌else◌, ◌&&◌, List, []}
 use Rattle.std.specs.Prelude.{◌∷◌, ◌++◌, Option, Some, None, ◌≡◌, ◌||◌, is_none, length, nat_lt}
 use Rattle.std.specs.Prelude.{nat_le, ◌^◌}
-use Rattle.av_base.specs.Limits.{most_frames, most_processes, low_page, top_page}
+use Rattle.av_base.specs.Limits.{most_locked, most_processes, low_page, top_page}
 use Rattle.av_base.specs.Page.{page_of, address_of, pages_met, pages_of, is_on_page}
 use Rattle.av_base.specs.declared.slot.Slot.{Slot}
 use Rattle.av_trace.specs.declared.command.Command.{Command}
@@ -67,7 +67,7 @@ ends_too_high a len = nat_le (2 ^ 64) (address_of (page_of a + pages_met a len))
 
 -- these are more than may be locked at once: as many as a machine has frames at most
 abbrev pub locks_too_many : ℕ → ℕ → Bool
-locks_too_many a len = nat_lt most_frames (pages_met a len)
+locks_too_many a len = nat_lt most_locked (pages_met a len)
 
 -- the first address that no process can have, and the lowest that can be mapped
 abbrev pub top : ℕ
