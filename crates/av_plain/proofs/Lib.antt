@@ -26,3 +26,4 @@ pub mod Compacted
 pub mod OneFrame
 pub mod OneMerge
 pub mod Device
+pub mod Midway

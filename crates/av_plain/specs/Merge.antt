@@ -11,7 +11,8 @@ use Rattle.av_trace.specs.declared.reply.Answer.TheVariants.{Done}
 use Rattle.av_trace.specs.declared.row.Row.{Row}
 use Rattle.av_plain.specs.Event.{Event, after_notes, frame_of, note_events}
 use Rattle.av_plain.specs.Fault.{is_locked}
-use Rattle.av_plain.specs.Ledger.{Key, Ledger, Setting, entry, is_merged, names_frame, slot_of}
+use Rattle.av_plain.specs.Ledger.{InFrame, Key, Ledger, Setting, entry, is_merged, names_frame}
+use Rattle.av_plain.specs.Ledger.{slot_of}
 use Rattle.av_plain.specs.World.{Holds, Page, World, pages}
 
 -- ---- what frames hold
@@ -124,3 +125,14 @@ Claims w k i b = IsSomeAnd (pages w k.0 k.1) (λ p. p.bytes i ≡ Some b)
 -- two pages claim each byte, and the same
 abbrev pub ClaimSame : World → Key → Key → Type 0
 ClaimSame w k q = (i : ℕ) → i < page_size → (b : ℕ) × Claims w k i b × Claims w q i b
+
+-- ---- what a page joins
+
+-- the page's entry named one frame, and names a merged one now, unseen, that holds the same
+pub record HasJoined (held : FrameBytes) (l l' : Ledger) (k : Key) : Type 0 where
+  pub was : ℕ
+  pub frame : ℕ
+  pub named : frame_named l k ≡ Some was
+  pub entry_is : entry l' k ≡ Some (InFrame frame false)
+  pub merged : is_merged l' frame ≡ true
+  pub same : hold_same held frame was ≡ true
