@@ -14,7 +14,7 @@ ghost use Rattle.av_plain.specs.Pass.{frames_in_turn, out_of};
 ghost use Rattle.av_plain.specs.Reclaim.{cause_of};
 ghost use Rattle.av_plain.specs.Merge.{ClaimSame, Has, HasJoined, HoldClaims, Merges, candidates};
 ghost use Rattle.av_plain.specs.Merge.{frame_named, merges};
-ghost use Rattle.av_plain.specs.Compact.{AreLowest, Compacts, next_move};
+ghost use Rattle.av_plain.specs.Compact.{Compacts, IsCompacted, next_move};
 ghost use Rattle.av_plain.specs.Step.{next_world};
 ghost use Rattle.av_plain.specs.Sound.{AllSound};
 ghost use Rattle.av_laws.specs.Examples.{machine};
@@ -46,14 +46,15 @@ pub fn merges_share_frames()
 {}
 
 /// A compaction changes no memory. After it the frames in use are the lowest, as many as are in
-/// use; each walk is that of the frame it went over from, and slots and lists count what they did.
+/// use. Each is at a place of its own, and the ledger has there all that it had of the frame: its
+/// walk and seen bits, and its place in the cache, in its list and among the merged ones.
 pub fn compactions_take_the_lowest_frames()
     ensures world { (m : Setting) (w : World) (l : Ledger) (events : List Event) (answer : Answer)
         (rows : List Row) → Compacts m l events answer rows
         → next_world m w l events Compact answer ≡ w }
     ensures lowest { (m : Setting) (w : World) (l : Ledger) (events : List Event) (answer : Answer)
         (rows : List Row) → AllSound m w l → Compacts m l events answer rows
-        → AreLowest m l (after_all l events) }
+        → IsCompacted m l (after_all l events) }
 {}
 
 /// Three pages with equal bytes come to share the first one's frame, and the others' are free. A

@@ -27,3 +27,4 @@ pub mod OneFrame
 pub mod OneMerge
 pub mod Device
 pub mod Midway
+pub mod Items

@@ -1,7 +1,6 @@
 -- What a command has changed that is refused in its midst, or that ends there: an mprotect, an mlock or a munlock at a hole, a madvise at a hole or a
 -- locked page, an mlock that has no frame for a page or can't read it.
-use Rattle.std.proofs.Common.{◌≡◌, ◌⊎◌, inl, inr, ℕ, zero, suc, ◌+◌, ◌<◌, ◌≤◌, Bool, true, false, cond, ◌&&◌, nat_lt, List, [], ◌∷◌, Option, Some, None, is_some, option_map, refl, sym, ap, subst, ◌∙◌, arith, ◌==◌, if◌then◌else◌, not, MatchBool}
-use Rattle.std.proofs.lemmas.Bool.{false≢true}
+use Rattle.std.proofs.Common.{◌≡◌, ◌⊎◌, inl, inr, ℕ, zero, suc, ◌+◌, ◌<◌, ◌≤◌, Bool, true, false, cond, ◌&&◌, nat_lt, List, [], ◌∷◌, Option, Some, None, option_map, refl, sym, ap, subst, ◌∙◌, arith, ◌==◌, if◌then◌else◌, not, MatchBool}
 use Rattle.std.proofs.lemmas.Bool.Decides.{nat_tests}
 use Rattle.std.specs.Ordering.{eq_by_cmp, nat_cmp}
 use Rattle.std.specs.List.{list_all}
@@ -15,23 +14,22 @@ use Rattle.av_trace.specs.declared.advice.Advice.{Advice}
 use Rattle.av_trace.specs.declared.advice.Advice.TheVariants.{DontNeed}
 use Rattle.av_trace.specs.declared.command.Command.{Command}
 use Rattle.av_trace.specs.declared.command.Command.TheVariants.{Madvise, Mlock, Mprotect, Munlock}
-use Rattle.av_trace.specs.declared.reply.Answer.{Answer}
 use Rattle.av_trace.specs.declared.reply.Answer.TheVariants.{Done, Refused}
 use Rattle.av_trace.specs.declared.reply.Errno.{Errno}
 use Rattle.av_trace.specs.declared.reply.Errno.TheVariants.{Einval, Enomem, Esrch}
 use Rattle.av_trace.specs.declared.reply.Reply.{Reply}
 use Rattle.av_plain.specs.Access.{End, Stopped, Whole, write_answer}
-use Rattle.av_plain.specs.Advice.{advice_answer, advice_events, advised, flag_of_advice, pages_advised, with_advice}
-use Rattle.av_plain.specs.Event.{Event, FlagSet, after_all}
+use Rattle.av_plain.specs.Advice.{advice_events, advised, flag_of_advice, pages_advised, with_advice}
+use Rattle.av_plain.specs.Event.{Event, after_all}
 use Rattle.av_plain.specs.Fault.{Denied, Lost, Starved}
 use Rattle.av_plain.specs.Ledger.{Ledger, Setting, entry}
 use Rattle.av_plain.specs.Load.{with_loads}
 use Rattle.av_plain.specs.Lock.{BringsIn, lock_event, with_lock}
-use Rattle.av_plain.specs.Map.{StopsAtHole, hole_answer, with_prot_to_hole}
+use Rattle.av_plain.specs.Map.{StopsAtHole, with_prot_to_hole}
 use Rattle.av_plain.specs.Refusal.{Refuses, ends_too_high, is_bad_range, locks_too_many, refusal, tests, wraps}
 use Rattle.av_plain.specs.Step.{Follows, IsLegal, next, next_world}
 use Rattle.av_plain.specs.World.{ChangesOnly, Page, Process, World, is_locked_page, is_mapped, lives, pages, pages_to_hole, pages_to_locked, set_process, wiped, with_change_on, with_page_flag, with_prot}
-use Rattle.av_plain.specs.Zap.{keys_in, zaps_of}
+use Rattle.av_plain.specs.Zap.{keys_in}
 use Rattle.av_plain.proofs.Load.{loads_nothing, without-loads, zaps-load_nothing}
 use Rattle.av_plain.proofs.Refusal.{loads-none, write-refused}
 use Rattle.av_plain.proofs.Sound.{lives-loads, map_count-loads}

@@ -6,10 +6,8 @@ use Rattle.std.specs.FinMap.Entries.{find as find_in, is_sorted}
 use Rattle.std.specs.List.{find, list_all, list_any, range_with_len}
 use Rattle.std.specs.Option.{option_or}
 use Rattle.std.specs.Prelude.{IfSome, IsSome, IsSomeAnd, option_and_then}
-use Rattle.av_base.specs.Page.{address_of, page_size}
-use Rattle.av_base.specs.Words.{how_many}
-use Rattle.av_trace.specs.declared.note.Note.{Note}
-use Rattle.av_trace.specs.declared.note.Note.TheVariants.{Joined, Shared}
+use Rattle.av_base.specs.Page.{page_size}
+use Rattle.av_trace.specs.declared.note.Note.TheVariants.{Shared}
 use Rattle.av_trace.specs.declared.reply.Answer.{Answer}
 use Rattle.av_trace.specs.declared.row.Row.{Row}
 use Rattle.av_plain.specs.Event.{Event, after_all, after_note, after_notes, change_frame, frame_of, set_entry}

@@ -1,6 +1,5 @@
 -- A command that is refused changes nothing, but for those that end midway.
-use Rattle.std.proofs.Common.{◌≡◌, ◌⊎◌, inl, inr, ℕ, ◌<◌, ◌≤◌, Bool, true, false, cond, not, List, [], Option, Some, None, is_some, refl, sym, ap, subst, ◌∙◌, arith, ◌==◌, if◌then◌else◌}
-use Rattle.std.proofs.lemmas.Bool.Decides.{nat_tests}
+use Rattle.std.proofs.Common.{◌≡◌, ℕ, Bool, true, false, cond, not, List, [], Option, Some, None, is_some, refl, sym, ap, subst, ◌∙◌, if◌then◌else◌}
 use Rattle.std.specs.Option.{option_map_or}
 use Rattle.std.specs.Prelude.{◌||◌, MatchOption, length, nat_le}
 use Rattle.av_trace.specs.declared.command.Command.{Command}
@@ -27,14 +26,13 @@ use Rattle.av_plain.specs.Event.{Event, after_all}
 use Rattle.av_plain.specs.Fault.{Denied, Lost, Starved, Stop}
 use Rattle.av_plain.specs.Ledger.{Entry, InFrame, InSlot, Ledger, Setting, Zero, entry}
 use Rattle.av_plain.specs.Load.{with_loads}
-use Rattle.av_plain.specs.Map.{StopsAtHole, with_prot_to_hole, zaps_for_place}
+use Rattle.av_plain.specs.Map.{with_prot_to_hole, zaps_for_place}
 use Rattle.av_plain.specs.Mremap.{events_to, have_prot, is_in_place, target_of}
 use Rattle.av_plain.specs.Place.{Goes, IsMapAt}
 use Rattle.av_plain.specs.Refusal.{Refuses, is_bad_range, locks_too_many, ends_too_high, are_bad_lengths, is_below_low, may_end_midway, is_no_target, is_tail_too_high, lacks_pages, refusal, tests, wraps}
 use Rattle.av_plain.specs.Report.{entry_answer, walk_answer}
 use Rattle.av_plain.specs.Step.{Follows, IsLegal, next, next_world}
-use Rattle.av_plain.specs.World.{Page, Process, World, lives, pages, pages_to_hole}
-use Rattle.av_plain.proofs.World.Ranges.{pages_to_hole-most}
+use Rattle.av_plain.specs.World.{Page, Process, World, lives, pages}
 use Rattle.av_trace.specs.declared.command.Command.TheVariants.{Compact, Merge}
 
 -- without events nothing is loaded

@@ -1,5 +1,5 @@
 -- Ranges are mapped, unmapped and protected.
-use Rattle.std.specs.Prelude.{ℕ, false, ◌==◌, if◌then◌else◌, List, [], Option, ◌≡◌, ◌<◌}
+use Rattle.std.specs.Prelude.{ℕ, ◌==◌, if◌then◌else◌, List, [], Option, ◌≡◌, ◌<◌}
 use Rattle.av_base.specs.Page.{page_of}
 use Rattle.av_base.specs.declared.prot.Prot.{Prot}
 use Rattle.av_trace.specs.declared.place.Place.{Place}
