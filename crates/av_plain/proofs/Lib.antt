@@ -27,3 +27,5 @@ pub mod Compacted
 pub mod OneFrame
 pub mod OneMerge
 pub mod Device
+pub mod Midway
+pub mod Items

@@ -97,8 +97,9 @@ pub record AreLeft (anons : Anons) (on : Areas) (left : Anons) : Type 0 where
 
 -- ---- homes
 
--- for each frame that a page got, its home: an anon_vma and a linear index. Until its first page a
--- frame has none; one that is free keeps the last
+-- for each frame that a page got, its home: an anon_vma and a linear index. A frame has none until
+-- its first page, and none from where it is merged to the next page that it gets; else one that is
+-- free keeps the last
 abbrev pub Homes : Type 0
 Homes = ℕ → Option (ℕ × ℕ)
 

@@ -17,7 +17,7 @@ use Rattle.av_plain.specs.Fork.{AreForked, GoOver, GoesBy, IsIdle, IsReused, own
 use Rattle.av_plain.specs.Ledger.{Entry, Key, Ledger, entry, is_merged, key_cmp, names_frame}
 use Rattle.av_plain.specs.Report.{AreApart, range_of}
 use Rattle.av_plain.proofs.Chains.{rise-forked}
-use Rattle.av_plain.proofs.Covered.{Names, Owns, chain_there}
+use Rattle.av_plain.proofs.Covered.{Owns, chain_there}
 use Rattle.av_plain.proofs.Event.{put_all-only}
 use Rattle.av_plain.proofs.Fork.{child_ledger, copies, entry-forked, forked-is, going, handed, handed-from, unseen-names_frame}
 use Rattle.av_plain.proofs.Fork.Areas.{ChildHas, IsLeft, fork-apart, forked-area, forked_at, pages-fork, LeavesAreas, before, before-others, child-has, first_left, in_child, later_left, not_first, not_later, same, area-leaves, areas-leave, with_own, with_own-child}
