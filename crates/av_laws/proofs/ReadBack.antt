@@ -15,7 +15,7 @@ use Rattle.std.specs.Prelude.{IfSome, MatchBool, MatchOption, sum_by}
 use Rattle.std.proofs.Common.{◌≡◌, ◌⊎◌, inl, inr, ℕ, zero, suc, ◌+◌, ◌-◌, ◌^◌, ◌<◌, ◌≤◌, Bool, true, false, cond, not, ◌&&◌, List, [], ◌∷◌, ◌++◌, append-nil, map, take, reverse, length, Option, Some, None, is_some, option_map, refl, sym, ap, subst, ◌∙◌, arith, ◌==◌, nat_lt, nat_le, if◌then◌else◌}
 use Rattle.std.proofs.lemmas.Bool.Decides.{nat_tests}
 use Rattle.std.proofs.lemmas.List.{length-map}
-use Rattle.av_base.specs.Limits.{most_frames, most_processes, top_page}
+use Rattle.av_base.specs.Limits.{most_locked, most_processes, top_page}
 use Rattle.av_base.specs.Page.{address_of, page_of, pages_met, pages_of, page_size, place_in_page}
 use Rattle.av_base.specs.Words.{within}
 use Rattle.av_base.specs.declared.flags.Flag.{Flag}
@@ -151,7 +151,7 @@ all-locked q from (suc n) past high = all-append (λ (x : Bool × ℕ). x.1 < pa
         by false true = (below, tt)
         by false false = tt
 
-lock-stops : (m : Setting) (w : World) (l : Ledger) (p from n : ℕ) (q : Process) (events : List Event) (end : End) → n ≤ most_frames
+lock-stops : (m : Setting) (w : World) (l : Ledger) (p from n : ℕ) (q : Process) (events : List Event) (end : End) → n ≤ most_locked
     → Accesses m w l p (accesses_of q from n) events end → StopsIn (FewBefore (address_of from)) end
 lock-stops m w l p from n q events end few h = few-stop end (stops-in (λ page. page < from + n) m w l p (accesses_of q from n) events end
     (all-locked q from n (from + n) (omega arith)) h)
@@ -559,7 +559,7 @@ module _ (m : Setting) (w : World) (l : Ledger) (few : IsSmallSetting m) (s : Al
       few_pages true false true h = cc
       few_pages true false false h = refl
 
-      few_met : (n : ℕ) → nat_lt most_frames n ≡ false → n ≤ most_frames
+      few_met : (n : ℕ) → nat_lt most_locked n ≡ false → n ≤ most_locked
       few_met n h = grind (arith, nat_tests, h)
 
       event : Event
