@@ -1,10 +1,12 @@
 -- The entries of a child's table that don't go over: they are taken out, range by range.
-use Rattle.std.proofs.Common.{◌≡◌, ℕ, ◌+◌, ◌-◌, ◌≤◌, ◌<◌, Bool, true, false, cond, ◌&&◌, ◌==◌, nat_lt, Option, refl, sym, ap, ◌∙◌, arith}
+use Rattle.std.proofs.Common.{◌≡◌, ℕ, ◌+◌, ◌-◌, ◌≤◌, ◌<◌, Bool, true, false, cond, ◌&&◌, ◌==◌, nat_lt, Option, Some, refl, sym, ap, ◌∙◌, arith}
 use Rattle.std.proofs.lemmas.Bool.Decides.{nat_tests}
 use Rattle.av_base.specs.Words.{with_at, within}
 use Rattle.av_pagetable.specs.Entries.{with_entry}
 use Rattle.av_pagetable.specs.declared.pte.Pte.{Pte}
 use Rattle.av_pagetable.specs.declared.pte.Pte.TheVariants.{Empty}
+use Rattle.av_vma.specs.Index.{first_of, past_of}
+use Rattle.av_vma.specs.Pages.{AreLaid}
 use Rattle.av_vma.specs.declared.area.Area.{Area}
 use Rattle.av_fork.specs.Entries.{goes_with_entry, left_in, without_range}
 
@@ -89,6 +91,20 @@ module _ (p from next past : ℕ) (old now : ℕ → ℕ → Pte) (low : from �
       by q o false e = there q o e
 
 -- ---- area by area
+
+-- an area of a page: all of its pages from there on go over as it does
+module _ (on : ℕ → Option Area) (laid : AreLaid on) (page : ℕ) (area : Area) (at : on page ≡ Some area) where
+  pub run-further : page < past_of area
+  run-further = below (first_of area) (past_of area) (laid.here page area at)
+    where
+      below : (first past : ℕ) → within first (past - first) page ≡ true → page < past
+      below first past h = grind (arith, nat_tests, h)
+
+  pub run-alike : (other : ℕ) → page ≤ other → other < past_of area → goes_with_entry (on other) ≡ goes_with_entry (Some area)
+  run-alike other low high = ap goes_with_entry (laid.all page other area at (inside (first_of area) (past_of area) (laid.here page area at) high))
+    where
+      inside : (first past : ℕ) → within first (past - first) page ≡ true → other < past → within first (past - first) other ≡ true
+      inside first past h high = grind (arith, nat_tests, h, low, high)
 
 -- the tables where a process has no entry below a page that doesn't go over, by these areas
 abbrev pub left_below : (ℕ → Option Area) → ℕ → ℕ → (ℕ → ℕ → Pte) → ℕ → ℕ → Pte

@@ -173,10 +173,10 @@ module _ (old : Mem) (p q : ℕ) where
       unseen-slot s (Away t) = refl
 
       -- where it has one
-      handed : (t : Entry → Bool) → IsBlind t → (b : Bool) (e : Pte)
+      handed-passes : (t : Entry → Bool) → IsBlind t → (b : Bool) (e : Pte)
           → entry_passes t (plain (cond b (child_entry e) Empty)) ≡ entry_passes t (cond b (plain e) None)
-      handed t blind true e = blind e
-      handed t blind false e = refl
+      handed-passes t blind true e = blind e
+      handed-passes t blind false e = refl
 
       start : ℕ
       start = page / 64 * 64
@@ -185,9 +185,9 @@ module _ (old : Mem) (p q : ℕ) where
           ≡ k + more (goes_on old p) (view old) p ((page / 64 + 1) * 64) t
       joined k t blind = add k _ _ _ (sym (
           ap (λ n. more (goes_on old p) (view old) p n t) (sym at.past)
-          ∙ tally-group (λ o. entry_passes t (handed_pte (goes_on old p) (view old) p o)) (λ e. entry_passes t (plain e)) group Empty start
+          ∙ tally-group (λ o. entry_passes t (handed_pte (goes_on old p) p (view old) o)) (λ e. entry_passes t (plain e)) group Empty start
           (λ i low. ap (λ e. entry_passes t (plain e)) (are i (omega (arith, low, long)) ∙ copies (start + i))
-          ∙ handed t blind (goes_on old p (start + i)) (entry_at old.tables p (start + i)))
+          ∙ handed-passes t blind (goes_on old p (start + i)) (entry_at old.tables p (start + i)))
           ∙ ap (λ c. c + how_many (λ e. entry_passes t (plain e)) group) skipped
           ))
         where
