@@ -31,7 +31,7 @@ use Rattle.av_plain.specs.Fork.{inheritance}
 use Rattle.av_plain.specs.Ledger.{Entry, InFrame, InSlot, Key, Ledger, Setting, SwapArea, Zero, entry, frame_at, is_merged, key_cmp, keys_of_slot, names_frame, names_slot, slot_of, slots_in_use}
 use Rattle.av_plain.specs.Lock.{BringsIn, accesses_of, with_lock}
 use Rattle.av_plain.specs.Map.{zaps_for_place}
-use Rattle.av_plain.specs.Merge.{FrameBytes, candidate, frame_if, is_candidate, join_notes, may_merge, merge_notes, merged_like, merges, other_like, with_candidate}
+use Rattle.av_plain.specs.Merge.{FrameBytes, candidate, candidate_by, join_notes, may_merge, merge_notes, merged_like, merges, other_like, with_candidate}
 use Rattle.av_plain.specs.Mremap.{events_to, range_zaps, remap_events}
 use Rattle.av_plain.specs.Pass.{Seeks, Spared, TakesFor}
 use Rattle.av_plain.specs.Reclaim.{from_tail}
@@ -378,15 +378,15 @@ module _ (k : Key) (f : ℕ) where
     no-candidate : (l : Ledger) → IsHere l → candidate w l k ≡ None
     no-candidate l h = by (found l h)
       where
-        off : (a : Bool) → frame_if (a && not (is_locked w l f)) f ≡ None
-        off a = ap (λ b. frame_if (a && not b) f) (locked-named l h) ∙ none a
+        off : (a : Bool) → cond (a && not (is_locked w l f)) (Some f) None ≡ None
+        off a = ap (λ b. cond (a && not b) (Some f) None) (locked-named l h) ∙ none a
           where
-            none : (a : Bool) → frame_if (a && false) f ≡ None
+            none : (a : Bool) → cond (a && false) (Some f) None ≡ None
             none true = refl
             none false = refl
 
         by : (seen : Bool) × (entry l k ≡ Some (InFrame f seen)) → candidate w l k ≡ None
-        by (seen, is) = ap (λ o. option_and_then (λ g. frame_if (is_candidate w l k g) g) (option_and_then frame_of o)) is
+        by (seen, is) = ap (candidate_by w l k) is
             ∙ off (may_merge (pages w k.0 k.1) && not (is_merged l f) && is_none (slot_of l f))
 
     join-brings : (q : Key) (a b : Option ℕ) → misses q ≡ true → AllBring misses (join_notes q a b)
