@@ -17,6 +17,10 @@ most_processes = 4096
 abbrev pub most_frames : ℕ
 most_frames = 16384
 
+-- one command locks at most so many pages
+abbrev pub most_locked : ℕ
+most_locked = 16384
+
 -- the linear indices of an area end at most here
 abbrev pub most_indices : ℕ
 most_indices = 2 ^ 60

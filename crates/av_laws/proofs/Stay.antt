@@ -25,13 +25,13 @@ use Rattle.av_trace.specs.declared.reply.Reply.{Reply}
 use Rattle.av_trace.specs.declared.row.Row.{Row}
 use Rattle.av_plain.specs.Access.{Accesses, End, page_events, pages_of_access}
 use Rattle.av_plain.specs.Advice.{advice_events, flag_of_advice, pages_advised}
-use Rattle.av_plain.specs.Event.{Event, EntriesMoved, Forked, Noted, TurnedOn, Used, after, after_all, after_note, after_notes, after_use, after_use_of, change_entries, change_frame, frame_of, if_some, key_at, note_events, notes_of, off_cache, set_entry, with_stale, without_seen, Inherited}
+use Rattle.av_plain.specs.Event.{Event, EntriesMoved, Forked, Noted, TurnedOn, Used, after, after_all, after_note, after_notes, after_use, after_use_of, change_entries, change_frame, frame_of, if_some, key_at, note_events, notes_of, off_cache, set_entry, with_stale, without_seen}
 use Rattle.av_plain.specs.Fault.{ComesIn, CopyOnWrite, Denied, IsMade, Lost, MapCached, Need, NewPage, Ready, RunsOut, Serves, Starved, Stop, SwapIn, Touches, ZeroPage, drop_at, drop_of_entry, drop_of_slot, is_locked, asks_copy, need, pinned_by, sparing, was_slot}
 use Rattle.av_plain.specs.Fork.{inheritance}
 use Rattle.av_plain.specs.Ledger.{Entry, InFrame, InSlot, Key, Ledger, Setting, SwapArea, Zero, entry, frame_at, is_merged, key_cmp, keys_of_slot, names_frame, names_slot, slot_of, slots_in_use}
 use Rattle.av_plain.specs.Lock.{BringsIn, accesses_of, with_lock}
 use Rattle.av_plain.specs.Map.{zaps_for_place}
-use Rattle.av_plain.specs.Merge.{FrameBytes, candidate, frame_if, is_candidate, join_notes, may_merge, merge_notes, merged_like, merges, other_like, with_candidate}
+use Rattle.av_plain.specs.Merge.{FrameBytes, candidate, candidate_by, join_notes, may_merge, merge_notes, merged_like, merges, other_like, with_candidate}
 use Rattle.av_plain.specs.Mremap.{events_to, range_zaps, remap_events}
 use Rattle.av_plain.specs.Pass.{Seeks, Spared, TakesFor}
 use Rattle.av_plain.specs.Reclaim.{from_tail}
@@ -378,15 +378,15 @@ module _ (k : Key) (f : ℕ) where
     no-candidate : (l : Ledger) → IsHere l → candidate w l k ≡ None
     no-candidate l h = by (found l h)
       where
-        off : (a : Bool) → frame_if (a && not (is_locked w l f)) f ≡ None
-        off a = ap (λ b. frame_if (a && not b) f) (locked-named l h) ∙ none a
+        off : (a : Bool) → cond (a && not (is_locked w l f)) (Some f) None ≡ None
+        off a = ap (λ b. cond (a && not b) (Some f) None) (locked-named l h) ∙ none a
           where
-            none : (a : Bool) → frame_if (a && false) f ≡ None
+            none : (a : Bool) → cond (a && false) (Some f) None ≡ None
             none true = refl
             none false = refl
 
         by : (seen : Bool) × (entry l k ≡ Some (InFrame f seen)) → candidate w l k ≡ None
-        by (seen, is) = ap (λ o. option_and_then (λ g. frame_if (is_candidate w l k g) g) (option_and_then frame_of o)) is
+        by (seen, is) = ap (candidate_by w l k) is
             ∙ off (may_merge (pages w k.0 k.1) && not (is_merged l f) && is_none (slot_of l f))
 
     join-brings : (q : Key) (a b : Option ℕ) → misses q ≡ true → AllBring misses (join_notes q a b)
@@ -551,7 +551,7 @@ module _ (m : Setting) (w : World) (l : Ledger) (s : AllSound m w l) (k : Key) (
   follows-stays (Fork p q) es answer rows fine x locked keeps still uncopied h = at-events es (Forked p q goes ∷ []) x.1
       (subst (λ o. IsSomeAnd o (λ e. names_frame f e ≡ true)) (sym (entry-forked p q goes l k s.ledger.in_order)) (child (k.0 == q) refl))
     where
-      goes : List Inherited
+      goes : List ℕ
       goes = inheritance (pages w p) l p
 
       child : (b : Bool) → (k.0 == q) ≡ b

@@ -3,7 +3,7 @@ use Rattle.std.specs.List.{AllByRecursion, range_with_len}
 use Rattle.std.proofs.Common.{◌≡◌, ◌⊎◌, inl, inr, ℕ, zero, suc, ◌+◌, ◌-◌, ◌*◌, ◌≤◌, min, Bool, true, false, cond, List, [], ◌∷◌, ◌++◌, length, map, not, nat_lt, take, Option, Some, None, append-nil, refl, sym, ap, subst, ◌∙◌, arith, ◌==◌, if◌then◌else◌}
 use Rattle.std.proofs.lemmas.List.{length-append}
 use Rattle.std.specs.Prelude.{MatchBool, MatchOption, filter}
-use Rattle.av_base.specs.Limits.{most_frames, top_page}
+use Rattle.av_base.specs.Limits.{most_locked, top_page}
 use Rattle.av_base.specs.Page.{address_of, page_of, pages_met, pages_of, place_in_page}
 use Rattle.av_base.specs.Words.{how_many, with_at}
 use Rattle.av_base.specs.declared.slot.Slot.{Slot}
@@ -363,7 +363,7 @@ legal-new m w l command reply es fit legal = by (refusal (tests m w l command)) 
     few_pages true false true h = cc
     few_pages true false false h = refl
 
-    few_met : (n : ℕ) → nat_lt most_frames n ≡ false → n ≤ 16384
+    few_met : (n : ℕ) → nat_lt most_locked n ≡ false → n ≤ 16384
     few_met n h = grind (arith, nat_tests, h)
 
     follows : (command : Command) → IsInRange command → refusal (tests m w l command) ≡ None
