@@ -102,10 +102,6 @@ abbrev pub head_with : Place → Option Head → Head
 head_with p None = record { first = p; last = p; count = 1 }
 head_with p (Some h) = record { first = h.first; last = p; count = h.count + 1 }
 
-abbrev pub or_place : Place → Option Place → Place
-or_place p None = p
-or_place p (Some q) = q
-
 -- a list without a node that had these neighbours
 abbrev pub head_beside : Sides → Head → Option Place → Option Place → Option Head
 head_beside s h None None = None

@@ -75,10 +75,6 @@ join_of left right = record left { end = right.end; anon = option_or left.anon r
 abbrev pub Lengths : Type 0
 Lengths = Option ℕ → ℕ
 
--- where no area has an anon_vma no chain has a node
-abbrev pub no_chains : Lengths
-no_chains own = 0
-
 -- whether two areas join
 abbrev pub do_join : Lengths → Area → Area → Bool
 do_join len left right = are_joinable left (len left.anon) right (len right.anon)
