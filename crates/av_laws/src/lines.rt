@@ -48,8 +48,7 @@ pub fn answers_say()
 
 /// An area's row has addresses and offset in hexadecimal digits, its anon_vmas in decimal ones.
 pub fn rows_say()
-    ensures in_digits {
-        row_line (Area 0x10000 0x11000 read_write 16 (Some 10) (9 ∷ 10 ∷ []) no_flags)
+    ensures in_digits { row_line (Area 0x10000 0x11000 read_write 16 (Some 10) (9 ∷ 10 ∷ []) no_flags)
         ≡ codes "10000-11000 rw- off=10 own=10 chain=9,10" }
     ensures flagged { row_line (Area 0x7fffffffd000 0x7fffffffe000 read_write 0x7fffffffd None []
         (with_flag WipeOnFork true no_flags))
