@@ -50,8 +50,9 @@ pub use flags::{
 };
 pub use forks::forks_follow;
 pub use frames::{
-    compactions_take_the_lowest_frames, frames_are_shared_and_move, last_copies_free_merged_frames,
-    merged_frames_are_left_alone, merges_share_frames,
+    compactions_order_free_frames, compactions_take_the_lowest_frames, frames_are_shared_and_move,
+    kept_frames_stay_seen, last_copies_free_merged_frames, merged_frames_are_left_alone,
+    merges_ask_each_page, merges_share_frames,
 };
 pub use free::{runs_list_free_frames, runs_list_free_slots};
 pub use homes::{homes_are_of_pages, homes_cover_entries, homes_cover_slots, homes_follow};

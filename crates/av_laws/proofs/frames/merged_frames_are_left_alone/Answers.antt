@@ -15,3 +15,6 @@ returns-clause-numbers c = refl
 
 pub returns-clause-joins : goal.returns-clause-joins
 returns-clause-joins c = refl
+
+pub returns-clause-locked_counts_first : goal.returns-clause-locked_counts_first
+returns-clause-locked_counts_first c = refl
