@@ -1,13 +1,16 @@
 -- Worked examples for flags of pages: what advice, locks and forks make of pages and areas, and
 -- which frames stay. Which example would fail if a definition were wrong:
---   refusals and their order (`tests`): refusals_of_advice, refusals_of_locks
+--   refusals and their order (`tests`): refusals_of_advice, refusals_of_locks; which pages a lock
+--     meets (`ends_too_high`, `locks_too_many`): nothing_at_the_end, past_the_end, more_than_may
+--   the flag that an advice is about (`flag_of_advice`): forks_again, kept_again, not_merged,
+--     may_be_merged
 --   the pages over which an advice goes (`pages_to_locked`, `with_advice`): over_a_hole,
 --     zeros_over_a_hole, zeros_to_locked, none_behind_locked, none_where_bad
 --   a lock (`with_lock`, `lock_event`): locked_to_hole, too_many, of_bytes; which pages it brings
 --     in, and how (`access_of`):
---     brought_in, not_all_mapped
+--     brought_in, not_all_mapped, by_protection; and how much is told (`BringsIn`): from_the_page
 --   what a child gets (`page_of_child`, `inheritance`): with_flags, zeros_in_child,
---     whole_in_child, inherited; its areas (`areas_to_fork`, `own_to_fork`, `forked_area`):
+--     whole_in_child, merged_in_child, inherited; its areas (`areas_to_fork`, `own_to_fork`, `forked_area`):
 --     `by_flags` of `Forks`
 --   flags that are moved (`process_after_mremap`, `left_behind`): added, left; areas
 --     (`pages_left`): `two_leave_two` of `Mremap`
@@ -34,10 +37,10 @@ use Rattle.av_plain.specs.Event.{FlagSet}
 use Rattle.av_plain.specs.Ledger.{InFrame, InSlot, first_ledger}
 use Rattle.av_plain.specs.Step.{next}
 use Rattle.av_plain.specs.Transcript.{State}
-use Rattle.av_plain.specs.World.{Page, Process, World, pages}
+use Rattle.av_plain.specs.World.{Page, Process, World, pages, zeros}
 use Rattle.av_laws.specs.Areas.{area, rmap_with}
-use Rattle.av_laws.specs.Examples.{one_area, only_frames, page_with, read_write, slot, state_of}
-use Rattle.av_laws.specs.Examples.{with_slots}
+use Rattle.av_laws.specs.Examples.{execute_only, no_access, one_area, only_frames, page_with}
+use Rattle.av_laws.specs.Examples.{read_only, read_write, slot, state_of, with_slots, write_only}
 
 -- ---- flags
 
@@ -49,6 +52,9 @@ wiped_off = with_flag flags.WipeOnFork true no_flags
 
 abbrev pub locked : Flags
 locked = with_flag flags.Locked true no_flags
+
+abbrev pub all_set : Flags
+all_set = record { dont_fork = true; wipe_on_fork = true; locked = true; mergeable = true }
 
 -- these are the flags of a process's pages from one on, after a command that was answered so
 abbrev pub LeavesFlags : World → Command → Answer → ℕ → ℕ → List (Option Flags) → Type 0
@@ -140,3 +146,13 @@ refusals_of_locks =
     ∷ (Munlock 2 0x10000 18446744073709551615, Some Esrch)
     ∷ (Munlock 1 0x10000 18446744073709551615, Some Einval) ∷ (Munlock 1 0x10000 67108865, None)
     ∷ []
+
+-- ---- protections
+
+-- pages 0x10 to 0x13 allow nothing, reads, writes, or to be executed
+abbrev pub four_kinds : Process
+four_kinds page =
+    if page == 0x10 then Some (zeros no_access)
+    else (if page == 0x11 then Some (zeros read_only)
+    else (if page == 0x12 then Some (zeros write_only)
+    else (if page == 0x13 then Some (zeros execute_only) else None)))

@@ -1,6 +1,6 @@
 //! What a merge and a compaction make of the frames.
 
-ghost use Rattle.std.specs.Prelude.{◌≡◌, ◌⊎◌, ℕ, List, [], ◌∷◌, map, Some, None, true};
+ghost use Rattle.std.specs.Prelude.{◌≡◌, ◌⊎◌, ℕ, List, [], ◌∷◌, map, Some, None, true, false};
 ghost use Rattle.av_trace.specs.declared.command.Command.TheVariants.{Compact, Merge};
 ghost use Rattle.av_trace.specs.declared.note.Cause.TheVariants.{Ksm, Locked};
 ghost use Rattle.av_trace.specs.declared.note.Note.TheVariants.{Copied, Joined, Kept, Moved};
@@ -9,7 +9,8 @@ ghost use Rattle.av_trace.specs.declared.reply.Answer.{Answer};
 ghost use Rattle.av_trace.specs.declared.reply.Answer.TheVariants.{Done};
 ghost use Rattle.av_trace.specs.declared.row.Row.{Row};
 ghost use Rattle.av_plain.specs.World.{World};
-ghost use Rattle.av_plain.specs.Ledger.{Entry, Key, Ledger, Setting, entry, free_frames, walk};
+ghost use Rattle.av_plain.specs.Ledger.{Entry, InFrame, Key, Ledger, Setting, entry};
+ghost use Rattle.av_plain.specs.Ledger.{free_frames, walk};
 ghost use Rattle.av_plain.specs.Choice.{ChoosesFrame};
 ghost use Rattle.av_plain.specs.Event.{Event, FreeSorted, Noted, after_all, after_note};
 ghost use Rattle.av_plain.specs.Event.{after_notes};
@@ -21,7 +22,8 @@ ghost use Rattle.av_plain.specs.Merge.{frame_named, merges};
 ghost use Rattle.av_plain.specs.Compact.{Compacts, IsCompacted, next_move};
 ghost use Rattle.av_plain.specs.Step.{next_world};
 ghost use Rattle.av_plain.specs.Sound.{AllSound};
-ghost use Rattle.av_laws.specs.Examples.{ComesBy, at_rest, machine, reply_with};
+ghost use Rattle.av_laws.specs.Examples.{ComesBy, at_rest, cached_by, machine, reply_with};
+ghost use Rattle.av_laws.specs.Examples.{with_swap};
 ghost use Rattle.av_laws.specs.Frames.{all_join, all_zeros, keys_of_three, mergeable_pages};
 ghost use Rattle.av_laws.specs.Frames.{all_locked, locked_pages, merged_alone, none_spared};
 ghost use Rattle.av_laws.specs.Frames.{merged_at_head, merged_in_inactive, one_frame_twice};
@@ -82,6 +84,8 @@ pub fn frames_are_shared_and_move()
 pub fn merged_frames_are_left_alone()
     ensures kept { cause_of (machine 4) none_spared one_merged 3 ≡ Some Ksm }
     ensures locked_first { cause_of (machine 4) all_locked one_merged 3 ≡ Some Locked }
+    ensures locked_in_flight { cause_of (with_swap 4 8 7) all_locked
+        (cached_by (InFrame 0 false) true false).ledger 0 ≡ Some Locked }
     ensures no_turn { frames_in_turn none_spared one_merged ≡ 1 ∷ [] }
     ensures numbers { out_of (machine 4) two_spared one_merged
         ≡ record { pinned = 1; noslot = 1; fault = 0; locked = 1; ksm = 1 } }

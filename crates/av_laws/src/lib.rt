@@ -46,7 +46,8 @@ pub use examples::{
     memories_follow, pages_are_served, reports_show,
 };
 pub use flags::{
-    flags_are_refused, flags_are_told, flags_cut_areas, flags_follow, locked_frames_are_spared,
+    advice_is_about_one_flag, flags_are_refused, flags_are_told, flags_cut_areas, flags_follow,
+    locked_frames_are_spared,
 };
 pub use forks::forks_follow;
 pub use frames::{
@@ -55,7 +56,9 @@ pub use frames::{
     merges_ask_each_page, merges_share_frames,
 };
 pub use free::{runs_list_free_frames, runs_list_free_slots};
-pub use homes::{homes_are_of_pages, homes_cover_entries, homes_cover_slots, homes_follow};
+pub use homes::{
+    homes_are_of_pages, homes_cover_entries, homes_cover_slots, homes_follow, items_cover_entries,
+};
 pub use lines::{answers_say, lines_say, rows_say};
 pub use locked::locked_frames_stay;
 pub use mremap::{

@@ -18,3 +18,6 @@ returns-clause-joins c = refl
 
 pub returns-clause-locked_counts_first : goal.returns-clause-locked_counts_first
 returns-clause-locked_counts_first c = refl
+
+pub returns-clause-locked_in_flight : goal.returns-clause-locked_in_flight
+returns-clause-locked_in_flight c = refl
