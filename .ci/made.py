@@ -16,7 +16,7 @@ from reference import Reference  # pylint: disable=wrong-import-position
 # the items of a crate whose contracts carry what its head says; a crate without an entry has none
 CARRIERS = {
     "av_base": "Prot Steps",
-    "av_vma": "Areas index mergeable can_lend",
+    "av_vma": "Areas index joinable can_lend",
     "av_text": "Bytes",
     "av_trace": "parse_line one_meaning reply_text one_reply",
     "av_frames": "Frames",

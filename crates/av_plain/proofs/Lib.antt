@@ -21,6 +21,7 @@ pub mod FreeSlots
 pub mod FreeLists
 pub mod FreeSteps
 pub mod AreasLeft
+pub mod Chains
 pub mod Covered
 pub mod Compacted
 pub mod OneFrame

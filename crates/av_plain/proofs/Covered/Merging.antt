@@ -131,7 +131,7 @@ with_first_item-slots : (l : Ledger) (r : Rmap) (items : Items) → AreSlotsCove
 with_first_item-slots l r items h = record { kin = h.kin; rooted = h.rooted; cached = h.cached }
 
 with_first_item-sound : (l : Ledger) (r : Rmap) (items : Items) → IsRmapSound l r → IsRmapSound l (record r { items = items })
-with_first_item-sound l r items h = record { made = h.made; own = h.own; covered = h.covered }
+with_first_item-sound l r items h = record { made = h.made; rising = h.rising; own = h.own; covered = h.covered }
 
 -- ---- a frame is merged
 
@@ -226,7 +226,7 @@ module _ (l : Ledger) (r : Rmap) (f : ℕ) (k : Key) (h : Reach l r) (own : is_m
   shared-reach = record {
     in_order = h.in_order;
     once = h.once;
-    sound = record { made = h.sound.made; own = h.sound.own; covered = λ q g names alone. shared-covered q g names alone (g == f) refl };
+    sound = record { made = h.sound.made; rising = h.sound.rising; own = h.sound.own; covered = λ q g names alone. shared-covered q g names alone (g == f) refl };
     slots = shared-slots;
     merged = record {
       found = λ q g names is. shared-found q g names is (g == f) refl;
@@ -487,7 +487,7 @@ module _ (m : Setting) (l : Ledger) (r : Rmap) (from to : ℕ) (h : Reach l r) (
   moved-reach = record {
     in_order = subst T (sym (is_sorted-map key_cmp (placed_entry (renamed from to)) l.entries)) h.in_order;
     once = λ t. let a = slots-went m no_excuse l from to s free used below t in let o = h.once t in omega (arith, a, o);
-    sound = record { made = h.sound.made; own = h.sound.own; covered = went-covered };
+    sound = record { made = h.sound.made; rising = h.sound.rising; own = h.sound.own; covered = went-covered };
     slots = record {
       kin = h.slots.kin;
       rooted = λ t k q names other. h.slots.rooted t k q (was-slot t k names) (was-slot t q other);
