@@ -15,6 +15,7 @@
 --   flags that are moved (`process_after_mremap`, `left_behind`): added, left; areas
 --     (`pages_left`): `two_leave_two` of `Mremap`
 --   areas that are cut and joined (`rmap_after_flag`): flagged_inside, set_already, joined_again
+--   the rows of `areas` (`AreAreas`, `ShowFlags`): shown_without, shown_with_one, falling, repeated
 --   frames that stay (`is_locked`, `is_spared`, `cause_of`, `out_of`): spared_in_pass, reclaimed,
 --     all_locked
 use Rattle.std.specs.Prelude.{◌≡◌, ℕ, Bool, true, ◌==◌, if◌then◌else◌, List, [], ◌∷◌, map}
@@ -26,8 +27,11 @@ use Rattle.av_base.specs.declared.flags.Flag.TheVariants as flags
 use Rattle.av_base.specs.declared.flags.Flags.{Flags}
 use Rattle.av_trace.specs.declared.advice.Advice.TheVariants.{DontFork, DontNeed, DoFork}
 use Rattle.av_trace.specs.declared.command.Command.{Command}
-use Rattle.av_trace.specs.declared.command.Command.TheVariants.{Madvise, Mlock, Munlock}
+use Rattle.av_trace.specs.declared.command.Command.TheVariants.{Areas as AsksAreas, Madvise}
+use Rattle.av_trace.specs.declared.command.Command.TheVariants.{Mlock, Munlock}
 use Rattle.av_trace.specs.declared.reply.Answer.{Answer}
+use Rattle.av_trace.specs.declared.reply.Answer.TheVariants.{AreaList}
+use Rattle.av_trace.specs.declared.row.Row.TheVariants.{Area as AreaRow}
 use Rattle.av_trace.specs.declared.reply.Errno.{Errno}
 use Rattle.av_trace.specs.declared.reply.Errno.TheVariants.{Einval, Enomem, Esrch}
 use Rattle.av_vma.specs.Pages.{pages_in}
@@ -39,7 +43,8 @@ use Rattle.av_plain.specs.Step.{next}
 use Rattle.av_plain.specs.Transcript.{State}
 use Rattle.av_plain.specs.World.{Page, Process, World, pages, zeros}
 use Rattle.av_laws.specs.Areas.{area, rmap_with}
-use Rattle.av_laws.specs.Examples.{execute_only, no_access, one_area, only_frames, page_with}
+use Rattle.av_laws.specs.Examples.{MayNotCome, execute_only, machine, no_access, one_area}
+use Rattle.av_laws.specs.Examples.{only_frames, page_with, with_rows_of}
 use Rattle.av_laws.specs.Examples.{read_only, read_write, slot, state_of, with_slots, write_only}
 
 -- ---- flags
@@ -156,3 +161,16 @@ four_kinds page =
     else (if page == 0x11 then Some (zeros read_only)
     else (if page == 0x12 then Some (zeros write_only)
     else (if page == 0x13 then Some (zeros execute_only) else None)))
+
+-- ---- rows
+
+-- process 1 has the topmost page, with these flags
+abbrev pub topmost_like : Flags → World
+topmost_like all = (1, λ page. if page == 0x7fffffffe then Some (page_like 0 all) else None) ∷ []
+
+-- `areas` doesn't show it with those flags, and this chain
+abbrev pub NotShown : Flags → Flags → List ℕ → Type 0
+NotShown all shown chain =
+    MayNotCome (machine 4) (topmost_like all) first_ledger (AsksAreas 1)
+    (with_rows_of (AreaList 1)
+    (AreaRow 0x7fffffffe000 0x7ffffffff000 read_write 5 None chain shown ∷ []))

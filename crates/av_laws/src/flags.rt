@@ -54,6 +54,7 @@ ghost use Rattle.av_laws.specs.Examples.{
 ghost use Rattle.av_laws.specs.Flags.{
   CutsAreas,
   LeavesFlags,
+  NotShown,
   all_set,
   both_locked,
   flagged,
@@ -211,4 +212,13 @@ pub fn locked_frames_are_spared()
         (Noted (Kept 0 Locked) ∷ []) }
     ensures all_locked { IsServed (with_swap 2 4 3) both_locked false 1 []
         (Some (Starved (record { pinned = 0; noslot = 0; fault = 0; locked = 2; ksm = 0 }))) }
+{}
+
+/// A row of `areas` has the flags of the area's pages, and no other; and its chain rises, so that no
+/// anon_vma stands twice in it.
+pub fn rows_show_flags()
+    ensures shown_without { NotShown left_out no_flags [] }
+    ensures shown_with_one { NotShown no_flags left_out [] }
+    ensures falling { NotShown no_flags no_flags (1 ∷ 0 ∷ []) }
+    ensures repeated { NotShown no_flags no_flags (0 ∷ 0 ∷ []) }
 {}

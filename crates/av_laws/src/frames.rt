@@ -2,11 +2,12 @@
 
 ghost use Rattle.std.specs.Prelude.{◌≡◌, ◌⊎◌, ℕ, List, [], ◌∷◌, map, Some, None, true, false};
 ghost use Rattle.av_trace.specs.declared.command.Command.TheVariants.{Compact, Merge};
+ghost use Rattle.av_trace.specs.declared.command.Command.TheVariants.{Entry as AsksEntry};
 ghost use Rattle.av_trace.specs.declared.note.Cause.TheVariants.{Ksm, Locked};
 ghost use Rattle.av_trace.specs.declared.note.Note.TheVariants.{Copied, Joined, Kept, Moved};
 ghost use Rattle.av_trace.specs.declared.note.Note.TheVariants.{Shared};
 ghost use Rattle.av_trace.specs.declared.reply.Answer.{Answer};
-ghost use Rattle.av_trace.specs.declared.reply.Answer.TheVariants.{Done};
+ghost use Rattle.av_trace.specs.declared.reply.Answer.TheVariants.{Done, EntryFrame};
 ghost use Rattle.av_trace.specs.declared.row.Row.{Row};
 ghost use Rattle.av_plain.specs.World.{World};
 ghost use Rattle.av_plain.specs.Ledger.{Entry, InFrame, Key, Ledger, Setting, entry};
@@ -22,7 +23,8 @@ ghost use Rattle.av_plain.specs.Merge.{frame_named, merges};
 ghost use Rattle.av_plain.specs.Compact.{Compacts, IsCompacted, next_move};
 ghost use Rattle.av_plain.specs.Step.{next_world};
 ghost use Rattle.av_plain.specs.Sound.{AllSound};
-ghost use Rattle.av_laws.specs.Examples.{ComesBy, at_rest, cached_by, machine, reply_with};
+ghost use Rattle.av_laws.specs.Examples.{ComesBy, MayCome, at_rest, cached_by, machine};
+ghost use Rattle.av_laws.specs.Examples.{reply_with};
 ghost use Rattle.av_laws.specs.Examples.{with_swap};
 ghost use Rattle.av_laws.specs.Frames.{all_join, all_zeros, keys_of_three, mergeable_pages};
 ghost use Rattle.av_laws.specs.Frames.{all_locked, locked_pages, merged_alone, none_spared};
@@ -78,14 +80,16 @@ pub fn frames_are_shared_and_move()
     ensures goes_along { walk (after_note (Moved 3 0) one_merged) 0 ≡ (1, 0x10) ∷ (3, 0x10) ∷ [] }
 {}
 
-/// A merged frame is left alone: reclaim keeps it, unless a page of it is locked, which is asked
-/// first; a pass goes over the others alone, and an out-of-memory counts it. A page whose frame is
+/// A merged frame is left alone, and shown as one: reclaim keeps it, unless a page of it is locked,
+/// which is asked first; a pass goes over the others alone, and an out-of-memory counts it. A page whose frame is
 /// that of a locked page does not join another.
 pub fn merged_frames_are_left_alone()
     ensures kept { cause_of (machine 4) none_spared one_merged 3 ≡ Some Ksm }
     ensures locked_first { cause_of (machine 4) all_locked one_merged 3 ≡ Some Locked }
     ensures locked_in_flight { cause_of (with_swap 4 8 7) all_locked
         (cached_by (InFrame 0 false) true false).ledger 0 ≡ Some Locked }
+    ensures shown { MayCome (machine 4) mergeable_pages one_merged (AsksEntry 1 0x10000)
+        (reply_with (EntryFrame 3 true None true) []) }
     ensures no_turn { frames_in_turn none_spared one_merged ≡ 1 ∷ [] }
     ensures numbers { out_of (machine 4) two_spared one_merged
         ≡ record { pinned = 1; noslot = 1; fault = 0; locked = 1; ksm = 1 } }

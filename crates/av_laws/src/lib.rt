@@ -47,7 +47,7 @@ pub use examples::{
 };
 pub use flags::{
     advice_is_about_one_flag, flags_are_refused, flags_are_told, flags_cut_areas, flags_follow,
-    locked_frames_are_spared,
+    locked_frames_are_spared, rows_show_flags,
 };
 pub use forks::forks_follow;
 pub use frames::{
@@ -59,7 +59,7 @@ pub use free::{runs_list_free_frames, runs_list_free_slots};
 pub use homes::{
     homes_are_of_pages, homes_cover_entries, homes_cover_slots, homes_follow, items_cover_entries,
 };
-pub use lines::{answers_say, lines_say, rows_say, texts_stand};
+pub use lines::{answers_say, lines_say, notes_say, rows_say, texts_stand};
 pub use locked::locked_frames_stay;
 pub use mremap::{
     areas_grow, areas_move, memories_move, mremaps_are_refused, pages_stay_or_find_a_place,
@@ -98,5 +98,5 @@ pub use unsound::{
 };
 pub use views::{
     changed_anon_vmas_do_not_stand, changed_cached_views_do_not_stand, changed_views_do_not_stand,
-    unreached_entries_do_not_stand,
+    changed_views_of_merged_frames_do_not_stand, unreached_entries_do_not_stand,
 };
