@@ -8,7 +8,8 @@
 --   a frame that takes a slot's page (`home_for`, `at_root`): of_one_page, of_two_pages
 --   what leaves each home (`rmap_after`, `rmap_after_use`): by_events, in_place
 --   what is covered (`IsReached`, `AreCovered`): no_home, at_child, other_index, own_alone, bare
---   what holds with it (`IsRmapSound`): out_of_own_chain, number_to_come
+--   what holds with it (`IsRmapSound`): out_of_own_chain, number_to_come, chain_falls,
+--     member_to_come
 --   entries of slots (`AreSlotsCovered`): slot_unhomed, slot_at_child, other_roots, other_indices,
 --     root_left_out, member_of_another
 use Rattle.std.specs.Prelude.{◌≡◌, ℕ, true, false, List, [], ◌∷◌, map, Option, Some, None}
@@ -139,9 +140,10 @@ with_chain chain = record with_child {
 abbrev pub bare_child : Rmap
 bare_child = with_child_area moved_four
 
--- the child's anon_vma has a number that is yet to be given
+-- one more anon_vma has a number that is yet to be given
 abbrev pub with_number_to_come : Rmap
-with_number_to_come = record with_child { anons = record family { next = 1 } }
+with_number_to_come =
+    record with_child { anons = record family { anon = with_at 2 (Some root) family.anon } }
 
 -- ---- entries of slots
 

@@ -1,19 +1,20 @@
 //! What a merge and a compaction make of the frames.
 
-ghost use Rattle.std.specs.Prelude.{◌≡◌, ℕ, List, [], ◌∷◌, map, Some, None, true};
+ghost use Rattle.std.specs.Prelude.{◌≡◌, ◌⊎◌, ℕ, List, [], ◌∷◌, map, Some, None, true};
 ghost use Rattle.av_trace.specs.declared.command.Command.TheVariants.{Compact, Merge};
 ghost use Rattle.av_trace.specs.declared.note.Cause.TheVariants.{Ksm, Locked};
 ghost use Rattle.av_trace.specs.declared.note.Note.TheVariants.{Copied, Moved};
 ghost use Rattle.av_trace.specs.declared.reply.Answer.{Answer};
 ghost use Rattle.av_trace.specs.declared.row.Row.{Row};
 ghost use Rattle.av_plain.specs.World.{World};
-ghost use Rattle.av_plain.specs.Ledger.{Entry, Key, Ledger, Setting, free_frames, walk};
+ghost use Rattle.av_plain.specs.Ledger.{Entry, Key, Ledger, Setting, entry, free_frames, walk};
 ghost use Rattle.av_plain.specs.Event.{Event, after_all, after_note, after_notes};
 ghost use Rattle.av_plain.specs.Fault.{asks_copy};
 ghost use Rattle.av_plain.specs.Pass.{frames_in_turn, out_of};
 ghost use Rattle.av_plain.specs.Reclaim.{cause_of};
-ghost use Rattle.av_plain.specs.Merge.{ClaimSame, Has, Merges, candidates, frame_named, merges};
-ghost use Rattle.av_plain.specs.Compact.{AreLowest, Compacts, next_move};
+ghost use Rattle.av_plain.specs.Merge.{ClaimSame, Has, HasJoined, HoldClaims, Merges, candidates};
+ghost use Rattle.av_plain.specs.Merge.{frame_named, merges};
+ghost use Rattle.av_plain.specs.Compact.{Compacts, IsCompacted, next_move};
 ghost use Rattle.av_plain.specs.Step.{next_world};
 ghost use Rattle.av_plain.specs.Sound.{AllSound};
 ghost use Rattle.av_laws.specs.Examples.{machine};
@@ -22,7 +23,9 @@ ghost use Rattle.av_laws.specs.Frames.{all_locked, locked_pages, merged_alone, n
 ghost use Rattle.av_laws.specs.Frames.{one_merged, three_pages, two_spared};
 
 /// A merge changes no memory. After it all that were candidates in it, and claim equal bytes, have
-/// one frame: over a device that tells its pages each byte is claimed.
+/// one frame: over a device that tells its pages each byte is claimed. Only equal pages join: each
+/// entry stays, or names a merged frame that holds what the one before held; so what frames were
+/// chosen to hold they may hold afterwards, and no page gets other bytes.
 pub fn merges_share_frames()
     ensures world { (m : Setting) (w : World) (l : Ledger) (events : List Event) (answer : Answer)
         (rows : List Row) → Merges m w l events answer rows
@@ -34,17 +37,24 @@ pub fn merges_share_frames()
         → Has d (candidates m h.0 w l [] (map (λ (e : Key × Entry). e.0) l.entries))
         → ClaimSame w c.0 d.0
         → frame_named (after_all l events) c.0 ≡ frame_named (after_all l events) d.0 }
+    ensures joins { (m : Setting) (w : World) (l : Ledger) (events : List Event) (answer : Answer)
+        (rows : List Row) → AllSound m w l → (h : Merges m w l events answer rows) (k : Key)
+        → (entry (after_all l events) k ≡ entry l k) ⊎ HasJoined h.0 l (after_all l events) k }
+    ensures bytes { (m : Setting) (w : World) (l : Ledger) (events : List Event) (answer : Answer)
+        (rows : List Row) → AllSound m w l → (h : Merges m w l events answer rows)
+        → HoldClaims w (after_all l events) h.0 }
 {}
 
 /// A compaction changes no memory. After it the frames in use are the lowest, as many as are in
-/// use; each walk is that of the frame it went over from, and slots and lists count what they did.
+/// use. Each is at a place of its own, and the ledger has there all that it had of the frame: its
+/// walk and seen bits, and its place in the cache, in its list and among the merged ones.
 pub fn compactions_take_the_lowest_frames()
     ensures world { (m : Setting) (w : World) (l : Ledger) (events : List Event) (answer : Answer)
         (rows : List Row) → Compacts m l events answer rows
         → next_world m w l events Compact answer ≡ w }
     ensures lowest { (m : Setting) (w : World) (l : Ledger) (events : List Event) (answer : Answer)
         (rows : List Row) → AllSound m w l → Compacts m l events answer rows
-        → AreLowest m l (after_all l events) }
+        → IsCompacted m l (after_all l events) }
 {}
 
 /// Three pages with equal bytes come to share the first one's frame, and the others' are free. A

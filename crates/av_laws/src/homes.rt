@@ -60,7 +60,8 @@ pub fn homes_follow()
 /// Where parent and child have a frame together, no home does not cover both entries, nor one with
 /// the child's own anon_vma, which isn't in the parent's chain, or with another index; nor the
 /// right one where the child's area is linked to its own anon_vma alone, or to none. An area that
-/// isn't linked to its own is refused too, and an anon_vma whose number is yet to be given.
+/// isn't linked to its own is refused too, and an anon_vma whose number is yet to be given; and so
+/// is a chain that falls, or has such a number.
 pub fn homes_cover_entries()
     ensures no_home { IsReachable (with_home None) → ⊥ }
     ensures at_child { IsReachable (with_home (Some (1, 0x22))) → ⊥ }
@@ -69,6 +70,8 @@ pub fn homes_cover_entries()
     ensures bare { IsReachable bare_child → ⊥ }
     ensures out_of_own_chain { IsReachable (with_chain (0 ∷ [])) → ⊥ }
     ensures number_to_come { IsReachable with_number_to_come → ⊥ }
+    ensures chain_falls { IsReachable (with_chain (1 ∷ 0 ∷ [])) → ⊥ }
+    ensures member_to_come { IsReachable (with_chain (0 ∷ 1 ∷ 2 ∷ [])) → ⊥ }
 {}
 
 /// Where pages of parent and child are at one slot that is cached, no home of its frame does not

@@ -55,7 +55,7 @@ pub use frames::{
 };
 pub use free::{runs_list_free_frames, runs_list_free_slots};
 pub use homes::{homes_are_of_pages, homes_cover_entries, homes_cover_slots, homes_follow};
-pub use lines::{answers_say, lines_say, rows_say};
+pub use lines::{answers_say, lines_say, rows_say, texts_stand};
 pub use locked::locked_frames_stay;
 pub use mremap::{
     areas_grow, areas_move, memories_move, mremaps_are_refused, pages_stay_or_find_a_place,
@@ -71,7 +71,10 @@ pub use pass_turns::{
 pub use read_back::{
     replies_are_read_back, replies_of_runs_are_read_back, texts_of_runs_say_replies,
 };
-pub use refusals::refusals_change_nothing;
+pub use refusals::{
+    mlocks_lock_all_pages, refusals_at_a_hole_change_the_pages_before_it, refusals_change_nothing,
+    refused_advice_changes_the_pages_that_it_met,
+};
 pub use several::{
     all_areas_count, areas_have_pages_of_their_own, frames_go_to_the_head,
     page_0_of_a_device_stays, pages_are_at_their_own_slots,
