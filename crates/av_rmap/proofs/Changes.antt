@@ -11,7 +11,7 @@ use Rattle.av_rmap.specs.Covered.{IsCovered}
 use Rattle.av_rmap.specs.View.{View, AreApart, AreSpanned}
 use Rattle.av_rmap.specs.Walk.{Key, found_in, holds, names_frame, page_at, passes_in, same_key, walk_of}
 use Rattle.av_rmap.proofs.Entries.{walk-is}
-use Rattle.av_rmap.proofs.Looks.{Found, last, rest, turn, walk-length}
+use Rattle.av_rmap.proofs.Turns.{Found, last, rest, turn, walk-length}
 
 -- a change that may be made twice, and leaves each entry that doesn't name the frame
 pub record IsOfFrame (f : ℕ) (change : Pte → Pte) : Type 0 where

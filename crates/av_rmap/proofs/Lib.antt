@@ -5,10 +5,12 @@ pub mod Entries
 pub mod ItemLemmas
 pub mod LinkedAreas
 pub mod LockedLemmas
-pub mod Looks
+pub mod Turns
 pub mod MergedLemmas
+pub mod NextAreas
 pub mod RootLemmas
 pub mod SeenLemmas
+pub mod SeenFrom
 pub mod SortedLemmas
 pub mod SpanLemmas
 pub mod UnmapLemmas

@@ -9,9 +9,9 @@ use Rattle.av_rmap.specs.View.{View, AreApart, AreSpanned}
 use Rattle.av_rmap.specs.Walk.{Key, names_frame, names_seen, passes_in, walk_of}
 use Rattle.av_rmap.proofs.Changes.{IsChanged, IsOfFrame, area-now, one-changed, passes-before}
 use Rattle.av_rmap.proofs.Entries.{none-named, none-seen}
-use Rattle.av_rmap.proofs.Looks.{Found, finds-nothing, finds-one, rest, turn_nothing}
+use Rattle.av_rmap.proofs.Turns.{Found, finds-nothing, finds-one, rest, turn_nothing}
 
-unseen-twice : (f : ℕ) (e : Pte) → unseen f (unseen f e) ≡ unseen f e
+pub unseen-twice : (f : ℕ) (e : Pte) → unseen f (unseen f e) ≡ unseen f e
 unseen-twice f Empty = refl
 unseen-twice f Zero = refl
 unseen-twice f (Here other write seen) = ap (λ b. Here other write b) (both seen (not (f == other)))

@@ -8,7 +8,7 @@ use Rattle.av_rmap.specs.Unmap.{away, away_in}
 use Rattle.av_rmap.specs.View.{View}
 use Rattle.av_rmap.specs.Walk.{names_frame, walk_of}
 use Rattle.av_rmap.proofs.Changes.{IsChanged, IsOfFrame, area-now, one-changed}
-use Rattle.av_rmap.proofs.Looks.{Found, rest}
+use Rattle.av_rmap.proofs.Turns.{Found, rest}
 
 away-twice : (f : ℕ) (s : Slot) (e : Pte) → away f s (away f s e) ≡ away f s e
 away-twice f s Empty = refl

@@ -3,6 +3,7 @@ pub mod Covered
 pub mod ItemLists
 pub mod Items
 pub mod Locked
+pub mod Looks
 pub mod Seen
 pub mod Sorted
 pub mod Stores

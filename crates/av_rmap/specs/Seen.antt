@@ -1,5 +1,5 @@
 -- Entries that don't say any more that their page was accessed.
-use Rattle.std.specs.Prelude.{ℕ, not, ◌&&◌, ◌==◌, Option, Some, None}
+use Rattle.std.specs.Prelude.{ℕ, not, ◌&&◌, ◌==◌, List, [], ◌∷◌, Option, Some, None}
 use Rattle.av_pagetable.specs.declared.pte.Pte.{Pte}
 use Rattle.av_pagetable.specs.declared.pte.Pte.TheVariants.{Empty, Zero, Here, Away}
 use Rattle.av_pagetable.specs.Entries.{with_entry}
@@ -28,3 +28,9 @@ unseen_in frame index (Some area) view =
       entry =
           with_entry area.pid page (unseen frame (view.entry area.pid page)) view.entry;
     }
+
+-- one after the other those of these areas' pages
+abbrev pub unseen_over : ℕ → ℕ → List ℕ → View → View
+unseen_over frame index [] view = view
+unseen_over frame index (a ∷ areas) view =
+    unseen_over frame index areas (unseen_in frame index (view.areas a) view)

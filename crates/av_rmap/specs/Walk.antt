@@ -1,6 +1,6 @@
 -- The entries of a frame or a slot, and what one look finds.
 use Rattle.std.specs.Prelude.{◌≡◌, ℕ, ◌+◌, ◌-◌, Bool, false, ◌&&◌, ◌==◌, if◌then◌else◌, List, []}
-use Rattle.std.specs.Prelude.{◌∷◌, ◌++◌, Option, Some, None, length}
+use Rattle.std.specs.Prelude.{◌∷◌, ◌++◌, Option, Some, None, length, map}
 use Rattle.av_base.specs.Words.{how_many, within}
 use Rattle.av_base.specs.declared.slot.Slot.{Slot}
 use Rattle.av_chain.specs.Links.{one_if}
@@ -8,6 +8,7 @@ use Rattle.av_pagetable.specs.declared.pte.Pte.{Pte}
 use Rattle.av_pagetable.specs.declared.pte.Pte.TheVariants.{Empty, Zero, Here, Away}
 use Rattle.av_vma.specs.declared.area.Area.{Area}
 use Rattle.av_vma.specs.Index.{first_of, past_of}
+use Rattle.av_interval.specs.Batch.{overlaps_past}
 use Rattle.av_interval.specs.Search.{overlaps}
 use Rattle.av_interval.specs.declared.span.Span.{Span}
 use Rattle.av_rmap.specs.View.{View}
@@ -68,6 +69,15 @@ page_at index area = first_of area + (index - area.pgoff)
 abbrev pub is_held : ℕ → Option Area → Bool
 is_held index None = false
 is_held index (Some area) = holds index area
+
+-- the areas of some places
+abbrev pub areas_of : List (ℕ × ℕ) → List ℕ
+areas_of places = map (λ (p : ℕ × ℕ). p.1) places
+
+-- the areas that a walk from a home looks in: those with a span of the anon_vma that overlaps the
+-- index
+abbrev pub areas_from : View → ℕ × ℕ → List ℕ
+areas_from view home = areas_of (overlaps_past None home.1 (view.spans home.0))
 
 -- how many steps a walk from a home takes, and so how many looks at most: one for each span that
 -- overlaps; none without a home

@@ -5,7 +5,7 @@ use Rattle.av_interval.specs.Search.{overlaps}
 use Rattle.av_rmap.specs.Locked.{finds_locked}
 use Rattle.av_rmap.specs.Walk.{names_frame}
 use Rattle.av_rmap.proofs.LockedLemmas.{none-locked, not-held}
-use Rattle.av_rmap.proofs.Looks.{last, rest, rest-none, turn, turn-holds}
+use Rattle.av_rmap.proofs.Turns.{last, rest, rest-none, turn, turn-holds}
 use Rattle.av_rmap.proofs.locked.is_locked_from.Goals as goal
 
 pub looks-init : goal.looks-init

@@ -5,7 +5,7 @@ use Rattle.av_interval.specs.Search.{overlaps}
 use Rattle.av_rmap.specs.Ahead.{IsAhead}
 use Rattle.av_rmap.specs.Locked.{finds_locked}
 use Rattle.av_rmap.specs.Walk.{names_frame}
-use Rattle.av_rmap.proofs.Looks.{rest}
+use Rattle.av_rmap.proofs.Turns.{rest}
 use Rattle.av_rmap.proofs.locked.is_locked_from.Given as goal
 
 -- none was found yet, so what is left to look at decides it

@@ -7,7 +7,7 @@ use Rattle.av_rmap.specs.View.{View}
 use Rattle.av_rmap.specs.Walk.{holds, looks_to_last, names_frame, names_seen, walk_of}
 use Rattle.av_rmap.proofs.Changes.{IsChanged, all-changed, changed-last, changed-turn, left-then, none-changed}
 use Rattle.av_rmap.proofs.Entries.{walk-many}
-use Rattle.av_rmap.proofs.Looks.{looks-none, rest, rest-none, turn-holds}
+use Rattle.av_rmap.proofs.Turns.{looks-none, rest, rest-none, turn-holds}
 use Rattle.av_rmap.proofs.SeenLemmas.{clears, one-cleared, seen-end, seen-then}
 use Rattle.av_rmap.proofs.seen.clear_seen.Goals as goal
 

@@ -5,7 +5,7 @@ use Rattle.av_rmap.specs.Seen.{unseen}
 use Rattle.av_rmap.specs.Walk.{Key, looks_to_last, names_frame, names_seen, walk_of}
 use Rattle.av_rmap.specs.Ahead.{IsAhead}
 use Rattle.av_rmap.proofs.Changes.{IsChanged}
-use Rattle.av_rmap.proofs.Looks.{rest}
+use Rattle.av_rmap.proofs.Turns.{rest}
 use Rattle.av_rmap.proofs.seen.clear_seen.Given as goal
 
 -- all is cleared but what is left to look at, where as many entries as are left will be found, and all that are seen, unless one was

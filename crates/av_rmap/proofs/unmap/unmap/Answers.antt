@@ -6,7 +6,7 @@ use Rattle.av_rmap.specs.View.{View}
 use Rattle.av_rmap.specs.Walk.{holds, looks_to_last, names_frame, walk_of}
 use Rattle.av_rmap.proofs.Changes.{IsChanged, all-changed, changed-last, changed-turn, left-then, none-changed}
 use Rattle.av_rmap.proofs.Entries.{walk-many}
-use Rattle.av_rmap.proofs.Looks.{looks-none, rest, rest-none, turn-holds}
+use Rattle.av_rmap.proofs.Turns.{looks-none, rest, rest-none, turn-holds}
 use Rattle.av_rmap.proofs.UnmapLemmas.{one-unmapped, sends}
 use Rattle.av_rmap.proofs.unmap.unmap.Goals as goal
 

@@ -5,7 +5,7 @@ use Rattle.av_rmap.specs.Unmap.{away}
 use Rattle.av_rmap.specs.Walk.{looks_to_last, names_frame, walk_of}
 use Rattle.av_rmap.specs.Ahead.{IsAhead}
 use Rattle.av_rmap.proofs.Changes.{IsChanged}
-use Rattle.av_rmap.proofs.Looks.{rest}
+use Rattle.av_rmap.proofs.Turns.{rest}
 use Rattle.av_rmap.proofs.unmap.unmap.Given as goal
 
 -- all is unmapped but what is left to look at, where as many entries as are left will be found

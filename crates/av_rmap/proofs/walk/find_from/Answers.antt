@@ -3,7 +3,7 @@ use Rattle.std.proofs.lemmas.List.{append-nil}
 use Rattle.av_base.specs.Words.{how_many}
 use Rattle.av_interval.specs.Search.{overlaps}
 use Rattle.av_rmap.specs.Walk.{list_of, names, walk_of}
-use Rattle.av_rmap.proofs.Looks.{rest-none, turn, turn-holds, last, turn_with, turn_without, room_with, room_without}
+use Rattle.av_rmap.proofs.Turns.{rest-none, turn, turn-holds, last, turn_with, turn_without, room_with, room_without}
 use Rattle.av_rmap.proofs.walk.find_from.Goals as goal
 
 pub looks-init : goal.looks-init

@@ -3,7 +3,7 @@ use Rattle.av_base.specs.Words.{how_many}
 use Rattle.av_interval.specs.Search.{overlaps}
 use Rattle.av_rmap.specs.Walk.{names, walk_of}
 use Rattle.av_rmap.specs.Ahead.{IsAhead}
-use Rattle.av_rmap.proofs.Looks.{rest}
+use Rattle.av_rmap.proofs.Turns.{rest}
 use Rattle.av_rmap.proofs.walk.find_from.Given as goal
 
 -- what was found and what is left to find are the whole walk; so are the steps
