@@ -32,7 +32,6 @@
 //! entry that was looked at is written (`change`).
 #![tactic(auto)]
 
-mod ahead;
 pub mod covered;
 pub mod items;
 pub mod locked;
