@@ -51,7 +51,7 @@ CARRIERS = {
     "av_mremap": "remap_areas remap_entries",
     "av_fault": "touch",
     "av_place": "find_place find_gap find_target check_protect check_remap is_too_long "
-    "is_no_range prot_left check_indices",
+    "is_no_range leaves_old check_indices",
     "av_step": "Does DoesBeside check_lives answer_with",
     "av_swap": "swapon swapoff slot reclaim age complete",
     "av_report": "maps areas rmap entry stat totals",

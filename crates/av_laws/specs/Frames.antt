@@ -1,5 +1,5 @@
 -- Ledgers and memories whose frames are merged, or move.
-use Rattle.std.specs.Prelude.{ℕ, true, false, List, [], ◌∷◌, Some, None, ◌==◌}
+use Rattle.std.specs.Prelude.{true, false, List, [], ◌∷◌, Some, None, ◌==◌}
 use Rattle.av_base.specs.Flags.{no_flags}
 use Rattle.av_trace.specs.declared.note.Note.{Note}
 use Rattle.av_trace.specs.declared.note.Note.TheVariants.{Joined, Shared}

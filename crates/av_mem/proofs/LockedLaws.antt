@@ -11,7 +11,7 @@ use Rattle.av_vma.specs.Pages.{pages_in}
 use Rattle.av_vma.specs.declared.area.Area.{Area}
 use Rattle.av_pagetable.specs.Entries.{entry_at}
 use Rattle.av_rmap.specs.Walk.{names_frame}
-use Rattle.av_spaces.specs.Spaces.{AreNumbered, IsNumber}
+use Rattle.av_spaces.specs.Spaces.{AreNumbered}
 use Rattle.av_rmap.specs.Items.{is_merged as has_items}
 use Rattle.av_plain.specs.Areas.{Rmap, same_item}
 use Rattle.av_plain.specs.Sound.{mergings}
