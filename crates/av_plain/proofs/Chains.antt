@@ -86,10 +86,10 @@ rise-child own None anons h = λ v. by v (v == anons.next)
 rise-child own (Some u) anons h = λ v. by v (v == u)
   where
     by : (v : ℕ) (b : Bool) → Rises anons.next (cond b (Some (record {
-          root = root_of anons u;
-          parent = option_map_or (λ (anon : AnonVma). anon.parent) (anons.anon u) u;
-          chain = chain_by anons (Some own);
-        })) (anons.anon v))
+      root = root_of anons u;
+      parent = option_map_or (λ (anon : AnonVma). anon.parent) (anons.anon u) u;
+      chain = chain_by anons (Some own);
+    })) (anons.anon v))
     by v true = chain-below anons (Some own) h
     by v false = h v
 
