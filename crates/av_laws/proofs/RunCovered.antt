@@ -33,7 +33,7 @@ use Rattle.av_trace.specs.declared.reply.Reply.{Reply}
 use Rattle.av_plain.specs.Areas.{AreNext, Rmap, areas_to_hole, chain_length, next_areas, rmap_after, rmap_after_all, rmap_after_flag, with_room}
 use Rattle.av_plain.specs.Covered.{AreMergedCovered, AreSlotsCovered, IsRmapSound}
 use Rattle.av_plain.specs.Event.{Event, FlagSet, Forked, EntriesMoved, after_all}
-use Rattle.av_plain.specs.Fork.{AreForked, IsRmapNext, goes_as_zeros, goes_over, inheritance}
+use Rattle.av_plain.specs.Fork.{AreForked, IsRmapNext, goes_over, inheritance}
 use Rattle.av_plain.specs.Ledger.{Ledger, Setting, entry}
 use Rattle.av_plain.specs.Load.{with_loads}
 use Rattle.av_plain.specs.Lock.{BringsIn, Locks, accesses_of, lock_event, with_lock}
@@ -322,19 +322,18 @@ module _ (m : Setting) (most : ℕ) (high : top_page ≤ most) (fits : most + to
       whole page is = by (r.areas p page) (pages old.world p page) (c.cover.marks p page) (inherited-goes (pages old.world p) l p page is)
         where
           by : (o : Option Area) (x : Option Page) → option_map area_marks o ≡ marks_of x
-              → (goes_over x ≡ true) × (goes_as_zeros x ≡ false) → IfSome o IsWhole
+              → goes_over x ≡ true → IfSome o IsWhole
           by None x e g = tt
-          by (Some area) None e g = absurd (false≢true g.0)
+          by (Some area) None e g = absurd (false≢true g)
           by (Some area) (Some x) e g =
               let same : area.flags ≡ x.flags = ap (λ (o : Option (Prot × Flags)). option_map_or (λ (m : Prot × Flags). m.1) o area.flags) e in
-              record {
-                over = ap (λ (f : Flags). f.dont_fork) same ∙ not_true x.flags.dont_fork g.0;
-                kept = ap (λ (f : Flags). f.wipe_on_fork) same ∙ g.1;
-              }
+              let two = neither x.flags.dont_fork x.flags.wipe_on_fork g in
+              record { over = ap (λ (f : Flags). f.dont_fork) same ∙ two.0; kept = ap (λ (f : Flags). f.wipe_on_fork) same ∙ two.1 }
             where
-              not_true : (b : Bool) → not b ≡ true → b ≡ false
-              not_true true h = absurd (false≢true h)
-              not_true false h = refl
+              neither : (a b : Bool) → (not a && not b) ≡ true → (a ≡ false) × (b ≡ false)
+              neither true b h = absurd (false≢true h)
+              neither false true h = absurd (false≢true h)
+              neither false false h = (refl, refl)
 
       goes : AreForked p q r (rmap_of new)
       goes = subst (λ x. IsRmapNext r old.world (Fork p q) x (rmap_of new)) done

@@ -25,7 +25,7 @@ use Rattle.av_trace.specs.declared.reply.Reply.{Reply}
 use Rattle.av_trace.specs.declared.row.Row.{Row}
 use Rattle.av_plain.specs.Access.{Accesses, End, page_events, pages_of_access}
 use Rattle.av_plain.specs.Advice.{advice_events, flag_of_advice, pages_advised}
-use Rattle.av_plain.specs.Event.{Event, EntriesMoved, Forked, Noted, TurnedOn, Used, after, after_all, after_note, after_notes, after_use, after_use_of, change_entries, change_frame, frame_of, if_some, key_at, note_events, notes_of, off_cache, set_entry, with_stale, without_seen, Inherited}
+use Rattle.av_plain.specs.Event.{Event, EntriesMoved, Forked, Noted, TurnedOn, Used, after, after_all, after_note, after_notes, after_use, after_use_of, change_entries, change_frame, frame_of, if_some, key_at, note_events, notes_of, off_cache, set_entry, with_stale, without_seen}
 use Rattle.av_plain.specs.Fault.{ComesIn, CopyOnWrite, Denied, IsMade, Lost, MapCached, Need, NewPage, Ready, RunsOut, Serves, Starved, Stop, SwapIn, Touches, ZeroPage, drop_at, drop_of_entry, drop_of_slot, is_locked, asks_copy, need, pinned_by, sparing, was_slot}
 use Rattle.av_plain.specs.Fork.{inheritance}
 use Rattle.av_plain.specs.Ledger.{Entry, InFrame, InSlot, Key, Ledger, Setting, SwapArea, Zero, entry, frame_at, is_merged, key_cmp, keys_of_slot, names_frame, names_slot, slot_of, slots_in_use}
@@ -551,7 +551,7 @@ module _ (m : Setting) (w : World) (l : Ledger) (s : AllSound m w l) (k : Key) (
   follows-stays (Fork p q) es answer rows fine x locked keeps still uncopied h = at-events es (Forked p q goes ∷ []) x.1
       (subst (λ o. IsSomeAnd o (λ e. names_frame f e ≡ true)) (sym (entry-forked p q goes l k s.ledger.in_order)) (child (k.0 == q) refl))
     where
-      goes : List Inherited
+      goes : List ℕ
       goes = inheritance (pages w p) l p
 
       child : (b : Bool) → (k.0 == q) ≡ b

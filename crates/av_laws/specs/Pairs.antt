@@ -18,7 +18,7 @@ use Rattle.av_plain.specs.World.{World, byte_at, pages}
 use Rattle.av_plain.specs.Ledger.{Ledger, Setting, Cached, Entry, Key, Zero, InFrame, InSlot}
 use Rattle.av_plain.specs.Ledger.{SwapArea, first_ledger}
 use Rattle.av_plain.specs.Event.{Event, Noted, Used, Forked, EntriesMoved, TurnedOn, TurnedOff}
-use Rattle.av_plain.specs.Event.{Inherited, Zapped, after}
+use Rattle.av_plain.specs.Event.{Zapped, after}
 use Rattle.av_plain.specs.Load.{with_loads}
 use Rattle.av_laws.specs.Examples.{cached_at, one_area, slot, swap_area, two_bytes}
 
@@ -38,24 +38,17 @@ abbrev pub one_of_each : List (Key × Entry)
 one_of_each =
     ((1, 0x10), InFrame 0 true) ∷ ((1, 0x11), Zero) ∷ ((1, 0x12), InSlot (slot 1)) ∷ []
 
--- a page goes over at a fork as it is, or as zeros
-abbrev pub whole : ℕ → Inherited
-whole page = record { page = page; as_zeros = false }
-
-abbrev pub zeros_left : ℕ → Inherited
-zeros_left page = record { page = page; as_zeros = true }
-
--- a child gets all three kinds of entries; another one only what goes over whole; a move takes each
+-- a child gets all three kinds of entries; another one only that of the page that goes over; a move takes each
 -- page to its own
 abbrev pub forks_and_moves : List (Event × Ledger)
 forks_and_moves = (
-  Forked 1 4 (whole 0x10 ∷ whole 0x11 ∷ whole 0x12 ∷ whole 0x13 ∷ []),
+  Forked 1 4 (0x10 ∷ 0x11 ∷ 0x12 ∷ 0x13 ∷ []),
   with_entries
       (((1, 0x10), InFrame 0 true) ∷ ((1, 0x11), Zero) ∷ ((1, 0x12), InSlot (slot 1))
       ∷ ((4, 0x10), InFrame 0 false) ∷ ((4, 0x11), Zero) ∷ ((4, 0x12), InSlot (slot 1)) ∷ []),
 )
     ∷ (
-      Forked 1 3 (zeros_left 0x10 ∷ whole 0x12 ∷ []),
+      Forked 1 3 (0x12 ∷ []),
       with_entries
           (((1, 0x10), InFrame 0 true) ∷ ((1, 0x11), Zero) ∷ ((1, 0x12), InSlot (slot 1))
           ∷ ((3, 0x12), InSlot (slot 1))
@@ -198,7 +191,7 @@ copied_and_gone =
     ∷ (Used false (1, 0x10), with_frames (((1, 0x10), Zero) ∷ []) [])
     ∷ (Noted (New 1 0x10000 2), with_frames (((1, 0x10), InFrame 2 false) ∷ []) (2 ∷ []))
     ∷ (
-      Forked 1 4 (whole 0x10 ∷ []),
+      Forked 1 4 (0x10 ∷ []),
       with_frames (((1, 0x10), InFrame 2 false) ∷ ((4, 0x10), InFrame 2 false) ∷ []) (2 ∷ []),
     )
     ∷ (

@@ -98,7 +98,6 @@ ghost use Rattle.av_laws.specs.Examples.{
   write_only,
   zero_read,
 };
-ghost use Rattle.av_laws.specs.Pairs.{whole};
 ghost use Rattle.av_laws.specs.SwapSteps.{third_bad, third_bad_on};
 ghost use Rattle.av_base.specs.Flags.{no_flags};
 
@@ -253,7 +252,7 @@ pub fn entries_go()
         (reply_with Done [])
         (Zapped (1, 0x7fffffffe) ∷ []) }
     ensures inherited { ComesBy (machine 4) two_written (Fork 1 2) (reply_with Done [])
-        (Forked 1 2 (whole 0x7fffffffd ∷ whole 0x7fffffffe ∷ []) ∷ []) }
+        (Forked 1 2 (0x7fffffffd ∷ 0x7fffffffe ∷ []) ∷ []) }
 {}
 
 /// `maps` shows the longest runs with one protection; `areas` ranges that cover the pages; `rmap`

@@ -55,7 +55,6 @@ ghost use Rattle.av_laws.specs.Flags.{
   three_written,
   wiped_off,
 };
-ghost use Rattle.av_laws.specs.Pairs.{whole};
 
 /// Advice and locks are refused by the first test that holds, and by none where each just doesn't
 /// hold.
@@ -135,8 +134,7 @@ pub fn flags_are_told()
         (FlagSet 1 0x7fffffffe 1 flags.Locked true ∷ []) }
     ensures inherited { ComesBy (machine 4) (three_written left_out wiped_off no_flags) (Fork 1 2)
         (reply_with Done [])
-        (Forked 1 2
-        (record (whole 0x7fffffffd) { as_zeros = true } ∷ whole 0x7fffffffe ∷ []) ∷ []) }
+        (Forked 1 2 (0x7fffffffe ∷ []) ∷ []) }
 {}
 
 /// A flag that is set inside an area cuts it, unless it is set already, and where it is cleared the

@@ -55,7 +55,7 @@ pub use frames::{
 };
 pub use free::{runs_list_free_frames, runs_list_free_slots};
 pub use homes::{homes_are_of_pages, homes_cover_entries, homes_cover_slots, homes_follow};
-pub use lines::{answers_say, lines_say, rows_say};
+pub use lines::{answers_say, lines_say, rows_say, texts_stand};
 pub use locked::locked_frames_stay;
 pub use mremap::{
     areas_grow, areas_move, memories_move, mremaps_are_refused, pages_stay_or_find_a_place,

@@ -1,11 +1,13 @@
-//! Worked examples for lines: what one says (and nothing else, since a line has one meaning), what
-//! an entry's answer is, and what the row of an area is.
+//! Worked examples for lines: what one says (and nothing else, since a line has one meaning), the
+//! texts of commands that have no line yet, what an entry's answer is, and what the row of an area is.
 
 ghost use Rattle.std.specs.Prelude.{◌≡◌, [], ◌∷◌, false, true, None, Some, codes};
-ghost use Rattle.av_trace.specs.declared.command.Command.TheVariants.{Fork, Madvise, Mlock, Mremap};
+ghost use Rattle.av_trace.specs.declared.command.Command.TheVariants.{Compact, Fork, Madvise};
+ghost use Rattle.av_trace.specs.declared.command.Command.TheVariants.{Merge, Mlock, Mremap, Munlock};
 ghost use Rattle.av_trace.specs.declared.mode.Mode.TheVariants.{Plain};
 ghost use Rattle.av_trace.specs.declared.row.Row.TheVariants.{Area};
 ghost use Rattle.av_trace.specs.declared.reply.Answer.TheVariants.{EntryFrame, Oom};
+ghost use Rattle.av_trace.specs.Command.{line_of};
 ghost use Rattle.av_trace.specs.Line.{Says};
 ghost use Rattle.av_trace.specs.Reply.{answer_line};
 ghost use Rattle.av_trace.specs.Row.{row_line};
@@ -19,9 +21,16 @@ pub fn lines_say()
     ensures parent_first { Says (codes "fork 1 2") (Some (Fork 1 2)) }
     ensures old_first { Says (codes "mremap 1 10000 4096 8192")
         (Some (Mremap 1 0x10000 4096 8192 Plain)) }
-    ensures advised { Says (codes "madvise 1 10000 4096 dontneed")
-        (Some (Madvise 1 0x10000 4096 DontNeed)) }
-    ensures locks { Says (codes "mlock 1 10000 8192") (Some (Mlock 1 0x10000 8192)) }
+{}
+
+/// The texts of the commands that the grammar doesn't have yet.
+pub fn texts_stand()
+    ensures advice_last { line_of (Madvise 1 0x10000 4096 DontNeed)
+        ≡ codes "madvise 1 10000 4096 dontneed" }
+    ensures locks { line_of (Mlock 1 0x10000 8192) ≡ codes "mlock 1 10000 8192" }
+    ensures unlocks { line_of (Munlock 1 0x10000 8192) ≡ codes "munlock 1 10000 8192" }
+    ensures merges { line_of Merge ≡ codes "merge" }
+    ensures compacts { line_of Compact ≡ codes "compact" }
 {}
 
 /// An entry's answer has the slot at which its frame is cached.

@@ -124,8 +124,11 @@ merged-first m = record {
 pub sound-set : (l l' : Ledger) (r : Rmap) (k : Key) (e : Entry) → l' ≡ set_entry k e l → ((f : ℕ) → names_frame f e ≡ true → Names l k f) →
     IsRmapSound l r → IsRmapSound l' r
 sound-set l l' r k e is same h = subst (λ l. IsRmapSound l r) (sym is)
-    (sound-fewer l (set_entry k e l) r (λ q f names alone. (by q f (same_key q k) refl
-    (subst (λ o. IsSomeAnd o (λ e. names_frame f e ≡ true)) (entry-set k e l q) names), alone)) h)
+    (sound-fewer l (set_entry k e l) r (λ q f names alone. (
+      by q f (same_key q k) refl
+          (subst (λ o. IsSomeAnd o (λ e. names_frame f e ≡ true)) (entry-set k e l q) names),
+      alone,
+    )) h)
   where
     by : (q : Key) (f : ℕ) (b : Bool) → same_key q k ≡ b → IsSomeAnd (cond b (Some e) (entry l q)) (λ e. names_frame f e ≡ true) → Names l q f
     by q f true at names = subst (λ q. Names l q f) (sym (same_key-is q k at)) (same f names)

@@ -7,10 +7,10 @@ use Rattle.std.specs.Prelude.{IsSomeAnd}
 use Rattle.std.specs.Ordering.{is_eq, is_lt}
 use Rattle.std.specs.declared.cmp.Ordering.TheVariants.{Less}
 use Rattle.std.specs.FinMap.Entries.{find, where_key, is_sorted, below_all, find-where_key, is_sorted-where_key}
-use Rattle.av_base.specs.Words.{how_many}
+use Rattle.av_base.specs.Words.{how_many, is_in}
 use Rattle.av_base.specs.declared.slot.Slot.{Slot}
-use Rattle.av_plain.specs.Event.{Inherited, after_fork, is_inherited, put_all, without_seen}
-use Rattle.av_plain.specs.Fork.{goes_as_zeros, goes_over, inheritance}
+use Rattle.av_plain.specs.Event.{after_fork, put_all, without_seen}
+use Rattle.av_plain.specs.Fork.{goes_over, inheritance}
 use Rattle.av_plain.specs.World.{Process}
 use Rattle.av_plain.specs.Zap.{keys_of_process}
 use Rattle.av_plain.specs.Ledger.{Entry, InFrame, InSlot, Key, Ledger, Zero, entry, key_cmp, names_frame, names_slot}
@@ -25,156 +25,140 @@ abbrev pub copies : ℕ → ℕ → List (Key × Entry) → List (Key × Entry)
 copies p q es = map (λ e. ((q, e.0.1), without_seen e.1)) (where_key key_cmp (λ k. k.0 == p) es)
 
 -- the ledger after a fork of p, where these pages go over
-abbrev pub child_ledger : ℕ → ℕ → List Inherited → Ledger → Ledger
+abbrev pub child_ledger : ℕ → ℕ → List ℕ → Ledger → Ledger
 child_ledger p q goes l = after_fork p q goes l
 
 -- the entries that go over with their pages, whosever they are
-abbrev pub going : List Inherited → List (Key × Entry) → List (Key × Entry)
-going goes es = where_key key_cmp (λ k. is_inherited goes k.1) es
+abbrev pub going : List ℕ → List (Key × Entry) → List (Key × Entry)
+going goes es = where_key key_cmp (λ k. is_in k.1 goes) es
 
 -- the entry that goes over with a page of p
-abbrev pub handed : List Inherited → ℕ → Ledger → ℕ → Option Entry
-handed goes p l page = cond (is_inherited goes page) (entry l (p, page)) None
+abbrev pub handed : List ℕ → ℕ → Ledger → ℕ → Option Entry
+handed goes p l page = cond (is_in page goes) (entry l (p, page)) None
 
-pub handed-is : (goes : List Inherited) (p : ℕ) (l : Ledger) (page : ℕ) (e : Entry) → handed goes p l page ≡ Some e → entry l (p, page) ≡ Some e
-handed-is goes p l page e = by (is_inherited goes page)
+pub handed-is : (goes : List ℕ) (p : ℕ) (l : Ledger) (page : ℕ) (e : Entry) → handed goes p l page ≡ Some e → entry l (p, page) ≡ Some e
+handed-is goes p l page e = by (is_in page goes)
   where
     by : (b : Bool) → cond b (entry l (p, page)) None ≡ Some e → entry l (p, page) ≡ Some e
     by true h = h
     by false h = cc
 
 -- where it is one of some kind, the page goes over, and has such an entry
-pub handed-from : (goes : List Inherited) (p : ℕ) (l : Ledger) (page : ℕ) (P : Entry → Type 0) → IsSomeAnd (handed goes p l page) P
-    → (is_inherited goes page ≡ true) × IsSomeAnd (entry l (p, page)) P
-handed-from goes p l page P = by (is_inherited goes page)
+pub handed-from : (goes : List ℕ) (p : ℕ) (l : Ledger) (page : ℕ) (P : Entry → Type 0) → IsSomeAnd (handed goes p l page) P
+    → (is_in page goes ≡ true) × IsSomeAnd (entry l (p, page)) P
+handed-from goes p l page P = by (is_in page goes)
   where
     by : (b : Bool) → IsSomeAnd (cond b (entry l (p, page)) None) P → (b ≡ true) × IsSomeAnd (entry l (p, page)) P
     by true h = (refl, h)
     by false h = absurd h
 
-both_tests : (p : ℕ) (goes : List Inherited) (es : List (Key × Entry))
-    → where_key key_cmp (λ k. k.0 == p && is_inherited goes k.1) es ≡ where_key key_cmp (λ k. k.0 == p) (going goes es)
+both_tests : (p : ℕ) (goes : List ℕ) (es : List (Key × Entry))
+    → where_key key_cmp (λ k. k.0 == p && is_in k.1 goes) es ≡ where_key key_cmp (λ k. k.0 == p) (going goes es)
 both_tests p goes [] = refl
-both_tests p goes (e ∷ es) = by (e.0.0 == p) (is_inherited goes e.0.1) refl refl (both_tests p goes es)
+both_tests p goes (e ∷ es) = by (e.0.0 == p) (is_in e.0.1 goes) refl refl (both_tests p goes es)
   where
     rest : List (Key × Entry)
-    rest = where_key key_cmp (λ k. k.0 == p && is_inherited goes k.1) es
+    rest = where_key key_cmp (λ k. k.0 == p && is_in k.1 goes) es
 
     then : List (Key × Entry)
     then = where_key key_cmp (λ k. k.0 == p) (going goes es)
 
-    by : (a b : Bool) → (e.0.0 == p) ≡ a → is_inherited goes e.0.1 ≡ b → rest ≡ then
+    by : (a b : Bool) → (e.0.0 == p) ≡ a → is_in e.0.1 goes ≡ b → rest ≡ then
         → cond (a && b) (e ∷ rest) rest ≡ where_key key_cmp (λ k. k.0 == p) (cond b (e ∷ going goes es) (going goes es))
     by true true is i go = ap (λ xs. e ∷ xs) go ∙ ap (λ b. cond b (e ∷ then) then) (sym is)
     by false true is i go = go ∙ ap (λ b. cond b (e ∷ then) then) (sym is)
     by true false is i go = go
     by false false is i go = go
 
-pub forked-is : (p q : ℕ) (goes : List Inherited) (l : Ledger) → child_ledger p q goes l ≡ put_all (copies p q (going goes l.entries)) l
+pub forked-is : (p q : ℕ) (goes : List ℕ) (l : Ledger) → child_ledger p q goes l ≡ put_all (copies p q (going goes l.entries)) l
 forked-is p q goes l = ap (λ es. put_all (map (λ (e : Key × Entry). ((q, e.0.1), without_seen e.1)) es) l) (both_tests p goes l.entries)
 
-pub sorted-going : (goes : List Inherited) (es : List (Key × Entry)) → T (is_sorted key_cmp es) → T (is_sorted key_cmp (going goes es))
-sorted-going goes es h = is_sorted-where_key key_cmp (λ k. is_inherited goes k.1) es h
+pub sorted-going : (goes : List ℕ) (es : List (Key × Entry)) → T (is_sorted key_cmp es) → T (is_sorted key_cmp (going goes es))
+sorted-going goes es h = is_sorted-where_key key_cmp (λ k. is_in k.1 goes) es h
 
 -- no more of them pass a test
-fewer-going : (t : Entry → Bool) (goes : List Inherited) (es : List (Key × Entry)) → entries_with t (going goes es) ≤ entries_with t es
+fewer-going : (t : Entry → Bool) (goes : List ℕ) (es : List (Key × Entry)) → entries_with t (going goes es) ≤ entries_with t es
 fewer-going t goes [] = omega arith
-fewer-going t goes (e ∷ es) = by (is_inherited goes e.0.1) (fewer-going t goes es)
+fewer-going t goes (e ∷ es) = by (is_in e.0.1 goes) (fewer-going t goes es)
   where
     by : (b : Bool) → entries_with t (going goes es) ≤ entries_with t es
         → entries_with t (cond b (e ∷ going goes es) (going goes es)) ≤ cond (t e.1) 1 0 + entries_with t es
     by true h = omega (arith, h)
     by false h = omega (arith, h)
 
--- what is inherited goes over, and not as zeros
-pub inherited-goes : (q : Process) (l : Ledger) (p page : ℕ) → is_inherited (inheritance q l p) page ≡ true
-    → (goes_over (q page) ≡ true) × (goes_as_zeros (q page) ≡ false)
+-- the pages of some keys that go over
+abbrev those_over : Process → List Key → List ℕ
+those_over q ks = map (λ (k : Key). k.1) (filter (λ k. goes_over (q k.1)) ks)
+
+-- with one more key
+those_over-on : (q : Process) (k : Key) (ks : List Key) (page : ℕ) →
+    is_in page (those_over q (k ∷ ks)) ≡ (goes_over (q k.1) && page == k.1 || is_in page (those_over q ks))
+those_over-on q k ks page = by (goes_over (q k.1))
+  where
+    by : (b : Bool) → is_in page (map (λ (k : Key). k.1) (cond b (k ∷ filter (λ k. goes_over (q k.1)) ks) (filter (λ k. goes_over (q k.1)) ks)))
+        ≡ (b && page == k.1 || is_in page (those_over q ks))
+    by true = refl
+    by false = refl
+
+-- the page of an entry that goes over is one that goes over
+pub inherited-goes : (q : Process) (l : Ledger) (p page : ℕ) → is_in page (inheritance q l p) ≡ true → goes_over (q page) ≡ true
 inherited-goes q l p page = by (keys_of_process l p)
   where
-    list : List Key → List Inherited
-    list ks = map (λ (k : Key). record { page = k.1; as_zeros = goes_as_zeros (q k.1) }) (filter (λ k. goes_over (q k.1)) ks)
-
-    first : (k : Key) (b : Bool) → goes_over (q k.1) ≡ true → (k.1 == page && not (goes_as_zeros (q k.1)) || b) ≡ true
-        → (b ≡ true → (goes_over (q page) ≡ true) × (goes_as_zeros (q page) ≡ false)) → (goes_over (q page) ≡ true) × (goes_as_zeros (q page) ≡ false)
-    first k b over h rest = on (k.1 == page) (goes_as_zeros (q k.1)) refl refl h
+    step : (k : Key) (ks : List Key) → (is_in page (those_over q ks) ≡ true → goes_over (q page) ≡ true)
+        → is_in page (those_over q (k ∷ ks)) ≡ true → goes_over (q page) ≡ true
+    step k ks rest h = on (goes_over (q k.1)) (page == k.1) (is_in page (those_over q ks)) refl refl refl (sym (those_over-on q k ks page) ∙ h)
       where
-        on : (x z : Bool) → (k.1 == page) ≡ x → goes_as_zeros (q k.1) ≡ z → (x && not z || b) ≡ true
-            → (goes_over (q page) ≡ true) × (goes_as_zeros (q page) ≡ false)
-        on true false is zeros h =
-            let same : k.1 ≡ page = grind (arith, nat_tests, is) in
-            (subst (λ x. goes_over (q x) ≡ true) same over, subst (λ x. goes_as_zeros (q x) ≡ false) same zeros)
-        on true true is zeros h = rest h
-        on false z is zeros h = rest h
+        on : (a b c : Bool) → goes_over (q k.1) ≡ a → (page == k.1) ≡ b → is_in page (those_over q ks) ≡ c → (a && b || c) ≡ true
+            → goes_over (q page) ≡ true
+        on true true c over is h at = let same : page ≡ k.1 = grind (arith, nat_tests, is) in ap (λ x. goes_over (q x)) same ∙ over
+        on true false true over is h at = rest h
+        on true false false over is h at = cc
+        on false b true over is h at = rest h
+        on false b false over is h at = cc
 
-    step : (k : Key) (ks : List Key) → (is_inherited (list ks) page ≡ true → (goes_over (q page) ≡ true) × (goes_as_zeros (q page) ≡ false))
-        → is_inherited (list (k ∷ ks)) page ≡ true → (goes_over (q page) ≡ true) × (goes_as_zeros (q page) ≡ false)
-    step k ks rest h = on (goes_over (q k.1)) refl h
-      where
-        on : (b : Bool) → goes_over (q k.1) ≡ b
-            → is_inherited (map (λ (k : Key). record { page = k.1; as_zeros = goes_as_zeros (q k.1) })
-            (cond b (k ∷ filter (λ k. goes_over (q k.1)) ks) (filter (λ k. goes_over (q k.1)) ks))) page ≡ true
-            → (goes_over (q page) ≡ true) × (goes_as_zeros (q page) ≡ false)
-        on true over h = first k (is_inherited (list ks) page) over h rest
-        on false over h = rest h
-
-    by : (ks : List Key) → is_inherited (list ks) page ≡ true → (goes_over (q page) ≡ true) × (goes_as_zeros (q page) ≡ false)
+    by : (ks : List Key) → is_in page (those_over q ks) ≡ true → goes_over (q page) ≡ true
     by [] h = cc
     by (k ∷ ks) h = step k ks (by ks) h
 
--- a page that goes over, and not as zeros, and isn't inherited has no entry
-pub not-inherited : (q : Process) (l : Ledger) (p page : ℕ) → goes_over (q page) ≡ true → goes_as_zeros (q page) ≡ false
-    → is_inherited (inheritance q l p) page ≡ false → entry l (p, page) ≡ None
-not-inherited q l p page over whole none = by (entry l (p, page)) refl
+-- a page that goes over, and isn't among them, has no entry
+pub not-inherited : (q : Process) (l : Ledger) (p page : ℕ) → goes_over (q page) ≡ true
+    → is_in page (inheritance q l p) ≡ false → entry l (p, page) ≡ None
+not-inherited q l p page over none = by (entry l (p, page)) refl
   where
-    list : List Key → List Inherited
-    list ks = map (λ (k : Key). record { page = k.1; as_zeros = goes_as_zeros (q k.1) }) (filter (λ k. goes_over (q k.1)) ks)
-
-    first : (k : Key) (ks : List Key) → k.1 ≡ page → is_inherited (list (k ∷ ks)) page ≡ true
-    first k ks same = on (goes_over (q k.1)) (ap (λ x. goes_over (q x)) same ∙ over)
+    first : (k : Key) (ks : List Key) → k.1 ≡ page → is_in page (those_over q (k ∷ ks)) ≡ true
+    first k ks same = those_over-on q k ks page
+        ∙ on (goes_over (q k.1)) (page == k.1) (is_in page (those_over q ks)) (ap (λ x. goes_over (q x)) same ∙ over) (grind (arith, nat_tests, same))
       where
-        head : (a z rest : Bool) → a ≡ true → z ≡ false → (a && not z || rest) ≡ true
-        head true false rest e f = refl
-        head true true rest e f = cc
-        head false z rest e f = cc
+        on : (a b c : Bool) → a ≡ true → b ≡ true → (a && b || c) ≡ true
+        on true true c e f = refl
+        on true false c e f = cc
+        on false b c e f = cc
 
-        on : (b : Bool) → b ≡ true
-            → is_inherited (map (λ (k : Key). record { page = k.1; as_zeros = goes_as_zeros (q k.1) })
-            (cond b (k ∷ filter (λ k. goes_over (q k.1)) ks) (filter (λ k. goes_over (q k.1)) ks))) page ≡ true
-        on true e = head (k.1 == page) (goes_as_zeros (q k.1)) (is_inherited (list ks) page) (grind (arith, nat_tests, same))
-            (ap (λ x. goes_as_zeros (q x)) same ∙ whole)
-        on false e = cc
-
-    later : (k : Key) (ks : List Key) → is_inherited (list ks) page ≡ true → is_inherited (list (k ∷ ks)) page ≡ true
-    later k ks h = on (goes_over (q k.1))
+    later : (k : Key) (ks : List Key) → is_in page (those_over q ks) ≡ true → is_in page (those_over q (k ∷ ks)) ≡ true
+    later k ks h = those_over-on q k ks page ∙ on (goes_over (q k.1) && page == k.1) (is_in page (those_over q ks)) h
       where
-        or_rest : (a rest : Bool) → rest ≡ true → (a || rest) ≡ true
-        or_rest true rest e = refl
-        or_rest false rest e = e
-
-        on : (b : Bool)
-            → is_inherited (map (λ (k : Key). record { page = k.1; as_zeros = goes_as_zeros (q k.1) })
-            (cond b (k ∷ filter (λ k. goes_over (q k.1)) ks) (filter (λ k. goes_over (q k.1)) ks))) page ≡ true
-        on true = or_rest (k.1 == page && not (goes_as_zeros (q k.1))) (is_inherited (list ks) page) h
-        on false = h
+        on : (a c : Bool) → c ≡ true → (a || c) ≡ true
+        on true c e = refl
+        on false c e = e
 
     keys : List (Key × Entry) → List Key
     keys es = filter (λ k. k.0 == p) (map (λ e. e.0) es)
 
-    has : (es : List (Key × Entry)) (e : Entry) → find key_cmp (p, page) es ≡ Some e → is_inherited (list (keys es)) page ≡ true
+    has : (es : List (Key × Entry)) (e : Entry) → find key_cmp (p, page) es ≡ Some e → is_in page (those_over q (keys es)) ≡ true
     has [] e h = cc
     has (x ∷ es) e h = at (same_key (p, page) x.0) refl h (has es e)
       where
-        mine : (c : Bool) → (x.0.0 == p) ≡ c → x.0 ≡ (p, page) → is_inherited (list (cond c (x.0 ∷ keys es) (keys es))) page ≡ true
+        mine : (c : Bool) → (x.0.0 == p) ≡ c → x.0 ≡ (p, page) → is_in page (those_over q (cond c (x.0 ∷ keys es) (keys es))) ≡ true
         mine true is same = first x.0 (keys es) (ap (λ (k : Key). k.1) same)
         mine false is same = let e : x.0.0 ≡ p = ap (λ (k : Key). k.0) same in absurd (grind (arith, nat_tests, is, e))
 
-        other : (c : Bool) → is_inherited (list (keys es)) page ≡ true → is_inherited (list (cond c (x.0 ∷ keys es) (keys es))) page ≡ true
+        other : (c : Bool) → is_in page (those_over q (keys es)) ≡ true → is_in page (those_over q (cond c (x.0 ∷ keys es) (keys es))) ≡ true
         other true h = later x.0 (keys es) h
         other false h = h
 
         at : (b : Bool) → same_key (p, page) x.0 ≡ b → cond b (Some x.1) (find key_cmp (p, page) es) ≡ Some e
-            → (find key_cmp (p, page) es ≡ Some e → is_inherited (list (keys es)) page ≡ true)
-            → is_inherited (list (cond (x.0.0 == p) (x.0 ∷ keys es) (keys es))) page ≡ true
+            → (find key_cmp (p, page) es ≡ Some e → is_in page (those_over q (keys es)) ≡ true)
+            → is_in page (those_over q (cond (x.0.0 == p) (x.0 ∷ keys es) (keys es))) ≡ true
         at true is h rest = mine (x.0.0 == p) refl (sym (same_key-is (p, page) x.0 is))
         at false is h rest = other (x.0.0 == p) (rest h)
 
@@ -247,12 +231,12 @@ find-copies p q k (e ∷ es) =
     joined true false o = refl
     joined false b o = refl
 
-find-going : (goes : List Inherited) (p page : ℕ) (l : Ledger) → find key_cmp (p, page) (going goes l.entries) ≡ handed goes p l page
-find-going goes p page l = find-where_key key_cmp (λ (k : Key). is_inherited goes k.1) (p, page)
-    (λ x t. ap (λ (k : Key). is_inherited goes k.1) (sym (same_key-is (p, page) x (ap is_eq t)))) l.entries
+find-going : (goes : List ℕ) (p page : ℕ) (l : Ledger) → find key_cmp (p, page) (going goes l.entries) ≡ handed goes p l page
+find-going goes p page l = find-where_key key_cmp (λ (k : Key). is_in k.1 goes) (p, page)
+    (λ x t. ap (λ (k : Key). is_in k.1 goes) (sym (same_key-is (p, page) x (ap is_eq t)))) l.entries
 
 -- the child has the entries that go over, unseen; all others are as they were
-pub entry-forked : (p q : ℕ) (goes : List Inherited) (l : Ledger) (k : Key) → T (is_sorted key_cmp l.entries) →
+pub entry-forked : (p q : ℕ) (goes : List ℕ) (l : Ledger) (k : Key) → T (is_sorted key_cmp l.entries) →
     entry (child_ledger p q goes l) k ≡ option_or (cond (k.0 == q) (option_map without_seen (handed goes p l k.1)) None) (entry l k)
 entry-forked p q goes l k h =
     ap (λ l. entry l k) (forked-is p q goes l)
@@ -291,7 +275,7 @@ unseen-names_slot r (InFrame g seen) = refl
 unseen-names_slot r (InSlot t) = refl
 
 -- where the child has no entry before, each that is copied has one that counted
-module _ (p q : ℕ) (goes : List Inherited) (l : Ledger) (sorted : T (is_sorted key_cmp l.entries)) (none : (page : ℕ) → entry l (q, page) ≡ None) where
+module _ (p q : ℕ) (goes : List ℕ) (l : Ledger) (sorted : T (is_sorted key_cmp l.entries)) (none : (page : ℕ) → entry l (q, page) ≡ None) where
   abbrev ones : List (Key × Entry)
   ones = going goes l.entries
 

@@ -21,7 +21,7 @@ use Rattle.av_base.specs.declared.flags.Flag.{Flag}
 use Rattle.av_base.specs.declared.flags.Flag.TheVariants as flags
 use Rattle.av_plain.specs.Advice.{advice_events, flag_of_advice, pages_advised}
 use Rattle.av_plain.specs.Lock.{BringsIn, Locks, accesses_of, with_lock}
-use Rattle.av_plain.specs.Event.{Event, FlagSet, Forked, Inherited, EntriesMoved, TurnedOff, TurnedOn, Used, after, after_all, after_move, after_note, after_notes, after_use, after_use_of, after_zap, change_entries, if_some, key_at, note_events, off_cache, put_all, set_entry, when, with_stale}
+use Rattle.av_plain.specs.Event.{Event, FlagSet, Forked, EntriesMoved, TurnedOff, TurnedOn, Used, after, after_all, after_move, after_note, after_notes, after_use, after_use_of, after_zap, change_entries, if_some, key_at, note_events, off_cache, put_all, set_entry, when, with_stale}
 use Rattle.av_plain.specs.Fault.{ComesIn, CopyOnWrite, Denied, IsMade, Lost, MapCached, Need, NewPage, Ready, RunsOut, Serves, Sparing, Starved, Stop, SwapIn, Touches, ZeroPage, drop_at, drop_of_entry, drop_of_slot, asks_copy, is_unneeded, need, need_of_slot, pinned_by, sparing, was_slot}
 use Rattle.av_plain.specs.Fork.{inheritance}
 use Rattle.av_plain.specs.Ledger.{Cached, Entry, InFrame, InSlot, Key, Ledger, Setting, SwapArea, Zero, entry, first_ledger, frame_at, has_free, is_free, is_orphan, key_cmp, keys_of_slot, map_count, names_frame, slot_of, slots_in_use}
@@ -618,14 +618,14 @@ zaps-lists m l (k ∷ ks) free free' s c h =
 -- ---- entries that go over
 
 -- no frame comes into use
-pub fork-steady : (m : Setting) (l : Ledger) (p q : ℕ) (goes : List Inherited) → IsSound m l → ((page : ℕ) → entry l (q, page) ≡ None)
+pub fork-steady : (m : Setting) (l : Ledger) (p q : ℕ) (goes : List ℕ) → IsSound m l → ((page : ℕ) → entry l (q, page) ≡ None)
     → Steady l (child_ledger p q goes l) None
 fork-steady m l p q goes s none = subst (λ l'. Steady l l' None) (sym (forked-is p q goes l ∙ put_all-only (copies p q (going goes l.entries)) l))
     (fewer-steady l (record l { entries = (put_all (copies p q (going goes l.entries)) l).entries })
     (λ g gone. let a = (frames-grow p q goes l s.in_order none g).count in
     let b = (frames-grow p q goes l s.in_order none g).few in omega (arith, gone, a, b)))
 
-fork-lists : (m : Setting) (l : Ledger) (p q : ℕ) (goes : List Inherited) (free free' : List ℕ) → IsSound m l → ((page : ℕ) → entry l (q, page) ≡ None)
+fork-lists : (m : Setting) (l : Ledger) (p q : ℕ) (goes : List ℕ) (free free' : List ℕ) → IsSound m l → ((page : ℕ) → entry l (q, page) ≡ None)
     → ChoosesFrames m l (Forked p q goes ∷ []) free free' → Lists m l free → Lists m (child_ledger p q goes l) free'
 fork-lists m l p q goes free free' s none c h = subst (Lists m (child_ledger p q goes l)) (sym (c.2 ∙ c.1.2))
     (lists-event m l (child_ledger p q goes l) None free c.1.0 c.1.1 (fork-steady m l p q goes s none) h)
@@ -818,7 +818,7 @@ legal-lists m w l command reply es free free' sound legal c h = by (refusal (tes
     s : IsSound m l
     s = sound.ledger
 
-    forks : (p q : ℕ) (goes : List Inherited) → lives w q ≡ false → es ≡ Forked p q goes ∷ [] → Lists m (after_all l es) free'
+    forks : (p q : ℕ) (goes : List ℕ) → lives w q ≡ false → es ≡ Forked p q goes ∷ [] → Lists m (after_all l es) free'
     forks p q goes dead e = subst (λ es. Lists m (after_all l es) free') (sym e)
         (fork-lists m l p q goes free free' s (no_entries w l q sound.at_pages dead) (subst (λ es. ChoosesFrames m l es free free') e c) h)
 
@@ -889,6 +889,7 @@ legal-lists m w l command reply es free free' sound legal c h = by (refusal (tes
         by true mid h c r = accesses-lists m (with_lock true w p from n) l p (accesses_of (pages w p) from n) q.0 r.0 mid free' s r.1 c h
         by false mid h c r = subst (λ es. Lists m (after_all l es) free') (sym r.0)
             (subst (Lists m l) (sym (subst (λ es. ChoosesFrames m l es mid free') r.0 c)) h)
+
     compacts : Compacts m l es reply.answer reply.rows → Lists m (after_all l es) free'
     compacts q =
         let both = frames-first m l (note_events q.0) (FreeSorted ∷ []) free free' (subst (λ es. ChoosesFrames m l es free free') q.2 c) in

@@ -18,7 +18,7 @@ use Rattle.av_trace.specs.declared.note.Note.{Note}
 use Rattle.av_trace.specs.declared.note.Note.TheVariants.{Aged, Copied, Dropped, Failed, Kept, Loaded, Mapped, New, Put, Started, Unmapped, Written, Zeroed}
 use Rattle.av_plain.specs.Choice.{AreaSlots, ChoosesAll, ChoosesSlot, Free, IsGiven, ListsSlots, new_free_slots, no_slots, slot_in_note, with_given_back}
 use Rattle.av_plain.specs.Device.{AreLayouts}
-use Rattle.av_plain.specs.Event.{Inherited, TurnedOff, TurnedOn, after, after_move, after_note, after_notes, after_use, after_zap, note_events}
+use Rattle.av_plain.specs.Event.{TurnedOff, TurnedOn, after, after_move, after_note, after_notes, after_use, after_zap, note_events}
 use Rattle.av_plain.specs.Ledger.{Key, Ledger, Setting, SwapArea, entry, free_slots, is_cached, is_free_slot, is_on, is_usable, key_cmp, same_slot, size_of, slot_count, slot_entries, slots_in_use}
 use Rattle.av_plain.specs.Sound.{AreThere, AreasFit, IsSound, count, is_there, slots}
 use Rattle.av_plain.proofs.Clusters.{AreTaken, Gives, back-at, back-count, gives-one, set-at}
@@ -470,7 +470,7 @@ bare-sound m l s = record {
   merged = s.merged;
 }
 
-pub fork-brings : (m : Setting) (l : Ledger) (p q : ℕ) (goes : List Inherited) → IsSound m l → ((page : ℕ) → entry l (q, page) ≡ None)
+pub fork-brings : (m : Setting) (l : Ledger) (p q : ℕ) (goes : List ℕ) → IsSound m l → ((page : ℕ) → entry l (q, page) ≡ None)
     → Brings l (child_ledger p q goes l) None
 fork-brings m l p q goes s none = plain-brings m l (child_ledger p q goes l) (forked-no_new (bare m) l p q goes (bare-sound m l s) none)
 

@@ -25,7 +25,7 @@ use Rattle.av_base.specs.declared.flags.Flag.{Flag}
 use Rattle.av_base.specs.declared.flags.Flag.TheVariants as flags
 use Rattle.av_plain.specs.Advice.{advice_events, flag_of_advice, pages_advised}
 use Rattle.av_plain.specs.Lock.{BringsIn, Locks, accesses_of, with_lock}
-use Rattle.av_plain.specs.Event.{Event, FlagSet, Forked, Inherited, EntriesMoved, TurnedOff, TurnedOn, Used, Zapped, after, after_all, after_move, after_notes, after_use, after_zap, note_events, when}
+use Rattle.av_plain.specs.Event.{Event, FlagSet, Forked, EntriesMoved, TurnedOff, TurnedOn, Used, Zapped, after, after_all, after_move, after_notes, after_use, after_zap, note_events, when}
 use Rattle.av_plain.specs.Fault.{Stop, Touches}
 use Rattle.av_plain.specs.Fork.{inheritance}
 use Rattle.av_plain.specs.Ledger.{Key, Ledger, Setting, SwapArea, entry, is_on, is_orphan, size_of, slots_in_use}
@@ -128,7 +128,7 @@ zaps-tracks m l (k ∷ ks) free free' s c h =
 
 -- ---- entries that go over
 
-fork-tracks : (m : Setting) (l : Ledger) (p q : ℕ) (goes : List Inherited) (free free' : Free) → IsSound m l → ((page : ℕ) → entry l (q, page) ≡ None)
+fork-tracks : (m : Setting) (l : Ledger) (p q : ℕ) (goes : List ℕ) (free free' : Free) → IsSound m l → ((page : ℕ) → entry l (q, page) ≡ None)
     → ChoosesAll m None l (Forked p q goes ∷ []) free free' → TracksSlots m l free.slots → TracksSlots m (child_ledger p q goes l) free'.slots
 fork-tracks m l p q goes free free' s none c h = subst (λ (f : Free). TracksSlots m (child_ledger p q goes l) f.slots) (sym c.2)
     (event-tracks m None l (Forked p q goes) free c.0 s.in_order (s, none) c.1 h)
@@ -181,7 +181,7 @@ legal-tracks m w l command reply es free free' sound layouts legal chosen h = by
     s : IsSound m l
     s = sound.ledger
 
-    forks : (p q : ℕ) (goes : List Inherited) → lives w q ≡ false → es ≡ Forked p q goes ∷ [] → ChoosesAll m None l es free free'
+    forks : (p q : ℕ) (goes : List ℕ) → lives w q ≡ false → es ≡ Forked p q goes ∷ [] → ChoosesAll m None l es free free'
         → TracksSlots m (after_all l es) free'.slots
     forks p q goes dead e c = subst (λ es. TracksSlots m (after_all l es) free'.slots) (sym e)
         (fork-tracks m l p q goes free free' s (no_entries w l q sound.at_pages dead) (subst (λ es. ChoosesAll m None l es free free') e c) h)
@@ -277,6 +277,7 @@ legal-tracks m w l command reply es free free' sound layouts legal chosen h = by
         by true mid h c r = accesses-tracks m (with_lock true w p from n) l p (accesses_of (pages w p) from n) q.0 r.0 mid free' s r.1 c h
         by false mid h c r = subst (λ es. TracksSlots m (after_all l es) free'.slots) (sym r.0)
             (subst (λ (f : Free). TracksSlots m l f.slots) (sym (subst (λ es. ChoosesAll m None l es mid free') r.0 c)) h)
+
     compacts : Compacts m l es reply.answer reply.rows → ChoosesAll m None l es free free' → TracksSlots m (after_all l es) free'.slots
     compacts q c =
         let both = chosen-first m None l (note_events q.0) (FreeSorted ∷ []) free free' (subst (λ es. ChoosesAll m None l es free free') q.2 c) in

@@ -510,9 +510,9 @@ module _ (m : Setting) (held : FrameBytes) where
         ≡ frame_named (after_notes l (merges m held w l [] (map (λ (e : Key × Entry). e.0) l.entries))) d.0)
     one-frame l s c d has_c has_d is =
         let done : (c : Key × ℕ) → Has c (candidates m held w l [] (map (λ (e : Key × Entry). e.0) l.entries))
-            → IsDone (ended l [] (map (λ (e : Key × Entry). e.0) l.entries)) (all_earlier l [] (map (λ (e : Key × Entry). e.0) l.entries)) c =
+        → IsDone (ended l [] (map (λ (e : Key × Entry). e.0) l.entries)) (all_earlier l [] (map (λ (e : Key × Entry). e.0) l.entries)) c =
         λ c has. all-done l [] (map (λ (e : Key × Entry). e.0) l.entries) (of-sound m w l s) (λ j in_list. absurd (false≢true in_list))
-            (λ f h j none in_h in_j at_h at_j. absurd (false≢true in_h)) (keys-apart l.entries s.ledger.in_order) c has in
+        (λ f h j none in_h in_j at_h at_j. absurd (false≢true in_h)) (keys-apart l.entries s.ledger.in_order) c has in
         (done c has_c).0
         ∙ frame_for-alike (ended l [] (map (λ (e : Key × Entry). e.0) l.entries)) (all_earlier l [] (map (λ (e : Key × Entry). e.0) l.entries)) c.1 d.1 is
         ∙ sym (done d has_d).0
@@ -601,7 +601,7 @@ module _ (m : Setting) (held : FrameBytes) where
     equal-bytes l s holds c d has_c has_d claims =
         let named : (c : Key × ℕ) → Has c (candidates m held w l [] (map (λ (e : Key × Entry). e.0) l.entries)) → IsOfFrame l c.1 c.0 =
         λ c has. names-first l [] (map (λ (e : Key × Entry). e.0) l.entries) (of-sound m w l s) (λ j in_list. absurd (false≢true in_list))
-            (λ f h j none in_h in_j at_h at_j. absurd (false≢true in_h)) (keys-apart l.entries s.ledger.in_order) c has in
+        (λ f h j none in_h in_j at_h at_j. absurd (false≢true in_h)) (keys-apart l.entries s.ledger.in_order) c has in
         one-frame l s c d has_c has_d (claims-hold l holds c.0 d.0 c.1 d.1 (named c has_c) (named d has_d) claims)
 
 -- so it is after the command

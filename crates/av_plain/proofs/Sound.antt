@@ -37,7 +37,7 @@ use Rattle.av_trace.specs.declared.reply.Answer.TheVariants.{Done, Refused}
 use Rattle.av_trace.specs.declared.note.Note.TheVariants.{Aged, Copied, Dropped, Failed, Kept, Loaded, Mapped, New, Put, Started, Unmapped, Written, Zeroed}
 use Rattle.av_base.specs.Limits.{most_processes}
 use Rattle.av_base.specs.Page.{address_of, page_of, pages_met, pages_of}
-use Rattle.av_base.specs.Words.{within}
+use Rattle.av_base.specs.Words.{is_in, within}
 use Rattle.av_base.specs.declared.flags.Flag.{Flag}
 use Rattle.av_base.specs.declared.flags.Flag.TheVariants as flags
 use Rattle.av_base.specs.declared.flags.Flags.{Flags}
@@ -48,7 +48,7 @@ use Rattle.av_plain.specs.Advice.{advice_events, advised, flag_of_advice, pages_
 use Rattle.av_plain.specs.Fault.{Denied, Lost, Starved}
 use Rattle.av_plain.specs.Fork.{goes_over, inheritance}
 use Rattle.av_plain.specs.Lock.{BringsIn, accesses_of, lock_event, with_lock}
-use Rattle.av_plain.specs.Event.{Event, FlagSet, is_inherited, Forked, Inherited, EntriesMoved, Noted, TurnedOff, TurnedOn, Used, Zapped, after, after_all, without_seen}
+use Rattle.av_plain.specs.Event.{Event, FlagSet, Forked, EntriesMoved, Noted, TurnedOff, TurnedOn, Used, Zapped, after, after_all, without_seen}
 use Rattle.av_plain.specs.Ledger.{Entry, Ledger, Setting, entry, first_ledger, is_on, size_of}
 use Rattle.av_plain.specs.Load.{after_load, after_loads, is_of_slot, with_loads, without_bytes, without_claims}
 use Rattle.av_plain.specs.Map.{with_prot_to_hole, zaps_for_place}
@@ -200,7 +200,7 @@ goes-loads m w l es p page = by (pages (with_loads m w l es) p page) (pages w p 
     by None None e = refl
     by None (Some y) e = cc
     by (Some x) None e = cc
-    by (Some x) (Some y) e = ap (λ (o : Option Flags). option_map_or (λ (f : Flags). not f.dont_fork) o false) e
+    by (Some x) (Some y) e = ap (λ (o : Option Flags). option_map_or (λ (f : Flags). not f.dont_fork && not f.wipe_on_fork) o false) e
 
 pub tidy-loads : (m : Setting) (w : World) (l : Ledger) (es : List Event) → IsTidy w → IsTidy (with_loads m w l es)
 tidy-loads m w l es tidy = record {
@@ -283,7 +283,7 @@ forked-sound m w v l p q s goes dead room = record {
   areas_fit = (forked-no_new m l p q over s.ledger none).fits s.areas_fit;
 }
   where
-    over : List Inherited
+    over : List ℕ
     over = inheritance (pages v p) l p
 
     none : (page : ℕ) → entry l (q, page) ≡ None
@@ -295,7 +295,7 @@ forked-sound m w v l p q s goes dead room = record {
 
     copied : (page : ℕ) → is_some (entry (child_ledger p q over l) (q, page)) ≡ true → is_some (child_of (pages w p) page) ≡ true
     copied page h = goes page (inherited-goes (pages v p) l p page
-        (by (q == q) (is_inherited over page) (entry l (p, page)) (entry l (q, page)) (none page) (found q page h))).0
+        (by (q == q) (is_in page over) (entry l (p, page)) (entry l (q, page)) (none page) (found q page h)))
       where
         by : (b c : Bool) (x y : Option Entry) → y ≡ None
             → is_some (option_or (cond b (option_map without_seen (cond c x None)) None) y) ≡ true → c ≡ true
@@ -488,11 +488,11 @@ follows-sound m w l (AsksFork p q) events answer rows s fine h =
   where
     child-there : (o : Option Page) → goes_over o ≡ true → is_some (option_and_then page_of_child o) ≡ true
     child-there None h = cc
-    child-there (Some x) h = by x.flags.dont_fork h
+    child-there (Some x) h = by x.flags.dont_fork (not x.flags.wipe_on_fork) h
       where
-        by : (b : Bool) → not b ≡ true → is_some (cond b None (Some (without_lock (cond x.flags.wipe_on_fork (wiped x) x)))) ≡ true
-        by true h = cc
-        by false h = refl
+        by : (b c : Bool) → (not b && c) ≡ true → is_some (cond b None (Some (without_lock (cond x.flags.wipe_on_fork (wiped x) x)))) ≡ true
+        by true c h = cc
+        by false c h = refl
 follows-sound m w l (Exit p) events answer rows s fine h =
     let loaded = loads-sound m w l l events s in
     subst (λ a. AllSound m (next (with_loads m w l events) (Exit p) a) (after_all l events)) (sym h.0)

@@ -1,11 +1,10 @@
 -- What happens to the ledger, one event at a time, and what stands after it.
 use Rattle.std.specs.FinMap.Entries.{put, where_key}
-use Rattle.std.specs.List.{list_any}
 use Rattle.std.specs.Ordering.{nat_cmp}
 use Rattle.std.specs.Prelude.{ℕ, ◌+◌, ◌-◌, Bool, true, false, not, ◌&&◌, ◌==◌, if◌then◌else◌, List}
 use Rattle.std.specs.Prelude.{[], ◌∷◌, ◌++◌, map, filter, fold, Option, Some, None}
 use Rattle.av_base.specs.Page.{page_of}
-use Rattle.av_base.specs.Words.{renamed, within}
+use Rattle.av_base.specs.Words.{is_in, renamed, within}
 use Rattle.av_base.specs.declared.flags.Flag.{Flag}
 use Rattle.av_base.specs.declared.slot.Slot.{Slot}
 use Rattle.av_trace.specs.declared.note.Cause.TheVariants.{Writeback, Referenced, NoSlot}
@@ -20,11 +19,6 @@ use Rattle.av_plain.specs.Ledger.{slot_of, Entry, Zero, entry, Cached, Key, Ledg
 use Rattle.av_plain.specs.Ledger.{InSlot}
 use Rattle.av_plain.specs.World.{process}
 
--- a page that goes over at a fork, whole or as zeros
-pub record Inherited : Type 0 where
-  pub page : ℕ
-  pub as_zeros : Bool
-
 -- what may happen to the ledger
 pub data Event : Type 0 where
   -- what a note tells
@@ -33,8 +27,8 @@ pub data Event : Type 0 where
   Zapped : (key : Key) → Event
   -- a read or write has served the page
   Used : (write : Bool) (key : Key) → Event
-  -- the second process gets these pages of the first one
-  Forked : (parent child : ℕ) (pages : List Inherited) → Event
+  -- the second process gets the first one's entries of these pages
+  Forked : (parent child : ℕ) (pages : List ℕ) → Event
   -- a flag of those of the process's n pages from one on that are mapped is set, or cleared
   FlagSet : (process from n : ℕ) (flag : Flag) (set : Bool) → Event
   -- the process's entries of the n pages from one page on go to another
@@ -229,15 +223,11 @@ after_use write k l = after_use_of write k l (entry l k)
 abbrev pub put_all : List (Key × Entry) → Ledger → Ledger
 put_all es l = fold (λ l e. set_entry e.0 e.1 l) l es
 
--- whether the page goes over with its entry
-abbrev pub is_inherited : List Inherited → ℕ → Bool
-is_inherited pages page = list_any (λ (i : Inherited). i.page == page && not i.as_zeros) pages
-
--- the child gets the parent's entries of the pages that go over, unseen
-abbrev pub after_fork : ℕ → ℕ → List Inherited → Ledger → Ledger
+-- the child gets the parent's entries of these pages, unseen
+abbrev pub after_fork : ℕ → ℕ → List ℕ → Ledger → Ledger
 after_fork p q pages l =
     put_all (map (λ e. ((q, e.0.1), without_seen e.1))
-    (entries_where (λ k. k.0 == p && is_inherited pages k.1) l)) l
+    (entries_where (λ k. k.0 == p && is_in k.1 pages) l)) l
 
 -- the entries of the n pages from `from` on go to as many pages from `to` on
 abbrev pub after_move : ℕ → ℕ → ℕ → ℕ → Ledger → Ledger

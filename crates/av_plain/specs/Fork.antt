@@ -1,7 +1,7 @@
 -- Fork: a child gets of its parent's memory what the flags of its pages say, the entries of these
 -- pages, and the parent's areas one after the other, each with a chain.
 use Rattle.std.specs.Option.{option_map_or}
-use Rattle.std.specs.Prelude.{◌≡◌, ◌<◌, ◌≤◌, ◌==◌, ℕ, suc, Bool, true, false, List, [], ◌∷◌, ◌++◌}
+use Rattle.std.specs.Prelude.{◌≡◌, ◌<◌, ◌≤◌, ◌==◌, ◌&&◌, ℕ, suc, Bool, true, false, List, [], ◌∷◌, ◌++◌}
 use Rattle.std.specs.Prelude.{map, filter, not, Option, Some, None, IfSome, IsSomeAnd}
 use Rattle.av_base.specs.Words.{how_many, is_in, with_at}
 use Rattle.std.specs.List.{range_with_len}
@@ -14,7 +14,7 @@ use Rattle.av_vma.specs.declared.area.Area.{Area}
 use Rattle.av_vma.specs.Fork.{areas_to_fork, forked_area, own_to_fork}
 use Rattle.av_vma.specs.Pages.{pages_in, with_area}
 use Rattle.av_plain.specs.Areas.{AnonVma, Anons, AreNext, Rmap, chain_by, none_on, root_of}
-use Rattle.av_plain.specs.Event.{Event, Forked, Inherited}
+use Rattle.av_plain.specs.Event.{Event, Forked}
 use Rattle.av_plain.specs.Ledger.{Key, Ledger}
 use Rattle.av_plain.specs.Report.{AreApart, range_of}
 use Rattle.av_plain.specs.World.{Page, Process, World, pages}
@@ -22,22 +22,16 @@ use Rattle.av_plain.specs.Zap.{keys_of_process}
 
 -- ---- entries
 
--- whether a page goes over to a child, and whether as zeros
+-- whether the entry of a page goes over to a child: the page isn't left out, and isn't wiped
 abbrev pub goes_over : Option Page → Bool
 goes_over None = false
-goes_over (Some page) = not page.flags.dont_fork
+goes_over (Some page) = not page.flags.dont_fork && not page.flags.wipe_on_fork
 
-abbrev pub goes_as_zeros : Option Page → Bool
-goes_as_zeros None = false
-goes_as_zeros (Some page) = page.flags.wipe_on_fork
+-- the pages whose entries go over: those of the parent that have one
+abbrev pub inheritance : Process → Ledger → ℕ → List ℕ
+inheritance q l p = map (λ (k : Key). k.1) (filter (λ k. goes_over (q k.1)) (keys_of_process l p))
 
--- what goes over: each page of the parent that has an entry, but those that are left out
-abbrev pub inheritance : Process → Ledger → ℕ → List Inherited
-inheritance q l p =
-    map (λ (k : Key). record { page = k.1; as_zeros = goes_as_zeros (q k.1) })
-    (filter (λ k. goes_over (q k.1)) (keys_of_process l p))
-
--- a fork tells nothing; its one event names what goes over
+-- a fork tells nothing; its one event names these pages
 abbrev pub Forks : World → Ledger → ℕ → ℕ → List Event → Answer → List Row → Type 0
 Forks w l p q events answer rows =
     (answer ≡ Done) × (events ≡ Forked p q (inheritance (pages w p) l p) ∷ []) × (rows ≡ [])

@@ -6,13 +6,13 @@ use Rattle.std.specs.FinMap.Entries.{is_sorted}
 use Rattle.std.specs.Option.{option_or}
 use Rattle.std.specs.Prelude.{option_and_then}
 use Rattle.std.specs.Ordering.{nat_cmp, eq_by_cmp}
-use Rattle.av_base.specs.Words.{with_at}
+use Rattle.av_base.specs.Words.{is_in, with_at}
 use Rattle.av_base.specs.declared.slot.Slot.{Slot}
 use Rattle.av_plain.specs.Choice.{Chooses}
 use Rattle.av_plain.specs.Device.{Device}
-use Rattle.av_plain.specs.Event.{Forked, Inherited, after, is_inherited, put_all, set_entry, without_seen}
+use Rattle.av_plain.specs.Event.{Forked, after, put_all, set_entry, without_seen}
 use Rattle.av_plain.specs.Fault.{is_named, asks_copy}
-use Rattle.av_plain.specs.Fork.{goes_as_zeros, goes_over, inheritance}
+use Rattle.av_plain.specs.Fork.{goes_over, inheritance}
 use Rattle.av_plain.specs.Ledger.{Entry, InFrame, InSlot, Key, Ledger, Setting, Zero, entry, frame_at, in_flight, is_free, is_stale, key_cmp, map_count, names_frame, names_slot, same_slot, slot_entries, slot_of}
 use Rattle.av_plain.specs.Sound.{holders, slots}
 use Rattle.av_plain.specs.Stands.{BytesStand, IsKept, LedgerStands, Pte, View, entry_of, free_of}
@@ -186,13 +186,13 @@ module _ (m : Setting) (v : View) (l : Ledger) (p q page : ℕ) (t : Pte) (sorte
 -- ---- the whole fork
 
 -- all but the entries stays
-pub forked-only : (p q : ℕ) (goes : List Inherited) (l : Ledger)
+pub forked-only : (p q : ℕ) (goes : List ℕ) (l : Ledger)
     → child_ledger p q goes l ≡ record l { entries = (child_ledger p q goes l).entries }
 forked-only p q goes l = forked-is p q goes l ∙ put_all-only (copies p q (going goes l.entries)) l
     ∙ ap (λ es. record l { entries = es }) (ap (λ (k : Ledger). k.entries) (sym (forked-is p q goes l)))
 
 -- nothing is taken, and nothing comes free
-pub fork-chosen : (m : Setting) (closing : Option ℕ) (l : Ledger) (p q : ℕ) (goes : List Inherited) (v v' : View) → T (is_sorted key_cmp l.entries)
+pub fork-chosen : (m : Setting) (closing : Option ℕ) (l : Ledger) (p q : ℕ) (goes : List ℕ) (v v' : View) → T (is_sorted key_cmp l.entries)
     → ((page : ℕ) → entry l (q, page) ≡ None) → free_of v' ≡ free_of v
     → Chooses m closing l (Forked p q goes) (free_of v) (free_of v')
 fork-chosen m closing l p q goes v v' sorted none same = subst (Chooses m closing l (Forked p q goes) (free_of v)) (sym same)
@@ -230,7 +230,7 @@ fork-bytes v v' d w l p q sorted same none h = record {
       (sym (ap (λ (k : Ledger). in_flight k t) (forked-only p q goes l)) ∙ low));
 }
   where
-    goes : List Inherited
+    goes : List ℕ
     goes = inheritance (pages w p) l p
 
     now : Ledger
@@ -243,17 +243,17 @@ fork-bytes v v' d w l p q sorted same none h = record {
     moved o x k = kept-moves v v' d d l (child_ledger p q (inheritance (pages w p) l p) l) o x same (λ t is. found t) (λ t is none held. held) k
 
     -- a page that goes over with its entry
-    whole : (o : Option Entry) (x : Option Page) → goes_over x ≡ true → goes_as_zeros x ≡ false → IsKept v d l o x
+    whole : (o : Option Entry) (x : Option Page) → goes_over x ≡ true → IsKept v d l o x
         → IsKept v' d (child_ledger p q (inheritance (pages w p) l p) l) (option_or (option_map without_seen o) None) (option_and_then page_of_child x)
-    whole o None over stays k = cc
-    whole o (Some x) over stays k = kept-claims v' d (child_ledger p q (inheritance (pages w p) l p) l) (option_or (option_map without_seen o) None)
-        (Some x) (page_of_child x) (claims x.flags.dont_fork x.flags.wipe_on_fork over stays) (unseen o (moved o (Some x) k))
+    whole o None over k = cc
+    whole o (Some x) over k = kept-claims v' d (child_ledger p q (inheritance (pages w p) l p) l) (option_or (option_map without_seen o) None)
+        (Some x) (page_of_child x) (claims x.flags.dont_fork x.flags.wipe_on_fork over) (unseen o (moved o (Some x) k))
       where
-        claims : (a b : Bool) → not a ≡ true → b ≡ false → (at : ℕ → ℕ) → Holds (Some x) at
+        claims : (a b : Bool) → (not a && not b) ≡ true → (at : ℕ → ℕ) → Holds (Some x) at
             → Holds (if a then None else Some (without_lock (if b then wiped x else x))) at
-        claims true b over stays at held = cc
-        claims false true over stays at held = cc
-        claims false false over stays at held = held
+        claims true b over at held = cc
+        claims false true over at held = cc
+        claims false false over at held = held
 
         unseen : (o : Option Entry) → IsKept v' d (child_ledger p q (inheritance (pages w p) l p) l) o (Some x)
             → IsKept v' d (child_ledger p q (inheritance (pages w p) l p) l) (option_or (option_map without_seen o) None) (Some x)
@@ -263,26 +263,26 @@ fork-bytes v v' d w l p q sorted same none h = record {
         unseen (Some (InSlot t)) k = k
 
     -- one that doesn't is left out, or zeros
-    bare : (x : Option Page) → (goes_over x ≡ true → goes_as_zeros x ≡ false → Holds x (λ _. 0)) → Holds (option_and_then page_of_child x) (λ _. 0)
+    bare : (x : Option Page) → (goes_over x ≡ true → Holds x (λ _. 0)) → Holds (option_and_then page_of_child x) (λ _. 0)
     bare None zero = tt
     bare (Some x) zero = of_flags x.flags.dont_fork x.flags.wipe_on_fork zero
       where
-        of_flags : (a b : Bool) → (not a ≡ true → b ≡ false → Holds (Some x) (λ _. 0))
+        of_flags : (a b : Bool) → ((not a && not b) ≡ true → Holds (Some x) (λ _. 0))
             → Holds (if a then None else Some (without_lock (if b then wiped x else x))) (λ _. 0)
         of_flags true b zero = tt
         of_flags false true zero = λ i below. refl
-        of_flags false false zero = zero refl refl
+        of_flags false false zero = zero refl
 
     child : (page : ℕ) → IsKept v' d (child_ledger p q (inheritance (pages w p) l p) l)
         (option_or (option_map without_seen (handed (inheritance (pages w p) l p) p l page)) None) (child_of (pages w p) page)
-    child page = over (is_inherited (inheritance (pages w p) l p) page) refl
+    child page = over (is_in page (inheritance (pages w p) l p)) refl
       where
-        over : (b : Bool) → is_inherited (inheritance (pages w p) l p) page ≡ b
+        over : (b : Bool) → is_in page (inheritance (pages w p) l p) ≡ b
             → IsKept v' d (child_ledger p q (inheritance (pages w p) l p) l)
             (option_or (option_map without_seen (cond b (entry l (p, page)) None)) None) (child_of (pages w p) page)
-        over true is = let two = inherited-goes (pages w p) l p page is in whole (entry l (p, page)) (pages w p page) two.0 two.1 (h.kept p page)
-        over false is = bare (pages w p page) (λ over stays. subst (λ o. IsKept v d l o (pages w p page))
-            (not-inherited (pages w p) l p page over stays is) (h.kept p page))
+        over true is = whole (entry l (p, page)) (pages w p page) (inherited-goes (pages w p) l p page is) (h.kept p page)
+        over false is = bare (pages w p page) (λ over. subst (λ o. IsKept v d l o (pages w p page))
+            (not-inherited (pages w p) l p page over is) (h.kept p page))
 
     yes_same : (a : ℕ) → (a == q) ≡ true → eq_by_cmp nat_cmp a q ≡ true
     yes_same a h = grind (arith, nat_tests, h)

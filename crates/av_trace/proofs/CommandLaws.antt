@@ -1,6 +1,6 @@
 -- Each command: what is read is in range and on its line, and what is in range is read from its line.
 use Rattle.std.proofs.Common.{◌≡◌, ℕ, List, [], ◌∷◌, ◌++◌, append-nil, Option, Some, refl, sym, ap, subst, ◌∙◌, lit<}
-use Rattle.std.specs.Prelude.{◌-◌, ◌^◌, codes, Result, Ok, Err, OnErr}
+use Rattle.std.specs.Prelude.{◌-◌, ◌^◌, Bool, true, false, if◌then◌else◌, None, codes, Result, Ok, Err, OnErr}
 use Rattle.std.specs.List.{flat_map, AllByRecursion}
 use Rattle.std.specs.Fmt.{decimal}
 use Rattle.std.proofs.lemmas.Option.{same_Some}
@@ -11,7 +11,7 @@ use Rattle.av_trace.specs.declared.command.Command.{Command}
 use Rattle.av_trace.specs.declared.command.Command.TheVariants as commands
 use Rattle.av_trace.specs.declared.place.Place.{Place}
 use Rattle.av_trace.specs.declared.mode.Mode.{Mode}
-use Rattle.av_trace.specs.Command.{IsAreaNumber, IsFrameCount, IsInRange, line_of, at_end, whole, no_words, fork_words, range_words, mmap_words, mprotect_words, mremap_words, read_words, write_words, CommandReader, fork_at, mmap_at, munmap_at, mprotect_at, mremap_at, madvise_at, madvise_words, mlock_at, munlock_at, read_at, write_at, area_at, frames_at, rmap_at, entry_of, swapon_words, swapon_at, slot_at, slot_words, readers, command_of}
+use Rattle.av_trace.specs.Command.{IsAreaNumber, IsFrameCount, is_in_grammar, IsCommand, IsInRange, line_of, at_end, whole, no_words, fork_words, range_words, mmap_words, mprotect_words, mremap_words, read_words, write_words, CommandReader, fork_at, mmap_at, munmap_at, mprotect_at, mremap_at, madvise_at, madvise_words, mlock_at, munlock_at, read_at, write_at, area_at, frames_at, rmap_at, entry_of, swapon_words, swapon_at, slot_at, slot_words, readers, command_in, of_grammar, command_of}
 use Rattle.av_text.specs.Hex.{hex, hex_text, IsData}
 use Rattle.av_text.specs.Number.{IsNumberIn, IsProcess, IsWide, process_at}
 use Rattle.av_trace.specs.declared.advice.Advice.{Advice}
@@ -186,13 +186,28 @@ stats-found = whole-found nothing (codes "stat") _ (λ _ _. tt) (λ _. refl)
 each_reads : AllByRecursion IsReader readers
 each_reads = (writes-found, (reads-found, (spawns-found, (forks-found, (exits-found, (mmaps-found, (ranges-found, (mprotects-found, (mremaps-found, (madvises-found, (mlocks-found, (munlocks-found, (reclaims-found, (ages-found, (completes-found, (swapons-found, (swapoffs-found, (merges-found, (compacts-found, (maps-found, (areas-found, (rmaps-found, (entries-found, (slots-found, (stats-found, tt)))))))))))))))))))))))))
 
-pub command_of-found : (bytes : List ℕ) (c : Command) → command_of bytes ≡ Some c → IsInRange c × (bytes ≡ line_of c)
-unfolding command_of
-command_of-found bytes c e =
+words-found : (bytes : List ℕ) (c : Command) → command_in readers bytes ≡ Some c → IsInRange c × (bytes ≡ line_of c)
+words-found bytes c e =
     let reader = bind_some {A = CommandReader × List ℕ} _ _ _ e in
     let is = named-found IsReader readers bytes reader.value each_reads reader.first in
     let s = is.fits reader.value.1 c reader.second in
     (s.0, is.is ∙ s.1)
+
+-- what the grammar lets through was read, and it has it
+lets-through : (o : Option Command) (c : Command) → of_grammar o ≡ Some c → (is_in_grammar c ≡ true) × (o ≡ Some c)
+lets-through None c e = absurd cc
+lets-through (Some d) c e = by (is_in_grammar d) refl e
+  where
+    by : (b : Bool) → is_in_grammar d ≡ b → (if b then Some d else None) ≡ Some c → (is_in_grammar c ≡ true) × (Some d ≡ Some c)
+    by true has e = (subst (λ (x : Command). is_in_grammar x ≡ true) (same_Some d c e) has, e)
+    by false has e = absurd cc
+
+pub command_of-found : (bytes : List ℕ) (c : Command) → command_of bytes ≡ Some c → IsCommand c × (bytes ≡ line_of c)
+unfolding command_of
+command_of-found bytes c e =
+    let has = lets-through (command_in readers bytes) c e in
+    let is = words-found bytes c has.1 in
+    ((has.0, is.0), is.1)
 
 -- ---- what is read again
 
@@ -205,35 +220,40 @@ whole-again {A = A} {read = read} {words = words} reads end command x fits =
     let found : read (flat_map field (words x)) ≡ Some (x, []) = ap read (sym (append-nil (flat_map field (words x)))) ∙ reads.again x [] fits end in
     ap (λ (o : Option (A × List ℕ)). o >>= λ y. at_end (command y.0) y.1) found
 
-pub command_of-again : (c : Command) → IsInRange c → command_of (line_of c) ≡ Some c
-unfolding command_of after
-command_of-again (commands.Spawn p) h = whole-again processes tt commands.Spawn p h
-command_of-again (commands.Fork p q) h = whole-again forks tt _ (p, q) h
-command_of-again (commands.Exit p) h = whole-again processes tt commands.Exit p h
-command_of-again (commands.Mmap p len prot place) h = whole-again mmaps refl _ (((p, len), prot), place) (((h.0, h.1), tt), h.2)
-command_of-again (commands.Munmap p address len) h = whole-again ranges tt _ ((p, address), len) ((h.0, h.1), h.2)
-command_of-again (commands.Mprotect p address len prot) h = whole-again mprotects tt _ (((p, address), len), prot) (((h.0, h.1), h.2), tt)
-command_of-again (commands.Mremap p address old_len new_len mode) h =
+pub words-again : (c : Command) → IsInRange c → command_in readers (line_of c) ≡ Some c
+unfolding after
+words-again (commands.Spawn p) h = whole-again processes tt commands.Spawn p h
+words-again (commands.Fork p q) h = whole-again forks tt _ (p, q) h
+words-again (commands.Exit p) h = whole-again processes tt commands.Exit p h
+words-again (commands.Mmap p len prot place) h = whole-again mmaps refl _ (((p, len), prot), place) (((h.0, h.1), tt), h.2)
+words-again (commands.Munmap p address len) h = whole-again ranges tt _ ((p, address), len) ((h.0, h.1), h.2)
+words-again (commands.Mprotect p address len prot) h = whole-again mprotects tt _ (((p, address), len), prot) (((h.0, h.1), h.2), tt)
+words-again (commands.Mremap p address old_len new_len mode) h =
     whole-again mremaps refl _ ((((p, address), old_len), new_len), mode) ((((h.0, h.1), h.2), h.3), h.4)
-command_of-again (commands.Madvise p address len advice) h =
+words-again (commands.Madvise p address len advice) h =
     whole-again madvises refl _ (((p, address), len), advice) (((h.0, h.1), h.2), tt)
-command_of-again (commands.Mlock p address len) h = whole-again ranges tt _ ((p, address), len) ((h.0, h.1), h.2)
-command_of-again (commands.Munlock p address len) h = whole-again ranges tt _ ((p, address), len) ((h.0, h.1), h.2)
-command_of-again (commands.Read p address len) h = whole-again reads tt _ ((p, address), len) ((h.0, h.1), h.2)
-command_of-again (commands.Write p address bytes) h = whole-again writes refl _ ((p, address), bytes) ((h.0, h.1), h.2)
-command_of-again (commands.Reclaim n) h = whole-again counts tt commands.Reclaim n h
-command_of-again (commands.Age n) h = whole-again counts tt commands.Age n h
-command_of-again (commands.Complete n) h = whole-again counts tt commands.Complete n h
-command_of-again (commands.Swapon k priority) h = whole-again swapons refl _ (k, priority) h
-command_of-again (commands.Swapoff k) h = whole-again swap_areas tt commands.Swapoff k h
-command_of-again commands.Merge h = whole-again nothing tt (λ x. commands.Merge) tt tt
-command_of-again commands.Compact h = whole-again nothing tt (λ x. commands.Compact) tt tt
-command_of-again (commands.Maps p) h = whole-again processes tt commands.Maps p h
-command_of-again (commands.Areas p) h = whole-again processes tt commands.Areas p h
-command_of-again (commands.Rmap p address) h = whole-again entries tt _ (p, address) h
-command_of-again (commands.Entry p address) h = whole-again entries tt _ (p, address) h
-command_of-again (commands.Slot k page) h = whole-again slots tt _ (k, page) h
-command_of-again commands.Stat h = whole-again nothing tt (λ x. commands.Stat) tt tt
+words-again (commands.Mlock p address len) h = whole-again ranges tt _ ((p, address), len) ((h.0, h.1), h.2)
+words-again (commands.Munlock p address len) h = whole-again ranges tt _ ((p, address), len) ((h.0, h.1), h.2)
+words-again (commands.Read p address len) h = whole-again reads tt _ ((p, address), len) ((h.0, h.1), h.2)
+words-again (commands.Write p address bytes) h = whole-again writes refl _ ((p, address), bytes) ((h.0, h.1), h.2)
+words-again (commands.Reclaim n) h = whole-again counts tt commands.Reclaim n h
+words-again (commands.Age n) h = whole-again counts tt commands.Age n h
+words-again (commands.Complete n) h = whole-again counts tt commands.Complete n h
+words-again (commands.Swapon k priority) h = whole-again swapons refl _ (k, priority) h
+words-again (commands.Swapoff k) h = whole-again swap_areas tt commands.Swapoff k h
+words-again commands.Merge h = whole-again nothing tt (λ x. commands.Merge) tt tt
+words-again commands.Compact h = whole-again nothing tt (λ x. commands.Compact) tt tt
+words-again (commands.Maps p) h = whole-again processes tt commands.Maps p h
+words-again (commands.Areas p) h = whole-again processes tt commands.Areas p h
+words-again (commands.Rmap p address) h = whole-again entries tt _ (p, address) h
+words-again (commands.Entry p address) h = whole-again entries tt _ (p, address) h
+words-again (commands.Slot k page) h = whole-again slots tt _ (k, page) h
+words-again commands.Stat h = whole-again nothing tt (λ x. commands.Stat) tt tt
+
+pub command_of-again : (c : Command) → IsCommand c → command_of (line_of c) ≡ Some c
+unfolding command_of
+command_of-again c h =
+    ap of_grammar (words-again c h.1) ∙ ap (λ (b : Bool). if b then Some c else None) h.0
 
 -- ---- want of memory
 

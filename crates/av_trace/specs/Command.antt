@@ -1,5 +1,6 @@
 -- The lines that are commands. Each command has one line.
-use Rattle.std.specs.Prelude.{ℕ, ◌-◌, ◌^◌, List, [], ◌∷◌, ◌++◌, codes, Option, Some, None}
+use Rattle.std.specs.Prelude.{◌≡◌, ℕ, ◌-◌, ◌^◌, Bool, true, false, if◌then◌else◌, List, [], ◌∷◌}
+use Rattle.std.specs.Prelude.{◌++◌, codes, Option, Some, None}
 use Rattle.std.specs.Fmt.{decimal}
 use Rattle.av_base.specs.Limits.{most_frames}
 use Rattle.av_base.specs.Page.{page_size}
@@ -57,7 +58,20 @@ IsInRange (commands.Entry p address) = IsProcess p × IsWide address
 IsInRange (commands.Slot k page) = IsAreaNumber k × IsNumberIn 0 (2 ^ 32 - 1) page
 IsInRange commands.Stat = Unit {0}
 
--- the one line of a command
+-- whether the grammar has the command: the others have a text and a meaning, and no line yet
+abbrev pub is_in_grammar : Command → Bool
+is_in_grammar (commands.Madvise p address len advice) = false
+is_in_grammar (commands.Mlock p address len) = false
+is_in_grammar (commands.Munlock p address len) = false
+is_in_grammar commands.Merge = false
+is_in_grammar commands.Compact = false
+is_in_grammar c = true
+
+-- a command of the grammar, with values in range
+abbrev pub IsCommand : Command → Type 0
+IsCommand c = (is_in_grammar c ≡ true) × IsInRange c
+
+-- the one text of a command, which is its line where the grammar has it
 abbrev pub line_of : Command → List ℕ
 line_of (commands.Spawn p) = line (codes "spawn") (decimal p ∷ [])
 line_of (commands.Fork p q) = line (codes "fork") (decimal p ∷ decimal q ∷ [])
@@ -273,6 +287,11 @@ readers =
 abbrev pub command_in : List (List ℕ × CommandReader) → CommandReader
 command_in names line = by_name names line >>= λ found. found.0 found.1
 
--- the command of a whole line
+-- the command that was read, if there is one and the grammar has it
+abbrev pub of_grammar : Option Command → Option Command
+of_grammar None = None
+of_grammar (Some c) = if is_in_grammar c then Some c else None
+
+-- the command of a whole line: what its words read as, if the grammar has that
 unfoldable pub command_of : CommandReader
-command_of line = command_in readers line
+command_of line = of_grammar (command_in readers line)

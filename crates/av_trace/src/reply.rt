@@ -283,7 +283,11 @@ fn walk_line(text: &mut Bytes, frame: u32, maps: u64) -> Result<(), AllocError>
 fn add_merged(text: &mut Bytes, merged: bool) -> Result<(), AllocError>
     ensures { Adds result text.old text.new (flat_map field (merged_words merged)) }
 {
-    if merged { add_word(text, b"ksm") } else { Ok(()) }
+    if merged {
+        add_word(text, b"ksm")
+    } else {
+        Ok(())
+    }
 }
 
 fn entry_frame_line(

@@ -8,7 +8,7 @@ use Rattle.std.specs.declared.cmp.Ordering.TheVariants.{Less, Equal, Greater}
 use Rattle.std.proofs.Common.{◌≡◌, ◌⊎◌, inl, inr, ℕ, ◌+◌, ◌-◌, ◌<◌, ◌≤◌, min, Bool, true, false, cond, not, ◌&&◌, ◌==◌, List, [], ◌∷◌, ◌++◌, map, Option, Some, None, is_some, refl, sym, ap, subst, ◌∙◌, arith}
 use Rattle.std.proofs.lemmas.Bool.Decides.{nat_tests}
 use Rattle.av_base.specs.Page.{page_of, pages_met, pages_of}
-use Rattle.av_base.specs.Words.{within}
+use Rattle.av_base.specs.Words.{is_in, within}
 use Rattle.av_base.specs.declared.slot.Slot.{Slot}
 use Rattle.av_clusters.specs.Clusters.{Slots, fresh, is_free as is_free_page}
 use Rattle.av_swapdev.specs.Device.{most_pages}
@@ -33,7 +33,7 @@ use Rattle.av_base.specs.declared.flags.Flag.{Flag}
 use Rattle.av_plain.specs.Advice.{advice_events, flag_of_advice, pages_advised}
 use Rattle.av_plain.specs.Lock.{BringsIn, accesses_of, with_lock}
 use Rattle.av_plain.specs.Choice.{AreFresh, ChoosesAll, Free}
-use Rattle.av_plain.specs.Event.{Event, EntriesMoved, FlagSet, Forked, FreeSorted, Noted, TurnedOff, TurnedOn, Used, Zapped, after, after_all, after_note, after_use_of, change_entries, entries_where, if_some, is_inherited, key_at, note_events, off_cache, off_flight, put_all, set_entry, settle_entry, to_inactive_tail, when, with_stale, without_seen}
+use Rattle.av_plain.specs.Event.{Event, EntriesMoved, FlagSet, Forked, FreeSorted, Noted, TurnedOff, TurnedOn, Used, Zapped, after, after_all, after_note, after_use_of, change_entries, entries_where, if_some, key_at, note_events, off_cache, off_flight, put_all, set_entry, settle_entry, to_inactive_tail, when, with_stale, without_seen}
 use Rattle.av_plain.specs.Ledger.{Entry, HasNumbers, InFrame, InSlot, Key, Ledger, Setting, SwapArea, Zero, entry, frame_at, is_orphan, size_of, slot_of}
 use Rattle.av_plain.specs.Map.{zaps_for_place}
 use Rattle.av_plain.specs.Mremap.{events_to, range_zaps}
@@ -311,7 +311,7 @@ few-after l (Used write k) few all = subst (AllByRecursion IsFewOn) (sym (by wri
     by false (Some (InFrame f seen)) = refl
     by true (Some (InFrame f seen)) = stale (slot_of l f) (set_entry k (InFrame f true) l)
 few-after l (Forked p q pages) few all = few-put_all
-    (map (λ e. ((q, e.0.1), without_seen e.1)) (entries_where (λ k. k.0 == p && is_inherited pages k.1) l)) l all
+    (map (λ e. ((q, e.0.1), without_seen e.1)) (entries_where (λ k. k.0 == p && is_in k.1 pages) l)) l all
 few-after l (EntriesMoved p n from to) few all = few-put_all
     (map (λ e. ((p, e.0.1 - from + to), e.1)) (entries_where (λ k. k.0 == p && within from n k.1) l))
     (record l { entries = entries_where (λ k. not (k.0 == p && within from n k.1)) l }) all

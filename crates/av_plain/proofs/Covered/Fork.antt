@@ -12,7 +12,7 @@ use Rattle.av_vma.specs.Pages.{Pages, has_page, pages_in, with_area}
 use Rattle.av_plain.specs.Areas.{AnonVma, Anons, Rmap, chain_by, none_on}
 use Rattle.av_plain.specs.Covered.{IsReached, IsRmapSound}
 use Rattle.av_vma.specs.Fork.{areas_to_fork, own_to_fork}
-use Rattle.av_plain.specs.Event.{Inherited, is_inherited, without_seen}
+use Rattle.av_plain.specs.Event.{without_seen}
 use Rattle.av_plain.specs.Fork.{AreForked, GoOver, GoesBy, IsIdle, IsReused, own_of_child, with_child}
 use Rattle.av_plain.specs.Ledger.{Entry, Key, Ledger, entry, is_merged, key_cmp, names_frame}
 use Rattle.av_plain.specs.Report.{AreApart, range_of}
@@ -261,8 +261,8 @@ pub record IsWhole (area : Area) : Type 0 where
   pub kept : area.flags.wipe_on_fork ≡ false
 
 -- the pages that go over with their entries are of such
-abbrev pub GoWhole : List Inherited → Pages → Type 0
-GoWhole goes on = (page : ℕ) → is_inherited goes page ≡ true → IfSome (on page) IsWhole
+abbrev pub GoWhole : List ℕ → Pages → Type 0
+GoWhole goes on = (page : ℕ) → is_in page goes ≡ true → IfSome (on page) IsWhole
 
 module _ (p q : ℕ) (r next : Rmap) (apart : (p == q) ≡ false) (forks : AreForked p q r next) (chains : HasChains r) where
   child : ChildHas p q r next
@@ -313,17 +313,19 @@ module _ (p q : ℕ) (r next : Rmap) (apart : (p == q) ≡ false) (forks : AreFo
           let goes : forked_at (r.areas p page) ≡ Some area = ap forked_at e ∙ ap (λ b. cond b None (Some area)) whole.over in
           let own : own_to_fork area ≡ area.anon = ap (λ b. cond b None area.anon) whole.kept in
           subst (λ x. IsSomeAnd x (λ area. (is_in home.0 (chain_by next.anons area.anon) ≡ true) × (index_of area page ≡ home.1)))
-          (sym (child.here page area goes))
-          (fork-keeps.all page area (child.own page) (over-at page ∙ goes) (child.here page area goes) home.0
-              (subst (λ o. is_in home.0 (chain_by r.anons o) ≡ true) (sym own) is.0), is.1)
+          (sym (child.here page area goes)) (
+            fork-keeps.all page area (child.own page) (over-at page ∙ goes) (child.here page area goes) home.0
+                (subst (λ o. is_in home.0 (chain_by r.anons o) ≡ true) (sym own) is.0),
+            is.1,
+          )
 
 -- a fork merges nothing
-pub merged-forked_ledger : (p q : ℕ) (goes : List Inherited) (l : Ledger) (f : ℕ) → is_merged (child_ledger p q goes l) f ≡ is_merged l f
+pub merged-forked_ledger : (p q : ℕ) (goes : List ℕ) (l : Ledger) (f : ℕ) → is_merged (child_ledger p q goes l) f ≡ is_merged l f
 merged-forked_ledger p q goes l f = ap (λ (x : Ledger). is_merged x f)
     (forked-is p q goes l ∙ put_all-only (copies p q (going goes l.entries)) l)
 
 -- the entries that go over are reached from the homes of their frames
-pub sound-forked : (l : Ledger) (p q : ℕ) (goes : List Inherited) (r next : Rmap) → T (is_sorted key_cmp l.entries) → (p == q) ≡ false
+pub sound-forked : (l : Ledger) (p q : ℕ) (goes : List ℕ) (r next : Rmap) → T (is_sorted key_cmp l.entries) → (p == q) ≡ false
     → ((page : ℕ) → entry l (q, page) ≡ None) → GoWhole goes (r.areas p)
     → AreForked p q r next → IsRmapSound l r → IsRmapSound (child_ledger p q goes l) next
 sound-forked l p q goes r next sorted apart none whole forks h = record {

@@ -61,9 +61,12 @@ some-entry l f sorted some = by (filter (λ e. names_frame f e.1) l.entries) ref
 
     by : (es : List (Key × Entry)) → filter (λ e. names_frame f e.1) l.entries ≡ es → (k : Key) × Names l k f
     by [] is = let z = filter-none (names_frame f) l.entries is in absurd (omega (arith, z, some))
-    by (e ∷ es) is = (e.0, named e.0 (entry l e.0) (sym (keys-filter (names_frame f) l.entries e.0 sorted)
-        ∙ ap (λ es. list_any (same_key e.0) (map (λ e. e.0) es)) is
-        ∙ ap (λ b. b || list_any (same_key e.0) (map (λ e. e.0) es)) (same_key-itself e.0)))
+    by (e ∷ es) is = (
+      e.0,
+      named e.0 (entry l e.0) (sym (keys-filter (names_frame f) l.entries e.0 sorted)
+          ∙ ap (λ es. list_any (same_key e.0) (map (λ e. e.0) es)) is
+          ∙ ap (λ b. b || list_any (same_key e.0) (map (λ e. e.0) es)) (same_key-itself e.0)),
+    )
 
 -- one without uses of the cache is cached at no slot
 out-of-cache : (l : Ledger) (f : ℕ) → holders l f ≡ 0 → (s : Slot) → frame_at l s ≡ Some f → ⊥

@@ -11,7 +11,7 @@ use Rattle.av_vma.specs.declared.area.Area.{Area}
 use Rattle.av_plain.specs.Areas.{AnonVma, Anons, Items, Rmap, chain_by, root_of, same_item}
 use Rattle.av_plain.specs.Covered.{AreMergedCovered, AreSlotsCovered, HasItem, IsAtRoot, IsReached, IsRmapSound, IsRooted}
 use Rattle.av_vma.specs.Fork.{areas_to_fork, own_to_fork}
-use Rattle.av_plain.specs.Event.{Inherited, without_seen}
+use Rattle.av_plain.specs.Event.{without_seen}
 use Rattle.av_plain.specs.Fork.{AreForked, GoOver, GoesBy, IsReused, own_of_child, with_child}
 use Rattle.av_plain.specs.Ledger.{Entry, Key, Ledger, entry, is_merged, key_cmp, names_frame}
 use Rattle.av_plain.proofs.Covered.{Names}
@@ -76,7 +76,7 @@ record Came (l : Ledger) (r next : Rmap) (f : ℕ) (k : Key) : Type 0 where
   names : Names l was f
   goes : (home : ℕ × ℕ) → IsReached r was home → IsReached next k home
 
-pub merged-forked : (l : Ledger) (p q : ℕ) (goes : List Inherited) (r next : Rmap) → T (is_sorted key_cmp l.entries) → (p == q) ≡ false
+pub merged-forked : (l : Ledger) (p q : ℕ) (goes : List ℕ) (r next : Rmap) → T (is_sorted key_cmp l.entries) → (p == q) ≡ false
     → ((page : ℕ) → entry l (q, page) ≡ None) → GoWhole goes (r.areas p)
     → AreForked p q r next → IsRmapSound l r → AreSlotsCovered l r → AreMergedCovered l r → AreMergedCovered (child_ledger p q goes l) next
 merged-forked l p q goes r next sorted apart none whole forks sound slots h = record {

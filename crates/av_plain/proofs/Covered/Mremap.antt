@@ -194,7 +194,7 @@ module _ (l : Ledger) (p from n to k : ℕ) (left : Bool) (r next : Rmap) (sorte
 
   -- what is merged then
   moved-left : (to == from) ≡ false → MergedLeft (then_tail l p from n to k) (after_move p (min n k) from to (then_tail l p from n to k))
-  moved-left apart = record { named = λ f is. ((was f is).0, merged f) ; fewer = λ f is. sym (merged f) ∙ is }
+  moved-left apart = record { named = λ f is. ((was f is).0, merged f); fewer = λ f is. sym (merged f) ∙ is }
     where
       tail : Ledger
       tail = then_tail l p from n to k

@@ -14,7 +14,6 @@ use Rattle.av_plain.specs.Areas.{AnonVma, Anons, Rmap, chain_by, root_of}
 use Rattle.av_plain.specs.Covered.{AreSlotsCovered, IsKin, IsOfSlot, IsReached, IsRmapSound, IsRooted}
 use Rattle.av_plain.specs.Event.{without_seen}
 use Rattle.av_vma.specs.Fork.{areas_to_fork, own_to_fork}
-use Rattle.av_plain.specs.Event.{Inherited}
 use Rattle.av_plain.specs.Fork.{AreForked, GoOver, GoesBy, IsIdle, IsReused, own_of_child, with_child}
 use Rattle.av_plain.specs.Ledger.{Entry, Key, Ledger, entry, frame_at, key_cmp, names_slot}
 use Rattle.av_plain.specs.Report.{AreApart, range_of}
@@ -308,7 +307,7 @@ record Came (l : Ledger) (r next : Rmap) (s : Slot) (k : Key) : Type 0 where
   names : IsOfSlot l s was
   goes : (home : ℕ × ℕ) → IsReached r was home → IsReached next k home
 
-pub slots-forked : (l : Ledger) (p q : ℕ) (goes : List Inherited) (r next : Rmap) → T (is_sorted key_cmp l.entries) → (p == q) ≡ false
+pub slots-forked : (l : Ledger) (p q : ℕ) (goes : List ℕ) (r next : Rmap) → T (is_sorted key_cmp l.entries) → (p == q) ≡ false
     → ((page : ℕ) → entry l (q, page) ≡ None) → GoWhole goes (r.areas p)
     → AreForked p q r next → IsRmapSound l r → AreSlotsCovered l r → AreSlotsCovered (child_ledger p q goes l) next
 slots-forked l p q goes r next sorted apart none whole forks sound h = record {

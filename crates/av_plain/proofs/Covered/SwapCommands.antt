@@ -68,11 +68,14 @@ fit-fetched m sp l t f notes s used h = by (frame_at l t) refl h
         let out = frame_at-none t l.cache is in
         let named : 0 < slot_entries l t = omega (arith, out, used) in
         fit-is l notes (q.0.sought ++ Loaded t q.0.frame ∷ []) q.0.whole (fit-append l q.0.sought (Loaded t q.0.frame ∷ [])
-        (fit-seeks m sp l q.0.sought q.0.seeks) ((
-          (seeks-kept m sp l q.0.sought s q.0.seeks).keeps.absent t out named,
-          q.0.free,
-          free-unmerged m (after_notes l q.0.sought) q.0.frame (seeks-kept m sp l q.0.sought s q.0.seeks).sound q.0.free,
-        ), tt))
+        (fit-seeks m sp l q.0.sought q.0.seeks) (
+          (
+            (seeks-kept m sp l q.0.sought s q.0.seeks).keeps.absent t out named,
+            q.0.free,
+            free-unmerged m (after_notes l q.0.sought) q.0.frame (seeks-kept m sp l q.0.sought s q.0.seeks).sound q.0.free,
+          ),
+          tt,
+        ))
 
 fetched-at : (m : Setting) (sp : Spared) (l : Ledger) (t : Slot) (f : ℕ) (notes : List Note) → IsFetched m sp l t f notes →
     frame_at (after_notes l notes) t ≡ Some f

@@ -2,7 +2,7 @@
 use Rattle.std.proofs.Common.{◌≡◌, ℕ, Bool, List, true, false, cond, Option, Some, None, option_map, refl, sym, ap, subst, ◌∙◌, arith, ◌==◌}
 use Rattle.std.proofs.lemmas.Bool.Decides.{nat_tests}
 use Rattle.std.specs.Option.{option_or}
-use Rattle.av_plain.specs.Event.{Inherited, put_all, without_seen}
+use Rattle.av_plain.specs.Event.{put_all, without_seen}
 use Rattle.av_plain.specs.Ledger.{Entry, InFrame, InSlot, Ledger, Setting, Zero, entry}
 use Rattle.av_plain.specs.Sound.{IsSound, name_one}
 use Rattle.av_plain.proofs.Event.{is_sorted-put_all, put_all-only}
@@ -20,7 +20,7 @@ name_one-unseen l (InSlot r) (InFrame j u) = refl
 name_one-unseen l (InSlot r) (InSlot t) = refl
 
 -- the child has no entries before
-module _ (m : Setting) (l : Ledger) (p q : ℕ) (goes : List Inherited) (s : IsSound m l) (none : (page : ℕ) → entry l (q, page) ≡ None) where
+module _ (m : Setting) (l : Ledger) (p q : ℕ) (goes : List ℕ) (s : IsSound m l) (none : (page : ℕ) → entry l (q, page) ≡ None) where
   -- the ledger then, with its entries put in
   abbrev then : Ledger
   then = put_all (copies p q (going goes l.entries)) l

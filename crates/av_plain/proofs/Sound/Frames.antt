@@ -45,8 +45,11 @@ found-is p (x ∷ xs) y h = by (found-is p xs y) (p x) refl h
   where
     by : (find p xs ≡ Some y → (p y ≡ true) × (list_any (λ x. y == x) xs ≡ true)) → (b : Bool) → p x ≡ b → cond b (Some x) (find p xs) ≡ Some y
         → (p y ≡ true) × ((y == x || list_any (λ x. y == x) xs) ≡ true)
-    by again true is e = let same : x ≡ y = cc in (subst (λ z. p z ≡ true) same is, ap (λ b. b || list_any (λ x. y == x) xs)
-        (ap (λ z. y == z) same ∙ same-itself y))
+    by again true is e = let same : x ≡ y = cc in (
+      subst (λ z. p z ≡ true) same is,
+      ap (λ b. b || list_any (λ x. y == x) xs)
+          (ap (λ z. y == z) same ∙ same-itself y),
+    )
     by again false is e = let r = again e in (r.0, right (y == x) _ r.1)
       where
         right : (a b : Bool) → b ≡ true → (a || b) ≡ true
@@ -291,7 +294,7 @@ other-waits m held l f j earlier s before none is =
     not_like same x =
         let below : x.frame < m.frames = s.in_range x.frame (let n = s.merged x.frame in let p = x.merged in omega (arith, n, p)) in
         let fails = found-none (λ g. is_merged l g && hold_same held g f) (range_with_len 0 m.frames) none x.frame
-            (in_range-is 0 m.frames x.frame (omega arith) (omega (arith, below))) in
+        (in_range-is 0 m.frames x.frame (omega arith) (omega (arith, below))) in
         let is : is_merged l x.frame ≡ true = any-counts (λ y. x.frame == y) l.merged ∙ is-positive (mergings l x.frame) x.merged in
         let holds = same-then held x.frame j f x.same same in
         no (is_merged l x.frame) (hold_same held x.frame f) is holds fails
@@ -369,7 +372,7 @@ module _ (m : Setting) (held : FrameBytes) (w : World) where
                 unlocked = c.unlocked;
               } in
               let x = join-kept m held w (after_note (Shared j) l) k j f earlier s1 c1
-                  (let e = more j in let d = flag _ _ (same-itself j) in omega (arith, e, d)) o.same (shared-before held l j earlier before) in
+              (let e = more j in let d = flag _ _ (same-itself j) in omega (arith, e, d)) o.same (shared-before held l j earlier before) in
               joins l j earlier (after_note (Shared j) l) (record { sound = x.sound; before = x.before })
 
       by : (a : Option ℕ) → merged_like m held l f ≡ a → (b : Option ℕ) → other_like held earlier f ≡ b

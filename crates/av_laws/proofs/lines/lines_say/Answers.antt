@@ -5,17 +5,9 @@ use Rattle.av_laws.proofs.lines.lines_say.Goals as goal
 pub returns-clause-parent_first : goal.returns-clause-parent_first
 unfolding digits
 returns-clause-parent_first c =
-    ((record { least = omega arith; most = omega arith }, record { least = omega arith; most = omega arith }), refl)
+    ((refl, (record { least = omega arith; most = omega arith }, record { least = omega arith; most = omega arith })), refl)
 
 pub returns-clause-old_first : goal.returns-clause-old_first
 unfolding digits
 returns-clause-old_first c =
-    ((record { least = omega arith; most = omega arith }, omega arith, omega arith, omega arith, tt), refl)
-
-pub returns-clause-advised : goal.returns-clause-advised
-unfolding digits
-returns-clause-advised c = ((record { least = omega arith; most = omega arith }, omega arith, omega arith), refl)
-
-pub returns-clause-locks : goal.returns-clause-locks
-unfolding digits
-returns-clause-locks c = ((record { least = omega arith; most = omega arith }, omega arith, omega arith), refl)
+    ((refl, (record { least = omega arith; most = omega arith }, omega arith, omega arith, omega arith, tt)), refl)
