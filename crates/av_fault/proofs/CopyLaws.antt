@@ -104,14 +104,14 @@ module _ (m : Setting) (h : Held) (amid : Amid m h) (p a f g : ℕ) (left : List
     both : (p == p && page_of a == page_of a) ≡ true
     both = λ i. same-itself p i && same-itself (page_of a) i
 
-    there : v.table p (page_of a) ≡ Some (record { entry = InFrame f false; write = true })
-    there = ap (λ (t : ℕ → ℕ → Option Plain). t p (page_of a)) table
+    bit-there : v.table p (page_of a) ≡ Some (record { entry = InFrame f false; write = true })
+    bit-there = ap (λ (t : ℕ → ℕ → Option Plain). t p (page_of a)) table
         ∙ ap (λ b. cond b (Some (record { entry = InFrame f false; write = true })) (h.view.table p (page_of a))) both
 
     used : Run m h (record (made v) { view = view_seen p (page_of a) f true v; ledger = after_use true q (made v).ledger })
         (Noted (Copied p a f) ∷ Used true q ∷ [])
     used = used-run m h (made v) (Copied p a f) q f run (copy-there p a f h.ledger) (copy-slotless p a f h.ledger is_first.free)
-        (run.amid.held.ledger.tables.write_bits p (page_of a) (record { entry = InFrame f false; write = true }) f there refl (same-itself f))
+        (run.amid.held.ledger.tables.write_bits p (page_of a) (record { entry = InFrame f false; write = true }) f bit-there refl (same-itself f))
         (ap (with_at f home) homes ∙ home-twice f home h.view.homes ∙ sym homes)
         (λ i. record h.rmap { homes = home-twice f home h.rmap.homes i })
 
