@@ -16,7 +16,7 @@ from reference import Reference  # pylint: disable=wrong-import-position
 # the items of a crate whose contracts carry what its head says; a crate without an entry has none
 CARRIERS = {
     "av_base": "Prot Steps",
-    "av_vma": "Areas index mergeable can_lend",
+    "av_vma": "Areas index joinable can_lend",
     "av_text": "Bytes",
     "av_trace": "parse_line one_meaning reply_text one_reply",
     "av_frames": "Frames",
@@ -51,7 +51,7 @@ CARRIERS = {
     "av_mremap": "remap_areas remap_entries",
     "av_fault": "touch",
     "av_place": "find_place find_gap find_target check_protect check_remap is_too_long "
-    "is_no_range prot_left check_indices",
+    "is_no_range leaves_old check_indices",
     "av_step": "Does DoesBeside check_lives answer_with",
     "av_swap": "swapon swapoff slot reclaim age complete",
     "av_report": "maps areas rmap entry stat totals",

@@ -59,7 +59,8 @@ pub trait System {
 
     /// Whether pages with equal bytes share the frame.
     fn is_merged(&self, frame: u32) -> bool
-        requires { frame < (view self.now false).setting.frames }
+        requires in_range { frame < (view self.now false).setting.frames }
+        requires stands { Knows (view self.now false) Always }
         ensures { (told : Bool) → Tells (view self.now told) (λ l. result ≡ is_merged l frame) };
 
     /// Whether an entry names the frame.
@@ -195,6 +196,6 @@ pub trait System {
         ensures stays { (told : Bool) → Leaves (view self.old told) (view self.new told) };
 
     // In all memories that it stands for, the frames of locked pages are those of its view.
-    ghost locks: { (s : Self) (told : Bool) (w : World) (r : Rmap) (l : Ledger)
-        → (view s told).claims w r l → (view s told).locked ≡ is_locked w l };
+    ghost locks: { (s : Self) (told : Bool) → let now = view s told in Tells now (λ l. (w : World)
+        (r : Rmap) → now.claims w r l → now.locked ≡ is_locked w l) };
 }

@@ -30,6 +30,16 @@ tally-on test a (suc j) none =
     ∙ (λ i. tally-on test a j (λ o low high. none o low (omega (arith, high))) i + cond {A = ℕ} (none (a + j) (omega arith) (omega arith) i) 1 0)
     ∙ (let n = tally test a in let same : n + 0 ≡ n = omega arith in same)
 
+-- fewer pass a test that asks more
+pub tally-fewer : (test other : ℕ → Bool) (n : ℕ) → ((o : ℕ) → test o ≡ true → other o ≡ true) → tally test n ≤ tally other n
+tally-fewer test other zero more = omega arith
+tally-fewer test other (suc n) more = by (test n) (other n) (more n) (tally-fewer test other n more)
+  where
+    by : (a b : Bool) → (a ≡ true → b ≡ true) → tally test n ≤ tally other n → tally test n + cond a 1 0 ≤ tally other n + cond b 1 0
+    by true true is rest = omega (arith, rest)
+    by true false is rest = let never = is refl in cc
+    by false b is rest = omega (arith, rest)
+
 pub tally-none : (test : ℕ → Bool) (n : ℕ) → ((o : ℕ) → test o ≡ false) → tally test n ≡ 0
 tally-none test zero none = refl
 tally-none test (suc n) none = λ i. tally-none test n none i + cond {A = ℕ} (none n i) 1 0

@@ -4,6 +4,7 @@ use Rattle.std.proofs.lemmas.Bool.Decides.{nat_tests}
 use Rattle.std.proofs.lemmas.Bool.{false≢true}
 use Rattle.std.specs.FinMap.Entries.{find, is_sorted}
 use Rattle.std.specs.Option.{option_or}
+use Rattle.av_base.specs.Words.{is_in}
 use Rattle.av_base.specs.declared.slot.Slot.{Slot}
 use Rattle.av_plain.specs.Event.{put_all, without_seen}
 use Rattle.av_plain.specs.Fault.{is_named, asks_copy}
@@ -12,7 +13,6 @@ use Rattle.av_plain.specs.Stands.{LedgerStands, Pte, View, entry_of}
 use Rattle.av_plain.proofs.Event.{count-put_all, entries_with, put_all-only}
 use Rattle.std.specs.FinMap.Entries.{find-where_key}
 use Rattle.std.specs.Ordering.{is_eq}
-use Rattle.av_plain.specs.Event.{Inherited, is_inherited}
 use Rattle.av_plain.proofs.Ledger.{same_key-is}
 use Rattle.av_plain.proofs.Fork.{child_ledger, copies, entry-forked, find-copies, forked-is, going, handed, is_sorted-copies, sorted-going, unseen-names_frame, unseen-names_slot}
 use Rattle.av_plain.proofs.Ledger.{only_one}
@@ -21,7 +21,7 @@ use Rattle.av_plain.proofs.Ledger.Walk.{passes}
 use Rattle.av_swap_laws.specs.Steps.{pte_child, pte_parent}
 use Rattle.av_swap_laws.proofs.Parts.{differ, shared-same, some-is}
 use Rattle.av_mem.specs.Entries.{entry_passes, with_more}
-use Rattle.av_fork.proofs.EntriesCounts.{copied-tally, tally, tally-few, tally-none, tally-same}
+use Rattle.av_fork.proofs.EntriesCounts.{copied-tally, tally, tally-few, tally-fewer, tally-none, tally-same}
 
 equal : (a b : ℕ) → (a == b) ≡ true → a ≡ b
 equal a b h = grind (arith, nat_tests, h)
@@ -31,59 +31,62 @@ has-passes t None = refl
 has-passes t (Some u) = refl
 
 -- the entry that goes over with a page
-abbrev pub handed_pte : List Inherited → ℕ → View → ℕ → Option Pte
-handed_pte goes p v o = cond (is_inherited goes o) (v.table p o) None
+abbrev pub handed_pte : (ℕ → Bool) → ℕ → View → ℕ → Option Pte
+handed_pte goes p v o = cond (goes o) (v.table p o) None
 
 -- so many of those that lie below a page pass
-abbrev pub more : List Inherited → View → ℕ → ℕ → (Entry → Bool) → ℕ
+abbrev pub more : (ℕ → Bool) → View → ℕ → ℕ → (Entry → Bool) → ℕ
 more goes v p n t = tally (λ o. entry_passes t (handed_pte goes p v o)) n
 
-fewer-going : (t : Entry → Bool) (goes : List Inherited) (es : List (Key × Entry)) → entries_with t (going goes es) ≤ entries_with t es
-fewer-going t goes [] = omega arith
-fewer-going t goes (e ∷ es) = by (is_inherited goes e.0.1) (fewer-going t goes es)
+-- the ledger has them
+pub more-few : (m : Setting) (v : View) (l : Ledger) (p n : ℕ) (goes : ℕ → Bool) → T (is_sorted key_cmp l.entries) → LedgerStands m v l
+    → (t : Entry → Bool) → more goes v p n t ≤ entries_with t l.entries
+more-few m v l p n goes sorted h t =
+    let fewer = tally-fewer (λ o. entry_passes t (handed_pte goes p v o)) (λ o. passes t (entry l (p, o))) n (λ o. over o (goes o)) in
+    let few = tally-few t p n l.entries sorted in
+    omega (arith, fewer, few)
   where
-    by : (b : Bool) → entries_with t (going goes es) ≤ entries_with t es
-        → entries_with t (cond b (e ∷ going goes es) (going goes es)) ≤ cond (t e.1) 1 0 + entries_with t es
-    by true h = omega (arith, h)
-    by false h = omega (arith, h)
+    over : (o : ℕ) (b : Bool) → entry_passes t (cond b (v.table p o) None) ≡ true → passes t (entry l (p, o)) ≡ true
+    over o true is = sym (has-passes t (v.table p o) ∙ ap (passes t) (h.tables.entries p o)) ∙ is
+    over o false is = cc
 
-module _ (m : Setting) (v : View) (l : Ledger) (p n : ℕ) (goes : List Inherited) (sorted : T (is_sorted key_cmp l.entries)) (h : LedgerStands m v l) where
-  handed-found : (o : ℕ) → entry_of (handed_pte goes p v o) ≡ handed goes p l o
-  handed-found o = by (is_inherited goes o)
+-- these are the pages whose entries go over
+module _ (m : Setting) (v : View) (l : Ledger) (p n : ℕ) (goes : ℕ → Bool) (pages : List ℕ) (sorted : T (is_sorted key_cmp l.entries))
+    (h : LedgerStands m v l) (are : (o : ℕ) → cond (goes o) (entry l (p, o)) None ≡ handed pages p l o) where
+  handed-found : (o : ℕ) → entry_of (handed_pte goes p v o) ≡ handed pages p l o
+  handed-found o = by (goes o) ∙ are o
     where
       by : (b : Bool) → entry_of (cond b (v.table p o) None) ≡ cond b (entry l (p, o)) None
       by true = h.tables.entries p o
       by false = refl
 
-  as-found : (t : Entry → Bool) → more goes v p n t ≡ tally (λ o. passes t (handed goes p l o)) n
+  as-found : (t : Entry → Bool) → more goes v p n t ≡ tally (λ o. passes t (handed pages p l o)) n
   as-found t = tally-same _ _ n (λ o. has-passes t (handed_pte goes p v o) ∙ ap (passes t) (handed-found o))
+
+  few-more : (t : Entry → Bool) → more goes v p n t ≤ entries_with t l.entries
+  few-more = more-few m v l p n goes sorted h
 
   -- those of the ledger that go over
   abbrev gone : List (Key × Entry)
-  gone = going goes l.entries
+  gone = going pages l.entries
 
   gone-sorted : T (is_sorted key_cmp gone)
-  gone-sorted = sorted-going goes l.entries sorted
+  gone-sorted = sorted-going pages l.entries sorted
 
-  gone-found : (o : ℕ) → find key_cmp (p, o) gone ≡ handed goes p l o
-  gone-found o = find-where_key key_cmp (λ (k : Key). is_inherited goes k.1) (p, o)
-      (λ x t. ap (λ (k : Key). is_inherited goes k.1) (sym (same_key-is (p, o) x (ap is_eq t)))) l.entries
+  gone-found : (o : ℕ) → find key_cmp (p, o) gone ≡ handed pages p l o
+  gone-found o = find-where_key key_cmp (λ (k : Key). is_in k.1 pages) (p, o)
+      (λ x t. ap (λ (k : Key). is_in k.1 pages) (sym (same_key-is (p, o) x (ap is_eq t)))) l.entries
 
   gone-tally : (t : Entry → Bool) → tally (λ o. passes t (find key_cmp (p, o) gone)) n ≡ more goes v p n t
   gone-tally t = tally-same _ _ n (λ o. ap (passes t) (gone-found o)) ∙ sym (as-found t)
 
-  -- the ledger has them
-  pub more-few : (t : Entry → Bool) → more goes v p n t ≤ entries_with t l.entries
-  more-few t = let same = gone-tally t in let few = tally-few t p n gone gone-sorted in let fewer = fewer-going t goes l.entries in
-      omega (arith, same, few, fewer)
-
-  -- all lie there, and the child has none
-  module _ (q : ℕ) (empty : (o : ℕ) → entry l (q, o) ≡ None) (past : (o : ℕ) → n ≤ o → entry l (p, o) ≡ None) where
+  -- all that go over lie there, and the child has none
+  module _ (q : ℕ) (empty : (o : ℕ) → entry l (q, o) ≡ None) (past : (o : ℕ) → n ≤ o → handed pages p l o ≡ None) where
     abbrev then : Ledger
     then = record l { entries = (put_all (copies p q gone) l).entries }
 
-    then-is : child_ledger p q goes l ≡ then
-    then-is = forked-is p q goes l ∙ put_all-only (copies p q gone) l
+    then-is : child_ledger p q pages l ≡ then
+    then-is = forked-is p q pages l ∙ put_all-only (copies p q gone) l
 
     fresh : (k : Key) (e : Entry) → find key_cmp k (copies p q gone) ≡ Some e → entry l k ≡ None
     fresh k e at = by (k.0 == q) refl (sym (find-copies p q k gone) ∙ at)
@@ -93,11 +96,7 @@ module _ (m : Setting) (v : View) (l : Ledger) (p n : ℕ) (goes : List Inherite
         by false is at = cc
 
     gone-past : (o : ℕ) → n ≤ o → find key_cmp (p, o) gone ≡ None
-    gone-past o high = gone-found o ∙ by (is_inherited goes o)
-      where
-        by : (b : Bool) → cond b (entry l (p, o)) None ≡ None
-        by true = past o high
-        by false = refl
+    gone-past o high = gone-found o ∙ past o high
 
     counts : (t : Entry → Bool) → ((e : Entry) → t (without_seen e) ≡ t e)
         → entries_with t then.entries ≡ entries_with t l.entries + more goes v p n t
@@ -111,20 +110,20 @@ module _ (m : Setting) (v : View) (l : Ledger) (p n : ℕ) (goes : List Inherite
     entries-then s = counts (names_slot s) (unseen-names_slot s)
 
     free-then : (f : ℕ) → is_free l f ≡ is_free then f
-    free-then f = ap (λ b. b && is_none (slot_of l f)) (none _ _ _ (maps-then f) (more-few (names_frame f)))
+    free-then f = ap (λ b. b && is_none (slot_of l f)) (none _ _ _ (maps-then f) (few-more (names_frame f)))
       where
         none : (a b k : ℕ) → b ≡ a + k → k ≤ a → (a == 0) ≡ (b == 0)
         none a b k e few = grind (arith, nat_tests, e, few)
 
-    found-then : (k : Key) → entry then k ≡ option_or (cond (k.0 == q) (option_map without_seen (handed goes p l k.1)) None) (entry l k)
-    found-then k = ap (λ (l : Ledger). entry l k) (sym then-is) ∙ entry-forked p q goes l k sorted
+    found-then : (k : Key) → entry then k ≡ option_or (cond (k.0 == q) (option_map without_seen (handed pages p l k.1)) None) (entry l k)
+    found-then k = ap (λ (l : Ledger). entry l k) (sym then-is) ∙ entry-forked p q pages l k sorted
 
     -- a frame that an entry of another process may write is not the parent's, nor does an entry name its slot
     alone-then : (x page : ℕ) (e : Entry) (f : ℕ) → (x == p) ≡ false → entry l (x, page) ≡ Some e → names_frame f e ≡ true → asks_copy l f ≡ false
         → asks_copy then f ≡ false
     alone-then x page e f other at names alone = shared-same l then f
         (maps-then f ∙ same (map_count l f) (more goes v p n (names_frame f)) none) refl
-        (λ s at_s. entries-then s ∙ same (slot_entries l s) _ (nothing (slot_entries l s) _ (unnamed s at_s) (more-few (names_slot s)))) refl ∙ alone
+        (λ s at_s. entries-then s ∙ same (slot_entries l s) _ (nothing (slot_entries l s) _ (unnamed s at_s) (few-more (names_slot s)))) refl ∙ alone
       where
         same : (a k : ℕ) → k ≡ 0 → a + k ≡ a
         same a k e = omega (arith, e)
@@ -167,8 +166,8 @@ module _ (m : Setting) (v : View) (l : Ledger) (p n : ℕ) (goes : List Inherite
             by false i = refl
             by true i = absurd (differ _ (only_one l f (p, o) (x, page) d e sorted few is i at names) (key_is x page p o ∙ apart x page p o other))
 
-        not_handed : (o : ℕ) → passes (names_frame f) (handed goes p l o) ≡ false
-        not_handed o = by (is_inherited goes o)
+        not_handed : (o : ℕ) → passes (names_frame f) (handed pages p l o) ≡ false
+        not_handed o = by (is_in o pages)
           where
             by : (b : Bool) → passes (names_frame f) (cond b (entry l (p, o)) None) ≡ false
             by true = not_there o (entry l (p, o)) refl
@@ -200,11 +199,11 @@ module _ (m : Setting) (v : View) (l : Ledger) (p n : ℕ) (goes : List Inherite
           or_none (Some e) = refl
 
           by : (a b : Bool) → (x == p) ≡ a → (x == q) ≡ b
-              → entry_of (table x o) ≡ option_or (cond b (option_map without_seen (handed goes p l o)) None) (entry l (x, o))
+              → entry_of (table x o) ≡ option_or (cond b (option_map without_seen (handed pages p l o)) None) (entry l (x, o))
           by a true i j = let same = equal x q j in
               ap (λ x. entry_of (table x o)) same ∙ ap entry_of (child o) ∙ unseen (handed_pte goes p v o)
-              ∙ ap (option_map without_seen) (handed-found o) ∙ or_none (option_map without_seen (handed goes p l o))
-              ∙ ap (option_or (option_map without_seen (handed goes p l o))) (sym (ap (λ x. entry l (x, o)) same ∙ empty o))
+              ∙ ap (option_map without_seen) (handed-found o) ∙ or_none (option_map without_seen (handed pages p l o))
+              ∙ ap (option_or (option_map without_seen (handed pages p l o))) (sym (ap (λ x. entry l (x, o)) same ∙ empty o))
           by true false i j = let same = equal x p i in
               ap (λ x. entry_of (table x o)) same ∙ ap entry_of (parent o) ∙ kept (v.table p o) ∙ h.tables.entries p o
               ∙ ap (λ x. entry l (x, o)) (sym same)
@@ -247,5 +246,5 @@ module _ (m : Setting) (v : View) (l : Ledger) (p n : ℕ) (goes : List Inherite
         };
       }
 
-      pub forked-stands : LedgerStands m now (child_ledger p q goes l)
+      pub forked-stands : LedgerStands m now (child_ledger p q pages l)
       forked-stands = subst (LedgerStands m now) (sym then-is) stands-then

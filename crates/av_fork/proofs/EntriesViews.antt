@@ -1,8 +1,10 @@
 -- What the memory system is seen as while the entries of a process go over to a child: the tables change first, and then the counts, group by group.
-use Rattle.std.proofs.Common.{◌≡◌, ℕ, ◌+◌, ◌-◌, ◌*◌, ◌/◌, ◌<◌, ◌≤◌, Bool, true, false, cond, ◌==◌, List, length, None, option_map, refl, sym, ap, subst, ◌∙◌, arith}
+use Rattle.std.proofs.Common.{◌≡◌, ℕ, ◌+◌, ◌-◌, ◌*◌, ◌/◌, ◌<◌, ◌≤◌, Bool, true, false, cond, not, ◌&&◌, ◌==◌, List, [], length, Option, Some, None, option_map, refl, sym, ap, subst, ◌∙◌, arith}
 use Rattle.std.proofs.lemmas.Bool.Decides.{nat_tests}
-use Rattle.av_base.specs.Limits.{most_processes}
-use Rattle.av_base.specs.Words.{how_many, with_at}
+use Rattle.std.proofs.lemmas.Bool.{false≢true}
+use Rattle.av_base.specs.Limits.{most_processes, top_page}
+use Rattle.av_base.specs.Words.{how_many, is_in, with_at}
+use Rattle.av_base.specs.declared.flags.Flags.{Flags}
 use Rattle.av_base.specs.declared.slot.Slot.{Slot}
 use Rattle.av_pagetable.specs.Entries.{ProcessTables, entry_at}
 use Rattle.av_pagetable.specs.Table.{IsFirst, IsGroup, child_entry, page_bound, read_only}
@@ -10,16 +12,21 @@ use Rattle.av_pagetable.specs.declared.pte.Pte.{Pte}
 use Rattle.av_pagetable.specs.declared.pte.Pte.TheVariants.{Away, Empty, Here, Zero}
 use Rattle.av_pagetable.proofs.DirImages.{child_none}
 use Rattle.av_plain.specs.Device.{Device}
+use Rattle.av_plain.specs.Fork.{goes_over, inheritance}
 use Rattle.av_plain.specs.Ledger.{Entry, InFrame, InSlot, Ledger, entry, map_count, names_frame, names_slot, slot_entries}
 use Rattle.av_plain.specs.Stands.{LedgerStands, View, entry_of, free_of}
-use Rattle.av_plain.proofs.Fork.{child_ledger}
+use Rattle.av_plain.specs.World.{Page, Process}
+use Rattle.av_plain.proofs.Covered.Fork.{merged-forked_ledger}
+use Rattle.av_plain.proofs.Fork.{child_ledger, handed, inherited-goes, not-inherited}
 use Rattle.av_plain.proofs.Ledger.{how_many-found}
 use Rattle.av_plain.proofs.Ledger.NoSwap.{itself}
 use Rattle.av_plain.proofs.Sound.Counts.{slot-itself}
 use Rattle.av_plain.proofs.Sound.Fork.{forked-kept, forked-no_new}
 use Rattle.av_plain.proofs.Sound.There.{there-by}
+use Rattle.av_spaces.specs.Spaces.{pages_of}
 use Rattle.av_swap_laws.specs.Steps.{pte_child, pte_parent}
 use Rattle.av_swap_laws.proofs.Fork.{fork-chosen}
+use Rattle.av_vma.specs.declared.area.Area.{Area}
 use Rattle.av_mem.specs.declared.mem.Mem.{Mem}
 use Rattle.av_mem.specs.Entries.{HasRoomFor, IsInUse, entry_passes, view_more_each, with_more}
 use Rattle.av_mem.specs.Mem.{HasLedger, frame_count, plain, setting_by, view}
@@ -27,9 +34,9 @@ use Rattle.av_mem.specs.Steps.{KeepsParts}
 use Rattle.av_mem.proofs.EntryCounts.{by-counts, in-use-then, no_more}
 use Rattle.av_mem.proofs.Groups.{IsGroupFrom, group_from}
 use Rattle.av_mem.proofs.LetGoLaws.{ledger-same}
-use Rattle.av_fork.specs.Entries.{HasForkedEntries}
+use Rattle.av_fork.specs.Entries.{FlagsAre, HasForkedEntries, goes_with_entry, left_in}
 use Rattle.av_fork.proofs.EntriesCounts.{tally-group, tally-on}
-use Rattle.av_fork.proofs.EntriesLedger.{forked-stands, more, more-few}
+use Rattle.av_fork.proofs.EntriesLedger.{forked-stands, handed_pte, more, more-few}
 
 equal : (a b : ℕ) → (a == b) ≡ true → a ≡ b
 equal a b h = grind (arith, nat_tests, h)
@@ -42,8 +49,16 @@ is_same a = grind (arith, nat_tests)
 abbrev copy_tables : ℕ → ℕ → (ℕ → ℕ → Pte) → ℕ → ℕ → Pte
 copy_tables p q old = with_at q (λ o. child_entry (old p o)) old
 
-abbrev pub fork_tables : ℕ → ℕ → (ℕ → ℕ → Pte) → ℕ → ℕ → Pte
-fork_tables p q old = with_at p (λ o. read_only (copy_tables p q old p o)) (copy_tables p q old)
+abbrev protect_tables : ℕ → ℕ → (ℕ → ℕ → Pte) → ℕ → ℕ → Pte
+protect_tables p q old = with_at p (λ o. read_only (copy_tables p q old p o)) (copy_tables p q old)
+
+-- and the child has lost the entries that don't go over, by these areas
+abbrev pub fork_tables : (ℕ → Option Area) → ℕ → ℕ → (ℕ → ℕ → Pte) → ℕ → ℕ → Pte
+fork_tables areas p q old = with_at q (left_in areas (protect_tables p q old q)) (protect_tables p q old)
+
+-- the entry that the child has then
+abbrev pub handed_entry : (ℕ → Option Area) → (ℕ → Pte) → ℕ → Pte
+handed_entry areas table = left_in areas (λ o. child_entry (table o))
 
 parent-plain : (e : Pte) → plain (read_only e) ≡ option_map pte_parent (plain e)
 parent-plain Empty = refl
@@ -51,25 +66,31 @@ parent-plain Zero = refl
 parent-plain (Here f write was) = refl
 parent-plain (Away s) = refl
 
-child-plain : (e : Pte) → plain (child_entry e) ≡ option_map pte_child (plain e)
-child-plain Empty = refl
-child-plain Zero = refl
-child-plain (Here f write was) = refl
-child-plain (Away s) = refl
+child-plain : (b : Bool) (e : Pte) → plain (cond b (child_entry e) Empty) ≡ option_map pte_child (cond b (plain e) None)
+child-plain false e = refl
+child-plain true Empty = refl
+child-plain true Zero = refl
+child-plain true (Here f write was) = refl
+child-plain true (Away s) = refl
 
-module _ (p q : ℕ) (old : ℕ → ℕ → Pte) (empty : (o : ℕ) → old q o ≡ Empty) where
+-- what is handed on is there
+handed_none : (b : Bool) (e : Pte) → cond b (child_entry e) Empty ≡ Empty → cond b (plain e) None ≡ None
+handed_none true e h = ap plain (child_none e h)
+handed_none false e h = refl
+
+module _ (areas : ℕ → Option Area) (p q : ℕ) (old : ℕ → ℕ → Pte) (empty : (o : ℕ) → old q o ≡ Empty) where
   none-both : (o : ℕ) → p ≡ q → old p o ≡ Empty
   none-both o same = ap (λ x. old x o) same ∙ empty o
 
-  forked-parent : (o : ℕ) → fork_tables p q old p o ≡ read_only (old p o)
-  forked-parent o = ap (λ b. cond b (λ o. read_only (copy_tables p q old p o)) (copy_tables p q old p) o) (is_same p) ∙ by (p == q) refl
+  protected-parent : (o : ℕ) → protect_tables p q old p o ≡ read_only (old p o)
+  protected-parent o = ap (λ b. cond b (λ o. read_only (copy_tables p q old p o)) (copy_tables p q old p) o) (is_same p) ∙ by (p == q) refl
     where
       by : (b : Bool) → (p == q) ≡ b → read_only (cond b (λ o. child_entry (old p o)) (old p) o) ≡ read_only (old p o)
       by true h = let none = none-both o (equal p q h) in ap (λ e. read_only (child_entry e)) none ∙ sym (ap read_only none)
       by false h = refl
 
-  pub forked-child : (o : ℕ) → fork_tables p q old q o ≡ child_entry (old p o)
-  forked-child o = by (q == p) refl
+  protected-child : (o : ℕ) → protect_tables p q old q o ≡ child_entry (old p o)
+  protected-child o = by (q == p) refl
     where
       here : copy_tables p q old q o ≡ child_entry (old p o)
       here = ap (λ b. cond b (λ o. child_entry (old p o)) (old q) o) (is_same q)
@@ -81,33 +102,59 @@ module _ (p q : ℕ) (old : ℕ → ℕ → Pte) (empty : (o : ℕ) → old q o 
           ap (λ x. read_only (copy_tables p q old x o)) same ∙ ap read_only (here ∙ ap child_entry none) ∙ sym (ap child_entry none)
       by false h = here
 
-  forked-other : (x o : ℕ) → (x == p) ≡ false → (x == q) ≡ false → fork_tables p q old x o ≡ old x o
-  forked-other x o i j = ap (λ b. cond b (λ o. read_only (copy_tables p q old p o)) (copy_tables p q old x) o) i
+  forked-parent : (o : ℕ) → fork_tables areas p q old p o ≡ read_only (old p o)
+  forked-parent o = by (p == q) refl
+    where
+      none : (b : Bool) → cond b Empty Empty ≡ Empty
+      none true = refl
+      none false = refl
+
+      by : (b : Bool) → (p == q) ≡ b → cond b (left_in areas (protect_tables p q old q)) (protect_tables p q old p) o ≡ read_only (old p o)
+      by true h =
+          let gone = none-both o (equal p q h) in
+          ap (λ e. cond (goes_with_entry (areas o)) e Empty) (protected-child o ∙ ap child_entry gone) ∙ none (goes_with_entry (areas o))
+          ∙ sym (ap read_only gone)
+      by false h = protected-parent o
+
+  pub forked-child : (o : ℕ) → fork_tables areas p q old q o ≡ handed_entry areas (old p) o
+  forked-child o = ap (λ b. cond b (left_in areas (protect_tables p q old q)) (protect_tables p q old q) o) (is_same q)
+      ∙ ap (λ e. cond (goes_with_entry (areas o)) e Empty) (protected-child o)
+
+  forked-other : (x o : ℕ) → (x == p) ≡ false → (x == q) ≡ false → fork_tables areas p q old x o ≡ old x o
+  forked-other x o i j = ap (λ b. cond b (left_in areas (protect_tables p q old q)) (protect_tables p q old x) o) j
+      ∙ ap (λ b. cond b (λ o. read_only (copy_tables p q old p o)) (copy_tables p q old x) o) i
       ∙ ap (λ b. cond b (λ o. child_entry (old p o)) (old x) o) j
 
 -- ---- the counts of the pages below one
 
+-- which pages' entries go over from a process, by its areas
+abbrev pub areas_on : Mem → ℕ → ℕ → Option Area
+areas_on k p = pages_of k.spaces.processes p
+
+abbrev pub goes_on : Mem → ℕ → ℕ → Bool
+goes_on k p o = goes_with_entry (areas_on k p o)
+
 -- what is seen then: all entries have gone over, and those below a page are counted
 abbrev pub fork_view : Mem → ℕ → ℕ → ℕ → View
-fork_view k p q n = record (with_more (λ f. more (view k) p n (names_frame f)) (λ s. more (view k) p n (names_slot s)) (view k)) {
-  table = λ x o. plain (fork_tables p q (entry_at k.tables) x o);
+fork_view k p q n = record (with_more (λ f. more (goes_on k p) (view k) p n (names_frame f)) (λ s. more (goes_on k p) (view k) p n (names_slot s)) (view k)) {
+  table = λ x o. plain (fork_tables (areas_on k p) p q (entry_at k.tables) x o);
 }
 
 module _ (old : Mem) (p q : ℕ) where
-  pub none-seen : (tables : ProcessTables) → entry_at tables ≡ fork_tables p q (entry_at old.tables)
+  pub none-seen : (tables : ProcessTables) → entry_at tables ≡ fork_tables (areas_on old p) p q (entry_at old.tables)
       → view (record old { tables = tables }) ≡ fork_view old p q 0
   none-seen tables is =
       (λ i. record (view old) { table = λ x o. plain (is i x o) })
-      ∙ by-counts (record (view old) { table = λ x o. plain (fork_tables p q (entry_at old.tables) x o) }) _ _ _ _ (λ f. no_more ((view old).maps f))
+      ∙ by-counts (record (view old) { table = λ x o. plain (fork_tables (areas_on old p) p q (entry_at old.tables) x o) }) _ _ _ _ (λ f. no_more ((view old).maps f))
       (λ s. no_more ((view old).entries s))
 
   -- a group goes over; the pages before it have no entry
   pub group-seen : (now new : Mem) (table : ℕ → Pte) (number page : ℕ) (group : List Pte) → length group ≡ 64
-      → ((o : ℕ) → table o ≡ child_entry (entry_at old.tables p o)) → IsFirst table (number * 64) page_bound page → IsGroup table (page / 64) group
+      → ((o : ℕ) → table o ≡ handed_entry (areas_on old p) (entry_at old.tables p) o) → IsFirst table (number * 64) page_bound page → IsGroup table (page / 64) group
       → view now ≡ fork_view old p q (number * 64) → view new ≡ view_more_each group (view now) → view new ≡ fork_view old p q ((page / 64 + 1) * 64)
   group-seen now new table number page group long copies first are is ups =
       ups ∙ ap (view_more_each group) is
-      ∙ by-counts (record (view old) { table = λ x o. plain (fork_tables p q (entry_at old.tables) x o) }) _ _ _ _
+      ∙ by-counts (record (view old) { table = λ x o. plain (fork_tables (areas_on old p) p q (entry_at old.tables) x o) }) _ _ _ _
       (λ f. joined ((view old).maps f) (names_frame f) (unseen-frame f)) (λ s. joined ((view old).entries s) (names_slot s) (unseen-slot s))
     where
       -- a child's entry names what its parent's does
@@ -126,16 +173,22 @@ module _ (old : Mem) (p q : ℕ) where
       unseen-slot s (Here g write was) = refl
       unseen-slot s (Away t) = refl
 
+      -- where it has one
+      handed-passes : (t : Entry → Bool) → IsBlind t → (b : Bool) (e : Pte)
+          → entry_passes t (plain (cond b (child_entry e) Empty)) ≡ entry_passes t (cond b (plain e) None)
+      handed-passes t blind true e = blind e
+      handed-passes t blind false e = refl
+
       start : ℕ
       start = page / 64 * 64
 
-      joined : (k : ℕ) (t : Entry → Bool) → IsBlind t → k + more (view old) p (number * 64) t + how_many (λ e. entry_passes t (plain e)) group
-          ≡ k + more (view old) p ((page / 64 + 1) * 64) t
+      joined : (k : ℕ) (t : Entry → Bool) → IsBlind t → k + more (goes_on old p) (view old) p (number * 64) t + how_many (λ e. entry_passes t (plain e)) group
+          ≡ k + more (goes_on old p) (view old) p ((page / 64 + 1) * 64) t
       joined k t blind = add k _ _ _ (sym (
-          ap (λ n. more (view old) p n t) (sym at.past)
-          ∙ tally-group (λ o. entry_passes t ((view old).table p o)) (λ e. entry_passes t (plain e)) group Empty start
+          ap (λ n. more (goes_on old p) (view old) p n t) (sym at.past)
+          ∙ tally-group (λ o. entry_passes t (handed_pte (goes_on old p) p (view old) o)) (λ e. entry_passes t (plain e)) group Empty start
           (λ i low. ap (λ e. entry_passes t (plain e)) (are i (omega (arith, low, long)) ∙ copies (start + i))
-          ∙ blind (entry_at old.tables p (start + i)))
+          ∙ handed-passes t blind (goes_on old p (start + i)) (entry_at old.tables p (start + i)))
           ∙ ap (λ c. c + how_many (λ e. entry_passes t (plain e)) group) skipped
           ))
         where
@@ -145,18 +198,18 @@ module _ (old : Mem) (p q : ℕ) where
           add : (a b c d : ℕ) → b + c ≡ d → a + b + c ≡ a + d
           add a b c d e = omega (arith, e)
 
-          skipped : more (view old) p start t ≡ more (view old) p (number * 64) t
+          skipped : more (goes_on old p) (view old) p start t ≡ more (goes_on old p) (view old) p (number * 64) t
           skipped =
-              ap (λ n. more (view old) p n t) (let low = at.low in
+              ap (λ n. more (goes_on old p) (view old) p n t) (let low = at.low in
               let same : start ≡ number * 64 + (start - number * 64) = omega (arith, low) in same)
-              ∙ tally-on _ (number * 64) (start - number * 64) (λ o low high. ap (λ e. entry_passes t (plain e))
-              (child_none (entry_at old.tables p o) (sym (copies o) ∙ first.least o low (let here = at.here in let after = at.low in
+              ∙ tally-on _ (number * 64) (start - number * 64) (λ o low high. ap (entry_passes t)
+              (handed_none (goes_on old p o) (entry_at old.tables p o) (sym (copies o) ∙ first.least o low (let here = at.here in let after = at.low in
               omega (arith, high, here, after)))))
 
   module _ (d : Device) (l : Ledger) (h : HasLedger d old l) where
     -- what an entry of the parent names is in use
-    pub in-use : (o : ℕ) → IsInUse old (child_entry (entry_at old.tables p o))
-    in-use o = by (entry_at old.tables p o) refl
+    pub in-use : (o : ℕ) → IsInUse old (handed_entry (areas_on old p) (entry_at old.tables p) o)
+    in-use o = on (goes_on old p o)
       where
         at : (e : Pte) → entry_at old.tables p o ≡ e → entry l (p, o) ≡ entry_of (plain e)
         at e is = sym (h.parts.tables.entries p o) ∙ ap (λ e. entry_of (plain e)) is
@@ -172,48 +225,86 @@ module _ (old : Mem) (p q : ℕ) where
             let counts = h.parts.swap.counts s in
             omega (arith, some, counts)
 
+        on : (b : Bool) → IsInUse old (cond b (child_entry (entry_at old.tables p o)) Empty)
+        on true = by (entry_at old.tables p o) refl
+        on false = tt
+
     module _ (now : Mem) (n : ℕ) (is : view now ≡ fork_view old p q n) where
       -- and there is room for a group
-      pub room-now : ((f : ℕ) → (view old).maps f ≤ most_processes) → ((s : Slot) → (view old).entries s ≤ most_processes) → HasRoomFor now 64
+      pub room-now : ((f : ℕ) → (view old).maps f ≤ most_processes * top_page) → ((s : Slot) → (view old).entries s ≤ most_processes) → HasRoomFor now 64
       room-now few few_slots = record {
         maps = λ f.
             let up = ap (λ (v : View). v.maps f) is in
-            let low = more-few (setting_by d old) (view old) l p n h.sound.in_order h.parts (names_frame f) in
+            let low = more-few (setting_by d old) (view old) l p n (goes_on old p) h.sound.in_order h.parts (names_frame f) in
             let same = h.parts.frames.maps f in
             let most = few f in omega (arith, up, low, same, most);
         entries = λ s.
             let up = ap (λ (v : View). v.entries s) is in
-            let low = more-few (setting_by d old) (view old) l p n h.sound.in_order h.parts (names_slot s) in
+            let low = more-few (setting_by d old) (view old) l p n (goes_on old p) h.sound.in_order h.parts (names_slot s) in
             let same = h.parts.swap.counts s in
             let most = few_slots s in omega (arith, up, low, same, most);
       }
 
-      pub in-use-seen : frame_count now ≡ frame_count old → (o : ℕ) → IsInUse now (child_entry (entry_at old.tables p o))
+      pub in-use-seen : frame_count now ≡ frame_count old → (o : ℕ) → IsInUse now (handed_entry (areas_on old p) (entry_at old.tables p) o)
       in-use-seen count o = in-use-then old now count (ap (λ (v : View). v.find) is)
-          (λ s. let up = ap (λ (v : View). v.entries s) is in omega (arith, up)) (child_entry (entry_at old.tables p o)) (in-use o)
+          (λ s. let up = ap (λ (v : View). v.entries s) is in omega (arith, up)) (handed_entry (areas_on old p) (entry_at old.tables p) o) (in-use o)
 
       -- where the child has none from there on, all has gone over
-      pub all-seen : ((o : ℕ) → entry_at old.tables q o ≡ Empty) → KeepsParts old now → entry_at now.tables ≡ fork_tables p q (entry_at old.tables)
-          → ((o : ℕ) → n ≤ o → entry_at now.tables q o ≡ Empty) → HasForkedEntries d old now l p q
-      all-seen empty parts tables none = record {
-        stands = ledger-same d old now (view now) (child_ledger p q l) parts (record {
-          sound = forked-kept (setting_by d old) l p q h.sound unnamed;
-          there = there-by (setting_by d old) l (child_ledger p q l) (forked-no_new (setting_by d old) l p q h.sound unnamed) h.there;
-          parts = subst (λ (v : View). LedgerStands (setting_by d old) v (child_ledger p q l)) (sym is)
-              (forked-stands (setting_by d old) (view old) l p n h.sound.in_order h.parts q unnamed past
-              (λ x o. plain (fork_tables p q (entry_at old.tables) x o))
-              (λ o. ap plain (forked-parent p q (entry_at old.tables) empty o) ∙ parent-plain (entry_at old.tables p o))
-              (λ o. ap plain (forked-child p q (entry_at old.tables) empty o) ∙ child-plain (entry_at old.tables p o))
-              (λ x o i j. ap plain (forked-other p q (entry_at old.tables) empty x o i j)));
-          lists = h.lists;
-          swap = h.swap;
-        });
-        free = fork-chosen (setting_by d old) None l p q (view old) (view now) h.sound.in_order unnamed (ap free_of is);
-      }
-        where
-          unnamed : (o : ℕ) → entry l (q, o) ≡ None
-          unnamed o = sym (h.parts.tables.entries q o) ∙ ap (λ e. entry_of (plain e)) (empty o)
+      module _ (pages : Process) (flags : FlagsAre (view old) p pages) (empty : (o : ℕ) → entry_at old.tables q o ≡ Empty) (parts : KeepsParts old now)
+          (tables : entry_at now.tables ≡ fork_tables (areas_on old p) p q (entry_at old.tables))
+          (none : (o : ℕ) → n ≤ o → entry_at now.tables q o ≡ Empty) where
+        -- the pages of the entries that go over
+        abbrev over : List ℕ
+        over = inheritance pages l p
 
-          past : (o : ℕ) → n ≤ o → entry l (p, o) ≡ None
-          past o low = sym (h.parts.tables.entries p o) ∙ ap (λ e. entry_of (plain e))
-              (child_none (entry_at old.tables p o) (sym (ap (λ t. t q o) tables ∙ forked-child p q (entry_at old.tables) empty o) ∙ none o low))
+        goes-over : (o : ℕ) → goes_on old p o ≡ goes_over (pages o)
+        goes-over o = by (areas_on old p o) (pages o) (flags o)
+          where
+            by : (a : Option Area) (x : Option Page) → option_map (λ (area : Area). area.flags) a ≡ option_map (λ (q : Page). q.flags) x
+                → goes_with_entry a ≡ goes_over x
+            by None None e = refl
+            by None (Some x) e = cc
+            by (Some a) None e = cc
+            by (Some a) (Some x) e =
+                let same : a.flags ≡ x.flags = cc in
+                ap (λ (f : Flags). not f.dont_fork && not f.wipe_on_fork) same
+
+        are : (o : ℕ) → cond (goes_on old p o) (entry l (p, o)) None ≡ handed over p l o
+        are o = by (goes_on old p o) (is_in o over) refl refl
+          where
+            by : (a b : Bool) → goes_on old p o ≡ a → is_in o over ≡ b → cond a (entry l (p, o)) None ≡ cond b (entry l (p, o)) None
+            by true true i j = refl
+            by true false i j = not-inherited pages l p o (sym (goes-over o) ∙ i) j
+            by false true i j = absurd (false≢true (sym i ∙ goes-over o ∙ inherited-goes pages l p o j))
+            by false false i j = refl
+
+        unnamed : (o : ℕ) → entry l (q, o) ≡ None
+        unnamed o = sym (h.parts.tables.entries q o) ∙ ap (λ e. entry_of (plain e)) (empty o)
+
+        past : (o : ℕ) → n ≤ o → handed over p l o ≡ None
+        past o low = sym (are o) ∙ by (goes_on old p o) (handed_none (goes_on old p o) (entry_at old.tables p o)
+            (sym (ap (λ t. t q o) tables ∙ forked-child (areas_on old p) p q (entry_at old.tables) empty o) ∙ none o low))
+          where
+            by : (b : Bool) → cond b (plain (entry_at old.tables p o)) None ≡ None → cond b (entry l (p, o)) None ≡ None
+            by true e = sym (h.parts.tables.entries p o) ∙ ap entry_of e
+            by false e = refl
+
+        pub all-seen : HasForkedEntries d old now pages l p q
+        all-seen = record {
+          stands = ledger-same d old now (view now) (child_ledger p q over l) parts (record {
+            sound = forked-kept (setting_by d old) l p q over h.sound unnamed;
+            there = there-by (setting_by d old) l (child_ledger p q over l) (forked-no_new (setting_by d old) l p q over h.sound unnamed) h.there;
+            parts = subst (λ (v : View). LedgerStands (setting_by d old) v (child_ledger p q over l)) (sym is)
+                (forked-stands (setting_by d old) (view old) l p n (goes_on old p) over h.sound.in_order h.parts are q unnamed past
+                (λ x o. plain (fork_tables (areas_on old p) p q (entry_at old.tables) x o))
+                (λ o. ap plain (forked-parent (areas_on old p) p q (entry_at old.tables) empty o) ∙ parent-plain (entry_at old.tables p o))
+                (λ o. ap plain (forked-child (areas_on old p) p q (entry_at old.tables) empty o) ∙ child-plain (goes_on old p o) (entry_at old.tables p o))
+                (λ x o i j. ap plain (forked-other (areas_on old p) p q (entry_at old.tables) empty x o i j)));
+            lists = h.lists;
+            items = h.items;
+            swap = h.swap;
+          });
+          free = fork-chosen (setting_by d old) None l p q over (view old) (view now) h.sound.in_order unnamed (ap free_of is);
+          items = λ items are f. ap (λ (v : View). v.items f) is ∙ are f
+              ∙ ap (λ b. cond b (items f) []) (sym (merged-forked_ledger p q over l f));
+        }

@@ -1,5 +1,5 @@
 -- How the entries of a process go over to a child.
-use Rattle.std.specs.Prelude.{◌≡◌, ℕ, ◌-◌, Bool, true, not, ◌&&◌, if◌then◌else◌, Option, Some, None}
+use Rattle.std.specs.Prelude.{◌≡◌, ℕ, ◌-◌, Bool, false, not, ◌&&◌, if◌then◌else◌, Option, Some, None}
 use Rattle.std.specs.Prelude.{option_map}
 use Rattle.av_base.specs.Words.{within}
 use Rattle.av_plain.specs.Choice.{Chooses}
@@ -9,7 +9,8 @@ use Rattle.av_plain.specs.Fork.{inheritance}
 use Rattle.av_plain.specs.Ledger.{Ledger}
 use Rattle.av_pagetable.specs.declared.pte.Pte.{Pte}
 use Rattle.av_pagetable.specs.declared.pte.Pte.TheVariants.{Empty}
-use Rattle.av_plain.specs.Stands.{View, free_of}
+use Rattle.av_plain.specs.Areas.{Items}
+use Rattle.av_plain.specs.Stands.{ItemsAre, View, free_of}
 use Rattle.av_plain.specs.World.{Page, Process}
 use Rattle.av_vma.specs.Pages.{pages_in}
 use Rattle.av_vma.specs.declared.area.Area.{Area}
@@ -22,9 +23,9 @@ FlagsAre v p pages = (page : ℕ)
     → option_map (λ (area : Area). area.flags) (pages_in (v.areas p) page)
     ≡ option_map (λ (q : Page). q.flags) (pages page)
 
--- whether a page's entry goes over, by its area: it isn't left out, and isn't wiped
+-- whether the entry of a page goes over, by the page's area: it isn't left out, and isn't wiped
 abbrev pub goes_with_entry : Option Area → Bool
-goes_with_entry None = true
+goes_with_entry None = false
 goes_with_entry (Some area) = not area.flags.dont_fork && not area.flags.wipe_on_fork
 
 -- the entries of a process without those that don't go over
@@ -42,3 +43,5 @@ pub record HasForkedEntries (d : Device) (old new : Mem) (pages : Process) (l : 
   pub stands : HasLedger d new (after l (Forked p q (inheritance pages l p)))
   pub free : Chooses (setting_by d old) None l (Forked p q (inheritance pages l p))
       (free_of (view old)) (free_of (view new))
+  pub items : (items : Items) → ItemsAre (view old) l items
+      → ItemsAre (view new) (after l (Forked p q (inheritance pages l p))) items

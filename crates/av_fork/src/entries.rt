@@ -1,17 +1,19 @@
 //! How the entries of a process go over to another one.
 
-ghost use Rattle.std.specs.Prelude.{◌≡◌, ℕ, ◌*◌, ◌≤◌, is_some, true, OnOk};
+ghost use Rattle.std.specs.Prelude.{◌≡◌, ℕ, ◌*◌, ◌<◌, ◌≤◌, true, OnOk};
 ghost use Rattle.av_base.specs.Limits.{most_processes, top_page};
 ghost use Rattle.av_base.specs.Words.{with_at};
 ghost use Rattle.av_base.specs.declared.slot.Slot.{Slot};
-ghost use Rattle.av_fork.specs.Entries.{left_in, without_range, FlagsAre, HasForkedEntries};
+ghost use Rattle.av_fork.specs.Entries.{goes_with_entry, left_in, without_range, FlagsAre};
+ghost use Rattle.av_fork.specs.Entries.{HasForkedEntries};
 ghost use Rattle.av_pagetable.specs.Entries.{entry_at, has};
+ghost use Rattle.av_pagetable.specs.Table.{page_bound};
 ghost use Rattle.av_pagetable.specs.declared.pte.Pte.TheVariants as Pte;
 ghost use Rattle.av_plain.specs.Device.{Device};
 ghost use Rattle.av_plain.specs.Ledger.{Ledger};
 ghost use Rattle.av_plain.specs.Stands.{free_of};
 ghost use Rattle.av_plain.specs.World.{Process};
-ghost use Rattle.av_spaces.specs.Spaces.{areas_of, pages_of};
+ghost use Rattle.av_spaces.specs.Spaces.{pages_of};
 ghost use Rattle.av_mem.specs.Mem.{view, HasLedger, IsOrderly};
 ghost use Rattle.av_mem.specs.Steps.{KeepsRest};
 
@@ -19,6 +21,7 @@ use av_base::PAGE_SIZE;
 use av_mem::Mem;
 use av_mem::entries::count_each_for_child;
 use av_pagetable::{GROUP, Pte};
+use av_spaces::Spaces;
 use std::alloc::{AllocError, Global};
 
 /// Gives a process with an empty table each entry of another one whose page goes over and isn't
@@ -26,7 +29,6 @@ use std::alloc::{AllocError, Global};
 /// and counts.
 pub fn fork_entries(mem: &mut Mem, alloc: Global, parent: u16, child: u16) -> Result<(), AllocError>
     requires orderly { IsOrderly mem.old }
-    requires lives { is_some (areas_of mem.old.spaces.processes parent) ≡ true }
     requires few { (f : ℕ) → (view mem.old).maps f ≤ most_processes * top_page }
     requires few_slots { (s : Slot) → (view mem.old).entries s ≤ most_processes }
     requires there { has mem.old.tables child ≡ true }
@@ -39,7 +41,7 @@ pub fn fork_entries(mem: &mut Mem, alloc: Global, parent: u16, child: u16) -> Re
 {
     mem.tables.copy(alloc, parent, child)?;
     mem.tables.write_protect(parent);
-    leave_out(mem, parent, child)?;
+    leave_out(mem, parent, child);
     let mut number = 0;
     while let Some(page) = mem.tables.next_from(child, number * GROUP as u64) {
         let mut group = [Pte::Empty; GROUP];
@@ -53,20 +55,41 @@ pub fn fork_entries(mem: &mut Mem, alloc: Global, parent: u16, child: u16) -> Re
 
 /// Takes the entries out of a child's table whose pages don't go over from its parent, or are
 /// wiped. They aren't counted yet.
-fn leave_out(mem: &mut Mem, parent: u16, child: u16) -> Result<(), AllocError>
-    requires lives { is_some (areas_of mem.old.spaces.processes parent) ≡ true }
-    ensures left { OnOk result (entry_at mem.new.tables ≡ with_at child
+// It goes by the areas that have entries, so it asks for one or two of most processes.
+fn leave_out(mem: &mut Mem, parent: u16, child: u16)
+    ensures left { entry_at mem.new.tables ≡ with_at child
         (left_in (pages_of mem.old.spaces.processes parent) (entry_at mem.old.tables child))
-        (entry_at mem.old.tables)) }
+        (entry_at mem.old.tables) }
     ensures processes { has mem.new.tables ≡ has mem.old.tables }
     ensures rest { mem.new ≡ record mem.old { tables = mem.new.tables } }
 {
-    for area in mem.spaces.areas(parent)? {
-        if area.flags.dont_fork || area.flags.wipe_on_fork {
-            take_out(mem, child, area.start / PAGE_SIZE, area.end / PAGE_SIZE);
+    let mut next = 0;
+    while let Some(page) = mem.tables.next_from(child, next) {
+        let (goes, past) = run_from(&mem.spaces, parent, page);
+        next = past;
+        if goes {
+            continue;
         }
+        take_out(mem, child, page, past);
     }
-    Ok(())
+}
+
+/// Whether the entry of a page goes over to a child, and up to which page all of the process do as
+/// it does.
+fn run_from(spaces: &Spaces, process: u16, page: u64) -> (bool, u64)
+    requires below { page < page_bound }
+    ensures further { page < result.1 }
+    ensures alike { (other : ℕ) → page ≤ other → other < result.1
+        → goes_with_entry (pages_of spaces.now.processes process other) ≡ result.0 }
+{
+    match spaces.area(process, page) {
+        Some(area) => {
+            let goes = !area.flags.dont_fork && !area.flags.wipe_on_fork;
+            (goes, area.end / PAGE_SIZE)
+        }
+        // No entry is on such a page, and none would go over.
+        None => (false, page + 1),
+    }
 }
 
 /// Takes the entries of a range of a process's pages out of its table.

@@ -2,7 +2,7 @@ pub mod ProcessLaws
 pub mod ForkLaws
 pub mod MapSteps
 pub mod MapLaws
-pub mod MapProts
+pub mod MapMarks
 pub mod MremapRefusals
 pub mod MremapLaws
 pub mod MremapGoes

@@ -4,6 +4,8 @@ use Rattle.std.proofs.lemmas.Bool.Decides.{nat_tests}
 use Rattle.std.proofs.lemmas.Bool.{false≢true}
 use Rattle.std.proofs.lemmas.List.{append-nil}
 use Rattle.std.specs.Prelude.{IfSome, MatchOption, OnOk}
+use Rattle.av_base.specs.Flags.{no_flags}
+use Rattle.av_base.specs.declared.flags.Flags.{Flags}
 use Rattle.av_base.specs.declared.prot.Prot.{Prot}
 use Rattle.av_base.specs.Words.{with_at, within}
 use Rattle.av_vmatree.specs.Spans.{IsFree}
@@ -32,6 +34,7 @@ use Rattle.av_plain.specs.Refusal.{tests, place_tests, refusal, is_too_long, wra
 use Rattle.av_plain.specs.Step.{closing_swap_area, IsLegal, Follows, next}
 use Rattle.av_plain.specs.Place.{Goes}
 use Rattle.av_plain.specs.Map.{zaps_for_place, with_prot_to_hole}
+use Rattle.av_plain.specs.Mremap.{marks_at}
 use Rattle.av_anon.specs.declared.anons.Anons.{Anons as AnonSet}
 use Rattle.av_merge.specs.Kin.{lengths}
 use Rattle.av_merge.proofs.Lengths.{map_alike, pages_alike}
@@ -47,7 +50,7 @@ use Rattle.av_plain.specs.Areas.{areas_to_hole, chain_length, next_areas, with_r
 use Rattle.av_plain.specs.Choice.{ChoosesAll}
 use Rattle.av_plain.specs.Report.{ShowsAreas}
 use Rattle.av_plain.specs.Transcript.{State, rmap_of}
-use Rattle.av_plain.specs.Stands.{AreasAre, IsKept, IsKeptAt, free_of, prot_of}
+use Rattle.av_plain.specs.Stands.{AreasAre, IsKept, IsKeptAt, free_of}
 use Rattle.av_plain.specs.World.{Holds}
 use Rattle.av_vma.specs.Pages.{Pages, home_of, after_map, pages_changed, to_prot, after_unmap}
 use Rattle.av_plain.proofs.World.Ranges.{is-pages_to_hole}
@@ -55,7 +58,8 @@ use Rattle.av_plain.proofs.Zap.{entry-range}
 use Rattle.av_mem.specs.declared.mem.Mem.{Mem}
 use Rattle.av_spaces.specs.Spaces.{AllSpaces, Spaces, areas_of, is_taken, pages_of as areas_on}
 use Rattle.av_plain.proofs.Transcript.{is_fork, next-plain}
-use Rattle.av_kernel.specs.Map.{set_on, GetsAreas, GetsProts, HomesStay, AreUnmapped}
+use Rattle.av_kernel.specs.Map.{changed_on, marks_on, marks_with, set_on, GetsAreas, GetsMarks, HomesStay, AreUnmapped}
+use Rattle.av_kernel.proofs.MapMarks.{marks_kept, marks_there, page_marks}
 use Rattle.av_mem.specs.Mem.{ranges_of, setting_by, view, frame_count, Keeps, IsSteady, HasLedger}
 use Rattle.av_mem.specs.Steps.{KeepsRest, KeepsSwap}
 use Rattle.av_mem.specs.Zap.{HasZapped}
@@ -88,9 +92,9 @@ suits k steady p n page place placed =
     suited k.spaces.processes p (pages steady.1.world p) same n page place (placed (pages steady.1.world p) same)
 
 -- the same pages change twice
-pub twice_changed : (s t u : Spaces) (p page n : ℕ) (x y : Option Prot) → GetsProts s t p (set_on page n x (prot_of (ranges_of s p))) →
-    GetsProts t u p (set_on page n y (prot_of (ranges_of t p)))
-    → GetsProts s u p (set_on page n y (prot_of (ranges_of s p)))
+pub twice_changed : (s t u : Spaces) (p page n : ℕ) (x y : Option (Prot × Flags)) → GetsMarks s t p (set_on page n x (marks_on (areas_on s p))) →
+    GetsMarks t u p (set_on page n y (marks_on (areas_on t p)))
+    → GetsMarks s u p (set_on page n y (marks_on (areas_on s p)))
 twice_changed s t u p page n x y first second = record {
   others = λ q other. second.others q other ∙ first.others q other;
   alive = second.alive;
@@ -99,9 +103,9 @@ twice_changed s t u p page n x y first second = record {
   apart = second.apart;
 }
   where
-    by : (o : ℕ) (b : Bool) → within page n o ≡ b → cond b y (prot_of (ranges_of t p) o) ≡ cond b y (prot_of (ranges_of s p) o)
+    by : (o : ℕ) (b : Bool) → within page n o ≡ b → cond b y (marks_on (areas_on t p) o) ≡ cond b y (marks_on (areas_on s p) o)
     by o true e = refl
-    by o false e = first.pages o ∙ ap (λ b. cond b x (prot_of (ranges_of s p) o)) e
+    by o false e = first.pages o ∙ ap (λ b. cond b x (marks_on (areas_on s p) o)) e
 
 -- the areas of the same process change twice
 twice_placed : (s t u : Spaces) (p : ℕ) (change : Pages → Pages) (on : Pages) → GetsAreas s t p on → GetsAreas t u p (change (areas_on t p)) →
@@ -154,7 +158,7 @@ both_ok (Err e) f h g = tt
 -- their entries have gone, and then their areas
 pub are_unmapped : {d : Device} (old mid : Mem) (spaces : AllSpaces) (anons : AnonSet) (p page n : ℕ) (l : Ledger) (before notes : List Note) →
     HasZapped d old mid l (zaps_of l (keys_in l p page (page + n - page))) before notes → KeepsRest old mid
-    → GetsProts mid.spaces.processes spaces.processes p (set_on page n None (prot_of (ranges_of mid.spaces.processes p))) →
+    → GetsMarks mid.spaces.processes spaces.processes p (set_on page n None (marks_on (areas_on mid.spaces.processes p))) →
     GetsAreas mid.spaces.processes spaces.processes p (after_unmap page (page + n) (areas_on mid.spaces.processes p))
     → AnonsStay mid.spaces mid.anons spaces anons → HomesStay mid.spaces.processes spaces.processes p page n
     → AreUnmapped d old (moved_on mid mid.tables spaces anons) p page n (after_unmap page (page + n) (areas_on old.spaces.processes p)) l
@@ -162,8 +166,8 @@ pub are_unmapped : {d : Device} (old mid : Mem) (spaces : AllSpaces) (anons : An
 are_unmapped {d} old mid spaces anons p page n l before notes t rest gone areas anons_stay stay = record {
   taken = subst (λ x. HasZapped d old (moved_on mid mid.tables spaces anons) l (zaps_of l (keys_in l p page x)) before notes)
       (let size : page + n - page ≡ n = omega arith in size)
-      (record { stands = stays_orderly d mid mid.tables spaces anons _ refl t.stands; notes = t.notes; free = t.free });
-  spaces = subst (λ (x : AllSpaces). GetsProts x.processes spaces.processes p (set_on page n None (prot_of (ranges_of x.processes p))))
+      (record { stands = stays_orderly d mid mid.tables spaces anons _ refl t.stands; notes = t.notes; free = t.free; items = t.items });
+  spaces = subst (λ (x : AllSpaces). GetsMarks x.processes spaces.processes p (set_on page n None (marks_on (areas_on x.processes p))))
       (spaces-stay rest.parts) gone;
   areas = subst (λ (x : AllSpaces). GetsAreas x.processes spaces.processes p (after_unmap page (page + n) (areas_on x.processes p)))
       (spaces-stay rest.parts) areas;
@@ -190,10 +194,10 @@ left_alone : (d : Device) (k : Mem) → IsSteady k → (p page n : ℕ) (l : Led
     is_some (areas_of k.spaces.processes p) ≡ true → IsFree (is_taken k.spaces.processes p) page (page + n)
     → AreUnmapped d k k p page n (areas_on k.spaces.processes p) l [] notes notes
 left_alone d k steady p page n l notes stands alive free = record {
-  taken = record { stands = stands; notes = sym (append-nil notes); free = refl };
+  taken = record { stands = stands; notes = sym (append-nil notes); free = refl; items = λ items are. are };
   spaces = record {
     others = λ q other. refl;
-    alive = alive_is k.spaces.processes p ∙ alive;
+    alive = alive;
     pages = λ o. by o (within page n o) refl;
     number = refl;
     apart = steady.2.stands.parts.areas.apart;
@@ -206,16 +210,16 @@ left_alone d k steady p page n l notes stands alive free = record {
   moved = refl;
 }
   where
-    none : (o : Option Prot) → is_some o ≡ false → o ≡ None
+    none : (o : Option (Prot × Flags)) → is_some o ≡ false → o ≡ None
     none None e = refl
     none (Some x) e = cc
 
     by : (o : ℕ) (b : Bool) → within page n o ≡ b
-        → prot_of (ranges_of k.spaces.processes p) o ≡ cond b None (prot_of (ranges_of k.spaces.processes p) o)
+        → marks_on (areas_on k.spaces.processes p) o ≡ cond b None (marks_on (areas_on k.spaces.processes p) o)
     by o true e =
         let low : page ≤ o = grind (arith, nat_tests, e) in
         let high : o < page + n = grind (arith, nat_tests, e) in
-        none (prot_of (ranges_of k.spaces.processes p) o) (sym (taken_has k.spaces.processes p o) ∙ free o low high)
+        none (marks_on (areas_on k.spaces.processes p) o) (marks_there (areas_on k.spaces.processes p) o ∙ free o low high)
     by o false e = refl
 
 -- where a mapping isn't to be at a fixed place, its pages are free, and nothing goes
@@ -230,13 +234,13 @@ nothing_there d k steady p page n (NoReplace a) l notes stands alive free other 
 -- the process lives on, and none of the pages is taken
 pub unmapped_lives : {d : Device} (old new : Mem) (p page n : ℕ) (on : Pages) (l : Ledger) (events : List Event) (before notes : List Note) →
     AreUnmapped d old new p page n on l events before notes → is_some (areas_of new.spaces.processes p) ≡ true
-unmapped_lives {d} old new p page n on l events before notes h = sym (alive_is new.spaces.processes p) ∙ h.spaces.alive
+unmapped_lives {d} old new p page n on l events before notes h = h.spaces.alive
 
 pub unmapped_free : {d : Device} (old new : Mem) (p page n : ℕ) (on : Pages) (l : Ledger) (events : List Event) (before notes : List Note) →
     AreUnmapped d old new p page n on l events before notes → IsFree (is_taken new.spaces.processes p) page (page + n)
 unmapped_free {d} old new p page n on l events before notes h o low high =
     let inside : within page n o ≡ true = grind (arith, nat_tests, low, high) in
-    taken_has new.spaces.processes p o ∙ ap is_some (h.spaces.pages o ∙ ap (λ b. cond b None (prot_of (ranges_of old.spaces.processes p) o)) inside)
+    sym (marks_there (areas_on new.spaces.processes p) o) ∙ ap is_some (h.spaces.pages o ∙ ap (λ b. cond b None (marks_on (areas_on old.spaces.processes p) o)) inside)
 
 -- what goes where a mapping makes room leaves areas, anon_vmas and homes
 place-silent : (l : Ledger) (p n : ℕ) (place : Place) (r : Rmap) → rmap_after_all l (zaps_for_place l p n place) r ≡ r
@@ -267,22 +271,20 @@ module _ {d : Device} (old new : Mem) (s : State) (command : Command) (reply : R
     (taken : HasZapped d old new s.ledger events before notes) (cached : KeepsCached s.ledger (after_all s.ledger events))
     (reach : Reach (after_all s.ledger events) (rmap_of s)) (swap : KeepsSwap old new) (entries : (q at : ℕ) →
     entry (after_all s.ledger events) (q, at) ≡ cond (q == p && within page n at) None (entry s.ledger (q, at)))
-    (blank : Holds o (λ _. 0)) (spaces : GetsProts old.spaces.processes new.spaces.processes p
-    (set_on page n (option_map (λ (x : Page). x.prot) o) (prot_of (ranges_of old.spaces.processes p))))
+    (blank : Holds o (λ _. 0)) (spaces : GetsMarks old.spaces.processes new.spaces.processes p
+    (set_on page n (option_map page_marks o) (marks_on (areas_on old.spaces.processes p))))
     (areas : AreasAre (view new) (with_at p on s.areas)) (stay : AnonsStay old.spaces old.anons new.spaces new.anons)
     (processes : has new.tables ≡ has old.tables) (bytes : (view new).bytes ≡ (view old).bytes)
     (homes : (view new).homes ≡ (view old).homes) (home_stay : HomesStay old.spaces.processes new.spaces.processes p page n)
     (silent : rmap_after_all s.ledger events (rmap_of s) ≡ rmap_of s) where
-  covered : (at : ℕ) → set_on page n (option_map (λ (x : Page). x.prot) o) (prot_of (ranges_of old.spaces.processes p)) at ≡ option_map
-      (λ (x : Page). x.prot)
-      (with_pages (pages s.world p) page n (λ _. o) at)
+  covered : (at : ℕ) → set_on page n (option_map page_marks o) (marks_on (areas_on old.spaces.processes p)) at
+      ≡ marks_at (with_pages (pages s.world p) page n (λ _. o)) at
   covered at = by (within page n at)
     where
-      by : (b : Bool) → cond b (option_map (λ (x : Page). x.prot) o) (prot_of (ranges_of old.spaces.processes p) at) ≡ option_map
-          (λ (x : Page). x.prot)
-          (cond b o (pages s.world p at))
+      by : (b : Bool) → cond b (option_map page_marks o) (marks_on (areas_on old.spaces.processes p) at)
+          ≡ option_map page_marks (cond b o (pages s.world p at))
       by true = refl
-      by false = keeps.stands.parts.areas.covers p at
+      by false = marks_kept old s keeps p at
 
   kept : (at : ℕ) → IsKept (view old) d s.ledger (entry (after_all s.ledger events) (p, at)) (with_pages (pages s.world p) page n (λ _. o) at)
   kept at = subst (λ e. IsKept (view old) d s.ledger e (with_pages (pages s.world p) page n (λ _. o) at))
@@ -323,7 +325,7 @@ module _ {d : Device} (old new : Mem) (s : State) (command : Command) (reply : R
   replaced-steps plain open_all legal loads world areas_next shows =
       let now : Process = with_pages (pages s.world p) page n (λ _. o) in
       changed old new s command reply p now on (after_all s.ledger events) keeps stay same_count swap taken.stands bytes homes
-      (λ q at other. entries q at ∙ ap (λ b. cond (b && within page n at) None (entry s.ledger (q, at))) other) cached kept reach home
+      (taken.items s.items keeps.stands.items) (λ q at other. entries q at ∙ ap (λ b. cond (b && within page n at) None (entry s.ledger (q, at))) other) cached kept reach home
       (record {
         events = events;
         legal = legal;
@@ -335,13 +337,13 @@ module _ {d : Device} (old new : Mem) (s : State) (command : Command) (reply : R
             subst (λ r. IsRmapNext r s.world command reply.answer
             (rmap_of (state_after s p now on (after_all s.ledger events) (free_of (view new)) new.anons)))
             (sym silent) (next-plain (rmap_of s) s.world command reply.answer _ plain
-            (record { areas = areas_next; anons = are_left d old s keeps new.spaces new.anons stay (with_at p on s.areas) areas; homes = refl }));
+            (record { areas = areas_next; anons = are_left d old s keeps new.spaces new.anons stay (with_at p on s.areas) areas; homes = refl; items = refl }));
         shows = shows;
       })
       areas
-      (areas_changed old new s p now (set_on page n (option_map (λ (x : Page). x.prot) o) (prot_of (ranges_of old.spaces.processes p)))
+      (areas_changed old new s p now (set_on page n (option_map page_marks o) (marks_on (areas_on old.spaces.processes p)))
       keeps alive spaces covered)
-      (tables_kept old new s p now (set_on page n (option_map (λ (x : Page). x.prot) o) (prot_of (ranges_of old.spaces.processes p)))
+      (tables_kept old new s p now (set_on page n (option_map page_marks o) (marks_on (areas_on old.spaces.processes p)))
       keeps alive spaces covered processes)
 
 -- ---- what is refused
@@ -479,14 +481,14 @@ module _ {d : Device} (old : Mem) (s : State) (p len : ℕ) (prot : Prot) (place
       (clear : AreToUnmap (is_taken old.spaces.processes p) page (pages_of len) place)
       (same_count : frame_count mid ≡ frame_count old) (before notes : List Note) (unmapped : AreUnmapped d old mid p page (pages_of len)
       (with_room (pages_of len) place (areas_on old.spaces.processes p)) s.ledger (zaps_for_place s.ledger p (pages_of len) place) before notes)
-      (given : GetsProts mid.spaces.processes spaces.processes p
-      (set_on page (pages_of len) (Some prot) (prot_of (ranges_of mid.spaces.processes p))))
-      (areas : GetsAreas mid.spaces.processes spaces.processes p (after_map (lengths mid.spaces.areas mid.anons) p page (page + pages_of len) prot
+      (given : GetsMarks mid.spaces.processes spaces.processes p
+      (set_on page (pages_of len) (Some (prot, no_flags)) (marks_on (areas_on mid.spaces.processes p))))
+      (areas : GetsAreas mid.spaces.processes spaces.processes p (after_map (lengths mid.spaces.areas mid.anons) p page (page + pages_of len) prot no_flags
       (areas_on mid.spaces.processes p)))
       (stay : AnonsStay mid.spaces mid.anons spaces anons) (given_homes : HomesStay mid.spaces.processes spaces.processes p page (pages_of len)) where
-    alike : (q : ℕ) → after_map (lengths mid.spaces.areas mid.anons) p page (page + pages_of len) prot (areas_on mid.spaces.processes p) q ≡ after_map
-        (chain_length s.anons) p page (page + pages_of len) prot (areas_on mid.spaces.processes p) q
-    alike = map_alike (lengths mid.spaces.areas mid.anons) (chain_length s.anons) p page (page + pages_of len) prot
+    alike : (q : ℕ) → after_map (lengths mid.spaces.areas mid.anons) p page (page + pages_of len) prot no_flags (areas_on mid.spaces.processes p) q ≡ after_map
+        (chain_length s.anons) p page (page + pages_of len) prot no_flags (areas_on mid.spaces.processes p) q
+    alike = map_alike (lengths mid.spaces.areas mid.anons) (chain_length s.anons) p page (page + pages_of len) prot no_flags
         (areas_on mid.spaces.processes p) refl
         (lengths_alike d old s keeps mid.spaces mid.anons unmapped.anons p)
 
@@ -498,17 +500,17 @@ module _ {d : Device} (old : Mem) (s : State) (p len : ℕ) (prot : Prot) (place
         let t = unmapped.taken in
         let rest = unmapped_rest old mid p _ _ _ _ _ before notes unmapped in
         replaced-steps old new s (Mmap p len prot place) (noted (MapAt (address_of page)) (notes_of events)) p page (pages_of len)
-        (Some (zeros prot)) (after_map (chain_length s.anons) p page (page + pages_of len) prot (with_room (pages_of len) place (s.areas p)))
+        (Some (zeros prot)) (after_map (chain_length s.anons) p page (page + pages_of len) prot no_flags (with_room (pages_of len) place (s.areas p)))
         events before notes keeps alive same_count
-        (record { stands = stays_orderly d mid mid.tables spaces anons (after_all s.ledger events) refl t.stands; notes = t.notes; free = t.free })
+        (record { stands = stays_orderly d mid mid.tables spaces anons (after_all s.ledger events) refl t.stands; notes = t.notes; free = t.free; items = t.items })
         (place-cached (setting_by d old) s.ledger p (pages_of len) place keeps.stands.sound.ledger)
         (place-reach s.ledger p (pages_of len) place (rmap_of s) (reach_of old s keeps)) (swap_alike old mid old new refl refl rest.3)
         (λ q at. entry-unmapped place page (pages_of len) q at clear) (λ i below. refl)
-        (twice_changed old.spaces.processes mid.spaces.processes spaces.processes p page (pages_of len) None (Some prot) unmapped.spaces given)
-        (areas_so old (moved_on mid mid.tables spaces anons) s p (λ on. after_map (chain_length s.anons) p page (page + pages_of len) prot
+        (twice_changed old.spaces.processes mid.spaces.processes spaces.processes p page (pages_of len) None (Some (prot, no_flags)) unmapped.spaces given)
+        (areas_so old (moved_on mid mid.tables spaces anons) s p (λ on. after_map (chain_length s.anons) p page (page + pages_of len) prot no_flags
         (with_room (pages_of len) place on)) keeps
         (twice_placed old.spaces.processes mid.spaces.processes spaces.processes p
-        (after_map (chain_length s.anons) p page (page + pages_of len) prot)
+        (after_map (chain_length s.anons) p page (page + pages_of len) prot no_flags)
         (with_room (pages_of len) place (areas_on old.spaces.processes p)) unmapped.areas
         (re_areas mid.spaces.processes spaces.processes p _ _ alike areas)))
         (stay_both old.spaces mid.spaces spaces old.anons mid.anons anons unmapped.anons stay) rest.0 rest.1 rest.2
@@ -523,7 +525,7 @@ module _ {d : Device} (old : Mem) (s : State) (p len : ℕ) (prot : Prot) (place
         })
         (place-loads s.ledger p (pages_of len) place)
         (ap (λ x. set_process s.world p (with_pages (pages s.world p) x (pages_of len) (λ _. Some (zeros prot)))) (sym (page_back page)))
-        (ap (λ x. with_at p (after_map (chain_length s.anons) p x (x + pages_of len) prot (with_room (pages_of len) place (s.areas p))) s.areas)
+        (ap (λ x. with_at p (after_map (chain_length s.anons) p x (x + pages_of len) prot no_flags (with_room (pages_of len) place (s.areas p))) s.areas)
         (sym (page_back page)))
         tt
 
@@ -532,8 +534,8 @@ module _ {d : Device} (old : Mem) (s : State) (p len : ℕ) (prot : Prot) (place
 module _ {d : Device} (old : Mem) (spaces : AllSpaces) (anons : AnonSet) (s : State) (p a len reached : ℕ) (prot : Prot) (keeps : Keeps d old s)
     (alive : is_some (ranges_of old.spaces.processes p) ≡ true) (passed : refusal ((not (is_on_page a), Einval) ∷ (wraps a len, Enomem) ∷ []) ≡ None)
     (reaches : GoesTo (is_taken old.spaces.processes p) (page_of a) (page_of a + pages_of len) reached)
-    (given : GetsProts old.spaces.processes spaces.processes p (set_on (page_of a) (reached - page_of a) (Some prot)
-    (prot_of (ranges_of old.spaces.processes p))))
+    (given : GetsMarks old.spaces.processes spaces.processes p (changed_on (page_of a) (reached - page_of a) (to_prot prot)
+    (marks_on (areas_on old.spaces.processes p))))
     (areas : GetsAreas old.spaces.processes spaces.processes p (pages_changed (lengths old.spaces.areas old.anons) (to_prot prot) (page_of a)
     (reached - page_of a) (areas_on old.spaces.processes p)))
     (stay : AnonsStay old.spaces old.anons spaces anons) (homes : KeepsHomes (areas_on old.spaces.processes p) (areas_on spaces.processes p)) where
@@ -566,24 +568,20 @@ module _ {d : Device} (old : Mem) (spaces : AllSpaces) (anons : AnonSet) (s : St
         ap (is_mapped (pages s.world p)) end ∙ sym (taken_is old s p keeps reached) ∙ reaches.end (omega (arith, less, least));
   })
 
-  -- the protection is that of the pages, and their bytes are as they were
-  covered-protected : (page : ℕ) → set_on (page_of a) (reached - page_of a) (Some prot) (prot_of (ranges_of old.spaces.processes p)) page ≡ option_map
-      (λ (x : Page). x.prot) (with_prot_on (pages s.world p) (page_of a) (reached - page_of a) prot page)
-  covered-protected page = by (within (page_of a) (reached - page_of a) page) refl
+  -- their marks are those of the pages, and their bytes are as they were
+  covered-protected : (page : ℕ) → changed_on (page_of a) (reached - page_of a) (to_prot prot) (marks_on (areas_on old.spaces.processes p)) page
+      ≡ marks_at (with_prot_on (pages s.world p) (page_of a) (reached - page_of a) prot) page
+  covered-protected page = by (within (page_of a) (reached - page_of a) page)
     where
-      there : (o : Option Page) → is_some o ≡ true → Some prot ≡ option_map (λ (x : Page). x.prot) (option_map (with_prot prot) o)
-      there None e = cc
-      there (Some x) e = refl
+      so : (o : Option Page) → option_map (marks_with (to_prot prot)) (option_map page_marks o) ≡ option_map page_marks (option_map (with_prot prot) o)
+      so None = refl
+      so (Some x) = refl
 
-      by : (b : Bool) → within (page_of a) (reached - page_of a) page ≡ b
-          → cond b (Some prot) (prot_of (ranges_of old.spaces.processes p) page) ≡ option_map
-          (λ (x : Page). x.prot) (cond b (option_map (with_prot prot) (pages s.world p page)) (pages s.world p page))
-      by true e =
-          let low : page_of a ≤ page = grind (arith, nat_tests, e) in
-          let high : page < page_of a + (reached - page_of a) = grind (arith, nat_tests, e) in
-          there (pages s.world p page)
-          (sym (taken_is old s p keeps page) ∙ reaches.all page low (let least = reaches.lowest in omega (arith, high, least)))
-      by false e = keeps.stands.parts.areas.covers p page
+      by : (b : Bool) → cond b (option_map (marks_with (to_prot prot)) (marks_on (areas_on old.spaces.processes p) page))
+          (marks_on (areas_on old.spaces.processes p) page)
+          ≡ option_map page_marks (cond b (option_map (with_prot prot) (pages s.world p page)) (pages s.world p page))
+      by true = ap (option_map (marks_with (to_prot prot))) (marks_kept old s keeps p page) ∙ so (pages s.world p page)
+      by false = marks_kept old s keeps p page
 
   kept-protected : (page : ℕ) → IsKept (view old) d s.ledger (entry s.ledger (p, page))
       (with_prot_on (pages s.world p) (page_of a) (reached - page_of a) prot page)
@@ -644,7 +642,7 @@ module _ {d : Device} (old : Mem) (spaces : AllSpaces) (anons : AnonSet) (s : St
       (pages_changed (chain_length s.anons) (to_prot prot) (page_of a) (reached - page_of a) (s.areas p)) s.ledger keeps stay refl
       (swap_alike old old old new refl refl (swap_itself old))
       (stays_orderly d old old.tables spaces anons s.ledger refl (orderly old s keeps)) refl refl
-      (λ q page other. refl) (cached-itself s.ledger) kept-protected (reach_of old s keeps) (λ page home there is. home_protected page home is)
+      keeps.stands.items (λ q page other. refl) (cached-itself s.ledger) kept-protected (reach_of old s keeps) (λ page home there is. home_protected page home is)
       (record {
         events = [];
         legal = record {
@@ -656,13 +654,13 @@ module _ {d : Device} (old : Mem) (spaces : AllSpaces) (anons : AnonSet) (s : St
         ledger = refl;
         free = keeps.stands.free;
         rmap = next-plain (rmap_of s) s.world (Mprotect p a len prot) answer _ refl
-            (record { areas = areas_next; anons = are_left d old s keeps spaces anons stay _ now_on; homes = refl });
+            (record { areas = areas_next; anons = are_left d old s keeps spaces anons stay _ now_on; homes = refl; items = refl });
         shows = tt;
       })
       now_on
-      (areas_changed old new s p now (set_on (page_of a) (reached - page_of a) (Some prot) (prot_of (ranges_of old.spaces.processes p)))
+      (areas_changed old new s p now (changed_on (page_of a) (reached - page_of a) (to_prot prot) (marks_on (areas_on old.spaces.processes p)))
       keeps alive given covered-protected)
-      (tables_kept old new s p now (set_on (page_of a) (reached - page_of a) (Some prot) (prot_of (ranges_of old.spaces.processes p))) keeps
+      (tables_kept old new s p now (changed_on (page_of a) (reached - page_of a) (to_prot prot) (marks_on (areas_on old.spaces.processes p))) keeps
       alive given covered-protected refl)
 
   -- all pages were mapped

@@ -11,9 +11,9 @@ use Rattle.av_vma.specs.Mremap.{IsGrowth, IsMove}
 use Rattle.av_vma.specs.Pages.{AreLaid}
 use Rattle.av_spaces.specs.Spaces.{areas_of, is_taken, pages_of as areas_on}
 use Rattle.av_plain.specs.Device.{Device}
-use Rattle.av_plain.specs.Areas.{HaveProtsOf, chain_length}
+use Rattle.av_plain.specs.Areas.{chain_length}
 use Rattle.av_plain.specs.Event.{notes_of}
-use Rattle.av_plain.specs.Mremap.{MovesTo, after_mremap, leaves_old, prot_left, remap_events}
+use Rattle.av_plain.specs.Mremap.{MovesTo, after_mremap, leaves_old, remap_events}
 use Rattle.av_plain.specs.Refusal.{mremap_tests, overflows, refusal}
 use Rattle.av_plain.specs.Transcript.{State}
 use Rattle.av_plain.specs.World.{Process, pages}
@@ -23,7 +23,7 @@ use Rattle.av_mem.specs.Mem.{IsSteady, Keeps, setting_by}
 use Rattle.av_mem.specs.Steps.{KeepsRest}
 use Rattle.av_mremap.specs.Areas.{HasRemap}
 use Rattle.av_mremap.specs.Entries.{HasRemapped}
-use Rattle.av_place.specs.Mremap.{StaySmall}
+use Rattle.av_place.specs.Mremap.{HaveProtsOf, StaySmall}
 use Rattle.av_step.specs.Step.{StepsBeside}
 use Rattle.av_kernel.proofs.MremapLaws.{last_taken, may_grow, may_move, may_shrink, old_high, remaps, some_pages}
 use Rattle.av_kernel.proofs.MremapRefusals.{have_prots_of, tests_are}
@@ -62,6 +62,23 @@ module _ {old : Mem} {p a olen nlen : ℕ} {mode : Mode} (passes : Passes old p 
       by false true d e f is h = cc
       by false false d e f is h = let more : 0 < nlen = grind (arith, nat_tests, is) in omega (arith, more)
 
+  -- a range that leaves its pages behind moves whole
+  same_lengths : IsSteady old → leaves_old mode ≡ true → olen ≡ nlen
+  same_lengths steady leaves =
+      by (olen == 0) (nlen == 0) (overflows olen) (overflows nlen) (leaves_old mode) (olen == nlen) refl leaves (may_by steady.1 steady.2).lengths
+    where
+      equal : (olen == nlen) ≡ true → olen ≡ nlen
+      equal e = grind (arith, nat_tests, e)
+
+      by : (b c d e f g : Bool) → (olen == nlen) ≡ g → f ≡ true → (b || c || d || e || (f && not g)) ≡ false → olen ≡ nlen
+      by b c d e f true is leaves h = equal is
+      by true c d e f false is leaves h = cc
+      by false true d e f false is leaves h = cc
+      by false false true e f false is leaves h = cc
+      by false false false true f false is leaves h = cc
+      by false false false false true false is leaves h = cc
+      by false false false false false false is leaves h = cc
+
 module _ {old : Mem} {p a olen nlen n m : ℕ} {mode : Mode} {to : ℕ} (go : Goes old p a olen nlen n m mode to) where
   abbrev from : ℕ
   from = page_of a
@@ -83,6 +100,10 @@ module _ {old : Mem} {p a olen nlen n m : ℕ} {mode : Mode} {to : ℕ} (go : Go
 
     pub some_by : (1 ≤ n) × (1 ≤ m)
     some_by = of_pages (λ n m. (1 ≤ n) × (1 ≤ m)) (some_pages steady.2 may_now to go.passes.alive goes_now go.passes.laid)
+
+    pub whole_by : leaves_old mode ≡ true → n ≤ m
+    whole_by leaves = of_pages (λ n m. n ≤ m)
+        (subst (λ (len : ℕ). pages_of olen ≤ pages_of len) (same_lengths go.passes steady leaves) (omega arith))
 
     pub last_by : n < m → is_taken old.spaces.processes p (from + n - 1) ≡ true
     last_by = of_pages (λ n m. n < m → is_taken old.spaces.processes p (from + n - 1) ≡ true)
@@ -122,18 +143,17 @@ module _ {old : Mem} {p a olen nlen n m : ℕ} {mode : Mode} {to : ℕ} (go : Go
   -- the areas changed, and then the entries
   pub steps_by : {d : Device} (s : State) (keeps : Keeps d old s) (before notes : List Note) → StaySmall old.spaces.processes p from n m
       → (gone new : Mem) → gone ≡ record old { spaces = gone.spaces; anons = gone.anons }
-      → HasRemap old gone p (after_mremap (chain_length s.anons) p from n to m (prot_left mode (pages s.world p) from) (s.areas p))
+      → HasRemap old gone p (after_mremap (chain_length s.anons) p from n to m (leaves_old mode) (s.areas p))
       → HasRemapped d gone new s.ledger (remap_events s.ledger p from n to m) before notes → KeepsRest gone new
       → StepsBeside d old new s (Mremap p a olen nlen mode) (noted (MapAt (address_of to)) (notes_of (remap_events s.ledger p from n to m)))
   steps_by {d} s keeps before notes small gone new same remap done rest =
-      let left = prot_left mode (pages s.world p) from in
       let long = chain_length s.anons in
       of_pages (λ n m. StepsBeside d old new s (Mremap p a olen nlen mode)
       (noted (MapAt (address_of to)) (notes_of (remap_events s.ledger p from n to m))))
       (remaps keeps (may_by go.passes s keeps) to go.passes.alive (goes_by s keeps) go.passes.laid
       (both_are (λ n m. StaySmall old.spaces.processes p from n m) go.as_old go.as_new small) gone.spaces gone.anons
-      (subst (λ g. HasRemap old g p (after_mremap long p from (pages_of olen) to (pages_of nlen) left (s.areas p))) same
-      (both_are (λ n m. HasRemap old gone p (after_mremap long p from n to m left (s.areas p))) go.as_old go.as_new remap))
+      (subst (λ g. HasRemap old g p (after_mremap long p from (pages_of olen) to (pages_of nlen) (leaves_old mode) (s.areas p))) same
+      (both_are (λ n m. HasRemap old gone p (after_mremap long p from n to m (leaves_old mode) (s.areas p))) go.as_old go.as_new remap))
       new before notes (subst (λ g. HasRemapped d g new s.ledger (remap_events s.ledger p from (pages_of olen) to (pages_of nlen)) before notes) same
       (both_are (λ n m. HasRemapped d gone new s.ledger (remap_events s.ledger p from n to m) before notes) go.as_old go.as_new done))
       (subst (λ g. KeepsRest g new) same rest)

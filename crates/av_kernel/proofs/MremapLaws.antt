@@ -21,7 +21,7 @@ use Rattle.av_vma.specs.Mremap.{IsGrowth, IsMove}
 use Rattle.av_vma.specs.Pages.{AreLaid, Pages}
 use Rattle.av_vma.proofs.Laid.{has_parts}
 use Rattle.av_vma.proofs.Mremap.{in_range as range_bounds, is_in_range, out_of_range}
-use Rattle.av_vma.proofs.Prots.{area_prot, prots}
+use Rattle.av_vma.proofs.Marks.{area_marks, marks}
 use Rattle.av_anon.specs.declared.anons.Anons.{Anons as AnonSet}
 use Rattle.av_spaces.specs.Spaces.{AllSpaces, areas_of, is_taken, pages_of as areas_on}
 use Rattle.av_plain.specs.Device.{Device}
@@ -30,18 +30,18 @@ use Rattle.av_plain.specs.Choice.{ChoosesAll}
 use Rattle.av_plain.specs.Event.{Event, EntriesMoved, after_all, notes_of}
 use Rattle.av_plain.specs.Fork.{IsRmapNext}
 use Rattle.av_plain.specs.Ledger.{Entry, Ledger, entry, key_cmp}
-use Rattle.av_plain.specs.Mremap.{MovesTo, after_mremap, have_one_prot, is_in_place, prot_at, prot_left, range_zaps, remap_events, process_after_mremap}
+use Rattle.av_plain.specs.Mremap.{MovesTo, after_mremap, have_one_prot, is_in_place, leaves_old, left_behind, marks_at, prot_at, range_zaps, remap_events, process_after_mremap}
 use Rattle.av_plain.specs.Refusal.{Refuses, refusal, tests, top}
 use Rattle.av_plain.specs.Stands.{AreasAre, AreasStand, IsKept, free_of}
 use Rattle.av_plain.specs.Step.{Follows}
 use Rattle.av_plain.specs.Transcript.{IsStep, State, rmap_of}
-use Rattle.av_plain.specs.World.{Page, Process, is_mapped, lives, pages, set_process, zeros}
+use Rattle.av_plain.specs.World.{Holds, Page, Process, is_mapped, lives, pages, set_process, wiped}
 use Rattle.av_plain.specs.Zap.{keys_in}
 use Rattle.av_plain.proofs.AreasLeft.{rmap_after_all-append, rmap_after_all-zaps}
-use Rattle.av_plain.proofs.Covered.Mremap.{slots-remapped, sound-remapped}
+use Rattle.av_plain.proofs.Covered.Mremap.{merged-remapped, slots-remapped, sound-remapped}
 use Rattle.av_plain.proofs.Mremap.{then_target}
 use Rattle.av_plain.proofs.Mremap.Areas.{IsRemap}
-use Rattle.av_plain.proofs.Mremap.Cover.{becomes, from_itself, from_left, from_old, from_zeros, prots_become}
+use Rattle.av_plain.proofs.Mremap.Cover.{becomes, from_itself, from_left, from_old, from_zeros, marks_become}
 use Rattle.av_plain.proofs.Mremap.Legal.{some, uniform, uniform-where}
 use Rattle.av_plain.proofs.Refusal.{MayRemap}
 use Rattle.av_plain.proofs.Transcript.{next-plain}
@@ -56,12 +56,30 @@ use Rattle.av_mremap.specs.Areas.{HasRemap}
 use Rattle.av_mremap.specs.Entries.{HasRemapped}
 use Rattle.av_place.specs.Mremap.{StaySmall}
 use Rattle.av_step.specs.Step.{StepsBeside}
+use Rattle.av_kernel.proofs.MapMarks.{marks_flags, marks_kept, marks_prot, page_marks}
 use Rattle.av_plain.proofs.Mremap.Entries.{came, grew, here_goes, here_stays, left as has_left, of_others, stays}
 use Rattle.av_place.proofs.PlaceLaws.{page_back}
 use Rattle.av_step.proofs.CacheLeft.{bytes-left, remap-cached}
 use Rattle.av_step.proofs.StepLaws.{at_number, is_number, moved_on, noted, stays_orderly, stepped, swap_alike}
 use Rattle.av_step.proofs.Loads.{world_as}
 use Rattle.av_plain.proofs.Load.{events_to-load_nothing}
+
+-- where a page has a protection there is an area with its marks
+has_area : (o : Option Area) (x : Option Page) (prot : Prot) → option_map area_marks o ≡ option_map page_marks x
+    → option_map (λ (x : Page). x.prot) x ≡ Some prot → is_some o ≡ true
+has_area None None prot e h = cc
+has_area None (Some x) prot e h = cc
+has_area (Some area) x prot e h = refl
+
+-- what is left of a page that goes claims zeros
+wiped_holds : (x : Option Page) → Holds (option_map wiped x) (λ _. 0)
+wiped_holds None = tt
+wiped_holds (Some x) = λ i below. refl
+
+left_holds : (b : Bool) (x : Option Page) → Holds (left_behind b x) (λ _. 0)
+left_holds false x = tt
+left_holds true None = tt
+left_holds true (Some x) = λ i below. refl
 
 module _ {d : Device} {old : Mem} {s : State} (keeps : Keeps d old s) {p a olen nlen : ℕ} {mode : Mode}
     (may : MayRemap s.world p a olen nlen mode) (to : ℕ)
@@ -80,8 +98,9 @@ module _ {d : Device} {old : Mem} {s : State} (keeps : Keeps d old s) {p a olen 
   abbrev m : ℕ
   m = pages_of nlen
 
-  abbrev left : Option Prot
-  left = prot_left mode q from
+  -- whether the old range stays
+  abbrev left : Bool
+  left = leaves_old mode
 
   abbrev on : Pages
   on = s.areas p
@@ -89,23 +108,18 @@ module _ {d : Device} {old : Mem} {s : State} (keeps : Keeps d old s) {p a olen 
   laid_on : AreLaid on
   laid_on = subst AreLaid (λ i page. keeps.stands.areas p page i) laid
 
-  prots_of : (k page : ℕ) → prots (s.areas k) page ≡ prot_at (pages s.world k) page
-  prots_of k page = ap (option_map area_prot) (sym (keeps.stands.areas k page)) ∙ sym (prots_are old.spaces.processes k page)
-      ∙ keeps.stands.parts.areas.covers k page
+  marks_of : (k page : ℕ) → marks (s.areas k) page ≡ marks_at (pages s.world k) page
+  marks_of k page = ap (option_map area_marks) (sym (keeps.stands.areas k page)) ∙ marks_kept old s keeps k page
 
-  same_prots : (page : ℕ) → prots on page ≡ prot_at q page
-  same_prots page = prots_of p page
+  same_marks : (page : ℕ) → marks on page ≡ marks_at q page
+  same_marks page = marks_of p page
 
   -- neither range is empty
   pub some_pages : (1 ≤ n) × (1 ≤ m)
   some_pages = some s.world p a olen nlen mode to may goes
 
   taken_as : (page : ℕ) (prot : Prot) → prot_at q page ≡ Some prot → is_taken old.spaces.processes p page ≡ true
-  taken_as page prot is = by (areas_on old.spaces.processes p page) (ap (option_map area_prot) (keeps.stands.areas p page) ∙ same_prots page ∙ is)
-    where
-      by : (o : Option Area) → option_map area_prot o ≡ Some prot → is_some o ≡ true
-      by None e = cc
-      by (Some area) e = refl
+  taken_as page prot is = has_area (areas_on old.spaces.processes p page) (q page) prot (marks_kept old s keeps p page) is
 
   -- where they grow, the last one is mapped
   pub last_taken : n < m → is_taken old.spaces.processes p (from + n - 1) ≡ true
@@ -154,12 +168,12 @@ module _ {d : Device} {old : Mem} {s : State} (keeps : Keeps d old s) {p a olen 
           let u = uniform-where s.world p a olen nlen mode to may goes which in
           let k = some s.world p a olen nlen mode to may goes in
           let last = from + min n m - 1 in
-          by (on last) refl (same_prots last ∙ u.each last (omega (arith, k)) (omega (arith, k, few))) few
+          by (on last) refl (has_area (on last) (q last) u.prot (same_marks last) (u.each last (omega (arith, k)) (omega (arith, k, few)))) few
     ]
       where
-        by : (o : Option Area) → on (from + min n m - 1) ≡ o → {prot : Prot} → option_map area_prot o ≡ Some prot → m ≤ n
+        by : (o : Option Area) → on (from + min n m - 1) ≡ o → is_some o ≡ true → m ≤ n
             → IsSomeAnd o (λ area. index_of area (from + min n m - 1) + (m - min n m) < 2 ^ 60)
-        by None e h few = cc
+        by None e h few = absurd (false≢true h)
         by (Some area) e h few =
             let whole = laid_on.whole (from + min n m - 1) area e in
             let ends = has_parts area (from + min n m - 1) (laid_on.here (from + min n m - 1) area e) in
@@ -167,7 +181,7 @@ module _ {d : Device} {old : Mem} {s : State} (keeps : Keeps d old s) {p a olen 
             omega (arith, ends, room, few)
 
     pub becomes_on : IsRemap from n to m on
-    becomes_on = becomes s.world p a olen nlen mode to may goes on laid_on same_prots small_on (chain_length s.anons)
+    becomes_on = becomes s.world p a olen nlen mode to may goes on laid_on same_marks small_on (chain_length s.anons)
 
     -- where the pages grow or move, areas may
     pub may_grow : to ≡ from → n < m → IsGrowth (from + n - 1) (from + m) (areas_on old.spaces.processes p)
@@ -229,6 +243,7 @@ module _ {d : Device} {old : Mem} {s : State} (keeps : Keeps d old s) {p a olen 
         areas = with_at p now_on s.areas;
         anons = left_of anons s.anons;
         homes = s.homes;
+        items = s.items;
       }
 
       abbrev command : Command
@@ -272,15 +287,14 @@ module _ {d : Device} {old : Mem} {s : State} (keeps : Keeps d old s) {p a olen 
       page_now : (k page : ℕ) → pages next.world k page ≡ cond (k == p) (now page) (pages s.world k page)
       page_now k page = pages-set s.world p now k page ∙ ap (λ b. cond b (now page) (pages s.world k page)) (at_number k p)
 
-      -- the areas have the protections of the pages
-      prot_now : (k page : ℕ)
-          → option_map area_prot (next.areas k page) ≡ option_map (λ (x : Page). x.prot) (cond (k == p) (now page) (pages s.world k page))
-      prot_now k page = by (k == p) refl
+      -- the areas have the protections and flags of the pages
+      marks_now : (k page : ℕ) → marks (areas_on spaces.processes k) page ≡ marks_at (pages next.world k) page
+      marks_now k page = ap (option_map area_marks) (areas_now k page) ∙ by (k == p) refl ∙ sym (ap (option_map page_marks) (page_now k page))
         where
-          by : (b : Bool) → (k == p) ≡ b → option_map area_prot ((cond b now_on (s.areas k)) page)
-              ≡ option_map (λ (x : Page). x.prot) (cond b (now page) (pages s.world k page))
-          by true same = prots_become s.world p a olen nlen mode to may goes on laid_on same_prots small_on (chain_length s.anons) page
-          by false other = prots_of k page
+          by : (b : Bool) → (k == p) ≡ b → option_map area_marks ((cond b now_on (s.areas k)) page)
+              ≡ option_map page_marks (cond b (now page) (pages s.world k page))
+          by true same = marks_become s.world p a olen nlen mode to may goes on laid_on same_marks small_on (chain_length s.anons) page
+          by false other = marks_of k page
 
       areas_stand : AreasStand (view new) next.world
       areas_stand = record {
@@ -288,8 +302,9 @@ module _ {d : Device} {old : Mem} {s : State} (keeps : Keeps d old s) {p a olen 
             ∙ sym (lives-set s.world p now k ∙ ap (λ b. cond b true (lives s.world k)) (at_number k p));
         number = remap.number ∙ keeps.stands.parts.areas.number ∙ sym (length-set_old s.world p now keeps.stands.sound.world.in_order lives_now);
         apart = remap.apart;
-        covers = λ k page. prots_are spaces.processes k page ∙ ap (option_map area_prot) (areas_now k page)
-            ∙ prot_now k page ∙ sym (ap (option_map (λ (x : Page). x.prot)) (page_now k page));
+        covers = λ k page. prots_are spaces.processes k page
+            ∙ marks_prot (areas_on spaces.processes k page) (pages next.world k page) (marks_now k page);
+        flags = λ k page. marks_flags (areas_on spaces.processes k page) (pages next.world k page) (marks_now k page);
       }
         where
           by : (k : ℕ) (b : Bool) → (k == p) ≡ b → lives s.world k ≡ cond (k == p) true (lives s.world k)
@@ -306,23 +321,20 @@ module _ {d : Device} {old : Mem} {s : State} (keeps : Keeps d old s) {p a olen 
       abbrev IsKeptAt : ℕ → Type 0
       IsKeptAt page = IsKept (view old) d s.ledger (entry l (p, page)) (now page)
 
-      -- a page without entry that is zeros, or not mapped
-      bare : (o : Option Prot) (e : Option Entry) → e ≡ None → IsKept (view old) d s.ledger e (option_map zeros o)
-      bare None e is = subst (λ e. IsKept (view old) d s.ledger e None) (sym is) tt
-      bare (Some prot) e is = subst (λ e. IsKept (view old) d s.ledger e (Some (zeros prot))) (sym is) (λ i below. refl)
-
       carried : (page was : ℕ) → entry l (p, page) ≡ entry s.ledger (p, was) → now page ≡ q was → IsKeptAt page
       carried page was same is = subst (IsKept (view old) d s.ledger (entry l (p, page))) (sym is)
           (subst (λ e. IsKept (view old) d s.ledger e (q was)) (sym same) (keeps.stands.parts.bytes.kept p was))
 
-      emptied : (page : ℕ) (o : Option Prot) → entry l (p, page) ≡ None → now page ≡ option_map zeros o → IsKeptAt page
-      emptied page o none is = subst (IsKept (view old) d s.ledger (entry l (p, page))) (sym is) (bare o (entry l (p, page)) none)
+      -- a page without entry that claims zeros
+      emptied : (page : ℕ) (x : Option Page) → Holds x (λ _. 0) → entry l (p, page) ≡ None → now page ≡ x → IsKeptAt page
+      emptied page x zeros none is = subst (IsKept (view old) d s.ledger (entry l (p, page))) (sym is)
+          (subst (λ e. IsKept (view old) d s.ledger e x) (sym none) zeros)
 
       -- a page that isn't mapped has no entry
       no_entry : (page : ℕ) → is_some (on page) ≡ false → entry s.ledger (p, page) ≡ None
       no_entry page free = by (entry s.ledger (p, page)) refl
         where
-          unmapped : (o : Option Area) (x : Option Page) → is_some o ≡ false → option_map area_prot o ≡ option_map (λ (x : Page). x.prot) x
+          unmapped : (o : Option Area) (x : Option Page) → is_some o ≡ false → option_map area_marks o ≡ option_map page_marks x
               → is_some x ≡ false
           unmapped None None h e = refl
           unmapped None (Some x) h e = cc
@@ -331,7 +343,7 @@ module _ {d : Device} {old : Mem} {s : State} (keeps : Keeps d old s) {p a olen 
           by : (e : Option Entry) → entry s.ledger (p, page) ≡ e → e ≡ None
           by None is = refl
           by (Some e) is = absurd
-              (false≢true (sym (unmapped (on page) (q page) free (same_prots page)) ∙ keeps.stands.sound.at_pages p page (ap is_some is)))
+              (false≢true (sym (unmapped (on page) (q page) free (same_marks page)) ∙ keeps.stands.sound.at_pages p page (ap is_some is)))
 
       in_order : T (is_sorted key_cmp s.ledger.entries)
       in_order = keeps.stands.sound.ledger.in_order
@@ -343,10 +355,10 @@ module _ {d : Device} {old : Mem} {s : State} (keeps : Keeps d old s) {p a olen 
             carried page (from + (page - to)) (came s.ledger p from n to m in_order there (becomes_on.moves there).apart page e g)
             (from_old q from n to m left page e g)
         kept_there there true j false e f g =
-            emptied page (prot_at q from) (grew s.ledger p from n to m in_order there (becomes_on.moves there).apart page e g)
+            emptied page (option_map wiped (q (from + n - 1))) (wiped_holds (q (from + n - 1))) (grew s.ledger p from n to m in_order there (becomes_on.moves there).apart page e g)
             (from_zeros q from n to m left page e g)
         kept_there there false true k e f g =
-            emptied page left (has_left s.ledger p from n to m in_order there (becomes_on.moves there).apart page e f)
+            emptied page (left_behind left (q page)) (left_holds left (q page)) (has_left s.ledger p from n to m in_order there (becomes_on.moves there).apart page e f)
             (from_left q from n to m left page e f)
         kept_there there false false k e f g =
             carried page page (stays s.ledger p from n to m in_order there (becomes_on.moves there).apart page e f)
@@ -372,12 +384,13 @@ module _ {d : Device} {old : Mem} {s : State} (keeps : Keeps d old s) {p a olen 
             let far = ltb-false (page - to) n g in
             let more : n < m = omega (arith, b, far) in
             let k = some s.world p a olen nlen mode to may goes in
-            emptied page (prot_at q from)
+            emptied page (option_map wiped (q (from + n - 1))) (wiped_holds (q (from + n - 1)))
             (here_stays s.ledger p from n to m in_order here page (out_of_range (from + m) (n - m) page (λ low high. omega (arith, b, low, same)))
             ∙ no_entry page ((becomes_on.grows here more).free page (omega (arith, b, far, same, k)) (omega (arith, b, same))))
             (from_zeros q from n to m left page e g)
         kept_here here false true k e f g =
-            emptied page left (here_goes s.ledger p from n to m in_order here page (past e f)) (from_left q from n to m left page e f)
+            emptied page (left_behind left (q page)) (left_holds left (q page)) (here_goes s.ledger p from n to m in_order here page (past e f))
+            (from_left q from n to m left page e f)
           where
             past : within to m page ≡ false → within from n page ≡ true → within (from + m) (n - m) page ≡ true
             past e f = let b = range_bounds from n page f in let same = is_number to from here in
@@ -423,6 +436,7 @@ module _ {d : Device} {old : Mem} {s : State} (keeps : Keeps d old s) {p a olen 
               areas = ap (λ x. with_at p (after_mremap (chain_length s.anons) p from n x m left on) s.areas) (sym (page_back to));
               anons = are_left d old s keeps spaces anons remap.anons next.areas areas_now;
               homes = refl;
+              items = refl;
             }));
         shows = tt;
       }
@@ -435,6 +449,8 @@ module _ {d : Device} {old : Mem} {s : State} (keeps : Keeps d old s) {p a olen 
                 are refl keeps.stands.reach;
             slots = slots-remapped s.ledger p from n to m left (rmap_of s) (rmap_of next) keeps.stands.sound.ledger.in_order laid_on becomes_on refl
                 are refl keeps.stands.reach keeps.stands.slots;
+            merged = merged-remapped s.ledger p from n to m left (rmap_of s) (rmap_of next) keeps.stands.sound.ledger.in_order laid_on becomes_on refl
+                are refl refl keeps.stands.reach keeps.stands.slots keeps.stands.merged;
           }
 
       steps : IsAllowed → StepsBeside d old new s command reply
@@ -442,7 +458,7 @@ module _ {d : Device} {old : Mem} {s : State} (keeps : Keeps d old s) {p a olen 
           (swap_alike (moved_on old old.tables spaces anons) mid old new refl refl rest.parts.swap)
           (stays_orderly d mid mid.tables spaces anons l refl done.stands) refl areas_now
           (anons_stand d old s keeps spaces anons remap.anons next.areas areas_now new refl refl)
-          (λ f. ap (λ h. h f) rest.homes ∙ keeps.stands.homes f) covered_now remap.anons.fit areas_stand tables_now
+          (λ f. ap (λ h. h f) rest.homes ∙ keeps.stands.homes f) (done.items s.items keeps.stands.items) covered_now remap.anons.fit areas_stand tables_now
           (bytes-left d (view old) (view new) s.world next.world s.ledger l rest.bytes
           (remap-cached (setting_by d old) s.ledger p from n to m keeps.stands.sound.ledger) keeps.stands.parts.bytes kept_now)
 

@@ -11,7 +11,6 @@ use Rattle.av_trace.specs.declared.reply.Errno.{Errno}
 use Rattle.av_trace.specs.declared.reply.Errno.TheVariants.{Enomem, Esrch}
 use Rattle.av_spaces.specs.Spaces.{areas_of, pages_of as areas_on}
 use Rattle.av_plain.specs.Device.{Device}
-use Rattle.av_plain.specs.Areas.{HaveProtsOf}
 use Rattle.av_plain.specs.Mremap.{MovesTo}
 use Rattle.av_plain.specs.Refusal.{Refuses, mremap_tests, refusal, tests}
 use Rattle.av_plain.specs.Step.{Follows}
@@ -21,7 +20,7 @@ use Rattle.av_mem.specs.declared.mem.Mem.{Mem}
 use Rattle.av_mem.specs.Mem.{Keeps, setting_by}
 use Rattle.av_mem.proofs.MemLaws.{lives_is, prots_are}
 use Rattle.av_step.specs.declared.refusal.Refusal.TheVariants as refusals
-use Rattle.av_place.specs.Mremap.{IsTarget}
+use Rattle.av_place.specs.Mremap.{HaveProtsOf, IsTarget}
 use Rattle.av_step.specs.Step.{DoesBeside, StepsBeside}
 use Rattle.av_step.proofs.StepLaws.{areas_kept, dead_first, refuses}
 use Rattle.av_step.proofs.Loads.{world_as}

@@ -11,7 +11,7 @@ use Rattle.av_kernel.specs.Machine.{Machine}
 use Rattle.av_kernel.specs.Tally.{tally_with, none_counted}
 
 -- the kernel and the device, as it is now, stand for the memories, the ledger, what is free, the
--- areas and the anon_vmas, among which there is chain order, and the homes
+-- areas and the anon_vmas, among which there is chain order, and the homes and items
 abbrev pub Stands : Machine → Device → State → Type 0
 Stands k device s = Keeps device k.mem s
 

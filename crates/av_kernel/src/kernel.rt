@@ -8,6 +8,7 @@ ghost use Rattle.av_plain.specs.Transcript.{State, at_first};
 ghost use Rattle.av_swapdev.specs.Device.{most_areas};
 ghost use Rattle.av_kernel.specs.Kernel.{Stands, Steps, Counts, IsNew, IsSpent};
 ghost use Rattle.av_step.specs.Step.{seen_by, sizes_of};
+ghost use Rattle.av_trace.specs.Command.{is_in_grammar};
 ghost use Rattle.av_kernel.specs.Step.{has_device};
 
 use crate::step::perform;
@@ -80,7 +81,7 @@ impl Kernel {
         })
     }
 
-    /// Does one command. After want of memory the kernel is spent: then it does
+    /// Does one command of the grammar. After want of memory the kernel is spent: then it does
     /// nothing more. The device has the swap areas with which the kernel was made.
     pub fn step<D: SwapDev>(
         &mut self,
@@ -88,6 +89,7 @@ impl Kernel {
         command: &Command,
         dev: &mut D,
     ) -> Result<Reply, AllocError>
+        requires grammar { is_in_grammar command.now ≡ true }
         requires few { self.old.steps < most_commands }
         requires attached { D.sizes dev.old ≡ sizes_of self.old.sizes }
         ensures stands { let d = seen_by D.sizes D.pages D.failures in (s : State)
@@ -116,6 +118,7 @@ impl Kernel {
         dev: &mut D,
         reply: &mut Reply,
     ) -> Result<(), AllocError>
+        requires grammar { is_in_grammar command.now ≡ true }
         requires few { self.old.steps < most_commands }
         requires attached { D.sizes dev.old ≡ sizes_of self.old.sizes }
         ensures stands { let d = seen_by D.sizes D.pages D.failures in (s : State)

@@ -8,12 +8,12 @@ ghost use Rattle.av_trace.specs.declared.command.Command.TheVariants as commands
 use av_base::PAGE_SIZE;
 use av_mem::Mem;
 use av_mremap::{remap_areas, remap_entries};
-use av_place::{check_indices, check_remap, find_target, prot_left};
+use av_place::{check_indices, check_remap, find_target, leaves_old};
 use av_step::{Refusal, answer_with, check_lives};
 use av_trace::{Answer, Mode, Reply};
 
 /// Does an `mremap`: the pages of the old range are those of the new one, as many as it has, and
-/// keep their entries. Pages by which it grows are zeros.
+/// keep their entries. Pages by which it grows are like the last one, but zeros.
 pub fn mremap(
     mem: &mut Mem,
     process: u16,
@@ -34,8 +34,8 @@ pub fn mremap(
     let (pages, new_pages) = (old_len.div_ceil(PAGE_SIZE), new_len.div_ceil(PAGE_SIZE));
     let to = find_target(&mem.spaces, process, from, pages, new_pages, mode)?;
     check_indices(&mem.spaces, process, from, pages, new_pages)?;
-    let left = prot_left(&mem.spaces, process, from, mode);
-    remap_areas(mem, process, from, pages, to, new_pages, left)?;
+    let stays = leaves_old(mode);
+    remap_areas(mem, process, from, pages, to, new_pages, stays)?;
     remap_entries(mem, process, from, pages, to, new_pages, &mut reply.notes)?;
     answer_with(reply, Answer::MapAt(PAGE_SIZE * to));
     Ok(())

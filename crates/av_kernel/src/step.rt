@@ -1,6 +1,7 @@
 //! Which command goes where, and what a refusal replies.
 
 ghost use Rattle.std.specs.Prelude.{◌≡◌, ◌≤◌, OnOk, false, length, true};
+ghost use Rattle.av_trace.specs.Command.{is_in_grammar};
 ghost use Rattle.av_trace.specs.Reply.{IsCleared};
 ghost use Rattle.av_swapdev.specs.Device.{most_areas};
 ghost use Rattle.av_plain.specs.Device.{IsSameDevice};
@@ -48,6 +49,7 @@ pub fn perform<D: SwapDev>(
     reply: &mut Reply,
 ) -> Result<(), AllocError>
     requires steady { IsSteadyAt (D.sizes dev.old) mem.old }
+    requires grammar { is_in_grammar command.now ≡ true }
     requires attached { D.sizes dev.old ≡ sizes_of sizes.now }
     requires few { length sizes.now ≤ most_areas }
     ensures step { let d = seen_by D.sizes D.pages D.failures in (s : State)
@@ -86,6 +88,7 @@ fn dispatch<D: SwapDev>(
     reply: &mut Reply,
 ) -> Result<(), Refusal>
     requires steady { IsSteadyAt (D.sizes dev.old) mem.old }
+    requires grammar { is_in_grammar command.now ≡ true }
     requires attached { D.sizes dev.old ≡ sizes_of sizes.now }
     requires few { length sizes.now ≤ most_areas }
     requires cleared { IsCleared reply.old }
@@ -124,6 +127,7 @@ fn do_beside(
     reply: &mut Reply,
 ) -> Result<(), Refusal>
     requires steady { IsSteady mem.old }
+    requires grammar { is_in_grammar command.now ≡ true }
     requires beside { has_device command.now ≡ false }
     requires cleared { IsCleared reply.old }
     ensures { DoesBeside mem.old mem.new command.now (reply_in reply.new result) }

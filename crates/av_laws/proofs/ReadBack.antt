@@ -60,7 +60,7 @@ use Rattle.av_plain.specs.Mremap.{MovesTo, events_to, may_stay}
 use Rattle.av_plain.specs.Place.{Goes, IsMapAt, is_room}
 use Rattle.av_plain.specs.Reclaim.{from_tail}
 use Rattle.av_plain.specs.Refusal.{Refuses, locks_too_many, ends_too_high, no_device_at, refusal, tests}
-use Rattle.av_plain.specs.Report.{AreApart, AreLongest, Cover, MayBeNoSlot, Range, count_answer, entry_answer, key_row, prot_in, row_of, run_of, slot_answer, totals, walk_answer, walk_rows}
+use Rattle.av_plain.specs.Report.{HasRisingChain, AreApart, AreLongest, Cover, MayBeNoSlot, Range, count_answer, entry_answer, key_row, prot_in, row_of, run_of, slot_answer, totals, walk_answer, walk_rows}
 use Rattle.av_plain.specs.Sound.{AllSound}
 use Rattle.av_plain.specs.Step.{Follows, IsLegal}
 use Rattle.av_plain.specs.Swapoff.{Close, Closed, NoRoom, TurnsOff, Unread, close_answer, sparing_area, turn_off_events}
@@ -241,21 +241,21 @@ few-rows (a ∷ rs) h none = let few = few-runs a rs h none in omega (arith, few
 
 -- ---- areas
 
--- rows of the runs of some ranges are as many, and say numbers of 64 bits
+-- rows of the runs of some ranges, with chains that rise, are as many, and say numbers of 64 bits
 areas-wide : (rs : List Range) (rows : List Row) → map run_of rows ≡ map (λ r. Some (row_of r)) rs → AllByRecursion IsRun (map row_of rs) →
-    AllByRecursion IsWideRow rows
+    AllByRecursion IsWideRow rows → AllByRecursion HasRisingChain rows
     → (length rows ≡ length (map row_of rs)) × AllByRecursion IsAreaRow rows
-areas-wide [] [] is wide said = (refl, tt)
-areas-wide [] (row ∷ rows) is wide said = cc
-areas-wide (r ∷ rs) [] is wide said = cc
-areas-wide (r ∷ rs) (Run start end prot ∷ rows) is wide said = cc
-areas-wide (r ∷ rs) (EntryRow p address ∷ rows) is wide said = cc
-areas-wide (r ∷ rs) (AreaRow start end prot offset own chain flags ∷ rows) is wide said =
+areas-wide [] [] is wide said rise = (refl, tt)
+areas-wide [] (row ∷ rows) is wide said rise = cc
+areas-wide (r ∷ rs) [] is wide said rise = cc
+areas-wide (r ∷ rs) (Run start end prot ∷ rows) is wide said rise = cc
+areas-wide (r ∷ rs) (EntryRow p address ∷ rows) is wide said rise = cc
+areas-wide (r ∷ rs) (AreaRow start end prot offset own chain flags ∷ rows) is wide said rise =
     let tails : map run_of rows ≡ map (λ r. Some (row_of r)) rs = cc in
-    let later = areas-wide rs rows tails wide.1 said.1 in
+    let later = areas-wide rs rows tails wide.1 said.1 rise.1 in
     let begins : start ≡ address_of r.from = cc in
     let ends : end ≡ address_of r.to = cc in
-    (ap suc later.0, ((subst IsWide (sym begins) wide.0.0, subst IsWide (sym ends) wide.0.1, said.0.0, said.0.1, said.0.2), later.1))
+    (ap suc later.0, ((subst IsWide (sym begins) wide.0.0, subst IsWide (sym ends) wide.0.1, said.0.0, said.0.1, said.0.2, rise.0), later.1))
 
 covered : (q : Process) (rs : List Range) → Cover q rs → ((page : ℕ) → is_some (q page) ≡ true → page < top_page) → NoneAbove rs
 covered q rs cover below page above = cover page ∙ by (q page) refl
@@ -652,7 +652,7 @@ module _ (m : Setting) (w : World) (l : Ledger) (few : IsSmallSetting m) (s : Al
   follows-fit (AsksAreas p) events answer rows fit fine out close asked on h =
       let ranges = h.1.0 in
       let high = covered (pages w p) ranges h.1.3 (small.below p) in
-      let rest = areas-wide ranges rows h.1.1 (runs-wide ranges h.1.2 high) asked in
+      let rest = areas-wide ranges rows h.1.1 (runs-wide ranges h.1.2 high) asked h.1.5 in
       fits-by events [] answer (AreaList (length rows)) rows rows h.2 h.0 refl
       (subst IsWide (sym rest.0) (few-rows ranges h.1.2 high), (refl, refl, rest.1))
   follows-fit (AsksRmap p a) events answer rows fit fine out close asked on h =

@@ -1,11 +1,11 @@
 -- The entry of a locked page goes on naming its frame, unless the page is copied, or its process's pages are taken away.
-use Rattle.std.proofs.Common.{◌≡◌, ◌⊎◌, inl, inr, ℕ, suc, zero, ◌-◌, ◌+◌, ◌<◌, Bool, true, false, cond, not, ◌&&◌, ◌||◌, ◌==◌, T, List, [], ◌∷◌, ◌++◌, map, take, min, Option, Some, None, is_none, is_some, IsSomeAnd, option_map, refl, sym, ap, subst, ◌∙◌, arith}
+use Rattle.std.proofs.Common.{◌≡◌, ◌⊎◌, inl, inr, ℕ, suc, zero, ◌-◌, ◌+◌, ◌<◌, Bool, true, false, cond, not, ◌&&◌, ◌||◌, ◌==◌, T, List, [], ◌∷◌, ◌++◌, map, take, min, Option, Some, None, is_none, IsSomeAnd, option_map, refl, sym, ap, subst, ◌∙◌, arith}
 use Rattle.std.proofs.lemmas.Bool.{false≢true}
 use Rattle.std.proofs.lemmas.Bool.Decides.{nat_tests}
 use Rattle.std.specs.FinMap.Entries.{find, is_sorted}
 use Rattle.std.specs.List.{list_any}
 use Rattle.std.specs.Option.{option_or}
-use Rattle.std.specs.Prelude.{MatchBool, MatchOption, filter, option_and_then}
+use Rattle.std.specs.Prelude.{MatchBool, MatchOption, filter}
 use Rattle.av_base.specs.Page.{address_of, page_of, pages_met, pages_of}
 use Rattle.av_base.specs.Words.{within}
 use Rattle.av_base.specs.declared.flags.Flag.{Flag}
@@ -25,28 +25,28 @@ use Rattle.av_trace.specs.declared.reply.Reply.{Reply}
 use Rattle.av_trace.specs.declared.row.Row.{Row}
 use Rattle.av_plain.specs.Access.{Accesses, End, page_events, pages_of_access}
 use Rattle.av_plain.specs.Advice.{advice_events, flag_of_advice, pages_advised}
-use Rattle.av_plain.specs.Event.{Event, EntriesMoved, Forked, Noted, TurnedOn, Used, after, after_all, after_note, after_notes, after_use, after_use_of, change_entries, change_frame, frame_of, if_some, key_at, note_events, notes_of, off_cache, set_entry, with_stale, without_seen}
-use Rattle.av_plain.specs.Fault.{ComesIn, CopyOnWrite, Denied, IsMade, Lost, MapCached, Need, NewPage, Ready, RunsOut, Serves, Starved, Stop, SwapIn, Touches, ZeroPage, drop_at, drop_of_entry, drop_of_slot, is_locked, asks_copy, need, pinned_by, sparing, was_slot}
+use Rattle.av_plain.specs.Event.{Event, Forked, Noted, TurnedOn, Used, after_all, after_note, after_notes, after_use, after_use_of, change_entries, change_frame, if_some, key_at, note_events, notes_of, off_cache, set_entry, with_stale, without_seen}
+use Rattle.av_plain.specs.Fault.{ComesIn, CopyOnWrite, Denied, IsMade, Lost, Ready, Serves, Starved, Stop, Touches, drop_at, drop_of_entry, drop_of_slot, is_locked, asks_copy, need, pinned_by, sparing, was_slot}
 use Rattle.av_plain.specs.Fork.{inheritance}
 use Rattle.av_plain.specs.Ledger.{Entry, InFrame, InSlot, Key, Ledger, Setting, SwapArea, Zero, entry, frame_at, is_merged, key_cmp, keys_of_slot, names_frame, names_slot, slot_of, slots_in_use}
 use Rattle.av_plain.specs.Lock.{BringsIn, accesses_of, with_lock}
 use Rattle.av_plain.specs.Map.{zaps_for_place}
-use Rattle.av_plain.specs.Merge.{FrameBytes, candidate, frame_if, is_candidate, join_notes, may_merge, merge_notes, merged_like, merges, other_like, with_candidate}
-use Rattle.av_plain.specs.Mremap.{events_to, range_zaps, remap_events}
-use Rattle.av_plain.specs.Pass.{Seeks, Spared, TakesFor}
+use Rattle.av_plain.specs.Merge.{FrameBytes, candidate, candidate_by, join_notes, may_merge, merge_notes, merged_like, merges, other_like, with_candidate}
+use Rattle.av_plain.specs.Mremap.{events_to, remap_events}
+use Rattle.av_plain.specs.Pass.{TakesFor}
 use Rattle.av_plain.specs.Reclaim.{from_tail}
 use Rattle.av_plain.specs.Refusal.{Refuses, refusal, tests}
 use Rattle.av_plain.specs.Sound.{AllSound, count}
-use Rattle.av_plain.specs.Step.{Follows, IsLegal}
+use Rattle.av_plain.specs.Step.{Follows}
 use Rattle.av_plain.specs.Swapoff.{Close, Closed, Empties, EndsAt, IsEmptied, NoRoom, Unread, map_notes, sparing_area, turn_off_events}
 use Rattle.av_plain.specs.Swapon.{turn_on_events}
 use Rattle.av_plain.specs.Transcript.{IsStep, State}
-use Rattle.av_plain.specs.World.{Page, Process, World, is_locked_page, pages, pages_to_hole, pages_to_locked}
+use Rattle.av_plain.specs.World.{Process, World, is_locked_page, pages, pages_to_hole, pages_to_locked}
 use Rattle.av_plain.specs.Zap.{keys_in, keys_of_process, zaps_of}
 use Rattle.av_plain.proofs.Access.{after_all-append, after_notes-append, note_events-all, notes_of-append, notes_of-note_events}
 use Rattle.av_plain.proofs.Event.{changed-by, entry-unmap, entry-unseen, to_slot, to_unseen}
-use Rattle.av_plain.proofs.Fork.{child_ledger, entry-forked, handed}
-use Rattle.av_plain.proofs.Ledger.{entry-set, same_key, same_key-is, same_key-itself}
+use Rattle.av_plain.proofs.Fork.{entry-forked, handed}
+use Rattle.av_plain.proofs.Ledger.{entry-set, same_key, same_key-is}
 use Rattle.av_plain.proofs.Ledger.NoSwap.{key_at-address}
 use Rattle.av_plain.proofs.Ledger.Walk.{keys-filter, passes}
 use Rattle.av_plain.proofs.Mremap.{after-elsewhere, after-in_place, entry-moved, entry-then_tail, in_order-zaps, then_tail, then_target}
@@ -378,15 +378,15 @@ module _ (k : Key) (f : ℕ) where
     no-candidate : (l : Ledger) → IsHere l → candidate w l k ≡ None
     no-candidate l h = by (found l h)
       where
-        off : (a : Bool) → frame_if (a && not (is_locked w l f)) f ≡ None
-        off a = ap (λ b. frame_if (a && not b) f) (locked-named l h) ∙ none a
+        off : (a : Bool) → cond (a && not (is_locked w l f)) (Some f) None ≡ None
+        off a = ap (λ b. cond (a && not b) (Some f) None) (locked-named l h) ∙ none a
           where
-            none : (a : Bool) → frame_if (a && false) f ≡ None
+            none : (a : Bool) → cond (a && false) (Some f) None ≡ None
             none true = refl
             none false = refl
 
         by : (seen : Bool) × (entry l k ≡ Some (InFrame f seen)) → candidate w l k ≡ None
-        by (seen, is) = ap (λ o. option_and_then (λ g. frame_if (is_candidate w l k g) g) (option_and_then frame_of o)) is
+        by (seen, is) = ap (candidate_by w l k) is
             ∙ off (may_merge (pages w k.0 k.1) && not (is_merged l f) && is_none (slot_of l f))
 
     join-brings : (q : Key) (a b : Option ℕ) → misses q ≡ true → AllBring misses (join_notes q a b)

@@ -29,7 +29,7 @@
 --     orphan_goes, orphan_of_two
 --   what goes over at a fork (`inheritance`): inherited
 --   the runs of `maps` (`AreMaps`): two_runs
---   the answer to `areas` (`AreAreas`): one_area
+--   the answer to `areas` (`AreAreas`): one_area, chain_falls, chain_stands
 --   the walk of `rmap` (`walk_answer`, `walk_rows`): walk_of_two, no_walk
 --   the entry of `entry` (`entry_answer`): none_shown, zero_shown, old_shown, cached_shown,
 --     slot_shown, slot_alone

@@ -66,6 +66,7 @@ ghost use Rattle.av_laws.specs.Examples.{
   LeavesBytes,
   LeavesProts,
   MayCome,
+  MayNotCome,
   after_fork,
   all_kinds,
   at_rest,
@@ -255,10 +256,10 @@ pub fn entries_go()
         (Forked 1 2 (0x7fffffffd ∷ 0x7fffffffe ∷ []) ∷ []) }
 {}
 
-/// `maps` shows the longest runs with one protection; `areas` ranges that cover the pages; `rmap`
-/// each entry of the frame of a page's entry, if that names one; `entry` what a page's entry is,
-/// with the slot at which its frame is cached, or the frame that caches its slot; `stat` how many
-/// there are of all.
+/// `maps` shows the longest runs with one protection; `areas` ranges that cover the pages, each with
+/// a chain that rises; `rmap` each entry of the frame of a page's entry, if that names one; `entry`
+/// what a page's entry is, with the slot at which its frame is cached, or the frame that caches its
+/// slot; `stat` how many there are of all.
 pub fn reports_show()
     ensures two_runs { MayCome (machine 4) ((1, two_kinds) ∷ []) first_ledger (Maps 1)
         (with_rows_of (Runs 2)
@@ -267,6 +268,14 @@ pub fn reports_show()
     ensures one_area { Comes (machine 4) at_rest (AsksAreas 1)
         (with_rows_of (AreaList 1)
         (AreaRow 0x7fffffffe000 0x7ffffffff000 read_write 5 None [] no_flags ∷ [])) }
+    ensures chain_falls { MayNotCome (machine 4) at_rest.world first_ledger (AsksAreas 1)
+        (with_rows_of (AreaList 1)
+        (AreaRow 0x7fffffffe000 0x7ffffffff000 read_write 5 (Some 1) (1 ∷ 0 ∷ []) no_flags
+        ∷ [])) }
+    ensures chain_stands { MayNotCome (machine 4) at_rest.world first_ledger (AsksAreas 1)
+        (with_rows_of (AreaList 1)
+        (AreaRow 0x7fffffffe000 0x7ffffffff000 read_write 5 (Some 0) (0 ∷ 0 ∷ []) no_flags
+        ∷ [])) }
     ensures walk_of_two { Comes (machine 4) (after_fork []) (AsksRmap 2 0x7fffffffe123)
         (with_rows_of (Walk 0 2) (Entry 1 0x7fffffffe000 ∷ Entry 2 0x7fffffffe000 ∷ [])) }
     ensures no_walk { Comes (with_swap 4 8 7) in_writeback (AsksRmap 1 0x7fffffffe000)

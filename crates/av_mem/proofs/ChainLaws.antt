@@ -1,5 +1,7 @@
 -- The view after a step through the chains.
-use Rattle.std.proofs.Common.{◌≡◌, ℕ, ◌+◌, Bool, true, false, cond, not, ◌&&◌, ◌==◌, Option, Some, None, refl, sym, ap, ◌∙◌}
+use Rattle.std.proofs.Common.{◌≡◌, ℕ, ◌+◌, Bool, true, false, cond, not, ◌&&◌, ◌==◌, [], ◌∷◌, Option, Some, None, refl, sym, ap, subst, ◌∙◌, arith}
+use Rattle.std.proofs.lemmas.Bool.{false≢true}
+use Rattle.std.proofs.lemmas.Bool.Decides.{nat_tests}
 use Rattle.std.specs.Prelude.{option_map}
 use Rattle.av_base.specs.declared.slot.Slot.{Slot}
 use Rattle.av_frames.specs.Store.{shown as shown_frames, with_maps}
@@ -8,16 +10,16 @@ use Rattle.av_pagetable.specs.declared.pte.Pte.TheVariants.{Empty, Zero, Here, A
 use Rattle.av_pagetable.specs.Entries.{entry_at}
 use Rattle.av_plain.specs.Ledger.{InFrame, InSlot}
 use Rattle.av_plain.specs.Stands.{Pte as Plain, View}
-use Rattle.av_rmap.specs.Covered.{IsCoveredFrom}
-use Rattle.av_rmap.specs.Items.{shown as shown_items}
+use Rattle.av_rmap.specs.Covered.{IsCoveredFrom, IsReached}
+use Rattle.av_rmap.specs.Items.{AreCovered, is_item, is_merged, shown as shown_items}
 use Rattle.av_rmap.specs.Walk.{names_frame, names_seen}
 use Rattle.av_rmap.specs.Seen.{unseen}
 use Rattle.av_rmap.specs.Unmap.{away}
-use Rattle.av_rmap.proofs.SeenLemmas.{unseen-other}
+use Rattle.av_rmap.proofs.SeenLemmas.{unseen-itself, unseen-other}
 use Rattle.av_rmap.proofs.UnmapLemmas.{away-other}
 use Rattle.av_swap_laws.specs.Steps.{pte_unmapped, pte_unseen, view_unmap, view_unseen}
 use Rattle.av_swapcache.specs.Swap.{shown as shown_swap, with_entries}
-use Rattle.av_mem.specs.Chains.{reach}
+use Rattle.av_mem.specs.Chains.{AreFound, AreReached, places_at_home, reach}
 use Rattle.av_mem.specs.Mem.{plain, view, view_of_parts}
 use Rattle.av_mem.specs.declared.mem.Mem.{Mem}
 use Rattle.av_mem.proofs.StepLaws.{table_of}
@@ -48,6 +50,32 @@ plain-unseen f (Here g write seen) = by (f == g) seen
     by false false = refl
 plain-unseen f (Away t) = refl
 
+-- ---- a frame that isn't merged
+
+-- where its entries are found, they are reached from its home
+pub home-reached : (k : Mem) (f : ℕ) → is_merged ((view k).items f) ≡ false → AreFound k f → AreReached k f
+home-reached k f unmerged found numbered = by ((view k).homes f)
+    (subst (λ b. AreCovered (reach k) (names_frame f) (cond b ((view k).items f) (places_at_home ((view k).homes f)))) unmerged (found numbered))
+  where
+    by : (o : Option (ℕ × ℕ)) → AreCovered (reach k) (names_frame f) (places_at_home o) → IsCoveredFrom (reach k) (names_frame f) o
+    by None covered = λ p page. none p page (names_frame f (entry_at k.tables p page)) refl
+      where
+        none : (p page : ℕ) (b : Bool) → names_frame f (entry_at k.tables p page) ≡ b → b ≡ false
+        none p page true e = absurd (false≢true (covered p page e).1)
+        none p page false e = refl
+    by (Some home) covered = λ p page named.
+        let x = covered p page named in
+        subst (λ (h : ℕ × ℕ). IsReached (reach k) h p page) (it x.0 x.1) x.2
+      where
+        it : (x : ℕ × ℕ) → is_item x (home ∷ []) ≡ true → x ≡ home
+        it x e = λ n. (first n, second n)
+          where
+            first : x.0 ≡ home.0
+            first = grind (arith, nat_tests, e)
+
+            second : x.1 ≡ home.1
+            second = grind (arith, nat_tests, e)
+
 -- ---- a frame without a home
 
 -- no entry names it
@@ -73,18 +101,6 @@ unseen-view old new f rest are = ap (λ (k : Mem). view k) rest ∙ ap (with_tab
   where
     tables : table_of new ≡ (λ p page. option_map (pte_unseen f) (table_of old p page))
     tables = λ i p page. (ap (λ (e : ℕ → ℕ → Pte). plain (e p page)) are ∙ plain-unseen f (entry_at old.tables p page)) i
-
--- an entry that isn't seen
-unseen-itself : (f : ℕ) (e : Pte) → names_seen f e ≡ false → unseen f e ≡ e
-unseen-itself f Empty h = refl
-unseen-itself f Zero h = refl
-unseen-itself f (Here other write seen) h = ap (λ b. Here other write b) (by seen (f == other) h)
-  where
-    by : (a b : Bool) → (b && a) ≡ false → (a && not b) ≡ a
-    by true true h = sym h
-    by true false h = refl
-    by false b h = refl
-unseen-itself f (Away slot) h = refl
 
 -- where no entry is seen
 pub unseen-still : (k : Mem) (f : ℕ) → ((p page : ℕ) → names_seen f (entry_at k.tables p page) ≡ false) → view_unseen f (view k) ≡ view k

@@ -1,23 +1,21 @@
 -- The view after one entry fewer names a frame or a slot.
-use Rattle.std.proofs.Common.{◌≡◌, ℕ, ◌+◌, ◌-◌, ◌<◌, Bool, true, false, cond, not, ◌&&◌, ◌==◌, nat_lt, ◌∷◌, Option, Some, None, is_none, is_some, refl, sym, ap, ◌∙◌, arith}
+use Rattle.std.proofs.Common.{◌≡◌, ℕ, ◌+◌, ◌-◌, ◌<◌, Bool, true, false, cond, not, ◌&&◌, ◌==◌, nat_lt, Option, Some, None, is_none, is_some, refl, sym, ap, ◌∙◌, arith}
 use Rattle.std.proofs.lemmas.Bool.Decides.{nat_tests}
 use Rattle.std.proofs.lemmas.Bool.{false≢true}
 use Rattle.av_base.specs.declared.slot.Slot.{Slot}
 use Rattle.av_base.specs.Words.{with_at}
 use Rattle.av_anon.proofs.Words.{with_at-same}
 use Rattle.av_clusters.specs.Clusters.{Slots, give_slot}
-use Rattle.av_frames.specs.Store.{Shown as ShownFrames, shown as shown_frames, with_maps}
-use Rattle.av_lru.specs.Lists.{without_frame}
-use Rattle.av_plain.specs.Event.{without}
+use Rattle.av_frames.specs.Store.{shown as shown_frames}
 use Rattle.av_plain.specs.Ledger.{InFrame, InSlot}
-use Rattle.av_plain.specs.Stands.{Pte as Plain, View}
+use Rattle.av_plain.specs.Stands.{View}
 use Rattle.av_swap_laws.specs.Steps.{view_cleared, view_freed, view_given_back, with_at_slot}
 use Rattle.av_rmap.specs.Items.{shown as shown_items}
 use Rattle.av_swapcache.specs.Swap.{Shown as ShownSwap, count_of, given_back, same_slot, shown as shown_swap, with_entries}
 use Rattle.av_mem.specs.Entries.{view_less, view_settled}
 use Rattle.av_mem.specs.Mem.{view, view_of_parts}
 use Rattle.av_mem.specs.declared.mem.Mem.{Mem}
-use Rattle.av_mem.proofs.StepLaws.{SameRest, lists-without, view-by}
+use Rattle.av_mem.proofs.StepLaws.{SameRest, view-by}
 
 -- ---- a frame
 

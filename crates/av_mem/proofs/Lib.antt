@@ -15,6 +15,7 @@ pub mod EntryComes
 pub mod EntryCounts
 pub mod ItemLaws
 pub mod LockedLaws
+pub mod Locks
 pub mod PagesGone
 pub mod ZapRange
 pub mod EntryGoes

@@ -11,7 +11,7 @@ use Rattle.av_vma.specs.Pages.{pages_in}
 use Rattle.av_vma.specs.declared.area.Area.{Area}
 use Rattle.av_pagetable.specs.Entries.{entry_at}
 use Rattle.av_rmap.specs.Walk.{names_frame}
-use Rattle.av_spaces.specs.Spaces.{AreNumbered, IsNumber}
+use Rattle.av_spaces.specs.Spaces.{AreNumbered}
 use Rattle.av_rmap.specs.Items.{is_merged as has_items}
 use Rattle.av_plain.specs.Areas.{Rmap, same_item}
 use Rattle.av_plain.specs.Sound.{mergings}
@@ -34,7 +34,7 @@ right : (a : Bool) {b : Bool} → b ≡ true → (a || b) ≡ true
 right true h = refl
 right false h = h
 
-any-found : (test : Key → Bool) (ks : List Key) → list_any test ks ≡ true → (q : Key) × (list_any (same_key q) ks ≡ true) × (test q ≡ true)
+pub any-found : (test : Key → Bool) (ks : List Key) → list_any test ks ≡ true → (q : Key) × (list_any (same_key q) ks ≡ true) × (test q ≡ true)
 any-found test [] h = absurd (false≢true h)
 any-found test (k ∷ ks) h = by (any-found test ks) (test k) refl h
   where
@@ -43,7 +43,7 @@ any-found test (k ∷ ks) h = by (any-found test ks) (test k) refl h
     by again true e h = (k, ap (λ b. b || list_any (same_key k) ks) (same_key-itself k), e)
     by again false e h = let rest = again h in (rest.0, right (same_key rest.0 k) rest.1, rest.2)
 
-any-there : (test : Key → Bool) (ks : List Key) (q : Key) → list_any (same_key q) ks ≡ true → test q ≡ true → list_any test ks ≡ true
+pub any-there : (test : Key → Bool) (ks : List Key) (q : Key) → list_any (same_key q) ks ≡ true → test q ≡ true → list_any test ks ≡ true
 any-there test [] q h is = absurd (false≢true h)
 any-there test (k ∷ ks) q h is = by (any-there test ks q) (same_key q k) refl h
   where

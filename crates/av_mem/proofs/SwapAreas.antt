@@ -4,12 +4,11 @@ use Rattle.std.proofs.lemmas.Bool.Decides.{nat_tests}
 use Rattle.std.proofs.lemmas.Bool.{false≢true}
 use Rattle.std.specs.FinMap.Entries.{find, find-where_key, put, where_key}
 use Rattle.std.specs.Ordering.{eq_by_cmp, nat_cmp}
-use Rattle.std.specs.Prelude.{ℤ, None, Option}
+use Rattle.std.specs.Prelude.{ℤ, None}
 use Rattle.std.specs.declared.cmp.Ordering.TheVariants.{Equal}
 use Rattle.av_base.specs.Words.{with_at}
 use Rattle.av_swapcache.proofs.Views.{put-map, where_key-map}
 use Rattle.av_swapdev.specs.declared.header.Header.{Header}
-use Rattle.av_plain.specs.Ledger.{SwapArea}
 use Rattle.av_mem.specs.Mem.{area_of, view}
 use Rattle.av_mem.specs.Steps.{KeepsSwap}
 use Rattle.av_mem.specs.declared.mem.Mem.{Mem}

@@ -22,7 +22,7 @@ use Rattle.av_swapcache.specs.Swap.{count_of, shown as shown_swap}
 use Rattle.av_trace.specs.declared.note.Note.{Note}
 use Rattle.av_trace.specs.declared.note.Note.TheVariants.{Dropped}
 use Rattle.av_mem.specs.declared.mem.Mem.{Mem}
-use Rattle.av_mem.specs.Mem.{SoundLedger, frame_count, plain, setting_by, sizes_of, view, HasItems}
+use Rattle.av_mem.specs.Mem.{SoundLedger, frame_count, plain, setting_by, sizes_of, view}
 use Rattle.av_mem.specs.Mem.{HasLists}
 
 -- ---- a frame is taken for a page

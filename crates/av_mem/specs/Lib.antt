@@ -3,6 +3,7 @@ pub mod Mem
 pub mod Steps
 pub mod Cache
 pub mod Chains
+pub mod Locked
 pub mod Entries
 pub mod Walk
 pub mod Zap

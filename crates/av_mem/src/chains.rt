@@ -1,4 +1,4 @@
-//! Steps that go through a frame's home to its entries.
+//! Steps that go through a frame's home, or its items where it is merged, to its entries.
 
 ghost use Rattle.std.specs.Prelude.{◌≡◌, ◌<◌, ◌≤◌, ◌+◌, ◌^◌, ℕ, true, false, length, List, IfOk};
 ghost use Rattle.std.specs.Prelude.{MatchBool, OnOk, OnErr};
@@ -11,13 +11,13 @@ ghost use Rattle.av_spaces.specs.Kin.{AnonsFit};
 ghost use Rattle.av_spaces.specs.Spaces.{AllRising};
 ghost use Rattle.av_swap_laws.specs.Steps.{view_unmap, view_unseen};
 ghost use Rattle.av_swapcache.specs.Swap.{is_cached, shown as shown_swap};
-ghost use Rattle.av_mem.specs.Chains.{AreCounted, AreReached, AreSlotReached, reach};
-ghost use Rattle.av_mem.specs.Mem.{frame_count, view};
+ghost use Rattle.av_mem.specs.Chains.{AreCounted, AreFound, AreReached, AreSlotReached, reach};
+ghost use Rattle.av_mem.specs.Mem.{HasItems, frame_count, view};
 ghost use Rattle.av_mem.specs.Steps.{KeepsParts};
 
 use crate::mem::Mem;
 use av_base::{Slot, Steps};
-use av_rmap::seen::clear_seen;
+use av_rmap::seen::{clear_seen, clear_seen_items};
 use av_rmap::sorted::walk_slot;
 use av_rmap::stores::{Stores, StoresMut};
 use av_rmap::unmap::unmap;
@@ -45,11 +45,12 @@ impl Mem {
         Ok(())
     }
 
-    /// No entry of a frame is seen any more. Answers whether one was.
+    /// No entry of a frame is seen any more, be it merged or not. Answers whether one was.
     pub fn unsee(&mut self, frame: u32) -> bool
         requires anons { AnonsFit self.old.spaces self.old.anons }
+        requires itemed { HasItems self.old }
         requires in_range { frame < frame_count self.old }
-        requires reached { AreReached self.old frame }
+        requires found { AreFound self.old frame }
         requires counted { AreCounted self.old frame }
         ensures seen { MatchBool result
             ((k : Key) × (names_seen frame (entry_at self.old.tables k.0 k.1) ≡ true))
@@ -154,8 +155,9 @@ impl Mem {
         requires parts { blank.parts ≡ L.parts }
         requires some { 0 < blank.parts }
         requires anons { AnonsFit self.old.spaces self.old.anons }
+        requires itemed { HasItems self.old }
         requires in_range { frame < frame_count self.old }
-        requires reached { AreReached self.old frame }
+        requires found { AreFound self.old frame }
         requires counted { AreCounted self.old frame }
         ensures seen { MatchBool result
             ((k : Key) × (names_seen frame (entry_at self.old.tables k.0 k.1) ≡ true))
@@ -166,17 +168,24 @@ impl Mem {
         ensures processes { has self.new.tables ≡ has self.old.tables }
         ensures rest { self.new ≡ record self.old { tables = self.new.tables } }
     {
-        let areas = self.spaces.by_number();
-        let maps = self.frames.maps(frame);
-        let Some(home) = self.frames.home(frame) else {
-            return false;
-        };
         let mut steps = Steps::<L>::open(blank);
         let mut stores = StoresMut {
-            areas,
+            areas: self.spaces.by_number(),
             anons: &self.anons,
             tables: &mut self.tables,
         };
-        clear_seen(&mut stores, frame, home, maps, &mut steps)
+        if self.items.is_merged(frame) {
+            return clear_seen_items(&mut stores, frame, self.items.of(frame), &mut steps);
+        }
+        let Some(home) = self.frames.home(frame) else {
+            return false;
+        };
+        clear_seen(
+            &mut stores,
+            frame,
+            home,
+            self.frames.maps(frame),
+            &mut steps,
+        )
     }
 }

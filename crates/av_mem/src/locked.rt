@@ -8,6 +8,7 @@ ghost use Rattle.av_plain.specs.Ledger.{Ledger};
 ghost use Rattle.av_plain.specs.World.{World};
 ghost use Rattle.av_rmap.specs.Items.{is_merged};
 ghost use Rattle.av_spaces.specs.Kin.{AnonsFit};
+ghost use Rattle.av_spaces.specs.Spaces.{AreNumbered};
 ghost use Rattle.av_mem.specs.Chains.{AreFound, HasLocked};
 ghost use Rattle.av_mem.specs.Mem.{HasItems, frame_count, view};
 
@@ -34,7 +35,9 @@ impl Mem {
         requires itemed { HasItems self.now }
         requires in_range { frame < frame_count self.now }
         requires found { AreFound self.now frame }
-        ensures { MatchBool result (HasLocked self.now frame) (HasLocked self.now frame → ⊥) }
+        ensures locked { MatchBool result (HasLocked self.now frame)
+            (HasLocked self.now frame → ⊥) }
+        ensures numbered { AreNumbered self.now.spaces }
     {
         self.has_locked::<Brand>(frame, Blank::new(1))
     }
@@ -48,7 +51,9 @@ impl Mem {
         requires itemed { HasItems self.now }
         requires in_range { frame < frame_count self.now }
         requires found { AreFound self.now frame }
-        ensures { MatchBool result (HasLocked self.now frame) (HasLocked self.now frame → ⊥) }
+        ensures locked { MatchBool result (HasLocked self.now frame)
+            (HasLocked self.now frame → ⊥) }
+        ensures numbered { AreNumbered self.now.spaces }
     {
         let mut steps = Steps::<L>::open(blank);
         let stores = Stores {

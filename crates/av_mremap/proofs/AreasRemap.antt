@@ -239,7 +239,7 @@ unchanged_size d old s keeps p from n m more less = subst (HasRemap old old p) (
 pub stays_here : (old new : Mem) (s : State) (p from n to m : ℕ) (stays : Bool) → to ≡ from
     → HasRemap old new p (after_resize (chain_length s.anons) from n m (s.areas p))
     → HasRemap old new p (after_mremap (chain_length s.anons) p from n to m stays (s.areas p))
-stays_here old new s p from n to m left here h = subst (HasRemap old new p) (sym is) h
+stays_here old new s p from n to m stays here h = subst (HasRemap old new p) (sym is) h
   where
     same : (to == from) ≡ true
     same = grind (arith, nat_tests, here)

@@ -1,8 +1,8 @@
 -- The entries of a range have gone to another one: the parts stand for the ledger after the move, and nothing has become free.
-use Rattle.std.proofs.Common.{◌≡◌, ℕ, ◌+◌, ◌-◌, Bool, true, false, cond, not, ◌&&◌, Option, Some, None, refl, sym, ap, subst, ◌∙◌, arith, ◌==◌}
+use Rattle.std.proofs.Common.{◌≡◌, ℕ, ◌+◌, ◌-◌, Bool, true, false, cond, not, ◌&&◌, List, [], Option, Some, None, refl, sym, ap, subst, ◌∙◌, arith, ◌==◌}
 use Rattle.std.specs.Option.{option_or}
 use Rattle.std.proofs.lemmas.Bool.Decides.{nat_tests}
-use Rattle.av_base.specs.Words.{within}
+use Rattle.av_base.specs.Words.{is_in, within}
 use Rattle.av_frames.specs.Store.{shown}
 use Rattle.av_pagetable.specs.Entries.{entry_at}
 use Rattle.av_pagetable.specs.declared.pte.Pte.{Pte}
@@ -17,14 +17,15 @@ use Rattle.av_plain.proofs.Sound.Mremap.{frames-stay, moved-kept, moved-no_new, 
 use Rattle.av_plain.proofs.Sound.There.{there-by}
 use Rattle.av_swap_laws.specs.May.{IsAlike}
 use Rattle.av_swap_laws.proofs.Move.{moved-chosen, moved-stands}
+use Rattle.av_rmap.specs.Items.{shown as shown_items}
 use Rattle.av_swapcache.specs.Swap.{shown as shown_swap}
 use Rattle.av_mem.specs.declared.mem.Mem.{Mem}
-use Rattle.av_mem.specs.Mem.{HasLedger, SoundLedger, plain, setting_by, view, view_of_parts}
+use Rattle.av_mem.specs.Mem.{HasLedger, Sizes, SoundLedger, plain, setting_by, sizes_of, view, view_of_parts}
 use Rattle.av_mremap.specs.Entries.{HasMovedEntries, moved_entries}
 
 -- ---- the parts
 
-module _ (m : Setting) (listed room : ℕ) (v : View) (l : Ledger) (p n from to : ℕ) (parts : SoundLedger m listed room v l)
+module _ (m : Setting) (sizes : Sizes) (v : View) (l : Ledger) (p n from to : ℕ) (parts : SoundLedger m sizes v l)
     (bare : (o : ℕ) → within to n o ≡ true → entry l (p, o) ≡ None) where
   free : (o : ℕ) → within to n o ≡ true → within from n o ≡ false → entry l (p, o) ≡ None
   free o inside _ = bare o inside
@@ -38,6 +39,7 @@ module _ (m : Setting) (listed room : ℕ) (v : View) (l : Ledger) (p n from to 
     flight = refl;
     active = refl;
     inactive = refl;
+    merged = refl;
     on = refl;
   })
 
@@ -80,12 +82,13 @@ module _ (m : Setting) (listed room : ℕ) (v : View) (l : Ledger) (p n from to 
       by false true is = absurd (clash is)
       by false false is = (q, o, is)
 
-  pub stands_now : SoundLedger m listed room (record v { table = moved_entries None p n from to v.table }) (after_move p n from to l)
+  pub stands_now : SoundLedger m sizes (record v { table = moved_entries None p n from to v.table }) (after_move p n from to l)
   stands_now = record {
     sound = moved-kept m l p n from to parts.sound free;
     there = there-by m l (after_move p n from to l) (moved-no_new m l p n from to parts.sound free) parts.there;
     parts = moved-stands m v l (after_move p n from to l) alike (moved_entries None p n from to v.table) parts.parts entries-now came;
     lists = parts.lists;
+    items = parts.items;
     swap = parts.swap;
   }
 
@@ -95,7 +98,8 @@ module _ (d : Device) (old new : Mem) (p n from to : ℕ) (bare : (o : ℕ) → 
     (moved : entry_at new.tables ≡ moved_entries Empty p n from to (entry_at old.tables))
     (rest : new ≡ record old { tables = new.tables }) (l : Ledger) (stands : HasLedger d old l) where
   seen_so : view (record old { tables = new.tables }) ≡ record (view old) { table = moved_entries None p n from to (view old).table }
-  seen_so = λ i. view_of_parts (shown old.frames) old.lists (λ q o. table q o i) old.spaces old.anons (shown_swap old.swap)
+  seen_so = λ i. view_of_parts (shown old.frames) old.lists (shown_items old.items) (λ q o. table q o i) old.spaces old.anons
+      (shown_swap old.swap)
     where
       pushed : (a b : Bool) (x y : Pte) → plain (cond a x (cond b Empty y)) ≡ cond a (plain x) (cond b None (plain y))
       pushed true b x y = refl
@@ -114,8 +118,11 @@ module _ (d : Device) (old new : Mem) (p n from to : ℕ) (bare : (o : ℕ) → 
 
   pub has_moved : HasMovedEntries d old new l p n from to
   has_moved = subst (λ (k : Mem). HasMovedEntries d old k l p n from to) (sym rest) (record {
-    stands = subst (λ v. SoundLedger m old.lists.frames (shown_swap old.swap).frames v (after l (EntriesMoved p n from to))) (sym seen_so)
-        (stands_now m old.lists.frames (shown_swap old.swap).frames (view old) l p n from to stands none_at);
-    free = moved-chosen m None l p n from to (free_of (view old))
-        (alike m old.lists.frames (shown_swap old.swap).frames (view old) l p n from to stands none_at);
+    stands = subst (λ v. SoundLedger m (sizes_of old) v (after l (EntriesMoved p n from to))) (sym seen_so)
+        (stands_now m (sizes_of old) (view old) l p n from to stands none_at);
+    free = moved-chosen m None l p n from to (free_of (view old)) same;
+    items = λ items are f. are f ∙ ap (λ (fs : List ℕ). cond (is_in f fs) (items f) []) (sym same.merged);
   })
+    where
+      same : IsAlike l (after l (EntriesMoved p n from to))
+      same = alike m (sizes_of old) (view old) l p n from to stands none_at

@@ -12,7 +12,7 @@ use Rattle.av_plain.specs.Device.{Device, setting_of}
 use Rattle.av_plain.specs.Event.{Event, EntriesMoved, after_all, notes_of}
 use Rattle.av_plain.specs.Ledger.{Ledger, entry}
 use Rattle.av_plain.specs.Mremap.{range_zaps, remap_events}
-use Rattle.av_plain.specs.Stands.{entry_of, free_of}
+use Rattle.av_plain.specs.Stands.{ItemsAre, entry_of, free_of}
 use Rattle.av_plain.specs.Zap.{keys_in, zaps_of}
 use Rattle.av_plain.proofs.Access.{after_all-append, chooses-append, notes_of-append}
 use Rattle.av_plain.proofs.Mremap.{after-elsewhere, target_free, then_tail, then_target}
@@ -40,7 +40,7 @@ of_length d old new l p from past n before now same h = subst (λ k. HasZapped d
 pub in_place : (d : Device) (old new : Mem) (l : Ledger) (p from n to m : ℕ) (before now : List Note) → (to == from) ≡ true
     → HasZapped d old new l (range_zaps l p (from + m) (n - m)) before now → HasRemapped d old new l (remap_events l p from n to m) before now
 in_place d old new l p from n to m before now here t =
-    subst (λ es. HasRemapped d old new l es before now) (sym is) (record { stands = t.stands; notes = t.notes; free = t.free })
+    subst (λ es. HasRemapped d old new l es before now) (sym is) (record { stands = t.stands; notes = t.notes; free = t.free; items = t.items })
   where
     is : remap_events l p from n to m ≡ range_zaps l p (from + m) (n - m)
     is = ap (λ b. cond b (range_zaps l p (from + m) (n - m))
@@ -91,6 +91,8 @@ module _ (d : Device) (old mid gone : Mem) (l : Ledger) (p from n to m : ℕ) (b
       stands = subst (HasLedger d new) (sym (after-elsewhere l p from n to m there)) third.stands;
       notes = subst (λ es. now ≡ before ++ notes_of es) (sym is) noted;
       free = subst (λ es. ChoosesAll (setting_by d old) None l es (free_of (view old)) (free_of (view new))) (sym is) chosen;
+      items = λ items are. subst (λ l'. ItemsAre (view new) l' items) (sym (after-elsewhere l p from n to m there))
+          (third.items items (second.items items (first.items items are)));
     }
       where
         is : remap_events l p from n to m ≡ (target ++ tail) ++ last

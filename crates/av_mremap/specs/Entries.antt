@@ -6,7 +6,8 @@ use Rattle.av_plain.specs.Choice.{Chooses, ChoosesAll}
 use Rattle.av_plain.specs.Device.{Device}
 use Rattle.av_plain.specs.Event.{Event, EntriesMoved, after, after_all, notes_of}
 use Rattle.av_plain.specs.Ledger.{Ledger}
-use Rattle.av_plain.specs.Stands.{free_of}
+use Rattle.av_plain.specs.Areas.{Items}
+use Rattle.av_plain.specs.Stands.{ItemsAre, free_of}
 use Rattle.av_mem.specs.declared.mem.Mem.{Mem}
 use Rattle.av_mem.specs.Mem.{setting_by, view, HasLedger}
 
@@ -18,17 +19,22 @@ moved_entries nothing p n from to f q page =
     else if q == p && within from n page then nothing
     else f q page
 
--- the entries have moved: nothing is taken, and nothing becomes free
+-- the entries have moved: nothing is taken, nothing becomes free, and the items stay
 pub record HasMovedEntries (d : Device) (old new : Mem) (l : Ledger) (p n from to : ℕ)
     : Type 0 where
   pub stands : HasLedger d new (after l (EntriesMoved p n from to))
   pub free : Chooses (setting_by d old) None l (EntriesMoved p n from to)
       (free_of (view old)) (free_of (view new))
+  pub items : (items : Items) → ItemsAre (view old) l items
+      → ItemsAre (view new) (after l (EntriesMoved p n from to)) items
 
--- these events of an mremap have happened, with their notes, and what is free follows them
+-- these events of an mremap have happened, with their notes; what is free follows them, and what
+-- became free has no items
 pub record HasRemapped (d : Device) (old new : Mem) (l : Ledger) (events : List Event)
     (before now : List Note) : Type 0 where
   pub stands : HasLedger d new (after_all l events)
   pub notes : now ≡ before ++ notes_of events
   pub free : ChoosesAll (setting_by d old) None l events
       (free_of (view old)) (free_of (view new))
+  pub items : (items : Items) → ItemsAre (view old) l items
+      → ItemsAre (view new) (after_all l events) items

@@ -16,30 +16,15 @@ use Rattle.av_vma.specs.Gap.{IsGap}
 use Rattle.av_vma.specs.Index.{past_of}
 use Rattle.av_vma.specs.Join.{same_prot}
 use Rattle.av_vma.specs.Pages.{AreLaid, Pages}
-use Rattle.av_vma.proofs.Join.{prot_is}
+use Rattle.av_vma.proofs.Join.{prot_is, same_as_itself}
 use Rattle.av_vma.proofs.Laid.{has_from, has_parts}
-use Rattle.av_vma.proofs.Prots.{area_prot, prots}
 use Rattle.av_vmatree.specs.Spans.{IsFree, IsMet}
 use Rattle.av_spaces.specs.Spaces.{Spaces, is_taken, pages_of}
-use Rattle.av_plain.specs.Areas.{HaveProtsOf}
 use Rattle.av_plain.specs.Mremap.{has_prot, have_one_prot, have_prot, may_stay, prot_at}
 use Rattle.av_plain.specs.World.{Page, Process, is_mapped, meets}
 use Rattle.av_plain.proofs.Mremap.Legal.{have_prot-each}
-use Rattle.av_place.specs.Mremap.{IsTarget}
+use Rattle.av_place.specs.Mremap.{HaveProtsOf, IsTarget, prots}
 use Rattle.av_place.proofs.PlaceLaws.{free_meets, met_meets}
-
-same_itself : (prot : Prot) → same_prot prot prot ≡ true
-same_itself prot = by prot.read prot.write prot.execute
-  where
-    by : (r w x : Bool) → same_prot (record { read = r; write = w; execute = x }) (record { read = r; write = w; execute = x }) ≡ true
-    by true true true = refl
-    by true true false = refl
-    by true false true = refl
-    by true false false = refl
-    by false true true = refl
-    by false true false = refl
-    by false false true = refl
-    by false false false = refl
 
 -- where each page has it
 pub have_prot-all : (q : Process) (prot : Prot) (from n : ℕ) → ((o : ℕ) → from ≤ o → o < from + n → prot_at q o ≡ Some prot)
@@ -51,7 +36,7 @@ have_prot-all q prot from (suc n) h =
   where
     of_page : (o : Option Page) → option_map (λ (x : Page). x.prot) o ≡ Some prot → has_prot prot o ≡ true
     of_page None e = cc
-    of_page (Some x) e = let same : x.prot ≡ prot = cc in ap (λ p. same_prot p prot) same ∙ same_itself prot
+    of_page (Some x) e = let same : x.prot ≡ prot = cc in ap (λ p. same_prot p prot) same ∙ same_as_itself prot
 
 -- where one has not
 pub have_prot-no : (q : Process) (prot : Prot) (from n o : ℕ) → from ≤ o → o < from + n → (prot_at q o ≡ Some prot → ⊥)
@@ -114,7 +99,7 @@ pub not_with : (s : Spaces) (p : ℕ) (q : Process) (page : ℕ) (area : Area) (
     → not (equal_prots area.prot prot) ≡ true → prot_at q page ≡ Some prot → ⊥
 not_with s p q page area prot same there other is =
     let both : area.prot ≡ prot = some_is (ap (option_map (λ (area : Area). area.prot)) there ∙ same page ∙ is) in
-    false≢true (sym (ap not (equal_same area.prot prot ∙ ap (λ x. same_prot x prot) both ∙ same_itself prot)) ∙ other)
+    false≢true (sym (ap not (equal_same area.prot prot ∙ ap (λ x. same_prot x prot) both ∙ same_as_itself prot)) ∙ other)
 
 pub with_prot : (area : Area) (prot : Prot) → not (equal_prots area.prot prot) ≡ false → Some area.prot ≡ Some prot
 with_prot area prot h = ap Some (prot_is area.prot prot (sym (equal_same area.prot prot) ∙ turned (equal_prots area.prot prot) h))
@@ -128,7 +113,7 @@ pub covers : (on : Pages) → AreLaid on → (area : Area) (page : ℕ) → on p
     → prots on o ≡ Some area.prot
 covers on laid area page is o low high =
     let first = (has_parts area page (laid.here page area is)).0 in
-    ap (option_map area_prot) (laid.all page o area is (has_from area o (omega (arith, first, low)) high))
+    ap (option_map (λ (area : Area). area.prot)) (laid.all page o area is (has_from area o (omega (arith, first, low)) high))
 
 -- ---- where the pages go
 

@@ -1,15 +1,25 @@
 -- What an mremap goes by: the protections of pages, and where they go.
 use Rattle.std.specs.Prelude.{◌≡◌, ℕ, ◌+◌, ◌-◌, ◌^◌, ◌<◌, ◌≤◌, Some, None, IsSomeAnd, Result, Ok}
-use Rattle.std.specs.Prelude.{Err}
+use Rattle.std.specs.Prelude.{Err, Option, option_map}
 use Rattle.av_base.specs.Limits.{most_indices}
+use Rattle.av_base.specs.declared.prot.Prot.{Prot}
 use Rattle.av_trace.specs.declared.mode.Mode.{Mode}
 use Rattle.av_trace.specs.declared.reply.Errno.{Errno}
 use Rattle.av_trace.specs.declared.reply.Errno.TheVariants.{Enomem}
 use Rattle.av_vma.specs.Index.{index_of}
+use Rattle.av_vma.specs.Pages.{Pages}
 use Rattle.av_vma.specs.declared.area.Area.{Area}
 use Rattle.av_spaces.specs.Spaces.{Spaces, pages_of}
-use Rattle.av_plain.specs.Mremap.{MovesTo}
+use Rattle.av_plain.specs.Mremap.{MovesTo, prot_at}
 use Rattle.av_plain.specs.World.{Process}
+
+-- the protection of a page, where it has an area
+abbrev pub prots : Pages → ℕ → Option Prot
+prots on page = option_map (λ (area : Area). area.prot) (on page)
+
+-- these areas are on the pages that are mapped, with their protections, and on no other page
+abbrev pub HaveProtsOf : Pages → Process → Type 0
+HaveProtsOf on q = (page : ℕ) → prots on page ≡ prot_at q page
 
 -- n pages become m from this page on, or there is no room
 abbrev pub IsTarget : Process → ℕ → ℕ → ℕ → Mode → Result ℕ Errno → Type 0

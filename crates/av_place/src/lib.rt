@@ -9,5 +9,5 @@
 mod mremap;
 mod place;
 
-pub use mremap::{check_indices, check_remap, find_target, prot_left};
+pub use mremap::{check_indices, check_remap, find_target, leaves_old};
 pub use place::{check_protect, find_gap, find_place, is_no_range, is_too_long};

@@ -4,8 +4,7 @@ ghost use Rattle.std.specs.Prelude.{◌≡◌, ℕ, ◌+◌, ◌-◌, ◌^◌, �
 ghost use Rattle.std.specs.Prelude.{is_some, if◌then◌else◌, None, Some, MatchResult, OnErr, OnOk};
 ghost use Rattle.av_base.specs.Limits.{top_page};
 ghost use Rattle.av_base.specs.Page.{is_on_page};
-ghost use Rattle.av_place.specs.Mremap.{GrowTooFar, IsTarget, StaySmall};
-ghost use Rattle.av_plain.specs.Areas.{HaveProtsOf};
+ghost use Rattle.av_place.specs.Mremap.{GrowTooFar, HaveProtsOf, IsTarget, StaySmall};
 ghost use Rattle.av_plain.specs.Mremap as plain;
 ghost use Rattle.av_plain.specs.Refusal as refusals;
 ghost use Rattle.av_plain.specs.Refusal.{mremap_tests, refusal};
@@ -79,7 +78,7 @@ fn are_bad_lengths(old_len: u64, new_len: u64, mode: Mode) -> bool
 }
 
 /// Whether the old range stays mapped, with zeros.
-fn leaves_old(mode: Mode) -> bool
+pub fn leaves_old(mode: Mode) -> bool
     ensures { result ≡ plain.leaves_old mode }
 {
     matches!(mode, Mode::DontUnmap(_))
@@ -224,18 +223,6 @@ fn may_stay(spaces: &Spaces, process: u16, from: u64, pages: u64, new_pages: u64
     new_pages <= pages
         || (from + new_pages <= TOP_PAGE
             && spaces.is_free(process, from + pages, new_pages - pages))
-}
-
-/// The protection with which the old range stays, if it stays.
-pub fn prot_left(spaces: &Spaces, process: u16, from: u64, mode: Mode) -> Option<Prot>
-    ensures { (q : Process) → HaveProtsOf (pages_of spaces.now.processes process) q → result
-        ≡ plain.prot_left mode q from }
-{
-    if !leaves_old(mode) {
-        return None;
-    }
-    let area = spaces.area(process, from)?;
-    Some(area.prot)
 }
 
 /// Whether linear indices stay small where the pages grow: else memory counts as wanting. A run of

@@ -1,30 +1,27 @@
 -- What a merge and a compaction leave: the memories; and, of a compaction, each walk, and the frames in use as the lowest.
-use Rattle.std.proofs.Common.{◌≡◌, ℕ, zero, suc, ◌+◌, ◌<◌, ◌≤◌, Bool, true, false, cond, not, ◌&&◌, nat_lt, T, List, [], ◌∷◌, ◌++◌, filter, length, map, reverse, Option, Some, None, option_map, refl, sym, ap, subst, ◌∙◌, arith, ◌==◌}
+use Rattle.std.proofs.Common.{◌≡◌, ℕ, zero, suc, ◌+◌, ◌<◌, ◌≤◌, Bool, true, false, cond, not, ◌&&◌, nat_lt, List, [], ◌∷◌, ◌++◌, filter, map, reverse, Option, Some, None, refl, sym, ap, subst, ◌∙◌, arith, ◌==◌}
 use mathlib.Core.List.{reverse_aux}
-use Rattle.std.proofs.Common.{◌||◌}
 use Rattle.std.proofs.lemmas.Bool.{false≢true}
 use Rattle.std.proofs.lemmas.Bool.Decides.{nat_tests}
 use Rattle.std.specs.List.{find, list_all, list_any, range_with_len}
 use Rattle.av_base.specs.Words.{how_many, renamed}
-use Rattle.av_base.specs.declared.slot.Slot.{Slot}
 use Rattle.av_trace.specs.declared.command.Command.TheVariants.{Compact, Merge}
 use Rattle.av_trace.specs.declared.note.Note.{Note}
-use Rattle.av_trace.specs.declared.note.Note.TheVariants.{Joined, Moved, Shared}
+use Rattle.av_trace.specs.declared.note.Note.TheVariants.{Moved}
 use Rattle.av_trace.specs.declared.reply.Answer.{Answer}
 use Rattle.av_trace.specs.declared.row.Row.{Row}
-use Rattle.av_plain.specs.Compact.{AreLowest, Compacts, IsCompacted, MovesDown, greatest_used, least_free, move_down, next_move}
-use Rattle.av_plain.specs.Event.{Event, FreeSorted, Noted, after_all, after_note, after_notes, note_events, renamed_entry, with_renamed}
-use Rattle.av_plain.specs.Ledger.{Cached, Entry, InFrame, InSlot, Key, Ledger, Setting, Zero, entry, is_cached, is_free, map_count, names_frame, same_slot, slot_count, slot_entries, walk}
+use Rattle.av_plain.specs.Compact.{Compacts, IsCompacted, MovesDown, greatest_used, least_free, move_down, next_move}
+use Rattle.av_plain.specs.Event.{Event, FreeSorted, Noted, after_all, after_note, after_notes, note_events, placed_entry, with_places}
+use Rattle.av_plain.specs.Ledger.{Cached, Entry, InFrame, InSlot, Key, Ledger, Setting, Zero, is_free, names_frame, walk}
 use Rattle.av_plain.specs.Merge.{FrameBytes, Merges, candidate, join_notes, merge_notes, merged_like, merges, other_like, with_candidate}
 use Rattle.av_plain.specs.Pass.{how_many_frames}
 use Rattle.av_plain.specs.Sound.{AllSound, IsSound, no_excuse, uses}
 use Rattle.av_plain.specs.Step.{next_world}
 use Rattle.av_plain.specs.World.{World}
 use Rattle.av_plain.proofs.Access.{after_all-append, note_events-all}
-use Rattle.av_plain.proofs.Event.{entry-renamed, how_many-map, slot_entries-renamed}
 use Rattle.av_plain.proofs.Load.{loads_nothing, without-loads}
 use Rattle.av_plain.proofs.Sound.Changes.{any-counts}
-use Rattle.av_plain.proofs.Sound.Counts.{same-is, same-itself}
+use Rattle.av_plain.proofs.Sound.Counts.{same-is}
 use Rattle.av_plain.proofs.Sound.Frames.{IsMove, found-none, in_range-is, move-is}
 use Rattle.av_plain.proofs.Sound.Pass.{count-reverse}
 use Rattle.av_plain.proofs.Sound.Swap.{of-sound}
@@ -85,7 +82,7 @@ compact-world m w l events answer rows h = without-loads m w l events (ap (list_
 
 module _ (m : Setting) (l : Ledger) (from to : ℕ) (s : IsSound m l) (free : uses l to ≡ 0) (used : 0 < uses l from) (below : to < m.frames) where
   abbrev went : Ledger
-  went = with_renamed from to l
+  went = with_places (renamed from to) l
 
   apart : (to == from) ≡ false
   apart = differ m no_excuse l from to s free used below
@@ -94,7 +91,7 @@ module _ (m : Setting) (l : Ledger) (from to : ℕ) (s : IsSound m l) (free : us
   walk-went : (g : ℕ) → (to == g) ≡ false → walk went (renamed from to g) ≡ walk l g
   walk-went g other = each l.entries (omega (arith, free))
     where
-      named : (e : Entry) → names_frame to e ≡ false → names_frame (renamed from to g) (renamed_entry from to e) ≡ names_frame g e
+      named : (e : Entry) → names_frame to e ≡ false → names_frame (renamed from to g) (placed_entry (renamed from to) e) ≡ names_frame g e
       named Zero none = refl
       named (InSlot t) none = refl
       named (InFrame j seen) none =
@@ -109,21 +106,21 @@ module _ (m : Setting) (l : Ledger) (from to : ℕ) (s : IsSound m l) (free : us
       rest a n e = omega (arith, e)
 
       each : (es : List (Key × Entry)) → how_many (λ e. names_frame to e.1) es ≡ 0
-          → map (λ (e : Key × Entry). e.0) (filter (λ (e : Key × Entry). names_frame (renamed from to g) e.1) (map (λ (e : Key × Entry). (e.0, renamed_entry from to e.1)) es))
+          → map (λ (e : Key × Entry). e.0) (filter (λ (e : Key × Entry). names_frame (renamed from to g) e.1) (map (λ (e : Key × Entry). (e.0, placed_entry (renamed from to) e.1)) es))
           ≡ map (λ (e : Key × Entry). e.0) (filter (λ (e : Key × Entry). names_frame g e.1) es)
       each [] none = refl
       each (e ∷ es) none =
           let again = each es (rest _ _ none) in
-          ap (λ b. map (λ (e : Key × Entry). e.0) (cond b ((e.0, renamed_entry from to e.1)
-          ∷ filter (λ (e : Key × Entry). names_frame (renamed from to g) e.1) (map (λ (e : Key × Entry). (e.0, renamed_entry from to e.1)) es))
-          (filter (λ (e : Key × Entry). names_frame (renamed from to g) e.1) (map (λ (e : Key × Entry). (e.0, renamed_entry from to e.1)) es))))
+          ap (λ b. map (λ (e : Key × Entry). e.0) (cond b ((e.0, placed_entry (renamed from to) e.1)
+          ∷ filter (λ (e : Key × Entry). names_frame (renamed from to g) e.1) (map (λ (e : Key × Entry). (e.0, placed_entry (renamed from to) e.1)) es))
+          (filter (λ (e : Key × Entry). names_frame (renamed from to g) e.1) (map (λ (e : Key × Entry). (e.0, placed_entry (renamed from to) e.1)) es))))
           (named e.1 (first (names_frame to e.1) _ none)) ∙ by (names_frame g e.1) again
         where
-          by : (b : Bool) → map (λ (e : Key × Entry). e.0) (filter (λ (e : Key × Entry). names_frame (renamed from to g) e.1) (map (λ (e : Key × Entry). (e.0, renamed_entry from to e.1)) es))
+          by : (b : Bool) → map (λ (e : Key × Entry). e.0) (filter (λ (e : Key × Entry). names_frame (renamed from to g) e.1) (map (λ (e : Key × Entry). (e.0, placed_entry (renamed from to) e.1)) es))
               ≡ map (λ (e : Key × Entry). e.0) (filter (λ (e : Key × Entry). names_frame g e.1) es)
-              → map (λ (e : Key × Entry). e.0) (cond b ((e.0, renamed_entry from to e.1)
-              ∷ filter (λ (e : Key × Entry). names_frame (renamed from to g) e.1) (map (λ (e : Key × Entry). (e.0, renamed_entry from to e.1)) es))
-              (filter (λ (e : Key × Entry). names_frame (renamed from to g) e.1) (map (λ (e : Key × Entry). (e.0, renamed_entry from to e.1)) es)))
+              → map (λ (e : Key × Entry). e.0) (cond b ((e.0, placed_entry (renamed from to) e.1)
+              ∷ filter (λ (e : Key × Entry). names_frame (renamed from to g) e.1) (map (λ (e : Key × Entry). (e.0, placed_entry (renamed from to) e.1)) es))
+              (filter (λ (e : Key × Entry). names_frame (renamed from to g) e.1) (map (λ (e : Key × Entry). (e.0, placed_entry (renamed from to) e.1)) es)))
               ≡ map (λ (e : Key × Entry). e.0) (cond b (e ∷ filter (λ (e : Key × Entry). names_frame g e.1) es) (filter (λ (e : Key × Entry). names_frame g e.1) es))
           by true h = ap (λ ks. e.0 ∷ ks) h
           by false h = h
@@ -313,44 +310,101 @@ lowest-used m l none f below = closed-count (λ g. not (is_free l g)) 0 m.frames
 
 -- ---- the whole
 
-length-map : {X Y : Type 0} (g : X → Y) (xs : List X) → length (map g xs) ≡ length xs
-length-map g [] = refl
-length-map g (x ∷ xs) = ap suc (length-map g xs)
+-- places one after the other
+map-twice : {X Y Z : Type 0} (g : Y → Z) (f : X → Y) (xs : List X) → map g (map f xs) ≡ map (λ x. g (f x)) xs
+map-twice g f [] = refl
+map-twice g f (x ∷ xs) = ap (λ ys. g (f x) ∷ ys) (map-twice g f xs)
 
-any-map : {X Y : Type 0} (p : Y → Bool) (g : X → Y) (xs : List X) → list_any p (map g xs) ≡ list_any (λ x. p (g x)) xs
-any-map p g [] = refl
-any-map p g (x ∷ xs) = ap (λ b. p (g x) || b) (any-map p g xs)
+map-each : {X Y : Type 0} (f g : X → Y) (xs : List X) → ((x : X) → f x ≡ g x) → map f xs ≡ map g xs
+map-each f g [] h = refl
+map-each f g (x ∷ xs) h = λ i. h x i ∷ map-each f g xs h i
 
-moved-compacts : (m : Setting) (l : Ledger) (from to : ℕ) → IsCompacted l (with_renamed from to l)
-moved-compacts m l from to = record {
-  active = length-map (renamed from to) l.active;
-  inactive = length-map (renamed from to) l.inactive;
-  flight = refl;
-  on = refl;
-  counts = λ t. (λ i. slot_entries-renamed from to l t i
-      + cond (any-map (λ (c : Cached). same_slot t c.slot) (λ (c : Cached). record c { frame = renamed from to c.frame }) l.cache i) 1 0);
+map-itself : {X : Type 0} (f : X → X) (xs : List X) → ((x : X) → f x ≡ x) → map f xs ≡ xs
+map-itself f [] h = refl
+map-itself f (x ∷ xs) h = λ i. h x i ∷ map-itself f xs h i
+
+placed-twice : (p q : ℕ → ℕ) (e : Entry) → placed_entry p (placed_entry q e) ≡ placed_entry (λ f. p (q f)) e
+placed-twice p q Zero = refl
+placed-twice p q (InFrame f seen) = refl
+placed-twice p q (InSlot s) = refl
+
+placed-itself : (e : Entry) → placed_entry (λ f. f) e ≡ e
+placed-itself Zero = refl
+placed-itself (InFrame f seen) = refl
+placed-itself (InSlot s) = refl
+
+places-twice : (p q : ℕ → ℕ) (l : Ledger) → with_places p (with_places q l) ≡ with_places (λ f. p (q f)) l
+places-twice p q l = λ i. record l {
+  entries = (map-twice (λ (e : Key × Entry). (e.0, placed_entry p e.1)) (λ (e : Key × Entry). (e.0, placed_entry q e.1)) l.entries
+      ∙ map-each (λ (e : Key × Entry). (e.0, placed_entry p (placed_entry q e.1))) (λ (e : Key × Entry). (e.0, placed_entry (λ f. p (q f)) e.1)) l.entries
+      (λ e j. (e.0, placed-twice p q e.1 j))) i;
+  cache = map-twice (λ (c : Cached). record c { frame = p c.frame }) (λ (c : Cached). record c { frame = q c.frame }) l.cache i;
+  active = map-twice p q l.active i;
+  inactive = map-twice p q l.inactive i;
+  merged = map-twice p q l.merged i;
 }
 
-pub moves-compact : (m : Setting) (l : Ledger) (notes : List Note) → MovesDown m l notes → IsCompacted l (after_notes l notes)
-moves-compact m l [] r = record { active = refl; inactive = refl; flight = refl; on = refl; counts = λ t. refl }
-moves-compact m l (note ∷ notes) r =
+places-itself : (l : Ledger) → l ≡ with_places (λ f. f) l
+places-itself l = sym (λ i. record l {
+  entries = map-itself (λ (e : Key × Entry). (e.0, placed_entry (λ f. f) e.1)) l.entries (λ e j. (e.0, placed-itself e.1 j)) i;
+  cache = map-itself (λ (c : Cached). record c { frame = c.frame }) l.cache (λ c. refl) i;
+  active = map-itself (λ f. f) l.active (λ f. refl) i;
+  inactive = map-itself (λ f. f) l.inactive (λ f. refl) i;
+  merged = map-itself (λ f. f) l.merged (λ f. refl) i;
+})
+
+-- all goes along
+moves-go : (m : Setting) (l : Ledger) (notes : List Note) → MovesDown m l notes → after_notes l notes ≡ with_places (placed notes) l
+moves-go m l [] r = places-itself l
+moves-go m l (note ∷ notes) r = moves-go m (after_note note l) notes r.1 ∙ by note (move-is m l note r.0)
+  where
+    by : (n : Note) → IsMove m l n → with_places (placed notes) (after_note n l) ≡ with_places (λ f. placed notes (placed_by n f)) l
+    by n v = subst (λ n. with_places (placed notes) (after_note n l) ≡ with_places (λ f. placed notes (placed_by n f)) l) (sym v.is)
+        (places-twice (placed notes) (renamed v.from v.to) l)
+
+-- a frame in use isn't where one goes
+used-apart : (l : Ledger) (to f : ℕ) → uses l to ≡ 0 → 0 < uses l f → (to == f) ≡ false
+used-apart l to f free some = by (to == f) refl
+  where
+    by : (b : Bool) → (to == f) ≡ b → b ≡ false
+    by true is = let z = ap (uses l) (same-is to f is) in absurd (omega (arith, z, free, some))
+    by false is = refl
+
+renamed-apart : (from to f g : ℕ) → (to == f) ≡ false → (to == g) ≡ false → renamed from to f ≡ renamed from to g → f ≡ g
+renamed-apart from to f g a b same = by (f == from) refl (g == from) refl same
+  where
+    by : (x : Bool) → (f == from) ≡ x → (y : Bool) → (g == from) ≡ y → cond x to f ≡ cond y to g → f ≡ g
+    by true i true j e = grind (arith, nat_tests, i, j)
+    by true i false j e = grind (arith, nat_tests, b, e)
+    by false i true j e = grind (arith, nat_tests, a, e)
+    by false i false j e = e
+
+-- a frame in use is so at its place
+move-used : (m : Setting) (l : Ledger) (n : Note) → IsSound m l → IsMove m l n → (f : ℕ) → 0 < uses l f → 0 < uses (after_note n l) (placed_by n f)
+move-used m l n s v f some = subst (λ x. 0 < uses (after_note x l) (placed_by x f)) (sym v.is)
+    (let u = uses-over m l v.from v.to s v.free v.used v.below f (used-apart l v.to f v.free some) in omega (arith, u, some))
+
+-- each has a place of its own
+moves-apart : (m : Setting) (l : Ledger) (notes : List Note) → IsSound m l → MovesDown m l notes → (f g : ℕ) → 0 < uses l f → 0 < uses l g
+    → placed notes f ≡ placed notes g → f ≡ g
+moves-apart m l [] s r f g at_f at_g same = same
+moves-apart m l (note ∷ notes) s r f g at_f at_g same =
     let v = move-is m l note r.0 in
-    let a = subst (λ n. IsCompacted l (after_note n l)) (sym v.is) (moved-compacts m l v.from v.to) in
-    let b = moves-compact m (after_note note l) notes r.1 in
-    record {
-      active = b.active ∙ a.active;
-      inactive = b.inactive ∙ a.inactive;
-      flight = b.flight ∙ a.flight;
-      on = b.on ∙ a.on;
-      counts = λ t. b.counts t ∙ a.counts t;
-    }
+    before v (moves-apart m (after_note note l) notes
+    (subst (λ x. IsSound m (after_note x l)) (sym v.is) (renamed-kept m no_excuse l v.from v.to s v.free v.used v.below)) r.1
+    (placed_by note f) (placed_by note g) (move-used m l note s v f at_f) (move-used m l note s v g at_g) same)
+  where
+    before : IsMove m l note → placed_by note f ≡ placed_by note g → f ≡ g
+    before v e = renamed-apart v.from v.to f g (used-apart l v.to f v.free at_f) (used-apart l v.to g v.free at_g)
+        (subst (λ n. placed_by n f ≡ placed_by n g) v.is e)
 
 pub compact-lowest : (m : Setting) (w : World) (l : Ledger) (events : List Event) (answer : Answer) (rows : List Row) → AllSound m w l
-    → Compacts m l events answer rows → AreLowest m l (after_all l events)
-compact-lowest m w l events answer rows s h = subst (λ es. AreLowest m l (after_all l es)) (sym h.2)
-    (subst (AreLowest m l) (sym (after_all-append l (note_events h.0) (FreeSorted ∷ []) ∙ note_events-all l h.0)) (record {
+    → Compacts m l events answer rows → IsCompacted m l (after_all l events)
+compact-lowest m w l events answer rows s h = subst (λ es. IsCompacted m l (after_all l es)) (sym h.2)
+    (subst (IsCompacted m l) (sym (after_all-append l (note_events h.0) (FreeSorted ∷ []) ∙ note_events-all l h.0)) (record {
       place = placed h.0;
+      goes = moves-go m l h.0 h.1;
+      apart = moves-apart m l h.0 (of-sound m w l s).sound h.1;
       walks = moves-walks m l h.0 (of-sound m w l s).sound h.1;
       lowest = lowest-used m (after_notes l h.0) (moves-lowest m l h.0 h.1);
-      same = moves-compact m l h.0 h.1;
     }))

@@ -27,6 +27,7 @@ use Rattle.av_plain.specs.Event.{set_entry}
 use Rattle.av_plain.specs.Ledger.{Entry, InFrame, InSlot, Key, Ledger, Setting, Zero, entry, first_ledger, key_cmp, map_count, names_frame}
 use Rattle.av_plain.specs.Transcript.{at_first, rmap_of}
 use Rattle.std.specs.FinMap.Entries.{is_sorted}
+use Rattle.av_plain.proofs.Chains.{rise-left, rise-rooted}
 use Rattle.av_plain.proofs.Ledger.{entry-set, how_many-found, only_one, same_key, same_key-is, same_key-itself}
 use Rattle.av_plain.specs.Sound.{uses}
 use Rattle.av_plain.specs.Ledger.{is_free, is_merged}
@@ -79,7 +80,7 @@ NamesToo l l' k f = Names l' k f → is_merged l' f ≡ false → Names l k f ×
 -- each entry names a frame only if it did
 pub sound-fewer : (l l' : Ledger) (r : Rmap) → ((k : Key) (f : ℕ) → NamesToo l l' k f) → IsRmapSound l r → IsRmapSound l' r
 sound-fewer l l' r fewer h =
-    record { made = h.made; own = h.own; covered = λ k f names alone. let x = fewer k f names alone in h.covered k f x.0 x.1 }
+    record { made = h.made; rising = h.rising; own = h.own; covered = λ k f names alone. let x = fewer k f names alone in h.covered k f x.0 x.1 }
 
 -- the frames that are merged, and the entries that name them, are fewer
 pub merged-fewer : (l l' : Ledger) (r : Rmap) → ((k : Key) (f : ℕ) → Names l' k f → is_merged l' f ≡ true → Names l k f)
@@ -107,7 +108,12 @@ merged-homed l r f home own h = record {
 
 -- at first there is nothing
 pub sound-first : (m : Setting) → IsRmapSound first_ledger (rmap_of (at_first m))
-sound-first m = record { made = λ v there. absurd (false≢true there); own = λ p page v is. absurd is; covered = λ k f names alone. absurd names }
+sound-first m = record {
+  made = λ v there. absurd (false≢true there);
+  rising = λ v. tt;
+  own = λ p page v is. absurd is;
+  covered = λ k f names alone. absurd names;
+}
 
 pub slots-first : (m : Setting) → AreSlotsCovered first_ledger (rmap_of (at_first m))
 slots-first m = record { kin = λ p page v is. absurd is; rooted = λ s k q names other. absurd names; cached = λ s k f at names. absurd names }
@@ -161,7 +167,7 @@ pub sound-given : (l l' : Ledger) (r : Rmap) (k : Key) (f : ℕ) → IsSomeAnd (
     → ((q : Key) → same_key q k ≡ false → Names l' q f → ⊥) → ((q : Key) (g : ℕ) → Names l' q g → is_merged l' g ≡ false → is_merged l g ≡ false)
     → IsRmapSound l r → IsRmapSound l' (at_home f k r)
 sound-given l l' r k f owns here others alone own_frame h =
-    record { made = h.made; own = h.own; covered = λ q g names own. by q g names own (same_key q k) refl }
+    record { made = h.made; rising = h.rising; own = h.own; covered = λ q g names own. by q g names own (same_key q k) refl }
   where
     area : Area
     area = (home_some k.1 (r.areas k.0 k.1) owns).0
@@ -336,6 +342,7 @@ pub sound-carried : (l l' : Ledger) (r next : Rmap) → ((k : Key) (f : ℕ) →
     → AnonsStay r.anons next.areas next.anons → next.homes ≡ r.homes → IsRmapSound l r → IsRmapSound l' next
 sound-carried l l' r next carries owns own_frame left homes h = record {
   made = λ v there. subst (λ n. v < n) (sym left.next) (h.made v (subst IsSome (left.same v there) there));
+  rising = rise-left r.anons next.anons left.next left.same h.rising;
   own = λ p page v is. subst (λ c. is_in v c ≡ true) (sym (same_chain p page v is)) (in_chain p page v is);
   covered = λ k f names own.
       let c = carries k f names in
@@ -579,6 +586,7 @@ module _ (l : Ledger) (p page : ℕ) (r : Rmap) (laid : AreLaid (r.areas p)) (h 
   pub sound-prepared : IsRmapSound l (prepare_page p page r)
   sound-prepared = record {
     made = made_now roots;
+    rising = rise-rooted roots r.anons h.rising;
     own = own_now;
     covered = λ k f names own. reached k (r.homes f) (h.covered k f names own);
   }

@@ -6,13 +6,13 @@ use Rattle.std.specs.declared.cmp.Ordering.TheVariants.{Less, Equal, Greater}
 use Rattle.std.specs.Cmp.{IsTotalOrder, tied_itself}
 use Rattle.std.specs.FinMap.Entries.{find, where_key, is_sorted, below_all}
 use Rattle.av_base.specs.declared.slot.Slot.{Slot}
-use Rattle.av_base.specs.Words.{how_many}
+use Rattle.av_base.specs.Words.{how_many, renamed}
 use Rattle.av_plain.specs.Ledger.{Key, key_cmp, Entry, InFrame, InSlot, Zero, Ledger, entry, map_count, slot_entries, names_frame, names_slot, same_slot}
 use Rattle.av_plain.specs.Event.{set_entry, change_entries, put_all, without_seen}
 use Rattle.av_plain.proofs.Ledger.Order.{keys_total, both_first, both_second, count-put, is_less, find_below, below_less, weight}
 use Rattle.av_plain.proofs.Ledger.{entry-set, is_sorted-set, same_key, same_key-is, same_key-itself}
 use Rattle.av_plain.specs.Ledger.{is_free}
-use Rattle.av_plain.specs.Event.{change_frame, off_lists, renamed_entry, settle, settle_entry, with_renamed}
+use Rattle.av_plain.specs.Event.{change_frame, off_lists, placed_entry, settle, settle_entry, with_places}
 
 -- ---- counts
 
@@ -224,14 +224,14 @@ pub changed-by : {A : Type 0} (g : Ledger → A) → ((f : ℕ) (l : Ledger) →
 changed-by g same k f l = settled_entry-by g same (entry l k) (set_entry k (InFrame f false) l)
 
 -- the entries after a frame goes over to another
-pub entry-renamed : (from to : ℕ) (l : Ledger) (q : Key) → entry (with_renamed from to l) q ≡ option_map (renamed_entry from to) (entry l q)
-entry-renamed from to l q = find-map key_cmp (renamed_entry from to) q l.entries
+pub entry-renamed : (from to : ℕ) (l : Ledger) (q : Key) → entry (with_places (renamed from to) l) q ≡ option_map (placed_entry (renamed from to)) (entry l q)
+entry-renamed from to l q = find-map key_cmp (placed_entry (renamed from to)) q l.entries
 
-pub slot_entries-renamed : (from to : ℕ) (l : Ledger) (s : Slot) → slot_entries (with_renamed from to l) s ≡ slot_entries l s
-slot_entries-renamed from to l s = how_many-map (λ e. names_slot s e.1) (λ e. (e.0, renamed_entry from to e.1)) l.entries
+pub slot_entries-renamed : (from to : ℕ) (l : Ledger) (s : Slot) → slot_entries (with_places (renamed from to) l) s ≡ slot_entries l s
+slot_entries-renamed from to l s = how_many-map (λ e. names_slot s e.1) (λ e. (e.0, placed_entry (renamed from to) e.1)) l.entries
     ∙ how_many-same _ _ l.entries (λ e. each e.1)
   where
-    each : (e : Entry) → names_slot s (renamed_entry from to e) ≡ names_slot s e
+    each : (e : Entry) → names_slot s (placed_entry (renamed from to) e) ≡ names_slot s e
     each Zero = refl
     each (InFrame f seen) = refl
     each (InSlot t) = refl

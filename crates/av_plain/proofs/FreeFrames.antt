@@ -9,7 +9,7 @@ use Rattle.av_trace.specs.declared.place.Place.TheVariants.{Auto, At, Fixed, NoR
 use Rattle.av_trace.specs.declared.reply.Errno.{Errno}
 use Rattle.av_trace.specs.declared.reply.Reply.{Reply}
 use Rattle.av_base.specs.Page.{address_of, page_of, pages_of}
-use Rattle.av_base.specs.Words.{how_many, is_in, within}
+use Rattle.av_base.specs.Words.{how_many, is_in, renamed, within}
 use Rattle.std.specs.List.{range_with_len}
 use Rattle.av_base.specs.declared.slot.Slot.{Slot}
 use Rattle.av_trace.specs.declared.note.Cause.TheVariants.{Locked, NoSlot, Referenced, WriteStarted, Writeback}
@@ -80,7 +80,7 @@ use Rattle.std.specs.Prelude.{reverse}
 use Rattle.av_plain.specs.Event.{Noted}
 use Rattle.av_plain.specs.Choice.{ChoosesFrame}
 use Rattle.av_plain.specs.Sound.{no_excuse}
-use Rattle.av_plain.specs.Event.{with_renamed}
+use Rattle.av_plain.specs.Event.{with_places}
 use Rattle.av_plain.proofs.Sound.Frames.{move-holds}
 use Rattle.av_plain.proofs.Sound.Sharing.{uses-go, uses-stay}
 use Rattle.av_plain.proofs.Sound.Counts.{count-without-list}
@@ -242,8 +242,8 @@ chosen-lists m l e free free' steady c h = by (sorts_free e) refl c
 
 -- the condition at each note: a frame that an entry or a slot comes to name without being taken is in use
 pub record GoesOver (from to : ℕ) (l : Ledger) : Type 0 where
-  pub stays : (g : ℕ) → uses l g ≡ 0 → (g == to) ≡ false → uses (with_renamed from to l) g ≡ 0
-  pub used : (g : ℕ) → (g == to) ≡ true → 0 < uses (with_renamed from to l) g
+  pub stays : (g : ℕ) → uses l g ≡ 0 → (g == to) ≡ false → uses (with_places (renamed from to) l) g ≡ 0
+  pub used : (g : ℕ) → (g == to) ≡ true → 0 < uses (with_places (renamed from to) l) g
 
 abbrev pub IsHeld : Ledger → Note → Type 0
 IsHeld l (Mapped p a f) = 0 < uses l f

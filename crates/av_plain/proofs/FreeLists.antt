@@ -1,5 +1,5 @@
 -- After each event what is free is listed, frames and slots, and slots in use are there.
-use Rattle.std.proofs.Common.{refl, ◌≡◌, ℕ, false, true, T, [], Option, None, sym, subst, ◌<◌}
+use Rattle.std.proofs.Common.{refl, ◌≡◌, ℕ, false, true, T, [], Option, None, ◌<◌}
 use Rattle.std.specs.FinMap.Entries.{is_sorted}
 use Rattle.av_base.specs.Words.{within}
 use Rattle.av_plain.specs.Choice.{Chooses, Free, ListsAll, frame_in, slot_in_note}
@@ -8,7 +8,7 @@ use Rattle.av_plain.specs.Event.{Event, FlagSet, Forked, EntriesMoved, Noted, Tu
 use Rattle.av_plain.specs.Ledger.{Ledger, Setting, entry, is_on, key_cmp, size_of, slots_in_use}
 use Rattle.av_plain.specs.Sound.{AreThere, AreasFit, IsSound}
 use Rattle.av_plain.proofs.Fork.{child_ledger}
-use Rattle.av_plain.proofs.FreeFrames.{IsHeld, Lists, Steady, fewer-steady, fork-steady, from_lists, lists-event, move-steady, note-steady, to_lists, used-steady, zap-steady}
+use Rattle.av_plain.proofs.FreeFrames.{IsHeld, Steady, fewer-steady, fork-steady, from_lists, move-steady, note-steady, to_lists, used-steady, zap-steady}
 use Rattle.av_plain.proofs.FreeSlots.{TracksSlots, brings-tracks, fewer-brings, fork-brings, from_tracks, move-brings, note-brings, to_tracks, turned-off-tracks, turned-on-tracks, used-brings, zap-brings}
 use Rattle.av_plain.proofs.Sound.Fork.{forked-no_new}
 use Rattle.av_plain.proofs.Sound.Mremap.{moved-no_new}

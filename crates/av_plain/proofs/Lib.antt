@@ -21,8 +21,11 @@ pub mod FreeSlots
 pub mod FreeLists
 pub mod FreeSteps
 pub mod AreasLeft
+pub mod Chains
 pub mod Covered
 pub mod Compacted
 pub mod OneFrame
 pub mod OneMerge
 pub mod Device
+pub mod Midway
+pub mod Items

@@ -54,7 +54,6 @@ use Rattle.av_plain.proofs.Zap.{in_order-after_zap, same_swap-after_zap, slot_en
 use Rattle.av_plain.specs.Lock.{BringsIn, accesses_of, lock_event, with_lock}
 use Rattle.av_base.specs.Page.{pages_met}
 use Rattle.av_plain.specs.World.{pages_to_hole}
-use Rattle.av_plain.specs.Pass.{is_spared}
 use Rattle.av_base.specs.Page.{page_of}
 use Rattle.av_trace.specs.declared.reply.Answer.TheVariants.{Refused}
 use Rattle.av_trace.specs.declared.reply.Errno.TheVariants.{Enomem}

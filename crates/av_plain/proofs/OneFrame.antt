@@ -1,4 +1,4 @@
--- After a merge the candidates with equal bytes have one frame.
+-- After a merge the candidates with equal bytes have one frame, and no page has other bytes.
 use Rattle.std.proofs.Common.{◌≡◌, ◌⊎◌, inl, inr, ℕ, zero, suc, ◌+◌, ◌<◌, ◌≤◌, Bool, true, false, cond, not, ◌&&◌, ◌||◌, nat_lt, T, List, [], ◌∷◌, ◌++◌, map, Option, Some, None, is_some, refl, sym, ap, subst, ◌∙◌, arith, ◌==◌}
 use Rattle.std.proofs.lemmas.Bool.{false≢true}
 use Rattle.std.proofs.lemmas.Bool.Decides.{nat_tests}
@@ -6,15 +6,13 @@ use Rattle.std.specs.FinMap.Entries.{find as find_in, is_sorted}
 use Rattle.std.specs.List.{find, list_all, list_any, range_with_len}
 use Rattle.std.specs.Option.{option_or}
 use Rattle.std.specs.Prelude.{IfSome, IsSome, IsSomeAnd, option_and_then}
-use Rattle.av_base.specs.Page.{address_of, page_size}
-use Rattle.av_base.specs.Words.{how_many}
-use Rattle.av_trace.specs.declared.note.Note.{Note}
-use Rattle.av_trace.specs.declared.note.Note.TheVariants.{Joined, Shared}
+use Rattle.av_base.specs.Page.{page_size}
+use Rattle.av_trace.specs.declared.note.Note.TheVariants.{Shared}
 use Rattle.av_trace.specs.declared.reply.Answer.{Answer}
 use Rattle.av_trace.specs.declared.row.Row.{Row}
 use Rattle.av_plain.specs.Event.{Event, after_all, after_note, after_notes, change_frame, frame_of, set_entry}
-use Rattle.av_plain.specs.Ledger.{Entry, InFrame, Key, Ledger, Setting, entry, is_merged, key_cmp, names_frame}
-use Rattle.av_plain.specs.Merge.{ClaimSame, FrameBytes, Has, HoldClaims, Merges, candidate, candidates, with_page, frame_named, hold_same, join_notes, merge_notes, merged_like, merges, other_like, with_candidate}
+use Rattle.av_plain.specs.Ledger.{Entry, InFrame, InSlot, Key, Ledger, Setting, Zero, entry, is_merged, key_cmp, names_frame}
+use Rattle.av_plain.specs.Merge.{ClaimSame, FrameBytes, Has, HasJoined, HoldClaims, Merges, candidate, candidates, with_page, frame_named, hold_same, join_notes, merge_notes, merged_like, merges, other_like, with_candidate}
 use Rattle.av_plain.specs.Sound.{AllSound, IsSound, mergings}
 use Rattle.av_plain.specs.World.{Holds as HoldsAt, Page, World, pages}
 use Rattle.av_plain.specs.Covered.{IsOfFrame}
@@ -604,6 +602,167 @@ module _ (m : Setting) (held : FrameBytes) where
         (λ f h j none in_h in_j at_h at_j. absurd (false≢true in_h)) (keys-apart l.entries s.ledger.in_order) c has in
         one-frame l s c d has_c has_d (claims-hold l holds c.0 d.0 c.1 d.1 (named c has_c) (named d has_d) claims)
 
+    -- ---- what becomes of each entry
+
+    -- it stays, or names a merged frame that holds the same
+    abbrev Became : Ledger → Ledger → Key → Type 0
+    Became l l' k = (entry l' k ≡ entry l k) ⊎ HasJoined held l l' k
+
+    -- a turn leaves merged frames merged, and its page's entry so
+    record Makes (l l' : Ledger) (k : Key) : Type 0 where
+      merged : (x : ℕ) → is_merged l x ≡ true → is_merged l' x ≡ true
+      became : Became l l' k
+
+    makes : (l : Ledger) (earlier : List ℕ) (k : Key) → Holds m w l → AreBefore held l earlier
+        → Makes l (after_notes l (merge_notes m held l earlier k (candidate w l k))) k
+    makes l earlier k holds before = by (candidate w l k) refl
+      where
+        into : (f g : ℕ) (l1 : Ledger) → IsCandidate w l k f → entry l1 k ≡ entry l k → mergings l1 f ≡ 0
+            → ((x : ℕ) → is_merged l x ≡ true → is_merged l1 x ≡ true) → is_merged l1 g ≡ true → hold_same held g f ≡ true
+            → Makes l (change_frame k g l1) k
+        into f g l1 c at unmerged still merged like = record {
+          merged = λ x is. joined-merged l1 k g f c.seen (at ∙ c.names) unmerged x ∙ still x is;
+          became = inr (record {
+            was = f;
+            frame = g;
+            named = ap (option_and_then frame_of) c.names;
+            entry_is = joined-entry l1 k g k ∙ ap (λ b. cond b (Some (InFrame g false)) (entry l1 k)) (same_key-itself k);
+            merged = joined-merged l1 k g f c.seen (at ∙ c.names) unmerged g ∙ merged;
+            same = like;
+          });
+        }
+
+        more : (j x : ℕ) → mergings (after_note (Shared j) l) x ≡ mergings l x + (cond (x == j) 1 0 + 0)
+        more j x = how_many-append (λ y. x == y) l.merged (j ∷ [])
+
+        shared : (j x : ℕ) → is_merged (after_note (Shared j) l) x ≡ (is_merged l x || x == j)
+        shared j x = any-counts (λ y. x == y) (after_note (Shared j) l).merged ∙ some-more (mergings l x) (x == j) _ (more j x)
+            ∙ ap (λ b. b || x == j) (sym (any-counts (λ y. x == y) l.merged))
+
+        right : (a b : Bool) → b ≡ true → (a || b) ≡ true
+        right true b h = refl
+        right false b h = h
+
+        joins : (f : ℕ) → IsCandidate w l k f → (a : Option ℕ) → merged_like m held l f ≡ a → (b : Option ℕ) → other_like held earlier f ≡ b
+            → Makes l (after_notes l (join_notes k a b)) k
+        joins f c (Some g) at b at' = let x = like-is l f g at in
+            subst (λ q. Makes l (change_frame q g l) k) (sym (key_at-address k)) (into f g l c refl c.unmerged (λ x is. is) x.0 x.1)
+        joins f c None at (Some j) at' =
+            let o = other-waits m held l f j earlier holds.sound before at at' in
+            subst (λ q. Makes l (change_frame q j (after_note (Shared j) l)) k) (sym (key_at-address k))
+            (into f j (after_note (Shared j) l) c refl
+            (let e = more j f in let d = flag _ _ (same-turned f j ∙ o.apart) in let z = c.unmerged in omega (arith, e, d, z))
+            (λ x is. shared j x ∙ ap (λ b. b || x == j) is) (shared j j ∙ right (is_merged l j) (j == j) (same-itself j)) o.same)
+        joins f c None at None at' = record { merged = λ x is. is; became = inl refl }
+
+        by : (o : Option ℕ) → candidate w l k ≡ o → Makes l (after_notes l (merge_notes m held l earlier k o)) k
+        by None is = record { merged = λ x is. is; became = inl refl }
+        by (Some f) is = joins f (candidate-is w l k f is) (merged_like m held l f) refl (other_like held earlier f) refl
+
+    -- so do the turns that follow
+    merged-stays : (l : Ledger) (earlier : List ℕ) (ks : List Key) → Holds m w l → AreBefore held l earlier → AreOne l earlier → (x : ℕ)
+        → is_merged l x ≡ true → is_merged (ended l earlier ks) x ≡ true
+    merged-stays l earlier [] holds before one x is = is
+    merged-stays l earlier (k ∷ ks) holds before one x is =
+        let t = turn l earlier k holds before one in
+        ap (λ y. is_merged y x) (ended-is l earlier k ks)
+        ∙ merged-stays (after_notes l (merge_notes m held l earlier k (candidate w l k))) (with_candidate earlier (candidate w l k)) ks
+        t.holds t.before t.parts.one x ((makes l earlier k holds before).merged x is)
+
+    -- and a page that isn't theirs keeps its entry
+    entry-stays : (l : Ledger) (earlier : List ℕ) (ks : List Key) → Holds m w l → AreBefore held l earlier → AreOne l earlier → (q : Key)
+        → AreOthers q ks → entry (ended l earlier ks) q ≡ entry l q
+    entry-stays l earlier [] holds before one q others = refl
+    entry-stays l earlier (k ∷ ks) holds before one q others =
+        let t = turn l earlier k holds before one in
+        ap (λ y. entry y q) (ended-is l earlier k ks)
+        ∙ entry-stays (after_notes l (merge_notes m held l earlier k (candidate w l k))) (with_candidate earlier (candidate w l k)) ks
+        t.holds t.before t.parts.one q (other-rest q k ks others) ∙ t.parts.others q (other-first q k ks others)
+
+    becomes : (l : Ledger) (earlier : List ℕ) (ks : List Key) → Holds m w l → AreBefore held l earlier → AreOne l earlier → AreApart ks → (q : Key)
+        → Became l (ended l earlier ks) q
+    becomes l earlier [] holds before one apart q = inl refl
+    becomes l earlier (k ∷ ks) holds before one apart q = subst (λ y. Became l y q) (sym (ended-is l earlier k ks))
+        (by (becomes l' earlier' ks t.holds t.before t.parts.one apart.1 q) (same_key q k) refl)
+      where
+        l' : Ledger
+        l' = after_notes l (merge_notes m held l earlier k (candidate w l k))
+
+        earlier' : List ℕ
+        earlier' = with_candidate earlier (candidate w l k)
+
+        t : Turn l earlier k
+        t = turn l earlier k holds before one
+
+        -- its own turn
+        mine : Became l l' k → Became l (ended l' earlier' ks) k
+        mine (inl e) = inl (entry-stays l' earlier' ks t.holds t.before t.parts.one k apart.0 ∙ e)
+        mine (inr x) = inr (record {
+          was = x.was;
+          frame = x.frame;
+          named = x.named;
+          entry_is = entry-stays l' earlier' ks t.holds t.before t.parts.one k apart.0 ∙ x.entry_is;
+          merged = merged-stays l' earlier' ks t.holds t.before t.parts.one x.frame x.merged;
+          same = x.same;
+        })
+
+        -- a later one
+        later : same_key q k ≡ false → Became l' (ended l' earlier' ks) q → Became l (ended l' earlier' ks) q
+        later other (inl e) = inl (e ∙ t.parts.others q other)
+        later other (inr x) = inr (record {
+          was = x.was;
+          frame = x.frame;
+          named = ap (option_and_then frame_of) (sym (t.parts.others q other)) ∙ x.named;
+          entry_is = x.entry_is;
+          merged = x.merged;
+          same = x.same;
+        })
+
+        by : Became l' (ended l' earlier' ks) q → (b : Bool) → same_key q k ≡ b → Became l (ended l' earlier' ks) q
+        by again true is = subst (Became l (ended l' earlier' ks)) (sym (same_key-is q k is)) (mine (makes l earlier k holds before).became)
+        by again false is = later is again
+
+    -- ---- what frames hold
+
+    all-in : (p : ℕ → Bool) (a n : ℕ) → list_all p (range_with_len a n) ≡ true → (i : ℕ) → a ≤ i → i < a + n → p i ≡ true
+    all-in p a zero h i low high = absurd (omega (arith, low, high))
+    all-in p a (suc n) h i low high = let two = split (p a) (list_all p (range_with_len (a + 1) n)) h in by two.0 (all-in p (a + 1) n two.1 i) (i == a) refl
+      where
+        by : p a ≡ true → (a + 1 ≤ i → i < (a + 1) + n → p i ≡ true) → (b : Bool) → (i == a) ≡ b → p i ≡ true
+        by here again true is = ap p (same-is i a is) ∙ here
+        by here again false is = again (grind (arith, nat_tests, is, low)) (omega (arith, high))
+
+    -- a frame that holds the same holds what the page claims
+    holds-same : (x : Option Page) (f g : ℕ) → hold_same held g f ≡ true → HoldsAt x (held f) → HoldsAt x (held g)
+    holds-same None f g like h = tt
+    holds-same (Some p) f g like h = λ i low. by i (all-in (λ i. held g i == held f i) 0 page_size like i (omega arith) (omega (arith, low))) (p.bytes i) (h i low)
+      where
+        by : (i : ℕ) → (held g i == held f i) ≡ true → (o : Option ℕ) → IfSome o (λ b. held f i ≡ b) → IfSome o (λ b. held g i ≡ b)
+        by i is None h = tt
+        by i is (Some b) h = same-is (held g i) (held f i) is ∙ h
+
+    -- each page that joined a frame claims what that holds
+    pub still-held : (l l' : Ledger) → HoldClaims w l held → ((k : Key) → Became l l' k) → HoldClaims w l' held
+    still-held l l' holds became k f names = by (became k)
+      where
+        named : (o : Option Entry) (f : ℕ) → option_and_then frame_of o ≡ Some f → IsSomeAnd o (λ e. names_frame f e ≡ true)
+        named None f is = cc
+        named (Some Zero) f is = cc
+        named (Some (InSlot s)) f is = cc
+        named (Some (InFrame j seen)) f is = let same : j ≡ f = cc in ap (λ x. f == x) same ∙ same-itself f
+
+        by : Became l l' k → HoldsAt (pages w k.0 k.1) (held f)
+        by (inl e) = holds k f (subst (λ o. IsSomeAnd o (λ e. names_frame f e ≡ true)) e names)
+        by (inr x) =
+            let is : (f == x.frame) ≡ true = subst (λ o. IsSomeAnd o (λ e. names_frame f e ≡ true)) x.entry_is names in
+            subst (λ g. HoldsAt (pages w k.0 k.1) (held g)) (sym (same-is f x.frame is))
+            (holds-same (pages w k.0 k.1) x.was x.frame x.same (holds k x.was (named (entry l k) x.was x.named)))
+
+    pub all-become : (l : Ledger) → AllSound m w l → (k : Key)
+        → Became l (after_notes l (merges m held w l [] (map (λ (e : Key × Entry). e.0) l.entries))) k
+    all-become l s k = becomes l [] (map (λ (e : Key × Entry). e.0) l.entries) (of-sound m w l s) (λ j in_list. absurd (false≢true in_list))
+        (λ f h j none in_h in_j at_h at_j. absurd (false≢true in_h)) (keys-apart l.entries s.ledger.in_order) k
+
 -- so it is after the command
 pub merge-one_frame : (m : Setting) (w : World) (l : Ledger) (events : List Event) (answer : Answer) (rows : List Row) → AllSound m w l
     → (h : Merges m w l events answer rows) (c d : Key × ℕ) → Has c (candidates m h.0 w l [] (map (λ (e : Key × Entry). e.0) l.entries))
@@ -612,3 +771,14 @@ pub merge-one_frame : (m : Setting) (w : World) (l : Ledger) (events : List Even
 merge-one_frame m w l events answer rows s h c d has_c has_d same = subst (λ x. frame_named x c.0 ≡ frame_named x d.0)
     (sym (ap (after_all l) h.2 ∙ note_events-all l (merges m h.0 w l [] (map (λ (e : Key × Entry). e.0) l.entries))))
     (equal-bytes m h.0 w l s h.1 c d has_c has_d same)
+
+-- each entry stays, or names a merged frame that holds the same
+pub merge-joins : (m : Setting) (w : World) (l : Ledger) (events : List Event) (answer : Answer) (rows : List Row) → AllSound m w l
+    → (h : Merges m w l events answer rows) (k : Key) → (entry (after_all l events) k ≡ entry l k) ⊎ HasJoined h.0 l (after_all l events) k
+merge-joins m w l events answer rows s h k = subst (λ x. (entry x k ≡ entry l k) ⊎ HasJoined h.0 l x k)
+    (sym (ap (after_all l) h.2 ∙ note_events-all l (merges m h.0 w l [] (map (λ (e : Key × Entry). e.0) l.entries)))) (all-become m h.0 w l s k)
+
+-- so no page has other bytes
+pub merge-bytes : (m : Setting) (w : World) (l : Ledger) (events : List Event) (answer : Answer) (rows : List Row) → AllSound m w l
+    → (h : Merges m w l events answer rows) → HoldClaims w (after_all l events) h.0
+merge-bytes m w l events answer rows s h = still-held m h.0 w l (after_all l events) h.1 (merge-joins m w l events answer rows s h)

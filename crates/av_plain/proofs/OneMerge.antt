@@ -1,13 +1,12 @@
 -- A merge over pages that claim each byte has one list of notes, and so has a compaction.
-use Rattle.std.proofs.Common.{◌≡◌, ◌⊎◌, inl, inr, ℕ, zero, suc, ◌+◌, ◌<◌, ◌≤◌, Bool, true, false, cond, not, ◌&&◌, ◌||◌, nat_lt, T, List, [], ◌∷◌, ◌++◌, map, Option, Some, None, is_some, refl, sym, ap, subst, ◌∙◌, arith, ◌==◌}
+use Rattle.std.proofs.Common.{◌≡◌, ℕ, zero, suc, ◌+◌, ◌<◌, ◌≤◌, Bool, true, false, cond, not, ◌&&◌, ◌||◌, List, [], ◌∷◌, ◌++◌, Option, Some, None, is_some, refl, sym, ap, subst, ◌∙◌, arith, ◌==◌}
 use Rattle.std.proofs.lemmas.Bool.{false≢true}
-use Rattle.std.proofs.lemmas.Bool.Decides.{nat_tests}
 use Rattle.std.specs.List.{find, list_all, list_any, range_with_len}
 use Rattle.std.specs.Prelude.{IfSome, IsSomeAnd}
-use Rattle.av_base.specs.Page.{address_of, page_size}
+use Rattle.av_base.specs.Page.{page_size}
 use Rattle.av_trace.specs.declared.note.Note.{Note}
-use Rattle.av_trace.specs.declared.note.Note.TheVariants.{Joined, Shared}
-use Rattle.av_plain.specs.Compact.{MovesDown, next_move}
+use Rattle.av_trace.specs.declared.note.Note.TheVariants.{Shared}
+use Rattle.av_plain.specs.Compact.{MovesDown}
 use Rattle.av_plain.specs.Covered.{IsOfFrame}
 use Rattle.av_plain.specs.Event.{after_note, after_notes, change_frame, set_entry}
 use Rattle.av_plain.specs.Ledger.{Entry, InFrame, Key, Ledger, Setting, entry, is_merged, names_frame}
@@ -19,7 +18,7 @@ use Rattle.av_plain.proofs.Covered.Swap.{merged-settled_entry, settled_entry-ent
 use Rattle.av_plain.proofs.Ledger.{entry-set, same_key}
 use Rattle.av_plain.proofs.Ledger.NoSwap.{key_at-address}
 use Rattle.av_plain.proofs.Sound.Counts.{same-is, same-itself}
-use Rattle.av_plain.proofs.Sound.Frames.{IsCandidate, candidate-is, found-is, positive, split}
+use Rattle.av_plain.proofs.Sound.Frames.{candidate-is, found-is, positive, split}
 use Rattle.av_plain.proofs.Sound.Changes.{any-counts}
 
 -- ---- a compaction

@@ -1,6 +1,5 @@
--- A command that is refused changes nothing, but for the protection of the pages before a hole.
-use Rattle.std.proofs.Common.{◌≡◌, ◌⊎◌, inl, inr, ℕ, ◌<◌, ◌≤◌, Bool, true, false, cond, not, List, [], Option, Some, None, is_some, refl, sym, ap, subst, ◌∙◌, arith, ◌==◌, if◌then◌else◌}
-use Rattle.std.proofs.lemmas.Bool.Decides.{nat_tests}
+-- A command that is refused changes nothing, but for those that end midway.
+use Rattle.std.proofs.Common.{◌≡◌, ℕ, Bool, true, false, cond, not, List, [], Option, Some, None, is_some, refl, sym, ap, subst, ◌∙◌, if◌then◌else◌}
 use Rattle.std.specs.Option.{option_map_or}
 use Rattle.std.specs.Prelude.{◌||◌, MatchOption, length, nat_le}
 use Rattle.av_trace.specs.declared.command.Command.{Command}
@@ -27,14 +26,13 @@ use Rattle.av_plain.specs.Event.{Event, after_all}
 use Rattle.av_plain.specs.Fault.{Denied, Lost, Starved, Stop}
 use Rattle.av_plain.specs.Ledger.{Entry, InFrame, InSlot, Ledger, Setting, Zero, entry}
 use Rattle.av_plain.specs.Load.{with_loads}
-use Rattle.av_plain.specs.Map.{StopsAtHole, with_prot_to_hole, zaps_for_place}
+use Rattle.av_plain.specs.Map.{with_prot_to_hole, zaps_for_place}
 use Rattle.av_plain.specs.Mremap.{events_to, have_prot, is_in_place, target_of}
 use Rattle.av_plain.specs.Place.{Goes, IsMapAt}
 use Rattle.av_plain.specs.Refusal.{Refuses, is_bad_range, locks_too_many, ends_too_high, are_bad_lengths, is_below_low, may_end_midway, is_no_target, is_tail_too_high, lacks_pages, refusal, tests, wraps}
 use Rattle.av_plain.specs.Report.{entry_answer, walk_answer}
 use Rattle.av_plain.specs.Step.{Follows, IsLegal, next, next_world}
-use Rattle.av_plain.specs.World.{Page, Process, World, lives, pages, pages_to_hole}
-use Rattle.av_plain.proofs.World.Ranges.{pages_to_hole-most}
+use Rattle.av_plain.specs.World.{Page, Process, World, lives, pages}
 use Rattle.av_trace.specs.declared.command.Command.TheVariants.{Compact, Merge}
 
 -- without events nothing is loaded
@@ -228,7 +226,7 @@ refused-areas m w l long on Compact error is = refl
 
 -- ---- a refusal that no test gives
 
-no-refusal : {e : Errno} {answer : Answer} → answer ≡ Refused e → answer ≡ Done → ⊥
+pub no-refusal : {e : Errno} {answer : Answer} → answer ≡ Refused e → answer ≡ Done → ⊥
 no-refusal e d = cc
 
 -- a read or write that stops is no refusal
@@ -241,7 +239,7 @@ read-refused : (a : ℕ) (end : End) (shown : List ℕ) (error : Errno) → Refu
 read-refused a Whole shown error h = cc
 read-refused a (Stopped page stop) shown error h = stops-refused stop (bytes_before a page) shown error h
 
-write-refused : (a : ℕ) (end : End) (error : Errno) → Refused error ≡ write_answer a end → ⊥
+pub write-refused : (a : ℕ) (end : End) (error : Errno) → Refused error ≡ write_answer a end → ⊥
 write-refused a Whole error h = cc
 write-refused a (Stopped page stop) error h = stops-refused stop (bytes_before a page) [] error h
 
@@ -305,7 +303,7 @@ follows-refused m w now l Compact events error rows other h = let e = h.3 in cc
 -- ---- the law
 
 -- what is legal and refused
-refused-by : (m : Setting) (w : World) (l : Ledger) (command : Command) (reply : Reply) (events : List Event) (error : Errno) (P : Type 0) →
+pub refused-by : (m : Setting) (w : World) (l : Ledger) (command : Command) (reply : Reply) (events : List Event) (error : Errno) (P : Type 0) →
     IsLegal m w l command reply events → reply.answer ≡ Refused error
     → (refusal (tests m w l command) ≡ Some error → events ≡ [] → P) →
     (refusal (tests m w l command) ≡ None → Follows m w l command events (Refused error) reply.rows → P) → P
@@ -316,7 +314,19 @@ refused-by m w l command reply events error P legal is told met = by (refusal (t
     by None e h = met e (subst (λ a. Follows m w l command events a reply.rows) is h)
     by (Some other) e h = let same : other ≡ error = (let both = sym h.0 ∙ is in cc) in told (e ∙ ap Some same) h.1
 
--- the memories and the ledger stay
+-- a command that one of its tests refuses leaves the memories and the ledger
+pub refused-tested : (m : Setting) (w : World) (l : Ledger) (command : Command) (reply : Reply) (events : List Event) (error : Errno) →
+    refusal (tests m w l command) ≡ Some error → IsLegal m w l command reply events
+    → (reply.answer ≡ Refused error) × (next_world m w l events command reply.answer ≡ w) × (after_all l events ≡ l)
+refused-tested m w l command reply events error is legal =
+    let told = subst (λ o. MatchOption o (Follows m w l command events reply.answer reply.rows)
+    (λ error. Refuses error events reply.answer reply.rows)) is legal.answer in (
+      told.0,
+      ap (next (with_loads m w l events) command) told.0 ∙ refused-next m w (with_loads m w l events) l command error is ∙ loads-none m w l events told.1,
+      ap (after_all l) told.1,
+    )
+
+-- so does one that ends before it did anything
 pub refused-nothing : (m : Setting) (w : World) (l : Ledger) (command : Command) (reply : Reply) (events : List Event) (error : Errno) →
     may_end_midway command ≡ false → IsLegal m w l command reply events → reply.answer ≡ Refused error
     → (next_world m w l events command reply.answer ≡ w) × (after_all l events ≡ l)
@@ -332,44 +342,3 @@ refused-nothing m w l command reply events error other legal is =
 pub refused-swapoff : (m : Setting) (w : World) (l : Ledger) (k : ℕ) (reply : Reply) (events : List Event) →
     next_world m w l events (Swapoff k) reply.answer ≡ with_loads m w l events
 refused-swapoff m w l k reply events = refl
-
--- and after an mprotect, but for the pages before a hole
-pub refused-mprotect : (m : Setting) (w : World) (l : Ledger) (p a len : ℕ) (prot : Prot) (reply : Reply) (events : List Event) (error : Errno) →
-    IsLegal m w l (Mprotect p a len prot) reply events → reply.answer ≡ Refused error
-    → ((next_world m w l events (Mprotect p a len prot) reply.answer ≡ w) ⊎ StopsAtHole w p a len prot error
-    (next_world m w l events (Mprotect p a len prot) reply.answer)) × (after_all l events ≡ l)
-refused-mprotect m w l p a len prot reply events error legal is = refused-by m w l (Mprotect p a len prot) reply events error _ legal is
-    (λ e none. (
-      inl (ap (next (with_loads m w l events) (Mprotect p a len prot)) is ∙ refused-next m w (with_loads m w l events) l (Mprotect p a len prot) error
-          e ∙ loads-none m w l events none),
-      ap (after_all l) none,
-    ))
-    (λ e h. (inr (stopped e h.0 (loads-none m w l events h.1)), ap (after_all l) h.1))
-  where
-    in_reach : (b c d : Bool) → cond (not b) (Some Esrch) (cond (not c) (Some Einval) (cond d (Some Enomem) None)) ≡ None → d ≡ false
-    in_reach false c d h = cc
-    in_reach true false d h = cc
-    in_reach true true true h = cc
-    in_reach true true false h = refl
-
-    -- fewer than all are mapped, and the error is ENOMEM
-    short : (k n : ℕ) → k ≤ n → (b : Bool) → (k == n) ≡ b → Refused error ≡ (if b then Done else Refused Enomem) → (error ≡ Enomem) × (k < n)
-    short k n most true e h = cc
-    short k n most false e h = ((let same : error ≡ Enomem = cc in same), grind (arith, nat_tests, e, most))
-
-    stopped : refusal (tests m w l (Mprotect p a len prot)) ≡ None →
-        Refused error ≡ (if pages_to_hole (pages w p) (page_of a) (pages_of len) == pages_of len then Done else Refused Enomem)
-        → with_loads m w l events ≡ w
-        → StopsAtHole w p a len prot error (next_world m w l events (Mprotect p a len prot) reply.answer)
-    stopped e h none =
-        let hole = short (pages_to_hole (pages w p) (page_of a) (pages_of len)) (pages_of len)
-        (pages_to_hole-most (pages w p) (page_of a) (pages_of len))
-        (pages_to_hole (pages w p) (page_of a) (pages_of len) == pages_of len) refl h in
-        let reach = in_reach (lives w p) (is_on_page a) (wraps a len) e in
-        record {
-          error_is = hole.0;
-          in_reach = reach;
-          hole = hole.1;
-          before = (λ i. next (none i) (Mprotect p a len prot) ((is ∙ ap Refused hole.0) i))
-              ∙ ap (λ b. if b then w else with_prot_to_hole w p (page_of a) (pages_of len) prot) reach;
-        }

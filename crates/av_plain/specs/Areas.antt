@@ -3,7 +3,8 @@
 -- what was there and the memories before it, its events, the command and its answer. They are not
 -- part of what makes a reply legal.
 use Rattle.std.specs.Prelude.{◌≡◌, ℕ, suc, ◌+◌, if◌then◌else◌, Bool, true, List, [], ◌∷◌, length}
-use Rattle.std.specs.Prelude.{Option, Some, None, IsSome, IsSomeAnd, option_map, ◌++◌, ◌&&◌, ◌==◌}
+use Rattle.std.specs.Prelude.{Option, Some, None, IfSome, IsSome, IsSomeAnd, option_map, ◌++◌}
+use Rattle.std.specs.Prelude.{◌&&◌, ◌==◌}
 use Rattle.std.specs.List.{list_any}
 use Rattle.std.specs.Option.{option_map_or}
 use Rattle.av_base.specs.Flags.{no_flags}
@@ -22,6 +23,7 @@ use Rattle.av_trace.specs.declared.reply.Errno.TheVariants.{Enomem}
 use Rattle.av_trace.specs.declared.note.Note.{Note}
 use Rattle.av_trace.specs.declared.note.Note.TheVariants.{New, Copied, Loaded, Shared, Joined}
 use Rattle.av_trace.specs.declared.note.Note.TheVariants.{Moved}
+use Rattle.av_trace.specs.Row.{AreRising}
 use Rattle.av_vma.specs.Pages.{Lengths, Pages, after_map, after_prepare, after_unmap, home_of}
 use Rattle.av_vma.specs.Pages.{makes_anon, pages_changed, to_flag, to_prot}
 use Rattle.av_vma.specs.declared.area.Area.{Area}
@@ -76,6 +78,11 @@ chain_by anons (Some own) = option_map_or (λ (v : AnonVma). v.chain) (anons.ano
 abbrev pub chain_length : Anons → Lengths
 chain_length anons own = length (chain_by anons own)
 
+-- the chain of each anon_vma rises, and its last is below the number of the one that is made next
+abbrev pub ChainsRise : Anons → Type 0
+ChainsRise anons =
+    (v : ℕ) → IfSome (anons.anon v) (λ anon. AreRising (anon.chain ++ anons.next ∷ []))
+
 -- an area is linked to the anon_vma: it is in the area's chain
 abbrev pub IsLinked : Anons → Areas → ℕ → Type 0
 IsLinked anons on v = (p : ℕ) × (page : ℕ)
@@ -90,8 +97,9 @@ pub record AreLeft (anons : Anons) (on : Areas) (left : Anons) : Type 0 where
 
 -- ---- homes
 
--- for each frame that a page got, its home: an anon_vma and a linear index. Until its first page a
--- frame has none; one that is free keeps the last
+-- for each frame that a page got, its home: an anon_vma and a linear index. A frame has none until
+-- its first page, and none from where it is merged to the next page that it gets; else one that is
+-- free keeps the last
 abbrev pub Homes : Type 0
 Homes = ℕ → Option (ℕ × ℕ)
 

@@ -1,15 +1,14 @@
 -- Compaction: the frames in use become the lowest ones.
 use Rattle.std.specs.List.{find, range_with_len}
 use Rattle.std.specs.Prelude.{◌≡◌, ℕ, not, if◌then◌else◌, nat_lt, List, [], ◌∷◌, ◌++◌, reverse}
-use Rattle.std.specs.Prelude.{Option, Some, None, ℕ, ◌<◌, length}
-use Rattle.av_base.specs.declared.slot.Slot.{Slot}
+use Rattle.std.specs.Prelude.{Option, Some, None, ◌<◌}
 use Rattle.av_trace.specs.declared.note.Note.{Note}
 use Rattle.av_trace.specs.declared.note.Note.TheVariants.{Moved}
 use Rattle.av_trace.specs.declared.reply.Answer.{Answer}
 use Rattle.av_trace.specs.declared.reply.Answer.TheVariants.{Done}
 use Rattle.av_trace.specs.declared.row.Row.{Row}
-use Rattle.av_plain.specs.Event.{Event, FreeSorted, after_note, note_events}
-use Rattle.av_plain.specs.Ledger.{Ledger, Setting, is_free, slot_count, walk}
+use Rattle.av_plain.specs.Event.{Event, FreeSorted, after_note, note_events, with_places}
+use Rattle.av_plain.specs.Ledger.{Ledger, Setting, is_free, walk}
 use Rattle.av_plain.specs.Pass.{how_many_frames}
 use Rattle.av_plain.specs.Sound.{uses}
 
@@ -42,18 +41,13 @@ Compacts m l events answer rows = (notes : List Note) × MovesDown m l notes
 
 -- ---- what the command leaves
 
--- the lists are as long as before, and each slot is counted as before
-pub record IsCompacted (l l' : Ledger) : Type 0 where
-  pub active : length l'.active ≡ length l.active
-  pub inactive : length l'.inactive ≡ length l.inactive
-  pub flight : l'.flight ≡ l.flight
-  pub on : l'.on ≡ l.on
-  pub counts : (t : Slot) → slot_count l' t ≡ slot_count l t
-
--- the frames in use are the lowest, and each walk is that of the frame it went over from
-pub record AreLowest (m : Setting) (l l' : Ledger) : Type 0 where
+-- each frame in use has a place of its own, where the ledger has all that it had of the frame: its
+-- walk, with each seen bit, and its place in the cache, in its list and among the merged ones. The
+-- frames in use are the lowest then
+pub record IsCompacted (m : Setting) (l l' : Ledger) : Type 0 where
   pub place : ℕ → ℕ
+  pub goes : l' ≡ with_places place l
+  pub apart : (f g : ℕ) → 0 < uses l f → 0 < uses l g → place f ≡ place g → f ≡ g
   pub walks : (f : ℕ) → 0 < uses l f → walk l' (place f) ≡ walk l f
   pub lowest : (f : ℕ) → f < m.frames
       → not (is_free l' f) ≡ nat_lt f (how_many_frames m (λ g. not (is_free l' g)))
-  pub same : IsCompacted l l'

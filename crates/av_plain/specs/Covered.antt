@@ -5,7 +5,7 @@ use Rattle.std.specs.Prelude.{◌≡◌, ◌<◌, ◌≤◌, ℕ, true, false, S
 use Rattle.av_base.specs.declared.slot.Slot.{Slot}
 use Rattle.av_base.specs.Words.{how_many, is_in}
 use Rattle.av_vma.specs.Index.{index_of}
-use Rattle.av_plain.specs.Areas.{AnonVma, Anons, Rmap, chain_by, root_of, same_item}
+use Rattle.av_plain.specs.Areas.{AnonVma, Anons, ChainsRise, Rmap, chain_by, root_of, same_item}
 use Rattle.av_plain.specs.Ledger.{Key, Ledger, entry, frame_at, is_merged, names_frame}
 use Rattle.av_plain.specs.Ledger.{names_slot}
 
@@ -24,10 +24,11 @@ abbrev pub AreCovered : Ledger → Rmap → Type 0
 AreCovered l r = (k : Key) (f : ℕ) → IsOfFrame l f k → is_merged l f ≡ false
     → IsSomeAnd (r.homes f) (IsReached r k)
 
--- what is true at all times: each anon_vma that is there was made, an area's own one is in its
--- chain, and the entries are covered
+-- what is true at all times: each anon_vma that is there was made, chains rise, an area's own one is
+-- in its chain, and the entries are covered
 pub record IsRmapSound (l : Ledger) (r : Rmap) : Type 0 where
   pub made : (v : ℕ) → IsSome (r.anons.anon v) → v < r.anons.next
+  pub rising : ChainsRise r.anons
   pub own : (p page v : ℕ) → IsSomeAnd (r.areas p page) (λ area. area.anon ≡ Some v)
       → is_in v (chain_by r.anons (Some v)) ≡ true
   pub covered : AreCovered l r

@@ -125,23 +125,23 @@ settle_entry (Some e) l = if_some (frame_of e) settle l
 abbrev pub change_frame : Key → ℕ → Ledger → Ledger
 change_frame k f l = settle_entry (entry l k) (set_entry k (InFrame f false) l)
 
--- ---- a frame goes over to another
+-- ---- frames at other places
 
--- the entry, with its seen bit
-abbrev pub renamed_entry : ℕ → ℕ → Entry → Entry
-renamed_entry from to Zero = Zero
-renamed_entry from to (InFrame f seen) = InFrame (renamed from to f) seen
-renamed_entry from to (InSlot s) = InSlot s
+-- the entry of a frame names its place, and keeps its seen bit
+abbrev pub placed_entry : (ℕ → ℕ) → Entry → Entry
+placed_entry place Zero = Zero
+placed_entry place (InFrame f seen) = InFrame (place f) seen
+placed_entry place (InSlot s) = InSlot s
 
--- each entry of the one frame is one of the other, which has its place in the cache, in its list
+-- each frame is at its place in all that the ledger says: in its entries, in the cache, in its list
 -- and among the merged ones
-abbrev pub with_renamed : ℕ → ℕ → Ledger → Ledger
-with_renamed from to l = record l {
-  entries = map (λ e. (e.0, renamed_entry from to e.1)) l.entries;
-  cache = map (λ (c : Cached). record c { frame = renamed from to c.frame }) l.cache;
-  active = map (renamed from to) l.active;
-  inactive = map (renamed from to) l.inactive;
-  merged = map (renamed from to) l.merged;
+abbrev pub with_places : (ℕ → ℕ) → Ledger → Ledger
+with_places place l = record l {
+  entries = map (λ e. (e.0, placed_entry place e.1)) l.entries;
+  cache = map (λ (c : Cached). record c { frame = place c.frame }) l.cache;
+  active = map place l.active;
+  inactive = map place l.inactive;
+  merged = map place l.merged;
 }
 
 -- ---- what a note changes
@@ -172,7 +172,7 @@ after_note (Kept f Ksm) l = to_active f l
 after_note (Aged f) l = to_inactive_head f (change_entries f without_seen l)
 after_note (Shared f) l = record l { merged = l.merged ++ f ∷ [] }
 after_note (Joined p a f) l = change_frame (key_at p a) f l
-after_note (Moved from to) l = with_renamed from to l
+after_note (Moved from to) l = with_places (renamed from to) l
 
 -- the ledger after some notes
 abbrev pub after_notes : Ledger → List Note → Ledger

@@ -56,7 +56,7 @@ pub record HasNumbers (area : SwapArea) (h : Layout) : Type 0 where
   pub bad : area.bad ≡ length h.bad
 
 -- entries: rising by key. active, inactive: head first. merged: the frames that pages with equal
--- bytes share. on: rising by area
+-- bytes share; their order says nothing. on: rising by area
 pub record Ledger : Type 0 where
   pub entries : List (Key × Entry)
   pub cache : List Cached

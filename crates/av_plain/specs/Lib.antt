@@ -1,5 +1,6 @@
 pub mod World
 pub mod Ledger
+pub mod Tests
 pub mod Device
 pub mod Event
 pub mod Pass

@@ -1,6 +1,6 @@
 -- Ranges are mapped, unmapped and protected.
-use Rattle.std.specs.Prelude.{ℕ, false, ◌==◌, if◌then◌else◌, List, [], Option, ◌≡◌, ◌<◌}
-use Rattle.av_base.specs.Page.{page_of, pages_of}
+use Rattle.std.specs.Prelude.{ℕ, ◌==◌, if◌then◌else◌, List, [], Option, ◌≡◌, ◌<◌}
+use Rattle.av_base.specs.Page.{page_of}
 use Rattle.av_base.specs.declared.prot.Prot.{Prot}
 use Rattle.av_trace.specs.declared.place.Place.{Place}
 use Rattle.av_trace.specs.declared.place.Place.TheVariants.{Auto, At, Fixed, NoReplace}
@@ -12,8 +12,8 @@ use Rattle.av_trace.specs.declared.row.Row.{Row}
 use Rattle.av_plain.specs.Event.{Event}
 use Rattle.av_plain.specs.Ledger.{Ledger}
 use Rattle.av_plain.specs.Place.{IsMapAt, Goes}
-use Rattle.av_plain.specs.Refusal.{wraps}
-use Rattle.av_plain.specs.World.{Process, World, pages, pages_to_hole, set_process, with_prot_on}
+use Rattle.av_plain.specs.World.{ChangesOnly, Page, Process, World, pages, pages_to_hole}
+use Rattle.av_plain.specs.World.{set_process, with_prot_on}
 use Rattle.av_plain.specs.Zap.{keys_in, zaps_of}
 
 -- ---- what a command does
@@ -54,10 +54,10 @@ with_prot_to_hole w p from n prot =
 
 -- ---- a refusal that changes something
 
--- an mprotect met a page that isn't mapped: the pages before it have the protection now
-pub record StopsAtHole (w : World) (p a len : ℕ) (prot : Prot) (error : Errno) (now : World)
-    : Type 0 where
+-- a command that goes over n pages from one on met one that isn't mapped: the pages before it are
+-- changed so, and no other page
+pub record StopsAtHole (w : World) (p from n : ℕ) (change : Page → Page) (error : Errno)
+    (now : World) : Type 0 where
   pub error_is : error ≡ Enomem
-  pub in_reach : wraps a len ≡ false
-  pub hole : pages_to_hole (pages w p) (page_of a) (pages_of len) < pages_of len
-  pub before : now ≡ with_prot_to_hole w p (page_of a) (pages_of len) prot
+  pub hole : pages_to_hole (pages w p) from n < n
+  pub changes : ChangesOnly w p from (pages_to_hole (pages w p) from n) change now

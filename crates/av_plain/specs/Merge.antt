@@ -11,7 +11,8 @@ use Rattle.av_trace.specs.declared.reply.Answer.TheVariants.{Done}
 use Rattle.av_trace.specs.declared.row.Row.{Row}
 use Rattle.av_plain.specs.Event.{Event, after_notes, frame_of, note_events}
 use Rattle.av_plain.specs.Fault.{is_locked}
-use Rattle.av_plain.specs.Ledger.{Key, Ledger, Setting, entry, is_merged, names_frame, slot_of}
+use Rattle.av_plain.specs.Ledger.{Entry, InFrame, Key, Ledger, Setting, entry, is_merged, names_frame}
+use Rattle.av_plain.specs.Ledger.{slot_of}
 use Rattle.av_plain.specs.World.{Holds, Page, World, pages}
 
 -- ---- what frames hold
@@ -37,23 +38,17 @@ abbrev pub may_merge : Option Page → Bool
 may_merge None = false
 may_merge (Some page) = page.flags.mergeable
 
--- the frame that the page's entry names, if it names one
-abbrev pub frame_named : Ledger → Key → Option ℕ
-frame_named l k = option_and_then frame_of (entry l k)
-
--- whether the page, whose entry names the frame, may join another frame
-abbrev pub is_candidate : World → Ledger → Key → ℕ → Bool
-is_candidate w l k f =
-    may_merge (pages w k.0 k.1) && not (is_merged l f) && is_none (slot_of l f)
+-- the frame of a page, by its entry, if it may join another: the page may be merged, and the frame
+-- is neither merged nor cached nor one of a locked page
+abbrev pub candidate_by : World → Ledger → Key → Option Entry → Option ℕ
+candidate_by w l k (Some (InFrame f seen)) =
+    if may_merge (pages w k.0 k.1) && not (is_merged l f) && is_none (slot_of l f)
     && not (is_locked w l f)
-
--- the frame of a page that may join another
-abbrev pub frame_if : Bool → ℕ → Option ℕ
-frame_if true f = Some f
-frame_if false f = None
+    then Some f else None
+candidate_by w l k entry = None
 
 abbrev pub candidate : World → Ledger → Key → Option ℕ
-candidate w l k = option_and_then (λ f. frame_if (is_candidate w l k f) f) (frame_named l k)
+candidate w l k = candidate_by w l k (entry l k)
 
 -- ---- one page
 
@@ -100,6 +95,10 @@ Merges m w l events answer rows = (held : FrameBytes) × HoldClaims w l held
 
 -- ---- which pages share a frame
 
+-- the frame that the page's entry names, if it names one
+abbrev pub frame_named : Ledger → Key → Option ℕ
+frame_named l k = option_and_then frame_of (entry l k)
+
 -- the pages that are candidates in their turn, each with its frame
 abbrev pub with_page : Key → Option ℕ → List (Key × ℕ) → List (Key × ℕ)
 with_page k None cs = cs
@@ -124,3 +123,14 @@ Claims w k i b = IsSomeAnd (pages w k.0 k.1) (λ p. p.bytes i ≡ Some b)
 -- two pages claim each byte, and the same
 abbrev pub ClaimSame : World → Key → Key → Type 0
 ClaimSame w k q = (i : ℕ) → i < page_size → (b : ℕ) × Claims w k i b × Claims w q i b
+
+-- ---- what a page joins
+
+-- the page's entry named one frame, and names a merged one now, unseen, that holds the same
+pub record HasJoined (held : FrameBytes) (l l' : Ledger) (k : Key) : Type 0 where
+  pub was : ℕ
+  pub frame : ℕ
+  pub named : frame_named l k ≡ Some was
+  pub entry_is : entry l' k ≡ Some (InFrame frame false)
+  pub merged : is_merged l' frame ≡ true
+  pub same : hold_same held frame was ≡ true

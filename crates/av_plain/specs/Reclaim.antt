@@ -17,6 +17,7 @@ use Rattle.av_plain.specs.Fault.{sparing}
 use Rattle.av_plain.specs.Ledger.{Entry, InFrame, InSlot, Key, Ledger, Setting, Zero, in_flight}
 use Rattle.av_plain.specs.Ledger.{is_merged, slot_of}
 use Rattle.av_plain.specs.Pass.{Completes, IsSlotFor, Spared, is_dirty, is_stuck, unmap_notes}
+use Rattle.av_plain.specs.Tests.{first_test}
 use Rattle.av_plain.specs.World.{World}
 
 -- the last n of a list, from its tail
@@ -42,12 +43,10 @@ is_in_writeback l (Some s) = in_flight l s
 
 -- why a frame is kept before it is touched: the first of five tests that holds
 abbrev pub cause_of : Setting → Spared → Ledger → ℕ → Option Cause
-cause_of m spared l f =
-    if spared.locked f then Some Locked
-    else (if is_merged l f then Some Ksm
-    else (if is_in_writeback l (slot_of l f) then Some Writeback
-    else (if is_referenced l f then Some Referenced
-    else (if is_stuck m spared l f then Some NoSlot else None))))
+cause_of m spared l f = first_test (
+    (spared.locked f, Locked) ∷ (is_merged l f, Ksm)
+    ∷ (is_in_writeback l (slot_of l f), Writeback) ∷ (is_referenced l f, Referenced)
+    ∷ (is_stuck m spared l f, NoSlot) ∷ [])
 
 -- ---- reclaim
 

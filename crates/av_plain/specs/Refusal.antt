@@ -26,6 +26,7 @@ use Rattle.av_trace.specs.declared.reply.Errno.TheVariants.{Eagain, Eexist, Einv
 use Rattle.av_trace.specs.declared.row.Row.{Row}
 use Rattle.av_plain.specs.Event.{Event}
 use Rattle.av_plain.specs.Ledger.{Setting, Ledger, is_on, pages_used, size_of}
+use Rattle.av_plain.specs.Tests.{first_test}
 use Rattle.av_plain.specs.Mremap.{have_one_prot, is_in_place, leaves_old, target_of}
 use Rattle.av_plain.specs.World.{Process, World, is_mapped, pages, lives, meets}
 
@@ -65,7 +66,7 @@ is_bad_range a len = not (is_on_page a) || wraps a len
 abbrev pub ends_too_high : ℕ → ℕ → Bool
 ends_too_high a len = nat_le (2 ^ 64) (address_of (page_of a + pages_met a len))
 
--- these are more than may be locked at once: as many as a machine has frames at most
+-- these are more than one command may lock
 abbrev pub locks_too_many : ℕ → ℕ → Bool
 locks_too_many a len = nat_lt most_locked (pages_met a len)
 
@@ -176,10 +177,9 @@ tests m w l (AsksSlot k page) =
     (is_off l k, Einval) ∷ (is_outside m (record { area = k; page = page }), Einval) ∷ []
 tests m w l Stat = []
 
--- the first test that holds
+-- the error of the first test that holds
 abbrev pub refusal : Tests → Option Errno
-refusal [] = None
-refusal (t ∷ ts) = if t.0 then Some t.1 else refusal ts
+refusal ts = first_test ts
 
 -- a refusal changes nothing, and has neither notes nor rows
 abbrev pub Refuses : Errno → List Event → Answer → List Row → Type 0

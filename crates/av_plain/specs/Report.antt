@@ -1,5 +1,6 @@
 -- Reports: the runs of `maps`, the areas of `areas`, the walk of `rmap`, the entry of `entry`, the
 -- count of `slot`, and the numbers of `stat`.
+use Rattle.std.specs.List.{AllByRecursion}
 use Rattle.std.specs.Prelude.{◌≡◌, ◌⊎◌, ℕ, ◌<◌, ◌≤◌, ◌&&◌, nat_lt, nat_le, if◌then◌else◌, List, []}
 use Rattle.std.specs.Prelude.{◌∷◌, map, length, sum_by, Option, Some, None, option_map, MatchOption}
 use Rattle.av_base.specs.Page.{address_of}
@@ -17,6 +18,7 @@ use Rattle.av_trace.specs.declared.reply.Errno.TheVariants.{Einval}
 use Rattle.av_trace.specs.declared.row.Row.{Row}
 use Rattle.av_trace.specs.declared.row.Row.TheVariants.{Run, Area as AreaRow, Entry as EntryRow}
 use Rattle.av_trace.specs.declared.reply.Totals.{Totals}
+use Rattle.av_trace.specs.Row.{AreRising}
 use Rattle.av_vma.specs.declared.area.Area.{Area}
 use Rattle.av_vma.specs.Index.{first_of, past_of}
 use Rattle.av_vma.specs.Pages.{Pages, pages_in}
@@ -96,11 +98,16 @@ flags_in (row ∷ rows) page = flags_in rows page
 abbrev pub ShowFlags : Process → List Row → Type 0
 ShowFlags q rows = (page : ℕ) → flags_in rows page ≡ option_map (λ (p : Page). p.flags) (q page)
 
--- the rows are of ranges that are apart and cover the pages, with their flags; what else they say
--- isn't part of what makes a reply legal
+-- the row is that of an area, and its chain rises
+abbrev pub HasRisingChain : Row → Type 0
+HasRisingChain (AreaRow start end prot offset own chain flags) = AreRising chain
+HasRisingChain row = ⊥
+
+-- the rows are of ranges that are apart and cover the pages, with their flags, and have chains that
+-- rise; what else they say isn't part of what makes a reply legal
 abbrev pub AreAreas : Process → List Row → Type 0
 AreAreas q rows = (ranges : List Range) × (map run_of rows ≡ map (λ r. Some (row_of r)) ranges)
-    × AreApart ranges × Cover q ranges × ShowFlags q rows
+    × AreApart ranges × Cover q ranges × ShowFlags q rows × AllByRecursion HasRisingChain rows
 
 -- the answer to `areas`: how many areas there are
 abbrev pub ReportsAreas : Process → List Event → Answer → List Row → Type 0

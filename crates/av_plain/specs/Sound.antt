@@ -2,10 +2,10 @@
 use Rattle.std.specs.FinMap.Entries.{is_sorted, find}
 use Rattle.std.specs.List.{AllByRecursion, IsDistinct}
 use Rattle.std.specs.Ordering.{nat_cmp}
-use Rattle.std.specs.Prelude.{ℕ, ◌+◌, Bool, true, false, ◌&&◌, ◌==◌, if◌then◌else◌, ◌++◌, Option}
+use Rattle.std.specs.Prelude.{ℕ, ◌+◌, ◌*◌, Bool, true, false, ◌&&◌, ◌==◌, if◌then◌else◌, ◌++◌, Option}
 use Rattle.std.specs.Prelude.{Some, None, ◌≡◌, ◌<◌, is_some, ◌≤◌, ◌||◌, length, T, nat_lt, min}
 use Rattle.std.specs.Prelude.{IfSome}
-use Rattle.av_base.specs.Limits.{most_processes}
+use Rattle.av_base.specs.Limits.{most_processes, top_page}
 use Rattle.av_base.specs.Words.{how_many}
 use Rattle.av_base.specs.declared.slot.Slot.{Slot}
 use Rattle.av_plain.specs.Ledger.{Cached, Entry, InFrame, InSlot, Key, Ledger, Setting, Zero, entry}
@@ -176,3 +176,6 @@ pub record SaysSound (m : Setting) (w : World) (l : Ledger) : Type 0 where
   -- so no more entries name a frame that isn't merged, or a slot, than processes live
   pub mapped_few : (f : ℕ) → is_merged l f ≡ false → map_count l f ≤ length w
   pub slot_entries_few : (s : Slot) → slot_entries l s ≤ length w
+  -- and any frame at most as many as processes have pages below the top, where all pages are there
+  pub mapped_of_merged : ((p page : ℕ) → is_some (pages w p page) ≡ true → page < top_page)
+      → (f : ℕ) → map_count l f ≤ length w * top_page

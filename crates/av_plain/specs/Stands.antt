@@ -3,7 +3,7 @@
 use Rattle.std.specs.FinMap.Entries.{find}
 use Rattle.std.specs.Ordering.{nat_cmp}
 use Rattle.std.specs.Prelude.{ℕ, Bool, true, false, List, map, Option, Some, None, ◌≡◌, ◌<◌, IfSome}
-use Rattle.std.specs.Prelude.{IsSomeAnd, is_some, length, option_map, slice_index, []}
+use Rattle.std.specs.Prelude.{IsSomeAnd, is_some, length, option_map, slice_index, [], ◌∷◌}
 use Rattle.std.specs.Prelude.{if◌then◌else◌}
 use Rattle.av_base.specs.Page.{page_size}
 use Rattle.av_base.specs.Words.{is_in}
@@ -209,6 +209,11 @@ HomesAre v homes = (f : ℕ) → v.homes f ≡ homes f
 abbrev pub ItemsAre : View → Ledger → Items → Type 0
 ItemsAre v l items = (f : ℕ) → v.items f ≡ (if is_merged l f then items f else [])
 
+-- whether there are items
+abbrev pub has_items : List (ℕ × ℕ) → Bool
+has_items [] = false
+has_items (item ∷ items) = true
+
 -- the kernel and the device stand for the memories, the ledger, what is free in its order, the
 -- areas with all that each says, the anon_vmas, the homes and the items; what is free is what the
 -- ledger has free, and each entry of a frame or a slot is covered
@@ -225,3 +230,9 @@ pub record Stands (m : Setting) (v : View) (device : Device) (s : State) : Type 
   pub reach : IsRmapSound s.ledger (rmap_of s)
   pub slots : AreSlotsCovered s.ledger (rmap_of s)
   pub merged : AreMergedCovered s.ledger (rmap_of s)
+
+-- what it says of merged frames, in plain sentences: they are those that have items, and they have
+-- no home
+pub record SaysMerged (v : View) (l : Ledger) : Type 0 where
+  pub items : (f : ℕ) → has_items (v.items f) ≡ is_merged l f
+  pub homeless : (f : ℕ) → is_merged l f ≡ true → v.homes f ≡ None

@@ -112,6 +112,16 @@ abbrev pub with_change_on : Process → ℕ → ℕ → (Page → Page) → Proc
 with_change_on q from n change page =
     if within from n page then option_map change (q page) else q page
 
+-- of the n pages of p from `from` on those that are mapped are changed so; no other page is, and the
+-- same processes live
+pub record ChangesOnly (w : World) (p from n : ℕ) (change : Page → Page) (now : World)
+    : Type 0 where
+  pub here : (page : ℕ) → within from n page ≡ true
+      → pages now p page ≡ option_map change (pages w p page)
+  pub others : (q page : ℕ) → (q ≡ p → within from n page ≡ false)
+      → pages now q page ≡ pages w q page
+  pub living : (q : ℕ) → lives now q ≡ lives w q
+
 -- the process is gone
 abbrev pub end_process : World → ℕ → World
 end_process w p = where_key nat_cmp (λ q. not (q == p)) w

@@ -16,5 +16,5 @@ pub use failures::{
     a_device_that_is_not_used_has_no_failures, no_area_on_has_no_failures,
     no_device_has_no_failures,
 };
-pub use soundness::{soundness_stays, what_sound_says};
+pub use soundness::{soundness_stays, what_sound_says, what_stands_says};
 pub use transcripts::{runs_are_legal, transcripts_are_sound};

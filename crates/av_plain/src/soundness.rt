@@ -1,4 +1,5 @@
-//! What soundness is: it stays after each legal reply, and says what it is to say.
+//! What soundness is: it stays after each legal reply, and says what it is to say. And what is said
+//! of merged frames by what stands for a state.
 
 ghost use Rattle.std.specs.Prelude.{List};
 ghost use Rattle.av_trace.specs.declared.command.Command.{Command};
@@ -8,6 +9,9 @@ ghost use Rattle.av_plain.specs.Ledger.{Ledger, Setting};
 ghost use Rattle.av_plain.specs.Event.{Event, after_all};
 ghost use Rattle.av_plain.specs.Step.{IsLegal, next_world};
 ghost use Rattle.av_plain.specs.Sound.{AllSound, SaysSound};
+ghost use Rattle.av_plain.specs.Device.{Device};
+ghost use Rattle.av_plain.specs.Stands.{SaysMerged, Stands, View};
+ghost use Rattle.av_plain.specs.Transcript.{State};
 
 /// Sound memories and a sound ledger are so after every legal reply, a refusal too.
 pub fn soundness_stays()
@@ -18,7 +22,13 @@ pub fn soundness_stays()
 {}
 
 /// Soundness is kept by counts. In plain sentences it says this, and so that no more entries name a
-/// frame than processes live.
+/// frame that isn't merged than processes live, and a merged one than they have pages below the top.
 pub fn what_sound_says()
     ensures { (m : Setting) (w : World) (l : Ledger) → AllSound m w l → SaysSound m w l }
+{}
+
+/// What stands for a state has items exactly for the merged frames, and no home for these.
+pub fn what_stands_says()
+    ensures { (m : Setting) (v : View) (device : Device) (s : State)
+        → Stands m v device s → SaysMerged v s.ledger }
 {}

@@ -99,6 +99,7 @@ serves-same d old new w r l is parts h =
       areas_fit = subst (λ m. AreasFit m l) (sym same) h.areas_fit;
       free = subst (λ m. ListsAll m l (free_of (view new))) (sym same) (subst (λ (v : View). ListsAll m l (free_of v)) (sym is) h.free);
       lists = lists-fit old new parts h.lists;
+      items = parts.items ∙ h.items ∙ sym parts.count;
       tables = tables-fit old new parts h.tables;
       fit = anons-fit old new parts h.fit;
       swap = swap-fits old new parts d d (closing_of old) (itself d) h.swap;

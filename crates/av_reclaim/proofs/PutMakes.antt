@@ -27,6 +27,7 @@ use Rattle.av_swapcache.specs.Swap.{GivesFirst, Shown, can_give, free_of, is_are
 use Rattle.av_swapcache.proofs.Views.{first_on, gives_first-is, goes_first}
 use Rattle.av_evict.specs.Steps.{MayPut, put_notes}
 use Rattle.av_evict.specs.System.{Makes, Tells, any_slot}
+use Rattle.av_evict.proofs.StepLaws.{unmerged-count}
 use Rattle.av_mem.specs.Cache.{Puts}
 use Rattle.av_mem.specs.Mem.{Serves, area_of, held_by, setting_by, view}
 use Rattle.av_mem.specs.Steps.{KeepsParts}
@@ -187,5 +188,5 @@ put-makes names d old new f (Some s) h parts = λ l sound stood may.
     }) (λ w. same-world (is_some m.headers) w)
     (λ w r serves. by-view d d old new l (Put f s) (view_put f s (with_at s.area h.rest (view old).slots) (view old)) w r h.puts
     (put-steps m (closing_of old) (held_by d old w r l) serves.held f s (with_at s.area h.rest (view old).slots)
-    (given-may_put m any_slot l sound (closing_of old) f s may.uncached gives used)
+    (given-may_put m any_slot l sound (closing_of old) f s may.uncached gives used (unmerged-count l f may.unmerged))
     (is-given d old w r l serves s h.rest h.area h.slot)))

@@ -12,11 +12,12 @@ use Rattle.av_lru.specs.Lists.{frame_before, last_of}
 use Rattle.av_pagetable.specs.declared.pte.Pte.{Pte}
 use Rattle.av_pagetable.specs.declared.pte.Pte.TheVariants.{Empty, Zero, Here, Away}
 use Rattle.av_pagetable.specs.Entries.{entry_at}
+use Rattle.av_rmap.specs.Items.{is_merged as has_items}
 use Rattle.av_rmap.specs.Walk.{names_seen as pte_seen}
 use Rattle.av_plain.specs.Areas.{Rmap}
 use Rattle.av_plain.specs.Choice.{ListsFree}
 use Rattle.av_plain.specs.Device.{Device}
-use Rattle.av_plain.specs.Ledger.{Entry, Key, Ledger, Setting, has_free, is_free, key_cmp}
+use Rattle.av_plain.specs.Ledger.{Entry, Key, Ledger, Setting, has_free, is_free, is_merged, key_cmp}
 use Rattle.av_plain.specs.Reclaim.{is_referenced, names_seen}
 use Rattle.av_plain.specs.Sound.{IsSoundBut, uses}
 use Rattle.av_plain.specs.Stands.{entry_of}
@@ -27,8 +28,10 @@ use Rattle.av_plain.proofs.Sound.Changes.{any-counts}
 use Rattle.av_plain.proofs.Sound.Counts.{same-itself, same-turned}
 use Rattle.av_swap_laws.proofs.From.{first-is}
 use Rattle.av_evict.specs.System.{any_slot}
-use Rattle.av_mem.specs.Mem.{Serves, plain, setting_by}
+use Rattle.av_mem.specs.Mem.{Serves, plain, setting_by, view}
 use Rattle.av_mem.specs.declared.mem.Mem.{Mem}
+use Rattle.av_mem.proofs.LockedLaws.{merged-is}
+use Rattle.av_mem.proofs.ReachLaws.{reaches-served}
 
 -- ---- the first and the last of a list
 
@@ -203,3 +206,9 @@ seen-is d closing k w r l f sorted h true some =
     ∙ sym (seen-as f (entry_at k.tables some.0.0 some.0.1)) ∙ some.1))
 seen-is d closing k w r l f sorted h false none = sym (none-listed (names_seen f) l.entries (λ q. keys-filter (names_seen f) l.entries q sorted
     ∙ sym (ap (passes (names_seen f)) (h.held.ledger.tables.entries q.0 q.1)) ∙ sym (seen-as f (entry_at k.tables q.0 q.1)) ∙ none q.0 q.1))
+
+-- ---- whether a frame is merged
+
+pub merged-told : (d : Device) (closing : Option ℕ) (k : Mem) (w : World) (r : Rmap) (l : Ledger) (f : ℕ) → IsSoundBut (setting_by d k) any_slot l
+    → Serves d closing k w r l → has_items ((view k).items f) ≡ is_merged l f
+merged-told d closing k w r l f sound h = merged-is k r l (reaches-served d closing k w r l h) sound.in_order f (sound.merged f)

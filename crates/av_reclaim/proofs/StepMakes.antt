@@ -7,9 +7,10 @@ use Rattle.std.specs.Prelude.{is_none}
 use Rattle.av_base.specs.Words.{is_in}
 use Rattle.av_base.specs.declared.slot.Slot.{Slot}
 use Rattle.av_trace.specs.declared.note.Cause.{Cause}
-use Rattle.av_trace.specs.declared.note.Cause.TheVariants.{WriteStarted, Writeback}
+use Rattle.av_trace.specs.declared.note.Cause.TheVariants.{Ksm, Locked, NoSlot, WriteStarted, Writeback}
 use Rattle.av_trace.specs.declared.note.Note.{Note}
 use Rattle.av_trace.specs.declared.note.Note.TheVariants.{Aged, Dropped, Kept, Started, Unmapped}
+use Rattle.av_rmap.specs.Items.{is_merged as has_items}
 use Rattle.av_plain.specs.Areas.{Rmap}
 use Rattle.av_plain.specs.Device.{Device, IsSameDevice}
 use Rattle.av_plain.specs.Event.{Noted, after_note}
@@ -19,8 +20,8 @@ use Rattle.av_plain.specs.Stands.{View}
 use Rattle.av_plain.specs.World.{World}
 use Rattle.av_swap_laws.specs.Held.{Steps}
 use Rattle.av_swap_laws.specs.May.{MayLeave}
-use Rattle.av_swap_laws.specs.Steps.{view_drop, view_keep, view_start, view_to_head, view_unmap, view_unseen}
-use Rattle.av_swap_laws.proofs.Cache.{frame-slot, once-of, slot-frame}
+use Rattle.av_swap_laws.specs.Steps.{view_drop, view_keep, view_start, view_to_active, view_to_head, view_unmap, view_unseen}
+use Rattle.av_swap_laws.proofs.Cache.{cached-own, frame-slot, once-of, slot-frame}
 use Rattle.av_swap_laws.proofs.Few.{together-few}
 use Rattle.av_swap_laws.proofs.From.{cached-in_range, cached-there}
 use Rattle.av_swap_laws.proofs.Whole.{age-steps, drop-steps, keep-steps, start-steps, unmap-steps}
@@ -99,6 +100,13 @@ pub kept-at : (old new : Mem) (f : ℕ) (cause : Cause) → (cause ≡ Writeback
     → view new ≡ view_keep f cause (view old)
 kept-at old new f cause (inl is) at = kept-as old new f cause Writeback is at
 kept-at old new f cause (inr is) at = kept-as old new f cause WriteStarted is at
+
+-- for one of three that it is at the head of active
+pub kept-active : (old new : Mem) (f : ℕ) (cause : Cause) → (cause ≡ NoSlot) ⊎ (cause ≡ Locked) ⊎ (cause ≡ Ksm)
+    → view new ≡ view_to_active f (view old) → view new ≡ view_keep f cause (view old)
+kept-active old new f cause (inl is) at = kept-as old new f cause NoSlot is at
+kept-active old new f cause (inr (inl is)) at = kept-as old new f cause Locked is at
+kept-active old new f cause (inr (inr is)) at = kept-as old new f cause Ksm is at
 
 pub keep-makes : (names : List ℕ) (d : Device) (old new : Mem) (f : ℕ) (cause : Cause) → view new ≡ view_keep f cause (view old) → KeepsParts old new
     → Makes (view_of names d old) (view_of names d new) (IsUsed f) (Kept f cause ∷ [])
@@ -198,6 +206,16 @@ unmap-makes names d old new f s at is parts = λ l sound stood may.
     }) (λ w. same-world (is_some (setting_by d old).headers) w) (λ w r h. by-view d d old new l (Unmapped f) (view_unmap f s (view old)) w r is
     (unmap-steps (setting_by d old) (closing_of old) (held_by d old w r l) h.held f s (once-of (setting_by d old) any_slot l sound)
     (sym (h.held.ledger.frames.slots f) ∙ at)))
+
+-- it isn't merged, so it has no items
+pub no-items : (d : Device) (closing : Option ℕ) (k : Mem) (w : World) (r : Rmap) (l : Ledger) (f : ℕ) → IsSoundBut (setting_by d k) any_slot l
+    → Serves d closing k w r l → MayUnmap f l → has_items ((view k).items f) ≡ false
+no-items d closing k w r l f sound h may = by (slot_of l f) refl may.cached
+  where
+    by : (o : Option Slot) → slot_of l f ≡ o → is_some o ≡ true → has_items ((view k).items f) ≡ false
+    by None is some = absurd (false≢true some)
+    by (Some s) is some = let once = once-of (setting_by d k) any_slot l sound in
+        ap has_items (h.held.items f ∙ ap (λ b. cond b (r.items f) []) (cached-own l once f s (slot-frame l once f s is)))
 
 -- the frame that the swap cache has at a slot
 pub slot-cached : (d : Device) (closing : Option ℕ) (k : Mem) (w : World) (r : Rmap) (l : Ledger) (f : ℕ) (s : Slot)

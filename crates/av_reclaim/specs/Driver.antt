@@ -11,6 +11,7 @@ use Rattle.av_swapcache.specs.declared.swap.Finished.TheVariants.{Done, Failed}
 use Rattle.av_swapcache.specs.Swap.{shown}
 use Rattle.av_mem.specs.Mem.{Serves, setting_by, view}
 use Rattle.av_mem.specs.declared.mem.Mem.{Mem}
+use Rattle.av_mem.specs.Locked.{locked_by}
 
 -- the swap area that is closing, if one is
 abbrev pub closing_of : Mem → Option ℕ
@@ -26,6 +27,7 @@ view_of names d k = record {
   first = first_pages d;
   failures = d.failures;
   names = names;
+  locked = locked_by k;
   stands = λ l. (w : World) × (r : Rmap) × Serves d (closing_of k) k w r l;
   claims = Serves d (closing_of k) k;
 }

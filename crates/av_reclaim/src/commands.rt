@@ -102,7 +102,7 @@ pub fn seek<D: SwapDev>(
         (device_by (D.sizes dev.old) (D.pages dev.old) (D.failures dev.old))
         (device_by (D.sizes dev.new) (D.pages dev.new) (D.failures dev.new)) mem.old (λ d d' w r l.
         HasAdded (λ m w l added. Seeks m (sparing w l pinned) l added
-        × IsEnd m None pinned end l added)
+        × IsEnd m (sparing w l pinned) end l added)
         d d' mem.old mem.new w r l notes.old notes.new)) }
     ensures next { IfOk result (λ end. IsNext end (view mem.new).free) }
     ensures same { IsSameDevice (device_by (D.sizes dev.old) (D.pages dev.old) (D.failures dev.old))

@@ -3,6 +3,7 @@
 ghost use Rattle.std.specs.Prelude.{◌≡◌, ◌∷◌, []};
 ghost use Rattle.av_plain.specs.Device.{as_told, device_by};
 ghost use Rattle.av_reclaim.specs.Driver.{end_of, view_of};
+ghost use Rattle.av_reclaim.specs.Locks.{view_locks};
 
 use av_base::Slot;
 use av_evict::{System, WriteEnd};
@@ -25,6 +26,9 @@ impl<'a, D: SwapDev> System for Driver<'a, D> {
     ghost view = { λ s told. view_of (s.mem.ghost_name ∷ s.dev.ghost_name ∷ []) (as_told told
         (device_by (D.sizes s.dev.now) (D.pages s.dev.now) (D.failures s.dev.now))) s.mem.now };
 
+    ghost locks = { λ s told. view_locks (s.mem.ghost_name ∷ s.dev.ghost_name ∷ []) (as_told told
+        (device_by (D.sizes s.dev.now) (D.pages s.dev.now) (D.failures s.dev.now))) s.mem.now };
+
     fn frames(&self) -> u32 {
         self.mem.frames.count()
     }
@@ -35,6 +39,14 @@ impl<'a, D: SwapDev> System for Driver<'a, D> {
 
     fn slot(&self, frame: u32) -> Option<Slot> {
         self.mem.frames.slot(frame)
+    }
+
+    fn is_locked(&self, frame: u32) -> bool {
+        self.mem.is_locked(frame)
+    }
+
+    fn is_merged(&self, frame: u32) -> bool {
+        self.mem.is_merged(frame)
     }
 
     fn is_mapped(&self, frame: u32) -> bool {
@@ -119,7 +131,7 @@ impl<'a, D: SwapDev> System for Driver<'a, D> {
     fn keep(&mut self, frame: u32, cause: Cause) {
         match cause {
             Cause::Writeback | Cause::WriteStarted => self.mem.to_head(frame),
-            Cause::NoSlot => self.mem.to_active(frame),
+            Cause::NoSlot | Cause::Locked | Cause::Ksm => self.mem.to_active(frame),
             Cause::Referenced => unreachable!(),
         }
     }

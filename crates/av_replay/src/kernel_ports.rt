@@ -1,10 +1,11 @@
 //! The ports of a run: what it reads and writes, and the device over which a kernel answers.
 
-ghost use Rattle.std.specs.Prelude.{◌≡◌, ◌<◌, OnOk, OnErr};
+ghost use Rattle.std.specs.Prelude.{◌≡◌, ◌<◌, true, OnOk, OnErr};
 ghost use Rattle.std.specs.Borrow.{GName};
 ghost use Rattle.av_base.specs.Limits.{most_commands};
 ghost use Rattle.av_plain.specs.Transcript.{State};
 ghost use Rattle.av_kernel.specs.Kernel.{Counts, IsSpent, Stands, Steps};
+ghost use Rattle.av_trace.specs.Command.{is_in_grammar};
 ghost use Rattle.av_replay.specs.KernelPorts.{ports_by};
 ghost use Rattle.av_replay.specs.KernelPorts.{IsAttached, OnlyDevice};
 
@@ -17,7 +18,7 @@ use std::alloc::{AllocError, Global};
 
 /// Ports over whose device a kernel answers.
 pub trait KernelPorts: Ports {
-    /// Has a kernel answer a command over the device.
+    /// Has a kernel answer a command of the grammar over the device.
     fn answer(
         &mut self,
         alloc: Global,
@@ -25,6 +26,7 @@ pub trait KernelPorts: Ports {
         command: &Command,
         reply: &mut Reply,
     ) -> Result<(), AllocError>
+        requires grammar { is_in_grammar command.now ≡ true }
         requires few { kernel.old.steps < most_commands }
         requires attached { IsAttached (Self.view self.old).device kernel.old }
         ensures stands { (s : State) → Stands kernel.old (Self.view self.old).device s → OnOk result

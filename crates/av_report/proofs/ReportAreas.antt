@@ -1,13 +1,14 @@
 -- The reply of `areas`.
-use Rattle.std.proofs.Common.{◌≡◌, ℕ, ◌<◌, true, cond, not, zero, suc, List, [], ◌∷◌, length, map, Option, Some, None, IfSome, is_some, option_map, slice_index_or, refl, sym, ap, subst, ◌∙◌, arith}
+use Rattle.std.proofs.Common.{◌≡◌, ℕ, ◌*◌, ◌-◌, ◌<◌, ◌&&◌, nat_le, nat_lt, Bool, true, false, cond, not, zero, suc, List, [], ◌∷◌, length, map, Option, Some, None, IfSome, is_some, option_map, slice_index_or, refl, sym, ap, subst, ◌∙◌, arith}
+use Rattle.std.proofs.lemmas.Bool.Decides.{nat_tests}
 use Rattle.std.specs.Prelude.{IsSomeAnd, MatchOption}
 use Rattle.std.specs.List.{AllByRecursion}
 use Rattle.std.specs.Option.{option_map_or}
-use Rattle.av_base.specs.Words.{is_in}
+use Rattle.av_base.specs.Words.{is_in, within}
 use Rattle.av_anon.specs.declared.anons.Anons.{Anons as AnonSet}
 use Rattle.av_vma.specs.declared.area.Area.{Area}
-use Rattle.av_vma.specs.Index.{first_of}
-use Rattle.av_vma.specs.Pages.{IsWhole, pages_in}
+use Rattle.av_vma.specs.Index.{first_of, past_of}
+use Rattle.av_vma.specs.Pages.{IsWhole, has_page, pages_in}
 use Rattle.av_trace.specs.declared.command.Command.TheVariants.{Areas as AsksAreas}
 use Rattle.av_trace.specs.declared.reply.Answer.TheVariants.{AreaList}
 use Rattle.av_trace.specs.declared.reply.Errno.TheVariants.{Esrch}
@@ -19,10 +20,11 @@ use Rattle.av_spaces.specs.Spaces.{AllSpaces, AreRising, areas_of, pages_of as a
 use Rattle.av_plain.specs.Device.{Device}
 use Rattle.av_plain.specs.Areas.{Anons, chain_by}
 use Rattle.av_plain.specs.Refusal.{tests, refusal, Refuses}
-use Rattle.av_plain.specs.Report.{area_row, range_of}
+use Rattle.av_plain.specs.Report.{AreRowsOf, area_row, flags_in, range_of}
 use Rattle.av_plain.specs.Stands.{prot_of}
 use Rattle.av_plain.specs.Step.{Follows}
 use Rattle.av_plain.specs.Transcript.{State}
+use Rattle.av_plain.proofs.Chains.{shown-rise}
 use Rattle.av_plain.proofs.Report.Areas.{all_from, on_first, runs-of_rows}
 use Rattle.av_mem.specs.declared.mem.Mem.{Mem}
 use Rattle.av_mem.specs.Mem.{anons_of, setting_by, view, Keeps}
@@ -48,6 +50,25 @@ wholes p (a ∷ areas) h = ((own_first p a areas h).whole, wholes p areas (own_r
 pub on_pages : (p : ℕ) (areas : List Area) → AreRising p areas → AllByRecursion (λ (a : Area). pages_in (Some areas) (first_of a) ≡ Some a) areas
 on_pages p areas h = on_first areas (apart_of p areas h)
 
+-- ---- its flags are those of its pages
+
+held_at : (start end first past page : ℕ) → start ≡ 4096 * first → end ≡ 4096 * past → first < past
+    → (nat_le start (4096 * page) && nat_lt (4096 * page) end) ≡ within first (past - first) page
+held_at start end first past page from to some = grind (arith, nat_tests, from, to, some)
+
+flags-of_rows : (anons : Anons) (areas : List Area) (page : ℕ) → AllByRecursion IsWhole areas
+    → flags_in (map (area_row anons) areas) page ≡ option_map (λ (area : Area). area.flags) (pages_in (Some areas) page)
+flags-of_rows anons [] page h = refl
+flags-of_rows anons (a ∷ areas) page h =
+    ap (λ b. cond b (Some a.flags) (flags_in (map (area_row anons) areas) page))
+    (held_at a.start a.end (first_of a) (past_of a) page h.0.start h.0.end h.0.some) ∙ by (has_page a page) (flags-of_rows anons areas page h.1)
+  where
+    by : (b : Bool) → flags_in (map (area_row anons) areas) page ≡ option_map (λ (area : Area). area.flags) (pages_in (Some areas) page)
+        → cond b (Some a.flags) (flags_in (map (area_row anons) areas) page)
+        ≡ option_map (λ (area : Area). area.flags) (cond b (Some a) (pages_in (Some areas) page))
+    by true rest = refl
+    by false rest = rest
+
 -- ---- its chain is that of its own anon_vma
 
 pub own_chain : (s : AllSpaces) (anons : AnonSet) (p page : ℕ) (a : Area) → AnonsFit s anons → areas_on s.processes p page ≡ Some a
@@ -71,7 +92,7 @@ own_chain s anons p page a fit on = ap (λ o. option_map_or (λ (area : Area). i
 rows_by : (a b : Anons) (areas : List Area) → AllByRecursion (λ (area : Area). chain_by a area.anon ≡ chain_by b area.anon) areas
     → map (area_row a) areas ≡ map (area_row b) areas
 rows_by a b [] h = refl
-rows_by a b (area ∷ areas) h = λ i. rows.Area area.start area.end area.prot area.pgoff area.anon (h.0 i) ∷ rows_by a b areas h.1 i
+rows_by a b (area ∷ areas) h = λ i. rows.Area area.start area.end area.prot area.pgoff area.anon (h.0 i) area.flags ∷ rows_by a b areas h.1 i
 
 module _ {d : Device} (k : Mem) (s : State) (p : ℕ) (areas : List Area) (keeps : Keeps d k s) (alive : is_some (areas_of k.spaces.processes p) ≡ true)
     (are : areas_of k.spaces.processes p ≡ Some areas) (rising : AreRising p areas) where
@@ -91,6 +112,10 @@ module _ {d : Device} (k : Mem) (s : State) (p : ℕ) (areas : List Area) (keeps
       (keeps.stands.anons.chains p (first_of a)))
       areas (on_pages p areas rising)
 
+  -- the rows are those of the areas that the state has
+  rows_are : AreRowsOf s.anons (s.areas p) shown
+  rows_are = (areas, rows_by (view k).anons s.anons areas chains, apart_of p areas rising, on)
+
   pub areas-steps : StepsBeside d k k s (AsksAreas p) (record { answer = AreaList (length shown); notes = []; rows = shown })
   areas-steps = record {
     next = s;
@@ -105,6 +130,9 @@ module _ {d : Device} (k : Mem) (s : State) (p : ℕ) (areas : List Area) (keeps
                 runs-of_rows (view k).anons areas (wholes p areas rising),
                 apart_of p areas rising,
                 λ page. sym (ap (λ o. prot_of (option_map (map range_of) o) page) are) ∙ keeps.stands.parts.areas.covers p page,
+                λ page. flags-of_rows (view k).anons areas page (wholes p areas rising)
+                    ∙ ap (λ o. option_map (λ (area : Area). area.flags) (pages_in o page)) (sym are) ∙ keeps.stands.parts.areas.flags p page,
+                shown-rise s.anons (s.areas p) shown keeps.stands.reach.rising rows_are,
               ),
               refl,
             );
@@ -114,7 +142,7 @@ module _ {d : Device} (k : Mem) (s : State) (p : ℕ) (areas : List Area) (keeps
       ledger = refl;
       free = refl;
       rmap = areas_kept k s _ _ keeps refl;
-      shows = (areas, rows_by (view k).anons s.anons areas chains, apart_of p areas rising, on);
+      shows = rows_are;
     };
     keeps = keeps;
   }

@@ -4,6 +4,7 @@ use Rattle.std.specs.Prelude.{MatchOption}
 use Rattle.av_base.specs.Page.{page_of}
 use Rattle.av_trace.specs.declared.command.Command.TheVariants.{Entry as AsksEntry}
 use Rattle.av_trace.specs.declared.reply.Answer.{Answer}
+use Rattle.av_trace.specs.declared.reply.Answer.TheVariants.{EntryFrame}
 use Rattle.av_trace.specs.declared.reply.Errno.{Errno}
 use Rattle.av_trace.specs.declared.reply.Errno.TheVariants.{Efault, Esrch}
 use Rattle.av_trace.specs.Reply.{answer_only}
@@ -11,17 +12,20 @@ use Rattle.av_spaces.specs.Spaces.{areas_of, pages_of}
 use Rattle.av_plain.specs.Device.{Device}
 use Rattle.av_pagetable.specs.Entries.{entry_at}
 use Rattle.av_pagetable.specs.declared.pte.Pte.TheVariants.{Here}
-use Rattle.av_plain.specs.Ledger.{InFrame, entry, names_frame}
+use Rattle.av_plain.specs.Ledger.{InFrame, entry, is_merged, names_frame}
 use Rattle.av_plain.specs.Stands.{entry_of}
 use Rattle.av_plain.specs.Refusal.{Refuses, refusal, tests}
 use Rattle.av_plain.specs.Report.{entry_answer}
 use Rattle.av_plain.specs.Step.{Follows}
-use Rattle.av_plain.specs.Transcript.{State}
+use Rattle.av_plain.specs.Transcript.{State, rmap_of}
 use Rattle.av_plain.specs.World.{is_mapped, lives, pages}
 use Rattle.av_mem.specs.declared.mem.Mem.{Mem}
 use Rattle.av_plain.proofs.Ledger.{how_many-found}
 use Rattle.av_plain.proofs.Sound.Counts.{same-itself}
-use Rattle.av_mem.specs.Mem.{IsSteady, Keeps, frame_count, plain, setting_by}
+use Rattle.av_mem.specs.Mem.{IsSteady, Keeps, frame_count, plain, setting_by, view}
+use Rattle.av_mem.proofs.LockedLaws.{merged-is}
+use Rattle.av_mem.proofs.ReachLaws.{reaches-kept}
+use Rattle.av_rmap.specs.Items.{is_merged as has_items}
 use Rattle.av_mem.proofs.MemLaws.{lives_is, mapped_is, taken_has}
 use Rattle.av_step.specs.Step.{StepsBeside}
 use Rattle.av_step.proofs.StepLaws.{rmap_kept}
@@ -37,6 +41,18 @@ frame_below k p page f write seen steady is =
     ∙ ap (λ t. entry_of (plain t)) is in
     let some = how_many-found (names_frame f) (p, page) l.entries (InFrame f seen) named (same-itself f) in
     steady.2.stands.sound.ledger.in_range f (omega (arith, some))
+
+-- a frame has items exactly where it is merged
+pub merged_is : {d : Device} (k : Mem) (s : State) → Keeps d k s → (f : ℕ) → has_items ((view k).items f) ≡ is_merged s.ledger f
+merged_is {d} k s keeps f = merged-is k (rmap_of s) s.ledger (reaches-kept d k s keeps) keeps.stands.sound.ledger.in_order f
+    (keeps.stands.sound.ledger.merged f)
+
+-- what the tables, the frames and the items say of an entry that names a frame
+pub entry_in_frame : {d : Device} (k : Mem) (s : State) → Keeps d k s → (p page f : ℕ) (write seen : Bool)
+    → entry_at k.tables p page ≡ Here f write seen → EntryFrame f seen ((view k).slot f) (has_items ((view k).items f)) ≡ entry_answer s.ledger (entry s.ledger (p, page))
+entry_in_frame k s keeps p page f write seen at =
+    (λ i. EntryFrame f seen (keeps.stands.parts.ledger.frames.slots f i) (merged_is k s keeps f i))
+    ∙ ap (entry_answer s.ledger) (sym (ap (λ t. entry_of (plain t)) at) ∙ keeps.stands.parts.ledger.tables.entries p page)
 
 -- ---- which pages are mapped
 -- a page is of an area exactly where it is mapped

@@ -47,7 +47,8 @@ pub fn maps(mem: &Mem, process: u16, reply: &mut Reply) -> Result<(), Refusal>
     Ok(())
 }
 
-/// Does an `areas`: the areas of a process, rising, each with its own anon_vma and its chain.
+/// Does an `areas`: the areas of a process, rising, each with its own anon_vma, its chain and its
+/// flags.
 pub fn areas(mem: &Mem, alloc: Global, process: u16, reply: &mut Reply) -> Result<(), Refusal>
     requires steady { IsSteady mem.now }
     requires cleared { IsCleared reply.old }
@@ -207,6 +208,7 @@ fn area_row(mem: &Mem, alloc: Global, process: u16, area: &Area) -> Result<Row, 
         offset: area.pgoff,
         own: area.anon,
         chain: Chain::from_vec(chain),
+        flags: area.flags,
     })
 }
 
@@ -236,6 +238,7 @@ fn entry_answer(mem: &Mem, process: u16, page: u64) -> Answer
             frame,
             seen,
             cached: mem.frames.slot(frame),
+            merged: mem.is_merged(frame),
         },
         Pte::Away { slot } => Answer::EntrySlot {
             slot,

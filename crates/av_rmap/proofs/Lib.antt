@@ -1,12 +1,12 @@
-pub mod AheadLemmas
 pub mod Changes
 pub mod Counting
 pub mod Entries
 pub mod ItemLemmas
 pub mod LinkedAreas
 pub mod LockedLemmas
-pub mod Looks
+pub mod LookLemmas
 pub mod MergedLemmas
+pub mod NextAreas
 pub mod RootLemmas
 pub mod SeenLemmas
 pub mod SortedLemmas

@@ -1,8 +1,9 @@
-pub mod Ahead
+pub mod Changed
 pub mod Covered
 pub mod ItemLists
 pub mod Items
 pub mod Locked
+pub mod Looks
 pub mod Seen
 pub mod Sorted
 pub mod Stores

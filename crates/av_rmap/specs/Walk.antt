@@ -1,6 +1,6 @@
 -- The entries of a frame or a slot, and what one look finds.
 use Rattle.std.specs.Prelude.{◌≡◌, ℕ, ◌+◌, ◌-◌, Bool, false, ◌&&◌, ◌==◌, if◌then◌else◌, List, []}
-use Rattle.std.specs.Prelude.{◌∷◌, ◌++◌, Option, Some, None, length}
+use Rattle.std.specs.Prelude.{◌∷◌, ◌++◌, Option, Some, None, length, map}
 use Rattle.av_base.specs.Words.{how_many, within}
 use Rattle.av_base.specs.declared.slot.Slot.{Slot}
 use Rattle.av_chain.specs.Links.{one_if}
@@ -8,8 +8,8 @@ use Rattle.av_pagetable.specs.declared.pte.Pte.{Pte}
 use Rattle.av_pagetable.specs.declared.pte.Pte.TheVariants.{Empty, Zero, Here, Away}
 use Rattle.av_vma.specs.declared.area.Area.{Area}
 use Rattle.av_vma.specs.Index.{first_of, past_of}
+use Rattle.av_interval.specs.Batch.{overlaps_past}
 use Rattle.av_interval.specs.Search.{overlaps}
-use Rattle.av_interval.specs.declared.span.Span.{Span}
 use Rattle.av_rmap.specs.View.{View}
 use Rattle.av_rmap.specs.declared.target.Target.{Target}
 use Rattle.av_rmap.specs.declared.target.Target.TheVariants as target
@@ -69,6 +69,15 @@ abbrev pub is_held : ℕ → Option Area → Bool
 is_held index None = false
 is_held index (Some area) = holds index area
 
+-- the areas of some places
+abbrev pub areas_of : List (ℕ × ℕ) → List ℕ
+areas_of places = map (λ (p : ℕ × ℕ). p.1) places
+
+-- the areas that a walk from a home looks in: those with a span of the anon_vma that overlaps the
+-- index
+abbrev pub areas_from : View → ℕ × ℕ → List ℕ
+areas_from view home = areas_of (overlaps_past None home.1 (view.spans home.0))
+
 -- how many steps a walk from a home takes, and so how many looks at most: one for each span that
 -- overlaps; none without a home
 abbrev pub looks_from : View → Option (ℕ × ℕ) → ℕ
@@ -88,25 +97,25 @@ found_in view passes index (Some area) =
     if holds index area && passes (view.entry area.pid (page_at index area))
     then (area.pid, page_at index area) ∷ [] else []
 
--- what a look in the area of each span finds
-abbrev pub walk_of : View → (Pte → Bool) → ℕ → List Span → List Key
+-- what a look in each of these areas finds
+abbrev pub walk_of : View → (Pte → Bool) → ℕ → List ℕ → List Key
 walk_of view passes index [] = []
-walk_of view passes index (x ∷ xs) =
-    found_in view passes index (view.areas x.area) ++ walk_of view passes index xs
+walk_of view passes index (a ∷ areas) =
+    found_in view passes index (view.areas a) ++ walk_of view passes index areas
 
 -- what all looks from a home find
 abbrev pub found_from : View → (Pte → Bool) → ℕ × ℕ → List Key
-found_from view passes home = walk_of view passes home.1 (view.spans home.0)
+found_from view passes home = walk_of view passes home.1 (areas_from view home)
 
 abbrev pub list_of : Option Key → List Key
 list_of None = []
 list_of (Some k) = k ∷ []
 
--- how many looks find all entries that pass: one for each span that overlaps the index, up to the
--- last one with such an entry
-abbrev pub looks_to_last : View → (Pte → Bool) → ℕ → List Span → ℕ
+-- how many looks in these areas find all entries that pass: all up to the last area with such an
+-- entry
+abbrev pub looks_to_last : View → (Pte → Bool) → ℕ → List ℕ → ℕ
 looks_to_last view passes index [] = 0
-looks_to_last view passes index (x ∷ xs) =
-    if looks_to_last view passes index xs == 0
-    then one_if (passes_in view passes index (view.areas x.area))
-    else one_if (overlaps index x) + looks_to_last view passes index xs
+looks_to_last view passes index (a ∷ areas) =
+    if looks_to_last view passes index areas == 0
+    then one_if (passes_in view passes index (view.areas a))
+    else 1 + looks_to_last view passes index areas

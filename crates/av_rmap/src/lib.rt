@@ -22,7 +22,8 @@
 //! and a linear index, and `walk_merged` goes from one to the next. Proved: where each entry is
 //! reached from an item, no item stands twice, and no chain holds the anon_vmas of two items, it
 //! finds each entry once, and takes as many steps as walks from all of its items do together. The
-//! last is so where each item is of a root, by chain order.
+//! last is so where each item is of a root, by chain order. `clear_seen_items` takes as many, and
+//! does what `clear_seen` does wherever each entry is reached from an item.
 //!
 //! `Stores` shows areas, anon_vmas and page tables as they are kept, and `StoresMut` lends the
 //! tables for writing. Overlaps are found a batch at a time (`Look::next`), by a call of
@@ -31,11 +32,11 @@
 //! entry that was looked at is written (`change`).
 #![tactic(auto)]
 
-mod ahead;
 pub mod covered;
 pub mod items;
 pub mod locked;
 pub mod look;
+mod looks;
 pub mod merged;
 pub mod seen;
 pub mod sorted;

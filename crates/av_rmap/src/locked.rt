@@ -5,10 +5,10 @@ ghost use Rattle.std.specs.List.{list_any};
 ghost use Rattle.av_rmap.specs.Items.{AreCovered, looks_from_all};
 ghost use Rattle.av_rmap.specs.Locked.{IsLocked, finds_locked};
 ghost use Rattle.av_rmap.specs.View.{AreApart, AreSpanned};
-ghost use Rattle.av_rmap.specs.Walk.{Key, holds, looks_from, names_frame, passes_in};
+ghost use Rattle.av_rmap.specs.Walk.{Key, areas_from, holds, looks_from, names_frame};
 
-use crate::ahead::Ahead;
 use crate::look::Look;
+use crate::looks::Looks;
 use crate::target::Target;
 use av_base::Steps;
 use std::sync::ledger::Ledger;
@@ -49,19 +49,15 @@ fn is_locked_from<K: Look<L>, L: Ledger>(
 ) -> bool
     requires spanned { AreSpanned (K.view look.now) }
     ensures found { result ≡ list_any
-        (λ x. finds_locked (K.view look.now) (names_frame frame) home.1
-        ((K.view look.now).areas x.area))
-        ((K.view look.now).spans home.0) }
+        (λ a. finds_locked (K.view look.now) (names_frame frame) home.1 ((K.view look.now).areas a))
+        (areas_from (K.view look.now) home) }
     ensures counted { steps.new ≤ steps.old + looks_from (K.view look.now) (Some home) }
 {
-    let (anon, index) = home;
-    let mut ahead = Ahead::new(look, anon, index);
-    let mut after = None;
-    'looks: while let Some((first, area)) = ahead.next(look, anon, index, after) {
-        if is_locked_in(look, frame, index, area, steps) {
+    let mut looks = Looks::new(look, home);
+    while let Some(area) = looks.next(look) {
+        if is_locked_in(look, frame, home.1, area, steps) {
             return true;
         }
-        after = Some((first, area));
     }
     false
 }

@@ -49,7 +49,7 @@ fn step<D: SwapDev>(
     requires { D.sizes dev.old ≡ sizes_of kernel.old.sizes }
     ensures { D.sizes dev.new ≡ sizes_of kernel.new.sizes }
 {
-    if kernel.steps_done() > 2 {
+    if kernel.steps_done() > 2 || !command.is_in_grammar() {
         return Ok(false);
     }
     let reply = kernel.step(alloc, command, dev)?;

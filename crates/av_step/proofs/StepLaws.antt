@@ -23,12 +23,13 @@ use Rattle.av_plain.specs.Sound.{AllSound}
 use Rattle.av_plain.specs.Choice.{Free, ListsAll}
 use Rattle.av_base.specs.Words.{with_at}
 use Rattle.av_vma.specs.Pages.{Pages, home_of}
-use Rattle.av_plain.specs.Stands.{AnonsStand, AreasAre, AreasStand, BytesStand, HeadersStand, HomesAre, IsKept, entry_of, free_of, kin_of}
+use Rattle.av_plain.specs.Stands.{AnonsStand, AreasAre, AreasStand, BytesStand, HeadersStand, HomesAre, IsKept, ItemsAre, entry_of, free_of, kin_of}
 use Rattle.av_anon.specs.declared.anons.Anons.{Anons as AnonSet}
 use Rattle.av_anon.specs.declared.infos.Info.{Info}
 use Rattle.av_spaces.specs.Kin.{AnonsFit, AnonsStay, chain_by, info_of}
 use Rattle.av_spaces.proofs.Kin.{stay_same}
 use Rattle.av_plain.specs.Areas.{AnonVma, AreLeft, AreNext, Areas, chain_length, next_areas}
+use Rattle.av_plain.proofs.Covered.{stay-left}
 use Rattle.av_plain.proofs.Covered.Swap.{Reach}
 use Rattle.av_plain.proofs.Covered.Zaps.{next-reach}
 use Rattle.av_plain.proofs.Device.{setting-layouts}
@@ -91,7 +92,7 @@ left_alone {d} k s keeps =
 pub areas_kept : {d : Device} (k : Mem) (s : State) (command : Command) (answer : Answer) → Keeps d k s →
     next_areas (chain_length s.anons) s.areas s.world command answer ≡ s.areas
     → AreNext (rmap_of s) s.world command answer (rmap_of s)
-areas_kept {d} k s command answer keeps stay = record { areas = sym stay; anons = left_alone k s keeps; homes = refl }
+areas_kept {d} k s command answer keeps stay = record { areas = sym stay; anons = left_alone k s keeps; homes = refl; items = refl }
 
 -- after any command but a fork
 pub rmap_kept : {d : Device} (k : Mem) (s : State) (command : Command) (answer : Answer) → is_fork command ≡ false → Keeps d k s →
@@ -269,27 +270,29 @@ orderly {d} k s keeps = record {
   there = keeps.stands.sound.in_areas;
   parts = keeps.stands.parts.ledger;
   lists = keeps.lists;
+  items = keeps.items;
   swap = keeps.swap.frames;
 }
 
--- each entry of a frame or a slot is covered
+-- each entry of a frame, merged or not, or of a slot is covered
 pub reach_of : {d : Device} (k : Mem) (s : State) → Keeps d k s → Reach s.ledger (rmap_of s)
 reach_of {d} k s keeps = record {
   in_order = keeps.stands.sound.ledger.in_order;
   once = keeps.stands.sound.ledger.slots_once;
   sound = keeps.stands.reach;
   slots = keeps.stands.slots;
+  merged = keeps.stands.merged;
 }
 
 pub stepped : {d : Device} (old new : Mem) (s next : State) (command : Command) (reply : Reply) → Keeps d old s
     → IsStep (setting_by d old) s command reply next →
     frame_count new ≡ frame_count old → KeepsSwap old new → HasLedger d new next.ledger → free_of (view new) ≡ next.free
     → AreasAre (view new) next.areas → AnonsStand (view new) next.areas next.anons → HomesAre (view new) next.homes
-    → AllCovered next.ledger (rmap_of next) →
+    → ItemsAre (view new) next.ledger next.items → AllCovered next.ledger (rmap_of next) →
     AnonsFit new.spaces new.anons → AreasStand (view new) next.world → HasTables new → BytesStand (view new) d next.world next.ledger
     → StepsBeside d old new s command reply
-stepped {d} old new s next command reply keeps step same_count swap stands free areas_now anons_now homes_now covered fit areas tables
-    bytes = record {
+stepped {d} old new s next command reply keeps step same_count swap stands free areas_now anons_now homes_now items_now covered fit areas
+    tables bytes = record {
       next = next;
       step = step;
       keeps = record {
@@ -304,10 +307,13 @@ stepped {d} old new s next command reply keeps step same_count swap stands free 
           areas = areas_now;
           anons = anons_now;
           homes = homes_now;
+          items = items_now;
           reach = covered.frames;
           slots = covered.slots;
+          merged = covered.merged;
         };
         lists = stands.lists;
+        items = stands.items;
         tables = tables;
         anons = fit;
         swap = fits-kept d None old new swap same_count keeps.swap;
@@ -328,11 +334,11 @@ pub reach_after : {d : Device} (old : Mem) (s : State) → Keeps d old s → (sp
     → AnonsStay old.spaces old.anons spaces anons →
     (l : Ledger) (on : Areas) → ((q page : ℕ) → areas_on spaces.processes q page ≡ on q page)
     → ((k : Key) (home : ℕ × ℕ) → is_some (entry l k) ≡ true → home_of k.1 (s.areas k.0 k.1) ≡ Some home → home_of k.1 (on k.0 k.1) ≡ Some home)
-    → Reach l (rmap_of s) → AllCovered l (record { areas = on; anons = left_of anons s.anons; homes = s.homes })
+    → Reach l (rmap_of s) → AllCovered l (record { areas = on; anons = left_of anons s.anons; homes = s.homes; items = s.items })
 reach_after {d} old s keeps spaces anons stay l on same homes reach =
-    let after = next-reach l (rmap_of s) (record { areas = on; anons = left_of anons s.anons; homes = s.homes }) homes owns
-    (are_left d old s keeps spaces anons stay on same) refl reach in
-    record { frames = after.sound; slots = after.slots }
+    let after = next-reach l (rmap_of s) (record { areas = on; anons = left_of anons s.anons; homes = s.homes; items = s.items }) homes owns
+    (stay-left s.anons on (left_of anons s.anons) (are_left d old s keeps spaces anons stay on same)) refl refl reach in
+    record { frames = after.sound; slots = after.slots; merged = after.merged }
   where
     owns : (p page v : ℕ) → IsSomeAnd (on p page) (λ area. area.anon ≡ Some v) →
         (q : ℕ) × (other : ℕ) × IsSomeAnd (s.areas q other) (λ area. area.anon ≡ Some v)
@@ -350,12 +356,14 @@ state_after s p now on l free anons = record {
   areas = with_at p on s.areas;
   anons = left_of anons s.anons;
   homes = s.homes;
+  items = s.items;
 }
 
 module _ {d : Device} (old new : Mem) (s : State) (command : Command) (reply : Reply) (p : ℕ) (now : Process) (on : Pages) (l : Ledger)
     (keeps : Keeps d old s) (stay : AnonsStay old.spaces old.anons new.spaces new.anons) (same_count : frame_count new ≡ frame_count old)
     (swap : KeepsSwap old new) (stands : HasLedger d new l)
     (bytes : (view new).bytes ≡ (view old).bytes) (homes : (view new).homes ≡ (view old).homes)
+    (items : ItemsAre (view new) l s.items)
     (others : (q page : ℕ) → (q == p) ≡ false → entry l (q, page) ≡ entry s.ledger (q, page))
     (cached : KeepsCached s.ledger l) (kept : (page : ℕ) → IsKept (view old) d s.ledger (entry l (p, page)) (now page))
     (reach : Reach l (rmap_of s)) (home : (page : ℕ) (home : ℕ × ℕ) → is_some (entry l (p, page)) ≡ true →
@@ -383,7 +391,7 @@ module _ {d : Device} (old new : Mem) (s : State) (command : Command) (reply : R
   changed step areas_now areas tables = stepped old new s (state_after s p now on l (free_of (view new)) new.anons) command reply keeps
       step same_count swap stands refl areas_now
       (anons_stand d old s keeps new.spaces new.anons stay (with_at p on s.areas) areas_now new refl refl)
-      (λ f. ap (λ h. h f) homes ∙ keeps.stands.homes f)
+      (λ f. ap (λ h. h f) homes ∙ keeps.stands.homes f) items
       (reach_after old s keeps new.spaces new.anons stay l (with_at p on s.areas) areas_now home-all reach) stay.fit areas tables
       (bytes-left d (view old) (view new) s.world (set_process s.world p now) s.ledger l bytes cached keeps.stands.parts.bytes kept-all)
 
@@ -431,5 +439,6 @@ stays_orderly d old tables spaces anons l entries h = record {
         swap = record { finds = had.swap.finds; counts = had.swap.counts; flight = had.swap.flight; on = had.swap.on };
       };
   lists = h.lists;
+  items = h.items;
   swap = h.swap;
 }

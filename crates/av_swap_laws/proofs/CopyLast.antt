@@ -1,5 +1,5 @@
 -- A page gets a copy of a frame of which it was the last use: that frame is free then.
-use Rattle.std.proofs.Common.{◌≡◌, ℕ, ◌+◌, ◌-◌, ◌<◌, ◌≤◌, Bool, true, false, cond, ◌&&◌, ◌||◌, List, [], ◌∷◌, ◌++◌, Option, Some, None, is_none, refl, sym, ap, subst, ◌∙◌, arith, ◌==◌, T}
+use Rattle.std.proofs.Common.{◌≡◌, ℕ, ◌+◌, ◌-◌, ◌<◌, ◌≤◌, Bool, true, false, cond, ◌&&◌, ◌||◌, List, ◌∷◌, Option, Some, is_none, refl, sym, ap, subst, ◌∙◌, arith, ◌==◌, T}
 use Rattle.std.proofs.lemmas.Bool.Decides.{nat_tests}
 use Rattle.std.proofs.lemmas.Bool.{false≢true}
 use Rattle.std.specs.FinMap.Entries.{is_sorted}
@@ -14,9 +14,8 @@ use Rattle.av_plain.specs.Ledger.{InFrame, Ledger, Setting, entry, is_free, is_m
 use Rattle.av_plain.specs.Sound.{holders, slots}
 use Rattle.av_plain.specs.Stands.{LedgerStands, Pte, View, free_of}
 use Rattle.av_plain.proofs.Covered.Swap.{still-in}
-use Rattle.av_plain.proofs.Ledger.{how_many-found, map_count-set}
+use Rattle.av_plain.proofs.Ledger.{map_count-set}
 use Rattle.av_plain.proofs.Ledger.Order.{weight}
-use Rattle.av_plain.proofs.Sound.Changes.{free-is}
 use Rattle.av_plain.proofs.Sound.Counts.{same-is, same-itself}
 use Rattle.av_plain.proofs.Sound.Entries.{slot_entries-set}
 use Rattle.av_swap_laws.specs.May.{LosesUse}

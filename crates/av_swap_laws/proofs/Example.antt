@@ -1,6 +1,6 @@
 -- A page goes out to a swap area and comes back.
 use Rattle.av_plain.specs.Sound.{mergings}
-use Rattle.std.proofs.Common.{◌≡◌, inl, inr, ℕ, ◌+◌, ◌<◌, ◌≤◌, Bool, true, false, cond, ◌&&◌, ◌||◌, [], ◌∷◌, Option, Some, None, option_map, refl, sym, ap, subst, ◌∙◌, arith, ◌==◌}
+use Rattle.std.proofs.Common.{◌≡◌, inl, inr, ℕ, ◌+◌, ◌<◌, ◌≤◌, Bool, true, false, cond, ◌&&◌, ◌||◌, [], ◌∷◌, ◌++◌, Option, Some, None, option_map, refl, sym, ap, subst, ◌∙◌, arith, ◌==◌}
 use Rattle.std.proofs.lemmas.Bool.Decides.{nat_tests}
 use Rattle.std.proofs.lemmas.Bool.{false≢true}
 use Rattle.std.specs.Prelude.{IfSome, IsSome, IsSomeAnd, option_and_then}
@@ -14,6 +14,7 @@ use Rattle.av_clusters.specs.Clusters.{fresh, take_slot}
 use Rattle.av_vma.specs.declared.area.Area.{Area}
 use Rattle.av_trace.specs.declared.note.Note.TheVariants.{Dropped, Loaded, Mapped, Put, Started, Unmapped, Written}
 use Rattle.av_plain.specs.Areas.{chain_by, home_for, rmap_after_note, root_anon}
+use Rattle.av_trace.specs.Row.{AreRising}
 use Rattle.av_plain.specs.Choice.{AreaSlots, no_slots}
 use Rattle.av_plain.specs.Event.{Noted, after_note}
 use Rattle.av_plain.specs.Covered.{IsKin, IsOfSlot, IsReached}
@@ -113,6 +114,7 @@ all-covered : AllCovered in_frame the_rmap
 all-covered = record {
   frames = record {
     made = λ v there. made v (v == 0) refl there;
+    rising = λ v. rising v (v == 0);
     own = λ p page v is. subst (λ v. is_in v (chain_by the_rmap.anons (Some v)) ≡ true) (own-is p page v is) refl;
     covered = λ k f names own. covered k f (same_key k (1, the_page)) refl names;
   };
@@ -133,6 +135,10 @@ all-covered = record {
     made : (v : ℕ) (b : Bool) → (v == 0) ≡ b → IsSome (cond b (Some (root_anon 0)) None) → v < 1
     made v true e h = let same : v ≡ 0 = grind (arith, nat_tests, e) in omega (arith, same)
     made v false e h = absurd (false≢true h)
+
+    rising : (v : ℕ) (b : Bool) → IfSome (cond b (Some (root_anon 0)) None) (λ anon. AreRising (anon.chain ++ 1 ∷ []))
+    rising v true = (omega arith, tt)
+    rising v false = tt
 
     member : (u : ℕ) (b : Bool) → (u == 0) ≡ b → (b || false) ≡ true → IsSomeAnd (cond b (Some (root_anon 0)) None) (λ other. other.root ≡ 0)
     member u true e among = refl

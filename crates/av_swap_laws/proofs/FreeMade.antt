@@ -8,8 +8,7 @@ use Rattle.av_base.specs.Words.{is_in}
 use Rattle.av_base.specs.declared.slot.Slot.{Slot}
 use Rattle.av_trace.specs.declared.note.Note.TheVariants.{Copied, New, Zeroed}
 use Rattle.av_plain.specs.Choice.{Chooses}
-use Rattle.av_plain.specs.Event.{Noted, Used, after_note, after_use_of, if_some, set_entry, with_stale, to_inactive_head}
-use Rattle.av_plain.specs.Fault.{asks_copy}
+use Rattle.av_plain.specs.Event.{Noted, Used, after_use_of, if_some, set_entry, with_stale, to_inactive_head}
 use Rattle.av_plain.specs.Ledger.{IsBlank, InFrame, Ledger, Setting, entry, is_free, key_cmp, map_count, slot_of, is_merged}
 use Rattle.av_plain.specs.Sound.{holders}
 use Rattle.av_plain.specs.Stands.{LedgerStands, View, free_of}

@@ -53,6 +53,7 @@ module _ (k : Mem) (swap : SwapStore) (c : Option ℕ) (same : shown_swap swap �
     areas_fit = h.areas_fit;
     free = subst (λ (v : View). ListsAll (setting_by d k) l (free_of v)) (sym view-closing) h.free;
     lists = h.lists;
+    items = h.items;
     tables = h.tables;
     fit = h.fit;
     swap = record {
@@ -139,6 +140,7 @@ module _ (d : Device) (k : Mem) (swap : SwapStore) (area : ℕ) (same : shown_sw
         h.there h.areas_fit
         step-off.chosen h.free;
     lists = h.lists;
+    items = h.items;
     tables = h.tables;
     fit = h.fit;
     swap = record {

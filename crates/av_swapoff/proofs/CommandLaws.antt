@@ -39,7 +39,7 @@ has-emptied names names' d d₁ d' old k₁ new area before now end gives lent w
     (subst (λ x. HasEmptied d x old k₁ w r l area before now end) (sym is.0) (record {
       added = out.0;
       notes = out.1;
-      empties = out.2.0;
+      empties = out.2.0 w r (closing-so d (Some area) old w r l serves);
       closing = record {
         sound = subst (λ m. IsSound m (after_notes l out.0)) (sym stays.setting) out.3.sound;
         serves = subst (λ c. Serves d₁ c k₁ w' r' (after_notes l out.0)) closing' (does.claims w r (closing-so d (Some area) old w r l serves));
@@ -48,5 +48,6 @@ has-emptied names names' d d₁ d' old k₁ new area before now end gives lent w
           serves.swap.closed does.chooses;
       same = one-device names names' d d₁ old k₁ stays;
       count = ap (λ (m : Setting). m.frames) stays.setting;
-      failures = out.2.1;
+      failures = out.2.1.rose;
+      failed = out.2.1.failed;
     }))

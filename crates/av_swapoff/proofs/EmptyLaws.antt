@@ -10,13 +10,17 @@ use Rattle.av_base.specs.Words.{how_many}
 use Rattle.av_base.specs.declared.slot.Slot.{Slot}
 use Rattle.av_io.specs.Count.{RoseBy}
 use Rattle.av_trace.specs.declared.note.Note.{Note}
-use Rattle.av_trace.specs.declared.note.Note.TheVariants.{Aged, Copied, Dropped, Failed, Kept, Loaded, Mapped, New, Put, Started, Unmapped, Written, Zeroed}
-use Rattle.av_plain.specs.Event.{after_note, after_notes, off_cache}
+use Rattle.av_trace.specs.declared.note.Note.TheVariants.{Aged, Copied, Dropped, Failed, Joined, Kept, Loaded, Mapped, Moved, New, Put, Shared, Started, Unmapped, Written, Zeroed}
+use Rattle.av_plain.specs.Areas.{Rmap}
+use Rattle.av_plain.specs.Event.{after_note, after_notes, note_events, off_cache}
+use Rattle.av_plain.specs.Fault.{is_locked}
 use Rattle.av_plain.specs.Ledger.{InSlot, Key, Ledger, Setting, frame_at, has_free, has_free_slot, is_free_slot, is_on, is_open, key_cmp, keys_of_slot, may_give, names_slot, same_slot, size_of, slot_count, slot_entries, slots_in_use}
-use Rattle.av_plain.specs.Pass.{Completes, TakesFor, fails, is_fail, out_of}
+use Rattle.av_plain.specs.Pass.{Completes, Spared, TakesFor, fails, is_fail, out_of}
 use Rattle.av_plain.specs.Sound.{IsSound, count, is_there, slots}
 use Rattle.av_plain.specs.Swapoff as plain
-use Rattle.av_plain.specs.Swapoff.{EndsAt, IsEmptied, IsFetched, NoRoom, end_at, map_notes}
+use Rattle.av_plain.specs.Swapoff.{EndsAt, IsEmptied, IsFetched, NoRoom, end_at, map_notes, sparing_area}
+use Rattle.av_plain.specs.Load.{with_loads}
+use Rattle.av_plain.specs.World.{World}
 use Rattle.av_plain.proofs.Access.{after_notes-append}
 use Rattle.av_plain.proofs.Ledger.{how_many-append, how_many-found}
 use Rattle.av_plain.proofs.Ledger.NoSwap.{has_free-some}
@@ -25,8 +29,7 @@ use Rattle.av_plain.proofs.Sound.Changes.{drop-sound}
 use Rattle.av_plain.proofs.Sound.Counts.{same-is, slot-is, slot-itself}
 use Rattle.av_plain.proofs.Sound.Steps.{settle-entries, settle-flight, slots-dropped}
 use Rattle.av_plain.proofs.Sound.There.{AreLawful, IsLawful, NoNew, counted-slot, lawful-append, lawful-is, lawful-no_new, lawful-seeks, sorted-note}
-use Rattle.av_evict.specs.Steps.{spares}
-use Rattle.av_evict.specs.System.{Gives, Goes, SystemView}
+use Rattle.av_evict.specs.System.{Gives, Goes, SystemView, spares}
 use Rattle.av_evict.proofs.SeekLaws.{completed-landed}
 use Rattle.av_evict.proofs.SystemLaws.{goes-then}
 use Rattle.av_swapoff.specs.Empty.{EmptiesAllBy, EmptiesEach, EmptiesEachBy, EmptiesPage, EmptiesPageBy, EmptiesSlotBy, IsStuck, MayEmpty, MayEmptyEach, close_of, failed_by, lost_by}
@@ -34,6 +37,7 @@ use Rattle.av_swapoff.specs.Slot.{IsIn, MayFetch, mapped_notes}
 use Rattle.av_swapoff.specs.System.{AreUsers, IsUser, MayLoad, slot_at}
 use Rattle.av_swapoff.specs.declared.empty.EmptyEnd.{EmptyEnd}
 use Rattle.av_swapoff.specs.declared.empty.EmptyEnd.TheVariants.{Empty, NoFrame, NoPage}
+use Rattle.av_swapoff.proofs.LockLaws.{TellsLocked, locked-loads, locked-then}
 use Rattle.av_swapoff.proofs.SlotLaws.{AllMapped, fetched-in, load-sound, mapped-keys, rose-both, rose-plain, sought-may_load}
 use Rattle.av_swapoff.proofs.UserLaws.{IsKeyOf, Steady, SteadyBut, dropped-other, key-user, keys-length, steady-loaded, steady-seeks, used-user, user-key}
 
@@ -98,6 +102,9 @@ idle-note m k l (Failed t) sorted h = idle-other m k l (Failed t) (lawful-no_new
 idle-note m k l (Dropped t) sorted h = idle-other m k l (Dropped t) (lawful-no_new (bare m) (Some k) l (Dropped t) sorted tt)
 idle-note m k l (Kept f cause) sorted h = idle-other m k l (Kept f cause) (lawful-no_new (bare m) (Some k) l (Kept f cause) sorted tt)
 idle-note m k l (Aged f) sorted h = idle-other m k l (Aged f) (lawful-no_new (bare m) (Some k) l (Aged f) sorted tt)
+idle-note m k l (Shared f) sorted h = idle-other m k l (Shared f) (lawful-no_new (bare m) (Some k) l (Shared f) sorted tt)
+idle-note m k l (Joined p a f) sorted h = idle-other m k l (Joined p a f) (lawful-no_new (bare m) (Some k) l (Joined p a f) sorted tt)
+idle-note m k l (Moved from to) sorted h = idle-other m k l (Moved from to) (lawful-no_new (bare m) (Some k) l (Moved from to) sorted tt)
 
 pub idle-notes : (m : Setting) (k : ℕ) (l : Ledger) (ns : List Note) → T (is_sorted key_cmp l.entries) → AreLawful m (Some k) l ns →
     Idle k l (after_notes l ns)
@@ -119,6 +126,10 @@ lawful-maps : (m : Setting) (closing : Option ℕ) (l : Ledger) (f : ℕ) (ks : 
 lawful-maps m closing l f [] s = (tt, tt)
 lawful-maps m closing l f (k ∷ ks) s = (tt, lawful-maps m closing (after_note (Mapped k.0 (address_of k.1) f) l) f ks s)
 
+-- what a pass leaves alone while the area is closing, by the frames of locked pages
+abbrev pub leaving : (ℕ → Bool) → ℕ → Spared
+leaving locked k = record { pinned = None; locked = locked; closing = Some k }
+
 -- the page was fetched: what that keeps
 pub record FetchKept (m : Setting) (k : ℕ) (s : Slot) (f : ℕ) (l : Ledger) (ns : List Note) : Type 0 where
   pub sound : IsSound m (after_notes l ns)
@@ -126,15 +137,15 @@ pub record FetchKept (m : Setting) (k : ℕ) (s : Slot) (f : ℕ) (l : Ledger) (
   pub at : IsIn s f (after_notes l ns)
   pub steady : Steady l (after_notes l ns)
 
-pub fetch-kept : (m : Setting) (k : ℕ) (l : Ledger) (s : Slot) (u : Key) (f : ℕ) (ns : List Note) → IsSound m l → MayFetch s u l →
-    IsFetched m (spares (Some k) None) l s f ns → FetchKept m k s f l ns
-fetch-kept m k l s u f ns sound may fetches = by (frame_at l s) refl fetches
+pub fetch-kept : (m : Setting) (locked : ℕ → Bool) (k : ℕ) (l : Ledger) (s : Slot) (u : Key) (f : ℕ) (ns : List Note) → IsSound m l → MayFetch s u l →
+    IsFetched m (leaving locked k) l s f ns → FetchKept m k s f l ns
+fetch-kept m locked k l s u f ns sound may fetches = by (frame_at l s) refl fetches
   where
     at : IsIn s f (after_notes l ns)
-    at = fetched-in m (Some k) l s u f ns sound may fetches
+    at = fetched-in m (leaving locked k) l s u f ns sound may fetches
 
     by : (o : Option ℕ) → frame_at l s ≡ o →
-        MatchOption o (TakesFor m (spares (Some k) None) l ns (Loaded s) × (frame_at (after_notes l ns) s ≡ Some f)) (λ g. (ns ≡ []) × (f ≡ g)) →
+        MatchOption o (TakesFor m (leaving locked k) l ns (Loaded s) × (frame_at (after_notes l ns) s ≡ Some f)) (λ g. (ns ≡ []) × (f ≡ g)) →
         FetchKept m k s f l ns
     by (Some g) is h = record {
       sound = subst (λ x. IsSound m (after_notes l x)) (sym h.0) sound;
@@ -145,14 +156,14 @@ fetch-kept m k l s u f ns sound may fetches = by (frame_at l s) refl fetches
     by None is h = record {
       sound = subst (IsSound m) (sym whole) (load-sound m l1 s u t.frame p named t.in_range t.free);
       lawful = lawful-is m (Some k) l ns (t.sought ++ Loaded s t.frame ∷ []) t.whole
-          (lawful-append m (Some k) l t.sought (Loaded s t.frame ∷ []) (lawful-seeks m (spares (Some k) None) l t.sought t.seeks)
+          (lawful-append m (Some k) l t.sought (Loaded s t.frame ∷ []) (lawful-seeks m (leaving locked k) l t.sought t.seeks)
           (how_many-found (names_slot s) u l1.entries (InSlot s) named.named (slot-itself s), tt));
       at = at;
       steady = subst (Steady l) (sym whole)
-          (λ r q i. steady-loaded l1 s t.frame r q (steady-seeks m (spares (Some k) None) l t.sought sound may.landed t.seeks r q i));
+          (λ r q i. steady-loaded l1 s t.frame r q (steady-seeks m (leaving locked k) l t.sought sound may.landed t.seeks r q i));
     }
       where
-        t : TakesFor m (spares (Some k) None) l ns (Loaded s)
+        t : TakesFor m (leaving locked k) l ns (Loaded s)
         t = h.0
 
         l1 : Ledger
@@ -162,10 +173,10 @@ fetch-kept m k l s u f ns sound may fetches = by (frame_at l s) refl fetches
         whole = ap (after_notes l) h.0.whole ∙ after_notes-append l h.0.sought (Loaded s h.0.frame ∷ [])
 
         p : IsSound m (after_notes l h.0.sought)
-        p = (seeks-kept m (spares (Some k) None) l h.0.sought sound h.0.seeks).sound
+        p = (seeks-kept m (leaving locked k) l h.0.sought sound h.0.seeks).sound
 
         named : MayLoad m s u (after_notes l h.0.sought)
-        named = sought-may_load m (Some k) l s u h.0.sought sound may (record { absent = is; seeks = h.0.seeks })
+        named = sought-may_load m (leaving locked k) l s u h.0.sought sound may (record { absent = is; seeks = h.0.seeks })
             (has_free-some m (after_notes l h.0.sought) h.0.frame h.0.in_range h.0.free)
 
 pub record BringKept (m : Setting) (k : ℕ) (s : Slot) (l : Ledger) (ns : List Note) : Type 0 where
@@ -174,10 +185,10 @@ pub record BringKept (m : Setting) (k : ℕ) (s : Slot) (l : Ledger) (ns : List 
   pub landed : (after_notes l ns).flight ≡ []
   pub steady : SteadyBut s l (after_notes l ns)
 
-module _ (m : Setting) (k : ℕ) (l : Ledger) (s : Slot) (u : Key) (ns : List Note) (sound : IsSound m l) (may : MayFetch s u l)
-    (b : IsEmptied m (spares (Some k) None) l s ns) where
+module _ (m : Setting) (locked : ℕ → Bool) (k : ℕ) (l : Ledger) (s : Slot) (u : Key) (ns : List Note) (sound : IsSound m l) (may : MayFetch s u l)
+    (b : IsEmptied m (leaving locked k) l s ns) where
   kept : FetchKept m k s b.frame l b.fetched
-  kept = fetch-kept m k l s u b.frame b.fetched sound may b.fetches
+  kept = fetch-kept m locked k l s u b.frame b.fetched sound may b.fetches
 
   -- after the fetch, and after the entries became the frame
   l1 : Ledger
@@ -314,40 +325,42 @@ none-more area page l l' idle none here q low less = by (q == page) refl
         (none q low (let d : (q ≡ page → ⊥) = grind (arith, nat_tests, is) in grind (arith, nat_tests, d, less)))))
 
 -- the notes of the rest, from here on, are those of the whole
-abbrev pub Continues : Setting → ℕ → Ledger → List Note → Type 0
-Continues m area l ns = (end : plain.Close) (pages : List ℕ) (rest : List Note) →
-    plain.Empties m (spares (Some area) None) area (after_notes l ns) pages rest end →
-    (all : List ℕ) × plain.Empties m (spares (Some area) None) area l all (ns ++ rest) end
+abbrev pub Continues : Setting → World → ℕ → Ledger → List Note → Type 0
+Continues m w area l ns = (end : plain.Close) (pages : List ℕ) (rest : List Note) →
+    plain.Empties m w area (after_notes l ns) pages rest end →
+    (all : List ℕ) × plain.Empties m w area l all (ns ++ rest) end
 
-pub record SlotEmptied (m : Setting) (area page : ℕ) (users : List (Option Key)) (l : Ledger) (ns : List Note) : Type 0 where
+-- a slot was emptied if it was in use, where these were the frames of locked pages
+pub record SlotEmptied (m : Setting) (locked : ℕ → Bool) (area page : ℕ) (users : List (Option Key)) (l : Ledger) (ns : List Note) : Type 0 where
   pub none : NoneBelow area (page + 1) (after_notes l ns)
   pub may : MayEmptyEach m area users (after_notes l ns)
-  pub more : Continues m area l ns
+  pub more : (w : World) → locked ≡ is_locked w l → Continues m w area l ns
 
-pub emptied-slot : (m : Setting) (area page : ℕ) (users : List (Option Key)) (user : Option Key) (l : Ledger) (ns : List Note) → IsSound m l →
-    MayEmptyEach m area users l → MayEmpty (slot_at area page) user l → NoneBelow area page l →
-    EmptiesPage m (Some area) (slot_at area page) None l ns →
-    SlotEmptied m area page users l ns
-emptied-slot m area page users user l ns sound may at none (inl h) = subst (SlotEmptied m area page users l) (sym h.1) (record {
+pub emptied-slot : (m : Setting) (locked : ℕ → Bool) (area page : ℕ) (users : List (Option Key)) (user : Option Key) (l : Ledger) (ns : List Note) →
+    IsSound m l → MayEmptyEach m area users l → MayEmpty (slot_at area page) user l → NoneBelow area page l →
+    EmptiesPage m (leaving locked area) (slot_at area page) None l ns →
+    SlotEmptied m locked area page users l ns
+emptied-slot m locked area page users user l ns sound may at none (inl h) = subst (SlotEmptied m locked area page users l) (sym h.1) (record {
   none = none-more area page l l (λ s at z. z) none h.0;
   may = may;
-  more = λ end pages rest e. (pages, e);
+  more = λ w are end pages rest e. (pages, e);
 })
-emptied-slot m area page users user l ns sound may at none (inr h) = by user (at.user h.0)
+emptied-slot m locked area page users user l ns sound may at none (inr h) = by user (at.user h.0)
   where
-    by : (o : Option Key) → IsSomeAnd o (IsUser l (slot_at area page)) → SlotEmptied m area page users l ns
+    by : (o : Option Key) → IsSomeAnd o (IsUser l (slot_at area page)) → SlotEmptied m locked area page users l ns
     by None is = absurd is
     by (Some u) is =
         let s = slot_at area page in
         let fetch : MayFetch s u l = record { landed = may.landed; used = h.0; user = is } in
-        let k = bring-kept m area l s u ns sound fetch h.1 in
+        let k = bring-kept m locked area l s u ns sound fetch h.1 in
         let gone = zero-count (after_notes l ns) s k.gone in
         let first = first-in_use m area page l none h.0 (may.within page h.0) in
         record {
           none = none-more area page l (after_notes l ns) k.idle none gone;
-          may = still-may m area page users l (after_notes l ns) sound (bring-sound m area l s u ns sound fetch h.1) gone k.idle
+          may = still-may m area page users l (after_notes l ns) sound (bring-sound m locked area l s u ns sound fetch h.1) gone k.idle
               k.landed k.steady may;
-          more = λ end pages rest e. (page ∷ pages, (first.0, ns, rest, first.1, refl, h.1, e));
+          more = λ w are end pages rest e.
+              (page ∷ pages, (first.0, ns, rest, first.1, refl, subst (λ x. IsEmptied m (leaving x area) l s ns) are h.1, e));
         }
 
 -- ---- in the midst of the area
@@ -358,7 +371,7 @@ pub record Emptying (old now : SystemView) (before notes : List Note) (area page
   pub goes : Goes old now l gained
   pub none : NoneBelow area page (after_notes l gained)
   pub may : MayEmptyEach old.setting area users (after_notes l gained)
-  pub more : Continues old.setting area l gained
+  pub more : (w : World) (r : Rmap) → old.claims w r l → Continues old.setting w area l gained
 
 abbrev pub AreEmptying : SystemView → SystemView → List Note → List Note → ℕ → ℕ → List (Option Key) → Type 0
 AreEmptying old now before notes area page users =
@@ -372,18 +385,25 @@ page-may m area page users user l is may = record {
   user = λ used. subst (λ o. IsSomeAnd o (λ u. IsSomeAnd u (IsUser l (slot_at area page)))) is (may.there page used);
 }
 
+-- the same where the system has the setting and is closing this area
+while-closing : (b : SystemView) (m : Setting) (area : ℕ) → b.setting ≡ m → b.closing ≡ Some area → (s : Slot) (end : Option EmptyEnd)
+    (l : Ledger) (ns : List Note) → EmptiesPage b.setting (spares b None) s end l ns → EmptiesPage m (leaving b.locked area) s end l ns
+while-closing b m area setting closing s end l ns did =
+    subst (λ k. EmptiesPage m (record { pinned = None; locked = b.locked; closing = k }) s end l ns) closing
+    (subst (λ m. EmptiesPage m (spares b None) s end l ns) setting did)
+
 pub emptying-step : (a b c : SystemView) (n0 n1 n2 : List Note) (area page : ℕ) (users : List (Option Key)) (user : Option Key) →
-    slice_get users page ≡ Some user → a.closing ≡ Some area → AreEmptying a b n0 n1 area page users →
+    slice_get users page ≡ Some user → a.closing ≡ Some area → TellsLocked b → AreEmptying a b n0 n1 area page users →
     Gives b c n1 n2 (MayEmpty (slot_at area page) user) (EmptiesPageBy b c (slot_at area page) None) → AreEmptying a c n0 n2 area (page + 1) users
-emptying-step a b c n0 n1 n2 area page users user is closing t gives l sound stands may =
+emptying-step a b c n0 n1 n2 area page users user is closing tells t gives l sound stands may =
     let i = t l sound stands may in
     let l1 = after_notes l i.gained in
-    let s1 : IsSound b.setting l1 = subst (λ m. IsSound m l1) (sym i.goes.does.stays.setting) i.goes.sound in
+    let stays = i.goes.does.stays in
+    let s1 : IsSound b.setting l1 = subst (λ m. IsSound m l1) (sym stays.setting) i.goes.sound in
     let at = page-may a.setting area page users user l1 is i.may in
     let x = gives l1 s1 i.goes.does.stands at in
-    let did = subst (λ k. EmptiesPage a.setting k (slot_at area page) None l1 x.0) (i.goes.does.stays.closing ∙ closing)
-    (subst (λ m. EmptiesPage m b.closing (slot_at area page) None l1 x.0) i.goes.does.stays.setting x.2.0) in
-    let d = emptied-slot a.setting area page users user l1 x.0 i.goes.sound i.may at i.none did in
+    let did = while-closing b a.setting area stays.setting (stays.closing ∙ closing) (slot_at area page) None l1 x.0 x.2.0 in
+    let d = emptied-slot a.setting b.locked area page users user l1 x.0 i.goes.sound i.may at i.none did in
     let same : after_notes l (i.gained ++ x.0) ≡ after_notes l1 x.0 = after_notes-append l i.gained x.0 in
     record {
       gained = i.gained ++ x.0;
@@ -391,21 +411,19 @@ emptying-step a b c n0 n1 n2 area page users user is closing t gives l sound sta
       goes = goes-then a b c l i.gained x.0 i.goes x.3;
       none = subst (NoneBelow area (page + 1)) (sym same) d.none;
       may = subst (MayEmptyEach a.setting area users) (sym same) d.may;
-      more = λ end pages rest h.
-          let y = d.more end pages rest (subst (λ z. plain.Empties a.setting (spares (Some area) None) area z pages rest end) same h) in
-          let w = i.more end y.0 (x.0 ++ rest) y.1 in
-          (w.0, subst (λ z. plain.Empties a.setting (spares (Some area) None) area l w.0 z end) (sym (append_assoc i.gained x.0 rest)) w.1);
+      more = λ w r claimed end pages rest h.
+          let y = d.more w (locked-then a b l i.gained tells i.goes w r claimed) end pages rest
+          (subst (λ z. plain.Empties a.setting w area z pages rest end) same h) in
+          let whole = i.more w r claimed end y.0 (x.0 ++ rest) y.1 in
+          (whole.0, subst (λ z. plain.Empties a.setting w area l whole.0 z end) (sym (append_assoc i.gained x.0 rest)) whole.1);
     }
 
 -- a slot that can't go back
-stuck-ends : (m : Setting) (area page : ℕ) (end : EmptyEnd) (l : Ledger) (ns : List Note) (others : List ℕ) →
-    IsStuck m (Some area) (slot_at area page) end l ns → slots_in_use m l area ≡ page ∷ others →
-    plain.Empties m (spares (Some area) None) area l [] ns (close_of end)
-stuck-ends m area page end l ns others stuck is = subst (λ ps. EndsAt m (spares (Some area) None) area l ps ns (close_of end)) (sym is) (by end stuck)
+stuck-ends : (m : Setting) (w : World) (area page : ℕ) (end : EmptyEnd) (l : Ledger) (ns : List Note) (others : List ℕ) →
+    IsStuck m (sparing_area w area l) (slot_at area page) end l ns → slots_in_use m l area ≡ page ∷ others →
+    plain.Empties m w area l [] ns (close_of end)
+stuck-ends m w area page end l ns others stuck is = subst (λ ps. EndsAt m (sparing_area w area l) area l ps ns (close_of end)) (sym is) (by end stuck)
   where
-    now : Ledger
-    now = after_notes l ns
-
     full : (out : _) (b : Bool) → b ≡ false → NoRoom out ≡ (if b then plain.Unread else NoRoom out)
     full out true h = cc
     full out false h = refl
@@ -414,52 +432,54 @@ stuck-ends m area page end l ns others stuck is = subst (λ ps. EndsAt m (spares
     free c true h = refl
     free c false h = cc
 
-    by : (end : EmptyEnd) → IsStuck m (Some area) (slot_at area page) end l ns →
-        EndsAt m (spares (Some area) None) area l (page ∷ others) ns (close_of end)
+    by : (end : EmptyEnd) → IsStuck m (sparing_area w area l) (slot_at area page) end l ns →
+        EndsAt m (sparing_area w area l) area l (page ∷ others) ns (close_of end)
     by Empty h = absurd h
     by (NoFrame out) h = (
       h.0.absent,
       h.0.seeks,
-      ap NoRoom h.2 ∙ full (out_of m None (spares (Some area) None) (after_notes l ns)) (has_free m (after_notes l ns)) h.1,
+      ap NoRoom h.2 ∙ full (out_of m (sparing_area w area l) (after_notes l ns)) (has_free m (after_notes l ns)) h.1,
     )
     by NoPage h = (
       h.0.absent,
       h.0.seeks,
-      free (NoRoom (out_of m None (spares (Some area) None) (after_notes l ns))) (has_free m (after_notes l ns)) h.1,
+      free (NoRoom (out_of m (sparing_area w area l) (after_notes l ns))) (has_free m (after_notes l ns)) h.1,
     )
 
-stuck-failed : (m : Setting) (s : Slot) (k : Option ℕ) (end : EmptyEnd) (l : Ledger) (ns : List Note) → IsStuck m k s end l ns →
+stuck-failed : (m : Setting) (s : Slot) (sp : Spared) (end : EmptyEnd) (l : Ledger) (ns : List Note) → IsStuck m sp s end l ns →
     failed_by end ≤ fails ns
-stuck-failed m s k Empty l ns h = absurd h
-stuck-failed m s k (NoFrame out) l ns h = h.3
-stuck-failed m s k NoPage l ns h = omega arith
+stuck-failed m s sp Empty l ns h = absurd h
+stuck-failed m s sp (NoFrame out) l ns h = h.3
+stuck-failed m s sp NoPage l ns h = omega arith
 
 more-fails : (ns ms : List Note) (n : ℕ) → n ≤ fails ms → n ≤ fails (ns ++ ms)
 more-fails ns ms n h = let e = how_many-append is_fail ns ms in omega (arith, e, h)
 
 pub emptying-stop : (a b c : SystemView) (n0 n1 n2 : List Note) (area page : ℕ) (users : List (Option Key)) (user : Option Key) (end : EmptyEnd) →
-    slice_get users page ≡ Some user → a.closing ≡ Some area → AreEmptying a b n0 n1 area page users →
+    slice_get users page ≡ Some user → a.closing ≡ Some area → TellsLocked b → AreEmptying a b n0 n1 area page users →
     Gives b c n1 n2 (MayEmpty (slot_at area page) user) (EmptiesPageBy b c (slot_at area page) (Some end)) →
     Gives a c n0 n2 (MayEmptyEach a.setting area users) (EmptiesEachBy a c area end)
-emptying-stop a b c n0 n1 n2 area page users user end is closing t gives l sound stands may =
+emptying-stop a b c n0 n1 n2 area page users user end is closing tells t gives l sound stands may =
     let i = t l sound stands may in
     let l1 = after_notes l i.gained in
-    let s1 : IsSound b.setting l1 = subst (λ m. IsSound m l1) (sym i.goes.does.stays.setting) i.goes.sound in
+    let stays = i.goes.does.stays in
+    let s1 : IsSound b.setting l1 = subst (λ m. IsSound m l1) (sym stays.setting) i.goes.sound in
     let at = page-may a.setting area page users user l1 is i.may in
     let x = gives l1 s1 i.goes.does.stands at in
-    let did = subst (λ k. EmptiesPage a.setting k (slot_at area page) (Some end) l1 x.0) (i.goes.does.stays.closing ∙ closing)
-    (subst (λ m. EmptiesPage m b.closing (slot_at area page) (Some end) l1 x.0) i.goes.does.stays.setting x.2.0) in
-    let first = first-in_use a.setting area page l1 i.none did.0 (i.may.within page did.0) in
-    let whole = i.more (close_of end) [] x.0 (stuck-ends a.setting area page end l1 x.0 first.0 did.1 first.1) in (
+    let did = while-closing b a.setting area stays.setting (stays.closing ∙ closing) (slot_at area page) (Some end) l1 x.0 x.2.0 in
+    let first = first-in_use a.setting area page l1 i.none did.0 (i.may.within page did.0) in (
       i.gained ++ x.0,
       x.1 ∙ ap (λ z. z ++ x.0) i.added ∙ append_assoc n0 i.gained x.0,
       (
+        λ w r claimed.
+            let stuck = subst (λ z. IsStuck a.setting (leaving z area) (slot_at area page) end l1 x.0)
+            (locked-then a b l i.gained tells i.goes w r claimed) did.1 in
+            let whole = i.more w r claimed (close_of end) [] x.0 (stuck-ends a.setting w area page end l1 x.0 first.0 stuck first.1) in
+            record { pages = whole.0; empties = whole.1 },
         record {
-          pages = whole.0;
-          empties = whole.1;
-          failed = more-fails i.gained x.0 (failed_by end) (stuck-failed a.setting (slot_at area page) (Some area) end l1 x.0 did.1);
+          failed = more-fails i.gained x.0 (failed_by end) (stuck-failed a.setting (slot_at area page) (leaving b.locked area) end l1 x.0 did.1);
+          rose = rose-both i.gained x.0 (lost_by end) a.failures b.failures c.failures i.goes.does.failures x.2.1;
         },
-        rose-both i.gained x.0 (lost_by end) a.failures b.failures c.failures i.goes.does.failures x.2.1,
       ),
       goes-then a b c l i.gained x.0 i.goes x.3,
     )
@@ -468,25 +488,24 @@ emptying-stop a b c n0 n1 n2 area page users user end is closing t gives l sound
 pub emptying-end : (a b : SystemView) (n0 n1 : List Note) (area page : ℕ) (users : List (Option Key)) → AreEmptying a b n0 n1 area page users →
     length users ≤ page → Gives a b n0 n1 (MayEmptyEach a.setting area users) (EmptiesEachBy a b area Empty)
 emptying-end a b n0 n1 area page users t over l sound stands may =
-    let i = t l sound stands may in
-    let l1 = after_notes l i.gained in
-    let whole = i.more plain.Closed [] [] (ends l1 i.none i.may) in (
+    let i = t l sound stands may in (
       i.gained,
       i.added,
       (
-        record {
-          pages = whole.0;
-          empties = subst (λ z. plain.Empties a.setting (spares (Some area) None) area l whole.0 z plain.Closed) (append-nil i.gained) whole.1;
-          failed = omega arith;
-        },
-        rose-plain (fails i.gained) a.failures b.failures i.goes.does.failures,
+        λ w r claimed.
+            let whole = i.more w r claimed plain.Closed [] [] (ends w (after_notes l i.gained) i.none i.may) in
+            record {
+              pages = whole.0;
+              empties = subst (λ z. plain.Empties a.setting w area l whole.0 z plain.Closed) (append-nil i.gained) whole.1;
+            },
+        record { failed = omega arith; rose = rose-plain (fails i.gained) a.failures b.failures i.goes.does.failures },
       ),
       i.goes,
     )
   where
-    ends : (l : Ledger) → NoneBelow area page l → MayEmptyEach a.setting area users l →
-        plain.Empties a.setting (spares (Some area) None) area l [] [] plain.Closed
-    ends l none may = subst (λ ps. EndsAt a.setting (spares (Some area) None) area l ps [] plain.Closed)
+    ends : (w : World) (l : Ledger) → NoneBelow area page l → MayEmptyEach a.setting area users l →
+        plain.Empties a.setting w area l [] [] plain.Closed
+    ends w l none may = subst (λ ps. EndsAt a.setting (sparing_area w area l) area l ps [] plain.Closed)
         (sym (none-in_use a.setting area l unused)) (refl, refl)
       where
         unused : (q : ℕ) → slot_count l (slot_at area q) ≡ 0
@@ -535,24 +554,43 @@ emptied-page a b l s (Some end) ns used did = ((used, did.0), did.1)
 pub record IsCompleted (a b : SystemView) (area : ℕ) (users : List (Option Key)) (l : Ledger) (ns : List Note) : Type 0 where
   pub completes : Completes l l.flight ns
   pub may : MayEmptyEach b.setting area users (after_notes l ns)
-  pub same : b.setting ≡ a.setting
-  pub rose : RoseBy (fails ns) a.failures b.failures
+  pub goes : Goes a b l ns
+
+-- over other memories, where the same frames are those of locked pages
+empties-over : (m : Setting) (v w : World) → ((l : Ledger) → is_locked v l ≡ is_locked w l) → (k : ℕ) (l : Ledger) (pages : List ℕ)
+    (notes : List Note) (end : plain.Close) → plain.Empties m v k l pages notes end → plain.Empties m w k l pages notes end
+empties-over m v w same k l [] notes end h = subst (λ x. EndsAt m (leaving x k) k l (slots_in_use m l k) notes end) (same l) h
+empties-over m v w same k l (page ∷ pages) notes end h = (
+  h.0,
+  h.1,
+  h.2,
+  h.3,
+  h.4,
+  subst (λ x. IsEmptied m (leaving x k) l (slot_at k page) h.1) (same l) h.5,
+  empties-over m v w same k (after_notes l h.1) pages h.2 end h.6,
+)
 
 pub emptied-all : (a b c : SystemView) (area : ℕ) (users : List (Option Key)) (end : EmptyEnd) (l : Ledger) (ns ms : List Note) →
     IsCompleted a b area users l ns → EmptiesEachBy b c area end (after_notes l ns) ms → EmptiesAllBy a c area end l (ns ++ ms)
-emptied-all a b c area users end l ns ms done rest =
-    let each = subst (λ x. EmptiesEach x area end (after_notes l ns) ms) done.same rest.0 in (
+emptied-all a b c area users end l ns ms done rest = (
+  λ w r claimed.
+      let loaded = with_loads a.setting w l (note_events ns) in
+      let each = rest.0 loaded _ (done.goes.does.claims w r claimed) in
       record {
         done = ns;
         pages = each.pages;
         rest = ms;
         whole = refl;
         completes = done.completes;
-        empties = each.empties;
-        failed = more-fails ns ms (failed_by end) each.failed;
+        empties = empties-over a.setting loaded w (locked-loads a.setting w l (note_events ns)) area (after_notes l ns) each.pages ms
+            (close_of end)
+            (subst (λ m. plain.Empties m loaded area (after_notes l ns) each.pages ms (close_of end)) done.goes.does.stays.setting each.empties);
       },
-      rose-both ns ms (lost_by end) a.failures b.failures c.failures done.rose rest.1,
-    )
+  record {
+    failed = more-fails ns ms (failed_by end) rest.1.failed;
+    rose = rose-both ns ms (lost_by end) a.failures b.failures c.failures done.goes.does.failures rest.1.rose;
+  },
+)
 
 -- the users, as they are found
 pub users-may : (m : Setting) (area : ℕ) (users : List (Option Key)) (l : Ledger) → IsSound m l → l.flight ≡ [] → AreUsers m area users l →
@@ -571,6 +609,5 @@ completed a b area users l ns sound completes goes are = record {
   completes = completes;
   may = users-may b.setting area users (after_notes l ns) (subst (λ m. IsSound m (after_notes l ns)) (sym goes.does.stays.setting) goes.sound)
       (completed-landed a.setting l ns sound completes) are;
-  same = goes.does.stays.setting;
-  rose = goes.does.failures;
+  goes = goes;
 }

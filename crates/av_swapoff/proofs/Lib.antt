@@ -1,5 +1,6 @@
 pub mod UserLaws
 pub mod SlotLaws
+mod LockLaws
 pub mod EmptyLaws
 mod BackMakes
 pub mod VisitLaws

@@ -13,7 +13,7 @@ use Rattle.av_trace.specs.declared.note.Note.{Note}
 use Rattle.av_trace.specs.declared.note.Note.TheVariants.{Loaded, Mapped}
 use Rattle.av_plain.specs.Event.{after_note, after_notes, set_entry}
 use Rattle.av_plain.specs.Ledger.{Cached, Entry, InFrame, InSlot, Key, Ledger, Setting, Zero, cached_by, entry, frame_at, has_free, is_cached, is_free, key_cmp, keys_of_slot, names_slot, same_slot, slot_count, slot_entries}
-use Rattle.av_plain.specs.Pass.{TakesFor, fails, is_fail}
+use Rattle.av_plain.specs.Pass.{Spared, TakesFor, fails, is_fail, is_spared}
 use Rattle.av_plain.specs.Sound.{IsSound, no_excuse, slots}
 use Rattle.av_plain.specs.Swapoff.{IsEmptied, IsFetched}
 use Rattle.av_plain.proofs.Access.{after_notes-append}
@@ -25,8 +25,8 @@ use Rattle.av_plain.proofs.Sound.Changes.{any-counts, free-is, loaded-kept}
 use Rattle.av_plain.proofs.Sound.Counts.{frame_at-none, frame_at-some, pair-slot, slot-is, slot-itself}
 use Rattle.av_plain.proofs.Sound.Entries.{flag, mapped-kept, slot_entries-set}
 use Rattle.av_plain.proofs.Sound.Pass.{Passed, seeks-kept}
-use Rattle.av_evict.specs.Steps.{MayDrop, spares}
-use Rattle.av_evict.specs.System.{Adds, Gives, Goes, IsAt, SystemView}
+use Rattle.av_evict.specs.Steps.{MayDrop}
+use Rattle.av_evict.specs.System.{Adds, Gives, Goes, IsAt, SystemView, spares}
 use Rattle.av_evict.proofs.PassLaws.{none-flies}
 use Rattle.av_evict.proofs.StepLaws.{pair-cached}
 use Rattle.av_evict.proofs.SystemLaws.{does-none, goes-then}
@@ -255,16 +255,16 @@ used-named l s used absent = by (is_cached l s) (any-counts (λ (c : Cached). sa
     by false is h = omega (arith, h)
 
 -- the user of a slot that is not cached names it still, after a frame was sought
-pub sought-may_load : (m : Setting) (closing : Option ℕ) (l : Ledger) (s : Slot) (k : Key) (ns : List Note) → IsSound m l → MayFetch s k l →
-    IsSought m closing s l ns → has_free m (after_notes l ns) ≡ true → MayLoad m s k (after_notes l ns)
-sought-may_load m closing l s k ns sound may sought free = record {
-  named = named (entry (after_notes l ns) k) (steady-seeks m (spares closing None) l ns sound may.landed sought.seeks s k (user-key l s k may.user));
+pub sought-may_load : (m : Setting) (sp : Spared) (l : Ledger) (s : Slot) (k : Key) (ns : List Note) → IsSound m l → MayFetch s k l →
+    IsSought m sp s l ns → has_free m (after_notes l ns) ≡ true → MayLoad m s k (after_notes l ns)
+sought-may_load m sp l s k ns sound may sought free = record {
+  named = named (entry (after_notes l ns) k) (steady-seeks m sp l ns sound may.landed sought.seeks s k (user-key l s k may.user));
   absent = slots-absent (after_notes l ns) s absent;
   free = free;
 }
   where
-    kept : Passed m (spares closing None).frame l (after_notes l ns)
-    kept = seeks-kept m (spares closing None) l ns sound sought.seeks
+    kept : Passed m (is_spared sp) l (after_notes l ns)
+    kept = seeks-kept m sp l ns sound sought.seeks
 
     absent : slots (after_notes l ns) s ≡ 0
     absent = kept.keeps.absent s (absent-slots l s sought.absent) (used-named l s may.used sought.absent)
@@ -283,17 +283,17 @@ loaded-frame l s f = by (same_slot s s) (slot-itself s)
     by true h = refl
     by false h = cc
 
-fetched-both : (m : Setting) (closing : Option ℕ) (l : Ledger) (s : Slot) (loaded : Option ℕ) (ns ms : List Note) → IsSought m closing s l ns →
-    has_free m (after_notes l ns) ≡ true → IsLoaded m s loaded (after_notes l ns) ms → Fetches m closing s (fetched_of loaded) l (ns ++ ms)
-fetched-both m closing l s None ns ms sought free is =
-    subst (Fetches m closing s Unread l) (sym (ap (λ x. ns ++ x) is ∙ append-nil ns)) (sought, free)
-fetched-both m closing l s (Some f) ns ms sought free is = by (frame_at l s) sought.absent
+fetched-both : (m : Setting) (sp : Spared) (l : Ledger) (s : Slot) (loaded : Option ℕ) (ns ms : List Note) → IsSought m sp s l ns →
+    has_free m (after_notes l ns) ≡ true → IsLoaded m s loaded (after_notes l ns) ms → Fetches m sp s (fetched_of loaded) l (ns ++ ms)
+fetched-both m sp l s None ns ms sought free is =
+    subst (Fetches m sp s Unread l) (sym (ap (λ x. ns ++ x) is ∙ append-nil ns)) (sought, free)
+fetched-both m sp l s (Some f) ns ms sought free is = by (frame_at l s) sought.absent
   where
     after : after_notes l (ns ++ ms) ≡ after_note (Loaded s f) (after_notes l ns)
     after = after_notes-append l ns ms ∙ ap (after_notes (after_notes l ns)) is.2
 
     by : (o : Option ℕ) → o ≡ None →
-        MatchOption o (TakesFor m (spares closing None) l (ns ++ ms) (Loaded s) × (frame_at (after_notes l (ns ++ ms)) s ≡ Some f))
+        MatchOption o (TakesFor m sp l (ns ++ ms) (Loaded s) × (frame_at (after_notes l (ns ++ ms)) s ≡ Some f))
         (λ g. (ns ++ ms ≡ []) × (f ≡ g))
     by (Some h) e = cc
     by None e = (
@@ -303,26 +303,26 @@ fetched-both m closing l s (Some f) ns ms sought free is = by (frame_at l s) sou
 
 -- ---- and goes back to its entries
 
-pub fetched-in : (m : Setting) (closing : Option ℕ) (l : Ledger) (s : Slot) (k : Key) (f : ℕ) (ns : List Note) → IsSound m l → MayFetch s k l →
-    IsFetched m (spares closing None) l s f ns → IsIn s f (after_notes l ns)
-fetched-in m closing l s k f ns sound may fetches = by (frame_at l s) refl fetches
+pub fetched-in : (m : Setting) (sp : Spared) (l : Ledger) (s : Slot) (k : Key) (f : ℕ) (ns : List Note) → IsSound m l → MayFetch s k l →
+    IsFetched m sp l s f ns → IsIn s f (after_notes l ns)
+fetched-in m sp l s k f ns sound may fetches = by (frame_at l s) refl fetches
   where
     by : (o : Option ℕ) → frame_at l s ≡ o →
-        MatchOption o (TakesFor m (spares closing None) l ns (Loaded s) × (frame_at (after_notes l ns) s ≡ Some f)) (λ g. (ns ≡ []) × (f ≡ g)) →
+        MatchOption o (TakesFor m sp l ns (Loaded s) × (frame_at (after_notes l ns) s ≡ Some f)) (λ g. (ns ≡ []) × (f ≡ g)) →
         IsIn s f (after_notes l ns)
     by (Some g) is h = subst (λ x. IsIn s f (after_notes l x)) (sym h.0) (record { cached = is ∙ ap Some (sym h.1); landed = may.landed })
     by None is h = record {
       cached = h.1;
       landed = ap (λ x. (after_notes l x).flight) h.0.whole
           ∙ ap (λ (x : Ledger). x.flight) (after_notes-append l h.0.sought (Loaded s h.0.frame ∷ []))
-          ∙ none-flies _ ((seeks-kept m (spares closing None) l h.0.sought sound h.0.seeks).calm
+          ∙ none-flies _ ((seeks-kept m sp l h.0.sought sound h.0.seeks).calm
           (λ r. ap (how_many (same_slot r)) may.landed)).grounded;
     }
 
-pub emptied-both : (m : Setting) (closing : Option ℕ) (l : Ledger) (s : Slot) (f : ℕ) (ns ms : List Note) →
-    IsFetched m (spares closing None) l s f ns →
-    MapsBack s f (after_notes l ns) ms → IsEmptied m (spares closing None) l s (ns ++ ms)
-emptied-both m closing l s f ns ms fetches back = record { fetched = ns; frame = f; fetches = fetches; whole = ap (λ x. ns ++ x) back }
+pub emptied-both : (m : Setting) (sp : Spared) (l : Ledger) (s : Slot) (f : ℕ) (ns ms : List Note) →
+    IsFetched m sp l s f ns →
+    MapsBack s f (after_notes l ns) ms → IsEmptied m sp l s (ns ++ ms)
+emptied-both m sp l s f ns ms fetches back = record { fetched = ns; frame = f; fetches = fetches; whole = ap (λ x. ns ++ x) back }
 
 -- ---- how often the device failed
 
@@ -335,7 +335,7 @@ rose-plain n a b h = omega (arith, h)
 -- ---- a page that was not cached, in the system that was left after a frame was sought
 
 pub record Missing (old now : SystemView) (s : Slot) (l : Ledger) (ns : List Note) : Type 0 where
-  pub sought : IsSought old.setting old.closing s l ns
+  pub sought : IsSought old.setting (spares old None) s l ns
   pub free : has_free old.setting (after_notes l ns) ≡ true
   pub same : now.setting ≡ old.setting
   pub rose : RoseBy (fails ns) old.failures now.failures
@@ -344,7 +344,7 @@ pub missing-may_load : (a b : SystemView) (l : Ledger) (s : Slot) (k : Key) (ns 
     Missing a b s l ns →
     MayLoad b.setting s k (after_notes l ns)
 missing-may_load a b l s k ns sound may miss = subst (λ x. MayLoad x s k (after_notes l ns)) (sym miss.same)
-    (sought-may_load a.setting a.closing l s k ns sound may miss.sought miss.free)
+    (sought-may_load a.setting (spares a None) l s k ns sound may miss.sought miss.free)
 
 -- the page is asked of the device
 pub record IsLoadedBy (old new : SystemView) (s : Slot) (loaded : Option ℕ) (l : Ledger) (ns : List Note) : Type 0 where
@@ -356,7 +356,7 @@ pub fetched-missing : (a b c : SystemView) (l : Ledger) (s : Slot) (loaded : Opt
     (loaded ≡ None → Rose b.failures c.failures) → Missing a b s l ns → IsLoadedBy b c s loaded (after_notes l ns) ms →
     FetchesBy a c s fetched l (ns ++ ms)
 fetched-missing a b c l s loaded fetched ns ms is cause miss by = subst (λ x. FetchesBy a c s x l (ns ++ ms)) (sym is) (
-  fetched-both a.setting a.closing l s loaded ns ms miss.sought miss.free has,
+  fetched-both a.setting (spares a None) l s loaded ns ms miss.sought miss.free has,
   rose-both ns ms (unread_of (fetched_of loaded)) a.failures b.failures c.failures miss.rose (last loaded has cause),
 )
   where

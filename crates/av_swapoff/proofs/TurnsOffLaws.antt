@@ -8,13 +8,13 @@ use Rattle.std.specs.List.{list_any}
 use Rattle.std.specs.Ordering.{nat_cmp}
 use Rattle.av_base.specs.declared.slot.Slot.{Slot}
 use Rattle.av_swapcache.specs.Swap.{Shown as ShownSwap, Store as SwapStore, after_off, count_of, is_on as is_shown_on, shown as shown_swap, with_closing}
-use Rattle.av_trace.specs.declared.note.Cause.TheVariants.{NoSlot, Referenced, WriteStarted, Writeback}
+use Rattle.av_trace.specs.declared.note.Cause.TheVariants.{Ksm, Locked, NoSlot, Referenced, WriteStarted, Writeback}
 use Rattle.av_trace.specs.declared.note.Note.{Note}
-use Rattle.av_trace.specs.declared.note.Note.TheVariants.{Aged, Copied, Dropped, Failed, Kept, Loaded, Mapped, New, Put, Started, Unmapped, Written, Zeroed}
+use Rattle.av_trace.specs.declared.note.Note.TheVariants.{Aged, Copied, Dropped, Failed, Joined, Kept, Loaded, Mapped, Moved, New, Put, Shared, Started, Unmapped, Written, Zeroed}
 use Rattle.av_plain.specs.Areas.{Rmap, rmap_after_all}
 use Rattle.av_plain.specs.Choice.{Chooses, ChoosesAll, Free}
 use Rattle.av_plain.specs.Device.{Device, IsSameDevice, as_told, setting_of}
-use Rattle.av_plain.specs.Event.{Event, TurnedOff, after, after_all, after_note, after_notes, change_entries, if_some, note_events, off_cache, off_flight, settle, to_inactive_tail}
+use Rattle.av_plain.specs.Event.{Event, TurnedOff, after, after_all, after_note, after_notes, change_entries, if_some, key_at, note_events, off_cache, off_flight, settle, to_inactive_tail}
 use Rattle.av_plain.specs.Ledger.{Cached, Entry, InSlot, Ledger, Setting, SwapArea, cached_by, frame_at, is_cached, same_slot, is_on, slot_count, slot_entries, slot_of, slots_in_use}
 use Rattle.av_plain.specs.Load.{after_load, after_loads, with_loads}
 use Rattle.av_plain.specs.Sound.{AllSound, AreThere, IsSound, count}
@@ -23,10 +23,10 @@ use Rattle.av_plain.specs.Swapoff.{Close, Closed, TurnsOff, close_answer, turn_o
 use Rattle.av_plain.specs.World.{World}
 use Rattle.av_plain.proofs.Access.{after_all-append, after_notes-append, chooses-append, note_events-all}
 use Rattle.av_plain.proofs.AreasLeft.{rmap_after_all-append}
+use Rattle.av_plain.proofs.Event.{changed-by}
 use Rattle.av_plain.proofs.Sound.Swap.Area.{used-elsewhere}
 use Rattle.av_plain.proofs.Sound.Swap.Empty.{done-empty, empties-hold, turn-off-sound}
 use Rattle.av_plain.proofs.Sound.There.{counted-slot, settle-on}
-use Rattle.av_evict.specs.Steps.{spares}
 use Rattle.av_mem.specs.Between.{HasDoneWhile, IsBetween, KeepsBetween}
 use Rattle.av_mem.specs.Mem.{Serves, frame_count, setting_by, view}
 use Rattle.av_mem.specs.declared.mem.Mem.{Mem}
@@ -44,7 +44,7 @@ use Rattle.av_swapoff.proofs.CloseLaws.{on-shown, serves-closing, serves-off, st
 on-note : (l : Ledger) (note : Note) → (after_note note l).on ≡ l.on
 on-note l (Zeroed p a) = refl
 on-note l (New p a f) = refl
-on-note l (Copied p a f) = refl
+on-note l (Copied p a f) = changed-by (λ l. l.on) (λ g l. refl) (key_at p a) f l
 on-note l (Loaded s f) = refl
 on-note l (Mapped p a f) = refl
 on-note l (Put f s) = refl
@@ -65,7 +65,12 @@ on-note l (Kept f Writeback) = refl
 on-note l (Kept f WriteStarted) = refl
 on-note l (Kept f Referenced) = refl
 on-note l (Kept f NoSlot) = refl
+on-note l (Kept f Locked) = refl
+on-note l (Kept f Ksm) = refl
 on-note l (Aged f) = refl
+on-note l (Shared f) = refl
+on-note l (Joined p a f) = changed-by (λ l. l.on) (λ g l. refl) (key_at p a) f l
+on-note l (Moved from to) = refl
 
 on-notes : (l : Ledger) (notes : List Note) → (after_notes l notes).on ≡ l.on
 on-notes l [] = refl
@@ -126,7 +131,7 @@ module _ (d d' : Device) (k k' : Mem) (w : World) (r : Rmap) (l : Ledger) (area 
   pub none-in-use : close_of end ≡ Closed → slots_in_use (setting_by d' k') (after_notes l h.added) area ≡ []
   none-in-use closed = ap (λ m. slots_in_use m (after_notes l h.added) area) setting-stays
       ∙ ap (λ x. slots_in_use (setting_by d k) x area) (sym events-done)
-      ∙ (empties-hold (setting_by d k) w (spares (Some area) None) area (after_notes l h.empties.done) h.empties.pages h.empties.rest (close_of end)
+      ∙ (empties-hold (setting_by d k) w area (after_notes l h.empties.done) h.empties.pages h.empties.rest (close_of end)
       (done-empty (setting_by d k) w l h.empties.done all-sound h.empties.completes) h.empties.empties).none closed
 
   pub on-still : is_shown_on (shown_swap k.swap) area ≡ true → is_shown_on (shown_swap k'.swap) area ≡ true
@@ -262,7 +267,7 @@ has-turned-off d d' old k' swap0 swap area before now end close finish w r l bet
         count = h.count;
       };
       failures = h.failures;
-      failed = h.empties.failed;
+      failed = h.failed;
     }
 
 -- ---- the end

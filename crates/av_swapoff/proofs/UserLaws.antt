@@ -1,5 +1,5 @@
 -- The users of slots: each slot in use has one, and each stays one in a pass.
-use Rattle.std.proofs.Common.{◌≡◌, ℕ, zero, suc, ◌+◌, ◌<◌, Bool, true, false, cond, not, ◌||◌, T, List, [], ◌∷◌, ◌++◌, map, filter, length, Option, Some, None, option_map, is_none, refl, sym, ap, subst, ◌∙◌, arith, nat_lt, ◌==◌}
+use Rattle.std.proofs.Common.{◌≡◌, ℕ, zero, suc, ◌+◌, ◌<◌, Bool, true, false, cond, not, ◌||◌, T, List, [], ◌∷◌, ◌++◌, map, filter, length, Option, Some, None, option_map, is_none, reverse, refl, sym, ap, subst, ◌∙◌, arith, nat_lt, ◌==◌}
 use Rattle.std.proofs.lemmas.Bool.Decides.{nat_tests}
 use Rattle.std.specs.FinMap.Entries.{find, is_sorted}
 use Rattle.std.specs.List.{list_any}
@@ -11,7 +11,7 @@ use Rattle.av_trace.specs.declared.note.Note.TheVariants.{Dropped, Loaded, Put, 
 use Rattle.av_plain.specs.Event.{after_note, after_notes, change_entries, if_some, into_cache, off_cache, set_entry, slot_behind, when}
 use Rattle.av_plain.specs.Ledger.{Cached, Entry, InFrame, InSlot, Key, Ledger, Setting, Zero, cached_by, entry, frame_at, has_free, is_cached, key_cmp, map_count, may_give, names_frame, names_slot, same_slot, slot_count, slot_entries, slot_of}
 use Rattle.av_plain.specs.Pass.{Completes, IsPass, IsSlotFor, Seeks, Spared, Turns, end_note, frames_in_turn, is_dirty, is_stuck, stays_cached, turn_notes, unmap_notes}
-use Rattle.av_plain.specs.Sound.{IsSound, flights, no_excuse, pairs, slots, uses}
+use Rattle.av_plain.specs.Sound.{IsSound, flights, mergings, no_excuse, pairs, slots, uses}
 use Rattle.av_plain.proofs.Access.{after_notes-append}
 use Rattle.av_plain.proofs.Event.{entry-unmap, to_slot}
 use Rattle.av_plain.proofs.Ledger.{entry-set, how_many-found, same_key, same_key-is, same_key-itself}
@@ -19,7 +19,7 @@ use Rattle.av_plain.proofs.Ledger.Walk.{keys-filter, passes}
 use Rattle.av_plain.proofs.Sound.Cache.{put-kept}
 use Rattle.av_plain.proofs.Sound.Changes.{any-counts}
 use Rattle.av_plain.proofs.Sound.Counts.{frame_at-none, frame_at-some, same-is, same-itself, slot-is, slot-itself, slot_of-none, slot_of-some, two_frames, two_slots}
-use Rattle.av_plain.proofs.Sound.Pass.{AreReady, TurnKept, all-ready, ready-first, ready-rest, turn-kept}
+use Rattle.av_plain.proofs.Sound.Pass.{AreReady, AreUnmerged, TurnKept, all-ready, all-unmerged, ready-first, ready-rest, turn-kept, unmerged-first, unmerged-rest}
 use Rattle.av_plain.proofs.Sound.Steps.{Alike, alike-end_note, alike-started, alike-then, given-nowhere, pairs-dropped, settle-entries, unmap_notes-kept}
 use Rattle.av_evict.proofs.StepLaws.{pair-slot_of}
 use Rattle.av_swapoff.specs.System.{IsUser}
@@ -179,9 +179,9 @@ steady-when m l f t false sound at s k is = is
 steady-when m l f t true sound at s k is = subst (λ o. IsKeyOf (if_some o (λ s. change_entries f (λ _. InSlot s)) l) s k) (sym at)
     (steady-change m l f t sound (slot_of-some f t l.cache at) s k is)
 
-steady-unmap_notes : (m : Setting) (sp : Spared) (l : Ledger) (f : ℕ) (t : Slot) → IsSound m l → IsSlotFor m sp l f t → 0 < uses l f →
-    Steady l (after_notes l (unmap_notes l f t))
-steady-unmap_notes m sp l f t sound for used s k is = by (slot_of l f) refl for
+steady-unmap_notes : (m : Setting) (sp : Spared) (l : Ledger) (f : ℕ) (t : Slot) → IsSound m l → IsSlotFor m sp l f t → mergings l f ≡ 0 →
+    0 < uses l f → Steady l (after_notes l (unmap_notes l f t))
+steady-unmap_notes m sp l f t sound for unmerged used s k is = by (slot_of l f) refl for
   where
     by : (o : Option Slot) → slot_of l f ≡ o → MatchOption o (IsTrue (may_give m sp.closing l t)) (λ r. t ≡ r) →
         IsKeyOf (after_notes l (when (is_none (slot_of l f)) (Put f t) ++ when (not (map_count l f == 0)) (Unmapped f))) s k
@@ -195,7 +195,7 @@ steady-unmap_notes m sp l f t sound for used s k is = by (slot_of l f) refl for
         put =
             let n = given-nowhere m sp.closing l t may in
             let out = slot_of-none f l.cache at in
-            put-kept m no_excuse l t f sound n.uncached n.unnamed out (omega (arith, out, used))
+            put-kept m no_excuse l t f sound n.uncached n.unnamed out unmerged (omega (arith, out, used))
 
         first : (b : Bool) → b ≡ true → option_map (λ (c : Cached). c.slot)
             (cond b (Some (record { slot = t; frame = f; stale = true })) (cached_by (λ c. f == c.frame) l.cache)) ≡ Some t
@@ -209,7 +209,7 @@ turn-alike l f t failed = subst (Alike (after_notes l (unmap_notes l f t)))
   where
     by : (d : Bool) → Alike (after_notes l (unmap_notes l f t))
         (after_notes (after_notes l (unmap_notes l f t)) (cond d (Started t ∷ end_note failed t ∷ []) []))
-    by false = record { entries = refl; slots_same = λ r. refl; holders_same = λ g. refl; pairs_same = λ r g. refl }
+    by false = record { entries = refl; merged = refl; slots_same = λ r. refl; holders_same = λ g. refl; pairs_same = λ r g. refl }
     by true = let l1 = after_notes l (unmap_notes l f t) in
         alike-then l1 (after_note (Started t) l1) _ (alike-started l1 t) (alike-end_note (after_note (Started t) l1) failed t)
 
@@ -230,20 +230,20 @@ steady-dropped l t none s k is = by (same_slot s t) refl
 -- ---- in a pass
 
 module _ (m : Setting) (l : Ledger) (f : ℕ) (t : Slot) (failed : Bool) (sp : Spared) (sound : IsSound m l) (grounded : (r : Slot) → flights l r ≡ 0)
-    (for : IsSlotFor m sp l f t) (used : 0 < uses l f) where
+    (for : IsSlotFor m sp l f t) (unmerged : mergings l f ≡ 0) (used : 0 < uses l f) where
   steady-turn : Steady l (after_notes l (turn_notes l f t failed))
-  steady-turn s k is = steady-alike _ _ (turn-alike l f t failed) s k (steady-unmap_notes m sp l f t sound for used s k is)
+  steady-turn s k is = steady-alike _ _ (turn-alike l f t failed) s k (steady-unmap_notes m sp l f t sound for unmerged used s k is)
 
   steady-last : Steady l (after_notes l (turn_notes l f t failed ++ Dropped t ∷ []))
   steady-last s k is = subst (λ x. IsKeyOf x s k) (sym (after_notes-append l (turn_notes l f t failed) (Dropped t ∷ [])))
       (steady-dropped (after_notes l (turn_notes l f t failed)) t alone s k (steady-turn s k is))
     where
       here : TurnKept m l f t (after_notes l (turn_notes l f t failed))
-      here = turn-kept m sp l f t failed sound grounded for used
+      here = turn-kept m sp l f t failed sound grounded for unmerged used
 
       unmapped : map_count (after_notes l (turn_notes l f t failed)) f ≡ 0
       unmapped = ap (λ es. map_count (record l { entries = es }) f) ((turn-alike l f t failed).entries)
-          ∙ (unmap_notes-kept m sp l f t sound for used).none
+          ∙ (unmap_notes-kept m sp l f t sound for unmerged used).none
 
       alone : (g : ℕ) → 0 < map_count (after_notes l (turn_notes l f t failed)) g → pairs (after_notes l (turn_notes l f t failed)) t g ≡ 0
       alone g some = by (g == f) refl
@@ -258,36 +258,36 @@ module _ (m : Setting) (l : Ledger) (f : ℕ) (t : Slot) (failed : Bool) (sp : S
 
 -- the rest of the frames, from any ledger on
 abbrev Again : Setting → Spared → List ℕ → Type 0
-Again m sp fs = (l : Ledger) (ns : List Note) → IsSound m l → ((r : Slot) → flights l r ≡ 0) → AreReady l fs → Turns m sp l fs ns →
+Again m sp fs = (l : Ledger) (ns : List Note) → IsSound m l → ((r : Slot) → flights l r ≡ 0) → AreReady l fs → AreUnmerged l fs → Turns m sp l fs ns →
     Steady l (after_notes l ns)
 
 pub steady-turns : (m : Setting) (sp : Spared) (l : Ledger) (fs : List ℕ) (ns : List Note) → IsSound m l → ((r : Slot) → flights l r ≡ 0) →
-    AreReady l fs →
-    Turns m sp l fs ns → Steady l (after_notes l ns)
-steady-turns m sp l [] ns sound grounded ready turns = λ s k is. subst (λ x. IsKeyOf (after_notes l x) s k) (sym turns) is
-steady-turns m sp l (f ∷ fs) ns sound grounded ready turns =
-    stuck (λ l' ns' sound' grounded' ready' turns'. steady-turns m sp l' fs ns' sound' grounded' ready' turns') (is_stuck m sp l f) turns
+    AreReady l fs → AreUnmerged l fs → Turns m sp l fs ns → Steady l (after_notes l ns)
+steady-turns m sp l [] ns sound grounded ready unmerged turns = λ s k is. subst (λ x. IsKeyOf (after_notes l x) s k) (sym turns) is
+steady-turns m sp l (f ∷ fs) ns sound grounded ready unmerged turns =
+    stuck (λ l' ns' sound' grounded' ready' unmerged' turns'. steady-turns m sp l' fs ns' sound' grounded' ready' unmerged' turns')
+    (is_stuck m sp l f) turns
   where
     stuck : Again m sp fs → (b : Bool) → MatchBool b (Turns m sp l fs ns)
         ((t : Slot) × (failed : Bool) × IsSlotFor m sp l f t × MatchBool (stays_cached l f t failed)
         ((rest : List Note) × (ns ≡ turn_notes l f t failed ++ rest) × Turns m sp (after_notes l (turn_notes l f t failed)) fs rest)
         (ns ≡ turn_notes l f t failed ++ Dropped t ∷ []))
         → Steady l (after_notes l ns)
-    stuck again true r = again l ns sound grounded (ready-rest l l f fs (λ g other. refl) ready) r
+    stuck again true r = again l ns sound grounded (ready-rest l l f fs (λ g other. refl) ready) (unmerged-rest l l f fs refl unmerged) r
     stuck again false r = goes (stays_cached l f r.0 r.1) r.3
       where
         goes : (b : Bool) → MatchBool b
             ((rest : List Note) × (ns ≡ turn_notes l f r.0 r.1 ++ rest) × Turns m sp (after_notes l (turn_notes l f r.0 r.1)) fs
             rest) (ns ≡ turn_notes l f r.0 r.1 ++ Dropped r.0 ∷ []) → Steady l (after_notes l ns)
         goes true q s k is =
-            let here = turn-kept m sp l f r.0 r.1 sound grounded r.2 (ready-first l f fs ready) in
+            let here = turn-kept m sp l f r.0 r.1 sound grounded r.2 (unmerged-first l f fs unmerged) (ready-first l f fs ready) in
             let l1 = after_notes l (turn_notes l f r.0 r.1) in
             subst (λ x. IsKeyOf (after_notes l x) s k) (sym q.1)
             (subst (λ x. IsKeyOf x s k) (sym (after_notes-append l (turn_notes l f r.0 r.1) q.0))
-            (again l1 q.0 here.sound here.grounded (ready-rest l l1 f fs here.others ready) q.2 s k
-            (steady-turn m l f r.0 r.1 sp sound grounded r.2 (ready-first l f fs ready) s k is)))
+            (again l1 q.0 here.sound here.grounded (ready-rest l l1 f fs here.others ready) (unmerged-rest l l1 f fs here.merged_same unmerged) q.2 s k
+            (steady-turn m l f r.0 r.1 sp sound grounded r.2 (unmerged-first l f fs unmerged) (ready-first l f fs ready) s k is)))
         goes false q s k is = subst (λ x. IsKeyOf (after_notes l x) s k) (sym q)
-            (steady-last m l f r.0 r.1 sp sound grounded r.2 (ready-first l f fs ready) s k is)
+            (steady-last m l f r.0 r.1 sp sound grounded r.2 (unmerged-first l f fs unmerged) (ready-first l f fs ready) s k is)
 
 -- with nothing in flight
 pub steady-seeks : (m : Setting) (sp : Spared) (l : Ledger) (ns : List Note) → IsSound m l → l.flight ≡ [] → Seeks m sp l ns →
@@ -306,7 +306,7 @@ steady-seeks m sp l ns sound landed seeks = by (has_free m l) seeks
         goes : (b : Bool) → MatchBool b (q.1 ≡ []) (Turns m sp l (frames_in_turn sp l) q.1) → Steady l (after_notes l q.1)
         goes true e = λ s k is. subst (λ x. IsKeyOf (after_notes l x) s k) (sym e) is
         goes false turns = steady-turns m sp l (frames_in_turn sp l) q.1 sound (λ r. ap (how_many (same_slot r)) landed)
-            (all-ready m sp l sound) turns
+            (all-ready m sp l sound) (all-unmerged sp l (reverse l.inactive ++ reverse l.active)) turns
 
 -- ---- an entry of a cached slot becomes the frame
 

@@ -46,7 +46,7 @@ pub record HasEmptied (d d' : Device) (old new : Mem) (w : World) (r : Rmap) (l 
     (area : ℕ) (before now : List Note) (end : EmptyEnd) : Type 0 where
   pub added : List Note
   pub notes : now ≡ before ++ added
-  pub empties : EmptiesAll (setting_by d old) area end l added
+  pub empties : EmptiesAll (setting_by d old) w area end l added
   pub closing : KeepsClosing d' area new (with_loads (setting_by d old) w l (note_events added))
       (rmap_after_all l (note_events added) r) (after_notes l added)
   pub free : ChoosesAll (setting_by d old) (Some area) l (note_events added)
@@ -54,6 +54,7 @@ pub record HasEmptied (d d' : Device) (old new : Mem) (w : World) (r : Rmap) (l 
   pub same : IsSameDevice d d'
   pub count : frame_count new ≡ frame_count old
   pub failures : RoseBy (fails added + lost_by end) d.failures d'.failures
+  pub failed : failed_by end ≤ fails added
 
 -- ---- it goes off, or not
 

@@ -11,10 +11,9 @@ use Rattle.av_trace.specs.declared.note.Note.TheVariants.{Loaded, Mapped}
 use Rattle.av_plain.specs.Event.{after_notes}
 use Rattle.av_plain.specs.Ledger.{InSlot, Key, Ledger, Setting, entry, frame_at, has_free, is_free}
 use Rattle.av_plain.specs.Ledger.{key_cmp, slot_count}
-use Rattle.av_plain.specs.Pass.{Seeks, fails, out_of}
+use Rattle.av_plain.specs.Pass.{Seeks, Spared, fails, out_of}
 use Rattle.av_plain.specs.Swapoff.{IsFetched, map_notes}
-use Rattle.av_evict.specs.Steps.{spares}
-use Rattle.av_evict.specs.System.{SystemView}
+use Rattle.av_evict.specs.System.{SystemView, spares}
 use Rattle.av_swapoff.specs.System.{IsUser}
 use Rattle.av_swapoff.specs.declared.slot.FetchEnd.{FetchEnd}
 use Rattle.av_swapoff.specs.declared.slot.FetchEnd.TheVariants.{In, NoFrame, Unread}
@@ -32,21 +31,21 @@ pub record MayFetch (s : Slot) (key : Key) (l : Ledger) : Type 0 where
   pub user : IsUser l s key
 
 -- a page is not cached, and what comes before a frame is taken came
-pub record IsSought (m : Setting) (closing : Option ℕ) (s : Slot) (l : Ledger) (notes : List Note)
+pub record IsSought (m : Setting) (spared : Spared) (s : Slot) (l : Ledger) (notes : List Note)
     : Type 0 where
   pub absent : frame_at l s ≡ None
-  pub seeks : Seeks m (spares closing None) l notes
+  pub seeks : Seeks m spared l notes
 
 -- what was done for a slot's page: it is in this frame; or none was free, by these numbers, of
 -- which no more are called cached than there are `fail` notes; or one was, and the device did not
 -- give the page
-abbrev pub Fetches : Setting → Option ℕ → Slot → FetchEnd → Ledger → List Note → Type 0
-Fetches m closing s (In f) l notes = IsFetched m (spares closing None) l s f notes
-Fetches m closing s (NoFrame out) l notes =
-    IsSought m closing s l notes × (has_free m (after_notes l notes) ≡ false)
-    × (out ≡ out_of m None (spares closing None) (after_notes l notes)) × (out.fault ≤ fails notes)
-Fetches m closing s Unread l notes =
-    IsSought m closing s l notes × (has_free m (after_notes l notes) ≡ true)
+abbrev pub Fetches : Setting → Spared → Slot → FetchEnd → Ledger → List Note → Type 0
+Fetches m spared s (In f) l notes = IsFetched m spared l s f notes
+Fetches m spared s (NoFrame out) l notes =
+    IsSought m spared s l notes × (has_free m (after_notes l notes) ≡ false)
+    × (out ≡ out_of m spared (after_notes l notes)) × (out.fault ≤ fails notes)
+Fetches m spared s Unread l notes =
+    IsSought m spared s l notes × (has_free m (after_notes l notes) ≡ true)
 
 -- by what the device gave
 abbrev pub fetched_of : Option ℕ → FetchEnd
@@ -59,10 +58,11 @@ unread_of (In f) = 0
 unread_of (NoFrame out) = 0
 unread_of Unread = 1
 
--- the same, and the device failed at least so often
+-- the same by a system, where a pass leaves alone what it leaves alone then, and the device failed
+-- at least so often
 abbrev pub FetchesBy : SystemView → SystemView → Slot → FetchEnd → Ledger → List Note → Type 0
 FetchesBy old new s fetched l notes =
-    Fetches old.setting old.closing s fetched l notes
+    Fetches old.setting (spares old None) s fetched l notes
     × RoseBy (fails notes + unread_of fetched) old.failures new.failures
 
 -- the frame caches the slot, and nothing is in flight

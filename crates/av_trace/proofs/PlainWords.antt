@@ -43,7 +43,7 @@ pub lacks-low : (base c n : ℕ) → IsBase base → c < 48 → IsWide n → lac
 lacks-low base c n b low small = lacks-spell 63 base c n b (λ d lt e. omega (arith, glyph_printed d)) (omega arith) small
 
 -- a byte above the decimal digits
-lacks-high : (c n : ℕ) → 57 < c → IsWide n → lacks c (decimal n) ≡ true
+pub lacks-high : (c n : ℕ) → 57 < c → IsWide n → lacks c (decimal n) ≡ true
 lacks-high c n high small = lacks-spell 63 10 c n ten (λ d lt e. omega (arith, glyph_low d lt)) (omega arith) small
 
 plain-spell : (base n : ℕ) → IsBase base → IsWide n → IsPlain (spell base n)

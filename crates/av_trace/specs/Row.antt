@@ -1,5 +1,5 @@
 -- The lines of a report's rows.
-use Rattle.std.specs.Prelude.{ℕ, List, [], ◌∷◌, ◌++◌, Option, Some, None, codes, IfSome}
+use Rattle.std.specs.Prelude.{ℕ, ◌<◌, List, [], ◌∷◌, ◌++◌, Option, Some, None, codes, IfSome}
 use Rattle.std.specs.Prelude.{Bool, if◌then◌else◌}
 use Rattle.std.specs.List.{flat_map, AllByRecursion}
 use Rattle.std.specs.Fmt.{decimal}
@@ -56,17 +56,24 @@ row_line (rows.Area start end prot offset own chain flags) =
     line (range_text start end) (area_words prot offset own chain flags)
 row_line (rows.Entry p address) = line (decimal p) (hex address ∷ [])
 
--- ---- the numbers are of 64 bits
+-- ---- the numbers are of 64 bits, and a chain rises
 
 -- a row of `maps`
 abbrev pub IsRun : Row → Type 0
 IsRun (rows.Run start end prot) = IsWide start × IsWide end
 IsRun row = ⊥
 
+-- each number is greater than the one before
+abbrev pub AreRising : List ℕ → Type 0
+AreRising [] = Unit {0}
+AreRising (n ∷ []) = Unit {0}
+AreRising (n ∷ k ∷ ns) = (n < k) × AreRising (k ∷ ns)
+
 -- a row of `areas`
 abbrev pub IsAreaRow : Row → Type 0
 IsAreaRow (rows.Area start end prot offset own chain flags) =
     IsWide start × IsWide end × IsWide offset × IfSome own IsWide × AllByRecursion IsWide chain
+    × AreRising chain
 IsAreaRow row = ⊥
 
 -- a row of a walk

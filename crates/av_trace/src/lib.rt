@@ -3,8 +3,9 @@
 //! Proved: a line is accepted exactly where it is one of the grammar (`specs/Command.antt`), and
 //! says one thing (`parse_line`, `one_meaning`); a command that the grammar doesn't have yet has a
 //! text, and that is no line (`is_in_grammar`, `no_line_yet`); the text of every reply, exactly
-//! (`reply_text`); two replies with one text are equal, whatever the commands (`one_reply`). Without
-//! memory `parse_line` fails only at a write, and `reply_text` may have added a part of the text.
+//! (`reply_text`), of its answer (`answer_line`) and of each note (`note_text`); two replies with
+//! one text are equal, whatever the commands (`one_reply`). Without memory `parse_line` fails only
+//! at a write, and what adds a text may have added a part of it.
 //!
 //! Only tested: nothing. Which reply a command has is no matter of this crate.
 #![tactic(auto)]
@@ -26,6 +27,6 @@ pub use line::{LineErr, no_line_yet, one_meaning, parse_line, parse_line_into};
 pub use mode::Mode;
 pub use note::{Cause, Note, Notes};
 pub use place::Place;
-pub use print::{one_reply, reply_text};
-pub use reply::{Answer, Errno, OutOf, Reply, Totals};
+pub use print::{note_text, one_reply, reply_text};
+pub use reply::{Answer, Errno, OutOf, Reply, Totals, answer_line};
 pub use row::{Chain, Row, Rows};

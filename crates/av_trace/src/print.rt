@@ -2,9 +2,10 @@
 
 ghost use Rattle.std.specs.Prelude.{◌≡◌, [], ◌∷◌};
 ghost use Rattle.av_trace.specs.declared.reply.Reply.{Reply as AnyReply};
-ghost use Rattle.av_trace.specs.Print.{notes_text, rows_text, text_of};
+ghost use Rattle.av_trace.specs.Note.{note_line as line_of_note};
+ghost use Rattle.av_trace.specs.Print.{notes_text, rows_text, text_of, whole_line};
 ghost use Rattle.av_trace.specs.Reply.{IsReply};
-ghost use Rattle.av_text.specs.Word.{Adds};
+ghost use Rattle.av_text.specs.Word.{Adds, field};
 
 use crate::note::{Note, end_line, note_line};
 use crate::reply::{Reply, answer_line};
@@ -19,13 +20,20 @@ fn begin_row(text: &mut Bytes) -> Result<(), AllocError>
     text.append(b" ")
 }
 
+/// Adds the text of a note: its line, which begins with a space and ends with a newline.
+pub fn note_text(text: &mut Bytes, note: Note) -> Result<(), AllocError>
+    ensures { Adds result text.old text.new (whole_line (field (line_of_note note))) }
+{
+    begin_row(text)?;
+    note_line(text, note)?;
+    end_line(text)
+}
+
 fn add_notes(text: &mut Bytes, notes: &[Note]) -> Result<(), AllocError>
     ensures { Adds result text.old text.new (notes_text notes.now) }
 {
     for note in notes {
-        begin_row(text)?;
-        note_line(text, *note)?;
-        end_line(text)?;
+        note_text(text, *note)?;
     }
     Ok(())
 }

@@ -1,7 +1,7 @@
 -- The notes of each command have numbers of 64 bits, where the ledger has them: each names frames of the machine, slots that are in use or may be
 -- given, and mapped pages.
 use Rattle.std.specs.List.{AllByRecursion, find, range_with_len}
-use Rattle.std.specs.Prelude.{MatchBool, MatchOption, IsTrue, option_and_then}
+use Rattle.std.specs.Prelude.{MatchBool, MatchOption, IsTrue}
 use Rattle.std.proofs.Common.{◌≡◌, ◌⊎◌, inl, inr, ℕ, zero, suc, ◌+◌, ◌-◌, ◌<◌, ◌≤◌, min, Bool, true, false, cond, not, ◌&&◌, ◌==◌, nat_lt, List, [], ◌∷◌, ◌++◌, map, filter, reverse, Option, Some, None, is_none, refl, sym, ap, subst, ◌∙◌, arith}
 use Rattle.av_base.specs.Page.{address_of}
 use Rattle.av_base.specs.declared.slot.Slot.{Slot}
@@ -11,19 +11,19 @@ use Rattle.av_trace.specs.Reply.{IfThere}
 use Rattle.av_trace.specs.declared.note.Cause.{Cause}
 use Rattle.av_trace.specs.declared.note.Cause.TheVariants.{WriteStarted}
 use Rattle.av_trace.specs.declared.note.Note.{Note}
-use Rattle.av_trace.specs.declared.note.Note.TheVariants.{Aged, Copied, Dropped, Joined, Kept, Loaded, Mapped, Moved, New, Put, Shared, Started, Unmapped}
+use Rattle.av_trace.specs.declared.note.Note.TheVariants.{Aged, Copied, Dropped, Kept, Loaded, Mapped, Moved, New, Put, Started, Unmapped}
 use Rattle.av_trace.specs.declared.reply.OutOf.{OutOf}
 use Rattle.av_plain.specs.Access.{Accesses, End, page_events}
 use Rattle.av_plain.specs.Compact.{MovesDown, greatest_used, least_free, move_down}
-use Rattle.av_plain.specs.Event.{Event, EntriesMoved, Used, Zapped, after_all, after_note, after_notes, after_use, after_zap, frame_of, note_events, notes_of, when}
-use Rattle.av_plain.specs.Fault.{ComesIn, CopyOnWrite, Denied, IsMade, Lost, MapCached, Need, NewPage, Ready, RunsOut, Serves, Sparing, Starved, Stop, SwapIn, Touches, ZeroPage, drop_at, drop_of_entry, drop_of_slot, is_allowed, asks_copy, is_unneeded, need, need_of_slot, pinned_by, sparing, was_slot}
+use Rattle.av_plain.specs.Event.{Event, EntriesMoved, Used, Zapped, after_all, after_note, after_notes, after_use, after_zap, note_events, notes_of, when}
+use Rattle.av_plain.specs.Fault.{ComesIn, CopyOnWrite, Denied, IsMade, Lost, MapCached, Need, NewPage, Ready, RunsOut, Serves, Sparing, Starved, Stop, SwapIn, Touches, ZeroPage, drop_at, drop_of_entry, drop_of_slot, is_allowed, is_locked, asks_copy, is_unneeded, need, need_of_slot, pinned_by, sparing, was_slot}
 use Rattle.av_plain.specs.Ledger.{Entry, InFrame, InSlot, Key, Ledger, Setting, Zero, entry, frame_at, has_free, has_free_slot, is_free, is_merged, is_on, is_open, is_orphan, is_usable, keys_of_slot, map_count, may_give, names_slot, size_of, slot_count, slot_of, slots_in_use}
-use Rattle.av_plain.specs.Merge.{FrameBytes, candidate, frame_if, hold_same, is_candidate, join_notes, merge_notes, merged_like, merges, other_like, with_candidate}
+use Rattle.av_plain.specs.Merge.{FrameBytes, candidate, candidate_by, hold_same, join_notes, may_merge, merge_notes, merged_like, merges, other_like, with_candidate}
 use Rattle.av_plain.specs.Mremap.{range_zaps, remap_events}
-use Rattle.av_plain.specs.Pass.{Completes, IsPass, IsSlotFor, Seeks, Spared, TakesFor, Turns, end_note, end_notes, frames_in_turn, has_turn, is_dirty, is_spared, is_stuck, stays_cached, turn_notes, unmap_notes}
+use Rattle.av_plain.specs.Pass.{Completes, IsPass, IsSlotFor, Seeks, Spared, TakesFor, Turns, end_note, end_notes, frames_in_turn, has_turn, is_dirty, is_stuck, stays_cached, turn_notes, unmap_notes}
 use Rattle.av_plain.specs.Reclaim.{Outcome, Outcomes, cause_of, leave_notes}
 use Rattle.av_plain.specs.Swapoff.{Close, Empties, EndsAt, IsEmptied, map_notes, sparing_area}
-use Rattle.av_plain.specs.World.{World}
+use Rattle.av_plain.specs.World.{World, pages}
 use Rattle.av_plain.specs.Zap.{keys_in, orphan_drop, slot_behind_key, zap_of, zaps_of}
 use Rattle.av_plain.proofs.Access.{after_all-append, note_events-all, notes_of-append, notes_of-note_events}
 use Rattle.av_plain.proofs.Mremap.{then_target}
@@ -448,13 +448,14 @@ merges-fit m held w l earlier (k ∷ ks) frames keys before wide =
         (like f (merged_like m held l f) refl) (other f (other_like held earlier f) refl)
 
     named : (f : ℕ) (o : Option Entry) → IfThere IsWideEntry o
-        → option_and_then (λ g. frame_if (is_candidate w l k g) g) (option_and_then frame_of o) ≡ Some f → IsWide f
+        → candidate_by w l k o ≡ Some f → IsWide f
     named f None a h = cc
     named f (Some Zero) a h = cc
     named f (Some (InSlot s)) a h = cc
-    named f (Some (InFrame g seen)) a h = pick (is_candidate w l k g) h
+    named f (Some (InFrame g seen)) a h = pick
+        (may_merge (pages w k.0 k.1) && not (is_merged l g) && is_none (slot_of l g) && not (is_locked w l g)) h
       where
-        pick : (b : Bool) → frame_if b g ≡ Some f → IsWide f
+        pick : (b : Bool) → cond b (Some g) None ≡ Some f → IsWide f
         pick true h = let e : g ≡ f = cc in subst IsWide e a
         pick false h = cc
 

@@ -15,7 +15,7 @@ use Rattle.av_trace.specs.Reply.{IfThere}
 use Rattle.av_trace.specs.declared.note.Cause.TheVariants.{Ksm, Locked, NoSlot, Referenced, WriteStarted, Writeback}
 use Rattle.av_trace.specs.declared.note.Note.{Note}
 use Rattle.av_trace.specs.declared.note.Note.TheVariants.{Aged, Copied, Dropped, Failed, Kept, Loaded, Mapped, New, Put, Started, Unmapped, Written, Zeroed, Joined, Moved, Shared}
-use Rattle.av_plain.specs.Event.{after_note, after_notes, after_use, after_use_of, after_zap, change_entries, change_frame, if_some, into_cache, off_cache, off_flight, off_lists, renamed_entry, set_entry, settle, settle_entry, to_active, to_inactive_head, to_inactive_tail, with_stale, without, without_seen}
+use Rattle.av_plain.specs.Event.{after_note, after_notes, after_use, after_use_of, after_zap, change_entries, change_frame, if_some, into_cache, off_cache, off_flight, off_lists, placed_entry, set_entry, settle, settle_entry, to_active, to_inactive_head, to_inactive_tail, with_stale, without, without_seen}
 use Rattle.av_plain.specs.Ledger.{Cached, Entry, InFrame, InSlot, Key, Ledger, Setting, Zero, cached_by, entry, frame_at, is_free, is_on, is_usable, key_cmp, names_frame, names_slot, same_slot, size_of, slot_of}
 use Rattle.av_plain.specs.Sound.{AllSound, count, slots, uses}
 use Rattle.av_plain.specs.World.{World}
@@ -303,7 +303,7 @@ wide-after m note l fits h = go note fits
         by true = a
         by false = b
 
-    moved_entry : (from to : ℕ) (e : Entry) → IsWide to → IsWideEntry e → IsWideEntry (renamed_entry from to e)
+    moved_entry : (from to : ℕ) (e : Entry) → IsWide to → IsWideEntry e → IsWideEntry (placed_entry (renamed from to) e)
     moved_entry from to Zero a b = b
     moved_entry from to (InFrame f seen) a b = moved_frame from to f a b
     moved_entry from to (InSlot s) a b = b
@@ -334,7 +334,7 @@ wide-after m note l fits h = go note fits
     go (Joined p a f) i = changed (p, page_of a) f (key p a i.0 i.1) i.2
     go (Moved from to) i = record {
       entries = all-map (λ (e : Key × Entry). IsWideKey e.0 × IsWideEntry e.1) (λ (e : Key × Entry). IsWideKey e.0 × IsWideEntry e.1)
-          (λ (e : Key × Entry). (e.0, renamed_entry from to e.1)) (λ e a. (a.0, moved_entry from to e.1 i.1 a.1)) l.entries h.entries;
+          (λ (e : Key × Entry). (e.0, placed_entry (renamed from to) e.1)) (λ e a. (a.0, moved_entry from to e.1 i.1 a.1)) l.entries h.entries;
       cache = all-map IsWideCached IsWideCached (λ (c : Cached). record c { frame = renamed from to c.frame })
           (λ c a. (a.0, moved_frame from to c.frame i.1 a.1)) l.cache h.cache;
       flight = h.flight;

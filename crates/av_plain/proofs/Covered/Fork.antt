@@ -16,7 +16,8 @@ use Rattle.av_plain.specs.Event.{without_seen}
 use Rattle.av_plain.specs.Fork.{AreForked, GoOver, GoesBy, IsIdle, IsReused, own_of_child, with_child}
 use Rattle.av_plain.specs.Ledger.{Entry, Key, Ledger, entry, is_merged, key_cmp, names_frame}
 use Rattle.av_plain.specs.Report.{AreApart, range_of}
-use Rattle.av_plain.proofs.Covered.{Names, Owns, chain_there}
+use Rattle.av_plain.proofs.Chains.{rise-forked}
+use Rattle.av_plain.proofs.Covered.{Owns, chain_there}
 use Rattle.av_plain.proofs.Event.{put_all-only}
 use Rattle.av_plain.proofs.Fork.{child_ledger, copies, entry-forked, forked-is, going, handed, handed-from, unseen-names_frame}
 use Rattle.av_plain.proofs.Fork.Areas.{ChildHas, IsLeft, fork-apart, forked-area, forked_at, pages-fork, LeavesAreas, before, before-others, child-has, first_left, in_child, later_left, not_first, not_later, same, area-leaves, areas-leave, with_own, with_own-child}
@@ -330,6 +331,7 @@ pub sound-forked : (l : Ledger) (p q : ℕ) (goes : List ℕ) (r next : Rmap) �
     → AreForked p q r next → IsRmapSound l r → IsRmapSound (child_ledger p q goes l) next
 sound-forked l p q goes r next sorted apart none whole forks h = record {
   made = (fork-keeps p q r next apart forks chains).chains.made;
+  rising = rise-forked p q r next forks h.rising;
   own = (fork-keeps p q r next apart forks chains).chains.own;
   covered = λ k f names own. reached k f (sym (merged-forked_ledger p q goes l f) ∙ own) (k.0 == q) refl
       (subst (λ o. IsSomeAnd o (λ e. names_frame f e ≡ true)) (entry-forked p q goes l k sorted) names);

@@ -9,7 +9,7 @@ use Rattle.av_base.specs.Page.{address_of}
 use Rattle.av_base.specs.Words.{how_many}
 use Rattle.av_base.specs.declared.slot.Slot.{Slot}
 use Rattle.av_trace.specs.declared.note.Note.{Note}
-use Rattle.av_trace.specs.declared.note.Note.TheVariants.{Joined, Moved, Shared}
+use Rattle.av_trace.specs.declared.note.Note.TheVariants.{Joined, Shared}
 use Rattle.av_trace.specs.declared.reply.Answer.{Answer}
 use Rattle.av_trace.specs.declared.row.Row.{Row}
 use Rattle.av_plain.specs.Areas.{Rmap, rmap_after_all, rmap_after_note, with_item_of}
@@ -17,7 +17,7 @@ use Rattle.av_plain.specs.Compact.{Compacts, MovesDown}
 use Rattle.av_plain.specs.Event.{Event, FreeSorted, after_all, after_note, after_notes, change_frame, note_events}
 use Rattle.av_plain.specs.Ledger.{Entry, Key, Ledger, Setting, entry, frame_at, is_merged, key_cmp, map_count, names_frame}
 use Rattle.av_plain.specs.Merge.{FrameBytes, Merges, candidate, hold_same, join_notes, merge_notes, merged_like, merges, other_like, with_candidate}
-use Rattle.av_plain.specs.Sound.{AllSound, IsSound, holders, mergings, no_excuse}
+use Rattle.av_plain.specs.Sound.{AllSound, IsSound, holders, mergings}
 use Rattle.av_plain.specs.World.{World}
 use Rattle.av_plain.proofs.Access.{after_all-append, note_events-all}
 use Rattle.av_plain.proofs.AreasLeft.{rmap_after_all-append}

@@ -1,5 +1,5 @@
 -- After a fork the pages of a merged frame still have its items: the chain of the child's area holds the parent's.
-use Rattle.std.proofs.Common.{◌≡◌, ℕ, suc, ◌<◌, ◌≤◌, ◌++◌, Bool, true, false, cond, ◌==◌, T, List, [], ◌∷◌, Option, Some, None, option_map, refl, sym, ap, subst, ◌∙◌, arith}
+use Rattle.std.proofs.Common.{◌≡◌, ℕ, ◌≤◌, ◌++◌, Bool, true, false, cond, ◌==◌, T, List, [], ◌∷◌, Option, Some, None, option_map, refl, sym, ap, subst, ◌∙◌, arith}
 use Rattle.std.proofs.lemmas.Bool.{false≢true}
 use Rattle.std.proofs.lemmas.Bool.Decides.{nat_tests}
 use Rattle.std.specs.FinMap.Entries.{is_sorted}
@@ -9,10 +9,10 @@ use Rattle.std.specs.Prelude.{IfSome, IsSomeAnd}
 use Rattle.av_base.specs.Words.{how_many}
 use Rattle.av_vma.specs.declared.area.Area.{Area}
 use Rattle.av_plain.specs.Areas.{AnonVma, Anons, Items, Rmap, chain_by, root_of, same_item}
-use Rattle.av_plain.specs.Covered.{AreMergedCovered, AreSlotsCovered, HasItem, IsAtRoot, IsReached, IsRmapSound, IsRooted}
+use Rattle.av_plain.specs.Covered.{AreMergedCovered, AreSlotsCovered, IsAtRoot, IsReached, IsRmapSound}
 use Rattle.av_vma.specs.Fork.{areas_to_fork, own_to_fork}
 use Rattle.av_plain.specs.Event.{without_seen}
-use Rattle.av_plain.specs.Fork.{AreForked, GoOver, GoesBy, IsReused, own_of_child, with_child}
+use Rattle.av_plain.specs.Fork.{AreForked, GoOver, GoesBy, with_child}
 use Rattle.av_plain.specs.Ledger.{Entry, Key, Ledger, entry, is_merged, key_cmp, names_frame}
 use Rattle.av_plain.proofs.Covered.{Names}
 use Rattle.av_plain.proofs.Covered.Fork.{GoWhole, HasChains, fork-goes_over, fork-stays, merged-forked_ledger}

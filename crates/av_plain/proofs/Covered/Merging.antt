@@ -1,24 +1,19 @@
 -- What holds of frames and slots where pages come to share frames, and where frames go over to others.
-use Rattle.std.proofs.Common.{◌≡◌, ◌⊎◌, inl, inr, ℕ, ◌+◌, ◌<◌, ◌≤◌, Bool, true, false, cond, ◌||◌, ◌&&◌, nat_lt, T, List, [], ◌∷◌, ◌++◌, filter, map, Option, Some, None, option_map, refl, sym, ap, subst, ◌∙◌, arith, ◌==◌}
+use Rattle.std.proofs.Common.{◌≡◌, ◌⊎◌, inl, inr, ℕ, ◌+◌, ◌<◌, ◌≤◌, Bool, true, false, cond, ◌||◌, ◌&&◌, nat_lt, T, List, [], ◌∷◌, ◌++◌, map, Option, Some, None, option_map, refl, sym, ap, subst, ◌∙◌, arith, ◌==◌}
 use Rattle.std.proofs.lemmas.Bool.{false≢true}
-use Rattle.std.proofs.lemmas.Bool.Decides.{nat_tests}
 use Rattle.std.specs.FinMap.Entries.{is_sorted}
-use Rattle.std.specs.List.{list_any, range_with_len}
+use Rattle.std.specs.List.{list_any}
 use Rattle.std.specs.Prelude.{IfSome, IsSome, IsSomeAnd}
-use Rattle.av_base.specs.Page.{address_of}
-use Rattle.av_base.specs.Words.{how_many, is_in, renamed, with_at}
+use Rattle.av_base.specs.Words.{how_many, renamed}
 use Rattle.av_base.specs.declared.slot.Slot.{Slot}
-use Rattle.av_vma.specs.declared.area.Area.{Area}
 use Rattle.av_vma.specs.Index.{index_of}
-use Rattle.av_vma.specs.Pages.{home_of}
-use Rattle.av_trace.specs.declared.note.Note.{Note}
-use Rattle.av_trace.specs.declared.note.Note.TheVariants.{Joined, Moved, Shared}
-use Rattle.av_plain.specs.Areas.{AnonVma, Anons, Homes, Items, Rmap, at_root, item_of, root_of, same_item, with_home_moved, with_item, with_item_of, with_first_item}
-use Rattle.av_plain.specs.Covered.{AreMergedCovered, AreSlotsCovered, HasItem, IsAtRoot, IsOfSlot, IsReached, IsRmapSound, IsRooted}
-use Rattle.av_plain.specs.Event.{after_note, change_frame, renamed_entry, set_entry, settle_entry, with_renamed}
-use Rattle.av_plain.specs.Ledger.{Cached, Entry, InFrame, InSlot, Key, Ledger, Setting, Zero, cached_by, entry, frame_at, is_merged, key_cmp, map_count, names_frame, names_slot, same_slot}
-use Rattle.av_plain.specs.Sound.{IsSound, holders, mergings, no_excuse, slots, uses}
-use Rattle.av_plain.proofs.Covered.{Names, Owns, covered-owns, sound-fewer}
+use Rattle.av_trace.specs.declared.note.Note.TheVariants.{Shared}
+use Rattle.av_plain.specs.Areas.{AnonVma, Items, Rmap, at_root, item_of, root_of, same_item, with_home_moved, with_item, with_item_of, with_first_item}
+use Rattle.av_plain.specs.Covered.{AreSlotsCovered, HasItem, IsAtRoot, IsOfSlot, IsReached, IsRmapSound, IsRooted}
+use Rattle.av_plain.specs.Event.{after_note, change_frame, placed_entry, set_entry, with_places}
+use Rattle.av_plain.specs.Ledger.{Cached, Entry, InFrame, InSlot, Key, Ledger, Setting, Zero, cached_by, entry, frame_at, is_merged, key_cmp, names_frame, names_slot, same_slot}
+use Rattle.av_plain.specs.Sound.{IsSound, holders, mergings, no_excuse, uses}
+use Rattle.av_plain.proofs.Covered.{Names, sound-fewer}
 use Rattle.av_plain.proofs.Covered.Slots.{HasKin, Own, at_area, home-is, of_area, reached-own, root-is, rooted-own, slots-fewer, slots-lists, slots-set, to_rooted}
 use Rattle.av_plain.proofs.Covered.Swap.{AreMergedFewer, Reach, merged-settled_entry, settled_entry-cache, settled_entry-entries}
 use Rattle.av_plain.proofs.Event.{entry-renamed, is_sorted-map}
@@ -136,7 +131,7 @@ with_first_item-slots : (l : Ledger) (r : Rmap) (items : Items) → AreSlotsCove
 with_first_item-slots l r items h = record { kin = h.kin; rooted = h.rooted; cached = h.cached }
 
 with_first_item-sound : (l : Ledger) (r : Rmap) (items : Items) → IsRmapSound l r → IsRmapSound l (record r { items = items })
-with_first_item-sound l r items h = record { made = h.made; own = h.own; covered = h.covered }
+with_first_item-sound l r items h = record { made = h.made; rising = h.rising; own = h.own; covered = h.covered }
 
 -- ---- a frame is merged
 
@@ -231,7 +226,7 @@ module _ (l : Ledger) (r : Rmap) (f : ℕ) (k : Key) (h : Reach l r) (own : is_m
   shared-reach = record {
     in_order = h.in_order;
     once = h.once;
-    sound = record { made = h.sound.made; own = h.sound.own; covered = λ q g names alone. shared-covered q g names alone (g == f) refl };
+    sound = record { made = h.sound.made; rising = h.sound.rising; own = h.sound.own; covered = λ q g names alone. shared-covered q g names alone (g == f) refl };
     slots = shared-slots;
     merged = record {
       found = λ q g names is. shared-found q g names is (g == f) refl;
@@ -367,7 +362,7 @@ module _ (l : Ledger) (r : Rmap) (k : Key) (f g : ℕ) (seen : Bool) (h : Reach 
 module _ (m : Setting) (l : Ledger) (r : Rmap) (from to : ℕ) (h : Reach l r) (s : IsSound m l) (free : uses l to ≡ 0) (used : 0 < uses l from)
     (below : to < m.frames) where
   abbrev went : Ledger
-  went = with_renamed from to l
+  went = with_places (renamed from to) l
 
   abbrev over : Rmap
   over = with_home_moved from to r
@@ -420,7 +415,7 @@ module _ (m : Setting) (l : Ledger) (r : Rmap) (from to : ℕ) (h : Reach l r) (
           not_from true e = absurd (false≢true (sym (none-from from to apart j) ∙ ap (λ x. x == renamed from to j) (sym (same-is g from e)) ∙ is))
           not_from false e = refl
 
-      by : (o : Option Entry) → entry l k ≡ o → IsSomeAnd (option_map (renamed_entry from to) o) (λ e. names_frame g e ≡ true) → WasNaming k g
+      by : (o : Option Entry) → entry l k ≡ o → IsSomeAnd (option_map (placed_entry (renamed from to)) o) (λ e. names_frame g e ≡ true) → WasNaming k g
       by None at is = absurd is
       by (Some Zero) at is = absurd (false≢true is)
       by (Some (InSlot t)) at is = absurd (false≢true is)
@@ -433,7 +428,7 @@ module _ (m : Setting) (l : Ledger) (r : Rmap) (from to : ℕ) (h : Reach l r) (
   was-slot : (t : Slot) (k : Key) → IsOfSlot went t k → IsOfSlot l t k
   was-slot t k names = by (entry l k) (subst (λ o. IsSomeAnd o (λ e. names_slot t e ≡ true)) (entry-renamed from to l k) names)
     where
-      by : (o : Option Entry) → IsSomeAnd (option_map (renamed_entry from to) o) (λ e. names_slot t e ≡ true) → IsSomeAnd o (λ e. names_slot t e ≡ true)
+      by : (o : Option Entry) → IsSomeAnd (option_map (placed_entry (renamed from to)) o) (λ e. names_slot t e ≡ true) → IsSomeAnd o (λ e. names_slot t e ≡ true)
       by None is = is
       by (Some Zero) is = is
       by (Some (InFrame j seen)) is = is
@@ -488,11 +483,11 @@ module _ (m : Setting) (l : Ledger) (r : Rmap) (from to : ℕ) (h : Reach l r) (
       (h.sound.covered k (before from to g) was.names
       (sym (merged-before g ∙ ap (λ b. cond b false (is_merged l (before from to g))) was.stayed) ∙ alone))
 
-  pub moved-reach : Reach (with_renamed from to l) (with_home_moved from to r)
+  pub moved-reach : Reach (with_places (renamed from to) l) (with_home_moved from to r)
   moved-reach = record {
-    in_order = subst T (sym (is_sorted-map key_cmp (renamed_entry from to) l.entries)) h.in_order;
+    in_order = subst T (sym (is_sorted-map key_cmp (placed_entry (renamed from to)) l.entries)) h.in_order;
     once = λ t. let a = slots-went m no_excuse l from to s free used below t in let o = h.once t in omega (arith, a, o);
-    sound = record { made = h.sound.made; own = h.sound.own; covered = went-covered };
+    sound = record { made = h.sound.made; rising = h.sound.rising; own = h.sound.own; covered = went-covered };
     slots = record {
       kin = h.slots.kin;
       rooted = λ t k q names other. h.slots.rooted t k q (was-slot t k names) (was-slot t q other);

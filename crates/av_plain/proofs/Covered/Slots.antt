@@ -232,7 +232,7 @@ slots-loaded l r s f sorted free sound h = record {
 -- frames that no entry names are at home anywhere
 pub sound-loaded : (l : Ledger) (r : Rmap) (s : Slot) (f : ℕ) → ((k : Key) → Names l k f → ⊥) → IsRmapSound l r →
     IsRmapSound (after_note (Loaded s f) l) (rmap_after_note l (Loaded s f) r)
-sound-loaded l r s f free h = record { made = h.made; own = h.own; covered = λ k g names own. by k g (g == f) refl names own }
+sound-loaded l r s f free h = record { made = h.made; rising = h.rising; own = h.own; covered = λ k g names own. by k g (g == f) refl names own }
   where
     by : (k : Key) (g : ℕ) (b : Bool) → (g == f) ≡ b → Names l k g → is_merged l g ≡ false
         → IsSomeAnd (cond b (home_for r (keys_of_slot l s)) (r.homes g)) (IsReached r k)
@@ -245,6 +245,7 @@ pub sound-mapped : (l : Ledger) (r : Rmap) (k : Key) (s : Slot) (f : ℕ) → en
     IsRmapSound l r → IsRmapSound (set_entry k (InFrame f false) l) r
 sound-mapped l r k s f at cached slots h = record {
   made = h.made;
+  rising = h.rising;
   own = h.own;
   covered = λ q g names own. by q g (same_key q k) refl
       (subst (λ o. IsSomeAnd o (λ e. names_frame g e ≡ true)) (entry-set k (InFrame f false) l q) names) own;

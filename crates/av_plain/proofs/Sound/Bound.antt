@@ -322,11 +322,14 @@ times-few [] = omega arith
 times-few (x ∷ w) = let rest = times-few w in omega (arith, rest)
 
 -- at most so many entries name a frame, where the pages of a process are below the topmost
-pub map_count-pages : (m : Setting) (w : World) (l : Ledger) (f : ℕ) → AllSound m w l
-    → ((q page : ℕ) → is_some (pages w q page) ≡ true → page < top_page) → map_count l f ≤ most_processes * top_page
-map_count-pages m w l f s below =
+pub map_count-all : (m : Setting) (w : World) (l : Ledger) (f : ℕ) → AllSound m w l
+    → ((q page : ℕ) → is_some (pages w q page) ≡ true → page < top_page) → map_count l f ≤ length w * top_page
+map_count-all m w l f s below =
     let few = counted top_page (at_entry (names_frame f)) l.entries w (λ p. process-few m w l (names_frame f) p s below)
     (λ p h. counted-lives m no_excuse w l (names_frame f) p s.ledger s.at_pages h) in
     let all = times-few w in
-    let living = s.world.few in
-    omega (arith, few, all, living)
+    omega (arith, few, all)
+
+pub map_count-pages : (m : Setting) (w : World) (l : Ledger) (f : ℕ) → AllSound m w l
+    → ((q page : ℕ) → is_some (pages w q page) ≡ true → page < top_page) → map_count l f ≤ most_processes * top_page
+map_count-pages m w l f s below = let all = map_count-all m w l f s below in let living = s.world.few in omega (arith, all, living)

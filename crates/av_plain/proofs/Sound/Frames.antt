@@ -2,23 +2,21 @@
 use Rattle.std.proofs.Common.{◌≡◌, ◌⊎◌, inl, inr, ℕ, zero, suc, ◌+◌, ◌<◌, ◌≤◌, Bool, true, false, cond, not, ◌&&◌, ◌||◌, nat_lt, List, [], ◌∷◌, ◌++◌, map, reverse, Option, Some, None, is_some, is_none, refl, sym, ap, subst, ◌∙◌, arith, ◌==◌}
 use Rattle.std.proofs.lemmas.Bool.Decides.{nat_tests}
 use Rattle.std.specs.List.{find, list_all, list_any, range_with_len}
-use Rattle.std.specs.Prelude.{option_and_then}
 use Rattle.av_base.specs.Page.{address_of, page_size}
-use Rattle.av_base.specs.Words.{how_many}
 use Rattle.av_base.specs.declared.slot.Slot.{Slot}
 use Rattle.av_trace.specs.declared.note.Note.{Note}
 use Rattle.av_trace.specs.declared.note.Note.TheVariants.{Joined, Moved, Shared}
 use Rattle.av_trace.specs.declared.reply.Answer.{Answer}
 use Rattle.av_trace.specs.declared.row.Row.{Row}
 use Rattle.av_plain.specs.Compact.{Compacts, MovesDown, greatest_used, least_free, move_down, next_move}
-use Rattle.av_plain.specs.Event.{Event, FreeSorted, after_all, after_note, after_notes, change_frame, frame_of, note_events, settle, set_entry}
+use Rattle.av_plain.specs.Event.{Event, FreeSorted, after_all, after_note, after_notes, change_frame, note_events, set_entry}
 use Rattle.av_plain.specs.Fault.{is_locked}
 use Rattle.av_plain.specs.Ledger.{Entry, InFrame, InSlot, Key, Ledger, Setting, Zero, entry, is_free, is_merged, map_count, names_frame, slot_of}
-use Rattle.av_plain.specs.Merge.{FrameBytes, Merges, candidate, frame_if, frame_named, hold_same, is_candidate, join_notes, may_merge, merge_notes, merged_like, merges, other_like, with_candidate}
+use Rattle.av_plain.specs.Merge.{FrameBytes, Merges, candidate, candidate_by, hold_same, join_notes, may_merge, merge_notes, merged_like, merges, other_like, with_candidate}
 use Rattle.av_plain.specs.Sound.{AllSound, IsSound, holders, mergings, no_excuse, uses}
 use Rattle.av_plain.specs.World.{World, pages}
 use Rattle.av_plain.proofs.Access.{after_all-append, after_notes-append, note_events-all}
-use Rattle.av_plain.proofs.Event.{changed-by, settled-by}
+use Rattle.av_plain.proofs.Event.{changed-by}
 use Rattle.av_plain.proofs.Ledger.{how_many-append, how_many-found}
 use Rattle.av_plain.proofs.Ledger.NoSwap.{key_at-address}
 use Rattle.av_plain.proofs.Sound.Changes.{any-counts, free-is, mergings-off_lists}
@@ -134,8 +132,9 @@ candidate-is w l k f h = by (entry l k) refl h
     not_any : (n : ℕ) → nat_lt 0 n ≡ false → n ≡ 0
     not_any n e = grind (arith, nat_tests, e)
 
-    tested : (g : ℕ) (seen : Bool) → entry l k ≡ Some (InFrame g seen) → (b : Bool) → is_candidate w l k g ≡ b → frame_if b g ≡ Some f
-        → IsCandidate w l k f
+    tested : (g : ℕ) (seen : Bool) → entry l k ≡ Some (InFrame g seen) → (b : Bool)
+        → (may_merge (pages w k.0 k.1) && not (is_merged l g) && is_none (slot_of l g) && not (is_locked w l g)) ≡ b
+        → cond b (Some g) None ≡ Some f → IsCandidate w l k f
     tested g seen at true is e =
         let same : g ≡ f = cc in
         let t = tests (may_merge (pages w k.0 k.1)) (is_merged l g) (is_none (slot_of l g)) (is_locked w l g) is in
@@ -149,12 +148,12 @@ candidate-is w l k f h = by (entry l k) refl h
         })
     tested g seen at false is e = cc
 
-    by : (o : Option Entry) → entry l k ≡ o
-        → option_and_then (λ f. frame_if (is_candidate w l k f) f) (option_and_then frame_of o) ≡ Some f → IsCandidate w l k f
+    by : (o : Option Entry) → entry l k ≡ o → candidate_by w l k o ≡ Some f → IsCandidate w l k f
     by None at e = cc
     by (Some Zero) at e = cc
     by (Some (InSlot t)) at e = cc
-    by (Some (InFrame g seen)) at e = tested g seen at (is_candidate w l k g) refl e
+    by (Some (InFrame g seen)) at e = tested g seen at
+        (may_merge (pages w k.0 k.1) && not (is_merged l g) && is_none (slot_of l g) && not (is_locked w l g)) refl e
 
 -- ---- a page joins a frame
 

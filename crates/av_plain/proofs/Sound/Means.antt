@@ -8,7 +8,7 @@ use Rattle.av_plain.specs.Ledger.{Cached, Entry, InFrame, InSlot, Ledger, Settin
 use Rattle.av_plain.specs.Sound.{AllSound, SaysSound, flights, is_at_slot, is_of, name_one, pairs, same_cached, slots, uses}
 use Rattle.av_plain.specs.World.{World}
 use Rattle.av_plain.proofs.Ledger.{how_many-append, how_many-found}
-use Rattle.av_plain.proofs.Sound.Bound.{map_count-bound, slot_entries-bound}
+use Rattle.av_plain.proofs.Sound.Bound.{map_count-all, map_count-bound, slot_entries-bound}
 use Rattle.av_plain.proofs.Sound.Changes.{any-counts, free-is}
 use Rattle.av_plain.proofs.Sound.Counts.{frame_at-some, same-is, same-itself, slot-is, slot-itself, slot_of-some}
 use Rattle.av_plain.proofs.Sound.Entries.{flag}
@@ -86,6 +86,7 @@ says m w l all = let s = all.ledger in record {
   one_slot = λ t p a b d e at named at' named'. s.one p a b d e at at' (slots_name_one t d e named named');
   mapped_few = λ f unmerged. map_count-bound m w l f all (not_merged f unmerged);
   slot_entries_few = λ t. slot_entries-bound m w l t all;
+  mapped_of_merged = λ below f. map_count-all m w l f all below;
 }
   where
     free_or : (n : ℕ) (b : Bool) → b ≡ (n == 0) → min 1 n ≡ cond b 0 1

@@ -1,4 +1,5 @@
 -- Each entry stays at a mapped page.
+use Rattle.av_base.specs.Words.{renamed}
 use Rattle.std.proofs.Common.{◌≡◌, ◌⊎◌, inl, inr, ℕ, Bool, true, false, cond, List, [], ◌∷◌, ◌++◌, Option, Some, None, is_some, option_map, refl, sym, ap, subst, ◌∙◌, ◌==◌, is_none, not}
 use Rattle.av_base.specs.Page.{address_of}
 use Rattle.av_base.specs.declared.slot.Slot.{Slot}
@@ -17,7 +18,7 @@ use Rattle.av_plain.proofs.Ledger.{entry-set, same_key, same_key-is}
 use Rattle.av_plain.proofs.Ledger.NoSwap.{key_at-address}
 use Rattle.av_plain.proofs.Event.{find-map}
 use Rattle.std.specs.Prelude.{MatchBool}
-use Rattle.av_plain.specs.Event.{change_frame, renamed_entry}
+use Rattle.av_plain.specs.Event.{change_frame, placed_entry}
 use Rattle.av_trace.specs.declared.note.Note.TheVariants.{Joined, Moved, Shared}
 use Rattle.av_trace.specs.declared.note.Cause.TheVariants.{Ksm, Locked}
 use Rattle.av_plain.proofs.Event.{changed-by, entry-renamed}
@@ -118,7 +119,7 @@ module _ (test : Key → Bool) where
   noted-at l (Joined p a f) b all = change_frame-at l (key_at p a) f b all
   noted-at l (Moved from to) b all = λ q h. all q (sym (kept (entry l q)) ∙ ap is_some (sym (entry-renamed from to l q)) ∙ h)
     where
-      kept : (o : Option Entry) → is_some (option_map (renamed_entry from to) o) ≡ is_some o
+      kept : (o : Option Entry) → is_some (option_map (placed_entry (renamed from to)) o) ≡ is_some o
       kept None = refl
       kept (Some e) = refl
 

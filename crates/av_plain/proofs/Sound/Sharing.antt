@@ -1,14 +1,13 @@
 -- Soundness as frames come to be shared, and cease to be: an entry gets a copy, a frame is merged, a page joins a merged frame, and a frame goes
 -- over to another.
-use Rattle.std.proofs.Common.{◌≡◌, ℕ, ◌+◌, ◌<◌, ◌≤◌, min, Bool, true, false, cond, ◌&&◌, nat_lt, T, List, [], ◌∷◌, ◌++◌, map, Option, Some, None, option_map, refl, sym, ap, subst, ◌∙◌, arith, ◌==◌}
+use Rattle.std.proofs.Common.{◌≡◌, ℕ, ◌+◌, ◌<◌, ◌≤◌, min, Bool, true, false, cond, ◌&&◌, nat_lt, T, List, [], ◌∷◌, map, Some, refl, sym, ap, subst, ◌∙◌, arith, ◌==◌}
 use Rattle.std.proofs.lemmas.Bool.Decides.{nat_tests}
-use Rattle.std.specs.FinMap.Entries.{is_sorted}
 use Rattle.av_base.specs.Words.{how_many, renamed}
 use Rattle.av_base.specs.declared.slot.Slot.{Slot}
 use Rattle.av_trace.specs.declared.note.Note.TheVariants.{Shared}
-use Rattle.av_plain.specs.Event.{after_note, change_frame, off_lists, renamed_entry, set_entry, settle, settle_entry, to_inactive_head, with_renamed}
+use Rattle.av_plain.specs.Event.{after_note, change_frame, off_lists, placed_entry, set_entry, settle, settle_entry, to_inactive_head, with_places}
 use Rattle.av_plain.specs.Ledger.{Cached, Entry, InFrame, InSlot, Key, Ledger, Setting, Zero, entry, is_free, key_cmp, map_count, names_frame, names_slot, same_slot, slot_entries}
-use Rattle.av_plain.specs.Sound.{IsSound, IsSoundBut, flights, holders, listings, mergings, name_one, pairs, slots, uses}
+use Rattle.av_plain.specs.Sound.{IsSoundBut, flights, holders, listings, mergings, name_one, pairs, slots, uses}
 use Rattle.av_plain.proofs.Event.{entry-renamed, how_many-map, how_many-none, is_sorted-map, slot_entries-renamed}
 use Rattle.av_plain.proofs.Ledger.{how_many-append, how_many-found, is_sorted-set, map_count-set}
 use Rattle.av_plain.proofs.Ledger.Order.{weight}
@@ -315,7 +314,7 @@ module _ (from to : ℕ) (apart : (to == from) ≡ false) where
 module _ (m : Setting) (x : Slot → ℕ) (l : Ledger) (from to : ℕ) (s : IsSoundBut m x l) (free : uses l to ≡ 0) (used : 0 < uses l from)
     (below : to < m.frames) where
   abbrev went : Ledger
-  went = with_renamed from to l
+  went = with_places (renamed from to) l
 
   pub differ : (to == from) ≡ false
   differ = by (to == from) refl
@@ -328,16 +327,16 @@ module _ (m : Setting) (x : Slot → ℕ) (l : Ledger) (from to : ℕ) (s : IsSo
   unmerged-to = let h = s.merged to in omega (arith, free, h)
 
   maps-went : IsCount from to differ (map_count l) (map_count went)
-  maps-went = count-renamed from to differ (λ g (e : Key × Entry). names_frame g e.1) (λ e. (e.0, renamed_entry from to e.1)) l.entries
+  maps-went = count-renamed from to differ (λ g (e : Key × Entry). names_frame g e.1) (λ e. (e.0, placed_entry (renamed from to) e.1)) l.entries
       (λ g e other none. moves g e.1 other none) (λ e. gone e.1) (omega (arith, free))
     where
       moves : (g : ℕ) (e : Entry) → (g == from) ≡ false → names_frame to e ≡ false
-          → names_frame g (renamed_entry from to e) ≡ names_frame (before from to g) e
+          → names_frame g (placed_entry (renamed from to) e) ≡ names_frame (before from to g) e
       moves g Zero other none = refl
       moves g (InFrame j seen) other none = is-before from to differ g j other none
       moves g (InSlot t) other none = refl
 
-      gone : (e : Entry) → names_frame from (renamed_entry from to e) ≡ false
+      gone : (e : Entry) → names_frame from (placed_entry (renamed from to) e) ≡ false
       gone Zero = refl
       gone (InFrame j seen) = none-from from to differ j
       gone (InSlot t) = refl
@@ -396,7 +395,7 @@ module _ (m : Setting) (x : Slot → ℕ) (l : Ledger) (from to : ℕ) (s : IsSo
   counts-back old new is g other = let b = back-again g other in
       is (renamed from to g) ∙ ap (λ b. cond b 0 (old (before from to (renamed from to g)))) b.1 ∙ ap old b.0
 
-  names-back : (k q : Key) (d e : Entry) → entry l k ≡ Some d → entry l q ≡ Some e → name_one went (renamed_entry from to d) (renamed_entry from to e)
+  names-back : (k q : Key) (d e : Entry) → entry l k ≡ Some d → entry l q ≡ Some e → name_one went (placed_entry (renamed from to) d) (placed_entry (renamed from to) e)
       ≡ true → name_one l d e ≡ true
   names-back k q Zero e at at' h = h
   names-back k q (InFrame g v) Zero at at' h = h
@@ -422,9 +421,9 @@ module _ (m : Setting) (x : Slot → ℕ) (l : Ledger) (from to : ℕ) (s : IsSo
   pub slots-went : (t : Slot) → slots went t ≡ slots l t
   slots-went t = how_many-map (λ (c : Cached). same_slot t c.slot) (λ (c : Cached). record c { frame = renamed from to c.frame }) l.cache
 
-  pub renamed-kept : IsSoundBut m x (with_renamed from to l)
+  pub renamed-kept : IsSoundBut m x (with_places (renamed from to) l)
   renamed-kept = record {
-    in_order = subst T (sym (is_sorted-map key_cmp (renamed_entry from to) l.entries)) s.in_order;
+    in_order = subst T (sym (is_sorted-map key_cmp (placed_entry (renamed from to)) l.entries)) s.in_order;
     slots_once = λ t. let a = slots-went t in let h = s.slots_once t in omega (arith, a, h);
     frames_once = λ g. once (g == from) g _ _ (holders-went g) (merged-went g);
     in_range = λ g h. range (g == from) g _ _ (maps-went g) (holders-went g) h;
@@ -432,8 +431,8 @@ module _ (m : Setting) (x : Slot → ℕ) (l : Ledger) (from to : ℕ) (s : IsSo
     flying = λ t. let a = slots-went t in let h = s.flying t in omega (arith, a, h);
     used = λ t g h. let e = slot_entries-renamed from to l t in still (g == from) t g _ _ (pairs-went t g) (maps-went g) h e;
     one = λ p a b d e at at' related.
-        let u = back (renamed_entry from to) (entry l (p, a)) d (sym (entry-renamed from to l (p, a)) ∙ at) in
-        let v = back (renamed_entry from to) (entry l (p, b)) e (sym (entry-renamed from to l (p, b)) ∙ at') in
+        let u = back (placed_entry (renamed from to)) (entry l (p, a)) d (sym (entry-renamed from to l (p, a)) ∙ at) in
+        let v = back (placed_entry (renamed from to)) (entry l (p, b)) e (sym (entry-renamed from to l (p, b)) ∙ at') in
         s.one p a b u.0 v.0 u.1 v.1 (names-back (p, a) (p, b) u.0 v.0 u.1 v.1 ((λ i. name_one went (u.2 i) (v.2 i)) ∙ related));
     merged = λ g. mapped (g == from) g _ _ (merged-went g) (maps-went g);
   }
@@ -466,20 +465,20 @@ module _ (m : Setting) (x : Slot → ℕ) (l : Ledger) (from to : ℕ) (s : IsSo
       mapped false g n k e i = let h = s.merged (before from to g) in omega (arith, e, i, h)
 
   -- a frame without uses stays so, but the one that is gone over to
-  pub uses-went : (g : ℕ) → uses (with_renamed from to l) g ≡ cond (g == from) 0 (uses l (before from to g))
+  pub uses-went : (g : ℕ) → uses (with_places (renamed from to) l) g ≡ cond (g == from) 0 (uses l (before from to g))
   uses-went g = (λ i. maps-went g i + holders-went g i) ∙ sum (g == from) _ _
     where
       sum : (b : Bool) (a i : ℕ) → cond b 0 a + cond b 0 i ≡ cond b 0 (a + i)
       sum true a i = refl
       sum false a i = refl
 
-  pub uses-stay : (g : ℕ) → uses l g ≡ 0 → (g == to) ≡ false → uses (with_renamed from to l) g ≡ 0
+  pub uses-stay : (g : ℕ) → uses l g ≡ 0 → (g == to) ≡ false → uses (with_places (renamed from to) l) g ≡ 0
   uses-stay g gone other = uses-went g ∙ by (g == from) _ (ap (λ b. uses l (cond b from g)) other ∙ gone)
     where
       by : (b : Bool) (n : ℕ) → n ≡ 0 → cond b 0 n ≡ 0
       by true n e = refl
       by false n e = e
 
-  pub uses-go : (g : ℕ) → (g == to) ≡ true → 0 < uses (with_renamed from to l) g
+  pub uses-go : (g : ℕ) → (g == to) ≡ true → 0 < uses (with_places (renamed from to) l) g
   uses-go g is = let e = uses-went g in let n = ap (λ y. y == from) (same-is g to is) ∙ differ in
       let a = ap (λ b. cond b 0 (uses l (before from to g))) n in let b = ap (λ b. uses l (cond b from g)) is in omega (arith, e, a, b, used)

@@ -30,7 +30,7 @@ use Rattle.av_plain.proofs.Sound.Pages.{settle-entries}
 use Rattle.av_plain.proofs.Sound.Pass.{seeks-kept}
 use Rattle.av_plain.proofs.Sound.Steps.{Alike, alike-end_note, alike-started, slots-dropped}
 use Rattle.av_base.specs.Words.{renamed}
-use Rattle.av_plain.specs.Event.{change_frame, renamed_entry}
+use Rattle.av_plain.specs.Event.{change_frame, placed_entry}
 use Rattle.av_trace.specs.declared.note.Note.TheVariants.{Joined, Moved, Shared}
 use Rattle.av_trace.specs.declared.note.Cause.TheVariants.{Ksm, Locked}
 use Rattle.av_plain.proofs.Event.{changed-by, slot_entries-renamed}
@@ -343,7 +343,7 @@ sorted-note l (Kept f Ksm) h = h
 sorted-note l (Aged f) h = subst T (sym (is_sorted-map key_cmp (to_unseen f) l.entries)) h
 sorted-note l (Shared f) h = h
 sorted-note l (Joined p a f) h = sorted-changed l (key_at p a) f h
-sorted-note l (Moved from to) h = subst T (sym (is_sorted-map key_cmp (renamed_entry from to) l.entries)) h
+sorted-note l (Moved from to) h = subst T (sym (is_sorted-map key_cmp (placed_entry (renamed from to)) l.entries)) h
 
 pub all_lawful-no_new : (m : Setting) (closing : Option ℕ) (l : Ledger) (notes : List Note) → T (is_sorted key_cmp l.entries)
     → AreLawful m closing l notes →

@@ -14,8 +14,11 @@ is_locked-requires-clause-in_range g c = let at = c.requires in at.1.in_range c.
 pub is_locked-requires-clause-stands : goal.is_locked-requires-clause-stands
 is_locked-requires-clause-stands g c = let at = c.requires in (at.0, loose _ _ at.0 at.1, at.2, tt)
 
-pub is_merged-requires : goal.is_merged-requires
-is_merged-requires g c = let at = c.requires in at.1.in_range c.args.frame at.3
+pub is_merged-requires-clause-in_range : goal.is_merged-requires-clause-in_range
+is_merged-requires-clause-in_range g c = let at = c.requires in at.1.in_range c.args.frame at.3
+
+pub is_merged-requires-clause-stands : goal.is_merged-requires-clause-stands
+is_merged-requires-clause-stands g c = let at = c.requires in (at.0, loose _ _ at.0 at.1, at.2, tt)
 
 pub reclaim_unspared-requires-clause-may : goal.reclaim_unspared-requires-clause-may
 reclaim_unspared-requires-clause-may g c = let at = c.requires in (

@@ -4,22 +4,29 @@ use Rattle.av_pagetable.specs.Entries.{entry_at}
 use Rattle.av_pagetable.specs.Table.{read_only}
 use Rattle.av_pagetable.specs.declared.pte.Pte.{Pte}
 use Rattle.av_mem.specs.Entries.{IsInUse}
+use Rattle.av_mem.specs.Mem.{view}
+use Rattle.av_mem.specs.Steps.{KeepsRest}
 use Rattle.av_mem.proofs.Groups.{group_from}
 use Rattle.av_mem.proofs.LetGoLaws.{rest-tables, rest-then}
-use Rattle.av_fork.proofs.EntriesViews.{all-seen, forked-child, group-seen, in-use-seen, none-seen, room-now}
+use Rattle.av_fork.specs.Entries.{left_in}
+use Rattle.av_fork.proofs.EntriesViews.{all-seen, areas_on, forked-child, group-seen, in-use-seen, none-seen, room-now}
 use Rattle.av_fork.proofs.entries.fork_entries.Goals as goal
 
 pub loop-page-init : goal.loop-page-init
 loop-page-init c =
-    let old = c.args.mem.now in
-    let tables = c.write_protect.ensures.protects
-    ∙ ap (λ (t : ℕ → ℕ → Pte). with_at {X = ℕ → Pte} c.args.parent (λ o. read_only (t c.args.parent o)) t)
-    c.in_ok-copy.ensures.copies in
+    let a = c.args in
+    let old = a.mem.now in
+    let new = c.leave_out.new.mem in
+    let protects = c.write_protect.ensures.protects
+    ∙ ap (λ (t : ℕ → ℕ → Pte). with_at {X = ℕ → Pte} a.parent (λ o. read_only (t a.parent o)) t) c.in_ok-copy.ensures.copies in
+    let tables = c.leave_out.ensures.left
+    ∙ ap (λ (t : ℕ → ℕ → Pte). with_at {X = ℕ → Pte} a.child (left_in (areas_on old a.parent) (t a.child)) t) protects in
+    let processes = c.leave_out.ensures.processes ∙ c.write_protect.ensures.processes ∙ c.in_ok-copy.ensures.processes in
     record {
       within = omega arith;
-      view = none-seen old c.args.parent c.args.child c.write_protect.new.self tables;
+      view = ap view c.leave_out.ensures.rest ∙ none-seen old a.parent a.child new.tables tables;
       tables = tables;
-      rest = rest-tables old c.write_protect.new.self (c.write_protect.ensures.processes ∙ c.in_ok-copy.ensures.processes);
+      rest = subst (KeepsRest old) (sym c.leave_out.ensures.rest) (rest-tables old new.tables processes);
     }
 
 pub count_each_for_child-requires-clause-used : goal.count_each_for_child-requires-clause-used
@@ -31,7 +38,7 @@ count_each_for_child-requires-clause-used c = λ i low.
     let at = c.in-Some.page / 64 * 64 + i in
     subst (IsInUse now)
     (sym (c.read_group.ensures i low ∙ ap (λ (t : ℕ → ℕ → Pte). t a.child at) v.tables
-    ∙ forked-child a.parent a.child (entry_at a.mem.now.tables) c.requires.empty at))
+    ∙ forked-child (areas_on a.mem.now a.parent) a.parent a.child (entry_at a.mem.now.tables) c.requires.empty at))
     (in-use-seen a.mem.now a.parent a.child o.0 o.1 o.2 now (c.loop-page.number * 64) v.view v.rest.parts.count at)
 
 pub count_each_for_child-requires-clause-room : goal.count_each_for_child-requires-clause-room
@@ -54,19 +61,19 @@ loop-page-preserved c =
     record {
       within = (group_from table c.loop-page.number page (length group) c.read_group.array_long first).within;
       view = group-seen a.mem.now a.parent a.child now c.count_each_for_child.new.mem table c.loop-page.number page group c.read_group.array_long
-          (λ o. ap (λ (t : ℕ → ℕ → Pte). t a.child o) v.tables ∙ forked-child a.parent a.child (entry_at a.mem.now.tables) c.requires.empty o)
+          (λ o. ap (λ (t : ℕ → ℕ → Pte). t a.child o) v.tables ∙ forked-child (areas_on a.mem.now a.parent) a.parent a.child (entry_at a.mem.now.tables) c.requires.empty o)
           first c.read_group.ensures v.view c.in_ok-count_each_for_child.ensures.counts;
       tables = c.in_ok-count_each_for_child.ensures.tables ∙ v.tables;
       rest = rest-then v.rest c.in_ok-count_each_for_child.ensures.rest;
     }
 
 pub returns-clause-forks : goal.returns-clause-forks
-returns-clause-forks c = λ d l stands.
+returns-clause-forks c = λ d pages l stands flags.
     let a = c.args in
     let v = c.loop-page.invariant in
-    let h = all-seen a.mem.now a.parent a.child d l stands c.loop-page.mem (c.loop-page.number * 64) v.view c.requires.empty v.rest.parts v.tables
-    c.in_default.ensures in
-    record { stands = h.stands; free = h.free }
+    let h = all-seen a.mem.now a.parent a.child d l stands c.loop-page.mem (c.loop-page.number * 64) v.view pages flags c.requires.empty v.rest.parts
+    v.tables c.in_default.ensures in
+    record { stands = h.stands; free = h.free; items = h.items }
 
 pub returns-in_err-count_each_for_child-clause-rest : goal.returns-in_err-count_each_for_child-clause-rest
 returns-in_err-count_each_for_child-clause-rest c = rest-then c.loop-page.invariant.rest c.in_err-count_each_for_child.ensures.rest

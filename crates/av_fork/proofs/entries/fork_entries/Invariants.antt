@@ -3,14 +3,14 @@ use Rattle.av_pagetable.specs.Entries.{entry_at}
 use Rattle.av_pagetable.specs.Table.{page_bound}
 use Rattle.av_mem.specs.Mem.{view}
 use Rattle.av_mem.specs.Steps.{KeepsRest}
-use Rattle.av_fork.proofs.EntriesViews.{fork_tables, fork_view}
+use Rattle.av_fork.proofs.EntriesViews.{areas_on, fork_tables, fork_view}
 use Rattle.av_fork.proofs.entries.fork_entries.Given as goal
 
 abbrev pub invariant-loop-page : goal.invariant-loop-page
 invariant-loop-page l = record {
   within : l.number * 64 ≤ page_bound;
   view : view l.mem ≡ fork_view l.fn.mem l.parent l.child (l.number * 64);
-  tables : entry_at l.mem.tables ≡ fork_tables l.parent l.child (entry_at l.fn.mem.tables);
+  tables : entry_at l.mem.tables ≡ fork_tables (areas_on l.fn.mem l.parent) l.parent l.child (entry_at l.fn.mem.tables);
   rest : KeepsRest l.fn.mem l.mem;
 }
 

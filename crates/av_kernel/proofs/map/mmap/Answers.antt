@@ -1,12 +1,11 @@
 use Rattle.std.proofs.Common.{◌≡◌, ◌≢◌, ℕ, ◌+◌, ◌==◌, Some, Ok, Err, false, sym, subst, ◌∙◌, arith, true, refl, ◌≤◌}
 use Rattle.std.proofs.lemmas.Bool.Decides.{nat_tests}
+use Rattle.av_base.specs.Flags.{no_flags}
 use Rattle.av_base.specs.Page.{pages_of}
 use Rattle.av_trace.specs.declared.command.Command.TheVariants.{Mmap}
 use Rattle.av_plain.specs.World.{pages}
-use Rattle.av_plain.specs.Stands.{prot_of}
 use Rattle.av_plain.specs.Map.{zaps_for_place}
-use Rattle.av_mem.specs.Mem.{ranges_of}
-use Rattle.av_kernel.specs.Map.{set_on, GetsAreas, GetsProts, HomesStay, AreUnmapped}
+use Rattle.av_kernel.specs.Map.{marks_on, set_on, GetsAreas, GetsMarks, HomesStay, AreUnmapped}
 use Rattle.av_plain.specs.Areas.{with_room}
 use Rattle.av_vma.specs.Pages.{after_map}
 use Rattle.av_spaces.specs.Spaces.{pages_of as plain_pages}
@@ -17,7 +16,7 @@ use Rattle.av_trace.specs.declared.reply.Errno.TheVariants.{Esrch, Einval, Enome
 use Rattle.av_step.proofs.StepLaws.{answers-noted, orderly, ranges_there, refuses, refuses-as, refuses-by, dead_first, wants-by}
 use Rattle.av_place.proofs.PlaceLaws.{rounded_up, suited}
 use Rattle.av_kernel.proofs.MapLaws.{taken_is, suits, unmapped_lives, unmapped_free, mmap-refused, mmap-steps, mmap-tests-first, mmap-tests-second}
-use Rattle.av_kernel.proofs.MapProts.{gets_areas, mapped-homes, mapped-prots}
+use Rattle.av_kernel.proofs.MapMarks.{gets_areas, mapped-homes, mapped-marks}
 use Rattle.av_kernel.proofs.map.mmap.Goals as goal
 
 not_zero : (n : ℕ) → n ≢ 0 → (n == 0) ≡ false
@@ -118,23 +117,23 @@ returns c = record {
       let placed = subst (λ n. IsPlaced (pages s.world c.args.process) n c.args.place (Ok page)) size
       (c.in_ok-page.ensures (pages s.world c.args.process) (taken_is k s c.args.process keeps)) in
       let free = unmapped_free k mid c.args.process page c.div_ceil-pages.result _ s.ledger _ before notes unmapped in
-      let prots = mapped-prots (lengths mid.spaces.areas mid.anons) mid.spaces.processes c.map.new.self.processes c.args.process page
+      let marks = mapped-marks (lengths mid.spaces.areas mid.anons) mid.spaces.processes c.map.new.self.processes c.args.process page
       c.div_ceil-pages.result
-      c.args.prot (some_pages c.args.len c.div_ceil-pages.result c.if-len-eq0.false c.div_ceil-pages.ensures) suit.lowest suit.highest
+      c.args.prot no_flags (some_pages c.args.len c.div_ceil-pages.result c.if-len-eq0.false c.div_ceil-pages.ensures) suit.lowest suit.highest
       free c.in_ok-map.ensures.areas in
       let homes = mapped-homes (lengths mid.spaces.areas mid.anons) mid.spaces.processes c.map.new.self.processes c.args.process page
       c.div_ceil-pages.result
-      c.args.prot (some_pages c.args.len c.div_ceil-pages.result c.if-len-eq0.false c.div_ceil-pages.ensures) suit.lowest suit.highest
+      c.args.prot no_flags (some_pages c.args.len c.div_ceil-pages.result c.if-len-eq0.false c.div_ceil-pages.ensures) suit.lowest suit.highest
       free c.in_ok-map.ensures.areas in
       answers-noted c.args.reply.now c.answer_with.new.reply notes _ c.requires.cleared c.answer_with.ensures sized.taken.notes
       (mmap-steps k s c.args.process c.args.len c.args.prot c.args.place keeps (ranges_there k c.args.process c.in_ok-check_lives.ensures)
       (not_zero c.args.len c.if-len-eq0.false) (sym c.is_too_long.ensures ∙ c.if-is_too_long.false)
       mid c.map.new.self c.map.new.anons page placed (suited k.spaces.processes c.args.process (pages s.world c.args.process)
       (taken_is k s c.args.process keeps) (pages_of c.args.len) page c.args.place placed).clear c.make_room.ensures.count before notes sized
-      (subst (λ n. GetsProts mid.spaces.processes c.map.new.self.processes c.args.process
-      (set_on page n (Some c.args.prot) (prot_of (ranges_of mid.spaces.processes c.args.process)))) size prots)
+      (subst (λ n. GetsMarks mid.spaces.processes c.map.new.self.processes c.args.process
+      (set_on page n (Some (c.args.prot, no_flags)) (marks_on (plain_pages mid.spaces.processes c.args.process)))) size marks)
       (subst (λ n. GetsAreas mid.spaces.processes c.map.new.self.processes c.args.process
-      (after_map (lengths mid.spaces.areas mid.anons) c.args.process page (page + n) c.args.prot
+      (after_map (lengths mid.spaces.areas mid.anons) c.args.process page (page + n) c.args.prot no_flags
       (plain_pages mid.spaces.processes c.args.process))) size
       (gets_areas mid.spaces.processes c.map.new.self.processes c.args.process _ c.in_ok-map.ensures.areas)) c.in_ok-map.ensures.anons
       (subst (λ n. HomesStay mid.spaces.processes c.map.new.self.processes c.args.process page n) size homes));

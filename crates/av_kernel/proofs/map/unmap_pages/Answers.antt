@@ -3,7 +3,7 @@ use Rattle.av_spaces.specs.Spaces.{AllSpaces}
 use Rattle.av_spaces.specs.Kin.{AnonsFit}
 use Rattle.av_mem.proofs.StayLaws.{anons-stay, spaces-stay}
 use Rattle.av_kernel.proofs.MapLaws.{both_ok, are_unmapped}
-use Rattle.av_kernel.proofs.MapProts.{gets_areas, unmapped-homes, unmapped-prots}
+use Rattle.av_kernel.proofs.MapMarks.{gets_areas, unmapped-homes, unmapped-marks}
 use Rattle.av_kernel.proofs.map.unmap_pages.Goals as goal
 
 pub unmap-requires-clause-order : goal.unmap-requires-clause-order
@@ -18,7 +18,7 @@ returns-clause-unmapped c = λ d l stands.
     let mid = c.zap_range.new.mem in
     both_ok c.unmap.result (λ gone stay. are_unmapped c.args.mem.now mid c.unmap.new.self c.unmap.new.anons c.args.process c.args.page c.args.pages l
     c.args.notes.now c.zap_range.new.notes (t.zapped d l stands) t.rest
-    (unmapped-prots mid.spaces.processes c.unmap.new.self.processes c.args.process c.args.page c.args.pages gone)
+    (unmapped-marks mid.spaces.processes c.unmap.new.self.processes c.args.process c.args.page c.args.pages gone)
     (gets_areas mid.spaces.processes c.unmap.new.self.processes c.args.process _ gone) stay
     (unmapped-homes mid.spaces.processes c.unmap.new.self.processes c.args.process c.args.page c.args.pages gone)) c.unmap.ensures.areas
     c.unmap.ensures.anons

@@ -5,11 +5,10 @@ use Rattle.av_trace.specs.declared.command.Command.TheVariants.{Mremap}
 use Rattle.av_trace.specs.declared.reply.Errno.TheVariants.{Esrch}
 use Rattle.av_plain.specs.Areas.{chain_length}
 use Rattle.av_plain.specs.Mremap.{after_mremap}
-use Rattle.av_plain.specs.World.{pages}
 use Rattle.av_mremap.specs.Areas.{HasRemap}
 use Rattle.av_place.specs.Mremap.{IsTarget}
-use Rattle.av_kernel.proofs.MremapGoes.{Goes, Passes, both_are, grow_by, high_by, last_by, move_by, shrink_by, some_by, some_new, steps_by, to_fits}
-use Rattle.av_kernel.proofs.MremapRefusals.{dead_does, have_prots_of, no_room_does, refused_does}
+use Rattle.av_kernel.proofs.MremapGoes.{Goes, Passes, both_are, grow_by, high_by, last_by, move_by, shrink_by, some_by, some_new, steps_by, to_fits, whole_by}
+use Rattle.av_kernel.proofs.MremapRefusals.{dead_does, no_room_does, refused_does}
 use Rattle.av_place.proofs.PlaceLaws.{rounded_up}
 use Rattle.av_mem.specs.declared.mem.Mem.{Mem}
 use Rattle.av_step.proofs.StepLaws.{answers-noted, orderly, refuses-as, refuses-by, ranges_there, wants-by}
@@ -98,6 +97,10 @@ pub remap_areas-requires-clause-grows : goal.remap_areas-requires-clause-grows
 remap_areas-requires-clause-grows c =
     grow_by (goes (goal.at.remap_areas-requires-clause-grows c).In_ok-to) c.requires.steady c.in_ok-check_indices.ensures.small
 
+pub remap_areas-requires-clause-whole : goal.remap_areas-requires-clause-whole
+remap_areas-requires-clause-whole c = λ stays.
+    whole_by (goes (goal.at.remap_areas-requires-clause-whole c).In_ok-to) c.requires.steady (sym c.leaves_old-stays.ensures ∙ stays)
+
 pub remap_areas-requires-clause-moves : goal.remap_areas-requires-clause-moves
 remap_areas-requires-clause-moves c =
     move_by (goes (goal.at.remap_areas-requires-clause-moves c).In_ok-to) c.requires.steady c.in_ok-check_indices.ensures.small
@@ -167,14 +170,13 @@ returns c = record {
       let a = c.args in
       let gone = c.remap_areas.new.mem in
       let notes = c.remap_entries.new.notes in
-      let left = c.prot_left-left.ensures (pages s.world a.process) (have_prots_of a.mem.now s keeps a.process) in
       let done = c.in_ok-remap_entries.ensures.remaps d s.ledger
       (still_orderly d a.mem.now gone gone.tables s.ledger c.remap_areas.ensures.rest refl (orderly a.mem.now s keeps)) in
       answers-noted a.reply.now c.answer_with.new.reply notes _ c.requires.cleared c.answer_with.ensures done.notes
       (steps_by (goes (goal.at.returns c).In_ok-to) s keeps a.reply.now.notes notes c.in_ok-check_indices.ensures.small gone c.remap_entries.new.mem
       c.remap_areas.ensures.rest
-      (subst (λ left. HasRemap a.mem.now gone a.process (after_mremap (chain_length s.anons) a.process (a.address / 4096)
-      c.div_ceil-pages.result c.in_ok-to.to c.div_ceil-new_pages.result left (s.areas a.process))) left
+      (subst (λ stays. HasRemap a.mem.now gone a.process (after_mremap (chain_length s.anons) a.process (a.address / 4096)
+      c.div_ceil-pages.result c.in_ok-to.to c.div_ceil-new_pages.result stays (s.areas a.process))) c.leaves_old-stays.ensures
       (c.in_ok-remap_areas.ensures.remaps d s keeps))
       done c.remap_entries.ensures.rest);
 }

@@ -63,9 +63,16 @@ returns-clause-one_area c = (
         omega arith,
         λ page. covers page (page == 0x7fffffffe) (grind (arith, nat_tests)),
         λ page. flags_of page (page == 0x7fffffffe) (grind (arith, nat_tests)),
+        (tt, tt),
       ),
       refl,
     );
     notes = refl;
   },
 )
+
+pub returns-clause-chain_falls : goal.returns-clause-chain_falls
+returns-clause-chain_falls c h = let falls = h.1.answer.1.5.0.0 in omega (arith, falls)
+
+pub returns-clause-chain_stands : goal.returns-clause-chain_stands
+returns-clause-chain_stands c h = let stands = h.1.answer.1.5.0.0 in omega (arith, stands)

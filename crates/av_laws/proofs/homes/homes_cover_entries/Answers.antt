@@ -22,4 +22,10 @@ pub returns-clause-out_of_own_chain : goal.returns-clause-out_of_own_chain
 returns-clause-out_of_own_chain c h = false≢true (h.own 2 0x12 1 refl)
 
 pub returns-clause-number_to_come : goal.returns-clause-number_to_come
-returns-clause-number_to_come c h = let e = h.made 1 refl in omega (arith, e)
+returns-clause-number_to_come c h = let e = h.made 2 refl in omega (arith, e)
+
+pub returns-clause-chain_falls : goal.returns-clause-chain_falls
+returns-clause-chain_falls c h = let e = (h.rising 1).0 in omega (arith, e)
+
+pub returns-clause-member_to_come : goal.returns-clause-member_to_come
+returns-clause-member_to_come c h = let e = (h.rising 1).1.1.0 in omega (arith, e)

@@ -1,6 +1,6 @@
-use Rattle.std.proofs.Common.{◌<◌, ◌∙◌, ap, arith, false, is_none, refl, subst, sym}
+use Rattle.std.proofs.Common.{◌<◌, ◌∙◌, ap, arith, false, refl, subst, sym}
 use Rattle.av_base.specs.Words.{is_in}
-use Rattle.av_frames.specs.Store.{Shown, shown}
+use Rattle.av_frames.specs.Store.{Shown}
 use Rattle.av_mem.specs.declared.mem.Mem.{Mem}
 use Rattle.av_rmap.specs.Items.{shown as shown_items}
 use Rattle.av_swapcache.specs.Swap.{shown as shown_swap}

@@ -1,6 +1,6 @@
 use Rattle.std.proofs.Common.{◌≡◌, ℕ, ◌-◌, ◌<◌, ◌≤◌, Some}
 use Rattle.av_spaces.specs.Spaces.{pages_of}
-use Rattle.av_vma.proofs.Prots.{prots}
+use Rattle.av_place.specs.Mremap.{prots}
 use Rattle.av_place.proofs.mremap.have_prot.Given as goal
 
 abbrev pub invariant-loop-page : goal.invariant-loop-page

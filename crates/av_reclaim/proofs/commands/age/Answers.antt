@@ -1,4 +1,4 @@
-use Rattle.std.proofs.Common.{[], ap, map, refl, rules, true, ◌≡◌}
+use Rattle.std.proofs.Common.{None, [], ap, map, refl, rules, true, ◌≡◌}
 use Rattle.av_trace.specs.declared.note.Note.TheVariants.{Aged}
 use Rattle.av_trace.specs.declared.reply.Answer.TheVariants.{Done}
 use Rattle.av_plain.specs.Device.{device_by}
@@ -12,19 +12,19 @@ age-requires g c = is-at [] (device_by (g.D.SwapDev.sizes c.args.dev.now) (g.D.S
     c.args.mem.now c.requires
 
 pub returns-clause-ages : goal.returns-clause-ages
-returns-clause-ages g c = λ told. added _ _ _ _ _ _ _ _ _ _
-    (λ closing l notes. notes ≡ map Aged (from_tail c.args.count l.active))
+returns-clause-ages g c = λ told. added _ _ _ _ _ _ _ _ _ _ None
+    (λ spared l notes. notes ≡ map Aged (from_tail c.args.count l.active))
     (λ m w l added. Ages l c.args.count (note_events added) Done [])
     (λ w l notes asked. (refl, ap note_events asked, refl)) (c.in_ok-age.ensures.gives told) (λ e. (search rules, search rules))
 
 pub returns-clause-same : goal.returns-clause-same
-returns-clause-same g c = same-lent _ _ _ _ _ _ (c.in_ok-age.ensures.stays true) _ (λ e. search rules)
+returns-clause-same g c = same-lent _ _ _ _ _ _ (c.in_ok-age.ensures.stays true).stays _ (λ e. search rules)
 
 pub returns-clause-count : goal.returns-clause-count
-returns-clause-count g c = count-lent _ _ _ _ _ _ (c.in_ok-age.ensures.stays true) _ (λ e. search rules)
+returns-clause-count g c = count-lent _ _ _ _ _ _ (c.in_ok-age.ensures.stays true).stays _ (λ e. search rules)
 
 pub returns-in_err-age-clause-same : goal.returns-in_err-age-clause-same
-returns-in_err-age-clause-same g c = same-lent _ _ _ _ _ _ (c.in_err-age.ensures.stays true) _ (λ e. search rules)
+returns-in_err-age-clause-same g c = same-lent _ _ _ _ _ _ (c.in_err-age.ensures.stays true).stays _ (λ e. search rules)
 
 pub returns-in_err-age-clause-count : goal.returns-in_err-age-clause-count
-returns-in_err-age-clause-count g c = count-lent _ _ _ _ _ _ (c.in_err-age.ensures.stays true) _ (λ e. search rules)
+returns-in_err-age-clause-count g c = count-lent _ _ _ _ _ _ (c.in_err-age.ensures.stays true).stays _ (λ e. search rules)

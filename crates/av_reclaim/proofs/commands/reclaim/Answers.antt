@@ -3,7 +3,6 @@ use Rattle.av_trace.specs.declared.reply.Answer.TheVariants.{Done}
 use Rattle.av_plain.specs.Device.{as_told, device_by}
 use Rattle.av_plain.specs.Event.{note_events}
 use Rattle.av_plain.specs.Reclaim.{Outcomes, Reclaims, from_tail}
-use Rattle.av_evict.specs.Steps.{spares}
 use Rattle.av_mem.specs.Mem.{setting_by}
 use Rattle.av_reclaim.proofs.CommandLaws.{added, count-lent, is-at, same-lent}
 use Rattle.av_reclaim.proofs.commands.reclaim.Goals as goal
@@ -14,20 +13,20 @@ reclaim-requires g c =
     c.args.mem.now c.requires
 
 pub returns-clause-reclaims : goal.returns-clause-reclaims
-returns-clause-reclaims g c = λ told. added _ _ _ _ _ _ _ _ _ _
-    (λ closing l notes. Outcomes (setting_by (as_told told (device_by (g.D.SwapDev.sizes c.args.dev.now) (g.D.SwapDev.pages c.args.dev.now)
-    (g.D.SwapDev.failures c.args.dev.now))) c.args.mem.now) (spares closing None) l (from_tail c.args.count l.inactive) notes)
+returns-clause-reclaims g c = λ told. added _ _ _ _ _ _ _ _ _ _ None
+    (λ spared l notes. Outcomes (setting_by (as_told told (device_by (g.D.SwapDev.sizes c.args.dev.now) (g.D.SwapDev.pages c.args.dev.now)
+    (g.D.SwapDev.failures c.args.dev.now))) c.args.mem.now) spared l (from_tail c.args.count l.inactive) notes)
     (λ m w l added. Reclaims m w l c.args.count (note_events added) Done [])
     (λ w l notes asked. (notes, asked, refl, refl, refl)) (c.in_ok-reclaim.ensures.gives told) (λ e. (search rules, search rules))
 
 pub returns-clause-same : goal.returns-clause-same
-returns-clause-same g c = same-lent _ _ _ _ _ _ (c.in_ok-reclaim.ensures.stays true) _ (λ e. search rules)
+returns-clause-same g c = same-lent _ _ _ _ _ _ (c.in_ok-reclaim.ensures.stays true).stays _ (λ e. search rules)
 
 pub returns-clause-count : goal.returns-clause-count
-returns-clause-count g c = count-lent _ _ _ _ _ _ (c.in_ok-reclaim.ensures.stays true) _ (λ e. search rules)
+returns-clause-count g c = count-lent _ _ _ _ _ _ (c.in_ok-reclaim.ensures.stays true).stays _ (λ e. search rules)
 
 pub returns-in_err-reclaim-clause-same : goal.returns-in_err-reclaim-clause-same
-returns-in_err-reclaim-clause-same g c = same-lent _ _ _ _ _ _ (c.in_err-reclaim.ensures.stays true) _ (λ e. search rules)
+returns-in_err-reclaim-clause-same g c = same-lent _ _ _ _ _ _ (c.in_err-reclaim.ensures.stays true).stays _ (λ e. search rules)
 
 pub returns-in_err-reclaim-clause-count : goal.returns-in_err-reclaim-clause-count
-returns-in_err-reclaim-clause-count g c = count-lent _ _ _ _ _ _ (c.in_err-reclaim.ensures.stays true) _ (λ e. search rules)
+returns-in_err-reclaim-clause-count g c = count-lent _ _ _ _ _ _ (c.in_err-reclaim.ensures.stays true).stays _ (λ e. search rules)

@@ -18,4 +18,4 @@ returns c =
       | in-None w ↦ ap (λ chain. chain.items) w.chain-is ∙ w.new-chain.ensures.items
           ∙ ap (chain_by (anons_of mem.spaces mem.anons)) (sym w.in-None.is)
     ] in
-    λ i. row.Area area.start area.end area.prot area.pgoff area.anon ((c.from_vec.ensures ∙ chain) i)
+    λ i. row.Area area.start area.end area.prot area.pgoff area.anon ((c.from_vec.ensures ∙ chain) i) area.flags

@@ -3,8 +3,7 @@ use Rattle.av_plain.specs.Event.{after_notes}
 use Rattle.av_plain.specs.Pass.{Seeks}
 use Rattle.av_plain.proofs.Ledger.NoSwap.{has_free-some}
 use Rattle.av_evict.specs.Pass.{IsEnd}
-use Rattle.av_evict.specs.Steps.{spares}
-use Rattle.av_evict.specs.System.{Always}
+use Rattle.av_evict.specs.System.{Always, spares}
 use Rattle.av_evict.specs.declared.pass.SeekEnd.TheVariants.{Frame}
 use Rattle.av_evict.proofs.SystemLaws.{gives-as, gives-at, gives-so, gives-then, loose}
 use Rattle.av_swapoff.specs.Slot.{FetchesBy, IsLoaded, MayFetch}
@@ -21,7 +20,7 @@ load-requires g c =
     let f = c.in-Frame.field-0 in
     gives-at _ _ _ _ (MayFetch s u) (MayLoad mid.setting s u) (Missing k mid s) c.requires
     (gives-as _ _ _ _ Always (MayFetch s u) (Missing k mid s) (Missing k mid s)
-    (gives-so _ _ _ _ Always (λ l ns. Seeks k.setting (spares k.closing None) l ns × IsEnd k.setting k.closing None (Frame f) l ns) (Missing k mid s)
+    (gives-so _ _ _ _ Always (λ l ns. Seeks k.setting (spares k None) l ns × IsEnd k.setting (spares k None) (Frame f) l ns) (Missing k mid s)
     (rw c.in-Frame.is at (c.in_ok-end.ensures.seeks false))
     (λ l ns sound stands q goes after. record {
       sought = record { absent = sym (c.in_default.ensures false l (loose _ _ l sound) stands); seeks = q.0 };
@@ -44,7 +43,7 @@ returns-in_ok-loaded-in-Frame-clause-gives g c = λ told.
     let fetched = c.fetched_by.result in
     gives-then _ _ _ _ _ _ (MayFetch s u) (MayLoad mid.setting s u) (Missing k mid s) (IsLoadedBy mid new s loaded) (FetchesBy k new s fetched)
     (gives-as _ _ _ _ Always (MayFetch s u) (Missing k mid s) (Missing k mid s)
-    (gives-so _ _ _ _ Always (λ l ns. Seeks k.setting (spares k.closing None) l ns × IsEnd k.setting k.closing None (Frame f) l ns) (Missing k mid s)
+    (gives-so _ _ _ _ Always (λ l ns. Seeks k.setting (spares k None) l ns × IsEnd k.setting (spares k None) (Frame f) l ns) (Missing k mid s)
     (rw c.in-Frame.is at (c.in_ok-end.ensures.seeks told))
     (λ l ns sound stands q goes after. record {
       sought = record { absent = sym (c.in_default.ensures told l (loose _ _ l sound) stands); seeks = q.0 };

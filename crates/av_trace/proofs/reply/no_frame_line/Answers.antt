@@ -1,7 +1,6 @@
-use Rattle.std.proofs.Common.{◌≡◌, ◌∷◌, [], List, ℕ, ◌++◌, rules, append_assoc, ap, sym, ◌∙◌}
+use Rattle.std.proofs.Common.{◌≡◌, ◌∷◌, [], List, ℕ, ◌++◌, append_assoc, ap, ◌∙◌}
 use Rattle.std.specs.Prelude.{codes, Result, Ok, Err}
 use Rattle.std.specs.List.{flat_map}
-use Rattle.std.proofs.lemmas.Grind.{common_steps}
 use Rattle.av_text.specs.Word.{Adds, field, line}
 use Rattle.av_trace.specs.Reply.{out_words}
 use Rattle.av_trace.proofs.reply.no_frame_line.Goals as goal

@@ -1,4 +1,5 @@
-use Rattle.av_reclaim.proofs.StepMakes.{cached-there-too, drop-makes, in-use, mem-stays}
+use Rattle.av_reclaim.proofs.LeavesMakes.{drop-left, mem-leaves}
+use Rattle.av_reclaim.proofs.StepMakes.{cached-there-too, drop-makes, in-use}
 use Rattle.av_reclaim.proofs.driver.DriverSystem.drop_slot.Goals as goal
 
 pub drop_slot-requires-clause-cached : goal.drop_slot-requires-clause-cached
@@ -11,4 +12,5 @@ pub returns-clause-makes : goal.returns-clause-makes
 returns-clause-makes g c = λ told. drop-makes _ _ _ _ c.args.slot c.drop_slot.ensures.dropped c.drop_slot.ensures.parts
 
 pub returns-clause-stays : goal.returns-clause-stays
-returns-clause-stays g c = λ told. mem-stays _ _ _ _ c.drop_slot.ensures.parts
+returns-clause-stays g c = λ told. mem-leaves _ _ _ _ _ _ c.drop_slot.ensures.parts c.requires
+    (drop-makes _ _ _ _ c.args.slot c.drop_slot.ensures.dropped c.drop_slot.ensures.parts) (drop-left _ _ c.args.slot) _

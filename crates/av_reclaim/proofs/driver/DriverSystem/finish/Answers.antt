@@ -1,6 +1,7 @@
 use Rattle.std.proofs.Common.{None, Some, [], ap}
 use Rattle.av_plain.specs.Device.{device_by}
-use Rattle.av_reclaim.proofs.FinishMakes.{finish-stays, finish-told, first-told}
+use Rattle.av_reclaim.proofs.FinishMakes.{finish-told, first-told}
+use Rattle.av_reclaim.proofs.LeavesMakes.{finish-leaves}
 use Rattle.av_reclaim.proofs.driver.DriverSystem.finish.Goals as goal
 
 pub returns-in_err-finished-clause-first : goal.returns-in_err-finished-clause-first
@@ -44,8 +45,8 @@ returns-in_err-finished-clause-stays g c =
     let dev' = c.finish.new.dev in
     let d = device_by (g.D.SwapDev.sizes dev) (g.D.SwapDev.pages dev) (g.D.SwapDev.failures dev) in
     let d' = device_by (g.D.SwapDev.sizes dev') (g.D.SwapDev.pages dev') (g.D.SwapDev.failures dev') in
-    finish-stays _ d d' c.args.self.now.mem.now c.finish.new.self None c.in_err-finished.ensures.same_sizes c.in_err-finished.ensures.never_falls
-    c.in_err-finished.ensures.parts c.in_err-finished.ensures.ends
+    finish-leaves _ d d' c.args.self.now.mem.now c.finish.new.self None _ c.from_residual.ensures c.in_err-finished.ensures.same_sizes
+    c.in_err-finished.ensures.never_falls c.in_err-finished.ensures.parts c.in_err-finished.ensures.ends c.requires
 
 pub returns-clause-stays : goal.returns-clause-stays
 returns-clause-stays g c =
@@ -53,5 +54,5 @@ returns-clause-stays g c =
     let dev' = c.finish.new.dev in
     let d = device_by (g.D.SwapDev.sizes dev) (g.D.SwapDev.pages dev) (g.D.SwapDev.failures dev) in
     let d' = device_by (g.D.SwapDev.sizes dev') (g.D.SwapDev.pages dev') (g.D.SwapDev.failures dev') in
-    finish-stays _ d d' c.args.self.now.mem.now c.finish.new.self (Some c.in_ok-finished.finished) c.in_ok-finished.ensures.same_sizes
-    c.in_ok-finished.ensures.never_falls c.in_ok-finished.ensures.parts c.in_ok-finished.ensures.ends
+    finish-leaves _ d d' c.args.self.now.mem.now c.finish.new.self (Some c.in_ok-finished.finished) _ (ap (λ e. Some e) c.end_of.ensures)
+    c.in_ok-finished.ensures.same_sizes c.in_ok-finished.ensures.never_falls c.in_ok-finished.ensures.parts c.in_ok-finished.ensures.ends c.requires

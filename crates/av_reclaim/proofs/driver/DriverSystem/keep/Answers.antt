@@ -1,5 +1,5 @@
-use Rattle.av_trace.specs.declared.note.Cause.TheVariants.{NoSlot}
-use Rattle.av_reclaim.proofs.StepMakes.{keep-makes, kept-as, kept-at, mem-stays}
+use Rattle.av_reclaim.proofs.LeavesMakes.{keep-left, mem-leaves}
+use Rattle.av_reclaim.proofs.StepMakes.{keep-makes, kept-active, kept-at}
 use Rattle.av_reclaim.proofs.driver.DriverSystem.keep.Goals as goal
 
 pub returns-in-Writeback-clause-makes : goal.returns-in-Writeback-clause-makes
@@ -8,11 +8,17 @@ returns-in-Writeback-clause-makes g c = λ told. keep-makes _ _ c.args.self.now.
 
 pub returns-in-NoSlot-clause-makes : goal.returns-in-NoSlot-clause-makes
 returns-in-NoSlot-clause-makes g c = λ told. keep-makes _ _ c.args.self.now.mem.now c.to_active.new.self c.args.frame c.args.cause
-    (kept-as c.args.self.now.mem.now c.to_active.new.self c.args.frame c.args.cause NoSlot c.in-NoSlot.is c.to_active.ensures.moved)
+    (kept-active c.args.self.now.mem.now c.to_active.new.self c.args.frame c.args.cause c.in-NoSlot.is c.to_active.ensures.moved)
     c.to_active.ensures.parts
 
 pub returns-in-Writeback-clause-stays : goal.returns-in-Writeback-clause-stays
-returns-in-Writeback-clause-stays g c = λ told. mem-stays _ _ _ _ c.to_head.ensures.parts
+returns-in-Writeback-clause-stays g c = λ told. mem-leaves _ _ _ _ _ _ c.to_head.ensures.parts c.requires.used
+    (keep-makes _ _ c.args.self.now.mem.now c.to_head.new.self c.args.frame c.args.cause
+    (kept-at c.args.self.now.mem.now c.to_head.new.self c.args.frame c.args.cause c.in-Writeback.is c.to_head.ensures.moved) c.to_head.ensures.parts)
+    (keep-left _ _ c.args.frame c.args.cause) _
 
 pub returns-in-NoSlot-clause-stays : goal.returns-in-NoSlot-clause-stays
-returns-in-NoSlot-clause-stays g c = λ told. mem-stays _ _ _ _ c.to_active.ensures.parts
+returns-in-NoSlot-clause-stays g c = λ told. mem-leaves _ _ _ _ _ _ c.to_active.ensures.parts c.requires.used
+    (keep-makes _ _ c.args.self.now.mem.now c.to_active.new.self c.args.frame c.args.cause
+    (kept-active c.args.self.now.mem.now c.to_active.new.self c.args.frame c.args.cause c.in-NoSlot.is c.to_active.ensures.moved)
+    c.to_active.ensures.parts) (keep-left _ _ c.args.frame c.args.cause) _
