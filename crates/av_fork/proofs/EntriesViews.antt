@@ -1,5 +1,5 @@
 -- What the memory system is seen as while the entries of a process go over to a child: the tables change first, and then the counts, group by group.
-use Rattle.std.proofs.Common.{◌≡◌, ℕ, ◌+◌, ◌-◌, ◌*◌, ◌/◌, ◌<◌, ◌≤◌, Bool, true, false, cond, not, ◌&&◌, ◌==◌, List, length, Option, Some, None, option_map, refl, sym, ap, subst, ◌∙◌, arith}
+use Rattle.std.proofs.Common.{◌≡◌, ℕ, ◌+◌, ◌-◌, ◌*◌, ◌/◌, ◌<◌, ◌≤◌, Bool, true, false, cond, not, ◌&&◌, ◌==◌, List, [], length, Option, Some, None, option_map, refl, sym, ap, subst, ◌∙◌, arith}
 use Rattle.std.proofs.lemmas.Bool.Decides.{nat_tests}
 use Rattle.std.proofs.lemmas.Bool.{false≢true}
 use Rattle.av_base.specs.Limits.{most_processes, top_page}
@@ -16,6 +16,7 @@ use Rattle.av_plain.specs.Fork.{goes_over, inheritance}
 use Rattle.av_plain.specs.Ledger.{Entry, InFrame, InSlot, Ledger, entry, map_count, names_frame, names_slot, slot_entries}
 use Rattle.av_plain.specs.Stands.{LedgerStands, View, entry_of, free_of}
 use Rattle.av_plain.specs.World.{Page, Process}
+use Rattle.av_plain.proofs.Covered.Fork.{merged-forked_ledger}
 use Rattle.av_plain.proofs.Fork.{child_ledger, handed, inherited-goes, not-inherited}
 use Rattle.av_plain.proofs.Ledger.{how_many-found}
 use Rattle.av_plain.proofs.Ledger.NoSwap.{itself}
@@ -304,4 +305,6 @@ module _ (old : Mem) (p q : ℕ) where
             swap = h.swap;
           });
           free = fork-chosen (setting_by d old) None l p q over (view old) (view now) h.sound.in_order unnamed (ap free_of is);
+          items = λ items are f. ap (λ (v : View). v.items f) is ∙ are f
+              ∙ ap (λ b. cond b (items f) []) (sym (merged-forked_ledger p q over l f));
         }

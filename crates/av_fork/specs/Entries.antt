@@ -9,7 +9,8 @@ use Rattle.av_plain.specs.Fork.{inheritance}
 use Rattle.av_plain.specs.Ledger.{Ledger}
 use Rattle.av_pagetable.specs.declared.pte.Pte.{Pte}
 use Rattle.av_pagetable.specs.declared.pte.Pte.TheVariants.{Empty}
-use Rattle.av_plain.specs.Stands.{View, free_of}
+use Rattle.av_plain.specs.Areas.{Items}
+use Rattle.av_plain.specs.Stands.{ItemsAre, View, free_of}
 use Rattle.av_plain.specs.World.{Page, Process}
 use Rattle.av_vma.specs.Pages.{pages_in}
 use Rattle.av_vma.specs.declared.area.Area.{Area}
@@ -42,3 +43,5 @@ pub record HasForkedEntries (d : Device) (old new : Mem) (pages : Process) (l : 
   pub stands : HasLedger d new (after l (Forked p q (inheritance pages l p)))
   pub free : Chooses (setting_by d old) None l (Forked p q (inheritance pages l p))
       (free_of (view old)) (free_of (view new))
+  pub items : (items : Items) → ItemsAre (view old) l items
+      → ItemsAre (view new) (after l (Forked p q (inheritance pages l p))) items

@@ -46,16 +46,20 @@ pub use examples::{
     memories_follow, pages_are_served, reports_show,
 };
 pub use flags::{
-    flags_are_refused, flags_are_told, flags_cut_areas, flags_follow, locked_frames_are_spared,
+    advice_is_about_one_flag, flags_are_refused, flags_are_told, flags_cut_areas, flags_follow,
+    locked_frames_are_spared, rows_show_flags,
 };
 pub use forks::forks_follow;
 pub use frames::{
-    compactions_take_the_lowest_frames, frames_are_shared_and_move, last_copies_free_merged_frames,
-    merged_frames_are_left_alone, merges_share_frames,
+    compactions_order_free_frames, compactions_take_the_lowest_frames, frames_are_shared_and_move,
+    kept_frames_stay_seen, last_copies_free_merged_frames, merged_frames_are_left_alone,
+    merges_ask_each_page, merges_share_frames,
 };
 pub use free::{runs_list_free_frames, runs_list_free_slots};
-pub use homes::{homes_are_of_pages, homes_cover_entries, homes_cover_slots, homes_follow};
-pub use lines::{answers_say, lines_say, rows_say, texts_stand};
+pub use homes::{
+    homes_are_of_pages, homes_cover_entries, homes_cover_slots, homes_follow, items_cover_entries,
+};
+pub use lines::{answers_say, lines_say, notes_say, rows_say, texts_stand};
 pub use locked::locked_frames_stay;
 pub use mremap::{
     areas_grow, areas_move, memories_move, mremaps_are_refused, pages_stay_or_find_a_place,
@@ -94,5 +98,5 @@ pub use unsound::{
 };
 pub use views::{
     changed_anon_vmas_do_not_stand, changed_cached_views_do_not_stand, changed_views_do_not_stand,
-    unreached_entries_do_not_stand,
+    changed_views_of_merged_frames_do_not_stand, unreached_entries_do_not_stand,
 };
