@@ -8,7 +8,6 @@ use Rattle.std.proofs.lemmas.Option.{slice_get_past}
 use Rattle.av_base.specs.Page.{address_of}
 use Rattle.av_base.specs.Words.{how_many}
 use Rattle.av_base.specs.declared.slot.Slot.{Slot}
-use Rattle.av_io.specs.Count.{RoseBy}
 use Rattle.av_trace.specs.declared.note.Note.{Note}
 use Rattle.av_trace.specs.declared.note.Note.TheVariants.{Aged, Copied, Dropped, Failed, Joined, Kept, Loaded, Mapped, Moved, New, Put, Shared, Started, Unmapped, Written, Zeroed}
 use Rattle.av_plain.specs.Areas.{Rmap}
@@ -18,7 +17,7 @@ use Rattle.av_plain.specs.Ledger.{InSlot, Key, Ledger, Setting, frame_at, has_fr
 use Rattle.av_plain.specs.Pass.{Completes, Spared, TakesFor, fails, is_fail, out_of}
 use Rattle.av_plain.specs.Sound.{IsSound, count, is_there, slots}
 use Rattle.av_plain.specs.Swapoff as plain
-use Rattle.av_plain.specs.Swapoff.{EndsAt, IsEmptied, IsFetched, NoRoom, end_at, map_notes, sparing_area}
+use Rattle.av_plain.specs.Swapoff.{EndsAt, IsEmptied, IsFetched, NoRoom, map_notes, sparing_area}
 use Rattle.av_plain.specs.Load.{with_loads}
 use Rattle.av_plain.specs.World.{World}
 use Rattle.av_plain.proofs.Access.{after_notes-append}
@@ -32,7 +31,7 @@ use Rattle.av_plain.proofs.Sound.There.{AreLawful, IsLawful, NoNew, counted-slot
 use Rattle.av_evict.specs.System.{Gives, Goes, SystemView, spares}
 use Rattle.av_evict.proofs.SeekLaws.{completed-landed}
 use Rattle.av_evict.proofs.SystemLaws.{goes-then}
-use Rattle.av_swapoff.specs.Empty.{EmptiesAllBy, EmptiesEach, EmptiesEachBy, EmptiesPage, EmptiesPageBy, EmptiesSlotBy, IsStuck, MayEmpty, MayEmptyEach, close_of, failed_by, lost_by}
+use Rattle.av_swapoff.specs.Empty.{EmptiesAllBy, EmptiesEachBy, EmptiesPage, EmptiesPageBy, EmptiesSlotBy, IsStuck, MayEmpty, MayEmptyEach, close_of, failed_by, lost_by}
 use Rattle.av_swapoff.specs.Slot.{IsIn, MayFetch, mapped_notes}
 use Rattle.av_swapoff.specs.System.{AreUsers, IsUser, MayLoad, slot_at}
 use Rattle.av_swapoff.specs.declared.empty.EmptyEnd.{EmptyEnd}
