@@ -1,6 +1,7 @@
 use Rattle.std.proofs.Common.{◌≡◌, ◌+◌, ◌≤◌, length}
 use Rattle.std.specs.List.{AllByRecursion, list_any}
-use Rattle.av_rmap.specs.Locked.{finds_locked}
+use Rattle.av_base.specs.Words.{how_many}
+use Rattle.av_rmap.specs.Locked.{finds_locked, is_locked, locked_looks}
 use Rattle.av_rmap.specs.Looks.{ahead}
 use Rattle.av_rmap.specs.Walk.{areas_from, names_frame}
 use Rattle.av_rmap.proofs.NextAreas.{IsHeld}
@@ -15,7 +16,7 @@ invariant-loop-area g l =
       held : AllByRecursion (IsHeld view l.home.1) left;
       found : list_any (λ a. finds_locked view (names_frame l.frame) l.home.1 (view.areas a)) left
           ≡ list_any (λ a. finds_locked view (names_frame l.frame) l.home.1 (view.areas a)) (areas_from view l.home);
-      counted : l.steps + length left ≤ l.fn.steps + length (areas_from view l.home);
+      counted : l.steps + how_many (λ a. is_locked (view.areas a)) left ≤ l.fn.steps + locked_looks view l.home;
     }
 
 abbrev pub decreases-loop-area : goal.decreases-loop-area
